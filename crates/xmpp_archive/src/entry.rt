@@ -1,0 +1,67 @@
+ghost use Rattle.std.specs.Prelude.{◌≡◌, IfOk};
+
+use std::alloc::Global;
+use std::marker::Model;
+use xmpp_edge::{Copied, ListOf, NoMemory, Text};
+
+/// A body of a message, in a language (RFC 6121 section 5.2.3). Without a language `lang` is empty.
+#[derive(Drop)]
+pub struct Body {
+    pub lang: Text,
+    pub text: Text,
+}
+
+/// The bodies of a message, in order.
+pub type Bodies = ListOf<Body>;
+
+impl Copied for Body {
+    fn copied(&self, alloc: Global) -> Result<Body, NoMemory> {
+        Ok(Body {
+            lang: self.lang.copied(alloc)?,
+            text: self.text.copied(alloc)?,
+        })
+    }
+}
+
+/// A message in an archive. `number` counts from 1, `stamp` is in milliseconds since 1970, and `normal` tells a
+/// message of type `normal` from one of type `chat`. Texts that are absent are empty.
+#[derive(Drop)]
+pub struct Entry {
+    pub number: u64,
+    pub stamp: u64,
+    pub from: Text,
+    pub to: Text,
+    pub normal: bool,
+    pub id: Text,
+    pub origin: Text,
+    pub bodies: Bodies,
+}
+
+/// Entries, in order.
+pub type Entries = ListOf<Entry>;
+
+impl Model for Entry {
+    ghost use Rattle.xmpp_archive.specs.Entries.{EntryView};
+
+    ghost Value = { EntryView };
+
+    ghost view = { λ e. record { number = e.number; stamp = e.stamp; from = e.from; to = e.to; normal = e.normal; id = e.id; origin = e.origin; bodies = e.bodies.items } };
+}
+
+impl Entry {
+    /// An equal entry, in memory of its own.
+    pub fn copy(&self, alloc: Global) -> Result<Entry, NoMemory>
+        ensures { IfOk result (λ e. e ≡ self.now) }
+    {
+        Ok(Entry {
+            number: self.number,
+            stamp: self.stamp,
+            from: self.from.copied(alloc)?,
+            to: self.to.copied(alloc)?,
+            normal: self.normal,
+            id: self.id.copied(alloc)?,
+            origin: self.origin.copied(alloc)?,
+            bodies: self.bodies.copy(alloc)?,
+        })
+    }
+}
