@@ -1,5 +1,5 @@
 -- Pages of an archive (XEP-0313 section 4.3 and XEP-0059): a filter of the list, whatever the code walks.
-use Rattle.std.specs.Prelude.{ℕ, nat_lt, nat_le, Bool, List, Option, Some, None, find, filter, take, length}
+use Rattle.std.specs.Prelude.{ℕ, nat_lt, nat_le, Bool, List, Option, Some, find, filter, take, length}
 use Rattle.std.specs.Option.{option_map}
 use Rattle.std.specs.Str.{bytes_eq}
 use Rattle.xmpp_archive.specs.Entries.{EntryView}
@@ -21,12 +21,12 @@ abbrev pub candidates : Place → List EntryView → Option (List EntryView)
 candidates First entries = Some entries
 candidates (After id) entries =
     option_map
-        (λ found. filter (λ e. nat_lt found.number e.number) entries)
-        (find (λ e. bytes_eq (id_of e.number) id) entries)
+    (λ found. filter (λ e. nat_lt found.number e.number) entries)
+    (find (λ e. bytes_eq (id_of e.number) id) entries)
 
 -- the first `most` of the candidates, complete exactly where there are no more
 abbrev pub page_of : Place → ℕ → List EntryView → Option Page
 page_of place most entries =
     option_map
-        (λ rest. record { entries = take most rest; complete = nat_le (length rest) most; count = length entries })
-        (candidates place entries)
+    (λ rest. record { entries = take most rest; complete = nat_le (length rest) most; count = length entries })
+    (candidates place entries)

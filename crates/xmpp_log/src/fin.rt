@@ -1,0 +1,54 @@
+use std::error::Error;
+use std::fmt;
+use xmpp_edge::Text;
+
+/// The end of a page, as the server tells it (XEP-0313 section 4.3, XEP-0059).
+#[derive(Drop)]
+pub struct Fin {
+    pub complete: bool,
+    pub first: Option<Text>,
+    pub first_index: u64,
+    pub last: Option<Text>,
+    pub count: u64,
+}
+
+/// How a page ended.
+#[derive(Clone, Copy, Debug, PartialEq, Eq)]
+pub enum PageOutcome {
+    /// Further entries remain.
+    More,
+    /// Nothing remains.
+    Complete,
+}
+
+/// Why a page was not taken over.
+#[derive(Debug, Drop)]
+pub enum FinFault {
+    /// No open page has this query id.
+    Stranger,
+    /// The last result told is not the last one that came.
+    Mismatch {
+        last: Option<Text>,
+        got: Option<Text>,
+    },
+    /// This id stands twice in the page, or is in the log.
+    Repeats(Text),
+    /// The page is empty, and is not the last one.
+    NoAdvance,
+    /// Memory ran out.
+    NoMemory,
+}
+
+impl fmt::Display for FinFault {
+    fn fmt<W: fmt::Write>(&self, f: &mut fmt::Formatter<W>) -> fmt::Result {
+        f.write_str(match self {
+            FinFault::Stranger => "no open page has this query id",
+            FinFault::Mismatch { .. } => "the last result told is not the last one that came",
+            FinFault::Repeats(_) => "an id repeats",
+            FinFault::NoAdvance => "an empty page is not the last one",
+            FinFault::NoMemory => "out of memory",
+        })
+    }
+}
+
+impl Error for FinFault {}

@@ -1,0 +1,10 @@
+//! A device's log: what it took of its account's archive, page by page (XEP-0313).
+#![tactic(auto)]
+
+mod fin;
+mod log_entry;
+mod tile;
+
+pub use fin::{Fin, FinFault, PageOutcome};
+pub use log_entry::{LogEntries, LogEntry};
+pub use tile::{Tile, Tiles};
