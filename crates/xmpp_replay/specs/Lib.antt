@@ -1,0 +1,11 @@
+pub use Rattle.xmpp_edge.specs.Listed
+pub use Rattle.xmpp_archive.specs.Entries
+pub use Rattle.xmpp_archive.specs.Ids
+pub use Rattle.xmpp_archive.specs.Pages
+pub use Rattle.xmpp_log.specs.LogPages
+pub mod Direct
+pub mod Grammar
+pub mod Reading
+pub mod ReportText
+pub mod Reports
+pub mod Schedules
