@@ -3,5 +3,7 @@
 #![tactic(auto)]
 
 mod entry;
+mod ids;
 
 pub use entry::{Bodies, Body, Entries, Entry};
+pub use ids::{id_is_text, id_of_number, id_text, ids_differ, number_of};
