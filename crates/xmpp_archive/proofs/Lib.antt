@@ -1,1 +1,4 @@
 pub mod IdDigits
+pub mod Items
+pub mod NumberedEntries
+pub mod PageCuts
