@@ -1,9 +1,9 @@
 -- What a slice's `get` says, with the list's own words.
-use Rattle.std.proofs.Common.{◌≡◌, ℕ, ◌-◌, ◌<◌, ◌≤◌, List, Option, Some, None, length, get_or, ltb, Bor, refl, sym, arith}
+use Rattle.std.proofs.Common.{◌≡◌, ℕ, ◌-◌, ◌<◌, ◌≤◌, List, Option, Some, None, length, Bor, refl, sym, arith}
 use Rattle.std.proofs.lemmas.Bool.Decides.{nat_tests}
 use Rattle.std.proofs.lemmas.Option.{slice_get_past, slice_get_read}
 use Rattle.std.specs.List.{slice_get}
-use Rattle.std.specs.Option.{IfSome, is_some, option_copied}
+use Rattle.std.specs.Option.{IfSome, option_copied}
 use Rattle.std.specs.Slice.{IsGetResult}
 
 -- the item at a place, and none behind the last

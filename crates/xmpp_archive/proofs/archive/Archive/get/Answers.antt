@@ -1,7 +1,7 @@
-use Rattle.std.proofs.Common.{◌≡◌, ◌+◌, ◌-◌, ◌≤◌, ℕ, zero, arith, sym, ap, ◌∙◌}
+use Rattle.std.proofs.Common.{◌≡◌, ◌≤◌, zero, arith, sym, ap}
 use Rattle.xmpp_archive.proofs.Items.{copied_item, item_at}
 use Rattle.xmpp_archive.proofs.NumberedEntries.{entry_at, no_entry_zero}
-use Rattle.xmpp_archive.specs.Entries.{AreNumbered, EntryView, ArchiveView}
+use Rattle.xmpp_archive.specs.Entries.{ArchiveView}
 use Rattle.xmpp_archive.proofs.archive.Archive.get.Goals as goal
 
 pub returns-in_err-at-clause-entry : goal.returns-in_err-at-clause-entry
