@@ -2,3 +2,4 @@ pub mod IdDigits
 pub mod Items
 pub mod NumberedEntries
 pub mod PageCuts
+mod Worked

@@ -6,6 +6,7 @@ ghost use Rattle.xmpp_archive.specs.Pages.{First, After, candidates, page_of, pa
 /// A law: a page from the archive's first entry, or behind the entry with an id, is a cut of the entries, and there
 /// is no page behind an id that is no entry's. So a page is found by its place, without a search.
 pub fn page_is_a_cut()
+    ensures all { (entries : List EntryView) → candidates First entries ≡ Some entries }
     ensures first { (most : ℕ) (entries : List EntryView) → page_of First most entries ≡ Some (page_behind 0 most entries) }
     ensures after {
         (n most : ℕ) (entries : List EntryView) → AreNumbered entries → length entries < 2 ^ 64 →
