@@ -1,9 +1,11 @@
 //! Schedules, the direct run of one, and its report.
 #![tactic(auto)]
 
+mod name_index;
 mod report;
 mod schedule;
 
+pub use name_index::NameIndex;
 pub use report::{
     AccountLine, AccountLines, ConnEnd, ConnLine, ConnLines, DeviceLine, DeviceLines, EntryLine,
     EntryLines, HeldLine, HeldLines, LoggedLine, LoggedLines, PageLine, PageLines, RefusedLine,
