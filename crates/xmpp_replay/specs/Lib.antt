@@ -10,3 +10,5 @@ pub mod Reading
 pub mod ReportText
 pub mod Reports
 pub mod Schedules
+pub mod Standing
+pub mod Turns

@@ -1,0 +1,165 @@
+-- A catch-up goes on from the log's end, and each of its turns takes the next entries of the archive.
+use Rattle.std.proofs.Common.{◌≡◌, ◌≢◌, ℕ, zero, suc, add-one, ◌+◌, ◌-◌, ◌<◌, ◌≤◌, ◌^◌, min, Bool, true, false, cond, leb, List, [], ◌∷◌, ◌++◌, Option, Some, None, length, take, drop, get_or, map, refl, sym, ap, ◌∙◌, subst, arith, inl, inr}
+use Rattle.std.specs.Option.{option_map_or}
+use Rattle.std.proofs.lemmas.Bool.{cond_both, leb-false}
+use Rattle.std.proofs.lemmas.List.{append-nil, drop-take, length-append, length-drop, length-map, length-take, map-append, map_push, take-append-drop, take-take, take_more}
+use Rattle.std.proofs.lemmas.List.Concat.{flat_map-append}
+use Rattle.std.proofs.lemmas.Option.{get_or_from_slice_get}
+use Rattle.std.specs.List.{flat_map}
+use Rattle.xmpp_archive.proofs.PageCuts.{at_place, page_after}
+use Rattle.xmpp_archive.specs.Entries.{AreNumbered, EntryView}
+use Rattle.xmpp_archive.specs.Ids.{id_of}
+use Rattle.xmpp_archive.specs.Pages.{Page, First, After, page_behind, page_of}
+use Rattle.xmpp_log.specs.LogPages.{LogPage, last_id, log_of, tile_of}
+use Rattle.xmpp_log.specs.Views.{LogView}
+use Rattle.xmpp_log.specs.declared.log_entry.LogEntry.{LogEntry}
+use Rattle.xmpp_replay.specs.Direct.{as_logged, as_taken_over, catch_up, place_behind}
+use Rattle.xmpp_replay.specs.Turns.{IsFrontOf, IsLogOf, caught_up, log_after, with_turn}
+
+pub last_id_push : (es : List LogEntry) (e : LogEntry) → last_id (es ++ e ∷ []) ≡ Some e.id
+last_id_push [] e = refl
+last_id_push (x ∷ []) e = refl
+last_id_push (x ∷ y ∷ es) e = last_id_push (y ∷ es) e
+
+-- the last of the first k entries has the id of k
+pub last_of_front : (k : ℕ) (archive : List EntryView) → AreNumbered archive → k < length archive →
+    last_id (map as_logged (take (k + 1) archive)) ≡ Some (id_of (k + 1))
+last_of_front k archive known within =
+    let place = at_place k archive within in
+    let is : get_or archive k place.0 ≡ place.0 = get_or_from_slice_get archive k place.0 place.0 place.1 in
+    let cut : take (k + 1) archive ≡ take k archive ++ place.0 ∷ [] =
+        take_more archive k place.0 within ∙ ap (λ e. take k archive ++ e ∷ []) is in
+    let number : place.0.number ≡ k + 1 = known.each k place.0 place.1 in
+    ap (λ es. last_id (map as_logged es)) cut
+    ∙ ap last_id (map_push as_logged (take k archive) place.0)
+    ∙ last_id_push (map as_logged (take k archive)) (as_logged place.0)
+    ∙ ap (λ n. Some (id_of n)) number
+
+-- the page behind the first k entries
+pub page_behind_front : (k most : ℕ) (archive : List EntryView) → AreNumbered archive → length archive < 2 ^ 64 → k ≤ length archive →
+    page_of (place_behind (last_id (map as_logged (take k archive)))) most archive ≡ Some (page_behind k most archive)
+page_behind_front zero most archive known small within = refl
+page_behind_front (suc k) most archive known small within =
+    let last : last_id (map as_logged (take (suc k) archive)) ≡ Some (id_of (suc k)) =
+        ap (λ n. last_id (map as_logged (take n archive))) (sym (add-one k)) ∙ last_of_front k archive known (omega arith) ∙ ap (λ n. Some (id_of n)) (add-one k) in
+    ap (λ id. page_of (place_behind id) most archive) last
+    ∙ page_after (suc k) most archive known small (omega arith) within
+
+pub take_further : {X : Type 0} (k most : ℕ) (xs : List X) → take k xs ++ take most (drop k xs) ≡ take (k + most) xs
+take_further k most xs =
+    ap (λ t. t ++ take most (drop k xs)) (sym (take-take k (k + most) xs (omega arith)))
+    ∙ ap (λ t. take k (take (k + most) xs) ++ t) (sym (drop-take k most xs))
+    ∙ take-append-drop k (take (k + most) xs)
+
+-- a take of more than there is
+pub take_whole : {X : Type 0} (n : ℕ) (xs : List X) → take n xs ≡ take (length (take n xs)) xs
+take_whole zero xs = refl
+take_whole (suc n) [] = refl
+take_whole (suc n) (x ∷ xs) = ap (λ t. x ∷ t) (take_whole n xs)
+
+-- the front grows by the next entries
+pub front_grows : (most : ℕ) (archive : List EntryView) (logged : List LogEntry) → IsFrontOf archive logged →
+    IsFrontOf archive (logged ++ map as_logged (take most (drop (length logged) archive)))
+front_grows most archive logged front = record { within = within; same = same }
+  where
+    k : ℕ
+    k = length logged
+    cut : logged ++ map as_logged (take most (drop (length logged) archive)) ≡ map as_logged (take (length logged + most) archive)
+    cut = ap (λ t. t ++ map as_logged (take most (drop (length logged) archive))) front.same
+        ∙ sym (map-append as_logged (take (length logged) archive) (take most (drop (length logged) archive)))
+        ∙ ap (map as_logged) (take_further (length logged) most archive)
+    size : length (logged ++ map as_logged (take most (drop (length logged) archive))) ≡ length (take (length logged + most) archive)
+    size = ap length cut ∙ length-map (take (length logged + most) archive) as_logged
+    within : length (logged ++ map as_logged (take most (drop (length logged) archive))) ≤ length archive
+    within = omega (arith, size, length-take (length logged + most) archive)
+    same : logged ++ map as_logged (take most (drop (length logged) archive))
+        ≡ map as_logged (take (length (logged ++ map as_logged (take most (drop (length logged) archive)))) archive)
+    same = cut ∙ ap (map as_logged) (take_whole (length logged + most) archive ∙ ap (λ n. take n archive) (sym size))
+
+pub log_of_push : (pages : List LogPage) (page : LogPage) → log_of (pages ++ page ∷ []) ≡ log_of pages ++ page.entries
+log_of_push pages page =
+    flat_map-append (λ (p : LogPage). p.entries) pages (page ∷ [])
+    ∙ ap (λ t. log_of pages ++ t) (append-nil page.entries)
+
+-- a page more, in the definitions and in the log
+pub turn_taken : (pages : List LogPage) (log : LogView) (page : Page) → IsLogOf pages log →
+    IsLogOf (pages ++ as_taken_over (last_id (log_of pages)) page ∷ []) (with_turn log page)
+turn_taken pages log page known = record {
+  entries = ap (λ t. t ++ map as_logged page.entries) known.entries ∙ sym (log_of_push pages (as_taken_over (last_id (log_of pages)) page));
+  tiles = tiles;
+  closed = refl;
+}
+  where
+    tiles : (with_turn log page).tiles ≡ map tile_of (pages ++ as_taken_over (last_id (log_of pages)) page ∷ [])
+    tiles = sym (map_push tile_of pages (as_taken_over (last_id (log_of pages)) page)
+        ∙ rw (length-map page.entries as_logged, known.tiles, known.entries) refl)
+
+-- a choice of two values by one test, twice
+pub cond_pair : {A B : Type 0} (P : A → B → Type 0) (b : Bool) (x y : A) (u v : B) → (b ≡ true → P x u) → (b ≡ false → P y v) → P (cond b x y) (cond b u v)
+cond_pair P true x y u v yes_case no_case = yes_case refl
+cond_pair P false x y u v yes_case no_case = no_case refl
+
+-- where the definitions stand on pages, the log stands on the log
+pub catch_up_logged : (turns most : ℕ) (archive : List EntryView) (pages : List LogPage) (log : LogView) →
+    AreNumbered archive → length archive < 2 ^ 64 → IsLogOf pages log → IsFrontOf archive log.entries →
+    IsLogOf (catch_up turns most archive pages) (log_after turns most archive log)
+catch_up_logged zero most archive pages log known small is front = is
+catch_up_logged (suc turns) most archive pages log known small is front =
+    let page : page_of (place_behind (last_id (log_of pages))) most archive ≡ Some (page_behind (length log.entries) most archive) =
+        ap (λ es. page_of (place_behind (last_id es)) most archive) (sym is.entries ∙ front.same)
+        ∙ page_behind_front (length log.entries) most archive known small front.within in
+    let next = turn_taken pages log (page_behind (length log.entries) most archive) is in
+    rw page (cond_pair (λ p l. IsLogOf p l) (leb (length (drop (length log.entries) archive)) most) _ _ _ _
+      (λ complete. next)
+      (λ more. catch_up_logged turns most archive
+        (pages ++ as_taken_over (last_id (log_of pages)) (page_behind (length log.entries) most archive) ∷ [])
+        (with_turn log (page_behind (length log.entries) most archive))
+        known small next (front_grows most archive log.entries front)))
+
+pub log_after_front : (turns most : ℕ) (archive : List EntryView) (log : LogView) → IsFrontOf archive log.entries →
+    IsFrontOf archive (log_after turns most archive log).entries
+log_after_front zero most archive log front = front
+log_after_front (suc turns) most archive log front =
+    cond_both (leb (length (drop (length log.entries) archive)) most) _ _ (λ (l : LogView). IsFrontOf archive l.entries)
+      (λ complete. front_grows most archive log.entries front)
+      (λ more. log_after_front turns most archive (with_turn log (page_behind (length log.entries) most archive))
+        (front_grows most archive log.entries front))
+
+-- how long the log is after a page that isn't complete
+pub turn_length : (most : ℕ) (archive : List EntryView) (log : LogView) → leb (length (drop (length log.entries) archive)) most ≡ false →
+    (length (with_turn log (page_behind (length log.entries) most archive)).entries ≡ length log.entries + most) × (length log.entries + most < length archive)
+turn_length most archive log more =
+    let many : most < length (drop (length log.entries) archive) = leb-false _ _ more in
+    let left : length (drop (length log.entries) archive) ≡ length archive - length log.entries = length-drop (length log.entries) archive in
+    let got : length (take most (drop (length log.entries) archive)) ≡ min most (length (drop (length log.entries) archive)) = length-take most (drop (length log.entries) archive) in
+    let mapped : length (map as_logged (take most (drop (length log.entries) archive))) ≡ length (take most (drop (length log.entries) archive)) = length-map (take most (drop (length log.entries) archive)) as_logged in
+    let all : length (log.entries ++ map as_logged (take most (drop (length log.entries) archive))) ≡ length log.entries + length (map as_logged (take most (drop (length log.entries) archive))) =
+        length-append log.entries (map as_logged (take most (drop (length log.entries) archive))) in
+    (omega arith, omega arith)
+
+-- so many turns are enough, and more change nothing
+pub turns_enough : (turns others most : ℕ) (archive : List EntryView) (log : LogView) → 1 ≤ most →
+    length archive - length log.entries < turns → length archive - length log.entries < others →
+    log_after turns most archive log ≡ log_after others most archive log
+turns_enough zero others most archive log low enough also = absurd (omega arith)
+turns_enough (suc turns) zero most archive log low enough also = absurd (omega arith)
+turns_enough (suc turns) (suc others) most archive log low enough also =
+    cond_pair (λ (a b : LogView). a ≡ b) (leb (length (drop (length log.entries) archive)) most) _ _ _ _
+      (λ complete. refl)
+      (λ more.
+        let size = turn_length most archive log more in
+        (turns_enough turns others most archive (with_turn log (page_behind (length log.entries) most archive)) low (omega arith) (omega arith)))
+
+-- a turn of a catch-up
+pub caught_up_turn : (most : ℕ) (archive : List EntryView) (log : LogView) → 1 ≤ most →
+    caught_up most archive log
+    ≡ cond (leb (length (drop (length log.entries) archive)) most)
+        (with_turn log (page_behind (length log.entries) most archive))
+        (caught_up most archive (with_turn log (page_behind (length log.entries) most archive)))
+caught_up_turn most archive log low =
+    ap (λ n. log_after n most archive log) (add-one (length archive))
+    ∙ (cond_pair (λ (a b : LogView). a ≡ b) (leb (length (drop (length log.entries) archive)) most) _ _ _ _
+      (λ complete. refl)
+      (λ more.
+        let size = turn_length most archive log more in
+        (turns_enough (length archive) (length archive + 1) most archive (with_turn log (page_behind (length log.entries) most archive)) low (omega arith) (omega arith))))
