@@ -5,6 +5,7 @@ pub use Rattle.xmpp_archive.specs.Pages
 pub use Rattle.xmpp_log.specs.LogPages
 pub mod Direct
 pub mod Grammar
+pub mod Homes
 pub mod Names
 pub mod Reading
 pub mod ReportText

@@ -3,6 +3,7 @@
 
 mod name_index;
 mod report;
+mod run;
 mod schedule;
 
 pub use name_index::NameIndex;

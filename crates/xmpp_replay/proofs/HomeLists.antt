@@ -1,0 +1,86 @@
+-- What a change of one account does to the lists that clauses see.
+use Rattle.std.proofs.Common.{◌≡◌, ◌≢◌, ℕ, zero, suc, ◌+◌, ◌<◌, ◌≤◌, ◌^◌, Bool, true, false, cond, List, [], ◌∷◌, ◌++◌, length, get_or, set, map, refl, sym, ap, ◌∙◌, arith, subst}
+use Rattle.std.proofs.lemmas.List.{length-map}
+use Rattle.std.specs.List.{All}
+use Rattle.xmpp_archive.specs.Entries.{ArchiveView, EntryView, numbered}
+use Rattle.xmpp_replay.specs.Homes.{Home, HomesView, appended, appended_at, home_of_account, names_of, room_of_account}
+use Rattle.xmpp_replay.specs.declared.run.accounts.Account.{Account}
+
+abbrev with_archive : Account → ArchiveView → Account
+with_archive account archive = record { name = account.name; archive = archive }
+
+-- the archive's entries are as they were
+pub homes_kept : (items : List Account) (i : ℕ) (x : Account) (archive : ArchiveView) → x ≡ get_or items i x →
+    archive.entries ≡ x.archive.entries → map home_of_account (set items i (record { name = x.name; archive = archive })) ≡ map home_of_account items
+homes_kept [] i x archive is same = refl
+homes_kept (a ∷ items) zero x archive is same =
+    ap (λ (h : Home). h ∷ map home_of_account items)
+      (ap (λ es. let home : Home = record { name = x.name; entries = es } in home) same ∙ ap home_of_account is)
+homes_kept (a ∷ items) (suc i) x archive is same = ap (λ t. home_of_account a ∷ t) (homes_kept items i x archive is same)
+
+pub homes_appended : (items : List Account) (i : ℕ) (x : Account) (archive : ArchiveView) (entry : EntryView) → x ≡ get_or items i x →
+    i < length items → archive.entries ≡ x.archive.entries ++ numbered (length x.archive.entries + 1) entry ∷ [] →
+    map home_of_account (set items i (record { name = x.name; archive = archive })) ≡ appended_at i entry (map home_of_account items)
+homes_appended [] i x archive entry is there same = absurd (omega arith)
+homes_appended (a ∷ items) zero x archive entry is there same =
+    ap (λ (h : Home). h ∷ map home_of_account items)
+      (ap (λ es. let home : Home = record { name = x.name; entries = es } in home) same ∙ ap (λ a. appended entry (home_of_account a)) is)
+homes_appended (a ∷ items) (suc i) x archive entry is there same =
+    ap (λ t. home_of_account a ∷ t) (homes_appended items i x archive entry is (omega arith) same)
+
+pub names_kept : (homes : List Home) (i : ℕ) (entry : EntryView) → names_of (appended_at i entry homes) ≡ names_of homes
+names_kept [] i entry = refl
+names_kept (h ∷ homes) zero entry = refl
+names_kept (h ∷ homes) (suc i) entry = ap (λ t. h.name ∷ t) (names_kept homes i entry)
+
+pub length-appended_at : (homes : List Home) (i : ℕ) (entry : EntryView) → length (appended_at i entry homes) ≡ length homes
+length-appended_at [] i entry = refl
+length-appended_at (h ∷ homes) zero entry = refl
+length-appended_at (h ∷ homes) (suc i) entry = ap suc (length-appended_at homes i entry)
+
+-- the room at one place is no less
+pub rooms_raised : (items : List Account) (i : ℕ) (x : Account) (archive : ArchiveView) → x ≡ get_or items i x →
+    x.archive.spare ≤ archive.spare →
+    (k : ℕ) → get_or (map room_of_account items) k 0 ≤ get_or (map room_of_account (set items i (record { name = x.name; archive = archive }))) k 0
+rooms_raised [] i x archive is more k = omega arith
+rooms_raised (a ∷ items) zero x archive is more zero = let same : x.archive.spare ≡ a.archive.spare = ap room_of_account is in omega arith
+rooms_raised (a ∷ items) zero x archive is more (suc k) = omega arith
+rooms_raised (a ∷ items) (suc i) x archive is more zero = omega arith
+rooms_raised (a ∷ items) (suc i) x archive is more (suc k) = rooms_raised items i x archive is more k
+
+pub room_there : (items : List Account) (i : ℕ) (y : Account) → i < length items → get_or (map room_of_account (set items i y)) i 0 ≡ y.archive.spare
+room_there [] i y there = absurd (omega arith)
+room_there (a ∷ items) zero y there = refl
+room_there (a ∷ items) (suc i) y there = room_there items i y (omega arith)
+
+-- the room at the other places is as it was
+pub rooms_elsewhere : (items : List Account) (i : ℕ) (y : Account) (k : ℕ) → k ≢ i →
+    get_or (map room_of_account items) k 0 ≤ get_or (map room_of_account (set items i y)) k 0
+rooms_elsewhere [] i y k apart = omega arith
+rooms_elsewhere (a ∷ items) zero y zero apart = absurd (apart refl)
+rooms_elsewhere (a ∷ items) zero y (suc k) apart = omega arith
+rooms_elsewhere (a ∷ items) (suc i) y zero apart = omega arith
+rooms_elsewhere (a ∷ items) (suc i) y (suc k) apart = rooms_elsewhere items i y k (λ e. apart (ap suc e))
+
+-- what is known of a home, of the account that is read there
+pub few_there : (items : List Account) (i : ℕ) (x : Account) → x ≡ get_or items i x → i < length items →
+    All (λ (home : Home). length home.entries < 4294967295) (map home_of_account items) → length x.archive.entries < 4294967295
+few_there [] i x is there few = absurd (omega arith)
+few_there (a ∷ items) zero x is there few =
+    let same : length x.archive.entries ≡ length a.archive.entries = ap (λ (v : Account). length v.archive.entries) is in
+    let here : length a.archive.entries < 4294967295 = few zero (home_of_account a) (omega arith) in
+    omega arith
+few_there (a ∷ items) (suc i) x is there few =
+    few_there items i x is (omega arith) (λ k d within. few (suc k) d (omega arith))
+
+pub few_of_view : (items : List Account) (view : HomesView) → record { homes = map home_of_account items; rooms = map room_of_account items } ≡ view →
+    All (λ (home : Home). length home.entries < 4294967295) view.homes →
+    All (λ (home : Home). length home.entries < 4294967295) (map home_of_account items)
+few_of_view items view is few = subst (λ (homes : List Home). All (λ (home : Home). length home.entries < 4294967295) homes) (sym (ap (λ (v : HomesView). v.homes) is)) few
+
+pub place_in_view : (items : List Account) (view : HomesView) (i : ℕ) → record { homes = map home_of_account items; rooms = map room_of_account items } ≡ view →
+    i < length view.homes → i < length items
+place_in_view items view i is there =
+    let same : length (map home_of_account items) ≡ length view.homes = ap (λ (v : HomesView). length v.homes) is in
+    let size : length (map home_of_account items) ≡ length items = length-map items home_of_account in
+    omega arith

@@ -1,0 +1,2 @@
+//! The direct run of a schedule.
+mod accounts;

@@ -1,0 +1,120 @@
+//! The accounts of a run, each with its archive.
+ghost use Rattle.std.specs.Prelude.{◌≡◌, ◌≢◌, ℕ, ◌+◌, ◌<◌, ◌≤◌, false, [], ◌∷◌, ◌++◌, length, map, slice_get, slice_index, slice_index_or, OnOk, OnErr, IfOk, IfSome, IfNone};
+ghost use Rattle.std.specs.List.{All};
+ghost use Rattle.xmpp_replay.specs.Direct.{bare_address};
+ghost use Rattle.xmpp_replay.specs.Grammar.{is_among};
+ghost use Rattle.xmpp_replay.specs.Homes.{Home, names_of, empty_home, appended_at, delivered};
+ghost use Rattle.xmpp_replay.specs.Names.{place_of};
+
+use crate::name_index::NameIndex;
+use std::alloc::Global;
+use std::marker::Model;
+use xmpp_archive::{Archive, ArchiveFault, Entry, MOST_ENTRIES};
+use xmpp_edge::{NoMemory, Text};
+
+/// An account and its archive.
+#[derive(Drop)]
+pub(crate) struct Account {
+    pub(crate) name: Text,
+    pub(crate) archive: Archive,
+}
+
+/// Accounts, found by their names.
+#[derive(Drop)]
+pub(crate) struct Accounts {
+    index: NameIndex,
+    accounts: Vec<Account>,
+}
+
+impl Model for Accounts {
+    ghost use Rattle.std.specs.Prelude.{◌≡◌, map};
+    ghost use Rattle.xmpp_replay.specs.Homes.{HomesView, home_of_account, room_of_account, names_of};
+
+    ghost Value = { HomesView };
+
+    ghost view = { λ a. record { homes = map home_of_account a.accounts.items; rooms = map room_of_account a.accounts.items } };
+
+    ghost invariant = { λ a. a.index ≡ names_of (map home_of_account a.accounts.items) };
+}
+
+/// An account's bare address (RFC 7622).
+pub(crate) fn bare_address(alloc: Global, account: &str) -> Result<Text, NoMemory>
+    ensures { IfOk result (λ t. t ≡ bare_address account.now) }
+{
+    let mut address = String::from_str(alloc, account)?;
+    address.push_str("@chat.example")?;
+    Ok(Text::from(address))
+}
+
+impl Accounts {
+    /// No accounts. It takes no memory.
+    pub(crate) fn new(alloc: Global) -> Accounts
+        ensures { result.homes ≡ [] }
+    {
+        Accounts {
+            index: NameIndex::new(alloc),
+            accounts: Vec::new(alloc),
+        }
+    }
+
+    /// Adds an account with an empty archive behind the others.
+    pub(crate) fn add(&mut self, alloc: Global, name: &str) -> Result<(), NoMemory>
+        requires { is_among name.now (names_of self.old.homes) ≡ false }
+        ensures ok { OnOk result (self.new.homes ≡ self.old.homes ++ empty_home name.now ∷ []) }
+        ensures err { OnErr result (self.new.homes ≡ self.old.homes) }
+    {
+        let account = Account {
+            name: Text::from_str(alloc, name)?,
+            archive: Archive::new(alloc, bare_address(alloc, name)?),
+        };
+        self.accounts.reserve(1)?;
+        self.index.add(alloc, name)?;
+        match self.accounts.push(account) {
+            Ok(()) => Ok(()),
+            Err(_) => unreachable!(),
+        }
+    }
+
+    /// The place of an account, from 0.
+    pub(crate) fn find(&self, name: &str) -> Option<usize>
+        ensures place { result ≡ place_of name.now (names_of self.now.homes) }
+        ensures there { IfSome result (λ i. (i < length self.now.homes) × (slice_get (names_of self.now.homes) i ≡ Some name.now)) }
+        ensures nowhere { IfNone result (is_among name.now (names_of self.now.homes) ≡ false) }
+    {
+        self.index.find(name)
+    }
+
+    /// The archive of the account at a place.
+    pub(crate) fn archive(&self, place: usize) -> &Archive
+        requires { place < length self.now.homes }
+        ensures { (d : Home) → result.now.entries ≡ (slice_index_or self.now.homes place d).entries }
+    {
+        &self.accounts[place].archive
+    }
+
+    /// Makes room for one entry more in the archive at a place, and changes nothing else.
+    fn reserve(&mut self, place: usize) -> Result<(), NoMemory>
+        requires there { place < length self.old.homes }
+        requires few { All (λ (home : Home). length home.entries < 4294967295) self.old.homes }
+        ensures ok { OnOk result (1 ≤ slice_index self.new.rooms place) }
+        ensures homes { self.new.homes ≡ self.old.homes }
+        ensures others { (k : ℕ) → slice_index self.old.rooms k ≤ slice_index self.new.rooms k }
+    {
+        match self.accounts[place].archive.reserve() {
+            Ok(()) => Ok(()),
+            Err(ArchiveFault::NoMemory) => Err(NoMemory),
+            Err(ArchiveFault::Full) => unreachable!(),
+        }
+    }
+
+    /// Adds an entry at the end of the archive at a place. It takes no memory.
+    fn append(&mut self, place: usize, entry: Entry)
+        requires there { place < length self.old.homes }
+        requires few { All (λ (home : Home). length home.entries < 4294967295) self.old.homes }
+        requires room { 1 ≤ slice_index self.old.rooms place }
+        ensures homes { self.new.homes ≡ appended_at place entry self.old.homes }
+        ensures others { (k : ℕ) → k ≢ place → slice_index self.old.rooms k ≤ slice_index self.new.rooms k }
+    {
+        self.accounts[place].archive.append_reserved(entry);
+    }
+}
