@@ -2,6 +2,7 @@
 #![tactic(auto)]
 
 mod fin;
+mod index;
 mod log_entry;
 mod tile;
 
