@@ -2,6 +2,7 @@
 #![tactic(auto)]
 
 mod closing;
+mod device_log;
 mod faults;
 mod fin;
 mod index;
@@ -9,6 +10,7 @@ mod log_entry;
 mod open_page;
 mod tile;
 
+pub use device_log::Log;
 pub use faults::{BeginFault, ResultFault};
 pub use fin::{Fin, FinFault, PageOutcome};
 pub use log_entry::{LogEntries, LogEntry};
