@@ -3,3 +3,4 @@ pub use Rattle.xmpp_archive.specs.Entries
 pub mod LogPages
 pub mod Views
 pub mod IdSets
+pub mod Tilings

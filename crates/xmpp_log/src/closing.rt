@@ -1,5 +1,5 @@
 //! The end of a page: whether it may join the log, and how it does.
-ghost use Rattle.std.specs.Prelude.{◌≡◌, ℕ, ◌≤◌, ◌⊎◌, if◌then◌else◌, List, [], ◌∷◌, ◌++◌, Ok, Err, Result, IfOk, IfErr, OnOk, OnErr, length};
+ghost use Rattle.std.specs.Prelude.{◌≡◌, ℕ, ◌<◌, ◌≤◌, false, None, ◌⊎◌, if◌then◌else◌, List, [], ◌∷◌, ◌++◌, Ok, Err, Result, IfOk, IfErr, OnOk, OnErr, length};
 ghost use Rattle.xmpp_log.specs.IdSets.{IsIndexOf};
 ghost use Rattle.xmpp_log.specs.LogPages.{ids_of, last_id};
 ghost use Rattle.xmpp_log.specs.Views.{LogView, advance_of, end_of, outcome_of, first_repeat, repeat_of, same_id};
@@ -48,6 +48,8 @@ pub(crate) fn judge(
 ) -> Result<PageOutcome, FinFault>
     ensures exact { (log : LogView) → IsIndexOf ids.old (ids_of log.entries) → (result ≡ Err FinFault.NoMemory) ⊎ (result ≡ end_of log page.now fin.now) }
     ensures added { OnOk result ((known : List (List ℕ)) → IsIndexOf ids.old known → IsIndexOf ids.new (known ++ ids_of page.now.results)) }
+    ensures fresh { OnOk result ((known : List (List ℕ)) → IsIndexOf ids.old known → first_repeat known (ids_of page.now.results) ≡ None) }
+    ensures advances { OnOk result (fin.now.complete ≡ false → 0 < length page.now.results) }
     ensures kept { OnErr result ((known : List (List ℕ)) → IsIndexOf ids.old known → IsIndexOf ids.new known) }
 {
     check_last(alloc, page, fin)?;

@@ -2,6 +2,7 @@
 ghost use Rattle.std.specs.Prelude.{◌≡◌, ℕ, ◌≤◌, ◌⊎◌, List, [], ◌∷◌, ◌++◌, Ok, Err, Some, None, IsSome, IsErrOf, IfErr, OnOk, OnErr, IsSomeAnd, MatchOption, length, ◌↔◌};
 ghost use Rattle.std.specs.Option.{option_copied, option_map};
 ghost use Rattle.xmpp_log.specs.LogPages.{last_id};
+ghost use Rattle.xmpp_log.specs.Tilings.{IsTiling};
 ghost use Rattle.xmpp_log.specs.Views.{after_fin, after_refusal, fin_answer, page_for, with_begun, with_result};
 
 use crate::closing::{judge, make_room, take_over};
@@ -28,14 +29,13 @@ pub struct Log {
 
 impl Model for Log {
     ghost use Rattle.xmpp_log.specs.Views.{LogView};
-    ghost use Rattle.xmpp_log.specs.IdSets.{IsIndexOf};
-    ghost use Rattle.xmpp_log.specs.LogPages.{ids_of};
+    ghost use Rattle.xmpp_log.specs.Tilings.{IsSound};
 
     ghost Value = { LogView };
 
     ghost view = { λ l. record { entries = l.entries.items; tiles = l.tiles.items; page = l.page } };
 
-    ghost invariant = { λ l. IsIndexOf l.ids (ids_of l.entries.items) };
+    ghost invariant = { λ l. IsSound l.ids l.entries.items l.tiles.items l.page };
 }
 
 impl Log {
@@ -123,9 +123,11 @@ impl Log {
         self.entries.as_slice()
     }
 
-    /// What is kept of the pages that were taken over, in order.
+    /// What is kept of the pages that were taken over, in order. The entries and the tiles are those of pages that
+    /// follow on one another, in which no id stands twice.
     pub fn tiles(&self) -> &[Tile]
-        ensures { result.now ≡ self.now.tiles }
+        ensures value { result.now ≡ self.now.tiles }
+        ensures tiling { IsTiling self.now.entries self.now.tiles }
     {
         self.tiles.as_slice()
     }
