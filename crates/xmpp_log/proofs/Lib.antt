@@ -1,0 +1,3 @@
+pub mod IdSets
+pub mod LastIds
+pub mod Tilings
