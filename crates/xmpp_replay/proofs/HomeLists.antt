@@ -1,6 +1,6 @@
 -- What a change of one account does to the lists that clauses see.
 use Rattle.std.proofs.Common.{◌≡◌, ◌≢◌, ℕ, zero, suc, ◌+◌, ◌<◌, ◌≤◌, ◌^◌, Bool, true, false, cond, List, [], ◌∷◌, ◌++◌, length, get_or, set, map, refl, sym, ap, ◌∙◌, arith, subst}
-use Rattle.std.proofs.lemmas.List.{length-map}
+use Rattle.std.proofs.lemmas.List.{length-append, length-map}
 use Rattle.std.specs.List.{All}
 use Rattle.xmpp_archive.specs.Entries.{ArchiveView, EntryView, numbered}
 use Rattle.xmpp_replay.specs.Homes.{Home, HomesView, appended, appended_at, home_of_account, names_of, room_of_account}
@@ -33,10 +33,10 @@ names_kept [] i entry = refl
 names_kept (h ∷ homes) zero entry = refl
 names_kept (h ∷ homes) (suc i) entry = ap (λ t. h.name ∷ t) (names_kept homes i entry)
 
-pub length-appended_at : (homes : List Home) (i : ℕ) (entry : EntryView) → length (appended_at i entry homes) ≡ length homes
-length-appended_at [] i entry = refl
-length-appended_at (h ∷ homes) zero entry = refl
-length-appended_at (h ∷ homes) (suc i) entry = ap suc (length-appended_at homes i entry)
+pub appended_length : (homes : List Home) (i : ℕ) (entry : EntryView) → length (appended_at i entry homes) ≡ length homes
+appended_length [] i entry = refl
+appended_length (h ∷ homes) zero entry = refl
+appended_length (h ∷ homes) (suc i) entry = ap suc (appended_length homes i entry)
 
 -- the room at one place is no less
 pub rooms_raised : (items : List Account) (i : ℕ) (x : Account) (archive : ArchiveView) → x ≡ get_or items i x →
@@ -84,3 +84,17 @@ place_in_view items view i is there =
     let same : length (map home_of_account items) ≡ length view.homes = ap (λ (v : HomesView). length v.homes) is in
     let size : length (map home_of_account items) ≡ length items = length-map items home_of_account in
     omega arith
+
+pub fewer : (homes : List Home) → All (λ (home : Home). length home.entries < 4294967294) homes → All (λ (home : Home). length home.entries < 4294967295) homes
+fewer homes few k d within = let here : length (get_or homes k d).entries < 4294967294 = few k d within in omega arith
+
+pub few_after : (homes : List Home) (i : ℕ) (entry : EntryView) → All (λ (home : Home). length home.entries < 4294967294) homes →
+    All (λ (home : Home). length home.entries < 4294967295) (appended_at i entry homes)
+few_after [] i entry few k d within = absurd (omega arith)
+few_after (h ∷ homes) zero entry few zero d within =
+    let here : length h.entries < 4294967294 = few zero d (omega arith) in
+    let size : length (h.entries ++ numbered (length h.entries + 1) entry ∷ []) ≡ length h.entries + 1 = length-append h.entries (numbered (length h.entries + 1) entry ∷ []) in
+    omega arith
+few_after (h ∷ homes) zero entry few (suc k) d within = let here : length (get_or homes k d).entries < 4294967294 = few (suc k) d within in omega arith
+few_after (h ∷ homes) (suc i) entry few zero d within = let here : length h.entries < 4294967294 = few zero d (omega arith) in omega arith
+few_after (h ∷ homes) (suc i) entry few (suc k) d within = few_after homes i entry (λ j e w. few (suc j) e (omega arith)) k d (omega arith)

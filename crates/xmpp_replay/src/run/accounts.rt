@@ -117,4 +117,26 @@ impl Accounts {
     {
         self.accounts[place].archive.append_reserved(entry);
     }
+
+    #[tactic(auto, using(crate::proofs::HomeLists::fewer, crate::proofs::HomeLists::few_after, crate::proofs::HomeLists::appended_length))]
+    /// Adds an entry to the archives at two places, or once where they are the same. A refusal leaves every archive
+    /// as it was.
+    pub(crate) fn deliver(&mut self, alloc: Global, from: usize, to: usize, entry: Entry) -> Result<(), NoMemory>
+        requires from { from < length self.old.homes }
+        requires to { to < length self.old.homes }
+        requires few { All (λ (home : Home). length home.entries < 4294967294) self.old.homes }
+        ensures ok { OnOk result (self.new.homes ≡ delivered from to entry self.old.homes) }
+        ensures err { OnErr result (self.new.homes ≡ self.old.homes) }
+    {
+        self.reserve(from)?;
+        if from == to {
+            self.append(from, entry);
+            return Ok(());
+        }
+        let copy = entry.copy(alloc)?;
+        self.reserve(to)?;
+        self.append(from, entry);
+        self.append(to, copy);
+        Ok(())
+    }
 }
