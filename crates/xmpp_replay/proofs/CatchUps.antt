@@ -1,8 +1,8 @@
 -- A catch-up goes on from the log's end, and each of its turns takes the next entries of the archive.
-use Rattle.std.proofs.Common.{◌≡◌, ◌≢◌, ℕ, zero, suc, add-one, ◌+◌, ◌-◌, ◌<◌, ◌≤◌, ◌^◌, min, Bool, true, false, cond, leb, List, [], ◌∷◌, ◌++◌, Option, Some, None, length, take, drop, get_or, map, refl, sym, ap, ◌∙◌, subst, arith, inl, inr}
+use Rattle.std.proofs.Common.{◌≡◌, ◌≢◌, ℕ, zero, suc, add-one, ◌+◌, ◌-◌, ◌<◌, ◌≤◌, ◌^◌, min, Bool, true, false, cond, not, leb, List, [], ◌∷◌, ◌++◌, Option, Some, None, length, take, drop, get_or, map, refl, sym, ap, ◌∙◌, subst, arith, inl, inr}
 use Rattle.std.specs.Option.{option_map_or}
 use Rattle.std.proofs.lemmas.Bool.{cond_both, leb-false}
-use Rattle.std.proofs.lemmas.List.{append-nil, drop-take, length-append, length-drop, length-map, length-take, map-append, map_push, take-append-drop, take-take, take_more}
+use Rattle.std.proofs.lemmas.List.{append-nil, drop-take, get_or-drop, length-append, length-drop, length-map, length-take, map-append, map_push, take-append-drop, take-take, take_more}
 use Rattle.std.proofs.lemmas.List.Concat.{flat_map-append}
 use Rattle.std.proofs.lemmas.Option.{get_or_from_slice_get}
 use Rattle.std.specs.List.{flat_map}
@@ -163,3 +163,38 @@ caught_up_turn most archive log low =
       (λ more.
         let size = turn_length most archive log more in
         (turns_enough (length archive) (length archive + 1) most archive (with_turn log (page_behind (length log.entries) most archive)) low (omega arith) (omega arith))))
+
+-- one turn of the loop, which goes on where the page isn't complete
+pub turn_kept : (most : ℕ) (archive : List EntryView) (log next whole : LogView) (complete : Bool) → 1 ≤ most →
+    caught_up most archive log ≡ whole → next ≡ with_turn log (page_behind (length log.entries) most archive) →
+    complete ≡ leb (length (drop (length log.entries) archive)) most →
+    cond (not complete) (caught_up most archive next) next ≡ whole
+turn_kept most archive log next whole complete low rest is tells =
+    rw (is, tells) (swapped (leb (length (drop (length log.entries) archive)) most) _ _ ∙ sym (caught_up_turn most archive log low) ∙ rest)
+  where
+    swapped : (b : Bool) (x y : LogView) → cond (not b) y x ≡ cond b x y
+    swapped true x y = refl
+    swapped false x y = refl
+
+pub turn_smaller : (most : ℕ) (archive : List EntryView) (log next : LogView) (complete : Bool) → 1 ≤ most →
+    next ≡ with_turn log (page_behind (length log.entries) most archive) →
+    complete ≡ leb (length (drop (length log.entries) archive)) most →
+    (length archive - length next.entries) + cond (not complete) 1 0 < (length archive - length log.entries) + 1
+turn_smaller most archive log next true low is tells =
+    let size : length next.entries ≡ length (log.entries ++ map as_logged (take most (drop (length log.entries) archive))) = ap (λ (l : LogView). length l.entries) is in
+    let all : length (log.entries ++ map as_logged (take most (drop (length log.entries) archive))) ≡ length log.entries + length (map as_logged (take most (drop (length log.entries) archive))) =
+        length-append log.entries (map as_logged (take most (drop (length log.entries) archive))) in
+    omega arith
+turn_smaller most archive log next false low is tells =
+    let size : length next.entries ≡ length (with_turn log (page_behind (length log.entries) most archive)).entries = ap (λ (l : LogView). length l.entries) is in
+    let long = turn_length most archive log (sym tells) in
+    omega arith
+
+-- an entry more in the open page
+pub results_more : (k at : ℕ) (archive : List EntryView) (d : EntryView) → k + at < length archive →
+    map as_logged (take (at + 1) (drop k archive)) ≡ map as_logged (take at (drop k archive)) ++ as_logged (get_or archive (k + at + 1 - 1) d) ∷ []
+results_more k at archive d within =
+    let place : k + at + 1 - 1 ≡ k + at = omega arith in
+    ap (map as_logged) (take_more (drop k archive) at d (omega (arith, length-drop k archive)))
+    ∙ map_push as_logged (take at (drop k archive)) (get_or (drop k archive) at d)
+    ∙ ap (λ e. map as_logged (take at (drop k archive)) ++ as_logged e ∷ []) (get_or-drop k archive at d ∙ ap (λ n. get_or archive n d) (sym place))

@@ -1,9 +1,9 @@
 -- A log that is a front of its archive, and the pages that make it grow.
-use Rattle.std.specs.Prelude.{◌≡◌, ℕ, zero, suc, ◌+◌, ◌≤◌, List, [], ◌∷◌, ◌++◌, None, length, map, take, if◌then◌else◌}
+use Rattle.std.specs.Prelude.{◌≡◌, ℕ, zero, suc, ◌+◌, ◌≤◌, List, [], ◌∷◌, ◌++◌, Some, None, length, map, take, if◌then◌else◌}
 use Rattle.xmpp_archive.specs.Entries.{EntryView}
 use Rattle.xmpp_archive.specs.Pages.{Page, page_behind}
 use Rattle.xmpp_log.specs.LogPages.{LogPage, log_of, last_id, tile_of}
-use Rattle.xmpp_log.specs.Views.{LogView}
+use Rattle.xmpp_log.specs.Views.{LogView, OpenPage}
 use Rattle.xmpp_log.specs.declared.log_entry.LogEntry.{LogEntry}
 use Rattle.xmpp_replay.specs.Direct.{as_logged}
 
@@ -37,3 +37,10 @@ log_after (suc turns) most archive log =
 -- the log after a catch-up
 abbrev pub caught_up : ℕ → List EntryView → LogView → LogView
 caught_up most archive log = log_after (length archive + 1) most archive log
+
+-- a page that was asked for behind the log's end, with results
+abbrev pub open_page : List ℕ → ℕ → LogView → List LogEntry → OpenPage
+open_page queryid most log results = record { queryid = queryid; max = most; after = last_id log.entries; results = results }
+
+abbrev pub opened : List ℕ → ℕ → LogView → List LogEntry → LogView
+opened queryid most log results = record log { page = Some (open_page queryid most log results) }

@@ -1,2 +1,3 @@
 //! The direct run of a schedule.
 mod accounts;
+mod pages;

@@ -1,0 +1,177 @@
+-- A page of the next entries of a log's archive ends well: its ids are new, and it has an entry where entries remain.
+use Rattle.std.proofs.Common.{◌≡◌, ◌≢◌, ℕ, zero, suc, add-one, ◌+◌, ◌-◌, ◌<◌, ◌≤◌, ◌^◌, min, Bool, true, false, cond, not, ◌&&◌, ◌||◌, leb, ltb, eqb, List, [], ◌∷◌, ◌++◌, Option, Some, None, Ok, length, take, drop, get_or, map, refl, sym, ap, ◌∙◌, subst, arith, inl, inr}
+use Rattle.std.proofs.lemmas.Bool.{cases_Bool, false_from_ne_true, le-ltb, leb-false, ne_eqb, or_from}
+use Rattle.std.proofs.lemmas.List.{length-append, length-drop, length-map, length-take, take_min, take_more}
+use Rattle.std.proofs.lemmas.List.Folds.{list_any-append}
+use Rattle.std.proofs.lemmas.Slice.Eq.{bytes_eq-Decides}
+use Rattle.std.proofs.lemmas.Option.{get_or_from_slice_get}
+use Rattle.std.specs.List.{list_any}
+use Rattle.std.specs.Option.{IsSomeAnd}
+use Rattle.std.specs.Str.{bytes_eq}
+use Rattle.xmpp_archive.proofs.IdDigits.{id_of_same}
+use Rattle.xmpp_archive.proofs.PageCuts.{at_place}
+use Rattle.xmpp_archive.proofs.NumberedEntries.{FollowFrom, follow_numbered}
+use Rattle.xmpp_archive.specs.Entries.{AreNumbered, EntryView}
+use Rattle.xmpp_archive.specs.Ids.{id_of}
+use Rattle.xmpp_archive.specs.Pages.{page_behind}
+use Rattle.xmpp_log.specs.LogPages.{ids_of, last_id}
+use Rattle.xmpp_log.specs.Views.{LogView, OpenPage, advance_of, end_of, fin_answer, first_repeat, outcome_of, page_for, repeat_of, same_id, with_result}
+use Rattle.xmpp_log.specs.declared.fin.Fin.{Fin}
+use Rattle.xmpp_log.specs.declared.log_entry.LogEntry.{LogEntry}
+use Rattle.xmpp_replay.proofs.CatchUps.{last_id_push, results_more}
+use Rattle.xmpp_replay.specs.Direct.{as_logged}
+use Rattle.xmpp_replay.specs.Turns.{IsFrontOf, open_page, opened}
+
+pub bytes_eq_itself : (a : List ℕ) → bytes_eq a a ≡ true
+bytes_eq_itself a = (bytes_eq-Decides a a).1 refl
+
+pub bytes_eq_apart : (a b : List ℕ) → a ≢ b → bytes_eq a b ≡ false
+bytes_eq_apart a b apart = false_from_ne_true (bytes_eq a b) (λ e. apart ((bytes_eq-Decides a b).0 e))
+
+other_ids : (m n : ℕ) → m < 2 ^ 64 → n < 2 ^ 64 → m ≢ n → bytes_eq (id_of m) (id_of n) ≡ false
+other_ids m n low below apart = bytes_eq_apart (id_of m) (id_of n) (λ e. apart (id_of_same m n low below e))
+
+follow_take : (s k : ℕ) (es : List EntryView) → FollowFrom s es → FollowFrom s (take k es)
+follow_take s zero es follow = tt
+follow_take s (suc k) [] follow = tt
+follow_take s (suc k) (e ∷ es) follow = (follow.0, follow_take (suc s) k es follow.1)
+
+follow_drop : (s k : ℕ) (es : List EntryView) → FollowFrom s es → FollowFrom (k + s) (drop k es)
+follow_drop s zero es follow = let same : zero + s ≡ s = omega arith in rw same follow
+follow_drop s (suc k) [] follow = tt
+follow_drop s (suc k) (e ∷ es) follow = let same : suc k + s ≡ k + suc s = omega arith in rw same (follow_drop (suc s) k es follow.1)
+
+-- no id of the entries is the id of a later number
+known_below : (n s : ℕ) (es : List EntryView) → n < 2 ^ 64 → FollowFrom s es → s + length es ≤ n →
+    list_any (λ other. bytes_eq (id_of n) other) (ids_of (map as_logged es)) ≡ false
+known_below n s [] small follow below = refl
+known_below n s (e ∷ es) small follow below =
+    or_from (bytes_eq (id_of n) (id_of e.number)) (list_any (λ other. bytes_eq (id_of n) other) (ids_of (map as_logged es)))
+      (rw follow.0 (other_ids n s small (omega arith) (λ (e : n ≡ s). omega arith)))
+      (known_below n (suc s) es small follow.1 (omega arith))
+
+no_repeat : (s : ℕ) (es : List EntryView) (known : List (List ℕ)) → FollowFrom s es → s + length es ≤ 2 ^ 64 →
+    ((n : ℕ) → s ≤ n → n < 2 ^ 64 → list_any (λ other. bytes_eq (id_of n) other) known ≡ false) →
+    first_repeat known (ids_of (map as_logged es)) ≡ None
+no_repeat s [] known follow small absent = refl
+no_repeat s (e ∷ es) known follow small absent =
+    let here : list_any (λ other. bytes_eq (id_of e.number) other) known ≡ false = rw follow.0 (absent s (omega arith) (omega arith)) in
+    rw here (no_repeat (suc s) es (known ++ id_of e.number ∷ []) follow.1 (omega arith) (λ n above below.
+      list_any-append (λ other. bytes_eq (id_of n) other) known (id_of e.number ∷ [])
+      ∙ or_from (list_any (λ other. bytes_eq (id_of n) other) known) (bytes_eq (id_of n) (id_of e.number) || false)
+          (absent n (omega arith) below)
+          (or_from (bytes_eq (id_of n) (id_of e.number)) false (rw follow.0 (other_ids n s below (omega arith) (λ (e : n ≡ s). omega arith))) refl)))
+
+pub same_id_itself : (id : Option (List ℕ)) → same_id id id ≡ true
+same_id_itself None = refl
+same_id_itself (Some id) = bytes_eq_itself id
+
+-- the ids of the next entries are new
+pub next_are_new : (most : ℕ) (archive : List EntryView) (logged : List LogEntry) → AreNumbered archive → length archive < 2 ^ 64 → IsFrontOf archive logged →
+    first_repeat (ids_of logged) (ids_of (map as_logged (take most (drop (length logged) archive)))) ≡ None
+next_are_new most archive logged numbered small front =
+    let follow = follow_numbered archive numbered in
+    let k : ℕ = length logged in
+    let rest : length (drop (length logged) archive) ≡ length archive - length logged = length-drop (length logged) archive in
+    let got : length (take most (drop (length logged) archive)) ≡ min most (length (drop (length logged) archive)) = length-take most (drop (length logged) archive) in
+    let had : length (take (length logged) archive) ≡ min (length logged) (length archive) = length-take (length logged) archive in
+    let within = front.within in
+    no_repeat (length logged + 1) (take most (drop (length logged) archive)) (ids_of logged)
+      (follow_take (length logged + 1) most (drop (length logged) archive) (follow_drop 1 (length logged) archive follow))
+      (omega arith)
+      (λ n above below.
+        ap (λ es. list_any (λ other. bytes_eq (id_of n) other) (ids_of es)) front.same
+        ∙ known_below n 1 (take (length logged) archive) below (follow_take 1 (length logged) archive follow) (omega arith))
+
+cond_neither : {X : Type 0} (b : Bool) (x y : X) → cond (b && false) x y ≡ y
+cond_neither true x y = refl
+cond_neither false x y = refl
+
+-- a page that is not the last has an entry
+pub page_advances : (queryid : List ℕ) (most : ℕ) (archive : List EntryView) (log : LogView) (complete : Bool) → 1 ≤ most →
+    complete ≡ leb (length (drop (length log.entries) archive)) most →
+    advance_of complete (open_page queryid most log (map as_logged (take most (drop (length log.entries) archive)))) ≡ Ok (outcome_of complete)
+page_advances queryid most archive log true low is = cond_neither (ltb (length (map as_logged (take most (drop (length log.entries) archive)))) 1) _ _
+page_advances queryid most archive log false low is =
+    let many : most < length (drop (length log.entries) archive) = leb-false _ _ (sym is) in
+    let got : length (take most (drop (length log.entries) archive)) ≡ min most (length (drop (length log.entries) archive)) = length-take most (drop (length log.entries) archive) in
+    let mapped : length (map as_logged (take most (drop (length log.entries) archive))) ≡ length (take most (drop (length log.entries) archive)) = length-map (take most (drop (length log.entries) archive)) as_logged in
+    let some : ltb (length (map as_logged (take most (drop (length log.entries) archive)))) 1 ≡ false = le-ltb (length (map as_logged (take most (drop (length log.entries) archive)))) 1 (omega arith) in
+    rw some refl
+
+-- so a page of the next entries is taken over
+pub page_ends_well : (queryid : List ℕ) (most : ℕ) (archive : List EntryView) (log : LogView) (fin : Fin) → 1 ≤ most →
+    AreNumbered archive → length archive < 2 ^ 64 → IsFrontOf archive log.entries →
+    fin.last ≡ last_id (map as_logged (take most (drop (length log.entries) archive))) →
+    fin.complete ≡ leb (length (drop (length log.entries) archive)) most →
+    fin_answer (opened queryid most log (map as_logged (take most (drop (length log.entries) archive)))) queryid fin ≡ Ok (outcome_of fin.complete)
+page_ends_well queryid most archive log fin low numbered small front last complete =
+    let named : bytes_eq queryid queryid ≡ true = bytes_eq_itself queryid in
+    let ids : same_id fin.last (last_id (map as_logged (take most (drop (length log.entries) archive)))) ≡ true =
+        rw last (same_id_itself (last_id (map as_logged (take most (drop (length log.entries) archive))))) in
+    let new = next_are_new most archive log.entries numbered small front in
+    rw (named, ids, new) (page_advances queryid most archive log fin.complete low complete)
+
+-- the open page has room for a result more
+pub page_has_room : (queryid : List ℕ) (most at : ℕ) (log now : LogView) (xs : List EntryView) → at < most →
+    now ≡ opened queryid most log (map as_logged (take at xs)) →
+    IsSomeAnd (page_for queryid now.page) (λ page. length page.results < page.max)
+page_has_room queryid most at log now xs few is =
+    let named : bytes_eq queryid queryid ≡ true = bytes_eq_itself queryid in
+    let size : length (map as_logged (take at xs)) ≡ length (take at xs) = length-map (take at xs) as_logged in
+    let short : length (take at xs) ≡ min at (length xs) = length-take at xs in
+    rw (is, named) (omega arith)
+
+any_entry : EntryView
+any_entry = record { number = 0; stamp = 0; from = []; to = []; normal = false; id = []; origin = []; bodies = [] }
+
+-- a result more in the open page
+pub result_taken : (queryid : List ℕ) (most had at : ℕ) (archive : List EntryView) (log now next : LogView) →
+    had ≡ length log.entries → now ≡ opened queryid most log (map as_logged (take at (drop (length log.entries) archive))) →
+    length log.entries + at < length archive →
+    ((d : EntryView) → next ≡ with_result now (as_logged (get_or archive (had + at + 1 - 1) d))) →
+    next ≡ opened queryid most log (map as_logged (take (at + 1) (drop (length log.entries) archive)))
+result_taken queryid most had at archive log now next size is within taken =
+    taken any_entry
+    ∙ ap (λ n. with_result now (as_logged (get_or archive (n + at + 1 - 1) any_entry))) size
+    ∙ ap (λ l. with_result l (as_logged (get_or archive (length log.entries + at + 1 - 1) any_entry))) is
+    ∙ ap (opened queryid most log) (sym (results_more (length log.entries) at archive any_entry within))
+
+-- the id of the last entry of a page
+pub last_in_page : (k count : ℕ) (archive : List EntryView) → AreNumbered archive → k + count ≤ length archive →
+    cond (eqb count 0) None (Some (id_of (k + count))) ≡ last_id (map as_logged (take count (drop k archive)))
+last_in_page k zero archive numbered within = refl
+last_in_page k (suc j) archive numbered within =
+    let place = at_place (k + j) archive (omega arith) in
+    let is : get_or archive (k + j) place.0 ≡ place.0 = get_or_from_slice_get archive (k + j) place.0 place.0 place.1 in
+    let number : place.0.number ≡ k + suc j = let n : place.0.number ≡ k + j + 1 = numbered.each (k + j) place.0 place.1 in omega arith in
+    let back : k + j + 1 - 1 ≡ k + j = omega arith in
+    let test : eqb (suc j) 0 ≡ false = ne_eqb (suc j) 0 (λ (e : suc j ≡ 0). omega arith) in
+    rw test (sym (ap (λ n. last_id (map as_logged (take n (drop k archive)))) (sym (add-one j))
+    ∙ ap last_id (results_more k j archive place.0 (omega arith))
+    ∙ last_id_push (map as_logged (take j (drop k archive))) (as_logged (get_or archive (k + j + 1 - 1) place.0))
+    ∙ ap (λ n. Some (id_of (get_or archive n place.0).number)) back
+    ∙ ap (λ (e : EntryView). Some (id_of e.number)) is
+    ∙ ap (λ n. Some (id_of n)) number))
+
+-- the page as the code makes it ends well
+pub made_page_ends_well : (queryid : List ℕ) (most count : ℕ) (archive : List EntryView) (log begun now : LogView) (fin : Fin) → 1 ≤ most →
+    AreNumbered archive → length archive < 2 ^ 64 → IsFrontOf archive log.entries →
+    count ≡ min (length archive - length log.entries) most →
+    begun ≡ opened queryid most log [] →
+    now ≡ opened queryid most begun (map as_logged (take count (drop (length begun.entries) archive))) →
+    fin.last ≡ cond (eqb count 0) None (Some (id_of (length log.entries + count))) →
+    fin.complete ≡ leb (length archive - length log.entries) most →
+    fin_answer now queryid fin ≡ Ok (outcome_of fin.complete)
+made_page_ends_well queryid most count archive log begun now fin low numbered small front many begins is last complete =
+    let within = front.within in
+    let left : length (drop (length log.entries) archive) ≡ length archive - length log.entries = length-drop (length log.entries) archive in
+    let same : take count (drop (length log.entries) archive) ≡ take most (drop (length log.entries) archive) =
+        ap (λ n. take n (drop (length log.entries) archive)) (let m : count ≡ min most (length (drop (length log.entries) archive)) = omega arith in m)
+        ∙ take_min most (drop (length log.entries) archive) in
+    let opens : now ≡ opened queryid most log (map as_logged (take most (drop (length log.entries) archive))) =
+        is ∙ ap (λ (l : LogView). opened queryid most l (map as_logged (take count (drop (length l.entries) archive)))) begins
+        ∙ ap (λ es. opened queryid most log (map as_logged es)) same in
+    let ends : fin.last ≡ last_id (map as_logged (take most (drop (length log.entries) archive))) =
+        last ∙ last_in_page (length log.entries) count archive numbered (omega arith) ∙ ap (λ es. last_id (map as_logged es)) same in
+    rw opens (page_ends_well queryid most archive log fin low numbered small front ends (complete ∙ ap (λ n. leb n most) (sym left)))
