@@ -6,10 +6,12 @@ pub use Rattle.xmpp_log.specs.LogPages
 pub mod Direct
 pub mod Grammar
 pub mod Homes
+pub mod Messages
 pub mod Names
 pub mod Reading
 pub mod ReportText
 pub mod Reports
+pub mod Runs
 pub mod Schedules
 pub mod Standing
 pub mod Turns

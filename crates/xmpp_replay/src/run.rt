@@ -1,3 +1,96 @@
-//! The direct run of a schedule.
+//! The direct run of a schedule: every message is taken at once and acknowledged, and every page that is asked for
+//! is answered at once.
+ghost use Rattle.std.specs.Prelude.{◌≡◌, ◌≤◌, false, true, IsTrue, OnOk};
+ghost use Rattle.xmpp_replay.specs.Grammar.{is_among};
+ghost use Rattle.xmpp_replay.specs.Homes.{names_of};
+ghost use Rattle.xmpp_replay.specs.Runs.{HasCaughtUp, HasDeclared, HasFollowed, HasSent, IsReady, MayFollow};
+
 mod accounts;
+mod devices;
+mod messages;
 mod pages;
+
+use crate::name_index::NameIndex;
+use crate::report::TakeLines;
+use crate::run::accounts::Accounts;
+use crate::run::devices::Device;
+use crate::schedule::Step;
+use std::alloc::Global;
+use xmpp_edge::NoMemory;
+
+/// The accounts that a schedule declares anywhere, the devices that were declared so far, each found by its name,
+/// and the messages that were taken so far.
+#[derive(Drop)]
+pub(crate) struct Run {
+    accounts: Accounts,
+    index: NameIndex,
+    devices: Vec<Device>,
+    takes: TakeLines,
+}
+
+impl Run {
+    /// Declares a device of an account that is there.
+    fn declare(&mut self, alloc: Global, name: &str, account: &str) -> Result<(), NoMemory>
+        requires new { is_among name.now self.old.index ≡ false }
+        requires known { is_among account.now (names_of self.old.accounts.homes) ≡ true }
+        ensures { OnOk result (HasDeclared self.old self.new name.now account.now) }
+    {
+        let Some(home) = self.accounts.find(account) else {
+            unreachable!()
+        };
+        let device = Device::new(alloc, name, account, home)?;
+        self.devices.reserve(1)?;
+        self.index.add(alloc, name)?;
+        match self.devices.push(device) {
+            Ok(()) => Ok(()),
+            Err(_) => unreachable!(),
+        }
+    }
+
+    /// Sends a message of a device that is there.
+    fn say(&mut self, alloc: Global, device: &str, to: &str, text: &str) -> Result<(), NoMemory>
+        requires ready { IsReady self.old }
+        requires known { is_among device.now self.old.index ≡ true }
+        ensures { OnOk result (HasSent self.old self.new device.now to.now text.now) }
+    {
+        let Some(place) = self.index.find(device) else {
+            unreachable!()
+        };
+        messages::say(
+            &mut self.devices[place],
+            &mut self.accounts,
+            &mut self.takes,
+            alloc,
+            to,
+            text,
+        )
+    }
+
+    /// Catches a device that is there up on its account's archive, in pages of at most so many entries.
+    fn catch_up(&mut self, alloc: Global, device: &str, most: u32) -> Result<(), NoMemory>
+        requires ready { IsReady self.old }
+        requires known { is_among device.now self.old.index ≡ true }
+        requires most { (1 ≤ most) × (most ≤ 100) }
+        ensures { OnOk result (HasCaughtUp self.old self.new device.now most) }
+    {
+        let Some(place) = self.index.find(device) else {
+            unreachable!()
+        };
+        let device = &mut self.devices[place];
+        pages::catch_up(&mut device.log, alloc, self.accounts.archive(device.home), most)
+    }
+
+    /// Follows a step of a schedule.
+    fn follow(&mut self, alloc: Global, step: &Step) -> Result<(), NoMemory>
+        requires ready { IsReady self.old }
+        requires stands { MayFollow self.old step.now }
+        ensures { OnOk result (HasFollowed self.old self.new step.now) }
+    {
+        match step {
+            Step::Account(_) => Ok(()),
+            Step::Device(name, account) => self.declare(alloc, name.as_str(), account.as_str()),
+            Step::Say(device, to, text) => self.say(alloc, device.as_str(), to.as_str(), text.as_str()),
+            Step::Catchup(device, most) => self.catch_up(alloc, device.as_str(), *most),
+        }
+    }
+}

@@ -1,0 +1,112 @@
+-- A run in the middle of a schedule: what its parts are after the first steps, and what one step does to them.
+use Rattle.std.specs.Prelude.{◌≡◌, ℕ, ◌+◌, ◌<◌, ◌≤◌, Bool, true, false, List, [], ◌∷◌, ◌++◌, Some, None, length, map, slice_set, slice_index_or, slice_get}
+use Rattle.std.specs.List.{All}
+use Rattle.xmpp_archive.specs.Entries.{EntryView}
+use Rattle.xmpp_replay.specs.Direct.{accounts_of, along, archive_of, devices_of, home_of, pages_of, said_at, sent_by, take_line, takes_of}
+use Rattle.xmpp_replay.specs.Grammar.{is_among}
+use Rattle.xmpp_replay.specs.Homes.{Home, home_at, names_of}
+use Rattle.xmpp_replay.specs.Messages.{HasSaid, homes_after, takes_after}
+use Rattle.xmpp_replay.specs.Names.{place_of}
+use Rattle.xmpp_replay.specs.Standing.{AreOnce}
+use Rattle.xmpp_replay.specs.Turns.{IsFrontOf, IsLogOf, caught_up}
+use Rattle.xmpp_replay.specs.declared.run.Run.{Run}
+use Rattle.xmpp_replay.specs.declared.run.devices.Device.{Device}
+use Rattle.xmpp_replay.specs.declared.schedule.Step.{Step}
+use Rattle.xmpp_replay.specs.declared.schedule.Step.TheVariants.{Account, Device as DeviceStep, Say, Catchup}
+
+-- a device after the first steps
+pub record IsDevice (all before : List Step) (device : Device) : Type 0 where
+  pub account : device.account ≡ home_of before device.name
+  pub place : place_of device.account (accounts_of all) ≡ Some device.home
+  pub said : device.said.items ≡ along (said_at device.name) [] before
+  pub sent : device.sent ≡ sent_by device.name before
+  pub log : IsLogOf (pages_of all device.name before) device.log
+  pub front : IsFrontOf (archive_of device.account (takes_of all before)) device.log.entries
+
+-- no step was of a device with this name
+pub record IsUnused (all before : List Step) (name : List ℕ) : Type 0 where
+  pub said : along (said_at name) [] before ≡ []
+  pub sent : sent_by name before ≡ 0
+  pub pages : pages_of all name before ≡ []
+
+-- a run after the first steps of a schedule
+pub record IsAfter (all before : List Step) (run : Run) : Type 0 where
+  pub homes : run.accounts.homes ≡ map (home_at (takes_of all before)) (accounts_of all)
+  pub takes : run.takes.items ≡ map take_line (takes_of all before)
+  pub index : run.index ≡ devices_of before
+  pub names : map (λ (device : Device). device.name) run.devices.items ≡ devices_of before
+  pub devices : All (IsDevice all before) run.devices.items
+  pub once : AreOnce (devices_of before)
+  pub unused : (name : List ℕ) → is_among name (devices_of before) ≡ false → IsUnused all before name
+
+-- what a step asks of a device: its count can grow, its account is there, and its log is a front of the archive
+pub record IsReadyDevice (homes : List Home) (device : Device) : Type 0 where
+  pub sent : device.sent < 100000
+  pub home : device.home < length homes
+  pub closed : device.log.page ≡ None
+  pub front : (d : Home) → IsFrontOf (slice_index_or homes device.home d).entries device.log.entries
+
+-- what a step asks of a run
+pub record IsReady (run : Run) : Type 0 where
+  pub names : run.index ≡ map (λ (device : Device). device.name) run.devices.items
+  pub devices : All (IsReadyDevice run.accounts.homes) run.devices.items
+  pub few : All (λ (home : Home). length home.entries < 4294967294) run.accounts.homes
+
+-- the step speaks of what the run has
+abbrev pub MayFollow : Run → Step → Type 0
+MayFollow run (Account name) = Unit {0}
+MayFollow run (DeviceStep name account) = (is_among name run.index ≡ false) × (is_among account (names_of run.accounts.homes) ≡ true)
+MayFollow run (Say device to text) = is_among device run.index ≡ true
+MayFollow run (Catchup device most) = (is_among device run.index ≡ true) × (1 ≤ most) × (most ≤ 100)
+
+-- a device was declared
+pub record HasDeclared (before after : Run) (name account : List ℕ) : Type 0 where
+  pub new : Device
+  pub devices : after.devices.items ≡ before.devices.items ++ new ∷ []
+  pub index : after.index ≡ before.index ++ name ∷ []
+  pub homes : after.accounts.homes ≡ before.accounts.homes
+  pub takes : after.takes.items ≡ before.takes.items
+  pub named : new.name ≡ name
+  pub owned : new.account ≡ account
+  pub placed : place_of account (names_of before.accounts.homes) ≡ Some new.home
+  pub said : new.said.items ≡ []
+  pub sent : new.sent ≡ 0
+  pub log : new.log ≡ record { entries = []; tiles = []; page = None }
+
+-- a device said something
+pub record HasSent (before after : Run) (name to text : List ℕ) : Type 0 where
+  pub place : ℕ
+  pub old : Device
+  pub new : Device
+  pub named : place_of name before.index ≡ Some place
+  pub there : slice_get before.devices.items place ≡ Some old
+  pub devices : after.devices.items ≡ slice_set before.devices.items place new
+  pub index : after.index ≡ before.index
+  pub said : HasSaid old new to text
+  pub homes : after.accounts.homes ≡ homes_after old to text before.accounts.homes
+  pub takes : after.takes.items ≡ takes_after old to text before.accounts.homes before.takes.items
+
+-- the device with another log
+abbrev pub HasLog : Device → Device → Type 0
+HasLog old new = (new.name ≡ old.name) × (new.account ≡ old.account) × (new.home ≡ old.home) × (new.said.items ≡ old.said.items) × (new.sent ≡ old.sent)
+
+-- a device caught up on its account's archive
+pub record HasCaughtUp (before after : Run) (name : List ℕ) (most : ℕ) : Type 0 where
+  pub place : ℕ
+  pub old : Device
+  pub new : Device
+  pub named : place_of name before.index ≡ Some place
+  pub there : slice_get before.devices.items place ≡ Some old
+  pub devices : after.devices.items ≡ slice_set before.devices.items place new
+  pub index : after.index ≡ before.index
+  pub homes : after.accounts.homes ≡ before.accounts.homes
+  pub takes : after.takes.items ≡ before.takes.items
+  pub same : HasLog old new
+  pub log : (d : Home) → new.log ≡ caught_up most (slice_index_or before.accounts.homes old.home d).entries old.log
+
+-- what the step did to the run
+abbrev pub HasFollowed : Run → Run → Step → Type 0
+HasFollowed before after (Account name) = after ≡ before
+HasFollowed before after (DeviceStep name account) = HasDeclared before after name account
+HasFollowed before after (Say device to text) = HasSent before after device to text
+HasFollowed before after (Catchup device most) = HasCaughtUp before after device most
