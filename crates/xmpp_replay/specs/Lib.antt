@@ -6,6 +6,7 @@ pub use Rattle.xmpp_log.specs.LogPages
 pub mod Direct
 pub mod Grammar
 pub mod Homes
+pub mod Lines
 pub mod Messages
 pub mod Names
 pub mod Reading

@@ -1,22 +1,24 @@
 //! The direct run of a schedule: every message is taken at once and acknowledged, and every page that is asked for
 //! is answered at once.
-ghost use Rattle.std.specs.Prelude.{◌≡◌, ◌≤◌, false, true, IsTrue, OnOk};
+ghost use Rattle.std.specs.Prelude.{◌≡◌, ◌≤◌, false, true, IfOk, OnOk};
 ghost use Rattle.xmpp_replay.specs.Grammar.{is_among};
 ghost use Rattle.xmpp_replay.specs.Homes.{names_of};
+ghost use Rattle.xmpp_replay.specs.Lines.{report_of};
 ghost use Rattle.xmpp_replay.specs.Runs.{HasCaughtUp, HasDeclared, HasFollowed, HasSent, IsReady, MayFollow};
 
 mod accounts;
 mod devices;
 mod messages;
 mod pages;
+mod summary;
 
 use crate::name_index::NameIndex;
-use crate::report::TakeLines;
+use crate::report::{Report, TakeLines};
 use crate::run::accounts::Accounts;
 use crate::run::devices::Device;
 use crate::schedule::Step;
 use std::alloc::Global;
-use xmpp_edge::NoMemory;
+use xmpp_edge::{ListOf, NoMemory};
 
 /// The accounts that a schedule declares anywhere, the devices that were declared so far, each found by its name,
 /// and the messages that were taken so far.
@@ -92,5 +94,24 @@ impl Run {
             Step::Say(device, to, text) => self.say(alloc, device.as_str(), to.as_str(), text.as_str()),
             Step::Catchup(device, most) => self.catch_up(alloc, device.as_str(), *most),
         }
+    }
+
+    /// The report of the run, made by moving what the run has into the report's lines.
+    fn into_report(self, alloc: Global) -> Result<Report, NoMemory>
+        ensures { IfOk result (λ report. report ≡ report_of self) }
+    {
+        let Run {
+            accounts,
+            devices,
+            takes,
+            ..
+        } = self;
+        Ok(Report {
+            wire: false,
+            takes,
+            accounts: summary::account_lines(alloc, accounts.into_accounts())?,
+            conns: ListOf::new(alloc),
+            devices: summary::device_lines(alloc, devices)?,
+        })
     }
 }

@@ -3,7 +3,7 @@ ghost use Rattle.std.specs.Prelude.{◌≡◌, ◌≢◌, ℕ, ◌+◌, ◌<◌,
 ghost use Rattle.std.specs.List.{All};
 ghost use Rattle.xmpp_replay.specs.Direct.{bare_address};
 ghost use Rattle.xmpp_replay.specs.Grammar.{is_among};
-ghost use Rattle.xmpp_replay.specs.Homes.{Home, names_of, empty_home, appended_at, delivered};
+ghost use Rattle.xmpp_replay.specs.Homes.{Home, home_of_account, names_of, empty_home, appended_at, delivered};
 ghost use Rattle.xmpp_replay.specs.Names.{place_of};
 
 use crate::name_index::NameIndex;
@@ -138,5 +138,12 @@ impl Accounts {
         self.append(from, entry);
         self.append(to, copy);
         Ok(())
+    }
+
+    /// The accounts, in order.
+    pub(crate) fn into_accounts(self) -> Vec<Account>
+        ensures { map home_of_account result.items ≡ self.homes }
+    {
+        self.accounts
     }
 }
