@@ -407,7 +407,7 @@ after_catch_up all before name most run next few is known made = record {
           refl refl (rw far refl) (is.devices k d within)
 
 -- what a step may say, of a run in the middle of a schedule
-may_follow : (all before : List Step) (run : Run) (step : Step) → IsAfter all before run →
+pub may_follow : (all before : List Step) (run : Run) (step : Step) → IsAfter all before run →
     ((name : List ℕ) → is_among name (accounts_of before) ≡ true → is_among name (accounts_of all) ≡ true) →
     IsTrue (may_stand (declared_in before) step) → MayFollow run step
 may_follow all before run (Account name) is later right = tt
@@ -424,7 +424,7 @@ may_follow all before run (Catchup device most) is later right =
     let first = and_parts (is_among device (devices_of before)) (nat_le 1 most) parts.0 in
     (ap (is_among device) is.index ∙ first.0, leb-true 1 most first.1, leb-true most 100 parts.1)
 
-after_followed : (all before : List Step) (run next : Run) (step : Step) → length before < 100000 → AreOnce (accounts_of all) → IsAfter all before run →
+pub after_followed : (all before : List Step) (run next : Run) (step : Step) → length before < 100000 → AreOnce (accounts_of all) → IsAfter all before run →
     MayFollow run step → HasFollowed run next step → IsAfter all (before ++ step ∷ []) next
 after_followed all before run next (Account name) few once is may did = subst (λ (r : Run). IsAfter all (before ++ Account name ∷ []) r) (sym did) (after_account all before name run is)
 after_followed all before run next (DeviceStep name account) few once is may did = after_device all before name account run next is (ap (is_among name) (sym is.index) ∙ may.0) did

@@ -13,4 +13,5 @@ pub use report::{
     RefusedLines, RefusedWhy, Report, SaidLine, SaidLines, SaidMark, TakeLine, TakeLines,
     UnderwayLine, UnderwayLines,
 };
+pub use run::direct;
 pub use schedule::{Line, LineWhy, Lines, Schedule, ScheduleFault, Step};

@@ -1,10 +1,13 @@
 //! The direct run of a schedule: every message is taken at once and acknowledged, and every page that is asked for
 //! is answered at once.
-ghost use Rattle.std.specs.Prelude.{◌≡◌, ◌≤◌, false, true, IfOk, OnOk};
-ghost use Rattle.xmpp_replay.specs.Grammar.{is_among};
+ghost use Rattle.std.specs.Prelude.{◌≡◌, ◌≤◌, false, true, [], IfOk, OnOk};
+ghost use Rattle.xmpp_replay.specs.Direct.{direct_report};
+ghost use Rattle.xmpp_replay.specs.Grammar.{IsSchedule, is_among};
 ghost use Rattle.xmpp_replay.specs.Homes.{names_of};
 ghost use Rattle.xmpp_replay.specs.Lines.{report_of};
-ghost use Rattle.xmpp_replay.specs.Runs.{HasCaughtUp, HasDeclared, HasFollowed, HasSent, IsReady, MayFollow};
+ghost use Rattle.xmpp_replay.specs.Runs.{HasCaughtUp, HasDeclared, HasFollowed, HasSent, IsAfter, IsReady, MayFollow};
+ghost use Rattle.xmpp_replay.specs.Schedules.{steps_of};
+ghost use Rattle.xmpp_replay.specs.Standing.{AreRight};
 
 mod accounts;
 mod devices;
@@ -16,7 +19,7 @@ use crate::name_index::NameIndex;
 use crate::report::{Report, TakeLines};
 use crate::run::accounts::Accounts;
 use crate::run::devices::Device;
-use crate::schedule::Step;
+use crate::schedule::{Line, Schedule, Step};
 use std::alloc::Global;
 use xmpp_edge::{ListOf, NoMemory};
 
@@ -114,4 +117,43 @@ impl Run {
             devices: summary::device_lines(alloc, devices)?,
         })
     }
+
+    #[tactic(auto, using(crate::proofs::WholeRuns::after_none))]
+    /// The run before the first of some lines: their accounts are there, and nothing else.
+    fn of_lines(alloc: Global, lines: &[Line]) -> Result<Run, NoMemory>
+        requires { AreRight (steps_of lines.now) }
+        ensures { IfOk result (λ run. IsAfter (steps_of lines.now) [] run) }
+    {
+        Ok(Run {
+            accounts: Accounts::of_lines(alloc, lines)?,
+            index: NameIndex::new(alloc),
+            devices: Vec::new(alloc),
+            takes: ListOf::new(alloc),
+        })
+    }
+
+    /// Follows the lines, each below the ones before it.
+    fn follow_lines(&mut self, alloc: Global, lines: &[Line]) -> Result<(), NoMemory>
+        requires right { AreRight (steps_of lines.now) }
+        requires start { IsAfter (steps_of lines.now) [] self.old }
+        ensures { OnOk result (IsAfter (steps_of lines.now) (steps_of lines.now) self.new) }
+    {
+        for line in lines {
+            self.follow(alloc, &line.step)?;
+        }
+        Ok(())
+    }
+}
+
+/// The direct run of a schedule: each message is taken at once where its account exists, and each page that a
+/// catch-up asks for (XEP-0313) is answered at once. `NoMemory` comes only where memory runs out.
+#[tactic(auto, using(crate::proofs::Prefixes::right_steps, crate::proofs::WholeRuns::report_told))]
+pub fn direct(alloc: Global, schedule: &Schedule) -> Result<Report, NoMemory>
+    requires { IsSchedule schedule.now }
+    ensures { IfOk result (λ report. report ≡ direct_report (steps_of schedule.now.lines)) }
+{
+    let lines = schedule.lines.as_slice();
+    let mut run = Run::of_lines(alloc, lines)?;
+    run.follow_lines(alloc, lines)?;
+    run.into_report(alloc)
 }

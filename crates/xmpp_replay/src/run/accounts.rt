@@ -1,12 +1,15 @@
 //! The accounts of a run, each with its archive.
-ghost use Rattle.std.specs.Prelude.{◌≡◌, ◌≢◌, ℕ, ◌+◌, ◌<◌, ◌≤◌, false, [], ◌∷◌, ◌++◌, length, map, slice_get, slice_index, slice_index_or, OnOk, OnErr, IfOk, IfSome, IfNone};
+ghost use Rattle.std.specs.Prelude.{◌≡◌, ◌≢◌, ℕ, ◌+◌, ◌<◌, ◌≤◌, false, List, [], ◌∷◌, ◌++◌, length, map, slice_get, slice_index, slice_index_or, OnOk, OnErr, IfOk, IfSome, IfNone};
 ghost use Rattle.std.specs.List.{All};
-ghost use Rattle.xmpp_replay.specs.Direct.{bare_address};
+ghost use Rattle.xmpp_replay.specs.Direct.{account_name, accounts_of, bare_address};
 ghost use Rattle.xmpp_replay.specs.Grammar.{is_among};
 ghost use Rattle.xmpp_replay.specs.Homes.{Home, home_of_account, names_of, empty_home, appended_at, delivered};
 ghost use Rattle.xmpp_replay.specs.Names.{place_of};
+ghost use Rattle.xmpp_replay.specs.Schedules.{steps_of};
+ghost use Rattle.xmpp_replay.specs.Standing.{AreRight};
 
 use crate::name_index::NameIndex;
+use crate::schedule::{Line, Step};
 use std::alloc::Global;
 use std::marker::Model;
 use xmpp_archive::{Archive, ArchiveFault, Entry, MOST_ENTRIES};
@@ -73,6 +76,29 @@ impl Accounts {
             Ok(()) => Ok(()),
             Err(_) => unreachable!(),
         }
+    }
+
+    /// Adds the account that a step declares, if it declares one.
+    fn declare(&mut self, alloc: Global, step: &Step) -> Result<(), NoMemory>
+        requires { (name : List ℕ) → step.now ≡ Step.Account name → is_among name (names_of self.old.homes) ≡ false }
+        ensures { OnOk result (self.new.homes ≡ self.old.homes ++ map empty_home (account_name step.now)) }
+    {
+        match step {
+            Step::Account(name) => self.add(alloc, name.as_str()),
+            Step::Device(_, _) | Step::Say(_, _, _) | Step::Catchup(_, _) => Ok(()),
+        }
+    }
+
+    /// The accounts that lines declare anywhere, each with an empty archive.
+    pub(crate) fn of_lines(alloc: Global, lines: &[Line]) -> Result<Accounts, NoMemory>
+        requires { AreRight (steps_of lines.now) }
+        ensures { IfOk result (λ accounts. accounts.homes ≡ map empty_home (accounts_of (steps_of lines.now))) }
+    {
+        let mut accounts = Accounts::new(alloc);
+        for line in lines {
+            accounts.declare(alloc, &line.step)?;
+        }
+        Ok(accounts)
     }
 
     /// The place of an account, from 0.

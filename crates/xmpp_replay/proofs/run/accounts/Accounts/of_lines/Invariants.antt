@@ -1,0 +1,9 @@
+-- The accounts of the lines so far.
+use Rattle.std.proofs.Common.{◌≡◌, map, take}
+use Rattle.xmpp_replay.specs.Direct.{accounts_of}
+use Rattle.xmpp_replay.specs.Homes.{empty_home}
+use Rattle.xmpp_replay.specs.Schedules.{steps_of}
+use Rattle.xmpp_replay.proofs.run.accounts.Accounts.of_lines.Given as goal
+
+abbrev pub invariant-loop-line : goal.invariant-loop-line
+invariant-loop-line l = l.accounts.homes ≡ map empty_home (accounts_of (take l.line-index (steps_of l.lines)))
