@@ -5,6 +5,8 @@ pub use Rattle.xmpp_archive.specs.Pages
 pub use Rattle.xmpp_log.specs.LogPages
 pub mod Direct
 pub mod Grammar
+pub mod History
+pub mod Lawful
 pub mod Reading
 pub mod ReportText
 pub mod Reports
