@@ -19,7 +19,7 @@ length-hex_digits zero n = refl
 length-hex_digits (suc k) n =
     let front : length (hex_digits k (n / 16)) ≡ k = length-hex_digits k (n / 16) in
     let whole : length (hex_digits k (n / 16) ++ hex_digit (n % 16) ∷ []) ≡ length (hex_digits k (n / 16)) + 1 =
-        length-append (hex_digits k (n / 16)) (hex_digit (n % 16) ∷ []) in
+    length-append (hex_digits k (n / 16)) (hex_digit (n % 16) ∷ []) in
     omega arith
 
 -- the digits of a number and one digit more
@@ -54,13 +54,13 @@ digit_at zero i n within = absurd (omega arith)
 digit_at (suc k) i n within =
     let size : length (hex_digits k (n / 16)) ≡ k = length-hex_digits k (n / 16) in
     elim (cases_lt i k) [
-      inl front ↦
-        let rest = digit_at k i (n / 16) front in
-        let same : get_or (hex_digits (suc k) n) i 0 ≡ get_or (hex_digits k (n / 16)) i 0 =
-            get_or_append_left (hex_digits k (n / 16)) (hex_digit (n % 16) ∷ []) 0 i (omega arith) in
-        (rest.0, rest.1, same ∙ rest.2)
-    | inr last ↦
-        (n % 16, omega arith, get_or_at (hex_digits k (n / 16)) (hex_digit (n % 16)) [] 0 i (omega arith))
+      | inl front ↦
+          let rest = digit_at k i (n / 16) front in
+          let same : get_or (hex_digits (suc k) n) i 0 ≡ get_or (hex_digits k (n / 16)) i 0 =
+          get_or_append_left (hex_digits k (n / 16)) (hex_digit (n % 16) ∷ []) 0 i (omega arith) in
+          (rest.0, rest.1, same ∙ rest.2)
+      | inr last ↦
+          (n % 16, omega arith, get_or_at (hex_digits k (n / 16)) (hex_digit (n % 16)) [] 0 i (omega arith))
     ]
 
 -- one digit of an id written: what is left of the number stands before what is written
@@ -71,9 +71,9 @@ digit_written k n d id within is = rw (drop-set id k d within, is) (sym (append_
 -- one digit of an id read
 pub digit_read : (k n d : ℕ) (id : List ℕ) → k < length id → d < 16 → get_or id k 0 ≡ hex_digit d → take k id ≡ hex_digits k n →
     take (k + 1) id ≡ hex_digits (k + 1) (n * 16 + d)
-digit_read k n d id within low is front = 
+digit_read k n d id within low is front =
     let push : hex_digits (k + 1) (n * 16 + d) ≡ hex_digits k n ++ hex_digit d ∷ [] =
-        ap (λ m. hex_digits m (n * 16 + d)) (add-one k) ∙ hex_digits_push k n d low in
+    ap (λ m. hex_digits m (n * 16 + d)) (add-one k) ∙ hex_digits_push k n d low in
     take_more id k 0 within ∙ rw (front, is) (sym push)
 
 pub id_of_same : (m n : ℕ) → m < 2 ^ 64 → n < 2 ^ 64 → id_of m ≡ id_of n → m ≡ n

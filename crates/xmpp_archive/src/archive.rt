@@ -4,6 +4,8 @@ ghost use Rattle.xmpp_archive.specs.Entries.{AreNumbered, entry_numbered, number
 
 use crate::entry::{Entries, Entry};
 use std::alloc::Global;
+use std::error::Error;
+use std::fmt;
 use std::marker::Model;
 use xmpp_edge::{ListOf, NoMemory, Text};
 
@@ -37,6 +39,17 @@ pub enum ArchiveFault {
     /// Memory ran out.
     NoMemory,
 }
+
+impl fmt::Display for ArchiveFault {
+    fn fmt<W: fmt::Write>(&self, f: &mut fmt::Formatter<W>) -> fmt::Result {
+        f.write_str(match self {
+            ArchiveFault::Full => "the archive is full",
+            ArchiveFault::NoMemory => "out of memory",
+        })
+    }
+}
+
+impl Error for ArchiveFault {}
 
 impl From<NoMemory> for ArchiveFault {
     ghost use Rattle.std.specs.Prelude.{◌≡◌};
