@@ -1,0 +1,4 @@
+use Rattle.xmpp_replay.proofs.laws.direct_is_lawful.Goals as goal
+
+pub returns : goal.returns
+returns c = ?
