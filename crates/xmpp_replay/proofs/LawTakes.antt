@@ -94,7 +94,7 @@ takes_known : (all : List Step) → AreStanding [] all → AllByRecursion (IsTak
 takes_known all known = all_along (IsTake all) (take_at all) all (take_known all) [] all refl known
 
 -- the takes that a report's lines name
-abbrev named_in : List Step → TakeLine → Take
+abbrev pub named_in : List Step → TakeLine → Take
 named_in all line = take_named line (device_named line.device (map (device_line all) (devices_of all)))
 
 take_back : (all : List Step) (take : Take) → IsTake all take → named_in all (take_line take) ≡ take

@@ -29,7 +29,7 @@ abbrev pub AreStanding : List Step → List Step → Type 0
 AreStanding before [] = Unit {0}
 AreStanding before (step ∷ steps) = Stands before step × AreStanding (before ++ step ∷ []) steps
 
-abbrev declared_of : List Step → Declared
+abbrev pub declared_of : List Step → Declared
 declared_of before = record { accounts = accounts_of before; devices = devices_of before }
 
 declared_step : (before : List Step) (step : Step) → declared_by step (declared_of before) ≡ declared_of (before ++ step ∷ [])
@@ -121,7 +121,7 @@ home_behind name (step ∷ before) rest known = home_behind name before rest kno
 home_here : (name account : List ℕ) (before rest : List Step) → is_among name (devices_of before) ≡ false → home_of (before ++ Device name account ∷ rest) name ≡ account
 home_here name account before rest known = home_behind name before (Device name account ∷ rest) known ∙ rw (same_bytes name)
 
-abbrev home_in : List Step → List ℕ → Home
+abbrev pub home_in : List Step → List ℕ → Home
 home_in all name = record { device = name; account = home_of all name }
 
 pub homes_are : (all before steps : List Step) → before ++ steps ≡ all → AreStanding before steps → map (home_in all) (devices_of steps) ≡ homes_of steps
