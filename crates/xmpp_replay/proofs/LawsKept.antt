@@ -1,22 +1,28 @@
 -- The direct run keeps each of the five laws.
-use Rattle.std.proofs.Common.{◌≡◌, ℕ, ◌+◌, ◌≢◌, true, List, [], ◌++◌, length, map, filter, IsTrue, refl, sym, ap, ◌∙◌, arith}
-use Rattle.std.proofs.lemmas.List.{length-map}
-use Rattle.std.specs.List.{AllByRecursion, flat_map}
+use Rattle.std.proofs.Common.{◌≡◌, ◌≢◌, ℕ, ◌+◌, ◌<◌, ◌≤◌, ◌^◌, true, List, [], ◌++◌, length, take, map, filter, IsTrue, refl, sym, ap, ◌∙◌, arith}
+use Rattle.std.proofs.lemmas.List.{append-nil, length-append, length-map, map-append, take-map, take_at as front_of_join}
+use Rattle.std.specs.List.{AllByRecursion, count_by, flat_map}
 use Rattle.std.specs.List.Sorted.{IsNonDecreasing}
 use Rattle.std.specs.Str.{bytes_eq}
 use Rattle.xmpp_archive.specs.Entries.{EntryView}
-use Rattle.xmpp_replay.proofs.LawLists.{all_flat_map, all_map, all_of, all_weaker, map-map, map_nothing, pairs_by_both, pairs_by_first, zeros_not_falling}
+use Rattle.xmpp_log.specs.LogPages.{log_of}
+use Rattle.xmpp_log.specs.declared.log_entry.LogEntry.{LogEntry}
+use Rattle.xmpp_replay.proofs.LawArchives.{archive_few, archive_numbered, ids_apart}
+use Rattle.xmpp_replay.proofs.LawHistories.{ArePaged, paged_at}
+use Rattle.xmpp_replay.proofs.LawLists.{all_flat_map, all_map, all_of, all_weaker, map-map, map_nothing, pairs_by_both, pairs_by_first, pairs_front, pairs_map, zeros_not_falling}
+use Rattle.xmpp_replay.proofs.LawPages.{tiles_are}
 use Rattle.xmpp_replay.proofs.LawTakes.{acknowledged, are_submissions, messages_are, named_in, stamps_known, taken_from, takes_back, takes_exist, takes_rise, takes_submitted}
-use Rattle.xmpp_replay.proofs.StandingSteps.{AreStanding, home_in, homes_are, steps_stand}
-use Rattle.xmpp_replay.specs.Direct.{Take, account_line, accounts_of, along, archive_of, device_line, devices_of, direct_report, entry_line, home_of, said_at, take_line, takes_of}
-use Rattle.xmpp_replay.specs.Grammar.{IsSchedule, is_among}
-use Rattle.xmpp_replay.specs.Lawful.{AgreeOnStamp, AreSubmissions, EachPair, Home, IsAcknowledgedFirst, IsAcknowledgedRight, IsOfSchedule, IsOnceInOrder, IsSettledRight, IsTakenFirst, IsTakenRight, Message, Precedes, at_any_time, homes_of, is_account, is_taken, messages_of}
+use Rattle.xmpp_replay.proofs.LawWorlds.{complete_lines, ends_with, is_fresh}
+use Rattle.xmpp_replay.proofs.StandingSteps.{AreStanding, account_found, few_lines, homes_are, homes_exist, steps_stand}
+use Rattle.xmpp_replay.specs.Direct.{account_line, accounts_of, along, archive_of, as_logged, device_line, devices_of, direct_report, entry_line, home_of, logged_line, page_line, pages_of, said_at, take_line, takes_of}
+use Rattle.xmpp_replay.specs.Grammar.{IsSchedule, is_among, nothing_declared}
+use Rattle.xmpp_replay.specs.Lawful.{AgreeOnStamp, ArePages, AreSubmissions, EachPair, Home, IsAcknowledgedFirst, IsAcknowledgedRight, IsLawful, IsLogged, IsOfSchedule, IsOnceInOrder, IsPaged, IsPrefixOfAccount, IsSettledRight, IsTakenFirst, IsTakenRight, Precedes, account_named, at_any_time, is_account, is_catchup_of, is_taken, logged_as, messages_of}
 use Rattle.xmpp_replay.specs.Reports.{AccountView, DeviceView}
 use Rattle.xmpp_replay.specs.Schedules.{ScheduleView, steps_of}
 use Rattle.xmpp_replay.specs.declared.report.EntryLine.{EntryLine}
-use Rattle.xmpp_replay.specs.declared.report.SaidLine.{SaidLine}
+use Rattle.xmpp_replay.specs.declared.report.LoggedLine.{LoggedLine}
 use Rattle.xmpp_replay.specs.declared.report.SaidMark.TheVariants.{Acknowledged, Waiting}
-use Rattle.xmpp_replay.specs.declared.report.TakeLine.{TakeLine}
+use Rattle.xmpp_replay.specs.declared.schedule.Line.{Line}
 use Rattle.xmpp_replay.specs.declared.schedule.Step.{Step}
 
 known_steps : (s : ScheduleView) → IsSchedule s → AreStanding [] (steps_of s.lines)
@@ -137,3 +143,92 @@ acknowledged_right s known =
       settled = each_device (λ d. IsTrue d.settled → IsSettledRight d) all (λ name yes. settled_right all name);
       direct = λ is. each_device (λ d. IsTrue d.settled) all (λ name. refl);
     }
+
+-- Law 4.
+
+known_few : (s : ScheduleView) → IsSchedule s → length (steps_of s.lines) < 2 ^ 64
+known_few s known =
+    let lines : length s.lines + 2 ≤ 100001 = few_lines nothing_declared 2 s.lines (omega arith) known.lines in
+    omega (arith, length-map s.lines (λ (line : Line). line.step))
+
+-- the log is the front of the archive
+log_front : (all : List Step) (name : List ℕ) → AreStanding [] all → length all < 2 ^ 64 →
+    ArePaged (archive_of (home_of all name) (takes_of all all)) (pages_of all name all) (count_by (is_catchup_of name) all)
+log_front all name stand few = paged_at all name all [] (append-nil all) stand few
+
+prefix_kept : (archive : List EntryView) (log rest : List LogEntry) → map as_logged archive ≡ log ++ rest →
+    (length (map logged_line log) ≤ length (map entry_line archive))
+    × (map logged_line log ≡ map logged_as (take (length (map logged_line log)) (map entry_line archive)))
+prefix_kept archive log rest front =
+    let total : length archive ≡ length log + length rest = sym (length-map archive as_logged) ∙ ap length front ∙ length-append log rest in
+    let lines : map logged_as (map entry_line archive) ≡ map logged_line log ++ map logged_line rest =
+    map-map entry_line logged_as archive ∙ sym (map-map as_logged logged_line archive) ∙ ap (map logged_line) front ∙ map-append logged_line log rest in
+    (omega (arith, length-map log logged_line, length-map archive entry_line),
+    sym (front_of_join (map logged_line log) (map logged_line rest) (length (map logged_line log)) refl)
+    ∙ ap (take (length (map logged_line log))) (sym lines)
+    ∙ take-map logged_as (length (map logged_line log)) (map entry_line archive))
+
+prefix_of_account : (all : List Step) (name : List ℕ) → AreStanding [] all → length all < 2 ^ 64 → is_among (home_of all name) (accounts_of all) ≡ true →
+    IsPrefixOfAccount (device_line all name) (account_named (home_of all name) (map (account_line all) (accounts_of all)))
+prefix_of_account all name stand few exists =
+    let archive = archive_of (home_of all name) (takes_of all all) in
+    let known = log_front all name stand few in
+    let kept = prefix_kept archive (log_of (pages_of all name all)) known.rest known.front in
+    rw (account_found all (home_of all name) (accounts_of all) exists) (record { short = kept.0; logged = kept.1; apart = tt; held = tt })
+
+pub logged_right : (s : ScheduleView) → IsSchedule s → IsLogged s (direct_report (steps_of s.lines))
+unfolding direct_report of_schedule
+logged_right s known =
+    let all = steps_of s.lines in
+    let standing : AreStanding [] all = known_steps s known in
+    record {
+      whole = of_schedule s known;
+      prefix = all_map (λ d. IsPrefixOfAccount d (account_named d.account (map (account_line all) (accounts_of all)))) (device_line all) (devices_of all)
+      (all_weaker (λ name. is_among (home_of all name) (accounts_of all) ≡ true)
+      (λ name. IsPrefixOfAccount (device_line all name) (account_named (home_of all name) (map (account_line all) (accounts_of all))))
+      (λ name exists. prefix_of_account all name standing (known_few s known) exists) (devices_of all) (homes_exist all [] all refl standing));
+    }
+
+-- Law 5.
+
+ids_differ : (all : List Step) (name : List ℕ) → AreStanding [] all → length all < 2 ^ 64 → EachPair (λ a b. a.id ≢ b.id) (map logged_line (log_of (pages_of all name all)))
+ids_differ all name stand few =
+    let account = home_of all name in
+    let archive = archive_of account (takes_of all all) in
+    let log = log_of (pages_of all name all) in
+    let known = log_front all name stand few in
+    let short : length archive ≤ length all = archive_few all account all in
+    let apart : EachPair (λ a b. a.id ≢ b.id) (map as_logged archive) =
+    pairs_map (λ (a b : LogEntry). a.id ≢ b.id) as_logged archive (ids_apart archive (archive_numbered account (takes_of all all)) (omega arith)) in
+    pairs_map (λ (a b : LoggedLine). a.id ≢ b.id) logged_line log
+    (pairs_front (λ (a b : LogEntry). a.id ≢ b.id) log known.rest (rw known.front at apart))
+
+are_pages : (s : ScheduleView) → IsSchedule s → (name : List ℕ) → ArePages s (device_line (steps_of s.lines) name)
+are_pages s known name =
+    let all = steps_of s.lines in
+    let standing : AreStanding [] all = known_steps s known in
+    let paged = log_front all name standing (known_few s known) in
+    record {
+      tiles = tiles_are [] (pages_of all name all) paged.tiles;
+      distinct = ids_differ all name standing (known_few s known);
+      fresh = λ k total page at is. is_fresh all name standing (known_few s known) k total page at is;
+      last = ends_with all [] all (device_line all name) (sym (length-map (pages_of all name all) page_line));
+      answered = λ direct. complete_lines (pages_of all name all) ∙ paged.complete;
+    }
+
+pub paged_right : (s : ScheduleView) → IsSchedule s → IsPaged s (direct_report (steps_of s.lines))
+unfolding direct_report of_schedule
+paged_right s known =
+    record {
+      whole = of_schedule s known;
+      pages = each_device (ArePages s) (steps_of s.lines) (are_pages s known);
+    }
+
+pub lawful : (s : ScheduleView) → IsSchedule s → IsLawful s (direct_report (steps_of s.lines))
+lawful s known = record {
+  taken = taken_right s known;
+  in_order = once_in_order s known;
+  acknowledged = acknowledged_right s known;
+  logged = logged_right s known;
+  paged = paged_right s known;
+}
