@@ -1,7 +1,7 @@
 -- The archives of the direct run: numbered from 1, no longer than the schedule, each the front of the later ones, their
 -- ids distinct.
-use Rattle.std.proofs.Common.{◌≡◌, ◌≢◌, ℕ, zero, suc, ◌+◌, ◌-◌, ◌<◌, ◌≤◌, ◌^◌, Bool, true, false, cond, List, [], ◌∷◌, ◌++◌, Option, Some, None, length, take, drop, map, refl, sym, ap, ◌∙◌, arith, inl, inr}
-use Rattle.std.proofs.lemmas.List.{append_assoc, append-nil, drop-map, drop_at, length-append, length-map, length-take-le, map-append, take-map, take_at as front_of_join}
+use Rattle.std.proofs.Common.{◌≡◌, ◌≢◌, ℕ, zero, suc, ◌+◌, ◌-◌, ◌<◌, ◌≤◌, ◌^◌, Bool, true, false, cond, List, [], ◌∷◌, ◌++◌, Some, length, take, drop, map, refl, sym, ap, ◌∙◌, arith}
+use Rattle.std.proofs.lemmas.List.{drop-map, drop_at, length-append, length-map, length-take-le, map-append, take-map, take_at as front_of_join}
 use Rattle.std.proofs.lemmas.List.Elements.{filter-append}
 use Rattle.std.proofs.lemmas.List.Sums.{count_by-le-length, length-filter}
 use Rattle.std.specs.List.{AllByRecursion, filter, slice_get}
@@ -18,7 +18,7 @@ use Rattle.xmpp_replay.specs.Direct.{Take, accounts_of, along, archive_of, as_lo
 use Rattle.xmpp_replay.specs.Grammar.{is_among}
 use Rattle.xmpp_replay.specs.Lawful.{EachPair}
 use Rattle.xmpp_replay.specs.declared.schedule.Step.{Step}
-use Rattle.xmpp_replay.specs.declared.schedule.Step.TheVariants.{Account, Device, Say, Catchup}
+use Rattle.xmpp_replay.specs.declared.schedule.Step.TheVariants.{Say}
 
 -- an account's archive after the first steps
 abbrev pub archive_after : List Step → List ℕ → List Step → List EntryView
@@ -91,18 +91,21 @@ archive_few all account before =
 above_follow : (s : ℕ) (entries : List EntryView) → FollowFrom s entries → s + length entries ≤ 2 ^ 64 → AllByRecursion (λ e. (s ≤ e.number) × (e.number < 2 ^ 64)) entries
 above_follow s [] follow few = tt
 above_follow s (e ∷ entries) follow few =
-    let number : e.number ≡ s = follow.0 in
-    ((omega arith, omega arith), all_weaker (λ f. (suc s ≤ f.number) × (f.number < 2 ^ 64)) (λ f. (s ≤ f.number) × (f.number < 2 ^ 64)) (λ f is. (omega (arith, is.0), is.1)) entries
-    (above_follow (suc s) entries follow.1 (omega arith)))
+    let number : e.number ≡ s = follow.0 in (
+      (omega arith, omega arith),
+      all_weaker (λ f. (suc s ≤ f.number) × (f.number < 2 ^ 64)) (λ f. (s ≤ f.number) × (f.number < 2 ^ 64)) (λ f is. (omega (arith, is.0), is.1)) entries
+          (above_follow (suc s) entries follow.1 (omega arith)),
+    )
 
 apart_follow : (s : ℕ) (entries : List EntryView) → FollowFrom s entries → s + length entries ≤ 2 ^ 64 → EachPair (λ a b. id_of a.number ≢ id_of b.number) entries
 apart_follow s [] follow few = tt
 apart_follow s (e ∷ entries) follow few =
-    let number : e.number ≡ s = follow.0 in
-    (all_weaker (λ f. (suc s ≤ f.number) × (f.number < 2 ^ 64)) (λ f. id_of e.number ≢ id_of f.number)
-    (λ f is same. let equal : e.number ≡ f.number = id_of_same e.number f.number (omega arith) is.1 same in omega (arith, is.0)) entries
-    (above_follow (suc s) entries follow.1 (omega arith)),
-    apart_follow (suc s) entries follow.1 (omega arith))
+    let number : e.number ≡ s = follow.0 in (
+      all_weaker (λ f. (suc s ≤ f.number) × (f.number < 2 ^ 64)) (λ f. id_of e.number ≢ id_of f.number)
+          (λ f is same. let equal : e.number ≡ f.number = id_of_same e.number f.number (omega arith) is.1 same in omega (arith, is.0)) entries
+          (above_follow (suc s) entries follow.1 (omega arith)),
+      apart_follow (suc s) entries follow.1 (omega arith),
+    )
 
 pub ids_apart : (entries : List EntryView) → AreNumbered entries → length entries < 2 ^ 64 → EachPair (λ a b. id_of a.number ≢ id_of b.number) entries
 ids_apart entries known few = apart_follow 1 entries (follow_numbered entries known) (omega arith)

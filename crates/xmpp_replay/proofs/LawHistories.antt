@@ -1,6 +1,6 @@
 -- The direct run, step by step: each log is the front of its account's archive, and each page is as long as the archive
 -- of its moment says.
-use Rattle.std.proofs.Common.{◌≡◌, ℕ, zero, suc, add-one, ◌+◌, ◌-◌, ◌<◌, ◌≤◌, ◌^◌, Bool, true, false, cond, List, [], ◌∷◌, ◌++◌, Option, Some, None, is_some, length, map, refl, sym, ap, ◌∙◌, subst, arith, inl, inr}
+use Rattle.std.proofs.Common.{◌≡◌, ℕ, zero, suc, add-one, ◌+◌, ◌<◌, ◌≤◌, ◌^◌, true, false, cond, List, [], ◌∷◌, ◌++◌, Some, length, map, refl, sym, ap, ◌∙◌, arith, inl, inr}
 use Rattle.std.proofs.lemmas.Bool.{cases_Bool}
 use Rattle.std.proofs.lemmas.List.{append_assoc, append-nil, length-append, length-map, map-append}
 use Rattle.std.proofs.lemmas.List.Sums.{sum_by-append, sum_by-cons}
@@ -13,14 +13,11 @@ use Rattle.xmpp_log.specs.declared.log_entry.LogEntry.{LogEntry}
 use Rattle.xmpp_replay.proofs.LawArchives.{archive_after, archive_few, archive_grows, archive_numbered}
 use Rattle.xmpp_replay.proofs.LawPages.{AreTilesBehind, CaughtUp, catch_up_is, log_of-append, tiles_append}
 use Rattle.xmpp_replay.proofs.StandingSteps.{AreStanding, Stands, home_kept, standing_front, standing_rest}
-use Rattle.xmpp_replay.specs.Direct.{as_logged, catch_up, devices_of, home_of, page_line, pages_after, pages_from, pages_of, takes_of}
+use Rattle.xmpp_replay.specs.Direct.{as_logged, catch_up, devices_of, home_of, pages_after, pages_from, pages_of, takes_of}
 use Rattle.xmpp_replay.specs.Grammar.{is_among}
-use Rattle.xmpp_replay.specs.History.{World, world_after, worlds_from}
-use Rattle.xmpp_replay.specs.Lawful.{EndsWith, is_catchup_of}
-use Rattle.xmpp_replay.specs.Reports.{DeviceView}
-use Rattle.xmpp_replay.specs.declared.report.PageLine.{PageLine}
+use Rattle.xmpp_replay.specs.Lawful.{is_catchup_of}
 use Rattle.xmpp_replay.specs.declared.schedule.Step.{Step}
-use Rattle.xmpp_replay.specs.declared.schedule.Step.TheVariants.{Account, Device, Say, Catchup}
+use Rattle.xmpp_replay.specs.declared.schedule.Step.TheVariants.{Catchup}
 
 -- what is known of a device's pages, with its account's archive and the number of its catch-ups
 pub record ArePaged (archive : List EntryView) (pages : List LogPage) (catchups : ℕ) : Type 0 where
@@ -43,7 +40,7 @@ paged_caught archive pages result n known caught = record {
   front = sym caught.log ∙ sym (log_of-append pages caught.more) ∙ ap log_of (sym caught.joined) ∙ sym (append-nil (log_of result));
   tiles = rw caught.joined (tiles_append [] pages caught.more known.tiles caught.tiles);
   complete = ap (count_by (λ (page : LogPage). page.complete)) caught.joined ∙ sum_by-append (λ (page : LogPage). cond page.complete 1 0) pages caught.more
-  ∙ rw (known.complete, caught.one);
+      ∙ rw (known.complete, caught.one);
 }
 
 -- what a step adds to a device's pages
@@ -83,7 +80,7 @@ catchup_step : (all : List Step) (device : List ℕ) (before : List Step) (name 
     IsStepOf all device before (Catchup name most) pages n
 catchup_step all device before name most pages result n is one known caught = record {
   paged = rw (is, one) (paged_later (archive_after all (home_of all device) before) (archive_after all (home_of all device) (before ++ Catchup name most ∷ [])) result (n + 1) (n + 1)
-  (archive_grows all (home_of all device) before (Catchup name most ∷ [])) refl (paged_caught (archive_after all (home_of all device) before) pages result n known caught));
+      (archive_grows all (home_of all device) before (Catchup name most ∷ [])) refl (paged_caught (archive_after all (home_of all device) before) pages result n known caught));
   next = rw is (record { more = caught.more; joined = caught.joined; totals = caught.totals });
 }
 

@@ -1,21 +1,18 @@
 -- The pages of the direct run: each catch-up brings the log to the whole archive of that moment, by pages that are tiles
 -- of it, the last of which is complete.
-use Rattle.std.proofs.Common.{◌≡◌, ◌≢◌, ℕ, zero, suc, ◌+◌, ◌<◌, ◌≤◌, ◌^◌, Bool, true, false, cond, leb, List, [], ◌∷◌, ◌++◌, Option, Some, None, IfSome, length, take, drop, map, refl, sym, ap, ◌∙◌, arith}
+use Rattle.std.proofs.Common.{◌≡◌, ℕ, zero, suc, ◌+◌, ◌<◌, ◌≤◌, ◌^◌, Bool, true, false, cond, leb, List, [], ◌∷◌, ◌++◌, Some, None, IfSome, length, take, drop, map, refl, sym, ap, ◌∙◌, arith}
 use Rattle.std.proofs.lemmas.Bool.{cond_both, leb-false, leb-true, true≢false}
 use Rattle.std.proofs.lemmas.List.{append_assoc, append-nil, drop_at as rest_of_join, length-append, length-drop, length-map, length-take-le, map-append, take-append-drop, take-map, take_all, take_at as front_of_join}
 use Rattle.std.proofs.lemmas.List.Concat.{flat_map-append}
-use Rattle.std.proofs.lemmas.List.Sums.{sum_by-append, sum_by-cons}
-use Rattle.std.specs.List.{AllByRecursion, count_by, flat_map, slice_get}
-use Rattle.std.specs.Option.{option_map_or}
+use Rattle.std.proofs.lemmas.List.Sums.{sum_by-cons}
+use Rattle.std.specs.List.{AllByRecursion, count_by}
 use Rattle.xmpp_archive.specs.Entries.{AreNumbered, EntryView}
-use Rattle.xmpp_archive.specs.Pages.{Page, page_behind, page_of}
+use Rattle.xmpp_archive.specs.Pages.{page_behind, page_of}
 use Rattle.xmpp_log.specs.LogPages.{LogPage, last_id, log_of}
 use Rattle.xmpp_log.specs.declared.log_entry.LogEntry.{LogEntry}
 use Rattle.xmpp_replay.proofs.LawArchives.{page_behind_log, rest_entries}
-use Rattle.xmpp_replay.proofs.LawLists.{all_append}
 use Rattle.xmpp_replay.specs.Direct.{as_logged, as_taken_over, catch_up, logged_line, page_line, place_behind}
 use Rattle.xmpp_replay.specs.Lawful.{AreTiles, last_logged}
-use Rattle.xmpp_replay.specs.declared.report.LoggedLine.{LoggedLine}
 
 pub log_of-append : (xs ys : List LogPage) → log_of (xs ++ ys) ≡ log_of xs ++ log_of ys
 log_of-append xs ys = flat_map-append (λ (page : LogPage). page.entries) xs ys
@@ -146,9 +143,10 @@ tiles_are before (page ∷ pages) tiles =
     let long : length page.entries ≤ length (map logged_line (page.entries ++ log_of pages)) =
     omega (arith, length-map (page.entries ++ log_of pages) logged_line, length-append page.entries (log_of pages)) in
     let later : AreTiles (map logged_line before ++ map logged_line page.entries) (map page_line pages) (map logged_line (log_of pages)) =
-    rw (map-append logged_line before page.entries) at (tiles_are (before ++ page.entries) pages tiles.3) in
-    (tiles.0 ∙ sym (last_logged_is before),
-    long,
-    λ partial. tiles.1 (total_partial page.complete page.total partial),
-    total_whole page.complete page.total (λ total. total ≡ length (map logged_line before) + length page.entries) (λ complete. tiles.2 complete ∙ ap (λ n. n + length page.entries) (sym (length-map before logged_line))),
-    rw (front, behind) later)
+    rw (map-append logged_line before page.entries) at (tiles_are (before ++ page.entries) pages tiles.3) in (
+      tiles.0 ∙ sym (last_logged_is before),
+      long,
+      λ partial. tiles.1 (total_partial page.complete page.total partial),
+      total_whole page.complete page.total (λ total. total ≡ length (map logged_line before) + length page.entries) (λ complete. tiles.2 complete ∙ ap (λ n. n + length page.entries) (sym (length-map before logged_line))),
+      rw (front, behind) later,
+    )

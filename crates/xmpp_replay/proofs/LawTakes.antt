@@ -1,12 +1,12 @@
 -- What the direct run takes and reports as said: each take is of a submission, the submissions of a device are
 -- numbered 1, 2, 3 and so on, and each to an account that exists was taken.
-use Rattle.std.proofs.Common.{◌≡◌, ℕ, ◌+◌, ◌<◌, ◌≤◌, ◌==◌, ◌&&◌, Bool, true, false, cond, List, [], ◌∷◌, ◌++◌, Option, Some, None, map, refl, sym, ap, ◌∙◌, arith, inl, inr, eq-eqb, ne_eqb}
-use Rattle.std.proofs.lemmas.Bool.{both_ways, cases_Bool, or_left, or_right}
+use Rattle.std.proofs.Common.{◌≡◌, ℕ, ◌+◌, ◌<◌, ◌≤◌, ◌==◌, ◌&&◌, true, false, cond, List, [], ◌∷◌, ◌++◌, Some, map, refl, sym, ap, ◌∙◌, arith, inl, inr, eq-eqb, ne_eqb}
+use Rattle.std.proofs.lemmas.Bool.{cases_Bool, or_right}
 use Rattle.std.proofs.lemmas.List.{append_assoc, map-append}
 use Rattle.std.proofs.lemmas.List.Folds.{list_any-append}
 use Rattle.std.proofs.lemmas.List.Sums.{sum_by-append, sum_by_push}
 use Rattle.std.proofs.lemmas.Slice.Eq.{bytes_eq-Decides}
-use Rattle.std.specs.List.{AllByRecursion, filter, list_any}
+use Rattle.std.specs.List.{AllByRecursion, filter}
 use Rattle.std.specs.Str.{bytes_eq}
 use Rattle.xmpp_archive.specs.Entries.{EntryView}
 use Rattle.xmpp_replay.proofs.LawLists.{all_append, all_filter, all_if, all_map, all_weaker, along-append, map-map, map_nothing, same_bytes}
@@ -20,7 +20,7 @@ use Rattle.xmpp_replay.specs.declared.report.SaidMark.TheVariants.{Acknowledged}
 use Rattle.xmpp_replay.specs.declared.report.TakeLine.{TakeLine}
 use Rattle.xmpp_replay.specs.declared.schedule.Line.{Line}
 use Rattle.xmpp_replay.specs.declared.schedule.Step.{Step}
-use Rattle.xmpp_replay.specs.declared.schedule.Step.TheVariants.{Account, Device, Say, Catchup}
+use Rattle.xmpp_replay.specs.declared.schedule.Step.TheVariants.{Say}
 
 -- a device has sent one more message, or no more
 sent_one : (device name to text : List ℕ) (before : List Step) → bytes_eq device name ≡ true →

@@ -1,5 +1,5 @@
 -- The worlds of a direct schedule: two that follow on one another are those before and after one step.
-use Rattle.std.proofs.Common.{◌≡◌, ℕ, zero, suc, add-one, ◌+◌, ◌<◌, ◌≤◌, ◌^◌, Bool, true, false, cond, List, [], ◌∷◌, ◌++◌, Option, Some, None, is_some, length, map, refl, sym, ap, ◌∙◌, arith}
+use Rattle.std.proofs.Common.{◌≡◌, ℕ, zero, suc, add-one, ◌+◌, ◌<◌, ◌≤◌, ◌^◌, Bool, true, false, cond, List, [], ◌∷◌, ◌++◌, Some, None, is_some, length, map, refl, sym, ap, ◌∙◌, arith}
 use Rattle.std.proofs.lemmas.List.{append_assoc, append-nil, length-append}
 use Rattle.std.proofs.lemmas.List.Sums.{sum_by-cons}
 use Rattle.std.proofs.lemmas.Option.{none-some, same_Some}
@@ -83,9 +83,10 @@ total_of_move all name world next stand few move k total page at is low high =
 -- in a direct run as many pages were asked for as were taken over
 asked_as_taken : (all : List Step) (name : List ℕ) (world next : World) → IsMove all all world next →
     (world.asked name ≡ length (world.pages name)) × (next.asked name ≡ length (next.pages name))
-asked_as_taken all name world next move =
-    (ap (λ (w : World). w.asked name) (sym move.was) ∙ ap (λ (w : World). length (w.pages name)) move.was,
-    ap (λ (w : World). w.asked name) (sym move.is) ∙ ap (λ (w : World). length (w.pages name)) move.is)
+asked_as_taken all name world next move = (
+  ap (λ (w : World). w.asked name) (sym move.was) ∙ ap (λ (w : World). length (w.pages name)) move.was,
+  ap (λ (w : World). w.asked name) (sym move.is) ∙ ap (λ (w : World). length (w.pages name)) move.is,
+)
 
 pub is_fresh : (all : List Step) (name : List ℕ) → AreStanding [] all → length all < 2 ^ 64 → (k total : ℕ) (line : PageLine) →
     slice_get (map page_line (pages_of all name all)) k ≡ Some line → line.total ≡ Some total → IsFresh (worlds_from all [] all) (device_line all name) k total

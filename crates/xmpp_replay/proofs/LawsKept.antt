@@ -136,10 +136,10 @@ acknowledged_right s known =
     record {
       whole = of_schedule s known;
       taken = each_device
-      (λ d. AllByRecursion (λ said. said.state ≡ Acknowledged → IsTrue (is_account s said.to) → IsTrue (is_taken (map take_line (takes_of all all)) d.name said)) d.said)
-      all (acknowledged_taken all);
+          (λ d. AllByRecursion (λ said. said.state ≡ Acknowledged → IsTrue (is_account s said.to) → IsTrue (is_taken (map take_line (takes_of all all)) d.name said)) d.said)
+          all (acknowledged_taken all);
       first = each_device (λ d. EachPair IsAcknowledgedFirst d.said) all
-      (λ name. pairs_by_first (λ said. said.state ≡ Acknowledged) IsAcknowledgedFirst (λ a b is same later. is) (along (said_at name) [] all) (acknowledged name [] all));
+          (λ name. pairs_by_first (λ said. said.state ≡ Acknowledged) IsAcknowledgedFirst (λ a b is same later. is) (along (said_at name) [] all) (acknowledged name [] all));
       settled = each_device (λ d. IsTrue d.settled → IsSettledRight d) all (λ name yes. settled_right all name);
       direct = λ is. each_device (λ d. IsTrue d.settled) all (λ name. refl);
     }
@@ -162,11 +162,12 @@ prefix_kept : (archive : List EntryView) (log rest : List LogEntry) → map as_l
 prefix_kept archive log rest front =
     let total : length archive ≡ length log + length rest = sym (length-map archive as_logged) ∙ ap length front ∙ length-append log rest in
     let lines : map logged_as (map entry_line archive) ≡ map logged_line log ++ map logged_line rest =
-    map-map entry_line logged_as archive ∙ sym (map-map as_logged logged_line archive) ∙ ap (map logged_line) front ∙ map-append logged_line log rest in
-    (omega (arith, length-map log logged_line, length-map archive entry_line),
-    sym (front_of_join (map logged_line log) (map logged_line rest) (length (map logged_line log)) refl)
-    ∙ ap (take (length (map logged_line log))) (sym lines)
-    ∙ take-map logged_as (length (map logged_line log)) (map entry_line archive))
+    map-map entry_line logged_as archive ∙ sym (map-map as_logged logged_line archive) ∙ ap (map logged_line) front ∙ map-append logged_line log rest in (
+      omega (arith, length-map log logged_line, length-map archive entry_line),
+      sym (front_of_join (map logged_line log) (map logged_line rest) (length (map logged_line log)) refl)
+          ∙ ap (take (length (map logged_line log))) (sym lines)
+          ∙ take-map logged_as (length (map logged_line log)) (map entry_line archive),
+    )
 
 prefix_of_account : (all : List Step) (name : List ℕ) → AreStanding [] all → length all < 2 ^ 64 → is_among (home_of all name) (accounts_of all) ≡ true →
     IsPrefixOfAccount (device_line all name) (account_named (home_of all name) (map (account_line all) (accounts_of all)))
@@ -184,9 +185,9 @@ logged_right s known =
     record {
       whole = of_schedule s known;
       prefix = all_map (λ d. IsPrefixOfAccount d (account_named d.account (map (account_line all) (accounts_of all)))) (device_line all) (devices_of all)
-      (all_weaker (λ name. is_among (home_of all name) (accounts_of all) ≡ true)
-      (λ name. IsPrefixOfAccount (device_line all name) (account_named (home_of all name) (map (account_line all) (accounts_of all))))
-      (λ name exists. prefix_of_account all name standing (known_few s known) exists) (devices_of all) (homes_exist all [] all refl standing));
+          (all_weaker (λ name. is_among (home_of all name) (accounts_of all) ≡ true)
+          (λ name. IsPrefixOfAccount (device_line all name) (account_named (home_of all name) (map (account_line all) (accounts_of all))))
+          (λ name exists. prefix_of_account all name standing (known_few s known) exists) (devices_of all) (homes_exist all [] all refl standing));
     }
 
 -- Law 5.

@@ -1,6 +1,6 @@
 -- The steps of a schedule stand where they may: a device's account and a message's device are declared above. What is
 -- found among the declarations by that.
-use Rattle.std.proofs.Common.{◌≡◌, ℕ, ◌+◌, ◌≤◌, Bool, true, false, cond, List, [], ◌∷◌, ◌++◌, Option, Some, None, length, map, IsTrue, refl, sym, ap, ◌∙◌, arith, inl, inr}
+use Rattle.std.proofs.Common.{◌≡◌, ℕ, ◌+◌, ◌≤◌, true, false, List, [], ◌∷◌, ◌++◌, Some, length, map, IsTrue, refl, sym, ap, ◌∙◌, arith, inl, inr}
 use Rattle.std.proofs.lemmas.Bool.{and_parts, cases_Bool, false≢true, leb-true, not-true, or_left, or_parts}
 use Rattle.std.proofs.lemmas.List.{append_assoc, append-nil}
 use Rattle.std.proofs.lemmas.List.Concat.{flat_map-append}
@@ -12,7 +12,6 @@ use Rattle.xmpp_replay.proofs.LawLists.{all_append, same_bytes}
 use Rattle.xmpp_replay.specs.Direct.{account_line, account_name, accounts_of, along, device_line, device_name, devices_of, home_of}
 use Rattle.xmpp_replay.specs.Grammar.{AreLines, Declared, declared_by, is_among, may_stand}
 use Rattle.xmpp_replay.specs.Lawful.{Home, account_named, device_named, homes_of}
-use Rattle.xmpp_replay.specs.Reports.{AccountView, DeviceView}
 use Rattle.xmpp_replay.specs.Schedules.{steps_of}
 use Rattle.xmpp_replay.specs.declared.schedule.Line.{Line}
 use Rattle.xmpp_replay.specs.declared.schedule.Step.{Step}
