@@ -195,6 +195,14 @@ acknowledged device before (Say name to text ∷ steps) =
     (acknowledged device (before ++ Say name to text ∷ []) steps)
 acknowledged device before (step ∷ steps) = acknowledged device (before ++ step ∷ []) steps
 
+pub first_epoch : (device : List ℕ) (before steps : List Step) → AllByRecursion (λ said. (1 ≤ said.epoch) × (said.epoch ≤ 1)) (along (said_at device) before steps)
+first_epoch device before [] = tt
+first_epoch device before (Say name to text ∷ steps) =
+    all_append (λ said. (1 ≤ said.epoch) × (said.epoch ≤ 1)) (said_at device before (Say name to text)) (along (said_at device) (before ++ Say name to text ∷ []) steps)
+    (all_if (λ said. (1 ≤ said.epoch) × (said.epoch ≤ 1)) (bytes_eq device name) (submitted (sent_by device before + 1) to text) (λ same. (omega arith, omega arith)))
+    (first_epoch device (before ++ Say name to text ∷ []) steps)
+first_epoch device before (step ∷ steps) = first_epoch device (before ++ step ∷ []) steps
+
 -- takes of one epoch that rise from above a number
 record Rise (low : ℕ) (takes : List TakeLine) : Type 0 where
   pub above : AllByRecursion (λ t. (t.epoch ≡ 1) × (low < t.n)) takes

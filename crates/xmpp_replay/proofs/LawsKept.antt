@@ -11,12 +11,12 @@ use Rattle.xmpp_replay.proofs.LawArchives.{archive_few, archive_numbered, ids_ap
 use Rattle.xmpp_replay.proofs.LawHistories.{ArePaged, paged_at}
 use Rattle.xmpp_replay.proofs.LawLists.{all_flat_map, all_map, all_of, all_weaker, map-map, map_nothing, pairs_by_both, pairs_by_first, pairs_front, pairs_map, zeros_not_falling}
 use Rattle.xmpp_replay.proofs.LawPages.{tiles_are}
-use Rattle.xmpp_replay.proofs.LawTakes.{acknowledged, are_submissions, messages_are, named_in, stamps_known, taken_from, takes_back, takes_exist, takes_rise, takes_submitted}
+use Rattle.xmpp_replay.proofs.LawTakes.{acknowledged, are_submissions, first_epoch, messages_are, named_in, stamps_known, taken_from, takes_back, takes_exist, takes_rise, takes_submitted}
 use Rattle.xmpp_replay.proofs.LawWorlds.{complete_lines, ends_with, is_fresh}
 use Rattle.xmpp_replay.proofs.StandingSteps.{AreStanding, account_found, few_lines, homes_are, homes_exist, steps_stand}
 use Rattle.xmpp_replay.specs.Direct.{account_line, accounts_of, along, archive_of, as_logged, device_line, devices_of, direct_report, entry_line, home_of, logged_line, page_line, pages_of, said_at, take_line, takes_of}
 use Rattle.xmpp_replay.specs.Grammar.{IsSchedule, is_among, nothing_declared}
-use Rattle.xmpp_replay.specs.Lawful.{AgreeOnStamp, ArePages, AreSubmissions, EachPair, Home, IsAcknowledgedFirst, IsAcknowledgedRight, IsLawful, IsLogged, IsOfSchedule, IsOnceInOrder, IsPaged, IsPrefixOfAccount, IsSettledRight, IsTakenFirst, IsTakenRight, Precedes, account_named, at_any_time, is_account, is_catchup_of, is_taken, logged_as, messages_of}
+use Rattle.xmpp_replay.specs.Lawful.{AgreeOnStamp, ArePages, AreRefused, AreSubmissions, EachPair, Home, IsAcknowledgedFirst, IsAcknowledgedRight, IsLawful, IsLogged, IsOfSchedule, IsOnceInOrder, IsPaged, IsPrefixOfAccount, IsSettledRight, IsTakenFirst, IsTakenRight, IsUndisturbed, Precedes, account_named, at_any_time, is_account, is_catchup_of, is_taken, logged_as, messages_of}
 use Rattle.xmpp_replay.specs.Reports.{AccountView, DeviceView}
 use Rattle.xmpp_replay.specs.Schedules.{ScheduleView, steps_of}
 use Rattle.xmpp_replay.specs.declared.report.EntryLine.{EntryLine}
@@ -50,6 +50,7 @@ of_schedule s known =
       accounts = map-map (account_line all) account_name_of (accounts_of all) ∙ map_nothing (λ name. name) (accounts_of all) (all_of (λ name. name ≡ name) (λ name. refl) (accounts_of all));
       devices = map-map (device_line all) home_line (devices_of all) ∙ homes_are all [] all refl (known_steps s known);
       counts = each_account (λ a. a.count ≡ length a.entries) all (λ name. sym (length-map (archive_of name (takes_of all all)) entry_line));
+      conns = λ direct. refl;
     }
 
 -- Law 1.
@@ -91,7 +92,9 @@ taken_right s known =
       submitted = takes_submitted all standing;
       exist = takes_exist all standing;
       numbered = each_device (λ d. AreSubmissions d.said) all (λ name. are_submissions name all);
+      epochs = each_device (λ d. AllByRecursion (λ said. (1 ≤ said.epoch) × (said.epoch ≤ d.epoch)) d.said) all (λ name. first_epoch name [] all);
       said = each_device (λ d. map (λ said. record { to = said.to; text = said.text }) d.said ≡ messages_of s.lines d.name (map (λ r. r.line) d.refused)) all (λ name. messages_are name [] s.lines);
+      refused = each_device (AreRefused s.lines) all (λ name. record { asked = tt; rise = tt });
     }
 
 -- Law 2.
@@ -141,7 +144,7 @@ acknowledged_right s known =
       first = each_device (λ d. EachPair IsAcknowledgedFirst d.said) all
           (λ name. pairs_by_first (λ said. said.state ≡ Acknowledged) IsAcknowledgedFirst (λ a b is same later. is) (along (said_at name) [] all) (acknowledged name [] all));
       settled = each_device (λ d. IsTrue d.settled → IsSettledRight d) all (λ name yes. settled_right all name);
-      direct = λ is. each_device (λ d. IsTrue d.settled) all (λ name. refl);
+      direct = λ is. each_device IsUndisturbed all (λ name. record { settled = refl; epoch = refl; nothing_refused = refl; nothing_held = refl });
     }
 
 -- Law 4.
