@@ -1,5 +1,5 @@
 -- Reports of a small schedule that break a law, each refused by that law.
-use Rattle.std.proofs.Common.{◌≡◌, ℕ, true, false, List, [], ◌∷◌, Option, Some, None, refl, codes, arith, inl, inr}
+use Rattle.std.proofs.Common.{◌≡◌, ℕ, true, false, List, [], ◌∷◌, Some, None, refl, codes, arith, inl, inr}
 use Rattle.std.proofs.lemmas.Bool.{false≢true}
 use Rattle.std.specs.Fmt.{digits}
 use Rattle.xmpp_archive.specs.Ids.{id_of}
@@ -81,9 +81,9 @@ acknowledged_and_lost law = false≢true (law.acknowledged.taken.0.0 refl refl)
 
 taken_twice : IsLawful schedule (reported (take ∷ take ∷ []) 2 (entry 1 ∷ entry 2 ∷ []) (said ∷ []) [] (page 2 ∷ []) (logged 1 ∷ logged 2 ∷ [])) → ⊥
 taken_twice law = elim (law.in_order.rise.0.0.0) [
-    | inl epoch ↦ omega arith
-    | inr number ↦ omega (arith, number.1)
-  ]
+  | inl epoch ↦ omega arith
+  | inr number ↦ omega (arith, number.1)
+]
 
 never_said : IsLawful schedule (reported [] 0 [] [] [] (page 0 ∷ []) []) → ⊥
 never_said law = absurd (cc law.taken.said.0)
