@@ -1,0 +1,75 @@
+ghost use Rattle.std.specs.Prelude.{◌≡◌, ◌≤◌, Some};
+
+use crate::failure::Failed;
+use crate::list::Numbers;
+use crate::octets::Bytes;
+use crate::reading::Source;
+use crate::schedule::Schedule;
+use crate::unread::Unread;
+
+/// A source over bytes in memory, which tells them. It gives a bounded number of bytes a call, and chosen
+/// calls fail: what a reader does with short and failing reads can be tried on it.
+#[derive(Drop)]
+pub struct MemorySource {
+    unread: Unread,
+    step: usize,
+    schedule: Schedule,
+    ghost moves: { 1 ≤ step },
+}
+
+impl MemorySource {
+    /// A source that has `bytes` to give, at most `step` of them a call. The calls whose numbers, from 1, are
+    /// in `fails` answer `Failed` and give nothing.
+    pub fn new(bytes: Bytes, step: usize, fails: Numbers) -> MemorySource
+        requires { 1 ≤ step }
+        ensures left { ⟦<MemorySource as Source>⟧.left result ≡ Some bytes.items }
+        ensures faults { ⟦<MemorySource as Source>⟧.faults result ≡ 0 }
+    {
+        MemorySource {
+            unread: Unread::new(bytes),
+            step,
+            schedule: Schedule::new(fails),
+        }
+    }
+}
+
+impl Source for MemorySource {
+    ghost left = { λ s. Some s.unread };
+
+    ghost faults = { λ s. s.schedule.faults };
+
+    fn read(&mut self, buf: &mut [u8]) -> Result<usize, Failed> {
+        if self.schedule.next_fails() {
+            return Err(Failed);
+        }
+        Ok(self.unread.give(self.step, buf))
+    }
+}
+
+/// A source over bytes in memory, which tells them. No call fails.
+#[derive(Drop)]
+pub struct SureSource {
+    unread: Unread,
+}
+
+impl SureSource {
+    /// A source that has `bytes` to give.
+    pub fn new(bytes: Bytes) -> SureSource
+        ensures left { ⟦<SureSource as Source>⟧.left result ≡ Some bytes.items }
+        ensures faults { ⟦<SureSource as Source>⟧.faults result ≡ 0 }
+    {
+        SureSource {
+            unread: Unread::new(bytes),
+        }
+    }
+}
+
+impl Source for SureSource {
+    ghost left = { λ s. Some s.unread };
+
+    ghost faults = { λ _. 0 };
+
+    fn read(&mut self, buf: &mut [u8]) -> Result<usize, Failed> {
+        Ok(self.unread.give(usize::MAX, buf))
+    }
+}
