@@ -25,3 +25,6 @@ pub use reading::Source;
 pub use standard::{StdSink, StdSource};
 pub use whole::{MOST, ReadAllFault, WriteFault, read_all, write_all};
 pub use writing::Sink;
+
+#[cfg(test)]
+mod tests;

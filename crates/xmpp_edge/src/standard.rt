@@ -3,8 +3,8 @@ use crate::reading::Source;
 use crate::writing::Sink;
 use std::io;
 
-/// A source over a reader of std. It tells nothing of the bytes, and counts each error of the reader as a
-/// fault, an interrupted read too.
+/// A source over a reader of std. It tells nothing of the bytes. A read that was interrupted is tried again,
+/// and each other error of the reader is a fault.
 #[derive(Drop)]
 pub struct StdSource<R> {
     inner: R,
@@ -31,18 +31,20 @@ impl<R: io::Read> Source for StdSource<R> {
     ghost faults = { λ s. s.faults };
 
     fn read(&mut self, buf: &mut [u8]) -> Result<usize, Failed> {
-        match self.inner.read(buf) {
-            Ok(n) => Ok(n),
-            Err(_) => {
-                self.faults = self.faults.saturating_add(1);
-                Err(Failed)
+        for _ in 0..u64::MAX {
+            match self.inner.read(buf) {
+                Ok(n) => return Ok(n),
+                Err(e) if e.kind() == io::ErrorKind::Interrupted => {}
+                Err(_) => break,
             }
         }
+        self.faults = self.faults.saturating_add(1);
+        Err(Failed)
     }
 }
 
-/// A sink over a writer of std. It tells nothing of the bytes, and counts as a fault each error of the
-/// writer, an interrupted write too, and a write that takes none of the bytes that it is given.
+/// A sink over a writer of std. It tells nothing of the bytes. A write that was interrupted is tried again,
+/// each other error of the writer is a fault, and so is a write that takes none of the bytes it is given.
 #[derive(Drop)]
 pub struct StdSink<W> {
     inner: W,
@@ -69,12 +71,14 @@ impl<W: io::Write> Sink for StdSink<W> {
     ghost faults = { λ s. s.faults };
 
     fn write(&mut self, bytes: &[u8]) -> Result<usize, Failed> {
-        match self.inner.write(bytes) {
-            Ok(n) if n > 0 || bytes.is_empty() => Ok(n),
-            _ => {
-                self.faults = self.faults.saturating_add(1);
-                Err(Failed)
+        for _ in 0..u64::MAX {
+            match self.inner.write(bytes) {
+                Ok(n) if n > 0 || bytes.is_empty() => return Ok(n),
+                Err(e) if e.kind() == io::ErrorKind::Interrupted => {}
+                _ => break,
             }
         }
+        self.faults = self.faults.saturating_add(1);
+        Err(Failed)
     }
 }
