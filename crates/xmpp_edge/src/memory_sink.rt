@@ -1,4 +1,7 @@
-ghost use Rattle.std.specs.Prelude.{◌≡◌, ◌≤◌, [], None, Some};
+ghost use Rattle.std.specs.Prelude.{◌≡◌, ◌<◌, ◌≤◌, [], length, None, Some, IfOk, IsErr, Contains};
+ghost use Rattle.std.specs.Io.{WritesAtMost};
+ghost use Rattle.std.specs.Io.KnownBytes.{WriteAppends};
+ghost use Rattle.xmpp_edge.specs.Counts.{HasCause};
 
 use crate::failure::Failed;
 use crate::list::Numbers;
@@ -25,6 +28,9 @@ impl MemorySink {
         requires { 1 ≤ step }
         ensures written { ⟦<MemorySink as Sink>⟧.written result ≡ Some [] }
         ensures faults { ⟦<MemorySink as Sink>⟧.faults result ≡ 0 }
+        ensures step { result.step ≡ step }
+        ensures calls { result.schedule.calls ≡ 0 }
+        ensures fails { result.schedule.fails ≡ fails }
     {
         MemorySink {
             kept: Bytes::new(alloc),
@@ -46,7 +52,14 @@ impl Sink for MemorySink {
 
     ghost faults = { λ s. s.schedule.faults };
 
-    fn write(&mut self, bytes: &[u8]) -> Result<usize, Failed> {
+    fn write(&mut self, bytes: &[u8]) -> Result<usize, Failed>
+        ensures bound { WritesAtMost result bytes.now }
+        ensures bytes { WriteAppends (Some self.old.kept.items) (Some self.new.kept.items) result bytes.now }
+        ensures some { IfOk result (λ n. 0 < length bytes.now → 0 < n) }
+        ensures cause { HasCause self.old.schedule.faults self.new.schedule.faults result }
+        ensures most { IfOk result (λ n. n ≤ self.old.step) }
+        ensures chosen { Contains self.old.schedule.fails.items self.new.schedule.calls → IsErr result }
+    {
         if self.schedule.next_fails() {
             return Err(Failed);
         }

@@ -1,4 +1,7 @@
-ghost use Rattle.std.specs.Prelude.{◌≡◌, ◌≤◌, Some};
+ghost use Rattle.std.specs.Prelude.{◌≡◌, ◌≤◌, ◌↔◌, Some, IfOk, IsErr, Contains};
+ghost use Rattle.std.specs.Io.{ReadsAtMost};
+ghost use Rattle.std.specs.Io.KnownBytes.{ReadConsumes};
+ghost use Rattle.xmpp_edge.specs.Counts.{HasCause};
 
 use crate::failure::Failed;
 use crate::list::Numbers;
@@ -24,6 +27,9 @@ impl MemorySource {
         requires { 1 ≤ step }
         ensures left { ⟦<MemorySource as Source>⟧.left result ≡ Some bytes.items }
         ensures faults { ⟦<MemorySource as Source>⟧.faults result ≡ 0 }
+        ensures step { result.step ≡ step }
+        ensures calls { result.schedule.calls ≡ 0 }
+        ensures fails { result.schedule.fails ≡ fails }
     {
         MemorySource {
             unread: Unread::new(bytes),
@@ -38,7 +44,13 @@ impl Source for MemorySource {
 
     ghost faults = { λ s. s.schedule.faults };
 
-    fn read(&mut self, buf: &mut [u8]) -> Result<usize, Failed> {
+    fn read(&mut self, buf: &mut [u8]) -> Result<usize, Failed>
+        ensures bound { ReadsAtMost result buf.new }
+        ensures bytes { ReadConsumes (Some self.old.unread) (Some self.new.unread) result buf.new }
+        ensures cause { HasCause self.old.schedule.faults self.new.schedule.faults result }
+        ensures most { IfOk result (λ n. n ≤ self.old.step) }
+        ensures chosen { IsErr result ↔ Contains self.old.schedule.fails.items self.new.schedule.calls }
+    {
         if self.schedule.next_fails() {
             return Err(Failed);
         }

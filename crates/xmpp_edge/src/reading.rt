@@ -5,7 +5,7 @@ ghost use Rattle.xmpp_edge.specs.Counts.{HasCause};
 
 use crate::failure::Failed;
 
-/// Where bytes come from. It keeps two numbers for contracts alone: `left`, the bytes that it has still to
+/// Where bytes come from. Contracts alone see two things of it: `left`, the bytes that it has still to
 /// give, where it tells them, and `faults`, how many of its calls failed, which stays at 2^64 - 1 once there.
 pub trait Source {
     ghost left: { Self → Option (List ℕ) };

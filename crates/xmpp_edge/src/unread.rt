@@ -32,6 +32,7 @@ impl Unread {
     /// and answers how many.
     pub fn give(&mut self, step: usize, buf: &mut [u8]) -> usize
         requires { 1 ≤ step }
+        ensures most { result ≤ step }
         ensures room { result ≤ length buf.new }
         ensures bytes { self.old ≡ take result buf.new ++ self.new }
         ensures end { result ≡ 0 → 0 < length buf.new → self.new ≡ [] }
@@ -47,6 +48,7 @@ impl Unread {
 /// answers how many.
 fn copy_front(from: &[u8], step: usize, to: &mut [u8]) -> usize
     requires { 1 ≤ step }
+    ensures most { result ≤ step }
     ensures bound { result ≤ length from.now }
     ensures room { result ≤ length to.new }
     ensures bytes { take result to.new ≡ take result from.now }

@@ -5,7 +5,7 @@ ghost use Rattle.xmpp_edge.specs.Counts.{HasCause};
 
 use crate::failure::Failed;
 
-/// Where bytes go. It keeps two numbers for contracts alone: `written`, the bytes that it took so far, where
+/// Where bytes go. Contracts alone see two things of it: `written`, the bytes that it took so far, where
 /// it tells them, and `faults`, how many of its calls failed, which stays at 2^64 - 1 once there.
 pub trait Sink {
     ghost written: { Self → Option (List ℕ) };
