@@ -1,3 +1,8 @@
+ghost use Rattle.std.specs.Prelude.{◌<◌, length, IfOk};
+ghost use Rattle.std.specs.Io.{ReadsAtMost, WritesAtMost};
+ghost use Rattle.std.specs.Io.KnownBytes.{ReadConsumes, WriteAppends};
+ghost use Rattle.xmpp_edge.specs.Counts.{HasCause};
+
 use crate::failure::Failed;
 use crate::reading::Source;
 use crate::writing::Sink;
@@ -30,7 +35,11 @@ impl<R: io::Read> Source for StdSource<R> {
 
     ghost faults = { λ s. s.faults };
 
-    fn read(&mut self, buf: &mut [u8]) -> Result<usize, Failed> {
+    fn read(&mut self, buf: &mut [u8]) -> Result<usize, Failed>
+        ensures bound { ReadsAtMost result buf.new }
+        ensures bytes { ReadConsumes (R.remaining self.old.inner) (R.remaining self.new.inner) result buf.new }
+        ensures cause { HasCause self.old.faults self.new.faults result }
+    {
         for _ in 0..u64::MAX {
             match self.inner.read(buf) {
                 Ok(n) => return Ok(n),
@@ -70,7 +79,12 @@ impl<W: io::Write> Sink for StdSink<W> {
 
     ghost faults = { λ s. s.faults };
 
-    fn write(&mut self, bytes: &[u8]) -> Result<usize, Failed> {
+    fn write(&mut self, bytes: &[u8]) -> Result<usize, Failed>
+        ensures bound { WritesAtMost result bytes.now }
+        ensures bytes { WriteAppends (W.contents self.old.inner) (W.contents self.new.inner) result bytes.now }
+        ensures some { IfOk result (λ n. 0 < length bytes.now → 0 < n) }
+        ensures cause { HasCause self.old.faults self.new.faults result }
+    {
         for _ in 0..u64::MAX {
             match self.inner.write(bytes) {
                 Ok(n) if n > 0 || bytes.is_empty() => return Ok(n),

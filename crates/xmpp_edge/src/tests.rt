@@ -52,6 +52,26 @@ fn lists_are_kept(rt: HostRuntime) -> Result<(), Fail> {
 }
 
 #[test]
+fn errors_say_what_they_are(rt: HostRuntime) -> Result<(), Fail> {
+    let faults = [
+        ReadAllFault::ReadFault,
+        ReadAllFault::TooLong,
+        ReadAllFault::NoMemory,
+    ];
+    let wants = [
+        "a read failed",
+        "more than 67,108,864 bytes",
+        "out of memory",
+    ];
+    for (fault, want) in faults.iter().zip(wants) {
+        assert_eq!(rt; fault.to_string(rt.alloc())?.as_str(), want);
+    }
+    let others = format!(in rt.alloc(); "{}, {}, {}", NoMemory, Failed, WriteFault)?;
+    assert_eq!(rt; others.as_str(), "out of memory, failed, a write failed");
+    Ok(())
+}
+
+#[test]
 fn a_source_is_read_whole_whatever_its_steps(rt: HostRuntime) -> Result<(), Fail> {
     let want = counting_bytes(rt.alloc(), 10_000)?;
     for step in [1, 7, 65_536] {

@@ -1,4 +1,4 @@
-use Rattle.std.proofs.Common.{◌≡◌, ◌∙◌, ◌++◌, take}
+use Rattle.std.proofs.Common.{◌∙◌, ◌++◌, take}
 use Rattle.std.proofs.KnownBytes.{Appends-trans}
 use Rattle.xmpp_edge.proofs.Parts.{front_kept, split_at}
 use Rattle.xmpp_edge.proofs.whole.write_all.Goals as goal
