@@ -1,5 +1,5 @@
 -- Pages of an archive (XEP-0313 section 4.3 and XEP-0059): a filter of the list, whatever the code walks.
-use Rattle.std.specs.Prelude.{ℕ, nat_lt, nat_le, Bool, List, Option, Some, find, filter, take, length}
+use Rattle.std.specs.Prelude.{ℕ, nat_lt, nat_le, Bool, List, Option, Some, find, filter, take, drop, length}
 use Rattle.std.specs.Option.{option_map}
 use Rattle.std.specs.Str.{bytes_eq}
 use Rattle.xmpp_archive.specs.Entries.{EntryView}
@@ -30,3 +30,12 @@ page_of place most entries =
     option_map
     (λ rest. record { entries = take most rest; complete = nat_le (length rest) most; count = length entries })
     (candidates place entries)
+
+-- the page of the entries behind the first n
+abbrev pub page_behind : ℕ → ℕ → List EntryView → Page
+page_behind n most entries =
+    record {
+      entries = take most (drop n entries);
+      complete = nat_le (length (drop n entries)) most;
+      count = length entries;
+    }

@@ -2,6 +2,14 @@
 //! (XEP-0313).
 #![tactic(auto)]
 
+mod archive;
 mod entry;
+mod ids;
+mod pages;
+#[cfg(test)]
+mod tests;
 
+pub use archive::{Archive, ArchiveFault, MOST_ENTRIES};
 pub use entry::{Bodies, Body, Entries, Entry};
+pub use ids::{id_is_text, id_of_number, id_text, ids_differ, number_of};
+pub use pages::page_is_a_cut;

@@ -1,0 +1,5 @@
+pub mod IdDigits
+pub mod Items
+pub mod NumberedEntries
+pub mod PageCuts
+mod Worked
