@@ -99,7 +99,13 @@ impl Log {
         let Some(page) = take_page(&mut self.page, queryid) else {
             return Err(FinFault::Stranger);
         };
-        if make_room(&mut self.entries, &mut self.tiles, page.results.as_slice().len()).is_err() {
+        if make_room(
+            &mut self.entries,
+            &mut self.tiles,
+            page.results.as_slice().len(),
+        )
+        .is_err()
+        {
             self.page = Some(page);
             return Err(FinFault::NoMemory);
         }
@@ -185,7 +191,12 @@ mod tests {
     }
 
     /// Runs a page with results of these ids, and names how it ended.
-    fn ending(alloc: Global, ids: &[&str], complete: bool, last: Option<Text>) -> Result<&'static str, Fail> {
+    fn ending(
+        alloc: Global,
+        ids: &[&str],
+        complete: bool,
+        last: Option<Text>,
+    ) -> Result<&'static str, Fail> {
         let mut log = Log::new(alloc);
         log.begin(alloc, Text::from_str(alloc, "q")?, 2)?;
         for id in ids {
