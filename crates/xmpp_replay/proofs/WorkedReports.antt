@@ -43,13 +43,13 @@ phone = record {
   epoch = 2;
   settled = false;
   said =
-    record { epoch = 1; n = 1; state = Undecided; to = codes "bob"; text = codes "lost?" }
-    ∷ record { epoch = 2; n = 1; state = Acknowledged; to = codes "bob"; text = codes "hi bob" }
-    ∷ record { epoch = 2; n = 2; state = Waiting; to = codes "alice"; text = codes "note" } ∷ [];
+      record { epoch = 1; n = 1; state = Undecided; to = codes "bob"; text = codes "lost?" }
+      ∷ record { epoch = 2; n = 1; state = Acknowledged; to = codes "bob"; text = codes "hi bob" }
+      ∷ record { epoch = 2; n = 2; state = Waiting; to = codes "alice"; text = codes "note" } ∷ [];
   refused = record { line = 4; why = why.NotBound } ∷ record { line = 17; why = why.OutboxFull } ∷ record { line = 20; why = why.Underway } ∷ [];
   pages =
-    record { after = None; count = 1; total = None }
-    ∷ record { after = Some (codes "0000000000000001"); count = 0; total = Some 1 } ∷ [];
+      record { after = None; count = 1; total = None }
+      ∷ record { after = Some (codes "0000000000000001"); count = 0; total = Some 1 } ∷ [];
   underway = record { queryid = codes "q3"; got = 12 } ∷ [];
   logged = record {
     id = codes "0000000000000001";

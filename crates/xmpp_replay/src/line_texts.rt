@@ -3,8 +3,8 @@ ghost use Rattle.xmpp_replay.specs.ReportText.{fields_text, conn_end_text, mark_
 
 use crate::printed::{Printed, append_field, append_number, append_number_field};
 use crate::report::{
-    ConnEnd, ConnLine, EntryLine, HeldLine, LoggedLine, PageLine, RefusedLine, RefusedWhy, SaidLine,
-    SaidMark, TakeLine, UnderwayLine,
+    ConnEnd, ConnLine, EntryLine, HeldLine, LoggedLine, PageLine, RefusedLine, RefusedWhy,
+    SaidLine, SaidMark, TakeLine, UnderwayLine,
 };
 use xmpp_edge::{Bytes, NoMemory, Text};
 
