@@ -7,6 +7,7 @@ pub mod Direct
 pub mod Grammar
 pub mod History
 pub mod Lawful
+pub mod Names
 pub mod Reading
 pub mod ReportText
 pub mod Reports
