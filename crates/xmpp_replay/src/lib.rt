@@ -1,6 +1,9 @@
 //! Schedules, the direct run of one, and its report.
 #![tactic(auto)]
 
+mod fields;
+mod line_fault;
+mod lines;
 mod name_index;
 mod report;
 mod schedule;
