@@ -1,6 +1,8 @@
 -- Lines and words cut at a byte.
-use Rattle.std.proofs.Common.{◌≡◌, ◌≢◌, ℕ, zero, suc, ◌+◌, ◌<◌, Bool, true, false, cond, eqb, List, [], ◌∷◌, ◌++◌, length, get_or, All, Option, Some, None, Result, Ok, Err, refl, sym, ap, ◌∙◌, subst, MatchOption, arith, rules}
-use Rattle.std.proofs.lemmas.Bool.{ne_eqb}
+use Rattle.std.proofs.Common.{◌≡◌, ◌≢◌, ℕ, zero, suc, ◌+◌, ◌<◌, Bool, true, false, cond, eqb, List, [], ◌∷◌, ◌++◌, length, get_or, All, Option, Some, None, Result, Ok, Err, refl, sym, ap, ◌∙◌, subst, MatchOption, arith, rules, inl, inr}
+use Rattle.std.specs.Str.{IsUtf8, is_utf8}
+use Rattle.std.proofs.lemmas.Bool.{ne_eqb, cases_Bool}
+use Rattle.std.proofs.lemmas.Str.{IsUtf8-from_is_utf8}
 use Rattle.std.proofs.lemmas.Slice.Eq.{bytes_eq-Decides}
 use Rattle.std.specs.Borrow.{Bor}
 use Rattle.std.specs.List.{AllByRecursion}
@@ -38,3 +40,10 @@ piece_whole b (c ∷ bytes) h = rw (differs 10 b (c ∷ bytes) h, piece_whole c 
 pub piece_all : (bytes : List ℕ) → 0 < length bytes → Lacks 10 bytes → pieces_of bytes ≡ record { bytes = bytes; ended = false } ∷ []
 piece_all [] lt h = absurd (omega arith)
 piece_all (b ∷ bytes) lt h = piece_whole b bytes h
+
+pub not_spelled : (bytes : List ℕ) → ¬ (IsUtf8 bytes) → is_utf8 bytes ≡ false
+not_spelled bytes not_so =
+    elim (cases_Bool (is_utf8 bytes)) [
+      | inl e ↦ absurd (not_so (IsUtf8-from_is_utf8 bytes e))
+      | inr e ↦ e
+    ]

@@ -5,10 +5,13 @@ mod fields;
 mod line_fault;
 mod lines;
 mod name_index;
+mod reading;
 mod report;
 mod schedule;
+mod steps;
 
 pub use name_index::NameIndex;
+pub use reading::read_schedule;
 pub use report::{
     AccountLine, AccountLines, ConnEnd, ConnLine, ConnLines, DeviceLine, DeviceLines, EntryLine,
     EntryLines, HeldLine, HeldLines, LoggedLine, LoggedLines, PageLine, PageLines, RefusedLine,

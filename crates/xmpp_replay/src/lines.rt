@@ -4,7 +4,8 @@ ghost use Rattle.xmpp_replay.specs.Reading.{pieces_of};
 /// The first line of a text, whether an LF ends it, and what follows that LF.
 pub fn first_line(text: &[u8]) -> (&[u8], bool, &[u8])
     requires { 0 < length text.now }
-    ensures { pieces_of text.now ≡ record { bytes = result.0.now; ended = result.1 } ∷ pieces_of result.2.now }
+    ensures pieces { pieces_of text.now ≡ record { bytes = result.0.now; ended = result.1 } ∷ pieces_of result.2.now }
+    ensures shorter { length result.2.now < length text.now }
 {
     match cut(text, b'\n') {
         Some((line, rest)) => (line, true, rest),
