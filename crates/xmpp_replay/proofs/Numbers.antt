@@ -5,11 +5,11 @@ use Rattle.std.specs.Str.{bytes_eq}
 use Rattle.std.proofs.lemmas.Slice.Eq.{bytes_eq-Decides}
 use Rattle.std.specs.Fmt.{decimal, digits}
 use Rattle.std.proofs.lemmas.Fmt.{decimal_digit, decimal_step}
-use Rattle.std.proofs.lemmas.Bool.{cases_lt, cases_Bool, and_parts, false≢true, leb-true, le-leb}
+use Rattle.std.proofs.lemmas.Bool.{cases_lt, cases_Bool, and_parts, and_from, false≢true, leb-true, le-leb}
 use Rattle.std.specs.List.{list_all}
 use Rattle.std.proofs.lemmas.Bool.Decides.{nat_tests}
 use Rattle.xmpp_replay.specs.Grammar.{is_digit}
-use Rattle.xmpp_replay.specs.Reading.{value_of, is_number, number_within}
+use Rattle.xmpp_replay.specs.Reading.{value_of, not_empty, is_number, number_within}
 use Rattle.xmpp_replay.specs.declared.schedule.LineWhy.{LineWhy}
 use Rattle.xmpp_replay.specs.declared.schedule.LineWhy.TheVariants as why
 
@@ -148,3 +148,14 @@ number_again n low high =
               rw (n-is, decimal_hundred) refl
         ]
     ]
+
+pub within_is_number : (bytes : List ℕ) (n : ℕ) → number_within 1 100 bytes ≡ Ok n → is_number bytes ≡ true
+within_is_number bytes n e = (taken (is_number bytes) (value_of bytes) n e).0
+
+pub number_digits : (bytes : List ℕ) → is_number bytes ≡ true → (not_empty bytes ≡ true) × (list_all is_digit bytes ≡ true)
+number_digits [] h = absurd (false≢true h)
+number_digits (d ∷ []) h = (refl, and_from (is_digit d) true h refl)
+number_digits (d ∷ e ∷ ds) h =
+    let outer = and_parts (is_digit d && not (eqb d 48)) (list_all is_digit (e ∷ ds)) h in
+    let inner = and_parts (is_digit d) (not (eqb d 48)) outer.0 in
+    (refl, and_from (is_digit d) (list_all is_digit (e ∷ ds)) inner.0 outer.1)

@@ -1,7 +1,8 @@
-ghost use Rattle.std.specs.Prelude.{◌≡◌, ◌⊎◌, Ok, Err, MatchResult};
+ghost use Rattle.std.specs.Prelude.{◌≡◌, ◌⊎◌, ℕ, List, Ok, Err, MatchResult};
 ghost use Rattle.xmpp_replay.specs.Gives.{ReadsAs};
-ghost use Rattle.xmpp_replay.specs.Grammar.{nothing_declared};
+ghost use Rattle.xmpp_replay.specs.Grammar.{nothing_declared, IsSchedule, schedule_text};
 ghost use Rattle.xmpp_replay.specs.Reading.{pieces_of, read_header, read_lines, reading};
+ghost use Rattle.xmpp_replay.specs.Schedules.{ScheduleView};
 ghost use Rattle.xmpp_replay.specs.declared.schedule.ScheduleFault.TheVariants.{NoMemory as WantOfMemory};
 
 use crate::line_fault::LineFault;
@@ -76,4 +77,11 @@ pub fn read_schedule(alloc: Global, bytes: &[u8]) -> Result<Schedule, ScheduleFa
     };
     let lines = read_lines(alloc, rest)?;
     Ok(Schedule { wire: false, lines })
+}
+
+/// What reading answers is a schedule whose text was read, and the text of each schedule is read as that schedule.
+pub fn reading_is_the_grammar()
+    ensures found { (text : List ℕ) (s : ScheduleView) → reading text ≡ Ok s → IsSchedule s × (text ≡ schedule_text s) }
+    ensures only { (s : ScheduleView) → IsSchedule s → reading (schedule_text s) ≡ Ok s }
+{
 }
