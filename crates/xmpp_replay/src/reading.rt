@@ -1,6 +1,6 @@
-ghost use Rattle.std.specs.Prelude.{◌≡◌, ◌⊎◌, ℕ, List, Ok, Err, MatchResult};
+ghost use Rattle.std.specs.Prelude.{◌≡◌, ◌⊎◌, ℕ, List, Ok, Err, IfOk, IfErr, MatchResult};
 ghost use Rattle.xmpp_replay.specs.Gives.{ReadsAs};
-ghost use Rattle.xmpp_replay.specs.Grammar.{nothing_declared, IsSchedule, schedule_text};
+ghost use Rattle.xmpp_replay.specs.Grammar.{nothing_declared, IsSchedule, schedule_text, InGrammar};
 ghost use Rattle.xmpp_replay.specs.Reading.{pieces_of, read_header, read_lines, reading};
 ghost use Rattle.xmpp_replay.specs.Schedules.{ScheduleView};
 ghost use Rattle.xmpp_replay.specs.declared.schedule.ScheduleFault.TheVariants.{NoMemory as WantOfMemory};
@@ -65,11 +65,10 @@ fn read_lines(alloc: Global, text: &[u8]) -> Result<Lines, ScheduleFault>
     Ok(lines)
 }
 
-/// The schedule that bytes are the text of. A refusal names the first line that is not in the grammar, and the first
-/// reason why it isn't, in the order of `LineWhy`.
+/// What reading answers, unless memory runs out.
 #[tactic(auto, unfolding(crate::specs::Reading::reading))]
-pub fn read_schedule(alloc: Global, bytes: &[u8]) -> Result<Schedule, ScheduleFault>
-    ensures exact { (result ≡ Err WantOfMemory) ⊎ (result ≡ reading bytes.now) }
+fn schedule_of(alloc: Global, bytes: &[u8]) -> Result<Schedule, ScheduleFault>
+    ensures { (result ≡ Err WantOfMemory) ⊎ (result ≡ reading bytes.now) }
 {
     let rest = match read_header(bytes) {
         Ok(rest) => rest,
@@ -77,6 +76,17 @@ pub fn read_schedule(alloc: Global, bytes: &[u8]) -> Result<Schedule, ScheduleFa
     };
     let lines = read_lines(alloc, rest)?;
     Ok(Schedule { wire: false, lines })
+}
+
+/// The schedule that bytes are the text of. `BadLine` comes where they are the text of none, and names the first line
+/// that is not in the grammar, with the first reason why it isn't in the order of `LineWhy`; `NoMemory` comes where
+/// memory ran out, whatever the bytes are.
+pub fn read_schedule(alloc: Global, bytes: &[u8]) -> Result<Schedule, ScheduleFault>
+    ensures exact { (result ≡ Err WantOfMemory) ⊎ (result ≡ reading bytes.now) }
+    ensures found { IfOk result (λ s. IsSchedule s × (bytes.now ≡ schedule_text s)) }
+    ensures bad { IfErr result (λ e. (e ≡ WantOfMemory) ⊎ ¬ (InGrammar bytes.now)) }
+{
+    schedule_of(alloc, bytes)
 }
 
 /// What reading answers is a schedule whose text was read, and the text of each schedule is read as that schedule.
