@@ -258,8 +258,8 @@ lines_again above n [] known h = refl
 lines_again above n (line ∷ lines) known h =
     let again = step_again above line.step known h.2 in
     let parts : pieces_of (flat_map line_text (line ∷ lines)) ≡ record { bytes = step_text line.step; ended = true } ∷ pieces_of (flat_map line_text lines) =
-      ap (λ (xs : List ℕ). pieces_of xs) (flat_map-cons line_text line lines ∙ append_assoc (step_text line.step) (10 ∷ []) (flat_map line_text lines))
-      ∙ piece_behind (step_text line.step) (flat_map line_text lines) again.plain.lacks in
+    ap (λ (xs : List ℕ). pieces_of xs) (flat_map-cons line_text line lines ∙ append_assoc (step_text line.step) (10 ∷ []) (flat_map line_text lines))
+    ∙ piece_behind (step_text line.step) (flat_map line_text lines) again.plain.lacks in
     let read = line_again above n line.step h.1 again in
     let others = lines_again (declared_by line.step above) (n + 1) lines again.declared h.3 in
     let same : record { number = n; step = line.step } ≡ line = ap (λ (k : ℕ). record { number = k; step = line.step }) (sym h.0) in

@@ -94,7 +94,7 @@ account_found above fields step e =
     let c = gate (is_name b.0) why.Name _ step b.2 in
     let d = gate (not (is_among b.0 above.accounts)) why.Twice _ step c.1 in
     subst (λ (s : Step). Says above (codes "account") fields s) (ok_is (Account b.0) step d.1)
-      (account_says above b.0 fields a.0 c.0 d.0 (last_is fields b.0 b.1))
+    (account_says above b.0 fields a.0 c.0 d.0 (last_is fields b.0 b.1))
 
 device_says : (above : Declared) (name account : List ℕ) (fields rest : Option (List ℕ)) → nat_lt (length above.devices) 100 ≡ true → is_name name ≡ true → not (is_among name above.devices) ≡ true → is_among account above.accounts ≡ true
     → fields ≡ Some (with_rest name rest) → rest ≡ Some account → Says above (codes "device") fields (Device name account)
@@ -110,7 +110,7 @@ device_found above fields step e =
     let d = gate (not (is_among b.0.front above.devices)) why.Twice _ step c.1 in
     let k = gate (is_among l.0 above.accounts) why.Unknown _ step d.1 in
     subst (λ (s : Step). Says above (codes "device") fields s) (ok_is (Device b.0.front l.0) step k.1)
-      (device_says above b.0.front l.0 fields b.0.rest a.0 c.0 d.0 k.0 (next_is fields b.0 b.1) (last_is b.0.rest l.0 l.1))
+    (device_says above b.0.front l.0 fields b.0.rest a.0 c.0 d.0 k.0 (next_is fields b.0 b.1) (last_is b.0.rest l.0 l.1))
 
 say_says : (above : Declared) (device to text : List ℕ) (fields rest last : Option (List ℕ)) → is_among device above.devices ≡ true → is_name to ≡ true → is_text text ≡ true
     → fields ≡ Some (with_rest device rest) → rest ≡ Some (with_rest to last) → last ≡ Some text → Says above (codes "say") fields (Say device to text)
@@ -126,7 +126,7 @@ say_found above fields step e =
     let d = gate (is_name b.0.front) why.Name _ step c.1 in
     let k = gate (is_text l.0) why.Text _ step d.1 in
     subst (λ (s : Step). Says above (codes "say") fields s) (ok_is (Say a.0.front b.0.front l.0) step k.1)
-      (say_says above a.0.front b.0.front l.0 fields a.0.rest b.0.rest c.0 d.0 k.0 (next_is fields a.0 a.1) (next_is a.0.rest b.0 b.1) (rest_is b.0.rest l.0 l.1))
+    (say_says above a.0.front b.0.front l.0 fields a.0.rest b.0.rest c.0 d.0 k.0 (next_is fields a.0 a.1) (next_is a.0.rest b.0 b.1) (rest_is b.0.rest l.0 l.1))
 
 catchup_says : (above : Declared) (device field : List ℕ) (most : ℕ) (fields rest : Option (List ℕ)) → is_among device above.devices ≡ true → 1 ≤ most → most ≤ 100
     → fields ≡ Some (with_rest device rest) → rest ≡ Some field → field ≡ decimal most → Says above (codes "catchup") fields (Catchup device most)
@@ -141,7 +141,7 @@ catchup_found above fields step e =
     let m = bind_ok (number_within 1 100 l.0) _ step c.1 in
     let n = number_found l.0 m.0 m.1 in
     subst (λ (s : Step). Says above (codes "catchup") fields s) (ok_is (Catchup a.0.front m.0) step m.2)
-      (catchup_says above a.0.front l.0 m.0 fields a.0.rest c.0 n.0 n.1 (next_is fields a.0 a.1) (last_is a.0.rest l.0 l.1) n.2)
+    (catchup_says above a.0.front l.0 m.0 fields a.0.rest c.0 n.0 n.1 (next_is fields a.0 a.1) (last_is a.0.rest l.0 l.1) n.2)
 
 -- the first word is the one that was compared
 at_word : (above : Declared) (word front : List ℕ) (rest : Option (List ℕ)) (step : Step) → bytes_eq front word ≡ true → Says above word rest step → Says above front rest step
@@ -153,15 +153,15 @@ words_found above words step e =
     elim (chosen (bytes_eq words.front (codes "account")) (read_account above words.rest) _ step e) [
       | inl p ↦ at_word above (codes "account") words.front words.rest step p.0 (account_found above words.rest step p.1)
       | inr p ↦ elim (chosen (bytes_eq words.front (codes "device")) (read_device above words.rest) _ step p.1) [
-          | inl q ↦ at_word above (codes "device") words.front words.rest step q.0 (device_found above words.rest step q.1)
-          | inr q ↦ elim (chosen (bytes_eq words.front (codes "say")) (read_say above words.rest) _ step q.1) [
-              | inl r ↦ at_word above (codes "say") words.front words.rest step r.0 (say_found above words.rest step r.1)
-              | inr r ↦ elim (chosen (bytes_eq words.front (codes "catchup")) (read_catchup above words.rest) _ step r.1) [
-                  | inl s ↦ at_word above (codes "catchup") words.front words.rest step s.0 (catchup_found above words.rest step s.1)
-                  | inr s ↦ absurd cc
-                ]
-            ]
+        | inl q ↦ at_word above (codes "device") words.front words.rest step q.0 (device_found above words.rest step q.1)
+        | inr q ↦ elim (chosen (bytes_eq words.front (codes "say")) (read_say above words.rest) _ step q.1) [
+          | inl r ↦ at_word above (codes "say") words.front words.rest step r.0 (say_found above words.rest step r.1)
+          | inr r ↦ elim (chosen (bytes_eq words.front (codes "catchup")) (read_catchup above words.rest) _ step r.1) [
+            | inl s ↦ at_word above (codes "catchup") words.front words.rest step s.0 (catchup_found above words.rest step s.1)
+            | inr s ↦ absurd cc
+          ]
         ]
+      ]
     ]
 
 -- a line that was read
@@ -236,9 +236,9 @@ lines_found above n (piece ∷ pieces) lines e =
     let others = lines_found (declared_by step above) (n + 1) pieces b.0 b.1 in
     let first : text_of_pieces (piece ∷ pieces) ≡ step_text step ++ 10 ∷ text_of_pieces pieces = ended_text piece (step_text step) (text_of_pieces pieces) line.ended line.spelled in
     let whole : text_of_pieces (piece ∷ pieces) ≡ flat_map line_text (record { number = n; step = step } ∷ b.0) =
-      first ∙ ap (λ (xs : List ℕ). step_text step ++ 10 ∷ xs) others.1 ∙ sym (append_assoc (step_text step) (10 ∷ []) (flat_map line_text b.0)) ∙ sym (flat_map-cons line_text (record { number = n; step = step }) b.0) in
+    first ∙ ap (λ (xs : List ℕ). step_text step ++ 10 ∷ xs) others.1 ∙ sym (append_assoc (step_text step) (10 ∷ []) (flat_map line_text b.0)) ∙ sym (flat_map-cons line_text (record { number = n; step = step }) b.0) in
     subst (λ (ls : List Line). AreLines above n ls × (text_of_pieces (piece ∷ pieces) ≡ flat_map line_text ls)) b.2
-      ((refl, line.few, line.stands, others.0), whole)
+    ((refl, line.few, line.stands, others.0), whole)
 
 header_found : (pieces rest : List Piece) → read_header pieces ≡ Ok rest → text_of_pieces pieces ≡ direct_header ++ 10 ∷ text_of_pieces rest
 header_found [] rest e = absurd cc
@@ -246,12 +246,12 @@ header_found (piece ∷ pieces) rest e =
     elim (chosen (bytes_eq piece.bytes wire_header) (Err why.NotBuilt) _ rest e) [
       | inl p ↦ absurd cc
       | inr p ↦ elim (chosen (bytes_eq piece.bytes direct_header) _ (Err why.Header) rest p.1) [
-          | inl q ↦
-              let k = kept piece.ended pieces rest why.Ending q.1 in
-              let same : piece.bytes ≡ direct_header = (bytes_eq-Decides piece.bytes direct_header).0 q.0 in
-              rw (k.0, same) (ap (λ (ps : List Piece). direct_header ++ 10 ∷ text_of_pieces ps) k.1)
-          | inr q ↦ absurd cc
-        ]
+        | inl q ↦
+            let k = kept piece.ended pieces rest why.Ending q.1 in
+            let same : piece.bytes ≡ direct_header = (bytes_eq-Decides piece.bytes direct_header).0 q.0 in
+            rw (k.0, same) (ap (λ (ps : List Piece). direct_header ++ 10 ∷ text_of_pieces ps) k.1)
+        | inr q ↦ absurd cc
+      ]
     ]
 
 below_ok : (r : Result (List Piece) LineWhy) (s : ScheduleView) → read_below r ≡ Ok s → (pieces : List Piece) × (r ≡ Ok pieces) × (as_schedule (read_lines nothing_declared 2 pieces) ≡ Ok s)
@@ -269,5 +269,5 @@ reading_found text s e =
     let b = schedule_ok (read_lines nothing_declared 2 a.0) s a.2 in
     let c = lines_found nothing_declared 2 a.0 b.0 b.1 in
     let whole : text ≡ direct_header ++ 10 ∷ flat_map line_text b.0 =
-      sym (pieces_back text) ∙ header_found (pieces_of text) a.0 a.1 ∙ ap (λ (xs : List ℕ). direct_header ++ 10 ∷ xs) c.1 in
+    sym (pieces_back text) ∙ header_found (pieces_of text) a.0 a.1 ∙ ap (λ (xs : List ℕ). direct_header ++ 10 ∷ xs) c.1 in
     subst (λ (v : ScheduleView). IsSchedule v × (text ≡ schedule_text v)) b.2 (record { direct = refl; lines = c.0 }, whole)

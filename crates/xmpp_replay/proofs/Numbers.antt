@@ -61,10 +61,10 @@ long_is_refused (a ∷ []) h other = absurd (omega arith)
 long_is_refused (a ∷ b ∷ []) h other = absurd (omega arith)
 long_is_refused (a ∷ b ∷ c ∷ []) h other =
     refused (is_number (a ∷ b ∷ c ∷ [])) (value_of (a ∷ b ∷ c ∷ [])) (λ e.
-        let d = three_digits a b c e in three_value a b c d.0 d.1 d.2 other)
+    let d = three_digits a b c e in three_value a b c d.0 d.1 d.2 other)
 long_is_refused (a ∷ b ∷ c ∷ d ∷ ds) h other =
     refused (is_number (a ∷ b ∷ c ∷ d ∷ ds)) (value_of (a ∷ b ∷ c ∷ d ∷ ds)) (λ e.
-        let big = long_value a b c d ds (first_digit a b (c ∷ d ∷ ds) e) in omega arith)
+    let big = long_value a b c d ds (first_digit a b (c ∷ d ∷ ds) e) in omega arith)
 
 -- a field that is taken, and its value
 accepted : (bytes : List ℕ) (v : ℕ) → is_number bytes ≡ true → value_of bytes ≡ v → 1 ≤ v → v ≤ 100 → number_within 1 100 bytes ≡ Ok v
@@ -142,11 +142,11 @@ number_again n low high =
     elim (cases_lt n 10) [
       | inl one ↦ rw (decimal_digit n one) (accepted ((48 + n) ∷ []) n (grind (arith, nat_tests)) (omega arith) low high)
       | inr more ↦ elim (cases_lt n 100) [
-          | inl two ↦ rw (decimal_two n more two) (accepted ((48 + n / 10) ∷ (48 + n % 10) ∷ []) n (two_are_number (n / 10) (n % 10) (omega arith) (omega arith) (omega arith)) (omega arith) low high)
-          | inr three ↦
-              let n-is : n ≡ 100 = omega arith in
-              rw (n-is, decimal_hundred) refl
-        ]
+        | inl two ↦ rw (decimal_two n more two) (accepted ((48 + n / 10) ∷ (48 + n % 10) ∷ []) n (two_are_number (n / 10) (n % 10) (omega arith) (omega arith) (omega arith)) (omega arith) low high)
+        | inr three ↦
+            let n-is : n ≡ 100 = omega arith in
+            rw (n-is, decimal_hundred) refl
+      ]
     ]
 
 pub within_is_number : (bytes : List ℕ) (n : ℕ) → number_within 1 100 bytes ≡ Ok n → is_number bytes ≡ true

@@ -123,6 +123,7 @@ fn are_text_characters(text: &str) -> bool
 }
 
 /// The most entries of a page: a decimal number from 1 to 100, without leading zeros.
+#[tactic(auto, using(crate::proofs::Numbers::long_is_refused, crate::proofs::Numbers::other_from_test))]
 pub fn page_limit(field: &str) -> Result<u32, LineFault>
     ensures { Gives (λ n. n) result (number_within 1 100 field.now) }
 {

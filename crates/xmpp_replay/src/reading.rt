@@ -93,5 +93,7 @@ pub fn read_schedule(alloc: Global, bytes: &[u8]) -> Result<Schedule, ScheduleFa
 pub fn reading_is_the_grammar()
     ensures found { (text : List ℕ) (s : ScheduleView) → reading text ≡ Ok s → IsSchedule s × (text ≡ schedule_text s) }
     ensures only { (s : ScheduleView) → IsSchedule s → reading (schedule_text s) ≡ Ok s }
-{
-}
+{}
+
+#[cfg(test)]
+mod tests;

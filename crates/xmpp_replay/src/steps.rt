@@ -83,11 +83,7 @@ fn read_device(
 }
 
 #[tactic(auto, unfolding(crate::specs::Reading::read_say))]
-fn read_say(
-    alloc: Global,
-    above: &NamesAbove,
-    fields: Option<&str>,
-) -> Result<Step, LineFault>
+fn read_say(alloc: Global, above: &NamesAbove, fields: Option<&str>) -> Result<Step, LineFault>
     ensures exact { Gives (λ step. step) result (read_say above.now (left fields.entry)) }
     ensures declared { IfOk result (λ step. declared_by step above.now ≡ above.now) }
 {
@@ -104,11 +100,7 @@ fn read_say(
 }
 
 #[tactic(auto, unfolding(crate::specs::Reading::read_catchup))]
-fn read_catchup(
-    alloc: Global,
-    above: &NamesAbove,
-    fields: Option<&str>,
-) -> Result<Step, LineFault>
+fn read_catchup(alloc: Global, above: &NamesAbove, fields: Option<&str>) -> Result<Step, LineFault>
     ensures exact { Gives (λ step. step) result (read_catchup above.now (left fields.entry)) }
     ensures declared { IfOk result (λ step. declared_by step above.now ≡ above.now) }
 {
