@@ -4,6 +4,7 @@ pub use Rattle.xmpp_archive.specs.Ids
 pub use Rattle.xmpp_archive.specs.Pages
 pub use Rattle.xmpp_log.specs.LogPages
 pub mod Direct
+pub mod Gives
 pub mod Grammar
 pub mod History
 pub mod Lawful

@@ -1,14 +1,20 @@
 //! Schedules, the direct run of one, and its report.
 #![tactic(auto)]
 
+mod fields;
+mod line_fault;
 mod line_texts;
+mod lines;
 mod name_index;
 mod printed;
+mod reading;
 mod report;
 mod report_texts;
 mod schedule;
+mod steps;
 
 pub use name_index::NameIndex;
+pub use reading::read_schedule;
 pub use report::{
     AccountLine, AccountLines, ConnEnd, ConnLine, ConnLines, DeviceLine, DeviceLines, EntryLine,
     EntryLines, HeldLine, HeldLines, LoggedLine, LoggedLines, PageLine, PageLines, RefusedLine,
