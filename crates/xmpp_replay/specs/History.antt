@@ -8,7 +8,7 @@ use Rattle.xmpp_replay.specs.Schedules.{ScheduleView, steps_of}
 use Rattle.xmpp_replay.specs.declared.schedule.Step.{Step}
 
 -- the archives and logs at one moment: of an account its entries; of a device the pages that it took over, and
--- how many it had asked for
+-- how many these are with the one that is under way, so that a page counts as asked for from the move that began it
 pub record World : Type 0 where
   pub archive : List ℕ → List EntryView
   pub pages : List ℕ → List LogPage

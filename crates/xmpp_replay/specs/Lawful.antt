@@ -55,6 +55,12 @@ message_at device refused number _ = []
 abbrev pub messages_of : List Line → List ℕ → List ℕ → List Message
 messages_of lines device refused = flat_map (λ line. message_at device refused line.number line.step) lines
 
+-- the step asks this device for something that it may refuse
+abbrev pub may_refuse : List ℕ → Step → Bool
+may_refuse device (Say name to text) = bytes_eq device name
+may_refuse device (Catchup name most) = bytes_eq device name
+may_refuse device _ = false
+
 -- the step asks this device to catch up
 abbrev pub is_catchup_of : List ℕ → Step → Bool
 is_catchup_of device (Catchup name most) = bytes_eq device name
@@ -85,12 +91,14 @@ abbrev pub is_taken : List TakeLine → List ℕ → SaidLine → Bool
 is_taken takes device said = list_any (λ t. bytes_eq device t.device && t.epoch == said.epoch && t.n == said.n) takes
 
 -- The report has a line for each account and each device of the schedule, in declared order, and counts its entries.
+-- A direct run has no connections.
 -- Each law says so first: none is kept by a report that lacks such lines.
 pub record IsOfSchedule (schedule : ScheduleView) (report : ReportView) : Type 0 where
   pub mode : report.wire ≡ schedule.wire
   pub accounts : map (λ a. a.name) report.accounts ≡ accounts_of (steps_of schedule.lines)
   pub devices : map (λ d. record { device = d.name; account = d.account }) report.devices ≡ homes_of (steps_of schedule.lines)
   pub counts : AllByRecursion (λ a. a.count ≡ length a.entries) report.accounts
+  pub conns : schedule.wire ≡ false → report.conns ≡ []
 
 -- Law 1: what the archives hold is what was taken.
 
@@ -141,6 +149,11 @@ abbrev pub AreSubmissions : List SaidLine → Type 0
 AreSubmissions [] = Unit {0}
 AreSubmissions (said ∷ rest) = (said.n ≡ 1) × AreNumberedBehind said rest
 
+-- the refused lines of a device are lines that ask this device, each named once and in their order
+pub record AreRefused (lines : List Line) (device : DeviceView) : Type 0 where
+  pub asked : AllByRecursion (λ r. IsTrue (list_any (λ line. line.number == r.line && may_refuse device.name line.step) lines)) device.refused
+  pub rise : EachPair (λ a b. a.line < b.line) device.refused
+
 -- entries of one take, in two archives or in one, have one stamp
 abbrev pub AgreeOnStamp : EntryLine → EntryLine → Type 0
 AgreeOnStamp a b = a.from ≡ b.from → a.origin ≡ b.origin → a.stamp ≡ b.stamp
@@ -157,10 +170,13 @@ pub record IsTakenRight (schedule : ScheduleView) (report : ReportView) : Type 0
   pub submitted : AllByRecursion (λ line. IsOfSubmission line (device_named line.device report.devices)) report.takes
   pub exist : AllByRecursion (λ line. IsTrue (is_account schedule line.account)) report.takes
   pub numbered : AllByRecursion (λ d. AreSubmissions d.said) report.devices
+  -- each is of the device's present epoch or of one before it
+  pub epochs : AllByRecursion (λ d. AllByRecursion (λ said. (1 ≤ said.epoch) × (said.epoch ≤ d.epoch)) d.said) report.devices
   -- each message of the schedule is a submission or a refused line
   pub said : AllByRecursion
       (λ d. map (λ said. record { to = said.to; text = said.text }) d.said ≡ messages_of schedule.lines d.name (map (λ r. r.line) d.refused))
       report.devices
+  pub refused : AllByRecursion (AreRefused schedule.lines) report.devices
 
 -- Law 2: once and in order.
 
@@ -188,6 +204,13 @@ pub record IsSettledRight (device : DeviceView) : Type 0 where
   pub nothing_underway : device.underway ≡ []
   pub present_epoch : AllByRecursion (λ said. said.epoch ≡ device.epoch → said.state ≡ Acknowledged) device.said
 
+-- nothing came between the device and the server: it is settled in its first epoch, refused nothing and holds nothing
+pub record IsUndisturbed (device : DeviceView) : Type 0 where
+  pub settled : IsTrue device.settled
+  pub epoch : device.epoch ≡ 1
+  pub nothing_refused : device.refused ≡ []
+  pub nothing_held : device.held ≡ []
+
 pub record IsAcknowledgedRight (schedule : ScheduleView) (report : ReportView) : Type 0 where
   pub whole : IsOfSchedule schedule report
   pub taken : AllByRecursion
@@ -197,8 +220,7 @@ pub record IsAcknowledgedRight (schedule : ScheduleView) (report : ReportView) :
       report.devices
   pub first : AllByRecursion (λ d. EachPair IsAcknowledgedFirst d.said) report.devices
   pub settled : AllByRecursion (λ d. IsTrue d.settled → IsSettledRight d) report.devices
-  -- in a direct run each device is settled
-  pub direct : schedule.wire ≡ false → AllByRecursion (λ d. IsTrue d.settled) report.devices
+  pub direct : schedule.wire ≡ false → AllByRecursion IsUndisturbed report.devices
 
 -- Law 4: each log is a prefix of its account's archive.
 

@@ -2,6 +2,7 @@
 #![tactic(auto)]
 
 mod fields;
+mod laws;
 mod line_fault;
 mod line_texts;
 mod lines;
@@ -13,6 +14,7 @@ mod report_texts;
 mod schedule;
 mod steps;
 
+pub use laws::direct_is_lawful;
 pub use name_index::NameIndex;
 pub use reading::read_schedule;
 pub use report::{
