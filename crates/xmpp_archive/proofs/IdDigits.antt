@@ -1,8 +1,8 @@
 -- What is true of ids and of their digits.
-use Rattle.std.proofs.Common.{◌≡◌, ℕ, add-one, zero, suc, ◌+◌, ◌*◌, ◌/◌, ◌%◌, ◌^◌, ◌<◌, ◌≤◌, ◌≢◌, List, [], ◌∷◌, ◌++◌, length, drop, take, set, get_or, refl, sym, ap, ◌∙◌, arith, inl, inr}
+use Rattle.std.proofs.Common.{◌≡◌, ℕ, add-one, zero, suc, ◌+◌, ◌*◌, ◌/◌, ◌%◌, ◌^◌, ◌<◌, ◌≤◌, ◌≢◌, List, [], ◌∷◌, ◌++◌, length, take, get_or, refl, sym, ap, ◌∙◌, arith, inl, inr}
 use Rattle.std.proofs.lemmas.Bool.{cases_lt}
 use Rattle.std.proofs.lemmas.Bool.Decides.{nat_tests}
-use Rattle.std.proofs.lemmas.List.{append_assoc, drop-set, get_or_append_left, get_or_at, length-append, same_from_push, take_all, take_more}
+use Rattle.std.proofs.lemmas.List.{get_or_append_left, get_or_at, length-append, same_from_push, take_all, take_more}
 use Rattle.std.proofs.lemmas.Str.{IsAscii-append, IsUtf8-from_ascii}
 use Rattle.std.specs.Str.{IsAscii, IsUtf8}
 use Rattle.std.proofs.Math.Nat.{pow-le-pow_right, pow-suc}
@@ -62,11 +62,6 @@ digit_at (suc k) i n within =
       | inr last ↦
           (n % 16, omega arith, get_or_at (hex_digits k (n / 16)) (hex_digit (n % 16)) [] 0 i (omega arith))
     ]
-
--- one digit of an id written: what is left of the number stands before what is written
-pub digit_written : (k n d : ℕ) (id : List ℕ) → k < length id → d ≡ hex_digit (n % 16) →
-    hex_digits k (n / 16) ++ drop k (set id k d) ≡ hex_digits (suc k) n ++ drop (k + 1) id
-digit_written k n d id within is = rw (drop-set id k d within, is) (sym (append_assoc (hex_digits k (n / 16)) (hex_digit (n % 16) ∷ []) (drop (k + 1) id)))
 
 -- one digit of an id read
 pub digit_read : (k n d : ℕ) (id : List ℕ) → k < length id → d < 16 → get_or id k 0 ≡ hex_digit d → take k id ≡ hex_digits k n →

@@ -12,9 +12,6 @@ use Rattle.xmpp_archive.specs.Entries.{AreNumbered, EntryView, entry_numbered, n
 pub numbered_push : (entries : List EntryView) (e : EntryView) → AreNumbered entries → AreNumbered (entries ++ numbered (length entries + 1) e ∷ [])
 numbered_push entries e known = record { each = each }
   where
-    new : EntryView
-    new = numbered (length entries + 1) e
-
     each : (i : ℕ) (f : EntryView) → slice_get (entries ++ numbered (length entries + 1) e ∷ []) i ≡ Some f → f.number ≡ i + 1
     each i f is =
         let at : get_or (entries ++ numbered (length entries + 1) e ∷ []) i f ≡ f =

@@ -23,12 +23,13 @@ pub struct Archive {
 impl Model for Archive {
     ghost use Rattle.std.specs.Prelude.{◌≤◌, length};
     ghost use Rattle.xmpp_archive.specs.Entries.{AreNumbered, ArchiveView};
+    ghost use Rattle.xmpp_archive.specs.declared.archive.TheConstants.{MOST_ENTRIES};
 
     ghost Value = { ArchiveView };
 
     ghost view = { λ a. record { owner = a.owner; entries = a.entries.items; spare = a.entries.spare } };
 
-    ghost invariant = { λ a. AreNumbered a.entries.items × (length a.entries.items ≤ 4_294_967_295) };
+    ghost invariant = { λ a. AreNumbered a.entries.items × (length a.entries.items ≤ MOST_ENTRIES) };
 }
 
 /// Why an archive has no room for an entry.

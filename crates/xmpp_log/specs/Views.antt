@@ -1,6 +1,7 @@
 -- What clauses see of a log, and what ends a page.
 use Rattle.std.specs.Prelude.{ℕ, nat_lt, Bool, true, false, ◌&&◌, not, List, [], ◌∷◌, ◌++◌, Option, Some, None, Result, Ok, Err, length, if◌then◌else◌}
 use Rattle.std.specs.List.{list_any}
+use Rattle.std.specs.Option.{option_map}
 use Rattle.std.specs.Str.{bytes_eq}
 use Rattle.xmpp_log.specs.LogPages.{ids_of, last_id}
 use Rattle.xmpp_log.specs.declared.fin.Fin.{Fin}
@@ -91,3 +92,12 @@ abbrev pub after_refusal : FinFault → LogView → LogView
 after_refusal faults.NoMemory log = log
 after_refusal faults.Stranger log = log
 after_refusal _ log = without_page log
+
+-- the log with a new page, behind its last entry
+abbrev pub with_begun : LogView → List ℕ → ℕ → LogView
+with_begun log queryid max =
+    record log { page = Some (record { queryid = queryid; max = max; after = last_id log.entries; results = [] }) }
+
+-- the log with a result at the end of the open page
+abbrev pub with_result : LogView → LogEntry → LogView
+with_result log entry = record log { page = option_map (λ (page : OpenPage). record page { results = page.results ++ entry ∷ [] }) log.page }

@@ -1,6 +1,6 @@
 use std::error::Error;
 use std::fmt;
-use xmpp_edge::Text;
+use xmpp_edge::{NoMemory, Text};
 
 /// The end of a page, as the server tells it (XEP-0313 section 4.3, XEP-0059).
 #[derive(Drop)]
@@ -37,6 +37,17 @@ pub enum FinFault {
     NoAdvance,
     /// Memory ran out.
     NoMemory,
+}
+
+impl From<NoMemory> for FinFault {
+    ghost use Rattle.std.specs.Prelude.{◌≡◌};
+    ghost use Rattle.xmpp_log.specs.declared.fin.FinFault.{FinFault};
+
+    ghost from_gives = { λ _ fault. fault ≡ FinFault.NoMemory };
+
+    fn from(_error: NoMemory) -> FinFault {
+        FinFault::NoMemory
+    }
 }
 
 impl fmt::Display for FinFault {

@@ -1,10 +1,17 @@
 //! A device's log: what it took of its account's archive, page by page (XEP-0313).
 #![tactic(auto)]
 
+mod closing;
+mod device_log;
+mod faults;
 mod fin;
+mod index;
 mod log_entry;
+mod open_page;
 mod tile;
 
+pub use device_log::Log;
+pub use faults::{BeginFault, ResultFault};
 pub use fin::{Fin, FinFault, PageOutcome};
 pub use log_entry::{LogEntries, LogEntry};
 pub use tile::{Tile, Tiles};

@@ -4,9 +4,11 @@ pub use Rattle.xmpp_archive.specs.Ids
 pub use Rattle.xmpp_archive.specs.Pages
 pub use Rattle.xmpp_log.specs.LogPages
 pub mod Direct
+pub mod Gives
 pub mod Grammar
 pub mod History
 pub mod Lawful
+pub mod Names
 pub mod Reading
 pub mod ReportText
 pub mod Reports

@@ -1,0 +1,94 @@
+-- Pages that are tiled stay so with a page behind them.
+use Rattle.std.proofs.Common.{◌≡◌, ◌≢◌, ℕ, ◌<◌, Bool, true, false, cond, ◌&&◌, not, List, [], ◌∷◌, ◌++◌, Option, Some, None, String, length, map, get_or, IfSome, arith, refl, sym, ap, subst, ◌∙◌, append-nil, append_assoc}
+use Rattle.std.specs.BTreeSet.{BTreeSet}
+use Rattle.std.specs.List.{AllPairs, list_any, flat_map}
+use Rattle.std.specs.Str.{bytes_eq}
+use Rattle.std.proofs.lemmas.Bool.{false≢true}
+use Rattle.std.proofs.lemmas.Grind.{flat_map-append}
+use Rattle.std.proofs.lemmas.List.{map-append}
+use Rattle.std.proofs.lemmas.List.Folds.{list_any_at}
+use Rattle.std.proofs.lemmas.List.Quantifiers.{all_pairs_push}
+use Rattle.std.proofs.lemmas.Slice.Eq.{bytes_eq-Decides}
+use Rattle.xmpp_log.specs.IdSets.{IsIndexOf}
+use Rattle.xmpp_log.specs.LogPages.{LogPage, FollowsOn, IsTiled, ids_of, last_id, log_of, tile_of}
+use Rattle.xmpp_log.specs.Tilings.{IsTiling, IsSound}
+use Rattle.xmpp_log.specs.Views.{OpenPage, first_repeat, page_for}
+use Rattle.xmpp_log.specs.declared.log_entry.LogEntry.{LogEntry}
+use Rattle.xmpp_log.specs.declared.tile.Tile.{Tile}
+
+-- a page that was asked for behind all others follows on
+FollowsOn-push : (before : List LogEntry) (pages : List LogPage) (page : LogPage) → FollowsOn before pages → page.after ≡ last_id (before ++ log_of pages) → (page.complete ≡ false → 0 < length page.entries) → FollowsOn before (pages ++ page ∷ [])
+FollowsOn-push before [] page f e c = (e ∙ ap last_id (append-nil before), c, tt)
+FollowsOn-push before (p ∷ ps) page f e c =
+    (f.0, f.1, FollowsOn-push (before ++ p.entries) ps page f.2 (e ∙ ap last_id (sym (append_assoc before p.entries (log_of ps)))) c)
+
+-- an id that is not among others differs from each of them
+differs : (ids : List (List ℕ)) (id : List ℕ) → list_any (λ other. bytes_eq id other) ids ≡ false → (k : ℕ) (d : List ℕ) → k < length ids → get_or ids k d ≢ id
+differs ids id none k d below same =
+    false≢true (sym none ∙ list_any_at (λ other. bytes_eq id other) ids k d below ((bytes_eq-Decides id (get_or ids k d)).1 (sym same)))
+
+first_at : (b : Bool) (id : List ℕ) (rest : Option (List ℕ)) → cond b (Some id) rest ≡ None → (b ≡ false) × (rest ≡ None)
+first_at true id rest e = absurd cc
+first_at false id rest e = (refl, e)
+
+-- where none repeats, the first id is not known, and none of the others repeats behind it
+first_id : (known : List (List ℕ)) (id : List ℕ) (ids : List (List ℕ)) → first_repeat known (id ∷ ids) ≡ None → (list_any (λ other. bytes_eq id other) known ≡ false) × (first_repeat (known ++ id ∷ []) ids ≡ None)
+first_id known id ids none = first_at (list_any (λ other. bytes_eq id other) known) id (first_repeat (known ++ id ∷ []) ids) none
+
+-- ids in which none repeats are distinct
+distinct-append : (known ids : List (List ℕ)) → AllPairs (λ a b. a ≢ b) known → first_repeat known ids ≡ None → AllPairs (λ a b. a ≢ b) (known ++ ids)
+distinct-append known [] h none = rw append-nil h
+distinct-append known (id ∷ ids) h none =
+    let one = first_id known id ids none in
+    let more = all_pairs_push (λ (a b : List ℕ). a ≢ b) known id h (differs known id one.0) in
+    rw (← append_assoc known (id ∷ []) ids) (distinct-append (known ++ id ∷ []) ids more one.1)
+
+log_of-push : (pages : List LogPage) (page : LogPage) → log_of (pages ++ page ∷ []) ≡ log_of pages ++ page.entries
+log_of-push pages page = flat_map-append (λ (p : LogPage). p.entries) pages (page ∷ []) ∙ ap (λ es. log_of pages ++ es) (append-nil page.entries)
+
+-- no entry, of no page
+pub IsTiling-nil : IsTiling [] []
+IsTiling-nil = record { pages = []; tiled = record { follows = tt; distinct = λ i j d below above. absurd (omega arith) }; joined = refl; kept = refl }
+
+-- one more page
+pub IsTiling-push : (entries : List LogEntry) (tiles : List Tile) (page : LogPage) → IsTiling entries tiles → page.after ≡ last_id entries → (page.complete ≡ false → 0 < length page.entries) → first_repeat (ids_of entries) (ids_of page.entries) ≡ None → IsTiling (entries ++ page.entries) (tiles ++ tile_of page ∷ [])
+IsTiling-push entries tiles page h behind advances none =
+    let distinct = distinct-append (ids_of (log_of h.pages)) (ids_of page.entries) h.tiled.distinct (rw h.joined none) in
+    record {
+      pages = h.pages ++ page ∷ [];
+      tiled = record {
+        follows = FollowsOn-push [] h.pages page h.tiled.follows (behind ∙ ap last_id (sym h.joined)) advances;
+        distinct = rw (log_of-push h.pages page, map-append (λ (e : LogEntry). e.id) (log_of h.pages) page.entries) distinct;
+      };
+      joined = log_of-push h.pages page ∙ ap (λ es. es ++ page.entries) h.joined;
+      kept = map-append tile_of h.pages (page ∷ []) ∙ ap (λ ts. ts ++ tile_of page ∷ []) h.kept;
+    }
+
+named_at : (b : Bool) (p page : OpenPage) → Some page ≡ cond b (Some p) None → p ≡ page
+named_at true p page e = cc
+named_at false p page e = absurd cc
+
+-- what is so of the open page is so of the page with a query id
+page_for-if : (queryid : List ℕ) (o : Option OpenPage) (page : OpenPage) (P : OpenPage → Type 0) → Some page ≡ page_for queryid o → IfSome o P → P page
+page_for-if queryid None page P e h = absurd cc
+page_for-if queryid (Some p) page P e h = subst P (named_at (bytes_eq p.queryid queryid) p page e) h
+
+-- a log that took over its open page
+pub IsSound-joined : {A : Type 0} (ids new_ids : BTreeSet (String A)) (entries new_entries : List LogEntry) (tiles new_tiles : List Tile) (o left : Option OpenPage) (queryid : List ℕ) (page : OpenPage) (complete : Bool) (total : ℕ)
+    → IsSound ids entries tiles o
+    → Some page ≡ page_for queryid o
+    → left ≡ None
+    → IsIndexOf new_ids (ids_of entries ++ ids_of page.results)
+    → first_repeat (ids_of entries) (ids_of page.results) ≡ None
+    → (complete ≡ false → 0 < length page.results)
+    → new_entries ≡ entries ++ page.results
+    → new_tiles ≡ tiles ++ record { after = page.after; count = length page.results; complete = complete; total = total } ∷ []
+    → IsSound new_ids new_entries new_tiles left
+IsSound-joined ids new_ids entries new_entries tiles new_tiles o left queryid page complete total sound named none indexed fresh advances e f =
+    let taken : LogPage = record { after = page.after; entries = page.results; complete = complete; total = total } in
+    let behind = page_for-if queryid o page (λ p. p.after ≡ last_id entries) named sound.behind in
+    rw (e, f, none) (record {
+      indexed = rw (map-append (λ (e : LogEntry). e.id) entries page.results) indexed;
+      tiling = IsTiling-push entries tiles taken sound.tiling behind advances fresh;
+      behind = tt;
+    })

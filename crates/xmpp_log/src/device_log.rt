@@ -1,0 +1,265 @@
+//! What a device keeps of its account's archive.
+ghost use Rattle.std.specs.Prelude.{◌≡◌, ℕ, ◌≤◌, ◌⊎◌, List, [], ◌∷◌, ◌++◌, Ok, Err, Some, None, IsSome, IsErrOf, IfErr, OnOk, OnErr, IsSomeAnd, MatchOption, length, ◌↔◌};
+ghost use Rattle.std.specs.Option.{option_copied, option_map};
+ghost use Rattle.xmpp_log.specs.LogPages.{last_id};
+ghost use Rattle.xmpp_log.specs.Tilings.{IsTiling};
+ghost use Rattle.xmpp_log.specs.Views.{after_fin, after_refusal, fin_answer, page_for, with_begun, with_result};
+
+use crate::closing::{judge, make_room, take_over};
+use crate::faults::{BeginFault, ResultFault};
+use crate::fin::{Fin, FinFault, PageOutcome};
+use crate::log_entry::{LogEntries, LogEntry};
+use crate::open_page::{Page, copied, last_id, take_page};
+use crate::tile::{Tile, Tiles};
+use std::alloc::Global;
+use std::collections::BTreeSet;
+use std::marker::Model;
+use xmpp_edge::{ListOf, Text};
+
+/// A device's log: the entries that it took of its account's archive page by page, in order, what is kept of each
+/// page, and the page that is under way (XEP-0313). An id is looked up in an ordered set, so that no step costs
+/// more as the log grows.
+#[derive(Drop)]
+pub struct Log {
+    entries: LogEntries,
+    tiles: Tiles,
+    page: Option<Page>,
+    ids: BTreeSet<String>,
+}
+
+impl Model for Log {
+    ghost use Rattle.xmpp_log.specs.Views.{LogView};
+    ghost use Rattle.xmpp_log.specs.Tilings.{IsSound};
+
+    ghost Value = { LogView };
+
+    ghost view = { λ l. record { entries = l.entries.items; tiles = l.tiles.items; page = l.page } };
+
+    ghost invariant = { λ l. IsSound l.ids l.entries.items l.tiles.items l.page };
+}
+
+impl Log {
+    /// A log with no entry, and no page under way. It takes no memory.
+    pub fn new(alloc: Global) -> Log
+        ensures { result ≡ record { entries = []; tiles = []; page = None } }
+    {
+        Log {
+            entries: ListOf::new(alloc),
+            tiles: ListOf::new(alloc),
+            page: None,
+            ids: BTreeSet::new(alloc),
+        }
+    }
+
+    /// Begins a page of at most `max` results behind the last entry, under its query's id. `Underway` comes where
+    /// a page is open already; an error leaves the log as it was.
+    pub fn begin(&mut self, alloc: Global, queryid: Text, max: u32) -> Result<(), BeginFault>
+        requires { (1 ≤ max) × (max ≤ 100) }
+        ensures ok { OnOk result (self.new ≡ with_begun self.old queryid max) }
+        ensures underway { IsErrOf result BeginFault.Underway ↔ IsSome self.old.page }
+        ensures err { OnErr result (self.new ≡ self.old) }
+    {
+        if self.page.is_some() {
+            return Err(BeginFault::Underway);
+        }
+        let after = copied(alloc, last_id(self.entries.as_slice()))?;
+        self.page = Some(Page {
+            queryid,
+            max,
+            after,
+            results: ListOf::new(alloc),
+        });
+        Ok(())
+    }
+
+    /// Adds a result to the page of a query. `Stranger` comes where no open page has this query id, and `Overrun`
+    /// where the page has as many results as were asked for; an error drops the entry and leaves the log as it
+    /// was.
+    pub fn result(&mut self, queryid: &str, entry: LogEntry) -> Result<(), ResultFault>
+        ensures stranger { IsErrOf result ResultFault.Stranger ↔ (page_for queryid.now self.old.page ≡ None) }
+        ensures overrun { IsErrOf result ResultFault.Overrun ↔ IsSomeAnd (page_for queryid.now self.old.page) (λ page. page.max ≤ length page.results) }
+        ensures ok { OnOk result (self.new ≡ with_result self.old entry) }
+        ensures err { OnErr result (self.new ≡ self.old) }
+    {
+        match &mut self.page {
+            Some(page) => page.push(queryid, entry),
+            None => Err(ResultFault::Stranger),
+        }
+    }
+
+    /// Ends the page of a query. `Ok` moves its results to the end of the entries. `Stranger` comes where no open
+    /// page has this query id, and leaves the log as it was, as `NoMemory` does. Each other error ends the page
+    /// and drops its results: `Mismatch` where the last result told is not the last one that came, `Repeats` where
+    /// an id stands twice in the page or is in the log, and `NoAdvance` where an empty page is not the last one.
+    pub fn fin(&mut self, alloc: Global, queryid: &str, fin: &Fin) -> Result<PageOutcome, FinFault>
+        ensures exact { (result ≡ Err FinFault.NoMemory) ⊎ (result ≡ fin_answer self.old queryid.now fin.now) }
+        ensures ok { OnOk result (self.new ≡ after_fin self.old fin.now) }
+        ensures refused { IfErr result (λ fault. self.new ≡ after_refusal fault self.old) }
+    {
+        let Some(page) = take_page(&mut self.page, queryid) else {
+            return Err(FinFault::Stranger);
+        };
+        if make_room(
+            &mut self.entries,
+            &mut self.tiles,
+            page.results.as_slice().len(),
+        )
+        .is_err()
+        {
+            self.page = Some(page);
+            return Err(FinFault::NoMemory);
+        }
+        match judge(&mut self.ids, alloc, &page, fin) {
+            Ok(outcome) => {
+                take_over(&mut self.entries, &mut self.tiles, page, fin);
+                Ok(outcome)
+            }
+            Err(FinFault::NoMemory) => {
+                self.page = Some(page);
+                Err(FinFault::NoMemory)
+            }
+            Err(fault) => Err(fault),
+        }
+    }
+
+    /// The entries that were taken over, in order.
+    pub fn entries(&self) -> &[LogEntry]
+        ensures { result.now ≡ self.now.entries }
+    {
+        self.entries.as_slice()
+    }
+
+    /// What is kept of the pages that were taken over, in order. The entries and the tiles are those of pages that
+    /// follow on one another, in which no id stands twice.
+    pub fn tiles(&self) -> &[Tile]
+        ensures value { result.now ≡ self.now.tiles }
+        ensures tiling { IsTiling self.now.entries self.now.tiles }
+    {
+        self.tiles.as_slice()
+    }
+
+    /// The open page's query id. It is `None` exactly where no page is open.
+    pub fn underway(&self) -> Option<&str>
+        ensures { option_copied result ≡ option_map (λ page. page.queryid) self.now.page }
+    {
+        match &self.page {
+            Some(page) => Some(page.queryid.as_str()),
+            None => None,
+        }
+    }
+
+    /// How many results the open page has, or 0. It takes no memory.
+    pub fn got(&self) -> u64
+        ensures { MatchOption self.now.page (result ≡ 0) (λ page. result ≡ length page.results) }
+    {
+        match &self.page {
+            Some(page) => page.results.as_slice().len() as u64,
+            None => 0,
+        }
+    }
+
+    /// The entries and the tiles, moved out. An open page's results are dropped.
+    pub fn into_parts(self) -> (LogEntries, Tiles)
+        ensures entries { result.0.items ≡ self.entries }
+        ensures tiles { result.1.items ≡ self.tiles }
+    {
+        let Log { entries, tiles, .. } = self;
+        (entries, tiles)
+    }
+}
+
+#[cfg(test)]
+mod tests {
+    use super::*;
+    use std::test::Fail;
+    use xmpp_archive::Entry;
+
+    fn entry(alloc: Global, id: &str) -> Result<LogEntry, Fail> {
+        Ok(LogEntry {
+            id: Text::from_str(alloc, id)?,
+            entry: Entry {
+                number: 1,
+                stamp: 0,
+                from: Text::new(alloc),
+                to: Text::new(alloc),
+                normal: false,
+                id: Text::new(alloc),
+                origin: Text::new(alloc),
+                bodies: ListOf::new(alloc),
+            },
+        })
+    }
+
+    /// Runs a page with results of these ids, and names how it ended.
+    fn ending(
+        alloc: Global,
+        ids: &[&str],
+        complete: bool,
+        last: Option<Text>,
+    ) -> Result<&'static str, Fail> {
+        let mut log = Log::new(alloc);
+        log.begin(alloc, Text::from_str(alloc, "q")?, 2)?;
+        for id in ids {
+            log.result("q", entry(alloc, id)?)?;
+        }
+        let fin = Fin {
+            complete,
+            first: None,
+            first_index: 0,
+            last,
+            count: 2,
+        };
+        Ok(named(log.fin(alloc, "q", &fin)))
+    }
+
+    fn named(ending: Result<PageOutcome, FinFault>) -> &'static str {
+        match ending {
+            Ok(PageOutcome::More) => "more",
+            Ok(PageOutcome::Complete) => "complete",
+            Err(FinFault::Stranger) => "stranger",
+            Err(FinFault::Mismatch { .. }) => "mismatch",
+            Err(FinFault::Repeats(_)) => "repeats",
+            Err(FinFault::NoAdvance) => "no advance",
+            Err(FinFault::NoMemory) => "out of memory",
+        }
+    }
+
+    #[test]
+    fn ends_pages(rt: HostRuntime) -> Result<(), Fail> {
+        let alloc = rt.alloc();
+        let a = Text::from_str(alloc, "a")?;
+        assert_eq!(rt; ending(alloc, &["b", "a"], false, Some(a))?, "more");
+        assert_eq!(rt; ending(alloc, &["a"], true, None)?, "mismatch");
+        assert_eq!(rt; ending(alloc, &[], false, None)?, "no advance");
+        Ok(())
+    }
+
+    #[test]
+    fn refuses_repeats(rt: HostRuntime) -> Result<(), Fail> {
+        let alloc = rt.alloc();
+        let a = Text::from_str(alloc, "a")?;
+        assert_eq!(rt; ending(alloc, &["a", "a"], true, Some(a))?, "repeats");
+        Ok(())
+    }
+
+    #[test]
+    fn refuses_calls(rt: HostRuntime) -> Result<(), Fail> {
+        let alloc = rt.alloc();
+        let mut log = Log::new(alloc);
+        assert!(rt; log.result("q", entry(alloc, "a")?) == Err(ResultFault::Stranger));
+        log.begin(alloc, Text::from_str(alloc, "q")?, 1)?;
+        assert!(rt; log.begin(alloc, Text::new(alloc), 1) == Err(BeginFault::Underway));
+        log.result("q", entry(alloc, "a")?)?;
+        assert!(rt; log.result("q", entry(alloc, "b")?) == Err(ResultFault::Overrun));
+        assert!(rt; log.underway() == Some("q") && log.got() == 1);
+        Ok(())
+    }
+
+    #[test]
+    fn gives_its_parts(rt: HostRuntime) {
+        let log = Log::new(rt.alloc());
+        assert!(rt; log.entries().is_empty() && log.tiles().is_empty());
+        let (entries, tiles) = log.into_parts();
+        assert!(rt; entries.as_slice().is_empty() && tiles.as_slice().is_empty());
+    }
+}
