@@ -13,14 +13,15 @@ use Rattle.xmpp_replay.proofs.LawLists.{all_append, all_filter, all_if, all_map,
 use Rattle.xmpp_replay.proofs.StandingSteps.{AreStanding, Stands, all_along, device_found, device_kept, home_kept}
 use Rattle.xmpp_replay.specs.Direct.{Take, accounts_of, along, archive_of, concerns, device_line, devices_of, entry_of, home_of, is_said_by, numbered_from, said_at, sent_by, take_at, take_line, takes_of}
 use Rattle.xmpp_replay.specs.Grammar.{is_among}
-use Rattle.xmpp_replay.specs.Lawful.{AreNumberedBehind, AreSubmissions, EachPair, IsOfSubmission, Message, Precedes, device_named, is_taken, message_at, messages_of, submission, take_named}
+use Rattle.xmpp_replay.specs.Lawful.{AreNumberedBehind, AreOutcomes, AreSubmissions, EachPair, IsOfSubmission, IsOutcome, Precedes, device_named, is_taken, submission, take_named}
 use Rattle.xmpp_replay.specs.Schedules.{steps_of}
+use Rattle.xmpp_replay.specs.declared.report.RefusedLine.{RefusedLine}
 use Rattle.xmpp_replay.specs.declared.report.SaidLine.{SaidLine}
 use Rattle.xmpp_replay.specs.declared.report.SaidMark.TheVariants.{Acknowledged}
 use Rattle.xmpp_replay.specs.declared.report.TakeLine.{TakeLine}
 use Rattle.xmpp_replay.specs.declared.schedule.Line.{Line}
 use Rattle.xmpp_replay.specs.declared.schedule.Step.{Step}
-use Rattle.xmpp_replay.specs.declared.schedule.Step.TheVariants.{Say}
+use Rattle.xmpp_replay.specs.declared.schedule.Step.TheVariants.{Say, Catchup}
 
 -- a device has sent one more message, or no more
 sent_one : (device name to text : List ℕ) (before : List Step) → bytes_eq device name ≡ true →
@@ -168,25 +169,28 @@ numbered_from_none device before (step ∷ steps) none =
 pub are_submissions : (device : List ℕ) (all : List Step) → AreSubmissions (along (said_at device) [] all)
 are_submissions device all = numbered_from_none device [] all refl
 
--- they are the messages of the schedule, and all are acknowledged
-abbrev as_message : SaidLine → Message
-as_message said = record { to = said.to; text = said.text }
-
-message_is : (device : List ℕ) (before : List Step) (number : ℕ) (step : Step) → map as_message (said_at device before step) ≡ message_at device [] number step
-message_is device before number (Say name to text) =
+-- they are what became of the lines of the schedule
+outcome_is : (device : List ℕ) (before : List Step) (number : ℕ) (step : Step) (Behind : List SaidLine → List RefusedLine → Type 0) (later : List SaidLine) → Behind later [] →
+    IsOutcome device step number Behind (said_at device before step ++ later) []
+outcome_is device before number (Say name to text) Behind later known =
     elim (cases_Bool (bytes_eq device name)) [
-      | inl same ↦ rw same
-      | inr other ↦ rw other
+      | inl same ↦ rw same (inl (refl, refl, known))
+      | inr other ↦ rw other known
     ]
-message_is device before number step = refl
+outcome_is device before number (Catchup name most) Behind later known =
+    elim (cases_Bool (bytes_eq device name)) [
+      | inl same ↦ rw same (inl known)
+      | inr other ↦ rw other known
+    ]
+outcome_is device before number step Behind later known = known
 
-pub messages_are : (device : List ℕ) (before : List Step) (lines : List Line) → map as_message (along (said_at device) before (steps_of lines)) ≡ messages_of lines device []
-messages_are device before [] = refl
-messages_are device before (line ∷ lines) =
-    map-append as_message (said_at device before line.step) (along (said_at device) (before ++ line.step ∷ []) (steps_of lines))
-    ∙ ap (λ messages. messages ++ map as_message (along (said_at device) (before ++ line.step ∷ []) (steps_of lines))) (message_is device before line.number line.step)
-    ∙ ap (λ messages. message_at device [] line.number line.step ++ messages) (messages_are device (before ++ line.step ∷ []) lines)
+pub are_outcomes : (device : List ℕ) (before : List Step) (lines : List Line) → AreOutcomes device lines (along (said_at device) before (steps_of lines)) []
+are_outcomes device before [] = (refl, refl)
+are_outcomes device before (line ∷ lines) =
+    outcome_is device before line.number line.step (AreOutcomes device lines) (along (said_at device) (before ++ line.step ∷ []) (steps_of lines))
+    (are_outcomes device (before ++ line.step ∷ []) lines)
 
+-- all are acknowledged
 pub acknowledged : (device : List ℕ) (before steps : List Step) → AllByRecursion (λ said. said.state ≡ Acknowledged) (along (said_at device) before steps)
 acknowledged device before [] = tt
 acknowledged device before (Say name to text ∷ steps) =

@@ -11,12 +11,12 @@ use Rattle.xmpp_replay.proofs.LawArchives.{archive_few, archive_numbered, ids_ap
 use Rattle.xmpp_replay.proofs.LawHistories.{ArePaged, paged_at}
 use Rattle.xmpp_replay.proofs.LawLists.{all_flat_map, all_map, all_of, all_weaker, map-map, map_nothing, pairs_by_both, pairs_by_first, pairs_front, pairs_map, zeros_not_falling}
 use Rattle.xmpp_replay.proofs.LawPages.{tiles_are}
-use Rattle.xmpp_replay.proofs.LawTakes.{acknowledged, are_submissions, first_epoch, messages_are, named_in, stamps_known, taken_from, takes_back, takes_exist, takes_rise, takes_submitted}
+use Rattle.xmpp_replay.proofs.LawTakes.{acknowledged, are_outcomes, are_submissions, first_epoch, named_in, stamps_known, taken_from, takes_back, takes_exist, takes_rise, takes_submitted}
 use Rattle.xmpp_replay.proofs.LawWorlds.{complete_lines, ends_with, is_fresh}
 use Rattle.xmpp_replay.proofs.StandingSteps.{AreStanding, account_found, few_lines, homes_are, homes_exist, steps_stand}
 use Rattle.xmpp_replay.specs.Direct.{account_line, accounts_of, along, archive_of, as_logged, device_line, devices_of, direct_report, entry_line, home_of, logged_line, page_line, pages_of, said_at, take_line, takes_of}
 use Rattle.xmpp_replay.specs.Grammar.{IsSchedule, is_among, nothing_declared}
-use Rattle.xmpp_replay.specs.Lawful.{AgreeOnStamp, ArePages, AreRefused, AreSubmissions, EachPair, Home, IsAcknowledgedFirst, IsAcknowledgedRight, IsLawful, IsLogged, IsOfSchedule, IsOnceInOrder, IsPaged, IsPrefixOfAccount, IsSettledRight, IsTakenFirst, IsTakenRight, IsUndisturbed, Precedes, account_named, at_any_time, is_account, is_catchup_of, is_taken, logged_as, messages_of}
+use Rattle.xmpp_replay.specs.Lawful.{AgreeOnStamp, ArePages, AreOutcomes, AreSubmissions, EachPair, Home, IsAcknowledgedFirst, IsAcknowledgedRight, IsLawful, IsLogged, IsOfSchedule, IsOnceInOrder, IsPaged, IsPrefixOfAccount, IsSettledRight, IsTakenFirst, IsTakenRight, IsUndisturbed, Precedes, account_named, at_any_time, is_account, is_catchup_of, is_taken, logged_as}
 use Rattle.xmpp_replay.specs.Reports.{AccountView, DeviceView}
 use Rattle.xmpp_replay.specs.Schedules.{ScheduleView, steps_of}
 use Rattle.xmpp_replay.specs.declared.report.EntryLine.{EntryLine}
@@ -93,8 +93,7 @@ taken_right s known =
       exist = takes_exist all standing;
       numbered = each_device (λ d. AreSubmissions d.said) all (λ name. are_submissions name all);
       epochs = each_device (λ d. AllByRecursion (λ said. (1 ≤ said.epoch) × (said.epoch ≤ d.epoch)) d.said) all (λ name. first_epoch name [] all);
-      said = each_device (λ d. map (λ said. record { to = said.to; text = said.text }) d.said ≡ messages_of s.lines d.name (map (λ r. r.line) d.refused)) all (λ name. messages_are name [] s.lines);
-      refused = each_device (AreRefused s.lines) all (λ name. record { asked = tt; rise = tt });
+      said = each_device (λ d. AreOutcomes d.name s.lines d.said d.refused) all (λ name. are_outcomes name [] s.lines);
     }
 
 -- Law 2.

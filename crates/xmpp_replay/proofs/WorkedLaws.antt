@@ -86,7 +86,19 @@ taken_twice law = elim (law.in_order.rise.0.0.0) [
 ]
 
 never_said : IsLawful schedule (reported [] 0 [] [] [] (page 0 ∷ []) []) → ⊥
-never_said law = absurd (cc law.taken.said.0)
+never_said law = elim law.taken.said.0 [
+  | inl said ↦ said
+  | inr refused ↦ refused
+]
+
+refused_twice : IsLawful schedule (reported [] 0 [] [] (record { line = 4; why = NotBound } ∷ record { line = 4; why = NotBound } ∷ []) (page 0 ∷ []) []) → ⊥
+refused_twice law = elim law.taken.said.0 [
+  | inl said ↦ said
+  | inr refused ↦ elim refused.1 [
+    | inl rest ↦ cc rest.1
+    | inr again ↦ omega (arith, again.0)
+  ]
+]
 
 refused_in_a_direct_run : IsLawful schedule (reported [] 0 [] [] (record { line = 4; why = NotBound } ∷ []) (page 0 ∷ []) []) → ⊥
 refused_in_a_direct_run law = absurd (cc (law.acknowledged.direct refl).0.nothing_refused)

@@ -1,6 +1,7 @@
 -- The five laws that a report keeps, whatever came between the devices and the server. They speak of takes,
 -- submissions, archives, logs and pages, and of no connection and no run.
-use Rattle.std.specs.Prelude.{◌≡◌, ◌≢◌, ℕ, ◌+◌, ◌<◌, ◌≤◌, ◌==◌, Bool, false, ◌&&◌, ◌⊎◌, not, List, [], ◌∷◌, ◌++◌, Option, Some, None, IsTrue, IfSome, is_some, length, map, filter, take, drop, count_by, slice_get, if◌then◌else◌}
+use Rattle.std.specs.Prelude.{◌≡◌, ◌≢◌, ℕ, ◌+◌, ◌<◌, ◌≤◌, ◌==◌, Bool, false, ◌&&◌, ◌⊎◌, List, [], ◌∷◌, ◌++◌, Option, Some, None, IsTrue, IfSome, is_some, length, map, filter, take, drop, count_by, slice_get, if◌then◌else◌}
+use Rattle.std.specs.Bool.{MatchBool}
 use Rattle.std.specs.List.{flat_map, list_any, AllByRecursion}
 use Rattle.std.specs.List.Sorted.{IsNonDecreasing}
 use Rattle.std.specs.Str.{bytes_eq}
@@ -12,6 +13,7 @@ use Rattle.xmpp_replay.specs.Schedules.{ScheduleView, steps_of}
 use Rattle.xmpp_replay.specs.declared.report.EntryLine.{EntryLine}
 use Rattle.xmpp_replay.specs.declared.report.LoggedLine.{LoggedLine}
 use Rattle.xmpp_replay.specs.declared.report.PageLine.{PageLine}
+use Rattle.xmpp_replay.specs.declared.report.RefusedLine.{RefusedLine}
 use Rattle.xmpp_replay.specs.declared.report.SaidLine.{SaidLine}
 use Rattle.xmpp_replay.specs.declared.report.SaidMark.TheVariants.{Acknowledged, Waiting}
 use Rattle.xmpp_replay.specs.declared.report.TakeLine.{TakeLine}
@@ -37,29 +39,6 @@ home_at _ = []
 -- the devices with their accounts, in declared order
 abbrev pub homes_of : List Step → List Home
 homes_of steps = flat_map home_at steps
-
--- a message: the account that it is for, and its text
-pub record Message : Type 0 where
-  pub to : List ℕ
-  pub text : List ℕ
-
--- what a line asks the device to send, but for refused lines
-abbrev pub message_at : List ℕ → List ℕ → ℕ → Step → List Message
-message_at device refused number (Say name to text) =
-    if bytes_eq device name && not (list_any (λ other. number == other) refused)
-    then record { to = to; text = text } ∷ []
-    else []
-message_at device refused number _ = []
-
--- the messages that a schedule asks a device to send, but for those of the refused lines
-abbrev pub messages_of : List Line → List ℕ → List ℕ → List Message
-messages_of lines device refused = flat_map (λ line. message_at device refused line.number line.step) lines
-
--- the step asks this device for something that it may refuse
-abbrev pub may_refuse : List ℕ → Step → Bool
-may_refuse device (Say name to text) = bytes_eq device name
-may_refuse device (Catchup name most) = bytes_eq device name
-may_refuse device _ = false
 
 -- the step asks this device to catch up
 abbrev pub is_catchup_of : List ℕ → Step → Bool
@@ -149,10 +128,31 @@ abbrev pub AreSubmissions : List SaidLine → Type 0
 AreSubmissions [] = Unit {0}
 AreSubmissions (said ∷ rest) = (said.n ≡ 1) × AreNumberedBehind said rest
 
--- the refused lines of a device are lines that ask this device, each named once and in their order
-pub record AreRefused (lines : List Line) (device : DeviceView) : Type 0 where
-  pub asked : AllByRecursion (λ r. IsTrue (list_any (λ line. line.number == r.line && may_refuse device.name line.step) lines)) device.refused
-  pub rise : EachPair (λ a b. a.line < b.line) device.refused
+-- the first of the submissions is this message, and the others are so
+abbrev pub BeginsSaid : List ℕ → List ℕ → (List SaidLine → Type 0) → List SaidLine → Type 0
+BeginsSaid to text Others [] = ⊥
+BeginsSaid to text Others (said ∷ others) = (said.to ≡ to) × (said.text ≡ text) × Others others
+
+-- the first of the refused lines is the line with this number, and the others are so
+abbrev pub BeginsRefused : ℕ → (List RefusedLine → Type 0) → List RefusedLine → Type 0
+BeginsRefused number Others [] = ⊥
+BeginsRefused number Others (refused ∷ others) = (refused.line ≡ number) × Others others
+
+-- What became of a line, with what became of the lines behind it: a message that it asks the device to send is a
+-- submission or was refused, and a catch-up may be refused.
+abbrev pub IsOutcome : List ℕ → Step → ℕ → (List SaidLine → List RefusedLine → Type 0) → List SaidLine → List RefusedLine → Type 0
+IsOutcome device (Say name to text) number Behind said refused =
+    MatchBool (bytes_eq device name)
+    (BeginsSaid to text (λ others. Behind others refused) said ⊎ BeginsRefused number (Behind said) refused)
+    (Behind said refused)
+IsOutcome device (Catchup name most) number Behind said refused =
+    MatchBool (bytes_eq device name) (Behind said refused ⊎ BeginsRefused number (Behind said) refused) (Behind said refused)
+IsOutcome device _ number Behind said refused = Behind said refused
+
+-- the device's submissions and refused lines are, in order, what became of the lines that ask it
+abbrev pub AreOutcomes : List ℕ → List Line → List SaidLine → List RefusedLine → Type 0
+AreOutcomes device [] said refused = (said ≡ []) × (refused ≡ [])
+AreOutcomes device (line ∷ lines) said refused = IsOutcome device line.step line.number (AreOutcomes device lines) said refused
 
 -- entries of one take, in two archives or in one, have one stamp
 abbrev pub AgreeOnStamp : EntryLine → EntryLine → Type 0
@@ -172,11 +172,8 @@ pub record IsTakenRight (schedule : ScheduleView) (report : ReportView) : Type 0
   pub numbered : AllByRecursion (λ d. AreSubmissions d.said) report.devices
   -- each is of the device's present epoch or of one before it
   pub epochs : AllByRecursion (λ d. AllByRecursion (λ said. (1 ≤ said.epoch) × (said.epoch ≤ d.epoch)) d.said) report.devices
-  -- each message of the schedule is a submission or a refused line
-  pub said : AllByRecursion
-      (λ d. map (λ said. record { to = said.to; text = said.text }) d.said ≡ messages_of schedule.lines d.name (map (λ r. r.line) d.refused))
-      report.devices
-  pub refused : AllByRecursion (AreRefused schedule.lines) report.devices
+  -- each message of the schedule is one submission or one refused line
+  pub said : AllByRecursion (λ d. AreOutcomes d.name schedule.lines d.said d.refused) report.devices
 
 -- Law 2: once and in order.
 
