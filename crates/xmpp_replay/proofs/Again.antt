@@ -1,21 +1,19 @@
 -- The text of a schedule is read as that schedule.
-use Rattle.std.proofs.Common.{◌≡◌, ℕ, zero, suc, ◌+◌, ◌≤◌, ◌<◌, Bool, true, false, cond, eqb, leb, ltb, List, [], ◌∷◌, ◌++◌, length, get_or, Option, Some, None, Result, Ok, Err, refl, sym, ap, subst, ◌∙◌, inl, inr, arith, codes, append_assoc}
-use Rattle.std.specs.Prelude.{not, ◌&&◌, ◌||◌, ◌⊎◌, IsTrue, nat_lt, nat_le}
+use Rattle.std.proofs.Common.{◌≡◌, ℕ, zero, suc, ◌+◌, ◌≤◌, ◌<◌, Bool, true, false, eqb, leb, ltb, List, [], ◌∷◌, ◌++◌, length, Some, Result, Ok, refl, sym, ap, ◌∙◌, inl, inr, arith, codes, append_assoc}
+use Rattle.std.specs.Prelude.{not, ◌&&◌, ◌||◌, nat_lt, nat_le}
 use Rattle.std.specs.Fmt.{decimal}
 use Rattle.std.specs.List.{flat_map, list_all, AllByRecursion}
-use Rattle.std.specs.Str.{bytes_eq, is_utf8, IsUtf8, IsAscii, NonePass, NoCharPasses, chars}
-use Rattle.std.proofs.lemmas.Bool.{cases_Bool, and_parts, and_from, or_cases, leb-true, le-leb, eqb-false, false≢true}
+use Rattle.std.specs.Str.{bytes_eq, is_utf8, IsUtf8, IsAscii, NonePass, chars}
+use Rattle.std.proofs.lemmas.Bool.{and_parts, and_from, or_cases, leb-true, le-leb, eqb-false, false≢true}
 use Rattle.std.proofs.lemmas.Bool.Decides.{nat_tests}
 use Rattle.std.proofs.lemmas.List.Concat.{flat_map-cons}
 use Rattle.std.proofs.lemmas.Slice.Eq.{bytes_eq-Decides}
 use Rattle.std.proofs.lemmas.Str.{IsUtf8-append, IsUtf8-from_ascii, IsUtf8-from_is_utf8, is_utf8-from_IsUtf8, encodes-chars}
 use Rattle.std.proofs.lemmas.Str.Pattern.{NoCharPasses-char}
-use Rattle.xmpp_replay.specs.Grammar.{is_lower, is_digit, is_name, is_text, is_text_character, is_among, Declared, nothing_declared, declared_by, may_stand, AreLines, IsSchedule, step_text, direct_header, wire_header, schedule_text}
-use Rattle.xmpp_replay.specs.Reading.{Piece, Cut, ◌>>=◌, wants, joined, pieces_of, longer, cut_of, not_empty, front_of, next_field, last_field, rest_field, number_within, is_number, read_account, read_device, read_say, read_catchup, read_words, read_line, with_front, either, read_lines, read_header, as_schedule, read_below, reading}
+use Rattle.xmpp_replay.specs.Grammar.{is_lower, is_digit, is_name, is_text, is_text_character, is_among, Declared, nothing_declared, declared_by, may_stand, AreLines, IsSchedule, step_text, schedule_text}
+use Rattle.xmpp_replay.specs.Reading.{pieces_of, cut_of, not_empty, next_field, last_field, rest_field, is_number, read_account, read_device, read_say, read_catchup, read_words, read_line, read_lines, read_header, read_below, reading}
 use Rattle.xmpp_replay.specs.Schedules.{ScheduleView}
 use Rattle.xmpp_replay.specs.declared.schedule.Line.{Line}
-use Rattle.xmpp_replay.specs.declared.schedule.LineWhy.{LineWhy}
-use Rattle.xmpp_replay.specs.declared.schedule.LineWhy.TheVariants as why
 use Rattle.xmpp_replay.specs.declared.schedule.ScheduleFault.{ScheduleFault}
 use Rattle.xmpp_replay.specs.declared.schedule.Step.{Step}
 use Rattle.xmpp_replay.specs.declared.schedule.Step.TheVariants.{Account, Device, Say, Catchup}

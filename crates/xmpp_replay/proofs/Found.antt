@@ -1,5 +1,5 @@
 -- What is read is a schedule, and the text is its text.
-use Rattle.std.proofs.Common.{◌≡◌, ℕ, ◌+◌, ◌≤◌, Bool, true, false, cond, eqb, leb, ltb, List, [], ◌∷◌, ◌++◌, length, Option, Some, None, Result, Ok, Err, refl, sym, ap, subst, ◌∙◌, inl, inr, arith, codes, append_assoc}
+use Rattle.std.proofs.Common.{◌≡◌, ℕ, ◌+◌, ◌≤◌, Bool, true, false, cond, eqb, List, [], ◌∷◌, ◌++◌, length, Option, Some, None, Result, Ok, Err, refl, sym, ap, subst, ◌∙◌, inl, inr, codes, append_assoc}
 use Rattle.std.specs.Prelude.{not, ◌&&◌, ◌⊎◌, IsTrue, nat_lt, nat_le}
 use Rattle.std.specs.Fmt.{decimal}
 use Rattle.std.specs.List.{flat_map, list_all}
@@ -8,7 +8,7 @@ use Rattle.std.proofs.lemmas.Bool.{cases_Bool, and_parts, and_from, eqb-true, le
 use Rattle.std.proofs.lemmas.List.Concat.{flat_map-cons}
 use Rattle.std.proofs.lemmas.Slice.Eq.{bytes_eq-Decides}
 use Rattle.xmpp_replay.specs.Grammar.{is_name, is_text, is_among, Declared, nothing_declared, declared_by, may_stand, AreLines, IsSchedule, step_text, direct_header, wire_header, schedule_text}
-use Rattle.xmpp_replay.specs.Reading.{Piece, Cut, ◌>>=◌, wants, joined, pieces_of, longer, cut_of, not_empty, front_of, next_field, last_field, rest_field, number_within, read_account, read_device, read_say, read_catchup, read_words, read_line, with_front, either, read_lines, read_header, as_schedule, read_below, reading}
+use Rattle.xmpp_replay.specs.Reading.{Piece, Cut, ◌>>=◌, wants, joined, pieces_of, cut_of, not_empty, next_field, last_field, rest_field, number_within, read_account, read_device, read_say, read_catchup, read_words, read_line, with_front, either, read_lines, read_header, as_schedule, read_below, reading}
 use Rattle.xmpp_replay.specs.Schedules.{ScheduleView}
 use Rattle.xmpp_replay.specs.declared.schedule.Line.{Line}
 use Rattle.xmpp_replay.specs.declared.schedule.LineWhy.{LineWhy}

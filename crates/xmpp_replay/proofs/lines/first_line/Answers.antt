@@ -1,4 +1,3 @@
-use Rattle.std.proofs.Common.{◌≡◌, ◌∷◌, ap, arith}
 use Rattle.xmpp_replay.proofs.Words.{piece_behind, piece_all}
 use Rattle.xmpp_replay.proofs.lines.first_line.Goals as goal
 

@@ -1,4 +1,4 @@
-use Rattle.std.proofs.Common.{◌≡◌, ℕ, ◌≤◌, length}
+use Rattle.std.proofs.Common.{◌≡◌, ◌≤◌, length}
 use Rattle.xmpp_replay.specs.Grammar.{nothing_declared}
 use Rattle.xmpp_replay.specs.Reading.{pieces_of, read_lines}
 use Rattle.xmpp_replay.proofs.ReadLines.{with_lines}
