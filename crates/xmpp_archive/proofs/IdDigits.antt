@@ -1,8 +1,8 @@
 -- What is true of ids and of their digits.
-use Rattle.std.proofs.Common.{◌≡◌, ℕ, add-one, zero, suc, ◌+◌, ◌*◌, ◌/◌, ◌%◌, ◌^◌, ◌<◌, ◌≤◌, ◌≢◌, List, [], ◌∷◌, ◌++◌, length, drop, take, set, get_or, refl, sym, ap, ◌∙◌, arith, inl, inr}
+use Rattle.std.proofs.Common.{◌≡◌, ℕ, add-one, zero, suc, ◌+◌, ◌*◌, ◌/◌, ◌%◌, ◌^◌, ◌<◌, ◌≤◌, ◌≢◌, List, [], ◌∷◌, ◌++◌, length, take, get_or, refl, sym, ap, ◌∙◌, arith, inl, inr}
 use Rattle.std.proofs.lemmas.Bool.{cases_lt}
 use Rattle.std.proofs.lemmas.Bool.Decides.{nat_tests}
-use Rattle.std.proofs.lemmas.List.{append_assoc, drop-set, get_or_append_left, get_or_at, length-append, same_from_push, take_all, take_more}
+use Rattle.std.proofs.lemmas.List.{get_or_append_left, get_or_at, length-append, same_from_push, take_all, take_more}
 use Rattle.std.proofs.lemmas.Str.{IsAscii-append, IsUtf8-from_ascii}
 use Rattle.std.specs.Str.{IsAscii, IsUtf8}
 use Rattle.std.proofs.Math.Nat.{pow-le-pow_right, pow-suc}
@@ -19,7 +19,7 @@ length-hex_digits zero n = refl
 length-hex_digits (suc k) n =
     let front : length (hex_digits k (n / 16)) ≡ k = length-hex_digits k (n / 16) in
     let whole : length (hex_digits k (n / 16) ++ hex_digit (n % 16) ∷ []) ≡ length (hex_digits k (n / 16)) + 1 =
-        length-append (hex_digits k (n / 16)) (hex_digit (n % 16) ∷ []) in
+    length-append (hex_digits k (n / 16)) (hex_digit (n % 16) ∷ []) in
     omega arith
 
 -- the digits of a number and one digit more
@@ -54,26 +54,21 @@ digit_at zero i n within = absurd (omega arith)
 digit_at (suc k) i n within =
     let size : length (hex_digits k (n / 16)) ≡ k = length-hex_digits k (n / 16) in
     elim (cases_lt i k) [
-      inl front ↦
-        let rest = digit_at k i (n / 16) front in
-        let same : get_or (hex_digits (suc k) n) i 0 ≡ get_or (hex_digits k (n / 16)) i 0 =
-            get_or_append_left (hex_digits k (n / 16)) (hex_digit (n % 16) ∷ []) 0 i (omega arith) in
-        (rest.0, rest.1, same ∙ rest.2)
-    | inr last ↦
-        (n % 16, omega arith, get_or_at (hex_digits k (n / 16)) (hex_digit (n % 16)) [] 0 i (omega arith))
+      | inl front ↦
+          let rest = digit_at k i (n / 16) front in
+          let same : get_or (hex_digits (suc k) n) i 0 ≡ get_or (hex_digits k (n / 16)) i 0 =
+          get_or_append_left (hex_digits k (n / 16)) (hex_digit (n % 16) ∷ []) 0 i (omega arith) in
+          (rest.0, rest.1, same ∙ rest.2)
+      | inr last ↦
+          (n % 16, omega arith, get_or_at (hex_digits k (n / 16)) (hex_digit (n % 16)) [] 0 i (omega arith))
     ]
-
--- one digit of an id written: what is left of the number stands before what is written
-pub digit_written : (k n d : ℕ) (id : List ℕ) → k < length id → d ≡ hex_digit (n % 16) →
-    hex_digits k (n / 16) ++ drop k (set id k d) ≡ hex_digits (suc k) n ++ drop (k + 1) id
-digit_written k n d id within is = rw (drop-set id k d within, is) (sym (append_assoc (hex_digits k (n / 16)) (hex_digit (n % 16) ∷ []) (drop (k + 1) id)))
 
 -- one digit of an id read
 pub digit_read : (k n d : ℕ) (id : List ℕ) → k < length id → d < 16 → get_or id k 0 ≡ hex_digit d → take k id ≡ hex_digits k n →
     take (k + 1) id ≡ hex_digits (k + 1) (n * 16 + d)
-digit_read k n d id within low is front = 
+digit_read k n d id within low is front =
     let push : hex_digits (k + 1) (n * 16 + d) ≡ hex_digits k n ++ hex_digit d ∷ [] =
-        ap (λ m. hex_digits m (n * 16 + d)) (add-one k) ∙ hex_digits_push k n d low in
+    ap (λ m. hex_digits m (n * 16 + d)) (add-one k) ∙ hex_digits_push k n d low in
     take_more id k 0 within ∙ rw (front, is) (sym push)
 
 pub id_of_same : (m n : ℕ) → m < 2 ^ 64 → n < 2 ^ 64 → id_of m ≡ id_of n → m ≡ n

@@ -12,24 +12,22 @@ use Rattle.xmpp_archive.specs.Entries.{AreNumbered, EntryView, entry_numbered, n
 pub numbered_push : (entries : List EntryView) (e : EntryView) → AreNumbered entries → AreNumbered (entries ++ numbered (length entries + 1) e ∷ [])
 numbered_push entries e known = record { each = each }
   where
-    new : EntryView
-    new = numbered (length entries + 1) e
     each : (i : ℕ) (f : EntryView) → slice_get (entries ++ numbered (length entries + 1) e ∷ []) i ≡ Some f → f.number ≡ i + 1
     each i f is =
         let at : get_or (entries ++ numbered (length entries + 1) e ∷ []) i f ≡ f =
-            get_or_from_slice_get (entries ++ numbered (length entries + 1) e ∷ []) i f f is in
+        get_or_from_slice_get (entries ++ numbered (length entries + 1) e ∷ []) i f f is in
         elim (cases_lt i (length entries)) [
-          inl front ↦
-            known.each i f (slice_get-get_or entries i f front
-                ∙ ap Some (sym (get_or_append_left entries (numbered (length entries + 1) e ∷ []) f i front) ∙ at))
-        | inr past ↦
-            let within : i < length (entries ++ numbered (length entries + 1) e ∷ []) =
-                slice_get_within (entries ++ numbered (length entries + 1) e ∷ []) i f is in
-            let last : length entries ≡ i = omega (arith, length_push entries (numbered (length entries + 1) e)) in
-            let same : numbered (length entries + 1) e ≡ f =
-                sym (get_or_push entries (numbered (length entries + 1) e) f i last) ∙ at in
-            let number : length entries + 1 ≡ f.number = ap (λ (v : EntryView). v.number) same in
-            omega arith
+          | inl front ↦
+              known.each i f (slice_get-get_or entries i f front
+              ∙ ap Some (sym (get_or_append_left entries (numbered (length entries + 1) e ∷ []) f i front) ∙ at))
+          | inr past ↦
+              let within : i < length (entries ++ numbered (length entries + 1) e ∷ []) =
+              slice_get_within (entries ++ numbered (length entries + 1) e ∷ []) i f is in
+              let last : length entries ≡ i = omega (arith, length_push entries (numbered (length entries + 1) e)) in
+              let same : numbered (length entries + 1) e ≡ f =
+              sym (get_or_push entries (numbered (length entries + 1) e) f i last) ∙ at in
+              let number : length entries + 1 ≡ f.number = ap (λ (v : EntryView). v.number) same in
+              omega arith
         ]
 
 -- the numbers go up by one, from a first
@@ -60,14 +58,14 @@ pub find_one : (p : ℕ → Bool) (n s : ℕ) (es : List EntryView) → FollowFr
 find_one p n s [] follow low passes fails = refl
 find_one p n s (e ∷ es) follow low passes fails =
     elim (cases_eq n s) [
-      inl same ↦
-        let first : p e.number ≡ true = rw (follow.0, ← same) passes in
-        let place : n - s ≡ zero = omega arith in
-        rw (first, place)
-    | inr other ↦
-        let first : p e.number ≡ false = rw follow.0 (fails s (omega arith) (omega arith) (λ is. other (sym is))) in
-        let place : n - s ≡ suc (n - suc s) = omega arith in
-        rw (first, place) (find_one p n (suc s) es follow.1 (omega arith) passes (λ m above below. fails m (omega arith) (omega arith)))
+      | inl same ↦
+          let first : p e.number ≡ true = rw (follow.0, ← same) passes in
+          let place : n - s ≡ zero = omega arith in
+          rw (first, place)
+      | inr other ↦
+          let first : p e.number ≡ false = rw follow.0 (fails s (omega arith) (omega arith) (λ is. other (sym is))) in
+          let place : n - s ≡ suc (n - suc s) = omega arith in
+          rw (first, place) (find_one p n (suc s) es follow.1 (omega arith) passes (λ m above below. fails m (omega arith) (omega arith)))
     ]
 
 -- the entries above a number are those behind the place
@@ -75,16 +73,16 @@ pub filter_above : (n s : ℕ) (es : List EntryView) → FollowFrom s es → fil
 filter_above n s [] follow = sym (drop-nil (n + 1 - s))
 filter_above n s (e ∷ es) follow =
     elim (cases_lt n s) [
-      inl above ↦
-        let first : ltb n e.number ≡ true = rw follow.0 (grind (arith, nat_tests)) in
-        let here : n + 1 - s ≡ zero = omega arith in
-        let next : n + 1 - suc s ≡ zero = omega arith in
-        let rest : filter (λ e. ltb n e.number) es ≡ es = rw next at (filter_above n (suc s) es follow.1) in
-        rw (first, here) (ap (λ t. e ∷ t) rest)
-    | inr within ↦
-        let first : ltb n e.number ≡ false = rw follow.0 (grind (arith, nat_tests)) in
-        let here : n + 1 - s ≡ suc (n + 1 - suc s) = omega arith in
-        rw (first, here) (filter_above n (suc s) es follow.1)
+      | inl above ↦
+          let first : ltb n e.number ≡ true = rw follow.0 (grind (arith, nat_tests)) in
+          let here : n + 1 - s ≡ zero = omega arith in
+          let next : n + 1 - suc s ≡ zero = omega arith in
+          let rest : filter (λ e. ltb n e.number) es ≡ es = rw next at (filter_above n (suc s) es follow.1) in
+          rw (first, here) (ap (λ t. e ∷ t) rest)
+      | inr within ↦
+          let first : ltb n e.number ≡ false = rw follow.0 (grind (arith, nat_tests)) in
+          let here : n + 1 - s ≡ suc (n + 1 - suc s) = omega arith in
+          rw (first, here) (filter_above n (suc s) es follow.1)
     ]
 
 -- the entry with a number stands at its place

@@ -21,7 +21,7 @@ entry_of_id n es known few low high =
     find_one (λ m. bytes_eq (id_of m) (id_of n)) n 1 es (follow_numbered es known) low
     ((bytes_eq-Decides (id_of n) (id_of n)).1 refl)
     (λ m above below other. false_from_Decides (bytes_eq (id_of m) (id_of n)) (bytes_eq-Decides (id_of m) (id_of n))
-        (λ same. other (id_of_same m n (omega arith) (omega arith) same)))
+    (λ same. other (id_of_same m n (omega arith) (omega arith) same)))
 
 -- a place in a list has an item
 pub at_place : {A : Type 0} (i : ℕ) (xs : List A) → i < length xs → (x : A) × (slice_get xs i ≡ Some x)
@@ -44,9 +44,9 @@ pub candidates_unknown : (id : List ℕ) (es : List EntryView) → AreNumbered e
     candidates (After id) es ≡ None
 candidates_unknown id es known unknown =
     let none : find (λ (e : EntryView). bytes_eq (id_of e.number) id) es ≡ None =
-        find_none (λ m. bytes_eq (id_of m) id) 1 es (follow_numbered es known)
-        (λ m above below. false_from_Decides (bytes_eq (id_of m) id) (bytes_eq-Decides (id_of m) id)
-            (λ same. unknown m above (omega arith) (sym same))) in
+    find_none (λ m. bytes_eq (id_of m) id) 1 es (follow_numbered es known)
+    (λ m above below. false_from_Decides (bytes_eq (id_of m) id) (bytes_eq-Decides (id_of m) id)
+    (λ same. unknown m above (omega arith) (sym same))) in
     rw none
 
 pub page_after : (n most : ℕ) (es : List EntryView) → AreNumbered es → length es < 2 ^ 64 → 1 ≤ n → n ≤ length es →

@@ -4,6 +4,8 @@ ghost use Rattle.xmpp_archive.specs.Entries.{AreNumbered, entry_numbered, number
 
 use crate::entry::{Entries, Entry};
 use std::alloc::Global;
+use std::error::Error;
+use std::fmt;
 use std::marker::Model;
 use xmpp_edge::{ListOf, NoMemory, Text};
 
@@ -21,12 +23,13 @@ pub struct Archive {
 impl Model for Archive {
     ghost use Rattle.std.specs.Prelude.{◌≤◌, length};
     ghost use Rattle.xmpp_archive.specs.Entries.{AreNumbered, ArchiveView};
+    ghost use Rattle.xmpp_archive.specs.declared.archive.TheConstants.{MOST_ENTRIES};
 
     ghost Value = { ArchiveView };
 
     ghost view = { λ a. record { owner = a.owner; entries = a.entries.items; spare = a.entries.spare } };
 
-    ghost invariant = { λ a. AreNumbered a.entries.items × (length a.entries.items ≤ 4_294_967_295) };
+    ghost invariant = { λ a. AreNumbered a.entries.items × (length a.entries.items ≤ MOST_ENTRIES) };
 }
 
 /// Why an archive has no room for an entry.
@@ -37,6 +40,17 @@ pub enum ArchiveFault {
     /// Memory ran out.
     NoMemory,
 }
+
+impl fmt::Display for ArchiveFault {
+    fn fmt<W: fmt::Write>(&self, f: &mut fmt::Formatter<W>) -> fmt::Result {
+        f.write_str(match self {
+            ArchiveFault::Full => "the archive is full",
+            ArchiveFault::NoMemory => "out of memory",
+        })
+    }
+}
+
+impl Error for ArchiveFault {}
 
 impl From<NoMemory> for ArchiveFault {
     ghost use Rattle.std.specs.Prelude.{◌≡◌};

@@ -75,13 +75,11 @@ pub fn number_of(id: &str) -> Option<u64>
 /// A law: different numbers have different ids.
 pub fn ids_differ()
     ensures { (m n : ℕ) → m < 2 ^ 64 → n < 2 ^ 64 → id_of m ≡ id_of n → m ≡ n }
-{
-}
+{}
 
 /// A law: an id is 16 bytes of ASCII, and so a text.
 pub fn id_is_text()
     ensures text { (n : ℕ) → IsUtf8 (id_of n) }
     ensures ascii { (n : ℕ) → IsAscii (id_of n) }
     ensures bytes { (n : ℕ) → length (id_of n) ≡ 16 }
-{
-}
+{}

@@ -6,6 +6,8 @@ mod archive;
 mod entry;
 mod ids;
 mod pages;
+#[cfg(test)]
+mod tests;
 
 pub use archive::{Archive, ArchiveFault, MOST_ENTRIES};
 pub use entry::{Bodies, Body, Entries, Entry};

@@ -5,9 +5,26 @@
 mod characters;
 mod failure;
 mod list;
+mod memory_sink;
+mod memory_source;
 mod octets;
+mod reading;
+mod schedule;
+mod standard;
+mod unread;
+mod whole;
+mod writing;
 
 pub use characters::Text;
 pub use failure::{Failed, NoMemory};
 pub use list::{Copied, ListOf, Names, Numbers};
+pub use memory_sink::{MemorySink, SureSink};
+pub use memory_source::{MemorySource, SureSource};
 pub use octets::Bytes;
+pub use reading::Source;
+pub use standard::{StdSink, StdSource};
+pub use whole::{MOST, ReadAllFault, WriteFault, read_all, write_all};
+pub use writing::Sink;
+
+#[cfg(test)]
+mod tests;

@@ -1,3 +1,4 @@
 pub mod IdSets
 pub mod LastIds
 pub mod Tilings
+pub mod Worked

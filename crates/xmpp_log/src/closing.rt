@@ -14,7 +14,11 @@ use std::collections::BTreeSet;
 use xmpp_edge::NoMemory;
 
 /// Makes room for further entries and a further tile.
-pub(crate) fn make_room(entries: &mut LogEntries, tiles: &mut Tiles, count: usize) -> Result<(), NoMemory>
+pub(crate) fn make_room(
+    entries: &mut LogEntries,
+    tiles: &mut Tiles,
+    count: usize,
+) -> Result<(), NoMemory>
     ensures entries { entries.new.items ≡ entries.old.items }
     ensures tiles { tiles.new.items ≡ tiles.old.items }
     ensures room { OnOk result ((count ≤ entries.new.spare) × (1 ≤ tiles.new.spare)) }

@@ -99,7 +99,13 @@ impl Log {
         let Some(page) = take_page(&mut self.page, queryid) else {
             return Err(FinFault::Stranger);
         };
-        if make_room(&mut self.entries, &mut self.tiles, page.results.as_slice().len()).is_err() {
+        if make_room(
+            &mut self.entries,
+            &mut self.tiles,
+            page.results.as_slice().len(),
+        )
+        .is_err()
+        {
             self.page = Some(page);
             return Err(FinFault::NoMemory);
         }
@@ -159,5 +165,101 @@ impl Log {
     {
         let Log { entries, tiles, .. } = self;
         (entries, tiles)
+    }
+}
+
+#[cfg(test)]
+mod tests {
+    use super::*;
+    use std::test::Fail;
+    use xmpp_archive::Entry;
+
+    fn entry(alloc: Global, id: &str) -> Result<LogEntry, Fail> {
+        Ok(LogEntry {
+            id: Text::from_str(alloc, id)?,
+            entry: Entry {
+                number: 1,
+                stamp: 0,
+                from: Text::new(alloc),
+                to: Text::new(alloc),
+                normal: false,
+                id: Text::new(alloc),
+                origin: Text::new(alloc),
+                bodies: ListOf::new(alloc),
+            },
+        })
+    }
+
+    /// Runs a page with results of these ids, and names how it ended.
+    fn ending(
+        alloc: Global,
+        ids: &[&str],
+        complete: bool,
+        last: Option<Text>,
+    ) -> Result<&'static str, Fail> {
+        let mut log = Log::new(alloc);
+        log.begin(alloc, Text::from_str(alloc, "q")?, 2)?;
+        for id in ids {
+            log.result("q", entry(alloc, id)?)?;
+        }
+        let fin = Fin {
+            complete,
+            first: None,
+            first_index: 0,
+            last,
+            count: 2,
+        };
+        Ok(named(log.fin(alloc, "q", &fin)))
+    }
+
+    fn named(ending: Result<PageOutcome, FinFault>) -> &'static str {
+        match ending {
+            Ok(PageOutcome::More) => "more",
+            Ok(PageOutcome::Complete) => "complete",
+            Err(FinFault::Stranger) => "stranger",
+            Err(FinFault::Mismatch { .. }) => "mismatch",
+            Err(FinFault::Repeats(_)) => "repeats",
+            Err(FinFault::NoAdvance) => "no advance",
+            Err(FinFault::NoMemory) => "out of memory",
+        }
+    }
+
+    #[test]
+    fn ends_pages(rt: HostRuntime) -> Result<(), Fail> {
+        let alloc = rt.alloc();
+        let a = Text::from_str(alloc, "a")?;
+        assert_eq!(rt; ending(alloc, &["b", "a"], false, Some(a))?, "more");
+        assert_eq!(rt; ending(alloc, &["a"], true, None)?, "mismatch");
+        assert_eq!(rt; ending(alloc, &[], false, None)?, "no advance");
+        Ok(())
+    }
+
+    #[test]
+    fn refuses_repeats(rt: HostRuntime) -> Result<(), Fail> {
+        let alloc = rt.alloc();
+        let a = Text::from_str(alloc, "a")?;
+        assert_eq!(rt; ending(alloc, &["a", "a"], true, Some(a))?, "repeats");
+        Ok(())
+    }
+
+    #[test]
+    fn refuses_calls(rt: HostRuntime) -> Result<(), Fail> {
+        let alloc = rt.alloc();
+        let mut log = Log::new(alloc);
+        assert!(rt; log.result("q", entry(alloc, "a")?) == Err(ResultFault::Stranger));
+        log.begin(alloc, Text::from_str(alloc, "q")?, 1)?;
+        assert!(rt; log.begin(alloc, Text::new(alloc), 1) == Err(BeginFault::Underway));
+        log.result("q", entry(alloc, "a")?)?;
+        assert!(rt; log.result("q", entry(alloc, "b")?) == Err(ResultFault::Overrun));
+        assert!(rt; log.underway() == Some("q") && log.got() == 1);
+        Ok(())
+    }
+
+    #[test]
+    fn gives_its_parts(rt: HostRuntime) {
+        let log = Log::new(rt.alloc());
+        assert!(rt; log.entries().is_empty() && log.tiles().is_empty());
+        let (entries, tiles) = log.into_parts();
+        assert!(rt; entries.as_slice().is_empty() && tiles.as_slice().is_empty());
     }
 }

@@ -11,11 +11,11 @@ use Rattle.std.specs.Str.{bytes_eq}
 use Rattle.xmpp_log.specs.LogPages.{LogPage, log_of, tile_of}
 use Rattle.xmpp_replay.proofs.Deliveries.{once_push}
 use Rattle.xmpp_replay.proofs.Prefixes.{accounts_push, right_steps}
-use Rattle.xmpp_replay.proofs.Steps.{after_followed, may_follow, ready_after}
+use Rattle.xmpp_replay.proofs.FollowedSteps.{after_followed, may_follow, ready_after}
 use Rattle.xmpp_replay.specs.Direct.{account_line, account_name, accounts_of, device_line, devices_of, direct_report, entry_line, page_line, pages_of, take_line, takes_of}
 use Rattle.xmpp_replay.specs.Grammar.{AreLines, IsSchedule, is_among, is_name, may_stand, nothing_declared}
 use Rattle.xmpp_replay.specs.Homes.{Home, empty_home, home_at, names_of}
-use Rattle.xmpp_replay.specs.Lines.{home_line, report_of, state_line, tile_line}
+use Rattle.xmpp_replay.specs.ReportLines.{home_line, report_of, state_line, tile_line}
 use Rattle.xmpp_replay.specs.Reports.{AccountView, DeviceView, ReportView}
 use Rattle.xmpp_replay.specs.Runs.{HasFollowed, IsAfter, IsDevice, IsReady, IsUnused, MayFollow}
 use Rattle.xmpp_replay.specs.Schedules.{ScheduleView, steps_of}

@@ -4,12 +4,15 @@ pub use Rattle.xmpp_archive.specs.Ids
 pub use Rattle.xmpp_archive.specs.Pages
 pub use Rattle.xmpp_log.specs.LogPages
 pub mod Direct
+pub mod Gives
 pub mod Grammar
+pub mod History
 pub mod Homes
-pub mod Lines
+pub mod Lawful
 pub mod Messages
 pub mod Names
 pub mod Reading
+pub mod ReportLines
 pub mod ReportText
 pub mod Reports
 pub mod Runs

@@ -84,3 +84,22 @@ impl NameIndex {
         self.names.as_slice().is_empty()
     }
 }
+
+#[cfg(test)]
+mod tests {
+    use super::*;
+    use std::test::Fail;
+
+    #[test]
+    fn finds_what_was_added(rt: HostRuntime) -> Result<(), Fail> {
+        let mut index = NameIndex::new(rt.alloc());
+        index.add(rt.alloc(), "phone")?;
+        index.add(rt.alloc(), "desk")?;
+        assert_eq!(rt; index.len(), 2);
+        assert_eq!(rt; index.find("desk"), Some(1));
+        assert_eq!(rt; index.find("phone"), Some(0));
+        assert_eq!(rt; index.find("watch"), None);
+        assert!(rt; index.contains("desk"));
+        Ok(())
+    }
+}

@@ -4,7 +4,7 @@ ghost use Rattle.std.specs.Prelude.{◌≡◌, ◌≤◌, false, true, [], IfOk,
 ghost use Rattle.xmpp_replay.specs.Direct.{direct_report};
 ghost use Rattle.xmpp_replay.specs.Grammar.{IsSchedule, is_among};
 ghost use Rattle.xmpp_replay.specs.Homes.{names_of};
-ghost use Rattle.xmpp_replay.specs.Lines.{report_of};
+ghost use Rattle.xmpp_replay.specs.ReportLines.{report_of};
 ghost use Rattle.xmpp_replay.specs.Runs.{HasCaughtUp, HasDeclared, HasFollowed, HasSent, IsAfter, IsReady, MayFollow};
 ghost use Rattle.xmpp_replay.specs.Schedules.{steps_of};
 ghost use Rattle.xmpp_replay.specs.Standing.{AreRight};

@@ -2,7 +2,7 @@
 ghost use Rattle.std.specs.Prelude.{◌≡◌, map, IfOk};
 ghost use Rattle.xmpp_replay.specs.Direct.{entry_line, first_body, logged_line};
 ghost use Rattle.xmpp_replay.specs.Homes.{home_of_account};
-ghost use Rattle.xmpp_replay.specs.Lines.{home_line, state_line, tile_line};
+ghost use Rattle.xmpp_replay.specs.ReportLines.{home_line, state_line, tile_line};
 
 use crate::report::{
     AccountLine, AccountLines, DeviceLine, DeviceLines, EntryLine, EntryLines, LoggedLine,

@@ -16,10 +16,10 @@ returns-clause-entry c =
     let low : 1 ≤ c.args.number = omega (arith, c.in_ok-at.ensures) in
     let item = rw c.as_slice-entries.ensures at c.get.ensures.lookup in
     rw (← entries, entry_at c.args.number c.self.inside.entries.items c.self.invariant.0 low, ← c.in_ok-at.ensures.1)
-       (copied_item c.self.inside.entries.items c.in_ok-at.at c.get.result item)
+    (copied_item c.self.inside.entries.items c.in_ok-at.at c.get.result item)
 
 pub returns-clause-found : goal.returns-clause-found
-returns-clause-found c = 
+returns-clause-found c =
     let entries = ap (λ (v : ArchiveView). v.entries) c.self.view_is in
     let item = rw c.as_slice-entries.ensures at c.get.ensures.lookup in
     rw (← entries) (item_at c.self.inside.entries.items c.in_ok-at.at c.args.number c.get.result c.in_ok-at.ensures item)

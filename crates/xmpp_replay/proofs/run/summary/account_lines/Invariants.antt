@@ -2,7 +2,7 @@
 use Rattle.std.proofs.Common.{◌≡◌, ◌++◌, length, map}
 use Rattle.std.specs.Vec.Iter.{into_iter_items, into_iter_len}
 use Rattle.xmpp_replay.specs.Homes.{home_of_account}
-use Rattle.xmpp_replay.specs.Lines.{home_line}
+use Rattle.xmpp_replay.specs.ReportLines.{home_line}
 use Rattle.xmpp_replay.proofs.run.summary.account_lines.Given as goal
 
 abbrev pub invariant-loop-account : goal.invariant-loop-account

@@ -1,7 +1,7 @@
 -- The lines so far, and those of the devices to come.
 use Rattle.std.proofs.Common.{◌≡◌, ◌++◌, length, map}
 use Rattle.std.specs.Vec.Iter.{into_iter_items, into_iter_len}
-use Rattle.xmpp_replay.specs.Lines.{state_line}
+use Rattle.xmpp_replay.specs.ReportLines.{state_line}
 use Rattle.xmpp_replay.proofs.run.summary.device_lines.Given as goal
 
 abbrev pub invariant-loop-device : goal.invariant-loop-device

@@ -1,0 +1,11 @@
+ghost use Rattle.xmpp_replay.specs.Direct.{direct_report};
+ghost use Rattle.xmpp_replay.specs.Grammar.{IsSchedule};
+ghost use Rattle.xmpp_replay.specs.Lawful.{IsLawful};
+ghost use Rattle.xmpp_replay.specs.Schedules.{ScheduleView, steps_of};
+
+/// A law: the report of a direct run keeps the five laws. What the archives hold is what was taken; each message was
+/// taken once and in order; what was acknowledged was taken; each log is a prefix of its account's archive; and the
+/// pages of a log are tiles of it, each as fresh as its archive.
+pub fn direct_is_lawful()
+    ensures { (s : ScheduleView) → IsSchedule s → IsLawful s (direct_report (steps_of s.lines)) }
+{}
