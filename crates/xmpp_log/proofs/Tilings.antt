@@ -1,7 +1,7 @@
 -- Pages that are tiled stay so with a page behind them.
-use Rattle.std.proofs.Common.{◌≡◌, ◌≢◌, ℕ, ◌<◌, Bool, true, false, cond, ◌&&◌, not, List, [], ◌∷◌, ◌++◌, Option, Some, None, String, length, map, get_or, IfSome, arith, refl, sym, ap, subst, ◌∙◌, append-nil, append_assoc}
+use Rattle.std.proofs.Common.{◌≡◌, ◌≢◌, ℕ, ◌<◌, Bool, true, false, cond, List, [], ◌∷◌, ◌++◌, Option, Some, None, String, length, get_or, IfSome, arith, refl, sym, ap, subst, ◌∙◌, append-nil, append_assoc}
 use Rattle.std.specs.BTreeSet.{BTreeSet}
-use Rattle.std.specs.List.{AllPairs, list_any, flat_map}
+use Rattle.std.specs.List.{AllPairs, list_any}
 use Rattle.std.specs.Str.{bytes_eq}
 use Rattle.std.proofs.lemmas.Bool.{false≢true}
 use Rattle.std.proofs.lemmas.Grind.{flat_map-append}
@@ -10,7 +10,7 @@ use Rattle.std.proofs.lemmas.List.Folds.{list_any_at}
 use Rattle.std.proofs.lemmas.List.Quantifiers.{all_pairs_push}
 use Rattle.std.proofs.lemmas.Slice.Eq.{bytes_eq-Decides}
 use Rattle.xmpp_log.specs.IdSets.{IsIndexOf}
-use Rattle.xmpp_log.specs.LogPages.{LogPage, FollowsOn, IsTiled, ids_of, last_id, log_of, tile_of}
+use Rattle.xmpp_log.specs.LogPages.{LogPage, FollowsOn, ids_of, last_id, log_of, tile_of}
 use Rattle.xmpp_log.specs.Tilings.{IsTiling, IsSound}
 use Rattle.xmpp_log.specs.Views.{OpenPage, first_repeat, page_for}
 use Rattle.xmpp_log.specs.declared.log_entry.LogEntry.{LogEntry}
