@@ -1,0 +1,12 @@
+pub use Rattle.xmpp_edge.specs.Counts
+pub use Rattle.xmpp_edge.specs.Fronts
+pub use Rattle.xmpp_replay.specs.Direct
+pub use Rattle.xmpp_replay.specs.Grammar
+pub use Rattle.xmpp_replay.specs.Lawful
+pub use Rattle.xmpp_replay.specs.Reading
+pub use Rattle.xmpp_replay.specs.ReportText
+pub use Rattle.xmpp_replay.specs.Reports
+pub use Rattle.xmpp_replay.specs.Schedules
+pub mod Words
+pub mod Texts
+pub mod Table

@@ -1,0 +1,32 @@
+-- The lines that say why there is no report.
+use Rattle.std.specs.Prelude.{ℕ, List, [], ◌∷◌, ◌++◌, codes}
+use Rattle.std.specs.Fmt.{decimal}
+use Rattle.xmpp_replay.specs.declared.schedule.LineWhy.{LineWhy}
+use Rattle.xmpp_replay.specs.declared.schedule.LineWhy.TheVariants as why
+
+abbrev pub words_line : List ℕ
+words_line = codes "words" ++ 10 ∷ []
+
+abbrev pub read_fault_line : List ℕ
+read_fault_line = codes "read fault" ++ 10 ∷ []
+
+abbrev pub too_long_line : List ℕ
+too_long_line = codes "too long" ++ 10 ∷ []
+
+-- the reason's name
+abbrev pub why_name : LineWhy → List ℕ
+why_name why.Header = codes "Header"
+why_name why.NotBuilt = codes "NotBuilt"
+why_name why.Ending = codes "Ending"
+why_name why.Many = codes "Many"
+why_name why.Word = codes "Word"
+why_name why.Shape = codes "Shape"
+why_name why.Name = codes "Name"
+why_name why.Twice = codes "Twice"
+why_name why.Unknown = codes "Unknown"
+why_name why.Number = codes "Number"
+why_name why.Text = codes "Text"
+
+-- the first bad line, and its first reason
+abbrev pub bad_line : ℕ → LineWhy → List ℕ
+bad_line n reason = codes "line " ++ decimal n ++ 32 ∷ why_name reason ++ 10 ∷ []

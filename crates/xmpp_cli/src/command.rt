@@ -1,0 +1,28 @@
+ghost use Rattle.std.specs.Prelude.{◌≡◌};
+ghost use Rattle.xmpp_cli.specs.Words.{asked};
+
+/// What the program can be asked for.
+#[derive(Clone, Copy, Debug, PartialEq, Eq)]
+pub enum Command {
+    /// A text that says how the program is called.
+    Help,
+    /// The program's name and version.
+    Version,
+    /// The report of the schedule that is read.
+    Replay,
+}
+
+impl Command {
+    /// The command that the words of a command line, without the program's name, ask for. `None` comes
+    /// exactly where they are not in the table.
+    pub fn of_words(words: &[String]) -> Option<Command>
+        ensures { result ≡ asked words.now }
+    {
+        match words {
+            [word] if word.as_str() == "--help" => Some(Command::Help),
+            [word] if word.as_str() == "--version" => Some(Command::Version),
+            [word] if word.as_str() == "replay" => Some(Command::Replay),
+            _ => None,
+        }
+    }
+}

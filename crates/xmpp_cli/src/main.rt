@@ -1,0 +1,44 @@
+//! `xmpp_cli`: replays a schedule of messages and writes what came of it.
+#![tactic(auto)]
+
+mod answering;
+mod command;
+mod outcome;
+mod running;
+mod texts;
+
+use crate::running::run;
+use crate::texts::USAGE;
+use std::alloc::{AllocGlobal, Global};
+use std::process::ExitCode;
+use std::rt::Env;
+use std::{env, io};
+use xmpp_edge::{NoMemory, StdSink, StdSource};
+
+/// The words behind the program's name. There are none where one is not UTF-8.
+fn words_of<R: Env + AllocGlobal>(rt: &R) -> Result<Vec<String>, NoMemory> {
+    let mut words = Vec::new(rt.alloc());
+    if let Ok(args) = env::args(rt) {
+        for word in args.skip(1) {
+            words.push(word)?;
+        }
+    }
+    Ok(words)
+}
+
+fn main(rt: HostRuntime) -> ExitCode {
+    let Ok(words) = words_of(&rt) else {
+        return ExitCode::from(6);
+    };
+    let mut source = StdSource::new(rt.reader());
+    let mut sink = StdSink::new(io::writer(&rt));
+    let status = run(rt.alloc(), words.as_slice(), &mut source, &mut sink);
+    if status == 2 {
+        // The status alone tells it where this can't be written either.
+        let _ = eprintln!(rt; "{USAGE}");
+    }
+    ExitCode::from(status)
+}
+
+#[cfg(test)]
+mod tests;

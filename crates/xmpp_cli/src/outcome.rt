@@ -1,0 +1,32 @@
+ghost use Rattle.std.specs.Prelude.{◌≡◌};
+ghost use Rattle.xmpp_cli.specs.Table.{code_of};
+
+/// What became of a call, short of its writing.
+#[derive(Clone, Copy, Debug, PartialEq, Eq)]
+pub enum Outcome {
+    /// What the words ask for was done.
+    Done,
+    /// The words are not in the table.
+    WrongWords,
+    /// The input is not in its grammar.
+    Refused,
+    /// A read failed.
+    ReadFault,
+    /// The source gave more than `MOST` bytes.
+    TooLong,
+}
+
+impl Outcome {
+    /// The exit status.
+    pub fn code(self) -> u8
+        ensures { result ≡ code_of self }
+    {
+        match self {
+            Outcome::Done => 0,
+            Outcome::WrongWords => 2,
+            Outcome::Refused => 3,
+            Outcome::ReadFault => 4,
+            Outcome::TooLong => 11,
+        }
+    }
+}
