@@ -78,9 +78,9 @@ fn schedule_of(alloc: Global, bytes: &[u8]) -> Result<Schedule, ScheduleFault>
     Ok(Schedule { wire: false, lines })
 }
 
-/// The schedule that bytes are the text of. `BadLine` comes where they are the text of none, and names the first line
-/// that is not in the grammar, with the first reason why it isn't in the order of `LineWhy`; `NoMemory` comes where
-/// memory ran out, whatever the bytes are.
+/// The schedule that bytes are the text of. `BadLine` comes where they are the text of none: it names the first bad
+/// line, counted from 1, and its first reason, up to `Shape` in the order of `LineWhy` and then field by field from
+/// the left. `NoMemory` comes where memory ran out, whatever the bytes are.
 pub fn read_schedule(alloc: Global, bytes: &[u8]) -> Result<Schedule, ScheduleFault>
     ensures exact { (result ≡ Err WantOfMemory) ⊎ (result ≡ reading bytes.now) }
     ensures found { IfOk result (λ s. IsSchedule s × (bytes.now ≡ schedule_text s)) }
