@@ -1,15 +1,13 @@
 -- A catch-up goes on from the log's end, and each of its turns takes the next entries of the archive.
-use Rattle.std.proofs.Common.{◌≡◌, ◌≢◌, ℕ, zero, suc, add-one, ◌+◌, ◌-◌, ◌<◌, ◌≤◌, ◌^◌, min, Bool, true, false, cond, not, leb, List, [], ◌∷◌, ◌++◌, Option, Some, None, length, take, drop, get_or, map, refl, sym, ap, ◌∙◌, subst, arith, inl, inr}
-use Rattle.std.specs.Option.{option_map_or}
+use Rattle.std.proofs.Common.{◌≡◌, ℕ, zero, suc, add-one, ◌+◌, ◌-◌, ◌<◌, ◌≤◌, ◌^◌, min, Bool, true, false, cond, not, leb, List, [], ◌∷◌, ◌++◌, Some, length, take, drop, get_or, map, refl, sym, ap, ◌∙◌, arith}
 use Rattle.std.proofs.lemmas.Bool.{cond_both, leb-false}
 use Rattle.std.proofs.lemmas.List.{append-nil, drop-take, get_or-drop, length-append, length-drop, length-map, length-take, map-append, map_push, take-append-drop, take-take, take_more}
 use Rattle.std.proofs.lemmas.List.Concat.{flat_map-append}
 use Rattle.std.proofs.lemmas.Option.{get_or_from_slice_get}
-use Rattle.std.specs.List.{flat_map}
 use Rattle.xmpp_archive.proofs.PageCuts.{at_place, page_after}
 use Rattle.xmpp_archive.specs.Entries.{AreNumbered, EntryView}
 use Rattle.xmpp_archive.specs.Ids.{id_of}
-use Rattle.xmpp_archive.specs.Pages.{Page, First, After, page_behind, page_of}
+use Rattle.xmpp_archive.specs.Pages.{Page, page_behind, page_of}
 use Rattle.xmpp_log.specs.LogPages.{LogPage, last_id, log_of, tile_of}
 use Rattle.xmpp_log.specs.Views.{LogView}
 use Rattle.xmpp_log.specs.declared.log_entry.LogEntry.{LogEntry}
@@ -28,7 +26,7 @@ last_of_front k archive known within =
     let place = at_place k archive within in
     let is : get_or archive k place.0 ≡ place.0 = get_or_from_slice_get archive k place.0 place.0 place.1 in
     let cut : take (k + 1) archive ≡ take k archive ++ place.0 ∷ [] =
-        take_more archive k place.0 within ∙ ap (λ e. take k archive ++ e ∷ []) is in
+    take_more archive k place.0 within ∙ ap (λ e. take k archive ++ e ∷ []) is in
     let number : place.0.number ≡ k + 1 = known.each k place.0 place.1 in
     ap (λ es. last_id (map as_logged es)) cut
     ∙ ap last_id (map_push as_logged (take k archive) place.0)
@@ -41,7 +39,7 @@ pub page_behind_front : (k most : ℕ) (archive : List EntryView) → AreNumbere
 page_behind_front zero most archive known small within = refl
 page_behind_front (suc k) most archive known small within =
     let last : last_id (map as_logged (take (suc k) archive)) ≡ Some (id_of (suc k)) =
-        ap (λ n. last_id (map as_logged (take n archive))) (sym (add-one k)) ∙ last_of_front k archive known (omega arith) ∙ ap (λ n. Some (id_of n)) (add-one k) in
+    ap (λ n. last_id (map as_logged (take n archive))) (sym (add-one k)) ∙ last_of_front k archive known (omega arith) ∙ ap (λ n. Some (id_of n)) (add-one k) in
     ap (λ id. page_of (place_behind id) most archive) last
     ∙ page_after (suc k) most archive known small (omega arith) within
 
@@ -64,14 +62,18 @@ front_grows most archive logged front = record { within = within; same = same }
   where
     k : ℕ
     k = length logged
+
     cut : logged ++ map as_logged (take most (drop (length logged) archive)) ≡ map as_logged (take (length logged + most) archive)
     cut = ap (λ t. t ++ map as_logged (take most (drop (length logged) archive))) front.same
         ∙ sym (map-append as_logged (take (length logged) archive) (take most (drop (length logged) archive)))
         ∙ ap (map as_logged) (take_further (length logged) most archive)
+
     size : length (logged ++ map as_logged (take most (drop (length logged) archive))) ≡ length (take (length logged + most) archive)
     size = ap length cut ∙ length-map (take (length logged + most) archive) as_logged
+
     within : length (logged ++ map as_logged (take most (drop (length logged) archive))) ≤ length archive
     within = omega (arith, size, length-take (length logged + most) archive)
+
     same : logged ++ map as_logged (take most (drop (length logged) archive))
         ≡ map as_logged (take (length (logged ++ map as_logged (take most (drop (length logged) archive)))) archive)
     same = cut ∙ ap (map as_logged) (take_whole (length logged + most) archive ∙ ap (λ n. take n archive) (sym size))
@@ -106,24 +108,24 @@ pub catch_up_logged : (turns most : ℕ) (archive : List EntryView) (pages : Lis
 catch_up_logged zero most archive pages log known small is front = is
 catch_up_logged (suc turns) most archive pages log known small is front =
     let page : page_of (place_behind (last_id (log_of pages))) most archive ≡ Some (page_behind (length log.entries) most archive) =
-        ap (λ es. page_of (place_behind (last_id es)) most archive) (sym is.entries ∙ front.same)
-        ∙ page_behind_front (length log.entries) most archive known small front.within in
+    ap (λ es. page_of (place_behind (last_id es)) most archive) (sym is.entries ∙ front.same)
+    ∙ page_behind_front (length log.entries) most archive known small front.within in
     let next = turn_taken pages log (page_behind (length log.entries) most archive) is in
     rw page (cond_pair (λ p l. IsLogOf p l) (leb (length (drop (length log.entries) archive)) most) _ _ _ _
-      (λ complete. next)
-      (λ more. catch_up_logged turns most archive
-        (pages ++ as_taken_over (last_id (log_of pages)) (page_behind (length log.entries) most archive) ∷ [])
-        (with_turn log (page_behind (length log.entries) most archive))
-        known small next (front_grows most archive log.entries front)))
+    (λ complete. next)
+    (λ more. catch_up_logged turns most archive
+    (pages ++ as_taken_over (last_id (log_of pages)) (page_behind (length log.entries) most archive) ∷ [])
+    (with_turn log (page_behind (length log.entries) most archive))
+    known small next (front_grows most archive log.entries front)))
 
 pub log_after_front : (turns most : ℕ) (archive : List EntryView) (log : LogView) → IsFrontOf archive log.entries →
     IsFrontOf archive (log_after turns most archive log).entries
 log_after_front zero most archive log front = front
 log_after_front (suc turns) most archive log front =
     cond_both (leb (length (drop (length log.entries) archive)) most) _ _ (λ (l : LogView). IsFrontOf archive l.entries)
-      (λ complete. front_grows most archive log.entries front)
-      (λ more. log_after_front turns most archive (with_turn log (page_behind (length log.entries) most archive))
-        (front_grows most archive log.entries front))
+    (λ complete. front_grows most archive log.entries front)
+    (λ more. log_after_front turns most archive (with_turn log (page_behind (length log.entries) most archive))
+    (front_grows most archive log.entries front))
 
 -- how long the log is after a page that isn't complete
 pub turn_length : (most : ℕ) (archive : List EntryView) (log : LogView) → leb (length (drop (length log.entries) archive)) most ≡ false →
@@ -134,7 +136,7 @@ turn_length most archive log more =
     let got : length (take most (drop (length log.entries) archive)) ≡ min most (length (drop (length log.entries) archive)) = length-take most (drop (length log.entries) archive) in
     let mapped : length (map as_logged (take most (drop (length log.entries) archive))) ≡ length (take most (drop (length log.entries) archive)) = length-map (take most (drop (length log.entries) archive)) as_logged in
     let all : length (log.entries ++ map as_logged (take most (drop (length log.entries) archive))) ≡ length log.entries + length (map as_logged (take most (drop (length log.entries) archive))) =
-        length-append log.entries (map as_logged (take most (drop (length log.entries) archive))) in
+    length-append log.entries (map as_logged (take most (drop (length log.entries) archive))) in
     (omega arith, omega arith)
 
 -- so many turns are enough, and more change nothing
@@ -145,24 +147,24 @@ turns_enough zero others most archive log low enough also = absurd (omega arith)
 turns_enough (suc turns) zero most archive log low enough also = absurd (omega arith)
 turns_enough (suc turns) (suc others) most archive log low enough also =
     cond_pair (λ (a b : LogView). a ≡ b) (leb (length (drop (length log.entries) archive)) most) _ _ _ _
-      (λ complete. refl)
-      (λ more.
-        let size = turn_length most archive log more in
-        (turns_enough turns others most archive (with_turn log (page_behind (length log.entries) most archive)) low (omega arith) (omega arith)))
+    (λ complete. refl)
+    (λ more.
+    let size = turn_length most archive log more in
+    (turns_enough turns others most archive (with_turn log (page_behind (length log.entries) most archive)) low (omega arith) (omega arith)))
 
 -- a turn of a catch-up
 pub caught_up_turn : (most : ℕ) (archive : List EntryView) (log : LogView) → 1 ≤ most →
     caught_up most archive log
     ≡ cond (leb (length (drop (length log.entries) archive)) most)
-        (with_turn log (page_behind (length log.entries) most archive))
-        (caught_up most archive (with_turn log (page_behind (length log.entries) most archive)))
+    (with_turn log (page_behind (length log.entries) most archive))
+    (caught_up most archive (with_turn log (page_behind (length log.entries) most archive)))
 caught_up_turn most archive log low =
     ap (λ n. log_after n most archive log) (add-one (length archive))
     ∙ (cond_pair (λ (a b : LogView). a ≡ b) (leb (length (drop (length log.entries) archive)) most) _ _ _ _
-      (λ complete. refl)
-      (λ more.
-        let size = turn_length most archive log more in
-        (turns_enough (length archive) (length archive + 1) most archive (with_turn log (page_behind (length log.entries) most archive)) low (omega arith) (omega arith))))
+    (λ complete. refl)
+    (λ more.
+    let size = turn_length most archive log more in
+    (turns_enough (length archive) (length archive + 1) most archive (with_turn log (page_behind (length log.entries) most archive)) low (omega arith) (omega arith))))
 
 -- one turn of the loop, which goes on where the page isn't complete
 pub turn_kept : (most : ℕ) (archive : List EntryView) (log next whole : LogView) (complete : Bool) → 1 ≤ most →
@@ -183,7 +185,7 @@ pub turn_smaller : (most : ℕ) (archive : List EntryView) (log next : LogView) 
 turn_smaller most archive log next true low is tells =
     let size : length next.entries ≡ length (log.entries ++ map as_logged (take most (drop (length log.entries) archive))) = ap (λ (l : LogView). length l.entries) is in
     let all : length (log.entries ++ map as_logged (take most (drop (length log.entries) archive))) ≡ length log.entries + length (map as_logged (take most (drop (length log.entries) archive))) =
-        length-append log.entries (map as_logged (take most (drop (length log.entries) archive))) in
+    length-append log.entries (map as_logged (take most (drop (length log.entries) archive))) in
     omega arith
 turn_smaller most archive log next false low is tells =
     let size : length next.entries ≡ length (with_turn log (page_behind (length log.entries) most archive)).entries = ap (λ (l : LogView). length l.entries) is in

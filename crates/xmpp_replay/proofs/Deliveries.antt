@@ -1,20 +1,20 @@
 -- A take adds an entry to the archives that it concerns, which stand at the places of two names.
-use Rattle.std.proofs.Common.{◌≡◌, ◌≢◌, ℕ, zero, suc, ◌+◌, ◌<◌, ◌≤◌, Bool, true, false, cond, eqb, ◌||◌, List, [], ◌∷◌, ◌++◌, Option, Some, None, is_some, length, get_or, set, map, refl, sym, ap, ◌∙◌, subst, arith, inl, inr}
-use Rattle.std.proofs.lemmas.Bool.{cases_Bool, cases_eq, cases_lt, eq-eqb, eqb-true, false_from_ne_true, false≢true, ne_eqb}
-use Rattle.std.proofs.lemmas.List.{get_or-map, get_or_append_left, get_or_push, length-append, length-map, length_push, same_lists}
-use Rattle.std.proofs.lemmas.Option.{get_or_from_slice_get, none-some, same_Some, slice_get-get_or, slice_get_within}
+use Rattle.std.proofs.Common.{◌≡◌, ◌≢◌, ℕ, zero, suc, ◌+◌, ◌<◌, Bool, true, false, cond, eqb, ◌||◌, List, [], ◌∷◌, ◌++◌, Option, Some, None, is_some, length, get_or, map, refl, sym, ap, ◌∙◌, subst, arith, inl, inr}
+use Rattle.std.proofs.lemmas.Bool.{cases_eq, cases_lt, eq-eqb, eqb-true, false_from_ne_true, false≢true, ne_eqb}
+use Rattle.std.proofs.lemmas.List.{get_or-map, get_or_append_left, get_or_push, length-map, length_push, same_lists}
+use Rattle.std.proofs.lemmas.Option.{get_or_from_slice_get, same_Some, slice_get-get_or, slice_get_within}
 use Rattle.std.proofs.lemmas.Slice.Eq.{bytes_eq-Decides}
 use Rattle.std.specs.List.{slice_get}
 use Rattle.std.specs.Option.{IfSome}
 use Rattle.std.specs.Str.{bytes_eq}
 use Rattle.xmpp_archive.specs.Entries.{EntryView, numbered}
 use Rattle.xmpp_replay.proofs.HomeLists.{appended_length}
-use Rattle.xmpp_replay.proofs.PageEnds.{bytes_eq_apart, bytes_eq_itself}
+use Rattle.xmpp_replay.proofs.PageEnds.{bytes_eq_apart}
 use Rattle.xmpp_replay.proofs.Places.{is_some-place_of, place_of-push, stands_there}
 use Rattle.xmpp_replay.proofs.Prefixes.{archive_push}
 use Rattle.xmpp_replay.specs.Direct.{Take, archive_of, concerns, entry_of}
 use Rattle.xmpp_replay.specs.Grammar.{is_among}
-use Rattle.xmpp_replay.specs.Homes.{Home, appended, appended_at, delivered, home_at, names_of}
+use Rattle.xmpp_replay.specs.Homes.{Home, appended, appended_at, delivered, home_at}
 use Rattle.xmpp_replay.specs.Names.{place_of}
 use Rattle.xmpp_replay.specs.Standing.{AreOnce}
 
@@ -44,10 +44,10 @@ pub place_test : (names : List (List ℕ)) (k i : ℕ) (name d : List ℕ) → A
     bytes_eq (get_or names k d) name ≡ eqb k i
 place_test names k i name d once within is =
     elim (cases_eq k i) [
-      inl same ↦
-        let there : get_or names k d ≡ name = ap (λ j. get_or names j d) same ∙ get_or_from_slice_get names i name d (named_at name names i is).1 in
-        (bytes_eq-Decides (get_or names k d) name).1 there ∙ sym (eq-eqb k i same)
-    | inr apart ↦ bytes_eq_apart (get_or names k d) name (names_apart names k i name d once within is apart) ∙ sym (ne_eqb k i apart)
+      | inl same ↦
+          let there : get_or names k d ≡ name = ap (λ j. get_or names j d) same ∙ get_or_from_slice_get names i name d (named_at name names i is).1 in
+          (bytes_eq-Decides (get_or names k d) name).1 there ∙ sym (eq-eqb k i same)
+      | inr apart ↦ bytes_eq_apart (get_or names k d) name (names_apart names k i name d once within is apart) ∙ sym (ne_eqb k i apart)
     ]
 
 -- a name more
@@ -59,19 +59,19 @@ once_push names name once new = record { first = first }
         let within : k < length (names ++ name ∷ []) = slice_get_within (names ++ name ∷ []) k other is in
         let at : get_or (names ++ name ∷ []) k other ≡ other = get_or_from_slice_get (names ++ name ∷ []) k other other is in
         elim (cases_lt k (length names)) [
-          inl front ↦
-            let here : slice_get names k ≡ Some other =
-                slice_get-get_or names k other front ∙ ap Some (sym (get_or_append_left names (name ∷ []) other k front) ∙ at) in
-            let place : place_of other names ≡ Some k = once.first k other here in
-            let apart : bytes_eq name other ≡ false = false_from_ne_true (bytes_eq name other) (λ same.
-                false≢true (sym new ∙ ap (λ n. is_among n names) ((bytes_eq-Decides name other).0 same) ∙ among_placed other names k place)) in
-            place_of-push name names new other ∙ ap (λ b. cond b (Some (length names)) (place_of other names)) apart ∙ place
-        | inr past ↦
-            let last : length names ≡ k = omega (arith, length_push names name) in
-            let same : name ≡ other = sym (get_or_push names name other k last) ∙ at in
-            place_of-push name names new other
-            ∙ ap (λ b. cond b (Some (length names)) (place_of other names)) ((bytes_eq-Decides name other).1 same)
-            ∙ ap Some last
+          | inl front ↦
+              let here : slice_get names k ≡ Some other =
+              slice_get-get_or names k other front ∙ ap Some (sym (get_or_append_left names (name ∷ []) other k front) ∙ at) in
+              let place : place_of other names ≡ Some k = once.first k other here in
+              let apart : bytes_eq name other ≡ false = false_from_ne_true (bytes_eq name other) (λ same.
+              false≢true (sym new ∙ ap (λ n. is_among n names) ((bytes_eq-Decides name other).0 same) ∙ among_placed other names k place)) in
+              place_of-push name names new other ∙ ap (λ b. cond b (Some (length names)) (place_of other names)) apart ∙ place
+          | inr past ↦
+              let last : length names ≡ k = omega (arith, length_push names name) in
+              let same : name ≡ other = sym (get_or_push names name other k last) ∙ at in
+              place_of-push name names new other
+              ∙ ap (λ b. cond b (Some (length names)) (place_of other names)) ((bytes_eq-Decides name other).1 same)
+              ∙ ap Some last
         ]
 
 -- what stands at a place after an entry was added at one
@@ -87,9 +87,9 @@ appended_get (h ∷ homes) (suc i) (suc k) entry d within =
   where
     shifted : (k i : ℕ) → eqb k i ≡ eqb (suc k) (suc i)
     shifted k i = elim (cases_eq k i) [
-        inl same ↦ eq-eqb k i same ∙ sym (eq-eqb (suc k) (suc i) (ap suc same))
+      | inl same ↦ eq-eqb k i same ∙ sym (eq-eqb (suc k) (suc i) (ap suc same))
       | inr apart ↦ ne_eqb k i apart ∙ sym (ne_eqb (suc k) (suc i) (λ (e : suc k ≡ suc i). apart (omega arith)))
-      ]
+    ]
 
 home_push : (name : List ℕ) (takes : List Take) (take : Take) →
     home_at (takes ++ take ∷ []) name ≡ cond (concerns name take) (appended (entry_of take) (home_at takes name)) (home_at takes name)
@@ -120,41 +120,42 @@ pub delivered_takes : (accounts : List (List ℕ)) (takes : List Take) (take : T
     delivered from to (entry_of take) (map (home_at takes) accounts) ≡ map (home_at (takes ++ take ∷ [])) accounts
 delivered_takes accounts takes take from to once sender recipient =
     elim (cases_eq from to) [
-      inl same ↦
-        ap (λ b. cond b (appended_at from (entry_of take) homes) (appended_at to (entry_of take) (appended_at from (entry_of take) homes))) (eq-eqb from to same)
-        ∙ same_lists (appended_at from (entry_of take) homes) (map (home_at (takes ++ take ∷ [])) accounts)
-            (appended_length homes from (entry_of take) ∙ length-map accounts (home_at takes) ∙ sym (length-map accounts (home_at (takes ++ take ∷ []))))
-            (λ k d within.
-              let inside : k < length accounts = omega (arith, appended_length homes from (entry_of take), length-map accounts (home_at takes)) in
-              appended_get homes from k (entry_of take) d (omega (arith, length-map accounts (home_at takes)))
-              ∙ ap (λ h. cond (eqb k from) (appended (entry_of take) h) h) (get_or-map (home_at takes) accounts k [] d inside)
-              ∙ once_or (eqb k from) (eqb k to) (appended (entry_of take) (home_at takes (get_or accounts k []))) (home_at takes (get_or accounts k [])) (ap (eqb k) (sym same))
-              ∙ ends k d inside)
-    | inr apart ↦
-        ap (λ b. cond b (appended_at from (entry_of take) homes) (appended_at to (entry_of take) (appended_at from (entry_of take) homes))) (ne_eqb from to apart)
-        ∙ same_lists (appended_at to (entry_of take) (appended_at from (entry_of take) homes)) (map (home_at (takes ++ take ∷ [])) accounts)
-            (appended_length (appended_at from (entry_of take) homes) to (entry_of take) ∙ appended_length homes from (entry_of take) ∙ length-map accounts (home_at takes) ∙ sym (length-map accounts (home_at (takes ++ take ∷ []))))
-            (λ k d within.
-              let inside : k < length accounts = omega (arith, appended_length (appended_at from (entry_of take) homes) to (entry_of take), appended_length homes from (entry_of take), length-map accounts (home_at takes)) in
-              let held : k < length homes = omega (arith, length-map accounts (home_at takes)) in
-              appended_get (appended_at from (entry_of take) homes) to k (entry_of take) d (omega (arith, appended_length homes from (entry_of take)))
-              ∙ ap (λ h. cond (eqb k to) (appended (entry_of take) h) h)
-                  (appended_get homes from k (entry_of take) d held
-                  ∙ ap (λ h. cond (eqb k from) (appended (entry_of take) h) h) (get_or-map (home_at takes) accounts k [] d inside))
-              ∙ either (appended (entry_of take)) (home_at takes (get_or accounts k [])) (eqb k from) (eqb k to)
-                  (λ a b. absurd (apart (sym (eqb-true k from a) ∙ eqb-true k to b)))
-              ∙ ends k d inside)
+      | inl same ↦
+          ap (λ b. cond b (appended_at from (entry_of take) homes) (appended_at to (entry_of take) (appended_at from (entry_of take) homes))) (eq-eqb from to same)
+          ∙ same_lists (appended_at from (entry_of take) homes) (map (home_at (takes ++ take ∷ [])) accounts)
+          (appended_length homes from (entry_of take) ∙ length-map accounts (home_at takes) ∙ sym (length-map accounts (home_at (takes ++ take ∷ []))))
+          (λ k d within.
+          let inside : k < length accounts = omega (arith, appended_length homes from (entry_of take), length-map accounts (home_at takes)) in
+          appended_get homes from k (entry_of take) d (omega (arith, length-map accounts (home_at takes)))
+          ∙ ap (λ h. cond (eqb k from) (appended (entry_of take) h) h) (get_or-map (home_at takes) accounts k [] d inside)
+          ∙ once_or (eqb k from) (eqb k to) (appended (entry_of take) (home_at takes (get_or accounts k []))) (home_at takes (get_or accounts k [])) (ap (eqb k) (sym same))
+          ∙ ends k d inside)
+      | inr apart ↦
+          ap (λ b. cond b (appended_at from (entry_of take) homes) (appended_at to (entry_of take) (appended_at from (entry_of take) homes))) (ne_eqb from to apart)
+          ∙ same_lists (appended_at to (entry_of take) (appended_at from (entry_of take) homes)) (map (home_at (takes ++ take ∷ [])) accounts)
+          (appended_length (appended_at from (entry_of take) homes) to (entry_of take) ∙ appended_length homes from (entry_of take) ∙ length-map accounts (home_at takes) ∙ sym (length-map accounts (home_at (takes ++ take ∷ []))))
+          (λ k d within.
+          let inside : k < length accounts = omega (arith, appended_length (appended_at from (entry_of take) homes) to (entry_of take), appended_length homes from (entry_of take), length-map accounts (home_at takes)) in
+          let held : k < length homes = omega (arith, length-map accounts (home_at takes)) in
+          appended_get (appended_at from (entry_of take) homes) to k (entry_of take) d (omega (arith, appended_length homes from (entry_of take)))
+          ∙ ap (λ h. cond (eqb k to) (appended (entry_of take) h) h)
+          (appended_get homes from k (entry_of take) d held
+          ∙ ap (λ h. cond (eqb k from) (appended (entry_of take) h) h) (get_or-map (home_at takes) accounts k [] d inside))
+          ∙ either (appended (entry_of take)) (home_at takes (get_or accounts k [])) (eqb k from) (eqb k to)
+          (λ a b. absurd (apart (sym (eqb-true k from a) ∙ eqb-true k to b)))
+          ∙ ends k d inside)
     ]
   where
     homes : List Home
     homes = map (home_at takes) accounts
+
     ends : (k : ℕ) (d : Home) → k < length accounts →
         cond (eqb k from || eqb k to) (appended (entry_of take) (home_at takes (get_or accounts k []))) (home_at takes (get_or accounts k []))
         ≡ get_or (map (home_at (takes ++ take ∷ [])) accounts) k d
     ends k d inside =
         ap (λ b. cond (b || eqb k to) (appended (entry_of take) (home_at takes (get_or accounts k []))) (home_at takes (get_or accounts k [])))
-          (sym (place_test accounts k from take.account [] once inside sender))
+        (sym (place_test accounts k from take.account [] once inside sender))
         ∙ ap (λ b. cond (bytes_eq (get_or accounts k []) take.account || b) (appended (entry_of take) (home_at takes (get_or accounts k []))) (home_at takes (get_or accounts k [])))
-          (sym (place_test accounts k to take.to [] once inside recipient))
+        (sym (place_test accounts k to take.to [] once inside recipient))
         ∙ sym (home_push (get_or accounts k []) takes take)
         ∙ sym (get_or-map (home_at (takes ++ take ∷ [])) accounts k [] d inside)

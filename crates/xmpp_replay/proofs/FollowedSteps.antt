@@ -1,28 +1,27 @@
 -- What a run is after one step more.
-use Rattle.std.proofs.Common.{◌≡◌, ◌≢◌, ℕ, zero, suc, ◌+◌, ◌<◌, ◌≤◌, ◌^◌, Bool, true, false, cond, not, ◌&&◌, ◌||◌, List, [], ◌∷◌, ◌++◌, Option, Some, None, IsTrue, nat_lt, nat_le, length, take, drop, get_or, set, map, refl, sym, ap, ◌∙◌, subst, arith, inl, inr}
-use Rattle.std.proofs.lemmas.Bool.{and_parts, cases_Bool, cases_eq, cond_both, false≢true, leb-true, not-true, or_parts}
-use Rattle.std.proofs.lemmas.List.{append-nil, append_assoc, get_or-map, get_or-set_other, get_or-set_same, get_or_push, get_or_append_left, length-append, length-map, length-set, length_push, map-append, map_push, take-append-le}
+use Rattle.std.proofs.Common.{◌≡◌, ◌≢◌, ℕ, ◌+◌, ◌<◌, ◌≤◌, Bool, true, false, cond, not, ◌&&◌, List, [], ◌∷◌, ◌++◌, Option, Some, None, IsTrue, nat_lt, nat_le, length, get_or, set, map, refl, sym, ap, ◌∙◌, subst, arith, inl, inr}
+use Rattle.std.proofs.lemmas.Bool.{and_parts, cases_eq, cond_both, false≢true, leb-true, not-true, or_parts}
+use Rattle.std.proofs.lemmas.List.{append-nil, append_assoc, get_or-map, get_or-set_other, get_or-set_same, length-append, length-map, length-set, map_push, take-append-le}
 use Rattle.std.proofs.lemmas.List.Elements.{All-push, All-weaker}
-use Rattle.std.proofs.lemmas.Option.{get_or_from_slice_get, none-some, same_Some, slice_get-get_or, slice_get_within}
+use Rattle.std.proofs.lemmas.Option.{get_or_from_slice_get, slice_get_within}
 use Rattle.std.proofs.Math.Seq.{map-set_same}
-use Rattle.std.specs.List.{All, list_any, slice_get}
+use Rattle.std.specs.List.{All, slice_get}
 use Rattle.std.specs.Option.{option_map_or}
 use Rattle.std.specs.Str.{bytes_eq}
 use Rattle.xmpp_archive.specs.Entries.{EntryView, numbered}
-use Rattle.xmpp_log.specs.LogPages.{LogPage}
 use Rattle.xmpp_log.specs.Views.{LogView}
 use Rattle.xmpp_replay.proofs.CatchUps.{catch_up_logged, log_after_front}
 use Rattle.xmpp_replay.proofs.Deliveries.{among_placed, delivered_takes, named_at, names_apart, not_placed, once_among, once_push}
 use Rattle.xmpp_replay.proofs.PageEnds.{bytes_eq_apart, bytes_eq_itself}
 use Rattle.xmpp_replay.proofs.Prefixes.{among_push, archive_few, archive_numbered, archive_push, along_push, devices_push, home_push, pages_push, sent_few, sent_push, takes_few, takes_push}
 use Rattle.xmpp_replay.specs.Direct.{Take, accounts_of, along, archive_of, as_logged, catch_up, concerns, device_name, devices_of, entry_of, home_of, is_said_by, pages_after, pages_of, said_at, sent_by, take_at, take_line, takes_of}
-use Rattle.xmpp_replay.specs.Grammar.{Declared, is_among, is_name, is_text, may_stand}
+use Rattle.xmpp_replay.specs.Grammar.{is_among, is_name, is_text, may_stand}
 use Rattle.xmpp_replay.specs.Homes.{Home, delivered, empty_home, home_at, names_of}
-use Rattle.xmpp_replay.specs.Messages.{HasSaid, homes_after, said_by, take_by, takes_after}
+use Rattle.xmpp_replay.specs.Messages.{homes_after, said_by, take_by, takes_after}
 use Rattle.xmpp_replay.specs.Names.{place_of}
 use Rattle.xmpp_replay.specs.Runs.{HasCaughtUp, HasDeclared, HasFollowed, HasSent, IsAfter, IsDevice, IsReady, IsReadyDevice, IsUnused, MayFollow}
 use Rattle.xmpp_replay.specs.Standing.{AreOnce, declared_in}
-use Rattle.xmpp_replay.specs.Turns.{IsFrontOf, IsLogOf, caught_up, log_after}
+use Rattle.xmpp_replay.specs.Turns.{IsFrontOf, IsLogOf, caught_up}
 use Rattle.xmpp_replay.specs.declared.report.SaidLine.{SaidLine}
 use Rattle.xmpp_replay.specs.declared.report.SaidMark.TheVariants.{Acknowledged}
 use Rattle.xmpp_replay.specs.declared.report.TakeLine.{TakeLine}
@@ -38,11 +37,11 @@ front_after account takes [] log front =
     subst (λ (ts : List Take). IsFrontOf (archive_of account ts) log.entries) (sym (append-nil takes)) front
 front_after account takes (t ∷ more) log front =
     subst (λ (ts : List Take). IsFrontOf (archive_of account ts) log.entries) (append_assoc takes (t ∷ []) more)
-      (front_after account (takes ++ t ∷ []) more log
-        (subst (λ (es : List EntryView). IsFrontOf es log.entries) (sym (archive_push account takes t))
-          (cond_both (concerns account t) (archive_of account takes ++ numbered (length (archive_of account takes) + 1) (entry_of t) ∷ []) (archive_of account takes)
-            (λ (es : List EntryView). IsFrontOf es log.entries)
-            (λ e. further (numbered (length (archive_of account takes) + 1) (entry_of t) ∷ [])) (λ e. front))))
+    (front_after account (takes ++ t ∷ []) more log
+    (subst (λ (es : List EntryView). IsFrontOf es log.entries) (sym (archive_push account takes t))
+    (cond_both (concerns account t) (archive_of account takes ++ numbered (length (archive_of account takes) + 1) (entry_of t) ∷ []) (archive_of account takes)
+    (λ (es : List EntryView). IsFrontOf es log.entries)
+    (λ e. further (numbered (length (archive_of account takes) + 1) (entry_of t) ∷ [])) (λ e. front))))
   where
     further : (more : List EntryView) → IsFrontOf (archive_of account takes ++ more) log.entries
     further more = record {
@@ -79,12 +78,12 @@ pub device_stays : (all before : List Step) (step : Step) (device : Device) →
     IsDevice all before device → IsDevice all (before ++ step ∷ []) device
 device_stays all before step device home said sent pages is =
     device_after all before step device device refl refl refl home
-      (sym (append-nil device.said.items) ∙ ap (λ t. device.said.items ++ t) (sym said))
-      (none_more device.sent (is_said_by device.name step) sent)
-      (subst (λ ps. IsLogOf ps device.log) (sym pages) is.log)
-      (subst (λ ts. IsFrontOf (archive_of device.account ts) device.log.entries) (sym (takes_push all before step))
-        (front_after device.account (takes_of all before) (take_at all before step) device.log is.front))
-      is
+    (sym (append-nil device.said.items) ∙ ap (λ t. device.said.items ++ t) (sym said))
+    (none_more device.sent (is_said_by device.name step) sent)
+    (subst (λ ps. IsLogOf ps device.log) (sym pages) is.log)
+    (subst (λ ts. IsFrontOf (archive_of device.account ts) device.log.entries) (sym (takes_push all before step))
+    (front_after device.account (takes_of all before) (take_at all before step) device.log is.front))
+    is
 
 -- a name that no step used, and that this one does not use
 pub unused_stays : (all before : List Step) (step : Step) (name : List ℕ) → said_at name before step ≡ [] → is_said_by name step ≡ false →
@@ -100,7 +99,7 @@ pub name_known : (all before : List Step) (run : Run) (k : ℕ) (d : Device) →
     is_among (get_or run.devices.items k d).name (devices_of before) ≡ true
 name_known all before run k d is within =
     let same : get_or (devices_of before) k [] ≡ (get_or run.devices.items k d).name =
-        ap (λ ns. get_or ns k []) (sym is.names) ∙ get_or-map (λ (e : Device). e.name) run.devices.items k d [] within in
+    ap (λ ns. get_or ns k []) (sym is.names) ∙ get_or-map (λ (e : Device). e.name) run.devices.items k d [] within in
     let size : length (devices_of before) ≡ length run.devices.items = ap length (sym is.names) ∙ length-map run.devices.items (λ (e : Device). e.name) in
     ap (λ n. is_among n (devices_of before)) (sym same) ∙ once_among (devices_of before) k [] is.once (omega arith)
 
@@ -109,7 +108,7 @@ pub name_elsewhere : (all before : List Step) (run : Run) (k i : ℕ) (d : Devic
     place_of name run.index ≡ Some i → k ≢ i → (get_or run.devices.items k d).name ≢ name
 name_elsewhere all before run k i d name is within at apart same =
     let here : get_or (devices_of before) k [] ≡ (get_or run.devices.items k d).name =
-        ap (λ ns. get_or ns k []) (sym is.names) ∙ get_or-map (λ (e : Device). e.name) run.devices.items k d [] within in
+    ap (λ ns. get_or ns k []) (sym is.names) ∙ get_or-map (λ (e : Device). e.name) run.devices.items k d [] within in
     let size : length (devices_of before) ≡ length run.devices.items = ap length (sym is.names) ∙ length-map run.devices.items (λ (e : Device). e.name) in
     names_apart (devices_of before) k i name [] is.once (omega arith) (ap (place_of name) (sym is.index) ∙ at) apart (here ∙ same)
 
@@ -129,7 +128,7 @@ pub device_here : (all before : List Step) (run : Run) (i : ℕ) (device : Devic
     slice_get run.devices.items i ≡ Some device → IsDevice all before device
 device_here all before run i device is there =
     subst (λ (d : Device). IsDevice all before d) (get_or_from_slice_get run.devices.items i device device there)
-      (is.devices i device (slice_get_within run.devices.items i device there))
+    (is.devices i device (slice_get_within run.devices.items i device there))
 
 -- the names of the accounts
 pub homes_named : (takes : List Take) (accounts : List (List ℕ)) → names_of (map (home_at takes) accounts) ≡ accounts
@@ -163,12 +162,13 @@ ready_after all before run few is = record { names = is.index ∙ sym is.names; 
       closed = one.log.closed;
       front = λ (d : Home). subst (λ es. IsFrontOf es device.log.entries) (sym (home_entries all before run device d is one)) one.front;
     }) run.devices.items is.devices
+
     small : All (λ (home : Home). length home.entries < 4294967294) run.accounts.homes
     small k d within =
         let size : length run.accounts.homes ≡ length (accounts_of all) = ap length is.homes ∙ length-map (accounts_of all) (home_at (takes_of all before)) in
         let here : (get_or run.accounts.homes k d).entries ≡ archive_of (get_or (accounts_of all) k []) (takes_of all before) =
-            ap (λ homes. (get_or homes k d).entries) is.homes
-            ∙ ap (λ (h : Home). h.entries) (get_or-map (home_at (takes_of all before)) (accounts_of all) k [] d (omega arith)) in
+        ap (λ homes. (get_or homes k d).entries) is.homes
+        ∙ ap (λ (h : Home). h.entries) (get_or-map (home_at (takes_of all before)) (accounts_of all) k [] d (omega arith)) in
         omega (arith, ap length here, archive_small all before (get_or (accounts_of all) k []))
 
 other_name : (name other : List ℕ) → name ≢ other → bytes_eq name other ≡ false
@@ -222,15 +222,19 @@ after_device all before name account run next is fresh made = record {
   where
     step : Step
     step = DeviceStep name account
+
     others : All (IsDevice all (before ++ DeviceStep name account ∷ [])) run.devices.items
     others k d within = device_stays all before (DeviceStep name account) (get_or run.devices.items k d)
         (home_known before (DeviceStep name account) (get_or run.devices.items k d).name (name_known all before run k d is within)) refl refl refl (is.devices k d within)
+
     unsaid : IsUnused all (before ++ DeviceStep name account ∷ []) name
     unsaid = unused_stays all before (DeviceStep name account) name refl refl refl (is.unused name fresh)
+
     owner : home_of (before ++ DeviceStep name account ∷ []) name ≡ account
     owner = home_push before (DeviceStep name account) name
         ∙ ap (λ b. cond b (home_of before name) (home_of (DeviceStep name account ∷ []) name)) fresh
         ∙ ap (λ b. cond b account []) (bytes_eq_itself name)
+
     newest : IsDevice all (before ++ DeviceStep name account ∷ []) made.new
     newest = record {
       account = made.owned ∙ sym owner ∙ ap (home_of (before ++ DeviceStep name account ∷ [])) (sym made.named);
@@ -252,38 +256,43 @@ message_taken all before device name to text homes lines once is named held told
   where
     step : Step
     step = Say name to text
+
     spot : place_of to (names_of homes) ≡ place_of to (accounts_of all)
     spot = ap (λ hs. place_of to (names_of hs)) held ∙ ap (place_of to) (homes_named (takes_of all before) (accounts_of all))
+
     take_is : record { device = name; account = home_of before name; epoch = 1; n = sent_by name before + 1; to = to; text = text; moment = 0 } ≡ take_by device to text
     take_is =
         ap (λ n. let t : Take = record { device = n; account = home_of before n; epoch = 1; n = sent_by n before + 1; to = to; text = text; moment = 0 } in t) (sym named)
         ∙ ap (λ a. let t : Take = record { device = device.name; account = a; epoch = 1; n = sent_by device.name before + 1; to = to; text = text; moment = 0 } in t) (sym is.account)
         ∙ ap (λ m. let t : Take = record { device = device.name; account = device.account; epoch = 1; n = m + 1; to = to; text = text; moment = 0 } in t) (sym is.sent)
+
     go : (place : Option ℕ) → place_of to (accounts_of all) ≡ place →
         (homes_after device to text homes ≡ map (home_at (takes_of all (before ++ Say name to text ∷ []))) (accounts_of all))
         × (takes_after device to text homes lines ≡ map take_line (takes_of all (before ++ Say name to text ∷ [])))
     go None none =
         let lost : take_at all before (Say name to text) ≡ [] = rw (not_placed to (accounts_of all) none) refl in
-        let same : takes_of all (before ++ Say name to text ∷ []) ≡ takes_of all before = no_take all before (Say name to text) lost in
-        (ap (λ p. option_map_or (λ place. delivered device.home place (entry_of (take_by device to text)) homes) p homes) (spot ∙ none)
-            ∙ held ∙ ap (λ ts. map (home_at ts) (accounts_of all)) (sym same),
-         ap (λ p. option_map_or (λ place. lines ++ take_line (take_by device to text) ∷ []) p lines) (spot ∙ none)
-            ∙ told ∙ ap (map take_line) (sym same))
+        let same : takes_of all (before ++ Say name to text ∷ []) ≡ takes_of all before = no_take all before (Say name to text) lost in (
+          ap (λ p. option_map_or (λ place. delivered device.home place (entry_of (take_by device to text)) homes) p homes) (spot ∙ none)
+              ∙ held ∙ ap (λ ts. map (home_at ts) (accounts_of all)) (sym same),
+          ap (λ p. option_map_or (λ place. lines ++ take_line (take_by device to text) ∷ []) p lines) (spot ∙ none)
+              ∙ told ∙ ap (map take_line) (sym same),
+        )
     go (Some place) there =
         let taken : take_at all before (Say name to text) ≡ take_by device to text ∷ [] =
-            ap (λ b. cond b (record { device = name; account = home_of before name; epoch = 1; n = sent_by name before + 1; to = to; text = text; moment = 0 } ∷ []) [])
-              (among_placed to (accounts_of all) place there)
-            ∙ ap (λ t. t ∷ []) take_is in
+        ap (λ b. cond b (record { device = name; account = home_of before name; epoch = 1; n = sent_by name before + 1; to = to; text = text; moment = 0 } ∷ []) [])
+        (among_placed to (accounts_of all) place there)
+        ∙ ap (λ t. t ∷ []) take_is in
         let more : takes_of all (before ++ Say name to text ∷ []) ≡ takes_of all before ++ take_by device to text ∷ [] =
-            takes_push all before (Say name to text) ∙ ap (λ ts. takes_of all before ++ ts) taken in
-        (ap (λ p. option_map_or (λ place. delivered device.home place (entry_of (take_by device to text)) homes) p homes) (spot ∙ there)
-            ∙ ap (delivered device.home place (entry_of (take_by device to text))) held
-            ∙ delivered_takes (accounts_of all) (takes_of all before) (take_by device to text) device.home place once is.place there
-            ∙ ap (λ ts. map (home_at ts) (accounts_of all)) (sym more),
-         ap (λ p. option_map_or (λ place. lines ++ take_line (take_by device to text) ∷ []) p lines) (spot ∙ there)
-            ∙ ap (λ ls. ls ++ take_line (take_by device to text) ∷ []) told
-            ∙ sym (map_push take_line (takes_of all before) (take_by device to text))
-            ∙ ap (map take_line) (sym more))
+        takes_push all before (Say name to text) ∙ ap (λ ts. takes_of all before ++ ts) taken in (
+          ap (λ p. option_map_or (λ place. delivered device.home place (entry_of (take_by device to text)) homes) p homes) (spot ∙ there)
+              ∙ ap (delivered device.home place (entry_of (take_by device to text))) held
+              ∙ delivered_takes (accounts_of all) (takes_of all before) (take_by device to text) device.home place once is.place there
+              ∙ ap (λ ts. map (home_at ts) (accounts_of all)) (sym more),
+          ap (λ p. option_map_or (λ place. lines ++ take_line (take_by device to text) ∷ []) p lines) (spot ∙ there)
+              ∙ ap (λ ls. ls ++ take_line (take_by device to text) ∷ []) told
+              ∙ sym (map_push take_line (takes_of all before) (take_by device to text))
+              ∙ ap (map take_line) (sym more),
+        )
 
 -- the devices after a step that names the one at a place
 pub devices_after : (all before : List Step) (step : Step) (run : Run) (place : ℕ) (old new : Device) → IsAfter all before run →
@@ -294,8 +303,8 @@ devices_after all before step run place old new is there one others k d within =
     let inside = slice_get_within run.devices.items place old there in
     let size = length-set run.devices.items place new in
     elim (cases_eq k place) [
-      inl same ↦ subst (λ (v : Device). IsDevice all (before ++ step ∷ []) v) (sym (ap (λ j. get_or (set run.devices.items place new) j d) same ∙ get_or-set_same run.devices.items place new d inside)) one
-    | inr apart ↦ subst (λ (v : Device). IsDevice all (before ++ step ∷ []) v) (sym (get_or-set_other run.devices.items place k new d apart)) (others k d (omega arith) apart)
+      | inl same ↦ subst (λ (v : Device). IsDevice all (before ++ step ∷ []) v) (sym (ap (λ j. get_or (set run.devices.items place new) j d) same ∙ get_or-set_same run.devices.items place new d inside)) one
+      | inr apart ↦ subst (λ (v : Device). IsDevice all (before ++ step ∷ []) v) (sym (get_or-set_other run.devices.items place k new d apart)) (others k d (omega arith) apart)
     ]
 
 names_after : (run : Run) (place : ℕ) (old new : Device) → slice_get run.devices.items place ≡ Some old → new.name ≡ old.name →
@@ -321,18 +330,23 @@ after_say all before name to text run next once is known sent = record {
   where
     was : IsDevice all before sent.old
     was = device_here all before run sent.place sent.old is sent.there
+
     named : sent.old.name ≡ name
     named = name_here all before run sent.place sent.old name is sent.named sent.there
+
     done : (homes_after sent.old to text run.accounts.homes ≡ map (home_at (takes_of all (before ++ Say name to text ∷ []))) (accounts_of all))
         × (takes_after sent.old to text run.accounts.homes run.takes.items ≡ map take_line (takes_of all (before ++ Say name to text ∷ [])))
     done = message_taken all before sent.old name to text run.accounts.homes run.takes.items once was named is.homes is.takes
+
     hit : bytes_eq sent.old.name name ≡ true
     hit = ap (λ n. bytes_eq n name) named ∙ bytes_eq_itself name
+
     said_is : said_by sent.old to text ∷ [] ≡ said_at sent.old.name before (Say name to text)
     said_is = ap (λ m. said_of m ∷ []) was.sent ∙ ap (λ b. cond b (said_of (sent_by sent.old.name before) ∷ []) []) (sym hit)
       where
         said_of : ℕ → SaidLine
         said_of m = record { epoch = 1; n = m + 1; state = Acknowledged; to = to; text = text }
+
     one : IsDevice all (before ++ Say name to text ∷ []) sent.new
     one = device_after all before (Say name to text) sent.old sent.new sent.said.name sent.said.account sent.said.home
         (home_known before (Say name to text) sent.old.name (ap (λ n. is_among n (devices_of before)) named ∙ known))
@@ -340,16 +354,17 @@ after_say all before name to text run next once is known sent = record {
         (sent.said.sent ∙ ap (λ b. sent.old.sent + cond b 1 0) (sym hit))
         (subst (λ l. IsLogOf (pages_of all sent.old.name before) l) (sym sent.said.log) was.log)
         (subst (λ (l : LogView). IsFrontOf (archive_of sent.old.account (takes_of all (before ++ Say name to text ∷ []))) l.entries) (sym sent.said.log)
-          (subst (λ ts. IsFrontOf (archive_of sent.old.account ts) sent.old.log.entries) (sym (takes_push all before (Say name to text)))
-            (front_after sent.old.account (takes_of all before) (take_at all before (Say name to text)) sent.old.log was.front)))
+        (subst (λ ts. IsFrontOf (archive_of sent.old.account ts) sent.old.log.entries) (sym (takes_push all before (Say name to text)))
+        (front_after sent.old.account (takes_of all before) (take_at all before (Say name to text)) sent.old.log was.front)))
         was
+
     others : (k : ℕ) (d : Device) → k < length run.devices.items → k ≢ sent.place → IsDevice all (before ++ Say name to text ∷ []) (get_or run.devices.items k d)
     others k d within apart =
         let far : bytes_eq (get_or run.devices.items k d).name name ≡ false =
-            other_name (get_or run.devices.items k d).name name (name_elsewhere all before run k sent.place d name is within sent.named apart) in
+        other_name (get_or run.devices.items k d).name name (name_elsewhere all before run k sent.place d name is within sent.named apart) in
         device_stays all before (Say name to text) (get_or run.devices.items k d)
-          (home_known before (Say name to text) (get_or run.devices.items k d).name (name_known all before run k d is within))
-          (rw far refl) far refl (is.devices k d within)
+        (home_known before (Say name to text) (get_or run.devices.items k d).name (name_known all before run k d is within))
+        (rw far refl) far refl (is.devices k d within)
 
 after_catch_up : (all before : List Step) (name : List ℕ) (most : ℕ) (run next : Run) → length before < 100000 → IsAfter all before run →
     is_among name (devices_of before) ≡ true → HasCaughtUp run next name most → IsAfter all (before ++ Catchup name most ∷ []) next
@@ -369,42 +384,52 @@ after_catch_up all before name most run next few is known made = record {
   where
     was : IsDevice all before made.old
     was = device_here all before run made.place made.old is made.there
+
     named : made.old.name ≡ name
     named = name_here all before run made.place made.old name is made.named made.there
+
     hit : bytes_eq made.old.name name ≡ true
     hit = ap (λ n. bytes_eq n name) named ∙ bytes_eq_itself name
+
     archive : List EntryView
     archive = archive_of made.old.account (takes_of all before)
+
     entries_are : (get_or run.accounts.homes made.old.home (empty_home [])).entries ≡ archive_of made.old.account (takes_of all before)
     entries_are = home_entries all before run made.old (empty_home []) is was
+
     log_is : made.new.log ≡ caught_up most (archive_of made.old.account (takes_of all before)) made.old.log
     log_is = made.log (empty_home []) ∙ ap (λ es. caught_up most es made.old.log) entries_are
+
     pages_are : pages_after all made.old.name before (pages_of all made.old.name before) (Catchup name most)
         ≡ catch_up (length (archive_of made.old.account (takes_of all before)) + 1) most (archive_of made.old.account (takes_of all before)) (pages_of all made.old.name before)
     pages_are = rw hit (ap (λ a. catch_up (length (archive_of a (takes_of all before)) + 1) most (archive_of a (takes_of all before)) (pages_of all made.old.name before)) (sym was.account))
+
     logged : IsLogOf (pages_after all made.old.name before (pages_of all made.old.name before) (Catchup name most)) made.new.log
     logged = subst (λ l. IsLogOf (pages_after all made.old.name before (pages_of all made.old.name before) (Catchup name most)) l) (sym log_is)
         (subst (λ ps. IsLogOf ps (caught_up most (archive_of made.old.account (takes_of all before)) made.old.log)) (sym pages_are)
-          (catch_up_logged (length (archive_of made.old.account (takes_of all before)) + 1) most (archive_of made.old.account (takes_of all before))
-            (pages_of all made.old.name before) made.old.log (archive_numbered made.old.account (takes_of all before))
-            (omega (arith, archive_small all before made.old.account)) was.log was.front))
+        (catch_up_logged (length (archive_of made.old.account (takes_of all before)) + 1) most (archive_of made.old.account (takes_of all before))
+        (pages_of all made.old.name before) made.old.log (archive_numbered made.old.account (takes_of all before))
+        (omega (arith, archive_small all before made.old.account)) was.log was.front))
+
     fronts : IsFrontOf (archive_of made.old.account (takes_of all (before ++ Catchup name most ∷ []))) made.new.log.entries
     fronts = subst (λ ts. IsFrontOf (archive_of made.old.account ts) made.new.log.entries) (sym (no_take all before (Catchup name most) refl))
         (subst (λ (l : LogView). IsFrontOf (archive_of made.old.account (takes_of all before)) l.entries) (sym log_is)
-          (log_after_front (length (archive_of made.old.account (takes_of all before)) + 1) most (archive_of made.old.account (takes_of all before)) made.old.log was.front))
+        (log_after_front (length (archive_of made.old.account (takes_of all before)) + 1) most (archive_of made.old.account (takes_of all before)) made.old.log was.front))
+
     one : IsDevice all (before ++ Catchup name most ∷ []) made.new
     one = device_after all before (Catchup name most) made.old made.new made.same.0 made.same.1 made.same.2
         (home_known before (Catchup name most) made.old.name (ap (λ n. is_among n (devices_of before)) named ∙ known))
         (made.same.3 ∙ sym (append-nil made.old.said.items))
         (made.same.4 ∙ none_more made.old.sent false refl)
         logged fronts was
+
     others : (k : ℕ) (d : Device) → k < length run.devices.items → k ≢ made.place → IsDevice all (before ++ Catchup name most ∷ []) (get_or run.devices.items k d)
     others k d within apart =
         let far : bytes_eq (get_or run.devices.items k d).name name ≡ false =
-            other_name (get_or run.devices.items k d).name name (name_elsewhere all before run k made.place d name is within made.named apart) in
+        other_name (get_or run.devices.items k d).name name (name_elsewhere all before run k made.place d name is within made.named apart) in
         device_stays all before (Catchup name most) (get_or run.devices.items k d)
-          (home_known before (Catchup name most) (get_or run.devices.items k d).name (name_known all before run k d is within))
-          refl refl (rw far refl) (is.devices k d within)
+        (home_known before (Catchup name most) (get_or run.devices.items k d).name (name_known all before run k d is within))
+        refl refl (rw far refl) (is.devices k d within)
 
 -- what a step may say, of a run in the middle of a schedule
 pub may_follow : (all before : List Step) (run : Run) (step : Step) → IsAfter all before run →
@@ -413,9 +438,10 @@ pub may_follow : (all before : List Step) (run : Run) (step : Step) → IsAfter 
 may_follow all before run (Account name) is later right = tt
 may_follow all before run (DeviceStep name account) is later right =
     let parts = and_parts (nat_lt (length (devices_of before)) 100 && is_name name && not (is_among name (devices_of before))) (is_among account (accounts_of before)) right in
-    let first = and_parts (nat_lt (length (devices_of before)) 100 && is_name name) (not (is_among name (devices_of before))) parts.0 in
-    (ap (is_among name) is.index ∙ not-true (is_among name (devices_of before)) first.1,
-     ap (is_among account) (run_names all before run is) ∙ later account parts.1)
+    let first = and_parts (nat_lt (length (devices_of before)) 100 && is_name name) (not (is_among name (devices_of before))) parts.0 in (
+      ap (is_among name) is.index ∙ not-true (is_among name (devices_of before)) first.1,
+      ap (is_among account) (run_names all before run is) ∙ later account parts.1,
+    )
 may_follow all before run (Say device to text) is later right =
     let parts = and_parts (is_among device (devices_of before) && is_name to) (is_text text) right in
     ap (is_among device) is.index ∙ (and_parts (is_among device (devices_of before)) (is_name to) parts.0).0

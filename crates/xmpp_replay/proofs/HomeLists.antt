@@ -1,5 +1,5 @@
 -- What a change of one account does to the lists that clauses see.
-use Rattle.std.proofs.Common.{◌≡◌, ◌≢◌, ℕ, zero, suc, ◌+◌, ◌<◌, ◌≤◌, ◌^◌, Bool, true, false, cond, List, [], ◌∷◌, ◌++◌, length, get_or, set, map, refl, sym, ap, ◌∙◌, arith, subst}
+use Rattle.std.proofs.Common.{◌≡◌, ◌≢◌, ℕ, zero, suc, ◌+◌, ◌<◌, ◌≤◌, List, [], ◌∷◌, ◌++◌, length, get_or, set, map, refl, sym, ap, ◌∙◌, arith, subst}
 use Rattle.std.proofs.lemmas.List.{length-append, length-map}
 use Rattle.std.specs.List.{All}
 use Rattle.xmpp_archive.specs.Entries.{ArchiveView, EntryView, numbered}
@@ -15,7 +15,7 @@ pub homes_kept : (items : List Account) (i : ℕ) (x : Account) (archive : Archi
 homes_kept [] i x archive is same = refl
 homes_kept (a ∷ items) zero x archive is same =
     ap (λ (h : Home). h ∷ map home_of_account items)
-      (ap (λ es. let home : Home = record { name = x.name; entries = es } in home) same ∙ ap home_of_account is)
+    (ap (λ es. let home : Home = record { name = x.name; entries = es } in home) same ∙ ap home_of_account is)
 homes_kept (a ∷ items) (suc i) x archive is same = ap (λ t. home_of_account a ∷ t) (homes_kept items i x archive is same)
 
 pub homes_appended : (items : List Account) (i : ℕ) (x : Account) (archive : ArchiveView) (entry : EntryView) → x ≡ get_or items i x →
@@ -24,7 +24,7 @@ pub homes_appended : (items : List Account) (i : ℕ) (x : Account) (archive : A
 homes_appended [] i x archive entry is there same = absurd (omega arith)
 homes_appended (a ∷ items) zero x archive entry is there same =
     ap (λ (h : Home). h ∷ map home_of_account items)
-      (ap (λ es. let home : Home = record { name = x.name; entries = es } in home) same ∙ ap (λ a. appended entry (home_of_account a)) is)
+    (ap (λ es. let home : Home = record { name = x.name; entries = es } in home) same ∙ ap (λ a. appended entry (home_of_account a)) is)
 homes_appended (a ∷ items) (suc i) x archive entry is there same =
     ap (λ t. home_of_account a ∷ t) (homes_appended items i x archive entry is (omega arith) same)
 

@@ -1,7 +1,7 @@
 -- A page of the next entries of a log's archive ends well: its ids are new, and it has an entry where entries remain.
-use Rattle.std.proofs.Common.{◌≡◌, ◌≢◌, ℕ, zero, suc, add-one, ◌+◌, ◌-◌, ◌<◌, ◌≤◌, ◌^◌, min, Bool, true, false, cond, not, ◌&&◌, ◌||◌, leb, ltb, eqb, List, [], ◌∷◌, ◌++◌, Option, Some, None, Ok, length, take, drop, get_or, map, refl, sym, ap, ◌∙◌, subst, arith, inl, inr}
-use Rattle.std.proofs.lemmas.Bool.{cases_Bool, false_from_ne_true, le-ltb, leb-false, ne_eqb, or_from}
-use Rattle.std.proofs.lemmas.List.{length-append, length-drop, length-map, length-take, take_min, take_more}
+use Rattle.std.proofs.Common.{◌≡◌, ◌≢◌, ℕ, zero, suc, add-one, ◌+◌, ◌-◌, ◌<◌, ◌≤◌, ◌^◌, min, Bool, true, false, cond, ◌&&◌, ◌||◌, leb, ltb, eqb, List, [], ◌∷◌, ◌++◌, Option, Some, None, Ok, length, take, drop, get_or, map, refl, sym, ap, ◌∙◌, arith}
+use Rattle.std.proofs.lemmas.Bool.{false_from_ne_true, le-ltb, leb-false, ne_eqb, or_from}
+use Rattle.std.proofs.lemmas.List.{length-drop, length-map, length-take, take_min}
 use Rattle.std.proofs.lemmas.List.Folds.{list_any-append}
 use Rattle.std.proofs.lemmas.Slice.Eq.{bytes_eq-Decides}
 use Rattle.std.proofs.lemmas.Option.{get_or_from_slice_get}
@@ -13,9 +13,8 @@ use Rattle.xmpp_archive.proofs.PageCuts.{at_place}
 use Rattle.xmpp_archive.proofs.NumberedEntries.{FollowFrom, follow_numbered}
 use Rattle.xmpp_archive.specs.Entries.{AreNumbered, EntryView}
 use Rattle.xmpp_archive.specs.Ids.{id_of}
-use Rattle.xmpp_archive.specs.Pages.{page_behind}
 use Rattle.xmpp_log.specs.LogPages.{ids_of, last_id}
-use Rattle.xmpp_log.specs.Views.{LogView, OpenPage, advance_of, end_of, fin_answer, first_repeat, outcome_of, page_for, repeat_of, same_id, with_result}
+use Rattle.xmpp_log.specs.Views.{LogView, advance_of, fin_answer, first_repeat, outcome_of, page_for, same_id, with_result}
 use Rattle.xmpp_log.specs.declared.fin.Fin.{Fin}
 use Rattle.xmpp_log.specs.declared.log_entry.LogEntry.{LogEntry}
 use Rattle.xmpp_replay.proofs.CatchUps.{last_id_push, results_more}
@@ -47,8 +46,8 @@ known_below : (n s : ℕ) (es : List EntryView) → n < 2 ^ 64 → FollowFrom s 
 known_below n s [] small follow below = refl
 known_below n s (e ∷ es) small follow below =
     or_from (bytes_eq (id_of n) (id_of e.number)) (list_any (λ other. bytes_eq (id_of n) other) (ids_of (map as_logged es)))
-      (rw follow.0 (other_ids n s small (omega arith) (λ (e : n ≡ s). omega arith)))
-      (known_below n (suc s) es small follow.1 (omega arith))
+    (rw follow.0 (other_ids n s small (omega arith) (λ (e : n ≡ s). omega arith)))
+    (known_below n (suc s) es small follow.1 (omega arith))
 
 no_repeat : (s : ℕ) (es : List EntryView) (known : List (List ℕ)) → FollowFrom s es → s + length es ≤ 2 ^ 64 →
     ((n : ℕ) → s ≤ n → n < 2 ^ 64 → list_any (λ other. bytes_eq (id_of n) other) known ≡ false) →
@@ -57,10 +56,10 @@ no_repeat s [] known follow small absent = refl
 no_repeat s (e ∷ es) known follow small absent =
     let here : list_any (λ other. bytes_eq (id_of e.number) other) known ≡ false = rw follow.0 (absent s (omega arith) (omega arith)) in
     rw here (no_repeat (suc s) es (known ++ id_of e.number ∷ []) follow.1 (omega arith) (λ n above below.
-      list_any-append (λ other. bytes_eq (id_of n) other) known (id_of e.number ∷ [])
-      ∙ or_from (list_any (λ other. bytes_eq (id_of n) other) known) (bytes_eq (id_of n) (id_of e.number) || false)
-          (absent n (omega arith) below)
-          (or_from (bytes_eq (id_of n) (id_of e.number)) false (rw follow.0 (other_ids n s below (omega arith) (λ (e : n ≡ s). omega arith))) refl)))
+    list_any-append (λ other. bytes_eq (id_of n) other) known (id_of e.number ∷ [])
+    ∙ or_from (list_any (λ other. bytes_eq (id_of n) other) known) (bytes_eq (id_of n) (id_of e.number) || false)
+    (absent n (omega arith) below)
+    (or_from (bytes_eq (id_of n) (id_of e.number)) false (rw follow.0 (other_ids n s below (omega arith) (λ (e : n ≡ s). omega arith))) refl)))
 
 pub same_id_itself : (id : Option (List ℕ)) → same_id id id ≡ true
 same_id_itself None = refl
@@ -77,11 +76,11 @@ next_are_new most archive logged numbered small front =
     let had : length (take (length logged) archive) ≡ min (length logged) (length archive) = length-take (length logged) archive in
     let within = front.within in
     no_repeat (length logged + 1) (take most (drop (length logged) archive)) (ids_of logged)
-      (follow_take (length logged + 1) most (drop (length logged) archive) (follow_drop 1 (length logged) archive follow))
-      (omega arith)
-      (λ n above below.
-        ap (λ es. list_any (λ other. bytes_eq (id_of n) other) (ids_of es)) front.same
-        ∙ known_below n 1 (take (length logged) archive) below (follow_take 1 (length logged) archive follow) (omega arith))
+    (follow_take (length logged + 1) most (drop (length logged) archive) (follow_drop 1 (length logged) archive follow))
+    (omega arith)
+    (λ n above below.
+    ap (λ es. list_any (λ other. bytes_eq (id_of n) other) (ids_of es)) front.same
+    ∙ known_below n 1 (take (length logged) archive) below (follow_take 1 (length logged) archive follow) (omega arith))
 
 cond_neither : {X : Type 0} (b : Bool) (x y : X) → cond (b && false) x y ≡ y
 cond_neither true x y = refl
@@ -108,7 +107,7 @@ pub page_ends_well : (queryid : List ℕ) (most : ℕ) (archive : List EntryView
 page_ends_well queryid most archive log fin low numbered small front last complete =
     let named : bytes_eq queryid queryid ≡ true = bytes_eq_itself queryid in
     let ids : same_id fin.last (last_id (map as_logged (take most (drop (length log.entries) archive)))) ≡ true =
-        rw last (same_id_itself (last_id (map as_logged (take most (drop (length log.entries) archive))))) in
+    rw last (same_id_itself (last_id (map as_logged (take most (drop (length log.entries) archive))))) in
     let new = next_are_new most archive log.entries numbered small front in
     rw (named, ids, new) (page_advances queryid most archive log fin.complete low complete)
 
@@ -167,11 +166,11 @@ made_page_ends_well queryid most count archive log begun now fin low numbered sm
     let within = front.within in
     let left : length (drop (length log.entries) archive) ≡ length archive - length log.entries = length-drop (length log.entries) archive in
     let same : take count (drop (length log.entries) archive) ≡ take most (drop (length log.entries) archive) =
-        ap (λ n. take n (drop (length log.entries) archive)) (let m : count ≡ min most (length (drop (length log.entries) archive)) = omega arith in m)
-        ∙ take_min most (drop (length log.entries) archive) in
+    ap (λ n. take n (drop (length log.entries) archive)) (let m : count ≡ min most (length (drop (length log.entries) archive)) = omega arith in m)
+    ∙ take_min most (drop (length log.entries) archive) in
     let opens : now ≡ opened queryid most log (map as_logged (take most (drop (length log.entries) archive))) =
-        is ∙ ap (λ (l : LogView). opened queryid most l (map as_logged (take count (drop (length l.entries) archive)))) begins
-        ∙ ap (λ es. opened queryid most log (map as_logged es)) same in
+    is ∙ ap (λ (l : LogView). opened queryid most l (map as_logged (take count (drop (length l.entries) archive)))) begins
+    ∙ ap (λ es. opened queryid most log (map as_logged es)) same in
     let ends : fin.last ≡ last_id (map as_logged (take most (drop (length log.entries) archive))) =
-        last ∙ last_in_page (length log.entries) count archive numbered (omega arith) ∙ ap (λ es. last_id (map as_logged es)) same in
+    last ∙ last_in_page (length log.entries) count archive numbered (omega arith) ∙ ap (λ es. last_id (map as_logged es)) same in
     rw opens (page_ends_well queryid most archive log fin low numbered small front ends (complete ∙ ap (λ n. leb n most) (sym left)))

@@ -1,21 +1,20 @@
 -- What one step more adds to each part of the definitions.
-use Rattle.std.proofs.Common.{◌≡◌, ◌≢◌, ℕ, zero, suc, add-one, zero-add, ◌+◌, ◌-◌, ◌<◌, ◌≤◌, Bool, true, false, cond, not, ◌&&◌, ◌||◌, List, [], ◌∷◌, ◌++◌, Option, Some, None, IsTrue, length, take, drop, get_or, map, refl, sym, ap, ◌∙◌, subst, arith, inl, inr}
-use Rattle.std.proofs.lemmas.Bool.{cases_Bool, cond_both, and_parts, not-true}
-use Rattle.std.proofs.lemmas.List.{append-nil, append_assoc, length-append, length-map, map-append, map_push, take_more}
+use Rattle.std.proofs.Common.{◌≡◌, ℕ, zero, suc, zero-add, ◌+◌, ◌≤◌, Bool, true, false, cond, ◌||◌, List, [], ◌∷◌, ◌++◌, Some, IsTrue, length, take, map, refl, sym, ap, ◌∙◌, subst, arith}
+use Rattle.std.proofs.lemmas.Bool.{cond_both}
+use Rattle.std.proofs.lemmas.List.{append-nil, append_assoc, length-append, length-map, map_push}
 use Rattle.std.proofs.lemmas.List.Concat.{flat_map-append}
 use Rattle.std.proofs.lemmas.List.Elements.{filter-append}
 use Rattle.std.proofs.lemmas.List.Folds.{list_any-append}
 use Rattle.std.proofs.lemmas.List.Sums.{count_by-le-length, length-filter, sum_by-append}
-use Rattle.std.proofs.lemmas.Option.{get_or_from_slice_get, slice_get_within, none-some, same_Some}
-use Rattle.std.proofs.lemmas.Slice.Eq.{bytes_eq-Decides}
-use Rattle.std.specs.List.{count_by, filter, flat_map, list_any, slice_get}
+use Rattle.std.proofs.lemmas.Option.{none-some, same_Some}
+use Rattle.std.specs.List.{filter, slice_get}
 use Rattle.std.specs.Str.{bytes_eq}
 use Rattle.xmpp_archive.specs.Entries.{AreNumbered, EntryView, numbered}
 use Rattle.xmpp_log.specs.LogPages.{LogPage}
-use Rattle.xmpp_replay.specs.Direct.{Take, account_name, accounts_of, along, archive_of, concerns, device_name, devices_of, entry_of, home_of, is_said_by, numbered_from, pages_after, pages_from, pages_of, said_at, sent_by, take_at, takes_of}
+use Rattle.xmpp_replay.specs.Direct.{Take, account_name, accounts_of, along, archive_of, concerns, device_name, devices_of, entry_of, home_of, is_said_by, numbered_from, pages_after, pages_from, pages_of, sent_by, take_at, takes_of}
 use Rattle.xmpp_replay.specs.Grammar.{Declared, AreLines, declared_by, is_among, may_stand, nothing_declared}
 use Rattle.xmpp_replay.specs.Schedules.{steps_of}
-use Rattle.xmpp_replay.specs.Standing.{AreRight, declared_in}
+use Rattle.xmpp_replay.specs.Standing.{AreRight}
 use Rattle.xmpp_replay.specs.declared.schedule.Line.{Line}
 use Rattle.xmpp_replay.specs.declared.schedule.Step.{Step}
 use Rattle.xmpp_replay.specs.declared.schedule.Step.TheVariants.{Account, Device, Say, Catchup}
@@ -37,7 +36,7 @@ pages_from_push all device before [] pages step = ap (λ b. pages_after all devi
 pages_from_push all device before (first ∷ steps) pages step =
     pages_from_push all device (before ++ first ∷ []) steps (pages_after all device before pages first) step
     ∙ ap (λ b. pages_after all device b (pages_from all device (before ++ first ∷ []) (pages_after all device before pages first) steps) step)
-        (append_assoc before (first ∷ []) steps)
+    (append_assoc before (first ∷ []) steps)
 
 pub pages_push : (all before : List Step) (device : List ℕ) (step : Step) →
     pages_of all device (before ++ step ∷ []) ≡ pages_after all device before (pages_of all device before) step
@@ -74,7 +73,7 @@ pub home_push : (before : List Step) (step : Step) (name : List ℕ) →
 home_push [] step name = refl
 home_push (Device other account ∷ before) step name =
     or_further (bytes_eq name other) (is_among name (devices_of before)) account (home_of (before ++ step ∷ []) name) (home_of before name) (home_of (step ∷ []) name)
-      (home_push before step name)
+    (home_push before step name)
 home_push (Account other ∷ before) step name = home_push before step name
 home_push (Say other to text ∷ before) step name = home_push before step name
 home_push (Catchup other most ∷ before) step name = home_push before step name
@@ -108,8 +107,10 @@ archive_push account takes take =
   where
     kept : List Take
     kept = filter (concerns account) takes
+
     size : length (map entry_of (filter (concerns account) takes)) ≡ length (archive_of account takes)
     size = sym (length-numbered_from 1 (map entry_of (filter (concerns account) takes)))
+
     go : (hit : Bool) → numbered_from 1 (map entry_of (filter (concerns account) takes ++ cond hit (take ∷ []) []))
         ≡ cond hit (archive_of account takes ++ numbered (length (archive_of account takes) + 1) (entry_of take) ∷ []) (archive_of account takes)
     go true =
@@ -120,8 +121,13 @@ archive_push account takes take =
 
 pub archive_few : (account : List ℕ) (takes : List Take) → length (archive_of account takes) ≤ length takes
 archive_few account takes =
-    omega (arith, length-numbered_from 1 (map entry_of (filter (concerns account) takes)), length-map (filter (concerns account) takes) entry_of,
-      length-filter (concerns account) takes, count_by-le-length (concerns account) takes)
+    omega (
+      arith,
+      length-numbered_from 1 (map entry_of (filter (concerns account) takes)),
+      length-map (filter (concerns account) takes) entry_of,
+      length-filter (concerns account) takes,
+      count_by-le-length (concerns account) takes,
+    )
 
 pub take_at_few : (all before : List Step) (step : Step) → length (take_at all before step) ≤ 1
 take_at_few all before (Account name) = omega arith
@@ -148,7 +154,7 @@ further_on above (Say device to text) steps = refl
 further_on above (Catchup device most) steps = refl
 
 further_none : (above : Declared) → above ≡ further above []
-further_none above = 
+further_none above =
     ap (λ a. record { accounts = a; devices = above.devices }) (sym (append-nil above.accounts))
     ∙ ap (λ d. record { accounts = above.accounts ++ []; devices = d }) (sym (append-nil above.devices))
 
@@ -158,10 +164,10 @@ lines_right above n [] are i step is = absurd (none-some step is)
 lines_right above n (line ∷ lines) are zero step is =
     let same : line.step ≡ step = same_Some line.step step is in
     subst (λ (s : Step). IsTrue (may_stand (further above []) s)) same
-      (subst (λ (d : Declared). IsTrue (may_stand d line.step)) (further_none above) are.2)
+    (subst (λ (d : Declared). IsTrue (may_stand d line.step)) (further_none above) are.2)
 lines_right above n (line ∷ lines) are (suc i) step is =
     subst (λ (d : Declared). IsTrue (may_stand d step)) (further_on above line.step (take i (steps_of lines)))
-      (lines_right (declared_by line.step above) (n + 1) lines are.3 i step is)
+    (lines_right (declared_by line.step above) (n + 1) lines are.3 i step is)
 
 lines_few : (above : Declared) (n : ℕ) (lines : List Line) → AreLines above n lines → n ≤ 100001 → n + length lines ≤ 100001
 lines_few above n [] are low = omega arith

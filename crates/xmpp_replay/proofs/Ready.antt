@@ -1,8 +1,8 @@
 -- What a ready run says of the device at a place.
-use Rattle.std.proofs.Common.{◌≡◌, ℕ, ◌<◌, ◌≤◌, List, [], Some, None, length, get_or, set, map, refl, sym, ap, ◌∙◌, subst, arith, OnOk, Result, Ok, Err}
+use Rattle.std.proofs.Common.{◌≡◌, ℕ, ◌<◌, List, [], Some, length, get_or, map, refl, sym, ap, subst, arith, OnOk, Result, Ok, Err}
 use Rattle.std.proofs.lemmas.List.{length-map}
 use Rattle.std.proofs.lemmas.Option.{slice_get_read}
-use Rattle.std.specs.List.{All, slice_get}
+use Rattle.std.specs.List.{slice_get}
 use Rattle.xmpp_archive.specs.Entries.{EntryView}
 use Rattle.xmpp_replay.specs.Homes.{Home, empty_home}
 use Rattle.xmpp_replay.specs.Runs.{IsReady, IsReadyDevice}

@@ -1,25 +1,25 @@
 -- A run from a schedule's first step to its last.
-use Rattle.std.proofs.Common.{◌≡◌, ℕ, zero, suc, add-one, ◌+◌, ◌<◌, ◌≤◌, Bool, true, false, cond, ◌||◌, List, [], ◌∷◌, ◌++◌, Option, Some, None, IsTrue, not, ◌&&◌, nat_lt, length, take, drop, get_or, map, refl, sym, ap, ◌∙◌, subst, arith}
+use Rattle.std.proofs.Common.{◌≡◌, ℕ, zero, suc, add-one, ◌+◌, ◌<◌, ◌≤◌, true, false, List, [], ◌∷◌, ◌++◌, Some, not, ◌&&◌, nat_lt, length, take, drop, get_or, map, refl, sym, ap, ◌∙◌, subst, arith}
 use Rattle.std.proofs.lemmas.Bool.{and_parts, not-true, or_left}
 use Rattle.std.proofs.lemmas.List.{append-nil, get_or-map, length-map, length-take, map-append, take-append-drop, take_all, take_more}
 use Rattle.std.proofs.lemmas.List.Concat.{flat_map-append}
 use Rattle.std.proofs.lemmas.List.Elements.{All-nil}
 use Rattle.std.proofs.lemmas.List.Folds.{list_any-append}
 use Rattle.std.proofs.lemmas.Option.{get_or_from_slice_get, none-some, slice_get-get_or, slice_get_within}
-use Rattle.std.specs.List.{All, list_any, slice_get}
+use Rattle.std.specs.List.{All, slice_get}
 use Rattle.std.specs.Str.{bytes_eq}
-use Rattle.xmpp_log.specs.LogPages.{LogPage, log_of, tile_of}
+use Rattle.xmpp_log.specs.LogPages.{LogPage, tile_of}
 use Rattle.xmpp_replay.proofs.Deliveries.{once_push}
 use Rattle.xmpp_replay.proofs.Prefixes.{accounts_push, right_steps}
 use Rattle.xmpp_replay.proofs.FollowedSteps.{after_followed, may_follow, ready_after}
-use Rattle.xmpp_replay.specs.Direct.{account_line, account_name, accounts_of, device_line, devices_of, direct_report, entry_line, page_line, pages_of, take_line, takes_of}
-use Rattle.xmpp_replay.specs.Grammar.{AreLines, IsSchedule, is_among, is_name, may_stand, nothing_declared}
+use Rattle.xmpp_replay.specs.Direct.{account_line, account_name, accounts_of, device_line, direct_report, page_line, pages_of, takes_of}
+use Rattle.xmpp_replay.specs.Grammar.{IsSchedule, is_among, is_name}
 use Rattle.xmpp_replay.specs.Homes.{Home, empty_home, home_at, names_of}
 use Rattle.xmpp_replay.specs.ReportLines.{home_line, report_of, state_line, tile_line}
-use Rattle.xmpp_replay.specs.Reports.{AccountView, DeviceView, ReportView}
-use Rattle.xmpp_replay.specs.Runs.{HasFollowed, IsAfter, IsDevice, IsReady, IsUnused, MayFollow}
+use Rattle.xmpp_replay.specs.Reports.{DeviceView}
+use Rattle.xmpp_replay.specs.Runs.{HasFollowed, IsAfter, IsDevice, IsReady, MayFollow}
 use Rattle.xmpp_replay.specs.Schedules.{ScheduleView, steps_of}
-use Rattle.xmpp_replay.specs.Standing.{AreOnce, AreRight, declared_in}
+use Rattle.xmpp_replay.specs.Standing.{AreOnce, AreRight}
 use Rattle.xmpp_replay.specs.declared.run.Run.{Run}
 use Rattle.xmpp_replay.specs.declared.run.devices.Device.{Device}
 use Rattle.xmpp_replay.specs.declared.schedule.Line.{Line}
@@ -34,7 +34,7 @@ taken_push all i step there =
 pub account_fresh : (all : List Step) (i : ℕ) (name : List ℕ) → AreRight all → slice_get all i ≡ Some (Account name) → is_among name (accounts_of (take i all)) ≡ false
 account_fresh all i name right there =
     not-true (is_among name (accounts_of (take i all)))
-      (and_parts (nat_lt (length (accounts_of (take i all))) 100 && is_name name) (not (is_among name (accounts_of (take i all)))) (right.each i (Account name) there)).1
+    (and_parts (nat_lt (length (accounts_of (take i all))) 100 && is_name name) (not (is_among name (accounts_of (take i all)))) (right.each i (Account name) there)).1
 
 accounts_once_after : (before : List Step) (step : Step) → AreOnce (accounts_of before) → ((name : List ℕ) → step ≡ Account name → is_among name (accounts_of before) ≡ false) →
     AreOnce (accounts_of (before ++ step ∷ []))
@@ -53,8 +53,8 @@ accounts_once_to all (suc i) right within =
     let first : Step = first_of_list all (omega arith) in
     let there : slice_get all i ≡ Some (get_or all i first) = slice_get-get_or all i first at in
     subst (λ ss. AreOnce (accounts_of ss)) (sym (taken_push all i (get_or all i first) there) ∙ ap (λ n. take n all) (add-one i))
-      (accounts_once_after (take i all) (get_or all i first) (accounts_once_to all i right (omega arith))
-        (λ name same. account_fresh all i name right (there ∙ ap Some same)))
+    (accounts_once_after (take i all) (get_or all i first) (accounts_once_to all i right (omega arith))
+    (λ name same. account_fresh all i name right (there ∙ ap Some same)))
   where
     first_of_list : (steps : List Step) → 0 < length steps → Step
     first_of_list [] some = absurd (omega arith)
@@ -88,7 +88,7 @@ pub after_at : (all : List Step) (i : ℕ) (step : Step) (run next : Run) → Ar
     HasFollowed run next step → IsAfter all (take (i + 1) all) next
 after_at all i step run next right there is did =
     subst (λ ss. IsAfter all ss next) (sym (taken_push all i step there))
-      (after_followed all (take i all) run next step (few_before all i step right there) (accounts_once all right) is (may_at all i step run right there is) did)
+    (after_followed all (take i all) run next step (few_before all i step right there) (accounts_once all right) is (may_at all i step run right there is) did)
 
 -- the run before the first step
 pub after_none : (all : List Step) (run : Run) → run.accounts.homes ≡ map empty_home (accounts_of all) → run.takes.items ≡ [] → run.index ≡ [] → run.devices.items ≡ [] →
@@ -127,8 +127,13 @@ accounts_told all (name ∷ names) = ap (λ t. account_line all name ∷ t) (acc
 pub report_told : (all : List Step) (run : Run) → IsAfter all all run → report_of run ≡ direct_report all
 unfolding direct_report
 report_told all run is =
-    rw (is.takes, is.homes, accounts_told all (accounts_of all),
-      devices_told all run.devices.items is.devices, is.names) refl
+    rw (
+      is.takes,
+      is.homes,
+      accounts_told all (accounts_of all),
+      devices_told all run.devices.items is.devices,
+      is.names,
+    ) refl
 
 -- the step of the line at a place
 pub step_there : (lines : List Line) (i : ℕ) (line : Line) → i < length lines → line ≡ get_or lines i line → slice_get (steps_of lines) i ≡ Some line.step

@@ -1,5 +1,5 @@
 -- The lines of the report that a run's parts make.
-use Rattle.std.specs.Prelude.{ℕ, List, [], length, map, true, false, Some, None, if◌then◌else◌}
+use Rattle.std.specs.Prelude.{[], length, map, true, false, Some, None, if◌then◌else◌}
 use Rattle.xmpp_log.specs.declared.tile.Tile.{Tile}
 use Rattle.xmpp_replay.specs.Direct.{entry_line, logged_line}
 use Rattle.xmpp_replay.specs.Homes.{Home}

@@ -1,7 +1,6 @@
 -- A run in the middle of a schedule: what its parts are after the first steps, and what one step does to them.
-use Rattle.std.specs.Prelude.{◌≡◌, ℕ, ◌+◌, ◌<◌, ◌≤◌, Bool, true, false, List, [], ◌∷◌, ◌++◌, Some, None, length, map, slice_set, slice_index_or, slice_get}
+use Rattle.std.specs.Prelude.{◌≡◌, ℕ, ◌<◌, ◌≤◌, true, false, List, [], ◌∷◌, ◌++◌, Some, None, length, map, slice_set, slice_index_or, slice_get}
 use Rattle.std.specs.List.{All}
-use Rattle.xmpp_archive.specs.Entries.{EntryView}
 use Rattle.xmpp_replay.specs.Direct.{accounts_of, along, archive_of, devices_of, home_of, pages_of, said_at, sent_by, take_line, takes_of}
 use Rattle.xmpp_replay.specs.Grammar.{is_among}
 use Rattle.xmpp_replay.specs.Homes.{Home, home_at, names_of}

@@ -82,7 +82,12 @@ impl Run {
             unreachable!()
         };
         let device = &mut self.devices[place];
-        pages::catch_up(&mut device.log, alloc, self.accounts.archive(device.home), most)
+        pages::catch_up(
+            &mut device.log,
+            alloc,
+            self.accounts.archive(device.home),
+            most,
+        )
     }
 
     /// Follows a step of a schedule.
@@ -94,7 +99,12 @@ impl Run {
         match step {
             Step::Account(_) => Ok(()),
             Step::Device(name, account) => self.declare(alloc, name.as_str(), account.as_str()),
-            Step::Say(device, to, text) => self.say(alloc, device.as_str(), to.as_str(), text.as_str()),
+            Step::Say(device, to, text) => self.say(
+                alloc,
+                device.as_str(),
+                to.as_str(),
+                text.as_str(),
+            ),
             Step::Catchup(device, most) => self.catch_up(alloc, device.as_str(), *most),
         }
     }
@@ -157,3 +167,6 @@ pub fn direct(alloc: Global, schedule: &Schedule) -> Result<Report, NoMemory>
     run.follow_lines(alloc, lines)?;
     run.into_report(alloc)
 }
+
+#[cfg(test)]
+mod tests;

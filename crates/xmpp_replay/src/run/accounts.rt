@@ -147,7 +147,13 @@ impl Accounts {
     #[tactic(auto, using(crate::proofs::HomeLists::fewer, crate::proofs::HomeLists::few_after, crate::proofs::HomeLists::appended_length))]
     /// Adds an entry to the archives at two places, or once where they are the same. A refusal leaves every archive
     /// as it was.
-    pub(crate) fn deliver(&mut self, alloc: Global, from: usize, to: usize, entry: Entry) -> Result<(), NoMemory>
+    pub(crate) fn deliver(
+        &mut self,
+        alloc: Global,
+        from: usize,
+        to: usize,
+        entry: Entry,
+    ) -> Result<(), NoMemory>
         requires from { from < length self.old.homes }
         requires to { to < length self.old.homes }
         requires few { All (λ (home : Home). length home.entries < 4294967294) self.old.homes }

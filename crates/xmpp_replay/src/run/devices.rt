@@ -19,7 +19,12 @@ pub(crate) struct Device {
 
 impl Device {
     /// A device that has said and logged nothing.
-    pub(crate) fn new(alloc: Global, name: &str, account: &str, home: usize) -> Result<Device, NoMemory>
+    pub(crate) fn new(
+        alloc: Global,
+        name: &str,
+        account: &str,
+        home: usize,
+    ) -> Result<Device, NoMemory>
         ensures name { IfOk result (λ d. d.name ≡ name.now) }
         ensures account { IfOk result (λ d. d.account ≡ account.now) }
         ensures home { IfOk result (λ d. d.home ≡ home) }

@@ -9,7 +9,7 @@ use crate::report::{SaidLine, SaidMark, TakeLine, TakeLines};
 use crate::run::accounts::{Accounts, bare_address};
 use crate::run::devices::Device;
 use std::alloc::Global;
-use xmpp_archive::{Body, Bodies, Entry};
+use xmpp_archive::{Bodies, Body, Entry};
 use xmpp_edge::{ListOf, NoMemory, Text};
 
 /// A device's full address (RFC 7622).

@@ -31,7 +31,13 @@ fn begin_page(log: &mut Log, alloc: Global, most: u32) -> Result<Text, NoMemory>
 }
 
 /// Copies the archive's entry with a number into the open page.
-fn copy_result(log: &mut Log, alloc: Global, queryid: &str, archive: &Archive, number: u64) -> Result<(), NoMemory>
+fn copy_result(
+    log: &mut Log,
+    alloc: Global,
+    queryid: &str,
+    archive: &Archive,
+    number: u64,
+) -> Result<(), NoMemory>
     requires open { IsSomeAnd (page_for queryid.now log.old.page) (λ page. length page.results < page.max) }
     requires there { (1 ≤ number) × (number ≤ length archive.now.entries) }
     ensures { (d : EntryView) → OnOk result (log.new ≡ with_result log.old (as_logged (slice_index_or archive.now.entries (number - 1) d))) }
@@ -126,7 +132,12 @@ fn take_page(log: &mut Log, alloc: Global, archive: &Archive, most: u32) -> Resu
 
 #[tactic(auto, using(crate::proofs::CatchUps::turn_kept, crate::proofs::CatchUps::turn_smaller, crate::proofs::CatchUps::front_grows))]
 /// Takes the pages behind the log's last entry until one is complete. Each costs what its entries cost.
-pub(crate) fn catch_up(log: &mut Log, alloc: Global, archive: &Archive, most: u32) -> Result<(), NoMemory>
+pub(crate) fn catch_up(
+    log: &mut Log,
+    alloc: Global,
+    archive: &Archive,
+    most: u32,
+) -> Result<(), NoMemory>
     requires most { (1 ≤ most) × (most ≤ 100) }
     requires closed { log.old.page ≡ None }
     requires front { IsFrontOf archive.now.entries log.old.entries }

@@ -1,5 +1,5 @@
 -- The lines of a schedule are in their places.
-use Rattle.std.proofs.Common.{◌≡◌, List, ap, ◌∙◌}
+use Rattle.std.proofs.Common.{ap, ◌∙◌}
 use Rattle.xmpp_replay.proofs.WholeRuns.{lines_of_schedule}
 use Rattle.xmpp_replay.specs.Schedules.{ScheduleView}
 use Rattle.xmpp_replay.proofs.run.direct.Goals as goal

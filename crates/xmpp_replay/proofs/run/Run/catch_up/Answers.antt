@@ -1,6 +1,5 @@
 -- The device at the place has its log caught up.
-use Rattle.std.proofs.Common.{◌≡◌, ◌<◌, ◌≤◌, length, refl, sym, ap, ◌∙◌}
-use Rattle.xmpp_archive.specs.Entries.{EntryView}
+use Rattle.std.proofs.Common.{refl, sym, ap, ◌∙◌}
 use Rattle.xmpp_replay.proofs.Ready.{OnOk_then, device_there, front_ready}
 use Rattle.xmpp_replay.specs.Turns.{caught_up}
 use Rattle.xmpp_replay.proofs.run.Run.catch_up.Goals as goal
@@ -8,7 +7,7 @@ use Rattle.xmpp_replay.proofs.run.Run.catch_up.Goals as goal
 pub catch_up-requires-clause-front : goal.catch_up-requires-clause-front
 catch_up-requires-clause-front c =
     front_ready c.args.self.now c.in-Some.place c.index_mut-device.result.now c.archive.result.now.entries c.requires.ready c.in-Some.ensures.there.0
-      c.index_mut-device.ensures.value c.archive.ensures
+    c.index_mut-device.ensures.value c.archive.ensures
 
 pub returns : goal.returns
 returns c = OnOk_then c.catch_up.result c.catch_up.ensures (λ done. record {

@@ -1,5 +1,5 @@
 -- One turn more.
-use Rattle.std.proofs.Common.{◌≡◌, ◌++◌, List, ap, subst, sym}
+use Rattle.std.proofs.Common.{List, ap, subst, sym}
 use Rattle.xmpp_log.specs.Views.{LogView}
 use Rattle.xmpp_log.specs.declared.log_entry.LogEntry.{LogEntry}
 use Rattle.xmpp_replay.proofs.CatchUps.{front_grows, turn_kept}

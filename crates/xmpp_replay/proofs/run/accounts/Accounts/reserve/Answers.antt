@@ -1,17 +1,16 @@
 -- The account at the place has its archive with more room, and the lists that clauses see are as they were.
-use Rattle.std.proofs.Common.{◌≡◌, ℕ, ◌+◌, ◌<◌, ◌≤◌, length, get_or, map, sym, ap, ◌∙◌, subst, arith}
+use Rattle.std.proofs.Common.{sym, ap, ◌∙◌, arith}
 use Rattle.std.proofs.lemmas.Grind.{common_steps}
-use Rattle.std.proofs.lemmas.List.{length-map}
 use Rattle.xmpp_replay.proofs.HomeLists.{few_of_view, few_there, homes_kept, place_in_view, rooms_raised, room_there}
-use Rattle.xmpp_replay.specs.Homes.{HomesView, home_of_account, names_of, room_of_account}
+use Rattle.xmpp_replay.specs.Homes.{HomesView, names_of}
 use Rattle.xmpp_replay.proofs.run.accounts.Accounts.reserve.Goals as goal
 use Rattle.xmpp_replay.proofs.run.accounts.Accounts.reserve.Goals.{in-Ok, in-Err-NoMemory}
 
 pub unreachable-requires : goal.unreachable-requires
 unreachable-requires c =
     let few = few_there c.self.inside.accounts.items c.args.place c.index_mut.result.now c.index_mut.ensures.value
-        (place_in_view c.self.inside.accounts.items c.args.self.now c.args.place c.self.view_is c.requires.there)
-        (few_of_view c.self.inside.accounts.items c.args.self.now c.self.view_is c.requires.few) in
+    (place_in_view c.self.inside.accounts.items c.args.self.now c.args.place c.self.view_is c.requires.there)
+    (few_of_view c.self.inside.accounts.items c.args.self.now c.self.view_is c.requires.few) in
     grind (arith, common_steps, c.in-Err-Full.ensures.full)
 
 pub invariant_of-self : goal.invariant_of-self
@@ -22,8 +21,8 @@ pub returns-clause-ok : goal.returns-clause-ok
 returns-clause-ok c =
     let there = place_in_view c.self.inside.accounts.items c.args.self.now c.args.place c.self.view_is c.requires.there in
     elim c.match-reserve.branch [
-      in-Ok w ↦ rw (w.result-is, room_there c.self.inside.accounts.items c.args.place _ there) w.in-Ok.ensures.spare
-    | in-Err-NoMemory w ↦ rw w.result-is tt
+      | in-Ok w ↦ rw (w.result-is, room_there c.self.inside.accounts.items c.args.place _ there) w.in-Ok.ensures.spare
+      | in-Err-NoMemory w ↦ rw w.result-is tt
     ]
 
 pub returns-clause-homes : goal.returns-clause-homes
@@ -34,4 +33,4 @@ returns-clause-homes c =
 pub returns-clause-others : goal.returns-clause-others
 returns-clause-others c k =
     rw (sym (ap (λ (v : HomesView). v.rooms) c.self.view_is))
-      (rooms_raised c.self.inside.accounts.items c.args.place c.index_mut.result.now c.reserve.new.self c.index_mut.ensures.value c.reserve.ensures.kept k)
+    (rooms_raised c.self.inside.accounts.items c.args.place c.index_mut.result.now c.reserve.new.self c.index_mut.ensures.value c.reserve.ensures.kept k)
