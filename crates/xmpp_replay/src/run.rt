@@ -128,8 +128,8 @@ impl Run {
         })
     }
 
-    #[tactic(auto, using(crate::proofs::WholeRuns::after_none))]
     /// The run before the first of some lines: their accounts are there, and nothing else.
+    #[tactic(auto, using(crate::proofs::WholeRuns::after_none))]
     fn of_lines(alloc: Global, lines: &[Line]) -> Result<Run, NoMemory>
         requires { AreRight (steps_of lines.now) }
         ensures { IfOk result (λ run. IsAfter (steps_of lines.now) [] run) }

@@ -144,9 +144,9 @@ impl Accounts {
         self.accounts[place].archive.append_reserved(entry);
     }
 
-    #[tactic(auto, using(crate::proofs::HomeLists::fewer, crate::proofs::HomeLists::few_after, crate::proofs::HomeLists::appended_length))]
     /// Adds an entry to the archives at two places, or once where they are the same. A refusal leaves every archive
     /// as it was.
+    #[tactic(auto, using(crate::proofs::HomeLists::fewer, crate::proofs::HomeLists::few_after, crate::proofs::HomeLists::appended_length))]
     pub(crate) fn deliver(
         &mut self,
         alloc: Global,

@@ -71,8 +71,8 @@ fn end_page(log: &mut Log, alloc: Global, queryid: &str, fin: &Fin) -> Result<()
     }
 }
 
-#[tactic(auto, using(crate::proofs::CatchUps::results_more))]
 /// Copies so many entries of the archive behind the log's last into the open page.
+#[tactic(auto, using(crate::proofs::CatchUps::results_more))]
 fn copy_results(
     log: &mut Log,
     alloc: Global,
@@ -103,9 +103,9 @@ fn id_in_page(alloc: Global, empty: bool, number: u64) -> Result<Option<Text>, N
     Ok(Some(id_of_number(alloc, number)?))
 }
 
-#[tactic(auto, using(crate::proofs::PageEnds::page_ends_well))]
 /// Takes the archive's next page of at most so many entries over into the log. It answers whether the page is
 /// complete, and costs what the page costs, however long the archive is.
+#[tactic(auto, using(crate::proofs::PageEnds::page_ends_well))]
 fn take_page(log: &mut Log, alloc: Global, archive: &Archive, most: u32) -> Result<bool, NoMemory>
     requires most { (1 ≤ most) × (most ≤ 100) }
     requires closed { log.old.page ≡ None }
@@ -130,8 +130,8 @@ fn take_page(log: &mut Log, alloc: Global, archive: &Archive, most: u32) -> Resu
     Ok(complete)
 }
 
-#[tactic(auto, using(crate::proofs::CatchUps::turn_kept, crate::proofs::CatchUps::turn_smaller, crate::proofs::CatchUps::front_grows))]
 /// Takes the pages behind the log's last entry until one is complete. Each costs what its entries cost.
+#[tactic(auto, using(crate::proofs::CatchUps::turn_kept, crate::proofs::CatchUps::turn_smaller, crate::proofs::CatchUps::front_grows))]
 pub(crate) fn catch_up(
     log: &mut Log,
     alloc: Global,
