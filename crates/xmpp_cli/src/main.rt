@@ -18,10 +18,14 @@ use xmpp_edge::{NoMemory, StdSink, StdSource};
 /// The words behind the program's name. There are none where one is not UTF-8.
 fn words_of<R: Env + AllocGlobal>(rt: &R) -> Result<Vec<String>, NoMemory> {
     let mut words = Vec::new(rt.alloc());
-    if let Ok(args) = env::args(rt) {
-        for word in args.skip(1) {
-            words.push(word)?;
+    match env::args(rt) {
+        Ok(args) => {
+            for word in args.skip(1) {
+                words.push(word)?;
+            }
         }
+        Err(e) if e.kind() == io::ErrorKind::OutOfMemory => return Err(NoMemory),
+        Err(_) => {}
     }
     Ok(words)
 }
