@@ -17,7 +17,7 @@ mod steps;
 
 pub use laws::direct_is_lawful;
 pub use name_index::NameIndex;
-pub use reading::read_schedule;
+pub use reading::{read_schedule, reading_is_the_grammar};
 pub use report::{
     AccountLine, AccountLines, ConnEnd, ConnLine, ConnLines, DeviceLine, DeviceLines, EntryLine,
     EntryLines, HeldLine, HeldLines, LoggedLine, LoggedLines, PageLine, PageLines, RefusedLine,

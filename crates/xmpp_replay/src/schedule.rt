@@ -41,7 +41,8 @@ impl Model for Schedule {
     ghost view = { λ s. record { wire = s.wire; lines = s.lines.items } };
 }
 
-/// Why a line is not in the grammar. Of a bad line the first reason in this order is told.
+/// Why a line is not in the grammar. Of a bad line the first reason is told: those up to `Shape` in this order, and
+/// the further ones by the fields from the left.
 #[derive(Clone, Copy, Debug, PartialEq, Eq)]
 pub enum LineWhy {
     /// Line 1 is no schedule's first line.
