@@ -1,0 +1,6 @@
+pub mod Answers
+pub mod Cuts
+pub mod Forms
+pub mod Indexed
+pub mod Normal
+pub mod Plain

@@ -1,0 +1,46 @@
+-- The normal form of an address in the profile of this project (RFC 7622 sections 3.1 to 3.4).
+use Rattle.std.specs.Prelude.{◌≡◌, ℕ, ◌≤◌, not, ◌&&◌, List, [], ◌∷◌, ◌++◌, length, All, IsTrue, IfSome, Option, Some, None, Result, Ok, Err}
+use Rattle.std.specs.Char.{is_ascii_uppercase}
+use Rattle.xmpp_jid.specs.declared.fault.JidFault.{JidFault}
+use Rattle.xmpp_jid.specs.Cuts.{bare_of, local_of, domain_of, resource_of}
+use Rattle.xmpp_jid.specs.Forms.{is_local_byte, local_form, domain_form, resource_form}
+
+-- the parts in normal form, one after another, or the first refusal from the left
+abbrev pub joined : Result (List ℕ) JidFault → Result (List ℕ) JidFault → Result (List ℕ) JidFault → Result (List ℕ) JidFault
+joined (Err e) domain resource = Err e
+joined (Ok local) (Err e) resource = Err e
+joined (Ok local) (Ok domain) (Err e) = Err e
+joined (Ok local) (Ok domain) (Ok resource) = Ok (local ++ domain ++ resource)
+
+abbrev pub followed_by_at : Result (List ℕ) JidFault → Result (List ℕ) JidFault
+followed_by_at (Ok local) = Ok (local ++ 64 ∷ [])
+followed_by_at (Err e) = Err e
+
+abbrev pub behind_slash : Result (List ℕ) JidFault → Result (List ℕ) JidFault
+behind_slash (Ok resource) = Ok (47 ∷ resource)
+behind_slash (Err e) = Err e
+
+-- the local part in normal form with its `@`, and nothing where there is no local part
+abbrev pub local_front : Option (List ℕ) → Result (List ℕ) JidFault
+local_front None = Ok []
+local_front (Some given) = followed_by_at (local_form given)
+
+-- the resource in normal form with its `/`, and nothing where there is no resource
+abbrev pub resource_back : Option (List ℕ) → Result (List ℕ) JidFault
+resource_back None = Ok []
+resource_back (Some given) = behind_slash (resource_form given)
+
+-- The normal form of a text as an address, or why it has none. From bytes to bytes.
+abbrev pub normal : List ℕ → Result (List ℕ) JidFault
+normal text = joined (local_front (local_of text)) (domain_form (domain_of text)) (resource_back (resource_of text))
+
+-- a part's bytes
+abbrev pub IsPartLength : List ℕ → Type 0
+IsPartLength part = (1 ≤ length part) × (length part ≤ 1023)
+
+-- What a text in normal form has: the length of each part, and a local part of lower-case ASCII.
+pub record IsAddress (text : List ℕ) : Type 0 where
+  pub domain : IsPartLength (domain_of text)
+  pub local : IfSome (local_of text) IsPartLength
+  pub lower_local : IfSome (local_of text) (All (λ b. IsTrue (is_local_byte b && not (is_ascii_uppercase b))))
+  pub resource : IfSome (resource_of text) IsPartLength

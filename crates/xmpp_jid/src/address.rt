@@ -1,0 +1,208 @@
+ghost use Rattle.std.specs.Prelude.{◌≡◌, ◌≢◌, ◌↔◌, IfOk, IfErr, IsTrue, IsSome, Ok, Err};
+ghost use Rattle.std.specs.Option.{option_copied};
+ghost use Rattle.xmpp_jid.specs.Cuts.{bare_of, local_of, domain_of, resource_of};
+ghost use Rattle.xmpp_jid.specs.Normal.{normal};
+
+use crate::fault::JidFault;
+use crate::forms::{begin, end, push_domain, split_local, split_resource};
+use std::alloc::Global;
+use std::cmp::Ordering;
+use std::fmt;
+use std::marker::Model;
+use xmpp_edge::{Copied, NoMemory, Text};
+
+/// An address `[local@]domain[/resource]` in normal form (RFC 7622 section 3.1). What stands behind the first `/` is
+/// the resource, and of the rest, what stands before the first `@` is the local part. Each part has 1 to 1,023 bytes.
+/// The local part is printable ASCII without space and without `"&'/:<>@`, in lower case. The domain is in its ASCII
+/// form, without a full stop at its end. The resource is in Unicode's form NFC and has no control character.
+///
+/// Two addresses are equal exactly where their texts are, and are ordered by the bytes of their texts. Contracts see
+/// an address as the bytes of its text.
+#[derive(Drop)]
+pub struct Jid {
+    text: Text,
+    domain_at: usize,
+    bare_end: usize,
+}
+
+impl Model for Jid {
+    ghost use Rattle.std.specs.Prelude.{List, ℕ};
+    ghost use Rattle.xmpp_jid.specs.Indexed.{IsIndexed};
+
+    ghost Value = { List ℕ };
+
+    ghost view = { λ j. j.text };
+
+    ghost invariant = { λ j. IsIndexed j.text j.domain_at j.bare_end };
+}
+
+impl Jid {
+    /// The address that a text spells, in normal form. Each refusal but `NoMemory` comes exactly where the definition
+    /// refuses so: part by part from the left, and of one part `Empty`, then its own rule, then `TooLong`.
+    pub fn parse(alloc: Global, text: &str) -> Result<Jid, JidFault>
+        ensures ok { IfOk result (λ jid. normal text.now ≡ Ok jid) }
+        ensures refused { IfErr result (λ fault. fault ≢ JidFault.NoMemory → normal text.now ≡ Err fault) }
+        ensures again { IfOk result (λ jid. normal jid ≡ Ok jid) }
+    {
+        let (bare, resource) = split_resource(text);
+        let (local, domain) = split_local(bare);
+        let mut out = begin(alloc, local, text.len())?;
+        let domain_at = out.len();
+        push_domain(alloc, &mut out, domain)?;
+        let bare_end = out.len();
+        end(alloc, &mut out, resource)?;
+        Ok(Jid {
+            text: Text::from(out),
+            domain_at,
+            bare_end,
+        })
+    }
+
+    /// The whole text. It is its own normal form.
+    pub fn text(&self) -> &str
+        ensures text { result.now ≡ self.now }
+        ensures normal { normal self.now ≡ Ok self.now }
+    {
+        self.text.as_str()
+    }
+
+    /// The bare address: the text before its first `/`, or all of it where there is none.
+    pub fn bare(&self) -> &str
+        ensures { result.now ≡ bare_of self.now }
+    {
+        let text = self.text.as_str();
+        &text[..self.bare_end]
+    }
+
+    /// The resource. `None` exactly where the address has none.
+    pub fn resource(&self) -> Option<&str>
+        ensures { option_copied result ≡ resource_of self.now }
+    {
+        let text = self.text.as_str();
+        if self.bare_end < text.len() {
+            Some(&text[self.bare_end + 1..])
+        } else {
+            None
+        }
+    }
+
+    /// The local part. `None` exactly where the address has none.
+    pub fn local(&self) -> Option<&str>
+        ensures { option_copied result ≡ local_of self.now }
+    {
+        let text = self.text.as_str();
+        if self.domain_at == 0 {
+            None
+        } else {
+            Some(&text[..self.domain_at - 1])
+        }
+    }
+
+    /// The domain, in its ASCII form.
+    pub fn domain(&self) -> &str
+        ensures { result.now ≡ domain_of self.now }
+    {
+        let text = self.text.as_str();
+        &text[self.domain_at..self.bare_end]
+    }
+
+    /// Whether two addresses have one bare address. It takes no memory.
+    pub fn same_bare(&self, other: &Jid) -> bool
+        ensures { IsTrue result ↔ (bare_of self.now ≡ bare_of other.now) }
+    {
+        self.bare() == other.bare()
+    }
+
+    /// Whether the address has a resource (RFC 6120 section 1.4).
+    pub fn is_full(&self) -> bool
+        ensures { IsTrue result ↔ IsSome (resource_of self.now) }
+    {
+        self.bare_end < self.text.as_str().len()
+    }
+
+    /// An equal address, in memory of its own.
+    pub fn copy(&self, alloc: Global) -> Result<Jid, NoMemory>
+        ensures { IfOk result (λ copy. copy ≡ self.now) }
+    {
+        Ok(Jid {
+            text: self.text.copied(alloc)?,
+            domain_at: self.domain_at,
+            bare_end: self.bare_end,
+        })
+    }
+}
+
+impl Copied for Jid {
+    fn copied(&self, alloc: Global) -> Result<Jid, NoMemory> {
+        self.copy(alloc)
+    }
+}
+
+impl PartialEq for Jid {
+    ghost use Rattle.std.specs.Prelude.{◌==◌};
+    ghost use Rattle.std.proofs.lemmas.Cmp.{nat_list_eq_equiv};
+    ghost use Rattle.std.specs.Cmp.{partial_equiv_from_equiv};
+    ghost use Rattle.std.specs.Cmp.Lexicographic.{pointwise};
+
+    ghost eq = { pointwise ◌==◌ };
+
+    ghost laws = { partial_equiv_from_equiv nat_list_eq_equiv };
+
+    fn eq(&self, other: &Jid) -> bool {
+        self.text() == other.text()
+    }
+}
+
+impl Eq for Jid {
+    ghost use Rattle.std.proofs.lemmas.Cmp.{nat_list_eq_equiv};
+
+    ghost laws = { nat_list_eq_equiv };
+}
+
+impl PartialOrd for Jid {
+    ghost use Rattle.std.proofs.Common.{rules};
+    ghost use Rattle.std.specs.Cmp.{partial_order_from_own_ties};
+    ghost use Rattle.std.specs.Cmp.Lexicographic.{slice_cmp};
+    ghost use Rattle.std.specs.Cmp.Rules.{comparing};
+    ghost use Rattle.std.specs.Ordering.{nat_cmp, as_partial_cmp};
+
+    ghost partial_cmp = { as_partial_cmp (slice_cmp nat_cmp) };
+
+    ghost laws = { partial_order_from_own_ties (Prim.search (comparing, rules)) (Prim.search (comparing, rules)) };
+
+    fn partial_cmp(&self, other: &Jid) -> Option<Ordering> {
+        Some(self.cmp(other))
+    }
+}
+
+impl Ord for Jid {
+    ghost use Rattle.std.proofs.Common.{rules};
+    ghost use Rattle.std.specs.Cmp.Lexicographic.{slice_cmp};
+    ghost use Rattle.std.specs.Cmp.Rules.{comparing};
+    ghost use Rattle.std.specs.Ordering.{nat_cmp};
+
+    ghost cmp = { slice_cmp nat_cmp };
+
+    ghost total = { Prim.search (comparing, rules) };
+
+    ghost matches_partial_cmp = { Prim.search (comparing, rules) };
+
+    ghost matches_eq = { Prim.search (comparing, rules) };
+
+    fn cmp(&self, other: &Jid) -> Ordering {
+        self.text().cmp(other.text())
+    }
+}
+
+impl fmt::Display for Jid {
+    fn fmt<W: fmt::Write>(&self, f: &mut fmt::Formatter<W>) -> fmt::Result {
+        f.write_str(self.text())
+    }
+}
+
+impl fmt::Debug for Jid {
+    fn fmt<W: fmt::Write>(&self, f: &mut fmt::Formatter<W>) -> fmt::Result {
+        let text = self.text();
+        write!(f, "{text:?}")
+    }
+}
