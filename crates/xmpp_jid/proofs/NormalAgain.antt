@@ -105,7 +105,6 @@ record IsFrom (text out : List ℕ) : Type 0 where
   resource_is : resource_back (resource_of text) ≡ Ok resource
   joined_is : local ++ domain ++ resource ≡ out
 
-
 joined_from : (text out : List ℕ) (local domain resource : Result (List ℕ) JidFault) → local_front (local_of text) ≡ local → domain_form (domain_of text) ≡ domain → resource_back (resource_of text) ≡ resource → joined local domain resource ≡ Ok out → IsFrom text out
 joined_from text out (Err e) domain resource l d r is = cc
 joined_from text out (Ok local) (Err e) resource l d r is = cc
@@ -255,8 +254,8 @@ normal_address text out utf8 is =
 pub normal_from : (text local domain resource : List ℕ) → local_front (local_of text) ≡ Ok local → domain_form (domain_of text) ≡ Ok domain → resource_back (resource_of text) ≡ Ok resource → normal text ≡ Ok (local ++ domain ++ resource)
 normal_from text local domain resource l d r = rw (l, d, r) refl
 
-pub indexed_from : (text local domain resource : List ℕ) → IsUtf8 text → local_front (local_of text) ≡ Ok local → domain_form (domain_of text) ≡ Ok domain → resource_back (resource_of text) ≡ Ok resource → IsIndexed (local ++ domain ++ resource) (length local) (length (local ++ domain))
-indexed_from text local domain resource utf8 l d r =
+indexed_whole : (text local domain resource : List ℕ) → IsUtf8 text → local_front (local_of text) ≡ Ok local → domain_form (domain_of text) ≡ Ok domain → resource_back (resource_of text) ≡ Ok resource → IsIndexed (local ++ domain ++ resource) (length local) (length (local ++ domain))
+indexed_whole text local domain resource utf8 l d r =
     let again = normal_again text (local ++ domain ++ resource) utf8 (normal_from text local domain resource l d r) in
     let left = local_text_from (local_of text) local l in
     let right = resource_text_from (resource_of text) resource (resource_utf8 text utf8) r in
@@ -269,3 +268,7 @@ indexed_from text local domain resource utf8 l d r =
       domain = rw (front, ← left.is) (sym bare.start);
       bare = rw (← left.is, ← right.is) (sym cut.len);
     }
+
+pub indexed_from : (text local domain resource out : List ℕ) (domain_at bare_end : ℕ) → IsUtf8 text → local_front (local_of text) ≡ Ok local → domain_form (domain_of text) ≡ Ok domain → resource_back (resource_of text) ≡ Ok resource → out ≡ local ++ domain ++ resource → domain_at ≡ length local → bare_end ≡ length (local ++ domain) → IsIndexed out domain_at bare_end
+indexed_from text local domain resource out domain_at bare_end utf8 l d r whole starts ends =
+    rw (whole, starts, ends) (indexed_whole text local domain resource utf8 l d r)

@@ -36,7 +36,6 @@ pub ok_from_then : {T : Type 0} (b : Bool) (fault : JidFault) (other : Result T 
 ok_from_then true fault other value e = (refl, e)
 ok_from_then false fault other value e = cc
 
-
 pub fitting_ok : (given part : List ℕ) → fitting given ≡ Ok part → (given ≡ part) × (length part ≤ 1023)
 fitting_ok given part e =
     let parts = ok_from_then (nat_le (length given) 1023) TooLong (Ok given) part e in
