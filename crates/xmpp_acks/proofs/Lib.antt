@@ -1,1 +1,3 @@
+pub mod Directions
 pub mod Popped
+pub mod Senders

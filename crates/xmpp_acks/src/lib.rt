@@ -2,6 +2,8 @@
 //! Management").
 #![tactic(auto)]
 
+mod delivery;
 mod end;
 
+pub use delivery::delivery_is_a_prefix;
 pub use end::{AckEnd, MOST_UNACKNOWLEDGED, TooHigh};
