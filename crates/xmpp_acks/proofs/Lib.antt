@@ -1,3 +1,4 @@
 pub mod Directions
 pub mod Popped
 pub mod Senders
+mod Worked
