@@ -1,0 +1,11 @@
+//! The counters of one end of a session, and its stanzas that are not yet acknowledged (XEP-0198, "Stream
+//! Management").
+#![tactic(auto)]
+
+mod delivery;
+mod end;
+#[cfg(test)]
+mod tests;
+
+pub use delivery::delivery_is_a_prefix;
+pub use end::{AckEnd, MOST_UNACKNOWLEDGED, TooHigh};
