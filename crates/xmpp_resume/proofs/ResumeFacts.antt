@@ -1,0 +1,138 @@
+-- Which session a previd names.
+use Rattle.std.proofs.Common.{◌≡◌, ℕ, ◌<◌, ◌^◌, ◌==◌, true, false, List, Option, Some, None, Result, Ok, Err, [], refl, sym, ap, ◌∙◌, arith, inl, inr}
+use Rattle.std.specs.Prelude.{◌&&◌}
+use Rattle.std.specs.Option.{unwrap_or}
+use Rattle.std.specs.Str.{bytes_eq}
+use Rattle.std.proofs.lemmas.Bool.{cases_Bool}
+use Rattle.std.proofs.lemmas.Slice.Eq.{bytes_eq-Decides}
+use Rattle.xmpp_acks.specs.Counters.{ahead}
+use Rattle.xmpp_acks.specs.declared.end.TooHigh.{TooHigh as TooHighCount}
+use Rattle.xmpp_pool.specs.Queues.{PoolView}
+use Rattle.xmpp_resume.proofs.BindFacts.{and_parts}
+use Rattle.xmpp_resume.proofs.HousedFacts.{queue_is}
+use Rattle.xmpp_resume.proofs.PrevidDigits.{previd_of_same}
+use Rattle.xmpp_resume.proofs.RowFacts.{eqb_same, find_no, find_only, number_is, row_of_bounds, same_from_eqb, with_row_twice}
+use Rattle.xmpp_resume.proofs.TableFacts.{FromWith, from_with}
+use Rattle.xmpp_resume.specs.Housed.{IsFree}
+use Rattle.xmpp_resume.specs.Moves.{HandsOver, Leaves, PoolAcknowledged, PoolResumed, ack_answer, acknowledged, attached, is_resumed_by, is_too_high, resume_answer, row_resumed, rows_resumed, send_count_of}
+use Rattle.xmpp_resume.specs.Previds.{previd_of}
+use Rattle.xmpp_resume.specs.Rows.{IsTable, row_of, with_row}
+use Rattle.xmpp_resume.specs.declared.session.Row.{Row}
+
+-- what the test of a previd says
+pub record Resumes (previd : List ℕ) (account : ℕ) (r : Row) : Type 0 where
+  pub named : previd ≡ previd_of r.shown.number
+  pub account_is : r.shown.account ≡ account
+  pub can : r.shown.resumable ≡ true
+
+pub resumes : (previd : List ℕ) (account : ℕ) (r : Row) → is_resumed_by previd account r ≡ true → Resumes previd account r
+resumes previd account r is =
+    let outer = and_parts (bytes_eq (previd_of r.shown.number) previd && (r.shown.account == account)) r.shown.resumable is in
+    let inner = and_parts (bytes_eq (previd_of r.shown.number) previd) (r.shown.account == account) outer.0 in
+    record { named = sym ((bytes_eq-Decides (previd_of r.shown.number) previd).0 inner.0); account_is = same_from_eqb r.shown.account account inner.1; can = outer.1 }
+
+pub resumes_by : (previd : List ℕ) (account : ℕ) (r : Row) → Resumes previd account r → is_resumed_by previd account r ≡ true
+resumes_by previd account r is =
+    let equal : bytes_eq (previd_of r.shown.number) previd ≡ true = (bytes_eq-Decides (previd_of r.shown.number) previd).1 (sym is.named) in
+    let same : (r.shown.account == account) ≡ true = rw is.account_is (eqb_same account) in
+    rw (equal, same) is.can
+
+-- the session with the number, where it is the account's and can be resumed
+pub resumed_row : (n account next : ℕ) (previd : List ℕ) (r : Row) (rows : List Row) → IsTable rows next → n < 2 ^ 64 → previd ≡ previd_of n → row_of n rows ≡ Some r →
+    r.shown.account ≡ account → r.shown.resumable ≡ true → row_resumed previd account rows ≡ Some r
+resumed_row n account next previd r rows table low named is mine can =
+    find_only next 1 (is_resumed_by previd account) n r rows table.ascending is
+    (resumes_by previd account r (record { named = named ∙ ap previd_of (sym (number_is n r rows is)); account_is = mine; can = can })) only
+  where
+    only : (m : ℕ) (s : Row) → row_of m rows ≡ Some s → is_resumed_by previd account s ≡ true → m ≡ n
+    only m s found passed =
+        let its : Resumes previd account s = resumes previd account s passed in
+        let bounds : m < next = (row_of_bounds next 1 m s rows table.ascending found).1 in
+        let fits : next < 2 ^ 64 = table.fits in
+        previd_of_same m n (omega arith) low (ap previd_of (sym (number_is m s rows found)) ∙ sym its.named ∙ named)
+
+-- none, where no session that can be resumed has the previd
+pub resumed_none : (account next : ℕ) (previd : List ℕ) (rows : List Row) → IsTable rows next →
+    ((m : ℕ) (s : Row) → m < 2 ^ 64 → row_of m rows ≡ Some s → previd ≡ previd_of m → s.shown.account ≡ account → s.shown.resumable ≡ true → ⊥) → row_resumed previd account rows ≡ None
+resumed_none account next previd rows table none = find_no next 1 (is_resumed_by previd account) rows table.ascending fails
+  where
+    fails : (m : ℕ) (s : Row) → row_of m rows ≡ Some s → is_resumed_by previd account s ≡ false
+    fails m s found =
+        elim (cases_Bool (is_resumed_by previd account s)) [
+          | inl passed ↦
+              let its : Resumes previd account s = resumes previd account s passed in
+              let bounds : m < next = (row_of_bounds next 1 m s rows table.ascending found).1 in
+              let fits : next < 2 ^ 64 = table.fits in
+              absurd (none m s (omega arith) found (its.named ∙ ap previd_of (number_is m s rows found)) its.account_is its.can)
+          | inr failed ↦ failed
+        ]
+
+-- the same where the previd is a number's
+pub resumed_not : (n account next : ℕ) (previd : List ℕ) (rows : List Row) → IsTable rows next → n < 2 ^ 64 → previd ≡ previd_of n →
+    ((s : Row) → row_of n rows ≡ Some s → s.shown.account ≡ account → s.shown.resumable ≡ true → ⊥) → row_resumed previd account rows ≡ None
+resumed_not n account next previd rows table low named none =
+    resumed_none account next previd rows table
+    (λ m s fits found is mine can.
+    let same : m ≡ n = previd_of_same m n fits low (sym is ∙ named) in
+    none s (ap (λ k. row_of k rows) (sym same) ∙ found) mine can)
+
+-- whether a count was too high, by the answer to it
+pub ack_ok : (h n : ℕ) (r : Row) (pool : PoolView) → Ok n ≡ ack_answer h r pool → is_too_high h r pool ≡ false
+ack_ok h n r pool is =
+    elim (cases_Bool (is_too_high h r pool)) [
+      | inl high ↦ absurd (no_ok (rw high at is))
+      | inr fits ↦ fits
+    ]
+  where
+    no_ok : ◌≡◌ {A = Result ℕ TooHighCount} (Ok n) (Err (record { h = h; send_count = send_count_of r pool })) → ⊥
+    no_ok same = cc
+
+pub ack_err : (h : ℕ) (e : TooHighCount) (r : Row) (pool : PoolView) → Err e ≡ ack_answer h r pool → is_too_high h r pool ≡ true
+ack_err h e r pool is =
+    elim (cases_Bool (is_too_high h r pool)) [
+      | inl high ↦ high
+      | inr fits ↦ absurd (no_err (rw fits at is))
+    ]
+  where
+    no_err : ◌≡◌ {A = Result ℕ TooHighCount} (Err e) (Ok (ahead h r.end.acked)) → ⊥
+    no_err same = cc
+
+pub leaves_of : (h : ℕ) (r : Row) (old new : PoolView) → is_too_high h r old ≡ false → PoolAcknowledged h r old new → Leaves (ahead h r.end.acked) r old new
+leaves_of h r old new fits change = rw fits at change
+
+-- a free queue stays free while a count is taken
+pub free_acknowledged : (h n queue : ℕ) (r : Row) (rows : List Row) (old new : PoolView) → row_of n rows ≡ Some r → IsFree queue rows old → Leaves (ahead h r.end.acked) r old new →
+    IsFree queue (with_row n (acknowledged h) rows) new
+free_acknowledged h n queue r rows old new is free leaves =
+    record {
+      empty = leaves.others queue (λ same. free.unused n r is (sym same)) ∙ free.empty;
+      unused = λ m s found same.
+          (let from : FromWith m n (acknowledged h) s rows = from_with m n (acknowledged h) s rows (record { same = λ t. refl }) found in
+          free.unused m from.was from.found (queue_is m n (acknowledged h) s rows (record { same = λ t. refl }) from ∙ same));
+    }
+
+-- first the count, then the other queue
+pub hands_over : (h queue : ℕ) (r : Row) (old mid new : PoolView) → Leaves (ahead h r.end.acked) r old mid → HandsOver 0 queue (acknowledged h r) mid new → HandsOver (ahead h r.end.acked) queue r old new
+hands_over h queue r old mid new leaves hands =
+    record {
+      rest = hands.rest ∙ ap (λ (o : Option (List (List ℕ))). Some (unwrap_or o [])) leaves.rest;
+      gone = hands.gone;
+      others = λ other apart also. hands.others other apart also ∙ leaves.others other also;
+    }
+
+-- what a resumption answers, and what it leaves of the table and the pool
+pub record ResumedWell (h conn queue n handled : ℕ) (former : Option ℕ) (rows after : List Row) (old new : PoolView) : Type 0 where
+  pub answer : Ok (record { number = n; handled = handled; former = former }) ≡ resume_answer h (row_of n rows) old
+  pub table : after ≡ rows_resumed h conn queue (row_of n rows) old rows
+  pub pool : PoolResumed h queue (row_of n rows) old new
+
+pub resumed_well : (h conn queue n handled : ℕ) (former : Option ℕ) (r : Row) (rows after : List Row) (old mid new : PoolView) → row_of n rows ≡ Some r → is_too_high h r old ≡ false →
+    former ≡ r.shown.conn → handled ≡ r.end.handled → after ≡ with_row n (attached conn queue) (with_row n (acknowledged h) rows) → Leaves (ahead h r.end.acked) r old mid →
+    HandsOver 0 queue (acknowledged h r) mid new → ResumedWell h conn queue n handled former rows after old new
+resumed_well h conn queue n handled former r rows after old mid new is fits conn_is handled_is after_is leaves hands =
+    let number : r.shown.number ≡ n = number_is n r rows is in
+    record {
+      answer = rw (is, fits, number, ← conn_is, ← handled_is);
+      table = rw (is, fits, number) (after_is ∙ with_row_twice n (acknowledged h) (attached conn queue) rows (record { same = λ t. refl }));
+      pool = rw (is, fits) (hands_over h queue r old mid new leaves hands);
+    }

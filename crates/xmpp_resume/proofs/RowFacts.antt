@@ -1,0 +1,435 @@
+-- What is true of rows whose numbers ascend: where one is found, and what a change leaves of it.
+use Rattle.std.proofs.Common.{◌≡◌, ◌≢◌, ℕ, zero, suc, ◌+◌, ◌<◌, ◌≤◌, ◌==◌, Bool, true, false, not, List, [], ◌∷◌, ◌++◌, Option, Some, None, length, get_or, map, set, take, drop, refl, sym, ap, subst, ◌∙◌, arith, inl, inr}
+use Rattle.std.proofs.lemmas.Bool.{cases_eq, cases_lt, cases_Bool, false≢true}
+use Rattle.std.proofs.lemmas.Bool.Decides.{nat_tests}
+use Rattle.std.proofs.lemmas.Option.{none-some, same_Some}
+use Rattle.std.proofs.lemmas.List.{drop-map, map-append, take-map}
+use Rattle.std.specs.List.{filter, find, remove, slice_get}
+use Rattle.std.specs.Option.{option_map, IsSome}
+use Rattle.xmpp_resume.specs.Moves.{number_of}
+use Rattle.xmpp_resume.specs.Rows.{RisesTo, row_of, with_row, without}
+use Rattle.xmpp_resume.specs.declared.session.Row.{Row}
+
+pub eqb_same : (n : ℕ) → (n == n) ≡ true
+eqb_same n = grind (arith, nat_tests)
+
+pub eqb_other : (m n : ℕ) → m ≢ n → (m == n) ≡ false
+eqb_other m n other = grind (arith, nat_tests)
+
+pub same_from_eqb : (m n : ℕ) → (m == n) ≡ true → m ≡ n
+same_from_eqb m n is = grind (arith, nat_tests)
+
+-- the row found by number has that number
+pub number_is : (n : ℕ) (r : Row) (rows : List Row) → row_of n rows ≡ Some r → r.shown.number ≡ n
+number_is n r [] is = cc
+number_is n r (s ∷ rows) is =
+    elim (cases_eq s.shown.number n) [
+      | inl same ↦
+          let here : (s.shown.number == n) ≡ true = rw same (eqb_same n) in
+          let first : s ≡ r = same_Some s r (rw here at is) in
+          sym (ap number_of first) ∙ same
+      | inr other ↦ number_is n r rows (rw (eqb_other s.shown.number n other) at is)
+    ]
+
+-- the numbers are at least the first bound
+pub rises_at : (next low k : ℕ) (rows : List Row) → RisesTo next low rows → k < length rows → low ≤ get_or (map number_of rows) k 0
+rises_at next low k [] rise within = absurd (omega arith)
+rises_at next low zero (r ∷ rows) rise within = rise.0
+rises_at next low (suc k) (r ∷ rows) rise within =
+    let rest : r.shown.number + 1 ≤ get_or (map number_of rows) k 0 = rises_at next (r.shown.number + 1) k rows rise.1 (omega arith) in
+    omega arith
+
+pub rises_pair : (next low i j : ℕ) (rows : List Row) → RisesTo next low rows → i ≤ j → j < length rows →
+    get_or (map number_of rows) i 0 ≤ get_or (map number_of rows) j 0
+rises_pair next low i j [] rise order within = absurd (omega arith)
+rises_pair next low zero zero (r ∷ rows) rise order within = omega arith
+rises_pair next low zero (suc j) (r ∷ rows) rise order within =
+    let rest : r.shown.number + 1 ≤ get_or (map number_of rows) j 0 = rises_at next (r.shown.number + 1) j rows rise.1 (omega arith) in
+    omega arith
+rises_pair next low (suc i) zero (r ∷ rows) rise order within = absurd (omega arith)
+rises_pair next low (suc i) (suc j) (r ∷ rows) rise order within = rises_pair next (r.shown.number + 1) i j rows rise.1 (omega arith) (omega arith)
+
+-- the row at the place of a number
+pub found_at : (next low i n : ℕ) (rows : List Row) → RisesTo next low rows → i < length rows → get_or (map number_of rows) i 0 ≡ n →
+    slice_get rows i ≡ row_of n rows
+found_at next low i n [] rise within is = absurd (omega arith)
+found_at next low zero n (r ∷ rows) rise within is = rw (is, eqb_same n)
+found_at next low (suc i) n (r ∷ rows) rise within is =
+    let rest : r.shown.number + 1 ≤ get_or (map number_of rows) i 0 = rises_at next (r.shown.number + 1) i rows rise.1 (omega arith) in
+    let other : r.shown.number ≢ n = omega arith in
+    rw (eqb_other r.shown.number n other) (found_at next (r.shown.number + 1) i n rows rise.1 (omega arith) is)
+
+pub none_found : (n : ℕ) (rows : List Row) → ((k : ℕ) → k < length rows → get_or (map number_of rows) k 0 ≢ n) → row_of n rows ≡ None
+none_found n [] none = refl
+none_found n (r ∷ rows) none =
+    rw (eqb_other r.shown.number n (none zero (omega arith))) (none_found n rows (λ k within. none (suc k) (omega arith)))
+
+-- a number below the first bound is no row's, nor one from the next on
+pub row_of_low : (next low n : ℕ) (rows : List Row) → RisesTo next low rows → n < low → row_of n rows ≡ None
+row_of_low next low n [] rise below = refl
+row_of_low next low n (r ∷ rows) rise below =
+    let other : r.shown.number ≢ n = omega arith in
+    rw (eqb_other r.shown.number n other) (row_of_low next (r.shown.number + 1) n rows rise.1 (omega arith))
+
+pub rises_order : (next low : ℕ) (rows : List Row) → RisesTo next low rows → low ≤ next
+rises_order next low [] rise = rise
+rises_order next low (r ∷ rows) rise = let rest : r.shown.number + 1 ≤ next = rises_order next (r.shown.number + 1) rows rise.1 in omega arith
+
+pub row_of_high : (next low n : ℕ) (rows : List Row) → RisesTo next low rows → next ≤ n → row_of n rows ≡ None
+row_of_high next low n [] rise above = refl
+row_of_high next low n (r ∷ rows) rise above =
+    let rest : r.shown.number + 1 ≤ next = rises_order next (r.shown.number + 1) rows rise.1 in
+    let other : r.shown.number ≢ n = omega arith in
+    rw (eqb_other r.shown.number n other) (row_of_high next (r.shown.number + 1) n rows rise.1 above)
+
+-- a row that is there has a number within the bounds
+pub row_of_bounds : (next low n : ℕ) (r : Row) (rows : List Row) → RisesTo next low rows → row_of n rows ≡ Some r → (low ≤ n) × (n < next)
+row_of_bounds next low n r rows rise is = (
+  elim (cases_lt n low) [ inl below ↦ absurd (none-some r (sym (row_of_low next low n rows rise below) ∙ is)) | inr above ↦ above ],
+  elim (cases_lt n next) [ inl below ↦ below | inr above ↦ absurd (none-some r (sym (row_of_high next low n rows rise above) ∙ is)) ],
+)
+
+-- a row of the rest is one of the whole
+pub row_of_rest : (next low n : ℕ) (r s : Row) (rows : List Row) → RisesTo next low (s ∷ rows) → row_of n rows ≡ Some r → row_of n (s ∷ rows) ≡ Some r
+row_of_rest next low n r s rows rise is =
+    let bounds : s.shown.number + 1 ≤ n = (row_of_bounds next (s.shown.number + 1) n r rows rise.1 is).0 in
+    let other : s.shown.number ≢ n = omega arith in
+    rw (eqb_other s.shown.number n other) is
+
+pub row_of_first : (r : Row) (rows : List Row) → row_of r.shown.number (r ∷ rows) ≡ Some r
+row_of_first r rows = rw (eqb_same r.shown.number)
+
+-- what a test finds
+pub find_passes : (p : Row → Bool) (r : Row) (rows : List Row) → find p rows ≡ Some r → p r ≡ true
+find_passes p r [] is = cc
+find_passes p r (s ∷ rows) is =
+    elim (cases_Bool (p s)) [
+      | inl passed ↦ ap p (sym (same_Some s r (rw passed at is))) ∙ passed
+      | inr failed ↦ find_passes p r rows (rw failed at is)
+    ]
+
+-- a row that a test finds is found by its number
+pub found_by_number : (next low : ℕ) (p : Row → Bool) (r : Row) (rows : List Row) → RisesTo next low rows → find p rows ≡ Some r → row_of r.shown.number rows ≡ Some r
+found_by_number next low p r [] rise is = cc
+found_by_number next low p r (s ∷ rows) rise is =
+    elim (cases_Bool (p s)) [
+      | inl passed ↦
+          let same : s ≡ r = same_Some s r (rw passed at is) in
+          let P : Row → Type 0 = λ t. row_of t.shown.number (s ∷ rows) ≡ Some t in
+          subst P same (row_of_first s rows)
+      | inr failed ↦ row_of_rest next low r.shown.number r s rows rise (found_by_number next (s.shown.number + 1) p r rows rise.1 (rw failed at is))
+    ]
+
+-- what a test doesn't find no number finds
+pub find_none_at : (p : Row → Bool) (n : ℕ) (r : Row) (rows : List Row) → find p rows ≡ None → row_of n rows ≡ Some r → p r ≡ false
+find_none_at p n r [] none is = cc
+find_none_at p n r (s ∷ rows) none is =
+    elim (cases_Bool (p s)) [
+      | inl passed ↦ absurd (none-some s (sym none ∙ rw passed))
+      | inr failed ↦
+          elim (cases_eq s.shown.number n) [
+            | inl same ↦
+                let here : (s.shown.number == n) ≡ true = rw same (eqb_same n) in
+                ap p (sym (same_Some s r (rw here at is))) ∙ failed
+            | inr other ↦ find_none_at p n r rows (rw failed at none) (rw (eqb_other s.shown.number n other) at is)
+          ]
+    ]
+
+-- a test that no row passes finds none
+pub find_no : (next low : ℕ) (p : Row → Bool) (rows : List Row) → RisesTo next low rows → ((m : ℕ) (s : Row) → row_of m rows ≡ Some s → p s ≡ false) → find p rows ≡ None
+find_no next low p [] rise fails = refl
+find_no next low p (r ∷ rows) rise fails =
+    rw (fails r.shown.number r (row_of_first r rows))
+    (find_no next (r.shown.number + 1) p rows rise.1 (λ m s is. fails m s (row_of_rest next low m s r rows rise is)))
+
+-- a test that one row alone passes finds it
+pub find_only : (next low : ℕ) (p : Row → Bool) (n : ℕ) (r : Row) (rows : List Row) → RisesTo next low rows → row_of n rows ≡ Some r → p r ≡ true →
+    ((m : ℕ) (s : Row) → row_of m rows ≡ Some s → p s ≡ true → m ≡ n) → find p rows ≡ Some r
+find_only next low p n r [] rise is passes only = cc
+find_only next low p n r (s ∷ rows) rise is passes only =
+    elim (cases_Bool (p s)) [
+      | inl passed ↦
+          let number : s.shown.number ≡ n = only s.shown.number s (row_of_first s rows) passed in
+          let here : (s.shown.number == n) ≡ true = rw number (eqb_same n) in
+          let same : s ≡ r = same_Some s r (rw here at is) in
+          rw (passed, same)
+      | inr failed ↦
+          let other : s.shown.number ≢ n = λ same.
+          (let here : (s.shown.number == n) ≡ true = rw same (eqb_same n) in
+          let first : s ≡ r = same_Some s r (rw here at is) in
+          false≢true (sym failed ∙ ap p first ∙ passes)) in
+          rw failed
+          (find_only next (s.shown.number + 1) p n r rows rise.1 (rw (eqb_other s.shown.number n other) at is) passes
+          (λ m t found. only m t (row_of_rest next low m t s rows rise found)))
+    ]
+
+-- the rows but that of a number
+pub row_of_without_same : (n : ℕ) (rows : List Row) → row_of n (without n rows) ≡ None
+row_of_without_same n [] = refl
+row_of_without_same n (r ∷ rows) =
+    elim (cases_Bool (r.shown.number == n)) [
+      | inl here ↦ rw here (row_of_without_same n rows)
+      | inr other ↦ rw (other, other) (row_of_without_same n rows)
+    ]
+
+pub row_of_without_other : (m n : ℕ) (rows : List Row) → m ≢ n → row_of m (without n rows) ≡ row_of m rows
+row_of_without_other m n [] apart = refl
+row_of_without_other m n (r ∷ rows) apart =
+    elim (cases_eq r.shown.number n) [
+      | inl same ↦
+          let here : (r.shown.number == n) ≡ true = rw same (eqb_same n) in
+          let other : (r.shown.number == m) ≡ false = eqb_other r.shown.number m (λ is. apart (sym is ∙ same)) in
+          rw (here, other) (row_of_without_other m n rows apart)
+      | inr gone ↦
+          rw (eqb_other r.shown.number n gone)
+          (elim (cases_Bool (r.shown.number == m)) [
+            | inl here ↦ rw here
+            | inr other ↦ rw other (row_of_without_other m n rows apart)
+          ])
+    ]
+
+pub rises_weaker : (next low high : ℕ) (rows : List Row) → low ≤ high → RisesTo next high rows → RisesTo next low rows
+rises_weaker next low high [] order rise = omega arith
+rises_weaker next low high (r ∷ rows) order rise = (omega arith, rise.1)
+
+pub rises_without : (next low n : ℕ) (rows : List Row) → RisesTo next low rows → RisesTo next low (without n rows)
+rises_without next low n [] rise = rise
+rises_without next low n (r ∷ rows) rise =
+    let rest : RisesTo next (r.shown.number + 1) (without n rows) = rises_without next (r.shown.number + 1) n rows rise.1 in
+    elim (cases_Bool (r.shown.number == n)) [
+      | inl gone ↦ rw gone (rises_weaker next low (r.shown.number + 1) (without n rows) (omega arith) rest)
+      | inr stays ↦ rw stays (rise.0, rest)
+    ]
+
+-- a change that keeps numbers
+pub record KeepsNumber (f : Row → Row) : Type 0 where
+  pub same : (r : Row) → (f r).shown.number ≡ r.shown.number
+
+pub row_of_with_same : (n : ℕ) (f : Row → Row) (rows : List Row) → KeepsNumber f → row_of n (with_row n f rows) ≡ option_map f (row_of n rows)
+row_of_with_same n f [] keeps = refl
+row_of_with_same n f (r ∷ rows) keeps =
+    elim (cases_Bool (r.shown.number == n)) [
+      | inl here ↦
+          let still : ((f r).shown.number == n) ≡ true = ap (λ m. m == n) (keeps.same r) ∙ here in
+          rw here (rw still)
+      | inr other ↦ rw other (rw other (row_of_with_same n f rows keeps))
+    ]
+
+pub row_of_with_other : (m n : ℕ) (f : Row → Row) (rows : List Row) → KeepsNumber f → m ≢ n → row_of m (with_row n f rows) ≡ row_of m rows
+row_of_with_other m n f [] keeps apart = refl
+row_of_with_other m n f (r ∷ rows) keeps apart =
+    elim (cases_eq r.shown.number n) [
+      | inl same ↦
+          let here : (r.shown.number == n) ≡ true = rw same (eqb_same n) in
+          let before : (r.shown.number == m) ≡ false = eqb_other r.shown.number m (λ is. apart (sym is ∙ same)) in
+          let after : ((f r).shown.number == m) ≡ false = ap (λ k. k == m) (keeps.same r) ∙ before in
+          rw here (rw (after, before) (row_of_with_other m n f rows keeps apart))
+      | inr other ↦
+          rw (eqb_other r.shown.number n other)
+          (elim (cases_Bool (r.shown.number == m)) [
+            | inl here ↦ rw here
+            | inr there ↦ rw there (row_of_with_other m n f rows keeps apart)
+          ])
+    ]
+
+pub rises_with : (next low n : ℕ) (f : Row → Row) (rows : List Row) → KeepsNumber f → RisesTo next low rows → RisesTo next low (with_row n f rows)
+rises_with next low n f [] keeps rise = rise
+rises_with next low n f (r ∷ rows) keeps rise =
+    let rest : RisesTo next (r.shown.number + 1) (with_row n f rows) = rises_with next (r.shown.number + 1) n f rows keeps rise.1 in
+    elim (cases_Bool (r.shown.number == n)) [
+      | inl here ↦ rw here (rw (keeps.same r) (rise.0, rest))
+      | inr other ↦ rw other (rise.0, rest)
+    ]
+
+-- two changes of one row
+pub with_row_twice : (n : ℕ) (f g : Row → Row) (rows : List Row) → KeepsNumber f → with_row n g (with_row n f rows) ≡ with_row n (λ r. g (f r)) rows
+with_row_twice n f g [] keeps = refl
+with_row_twice n f g (r ∷ rows) keeps =
+    elim (cases_Bool (r.shown.number == n)) [
+      | inl here ↦
+          let still : ((f r).shown.number == n) ≡ true = ap (λ m. m == n) (keeps.same r) ∙ here in
+          rw here (rw still (ap (λ t. g (f r) ∷ t) (with_row_twice n f g rows keeps)))
+      | inr other ↦ rw other (rw other (ap (λ t. r ∷ t) (with_row_twice n f g rows keeps)))
+    ]
+
+-- the changed row goes
+pub without_with_row : (n : ℕ) (f : Row → Row) (rows : List Row) → KeepsNumber f → without n (with_row n f rows) ≡ without n rows
+without_with_row n f [] keeps = refl
+without_with_row n f (r ∷ rows) keeps =
+    elim (cases_Bool (r.shown.number == n)) [
+      | inl here ↦
+          let still : ((f r).shown.number == n) ≡ true = ap (λ m. m == n) (keeps.same r) ∙ here in
+          rw here (rw still (without_with_row n f rows keeps))
+      | inr other ↦ rw other (rw other (ap (λ t. r ∷ t) (without_with_row n f rows keeps)))
+    ]
+
+-- a change of no row, and of none that is there
+pub with_row_none : (n : ℕ) (f : Row → Row) (rows : List Row) → row_of n rows ≡ None → with_row n f rows ≡ rows
+with_row_none n f [] none = refl
+with_row_none n f (r ∷ rows) none =
+    elim (cases_Bool (r.shown.number == n)) [
+      | inl here ↦ absurd (none-some r (sym none ∙ rw here))
+      | inr other ↦ rw other (ap (λ t. r ∷ t) (with_row_none n f rows (rw other at none)))
+    ]
+
+pub without_none : (n : ℕ) (rows : List Row) → row_of n rows ≡ None → without n rows ≡ rows
+without_none n [] none = refl
+without_none n (r ∷ rows) none =
+    elim (cases_Bool (r.shown.number == n)) [
+      | inl here ↦ absurd (none-some r (sym none ∙ rw here))
+      | inr other ↦ rw other (ap (λ t. r ∷ t) (without_none n rows (rw other at none)))
+    ]
+
+-- a row more, under a number from the next on
+pub row_of_push_same : (next low : ℕ) (r : Row) (rows : List Row) → RisesTo next low rows → next ≤ r.shown.number → row_of r.shown.number (rows ++ r ∷ []) ≡ Some r
+row_of_push_same next low r [] rise above = rw (eqb_same r.shown.number)
+row_of_push_same next low r (s ∷ rows) rise above =
+    let order : s.shown.number + 1 ≤ next = rises_order next (s.shown.number + 1) rows rise.1 in
+    let other : s.shown.number ≢ r.shown.number = omega arith in
+    rw (eqb_other s.shown.number r.shown.number other) (row_of_push_same next (s.shown.number + 1) r rows rise.1 above)
+
+pub row_of_push_other : (m : ℕ) (r : Row) (rows : List Row) → m ≢ r.shown.number → row_of m (rows ++ r ∷ []) ≡ row_of m rows
+row_of_push_other m r [] apart = rw (eqb_other r.shown.number m (λ is. apart (sym is)))
+row_of_push_other m r (s ∷ rows) apart =
+    elim (cases_Bool (s.shown.number == m)) [
+      | inl here ↦ rw here
+      | inr other ↦ rw other (row_of_push_other m r rows apart)
+    ]
+
+pub rises_push : (next low : ℕ) (r : Row) (rows : List Row) → RisesTo next low rows → r.shown.number ≡ next → RisesTo (next + 1) low (rows ++ r ∷ [])
+rises_push next low r [] rise is = (omega arith, omega arith)
+rises_push next low r (s ∷ rows) rise is = (rise.0, rises_push next (s.shown.number + 1) r rows rise.1 is)
+
+pub option_map_some : {A B : Type 0} (f : A → B) (o : Option A) (y : B) → option_map f o ≡ Some y → (x : A) × (o ≡ Some x) × (f x ≡ y)
+option_map_some f None y is = absurd (none-some y is)
+option_map_some f (Some x) y is = (x, refl, same_Some (f x) y is)
+
+-- the row at a place is found by its number
+pub placed_number : (next low i : ℕ) (r : Row) (rows : List Row) → RisesTo next low rows → slice_get rows i ≡ Some r → row_of r.shown.number rows ≡ Some r
+placed_number next low i r [] rise is = cc
+placed_number next low zero r (s ∷ rows) rise is = let same : s ≡ r = same_Some s r is in rw same (rw (eqb_same r.shown.number))
+placed_number next low (suc i) r (s ∷ rows) rise is =
+    row_of_rest next low r.shown.number r s rows rise (placed_number next (s.shown.number + 1) i r rows rise.1 is)
+
+-- a row written back at its place
+pub set_at_place : (next low i n : ℕ) (f : Row → Row) (r : Row) (rows : List Row) → RisesTo next low rows → slice_get rows i ≡ Some r → r.shown.number ≡ n →
+    set rows i (f r) ≡ with_row n f rows
+set_at_place next low i n f r [] rise is number = cc
+set_at_place next low zero n f r (s ∷ rows) rise is number =
+    let same : s ≡ r = same_Some s r is in
+    let here : (s.shown.number == n) ≡ true = rw (same, number) (eqb_same n) in
+    let none : row_of n rows ≡ None = row_of_low next (s.shown.number + 1) n rows rise.1 (rw same (omega arith)) in
+    rw here (rw (same, with_row_none n f rows none))
+set_at_place next low (suc i) n f r (s ∷ rows) rise is number =
+    let found : row_of r.shown.number rows ≡ Some r = placed_number next (s.shown.number + 1) i r rows rise.1 is in
+    let bounds : s.shown.number + 1 ≤ r.shown.number = (row_of_bounds next (s.shown.number + 1) r.shown.number r rows rise.1 found).0 in
+    let other : s.shown.number ≢ n = omega arith in
+    rw (eqb_other s.shown.number n other) (ap (λ t. s ∷ t) (set_at_place next (s.shown.number + 1) i n f r rows rise.1 is number))
+
+-- a row gone from its place
+pub remove_at_place : (next low i n : ℕ) (r : Row) (rows : List Row) → RisesTo next low rows → slice_get rows i ≡ Some r → r.shown.number ≡ n →
+    remove rows i ≡ without n rows
+remove_at_place next low i n r [] rise is number = cc
+remove_at_place next low zero n r (s ∷ rows) rise is number =
+    let same : s ≡ r = same_Some s r is in
+    let here : (s.shown.number == n) ≡ true = rw (same, number) (eqb_same n) in
+    let none : row_of n rows ≡ None = row_of_low next (s.shown.number + 1) n rows rise.1 (rw same (omega arith)) in
+    rw here (sym (without_none n rows none))
+remove_at_place next low (suc i) n r (s ∷ rows) rise is number =
+    let found : row_of r.shown.number rows ≡ Some r = placed_number next (s.shown.number + 1) i r rows rise.1 is in
+    let bounds : s.shown.number + 1 ≤ r.shown.number = (row_of_bounds next (s.shown.number + 1) r.shown.number r rows rise.1 found).0 in
+    let other : s.shown.number ≢ n = omega arith in
+    rw (eqb_other s.shown.number n other) (ap (λ t. s ∷ t) (remove_at_place next (s.shown.number + 1) i n r rows rise.1 is number))
+
+-- the numbers that are left
+pub numbers_with : (n : ℕ) (f : Row → Row) (rows : List Row) → KeepsNumber f → map number_of (with_row n f rows) ≡ map number_of rows
+numbers_with n f [] keeps = refl
+numbers_with n f (r ∷ rows) keeps =
+    elim (cases_Bool (r.shown.number == n)) [
+      | inl here ↦ rw here (rw (keeps.same r) (ap (λ t. r.shown.number ∷ t) (numbers_with n f rows keeps)))
+      | inr other ↦ rw other (ap (λ t. r.shown.number ∷ t) (numbers_with n f rows keeps))
+    ]
+
+pub remove-map : {A B : Type 0} (f : A → B) (i : ℕ) (xs : List A) → remove (map f xs) i ≡ map f (remove xs i)
+remove-map f i [] = rw (take-map f i [], drop-map f (suc i) []) (sym (map-append f (take i []) (drop (suc i) [])))
+remove-map f i (x ∷ xs) = rw (take-map f i (x ∷ xs), drop-map f (suc i) (x ∷ xs)) (sym (map-append f (take i (x ∷ xs)) (drop (suc i) (x ∷ xs))))
+
+pub with_row_id : (n : ℕ) (rows : List Row) → with_row n (λ r. r) rows ≡ rows
+with_row_id n [] = refl
+with_row_id n (r ∷ rows) =
+    elim (cases_Bool (r.shown.number == n)) [
+      | inl here ↦ rw here (ap (λ t. r ∷ t) (with_row_id n rows))
+      | inr other ↦ rw other (ap (λ t. r ∷ t) (with_row_id n rows))
+    ]
+
+-- the row that a test finds, by its number
+pub same_row : (next low n : ℕ) (p : Row → Bool) (rows : List Row) → RisesTo next low rows → Some n ≡ option_map number_of (find p rows) → row_of n rows ≡ find p rows
+same_row next low n p rows rise is =
+    let found = option_map_some number_of (find p rows) n (sym is) in
+    ap (λ k. row_of k rows) (sym found.2) ∙ found_by_number next low p found.0 rows rise found.1 ∙ sym found.1
+
+-- a test of the rows that one row fails
+pub filter_without : (next low n : ℕ) (p : Row → Bool) (r : Row) (rows : List Row) → RisesTo next low rows → row_of n rows ≡ Some r → p r ≡ false → filter p (without n rows) ≡ filter p rows
+filter_without next low n p r [] rise is fails = cc
+filter_without next low n p r (s ∷ rows) rise is fails =
+    elim (cases_eq s.shown.number n) [
+      | inl same ↦
+          let here : (s.shown.number == n) ≡ true = rw same (eqb_same n) in
+          let first : s ≡ r = same_Some s r (rw here at is) in
+          let failed : p s ≡ false = ap p first ∙ fails in
+          let none : row_of n rows ≡ None = row_of_low next (s.shown.number + 1) n rows rise.1 (omega arith) in
+          rw (here, failed) (ap (filter p) (without_none n rows none))
+      | inr other ↦
+          let rest : filter p (without n rows) ≡ filter p rows = filter_without next (s.shown.number + 1) n p r rows rise.1 (rw (eqb_other s.shown.number n other) at is) fails in
+          rw (eqb_other s.shown.number n other)
+          (elim (cases_Bool (p s)) [
+            | inl passed ↦ rw passed (ap (λ t. s ∷ t) rest)
+            | inr failed ↦ rw failed rest
+          ])
+    ]
+
+-- a test that finds no row fails them all
+pub filter_none_found : (p : Row → Bool) (rows : List Row) → find p rows ≡ None → filter (λ r. not (p r)) rows ≡ rows
+filter_none_found p [] none = refl
+filter_none_found p (r ∷ rows) none =
+    elim (cases_Bool (p r)) [
+      | inl passed ↦ absurd (none-some r (sym none ∙ rw passed))
+      | inr failed ↦ rw failed (ap (λ t. r ∷ t) (filter_none_found p rows (rw failed at none)))
+    ]
+
+pub length-without_le : (n : ℕ) (rows : List Row) → length (without n rows) ≤ length rows
+length-without_le n [] = omega arith
+length-without_le n (r ∷ rows) =
+    let rest : length (without n rows) ≤ length rows = length-without_le n rows in
+    elim (cases_Bool (r.shown.number == n)) [
+      | inl here ↦ rw here (omega arith)
+      | inr other ↦ rw other (omega arith)
+    ]
+
+pub length-without : (n : ℕ) (r : Row) (rows : List Row) → row_of n rows ≡ Some r → length (without n rows) < length rows
+length-without n r [] is = cc
+length-without n r (s ∷ rows) is =
+    elim (cases_Bool (s.shown.number == n)) [
+      | inl here ↦ let rest : length (without n rows) ≤ length rows = length-without_le n rows in rw here (omega arith)
+      | inr other ↦ let rest : length (without n rows) < length rows = length-without n r rows (rw other at is) in rw other (omega arith)
+    ]
+
+-- a row that is there
+pub there : (o : Option Row) → IsSome o → (r : Row) × (o ≡ Some r)
+there None is = absurd (false≢true is)
+there (Some r) is = (r, refl)
+
+-- a change that a test doesn't see
+pub find_none_with : (p : Row → Bool) (n : ℕ) (f : Row → Row) (rows : List Row) → ((r : Row) → p (f r) ≡ p r) → find p rows ≡ None → find p (with_row n f rows) ≡ None
+find_none_with p n f [] same none = refl
+find_none_with p n f (r ∷ rows) same none =
+    elim (cases_Bool (p r)) [
+      | inl passed ↦ absurd (none-some r (sym none ∙ rw passed))
+      | inr failed ↦
+          let rest : find p (with_row n f rows) ≡ None = find_none_with p n f rows same (rw failed at none) in
+          let changed : p (f r) ≡ false = same r ∙ failed in
+          elim (cases_Bool (r.shown.number == n)) [
+            | inl here ↦ rw here (rw changed rest)
+            | inr other ↦ rw other (rw failed rest)
+          ]
+    ]

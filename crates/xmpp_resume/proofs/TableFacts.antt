@@ -1,0 +1,292 @@
+-- What a change of the rows leaves of the table: numbers ascend, and connections and names have one session each.
+use Rattle.std.proofs.Common.{◌≡◌, ◌≢◌, ℕ, ◌+◌, ◌-◌, ◌^◌, ◌<◌, true, false, List, [], ◌∷◌, ◌++◌, Option, Some, None, Result, Ok, Err, length, get_or, map, set, refl, sym, ap, subst, ◌∙◌, arith, inl, inr}
+use Rattle.std.specs.Prelude.{MatchOption, IsSome, OnErr, OnOk}
+use Rattle.std.specs.Result.{result_ok}
+use Rattle.std.specs.Ordering.{nat_cmp}
+use Rattle.std.specs.Str.{bytes_eq}
+use Rattle.std.specs.List.{remove, slice_get}
+use Rattle.std.specs.List.Sorted.{IsBinarySearchResult}
+use Rattle.std.proofs.lemmas.Bool.{cases_eq, cases_lt, false≢true}
+use Rattle.std.proofs.lemmas.List.{length-map, map_push}
+use Rattle.std.proofs.lemmas.List.Sorted.{searched}
+use Rattle.std.proofs.lemmas.Option.{none-some, same_Some, slice_get_read}
+use Rattle.std.proofs.lemmas.Slice.Eq.{bytes_eq-Decides}
+use Rattle.xmpp_resume.proofs.RowFacts.{KeepsNumber, eqb_same, found_at, find_none_at, none_found, number_is, numbers_with, option_map_some, remove-map, remove_at_place, rises_pair, rises_push, rises_with, rises_without, row_of_push_other, row_of_push_same, row_of_with_other, row_of_with_same, row_of_without_other, row_of_without_same, set_at_place, with_row_id}
+use Rattle.xmpp_resume.specs.Moves.{fresh_row, number_of, parked, attached}
+use Rattle.xmpp_resume.specs.Rows.{IsTable, is_at, is_named, row_at, row_named, row_of, with_row, without}
+use Rattle.xmpp_resume.specs.declared.session.Row.{Row}
+
+-- where the numbers are searched
+pub placed : (n next : ℕ) (numbers : List ℕ) (rows : List Row) (r : Result ℕ ℕ) → numbers ≡ map number_of rows → IsTable rows next →
+    IsBinarySearchResult (λ y. nat_cmp y n) numbers r →
+    MatchOption (result_ok r) (row_of n rows ≡ None) (λ i. (i < length rows) × (slice_get rows i ≡ row_of n rows))
+placed n next numbers rows (Ok i) are table search_ =
+    let found = searched (map number_of rows) n (Ok i) (subst (λ (ns : List ℕ). IsBinarySearchResult (λ y. nat_cmp y n) ns (Ok i)) are search_)
+    (λ j k order within. rises_pair next 1 j k rows table.ascending order (omega (arith, length-map rows number_of))) in
+    let within : i < length rows = omega (arith, found.0, length-map rows number_of) in
+    (within, found_at next 1 i n rows table.ascending within found.1)
+placed n next numbers rows (Err i) are table search_ =
+    let found = searched (map number_of rows) n (Err i) (subst (λ (ns : List ℕ). IsBinarySearchResult (λ y. nat_cmp y n) ns (Err i)) are search_)
+    (λ j k order within. rises_pair next 1 j k rows table.ascending order (omega (arith, length-map rows number_of))) in
+    none_found n rows (λ k within same.
+    elim (cases_lt k i) [
+      | inl before ↦ let low : get_or (map number_of rows) k 0 < n = found.1 k before in omega arith
+      | inr after ↦ let high : n < get_or (map number_of rows) k 0 = found.2 k after (omega (arith, length-map rows number_of)) in omega arith
+    ])
+
+pub from_without : (m n : ℕ) (r : Row) (rows : List Row) → row_of m (without n rows) ≡ Some r → (m ≢ n) × (row_of m rows ≡ Some r)
+from_without m n r rows is =
+    let other : m ≢ n = λ same. none-some r (sym (row_of_without_same n rows) ∙ ap (λ k. row_of k (without n rows)) (sym same) ∙ is) in
+    (other, sym (row_of_without_other m n rows other) ∙ is)
+
+pub table_without : (n next : ℕ) (rows : List Row) → IsTable rows next → IsTable (without n rows) next
+table_without n next rows table =
+    record {
+      ascending = rises_without next 1 n rows table.ascending;
+      fits = table.fits;
+      conns = λ l m conn r s is was on at. table.conns l m conn r s (from_without l n r rows is).1 (from_without m n s rows was).1 on at;
+      names = λ l m r s is was account resource. table.names l m r s (from_without l n r rows is).1 (from_without m n s rows was).1 account resource;
+    }
+
+-- a row after a change of one
+pub record FromWith (m n : ℕ) (f : Row → Row) (s : Row) (rows : List Row) : Type 0 where
+  pub was : Row
+  pub found : row_of m rows ≡ Some was
+  pub same : m ≢ n → was ≡ s
+  pub changed : m ≡ n → f was ≡ s
+
+pub from_with : (m n : ℕ) (f : Row → Row) (s : Row) (rows : List Row) → KeepsNumber f → row_of m (with_row n f rows) ≡ Some s → FromWith m n f s rows
+from_with m n f s rows keeps is =
+    elim (cases_eq m n) [
+      | inl same ↦
+          let old = option_map_some f (row_of n rows) s (sym (row_of_with_same n f rows keeps) ∙ ap (λ k. row_of k (with_row n f rows)) (sym same) ∙ is) in
+          record { was = old.0; found = ap (λ k. row_of k rows) same ∙ old.1; same = λ other. absurd (other same); changed = λ _. old.2 }
+      | inr other ↦
+          record { was = s; found = sym (row_of_with_other m n f rows keeps other) ∙ is; same = λ _. refl; changed = λ same. absurd (other same) }
+    ]
+
+-- a change that keeps number, account and resource, and gives no connection that another session has
+pub record IsLawfulChange (n : ℕ) (f : Row → Row) (rows : List Row) : Type 0 where
+  pub number : KeepsNumber f
+  pub account : (r : Row) → (f r).shown.account ≡ r.shown.account
+  pub resource : (r : Row) → (f r).shown.resource ≡ r.shown.resource
+  pub conn : (r : Row) (c : ℕ) → row_of n rows ≡ Some r → (f r).shown.conn ≡ Some c → (m : ℕ) (s : Row) → row_of m rows ≡ Some s → s.shown.conn ≡ Some c → m ≡ n
+
+pub table_with : (n next : ℕ) (f : Row → Row) (rows : List Row) → IsLawfulChange n f rows → IsTable rows next → IsTable (with_row n f rows) next
+table_with n next f rows lawful table = record { ascending = rises_with next 1 n f rows lawful.number table.ascending; fits = table.fits; conns = conns; names = names }
+  where
+    account_is : (m : ℕ) (s : Row) (from : FromWith m n f s rows) → from.was.shown.account ≡ s.shown.account
+    account_is m s from =
+        elim (cases_eq m n) [
+          | inl same ↦ sym (lawful.account from.was) ∙ ap (λ (r : Row). r.shown.account) (from.changed same)
+          | inr other ↦ ap (λ (r : Row). r.shown.account) (from.same other)
+        ]
+
+    resource_is : (m : ℕ) (s : Row) (from : FromWith m n f s rows) → from.was.shown.resource ≡ s.shown.resource
+    resource_is m s from =
+        elim (cases_eq m n) [
+          | inl same ↦ sym (lawful.resource from.was) ∙ ap (λ (r : Row). r.shown.resource) (from.changed same)
+          | inr other ↦ ap (λ (r : Row). r.shown.resource) (from.same other)
+        ]
+
+    names : (l m : ℕ) (r s : Row) → row_of l (with_row n f rows) ≡ Some r → row_of m (with_row n f rows) ≡ Some s → r.shown.account ≡ s.shown.account → r.shown.resource ≡ s.shown.resource → l ≡ m
+    names l m r s is was account resource =
+        let from : FromWith l n f r rows = from_with l n f r rows lawful.number is in
+        let also : FromWith m n f s rows = from_with m n f s rows lawful.number was in
+        table.names l m from.was also.was from.found also.found
+        (account_is l r from ∙ account ∙ sym (account_is m s also)) (resource_is l r from ∙ resource ∙ sym (resource_is m s also))
+
+    conns : (l m conn : ℕ) (r s : Row) → row_of l (with_row n f rows) ≡ Some r → row_of m (with_row n f rows) ≡ Some s → r.shown.conn ≡ Some conn → s.shown.conn ≡ Some conn → l ≡ m
+    conns l m conn r s is was on at =
+        let from : FromWith l n f r rows = from_with l n f r rows lawful.number is in
+        let also : FromWith m n f s rows = from_with m n f s rows lawful.number was in
+        elim (cases_eq l n) [
+          | inl first ↦
+              elim (cases_eq m n) [
+                | inl second ↦ first ∙ sym second
+                | inr other ↦
+                    let kept : also.was ≡ s = also.same other in
+                    let found : row_of n rows ≡ Some from.was = ap (λ k. row_of k rows) (sym first) ∙ from.found in
+                    let gives : (f from.was).shown.conn ≡ Some conn = ap (λ (t : Row). t.shown.conn) (from.changed first) ∙ on in
+                    first ∙ sym (lawful.conn from.was conn found gives m also.was also.found (ap (λ (t : Row). t.shown.conn) kept ∙ at))
+              ]
+          | inr one ↦
+              let kept : from.was ≡ r = from.same one in
+              elim (cases_eq m n) [
+                | inl second ↦
+                    let found : row_of n rows ≡ Some also.was = ap (λ k. row_of k rows) (sym second) ∙ also.found in
+                    let gives : (f also.was).shown.conn ≡ Some conn = ap (λ (t : Row). t.shown.conn) (also.changed second) ∙ at in
+                    lawful.conn also.was conn found gives l from.was from.found (ap (λ (t : Row). t.shown.conn) kept ∙ on) ∙ sym second
+                | inr two ↦
+                    table.conns l m conn from.was also.was from.found also.found (ap (λ (t : Row). t.shown.conn) kept ∙ on)
+                    (ap (λ (t : Row). t.shown.conn) (also.same two) ∙ at)
+              ]
+        ]
+
+-- a change that keeps the connection too
+pub lawful_kept : (n next : ℕ) (f : Row → Row) (rows : List Row) → IsTable rows next → KeepsNumber f → ((r : Row) → (f r).shown.account ≡ r.shown.account) →
+    ((r : Row) → (f r).shown.resource ≡ r.shown.resource) → ((r : Row) → (f r).shown.conn ≡ r.shown.conn) → IsLawfulChange n f rows
+lawful_kept n next f rows table number account resource conn =
+    record { number = number; account = account; resource = resource; conn = λ r c is gives m s was at. table.conns m n c s r was is at (sym (conn r) ∙ gives) }
+
+-- nobody is on a connection
+pub not_at : (conn m : ℕ) (s : Row) (rows : List Row) → row_at conn rows ≡ None → row_of m rows ≡ Some s → s.shown.conn ≡ Some conn → ⊥
+not_at conn m s rows none is at =
+    let fails : is_at conn s ≡ false = find_none_at (is_at conn) m s rows none is in
+    let passes : is_at conn s ≡ true = rw at (eqb_same conn) in
+    false≢true (sym fails ∙ passes)
+
+pub not_named : (account m : ℕ) (resource : List ℕ) (s : Row) (rows : List Row) → row_named account resource rows ≡ None → row_of m rows ≡ Some s →
+    s.shown.account ≡ account → s.shown.resource ≡ resource → ⊥
+not_named account m resource s rows none is of_ named =
+    let fails : is_named account resource s ≡ false = find_none_at (is_named account resource) m s rows none is in
+    let equal : bytes_eq resource resource ≡ true = (bytes_eq-Decides resource resource).1 refl in
+    let passes : is_named account resource s ≡ true = rw (of_, named, eqb_same account) equal in
+    false≢true (sym fails ∙ passes)
+
+-- a row more
+pub record FromPush (m next : ℕ) (r s : Row) (rows : List Row) : Type 0 where
+  pub new : m ≡ next → r ≡ s
+  pub old : m ≢ next → row_of m rows ≡ Some s
+
+pub from_push : (m next : ℕ) (r s : Row) (rows : List Row) → IsTable rows next → r.shown.number ≡ next → row_of m (rows ++ r ∷ []) ≡ Some s → FromPush m next r s rows
+from_push m next r s rows table number is =
+    record {
+      new = λ same. same_Some r s (sym (row_of_push_same next 1 r rows table.ascending (omega arith)) ∙ ap (λ k. row_of k (rows ++ r ∷ [])) (number ∙ sym same) ∙ is);
+      old = λ other. sym (row_of_push_other m r rows (λ same. other (same ∙ number))) ∙ is;
+    }
+
+pub table_push : (next account conn queue : ℕ) (resource : List ℕ) (rows : List Row) → IsTable rows next → next < 2 ^ 64 - 1 → row_at conn rows ≡ None → row_named account resource rows ≡ None →
+    IsTable (rows ++ fresh_row next account resource conn queue ∷ []) (next + 1)
+table_push next account conn queue resource rows table low free unnamed =
+    record { ascending = rises_push next 1 (fresh_row next account resource conn queue) rows table.ascending refl; fits = omega arith; conns = conns; names = names }
+  where
+    conns : (l m c : ℕ) (r s : Row) → row_of l (rows ++ fresh_row next account resource conn queue ∷ []) ≡ Some r → row_of m (rows ++ fresh_row next account resource conn queue ∷ []) ≡ Some s → r.shown.conn ≡ Some c → s.shown.conn ≡ Some c → l ≡ m
+    conns l m c r s is was on at =
+        let from : FromPush l next (fresh_row next account resource conn queue) r rows = from_push l next (fresh_row next account resource conn queue) r rows table refl is in
+        let also : FromPush m next (fresh_row next account resource conn queue) s rows = from_push m next (fresh_row next account resource conn queue) s rows table refl was in
+        elim (cases_eq l next) [
+          | inl first ↦
+              elim (cases_eq m next) [
+                | inl second ↦ first ∙ sym second
+                | inr two ↦
+                    let same : conn ≡ c = same_Some conn c (ap (λ (t : Row). t.shown.conn) (from.new first) ∙ on) in
+                    absurd (not_at conn m s rows free (also.old two) (at ∙ ap Some (sym same)))
+              ]
+          | inr one ↦
+              elim (cases_eq m next) [
+                | inl second ↦
+                    let same : conn ≡ c = same_Some conn c (ap (λ (t : Row). t.shown.conn) (also.new second) ∙ at) in
+                    absurd (not_at conn l r rows free (from.old one) (on ∙ ap Some (sym same)))
+                | inr two ↦ table.conns l m c r s (from.old one) (also.old two) on at
+              ]
+        ]
+
+    names : (l m : ℕ) (r s : Row) → row_of l (rows ++ fresh_row next account resource conn queue ∷ []) ≡ Some r → row_of m (rows ++ fresh_row next account resource conn queue ∷ []) ≡ Some s → r.shown.account ≡ s.shown.account → r.shown.resource ≡ s.shown.resource → l ≡ m
+    names l m r s is was same_account same_resource =
+        let from : FromPush l next (fresh_row next account resource conn queue) r rows = from_push l next (fresh_row next account resource conn queue) r rows table refl is in
+        let also : FromPush m next (fresh_row next account resource conn queue) s rows = from_push m next (fresh_row next account resource conn queue) s rows table refl was in
+        elim (cases_eq l next) [
+          | inl first ↦
+              elim (cases_eq m next) [
+                | inl second ↦ first ∙ sym second
+                | inr two ↦
+                    let is_row : fresh_row next account resource conn queue ≡ r = from.new first in
+                    absurd (not_named account m resource s rows unnamed (also.old two)
+                    (sym same_account ∙ sym (ap (λ (t : Row). t.shown.account) is_row)) (sym same_resource ∙ sym (ap (λ (t : Row). t.shown.resource) is_row)))
+              ]
+          | inr one ↦
+              elim (cases_eq m next) [
+                | inl second ↦
+                    let is_row : fresh_row next account resource conn queue ≡ s = also.new second in
+                    absurd (not_named account l resource r rows unnamed (from.old one)
+                    (same_account ∙ sym (ap (λ (t : Row). t.shown.account) is_row)) (same_resource ∙ sym (ap (λ (t : Row). t.shown.resource) is_row)))
+                | inr two ↦ table.names l m r s (from.old one) (also.old two) same_account same_resource
+              ]
+        ]
+
+-- what a change of a row at its place leaves
+pub record ChangedAt (n next i : ℕ) (f : Row → Row) (x y : Row) (numbers : List ℕ) (rows shown : List Row) : Type 0 where
+  pub found : row_of n shown ≡ Some x
+  pub written : set rows i y ≡ with_row n f shown
+  pub kept : (numbers ≡ map number_of (set rows i y)) × IsTable (set rows i y) next
+
+pub changed_at : (n next i : ℕ) (f : Row → Row) (x y : Row) (numbers : List ℕ) (rows shown : List Row) → rows ≡ shown → (numbers ≡ map number_of rows) × IsTable rows next →
+    (i < length shown) × (slice_get shown i ≡ row_of n shown) → x ≡ get_or rows i x → y ≡ f x → IsLawfulChange n f shown → ChangedAt n next i f x y numbers rows shown
+changed_at n next i f x y numbers rows shown are invariant place read changed lawful =
+    let item : slice_get shown i ≡ Some x = slice_get_read shown (length shown) i x refl place.0 (read ∙ ap (λ rs. get_or rs i x) are) in
+    let found : row_of n shown ≡ Some x = sym place.1 ∙ item in
+    let table : IsTable shown next = (let P : List Row → Type 0 = λ rs. IsTable rs next in subst P are invariant.1) in
+    let written : set shown i y ≡ with_row n f shown =
+    ap (set shown i) changed ∙ set_at_place next 1 i n f x shown table.ascending item (number_is n x shown found) in
+    record {
+      found = found;
+      written = ap (λ rs. set rs i y) are ∙ written;
+      kept = rw (are, written) (invariant.0 ∙ ap (map number_of) are ∙ sym (numbers_with n f shown lawful.number), table_with n next f shown lawful table);
+    }
+
+pub lawful_parked : (n next now : ℕ) (rows : List Row) → IsTable rows next → IsLawfulChange n (parked now) rows
+lawful_parked n next now rows table =
+    record { number = record { same = λ r. refl }; account = λ r. refl; resource = λ r. refl; conn = λ r c is gives m s was at. absurd (none-some c gives) }
+
+pub lawful_attached : (n conn queue : ℕ) (rows : List Row) → row_at conn rows ≡ None → IsLawfulChange n (attached conn queue) rows
+lawful_attached n conn queue rows free =
+    record {
+      number = record { same = λ r. refl };
+      account = λ r. refl;
+      resource = λ r. refl;
+      conn = λ r c is gives m s was at. absurd (not_at conn m s rows free was (at ∙ ap Some (sym (same_Some conn c gives))));
+    }
+
+-- the place of a number that is there
+pub place_is_some : (n : ℕ) (rows shown : List Row) → rows ≡ shown → IsSome (row_of n shown) → row_of n rows ≡ None → ⊥
+place_is_some n rows shown are lives none =
+    let P : Option Row → Type 0 = λ o. IsSome o in
+    false≢true (subst P (ap (row_of n) (sym are) ∙ none) lives)
+
+pub pushed : (next account conn queue : ℕ) (resource : List ℕ) (numbers : List ℕ) (rows shown : List Row) → rows ≡ shown → (numbers ≡ map number_of rows) × IsTable rows next → next < 2 ^ 64 - 1 →
+    row_at conn shown ≡ None → row_named account resource shown ≡ None →
+    (numbers ++ next ∷ [] ≡ map number_of (rows ++ fresh_row next account resource conn queue ∷ [])) × IsTable (rows ++ fresh_row next account resource conn queue ∷ []) (next + 1)
+pushed next account conn queue resource numbers rows shown are invariant low free unnamed = (
+  ap (λ ns. ns ++ next ∷ []) invariant.0 ∙ sym (map_push number_of rows (fresh_row next account resource conn queue)),
+  table_push next account conn queue resource rows invariant.1 low (ap (row_at conn) are ∙ free) (ap (row_named account resource) are ∙ unnamed),
+)
+
+-- what the removal of a row from its place leaves
+pub record RemovedAt (n next i : ℕ) (x : Row) (numbers : List ℕ) (rows : List Row) : Type 0 where
+  pub row : row_of n rows ≡ Some x
+  pub gone : remove rows i ≡ without n rows
+  pub kept : (remove numbers i ≡ map number_of (remove rows i)) × IsTable (remove rows i) next
+
+pub removed_at : (n next i : ℕ) (x : Row) (numbers : List ℕ) (rows shown : List Row) → rows ≡ shown → (numbers ≡ map number_of rows) × IsTable rows next →
+    (i < length shown) × (slice_get shown i ≡ row_of n shown) → x ≡ get_or rows i x → RemovedAt n next i x numbers rows
+removed_at n next i x numbers rows shown are invariant place read =
+    let here : (i < length rows) × (slice_get rows i ≡ row_of n rows) =
+    (let P : List Row → Type 0 = λ rs. (i < length rs) × (slice_get rs i ≡ row_of n rs) in subst P (sym are) place) in
+    let item : slice_get rows i ≡ Some x = slice_get_read rows (length rows) i x refl here.0 read in
+    let found : row_of n rows ≡ Some x = sym here.1 ∙ item in
+    let gone : remove rows i ≡ without n rows = remove_at_place next 1 i n x rows invariant.1.ascending item (number_is n x rows found) in
+    let taken : remove numbers i ≡ map number_of (remove rows i) = ap (λ ns. remove ns i) invariant.0 ∙ remove-map number_of i rows in
+    record { row = found; gone = gone; kept = (taken, rw gone (table_without n next rows invariant.1)) }
+
+pub table_of : (next : ℕ) (rows shown : List Row) → rows ≡ shown → IsTable rows next → IsTable shown next
+table_of next rows shown are table = let P : List Row → Type 0 = λ rs. IsTable rs next in subst P are table
+
+-- a change that is made where a call is well, and isn't where it fails
+pub record TriedAt {T E : Type 0} (r : Result T E) (n next i : ℕ) (f : Row → Row) (x y : Row) (numbers : List ℕ) (rows shown : List Row) : Type 0 where
+  pub found : row_of n shown ≡ Some x
+  pub ok : OnOk r (set rows i y ≡ with_row n f shown)
+  pub err : OnErr r (set rows i y ≡ shown)
+  pub kept : (numbers ≡ map number_of (set rows i y)) × IsTable (set rows i y) next
+
+pub tried_at : {T E : Type 0} (r : Result T E) (n next i : ℕ) (f : Row → Row) (x y : Row) (numbers : List ℕ) (rows shown : List Row) → rows ≡ shown →
+    (numbers ≡ map number_of rows) × IsTable rows next → (i < length shown) × (slice_get shown i ≡ row_of n shown) → x ≡ get_or rows i x →
+    OnOk r (y ≡ f x) → OnErr r (y ≡ x) → IsLawfulChange n f shown → TriedAt r n next i f x y numbers rows shown
+tried_at (Ok v) n next i f x y numbers rows shown are invariant place read ok err lawful =
+    let changed = changed_at n next i f x y numbers rows shown are invariant place read ok lawful in
+    record { found = changed.found; ok = changed.written; err = tt; kept = changed.kept }
+tried_at (Err e) n next i f x y numbers rows shown are invariant place read ok err lawful =
+    let table : IsTable shown next = table_of next rows shown are invariant.1 in
+    let changed = changed_at n next i (λ s. s) x y numbers rows shown are invariant place read err
+    (lawful_kept n next (λ s. s) shown table (record { same = λ s. refl }) (λ s. refl) (λ s. refl) (λ s. refl)) in
+    record { found = changed.found; ok = tt; err = changed.written ∙ with_row_id n shown; kept = changed.kept }

@@ -1,0 +1,25 @@
+use Rattle.xmpp_resume.proofs.BindFacts.{free_less, none_at_less, none_named_less, table_less}
+use Rattle.xmpp_resume.proofs.HousedFacts.{housed_push}
+use Rattle.xmpp_resume.specs.Housed.{IsHoused}
+use Rattle.xmpp_resume.specs.Rows.{is_named, less, row_named}
+use Rattle.xmpp_resume.proofs.table.Sessions.bind.Goals as goal
+
+pub push_row-number-requires-clause-conn : goal.push_row-number-requires-clause-conn
+push_row-number-requires-clause-conn c =
+    rw c.end_named-ended.ensures.rows
+    (none_at_less c.args.conn c.args.self.now.next (row_named c.args.account c.as_str.result.now c.args.self.now.rows) c.args.self.now.rows c.end_named-ended.ensures.table c.requires.conn)
+
+pub push_row-number-requires-clause-name : goal.push_row-number-requires-clause-name
+push_row-number-requires-clause-name c =
+    rw (c.end_named-ended.ensures.rows, c.as_str.ensures)
+    (none_named_less c.args.account c.args.self.now.next c.args.resource c.args.self.now.rows c.end_named-ended.ensures.table)
+
+pub returns-clause-housed : goal.returns-clause-housed
+returns-clause-housed c =
+    let rest = less (row_named c.args.account c.as_str.result.now c.args.self.now.rows) c.args.self.now.rows in
+    let housed : IsHoused rest c.end_named-ended.new.pool = rw (← c.end_named-ended.ensures.rows) c.end_named-ended.ensures.housed in
+    rw (c.push_row-number.ensures.rows, c.end_named-ended.ensures.rows, c.end_named-ended.ensures.next)
+    (housed_push c.args.self.now.next c.args.account c.args.conn c.args.queue c.args.resource rest c.end_named-ended.new.pool
+    (table_less c.args.self.now.next (row_named c.args.account c.as_str.result.now c.args.self.now.rows) c.args.self.now.rows c.end_named-ended.ensures.table)
+    (free_less c.args.queue c.args.self.now.next (is_named c.args.account c.as_str.result.now) c.args.self.now.rows c.args.pool.now c.end_named-ended.new.pool c.end_named-ended.ensures.table c.requires.queue c.end_named-ended.ensures.pool)
+    housed)

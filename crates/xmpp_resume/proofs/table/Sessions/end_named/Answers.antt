@@ -1,0 +1,16 @@
+use Rattle.std.proofs.Common.{◌≡◌}
+use Rattle.xmpp_resume.proofs.RowFacts.{same_row}
+use Rattle.xmpp_resume.specs.Rows.{is_named, row_named, row_of}
+use Rattle.xmpp_resume.proofs.table.Sessions.end_named.Goals as goal
+
+pub returns-in-Some-clause-ended : goal.returns-in-Some-clause-ended
+returns-in-Some-clause-ended c =
+    let same : row_of c.in-Some.number c.args.self.now.rows ≡ row_named c.args.account c.args.resource.now c.args.self.now.rows =
+    same_row c.args.self.now.next 1 c.in-Some.number (is_named c.args.account c.args.resource.now) c.args.self.now.rows c.in-Some.ensures.table.ascending c.in-Some.ensures.number in
+    rw (← same) c.end.ensures.ended
+
+pub returns-in-Some-clause-pool : goal.returns-in-Some-clause-pool
+returns-in-Some-clause-pool c =
+    let same : row_of c.in-Some.number c.args.self.now.rows ≡ row_named c.args.account c.args.resource.now c.args.self.now.rows =
+    same_row c.args.self.now.next 1 c.in-Some.number (is_named c.args.account c.args.resource.now) c.args.self.now.rows c.in-Some.ensures.table.ascending c.in-Some.ensures.number in
+    rw (← same) c.end.ensures.pool

@@ -1,0 +1,18 @@
+use Rattle.std.proofs.Common.{◌≡◌, ◌≤◌, length}
+use Rattle.xmpp_resume.proofs.ExpiryFacts.{Expiring}
+use Rattle.xmpp_resume.specs.Housed.{IsHoused}
+use Rattle.xmpp_resume.proofs.table.Sessions.expire.Given as goal
+
+-- some of the sessions that expired have ended
+abbrev pub invariant-ending : goal.invariant-ending
+invariant-ending l = record {
+  so_far : Expiring l.now l.initial.self.rows l.self.rows l.initial.pool l.pool;
+  next : l.self.next ≡ l.initial.self.next;
+  kept : l.initial.self.spare ≤ l.self.spare;
+  made : l.pool.made ≡ l.initial.pool.made;
+  room : l.initial.pool.spare ≤ l.pool.spare;
+  housed : IsHoused l.self.rows l.pool;
+}
+
+abbrev pub decreases-ending : goal.decreases-ending
+decreases-ending l = length l.self.rows

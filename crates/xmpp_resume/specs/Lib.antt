@@ -1,0 +1,6 @@
+pub use Rattle.xmpp_acks.specs.Counters
+pub use Rattle.xmpp_pool.specs.Queues
+pub mod Housed
+pub mod Previds
+pub mod Rows
+pub mod Moves

@@ -1,0 +1,167 @@
+ghost use Rattle.std.specs.Prelude.{◌≡◌, ◌≢◌, ℕ, ◌+◌, ◌-◌, ◌<◌, ◌≤◌, ◌^◌, ◌∷◌, [], ◌++◌, None, Some, IsSome, IfSome, IsErr, OnOk, OnErr, ◌↔◌, filter, not, true};
+ghost use Rattle.std.specs.Option.{option_map};
+ghost use Rattle.xmpp_resume.specs.Housed.{Drops, IsFree, IsHoused};
+ghost use Rattle.xmpp_resume.specs.Moves.{DropsExpired, enabled, ended_of, fresh_row, is_expired, lost, number_of, rows_parked};
+ghost use Rattle.xmpp_resume.specs.Rows.{IsTable, less, row_at, row_named, row_of, with_row, without};
+
+use crate::answers::{AlreadyEnabled, Bound, Ended};
+use crate::table::Sessions;
+use xmpp_edge::Text;
+use xmpp_pool::{Pool, QueueId};
+
+impl Sessions {
+    /// Ends a session: it leaves the table, and its queue and the stanzas in it are dropped from the pool. `None` where
+    /// no session has the number; then nothing changes. It takes no memory.
+    pub fn end(&mut self, pool: &mut Pool, number: u64) -> Option<Ended>
+        requires { IsHoused self.old.rows pool.old }
+        ensures ended { result ≡ option_map ended_of (row_of number self.old.rows) }
+        ensures rows { self.new.rows ≡ without number self.old.rows }
+        ensures next { self.new.next ≡ self.old.next }
+        ensures kept { self.old.spare ≤ self.new.spare }
+        ensures pool { Drops (row_of number self.old.rows) pool.old pool.new }
+        ensures made { pool.new.made ≡ pool.old.made }
+        ensures room { pool.old.spare ≤ pool.new.spare }
+        ensures housed { IsHoused self.new.rows pool.new }
+    {
+        let row = self.remove_row(number)?;
+        pool.drop_queue(row.end.queue());
+        Some(Ended {
+            number: row.shown.number,
+            conn: row.shown.conn,
+        })
+    }
+
+    // Ends the session of an account with a resource, where there is one.
+    fn end_named(&mut self, pool: &mut Pool, account: u32, resource: &str) -> Option<Ended>
+        requires { IsHoused self.old.rows pool.old }
+        ensures ended { result ≡ option_map ended_of (row_named account resource.now self.old.rows) }
+        ensures rows { self.new.rows ≡ less (row_named account resource.now self.old.rows) self.old.rows }
+        ensures next { self.new.next ≡ self.old.next }
+        ensures kept { self.old.spare ≤ self.new.spare }
+        ensures pool { Drops (row_named account resource.now self.old.rows) pool.old pool.new }
+        ensures made { pool.new.made ≡ pool.old.made }
+        ensures room { pool.old.spare ≤ pool.new.spare }
+        ensures housed { IsHoused self.new.rows pool.new }
+        ensures table { IsTable self.old.rows self.old.next }
+    {
+        match self.by_name(account, resource) {
+            Some(number) => self.end(pool, number),
+            None => None,
+        }
+    }
+
+    /// Makes a session of an account with a resource, on a connection (RFC 6120 section 7). An older session of the same
+    /// account and resource, attached or parked, ends first (section 7.7.2.2), and is told. The new session gets the
+    /// next number, which rises by 1, and an empty queue of the pool. It moves the resource, and takes no memory.
+    pub fn bind(
+        &mut self,
+        pool: &mut Pool,
+        account: u32,
+        resource: Text,
+        conn: u64,
+        queue: QueueId,
+    ) -> Bound
+        requires spare { 1 ≤ self.old.spare }
+        requires next { self.old.next < 2 ^ 64 - 1 }
+        requires housed { IsHoused self.old.rows pool.old }
+        requires conn { row_at conn self.old.rows ≡ None }
+        requires queue { IsFree queue self.old.rows pool.old }
+        ensures number { result.number ≡ self.old.next }
+        ensures ended { result.ended ≡ option_map ended_of (row_named account resource self.old.rows) }
+        ensures rows { self.new.rows ≡ less (row_named account resource self.old.rows) self.old.rows ++ fresh_row self.old.next account resource conn queue ∷ [] }
+        ensures next { self.new.next ≡ self.old.next + 1 }
+        ensures spare { self.old.spare ≤ self.new.spare + 1 }
+        ensures pool { Drops (row_named account resource self.old.rows) pool.old pool.new }
+        ensures made { pool.new.made ≡ pool.old.made }
+        ensures room { pool.old.spare ≤ pool.new.spare }
+        ensures housed { IsHoused self.new.rows pool.new }
+    {
+        let ended = self.end_named(pool, account, resource.as_str());
+        let number = self.push_row(account, resource, conn, queue);
+        Bound { number, ended }
+    }
+
+    /// Counts a session's stanzas from now on, and lets it be resumed where `resume` says so (XEP-0198 section 3).
+    /// `AlreadyEnabled` comes exactly where they are counted already; then nothing changes.
+    pub fn enable(&mut self, number: u64, resume: bool) -> Result<(), AlreadyEnabled>
+        requires { IsSome (row_of number self.old.rows) }
+        ensures already { IfSome (row_of number self.old.rows) (λ r. IsErr result ↔ (r.shown.counted ≡ true)) }
+        ensures ok { OnOk result (self.new.rows ≡ with_row number (enabled resume) self.old.rows) }
+        ensures err { OnErr result (self.new.rows ≡ self.old.rows) }
+        ensures next { self.new.next ≡ self.old.next }
+        ensures kept { self.old.spare ≤ self.new.spare }
+    {
+        if self.is_counted(number) {
+            return Err(AlreadyEnabled);
+        }
+        self.count_row(number, resume);
+        Ok(())
+    }
+
+    // Whether a session's stanzas are counted.
+    fn is_counted(&self, number: u64) -> bool
+        requires { IsSome (row_of number self.now.rows) }
+        ensures { IfSome (row_of number self.now.rows) (λ r. result ≡ r.shown.counted) }
+    {
+        match self.row(number) {
+            Some(row) => row.shown.counted,
+            None => unreachable!(),
+        }
+    }
+
+    // Whether a session can be resumed.
+    fn is_resumable(&self, number: u64) -> bool
+        requires { IsSome (row_of number self.now.rows) }
+        ensures { IfSome (row_of number self.now.rows) (λ r. result ≡ r.shown.resumable) }
+    {
+        match self.row(number) {
+            Some(row) => row.shown.resumable,
+            None => unreachable!(),
+        }
+    }
+
+    /// Parks the session of a connection that was lost, at the moment `now` in milliseconds since 1970: a session that
+    /// can be resumed stays without a connection, with its queue, and any other ends. The answer is its number, and
+    /// `None` where the connection has no session; then nothing changes. It takes no memory.
+    pub fn park(&mut self, pool: &mut Pool, conn: u64, now: u64) -> Option<u64>
+        requires { IsHoused self.old.rows pool.old }
+        ensures number { result ≡ option_map number_of (row_at conn self.old.rows) }
+        ensures rows { self.new.rows ≡ rows_parked now (row_at conn self.old.rows) self.old.rows }
+        ensures next { self.new.next ≡ self.old.next }
+        ensures kept { self.old.spare ≤ self.new.spare }
+        ensures pool { Drops (lost (row_at conn self.old.rows)) pool.old pool.new }
+        ensures made { pool.new.made ≡ pool.old.made }
+        ensures room { pool.old.spare ≤ pool.new.spare }
+        ensures housed { IsHoused self.new.rows pool.new }
+    {
+        let number = self.by_conn(conn)?;
+        if self.is_resumable(number) {
+            self.park_row(number, now);
+        } else {
+            let _ = self.end(pool, number);
+        }
+        Some(number)
+    }
+
+    /// Ends each session that has been parked for `RESUMABLE_FOR` milliseconds or longer at the moment `now`. It takes no
+    /// memory.
+    pub fn expire(&mut self, pool: &mut Pool, now: u64)
+        requires { IsHoused self.old.rows pool.old }
+        ensures rows { self.new.rows ≡ filter (λ r. not (is_expired now r)) self.old.rows }
+        ensures next { self.new.next ≡ self.old.next }
+        ensures kept { self.old.spare ≤ self.new.spare }
+        ensures pool { DropsExpired now self.old.rows pool.old pool.new }
+        ensures made { pool.new.made ≡ pool.old.made }
+        ensures room { pool.old.spare ≤ pool.new.spare }
+        ensures housed { IsHoused self.new.rows pool.new }
+    {
+        'ending: loop {
+            match self.expired(now) {
+                Some(number) => {
+                    let _ = self.end(pool, number);
+                }
+                None => return,
+            }
+        }
+    }
+}

@@ -1,0 +1,13 @@
+//! The table of sessions: binding, parking, resuming and ending them (RFC 6120 section 7, XEP-0198 section 5).
+#![tactic(auto)]
+
+mod answers;
+mod binding;
+mod previds;
+mod resumption;
+mod session;
+mod table;
+
+pub use answers::{AlreadyEnabled, Bound, Ended, RESUMABLE_FOR, ResumeFault, ResumeOk};
+pub use session::SessionView;
+pub use table::Sessions;

@@ -1,0 +1,344 @@
+ghost use Rattle.std.specs.Prelude.{◌≡◌, ℕ, ◌+◌, ◌-◌, ◌<◌, ◌≤◌, ◌^◌, [], ◌∷◌, ◌++◌, map, None, Some, false, IsSome, OnOk, OnErr, IsTrue, MatchOption, IfSome, length, slice_get};
+ghost use Rattle.std.specs.Option.{option_copied, option_map};
+ghost use Rattle.xmpp_resume.specs.Moves.{HandsOver, HasExpired, Joins, PoolAcknowledged, ack_answer, acknowledged, attached, copying, enabled, fresh_row, handling, is_expired, number_of, parked, present};
+ghost use Rattle.std.specs.List.{find};
+ghost use Rattle.xmpp_pool.specs.Queues.{list_of};
+ghost use Rattle.xmpp_resume.specs.Housed.{IsFree, IsHoused};
+ghost use Rattle.xmpp_resume.specs.Rows.{IsTable, row_at, row_named, row_of, with_row, without};
+
+use crate::session::{Row, SessionView};
+use std::alloc::Global;
+use std::marker::Model;
+use xmpp_acks::{AckEnd, MOST_UNACKNOWLEDGED, TooHigh};
+use xmpp_edge::{Bytes, NoMemory, Text};
+use xmpp_pool::{Pool, QueueId};
+
+/// The table of sessions. Contracts see its rows, ascending by number, the number that the next session gets, and the
+/// number `spare` of further sessions that fit without more memory.
+#[derive(Drop)]
+pub struct Sessions {
+    numbers: Vec<u64>,
+    rows: Vec<Row>,
+    next: u64,
+}
+
+impl Model for Sessions {
+    ghost use Rattle.std.specs.Prelude.{◌≡◌, ◌-◌, map, min, vec_len, vec_capacity};
+    ghost use Rattle.xmpp_resume.specs.Moves.{number_of};
+    ghost use Rattle.std.specs.List.{find};
+    ghost use Rattle.xmpp_pool.specs.Queues.{list_of};
+    ghost use Rattle.xmpp_resume.specs.Housed.{IsFree, IsHoused};
+    ghost use Rattle.xmpp_resume.specs.Rows.{IsTable, Table};
+
+    ghost Value = { Table };
+
+    ghost view = { λ s. record { rows = s.rows.items; next = s.next; spare = min (vec_capacity s.rows - vec_len s.rows) (vec_capacity s.numbers - vec_len s.numbers) } };
+
+    ghost invariant = { λ s. (s.numbers.items ≡ map number_of s.rows.items) × IsTable s.rows.items s.next };
+}
+
+impl Sessions {
+    /// A table without sessions, whose first session gets the number `first`. It takes no memory.
+    pub fn new(alloc: Global, first: u64) -> Sessions
+        requires low { 1 ≤ first }
+        requires high { first ≤ 2 ^ 63 }
+        ensures rows { result.rows ≡ [] }
+        ensures next { result.next ≡ first }
+    {
+        Sessions {
+            numbers: Vec::new(alloc),
+            rows: Vec::new(alloc),
+            next: first,
+        }
+    }
+
+    /// The number that the next session gets.
+    pub fn next_number(&self) -> u64
+        ensures { result ≡ self.now.next }
+    {
+        self.next
+    }
+
+    /// Makes room for one session more, and never lowers the room. The sessions stay on each outcome.
+    pub fn reserve(&mut self) -> Result<(), NoMemory>
+        ensures spare { OnOk result (1 ≤ self.new.spare) }
+        ensures rows { self.new.rows ≡ self.old.rows }
+        ensures next { self.new.next ≡ self.old.next }
+        ensures kept { self.old.spare ≤ self.new.spare }
+    {
+        self.numbers.reserve(1)?;
+        self.rows.reserve(1)?;
+        Ok(())
+    }
+
+    /// The numbers of the sessions that live, ascending.
+    pub fn numbers(&self) -> &[u64]
+        ensures numbers { result.now ≡ map number_of self.now.rows }
+        ensures table { IsTable self.now.rows self.now.next }
+    {
+        self.numbers.as_slice()
+    }
+
+    // The place of the session with a number.
+    fn place(&self, number: u64) -> Option<usize>
+        ensures { MatchOption result (row_of number self.now.rows ≡ None) (λ i. (i < length self.now.rows) × (slice_get self.now.rows i ≡ row_of number self.now.rows)) }
+    {
+        self.numbers.binary_search(&number).ok()
+    }
+
+    // The session with a number.
+    pub(crate) fn row(&self, number: u64) -> Option<&Row>
+        ensures { option_copied result ≡ row_of number self.now.rows }
+    {
+        self.rows.get(self.place(number)?)
+    }
+
+    /// What is told of a session. `None` where no session has the number.
+    pub fn view(&self, number: u64) -> Option<&SessionView>
+        ensures { option_copied result ≡ option_map (λ r. r.shown) (row_of number self.now.rows) }
+    {
+        Some(&self.row(number)?.shown)
+    }
+
+    /// A session's end of the acknowledgements. `None` where no session has the number.
+    pub fn ack_end(&self, number: u64) -> Option<&AckEnd>
+        ensures { option_copied result ≡ option_map (λ r. r.end) (row_of number self.now.rows) }
+    {
+        Some(&self.row(number)?.end)
+    }
+
+    /// The number of the session on a connection. `None` where it has none.
+    pub fn by_conn(&self, conn: u64) -> Option<u64>
+        ensures number { result ≡ option_map number_of (row_at conn self.now.rows) }
+        ensures table { IsTable self.now.rows self.now.next }
+    {
+        let row = self.rows.iter().find(|row| row.shown.conn == Some(conn))?;
+        Some(row.shown.number)
+    }
+
+    /// The number of the session of an account with a resource. `None` where there is none.
+    pub fn by_name(&self, account: u32, resource: &str) -> Option<u64>
+        ensures number { result ≡ option_map number_of (row_named account resource.now self.now.rows) }
+        ensures table { IsTable self.now.rows self.now.next }
+    {
+        let row = self.rows.iter().find(|row| row.shown.account == account
+            && row.shown.resource.as_str() == resource)?;
+        Some(row.shown.number)
+    }
+
+    // Adds a session under the next number, last.
+    pub(crate) fn push_row(
+        &mut self,
+        account: u32,
+        resource: Text,
+        conn: u64,
+        queue: QueueId,
+    ) -> u64
+        requires spare { 1 ≤ self.old.spare }
+        requires next { self.old.next < 2 ^ 64 - 1 }
+        requires conn { row_at conn self.old.rows ≡ None }
+        requires name { row_named account resource self.old.rows ≡ None }
+        ensures number { result ≡ self.old.next }
+        ensures rows { self.new.rows ≡ self.old.rows ++ fresh_row self.old.next account resource conn queue ∷ [] }
+        ensures next { self.new.next ≡ self.old.next + 1 }
+        ensures spare { self.old.spare ≤ self.new.spare + 1 }
+    {
+        let number = self.next;
+        let shown = SessionView::fresh(number, account, resource, conn);
+        let row = Row {
+            shown,
+            end: AckEnd::new(queue),
+        };
+        match self.numbers.push(number) {
+            Ok(()) => {}
+            Err(_) => unreachable!(),
+        }
+        match self.rows.push(row) {
+            Ok(()) => {}
+            Err(_) => unreachable!(),
+        }
+        self.next = number + 1;
+        number
+    }
+
+    // Takes a session out of the table.
+    pub(crate) fn remove_row(&mut self, number: u64) -> Option<Row>
+        ensures row { result ≡ row_of number self.old.rows }
+        ensures rows { self.new.rows ≡ without number self.old.rows }
+        ensures next { self.new.next ≡ self.old.next }
+        ensures kept { self.old.spare ≤ self.new.spare }
+    {
+        let at = self.place(number)?;
+        let _ = self.numbers.remove(at);
+        Some(self.rows.remove(at))
+    }
+
+    // Writes that a session's connection is lost.
+    pub(crate) fn park_row(&mut self, number: u64, now: u64)
+        requires { IsSome (row_of number self.old.rows) }
+        ensures rows { self.new.rows ≡ with_row number (parked now) self.old.rows }
+        ensures next { self.new.next ≡ self.old.next }
+        ensures kept { self.old.spare ≤ self.new.spare }
+    {
+        match self.place(number) {
+            Some(at) => {
+                let row = &mut self.rows[at];
+                row.park(now);
+            }
+            None => unreachable!(),
+        }
+    }
+
+    // Writes that a session's stanzas are counted, and whether it can be resumed.
+    pub(crate) fn count_row(&mut self, number: u64, resume: bool)
+        requires { IsSome (row_of number self.old.rows) }
+        ensures rows { self.new.rows ≡ with_row number (enabled resume) self.old.rows }
+        ensures next { self.new.next ≡ self.old.next }
+        ensures kept { self.old.spare ≤ self.new.spare }
+    {
+        match self.place(number) {
+            Some(at) => {
+                let row = &mut self.rows[at];
+                row.enable(resume);
+            }
+            None => unreachable!(),
+        }
+    }
+
+    /// Writes a session's presence: whether it is available, and its priority (RFC 6121 section 4.7.2.3).
+    pub fn set_presence(&mut self, number: u64, available: bool, priority: i8)
+        requires { IsSome (row_of number self.old.rows) }
+        ensures rows { self.new.rows ≡ with_row number (present available priority) self.old.rows }
+        ensures next { self.new.next ≡ self.old.next }
+        ensures kept { self.old.spare ≤ self.new.spare }
+    {
+        match self.place(number) {
+            Some(at) => {
+                let row = &mut self.rows[at];
+                row.present(available, priority);
+            }
+            None => unreachable!(),
+        }
+    }
+
+    /// Writes whether a session wants copies of the account's messages (XEP-0280).
+    pub fn set_carbons(&mut self, number: u64, on: bool)
+        requires { IsSome (row_of number self.old.rows) }
+        ensures rows { self.new.rows ≡ with_row number (copying on) self.old.rows }
+        ensures next { self.new.next ≡ self.old.next }
+        ensures kept { self.old.spare ≤ self.new.spare }
+    {
+        match self.place(number) {
+            Some(at) => {
+                let row = &mut self.rows[at];
+                row.copy(on);
+            }
+            None => unreachable!(),
+        }
+    }
+
+    /// Counts one more stanza of the peer as handled by a session, modulo 2^32 (XEP-0198 section 4).
+    pub fn count_handled(&mut self, number: u64)
+        requires { IsSome (row_of number self.old.rows) }
+        ensures rows { self.new.rows ≡ with_row number handling self.old.rows }
+        ensures next { self.new.next ≡ self.old.next }
+        ensures kept { self.old.spare ≤ self.new.spare }
+    {
+        match self.place(number) {
+            Some(at) => {
+                let row = &mut self.rows[at];
+                row.handle();
+            }
+            None => unreachable!(),
+        }
+    }
+
+    /// Takes the count `h` of handled stanzas that a session's peer states (XEP-0198 section 4): the stanzas up to it
+    /// leave the session's queue, and the answer is their number. `TooHigh` comes exactly where `h` is further ahead of
+    /// the acknowledged count, modulo 2^32, than the queue is long; then nothing changes. It takes no memory.
+    pub fn ack(&mut self, pool: &mut Pool, number: u64, h: u32) -> Result<u32, TooHigh>
+        requires lives { IsSome (row_of number self.old.rows) }
+        requires housed { IsHoused self.old.rows pool.old }
+        ensures answer { IfSome (row_of number self.old.rows) (λ r. result ≡ ack_answer h r pool.old) }
+        ensures ok { OnOk result (self.new.rows ≡ with_row number (acknowledged h) self.old.rows) }
+        ensures err { OnErr result (self.new.rows ≡ self.old.rows) }
+        ensures next { self.new.next ≡ self.old.next }
+        ensures kept { self.old.spare ≤ self.new.spare }
+        ensures pool { IfSome (row_of number self.old.rows) (λ r. PoolAcknowledged h r pool.old pool.new) }
+        ensures made { pool.new.made ≡ pool.old.made }
+        ensures room { pool.old.spare ≤ pool.new.spare }
+        ensures housed { IsHoused self.new.rows pool.new }
+    {
+        match self.place(number) {
+            Some(at) => {
+                let row = &mut self.rows[at];
+                row.ack(pool, h)
+            }
+            None => unreachable!(),
+        }
+    }
+
+    /// Puts a stanza at the end of a session's queue. It takes no memory, and lowers the pool's room by at most 1. The
+    /// session stays as it was.
+    pub fn put_reserved(&mut self, pool: &mut Pool, number: u64, bytes: Bytes)
+        requires lives { IsSome (row_of number self.old.rows) }
+        requires housed { IsHoused self.old.rows pool.old }
+        requires few { IfSome (row_of number self.old.rows) (λ r. length (list_of r.end.queue pool.old) < MOST_UNACKNOWLEDGED) }
+        requires spare { 1 ≤ pool.old.spare }
+        ensures rows { self.new.rows ≡ self.old.rows }
+        ensures next { self.new.next ≡ self.old.next }
+        ensures kept { self.old.spare ≤ self.new.spare }
+        ensures pool { IfSome (row_of number self.old.rows) (λ r. Joins bytes.items r pool.old pool.new) }
+        ensures made { pool.new.made ≡ pool.old.made }
+        ensures room { pool.old.spare ≤ pool.new.spare + 1 }
+        ensures housed { IsHoused self.new.rows pool.new }
+    {
+        match self.place(number) {
+            Some(at) => {
+                let row = &mut self.rows[at];
+                row.put(pool, bytes);
+            }
+            None => unreachable!(),
+        }
+    }
+
+    // Gives a session another connection and an empty queue, into which its stanzas go.
+    pub(crate) fn attach_row(&mut self, pool: &mut Pool, number: u64, conn: u64, queue: QueueId)
+        requires lives { IsSome (row_of number self.old.rows) }
+        requires housed { IsHoused self.old.rows pool.old }
+        requires conn { row_at conn self.old.rows ≡ None }
+        requires queue { IsFree queue self.old.rows pool.old }
+        ensures rows { self.new.rows ≡ with_row number (attached conn queue) self.old.rows }
+        ensures next { self.new.next ≡ self.old.next }
+        ensures kept { self.old.spare ≤ self.new.spare }
+        ensures pool { IfSome (row_of number self.old.rows) (λ r. HandsOver 0 queue r pool.old pool.new) }
+        ensures made { pool.new.made ≡ pool.old.made }
+        ensures room { pool.old.spare ≤ pool.new.spare }
+        ensures housed { IsHoused self.new.rows pool.new }
+    {
+        match self.place(number) {
+            Some(at) => {
+                let row = &mut self.rows[at];
+                row.attach(pool, conn, queue);
+            }
+            None => unreachable!(),
+        }
+    }
+
+    // A session that can be resumed no more.
+    fn expired_row(&self, now: u64) -> Option<&Row>
+        ensures { option_copied result ≡ find (is_expired now) self.now.rows }
+    {
+        self.rows.iter().find(|row| row.is_expired(now))
+    }
+
+    // The number of a session that can be resumed no more.
+    pub(crate) fn expired(&self, now: u64) -> Option<u64>
+        ensures number { MatchOption result (find (is_expired now) self.now.rows ≡ None) (λ n. HasExpired now n self.now.rows) }
+        ensures table { IsTable self.now.rows self.now.next }
+    {
+        let _ = &self.next;
+        let row = self.expired_row(now)?;
+        Some(row.shown.number)
+    }
+}
