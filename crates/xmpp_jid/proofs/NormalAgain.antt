@@ -1,16 +1,15 @@
 -- What is in normal form stays as it is: its cuts find its parts, and each part is its own normal form.
-use Rattle.std.proofs.Common.{◌≡◌, ℕ, ◌+◌, ◌<◌, ◌≤◌, Bool, true, false, not, ◌&&◌, nat_lt, List, [], ◌∷◌, ◌++◌, length, drop, Option, Some, None, Ok, Err, Result, IsAscii, IsUtf8, refl, sym, ap, ap₂, subst, ◌∙◌, inl, inr, append_assoc, length-append, arith, ltb-true, eqb-true, lit<, get_or}
+use Rattle.std.proofs.Common.{◌≡◌, ℕ, ◌+◌, ◌<◌, true, false, not, ◌&&◌, nat_lt, List, [], ◌∷◌, ◌++◌, length, Option, Some, None, Ok, Err, Result, IsAscii, IsUtf8, refl, sym, ap, subst, ◌∙◌, inl, inr, append_assoc, length-append, arith, ltb-true, eqb-true, lit<, get_or}
 use Rattle.std.specs.Char.{is_ascii_uppercase}
 use Rattle.std.specs.List.{list_all, list_any, AllPass}
 use Rattle.std.specs.Prelude.{IfSome}
 use Rattle.std.proofs.lemmas.Bool.{cases_Bool, and_from, and_parts, or_parts, not_from_false}
-use Rattle.std.proofs.lemmas.Bool.Decides.{nat_tests}
 use Rattle.std.proofs.lemmas.List.Folds.{list_any-append}
 use Rattle.std.proofs.lemmas.List.Sums.{AllPass-from_list_all, passes_at_first}
 use Rattle.std.proofs.lemmas.Str.{IsUtf8-nil, IsUtf8-append, IsUtf8-from_ascii, IsUtf8-drop, IsCharBoundary-after_ascii}
 use Rattle.std.proofs.lemmas.Str.Ascii.{IsAscii-nil, IsAscii-cons}
 use Rattle.xmpp_jid.specs.declared.fault.JidFault.{JidFault}
-use Rattle.xmpp_jid.specs.Cuts.{is_slash, is_at, bare_len, bare_of, resource_of, domain_start, local_of_bare, domain_of_bare, local_of, domain_of}
+use Rattle.xmpp_jid.specs.Cuts.{is_slash, bare_len, bare_of, resource_of, domain_start, local_of_bare, domain_of_bare, local_of, domain_of}
 use Rattle.xmpp_jid.specs.Forms.{is_local_byte, local_form, domain_form, resource_form}
 use Rattle.xmpp_jid.specs.Indexed.{IsIndexed}
 use Rattle.xmpp_jid.specs.Normal.{joined, followed_by_at, behind_slash, local_front, resource_back, normal, IsPartLength, IsAddress}

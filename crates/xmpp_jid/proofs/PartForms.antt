@@ -1,17 +1,15 @@
 -- What the normal form of each part has, and that it is its own normal form.
-use Rattle.std.proofs.Common.{◌≡◌, ◌≢◌, ℕ, zero, suc, ◌+◌, ◌-◌, ◌<◌, ◌≤◌, Bool, true, false, not, ◌&&◌, ◌||◌, ◌==◌, nat_le, List, [], ◌∷◌, ◌++◌, map, length, flat_map, Option, Some, None, Ok, Err, Result, All, IsAscii, IsUtf8, codes, if◌then◌else◌, lit<, chars, encode_utf8_all, refl, sym, ap, subst, ◌∙◌, inl, inr, ◌⊎◌, arith, length-append, leb-true, le-leb, ap₂}
+use Rattle.std.proofs.Common.{◌≡◌, ℕ, ◌<◌, ◌≤◌, Bool, true, false, ◌||◌, ◌==◌, nat_le, List, [], ◌∷◌, map, length, flat_map, Option, Some, None, Ok, Err, Result, All, IsAscii, IsUtf8, if◌then◌else◌, chars, encode_utf8_all, refl, sym, ap, ◌∙◌, arith, length-append, leb-true, le-leb, ap₂}
 use Rattle.std.specs.Char.{to_ascii_lowercase, is_ascii_uppercase}
 use Rattle.std.specs.List.{list_all, list_any}
 use Rattle.std.specs.Str.{all_scalars}
-use Rattle.std.proofs.lemmas.Bool.{cases_Bool, cond-true, cond-false, and_parts, and_from, or_parts, or_from}
+use Rattle.std.proofs.lemmas.Bool.{and_parts, and_from, or_parts, or_from}
 use Rattle.std.proofs.lemmas.Bool.Decides.{nat_tests}
 use Rattle.std.proofs.lemmas.List.{length-map}
-use Rattle.std.proofs.lemmas.List.Elements.{All-weaker, All-map}
-use Rattle.std.proofs.lemmas.List.Folds.{list_any_none, list_all-map}
-use Rattle.std.proofs.lemmas.List.Sums.{AllPass-from_list_all, list_all-from_AllPass}
-use Rattle.std.proofs.lemmas.Str.{chars-encodes, encodes-chars, encodes-append, length-le-encodes, IsUtf8-from_ascii}
+use Rattle.std.proofs.lemmas.List.Folds.{list_any_none}
+use Rattle.std.proofs.lemmas.List.Sums.{AllPass-from_list_all}
+use Rattle.std.proofs.lemmas.Str.{chars-encodes, encodes-chars, length-le-encodes}
 use Rattle.std.proofs.lemmas.Str.Ascii.{IsAscii-from_all}
-use Rattle.idna.specs.AsciiDenyList.{denies}
 use Rattle.idna.specs.Uts46.{domain_to_ascii}
 use Rattle.idna.specs.declared.deny_list.TheConstants.AsciiDenyList.{STD3}
 use Rattle.idna.proofs.Uts46Lemmas.{IsOutputByte, All-to_ascii, to_ascii_idem}
@@ -24,7 +22,7 @@ use Rattle.unicode_normalization.proofs.FormsLemmas.{nfc_idem, nfd-nfc, normaliz
 use Rattle.xmpp_jid.specs.declared.fault.JidFault.{JidFault}
 use Rattle.xmpp_jid.specs.declared.fault.JidFault.TheVariants.{Empty, BadLocal, BadDomain, BadResource, TooLong}
 use Rattle.xmpp_jid.specs.Cuts.{is_slash, is_at}
-use Rattle.xmpp_jid.specs.Forms.{fitting, is_local_byte, local_form, ends_in_dot, less_dot, whole_domain, domain_form, is_resource_char, fits_resource, resource_form}
+use Rattle.xmpp_jid.specs.Forms.{fitting, is_local_byte, local_form, ends_in_dot, less_dot, whole_domain, domain_form, fits_resource, resource_form}
 use Rattle.xmpp_jid.specs.Normal.{IsPartLength}
 
 -- a choice that came out well took the branch that can

@@ -1,20 +1,17 @@
 -- Parts that pass a quick test are in normal form as they stand.
-use Rattle.std.proofs.Common.{◌≡◌, ◌≢◌, ℕ, zero, suc, ◌+◌, ◌<◌, ◌≤◌, Bool, true, false, not, ◌&&◌, ◌||◌, ◌==◌, List, [], ◌∷◌, ◌++◌, map, length, Some, Ok, Err, All, IsAscii, IsUtf8, codes, chars, encode_utf8_all, refl, sym, ap, ap₂, subst, ◌∙◌, inl, inr, arith, eqb-true, lit<, if◌then◌else◌}
-use Rattle.std.specs.Char.{is_ascii_lowercase, is_ascii_digit, is_ascii_uppercase}
-use Rattle.std.specs.Int.{is_in_range}
-use Rattle.std.specs.List.{list_all, list_any, slice_index, slice_split, onto_first, join_with_byte}
+use Rattle.std.proofs.Common.{◌≡◌, ℕ, ◌<◌, Bool, true, false, not, ◌&&◌, ◌||◌, ◌==◌, List, [], ◌∷◌, ◌++◌, length, Some, Err, All, IsUtf8, chars, encode_utf8_all, refl, sym, ap, ◌∙◌, inl, inr, arith, if◌then◌else◌}
+use Rattle.std.specs.Char.{is_ascii_uppercase}
+use Rattle.std.specs.List.{list_all, slice_index}
 use Rattle.std.specs.Str.{all_scalars}
-use Rattle.std.proofs.lemmas.Bool.{cases_Bool, and_parts, and_from, or_parts, or_from, not-true, not_from_false, and_left, and_right}
+use Rattle.std.proofs.lemmas.Bool.{cases_Bool, and_parts, and_from, or_parts, or_from, not-true, and_left, and_right}
 use Rattle.std.proofs.lemmas.Bool.Decides.{nat_tests}
-use Rattle.std.proofs.lemmas.List.Elements.{All-weaker}
-use Rattle.std.proofs.lemmas.List.Sums.{AllPass-from_list_all, list_all-from_AllPass}
+use Rattle.std.proofs.lemmas.List.Sums.{AllPass-from_list_all}
 use Rattle.std.proofs.lemmas.Str.{chars-IsAscii, encodes-IsAscii, scalars-chars, IsUtf8-from_ascii, encodes_same, encodes-chars}
-use Rattle.std.proofs.lemmas.Str.Ascii.{IsAscii-from_all, All-from_ascii}
-use Rattle.idna.specs.AsciiDenyList.{denies, may_be_denied}
-use Rattle.idna.specs.Display.{IsPlain}
-use Rattle.idna.specs.Labels.{full_stop, is_full_stop, labels_of, join_labels}
+use Rattle.std.proofs.lemmas.Str.Ascii.{IsAscii-from_all}
+use Rattle.idna.specs.AsciiDenyList.{denies}
+use Rattle.idna.specs.Labels.{labels_of, join_labels}
 use Rattle.idna.specs.Uts46.{domain_to_ascii}
-use Rattle.idna.specs.Validity.{has_ace_prefix, has_hyphens_third_and_fourth, is_valid_char, passes_hyphens}
+use Rattle.idna.specs.Validity.{has_hyphens_third_and_fourth, is_valid_char, passes_hyphens}
 use Rattle.idna.specs.declared.deny_list.TheConstants.AsciiDenyList.{STD3}
 use Rattle.idna.specs.declared.options.Hyphens.TheVariants.{Allow}
 use Rattle.idna.proofs.LabelsLemmas.{join_labels-labels_of}

@@ -1,5 +1,5 @@
 -- The definitions, evaluated at values that were worked out beforehand.
-use Rattle.std.proofs.Common.{◌≡◌, ℕ, List, [], ◌∷◌, ◌++◌, Some, None, Ok, Err, codes, encode_utf8_all, refl}
+use Rattle.std.proofs.Common.{◌≡◌, [], ◌∷◌, ◌++◌, Some, None, Ok, Err, codes, encode_utf8_all, refl}
 use Rattle.std.specs.Prelude.{replicate}
 use Rattle.idna.proofs.Computing.{idna}
 use Rattle.xmpp_jid.specs.declared.fault.JidFault.TheVariants.{Empty, BadLocal, BadDomain, BadResource, TooLong}

@@ -1,6 +1,6 @@
 -- The normal form of each part of an address, or why it has none. Of one part an empty one is refused first, then
 -- what breaks the part's own rule, then what is too long in normal form.
-use Rattle.std.specs.Prelude.{ℕ, ◌-◌, Bool, not, ◌&&◌, ◌||◌, ◌==◌, nat_le, List, [], ◌∷◌, map, length, take, slice_index, codes, chars, encode_utf8_all, Option, Some, None, Result, Ok, Err, if◌then◌else◌}
+use Rattle.std.specs.Prelude.{ℕ, ◌-◌, Bool, not, ◌&&◌, ◌||◌, ◌==◌, nat_le, List, map, length, take, slice_index, codes, chars, encode_utf8_all, Option, Some, None, Result, Ok, Err, if◌then◌else◌}
 use Rattle.std.specs.Char.{to_ascii_lowercase}
 use Rattle.std.specs.Int.{is_in_range}
 use Rattle.std.specs.List.{list_all, list_any}
@@ -9,7 +9,7 @@ use Rattle.idna.specs.Uts46.{domain_to_ascii}
 use Rattle.idna.specs.declared.deny_list.TheConstants.AsciiDenyList.{STD3}
 use Rattle.unicode_normalization.specs.Forms.{nfc}
 use Rattle.xmpp_jid.specs.declared.fault.JidFault.{JidFault}
-use Rattle.xmpp_jid.specs.declared.fault.JidFault.TheVariants.{Empty, BadLocal, BadDomain, BadResource, TooLong, NoMemory}
+use Rattle.xmpp_jid.specs.declared.fault.JidFault.TheVariants.{Empty, BadLocal, BadDomain, BadResource, TooLong}
 
 -- a part in normal form has at most 1,023 bytes (RFC 7622 sections 3.2 to 3.4)
 abbrev pub fitting : List ℕ → Result (List ℕ) JidFault

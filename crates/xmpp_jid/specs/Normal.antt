@@ -1,9 +1,9 @@
 -- The normal form of an address in the profile of this project (RFC 7622 sections 3.1 to 3.4).
-use Rattle.std.specs.Prelude.{◌≡◌, ℕ, ◌≤◌, not, ◌&&◌, List, [], ◌∷◌, ◌++◌, length, IfSome, Option, Some, None, Result, Ok, Err}
+use Rattle.std.specs.Prelude.{ℕ, ◌≤◌, not, ◌&&◌, List, [], ◌∷◌, ◌++◌, length, IfSome, Option, Some, None, Result, Ok, Err}
 use Rattle.std.specs.Char.{is_ascii_uppercase}
 use Rattle.std.specs.List.{AllPass}
 use Rattle.xmpp_jid.specs.declared.fault.JidFault.{JidFault}
-use Rattle.xmpp_jid.specs.Cuts.{bare_of, local_of, domain_of, resource_of}
+use Rattle.xmpp_jid.specs.Cuts.{local_of, domain_of, resource_of}
 use Rattle.xmpp_jid.specs.Forms.{is_local_byte, local_form, domain_form, resource_form}
 
 -- the parts in normal form, one after another, or the first refusal from the left

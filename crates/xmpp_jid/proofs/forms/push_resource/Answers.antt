@@ -1,4 +1,4 @@
-use Rattle.std.proofs.Common.{◌≡◌, ◌==◌, true, false, length, string_bytes, chars, encode_utf8_all, sym, refl, ◌∙◌}
+use Rattle.std.proofs.Common.{◌≡◌, ◌==◌, true, false, length, chars, encode_utf8_all, sym, refl, ◌∙◌}
 use Rattle.std.specs.List.{list_all}
 use Rattle.unicode_normalization.specs.Forms.{nfc}
 use Rattle.xmpp_jid.specs.Forms.{is_resource_char}

@@ -1,7 +1,6 @@
 use Rattle.std.proofs.Common.{◌≡◌, ◌++◌, List, ℕ, Ok, length, string_bytes, arith, ap, ◌∙◌}
 use Rattle.xmpp_jid.specs.Cuts.{local_of, domain_of, resource_of}
 use Rattle.xmpp_jid.specs.Forms.{domain_form}
-use Rattle.xmpp_jid.specs.Indexed.{IsIndexed}
 use Rattle.xmpp_jid.specs.Normal.{local_front, resource_back}
 use Rattle.xmpp_jid.proofs.NormalAgain.{indexed_from}
 use Rattle.xmpp_jid.proofs.address.Jid.parse.Goals as goal
