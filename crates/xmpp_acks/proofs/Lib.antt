@@ -1,1 +1,4 @@
+pub mod Directions
 pub mod Popped
+pub mod Senders
+mod Worked

@@ -1,6 +1,7 @@
-ghost use Rattle.std.specs.Prelude.{◌≡◌, ◌≢◌, ℕ, ◌+◌, ◌<◌, ◌≤◌, ◌%◌, ◌^◌, ◌↔◌, [], ◌∷◌, ◌++◌, drop, length, IfOk, IfErr, IsErr, OnOk, OnErr, IsTrue};
+ghost use Rattle.std.specs.Prelude.{◌≡◌, ◌≢◌, ℕ, ◌+◌, ◌-◌, ◌<◌, ◌≤◌, ◌%◌, ◌^◌, ◌↔◌, List, [], ◌∷◌, ◌++◌, drop, length, IfOk, IfErr, IsErr, OnOk, OnErr, IsTrue};
 ghost use Rattle.xmpp_pool.specs.Queues.{Lives, list_of, stanzas_of};
 ghost use Rattle.xmpp_acks.specs.Counters.{ahead};
+ghost use Rattle.xmpp_acks.specs.Delivery.{Acknowledge, Direction, Handle, IsReceiver, IsSender, Moves, Put, Reached, Resume};
 
 use std::error::Error;
 use std::fmt;
@@ -93,7 +94,9 @@ impl AckEnd {
 
     /// Counts one more stanza of the other end as handled, modulo 2^32.
     pub fn count_handled(&mut self)
-        ensures { self.new ≡ record self.old { handled = (self.old.handled + 1) % 2 ^ 32 } }
+        ensures end { self.new ≡ record self.old { handled = (self.old.handled + 1) % 2 ^ 32 } }
+        // It is the move by which a stanza under way is handled.
+        ensures handles { (d next : Direction (List ℕ)) → IsReceiver self.old d → Moves Handle d next → IsReceiver self.new next }
     {
         self.handled = self.handled.wrapping_add(1);
     }
@@ -128,6 +131,8 @@ impl AckEnd {
         ensures others { (other : ℕ) → other ≢ self.old.queue → stanzas_of other pool.new ≡ stanzas_of other pool.old }
         ensures made { pool.new.made ≡ pool.old.made }
         ensures spare { pool.old.spare ≤ pool.new.spare + 1 }
+        // It is the move by which the stanza is put.
+        ensures puts { (d next : Direction (List ℕ)) → IsSender self.old pool.old d → Moves (Put bytes.items) d next → IsSender self.new pool.new next }
     {
         pool.push_reserved(self.queue, bytes);
     }
@@ -149,6 +154,12 @@ impl AckEnd {
         ensures others { (other : ℕ) → other ≢ self.old.queue → stanzas_of other pool.new ≡ stanzas_of other pool.old }
         ensures made { pool.new.made ≡ pool.old.made }
         ensures kept { pool.old.spare ≤ pool.new.spare }
+        // It is the move by which a count that was stated, and is not below the last one, is acknowledged; and at a
+        // resumption, where `h` is how many stanzas were handled, it is that move.
+        ensures acknowledges { (n : ℕ) (d next : Direction (List ℕ)) → Reached d → IsSender self.old pool.old d →
+            Moves (Acknowledge n) d next → h ≡ n % 2 ^ 32 → (result ≡ Ok (n - d.acked)) × IsSender self.new pool.new next }
+        ensures resumes { (d next : Direction (List ℕ)) → Reached d → IsSender self.old pool.old d →
+            Moves Resume d next → h ≡ length d.got % 2 ^ 32 → (result ≡ Ok (length d.got - d.acked)) × IsSender self.new pool.new next }
     {
         let waiting = pool.len(self.queue);
         let count = h.wrapping_sub(self.acked);
@@ -174,6 +185,9 @@ impl AckEnd {
         ensures others { (other : ℕ) → other ≢ self.old.queue → other ≢ to → stanzas_of other pool.new ≡ stanzas_of other pool.old }
         ensures made { pool.new.made ≡ pool.old.made }
         ensures kept { pool.old.spare ≤ pool.new.spare }
+        // The end is the same end of the same directions.
+        ensures sends { (d : Direction (List ℕ)) → IsSender self.old pool.old d → IsSender self.new pool.new d }
+        ensures receives { (d : Direction (List ℕ)) → IsReceiver self.old d → IsReceiver self.new d }
     {
         pool.hand_over(self.queue, to);
         pool.drop_queue(self.queue);

@@ -4,6 +4,7 @@ use Rattle.std.proofs.lemmas.Bool.{cases_Bool}
 use Rattle.std.proofs.lemmas.Bool.Decides.{nat_tests}
 use Rattle.std.proofs.lemmas.List.{append-nil, drop_all, get_or_default, length-map, map-append, nil_from_length, take_all, take_at}
 use Rattle.std.proofs.lemmas.List.Edits.{map_over_more}
+use Rattle.std.proofs.lemmas.List.Filters.{length-filter_both}
 use Rattle.std.proofs.lemmas.List.Elements.{filter-append}
 use Rattle.std.proofs.lemmas.Option.{slice_get-map, slice_get_within}
 use Rattle.std.proofs.lemmas.List.Quantifiers.{position-Some}
@@ -163,6 +164,11 @@ dropped_others o q (r ∷ rows) apart =
         | inr f ↦ rw e (stanzas_other o r (filter (λ r. not (nat_eq r.queue q)) rows) f ∙ rest ∙ sym (stanzas_other o r rows f))
       ]
     ]
+
+pub dropped_length : (q : ℕ) (rows : List Row) → length (filter (λ r. not (nat_eq r.queue q)) rows) + length (stanzas_in q rows) ≡ length rows
+dropped_length q rows =
+    let both = length-filter_both (λ (r : Row). nat_eq r.queue q) (λ (r : Row). not (nat_eq r.queue q)) (λ _. refl) rows in
+    omega (arith, stanzas_length q rows)
 
 -- a row under another number where it is one of a queue
 abbrev pub relabelled : ℕ → ℕ → Row → Row

@@ -4,5 +4,7 @@
 
 mod pool;
 mod rows;
+#[cfg(test)]
+mod tests;
 
 pub use pool::{Pool, QueueId};

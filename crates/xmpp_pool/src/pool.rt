@@ -152,13 +152,14 @@ impl Pool {
         self.living.contains(&queue)
     }
 
-    /// Drops a queue and the stanzas in it. Its number is never given again. It takes no memory.
+    /// Drops a queue and the stanzas in it, each of which makes room for one more. Its number is never given again. It
+    /// takes no memory.
     pub fn drop_queue(&mut self, queue: QueueId)
         requires { Lives queue self.old }
         ensures queue { stanzas_of queue self.new ≡ None }
         ensures others { (other : ℕ) → other ≢ queue → stanzas_of other self.new ≡ stanzas_of other self.old }
         ensures made { self.new.made ≡ self.old.made }
-        ensures kept { self.old.spare ≤ self.new.spare }
+        ensures room { self.old.spare + length (list_of queue self.old) ≤ self.new.spare }
     {
         drop_rows(&mut self.rows, queue);
         self.living.remove(&queue);

@@ -76,7 +76,7 @@ pub fn take_row(rows: &mut Vec<Row>, queue: QueueId) -> Option<Bytes>
 pub fn drop_rows(rows: &mut Vec<Row>, queue: QueueId)
     ensures queue { stanzas_in queue rows.new.items ≡ [] }
     ensures others { (other : ℕ) → other ≢ queue → stanzas_in other rows.new.items ≡ stanzas_in other rows.old.items }
-    ensures len { vec_len rows.new ≤ vec_len rows.old }
+    ensures len { vec_len rows.new + length (stanzas_in queue rows.old.items) ≡ vec_len rows.old }
     ensures capacity { vec_capacity rows.new ≡ vec_capacity rows.old }
 {
     rows.retain(|row| row.queue != queue);

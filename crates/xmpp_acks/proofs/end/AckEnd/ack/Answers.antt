@@ -1,0 +1,49 @@
+use Rattle.std.proofs.Common.{◌≡◌, ◌+◌, ◌-◌, ◌%◌, ◌^◌, ◌≤◌, List, Ok, ap, arith, length, refl, ℕ}
+use Rattle.xmpp_acks.proofs.Directions.{kept_reached}
+use Rattle.xmpp_acks.proofs.Senders.{acks, sender_acked}
+use Rattle.xmpp_acks.specs.Counters.{AckView}
+use Rattle.xmpp_acks.specs.Delivery.{Direction}
+use Rattle.xmpp_pool.specs.Queues.{list_of}
+use Rattle.xmpp_acks.proofs.end.AckEnd.ack.Goals as goal
+
+pub returns-then-waiting-from-clause-acknowledges : goal.returns-then-waiting-from-clause-acknowledges
+returns-then-waiting-from-clause-acknowledges c = λ n d next reached sender move is.
+    let stated : n ≤ length d.got = (kept_reached d reached).stated n move.0 in
+    let facts = acks c.args.self.now c.args.pool.now d n c.args.h reached sender stated move.1 is c.requires.few in
+    let acked = ap (λ (v : AckView). v.acked) c.self.view_is in
+    let queue = ap (λ (v : AckView). length (list_of v.queue c.args.pool.now)) c.self.view_is in
+    absurd (omega arith)
+
+pub returns-then-waiting-from-clause-resumes : goal.returns-then-waiting-from-clause-resumes
+returns-then-waiting-from-clause-resumes c = λ d next reached sender move is.
+    let facts = acks c.args.self.now c.args.pool.now d (length d.got) c.args.h reached sender (omega arith) (kept_reached d reached).acked is
+    c.requires.few in
+    let acked = ap (λ (v : AckView). v.acked) c.self.view_is in
+    let queue = ap (λ (v : AckView). length (list_of v.queue c.args.pool.now)) c.self.view_is in
+    absurd (omega arith)
+
+pub returns-clause-acknowledges : goal.returns-clause-acknowledges
+returns-clause-acknowledges c = λ n d next reached sender move is.
+    let stated : n ≤ length d.got = (kept_reached d reached).stated n move.0 in
+    let facts = acks c.args.self.now c.args.pool.now d n c.args.h reached sender stated move.1 is c.requires.few in
+    let acked = ap (λ (v : AckView). v.acked) c.self.view_is in
+    let number : (c.args.h + (2 ^ 32 - c.self.inside.acked)) % 2 ^ 32 ≡ n - d.acked = omega arith in (
+      ap Ok number,
+      sender_acked c.args.self.now (record { queue = c.self.inside.queue; acked = c.args.h; handled = c.self.inside.handled }) c.args.pool.now
+          c.pop_oldest.new.pool d next n c.args.h c.self.inside.queue ((c.args.h + (2 ^ 32 - c.self.inside.acked)) % 2 ^ 32) facts is
+          (ap (λ (v : AckView). v.queue) c.self.view_is) number c.pop_oldest.ensures.queue refl refl (ap (λ (e : Direction (List ℕ)). e.put) move.2)
+          (ap (λ (e : Direction (List ℕ)). e.acked) move.2),
+    )
+
+pub returns-clause-resumes : goal.returns-clause-resumes
+returns-clause-resumes c = λ d next reached sender move is.
+    let facts = acks c.args.self.now c.args.pool.now d (length d.got) c.args.h reached sender (omega arith) (kept_reached d reached).acked is
+    c.requires.few in
+    let acked = ap (λ (v : AckView). v.acked) c.self.view_is in
+    let number : (c.args.h + (2 ^ 32 - c.self.inside.acked)) % 2 ^ 32 ≡ length d.got - d.acked = omega arith in (
+      ap Ok number,
+      sender_acked c.args.self.now (record { queue = c.self.inside.queue; acked = c.args.h; handled = c.self.inside.handled }) c.args.pool.now
+          c.pop_oldest.new.pool d next (length d.got) c.args.h c.self.inside.queue ((c.args.h + (2 ^ 32 - c.self.inside.acked)) % 2 ^ 32) facts is
+          (ap (λ (v : AckView). v.queue) c.self.view_is) number c.pop_oldest.ensures.queue refl refl (ap (λ (e : Direction (List ℕ)). e.put) move)
+          (ap (λ (e : Direction (List ℕ)). e.acked) move),
+    )
