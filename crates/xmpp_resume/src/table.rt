@@ -25,9 +25,6 @@ pub struct Sessions {
 impl Model for Sessions {
     ghost use Rattle.std.specs.Prelude.{◌≡◌, ◌-◌, map, min, vec_len, vec_capacity};
     ghost use Rattle.xmpp_resume.specs.Moves.{number_of};
-    ghost use Rattle.std.specs.List.{find};
-    ghost use Rattle.xmpp_pool.specs.Queues.{PoolView, list_of};
-    ghost use Rattle.xmpp_resume.specs.Housed.{IsFree, IsHoused};
     ghost use Rattle.xmpp_resume.specs.Rows.{IsTable, Table};
 
     ghost Value = { Table };
