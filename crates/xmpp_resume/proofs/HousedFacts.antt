@@ -1,9 +1,9 @@
 -- What a change of the rows and of the pool leaves of it: each session's stanzas wait in a queue of its own.
-use Rattle.std.proofs.Common.{◌≡◌, ◌≢◌, ℕ, ◌<◌, ◌≤◌, List, [], ◌∷◌, ◌++◌, Option, Some, Result, Ok, Err, length, drop, set, refl, sym, ap, subst, ◌∙◌, arith, inl, inr}
+use Rattle.std.proofs.Common.{None, ◌≡◌, ◌≢◌, ℕ, ◌<◌, ◌≤◌, List, [], ◌∷◌, ◌++◌, Option, Some, Result, Ok, Err, length, drop, set, refl, sym, ap, subst, ◌∙◌, arith, inl, inr}
 use Rattle.std.specs.Prelude.{IsSome, MatchBool, Bool, true, false}
-use Rattle.std.proofs.lemmas.Bool.{cases_eq}
+use Rattle.std.proofs.lemmas.Bool.{cases_eq, false≢true}
 use Rattle.std.proofs.lemmas.List.{length-drop, length_push}
-use Rattle.std.proofs.lemmas.Option.{same_Some}
+use Rattle.std.proofs.lemmas.Option.{none-some, same_Some}
 use Rattle.std.specs.Option.{unwrap_or}
 use Rattle.xmpp_acks.specs.Counters.{ahead}
 use Rattle.xmpp_acks.specs.declared.end.TheConstants.{MOST_UNACKNOWLEDGED}
@@ -230,3 +230,24 @@ housed_tried (Ok v) h n next i x y numbers rows shown old new tried change house
     (housed_with n (acknowledged h) shown new (record { same = λ r. refl }) (record { same = λ r. refl }) (housed_acknowledged h n x shown old new tried.found change housed))
 housed_tried (Err e) h n next i x y numbers rows shown old new tried change housed =
     rw tried.err (housed_acknowledged h n x shown old new tried.found change housed)
+
+-- before the first session
+pub housed_nobody : (rows : List Row) (pool : PoolView) → rows ≡ [] → IsHoused rows pool
+housed_nobody rows pool none = rw none (record { lives = λ n r is. absurd (none-some r is); few = λ n r is. absurd (none-some r is); apart = λ m n r s is also other. absurd (none-some r is) })
+
+-- a queue that was just made is free
+pub housed_made : (queue : ℕ) (rows : List Row) (old new : PoolView) → stanzas_of queue old ≡ None → stanzas_of queue new ≡ Some [] →
+    ((other : ℕ) → other ≢ queue → stanzas_of other new ≡ stanzas_of other old) → IsHoused rows old → IsHoused rows new × IsFree queue rows new
+housed_made queue rows old new fresh empty others housed = (
+  record {
+    lives = λ n r is. lives_as r.end.queue r.end.queue old new (others r.end.queue (unused n r is)) (housed.lives n r is);
+    few = λ n r is. few_as r.end.queue r.end.queue old new (others r.end.queue (unused n r is)) (housed.few n r is);
+    apart = housed.apart;
+  },
+  record { empty = empty; unused = unused },
+)
+  where
+    unused : (n : ℕ) (r : Row) → row_of n rows ≡ Some r → r.end.queue ≢ queue
+    unused n r is same =
+        let P : Option (List (List ℕ)) → Type 0 = λ o. IsSome o in
+        false≢true (subst P (ap (λ q. stanzas_of q old) same ∙ fresh) (housed.lives n r is))

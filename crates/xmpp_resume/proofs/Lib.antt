@@ -5,3 +5,4 @@ pub mod PrevidDigits
 pub mod ResumeFacts
 pub mod RowFacts
 pub mod TableFacts
+mod Worked

@@ -1,7 +1,8 @@
 -- Which session a previd names.
-use Rattle.std.proofs.Common.{◌≡◌, ℕ, ◌<◌, ◌^◌, ◌==◌, true, false, List, Option, Some, None, Result, Ok, Err, [], refl, sym, ap, ◌∙◌, arith, inl, inr}
+use Rattle.std.proofs.Common.{◌≡◌, ℕ, ◌<◌, ◌^◌, ◌+◌, ◌-◌, ◌==◌, true, false, List, Option, Some, None, Result, Ok, Err, [], refl, sym, ap, ◌∙◌, arith, inl, inr}
 use Rattle.std.specs.Prelude.{◌&&◌}
-use Rattle.std.specs.Option.{unwrap_or}
+use Rattle.std.specs.Option.{option_map, unwrap_or}
+use Rattle.std.proofs.lemmas.Bool.Decides.{nat_tests}
 use Rattle.std.specs.Str.{bytes_eq}
 use Rattle.std.proofs.lemmas.Bool.{cases_Bool}
 use Rattle.std.proofs.lemmas.Slice.Eq.{bytes_eq-Decides}
@@ -11,12 +12,13 @@ use Rattle.xmpp_pool.specs.Queues.{PoolView}
 use Rattle.xmpp_resume.proofs.BindFacts.{and_parts}
 use Rattle.xmpp_resume.proofs.HousedFacts.{queue_is}
 use Rattle.xmpp_resume.proofs.PrevidDigits.{previd_of_same}
-use Rattle.xmpp_resume.proofs.RowFacts.{eqb_same, find_no, find_only, number_is, row_of_bounds, same_from_eqb, with_row_twice}
-use Rattle.xmpp_resume.proofs.TableFacts.{FromWith, from_with}
+use Rattle.xmpp_resume.proofs.RowFacts.{eqb_same, find_no, find_only, number_is, found_by_number, row_of_bounds, row_of_with_same, same_from_eqb, with_row_twice}
+use Rattle.xmpp_resume.proofs.TableFacts.{FromWith, from_with, lawful_parked, table_with}
 use Rattle.xmpp_resume.specs.Housed.{IsFree}
-use Rattle.xmpp_resume.specs.Moves.{HandsOver, Leaves, PoolAcknowledged, PoolResumed, ack_answer, acknowledged, attached, is_resumed_by, is_too_high, resume_answer, row_resumed, rows_resumed, send_count_of}
+use Rattle.xmpp_resume.specs.Moves.{HandsOver, Leaves, PoolAcknowledged, PoolResumed, ack_answer, acknowledged, attached, is_resumed_by, is_too_high, parked, resume_answer, row_resumed, rows_resumed, send_count_of}
 use Rattle.xmpp_resume.specs.Previds.{previd_of}
-use Rattle.xmpp_resume.specs.Rows.{IsTable, row_of, with_row}
+use Rattle.xmpp_resume.specs.Rows.{IsTable, is_at, row_at, row_of, with_row}
+use Rattle.xmpp_resume.specs.Laws.{ComesBackWhole}
 use Rattle.xmpp_resume.specs.declared.session.Row.{Row}
 
 -- what the test of a previd says
@@ -135,4 +137,27 @@ resumed_well h conn queue n handled former r rows after old mid new is fits conn
       answer = rw (is, fits, number, ← conn_is, ← handled_is);
       table = rw (is, fits, number) (after_is ∙ with_row_twice n (acknowledged h) (attached conn queue) rows (record { same = λ t. refl }));
       pool = rw (is, fits) (hands_over h queue r old mid new leaves hands);
+    }
+
+-- a count is not ahead of itself
+pub ahead_same : (a : ℕ) → ahead a a ≡ 0
+ahead_same a = let all : a + 2 ^ 32 - a ≡ 2 ^ 32 = omega arith in rw all
+
+pub whole_not_high : (a : ℕ) (r : Row) (pool : PoolView) → r.end.acked ≡ a → is_too_high a r pool ≡ false
+whole_not_high a r pool is = rw (is, ahead_same a) (grind (arith, nat_tests))
+
+pub comes_back_whole : (rows : List Row) (next conn now queue : ℕ) (r : Row) (old new : PoolView) → IsTable rows next → row_at conn rows ≡ Some r → r.shown.resumable ≡ true → ComesBackWhole now queue r rows old new
+comes_back_whole rows next conn now queue r old new table at can =
+    let found : row_of r.shown.number rows ≡ Some r = found_by_number next 1 (is_at conn) r rows table.ascending at in
+    let after : row_of r.shown.number (with_row r.shown.number (parked now) rows) ≡ Some (parked now r) =
+    row_of_with_same r.shown.number (parked now) rows (record { same = λ t. refl }) ∙ ap (option_map (parked now)) found in
+    let bounds : r.shown.number < next = (row_of_bounds next 1 r.shown.number r rows table.ascending found).1 in
+    let fits : next < 2 ^ 64 = table.fits in
+    let target : row_resumed (previd_of r.shown.number) r.shown.account (with_row r.shown.number (parked now) rows) ≡ Some (parked now r) =
+    resumed_row r.shown.number r.shown.account next (previd_of r.shown.number) (parked now r) (with_row r.shown.number (parked now) rows)
+    (table_with r.shown.number next (parked now) rows (lawful_parked r.shown.number next now rows table) table) (omega arith) refl after refl can in
+    let low : is_too_high r.end.acked (parked now r) old ≡ false = whole_not_high r.end.acked (parked now r) old refl in
+    record {
+      answer = rw (can, target, low);
+      whole = λ change. rw (ahead_same r.end.acked) at ((rw (can, target, low) at change).rest);
     }

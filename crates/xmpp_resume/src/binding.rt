@@ -1,5 +1,6 @@
 ghost use Rattle.std.specs.Prelude.{◌≡◌, ◌≢◌, ℕ, ◌+◌, ◌-◌, ◌<◌, ◌≤◌, ◌^◌, ◌∷◌, [], ◌++◌, None, Some, IsSome, IfSome, IsErr, OnOk, OnErr, ◌↔◌, filter, not, true};
 ghost use Rattle.std.specs.Option.{option_map};
+ghost use Rattle.xmpp_pool.specs.Queues.{PoolView};
 ghost use Rattle.xmpp_resume.specs.Housed.{Drops, IsFree, IsHoused};
 ghost use Rattle.xmpp_resume.specs.Moves.{DropsExpired, enabled, ended_of, fresh_row, is_expired, lost, number_of, rows_parked};
 ghost use Rattle.xmpp_resume.specs.Rows.{IsTable, less, row_at, row_named, row_of, with_row, without};
@@ -90,6 +91,7 @@ impl Sessions {
         ensures err { OnErr result (self.new.rows ≡ self.old.rows) }
         ensures next { self.new.next ≡ self.old.next }
         ensures kept { self.old.spare ≤ self.new.spare }
+        ensures housed { (pool : PoolView) → IsHoused self.old.rows pool → IsHoused self.new.rows pool }
     {
         if self.is_counted(number) {
             return Err(AlreadyEnabled);

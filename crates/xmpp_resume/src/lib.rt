@@ -9,5 +9,9 @@ mod session;
 mod table;
 
 pub use answers::{AlreadyEnabled, Bound, Ended, RESUMABLE_FOR, ResumeFault, ResumeOk};
+pub use resumption::parked_comes_back_whole;
 pub use session::SessionView;
 pub use table::Sessions;
+
+#[cfg(test)]
+mod tests;

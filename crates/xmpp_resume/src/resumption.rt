@@ -1,8 +1,10 @@
-ghost use Rattle.std.specs.Prelude.{◌≡◌, ◌≢◌, ℕ, ◌<◌, ◌≤◌, ◌^◌, None, Some, IsSome, IfSome, IfNone};
+ghost use Rattle.std.specs.Prelude.{◌≡◌, ◌≢◌, ℕ, ◌<◌, ◌≤◌, ◌^◌, None, Some, IsSome, IfSome, IfNone, List, true};
 ghost use Rattle.std.specs.Option.{option_map};
 ghost use Rattle.xmpp_resume.specs.Housed.{IsFree, IsHoused};
 ghost use Rattle.xmpp_resume.specs.Moves.{PoolResumed, number_of, resume_answer, row_resumed, rows_resumed};
-ghost use Rattle.xmpp_resume.specs.Previds.{previd_of};
+ghost use Rattle.xmpp_pool.specs.Queues.{PoolView};
+ghost use Rattle.xmpp_resume.specs.Laws.{ComesBackWhole};
+ghost use Rattle.xmpp_resume.specs.declared.session.Row.{Row};
 ghost use Rattle.xmpp_resume.specs.Rows.{IsTable, row_at, row_of};
 
 use crate::answers::{ResumeFault, ResumeOk};
@@ -132,3 +134,9 @@ impl Sessions {
         }
     }
 }
+
+/// A law: a session that can be resumed, and is parked and then resumed with the count that is acknowledged, comes back
+/// with all its stanzas, in order.
+pub fn parked_comes_back_whole()
+    ensures { (rows : List Row) (next conn now queue : ℕ) (r : Row) (old new : PoolView) → IsTable rows next → row_at conn rows ≡ Some r → r.shown.resumable ≡ true → ComesBackWhole now queue r rows old new }
+{}

@@ -2,7 +2,7 @@ ghost use Rattle.std.specs.Prelude.{◌≡◌, ℕ, ◌+◌, ◌-◌, ◌<◌, �
 ghost use Rattle.std.specs.Option.{option_copied, option_map};
 ghost use Rattle.xmpp_resume.specs.Moves.{HandsOver, HasExpired, Joins, PoolAcknowledged, ack_answer, acknowledged, attached, copying, enabled, fresh_row, handling, is_expired, number_of, parked, present};
 ghost use Rattle.std.specs.List.{find};
-ghost use Rattle.xmpp_pool.specs.Queues.{list_of};
+ghost use Rattle.xmpp_pool.specs.Queues.{PoolView, list_of};
 ghost use Rattle.xmpp_resume.specs.Housed.{IsFree, IsHoused};
 ghost use Rattle.xmpp_resume.specs.Rows.{IsTable, row_at, row_named, row_of, with_row, without};
 
@@ -25,9 +25,6 @@ pub struct Sessions {
 impl Model for Sessions {
     ghost use Rattle.std.specs.Prelude.{◌≡◌, ◌-◌, map, min, vec_len, vec_capacity};
     ghost use Rattle.xmpp_resume.specs.Moves.{number_of};
-    ghost use Rattle.std.specs.List.{find};
-    ghost use Rattle.xmpp_pool.specs.Queues.{list_of};
-    ghost use Rattle.xmpp_resume.specs.Housed.{IsFree, IsHoused};
     ghost use Rattle.xmpp_resume.specs.Rows.{IsTable, Table};
 
     ghost Value = { Table };
@@ -195,6 +192,7 @@ impl Sessions {
         ensures rows { self.new.rows ≡ with_row number (enabled resume) self.old.rows }
         ensures next { self.new.next ≡ self.old.next }
         ensures kept { self.old.spare ≤ self.new.spare }
+        ensures housed { (pool : PoolView) → IsHoused self.old.rows pool → IsHoused self.new.rows pool }
     {
         match self.place(number) {
             Some(at) => {
@@ -211,6 +209,7 @@ impl Sessions {
         ensures rows { self.new.rows ≡ with_row number (present available priority) self.old.rows }
         ensures next { self.new.next ≡ self.old.next }
         ensures kept { self.old.spare ≤ self.new.spare }
+        ensures housed { (pool : PoolView) → IsHoused self.old.rows pool → IsHoused self.new.rows pool }
     {
         match self.place(number) {
             Some(at) => {
@@ -227,6 +226,7 @@ impl Sessions {
         ensures rows { self.new.rows ≡ with_row number (copying on) self.old.rows }
         ensures next { self.new.next ≡ self.old.next }
         ensures kept { self.old.spare ≤ self.new.spare }
+        ensures housed { (pool : PoolView) → IsHoused self.old.rows pool → IsHoused self.new.rows pool }
     {
         match self.place(number) {
             Some(at) => {
@@ -243,6 +243,7 @@ impl Sessions {
         ensures rows { self.new.rows ≡ with_row number handling self.old.rows }
         ensures next { self.new.next ≡ self.old.next }
         ensures kept { self.old.spare ≤ self.new.spare }
+        ensures housed { (pool : PoolView) → IsHoused self.old.rows pool → IsHoused self.new.rows pool }
     {
         match self.place(number) {
             Some(at) => {

@@ -1,4 +1,5 @@
 use Rattle.std.proofs.Common.{ap, refl}
+use Rattle.xmpp_resume.proofs.HousedFacts.{housed_with}
 use Rattle.xmpp_resume.proofs.TableFacts.{ChangedAt, changed_at, lawful_kept, table_of}
 use Rattle.xmpp_resume.specs.Moves.{copying}
 use Rattle.xmpp_resume.specs.Rows.{IsTable, Table}
@@ -17,3 +18,6 @@ invariant_of-self c = (changed c).kept
 
 pub returns-clause-rows : goal.returns-clause-rows
 returns-clause-rows c = (changed c).written
+
+pub returns-clause-housed : goal.returns-clause-housed
+returns-clause-housed c = λ pool housed. rw (changed c).written (housed_with c.args.number (copying c.args.on) c.args.self.now.rows pool (record { same = λ r. refl }) (record { same = λ r. refl }) housed)

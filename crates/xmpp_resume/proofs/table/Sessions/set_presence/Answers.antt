@@ -1,5 +1,6 @@
 use Rattle.std.proofs.Common.{ap, refl, w8, ◌∙◌}
 use Rattle.std.proofs.lemmas.Int.{to_z-of_z}
+use Rattle.xmpp_resume.proofs.HousedFacts.{housed_with}
 use Rattle.xmpp_resume.proofs.TableFacts.{ChangedAt, changed_at, lawful_kept, table_of}
 use Rattle.xmpp_resume.specs.Moves.{present}
 use Rattle.xmpp_resume.specs.Rows.{IsTable, Table}
@@ -19,3 +20,6 @@ invariant_of-self c = (changed c).kept
 
 pub returns-clause-rows : goal.returns-clause-rows
 returns-clause-rows c = (changed c).written
+
+pub returns-clause-housed : goal.returns-clause-housed
+returns-clause-housed c = λ pool housed. rw (changed c).written (housed_with c.args.number (present c.args.available c.args.priority) c.args.self.now.rows pool (record { same = λ r. refl }) (record { same = λ r. refl }) housed)
