@@ -1,2 +1,3 @@
 pub mod Iterating
+pub mod Spelled
 pub mod Xors

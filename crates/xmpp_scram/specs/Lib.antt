@@ -1,2 +1,3 @@
+pub mod Exchange
 pub mod Hashes
 pub mod Keyed

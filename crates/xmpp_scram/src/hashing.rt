@@ -153,6 +153,13 @@ pub(crate) fn xor(a: &[u8; 32], b: &[u8; 32]) -> [u8; 32]
     out
 }
 
+// The SHA-256 of a text.
+pub(crate) fn digest(text: &[u8]) -> [u8; 32]
+    ensures { result ≡ sha256 text.now }
+{
+    Sha256::digest(text)
+}
+
 /// HMAC-SHA-256 of a text under a key (RFC 2104). It takes no memory.
 pub fn hmac(key: &[u8], text: &[u8]) -> [u8; 32]
     ensures { result ≡ hmac_of key.now text.now }
