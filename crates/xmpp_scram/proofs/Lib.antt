@@ -1,3 +1,4 @@
 pub mod Iterating
+pub mod SameBytes
 pub mod Spelled
 pub mod Xors

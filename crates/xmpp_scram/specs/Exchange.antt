@@ -1,14 +1,15 @@
 -- One exchange of SCRAM-SHA-256: the four messages as its two ends make them (RFC 5802 sections 3, 5 and 7, without
 -- extensions), and what each end holds.
-use Rattle.std.specs.Prelude.{◌≡◌, ℕ, Bool, ◌&&◌, ◌==◌, nat_le, nat_lt, if◌then◌else◌, List, [], ◌∷◌, ◌++◌, length, codes, decimal, Option, None, Result, Ok, Err, IsOk}
-use Rattle.std.specs.List.{flat_map, list_all}
+use Rattle.std.specs.Prelude.{◌≡◌, ℕ, Bool, false, nat_eq, drop, ◌&&◌, ◌==◌, nat_le, nat_lt, if◌then◌else◌, List, [], ◌∷◌, ◌++◌, length, codes, decimal, Option, Some, None, Result, Ok, Err, IsOk}
+use Rattle.std.specs.List.{flat_map, list_all, starts_with}
+use Rattle.std.specs.Str.{bytes_eq}
 use Rattle.base64.specs.Engines.{standard}
 use Rattle.base64.specs.GeneralPurpose.{encode_of}
 use Rattle.xmpp_scram.specs.declared.fault.ScramFault.{ScramFault}
-use Rattle.xmpp_scram.specs.declared.fault.ScramFault.TheVariants.{BadName, NoMemory}
+use Rattle.xmpp_scram.specs.declared.fault.ScramFault.TheVariants.{BadName, BadNonce, BadProof, Iterations, NoMemory}
 use Rattle.xmpp_scram.specs.declared.messages.BindingFlag.{BindingFlag}
 use Rattle.xmpp_scram.specs.declared.messages.ClientFirst.{ClientFirst}
-use Rattle.xmpp_scram.specs.Hashes.{client_key, salted_password, server_key, stored_key}
+use Rattle.xmpp_scram.specs.Hashes.{auth_message, client_key, client_signature, proof_of, salted_password, server_key, stored_key, verifier_of, xor_bytes}
 
 -- printable ASCII: U+20 to U+7E
 abbrev pub is_printable_ascii : ℕ → Bool
@@ -63,8 +64,11 @@ abbrev pub client_final_without_proof : List ℕ → List ℕ
 client_final_without_proof nonce = codes "c=biws,r=" ++ nonce
 
 -- client-final-message
+abbrev pub with_proof : List ℕ → List ℕ → List ℕ
+with_proof without_proof proof = without_proof ++ codes ",p=" ++ base64_of proof
+
 abbrev pub client_final_message : List ℕ → List ℕ → List ℕ
-client_final_message nonce proof = client_final_without_proof nonce ++ codes ",p=" ++ base64_of proof
+client_final_message nonce proof = with_proof (client_final_without_proof nonce) proof
 
 -- server-final-message
 abbrev pub server_final_message : List ℕ → List ℕ
@@ -105,6 +109,63 @@ client_first_of name password nonce =
     if is_plain name && is_plain password
     then Ok (record { password = password; nonce = nonce; message = client_first_message name nonce; expected = None })
     else Err BadName
+
+-- ---- judging
+
+-- H(ClientProof XOR ClientSignature) is the StoredKey. `None` stands for a proof that has not 32 bytes
+abbrev pub is_proof : List ℕ → List ℕ → Option (List ℕ) → Bool
+is_proof stored auth None = false
+is_proof stored auth (Some proof) =
+    bytes_eq (stored_key (xor_bytes proof (client_signature stored auth))) stored
+
+-- AuthMessage, as the server has it
+abbrev pub server_auth : ServerView → List ℕ → List ℕ
+server_auth server without_proof = auth_message server.bare server.message without_proof
+
+-- the server's verifier, for a final message of these parts: first the nonce is judged and then the proof
+abbrev pub verifier_for : ServerView → List ℕ → List ℕ → Option (List ℕ) → Result (List ℕ) ScramFault
+verifier_for server without_proof nonce proof =
+    if bytes_eq nonce server.nonce
+    then (if is_proof server.stored_key (server_auth server without_proof) proof
+    then Ok (verifier_of server.server_key (server_auth server without_proof))
+    else Err BadProof)
+    else Err BadNonce
+
+-- the client's final message, and the verifier that it then expects
+pub record ReplyView : Type 0 where
+  pub message : List ℕ
+  pub verifier : List ℕ
+
+-- client-first-message-bare, behind the GS2 header `n,,`
+abbrev pub bare_of : ClientView → List ℕ
+bare_of client = drop 3 client.message
+
+-- AuthMessage, as the client has it
+abbrev pub client_auth : ClientView → List ℕ → List ℕ → List ℕ
+client_auth client server_first nonce =
+    auth_message (bare_of client) server_first (client_final_without_proof nonce)
+
+-- the proof behind the rest of a final message, and the verifier, under a SaltedPassword
+abbrev pub replied : List ℕ → List ℕ → List ℕ → ReplyView
+replied without_proof salted auth = record {
+  message = with_proof without_proof
+      (proof_of (client_key salted) (client_signature (stored_key (client_key salted)) auth));
+  verifier = verifier_of (server_key salted) auth;
+}
+
+-- the counts of iterations that the client takes
+abbrev pub is_count_taken : ℕ → Bool
+is_count_taken i = nat_le 4096 i && nat_le i 1000000
+
+-- the client's reply to a first message of the server of these parts: first the nonce is judged and then the count
+abbrev pub reply_to : ClientView → List ℕ → List ℕ → List ℕ → ℕ → Result ReplyView ScramFault
+reply_to client server_first nonce salt i =
+    if starts_with nat_eq nonce client.nonce
+    then (if is_count_taken i
+    then Ok (replied (client_final_without_proof nonce) (salted_password client.password salt i)
+    (client_auth client server_first nonce))
+    else Err (Iterations i))
+    else Err BadNonce
 
 -- ---- results and answers
 

@@ -2,6 +2,7 @@
 #![tactic(auto)]
 
 mod client;
+mod comparing;
 mod credentials;
 mod fault;
 mod hashing;

@@ -1,7 +1,11 @@
 ghost use Rattle.std.specs.Prelude.{◌≡◌, IfOk};
-ghost use Rattle.xmpp_scram.specs.Exchange.{server_first_of};
+ghost use Rattle.xmpp_scram.specs.Exchange.{is_proof, server_auth, server_first_of, verifier_for};
+ghost use Rattle.xmpp_scram.specs.Hashes.{hmac_of};
 
+use crate::comparing::is_same;
 use crate::credentials::Credentials;
+use crate::fault::ScramFault;
+use crate::hashing::{KeyedHash, digest, xor};
 use crate::messages::{BindingFlag, ClientFirst};
 use crate::spelling::{joined, server_first};
 use std::alloc::Global;
@@ -53,6 +57,45 @@ impl ScramServer {
             stored_key: credentials.stored_key,
             server_key: credentials.server_key,
         })
+    }
+
+    // Whether a proof is the right one for a final message whose part before the proof is given.
+    fn is_proof(&self, without_proof: &[u8], proof: &[u8; 32]) -> bool
+        ensures { result ≡ is_proof self.now.stored_key (server_auth self.now without_proof.now) (Some proof.now) }
+    {
+        let signature = self.keyed_hash(&self.stored_key, without_proof);
+        is_same(&digest(&xor(proof, &signature)), &self.stored_key)
+    }
+
+    // The HMAC of AuthMessage under one of the account's keys.
+    fn keyed_hash(&self, key: &[u8; 32], without_proof: &[u8]) -> [u8; 32]
+        ensures { result ≡ hmac_of key.now (server_auth self.now without_proof.now) }
+    {
+        KeyedHash::new(key).of_messages(
+            self.bare.as_str().as_bytes(),
+            self.message.as_str().as_bytes(),
+            without_proof,
+        )
+    }
+
+    // Judges a final message of these parts, and answers the verifier.
+    fn verifier(
+        &self,
+        without_proof: &[u8],
+        nonce: &[u8],
+        proof: Option<[u8; 32]>,
+    ) -> Result<[u8; 32], ScramFault>
+        ensures { result ≡ verifier_for self.now without_proof.now nonce.now proof }
+    {
+        if nonce != self.nonce.as_str().as_bytes() {
+            return Err(ScramFault::BadNonce);
+        }
+        match proof {
+            Some(proof) if self.is_proof(without_proof, &proof) => {
+                Ok(self.keyed_hash(&self.server_key, without_proof))
+            }
+            _ => Err(ScramFault::BadProof),
+        }
     }
 
     /// The server's first message: `r=` the nonce, `,s=` the salt's base64, `,i=` the number of iterations.

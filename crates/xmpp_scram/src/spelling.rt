@@ -1,5 +1,5 @@
-ghost use Rattle.std.specs.Prelude.{◌≡◌, ◌++◌, IfOk, codes};
-ghost use Rattle.xmpp_scram.specs.Exchange.{base64_of, client_final_message, client_first_message, escaped, server_first_message, server_final_message};
+ghost use Rattle.std.specs.Prelude.{◌≡◌, ◌++◌, IfOk};
+ghost use Rattle.xmpp_scram.specs.Exchange.{base64_of, client_final_without_proof, client_first_message, escaped, server_first_message, server_final_message, with_proof};
 
 use base64::engine::general_purpose::STANDARD;
 use std::alloc::Global;
@@ -69,18 +69,22 @@ pub(crate) fn client_first(alloc: Global, name: &str, nonce: &str) -> Result<Byt
     Ok(message)
 }
 
-// The client's final message, whose part before the proof has been made.
-pub(crate) fn client_final(
-    alloc: Global,
-    without_proof: &[u8],
-    proof: &[u8; 32],
-) -> Result<Bytes, NoMemory>
-    ensures { IfOk result (λ m. m.items ≡ without_proof.now ++ codes ",p=" ++ base64_of proof.now) }
+// The client's final message up to its proof.
+pub(crate) fn without_proof(alloc: Global, nonce: &str) -> Result<Bytes, NoMemory>
+    ensures { IfOk result (λ m. m.items ≡ client_final_without_proof nonce.now) }
 {
-    let mut message = Bytes::from_slice(alloc, without_proof)?;
+    let mut message = Bytes::from_slice(alloc, b"c=biws,r=")?;
+    message.append(nonce.as_bytes())?;
+    Ok(message)
+}
+
+// The proof, added to a client's final message.
+pub(crate) fn append_proof(message: &mut Bytes, proof: &[u8; 32]) -> Result<(), NoMemory>
+    ensures { IfOk result (λ _. message.new.items ≡ with_proof message.old.items proof.now) }
+{
     message.append(b",p=")?;
     message.append(&base64_of_key(proof))?;
-    Ok(message)
+    Ok(())
 }
 
 // The server's final message.
