@@ -6,9 +6,10 @@ use Rattle.std.specs.Str.{bytes_eq}
 use Rattle.base64.specs.Engines.{standard}
 use Rattle.base64.specs.GeneralPurpose.{encode_of}
 use Rattle.xmpp_scram.specs.declared.fault.ScramFault.{ScramFault}
-use Rattle.xmpp_scram.specs.declared.fault.ScramFault.TheVariants.{BadName, BadNonce, BadProof, Iterations, NoMemory}
-use Rattle.xmpp_scram.specs.declared.messages.BindingFlag.{BindingFlag}
-use Rattle.xmpp_scram.specs.declared.messages.ClientFirst.{ClientFirst}
+use Rattle.xmpp_scram.specs.declared.fault.ScramFault.TheVariants.{BadName, BadNonce, BadProof, BadVerifier, Iterations, NoMemory}
+use Rattle.xmpp_scram.specs.declared.binding_flag.BindingFlag.{BindingFlag}
+use Rattle.xmpp_scram.specs.declared.client_first.ClientFirst.{ClientFirst}
+use Rattle.xmpp_scram.specs.Messages as reading
 use Rattle.xmpp_scram.specs.Hashes.{auth_message, client_key, client_signature, proof_of, salted_password, server_key, stored_key, verifier_of, xor_bytes}
 
 -- printable ASCII: U+20 to U+7E
@@ -87,8 +88,8 @@ pub record ServerView : Type 0 where
   pub server_key : List ℕ
 
 -- the server's nonce is the client's with a tail of its own
-abbrev pub server_first_of : ClientFirst → CredentialsView → List ℕ → ServerView
-server_first_of client credentials tail = record {
+abbrev pub begun_server : ClientFirst → CredentialsView → List ℕ → ServerView
+begun_server client credentials tail = record {
   flag = client.flag;
   bare = client.bare;
   nonce = client.nonce ++ tail;
@@ -104,8 +105,8 @@ pub record ClientView : Type 0 where
   pub message : List ℕ
   pub expected : Option (List ℕ)
 
-abbrev pub client_first_of : List ℕ → List ℕ → List ℕ → Result ClientView ScramFault
-client_first_of name password nonce =
+abbrev pub begun_client : List ℕ → List ℕ → List ℕ → Result ClientView ScramFault
+begun_client name password nonce =
     if is_plain name && is_plain password
     then Ok (record { password = password; nonce = nonce; message = client_first_message name nonce; expected = None })
     else Err BadName
@@ -166,6 +167,47 @@ reply_to client server_first nonce salt i =
     (client_auth client server_first nonce))
     else Err (Iterations i))
     else Err BadNonce
+
+-- a verifier is the one that is expected. `None` stands for a message that has none of 32 bytes
+abbrev pub is_verifier : Option (List ℕ) → Option (List ℕ) → Bool
+is_verifier (Some expected) (Some verifier) = bytes_eq verifier expected
+is_verifier (Some expected) None = false
+is_verifier None verifier = false
+
+abbrev pub is_expected : ClientView → Option (List ℕ) → Result (Unit {0}) ScramFault
+is_expected client verifier = if is_verifier client.expected verifier then Ok tt else Err BadVerifier
+
+-- ---- what either end answers to a message: the grammar is judged first
+
+-- what comes of a reading
+abbrev pub then_judge : {A B : Type 0} → (A → Result B ScramFault) → Result A ScramFault → Result B ScramFault
+then_judge judge (Ok message) = judge message
+then_judge judge (Err fault) = Err fault
+
+-- a message where there is something to send
+abbrev pub sent : {A : Type 0} → (A → List ℕ) → Result A ScramFault → Result (List ℕ) ScramFault
+sent spelled (Ok x) = Ok (spelled x)
+sent spelled (Err fault) = Err fault
+
+-- the server's answer to the client's final message
+abbrev pub last_of : ServerView → List ℕ → Result (List ℕ) ScramFault
+last_of server bytes =
+    sent server_final_message
+    (then_judge (λ m. verifier_for server m.without_proof m.nonce m.proof) (reading.client_final_of server.flag bytes))
+
+-- the client's reply to the server's first message
+abbrev pub reply_of : ClientView → List ℕ → Result ReplyView ScramFault
+reply_of client bytes =
+    then_judge (λ m. reply_to client bytes m.nonce m.salt m.count) (reading.server_first_of bytes)
+
+-- the client behind its reply
+abbrev pub expecting : ClientView → Result ReplyView ScramFault → ClientView
+expecting client (Ok reply) = record client { expected = Some reply.verifier }
+expecting client (Err fault) = client
+
+-- the client's answer to the server's final message
+abbrev pub check_of : ClientView → List ℕ → Result (Unit {0}) ScramFault
+check_of client bytes = then_judge (is_expected client) (reading.server_final_of bytes)
 
 -- ---- results and answers
 

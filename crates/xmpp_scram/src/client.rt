@@ -1,10 +1,14 @@
-ghost use Rattle.std.specs.Prelude.{◌≡◌, IfOk};
-ghost use Rattle.xmpp_scram.specs.Exchange.{Judges, client_first_of, replied, reply_to};
+ghost use Rattle.std.specs.Prelude.{◌≡◌, IfOk, IsSome, OnErr, OnOk};
+ghost use Rattle.xmpp_scram.specs.Exchange.{Judges, begun_client, check_of, expecting, replied, reply_of, reply_to, sent};
+ghost use Rattle.xmpp_scram.specs.Seen.{Answers};
 ghost use Rattle.xmpp_scram.specs.Hashes.{auth_message};
 
+use crate::comparing::is_same;
 use crate::fault::ScramFault;
 use crate::hashing::{KeyedHash, digest, hi, hmac, xor};
 use crate::plain::is_plain;
+use crate::server_final::read_server_final;
+use crate::server_first::read_server_first;
 use crate::spelling::{append_proof, client_first, without_proof};
 use std::alloc::Global;
 use std::marker::Model;
@@ -87,7 +91,7 @@ impl ScramClient {
         password: &str,
         nonce: &str,
     ) -> Result<ScramClient, ScramFault>
-        ensures { Judges (λ c. c) result (client_first_of name.now password.now nonce.now) }
+        ensures { Judges (λ c. c) result (begun_client name.now password.now nonce.now) }
     {
         if !is_plain(name) || !is_plain(password) {
             return Err(ScramFault::BadName);
@@ -128,5 +132,42 @@ impl ScramClient {
         ensures { result.now ≡ self.now.message }
     {
         self.message.as_slice()
+    }
+
+    /// Replies to the server's first message: `c=biws,r=` its nonce, `,p=` the base64 of the proof. `Malformed` comes
+    /// exactly where the message leaves the grammar, else `BadNonce` exactly where its nonce does not begin with the
+    /// client's, else `Iterations` exactly where the count is not within `LEAST_ITERATIONS` to `MOST_ITERATIONS`. A
+    /// refusal leaves the client as it was; behind an Ok it expects a verifier.
+    pub fn reply(&mut self, alloc: Global, server_first: &[u8]) -> Result<Bytes, ScramFault>
+        ensures answer { Answers (λ m. m.items) result (sent (λ r. r.message) (reply_of self.old server_first.now)) }
+        ensures expects { OnOk result (self.new ≡ expecting self.old (reply_of self.old server_first.now)) }
+        ensures replied { OnOk result (IsSome self.new.expected) }
+        ensures refused { OnErr result (self.new ≡ self.old) }
+    {
+        let read = read_server_first(alloc, server_first)?;
+        let reply = self.answer(
+            alloc,
+            server_first,
+            read.nonce.as_str(),
+            read.salt.as_slice(),
+            read.count,
+        )?;
+        self.expected = Some(reply.verifier);
+        Ok(reply.message)
+    }
+
+    /// Judges the server's final message: whether the server knows the account's keys. `Malformed` comes exactly where
+    /// it leaves the grammar, else `BadVerifier` exactly where its verifier isn't the one that is expected, so also
+    /// where it tells an error. It takes no memory, and the time that it takes does not tell how much of a verifier is
+    /// right.
+    pub fn check(&self, server_final: &[u8]) -> Result<(), ScramFault>
+        requires { IsSome self.now.expected }
+        ensures { result ≡ check_of self.now server_final.now }
+    {
+        let verifier = read_server_final(server_final)?;
+        match (&self.expected, verifier) {
+            (Some(expected), Some(verifier)) if is_same(&verifier, expected) => Ok(()),
+            _ => Err(ScramFault::BadVerifier),
+        }
     }
 }

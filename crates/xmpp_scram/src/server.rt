@@ -1,16 +1,18 @@
 ghost use Rattle.std.specs.Prelude.{◌≡◌, IfOk};
-ghost use Rattle.xmpp_scram.specs.Exchange.{is_proof, server_auth, server_first_of, verifier_for};
+ghost use Rattle.xmpp_scram.specs.Exchange.{Judges, begun_server, is_proof, last_of, server_auth, verifier_for};
 ghost use Rattle.xmpp_scram.specs.Hashes.{hmac_of};
 
+use crate::binding_flag::BindingFlag;
+use crate::client_final::read_client_final;
+use crate::client_first::ClientFirst;
 use crate::comparing::is_same;
 use crate::credentials::Credentials;
 use crate::fault::ScramFault;
 use crate::hashing::{KeyedHash, digest, xor};
-use crate::messages::{BindingFlag, ClientFirst};
-use crate::spelling::{joined, server_first};
+use crate::spelling::{joined, server_final, server_first};
 use std::alloc::Global;
 use std::marker::Model;
-use xmpp_edge::{NoMemory, Text};
+use xmpp_edge::{Bytes, NoMemory, Text};
 
 /// The server's end of an exchange, behind its first message (RFC 5802 section 5).
 #[derive(Drop)]
@@ -40,7 +42,7 @@ impl ScramServer {
         credentials: &Credentials,
         tail: &str,
     ) -> Result<ScramServer, NoMemory>
-        ensures { IfOk result (λ s. s ≡ server_first_of client credentials.now tail.now) }
+        ensures { IfOk result (λ s. s ≡ begun_server client credentials.now tail.now) }
     {
         let nonce = joined(alloc, client.nonce.as_str(), tail)?;
         let message = server_first(
@@ -103,5 +105,17 @@ impl ScramServer {
         ensures { result.now ≡ self.now.message }
     {
         self.message.as_str().as_bytes()
+    }
+
+    /// Answers the client's final message: `v=` and the base64 of the verifier, where the message is within the grammar
+    /// and has the whole nonce and the right proof. `Malformed` comes exactly where it leaves the grammar, else
+    /// `BadNonce` exactly where the nonce is another, else `BadProof` exactly where the proof isn't the right one. The
+    /// exchange is spent, whatever the answer is. The time that it takes does not tell how much of a proof is right.
+    pub fn last(self, alloc: Global, bytes: &[u8]) -> Result<Bytes, ScramFault>
+        ensures { Judges (λ m. m.items) result (last_of self bytes.now) }
+    {
+        let message = read_client_final(self.flag, bytes)?;
+        let verifier = self.verifier(message.without_proof, message.nonce, message.proof)?;
+        Ok(server_final(alloc, &verifier)?)
     }
 }
