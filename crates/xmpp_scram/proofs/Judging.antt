@@ -23,20 +23,20 @@ pub by_tests : {A P Q : Type 0} (value : A) (first second : ScramFault) (b d : B
     → Decides b P → Decides d Q
     → ByTests value first second P Q (cond b (cond d (Ok value) (Err second)) (Err first))
 by_tests value first second true true apart p q = record {
-    accepted = λ x. (λ e. (p.0 refl, q.0 refl, cc), λ h. ap (λ y. Ok y) (sym h.2));
-    refused_first = (λ e. absurd (cc), λ n. absurd (n (p.0 refl)));
-    refused_second = (λ e. absurd (cc), λ h. absurd (h.1 (q.0 refl)))
-  }
+  accepted = λ x. (λ e. (p.0 refl, q.0 refl, cc), λ h. ap (λ y. Ok y) (sym h.2));
+  refused_first = (λ e. absurd (cc), λ n. absurd (n (p.0 refl)));
+  refused_second = (λ e. absurd (cc), λ h. absurd (h.1 (q.0 refl)));
+}
 by_tests value first second true false apart p q = record {
-    accepted = λ x. (λ e. absurd (cc), λ h. let e = q.1 h.1 in absurd (cc));
-    refused_first = (λ e. absurd (apart (cc)), λ n. absurd (n (p.0 refl)));
-    refused_second = (λ e. (p.0 refl, λ h. let e' = q.1 h in absurd (cc)), λ h. refl)
-  }
+  accepted = λ x. (λ e. absurd (cc), λ h. let e = q.1 h.1 in absurd (cc));
+  refused_first = (λ e. absurd (apart (cc)), λ n. absurd (n (p.0 refl)));
+  refused_second = (λ e. (p.0 refl, λ h. let e' = q.1 h in absurd (cc)), λ h. refl);
+}
 by_tests value first second false d apart p q = record {
-    accepted = λ x. (λ e. absurd (cc), λ h. let e = p.1 h.0 in absurd (cc));
-    refused_first = (λ e h. let e' = p.1 h in absurd (cc), λ n. refl);
-    refused_second = (λ e. absurd (apart (cc)), λ h. let e = p.1 h.0 in absurd (cc))
-  }
+  accepted = λ x. (λ e. absurd (cc), λ h. let e = p.1 h.0 in absurd (cc));
+  refused_first = (λ e h. let e' = p.1 h in absurd (cc), λ n. refl);
+  refused_second = (λ e. absurd (apart (cc)), λ h. let e = p.1 h.0 in absurd (cc));
+}
 
 -- ---- the server's final answer
 
@@ -50,12 +50,13 @@ is_proof-Decides : (stored auth : List ℕ) (proof : Option (List ℕ)) → Deci
 is_proof-Decides stored auth None = (λ e. absurd (cc), λ right. let e = right.is in absurd (cc))
 is_proof-Decides stored auth (Some proof) =
     let key : List ℕ → List ℕ = λ p. stored_key (xor_bytes p (client_signature stored auth)) in
-    let same = bytes_eq-Decides (key proof) stored in
-    ( λ e. record { bytes = proof; is = refl; key = same.0 e },
+    let same = bytes_eq-Decides (key proof) stored in (
+      λ e. record { bytes = proof; is = refl; key = same.0 e },
       λ right.
-        let is = right.is in
-        let e : proof ≡ right.bytes = cc in
-        same.1 (ap key e ∙ right.key) )
+          let is = right.is in
+          let e : proof ≡ right.bytes = cc in
+          same.1 (ap key e ∙ right.key),
+    )
 
 last_answer : (server : ServerView) (final : ClientFinalView)
     → IsLastAnswer server final (sent server_final_message (verifier_for server final.without_proof final.nonce final.proof))
@@ -65,14 +66,14 @@ last_answer server final =
     let b = bytes_eq final.nonce server.nonce in
     let d = is_proof server.stored_key auth final.proof in
     let tests = by_tests {P = final.nonce ≡ server.nonce} {Q = IsRightProof server.stored_key auth final.proof}
-      (server_final_message value) BadNonce BadProof b d (λ e. absurd (cc)) (bytes_eq-Decides final.nonce server.nonce) (is_proof-Decides server.stored_key auth final.proof) in
+    (server_final_message value) BadNonce BadProof b d (λ e. absurd (cc)) (bytes_eq-Decides final.nonce server.nonce) (is_proof-Decides server.stored_key auth final.proof) in
     rw (sent-by_tests server_final_message value BadNonce BadProof b d)
-      (record { accepted = tests.accepted; bad_nonce = tests.refused_first; bad_proof = tests.refused_second })
+    (record { accepted = tests.accepted; bad_nonce = tests.refused_first; bad_proof = tests.refused_second })
 
 last_exact : (server : ServerView) (read : Result ClientFinalView ScramFault)
     → MatchResult read
-      (λ final. IsLastAnswer server final (sent server_final_message (then_judge (λ m. verifier_for server m.without_proof m.nonce m.proof) read)))
-      (λ fault. sent server_final_message (then_judge (λ m. verifier_for server m.without_proof m.nonce m.proof) read) ≡ Err fault)
+    (λ final. IsLastAnswer server final (sent server_final_message (then_judge (λ m. verifier_for server m.without_proof m.nonce m.proof) read)))
+    (λ fault. sent server_final_message (then_judge (λ m. verifier_for server m.without_proof m.nonce m.proof) read) ≡ Err fault)
 last_exact server (Ok final) = last_answer server final
 last_exact server (Err fault) = refl
 
@@ -80,9 +81,10 @@ last_exact server (Err fault) = refl
 
 starts_with-Decides : (client : ClientView) (nonce : List ℕ) → Decides (starts_with nat_eq nonce client.nonce) (Continues client nonce)
 starts_with-Decides client nonce =
-    let told = starts_is Decides-eqb nonce client.nonce (starts_with nat_eq nonce client.nonce) refl in
-    ( λ e. record { tail = drop (length client.nonce) nonce; is = told.0 e },
-      λ goes_on. told.1 goes_on.tail goes_on.is )
+    let told = starts_is Decides-eqb nonce client.nonce (starts_with nat_eq nonce client.nonce) refl in (
+      λ e. record { tail = drop (length client.nonce) nonce; is = told.0 e },
+      λ goes_on. told.1 goes_on.tail goes_on.is,
+    )
 
 Decides-leb : (m n : ℕ) → Decides (nat_le m n) (m ≤ n)
 Decides-leb m n = grind (arith, nat_tests)
@@ -107,17 +109,17 @@ is_reply client bytes first =
     let p = starts_with-Decides client first.nonce in
     let q = is_count_taken-Decides first.count in
     let tests = by_tests {P = Continues client first.nonce} {Q = IsCountTaken first.count}
-      value BadNonce (Iterations first.count) b d (λ e. absurd (cc)) p q in
+    value BadNonce (Iterations first.count) b d (λ e. absurd (cc)) p q in
     record {
       accepted = tests.accepted;
       bad_nonce = tests.refused_first;
-      iterations = λ count. count_told {P = Continues client first.nonce} {Q = IsCountTaken first.count} value first.count count b d p q
+      iterations = λ count. count_told {P = Continues client first.nonce} {Q = IsCountTaken first.count} value first.count count b d p q;
     }
 
 reply_exact : (client : ClientView) (bytes : List ℕ) (read : Result ServerFirstView ScramFault)
     → MatchResult read
-      (λ first. IsReply client bytes first (then_judge (λ m. reply_to client bytes m.nonce m.salt m.count) read))
-      (λ fault. then_judge (λ m. reply_to client bytes m.nonce m.salt m.count) read ≡ Err fault)
+    (λ first. IsReply client bytes first (then_judge (λ m. reply_to client bytes m.nonce m.salt m.count) read))
+    (λ fault. then_judge (λ m. reply_to client bytes m.nonce m.salt m.count) read ≡ Err fault)
 reply_exact client bytes (Ok first) = is_reply client bytes first
 reply_exact client bytes (Err fault) = refl
 
@@ -132,28 +134,28 @@ is_verifier-Decides expected (Some verifier) =
 is_check : (expected : List ℕ) (verifier : Option (List ℕ)) (b : Bool) → Decides b (verifier ≡ Some expected)
     → IsCheck expected verifier (cond b (Ok tt) (Err BadVerifier))
 is_check expected verifier true p = record {
-    accepted = (λ e. p.0 refl, λ e. refl);
-    bad_verifier = (λ e. absurd (cc), λ n. absurd (n (p.0 refl)))
-  }
+  accepted = (λ e. p.0 refl, λ e. refl);
+  bad_verifier = (λ e. absurd (cc), λ n. absurd (n (p.0 refl)));
+}
 is_check expected verifier false p = record {
-    accepted = (λ e. absurd (cc), λ e. let e' = p.1 e in absurd (cc));
-    bad_verifier = (λ e h. let e' = p.1 h in absurd (cc), λ n. refl)
-  }
+  accepted = (λ e. absurd (cc), λ e. let e' = p.1 e in absurd (cc));
+  bad_verifier = (λ e h. let e' = p.1 h in absurd (cc), λ n. refl);
+}
 
 abbrev judged_by : Option (List ℕ) → Option (List ℕ) → Result (Unit {0}) ScramFault
 judged_by expected verifier = if is_verifier expected verifier then Ok tt else Err BadVerifier
 
 check_exact : (expected : List ℕ) (at : Option (List ℕ)) → at ≡ Some expected → (read : Result (Option (List ℕ)) ScramFault)
     → MatchResult read
-      (λ verifier. IsCheck expected verifier (then_judge (judged_by at) read))
-      (λ fault. then_judge (judged_by at) read ≡ Err fault)
+    (λ verifier. IsCheck expected verifier (then_judge (judged_by at) read))
+    (λ fault. then_judge (judged_by at) read ≡ Err fault)
 check_exact expected at is (Ok verifier) =
     rw is (is_check expected verifier (is_verifier (Some expected) verifier) (is_verifier-Decides expected verifier))
 check_exact expected at is (Err fault) = refl
 
 pub all_exact : JudgementsAreExact
 all_exact = record {
-    last = λ server bytes. last_exact server (reading.client_final_of server.flag bytes);
-    reply = λ client bytes. reply_exact client bytes (reading.server_first_of bytes);
-    check = λ client expected bytes is. check_exact expected client.expected is (reading.server_final_of bytes)
-  }
+  last = λ server bytes. last_exact server (reading.client_final_of server.flag bytes);
+  reply = λ client bytes. reply_exact client bytes (reading.server_first_of bytes);
+  check = λ client expected bytes is. check_exact expected client.expected is (reading.server_final_of bytes);
+}

@@ -16,13 +16,13 @@ pub record IsRightProof (stored auth : List ℕ) (proof : Option (List ℕ)) : T
 -- what the server answers to a final message within the grammar
 pub record IsLastAnswer (server : ServerView) (final : ClientFinalView) (answer : Result (List ℕ) ScramFault) : Type 0 where
   pub accepted : (message : List ℕ) → (answer ≡ Ok message)
-    ↔ ((final.nonce ≡ server.nonce)
-    × IsRightProof server.stored_key (server_auth server final.without_proof) final.proof
-    × (message ≡ server_final_message (verifier_of server.server_key (server_auth server final.without_proof))))
+      ↔ ((final.nonce ≡ server.nonce)
+      × IsRightProof server.stored_key (server_auth server final.without_proof) final.proof
+      × (message ≡ server_final_message (verifier_of server.server_key (server_auth server final.without_proof))))
   pub bad_nonce : (answer ≡ Err BadNonce) ↔ (final.nonce ≢ server.nonce)
   pub bad_proof : (answer ≡ Err BadProof)
-    ↔ ((final.nonce ≡ server.nonce)
-    × (¬ (IsRightProof server.stored_key (server_auth server final.without_proof) final.proof)))
+      ↔ ((final.nonce ≡ server.nonce)
+      × (¬ (IsRightProof server.stored_key (server_auth server final.without_proof) final.proof)))
 
 -- the nonce begins with the client's
 pub record Continues (client : ClientView) (nonce : List ℕ) : Type 0 where
@@ -35,13 +35,13 @@ IsCountTaken i = (4096 ≤ i) × (i ≤ 1000000)
 -- what the client answers to a first message of the server within the grammar
 pub record IsReply (client : ClientView) (server_first : List ℕ) (first : ServerFirstView) (answer : Result ReplyView ScramFault) : Type 0 where
   pub accepted : (reply : ReplyView) → (answer ≡ Ok reply)
-    ↔ (Continues client first.nonce
-    × IsCountTaken first.count
-    × (reply ≡ replied (client_final_without_proof first.nonce)
+      ↔ (Continues client first.nonce
+      × IsCountTaken first.count
+      × (reply ≡ replied (client_final_without_proof first.nonce)
       (salted_password client.password first.salt first.count) (client_auth client server_first first.nonce)))
   pub bad_nonce : (answer ≡ Err BadNonce) ↔ (¬ (Continues client first.nonce))
   pub iterations : (count : ℕ) → (answer ≡ Err (Iterations count))
-    ↔ (Continues client first.nonce × (¬ (IsCountTaken first.count)) × (count ≡ first.count))
+      ↔ (Continues client first.nonce × (¬ (IsCountTaken first.count)) × (count ≡ first.count))
 
 -- what a client that expects a verifier answers to a final message of the server within the grammar
 pub record IsCheck (expected : List ℕ) (verifier : Option (List ℕ)) (answer : Result (Unit {0}) ScramFault) : Type 0 where
@@ -51,14 +51,14 @@ pub record IsCheck (expected : List ℕ) (verifier : Option (List ℕ)) (answer 
 -- a message that leaves the grammar is refused as such; else the answers are as above
 pub record JudgementsAreExact : Type 0 where
   pub last : (server : ServerView) (bytes : List ℕ)
-    → MatchResult (reading.client_final_of server.flag bytes)
+      → MatchResult (reading.client_final_of server.flag bytes)
       (λ final. IsLastAnswer server final (last_of server bytes))
       (λ fault. last_of server bytes ≡ Err fault)
   pub reply : (client : ClientView) (bytes : List ℕ)
-    → MatchResult (reading.server_first_of bytes)
+      → MatchResult (reading.server_first_of bytes)
       (λ first. IsReply client bytes first (reply_of client bytes))
       (λ fault. reply_of client bytes ≡ Err fault)
   pub check : (client : ClientView) (expected bytes : List ℕ) → client.expected ≡ Some expected
-    → MatchResult (reading.server_final_of bytes)
+      → MatchResult (reading.server_final_of bytes)
       (λ verifier. IsCheck expected verifier (check_of client bytes))
       (λ fault. check_of client bytes ≡ Err fault)

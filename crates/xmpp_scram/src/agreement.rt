@@ -7,8 +7,7 @@ ghost use Rattle.xmpp_scram.specs.Judgements.{JudgementsAreExact};
 /// nothing.
 pub fn ends_agree()
     ensures { EndsAgree }
-{
-}
+{}
 
 /// The law of when each answer comes. `last` accepts exactly the final messages within the grammar that have the whole
 /// nonce and the right proof, `reply` replies to exactly the first messages whose nonce begins with the client's and
@@ -16,5 +15,4 @@ pub fn ends_agree()
 /// where its cause is the first that holds. It does nothing.
 pub fn judgements_are_exact()
     ensures { JudgementsAreExact }
-{
-}
+{}

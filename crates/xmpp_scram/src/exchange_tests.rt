@@ -95,7 +95,8 @@ fn server(alloc: Global, credentials: &Credentials) -> Result<ScramServer, Scram
 }
 
 // The example's final message with one byte of its proof changed.
-const SPOILED: &str = "c=biws,r=rOprNGfwEbeRWgbNEkqO%hvYDpWUa2RaTCAfuxFIlj)hNlF$k0,p=dXzbZapWIk4jUhN+Ute9ytag9zjfMHgsqmmiz7AndVQ=";
+const SPOILED: &str =
+    "c=biws,r=rOprNGfwEbeRWgbNEkqO%hvYDpWUa2RaTCAfuxFIlj)hNlF$k0,p=dXzbZapWIk4jUhN+Ute9ytag9zjfMHgsqmmiz7AndVQ=";
 
 #[test]
 fn goes_through_the_example(rt: HostRuntime) -> Result<(), Fail> {
@@ -128,7 +129,10 @@ fn goes_through_the_example(rt: HostRuntime) -> Result<(), Fail> {
         assert_eq!(rt; client.check(message.as_bytes()), Err(fault));
     }
     let spoiled = server(alloc, &credentials)?;
-    assert_eq!(rt; spoiled.last(alloc, SPOILED.as_bytes()).err(), Some(ScramFault::BadProof));
+    assert_eq!(rt;
+        spoiled.last(alloc, SPOILED.as_bytes()).err(),
+        Some(ScramFault::BadProof)
+    );
     let escaped = ScramClient::first(alloc, "a=b,c", "pencil", "x")?;
     assert_eq!(rt; escaped.message(), b"n,,n=a=3Db=2Cc,r=x".as_slice());
     Ok(())

@@ -1,3 +1,6 @@
+ghost use Rattle.std.specs.Prelude.{◌≡◌};
+ghost use Rattle.xmpp_scram.specs.Places.{malformed};
+
 use std::error::Error;
 use std::fmt;
 use xmpp_edge::NoMemory;
@@ -57,4 +60,12 @@ impl From<NoMemory> for ScramFault {
     fn from(_e: NoMemory) -> ScramFault {
         ScramFault::NoMemory
     }
+}
+
+/// The fault of a message that leaves its grammar where the rest begins.
+pub(crate) fn malformed(bytes: &[u8], rest: &[u8]) -> ScramFault
+    ensures { result ≡ malformed bytes.now rest.now }
+{
+    let at = bytes.len().saturating_sub(rest.len());
+    ScramFault::Malformed { at: at as u64 }
 }
