@@ -18,3 +18,4 @@ pub mod Utf8
 pub mod Worked
 pub mod WorkedExchange
 pub mod Xors
+pub mod Written

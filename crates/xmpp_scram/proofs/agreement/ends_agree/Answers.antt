@@ -1,4 +1,5 @@
 use Rattle.xmpp_scram.proofs.ReadBack.{AreReadBack, goes_through}
+use Rattle.xmpp_scram.proofs.Written.{is_client_first}
 use Rattle.xmpp_scram.proofs.agreement.ends_agree.Goals as goal
 
 read_back : AreReadBack
