@@ -19,3 +19,4 @@ pub mod Worked
 pub mod WorkedExchange
 pub mod Xors
 pub mod Written
+pub mod ReadWritten

@@ -37,7 +37,7 @@ name_bytes (b ∷ text) e =
     let parts = and_parts (is_printable_ascii b) (list_all is_printable_ascii text) e in
     rw (name_byte b parts.0, name_bytes text parts.1) refl
 
-is_name : (name : List ℕ) → is_plain name ≡ true → IsName name (escaped name)
+pub is_name : (name : List ℕ) → is_plain name ≡ true → IsName name (escaped name)
 is_name name plain =
     let parts = and_parts (nat_lt 0 (length name)) (list_all is_printable_ascii name) plain in
     record {
@@ -49,7 +49,7 @@ is_name name plain =
 
 -- ---- nonces and extensions
 
-is_nonce-IsNonce : (nonce : List ℕ) → is_nonce nonce ≡ true → IsNonce nonce
+pub is_nonce-IsNonce : (nonce : List ℕ) → is_nonce nonce ≡ true → IsNonce nonce
 is_nonce-IsNonce [] e = absurd (cc)
 is_nonce-IsNonce (b ∷ nonce) e = (and_parts (nat_lt 0 (length (b ∷ nonce))) (list_all is_printable (b ∷ nonce)) e).1
 
@@ -58,7 +58,7 @@ no_extensions until = ([], tt, refl)
 
 -- ---- counts
 
-abbrev Counts : ℕ → List ℕ → Type 0
+abbrev pub Counts : ℕ → List ℕ → Type 0
 Counts n digits = (value_of digits ≡ n) × (0 < n → is_count digits ≡ true)
 
 one_digit : (n : ℕ) → n < 10 → Counts n ((48 + n) ∷ [])
@@ -78,7 +78,7 @@ more_digits n digits large front =
     ( fold-append (λ value digit. value * 10 + (digit - 48)) 0 digits ((48 + n % 10) ∷ []) ∙ rw front.0 (omega arith),
       λ some. is_count-more digits (48 + n % 10) (front.1 (omega arith)) (is_digit-of n) )
 
-is_counted : (n : ℕ) → n ≤ 4294967295 → Counts n (decimal n)
+pub is_counted : (n : ℕ) → n ≤ 4294967295 → Counts n (decimal n)
 is_counted n small = decimal_by_steps Counts one_digit more_digits n (omega arith)
 
 -- ---- the messages
