@@ -191,10 +191,11 @@ encoded_whole (a ∷ b ∷ c ∷ bytes) fits =
     let la : a < 256 = fits 0 in
     let lb : b < 256 = fits 1 in
     let lc : c < 256 = fits 2 in
-    let rest = encoded_whole bytes (λ i. fits (suc (suc (suc i)))) in (
+    let rest = encoded_whole bytes (λ i. fits (suc (suc (suc i)))) in
+    (
       rest.0,
       ap (behind group_goes_on group_may_end Whole) (more_text a b c bytes)
-          ∙ group_run (a / 4) (a % 4 * 16 + b / 16) (b % 16 * 4 + c / 64) (c % 64) (encode_of standard bytes) (omega arith) (omega arith) (omega arith) (omega arith) ∙ rest.1,
+      ∙ group_run (a / 4) (a % 4 * 16 + b / 16) (b % 16 * 4 + c / 64) (c % 64) (encode_of standard bytes) (omega arith) (omega arith) (omega arith) (omega arith) ∙ rest.1,
       rest.2,
     )
 
@@ -272,7 +273,8 @@ whole_group a b c d va vb vc vd text ea eb ec ed rest =
     let e0 : x / 4 ≡ va = omega arith in
     let e1 : x % 4 * 16 + y / 16 ≡ vb = omega arith in
     let e2 : y % 16 * 4 + z / 64 ≡ vc = omega arith in
-    let e3 : z % 64 ≡ vd = omega arith in (
+    let e3 : z % 64 ≡ vd = omega arith in
+    (
       x ∷ y ∷ z ∷ rest.0,
       IsBytes-group x y z rest.0 (omega arith) (omega arith) (omega arith) rest.1,
       sym (more_text x y z rest.0 ∙ rw (e0, e1, e2, e3, sa.1, sb.1, sc.1, sd.1, rest.2) refl),
@@ -287,7 +289,8 @@ three_symbols a b c va vb vc ea eb ec zero_bits =
     let y : ℕ = vb % 16 * 16 + vc / 4 in
     let e0 : x / 4 ≡ va = omega arith in
     let e1 : x % 4 * 16 + y / 16 ≡ vb = omega arith in
-    let e2 : y % 16 * 4 ≡ vc = omega arith in (
+    let e2 : y % 16 * 4 ≡ vc = omega arith in
+    (
       x ∷ y ∷ [],
       IsBytes-cons x (y ∷ []) (omega arith) (IsBytes-cons y [] (omega arith) IsBytes-nil),
       sym (two_text x y ∙ rw (e0, e1, e2, sa.1, sb.1, sc.1) refl),

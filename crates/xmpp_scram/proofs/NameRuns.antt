@@ -156,7 +156,8 @@ some_name (b ∷ name) text e lt = omega arith
 pub name_found : (text : List ℕ) (t : Name) → goes Start text ≡ Some t → name_may_end t ≡ true → (name : List ℕ) × IsName name text
 name_found [] t h e = let same : Start ≡ t = cc h in cc (rw (← same) at e)
 name_found (b ∷ text) t h e =
-    let spelt = name_rest Start (b ∷ text) (rw (is_between t e) at h) in (
+    let spelt = name_rest Start (b ∷ text) (rw (is_between t e) at h) in
+    (
       spelt.0,
       record {
         some = some_name spelt.0 (b ∷ text) spelt.2 (omega arith);

@@ -26,22 +26,22 @@ pub record Reads {V : Type 0} (read : List ℕ → Result V (List ℕ)) (Spells 
   pub only : (v : V) (bytes : List ℕ) → Spells v bytes → read bytes ≡ Ok v
   pub leaves : (bytes rest : List ℕ) → read bytes ≡ Err rest → Leaves read Spells bytes rest
 
-bind_ok : {A B : Type 0} (r : Result A (List ℕ)) (f : A → Result B (List ℕ)) (v : B) → (r >>= f) ≡ Ok v → (a : A) × (r ≡ Ok a) × (f a ≡ Ok v)
+pub bind_ok : {A B : Type 0} (r : Result A (List ℕ)) (f : A → Result B (List ℕ)) (v : B) → (r >>= f) ≡ Ok v → (a : A) × (r ≡ Ok a) × (f a ≡ Ok v)
 bind_ok (Ok a) f v h = (a, refl, h)
 bind_ok (Err e) f v h = cc h
 
-bind_err : {A B : Type 0} (r : Result A (List ℕ)) (f : A → Result B (List ℕ)) (rest : List ℕ) → (r >>= f) ≡ Err rest
+pub bind_err : {A B : Type 0} (r : Result A (List ℕ)) (f : A → Result B (List ℕ)) (rest : List ℕ) → (r >>= f) ≡ Err rest
     → (r ≡ Err rest) ⊎ ((a : A) × (r ≡ Ok a) × (f a ≡ Err rest))
 bind_err (Ok a) f rest h = inr (a, refl, h)
 bind_err (Err e) f rest h = inl (cc h)
 
-bound_ok : {A B : Type 0} (r : Result A (List ℕ)) (f : A → Result B (List ℕ)) (a : A) → r ≡ Ok a → (r >>= f) ≡ f a
+pub bound_ok : {A B : Type 0} (r : Result A (List ℕ)) (f : A → Result B (List ℕ)) (a : A) → r ≡ Ok a → (r >>= f) ≡ f a
 bound_ok r f a h = rw h refl
 
-bound_err : {A B : Type 0} (r : Result A (List ℕ)) (f : A → Result B (List ℕ)) (e : List ℕ) → r ≡ Err e → (r >>= f) ≡ Err e
+pub bound_err : {A B : Type 0} (r : Result A (List ℕ)) (f : A → Result B (List ℕ)) (e : List ℕ) → r ≡ Err e → (r >>= f) ≡ Err e
 bound_err r f e h = rw h refl
 
-alike_behind : (front rest other : List ℕ) → Alike rest other → Alike (front ++ rest) (front ++ other)
+pub alike_behind : (front rest other : List ℕ) → Alike rest other → Alike (front ++ rest) (front ++ other)
 alike_behind [] rest other h = h
 alike_behind (b ∷ front) rest other h = refl
 
@@ -137,7 +137,7 @@ said {V} m M N to from reads = record {
 
 -- ---- these bytes, and then the rest
 
-literal_ok : (word bytes rest : List ℕ) → literal word bytes ≡ Ok rest → bytes ≡ word ++ rest
+pub literal_ok : (word bytes rest : List ℕ) → literal word bytes ≡ Ok rest → bytes ≡ word ++ rest
 literal_ok [] bytes rest h = cc h
 literal_ok (w ∷ word) [] rest h = cc h
 literal_ok (w ∷ word) (b ∷ bytes) rest h =
@@ -148,7 +148,7 @@ literal_ok (w ∷ word) (b ∷ bytes) rest h =
       | inr e ↦ cc (rw e at h)
     ]
 
-literal_takes : (word rest : List ℕ) → literal word (word ++ rest) ≡ Ok rest
+pub literal_takes : (word rest : List ℕ) → literal word (word ++ rest) ≡ Ok rest
 literal_takes [] rest = refl
 literal_takes (w ∷ word) rest = rw (eq-eqb w w refl) (literal_takes word rest)
 
@@ -166,7 +166,7 @@ literal_on w b word bytes e = rw e refl
 cons_same : (b w : ℕ) (x word : List ℕ) → b ≡ w → x ≡ word → b ∷ x ≡ w ∷ word
 cons_same b w x word same e = rw (same, e) refl
 
-literal_left : (word bytes rest : List ℕ) → literal word bytes ≡ Err rest
+pub literal_left : (word bytes rest : List ℕ) → literal word bytes ≡ Err rest
     → (front : List ℕ) × (bytes ≡ front ++ rest) × ((more : List ℕ) × (front ++ more ≡ word)) × ((other : List ℕ) → Alike rest other → literal word (front ++ other) ≡ Err other)
 literal_left [] bytes rest h = cc h
 literal_left (w ∷ word) [] rest h =
@@ -176,7 +176,8 @@ literal_left (w ∷ word) (b ∷ bytes) rest h =
     elim (cases_Bool (b == w)) [
       | inl e ↦
           let left = literal_left word bytes rest (sym (literal_on w b word bytes e) ∙ h) in
-          let same : b ≡ w = eqb-true b w e in (
+          let same : b ≡ w = eqb-true b w e in
+          (
             b ∷ left.0,
             ap (λ (x : List ℕ). b ∷ x) left.1,
             (left.2.0, cons_same b w (left.0 ++ left.2.0) word same left.2.1),
@@ -187,7 +188,7 @@ literal_left (w ∷ word) (b ∷ bytes) rest h =
           rw here ([], refl, (w ∷ word, refl), λ other alike. literal_stays w b word bytes other e alike)
     ]
 
-abbrev anything : List ℕ → Type 0
+abbrev pub anything : List ℕ → Type 0
 anything rest = Unit {0}
 
 abbrev and_rest : List ℕ → Result (Bool × List ℕ) (List ℕ)
@@ -293,20 +294,21 @@ with_bytes {U} {V} m M f reads = record {
 
 module _ {S : Type 0} (goes_on : S → ℕ → Option S) (may_end : S → Bool) (start : S) (L : List ℕ → Type 0) (Closes : List ℕ → Type 0)
     (found : (part : List ℕ) (t : S) → behind goes_on may_end start part ≡ Some t → may_end t ≡ true → L part)
-    (only : (part : List ℕ) → L part → (t : S) × (behind goes_on may_end start part ≡ Some t) × (may_end t ≡ true))
-    (goes : (t : S) → (more : List ℕ) × (u : S) × (behind goes_on may_end t more ≡ Some u) × (may_end u ≡ true))
-    (stops : (t : S) (rest : List ℕ) → may_end t ≡ true → Closes rest → Stops goes_on may_end t rest) where
+    (only : (part : List ℕ) → L part
+        → (t : S) × (behind goes_on may_end start part ≡ Some t) × (may_end t ≡ true) × ((rest : List ℕ) → Closes rest → Stops goes_on may_end t rest))
+    (goes : (t : S) → (more : List ℕ) × (u : S) × (behind goes_on may_end t more ≡ Some u) × (may_end u ≡ true)) where
   abbrev Taken : List ℕ → List ℕ → Type 0
   Taken text part = (text ≡ part) × L part
 
-  pub run_part : IsPart (run goes_on may_end start) Taken Closes
-  run_part = record {
+  pub stopped_part : IsPart (run goes_on may_end start) Taken Closes
+  stopped_part = record {
     took = λ bytes text rest h. (let took = run_took goes_on may_end start bytes (text, rest) h in
         (text, took.whole, (refl, found text took.state took.behind took.ends), took.again));
     takes = λ text part rest is closes. (let way = only part is.1 in
-        run_takes goes_on may_end start way.0 part rest way.1 way.2 (stops way.0 rest way.2 closes) ∙ ap (λ (x : List ℕ). let r : Result Cut (List ℕ) = Ok (x, rest) in r) (sym is.0));
+        run_takes goes_on may_end start way.0 part rest way.1 way.2 (way.3 rest closes) ∙ ap (λ (x : List ℕ). let r : Result Cut (List ℕ) = Ok (x, rest) in r) (sym is.0));
     leaves = λ bytes rest h. (let left = run_left goes_on may_end start bytes rest h in
-        let way = goes left.state in (
+        let way = goes left.state in
+        (
           left.front,
           left.whole,
           (
@@ -317,3 +319,15 @@ module _ {S : Type 0} (goes_on : S → ℕ → Option S) (may_end : S → Bool) 
           left.again,
         ));
   }
+
+-- the same where it stops wherever it may end
+module _ {S : Type 0} (goes_on : S → ℕ → Option S) (may_end : S → Bool) (start : S) (L : List ℕ → Type 0) (Closes : List ℕ → Type 0)
+    (found : (part : List ℕ) (t : S) → behind goes_on may_end start part ≡ Some t → may_end t ≡ true → L part)
+    (only : (part : List ℕ) → L part → (t : S) × (behind goes_on may_end start part ≡ Some t) × (may_end t ≡ true))
+    (goes : (t : S) → (more : List ℕ) × (u : S) × (behind goes_on may_end t more ≡ Some u) × (may_end u ≡ true))
+    (stops : (t : S) (rest : List ℕ) → may_end t ≡ true → Closes rest → Stops goes_on may_end t rest) where
+  pub run_part : IsPart (run goes_on may_end start) (λ text part. (text ≡ part) × L part) Closes
+  run_part =
+      stopped_part goes_on may_end start L Closes found
+      (λ part l. (let way = only part l in (way.0, way.1, way.2, λ rest closes. stops way.0 rest way.2 closes)))
+      goes
