@@ -1,16 +1,16 @@
 -- What the port of base64 decodes.
-use Rattle.std.proofs.Common.{◌≡◌, ◌≢◌, ℕ, ◌+◌, ◌-◌, ◌*◌, ◌/◌, ◌%◌, ◌<◌, ◌≤◌, ◌⊎◌, Bool, true, false, cond, nat_lt, List, [], ◌∷◌, ◌++◌, length, replicate, drop, Option, Some, None, Result, Ok, Err, refl, sym, ap, ◌∙◌, arith, subst, inl, inr, lt-ltb, le-ltb, eq-eqb, ne_eqb}
+use Rattle.std.proofs.Common.{◌≡◌, ℕ, ◌+◌, ◌-◌, ◌*◌, ◌/◌, ◌≤◌, false, cond, nat_lt, List, [], ◌++◌, length, replicate, drop, Option, Some, None, Result, Ok, Err, refl, sym, ap, ◌∙◌, arith, inl, inr, lt-ltb, le-ltb, eq-eqb, ne_eqb}
 use Rattle.std.proofs.lemmas.List.{length-append, length-replicate, append-nil, drop_all}
-use Rattle.std.proofs.lemmas.Bool.{cases_lt, cases_eq}
-use Rattle.base64.specs.Decode.{Accepts, decode_error, decode_outcome, decoded_bytes, or_else, or_error, lone_error, groups_error, suffix_error, groups_before_last, bytes_fit}
+use Rattle.std.proofs.lemmas.Bool.{cases_lt}
+use Rattle.base64.specs.Decode.{decode_error, decode_outcome, or_else, or_error, lone_error, groups_error, suffix_error, groups_before_last, bytes_fit}
 use Rattle.base64.specs.Engines.{standard}
-use Rattle.base64.specs.GeneralPurpose.{IsBytes, decode_of, decode_slice_of, decoded_bytes_of, encode_of, IsConsistent}
+use Rattle.base64.specs.GeneralPurpose.{IsBytes, decode_of, decode_slice_of, decoded_bytes_of, encode_of}
 use Rattle.base64.specs.Rfc4648.{encode_symbols, padding_len, unpadded_len}
 use Rattle.base64.specs.declared.engine.DecodePaddingMode.TheVariants.{RequireCanonical}
 use Rattle.base64.specs.declared.decode.DecodeError.{DecodeError}
 use Rattle.base64.specs.declared.decode.DecodeSliceError.{DecodeSliceError}
 use Rattle.base64.specs.declared.decode.DecodeSliceError.TheVariants.{OutputSliceTooSmall as too_small}
-use Rattle.base64.proofs.EngineFacts.{decode_of-encode_of, encode_of-append}
+use Rattle.base64.proofs.EngineFacts.{decode_of-encode_of}
 use Rattle.base64.proofs.RoundTrip.{length-encode_symbols}
 use Rattle.xmpp_scram.specs.Values.{IsBase64, base64_bytes, hash_of}
 

@@ -1,19 +1,18 @@
 -- The base64 texts that are read are those of bytes.
-use Rattle.std.proofs.Common.{◌≡◌, ℕ, zero, suc, ◌+◌, ◌-◌, ◌*◌, ◌/◌, ◌%◌, ◌==◌, ◌<◌, ◌≤◌, ◌⊎◌, Bool, true, false, cond, eqb, not, ◌&&◌, List, [], ◌∷◌, ◌++◌, length, slice_index, Option, Some, None, refl, sym, ap, ◌∙◌, arith, inl, inr, eq-eqb, ne_eqb}
-use Rattle.std.proofs.lemmas.Bool.{and_parts, eqb-true, leb-true, cases_Bool, cases_lt}
-use Rattle.std.specs.Option.{option_map, option_and_then}
-use Rattle.base64.specs.Decode.{decode_group}
+use Rattle.std.proofs.Common.{◌≡◌, ℕ, zero, suc, ◌+◌, ◌-◌, ◌*◌, ◌/◌, ◌%◌, ◌==◌, ◌<◌, ◌≤◌, ◌⊎◌, Bool, true, false, cond, ◌&&◌, List, [], ◌∷◌, ◌++◌, slice_index, Option, Some, None, refl, sym, ap, ◌∙◌, arith, inl, inr, eq-eqb, ne_eqb}
+use Rattle.std.proofs.lemmas.Bool.{and_parts, eqb-true, cases_lt}
+use Rattle.std.specs.Option.{option_map}
 use Rattle.base64.specs.Engines.{standard}
 use Rattle.base64.specs.GeneralPurpose.{IsBytes, encode_of}
 use Rattle.base64.specs.Rfc4648.{encode_symbols}
 use Rattle.base64.proofs.EngineFacts.{encode_of-append, encode_of-nil}
 use Rattle.xmpp_scram.specs.Classes.{is_within, sextet}
-use Rattle.xmpp_scram.specs.States.{group_goes_on, group_may_end, where_so}
+use Rattle.xmpp_scram.specs.States.{group_goes_on, group_may_end}
 use Rattle.xmpp_scram.specs.Values.{IsBase64}
 use Rattle.xmpp_scram.specs.declared.base64_text.Group.{Group}
 use Rattle.xmpp_scram.specs.declared.base64_text.Group.TheVariants.{Whole, One, Two, Three, Padding, Padded}
 use Rattle.xmpp_scram.proofs.Tests.{chosen, if_some, map_some, within}
-use Rattle.xmpp_scram.proofs.Runs.{behind, behind_first, behind_step, option_cases}
+use Rattle.xmpp_scram.proofs.Runs.{behind, behind_first, behind_step}
 
 -- ---- symbols
 
@@ -191,11 +190,10 @@ encoded_whole (a ∷ b ∷ c ∷ bytes) fits =
     let la : a < 256 = fits 0 in
     let lb : b < 256 = fits 1 in
     let lc : c < 256 = fits 2 in
-    let rest = encoded_whole bytes (λ i. fits (suc (suc (suc i)))) in
-    (
+    let rest = encoded_whole bytes (λ i. fits (suc (suc (suc i)))) in (
       rest.0,
       ap (behind group_goes_on group_may_end Whole) (more_text a b c bytes)
-      ∙ group_run (a / 4) (a % 4 * 16 + b / 16) (b % 16 * 4 + c / 64) (c % 64) (encode_of standard bytes) (omega arith) (omega arith) (omega arith) (omega arith) ∙ rest.1,
+          ∙ group_run (a / 4) (a % 4 * 16 + b / 16) (b % 16 * 4 + c / 64) (c % 64) (encode_of standard bytes) (omega arith) (omega arith) (omega arith) (omega arith) ∙ rest.1,
       rest.2,
     )
 
@@ -273,8 +271,7 @@ whole_group a b c d va vb vc vd text ea eb ec ed rest =
     let e0 : x / 4 ≡ va = omega arith in
     let e1 : x % 4 * 16 + y / 16 ≡ vb = omega arith in
     let e2 : y % 16 * 4 + z / 64 ≡ vc = omega arith in
-    let e3 : z % 64 ≡ vd = omega arith in
-    (
+    let e3 : z % 64 ≡ vd = omega arith in (
       x ∷ y ∷ z ∷ rest.0,
       IsBytes-group x y z rest.0 (omega arith) (omega arith) (omega arith) rest.1,
       sym (more_text x y z rest.0 ∙ rw (e0, e1, e2, e3, sa.1, sb.1, sc.1, sd.1, rest.2) refl),
@@ -289,8 +286,7 @@ three_symbols a b c va vb vc ea eb ec zero_bits =
     let y : ℕ = vb % 16 * 16 + vc / 4 in
     let e0 : x / 4 ≡ va = omega arith in
     let e1 : x % 4 * 16 + y / 16 ≡ vb = omega arith in
-    let e2 : y % 16 * 4 ≡ vc = omega arith in
-    (
+    let e2 : y % 16 * 4 ≡ vc = omega arith in (
       x ∷ y ∷ [],
       IsBytes-cons x (y ∷ []) (omega arith) (IsBytes-cons y [] (omega arith) IsBytes-nil),
       sym (two_text x y ∙ rw (e0, e1, e2, sa.1, sb.1, sc.1) refl),

@@ -1,17 +1,17 @@
 -- Texts read byte by byte are UTF-8, and UTF-8 is read so.
-use Rattle.std.proofs.Common.{◌≡◌, ℕ, suc, ◌+◌, ◌-◌, ◌*◌, ◌/◌, ◌%◌, ◌<◌, ◌≤◌, ◌==◌, nat_le, ◌⊎◌, Bool, true, false, cond, eqb, not, ◌&&◌, ◌||◌, List, [], ◌∷◌, ◌++◌, length, Option, Some, None, ◌∙◌, refl, sym, ap, subst, inl, inr, arith, lt-ltb, le-ltb, le-leb, eq-eqb, ne_eqb}
+use Rattle.std.proofs.Common.{◌≡◌, ℕ, ◌+◌, ◌/◌, ◌<◌, ◌≤◌, ◌==◌, nat_le, Bool, true, false, cond, eqb, ◌||◌, List, [], ◌∷◌, ◌++◌, Option, Some, None, ◌∙◌, refl, sym, ap, subst, inl, inr, arith, le-leb, ne_eqb}
 use Rattle.std.proofs.lemmas.Bool.{cases_lt, cases_eq, cases_Bool, and_parts, eqb-true, leb-true}
 use Rattle.std.proofs.lemmas.Str.{encode_ascii, IsUtf8-nil, IsUtf8-append, IsUtf8-encode}
 use Rattle.std.specs.List.{list_all}
-use Rattle.std.specs.Option.{option_map, option_and_then}
+use Rattle.std.specs.Option.{option_map}
 use Rattle.std.specs.Str.{IsUtf8}
 use Rattle.std.proofs.Math.Utf8.{scalar, scalars, encode, encodes, next, low_scalar, scalar_cases}
-use Rattle.xmpp_scram.specs.Classes.{is_within, is_plain}
-use Rattle.xmpp_scram.specs.States.{tails_of, tails_step, where_so, character_step}
+use Rattle.xmpp_scram.specs.Classes.{is_within}
+use Rattle.xmpp_scram.specs.States.{tails_of, tails_step, where_so}
 use Rattle.xmpp_scram.specs.declared.values.Tails.{Tails}
 use Rattle.xmpp_scram.specs.declared.values.Tails.TheVariants.{One, Two, Three, AfterE0, AfterED, AfterF0, AfterF4}
-use Rattle.xmpp_scram.proofs.Runs.{behind, behind_first, behind_step, option_cases}
-use Rattle.xmpp_scram.proofs.Tests.{chosen, if_some, map_some, not_eq, within, within_high, within_low, within_yes}
+use Rattle.xmpp_scram.proofs.Runs.{behind, behind_first, behind_step}
+use Rattle.xmpp_scram.proofs.Tests.{chosen, if_some, map_some, not_eq, within, within_high, within_yes}
 use Rattle.xmpp_scram.proofs.Utf8.{Leads, Rests, Tail, four, lead_text, three, two}
 
 -- inside a character or between two, where these bytes are characters

@@ -1,9 +1,9 @@
 -- Parts and messages that are told apart by their first bytes.
-use Rattle.std.proofs.Common.{◌≡◌, ℕ, ◌+◌, ◌<◌, ◌⊎◌, ◌==◌, Bool, true, false, List, [], ◌∷◌, ◌++◌, length, Option, Some, None, Result, Ok, Err, refl, sym, ap, ◌∙◌, arith, append_assoc, inl, inr, cond, eq-eqb, ne_eqb}
+use Rattle.std.proofs.Common.{◌≡◌, ℕ, ◌⊎◌, ◌==◌, false, List, [], ◌∷◌, ◌++◌, Result, Ok, Err, refl, sym, ap, ◌∙◌, append_assoc, inl, inr, cond, eq-eqb}
 use Rattle.std.proofs.lemmas.Bool.{cases_Bool, eqb-true}
 use Rattle.xmpp_scram.specs.Parts.{◌>>=◌, literal}
 use Rattle.xmpp_scram.proofs.Runs.{Alike}
-use Rattle.xmpp_scram.proofs.Sequences.{IsPart, Leaves, Reads, alike_behind, alike_itself, anything, bind_err, bind_ok, bound_err, bound_ok, literal_left, literal_ok, literal_takes}
+use Rattle.xmpp_scram.proofs.Sequences.{IsPart, Reads, alike_behind, anything, bind_err, bind_ok, bound_err, bound_ok, literal_left, literal_ok, literal_takes}
 
 -- readers that answer alike have the same language
 pub same_part : {A : Type 0} (p q : List ℕ → Result (A × List ℕ) (List ℕ)) (P : A → List ℕ → Type 0) (Closes : List ℕ → Type 0) → ((bytes : List ℕ) → q bytes ≡ p bytes) → IsPart p P Closes
@@ -87,8 +87,7 @@ module _ {A B : Type 0} (word : List ℕ) (p : List ℕ → Result (A × List �
     took = λ bytes b rest h. (let first = bind_ok (literal word bytes) (λ rest. p rest >>= seen) (b, rest) h in
         let second = bind_ok (p first.0) seen (b, rest) first.2 in
         let is = value_is second.0.0 second.0.1 b rest second.2 in
-        let took = part.took first.0 second.0.0 second.0.1 second.1 in
-        (
+        let took = part.took first.0 second.0.0 second.0.1 second.1 in (
           word ++ took.0,
           literal_ok word bytes first.0 first.1 ∙ ap (λ (x : List ℕ). word ++ x) (took.1 ∙ ap (λ (x : List ℕ). took.0 ++ x) is.1) ∙ sym (append_assoc word took.0 rest),
           (second.0.0, took.0, refl, took.2, is.0),
@@ -97,19 +96,17 @@ module _ {A B : Type 0} (word : List ℕ) (p : List ℕ → Result (A × List �
     takes = λ b x rest is closes. (
         on_part (x ++ rest) is.1 rest is.0 (ap (λ (y : List ℕ). y ++ rest) is.2 ∙ append_assoc word is.1 rest) (part.takes is.0 is.1 rest is.3 closes)
         ∙ ap (λ (v : B). let y : Result (B × List ℕ) (List ℕ) = Ok (v, rest) in y) (sym is.4)
-    );
+        );
     leaves = λ bytes rest h. (elim (bind_err (literal word bytes) (λ rest. p rest >>= seen) rest h) [
       | inl first ↦
-          let left = literal_left word bytes rest first in
-          (
+          let left = literal_left word bytes rest first in (
             left.0,
             left.1,
             (f some.0, left.2.0 ++ some.1, (some.0, some.1, sym (append_assoc left.0 left.2.0 some.1) ∙ ap (λ (x : List ℕ). x ++ some.1) left.2.1, some.2, refl)),
             λ other alike. bound_err (literal word (left.0 ++ other)) (λ rest. p rest >>= seen) other (left.3 other alike),
           )
       | inr later ↦
-          let left = part.leaves later.0 rest (only_err later.0 rest later.2) in
-          (
+          let left = part.leaves later.0 rest (only_err later.0 rest later.2) in (
             word ++ left.0,
             literal_ok word bytes later.0 later.1 ∙ ap (λ (x : List ℕ). word ++ x) left.1 ∙ sym (append_assoc word left.0 rest),
             (f left.2.0, left.2.1, (left.2.0, left.0 ++ left.2.1, append_assoc word left.0 left.2.1, left.2.2, refl)),
@@ -167,16 +164,14 @@ module _ {A : Type 0} (c : ℕ) (q p : List ℕ → Result (A × List ℕ) (List
   chosen_part = record {
     took = λ bytes a rest h. (elim (choice c q p bytes) [
       | inl w ↦
-          let took = first.took w.0 a rest (sym (ap read w.1 ∙ chosen_first c q p w.0) ∙ h) in
-          (
+          let took = first.took w.0 a rest (sym (ap read w.1 ∙ chosen_first c q p w.0) ∙ h) in (
             c ∷ took.0,
             w.1 ∙ ap (λ (x : List ℕ). c ∷ x) took.1,
             inl (took.0, refl, took.2),
             λ next alike. chosen_first c q p (took.0 ++ next) ∙ took.3 next alike,
           )
       | inr lacks ↦
-          let took = other.took bytes a rest (sym (chosen_other c q p bytes lacks) ∙ h) in
-          (
+          let took = other.took bytes a rest (sym (chosen_other c q p bytes lacks) ∙ h) in (
             took.0,
             took.1,
             inr took.2,
@@ -186,16 +181,14 @@ module _ {A : Type 0} (c : ℕ) (q p : List ℕ → Result (A × List ℕ) (List
     takes = takes_either;
     leaves = λ bytes rest h. (elim (choice c q p bytes) [
       | inl w ↦
-          let left = first.leaves w.0 rest (sym (ap read w.1 ∙ chosen_first c q p w.0) ∙ h) in
-          (
+          let left = first.leaves w.0 rest (sym (ap read w.1 ∙ chosen_first c q p w.0) ∙ h) in (
             c ∷ left.0,
             w.1 ∙ ap (λ (x : List ℕ). c ∷ x) left.1,
             (left.2.0, left.2.1, inl (left.0 ++ left.2.1, refl, left.2.2)),
             λ next alike. chosen_first c q p (left.0 ++ next) ∙ left.3 next alike,
           )
       | inr lacks ↦
-          let left = other.leaves bytes rest (sym (chosen_other c q p bytes lacks) ∙ h) in
-          (
+          let left = other.leaves bytes rest (sym (chosen_other c q p bytes lacks) ∙ h) in (
             left.0,
             left.1,
             (left.2.0, left.2.1, inr left.2.2),

@@ -1,25 +1,23 @@
 -- The extensions that are read are those of the grammar.
-use Rattle.std.proofs.Common.{◌≡◌, ℕ, ◌+◌, ◌<◌, ◌≤◌, ◌==◌, nat_le, ◌⊎◌, ◌&&◌, ◌||◌, not, Bool, true, false, cond, List, [], ◌∷◌, ◌++◌, length, Option, Some, None, refl, sym, ap, ◌∙◌, arith, inl, inr, subst, eq-eqb, ne_eqb, append_assoc}
-use Rattle.std.proofs.lemmas.Bool.{and_parts, cases_Bool, cases_eq, eqb-true}
+use Rattle.std.proofs.Common.{◌≡◌, ℕ, ◌<◌, ◌==◌, ◌⊎◌, ◌&&◌, not, Bool, true, false, List, [], ◌∷◌, ◌++◌, length, Option, Some, None, refl, sym, ap, ◌∙◌, arith, inl, inr, ne_eqb, append_assoc}
+use Rattle.std.proofs.lemmas.Bool.{and_parts, eqb-true}
 use Rattle.std.proofs.lemmas.List.{append-nil}
-use Rattle.std.proofs.lemmas.Str.{IsUtf8-nil, IsUtf8-append}
-use Rattle.std.specs.List.{AllByRecursion, flat_map, list_all}
+use Rattle.std.specs.List.{AllByRecursion, flat_map}
 use Rattle.std.specs.Option.{option_map}
-use Rattle.std.specs.Str.{IsUtf8}
 use Rattle.xmpp_scram.specs.Classes.{is_letter, is_plain, is_within}
-use Rattle.xmpp_scram.specs.Grammar.{AreExtensions, IsExtension, IsValue, is_value_byte, names_extension}
+use Rattle.xmpp_scram.specs.Grammar.{AreExtensions, IsExtension, IsValue, names_extension}
 use Rattle.xmpp_scram.specs.Parts.{run}
-use Rattle.xmpp_scram.specs.States.{character_step, extension_starts, extensions_go_on, extensions_may_end, in_value, is_end, placed, tails_of, tails_step, where_so}
+use Rattle.xmpp_scram.specs.States.{character_step, extension_starts, extensions_go_on, extensions_may_end, in_value, tails_step, where_so}
 use Rattle.xmpp_scram.specs.declared.values.Extensions.{Extensions}
 use Rattle.xmpp_scram.specs.declared.values.Extensions.TheVariants.{Comma, Letter, Equals, First, Value, Inside, ProofEquals, ProofBegins}
 use Rattle.xmpp_scram.specs.declared.values.Tails.{Tails}
 use Rattle.xmpp_scram.specs.declared.values.Tails.TheVariants.{One, Two, Three, AfterE0, AfterED, AfterF0, AfterF4}
 use Rattle.xmpp_scram.specs.declared.values.Until.{Until}
 use Rattle.xmpp_scram.specs.declared.values.Until.TheVariants.{End, Proof}
-use Rattle.xmpp_scram.proofs.Characters.{allowed_found, char_end, char_on, one_more, tails_high, utf8_found, utf8_only}
+use Rattle.xmpp_scram.proofs.Characters.{allowed_found, char_end, char_on, utf8_found, utf8_only}
 use Rattle.xmpp_scram.proofs.Runs.{Stops, behind, behind_first, behind_more, behind_step}
 use Rattle.xmpp_scram.proofs.Sequences.{IsPart, stopped_part}
-use Rattle.xmpp_scram.proofs.Tests.{chosen, if_some, map_some, not_eq, within}
+use Rattle.xmpp_scram.proofs.Tests.{chosen, if_some, map_some, within}
 
 plain_low : (b : ℕ) → is_plain b ≡ true → b < 128
 plain_low b h = let w = within 1 127 b (and_parts (is_within 1 127 b) (not (b == 44)) h).0 in omega arith
@@ -50,21 +48,19 @@ no_extensions until = ([], tt, refl)
 
 one_extension : (until : Until) (letter : ℕ) (value rest : List ℕ) → names_extension until letter ≡ true → IsValue value → AreExtensions until rest
     → AreExtensions until (44 ∷ letter ∷ 61 ∷ value ++ rest)
-one_extension until letter value rest named is more =
-    (
-      (letter ∷ 61 ∷ value) ∷ more.0,
-      (record { letter = letter; value = value; named = named; valued = is; spelled = refl }, more.1),
-      ap (λ (x : List ℕ). 44 ∷ letter ∷ 61 ∷ value ++ x) more.2,
-    )
+one_extension until letter value rest named is more = (
+  (letter ∷ 61 ∷ value) ∷ more.0,
+  (record { letter = letter; value = value; named = named; valued = is; spelled = refl }, more.1),
+  ap (λ (x : List ℕ). 44 ∷ letter ∷ 61 ∷ value ++ x) more.2,
+)
 
 goal_more : (until : Until) (letter : ℕ) (value rest : List ℕ) → names_extension until letter ≡ true → IsValue value → Goal until rest → Goal until (44 ∷ letter ∷ 61 ∷ value ++ rest)
 goal_more End letter value rest named is goal = one_extension End letter value rest named is goal
-goal_more Proof letter value rest named is goal =
-    (
-      44 ∷ letter ∷ 61 ∷ value ++ goal.0,
-      one_extension Proof letter value goal.0 named is goal.1,
-      ap (λ (x : List ℕ). 44 ∷ letter ∷ 61 ∷ x) (ap (λ (x : List ℕ). value ++ x) goal.2 ∙ sym (append_assoc value goal.0 (44 ∷ 112 ∷ 61 ∷ []))),
-    )
+goal_more Proof letter value rest named is goal = (
+  44 ∷ letter ∷ 61 ∷ value ++ goal.0,
+  one_extension Proof letter value goal.0 named is goal.1,
+  ap (λ (x : List ℕ). 44 ∷ letter ∷ 61 ∷ x) (ap (λ (x : List ℕ). value ++ x) goal.2 ∙ sym (append_assoc value goal.0 (44 ∷ 112 ∷ 61 ∷ []))),
+)
 
 -- a value's rest, and what follows it
 abbrev Valued : Until → Option Tails → List ℕ → Type 0
@@ -237,12 +233,11 @@ each_goes until (extension ∷ each) rest s all at =
     let more = each_goes until each rest (Value until) all.1 (inr refl) in
     let others = flat_map (λ (extension : List ℕ). 44 ∷ extension) each ++ rest in
     let regrouped : (44 ∷ extension ++ flat_map (λ (extension : List ℕ). 44 ∷ extension) each) ++ rest ≡ 44 ∷ (extension ++ others) =
-    ap (λ (x : List ℕ). 44 ∷ x) (append_assoc extension (flat_map (λ (extension : List ℕ). 44 ∷ extension) each) rest) in
-    (
+    ap (λ (x : List ℕ). 44 ∷ x) (append_assoc extension (flat_map (λ (extension : List ℕ). 44 ∷ extension) each) rest) in (
       more.0,
       more.1,
       ap (goes s) regrouped ∙ behind_step extensions_go_on extensions_may_end s (Letter until) 44 (extension ++ others) (comma_on until s at)
-      ∙ extension_goes until extension others all.0 ∙ more.2,
+          ∙ extension_goes until extension others all.0 ∙ more.2,
     )
 
 end_at : (s : Extensions) → AtComma End s → extensions_may_end s ≡ true
@@ -273,8 +268,7 @@ end_only part are = let way = to_end (Comma End) part (inl refl) are in (way.0, 
 values_only : (part : List ℕ) → Whole End part
     → (t : Extensions) × (goes (First End) part ≡ Some t) × (extensions_may_end t ≡ true) × ((rest : List ℕ) → rest ≡ [] → Stops extensions_go_on extensions_may_end t rest)
 values_only part whole =
-    let way = to_end (Value End) whole.1 (inr refl) whole.4 in
-    (
+    let way = to_end (Value End) whole.1 (inr refl) whole.4 in (
       way.0,
       ap (goes (First End)) whole.2 ∙ first_goes End whole.0 whole.1 whole.3.some (value_run whole.0 whole.3) ∙ way.1,
       way.2,

@@ -1,23 +1,20 @@
 -- The client's first message is read as the grammar has it.
-use Rattle.std.proofs.Common.{◌≡◌, ℕ, ◌+◌, ◌<◌, ◌≤◌, ◌==◌, ◌⊎◌, ◌&&◌, Bool, true, false, cond, List, [], ◌∷◌, ◌++◌, length, codes, Option, Some, None, Result, Ok, Err, refl, sym, ap, ◌∙◌, arith, inl, inr, eq-eqb, ne_eqb, append_assoc, subst}
-use Rattle.std.proofs.lemmas.Bool.{cases_Bool, eqb-true}
+use Rattle.std.proofs.Common.{◌≡◌, ℕ, Bool, true, List, [], ◌∷◌, ◌++◌, codes, Option, Ok, refl, sym, ap, ◌∙◌, arith, append_assoc, subst}
 use Rattle.std.proofs.lemmas.List.{append-nil}
 use Rattle.std.proofs.lemmas.Str.{IsUtf8-nil}
 use Rattle.std.specs.List.{flat_map}
-use Rattle.xmpp_scram.specs.Classes.{is_binding, is_printable}
-use Rattle.xmpp_scram.specs.Grammar.{AreExtensions, IsAuthzid, IsBare, IsClientFirst, IsFlag, IsName, are_some}
-use Rattle.xmpp_scram.specs.Messages.{FirstParts, authzid, bare_parts, bare_texts, binding, binding_flag, binding_name, extensions, first_parts, identity, nonce, saslname}
-use Rattle.xmpp_scram.specs.Parts.{Cut, ◌>>=◌, ends_here, literal, run}
+use Rattle.xmpp_scram.specs.Classes.{is_printable}
+use Rattle.xmpp_scram.specs.Grammar.{AreExtensions, IsName, are_some}
+use Rattle.xmpp_scram.specs.Messages.{FirstParts, bare_parts, bare_texts, extensions, nonce, saslname}
+use Rattle.xmpp_scram.specs.Parts.{◌>>=◌, ends_here, literal}
 use Rattle.xmpp_scram.specs.declared.binding_flag.BindingFlag.{BindingFlag}
-use Rattle.xmpp_scram.specs.declared.binding_flag.BindingFlag.TheVariants.{Unsupported, NotOffered}
-use Rattle.xmpp_scram.specs.declared.classes.Class.TheVariants.{Printable, Binding}
+use Rattle.xmpp_scram.specs.declared.classes.Class.TheVariants.{Printable}
 use Rattle.xmpp_scram.specs.declared.values.Until.TheVariants.{End}
 use Rattle.xmpp_scram.proofs.Characters.{one_more}
 use Rattle.xmpp_scram.proofs.ExtensionRuns.{end_part}
 use Rattle.xmpp_scram.proofs.Languages.{Closed, class_part}
 use Rattle.xmpp_scram.proofs.NameRuns.{name_part}
-use Rattle.xmpp_scram.proofs.Runs.{Alike}
-use Rattle.xmpp_scram.proofs.Sequences.{After, IsEnd, IsPart, Leaves, Reads, Then, after_word, at_end, said, sequence, with_bytes}
+use Rattle.xmpp_scram.proofs.Sequences.{After, IsEnd, Reads, Then, after_word, at_end, said, sequence, with_bytes}
 
 -- ---- the bare message, from its end to its beginning
 
@@ -120,8 +117,7 @@ bare_from : (texts : Texts) (bare : List ℕ) → IsBareText texts bare → Afte
 bare_from texts bare is =
     let name = texts.0 in
     let random = texts.1 in
-    let extensions = is.extensions in
-    (
+    let extensions = is.extensions in (
       name ++ (codes ",r=" ++ (random ++ extensions)),
       is.spelled ∙ simp append_assoc,
       (
@@ -149,5 +145,3 @@ pub bare_reads : (flag : Option BindingFlag) (authorizes : Bool) → Reads (bare
 unfolding bare_parts
 bare_reads flag authorizes =
     with_bytes bare_texts IsBareText (λ bare texts. record { flag = flag; authorizes = authorizes; name = texts.0; nonce = texts.1; bare = bare }) bare_text_reads
-
-

@@ -1,7 +1,6 @@
 -- The GS2 header, and the client's first message.
-use Rattle.std.proofs.Common.{◌≡◌, ℕ, ◌+◌, ◌<◌, ◌==◌, ◌⊎◌, Bool, true, false, cond, List, [], ◌∷◌, ◌++◌, length, codes, Option, Some, None, Result, Ok, Err, refl, sym, ap, ◌∙◌, arith, inl, inr, append_assoc, subst}
+use Rattle.std.proofs.Common.{◌≡◌, ℕ, ◌==◌, ◌⊎◌, Bool, true, false, cond, List, [], ◌∷◌, ◌++◌, codes, Option, Some, None, Result, Ok, Err, refl, sym, ap, ◌∙◌, inl, inr, append_assoc}
 use Rattle.std.proofs.lemmas.Bool.{cases_Bool}
-use Rattle.std.proofs.lemmas.List.{append-nil}
 use Rattle.xmpp_scram.specs.Classes.{is_binding}
 use Rattle.xmpp_scram.specs.Grammar.{IsAuthzid, IsBare, IsClientFirst, IsFlag, IsName, are_some}
 use Rattle.xmpp_scram.specs.Messages.{FirstParts, authzid, bare_parts, binding, binding_flag, binding_name, first_parts, identity, saslname}
@@ -70,7 +69,7 @@ choice_part : IsPart flag_choice AnyFlag Closed
 choice_part =
     chosen_part 110 (read_given (Some Unsupported)) (chosen_by 121 (read_given (Some NotOffered)) last) (IsGiven (Some Unsupported)) NotOfferedFlag Closed (given_flag (Some Unsupported))
     (chosen_part 121 (read_given (Some NotOffered)) last (IsGiven (Some NotOffered)) LastFlag Closed (given_flag (Some NotOffered)) last_part
-        (λ flag part rest w closed. lacks_head 121 112 part w.1 rest refl w.2))
+    (λ flag part rest w closed. lacks_head 121 112 part w.1 rest refl w.2))
     lacks_n
 
 bind_itself : (r : Result FlagRest (List ℕ)) → (r >>= λ x. Ok (x.0, x.1)) ≡ r
@@ -143,15 +142,14 @@ pub authzid_part : IsPart authzid IsAuthzid Closed
 authzid_part =
     said_part authzid AnyIdentity IsAuthzid Closed authzid_to authzid_from
     (same_part (chosen_by 97 identity (read_given false)) authzid AnyIdentity Closed authzid_same
-        (chosen_part 97 identity (read_given false) IdentityRest (IsGiven false) Closed identity_part (closer (read_given false) (IsGiven false) (given_part false)) lacks_a))
+    (chosen_part 97 identity (read_given false) IdentityRest (IsGiven false) Closed identity_part (closer (read_given false) (IsGiven false) (given_part false)) lacks_a))
 
 -- ---- the whole message
 
 some_bare : (flag : Option BindingFlag) (authorizes : Bool) → (parts : FirstParts) × (bare : List ℕ) × BareParts flag authorizes parts bare
 some_bare flag authorizes =
     let texts = some_named.0 in
-    let bare = codes "n=" ++ some_named.1 in
-    (
+    let bare = codes "n=" ++ some_named.1 in (
       record { flag = flag; authorizes = authorizes; name = texts.0; nonce = texts.1; bare = bare },
       bare,
       (texts, bare_to texts bare (some_named.1, refl, some_named.2), refl),
@@ -229,8 +227,7 @@ pub first_from : (flag : Option BindingFlag) (authorizes : Bool) (name nonce bar
 first_from flag authorizes name nonce bare bytes is =
     let said = is.said in
     let text = said.name_text in
-    let texts : Texts = (text, nonce) in
-    (
+    let texts : Texts = (text, nonce) in (
       text,
       said.named,
       (

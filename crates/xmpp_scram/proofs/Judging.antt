@@ -1,11 +1,11 @@
 -- The answers of the two ends come exactly where they should.
-use Rattle.std.proofs.Common.{◌≡◌, ◌∙◌, ◌≢◌, ℕ, ◌≤◌, Bool, true, false, cond, ◌&&◌, List, ◌++◌, length, drop, take, Option, Some, None, Result, Ok, Err, refl, sym, ap, arith, Decides}
+use Rattle.std.proofs.Common.{◌≡◌, ◌∙◌, ◌≢◌, ℕ, ◌≤◌, Bool, true, false, cond, List, length, drop, Option, Some, None, Result, Ok, Err, refl, sym, ap, arith, Decides}
 use Rattle.std.specs.Prelude.{◌↔◌, if◌then◌else◌, nat_eq, nat_le, MatchResult}
 use Rattle.std.specs.List.{starts_with}
 use Rattle.std.specs.Str.{bytes_eq}
-use Rattle.std.proofs.lemmas.Bool.Decides.{Decides-and, Decides-eqb, Decides-like, nat_tests}
+use Rattle.std.proofs.lemmas.Bool.Decides.{Decides-and, Decides-eqb, nat_tests}
 use Rattle.std.proofs.lemmas.Slice.Eq.{bytes_eq-Decides, starts_is}
-use Rattle.xmpp_scram.specs.Exchange.{ClientView, ReplyView, ServerView, check_of, client_auth, client_final_without_proof, is_count_taken, is_expected, is_proof, is_verifier, last_of, replied, reply_of, reply_to, sent, server_auth, server_final_message, then_judge, verifier_for}
+use Rattle.xmpp_scram.specs.Exchange.{ClientView, ServerView, client_auth, client_final_without_proof, is_count_taken, is_proof, is_verifier, replied, reply_to, sent, server_auth, server_final_message, then_judge, verifier_for}
 use Rattle.xmpp_scram.specs.Hashes.{client_signature, salted_password, stored_key, verifier_of, xor_bytes}
 use Rattle.xmpp_scram.specs.Judgements.{Continues, IsCheck, IsCountTaken, IsLastAnswer, IsReply, IsRightProof, JudgementsAreExact}
 use Rattle.xmpp_scram.specs.Messages as reading

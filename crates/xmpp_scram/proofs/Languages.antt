@@ -1,11 +1,11 @@
 -- What is read as a nonce, as the name of a channel binding, as a count and as a base64 text.
-use Rattle.std.proofs.Common.{◌≡◌, ℕ, ◌+◌, ◌<◌, ◌==◌, ◌⊎◌, ◌&&◌, Bool, true, false, cond, List, [], ◌∷◌, ◌++◌, length, Option, Some, None, refl, sym, ap, ◌∙◌, arith, inl, inr}
-use Rattle.std.proofs.lemmas.Bool.{and_parts, cases_Bool, eqb-true}
+use Rattle.std.proofs.Common.{◌≡◌, ℕ, Bool, true, false, List, [], ◌∷◌, Some, None, refl, ◌∙◌}
+use Rattle.std.proofs.lemmas.Bool.{and_parts}
 use Rattle.std.specs.List.{list_all}
 use Rattle.xmpp_scram.specs.Classes.{is_count_start, is_digit}
 use Rattle.xmpp_scram.specs.Grammar.{are_some, is_count}
 use Rattle.xmpp_scram.specs.Parts.{run}
-use Rattle.xmpp_scram.specs.States.{class_goes_on, class_may_end, count_goes_on, count_may_end, group_goes_on, group_may_end, is_of, where_so}
+use Rattle.xmpp_scram.specs.States.{class_goes_on, class_may_end, count_goes_on, count_may_end, group_goes_on, group_may_end, is_of}
 use Rattle.xmpp_scram.specs.Values.{IsBase64}
 use Rattle.xmpp_scram.specs.declared.base64_text.Group.{Group}
 use Rattle.xmpp_scram.specs.declared.base64_text.Group.TheVariants.{Whole, One, Two, Three, Padding, Padded}
@@ -17,7 +17,7 @@ use Rattle.xmpp_scram.specs.declared.classes.OneOrMore.{OneOrMore}
 use Rattle.xmpp_scram.proofs.Base64Runs.{encoded_whole, whole_encoded}
 use Rattle.xmpp_scram.proofs.Runs.{Stops, behind, behind_first, behind_step}
 use Rattle.xmpp_scram.proofs.Sequences.{IsPart, run_part}
-use Rattle.xmpp_scram.proofs.Tests.{chosen, if_some}
+use Rattle.xmpp_scram.proofs.Tests.{if_some}
 
 -- what follows a part: nothing, or a comma
 abbrev pub Closed : List ℕ → Type 0

@@ -1,20 +1,19 @@
 -- The names that are read are those of the grammar.
-use Rattle.std.proofs.Common.{◌≡◌, ℕ, ◌+◌, ◌<◌, ◌≤◌, ◌==◌, nat_le, ◌⊎◌, ◌&&◌, ◌||◌, not, Bool, true, false, cond, List, [], ◌∷◌, ◌++◌, length, Option, Some, None, refl, sym, ap, ◌∙◌, arith, inl, inr, subst, eq-eqb, ne_eqb}
-use Rattle.std.proofs.lemmas.Bool.{and_parts, cases_Bool, cases_eq, eqb-true, le-leb}
-use Rattle.std.proofs.lemmas.Str.{IsUtf8-nil}
-use Rattle.std.specs.List.{flat_map, list_all}
+use Rattle.std.proofs.Common.{◌≡◌, ℕ, ◌<◌, ◌==◌, ◌⊎◌, not, Bool, true, List, [], ◌∷◌, ◌++◌, length, Option, Some, None, refl, sym, ap, ◌∙◌, arith, inl, inr, ne_eqb}
+use Rattle.std.proofs.lemmas.Bool.{and_parts, cases_eq, eqb-true}
+use Rattle.std.specs.List.{flat_map}
 use Rattle.std.specs.Option.{option_map}
 use Rattle.std.specs.Str.{IsUtf8}
 use Rattle.xmpp_scram.specs.Classes.{is_plain, is_within}
-use Rattle.xmpp_scram.specs.Grammar.{IsName, escaped, is_name_byte}
+use Rattle.xmpp_scram.specs.Grammar.{IsName, escaped}
 use Rattle.xmpp_scram.specs.Parts.{run}
 use Rattle.xmpp_scram.specs.States.{character_step, name_goes_on, name_may_end, name_starts, placed, tails_of, tails_step, where_so}
-use Rattle.xmpp_scram.specs.Values.{name_of, unescaped}
+use Rattle.xmpp_scram.specs.Values.{name_of}
 use Rattle.xmpp_scram.specs.declared.names.Name.{Name}
 use Rattle.xmpp_scram.specs.declared.names.Name.TheVariants.{Start, Between, Inside, Escape, EscapedComma, EscapedEquals}
 use Rattle.xmpp_scram.specs.declared.values.Tails.{Tails}
 use Rattle.xmpp_scram.specs.declared.values.Tails.TheVariants.{One, Two, Three, AfterE0, AfterED, AfterF0, AfterF4}
-use Rattle.xmpp_scram.proofs.Characters.{allowed_found, char_end, char_on, lead_high, leads, one_more, tails_high, utf8_found, utf8_only}
+use Rattle.xmpp_scram.proofs.Characters.{allowed_found, char_end, char_on, lead_high, leads, tails_high, utf8_found, utf8_only}
 use Rattle.xmpp_scram.proofs.Languages.{Closed}
 use Rattle.xmpp_scram.proofs.Runs.{Stops, behind, behind_first, behind_step}
 use Rattle.xmpp_scram.proofs.Sequences.{IsPart, run_part}
@@ -156,8 +155,7 @@ some_name (b ∷ name) text e lt = omega arith
 pub name_found : (text : List ℕ) (t : Name) → goes Start text ≡ Some t → name_may_end t ≡ true → (name : List ℕ) × IsName name text
 name_found [] t h e = let same : Start ≡ t = cc h in cc (rw (← same) at e)
 name_found (b ∷ text) t h e =
-    let spelt = name_rest Start (b ∷ text) (rw (is_between t e) at h) in
-    (
+    let spelt = name_rest Start (b ∷ text) (rw (is_between t e) at h) in (
       spelt.0,
       record {
         some = some_name spelt.0 (b ∷ text) spelt.2 (omega arith);

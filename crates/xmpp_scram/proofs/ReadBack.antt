@@ -1,6 +1,6 @@
 -- That the two ends agree, from what it says of their messages that they are read back.
-use Rattle.std.proofs.Common.{◌≡◌, ◌∙◌, ℕ, ◌+◌, ◌≤◌, ◌-◌, Bool, true, false, cond, ◌&&◌, List, [], ◌∷◌, ◌++◌, length, drop, take, get_or, Option, Some, None, Result, Ok, Err, refl, sym, ap, arith, codes, length-append}
-use Rattle.std.specs.Prelude.{nat_eq, nat_le, nat_lt}
+use Rattle.std.proofs.Common.{◌≡◌, ◌∙◌, ℕ, ◌≤◌, Bool, true, false, cond, ◌&&◌, List, ◌++◌, length, Some, None, Ok, Err, refl, sym, ap, arith, length-append}
+use Rattle.std.specs.Prelude.{nat_eq, nat_lt}
 use Rattle.std.specs.List.{list_all, starts_with}
 use Rattle.std.specs.Str.{bytes_eq}
 use Rattle.std.proofs.Math.Seq.{take-append_seam}
@@ -10,14 +10,13 @@ use Rattle.std.proofs.lemmas.Slice.Eq.{bytes_eq-Decides}
 use Rattle.base64.specs.GeneralPurpose.{IsBytes}
 use Rattle.xmpp_scram.specs.Agreement.{Given, GoesThrough, IsAllowed, is_nonce, server_given}
 use Rattle.xmpp_scram.specs.Classes.{is_printable}
-use Rattle.xmpp_scram.specs.Exchange.{ClientView, ReplyView, ServerView, begun_client, begun_server, bare_of, check_of, client_auth, client_final_message, client_final_without_proof, client_first_bare, client_first_message, credentials_of, expecting, is_count_taken, is_expected, is_plain, is_proof, is_verifier, last_of, replied, reply_of, reply_to, sent, server_final_message, server_first_message, then_judge, verifier_for}
-use Rattle.xmpp_scram.specs.Hashes.{auth_message, client_key, client_signature, hmac_of, proof_of, salted_password, server_key, stored_key, verifier_of, xor_bytes}
+use Rattle.xmpp_scram.specs.Exchange.{ClientView, ReplyView, begun_client, check_of, client_final_message, client_final_without_proof, client_first_bare, client_first_message, expecting, is_count_taken, is_expected, is_plain, is_proof, last_of, replied, reply_of, reply_to, sent, server_final_message, server_first_message, then_judge, verifier_for}
+use Rattle.xmpp_scram.specs.Hashes.{auth_message, client_key, client_signature, proof_of, salted_password, server_key, stored_key, verifier_of}
 use Rattle.xmpp_scram.specs.Messages as reading
 use Rattle.xmpp_scram.specs.Messages.{ClientFinalView, ServerFirstView}
 use Rattle.xmpp_scram.specs.declared.fault.ScramFault.TheVariants.{BadName, BadNonce, BadProof, BadVerifier, Iterations}
 use Rattle.xmpp_scram.specs.declared.binding_flag.BindingFlag.TheVariants.{Unsupported}
 use Rattle.xmpp_scram.specs.declared.client_first.ClientFirst.{ClientFirst}
-use Rattle.xmpp_scram.specs.declared.fault.ScramFault.{ScramFault}
 use Rattle.xmpp_scram.proofs.Digests.{IsBytes-hmac_of, IsBytes-xor_bytes, length-hmac_of, length-xor_bytes, xor_bytes-twice}
 
 -- what the ends write is read as what they meant

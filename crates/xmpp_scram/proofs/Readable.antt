@@ -1,16 +1,15 @@
 -- What the readers take of a message can be made a text, or decoded.
-use Rattle.std.proofs.Common.{◌≡◌, ◌∙◌, ℕ, zero, suc, ◌+◌, ◌<◌, ◌≤◌, Bool, true, false, cond, ◌&&◌, ◌==◌, List, [], ◌∷◌, ◌++◌, length, Option, Some, None, Result, Ok, Err, refl, sym, ap, subst, arith, codes, lit<, eqb, inl, inr}
-use Rattle.std.specs.Prelude.{slice_index}
+use Rattle.std.proofs.Common.{◌≡◌, ℕ, zero, suc, true, cond, List, [], ◌∷◌, Some, None, Result, Ok, Err, refl, sym, subst, arith, codes, lit<, eqb, inl, inr}
 use Rattle.std.specs.List.{list_all}
 use Rattle.std.specs.Str.{IsAscii, IsUtf8}
 use Rattle.std.proofs.lemmas.Bool.{and_parts}
 use Rattle.std.proofs.lemmas.Bool.Decides.{nat_tests}
 use Rattle.std.proofs.lemmas.Str.{IsUtf8-from_ascii}
 use Rattle.xmpp_scram.specs.Classes.{is_printable}
-use Rattle.xmpp_scram.specs.Grammar.{IsNonce, are_some}
+use Rattle.xmpp_scram.specs.Grammar.{are_some}
 use Rattle.xmpp_scram.specs.Messages as reading
 use Rattle.xmpp_scram.specs.Messages.{ClientFinalParts, ServerFirstParts, client_final_parts, error_part, header, server_final_parts, server_first_parts, up_to_proof, value_and_extensions, verifier_part}
-use Rattle.xmpp_scram.specs.Parts.{Cut, ◌>>=◌, ends_here, literal, run}
+use Rattle.xmpp_scram.specs.Parts.{Cut, ◌>>=◌, ends_here, literal}
 use Rattle.xmpp_scram.specs.Values.{IsBase64}
 use Rattle.xmpp_scram.specs.declared.binding_flag.BindingFlag.{BindingFlag}
 use Rattle.xmpp_scram.specs.declared.classes.Class.TheVariants.{Printable}

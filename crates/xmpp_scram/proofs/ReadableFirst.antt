@@ -1,19 +1,19 @@
 -- What is read of a client's first message can be made texts.
-use Rattle.std.proofs.Common.{◌≡◌, ◌∙◌, ℕ, ◌<◌, Bool, true, false, ◌&&◌, List, [], ◌∷◌, ◌++◌, Option, Some, None, Result, Ok, Err, refl, sym, ap, subst, arith, codes}
+use Rattle.std.proofs.Common.{◌≡◌, ℕ, ◌<◌, Bool, true, List, [], ◌∷◌, ◌++◌, Option, Ok, sym, subst, arith, codes}
 use Rattle.std.specs.List.{AllByRecursion, flat_map}
 use Rattle.std.specs.Str.{IsUtf8}
 use Rattle.std.proofs.lemmas.Bool.{and_parts}
 use Rattle.std.proofs.lemmas.Bool.Decides.{nat_tests}
 use Rattle.std.proofs.lemmas.Str.{IsUtf8-append, IsUtf8-nil}
 use Rattle.xmpp_scram.specs.Classes.{is_letter}
-use Rattle.xmpp_scram.specs.Grammar.{AreExtensions, IsExtension, IsName, names_extension}
+use Rattle.xmpp_scram.specs.Grammar.{IsExtension}
 use Rattle.xmpp_scram.specs.Messages.{FirstParts, authzid, bare_parts, bare_texts, binding_flag, first_parts}
 use Rattle.xmpp_scram.specs.Parts.{◌>>=◌, literal}
 use Rattle.xmpp_scram.specs.Values.{name_of}
 use Rattle.xmpp_scram.specs.declared.binding_flag.BindingFlag.{BindingFlag}
 use Rattle.xmpp_scram.specs.declared.values.Until.TheVariants.{End}
 use Rattle.xmpp_scram.proofs.Characters.{one_more}
-use Rattle.xmpp_scram.proofs.FirstMessages.{IsBareText, bare_text_reads}
+use Rattle.xmpp_scram.proofs.FirstMessages.{bare_text_reads}
 use Rattle.xmpp_scram.proofs.NameRuns.{name_is, name_text}
 use Rattle.xmpp_scram.proofs.Readable.{nonce_text, step_of}
 
@@ -24,13 +24,13 @@ extension_text : (text : List ℕ) → IsExtension End text → IsUtf8 text
 extension_text text is =
     let letter = letter_ascii is.letter (and_parts _ _ is.named).0 in
     subst IsUtf8 (sym is.spelled)
-      (one_more is.letter (61 ∷ is.value) letter (one_more 61 is.value (omega arith) is.valued.utf8))
+    (one_more is.letter (61 ∷ is.value) letter (one_more 61 is.value (omega arith) is.valued.utf8))
 
 extensions_text : (each : List (List ℕ)) → AllByRecursion (IsExtension End) each → IsUtf8 (flat_map (λ extension. 44 ∷ extension) each)
 extensions_text [] all = IsUtf8-nil
 extensions_text (text ∷ each) all =
     IsUtf8-append (44 ∷ text) (flat_map (λ extension. 44 ∷ extension) each)
-      (one_more 44 text (omega arith) (extension_text text all.0)) (extensions_text each all.1)
+    (one_more 44 text (omega arith) (extension_text text all.0)) (extensions_text each all.1)
 
 pub record IsReadableFirst (parts : FirstParts) : Type 0 where
   pub name : IsUtf8 (name_of parts.name)
@@ -43,8 +43,8 @@ spelled_text name nonce extensions n r e =
     let letters = one_more 110 (61 ∷ []) (omega arith) (one_more 61 [] (omega arith) IsUtf8-nil) in
     let comma = one_more 44 (114 ∷ 61 ∷ []) (omega arith) (one_more 114 (61 ∷ []) (omega arith) (one_more 61 [] (omega arith) IsUtf8-nil)) in
     IsUtf8-append (codes "n=" ++ name ++ codes ",r=" ++ nonce) extensions
-      (IsUtf8-append (codes "n=" ++ name ++ codes ",r=") nonce
-        (IsUtf8-append (codes "n=" ++ name) (codes ",r=") (IsUtf8-append (codes "n=") name letters n) comma) r) e
+    (IsUtf8-append (codes "n=" ++ name ++ codes ",r=") nonce
+    (IsUtf8-append (codes "n=" ++ name) (codes ",r=") (IsUtf8-append (codes "n=") name letters n) comma) r) e
 
 bare_readable : (flag : Option BindingFlag) (authorizes : Bool) (bare : List ℕ) (texts : List ℕ × List ℕ) → bare_texts bare ≡ Ok texts
     → IsReadableFirst (record { flag = flag; authorizes = authorizes; name = texts.0; nonce = texts.1; bare = bare })
@@ -57,8 +57,8 @@ bare_readable flag authorizes bare texts h =
       name = subst IsUtf8 (sym (name_is name texts.0 named)) named.utf8;
       nonce = nonce_text texts.1 is.random;
       bare = subst IsUtf8 (sym is.spelled)
-        (spelled_text texts.0 texts.1 is.extensions (name_text name texts.0 named) (nonce_text texts.1 is.random)
-          (subst IsUtf8 (sym extended.2) (extensions_text extended.0 extended.1)))
+          (spelled_text texts.0 texts.1 is.extensions (name_text name texts.0 named) (nonce_text texts.1 is.random)
+          (subst IsUtf8 (sym extended.2) (extensions_text extended.0 extended.1)));
     }
 
 bare_part_readable : (flag : Option BindingFlag) (authorizes : Bool) (bare : List ℕ) (parts : FirstParts) → bare_parts flag authorizes bare ≡ Ok parts → IsReadableFirst parts

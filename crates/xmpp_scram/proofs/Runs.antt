@@ -1,9 +1,8 @@
 -- Parts that are read byte by byte.
-use Rattle.std.proofs.Common.{◌≡◌, ℕ, ◌+◌, ◌<◌, ◌⊎◌, Bool, true, false, List, [], ◌∷◌, ◌++◌, length, take, drop, get_or, Option, Some, None, Result, Ok, Err, refl, sym, ap, ◌∙◌, arith, append_assoc, inl, inr}
-use Rattle.std.proofs.lemmas.List.{drop_more, append-nil}
-use Rattle.std.proofs.lemmas.Bool.{cases_Bool}
+use Rattle.std.proofs.Common.{◌≡◌, ℕ, ◌<◌, ◌⊎◌, Bool, true, false, List, [], ◌∷◌, ◌++◌, length, drop, Option, Some, None, Result, Ok, Err, refl, sym, ap, ◌∙◌, arith, inl, inr}
+use Rattle.std.proofs.lemmas.List.{drop_more}
 use Rattle.std.specs.Option.{option_and_then}
-use Rattle.xmpp_scram.specs.Parts.{Cut, with_first, with_front, ended, run, either_way, literal}
+use Rattle.xmpp_scram.specs.Parts.{Cut, with_first, ended, run, literal}
 
 -- the bytes end inside a word
 pub literal_missing : (word rest : List ℕ) (i : ℕ) → i < length word → length rest ≡ 0 → literal (drop i word) rest ≡ Err rest

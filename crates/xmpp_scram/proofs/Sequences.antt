@@ -1,9 +1,8 @@
 -- A message as a sequence of parts: what holds of a part, and of what follows it, holds of both.
-use Rattle.std.proofs.Common.{◌≡◌, ℕ, ◌+◌, ◌<◌, ◌⊎◌, ◌==◌, Bool, true, false, List, [], ◌∷◌, ◌++◌, length, Option, Some, None, Result, Ok, Err, refl, sym, ap, ◌∙◌, arith, append_assoc, inl, inr, eqb, cond, eq-eqb}
-use Rattle.std.proofs.lemmas.List.{append-nil}
+use Rattle.std.proofs.Common.{◌≡◌, ℕ, ◌⊎◌, ◌==◌, Bool, true, false, List, [], ◌∷◌, ◌++◌, Option, Some, Result, Ok, Err, refl, sym, ap, ◌∙◌, append_assoc, inl, inr, eq-eqb}
 use Rattle.std.proofs.lemmas.Bool.{cases_Bool, eqb-true}
 use Rattle.xmpp_scram.specs.Parts.{Cut, ◌>>=◌, run, literal, ends_here}
-use Rattle.xmpp_scram.proofs.Runs.{Alike, behind, behind_more, Stops, Took, Left, run_took, run_left, run_takes, result_cases}
+use Rattle.xmpp_scram.proofs.Runs.{Alike, behind, behind_more, Stops, run_took, run_left, run_takes}
 
 -- A part: what it takes is in its language, and whatever follows with the same first byte; what is in its language is
 -- taken where the rest stops it; where it leaves off, some word of its language began.
@@ -176,8 +175,7 @@ literal_left (w ∷ word) (b ∷ bytes) rest h =
     elim (cases_Bool (b == w)) [
       | inl e ↦
           let left = literal_left word bytes rest (sym (literal_on w b word bytes e) ∙ h) in
-          let same : b ≡ w = eqb-true b w e in
-          (
+          let same : b ≡ w = eqb-true b w e in (
             b ∷ left.0,
             ap (λ (x : List ℕ). b ∷ x) left.1,
             (left.2.0, cons_same b w (left.0 ++ left.2.0) word same left.2.1),
@@ -295,7 +293,7 @@ with_bytes {U} {V} m M f reads = record {
 module _ {S : Type 0} (goes_on : S → ℕ → Option S) (may_end : S → Bool) (start : S) (L : List ℕ → Type 0) (Closes : List ℕ → Type 0)
     (found : (part : List ℕ) (t : S) → behind goes_on may_end start part ≡ Some t → may_end t ≡ true → L part)
     (only : (part : List ℕ) → L part
-        → (t : S) × (behind goes_on may_end start part ≡ Some t) × (may_end t ≡ true) × ((rest : List ℕ) → Closes rest → Stops goes_on may_end t rest))
+    → (t : S) × (behind goes_on may_end start part ≡ Some t) × (may_end t ≡ true) × ((rest : List ℕ) → Closes rest → Stops goes_on may_end t rest))
     (goes : (t : S) → (more : List ℕ) × (u : S) × (behind goes_on may_end t more ≡ Some u) × (may_end u ≡ true)) where
   abbrev Taken : List ℕ → List ℕ → Type 0
   Taken text part = (text ≡ part) × L part
@@ -307,8 +305,7 @@ module _ {S : Type 0} (goes_on : S → ℕ → Option S) (may_end : S → Bool) 
     takes = λ text part rest is closes. (let way = only part is.1 in
         run_takes goes_on may_end start way.0 part rest way.1 way.2 (way.3 rest closes) ∙ ap (λ (x : List ℕ). let r : Result Cut (List ℕ) = Ok (x, rest) in r) (sym is.0));
     leaves = λ bytes rest h. (let left = run_left goes_on may_end start bytes rest h in
-        let way = goes left.state in
-        (
+        let way = goes left.state in (
           left.front,
           left.whole,
           (

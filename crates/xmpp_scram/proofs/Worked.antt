@@ -1,11 +1,10 @@
 -- The definitions at worked messages, by evaluation: the example of RFC 7677, section 3, and departures.
-use Rattle.std.proofs.Common.{◌≡◌, ℕ, [], ◌∷◌, ◌++◌, List, Some, None, Ok, Err, refl}
+use Rattle.std.proofs.Common.{◌≡◌, ℕ, [], ◌∷◌, List, Ok, refl}
 use Rattle.std.specs.Prelude.{codes}
 use Rattle.base64.specs.Decode.{groups_error, groups_bytes, scan_steps}
-use Rattle.xmpp_scram.specs.Messages.{client_first_of, server_first_of, client_final_of, server_final_of, first_parts, bare_parts, bare_texts, binding, identity, server_first_parts, client_final_parts, verifier_part, error_part}
-use Rattle.xmpp_scram.specs.Values.{base64_bytes, hash_of}
-use Rattle.xmpp_scram.specs.declared.binding_flag.BindingFlag.TheVariants.{Unsupported, NotOffered}
-use Rattle.xmpp_scram.specs.declared.fault.ScramFault.TheVariants.{Malformed, Plus, Authzid}
+use Rattle.xmpp_scram.specs.Messages.{client_first_of, server_first_of, first_parts, bare_parts, bare_texts, server_first_parts}
+use Rattle.xmpp_scram.specs.Values.{base64_bytes}
+use Rattle.xmpp_scram.specs.declared.binding_flag.BindingFlag.TheVariants.{Unsupported}
 
 first_message : client_first_of (codes "n,,n=user,r=rOprNGfwEbeRWgbNEkqO") ≡
     Ok (record { flag = Unsupported; name = codes "user"; nonce = codes "rOprNGfwEbeRWgbNEkqO"; bare = codes "n=user,r=rOprNGfwEbeRWgbNEkqO" })

@@ -1,13 +1,11 @@
 -- The definitions, evaluated at values from outside: RFC 4231 (HMAC), RFC 7914 section 11 (PBKDF2) and the exchange of
 -- RFC 7677 section 3.
-use Rattle.std.proofs.Common.{◌≡◌, ℕ, List, [], ◌∷◌, ◌++◌, Some, Ok, codes, replicate, refl}
+use Rattle.std.proofs.Common.{◌≡◌, ℕ, List, [], ◌∷◌, codes, replicate, refl}
 use Rattle.std.specs.Fmt.{digits}
 use Rattle.base64.specs.Rfc4648.{encode_symbols}
 use Rattle.sha2.specs.Sha256.{compress, digest_bytes, first_words, hash_after, rounds, schedule, sha256}
-use Rattle.xmpp_scram.specs.Exchange.{ServerView, base64_of, client_final_message, client_final_without_proof, client_first_bare, client_first_message, escaped, server_final_message, server_first_message, verifier_for}
+use Rattle.xmpp_scram.specs.Exchange.{base64_of, client_final_message, client_final_without_proof, client_first_bare, client_first_message, escaped, server_final_message, server_first_message}
 use Rattle.xmpp_scram.specs.Hashes.{auth_message, client_key, client_signature, hi_of, hmac_of, proof_of, server_key, stored_key, u_of, verifier_of, xor_to}
-use Rattle.xmpp_scram.specs.declared.binding_flag.BindingFlag.TheVariants.{Unsupported}
-use Rattle.xmpp_scram.specs.declared.fault.ScramFault.TheVariants.{BadNonce, BadProof}
 
 -- RFC 4231, test case 1
 short_key : hmac_of (replicate 20 0x0B) (codes "Hi There") ≡

@@ -1,9 +1,9 @@
 -- What the ends write is within the grammar.
-use Rattle.std.proofs.Common.{◌≡◌, ◌∙◌, ℕ, zero, suc, ◌+◌, ◌-◌, ◌*◌, ◌/◌, ◌%◌, ◌<◌, ◌≤◌, ◌^◌, Bool, true, false, ◌&&◌, ◌||◌, List, [], ◌∷◌, ◌++◌, length, Some, None, refl, sym, ap, arith, append-nil, lit<}
-use Rattle.std.specs.Prelude.{codes, fold, nat_le, nat_lt, slice_index}
+use Rattle.std.proofs.Common.{◌≡◌, ◌∙◌, ℕ, zero, suc, ◌+◌, ◌-◌, ◌*◌, ◌/◌, ◌%◌, ◌<◌, ◌≤◌, true, false, List, [], ◌∷◌, ◌++◌, length, Some, refl, sym, arith, append-nil, lit<}
+use Rattle.std.specs.Prelude.{codes, nat_lt}
 use Rattle.std.specs.Fmt.{decimal}
 use Rattle.std.specs.List.{list_all}
-use Rattle.std.specs.Str.{IsAscii, IsUtf8}
+use Rattle.std.specs.Str.{IsAscii}
 use Rattle.std.proofs.lemmas.Bool.{and_parts}
 use Rattle.std.proofs.lemmas.Bool.Decides.{Decides-ltb, nat_tests}
 use Rattle.std.proofs.lemmas.Fmt.{decimal_by_steps}
@@ -44,7 +44,7 @@ is_name name plain =
       some = (Decides-ltb 0 (length name)).0 parts.0;
       utf8 = IsUtf8-from_ascii name (each_ascii name parts.1);
       bytes = name_bytes name parts.1;
-      spelled = refl
+      spelled = refl;
     }
 
 -- ---- nonces and extensions
@@ -74,9 +74,10 @@ is_count-more (c ∷ digits) d e f =
     rw (parts.0, list_all-append is_digit digits (d ∷ []), parts.1, f) refl
 
 more_digits : (n : ℕ) (digits : List ℕ) → 10 ≤ n → Counts (n / 10) digits → Counts n (digits ++ (48 + n % 10) ∷ [])
-more_digits n digits large front =
-    ( fold-append (λ value digit. value * 10 + (digit - 48)) 0 digits ((48 + n % 10) ∷ []) ∙ rw front.0 (omega arith),
-      λ some. is_count-more digits (48 + n % 10) (front.1 (omega arith)) (is_digit-of n) )
+more_digits n digits large front = (
+  fold-append (λ value digit. value * 10 + (digit - 48)) 0 digits ((48 + n % 10) ∷ []) ∙ rw front.0 (omega arith),
+  λ some. is_count-more digits (48 + n % 10) (front.1 (omega arith)) (is_digit-of n),
+)
 
 pub is_counted : (n : ℕ) → n ≤ 4294967295 → Counts n (decimal n)
 is_counted n small = decimal_by_steps Counts one_digit more_digits n (omega arith)
@@ -85,24 +86,24 @@ is_counted n small = decimal_by_steps Counts one_digit more_digits n (omega arit
 
 is_bare : (name nonce : List ℕ) → is_plain name ≡ true → is_nonce nonce ≡ true → IsBare name nonce (client_first_bare name nonce)
 is_bare name nonce plain random = record {
-    name_text = escaped name;
-    extensions = [];
-    named = is_name name plain;
-    random = is_nonce-IsNonce nonce random;
-    extended = no_extensions End;
-    spelled = sym (append-nil (client_first_bare name nonce))
-  }
+  name_text = escaped name;
+  extensions = [];
+  named = is_name name plain;
+  random = is_nonce-IsNonce nonce random;
+  extended = no_extensions End;
+  spelled = sym (append-nil (client_first_bare name nonce));
+}
 
 pub is_client_first : (name nonce : List ℕ) → is_plain name ≡ true → is_nonce nonce ≡ true
     → IsClientFirst (Some Unsupported) false name nonce (client_first_bare name nonce) (client_first_message name nonce)
 is_client_first name nonce plain random = record {
-    flag_text = codes "n";
-    authzid_text = [];
-    flagged = refl;
-    identified = refl;
-    said = is_bare name nonce plain random;
-    spelled = refl
-  }
+  flag_text = codes "n";
+  authzid_text = [];
+  flagged = refl;
+  identified = refl;
+  said = is_bare name nonce plain random;
+  spelled = refl;
+}
 
 pub is_server_first : (nonce salt : List ℕ) (i : ℕ) → is_nonce nonce ≡ true → IsBytes salt → 1 ≤ i → i ≤ 4294967295
     → IsServerFirst nonce salt i (server_first_message nonce salt i)
@@ -116,26 +117,26 @@ is_server_first nonce salt i random bytes some most =
       salted = bytes;
       counted = (counts.1 some, sym counts.0);
       extended = no_extensions End;
-      spelled = sym (append-nil (server_first_message nonce salt i))
+      spelled = sym (append-nil (server_first_message nonce salt i));
     }
 
 pub is_client_final : (nonce proof : List ℕ) → is_nonce nonce ≡ true → IsBytes proof
     → IsClientFinal Unsupported (client_final_without_proof nonce) nonce proof (client_final_message nonce proof)
 unfolding base64_of encode_symbols
 is_client_final nonce proof random bytes = record {
-    extensions = [];
-    random = is_nonce-IsNonce nonce random;
-    extended = no_extensions Proof;
-    front = sym (append-nil (client_final_without_proof nonce));
-    proved = bytes;
-    spelled = refl
-  }
+  extensions = [];
+  random = is_nonce-IsNonce nonce random;
+  extended = no_extensions Proof;
+  front = sym (append-nil (client_final_without_proof nonce));
+  proved = bytes;
+  spelled = refl;
+}
 
 pub is_server_verifier : (verifier : List ℕ) → IsBytes verifier → IsServerVerifier verifier (server_final_message verifier)
 unfolding base64_of
 is_server_verifier verifier bytes = record {
-    extensions = [];
-    verified = bytes;
-    extended = no_extensions End;
-    spelled = sym (append-nil (server_final_message verifier))
-  }
+  extensions = [];
+  verified = bytes;
+  extended = no_extensions End;
+  spelled = sym (append-nil (server_final_message verifier));
+}

@@ -1,9 +1,9 @@
 -- The two ends of an exchange under one password agree.
-use Rattle.std.specs.Prelude.{◌≡◌, ℕ, ◌≤◌, nat_lt, Bool, true, ◌&&◌, List, ◌++◌, length, Option, Some, Result, Ok}
+use Rattle.std.specs.Prelude.{◌≡◌, ℕ, ◌≤◌, nat_lt, Bool, true, ◌&&◌, List, length, Ok}
 use Rattle.std.specs.List.{list_all}
 use Rattle.base64.specs.GeneralPurpose.{IsBytes}
 use Rattle.xmpp_scram.specs.Classes.{is_printable}
-use Rattle.xmpp_scram.specs.Exchange.{ClientView, CredentialsView, ReplyView, ServerView, begun_client, begun_server, check_of, credentials_of, expecting, is_plain, last_of, reply_of, server_final_message}
+use Rattle.xmpp_scram.specs.Exchange.{ClientView, ReplyView, ServerView, begun_client, begun_server, check_of, credentials_of, expecting, is_plain, last_of, reply_of, server_final_message}
 use Rattle.xmpp_scram.specs.Messages as reading
 use Rattle.xmpp_scram.specs.declared.client_first.ClientFirst.{ClientFirst}
 

@@ -1,8 +1,7 @@
 -- What each part of a message may go on with, and where it may end.
-use Rattle.std.specs.Prelude.{ℕ, ◌+◌, ◌-◌, ◌*◌, ◌/◌, ◌%◌, ◌==◌, nat_le, Bool, true, false, ◌&&◌, ◌||◌, not, Option, Some, None, if◌then◌else◌}
+use Rattle.std.specs.Prelude.{ℕ, ◌%◌, ◌==◌, Bool, true, false, ◌&&◌, not, Option, Some, None, if◌then◌else◌}
 use Rattle.std.specs.Option.{option_map}
 use Rattle.xmpp_scram.specs.Classes.{is_within, is_printable, is_letter, is_digit, is_count_start, is_binding, is_plain, sextet}
-use Rattle.xmpp_scram.specs.Parts.{either_way}
 use Rattle.xmpp_scram.specs.declared.classes.OneOrMore.{OneOrMore}
 use Rattle.xmpp_scram.specs.declared.classes.Class.{Class}
 use Rattle.xmpp_scram.specs.declared.classes.Class.TheVariants.{Printable, Binding}

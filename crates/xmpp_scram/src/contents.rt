@@ -82,13 +82,7 @@ pub(crate) fn hash_of(text: &[u8]) -> Option<[u8; 32]>
 {
     let mut hash = [0; 32];
     match STANDARD.decode_slice(text, &mut hash) {
-        Ok(len) => {
-            if len == 32 {
-                Some(hash)
-            } else {
-                None
-            }
-        }
+        Ok(len) => { if len == 32 { Some(hash) } else { None } }
         Err(_) => None,
     }
 }

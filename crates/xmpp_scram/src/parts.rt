@@ -46,7 +46,11 @@ fn end_at(ends: bool, bytes: &[u8], at: usize) -> Result<(&[u8], &[u8]), Departu
     ensures { Gives cut_seen result (with_front (take at bytes.now) (ended ends (drop at bytes.now))) }
 {
     let (part, rest) = bytes.split_at(at);
-    if ends { Ok((part, rest)) } else { Err(Departure { rest }) }
+    if ends {
+        Ok((part, rest))
+    } else {
+        Err(Departure { rest })
+    }
 }
 
 /// What stands behind these bytes.
@@ -70,5 +74,9 @@ pub(crate) fn literal<'a>(word: &[u8], bytes: &'a [u8]) -> Result<&'a [u8], Depa
 pub(crate) fn end(rest: &[u8]) -> Result<(), Departure<'_>>
     ensures { Gives (λ _. true) result (ends_here rest.now) }
 {
-    if rest.is_empty() { Ok(()) } else { Err(Departure { rest }) }
+    if rest.is_empty() {
+        Ok(())
+    } else {
+        Err(Departure { rest })
+    }
 }

@@ -1,4 +1,4 @@
-use Rattle.std.proofs.Common.{◌<◌, ◌≡◌, ◌∙◌, arith}
+use Rattle.std.proofs.Common.{◌<◌, arith}
 use Rattle.xmpp_scram.proofs.SameBytes.{bytes_eq-take_more}
 use Rattle.xmpp_scram.proofs.comparing.is_same.Goals as goal
 

@@ -1,4 +1,4 @@
-use Rattle.std.proofs.Common.{◌≡◌, ◌∙◌, sym, rules}
+use Rattle.std.proofs.Common.{◌≡◌, ◌∙◌, sym}
 use Rattle.xmpp_scram.specs.Values.{base64_bytes}
 use Rattle.xmpp_scram.proofs.Base64.{bytes_are}
 use Rattle.xmpp_scram.proofs.contents.base64_bytes.Goals as goal

@@ -1,7 +1,5 @@
-use Rattle.std.proofs.Common.{◌≡◌, ◌∙◌, sym, length, arith, refl, replicate, Some, ap, List, ℕ, Ok}
-use Rattle.base64.specs.Engines.{standard}
-use Rattle.base64.specs.GeneralPurpose.{decode_slice_of}
-use Rattle.xmpp_scram.specs.Values.{base64_bytes, hash_of}
+use Rattle.std.proofs.Common.{◌≡◌, ◌∙◌, sym, length, refl, replicate, Some, ap, List, ℕ}
+use Rattle.xmpp_scram.specs.Values.{base64_bytes}
 use Rattle.xmpp_scram.proofs.Base64.{hash_none, hash_some, sliced_32, sliced_ok, written_32}
 use Rattle.xmpp_scram.proofs.contents.hash_of.Goals as goal
 

@@ -1,4 +1,4 @@
-use Rattle.std.proofs.Common.{◌≡◌, ◌∙◌, sym, ap, refl, get_or, arith, Vec, Global, ℕ, rules}
+use Rattle.std.proofs.Common.{◌∙◌, sym, ap, get_or, arith, Vec, Global, ℕ}
 use Rattle.xmpp_scram.specs.Values.{name_of}
 use Rattle.xmpp_scram.proofs.Escapes.{begins, plain, ended, inside, comma, equals}
 use Rattle.xmpp_scram.proofs.contents.unescaped.Goals as goal

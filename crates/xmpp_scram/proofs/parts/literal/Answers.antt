@@ -1,4 +1,4 @@
-use Rattle.std.proofs.Common.{◌≡◌, length, arith, Err, sym, ◌∙◌}
+use Rattle.std.proofs.Common.{◌≡◌, length, arith, sym, ◌∙◌}
 use Rattle.xmpp_scram.proofs.Runs.{literal_missing}
 use Rattle.xmpp_scram.proofs.parts.literal.Goals as goal
 

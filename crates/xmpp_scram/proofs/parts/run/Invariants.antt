@@ -1,4 +1,4 @@
-use Rattle.std.proofs.Common.{◌≡◌, ◌≤◌, take, drop, length}
+use Rattle.std.proofs.Common.{◌≡◌, take, drop}
 use Rattle.xmpp_scram.specs.Parts.{run, with_front}
 use Rattle.xmpp_scram.proofs.parts.run.Given as goal
 
