@@ -5,7 +5,9 @@ use crate::fault::ScramFault;
 use crate::hashing::{hi, hmac};
 use crate::server::ScramServer;
 use std::alloc::{AllocError, Global};
+use std::process::Abort;
 use std::test::Fail;
+use xmpp_edge::Bytes;
 
 // A hash in lower-case hexadecimal digits.
 fn hex(alloc: Global, hash: &[u8; 32]) -> Result<String, AllocError> {
@@ -88,15 +90,72 @@ const FINAL: &str =
 
 const VERIFIED: &str = "v=6rriTRBi23WpRR/wtup+mMhUZUn/dB5nLTJRsjl95G4=";
 
-// The server's end of the example.
-fn server(alloc: Global, credentials: &Credentials) -> Result<ScramServer, ScramFault> {
-    let first = read_first(alloc, FIRST.as_bytes())?;
-    Ok(ScramServer::first(alloc, first, credentials, TAIL)?)
-}
-
 // The example's final message with one byte of its proof changed.
 const SPOILED: &str =
     "c=biws,r=rOprNGfwEbeRWgbNEkqO%hvYDpWUa2RaTCAfuxFIlj)hNlF$k0,p=dXzbZapWIk4jUhN+Ute9ytag9zjfMHgsqmmiz7AndVQ=";
+
+// The helpers take the messages as parameters, so that no proof has to compute with them.
+
+// The server's end behind its first message.
+fn server(
+    alloc: Global,
+    credentials: &Credentials,
+    first: &str,
+    tail: &str,
+) -> Result<ScramServer, ScramFault> {
+    let first = read_first(alloc, first.as_bytes())?;
+    Ok(ScramServer::first(alloc, first, credentials, tail)?)
+}
+
+// The reply and the last answer of an exchange; the client then refuses other final messages with these faults.
+fn exchange(
+    rt: &impl Abort,
+    alloc: Global,
+    client: &mut ScramClient,
+    server: ScramServer,
+    finals: &[(&str, ScramFault)],
+) -> Result<(Bytes, Bytes), ScramFault> {
+    let reply = client.reply(alloc, server.message())?;
+    let answer = server.last(alloc, reply.as_slice())?;
+    assert_eq!(rt; client.check(answer.as_slice()), Ok(()));
+    for (message, fault) in finals {
+        assert_eq!(rt; client.check(message.as_bytes()), Err(*fault));
+    }
+    Ok((reply, answer))
+}
+
+// Why a final message of the client is refused, if it is.
+fn last_fault(
+    alloc: Global,
+    credentials: &Credentials,
+    first: &str,
+    tail: &str,
+    message: &str,
+) -> Result<Option<ScramFault>, ScramFault> {
+    let server = server(alloc, credentials, first, tail)?;
+    Ok(server.last(alloc, message.as_bytes()).err())
+}
+
+// Why a first message of the server is refused, if it is.
+fn reply_fault(alloc: Global, client: &mut ScramClient, message: &str) -> Option<ScramFault> {
+    client.reply(alloc, message.as_bytes()).err()
+}
+
+const FINALS: [(&str, ScramFault); 4] = [
+    (
+        "v=7rriTRBi23WpRR/wtup+mMhUZUn/dB5nLTJRsjl95G4=",
+        ScramFault::BadVerifier,
+    ),
+    (
+        "v=6rriTRBi23WpRR/wtup+mMhUZUn/dB5nLTJRsjl9",
+        ScramFault::BadVerifier,
+    ),
+    ("e=invalid-proof", ScramFault::BadVerifier),
+    (
+        "w=6rriTRBi23WpRR/wtup+mMhUZUn/dB5nLTJRsjl95G4=",
+        ScramFault::Malformed { at: 0 },
+    ),
+];
 
 #[test]
 fn goes_through_the_example(rt: HostRuntime) -> Result<(), Fail> {
@@ -104,35 +163,13 @@ fn goes_through_the_example(rt: HostRuntime) -> Result<(), Fail> {
     let credentials = Credentials::make(alloc, "pencil", &SALT, 4096)?;
     let mut client = ScramClient::first(alloc, "user", "pencil", CLIENT_NONCE)?;
     assert_eq!(rt; client.message(), FIRST.as_bytes());
-    let server_end = server(alloc, &credentials)?;
-    assert_eq!(rt; server_end.message(), CHALLENGE.as_bytes());
-    let reply = client.reply(alloc, server_end.message())?;
+    let server = server(alloc, &credentials, FIRST, TAIL)?;
+    assert_eq!(rt; server.message(), CHALLENGE.as_bytes());
+    let (reply, answer) = exchange(&rt, alloc, &mut client, server, &FINALS)?;
     assert_eq!(rt; reply.as_slice(), FINAL.as_bytes());
-    let answer = server_end.last(alloc, reply.as_slice())?;
     assert_eq!(rt; answer.as_slice(), VERIFIED.as_bytes());
-    assert_eq!(rt; client.check(answer.as_slice()), Ok(()));
-    for (message, fault) in [
-        (
-            "v=7rriTRBi23WpRR/wtup+mMhUZUn/dB5nLTJRsjl95G4=",
-            ScramFault::BadVerifier,
-        ),
-        (
-            "v=6rriTRBi23WpRR/wtup+mMhUZUn/dB5nLTJRsjl9",
-            ScramFault::BadVerifier,
-        ),
-        ("e=invalid-proof", ScramFault::BadVerifier),
-        (
-            "w=6rriTRBi23WpRR/wtup+mMhUZUn/dB5nLTJRsjl95G4=",
-            ScramFault::Malformed { at: 0 },
-        ),
-    ] {
-        assert_eq!(rt; client.check(message.as_bytes()), Err(fault));
-    }
-    let spoiled = server(alloc, &credentials)?;
-    assert_eq!(rt;
-        spoiled.last(alloc, SPOILED.as_bytes()).err(),
-        Some(ScramFault::BadProof)
-    );
+    let fault = last_fault(alloc, &credentials, FIRST, TAIL, SPOILED)?;
+    assert_eq!(rt; fault, Some(ScramFault::BadProof));
     let escaped = ScramClient::first(alloc, "a=b,c", "pencil", "x")?;
     assert_eq!(rt; escaped.message(), b"n,,n=a=3Db=2Cc,r=x".as_slice());
     Ok(())
@@ -164,51 +201,54 @@ fn refuses_first_messages(rt: HostRuntime) -> Result<(), Fail> {
     Ok(())
 }
 
+const CHALLENGES: [(&str, ScramFault); 6] = [
+    ("r=rOprNGfwEbeRWgbNEkqP,s=,i=4096", ScramFault::BadNonce),
+    ("r=rOprNGfwEbeRWgbNEkq,s=,i=4095", ScramFault::BadNonce),
+    (
+        "r=rOprNGfwEbeRWgbNEkqOx,s=,i=4095",
+        ScramFault::Iterations { count: 4095 },
+    ),
+    (
+        "r=rOprNGfwEbeRWgbNEkqOx,s=,i=1000001",
+        ScramFault::Iterations { count: 1_000_001 },
+    ),
+    (
+        "r=rOprNGfwEbeRWgbNEkqOx,s=,i=4294967296",
+        ScramFault::Iterations { count: u32::MAX },
+    ),
+    (
+        "r=rOprNGfwEbeRWgbNEkqOx,s=,i=04096",
+        ScramFault::Malformed { at: 29 },
+    ),
+];
+
 #[test]
 fn refuses_challenges(rt: HostRuntime) -> Result<(), Fail> {
     let alloc = rt.alloc();
     let mut client = ScramClient::first(alloc, "user", "pencil", CLIENT_NONCE)?;
-    for (message, fault) in [
-        ("r=rOprNGfwEbeRWgbNEkqP,s=,i=4096", ScramFault::BadNonce),
-        ("r=rOprNGfwEbeRWgbNEkq,s=,i=4095", ScramFault::BadNonce),
-        (
-            "r=rOprNGfwEbeRWgbNEkqOx,s=,i=4095",
-            ScramFault::Iterations { count: 4095 },
-        ),
-        (
-            "r=rOprNGfwEbeRWgbNEkqOx,s=,i=1000001",
-            ScramFault::Iterations { count: 1_000_001 },
-        ),
-        (
-            "r=rOprNGfwEbeRWgbNEkqOx,s=,i=4294967296",
-            ScramFault::Iterations { count: u32::MAX },
-        ),
-        (
-            "r=rOprNGfwEbeRWgbNEkqOx,s=,i=04096",
-            ScramFault::Malformed { at: 29 },
-        ),
-    ] {
-        assert_eq!(rt; client.reply(alloc, message.as_bytes()).err(), Some(fault));
+    for (message, fault) in CHALLENGES {
+        assert_eq!(rt; reply_fault(alloc, &mut client, message), Some(fault));
     }
     Ok(())
 }
+
+const LASTS: [(&str, ScramFault); 4] = [
+    (
+        "c=biws,r=xyz,p=dHzbZapWIk4jUhN+Ute9ytag9zjfMHgsqmmiz7AndVQ=",
+        ScramFault::BadProof,
+    ),
+    ("c=biws,r=xyz,p=", ScramFault::BadProof),
+    ("c=biws,r=xy,p=", ScramFault::BadNonce),
+    ("c=eSws,r=xyz,p=", ScramFault::Malformed { at: 2 }),
+];
 
 #[test]
 fn refuses_final_messages(rt: HostRuntime) -> Result<(), Fail> {
     let alloc = rt.alloc();
     let credentials = Credentials::make(alloc, "pencil", &SALT, 1)?;
-    for (message, fault) in [
-        (
-            "c=biws,r=xyz,p=dHzbZapWIk4jUhN+Ute9ytag9zjfMHgsqmmiz7AndVQ=",
-            ScramFault::BadProof,
-        ),
-        ("c=biws,r=xyz,p=", ScramFault::BadProof),
-        ("c=biws,r=xy,p=", ScramFault::BadNonce),
-        ("c=eSws,r=xyz,p=", ScramFault::Malformed { at: 2 }),
-    ] {
-        let client = read_first(alloc, b"n,,n=user,r=x")?;
-        let server = ScramServer::first(alloc, client, &credentials, "yz")?;
-        assert_eq!(rt; server.last(alloc, message.as_bytes()).err(), Some(fault));
+    for (message, fault) in LASTS {
+        let found = last_fault(alloc, &credentials, "n,,n=user,r=x", "yz", message)?;
+        assert_eq!(rt; found, Some(fault));
     }
     Ok(())
 }
