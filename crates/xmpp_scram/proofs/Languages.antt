@@ -17,7 +17,7 @@ use Rattle.xmpp_scram.specs.declared.classes.OneOrMore.{OneOrMore}
 use Rattle.xmpp_scram.proofs.Base64Runs.{encoded_whole, whole_encoded}
 use Rattle.xmpp_scram.proofs.Runs.{Stops, behind, behind_first, behind_step}
 use Rattle.xmpp_scram.proofs.Sequences.{IsPart, run_part}
-use Rattle.xmpp_scram.proofs.Tests.{if_some}
+use Rattle.xmpp_scram.proofs.PassedTests.{if_some}
 
 -- what follows a part: nothing, or a comma
 abbrev pub Closed : List ℕ → Type 0

@@ -15,6 +15,7 @@ mod credentials;
 mod exchange_tests;
 mod fault;
 mod hashing;
+mod laws;
 mod names;
 mod parts;
 mod plain;
@@ -31,4 +32,8 @@ pub use client_first::{ClientFirst, read_first};
 pub use credentials::{Credentials, CredentialsFault};
 pub use fault::ScramFault;
 pub use hashing::{hi, hmac};
+pub use laws::{reading_is_the_grammar, written_messages_are_read};
 pub use server::ScramServer;
+
+#[cfg(test)]
+mod tests;
