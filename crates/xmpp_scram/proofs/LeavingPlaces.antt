@@ -1,11 +1,11 @@
 -- The place where bytes leave a grammar is one, and it is where the reader leaves off.
-use Rattle.std.proofs.Common.{◌≡◌, ℕ, ◌+◌, ◌-◌, ◌<◌, ◌≤◌, ◌⊎◌, ◌↔◌, List, [], ◌∷◌, ◌++◌, length, take, drop, Result, Ok, Err, refl, sym, ap, ◌∙◌, arith, append_assoc, subst, inl, inr}
+use Rattle.std.proofs.Common.{◌≡◌, ℕ, ◌+◌, ◌-◌, ◌<◌, List, [], ◌∷◌, ◌++◌, length, take, drop, Result, Err, refl, sym, ap, ◌∙◌, arith, append_assoc, subst, inl, inr}
 use Rattle.std.proofs.Math.Seq.{take-add}
 use Rattle.std.proofs.lemmas.Bool.{cases_lt}
-use Rattle.std.proofs.lemmas.List.{append-nil, length-append, take-append-drop, take_at}
+use Rattle.std.proofs.lemmas.List.{length-append, take-append-drop, take_at}
 use Rattle.xmpp_scram.specs.Places.{LeavesAt}
 use Rattle.xmpp_scram.proofs.Runs.{Alike, result_cases}
-use Rattle.xmpp_scram.proofs.Sequences.{Leaves, Reads, alike_itself}
+use Rattle.xmpp_scram.proofs.Sequences.{Reads, alike_itself}
 
 module _ (G : List ℕ → Type 0) where
   -- bytes that leave the grammar aren't in it

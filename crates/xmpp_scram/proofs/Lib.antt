@@ -26,6 +26,5 @@ pub mod Spelled
 pub mod Utf8
 pub mod Worked
 pub mod WorkedExchange
-pub mod Written
 pub mod WrittenMessages
 pub mod Xors

@@ -1,8 +1,8 @@
 -- What reading answers, in the grammar's words.
-use Rattle.std.proofs.Common.{◌≡◌, ℕ, ◌+◌, ◌-◌, ◌<◌, ◌≤◌, ◌⊎◌, ◌↔◌, Bool, true, false, cond, List, [], ◌∷◌, ◌++◌, length, min, codes, Option, Some, None, Result, Ok, Err, refl, sym, ap, ◌∙◌, arith, inl, inr, subst}
+use Rattle.std.proofs.Common.{◌≡◌, ℕ, ◌-◌, ◌⊎◌, ◌↔◌, Bool, true, false, List, length, min, codes, Option, Some, None, Result, Ok, Err, refl, sym, ap, ◌∙◌, inl, inr, subst}
 use Rattle.std.specs.Option.{option_and_then, option_map}
 use Rattle.base64.specs.Engines.{standard}
-use Rattle.base64.specs.GeneralPurpose.{IsBytes, encode_of}
+use Rattle.base64.specs.GeneralPurpose.{encode_of}
 use Rattle.xmpp_scram.specs.Grammar.{InClientFinal, InClientFirst, InServerFinal, InServerFirst, IsClientFinal, IsClientFirst, IsServerFinal, IsServerFirst}
 use Rattle.xmpp_scram.specs.Messages.{ClientFinalParts, ClientFinalView, FirstParts, ServerFirstParts, ServerFirstView, before_proof, client_final_of, client_final_parts, client_first_of, first_of, first_parts, judged_client_final, judged_first, judged_server_final, judged_server_first, server_final_of, server_final_parts, server_first_of, server_first_parts, verifier_of}
 use Rattle.xmpp_scram.specs.Places.{LeavesAt, malformed}
@@ -15,7 +15,7 @@ use Rattle.xmpp_scram.proofs.Base64.{bytes_again}
 use Rattle.xmpp_scram.proofs.Headers.{Headed, IsFirst, first_from, first_reads, first_to}
 use Rattle.xmpp_scram.proofs.LeavingPlaces.{place, place_read}
 use Rattle.xmpp_scram.proofs.NameRuns.{name_is}
-use Rattle.xmpp_scram.proofs.OtherMessages.{Bound, FinalSaid, IsFinal, IsServer, Says, ServerRest, before_is, client_final_reads, final_from, final_to, server_final_from, server_final_reads, server_final_to, server_first_reads, server_from, server_to}
+use Rattle.xmpp_scram.proofs.OtherMessages.{Bound, FinalSaid, Says, ServerRest, before_is, client_final_reads, final_from, final_to, server_final_from, server_final_reads, server_final_to, server_first_reads, server_from, server_to}
 use Rattle.xmpp_scram.proofs.Runs.{result_cases}
 use Rattle.xmpp_scram.proofs.Sequences.{After}
 use Rattle.xmpp_scram.proofs.PassedTests.{chosen}

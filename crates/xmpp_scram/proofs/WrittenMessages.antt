@@ -1,5 +1,5 @@
 -- The messages that the two ends write are in the grammar, and so they are read.
-use Rattle.std.proofs.Common.{◌≡◌, ℕ, ◌+◌, ◌<◌, ◌≤◌, ◌^◌, ◌&&◌, ◌||◌, nat_le, Bool, true, false, List, [], ◌∷◌, ◌++◌, length, min, codes, Option, Some, None, Result, Ok, Err, refl, sym, ap, ◌∙◌, arith, append_assoc, subst}
+use Rattle.std.proofs.Common.{◌≡◌, ℕ, ◌≤◌, Bool, true, false, List, [], ◌∷◌, ◌++◌, length, min, codes, Some, Result, Ok, refl, sym, ap, ◌∙◌, arith}
 use Rattle.std.proofs.lemmas.Bool.{and_parts}
 use Rattle.std.proofs.lemmas.List.{append-nil}
 use Rattle.std.proofs.lemmas.Str.{IsUtf8-nil}
@@ -9,9 +9,9 @@ use Rattle.std.specs.Str.{IsUtf8}
 use Rattle.base64.specs.Engines.{standard}
 use Rattle.base64.specs.GeneralPurpose.{IsBytes, encode_of}
 use Rattle.xmpp_scram.specs.Classes.{is_within}
-use Rattle.xmpp_scram.specs.Grammar.{AreExtensions, IsBare, IsClientFinal, IsClientFirst, IsName, IsNonce, IsServerFinal, IsServerFirst, IsServerVerifier, are_some, escaped, gs2_header, is_name_byte}
+use Rattle.xmpp_scram.specs.Grammar.{AreExtensions, IsBare, IsClientFinal, IsClientFirst, IsName, IsNonce, IsServerFirst, IsServerVerifier, are_some, escaped, gs2_header, is_name_byte}
 use Rattle.xmpp_scram.specs.Messages.{ServerFirstView, client_final_of, client_first_of, header, server_final_of, server_first_of}
-use Rattle.xmpp_scram.specs.Values.{hash_of, most_told}
+use Rattle.xmpp_scram.specs.Values.{most_told}
 use Rattle.xmpp_scram.specs.declared.binding_flag.BindingFlag.{BindingFlag}
 use Rattle.xmpp_scram.specs.declared.binding_flag.BindingFlag.TheVariants.{Unsupported, NotOffered}
 use Rattle.xmpp_scram.specs.declared.fault.ScramFault.{ScramFault}
