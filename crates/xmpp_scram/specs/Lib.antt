@@ -1,0 +1,13 @@
+pub mod Agreement
+pub mod Classes
+pub mod Exchange
+pub mod Grammar
+pub mod Hashes
+pub mod Judgements
+pub mod Keyed
+pub mod Messages
+pub mod Parts
+pub mod Places
+pub mod Seen
+pub mod States
+pub mod Values

@@ -1,0 +1,14 @@
+ghost use Rattle.std.specs.Prelude.{◌≡◌};
+ghost use Rattle.std.specs.Str.{bytes_eq};
+
+// Whether two secrets are the same. It looks at every byte whatever it finds, so that the time that it takes does
+// not tell how far they agree.
+pub(crate) fn is_same(a: &[u8; 32], b: &[u8; 32]) -> bool
+    ensures { result ≡ bytes_eq a.now b.now }
+{
+    let mut difference = 0;
+    for i in 0..32 {
+        difference |= a[i] ^ b[i];
+    }
+    difference == 0
+}
