@@ -1,0 +1,6 @@
+pub mod Attributes
+pub mod Codes
+pub mod Readers
+pub mod Tidied
+pub mod Trees
+pub mod Views

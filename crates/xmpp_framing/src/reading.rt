@@ -1,0 +1,88 @@
+ghost use Rattle.std.specs.Prelude.{◌≡◌, ◌+◌, ◌≤◌, ◌↔◌, IsTrue, IsNone, IfOk, IfSome};
+ghost use Rattle.std.specs.Option.{option_copied, option_map};
+ghost use Rattle.xmpp_framing.specs.Attributes.{found, has_name};
+ghost use Rattle.xmpp_framing.specs.Readers.{attr_of, child_of, first_named, is_named, text_count, text_of};
+ghost use Rattle.xmpp_framing.specs.Trees.{nodes_of, namespace_of, name_of};
+ghost use Rattle.xmpp_framing.specs.Views.{elem_view, nodes_view};
+
+use crate::attributes::Attr;
+use crate::elements::{Element, Node};
+use std::alloc::Global;
+use xmpp_edge::{NoMemory, Text};
+
+impl Attr {
+    /// Whether the attribute has this namespace and name.
+    pub fn is(&self, ns: &str, name: &str) -> bool
+        ensures value { result ≡ has_name ns.now name.now self.now }
+        ensures named { IsTrue result ↔ ((self.now.ns ≡ ns.now) × (self.now.name ≡ name.now)) }
+    {
+        self.ns.as_str() == ns && self.name.as_str() == name
+    }
+}
+
+impl Element {
+    /// Whether the element has this namespace and name.
+    pub fn is(&self, ns: &str, name: &str) -> bool
+        ensures value { result ≡ is_named ns.now name.now (elem_view self.now) }
+        ensures named { IsTrue result ↔ ((namespace_of (elem_view self.now) ≡ ns.now) × (name_of (elem_view self.now) ≡ name.now)) }
+    {
+        self.ns.as_str() == ns && self.name.as_str() == name
+    }
+
+    /// The value of the first attribute with this namespace, which is empty for an attribute without one, and name.
+    /// `None` where there is no such attribute.
+    pub fn attr(&self, ns: &str, name: &str) -> Option<&str>
+        ensures { option_copied result ≡ attr_of ns.now name.now (elem_view self.now) }
+    {
+        match find_attr(self.attrs.as_slice(), ns, name) {
+            Some(attr) => Some(attr.value.as_str()),
+            None => None,
+        }
+    }
+
+    /// The first child element of this namespace and name. `None` where there is none.
+    pub fn child(&self, ns: &str, name: &str) -> Option<&Element>
+        ensures { option_map elem_view (option_copied result) ≡ child_of ns.now name.now (elem_view self.now) }
+    {
+        find_child(&self.children, ns, name)
+    }
+
+    /// The texts directly in the element, one behind the other. It takes memory for them.
+    pub fn text(&self, alloc: Global) -> Result<Text, NoMemory>
+        ensures { IfOk result (λ t. t ≡ text_of (nodes_of (elem_view self.now))) }
+    {
+        text_in(alloc, &self.children)
+    }
+}
+
+/// The first attribute with this namespace and name. `None` where there is none.
+pub fn find_attr<'a>(attrs: &'a [Attr], ns: &str, name: &str) -> Option<&'a Attr>
+    ensures { option_copied result ≡ found ns.now name.now attrs.now }
+{
+    attrs.iter().find(|a| a.is(ns, name))
+}
+
+/// The first element of this namespace and name among nodes. `None` where there is none.
+pub fn find_child<'a>(nodes: &'a [Node], ns: &str, name: &str) -> Option<&'a Element>
+    ensures { option_map elem_view (option_copied result) ≡ first_named ns.now name.now (nodes_view nodes.now) }
+{
+    for node in nodes {
+        if let Node::Child(element) = node && element.is(ns, name) {
+            return Some(element);
+        }
+    }
+    None
+}
+
+/// The texts directly among nodes, one behind the other. It takes memory for them.
+pub fn text_in(alloc: Global, nodes: &[Node]) -> Result<Text, NoMemory>
+    ensures { IfOk result (λ t. t ≡ text_of (nodes_view nodes.now)) }
+{
+    let mut all = String::new(alloc);
+    for node in nodes {
+        if let Node::Text(text) = node {
+            all.push_str(text.as_str())?;
+        }
+    }
+    Ok(Text::from(all))
+}

@@ -1,0 +1,59 @@
+ghost use Rattle.std.specs.Prelude.{◌≡◌, IfOk};
+ghost use Rattle.xmpp_framing.specs.Views.{elem_view};
+
+use crate::elements::Element;
+use std::alloc::Global;
+use std::marker::Model;
+use xmpp_edge::{Copied, NoMemory};
+
+/// An element that keeps the rule of a tree, at every level: its attributes ascend by namespace and then name,
+/// compared by bytes, and no two have one namespace and name; no text is empty, and none stands beside another.
+/// Contracts see it as a tree of the definitions.
+#[derive(Drop)]
+pub struct Tree {
+    root: Element,
+}
+
+impl Model for Tree {
+    ghost use Rattle.xmpp_framing.specs.Codes.{elem_coded};
+    ghost use Rattle.xmpp_framing.specs.Trees.{Elem, IsTree};
+    ghost use Rattle.xmpp_framing.specs.Views.{elem_view};
+
+    ghost Value = { Elem };
+
+    ghost coded = { elem_coded };
+
+    ghost view = { λ t. elem_view t.root };
+
+    ghost invariant = { λ t. IsTree (elem_view t.root) };
+}
+
+impl Tree {
+    /// The tree as an element.
+    pub fn element(&self) -> &Element
+        ensures { elem_view result.now ≡ self.now }
+    {
+        &self.root
+    }
+
+    /// The element, taken out of the tree.
+    pub fn into_element(self) -> Element
+        ensures { elem_view result ≡ self }
+    {
+        self.root
+    }
+
+    /// An equal tree, in memory of its own.
+    pub fn copy(&self, alloc: Global) -> Result<Tree, NoMemory>
+        ensures { IfOk result (λ copy. copy ≡ self.now) }
+    {
+        let root = self.root.copy(alloc)?;
+        Ok(Tree { root })
+    }
+}
+
+impl Copied for Tree {
+    fn copied(&self, alloc: Global) -> Result<Tree, NoMemory> {
+        self.copy(alloc)
+    }
+}
