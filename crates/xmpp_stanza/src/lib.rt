@@ -1,0 +1,9 @@
+//! The three stanzas, their errors and the errors of streams, read from trees and written as trees (RFC 6120 sections
+//! 4.9 and 8, RFC 6121 sections 4.7 and 5.2).
+#![tactic(auto)]
+
+mod kinds;
+mod stanzas;
+
+pub use kinds::{IqKind, MessageKind, PresenceKind};
+pub use stanzas::{Iq, Message, Presence, Stanza, StanzaFault};
