@@ -1,2 +1,6 @@
+pub mod Kinds
 pub mod Names
+pub mod Priority
+pub mod Readings
+pub mod Stanzas
 pub mod Views

@@ -3,7 +3,11 @@
 #![tactic(auto)]
 
 mod kinds;
+mod names;
+mod reading;
 mod stanzas;
 
 pub use kinds::{IqKind, MessageKind, PresenceKind};
+pub use names::{CLIENT, STANZA_ERRORS, STREAM_ERRORS, STREAMS, XML};
+pub use reading::read_stanza;
 pub use stanzas::{Iq, Message, Presence, Stanza, StanzaFault};
