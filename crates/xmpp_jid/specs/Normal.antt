@@ -1,6 +1,7 @@
 -- The normal form of an address in the profile of this project (RFC 7622 sections 3.1 to 3.4).
-use Rattle.std.specs.Prelude.{◌≡◌, ℕ, ◌≤◌, not, ◌&&◌, List, [], ◌∷◌, ◌++◌, length, All, IsTrue, IfSome, Option, Some, None, Result, Ok, Err}
+use Rattle.std.specs.Prelude.{◌≡◌, ℕ, ◌≤◌, not, ◌&&◌, List, [], ◌∷◌, ◌++◌, length, IfSome, Option, Some, None, Result, Ok, Err}
 use Rattle.std.specs.Char.{is_ascii_uppercase}
+use Rattle.std.specs.List.{AllPass}
 use Rattle.xmpp_jid.specs.declared.fault.JidFault.{JidFault}
 use Rattle.xmpp_jid.specs.Cuts.{bare_of, local_of, domain_of, resource_of}
 use Rattle.xmpp_jid.specs.Forms.{is_local_byte, local_form, domain_form, resource_form}
@@ -42,5 +43,5 @@ IsPartLength part = (1 ≤ length part) × (length part ≤ 1023)
 pub record IsAddress (text : List ℕ) : Type 0 where
   pub domain : IsPartLength (domain_of text)
   pub local : IfSome (local_of text) IsPartLength
-  pub lower_local : IfSome (local_of text) (All (λ b. IsTrue (is_local_byte b && not (is_ascii_uppercase b))))
+  pub lower_local : IfSome (local_of text) (AllPass (λ b. is_local_byte b && not (is_ascii_uppercase b)))
   pub resource : IfSome (resource_of text) IsPartLength

@@ -1,5 +1,5 @@
 // The parts of an address, each written in normal form at the end of a text.
-ghost use Rattle.std.specs.Prelude.{◌≡◌, string_bytes};
+ghost use Rattle.std.specs.Prelude.{◌≡◌, chars, string_bytes};
 ghost use Rattle.std.specs.List.{list_all};
 ghost use Rattle.std.specs.Option.{option_copied};
 ghost use Rattle.xmpp_jid.specs.Answers.{Answers, Appends};
@@ -60,6 +60,13 @@ fn is_local_byte(byte: u8) -> bool
     }
 }
 
+// Whether a text is a local part, but for its length.
+fn is_local(given: &str) -> bool
+    ensures { result ≡ list_all is_local_byte given.now }
+{
+    given.as_bytes().iter().all(|byte| is_local_byte(*byte))
+}
+
 /// A text with room for `room` bytes, that begins with the local part in normal form and its `@`, where there is a
 /// local part.
 pub fn begin(alloc: Global, local: Option<&str>, room: usize) -> Result<String, JidFault>
@@ -72,10 +79,13 @@ pub fn begin(alloc: Global, local: Option<&str>, room: usize) -> Result<String, 
     if given.is_empty() {
         return Err(JidFault::Empty);
     }
-    if !given.as_bytes().iter().all(|byte| is_local_byte(*byte)) {
+    if !is_local(given) {
         return Err(JidFault::BadLocal);
     }
-    push_fitting(&mut out, given)?;
+    if given.len() > MOST {
+        return Err(JidFault::TooLong);
+    }
+    out.push_str(given)?;
     out.make_ascii_lowercase();
     out.push('@')?;
     Ok(out)
@@ -141,11 +151,20 @@ fn is_resource_char(character: char) -> bool
     !matches!(character, '\0'..='\x1F' | '\x7F'..='\u{9F}')
 }
 
+// Whether a text in form NFC is a resource, but for its length.
+fn fits_resource(text: &str) -> bool
+    ensures { result ≡ list_all is_resource_char (chars text.now) }
+{
+    text.chars().all(is_resource_char)
+}
+
 // Whether the text is printable ASCII and spaces, and so is its form NFC.
 fn is_printable(text: &str) -> bool
     ensures { result ≡ list_all is_printable text.now }
 {
-    text.as_bytes().iter().all(|byte| matches!(byte, 0x20..=0x7E))
+    text.as_bytes()
+        .iter()
+        .all(|byte| matches!(byte, 0x20..=0x7E))
 }
 
 // Adds the resource in its form NFC.
@@ -159,7 +178,7 @@ fn push_resource(alloc: Global, out: &mut String, given: &str) -> Result<(), Jid
         return push_fitting(out, given);
     }
     let normal = to_nfc(alloc, given)?;
-    if !normal.as_str().chars().all(is_resource_char) {
+    if !fits_resource(normal.as_str()) {
         return Err(JidFault::BadResource);
     }
     push_fitting(out, normal.as_str())
