@@ -1,3 +1,5 @@
+pub mod Conditions
+pub mod Errors
 pub mod Kinds
 pub mod Names
 pub mod Priority

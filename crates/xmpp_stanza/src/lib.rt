@@ -2,11 +2,15 @@
 //! 4.9 and 8, RFC 6121 sections 4.7 and 5.2).
 #![tactic(auto)]
 
+mod conditions;
+mod errors;
 mod kinds;
 mod names;
 mod reading;
 mod stanzas;
 
+pub use conditions::Condition;
+pub use errors::{ErrorKind, StanzaError, StanzaErrorFault, error_element, stanza_error};
 pub use kinds::{IqKind, MessageKind, PresenceKind};
 pub use names::{CLIENT, STANZA_ERRORS, STREAM_ERRORS, STREAMS, XML};
 pub use reading::read_stanza;
