@@ -1,1 +1,4 @@
+pub mod AttributeOrder
 pub mod Folds
+pub mod TidyLaws
+pub mod TidySteps

@@ -6,6 +6,8 @@ mod building;
 mod copying;
 mod elements;
 mod reading;
+mod runs;
+mod tidying;
 mod trees;
 
 pub use attributes::{Attr, Attrs};
