@@ -83,7 +83,7 @@ all_put P a [] one all = (one, tt)
 all_put P a (b ∷ bs) one all =
     put_step (AllByRecursion P) a b bs (λ e. (one, all)) (λ e. (one, all.1)) (λ e. (all.0, all_put P a bs one all.1))
 
-all_weaker : (P Q : Attribute → Type 0) → ((a : Attribute) → P a → Q a) → (bs : List Attribute) → AllByRecursion P bs → AllByRecursion Q bs
+pub all_weaker : (P Q : Attribute → Type 0) → ((a : Attribute) → P a → Q a) → (bs : List Attribute) → AllByRecursion P bs → AllByRecursion Q bs
 all_weaker P Q h [] all = tt
 all_weaker P Q h (b ∷ bs) all = (h b all.0, all_weaker P Q h bs all.1)
 
@@ -133,13 +133,13 @@ same_attributes (x ∷ xs) (y ∷ ys) up over same =
     by_ordering (name_order x y)
     (λ e. let is = first ∙ above x y ys e over.0 in cc)
     (λ e.
-      let test : has_name x.ns x.name y ≡ true = sym (same_test x.ns x.name x y e) ∙ own_name x in
-      let heads = first ∙ found_head x.ns x.name y ys test in
-      let head : x ≡ y = cc in
-      let tails = same_attributes xs ys up.1 over.1 (λ ns name. by_test (has_name ns name x)
-        (λ t. absent ns name x xs t up.0 ∙ sym (absent ns name y ys (sym (same_test ns name x y e) ∙ t) over.0))
-        (λ f. sym (found_later ns name x xs f) ∙ same ns name ∙ found_later ns name y ys (sym (same_test ns name x y e) ∙ f))) in
-      λ i. head i ∷ tails i)
+    let test : has_name x.ns x.name y ≡ true = sym (same_test x.ns x.name x y e) ∙ own_name x in
+    let heads = first ∙ found_head x.ns x.name y ys test in
+    let head : x ≡ y = cc in
+    let tails = same_attributes xs ys up.1 over.1 (λ ns name. by_test (has_name ns name x)
+    (λ t. absent ns name x xs t up.0 ∙ sym (absent ns name y ys (sym (same_test ns name x y e) ∙ t) over.0))
+    (λ f. sym (found_later ns name x xs f) ∙ same ns name ∙ found_later ns name y ys (sym (same_test ns name x y e) ∙ f))) in
+    λ i. head i ∷ tails i)
     (λ e. let is = sym (found_head y.ns y.name y ys (own_name y)) ∙ other ∙ above y x xs (name_order_total.antisymm y x ∙ ap ordering_reverse e) up.0 in cc)
 
 pub one_IsAttrsOf : (given xs ys : List Attribute) → IsAttrsOf given xs → IsAttrsOf given ys → xs ≡ ys
