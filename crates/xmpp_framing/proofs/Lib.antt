@@ -1,1 +1,5 @@
+pub mod AttributeOrder
 pub mod Folds
+pub mod RuleSteps
+pub mod TidyLaws
+pub mod TidySteps

@@ -1,8 +1,8 @@
 -- Attributes with expanded names (Namespaces in XML 1.0, sections 2.1 and 6.3), and their order.
-use Rattle.std.specs.Prelude.{◌≡◌, ℕ, Bool, ◌&&◌, List, [], ◌∷◌, Option, find}
+use Rattle.std.specs.Prelude.{◌≡◌, ℕ, Bool, true, ◌&&◌, List, [], ◌∷◌, Option, Some, None, find}
 use Rattle.std.specs.Cmp.Lexicographic.{slice_cmp}
 use Rattle.std.specs.List.Sorted.{IsStrictlySortedBy}
-use Rattle.std.specs.Ordering.{match_ordering, nat_cmp, on, then_cmp}
+use Rattle.std.specs.Ordering.{is_lt, match_ordering, nat_cmp, on, then_cmp}
 use Rattle.std.specs.Str.{bytes_eq}
 use Rattle.std.specs.declared.cmp.Ordering.{Ordering}
 use Rattle.xmpp_framing.specs.declared.attributes.Attr.{Attr}
@@ -38,3 +38,8 @@ put_attribute a (b ∷ bs) = match_ordering (name_order a b) (a ∷ b ∷ bs) (a
 abbrev pub sorted_attributes : List Attribute → List Attribute
 sorted_attributes [] = []
 sorted_attributes (a ∷ rest) = put_attribute a (sorted_attributes rest)
+
+-- the name of an attribute is above that of the one before it, where there is one
+abbrev pub is_above : Option Attribute → Attribute → Bool
+is_above None a = true
+is_above (Some b) a = is_lt (name_order b a)

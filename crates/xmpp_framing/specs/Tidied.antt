@@ -21,3 +21,14 @@ abbrev mutual
 
 abbrev pub tidied_nodes : Nodes → Nodes
 tidied_nodes = tidied_behind []
+
+-- The same in two steps: each child is tidied, and then the texts are joined.
+abbrev pub inner_tidied : Nodes → Nodes
+inner_tidied no_nodes = no_nodes
+inner_tidied (child e rest) = child (tidied e) (inner_tidied rest)
+inner_tidied (text t rest) = text t (inner_tidied rest)
+
+abbrev pub texts_joined : List ℕ → Nodes → Nodes
+texts_joined run no_nodes = text_node run
+texts_joined run (child e rest) = joined (text_node run) (child e (texts_joined [] rest))
+texts_joined run (text t rest) = texts_joined (run ++ t) rest

@@ -1,5 +1,5 @@
 -- Elements as trees (XML 1.0, sections 2.1, 3 and 3.1; Namespaces in XML 1.0, section 6), and the rule of a tree.
-use Rattle.std.specs.Prelude.{◌≢◌, ℕ, ◌+◌, max, List, [], ◌∷◌, ◌++◌}
+use Rattle.std.specs.Prelude.{◌≢◌, ℕ, ◌+◌, max, Bool, true, false, List, [], ◌∷◌, ◌++◌}
 use Rattle.std.specs.List.Sorted.{IsStrictlySortedBy}
 use Rattle.xmpp_framing.specs.Attributes.{Attribute, name_order}
 
@@ -7,6 +7,7 @@ use Rattle.xmpp_framing.specs.Attributes.{Attribute, name_order}
 mutual
   pub data Elem : Type 0 where
     element : List ℕ → List ℕ → List Attribute → Nodes → Elem
+
   pub data Nodes : Type 0 where
     no_nodes : Nodes
     child : Elem → Nodes → Nodes
@@ -65,3 +66,14 @@ abbrev mutual
   depth_below no_nodes = 0
   depth_below (child e rest) = max (depth e) (depth_below rest)
   depth_below (text t rest) = depth_below rest
+
+-- the rule for nodes that stand behind a text, or not
+abbrev pub AreTidyBehind : Bool → Nodes → Type 0
+AreTidyBehind true ks = NoTextFirst ks × AreTidy ks
+AreTidyBehind false ks = AreTidy ks
+
+-- the first node is a text
+abbrev pub is_text_first : Nodes → Bool
+is_text_first no_nodes = false
+is_text_first (child e rest) = false
+is_text_first (text t rest) = true

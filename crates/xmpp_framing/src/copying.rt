@@ -13,7 +13,12 @@ fn copied_element(alloc: Global, element: &Element) -> Result<Element, NoMemory>
     let name = element.name.copied(alloc)?;
     let attrs = element.attrs.copy(alloc)?;
     let children = copied_children(alloc, &element.children)?;
-    Ok(Element { ns, name, attrs, children })
+    Ok(Element {
+        ns,
+        name,
+        attrs,
+        children,
+    })
 }
 
 #[cycle(copy)]

@@ -67,7 +67,9 @@ pub fn find_child<'a>(nodes: &'a [Node], ns: &str, name: &str) -> Option<&'a Ele
     ensures { option_map elem_view (option_copied result) ≡ first_named ns.now name.now (nodes_view nodes.now) }
 {
     for node in nodes {
-        if let Node::Child(element) = node && element.is(ns, name) {
+        if let Node::Child(element) = node
+            && element.is(ns, name)
+        {
             return Some(element);
         }
     }

@@ -1,7 +1,10 @@
 ghost use Rattle.std.specs.Prelude.{◌≡◌, IfOk};
+ghost use Rattle.xmpp_framing.specs.Tidied.{tidied};
 ghost use Rattle.xmpp_framing.specs.Views.{elem_view};
 
 use crate::elements::Element;
+use crate::rule::keeps_rule;
+use crate::tidying::tidy;
 use std::alloc::Global;
 use std::marker::Model;
 use xmpp_edge::{Copied, NoMemory};
@@ -29,6 +32,22 @@ impl Model for Tree {
 }
 
 impl Tree {
+    /// The tree of an element: its attributes in the order of their names, of several with one namespace and name the
+    /// first, its adjoining texts joined and the empty ones dropped, and so in each element inside it. An element that
+    /// keeps the rule stays as it is, and takes no memory.
+    ///
+    /// Names, values and texts are moved. A text is copied only where it is joined with another. The stack used grows
+    /// with the depth of the element. On want of memory the element is dropped.
+    pub fn of(alloc: Global, mut element: Element) -> Result<Tree, NoMemory>
+        ensures { IfOk result (λ tree. tree ≡ tidied (elem_view element)) }
+    {
+        if keeps_rule(&element) {
+            return Ok(Tree { root: element });
+        }
+        tidy(alloc, &mut element)?;
+        Ok(Tree { root: element })
+    }
+
     /// The tree as an element.
     pub fn element(&self) -> &Element
         ensures { elem_view result.now ≡ self.now }
