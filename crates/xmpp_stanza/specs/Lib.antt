@@ -6,3 +6,4 @@ pub mod Priority
 pub mod Readings
 pub mod Stanzas
 pub mod Views
+pub mod Written

@@ -1,18 +1,18 @@
-ghost use Rattle.std.specs.Prelude.{◌≡◌, ◌≢◌, [], ◌∷◌, Some, Ok, Err, IfOk, IfErr};
+ghost use Rattle.std.specs.Prelude.{◌≡◌, ◌≢◌, Some, Ok, Err, IfOk, IfErr};
 ghost use Rattle.std.specs.Option.{option_copied};
-ghost use Rattle.xmpp_framing.specs.Trees.{element, child, no_nodes};
 ghost use Rattle.xmpp_framing.specs.Views.{elem_view};
 ghost use Rattle.xmpp_stanza.specs.Conditions.{condition_name};
 ghost use Rattle.xmpp_stanza.specs.Errors.{error_elem, error_in, error_kind, error_kind_named, error_type, stanza_error_of};
 ghost use Rattle.xmpp_stanza.specs.Names.{stanza_errors_ns};
 
 use crate::conditions::{Condition, condition_in};
+use crate::elements::{attr, empty_element};
 use crate::names::{CLIENT, STANZA_ERRORS};
 use std::alloc::Global;
 use std::error::Error;
 use std::fmt;
-use xmpp_edge::{NoMemory, Text};
-use xmpp_framing::{Attr, Element, Tree};
+use xmpp_edge::NoMemory;
+use xmpp_framing::{Element, Tree};
 
 /// What the sender of a stanza that met an error may do (RFC 6120 section 8.3.2). A `type` that is absent or none of
 /// these is `Cancel`.
@@ -135,20 +135,7 @@ pub fn error_element(alloc: Global, e: &StanzaError) -> Result<Element, NoMemory
     ensures { IfOk result (λ element. elem_view element ≡ error_elem e.now) }
 {
     let mut error = empty_element(alloc, CLIENT, "error")?;
-    error.push_attr(Attr {
-        ns: Text::new(alloc),
-        name: Text::from_str(alloc, "type")?,
-        value: Text::from_str(alloc, e.kind.text())?,
-    })?;
+    error.push_attr(attr(alloc, "", "type", e.kind.text())?)?;
     error.push_child(empty_element(alloc, STANZA_ERRORS, e.condition.name())?)?;
     Ok(error)
-}
-
-/// An element that contains nothing.
-pub fn empty_element(alloc: Global, ns: &str, name: &str) -> Result<Element, NoMemory>
-    ensures { IfOk result (λ e. elem_view e ≡ element ns.now name.now [] no_nodes) }
-{
-    let ns = Text::from_str(alloc, ns)?;
-    let name = Text::from_str(alloc, name)?;
-    Ok(Element::new(alloc, ns, name))
 }

@@ -3,11 +3,14 @@
 #![tactic(auto)]
 
 mod conditions;
+mod elements;
 mod errors;
 mod kinds;
 mod names;
 mod reading;
 mod stanzas;
+mod streams;
+mod writing;
 
 pub use conditions::Condition;
 pub use errors::{ErrorKind, StanzaError, StanzaErrorFault, error_element, stanza_error};
@@ -15,3 +18,5 @@ pub use kinds::{IqKind, MessageKind, PresenceKind};
 pub use names::{CLIENT, STANZA_ERRORS, STREAM_ERRORS, STREAMS, XML};
 pub use reading::read_stanza;
 pub use stanzas::{Iq, Message, Presence, Stanza, StanzaFault};
+pub use streams::{stream_condition, stream_error};
+pub use writing::{iq_tree, message_tree, presence_tree};
