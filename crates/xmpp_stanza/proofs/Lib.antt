@@ -1,1 +1,5 @@
+pub mod AddressLemmas
+pub mod Judged
+pub mod KindLemmas
 pub mod Priorities
+pub mod ReadingLaws

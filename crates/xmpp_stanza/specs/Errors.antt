@@ -4,6 +4,7 @@ use Rattle.std.specs.Str.{bytes_eq}
 use Rattle.xmpp_framing.specs.Readers.{child_of}
 use Rattle.xmpp_framing.specs.Trees.{Elem, element, Nodes, no_nodes, child, nodes_of}
 use Rattle.xmpp_stanza.specs.Conditions.{condition_in, condition_name, condition_named, IsPlain}
+use Rattle.xmpp_stanza.specs.Kinds.{IsKindOf}
 use Rattle.xmpp_stanza.specs.Names.{client_ns, stanza_errors_ns, streams_ns, stream_errors_ns}
 use Rattle.xmpp_stanza.specs.Stanzas.{attr_named}
 use Rattle.xmpp_stanza.specs.declared.errors.ErrorKind.{ErrorKind}
@@ -20,10 +21,9 @@ error_type Continue = codes "continue"
 error_type Modify = codes "modify"
 error_type Wait = codes "wait"
 
--- An error of this `type` is of the kind whose type it is, and without a `type`, or with another one, cancels.
-pub record IsErrorKind (type_given : Option (List ℕ)) (kind : ErrorKind) : Type 0 where
-  pub known : (k : ErrorKind) → type_given ≡ Some (error_type k) → kind ≡ k
-  pub unknown : ((k : ErrorKind) → type_given ≢ Some (error_type k)) → kind ≡ Cancel
+-- an error whose `type` is absent or unknown cancels
+abbrev pub IsErrorKind : Option (List ℕ) → ErrorKind → Type 0
+IsErrorKind = IsKindOf error_type Cancel
 
 abbrev pub error_kind_named : List ℕ → ErrorKind
 error_kind_named name =

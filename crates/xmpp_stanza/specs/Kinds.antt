@@ -8,6 +8,12 @@ use Rattle.xmpp_stanza.specs.declared.kinds.PresenceKind.TheVariants.{Available,
 use Rattle.xmpp_stanza.specs.declared.kinds.IqKind.{IqKind}
 use Rattle.xmpp_stanza.specs.declared.kinds.IqKind.TheVariants as iq
 
+-- What a `type` tells where each kind has a spelling and one kind is for all else: the kind that it spells, and that one
+-- where it is absent or spells none.
+pub record IsKindOf {K : Type 0} (spelling : K → List ℕ) (else_kind : K) (type_given : Option (List ℕ)) (kind : K) : Type 0 where
+  pub known : (k : K) → type_given ≡ Some (spelling k) → kind ≡ k
+  pub unknown : ((k : K) → type_given ≢ Some (spelling k)) → kind ≡ else_kind
+
 -- the `type` of a message (RFC 6121 section 5.2.2)
 abbrev pub message_type : MessageKind → List ℕ
 message_type Chat = codes "chat"
@@ -16,10 +22,9 @@ message_type Headline = codes "headline"
 message_type Groupchat = codes "groupchat"
 message_type Error = codes "error"
 
--- A message of this `type` is of the kind whose type it is, and without a `type`, or with another one, normal.
-pub record IsMessageKind (type_given : Option (List ℕ)) (kind : MessageKind) : Type 0 where
-  pub known : (k : MessageKind) → type_given ≡ Some (message_type k) → kind ≡ k
-  pub unknown : ((k : MessageKind) → type_given ≢ Some (message_type k)) → kind ≡ Normal
+-- a message whose `type` is absent or unknown is normal
+abbrev pub IsMessageKind : Option (List ℕ) → MessageKind → Type 0
+IsMessageKind = IsKindOf message_type Normal
 
 abbrev pub message_kind_named : List ℕ → MessageKind
 message_kind_named name =

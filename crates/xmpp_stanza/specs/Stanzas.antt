@@ -1,5 +1,5 @@
 -- Which trees are which stanza: the relations of a tree and a value (RFC 6120 section 8).
-use Rattle.std.specs.Prelude.{◌≡◌, ◌≢◌, ℕ, ◌⊎◌, Bool, true, false, List, [], Option, Some, None, Ok, Err, unwrap_or, codes}
+use Rattle.std.specs.Prelude.{◌≡◌, ◌≢◌, ℕ, ◌⊎◌, ◌↔◌, Bool, true, List, [], Option, Some, None, Ok, Err, unwrap_or, codes}
 use Rattle.xmpp_framing.specs.Readers.{attr_of}
 use Rattle.xmpp_framing.specs.Trees.{Elem, namespace_of, name_of, nodes_of}
 use Rattle.xmpp_jid.specs.Normal.{normal}
@@ -87,14 +87,10 @@ pub record IsBadFrom (tree : Elem) : Type 0 where
 
 -- An error is due to a message that is no error itself, and to an `iq` that asks or sets; never to a presence (RFC 6120
 -- sections 8.2.3 and 8.3.1).
-pub record IsAnswered (tree : Elem) : Type 0 where
-  pub due : (IsNamed (codes "message") tree × (attr_named (codes "type") tree ≢ Some (message_type message.Error)))
+abbrev pub IsAnswered : Elem → Type 0
+IsAnswered tree =
+    (IsNamed (codes "message") tree × (attr_named (codes "type") tree ≢ Some (message_type message.Error)))
     ⊎ (IsNamed (codes "iq") tree × ((attr_named (codes "type") tree ≡ Some (iq_type iq.Get)) ⊎ (attr_named (codes "type") tree ≡ Some (iq_type iq.Set))))
-
--- a flag tells whether a fact holds
-pub record Tells (flag : Bool) (P : Type 0) : Type 0 where
-  pub yes_where : flag ≡ true → P
-  pub no_where : flag ≡ false → ¬ P
 
 -- The `to` of a stanza is there and is no address: whether the stanza is a message, whether an error is due, the id,
 -- and the attribute as it was written.
@@ -103,7 +99,7 @@ pub record IsBadTo (tree : Elem) (is_message reply : Bool) (id to : List ℕ) : 
   pub format : ¬ (IsBadFormat tree)
   pub from : ¬ (IsBadAddress (attr_named (codes "from") tree))
   pub bad : IsBadAddress (attr_named (codes "to") tree)
-  pub message : Tells is_message (IsNamed (codes "message") tree)
-  pub answered : Tells reply (IsAnswered tree)
+  pub message : (is_message ≡ true) ↔ IsNamed (codes "message") tree
+  pub answered : (reply ≡ true) ↔ IsAnswered tree
   pub the_id : id ≡ id_or_empty tree
   pub written : attr_named (codes "to") tree ≡ Some to
