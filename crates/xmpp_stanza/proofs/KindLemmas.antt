@@ -1,5 +1,5 @@
 -- A kind is read exactly from its spelling.
-use Rattle.std.proofs.Common.{◌≡◌, ◌≢◌, ℕ, Bool, true, false, cond, List, Option, Some, None, refl, sym, ◌∙◌, ap, ◌⊎◌, inl, inr, codes}
+use Rattle.std.proofs.Common.{◌≡◌, ◌≢◌, ℕ, Bool, true, false, cond, List, Option, Some, None, refl, sym, ◌∙◌, ap, subst, ◌⊎◌, inl, inr, codes}
 use Rattle.std.specs.Str.{bytes_eq}
 use Rattle.std.proofs.lemmas.Bool.{cases_Bool}
 use Rattle.std.proofs.lemmas.Slice.Eq.{bytes_eq-Decides}
@@ -46,6 +46,12 @@ kind_is spelling else_kind named reads name = record {
   known = λ k e. let same : name ≡ spelling k = cc in ap named same ∙ reads.again k;
   unknown = λ none. elim (reads.sound name) [ inl e ↦ absurd (none (named name) (ap Some e)) | inr e ↦ e ];
 }
+
+-- a spelling tells its kind
+pub spelled_is : {K : Type 0} (spelling : K → List ℕ) (else_kind : K) (named : List ℕ → K) → Reads spelling else_kind named → (k : K) → IsKindOf spelling else_kind (Some (spelling k)) k
+spelled_is spelling else_kind named reads k =
+    let P : _ → Type 0 = λ v. IsKindOf spelling else_kind (Some (spelling k)) v in
+    subst P (reads.again k) (kind_is spelling else_kind named reads (spelling k))
 
 pub no_kind_is : {K : Type 0} (spelling : K → List ℕ) (else_kind : K) → IsKindOf spelling else_kind None else_kind
 no_kind_is spelling else_kind = record { known = λ k e. cc; unknown = λ _. refl }

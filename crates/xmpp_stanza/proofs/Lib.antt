@@ -1,4 +1,5 @@
 pub mod AddressLemmas
+pub mod ErrorLaws
 pub mod Judged
 pub mod KindLemmas
 pub mod Priorities

@@ -41,10 +41,10 @@ error_kind (Some name) = error_kind_named name
 -- The error in a stanza (RFC 6120 section 8.3.2): that of its first child `error`, whose condition is named by its first
 -- child in the namespace of conditions other than `text`.
 pub record IsStanzaError (tree : Elem) (e : StanzaError) : Type 0 where
-  pub element : Elem
-  pub first : child_of client_ns (codes "error") tree ≡ Some element
-  pub kind : IsErrorKind (attr_named (codes "type") element) e.kind
-  pub condition : condition_in stanza_errors_ns (nodes_of element) ≡ Some (condition_name e.condition)
+  pub error : Elem
+  pub first : child_of client_ns (codes "error") tree ≡ Some error
+  pub kind : IsErrorKind (attr_named (codes "type") error) e.kind
+  pub condition : condition_in stanza_errors_ns (nodes_of error) ≡ Some (condition_name e.condition)
   pub plain : IsPlain e.condition
 
 -- there is no `error` child with a condition: the first one has none, or there is none

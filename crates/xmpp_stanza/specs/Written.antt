@@ -1,9 +1,10 @@
 -- The trees that stanzas are written as (RFC 6120 section 8.1).
-use Rattle.std.specs.Prelude.{ℕ, List, [], ◌∷◌, ◌++◌, ℤ, pos, Option, Some, None, codes, if◌then◌else◌}
+use Rattle.std.specs.Prelude.{◌≡◌, ℕ, List, [], ◌∷◌, ◌++◌, ℤ, pos, Option, Some, None, Ok, IfSome, codes, if◌then◌else◌}
 use Rattle.std.specs.Fmt.{signed_decimal}
 use Rattle.std.specs.Ordering.{int_eq}
 use Rattle.xmpp_framing.specs.Attributes.{Attribute}
 use Rattle.xmpp_framing.specs.Trees.{Elem, element, Nodes, no_nodes, child, text}
+use Rattle.xmpp_jid.specs.Normal.{normal}
 use Rattle.xmpp_stanza.specs.Kinds.{message_type, presence_type, iq_type}
 use Rattle.xmpp_stanza.specs.Names.{client_ns, xml_ns}
 use Rattle.xmpp_stanza.specs.Views.{MessageView, IqView}
@@ -41,3 +42,7 @@ presence_elem p = element client_ns (codes "presence") (attrs_written p.from Non
 -- An `iq`, with its id and `type` always.
 abbrev pub iq_elem : IqView → Elem
 iq_elem q = element client_ns (codes "iq") (attrs_written q.from (Some q.id) q.to (Some (iq_type q.kind)) None) q.payload
+
+-- Where there is an address, it is in normal form, as a `Jid` always is.
+abbrev pub IsNormal : Option (List ℕ) → Type 0
+IsNormal address = IfSome address (λ form. normal form ≡ Ok form)

@@ -16,7 +16,9 @@ mod writing;
 pub use conditions::Condition;
 pub use errors::{ErrorKind, StanzaError, StanzaErrorFault, error_element, stanza_error};
 pub use kinds::{IqKind, MessageKind, PresenceKind};
-pub use laws::stanzas_are_read_as_stated;
+pub use laws::{
+    errors_are_read_as_stated, stanzas_are_read_as_stated, written_errors_are_read_back, written_stanzas_are_read_back,
+};
 pub use names::{CLIENT, STANZA_ERRORS, STREAM_ERRORS, STREAMS, XML};
 pub use reading::read_stanza;
 pub use stanzas::{Iq, Message, Presence, Stanza, StanzaFault};
