@@ -4,3 +4,5 @@ pub mod Judged
 pub mod KindLemmas
 pub mod Priorities
 pub mod ReadingLaws
+pub mod WrittenAttrs
+pub mod WrittenLaws
