@@ -1,7 +1,7 @@
 ghost use Rattle.std.specs.Prelude.{◌≡◌, ◌≢◌, ◌↔◌, IfOk, IfErr, IsTrue, IsSome, Ok, Err};
 ghost use Rattle.std.specs.Option.{option_copied};
 ghost use Rattle.xmpp_jid.specs.Cuts.{bare_of, local_of, domain_of, resource_of};
-ghost use Rattle.xmpp_jid.specs.Normal.{normal};
+ghost use Rattle.xmpp_jid.specs.Normal.{IsAddress, normal};
 
 use crate::fault::JidFault;
 use crate::forms::{begin, end, push_domain, split_local, split_resource};
@@ -58,17 +58,19 @@ impl Jid {
         })
     }
 
-    /// The whole text. It is its own normal form.
+    /// The whole text. It is its own normal form, and each of its parts has the length and the bytes of one.
     pub fn text(&self) -> &str
         ensures text { result.now ≡ self.now }
         ensures normal { normal self.now ≡ Ok self.now }
+        ensures parts { IsAddress self.now }
     {
         self.text.as_str()
     }
 
-    /// The bare address: the text before its first `/`, or all of it where there is none.
+    /// The bare address: the text before its first `/`, or all of it where there is none. It is in normal form.
     pub fn bare(&self) -> &str
-        ensures { result.now ≡ bare_of self.now }
+        ensures bare { result.now ≡ bare_of self.now }
+        ensures normal { normal (bare_of self.now) ≡ Ok (bare_of self.now) }
     {
         let text = self.text.as_str();
         &text[..self.bare_end]
@@ -139,16 +141,20 @@ impl Copied for Jid {
 }
 
 impl PartialEq for Jid {
-    ghost use Rattle.std.specs.Prelude.{◌==◌};
+    ghost use Rattle.std.specs.Prelude.{◌≡◌, ◌↔◌, IsTrue};
     ghost use Rattle.std.proofs.lemmas.Cmp.{nat_list_eq_equiv};
     ghost use Rattle.std.specs.Cmp.{partial_equiv_from_equiv};
-    ghost use Rattle.std.specs.Cmp.Lexicographic.{pointwise};
+    ghost use Rattle.std.specs.Str.{bytes_eq};
 
-    ghost eq = { pointwise ◌==◌ };
+    ghost eq = { bytes_eq };
 
     ghost laws = { partial_equiv_from_equiv nat_list_eq_equiv };
 
-    fn eq(&self, other: &Jid) -> bool {
+    /// Whether the texts are equal.
+    fn eq(&self, other: &Jid) -> bool
+        ensures answer { result ≡ bytes_eq self.now other.now }
+        ensures same { IsTrue result ↔ (self.now ≡ other.now) }
+    {
         self.text() == other.text()
     }
 }
