@@ -2,4 +2,5 @@ pub mod AttributeOrder
 pub mod Folds
 pub mod RuleSteps
 pub mod TidyLaws
+pub mod TidyReads
 pub mod TidySteps

@@ -19,5 +19,5 @@ pub use attributes::{Attr, Attrs};
 pub use copying::copy_nodes;
 pub use elements::{Element, Node, Nodes};
 pub use laws::{first_attributes_are_kept, tidy_element_stays};
-pub use reading::{find_attr, find_child, text_in};
+pub use reading::{find_attr, find_child, only_text_in, text_in};
 pub use trees::Tree;

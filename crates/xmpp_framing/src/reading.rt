@@ -53,6 +53,15 @@ impl Element {
     {
         text_in(alloc, &self.children)
     }
+
+    /// The text directly in the element where it has at most one, without a copy: empty where it has none. `None` where
+    /// it has two or more.
+    pub fn only_text(&self) -> Option<&str>
+        ensures text { IfSome result (λ t. t.now ≡ text_of (nodes_of (elem_view self.now))) }
+        ensures more { IsNone result ↔ (2 ≤ text_count (nodes_of (elem_view self.now))) }
+    {
+        only_text_in(&self.children)
+    }
 }
 
 /// The first attribute with this namespace and name. `None` where there is none.
@@ -87,4 +96,25 @@ pub fn text_in(alloc: Global, nodes: &[Node]) -> Result<Text, NoMemory>
         }
     }
     Ok(Text::from(all))
+}
+
+/// The text directly among nodes where there is at most one, without a copy: empty where there is none. `None` where
+/// there are two or more.
+pub fn only_text_in(nodes: &[Node]) -> Option<&str>
+    ensures text { IfSome result (λ t. t.now ≡ text_of (nodes_view nodes.now)) }
+    ensures more { IsNone result ↔ (2 ≤ text_count (nodes_view nodes.now)) }
+{
+    let mut only = None;
+    for node in nodes {
+        if let Node::Text(text) = node {
+            if only.is_some() {
+                return None;
+            }
+            only = Some(text.as_str());
+        }
+    }
+    match only {
+        Some(text) => Some(text),
+        None => Some(""),
+    }
 }
