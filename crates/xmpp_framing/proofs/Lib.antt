@@ -4,3 +4,4 @@ pub mod RuleSteps
 pub mod TidyLaws
 pub mod TidyReads
 pub mod TidySteps
+mod Worked

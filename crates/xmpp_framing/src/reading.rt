@@ -1,7 +1,7 @@
-ghost use Rattle.std.specs.Prelude.{◌≡◌, ◌+◌, ◌≤◌, ◌↔◌, IsTrue, IsNone, IfOk, IfSome};
+ghost use Rattle.std.specs.Prelude.{◌≡◌, ◌<◌, ◌≤◌, ◌↔◌, [], ◌∷◌, length, IsTrue, IsNone, IfNone, IfOk, IfSome};
 ghost use Rattle.std.specs.Option.{option_copied, option_map};
 ghost use Rattle.xmpp_framing.specs.Attributes.{found, has_name};
-ghost use Rattle.xmpp_framing.specs.Readers.{attr_of, child_of, first_named, is_named, text_count, text_of};
+ghost use Rattle.xmpp_framing.specs.Readers.{attr_of, child_of, elements_of, first_named, is_named, text_count, text_of};
 ghost use Rattle.xmpp_framing.specs.Trees.{nodes_of, namespace_of, name_of};
 ghost use Rattle.xmpp_framing.specs.Views.{elem_view, nodes_view};
 
@@ -80,6 +80,21 @@ pub fn find_child<'a>(nodes: &'a [Node], ns: &str, name: &str) -> Option<&'a Ele
             && element.is(ns, name)
         {
             return Some(element);
+        }
+    }
+    None
+}
+
+/// The first element among nodes, and the nodes behind it. `None` where there is no element. Called again on the nodes
+/// behind, it goes over the elements in order.
+pub fn next_element(nodes: &[Node]) -> Option<(&Element, &[Node])>
+    ensures some { IfSome result (λ x. elements_of (nodes_view nodes.now) ≡ elem_view x.0.now ∷ elements_of (nodes_view x.1.now)) }
+    ensures shorter { IfSome result (λ x. length x.1.now < length nodes.now) }
+    ensures none { IfNone result (elements_of (nodes_view nodes.now) ≡ []) }
+{
+    for (i, node) in nodes.iter().enumerate() {
+        if let Node::Child(element) = node {
+            return Some((element, &nodes[i + 1..]));
         }
     }
     None
