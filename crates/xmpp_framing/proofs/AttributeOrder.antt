@@ -1,11 +1,12 @@
 -- Attributes in the order of their names.
-use Rattle.std.proofs.Common.{◌≡◌, ℕ, Bool, true, false, true≢false, cond, ◌&&◌, List, [], ◌∷◌, Option, Some, None, Ordering, Less, Equal, Greater, is_eq, is_lt, not, refl, sym, ap, ◌∙◌, subst, nat_cmp, bytes_eq, length, arith}
+use Rattle.std.proofs.Common.{◌≡◌, ℕ, Bool, true, false, true≢false, cond, ◌&&◌, List, [], ◌∷◌, Option, Some, None, IsSome, Ordering, Less, Equal, Greater, is_eq, is_lt, not, refl, sym, ap, ◌∙◌, subst, nat_cmp, bytes_eq, length, arith}
 use Rattle.std.proofs.lemmas.Cmp.{nat_list_cmp_total, on_total, then_total, tied_back, tied_itself}
 use Rattle.std.proofs.lemmas.List.Kept.{IsStrictlySortedBy-dedup}
 use Rattle.std.proofs.lemmas.Map.Text.{is_eq-slice_cmp}
 use Rattle.std.specs.Cmp.{IsTotalOrder, Equal-is}
 use Rattle.std.specs.Cmp.Lexicographic.{slice_cmp}
-use Rattle.std.specs.List.{AllByRecursion, dedup, dedup_from, filter, find}
+use Rattle.std.proofs.lemmas.List.Elements.{All-from_recursion}
+use Rattle.std.specs.List.{All, AllByRecursion, dedup, dedup_from, filter, find}
 use Rattle.std.specs.List.Sorted.{IsSorted, IsStable, IsStrictlySortedBy, ties}
 use Rattle.std.specs.Ordering.{eq_by_cmp, match_ordering, ordering_reverse, ordering_then}
 use Rattle.xmpp_framing.specs.Attributes.{Attribute, IsAttrsOf, found, has_name, name_order, put_attribute, sorted_attributes}
@@ -198,3 +199,49 @@ sorted_then_deduped given sorted up stable =
 pub nothing_left : {A : Type 0} (l : List A) → length l ≡ 0 → l ≡ []
 nothing_left [] h = refl
 nothing_left (x ∷ xs) h = absurd (omega arith)
+
+-- ---- attribute by attribute
+
+both_weaker : (P Q R : Attribute → Type 0) → ((a : Attribute) → P a → Q a → R a) → (xs : List Attribute) → AllByRecursion P xs → AllByRecursion Q xs → AllByRecursion R xs
+both_weaker P Q R h [] all more = tt
+both_weaker P Q R h (x ∷ xs) all more = (h x all.0 more.0, both_weaker P Q R h xs all.1 more.1)
+
+-- whoever stands above another has another name
+other_name : (x a : Attribute) → name_order x a ≡ Less → has_name a.ns a.name x ≡ false
+other_name x a below = by_test (has_name a.ns a.name x) (λ t. let same = one_name a.ns a.name x a t (own_name a) in cc) (λ f. f)
+
+own_first : (xs : List Attribute) → IsStrictlySortedBy name_order xs → AllByRecursion (λ a. found a.ns a.name xs ≡ Some a) xs
+unfolding IsStrictlySortedBy
+own_first [] up = tt
+own_first (x ∷ xs) up = (
+  found_head x.ns x.name x xs (own_name x),
+  both_weaker (λ a. name_order x a ≡ Less) (λ a. found a.ns a.name xs ≡ Some a) (λ a. found a.ns a.name (x ∷ xs) ≡ Some a)
+      (λ a below is. found_later a.ns a.name x xs (other_name x a below) ∙ is) xs up.0 (own_first xs up.1),
+)
+
+some_or : (b : Bool) (x : Attribute) (o : Option Attribute) → IsSome o → IsSome (cond b (Some x) o)
+some_or true x o h = refl
+some_or false x o h = h
+
+own_there : (xs : List Attribute) → AllByRecursion (λ a. IsSome (found a.ns a.name xs)) xs
+own_there [] = tt
+own_there (x ∷ xs) = (
+  rw (found_head x.ns x.name x xs (own_name x)) refl,
+  all_weaker (λ a. IsSome (found a.ns a.name xs)) (λ a. IsSome (found a.ns a.name (x ∷ xs))) (λ a h. some_or (has_name a.ns a.name x) x (found a.ns a.name xs) h) xs (own_there xs),
+)
+
+-- each attribute that is kept is the first of its name among those given
+pub kept_is_first : (given : List Attribute) → All (λ a. found a.ns a.name given ≡ Some a) (sorted_attributes given)
+kept_is_first given =
+    let is = sorted_attributes_IsAttrsOf given in
+    All-from_recursion (λ a. found a.ns a.name given ≡ Some a) (sorted_attributes given)
+    (all_weaker (λ a. found a.ns a.name (sorted_attributes given) ≡ Some a) (λ a. found a.ns a.name given ≡ Some a) (λ a h. sym (is.firsts a.ns a.name) ∙ h)
+    (sorted_attributes given) (own_first (sorted_attributes given) is.ascending))
+
+-- each name that was given is there
+pub given_is_there : (given : List Attribute) → All (λ a. IsSome (found a.ns a.name (sorted_attributes given))) given
+given_is_there given =
+    let is = sorted_attributes_IsAttrsOf given in
+    All-from_recursion (λ a. IsSome (found a.ns a.name (sorted_attributes given))) given
+    (all_weaker (λ a. IsSome (found a.ns a.name given)) (λ a. IsSome (found a.ns a.name (sorted_attributes given))) (λ a h. subst IsSome (sym (is.firsts a.ns a.name)) h)
+    given (own_there given))

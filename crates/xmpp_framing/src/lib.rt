@@ -18,6 +18,6 @@ mod trees;
 pub use attributes::{Attr, Attrs};
 pub use copying::copy_nodes;
 pub use elements::{Element, Node, Nodes};
-pub use laws::{first_attributes_are_kept, tidy_element_stays};
-pub use reading::{find_attr, find_child, text_in};
+pub use laws::{first_attributes_are_kept, tidy_element_reads_the_same, tidy_element_stays};
+pub use reading::{find_attr, find_child, next_element, only_text_in, text_in};
 pub use trees::Tree;

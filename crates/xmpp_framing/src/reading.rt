@@ -1,7 +1,7 @@
-ghost use Rattle.std.specs.Prelude.{◌≡◌, ◌+◌, ◌≤◌, ◌↔◌, IsTrue, IsNone, IfOk, IfSome};
+ghost use Rattle.std.specs.Prelude.{◌≡◌, ◌<◌, ◌≤◌, ◌↔◌, [], ◌∷◌, length, IsTrue, IsNone, IfNone, IfOk, IfSome};
 ghost use Rattle.std.specs.Option.{option_copied, option_map};
 ghost use Rattle.xmpp_framing.specs.Attributes.{found, has_name};
-ghost use Rattle.xmpp_framing.specs.Readers.{attr_of, child_of, first_named, is_named, text_count, text_of};
+ghost use Rattle.xmpp_framing.specs.Readers.{attr_of, child_of, elements_of, first_named, is_named, text_count, text_of};
 ghost use Rattle.xmpp_framing.specs.Trees.{nodes_of, namespace_of, name_of};
 ghost use Rattle.xmpp_framing.specs.Views.{elem_view, nodes_view};
 
@@ -53,6 +53,15 @@ impl Element {
     {
         text_in(alloc, &self.children)
     }
+
+    /// The text directly in the element where it has at most one, without a copy: empty where it has none. `None` where
+    /// it has two or more.
+    pub fn only_text(&self) -> Option<&str>
+        ensures text { IfSome result (λ t. t.now ≡ text_of (nodes_of (elem_view self.now))) }
+        ensures more { IsNone result ↔ (2 ≤ text_count (nodes_of (elem_view self.now))) }
+    {
+        only_text_in(&self.children)
+    }
 }
 
 /// The first attribute with this namespace and name. `None` where there is none.
@@ -76,6 +85,21 @@ pub fn find_child<'a>(nodes: &'a [Node], ns: &str, name: &str) -> Option<&'a Ele
     None
 }
 
+/// The first element among nodes, and the nodes behind it. `None` where there is no element. Called again on the nodes
+/// behind, it goes over the elements in order.
+pub fn next_element(nodes: &[Node]) -> Option<(&Element, &[Node])>
+    ensures some { IfSome result (λ x. elements_of (nodes_view nodes.now) ≡ elem_view x.0.now ∷ elements_of (nodes_view x.1.now)) }
+    ensures shorter { IfSome result (λ x. length x.1.now < length nodes.now) }
+    ensures none { IfNone result (elements_of (nodes_view nodes.now) ≡ []) }
+{
+    for (i, node) in nodes.iter().enumerate() {
+        if let Node::Child(element) = node {
+            return Some((element, &nodes[i + 1..]));
+        }
+    }
+    None
+}
+
 /// The texts directly among nodes, one behind the other. It takes memory for them.
 pub fn text_in(alloc: Global, nodes: &[Node]) -> Result<Text, NoMemory>
     ensures { IfOk result (λ t. t ≡ text_of (nodes_view nodes.now)) }
@@ -87,4 +111,25 @@ pub fn text_in(alloc: Global, nodes: &[Node]) -> Result<Text, NoMemory>
         }
     }
     Ok(Text::from(all))
+}
+
+/// The text directly among nodes where there is at most one, without a copy: empty where there is none. `None` where
+/// there are two or more.
+pub fn only_text_in(nodes: &[Node]) -> Option<&str>
+    ensures text { IfSome result (λ t. t.now ≡ text_of (nodes_view nodes.now)) }
+    ensures more { IsNone result ↔ (2 ≤ text_count (nodes_view nodes.now)) }
+{
+    let mut only = None;
+    for node in nodes {
+        if let Node::Text(text) = node {
+            if only.is_some() {
+                return None;
+            }
+            only = Some(text.as_str());
+        }
+    }
+    match only {
+        Some(text) => Some(text),
+        None => Some(""),
+    }
 }

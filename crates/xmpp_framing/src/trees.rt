@@ -1,5 +1,6 @@
-ghost use Rattle.std.specs.Prelude.{◌≡◌, IfOk};
+ghost use Rattle.std.specs.Prelude.{◌≡◌, IfOk, IsOk};
 ghost use Rattle.xmpp_framing.specs.Tidied.{tidied};
+ghost use Rattle.xmpp_framing.specs.Trees.{IsTree};
 ghost use Rattle.xmpp_framing.specs.Views.{elem_view};
 
 use crate::elements::Element;
@@ -39,7 +40,8 @@ impl Tree {
     /// Names, values and texts are moved. A text is copied only where it is joined with another. The stack used grows
     /// with the depth of the element. On want of memory the element is dropped.
     pub fn of(alloc: Global, mut element: Element) -> Result<Tree, NoMemory>
-        ensures { IfOk result (λ tree. tree ≡ tidied (elem_view element)) }
+        ensures tree { IfOk result (λ tree. tree ≡ tidied (elem_view element)) }
+        ensures stays { IsTree (elem_view element) → IsOk result }
     {
         if keeps_rule(&element) {
             return Ok(Tree { root: element });

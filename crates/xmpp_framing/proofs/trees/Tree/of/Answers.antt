@@ -5,8 +5,8 @@ use Rattle.xmpp_framing.specs.Trees.{IsTree}
 use Rattle.xmpp_framing.specs.Views.{elem_view}
 use Rattle.xmpp_framing.proofs.trees.Tree.of.Goals as goal
 
-pub returns-then-keeps_rule : goal.returns-then-keeps_rule
-returns-then-keeps_rule c =
+pub returns-then-keeps_rule-clause-tree : goal.returns-then-keeps_rule-clause-tree
+returns-then-keeps_rule-clause-tree c =
     let tree : IsTree (elem_view c.args.element) = search rules in
     sym (tidied_stays (elem_view c.args.element) tree)
 
