@@ -58,12 +58,12 @@ known_or_other (Other name) = inr (name, refl)
 pub plain_same : (c d : Condition) → IsPlain c → IsPlain d → condition_name c ≡ condition_name d → c ≡ d
 plain_same c d plain_c plain_d same =
     elim (known_or_other c) [
-      inl known ↦ sym (plain_d c known same)
-    | inr other ↦ elim (known_or_other d) [
-        inl known ↦ plain_c d known (sym same)
-      | inr others ↦
-        let names : other.0 ≡ others.0 = sym (ap condition_name other.1) ∙ same ∙ ap condition_name others.1 in
-        other.1 ∙ ap Other names ∙ sym others.1
+      | inl known ↦ sym (plain_d c known same)
+      | inr other ↦ elim (known_or_other d) [
+        | inl known ↦ plain_c d known (sym same)
+        | inr others ↦
+            let names : other.0 ≡ others.0 = sym (ap condition_name other.1) ∙ same ∙ ap condition_name others.1 in
+            other.1 ∙ ap Other names ∙ sym others.1
       ]
     ]
 
@@ -103,9 +103,10 @@ no_error_to tree None first none = refl
 no_error_to tree (Some e) first none = ap (error_with _) (none e first)
 
 pub no_error_law : (tree : Elem) → (stanza_error_of tree ≡ Err NoError) ↔ HasNoError tree
-no_error_law tree =
-    ( λ is e first. no_condition _ _ (ap error_in (sym first) ∙ is)
-    , no_error_to tree (child_of client_ns (codes "error") tree) refl )
+no_error_law tree = (
+  λ is e first. no_condition _ _ (ap error_in (sym first) ∙ is),
+  no_error_to tree (child_of client_ns (codes "error") tree) refl,
+)
 
 -- a name other than `text` names a condition
 unlike_text : (name : List ℕ) → name ≢ codes "text" → bytes_eq name (codes "text") ≡ false

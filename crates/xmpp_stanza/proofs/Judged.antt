@@ -24,8 +24,8 @@ named-Decides name e = Decides-and _ _ (bytes_eq-Decides (namespace_of e) client
 named : (name : List ℕ) (e : Elem) → (IsNamed name e × (is_named client_ns name e ≡ true)) ⊎ (¬ (IsNamed name e) × (is_named client_ns name e ≡ false))
 named name e =
     elim (cases_Bool (is_named client_ns name e)) [
-      inl t ↦ inl ((named-Decides name e).0 t, t)
-    | inr f ↦ inr ((λ p. let t = (named-Decides name e).1 p in cc), f)
+      | inl t ↦ inl ((named-Decides name e).0 t, t)
+      | inr f ↦ inr ((λ p. let t = (named-Decides name e).1 p in cc), f)
     ]
 
 -- no element has two names
@@ -64,12 +64,12 @@ at_none e h =
 pub which : (e : Elem) → IsNamed (codes "message") e ⊎ (IsNamed (codes "presence") e ⊎ (IsNamed (codes "iq") e ⊎ IsNoStanza e))
 which e =
     elim (named (codes "message") e) [
-      inl m ↦ inl m.0
-    | inr m ↦ elim (named (codes "presence") e) [
-        inl p ↦ inr (inl p.0)
-      | inr p ↦ elim (named (codes "iq") e) [
-          inl q ↦ inr (inr (inl q.0))
-        | inr q ↦ inr (inr (inr (record { message = m.0; presence = p.0; iq = q.0 })))
+      | inl m ↦ inl m.0
+      | inr m ↦ elim (named (codes "presence") e) [
+        | inl p ↦ inr (inl p.0)
+        | inr p ↦ elim (named (codes "iq") e) [
+          | inl q ↦ inr (inr (inl q.0))
+          | inr q ↦ inr (inr (inr (record { message = m.0; presence = p.0; iq = q.0 })))
         ]
       ]
     ]
@@ -97,18 +97,18 @@ error_type_given : (given : Option (List ℕ)) → message_kind given ≡ Error 
 error_type_given None h = absurd cc
 error_type_given (Some name) h =
     elim (message_reads.sound name) [
-      inl e ↦ ap Some (e ∙ ap message_type h)
-    | inr e ↦ absurd (let p : Error ≡ Normal = sym h ∙ e in cc)
+      | inl e ↦ ap Some (e ∙ ap message_type h)
+      | inr e ↦ absurd (let p : Error ≡ Normal = sym h ∙ e in cc)
     ]
 
 message_answered : (e : Elem) → IsNamed (codes "message") e → (answers_message (message_kind (attr_named (codes "type") e)) ≡ true) ↔ IsAnswered e
 message_answered e h =
-    let given = attr_named (codes "type") e in
-    ( λ t. inl (h, λ p. let f : answers_message (message_kind given) ≡ false = ap (λ v. answers_message (message_kind v)) p in let x = sym t ∙ f in cc)
-    , λ is. elim is [
-        inl m ↦ not_error (message_kind given) (λ k. m.1 (error_type_given given k))
-      | inr q ↦ absurd (not_both (codes "message") (codes "iq") refl e h q.0)
-      ]
+    let given = attr_named (codes "type") e in (
+      λ t. inl (h, λ p. let f : answers_message (message_kind given) ≡ false = ap (λ v. answers_message (message_kind v)) p in let x = sym t ∙ f in cc),
+      λ is. elim is [
+        | inl m ↦ not_error (message_kind given) (λ k. m.1 (error_type_given given k))
+        | inr q ↦ absurd (not_both (codes "message") (codes "iq") refl e h q.0)
+      ],
     )
 
 formed_message : (e : Elem) → IsNamed (codes "message") e → Formed e
@@ -130,10 +130,13 @@ formed_presence e h = record {
   reply = false;
   is = at_presence e h;
   message = (λ t. absurd cc, λ m. absurd (not_both (codes "message") (codes "presence") refl e m h));
-  answered = (λ t. absurd cc, λ is. elim is [
-    inl m ↦ absurd (not_both (codes "message") (codes "presence") refl e m.0 h)
-  | inr q ↦ absurd (not_both (codes "presence") (codes "iq") refl e h q.0)
-  ]);
+  answered = (
+    λ t. absurd cc,
+    λ is. elim is [
+      | inl m ↦ absurd (not_both (codes "message") (codes "presence") refl e m.0 h)
+      | inr q ↦ absurd (not_both (codes "presence") (codes "iq") refl e h q.0)
+    ],
+  );
   some = λ none. none.presence h;
   format = λ bad. not_both (codes "presence") (codes "iq") refl e h bad.named;
 }
@@ -152,15 +155,15 @@ iq_due iq.Error t = absurd cc
 iq_answered : (e : Elem) (kind : IqKind) → IsNamed (codes "iq") e → iq_kind (attr_named (codes "type") e) ≡ Some kind → (answers_iq kind ≡ true) ↔ IsAnswered e
 iq_answered e kind h has_kind =
     let given = attr_named (codes "type") e in
-    let is_given : given ≡ Some (iq_type kind) = iq_kind_is given kind has_kind in
-    ( λ t. inr (h, elim (iq_due kind t) [ inl k ↦ inl (is_given ∙ ap (λ x. Some (iq_type x)) k) | inr k ↦ inr (is_given ∙ ap (λ x. Some (iq_type x)) k) ])
-    , λ is. elim is [
-        inl m ↦ absurd (not_both (codes "message") (codes "iq") refl e m.0 h)
-      | inr q ↦ elim q.1 [
-          inl g ↦ let k : Some kind ≡ Some iq.Get = sym has_kind ∙ iq_kind_read given iq.Get g in let same : kind ≡ iq.Get = cc in ap answers_iq same
-        | inr g ↦ let k : Some kind ≡ Some iq.Set = sym has_kind ∙ iq_kind_read given iq.Set g in let same : kind ≡ iq.Set = cc in ap answers_iq same
+    let is_given : given ≡ Some (iq_type kind) = iq_kind_is given kind has_kind in (
+      λ t. inr (h, elim (iq_due kind t) [ inl k ↦ inl (is_given ∙ ap (λ x. Some (iq_type x)) k) | inr k ↦ inr (is_given ∙ ap (λ x. Some (iq_type x)) k) ]),
+      λ is. elim is [
+        | inl m ↦ absurd (not_both (codes "message") (codes "iq") refl e m.0 h)
+        | inr q ↦ elim q.1 [
+          | inl g ↦ let k : Some kind ≡ Some iq.Get = sym has_kind ∙ iq_kind_read given iq.Get g in let same : kind ≡ iq.Get = cc in ap answers_iq same
+          | inr g ↦ let k : Some kind ≡ Some iq.Set = sym has_kind ∙ iq_kind_read given iq.Set g in let same : kind ≡ iq.Set = cc in ap answers_iq same
         ]
-      ]
+      ],
     )
 
 formed_iq : (e : Elem) (id : List ℕ) (kind : IqKind) → IsNamed (codes "iq") e → attr_named (codes "id") e ≡ Some id → iq_kind (attr_named (codes "type") e) ≡ Some kind → Formed e
@@ -173,8 +176,8 @@ formed_iq e id kind h has_id has_kind = record {
   answered = iq_answered e kind h has_kind;
   some = λ none. none.iq h;
   format = λ bad. elim bad.lacks [
-    inl lacks ↦ let x = sym has_id ∙ lacks in cc
-  | inr other ↦ other kind (iq_kind_is (attr_named (codes "type") e) kind has_kind)
+    | inl lacks ↦ let x = sym has_id ∙ lacks in cc
+    | inr other ↦ other kind (iq_kind_is (attr_named (codes "type") e) kind has_kind)
   ];
 }
 
@@ -187,12 +190,13 @@ pub iq_cases : (e : Elem) → IsNamed (codes "iq") e
     → (IsBadFormat e × (stanza_of e ≡ Err BadFormat)) ⊎ ((id : List ℕ) × (kind : IqKind) × (attr_named (codes "id") e ≡ Some id) × (iq_kind (attr_named (codes "type") e) ≡ Some kind))
 iq_cases e h =
     elim (option_cases (attr_named (codes "id") e)) [
-      inl lacks ↦ inl (record { named = h; lacks = inl lacks }, at_iq e h ∙ ap (λ id. iq_with id (iq_kind (attr_named (codes "type") e)) e) lacks)
-    | inr id ↦ elim (option_cases (iq_kind (attr_named (codes "type") e))) [
-        inl other ↦ inl
-          ( record { named = h; lacks = inr (λ k p. let x = sym (iq_kind_read (attr_named (codes "type") e) k p) ∙ other in cc) }
-          , at_iq e h ∙ (λ i. iq_with (id.1 i) (other i) e) )
-      | inr kind ↦ inr (id.0, kind.0, id.1, kind.1)
+      | inl lacks ↦ inl (record { named = h; lacks = inl lacks }, at_iq e h ∙ ap (λ id. iq_with id (iq_kind (attr_named (codes "type") e)) e) lacks)
+      | inr id ↦ elim (option_cases (iq_kind (attr_named (codes "type") e))) [
+        | inl other ↦ inl (
+          record { named = h; lacks = inr (λ k p. let x = sym (iq_kind_read (attr_named (codes "type") e) k p) ∙ other in cc) },
+          at_iq e h ∙ (λ i. iq_with (id.1 i) (other i) e),
+        )
+        | inr kind ↦ inr (id.0, kind.0, id.1, kind.1)
       ]
     ]
 
@@ -202,12 +206,12 @@ judged_iq e h = elim (iq_cases e h) [ inl bad ↦ inl bad | inr q ↦ inr (forme
 pub judged : (e : Elem) → IsNoStanza e ⊎ ((IsBadFormat e × (stanza_of e ≡ Err BadFormat)) ⊎ Formed e)
 judged e =
     elim (which e) [
-      inl m ↦ inr (inr (formed_message e m))
-    | inr other ↦ elim other [
-        inl p ↦ inr (inr (formed_presence e p))
-      | inr rest ↦ elim rest [
-          inl q ↦ inr (judged_iq e q)
-        | inr none ↦ inl none
+      | inl m ↦ inr (inr (formed_message e m))
+      | inr other ↦ elim other [
+        | inl p ↦ inr (inr (formed_presence e p))
+        | inr rest ↦ elim rest [
+          | inl q ↦ inr (judged_iq e q)
+          | inr none ↦ inl none
         ]
       ]
     ]

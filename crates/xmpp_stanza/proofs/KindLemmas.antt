@@ -23,8 +23,8 @@ equal_bytes xs ys = (bytes_eq-Decides xs ys).1
 pub tell_apart : (xs ys : List ℕ) → (xs ≡ ys) ⊎ (xs ≢ ys)
 tell_apart xs ys =
     elim (cases_Bool (bytes_eq xs ys)) [
-      inl e ↦ inl (same_bytes xs ys e)
-    | inr e ↦ inr (λ p. let q = equal_bytes xs ys p in cc)
+      | inl e ↦ inl (same_bytes xs ys e)
+      | inr e ↦ inr (λ p. let q = equal_bytes xs ys p in cc)
     ]
 
 -- what a chain of tests reads of a name: a kind that it spells, or the one for all else
@@ -36,8 +36,8 @@ sound_if : {K : Type 0} (spelling : K → List ℕ) (else_kind : K) (name : List
     → (name ≡ spelling (cond (bytes_eq name (spelling k)) k more)) ⊎ (cond (bytes_eq name (spelling k)) k more ≡ else_kind)
 sound_if spelling else_kind name k more rest =
     elim (cases_Bool (bytes_eq name (spelling k))) as (λ _. (name ≡ spelling (cond (bytes_eq name (spelling k)) k more)) ⊎ (cond (bytes_eq name (spelling k)) k more ≡ else_kind)) [
-      inl e ↦ rw e (inl (same_bytes name (spelling k) e))
-    | inr e ↦ rw e rest
+      | inl e ↦ rw e (inl (same_bytes name (spelling k) e))
+      | inr e ↦ rw e rest
     ]
 
 -- the kind that is read is the one that a `type` tells, and no other is
@@ -60,10 +60,10 @@ pub kind_unique : {K : Type 0} (spelling : K → List ℕ) (else_kind : K) (name
     → IsKindOf spelling else_kind (Some name) kind → kind ≡ named name
 kind_unique spelling else_kind named reads name kind is =
     elim (tell_apart name (spelling (named name))) [
-      inl e ↦ is.known (named name) (ap Some e)
-    | inr e ↦
-      let none : (k : _) → Some name ≢ Some (spelling k) = λ k p. let same : name ≡ spelling k = cc in e (same ∙ ap spelling (sym (ap named same ∙ reads.again k))) in
-      is.unknown none ∙ sym ((kind_is spelling else_kind named reads name).unknown none)
+      | inl e ↦ is.known (named name) (ap Some e)
+      | inr e ↦
+          let none : (k : _) → Some name ≢ Some (spelling k) = λ k p. let same : name ≡ spelling k = cc in e (same ∙ ap spelling (sym (ap named same ∙ reads.again k))) in
+          is.unknown none ∙ sym ((kind_is spelling else_kind named reads name).unknown none)
     ]
 
 pub no_kind_unique : {K : Type 0} (spelling : K → List ℕ) (else_kind kind : K) → IsKindOf spelling else_kind None kind → kind ≡ else_kind
@@ -124,11 +124,11 @@ pub presence_kind_unique : (given : Option (List ℕ)) (kind : PresenceKind) →
 presence_kind_unique None kind is = is.available refl
 presence_kind_unique (Some name) kind is =
     elim (tell_apart name (codes "unavailable")) [
-      inl e ↦ is.unavailable (ap Some e) ∙ sym ((presence_kind_is (Some name)).unavailable (ap Some e))
-    | inr e ↦
-      let some : Some name ≢ None = λ p. cc in
-      let other : Some name ≢ Some (codes "unavailable") = λ p. e cc in
-      is.other some other ∙ sym ((presence_kind_is (Some name)).other some other)
+      | inl e ↦ is.unavailable (ap Some e) ∙ sym ((presence_kind_is (Some name)).unavailable (ap Some e))
+      | inr e ↦
+          let some : Some name ≢ None = λ p. cc in
+          let other : Some name ≢ Some (codes "unavailable") = λ p. e cc in
+          is.other some other ∙ sym ((presence_kind_is (Some name)).other some other)
     ]
 
 iq_again : (k : IqKind) → iq_kind_named (iq_type k) ≡ Some k
@@ -140,8 +140,8 @@ iq_again iq.Error = refl
 only_if : (name : List ℕ) (k j : IqKind) (more : Option IqKind) → (more ≡ Some j → name ≡ iq_type j) → cond (bytes_eq name (iq_type k)) (Some k) more ≡ Some j → name ≡ iq_type j
 only_if name k j more rest is =
     elim (cases_Bool (bytes_eq name (iq_type k))) [
-      inl e ↦ let at = rw e at is in let same : k ≡ j = cc in same_bytes name (iq_type k) e ∙ ap iq_type same
-    | inr e ↦ rest (rw e at is)
+      | inl e ↦ let at = rw e at is in let same : k ≡ j = cc in same_bytes name (iq_type k) e ∙ ap iq_type same
+      | inr e ↦ rest (rw e at is)
     ]
 
 iq_sound : (name : List ℕ) (j : IqKind) → iq_kind_named name ≡ Some j → name ≡ iq_type j

@@ -6,3 +6,4 @@ pub mod Priorities
 pub mod ReadingLaws
 pub mod WrittenAttrs
 pub mod WrittenLaws
+mod Worked

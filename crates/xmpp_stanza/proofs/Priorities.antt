@@ -24,8 +24,8 @@ is_number most ds h = let a = h.0 in let b = h.1 in let d = h.2 in grind (arith,
 is_no_number : (most : ℕ) (ds : List ℕ) → ¬ (IsNumberTo most ds) → is_number_to most ds ≡ false
 is_no_number most ds h =
     elim (cases_Bool (is_number_to most ds)) [
-      inl e ↦ absurd (h (grind (arith, nat_tests), grind (arith, nat_tests), grind (arith, nat_tests)))
-    | inr e ↦ e
+      | inl e ↦ absurd (h (grind (arith, nat_tests), grind (arith, nat_tests), grind (arith, nat_tests)))
+      | inr e ↦ e
     ]
 
 not_minus : (bs : List ℕ) → get_or bs 0 0 ≢ 45 → starts_with_minus bs ≡ false
@@ -43,8 +43,8 @@ less ds v (Err e) h = λ n. h (n.0, n.1, omega (arith, n.2))
 pub parsed : {E : Type 0} (bs : List ℕ) (r : Result ℤ E) → get_or bs 0 0 ≢ 43 → ParsesSigned w8 10 bs r → result_unwrap_or r (pos 0) ≡ priority_of bs
 parsed bs r plus h =
     elim (cases_Bool (starts_with_minus bs)) [
-      inl e ↦ rw e (chosen 128 (drop 1 bs) _ r (parse_signed_minus own w8 bs r h (eqb-true (get_or bs 0 0) 45 e)))
-    | inr e ↦ rw e (chosen 127 bs _ r (less bs _ r (parse_signed_plain own w8 bs r h plus (λ m. both_ways (starts_with_minus bs) e (eq-eqb (get_or bs 0 0) 45 m))))) 
+      | inl e ↦ rw e (chosen 128 (drop 1 bs) _ r (parse_signed_minus own w8 bs r h (eqb-true (get_or bs 0 0) 45 e)))
+      | inr e ↦ rw e (chosen 127 bs _ r (less bs _ r (parse_signed_plain own w8 bs r h plus (λ m. both_ways (starts_with_minus bs) e (eq-eqb (get_or bs 0 0) 45 m)))))
     ]
 
 pub parsed_fits : {E : Type 0} (bs : List ℕ) (r : Result ℤ E) (n : ℤ) → r ≡ Ok n → ParsesSigned w8 10 bs r → FitsSigned w8 n

@@ -45,8 +45,8 @@ no_stanza_so e make r s is other p = let w = with_ok make r s (sym is ∙ p) in 
 not_iq : (e : Elem) (s : Stanza) → IsNamed (codes "iq") e → ((q : IqView) → Iq q ≢ s) → stanza_of e ≢ Ok s
 not_iq e s h other p =
     elim (iq_cases e h) [
-      inl bad ↦ let x = sym bad.1 ∙ p in cc
-    | inr q ↦ no_stanza_so e _ _ s (at_formed_iq e q.0 q.1 h q.2 q.3) (λ both. other _) p
+      | inl bad ↦ let x = sym bad.1 ∙ p in cc
+      | inr q ↦ no_stanza_so e _ _ s (at_formed_iq e q.0 q.1 h q.2 q.3) (λ both. other _) p
     ]
 
 not_none : (e : Elem) (s : Stanza) → IsNoStanza e → stanza_of e ≢ Ok s
@@ -56,30 +56,30 @@ not_none e s none p = let x = sym (at_none e none) ∙ p in cc
 message_named : (e : Elem) (m : MessageView) → stanza_of e ≡ Ok (Message m) → IsNamed (codes "message") e
 message_named e m p =
     elim (which e) [
-      inl named ↦ named
-    | inr other ↦ elim other [
-        inl q ↦ absurd (no_stanza_so e _ _ (Message m) (at_presence e q) (λ both x. cc) p)
-      | inr rest ↦ elim rest [ inl q ↦ absurd (not_iq e (Message m) q (λ v x. cc) p) | inr none ↦ absurd (not_none e (Message m) none p) ]
+      | inl named ↦ named
+      | inr other ↦ elim other [
+        | inl q ↦ absurd (no_stanza_so e _ _ (Message m) (at_presence e q) (λ both x. cc) p)
+        | inr rest ↦ elim rest [ inl q ↦ absurd (not_iq e (Message m) q (λ v x. cc) p) | inr none ↦ absurd (not_none e (Message m) none p) ]
       ]
     ]
 
 presence_named : (e : Elem) (v : PresenceView) → stanza_of e ≡ Ok (Presence v) → IsNamed (codes "presence") e
 presence_named e v p =
     elim (which e) [
-      inl q ↦ absurd (no_stanza_so e _ _ (Presence v) (at_message e q) (λ both x. cc) p)
-    | inr other ↦ elim other [
-        inl named ↦ named
-      | inr rest ↦ elim rest [ inl q ↦ absurd (not_iq e (Presence v) q (λ w x. cc) p) | inr none ↦ absurd (not_none e (Presence v) none p) ]
+      | inl q ↦ absurd (no_stanza_so e _ _ (Presence v) (at_message e q) (λ both x. cc) p)
+      | inr other ↦ elim other [
+        | inl named ↦ named
+        | inr rest ↦ elim rest [ inl q ↦ absurd (not_iq e (Presence v) q (λ w x. cc) p) | inr none ↦ absurd (not_none e (Presence v) none p) ]
       ]
     ]
 
 iq_named : (e : Elem) (v : IqView) → stanza_of e ≡ Ok (Iq v) → IsNamed (codes "iq") e
 iq_named e v p =
     elim (which e) [
-      inl q ↦ absurd (no_stanza_so e _ _ (Iq v) (at_message e q) (λ both x. cc) p)
-    | inr other ↦ elim other [
-        inl q ↦ absurd (no_stanza_so e _ _ (Iq v) (at_presence e q) (λ both x. cc) p)
-      | inr rest ↦ elim rest [ inl named ↦ named | inr none ↦ absurd (not_none e (Iq v) none p) ]
+      | inl q ↦ absurd (no_stanza_so e _ _ (Iq v) (at_message e q) (λ both x. cc) p)
+      | inr other ↦ elim other [
+        | inl q ↦ absurd (no_stanza_so e _ _ (Iq v) (at_presence e q) (λ both x. cc) p)
+        | inr rest ↦ elim rest [ inl named ↦ named | inr none ↦ absurd (not_none e (Iq v) none p) ]
       ]
     ]
 
@@ -132,12 +132,12 @@ iq_from : (e : Elem) (v : IqView) → stanza_of e ≡ Ok (Iq v) → IsIq e v
 iq_from e v p =
     let named = iq_named e v p in
     elim (iq_cases e named) [
-      inl bad ↦ absurd (let x = sym bad.1 ∙ p in cc)
-    | inr q ↦
-      let w = with_ok _ _ (Iq v) (sym (at_formed_iq e q.0 q.1 named q.2 q.3) ∙ p) in
-      let are = addresses_are false _ e w.0 w.1 in
-      let is = w.2 in
-      iq_built e w.0 q.0 q.1 v named are.0 are.1 q.2 (iq_kind_is (type_attr e) q.1 q.3) cc
+      | inl bad ↦ absurd (let x = sym bad.1 ∙ p in cc)
+      | inr q ↦
+          let w = with_ok _ _ (Iq v) (sym (at_formed_iq e q.0 q.1 named q.2 q.3) ∙ p) in
+          let are = addresses_are false _ e w.0 w.1 in
+          let is = w.2 in
+          iq_built e w.0 q.0 q.1 v named are.0 are.1 q.2 (iq_kind_is (type_attr e) q.1 q.3) cc
     ]
 
 iq_to : (e : Elem) (v : IqView) → IsIq e v → stanza_of e ≡ Ok (Iq v)
@@ -153,25 +153,25 @@ refused_formed : (e : Elem) (f : Formed e) (why : StanzaFault) → stanza_of e �
     → (IsBadAddress (from_attr e) × (why ≡ BadFrom)) ⊎ (¬ (IsBadAddress (from_attr e)) × IsBadAddress (to_attr e) × (why ≡ BadTo f.is_message f.reply (id_or_empty e) (unwrap_or (to_attr e) [])))
 refused_formed e f why p =
     elim (both_err (address_of (from_attr e)) (address_of (to_attr e)) _ why (with_err f.stanza _ why (sym f.is ∙ p))) [
-      inl bad ↦ inl (bad_is (from_attr e) bad.0 bad.1, bad.2)
-    | inr bad ↦ inr ((λ b. let x = sym bad.2 ∙ bad_read (from_attr e) b in cc), bad_is (to_attr e) bad.1 bad.3, bad.4)
+      | inl bad ↦ inl (bad_is (from_attr e) bad.0 bad.1, bad.2)
+      | inr bad ↦ inr ((λ b. let x = sym bad.2 ∙ bad_read (from_attr e) b in cc), bad_is (to_attr e) bad.1 bad.3, bad.4)
     ]
 
 bad_format_from : (e : Elem) → stanza_of e ≡ Err BadFormat → IsBadFormat e
 bad_format_from e p =
     elim (judged e) [
-      inl none ↦ absurd (let x = sym (at_none e none) ∙ p in cc)
-    | inr other ↦ elim other [
-        inl bad ↦ bad.0
-      | inr f ↦ absurd (elim (refused_formed e f BadFormat p) [ inl x ↦ let y = x.1 in cc | inr x ↦ let y = x.2 in cc ])
+      | inl none ↦ absurd (let x = sym (at_none e none) ∙ p in cc)
+      | inr other ↦ elim other [
+        | inl bad ↦ bad.0
+        | inr f ↦ absurd (elim (refused_formed e f BadFormat p) [ inl x ↦ let y = x.1 in cc | inr x ↦ let y = x.2 in cc ])
       ]
     ]
 
 bad_format_to : (e : Elem) → IsBadFormat e → stanza_of e ≡ Err BadFormat
 bad_format_to e bad =
     elim (judged e) [
-      inl none ↦ absurd (none.iq bad.named)
-    | inr other ↦ elim other [ inl is ↦ is.1 | inr f ↦ absurd (f.format bad) ]
+      | inl none ↦ absurd (none.iq bad.named)
+      | inr other ↦ elim other [ inl is ↦ is.1 | inr f ↦ absurd (f.format bad) ]
     ]
 
 pub bad_format_law : (e : Elem) → (stanza_of e ≡ Err BadFormat) ↔ IsBadFormat e
@@ -180,12 +180,12 @@ bad_format_law e = (bad_format_from e, bad_format_to e)
 bad_from_from : (e : Elem) → stanza_of e ≡ Err BadFrom → IsBadFrom e
 bad_from_from e p =
     elim (judged e) [
-      inl none ↦ absurd (let x = sym (at_none e none) ∙ p in cc)
-    | inr other ↦ elim other [
-        inl bad ↦ absurd (let x = sym bad.1 ∙ p in cc)
-      | inr f ↦ elim (refused_formed e f BadFrom p) [
-          inl x ↦ record { stanza = f.some; format = f.format; bad = x.0 }
-        | inr x ↦ absurd (let y = x.2 in cc)
+      | inl none ↦ absurd (let x = sym (at_none e none) ∙ p in cc)
+      | inr other ↦ elim other [
+        | inl bad ↦ absurd (let x = sym bad.1 ∙ p in cc)
+        | inr f ↦ elim (refused_formed e f BadFrom p) [
+          | inl x ↦ record { stanza = f.some; format = f.format; bad = x.0 }
+          | inr x ↦ absurd (let y = x.2 in cc)
         ]
       ]
     ]
@@ -193,10 +193,10 @@ bad_from_from e p =
 bad_from_to : (e : Elem) → IsBadFrom e → stanza_of e ≡ Err BadFrom
 bad_from_to e is =
     elim (judged e) [
-      inl none ↦ absurd (is.stanza none)
-    | inr other ↦ elim other [
-        inl bad ↦ absurd (is.format bad.0)
-      | inr f ↦ f.is ∙ ap (λ from. with_addresses f.stanza (both_addresses from (address_of (to_attr e)) (BadTo f.is_message f.reply (id_or_empty e) (unwrap_or (to_attr e) [])))) (bad_read (from_attr e) is.bad)
+      | inl none ↦ absurd (is.stanza none)
+      | inr other ↦ elim other [
+        | inl bad ↦ absurd (is.format bad.0)
+        | inr f ↦ f.is ∙ ap (λ from. with_addresses f.stanza (both_addresses from (address_of (to_attr e)) (BadTo f.is_message f.reply (id_or_empty e) (unwrap_or (to_attr e) [])))) (bad_read (from_attr e) is.bad)
       ]
     ]
 
@@ -221,18 +221,18 @@ bad_to_formed e f from bad = record {
 bad_to_from : (e : Elem) (message reply : Bool) (id to : List ℕ) → stanza_of e ≡ Err (BadTo message reply id to) → IsBadTo e message reply id to
 bad_to_from e message reply id to p =
     elim (judged e) [
-      inl none ↦ absurd (let x = sym (at_none e none) ∙ p in cc)
-    | inr other ↦ elim other [
-        inl bad ↦ absurd (let x = sym bad.1 ∙ p in cc)
-      | inr f ↦ elim (refused_formed e f (BadTo message reply id to) p) [
-          inl x ↦ absurd (let y = x.1 in cc)
-        | inr x ↦
-          let y = x.2 in
-          let a : message ≡ f.is_message = cc in
-          let b : reply ≡ f.reply = cc in
-          let d : id ≡ id_or_empty e = cc in
-          let g : to ≡ unwrap_or (to_attr e) [] = cc in
-          rw (a, b, d, g) (bad_to_formed e f x.0 x.1)
+      | inl none ↦ absurd (let x = sym (at_none e none) ∙ p in cc)
+      | inr other ↦ elim other [
+        | inl bad ↦ absurd (let x = sym bad.1 ∙ p in cc)
+        | inr f ↦ elim (refused_formed e f (BadTo message reply id to) p) [
+          | inl x ↦ absurd (let y = x.1 in cc)
+          | inr x ↦
+              let y = x.2 in
+              let a : message ≡ f.is_message = cc in
+              let b : reply ≡ f.reply = cc in
+              let d : id ≡ id_or_empty e = cc in
+              let g : to ≡ unwrap_or (to_attr e) [] = cc in
+              rw (a, b, d, g) (bad_to_formed e f x.0 x.1)
         ]
       ]
     ]
@@ -244,15 +244,15 @@ readable value good = elim (address_cases (address_of value)) [ inl a ↦ a | in
 bad_to_to : (e : Elem) (message reply : Bool) (id to : List ℕ) → IsBadTo e message reply id to → stanza_of e ≡ Err (BadTo message reply id to)
 bad_to_to e message reply id to is =
     elim (judged e) [
-      inl none ↦ absurd (is.stanza none)
-    | inr other ↦ elim other [
-        inl bad ↦ absurd (is.format bad.0)
-      | inr f ↦
-        let from = readable (from_attr e) is.from in
-        let a : f.is_message ≡ message = same_from_decides f.is_message message f.message is.message in
-        let b : f.reply ≡ reply = same_from_decides f.reply reply f.answered is.answered in
-        let g : unwrap_or (to_attr e) [] ≡ to = ap (λ t. unwrap_or t []) is.written in
-        f.is ∙ (λ i. with_addresses f.stanza (both_addresses (from.1 i) (bad_read (to_attr e) is.bad i) (BadTo (a i) (b i) (sym is.the_id i) (g i))))
+      | inl none ↦ absurd (is.stanza none)
+      | inr other ↦ elim other [
+        | inl bad ↦ absurd (is.format bad.0)
+        | inr f ↦
+            let from = readable (from_attr e) is.from in
+            let a : f.is_message ≡ message = same_from_decides f.is_message message f.message is.message in
+            let b : f.reply ≡ reply = same_from_decides f.reply reply f.answered is.answered in
+            let g : unwrap_or (to_attr e) [] ≡ to = ap (λ t. unwrap_or t []) is.written in
+            f.is ∙ (λ i. with_addresses f.stanza (both_addresses (from.1 i) (bad_read (to_attr e) is.bad i) (BadTo (a i) (b i) (sym is.the_id i) (g i))))
       ]
     ]
 

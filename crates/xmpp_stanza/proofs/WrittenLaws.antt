@@ -99,15 +99,15 @@ text_again (c ∷ cs) = append-nil (c ∷ cs)
 priority_again : (n : ℤ) → FitsSigned w8 n → n ≡ priority_in (first_named client_ns (codes "priority") (tidied_nodes (priority_nodes n)))
 priority_again n fits =
     elim (cases_Bool (int_eq n (pos 0))) [
-      inl e ↦ rw e ((Decides-int_eq n (pos 0)).0 e)
-    | inr e ↦ rw e (sym (ap priority_of (text_again (signed_decimal n)) ∙ printed n fits))
+      | inl e ↦ rw e ((Decides-int_eq n (pos 0)).0 e)
+      | inr e ↦ rw e (sym (ap priority_of (text_again (signed_decimal n)) ∙ printed n fits))
     ]
 
 priority_stays : (n : ℤ) → FitsSigned w8 n → tidied_nodes (priority_nodes n) ≡ priority_nodes n
 priority_stays n fits =
     elim (cases_Bool (int_eq n (pos 0))) [
-      inl e ↦ rw e refl
-    | inr e ↦ rw e (ap (λ t. child (element client_ns (codes "priority") [] t) no_nodes) (text_node_some (signed_decimal n) (printed_some n fits)))
+      | inl e ↦ rw e refl
+      | inr e ↦ rw e (ap (λ t. child (element client_ns (codes "priority") [] t) no_nodes) (text_node_some (signed_decimal n) (printed_some n fits)))
     ]
 
 presence_kind_again : (k : PresenceKind) → IsPresenceKind (presence_type k) k

@@ -72,7 +72,9 @@ pub fn condition_in<'a>(nodes: &'a [Node], ns: &str) -> Option<&'a str>
     ensures { option_copied result ≡ condition_in ns.now (nodes_view nodes.now) }
 {
     for node in nodes {
-        if let Node::Child(element) = node && is_condition(element, ns) {
+        if let Node::Child(element) = node
+            && is_condition(element, ns)
+        {
             return Some(element.name.as_str());
         }
     }

@@ -20,7 +20,13 @@ pub fn empty_element(alloc: Global, ns: &str, name: &str) -> Result<Element, NoM
 }
 
 /// An element of these parts.
-pub fn whole_element(alloc: Global, ns: &str, name: &str, attrs: Attrs, children: Nodes) -> Result<Element, NoMemory>
+pub fn whole_element(
+    alloc: Global,
+    ns: &str,
+    name: &str,
+    attrs: Attrs,
+    children: Nodes,
+) -> Result<Element, NoMemory>
     ensures { IfOk result (λ e. elem_view e ≡ element ns.now name.now attrs.items (nodes_view children.items)) }
 {
     Ok(Element {
@@ -43,7 +49,13 @@ pub fn attr(alloc: Global, ns: &str, name: &str, value: &str) -> Result<Attr, No
 }
 
 // Adds an attribute where it has a value.
-fn push_where(alloc: Global, attrs: &mut Attrs, ns: &str, name: &str, value: Option<&str>) -> Result<(), NoMemory>
+fn push_where(
+    alloc: Global,
+    attrs: &mut Attrs,
+    ns: &str,
+    name: &str,
+    value: Option<&str>,
+) -> Result<(), NoMemory>
     ensures { OnOk result (attrs.new.items ≡ attrs.old.items ++ attr_where ns.now name.now (option_copied value.entry)) }
 {
     match value {

@@ -11,7 +11,6 @@ ghost use Rattle.xmpp_stanza.specs.Stanzas.{IsBadFormat, IsBadFrom, IsBadTo, IsI
 ghost use Rattle.xmpp_stanza.specs.Views.{IqView, MessageView};
 ghost use Rattle.xmpp_stanza.specs.declared.errors.StanzaError.{StanzaError};
 ghost use Rattle.xmpp_stanza.specs.declared.stanzas.Presence.{Presence};
-
 ghost use Rattle.xmpp_stanza.specs.Written.{IsNormal, iq_elem, message_elem, presence_elem};
 
 use crate::errors::StanzaErrorFault;

@@ -11,13 +11,16 @@ mod names;
 mod reading;
 mod stanzas;
 mod streams;
+#[cfg(test)]
+mod tests;
 mod writing;
 
 pub use conditions::Condition;
 pub use errors::{ErrorKind, StanzaError, StanzaErrorFault, error_element, stanza_error};
 pub use kinds::{IqKind, MessageKind, PresenceKind};
 pub use laws::{
-    errors_are_read_as_stated, stanzas_are_read_as_stated, written_errors_are_read_back, written_stanzas_are_read_back,
+    errors_are_read_as_stated, stanzas_are_read_as_stated, written_errors_are_read_back,
+    written_stanzas_are_read_back,
 };
 pub use names::{CLIENT, STANZA_ERRORS, STREAM_ERRORS, STREAMS, XML};
 pub use reading::read_stanza;

@@ -85,7 +85,12 @@ fn read_iq(alloc: Global, e: &Element) -> Result<Stanza, StanzaFault>
 }
 
 // The addresses of a stanza, `from` before `to`. The flags are what a bad `to` tells.
-fn addresses(alloc: Global, e: &Element, message: bool, reply: bool) -> Result<(Option<Jid>, Option<Jid>), StanzaFault>
+fn addresses(
+    alloc: Global,
+    e: &Element,
+    message: bool,
+    reply: bool,
+) -> Result<(Option<Jid>, Option<Jid>), StanzaFault>
     ensures { Answers result (addresses_of message reply (elem_view e.now)) }
 {
     let from = match address(alloc, e.attr("", "from")) {

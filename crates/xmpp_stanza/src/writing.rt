@@ -1,13 +1,14 @@
 // Stanzas written as trees.
-ghost use Rattle.std.specs.Prelude.{◌≡◌, IfOk};
+ghost use Rattle.std.specs.Prelude.{◌≡◌, Ok, IfOk};
 ghost use Rattle.std.specs.Option.{option_copied};
-ghost use Rattle.xmpp_framing.specs.Tidied.{tidied};
+ghost use Rattle.xmpp_framing.specs.Tidied.{tidied, tidied_nodes};
 ghost use Rattle.xmpp_framing.specs.Views.{nodes_view};
-ghost use Rattle.xmpp_stanza.specs.Written.{iq_elem, message_elem, presence_elem, priority_nodes};
+ghost use Rattle.xmpp_stanza.specs.Readings.{stanza_of};
+ghost use Rattle.xmpp_stanza.specs.Written.{IsNormal, iq_elem, message_elem, presence_elem, priority_nodes};
 
 use crate::elements::{StanzaAttrs, empty_element, stanza_attrs, unless_empty, whole_element};
 use crate::names::CLIENT;
-use crate::stanzas::{Iq, Message, Presence};
+use crate::stanzas::{Iq, Message, Presence, Stanza};
 use std::alloc::Global;
 use xmpp_edge::{NoMemory, Text};
 use xmpp_framing::{Node, Nodes, Tree, copy_nodes};
@@ -16,8 +17,10 @@ use xmpp_jid::Jid;
 /// A message as a tree. `type` is always written, `normal` included; `id` and `xml:lang` are where they aren't empty. The
 /// payload is copied, and stands as it is where it is tidy. `written_stanzas_are_read_back` says that the tree is read
 /// back as the message.
+#[tactic(auto, using(crate::proofs::WrittenLaws::message_tidied))]
 pub fn message_tree(alloc: Global, m: &Message) -> Result<Tree, NoMemory>
-    ensures { IfOk result (λ tree. tree ≡ tidied (message_elem m.now)) }
+    ensures tree { IfOk result (λ tree. tree ≡ tidied (message_elem m.now)) }
+    ensures read { IfOk result (λ tree. stanza_of tree ≡ Ok (Stanza.Message (record m.now { payload = tidied_nodes m.now.payload }))) }
 {
     let attrs = stanza_attrs(
         alloc,
@@ -30,7 +33,10 @@ pub fn message_tree(alloc: Global, m: &Message) -> Result<Tree, NoMemory>
         },
     )?;
     let payload = copy_nodes(alloc, m.payload.as_slice())?;
-    Tree::of(alloc, whole_element(alloc, CLIENT, "message", attrs, payload)?)
+    Tree::of(
+        alloc,
+        whole_element(alloc, CLIENT, "message", attrs, payload)?,
+    )
 }
 
 /// A presence as a tree. Without a `type` its sender is available; `Other` is written as `error`, which asks nothing of
@@ -49,7 +55,10 @@ pub fn presence_tree(alloc: Global, p: &Presence) -> Result<Tree, NoMemory>
         },
     )?;
     let children = priority_nodes(alloc, p.priority)?;
-    Tree::of(alloc, whole_element(alloc, CLIENT, "presence", attrs, children)?)
+    Tree::of(
+        alloc,
+        whole_element(alloc, CLIENT, "presence", attrs, children)?,
+    )
 }
 
 /// An `iq` as a tree. `id` and `type` are always written. The payload is copied, and stands as it is where it is tidy.
@@ -72,7 +81,8 @@ pub fn iq_tree(alloc: Global, q: &Iq) -> Result<Tree, NoMemory>
 
 // The text of an address, where there is one.
 fn address_text(address: &Option<Jid>) -> Option<&str>
-    ensures { option_copied result ≡ address.now }
+    ensures text { option_copied result ≡ address.now }
+    ensures normal { IsNormal address.now }
 {
     match address {
         None => None,
