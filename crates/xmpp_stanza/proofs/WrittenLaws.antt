@@ -131,5 +131,8 @@ module _ (p : PresenceView) where
   pub presence_stays : FitsSigned w8 p.priority → tidied (presence_elem p) ≡ presence_elem p
   presence_stays fits = λ i. element client_ns (codes "presence") (attrs_stay p.from None p.to (presence_type p.kind) None i) (priority_stays p.priority fits i)
 
+  pub presence_tidied : IsNormal p.from → IsNormal p.to → FitsSigned w8 p.priority → stanza_of (tidied (presence_elem p)) ≡ Ok (Presence p)
+  presence_tidied from to fits = (presence_law _ _).1 (presence_is from to fits)
+
   pub presence_read : IsNormal p.from → IsNormal p.to → FitsSigned w8 p.priority → stanza_of (presence_elem p) ≡ Ok (Presence p)
-  presence_read from to fits = sym (ap stanza_of (presence_stays fits)) ∙ (presence_law _ _).1 (presence_is from to fits)
+  presence_read from to fits = sym (ap stanza_of (presence_stays fits)) ∙ presence_tidied from to fits

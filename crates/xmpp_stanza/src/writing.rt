@@ -1,8 +1,9 @@
 // Stanzas written as trees.
-ghost use Rattle.std.specs.Prelude.{◌≡◌, Ok, IfOk};
+ghost use Rattle.std.specs.Prelude.{◌≡◌, Ok, IfOk, FitsSigned};
+ghost use Rattle.std.specs.Int.{w8};
 ghost use Rattle.std.specs.Option.{option_copied};
 ghost use Rattle.xmpp_framing.specs.Tidied.{tidied, tidied_nodes};
-ghost use Rattle.xmpp_framing.specs.Views.{nodes_view};
+ghost use Rattle.xmpp_framing.specs.Views.{elem_view, nodes_view};
 ghost use Rattle.xmpp_stanza.specs.Readings.{stanza_of};
 ghost use Rattle.xmpp_stanza.specs.Written.{IsNormal, iq_elem, message_elem, presence_elem, priority_nodes};
 
@@ -11,7 +12,7 @@ use crate::names::CLIENT;
 use crate::stanzas::{Iq, Message, Presence, Stanza};
 use std::alloc::Global;
 use xmpp_edge::{NoMemory, Text};
-use xmpp_framing::{Node, Nodes, Tree, copy_nodes};
+use xmpp_framing::{Element, Node, Nodes, Tree, copy_nodes};
 use xmpp_jid::Jid;
 
 /// A message as a tree. `type` is always written, `normal` included; `id` and `xml:lang` are where they aren't empty. The
@@ -41,9 +42,21 @@ pub fn message_tree(alloc: Global, m: &Message) -> Result<Tree, NoMemory>
 
 /// A presence as a tree. Without a `type` its sender is available; `Other` is written as `error`, which asks nothing of
 /// its reader. A priority of 0 is left out.
+#[tactic(auto, using(crate::proofs::WrittenLaws::presence_tidied))]
 pub fn presence_tree(alloc: Global, p: &Presence) -> Result<Tree, NoMemory>
-    ensures { IfOk result (λ tree. tree ≡ tidied (presence_elem p.now)) }
+    ensures tree { IfOk result (λ tree. tree ≡ tidied (presence_elem p.now)) }
+    ensures read { IfOk result (λ tree. stanza_of tree ≡ Ok (Stanza.Presence p.now)) }
 {
+    Tree::of(alloc, presence_element(alloc, p)?)
+}
+
+fn presence_element(alloc: Global, p: &Presence) -> Result<Element, NoMemory>
+    ensures element { IfOk result (λ e. elem_view e ≡ presence_elem p.now) }
+    ensures from { IsNormal p.now.from }
+    ensures to { IsNormal p.now.to }
+    ensures range { FitsSigned w8 p.now.priority }
+{
+    let priority = p.priority;
     let attrs = stanza_attrs(
         alloc,
         &StanzaAttrs {
@@ -54,16 +67,15 @@ pub fn presence_tree(alloc: Global, p: &Presence) -> Result<Tree, NoMemory>
             lang: None,
         },
     )?;
-    let children = priority_nodes(alloc, p.priority)?;
-    Tree::of(
-        alloc,
-        whole_element(alloc, CLIENT, "presence", attrs, children)?,
-    )
+    let children = priority_nodes(alloc, priority)?;
+    whole_element(alloc, CLIENT, "presence", attrs, children)
 }
 
 /// An `iq` as a tree. `id` and `type` are always written. The payload is copied, and stands as it is where it is tidy.
+#[tactic(auto, using(crate::proofs::WrittenLaws::iq_tidied))]
 pub fn iq_tree(alloc: Global, q: &Iq) -> Result<Tree, NoMemory>
-    ensures { IfOk result (λ tree. tree ≡ tidied (iq_elem q.now)) }
+    ensures tree { IfOk result (λ tree. tree ≡ tidied (iq_elem q.now)) }
+    ensures read { IfOk result (λ tree. stanza_of tree ≡ Ok (Stanza.Iq (record q.now { payload = tidied_nodes q.now.payload }))) }
 {
     let attrs = stanza_attrs(
         alloc,
