@@ -86,144 +86,188 @@ fn reading(alloc: Global, tree: &Tree) -> Result<String, Fail> {
     Ok(out)
 }
 
+// A stanza's element that contains a text; an attribute that is `-` is left out.
+fn stanza(
+    alloc: Global,
+    ns: &str,
+    name: &str,
+    from: &str,
+    to: &str,
+    id: &str,
+    kind: &str,
+) -> Result<Tree, NoMemory> {
+    let mut e = element(alloc, ns, name, &[], &["x"])?;
+    for (name, value) in [("type", kind), ("from", from), ("to", to), ("id", id)] {
+        if value != "-" {
+            e.push_attr(Attr {
+                ns: Text::new(alloc),
+                name: Text::from_str(alloc, name)?,
+                value: Text::from_str(alloc, value)?,
+            })?;
+        }
+    }
+    Tree::of(alloc, e)
+}
+
 #[test]
 fn reads_stanzas(rt: HostRuntime) -> Result<(), Fail> {
     let alloc = rt.alloc();
-    for (ns, name, attrs, want) in [
+    for (ns, name, from, to, id, kind, want) in [
         (
             CLIENT,
             "message",
-            [
-                ("from", "Romeo@Montague.example/Orchard"),
-                ("to", "juliet@capulet.example"),
-                ("id", "1"),
-                ("type", "chat"),
-            ]
-            .as_slice(),
+            "Romeo@Montague.example/Orchard",
+            "juliet@capulet.example",
+            "1",
+            "chat",
             "message Some(\"romeo@montague.example/Orchard\") Some(\"juliet@capulet.example\") \"1\" Chat \"\" 1",
         ),
         (
             CLIENT,
             "message",
-            [].as_slice(),
+            "-",
+            "-",
+            "-",
+            "-",
             "message None None \"\" Normal \"\" 1",
         ),
         (
             CLIENT,
             "message",
-            [("type", "Chat")].as_slice(),
+            "-",
+            "-",
+            "-",
+            "Chat",
             "message None None \"\" Normal \"\" 1",
         ),
         (
             CLIENT,
             "message",
-            [("type", "groupchat")].as_slice(),
+            "-",
+            "-",
+            "-",
+            "groupchat",
             "message None None \"\" Groupchat \"\" 1",
         ),
         (
             CLIENT,
             "message",
-            [("type", "headline")].as_slice(),
+            "-",
+            "-",
+            "-",
+            "headline",
             "message None None \"\" Headline \"\" 1",
         ),
         (
             CLIENT,
             "message",
-            [("to", "@"), ("type", "error")].as_slice(),
+            "-",
+            "@",
+            "-",
+            "error",
             "BadTo { message: true, reply: false, id: \"\", to: \"@\" }",
         ),
         (
             CLIENT,
             "message",
-            [("to", "@"), ("id", "2")].as_slice(),
+            "-",
+            "@",
+            "2",
+            "-",
             "BadTo { message: true, reply: true, id: \"2\", to: \"@\" }",
         ),
-        (
-            CLIENT,
-            "message",
-            [("to", "@"), ("from", "")].as_slice(),
-            "BadFrom",
-        ),
+        (CLIENT, "message", "", "@", "2", "-", "BadFrom"),
         (
             CLIENT,
             "presence",
-            [].as_slice(),
+            "-",
+            "-",
+            "-",
+            "-",
             "presence None None Available 0",
         ),
         (
             CLIENT,
             "presence",
-            [("type", "unavailable")].as_slice(),
+            "-",
+            "-",
+            "-",
+            "unavailable",
             "presence None None Unavailable 0",
         ),
         (
             CLIENT,
             "presence",
-            [("type", "subscribe"), ("to", "a.example")].as_slice(),
+            "-",
+            "a.example",
+            "-",
+            "subscribe",
             "presence None Some(\"a.example\") Other 0",
         ),
         (
             CLIENT,
             "presence",
-            [("to", "a@/b")].as_slice(),
+            "-",
+            "a@/b",
+            "-",
+            "-",
             "BadTo { message: false, reply: false, id: \"\", to: \"a@/b\" }",
         ),
-        (CLIENT, "presence", [("from", "a@/b")].as_slice(), "BadFrom"),
+        (CLIENT, "presence", "a@/b", "-", "-", "-", "BadFrom"),
+        (CLIENT, "iq", "-", "-", "", "get", "iq None None \"\" Get 1"),
         (
             CLIENT,
             "iq",
-            [("id", ""), ("type", "get")].as_slice(),
-            "iq None None \"\" Get 1",
-        ),
-        (
-            CLIENT,
-            "iq",
-            [("id", "3"), ("type", "result"), ("from", "a.example")].as_slice(),
+            "a.example",
+            "-",
+            "3",
+            "result",
             "iq Some(\"a.example\") None \"3\" Result 1",
         ),
-        (CLIENT, "iq", [("type", "get")].as_slice(), "BadFormat"),
+        (CLIENT, "iq", "-", "-", "-", "get", "BadFormat"),
+        (CLIENT, "iq", "", "-", "4", "-", "BadFormat"),
+        (CLIENT, "iq", "-", "-", "4", "ask", "BadFormat"),
         (
             CLIENT,
             "iq",
-            [("id", "4"), ("from", "")].as_slice(),
-            "BadFormat",
-        ),
-        (
-            CLIENT,
-            "iq",
-            [("id", "4"), ("type", "ask")].as_slice(),
-            "BadFormat",
-        ),
-        (
-            CLIENT,
-            "iq",
-            [("id", "4"), ("type", "set"), ("to", "")].as_slice(),
+            "-",
+            "",
+            "4",
+            "set",
             "BadTo { message: false, reply: true, id: \"4\", to: \"\" }",
         ),
         (
             CLIENT,
             "iq",
-            [("id", "4"), ("type", "get"), ("to", "")].as_slice(),
+            "-",
+            "",
+            "4",
+            "get",
             "BadTo { message: false, reply: true, id: \"4\", to: \"\" }",
         ),
         (
             CLIENT,
             "iq",
-            [("id", "4"), ("type", "error"), ("to", "")].as_slice(),
+            "-",
+            "",
+            "4",
+            "error",
             "BadTo { message: false, reply: false, id: \"4\", to: \"\" }",
         ),
         (
             CLIENT,
             "iq",
-            [("id", "4"), ("type", "result"), ("to", "")].as_slice(),
+            "-",
+            "",
+            "4",
+            "result",
             "BadTo { message: false, reply: false, id: \"4\", to: \"\" }",
         ),
-        ("jabber:server", "message", [].as_slice(), "NotAStanza"),
-        ("", "iq", [].as_slice(), "NotAStanza"),
-        (CLIENT, "query", [("from", "")].as_slice(), "NotAStanza"),
+        ("jabber:server", "message", "-", "-", "-", "-", "NotAStanza"),
+        ("", "iq", "-", "-", "-", "-", "NotAStanza"),
+        (CLIENT, "query", "", "-", "-", "-", "NotAStanza"),
     ] {
-        let tree = Tree::of(alloc, element(alloc, ns, name, attrs, &["x"])?)?;
-        let read = reading(alloc, &tree)?;
+        let read = reading(alloc, &stanza(alloc, ns, name, from, to, id, kind)?)?;
         assert_eq!(rt; read.as_str(), want);
     }
     Ok(())
