@@ -87,14 +87,14 @@ fn reading(alloc: Global, tree: &Tree) -> Result<String, Fail> {
 }
 
 // A stanza's element that contains a text; an attribute that is `-` is left out.
-fn stanza(
+fn stanza<'a>(
     alloc: Global,
     ns: &str,
     name: &str,
-    from: &str,
-    to: &str,
-    id: &str,
-    kind: &str,
+    from: &'a str,
+    to: &'a str,
+    id: &'a str,
+    kind: &'a str,
 ) -> Result<Tree, NoMemory> {
     let mut e = element(alloc, ns, name, &[], &["x"])?;
     for (name, value) in [("type", kind), ("from", from), ("to", to), ("id", id)] {
