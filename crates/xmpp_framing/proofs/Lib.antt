@@ -1,0 +1,7 @@
+pub mod AttributeOrder
+pub mod Folds
+pub mod RuleSteps
+pub mod TidyLaws
+pub mod TidyReads
+pub mod TidySteps
+mod Worked

@@ -1,0 +1,7 @@
+pub mod Attributes
+pub mod Codes
+pub mod Readers
+pub mod Runs
+pub mod Tidied
+pub mod Trees
+pub mod Views

@@ -1,0 +1,77 @@
+ghost use Rattle.std.specs.Prelude.{◌≡◌, ◌↔◌, IsTrue};
+ghost use Rattle.std.specs.List.Sorted.{IsStrictlySortedBy};
+ghost use Rattle.std.specs.Option.{option_copied};
+ghost use Rattle.xmpp_framing.specs.Attributes.{is_above, name_order};
+ghost use Rattle.xmpp_framing.specs.Trees.{AreTidy, AreTidyBehind, IsTree, Nodes, is_text_first, joined};
+ghost use Rattle.xmpp_framing.specs.Views.{elem_view, node_view, nodes_view};
+
+use crate::attributes::{Attr, order_of_names};
+use crate::elements::{Element, Node};
+
+// Whether the name of an attribute is above that of the one before it.
+fn stands_above(before: Option<&Attr>, attr: &Attr) -> bool
+    ensures { result ≡ is_above (option_copied before.entry) attr.now }
+{
+    match before {
+        None => true,
+        Some(b) => order_of_names(b, attr).is_lt(),
+    }
+}
+
+// Whether the names ascend.
+fn are_in_order(attrs: &[Attr]) -> bool
+    ensures { IsTrue result ↔ IsStrictlySortedBy name_order attrs.now }
+{
+    let mut before = None;
+    for attr in attrs {
+        if !stands_above(before, attr) {
+            return false;
+        }
+        before = Some(attr);
+    }
+    true
+}
+
+impl Node {
+    /// Whether the node is a text.
+    pub fn is_text(&self) -> bool
+        ensures { result ≡ is_text_first (node_view self.now) }
+    {
+        match self {
+            Node::Child(_) => false,
+            Node::Text(_) => true,
+        }
+    }
+}
+
+/// Whether an element keeps the rule of a tree. It takes no memory.
+#[cycle(rule)]
+pub(crate) fn keeps_rule(element: &Element) -> bool
+    ensures { IsTrue result ↔ IsTree (elem_view element.now) }
+{
+    are_in_order(element.attrs.as_slice()) && are_tidy(&element.children)
+}
+
+#[cycle(rule)]
+fn are_tidy(nodes: &Vec<Node>) -> bool
+    ensures { IsTrue result ↔ AreTidy (nodes_view nodes.now.items) }
+{
+    let mut behind_text = false;
+    for node in nodes {
+        if !is_tidy_behind(behind_text, node) {
+            return false;
+        }
+        behind_text = node.is_text();
+    }
+    true
+}
+
+#[cycle(rule)]
+fn is_tidy_behind(behind_text: bool, node: &Node) -> bool
+    ensures { (rest : Nodes) → AreTidyBehind behind_text (joined (node_view node.now) rest) ↔ (IsTrue result × AreTidyBehind (is_text_first (node_view node.now)) rest) }
+{
+    match node {
+        Node::Child(element) => keeps_rule(element),
+        Node::Text(text) => !behind_text && !text.as_str().is_empty(),
+    }
+}

@@ -1,0 +1,52 @@
+ghost use Rattle.std.specs.Prelude.{◌≡◌, ◌≢◌, [], ◌++◌, IfOk, MatchOption};
+ghost use Rattle.xmpp_framing.specs.Runs.{run_text};
+
+use std::alloc::Global;
+use xmpp_edge::{NoMemory, Text};
+
+/// Texts that are joined. One text alone stays as it was given.
+#[derive(Drop)]
+pub(crate) enum Run {
+    Nothing,
+    One(Text),
+    Several(String),
+}
+
+impl Run {
+    /// The run with a text behind it. It takes memory only where two texts are joined that aren't empty.
+    pub(crate) fn joined_with(self, alloc: Global, text: Text) -> Result<Run, NoMemory>
+        ensures { IfOk result (λ run. run_text run ≡ run_text self ++ text) }
+    {
+        if text.as_str().is_empty() {
+            return Ok(self);
+        }
+        match self {
+            Run::Nothing => Ok(Run::One(text)),
+            Run::One(first) => {
+                let mut all = String::from_str(alloc, first.as_str())?;
+                all.push_str(text.as_str())?;
+                Ok(Run::Several(all))
+            }
+            Run::Several(mut all) => {
+                all.push_str(text.as_str())?;
+                Ok(Run::Several(all))
+            }
+        }
+    }
+
+    /// The joined text. `None` where it is empty.
+    pub(crate) fn into_text(self) -> Option<Text>
+        ensures { MatchOption result (run_text self ≡ []) (λ text. (text ≡ run_text self) × (text ≢ [])) }
+    {
+        let text = match self {
+            Run::Nothing => return None,
+            Run::One(text) => text,
+            Run::Several(all) => Text::from(all),
+        };
+        if text.as_str().is_empty() {
+            None
+        } else {
+            Some(text)
+        }
+    }
+}

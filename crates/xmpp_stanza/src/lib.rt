@@ -1,0 +1,29 @@
+//! The three stanzas, their errors and the errors of streams, read from trees and written as trees (RFC 6120 sections
+//! 4.9 and 8, RFC 6121 sections 4.7 and 5.2).
+#![tactic(auto)]
+
+mod conditions;
+mod elements;
+mod errors;
+mod kinds;
+mod laws;
+mod names;
+mod reading;
+mod stanzas;
+mod streams;
+#[cfg(test)]
+mod tests;
+mod writing;
+
+pub use conditions::Condition;
+pub use errors::{ErrorKind, StanzaError, StanzaErrorFault, error_element, stanza_error};
+pub use kinds::{IqKind, MessageKind, PresenceKind};
+pub use laws::{
+    errors_are_read_as_stated, stanzas_are_read_as_stated, written_errors_are_read_back,
+    written_stanzas_are_read_back,
+};
+pub use names::{CLIENT, STANZA_ERRORS, STREAM_ERRORS, STREAMS, XML};
+pub use reading::read_stanza;
+pub use stanzas::{Iq, Message, Presence, Stanza, StanzaFault};
+pub use streams::{stream_condition, stream_error};
+pub use writing::{iq_tree, message_tree, presence_tree};

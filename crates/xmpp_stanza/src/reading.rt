@@ -1,0 +1,161 @@
+// Trees read as stanzas.
+ghost use Rattle.std.specs.Prelude.{◌≡◌, ◌≢◌, Ok, Err, [], true, false, unwrap_or, codes, IfOk, IfErr};
+ghost use Rattle.std.specs.Option.{option_copied, option_map};
+ghost use Rattle.xmpp_framing.specs.Trees.{nodes_of};
+ghost use Rattle.xmpp_framing.specs.Views.{elem_view, nodes_view};
+ghost use Rattle.xmpp_stanza.specs.Kinds.{answers_iq, answers_message, iq_kind, message_kind, presence_kind};
+ghost use Rattle.xmpp_stanza.specs.Priority.{presence_priority, priority_of};
+ghost use Rattle.xmpp_stanza.specs.Readings.{Answers, AnswersAddress, address_of, addresses_of, iq_of, message_of, presence_of, stanza_of};
+
+use crate::kinds::{answers_iq, answers_message, iq_kind, message_kind, presence_kind};
+use crate::names::{CLIENT, XML};
+use crate::stanzas::{Iq, Message, Presence, Stanza, StanzaFault};
+use std::alloc::Global;
+use xmpp_edge::{NoMemory, Text};
+use xmpp_framing::{Element, Nodes, Tree, copy_nodes};
+use xmpp_jid::{Jid, JidFault};
+
+/// The stanza that a tree is. Each refusal but `NoMemory` comes exactly where the definition refuses so, in the order
+/// `NotAStanza`, `BadFormat`, `BadFrom`, `BadTo`; `stanzas_are_read_as_stated` says what that means.
+pub fn read_stanza(alloc: Global, tree: &Tree) -> Result<Stanza, StanzaFault>
+    ensures ok { IfOk result (λ stanza. stanza_of tree.now ≡ Ok stanza) }
+    ensures refused { IfErr result (λ fault. fault ≢ StanzaFault.NoMemory → stanza_of tree.now ≡ Err fault) }
+{
+    read_element(alloc, tree.element())
+}
+
+fn read_element(alloc: Global, e: &Element) -> Result<Stanza, StanzaFault>
+    ensures { Answers result (stanza_of (elem_view e.now)) }
+{
+    if e.is(CLIENT, "message") {
+        read_message(alloc, e)
+    } else if e.is(CLIENT, "presence") {
+        read_presence(alloc, e)
+    } else if e.is(CLIENT, "iq") {
+        read_iq(alloc, e)
+    } else {
+        Err(StanzaFault::NotAStanza)
+    }
+}
+
+fn read_message(alloc: Global, e: &Element) -> Result<Stanza, StanzaFault>
+    ensures { Answers result (message_of (elem_view e.now)) }
+{
+    let kind = message_kind(e.attr("", "type"));
+    let (from, to) = addresses(alloc, e, true, answers_message(kind))?;
+    Ok(Stanza::Message(Message {
+        from,
+        to,
+        id: text_of(alloc, e.attr("", "id"))?,
+        kind,
+        lang: text_of(alloc, e.attr(XML, "lang"))?,
+        payload: payload_of(alloc, e)?,
+    }))
+}
+
+fn read_presence(alloc: Global, e: &Element) -> Result<Stanza, StanzaFault>
+    ensures { Answers result (presence_of (elem_view e.now)) }
+{
+    let (from, to) = addresses(alloc, e, false, false)?;
+    Ok(Stanza::Presence(Presence {
+        from,
+        to,
+        kind: presence_kind(e.attr("", "type")),
+        priority: priority(alloc, e)?,
+    }))
+}
+
+fn read_iq(alloc: Global, e: &Element) -> Result<Stanza, StanzaFault>
+    ensures { Answers result (iq_of (elem_view e.now)) }
+{
+    let Some(id) = e.attr("", "id") else {
+        return Err(StanzaFault::BadFormat);
+    };
+    let Some(kind) = iq_kind(e.attr("", "type")) else {
+        return Err(StanzaFault::BadFormat);
+    };
+    let (from, to) = addresses(alloc, e, false, answers_iq(kind))?;
+    Ok(Stanza::Iq(Iq {
+        from,
+        to,
+        id: Text::from_str(alloc, id)?,
+        kind,
+        payload: payload_of(alloc, e)?,
+    }))
+}
+
+// The addresses of a stanza, `from` before `to`. The flags are what a bad `to` tells.
+fn addresses(
+    alloc: Global,
+    e: &Element,
+    message: bool,
+    reply: bool,
+) -> Result<(Option<Jid>, Option<Jid>), StanzaFault>
+    ensures { Answers result (addresses_of message reply (elem_view e.now)) }
+{
+    let from = match address(alloc, e.attr("", "from")) {
+        Ok(from) => from,
+        Err(JidFault::NoMemory) => return Err(StanzaFault::NoMemory),
+        Err(_) => return Err(StanzaFault::BadFrom),
+    };
+    match address(alloc, e.attr("", "to")) {
+        Ok(to) => Ok((from, to)),
+        Err(JidFault::NoMemory) => Err(StanzaFault::NoMemory),
+        Err(_) => Err(StanzaFault::BadTo {
+            message,
+            reply,
+            id: text_of(alloc, e.attr("", "id"))?,
+            to: text_of(alloc, e.attr("", "to"))?,
+        }),
+    }
+}
+
+// The address in an attribute.
+fn address(alloc: Global, value: Option<&str>) -> Result<Option<Jid>, JidFault>
+    ensures { AnswersAddress result (address_of (option_copied value.entry)) }
+{
+    match value {
+        None => Ok(None),
+        Some(text) => Ok(Some(Jid::parse(alloc, text)?)),
+    }
+}
+
+// The value of an attribute, empty where there is none.
+fn text_of(alloc: Global, value: Option<&str>) -> Result<Text, NoMemory>
+    ensures { IfOk result (λ t. t ≡ unwrap_or (option_copied value.entry) []) }
+{
+    match value {
+        None => Ok(Text::new(alloc)),
+        Some(text) => Text::from_str(alloc, text),
+    }
+}
+
+// A copy of what the element contains.
+fn payload_of(alloc: Global, e: &Element) -> Result<Nodes, NoMemory>
+    ensures { IfOk result (λ payload. nodes_view payload.items ≡ nodes_of (elem_view e.now)) }
+{
+    copy_nodes(alloc, &e.children)
+}
+
+// The priority of a presence.
+fn priority(alloc: Global, e: &Element) -> Result<i8, NoMemory>
+    ensures { IfOk result (λ n. n ≡ presence_priority (elem_view e.now)) }
+{
+    match e.child(CLIENT, "priority") {
+        None => Ok(0),
+        Some(child) => Ok(priority_of(child.text(alloc)?.as_str())),
+    }
+}
+
+// The number that a priority's text spells, and 0 where it spells none.
+fn priority_of(text: &str) -> i8
+    ensures { result ≡ priority_of text.now }
+{
+    if text.starts_with('+') {
+        return 0;
+    }
+    match text.parse::<i8>() {
+        Ok(number) => number,
+        Err(_) => 0,
+    }
+}

@@ -1,0 +1,116 @@
+// Stanzas written as trees.
+ghost use Rattle.std.specs.Prelude.{◌≡◌, Ok, IfOk, FitsSigned};
+ghost use Rattle.std.specs.Int.{w8};
+ghost use Rattle.std.specs.Option.{option_copied};
+ghost use Rattle.xmpp_framing.specs.Tidied.{tidied, tidied_nodes};
+ghost use Rattle.xmpp_framing.specs.Views.{elem_view, nodes_view};
+ghost use Rattle.xmpp_stanza.specs.Readings.{stanza_of};
+ghost use Rattle.xmpp_stanza.specs.Written.{IsNormal, iq_elem, message_elem, presence_elem, priority_nodes};
+
+use crate::elements::{StanzaAttrs, empty_element, stanza_attrs, unless_empty, whole_element};
+use crate::names::CLIENT;
+use crate::stanzas::{Iq, Message, Presence, Stanza};
+use std::alloc::Global;
+use xmpp_edge::{NoMemory, Text};
+use xmpp_framing::{Element, Node, Nodes, Tree, copy_nodes};
+use xmpp_jid::Jid;
+
+/// A message as a tree. `type` is always written, `normal` included; `id` and `xml:lang` are where they aren't empty. The
+/// payload is copied, and stands as it is where it is tidy. `written_stanzas_are_read_back` says that the tree is read
+/// back as the message.
+#[tactic(auto, using(crate::proofs::WrittenLaws::message_tidied))]
+pub fn message_tree(alloc: Global, m: &Message) -> Result<Tree, NoMemory>
+    ensures tree { IfOk result (λ tree. tree ≡ tidied (message_elem m.now)) }
+    ensures read { IfOk result (λ tree. stanza_of tree ≡ Ok (Stanza.Message (record m.now { payload = tidied_nodes m.now.payload }))) }
+{
+    let attrs = stanza_attrs(
+        alloc,
+        &StanzaAttrs {
+            from: address_text(&m.from),
+            id: unless_empty(&m.id),
+            to: address_text(&m.to),
+            kind: Some(m.kind.text()),
+            lang: unless_empty(&m.lang),
+        },
+    )?;
+    let payload = copy_nodes(alloc, m.payload.as_slice())?;
+    Tree::of(
+        alloc,
+        whole_element(alloc, CLIENT, "message", attrs, payload)?,
+    )
+}
+
+/// A presence as a tree. Without a `type` its sender is available; `Other` is written as `error`, which asks nothing of
+/// its reader. A priority of 0 is left out.
+#[tactic(auto, using(crate::proofs::WrittenLaws::presence_tidied))]
+pub fn presence_tree(alloc: Global, p: &Presence) -> Result<Tree, NoMemory>
+    ensures tree { IfOk result (λ tree. tree ≡ tidied (presence_elem p.now)) }
+    ensures read { IfOk result (λ tree. stanza_of tree ≡ Ok (Stanza.Presence p.now)) }
+{
+    Tree::of(alloc, presence_element(alloc, p)?)
+}
+
+fn presence_element(alloc: Global, p: &Presence) -> Result<Element, NoMemory>
+    ensures element { IfOk result (λ e. elem_view e ≡ presence_elem p.now) }
+    ensures from { IsNormal p.now.from }
+    ensures to { IsNormal p.now.to }
+    ensures range { FitsSigned w8 p.now.priority }
+{
+    let priority = p.priority;
+    let attrs = stanza_attrs(
+        alloc,
+        &StanzaAttrs {
+            from: address_text(&p.from),
+            id: None,
+            to: address_text(&p.to),
+            kind: p.kind.text(),
+            lang: None,
+        },
+    )?;
+    let children = priority_nodes(alloc, priority)?;
+    whole_element(alloc, CLIENT, "presence", attrs, children)
+}
+
+/// An `iq` as a tree. `id` and `type` are always written. The payload is copied, and stands as it is where it is tidy.
+#[tactic(auto, using(crate::proofs::WrittenLaws::iq_tidied))]
+pub fn iq_tree(alloc: Global, q: &Iq) -> Result<Tree, NoMemory>
+    ensures tree { IfOk result (λ tree. tree ≡ tidied (iq_elem q.now)) }
+    ensures read { IfOk result (λ tree. stanza_of tree ≡ Ok (Stanza.Iq (record q.now { payload = tidied_nodes q.now.payload }))) }
+{
+    let attrs = stanza_attrs(
+        alloc,
+        &StanzaAttrs {
+            from: address_text(&q.from),
+            id: Some(q.id.as_str()),
+            to: address_text(&q.to),
+            kind: Some(q.kind.text()),
+            lang: None,
+        },
+    )?;
+    let payload = copy_nodes(alloc, q.payload.as_slice())?;
+    Tree::of(alloc, whole_element(alloc, CLIENT, "iq", attrs, payload)?)
+}
+
+// The text of an address, where there is one.
+fn address_text(address: &Option<Jid>) -> Option<&str>
+    ensures text { option_copied result ≡ address.now }
+    ensures normal { IsNormal address.now }
+{
+    match address {
+        None => None,
+        Some(jid) => Some(jid.text()),
+    }
+}
+
+// The child `priority`, where the priority isn't 0.
+fn priority_nodes(alloc: Global, priority: i8) -> Result<Nodes, NoMemory>
+    ensures { IfOk result (λ nodes. nodes_view nodes.items ≡ priority_nodes priority) }
+{
+    let mut nodes = Nodes::new(alloc);
+    if priority != 0 {
+        let mut child = empty_element(alloc, CLIENT, "priority")?;
+        child.push_text(Text::from(priority.to_string(alloc)?))?;
+        nodes.push(Node::Child(child))?;
+    }
+    Ok(nodes)
+}
