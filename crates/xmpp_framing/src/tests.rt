@@ -4,22 +4,6 @@ use std::fmt::Write;
 use std::test::Fail;
 use xmpp_edge::{Copied, NoMemory, Text};
 
-fn attr(alloc: Global, ns: &str, name: &str, value: &str) -> Result<Attr, NoMemory> {
-    Ok(Attr {
-        ns: Text::from_str(alloc, ns)?,
-        name: Text::from_str(alloc, name)?,
-        value: Text::from_str(alloc, value)?,
-    })
-}
-
-fn element(alloc: Global, ns: &str, name: &str) -> Result<Element, NoMemory> {
-    Ok(Element::new(
-        alloc,
-        Text::from_str(alloc, ns)?,
-        Text::from_str(alloc, name)?,
-    ))
-}
-
 fn push_texts(alloc: Global, element: &mut Element, texts: &[&str]) -> Result<(), NoMemory> {
     for text in texts {
         element.push_text(Text::from_str(alloc, text)?)?;
@@ -29,19 +13,19 @@ fn push_texts(alloc: Global, element: &mut Element, texts: &[&str]) -> Result<()
 
 // Attributes out of order and repeated, texts that are empty or adjoin, at two levels.
 fn untidy(alloc: Global, depth: u32) -> Result<Element, NoMemory> {
-    let mut message = element(alloc, "jabber:client", "message")?;
-    message.push_attr(attr(alloc, "urn:a", "b", "3")?)?;
-    message.push_attr(attr(alloc, "", "to", "first")?)?;
-    message.push_attr(attr(alloc, "urn:a", "a", "4")?)?;
-    message.push_attr(attr(alloc, "", "to", "second")?)?;
-    message.push_attr(attr(alloc, "", "é", "5")?)?;
-    message.push_attr(attr(alloc, "", "id", "1")?)?;
+    let mut message = Element::from_strs(alloc, "jabber:client", "message")?;
+    message.push_attr(Attr::from_strs(alloc, "urn:a", "b", "3")?)?;
+    message.push_attr(Attr::from_strs(alloc, "", "to", "first")?)?;
+    message.push_attr(Attr::from_strs(alloc, "urn:a", "a", "4")?)?;
+    message.push_attr(Attr::from_strs(alloc, "", "to", "second")?)?;
+    message.push_attr(Attr::from_strs(alloc, "", "é", "5")?)?;
+    message.push_attr(Attr::from_strs(alloc, "", "id", "1")?)?;
     push_texts(alloc, &mut message, &["", "one", "", "two", "three", ""])?;
     if depth > 0 {
         message.push_child(untidy(alloc, depth - 1)?)?;
     }
     push_texts(alloc, &mut message, &["", ""])?;
-    message.push_child(element(alloc, "", "x")?)?;
+    message.push_child(Element::from_strs(alloc, "", "x")?)?;
     push_texts(alloc, &mut message, &["end"])?;
     Ok(message)
 }
@@ -101,9 +85,9 @@ fn trees_and_nodes_are_copied(rt: HostRuntime) -> Result<(), Fail> {
 
 // An element that lies `depth` deep, with texts that adjoin at each level.
 fn nested(alloc: Global, depth: u32) -> Result<Element, NoMemory> {
-    let mut inside = element(alloc, "", "a")?;
+    let mut inside = Element::from_strs(alloc, "", "a")?;
     for _ in 1..depth {
-        let mut outside = element(alloc, "", "a")?;
+        let mut outside = Element::from_strs(alloc, "", "a")?;
         push_texts(alloc, &mut outside, &["b", "c"])?;
         outside.push_child(inside)?;
         inside = outside;
