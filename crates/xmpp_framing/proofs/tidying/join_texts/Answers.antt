@@ -1,9 +1,9 @@
-use Rattle.std.proofs.Common.{◌≡◌, [], ◌∷◌, ◌∙◌, sym, ap}
+use Rattle.std.proofs.Common.{◌≡◌, [], ◌∙◌}
 use Rattle.std.specs.Vec.Iter.{into_iter_items}
 use Rattle.xmpp_framing.proofs.Folds.{joined_assoc, node_view_child, nodes_view_push}
 use Rattle.xmpp_framing.specs.Runs.{run_text}
 use Rattle.xmpp_framing.specs.Tidied.{text_node, texts_joined}
-use Rattle.xmpp_framing.specs.Trees.{Nodes, joined, child, no_nodes}
+use Rattle.xmpp_framing.specs.Trees.{joined, child, no_nodes}
 use Rattle.xmpp_framing.specs.Views.{elem_view, node_view, nodes_view}
 use Rattle.xmpp_framing.proofs.tidying.join_texts.Goals as goal
 
