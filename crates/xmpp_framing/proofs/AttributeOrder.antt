@@ -1,5 +1,5 @@
 -- Attributes in the order of their names.
-use Rattle.std.proofs.Common.{◌≡◌, ℕ, Bool, true, false, true≢false, cond, ◌&&◌, List, [], ◌∷◌, Option, Some, None, IsSome, Ordering, Less, Equal, Greater, is_eq, is_lt, not, refl, sym, ap, ◌∙◌, subst, nat_cmp, bytes_eq, length, arith}
+use Rattle.std.proofs.Common.{◌≡◌, ℕ, Bool, true, false, true≢false, cond, ◌&&◌, List, [], ◌∷◌, Option, Some, None, IsSome, Ordering, Less, Equal, Greater, is_eq, is_lt, not, refl, sym, ap, ◌∙◌, subst, nat_cmp, length, arith}
 use Rattle.std.proofs.lemmas.Cmp.{nat_list_cmp_total, on_total, then_total, tied_back, tied_itself}
 use Rattle.std.proofs.lemmas.List.Kept.{IsStrictlySortedBy-dedup}
 use Rattle.std.proofs.lemmas.Map.Text.{is_eq-slice_cmp}

@@ -1,5 +1,5 @@
 -- Views of elements and nodes, level by level.
-use Rattle.std.proofs.Common.{◌≡◌, List, [], ◌∷◌, ◌++◌, refl, sym, ap, ◌∙◌, map, rules}
+use Rattle.std.proofs.Common.{◌≡◌, List, [], ◌∷◌, ◌++◌, refl, sym, ap, ◌∙◌, rules}
 use Rattle.xmpp_framing.specs.Trees.{Elem, element, Nodes, no_nodes, child, text, joined}
 use Rattle.xmpp_framing.specs.Views.{elem_view, node_view, nodes_view, node_step, elem_step}
 use Rattle.xmpp_framing.specs.declared.elements.Element.{Element, Element-F, out-Element, roll-Element, fold_out-Element, fold-roll-Element}

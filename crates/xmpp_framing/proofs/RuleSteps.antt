@@ -1,12 +1,10 @@
 -- The rule of a tree is tested from left to right.
-use Rattle.std.proofs.Common.{◌≡◌, ◌≢◌, ℕ, ◌+◌, ◌<◌, Bool, true, false, true≢false, List, [], ◌∷◌, ◌++◌, length, get_or, drop, Option, Some, None, Ordering, Less, Equal, Greater, is_lt, refl, sym, ap, ◌∙◌, subst, add-one, drop-cons, arith}
-use Rattle.std.specs.List.{AllByRecursion}
+use Rattle.std.proofs.Common.{◌≡◌, ℕ, ◌+◌, ◌<◌, true≢false, List, [], ◌∷◌, ◌++◌, length, get_or, drop, Option, Some, None, Ordering, Less, Equal, Greater, is_lt, refl, sym, ◌∙◌, subst, add-one, drop-cons}
 use Rattle.std.specs.List.Sorted.{IsStrictlySortedBy}
 use Rattle.std.specs.Option.{option_to_list}
 use Rattle.std.specs.Prelude.{◌↔◌, IsTrue}
 use Rattle.xmpp_framing.proofs.AttributeOrder.{all_weaker, name_order_total}
 use Rattle.xmpp_framing.specs.Attributes.{Attribute, is_above, name_order}
-use Rattle.xmpp_framing.specs.Trees.{Nodes, no_nodes, child, text, AreTidy, AreTidyBehind, IsTree, NoTextFirst}
 
 pub drop_item : {A : Type 0} (xs : List A) (i : ℕ) (x : A) → i < length xs → x ≡ get_or xs i x → drop i xs ≡ x ∷ drop (i + 1) xs
 drop_item xs i x within is = drop-cons xs i x within ∙ rw (← is, add-one i)

@@ -1,8 +1,6 @@
 -- What is tidied keeps the rule of a tree, and what keeps it stays.
-use Rattle.std.proofs.Common.{◌≡◌, ◌≢◌, ℕ, List, [], ◌∷◌, ◌++◌, refl, sym, ap, ◌∙◌, subst, append-nil, append_assoc}
-use Rattle.std.specs.List.Sorted.{IsStrictlySortedBy}
+use Rattle.std.proofs.Common.{◌≡◌, ◌≢◌, ℕ, List, [], ◌∷◌, ◌++◌, refl, ap, ◌∙◌}
 use Rattle.xmpp_framing.proofs.AttributeOrder.{sorted_attributes_IsAttrsOf, sorted_attributes_stay}
-use Rattle.xmpp_framing.specs.Attributes.{name_order}
 use Rattle.xmpp_framing.specs.Tidied.{text_node, tidied, tidied_behind, tidied_nodes}
 use Rattle.xmpp_framing.specs.Trees.{Elem, element, Nodes, no_nodes, child, text, joined, IsTree, AreTidy, NoTextFirst}
 

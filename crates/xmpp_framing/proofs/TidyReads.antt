@@ -1,12 +1,12 @@
 -- What readers find in an element they find in its tree.
-use Rattle.std.proofs.Common.{◌≡◌, ◌≢◌, ℕ, ◌+◌, max, Bool, true, false, cond, List, [], ◌∷◌, ◌++◌, Option, Some, None, IsSome, refl, sym, ap, ◌∙◌, append-nil, append_assoc, subst, option_map}
+use Rattle.std.proofs.Common.{◌≡◌, ℕ, ◌+◌, max, Bool, true, false, cond, List, [], ◌∷◌, ◌++◌, Option, Some, None, refl, sym, ap, ◌∙◌, append-nil, append_assoc, subst, option_map}
 use Rattle.std.proofs.lemmas.List.Folds.{find-append}
 use Rattle.std.specs.Option.{option_or}
 use Rattle.xmpp_framing.proofs.AttributeOrder.{sorted_attributes_IsAttrsOf}
-use Rattle.xmpp_framing.specs.Attributes.{Attribute, found, has_name, sorted_attributes}
-use Rattle.xmpp_framing.specs.Readers.{attr_of, child_of, elements_of, first_named, is_named, text_count, text_of}
-use Rattle.xmpp_framing.specs.Tidied.{text_node, tidied, tidied_behind, tidied_nodes}
-use Rattle.xmpp_framing.specs.Trees.{Elem, element, Nodes, no_nodes, child, text, joined, namespace_of, name_of, attributes_of, nodes_of, with_attribute, with_nodes, IsTree, AreTidy, depth, depth_below}
+use Rattle.xmpp_framing.specs.Attributes.{Attribute, found, has_name}
+use Rattle.xmpp_framing.specs.Readers.{attr_of, child_of, elements_of, first_named, is_named, text_of}
+use Rattle.xmpp_framing.specs.Tidied.{text_node, tidied, tidied_behind}
+use Rattle.xmpp_framing.specs.Trees.{Elem, element, Nodes, no_nodes, child, text, joined, nodes_of, with_attribute, with_nodes, IsTree, AreTidy, depth, depth_below}
 
 -- ---- lists joined
 

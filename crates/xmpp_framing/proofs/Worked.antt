@@ -1,14 +1,11 @@
 -- The definitions, evaluated at elements that were worked out beforehand.
-use Rattle.std.proofs.Common.{◌≡◌, ℕ, Bool, true, false, [], ◌∷◌, List, Option, Some, None, Less, Greater, refl}
+use Rattle.std.proofs.Common.{◌≡◌, ℕ, true, false, [], ◌∷◌, List, Some, None, Less, Greater, refl}
 use Rattle.std.specs.Prelude.{codes}
 use Rattle.std.specs.List.Sorted.{IsStrictlySortedBy}
-use Rattle.xmpp_framing.specs.Attributes.{Attribute, found, name_order, sorted_attributes}
+use Rattle.xmpp_framing.specs.Attributes.{attribute, name_order, sorted_attributes}
 use Rattle.xmpp_framing.specs.Readers.{attr_of, child_of, elements_of, is_named, text_count, text_of}
 use Rattle.xmpp_framing.specs.Tidied.{tidied}
 use Rattle.xmpp_framing.specs.Trees.{Elem, element, Nodes, no_nodes, child, text, IsTree, depth, nodes_of}
-
-abbrev attribute : List ℕ → List ℕ → List ℕ → Attribute
-attribute ns name value = record { ns = ns; name = name; value = value }
 
 abbrev client : List ℕ
 client = codes "jabber:client"

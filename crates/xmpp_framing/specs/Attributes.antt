@@ -11,6 +11,9 @@ use Rattle.xmpp_framing.specs.declared.attributes.Attr.{Attr}
 abbrev pub Attribute : Type 0
 Attribute = Attr
 
+abbrev pub attribute : List ℕ → List ℕ → List ℕ → Attribute
+attribute ns name value = record { ns = ns; name = name; value = value }
+
 -- the order of names: by the bytes of the namespace, and then by the bytes of the name
 abbrev pub name_order : Attribute → Attribute → Ordering
 name_order = then_cmp (on (λ (a : Attribute). a.ns) (slice_cmp nat_cmp)) (on (λ (a : Attribute). a.name) (slice_cmp nat_cmp))

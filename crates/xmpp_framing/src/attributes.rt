@@ -1,8 +1,9 @@
-ghost use Rattle.std.specs.Prelude.{◌≡◌, IfOk, OnOk};
+ghost use Rattle.std.specs.Prelude.{◌≡◌, ◌↔◌, IfOk, IsTrue, OnOk};
 ghost use Rattle.std.specs.List.{dedup};
-ghost use Rattle.std.specs.List.Sorted.{IsSorted, IsStable};
+ghost use Rattle.std.specs.List.Sorted.{IsSorted, IsStable, IsStrictlySortedBy};
+ghost use Rattle.std.specs.Option.{option_copied};
 ghost use Rattle.std.specs.Ordering.{eq_by_cmp};
-ghost use Rattle.xmpp_framing.specs.Attributes.{name_order, sorted_attributes};
+ghost use Rattle.xmpp_framing.specs.Attributes.{attribute, is_above, name_order, sorted_attributes};
 
 use std::alloc::Global;
 use std::cmp::Ordering;
@@ -20,6 +21,19 @@ pub struct Attr {
 /// The attributes of an element, in order.
 pub type Attrs = ListOf<Attr>;
 
+impl Attr {
+    /// An attribute with copies of a namespace, a name and a value.
+    pub fn from_strs(alloc: Global, ns: &str, name: &str, value: &str) -> Result<Attr, NoMemory>
+        ensures { IfOk result (λ a. a ≡ attribute ns.now name.now value.now) }
+    {
+        Ok(Attr {
+            ns: Text::from_str(alloc, ns)?,
+            name: Text::from_str(alloc, name)?,
+            value: Text::from_str(alloc, value)?,
+        })
+    }
+}
+
 impl Copied for Attr {
     fn copied(&self, alloc: Global) -> Result<Attr, NoMemory> {
         Ok(Attr {
@@ -30,8 +44,8 @@ impl Copied for Attr {
     }
 }
 
-/// How the names of two attributes are ordered: by the bytes of the namespace, and then by those of the name.
-pub(crate) fn order_of_names(a: &Attr, b: &Attr) -> Ordering
+// How the names of two attributes are ordered: by the bytes of the namespace, and then by those of the name.
+fn order_of_names(a: &Attr, b: &Attr) -> Ordering
     ensures { result ≡ name_order a.now b.now }
 {
     match a.ns.as_str().cmp(b.ns.as_str()) {
@@ -39,6 +53,30 @@ pub(crate) fn order_of_names(a: &Attr, b: &Attr) -> Ordering
         Ordering::Equal => a.name.as_str().cmp(b.name.as_str()),
         Ordering::Greater => Ordering::Greater,
     }
+}
+
+// Whether the name of an attribute is above that of the one before it.
+fn stands_above(before: Option<&Attr>, attr: &Attr) -> bool
+    ensures { result ≡ is_above (option_copied before.entry) attr.now }
+{
+    match before {
+        None => true,
+        Some(b) => order_of_names(b, attr).is_lt(),
+    }
+}
+
+/// Whether the names ascend, so that no two are one.
+pub(crate) fn are_in_order(attrs: &[Attr]) -> bool
+    ensures { IsTrue result ↔ IsStrictlySortedBy name_order attrs.now }
+{
+    let mut before = None;
+    for attr in attrs {
+        if !stands_above(before, attr) {
+            return false;
+        }
+        before = Some(attr);
+    }
+    true
 }
 
 // Sorts by name, and leaves attributes of one name in their order.
@@ -61,6 +99,9 @@ fn drop_repeats(attrs: &mut Vec<Attr>)
 pub(crate) fn tidy_attrs(alloc: Global, attrs: Attrs) -> Result<Attrs, NoMemory>
     ensures { IfOk result (λ kept. kept.items ≡ sorted_attributes attrs.items) }
 {
+    if are_in_order(attrs.as_slice()) {
+        return Ok(attrs);
+    }
     let mut given = attrs.into_items();
     sort_by_name(&mut given)?;
     drop_repeats(&mut given);

@@ -1,9 +1,9 @@
-ghost use Rattle.std.specs.Prelude.{◌≡◌, [], OnOk, OnErr};
+ghost use Rattle.std.specs.Prelude.{◌≡◌, [], IfOk, OnOk, OnErr};
 ghost use Rattle.xmpp_framing.specs.Trees.{element, no_nodes, child, text, with_attribute, with_nodes};
-ghost use Rattle.xmpp_framing.specs.Views.{elem_view, node_view};
+ghost use Rattle.xmpp_framing.specs.Views.{elem_view, node_view, nodes_view};
 
 use crate::attributes::{Attr, Attrs};
-use crate::elements::{Element, Node};
+use crate::elements::{Element, Node, Nodes};
 use std::alloc::Global;
 use xmpp_edge::{NoMemory, Text};
 
@@ -18,6 +18,15 @@ impl Element {
             attrs: Attrs::new(alloc),
             children: Vec::new(alloc),
         }
+    }
+
+    /// An element with copies of a namespace and a name, without attributes, that contains nothing.
+    pub fn from_strs(alloc: Global, ns: &str, name: &str) -> Result<Element, NoMemory>
+        ensures { IfOk result (λ e. elem_view e ≡ element ns.now name.now [] no_nodes) }
+    {
+        let ns = Text::from_str(alloc, ns)?;
+        let name = Text::from_str(alloc, name)?;
+        Ok(Element::new(alloc, ns, name))
     }
 
     /// Adds an attribute behind the others. A refusal drops it and leaves the element as it was.
@@ -53,6 +62,16 @@ impl Element {
         ensures err { OnErr result (elem_view self.new ≡ elem_view self.old) }
     {
         self.push_node(Node::Text(content))?;
+        Ok(())
+    }
+
+    /// Adds nodes behind what the element contains, moved. A refusal drops them and leaves the element as it was.
+    pub fn push_nodes(&mut self, nodes: Nodes) -> Result<(), NoMemory>
+        ensures ok { OnOk result (elem_view self.new ≡ with_nodes (elem_view self.old) (nodes_view nodes.items)) }
+        ensures err { OnErr result (elem_view self.new ≡ elem_view self.old) }
+    {
+        let mut items = nodes.into_items();
+        self.children.append(&mut items)?;
         Ok(())
     }
 }

@@ -26,7 +26,7 @@ impl Element {
         ensures value { result ≡ is_named ns.now name.now (elem_view self.now) }
         ensures named { IsTrue result ↔ ((namespace_of (elem_view self.now) ≡ ns.now) × (name_of (elem_view self.now) ≡ name.now)) }
     {
-        self.ns.as_str() == ns && self.name.as_str() == name
+        self.name.as_str() == name && self.ns.as_str() == ns
     }
 
     /// The value of the first attribute with this namespace, which is empty for an attribute without one, and name.

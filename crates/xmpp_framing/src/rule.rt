@@ -1,36 +1,9 @@
 ghost use Rattle.std.specs.Prelude.{◌≡◌, ◌↔◌, IsTrue};
-ghost use Rattle.std.specs.List.Sorted.{IsStrictlySortedBy};
-ghost use Rattle.std.specs.Option.{option_copied};
-ghost use Rattle.xmpp_framing.specs.Attributes.{is_above, name_order};
 ghost use Rattle.xmpp_framing.specs.Trees.{AreTidy, AreTidyBehind, IsTree, Nodes, is_text_first, joined};
 ghost use Rattle.xmpp_framing.specs.Views.{elem_view, node_view, nodes_view};
 
-use crate::attributes::{Attr, order_of_names};
+use crate::attributes::are_in_order;
 use crate::elements::{Element, Node};
-
-// Whether the name of an attribute is above that of the one before it.
-fn stands_above(before: Option<&Attr>, attr: &Attr) -> bool
-    ensures { result ≡ is_above (option_copied before.entry) attr.now }
-{
-    match before {
-        None => true,
-        Some(b) => order_of_names(b, attr).is_lt(),
-    }
-}
-
-// Whether the names ascend.
-fn are_in_order(attrs: &[Attr]) -> bool
-    ensures { IsTrue result ↔ IsStrictlySortedBy name_order attrs.now }
-{
-    let mut before = None;
-    for attr in attrs {
-        if !stands_above(before, attr) {
-            return false;
-        }
-        before = Some(attr);
-    }
-    true
-}
 
 impl Node {
     /// Whether the node is a text.

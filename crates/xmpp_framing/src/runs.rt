@@ -1,5 +1,5 @@
 ghost use Rattle.std.specs.Prelude.{◌≡◌, ◌≢◌, [], ◌++◌, IfOk, MatchOption};
-ghost use Rattle.xmpp_framing.specs.Runs.{run_text};
+ghost use Rattle.xmpp_framing.specs.Runs.{HasNoEmptyText, run_text};
 
 use std::alloc::Global;
 use xmpp_edge::{NoMemory, Text};
@@ -15,7 +15,9 @@ pub(crate) enum Run {
 impl Run {
     /// The run with a text behind it. It takes memory only where two texts are joined that aren't empty.
     pub(crate) fn joined_with(self, alloc: Global, text: Text) -> Result<Run, NoMemory>
-        ensures { IfOk result (λ run. run_text run ≡ run_text self ++ text) }
+        requires { HasNoEmptyText self }
+        ensures text { IfOk result (λ run. run_text run ≡ run_text self ++ text) }
+        ensures full { IfOk result HasNoEmptyText }
     {
         if text.as_str().is_empty() {
             return Ok(self);
@@ -34,19 +36,15 @@ impl Run {
         }
     }
 
-    /// The joined text. `None` where it is empty.
+    /// The joined text. `None` where nothing was joined that isn't empty.
     pub(crate) fn into_text(self) -> Option<Text>
+        requires { HasNoEmptyText self }
         ensures { MatchOption result (run_text self ≡ []) (λ text. (text ≡ run_text self) × (text ≢ [])) }
     {
-        let text = match self {
-            Run::Nothing => return None,
-            Run::One(text) => text,
-            Run::Several(all) => Text::from(all),
-        };
-        if text.as_str().is_empty() {
-            None
-        } else {
-            Some(text)
+        match self {
+            Run::Nothing => None,
+            Run::One(text) => Some(text),
+            Run::Several(all) => Some(Text::from(all)),
         }
     }
 }

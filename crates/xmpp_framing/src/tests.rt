@@ -1,24 +1,16 @@
 use crate::{Attr, Element, Node, Tree, copy_nodes, next_element};
 use std::alloc::Global;
-use std::fmt::Write;
 use std::test::Fail;
 use xmpp_edge::{Copied, NoMemory, Text};
 
-fn attr(alloc: Global, ns: &str, name: &str, value: &str) -> Result<Attr, NoMemory> {
-    Ok(Attr {
-        ns: Text::from_str(alloc, ns)?,
-        name: Text::from_str(alloc, name)?,
-        value: Text::from_str(alloc, value)?,
-    })
-}
-
-fn element(alloc: Global, ns: &str, name: &str) -> Result<Element, NoMemory> {
-    Ok(Element::new(
-        alloc,
-        Text::from_str(alloc, ns)?,
-        Text::from_str(alloc, name)?,
-    ))
-}
+const ATTRS: [(&str, &str, &str); 6] = [
+    ("urn:a", "b", "3"),
+    ("", "to", "first"),
+    ("urn:a", "a", "4"),
+    ("", "to", "second"),
+    ("", "é", "5"),
+    ("", "id", "1"),
+];
 
 fn push_texts(alloc: Global, element: &mut Element, texts: &[&str]) -> Result<(), NoMemory> {
     for text in texts {
@@ -27,46 +19,57 @@ fn push_texts(alloc: Global, element: &mut Element, texts: &[&str]) -> Result<()
     Ok(())
 }
 
-// Attributes out of order and repeated, texts that are empty or adjoin, at two levels.
-fn untidy(alloc: Global, depth: u32) -> Result<Element, NoMemory> {
-    let mut message = element(alloc, "jabber:client", "message")?;
-    message.push_attr(attr(alloc, "urn:a", "b", "3")?)?;
-    message.push_attr(attr(alloc, "", "to", "first")?)?;
-    message.push_attr(attr(alloc, "urn:a", "a", "4")?)?;
-    message.push_attr(attr(alloc, "", "to", "second")?)?;
-    message.push_attr(attr(alloc, "", "é", "5")?)?;
-    message.push_attr(attr(alloc, "", "id", "1")?)?;
-    push_texts(alloc, &mut message, &["", "one", "", "two", "three", ""])?;
-    if depth > 0 {
-        message.push_child(untidy(alloc, depth - 1)?)?;
+// Attributes out of order and repeated, texts that are empty or adjoin.
+fn untidy(alloc: Global) -> Result<Element, NoMemory> {
+    let mut message = Element::from_strs(alloc, "jabber:client", "message")?;
+    for (ns, name, value) in ATTRS {
+        message.push_attr(Attr::from_strs(alloc, ns, name, value)?)?;
     }
-    push_texts(alloc, &mut message, &["", ""])?;
-    message.push_child(element(alloc, "", "x")?)?;
-    push_texts(alloc, &mut message, &["end"])?;
+    push_texts(alloc, &mut message, &["", "one", "", "two", "three", ""])?;
+    message.push_child(Element::from_strs(alloc, "", "x")?)?;
+    push_texts(alloc, &mut message, &["", "end"])?;
     Ok(message)
+}
+
+// The same at two levels.
+fn untidy_twice(alloc: Global) -> Result<Element, NoMemory> {
+    let mut outside = untidy(alloc)?;
+    outside.push_child(untidy(alloc)?)?;
+    push_texts(alloc, &mut outside, &["", ""])?;
+    Ok(outside)
+}
+
+fn push_all(out: &mut String, parts: &[&str]) -> Result<(), Fail> {
+    for part in parts {
+        out.push_str(part)?;
+    }
+    Ok(())
 }
 
 // An element in one line: NS|NAME{NS|NAME=VALUE;..}[..].
 fn show(out: &mut String, element: &Element) -> Result<(), Fail> {
-    write!(out, "{}|{}{{", element.ns, element.name)?;
+    push_all(out, &[element.ns.as_str(), "|", element.name.as_str(), "{"])?;
     for attr in element.attrs.as_slice() {
-        write!(out, "{}|{}={};", attr.ns, attr.name, attr.value)?;
+        let parts = [
+            attr.ns.as_str(),
+            "|",
+            attr.name.as_str(),
+            "=",
+            attr.value.as_str(),
+            ";",
+        ];
+        push_all(out, &parts)?;
     }
-    write!(out, "}}[")?;
+    out.push_str("}[")?;
     for node in &element.children {
         match node {
             Node::Child(inner) => show(out, inner)?,
-            Node::Text(text) => write!(out, "'{text}'")?,
+            Node::Text(text) => push_all(out, &["'", text.as_str(), "'"])?,
         }
     }
-    write!(out, "]")?;
+    out.push_str("]")?;
     Ok(())
 }
-
-const LEVEL: &str =
-    "jabber:client|message{|id=1;|to=first;|é=5;urn:a|a=4;urn:a|b=3;}['onetwothree'";
-
-const TAIL: &str = "|x{}[]'end']";
 
 fn shown(alloc: Global, element: &Element) -> Result<String, Fail> {
     let mut text = String::new(alloc);
@@ -74,36 +77,39 @@ fn shown(alloc: Global, element: &Element) -> Result<String, Fail> {
     Ok(text)
 }
 
+const ONE_LEVEL: &str =
+    "jabber:client|message{|id=1;|to=first;|é=5;urn:a|a=4;urn:a|b=3;}['onetwothree'|x{}[]'end']";
+
+const TWO_LEVELS: &str =
+    "jabber:client|message{|id=1;|to=first;|é=5;urn:a|a=4;urn:a|b=3;}['onetwothree'|x{}[]'end'jabber:client|message{|id=1;|to=first;|é=5;urn:a|a=4;urn:a|b=3;}['onetwothree'|x{}[]'end']]";
+
 #[test]
 fn a_tree_is_tidy_at_every_level(rt: HostRuntime) -> Result<(), Fail> {
     let alloc = rt.alloc();
-    let tree = Tree::of(alloc, untidy(alloc, 1)?)?;
-    let text = shown(alloc, tree.element())?;
-    let want = format!(in alloc; "{LEVEL}{LEVEL}{TAIL}{TAIL}")?;
-    assert_eq!(rt; text.as_str(), want.as_str());
+    let tree = Tree::of(alloc, untidy_twice(alloc)?)?;
+    assert_eq!(rt; shown(alloc, tree.element())?.as_str(), TWO_LEVELS);
     let again = Tree::of(alloc, tree.into_element())?;
-    assert_eq!(rt; shown(alloc, again.element())?.as_str(), want.as_str());
+    assert_eq!(rt; shown(alloc, again.element())?.as_str(), TWO_LEVELS);
     Ok(())
 }
 
 #[test]
 fn trees_and_nodes_are_copied(rt: HostRuntime) -> Result<(), Fail> {
     let alloc = rt.alloc();
-    let tree = Tree::of(alloc, untidy(alloc, 0)?)?;
+    let tree = Tree::of(alloc, untidy(alloc)?)?;
     let copy = tree.copied(alloc)?;
     let nodes = copy_nodes(alloc, &tree.element().children)?;
     drop(tree);
-    let want = format!(in alloc; "{LEVEL}{TAIL}")?;
-    assert_eq!(rt; shown(alloc, copy.element())?.as_str(), want.as_str());
+    assert_eq!(rt; shown(alloc, copy.element())?.as_str(), ONE_LEVEL);
     assert_eq!(rt; nodes.as_slice().len(), 3);
     Ok(())
 }
 
 // An element that lies `depth` deep, with texts that adjoin at each level.
 fn nested(alloc: Global, depth: u32) -> Result<Element, NoMemory> {
-    let mut inside = element(alloc, "", "a")?;
+    let mut inside = Element::from_strs(alloc, "", "a")?;
     for _ in 1..depth {
-        let mut outside = element(alloc, "", "a")?;
+        let mut outside = Element::from_strs(alloc, "", "a")?;
         push_texts(alloc, &mut outside, &["b", "c"])?;
         outside.push_child(inside)?;
         inside = outside;
@@ -136,7 +142,7 @@ fn trees_are_as_deep_as_a_framer_admits(rt: HostRuntime) -> Result<(), Fail> {
 #[test]
 fn readers_find_what_is_there(rt: HostRuntime) -> Result<(), Fail> {
     let alloc = rt.alloc();
-    let message = untidy(alloc, 1)?;
+    let message = untidy(alloc)?;
     let mut values = String::new(alloc);
     for (ns, name) in [
         ("", "to"),
@@ -148,23 +154,10 @@ fn readers_find_what_is_there(rt: HostRuntime) -> Result<(), Fail> {
         values.push_str(message.attr(ns, name).unwrap_or("-"))?;
     }
     assert_eq!(rt; values.as_str(), "first4--5");
-    let inner = message
-        .child("jabber:client", "message")
-        .ok_or("no message")?;
-    assert_eq!(rt; inner.text(alloc)?.as_str(), "onetwothreeend");
-    assert!(rt; inner.only_text().is_none());
+    assert_eq!(rt; message.text(alloc)?.as_str(), "onetwothreeend");
+    assert!(rt; message.only_text().is_none());
     let x = message.child("", "x").ok_or("no x")?;
     assert_eq!(rt; x.only_text().unwrap_or("-"), "");
-    Ok(())
-}
-
-#[test]
-fn names_are_told_apart(rt: HostRuntime) -> Result<(), Fail> {
-    let alloc = rt.alloc();
-    let message = untidy(alloc, 0)?;
-    assert!(rt; message.is("jabber:client", "message"));
-    assert!(rt; !message.is("", "message"));
-    assert!(rt; !message.is("jabber:client", "iq"));
     assert!(rt; message.child("urn:a", "x").is_none());
     Ok(())
 }
@@ -172,11 +165,11 @@ fn names_are_told_apart(rt: HostRuntime) -> Result<(), Fail> {
 #[test]
 fn elements_are_gone_over_in_order(rt: HostRuntime) -> Result<(), Fail> {
     let alloc = rt.alloc();
-    let message = untidy(alloc, 1)?;
+    let message = untidy_twice(alloc)?;
     let (first, behind) = next_element(&message.children).ok_or("no element")?;
-    assert_eq!(rt; first.name.as_str(), "message");
+    assert!(rt; first.is("", "x"));
     let (second, rest) = next_element(behind).ok_or("no second element")?;
-    assert_eq!(rt; second.name.as_str(), "x");
+    assert!(rt; second.is("jabber:client", "message"));
     assert!(rt; next_element(rest).is_none());
     Ok(())
 }

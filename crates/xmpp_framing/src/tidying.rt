@@ -1,5 +1,5 @@
 ghost use Rattle.std.specs.Prelude.{◌≡◌, [], IfOk, OnOk};
-ghost use Rattle.xmpp_framing.specs.Runs.{run_text};
+ghost use Rattle.xmpp_framing.specs.Runs.{HasNoEmptyText, run_text};
 ghost use Rattle.xmpp_framing.specs.Tidied.{inner_tidied, text_node, texts_joined, tidied};
 ghost use Rattle.xmpp_framing.specs.Trees.{joined};
 ghost use Rattle.xmpp_framing.specs.Views.{elem_view, node_view, nodes_view};
@@ -13,6 +13,7 @@ use xmpp_edge::NoMemory;
 
 // The run as a node behind the others, where it isn't empty.
 fn put_run(kept: &mut Vec<Node>, run: Run) -> Result<(), NoMemory>
+    requires { HasNoEmptyText run }
     ensures { OnOk result (nodes_view kept.new.items ≡ joined (nodes_view kept.old.items) (text_node (run_text run))) }
 {
     match run.into_text() {

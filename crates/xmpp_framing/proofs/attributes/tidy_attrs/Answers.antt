@@ -1,9 +1,14 @@
-use Rattle.std.proofs.Common.{◌≡◌, [], ◌∙◌, sym, append-nil}
-use Rattle.std.specs.List.Sorted.{IsStable}
+use Rattle.std.proofs.Common.{◌≡◌, [], ◌∙◌, sym, append-nil, rules}
+use Rattle.std.specs.List.Sorted.{IsStable, IsStrictlySortedBy}
 use Rattle.std.specs.Vec.Iter.{into_iter_items}
-use Rattle.xmpp_framing.proofs.AttributeOrder.{nothing_left, sorted_then_deduped}
+use Rattle.xmpp_framing.proofs.AttributeOrder.{nothing_left, sorted_attributes_stay, sorted_then_deduped}
 use Rattle.xmpp_framing.specs.Attributes.{name_order}
 use Rattle.xmpp_framing.proofs.attributes.tidy_attrs.Goals as goal
+
+pub returns-then-are_in_order : goal.returns-then-are_in_order
+returns-then-are_in_order c =
+    let up : IsStrictlySortedBy name_order c.args.attrs.items = search rules in
+    sym (sorted_attributes_stay c.args.attrs.items up)
 
 pub returns : goal.returns
 returns c =

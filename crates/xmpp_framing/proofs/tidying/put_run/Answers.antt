@@ -1,7 +1,6 @@
-use Rattle.std.proofs.Common.{[], sym, ap, ◌∙◌}
+use Rattle.std.proofs.Common.{sym, ap}
 use Rattle.xmpp_framing.proofs.Folds.{joined_none, node_view_text, nodes_view_push}
 use Rattle.xmpp_framing.proofs.TidyLaws.{text_node_some}
-use Rattle.xmpp_framing.specs.Tidied.{text_node}
 use Rattle.xmpp_framing.specs.Trees.{joined}
 use Rattle.xmpp_framing.specs.Views.{nodes_view}
 use Rattle.xmpp_framing.proofs.tidying.put_run.Goals as goal

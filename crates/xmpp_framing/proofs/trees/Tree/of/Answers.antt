@@ -1,6 +1,5 @@
 use Rattle.std.proofs.Common.{sym, subst, rules}
 use Rattle.xmpp_framing.proofs.TidyLaws.{tidied_IsTree, tidied_stays}
-use Rattle.xmpp_framing.specs.Tidied.{tidied}
 use Rattle.xmpp_framing.specs.Trees.{IsTree}
 use Rattle.xmpp_framing.specs.Views.{elem_view}
 use Rattle.xmpp_framing.proofs.trees.Tree.of.Goals as goal

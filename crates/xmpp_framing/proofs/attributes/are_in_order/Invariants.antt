@@ -3,7 +3,7 @@ use Rattle.std.specs.List.Sorted.{IsStrictlySortedBy}
 use Rattle.std.specs.Option.{option_copied, option_to_list}
 use Rattle.std.specs.Prelude.{◌↔◌}
 use Rattle.xmpp_framing.specs.Attributes.{name_order}
-use Rattle.xmpp_framing.proofs.rule.are_in_order.Given as goal
+use Rattle.xmpp_framing.proofs.attributes.are_in_order.Given as goal
 
 -- the last one and those ahead are in order just where all are
 abbrev pub invariant-loop-attr : goal.invariant-loop-attr

@@ -2,7 +2,7 @@ use Rattle.std.proofs.Common.{true≢false, ◌+◌, drop, refl, sym, ◌∙◌,
 use Rattle.std.proofs.lemmas.List.{drop_all}
 use Rattle.std.specs.Option.{option_copied}
 use Rattle.xmpp_framing.proofs.RuleSteps.{drop_item, in_order_step, one_in_order}
-use Rattle.xmpp_framing.proofs.rule.are_in_order.Goals as goal
+use Rattle.xmpp_framing.proofs.attributes.are_in_order.Goals as goal
 
 pub returns-then-not-stands_above : goal.returns-then-not-stands_above
 returns-then-not-stands_above c =
