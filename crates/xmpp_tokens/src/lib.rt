@@ -1,0 +1,9 @@
+//! The tokens of an XMPP stream, each read off its whole bytes: characters, references, values, declarations and the
+//! inside of a tag (XML 1.0, fifth edition; RFC 6120, sections 4 and 11; RFC 3629).
+#![tactic(auto)]
+
+mod characters;
+mod utf8;
+
+pub use characters::{are_characters, ends_forbidden, is_name, is_name_byte, is_name_start, is_white};
+pub use utf8::{NotUtf8, PartialCharacter, runs_are_text, text_front, text_runs};
