@@ -3,7 +3,14 @@
 #![tactic(auto)]
 
 mod characters;
+mod faults;
+mod fronts;
+mod references;
 mod utf8;
+mod values;
 
 pub use characters::{are_characters, ends_forbidden, is_name, is_name_byte, is_name_start, is_white};
+pub use faults::TagFault;
+pub use references::{Reference, reference_goes_on, referred, references_go_on};
 pub use utf8::{NotUtf8, PartialCharacter, runs_are_text, text_front, text_runs};
+pub use values::{has_unknown, read_value};
