@@ -3,3 +3,7 @@ pub mod Going
 pub mod Splits
 pub mod ValueRuns
 pub mod Texts
+pub mod TagWords
+pub mod InsideRuns
+pub mod Names
+pub mod Outcomes

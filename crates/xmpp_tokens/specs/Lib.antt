@@ -5,3 +5,6 @@ pub mod Held
 pub mod References
 pub mod Utf8
 pub mod Values
+pub mod Tags
+pub mod RawTags
+pub mod SpelledView

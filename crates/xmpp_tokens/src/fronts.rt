@@ -3,6 +3,7 @@ ghost use Rattle.std.specs.Prelude.{◌≡◌, ◌+◌, ◌<◌, ◌≤◌, ◌=
 ghost use Rattle.std.specs.List.{prefix_len};
 ghost use Rattle.xmpp_tokens.specs.Characters;
 ghost use Rattle.xmpp_tokens.specs.Fronts.{front, behind};
+ghost use Rattle.xmpp_tokens.specs.Tags;
 ghost use Rattle.xmpp_tokens.specs.Values;
 
 use crate::characters::is_name_byte;
@@ -72,4 +73,25 @@ pub(crate) fn split_plain(bytes: &[u8]) -> (&[u8], &[u8])
     ensures behind { result.1.now ≡ behind Values.is_plain bytes.now }
 {
     bytes.split_at(plain_len(bytes))
+}
+
+fn is_qualified_byte(b: u8) -> bool
+    ensures { result ≡ Tags.is_qualified_byte b }
+{
+    is_name_byte(b) || b == b':'
+}
+
+fn qualified_len(bytes: &[u8]) -> usize
+    ensures { result ≡ prefix_len Tags.is_qualified_byte bytes.now }
+{
+    bytes.iter().take_while(|b| is_qualified_byte(**b)).count()
+}
+
+// The bytes that go on a name or are a colon, and the rest.
+#[tactic(auto, using(crate::proofs::Splits::take_prefix, crate::proofs::Splits::drop_prefix, crate::proofs::Splits::prefix_within))]
+pub(crate) fn split_qualified(bytes: &[u8]) -> (&[u8], &[u8])
+    ensures front { result.0.now ≡ front Tags.is_qualified_byte bytes.now }
+    ensures behind { result.1.now ≡ behind Tags.is_qualified_byte bytes.now }
+{
+    bytes.split_at(qualified_len(bytes))
 }

@@ -2,15 +2,21 @@
 //! inside of a tag (XML 1.0, fifth edition; RFC 6120, sections 4 and 11; RFC 3629).
 #![tactic(auto)]
 
+mod attributes;
 mod characters;
+mod distinct;
 mod faults;
 mod fronts;
+mod raw_tags;
 mod references;
+mod tags;
 mod utf8;
 mod values;
 
 pub use characters::{are_characters, ends_forbidden, is_name, is_name_byte, is_name_start, is_white};
 pub use faults::TagFault;
 pub use references::{Reference, reference_goes_on, referred, references_go_on};
+pub use raw_tags::{RawAttribute, RawTag, StartTag};
+pub use tags::read_tag;
 pub use utf8::{NotUtf8, PartialCharacter, runs_are_text, text_front, text_runs};
 pub use values::{has_unknown, read_value};
