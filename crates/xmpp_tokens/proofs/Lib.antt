@@ -7,3 +7,4 @@ pub mod TagWords
 pub mod InsideRuns
 pub mod Names
 pub mod Outcomes
+pub mod TagLaws

@@ -120,3 +120,8 @@ distinct_passes (n ∷ ns) h =
 pub tested : (ns : List (List ℕ)) (b : Bool) → ((b ≡ true) ↔ AreDistinct ns) → b ≡ are_distinct ns
 tested ns true h = sym (distinct_passes ns (h.0 refl))
 tested ns false h = sym (false_from_ne_true (are_distinct ns) (λ e. false≢true (h.1 (distinct_tested ns e))))
+
+pub repeated_beside : (ns : List Borrowed) (k j : ℕ) (d : Borrowed) → k + 1 ≡ j → j < length ns → bytes_eq (get_or ns k d).now (get_or ns j d).now ≡ true → AreDistinct (texts ns) → ⊥
+repeated_beside ns k j d is within same h =
+    let next = ap (λ n. get_or ns n d) is in
+    repeated ns k d (omega arith) (ap (λ (n : Borrowed). bytes_eq (get_or ns k d).now n.now) next ∙ same) h
