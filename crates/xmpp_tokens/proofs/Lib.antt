@@ -8,3 +8,4 @@ pub mod InsideRuns
 pub mod Names
 pub mod Outcomes
 pub mod TagLaws
+pub mod TagOutcomes

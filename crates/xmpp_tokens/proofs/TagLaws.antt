@@ -1,6 +1,6 @@
 -- Reading a tag is its grammar, both ways.
 use Rattle.std.proofs.Common.{◌≡◌, ◌≢◌, ℕ, zero, suc, ◌+◌, ◌<◌, ◌≤◌, ◌⊎◌, inl, inr, Bool, true, false, cond, eqb, not, ◌&&◌, ◌||◌, List, [], ◌∷◌, ◌++◌, Option, Some, None, Ok, Err, length, map, refl, sym, ap, subst, ◌∙◌, arith, ⊎_elim, append_assoc}
-use Rattle.std.proofs.lemmas.Bool.{cases_Bool, and_parts, and_from, or_left, or_right, or_from, eqb-true, eq-eqb, ne_eqb, false≢true, not-true, not-false, not_from_true, not_from_false, cond-true}
+use Rattle.std.proofs.lemmas.Bool.{cases_Bool, and_parts, and_from, or_left, or_right, or_from, eqb-true, eq-eqb, ne_eqb, false≢true, not-true, not-false, not_from_true, not_from_false, cond-true, cond-false}
 use Rattle.std.proofs.lemmas.Bool.Decides.{nat_tests}
 use Rattle.std.proofs.lemmas.List.{append-nil}
 use Rattle.std.proofs.lemmas.List.Folds.{list_all-append}
@@ -163,3 +163,178 @@ inside_again (a ∷ more) bytes space empty white h =
     ∙ ap (λ e. unless_ended e (option_and_then (λ f. with_more (f.attribute ∷ []) (inside_of f.rest)) (attribute_at bytes))) (attribute_no_end bytes a h.0 h.1)
     ∙ ap (option_and_then (λ f. with_more (f.attribute ∷ []) (inside_of f.rest))) (attribute_again bytes a h.0 h.1)
     ∙ ap (with_more (a ∷ [])) (inside_again more h.0 space empty white h.2)
+
+inside_stops : (attributes : List Attribute) (inside space : List ℕ) (empty : Bool) → are_white space ≡ true → AreAttributes inside attributes (space ++ tag_end empty) → stops is_qualified_byte inside ≡ true
+inside_stops [] inside space true white h = subst (λ l. stops is_qualified_byte l ≡ true) (sym h) (white_stops space 47 (62 ∷ []) white refl)
+inside_stops [] inside space false white h = subst (λ l. stops is_qualified_byte l ≡ true) (sym h) (white_stops space 62 [] white refl)
+inside_stops (a ∷ more) inside space empty white h =
+    let i = h.1.1 in
+    subst (λ l. stops is_qualified_byte l ≡ true) (sym i.bytes_are) (space_stops i.space (a.name ++ (i.before ++ (61 ∷ (i.after ++ (i.quote ∷ (h.1.0 ++ (i.quote ∷ h.0))))))) i.some_space i.space_white)
+  where
+  space_stops : (ws rest : List ℕ) → ws ≢ [] → are_white ws ≡ true → stops is_qualified_byte (ws ++ rest) ≡ true
+  space_stops [] rest some white = absurd (some refl)
+  space_stops (w ∷ ws) rest some white = let p = and_parts (is_white w) (are_white ws) white in not_from_false _ (white_no_name w p.0)
+
+start_no_slash : (n : ℕ) → is_name_start n ≡ true → eqb n 47 ≡ false
+start_no_slash n h = grind (arith, nat_tests)
+
+-- behind `<` a name says a start tag
+begun_by_name : (name rest : List ℕ) → is_qualified name ≡ true → begun_at (name ++ rest) ≡ start_at (name ++ rest)
+begun_by_name name rest h =
+    let b = qualified_begins name h in
+    subst (λ l. begun_at (l ++ rest) ≡ start_at (l ++ rest)) (sym b.name_is) (rw (start_no_slash b.first b.starts) refl)
+
+start_again : (bytes name : List ℕ) (attributes : List Attribute) (empty : Bool) → IsStartTag bytes name attributes empty → tag_at bytes ≡ Some (start_tag name attributes empty)
+unfolding start_at
+start_again bytes name attributes empty h =
+    let s = inside_stops attributes h.inside h.space empty h.space_white h.inside_is in
+    let all = qualified_all name h.name_is in
+    let f : front is_qualified_byte (name ++ h.inside) ≡ name = front-append is_qualified_byte name h.inside all s in
+    let b : behind is_qualified_byte (name ++ h.inside) ≡ h.inside = behind-append is_qualified_byte name h.inside all s in
+    let i = inside_again attributes h.inside h.space empty h.space_white h.inside_is in
+    let at : List ℕ → List ℕ → Option Tag = λ n rest. cond (is_qualified n) (option_and_then (start_with n) (inside_of rest)) None in
+    let made : at name h.inside ≡ Some (start_tag name attributes empty) =
+      cond-true (is_qualified name) (option_and_then (start_with name) (inside_of h.inside)) None h.name_is
+      ∙ ap (option_and_then (start_with name)) i
+      ∙ cond-true (are_distinct (names_of attributes)) (Some (start_tag name attributes empty)) None (distinct_passes (names_of attributes) h.distinct) in
+    ap tag_at h.bytes_are ∙ begun_by_name name h.inside h.name_is
+    ∙ ap (λ n. at n (behind is_qualified_byte (name ++ h.inside))) f ∙ ap (at name) b ∙ made
+
+end_tag_again : (bytes name : List ℕ) → IsEndTag bytes name → tag_at bytes ≡ Some (end_tag name)
+unfolding end_at
+end_tag_again bytes name h =
+    let ending = h.space ++ (62 ∷ []) in
+    let s = white_stops h.space 62 [] h.space_white refl in
+    let all = qualified_all name h.name_is in
+    let f : front is_qualified_byte (name ++ ending) ≡ name = front-append is_qualified_byte name ending all s in
+    let b : behind is_qualified_byte (name ++ ending) ≡ ending = behind-append is_qualified_byte name ending all s in
+    let w : behind is_white ending ≡ 62 ∷ [] = behind-append is_white h.space (62 ∷ []) h.space_white refl in
+    let at : List ℕ → List ℕ → Option Tag = λ n rest. cond (is_qualified n && bytes_eq (behind is_white rest) (62 ∷ [])) (Some (end_tag n)) None in
+    ap tag_at h.bytes_are ∙ ap (λ n. at n (behind is_qualified_byte (name ++ ending))) f ∙ ap (at name) b
+    ∙ ap (λ l. cond (is_qualified name && bytes_eq l (62 ∷ [])) (Some (end_tag name)) None) w
+    ∙ cond-true (is_qualified name && true) (Some (end_tag name)) None (and_from _ _ h.name_is refl)
+
+pub tag_again : (bytes : List ℕ) (t : Tag) → IsTag bytes t → tag_at bytes ≡ Some t
+tag_again bytes (start_tag name attributes empty) h = start_again bytes name attributes empty h
+tag_again bytes (end_tag name) h = end_tag_again bytes name h
+
+-- ---- what is read is spelled so
+
+end_tells : (bs : List ℕ) (empty : Bool) → end_in bs ≡ Some empty → bs ≡ tag_end empty
+end_tells bs empty e =
+    ⊎_elim
+    (λ (closes : bytes_eq bs (62 ∷ []) ≡ true).
+      let same : Some false ≡ Some empty = sym (cond-true (bytes_eq bs (62 ∷ [])) (Some false) (cond (bytes_eq bs (47 ∷ 62 ∷ [])) (Some true) None) closes) ∙ e in
+      (bytes_eq-Decides bs (62 ∷ [])).0 closes ∙ ap tag_end (some_inner _ _ same))
+    (λ (other : bytes_eq bs (62 ∷ []) ≡ false).
+      let rest : cond (bytes_eq bs (47 ∷ 62 ∷ [])) (Some true) None ≡ Some empty = sym (cond-false (bytes_eq bs (62 ∷ [])) (Some false) (cond (bytes_eq bs (47 ∷ 62 ∷ [])) (Some true) None) other) ∙ e in
+      let p = guard_some (bytes_eq bs (47 ∷ 62 ∷ [])) true empty rest in
+      (bytes_eq-Decides bs (47 ∷ 62 ∷ [])).0 p.0 ∙ ap tag_end p.1)
+    (cases_Bool (bytes_eq bs (62 ∷ [])))
+  where
+  some_inner : (a b : Bool) → Some a ≡ Some b → a ≡ b
+  some_inner a b e = cc
+  guard_some : (t : Bool) (x y : Bool) → cond t (Some x) None ≡ Some y → (t ≡ true) × (x ≡ y)
+  guard_some true x y e = (refl, cc)
+  guard_some false x y e = absurd cc
+
+record Insides (bs : List ℕ) (i : Inside) : Type 0 where
+  space : List ℕ
+  attributes_are : AreAttributes bs i.attributes (space ++ tag_end i.empty)
+  space_white : are_white space ≡ true
+
+found_attribute : (bs : List ℕ) (f : Found) → attribute_at bs ≡ Some f → IsAttribute bs f.attribute f.rest
+found_attribute bs f e =
+    let h = finds bs f e in
+    let s = is_spelled bs h.as_spelled h.spelled_is in
+    (h.as_spelled.raw, subst (λ n. IsSpelled bs n h.as_spelled.raw f.rest) (sym h.name_is) (subst (λ r. IsSpelled bs h.as_spelled.name h.as_spelled.raw r) (sym h.rest_is) s), h.value_is)
+
+ended_tells : (bs : List ℕ) (empty : Bool) (i : Inside) → end_in (behind is_white bs) ≡ Some empty → Some (record { attributes = []; empty = empty }) ≡ Some i → Insides bs i
+ended_tells bs empty i ends e =
+    let inner : Inside = record { attributes = []; empty = empty } in
+    let same : inner ≡ i = cc in
+    subst (Insides bs) same (record {
+      space = front is_white bs;
+      attributes_are = sym (joined is_white bs) ∙ ap (λ l. front is_white bs ++ l) (end_tells (behind is_white bs) empty ends);
+      space_white = front_passes is_white bs;
+    })
+
+more_tells : (a : Attribute) (o : Option Inside) (i : Inside) → with_more (a ∷ []) o ≡ Some i → (j : Inside) × (o ≡ Some j) × (i ≡ record { attributes = a ∷ j.attributes; empty = j.empty })
+more_tells a None i e = absurd cc
+more_tells a (Some j) i e = let grown : Inside = record { attributes = a ∷ j.attributes; empty = j.empty } in let same : grown ≡ i = cc in (j, refl, sym same)
+
+module _ (k : ℕ) (ih : (bs : List ℕ) (i : Inside) → inside_within k bs ≡ Some i → Insides bs i) (bs : List ℕ) (i : Inside) where
+  by_found : (o : Option Found) → attribute_at bs ≡ o → option_and_then (λ f. with_more (f.attribute ∷ []) (inside_within k f.rest)) o ≡ Some i → Insides bs i
+  by_found None o_is e = absurd cc
+  by_found (Some f) o_is e =
+      let m = more_tells f.attribute (inside_within k f.rest) i e in
+      let rest = ih f.rest m.0 m.1 in
+      subst (Insides bs) (sym m.2) (record { space = rest.space; attributes_are = (f.rest, found_attribute bs f o_is, rest.attributes_are); space_white = rest.space_white })
+
+  by_end : (end : Option Bool) → end_in (behind is_white bs) ≡ end → unless_ended end (option_and_then (λ f. with_more (f.attribute ∷ []) (inside_within k f.rest)) (attribute_at bs)) ≡ Some i → Insides bs i
+  by_end None end_is e = by_found (attribute_at bs) refl e
+  by_end (Some empty) end_is e = ended_tells bs empty i end_is e
+
+inside_tells : (k : ℕ) (bs : List ℕ) (i : Inside) → inside_within k bs ≡ Some i → Insides bs i
+inside_tells zero bs i e = absurd cc
+inside_tells (suc k) bs i e = by_end k (inside_tells k) bs i (end_in (behind is_white bs)) refl e
+
+guard_tells : {X : Type 0} (b : Bool) (x : Option X) (y : X) → cond b x None ≡ Some y → (b ≡ true) × (x ≡ Some y)
+guard_tells true x y e = (refl, e)
+guard_tells false x y e = absurd cc
+
+some_inner : {X : Type 0} (x y : X) → Some x ≡ Some y → x ≡ y
+some_inner x y e = cc
+
+started : (bs name inside : List ℕ) (o : Option Inside) (t : Tag) → bs ≡ name ++ inside → is_qualified name ≡ true → inside_of inside ≡ o → option_and_then (start_with name) o ≡ Some t → IsTag (60 ∷ bs) t
+unfolding inside_of
+started bs name inside None t bs_are named_so is e = absurd cc
+started bs name inside (Some i) t bs_are named_so is e =
+    let g = guard_tells (are_distinct (names_of i.attributes)) (Some (start_tag name i.attributes i.empty)) t e in
+    let inner = inside_tells (suc (length inside)) inside i is in
+    subst (IsTag (60 ∷ bs)) (some_inner (start_tag name i.attributes i.empty) t g.1) (record {
+      inside = inside;
+      space = inner.space;
+      bytes_are = ap (λ l. 60 ∷ l) bs_are;
+      name_is = named_so;
+      inside_is = inner.attributes_are;
+      space_white = inner.space_white;
+      distinct = distinct_tested (names_of i.attributes) g.0;
+    })
+
+start_tells : (bs : List ℕ) (t : Tag) → start_at bs ≡ Some t → IsTag (60 ∷ bs) t
+unfolding start_at
+start_tells bs t e =
+    let g = guard_tells (is_qualified (front is_qualified_byte bs)) _ t e in
+    started bs (front is_qualified_byte bs) (behind is_qualified_byte bs) (inside_of (behind is_qualified_byte bs)) t (sym (joined is_qualified_byte bs)) g.0 refl g.1
+
+end_tag_tells : (bs : List ℕ) (t : Tag) → end_at bs ≡ Some t → IsTag (60 ∷ 47 ∷ bs) t
+unfolding end_at
+end_tag_tells bs t e =
+    let name = front is_qualified_byte bs in
+    let rest = behind is_qualified_byte bs in
+    let g = guard_tells (is_qualified name && bytes_eq (behind is_white rest) (62 ∷ [])) (Some (end_tag name)) t e in
+    let p = and_parts (is_qualified name) _ g.0 in
+    let closes = (bytes_eq-Decides (behind is_white rest) (62 ∷ [])).0 p.1 in
+    subst (IsTag (60 ∷ 47 ∷ bs)) (some_inner (end_tag name) t g.1) (record {
+      space = front is_white rest;
+      bytes_are = ap (λ l. 60 ∷ 47 ∷ l) (sym (joined is_qualified_byte bs) ∙ ap (λ l. name ++ l) (sym (joined is_white rest) ∙ ap (λ l. front is_white rest ++ l) closes));
+      name_is = p.0;
+      space_white = front_passes is_white rest;
+    })
+
+begun_tells : (bs : List ℕ) (t : Tag) → begun_at bs ≡ Some t → IsTag (60 ∷ bs) t
+begun_tells [] t e = absurd cc
+begun_tells (b ∷ bs) t e =
+    ⊎_elim
+    (λ (slash : eqb b 47 ≡ true).
+      let inner : end_at bs ≡ Some t = sym (cond-true (eqb b 47) (end_at bs) (start_at (b ∷ bs)) slash) ∙ e in
+      subst (λ x. IsTag (60 ∷ x ∷ bs) t) (sym (eqb-true b 47 slash)) (end_tag_tells bs t inner))
+    (λ (other : eqb b 47 ≡ false). start_tells (b ∷ bs) t (sym (cond-false (eqb b 47) (end_at bs) (start_at (b ∷ bs)) other) ∙ e))
+    (cases_Bool (eqb b 47))
+
+pub tag_tells : (bytes : List ℕ) (t : Tag) → tag_at bytes ≡ Some t → IsTag bytes t
+tag_tells [] t e = absurd cc
+tag_tells (b ∷ bs) t e =
+    let g = guard_tells (eqb b 60) (begun_at bs) t e in
+    subst (λ x. IsTag (x ∷ bs) t) (sym (eqb-true b 60 g.0)) (begun_tells bs t g.1)

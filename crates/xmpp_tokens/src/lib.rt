@@ -17,6 +17,6 @@ pub use characters::{are_characters, ends_forbidden, is_name, is_name_byte, is_n
 pub use faults::TagFault;
 pub use references::{Reference, reference_goes_on, referred, references_go_on};
 pub use raw_tags::{RawAttribute, RawTag, StartTag};
-pub use tags::read_tag;
+pub use tags::{read_tag, tags_are_read, unknown_names_are_restricted, what_is_read_is_a_tag};
 pub use utf8::{NotUtf8, PartialCharacter, runs_are_text, text_front, text_runs};
 pub use values::{has_unknown, read_value};
