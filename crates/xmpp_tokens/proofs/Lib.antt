@@ -9,3 +9,4 @@ pub mod Names
 pub mod Outcomes
 pub mod TagLaws
 pub mod TagOutcomes
+pub mod DeclarationLaws

@@ -1,5 +1,6 @@
 pub use Rattle.xmpp_edge.specs.Listed
 pub mod Characters
+pub mod Declarations
 pub mod Fronts
 pub mod Held
 pub mod References
@@ -8,3 +9,4 @@ pub mod Values
 pub mod Tags
 pub mod RawTags
 pub mod SpelledView
+pub mod Spelling

@@ -3,6 +3,7 @@ ghost use Rattle.std.specs.Prelude.{◌≡◌, ◌+◌, ◌<◌, ◌≤◌, ◌=
 ghost use Rattle.std.specs.List.{prefix_len};
 ghost use Rattle.xmpp_tokens.specs.Characters;
 ghost use Rattle.xmpp_tokens.specs.Fronts.{front, behind};
+ghost use Rattle.xmpp_tokens.specs.Spelling;
 ghost use Rattle.xmpp_tokens.specs.Tags;
 ghost use Rattle.xmpp_tokens.specs.Values;
 
@@ -94,4 +95,46 @@ pub(crate) fn split_qualified(bytes: &[u8]) -> (&[u8], &[u8])
     ensures behind { result.1.now ≡ behind Tags.is_qualified_byte bytes.now }
 {
     bytes.split_at(qualified_len(bytes))
+}
+
+fn is_text_plain(b: u8) -> bool
+    ensures { result ≡ Spelling.is_text_plain b }
+{
+    b != b'&' && b != b'<' && b != b'>' && b != b'\r'
+}
+
+fn text_plain_len(bytes: &[u8]) -> usize
+    ensures { result ≡ prefix_len Spelling.is_text_plain bytes.now }
+{
+    bytes.iter().take_while(|b| is_text_plain(**b)).count()
+}
+
+// The bytes that a text is written with as they are, and the rest.
+#[tactic(auto, using(crate::proofs::Splits::take_prefix, crate::proofs::Splits::drop_prefix, crate::proofs::Splits::prefix_within))]
+pub(crate) fn split_text_plain(bytes: &[u8]) -> (&[u8], &[u8])
+    ensures front { result.0.now ≡ front Spelling.is_text_plain bytes.now }
+    ensures behind { result.1.now ≡ behind Spelling.is_text_plain bytes.now }
+{
+    bytes.split_at(text_plain_len(bytes))
+}
+
+fn is_value_plain(b: u8) -> bool
+    ensures { result ≡ Spelling.is_value_plain b }
+{
+    is_text_plain(b) && b != b'\'' && b != b'\t' && b != b'\n'
+}
+
+fn value_plain_len(bytes: &[u8]) -> usize
+    ensures { result ≡ prefix_len Spelling.is_value_plain bytes.now }
+{
+    bytes.iter().take_while(|b| is_value_plain(**b)).count()
+}
+
+// The bytes that a value is written with as they are, and the rest.
+#[tactic(auto, using(crate::proofs::Splits::take_prefix, crate::proofs::Splits::drop_prefix, crate::proofs::Splits::prefix_within))]
+pub(crate) fn split_value_plain(bytes: &[u8]) -> (&[u8], &[u8])
+    ensures front { result.0.now ≡ front Spelling.is_value_plain bytes.now }
+    ensures behind { result.1.now ≡ behind Spelling.is_value_plain bytes.now }
+{
+    bytes.split_at(value_plain_len(bytes))
 }
