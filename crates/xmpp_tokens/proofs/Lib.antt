@@ -10,3 +10,4 @@ pub mod Outcomes
 pub mod TagLaws
 pub mod TagOutcomes
 pub mod DeclarationLaws
+pub mod SpellingRuns

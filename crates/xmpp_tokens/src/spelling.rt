@@ -104,3 +104,73 @@ fn append_text_run<'a>(out: &mut Bytes, rest: &'a [u8]) -> &'a [u8]
         None => special,
     }
 }
+
+/// textrites a text at the end and takes no memory. It lowers `spare` by at most its written length.
+pub fn append_text_reserved(out: &mut Bytes, bytes: &[u8])
+    requires { length (spelled_text bytes.now) ≤ out.old.spare }
+    ensures items { out.new.items ≡ out.old.items ++ spelled_text bytes.now }
+    ensures spare { out.old.spare ≤ out.new.spare + length (spelled_text bytes.now) }
+{
+    let mut rest = bytes;
+    while !rest.is_empty() {
+        rest = append_text_run(out, rest);
+    }
+}
+
+/// textrites a text at the end (XML 1.0, section 2.4: `&`, `<` and `>` escaped, and a carriage return as a character reference). A refusal leaves the bytes as they were.
+pub fn append_text(out: &mut Bytes, bytes: &[u8]) -> Result<(), NoMemory>
+    ensures ok { OnOk result (out.new.items ≡ out.old.items ++ spelled_text bytes.now) }
+    ensures err { OnErr result (out.new.items ≡ out.old.items) }
+{
+    let len = spelled_text_len(bytes);
+    if len == usize::MAX {
+        return Err(NoMemory);
+    }
+    out.reserve(len)?;
+    append_text_reserved(out, bytes);
+    Ok(())
+}
+
+// Writes what comes before the first byte to escape, and that byte escaped, and answers what is left.
+fn append_value_run<'a>(out: &mut Bytes, rest: &'a [u8]) -> &'a [u8]
+    requires { length (spelled_value rest.now) ≤ out.old.spare }
+    ensures items { out.new.items ++ spelled_value result.now ≡ out.old.items ++ spelled_value rest.now }
+    ensures spare { out.old.spare + length (spelled_value result.now) ≤ out.new.spare + length (spelled_value rest.now) }
+    ensures shorter { length rest.now ≢ 0 → length result.now < length rest.now }
+{
+    let (plain, special) = split_value_plain(rest);
+    out.append_reserved(plain);
+    match special.split_first() {
+        Some((b, left)) => {
+            out.append_reserved(value_escape(*b));
+            left
+        }
+        None => special,
+    }
+}
+
+/// valuerites a value at the end and takes no memory. It lowers `spare` by at most its written length.
+pub fn append_value_reserved(out: &mut Bytes, bytes: &[u8])
+    requires { length (spelled_value bytes.now) ≤ out.old.spare }
+    ensures items { out.new.items ≡ out.old.items ++ spelled_value bytes.now }
+    ensures spare { out.old.spare ≤ out.new.spare + length (spelled_value bytes.now) }
+{
+    let mut rest = bytes;
+    while !rest.is_empty() {
+        rest = append_value_run(out, rest);
+    }
+}
+
+/// valuerites a value at the end (XML 1.0, section 3.3.3: as a text, and `'`, the tab and the line feed escaped too). A refusal leaves the bytes as they were.
+pub fn append_value(out: &mut Bytes, bytes: &[u8]) -> Result<(), NoMemory>
+    ensures ok { OnOk result (out.new.items ≡ out.old.items ++ spelled_value bytes.now) }
+    ensures err { OnErr result (out.new.items ≡ out.old.items) }
+{
+    let len = spelled_value_len(bytes);
+    if len == usize::MAX {
+        return Err(NoMemory);
+    }
+    out.reserve(len)?;
+    append_value_reserved(out, bytes);
+    Ok(())
+}
