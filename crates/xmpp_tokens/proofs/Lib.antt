@@ -11,3 +11,4 @@ pub mod TagLaws
 pub mod TagOutcomes
 pub mod DeclarationLaws
 pub mod SpellingRuns
+pub mod RoundTrips
