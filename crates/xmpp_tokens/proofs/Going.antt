@@ -67,13 +67,13 @@ numbers_go_on [] h = refl
 numbers_go_on (b ∷ bs) h =
     ⊎_elim
     (λ (hex : eqb b 120 ≡ true).
-      let digits = digits_all is_hex_digit bs (guarded (are_digits is_hex_digit bs) (character_numbered (number_of 16 bs)) (λ e. h (rw hex e))) in
-      let rest : each_goes_on (35 ∷ 120 ∷ []) bs ≡ true = hexadecimal_goes_on [] bs digits in
-      and_from _ _ (or_left (eqb b 120) _ hex) (rw (eqb-true b 120 hex) rest))
+    let digits = digits_all is_hex_digit bs (guarded (are_digits is_hex_digit bs) (character_numbered (number_of 16 bs)) (λ e. h (rw hex e))) in
+    let rest : each_goes_on (35 ∷ 120 ∷ []) bs ≡ true = hexadecimal_goes_on [] bs digits in
+    and_from _ _ (or_left (eqb b 120) _ hex) (rw (eqb-true b 120 hex) rest))
     (λ (other : eqb b 120 ≡ false).
-      let digits : list_all is_digit (b ∷ bs) ≡ true = digits_all is_digit (b ∷ bs) (guarded (are_digits is_digit (b ∷ bs)) (character_numbered (number_of 10 (b ∷ bs))) (λ e. h (rw other e))) in
-      let p = and_parts _ _ digits in
-      and_from _ _ (or_right (eqb b 120) _ p.0) (decimal_goes_on b [] bs other p.1))
+    let digits : list_all is_digit (b ∷ bs) ≡ true = digits_all is_digit (b ∷ bs) (guarded (are_digits is_digit (b ∷ bs)) (character_numbered (number_of 10 (b ∷ bs))) (λ e. h (rw other e))) in
+    let p = and_parts _ _ digits in
+    and_from _ _ (or_right (eqb b 120) _ p.0) (decimal_goes_on b [] bs other p.1))
     (cases_Bool (eqb b 120))
 
 -- ---- names
@@ -102,11 +102,12 @@ named name h =
     (λ h. chosen (bytes_eq name (codes "quot")) _ _ (is_name name ≡ true) h (λ e. known (codes "quot") refl e)
     (λ h. guarded (is_name name) Unknown h)))))
   where
-  known : (word : List ℕ) → is_name word ≡ true → bytes_eq name word ≡ true → is_name name ≡ true
-  known word good e = subst (λ w. is_name w ≡ true) (sym ((bytes_eq-Decides name word).0 e)) good
-  chosen : (b : Bool) (x y : Reference) (P : Type 0) → cond b x y ≢ Malformed → (b ≡ true → P) → (y ≢ Malformed → P) → P
-  chosen true x y P h taken passed = taken refl
-  chosen false x y P h taken passed = passed h
+    known : (word : List ℕ) → is_name word ≡ true → bytes_eq name word ≡ true → is_name name ≡ true
+    known word good e = subst (λ w. is_name w ≡ true) (sym ((bytes_eq-Decides name word).0 e)) good
+
+    chosen : (b : Bool) (x y : Reference) (P : Type 0) → cond b x y ≢ Malformed → (b ≡ true → P) → (y ≢ Malformed → P) → P
+    chosen true x y P h taken passed = taken refl
+    chosen false x y P h taken passed = passed h
 
 pub references_go_on : (name : List ℕ) → referred name ≢ Malformed → each_goes_on [] name ≡ true
 unfolding referred reference_goes_on are_characters
@@ -114,11 +115,11 @@ references_go_on [] h = refl
 references_go_on (b ∷ bs) h =
     ⊎_elim
     (λ (number : eqb b 35 ≡ true).
-      let rest = numbers_go_on bs (λ e. h (rw number e)) in
-      and_from _ _ (or_left (eqb b 35) _ number) (rw (eqb-true b 35 number) rest))
+    let rest = numbers_go_on bs (λ e. h (rw number e)) in
+    and_from _ _ (or_left (eqb b 35) _ number) (rw (eqb-true b 35 number) rest))
     (λ (other : eqb b 35 ≡ false).
-      let p = and_parts _ _ (named (b ∷ bs) (λ e. h (rw other e))) in
-      let q = and_parts (is_name_start b) (go_on bs) p.0 in
-      let r = and_parts _ _ p.1 in
-      and_from _ _ (or_right (eqb b 35) _ q.0) (names_go_on b [] bs other q.1 r.1))
+    let p = and_parts _ _ (named (b ∷ bs) (λ e. h (rw other e))) in
+    let q = and_parts (is_name_start b) (go_on bs) p.0 in
+    let r = and_parts _ _ p.1 in
+    and_from _ _ (or_right (eqb b 35) _ q.0) (names_go_on b [] bs other q.1 r.1))
     (cases_Bool (eqb b 35))

@@ -20,19 +20,20 @@ found_tells : (bs : List ℕ) (o : Option Spelled) (f : Found) → spelled_at bs
 found_tells bs None f is e = absurd cc
 found_tells bs (Some s) f is e = with_value (value_of s.raw) refl e
   where
-  made : List ℕ → Found
-  made v = record { attribute = record { name = s.name; value = v }; rest = s.rest }
-  with_value : (v : Option (List ℕ)) → value_of s.raw ≡ v → option_map made v ≡ Some f → Finds bs f
-  with_value None v_is e = absurd cc
-  with_value (Some v) v_is e =
-      let same : made v ≡ f = cc in
-      record {
-        as_spelled = s;
-        spelled_is = is;
-        value_is = v_is ∙ ap (λ (g : Found). Some g.attribute.value) same;
-        name_is = sym (ap (λ (g : Found). g.attribute.name) same);
-        rest_is = sym (ap (λ (g : Found). g.rest) same);
-      }
+    made : List ℕ → Found
+    made v = record { attribute = record { name = s.name; value = v }; rest = s.rest }
+
+    with_value : (v : Option (List ℕ)) → value_of s.raw ≡ v → option_map made v ≡ Some f → Finds bs f
+    with_value None v_is e = absurd cc
+    with_value (Some v) v_is e =
+        let same : made v ≡ f = cc in
+        record {
+          as_spelled = s;
+          spelled_is = is;
+          value_is = v_is ∙ ap (λ (g : Found). Some g.attribute.value) same;
+          name_is = sym (ap (λ (g : Found). g.attribute.name) same);
+          rest_is = sym (ap (λ (g : Found). g.rest) same);
+        }
 
 pub finds : (bs : List ℕ) (f : Found) → attribute_at bs ≡ Some f → Finds bs f
 finds bs f e = found_tells bs (spelled_at bs) f refl e
@@ -54,14 +55,14 @@ enough (suc k) zero bs p q = absurd (omega arith)
 enough (suc k) (suc j) bs p q =
     ap (unless_ended (end_in (behind is_white bs)))
     (and_then_same (attribute_at bs) (λ f. with_more (f.attribute ∷ []) (inside_within k f.rest)) (λ f. with_more (f.attribute ∷ []) (inside_within j f.rest))
-      (λ f e. let less = found_shorter bs f e in ap (with_more (f.attribute ∷ [])) (enough k j f.rest (omega arith) (omega arith))))
+    (λ f e. let less = found_shorter bs f e in ap (with_more (f.attribute ∷ [])) (enough k j f.rest (omega arith) (omega arith))))
 
 pub inside_step : (bs : List ℕ) → inside_of bs ≡ unless_ended (end_in (behind is_white bs)) (option_and_then (λ f. with_more (f.attribute ∷ []) (inside_of f.rest)) (attribute_at bs))
 unfolding inside_of
 inside_step bs =
     ap (unless_ended (end_in (behind is_white bs)))
     (and_then_same (attribute_at bs) (λ f. with_more (f.attribute ∷ []) (inside_within (length bs) f.rest)) (λ f. with_more (f.attribute ∷ []) (inside_within (suc (length f.rest)) f.rest))
-      (λ f e. let less = found_shorter bs f e in ap (with_more (f.attribute ∷ [])) (enough (length bs) (suc (length f.rest)) f.rest (omega arith) (omega arith))))
+    (λ f e. let less = found_shorter bs f e in ap (with_more (f.attribute ∷ [])) (enough (length bs) (suc (length f.rest)) f.rest (omega arith) (omega arith))))
 
 with_more-append : (a b : List Attribute) (i : Option Inside) → with_more (a ++ b) i ≡ with_more a (with_more b i)
 with_more-append a b None = refl

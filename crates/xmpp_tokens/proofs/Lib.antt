@@ -12,3 +12,4 @@ pub mod TagOutcomes
 pub mod DeclarationLaws
 pub mod SpellingRuns
 pub mod RoundTrips
+mod Worked

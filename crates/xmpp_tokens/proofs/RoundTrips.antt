@@ -192,13 +192,13 @@ characters_written f each a b (c ∷ cs) h =
     let p = and_parts (not (ends_forbidden a b c)) (are_characters_behind b c cs) h in
     by_case (each c) p.0 p.1 (characters_written f each b c cs p.1) (λ k. characters_written f each 0 0 cs k)
   where
-  by_case : Written f c → not (ends_forbidden a b c) ≡ true → are_characters_behind b c cs ≡ true → are_characters_behind b c (flat_map f cs) ≡ true
-      → (are_characters_behind 0 0 cs ≡ true → are_characters_behind 0 0 (flat_map f cs) ≡ true) → are_characters_behind a b (f c ++ flat_map f cs) ≡ true
-  by_case (kept is) here rest same low = rw is (and_from _ _ here same)
-  by_case (escaped e es is all n239 n191) here rest same low =
-      let q = and_parts (is_low e) (list_all is_low es) all in
-      let calm : are_characters_behind 0 0 cs ≡ true = sym (both_forgotten b c cs n239 n191) ∙ rest in
-      rw is (low_passes a b e (es ++ flat_map f cs) q.0 ∙ low_run 0 0 es (flat_map f cs) q.1 (low calm))
+    by_case : Written f c → not (ends_forbidden a b c) ≡ true → are_characters_behind b c cs ≡ true → are_characters_behind b c (flat_map f cs) ≡ true
+        → (are_characters_behind 0 0 cs ≡ true → are_characters_behind 0 0 (flat_map f cs) ≡ true) → are_characters_behind a b (f c ++ flat_map f cs) ≡ true
+    by_case (kept is) here rest same low = rw is (and_from _ _ here same)
+    by_case (escaped e es is all n239 n191) here rest same low =
+        let q = and_parts (is_low e) (list_all is_low es) all in
+        let calm : are_characters_behind 0 0 cs ≡ true = sym (both_forgotten b c cs n239 n191) ∙ rest in
+        rw is (low_passes a b e (es ++ flat_map f cs) q.0 ∙ low_run 0 0 es (flat_map f cs) q.1 (low calm))
 
 byte_written : (b : ℕ) → Written value_byte b
 unfolding value_byte text_byte

@@ -64,7 +64,8 @@ behind_stops p (x ∷ xs) y ys e =
     (λ (f : p x ≡ false). let same : x ∷ xs ≡ y ∷ ys = sym (keep_all (p x) (behind p xs) (x ∷ xs) f) ∙ e in let first : x ≡ y = cc in rw (← first) f)
     (cases_Bool (p x))
   where
-  drop_first : {Y : Type 0} (b : Bool) (u v : Y) → b ≡ true → cond b u v ≡ u
-  drop_first b u v t = rw t refl
-  keep_all : {Y : Type 0} (b : Bool) (u v : Y) → b ≡ false → cond b u v ≡ v
-  keep_all b u v f = rw f refl
+    drop_first : {Y : Type 0} (b : Bool) (u v : Y) → b ≡ true → cond b u v ≡ u
+    drop_first b u v t = rw t refl
+
+    keep_all : {Y : Type 0} (b : Bool) (u v : Y) → b ≡ false → cond b u v ≡ v
+    keep_all b u v f = rw f refl

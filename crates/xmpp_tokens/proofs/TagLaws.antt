@@ -48,8 +48,8 @@ qualified_begins (n ∷ ns) h =
     ⊎_elim
     (λ (colon : eqb n 58 ≡ true). absurd (false≢true (subst (λ b. is_name (cond (not b) (n ∷ front (λ b. not (eqb b 58)) ns) []) ≡ true) colon prefix.0)))
     (λ (other : eqb n 58 ≡ false).
-      let named_here : is_name (n ∷ front (λ b. not (eqb b 58)) ns) ≡ true = subst (λ b. is_name (cond (not b) (n ∷ front (λ b. not (eqb b 58)) ns) []) ≡ true) other prefix.0 in
-      record { first = n; others = ns; name_is = refl; starts = (and_parts _ _ (and_parts _ _ named_here).0).0 })
+    let named_here : is_name (n ∷ front (λ b. not (eqb b 58)) ns) ≡ true = subst (λ b. is_name (cond (not b) (n ∷ front (λ b. not (eqb b 58)) ns) []) ≡ true) other prefix.0 in
+    record { first = n; others = ns; name_is = refl; starts = (and_parts _ _ (and_parts _ _ named_here).0).0 })
     (cases_Bool (eqb n 58))
 
 bytes_of_name : (bs : List ℕ) → go_on bs ≡ true → list_all is_qualified_byte bs ≡ true
@@ -74,7 +74,7 @@ qualified_all name h =
     let parts = and_parts (is_name (front (λ b. not (eqb b 58)) name)) _ (and_parts (has_parts name) _ h).0 in
     subst (λ l. list_all is_qualified_byte l ≡ true) (joined (λ b. not (eqb b 58)) name)
     (list_all-append is_qualified_byte (front (λ b. not (eqb b 58)) name) (behind (λ b. not (eqb b 58)) name)
-      ∙ and_from _ _ (name_all (front (λ b. not (eqb b 58)) name) parts.0) (colon_all (behind (λ b. not (eqb b 58)) name) name refl parts.1))
+    ∙ and_from _ _ (name_all (front (λ b. not (eqb b 58)) name) parts.0) (colon_all (behind (λ b. not (eqb b 58)) name) name refl parts.1))
 
 name_stops : (name rest : List ℕ) → is_qualified name ≡ true → stops is_white (name ++ rest) ≡ true
 name_stops name rest h =
@@ -113,16 +113,16 @@ spelled_again bytes name raw rest h =
     let f5 : front (λ b. not (eqb b q)) value ≡ raw = front-append (λ b. not (eqb b q)) raw (q ∷ rest) h.raw_inside s5 in
     let b5 : behind (λ b. not (eqb b q)) value ≡ q ∷ rest = behind-append (λ b. not (eqb b q)) raw (q ∷ rest) h.raw_inside s5 in
     let close : closed name (front (λ b. not (eqb b q)) value) (behind (λ b. not (eqb b q)) value) ≡ Some (spelled name raw rest) =
-      ap (λ l. closed name l (behind (λ b. not (eqb b q)) value)) f5 ∙ ap (closed name raw) b5 in
+    ap (λ l. closed name l (behind (λ b. not (eqb b q)) value)) f5 ∙ ap (closed name raw) b5 in
     let quote_step : quoted name opened ≡ Some (spelled name raw rest) = cond-true (is_quote q) (closed name (front (λ b. not (eqb b q)) value) (behind (λ b. not (eqb b q)) value)) None h.quote_is ∙ close in
     let assign_step : assigned name equals ≡ Some (spelled name raw rest) = ap (quoted name) b4 ∙ quote_step in
     let name_step : named name gap ≡ Some (spelled name raw rest) = cond-true (is_qualified name) (assigned name (behind is_white gap)) None h.name_is ∙ ap (assigned name) b3 ∙ assign_step in
     let inner_step : named (front is_qualified_byte inner) (behind is_qualified_byte inner) ≡ Some (spelled name raw rest) =
-      ap (λ l. named l (behind is_qualified_byte inner)) f2 ∙ ap (named name) b2 ∙ name_step in
+    ap (λ l. named l (behind is_qualified_byte inner)) f2 ∙ ap (named name) b2 ∙ name_step in
     let at : List ℕ → List ℕ → Option Spelled = λ space inner. cond (is_empty space) None (named (front is_qualified_byte inner) (behind is_qualified_byte inner)) in
     let whole_step : at (front is_white whole) (behind is_white whole) ≡ Some (spelled name raw rest) =
-      ap (λ l. at l (behind is_white whole)) f1 ∙ ap (at h.space) b1
-      ∙ ap (λ b. cond b None (named (front is_qualified_byte inner) (behind is_qualified_byte inner))) (some_not_empty h.space h.some_space) ∙ inner_step in
+    ap (λ l. at l (behind is_white whole)) f1 ∙ ap (at h.space) b1
+    ∙ ap (λ b. cond b None (named (front is_qualified_byte inner) (behind is_qualified_byte inner))) (some_not_empty h.space h.some_space) ∙ inner_step in
     ap (λ l. at (front is_white l) (behind is_white l)) h.bytes_are ∙ whole_step
 
 attribute_again : (bytes : List ℕ) (a : Attribute) (rest : List ℕ) → IsAttribute bytes a rest → attribute_at bytes ≡ Some (record { attribute = a; rest = rest })
@@ -157,7 +157,7 @@ pub inside_again : (attributes : List Attribute) (bytes space : List ℕ) (empty
 inside_again [] bytes space empty white h =
     inside_step bytes
     ∙ ap (λ e. unless_ended e (option_and_then (λ f. with_more (f.attribute ∷ []) (inside_of f.rest)) (attribute_at bytes)))
-      (ap (λ l. end_in (behind is_white l)) h ∙ ap end_in (behind-append is_white space (tag_end empty) white (end_stops empty)) ∙ end_again empty)
+    (ap (λ l. end_in (behind is_white l)) h ∙ ap end_in (behind-append is_white space (tag_end empty) white (end_stops empty)) ∙ end_again empty)
 inside_again (a ∷ more) bytes space empty white h =
     inside_step bytes
     ∙ ap (λ e. unless_ended e (option_and_then (λ f. with_more (f.attribute ∷ []) (inside_of f.rest)) (attribute_at bytes))) (attribute_no_end bytes a h.0 h.1)
@@ -171,9 +171,9 @@ inside_stops (a ∷ more) inside space empty white h =
     let i = h.1.1 in
     subst (λ l. stops is_qualified_byte l ≡ true) (sym i.bytes_are) (space_stops i.space (a.name ++ (i.before ++ (61 ∷ (i.after ++ (i.quote ∷ (h.1.0 ++ (i.quote ∷ h.0))))))) i.some_space i.space_white)
   where
-  space_stops : (ws rest : List ℕ) → ws ≢ [] → are_white ws ≡ true → stops is_qualified_byte (ws ++ rest) ≡ true
-  space_stops [] rest some white = absurd (some refl)
-  space_stops (w ∷ ws) rest some white = let p = and_parts (is_white w) (are_white ws) white in not_from_false _ (white_no_name w p.0)
+    space_stops : (ws rest : List ℕ) → ws ≢ [] → are_white ws ≡ true → stops is_qualified_byte (ws ++ rest) ≡ true
+    space_stops [] rest some white = absurd (some refl)
+    space_stops (w ∷ ws) rest some white = let p = and_parts (is_white w) (are_white ws) white in not_from_false _ (white_no_name w p.0)
 
 start_no_slash : (n : ℕ) → is_name_start n ≡ true → eqb n 47 ≡ false
 start_no_slash n h = grind (arith, nat_tests)
@@ -194,9 +194,9 @@ start_again bytes name attributes empty h =
     let i = inside_again attributes h.inside h.space empty h.space_white h.inside_is in
     let at : List ℕ → List ℕ → Option Tag = λ n rest. cond (is_qualified n) (option_and_then (start_with n) (inside_of rest)) None in
     let made : at name h.inside ≡ Some (start_tag name attributes empty) =
-      cond-true (is_qualified name) (option_and_then (start_with name) (inside_of h.inside)) None h.name_is
-      ∙ ap (option_and_then (start_with name)) i
-      ∙ cond-true (are_distinct (names_of attributes)) (Some (start_tag name attributes empty)) None (distinct_passes (names_of attributes) h.distinct) in
+    cond-true (is_qualified name) (option_and_then (start_with name) (inside_of h.inside)) None h.name_is
+    ∙ ap (option_and_then (start_with name)) i
+    ∙ cond-true (are_distinct (names_of attributes)) (Some (start_tag name attributes empty)) None (distinct_passes (names_of attributes) h.distinct) in
     ap tag_at h.bytes_are ∙ begun_by_name name h.inside h.name_is
     ∙ ap (λ n. at n (behind is_qualified_byte (name ++ h.inside))) f ∙ ap (at name) b ∙ made
 
@@ -224,19 +224,20 @@ end_tells : (bs : List ℕ) (empty : Bool) → end_in bs ≡ Some empty → bs �
 end_tells bs empty e =
     ⊎_elim
     (λ (closes : bytes_eq bs (62 ∷ []) ≡ true).
-      let same : Some false ≡ Some empty = sym (cond-true (bytes_eq bs (62 ∷ [])) (Some false) (cond (bytes_eq bs (47 ∷ 62 ∷ [])) (Some true) None) closes) ∙ e in
-      (bytes_eq-Decides bs (62 ∷ [])).0 closes ∙ ap tag_end (some_inner _ _ same))
+    let same : Some false ≡ Some empty = sym (cond-true (bytes_eq bs (62 ∷ [])) (Some false) (cond (bytes_eq bs (47 ∷ 62 ∷ [])) (Some true) None) closes) ∙ e in
+    (bytes_eq-Decides bs (62 ∷ [])).0 closes ∙ ap tag_end (some_inner _ _ same))
     (λ (other : bytes_eq bs (62 ∷ []) ≡ false).
-      let rest : cond (bytes_eq bs (47 ∷ 62 ∷ [])) (Some true) None ≡ Some empty = sym (cond-false (bytes_eq bs (62 ∷ [])) (Some false) (cond (bytes_eq bs (47 ∷ 62 ∷ [])) (Some true) None) other) ∙ e in
-      let p = guard_some (bytes_eq bs (47 ∷ 62 ∷ [])) true empty rest in
-      (bytes_eq-Decides bs (47 ∷ 62 ∷ [])).0 p.0 ∙ ap tag_end p.1)
+    let rest : cond (bytes_eq bs (47 ∷ 62 ∷ [])) (Some true) None ≡ Some empty = sym (cond-false (bytes_eq bs (62 ∷ [])) (Some false) (cond (bytes_eq bs (47 ∷ 62 ∷ [])) (Some true) None) other) ∙ e in
+    let p = guard_some (bytes_eq bs (47 ∷ 62 ∷ [])) true empty rest in
+    (bytes_eq-Decides bs (47 ∷ 62 ∷ [])).0 p.0 ∙ ap tag_end p.1)
     (cases_Bool (bytes_eq bs (62 ∷ [])))
   where
-  some_inner : (a b : Bool) → Some a ≡ Some b → a ≡ b
-  some_inner a b e = cc
-  guard_some : (t : Bool) (x y : Bool) → cond t (Some x) None ≡ Some y → (t ≡ true) × (x ≡ y)
-  guard_some true x y e = (refl, cc)
-  guard_some false x y e = absurd cc
+    some_inner : (a b : Bool) → Some a ≡ Some b → a ≡ b
+    some_inner a b e = cc
+
+    guard_some : (t : Bool) (x y : Bool) → cond t (Some x) None ≡ Some y → (t ≡ true) × (x ≡ y)
+    guard_some true x y e = (refl, cc)
+    guard_some false x y e = absurd cc
 
 record Insides (bs : List ℕ) (i : Inside) : Type 0 where
   space : List ℕ
@@ -328,8 +329,8 @@ begun_tells [] t e = absurd cc
 begun_tells (b ∷ bs) t e =
     ⊎_elim
     (λ (slash : eqb b 47 ≡ true).
-      let inner : end_at bs ≡ Some t = sym (cond-true (eqb b 47) (end_at bs) (start_at (b ∷ bs)) slash) ∙ e in
-      subst (λ x. IsTag (60 ∷ x ∷ bs) t) (sym (eqb-true b 47 slash)) (end_tag_tells bs t inner))
+    let inner : end_at bs ≡ Some t = sym (cond-true (eqb b 47) (end_at bs) (start_at (b ∷ bs)) slash) ∙ e in
+    subst (λ x. IsTag (60 ∷ x ∷ bs) t) (sym (eqb-true b 47 slash)) (end_tag_tells bs t inner))
     (λ (other : eqb b 47 ≡ false). start_tells (b ∷ bs) t (sym (cond-false (eqb b 47) (end_at bs) (start_at (b ∷ bs)) other) ∙ e))
     (cases_Bool (eqb b 47))
 

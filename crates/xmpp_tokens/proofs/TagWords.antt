@@ -117,5 +117,5 @@ pub spelled_shorter : (bs : List ℕ) (s : Spelled) → spelled_at bs ≡ Some s
 spelled_shorter bs s e =
     let i = is_spelled bs s e in
     let len : length bs ≡ length i.space + (length s.name + (length i.before + suc (length i.after + suc (length s.raw + suc (length s.rest))))) =
-      ap length i.bytes_are ∙ simp length-append in
+    ap length i.bytes_are ∙ simp length-append in
     omega arith

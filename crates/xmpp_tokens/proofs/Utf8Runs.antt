@@ -163,13 +163,14 @@ triple_at c x y z is low high h from to =
     let e : encode c ≡ x ∷ y ∷ z ∷ [] = rw (le-ltb c 128 (omega arith), le-ltb c 2048 above, lt-ltb c 65536 (omega arith)) cc in
     subst IsUtf8 e (IsUtf8-encode c (scalar_apart c (apart_at c x y z is y_low y_high h.at_237 from to) (omega arith)))
   where
-  one_or_more : (n : ℕ) → 224 ≤ n → (n ≡ 224) ⊎ (225 ≤ n)
-  one_or_more n low = ⊎_elim (λ less. inl (omega arith)) (λ more. inr more) (cases_lt n 225)
-  apart_at : (c x y z : ℕ) → c + 925824 ≡ x * 4096 + y * 64 + z → 128 ≤ y → y ≤ 191 → (x ≡ 237 → y ≤ 159) → 128 ≤ z → z ≤ 191 → (c < 55296) ⊎ (57344 ≤ c)
-  apart_at c x y z is low high at_237 from to =
-      ⊎_elim (λ less. inl (omega arith))
-      (λ more. ⊎_elim (λ here. let at = at_237 (omega arith) in inl (omega arith)) (λ past. inr (omega arith)) (cases_lt x 238))
-      (cases_lt x 237)
+    one_or_more : (n : ℕ) → 224 ≤ n → (n ≡ 224) ⊎ (225 ≤ n)
+    one_or_more n low = ⊎_elim (λ less. inl (omega arith)) (λ more. inr more) (cases_lt n 225)
+
+    apart_at : (c x y z : ℕ) → c + 925824 ≡ x * 4096 + y * 64 + z → 128 ≤ y → y ≤ 191 → (x ≡ 237 → y ≤ 159) → 128 ≤ z → z ≤ 191 → (c < 55296) ⊎ (57344 ≤ c)
+    apart_at c x y z is low high at_237 from to =
+        ⊎_elim (λ less. inl (omega arith))
+        (λ more. ⊎_elim (λ here. let at = at_237 (omega arith) in inl (omega arith)) (λ past. inr (omega arith)) (cases_lt x 238))
+        (cases_lt x 237)
 
 triple_is : (x y z : ℕ) → 224 ≤ x → x < 240 → Follows x y → 128 ≤ z → z ≤ 191 → IsUtf8 (x ∷ y ∷ z ∷ [])
 triple_is x y z low high h from to = let y_low = h.low in triple_at (x * 4096 + y * 64 + z - 925824) x y z (omega arith) low high h from to
@@ -208,20 +209,20 @@ runs_are_text [] (b ∷ bs) p e =
 runs_are_text (x ∷ []) (b ∷ bs) p e =
     let lead = lead_tells x p in
     ⊎_elim (λ yes. let f = second_tells x b yes in
-      ⊎_elim (λ less. IsUtf8-append (x ∷ b ∷ []) bs (pair_is x b lead.0 less f.low f.high) (runs_are_text [] bs tt (sym (run_two x b bs less yes) ∙ e)))
-      (λ more. runs_are_text (x ∷ b ∷ []) bs (more, p, yes) (sym (run_second x b bs more yes) ∙ e)) (cases_lt x 224))
+    ⊎_elim (λ less. IsUtf8-append (x ∷ b ∷ []) bs (pair_is x b lead.0 less f.low f.high) (runs_are_text [] bs tt (sym (run_two x b bs less yes) ∙ e)))
+    (λ more. runs_are_text (x ∷ b ∷ []) bs (more, p, yes) (sym (run_second x b bs more yes) ∙ e)) (cases_lt x 224))
     (λ (no : is_second x b ≡ false). absurd (no_next (x ∷ []) bs b (rw no refl) e)) (cases_Bool (is_second x b))
 runs_are_text (x ∷ y ∷ []) (b ∷ bs) p e =
     let f = second_tells x y p.2 in
     ⊎_elim (λ yes. let t = tail_tells b yes in
-      ⊎_elim (λ less. IsUtf8-append (x ∷ y ∷ b ∷ []) bs (triple_is x y b p.0 less f t.0 t.1) (runs_are_text [] bs tt (sym (run_three x y b bs less yes) ∙ e)))
-      (λ more. runs_are_text (x ∷ y ∷ b ∷ []) bs (more, p.1, p.2, yes) (sym (run_third x y b bs more yes) ∙ e)) (cases_lt x 240))
+    ⊎_elim (λ less. IsUtf8-append (x ∷ y ∷ b ∷ []) bs (triple_is x y b p.0 less f t.0 t.1) (runs_are_text [] bs tt (sym (run_three x y b bs less yes) ∙ e)))
+    (λ more. runs_are_text (x ∷ y ∷ b ∷ []) bs (more, p.1, p.2, yes) (sym (run_third x y b bs more yes) ∙ e)) (cases_lt x 240))
     (λ (no : is_tail b ≡ false). absurd (no_next (x ∷ y ∷ []) bs b (rw no refl) e)) (cases_Bool (is_tail b))
 runs_are_text (x ∷ y ∷ z ∷ []) (b ∷ bs) p e =
     let lead = lead_tells x p.1 in
     let f = second_tells x y p.2 in
     let third = tail_tells z p.3 in
     ⊎_elim (λ yes. let t = tail_tells b yes in
-      IsUtf8-append (x ∷ y ∷ z ∷ b ∷ []) bs (four_is x y z b p.0 lead.1 f third.0 third.1 t.0 t.1) (runs_are_text [] bs tt (sym (run_four x y z b bs yes) ∙ e)))
+    IsUtf8-append (x ∷ y ∷ z ∷ b ∷ []) bs (four_is x y z b p.0 lead.1 f third.0 third.1 t.0 t.1) (runs_are_text [] bs tt (sym (run_four x y z b bs yes) ∙ e)))
     (λ (no : is_tail b ≡ false). absurd (no_next (x ∷ y ∷ z ∷ []) bs b (rw no refl) e)) (cases_Bool (is_tail b))
 runs_are_text (x ∷ y ∷ z ∷ w ∷ more) (b ∷ bs) p e = absurd p

@@ -49,9 +49,9 @@ plain_run [] = refl
 plain_run (b ∷ bs) =
     ⊎_elim
     (λ (plain : is_plain b ≡ true).
-      plain_byte b bs plain ∙ ap (in_front (b ∷ [])) (plain_run bs)
-      ∙ sym (in_front-append (b ∷ []) (front is_plain bs) (value_from (text false) (behind is_plain bs)))
-      ∙ (rw plain refl))
+    plain_byte b bs plain ∙ ap (in_front (b ∷ [])) (plain_run bs)
+    ∙ sym (in_front-append (b ∷ []) (front is_plain bs) (value_from (text false) (behind is_plain bs)))
+    ∙ (rw plain refl))
     (λ (other : is_plain b ≡ false). rw other (sym (in_front-nil (value_from (text false) (b ∷ bs)))))
     (cases_Bool (is_plain b))
 

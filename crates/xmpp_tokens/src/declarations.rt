@@ -114,7 +114,11 @@ fn behind_opening(bytes: &[u8]) -> Option<&[u8]>
         return None;
     }
     let (opening, rest) = bytes.split_at(5);
-    if opening == b"<?xml".as_slice() { Some(rest) } else { None }
+    if opening == b"<?xml".as_slice() {
+        Some(rest)
+    } else {
+        None
+    }
 }
 
 /// Reads an XML declaration off its whole bytes, from its `<?xml` to its `?>`. Other bytes are no declaration that is

@@ -7,8 +7,7 @@ ghost use Rattle.xmpp_tokens.specs.Spelling;
 ghost use Rattle.xmpp_tokens.specs.Tags;
 ghost use Rattle.xmpp_tokens.specs.Values;
 
-use crate::characters::is_name_byte;
-use crate::characters::is_white;
+use crate::characters::{is_name_byte, is_white};
 
 fn name_len(bytes: &[u8]) -> usize
     ensures { result ≡ prefix_len Characters.is_name_byte bytes.now }

@@ -15,12 +15,20 @@ mod tags;
 mod utf8;
 mod values;
 
-pub use characters::{are_characters, ends_forbidden, is_name, is_name_byte, is_name_start, is_white};
+pub use characters::{
+    are_characters, ends_forbidden, is_name, is_name_byte, is_name_start, is_white,
+};
 pub use declarations::{Declaration, read_declaration};
 pub use faults::TagFault;
-pub use references::{Reference, reference_goes_on, referred, references_go_on};
 pub use raw_tags::{RawAttribute, RawTag, StartTag};
-pub use spelling::{append_text, append_text_reserved, append_value, append_value_reserved, spelled_text_len, spelled_value_len, texts_are_read_back, values_are_read_back};
+pub use references::{Reference, reference_goes_on, references_go_on, referred};
+pub use spelling::{
+    append_text, append_text_reserved, append_value, append_value_reserved, spelled_text_len,
+    spelled_value_len, texts_are_read_back, values_are_read_back,
+};
 pub use tags::{read_tag, tags_are_read, unknown_names_are_restricted, what_is_read_is_a_tag};
 pub use utf8::{NotUtf8, PartialCharacter, runs_are_text, text_front, text_runs};
 pub use values::{has_unknown, read_value};
+
+#[cfg(test)]
+mod tests;

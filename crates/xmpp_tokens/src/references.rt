@@ -209,5 +209,4 @@ pub fn reference_goes_on(so_far: &[u8], b: u8) -> bool
 /// A reference that is well formed, known or unknown, goes on at each of its bytes.
 pub fn references_go_on()
     ensures { (name : List ℕ) → References.referred name ≢ Reference.Malformed → References.each_goes_on [] name ≡ true }
-{
-}
+{}

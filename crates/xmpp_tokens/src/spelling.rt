@@ -180,8 +180,7 @@ pub fn append_value(out: &mut Bytes, bytes: &[u8]) -> Result<(), NoMemory>
 pub fn values_are_read_back()
     ensures back { (v : List ℕ) → IsUtf8 v → Characters.are_characters v ≡ true → value_of (spelled_value v) ≡ Some v }
     ensures inside { (v : List ℕ) → list_all (λ b. not (b == 39) && not (b == 60)) (spelled_value v) ≡ true }
-{
-}
+{}
 
 /// A text that is written is read back as itself. What is written holds neither `<` nor `>`, and so no `]]>`, and no
 /// character that the text doesn't hold but XML's.
@@ -189,5 +188,4 @@ pub fn texts_are_read_back()
     ensures back { (t : List ℕ) → text_from (text false) (spelled_text t) ≡ Some t }
     ensures inside { (t : List ℕ) → list_all (λ b. not (b == 60) && not (b == 62)) (spelled_text t) ≡ true }
     ensures characters { (t : List ℕ) → Characters.are_characters t ≡ true → Characters.are_characters (spelled_text t) ≡ true }
-{
-}
+{}

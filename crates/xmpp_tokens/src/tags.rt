@@ -162,17 +162,14 @@ pub fn read_tag(alloc: Global, bytes: &[u8]) -> Result<RawTag, TagFault>
 /// Bytes that the grammar has as a tag are read as that tag, where no reference in its quotes has an unknown name.
 pub fn tags_are_read()
     ensures { (bytes : List ℕ) (t : Tag) → IsTag bytes t → Tags.is_restricted bytes ≡ false → tag_of bytes ≡ Ok t }
-{
-}
+{}
 
 /// What is read as a tag, the grammar has as that tag.
 pub fn what_is_read_is_a_tag()
     ensures { (bytes : List ℕ) (t : Tag) → tag_of bytes ≡ Ok t → IsTag bytes t }
-{
-}
+{}
 
 /// `Restricted` is told exactly of a tag that is no end tag and has a reference with an unknown name in its quotes.
 pub fn unknown_names_are_restricted()
     ensures { (bytes : List ℕ) → (tag_of bytes ≡ Err TagFault.Restricted) ↔ (Tags.is_restricted bytes ≡ true) }
-{
-}
+{}

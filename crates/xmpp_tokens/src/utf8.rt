@@ -84,8 +84,16 @@ fn next_held(held: Held, b: u8) -> Result<Held, NotUtf8>
     match held {
         Held::Nothing if b < 128 => Ok(Held::Nothing),
         Held::Nothing if is_lead(b) => Ok(Held::One(b)),
-        Held::One(x) if is_second(x, b) => Ok(if x < 224 { Held::Nothing } else { Held::Two(x, b) }),
-        Held::Two(x, y) if is_tail(b) => Ok(if x < 240 { Held::Nothing } else { Held::Three(x, y, b) }),
+        Held::One(x) if is_second(x, b) => Ok(if x < 224 {
+            Held::Nothing
+        } else {
+            Held::Two(x, b)
+        }),
+        Held::Two(x, y) if is_tail(b) => Ok(if x < 240 {
+            Held::Nothing
+        } else {
+            Held::Three(x, y, b)
+        }),
         Held::Three(_, _, _) if is_tail(b) => Ok(Held::Nothing),
         _ => Err(NotUtf8),
     }
@@ -149,11 +157,9 @@ pub fn text_front(bytes: &[u8]) -> usize
 /// The characters of a text, a byte at a time, leave none in hand.
 pub fn text_runs()
     ensures { (bs : List ℕ) → IsUtf8 bs → utf8_run [] bs ≡ Some [] }
-{
-}
+{}
 
 /// Bytes that leave none in hand are whole characters, behind the front of a character as well.
 pub fn runs_are_text()
     ensures { (held bs : List ℕ) → IsPending held → utf8_run held bs ≡ Some [] → IsUtf8 (held ++ bs) }
-{
-}
+{}

@@ -11,7 +11,7 @@ take_special-requires c =
 pub returns-in-Some-clause-ok : goal.returns-in-Some-clause-ok
 returns-in-Some-clause-ok c =
     let whole = plain_taken c.extend_from_slice.new.self.items c.args.value.now.items c.split_plain.result.0.now c.split_plain.result.1.now c.args.rest.now
-      c.split_plain.ensures.front c.split_plain.ensures.behind c.in_ok-extend_from_slice.ensures.items in
+    c.split_plain.ensures.front c.split_plain.ensures.behind c.in_ok-extend_from_slice.ensures.items in
     IfOk-weaker c.take_special.result _ _ (λ left e. after_plain _ _ c.extend_from_slice.new.self.items c.split_plain.result.1.now _ c.in-Some.ensures.cases.0 e whole) c.take_special.ensures.ok
 
 pub returns-in-Some-clause-shorter : goal.returns-in-Some-clause-shorter
