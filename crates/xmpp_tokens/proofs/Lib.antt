@@ -13,3 +13,4 @@ pub mod DeclarationLaws
 pub mod SpellingRuns
 pub mod RoundTrips
 mod Worked
+pub mod DeclarationGrammar

@@ -33,13 +33,13 @@ quote_no_white : (q : ℕ) → is_quote q ≡ true → is_white q ≡ false
 quote_no_white q h = grind (arith, nat_tests)
 
 -- a qualified name begins as a name does
-record Begins (name : List ℕ) : Type 0 where
-  first : ℕ
-  others : List ℕ
-  name_is : name ≡ first ∷ others
-  starts : is_name_start first ≡ true
+pub record Begins (name : List ℕ) : Type 0 where
+  pub first : ℕ
+  pub others : List ℕ
+  pub name_is : name ≡ first ∷ others
+  pub starts : is_name_start first ≡ true
 
-qualified_begins : (name : List ℕ) → is_qualified name ≡ true → Begins name
+pub qualified_begins : (name : List ℕ) → is_qualified name ≡ true → Begins name
 unfolding is_qualified
 qualified_begins [] h = absurd (false≢true h)
 qualified_begins (n ∷ ns) h =
@@ -76,7 +76,7 @@ qualified_all name h =
     (list_all-append is_qualified_byte (front (λ b. not (eqb b 58)) name) (behind (λ b. not (eqb b 58)) name)
     ∙ and_from _ _ (name_all (front (λ b. not (eqb b 58)) name) parts.0) (colon_all (behind (λ b. not (eqb b 58)) name) name refl parts.1))
 
-name_stops : (name rest : List ℕ) → is_qualified name ≡ true → stops is_white (name ++ rest) ≡ true
+pub name_stops : (name rest : List ℕ) → is_qualified name ≡ true → stops is_white (name ++ rest) ≡ true
 name_stops name rest h =
     let b = qualified_begins name h in
     subst (λ l. stops is_white (l ++ rest) ≡ true) (sym b.name_is) (not_from_false _ (start_no_white b.first b.starts))
