@@ -107,10 +107,10 @@ module _ (bytes : List ℕ) (h : IsGood bytes) where
   none_other =
       other_found h.items (record { name = codes "version"; raw = codes "1.0"; rest = h.behind_version }) (sym (spelled_again h.items (codes "version") (codes "1.0") h.behind_version h.version))
       ∙ ⊎_elim
-        (λ same. ap has_other (sym same) ∙ none_behind)
-        (λ item. other_found h.behind_version (record { name = codes "encoding"; raw = item.0; rest = h.behind_encoding }) (sym (spelled_again h.behind_version (codes "encoding") item.0 h.behind_encoding item.1))
-          ∙ ap (λ b. not b || has_other h.behind_encoding) item.2 ∙ none_behind)
-        h.encoding
+      (λ same. ap has_other (sym same) ∙ none_behind)
+      (λ item. other_found h.behind_version (record { name = codes "encoding"; raw = item.0; rest = h.behind_encoding }) (sym (spelled_again h.behind_version (codes "encoding") item.0 h.behind_encoding item.1))
+      ∙ ap (λ b. not b || has_other h.behind_encoding) item.2 ∙ none_behind)
+      h.encoding
 
   good_again : declaration_of bytes ≡ Good
   unfolding declaration_of
@@ -155,9 +155,9 @@ other_behind bs more None ih is e = absurd (false≢true e)
 other_behind bs more (Some s) ih is e =
     ⊎_elim
     (λ (this : is_other s ≡ true).
-      let p = and_parts (bytes_eq s.name (codes "encoding")) (not (is_utf8_label s.raw)) this in
-      let named = (bytes_eq-Decides s.name (codes "encoding")).0 p.0 in
-      here bs s.raw s.rest (subst (λ n. IsSpelled bs n s.raw s.rest) named (is_spelled bs s is)) (not-true _ p.1))
+    let p = and_parts (bytes_eq s.name (codes "encoding")) (not (is_utf8_label s.raw)) this in
+    let named = (bytes_eq-Decides s.name (codes "encoding")).0 p.0 in
+    here bs s.raw s.rest (subst (λ n. IsSpelled bs n s.raw s.rest) named (is_spelled bs s is)) (not-true _ p.1))
     (λ (behind_it : more s.rest ≡ true). later bs s.name s.raw s.rest (is_spelled bs s is) (ih s.rest behind_it))
     (or_cases (is_other s) (more s.rest) e)
 

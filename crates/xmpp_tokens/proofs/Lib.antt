@@ -14,3 +14,4 @@ pub mod SpellingRuns
 pub mod RoundTrips
 mod Worked
 pub mod DeclarationGrammar
+pub mod Unrestricted

@@ -68,7 +68,7 @@ colon_all (c ∷ bs) name is h =
     let colon = not-false _ (behind_stops (λ b. not (eqb b 58)) name c bs (sym is)) in
     and_from _ _ (or_right (is_name_byte c) _ colon) (name_all bs h)
 
-qualified_all : (name : List ℕ) → is_qualified name ≡ true → list_all is_qualified_byte name ≡ true
+pub qualified_all : (name : List ℕ) → is_qualified name ≡ true → list_all is_qualified_byte name ≡ true
 unfolding is_qualified
 qualified_all name h =
     let parts = and_parts (is_name (front (λ b. not (eqb b 58)) name)) _ (and_parts (has_parts name) _ h).0 in

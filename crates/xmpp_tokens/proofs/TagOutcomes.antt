@@ -6,11 +6,12 @@ use Rattle.xmpp_tokens.specs.Tags.{Tag, IsTag, is_restricted, tag_at, tag_of}
 use Rattle.xmpp_tokens.specs.declared.faults.TagFault.{TagFault}
 use Rattle.xmpp_tokens.specs.declared.faults.TagFault.TheVariants.{Restricted, NotWellFormed}
 use Rattle.xmpp_tokens.proofs.TagLaws.{tag_again, tag_tells}
+use Rattle.xmpp_tokens.proofs.Unrestricted.{tag_unrestricted}
 
-pub tags_are_read : (bytes : List ℕ) (t : Tag) → IsTag bytes t → is_restricted bytes ≡ false → tag_of bytes ≡ Ok t
+pub tags_are_read : (bytes : List ℕ) (t : Tag) → IsTag bytes t → tag_of bytes ≡ Ok t
 unfolding tag_of
-tags_are_read bytes t h free =
-    cond-false (is_restricted bytes) (Err Restricted) (ok_or (tag_at bytes) NotWellFormed) free ∙ ap (λ o. ok_or o NotWellFormed) (tag_again bytes t h)
+tags_are_read bytes t h =
+    cond-false (is_restricted bytes) (Err Restricted) (ok_or (tag_at bytes) NotWellFormed) (tag_unrestricted bytes t h) ∙ ap (λ o. ok_or o NotWellFormed) (tag_again bytes t h)
 
 given : (b : Bool) (o : Option Tag) (t : Tag) → cond b (Err Restricted) (ok_or o NotWellFormed) ≡ Ok t → o ≡ Some t
 given true o t e = absurd cc

@@ -137,13 +137,11 @@ pub fn read_declaration(bytes: &[u8]) -> Declaration
 /// `Good` is told exactly of what the grammar has as a declaration of version 1.0 in UTF-8 (XML 1.0, section 2.8).
 pub fn good_declarations_are_well_formed()
     ensures { (bytes : List ℕ) → (declaration_of bytes ≡ Declaration.Good) ↔ IsGood bytes }
-{
-}
+{}
 
 /// `Encoding` is told exactly where items `name = 'value'` stand behind `<?xml`, and one of them is an encoding other
 /// than UTF-8.
 pub fn other_encodings_are_told()
     ensures { (bytes : List ℕ) → (declaration_of bytes ≡ Declaration.Encoding)
         ↔ ((items : List ℕ) × (bytes ≡ codes "<?xml" ++ items) × HasOther items) }
-{
-}
+{}

@@ -18,7 +18,9 @@ mod values;
 pub use characters::{
     are_characters, ends_forbidden, is_name, is_name_byte, is_name_start, is_white,
 };
-pub use declarations::{Declaration, good_declarations_are_well_formed, other_encodings_are_told, read_declaration};
+pub use declarations::{
+    Declaration, good_declarations_are_well_formed, other_encodings_are_told, read_declaration,
+};
 pub use faults::TagFault;
 pub use raw_tags::{RawAttribute, RawTag, StartTag};
 pub use references::{Reference, reference_goes_on, references_go_on, referred};

@@ -159,9 +159,9 @@ pub fn read_tag(alloc: Global, bytes: &[u8]) -> Result<RawTag, TagFault>
     tag_at(alloc, bytes)
 }
 
-/// Bytes that the grammar has as a tag are read as that tag, where no reference in its quotes has an unknown name.
+/// Bytes that the grammar has as a tag are read as that tag.
 pub fn tags_are_read()
-    ensures { (bytes : List ℕ) (t : Tag) → IsTag bytes t → Tags.is_restricted bytes ≡ false → tag_of bytes ≡ Ok t }
+    ensures { (bytes : List ℕ) (t : Tag) → IsTag bytes t → tag_of bytes ≡ Ok t }
 {}
 
 /// What is read as a tag, the grammar has as that tag.
