@@ -1,16 +1,15 @@
 -- Reading a declaration is its grammar.
-use Rattle.std.proofs.Common.{◌≡◌, ◌↔◌, ℕ, zero, suc, ◌⊎◌, inl, inr, Bool, true, false, cond, not, ◌&&◌, ◌||◌, List, [], ◌∷◌, ◌++◌, Option, Some, None, length, take, drop, refl, sym, ap, subst, ◌∙◌, ⊎_elim}
-use Rattle.std.proofs.lemmas.Bool.{cases_Bool, and_parts, and_from, or_left, or_right, or_cases, false≢true, not-true, not_from_false, cond-true, cond-false}
+use Rattle.std.proofs.Common.{◌≡◌, ◌↔◌, ℕ, zero, suc, inl, inr, Bool, true, false, cond, not, ◌&&◌, ◌||◌, List, [], ◌∷◌, ◌++◌, Option, Some, None, length, take, drop, refl, sym, ap, subst, ◌∙◌, ⊎_elim}
+use Rattle.std.proofs.lemmas.Bool.{and_parts, and_from, or_right, or_cases, false≢true, not-true, cond-true, cond-false}
 use Rattle.std.proofs.lemmas.List.{take-append-drop}
 use Rattle.std.proofs.lemmas.Slice.Eq.{bytes_eq-Decides}
 use Rattle.std.specs.Option.{option_and_then}
 use Rattle.std.specs.Prelude.{codes, unwrap_or}
 use Rattle.std.specs.Str.{bytes_eq}
 use Rattle.xmpp_tokens.specs.Characters.{is_white, is_name_start}
-use Rattle.xmpp_tokens.specs.Declarations.{is_utf8_label, is_one_zero, is_yes_or_no, MaySpell, IsGood, HasOther, here, later, is_other, found_other, other_within, has_other, fitting, item_at, optional_at, is_closed, is_good_behind, is_good, declared, declaration_of}
+use Rattle.xmpp_tokens.specs.Declarations.{is_utf8_label, is_one_zero, is_yes_or_no, MaySpell, IsGood, HasOther, here, later, is_other, found_other, other_within, has_other, fitting, item_at, optional_at, is_closed, is_good_behind, is_good, declaration_of}
 use Rattle.xmpp_tokens.specs.Fronts.{front, behind}
 use Rattle.xmpp_tokens.specs.Tags.{IsSpelled, Spelled, are_white, spelled_at}
-use Rattle.xmpp_tokens.specs.declared.declarations.Declaration.{Declaration}
 use Rattle.xmpp_tokens.specs.declared.declarations.Declaration.TheVariants.{Good, Encoding, NotWellFormed}
 use Rattle.xmpp_tokens.proofs.DeclarationLaws.{other_found, other_none}
 use Rattle.xmpp_tokens.proofs.Splits.{joined, front_passes, behind-append}

@@ -1,15 +1,15 @@
 -- What goes on a reference, and the last two bytes of a list.
-use Rattle.std.proofs.Common.{◌≡◌, ◌≢◌, ℕ, suc, ◌+◌, ◌-◌, ◌<◌, ◌≤◌, Bool, true, false, cond, eqb, not, ◌&&◌, ◌||◌, List, [], ◌∷◌, ◌++◌, length, get_or, refl, sym, ap, ◌∙◌, subst, arith, ⊎_elim}
-use Rattle.std.proofs.lemmas.Bool.{cases_Bool, and_parts, and_from, or_left, or_right, eqb-true, false≢true, not_from_false}
+use Rattle.std.proofs.Common.{◌≡◌, ◌≢◌, ℕ, suc, ◌-◌, ◌≤◌, Bool, true, false, cond, eqb, List, [], ◌∷◌, ◌++◌, length, get_or, refl, sym, ap, ◌∙◌, subst, arith, ⊎_elim}
+use Rattle.std.proofs.lemmas.Bool.{cases_Bool, and_parts, and_from, or_left, or_right, eqb-true}
 use Rattle.std.proofs.lemmas.Bool.Decides.{nat_tests}
 use Rattle.std.proofs.lemmas.Slice.Eq.{bytes_eq-Decides}
 use Rattle.std.specs.List.{list_all}
-use Rattle.std.specs.Prelude.{codes, if◌then◌else◌, slice_index}
+use Rattle.std.specs.Prelude.{codes}
 use Rattle.std.specs.Str.{bytes_eq}
-use Rattle.xmpp_tokens.specs.Characters.{is_digit, is_name_byte, is_name_start, is_name, is_named, go_on, are_characters, are_characters_behind, ends_forbidden}
-use Rattle.xmpp_tokens.specs.References.{is_hex_digit, are_digits, number_of, character_numbered, decimal_reference, hexadecimal_reference, character_reference, entity_reference, referred, last_two, ends_forbidden_behind, number_goes_on, reference_goes_on, each_goes_on}
+use Rattle.xmpp_tokens.specs.Characters.{is_digit, is_name_start, is_name, go_on, are_characters, are_characters_behind}
+use Rattle.xmpp_tokens.specs.References.{is_hex_digit, are_digits, number_of, character_numbered, character_reference, entity_reference, referred, last_two, reference_goes_on, each_goes_on}
 use Rattle.xmpp_tokens.specs.declared.references.Reference.{Reference}
-use Rattle.xmpp_tokens.specs.declared.references.Reference.TheVariants.{Character, Unknown, Malformed}
+use Rattle.xmpp_tokens.specs.declared.references.Reference.TheVariants.{Unknown, Malformed}
 
 -- the last two of a list that has them
 pub record EndsAre (a b : ℕ) (xs : List ℕ) : Type 0 where

@@ -15,3 +15,4 @@ pub mod RoundTrips
 mod Worked
 pub mod DeclarationGrammar
 pub mod Unrestricted
+pub mod CharacterLaws

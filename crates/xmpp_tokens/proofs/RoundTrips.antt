@@ -1,7 +1,6 @@
 -- What is written is read back as itself.
-use Rattle.std.proofs.Common.{◌≡◌, ℕ, ◌<◌, ◌≤◌, Bool, true, false, cond, eqb, not, ◌&&◌, ◌||◌, List, [], ◌∷◌, ◌++◌, Option, Some, None, refl, sym, ap, subst, ◌∙◌, arith, ⊎_elim}
-use Rattle.std.proofs.lemmas.Bool.{cases_Bool, and_parts, and_from, or_parts, or_from, eqb-true, cond-true, not-true, not_from_false}
-use Rattle.std.proofs.lemmas.Bool.Decides.{nat_tests}
+use Rattle.std.proofs.Common.{◌≡◌, ℕ, Bool, true, false, eqb, not, ◌&&◌, List, [], ◌∷◌, ◌++◌, Some, None, refl, sym, ap, subst, ◌∙◌, ⊎_elim}
+use Rattle.std.proofs.lemmas.Bool.{cases_Bool, and_parts, and_from, or_from, eqb-true, cond-true, not-true}
 use Rattle.std.proofs.lemmas.List.Folds.{list_all-append}
 use Rattle.std.proofs.lemmas.Str.{is_utf8-from_IsUtf8}
 use Rattle.std.specs.List.{flat_map, list_all}
@@ -10,8 +9,7 @@ use lib.Utf8.{encode}
 use Rattle.xmpp_tokens.specs.Characters.{is_control, ends_forbidden, are_characters, are_characters_behind}
 use Rattle.xmpp_tokens.specs.References.{referred}
 use Rattle.xmpp_tokens.specs.Spelling.{text_byte, value_byte, spelled_text, spelled_value, text_from}
-use Rattle.xmpp_tokens.specs.Values.{text, reference, in_front, value_from, value_of, as_text}
-use Rattle.xmpp_tokens.proofs.ValueRuns.{in_front-nil}
+use Rattle.xmpp_tokens.specs.Values.{text, in_front, value_from, value_of, as_text}
 
 abbrev ReadBack : ℕ → Type 0
 ReadBack b = (rest : List ℕ) → value_from (text false) (value_byte b ++ rest) ≡ in_front (b ∷ []) (value_from (text false) rest)

@@ -1,9 +1,9 @@
 -- What is written, a run of plain bytes or one escaped byte at a time.
-use Rattle.std.proofs.Common.{◌≡◌, ℕ, ◌+◌, ◌<◌, ◌≤◌, Bool, true, false, cond, eqb, not, ◌&&◌, ◌||◌, List, [], ◌∷◌, ◌++◌, length, refl, sym, ap, ◌∙◌, arith, ⊎_elim, append_assoc, length-append}
+use Rattle.std.proofs.Common.{◌≡◌, ℕ, ◌+◌, ◌<◌, ◌≤◌, Bool, true, false, eqb, List, [], ◌∷◌, ◌++◌, length, refl, sym, ap, ◌∙◌, arith, ⊎_elim, append_assoc, length-append}
 use Rattle.std.proofs.lemmas.Bool.{cases_Bool, and_parts, or_parts, not-true}
 use Rattle.std.specs.List.{flat_map}
 use Rattle.xmpp_tokens.specs.Fronts.{front, behind}
-use Rattle.xmpp_tokens.specs.Spelling.{text_byte, value_byte, is_text_plain, is_value_plain, spelled_text, spelled_value}
+use Rattle.xmpp_tokens.specs.Spelling.{text_byte, value_byte, is_text_plain, is_value_plain}
 use Rattle.xmpp_tokens.proofs.Splits.{behind_stops, length-joined}
 
 pub text_plain_is : (b : ℕ) → is_text_plain b ≡ true → text_byte b ≡ b ∷ []

@@ -1,18 +1,15 @@
 -- Reading a tag is its grammar, both ways.
-use Rattle.std.proofs.Common.{◌≡◌, ◌≢◌, ℕ, zero, suc, ◌+◌, ◌<◌, ◌≤◌, ◌⊎◌, inl, inr, Bool, true, false, cond, eqb, not, ◌&&◌, ◌||◌, List, [], ◌∷◌, ◌++◌, Option, Some, None, Ok, Err, length, map, refl, sym, ap, subst, ◌∙◌, arith, ⊎_elim, append_assoc}
-use Rattle.std.proofs.lemmas.Bool.{cases_Bool, and_parts, and_from, or_left, or_right, or_from, eqb-true, eq-eqb, ne_eqb, false≢true, not-true, not-false, not_from_true, not_from_false, cond-true, cond-false}
+use Rattle.std.proofs.Common.{◌≡◌, ◌≢◌, ℕ, zero, suc, Bool, true, false, cond, eqb, not, ◌&&◌, List, [], ◌∷◌, ◌++◌, Option, Some, None, length, refl, sym, ap, subst, ◌∙◌, arith, ⊎_elim}
+use Rattle.std.proofs.lemmas.Bool.{cases_Bool, and_parts, and_from, or_left, or_right, eqb-true, eq-eqb, false≢true, not-false, not_from_true, not_from_false, cond-true, cond-false}
 use Rattle.std.proofs.lemmas.Bool.Decides.{nat_tests}
-use Rattle.std.proofs.lemmas.List.{append-nil}
 use Rattle.std.proofs.lemmas.List.Folds.{list_all-append}
 use Rattle.std.proofs.lemmas.Slice.Eq.{bytes_eq-Decides}
 use Rattle.std.specs.List.{list_all}
 use Rattle.std.specs.Option.{option_map, option_and_then}
-use Rattle.std.specs.Prelude.{if◌then◌else◌}
 use Rattle.std.specs.Str.{bytes_eq}
-use Rattle.xmpp_tokens.specs.Characters.{is_white, is_name_start, is_name_byte, is_name, is_named, go_on, are_characters}
+use Rattle.xmpp_tokens.specs.Characters.{is_white, is_name_start, is_name_byte, is_name, is_named, go_on}
 use Rattle.xmpp_tokens.specs.Fronts.{front, behind}
-use Rattle.xmpp_tokens.specs.Values.{value_of}
-use Rattle.xmpp_tokens.specs.Tags.{Attribute, Tag, start_tag, end_tag, is_quote, is_qualified, has_parts, is_behind_colon, are_white, IsSpelled, IsAttribute, AreAttributes, AreDistinct, names_of, tag_end, IsStartTag, IsEndTag, IsTag, Spelled, Found, Inside, found, closed, quoted, assigned, named, is_empty, is_qualified_byte, spelled_at, attribute_at, end_in, with_more, unless_ended, inside_within, inside_of, are_distinct, start_with, start_at, end_at, begun_at, tag_at}
+use Rattle.xmpp_tokens.specs.Tags.{Attribute, Tag, start_tag, end_tag, is_quote, is_qualified, has_parts, is_behind_colon, are_white, IsSpelled, IsAttribute, AreAttributes, names_of, tag_end, IsStartTag, IsEndTag, IsTag, Spelled, Found, Inside, found, closed, quoted, assigned, named, is_empty, is_qualified_byte, spelled_at, attribute_at, end_in, with_more, unless_ended, inside_within, inside_of, are_distinct, start_with, start_at, end_at, begun_at, tag_at}
 use Rattle.xmpp_tokens.proofs.Splits.{joined, front_passes, stops, front-append, behind-append, behind_stops}
 use Rattle.xmpp_tokens.proofs.TagWords.{is_spelled}
 use Rattle.xmpp_tokens.proofs.InsideRuns.{finds, inside_step}

@@ -1,9 +1,8 @@
 -- What a tag comes to.
-use Rattle.std.proofs.Common.{◌≡◌, ◌↔◌, ℕ, Bool, true, false, cond, List, Option, Some, None, Result, Ok, Err, refl, sym, ap, ◌∙◌}
+use Rattle.std.proofs.Common.{◌≡◌, ◌↔◌, ℕ, Bool, true, false, cond, List, Option, Some, None, Ok, Err, refl, ap, ◌∙◌}
 use Rattle.std.proofs.lemmas.Bool.{cond-true, cond-false}
 use Rattle.std.specs.Option.{ok_or}
 use Rattle.xmpp_tokens.specs.Tags.{Tag, IsTag, is_restricted, tag_at, tag_of}
-use Rattle.xmpp_tokens.specs.declared.faults.TagFault.{TagFault}
 use Rattle.xmpp_tokens.specs.declared.faults.TagFault.TheVariants.{Restricted, NotWellFormed}
 use Rattle.xmpp_tokens.proofs.TagLaws.{tag_again, tag_tells}
 use Rattle.xmpp_tokens.proofs.Unrestricted.{tag_unrestricted}

@@ -1,13 +1,11 @@
 -- The attribute that bytes begin with: what is read is spelled so, and the other way round.
-use Rattle.std.proofs.Common.{◌≡◌, ◌≢◌, ℕ, zero, suc, ◌+◌, ◌<◌, ◌≤◌, ◌⊎◌, inl, inr, Bool, true, false, cond, eqb, not, ◌&&◌, ◌||◌, List, [], ◌∷◌, ◌++◌, Option, Some, None, length, refl, sym, ap, subst, ◌∙◌, arith, ⊎_elim, append_assoc, length-append}
-use Rattle.std.proofs.lemmas.Bool.{cases_Bool, and_parts, and_from, or_left, or_right, or_from, eqb-true, eq-eqb, false≢true, not-true, not-false}
-use Rattle.std.proofs.lemmas.Bool.Decides.{nat_tests}
+use Rattle.std.proofs.Common.{◌≡◌, ◌≢◌, ℕ, suc, ◌+◌, ◌<◌, Bool, true, false, cond, eqb, not, List, [], ◌∷◌, ◌++◌, Option, Some, None, length, refl, sym, ap, subst, ◌∙◌, arith, length-append}
+use Rattle.std.proofs.lemmas.Bool.{eqb-true, false≢true, not-false}
 use Rattle.std.specs.List.{list_all}
-use Rattle.std.specs.Prelude.{if◌then◌else◌}
-use Rattle.xmpp_tokens.specs.Characters.{is_white, is_name_start, is_name_byte, is_name, go_on}
+use Rattle.xmpp_tokens.specs.Characters.{is_white}
 use Rattle.xmpp_tokens.specs.Fronts.{front, behind}
-use Rattle.xmpp_tokens.specs.Tags.{is_quote, is_qualified, has_parts, is_behind_colon, are_white, IsSpelled, Spelled, closed, quoted, assigned, named, is_empty, is_qualified_byte, spelled_at}
-use Rattle.xmpp_tokens.proofs.Splits.{joined, front_passes, stops, front-append, behind-append, behind_stops, length-joined}
+use Rattle.xmpp_tokens.specs.Tags.{is_quote, is_qualified, are_white, IsSpelled, Spelled, closed, quoted, assigned, is_empty, is_qualified_byte, spelled_at}
+use Rattle.xmpp_tokens.proofs.Splits.{joined, front_passes, behind_stops}
 
 abbrev spelled : List ℕ → List ℕ → List ℕ → Spelled
 spelled n r s = record { name = n; raw = r; rest = s }

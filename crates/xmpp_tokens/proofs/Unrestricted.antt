@@ -1,14 +1,12 @@
 -- A tag of the grammar has no reference with an unknown name in its quotes.
-use Rattle.std.proofs.Common.{◌≡◌, ◌≢◌, ℕ, ◌⊎◌, inl, inr, Bool, true, false, cond, eqb, not, ◌&&◌, ◌||◌, List, [], ◌∷◌, ◌++◌, Option, Some, None, refl, sym, ap, subst, ◌∙◌, arith, ⊎_elim}
+use Rattle.std.proofs.Common.{◌≡◌, ℕ, ◌⊎◌, inl, inr, Bool, true, false, cond, eqb, not, ◌&&◌, ◌||◌, List, [], ◌∷◌, ◌++◌, Option, Some, None, refl, sym, ap, subst, ◌∙◌, arith, ⊎_elim}
 use Rattle.std.proofs.lemmas.Bool.{cases_Bool, and_parts, and_from, and_left, or_parts, or_from, eqb-true, eq-eqb, false≢true, false_from_ne_true, not-true, not_from_false}
 use Rattle.std.proofs.lemmas.Bool.Decides.{nat_tests}
-use Rattle.std.proofs.lemmas.List.Folds.{list_all-append}
 use Rattle.std.specs.List.{list_all}
-use Rattle.std.specs.Option.{option_map}
 use Rattle.xmpp_tokens.specs.Characters.{is_white, is_digit, is_name_byte, is_name_start, are_characters}
 use Rattle.xmpp_tokens.specs.Fronts.{front, behind}
 use Rattle.xmpp_tokens.specs.References.{referred, is_hex_digit, number_goes_on, reference_goes_on, each_goes_on}
-use Rattle.xmpp_tokens.specs.Tags.{Attribute, Tag, start_tag, end_tag, is_quote, is_qualified_byte, are_white, IsSpelled, AreAttributes, tag_end, IsStartTag, IsEndTag, IsTag, has_unknown_quoted, is_restricted}
+use Rattle.xmpp_tokens.specs.Tags.{Attribute, Tag, start_tag, end_tag, is_quote, is_qualified_byte, are_white, IsSpelled, AreAttributes, tag_end, IsStartTag, IsTag, has_unknown_quoted, is_restricted}
 use Rattle.xmpp_tokens.specs.Values.{text, reference, in_front, said, value_from, value_of, as_text, is_unknown, begins_with, begins_unknown, has_unknown}
 use Rattle.xmpp_tokens.specs.declared.references.Reference.{Reference}
 use Rattle.xmpp_tokens.specs.declared.references.Reference.TheVariants.{Character, Unknown, Malformed}

@@ -1,14 +1,12 @@
 -- A value, a run of plain bytes or one special byte at a time.
-use Rattle.std.proofs.Common.{◌≡◌, ◌≢◌, ℕ, suc, ◌+◌, ◌<◌, ◌≤◌, ◌⊎◌, Bool, true, false, cond, eqb, not, ◌&&◌, ◌||◌, List, [], ◌∷◌, ◌++◌, Option, Some, None, length, take, drop, refl, sym, ap, ◌∙◌, arith, ⊎_elim, append_assoc}
-use Rattle.std.proofs.lemmas.Bool.{cases_Bool, and_parts, and_from, and_left, or_parts, eqb-true, eq-eqb, false≢true, not-true}
+use Rattle.std.proofs.Common.{◌≡◌, ℕ, ◌<◌, ◌⊎◌, Bool, true, false, eqb, not, List, [], ◌∷◌, ◌++◌, Option, Some, None, length, refl, sym, ap, ◌∙◌, arith, ⊎_elim, append_assoc}
+use Rattle.std.proofs.lemmas.Bool.{cases_Bool, or_parts, not-true}
 use Rattle.std.proofs.lemmas.List.{append-nil, nil_from_length}
-use Rattle.std.specs.List.{list_all}
-use Rattle.std.specs.Option.{option_map}
-use Rattle.std.specs.Prelude.{encode_utf8, if◌then◌else◌}
+use Rattle.std.specs.Prelude.{encode_utf8}
 use Rattle.xmpp_tokens.proofs.Splits.{length-joined, behind_stops}
 use Rattle.xmpp_tokens.specs.Fronts.{front, behind}
 use Rattle.xmpp_tokens.specs.References.{referred}
-use Rattle.xmpp_tokens.specs.Values.{InHand, text, reference, in_front, said, value_from, is_plain}
+use Rattle.xmpp_tokens.specs.Values.{text, reference, in_front, said, value_from, is_plain}
 use Rattle.xmpp_tokens.specs.declared.references.Reference.{Reference}
 use Rattle.xmpp_tokens.specs.declared.references.Reference.TheVariants.{Character, Unknown, Malformed}
 

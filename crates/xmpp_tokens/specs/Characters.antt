@@ -2,7 +2,7 @@
 -- A text is the list of its UTF-8 bytes. Each byte from 128 on is part of a character from U+0080 on.
 use Rattle.std.specs.Prelude.{ℕ, Bool, true, false, not, ◌&&◌, ◌||◌, ◌==◌, nat_lt, nat_le, List, [], ◌∷◌}
 use Rattle.std.specs.Int.{is_in_range}
-use Rattle.std.specs.List.{list_all, list_any}
+use Rattle.std.specs.List.{list_all}
 
 -- white space (XML 1.0, 2.3, S): a space, a tab, a line feed or a carriage return
 abbrev pub is_white : ℕ → Bool

@@ -1,6 +1,6 @@
 -- XML declarations (XML 1.0, sections 2.8 and 2.9), from `<?xml` to `?>`: what is well formed, and where the encoding
 -- isn't UTF-8 (RFC 6120, section 11.6).
-use Rattle.std.specs.Prelude.{ℕ, zero, suc, ◌≡◌, ◌⊎◌, Bool, true, false, not, ◌&&◌, ◌||◌, if◌then◌else◌, List, [], ◌∷◌, ◌++◌, Option, Some, None, length, take, drop, codes, unwrap_or}
+use Rattle.std.specs.Prelude.{ℕ, zero, suc, ◌≡◌, ◌⊎◌, Bool, true, false, not, ◌&&◌, ◌||◌, if◌then◌else◌, List, ◌++◌, Option, Some, None, length, take, drop, codes, unwrap_or}
 use Rattle.std.specs.Option.{option_and_then}
 use Rattle.std.specs.Str.{bytes_eq, str_eq_ignore_ascii_case}
 use Rattle.xmpp_tokens.specs.Characters.{is_white}

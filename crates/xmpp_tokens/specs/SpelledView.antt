@@ -1,5 +1,4 @@
 -- An attribute as it is spelled, without where it lies in memory.
-use Rattle.std.specs.Prelude.{List}
 use Rattle.xmpp_tokens.specs.Tags.{Spelled}
 use Rattle.xmpp_tokens.specs.declared.attributes.SpelledAttribute.{SpelledAttribute}
 

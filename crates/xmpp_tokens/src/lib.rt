@@ -16,7 +16,8 @@ mod utf8;
 mod values;
 
 pub use characters::{
-    are_characters, ends_forbidden, is_name, is_name_byte, is_name_start, is_white,
+    are_characters, characters_are_those_of_xml, ends_forbidden, is_name, is_name_byte,
+    is_name_start, is_white,
 };
 pub use declarations::{
     Declaration, good_declarations_are_well_formed, other_encodings_are_told, read_declaration,

@@ -91,7 +91,8 @@ pub fn spelled_value_len(bytes: &[u8]) -> usize
 fn append_text_run<'a>(out: &mut Bytes, rest: &'a [u8]) -> &'a [u8]
     requires { length (spelled_text rest.now) ≤ out.old.spare }
     ensures items { out.new.items ++ spelled_text result.now ≡ out.old.items ++ spelled_text rest.now }
-    ensures spare { out.old.spare + length (spelled_text result.now) ≤ out.new.spare + length (spelled_text rest.now) }
+    ensures spare { out.old.spare + length (spelled_text result.now)
+        ≤ out.new.spare + length (spelled_text rest.now) }
     ensures shorter { length rest.now ≢ 0 → length result.now < length rest.now }
 {
     let (plain, special) = split_text_plain(rest);
@@ -135,7 +136,8 @@ pub fn append_text(out: &mut Bytes, bytes: &[u8]) -> Result<(), NoMemory>
 fn append_value_run<'a>(out: &mut Bytes, rest: &'a [u8]) -> &'a [u8]
     requires { length (spelled_value rest.now) ≤ out.old.spare }
     ensures items { out.new.items ++ spelled_value result.now ≡ out.old.items ++ spelled_value rest.now }
-    ensures spare { out.old.spare + length (spelled_value result.now) ≤ out.new.spare + length (spelled_value rest.now) }
+    ensures spare { out.old.spare + length (spelled_value result.now)
+        ≤ out.new.spare + length (spelled_value rest.now) }
     ensures shorter { length rest.now ≢ 0 → length result.now < length rest.now }
 {
     let (plain, special) = split_value_plain(rest);

@@ -14,7 +14,8 @@ use xmpp_edge::Text;
 
 // The attribute that bytes begin with, and what is behind it.
 fn attribute_at<'a>(alloc: Global, bytes: &'a [u8]) -> Result<(RawAttribute, &'a [u8]), TagFault>
-    ensures ok { IfOk result (λ r. Tags.attribute_at bytes.now ≡ Some (record { attribute = attribute_of r.0; rest = r.1.now })) }
+    ensures ok { IfOk result (λ r. Tags.attribute_at bytes.now
+        ≡ Some (record { attribute = attribute_of r.0; rest = r.1.now })) }
     ensures malformed { IsErrOf result TagFault.NotWellFormed → Tags.attribute_at bytes.now ≡ None }
     ensures shorter { IfOk result (λ r. length r.1.now < length bytes.now) }
     ensures not_restricted { IfErr result (λ e. e ≢ TagFault.Restricted) }
@@ -27,7 +28,8 @@ fn attribute_at<'a>(alloc: Global, bytes: &'a [u8]) -> Result<(RawAttribute, &'a
 
 // The attributes of a start tag, and whether it is that of an empty element.
 fn read_inside(alloc: Global, bytes: &[u8]) -> Result<(Vec<RawAttribute>, bool), TagFault>
-    ensures ok { IfOk result (λ r. inside_of bytes.now ≡ Some (record { attributes = map attribute_of r.0.items; empty = r.1 })) }
+    ensures ok { IfOk result (λ r. inside_of bytes.now
+        ≡ Some (record { attributes = map attribute_of r.0.items; empty = r.1 })) }
     ensures malformed { IsErrOf result TagFault.NotWellFormed → inside_of bytes.now ≡ None }
     ensures not_restricted { IfErr result (λ e. e ≢ TagFault.Restricted) }
 {

@@ -22,7 +22,8 @@ fn push_character(value: &mut Vec<u8>, c: char) -> Result<(), TagFault>
 // The character that a reference says, and what is behind it. `after` is what stands behind its `&`.
 
 fn reference_at(after: &[u8]) -> Option<(char, &[u8])>
-    ensures found { IfSome result (λ f. value_from (reference []) after.now ≡ in_front (encode_utf8 f.0) (value_from (text false) f.1.now)) }
+    ensures found { IfSome result (λ f. value_from (reference []) after.now
+        ≡ in_front (encode_utf8 f.0) (value_from (text false) f.1.now)) }
     ensures shorter { IfSome result (λ f. length f.1.now < length after.now) }
     ensures none { IfNone result (value_from (reference []) after.now ≡ None) }
 {
@@ -51,7 +52,8 @@ fn skip_line_feed(after: &[u8]) -> &[u8]
 
 fn special_at(first: u8, after: &[u8]) -> Option<(char, &[u8])>
     requires { Values.is_plain first ≡ false }
-    ensures found { IfSome result (λ f. value_from (text false) (first ∷ after.now) ≡ in_front (encode_utf8 f.0) (value_from (text false) f.1.now)) }
+    ensures found { IfSome result (λ f. value_from (text false) (first ∷ after.now)
+        ≡ in_front (encode_utf8 f.0) (value_from (text false) f.1.now)) }
     ensures shorter { IfSome result (λ f. length f.1.now ≤ length after.now) }
     ensures none { IfNone result (value_from (text false) (first ∷ after.now) ≡ None) }
 {
@@ -67,7 +69,8 @@ fn special_at(first: u8, after: &[u8]) -> Option<(char, &[u8])>
 #[tactic(auto, using(crate::proofs::ValueRuns::in_front_pushed))]
 fn take_special<'a>(value: &mut Vec<u8>, first: u8, after: &'a [u8]) -> Result<&'a [u8], TagFault>
     requires { Values.is_plain first ≡ false }
-    ensures ok { IfOk result (λ left. in_front value.new.items (value_from (text false) left.now) ≡ in_front value.old.items (value_from (text false) (first ∷ after.now))) }
+    ensures ok { IfOk result (λ left. in_front value.new.items (value_from (text false) left.now)
+        ≡ in_front value.old.items (value_from (text false) (first ∷ after.now))) }
     ensures shorter { IfOk result (λ left. length left.now ≤ length after.now) }
     ensures malformed { IsErrOf result TagFault.NotWellFormed → value_from (text false) (first ∷ after.now) ≡ None }
     ensures not_restricted { IfErr result (λ e. e ≢ TagFault.Restricted) }
@@ -80,7 +83,8 @@ fn take_special<'a>(value: &mut Vec<u8>, first: u8, after: &'a [u8]) -> Result<&
 // Puts what the bytes at the front say at the end, and answers what is behind them.
 fn take_bytes<'a>(value: &mut Vec<u8>, rest: &'a [u8]) -> Result<&'a [u8], TagFault>
     requires { 0 < length rest.now }
-    ensures ok { IfOk result (λ left. in_front value.new.items (value_from (text false) left.now) ≡ in_front value.old.items (value_from (text false) rest.now)) }
+    ensures ok { IfOk result (λ left. in_front value.new.items (value_from (text false) left.now)
+        ≡ in_front value.old.items (value_from (text false) rest.now)) }
     ensures shorter { IfOk result (λ left. length left.now < length rest.now) }
     ensures malformed { IsErrOf result TagFault.NotWellFormed → value_from (text false) rest.now ≡ None }
     ensures not_restricted { IfErr result (λ e. e ≢ TagFault.Restricted) }

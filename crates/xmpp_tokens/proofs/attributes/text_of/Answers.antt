@@ -1,5 +1,4 @@
-use Rattle.std.proofs.Common.{◌≡◌, ap, sym, ◌∙◌, Some, List, ℕ}
-use Rattle.std.proofs.lemmas.Str.{IsUtf8-string_bytes}
+use Rattle.std.proofs.Common.{ap, sym, ◌∙◌, Some}
 use Rattle.xmpp_tokens.proofs.Texts.{text_is, text_fails}
 use Rattle.xmpp_tokens.proofs.attributes.text_of.Goals as goal
 

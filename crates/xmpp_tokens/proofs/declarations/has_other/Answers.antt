@@ -1,4 +1,4 @@
-use Rattle.std.proofs.Common.{◌≡◌, sym, ◌∙◌, false}
+use Rattle.std.proofs.Common.{sym, ◌∙◌}
 use Rattle.std.proofs.lemmas.Bool.{or_left}
 use Rattle.xmpp_tokens.specs.Declarations.{has_other, is_other}
 use Rattle.xmpp_tokens.specs.SpelledView.{spelled_view}

@@ -1,8 +1,8 @@
-use Rattle.std.proofs.Common.{◌≡◌, ◌<◌, ◌↔◌, ◌∙◌, true, sym, ap, map, length, arith}
+use Rattle.std.proofs.Common.{map, arith}
 use Rattle.std.proofs.lemmas.List.{length-map}
 use Rattle.xmpp_tokens.proofs.Names.{few, tested}
 use Rattle.xmpp_tokens.specs.RawTags.{attribute_of}
-use Rattle.xmpp_tokens.specs.Tags.{Attribute, AreDistinct, names_of}
+use Rattle.xmpp_tokens.specs.Tags.{Attribute, names_of}
 use Rattle.xmpp_tokens.proofs.distinct.are_distinct.Goals as goal
 
 pub returns-then-attributes-lt2-clause-ok : goal.returns-then-attributes-lt2-clause-ok

@@ -1,4 +1,4 @@
-use Rattle.std.proofs.Common.{◌≤◌, length, arith}
+use Rattle.std.proofs.Common.{arith}
 use Rattle.xmpp_tokens.proofs.Going.{ends_are}
 use Rattle.xmpp_tokens.proofs.references.ends_forbidden_behind.Goals as goal
 

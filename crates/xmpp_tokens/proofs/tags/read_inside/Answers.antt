@@ -1,10 +1,10 @@
-use Rattle.std.proofs.Common.{◌≡◌, sym, ap, ◌∙◌, map, None, length}
+use Rattle.std.proofs.Common.{sym, ap, ◌∙◌, map}
 use Rattle.std.proofs.lemmas.List.{map_push}
 use Rattle.std.proofs.lemmas.Result.{err_from_is_err_and}
 use Rattle.xmpp_tokens.proofs.Outcomes.{err_elsewhere}
 use Rattle.xmpp_tokens.proofs.InsideRuns.{inside_ends, inside_goes_on, inside_fails}
 use Rattle.xmpp_tokens.specs.RawTags.{attribute_of}
-use Rattle.xmpp_tokens.specs.Tags.{end_in, inside_of, with_more}
+use Rattle.xmpp_tokens.specs.Tags.{end_in, with_more}
 use Rattle.xmpp_tokens.proofs.tags.read_inside.Goals as goal
 
 pub returns-in-Some-clause-ok : goal.returns-in-Some-clause-ok

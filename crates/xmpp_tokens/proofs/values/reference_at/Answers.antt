@@ -1,4 +1,4 @@
-use Rattle.std.proofs.Common.{inl, inr, refl}
+use Rattle.std.proofs.Common.{inl, inr}
 use Rattle.xmpp_tokens.proofs.ValueRuns.{reference_says, reference_open, reference_fails, reference_shorter}
 use Rattle.xmpp_tokens.proofs.values.reference_at.Goals as goal
 

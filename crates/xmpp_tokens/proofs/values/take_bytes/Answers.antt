@@ -1,6 +1,5 @@
-use Rattle.std.proofs.Common.{◌≡◌, List, ℕ, ◌∷◌, ◌∙◌, ap, false, None, ◌<◌, ◌≤◌, length, arith}
+use Rattle.std.proofs.Common.{arith}
 use Rattle.std.proofs.lemmas.Result.{IfOk-weaker}
-use Rattle.xmpp_tokens.specs.Values.{in_front, text, value_from}
 use Rattle.xmpp_tokens.proofs.ValueRuns.{after_plain, plain_taken, special_fails, special_first, special_within}
 use Rattle.xmpp_tokens.proofs.values.take_bytes.Goals as goal
 
