@@ -1,0 +1,71 @@
+-- The front and what is behind it.
+use Rattle.std.proofs.Common.{◌≡◌, suc, ◌+◌, ◌≤◌, Bool, true, false, cond, not, List, [], ◌∷◌, ◌++◌, length, take, drop, refl, sym, ap, ◌∙◌, arith, ⊎_elim}
+use Rattle.std.proofs.lemmas.Bool.{cases_Bool, and_parts, and_from, not-true}
+use Rattle.std.specs.List.{prefix_len, list_all}
+use Rattle.xmpp_tokens.specs.Fronts.{front, behind}
+
+pub take_prefix : {X : Type 0} (p : X → Bool) (xs : List X) → take (prefix_len p xs) xs ≡ front p xs
+take_prefix p [] = refl
+take_prefix p (x ∷ xs) =
+    ⊎_elim
+    (λ (t : p x ≡ true). let n : 1 + prefix_len p xs ≡ suc (prefix_len p xs) = omega arith in rw (t, n) (ap (λ l. x ∷ l) (take_prefix p xs)))
+    (λ (f : p x ≡ false). rw f refl)
+    (cases_Bool (p x))
+
+pub drop_prefix : {X : Type 0} (p : X → Bool) (xs : List X) → drop (prefix_len p xs) xs ≡ behind p xs
+drop_prefix p [] = refl
+drop_prefix p (x ∷ xs) =
+    ⊎_elim
+    (λ (t : p x ≡ true). let n : 1 + prefix_len p xs ≡ suc (prefix_len p xs) = omega arith in rw (t, n) (drop_prefix p xs))
+    (λ (f : p x ≡ false). rw f refl)
+    (cases_Bool (p x))
+
+pub prefix_within : {X : Type 0} (p : X → Bool) (xs : List X) → prefix_len p xs ≤ length xs
+prefix_within p [] = omega arith
+prefix_within p (x ∷ xs) =
+    ⊎_elim (λ (t : p x ≡ true). let ih = prefix_within p xs in rw t (omega arith)) (λ (f : p x ≡ false). rw f (omega arith)) (cases_Bool (p x))
+
+-- both together are the list
+pub joined : {X : Type 0} (p : X → Bool) (xs : List X) → front p xs ++ behind p xs ≡ xs
+joined p [] = refl
+joined p (x ∷ xs) =
+    ⊎_elim (λ (t : p x ≡ true). rw t (ap (λ l. x ∷ l) (joined p xs))) (λ (f : p x ≡ false). rw f refl) (cases_Bool (p x))
+
+pub front_passes : {X : Type 0} (p : X → Bool) (xs : List X) → list_all p (front p xs) ≡ true
+front_passes p [] = refl
+front_passes p (x ∷ xs) =
+    ⊎_elim (λ (t : p x ≡ true). rw t (and_from _ _ t (front_passes p xs))) (λ (f : p x ≡ false). rw f refl) (cases_Bool (p x))
+
+-- no item passes at the front
+abbrev pub stops : {X : Type 0} → (X → Bool) → List X → Bool
+stops p [] = true
+stops p (x ∷ xs) = not (p x)
+
+pub front-append : {X : Type 0} (p : X → Bool) (xs ys : List X) → list_all p xs ≡ true → stops p ys ≡ true → front p (xs ++ ys) ≡ xs
+front-append p [] [] h s = refl
+front-append p [] (y ∷ ys) h s = rw (not-true (p y) s) refl
+front-append p (x ∷ xs) ys h s = let q = and_parts (p x) (list_all p xs) h in rw q.0 (ap (λ l. x ∷ l) (front-append p xs ys q.1 s))
+
+pub behind-append : {X : Type 0} (p : X → Bool) (xs ys : List X) → list_all p xs ≡ true → stops p ys ≡ true → behind p (xs ++ ys) ≡ ys
+behind-append p [] [] h s = refl
+behind-append p [] (y ∷ ys) h s = rw (not-true (p y) s) refl
+behind-append p (x ∷ xs) ys h s = let q = and_parts (p x) (list_all p xs) h in rw q.0 (behind-append p xs ys q.1 s)
+
+pub length-joined : {X : Type 0} (p : X → Bool) (xs : List X) → length (front p xs) + length (behind p xs) ≡ length xs
+length-joined p [] = refl
+length-joined p (x ∷ xs) =
+    ⊎_elim (λ (t : p x ≡ true). let ih = length-joined p xs in rw t (omega arith)) (λ (f : p x ≡ false). rw f (omega arith)) (cases_Bool (p x))
+
+pub behind_stops : {X : Type 0} (p : X → Bool) (xs : List X) (y : X) (ys : List X) → behind p xs ≡ y ∷ ys → p y ≡ false
+behind_stops p [] y ys e = absurd cc
+behind_stops p (x ∷ xs) y ys e =
+    ⊎_elim
+    (λ (t : p x ≡ true). behind_stops p xs y ys (sym (drop_first (p x) (behind p xs) (x ∷ xs) t) ∙ e))
+    (λ (f : p x ≡ false). let same : x ∷ xs ≡ y ∷ ys = sym (keep_all (p x) (behind p xs) (x ∷ xs) f) ∙ e in let first : x ≡ y = cc in rw (← first) f)
+    (cases_Bool (p x))
+  where
+    drop_first : {Y : Type 0} (b : Bool) (u v : Y) → b ≡ true → cond b u v ≡ u
+    drop_first b u v t = rw t refl
+
+    keep_all : {Y : Type 0} (b : Bool) (u v : Y) → b ≡ false → cond b u v ≡ v
+    keep_all b u v f = rw f refl

@@ -1,0 +1,10 @@
+-- A list's front of items that pass a test, and what is behind it.
+use Rattle.std.specs.Prelude.{Bool, List, [], ◌∷◌, if◌then◌else◌}
+
+abbrev pub front : {X : Type 0} → (X → Bool) → List X → List X
+front p [] = []
+front p (x ∷ xs) = if p x then x ∷ front p xs else []
+
+abbrev pub behind : {X : Type 0} → (X → Bool) → List X → List X
+behind p [] = []
+behind p (x ∷ xs) = if p x then behind p xs else x ∷ xs

@@ -1,0 +1,12 @@
+pub use Rattle.xmpp_edge.specs.Listed
+pub mod Characters
+pub mod Declarations
+pub mod Fronts
+pub mod Held
+pub mod References
+pub mod Utf8
+pub mod Values
+pub mod Tags
+pub mod RawTags
+pub mod SpelledView
+pub mod Spelling

@@ -1,0 +1,56 @@
+//! Whether the attributes of one tag have names of their own.
+ghost use Rattle.std.specs.Prelude.{◌≡◌, ◌↔◌, map, IfOk, IsTrue, IsSorted, IfErr};
+ghost use Rattle.std.specs.Cmp.Lexicographic.{slice_cmp};
+ghost use Rattle.std.specs.Ordering.{nat_cmp};
+ghost use Rattle.xmpp_tokens.specs.RawTags.{attribute_of};
+ghost use Rattle.xmpp_tokens.specs.Tags;
+ghost use Rattle.xmpp_tokens.specs.Tags.{AreDistinct, names_of};
+
+use crate::faults::TagFault;
+use crate::raw_tags::RawAttribute;
+use std::alloc::Global;
+
+// The spelled names, borrowed.
+fn names<'a>(alloc: Global, attributes: &'a [RawAttribute]) -> Result<Vec<&'a str>, TagFault>
+    ensures ok { IfOk result (λ v. map (λ n. n.now) v.items ≡ names_of (map attribute_of attributes.now)) }
+    ensures err { IfErr result (λ e. e ≡ TagFault.NoMemory) }
+{
+    let mut names = Vec::with_capacity(alloc, attributes.len())?;
+    for attribute in attributes {
+        names.push(attribute.name.as_str())?;
+    }
+    Ok(names)
+}
+
+// Whether no name stands beside an equal one, in a list that is in order.
+fn neighbours_differ(names: &[&str]) -> bool
+    requires { IsSorted (λ a b. slice_cmp nat_cmp a.now b.now) names.now }
+    ensures { IsTrue result ↔ AreDistinct (map (λ n. n.now) names.now) }
+{
+    for later in 1..names.len() {
+        if names[later - 1] == names[later] {
+            return false;
+        }
+    }
+    true
+}
+
+// Whether no two names are equal. They are put in order, so that many names cost little more than their bytes.
+fn are_all_distinct(names: &mut [&str]) -> bool
+    ensures { IsTrue result ↔ AreDistinct (map (λ n. n.now) names.old) }
+{
+    names.sort_unstable();
+    neighbours_differ(names)
+}
+
+// Whether no two attributes have one spelled name.
+pub(crate) fn are_distinct(alloc: Global, attributes: &[RawAttribute]) -> Result<bool, TagFault>
+    ensures ok { IfOk result (λ b. b ≡ Tags.are_distinct (names_of (map attribute_of attributes.now))) }
+    ensures err { IfErr result (λ e. e ≡ TagFault.NoMemory) }
+{
+    if attributes.len() < 2 {
+        return Ok(true);
+    }
+    let mut names = names(alloc, attributes)?;
+    Ok(are_all_distinct(names.as_mut_slice()))
+}

@@ -1,0 +1,139 @@
+//! A slice's front of bytes of a class, and what is behind it.
+ghost use Rattle.std.specs.Prelude.{◌≡◌, ◌+◌, ◌<◌, ◌≤◌, ◌==◌, not, length};
+ghost use Rattle.std.specs.List.{prefix_len};
+ghost use Rattle.xmpp_tokens.specs.Characters;
+ghost use Rattle.xmpp_tokens.specs.Fronts.{front, behind};
+ghost use Rattle.xmpp_tokens.specs.Spelling;
+ghost use Rattle.xmpp_tokens.specs.Tags;
+ghost use Rattle.xmpp_tokens.specs.Values;
+
+use crate::characters::{is_name_byte, is_white};
+
+fn name_len(bytes: &[u8]) -> usize
+    ensures { result ≡ prefix_len Characters.is_name_byte bytes.now }
+{
+    bytes.iter().take_while(|b| is_name_byte(**b)).count()
+}
+
+// The bytes that go on a name, and the rest.
+#[tactic(auto, using(crate::proofs::Splits::take_prefix, crate::proofs::Splits::drop_prefix, crate::proofs::Splits::prefix_within))]
+pub(crate) fn split_name_bytes(bytes: &[u8]) -> (&[u8], &[u8])
+    ensures front { result.0.now ≡ front Characters.is_name_byte bytes.now }
+    ensures behind { result.1.now ≡ behind Characters.is_name_byte bytes.now }
+{
+    bytes.split_at(name_len(bytes))
+}
+
+fn white_len(bytes: &[u8]) -> usize
+    ensures { result ≡ prefix_len Characters.is_white bytes.now }
+{
+    bytes.iter().take_while(|b| is_white(**b)).count()
+}
+
+// The white space, and the rest.
+#[tactic(auto, using(crate::proofs::Splits::take_prefix, crate::proofs::Splits::drop_prefix, crate::proofs::Splits::prefix_within))]
+pub(crate) fn split_white(bytes: &[u8]) -> (&[u8], &[u8])
+    ensures front { result.0.now ≡ front Characters.is_white bytes.now }
+    ensures behind { result.1.now ≡ behind Characters.is_white bytes.now }
+{
+    bytes.split_at(white_len(bytes))
+}
+
+fn until_len(bytes: &[u8], end: u8) -> usize
+    ensures { result ≡ prefix_len (λ b. not (b == end)) bytes.now }
+{
+    bytes.iter().take_while(|b| **b != end).count()
+}
+
+// The bytes before the first that is `end`, and the rest from there.
+#[tactic(auto, using(crate::proofs::Splits::take_prefix, crate::proofs::Splits::drop_prefix, crate::proofs::Splits::prefix_within))]
+pub(crate) fn split_until(bytes: &[u8], end: u8) -> (&[u8], &[u8])
+    ensures front { result.0.now ≡ front (λ b. not (b == end)) bytes.now }
+    ensures behind { result.1.now ≡ behind (λ b. not (b == end)) bytes.now }
+{
+    bytes.split_at(until_len(bytes, end))
+}
+
+fn is_plain(b: u8) -> bool
+    ensures { result ≡ Values.is_plain b }
+{
+    b != b'&' && b != b'<' && b != b'\r' && b != b'\t' && b != b'\n'
+}
+
+fn plain_len(bytes: &[u8]) -> usize
+    ensures { result ≡ prefix_len Values.is_plain bytes.now }
+{
+    bytes.iter().take_while(|b| is_plain(**b)).count()
+}
+
+// The bytes that a value says as they are, and the rest.
+#[tactic(auto, using(crate::proofs::Splits::take_prefix, crate::proofs::Splits::drop_prefix, crate::proofs::Splits::prefix_within))]
+pub(crate) fn split_plain(bytes: &[u8]) -> (&[u8], &[u8])
+    ensures front { result.0.now ≡ front Values.is_plain bytes.now }
+    ensures behind { result.1.now ≡ behind Values.is_plain bytes.now }
+{
+    bytes.split_at(plain_len(bytes))
+}
+
+fn is_qualified_byte(b: u8) -> bool
+    ensures { result ≡ Tags.is_qualified_byte b }
+{
+    is_name_byte(b) || b == b':'
+}
+
+fn qualified_len(bytes: &[u8]) -> usize
+    ensures { result ≡ prefix_len Tags.is_qualified_byte bytes.now }
+{
+    bytes.iter().take_while(|b| is_qualified_byte(**b)).count()
+}
+
+// The bytes that go on a name or are a colon, and the rest.
+#[tactic(auto, using(crate::proofs::Splits::take_prefix, crate::proofs::Splits::drop_prefix, crate::proofs::Splits::prefix_within))]
+pub(crate) fn split_qualified(bytes: &[u8]) -> (&[u8], &[u8])
+    ensures front { result.0.now ≡ front Tags.is_qualified_byte bytes.now }
+    ensures behind { result.1.now ≡ behind Tags.is_qualified_byte bytes.now }
+{
+    bytes.split_at(qualified_len(bytes))
+}
+
+fn is_text_plain(b: u8) -> bool
+    ensures { result ≡ Spelling.is_text_plain b }
+{
+    b != b'&' && b != b'<' && b != b'>' && b != b'\r'
+}
+
+fn text_plain_len(bytes: &[u8]) -> usize
+    ensures { result ≡ prefix_len Spelling.is_text_plain bytes.now }
+{
+    bytes.iter().take_while(|b| is_text_plain(**b)).count()
+}
+
+// The bytes that a text is written with as they are, and the rest.
+#[tactic(auto, using(crate::proofs::Splits::take_prefix, crate::proofs::Splits::drop_prefix, crate::proofs::Splits::prefix_within))]
+pub(crate) fn split_text_plain(bytes: &[u8]) -> (&[u8], &[u8])
+    ensures front { result.0.now ≡ front Spelling.is_text_plain bytes.now }
+    ensures behind { result.1.now ≡ behind Spelling.is_text_plain bytes.now }
+{
+    bytes.split_at(text_plain_len(bytes))
+}
+
+fn is_value_plain(b: u8) -> bool
+    ensures { result ≡ Spelling.is_value_plain b }
+{
+    is_text_plain(b) && b != b'\'' && b != b'\t' && b != b'\n'
+}
+
+fn value_plain_len(bytes: &[u8]) -> usize
+    ensures { result ≡ prefix_len Spelling.is_value_plain bytes.now }
+{
+    bytes.iter().take_while(|b| is_value_plain(**b)).count()
+}
+
+// The bytes that a value is written with as they are, and the rest.
+#[tactic(auto, using(crate::proofs::Splits::take_prefix, crate::proofs::Splits::drop_prefix, crate::proofs::Splits::prefix_within))]
+pub(crate) fn split_value_plain(bytes: &[u8]) -> (&[u8], &[u8])
+    ensures front { result.0.now ≡ front Spelling.is_value_plain bytes.now }
+    ensures behind { result.1.now ≡ behind Spelling.is_value_plain bytes.now }
+{
+    bytes.split_at(value_plain_len(bytes))
+}

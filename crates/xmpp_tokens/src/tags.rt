@@ -1,0 +1,177 @@
+ghost use Rattle.std.specs.Prelude.{◌≡◌, ◌≢◌, ◌<◌, ◌↔◌, ℕ, List, true, false, Some, None, Ok, Err, length, map, IfOk, IfErr, IsErrOf};
+ghost use Rattle.xmpp_tokens.specs.RawTags.{attribute_of, raw_tag};
+ghost use Rattle.xmpp_tokens.specs.Tags;
+ghost use Rattle.xmpp_tokens.specs.Tags.{IsTag, Tag, inside_of, tag_of};
+
+use crate::attributes::{end_in, is_quote, qualified, spelled_at};
+use crate::distinct::are_distinct;
+use crate::faults::TagFault;
+use crate::fronts::{split_qualified, split_white};
+use crate::raw_tags::{RawAttribute, RawTag, StartTag};
+use crate::values::{begins_unknown, value_text};
+use std::alloc::Global;
+use xmpp_edge::Text;
+
+// The attribute that bytes begin with, and what is behind it.
+fn attribute_at<'a>(alloc: Global, bytes: &'a [u8]) -> Result<(RawAttribute, &'a [u8]), TagFault>
+    ensures ok { IfOk result (λ r. Tags.attribute_at bytes.now
+        ≡ Some (record { attribute = attribute_of r.0; rest = r.1.now })) }
+    ensures malformed { IsErrOf result TagFault.NotWellFormed → Tags.attribute_at bytes.now ≡ None }
+    ensures shorter { IfOk result (λ r. length r.1.now < length bytes.now) }
+    ensures not_restricted { IfErr result (λ e. e ≢ TagFault.Restricted) }
+{
+    let spelled = spelled_at(bytes).ok_or(TagFault::NotWellFormed)?;
+    let name = Text::from_str(alloc, spelled.name)?;
+    let value = value_text(alloc, spelled.raw)?;
+    Ok((RawAttribute { name, value }, spelled.rest))
+}
+
+// The attributes of a start tag, and whether it is that of an empty element.
+fn read_inside(alloc: Global, bytes: &[u8]) -> Result<(Vec<RawAttribute>, bool), TagFault>
+    ensures ok { IfOk result (λ r. inside_of bytes.now
+        ≡ Some (record { attributes = map attribute_of r.0.items; empty = r.1 })) }
+    ensures malformed { IsErrOf result TagFault.NotWellFormed → inside_of bytes.now ≡ None }
+    ensures not_restricted { IfErr result (λ e. e ≢ TagFault.Restricted) }
+{
+    let mut attributes = Vec::new(alloc);
+    let mut rest = bytes;
+    loop {
+        if let Some(empty) = end_in(split_white(rest).1) {
+            return Ok((attributes, empty));
+        }
+        let (attribute, left) = attribute_at(alloc, rest)?;
+        attributes.push(attribute)?;
+        rest = left;
+    }
+}
+
+// A start tag, from behind its `<`.
+#[tactic(auto, unfolding(crate::specs::Tags::start_at))]
+fn start_at(alloc: Global, bytes: &[u8]) -> Result<StartTag, TagFault>
+    ensures ok { IfOk result (λ t. Tags.start_at bytes.now ≡ Some (raw_tag (RawTag.Start t))) }
+    ensures malformed { IsErrOf result TagFault.NotWellFormed → Tags.start_at bytes.now ≡ None }
+    ensures not_restricted { IfErr result (λ e. e ≢ TagFault.Restricted) }
+{
+    let (name, inside) = split_qualified(bytes);
+    let name = qualified(name).ok_or(TagFault::NotWellFormed)?;
+    let (attributes, empty) = read_inside(alloc, inside)?;
+    if !are_distinct(alloc, &attributes)? {
+        return Err(TagFault::NotWellFormed);
+    }
+    let name = Text::from_str(alloc, name)?;
+    Ok(StartTag {
+        name,
+        attributes,
+        empty,
+    })
+}
+
+// An end tag's name, from behind its `</`.
+#[tactic(auto, unfolding(crate::specs::Tags::end_at))]
+fn end_at(alloc: Global, bytes: &[u8]) -> Result<Text, TagFault>
+    ensures ok { IfOk result (λ t. Tags.end_at bytes.now ≡ Some (raw_tag (RawTag.End t))) }
+    ensures malformed { IsErrOf result TagFault.NotWellFormed → Tags.end_at bytes.now ≡ None }
+    ensures not_restricted { IfErr result (λ e. e ≢ TagFault.Restricted) }
+{
+    let (name, end) = split_qualified(bytes);
+    let name = qualified(name).ok_or(TagFault::NotWellFormed)?;
+    if split_white(end).1 != b">".as_slice() {
+        return Err(TagFault::NotWellFormed);
+    }
+    Ok(Text::from_str(alloc, name)?)
+}
+
+// Whether bytes are those of an end tag.
+fn is_end(bytes: &[u8]) -> bool
+    ensures { result ≡ Tags.is_end bytes.now }
+{
+    match *bytes {
+        [a, b, ..] => a == b'<' && b == b'/',
+        _ => false,
+    }
+}
+
+// A tag, from behind its `<`.
+fn begun_at(alloc: Global, bytes: &[u8]) -> Result<RawTag, TagFault>
+    ensures ok { IfOk result (λ t. Tags.begun_at bytes.now ≡ Some (raw_tag t)) }
+    ensures malformed { IsErrOf result TagFault.NotWellFormed → Tags.begun_at bytes.now ≡ None }
+    ensures not_restricted { IfErr result (λ e. e ≢ TagFault.Restricted) }
+{
+    match bytes.split_first() {
+        Some((first, rest)) if *first == b'/' => Ok(RawTag::End(end_at(alloc, rest)?)),
+        Some(_) => Ok(RawTag::Start(start_at(alloc, bytes)?)),
+        None => Err(TagFault::NotWellFormed),
+    }
+}
+
+// A tag, its references in quotes aside.
+fn tag_at(alloc: Global, bytes: &[u8]) -> Result<RawTag, TagFault>
+    ensures ok { IfOk result (λ t. Tags.tag_at bytes.now ≡ Some (raw_tag t)) }
+    ensures malformed { IsErrOf result TagFault.NotWellFormed → Tags.tag_at bytes.now ≡ None }
+    ensures not_restricted { IfErr result (λ e. e ≢ TagFault.Restricted) }
+{
+    match bytes.split_first() {
+        Some((first, rest)) if *first == b'<' => begun_at(alloc, rest),
+        _ => Err(TagFault::NotWellFormed),
+    }
+}
+
+// The quote that is open behind a byte.
+fn quote_behind(quote: Option<u8>, b: u8) -> Option<u8>
+    ensures { result ≡ Tags.quote_behind quote b }
+{
+    match quote {
+        None if is_quote(b) => Some(b),
+        None => None,
+        Some(q) if q == b => None,
+        Some(q) => Some(q),
+    }
+}
+
+// Whether some reference inside quotes has an unknown name.
+fn has_unknown_quoted(bytes: &[u8]) -> bool
+    ensures { result ≡ Tags.has_unknown_quoted None bytes.now }
+{
+    let mut quote = None;
+    for (i, b) in bytes.iter().enumerate() {
+        if quote.is_some() && *b == b'&' && begins_unknown(&bytes[i + 1..]) {
+            return true;
+        }
+        quote = quote_behind(quote, *b);
+    }
+    false
+}
+
+/// Reads a tag off its whole bytes, from its `<` to its `>` (XML 1.0, section 3.1): a start tag, the tag of an empty
+/// element, or an end tag. Names stay as they are spelled.
+///
+/// `Restricted` comes exactly where the tag is no end tag and a reference inside quotes has an unknown name, whatever
+/// else is wrong with it. `NotWellFormed` comes exactly where that isn't so and the bytes are no tag: what is there
+/// isn't formed as XML has it, a value has a `<`, a bad reference or a character that is none of XML's, or two
+/// attributes have one spelled name.
+#[tactic(auto, unfolding(crate::specs::Tags::tag_of))]
+pub fn read_tag(alloc: Global, bytes: &[u8]) -> Result<RawTag, TagFault>
+    ensures ok { IfOk result (λ t. tag_of bytes.now ≡ Ok (raw_tag t)) }
+    ensures restricted { IsErrOf result TagFault.Restricted → tag_of bytes.now ≡ Err TagFault.Restricted }
+    ensures malformed { IsErrOf result TagFault.NotWellFormed → tag_of bytes.now ≡ Err TagFault.NotWellFormed }
+{
+    if !is_end(bytes) && has_unknown_quoted(bytes) {
+        return Err(TagFault::Restricted);
+    }
+    tag_at(alloc, bytes)
+}
+
+/// Bytes that the grammar has as a tag are read as that tag.
+pub fn tags_are_read()
+    ensures { (bytes : List ℕ) (t : Tag) → IsTag bytes t → tag_of bytes ≡ Ok t }
+{}
+
+/// What is read as a tag, the grammar has as that tag.
+pub fn what_is_read_is_a_tag()
+    ensures { (bytes : List ℕ) (t : Tag) → tag_of bytes ≡ Ok t → IsTag bytes t }
+{}
+
+/// `Restricted` is told exactly of a tag that is no end tag and has a reference with an unknown name in its quotes.
+pub fn unknown_names_are_restricted()
+    ensures { (bytes : List ℕ) → (tag_of bytes ≡ Err TagFault.Restricted) ↔ (Tags.is_restricted bytes ≡ true) }
+{}

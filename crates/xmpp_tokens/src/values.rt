@@ -1,0 +1,192 @@
+ghost use Rattle.std.specs.Prelude.{◌≡◌, ◌≢◌, ◌<◌, ◌≤◌, ◌++◌, [], ◌∷◌, true, false, Some, None, Ok, Err, length, encode_utf8, IfOk, IfErr, IfSome, IfNone, OnOk, IsErrOf};
+ghost use Rattle.xmpp_tokens.specs.Values;
+ghost use Rattle.xmpp_tokens.specs.Values.{as_text, in_front, reference, text, value_from, value_of};
+
+use crate::characters::are_characters;
+use crate::faults::TagFault;
+use crate::fronts::{split_name_bytes, split_plain, split_until};
+use crate::references::{Reference, referred};
+use std::alloc::Global;
+use xmpp_edge::Text;
+
+// Puts a character at the end.
+fn push_character(value: &mut Vec<u8>, c: char) -> Result<(), TagFault>
+    ensures ok { OnOk result (value.new.items ≡ value.old.items ++ encode_utf8 c) }
+    ensures err { IfErr result (λ e. e ≡ TagFault.NoMemory) }
+{
+    let mut buffer = [0; 4];
+    value.extend_from_slice(c.encode_utf8(&mut buffer).as_bytes())?;
+    Ok(())
+}
+
+// The character that a reference says, and what is behind it. `after` is what stands behind its `&`.
+
+fn reference_at(after: &[u8]) -> Option<(char, &[u8])>
+    ensures found { IfSome result (λ f. value_from (reference []) after.now
+        ≡ in_front (encode_utf8 f.0) (value_from (text false) f.1.now)) }
+    ensures shorter { IfSome result (λ f. length f.1.now < length after.now) }
+    ensures none { IfNone result (value_from (reference []) after.now ≡ None) }
+{
+    let (name, end) = split_until(after, b';');
+    let (_, rest) = end.split_first()?;
+    match referred(name) {
+        Reference::Character(c) => Some((c, rest)),
+        Reference::Unknown => None,
+        Reference::Malformed => None,
+    }
+}
+
+// What is behind a line feed at the front, or all where there is none.
+
+fn skip_line_feed(after: &[u8]) -> &[u8]
+    ensures same { value_from (text false) result.now ≡ value_from (text true) after.now }
+    ensures shorter { length result.now ≤ length after.now }
+{
+    match after.split_first() {
+        Some((first, rest)) if *first == b'\n' => rest,
+        _ => after,
+    }
+}
+
+// What one special byte at the front says, and what is behind it. `None` where it says nothing.
+
+fn special_at(first: u8, after: &[u8]) -> Option<(char, &[u8])>
+    requires { Values.is_plain first ≡ false }
+    ensures found { IfSome result (λ f. value_from (text false) (first ∷ after.now)
+        ≡ in_front (encode_utf8 f.0) (value_from (text false) f.1.now)) }
+    ensures shorter { IfSome result (λ f. length f.1.now ≤ length after.now) }
+    ensures none { IfNone result (value_from (text false) (first ∷ after.now) ≡ None) }
+{
+    match first {
+        b'&' => reference_at(after),
+        b'<' => None,
+        b'\r' => Some((' ', skip_line_feed(after))),
+        _ => Some((' ', after)),
+    }
+}
+
+// Puts what one special byte at the front says at the end, and answers what is behind it.
+#[tactic(auto, using(crate::proofs::ValueRuns::in_front_pushed))]
+fn take_special<'a>(value: &mut Vec<u8>, first: u8, after: &'a [u8]) -> Result<&'a [u8], TagFault>
+    requires { Values.is_plain first ≡ false }
+    ensures ok { IfOk result (λ left. in_front value.new.items (value_from (text false) left.now)
+        ≡ in_front value.old.items (value_from (text false) (first ∷ after.now))) }
+    ensures shorter { IfOk result (λ left. length left.now ≤ length after.now) }
+    ensures malformed { IsErrOf result TagFault.NotWellFormed → value_from (text false) (first ∷ after.now) ≡ None }
+    ensures not_restricted { IfErr result (λ e. e ≢ TagFault.Restricted) }
+{
+    let (c, left) = special_at(first, after).ok_or(TagFault::NotWellFormed)?;
+    push_character(value, c)?;
+    Ok(left)
+}
+
+// Puts what the bytes at the front say at the end, and answers what is behind them.
+fn take_bytes<'a>(value: &mut Vec<u8>, rest: &'a [u8]) -> Result<&'a [u8], TagFault>
+    requires { 0 < length rest.now }
+    ensures ok { IfOk result (λ left. in_front value.new.items (value_from (text false) left.now)
+        ≡ in_front value.old.items (value_from (text false) rest.now)) }
+    ensures shorter { IfOk result (λ left. length left.now < length rest.now) }
+    ensures malformed { IsErrOf result TagFault.NotWellFormed → value_from (text false) rest.now ≡ None }
+    ensures not_restricted { IfErr result (λ e. e ≢ TagFault.Restricted) }
+{
+    let (plain, special) = split_plain(rest);
+    value.extend_from_slice(plain)?;
+    match special.split_first() {
+        Some((first, after)) => take_special(value, *first, after),
+        None => Ok(special),
+    }
+}
+
+// The bytes that a spelled value says.
+fn value_bytes(alloc: Global, raw: &[u8]) -> Result<Vec<u8>, TagFault>
+    ensures ok { IfOk result (λ v. value_from (text false) raw.now ≡ Some v.items) }
+    ensures malformed { IsErrOf result TagFault.NotWellFormed → value_from (text false) raw.now ≡ None }
+    ensures not_restricted { IfErr result (λ e. e ≢ TagFault.Restricted) }
+{
+    let mut value = Vec::with_capacity(alloc, raw.len())?;
+    let mut rest = raw;
+    while !rest.is_empty() {
+        rest = take_bytes(&mut value, rest)?;
+    }
+    Ok(value)
+}
+
+// The text that bytes are, if they are UTF-8.
+fn text_from(bytes: Vec<u8>) -> Result<Text, TagFault>
+    ensures ok { IfOk result (λ t. as_text (Some bytes.items) ≡ Some t) }
+    ensures malformed { IfErr result (λ e. (e ≡ TagFault.NotWellFormed) × (as_text (Some bytes.items) ≡ None)) }
+{
+    match String::from_utf8(bytes) {
+        Ok(characters) => Ok(Text::from(characters)),
+        Err(_) => Err(TagFault::NotWellFormed),
+    }
+}
+
+// The value that a spelled one says, where no reference in it has an unknown name.
+#[tactic(auto, unfolding(crate::specs::Values::value_of))]
+pub(crate) fn value_text(alloc: Global, raw: &[u8]) -> Result<Text, TagFault>
+    ensures ok { IfOk result (λ t. value_of raw.now ≡ Some t) }
+    ensures malformed { IsErrOf result TagFault.NotWellFormed → value_of raw.now ≡ None }
+    ensures not_restricted { IfErr result (λ e. e ≢ TagFault.Restricted) }
+{
+    if !are_characters(raw) {
+        return Err(TagFault::NotWellFormed);
+    }
+    let value = value_bytes(alloc, raw)?;
+    text_from(value)
+}
+
+// Whether bytes behind `&` begin with an unknown name and `;`.
+pub(crate) fn begins_unknown(after: &[u8]) -> bool
+    ensures { result ≡ Values.begins_unknown after.now }
+{
+    let (name, end) = split_name_bytes(after);
+    begins_with_semicolon(end) && is_unknown(referred(name))
+}
+
+fn begins_with_semicolon(bytes: &[u8]) -> bool
+    ensures { result ≡ Values.begins_with 59 bytes.now }
+{
+    match bytes.split_first() {
+        Some((first, _)) => *first == b';',
+        None => false,
+    }
+}
+
+fn is_unknown(reference: Reference) -> bool
+    ensures { result ≡ Values.is_unknown reference }
+{
+    match reference {
+        Reference::Unknown => true,
+        Reference::Character(_) => false,
+        Reference::Malformed => false,
+    }
+}
+
+/// Whether some reference in a spelled value has an unknown name.
+pub fn has_unknown(raw: &[u8]) -> bool
+    ensures { result ≡ Values.has_unknown raw.now }
+{
+    for (i, b) in raw.iter().enumerate() {
+        if *b == b'&' && begins_unknown(&raw[i + 1..]) {
+            return true;
+        }
+    }
+    false
+}
+
+/// The value that a spelled one says (XML 1.0, sections 3.1 and 3.3.3); `raw` is what stands between its quotes.
+/// References are replaced, and a literal tab or line end is a space.
+///
+/// `Restricted` comes exactly where a reference has an unknown name, `NotWellFormed` exactly where none has one and
+/// yet it says no value: a reference that is malformed, a `<`, or a character that is none of XML's.
+pub fn read_value(alloc: Global, raw: &[u8]) -> Result<Text, TagFault>
+    ensures ok { IfOk result (λ t. Values.outcome_of raw.now ≡ Ok t) }
+    ensures restricted { IsErrOf result TagFault.Restricted → Values.outcome_of raw.now ≡ Err TagFault.Restricted }
+    ensures malformed { IsErrOf result TagFault.NotWellFormed → Values.outcome_of raw.now ≡ Err TagFault.NotWellFormed }
+{
+    if has_unknown(raw) {
+        return Err(TagFault::Restricted);
+    }
+    value_text(alloc, raw)
+}
