@@ -1,5 +1,5 @@
 -- The addresses of a stanza, read and as relations.
-use Rattle.std.proofs.Common.{◌≡◌, ◌≢◌, ℕ, Bool, List, Option, Some, None, Result, Ok, Err, refl, sym, ◌∙◌, ap, ◌⊎◌, inl, inr}
+use Rattle.std.proofs.Common.{◌≡◌, ℕ, List, Option, Some, None, Result, Ok, Err, refl, sym, ◌∙◌, ap, ◌⊎◌, inl, inr}
 use Rattle.xmpp_jid.specs.Normal.{normal}
 use Rattle.xmpp_jid.specs.declared.fault.JidFault.{JidFault}
 use Rattle.xmpp_stanza.specs.Readings.{Addresses, given_address, address_of, both_addresses, with_addresses}

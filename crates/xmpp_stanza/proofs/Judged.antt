@@ -1,13 +1,13 @@
 -- Which of the three stanzas an element is, and what follows for its reading.
-use Rattle.std.proofs.Common.{◌≡◌, ◌≢◌, ◌↔◌, ℕ, Bool, true, false, ◌&&◌, cond, List, [], Option, Some, None, Result, Ok, Err, refl, sym, ◌∙◌, ap, ◌⊎◌, inl, inr, codes, unwrap_or, Decides}
+use Rattle.std.proofs.Common.{◌≡◌, ◌≢◌, ◌↔◌, ℕ, Bool, true, false, List, Option, Some, None, Err, refl, sym, ◌∙◌, ap, ◌⊎◌, inl, inr, codes, Decides}
 use Rattle.std.specs.Str.{bytes_eq}
 use Rattle.std.proofs.lemmas.Bool.{cases_Bool}
 use Rattle.std.proofs.lemmas.Bool.Decides.{Decides-and}
 use Rattle.std.proofs.lemmas.Slice.Eq.{bytes_eq-Decides}
 use Rattle.xmpp_framing.specs.Readers.{is_named}
 use Rattle.xmpp_framing.specs.Trees.{Elem, namespace_of, name_of}
-use Rattle.xmpp_stanza.proofs.KindLemmas.{tell_apart, equal_bytes, message_kind_is, message_reads, iq_kind_is, iq_kind_read}
-use Rattle.xmpp_stanza.specs.Kinds.{message_type, message_kind, message_kind_named, answers_message, iq_type, iq_kind, answers_iq}
+use Rattle.xmpp_stanza.proofs.KindLemmas.{equal_bytes, message_reads, iq_kind_is, iq_kind_read}
+use Rattle.xmpp_stanza.specs.Kinds.{message_type, message_kind, answers_message, iq_type, iq_kind, answers_iq}
 use Rattle.xmpp_stanza.specs.Names.{client_ns}
 use Rattle.xmpp_stanza.specs.Readings.{Addresses, addresses_of, with_addresses, message_of, presence_of, iq_of, iq_with, stanza_of}
 use Rattle.xmpp_stanza.specs.Stanzas.{IsNamed, attr_named, IsNoStanza, IsBadFormat, IsAnswered}

@@ -1,5 +1,5 @@
 -- A priority as it is spelled and as it is parsed.
-use Rattle.std.proofs.Common.{◌≡◌, ◌≢◌, ℕ, ◌<◌, ◌≤◌, ◌^◌, Bool, true, false, cond, List, [], ◌∷◌, length, drop, suc, get_or, eqb, eqb-true, eq-eqb, ℤ, pos, negsuc, neg_ℤ, Ok, Err, Result, refl, sym, ◌∙◌, ap, inl, inr, arith, rules, w8, FitsSigned}
+use Rattle.std.proofs.Common.{◌≡◌, ◌≢◌, ℕ, ◌<◌, ◌≤◌, true, false, cond, List, [], ◌∷◌, length, drop, suc, get_or, eqb-true, eq-eqb, ℤ, pos, negsuc, neg_ℤ, Ok, Err, Result, refl, ap, inl, inr, arith, w8, FitsSigned}
 use Rattle.std.specs.Fmt.{decimal, signed_decimal}
 use Rattle.std.proofs.lemmas.Fmt.{decimal_is_IsNumeral, decimal_nonempty}
 use Rattle.std.proofs.lemmas.Int.{ints}

@@ -1,16 +1,15 @@
 -- The reading as one value answers by the relations of trees and stanzas.
-use Rattle.std.proofs.Common.{◌≡◌, ◌≢◌, ◌↔◌, ℕ, Bool, true, false, List, [], Option, Some, None, Result, Ok, Err, refl, sym, ◌∙◌, ap, ◌⊎◌, inl, inr, codes, unwrap_or, Decides}
+use Rattle.std.proofs.Common.{◌≡◌, ◌≢◌, ◌↔◌, ℕ, Bool, true, false, List, [], Option, Some, Result, Ok, Err, refl, sym, ◌∙◌, ap, ◌⊎◌, inl, inr, codes, unwrap_or}
 use Rattle.std.proofs.lemmas.Bool.Decides.{same_from_decides}
 use Rattle.xmpp_framing.specs.Readers.{attr_of}
 use Rattle.xmpp_framing.specs.Trees.{Elem, nodes_of}
-use Rattle.xmpp_jid.specs.declared.fault.JidFault.{JidFault}
 use Rattle.xmpp_stanza.proofs.AddressLemmas.{address_is, address_read, bad_is, bad_read, address_cases, both_ok, both_err, with_ok, with_err}
-use Rattle.xmpp_stanza.proofs.Judged.{Formed, judged, iq_cases, which, at_message, at_presence, at_iq, at_none, at_formed_iq}
+use Rattle.xmpp_stanza.proofs.Judged.{Formed, judged, iq_cases, which, at_message, at_presence, at_none, at_formed_iq}
 use Rattle.xmpp_stanza.proofs.KindLemmas.{message_kind_is, message_kind_unique, presence_kind_is, presence_kind_unique, iq_kind_is, iq_kind_read}
-use Rattle.xmpp_stanza.specs.Kinds.{message_kind, answers_message, presence_kind, iq_type, iq_kind, answers_iq}
+use Rattle.xmpp_stanza.specs.Kinds.{message_kind, presence_kind, iq_type}
 use Rattle.xmpp_stanza.specs.Names.{xml_ns}
 use Rattle.xmpp_stanza.specs.Priority.{presence_priority}
-use Rattle.xmpp_stanza.specs.Readings.{Addresses, address_of, addresses_of, both_addresses, with_addresses, message_of, presence_of, iq_with, stanza_of}
+use Rattle.xmpp_stanza.specs.Readings.{Addresses, address_of, addresses_of, both_addresses, with_addresses, stanza_of}
 use Rattle.xmpp_stanza.specs.Stanzas.{IsNamed, attr_named, id_or_empty, IsAddressOf, IsBadAddress, IsMessage, IsPresence, IsIq, IsNoStanza, IsBadFormat, IsBadFrom, IsBadTo}
 use Rattle.xmpp_stanza.specs.Views.{MessageView, IqView}
 use Rattle.xmpp_stanza.specs.declared.kinds.IqKind.{IqKind}
@@ -18,7 +17,7 @@ use Rattle.xmpp_stanza.specs.declared.stanzas.Presence.{Presence as PresenceView
 use Rattle.xmpp_stanza.specs.declared.stanzas.Stanza.{Stanza}
 use Rattle.xmpp_stanza.specs.declared.stanzas.Stanza.TheVariants.{Message, Presence, Iq}
 use Rattle.xmpp_stanza.specs.declared.stanzas.StanzaFault.{StanzaFault}
-use Rattle.xmpp_stanza.specs.declared.stanzas.StanzaFault.TheVariants.{NotAStanza, BadFormat, BadFrom, BadTo}
+use Rattle.xmpp_stanza.specs.declared.stanzas.StanzaFault.TheVariants.{BadFormat, BadFrom, BadTo}
 
 abbrev from_attr : Elem → Option (List ℕ)
 from_attr e = attr_named (codes "from") e

@@ -1,7 +1,7 @@
 -- The definitions, evaluated at values that were worked out beforehand.
 use Rattle.std.proofs.Common.{◌≡◌, ℕ, true, false, [], ◌∷◌, List, Some, None, Ok, Err, codes, pos, negsuc, refl}
 use Rattle.xmpp_framing.specs.Attributes.{Attribute}
-use Rattle.xmpp_framing.specs.Trees.{Elem, element, Nodes, no_nodes, child, text}
+use Rattle.xmpp_framing.specs.Trees.{element, Nodes, no_nodes, child, text}
 use Rattle.xmpp_stanza.specs.Errors.{stanza_error_of, error_elem, stream_error_elem}
 use Rattle.xmpp_stanza.specs.Names.{client_ns, stanza_errors_ns, stream_errors_ns, streams_ns, xml_ns}
 use Rattle.xmpp_stanza.specs.Priority.{priority_of, presence_priority}
@@ -10,7 +10,7 @@ use Rattle.xmpp_stanza.specs.Written.{message_elem, presence_elem}
 use Rattle.xmpp_stanza.specs.declared.conditions.Condition.TheVariants.{ItemNotFound, Other}
 use Rattle.xmpp_stanza.specs.declared.errors.ErrorKind.TheVariants as error
 use Rattle.xmpp_stanza.specs.declared.errors.StanzaErrorFault.TheVariants.{NoError}
-use Rattle.xmpp_stanza.specs.declared.kinds.MessageKind.TheVariants.{Normal, Chat}
+use Rattle.xmpp_stanza.specs.declared.kinds.MessageKind.TheVariants.{Normal}
 use Rattle.xmpp_stanza.specs.declared.kinds.PresenceKind.TheVariants as presence
 use Rattle.xmpp_stanza.specs.declared.stanzas.Stanza.TheVariants.{Message}
 use Rattle.xmpp_stanza.specs.declared.stanzas.StanzaFault.TheVariants.{NotAStanza, BadFormat, BadFrom, BadTo}

@@ -1,14 +1,13 @@
 -- What is written of a stanza is read back.
-use Rattle.std.proofs.Common.{◌≡◌, ℕ, Bool, true, false, List, [], ◌∷◌, ◌++◌, Option, Some, None, Ok, IfSome, refl, sym, ◌∙◌, ap, append-nil, codes, unwrap_or, subst, FitsSigned, w8, ℤ, pos, inl, inr}
+use Rattle.std.proofs.Common.{◌≡◌, ℕ, List, [], ◌∷◌, Option, Some, None, Ok, refl, sym, ◌∙◌, ap, append-nil, codes, unwrap_or, subst, FitsSigned, w8, ℤ, pos, inl, inr}
 use Rattle.std.specs.Fmt.{signed_decimal}
 use Rattle.std.specs.Ordering.{int_eq}
 use Rattle.std.proofs.lemmas.Bool.{cases_Bool}
 use Rattle.std.proofs.lemmas.Bool.Decides.{Decides-int_eq}
 use Rattle.xmpp_framing.specs.Readers.{first_named, text_of}
 use Rattle.xmpp_framing.specs.Tidied.{tidied, tidied_nodes, text_node}
-use Rattle.xmpp_framing.specs.Trees.{AreTidy, Elem, element, Nodes, no_nodes, child, text, nodes_of}
+use Rattle.xmpp_framing.specs.Trees.{AreTidy, element, no_nodes, child}
 use Rattle.xmpp_framing.proofs.TidyLaws.{tidied_nodes_stay, text_node_some}
-use Rattle.xmpp_jid.specs.Normal.{normal}
 use Rattle.xmpp_stanza.proofs.KindLemmas.{message_reads, spelled_is, presence_kind_is}
 use Rattle.xmpp_stanza.proofs.Priorities.{printed, printed_some}
 use Rattle.xmpp_stanza.proofs.ReadingLaws.{message_law, presence_law, iq_law}
@@ -17,7 +16,7 @@ use Rattle.xmpp_stanza.specs.Kinds.{message_type, message_kind_named, IsMessageK
 use Rattle.xmpp_stanza.specs.Names.{client_ns, xml_ns}
 use Rattle.xmpp_stanza.specs.Priority.{priority_in, priority_of}
 use Rattle.xmpp_stanza.specs.Readings.{stanza_of}
-use Rattle.xmpp_stanza.specs.Stanzas.{attr_named, IsAddressOf, IsMessage, IsPresence, IsIq}
+use Rattle.xmpp_stanza.specs.Stanzas.{IsAddressOf, IsMessage, IsPresence, IsIq}
 use Rattle.xmpp_stanza.specs.Views.{MessageView, IqView}
 use Rattle.xmpp_stanza.specs.Written.{IsNormal, unless_empty, message_elem, presence_elem, iq_elem, priority_nodes}
 use Rattle.xmpp_stanza.specs.declared.kinds.MessageKind.TheVariants.{Normal}

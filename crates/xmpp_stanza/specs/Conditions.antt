@@ -1,5 +1,5 @@
 -- The conditions of errors (RFC 6120 sections 4.9.2, 4.9.3, 8.3.2 and 8.3.3).
-use Rattle.std.specs.Prelude.{◌≡◌, ◌≢◌, ℕ, Bool, not, ◌&&◌, List, Option, Some, None, find, codes, if◌then◌else◌}
+use Rattle.std.specs.Prelude.{◌≡◌, ℕ, Bool, not, ◌&&◌, List, Option, find, codes, if◌then◌else◌}
 use Rattle.std.specs.Option.{option_map}
 use Rattle.std.specs.Str.{bytes_eq}
 use Rattle.xmpp_framing.specs.Readers.{elements_of}

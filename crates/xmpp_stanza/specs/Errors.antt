@@ -1,5 +1,5 @@
 -- Stanza errors and stream errors (RFC 6120 sections 8.3 and 4.9).
-use Rattle.std.specs.Prelude.{◌≡◌, ◌≢◌, ℕ, List, [], ◌∷◌, Option, Some, None, Result, Ok, Err, codes, if◌then◌else◌}
+use Rattle.std.specs.Prelude.{◌≡◌, ℕ, List, [], ◌∷◌, Option, Some, None, Result, Ok, Err, codes, if◌then◌else◌}
 use Rattle.std.specs.Str.{bytes_eq}
 use Rattle.xmpp_framing.specs.Readers.{child_of}
 use Rattle.xmpp_framing.specs.Trees.{Elem, element, Nodes, no_nodes, child, nodes_of}

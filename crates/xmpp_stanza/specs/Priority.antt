@@ -1,5 +1,5 @@
 -- The priority of a presence (RFC 6121 section 4.7.2.3).
-use Rattle.std.specs.Prelude.{◌≡◌, ℕ, nat_lt, nat_le, Bool, ◌&&◌, List, drop, length, ℤ, pos, neg_ℤ, Option, Some, None, codes, if◌then◌else◌}
+use Rattle.std.specs.Prelude.{ℕ, nat_lt, nat_le, Bool, ◌&&◌, List, drop, length, ℤ, pos, neg_ℤ, Option, Some, None, codes, if◌then◌else◌}
 use Rattle.std.specs.Str.{all_ascii_digits}
 use Rattle.std.specs.Str.Parse.{digits_value, starts_with_minus}
 use Rattle.xmpp_framing.specs.Readers.{child_of, text_of}

@@ -8,7 +8,6 @@ use Rattle.xmpp_stanza.specs.Kinds.{message_type, IsMessageKind, IsPresenceKind,
 use Rattle.xmpp_stanza.specs.Names.{client_ns, xml_ns}
 use Rattle.xmpp_stanza.specs.Priority.{presence_priority}
 use Rattle.xmpp_stanza.specs.Views.{MessageView, IqView}
-use Rattle.xmpp_stanza.specs.declared.kinds.MessageKind.{MessageKind}
 use Rattle.xmpp_stanza.specs.declared.kinds.MessageKind.TheVariants as message
 use Rattle.xmpp_stanza.specs.declared.kinds.IqKind.{IqKind}
 use Rattle.xmpp_stanza.specs.declared.kinds.IqKind.TheVariants as iq
