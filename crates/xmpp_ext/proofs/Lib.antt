@@ -1,0 +1,4 @@
+pub mod PayloadLaws
+pub mod SaslLaws
+mod Worked
+pub mod Written
