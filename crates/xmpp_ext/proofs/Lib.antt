@@ -2,3 +2,5 @@ pub mod PayloadLaws
 pub mod SaslLaws
 mod Worked
 pub mod Written
+pub mod StampTexts
+pub mod Years

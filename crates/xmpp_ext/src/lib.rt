@@ -6,9 +6,13 @@ mod fault;
 mod laws;
 mod payloads;
 mod sasl;
+mod stamp_reading;
+mod stamp_writing;
 #[cfg(test)]
 mod tests;
 
 pub use fault::{ExtFault, Field};
 pub use laws::{payload_is_one, sasl_is_read, sasl_is_refused};
 pub use sasl::{Abort, Auth, Challenge, Response, SaslFailure, Success};
+pub use stamp_reading::{StampFault, read_stamp};
+pub use stamp_writing::{LAST_MOMENT, stamp_text};
