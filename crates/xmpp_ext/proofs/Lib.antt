@@ -2,5 +2,6 @@ pub mod PayloadLaws
 pub mod SaslLaws
 mod Worked
 pub mod Written
+pub mod StampFacts
 pub mod StampTexts
 pub mod Years

@@ -7,6 +7,8 @@ mod laws;
 mod payloads;
 mod sasl;
 mod stamp_reading;
+#[cfg(test)]
+mod stamp_tests;
 mod stamp_writing;
 #[cfg(test)]
 mod tests;
