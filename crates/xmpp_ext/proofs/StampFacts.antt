@@ -1,5 +1,5 @@
 -- Each stamp is read as its moment.
-use Rattle.std.proofs.Common.{◌≡◌, ℕ, zero, suc, ◌+◌, ◌-◌, ◌*◌, ◌/◌, ◌%◌, ◌<◌, ◌≤◌, Bool, true, false, ◌&&◌, ◌==◌, cond, nat_lt, nat_le, List, [], ◌∷◌, ◌++◌, length, drop, refl, sym, ap, ◌∙◌, arith, add-one, pos}
+use Rattle.std.proofs.Common.{◌≡◌, ℕ, zero, suc, ◌+◌, ◌-◌, ◌*◌, ◌/◌, ◌%◌, ◌<◌, ◌≤◌, Bool, true, false, ◌&&◌, ◌||◌, ◌==◌, cond, nat_lt, nat_le, List, [], ◌∷◌, ◌++◌, length, drop, refl, sym, ap, ◌∙◌, arith, add-one, pos}
 use Rattle.std.proofs.lemmas.Bool.Decides.{nat_tests}
 use Rattle.std.specs.Char.{is_ascii_digit}
 use Rattle.std.specs.List.{list_all, prefix_len}
@@ -8,7 +8,7 @@ use Rattle.jiff_core.specs.Calendar.{IsCivilDate, days_in_month}
 use Rattle.xmpp_ext.specs.Stamps.{Zone, utc, ahead, behind, IsZone, clock_text, date_text, fraction_text, four, millis, seconds_ahead, two, zone_text}
 use Rattle.xmpp_ext.specs.StampReading.{clock_of, counted_digit, digit_at, digit_count, fraction_len, has_clock, has_date, is_day, is_offset, is_pair, is_zone, millis_of, offset_of, two_at, year_of, zone_of}
 
-digit_is : (d : ℕ) → d < 10 → is_ascii_digit (48 + d) ≡ true
+pub digit_is : (d : ℕ) → d < 10 → is_ascii_digit (48 + d) ≡ true
 digit_is d low = grind (arith, nat_tests)
 
 pub pair_back : (n : ℕ) (text : List ℕ) (i : ℕ) → n < 100 → slice_index text i ≡ 48 + n / 10 → slice_index text (i + 1) ≡ 48 + n % 10 → is_pair text i ≡ true
@@ -84,12 +84,91 @@ clock_back y mo d h mi s rest hs ms ss =
     rw (p11, p14, p17, hour_back y mo d h mi s rest hs, minute_back y mo d h mi s rest ms, second_back y mo d h mi s rest ss, below h 24 hs, below mi 60 ms, below s 60 ss) refl
 
 -- the zone
-pub offset_shape : (x h m : ℕ) → (x == 43) ≡ true → h < 24 → m < 60 → is_offset (43 ∷ (two h ++ 58 ∷ two m)) ≡ true
+offset_back : (x h m : ℕ) → ((x == 43) || (x == 45)) ≡ true → h < 24 → m < 60 → is_offset (x ∷ (two h ++ 58 ∷ two m)) ≡ true
 unfolding is_offset
-offset_shape x h m sign hs ms =
-    let t = 43 ∷ (two h ++ 58 ∷ two m) in
+offset_back x h m sign hs ms =
+    let t = x ∷ (two h ++ 58 ∷ two m) in
     let p1 : is_pair t 1 ≡ true = pair_back h t 1 (omega arith) refl refl in
     let p4 : is_pair t 4 ≡ true = pair_back m t 4 (omega arith) refl refl in
     let a : two_at t 1 ≡ h = two_back h t 1 (omega arith) refl refl in
     let b : two_at t 4 ≡ m = two_back m t 4 (omega arith) refl refl in
-    rw (p1, p4, a, b, below h 24 hs, below m 60 ms) refl
+    rw (sign, p1, p4, a, b, below h 24 hs, below m 60 ms) refl
+
+pub zone_back : (z : Zone) → IsZone z → is_zone (zone_text z) ≡ true
+unfolding is_zone
+zone_back utc within = refl
+zone_back (ahead h m) within = offset_back 43 h m refl within.0 within.1
+zone_back (behind h m) within = offset_back 45 h m refl within.0 within.1
+
+pub seconds_back : (z : Zone) → IsZone z → offset_of (zone_text z) ≡ seconds_ahead z
+unfolding offset_of
+seconds_back utc within = refl
+seconds_back (ahead h m) within =
+    let t = 43 ∷ (two h ++ 58 ∷ two m) in
+    let a : two_at t 1 ≡ h = two_back h t 1 (omega (arith, within.0)) refl refl in
+    let b : two_at t 4 ≡ m = two_back m t 4 (omega (arith, within.1)) refl refl in
+    rw (a, b) refl
+seconds_back (behind h m) within =
+    let t = 45 ∷ (two h ++ 58 ∷ two m) in
+    let a : two_at t 1 ≡ h = two_back h t 1 (omega (arith, within.0)) refl refl in
+    let b : two_at t 4 ≡ m = two_back m t 4 (omega (arith, within.1)) refl refl in
+    rw (a, b) refl
+
+-- the fraction
+and_parts : (a b : Bool) → (a && b) ≡ true → (a ≡ true) × (b ≡ true)
+and_parts true b h = (refl, h)
+and_parts false b h = cc h
+
+no_digits : (z : Zone) → prefix_len is_ascii_digit (zone_text z) ≡ 0
+no_digits utc = refl
+no_digits (ahead h m) = refl
+no_digits (behind h m) = refl
+
+count_back : (ds z : List ℕ) → list_all is_ascii_digit ds ≡ true → prefix_len is_ascii_digit z ≡ 0 → prefix_len is_ascii_digit (ds ++ z) ≡ length ds
+count_back [] z all none = none
+count_back (d ∷ ds) z all none =
+    let parts = and_parts (is_ascii_digit d) (list_all is_ascii_digit ds) all in
+    rw (parts.0, count_back ds z parts.1 none) (omega arith)
+
+some_digits : (n : ℕ) → nat_lt 0 (suc n) ≡ true
+some_digits n = grind (arith, nat_tests)
+
+pub fraction_back : (ds : List ℕ) (z : Zone) → list_all is_ascii_digit ds ≡ true → fraction_len (fraction_text ds ++ zone_text z) ≡ length (fraction_text ds)
+unfolding fraction_len digit_count
+fraction_back [] utc all = refl
+fraction_back [] (ahead h m) all = refl
+fraction_back [] (behind h m) all = refl
+fraction_back (d ∷ ds) z all =
+    let count : prefix_len is_ascii_digit ((d ∷ ds) ++ zone_text z) ≡ suc (length ds) = count_back (d ∷ ds) (zone_text z) all (no_digits z) in
+    rw (count, some_digits (length ds)) (omega arith)
+
+drop_back : (xs ys : List ℕ) → drop (length xs) (xs ++ ys) ≡ ys
+drop_back [] ys = refl
+drop_back (x ∷ xs) ys = drop_back xs ys
+
+pub zone_found : (y mo d h mi s : ℕ) (ds : List ℕ) (z : Zone) → list_all is_ascii_digit ds ≡ true → zone_of (whole y mo d h mi s (fraction_text ds ++ zone_text z)) ≡ zone_text z
+unfolding zone_of
+zone_found y mo d h mi s ds z all = rw (fraction_back ds z all) (drop_back (fraction_text ds) (zone_text z))
+
+pub long_enough : (y mo d h mi s : ℕ) (ds : List ℕ) (z : Zone) → nat_le 20 (length (whole y mo d h mi s (fraction_text ds ++ zone_text z))) ≡ true
+long_enough y mo d h mi s ds z = by_length (length (fraction_text ds ++ zone_text z)) (some ds z)
+  where
+    by_length : (n : ℕ) → 1 ≤ n → nat_le 20 (suc (suc (suc (suc (suc (suc (suc (suc (suc (suc (suc (suc (suc (suc (suc (suc (suc (suc (suc n))))))))))))))))))) ≡ true
+    by_length n low = grind (arith, nat_tests)
+
+    some : (ds : List ℕ) (z : Zone) → 1 ≤ length (fraction_text ds ++ zone_text z)
+    some [] utc = omega arith
+    some [] (ahead h m) = omega arith
+    some [] (behind h m) = omega arith
+    some (d ∷ ds) z = omega arith
+
+pub millis_back : (ds rest : List ℕ) → millis_of (fraction_text ds ++ rest) (length (fraction_text ds)) ≡ millis ds
+unfolding millis_of counted_digit
+millis_back [] rest = refl
+millis_back (a ∷ []) rest = omega arith
+millis_back (a ∷ b ∷ []) rest = omega arith
+millis_back (a ∷ b ∷ c ∷ ds) rest =
+    let first : nat_lt 1 (suc (suc (suc (suc (length ds))))) ≡ true = below 1 (suc (suc (suc (suc (length ds))))) (omega arith) in
+    let second : nat_lt 2 (suc (suc (suc (suc (length ds))))) ≡ true = below 2 (suc (suc (suc (suc (length ds))))) (omega arith) in
+    let third : nat_lt 3 (suc (suc (suc (suc (length ds))))) ≡ true = below 3 (suc (suc (suc (suc (length ds))))) (omega arith) in
+    rw (first, second, third) refl

@@ -1,11 +1,15 @@
-ghost use Rattle.std.specs.Prelude.{◌≡◌, ◌≢◌, ℕ, List, [], codes, true};
+ghost use Rattle.std.specs.Prelude.{◌≡◌, ◌≢◌, ◌≤◌, ℕ, List, [], codes, true};
 ghost use Rattle.base64.specs.GeneralPurpose.{IsBytes};
 ghost use Rattle.xmpp_ext.specs.Faults.{IsFault};
 ghost use Rattle.xmpp_ext.specs.Payloads.{IsPayload, base64_of};
 ghost use Rattle.xmpp_ext.specs.Sasl.{AuthLacks, CarrierLacks, FailureLacks, IsAuth, IsCarrier, IsFailure, LacksNothing, abort_of, auth_of, carrier, failure_of, is_sasl};
 ghost use Rattle.xmpp_ext.specs.declared.fault.ExtFault.{ExtFault};
 ghost use Rattle.xmpp_ext.specs.declared.fault.ExtFault.TheVariants.{NoMemory};
+ghost use Rattle.xmpp_ext.specs.StampReading.{moment_at, moment_of};
+ghost use Rattle.xmpp_ext.specs.Stamps.{IsStamp, IsWritten, Parts, millis, seconds};
 ghost use Rattle.xmpp_framing.specs.Trees.{Elem};
+
+use crate::stamp_writing::LAST_MOMENT;
 
 /// A law: a text stands for the bytes of one payload at most, and the base64 of bytes for those bytes.
 pub fn payload_is_one()
@@ -33,4 +37,15 @@ pub fn sasl_is_refused()
     ensures carrier { (name : List ℕ) (e : Elem) (p : List ℕ) (fault : ExtFault) → IsCarrier name e p → IsFault (is_sasl name e) (CarrierLacks e) fault → fault ≡ NoMemory }
     ensures failure { (e : Elem) (c : List ℕ) (fault : ExtFault) → IsFailure e c → IsFault (is_sasl (codes "failure") e) (FailureLacks e) fault → fault ≡ NoMemory }
     ensures abort { (e : Elem) (fault : ExtFault) → is_sasl (codes "abort") e ≡ true → IsFault (is_sasl (codes "abort") e) LacksNothing fault → fault ≡ NoMemory }
+{}
+
+/// A law: each stamp is read as its moment: `Ok` where that is from 1970 on and not past `LAST_MOMENT`, `BeforeEpoch` where it
+/// is before 1970, and else `BadStamp`.
+pub fn stamps_are_read()
+    ensures { (text : List ℕ) (p : Parts) → IsStamp text p → moment_of text ≡ moment_at (seconds p) (millis p.digits) }
+{}
+
+/// A law: what is written for a moment is read as that moment.
+pub fn stamp_is_read()
+    ensures { (ms : ℕ) (text : List ℕ) → ms ≤ LAST_MOMENT → IsWritten ms text → moment_of text ≡ Ok ms }
 {}
