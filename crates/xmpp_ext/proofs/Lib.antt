@@ -1,8 +1,11 @@
 pub mod PayloadLaws
 pub mod SaslLaws
 mod Worked
+mod WorkedStamps
 pub mod Written
 pub mod StampFacts
+pub mod StampJudged
 pub mod StampLaws
+pub mod StampShapes
 pub mod StampTexts
 pub mod Years

@@ -115,7 +115,7 @@ seconds_back (behind h m) within =
     rw (a, b) refl
 
 -- the fraction
-and_parts : (a b : Bool) → (a && b) ≡ true → (a ≡ true) × (b ≡ true)
+pub and_parts : (a b : Bool) → (a && b) ≡ true → (a ≡ true) × (b ≡ true)
 and_parts true b h = (refl, h)
 and_parts false b h = cc h
 

@@ -1,12 +1,13 @@
-ghost use Rattle.std.specs.Prelude.{◌≡◌, ◌≢◌, ◌≤◌, ℕ, List, [], codes, true};
+ghost use Rattle.std.specs.Prelude.{◌≡◌, ◌≢◌, ◌≤◌, ◌↔◌, ◌<ℤ◌, pos, ℕ, List, [], codes, true};
 ghost use Rattle.base64.specs.GeneralPurpose.{IsBytes};
 ghost use Rattle.xmpp_ext.specs.Faults.{IsFault};
 ghost use Rattle.xmpp_ext.specs.Payloads.{IsPayload, base64_of};
 ghost use Rattle.xmpp_ext.specs.Sasl.{AuthLacks, CarrierLacks, FailureLacks, IsAuth, IsCarrier, IsFailure, LacksNothing, abort_of, auth_of, carrier, failure_of, is_sasl};
 ghost use Rattle.xmpp_ext.specs.declared.fault.ExtFault.{ExtFault};
+ghost use Rattle.xmpp_ext.specs.declared.stamp_reading.StampFault.TheVariants.{BadStamp, BeforeEpoch};
 ghost use Rattle.xmpp_ext.specs.declared.fault.ExtFault.TheVariants.{NoMemory};
 ghost use Rattle.xmpp_ext.specs.StampReading.{moment_at, moment_of};
-ghost use Rattle.xmpp_ext.specs.Stamps.{IsStamp, IsWritten, Parts, millis, seconds};
+ghost use Rattle.xmpp_ext.specs.Stamps.{IsStamp, IsWritten, Parts, millis, moment, seconds};
 ghost use Rattle.xmpp_framing.specs.Trees.{Elem};
 
 use crate::stamp_writing::LAST_MOMENT;
@@ -48,4 +49,13 @@ pub fn stamps_are_read()
 /// A law: what is written for a moment is read as that moment.
 pub fn stamp_is_read()
     ensures { (ms : ℕ) (text : List ℕ) → ms ≤ LAST_MOMENT → IsWritten ms text → moment_of text ≡ Ok ms }
+{}
+
+/// A law: `read_stamp` by the stamps that a text is of. It answers `Ok` exactly where the text is a stamp of that moment,
+/// which is not past `LAST_MOMENT`; `BeforeEpoch` exactly where it is a stamp of a moment before 1970; and `BadStamp` exactly
+/// where each stamp that it is of is past `LAST_MOMENT`, as where it is none.
+pub fn only_stamps_are_read()
+    ensures ok { (text : List ℕ) (ms : ℕ) → (moment_of text ≡ Ok ms) ↔ ((p : Parts) × IsStamp text p × (moment p ≡ pos ms) × (ms ≤ LAST_MOMENT)) }
+    ensures before { (text : List ℕ) → (moment_of text ≡ Err BeforeEpoch) ↔ ((p : Parts) × IsStamp text p × (moment p <ℤ pos 0)) }
+    ensures bad { (text : List ℕ) → (moment_of text ≡ Err BadStamp) ↔ ((p : Parts) → IsStamp text p → pos LAST_MOMENT <ℤ moment p) }
 {}

@@ -14,7 +14,10 @@ mod stamp_writing;
 mod tests;
 
 pub use fault::{ExtFault, Field};
-pub use laws::{payload_is_one, sasl_is_read, sasl_is_refused, stamp_is_read, stamps_are_read};
+pub use laws::{
+    only_stamps_are_read, payload_is_one, sasl_is_read, sasl_is_refused, stamp_is_read,
+    stamps_are_read,
+};
 pub use sasl::{Abort, Auth, Challenge, Response, SaslFailure, Success};
 pub use stamp_reading::{StampFault, read_stamp};
 pub use stamp_writing::{LAST_MOMENT, stamp_text};
