@@ -6,6 +6,7 @@ pub mod Written
 pub mod StampFacts
 pub mod StampJudged
 pub mod StampLaws
+pub mod StampOne
 pub mod StampShapes
 pub mod StampTexts
 pub mod Years

@@ -46,9 +46,10 @@ pub fn stamps_are_read()
     ensures { (text : List ℕ) (p : Parts) → IsStamp text p → moment_of text ≡ moment_at (seconds p) (millis p.digits) }
 {}
 
-/// A law: what is written for a moment is read as that moment.
+/// A law: what is written for a moment is read as that moment, and a moment has one such text.
 pub fn stamp_is_read()
-    ensures { (ms : ℕ) (text : List ℕ) → ms ≤ LAST_MOMENT → IsWritten ms text → moment_of text ≡ Ok ms }
+    ensures one { (ms : ℕ) (a b : List ℕ) → IsWritten ms a → IsWritten ms b → a ≡ b }
+    ensures read { (ms : ℕ) (text : List ℕ) → ms ≤ LAST_MOMENT → IsWritten ms text → moment_of text ≡ Ok ms }
 {}
 
 /// A law: `read_stamp` by the stamps that a text is of. It answers `Ok` exactly where the text is a stamp of that moment,
