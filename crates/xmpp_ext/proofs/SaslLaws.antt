@@ -1,7 +1,6 @@
 -- What is refused stands for no value.
-use Rattle.std.proofs.Common.{◌≡◌, ℕ, true, false, List, [], ◌∷◌, codes, Some, None, IsSome, refl, sym, ◌∙◌}
+use Rattle.std.proofs.Common.{◌≡◌, ℕ, true, List, codes, IsSome, refl, sym, ◌∙◌}
 use Rattle.xmpp_ext.specs.Faults.{IsFault}
-use Rattle.xmpp_ext.specs.Payloads.{IsPayload}
 use Rattle.xmpp_ext.specs.Sasl.{AuthLacks, CarrierLacks, IsAuth, IsCarrier, is_sasl, mechanism_of}
 use Rattle.xmpp_ext.specs.declared.fault.ExtFault.{ExtFault}
 use Rattle.xmpp_ext.specs.declared.fault.ExtFault.TheVariants.{NotThis, Bad, NoMemory}

@@ -1,12 +1,12 @@
 -- Each stamp is read as its moment.
-use Rattle.std.proofs.Common.{◌≡◌, ℕ, zero, suc, ◌+◌, ◌-◌, ◌*◌, ◌/◌, ◌%◌, ◌<◌, ◌≤◌, Bool, true, false, ◌&&◌, ◌||◌, ◌==◌, cond, nat_lt, nat_le, List, [], ◌∷◌, ◌++◌, length, drop, refl, sym, ap, ◌∙◌, arith, add-one, pos}
+use Rattle.std.proofs.Common.{◌≡◌, ℕ, suc, ◌+◌, ◌/◌, ◌%◌, ◌<◌, ◌≤◌, Bool, true, false, ◌&&◌, ◌||◌, ◌==◌, nat_lt, nat_le, List, [], ◌∷◌, ◌++◌, length, drop, refl, arith, pos}
 use Rattle.std.proofs.lemmas.Bool.Decides.{nat_tests}
 use Rattle.std.specs.Char.{is_ascii_digit}
 use Rattle.std.specs.List.{list_all, prefix_len}
 use Rattle.std.specs.Prelude.{slice_index}
 use Rattle.jiff_core.specs.Calendar.{IsCivilDate, days_in_month}
-use Rattle.xmpp_ext.specs.Stamps.{Zone, utc, ahead, behind, IsZone, clock_text, date_text, fraction_text, four, millis, seconds_ahead, two, zone_text}
-use Rattle.xmpp_ext.specs.StampReading.{clock_of, counted_digit, digit_at, digit_count, fraction_len, has_clock, has_date, is_day, is_offset, is_pair, is_zone, millis_of, offset_of, two_at, year_of, zone_of}
+use Rattle.xmpp_ext.specs.Stamps.{Zone, utc, ahead, behind, IsZone, clock_text, date_text, fraction_text, millis, seconds_ahead, two, zone_text}
+use Rattle.xmpp_ext.specs.StampReading.{counted_digit, digit_count, fraction_len, has_clock, has_date, is_day, is_offset, is_pair, is_zone, millis_of, offset_of, two_at, year_of, zone_of}
 
 pub digit_is : (d : ℕ) → d < 10 → is_ascii_digit (48 + d) ≡ true
 digit_is d low = grind (arith, nat_tests)

@@ -1,13 +1,12 @@
 -- Each stamp is read as its moment, and what is written is read.
-use Rattle.std.proofs.Common.{◌≡◌, ℕ, ◌+◌, ◌*◌, ◌/◌, ◌%◌, ◌<◌, ◌≤◌, Bool, true, false, ◌&&◌, cond, nat_le, List, [], ◌∷◌, ◌++◌, length, Ok, refl, sym, ap, ◌∙◌, arith, pos}
+use Rattle.std.proofs.Common.{◌≡◌, ℕ, ◌+◌, ◌*◌, ◌/◌, ◌%◌, ◌<◌, ◌≤◌, true, nat_le, List, ◌++◌, Ok, refl, ap, ◌∙◌, arith, pos}
 use Rattle.std.proofs.lemmas.Bool.Decides.{nat_tests}
 use Rattle.std.specs.Char.{is_ascii_digit}
 use Rattle.std.specs.List.{list_all}
 use Rattle.jiff_core.proofs.CalendarLemmas.{days_in_month_bounds}
 use Rattle.jiff_core.proofs.SignedLemmas.{signed_arith}
-use Rattle.jiff_core.specs.Calendar.{days_from_civil}
-use Rattle.xmpp_ext.specs.Stamps.{IsStamp, IsWritten, Parts, Zone, utc, fraction_text, millis, seconds, seconds_ahead, seconds_since, three, zone_text}
-use Rattle.xmpp_ext.specs.StampReading.{clock_of, fraction_len, is_stamp, millis_of, moment_at, moment_of, seconds_of, two_at, year_of, zone_of}
+use Rattle.xmpp_ext.specs.Stamps.{IsStamp, IsWritten, Parts, utc, fraction_text, millis, seconds, seconds_since, three, zone_text}
+use Rattle.xmpp_ext.specs.StampReading.{clock_of, is_stamp, moment_at, moment_of, seconds_of}
 use Rattle.xmpp_ext.proofs.StampFacts.{whole, clock_back, date_back, digit_is, fraction_back, hour_back, long_enough, millis_back, minute_back, month_back, month_day_back, second_back, seconds_back, year_back, zone_back, zone_found}
 
 abbrev text_of_parts : Parts → List ℕ

@@ -1,5 +1,5 @@
 -- What is read as a stamp is one.
-use Rattle.std.proofs.Common.{◌≡◌, ℕ, zero, suc, ◌+◌, ◌-◌, ◌*◌, ◌/◌, ◌%◌, ◌<◌, ◌≤◌, ◌⊎◌, inl, inr, Bool, true, false, ◌&&◌, ◌||◌, ◌==◌, cond, nat_lt, nat_le, List, [], ◌∷◌, ◌++◌, codes, length, drop, refl, sym, ap, ◌∙◌, arith, pos}
+use Rattle.std.proofs.Common.{◌≡◌, ℕ, zero, suc, ◌+◌, ◌-◌, ◌*◌, ◌/◌, ◌%◌, ◌<◌, ◌≤◌, ◌⊎◌, inl, inr, Bool, true, false, ◌&&◌, ◌||◌, ◌==◌, nat_lt, nat_le, List, [], ◌∷◌, ◌++◌, codes, length, drop, refl, ap, ◌∙◌, arith, pos}
 use Rattle.std.proofs.lemmas.Bool.Decides.{nat_tests}
 use Rattle.std.proofs.lemmas.List.{drop_all}
 use Rattle.std.proofs.lemmas.Slice.Eq.{bytes_eq-Decides}
@@ -9,7 +9,7 @@ use Rattle.std.specs.Prelude.{slice_index}
 use Rattle.std.specs.Str.{bytes_eq}
 use Rattle.jiff_core.specs.Calendar.{IsCivilDate, IsYear, days_in_month}
 use Rattle.jiff_core.proofs.SignedLemmas.{signed_arith}
-use Rattle.xmpp_ext.specs.Stamps.{IsStamp, IsZone, Parts, Zone, utc, ahead, behind, fraction_text, millis, two, zone_text}
+use Rattle.xmpp_ext.specs.Stamps.{IsStamp, IsZone, Parts, Zone, utc, ahead, behind, fraction_text, millis, zone_text}
 use Rattle.xmpp_ext.specs.StampReading.{digit_count, fraction_len, has_clock, has_date, is_day, is_offset, is_pair, is_stamp, is_zone, two_at, year_of, zone_of}
 use Rattle.xmpp_ext.proofs.StampFacts.{and_parts, whole}
 

@@ -1,5 +1,5 @@
 -- The definitions, evaluated at the elements of RFC 6120, sections 6.4 and 9.1.
-use Rattle.std.proofs.Common.{◌≡◌, ℕ, true, false, List, [], ◌∷◌, codes, Some, None, refl, inr}
+use Rattle.std.proofs.Common.{◌≡◌, ℕ, false, List, [], ◌∷◌, codes, Some, None, refl, inr}
 use Rattle.base64.proofs.OnLiterals.{base64_on_literals}
 use Rattle.xmpp_ext.specs.Conditions.{condition_in}
 use Rattle.xmpp_ext.specs.Payloads.{IsPayload, base64_of}

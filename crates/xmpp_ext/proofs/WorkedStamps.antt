@@ -1,10 +1,8 @@
 -- The definitions of stamps, evaluated at texts that were worked out beforehand.
-use Rattle.std.proofs.Common.{◌≡◌, List, [], ◌∷◌, ℕ, codes, Ok, Err, true, false, refl, arith, rules}
-use Rattle.std.specs.Prelude.{Result, pos, negsuc}
-use Rattle.jiff_core.specs.Calendar.{days_from_civil}
-use Rattle.xmpp_ext.specs.Stamps.{Parts, Zone, utc, ahead, millis, seconds_ahead, seconds_since, stamp_of, IsWritten}
-use Rattle.xmpp_ext.specs.StampReading.{clock_of, counted_digit, digit_count, fraction_len, has_clock, has_date, is_day, is_offset, is_pair, is_stamp, is_zone, millis_of, moment_at, moment_of, offset_of, seconds_of, two_at, year_of, zone_of}
-use Rattle.xmpp_ext.specs.declared.stamp_reading.StampFault.{StampFault}
+use Rattle.std.proofs.Common.{◌≡◌, codes, Ok, Err, true, false, refl, arith, rules}
+use Rattle.std.specs.Prelude.{pos, negsuc}
+use Rattle.xmpp_ext.specs.Stamps.{ahead, millis, seconds_ahead, seconds_since, IsWritten}
+use Rattle.xmpp_ext.specs.StampReading.{has_date, is_day, is_pair, is_stamp, moment_at, moment_of, two_at, year_of}
 use Rattle.xmpp_ext.specs.declared.stamp_reading.StampFault.TheVariants.{BadStamp, BeforeEpoch}
 use Rattle.jiff_core.proofs.StandardFacts.{known_days}
 

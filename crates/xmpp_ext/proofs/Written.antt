@@ -1,7 +1,7 @@
 -- What is written keeps the rule of a tree.
-use Rattle.std.proofs.Common.{◌≡◌, ◌≢◌, ℕ, List, [], ◌∷◌, refl}
+use Rattle.std.proofs.Common.{◌≡◌, ℕ, List, [], ◌∷◌, refl}
 use Rattle.xmpp_framing.specs.Tidied.{text_node, tidied_behind}
-use Rattle.xmpp_framing.specs.Trees.{Nodes, no_nodes, child, text}
+use Rattle.xmpp_framing.specs.Trees.{no_nodes}
 
 pub behind_text : (t : List ℕ) → tidied_behind [] (text_node t) ≡ text_node t
 behind_text [] = refl

@@ -1,5 +1,5 @@
 -- The elements of SASL (RFC 6120, section 6).
-use Rattle.std.specs.Prelude.{◌≡◌, ℕ, Bool, true, false, List, [], ◌∷◌, Option, Some, None, IsSome, codes}
+use Rattle.std.specs.Prelude.{◌≡◌, ℕ, Bool, true, List, [], ◌∷◌, Option, Some, None, IsSome, codes}
 use Rattle.xmpp_ext.specs.Conditions.{condition_in}
 use Rattle.xmpp_ext.specs.Payloads.{HasNoPayload, IsPayload, base64_of}
 use Rattle.xmpp_ext.specs.declared.fault.Field.{Field}

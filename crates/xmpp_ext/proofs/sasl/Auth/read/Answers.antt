@@ -1,4 +1,4 @@
-use Rattle.std.proofs.Common.{◌≡◌, true, codes, Some, IsSome, rules, sym, ◌∙◌}
+use Rattle.std.proofs.Common.{◌≡◌, true, codes, IsSome, rules}
 use Rattle.xmpp_ext.specs.Faults.{IsFault}
 use Rattle.xmpp_ext.specs.Sasl.{CarrierLacks, is_sasl, mechanism_of}
 use Rattle.xmpp_ext.proofs.SaslLaws.{auth_fault}
