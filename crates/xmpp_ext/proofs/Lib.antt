@@ -1,0 +1,12 @@
+pub mod PayloadLaws
+pub mod SaslLaws
+mod Worked
+mod WorkedStamps
+pub mod Written
+pub mod StampFacts
+pub mod StampJudged
+pub mod StampLaws
+pub mod StampOne
+pub mod StampShapes
+pub mod StampTexts
+pub mod Years

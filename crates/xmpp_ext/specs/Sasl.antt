@@ -1,0 +1,69 @@
+-- The elements of SASL (RFC 6120, section 6).
+use Rattle.std.specs.Prelude.{◌≡◌, ℕ, Bool, true, List, [], ◌∷◌, Option, Some, None, IsSome, codes}
+use Rattle.xmpp_ext.specs.Conditions.{condition_in}
+use Rattle.xmpp_ext.specs.Payloads.{HasNoPayload, IsPayload, base64_of}
+use Rattle.xmpp_ext.specs.declared.fault.Field.{Field}
+use Rattle.xmpp_ext.specs.declared.fault.Field.TheVariants.{Mechanism, Payload, Condition}
+use Rattle.xmpp_framing.specs.Attributes.{attribute}
+use Rattle.xmpp_framing.specs.Readers.{attr_of, is_named, text_of}
+use Rattle.xmpp_framing.specs.Tidied.{text_node}
+use Rattle.xmpp_framing.specs.Trees.{Elem, element, no_nodes, child, nodes_of}
+
+-- the namespace of SASL's elements
+unfoldable pub sasl : List ℕ
+sasl = codes "urn:ietf:params:xml:ns:xmpp-sasl"
+
+-- the element of this name in that namespace
+abbrev pub is_sasl : List ℕ → Elem → Bool
+is_sasl name e = is_named sasl name e
+
+-- `challenge`, `response` and `success` (sections 6.4.3, 6.4.4 and 6.4.6): the text directly in the element of this name
+-- stands for the bytes
+pub record IsCarrier (name : List ℕ) (e : Elem) (payload : List ℕ) : Type 0 where
+  pub named : is_sasl name e ≡ true
+  pub spelled : IsPayload (text_of (nodes_of e)) payload
+
+abbrev pub CarrierLacks : Elem → Field → Type 0
+CarrierLacks e field = HasNoPayload (text_of (nodes_of e)) field
+
+-- the attribute that names the mechanism
+abbrev pub mechanism_of : Elem → Option (List ℕ)
+mechanism_of e = attr_of [] (codes "mechanism") e
+
+-- `auth` (section 6.4.2)
+pub record IsAuth (e : Elem) (mechanism payload : List ℕ) : Type 0 where
+  pub named : is_sasl (codes "auth") e ≡ true
+  pub chosen : mechanism_of e ≡ Some mechanism
+  pub spelled : IsPayload (text_of (nodes_of e)) payload
+
+-- the mechanism is judged first
+abbrev pub AuthLacks : Elem → Field → Type 0
+AuthLacks e Mechanism = mechanism_of e ≡ None
+AuthLacks e Payload = IsSome (mechanism_of e) × CarrierLacks e Payload
+AuthLacks e _ = ⊥
+
+-- `failure` (section 6.4.5)
+pub record IsFailure (e : Elem) (condition : List ℕ) : Type 0 where
+  pub named : is_sasl (codes "failure") e ≡ true
+  pub first : condition_in sasl (nodes_of e) ≡ Some condition
+
+abbrev pub FailureLacks : Elem → Field → Type 0
+FailureLacks e Condition = condition_in sasl (nodes_of e) ≡ None
+FailureLacks e _ = ⊥
+
+-- `abort` (section 6.4.4) has no field
+abbrev pub LacksNothing : Field → Type 0
+LacksNothing _ = ⊥
+
+-- What is written. An empty payload is written as no text.
+abbrev pub carrier : List ℕ → List ℕ → Elem
+carrier name payload = element sasl name [] (text_node (base64_of payload))
+
+abbrev pub auth_of : List ℕ → List ℕ → Elem
+auth_of mechanism payload = element sasl (codes "auth") (attribute [] (codes "mechanism") mechanism ∷ []) (text_node (base64_of payload))
+
+abbrev pub failure_of : List ℕ → Elem
+failure_of condition = element sasl (codes "failure") [] (child (element sasl condition [] no_nodes) no_nodes)
+
+abbrev pub abort_of : Elem
+abort_of = element sasl (codes "abort") [] no_nodes

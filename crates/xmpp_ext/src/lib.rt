@@ -1,0 +1,23 @@
+//! The payloads of extensions as values: each is read off the tree of its element and written as one.
+#![tactic(auto)]
+
+mod conditions;
+mod fault;
+mod laws;
+mod payloads;
+mod sasl;
+mod stamp_reading;
+#[cfg(test)]
+mod stamp_tests;
+mod stamp_writing;
+#[cfg(test)]
+mod tests;
+
+pub use fault::{ExtFault, Field};
+pub use laws::{
+    only_stamps_are_read, payload_is_one, sasl_is_read, sasl_is_refused, stamp_is_read,
+    stamps_are_read,
+};
+pub use sasl::{Abort, Auth, Challenge, Response, SaslFailure, Success};
+pub use stamp_reading::{StampFault, read_stamp};
+pub use stamp_writing::{LAST_MOMENT, stamp_text};
