@@ -109,194 +109,215 @@ fn stanza<'a>(
     Tree::of(alloc, e)
 }
 
+// A stanza's namespace, name and attributes `from`, `to`, `id` and `type`, where `-` is none, and what it is read as.
+static STANZAS: [(&str, &str, &str, &str, &str, &str, &str); 25] = [
+    (
+        "jabber:client",
+        "message",
+        "Romeo@Montague.example/Orchard",
+        "juliet@capulet.example",
+        "1",
+        "chat",
+        "message Some(\"romeo@montague.example/Orchard\") Some(\"juliet@capulet.example\") \"1\" Chat \"\" 1",
+    ),
+    (
+        "jabber:client",
+        "message",
+        "-",
+        "-",
+        "-",
+        "-",
+        "message None None \"\" Normal \"\" 1",
+    ),
+    (
+        "jabber:client",
+        "message",
+        "-",
+        "-",
+        "-",
+        "Chat",
+        "message None None \"\" Normal \"\" 1",
+    ),
+    (
+        "jabber:client",
+        "message",
+        "-",
+        "-",
+        "-",
+        "groupchat",
+        "message None None \"\" Groupchat \"\" 1",
+    ),
+    (
+        "jabber:client",
+        "message",
+        "-",
+        "-",
+        "-",
+        "headline",
+        "message None None \"\" Headline \"\" 1",
+    ),
+    (
+        "jabber:client",
+        "message",
+        "-",
+        "@",
+        "-",
+        "error",
+        "BadTo { message: true, reply: false, id: \"\", to: \"@\" }",
+    ),
+    (
+        "jabber:client",
+        "message",
+        "-",
+        "@",
+        "2",
+        "-",
+        "BadTo { message: true, reply: true, id: \"2\", to: \"@\" }",
+    ),
+    ("jabber:client", "message", "", "@", "2", "-", "BadFrom"),
+    (
+        "jabber:client",
+        "presence",
+        "-",
+        "-",
+        "-",
+        "-",
+        "presence None None Available 0",
+    ),
+    (
+        "jabber:client",
+        "presence",
+        "-",
+        "-",
+        "-",
+        "unavailable",
+        "presence None None Unavailable 0",
+    ),
+    (
+        "jabber:client",
+        "presence",
+        "-",
+        "a.example",
+        "-",
+        "subscribe",
+        "presence None Some(\"a.example\") Other 0",
+    ),
+    (
+        "jabber:client",
+        "presence",
+        "-",
+        "a@/b",
+        "-",
+        "-",
+        "BadTo { message: false, reply: false, id: \"\", to: \"a@/b\" }",
+    ),
+    (
+        "jabber:client",
+        "presence",
+        "a@/b",
+        "-",
+        "-",
+        "-",
+        "BadFrom",
+    ),
+    (
+        "jabber:client",
+        "iq",
+        "-",
+        "-",
+        "",
+        "get",
+        "iq None None \"\" Get 1",
+    ),
+    (
+        "jabber:client",
+        "iq",
+        "a.example",
+        "-",
+        "3",
+        "result",
+        "iq Some(\"a.example\") None \"3\" Result 1",
+    ),
+    ("jabber:client", "iq", "-", "-", "-", "get", "BadFormat"),
+    ("jabber:client", "iq", "", "-", "4", "-", "BadFormat"),
+    ("jabber:client", "iq", "-", "-", "4", "ask", "BadFormat"),
+    (
+        "jabber:client",
+        "iq",
+        "-",
+        "",
+        "4",
+        "set",
+        "BadTo { message: false, reply: true, id: \"4\", to: \"\" }",
+    ),
+    (
+        "jabber:client",
+        "iq",
+        "-",
+        "",
+        "4",
+        "get",
+        "BadTo { message: false, reply: true, id: \"4\", to: \"\" }",
+    ),
+    (
+        "jabber:client",
+        "iq",
+        "-",
+        "",
+        "4",
+        "error",
+        "BadTo { message: false, reply: false, id: \"4\", to: \"\" }",
+    ),
+    (
+        "jabber:client",
+        "iq",
+        "-",
+        "",
+        "4",
+        "result",
+        "BadTo { message: false, reply: false, id: \"4\", to: \"\" }",
+    ),
+    ("jabber:server", "message", "-", "-", "-", "-", "NotAStanza"),
+    ("", "iq", "-", "-", "-", "-", "NotAStanza"),
+    ("jabber:client", "query", "", "-", "-", "-", "NotAStanza"),
+];
+
 #[test]
 fn reads_stanzas(rt: HostRuntime) -> Result<(), Fail> {
     let alloc = rt.alloc();
-    for (ns, name, from, to, id, kind, want) in [
-        (
-            CLIENT,
-            "message",
-            "Romeo@Montague.example/Orchard",
-            "juliet@capulet.example",
-            "1",
-            "chat",
-            "message Some(\"romeo@montague.example/Orchard\") Some(\"juliet@capulet.example\") \"1\" Chat \"\" 1",
-        ),
-        (
-            CLIENT,
-            "message",
-            "-",
-            "-",
-            "-",
-            "-",
-            "message None None \"\" Normal \"\" 1",
-        ),
-        (
-            CLIENT,
-            "message",
-            "-",
-            "-",
-            "-",
-            "Chat",
-            "message None None \"\" Normal \"\" 1",
-        ),
-        (
-            CLIENT,
-            "message",
-            "-",
-            "-",
-            "-",
-            "groupchat",
-            "message None None \"\" Groupchat \"\" 1",
-        ),
-        (
-            CLIENT,
-            "message",
-            "-",
-            "-",
-            "-",
-            "headline",
-            "message None None \"\" Headline \"\" 1",
-        ),
-        (
-            CLIENT,
-            "message",
-            "-",
-            "@",
-            "-",
-            "error",
-            "BadTo { message: true, reply: false, id: \"\", to: \"@\" }",
-        ),
-        (
-            CLIENT,
-            "message",
-            "-",
-            "@",
-            "2",
-            "-",
-            "BadTo { message: true, reply: true, id: \"2\", to: \"@\" }",
-        ),
-        (CLIENT, "message", "", "@", "2", "-", "BadFrom"),
-        (
-            CLIENT,
-            "presence",
-            "-",
-            "-",
-            "-",
-            "-",
-            "presence None None Available 0",
-        ),
-        (
-            CLIENT,
-            "presence",
-            "-",
-            "-",
-            "-",
-            "unavailable",
-            "presence None None Unavailable 0",
-        ),
-        (
-            CLIENT,
-            "presence",
-            "-",
-            "a.example",
-            "-",
-            "subscribe",
-            "presence None Some(\"a.example\") Other 0",
-        ),
-        (
-            CLIENT,
-            "presence",
-            "-",
-            "a@/b",
-            "-",
-            "-",
-            "BadTo { message: false, reply: false, id: \"\", to: \"a@/b\" }",
-        ),
-        (CLIENT, "presence", "a@/b", "-", "-", "-", "BadFrom"),
-        (CLIENT, "iq", "-", "-", "", "get", "iq None None \"\" Get 1"),
-        (
-            CLIENT,
-            "iq",
-            "a.example",
-            "-",
-            "3",
-            "result",
-            "iq Some(\"a.example\") None \"3\" Result 1",
-        ),
-        (CLIENT, "iq", "-", "-", "-", "get", "BadFormat"),
-        (CLIENT, "iq", "", "-", "4", "-", "BadFormat"),
-        (CLIENT, "iq", "-", "-", "4", "ask", "BadFormat"),
-        (
-            CLIENT,
-            "iq",
-            "-",
-            "",
-            "4",
-            "set",
-            "BadTo { message: false, reply: true, id: \"4\", to: \"\" }",
-        ),
-        (
-            CLIENT,
-            "iq",
-            "-",
-            "",
-            "4",
-            "get",
-            "BadTo { message: false, reply: true, id: \"4\", to: \"\" }",
-        ),
-        (
-            CLIENT,
-            "iq",
-            "-",
-            "",
-            "4",
-            "error",
-            "BadTo { message: false, reply: false, id: \"4\", to: \"\" }",
-        ),
-        (
-            CLIENT,
-            "iq",
-            "-",
-            "",
-            "4",
-            "result",
-            "BadTo { message: false, reply: false, id: \"4\", to: \"\" }",
-        ),
-        ("jabber:server", "message", "-", "-", "-", "-", "NotAStanza"),
-        ("", "iq", "-", "-", "-", "-", "NotAStanza"),
-        (CLIENT, "query", "", "-", "-", "-", "NotAStanza"),
-    ] {
+    for (ns, name, from, to, id, kind, want) in &STANZAS {
         let read = reading(alloc, &stanza(alloc, ns, name, from, to, id, kind)?)?;
-        assert_eq!(rt; read.as_str(), want);
+        assert_eq!(rt; read.as_str(), *want);
     }
     Ok(())
 }
 
+// The texts of a `priority` before and behind an element in it, and the priority.
+static PRIORITIES: [(&str, &str, i8); 18] = [
+    ("5", "", 5),
+    ("-1", "", -1),
+    ("127", "", 127),
+    ("-128", "", -128),
+    ("-0", "", 0),
+    ("007", "", 7),
+    ("-007", "", -7),
+    ("1", "2", 12),
+    ("128", "", 0),
+    ("-129", "", 0),
+    ("99999999999999999999", "", 0),
+    ("+1", "", 0),
+    (" 1", "", 0),
+    ("1 ", "", 0),
+    ("--1", "", 0),
+    ("-", "", 0),
+    ("", "", 0),
+    ("1x", "", 0),
+];
+
 #[test]
 fn reads_priorities(rt: HostRuntime) -> Result<(), Fail> {
     let alloc = rt.alloc();
-    for (texts, want) in [
-        (["5", ""], 5),
-        (["-1", ""], -1),
-        (["127", ""], 127),
-        (["-128", ""], -128),
-        (["-0", ""], 0),
-        (["007", ""], 7),
-        (["-007", ""], -7),
-        (["1", "2"], 12),
-        (["128", ""], 0),
-        (["-129", ""], 0),
-        (["99999999999999999999", ""], 0),
-        (["+1", ""], 0),
-        ([" 1", ""], 0),
-        (["1 ", ""], 0),
-        (["--1", ""], 0),
-        (["-", ""], 0),
-        (["", ""], 0),
-        (["1x", ""], 0),
-    ] {
-        let [before, behind] = texts;
+    for (before, behind, want) in &PRIORITIES {
         let mut priority = element(alloc, CLIENT, "priority", &[], &[before])?;
         priority.push_child(element(alloc, CLIENT, "x", &[], &["3"])?)?;
         priority.push_text(Text::from_str(alloc, behind)?)?;
@@ -308,7 +329,7 @@ fn reads_priorities(rt: HostRuntime) -> Result<(), Fail> {
             assert!(rt; false, "{before}");
             return Ok(());
         };
-        assert_eq!(rt; p.priority, want, "{before}{behind}");
+        assert_eq!(rt; p.priority, *want, "{before}{behind}");
     }
     Ok(())
 }
@@ -322,40 +343,49 @@ fn message_with(alloc: Global, children: Vec<Element>) -> Result<Tree, NoMemory>
     Tree::of(alloc, message)
 }
 
+// The conditions of RFC 6120 section 8.3.3, the kind that each goes with there, and whether it has a name of its own here.
+static CONDITIONS: [(&str, ErrorKind, bool); 22] = [
+    ("bad-request", ErrorKind::Modify, true),
+    ("conflict", ErrorKind::Cancel, false),
+    ("feature-not-implemented", ErrorKind::Cancel, true),
+    ("forbidden", ErrorKind::Auth, false),
+    ("gone", ErrorKind::Cancel, false),
+    ("internal-server-error", ErrorKind::Cancel, false),
+    ("item-not-found", ErrorKind::Cancel, true),
+    ("jid-malformed", ErrorKind::Modify, true),
+    ("not-acceptable", ErrorKind::Modify, false),
+    ("not-allowed", ErrorKind::Cancel, false),
+    ("not-authorized", ErrorKind::Auth, false),
+    ("policy-violation", ErrorKind::Modify, false),
+    ("recipient-unavailable", ErrorKind::Wait, false),
+    ("redirect", ErrorKind::Modify, false),
+    ("registration-required", ErrorKind::Auth, false),
+    ("remote-server-not-found", ErrorKind::Cancel, true),
+    ("remote-server-timeout", ErrorKind::Wait, false),
+    ("resource-constraint", ErrorKind::Wait, true),
+    ("service-unavailable", ErrorKind::Cancel, true),
+    ("subscription-required", ErrorKind::Auth, false),
+    ("undefined-condition", ErrorKind::Continue, false),
+    ("unexpected-request", ErrorKind::Wait, true),
+];
+
 #[test]
 fn reads_each_condition(rt: HostRuntime) -> Result<(), Fail> {
     let alloc = rt.alloc();
-    for (name, kind, known) in [
-        ("bad-request", ErrorKind::Modify, true),
-        ("conflict", ErrorKind::Cancel, false),
-        ("feature-not-implemented", ErrorKind::Cancel, true),
-        ("forbidden", ErrorKind::Auth, false),
-        ("gone", ErrorKind::Cancel, false),
-        ("internal-server-error", ErrorKind::Cancel, false),
-        ("item-not-found", ErrorKind::Cancel, true),
-        ("jid-malformed", ErrorKind::Modify, true),
-        ("not-acceptable", ErrorKind::Modify, false),
-        ("not-allowed", ErrorKind::Cancel, false),
-        ("not-authorized", ErrorKind::Auth, false),
-        ("policy-violation", ErrorKind::Modify, false),
-        ("recipient-unavailable", ErrorKind::Wait, false),
-        ("redirect", ErrorKind::Modify, false),
-        ("registration-required", ErrorKind::Auth, false),
-        ("remote-server-not-found", ErrorKind::Cancel, true),
-        ("remote-server-timeout", ErrorKind::Wait, false),
-        ("resource-constraint", ErrorKind::Wait, true),
-        ("service-unavailable", ErrorKind::Cancel, true),
-        ("subscription-required", ErrorKind::Auth, false),
-        ("undefined-condition", ErrorKind::Continue, false),
-        ("unexpected-request", ErrorKind::Wait, true),
-    ] {
+    for (name, kind, known) in &CONDITIONS {
         let condition = Condition::named(alloc, name)?;
-        assert_eq!(rt; !matches!(condition, Condition::Other(_)), known, "{name}");
-        let written = error_element(alloc, &StanzaError { kind, condition })?;
+        assert_eq!(rt; !matches!(condition, Condition::Other(_)), *known, "{name}");
+        let written = error_element(
+            alloc,
+            &StanzaError {
+                kind: *kind,
+                condition,
+            },
+        )?;
         let tree = message_with(alloc, vec![in alloc; written]?)?;
         let read = stanza_error(alloc, &tree)?;
-        assert_eq!(rt; read.condition.name(), name);
-        assert_eq!(rt; read.kind, kind, "{name}");
+        assert_eq!(rt; read.condition.name(), *name);
+        assert_eq!(rt; read.kind, *kind, "{name}");
     }
     Ok(())
 }
