@@ -1,5 +1,5 @@
 -- End tags are read as the grammar has them.
-use Rattle.std.proofs.Common.{◌≡◌, ◌↔◌, ℕ, List, Option, Some, None, Result, Ok, Err, refl, sym, ap, ◌∙◌}
+use Rattle.std.proofs.Common.{◌≡◌, ◌↔◌, ℕ, List, Some, Result, Ok, Err, ap}
 use Rattle.xmpp_tokens.proofs.TagOutcomes.{tags_are_read, what_is_read_is_a_tag}
 use Rattle.xmpp_tokens.specs.Tags.{Tag, start_tag, end_tag, tag_of, IsEndTag}
 use Rattle.xmpp_tokens.specs.declared.faults.TagFault.{TagFault}

@@ -1,8 +1,7 @@
 -- Attributes with their expanded names, one after another.
-use Rattle.std.proofs.Common.{◌≡◌, ℕ, List, [], ◌∷◌, ◌++◌, Option, Some, None, map, refl, sym, ap, ◌∙◌, append_assoc}
+use Rattle.std.proofs.Common.{◌≡◌, List, [], ◌∷◌, ◌++◌, Option, Some, None, map, refl, sym, ap, ◌∙◌, append_assoc}
 use Rattle.std.specs.Option.{option_and_then}
 use Rattle.xmpp_tokens.specs.RawTags.{attribute_of}
-use Rattle.xmpp_tokens.specs.Tags.{Attribute}
 use Rattle.xmpp_tokens.specs.declared.raw_tags.RawAttribute.{RawAttribute}
 use Rattle.xmpp_names.specs.Expansion.{in_front, expanded_attribute, expanded_attributes}
 use Rattle.xmpp_names.specs.Scopes.{Scope}

@@ -1,18 +1,17 @@
 -- The tests of names, declarations and expansions are what the grammar says.
-use Rattle.std.proofs.Common.{◌≡◌, ◌≢◌, ◌↔◌, ℕ, suc, ◌+◌, ◌<◌, ◌≤◌, ◌⊎◌, inl, inr, ⊎_elim, Bool, true, false, cond, eqb, ltb, not, ◌&&◌, ◌||◌, List, [], ◌∷◌, ◌++◌, Option, Some, None, map, length, take, drop, get_or, codes, bytes_eq, refl, sym, ap, subst, ◌∙◌, arith}
-use Rattle.std.proofs.lemmas.Bool.{cases_Bool, and_parts, and_from, false≢true, not-true, not_from_false, false_from_ne_true, cond-true, cond-false, eqb-true, eq-eqb, ltb-true}
+use Rattle.std.proofs.Common.{◌≡◌, ◌≢◌, ℕ, ◌+◌, ◌<◌, inl, inr, ⊎_elim, Bool, true, false, cond, eqb, not, ◌&&◌, ◌||◌, List, [], ◌∷◌, ◌++◌, Option, Some, None, length, take, drop, get_or, codes, bytes_eq, refl, sym, ap, subst, ◌∙◌, arith}
+use Rattle.std.proofs.lemmas.Bool.{cases_Bool, and_parts, and_from, false≢true, not-true, not_from_false, false_from_ne_true, cond-true, cond-false, eqb-true, ltb-true}
 use Rattle.std.proofs.lemmas.Bool.Decides.{nat_tests}
 use Rattle.std.proofs.lemmas.List.{length-append}
 use Rattle.std.proofs.lemmas.List.Sums.{passes_at_first, split_at_first}
 use Rattle.std.proofs.Math.Seq.{take-length, take-append_seam, drop-append-add}
 use Rattle.std.proofs.lemmas.Slice.Eq.{bytes_eq-Decides}
-use Rattle.std.specs.List.{AllZip, list_all, prefix_len, position_or_len, before_first, after_first}
+use Rattle.std.specs.List.{AllZip, position_or_len, before_first, after_first}
 use Rattle.std.specs.Option.{option_map, option_and_then}
-use Rattle.std.specs.Prelude.{unwrap_or}
 use Rattle.xmpp_tokens.proofs.Splits.{take_prefix, front_passes, prefix_within}
 use Rattle.xmpp_tokens.specs.Tags.{Attribute, is_empty}
 use Rattle.xmpp_names.specs.Declarations.{MayDeclare, may_declare}
-use Rattle.xmpp_names.specs.Expansion.{Name, attribute_ns, element_ns, expanded_attribute, expanded_attributes, expanded_name, in_front, name_with, with_value}
+use Rattle.xmpp_names.specs.Expansion.{attribute_ns, element_ns, expanded_attribute, expanded_attributes, expanded_name, in_front, name_with, with_value}
 use Rattle.xmpp_names.specs.Grammar.{IsElementIn, IsAttributeIn, IsExpanded}
 use Rattle.xmpp_names.specs.Names.{IsName, has_colon, is_colon, local_of, no_colon, prefix_of}
 use Rattle.xmpp_names.specs.Scopes.{Scope, bound, xml_namespace, xmlns_namespace}

@@ -1,5 +1,5 @@
 -- Expanded names of which no two are equal: in another order, and in order.
-use Rattle.std.proofs.Common.{◌≡◌, ◌≢◌, ◌↔◌, ℕ, zero, suc, ◌+◌, ◌<◌, ◌⊎◌, inl, inr, ⊎_elim, List, [], ◌∷◌, map, length, get_or, swap, Bool, true, false, not, ◌&&◌, IsPermutation, IsSorted, AllPairs, Ordering, Less, Equal, Greater, nat_cmp, is_eq, is_lt, bytes_eq, refl, sym, ap, ◌∙◌, arith}
+use Rattle.std.proofs.Common.{◌≡◌, ◌≢◌, ◌↔◌, ℕ, zero, suc, ◌+◌, ◌<◌, ◌⊎◌, inl, inr, ⊎_elim, List, [], ◌∷◌, map, length, get_or, swap, Bool, true, false, not, ◌&&◌, IsPermutation, IsSorted, Ordering, Less, Equal, Greater, nat_cmp, is_eq, is_lt, bytes_eq, refl, sym, ap, ◌∙◌, arith}
 use Rattle.std.proofs.lemmas.Bool.{cases_eq, cases_lt, and_parts, and_from, false≢true, not-true, not_from_false, or_parts, or_from, false_from_ne_true}
 use Rattle.std.proofs.lemmas.Cmp.{on_total, then_total, nat_list_cmp_total}
 use Rattle.std.proofs.lemmas.List.{get_or-map, length-map}

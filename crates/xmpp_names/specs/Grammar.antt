@@ -1,6 +1,6 @@
 -- Which tag bytes spell inside a scope, in the grammar's words (XML 1.0, section 3.1; Namespaces in XML 1.0, sections
 -- 3 to 6).
-use Rattle.std.specs.Prelude.{ℕ, ◌≡◌, ◌≢◌, ◌≤◌, ◌<◌, ◌⊎◌, List, [], ◌∷◌, ◌++◌, Option, Some, map, codes, length, unwrap_or, All}
+use Rattle.std.specs.Prelude.{ℕ, ◌≡◌, ◌≢◌, ◌≤◌, ◌⊎◌, List, [], ◌++◌, Some, map, codes, length, unwrap_or, All}
 use Rattle.std.specs.List.{AllZip}
 use Rattle.xmpp_tokens.specs.Spelling.{spelled_value}
 use Rattle.xmpp_tokens.specs.Tags.{Attribute, start_tag, IsTag}

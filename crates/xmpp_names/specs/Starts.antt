@@ -1,6 +1,6 @@
 -- A whole start tag in a scope (XML 1.0, section 3.1; Namespaces in XML 1.0, sections 3 to 6; RFC 6120, sections 4.8
 -- and 11).
-use Rattle.std.specs.Prelude.{ℕ, nat_lt, Bool, ◌&&◌, if◌then◌else◌, List, [], ◌∷◌, ◌++◌, Option, Some, None, Result, Ok, Err, map, length}
+use Rattle.std.specs.Prelude.{ℕ, nat_lt, Bool, ◌&&◌, if◌then◌else◌, List, ◌++◌, Option, Some, None, Result, Ok, Err, map, length}
 use Rattle.std.specs.List.{list_all, list_any}
 use Rattle.std.specs.Option.{option_map, option_and_then, is_some}
 use Rattle.xmpp_tokens.specs.Spelling.{spelled_value}

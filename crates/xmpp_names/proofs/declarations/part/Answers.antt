@@ -1,4 +1,4 @@
-use Rattle.std.proofs.Common.{Some, None, sym, ap, ◌∙◌, map}
+use Rattle.std.proofs.Common.{Some, sym, ap, ◌∙◌, map}
 use Rattle.xmpp_names.proofs.DeclarationRuns.{declared_next, declared_kept, other_kept, other_next}
 use Rattle.xmpp_names.specs.Declarations.{declared_prefix}
 use Rattle.xmpp_tokens.specs.RawTags.{attribute_of}
