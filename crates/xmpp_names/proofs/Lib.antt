@@ -6,3 +6,4 @@ pub mod Parted
 pub mod EndLaws
 pub mod NameLaws
 pub mod StartLaws
+mod Worked

@@ -45,9 +45,10 @@ pub parts_of : (name p l : List ℕ) → IsName name p l → (prefix_of name ≡
 unfolding prefix_of local_of
 parts_of name p l (inl (is, plain)) =
     let t : has_colon name ≡ true = ap has_colon is ∙ colon_there p l plain in
-    let at : position_or_len is_colon name ≡ length p = ap (position_or_len is_colon) is ∙ with_colon p l plain in
-    (cond-true (has_colon name) (before_first is_colon name) [] t ∙ ap (λ n. take n name) at ∙ ap (take (length p)) is ∙ take-append_seam p (58 ∷ l),
-     cond-true (has_colon name) (after_first is_colon name) name t ∙ ap (λ n. drop (n + 1) name) at ∙ ap (drop (length p + 1)) is ∙ drop-append-add p (58 ∷ l) 1)
+    let at : position_or_len is_colon name ≡ length p = ap (position_or_len is_colon) is ∙ with_colon p l plain in (
+      cond-true (has_colon name) (before_first is_colon name) [] t ∙ ap (λ n. take n name) at ∙ ap (take (length p)) is ∙ take-append_seam p (58 ∷ l),
+      cond-true (has_colon name) (after_first is_colon name) name t ∙ ap (λ n. drop (n + 1) name) at ∙ ap (drop (length p + 1)) is ∙ drop-append-add p (58 ∷ l) 1,
+    )
 parts_of name p l (inr (is, none, plain)) =
     let f : has_colon name ≡ false = ap has_colon is ∙ no_colon_there l plain in
     (cond-false (has_colon name) (before_first is_colon name) [] f ∙ sym none, cond-false (has_colon name) (after_first is_colon name) name f ∙ is)
@@ -70,8 +71,10 @@ is_name_of name =
     let first = eqb-true (get_or name (position_or_len is_colon name) 0) 58 (passes_at_first is_colon name 0 within) in
     let p = cond-true (has_colon name) (before_first is_colon name) [] t in
     let l = cond-true (has_colon name) (after_first is_colon name) name t in
-    inl (split_at_first is_colon name 0 within ∙ ap (λ x. before_first is_colon name ++ x ∷ after_first is_colon name) first ∙ ap (λ x. x ++ 58 ∷ after_first is_colon name) (sym p) ∙ ap (λ x. cond (has_colon name) (before_first is_colon name) [] ++ 58 ∷ x) (sym l),
-    ap no_colon p ∙ before_plain name))
+    inl (
+      split_at_first is_colon name 0 within ∙ ap (λ x. before_first is_colon name ++ x ∷ after_first is_colon name) first ∙ ap (λ x. x ++ 58 ∷ after_first is_colon name) (sym p) ∙ ap (λ x. cond (has_colon name) (before_first is_colon name) [] ++ 58 ∷ x) (sym l),
+      ap no_colon p ∙ before_plain name,
+    ))
     (λ (f : has_colon name ≡ false).
     let l = cond-false (has_colon name) (after_first is_colon name) name f in
     inr (sym l, cond-false (has_colon name) (before_first is_colon name) [] f, ap no_colon l ∙ all_plain name f))
@@ -109,7 +112,7 @@ may_from_test b h =
       xml_alone = (λ _. n, λ _. p);
       not_xmlns = λ e. differ (codes "xml") (codes "xmlns") refl (sym p ∙ e);
       not_its_name = λ e. differ xml_namespace xmlns_namespace refl (sym n ∙ e);
-      not_undeclared = λ e. absurd (differ xml_namespace [] refl (sym n ∙ e))
+      not_undeclared = λ e. absurd (differ xml_namespace [] refl (sym n ∙ e));
     } in r)
     (λ (f : bytes_eq b.prefix (codes "xml") ≡ false).
     let q = and_parts (not (bytes_eq b.prefix (codes "xmlns"))) _ (sym (cond-false (bytes_eq b.prefix (codes "xml")) (bytes_eq b.ns xml_namespace) (others_may b) f) ∙ h) in
@@ -119,7 +122,7 @@ may_from_test b h =
       xml_alone = (λ e. absurd (differ b.prefix (codes "xml") f e), λ e. absurd (differ b.ns xml_namespace (not-true _ r.0) e));
       not_xmlns = λ e. differ b.prefix (codes "xmlns") (not-true _ q.0) e;
       not_its_name = λ e. differ b.ns xmlns_namespace (not-true _ s.0) e;
-      not_undeclared = undeclared b.prefix b.ns s.1
+      not_undeclared = undeclared b.prefix b.ns s.1;
     } in all)
     (cases_Bool (bytes_eq b.prefix (codes "xml")))
 

@@ -93,7 +93,7 @@ start_from_parts scope bytes name xs empty t read e =
       name_is = is_name_of name;
       element = element_from (own ++ scope) (prefix_of name) p.ns p.ns_is;
       others = attributes_from (own ++ scope) (others_of xs) p.es p.es_are;
-      distinct = distinct_tested (map name_of p.es) p.differ
+      distinct = distinct_tested (map name_of p.es) p.differ;
     } in
     subst (λ u. IsStart scope bytes xs u) p.tag_is made
 
@@ -206,23 +206,29 @@ module _ (limits : TagLimits) (scope : Scope) (bytes : List ℕ) where
   unfolding start_of
   started name xs empty (Some t) read e = inl (xs, t, start_from_parts scope bytes name xs empty t read e)
   started name xs empty None read e =
-      inr (inl (ap (start_behind limits scope) read ∙ ap (limited limits (length xs) (bindings_of xs)) e,
-      unrestricted bytes (λ r. let never : Ok (start_tag name xs empty) ≡ Err spelling.Restricted = sym read ∙ r in absurd cc),
-      λ ys t h. let other : start_tag name xs empty ≡ start_tag t.spelled ys t.empty = same_tag _ _ (sym read ∙ tags_are_read bytes (start_tag t.spelled ys t.empty) h.spelled) in
-      none_some t (sym e ∙ ap (parted_as scope) other ∙ parts_from_start scope bytes ys t h)))
+      inr (inl (
+        ap (start_behind limits scope) read ∙ ap (limited limits (length xs) (bindings_of xs)) e,
+        unrestricted bytes (λ r. let never : Ok (start_tag name xs empty) ≡ Err spelling.Restricted = sym read ∙ r in absurd cc),
+        λ ys t h. let other : start_tag name xs empty ≡ start_tag t.spelled ys t.empty = same_tag _ _ (sym read ∙ tags_are_read bytes (start_tag t.spelled ys t.empty) h.spelled) in
+            none_some t (sym e ∙ ap (parted_as scope) other ∙ parts_from_start scope bytes ys t h),
+      ))
 
   outcome : (r : Result tokens.Tag TagFault) → tag_of bytes ≡ r → Outcome limits scope bytes
   unfolding start_of
   outcome (Err spelling.Restricted) e = inr (inr (ap (start_behind limits scope) e, (unknown_names_are_restricted bytes).0 e))
   outcome (Err spelling.NotWellFormed) e =
-      inr (inl (ap (start_behind limits scope) e,
-      unrestricted bytes (λ r. let never : Err spelling.NotWellFormed ≡ Err spelling.Restricted = sym e ∙ r in absurd cc),
-      λ ys t h. let never : Err spelling.NotWellFormed ≡ Ok (start_tag t.spelled ys t.empty) = sym e ∙ tags_are_read bytes (start_tag t.spelled ys t.empty) h.spelled in absurd cc))
+      inr (inl (
+        ap (start_behind limits scope) e,
+        unrestricted bytes (λ r. let never : Err spelling.NotWellFormed ≡ Err spelling.Restricted = sym e ∙ r in absurd cc),
+        λ ys t h. let never : Err spelling.NotWellFormed ≡ Ok (start_tag t.spelled ys t.empty) = sym e ∙ tags_are_read bytes (start_tag t.spelled ys t.empty) h.spelled in absurd cc,
+      ))
   outcome (Err spelling.NoMemory) e = absurd (no_want bytes e)
   outcome (Ok (end_tag n)) e =
-      inr (inl (ap (start_behind limits scope) e,
-      unrestricted bytes (λ r. let never : Ok (end_tag n) ≡ Err spelling.Restricted = sym e ∙ r in absurd cc),
-      λ ys t h. let never : Ok (end_tag n) ≡ Ok (start_tag t.spelled ys t.empty) = sym e ∙ tags_are_read bytes (start_tag t.spelled ys t.empty) h.spelled in absurd cc))
+      inr (inl (
+        ap (start_behind limits scope) e,
+        unrestricted bytes (λ r. let never : Ok (end_tag n) ≡ Err spelling.Restricted = sym e ∙ r in absurd cc),
+        λ ys t h. let never : Ok (end_tag n) ≡ Ok (start_tag t.spelled ys t.empty) = sym e ∙ tags_are_read bytes (start_tag t.spelled ys t.empty) h.spelled in absurd cc,
+      ))
   outcome (Ok (start_tag name xs empty)) e = started name xs empty (parted_tag scope name (bindings_of xs) (others_of xs) empty) e refl
 
   all : Outcome limits scope bytes

@@ -113,10 +113,7 @@ fn expands_names(rt: HostRuntime) -> Result<(), Fail> {
         (b"<a xmlns:p=''/>", "malformed"),
         (b"<a xmlns=''/>", "a"),
         (b"<xmlns:a/>", "malformed"),
-        (
-            b"<a xmlns:p='n' xmlns:q='n' p:b='1' q:b='2'/>",
-            "malformed",
-        ),
+        (b"<a xmlns:p='n' xmlns:q='n' p:b='1' q:b='2'/>", "malformed"),
         (
             b"<a xmlns:p='n' xmlns:q='m' p:b='1' q:b='2' b='3'/>",
             "a|{n}b=1|{m}b=2|b=3",
@@ -197,7 +194,11 @@ fn shown_header(alloc: Global, bytes: &[u8]) -> Result<String, StartFault> {
     let tag = read_start(alloc, WIDE, &[], bytes)?;
     let header = header_of(alloc, &tag)?;
     let mut text = String::new(alloc);
-    text.push_str(if opens_stream(&tag) { "stream;" } else { "other;" })?;
+    text.push_str(if opens_stream(&tag) {
+        "stream;"
+    } else {
+        "other;"
+    })?;
     show_some(&mut text, Some(&header.ns))?;
     show_some(&mut text, Some(&header.name))?;
     show_some(&mut text, Some(&header.content))?;
@@ -241,7 +242,13 @@ fn reads_end_tags(rt: HostRuntime) -> Result<(), Fail> {
     ];
     for (bytes, expected) in rows {
         let name = read_end(alloc, bytes);
-        assert_eq!(rt; match &name { Ok(name) => name.as_str(), Err(_) => "-" }, expected);
+        assert_eq!(rt;
+            match &name {
+                Ok(name) => name.as_str(),
+                Err(_) => "-"
+            },
+            expected
+        );
     }
     Ok(())
 }
