@@ -7,11 +7,15 @@ ghost use Rattle.xmpp_names.specs.Scopes.{scope_of};
 ghost use Rattle.xmpp_tokens.specs.RawTags.{attribute_of};
 ghost use Rattle.xmpp_tokens.specs.Tags.{names_of};
 
+use crate::index::indexed_names;
 use crate::names::split_name;
 use crate::scopes::{Binding, bound_in};
 use std::alloc::Global;
 use xmpp_edge::{NoMemory, Text};
 use xmpp_tokens::RawAttribute;
+
+/// Up to so many declarations in one tag are looked through in turn.
+const FEW: usize = 16;
 
 /// An attribute with its expanded name (Namespaces in XML 1.0, section 2.1).
 #[derive(Debug, Drop)]
@@ -85,6 +89,9 @@ pub(crate) fn expanded_names<'a>(
     ensures { IfOk result (λ o. option_map (λ v. map borrowed_name v.items) o
         ≡ Expansion.expanded_names (own.now ++ scope_of stack.now) (names_of (map attribute_of others.now))) }
 {
+    if own.len() > FEW {
+        return indexed_names(alloc, own, stack, others);
+    }
     let mut names = Vec::with_capacity(alloc, others.len())?;
     for attribute in others {
         match expanded_name(own, stack, attribute.name.as_str()) {

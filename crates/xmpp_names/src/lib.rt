@@ -8,6 +8,7 @@ mod ends;
 mod expansion;
 mod faults;
 mod headers;
+mod index;
 mod laws;
 mod limits;
 mod names;

@@ -31,7 +31,7 @@ pub(crate) fn first_bound<'a>(bindings: &'a [Binding], prefix: &str) -> Option<&
 }
 
 // What the innermost binding of a prefix says, in a stack whose last list is the innermost.
-fn stack_bound<'a>(stack: &'a [Vec<Binding>], prefix: &str) -> Option<&'a str>
+pub(crate) fn stack_bound<'a>(stack: &'a [Vec<Binding>], prefix: &str) -> Option<&'a str>
     ensures { option_map (λ s. s.now) result ≡ Scopes.first_bound (scope_of stack.now) prefix.now }
 {
     let mut rest = stack;

@@ -78,7 +78,7 @@ fn inside(alloc: Global) -> Result<Vec<Vec<Binding>>, StartFault> {
 #[test]
 fn expands_names(rt: HostRuntime) -> Result<(), Fail> {
     let alloc = rt.alloc();
-    let rows: [(&[u8], &str); 24] = [
+    let rows: [(&[u8], &str); 26] = [
         (b"<a/>", "a"),
         (b"<a b='1'/>", "a|b=1"),
         (b"<a xmlns='n' b='1'>", "{n}a|b=1"),
@@ -126,6 +126,14 @@ fn expands_names(rt: HostRuntime) -> Result<(), Fail> {
         (
             b"<a xmlns:p='n' p:c='1' q:c='2' xmlns:q='m' p:b='3' c='4' d='5'/>",
             "a|{n}c=1|{m}c=2|{n}b=3|c=4|d=5",
+        ),
+        (
+            b"<a xmlns:a='1' xmlns:b='2' xmlns:c='3' xmlns:d='4' xmlns:e='5' xmlns:f='6' xmlns:g='7' xmlns:h='8' xmlns:i='9' xmlns:j='10' xmlns:k='11' xmlns:l='12' xmlns:m='13' xmlns:n='14' xmlns:o='15' xmlns:p='16' xmlns:q='17' q:x='' a:x=''/>",
+            "a|{17}x=|{1}x=",
+        ),
+        (
+            b"<a xmlns:a='1' xmlns:b='2' xmlns:c='3' xmlns:d='4' xmlns:e='5' xmlns:f='6' xmlns:g='7' xmlns:h='8' xmlns:i='9' xmlns:j='10' xmlns:k='11' xmlns:l='12' xmlns:m='13' xmlns:n='14' xmlns:o='15' xmlns:p='16' xmlns:q='17' q:x='' z:x=''/>",
+            "malformed",
         ),
     ];
     for (bytes, expected) in rows {
