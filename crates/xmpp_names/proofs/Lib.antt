@@ -1,0 +1,9 @@
+pub mod ScopeRuns
+pub mod DeclarationRuns
+pub mod Reordered
+pub mod Expanded
+pub mod Parted
+pub mod EndLaws
+pub mod NameLaws
+pub mod StartLaws
+mod Worked

@@ -1,0 +1,9 @@
+pub mod Scopes
+pub mod Names
+pub mod Declarations
+pub mod Expansion
+pub mod Starts
+pub mod TagView
+pub mod Ends
+pub mod Headers
+pub mod Grammar

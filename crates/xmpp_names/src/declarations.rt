@@ -1,0 +1,90 @@
+//! Namespace declarations among the attributes of a tag.
+ghost use Rattle.std.specs.Prelude.{◌≡◌, map, IfOk, IfErr};
+ghost use Rattle.std.specs.List.{list_all};
+ghost use Rattle.std.specs.Option.{option_map};
+ghost use Rattle.xmpp_names.specs.Declarations;
+ghost use Rattle.xmpp_names.specs.Declarations.{bindings_of, others_of};
+ghost use Rattle.xmpp_tokens.specs.RawTags.{attribute_of};
+
+use crate::faults::StartFault;
+use crate::names::split_name;
+use crate::scopes::{Binding, XML_NAMESPACE};
+use std::alloc::Global;
+use xmpp_edge::Text;
+use xmpp_tokens::RawAttribute;
+
+/// The namespace that the prefix `xmlns` is bound to (Namespaces in XML 1.0, section 3).
+const XMLNS_NAMESPACE: &str = "http://www.w3.org/2000/xmlns/";
+
+/// The namespace declarations of a tag, and its other attributes, each in order.
+#[derive(Drop)]
+pub(crate) struct PartedAttributes {
+    pub(crate) bindings: Vec<Binding>,
+    pub(crate) others: Vec<RawAttribute>,
+}
+
+// The prefix that an attribute with this name declares, if it is a declaration.
+#[tactic(auto, unfolding(crate::specs::Declarations::declared_prefix))]
+fn declared_prefix(name: &str) -> Option<&str>
+    ensures { option_map (λ s. s.now) result ≡ Declarations.declared_prefix name.now }
+{
+    if name == "xmlns" {
+        return Some("");
+    }
+    let (prefix, local) = split_name(name);
+    if prefix == "xmlns" { Some(local) } else { None }
+}
+
+// Declarations and other attributes apart.
+pub(crate) fn part(
+    alloc: Global,
+    attributes: Vec<RawAttribute>,
+) -> Result<PartedAttributes, StartFault>
+    ensures bindings { IfOk result (λ p. p.bindings.items ≡ bindings_of (map attribute_of attributes.items)) }
+    ensures others { IfOk result (λ p. map attribute_of p.others.items ≡ others_of (map attribute_of attributes.items)) }
+    ensures err { IfErr result (λ e. e ≡ StartFault.NoMemory) }
+{
+    let mut bindings = Vec::new(alloc);
+    let mut others = Vec::new(alloc);
+    for attribute in attributes {
+        match declared_prefix(attribute.name.as_str()) {
+            Some(prefix) => {
+                let prefix = Text::from_str(alloc, prefix)?;
+                bindings.push(Binding {
+                    prefix,
+                    ns: attribute.value,
+                })?;
+            }
+            None => others.push(attribute)?,
+        }
+    }
+    Ok(PartedAttributes { bindings, others })
+}
+
+// Whether a declaration may be made.
+#[tactic(auto, unfolding(crate::specs::Declarations::may_declare))]
+fn may_declare(binding: &Binding) -> bool
+    ensures { result ≡ Declarations.may_declare binding.now }
+{
+    let prefix = binding.prefix.as_str();
+    let ns = binding.ns.as_str();
+    if prefix == "xml" {
+        return ns == XML_NAMESPACE;
+    }
+    prefix != "xmlns"
+        && ns != XML_NAMESPACE
+        && ns != XMLNS_NAMESPACE
+        && (prefix.is_empty() || !ns.is_empty())
+}
+
+// Whether each declaration may be made.
+pub(crate) fn all_may_declare(bindings: &[Binding]) -> bool
+    ensures { result ≡ list_all Declarations.may_declare bindings.now }
+{
+    for binding in bindings {
+        if !may_declare(binding) {
+            return false;
+        }
+    }
+    true
+}

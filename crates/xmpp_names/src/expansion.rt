@@ -1,0 +1,144 @@
+//! Expanded names of elements and attributes.
+ghost use Rattle.std.specs.Prelude.{◌≡◌, ◌++◌, Some, map, IfOk};
+ghost use Rattle.std.specs.Option.{option_map};
+ghost use Rattle.xmpp_names.specs.Expansion;
+ghost use Rattle.xmpp_names.specs.Expansion.{borrowed_name};
+ghost use Rattle.xmpp_names.specs.Scopes.{scope_of};
+ghost use Rattle.xmpp_tokens.specs.RawTags.{attribute_of};
+ghost use Rattle.xmpp_tokens.specs.Tags.{names_of};
+
+use crate::index::indexed_names;
+use crate::names::split_name;
+use crate::scopes::{Binding, bound_in};
+use std::alloc::Global;
+use xmpp_edge::{NoMemory, Text};
+use xmpp_tokens::RawAttribute;
+
+/// Up to so many declarations in one tag are looked through in turn.
+const FEW: usize = 16;
+
+/// An attribute with its expanded name (Namespaces in XML 1.0, section 2.1).
+#[derive(Debug, Drop)]
+pub struct ExpandedAttribute {
+    /// The namespace name; empty where there is none.
+    pub ns: Text,
+    /// The local name.
+    pub name: Text,
+    /// The value.
+    pub value: Text,
+}
+
+/// An expanded name, borrowed. The order is that of the local names first: of attributes in one tag with one local
+/// name, each has a prefix of its own, so that their namespaces together are no longer than their declarations.
+#[derive(Clone, Copy, PartialEq, Eq, PartialOrd, Ord)]
+pub(crate) struct ExpandedName<'a> {
+    pub(crate) local: &'a str,
+    pub(crate) ns: &'a str,
+}
+
+// The namespace of an element whose name has this prefix.
+#[tactic(auto, unfolding(crate::specs::Expansion::element_ns))]
+pub(crate) fn element_ns<'a>(
+    own: &'a [Binding],
+    stack: &'a [Vec<Binding>],
+    prefix: &str,
+) -> Option<&'a str>
+    ensures { option_map (λ s. s.now) result ≡ Expansion.element_ns (own.now ++ scope_of stack.now) prefix.now }
+{
+    if prefix.is_empty() {
+        return Some(bound_in(own, stack, prefix).unwrap_or(""));
+    }
+    if prefix == "xmlns" {
+        return None;
+    }
+    bound_in(own, stack, prefix)
+}
+
+// The namespace of an attribute whose name has this prefix.
+#[tactic(auto, unfolding(crate::specs::Expansion::attribute_ns))]
+fn attribute_ns<'a>(own: &'a [Binding], stack: &'a [Vec<Binding>], prefix: &str) -> Option<&'a str>
+    ensures { option_map (λ s. s.now) result ≡ Expansion.attribute_ns (own.now ++ scope_of stack.now) prefix.now }
+{
+    if prefix.is_empty() {
+        return Some("");
+    }
+    bound_in(own, stack, prefix)
+}
+
+// The expanded name of an attribute.
+#[tactic(auto, unfolding(crate::specs::Expansion::expanded_name))]
+fn expanded_name<'a>(
+    own: &'a [Binding],
+    stack: &'a [Vec<Binding>],
+    name: &'a str,
+) -> Option<ExpandedName<'a>>
+    ensures { option_map borrowed_name result ≡ Expansion.expanded_name (own.now ++ scope_of stack.now) name.now }
+{
+    let (prefix, local) = split_name(name);
+    let ns = attribute_ns(own, stack, prefix)?;
+    Some(ExpandedName { local, ns })
+}
+
+// The expanded names of attributes, in order, if each has one.
+pub(crate) fn expanded_names<'a>(
+    alloc: Global,
+    own: &'a [Binding],
+    stack: &'a [Vec<Binding>],
+    others: &'a [RawAttribute],
+) -> Result<Option<Vec<ExpandedName<'a>>>, NoMemory>
+    ensures { IfOk result (λ o. option_map (λ v. map borrowed_name v.items) o
+        ≡ Expansion.expanded_names (own.now ++ scope_of stack.now) (names_of (map attribute_of others.now))) }
+{
+    if own.len() > FEW {
+        return indexed_names(alloc, own, stack, others);
+    }
+    let mut names = Vec::with_capacity(alloc, others.len())?;
+    for attribute in others {
+        match expanded_name(own, stack, attribute.name.as_str()) {
+            Some(name) => names.push(name)?,
+            None => return Ok(None),
+        }
+    }
+    Ok(Some(names))
+}
+
+// An attribute with its expanded name, if it has one.
+fn expanded_attribute(
+    alloc: Global,
+    own: &[Binding],
+    stack: &[Vec<Binding>],
+    attribute: RawAttribute,
+) -> Result<Option<ExpandedAttribute>, NoMemory>
+    ensures { IfOk result (λ o. o
+        ≡ Expansion.expanded_attribute (own.now ++ scope_of stack.now) (attribute_of attribute)) }
+{
+    let RawAttribute { name, value } = attribute;
+    match expanded_name(own, stack, name.as_str()) {
+        Some(expanded) => Ok(Some(ExpandedAttribute {
+            ns: Text::from_str(alloc, expanded.ns)?,
+            name: Text::from_str(alloc, expanded.local)?,
+            value,
+        })),
+        None => Ok(None),
+    }
+}
+
+// Attributes with their expanded names, in order, if each has one.
+pub(crate) fn expanded_attributes(
+    alloc: Global,
+    own: &[Binding],
+    stack: &[Vec<Binding>],
+    others: Vec<RawAttribute>,
+) -> Result<Option<Vec<ExpandedAttribute>>, NoMemory>
+    ensures { IfOk result (λ o. option_map (λ v. v.items) o
+        ≡ Expansion.expanded_attributes (own.now ++ scope_of stack.now) (map attribute_of others.items)) }
+{
+    let mut attributes = Vec::with_capacity(alloc, others.len())?;
+    for attribute in others {
+        match expanded_attribute(alloc, own, stack, attribute)? {
+            Some(expanded) => attributes.push(expanded)?,
+            None => return Ok(None),
+        }
+    }
+    Ok(Some(attributes))
+}

@@ -1,0 +1,28 @@
+//! Namespaces in the tags of an XMPP stream: scopes, expanded names, and a whole tag as one value (Namespaces in XML
+//! 1.0, third edition; RFC 6120, sections 4.8 and 11).
+#![tactic(auto)]
+
+mod declarations;
+mod distinct;
+mod ends;
+mod expansion;
+mod faults;
+mod headers;
+mod index;
+mod laws;
+mod limits;
+mod names;
+mod scopes;
+mod starts;
+
+pub use ends::{end_tags_are_read, read_end};
+pub use expansion::ExpandedAttribute;
+pub use faults::StartFault;
+pub use headers::{Header, header_of, opens_stream};
+pub use laws::{declarations_are_tested, names_are_split, start_refusals_are_due, starts_are_read};
+pub use limits::TagLimits;
+pub use scopes::Binding;
+pub use starts::{Tag, read_start};
+
+#[cfg(test)]
+mod tests;

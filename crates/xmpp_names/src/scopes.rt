@@ -1,0 +1,63 @@
+//! Which namespace a prefix is bound to.
+ghost use Rattle.std.specs.Prelude.{◌≡◌, ◌++◌};
+ghost use Rattle.std.specs.Option.{option_map};
+ghost use Rattle.xmpp_names.specs.Scopes;
+ghost use Rattle.xmpp_names.specs.Scopes.{bound, scope_of};
+
+use xmpp_edge::Text;
+
+/// The namespace that the prefix `xml` is bound to (Namespaces in XML 1.0, section 3).
+pub(crate) const XML_NAMESPACE: &str = "http://www.w3.org/XML/1998/namespace";
+
+/// A prefix and the namespace that a declaration binds it to (Namespaces in XML 1.0, section 3).
+#[derive(Debug, Drop)]
+pub struct Binding {
+    /// The prefix; empty for the default namespace.
+    pub prefix: Text,
+    /// The namespace name; empty where the default namespace is undeclared.
+    pub ns: Text,
+}
+
+// What the first binding of a prefix says.
+pub(crate) fn first_bound<'a>(bindings: &'a [Binding], prefix: &str) -> Option<&'a str>
+    ensures { option_map (λ s. s.now) result ≡ Scopes.first_bound bindings.now prefix.now }
+{
+    for binding in bindings {
+        if binding.prefix.as_str() == prefix {
+            return Some(binding.ns.as_str());
+        }
+    }
+    None
+}
+
+// What the innermost binding of a prefix says, in a stack whose last list is the innermost.
+pub(crate) fn stack_bound<'a>(stack: &'a [Vec<Binding>], prefix: &str) -> Option<&'a str>
+    ensures { option_map (λ s. s.now) result ≡ Scopes.first_bound (scope_of stack.now) prefix.now }
+{
+    let mut rest = stack;
+    while let Some((inner, outer)) = rest.split_last() {
+        if let Some(ns) = first_bound(inner.as_slice(), prefix) {
+            return Some(ns);
+        }
+        rest = outer;
+    }
+    None
+}
+
+// The namespace that a prefix stands for in a tag with declarations of its own, inside a stack of others.
+#[tactic(auto, unfolding(crate::specs::Scopes::bound))]
+pub(crate) fn bound_in<'a>(
+    own: &'a [Binding],
+    stack: &'a [Vec<Binding>],
+    prefix: &str,
+) -> Option<&'a str>
+    ensures { option_map (λ s. s.now) result ≡ bound (own.now ++ scope_of stack.now) prefix.now }
+{
+    if prefix == "xml" {
+        return Some(XML_NAMESPACE);
+    }
+    match first_bound(own, prefix) {
+        Some(ns) => Some(ns),
+        None => stack_bound(stack, prefix),
+    }
+}

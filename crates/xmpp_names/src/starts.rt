@@ -1,0 +1,207 @@
+//! Start tags with their names expanded.
+ghost use Rattle.std.specs.Prelude.{◌≡◌, ◌≢◌, ◌++◌, Ok, Err, Some, true, map, length, IfOk, IfErr};
+ghost use Rattle.std.specs.List.{list_any};
+ghost use Rattle.std.specs.Option.{option_map, is_some};
+ghost use Rattle.xmpp_names.specs.Scopes.{Scope, scope_of};
+ghost use Rattle.xmpp_names.specs.Starts;
+ghost use Rattle.xmpp_names.specs.Starts.{attributes_in, limited, parted_tag, start_of};
+ghost use Rattle.xmpp_names.specs.TagView.{tag_view};
+ghost use Rattle.xmpp_names.specs.declared.limits.TagLimits as declared_limits;
+ghost use Rattle.xmpp_tokens.specs.RawTags.{attribute_of, raw_tag};
+ghost use Rattle.xmpp_tokens.specs.Tags.{tag_of};
+
+use crate::declarations::{PartedAttributes, all_may_declare, part};
+use crate::distinct::are_distinct;
+use crate::expansion::{ExpandedAttribute, element_ns, expanded_attributes, expanded_names};
+use crate::faults::StartFault;
+use crate::limits::TagLimits;
+use crate::names::split_name;
+use crate::scopes::Binding;
+use std::alloc::Global;
+use xmpp_edge::{NoMemory, Text};
+use xmpp_tokens::{RawAttribute, RawTag, StartTag, TagFault, read_tag, spelled_value_len};
+
+/// A start tag, or the tag of an empty element, with its names expanded (Namespaces in XML 1.0, section 2.1).
+#[derive(Debug, Drop)]
+pub struct Tag {
+    /// The element's name as it is spelled, with its prefix: its end tag repeats it.
+    pub spelled: Text,
+    /// The element's namespace name; empty where it has none.
+    pub ns: Text,
+    /// The element's local name.
+    pub name: Text,
+    /// The attributes in the order in which they are given, declarations left out. No two have one expanded name.
+    pub attributes: Vec<ExpandedAttribute>,
+    /// The declarations in the order in which they are given.
+    pub bindings: Vec<Binding>,
+    /// Whether it is the tag of an empty element, which ends in `/>`.
+    pub empty: bool,
+}
+
+// Whether a declaration's namespace name is past a limit.
+fn is_long(most: u32, binding: &Binding) -> bool
+    ensures { result ≡ Starts.is_long most binding.now }
+{
+    spelled_value_len(binding.ns.as_str().as_bytes()) > most as usize
+}
+
+// Whether some declaration's namespace name is past a limit.
+fn has_long(most: u32, bindings: &[Binding]) -> bool
+    ensures { result ≡ list_any (Starts.is_long most) bindings.now }
+{
+    for binding in bindings {
+        if is_long(most, binding) {
+            return true;
+        }
+    }
+    false
+}
+
+// The limit that so many attributes and these declarations are past.
+#[tactic(auto, unfolding(crate::specs::Starts::past_limits))]
+fn past_limits(limits: TagLimits, count: usize, bindings: &[Binding]) -> Option<StartFault>
+    ensures { result ≡ Starts.past_limits limits count bindings.now }
+{
+    if count > limits.attributes as usize {
+        return Some(StartFault::TooManyAttributes);
+    }
+    if has_long(limits.namespace_bytes, bindings) {
+        return Some(StartFault::LongNamespace);
+    }
+    None
+}
+
+// Whether each attribute has an expanded name, and no two have the same.
+fn have_names(
+    alloc: Global,
+    own: &[Binding],
+    stack: &[Vec<Binding>],
+    others: &[RawAttribute],
+) -> Result<bool, NoMemory>
+    ensures { IfOk result (λ b. b ≡ is_some (attributes_in (own.now ++ scope_of stack.now) (map attribute_of others.now))) }
+{
+    match expanded_names(alloc, own, stack, others)? {
+        Some(mut names) => Ok(are_distinct(names.as_mut_slice())),
+        None => Ok(false),
+    }
+}
+
+// Whether a name, declarations and other attributes say a tag.
+fn is_well_formed(
+    alloc: Global,
+    stack: &[Vec<Binding>],
+    name: &str,
+    parted: &PartedAttributes,
+) -> Result<bool, NoMemory>
+    ensures { IfOk result (λ b. b ≡ Starts.is_well_formed (scope_of stack.now) name.now parted.now.bindings.items (map attribute_of parted.now.others.items)) }
+{
+    let own = parted.bindings.as_slice();
+    if !all_may_declare(own) || element_ns(own, stack, split_name(name).0).is_none() {
+        return Ok(false);
+    }
+    have_names(alloc, own, stack, parted.others.as_slice())
+}
+
+// The tag, its memory taken.
+fn finished(
+    alloc: Global,
+    stack: &[Vec<Binding>],
+    spelled: Text,
+    parted: PartedAttributes,
+    empty: bool,
+) -> Result<Option<Tag>, NoMemory>
+    requires { Starts.is_well_formed (scope_of stack.now) spelled parted.bindings.items (map attribute_of parted.others.items) ≡ true }
+    ensures { IfOk result (λ o. option_map tag_view o
+        ≡ parted_tag (scope_of stack.now) spelled parted.bindings.items (map attribute_of parted.others.items) empty) }
+{
+    let PartedAttributes { bindings, others } = parted;
+    let (prefix, local) = split_name(spelled.as_str());
+    let Some(ns) = element_ns(bindings.as_slice(), stack, prefix) else {
+        return Ok(None);
+    };
+    let ns = Text::from_str(alloc, ns)?;
+    let name = Text::from_str(alloc, local)?;
+    match expanded_attributes(alloc, bindings.as_slice(), stack, others)? {
+        Some(attributes) => Ok(Some(Tag {
+            spelled,
+            ns,
+            name,
+            attributes,
+            bindings,
+            empty,
+        })),
+        None => Ok(None),
+    }
+}
+
+// The tag within limits. Nothing that a namespace name is copied for comes before them.
+fn expand(
+    alloc: Global,
+    limits: TagLimits,
+    stack: &[Vec<Binding>],
+    count: usize,
+    spelled: Text,
+    parted: PartedAttributes,
+    empty: bool,
+) -> Result<Tag, StartFault>
+    ensures ok { IfOk result (λ t. limited limits count parted.bindings.items
+        (parted_tag (scope_of stack.now) spelled parted.bindings.items (map attribute_of parted.others.items) empty) ≡ Ok (tag_view t)) }
+    ensures err { IfErr result (λ e. e ≢ StartFault.NoMemory → limited limits count parted.bindings.items
+        (parted_tag (scope_of stack.now) spelled parted.bindings.items (map attribute_of parted.others.items) empty) ≡ Err e) }
+{
+    if !is_well_formed(alloc, stack, spelled.as_str(), &parted)? {
+        return Err(StartFault::NotWellFormed);
+    }
+    if let Some(fault) = past_limits(limits, count, parted.bindings.as_slice()) {
+        return Err(fault);
+    }
+    match finished(alloc, stack, spelled, parted, empty)? {
+        Some(tag) => Ok(tag),
+        None => Err(StartFault::NotWellFormed),
+    }
+}
+
+// A start tag as it is spelled.
+#[tactic(auto, unfolding(crate::specs::Starts::start_of))]
+fn read_spelled(alloc: Global, bytes: &[u8]) -> Result<StartTag, StartFault>
+    ensures ok { IfOk result (λ t. tag_of bytes.now ≡ Ok (raw_tag (RawTag.Start t))) }
+    ensures err { IfErr result (λ e. e ≢ StartFault.NoMemory → (limits : declared_limits.TagLimits) (scope : Scope) → start_of limits scope bytes.now ≡ Err e) }
+{
+    match read_tag(alloc, bytes) {
+        Ok(RawTag::Start(tag)) => Ok(tag),
+        Ok(RawTag::End(_)) => Err(StartFault::NotWellFormed),
+        Err(TagFault::Restricted) => Err(StartFault::Restricted),
+        Err(TagFault::NotWellFormed) => Err(StartFault::NotWellFormed),
+        Err(TagFault::NoMemory) => Err(StartFault::NoMemory),
+    }
+}
+
+/// Reads a start tag, or the tag of an empty element, off its whole bytes, from its `<` to its `>` (XML 1.0, section
+/// 3.1; Namespaces in XML 1.0). `scope` has the declarations of the elements that it stands in, the outermost first;
+/// its own come before them.
+///
+/// Of the refusals the first that fits is told. `Restricted` comes exactly where a reference inside quotes has an
+/// unknown name. `NotWellFormed` comes exactly where the bytes are no start tag, a declaration may not be made, a
+/// prefix is undeclared, the element has the prefix `xmlns`, or two attributes have one expanded name.
+/// `TooManyAttributes` comes exactly where it has more attributes than `limits.attributes`, declarations counted, and
+/// `LongNamespace` exactly where a declared namespace name, escaped as a written value, has more bytes than
+/// `limits.namespace_bytes`. A refusal leaves nothing behind.
+#[tactic(auto, unfolding(crate::specs::Starts::start_of))]
+pub fn read_start(
+    alloc: Global,
+    limits: TagLimits,
+    scope: &[Vec<Binding>],
+    bytes: &[u8],
+) -> Result<Tag, StartFault>
+    ensures ok { IfOk result (λ t. start_of limits (scope_of scope.now) bytes.now ≡ Ok (tag_view t)) }
+    ensures err { IfErr result (λ e. e ≢ StartFault.NoMemory → start_of limits (scope_of scope.now) bytes.now ≡ Err e) }
+{
+    let StartTag {
+        name,
+        attributes,
+        empty,
+    } = read_spelled(alloc, bytes)?;
+    let count = attributes.len();
+    let parted = part(alloc, attributes)?;
+    expand(alloc, limits, scope, count, name, parted, empty)
+}
