@@ -4,5 +4,6 @@ pub mod HousedFacts
 pub mod PrevidDigits
 pub mod ResumeFacts
 pub mod RowFacts
+pub mod StoredFacts
 pub mod TableFacts
 mod Worked

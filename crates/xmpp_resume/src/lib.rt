@@ -6,6 +6,7 @@ mod binding;
 mod previds;
 mod resumption;
 mod session;
+mod sought;
 mod table;
 
 pub use answers::{AlreadyEnabled, Bound, Ended, RESUMABLE_FOR, ResumeFault, ResumeOk};

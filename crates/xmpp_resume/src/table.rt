@@ -5,9 +5,12 @@ ghost use Rattle.std.specs.List.{find};
 ghost use Rattle.xmpp_pool.specs.Queues.{PoolView, list_of};
 ghost use Rattle.xmpp_resume.specs.Housed.{IsFree, IsHoused};
 ghost use Rattle.xmpp_resume.specs.Rows.{IsTable, row_at, row_named, row_of, with_row, without};
+ghost use Rattle.xmpp_resume.specs.Stored.{Meets, passes, seeks};
 
 use crate::session::{Row, SessionView};
+use crate::sought::Sought;
 use std::alloc::Global;
+use std::collections::HashMap;
 use std::marker::Model;
 use xmpp_acks::{AckEnd, MOST_UNACKNOWLEDGED, TooHigh};
 use xmpp_edge::{Bytes, NoMemory, Text};
@@ -18,20 +21,21 @@ use xmpp_pool::{Pool, QueueId};
 #[derive(Drop)]
 pub struct Sessions {
     numbers: Vec<u64>,
-    rows: Vec<Row>,
+    rows: HashMap<u64, Row>,
     next: u64,
 }
 
 impl Model for Sessions {
-    ghost use Rattle.std.specs.Prelude.{◌≡◌, ◌-◌, map, min, vec_len, vec_capacity};
-    ghost use Rattle.xmpp_resume.specs.Moves.{number_of};
-    ghost use Rattle.xmpp_resume.specs.Rows.{IsTable, Table};
+    ghost use Rattle.std.specs.HashMap as hash;
+    ghost use Rattle.std.specs.Prelude.{◌-◌, min, nat_eq, vec_len, vec_capacity};
+    ghost use Rattle.xmpp_resume.specs.Rows.{Table};
+    ghost use Rattle.xmpp_resume.specs.Stored.{IsStored, collected};
 
     ghost Value = { Table };
 
-    ghost view = { λ s. record { rows = s.rows.items; next = s.next; spare = min (vec_capacity s.rows - vec_len s.rows) (vec_capacity s.numbers - vec_len s.numbers) } };
+    ghost view = { λ s. record { rows = collected (hash.get nat_eq s.rows) s.numbers.items; next = s.next; spare = min (hash.spare s.rows) (vec_capacity s.numbers - vec_len s.numbers) } };
 
-    ghost invariant = { λ s. (s.numbers.items ≡ map number_of s.rows.items) × IsTable s.rows.items s.next };
+    ghost invariant = { λ s. IsStored (hash.get nat_eq s.rows) s.numbers.items s.next (collected (hash.get nat_eq s.rows) s.numbers.items) };
 }
 
 impl Sessions {
@@ -44,7 +48,7 @@ impl Sessions {
     {
         Sessions {
             numbers: Vec::new(alloc),
-            rows: Vec::new(alloc),
+            rows: HashMap::new(alloc),
             next: first,
         }
     }
@@ -87,7 +91,7 @@ impl Sessions {
     pub(crate) fn row(&self, number: u64) -> Option<&Row>
         ensures { option_copied result ≡ row_of number self.now.rows }
     {
-        self.rows.get(self.place(number)?)
+        self.rows.get(&number)
     }
 
     /// What is told of a session. `None` where no session has the number.
@@ -104,13 +108,35 @@ impl Sessions {
         Some(&self.row(number)?.end)
     }
 
+    // Whether there is a session with a number, and it is sought.
+    fn meets(&self, number: u64, sought: &Sought) -> bool
+        ensures { result ≡ passes (seeks sought.now) (row_of number self.now.rows) }
+    {
+        match self.row(number) {
+            Some(row) => row.is(sought),
+            None => false,
+        }
+    }
+
+    // A session that is sought, by going through all.
+    fn scan(&self, sought: &Sought) -> Option<u64>
+        ensures number { MatchOption result (find (seeks sought.now) self.now.rows ≡ None) (λ n. Meets (seeks sought.now) n self.now.rows) }
+        ensures table { IsTable self.now.rows self.now.next }
+    {
+        for number in self.numbers() {
+            if self.meets(*number, sought) {
+                return Some(*number);
+            }
+        }
+        None
+    }
+
     /// The number of the session on a connection. `None` where it has none.
     pub fn by_conn(&self, conn: u64) -> Option<u64>
         ensures number { result ≡ option_map number_of (row_at conn self.now.rows) }
         ensures table { IsTable self.now.rows self.now.next }
     {
-        let row = self.rows.iter().find(|row| row.shown.conn == Some(conn))?;
-        Some(row.shown.number)
+        self.scan(&Sought::Conn(conn))
     }
 
     /// The number of the session of an account with a resource. `None` where there is none.
@@ -118,9 +144,7 @@ impl Sessions {
         ensures number { result ≡ option_map number_of (row_named account resource.now self.now.rows) }
         ensures table { IsTable self.now.rows self.now.next }
     {
-        let row = self.rows.iter().find(|row| row.shown.account == account
-            && row.shown.resource.as_str() == resource)?;
-        Some(row.shown.number)
+        self.scan(&Sought::Named(account, resource))
     }
 
     // Adds a session under the next number, last.
@@ -150,8 +174,8 @@ impl Sessions {
             Ok(()) => {}
             Err(_) => unreachable!(),
         }
-        match self.rows.push(row) {
-            Ok(()) => {}
+        match self.rows.insert(number, row) {
+            Ok(_) => {}
             Err(_) => unreachable!(),
         }
         self.next = number + 1;
@@ -167,7 +191,7 @@ impl Sessions {
     {
         let at = self.place(number)?;
         let _ = self.numbers.remove(at);
-        Some(self.rows.remove(at))
+        self.rows.remove(&number)
     }
 
     // Writes that a session's connection is lost.
@@ -177,11 +201,8 @@ impl Sessions {
         ensures next { self.new.next ≡ self.old.next }
         ensures kept { self.old.spare ≤ self.new.spare }
     {
-        match self.place(number) {
-            Some(at) => {
-                let row = &mut self.rows[at];
-                row.park(now);
-            }
+        match self.rows.get_mut(&number) {
+            Some(row) => row.park(now),
             None => unreachable!(),
         }
     }
@@ -194,11 +215,8 @@ impl Sessions {
         ensures kept { self.old.spare ≤ self.new.spare }
         ensures housed { (pool : PoolView) → IsHoused self.old.rows pool → IsHoused self.new.rows pool }
     {
-        match self.place(number) {
-            Some(at) => {
-                let row = &mut self.rows[at];
-                row.enable(resume);
-            }
+        match self.rows.get_mut(&number) {
+            Some(row) => row.enable(resume),
             None => unreachable!(),
         }
     }
@@ -211,11 +229,8 @@ impl Sessions {
         ensures kept { self.old.spare ≤ self.new.spare }
         ensures housed { (pool : PoolView) → IsHoused self.old.rows pool → IsHoused self.new.rows pool }
     {
-        match self.place(number) {
-            Some(at) => {
-                let row = &mut self.rows[at];
-                row.present(available, priority);
-            }
+        match self.rows.get_mut(&number) {
+            Some(row) => row.present(available, priority),
             None => unreachable!(),
         }
     }
@@ -228,11 +243,8 @@ impl Sessions {
         ensures kept { self.old.spare ≤ self.new.spare }
         ensures housed { (pool : PoolView) → IsHoused self.old.rows pool → IsHoused self.new.rows pool }
     {
-        match self.place(number) {
-            Some(at) => {
-                let row = &mut self.rows[at];
-                row.copy(on);
-            }
+        match self.rows.get_mut(&number) {
+            Some(row) => row.copy(on),
             None => unreachable!(),
         }
     }
@@ -245,11 +257,8 @@ impl Sessions {
         ensures kept { self.old.spare ≤ self.new.spare }
         ensures housed { (pool : PoolView) → IsHoused self.old.rows pool → IsHoused self.new.rows pool }
     {
-        match self.place(number) {
-            Some(at) => {
-                let row = &mut self.rows[at];
-                row.handle();
-            }
+        match self.rows.get_mut(&number) {
+            Some(row) => row.handle(),
             None => unreachable!(),
         }
     }
@@ -270,11 +279,8 @@ impl Sessions {
         ensures room { pool.old.spare ≤ pool.new.spare }
         ensures housed { IsHoused self.new.rows pool.new }
     {
-        match self.place(number) {
-            Some(at) => {
-                let row = &mut self.rows[at];
-                row.ack(pool, h)
-            }
+        match self.rows.get_mut(&number) {
+            Some(row) => row.ack(pool, h),
             None => unreachable!(),
         }
     }
@@ -294,11 +300,8 @@ impl Sessions {
         ensures room { pool.old.spare ≤ pool.new.spare + 1 }
         ensures housed { IsHoused self.new.rows pool.new }
     {
-        match self.place(number) {
-            Some(at) => {
-                let row = &mut self.rows[at];
-                row.put(pool, bytes);
-            }
+        match self.rows.get_mut(&number) {
+            Some(row) => row.put(pool, bytes),
             None => unreachable!(),
         }
     }
@@ -317,20 +320,10 @@ impl Sessions {
         ensures room { pool.old.spare ≤ pool.new.spare }
         ensures housed { IsHoused self.new.rows pool.new }
     {
-        match self.place(number) {
-            Some(at) => {
-                let row = &mut self.rows[at];
-                row.attach(pool, conn, queue);
-            }
+        match self.rows.get_mut(&number) {
+            Some(row) => row.attach(pool, conn, queue),
             None => unreachable!(),
         }
-    }
-
-    // A session that can be resumed no more.
-    fn expired_row(&self, now: u64) -> Option<&Row>
-        ensures { option_copied result ≡ find (is_expired now) self.now.rows }
-    {
-        self.rows.iter().find(|row| row.is_expired(now))
     }
 
     // The number of a session that can be resumed no more.
@@ -338,8 +331,6 @@ impl Sessions {
         ensures number { MatchOption result (find (is_expired now) self.now.rows ≡ None) (λ n. HasExpired now n self.now.rows) }
         ensures table { IsTable self.now.rows self.now.next }
     {
-        let _ = &self.next;
-        let row = self.expired_row(now)?;
-        Some(row.shown.number)
+        self.scan(&Sought::Expired(now))
     }
 }

@@ -1,12 +1,26 @@
-use Rattle.std.proofs.Common.{◌-◌, ◌^◌, ◌<◌, ap, arith}
-use Rattle.xmpp_resume.proofs.TableFacts.{pushed}
+use Rattle.std.proofs.Common.{◌+◌, ◌-◌, ◌^◌, ◌<◌, [], ◌∷◌, ◌++◌, ap, arith}
+use Rattle.std.specs.Prelude.{nat_eq}
+use Rattle.std.specs.HashMap as hash
+use Rattle.xmpp_resume.proofs.StoredFacts.{ShownAs, opened, pushed_row}
+use Rattle.xmpp_resume.specs.Moves.{fresh_row}
 use Rattle.xmpp_resume.specs.Rows.{Table}
+use Rattle.xmpp_resume.specs.Stored.{IsStored}
 use Rattle.xmpp_resume.proofs.table.Sessions.push_row.Goals as goal
+use Rattle.xmpp_resume.proofs.table.Sessions.push_row.Goals.{After-self-1}
 
-pub invariant_of-self : goal.invariant_of-self
-invariant_of-self c =
-    let rows = ap (λ (t : Table). t.rows) c.self.view_is in
+pushed : (c : After-self-1) → ShownAs (hash.get nat_eq c.insert.new.self) c.push.new.self.items (c.self.inside.next + 1) (c.args.self.now.rows ++ fresh_row c.self.inside.next c.args.account c.args.resource c.args.conn c.args.queue ∷ [])
+pushed c =
+    let seen = ap (λ (t : Table). t.rows) c.self.view_is in
     let next = ap (λ (t : Table). t.next) c.self.view_is in
     let low : c.self.inside.next < 2 ^ 64 - 1 = omega arith in
-    rw (c.in-Ok-push.ensures.items, c.in-Ok.ensures.items, c.fresh-shown.ensures, c.new.ensures)
-    (pushed c.self.inside.next c.args.account c.args.conn c.args.queue c.args.resource c.self.inside.numbers.items c.self.inside.rows.items c.args.self.now.rows rows c.self.invariant low c.requires.conn c.requires.name)
+    let stored : IsStored (hash.get nat_eq c.self.inside.rows) c.self.inside.numbers.items c.self.inside.next c.args.self.now.rows = opened (hash.get nat_eq c.self.inside.rows) c.self.inside.numbers.items c.self.inside.next c.args.self.now.rows seen c.self.invariant in
+    let updates = rw (c.fresh-shown.ensures, c.new.ensures) at c.in-Ok-insert.ensures.updates.0 in
+    rw c.in-Ok.ensures.items
+    (pushed_row c.self.inside.next c.args.account c.args.conn c.args.queue c.args.resource (hash.get nat_eq c.self.inside.rows) (hash.get nat_eq c.insert.new.self) c.self.inside.numbers.items c.args.self.now.rows
+    stored low c.requires.conn c.requires.name updates)
+
+pub invariant_of-self : goal.invariant_of-self
+invariant_of-self c = (pushed c).kept
+
+pub returns-clause-rows : goal.returns-clause-rows
+returns-clause-rows c = let next = ap (λ (t : Table). t.next) c.self.view_is in rw (← next) (pushed c).shown
