@@ -1,6 +1,7 @@
 pub mod BindFacts
 pub mod ExpiryFacts
 pub mod HousedFacts
+pub mod IndexFacts
 pub mod PrevidDigits
 pub mod ResumeFacts
 pub mod RowFacts

@@ -6,3 +6,4 @@ pub mod Previds
 pub mod Rows
 pub mod Moves
 pub mod Stored
+pub mod Indexed

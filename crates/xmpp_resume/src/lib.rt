@@ -3,6 +3,7 @@
 
 mod answers;
 mod binding;
+mod index;
 mod previds;
 mod resumption;
 mod session;

@@ -7,6 +7,7 @@ ghost use Rattle.xmpp_resume.specs.Housed.{IsFree, IsHoused};
 ghost use Rattle.xmpp_resume.specs.Rows.{IsTable, row_at, row_named, row_of, with_row, without};
 ghost use Rattle.xmpp_resume.specs.Stored.{Meets, passes, seeks};
 
+use crate::index::{Index, mark};
 use crate::session::{Row, SessionView};
 use crate::sought::Sought;
 use std::alloc::Global;
@@ -22,20 +23,22 @@ use xmpp_pool::{Pool, QueueId};
 pub struct Sessions {
     numbers: Vec<u64>,
     rows: HashMap<u64, Row>,
+    index: Index,
     next: u64,
 }
 
 impl Model for Sessions {
     ghost use Rattle.std.specs.HashMap as hash;
     ghost use Rattle.std.specs.Prelude.{◌-◌, min, nat_eq, vec_len, vec_capacity};
+    ghost use Rattle.xmpp_resume.specs.Indexed.{IsIndexed};
     ghost use Rattle.xmpp_resume.specs.Rows.{Table};
     ghost use Rattle.xmpp_resume.specs.Stored.{IsStored, collected};
 
     ghost Value = { Table };
 
-    ghost view = { λ s. record { rows = collected (hash.get nat_eq s.rows) s.numbers.items; next = s.next; spare = min (hash.spare s.rows) (vec_capacity s.numbers - vec_len s.numbers) } };
+    ghost view = { λ s. record { rows = collected (hash.get nat_eq s.rows) s.numbers.items; next = s.next; spare = min (hash.spare s.rows) (min (hash.spare s.index.names) (vec_capacity s.numbers - vec_len s.numbers)) } };
 
-    ghost invariant = { λ s. IsStored (hash.get nat_eq s.rows) s.numbers.items s.next (collected (hash.get nat_eq s.rows) s.numbers.items) };
+    ghost invariant = { λ s. IsStored (hash.get nat_eq s.rows) s.numbers.items s.next (collected (hash.get nat_eq s.rows) s.numbers.items) × IsIndexed s.index (collected (hash.get nat_eq s.rows) s.numbers.items) };
 }
 
 impl Sessions {
@@ -49,6 +52,7 @@ impl Sessions {
         Sessions {
             numbers: Vec::new(alloc),
             rows: HashMap::new(alloc),
+            index: Index::new(alloc),
             next: first,
         }
     }
@@ -69,6 +73,7 @@ impl Sessions {
     {
         self.numbers.reserve(1)?;
         self.rows.reserve(1)?;
+        self.index.reserve(self.numbers.len().saturating_add(1))?;
         Ok(())
     }
 
@@ -118,6 +123,18 @@ impl Sessions {
         }
     }
 
+    // The session with a number, where there is one and it is sought.
+    fn checked(&self, number: Option<u64>, sought: &Sought) -> Option<u64>
+        ensures { MatchOption result (IfSome number (λ n. passes (seeks sought.now) (row_of n self.now.rows) ≡ false)) (λ n. Meets (seeks sought.now) n self.now.rows) }
+    {
+        let number = number?;
+        if self.meets(number, sought) {
+            Some(number)
+        } else {
+            None
+        }
+    }
+
     // A session that is sought, by going through all.
     fn scan(&self, sought: &Sought) -> Option<u64>
         ensures number { MatchOption result (find (seeks sought.now) self.now.rows ≡ None) (λ n. Meets (seeks sought.now) n self.now.rows) }
@@ -136,7 +153,12 @@ impl Sessions {
         ensures number { result ≡ option_map number_of (row_at conn self.now.rows) }
         ensures table { IsTable self.now.rows self.now.next }
     {
-        self.scan(&Sought::Conn(conn))
+        let sought = Sought::Conn(conn);
+        if self.index.whole {
+            self.checked(self.index.conns.get(&conn).copied(), &sought)
+        } else {
+            self.scan(&sought)
+        }
     }
 
     /// The number of the session of an account with a resource. `None` where there is none.
@@ -144,7 +166,13 @@ impl Sessions {
         ensures number { result ≡ option_map number_of (row_named account resource.now self.now.rows) }
         ensures table { IsTable self.now.rows self.now.next }
     {
-        self.scan(&Sought::Named(account, resource))
+        let sought = Sought::Named(account, resource);
+        let number = self.index.names.get(&mark(account, resource)).copied();
+        if number == Some(0) {
+            self.scan(&sought)
+        } else {
+            self.checked(number, &sought)
+        }
     }
 
     // Adds a session under the next number, last.
@@ -165,6 +193,7 @@ impl Sessions {
         ensures spare { self.old.spare ≤ self.new.spare + 1 }
     {
         let number = self.next;
+        let mark = mark(account, resource.as_str());
         let shown = SessionView::fresh(number, account, resource, conn);
         let row = Row {
             shown,
@@ -178,6 +207,8 @@ impl Sessions {
             Ok(_) => {}
             Err(_) => unreachable!(),
         }
+        self.index.enter(number, conn);
+        self.index.name(number, mark);
         self.next = number + 1;
         number
     }
@@ -191,7 +222,14 @@ impl Sessions {
     {
         let at = self.place(number)?;
         let _ = self.numbers.remove(at);
-        self.rows.remove(&number)
+        match self.rows.remove(&number) {
+            Some(row) => {
+                self.index.forget(number, row.shown.conn);
+                self.index.unname(number, mark(row.shown.account, row.shown.resource.as_str()));
+                Some(row)
+            }
+            None => unreachable!(),
+        }
     }
 
     // Writes that a session's connection is lost.
@@ -202,7 +240,11 @@ impl Sessions {
         ensures kept { self.old.spare ≤ self.new.spare }
     {
         match self.rows.get_mut(&number) {
-            Some(row) => row.park(now),
+            Some(row) => {
+                self.index.forget(number, row.shown.conn);
+                row.park(now);
+                self.index.wait(number);
+            }
             None => unreachable!(),
         }
     }
@@ -321,7 +363,11 @@ impl Sessions {
         ensures housed { IsHoused self.new.rows pool.new }
     {
         match self.rows.get_mut(&number) {
-            Some(row) => row.attach(pool, conn, queue),
+            Some(row) => {
+                self.index.forget(number, row.shown.conn);
+                row.attach(pool, conn, queue);
+                self.index.enter(number, conn);
+            }
             None => unreachable!(),
         }
     }
@@ -331,6 +377,15 @@ impl Sessions {
         ensures number { MatchOption result (find (is_expired now) self.now.rows ≡ None) (λ n. HasExpired now n self.now.rows) }
         ensures table { IsTable self.now.rows self.now.next }
     {
-        self.scan(&Sought::Expired(now))
+        let sought = Sought::Expired(now);
+        if !self.index.whole {
+            return self.scan(&sought);
+        }
+        for number in &self.index.parked {
+            if self.meets(*number, &sought) {
+                return Some(*number);
+            }
+        }
+        None
     }
 }

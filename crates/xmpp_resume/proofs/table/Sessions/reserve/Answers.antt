@@ -1,12 +1,28 @@
 use Rattle.std.specs.Prelude.{nat_eq}
 use Rattle.std.specs.HashMap as hash
-use Rattle.xmpp_resume.proofs.StoredFacts.{same_kept}
+use Rattle.xmpp_resume.proofs.IndexFacts.{indexed_same}
+use Rattle.xmpp_resume.proofs.StoredFacts.{same_collected, same_kept}
 use Rattle.xmpp_resume.proofs.table.Sessions.reserve.Goals as goal
 
 pub invariant_of-self-in_err-reserve-2 : goal.invariant_of-self-in_err-reserve-2
 invariant_of-self-in_err-reserve-2 c =
-    rw c.reserve.ensures.items (same_kept (hash.get nat_eq c.self.inside.rows) (hash.get nat_eq c.reserve-2.new.self) c.self.inside.numbers.items c.self.inside.next c.reserve-2.ensures.entries.2 c.self.invariant)
+    rw c.reserve.ensures.items (
+      same_kept (hash.get nat_eq c.self.inside.rows) (hash.get nat_eq c.reserve-2.new.self) c.self.inside.numbers.items c.self.inside.next c.reserve-2.ensures.entries.2 c.self.invariant.0,
+      rw (same_collected (hash.get nat_eq c.self.inside.rows) (hash.get nat_eq c.reserve-2.new.self) c.self.inside.numbers.items c.reserve-2.ensures.entries.2) c.self.invariant.1,
+    )
 
 pub invariant_of-self-2 : goal.invariant_of-self-2
 invariant_of-self-2 c =
-    rw c.reserve.ensures.items (same_kept (hash.get nat_eq c.self.inside.rows) (hash.get nat_eq c.reserve-2.new.self) c.self.inside.numbers.items c.self.inside.next c.reserve-2.ensures.entries.2 c.self.invariant)
+    rw c.reserve.ensures.items (
+      same_kept (hash.get nat_eq c.self.inside.rows) (hash.get nat_eq c.reserve-2.new.self) c.self.inside.numbers.items c.self.inside.next c.reserve-2.ensures.entries.2 c.self.invariant.0,
+      rw (same_collected (hash.get nat_eq c.self.inside.rows) (hash.get nat_eq c.reserve-2.new.self) c.self.inside.numbers.items c.reserve-2.ensures.entries.2)
+          (indexed_same c.self.inside.index c.reserve-3.new.self _ c.reserve-3.ensures.conns c.reserve-3.ensures.parked c.reserve-3.ensures.whole c.reserve-3.ensures.names c.self.invariant.1),
+    )
+
+pub invariant_of-self-in_err-reserve-3 : goal.invariant_of-self-in_err-reserve-3
+invariant_of-self-in_err-reserve-3 c =
+    rw c.reserve.ensures.items (
+      same_kept (hash.get nat_eq c.self.inside.rows) (hash.get nat_eq c.reserve-2.new.self) c.self.inside.numbers.items c.self.inside.next c.reserve-2.ensures.entries.2 c.self.invariant.0,
+      rw (same_collected (hash.get nat_eq c.self.inside.rows) (hash.get nat_eq c.reserve-2.new.self) c.self.inside.numbers.items c.reserve-2.ensures.entries.2)
+          (indexed_same c.self.inside.index c.reserve-3.new.self _ c.reserve-3.ensures.conns c.reserve-3.ensures.parked c.reserve-3.ensures.whole c.reserve-3.ensures.names c.self.invariant.1),
+    )
