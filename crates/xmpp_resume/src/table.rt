@@ -19,6 +19,12 @@ use xmpp_pool::{Pool, QueueId};
 
 /// The table of sessions. Contracts see its rows, ascending by number, the number that the next session gets, and the
 /// number `spare` of further sessions that fit without more memory.
+///
+/// A session is found by its number, by its connection and by its account and resource in hash maps, whatever the number
+/// of sessions, and an expiry goes through the parked sessions alone. The end of a session also closes the gap in the
+/// list of numbers, 8 bytes for each session behind it, and the end or a resumption of a parked one goes through the
+/// numbers of the parked. `reserve` makes room for twice as many connections as there are sessions; where those maps run
+/// out of it between two calls all the same, look-ups by connection and expiries go through all sessions from then on.
 #[derive(Drop)]
 pub struct Sessions {
     numbers: Vec<u64>,
@@ -64,7 +70,8 @@ impl Sessions {
         self.next
     }
 
-    /// Makes room for one session more, and never lowers the room. The sessions stay on each outcome.
+    /// Makes room for one session more, and never lowers the room. The sessions stay on each outcome. No other call takes
+    /// memory.
     pub fn reserve(&mut self) -> Result<(), NoMemory>
         ensures spare { OnOk result (1 ≤ self.new.spare) }
         ensures rows { self.new.rows ≡ self.old.rows }
