@@ -1,17 +1,18 @@
 -- What a change leaves of the index: each session is found by its connection or among the parked, and by its name.
-use Rattle.std.proofs.Common.{◌≡◌, ◌≢◌, ℕ, zero, suc, ◌-◌, ◌<◌, ◌≤◌, Bool, true, false, not, length, get_or, List, [], ◌∷◌, ◌++◌, Option, Some, None, Result, Ok, Err, refl, sym, ap, subst, ◌∙◌, arith, inl, inr}
+use Rattle.std.proofs.Common.{◌+◌, ◌≡◌, ◌≢◌, ℕ, zero, suc, ◌-◌, ◌<◌, ◌≤◌, Bool, true, false, not, length, get_or, map, List, [], ◌∷◌, ◌++◌, Option, Some, None, Result, Ok, Err, refl, sym, ap, subst, ◌∙◌, arith, inl, inr}
 use Rattle.std.specs.Prelude.{IsSome, IfSome, MatchOption, nat_eq, nat_le, is_none, ◌&&◌}
 use Rattle.std.specs.List.{filter, find, list_any}
 use Rattle.std.proofs.lemmas.Map.Views.{any-filter_same}
-use Rattle.xmpp_resume.proofs.StoredFacts.{Tried, at_conn, by_name}
+use Rattle.xmpp_resume.proofs.StoredFacts.{Tried, at_conn, by_name, number_at}
 use Rattle.xmpp_resume.specs.Stored.{Meets, collected, passes}
 use Rattle.xmpp_resume.specs.declared.answers.TheConstants.{RESUMABLE_FOR}
 use Rattle.std.proofs.lemmas.Bool.{cases_Bool, cases_eq, false≢true}
+use Rattle.std.proofs.lemmas.List.{length-map}
 use Rattle.std.proofs.lemmas.Option.{none-some, same_Some}
 use Rattle.xmpp_resume.proofs.RowFacts.{KeepsNumber, eqb_other, find_no, row_of_bounds, same_from_eqb}
 use Rattle.xmpp_resume.proofs.TableFacts.{FromPush, FromWith, from_push, from_with, from_without, not_at}
-use Rattle.xmpp_resume.specs.Indexed.{IsFound, IsIndexed, IsKnown, conn_in, mark_of, marked, name_in, waits_in}
-use Rattle.xmpp_resume.specs.Moves.{attached, fresh_row, is_expired, parked}
+use Rattle.xmpp_resume.specs.Indexed.{AreApart, HasFirst, IsFound, IsIndexed, IsKnown, conn_in, mark_of, marked, name_in, waits_in}
+use Rattle.xmpp_resume.specs.Moves.{attached, fresh_row, is_expired, number_of, parked}
 use Rattle.xmpp_resume.specs.Rows.{IsTable, is_at, is_named, row_at, row_of, with_row, without}
 use Rattle.xmpp_resume.specs.declared.index.Index.{Index}
 use Rattle.xmpp_resume.specs.declared.session.Row.{Row}
@@ -280,3 +281,66 @@ absent_name account next resource i rows o None table indexed is one fails =
     let P : Option ℕ → Type 0 = λ o. IfSome o (λ n. passes (is_named account resource) (row_of n rows) ≡ false) in
     name_absent account next resource i rows table indexed (λ many. one (is ∙ many)) (subst P is fails)
 absent_name account next resource i rows o (Some n) table indexed is one meets = meets
+
+pub found_conn : (n d : ℕ) (j : Index) (o : Option ℕ) → o ≡ Some d → IsFound j n o → conn_in j d ≡ Some n
+found_conn n d j None is has = absurd (none-some d is)
+found_conn n d j (Some e) is has = ap (conn_in j) (sym (same_Some e d is)) ∙ has
+
+-- a session that is put back, and those before it
+pub mended : (count number : ℕ) (x : Row) (i j : Index) (numbers : List ℕ) (get : ℕ → Option Row) → AreApart get → get number ≡ Some x → number ≡ get_or numbers count 0 →
+    ((q : ℕ) → waits_in i q ≡ true → waits_in j q ≡ true) → ((q : ℕ) → x.shown.conn ≢ Some q → conn_in j q ≡ conn_in i q) → IsFound j number x.shown.conn →
+    HasFirst count i numbers get → HasFirst (count + 1) j numbers get
+mended count number x i j numbers get apart is at waits conns here first k r below there =
+    elim (cases_eq k count) [
+      | inl same ↦
+          let equal : number ≡ get_or numbers k 0 = at ∙ ap (λ m. get_or numbers m 0) (sym same) in
+          let row : x ≡ r = same_Some x r (sym is ∙ ap get equal ∙ there) in
+          let P : ℕ → Row → Type 0 = λ m s. IsFound j m s.shown.conn in
+          let one : P number r = subst (P number) row here in
+          subst (λ m. P m r) equal one
+      | inr other ↦ go r.shown.conn refl (first k r (omega arith) there)
+    ]
+  where
+    go : (o : Option ℕ) → r.shown.conn ≡ o → IsFound i (get_or numbers k 0) o → IsFound j (get_or numbers k 0) o
+    go None on found = waits (get_or numbers k 0) found
+    go (Some c) on found = at_c x.shown.conn refl
+      where
+        at_c : (o : Option ℕ) → x.shown.conn ≡ o → conn_in j c ≡ Some (get_or numbers k 0)
+        at_c None mine = conns c (λ both. none-some c (sym mine ∙ both)) ∙ found
+        at_c (Some d) mine =
+            elim (cases_eq d c) [
+              | inl equal ↦
+                  let same : get_or numbers k 0 ≡ number = apart (get_or numbers k 0) number c r x there is on (mine ∙ ap Some equal) in
+                  ap (conn_in j) (sym equal) ∙ found_conn number d j x.shown.conn mine here ∙ ap Some (sym same)
+              | inr differs ↦ conns c (λ both. differs (same_Some d c (sym mine ∙ both))) ∙ found
+            ]
+
+pub mended_none : (count : ℕ) (i : Index) (numbers : List ℕ) (get : ℕ → Option Row) → get (get_or numbers count 0) ≡ None → HasFirst count i numbers get → HasFirst (count + 1) i numbers get
+mended_none count i numbers get none first k r below there =
+    elim (cases_eq k count) [
+      | inl same ↦ absurd (none-some r (sym none ∙ ap (λ m. get (get_or numbers m 0)) (sym same) ∙ there))
+      | inr other ↦ first k r (omega arith) there
+    ]
+
+pub found_some : (n conn : ℕ) (i : Index) (o : Option ℕ) → o ≡ Some conn → conn_in i conn ≡ Some n → IsFound i n o
+found_some n conn i o is has = let P : Option ℕ → Type 0 = λ o. IsFound i n o in subst P (sym is) has
+
+pub found_none : (n : ℕ) (i : Index) (o : Option ℕ) → o ≡ None → waits_in i n ≡ true → IsFound i n o
+found_none n i o is has = let P : Option ℕ → Type 0 = λ o. IsFound i n o in subst P (sym is) has
+
+-- all sessions are put back
+pub indexed_mended : (next : ℕ) (i j : Index) (numbers : List ℕ) (get : ℕ → Option Row) (rows : List Row) → numbers ≡ map number_of rows → ((n : ℕ) → get n ≡ row_of n rows) →
+    (j.whole ≡ true → HasFirst (length numbers) j numbers get) → j.names ≡ i.names → IsIndexed i rows → IsIndexed j rows
+indexed_mended next i j numbers get rows listed found placed names indexed =
+    record {
+      placed = λ w n r is.
+          (let at = number_at n r rows is in
+          let within : at.0 < length rows = at.1 in
+          let long : length numbers ≡ length rows = ap length listed ∙ length-map rows number_of in
+          let number : get_or numbers at.0 0 ≡ n = ap (λ ns. get_or ns at.0 0) listed ∙ at.2 in
+          subst (λ m. IsFound j m r.shown.conn) number (placed w at.0 r (omega arith) (ap get number ∙ found n ∙ is)));
+      named = λ n r is. let P : Option ℕ → Type 0 = λ o. IsKnown n o in subst P (sym (ap (λ ns. name_in (record i { names = ns }) (mark_of r)) names)) (indexed.named n r is);
+    }
+
+pub apart_of : (next : ℕ) (get : ℕ → Option Row) (rows : List Row) → IsTable rows next → ((n : ℕ) → get n ≡ row_of n rows) → AreApart get
+apart_of next get rows table found m n conn r s is was on at = table.conns m n conn r s (sym (found m) ∙ is) (sym (found n) ∙ was) on at

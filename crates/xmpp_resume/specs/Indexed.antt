@@ -1,5 +1,5 @@
 -- What sessions are found by, other than their numbers: connections, names, and that they are parked.
-use Rattle.std.specs.Prelude.{◌≡◌, ℕ, ◌+◌, ◌*◌, ◌%◌, ◌^◌, ◌⊎◌, Bool, true, List, [], ◌∷◌, Option, None, Some, nat_eq}
+use Rattle.std.specs.Prelude.{◌≡◌, ℕ, ◌+◌, ◌*◌, ◌%◌, ◌^◌, ◌<◌, ◌⊎◌, get_or, Bool, true, List, [], ◌∷◌, Option, None, Some, nat_eq}
 use Rattle.std.specs.List.{list_any}
 use Rattle.std.specs.HashMap as hash
 use Rattle.xmpp_resume.specs.Rows.{row_of}
@@ -36,3 +36,11 @@ IsKnown n found = (found ≡ Some n) ⊎ (found ≡ Some 0)
 pub record IsIndexed (i : Index) (rows : List Row) : Type 0 where
   pub placed : i.whole ≡ true → (n : ℕ) (r : Row) → row_of n rows ≡ Some r → IsFound i n r.shown.conn
   pub named : (n : ℕ) (r : Row) → row_of n rows ≡ Some r → IsKnown n (name_in i (mark_of r))
+
+-- no two sessions are on one connection
+abbrev pub AreApart : (ℕ → Option Row) → Type 0
+AreApart get = (m n conn : ℕ) (r s : Row) → get m ≡ Some r → get n ≡ Some s → r.shown.conn ≡ Some conn → s.shown.conn ≡ Some conn → m ≡ n
+
+-- the sessions with the first numbers of a list are found
+abbrev pub HasFirst : ℕ → Index → List ℕ → (ℕ → Option Row) → Type 0
+HasFirst count i numbers get = (k : ℕ) (r : Row) → k < count → get (get_or numbers k 0) ≡ Some r → IsFound i (get_or numbers k 0) r.shown.conn

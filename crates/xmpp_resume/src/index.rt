@@ -1,7 +1,8 @@
 ghost use Rattle.std.specs.HashMap as hash;
-ghost use Rattle.std.specs.Prelude.{◌≡◌, ◌≢◌, ℕ, ◌+◌, ◌<◌, ◌≤◌, Some, None, IsSome, OnOk, true};
-ghost use Rattle.xmpp_resume.specs.Indexed.{IsKnown, conn_in, marked, name_in, waits_in};
+ghost use Rattle.std.specs.Prelude.{◌≡◌, ◌≢◌, ℕ, ◌+◌, ◌<◌, ◌≤◌, Some, None, IsSome, OnOk, length, nat_eq, true};
+ghost use Rattle.xmpp_resume.specs.Indexed.{AreApart, HasFirst, IsKnown, conn_in, marked, name_in, waits_in};
 
+use crate::session::Row;
 use std::alloc::Global;
 use std::collections::HashMap;
 use xmpp_edge::NoMemory;
@@ -58,6 +59,25 @@ impl Index {
             self.conns.reserve(count.saturating_mul(3))?;
         }
         Ok(())
+    }
+
+    // Puts each session back, by its connection or among the parked, into the room that there is.
+    pub(crate) fn mend(&mut self, numbers: &[u64], rows: &HashMap<u64, Row>)
+        requires { AreApart (hash.get nat_eq rows.now) }
+        ensures placed { self.new.whole ≡ true → HasFirst (length numbers.now) self.new numbers.now (hash.get nat_eq rows.now) }
+        ensures names { self.new.names ≡ self.old.names }
+    {
+        self.conns.clear();
+        self.parked.clear();
+        self.whole = true;
+        for number in numbers {
+            if let Some(row) = rows.get(number) {
+                match row.shown.conn {
+                    Some(conn) => self.enter(*number, conn),
+                    None => self.wait(*number),
+                }
+            }
+        }
     }
 
     // A session's connection, or that it is parked, is told no more.

@@ -23,8 +23,8 @@ use xmpp_pool::{Pool, QueueId};
 /// A session is found by its number, by its connection and by its account and resource in hash maps, whatever the number
 /// of sessions, and an expiry goes through the parked sessions alone. The end of a session also closes the gap in the
 /// list of numbers, 8 bytes for each session behind it, and the end or a resumption of a parked one goes through the
-/// numbers of the parked. `reserve` makes room for twice as many connections as there are sessions; where those maps run
-/// out of it between two calls all the same, look-ups by connection and expiries go through all sessions from then on.
+/// numbers of the parked. `reserve` makes room for twice as many connections as there are sessions; where it runs out
+/// between two calls all the same, look-ups by connection and expiries go through all sessions until the next `reserve`.
 #[derive(Drop)]
 pub struct Sessions {
     numbers: Vec<u64>,
@@ -81,6 +81,9 @@ impl Sessions {
         self.numbers.reserve(1)?;
         self.rows.reserve(1)?;
         self.index.reserve(self.numbers.len().saturating_add(1))?;
+        if !self.index.whole {
+            self.index.mend(&self.numbers, &self.rows);
+        }
         Ok(())
     }
 
