@@ -7,6 +7,7 @@ use Rattle.xmpp_resume.proofs.StoredFacts.{Tried, at_conn, by_name, number_at}
 use Rattle.xmpp_resume.specs.Stored.{Meets, collected, passes}
 use Rattle.xmpp_resume.specs.declared.answers.TheConstants.{RESUMABLE_FOR}
 use Rattle.std.proofs.lemmas.Bool.{cases_Bool, cases_eq, false≢true}
+use Rattle.std.proofs.lemmas.Bool.Decides.{nat_tests}
 use Rattle.std.proofs.lemmas.List.{length-map}
 use Rattle.std.proofs.lemmas.Option.{none-some, same_Some}
 use Rattle.xmpp_resume.proofs.RowFacts.{KeepsNumber, eqb_other, find_no, row_of_bounds, same_from_eqb}
@@ -35,11 +36,25 @@ spared n m next r s i j rows table is was other spares found =
 -- a change of a row that keeps its name
 pub indexed_with : (n : ℕ) (f : Row → Row) (r : Row) (i j : Index) (rows : List Row) → KeepsNumber f → ((s : Row) → (f s).shown.account ≡ s.shown.account) → ((s : Row) → (f s).shown.resource ≡ s.shown.resource) →
     row_of n rows ≡ Some r → (j.whole ≡ true → i.whole ≡ true) → ((m : ℕ) (s : Row) → row_of m rows ≡ Some s → m ≢ n → IsFound i m s.shown.conn → IsFound j m s.shown.conn) →
-    (j.whole ≡ true → IsFound j n (f r).shown.conn) → j.names ≡ i.names → IsIndexed i rows → IsIndexed j (with_row n f rows)
-indexed_with n f r i j rows keeps account resource is whole others mine names indexed = record { placed = placed; named = named }
+    (j.whole ≡ true → IsFound j n (f r).shown.conn) → j.names ≡ i.names → j.soonest ≤ i.soonest → ((f r).shown.conn ≡ None → j.soonest ≤ (f r).shown.parked_at) → IsIndexed i rows → IsIndexed j (with_row n f rows)
+indexed_with n f r i j rows keeps account resource is whole others mine names low mine_late indexed = record { placed = placed; named = named; late = late }
   where
     mark_same : (t : Row) → mark_of (f t) ≡ mark_of t
     mark_same t = rw (account t, resource t) refl
+
+    late : (m : ℕ) (s : Row) → row_of m (with_row n f rows) ≡ Some s → s.shown.conn ≡ None → j.soonest ≤ s.shown.parked_at
+    late m s was off =
+        let from : FromWith m n f s rows = from_with m n f s rows keeps was in
+        elim (cases_eq m n) [
+          | inl same ↦
+              let first : r ≡ from.was = same_Some r from.was (sym is ∙ ap (λ k. row_of k rows) (sym same) ∙ from.found) in
+              let P : Row → Type 0 = λ t. t.shown.conn ≡ None → j.soonest ≤ t.shown.parked_at in
+              subst P (ap f first ∙ from.changed same) mine_late off
+          | inr other ↦
+              let P : Row → Type 0 = λ t. t.shown.conn ≡ None → j.soonest ≤ t.shown.parked_at in
+              let old : P from.was = λ none. (let bound : i.soonest ≤ from.was.shown.parked_at = indexed.late m from.was from.found none in omega arith) in
+              subst P (from.same other) old off
+        ]
 
     placed : j.whole ≡ true → (m : ℕ) (s : Row) → row_of m (with_row n f rows) ≡ Some s → IsFound j m s.shown.conn
     placed w m s was =
@@ -71,35 +86,40 @@ indexed_with n f r i j rows keeps account resource is whole others mine names in
 
 -- a change that keeps the connection too, and the index
 pub indexed_kept : (n : ℕ) (f : Row → Row) (r : Row) (i : Index) (rows : List Row) → KeepsNumber f → ((s : Row) → (f s).shown.account ≡ s.shown.account) → ((s : Row) → (f s).shown.resource ≡ s.shown.resource) →
-    ((s : Row) → (f s).shown.conn ≡ s.shown.conn) → row_of n rows ≡ Some r → IsIndexed i rows → IsIndexed i (with_row n f rows)
-indexed_kept n f r i rows keeps account resource conn is indexed =
+    ((s : Row) → (f s).shown.conn ≡ s.shown.conn) → ((s : Row) → (f s).shown.parked_at ≡ s.shown.parked_at) → row_of n rows ≡ Some r → IsIndexed i rows → IsIndexed i (with_row n f rows)
+indexed_kept n f r i rows keeps account resource conn since is indexed =
     indexed_with n f r i i rows keeps account resource is (λ w. w) (λ m s was other found. found)
-    (λ w. let P : Option ℕ → Type 0 = λ o. IsFound i n o in subst P (sym (conn r)) (indexed.placed w n r is)) refl indexed
+    (λ w. let P : Option ℕ → Type 0 = λ o. IsFound i n o in subst P (sym (conn r)) (indexed.placed w n r is)) refl (omega arith) (λ off. rw (since r) (indexed.late n r is (sym (conn r) ∙ off))) indexed
 
 -- a session that is parked
 pub indexed_parked : (n next now : ℕ) (r : Row) (i j k : Index) (rows : List Row) → IsTable rows next → row_of n rows ≡ Some r → Spares n r.shown.conn i j → j.whole ≡ i.whole → j.names ≡ i.names →
     k.conns ≡ j.conns → (k.whole ≡ true → waits_in k n ≡ true) → ((q : ℕ) → waits_in j q ≡ true → waits_in k q ≡ true) → (k.whole ≡ true → j.whole ≡ true) → k.names ≡ j.names →
-    IsIndexed i rows → IsIndexed k (with_row n (parked now) rows)
-indexed_parked n next now r i j k rows table is spares whole names conns_k here waits whole_k names_k indexed =
+    j.soonest ≡ i.soonest → k.soonest ≤ j.soonest → k.soonest ≤ now → IsIndexed i rows → IsIndexed k (with_row n (parked now) rows)
+indexed_parked n next now r i j k rows table is spares whole names conns_k here waits whole_k names_k soonest low at indexed =
     indexed_with n (parked now) r i k rows (record { same = λ s. refl }) (λ s. refl) (λ s. refl) is (λ w. sym whole ∙ whole_k w)
     (λ m s was other found. found_still m s.shown.conn j k (waits m) (λ c on. ap (λ cs. conn_in (record j { conns = cs }) c) conns_k) (spared n m next r s i j rows table is was other spares found))
-    here (names_k ∙ names) indexed
+    here (names_k ∙ names) (omega arith) (λ off. at) indexed
 
 -- a session that gets another connection
 pub indexed_attached : (n next conn queue : ℕ) (r : Row) (i j k : Index) (rows : List Row) → IsTable rows next → row_of n rows ≡ Some r → row_at conn rows ≡ None → Spares n r.shown.conn i j → j.whole ≡ i.whole → j.names ≡ i.names →
     (k.whole ≡ true → conn_in k conn ≡ Some n) → ((q : ℕ) → q ≢ conn → conn_in k q ≡ conn_in j q) → k.parked ≡ j.parked → (k.whole ≡ true → j.whole ≡ true) → k.names ≡ j.names →
-    IsIndexed i rows → IsIndexed k (with_row n (attached conn queue) rows)
-indexed_attached n next conn queue r i j k rows table is free spares whole names here conns waits whole_k names_k indexed =
+    j.soonest ≡ i.soonest → k.soonest ≡ j.soonest → IsIndexed i rows → IsIndexed k (with_row n (attached conn queue) rows)
+indexed_attached n next conn queue r i j k rows table is free spares whole names here conns waits whole_k names_k soonest low indexed =
     indexed_with n (attached conn queue) r i k rows (record { same = λ s. refl }) (λ s. refl) (λ s. refl) is (λ w. sym whole ∙ whole_k w)
     (λ m s was other found. found_still m s.shown.conn j k (λ waiting. ap (λ ps. waits_in (record j { parked = ps }) m) waits ∙ waiting)
     (λ c on. conns c (λ same. not_at conn m s rows free was (on ∙ ap Some same))) (spared n m next r s i j rows table is was other spares found))
-    here (names_k ∙ names) indexed
+    here (names_k ∙ names) (omega arith) (λ off. absurd (none-some conn (sym off))) indexed
 
 -- a session that is gone
 pub indexed_without : (n next : ℕ) (r : Row) (i j k : Index) (rows : List Row) → IsTable rows next → row_of n rows ≡ Some r → Spares n r.shown.conn i j → j.whole ≡ i.whole → j.names ≡ i.names →
     k.conns ≡ j.conns → k.parked ≡ j.parked → k.whole ≡ j.whole → (name_in j (mark_of r) ≢ Some n → name_in k (mark_of r) ≡ name_in j (mark_of r)) →
-    ((q : ℕ) → q ≢ mark_of r → name_in k q ≡ name_in j q) → IsIndexed i rows → IsIndexed k (without n rows)
-indexed_without n next r i j k rows table is spares whole names conns_k parked_k whole_k mine marks indexed = record { placed = placed; named = named }
+    ((q : ℕ) → q ≢ mark_of r → name_in k q ≡ name_in j q) → j.soonest ≡ i.soonest → k.soonest ≡ j.soonest → IsIndexed i rows → IsIndexed k (without n rows)
+indexed_without n next r i j k rows table is spares whole names conns_k parked_k whole_k mine marks soonest low indexed =
+    record {
+      placed = placed;
+      named = named;
+      late = λ m s was off. let bound : i.soonest ≤ s.shown.parked_at = indexed.late m s (from_without m n s rows was).1 off in omega arith;
+    }
   where
     placed : k.whole ≡ true → (m : ℕ) (s : Row) → row_of m (without n rows) ≡ Some s → IsFound k m s.shown.conn
     placed w m s was =
@@ -131,9 +151,9 @@ indexed_without n next r i j k rows table is spares whole names conns_k parked_k
 pub indexed_pushed : (next account conn queue : ℕ) (resource : List ℕ) (i j k : Index) (rows : List Row) → IsTable rows next → row_at conn rows ≡ None →
     (j.whole ≡ true → conn_in j conn ≡ Some next) → ((q : ℕ) → q ≢ conn → conn_in j q ≡ conn_in i q) → j.parked ≡ i.parked → (j.whole ≡ true → i.whole ≡ true) → j.names ≡ i.names →
     IsKnown next (name_in k (marked account resource)) → (IsSome (name_in j (marked account resource)) → name_in k (marked account resource) ≡ Some 0) →
-    ((q : ℕ) → q ≢ marked account resource → name_in k q ≡ name_in j q) → k.conns ≡ j.conns → k.parked ≡ j.parked → k.whole ≡ j.whole →
+    ((q : ℕ) → q ≢ marked account resource → name_in k q ≡ name_in j q) → k.conns ≡ j.conns → k.parked ≡ j.parked → k.whole ≡ j.whole → j.soonest ≡ i.soonest → k.soonest ≡ j.soonest →
     IsIndexed i rows → IsIndexed k (rows ++ fresh_row next account resource conn queue ∷ [])
-indexed_pushed next account conn queue resource i j k rows table free here conns waits whole names known_k shared marks conns_k waits_k whole_k indexed = record { placed = placed; named = named }
+indexed_pushed next account conn queue resource i j k rows table free here conns waits whole names known_k shared marks conns_k waits_k whole_k soonest low indexed = record { placed = placed; named = named; late = late }
   where
     placed : k.whole ≡ true → (m : ℕ) (s : Row) → row_of m (rows ++ fresh_row next account resource conn queue ∷ []) ≡ Some s → IsFound k m s.shown.conn
     placed w m s was =
@@ -149,6 +169,14 @@ indexed_pushed next account conn queue resource i j k rows table free here conns
               found_still m s.shown.conn i k (λ waiting. ap (λ ps. waits_in (record i { parked = ps }) m) (waits_k ∙ waits) ∙ waiting)
               (λ c on. ap (λ cs. conn_in (record j { conns = cs }) c) conns_k ∙ conns c (λ same. not_at conn m s rows free (from.old other) (on ∙ ap Some same)))
               (indexed.placed (whole before) m s (from.old other))
+        ]
+
+    late : (m : ℕ) (s : Row) → row_of m (rows ++ fresh_row next account resource conn queue ∷ []) ≡ Some s → s.shown.conn ≡ None → k.soonest ≤ s.shown.parked_at
+    late m s was off =
+        let from : FromPush m next (fresh_row next account resource conn queue) s rows = from_push m next (fresh_row next account resource conn queue) s rows table refl was in
+        elim (cases_eq m next) [
+          | inl same ↦ absurd (none-some conn (sym (ap (λ (t : Row). t.shown.conn) (from.new same) ∙ off)))
+          | inr other ↦ (let bound : i.soonest ≤ s.shown.parked_at = indexed.late m s (from.old other) off in omega arith)
         ]
 
     named : (m : ℕ) (s : Row) → row_of m (rows ++ fresh_row next account resource conn queue ∷ []) ≡ Some s → IsKnown m (name_in k (mark_of s))
@@ -244,16 +272,17 @@ expired_absent now next count i rows table indexed whole all fails =
     no_conn (Some c) b passed = absurd (false≢true passed)
 
 -- an index that has the same
-pub indexed_same : (i j : Index) (rows : List Row) → ((q : ℕ) → conn_in j q ≡ conn_in i q) → j.parked.items ≡ i.parked.items → j.whole ≡ i.whole → ((q : ℕ) → name_in j q ≡ name_in i q) → IsIndexed i rows → IsIndexed j rows
-indexed_same i j rows conns waits whole names indexed =
+pub indexed_same : (i j : Index) (rows : List Row) → ((q : ℕ) → conn_in j q ≡ conn_in i q) → j.parked.items ≡ i.parked.items → j.whole ≡ i.whole → ((q : ℕ) → name_in j q ≡ name_in i q) → j.soonest ≡ i.soonest → IsIndexed i rows → IsIndexed j rows
+indexed_same i j rows conns waits whole names soonest indexed =
     record {
+      late = λ n r is off. rw soonest (indexed.late n r is off);
       placed = λ w n r is. found_still n r.shown.conn i j (λ waiting. ap (list_any (nat_eq n)) waits ∙ waiting) (λ c on. conns c) (indexed.placed (sym whole ∙ w) n r is);
       named = λ n r is. let P : Option ℕ → Type 0 = λ o. IsKnown n o in subst P (sym (names (mark_of r))) (indexed.named n r is);
     }
 
 -- no session is there
 pub indexed_nobody : (i : Index) (rows : List Row) → rows ≡ [] → IsIndexed i rows
-indexed_nobody i rows none = rw none (record { placed = λ w n r is. absurd (none-some r is); named = λ n r is. absurd (none-some r is) })
+indexed_nobody i rows none = rw none (record { placed = λ w n r is. absurd (none-some r is); named = λ n r is. absurd (none-some r is); late = λ n r is off. absurd (none-some r is) })
 
 -- what a table that is seen has indexed
 pub indexed_as : (i : Index) (inside rows : List Row) → inside ≡ rows → IsIndexed i inside → IsIndexed i rows
@@ -261,9 +290,9 @@ indexed_as i inside rows seen indexed = let P : List Row → Type 0 = λ rs. IsI
 
 -- a call that changes a row where it is well, and doesn't where it fails
 pub indexed_tried : {T E : Type 0} (t : Result T E) (n next : ℕ) (f : Row → Row) (x : Row) (i : Index) (get : ℕ → Option Row) (numbers : List ℕ) (rows : List Row) → KeepsNumber f → ((s : Row) → (f s).shown.account ≡ s.shown.account) →
-    ((s : Row) → (f s).shown.resource ≡ s.shown.resource) → ((s : Row) → (f s).shown.conn ≡ s.shown.conn) → Tried t n next f x get numbers rows → IsIndexed i rows → IsIndexed i (collected get numbers)
-indexed_tried (Ok v) n next f x i get numbers rows keeps account resource conn tried indexed = rw tried.ok (indexed_kept n f x i rows keeps account resource conn tried.found indexed)
-indexed_tried (Err e) n next f x i get numbers rows keeps account resource conn tried indexed = rw tried.err indexed
+    ((s : Row) → (f s).shown.resource ≡ s.shown.resource) → ((s : Row) → (f s).shown.conn ≡ s.shown.conn) → ((s : Row) → (f s).shown.parked_at ≡ s.shown.parked_at) → Tried t n next f x get numbers rows → IsIndexed i rows → IsIndexed i (collected get numbers)
+indexed_tried (Ok v) n next f x i get numbers rows keeps account resource conn since tried indexed = rw tried.ok (indexed_kept n f x i rows keeps account resource conn since tried.found indexed)
+indexed_tried (Err e) n next f x i get numbers rows keeps account resource conn since tried indexed = rw tried.err indexed
 
 -- the answers of the index
 pub absent_conn : (conn next : ℕ) (i : Index) (rows : List Row) (o result : Option ℕ) → IsTable rows next → IsIndexed i rows → i.whole ≡ true → o ≡ conn_in i conn →
@@ -330,9 +359,10 @@ found_none n i o is has = let P : Option ℕ → Type 0 = λ o. IsFound i n o in
 
 -- all sessions are put back
 pub indexed_mended : (next : ℕ) (i j : Index) (numbers : List ℕ) (get : ℕ → Option Row) (rows : List Row) → numbers ≡ map number_of rows → ((n : ℕ) → get n ≡ row_of n rows) →
-    (j.whole ≡ true → HasFirst (length numbers) j numbers get) → j.names ≡ i.names → IsIndexed i rows → IsIndexed j rows
-indexed_mended next i j numbers get rows listed found placed names indexed =
+    (j.whole ≡ true → HasFirst (length numbers) j numbers get) → j.names ≡ i.names → j.soonest ≡ i.soonest → IsIndexed i rows → IsIndexed j rows
+indexed_mended next i j numbers get rows listed found placed names soonest indexed =
     record {
+      late = λ n r is off. rw soonest (indexed.late n r is off);
       placed = λ w n r is.
           (let at = number_at n r rows is in
           let within : at.0 < length rows = at.1 in
@@ -344,3 +374,33 @@ indexed_mended next i j numbers get rows listed found placed names indexed =
 
 pub apart_of : (next : ℕ) (get : ℕ → Option Row) (rows : List Row) → IsTable rows next → ((n : ℕ) → get n ≡ row_of n rows) → AreApart get
 apart_of next get rows table found m n conn r s is was on at = table.conns m n conn r s (sym (found m) ∙ is) (sym (found n) ∙ was) on at
+
+-- none has expired yet
+pub none_expired : (now next : ℕ) (i : Index) (rows : List Row) → IsTable rows next → IsIndexed i rows → now - i.soonest < RESUMABLE_FOR → find (is_expired now) rows ≡ None
+none_expired now next i rows table indexed soon =
+    find_no next 1 (is_expired now) rows table.ascending
+    (λ m s is. early s.shown.conn s.shown.parked_at (λ off. indexed.late m s is off))
+  where
+    early : (o : Option ℕ) (at : ℕ) → (o ≡ None → i.soonest ≤ at) → (is_none o && nat_le RESUMABLE_FOR (now - at)) ≡ false
+    early (Some c) at low = refl
+    early None at low = let bound : i.soonest ≤ at = low refl in grind (arith, nat_tests)
+
+-- the least moment at which one was parked
+pub least_of : (least count : ℕ) (i : Index) (rows : List Row) → IsIndexed i rows → i.whole ≡ true → length i.parked.items ≤ count →
+    ((k : ℕ) (r : Row) → k < count → row_of (get_or i.parked.items k 0) rows ≡ Some r → least ≤ r.shown.parked_at) →
+    (n : ℕ) (r : Row) → row_of n rows ≡ Some r → r.shown.conn ≡ None → least ≤ r.shown.parked_at
+least_of least count i rows indexed whole all bounds n r is off =
+    let P : Option ℕ → Type 0 = λ o. IsFound i n o in
+    let waits : waits_in i n ≡ true = subst P off (indexed.placed whole n r is) in
+    let at = waits_at n i.parked.items waits in
+    let within : at.0 < length i.parked.items = at.1 in
+    bounds at.0 r (omega arith) (ap (λ m. row_of m rows) at.2 ∙ is)
+
+pub indexed_settled : (i j : Index) (rows : List Row) → j.conns ≡ i.conns → j.parked ≡ i.parked → j.whole ≡ i.whole → j.names ≡ i.names →
+    ((n : ℕ) (r : Row) → row_of n rows ≡ Some r → r.shown.conn ≡ None → j.soonest ≤ r.shown.parked_at) → IsIndexed i rows → IsIndexed j rows
+indexed_settled i j rows conns waits whole names late indexed =
+    record {
+      late = late;
+      placed = λ w n r is. found_still n r.shown.conn i j (λ waiting. ap (λ ps. waits_in (record i { parked = ps }) n) waits ∙ waiting) (λ c on. ap (λ cs. conn_in (record i { conns = cs }) c) conns) (indexed.placed (sym whole ∙ w) n r is);
+      named = λ n r is. let P : Option ℕ → Type 0 = λ o. IsKnown n o in subst P (sym (ap (λ ns. name_in (record i { names = ns }) (mark_of r)) names)) (indexed.named n r is);
+    }

@@ -1,5 +1,5 @@
 -- What sessions are found by, other than their numbers: connections, names, and that they are parked.
-use Rattle.std.specs.Prelude.{◌≡◌, ℕ, ◌+◌, ◌*◌, ◌%◌, ◌^◌, ◌<◌, ◌⊎◌, get_or, Bool, true, List, [], ◌∷◌, Option, None, Some, nat_eq}
+use Rattle.std.specs.Prelude.{◌≡◌, ℕ, ◌+◌, ◌*◌, ◌%◌, ◌^◌, ◌<◌, ◌≤◌, ◌⊎◌, get_or, Bool, true, List, [], ◌∷◌, Option, None, Some, nat_eq}
 use Rattle.std.specs.List.{list_any}
 use Rattle.std.specs.HashMap as hash
 use Rattle.xmpp_resume.specs.Rows.{row_of}
@@ -36,6 +36,7 @@ IsKnown n found = (found ≡ Some n) ⊎ (found ≡ Some 0)
 pub record IsIndexed (i : Index) (rows : List Row) : Type 0 where
   pub placed : i.whole ≡ true → (n : ℕ) (r : Row) → row_of n rows ≡ Some r → IsFound i n r.shown.conn
   pub named : (n : ℕ) (r : Row) → row_of n rows ≡ Some r → IsKnown n (name_in i (mark_of r))
+  pub late : (n : ℕ) (r : Row) → row_of n rows ≡ Some r → r.shown.conn ≡ None → i.soonest ≤ r.shown.parked_at
 
 -- no two sessions are on one connection
 abbrev pub AreApart : (ℕ → Option Row) → Type 0

@@ -21,13 +21,15 @@ pub(crate) fn mark(account: u32, resource: &str) -> u64
 }
 
 // What sessions are found by, other than their numbers. `conns` has the session of each connection, and `parked` the
-// sessions that have none; where room ran out `whole` is false, and some may be missing. `names` has the session with a
-// mark, and 0 where there was more than one.
+// sessions that have none; where room ran out `whole` is false, and some may be missing. None of the parked was parked
+// before `soonest`. `names` has the session with a mark, and 0 where there was more than one. `reserve` alone asks for
+// memory: an entry is added only where there is room to spare.
 #[derive(Drop)]
 pub(crate) struct Index {
     pub(crate) conns: HashMap<u64, u64>,
     pub(crate) parked: Vec<u64>,
     pub(crate) whole: bool,
+    pub(crate) soonest: u64,
     pub(crate) names: HashMap<u64, u64>,
 }
 
@@ -38,6 +40,7 @@ impl Index {
             conns: HashMap::new(alloc),
             parked: Vec::new(alloc),
             whole: true,
+            soonest: u64::MAX,
             names: HashMap::new(alloc),
         }
     }
@@ -48,6 +51,7 @@ impl Index {
         ensures parked { self.new.parked.items ≡ self.old.parked.items }
         ensures whole { self.new.whole ≡ self.old.whole }
         ensures names { (q : ℕ) → name_in self.new q ≡ name_in self.old q }
+        ensures soonest { self.new.soonest ≡ self.old.soonest }
         ensures kept { hash.spare self.old.names ≤ hash.spare self.new.names }
         ensures spare { OnOk result (1 ≤ hash.spare self.new.names) }
     {
@@ -66,6 +70,7 @@ impl Index {
         requires { AreApart (hash.get nat_eq rows.now) }
         ensures placed { self.new.whole ≡ true → HasFirst (length numbers.now) self.new numbers.now (hash.get nat_eq rows.now) }
         ensures names { self.new.names ≡ self.old.names }
+        ensures soonest { self.new.soonest ≡ self.old.soonest }
     {
         self.conns.clear();
         self.parked.clear();
@@ -86,6 +91,7 @@ impl Index {
         ensures parked { (q : ℕ) → q ≢ number → waits_in self.old q ≡ true → waits_in self.new q ≡ true }
         ensures whole { self.new.whole ≡ self.old.whole }
         ensures names { self.new.names ≡ self.old.names }
+        ensures soonest { self.new.soonest ≡ self.old.soonest }
     {
         match conn {
             Some(conn) => {
@@ -101,17 +107,33 @@ impl Index {
         ensures parked { (q : ℕ) → q ≢ number → waits_in self.old q ≡ true → waits_in self.new q ≡ true }
         ensures whole { self.new.whole ≡ self.old.whole }
         ensures names { self.new.names ≡ self.old.names }
+        ensures soonest { self.new.soonest ≡ self.old.soonest }
     {
         self.parked.retain(|other| *other != number);
     }
 
-    // A session is parked.
-    pub(crate) fn wait(&mut self, number: u64)
+    // A session is parked from a moment on.
+    pub(crate) fn wait_from(&mut self, number: u64, now: u64)
         ensures conns { self.new.conns ≡ self.old.conns }
         ensures here { self.new.whole ≡ true → waits_in self.new number ≡ true }
         ensures parked { (q : ℕ) → waits_in self.old q ≡ true → waits_in self.new q ≡ true }
         ensures whole { self.new.whole ≡ true → self.old.whole ≡ true }
         ensures names { self.new.names ≡ self.old.names }
+        ensures soonest { self.new.soonest ≤ self.old.soonest }
+        ensures now { self.new.soonest ≤ now }
+    {
+        self.wait(number);
+        self.soonest = self.soonest.min(now);
+    }
+
+    // A session is among the parked.
+    fn wait(&mut self, number: u64)
+        ensures conns { self.new.conns ≡ self.old.conns }
+        ensures here { self.new.whole ≡ true → waits_in self.new number ≡ true }
+        ensures parked { (q : ℕ) → waits_in self.old q ≡ true → waits_in self.new q ≡ true }
+        ensures whole { self.new.whole ≡ true → self.old.whole ≡ true }
+        ensures names { self.new.names ≡ self.old.names }
+        ensures soonest { self.new.soonest ≡ self.old.soonest }
     {
         if self.parked.len() == self.parked.capacity() {
             self.whole = false;
@@ -130,6 +152,7 @@ impl Index {
         ensures parked { self.new.parked ≡ self.old.parked }
         ensures whole { self.new.whole ≡ true → self.old.whole ≡ true }
         ensures names { self.new.names ≡ self.old.names }
+        ensures soonest { self.new.soonest ≡ self.old.soonest }
     {
         if self.conns.len() == self.conns.capacity() {
             self.whole = false;
@@ -147,6 +170,7 @@ impl Index {
         ensures here { IsKnown number (name_in self.new mark) }
         ensures shared { IsSome (name_in self.old mark) → name_in self.new mark ≡ Some 0 }
         ensures names { (q : ℕ) → q ≢ mark → name_in self.new q ≡ name_in self.old q }
+        ensures soonest { self.new.soonest ≡ self.old.soonest }
         ensures spare { hash.spare self.old.names ≤ hash.spare self.new.names + 1 }
         ensures conns { self.new.conns ≡ self.old.conns }
         ensures parked { self.new.parked ≡ self.old.parked }
@@ -167,6 +191,7 @@ impl Index {
     pub(crate) fn unname(&mut self, number: u64, mark: u64)
         ensures here { name_in self.old mark ≢ Some number → name_in self.new mark ≡ name_in self.old mark }
         ensures names { (q : ℕ) → q ≢ mark → name_in self.new q ≡ name_in self.old q }
+        ensures soonest { self.new.soonest ≡ self.old.soonest }
         ensures spare { hash.spare self.old.names ≤ hash.spare self.new.names }
         ensures conns { self.new.conns ≡ self.old.conns }
         ensures parked { self.new.parked ≡ self.old.parked }

@@ -6,7 +6,9 @@ ghost use Rattle.xmpp_pool.specs.Queues.{PoolView, list_of};
 ghost use Rattle.xmpp_resume.specs.Housed.{IsFree, IsHoused};
 ghost use Rattle.xmpp_resume.specs.Rows.{IsTable, row_at, row_named, row_of, with_row, without};
 ghost use Rattle.xmpp_resume.specs.Stored.{Meets, passes, seeks};
+ghost use Rattle.xmpp_resume.specs.declared.session.Row.{Row};
 
+use crate::answers::RESUMABLE_FOR;
 use crate::index::{Index, mark};
 use crate::session::{Row, SessionView};
 use crate::sought::Sought;
@@ -21,10 +23,12 @@ use xmpp_pool::{Pool, QueueId};
 /// number `spare` of further sessions that fit without more memory.
 ///
 /// A session is found by its number, by its connection and by its account and resource in hash maps, whatever the number
-/// of sessions, and an expiry goes through the parked sessions alone. The end of a session also closes the gap in the
-/// list of numbers, 8 bytes for each session behind it, and the end or a resumption of a parked one goes through the
-/// numbers of the parked. `reserve` makes room for twice as many connections as there are sessions; where it runs out
-/// between two calls all the same, look-ups by connection and expiries go through all sessions until the next `reserve`.
+/// of sessions. An expiry answers at once where no session can have expired yet, and else goes through the parked ones.
+/// The end of a session closes the gap in the list of numbers, 8 bytes for each session behind it; the end or the
+/// resumption of a parked one also goes through the numbers of the parked, 8 bytes each. `reserve` alone asks for memory:
+/// an entry is added to a map only where that has room to spare. It makes room for twice as many connections as there are
+/// sessions; where that runs out before the next `reserve` all the same, look-ups by connection and expiries go through
+/// all sessions until then, and answer the same.
 #[derive(Drop)]
 pub struct Sessions {
     numbers: Vec<u64>,
@@ -253,7 +257,7 @@ impl Sessions {
             Some(row) => {
                 self.index.forget(number, row.shown.conn);
                 row.park(now);
-                self.index.wait(number);
+                self.index.wait_from(number, now);
             }
             None => unreachable!(),
         }
@@ -382,11 +386,49 @@ impl Sessions {
         }
     }
 
+    // When a session was last parked, and the greatest number where there is none.
+    fn parked_at(&self, number: u64) -> u64
+        ensures { IfSome (row_of number self.now.rows) (λ r. result ≡ r.shown.parked_at) }
+    {
+        match self.row(number) {
+            Some(row) => row.shown.parked_at,
+            None => u64::MAX,
+        }
+    }
+
+    // A moment before which none of the parked was parked.
+    fn least(&self) -> u64
+        ensures { (n : ℕ) (r : Row) → row_of n self.now.rows ≡ Some r → r.shown.conn ≡ None → result ≤ r.shown.parked_at }
+    {
+        if !self.index.whole {
+            return self.index.soonest;
+        }
+        let mut least = u64::MAX;
+        for number in &self.index.parked {
+            least = least.min(self.parked_at(*number));
+        }
+        least
+    }
+
+    // Finds out when a session can expire next, where one could have at the moment `now`.
+    pub(crate) fn settle(&mut self, now: u64)
+        ensures rows { self.new.rows ≡ self.old.rows }
+        ensures next { self.new.next ≡ self.old.next }
+        ensures kept { self.old.spare ≤ self.new.spare }
+    {
+        if now.saturating_sub(self.index.soonest) >= RESUMABLE_FOR {
+            self.index.soonest = self.least();
+        }
+    }
+
     // The number of a session that can be resumed no more.
     pub(crate) fn expired(&self, now: u64) -> Option<u64>
         ensures number { MatchOption result (find (is_expired now) self.now.rows ≡ None) (λ n. HasExpired now n self.now.rows) }
         ensures table { IsTable self.now.rows self.now.next }
     {
+        if now.saturating_sub(self.index.soonest) < RESUMABLE_FOR {
+            return None;
+        }
         let sought = Sought::Expired(now);
         if !self.index.whole {
             return self.scan(&sought);

@@ -19,6 +19,7 @@ loop-number-preserved c =
                 (found_some _ w.in-Some-conn.conn w.enter.new.self w.in-Some.row.now.shown.conn w.in-Some-conn.is (w.enter.ensures.here whole))
                 (c.loop-number.invariant.0 (w.enter.ensures.whole whole)),
             w.enter.ensures.names ∙ c.loop-number.invariant.1,
+            w.enter.ensures.soonest ∙ c.loop-number.invariant.2,
           )
       | in-Some+in-None w ↦
           rw w.self-is (
@@ -29,8 +30,9 @@ loop-number-preserved c =
                 (found_none _ w.wait.new.self w.in-Some.row.now.shown.conn w.in-None.is (w.wait.ensures.here whole))
                 (c.loop-number.invariant.0 (w.wait.ensures.whole whole)),
             w.wait.ensures.names ∙ c.loop-number.invariant.1,
+            w.wait.ensures.soonest ∙ c.loop-number.invariant.2,
           )
       | in_default w ↦
           rw w.self-is
-          (λ whole. mended_none c.loop-number.number-index c.loop-number.self c.args.numbers.now (hash.get nat_eq c.args.rows.now) (sym w.in_default.ensures.value) (c.loop-number.invariant.0 whole), c.loop-number.invariant.1)
+          (λ whole. mended_none c.loop-number.number-index c.loop-number.self c.args.numbers.now (hash.get nat_eq c.args.rows.now) (sym w.in_default.ensures.value) (c.loop-number.invariant.0 whole), c.loop-number.invariant.1, c.loop-number.invariant.2)
     ]

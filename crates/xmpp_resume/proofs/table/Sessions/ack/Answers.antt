@@ -23,7 +23,7 @@ pub invariant_of-self : goal.invariant_of-self
 invariant_of-self c =
     let seen = ap (λ (t : Table). t.rows) c.self.view_is in
     let indexed : IsIndexed c.self.inside.index c.args.self.now.rows = indexed_as c.self.inside.index _ c.args.self.now.rows seen c.self.invariant.1 in
-    ((tried c).kept, indexed_tried c.ack.result c.args.number c.self.inside.next (acknowledged c.args.h) c.in-Some.row.now c.self.inside.index (hash.get nat_eq (c.get_mut.follows.lender c.ack.new.self)) c.self.inside.numbers.items c.args.self.now.rows (record { same = λ r. refl }) (λ r. refl) (λ r. refl) (λ r. refl) (tried c) indexed)
+    ((tried c).kept, indexed_tried c.ack.result c.args.number c.self.inside.next (acknowledged c.args.h) c.in-Some.row.now c.self.inside.index (hash.get nat_eq (c.get_mut.follows.lender c.ack.new.self)) c.self.inside.numbers.items c.args.self.now.rows (record { same = λ r. refl }) (λ r. refl) (λ r. refl) (λ r. refl) (λ r. refl) (tried c) indexed)
 
 pub returns-clause-answer : goal.returns-clause-answer
 returns-clause-answer c = rw (tried c).found c.ack.ensures.answer

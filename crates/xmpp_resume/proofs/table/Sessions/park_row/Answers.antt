@@ -8,9 +8,9 @@ use Rattle.xmpp_resume.proofs.TableFacts.{lawful_parked}
 use Rattle.xmpp_resume.specs.Moves.{parked}
 use Rattle.xmpp_resume.specs.Rows.{IsTable, Table}
 use Rattle.xmpp_resume.proofs.table.Sessions.park_row.Goals as goal
-use Rattle.xmpp_resume.proofs.table.Sessions.park_row.Goals.{After-wait}
+use Rattle.xmpp_resume.proofs.table.Sessions.park_row.Goals.{After-wait_from}
 
-changed : (c : After-wait) → Changed c.args.number c.self.inside.next (parked c.args.now) c.in-Some.row.now (hash.get nat_eq (c.get_mut.follows.lender c.park.new.self)) c.self.inside.numbers.items c.args.self.now.rows
+changed : (c : After-wait_from) → Changed c.args.number c.self.inside.next (parked c.args.now) c.in-Some.row.now (hash.get nat_eq (c.get_mut.follows.lender c.park.new.self)) c.self.inside.numbers.items c.args.self.now.rows
 changed c =
     let seen = ap (λ (t : Table). t.rows) c.self.view_is in
     let table : IsTable c.args.self.now.rows c.self.inside.next = (opened (hash.get nat_eq c.self.inside.rows) c.self.inside.numbers.items c.self.inside.next c.args.self.now.rows seen c.self.invariant.0).table in
@@ -22,7 +22,7 @@ invariant_of-self c =
     let seen = ap (λ (t : Table). t.rows) c.self.view_is in
     let table : IsTable c.args.self.now.rows c.self.inside.next = (opened (hash.get nat_eq c.self.inside.rows) c.self.inside.numbers.items c.self.inside.next c.args.self.now.rows seen c.self.invariant.0).table in
     let indexed : IsIndexed c.self.inside.index c.args.self.now.rows = indexed_as c.self.inside.index _ c.args.self.now.rows seen c.self.invariant.1 in
-    ((changed c).kept, rw (changed c).written (indexed_parked c.args.number c.self.inside.next c.args.now c.in-Some.row.now c.self.inside.index c.forget.new.self c.wait.new.self c.args.self.now.rows table (changed c).found (record { conns = c.forget.ensures.conns; parked = c.forget.ensures.parked }) c.forget.ensures.whole c.forget.ensures.names c.wait.ensures.conns c.wait.ensures.here c.wait.ensures.parked c.wait.ensures.whole c.wait.ensures.names indexed))
+    ((changed c).kept, rw (changed c).written (indexed_parked c.args.number c.self.inside.next c.args.now c.in-Some.row.now c.self.inside.index c.forget.new.self c.wait_from.new.self c.args.self.now.rows table (changed c).found (record { conns = c.forget.ensures.conns; parked = c.forget.ensures.parked }) c.forget.ensures.whole c.forget.ensures.names c.wait_from.ensures.conns c.wait_from.ensures.here c.wait_from.ensures.parked c.wait_from.ensures.whole c.wait_from.ensures.names c.forget.ensures.soonest c.wait_from.ensures.soonest c.wait_from.ensures.now indexed))
 
 pub returns-clause-rows : goal.returns-clause-rows
 returns-clause-rows c = (changed c).written

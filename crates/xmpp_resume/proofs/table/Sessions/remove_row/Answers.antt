@@ -32,7 +32,7 @@ invariant_of-self c =
       rw (removed c).shown
           (indexed_without c.args.number c.self.inside.next c.in-Some.row c.self.inside.index c.forget.new.self c.unname.new.self c.args.self.now.rows stored.table found
           (record { conns = c.forget.ensures.conns; parked = c.forget.ensures.parked }) c.forget.ensures.whole c.forget.ensures.names c.unname.ensures.conns c.unname.ensures.parked c.unname.ensures.whole
-          (rw (c.mark.ensures, c.as_str.ensures) at c.unname.ensures.here) (rw (c.mark.ensures, c.as_str.ensures) at c.unname.ensures.names) indexed),
+          (rw (c.mark.ensures, c.as_str.ensures) at c.unname.ensures.here) (rw (c.mark.ensures, c.as_str.ensures) at c.unname.ensures.names) c.forget.ensures.soonest c.unname.ensures.soonest indexed),
     )
 
 pub returns-clause-rows : goal.returns-clause-rows

@@ -24,7 +24,7 @@ invariant_of-self c =
     let seen = ap (λ (t : Table). t.rows) c.self.view_is in
     let table : IsTable c.args.self.now.rows c.self.inside.next = (opened (hash.get nat_eq c.self.inside.rows) c.self.inside.numbers.items c.self.inside.next c.args.self.now.rows seen c.self.invariant.0).table in
     let indexed : IsIndexed c.self.inside.index c.args.self.now.rows = indexed_as c.self.inside.index _ c.args.self.now.rows seen c.self.invariant.1 in
-    ((changed c).kept, rw (changed c).written (indexed_kept c.args.number (present c.args.available c.args.priority) c.in-Some.row.now c.self.inside.index c.args.self.now.rows (record { same = λ r. refl }) (λ r. refl) (λ r. refl) (λ r. refl) (changed c).found indexed))
+    ((changed c).kept, rw (changed c).written (indexed_kept c.args.number (present c.args.available c.args.priority) c.in-Some.row.now c.self.inside.index c.args.self.now.rows (record { same = λ r. refl }) (λ r. refl) (λ r. refl) (λ r. refl) (λ r. refl) (changed c).found indexed))
 
 pub returns-clause-rows : goal.returns-clause-rows
 returns-clause-rows c = (changed c).written
