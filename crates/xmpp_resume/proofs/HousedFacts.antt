@@ -1,5 +1,5 @@
 -- What a change of the rows and of the pool leaves of it: each session's stanzas wait in a queue of its own.
-use Rattle.std.proofs.Common.{None, ◌≡◌, ◌≢◌, ℕ, ◌<◌, ◌≤◌, List, [], ◌∷◌, ◌++◌, Option, Some, Result, Ok, Err, length, drop, set, refl, sym, ap, subst, ◌∙◌, arith, inl, inr}
+use Rattle.std.proofs.Common.{None, ◌≡◌, ◌≢◌, ℕ, ◌<◌, ◌≤◌, List, [], ◌∷◌, ◌++◌, Option, Some, Result, Ok, Err, length, drop, refl, sym, ap, subst, ◌∙◌, arith, inl, inr}
 use Rattle.std.specs.Prelude.{IsSome, MatchBool, Bool, true, false}
 use Rattle.std.proofs.lemmas.Bool.{cases_eq, false≢true}
 use Rattle.std.proofs.lemmas.List.{length-drop, length_push}
@@ -9,7 +9,9 @@ use Rattle.xmpp_acks.specs.Counters.{ahead}
 use Rattle.xmpp_acks.specs.declared.end.TheConstants.{MOST_UNACKNOWLEDGED}
 use Rattle.xmpp_pool.specs.Queues.{Lives, PoolView, list_of, stanzas_of}
 use Rattle.xmpp_resume.proofs.RowFacts.{KeepsNumber}
-use Rattle.xmpp_resume.proofs.TableFacts.{FromPush, FromWith, TriedAt, from_push, from_with, from_without}
+use Rattle.xmpp_resume.proofs.TableFacts.{FromPush, FromWith, from_push, from_with, from_without}
+use Rattle.xmpp_resume.proofs.StoredFacts.{Tried}
+use Rattle.xmpp_resume.specs.Stored.{collected}
 use Rattle.xmpp_resume.specs.Housed.{IsFree, IsGone, IsHoused, IsSame}
 use Rattle.xmpp_resume.specs.Moves.{HandsOver, Joins, Leaves, PoolAcknowledged, acknowledged, attached, fresh_row, is_too_high}
 use Rattle.xmpp_resume.specs.Rows.{IsTable, row_of, with_row, without}
@@ -223,13 +225,13 @@ housed_attached n conn queue x rows old new is free hands housed = record { live
         ]
 
 -- the peer's count, taken or refused
-pub housed_tried : {T E : Type 0} (result : Result T E) (h n next i : ℕ) (x y : Row) (numbers : List ℕ) (rows shown : List Row) (old new : PoolView) →
-    TriedAt result n next i (acknowledged h) x y numbers rows shown → PoolAcknowledged h x old new → IsHoused shown old → IsHoused (set rows i y) new
-housed_tried (Ok v) h n next i x y numbers rows shown old new tried change housed =
+pub housed_tried : {T E : Type 0} (result : Result T E) (h n next : ℕ) (x : Row) (get : ℕ → Option Row) (numbers : List ℕ) (rows : List Row) (old new : PoolView) →
+    Tried result n next (acknowledged h) x get numbers rows → PoolAcknowledged h x old new → IsHoused rows old → IsHoused (collected get numbers) new
+housed_tried (Ok v) h n next x get numbers rows old new tried change housed =
     rw tried.ok
-    (housed_with n (acknowledged h) shown new (record { same = λ r. refl }) (record { same = λ r. refl }) (housed_acknowledged h n x shown old new tried.found change housed))
-housed_tried (Err e) h n next i x y numbers rows shown old new tried change housed =
-    rw tried.err (housed_acknowledged h n x shown old new tried.found change housed)
+    (housed_with n (acknowledged h) rows new (record { same = λ r. refl }) (record { same = λ r. refl }) (housed_acknowledged h n x rows old new tried.found change housed))
+housed_tried (Err e) h n next x get numbers rows old new tried change housed =
+    rw tried.err (housed_acknowledged h n x rows old new tried.found change housed)
 
 -- before the first session
 pub housed_nobody : (rows : List Row) (pool : PoolView) → rows ≡ [] → IsHoused rows pool

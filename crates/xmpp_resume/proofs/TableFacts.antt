@@ -1,17 +1,17 @@
 -- What a change of the rows leaves of the table: numbers ascend, and connections and names have one session each.
-use Rattle.std.proofs.Common.{◌≡◌, ◌≢◌, ℕ, ◌+◌, ◌-◌, ◌^◌, ◌<◌, true, false, List, [], ◌∷◌, ◌++◌, Option, Some, None, Result, Ok, Err, length, get_or, map, set, refl, sym, ap, subst, ◌∙◌, arith, inl, inr}
-use Rattle.std.specs.Prelude.{MatchOption, IsSome, OnErr, OnOk}
+use Rattle.std.proofs.Common.{◌≡◌, ◌≢◌, ℕ, ◌+◌, ◌-◌, ◌^◌, ◌<◌, true, false, List, [], ◌∷◌, ◌++◌, Option, Some, None, Result, Ok, Err, length, get_or, map, refl, sym, ap, subst, ◌∙◌, arith, inl, inr}
+use Rattle.std.specs.Prelude.{MatchOption, IsSome}
 use Rattle.std.specs.Result.{result_ok}
 use Rattle.std.specs.Ordering.{nat_cmp}
 use Rattle.std.specs.Str.{bytes_eq}
-use Rattle.std.specs.List.{remove, slice_get}
+use Rattle.std.specs.List.{slice_get}
 use Rattle.std.specs.List.Sorted.{IsBinarySearchResult}
 use Rattle.std.proofs.lemmas.Bool.{cases_eq, cases_lt, false≢true}
-use Rattle.std.proofs.lemmas.List.{length-map, map_push}
+use Rattle.std.proofs.lemmas.List.{length-map}
 use Rattle.std.proofs.lemmas.List.Sorted.{searched}
-use Rattle.std.proofs.lemmas.Option.{none-some, same_Some, slice_get_read}
+use Rattle.std.proofs.lemmas.Option.{none-some, same_Some}
 use Rattle.std.proofs.lemmas.Slice.Eq.{bytes_eq-Decides}
-use Rattle.xmpp_resume.proofs.RowFacts.{KeepsNumber, eqb_same, found_at, find_none_at, none_found, number_is, numbers_with, option_map_some, remove-map, remove_at_place, rises_pair, rises_push, rises_with, rises_without, row_of_push_other, row_of_push_same, row_of_with_other, row_of_with_same, row_of_without_other, row_of_without_same, set_at_place, with_row_id}
+use Rattle.xmpp_resume.proofs.RowFacts.{KeepsNumber, eqb_same, found_at, find_none_at, none_found, option_map_some, rises_pair, rises_push, rises_with, rises_without, row_of_push_other, row_of_push_same, row_of_with_other, row_of_with_same, row_of_without_other, row_of_without_same}
 use Rattle.xmpp_resume.specs.Moves.{fresh_row, number_of, parked, attached}
 use Rattle.xmpp_resume.specs.Rows.{IsTable, is_at, is_named, row_at, row_named, row_of, with_row, without}
 use Rattle.xmpp_resume.specs.declared.session.Row.{Row}
@@ -205,26 +205,6 @@ table_push next account conn queue resource rows table low free unnamed =
               ]
         ]
 
--- what a change of a row at its place leaves
-pub record ChangedAt (n next i : ℕ) (f : Row → Row) (x y : Row) (numbers : List ℕ) (rows shown : List Row) : Type 0 where
-  pub found : row_of n shown ≡ Some x
-  pub written : set rows i y ≡ with_row n f shown
-  pub kept : (numbers ≡ map number_of (set rows i y)) × IsTable (set rows i y) next
-
-pub changed_at : (n next i : ℕ) (f : Row → Row) (x y : Row) (numbers : List ℕ) (rows shown : List Row) → rows ≡ shown → (numbers ≡ map number_of rows) × IsTable rows next →
-    (i < length shown) × (slice_get shown i ≡ row_of n shown) → x ≡ get_or rows i x → y ≡ f x → IsLawfulChange n f shown → ChangedAt n next i f x y numbers rows shown
-changed_at n next i f x y numbers rows shown are invariant place read changed lawful =
-    let item : slice_get shown i ≡ Some x = slice_get_read shown (length shown) i x refl place.0 (read ∙ ap (λ rs. get_or rs i x) are) in
-    let found : row_of n shown ≡ Some x = sym place.1 ∙ item in
-    let table : IsTable shown next = (let P : List Row → Type 0 = λ rs. IsTable rs next in subst P are invariant.1) in
-    let written : set shown i y ≡ with_row n f shown =
-    ap (set shown i) changed ∙ set_at_place next 1 i n f x shown table.ascending item (number_is n x shown found) in
-    record {
-      found = found;
-      written = ap (λ rs. set rs i y) are ∙ written;
-      kept = rw (are, written) (invariant.0 ∙ ap (map number_of) are ∙ sym (numbers_with n f shown lawful.number), table_with n next f shown lawful table);
-    }
-
 pub lawful_parked : (n next now : ℕ) (rows : List Row) → IsTable rows next → IsLawfulChange n (parked now) rows
 lawful_parked n next now rows table =
     record { number = record { same = λ r. refl }; account = λ r. refl; resource = λ r. refl; conn = λ r c is gives m s was at. absurd (none-some c gives) }
@@ -244,49 +224,5 @@ place_is_some n rows shown are lives none =
     let P : Option Row → Type 0 = λ o. IsSome o in
     false≢true (subst P (ap (row_of n) (sym are) ∙ none) lives)
 
-pub pushed : (next account conn queue : ℕ) (resource : List ℕ) (numbers : List ℕ) (rows shown : List Row) → rows ≡ shown → (numbers ≡ map number_of rows) × IsTable rows next → next < 2 ^ 64 - 1 →
-    row_at conn shown ≡ None → row_named account resource shown ≡ None →
-    (numbers ++ next ∷ [] ≡ map number_of (rows ++ fresh_row next account resource conn queue ∷ [])) × IsTable (rows ++ fresh_row next account resource conn queue ∷ []) (next + 1)
-pushed next account conn queue resource numbers rows shown are invariant low free unnamed = (
-  ap (λ ns. ns ++ next ∷ []) invariant.0 ∙ sym (map_push number_of rows (fresh_row next account resource conn queue)),
-  table_push next account conn queue resource rows invariant.1 low (ap (row_at conn) are ∙ free) (ap (row_named account resource) are ∙ unnamed),
-)
-
--- what the removal of a row from its place leaves
-pub record RemovedAt (n next i : ℕ) (x : Row) (numbers : List ℕ) (rows : List Row) : Type 0 where
-  pub row : row_of n rows ≡ Some x
-  pub gone : remove rows i ≡ without n rows
-  pub kept : (remove numbers i ≡ map number_of (remove rows i)) × IsTable (remove rows i) next
-
-pub removed_at : (n next i : ℕ) (x : Row) (numbers : List ℕ) (rows shown : List Row) → rows ≡ shown → (numbers ≡ map number_of rows) × IsTable rows next →
-    (i < length shown) × (slice_get shown i ≡ row_of n shown) → x ≡ get_or rows i x → RemovedAt n next i x numbers rows
-removed_at n next i x numbers rows shown are invariant place read =
-    let here : (i < length rows) × (slice_get rows i ≡ row_of n rows) =
-    (let P : List Row → Type 0 = λ rs. (i < length rs) × (slice_get rs i ≡ row_of n rs) in subst P (sym are) place) in
-    let item : slice_get rows i ≡ Some x = slice_get_read rows (length rows) i x refl here.0 read in
-    let found : row_of n rows ≡ Some x = sym here.1 ∙ item in
-    let gone : remove rows i ≡ without n rows = remove_at_place next 1 i n x rows invariant.1.ascending item (number_is n x rows found) in
-    let taken : remove numbers i ≡ map number_of (remove rows i) = ap (λ ns. remove ns i) invariant.0 ∙ remove-map number_of i rows in
-    record { row = found; gone = gone; kept = (taken, rw gone (table_without n next rows invariant.1)) }
-
 pub table_of : (next : ℕ) (rows shown : List Row) → rows ≡ shown → IsTable rows next → IsTable shown next
 table_of next rows shown are table = let P : List Row → Type 0 = λ rs. IsTable rs next in subst P are table
-
--- a change that is made where a call is well, and isn't where it fails
-pub record TriedAt {T E : Type 0} (r : Result T E) (n next i : ℕ) (f : Row → Row) (x y : Row) (numbers : List ℕ) (rows shown : List Row) : Type 0 where
-  pub found : row_of n shown ≡ Some x
-  pub ok : OnOk r (set rows i y ≡ with_row n f shown)
-  pub err : OnErr r (set rows i y ≡ shown)
-  pub kept : (numbers ≡ map number_of (set rows i y)) × IsTable (set rows i y) next
-
-pub tried_at : {T E : Type 0} (r : Result T E) (n next i : ℕ) (f : Row → Row) (x y : Row) (numbers : List ℕ) (rows shown : List Row) → rows ≡ shown →
-    (numbers ≡ map number_of rows) × IsTable rows next → (i < length shown) × (slice_get shown i ≡ row_of n shown) → x ≡ get_or rows i x →
-    OnOk r (y ≡ f x) → OnErr r (y ≡ x) → IsLawfulChange n f shown → TriedAt r n next i f x y numbers rows shown
-tried_at (Ok v) n next i f x y numbers rows shown are invariant place read ok err lawful =
-    let changed = changed_at n next i f x y numbers rows shown are invariant place read ok lawful in
-    record { found = changed.found; ok = changed.written; err = tt; kept = changed.kept }
-tried_at (Err e) n next i f x y numbers rows shown are invariant place read ok err lawful =
-    let table : IsTable shown next = table_of next rows shown are invariant.1 in
-    let changed = changed_at n next i (λ s. s) x y numbers rows shown are invariant place read err
-    (lawful_kept n next (λ s. s) shown table (record { same = λ s. refl }) (λ s. refl) (λ s. refl) (λ s. refl)) in
-    record { found = changed.found; ok = tt; err = changed.written ∙ with_row_id n shown; kept = changed.kept }

@@ -5,3 +5,5 @@ pub mod Laws
 pub mod Previds
 pub mod Rows
 pub mod Moves
+pub mod Stored
+pub mod Indexed

@@ -3,9 +3,11 @@
 
 mod answers;
 mod binding;
+mod index;
 mod previds;
 mod resumption;
 mod session;
+mod sought;
 mod table;
 
 pub use answers::{AlreadyEnabled, Bound, Ended, RESUMABLE_FOR, ResumeFault, ResumeOk};

@@ -5,9 +5,15 @@ ghost use Rattle.std.specs.List.{find};
 ghost use Rattle.xmpp_pool.specs.Queues.{PoolView, list_of};
 ghost use Rattle.xmpp_resume.specs.Housed.{IsFree, IsHoused};
 ghost use Rattle.xmpp_resume.specs.Rows.{IsTable, row_at, row_named, row_of, with_row, without};
+ghost use Rattle.xmpp_resume.specs.Stored.{Meets, passes, seeks};
+ghost use Rattle.xmpp_resume.specs.declared.session.Row.{Row};
 
+use crate::answers::RESUMABLE_FOR;
+use crate::index::{Index, mark};
 use crate::session::{Row, SessionView};
+use crate::sought::Sought;
 use std::alloc::Global;
+use std::collections::HashMap;
 use std::marker::Model;
 use xmpp_acks::{AckEnd, MOST_UNACKNOWLEDGED, TooHigh};
 use xmpp_edge::{Bytes, NoMemory, Text};
@@ -15,23 +21,34 @@ use xmpp_pool::{Pool, QueueId};
 
 /// The table of sessions. Contracts see its rows, ascending by number, the number that the next session gets, and the
 /// number `spare` of further sessions that fit without more memory.
+///
+/// A session is found by its number, by its connection and by its account and resource in hash maps, whatever the number
+/// of sessions. An expiry answers at once where no session can have expired yet, and else goes through the parked ones.
+/// The end of a session closes the gap in the list of numbers, 8 bytes for each session behind it; the end or the
+/// resumption of a parked one also goes through the numbers of the parked, 8 bytes each. `reserve` alone asks for memory:
+/// an entry is added to a map only where that has room to spare. It makes room for twice as many connections as there are
+/// sessions; where that runs out before the next `reserve` all the same, look-ups by connection and expiries go through
+/// all sessions until then, and answer the same.
 #[derive(Drop)]
 pub struct Sessions {
     numbers: Vec<u64>,
-    rows: Vec<Row>,
+    rows: HashMap<u64, Row>,
+    index: Index,
     next: u64,
 }
 
 impl Model for Sessions {
-    ghost use Rattle.std.specs.Prelude.{◌≡◌, ◌-◌, map, min, vec_len, vec_capacity};
-    ghost use Rattle.xmpp_resume.specs.Moves.{number_of};
-    ghost use Rattle.xmpp_resume.specs.Rows.{IsTable, Table};
+    ghost use Rattle.std.specs.HashMap as hash;
+    ghost use Rattle.std.specs.Prelude.{◌-◌, min, nat_eq, vec_len, vec_capacity};
+    ghost use Rattle.xmpp_resume.specs.Indexed.{IsIndexed};
+    ghost use Rattle.xmpp_resume.specs.Rows.{Table};
+    ghost use Rattle.xmpp_resume.specs.Stored.{IsStored, collected};
 
     ghost Value = { Table };
 
-    ghost view = { λ s. record { rows = s.rows.items; next = s.next; spare = min (vec_capacity s.rows - vec_len s.rows) (vec_capacity s.numbers - vec_len s.numbers) } };
+    ghost view = { λ s. record { rows = collected (hash.get nat_eq s.rows) s.numbers.items; next = s.next; spare = min (hash.spare s.rows) (min (hash.spare s.index.names) (vec_capacity s.numbers - vec_len s.numbers)) } };
 
-    ghost invariant = { λ s. (s.numbers.items ≡ map number_of s.rows.items) × IsTable s.rows.items s.next };
+    ghost invariant = { λ s. IsStored (hash.get nat_eq s.rows) s.numbers.items s.next (collected (hash.get nat_eq s.rows) s.numbers.items) × IsIndexed s.index (collected (hash.get nat_eq s.rows) s.numbers.items) };
 }
 
 impl Sessions {
@@ -44,7 +61,8 @@ impl Sessions {
     {
         Sessions {
             numbers: Vec::new(alloc),
-            rows: Vec::new(alloc),
+            rows: HashMap::new(alloc),
+            index: Index::new(alloc),
             next: first,
         }
     }
@@ -56,7 +74,8 @@ impl Sessions {
         self.next
     }
 
-    /// Makes room for one session more, and never lowers the room. The sessions stay on each outcome.
+    /// Makes room for one session more, and never lowers the room. The sessions stay on each outcome. No other call takes
+    /// memory.
     pub fn reserve(&mut self) -> Result<(), NoMemory>
         ensures spare { OnOk result (1 ≤ self.new.spare) }
         ensures rows { self.new.rows ≡ self.old.rows }
@@ -65,6 +84,10 @@ impl Sessions {
     {
         self.numbers.reserve(1)?;
         self.rows.reserve(1)?;
+        self.index.reserve(self.numbers.len().saturating_add(1))?;
+        if !self.index.whole {
+            self.index.mend(&self.numbers, &self.rows);
+        }
         Ok(())
     }
 
@@ -87,7 +110,7 @@ impl Sessions {
     pub(crate) fn row(&self, number: u64) -> Option<&Row>
         ensures { option_copied result ≡ row_of number self.now.rows }
     {
-        self.rows.get(self.place(number)?)
+        self.rows.get(&number)
     }
 
     /// What is told of a session. `None` where no session has the number.
@@ -104,13 +127,52 @@ impl Sessions {
         Some(&self.row(number)?.end)
     }
 
+    // Whether there is a session with a number, and it is sought.
+    fn meets(&self, number: u64, sought: &Sought) -> bool
+        ensures { result ≡ passes (seeks sought.now) (row_of number self.now.rows) }
+    {
+        match self.row(number) {
+            Some(row) => row.is(sought),
+            None => false,
+        }
+    }
+
+    // The session with a number, where there is one and it is sought.
+    fn checked(&self, number: Option<u64>, sought: &Sought) -> Option<u64>
+        ensures { MatchOption result (IfSome number (λ n. passes (seeks sought.now) (row_of n self.now.rows) ≡ false)) (λ n. Meets (seeks sought.now) n self.now.rows) }
+    {
+        let number = number?;
+        if self.meets(number, sought) {
+            Some(number)
+        } else {
+            None
+        }
+    }
+
+    // A session that is sought, by going through all.
+    fn scan(&self, sought: &Sought) -> Option<u64>
+        ensures number { MatchOption result (find (seeks sought.now) self.now.rows ≡ None) (λ n. Meets (seeks sought.now) n self.now.rows) }
+        ensures table { IsTable self.now.rows self.now.next }
+    {
+        for number in self.numbers() {
+            if self.meets(*number, sought) {
+                return Some(*number);
+            }
+        }
+        None
+    }
+
     /// The number of the session on a connection. `None` where it has none.
     pub fn by_conn(&self, conn: u64) -> Option<u64>
         ensures number { result ≡ option_map number_of (row_at conn self.now.rows) }
         ensures table { IsTable self.now.rows self.now.next }
     {
-        let row = self.rows.iter().find(|row| row.shown.conn == Some(conn))?;
-        Some(row.shown.number)
+        let sought = Sought::Conn(conn);
+        if self.index.whole {
+            self.checked(self.index.conns.get(&conn).copied(), &sought)
+        } else {
+            self.scan(&sought)
+        }
     }
 
     /// The number of the session of an account with a resource. `None` where there is none.
@@ -118,9 +180,13 @@ impl Sessions {
         ensures number { result ≡ option_map number_of (row_named account resource.now self.now.rows) }
         ensures table { IsTable self.now.rows self.now.next }
     {
-        let row = self.rows.iter().find(|row| row.shown.account == account
-            && row.shown.resource.as_str() == resource)?;
-        Some(row.shown.number)
+        let sought = Sought::Named(account, resource);
+        let number = self.index.names.get(&mark(account, resource)).copied();
+        if number == Some(0) {
+            self.scan(&sought)
+        } else {
+            self.checked(number, &sought)
+        }
     }
 
     // Adds a session under the next number, last.
@@ -141,6 +207,7 @@ impl Sessions {
         ensures spare { self.old.spare ≤ self.new.spare + 1 }
     {
         let number = self.next;
+        let mark = mark(account, resource.as_str());
         let shown = SessionView::fresh(number, account, resource, conn);
         let row = Row {
             shown,
@@ -150,10 +217,12 @@ impl Sessions {
             Ok(()) => {}
             Err(_) => unreachable!(),
         }
-        match self.rows.push(row) {
-            Ok(()) => {}
+        match self.rows.insert(number, row) {
+            Ok(_) => {}
             Err(_) => unreachable!(),
         }
+        self.index.enter(number, conn);
+        self.index.name(number, mark);
         self.next = number + 1;
         number
     }
@@ -167,7 +236,14 @@ impl Sessions {
     {
         let at = self.place(number)?;
         let _ = self.numbers.remove(at);
-        Some(self.rows.remove(at))
+        match self.rows.remove(&number) {
+            Some(row) => {
+                self.index.forget(number, row.shown.conn);
+                self.index.unname(number, mark(row.shown.account, row.shown.resource.as_str()));
+                Some(row)
+            }
+            None => unreachable!(),
+        }
     }
 
     // Writes that a session's connection is lost.
@@ -177,10 +253,11 @@ impl Sessions {
         ensures next { self.new.next ≡ self.old.next }
         ensures kept { self.old.spare ≤ self.new.spare }
     {
-        match self.place(number) {
-            Some(at) => {
-                let row = &mut self.rows[at];
+        match self.rows.get_mut(&number) {
+            Some(row) => {
+                self.index.forget(number, row.shown.conn);
                 row.park(now);
+                self.index.wait_from(number, now);
             }
             None => unreachable!(),
         }
@@ -194,11 +271,8 @@ impl Sessions {
         ensures kept { self.old.spare ≤ self.new.spare }
         ensures housed { (pool : PoolView) → IsHoused self.old.rows pool → IsHoused self.new.rows pool }
     {
-        match self.place(number) {
-            Some(at) => {
-                let row = &mut self.rows[at];
-                row.enable(resume);
-            }
+        match self.rows.get_mut(&number) {
+            Some(row) => row.enable(resume),
             None => unreachable!(),
         }
     }
@@ -211,11 +285,8 @@ impl Sessions {
         ensures kept { self.old.spare ≤ self.new.spare }
         ensures housed { (pool : PoolView) → IsHoused self.old.rows pool → IsHoused self.new.rows pool }
     {
-        match self.place(number) {
-            Some(at) => {
-                let row = &mut self.rows[at];
-                row.present(available, priority);
-            }
+        match self.rows.get_mut(&number) {
+            Some(row) => row.present(available, priority),
             None => unreachable!(),
         }
     }
@@ -228,11 +299,8 @@ impl Sessions {
         ensures kept { self.old.spare ≤ self.new.spare }
         ensures housed { (pool : PoolView) → IsHoused self.old.rows pool → IsHoused self.new.rows pool }
     {
-        match self.place(number) {
-            Some(at) => {
-                let row = &mut self.rows[at];
-                row.copy(on);
-            }
+        match self.rows.get_mut(&number) {
+            Some(row) => row.copy(on),
             None => unreachable!(),
         }
     }
@@ -245,11 +313,8 @@ impl Sessions {
         ensures kept { self.old.spare ≤ self.new.spare }
         ensures housed { (pool : PoolView) → IsHoused self.old.rows pool → IsHoused self.new.rows pool }
     {
-        match self.place(number) {
-            Some(at) => {
-                let row = &mut self.rows[at];
-                row.handle();
-            }
+        match self.rows.get_mut(&number) {
+            Some(row) => row.handle(),
             None => unreachable!(),
         }
     }
@@ -270,11 +335,8 @@ impl Sessions {
         ensures room { pool.old.spare ≤ pool.new.spare }
         ensures housed { IsHoused self.new.rows pool.new }
     {
-        match self.place(number) {
-            Some(at) => {
-                let row = &mut self.rows[at];
-                row.ack(pool, h)
-            }
+        match self.rows.get_mut(&number) {
+            Some(row) => row.ack(pool, h),
             None => unreachable!(),
         }
     }
@@ -294,11 +356,8 @@ impl Sessions {
         ensures room { pool.old.spare ≤ pool.new.spare + 1 }
         ensures housed { IsHoused self.new.rows pool.new }
     {
-        match self.place(number) {
-            Some(at) => {
-                let row = &mut self.rows[at];
-                row.put(pool, bytes);
-            }
+        match self.rows.get_mut(&number) {
+            Some(row) => row.put(pool, bytes),
             None => unreachable!(),
         }
     }
@@ -317,20 +376,49 @@ impl Sessions {
         ensures room { pool.old.spare ≤ pool.new.spare }
         ensures housed { IsHoused self.new.rows pool.new }
     {
-        match self.place(number) {
-            Some(at) => {
-                let row = &mut self.rows[at];
+        match self.rows.get_mut(&number) {
+            Some(row) => {
+                self.index.forget(number, row.shown.conn);
                 row.attach(pool, conn, queue);
+                self.index.enter(number, conn);
             }
             None => unreachable!(),
         }
     }
 
-    // A session that can be resumed no more.
-    fn expired_row(&self, now: u64) -> Option<&Row>
-        ensures { option_copied result ≡ find (is_expired now) self.now.rows }
+    // When a session was last parked, and the greatest number where there is none.
+    fn parked_at(&self, number: u64) -> u64
+        ensures { IfSome (row_of number self.now.rows) (λ r. result ≡ r.shown.parked_at) }
     {
-        self.rows.iter().find(|row| row.is_expired(now))
+        match self.row(number) {
+            Some(row) => row.shown.parked_at,
+            None => u64::MAX,
+        }
+    }
+
+    // A moment before which none of the parked was parked.
+    fn least(&self) -> u64
+        ensures { (n : ℕ) (r : Row) → row_of n self.now.rows ≡ Some r → r.shown.conn ≡ None → result ≤ r.shown.parked_at }
+    {
+        if !self.index.whole {
+            return self.index.soonest;
+        }
+        let mut least = u64::MAX;
+        for number in &self.index.parked {
+            least = least.min(self.parked_at(*number));
+        }
+        least
+    }
+
+    // Finds out when a session can expire next, where one could have at the moment `now`.
+    pub(crate) fn settle(&mut self, now: u64)
+        ensures rows { self.new.rows ≡ self.old.rows }
+        ensures next { self.new.next ≡ self.old.next }
+        ensures kept { self.old.spare ≤ self.new.spare }
+    {
+        if now.saturating_sub(self.index.soonest) >= RESUMABLE_FOR {
+            self.index.soonest = self.least();
+        }
     }
 
     // The number of a session that can be resumed no more.
@@ -338,8 +426,18 @@ impl Sessions {
         ensures number { MatchOption result (find (is_expired now) self.now.rows ≡ None) (λ n. HasExpired now n self.now.rows) }
         ensures table { IsTable self.now.rows self.now.next }
     {
-        let _ = &self.next;
-        let row = self.expired_row(now)?;
-        Some(row.shown.number)
+        if now.saturating_sub(self.index.soonest) < RESUMABLE_FOR {
+            return None;
+        }
+        let sought = Sought::Expired(now);
+        if !self.index.whole {
+            return self.scan(&sought);
+        }
+        for number in &self.index.parked {
+            if self.meets(*number, &sought) {
+                return Some(*number);
+            }
+        }
+        None
     }
 }

@@ -1,19 +1,29 @@
 use Rattle.std.proofs.Common.{ap}
+use Rattle.std.specs.Prelude.{nat_eq}
+use Rattle.std.specs.HashMap as hash
 use Rattle.xmpp_resume.proofs.HousedFacts.{housed_attached}
-use Rattle.xmpp_resume.proofs.TableFacts.{ChangedAt, changed_at, lawful_attached}
+use Rattle.xmpp_resume.proofs.IndexFacts.{indexed_attached, indexed_as}
+use Rattle.xmpp_resume.specs.Indexed.{IsIndexed}
+use Rattle.xmpp_resume.proofs.StoredFacts.{Changed, changed_row, opened, there_is}
+use Rattle.xmpp_resume.proofs.TableFacts.{lawful_attached}
 use Rattle.xmpp_resume.specs.Moves.{attached}
-use Rattle.xmpp_resume.specs.Rows.{Table}
+use Rattle.xmpp_resume.specs.Rows.{IsTable, Table}
 use Rattle.xmpp_resume.proofs.table.Sessions.attach_row.Goals as goal
-use Rattle.xmpp_resume.proofs.table.Sessions.attach_row.Goals.{After-self-1}
+use Rattle.xmpp_resume.proofs.table.Sessions.attach_row.Goals.{After-enter}
 
-changed : (c : After-self-1) → ChangedAt c.args.number c.self.inside.next c.in-Some.at (attached c.args.conn c.args.queue) c.index_mut-row.result.now c.attach.new.self c.self.inside.numbers.items c.self.inside.rows.items c.args.self.now.rows
+changed : (c : After-enter) → Changed c.args.number c.self.inside.next (attached c.args.conn c.args.queue) c.in-Some.row.now (hash.get nat_eq (c.get_mut.follows.lender c.attach.new.self)) c.self.inside.numbers.items c.args.self.now.rows
 changed c =
-    changed_at c.args.number c.self.inside.next c.in-Some.at (attached c.args.conn c.args.queue) c.index_mut-row.result.now c.attach.new.self c.self.inside.numbers.items c.self.inside.rows.items c.args.self.now.rows
-    (ap (λ (t : Table). t.rows) c.self.view_is) c.self.invariant c.in-Some.ensures c.index_mut-row.ensures.value c.attach.ensures.row
-    (lawful_attached c.args.number c.args.conn c.args.queue c.args.self.now.rows c.requires.conn)
+    let seen = ap (λ (t : Table). t.rows) c.self.view_is in
+    let table : IsTable c.args.self.now.rows c.self.inside.next = (opened (hash.get nat_eq c.self.inside.rows) c.self.inside.numbers.items c.self.inside.next c.args.self.now.rows seen c.self.invariant.0).table in
+    changed_row c.args.number c.self.inside.next (attached c.args.conn c.args.queue) c.in-Some.row.now c.attach.new.self (hash.get nat_eq c.self.inside.rows) (hash.get nat_eq (c.get_mut.follows.lender c.attach.new.self)) c.self.inside.numbers.items c.args.self.now.rows
+    seen c.self.invariant.0 c.in-Some.ensures.value (((c.get_mut.follows.holds c.attach.new.self).3 (there_is c.in-Some.row.now _ c.in-Some.ensures.value)).0) c.attach.ensures.row (lawful_attached c.args.number c.args.conn c.args.queue c.args.self.now.rows c.requires.conn)
 
 pub invariant_of-self : goal.invariant_of-self
-invariant_of-self c = (changed c).kept
+invariant_of-self c =
+    let seen = ap (λ (t : Table). t.rows) c.self.view_is in
+    let table : IsTable c.args.self.now.rows c.self.inside.next = (opened (hash.get nat_eq c.self.inside.rows) c.self.inside.numbers.items c.self.inside.next c.args.self.now.rows seen c.self.invariant.0).table in
+    let indexed : IsIndexed c.self.inside.index c.args.self.now.rows = indexed_as c.self.inside.index _ c.args.self.now.rows seen c.self.invariant.1 in
+    ((changed c).kept, rw (changed c).written (indexed_attached c.args.number c.self.inside.next c.args.conn c.args.queue c.in-Some.row.now c.self.inside.index c.forget.new.self c.enter.new.self c.args.self.now.rows table (changed c).found c.requires.conn (record { conns = c.forget.ensures.conns; parked = c.forget.ensures.parked }) c.forget.ensures.whole c.forget.ensures.names c.enter.ensures.here c.enter.ensures.conns c.enter.ensures.parked c.enter.ensures.whole c.enter.ensures.names c.forget.ensures.soonest c.enter.ensures.soonest indexed))
 
 pub returns-clause-rows : goal.returns-clause-rows
 returns-clause-rows c = (changed c).written
@@ -24,4 +34,4 @@ returns-clause-pool c = rw (changed c).found c.attach.ensures.pool
 pub returns-clause-housed : goal.returns-clause-housed
 returns-clause-housed c =
     rw (changed c).written
-    (housed_attached c.args.number c.args.conn c.args.queue c.index_mut-row.result.now c.args.self.now.rows c.args.pool.now c.attach.new.pool (changed c).found c.requires.queue c.attach.ensures.pool c.requires.housed)
+    (housed_attached c.args.number c.args.conn c.args.queue c.in-Some.row.now c.args.self.now.rows c.args.pool.now c.attach.new.pool (changed c).found c.requires.queue c.attach.ensures.pool c.requires.housed)

@@ -1,19 +1,28 @@
 use Rattle.std.proofs.Common.{ap}
-use Rattle.xmpp_resume.proofs.TableFacts.{ChangedAt, changed_at, lawful_parked, table_of}
+use Rattle.std.specs.Prelude.{nat_eq}
+use Rattle.std.specs.HashMap as hash
+use Rattle.xmpp_resume.proofs.IndexFacts.{indexed_parked, indexed_as}
+use Rattle.xmpp_resume.specs.Indexed.{IsIndexed}
+use Rattle.xmpp_resume.proofs.StoredFacts.{Changed, changed_row, opened, there_is}
+use Rattle.xmpp_resume.proofs.TableFacts.{lawful_parked}
 use Rattle.xmpp_resume.specs.Moves.{parked}
 use Rattle.xmpp_resume.specs.Rows.{IsTable, Table}
 use Rattle.xmpp_resume.proofs.table.Sessions.park_row.Goals as goal
-use Rattle.xmpp_resume.proofs.table.Sessions.park_row.Goals.{After-self-1}
+use Rattle.xmpp_resume.proofs.table.Sessions.park_row.Goals.{After-wait_from}
 
-changed : (c : After-self-1) → ChangedAt c.args.number c.self.inside.next c.in-Some.at (parked c.args.now) c.index_mut-row.result.now c.park.new.self c.self.inside.numbers.items c.self.inside.rows.items c.args.self.now.rows
+changed : (c : After-wait_from) → Changed c.args.number c.self.inside.next (parked c.args.now) c.in-Some.row.now (hash.get nat_eq (c.get_mut.follows.lender c.park.new.self)) c.self.inside.numbers.items c.args.self.now.rows
 changed c =
-    let rows = ap (λ (t : Table). t.rows) c.self.view_is in
-    let table : IsTable c.args.self.now.rows c.self.inside.next = table_of c.self.inside.next c.self.inside.rows.items c.args.self.now.rows rows c.self.invariant.1 in
-    changed_at c.args.number c.self.inside.next c.in-Some.at (parked c.args.now) c.index_mut-row.result.now c.park.new.self c.self.inside.numbers.items c.self.inside.rows.items c.args.self.now.rows
-    rows c.self.invariant c.in-Some.ensures c.index_mut-row.ensures.value c.park.ensures (lawful_parked c.args.number c.self.inside.next c.args.now c.args.self.now.rows table)
+    let seen = ap (λ (t : Table). t.rows) c.self.view_is in
+    let table : IsTable c.args.self.now.rows c.self.inside.next = (opened (hash.get nat_eq c.self.inside.rows) c.self.inside.numbers.items c.self.inside.next c.args.self.now.rows seen c.self.invariant.0).table in
+    changed_row c.args.number c.self.inside.next (parked c.args.now) c.in-Some.row.now c.park.new.self (hash.get nat_eq c.self.inside.rows) (hash.get nat_eq (c.get_mut.follows.lender c.park.new.self)) c.self.inside.numbers.items c.args.self.now.rows
+    seen c.self.invariant.0 c.in-Some.ensures.value (((c.get_mut.follows.holds c.park.new.self).3 (there_is c.in-Some.row.now _ c.in-Some.ensures.value)).0) c.park.ensures (lawful_parked c.args.number c.self.inside.next c.args.now c.args.self.now.rows table)
 
 pub invariant_of-self : goal.invariant_of-self
-invariant_of-self c = (changed c).kept
+invariant_of-self c =
+    let seen = ap (λ (t : Table). t.rows) c.self.view_is in
+    let table : IsTable c.args.self.now.rows c.self.inside.next = (opened (hash.get nat_eq c.self.inside.rows) c.self.inside.numbers.items c.self.inside.next c.args.self.now.rows seen c.self.invariant.0).table in
+    let indexed : IsIndexed c.self.inside.index c.args.self.now.rows = indexed_as c.self.inside.index _ c.args.self.now.rows seen c.self.invariant.1 in
+    ((changed c).kept, rw (changed c).written (indexed_parked c.args.number c.self.inside.next c.args.now c.in-Some.row.now c.self.inside.index c.forget.new.self c.wait_from.new.self c.args.self.now.rows table (changed c).found (record { conns = c.forget.ensures.conns; parked = c.forget.ensures.parked }) c.forget.ensures.whole c.forget.ensures.names c.wait_from.ensures.conns c.wait_from.ensures.here c.wait_from.ensures.parked c.wait_from.ensures.whole c.wait_from.ensures.names c.forget.ensures.soonest c.wait_from.ensures.soonest c.wait_from.ensures.now indexed))
 
 pub returns-clause-rows : goal.returns-clause-rows
 returns-clause-rows c = (changed c).written

@@ -1,12 +1,37 @@
-use Rattle.std.proofs.Common.{◌-◌, ◌^◌, ◌<◌, ap, arith}
-use Rattle.xmpp_resume.proofs.TableFacts.{pushed}
-use Rattle.xmpp_resume.specs.Rows.{Table}
+use Rattle.std.proofs.Common.{◌+◌, ◌-◌, ◌^◌, ◌<◌, [], ◌∷◌, ◌++◌, ap, arith}
+use Rattle.std.specs.Prelude.{nat_eq}
+use Rattle.std.specs.HashMap as hash
+use Rattle.xmpp_resume.proofs.IndexFacts.{indexed_as, indexed_pushed}
+use Rattle.xmpp_resume.specs.Indexed.{IsIndexed}
+use Rattle.xmpp_resume.proofs.StoredFacts.{ShownAs, opened, pushed_row}
+use Rattle.xmpp_resume.specs.Moves.{fresh_row}
+use Rattle.xmpp_resume.specs.Rows.{IsTable, Table}
+use Rattle.xmpp_resume.specs.Stored.{IsStored}
 use Rattle.xmpp_resume.proofs.table.Sessions.push_row.Goals as goal
+use Rattle.xmpp_resume.proofs.table.Sessions.push_row.Goals.{After-self-1}
+
+pushed : (c : After-self-1) → ShownAs (hash.get nat_eq c.insert.new.self) c.push.new.self.items (c.self.inside.next + 1) (c.args.self.now.rows ++ fresh_row c.self.inside.next c.args.account c.args.resource c.args.conn c.args.queue ∷ [])
+pushed c =
+    let seen = ap (λ (t : Table). t.rows) c.self.view_is in
+    let next = ap (λ (t : Table). t.next) c.self.view_is in
+    let low : c.self.inside.next < 2 ^ 64 - 1 = omega arith in
+    let stored : IsStored (hash.get nat_eq c.self.inside.rows) c.self.inside.numbers.items c.self.inside.next c.args.self.now.rows = opened (hash.get nat_eq c.self.inside.rows) c.self.inside.numbers.items c.self.inside.next c.args.self.now.rows seen c.self.invariant.0 in
+    let updates = rw (c.fresh-shown.ensures, c.new.ensures) at c.in-Ok-insert.ensures.updates.0 in
+    rw c.in-Ok.ensures.items
+    (pushed_row c.self.inside.next c.args.account c.args.conn c.args.queue c.args.resource (hash.get nat_eq c.self.inside.rows) (hash.get nat_eq c.insert.new.self) c.self.inside.numbers.items c.args.self.now.rows
+    stored low c.requires.conn c.requires.name updates)
 
 pub invariant_of-self : goal.invariant_of-self
 invariant_of-self c =
-    let rows = ap (λ (t : Table). t.rows) c.self.view_is in
-    let next = ap (λ (t : Table). t.next) c.self.view_is in
-    let low : c.self.inside.next < 2 ^ 64 - 1 = omega arith in
-    rw (c.in-Ok-push.ensures.items, c.in-Ok.ensures.items, c.fresh-shown.ensures, c.new.ensures)
-    (pushed c.self.inside.next c.args.account c.args.conn c.args.queue c.args.resource c.self.inside.numbers.items c.self.inside.rows.items c.args.self.now.rows rows c.self.invariant low c.requires.conn c.requires.name)
+    let seen = ap (λ (t : Table). t.rows) c.self.view_is in
+    let table : IsTable c.args.self.now.rows c.self.inside.next = (opened (hash.get nat_eq c.self.inside.rows) c.self.inside.numbers.items c.self.inside.next c.args.self.now.rows seen c.self.invariant.0).table in
+    let indexed : IsIndexed c.self.inside.index c.args.self.now.rows = indexed_as c.self.inside.index _ c.args.self.now.rows seen c.self.invariant.1 in (
+      (pushed c).kept,
+      rw (pushed c).shown
+          (indexed_pushed c.self.inside.next c.args.account c.args.conn c.args.queue c.args.resource c.self.inside.index c.enter.new.self c.name.new.self c.args.self.now.rows table c.requires.conn
+          c.enter.ensures.here c.enter.ensures.conns c.enter.ensures.parked c.enter.ensures.whole c.enter.ensures.names (rw (c.mark-mark.ensures, c.as_str.ensures) at c.name.ensures.here)
+          (rw (c.mark-mark.ensures, c.as_str.ensures) at c.name.ensures.shared) (rw (c.mark-mark.ensures, c.as_str.ensures) at c.name.ensures.names) c.name.ensures.conns c.name.ensures.parked c.name.ensures.whole c.enter.ensures.soonest c.name.ensures.soonest indexed),
+    )
+
+pub returns-clause-rows : goal.returns-clause-rows
+returns-clause-rows c = let next = ap (λ (t : Table). t.next) c.self.view_is in rw (← next) (pushed c).shown

@@ -2,7 +2,7 @@ use Rattle.std.proofs.Common.{refl, ◌∙◌, arith}
 use Rattle.xmpp_resume.proofs.ExpiryFacts.{expiring_begins, expiring_ends, expiring_more}
 use Rattle.xmpp_resume.proofs.RowFacts.{length-without}
 use Rattle.xmpp_resume.specs.Housed.{IsGone}
-use Rattle.xmpp_resume.proofs.table.Sessions.expire.Goals as goal
+use Rattle.xmpp_resume.proofs.table.Sessions.end_expired.Goals as goal
 
 pub ending-init : goal.ending-init
 ending-init c =
