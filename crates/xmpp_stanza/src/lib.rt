@@ -11,8 +11,6 @@ mod names;
 mod reading;
 mod stanzas;
 mod streams;
-#[cfg(test)]
-mod tests;
 mod writing;
 
 pub use conditions::Condition;
