@@ -16,24 +16,6 @@ use Rattle.xmpp_resume.specs.Moves.{fresh_row, number_of, parked, attached}
 use Rattle.xmpp_resume.specs.Rows.{IsTable, is_at, is_named, row_at, row_named, row_of, with_row, without}
 use Rattle.xmpp_resume.specs.declared.session.Row.{Row}
 
--- where the numbers are searched
-pub placed : (n next : ℕ) (numbers : List ℕ) (rows : List Row) (r : Result ℕ ℕ) → numbers ≡ map number_of rows → IsTable rows next →
-    IsBinarySearchResult (λ y. nat_cmp y n) numbers r →
-    MatchOption (result_ok r) (row_of n rows ≡ None) (λ i. (i < length rows) × (slice_get rows i ≡ row_of n rows))
-placed n next numbers rows (Ok i) are table search_ =
-    let found = searched (map number_of rows) n (Ok i) (subst (λ (ns : List ℕ). IsBinarySearchResult (λ y. nat_cmp y n) ns (Ok i)) are search_)
-    (λ j k order within. rises_pair next 1 j k rows table.ascending order (omega (arith, length-map rows number_of))) in
-    let within : i < length rows = omega (arith, found.0, length-map rows number_of) in
-    (within, found_at next 1 i n rows table.ascending within found.1)
-placed n next numbers rows (Err i) are table search_ =
-    let found = searched (map number_of rows) n (Err i) (subst (λ (ns : List ℕ). IsBinarySearchResult (λ y. nat_cmp y n) ns (Err i)) are search_)
-    (λ j k order within. rises_pair next 1 j k rows table.ascending order (omega (arith, length-map rows number_of))) in
-    none_found n rows (λ k within same.
-    elim (cases_lt k i) [
-      | inl before ↦ let low : get_or (map number_of rows) k 0 < n = found.1 k before in omega arith
-      | inr after ↦ let high : n < get_or (map number_of rows) k 0 = found.2 k after (omega (arith, length-map rows number_of)) in omega arith
-    ])
-
 pub from_without : (m n : ℕ) (r : Row) (rows : List Row) → row_of m (without n rows) ≡ Some r → (m ≢ n) × (row_of m rows ≡ Some r)
 from_without m n r rows is =
     let other : m ≢ n = λ same. none-some r (sym (row_of_without_same n rows) ∙ ap (λ k. row_of k (without n rows)) (sym same) ∙ is) in

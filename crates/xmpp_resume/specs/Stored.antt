@@ -1,5 +1,5 @@
--- How the table keeps its rows: by number, beside the list of the numbers.
-use Rattle.std.specs.Prelude.{◌≡◌, ℕ, Bool, true, false, List, [], ◌∷◌, Option, None, Some, map}
+-- How the table keeps its rows: by number, beside a list of the numbers in which those of ended sessions may stand too.
+use Rattle.std.specs.Prelude.{◌≡◌, ℕ, ◌+◌, ◌≤◌, Bool, true, false, List, [], ◌∷◌, Option, None, Some, filter, is_some, map}
 use Rattle.xmpp_resume.specs.Moves.{is_expired, number_of}
 use Rattle.xmpp_resume.specs.Rows.{IsTable, is_at, is_named, row_of}
 use Rattle.xmpp_resume.specs.declared.session.Row.{Row}
@@ -15,9 +15,15 @@ abbrev pub collected : (ℕ → Option Row) → List ℕ → List Row
 collected get [] = []
 collected get (n ∷ numbers) = ahead_of (get n) (collected get numbers)
 
--- the rows are found by their numbers, which are listed
+-- the numbers ascend from `low`, and `next` is above them
+abbrev pub Climbs : ℕ → ℕ → List ℕ → Type 0
+Climbs next low [] = low ≤ next
+Climbs next low (n ∷ numbers) = (low ≤ n) × Climbs next (n + 1) numbers
+
+-- the rows are found by their numbers, which are listed in order, among those of sessions that ended
 pub record IsStored (get : ℕ → Option Row) (numbers : List ℕ) (next : ℕ) (rows : List Row) : Type 0 where
-  pub listed : numbers ≡ map number_of rows
+  pub listed : filter (λ n. is_some (get n)) numbers ≡ map number_of rows
+  pub climbing : Climbs next 1 numbers
   pub found : (n : ℕ) → get n ≡ row_of n rows
   pub table : IsTable rows next
 

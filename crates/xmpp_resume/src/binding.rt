@@ -146,23 +146,8 @@ impl Sessions {
     }
 
     /// Ends each session that has been parked for `RESUMABLE_FOR` milliseconds or longer at the moment `now`. It takes no
-    /// memory, and goes through the parked sessions only where one could have expired since it last did.
+    /// memory, and looks at no parked session that was parked later than the first that stays.
     pub fn expire(&mut self, pool: &mut Pool, now: u64)
-        requires { IsHoused self.old.rows pool.old }
-        ensures rows { self.new.rows ≡ filter (λ r. not (is_expired now r)) self.old.rows }
-        ensures next { self.new.next ≡ self.old.next }
-        ensures kept { self.old.spare ≤ self.new.spare }
-        ensures pool { DropsExpired now self.old.rows pool.old pool.new }
-        ensures made { pool.new.made ≡ pool.old.made }
-        ensures room { pool.old.spare ≤ pool.new.spare }
-        ensures housed { IsHoused self.new.rows pool.new }
-    {
-        self.end_expired(pool, now);
-        self.settle(now);
-    }
-
-    // Ends each session that has expired.
-    fn end_expired(&mut self, pool: &mut Pool, now: u64)
         requires { IsHoused self.old.rows pool.old }
         ensures rows { self.new.rows ≡ filter (λ r. not (is_expired now r)) self.old.rows }
         ensures next { self.new.next ≡ self.old.next }

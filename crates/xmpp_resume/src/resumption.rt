@@ -20,7 +20,7 @@ impl Sessions {
         ensures table { IsTable self.now.rows self.now.next }
     {
         let table = self;
-        let _ = table.numbers();
+        let _ = table.listed();
         let number = number_named(previd)?;
         let row = self.row(number)?;
         if row.shown.account != account {

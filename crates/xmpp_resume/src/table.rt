@@ -1,14 +1,15 @@
-ghost use Rattle.std.specs.Prelude.{◌≡◌, ℕ, ◌+◌, ◌-◌, ◌<◌, ◌≤◌, ◌^◌, [], ◌∷◌, ◌++◌, map, None, Some, false, IsSome, OnOk, OnErr, IsTrue, MatchOption, IfSome, length, slice_get};
+ghost use Rattle.std.specs.Prelude.{◌≡◌, ℕ, ◌+◌, ◌-◌, ◌<◌, ◌≤◌, ◌^◌, [], ◌∷◌, ◌++◌, map, None, Some, false, IsSome, OnOk, OnErr, IsTrue, MatchOption, IfSome, filter, is_some, length, nat_eq, nat_lt, slice_index_or, vec_len, vec_capacity};
 ghost use Rattle.std.specs.Option.{option_copied, option_map};
 ghost use Rattle.xmpp_resume.specs.Moves.{HandsOver, HasExpired, Joins, PoolAcknowledged, ack_answer, acknowledged, attached, copying, enabled, fresh_row, handling, is_expired, number_of, parked, present};
+ghost use Rattle.std.specs.HashMap as hash;
 ghost use Rattle.std.specs.List.{find};
+ghost use Rattle.std.specs.List.Sorted.{IsNonDecreasing};
 ghost use Rattle.xmpp_pool.specs.Queues.{PoolView, list_of};
 ghost use Rattle.xmpp_resume.specs.Housed.{IsFree, IsHoused};
 ghost use Rattle.xmpp_resume.specs.Rows.{IsTable, row_at, row_named, row_of, with_row, without};
-ghost use Rattle.xmpp_resume.specs.Stored.{Meets, passes, seeks};
+ghost use Rattle.xmpp_resume.specs.Stored.{Climbs, Meets, passes, seeks};
 ghost use Rattle.xmpp_resume.specs.declared.session.Row.{Row};
 
-use crate::answers::RESUMABLE_FOR;
 use crate::index::{Index, mark};
 use crate::session::{Row, SessionView};
 use crate::sought::Sought;
@@ -23,10 +24,11 @@ use xmpp_pool::{Pool, QueueId};
 /// number `spare` of further sessions that fit without more memory.
 ///
 /// A session is found by its number, by its connection and by its account and resource in hash maps, whatever the number
-/// of sessions. An expiry answers at once where no session can have expired yet, and else goes through the parked ones.
-/// The end of a session closes the gap in the list of numbers, 8 bytes for each session behind it; the end or the
-/// resumption of a parked one also goes through the numbers of the parked, 8 bytes each. `reserve` alone asks for memory:
-/// an entry is added to a map only where that has room to spare. It makes room for twice as many connections as there are
+/// of sessions. Parked sessions wait in the order of the moments at which they were parked: an expiry looks at the first
+/// ones alone, and one that was resumed or ended is skipped when its turn comes. (Where a park is given an earlier moment
+/// than one before it, it goes ahead of the later ones, 16 bytes each.) The numbers of ended sessions stay listed until a
+/// `reserve` finds that they are at least half of the list. `reserve` alone asks for memory: an entry is added to a map
+/// only where that has room to spare. It makes room for twice as many connections and parked sessions as there are
 /// sessions; where that runs out before the next `reserve` all the same, look-ups by connection and expiries go through
 /// all sessions until then, and answer the same.
 #[derive(Drop)]
@@ -49,6 +51,25 @@ impl Model for Sessions {
     ghost view = { λ s. record { rows = collected (hash.get nat_eq s.rows) s.numbers.items; next = s.next; spare = min (hash.spare s.rows) (min (hash.spare s.index.names) (vec_capacity s.numbers - vec_len s.numbers)) } };
 
     ghost invariant = { λ s. IsStored (hash.get nat_eq s.rows) s.numbers.items s.next (collected (hash.get nat_eq s.rows) s.numbers.items) × IsIndexed s.index (collected (hash.get nat_eq s.rows) s.numbers.items) };
+}
+
+// Strikes off a list the numbers that are no session's.
+fn keep_living(numbers: &mut Vec<u64>, rows: &HashMap<u64, Row>)
+    ensures kept { numbers.new.items ≡ filter (λ n. is_some (hash.get nat_eq rows.now n)) numbers.old.items }
+    ensures len { vec_len numbers.new ≤ vec_len numbers.old }
+    ensures capacity { vec_capacity numbers.new ≡ vec_capacity numbers.old }
+{
+    numbers.retain(|number| rows.contains_key(number));
+}
+
+// The place from which numbers that ascend are above one.
+fn above(numbers: &[u64], number: u64) -> usize
+    requires { IsNonDecreasing numbers.now }
+    ensures bound { result ≤ length numbers.now }
+    ensures low { (k d : ℕ) → k < result → slice_index_or numbers.now k d ≤ number }
+    ensures high { (k d : ℕ) → result ≤ k → k < length numbers.now → number < slice_index_or numbers.now k d }
+{
+    numbers.partition_point(|other| *other <= number)
 }
 
 impl Sessions {
@@ -82,28 +103,67 @@ impl Sessions {
         ensures next { self.new.next ≡ self.old.next }
         ensures kept { self.old.spare ≤ self.new.spare }
     {
+        self.prune();
+        self.make_room()
+    }
+
+    // Strikes the numbers of sessions that ended off the list, where they are at least half of it.
+    fn prune(&mut self)
+        ensures rows { self.new.rows ≡ self.old.rows }
+        ensures next { self.new.next ≡ self.old.next }
+        ensures kept { self.old.spare ≤ self.new.spare }
+    {
+        if self.rows.len() <= self.numbers.len() / 2 {
+            keep_living(&mut self.numbers, &self.rows);
+        }
+    }
+
+    // Makes room for one session more.
+    fn make_room(&mut self) -> Result<(), NoMemory>
+        ensures spare { OnOk result (1 ≤ self.new.spare) }
+        ensures rows { self.new.rows ≡ self.old.rows }
+        ensures next { self.new.next ≡ self.old.next }
+        ensures kept { self.old.spare ≤ self.new.spare }
+    {
         self.numbers.reserve(1)?;
         self.rows.reserve(1)?;
-        self.index.reserve(self.numbers.len().saturating_add(1))?;
+        self.index.reserve(self.rows.len().saturating_add(1))?;
         if !self.index.whole {
             self.index.mend(&self.numbers, &self.rows);
         }
         Ok(())
     }
 
-    /// The numbers of the sessions that live, ascending.
-    pub fn numbers(&self) -> &[u64]
-        ensures numbers { result.now ≡ map number_of self.now.rows }
+    // The numbers of all sessions, and of some that ended, ascending.
+    pub(crate) fn listed(&self) -> &[u64]
+        ensures all { filter (λ n. is_some (row_of n self.now.rows)) result.now ≡ map number_of self.now.rows }
+        ensures climbing { Climbs self.now.next 1 result.now }
         ensures table { IsTable self.now.rows self.now.next }
     {
         self.numbers.as_slice()
     }
 
-    // The place of the session with a number.
-    fn place(&self, number: u64) -> Option<usize>
-        ensures { MatchOption result (row_of number self.now.rows ≡ None) (λ i. (i < length self.now.rows) × (slice_get self.now.rows i ≡ row_of number self.now.rows)) }
+    /// The least number above `number` of a session that lives. `None` where there is none. From 0 on, each answer given
+    /// again leads through all sessions in the order of their numbers. It passes over the numbers of sessions that ended
+    /// and are listed still.
+    pub fn next_after(&self, number: u64) -> Option<u64>
+        ensures number { result ≡ find (λ n. nat_lt number n) (map number_of self.now.rows) }
+        ensures table { IsTable self.now.rows self.now.next }
     {
-        self.numbers.binary_search(&number).ok()
+        let numbers = self.listed();
+        self.first_living(&numbers[above(numbers, number)..])
+    }
+
+    // The first of some numbers that is a session's.
+    fn first_living(&self, numbers: &[u64]) -> Option<u64>
+        ensures { result ≡ find (λ n. is_some (row_of n self.now.rows)) numbers.now }
+    {
+        for number in numbers {
+            if self.row(*number).is_some() {
+                return Some(*number);
+            }
+        }
+        None
     }
 
     // The session with a number.
@@ -154,7 +214,7 @@ impl Sessions {
         ensures number { MatchOption result (find (seeks sought.now) self.now.rows ≡ None) (λ n. Meets (seeks sought.now) n self.now.rows) }
         ensures table { IsTable self.now.rows self.now.next }
     {
-        for number in self.numbers() {
+        for number in self.listed() {
             if self.meets(*number, sought) {
                 return Some(*number);
             }
@@ -234,16 +294,11 @@ impl Sessions {
         ensures next { self.new.next ≡ self.old.next }
         ensures kept { self.old.spare ≤ self.new.spare }
     {
-        let at = self.place(number)?;
-        let _ = self.numbers.remove(at);
-        match self.rows.remove(&number) {
-            Some(row) => {
-                self.index.forget(number, row.shown.conn);
-                self.index.unname(number, mark(row.shown.account, row.shown.resource.as_str()));
-                Some(row)
-            }
-            None => unreachable!(),
-        }
+        let row = self.rows.remove(&number)?;
+        self.index.forget(row.shown.conn);
+        self.index
+            .unname(number, mark(row.shown.account, row.shown.resource.as_str()));
+        Some(row)
     }
 
     // Writes that a session's connection is lost.
@@ -253,11 +308,12 @@ impl Sessions {
         ensures next { self.new.next ≡ self.old.next }
         ensures kept { self.old.spare ≤ self.new.spare }
     {
+        self.index.sweep(&self.rows);
         match self.rows.get_mut(&number) {
             Some(row) => {
-                self.index.forget(number, row.shown.conn);
+                self.index.forget(row.shown.conn);
                 row.park(now);
-                self.index.wait_from(number, now);
+                self.index.wait(number, now);
             }
             None => unreachable!(),
         }
@@ -378,7 +434,7 @@ impl Sessions {
     {
         match self.rows.get_mut(&number) {
             Some(row) => {
-                self.index.forget(number, row.shown.conn);
+                self.index.forget(row.shown.conn);
                 row.attach(pool, conn, queue);
                 self.index.enter(number, conn);
             }
@@ -386,58 +442,17 @@ impl Sessions {
         }
     }
 
-    // When a session was last parked, and the greatest number where there is none.
-    fn parked_at(&self, number: u64) -> u64
-        ensures { IfSome (row_of number self.now.rows) (λ r. result ≡ r.shown.parked_at) }
-    {
-        match self.row(number) {
-            Some(row) => row.shown.parked_at,
-            None => u64::MAX,
-        }
-    }
-
-    // A moment before which none of the parked was parked.
-    fn least(&self) -> u64
-        ensures { (n : ℕ) (r : Row) → row_of n self.now.rows ≡ Some r → r.shown.conn ≡ None → result ≤ r.shown.parked_at }
-    {
-        if !self.index.whole {
-            return self.index.soonest;
-        }
-        let mut least = u64::MAX;
-        for number in &self.index.parked {
-            least = least.min(self.parked_at(*number));
-        }
-        least
-    }
-
-    // Finds out when a session can expire next, where one could have at the moment `now`.
-    pub(crate) fn settle(&mut self, now: u64)
+    // The number of a session that can be resumed no more.
+    pub(crate) fn expired(&mut self, now: u64) -> Option<u64>
+        ensures number { MatchOption result (find (is_expired now) self.old.rows ≡ None) (λ n. HasExpired now n self.old.rows) }
+        ensures table { IsTable self.old.rows self.old.next }
         ensures rows { self.new.rows ≡ self.old.rows }
         ensures next { self.new.next ≡ self.old.next }
         ensures kept { self.old.spare ≤ self.new.spare }
     {
-        if now.saturating_sub(self.index.soonest) >= RESUMABLE_FOR {
-            self.index.soonest = self.least();
-        }
-    }
-
-    // The number of a session that can be resumed no more.
-    pub(crate) fn expired(&self, now: u64) -> Option<u64>
-        ensures number { MatchOption result (find (is_expired now) self.now.rows ≡ None) (λ n. HasExpired now n self.now.rows) }
-        ensures table { IsTable self.now.rows self.now.next }
-    {
-        if now.saturating_sub(self.index.soonest) < RESUMABLE_FOR {
-            return None;
-        }
-        let sought = Sought::Expired(now);
         if !self.index.whole {
-            return self.scan(&sought);
+            return self.scan(&Sought::Expired(now));
         }
-        for number in &self.index.parked {
-            if self.meets(*number, &sought) {
-                return Some(*number);
-            }
-        }
-        None
+        self.index.overdue(&self.rows, now)
     }
 }

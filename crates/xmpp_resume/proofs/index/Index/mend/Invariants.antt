@@ -1,9 +1,9 @@
 use Rattle.std.proofs.Common.{◌≡◌, true}
 use Rattle.std.specs.Prelude.{nat_eq}
 use Rattle.std.specs.HashMap as hash
-use Rattle.xmpp_resume.specs.Indexed.{HasFirst}
+use Rattle.xmpp_resume.specs.Indexed.{AreInOrder, HasFirst}
 use Rattle.xmpp_resume.proofs.index.Index.mend.Given as goal
 
 -- the sessions so far are found
 abbrev pub invariant-loop-number : goal.invariant-loop-number
-invariant-loop-number l = (l.self.whole ≡ true → HasFirst l.number-index l.self l.numbers (hash.get nat_eq l.rows)) × (l.self.names ≡ l.fn.self.names) × (l.self.soonest ≡ l.fn.self.soonest)
+invariant-loop-number l = (l.self.whole ≡ true → HasFirst l.number-index l.self l.numbers (hash.get nat_eq l.rows)) × (l.self.names ≡ l.fn.self.names) × AreInOrder l.self

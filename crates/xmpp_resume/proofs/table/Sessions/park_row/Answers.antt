@@ -1,16 +1,16 @@
 use Rattle.std.proofs.Common.{ap}
 use Rattle.std.specs.Prelude.{nat_eq}
 use Rattle.std.specs.HashMap as hash
-use Rattle.xmpp_resume.proofs.IndexFacts.{indexed_parked, indexed_as}
+use Rattle.xmpp_resume.proofs.IndexFacts.{indexed_parked, indexed_as, indexed_swept}
 use Rattle.xmpp_resume.specs.Indexed.{IsIndexed}
 use Rattle.xmpp_resume.proofs.StoredFacts.{Changed, changed_row, opened, there_is}
 use Rattle.xmpp_resume.proofs.TableFacts.{lawful_parked}
 use Rattle.xmpp_resume.specs.Moves.{parked}
 use Rattle.xmpp_resume.specs.Rows.{IsTable, Table}
 use Rattle.xmpp_resume.proofs.table.Sessions.park_row.Goals as goal
-use Rattle.xmpp_resume.proofs.table.Sessions.park_row.Goals.{After-wait_from}
+use Rattle.xmpp_resume.proofs.table.Sessions.park_row.Goals.{After-wait}
 
-changed : (c : After-wait_from) → Changed c.args.number c.self.inside.next (parked c.args.now) c.in-Some.row.now (hash.get nat_eq (c.get_mut.follows.lender c.park.new.self)) c.self.inside.numbers.items c.args.self.now.rows
+changed : (c : After-wait) → Changed c.args.number c.self.inside.next (parked c.args.now) c.in-Some.row.now (hash.get nat_eq (c.get_mut.follows.lender c.park.new.self)) c.self.inside.numbers.items c.args.self.now.rows
 changed c =
     let seen = ap (λ (t : Table). t.rows) c.self.view_is in
     let table : IsTable c.args.self.now.rows c.self.inside.next = (opened (hash.get nat_eq c.self.inside.rows) c.self.inside.numbers.items c.self.inside.next c.args.self.now.rows seen c.self.invariant.0).table in
@@ -21,8 +21,10 @@ pub invariant_of-self : goal.invariant_of-self
 invariant_of-self c =
     let seen = ap (λ (t : Table). t.rows) c.self.view_is in
     let table : IsTable c.args.self.now.rows c.self.inside.next = (opened (hash.get nat_eq c.self.inside.rows) c.self.inside.numbers.items c.self.inside.next c.args.self.now.rows seen c.self.invariant.0).table in
-    let indexed : IsIndexed c.self.inside.index c.args.self.now.rows = indexed_as c.self.inside.index _ c.args.self.now.rows seen c.self.invariant.1 in
-    ((changed c).kept, rw (changed c).written (indexed_parked c.args.number c.self.inside.next c.args.now c.in-Some.row.now c.self.inside.index c.forget.new.self c.wait_from.new.self c.args.self.now.rows table (changed c).found (record { conns = c.forget.ensures.conns; parked = c.forget.ensures.parked }) c.forget.ensures.whole c.forget.ensures.names c.wait_from.ensures.conns c.wait_from.ensures.here c.wait_from.ensures.parked c.wait_from.ensures.whole c.wait_from.ensures.names c.forget.ensures.soonest c.wait_from.ensures.soonest c.wait_from.ensures.now indexed))
+    let stored = opened (hash.get nat_eq c.self.inside.rows) c.self.inside.numbers.items c.self.inside.next c.args.self.now.rows seen c.self.invariant.0 in
+    let indexed : IsIndexed c.sweep.new.self c.args.self.now.rows = indexed_swept c.self.inside.index c.sweep.new.self (hash.get nat_eq c.self.inside.rows) c.args.self.now.rows stored.found c.sweep.ensures.conns c.sweep.ensures.waits c.sweep.ensures.whole c.sweep.ensures.names c.sweep.ensures.ordered
+    (indexed_as c.self.inside.index _ c.args.self.now.rows seen c.self.invariant.1) in
+    ((changed c).kept, rw (changed c).written (indexed_parked c.args.number c.self.inside.next c.args.now c.in-Some.row.now c.sweep.new.self c.forget.new.self c.wait.new.self c.args.self.now.rows table (changed c).found c.forget.ensures.conns c.forget.ensures.waits c.forget.ensures.whole c.forget.ensures.names c.wait.ensures.conns c.wait.ensures.here c.wait.ensures.waits c.wait.ensures.whole c.wait.ensures.names c.wait.ensures.ordered indexed))
 
 pub returns-clause-rows : goal.returns-clause-rows
 returns-clause-rows c = (changed c).written

@@ -29,8 +29,8 @@ invariant_of-self c =
       (pushed c).kept,
       rw (pushed c).shown
           (indexed_pushed c.self.inside.next c.args.account c.args.conn c.args.queue c.args.resource c.self.inside.index c.enter.new.self c.name.new.self c.args.self.now.rows table c.requires.conn
-          c.enter.ensures.here c.enter.ensures.conns c.enter.ensures.parked c.enter.ensures.whole c.enter.ensures.names (rw (c.mark-mark.ensures, c.as_str.ensures) at c.name.ensures.here)
-          (rw (c.mark-mark.ensures, c.as_str.ensures) at c.name.ensures.shared) (rw (c.mark-mark.ensures, c.as_str.ensures) at c.name.ensures.names) c.name.ensures.conns c.name.ensures.parked c.name.ensures.whole c.enter.ensures.soonest c.name.ensures.soonest indexed),
+          c.enter.ensures.here c.enter.ensures.conns c.enter.ensures.waits c.enter.ensures.whole c.enter.ensures.names (rw (c.mark-mark.ensures, c.as_str.ensures) at c.name.ensures.here)
+          (rw (c.mark-mark.ensures, c.as_str.ensures) at c.name.ensures.shared) (rw (c.mark-mark.ensures, c.as_str.ensures) at c.name.ensures.names) c.name.ensures.conns c.name.ensures.waits c.name.ensures.whole indexed),
     )
 
 pub returns-clause-rows : goal.returns-clause-rows

@@ -5,5 +5,5 @@ use Rattle.xmpp_resume.proofs.table.Sessions.scan.Goals as goal
 
 pub returns-clause-number : goal.returns-clause-number
 returns-clause-number c =
-    scanned_none c.args.self.now.next c.loop-number.number-index (seeks c.args.sought.now) c.numbers-number-items.result.now c.args.self.now.rows c.numbers-number-items.ensures.numbers c.numbers-number-items.ensures.table (omega (arith, c.loop-number-test.false))
+    scanned_none c.args.self.now.next c.loop-number.number-index (seeks c.args.sought.now) c.listed-number-items.result.now c.args.self.now.rows c.listed-number-items.ensures.all c.listed-number-items.ensures.table (omega (arith, c.loop-number-test.false))
     c.loop-number.invariant

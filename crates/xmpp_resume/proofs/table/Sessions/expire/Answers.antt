@@ -2,7 +2,7 @@ use Rattle.std.proofs.Common.{refl, ◌∙◌, arith}
 use Rattle.xmpp_resume.proofs.ExpiryFacts.{expiring_begins, expiring_ends, expiring_more}
 use Rattle.xmpp_resume.proofs.RowFacts.{length-without}
 use Rattle.xmpp_resume.specs.Housed.{IsGone}
-use Rattle.xmpp_resume.proofs.table.Sessions.end_expired.Goals as goal
+use Rattle.xmpp_resume.proofs.table.Sessions.expire.Goals as goal
 
 pub ending-init : goal.ending-init
 ending-init c =
@@ -15,19 +15,22 @@ ending-init c =
       housed = c.requires;
     }
 
+pub end-requires : goal.end-requires
+end-requires c = rw c.in-Some.ensures.rows c.ending.invariant.housed
+
 pub ending-smaller : goal.ending-smaller
 ending-smaller c =
-    rw c.end.ensures.rows (length-without c.in-Some.number c.in-Some.ensures.number.0 c.ending.self.rows c.in-Some.ensures.number.1)
+    rw (c.end.ensures.rows, c.in-Some.ensures.rows) (length-without c.in-Some.number c.in-Some.ensures.number.0 c.ending.self.rows c.in-Some.ensures.number.1)
 
 pub ending-preserved : goal.ending-preserved
 ending-preserved c =
     let row = c.in-Some.ensures.number.0 in
-    let gone : IsGone row.end.queue c.ending.pool c.end.new.pool = rw c.in-Some.ensures.number.1 at c.end.ensures.pool in
+    let gone : IsGone row.end.queue c.ending.pool c.end.new.pool = rw (c.in-Some.ensures.rows, c.in-Some.ensures.number.1) at c.end.ensures.pool in
     record {
-      so_far = rw c.end.ensures.rows
+      so_far = rw (c.end.ensures.rows, c.in-Some.ensures.rows)
           (expiring_more c.args.now c.in-Some.number c.ending.self.next row c.args.self.now.rows c.ending.self.rows c.args.pool.now c.ending.pool c.end.new.pool
           c.in-Some.ensures.table c.in-Some.ensures.number.1 c.in-Some.ensures.number.2 gone c.ending.invariant.so_far);
-      next = c.end.ensures.next ∙ c.ending.invariant.next;
+      next = c.end.ensures.next ∙ c.in-Some.ensures.next ∙ c.ending.invariant.next;
       kept = omega arith;
       made = c.end.ensures.made ∙ c.ending.invariant.made;
       room = omega arith;
@@ -35,7 +38,8 @@ ending-preserved c =
     }
 
 pub returns-in-None-clause-rows : goal.returns-in-None-clause-rows
-returns-in-None-clause-rows c = (expiring_ends c.args.now c.args.self.now.rows c.ending.self.rows c.args.pool.now c.ending.pool c.in-None.ensures.number c.ending.invariant.so_far).0
+returns-in-None-clause-rows c =
+    c.in-None.ensures.rows ∙ (expiring_ends c.args.now c.args.self.now.rows c.ending.self.rows c.args.pool.now c.ending.pool c.in-None.ensures.number c.ending.invariant.so_far).0
 
 pub returns-in-None-clause-pool : goal.returns-in-None-clause-pool
 returns-in-None-clause-pool c = (expiring_ends c.args.now c.args.self.now.rows c.ending.self.rows c.args.pool.now c.ending.pool c.in-None.ensures.number c.ending.invariant.so_far).1

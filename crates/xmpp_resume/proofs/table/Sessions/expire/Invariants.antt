@@ -1,7 +1,7 @@
 use Rattle.std.proofs.Common.{◌≡◌, ◌≤◌, length}
 use Rattle.xmpp_resume.proofs.ExpiryFacts.{Expiring}
 use Rattle.xmpp_resume.specs.Housed.{IsHoused}
-use Rattle.xmpp_resume.proofs.table.Sessions.end_expired.Given as goal
+use Rattle.xmpp_resume.proofs.table.Sessions.expire.Given as goal
 
 -- some of the sessions that expired have ended
 abbrev pub invariant-ending : goal.invariant-ending
