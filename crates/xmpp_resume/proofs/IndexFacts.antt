@@ -1,6 +1,6 @@
 -- What a change leaves of the index: each session is found by its connection or among the parked, and by its name.
 use Rattle.std.proofs.Common.{◌+◌, ◌≡◌, ◌≢◌, ℕ, zero, suc, ◌-◌, ◌<◌, ◌≤◌, Bool, true, false, length, get_or, map, take, drop, List, [], ◌∷◌, ◌++◌, Option, Some, None, Result, Ok, Err, refl, sym, ap, subst, ◌∙◌, arith, inl, inr}
-use Rattle.std.specs.Prelude.{IsSome, IfNone, IfSome, MatchOption, nat_eq, nat_le, is_none, is_some, ◌&&◌, ◌||◌, ◌⊎◌}
+use Rattle.std.specs.Prelude.{IsSome, IfNone, IfSome, MatchOption, nat_eq, nat_le, is_none, is_some, ◌&&◌, ◌||◌}
 use Rattle.std.specs.List.{filter, find, insert, list_any}
 use Rattle.std.specs.List.Sorted.{IsNonDecreasingBy}
 use Rattle.std.proofs.lemmas.List.Folds.{list_any-append}
@@ -12,7 +12,7 @@ use Rattle.std.proofs.lemmas.Bool.{cases_Bool, cases_eq, false≢true}
 use Rattle.std.proofs.lemmas.Bool.Decides.{nat_tests}
 use Rattle.std.proofs.lemmas.List.{take-append-drop}
 use Rattle.std.proofs.lemmas.Option.{none-some, same_Some}
-use Rattle.xmpp_resume.proofs.RowFacts.{KeepsNumber, eqb_other, eqb_same, find_no, row_of_bounds, same_from_eqb}
+use Rattle.xmpp_resume.proofs.RowFacts.{KeepsNumber, eqb_same, find_no, row_of_bounds, same_from_eqb}
 use Rattle.xmpp_resume.proofs.TableFacts.{FromPush, FromWith, from_push, from_with, from_without, not_at}
 use Rattle.xmpp_resume.specs.Indexed.{AreApart, AreInOrder, HasFirst, IsFound, IsIndexed, IsKnown, KeepsParked, conn_in, is_parked_at, is_wait, mark_of, marked, name_in, waits_in}
 use Rattle.xmpp_resume.specs.declared.index.Wait.{Wait}

@@ -1,10 +1,9 @@
 -- What is true of rows whose numbers ascend: where one is found, and what a change leaves of it.
-use Rattle.std.proofs.Common.{◌≡◌, ◌≢◌, ℕ, zero, suc, ◌+◌, ◌<◌, ◌≤◌, ◌==◌, Bool, true, false, not, List, [], ◌∷◌, ◌++◌, Option, Some, None, length, get_or, map, set, take, drop, refl, sym, ap, subst, ◌∙◌, arith, inl, inr}
+use Rattle.std.proofs.Common.{◌≡◌, ◌≢◌, ℕ, ◌+◌, ◌<◌, ◌≤◌, ◌==◌, Bool, true, false, not, List, [], ◌∷◌, ◌++◌, Option, Some, None, length, map, refl, sym, ap, subst, ◌∙◌, arith, inl, inr}
 use Rattle.std.proofs.lemmas.Bool.{cases_eq, cases_lt, cases_Bool, false≢true}
 use Rattle.std.proofs.lemmas.Bool.Decides.{nat_tests}
 use Rattle.std.proofs.lemmas.Option.{none-some, same_Some}
-use Rattle.std.proofs.lemmas.List.{drop-map, map-append, take-map}
-use Rattle.std.specs.List.{filter, find, remove, slice_get}
+use Rattle.std.specs.List.{filter, find}
 use Rattle.std.specs.Option.{option_map, IsSome}
 use Rattle.xmpp_resume.specs.Moves.{number_of}
 use Rattle.xmpp_resume.specs.Rows.{RisesTo, row_of, with_row, without}
@@ -30,39 +29,6 @@ number_is n r (s ∷ rows) is =
           sym (ap number_of first) ∙ same
       | inr other ↦ number_is n r rows (rw (eqb_other s.shown.number n other) at is)
     ]
-
--- the numbers are at least the first bound
-pub rises_at : (next low k : ℕ) (rows : List Row) → RisesTo next low rows → k < length rows → low ≤ get_or (map number_of rows) k 0
-rises_at next low k [] rise within = absurd (omega arith)
-rises_at next low zero (r ∷ rows) rise within = rise.0
-rises_at next low (suc k) (r ∷ rows) rise within =
-    let rest : r.shown.number + 1 ≤ get_or (map number_of rows) k 0 = rises_at next (r.shown.number + 1) k rows rise.1 (omega arith) in
-    omega arith
-
-pub rises_pair : (next low i j : ℕ) (rows : List Row) → RisesTo next low rows → i ≤ j → j < length rows →
-    get_or (map number_of rows) i 0 ≤ get_or (map number_of rows) j 0
-rises_pair next low i j [] rise order within = absurd (omega arith)
-rises_pair next low zero zero (r ∷ rows) rise order within = omega arith
-rises_pair next low zero (suc j) (r ∷ rows) rise order within =
-    let rest : r.shown.number + 1 ≤ get_or (map number_of rows) j 0 = rises_at next (r.shown.number + 1) j rows rise.1 (omega arith) in
-    omega arith
-rises_pair next low (suc i) zero (r ∷ rows) rise order within = absurd (omega arith)
-rises_pair next low (suc i) (suc j) (r ∷ rows) rise order within = rises_pair next (r.shown.number + 1) i j rows rise.1 (omega arith) (omega arith)
-
--- the row at the place of a number
-pub found_at : (next low i n : ℕ) (rows : List Row) → RisesTo next low rows → i < length rows → get_or (map number_of rows) i 0 ≡ n →
-    slice_get rows i ≡ row_of n rows
-found_at next low i n [] rise within is = absurd (omega arith)
-found_at next low zero n (r ∷ rows) rise within is = rw (is, eqb_same n)
-found_at next low (suc i) n (r ∷ rows) rise within is =
-    let rest : r.shown.number + 1 ≤ get_or (map number_of rows) i 0 = rises_at next (r.shown.number + 1) i rows rise.1 (omega arith) in
-    let other : r.shown.number ≢ n = omega arith in
-    rw (eqb_other r.shown.number n other) (found_at next (r.shown.number + 1) i n rows rise.1 (omega arith) is)
-
-pub none_found : (n : ℕ) (rows : List Row) → ((k : ℕ) → k < length rows → get_or (map number_of rows) k 0 ≢ n) → row_of n rows ≡ None
-none_found n [] none = refl
-none_found n (r ∷ rows) none =
-    rw (eqb_other r.shown.number n (none zero (omega arith))) (none_found n rows (λ k within. none (suc k) (omega arith)))
 
 -- a number below the first bound is no row's, nor one from the next on
 pub row_of_low : (next low n : ℕ) (rows : List Row) → RisesTo next low rows → n < low → row_of n rows ≡ None
@@ -304,43 +270,6 @@ pub option_map_some : {A B : Type 0} (f : A → B) (o : Option A) (y : B) → op
 option_map_some f None y is = absurd (none-some y is)
 option_map_some f (Some x) y is = (x, refl, same_Some (f x) y is)
 
--- the row at a place is found by its number
-pub placed_number : (next low i : ℕ) (r : Row) (rows : List Row) → RisesTo next low rows → slice_get rows i ≡ Some r → row_of r.shown.number rows ≡ Some r
-placed_number next low i r [] rise is = cc
-placed_number next low zero r (s ∷ rows) rise is = let same : s ≡ r = same_Some s r is in rw same (rw (eqb_same r.shown.number))
-placed_number next low (suc i) r (s ∷ rows) rise is =
-    row_of_rest next low r.shown.number r s rows rise (placed_number next (s.shown.number + 1) i r rows rise.1 is)
-
--- a row written back at its place
-pub set_at_place : (next low i n : ℕ) (f : Row → Row) (r : Row) (rows : List Row) → RisesTo next low rows → slice_get rows i ≡ Some r → r.shown.number ≡ n →
-    set rows i (f r) ≡ with_row n f rows
-set_at_place next low i n f r [] rise is number = cc
-set_at_place next low zero n f r (s ∷ rows) rise is number =
-    let same : s ≡ r = same_Some s r is in
-    let here : (s.shown.number == n) ≡ true = rw (same, number) (eqb_same n) in
-    let none : row_of n rows ≡ None = row_of_low next (s.shown.number + 1) n rows rise.1 (rw same (omega arith)) in
-    rw here (rw (same, with_row_none n f rows none))
-set_at_place next low (suc i) n f r (s ∷ rows) rise is number =
-    let found : row_of r.shown.number rows ≡ Some r = placed_number next (s.shown.number + 1) i r rows rise.1 is in
-    let bounds : s.shown.number + 1 ≤ r.shown.number = (row_of_bounds next (s.shown.number + 1) r.shown.number r rows rise.1 found).0 in
-    let other : s.shown.number ≢ n = omega arith in
-    rw (eqb_other s.shown.number n other) (ap (λ t. s ∷ t) (set_at_place next (s.shown.number + 1) i n f r rows rise.1 is number))
-
--- a row gone from its place
-pub remove_at_place : (next low i n : ℕ) (r : Row) (rows : List Row) → RisesTo next low rows → slice_get rows i ≡ Some r → r.shown.number ≡ n →
-    remove rows i ≡ without n rows
-remove_at_place next low i n r [] rise is number = cc
-remove_at_place next low zero n r (s ∷ rows) rise is number =
-    let same : s ≡ r = same_Some s r is in
-    let here : (s.shown.number == n) ≡ true = rw (same, number) (eqb_same n) in
-    let none : row_of n rows ≡ None = row_of_low next (s.shown.number + 1) n rows rise.1 (rw same (omega arith)) in
-    rw here (sym (without_none n rows none))
-remove_at_place next low (suc i) n r (s ∷ rows) rise is number =
-    let found : row_of r.shown.number rows ≡ Some r = placed_number next (s.shown.number + 1) i r rows rise.1 is in
-    let bounds : s.shown.number + 1 ≤ r.shown.number = (row_of_bounds next (s.shown.number + 1) r.shown.number r rows rise.1 found).0 in
-    let other : s.shown.number ≢ n = omega arith in
-    rw (eqb_other s.shown.number n other) (ap (λ t. s ∷ t) (remove_at_place next (s.shown.number + 1) i n r rows rise.1 is number))
-
 -- the numbers that are left
 pub numbers_with : (n : ℕ) (f : Row → Row) (rows : List Row) → KeepsNumber f → map number_of (with_row n f rows) ≡ map number_of rows
 numbers_with n f [] keeps = refl
@@ -349,10 +278,6 @@ numbers_with n f (r ∷ rows) keeps =
       | inl here ↦ rw here (rw (keeps.same r) (ap (λ t. r.shown.number ∷ t) (numbers_with n f rows keeps)))
       | inr other ↦ rw other (ap (λ t. r.shown.number ∷ t) (numbers_with n f rows keeps))
     ]
-
-pub remove-map : {A B : Type 0} (f : A → B) (i : ℕ) (xs : List A) → remove (map f xs) i ≡ map f (remove xs i)
-remove-map f i [] = rw (take-map f i [], drop-map f (suc i) []) (sym (map-append f (take i []) (drop (suc i) [])))
-remove-map f i (x ∷ xs) = rw (take-map f i (x ∷ xs), drop-map f (suc i) (x ∷ xs)) (sym (map-append f (take i (x ∷ xs)) (drop (suc i) (x ∷ xs))))
 
 pub with_row_id : (n : ℕ) (rows : List Row) → with_row n (λ r. r) rows ≡ rows
 with_row_id n [] = refl

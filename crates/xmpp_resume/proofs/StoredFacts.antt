@@ -230,20 +230,6 @@ removed_row n next old new numbers rows stored updates =
     and_yes true = refl
     and_yes false = refl
 
--- where no row has the number
-pub absent_same : (n : ℕ) (old new : ℕ → Option Row) → None ≡ old n → ((q : ℕ) → new q ≡ cond (nat_eq n q) None (old q)) → (q : ℕ) → new q ≡ old q
-absent_same n old new none updates q =
-    elim (cases_eq q n) [
-      | inl same ↦
-          let test : nat_eq n q ≡ true = rw same (eqb_same n) in
-          let after : new q ≡ None = updates q ∙ rw test in
-          after ∙ none ∙ ap old (sym same)
-      | inr other ↦
-          let test : nat_eq n q ≡ false = eqb_other n q (λ is. other (sym is)) in
-          let after : new q ≡ old q = updates q ∙ rw test in
-          after
-    ]
-
 -- what is left where the numbers of sessions that ended are struck off
 pub pruned_list : (next : ℕ) (get : ℕ → Option Row) (numbers : List ℕ) (rows : List Row) → IsStored get numbers next rows → ShownAs get (filter (λ n. is_some (get n)) numbers) next rows
 pruned_list next get numbers rows stored =

@@ -1,18 +1,12 @@
 -- What a change of the rows leaves of the table: numbers ascend, and connections and names have one session each.
-use Rattle.std.proofs.Common.{◌≡◌, ◌≢◌, ℕ, ◌+◌, ◌-◌, ◌^◌, ◌<◌, true, false, List, [], ◌∷◌, ◌++◌, Option, Some, None, Result, Ok, Err, length, get_or, map, refl, sym, ap, subst, ◌∙◌, arith, inl, inr}
-use Rattle.std.specs.Prelude.{MatchOption, IsSome}
-use Rattle.std.specs.Result.{result_ok}
-use Rattle.std.specs.Ordering.{nat_cmp}
+use Rattle.std.proofs.Common.{◌≡◌, ◌≢◌, ℕ, ◌+◌, ◌-◌, ◌^◌, ◌<◌, true, false, List, [], ◌∷◌, ◌++◌, Option, Some, None, refl, sym, ap, subst, ◌∙◌, arith, inl, inr}
+use Rattle.std.specs.Prelude.{IsSome}
 use Rattle.std.specs.Str.{bytes_eq}
-use Rattle.std.specs.List.{slice_get}
-use Rattle.std.specs.List.Sorted.{IsBinarySearchResult}
-use Rattle.std.proofs.lemmas.Bool.{cases_eq, cases_lt, false≢true}
-use Rattle.std.proofs.lemmas.List.{length-map}
-use Rattle.std.proofs.lemmas.List.Sorted.{searched}
+use Rattle.std.proofs.lemmas.Bool.{cases_eq, false≢true}
 use Rattle.std.proofs.lemmas.Option.{none-some, same_Some}
 use Rattle.std.proofs.lemmas.Slice.Eq.{bytes_eq-Decides}
-use Rattle.xmpp_resume.proofs.RowFacts.{KeepsNumber, eqb_same, found_at, find_none_at, none_found, option_map_some, rises_pair, rises_push, rises_with, rises_without, row_of_push_other, row_of_push_same, row_of_with_other, row_of_with_same, row_of_without_other, row_of_without_same}
-use Rattle.xmpp_resume.specs.Moves.{fresh_row, number_of, parked, attached}
+use Rattle.xmpp_resume.proofs.RowFacts.{KeepsNumber, eqb_same, find_none_at, option_map_some, rises_push, rises_with, rises_without, row_of_push_other, row_of_push_same, row_of_with_other, row_of_with_same, row_of_without_other, row_of_without_same}
+use Rattle.xmpp_resume.specs.Moves.{fresh_row, parked, attached}
 use Rattle.xmpp_resume.specs.Rows.{IsTable, is_at, is_named, row_at, row_named, row_of, with_row, without}
 use Rattle.xmpp_resume.specs.declared.session.Row.{Row}
 

@@ -1,10 +1,12 @@
 -- The definitions, evaluated at values that were worked out beforehand.
 use Rattle.std.proofs.Common.{◌≡◌, ℕ, Bool, true, false, List, [], ◌∷◌, Option, Some, None, Ok, Err, pos, refl}
-use Rattle.std.specs.Prelude.{codes}
+use Rattle.std.specs.Prelude.{codes, map, nat_lt}
+use Rattle.std.specs.List.{find}
 use Rattle.xmpp_pool.specs.Queues.{PoolView, list_among}
-use Rattle.xmpp_resume.specs.Moves.{is_expired, resume_answer, row_resumed, rows_parked, rows_resumed}
+use Rattle.xmpp_resume.specs.Moves.{is_expired, number_of, resume_answer, row_resumed, rows_parked, rows_resumed}
 use Rattle.xmpp_resume.specs.Previds.{previd_of}
-use Rattle.xmpp_resume.specs.Rows.{less, row_at, row_named}
+use Rattle.xmpp_resume.specs.Rows.{less, row_at, row_named, row_of}
+use Rattle.xmpp_resume.specs.Stored.{collected}
 use Rattle.xmpp_resume.specs.declared.session.Row.{Row}
 use Rattle.xmpp_resume.specs.declared.answers.ResumeFault.TheVariants.{TooHigh, UnknownPrevid}
 
@@ -61,6 +63,19 @@ other_account_by_name = refl
 
 without_the_phone : less (Some phone) two ≡ pad ∷ []
 without_the_phone = refl
+
+first_of_all : find (λ n. nat_lt 0 n) (map number_of two) ≡ Some 1
+first_of_all = refl
+
+next_after_the_phone : find (λ n. nat_lt 1 n) (map number_of two) ≡ Some 2
+next_after_the_phone = refl
+
+none_after_the_pad : find (λ n. nat_lt 2 n) (map number_of two) ≡ None
+none_after_the_pad = refl
+
+-- the phone ended, and its number is listed still
+the_dead_are_passed_over : find (λ n. nat_lt 0 n) (map number_of (collected (λ n. row_of n (pad ∷ [])) (1 ∷ 2 ∷ []))) ≡ Some 2
+the_dead_are_passed_over = refl
 
 the_phone_is_parked : rows_parked 2000 (row_at 5 two) two ≡ session 1 (codes "phone") None 2000 true 11 0 ∷ pad ∷ []
 the_phone_is_parked = refl

@@ -78,7 +78,8 @@ impl Index {
         }
     }
 
-    // Makes room for one session more by name, and for twice `count` by connection and among the parked.
+    // Makes room for one session more by name, for `count` and a quarter more by connection, and for twice as many that were
+    // parked.
     pub(crate) fn reserve(&mut self, count: usize) -> Result<(), NoMemory>
         ensures conns { (q : ℕ) → conn_in self.new q ≡ conn_in self.old q }
         ensures waits { self.new.waits.items ≡ self.old.waits.items }
@@ -91,8 +92,8 @@ impl Index {
         if self.waits.capacity() / 2 < count {
             self.waits.reserve(count.saturating_mul(3))?;
         }
-        if self.conns.capacity() / 2 < count {
-            self.conns.reserve(count.saturating_mul(3))?;
+        if self.conns.capacity() < count.saturating_add(count / 4) {
+            self.conns.reserve(count)?;
         }
         Ok(())
     }
@@ -151,7 +152,9 @@ impl Index {
         ensures high { (k : ℕ) (d : Wait) → result ≤ k → k < length self.now.waits.items → since ≤ (slice_index_or self.now.waits.items k d).since }
     {
         match self.waits.back() {
-            Some(last) if last.since > since => self.waits.partition_point(|wait| wait.since <= since),
+            Some(last) if last.since > since => self
+                .waits
+                .partition_point(|wait| wait.since <= since),
             _ => self.waits.len(),
         }
     }

@@ -25,12 +25,14 @@ use xmpp_pool::{Pool, QueueId};
 ///
 /// A session is found by its number, by its connection and by its account and resource in hash maps, whatever the number
 /// of sessions. Parked sessions wait in the order of the moments at which they were parked: an expiry looks at the first
-/// ones alone, and one that was resumed or ended is skipped when its turn comes. (Where a park is given an earlier moment
-/// than one before it, it goes ahead of the later ones, 16 bytes each.) The numbers of ended sessions stay listed until a
-/// `reserve` finds that they are at least half of the list. `reserve` alone asks for memory: an entry is added to a map
-/// only where that has room to spare. It makes room for twice as many connections and parked sessions as there are
-/// sessions; where that runs out before the next `reserve` all the same, look-ups by connection and expiries go through
-/// all sessions until then, and answer the same.
+/// ones alone, and passes over one that was resumed or ended since when its turn comes. (Where a park is given an earlier
+/// moment than one before it, its entry goes ahead of the later ones, 16 bytes each.) The numbers of ended sessions stay
+/// listed until a `reserve` finds that they are at least half of the list.
+///
+/// `reserve` alone asks for memory: an entry is added only where there is room to spare. It makes room for a quarter more
+/// connections than there are sessions, and for twice as many parks; where that is used up, what is said of sessions that
+/// ended or were resumed is dropped first. Where it runs out before the next `reserve` all the same, look-ups by
+/// connection and expiries go through all sessions until then, and answer the same.
 #[derive(Drop)]
 pub struct Sessions {
     numbers: Vec<u64>,
@@ -296,8 +298,7 @@ impl Sessions {
     {
         let row = self.rows.remove(&number)?;
         self.index.forget(row.shown.conn);
-        self.index
-            .unname(number, mark(row.shown.account, row.shown.resource.as_str()));
+        self.index.unname(number, mark(row.shown.account, row.shown.resource.as_str()));
         Some(row)
     }
 

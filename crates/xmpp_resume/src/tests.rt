@@ -108,7 +108,11 @@ fn replaced(alloc: Global) -> Result<(Bound, Bound, bool), Fail> {
     counted(&mut sessions, second.number)?;
     let _ = sessions.park(&mut pool, 2, 1_000);
     let third = bound(alloc, &mut sessions, &mut pool, "phone", 3)?;
-    Ok((second, third, sessions.next_after(0) == Some(3) && sessions.next_after(3).is_none()))
+    Ok((
+        second,
+        third,
+        sessions.next_after(0) == Some(3) && sessions.next_after(3).is_none(),
+    ))
 }
 
 // A session that is attached is resumed twice, the first time with a count.
