@@ -1,12 +1,12 @@
 // Errors of stanzas and of streams. The conditions are those of RFC 6120 sections 8.3.3 and 4.9.3.
-use crate::tests::{leaf, put_leaf, shown, tree_with};
+use crate::tests::{leaf, put_attr, put_leaf, shown, tree_with};
 use crate::{
     CLIENT, Condition, ErrorKind, STREAM_ERRORS, STREAMS, StanzaError, StanzaErrorFault,
     error_element, stanza_error, stream_condition, stream_error,
 };
 use std::alloc::Global;
 use xmpp_edge::{NoMemory, Text};
-use xmpp_framing::{Attr, Element, Tree};
+use xmpp_framing::{Element, Tree};
 
 // A condition of stanzas, the kind that it goes with there, and whether it has a variant of its own.
 static CONDITIONS: [(&str, ErrorKind, bool); 22] = [
@@ -34,12 +34,25 @@ static CONDITIONS: [(&str, ErrorKind, bool); 22] = [
     ("unexpected-request", ErrorKind::Wait, true),
 ];
 
+fn error_of(alloc: Global, name: &str, kind: ErrorKind) -> Result<Element, NoMemory> {
+    let condition = Condition::named(alloc, name)?;
+    error_element(alloc, &StanzaError { kind, condition })
+}
+
+fn put_written(
+    alloc: Global,
+    message: &mut Element,
+    name: &str,
+    kind: ErrorKind,
+) -> Result<(), NoMemory> {
+    let error = error_of(alloc, name, kind)?;
+    message.push_child(error)
+}
+
 // A message with an error of this condition and kind.
 fn error_tree(alloc: Global, name: &str, kind: ErrorKind) -> Result<Tree, NoMemory> {
-    let condition = Condition::named(alloc, name)?;
-    let error = error_element(alloc, &StanzaError { kind, condition })?;
     let mut message = Element::from_strs(alloc, CLIENT, "message")?;
-    message.push_child(error)?;
+    put_written(alloc, &mut message, name, kind)?;
     Tree::of(alloc, message)
 }
 
@@ -126,6 +139,16 @@ fn put_leaves(
     Ok(())
 }
 
+fn put_inside(
+    alloc: Global,
+    error: &mut Element,
+    kind: &str,
+    names: &[(&str, &str)],
+) -> Result<(), NoMemory> {
+    put_attr(alloc, error, "type", kind)?;
+    put_leaves(alloc, error, names)
+}
+
 fn put_error(
     alloc: Global,
     message: &mut Element,
@@ -134,16 +157,25 @@ fn put_error(
     names: &[(&str, &str)],
 ) -> Result<(), NoMemory> {
     let mut error = leaf(alloc, ns, "error", "?")?;
-    error.push_attr(Attr::from_strs(alloc, "", "type", kind)?)?;
-    put_leaves(alloc, &mut error, names)?;
+    put_inside(alloc, &mut error, kind, names)?;
     message.push_child(error)
+}
+
+// Adds an `error` for each row.
+fn put_errors(
+    alloc: Global,
+    message: &mut Element,
+    errors: &[(&str, &str, &[(&str, &str)])],
+) -> Result<(), NoMemory> {
+    for (ns, kind, names) in errors {
+        put_error(alloc, message, ns, kind, names)?;
+    }
+    Ok(())
 }
 
 fn message_with(alloc: Global, row: &ErrorRow) -> Result<Tree, NoMemory> {
     let mut message = Element::from_strs(alloc, CLIENT, "message")?;
-    for (ns, kind, names) in row.errors {
-        put_error(alloc, &mut message, ns, kind, names)?;
-    }
+    put_errors(alloc, &mut message, row.errors)?;
     Tree::of(alloc, message)
 }
 
@@ -204,7 +236,8 @@ fn reads_each_stream_condition(rt: HostRuntime) -> Result<(), NoMemory> {
 static COUNTS: [(&str, &str); 2] = [("h", "10"), ("send-count", "8")];
 
 const WITH_COUNTS: &str =
-    "http://etherx.jabber.org/streams|error{}[urn:ietf:params:xml:ns:xmpp-streams|undefined-condition{}[]urn:xmpp:sm:3|handled-count-too-high{|h=10;|send-count=8;}[]]";
+    "http://etherx.jabber.org/streams|error{}[urn:ietf:params:xml:ns:xmpp-streams|undefined-condition{}[]\
+     urn:xmpp:sm:3|handled-count-too-high{|h=10;|send-count=8;}[]]";
 
 // What an application adds (RFC 6120 section 4.9.4), with the element of XEP-0198 section 5.
 #[test]
@@ -217,13 +250,17 @@ fn adds_to_stream_errors(rt: HostRuntime) -> Result<(), NoMemory> {
     Ok(())
 }
 
+// Adds a text of the conditions' namespace, and an element of another one.
+fn put_no_condition(alloc: Global, error: &mut Element) -> Result<(), NoMemory> {
+    put_leaf(alloc, error, STREAM_ERRORS, "text", "conflict")?;
+    put_leaf(alloc, error, "urn:other", "conflict", "")
+}
+
 #[test]
 fn a_text_is_no_condition(rt: HostRuntime) -> Result<(), NoMemory> {
-    let alloc = rt.alloc();
-    let mut error = leaf(alloc, STREAMS, "error", "conflict")?;
-    put_leaf(alloc, &mut error, STREAM_ERRORS, "text", "conflict")?;
-    put_leaf(alloc, &mut error, "urn:other", "conflict", "")?;
-    let tree = Tree::of(alloc, error)?;
+    let mut error = leaf(rt.alloc(), STREAMS, "error", "conflict")?;
+    put_no_condition(rt.alloc(), &mut error)?;
+    let tree = Tree::of(rt.alloc(), error)?;
     assert!(rt; stream_condition(&tree).is_none());
     Ok(())
 }

@@ -8,10 +8,15 @@ use xmpp_edge::{NoMemory, Text};
 use xmpp_framing::{Attr, Element, Node, Tree};
 use xmpp_jid::Jid;
 
+fn put_text(alloc: Global, element: &mut Element, text: &str) -> Result<(), NoMemory> {
+    let text = Text::from_str(alloc, text)?;
+    element.push_text(text)
+}
+
 // An element that contains a text.
 pub(crate) fn leaf(alloc: Global, ns: &str, name: &str, text: &str) -> Result<Element, NoMemory> {
     let mut element = Element::from_strs(alloc, ns, name)?;
-    element.push_text(Text::from_str(alloc, text)?)?;
+    put_text(alloc, &mut element, text)?;
     Ok(element)
 }
 
@@ -28,7 +33,12 @@ pub(crate) fn put_leaf(
 }
 
 // Adds an attribute without a namespace, or `xml:lang`.
-fn put_attr(alloc: Global, element: &mut Element, name: &str, value: &str) -> Result<(), NoMemory> {
+pub(crate) fn put_attr(
+    alloc: Global,
+    element: &mut Element,
+    name: &str,
+    value: &str,
+) -> Result<(), NoMemory> {
     let attr = if name == "xml:lang" {
         Attr::from_strs(alloc, XML, "lang", value)?
     } else {
@@ -56,6 +66,17 @@ pub(crate) fn tree_with(
     Tree::of(alloc, element)
 }
 
+// Adds attributes, a text and an element.
+fn put_stanza(
+    alloc: Global,
+    element: &mut Element,
+    attrs: &[(&str, &str)],
+) -> Result<(), NoMemory> {
+    put_attrs(alloc, element, attrs)?;
+    put_text(alloc, element, "x")?;
+    put_leaf(alloc, element, "urn:y", "y", "z")
+}
+
 // An element with these attributes that contains a text and an element.
 fn stanza_with(
     alloc: Global,
@@ -63,9 +84,8 @@ fn stanza_with(
     name: &str,
     attrs: &[(&str, &str)],
 ) -> Result<Tree, NoMemory> {
-    let mut element = leaf(alloc, ns, name, "x")?;
-    put_leaf(alloc, &mut element, "urn:y", "y", "z")?;
-    put_attrs(alloc, &mut element, attrs)?;
+    let mut element = Element::from_strs(alloc, ns, name)?;
+    put_stanza(alloc, &mut element, attrs)?;
     Tree::of(alloc, element)
 }
 
@@ -234,7 +254,8 @@ static STANZAS: [(&str, &[(&str, &str)], &str, &str); 13] = [
             ("xml:lang", "en"),
         ],
         "message;romeo@montague.example/Orchard;juliet@capulet.example;1;en;chat;",
-        "jabber:client|message{|from=romeo@montague.example/Orchard;|id=1;|to=juliet@capulet.example;|type=chat;http://www.w3.org/XML/1998/namespace|lang=en;}['x'urn:y|y{}['z']]",
+        "jabber:client|message{|from=romeo@montague.example/Orchard;|id=1;|to=juliet@capulet.example;|type=chat;\
+         http://www.w3.org/XML/1998/namespace|lang=en;}['x'urn:y|y{}['z']]",
     ),
     (
         "message",
@@ -447,11 +468,6 @@ static PRIORITIES: [(&str, &str, i8); 18] = [
     ("", "", 0),
     ("1x", "", 0),
 ];
-
-fn put_text(alloc: Global, element: &mut Element, text: &str) -> Result<(), NoMemory> {
-    let text = Text::from_str(alloc, text)?;
-    element.push_text(text)
-}
 
 // Adds an element and a text.
 fn put_number(alloc: Global, priority: &mut Element, behind: &str) -> Result<(), NoMemory> {
