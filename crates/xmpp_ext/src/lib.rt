@@ -7,7 +7,11 @@ mod laws;
 mod payloads;
 mod sasl;
 mod stamp_reading;
+#[cfg(test)]
+mod stamp_tests;
 mod stamp_writing;
+#[cfg(test)]
+mod tests;
 
 pub use fault::{ExtFault, Field};
 pub use laws::{

@@ -4,6 +4,8 @@
 
 mod conditions;
 mod elements;
+#[cfg(test)]
+mod error_tests;
 mod errors;
 mod kinds;
 mod laws;
@@ -11,6 +13,8 @@ mod names;
 mod reading;
 mod stanzas;
 mod streams;
+#[cfg(test)]
+mod tests;
 mod writing;
 
 pub use conditions::Condition;
