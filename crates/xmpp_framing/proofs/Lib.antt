@@ -5,3 +5,6 @@ pub mod TidyLaws
 pub mod TidyReads
 pub mod TidySteps
 mod Worked
+mod WorkedSpellings
+pub mod WrittenNodes
+pub mod WrittenTags

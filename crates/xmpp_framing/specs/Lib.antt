@@ -1,4 +1,5 @@
 pub mod Attributes
+pub mod Canon
 pub mod Codes
 pub mod Readers
 pub mod Runs
