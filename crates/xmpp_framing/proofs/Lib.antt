@@ -1,6 +1,10 @@
 pub mod AttributeOrder
+pub mod CanonLaws
 pub mod Folds
 pub mod RuleSteps
+pub mod SpelledAttributes
+pub mod SpelledNames
+pub mod SpelledTexts
 pub mod TidyLaws
 pub mod TidyReads
 pub mod TidySteps

@@ -1,0 +1,15 @@
+ghost use Rattle.std.specs.Prelude.{◌≡◌, ℕ, [], List, Some, codes};
+ghost use Rattle.std.specs.Option.{unwrap_or};
+ghost use Rattle.xmpp_framing.specs.Canon.{canon, streams_namespace, written};
+ghost use Rattle.xmpp_framing.specs.Plain.{IsPlain, IsPlainElement};
+ghost use Rattle.xmpp_framing.specs.Spells.{Spells, SpellsTop, written_scope};
+ghost use Rattle.xmpp_framing.specs.Trees.{Elem, IsTree};
+ghost use Rattle.xmpp_names.specs.Scopes.{Scope, bound};
+
+/// A law: what is written for a plain tree spells that tree, in the grammar's words, in the scope of a header that was
+/// written; and so in each scope in which the same default namespace is in force and the prefix `stream` is bound.
+pub fn written_trees_are_spelled()
+    ensures top { (e : Elem) → IsTree e → IsPlain e → SpellsTop written_scope (canon e) e }
+    ensures inside { (scope : Scope) (default : List ℕ) (e : Elem) → unwrap_or (bound scope []) [] ≡ default
+        → bound scope (codes "stream") ≡ Some streams_namespace → IsTree e → IsPlainElement e → Spells scope (written default e) e }
+{}
