@@ -59,7 +59,7 @@ one_attribute a rest h = (
   value_is_read_back a.value h.value.utf8 h.value.characters,
 )
 
-attributes_spelled : (xs : List tokens.Attribute) (rest : List ℕ) → AllByRecursion Fine xs → AreAttributes (assignments xs ++ rest) xs rest
+pub attributes_spelled : (xs : List tokens.Attribute) (rest : List ℕ) → AllByRecursion Fine xs → AreAttributes (assignments xs ++ rest) xs rest
 attributes_spelled [] rest h = refl
 attributes_spelled (a ∷ xs) rest h = (
   assignments xs ++ rest,

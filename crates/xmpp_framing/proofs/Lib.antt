@@ -1,6 +1,7 @@
 pub mod AttributeOrder
 pub mod CanonLaws
 pub mod Folds
+pub mod HeaderLaws
 pub mod RuleSteps
 pub mod SpelledAttributes
 pub mod SpelledNames

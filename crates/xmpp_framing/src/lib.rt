@@ -28,4 +28,4 @@ pub use laws::{first_attributes_are_kept, tidy_element_reads_the_same, tidy_elem
 pub use reading::{find_attr, find_child, next_element, only_text_in, text_in};
 pub use trees::Tree;
 pub use writing::{spelled_len, write, write_footer, write_header};
-pub use writing_laws::written_trees_are_spelled;
+pub use writing_laws::{written_headers_are_spelled, written_trees_are_spelled};
