@@ -33,16 +33,16 @@ mutual
     empty : (scope : Scope) (bytes : List ℕ) (e : Elem) (raw : List tokens.Attribute) (t : Tag)
         → IsStart scope bytes raw t → t.empty ≡ true → IsBegun t no_nodes e → Spells scope bytes e
     filled : (scope : Scope) (bytes : List ℕ) (e : Elem) (raw : List tokens.Attribute) (t : Tag) (start inside close : List ℕ) (kids : Nodes)
-        → IsStart scope start raw t → t.empty ≡ false → SpellsContent (t.bindings ++ scope) inside kids → IsTag close (end_tag t.spelled) → bytes ≡ start ++ (inside ++ close)
-        → IsBegun t kids e → Spells scope bytes e
+        → IsStart scope start raw t → t.empty ≡ false → SpellsContent (t.bindings ++ scope) inside kids → IsTag close (end_tag t.spelled)
+        → bytes ≡ start ++ (inside ++ close) → IsBegun t kids e → Spells scope bytes e
 
   -- Bytes spell nodes inside a scope: a text, and elements with a text behind each (3.1, content). A text that says
   -- nothing is no node.
   pub data SpellsContent : Scope → List ℕ → Nodes → Type 0 where
     text_alone : (scope : Scope) (bytes : List ℕ) (kids : Nodes) (says : List ℕ) → IsText bytes says → kids ≡ text_node says → SpellsContent scope bytes kids
     with_element : (scope : Scope) (bytes : List ℕ) (kids : Nodes) (front says middle rest : List ℕ) (e : Elem) (more : Nodes)
-        → IsText front says → Spells scope middle e → SpellsContent scope rest more → bytes ≡ front ++ (middle ++ rest) → kids ≡ joined (text_node says) (child e more)
-        → SpellsContent scope bytes kids
+        → IsText front says → Spells scope middle e → SpellsContent scope rest more → bytes ≡ front ++ (middle ++ rest)
+        → kids ≡ joined (text_node says) (child e more) → SpellsContent scope bytes kids
 
 -- the name of a header
 abbrev pub IsHeaderName : List ℕ → List ℕ → Type 0

@@ -1,6 +1,7 @@
 //! How long tags are as they are written. A length past 2^64 - 1 is answered as that.
 ghost use Rattle.std.specs.Prelude.{◌≡◌, ◌+◌, ◌-◌, ◌<◌, ◌≤◌, ◌^◌, length, min};
-ghost use Rattle.xmpp_framing.specs.Canon.{assignment, assignments, declared_default, foreign, number_text, opened, spelled_attribute, spelled_attributes, spelled_name, written_end_tag};
+ghost use Rattle.xmpp_framing.specs.Canon.{assignment, assignments, declared_default, foreign, number_text, opened};
+ghost use Rattle.xmpp_framing.specs.Canon.{spelled_attribute, spelled_attributes, spelled_name, written_end_tag};
 ghost use Rattle.xmpp_tokens.specs.Spelling.{spelled_value};
 
 use crate::attributes::Attr;

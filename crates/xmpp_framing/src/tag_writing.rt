@@ -3,7 +3,8 @@ ghost use Rattle.std.specs.Prelude.{◌≡◌, ◌+◌, ◌-◌, ◌<◌, ◌≤
 ghost use Rattle.std.specs.List.{flat_map};
 ghost use Rattle.std.specs.Str.{bytes_eq};
 ghost use Rattle.xmpp_framing.specs.Canon;
-ghost use Rattle.xmpp_framing.specs.Canon.{assignment, assignments, declared_default, foreign, next_number, number_text, opened, spelled, spelled_attribute, spelled_attributes, spelled_name, written_end_tag};
+ghost use Rattle.xmpp_framing.specs.Canon.{assignment, assignments, declared_default, foreign, next_number, number_text, opened};
+ghost use Rattle.xmpp_framing.specs.Canon.{spelled, spelled_attribute, spelled_attributes, spelled_name, written_end_tag};
 
 use crate::attributes::Attr;
 use itoa::Buffer;

@@ -144,6 +144,9 @@ pub fn spelled_len(tree: &Tree) -> u64
 /// name has the prefix `stream` and no `xmlns`. An attribute in the XML namespace has the prefix `xml`, and one in
 /// another namespace a prefix of its own, `a0`, `a1` and so on, declared just before it.
 ///
+/// By the law `written_trees_are_spelled` the bytes spell the tree where its names and characters are those of XML. Where
+/// they aren't, they are written all the same, and no reader need accept them.
+///
 /// The memory is reserved before the first byte is written: a refusal leaves the bytes as they were. The stack used
 /// grows with the depth of the tree.
 pub fn write(tree: &Tree, out: &mut Bytes) -> Result<(), NoMemory>

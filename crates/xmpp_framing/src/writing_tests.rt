@@ -24,8 +24,11 @@ static INSIDE: [(&str, &str, &str); 5] = [
     ("jabber:client", "z", ""),
 ];
 
-const WRITTEN: &str =
-    "<message id='&lt;&amp;&gt;&apos;\"&#x9;&#xA;&#xD;' xml:lang='en' xmlns:a0='urn:a' a0:b='1' xmlns:a1='urn:a' a1:c='2' xmlns:a2='urn:b' a2:c='é'><body>&lt;&amp;&gt;'\"\t\n&#xD; é</body><x xmlns='urn:a'/><y xmlns=''/><stream:error>e</stream:error><z/></message>";
+const START: &str =
+    "<message id='&lt;&amp;&gt;&apos;\"&#x9;&#xA;&#xD;' xml:lang='en' xmlns:a0='urn:a' a0:b='1' xmlns:a1='urn:a' a1:c='2' xmlns:a2='urn:b' a2:c='é'>";
+
+const CONTENT: &str =
+    "<body>&lt;&amp;&gt;'\"\t\n&#xD; é</body><x xmlns='urn:a'/><y xmlns=''/><stream:error>e</stream:error><z/></message>";
 
 fn inner(alloc: Global, ns: &str, name: &str, text: &str) -> Result<Element, NoMemory> {
     let mut element = Element::from_strs(alloc, ns, name)?;
@@ -48,13 +51,16 @@ fn message(alloc: Global) -> Result<Tree, NoMemory> {
 fn an_element_is_written_in_one_spelling(rt: HostRuntime) -> Result<(), Fail> {
     let mut out = Bytes::new(rt.alloc());
     write(&message(rt.alloc())?, &mut out)?;
-    assert_eq!(rt; out.as_slice(), WRITTEN.as_bytes());
+    let mut expected = String::from_str(rt.alloc(), START)?;
+    expected.push_str(CONTENT)?;
+    assert_eq!(rt; out.as_slice(), expected.as_str().as_bytes());
     Ok(())
 }
 
 #[test]
 fn the_length_is_told_before(rt: HostRuntime) -> Result<(), Fail> {
-    assert_eq!(rt; spelled_len(&message(rt.alloc())?), WRITTEN.len() as u64);
+    let len = spelled_len(&message(rt.alloc())?);
+    assert_eq!(rt; len, (START.len() + CONTENT.len()) as u64);
     Ok(())
 }
 
