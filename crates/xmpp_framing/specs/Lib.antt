@@ -1,7 +1,11 @@
 pub mod Attributes
+pub mod Canon
 pub mod Codes
+pub mod Plain
 pub mod Readers
 pub mod Runs
+pub mod Spells
+pub mod Texts
 pub mod Tidied
 pub mod Trees
 pub mod Views

@@ -10,10 +10,16 @@ mod laws;
 mod reading;
 mod rule;
 mod runs;
+mod tag_lengths;
+mod tag_writing;
 #[cfg(test)]
 mod tests;
 mod tidying;
 mod trees;
+mod writing;
+mod writing_laws;
+#[cfg(test)]
+mod writing_tests;
 
 pub use attributes::{Attr, Attrs};
 pub use copying::copy_nodes;
@@ -21,3 +27,5 @@ pub use elements::{Element, Node, Nodes};
 pub use laws::{first_attributes_are_kept, tidy_element_reads_the_same, tidy_element_stays};
 pub use reading::{find_attr, find_child, next_element, only_text_in, text_in};
 pub use trees::Tree;
+pub use writing::{spelled_len, write, write_footer, write_header};
+pub use writing_laws::{written_headers_are_spelled, written_trees_are_spelled};
