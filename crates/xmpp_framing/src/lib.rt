@@ -11,12 +11,14 @@ mod framer;
 mod items;
 mod laws;
 mod limits;
+mod markup_in_hand;
 mod reading;
 mod rule;
 mod runs;
 mod states;
 #[cfg(test)]
 mod tests;
+mod texts_in_hand;
 mod tidying;
 mod trees;
 
