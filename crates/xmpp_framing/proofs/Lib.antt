@@ -5,3 +5,6 @@ pub mod TidyLaws
 pub mod TidyReads
 pub mod TidySteps
 mod Worked
+pub mod Stacks
+pub mod OpenText
+pub mod LargerLimits

@@ -71,31 +71,40 @@ attribute_from a = attribute a.ns a.name a.value
 abbrev pub element_from : Tag → Elem
 element_from t = element t.ns t.name (sorted_attributes (map attribute_from t.attributes)) no_nodes
 
--- a whole element becomes a child of the innermost open one, or is given
-abbrev pub added : Option OpenElement → State → List Item → Elem → Turn
-added None s items e = gives (item_ended (record s { here = None; chars = [] })) items (item.Element (tidied e))
-added (Some o) s items e = turn (token_ended (record s { here = Some (with_more o (child e no_nodes)); chars = [] })) items
-
 abbrev pub text_joined : Option OpenElement → List ℕ → Option OpenElement
 text_joined None chars = None
 text_joined (Some o) chars = Some (with_text o chars)
 
+-- the text in hand joins the innermost open element
+abbrev pub joined_text : State → State
+joined_text s = record s { here = text_joined s.here s.chars; chars = [] }
+
+-- a whole element becomes a child of the innermost open one, or is given
+abbrev pub added_to : Option OpenElement → Turn → Elem → Turn
+added_to None t e = gives (item_ended t.state) t.items (item.Element (tidied e))
+added_to (Some o) t e = moved t (token_ended (record t.state { here = Some (with_more o (child e no_nodes)) }))
+
+abbrev pub added : Turn → Elem → Turn
+added t e = added_to t.state.here t e
+
 -- the tag of an empty element
 unfoldable pub leaf : Turn → Tag → Turn
-leaf t tag = added (text_joined t.state.here t.state.chars) t.state t.items (element_from tag)
+leaf t tag = added (moved t (joined_text t.state)) (element_from tag)
 
 abbrev pub covered : Option OpenElement → List OpenElement → List OpenElement
 covered None below = below
 covered (Some o) below = o ∷ below
 
+abbrev pub deeper : State → Tag → State
+deeper s tag = record s {
+  here = Some (record { spelled = tag.spelled; element = element_from tag });
+  below = covered s.here s.below;
+  scopes = tag.bindings ∷ s.scopes;
+}
+
 -- a start tag begins an element inside the one that was the innermost
 unfoldable pub level : State → Tag → State
-level s tag = token_ended (record s {
-  here = Some (record { spelled = tag.spelled; element = element_from tag });
-  below = covered (text_joined s.here s.chars) s.below;
-  scopes = tag.bindings ∷ s.scopes;
-  chars = [];
-})
+level s tag = token_ended (deeper (joined_text s) tag)
 
 abbrev pub is_too_deep : State → Bool
 is_too_deep s = nat_lt s.limits.depth (open_count s + 1)
@@ -120,22 +129,37 @@ abbrev pub starts : Turn → Result Tag StartFault → Turn
 starts t (Ok tag) = begun t tag
 starts t (Err fault) = moved t (token_fails t.state (start_why t.state fault))
 
+abbrev pub first_of : List OpenElement → Option OpenElement
+first_of [] = None
+first_of (o ∷ os) = Some o
+
+abbrev pub rest_of : List OpenElement → List OpenElement
+rest_of [] = []
+rest_of (o ∷ os) = os
+
+-- the innermost open element leaves
+abbrev pub shallower : State → State
+shallower s = record s { here = first_of s.below; below = rest_of s.below; scopes = outer_scopes s.scopes }
+
+abbrev pub closed_open : Option OpenElement → Turn → Turn
+closed_open None t = t
+closed_open (Some o) t = added (moved t (shallower t.state)) o.element
+
+abbrev pub closed_joined : Turn → Turn
+closed_joined t = closed_open t.state.here t
+
 -- the innermost open element is whole
-abbrev pub closed_into : List OpenElement → State → List Item → Elem → Turn
-closed_into [] s items e = added None s items e
-closed_into (o ∷ os) s items e = added (Some o) (record s { below = os }) items e
+unfoldable pub closed : Turn → Turn
+closed t = closed_joined (moved t (joined_text t.state))
 
-unfoldable pub closed : Turn → OpenElement → Turn
-closed t o = closed_into t.state.below (record t.state { scopes = outer_scopes t.state.scopes }) t.items (with_text o t.state.chars).element
-
-abbrev pub closes_named : Turn → Option OpenElement → Option (List ℕ) → Turn
-closes_named t None name = moved t (token_fails t.state why.NotWellFormed)
-closes_named t (Some o) None = moved t (token_fails t.state why.NotWellFormed)
-closes_named t (Some o) (Some name) = if bytes_eq name o.spelled then closed t o else moved t (token_fails t.state why.NotWellFormed)
+abbrev pub is_spelled : Option OpenElement → Option (List ℕ) → Bool
+is_spelled None name = false
+is_spelled (Some o) None = false
+is_spelled (Some o) (Some name) = bytes_eq name o.spelled
 
 -- an end tag has the name of the start tag (3, Element Type Match)
 unfoldable pub ends : Turn → Turn
-ends t = closes_named t t.state.here (end_of t.state.token)
+ends t = if is_spelled t.state.here (end_of t.state.token) then closed t else moved t (token_fails t.state why.NotWellFormed)
 
 unfoldable pub tag_inside : Turn → Turn
 tag_inside t = if is_end t.state.token then ends t else starts t (tag_here t.state)
@@ -155,13 +179,19 @@ header_items at tag =
     if tag.empty then item.Header at (header_of tag) ∷ item.Footer ∷ []
     else item.Header at (header_of tag) ∷ []
 
+abbrev pub header_why : StartFault → Why
+header_why start.Restricted = why.Restricted
+header_why start.NotWellFormed = why.NotWellFormed
+header_why start.TooManyAttributes = why.TooManyAttributes
+header_why start.LongNamespace = why.LongNamespace
+header_why start.NoMemory = why.NotWellFormed
+
+abbrev pub headed_turn : Turn → Tag → Turn
+headed_turn t tag = turn (headed t.state tag) (t.items ++ header_items t.state.places.token_at tag)
+
 abbrev pub heads : Turn → Result Tag StartFault → Turn
-heads t (Ok tag) = turn (headed t.state tag) (t.items ++ header_items t.state.places.token_at tag)
-heads t (Err start.Restricted) = moved t (token_fails t.state why.Restricted)
-heads t (Err start.NotWellFormed) = moved t (token_fails t.state why.NotWellFormed)
-heads t (Err start.TooManyAttributes) = moved t (token_fails t.state why.TooManyAttributes)
-heads t (Err start.LongNamespace) = moved t (token_fails t.state why.LongNamespace)
-heads t (Err start.NoMemory) = moved t (token_fails t.state why.NotWellFormed)
+heads t (Ok tag) = headed_turn t tag
+heads t (Err fault) = moved t (token_fails t.state (header_why fault))
 
 -- a tag that may not stand there
 abbrev pub misplaced_why : Result Tag StartFault → Why

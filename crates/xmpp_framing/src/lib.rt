@@ -6,6 +6,7 @@ mod attributes;
 mod building;
 mod copying;
 mod elements;
+mod elements_in_hand;
 mod faults;
 mod framer;
 mod items;
