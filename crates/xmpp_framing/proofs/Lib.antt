@@ -8,3 +8,5 @@ mod Worked
 pub mod Stacks
 pub mod OpenText
 pub mod LargerLimits
+pub mod ItemsGrow
+pub mod Pieces

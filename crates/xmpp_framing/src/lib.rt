@@ -8,6 +8,7 @@ mod copying;
 mod elements;
 mod elements_in_hand;
 mod faults;
+mod feeding;
 mod framer;
 mod items;
 mod laws;
@@ -19,6 +20,7 @@ mod runs;
 mod states;
 #[cfg(test)]
 mod tests;
+mod tags_in_hand;
 mod texts_in_hand;
 mod tidying;
 mod trees;
