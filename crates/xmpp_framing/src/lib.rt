@@ -10,6 +10,8 @@ mod elements_in_hand;
 mod faults;
 mod feeding;
 mod framer;
+#[cfg(test)]
+mod framer_tests;
 mod items;
 mod laws;
 mod limits;
@@ -18,9 +20,9 @@ mod reading;
 mod rule;
 mod runs;
 mod states;
+mod tags_in_hand;
 #[cfg(test)]
 mod tests;
-mod tags_in_hand;
 mod texts_in_hand;
 mod tidying;
 mod trees;
