@@ -14,3 +14,8 @@ mod WorkedGrammar
 mod WorkedSpellings
 pub mod WrittenNodes
 pub mod WrittenTags
+pub mod Stacks
+pub mod OpenText
+pub mod LargerLimits
+pub mod ItemsGrow
+pub mod Pieces
