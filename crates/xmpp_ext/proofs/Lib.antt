@@ -1,7 +1,11 @@
+pub mod BindLaws
 pub mod FaultLemmas
+pub mod IdLaws
 pub mod Numbers
 pub mod PayloadLaws
+pub mod RequestLaws
 pub mod SaslLaws
+pub mod SmFailedLaws
 mod Worked
 mod WorkedStamps
 pub mod Written
@@ -11,4 +15,5 @@ pub mod StampLaws
 pub mod StampOne
 pub mod StampShapes
 pub mod StampTexts
+pub mod StreamManagementLaws
 pub mod Years
