@@ -7,6 +7,7 @@ pub mod RequestLaws
 pub mod SaslLaws
 pub mod SmFailedLaws
 mod Worked
+mod WorkedPayloads
 mod WorkedStamps
 pub mod Written
 pub mod StampFacts

@@ -6,7 +6,7 @@ use Rattle.xmpp_ext.specs.Names.{management}
 use Rattle.xmpp_ext.specs.Shapes.{attr_named, attr_or_empty, flag, optional_number, required_number}
 use Rattle.xmpp_ext.specs.Writing.{flag_text}
 use Rattle.xmpp_ext.specs.declared.fault.Field.{Field}
-use Rattle.xmpp_ext.specs.declared.fault.Field.TheVariants.{H, Previd, Max, Condition as condition_field}
+use Rattle.xmpp_ext.specs.declared.fault.Field.TheVariants.{H, Previd, Max, Condition}
 use Rattle.xmpp_ext.specs.declared.stream_management.Ack.{Ack}
 use Rattle.xmpp_ext.specs.declared.stream_management.Enable.{Enable}
 use Rattle.xmpp_ext.specs.declared.stream_management.Enabled.{Enabled}
@@ -46,7 +46,8 @@ EnabledLacks e _ = ⊥
 abbrev pub enabled_elem : Enabled → Elem
 enabled_elem v =
     element management (codes "enabled")
-    (attr_where [] (codes "id") (unless_empty v.id) ++ attr_where [] (codes "max") (option_map decimal v.max) ++ attr_where [] (codes "resume") (flag_text v.resume))
+    (attr_where [] (codes "id") (unless_empty v.id) ++ attr_where [] (codes "max") (option_map decimal v.max)
+    ++ attr_where [] (codes "resume") (flag_text v.resume))
     no_nodes
 
 -- the count that an element tells (section 4): how many stanzas were handled, modulo 2^32
@@ -103,7 +104,7 @@ pub record IsSmFailed (e : Elem) (v : SmFailed) : Type 0 where
   pub plain : IsPlain v.condition
 
 abbrev pub SmFailedLacks : Elem → Field → Type 0
-SmFailedLacks e condition_field = failed_condition e ≡ None
+SmFailedLacks e Condition = failed_condition e ≡ None
 SmFailedLacks e _ = ⊥
 
 abbrev pub sm_failed_elem : SmFailed → Elem
