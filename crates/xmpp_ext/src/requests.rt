@@ -3,7 +3,7 @@ ghost use Rattle.std.specs.Prelude.{◌≡◌, IfErr, IfOk, IsOk, OnOk, codes, t
 ghost use Rattle.xmpp_ext.specs.Bare.{bare};
 ghost use Rattle.xmpp_ext.specs.Faults.{IsFault, LacksNothing};
 ghost use Rattle.xmpp_ext.specs.Names.{disco_info, pings, roster, sessions};
-ghost use Rattle.xmpp_ext.specs.Requests.{IsCarbonsSwitch, carbons_switch_elem, is_switch, switch_name};
+ghost use Rattle.xmpp_ext.specs.Requests.{IsCarbonsSwitch, carbons_switch_elem, is_switch};
 ghost use Rattle.xmpp_framing.specs.Readers.{is_named};
 
 use crate::bare::{bare_tree, read_bare};

@@ -1,5 +1,5 @@
 // Stream management (XEP-0198).
-ghost use Rattle.std.specs.Prelude.{◌≡◌, ◌≢◌, ◌^◌, Err, IfErr, IfOk, IsOk, List, OnOk, Some, codes, true};
+ghost use Rattle.std.specs.Prelude.{◌≡◌, ◌≢◌, Err, IfErr, IfOk, IsOk, OnOk, codes, true};
 ghost use Rattle.std.specs.Option.{option_copied};
 ghost use Rattle.xmpp_ext.specs.Bare.{bare};
 ghost use Rattle.xmpp_ext.specs.Faults.{IsFault, LacksNothing};
