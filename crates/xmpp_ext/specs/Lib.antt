@@ -1,6 +1,13 @@
-pub mod Conditions
+pub mod Bare
+pub mod Bind
 pub mod Faults
+pub mod Ids
+pub mod Names
 pub mod Payloads
+pub mod Requests
 pub mod Sasl
+pub mod Shapes
 pub mod StampReading
 pub mod Stamps
+pub mod StreamManagement
+pub mod Writing
