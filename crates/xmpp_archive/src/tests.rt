@@ -27,7 +27,7 @@ fn entry(alloc: Global, stamp: u64) -> Result<Entry, NoMemory> {
 fn keeps_entries_in_order(rt: HostRuntime) -> Result<(), Fail> {
     let alloc = rt.alloc();
     let owner = Text::from_str(alloc, "juliet@capulet.example")?;
-    let mut archive = Archive::new(alloc, owner);
+    let mut archive = Archive::new(alloc, owner, u32::MAX);
     assert!(rt; archive.is_empty());
     assert!(rt; archive.get(1).is_none());
     for (stamp, number) in [(1000, 1), (2000, 2)] {
@@ -43,7 +43,7 @@ fn keeps_entries_in_order(rt: HostRuntime) -> Result<(), Fail> {
     assert!(rt; archive.get(0).is_none());
     assert!(rt; archive.get(3).is_none());
     let entries = archive.into_entries();
-    let stamps = entries.as_slice().iter().map(|e| e.stamp);
+    let stamps = entries.iter().map(|e| e.stamp);
     assert!(rt; stamps.eq([1000, 2000]));
     Ok(())
 }
