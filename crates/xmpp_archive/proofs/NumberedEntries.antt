@@ -1,12 +1,12 @@
 -- What is true of entries with consecutive numbers: where one is found, and what stands behind it.
-use Rattle.std.proofs.Common.{◌≡◌, ◌≢◌, ℕ, zero, suc, ◌+◌, ◌-◌, ◌<◌, ◌≤◌, ◌==◌, ◌⊎◌, Bool, unwrap_or, true, false, List, [], ◌∷◌, ◌++◌, Some, None, length, drop, get_or, ltb, refl, sym, ap, ◌∙◌, arith, inl, inr}
+use Rattle.std.proofs.Common.{◌≡◌, ◌≢◌, ℕ, zero, suc, ◌+◌, ◌-◌, ◌<◌, ◌≤◌, ◌==◌, ◌⊎◌, Bool, unwrap_or, true, false, List, [], ◌∷◌, ◌++◌, Some, None, length, drop, ltb, refl, sym, ap, arith, inl, inr}
 use Rattle.std.proofs.Math.Seq.{drop-nil}
 use Rattle.std.proofs.lemmas.Bool.{cases_lt, cases_eq}
 use Rattle.std.proofs.lemmas.Bool.Decides.{nat_tests}
 use Rattle.std.proofs.lemmas.Option.{none-some}
 use Rattle.std.specs.List.{filter, find, slice_get}
 use Rattle.std.specs.Option.{option_map}
-use Rattle.xmpp_archive.specs.Entries.{AreNumbered, EntryView, entry_numbered, numbered}
+use Rattle.xmpp_archive.specs.Entries.{AreKept, AreNumbered, EntryView, entry_numbered, numbered}
 
 -- the numbers go up by one, from a first
 abbrev pub FollowFrom : ℕ → List EntryView → Type 0
@@ -101,3 +101,16 @@ no_entry n s es follow outside =
       | inl low ↦ grind (arith, nat_tests)
       | inr high ↦ grind (arith, nat_tests)
     ])
+
+pub none_outside : {keep : ℕ} (n last : ℕ) (es : List EntryView) → AreKept keep last es → (n + length es ≤ last) ⊎ (last < n) → entry_numbered n es ≡ None
+none_outside n last es kept outside =
+    no_entry n (last + 1 - length es) es (follow_numbered last es kept.numbers kept.within) (elim outside [
+      | inl low ↦ inl (omega (arith, kept.within))
+      | inr high ↦ inr (omega (arith, kept.within))
+    ])
+
+-- a place in a list has an item
+pub at_place : {A : Type 0} (i : ℕ) (xs : List A) → i < length xs → (x : A) × (slice_get xs i ≡ Some x)
+at_place i [] within = absurd (omega arith)
+at_place zero (x ∷ xs) within = (x, refl)
+at_place (suc i) (x ∷ xs) within = at_place i xs (omega arith)

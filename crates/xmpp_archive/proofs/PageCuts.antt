@@ -1,11 +1,11 @@
 -- Pages of numbered entries are cuts of the list.
-use Rattle.std.proofs.Common.{◌≡◌, ◌≢◌, ℕ, zero, suc, ◌+◌, ◌-◌, ◌<◌, ◌≤◌, ◌^◌, Bool, true, false, List, [], ◌∷◌, Some, None, length, drop, ltb, refl, sym, arith}
+use Rattle.std.proofs.Common.{◌≡◌, ◌≢◌, ℕ, ◌+◌, ◌-◌, ◌<◌, ◌≤◌, ◌^◌, Bool, true, false, List, Some, None, length, drop, ltb, refl, sym, arith}
 use Rattle.std.proofs.lemmas.Slice.Eq.{bytes_eq-Decides}
 use Rattle.std.specs.Bool.{Decides}
 use Rattle.std.specs.List.{filter, find, slice_get}
 use Rattle.std.specs.Str.{bytes_eq}
 use Rattle.xmpp_archive.proofs.IdDigits.{id_of_same}
-use Rattle.xmpp_archive.proofs.NumberedEntries.{filter_above, find_none, find_one, follow_all}
+use Rattle.xmpp_archive.proofs.NumberedEntries.{at_place, filter_above, find_none, find_one, follow_all}
 use Rattle.xmpp_archive.specs.Entries.{AreNumbered, EntryView}
 use Rattle.xmpp_archive.specs.Ids.{id_of}
 use Rattle.xmpp_archive.specs.Pages.{After, candidates, page_behind, page_of}
@@ -22,12 +22,6 @@ entry_of_id n es known few low high =
     ((bytes_eq-Decides (id_of n) (id_of n)).1 refl)
     (λ m above below other. false_from_Decides (bytes_eq (id_of m) (id_of n)) (bytes_eq-Decides (id_of m) (id_of n))
     (λ same. other (id_of_same m n (omega arith) (omega arith) same)))
-
--- a place in a list has an item
-pub at_place : {A : Type 0} (i : ℕ) (xs : List A) → i < length xs → (x : A) × (slice_get xs i ≡ Some x)
-at_place i [] within = absurd (omega arith)
-at_place zero (x ∷ xs) within = (x, refl)
-at_place (suc i) (x ∷ xs) within = at_place i xs (omega arith)
 
 -- what stands behind the entry with an id
 pub candidates_behind : (n : ℕ) (es : List EntryView) → AreNumbered (length es) es → length es < 2 ^ 64 → 1 ≤ n → n ≤ length es →

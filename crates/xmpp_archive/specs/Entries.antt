@@ -1,5 +1,5 @@
 -- Entries and archives (XEP-0313, "Message Archive Management").
-use Rattle.std.specs.Prelude.{◌≡◌, ℕ, ◌+◌, ◌-◌, ◌≤◌, ◌==◌, Bool, List, [], Option, Some, find, slice_get, length, drop}
+use Rattle.std.specs.Prelude.{◌≡◌, ℕ, ◌+◌, ◌-◌, ◌≤◌, ◌==◌, Bool, List, Option, Some, find, slice_get, length, drop}
 use Rattle.xmpp_archive.specs.declared.entry.Body.{Body}
 
 -- one message of an account's history: its number, when it was taken (milliseconds since 1970), the addresses
