@@ -39,9 +39,16 @@ impl Model for Archive {
 
     ghost Value = { ArchiveView };
 
-    ghost view = { λ a. record { owner = a.owner; keep = a.keep; last = a.last; entries = a.entries.items; spare = min (deque_capacity a.entries - deque_len a.entries) (room_of a.links) } };
+    ghost view = { λ a. record {
+      owner = a.owner;
+      keep = a.keep;
+      last = a.last;
+      entries = a.entries.items;
+      spare = min (deque_capacity a.entries - deque_len a.entries) (room_of a.links);
+    } };
 
-    ghost invariant = { λ a. AreKept a.keep a.last a.entries.items × IsChained (a.last + 1 - length a.entries.items) (map (peer_of a.owner) a.entries.items) a.links.nexts.items a.links.chains.items };
+    ghost invariant = { λ a. AreKept a.keep a.last a.entries.items ×
+        IsChained (a.last + 1 - length a.entries.items) (map (peer_of a.owner) a.entries.items) a.links.nexts.items a.links.chains.items };
 }
 
 /// Why an archive has no room for an entry.

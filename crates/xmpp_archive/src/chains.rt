@@ -61,7 +61,8 @@ impl Links {
     ) -> &'a str
         requires linked { IsChained first (map (peer_of owner.now) entries.now.items) self.now.nexts.items self.now.chains.items }
         requires there { at < length self.now.chains.items }
-        ensures { (keys : List (List ℕ)) → AreChains keys first (map (peer_of owner.now) entries.now.items) self.now.chains.items → slice_get keys at ≡ Some result.now }
+        ensures { (keys : List (List ℕ)) → AreChains keys first (map (peer_of owner.now) entries.now.items) self.now.chains.items →
+            slice_get keys at ≡ Some result.now }
     {
         let place = self.chains[at].first - first;
         entries[place as usize].peer(owner)
@@ -77,9 +78,11 @@ impl Links {
     ) -> Result<usize, usize>
         requires linked { IsChained first (map (peer_of owner.now) entries.now.items) self.now.nexts.items self.now.chains.items }
         ensures within { IfOk result (λ at. at < length self.now.chains.items) }
-        ensures found { IfOk result (λ at. (keys : List (List ℕ)) → AreChains keys first (map (peer_of owner.now) entries.now.items) self.now.chains.items → slice_get keys at ≡ Some peer.now) }
+        ensures found { IfOk result (λ at. (keys : List (List ℕ)) →
+            AreChains keys first (map (peer_of owner.now) entries.now.items) self.now.chains.items → slice_get keys at ≡ Some peer.now) }
         ensures bound { IfErr result (λ at. at ≤ length self.now.chains.items) }
-        ensures absent { IfErr result (λ at. (keys : List (List ℕ)) → AreChains keys first (map (peer_of owner.now) entries.now.items) self.now.chains.items → IsGap keys peer.now at) }
+        ensures absent { IfErr result (λ at. (keys : List (List ℕ)) →
+            AreChains keys first (map (peer_of owner.now) entries.now.items) self.now.chains.items → IsGap keys peer.now at) }
     {
         let mut low = 0;
         let mut high = self.chains.len();
