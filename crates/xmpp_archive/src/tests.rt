@@ -124,28 +124,46 @@ fn copies_an_entry(rt: HostRuntime) -> Result<(), Fail> {
     Ok(())
 }
 
+/// Numbers, and how they are spelled.
+static SPELLED: [(u64, &str); 4] = [
+    (1, "0000000000000001"),
+    (100, "0000000000000064"),
+    (0xfedc_ba98_7654_3210, "fedcba9876543210"),
+    (u64::MAX, "ffffffffffffffff"),
+];
+
+/// Texts that are no entry's id.
+static NO_IDS: [&str; 7] = [
+    "",
+    "0000000000000000",
+    "000000000000001",
+    "00000000000000001",
+    "000000000000000A",
+    "000000000000000g",
+    "+000000000000001",
+];
+
 #[test]
-fn spells_and_reads_ids(rt: HostRuntime) -> Result<(), Fail> {
-    for (number, id) in [
-        (1, "0000000000000001"),
-        (100, "0000000000000064"),
-        (0xfedc_ba98_7654_3210, "fedcba9876543210"),
-        (u64::MAX, "ffffffffffffffff"),
-    ] {
+fn spells_ids(rt: HostRuntime) -> Result<(), Fail> {
+    for (number, id) in SPELLED {
         assert_eq!(rt; id_text(number).as_slice(), id.as_bytes());
         assert_eq!(rt; id_of_number(rt.alloc(), number)?.as_str(), id);
+    }
+    Ok(())
+}
+
+#[test]
+fn reads_ids(rt: HostRuntime) -> Result<(), Fail> {
+    for (number, id) in SPELLED {
         assert_eq!(rt; number_of(id), Some(number));
     }
-    for id in [
-        "",
-        "0000000000000000",
-        "000000000000001",
-        "00000000000000001",
-        "000000000000000A",
-        "000000000000000g",
-        "+000000000000001",
-    ] {
-        assert_eq!(rt; number_of(id), None, "at {id}");
+    Ok(())
+}
+
+#[test]
+fn refuses_what_is_no_id(rt: HostRuntime) -> Result<(), Fail> {
+    for id in NO_IDS {
+        assert_eq!(rt; number_of(id), None);
     }
     Ok(())
 }

@@ -28,7 +28,7 @@ last_of_front k archive known within =
     let is : get_or archive k place.0 ≡ place.0 = get_or_from_slice_get archive k place.0 place.0 place.1 in
     let cut : take (k + 1) archive ≡ take k archive ++ place.0 ∷ [] =
     take_more archive k place.0 within ∙ ap (λ e. take k archive ++ e ∷ []) is in
-    let number : place.0.number ≡ k + 1 = known.each k place.0 place.1 in
+    let number : place.0.number ≡ k + 1 = let n : place.0.number + length archive ≡ length archive + 1 + k = known.each k place.0 place.1 in omega arith in
     ap (λ es. last_id (map as_logged es)) cut
     ∙ ap last_id (map_push as_logged (take k archive) place.0)
     ∙ last_id_push (map as_logged (take k archive)) (as_logged place.0)

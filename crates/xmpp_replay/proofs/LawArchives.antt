@@ -39,7 +39,9 @@ numbered_place n (entry ∷ entries) (suc i) e at =
     omega arith
 
 pub archive_numbered : (account : List ℕ) (takes : List Take) → AreNumbered (length (archive_of account takes)) (archive_of account takes)
-archive_numbered account takes = record { each = numbered_place 1 (map entry_of (filter (concerns account) takes)) }
+archive_numbered account takes = record {
+  each = λ i e is. let number : e.number ≡ i + 1 = numbered_place 1 (map entry_of (filter (concerns account) takes)) i e is in omega arith;
+}
 
 numbered_more : (n : ℕ) (xs ys : List EntryView) → (more : List EntryView) × (numbered_from n (xs ++ ys) ≡ numbered_from n xs ++ more)
 numbered_more n [] ys = (numbered_from n ys, refl)

@@ -142,7 +142,7 @@ last_in_page k zero archive numbered within = refl
 last_in_page k (suc j) archive numbered within =
     let place = at_place (k + j) archive (omega arith) in
     let is : get_or archive (k + j) place.0 ≡ place.0 = get_or_from_slice_get archive (k + j) place.0 place.0 place.1 in
-    let number : place.0.number ≡ k + suc j = let n : place.0.number ≡ k + j + 1 = numbered.each (k + j) place.0 place.1 in omega arith in
+    let number : place.0.number ≡ k + suc j = let n : place.0.number + length archive ≡ length archive + 1 + (k + j) = numbered.each (k + j) place.0 place.1 in omega arith in
     let back : k + j + 1 - 1 ≡ k + j = omega arith in
     let test : eqb (suc j) 0 ≡ false = ne_eqb (suc j) 0 (λ (e : suc j ≡ 0). omega arith) in
     rw test (sym (ap (λ n. last_id (map as_logged (take n (drop k archive)))) (sym (add-one j))
