@@ -1,5 +1,5 @@
 -- The account that is added stands behind the others, and its archive keeps all that comes.
-use Rattle.std.proofs.Common.{◌≡◌, [], ◌∷◌, ◌++◌, length, map, refl, sym, ap, ◌∙◌}
+use Rattle.std.proofs.Common.{◌≡◌, [], ◌∷◌, ◌++◌, length, map, sym, ap, ◌∙◌}
 use Rattle.std.proofs.lemmas.List.{map-append}
 use Rattle.xmpp_replay.proofs.HomeLists.{whole_push}
 use Rattle.xmpp_replay.specs.Homes.{Home, IsWhole, home_of_account, names_of}
@@ -15,7 +15,8 @@ invariant_of-self-2 c =
     let homes : map home_of_account (items ++ account ∷ []) ≡ map home_of_account items ++ home_of_account account ∷ [] = map-append home_of_account items (account ∷ []) in
     let names : names_of (map home_of_account items ++ home_of_account account ∷ []) ≡ names_of (map home_of_account items) ++ account.name ∷ [] =
     map-append (λ (h : Home). h.name) (map home_of_account items) (home_of_account account ∷ []) in
-    rw all
-    (c.in_ok-add.ensures.ok ∙ ap (λ l. l ++ c.args.name.now ∷ []) c.self.invariant.0 ∙ ap (λ n. names_of (map home_of_account items) ++ n ∷ []) (sym c.in_ok-from_str.ensures)
-    ∙ sym (ap names_of homes ∙ names),
-    whole_push items account c.self.invariant.1 whole)
+    rw all (
+      c.in_ok-add.ensures.ok ∙ ap (λ l. l ++ c.args.name.now ∷ []) c.self.invariant.0 ∙ ap (λ n. names_of (map home_of_account items) ++ n ∷ []) (sym c.in_ok-from_str.ensures)
+          ∙ sym (ap names_of homes ∙ names),
+      whole_push items account c.self.invariant.1 whole,
+    )

@@ -41,9 +41,10 @@ invariant_of-self c =
     ap length (grown c) ∙ length_push c.index_mut.result.now.archive.entries (numbered (length c.index_mut.result.now.archive.entries + 1) c.args.entry) in
     let last : c.append_reserved.new.self.last ≡ length c.append_reserved.new.self.entries =
     omega (arith, c.append_reserved.ensures.last, c.append_reserved.ensures.number, whole.last) in
-    let stays : IsWhole c.append_reserved.new.self = record { keep = c.append_reserved.ensures.keep ∙ whole.keep; last = last } in
-    (c.self.invariant.0 ∙ sym (names_kept (map home_of_account items) c.args.place c.args.entry) ∙ ap names_of (sym (made c)),
-    whole_set items c.args.place (record { name = c.index_mut.result.now.name; archive = c.append_reserved.new.self }) c.self.invariant.1 stays)
+    let stays : IsWhole c.append_reserved.new.self = record { keep = c.append_reserved.ensures.keep ∙ whole.keep; last = last } in (
+      c.self.invariant.0 ∙ sym (names_kept (map home_of_account items) c.args.place c.args.entry) ∙ ap names_of (sym (made c)),
+      whole_set items c.args.place (record { name = c.index_mut.result.now.name; archive = c.append_reserved.new.self }) c.self.invariant.1 stays,
+    )
 
 pub returns-clause-homes : goal.returns-clause-homes
 returns-clause-homes c = made c ∙ ap (λ (v : HomesView). appended_at c.args.place c.args.entry v.homes) c.self.view_is

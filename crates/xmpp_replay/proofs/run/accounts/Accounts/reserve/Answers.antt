@@ -23,9 +23,10 @@ invariant_of-self c =
     let stays : IsWhole c.reserve.new.self = record {
       keep = c.reserve.ensures.keep ∙ whole.keep;
       last = c.reserve.ensures.last ∙ whole.last ∙ ap length (sym c.reserve.ensures.entries);
-    } in
-    (c.self.invariant.0 ∙ ap names_of (sym (homes_kept items c.args.place c.index_mut.result.now c.reserve.new.self c.index_mut.ensures.value c.reserve.ensures.entries)),
-    whole_set items c.args.place (record { name = c.index_mut.result.now.name; archive = c.reserve.new.self }) c.self.invariant.1 stays)
+    } in (
+      c.self.invariant.0 ∙ ap names_of (sym (homes_kept items c.args.place c.index_mut.result.now c.reserve.new.self c.index_mut.ensures.value c.reserve.ensures.entries)),
+      whole_set items c.args.place (record { name = c.index_mut.result.now.name; archive = c.reserve.new.self }) c.self.invariant.1 stays,
+    )
 
 pub returns-clause-ok : goal.returns-clause-ok
 returns-clause-ok c =
