@@ -4,7 +4,8 @@ use Rattle.std.proofs.lemmas.Bool.{cond_both, leb-false}
 use Rattle.std.proofs.lemmas.List.{append-nil, drop-take, get_or-drop, length-append, length-drop, length-map, length-take, map-append, map_push, take-append-drop, take-take, take_more}
 use Rattle.std.proofs.lemmas.List.Concat.{flat_map-append}
 use Rattle.std.proofs.lemmas.Option.{get_or_from_slice_get}
-use Rattle.xmpp_archive.proofs.PageCuts.{at_place, page_after}
+use Rattle.xmpp_archive.proofs.NumberedEntries.{at_place}
+use Rattle.xmpp_archive.proofs.PageCuts.{page_after}
 use Rattle.xmpp_archive.specs.Entries.{AreNumbered, EntryView}
 use Rattle.xmpp_archive.specs.Ids.{id_of}
 use Rattle.xmpp_archive.specs.Pages.{Page, page_behind, page_of}
@@ -20,21 +21,21 @@ last_id_push (x ∷ []) e = refl
 last_id_push (x ∷ y ∷ es) e = last_id_push (y ∷ es) e
 
 -- the last of the first k entries has the id of k
-pub last_of_front : (k : ℕ) (archive : List EntryView) → AreNumbered archive → k < length archive →
+pub last_of_front : (k : ℕ) (archive : List EntryView) → AreNumbered (length archive) archive → k < length archive →
     last_id (map as_logged (take (k + 1) archive)) ≡ Some (id_of (k + 1))
 last_of_front k archive known within =
     let place = at_place k archive within in
     let is : get_or archive k place.0 ≡ place.0 = get_or_from_slice_get archive k place.0 place.0 place.1 in
     let cut : take (k + 1) archive ≡ take k archive ++ place.0 ∷ [] =
     take_more archive k place.0 within ∙ ap (λ e. take k archive ++ e ∷ []) is in
-    let number : place.0.number ≡ k + 1 = known.each k place.0 place.1 in
+    let number : place.0.number ≡ k + 1 = let n : place.0.number + length archive ≡ length archive + 1 + k = known.each k place.0 place.1 in omega arith in
     ap (λ es. last_id (map as_logged es)) cut
     ∙ ap last_id (map_push as_logged (take k archive) place.0)
     ∙ last_id_push (map as_logged (take k archive)) (as_logged place.0)
     ∙ ap (λ n. Some (id_of n)) number
 
 -- the page behind the first k entries
-pub page_behind_front : (k most : ℕ) (archive : List EntryView) → AreNumbered archive → length archive < 2 ^ 64 → k ≤ length archive →
+pub page_behind_front : (k most : ℕ) (archive : List EntryView) → AreNumbered (length archive) archive → length archive < 2 ^ 64 → k ≤ length archive →
     page_of (place_behind (last_id (map as_logged (take k archive)))) most archive ≡ Some (page_behind k most archive)
 page_behind_front zero most archive known small within = refl
 page_behind_front (suc k) most archive known small within =
@@ -103,7 +104,7 @@ cond_pair P false x y u v yes_case no_case = no_case refl
 
 -- where the definitions stand on pages, the log stands on the log
 pub catch_up_logged : (turns most : ℕ) (archive : List EntryView) (pages : List LogPage) (log : LogView) →
-    AreNumbered archive → length archive < 2 ^ 64 → IsLogOf pages log → IsFrontOf archive log.entries →
+    AreNumbered (length archive) archive → length archive < 2 ^ 64 → IsLogOf pages log → IsFrontOf archive log.entries →
     IsLogOf (catch_up turns most archive pages) (log_after turns most archive log)
 catch_up_logged zero most archive pages log known small is front = is
 catch_up_logged (suc turns) most archive pages log known small is front =

@@ -1,9 +1,10 @@
 -- What a change of one account does to the lists that clauses see.
 use Rattle.std.proofs.Common.{◌≡◌, ◌≢◌, ℕ, zero, suc, ◌+◌, ◌<◌, ◌≤◌, List, [], ◌∷◌, ◌++◌, length, get_or, set, map, refl, sym, ap, ◌∙◌, arith, subst}
-use Rattle.std.proofs.lemmas.List.{length-append, length-map}
+use Rattle.std.proofs.lemmas.List.{length-append, length-map, length_push}
 use Rattle.std.specs.List.{All}
-use Rattle.xmpp_archive.specs.Entries.{ArchiveView, EntryView, numbered}
-use Rattle.xmpp_replay.specs.Homes.{Home, HomesView, appended, appended_at, home_of_account, names_of, room_of_account}
+use Rattle.xmpp_archive.proofs.Newest.{newest_few}
+use Rattle.xmpp_archive.specs.Entries.{AreKept, AreNumbered, ArchiveView, EntryView, newest, numbered}
+use Rattle.xmpp_replay.specs.Homes.{Home, HomesView, IsWhole, IsWholeAccount, appended, appended_at, home_of_account, names_of, room_of_account}
 use Rattle.xmpp_replay.specs.declared.run.accounts.Account.{Account}
 
 abbrev with_archive : Account → ArchiveView → Account
@@ -98,3 +99,32 @@ few_after (h ∷ homes) zero entry few zero d within =
 few_after (h ∷ homes) zero entry few (suc k) d within = let here : length (get_or homes k d).entries < 4294967294 = few (suc k) d within in omega arith
 few_after (h ∷ homes) (suc i) entry few zero d within = let here : length h.entries < 4294967294 = few zero d (omega arith) in omega arith
 few_after (h ∷ homes) (suc i) entry few (suc k) d within = few_after homes i entry (λ j e w. few (suc j) e (omega arith)) k d (omega arith)
+
+-- an archive that keeps all that came
+pub whole_numbered : (archive : ArchiveView) → IsWhole archive → AreKept archive.keep archive.last archive.entries → AreNumbered (length archive.entries) archive.entries
+whole_numbered archive whole kept = subst (λ n. AreNumbered n archive.entries) whole.last kept.numbers
+
+-- nothing is dropped of it
+pub whole_appended : (archive : ArchiveView) (entry : EntryView) (n : ℕ) → IsWhole archive → length archive.entries < 4294967295 → n ≡ archive.last + 1 →
+    newest archive.keep (archive.entries ++ numbered n entry ∷ []) ≡ archive.entries ++ numbered (length archive.entries + 1) entry ∷ []
+whole_appended archive entry n whole few next =
+    let number : n ≡ length archive.entries + 1 = next ∙ ap (λ m. m + 1) whole.last in
+    let size : length (archive.entries ++ numbered n entry ∷ []) ≡ length archive.entries + 1 = length_push archive.entries (numbered n entry) in
+    newest_few archive.keep (archive.entries ++ numbered n entry ∷ []) (omega (arith, whole.keep))
+    ∙ ap (λ m. archive.entries ++ numbered m entry ∷ []) number
+
+pub whole_there : (items : List Account) (i : ℕ) (x : Account) → All IsWholeAccount items → x ≡ get_or items i x → i < length items → IsWhole x.archive
+whole_there items i x all is there = subst IsWholeAccount (sym is) (all i x there)
+
+pub whole_set : (items : List Account) (i : ℕ) (y : Account) → All IsWholeAccount items → IsWhole y.archive → All IsWholeAccount (set items i y)
+whole_set [] i y all new k d within = absurd (omega arith)
+whole_set (a ∷ items) zero y all new zero d within = new
+whole_set (a ∷ items) zero y all new (suc k) d within = all (suc k) d within
+whole_set (a ∷ items) (suc i) y all new zero d within = all zero d (omega arith)
+whole_set (a ∷ items) (suc i) y all new (suc k) d within = whole_set items i y (λ j e w. all (suc j) e (omega arith)) new k d (omega arith)
+
+pub whole_push : (items : List Account) (y : Account) → All IsWholeAccount items → IsWhole y.archive → All IsWholeAccount (items ++ y ∷ [])
+whole_push [] y all new zero d within = new
+whole_push [] y all new (suc k) d within = absurd (omega arith)
+whole_push (a ∷ items) y all new zero d within = all zero d (omega arith)
+whole_push (a ∷ items) y all new (suc k) d within = whole_push items y (λ j e w. all (suc j) e (omega arith)) new k d (omega arith)

@@ -6,7 +6,7 @@ use Rattle.std.proofs.lemmas.List.Elements.{filter-append}
 use Rattle.std.proofs.lemmas.List.Sums.{count_by-le-length, length-filter}
 use Rattle.std.specs.List.{AllByRecursion, filter, slice_get}
 use Rattle.xmpp_archive.proofs.IdDigits.{id_of_same}
-use Rattle.xmpp_archive.proofs.NumberedEntries.{FollowFrom, follow_numbered}
+use Rattle.xmpp_archive.proofs.NumberedEntries.{FollowFrom, follow_all}
 use Rattle.xmpp_archive.proofs.PageCuts.{page_after}
 use Rattle.xmpp_archive.specs.Entries.{AreNumbered, EntryView, numbered}
 use Rattle.xmpp_archive.specs.Ids.{id_of}
@@ -38,8 +38,10 @@ numbered_place n (entry ∷ entries) (suc i) e at =
     let rest : e.number ≡ i + (n + 1) = numbered_place (n + 1) entries i e at in
     omega arith
 
-pub archive_numbered : (account : List ℕ) (takes : List Take) → AreNumbered (archive_of account takes)
-archive_numbered account takes = record { each = numbered_place 1 (map entry_of (filter (concerns account) takes)) }
+pub archive_numbered : (account : List ℕ) (takes : List Take) → AreNumbered (length (archive_of account takes)) (archive_of account takes)
+archive_numbered account takes = record {
+  each = λ i e is. let number : e.number ≡ i + 1 = numbered_place 1 (map entry_of (filter (concerns account) takes)) i e is in omega arith;
+}
 
 numbered_more : (n : ℕ) (xs ys : List EntryView) → (more : List EntryView) × (numbered_from n (xs ++ ys) ≡ numbered_from n xs ++ more)
 numbered_more n [] ys = (numbered_from n ys, refl)
@@ -107,8 +109,8 @@ apart_follow s (e ∷ entries) follow few =
       apart_follow (suc s) entries follow.1 (omega arith),
     )
 
-pub ids_apart : (entries : List EntryView) → AreNumbered entries → length entries < 2 ^ 64 → EachPair (λ a b. id_of a.number ≢ id_of b.number) entries
-ids_apart entries known few = apart_follow 1 entries (follow_numbered entries known) (omega arith)
+pub ids_apart : (entries : List EntryView) → AreNumbered (length entries) entries → length entries < 2 ^ 64 → EachPair (λ a b. id_of a.number ≢ id_of b.number) entries
+ids_apart entries known few = apart_follow 1 entries (follow_all entries known) (omega arith)
 
 -- the id of the last entry of a front
 follow_take : (n s : ℕ) (entries : List EntryView) → FollowFrom s entries → FollowFrom s (take n entries)
@@ -136,7 +138,7 @@ rest_entries archive log rest front =
     sym (drop_at log rest (length log) refl) ∙ ap (drop (length log)) (sym front) ∙ drop-map as_logged (length log) archive
 
 -- a page is asked for behind what is logged
-pub page_behind_log : (most : ℕ) (archive : List EntryView) (log rest : List LogEntry) → AreNumbered archive → length archive < 2 ^ 64 → map as_logged archive ≡ log ++ rest →
+pub page_behind_log : (most : ℕ) (archive : List EntryView) (log rest : List LogEntry) → AreNumbered (length archive) archive → length archive < 2 ^ 64 → map as_logged archive ≡ log ++ rest →
     page_of (place_behind (last_id log)) most archive ≡ Some (page_behind (length log) most archive)
 page_behind_log most archive [] rest known few front = refl
 page_behind_log most archive (e ∷ es) rest known few front =
@@ -144,6 +146,6 @@ page_behind_log most archive (e ∷ es) rest known few front =
     let total : length archive ≡ length log + length rest = sym (length-map archive as_logged) ∙ ap length front ∙ length-append log rest in
     let here : length (take (length log) archive) ≡ length log = length-take-le (length log) archive (omega arith) in
     let last : last_id log ≡ Some (id_of (1 + length (take (length log) archive) - 1)) =
-    ap last_id (front_entries archive log rest front) ∙ last_follows 1 (take (length log) archive) (follow_take (length log) 1 archive (follow_numbered archive known)) (omega arith) in
+    ap last_id (front_entries archive log rest front) ∙ last_follows 1 (take (length log) archive) (follow_take (length log) 1 archive (follow_all archive known)) (omega arith) in
     let number : 1 + length (take (length log) archive) - 1 ≡ length log = omega arith in
     rw (last, number) (page_after (length log) most archive known few (omega arith) (omega arith))

@@ -49,7 +49,7 @@ page_taken most archive log rest front =
 
 -- one turn of a catch-up
 catch_up_turn : (turns most : ℕ) (archive : List EntryView) (pages : List LogPage) (rest : List LogEntry) →
-    AreNumbered archive → length archive < 2 ^ 64 → map as_logged archive ≡ log_of pages ++ rest →
+    AreNumbered (length archive) archive → length archive < 2 ^ 64 → map as_logged archive ≡ log_of pages ++ rest →
     catch_up (suc turns) most archive pages
     ≡ cond (leb (length rest) most) (pages ++ next_page most archive (log_of pages) rest ∷ []) (catch_up turns most archive (pages ++ next_page most archive (log_of pages) rest ∷ []))
 catch_up_turn turns most archive pages rest known few front =
@@ -100,7 +100,7 @@ further_turn most archive pages rest result partial some later =
     }
 
 pub catch_up_is : (turns most : ℕ) (archive : List EntryView) (pages : List LogPage) (rest : List LogEntry) →
-    1 ≤ most → AreNumbered archive → length archive < 2 ^ 64 → map as_logged archive ≡ log_of pages ++ rest → length rest < turns →
+    1 ≤ most → AreNumbered (length archive) archive → length archive < 2 ^ 64 → map as_logged archive ≡ log_of pages ++ rest → length rest < turns →
     CaughtUp archive pages (catch_up turns most archive pages)
 catch_up_is zero most archive pages rest some known few front enough = absurd (omega arith)
 catch_up_is (suc turns) most archive pages rest some known few front enough =

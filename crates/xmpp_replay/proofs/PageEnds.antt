@@ -9,8 +9,7 @@ use Rattle.std.specs.List.{list_any}
 use Rattle.std.specs.Option.{IsSomeAnd}
 use Rattle.std.specs.Str.{bytes_eq}
 use Rattle.xmpp_archive.proofs.IdDigits.{id_of_same}
-use Rattle.xmpp_archive.proofs.PageCuts.{at_place}
-use Rattle.xmpp_archive.proofs.NumberedEntries.{FollowFrom, follow_numbered}
+use Rattle.xmpp_archive.proofs.NumberedEntries.{FollowFrom, at_place, follow_all}
 use Rattle.xmpp_archive.specs.Entries.{AreNumbered, EntryView}
 use Rattle.xmpp_archive.specs.Ids.{id_of}
 use Rattle.xmpp_log.specs.LogPages.{ids_of, last_id}
@@ -66,10 +65,10 @@ same_id_itself None = refl
 same_id_itself (Some id) = bytes_eq_itself id
 
 -- the ids of the next entries are new
-pub next_are_new : (most : ℕ) (archive : List EntryView) (logged : List LogEntry) → AreNumbered archive → length archive < 2 ^ 64 → IsFrontOf archive logged →
+pub next_are_new : (most : ℕ) (archive : List EntryView) (logged : List LogEntry) → AreNumbered (length archive) archive → length archive < 2 ^ 64 → IsFrontOf archive logged →
     first_repeat (ids_of logged) (ids_of (map as_logged (take most (drop (length logged) archive)))) ≡ None
 next_are_new most archive logged numbered small front =
-    let follow = follow_numbered archive numbered in
+    let follow = follow_all archive numbered in
     let k : ℕ = length logged in
     let rest : length (drop (length logged) archive) ≡ length archive - length logged = length-drop (length logged) archive in
     let got : length (take most (drop (length logged) archive)) ≡ min most (length (drop (length logged) archive)) = length-take most (drop (length logged) archive) in
@@ -100,7 +99,7 @@ page_advances queryid most archive log false low is =
 
 -- so a page of the next entries is taken over
 pub page_ends_well : (queryid : List ℕ) (most : ℕ) (archive : List EntryView) (log : LogView) (fin : Fin) → 1 ≤ most →
-    AreNumbered archive → length archive < 2 ^ 64 → IsFrontOf archive log.entries →
+    AreNumbered (length archive) archive → length archive < 2 ^ 64 → IsFrontOf archive log.entries →
     fin.last ≡ last_id (map as_logged (take most (drop (length log.entries) archive))) →
     fin.complete ≡ leb (length (drop (length log.entries) archive)) most →
     fin_answer (opened queryid most log (map as_logged (take most (drop (length log.entries) archive)))) queryid fin ≡ Ok (outcome_of fin.complete)
@@ -137,13 +136,13 @@ result_taken queryid most had at archive log now next size is within taken =
     ∙ ap (opened queryid most log) (sym (results_more (length log.entries) at archive any_entry within))
 
 -- the id of the last entry of a page
-pub last_in_page : (k count : ℕ) (archive : List EntryView) → AreNumbered archive → k + count ≤ length archive →
+pub last_in_page : (k count : ℕ) (archive : List EntryView) → AreNumbered (length archive) archive → k + count ≤ length archive →
     cond (eqb count 0) None (Some (id_of (k + count))) ≡ last_id (map as_logged (take count (drop k archive)))
 last_in_page k zero archive numbered within = refl
 last_in_page k (suc j) archive numbered within =
     let place = at_place (k + j) archive (omega arith) in
     let is : get_or archive (k + j) place.0 ≡ place.0 = get_or_from_slice_get archive (k + j) place.0 place.0 place.1 in
-    let number : place.0.number ≡ k + suc j = let n : place.0.number ≡ k + j + 1 = numbered.each (k + j) place.0 place.1 in omega arith in
+    let number : place.0.number ≡ k + suc j = let n : place.0.number + length archive ≡ length archive + 1 + (k + j) = numbered.each (k + j) place.0 place.1 in omega arith in
     let back : k + j + 1 - 1 ≡ k + j = omega arith in
     let test : eqb (suc j) 0 ≡ false = ne_eqb (suc j) 0 (λ (e : suc j ≡ 0). omega arith) in
     rw test (sym (ap (λ n. last_id (map as_logged (take n (drop k archive)))) (sym (add-one j))
@@ -155,7 +154,7 @@ last_in_page k (suc j) archive numbered within =
 
 -- the page as the code makes it ends well
 pub made_page_ends_well : (queryid : List ℕ) (most count : ℕ) (archive : List EntryView) (log begun now : LogView) (fin : Fin) → 1 ≤ most →
-    AreNumbered archive → length archive < 2 ^ 64 → IsFrontOf archive log.entries →
+    AreNumbered (length archive) archive → length archive < 2 ^ 64 → IsFrontOf archive log.entries →
     count ≡ min (length archive - length log.entries) most →
     begun ≡ opened queryid most log [] →
     now ≡ opened queryid most begun (map as_logged (take count (drop (length begun.entries) archive))) →

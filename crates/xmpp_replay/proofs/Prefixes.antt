@@ -94,8 +94,10 @@ numbers_from n [] i e is = absurd (none-some e is)
 numbers_from n (first ∷ entries) zero e is = let same : n ≡ e.number = ap (λ (v : EntryView). v.number) (same_Some (numbered n first) e is) in omega arith
 numbers_from n (first ∷ entries) (suc i) e is = let rest : e.number ≡ i + (n + 1) = numbers_from (n + 1) entries i e is in omega arith
 
-pub archive_numbered : (account : List ℕ) (takes : List Take) → AreNumbered (archive_of account takes)
-archive_numbered account takes = record { each = numbers_from 1 (map entry_of (filter (concerns account) takes)) }
+pub archive_numbered : (account : List ℕ) (takes : List Take) → AreNumbered (length (archive_of account takes)) (archive_of account takes)
+archive_numbered account takes = record {
+  each = λ i e is. let number : e.number ≡ i + 1 = numbers_from 1 (map entry_of (filter (concerns account) takes)) i e is in omega arith;
+}
 
 -- one take more
 pub archive_push : (account : List ℕ) (takes : List Take) (take : Take) →

@@ -1,6 +1,6 @@
 -- The accounts of a run, each with its archive.
-use Rattle.std.specs.Prelude.{ℕ, zero, suc, ◌+◌, ◌==◌, List, [], ◌∷◌, ◌++◌, length, map, if◌then◌else◌}
-use Rattle.xmpp_archive.specs.Entries.{EntryView, numbered}
+use Rattle.std.specs.Prelude.{◌≡◌, ℕ, zero, suc, ◌+◌, ◌==◌, List, [], ◌∷◌, ◌++◌, length, map, if◌then◌else◌}
+use Rattle.xmpp_archive.specs.Entries.{ArchiveView, EntryView, numbered}
 use Rattle.xmpp_replay.specs.Direct.{Take, archive_of}
 use Rattle.xmpp_replay.specs.declared.run.accounts.Account.{Account}
 
@@ -9,6 +9,11 @@ pub record Home : Type 0 where
   pub name : List ℕ
   pub entries : List EntryView
 
+-- the archive keeps all that came
+pub record IsWhole (archive : ArchiveView) : Type 0 where
+  pub keep : archive.keep ≡ 4294967295
+  pub last : archive.last ≡ length archive.entries
+
 -- the accounts, and how many entries more fit into each archive without further memory
 pub record HomesView : Type 0 where
   pub homes : List Home
@@ -16,6 +21,10 @@ pub record HomesView : Type 0 where
 
 abbrev pub home_of_account : Account → Home
 home_of_account account = record { name = account.name; entries = account.archive.entries }
+
+-- the account's archive keeps all that came
+abbrev pub IsWholeAccount : Account → Type 0
+IsWholeAccount account = IsWhole account.archive
 
 abbrev pub room_of_account : Account → ℕ
 room_of_account account = account.archive.spare

@@ -3,7 +3,7 @@ ghost use Rattle.std.specs.Prelude.{◌≡◌, ◌≢◌, ℕ, ◌+◌, ◌<◌,
 ghost use Rattle.std.specs.List.{All};
 ghost use Rattle.xmpp_replay.specs.Direct.{account_name, accounts_of, bare_address};
 ghost use Rattle.xmpp_replay.specs.Grammar.{is_among};
-ghost use Rattle.xmpp_replay.specs.Homes.{Home, home_of_account, names_of, empty_home, appended_at, delivered};
+ghost use Rattle.xmpp_replay.specs.Homes.{Home, IsWhole, home_of_account, names_of, empty_home, appended_at, delivered};
 ghost use Rattle.xmpp_replay.specs.Names.{place_of};
 ghost use Rattle.xmpp_replay.specs.Schedules.{steps_of};
 ghost use Rattle.xmpp_replay.specs.Standing.{AreRight};
@@ -12,8 +12,11 @@ use crate::name_index::NameIndex;
 use crate::schedule::{Line, Step};
 use std::alloc::Global;
 use std::marker::Model;
-use xmpp_archive::{Archive, ArchiveFault, Entry, MOST_ENTRIES};
+use xmpp_archive::{Archive, ArchiveFault, Entry};
 use xmpp_edge::{NoMemory, Text};
+
+/// How many entries an archive keeps: all that can come.
+const KEEP: u32 = 4_294_967_295;
 
 /// An account and its archive.
 #[derive(Drop)]
@@ -31,13 +34,14 @@ pub(crate) struct Accounts {
 
 impl Model for Accounts {
     ghost use Rattle.std.specs.Prelude.{◌≡◌, map};
-    ghost use Rattle.xmpp_replay.specs.Homes.{HomesView, home_of_account, room_of_account, names_of};
+    ghost use Rattle.std.specs.List.{All};
+    ghost use Rattle.xmpp_replay.specs.Homes.{HomesView, IsWholeAccount, home_of_account, room_of_account, names_of};
 
     ghost Value = { HomesView };
 
     ghost view = { λ a. record { homes = map home_of_account a.accounts.items; rooms = map room_of_account a.accounts.items } };
 
-    ghost invariant = { λ a. a.index ≡ names_of (map home_of_account a.accounts.items) };
+    ghost invariant = { λ a. (a.index ≡ names_of (map home_of_account a.accounts.items)) × All IsWholeAccount a.accounts.items };
 }
 
 /// An account's bare address (RFC 7622).
@@ -68,7 +72,7 @@ impl Accounts {
     {
         let account = Account {
             name: Text::from_str(alloc, name)?,
-            archive: Archive::new(alloc, bare_address(alloc, name)?),
+            archive: Archive::new(alloc, bare_address(alloc, name)?, KEEP),
         };
         self.accounts.reserve(1)?;
         self.index.add(alloc, name)?;
@@ -113,7 +117,8 @@ impl Accounts {
     /// The archive of the account at a place.
     pub(crate) fn archive(&self, place: usize) -> &Archive
         requires { place < length self.now.homes }
-        ensures { (d : Home) → result.now.entries ≡ (slice_index_or self.now.homes place d).entries }
+        ensures entries { (d : Home) → result.now.entries ≡ (slice_index_or self.now.homes place d).entries }
+        ensures whole { IsWhole result.now }
     {
         &self.accounts[place].archive
     }

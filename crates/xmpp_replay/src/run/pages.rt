@@ -6,6 +6,7 @@ ghost use Rattle.xmpp_archive.specs.Pages.{page_behind};
 ghost use Rattle.xmpp_log.specs.LogPages.{last_id};
 ghost use Rattle.xmpp_log.specs.Views.{after_fin, fin_answer, outcome_of, page_for, with_result};
 ghost use Rattle.xmpp_replay.specs.Direct.{as_logged};
+ghost use Rattle.xmpp_replay.specs.Homes.{IsWhole};
 ghost use Rattle.xmpp_replay.specs.Turns.{IsFrontOf, caught_up, opened, open_page, with_turn};
 
 use std::alloc::Global;
@@ -39,6 +40,7 @@ fn copy_result(
     number: u64,
 ) -> Result<(), NoMemory>
     requires open { IsSomeAnd (page_for queryid.now log.old.page) (λ page. length page.results < page.max) }
+    requires whole { IsWhole archive.now }
     requires there { (1 ≤ number) × (number ≤ length archive.now.entries) }
     ensures { (d : EntryView) → OnOk result (log.new ≡ with_result log.old (as_logged (slice_index_or archive.now.entries (number - 1) d))) }
 {
@@ -81,6 +83,7 @@ fn copy_results(
     most: u32,
     count: u64,
 ) -> Result<(), NoMemory>
+    requires whole { IsWhole archive.now }
     requires begun { log.old.page ≡ Some (open_page queryid.now most log.old []) }
     requires few { count ≤ most }
     requires there { length log.old.entries + count ≤ length archive.now.entries }
@@ -107,6 +110,7 @@ fn id_in_page(alloc: Global, empty: bool, number: u64) -> Result<Option<Text>, N
 /// complete, and costs what the page costs, however long the archive is.
 #[tactic(auto, using(crate::proofs::PageEnds::page_ends_well))]
 fn take_page(log: &mut Log, alloc: Global, archive: &Archive, most: u32) -> Result<bool, NoMemory>
+    requires whole { IsWhole archive.now }
     requires most { (1 ≤ most) × (most ≤ 100) }
     requires closed { log.old.page ≡ None }
     requires front { IsFrontOf archive.now.entries log.old.entries }
@@ -138,6 +142,7 @@ pub(crate) fn catch_up(
     archive: &Archive,
     most: u32,
 ) -> Result<(), NoMemory>
+    requires whole { IsWhole archive.now }
     requires most { (1 ≤ most) × (most ≤ 100) }
     requires closed { log.old.page ≡ None }
     requires front { IsFrontOf archive.now.entries log.old.entries }

@@ -11,7 +11,7 @@ use crate::report::{
 use crate::run::accounts::Account;
 use crate::run::devices::Device;
 use std::alloc::Global;
-use xmpp_archive::{Bodies, Entries, Entry, id_of_number};
+use xmpp_archive::{Bodies, Entry, id_of_number};
 use xmpp_edge::{ListOf, NoMemory, Text};
 use xmpp_log::{LogEntries, LogEntry, Tile, Tiles};
 
@@ -47,11 +47,11 @@ fn entry_line(alloc: Global, entry: Entry) -> Result<EntryLine, NoMemory>
     })
 }
 
-fn entry_lines(alloc: Global, entries: Entries) -> Result<EntryLines, NoMemory>
+fn entry_lines(alloc: Global, entries: Vec<Entry>) -> Result<EntryLines, NoMemory>
     ensures { IfOk result (λ lines. lines.items ≡ map entry_line entries.items) }
 {
     let mut lines = ListOf::new(alloc);
-    for entry in entries.into_items() {
+    for entry in entries {
         lines.push(entry_line(alloc, entry)?)?;
     }
     Ok(lines)

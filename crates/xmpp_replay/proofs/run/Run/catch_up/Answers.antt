@@ -7,7 +7,7 @@ use Rattle.xmpp_replay.proofs.run.Run.catch_up.Goals as goal
 pub catch_up-requires-clause-front : goal.catch_up-requires-clause-front
 catch_up-requires-clause-front c =
     front_ready c.args.self.now c.in-Some.place c.index_mut-device.result.now c.archive.result.now.entries c.requires.ready c.in-Some.ensures.there.0
-    c.index_mut-device.ensures.value c.archive.ensures
+    c.index_mut-device.ensures.value c.archive.ensures.entries
 
 pub returns : goal.returns
 returns c = OnOk_then c.catch_up.result c.catch_up.ensures (λ done. record {
@@ -21,5 +21,5 @@ returns c = OnOk_then c.catch_up.result c.catch_up.ensures (λ done. record {
   homes = refl;
   takes = refl;
   same = (refl, refl, refl, refl, refl);
-  log = λ d. done ∙ ap (λ (es : _). caught_up c.args.most es c.index_mut-device.result.now.log) (c.archive.ensures d);
+  log = λ d. done ∙ ap (λ (es : _). caught_up c.args.most es c.index_mut-device.result.now.log) (c.archive.ensures.entries d);
 })

@@ -1,8 +1,8 @@
 -- The account at the place has its archive with more room, and the lists that clauses see are as they were.
-use Rattle.std.proofs.Common.{sym, ap, ◌∙◌, arith}
+use Rattle.std.proofs.Common.{length, sym, ap, ◌∙◌, arith}
 use Rattle.std.proofs.lemmas.Grind.{common_steps}
-use Rattle.xmpp_replay.proofs.HomeLists.{few_of_view, few_there, homes_kept, place_in_view, rooms_raised, room_there}
-use Rattle.xmpp_replay.specs.Homes.{HomesView, names_of}
+use Rattle.xmpp_replay.proofs.HomeLists.{few_of_view, few_there, homes_kept, place_in_view, rooms_raised, room_there, whole_set, whole_there}
+use Rattle.xmpp_replay.specs.Homes.{HomesView, IsWhole, names_of}
 use Rattle.xmpp_replay.proofs.run.accounts.Accounts.reserve.Goals as goal
 use Rattle.xmpp_replay.proofs.run.accounts.Accounts.reserve.Goals.{in-Ok, in-Err-NoMemory}
 
@@ -11,11 +11,22 @@ unreachable-requires c =
     let few = few_there c.self.inside.accounts.items c.args.place c.index_mut.result.now c.index_mut.ensures.value
     (place_in_view c.self.inside.accounts.items c.args.self.now c.args.place c.self.view_is c.requires.there)
     (few_of_view c.self.inside.accounts.items c.args.self.now c.self.view_is c.requires.few) in
-    grind (arith, common_steps, c.in-Err-Full.ensures.full)
+    let whole = whole_there c.self.inside.accounts.items c.args.place c.index_mut.result.now c.self.invariant.1 c.index_mut.ensures.value
+    (place_in_view c.self.inside.accounts.items c.args.self.now c.args.place c.self.view_is c.requires.there) in
+    grind (arith, common_steps, c.in-Err-Full.ensures.full, whole.last)
 
 pub invariant_of-self : goal.invariant_of-self
 invariant_of-self c =
-    c.self.invariant ∙ ap names_of (sym (homes_kept c.self.inside.accounts.items c.args.place c.index_mut.result.now c.reserve.new.self c.index_mut.ensures.value c.reserve.ensures.entries))
+    let items = c.self.inside.accounts.items in
+    let there = place_in_view items c.args.self.now c.args.place c.self.view_is c.requires.there in
+    let whole = whole_there items c.args.place c.index_mut.result.now c.self.invariant.1 c.index_mut.ensures.value there in
+    let stays : IsWhole c.reserve.new.self = record {
+      keep = c.reserve.ensures.keep ∙ whole.keep;
+      last = c.reserve.ensures.last ∙ whole.last ∙ ap length (sym c.reserve.ensures.entries);
+    } in (
+      c.self.invariant.0 ∙ ap names_of (sym (homes_kept items c.args.place c.index_mut.result.now c.reserve.new.self c.index_mut.ensures.value c.reserve.ensures.entries)),
+      whole_set items c.args.place (record { name = c.index_mut.result.now.name; archive = c.reserve.new.self }) c.self.invariant.1 stays,
+    )
 
 pub returns-clause-ok : goal.returns-clause-ok
 returns-clause-ok c =

@@ -1,0 +1,22 @@
+-- The account that is added stands behind the others, and its archive keeps all that comes.
+use Rattle.std.proofs.Common.{◌≡◌, [], ◌∷◌, ◌++◌, length, map, sym, ap, ◌∙◌}
+use Rattle.std.proofs.lemmas.List.{map-append}
+use Rattle.xmpp_replay.proofs.HomeLists.{whole_push}
+use Rattle.xmpp_replay.specs.Homes.{Home, IsWhole, home_of_account, names_of}
+use Rattle.xmpp_replay.specs.declared.run.accounts.Account.{Account}
+use Rattle.xmpp_replay.proofs.run.accounts.Accounts.add.Goals as goal
+
+pub invariant_of-self-2 : goal.invariant_of-self-2
+invariant_of-self-2 c =
+    let items = c.self.inside.accounts.items in
+    let account : Account = record { name = c.in_ok-from_str.field-0; archive = c.new.result } in
+    let all : c.push.new.self.items ≡ items ++ account ∷ [] = c.in-Ok.ensures.items ∙ ap (λ l. l ++ account ∷ []) c.reserve.ensures.items in
+    let whole : IsWhole c.new.result = record { keep = c.new.ensures.keep; last = c.new.ensures.last ∙ ap length (sym c.new.ensures.entries) } in
+    let homes : map home_of_account (items ++ account ∷ []) ≡ map home_of_account items ++ home_of_account account ∷ [] = map-append home_of_account items (account ∷ []) in
+    let names : names_of (map home_of_account items ++ home_of_account account ∷ []) ≡ names_of (map home_of_account items) ++ account.name ∷ [] =
+    map-append (λ (h : Home). h.name) (map home_of_account items) (home_of_account account ∷ []) in
+    rw all (
+      c.in_ok-add.ensures.ok ∙ ap (λ l. l ++ c.args.name.now ∷ []) c.self.invariant.0 ∙ ap (λ n. names_of (map home_of_account items) ++ n ∷ []) (sym c.in_ok-from_str.ensures)
+          ∙ sym (ap names_of homes ∙ names),
+      whole_push items account c.self.invariant.1 whole,
+    )
