@@ -1,6 +1,11 @@
 //! Pages of an archive (XEP-0313, XEP-0059): which of its entries answer a query, and how many there are.
 #![tactic(auto)]
 
+mod cut;
+mod looks;
 mod query;
+mod span;
 
+pub use cut::{PageCut, PageFault};
+pub use looks::Look;
 pub use query::{PageQuery, Place};
