@@ -1,4 +1,6 @@
 pub mod Placed
 pub mod Rising
+pub mod Slots
 pub mod SpanPages
+pub mod Tallying
 mod Worked

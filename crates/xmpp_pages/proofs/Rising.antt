@@ -5,13 +5,8 @@ use Rattle.std.proofs.lemmas.Bool.Decides.{nat_tests}
 use Rattle.std.specs.List.{filter}
 use Rattle.xmpp_archive.specs.Entries.{EntryView}
 use Rattle.xmpp_pages.specs.Kept.{FollowOn}
-use Rattle.xmpp_pages.specs.Spans.{is_within, number_of_entry, numbers_of, within}
+use Rattle.xmpp_pages.specs.Spans.{Rises, is_within, number_of_entry, numbers_of, within}
 use Rattle.xmpp_pages.specs.declared.span.Span.{Span}
-
--- each is above the one before, the first above `low`, and none is above `high`
-abbrev pub Rises : ℕ → ℕ → List ℕ → Type 0
-Rises low high [] = Unit {0}
-Rises low high (n ∷ ns) = (low < n) × (n ≤ high) × Rises n high ns
 
 pub rises_weaken : (a b high : ℕ) (ns : List ℕ) → a ≤ b → Rises b high ns → Rises a high ns
 rises_weaken a b high [] le rises = tt

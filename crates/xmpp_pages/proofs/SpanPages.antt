@@ -5,12 +5,12 @@ use Rattle.std.specs.List.{filter}
 use Rattle.std.specs.Option.{option_map}
 use Rattle.xmpp_archive.specs.Entries.{EntryView}
 use Rattle.xmpp_pages.proofs.Placed.{IsPlaced, placed}
-use Rattle.xmpp_pages.proofs.Rising.{Rises, filter_numbers, rises_entries, within_above, within_all, within_below}
+use Rattle.xmpp_pages.proofs.Rising.{filter_numbers, rises_entries, within_above, within_all, within_below}
 use Rattle.xmpp_pages.specs.Cuts.{CutView}
 use Rattle.xmpp_pages.specs.Kept.{Kept}
 use Rattle.xmpp_pages.specs.Matches.{is_wanted, matching}
 use Rattle.xmpp_pages.specs.PageOf.{cut_out, entry_of_id, index_of, last_of, most_of, page_of}
-use Rattle.xmpp_pages.specs.Spans.{IsNumbered, cut_by, index_in, number_of_entry, numbers_of, portion_by, within}
+use Rattle.xmpp_pages.specs.Spans.{IsNumbered, Rises, cut_by, index_in, number_of_entry, numbers_of, portion_by, within}
 use Rattle.xmpp_pages.specs.declared.query.PageQuery.{PageQuery}
 use Rattle.xmpp_pages.specs.declared.query.Place.{Place}
 use Rattle.xmpp_pages.specs.declared.query.Place.TheVariants.{First, After, Before, Last}

@@ -6,3 +6,5 @@ pub mod Matches
 pub mod Cuts
 pub mod PageOf
 pub mod Spans
+pub mod Windows
+pub mod Tallies

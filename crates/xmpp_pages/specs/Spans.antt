@@ -1,5 +1,5 @@
 -- Where the candidates for a page stand, by numbers alone, and the page by numbers alone.
-use Rattle.std.specs.Prelude.{◌≡◌, ℕ, zero, suc, ◌-◌, nat_lt, nat_le, Bool, ◌&&◌, List, [], ◌∷◌, Option, filter, map, take, length, if◌then◌else◌}
+use Rattle.std.specs.Prelude.{◌≡◌, ℕ, zero, suc, ◌<◌, ◌≤◌, ◌-◌, nat_lt, nat_le, Bool, ◌&&◌, List, [], ◌∷◌, Option, filter, map, take, length, if◌then◌else◌}
 use Rattle.std.specs.Option.{option_map}
 use Rattle.xmpp_archive.specs.Entries.{EntryView}
 use Rattle.xmpp_pages.specs.Cuts.{CutView}
@@ -46,6 +46,11 @@ cut_by span numbers =
       count = length numbers;
       complete = nat_le (length (within span numbers)) span.most;
     }
+
+-- each is above the one before, the first above `low`, and none is above `high`
+abbrev pub Rises : ℕ → ℕ → List ℕ → Type 0
+Rises low high [] = Unit {0}
+Rises low high (n ∷ ns) = (low < n) × (n ≤ high) × Rises n high ns
 
 -- the archive's entries are numbered from first to last
 pub record IsNumbered (first last : ℕ) (entries : List EntryView) : Type 0 where

@@ -5,6 +5,8 @@ mod cut;
 mod looks;
 mod query;
 mod span;
+mod tally;
+mod window;
 
 pub use cut::{PageCut, PageFault};
 pub use looks::Look;

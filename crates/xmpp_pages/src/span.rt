@@ -1,4 +1,4 @@
-ghost use Rattle.std.specs.Prelude.{◌≡◌, ◌≤◌, ◌<◌, true, IfSome};
+ghost use Rattle.std.specs.Prelude.{◌≡◌, ◌≤◌, ◌<◌, IfSome};
 ghost use Rattle.xmpp_pages.specs.PageOf.{most_of};
 ghost use Rattle.xmpp_pages.specs.Spans.{IsNumberOf, IsSpanOf};
 
@@ -44,7 +44,6 @@ pub(crate) fn span_of(query: &PageQuery, first: u64, last: u64) -> Option<Span>
     ensures span { IsSpanOf query.now first last result }
     ensures through { IfSome result (λ span. span.through ≤ last) }
     ensures after { IfSome result (λ span. span.after ≤ last) }
-    ensures start { IfSome result (λ span. span.backward ≡ true → span.after ≡ 0) }
     ensures most { IfSome result (λ span. span.most ≤ 100) }
 {
     let most = most(query.max);
