@@ -1,3 +1,4 @@
+pub mod Behind
 pub mod Placed
 pub mod Rising
 pub mod Slots

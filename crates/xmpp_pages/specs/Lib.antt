@@ -8,3 +8,4 @@ pub mod PageOf
 pub mod Spans
 pub mod Windows
 pub mod Tallies
+pub mod Walks

@@ -3,9 +3,11 @@
 
 mod cut;
 mod looks;
+mod passing;
 mod query;
 mod span;
 mod tally;
+mod whole;
 mod window;
 
 pub use cut::{PageCut, PageFault};
