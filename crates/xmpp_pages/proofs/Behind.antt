@@ -5,7 +5,7 @@ use Rattle.std.proofs.lemmas.Bool.Decides.{nat_tests}
 use Rattle.std.specs.List.{filter}
 use Rattle.xmpp_archive.specs.Entries.{EntryView}
 use Rattle.xmpp_pages.specs.Cuts.{CutView}
-use Rattle.xmpp_pages.specs.Kept.{FollowOn}
+use Rattle.xmpp_pages.proofs.Placed.{FollowOn}
 use Rattle.xmpp_pages.specs.PageOf.{last_of}
 use Rattle.xmpp_pages.specs.Spans.{cut_by, index_in, is_within, numbers_behind, numbers_of, portion_by, within}
 use Rattle.xmpp_pages.specs.declared.span.Span.{Span}

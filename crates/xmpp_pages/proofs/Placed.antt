@@ -7,34 +7,46 @@ use Rattle.std.specs.Option.{option_map}
 use Rattle.std.specs.Str.{bytes_eq}
 use Rattle.xmpp_archive.specs.Entries.{EntryView}
 use Rattle.xmpp_archive.specs.Ids.{id_of}
-use Rattle.xmpp_pages.specs.Kept.{FollowOn, first_number, last_number, last_number_or}
+use Rattle.std.specs.List.{slice_get}
+use Rattle.xmpp_pages.specs.Kept.{last_number}
 use Rattle.xmpp_pages.specs.PageOf.{entry_of_id}
 use Rattle.xmpp_pages.specs.Spans.{IsNumbered, number_of_entry}
+
+-- the numbers are those behind n, one after another
+abbrev pub FollowOn : ℕ → List EntryView → Type 0
+FollowOn n [] = Unit {0}
+FollowOn n (e ∷ es) = (e.number ≡ suc n) × FollowOn (suc n) es
 
 -- the numbers are those behind `base`, up to `last`
 pub record IsPlaced (base last : ℕ) (es : List EntryView) : Type 0 where
   pub follow : FollowOn base es
   pub end : base + length es ≡ last
 
-pub last_is : (n : ℕ) (es : List EntryView) → FollowOn n es → last_number_or n es ≡ n + length es
-last_is n [] follow = omega arith
-last_is n (e ∷ es) follow =
-    let rest : last_number_or (suc n) es ≡ suc n + length es = last_is (suc n) es follow.1 in
-    let sum : suc n + length es ≡ n + suc (length es) = omega arith in
-    rw follow.0 (rest ∙ sum)
-
-last_from : (n : ℕ) (es : List EntryView) → first_number es ≡ suc n → FollowOn n es → last_number es ≡ n + length es
-last_from n [] first follow = omega (arith, first)
-last_from n (e ∷ es) first follow = last_is n (e ∷ es) follow
+follow_from : (b : ℕ) (es : List EntryView) → ((i : ℕ) (e : EntryView) → slice_get es i ≡ Some e → e.number ≡ b + 1 + i) → FollowOn b es
+follow_from b [] each = tt
+follow_from b (e ∷ es) each =
+    let here : e.number ≡ b + 1 + zero = each zero e refl in
+    (omega (arith, here), follow_from (suc b) es (λ i f is. let number : f.number ≡ b + 1 + suc i = each (suc i) f is in omega (arith, number)))
 
 -- the first number is not 0, and the others go on from it
 pub placed : (first last : ℕ) (es : List EntryView) → IsNumbered first last es → (1 ≤ first) × IsPlaced (first - 1) last es
-placed first last es known =
-    let n = known.consecutive.0 in
-    let start : first ≡ suc n = sym known.from ∙ known.consecutive.1 in
-    let base : first - 1 ≡ n = omega (arith, start) in
-    let end : n + length es ≡ last = sym (last_from n es known.consecutive.1 known.consecutive.2) ∙ known.to in
-    (omega (arith, start), record { follow = rw base known.consecutive.2; end = rw base end })
+placed first last [] known =
+    let start : 1 ≡ first = known.from in
+    let end : 0 ≡ last = known.to in
+    (omega (arith, start), record { follow = tt; end = omega (arith, start, end) })
+placed first last (e ∷ es) known =
+    let start : e.number ≡ first = known.from in
+    let to : last_number (e ∷ es) ≡ last = known.to in
+    let low : length (e ∷ es) ≤ last_number (e ∷ es) = known.consecutive.from_one in
+    let here : e.number + length (e ∷ es) ≡ last_number (e ∷ es) + 1 + zero = known.consecutive.numbers.each zero e refl in (
+      omega (arith, start, low, here),
+      record {
+        follow = follow_from (first - 1) (e ∷ es) (λ i f is.
+            let number : f.number + length (e ∷ es) ≡ last_number (e ∷ es) + 1 + i = known.consecutive.numbers.each i f is in
+            omega (arith, number, here, start, low));
+        end = omega (arith, start, to, here, low);
+      },
+    )
 
 false_from_Decides : {P : Type 0} → (b : Bool) → Decides b P → ¬ P → b ≡ false
 false_from_Decides true decides fails = absurd (fails (decides.0 refl))

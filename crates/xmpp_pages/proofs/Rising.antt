@@ -4,7 +4,7 @@ use Rattle.std.proofs.lemmas.Bool.{cases_Bool, cases_lt}
 use Rattle.std.proofs.lemmas.Bool.Decides.{nat_tests}
 use Rattle.std.specs.List.{filter}
 use Rattle.xmpp_archive.specs.Entries.{EntryView}
-use Rattle.xmpp_pages.specs.Kept.{FollowOn}
+use Rattle.xmpp_pages.proofs.Placed.{FollowOn}
 use Rattle.xmpp_pages.specs.Spans.{Rises, is_within, number_of_entry, numbers_of, within}
 use Rattle.xmpp_pages.specs.declared.span.Span.{Span}
 

@@ -4,7 +4,8 @@ use Rattle.std.specs.Prelude.{codes}
 use Rattle.xmpp_archive.specs.Entries.{EntryView}
 use Rattle.xmpp_archive.specs.Ids.{id_of}
 use Rattle.xmpp_pages.specs.Cuts.{CutView}
-use Rattle.xmpp_pages.specs.Kept.{AreConsecutive, Kept, first_number, first_of, last_number, next_of}
+use Rattle.xmpp_pages.specs.Kept.{Kept, first_number, last_number}
+use Rattle.xmpp_pages.specs.Peers.{first_of, next_of}
 use Rattle.xmpp_pages.specs.PageOf.{page_of}
 use Rattle.xmpp_pages.specs.declared.query.PageQuery.{PageQuery}
 use Rattle.xmpp_pages.specs.declared.query.Place.{Place}
@@ -86,17 +87,14 @@ first_kept = refl
 last_kept : last_number (five 400).entries ≡ 405
 last_kept = refl
 
-consecutive : AreConsecutive (five 400).entries
-consecutive = (400, refl, (refl, (refl, (refl, (refl, (refl, tt))))))
-
-first_with_carol : first_of (five 400) carol ≡ Some 402
+first_with_carol : first_of romeo carol (five 400).entries ≡ Some 402
 first_with_carol = refl
 
-next_with_carol : next_of (five 400) 402 ≡ Some 405
+next_with_carol : next_of romeo 402 (five 400).entries ≡ Some 405
 next_with_carol = refl
 
-no_next : next_of (five 400) 405 ≡ None
+no_next : next_of romeo 405 (five 400).entries ≡ None
 no_next = refl
 
-no_such_entry : next_of (five 400) 400 ≡ None
+no_such_entry : next_of romeo 400 (five 400).entries ≡ None
 no_such_entry = refl

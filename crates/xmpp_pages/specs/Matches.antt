@@ -3,13 +3,14 @@ use Rattle.std.specs.Prelude.{ℕ, nat_le, Bool, true, ◌&&◌, List, Option, S
 use Rattle.std.specs.Str.{bytes_eq}
 use Rattle.xmpp_archive.specs.Entries.{EntryView}
 use Rattle.xmpp_pages.specs.Kept.{Kept}
-use Rattle.xmpp_pages.specs.Parties.{has_peer, is_full, other_party}
+use Rattle.xmpp_pages.specs.Parties.{is_full, other_party}
+use Rattle.xmpp_pages.specs.Peers.{is_with}
 use Rattle.xmpp_pages.specs.declared.query.PageQuery.{PageQuery}
 
 -- an address without a resource matches the other party's bare address, one with a resource its whole address
 abbrev pub with_passes : List ℕ → Option (List ℕ) → EntryView → Bool
 with_passes owner None e = true
-with_passes owner (Some peer) e = if is_full peer then bytes_eq (other_party owner e) peer else has_peer owner peer e
+with_passes owner (Some peer) e = if is_full peer then bytes_eq (other_party owner e) peer else is_with owner peer e
 
 -- taken at this moment or later
 abbrev pub start_passes : Option ℕ → EntryView → Bool

@@ -7,6 +7,7 @@ mod passing;
 mod query;
 mod span;
 mod tally;
+mod walks;
 mod whole;
 mod window;
 

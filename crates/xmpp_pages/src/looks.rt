@@ -4,7 +4,8 @@ ghost use Rattle.std.specs.Io.BufRead.{Rests};
 ghost use Rattle.std.specs.Option.{option_copied};
 ghost use Rattle.xmpp_archive.specs.Entries.{entry_numbered};
 ghost use Rattle.xmpp_edge.specs.Counts.{counted};
-ghost use Rattle.xmpp_pages.specs.Kept.{AreConsecutive, Kept, first_number, first_of, last_number, next_of};
+ghost use Rattle.xmpp_pages.specs.Kept.{AreConsecutive, Kept, first_number, last_number};
+ghost use Rattle.xmpp_pages.specs.Peers.{first_of, next_of};
 
 use xmpp_archive::Entry;
 
@@ -36,14 +37,14 @@ pub trait Look {
 
     /// The least number of an entry with that peer, and `None` where there is none. This is a look.
     fn first_of(&mut self, peer: &str) -> Option<u64>
-        ensures number { result ≡ first_of (archive self.old) peer.now }
+        ensures number { result ≡ first_of (archive self.old).owner peer.now (archive self.old).entries }
         ensures archive { archive self.new ≡ archive self.old }
         ensures looks { looks self.new ≡ counted (looks self.old) };
 
     /// The least number above this one of an entry with the same peer as the entry with this one, and `None` where
     /// there is none, or no entry has this one. This is a look.
     fn next_of(&mut self, number: u64) -> Option<u64>
-        ensures number { result ≡ next_of (archive self.old) number }
+        ensures number { result ≡ next_of (archive self.old).owner number (archive self.old).entries }
         ensures archive { archive self.new ≡ archive self.old }
         ensures looks { looks self.new ≡ counted (looks self.old) };
 }

@@ -2,15 +2,16 @@
 ghost use Rattle.std.specs.Prelude.{◌≡◌, ◌↔◌, List, ℕ, true, Some, None, IsTrue};
 ghost use Rattle.xmpp_archive.specs.Entries.{EntryView};
 ghost use Rattle.xmpp_pages.specs.Matches.{end_passes, is_wanted, stamp_passes, start_passes, with_passes};
-ghost use Rattle.xmpp_pages.specs.Parties.{bare_of, is_full, other_party};
+ghost use Rattle.xmpp_pages.specs.Parties.{is_full, other_party};
+ghost use Rattle.xmpp_pages.specs.Peers.{bare_form};
 ghost use Rattle.xmpp_pages.specs.Walks.{is_in_chain, is_own};
 
 use crate::query::PageQuery;
 use xmpp_archive::Entry;
 
 // The bare address: what stands before the first `/`, or all where there is none.
-pub(crate) fn bare(address: &str) -> &str
-    ensures { result.now ≡ bare_of address.now }
+pub(crate) fn bare_form(address: &str) -> &str
+    ensures { result.now ≡ bare_form address.now }
 {
     match address.split_once('/') {
         Some((bare, _)) => bare,
@@ -22,16 +23,16 @@ pub(crate) fn bare(address: &str) -> &str
 fn has_resource(address: &str) -> bool
     ensures { result ≡ is_full address.now }
 {
-    bare(address).len() < address.len()
+    bare_form(address).len() < address.len()
 }
 
 // Whether this is the whole address of the other party of an entry with its account. `own` says whether that account
 // is the owner's: then both parties are the owner, and the other one is the recipient.
-fn is_with(entry: &Entry, party: &str, own: bool) -> bool
+fn is_other_party(entry: &Entry, party: &str, own: bool) -> bool
     ensures { (owner : List ℕ) → own ≡ is_own owner (Some party.now) → is_in_chain owner (Some party.now) entry.now ≡ true →
         (IsTrue result ↔ (other_party owner entry.now ≡ party.now)) }
 {
-    if !own && bare(entry.from.as_str()) == bare(party) {
+    if !own && bare_form(entry.from.as_str()) == bare_form(party) {
         entry.from.as_str() == party
     } else {
         entry.to.as_str() == party
@@ -44,7 +45,7 @@ fn with_asked(entry: &Entry, query: &PageQuery, own: bool) -> bool
         result ≡ with_passes owner query.now.peer entry.now }
 {
     match &query.peer {
-        Some(peer) => !has_resource(peer.as_str()) || is_with(entry, peer.as_str(), own),
+        Some(peer) => !has_resource(peer.as_str()) || is_other_party(entry, peer.as_str(), own),
         None => true,
     }
 }
