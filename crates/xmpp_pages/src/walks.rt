@@ -2,6 +2,7 @@
 ghost use Rattle.std.specs.Prelude.{◌≡◌, ℕ, ◌+◌, ◌<◌, ◌≤◌, ◌^◌, List, [], ◌++◌, Some, None, true, length};
 ghost use Rattle.xmpp_archive.specs.Entries.{EntryView, entry_numbered};
 ghost use Rattle.xmpp_edge.specs.Counts.{counted};
+ghost use Rattle.xmpp_pages.specs.Kept.{AreConsecutive};
 ghost use Rattle.xmpp_pages.specs.Matches.{is_wanted};
 ghost use Rattle.xmpp_pages.specs.Tallies.{IsTally};
 ghost use Rattle.xmpp_pages.specs.Walks.{chain, chain_looks, is_in_chain, is_own, wanted_number, wanted_numbers};
@@ -10,6 +11,7 @@ ghost use Rattle.xmpp_pages.specs.declared.span.Span.{Span};
 use crate::looks::Look;
 use crate::passing::{asks_no_more, bare_form, passes};
 use crate::query::PageQuery;
+use crate::span::Span;
 use crate::tally::Tally;
 
 // Whether the entry with a number matches, which is known to be with the query's account.
@@ -42,4 +44,29 @@ fn visit<V: Look>(look: &mut V, query: &PageQuery, own: bool, number: u64, tally
     if is_match(look, query, own, number) {
         tally.add(number);
     }
+}
+
+// The tally of the entries with an account that match: the chain of the account is walked once.
+pub(crate) fn tally_of_chain<V: Look>(
+    look: &mut V,
+    query: &PageQuery,
+    peer: &str,
+    span: Span,
+) -> Tally
+    requires most { span.most ≤ 100 }
+    requires peer { query.now.peer ≡ Some peer.now }
+    requires consecutive { AreConsecutive (V.archive look.old).entries }
+    requires few { length (V.archive look.old).entries < 2 ^ 64 }
+    ensures tally { IsTally span (wanted_numbers (V.archive look.old).owner query.now (V.archive look.old).entries) result }
+    ensures archive { V.archive look.new ≡ V.archive look.old }
+    ensures looks { V.looks look.new ≤ V.looks look.old + chain_looks (length (chain (V.archive look.old) query.now)) }
+{
+    let own = look.owner() == bare_form(peer);
+    let mut tally = Tally::new(span);
+    let mut next = look.first_of(bare_form(peer));
+    while let Some(number) = next {
+        visit(look, query, own, number, &mut tally);
+        next = look.next_of(number);
+    }
+    tally
 }
