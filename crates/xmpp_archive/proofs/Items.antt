@@ -1,5 +1,5 @@
 -- What a slice's `get` says, with the list's own words.
-use Rattle.std.proofs.Common.{◌≡◌, ℕ, ◌-◌, ◌<◌, ◌≤◌, List, Option, Some, None, length, Bor, refl, sym, arith}
+use Rattle.std.proofs.Common.{◌≡◌, ℕ, ◌<◌, ◌≤◌, List, Option, Some, None, length, Bor, refl, sym, arith}
 use Rattle.std.proofs.lemmas.Bool.Decides.{nat_tests}
 use Rattle.std.proofs.lemmas.Option.{slice_get_past, slice_get_read}
 use Rattle.std.specs.List.{slice_get}
@@ -15,10 +15,9 @@ copied_item xs i (Some x) item =
     let within : i < length xs = grind (arith, nat_tests, item.0) in
     sym (slice_get_read xs (length xs) i x.now refl within item.1)
 
--- the same of an item that is there, which has a number from 1
-pub item_at : {X : Type 0} (xs : List X) (i n : ℕ) (r : Option (Bor X)) → (1 ≤ n) × (i ≡ n - 1) → IsGetResult xs i i r →
-    IfSome r (λ x. (1 ≤ n) × (slice_get xs (n - 1) ≡ Some x.now))
-item_at xs i n None place item = tt
-item_at xs i n (Some x) place item =
+-- the same of an item that is there
+pub item_at : {X : Type 0} (xs : List X) (i : ℕ) (r : Option (Bor X)) → IsGetResult xs i i r → IfSome r (λ x. slice_get xs i ≡ Some x.now)
+item_at xs i None item = tt
+item_at xs i (Some x) item =
     let within : i < length xs = grind (arith, nat_tests, item.0) in
-    (place.0, rw (← place.1) (slice_get_read xs (length xs) i x.now refl within item.1))
+    slice_get_read xs (length xs) i x.now refl within item.1

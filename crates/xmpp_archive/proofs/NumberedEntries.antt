@@ -1,34 +1,12 @@
--- What is true of entries whose numbers are 1, 2, 3 and so on: where one is found, and what stands behind it.
-use Rattle.std.proofs.Common.{◌≡◌, ◌≢◌, ℕ, zero, suc, ◌+◌, ◌-◌, ◌<◌, ◌≤◌, ◌==◌, Bool, true, false, List, [], ◌∷◌, ◌++◌, Some, None, length, drop, get_or, ltb, refl, sym, ap, ◌∙◌, arith, inl, inr}
+-- What is true of entries with consecutive numbers: where one is found, and what stands behind it.
+use Rattle.std.proofs.Common.{◌≡◌, ◌≢◌, ℕ, zero, suc, ◌+◌, ◌-◌, ◌<◌, ◌≤◌, ◌==◌, ◌⊎◌, Bool, unwrap_or, true, false, List, [], ◌∷◌, ◌++◌, Some, None, length, drop, ltb, refl, sym, ap, arith, inl, inr}
 use Rattle.std.proofs.Math.Seq.{drop-nil}
 use Rattle.std.proofs.lemmas.Bool.{cases_lt, cases_eq}
 use Rattle.std.proofs.lemmas.Bool.Decides.{nat_tests}
-use Rattle.std.proofs.lemmas.List.{get_or_append_left, get_or_push, length_push}
-use Rattle.std.proofs.lemmas.Option.{get_or_from_slice_get, slice_get-get_or, slice_get_within}
+use Rattle.std.proofs.lemmas.Option.{none-some}
 use Rattle.std.specs.List.{filter, find, slice_get}
-use Rattle.xmpp_archive.specs.Entries.{AreNumbered, EntryView, entry_numbered, numbered}
-
--- an entry more, under the next number
-pub numbered_push : (entries : List EntryView) (e : EntryView) → AreNumbered entries → AreNumbered (entries ++ numbered (length entries + 1) e ∷ [])
-numbered_push entries e known = record { each = each }
-  where
-    each : (i : ℕ) (f : EntryView) → slice_get (entries ++ numbered (length entries + 1) e ∷ []) i ≡ Some f → f.number ≡ i + 1
-    each i f is =
-        let at : get_or (entries ++ numbered (length entries + 1) e ∷ []) i f ≡ f =
-        get_or_from_slice_get (entries ++ numbered (length entries + 1) e ∷ []) i f f is in
-        elim (cases_lt i (length entries)) [
-          | inl front ↦
-              known.each i f (slice_get-get_or entries i f front
-              ∙ ap Some (sym (get_or_append_left entries (numbered (length entries + 1) e ∷ []) f i front) ∙ at))
-          | inr past ↦
-              let within : i < length (entries ++ numbered (length entries + 1) e ∷ []) =
-              slice_get_within (entries ++ numbered (length entries + 1) e ∷ []) i f is in
-              let last : length entries ≡ i = omega (arith, length_push entries (numbered (length entries + 1) e)) in
-              let same : numbered (length entries + 1) e ≡ f =
-              sym (get_or_push entries (numbered (length entries + 1) e) f i last) ∙ at in
-              let number : length entries + 1 ≡ f.number = ap (λ (v : EntryView). v.number) same in
-              omega arith
-        ]
+use Rattle.std.specs.Option.{option_map}
+use Rattle.xmpp_archive.specs.Entries.{AreKept, AreNumbered, EntryView, entry_numbered, numbered}
 
 -- the numbers go up by one, from a first
 abbrev pub FollowFrom : ℕ → List EntryView → Type 0
@@ -41,8 +19,34 @@ follow_from s (e ∷ es) each =
     let first : e.number ≡ zero + s = each zero e refl in
     (omega arith, follow_from (suc s) es (λ i f is. let number : f.number ≡ suc i + s = each (suc i) f is in omega arith))
 
-pub follow_numbered : (es : List EntryView) → AreNumbered es → FollowFrom 1 es
-follow_numbered es known = follow_from 1 es known.each
+pub follow_numbered : (last : ℕ) (es : List EntryView) → AreNumbered last es → length es ≤ last → FollowFrom (last + 1 - length es) es
+follow_numbered last es known within =
+    follow_from (last + 1 - length es) es (λ i e is. let number : e.number + length es ≡ last + 1 + i = known.each i e is in omega arith)
+
+pub follow_all : (es : List EntryView) → AreNumbered (length es) es → FollowFrom 1 es
+follow_all es known = follow_from 1 es (λ i e is. let number : e.number + length es ≡ length es + 1 + i = known.each i e is in omega arith)
+
+pub follow_at : (s : ℕ) (es : List EntryView) (i : ℕ) (e : EntryView) → FollowFrom s es → slice_get es i ≡ Some e → e.number ≡ s + i
+follow_at s (f ∷ es) zero e follow is =
+    let same : f.number ≡ e.number = ap (λ o. unwrap_or (option_map (λ (v : EntryView). v.number) o) 0) is in
+    omega (arith, follow.0)
+follow_at s (f ∷ es) (suc i) e follow is = let rest : e.number ≡ suc s + i = follow_at (suc s) es i e follow.1 is in omega arith
+follow_at s [] i e follow is = absurd (none-some e is)
+
+pub numbered_following : (s last : ℕ) (es : List EntryView) → FollowFrom s es → s + length es ≡ last + 1 → AreNumbered last es
+numbered_following s last es follow end = record { each = λ i e is. let number : e.number ≡ s + i = follow_at s es i e follow is in omega arith }
+
+-- an entry more, under the next number
+pub follow_push : (s n : ℕ) (es : List EntryView) (e : EntryView) → FollowFrom s es → s + length es ≡ n → FollowFrom s (es ++ numbered n e ∷ [])
+follow_push s n [] e follow next = (omega arith, tt)
+follow_push s n (f ∷ es) e follow next = (follow.0, follow_push (suc s) n es e follow.1 (omega arith))
+
+pub follow_drop : (k s : ℕ) (es : List EntryView) → FollowFrom s es → FollowFrom (s + k) (drop k es)
+follow_drop zero s es follow = let none : s + 0 ≡ s = omega arith in rw none follow
+follow_drop (suc k) s [] follow = tt
+follow_drop (suc k) s (e ∷ es) follow =
+    let shift : s + suc k ≡ suc s + k = omega arith in
+    rw shift (follow_drop k (suc s) es follow.1)
 
 -- a test of numbers that no number passes finds none
 pub find_none : (p : ℕ → Bool) (s : ℕ) (es : List EntryView) → FollowFrom s es →
@@ -86,10 +90,27 @@ filter_above n s (e ∷ es) follow =
     ]
 
 -- the entry with a number stands at its place
-pub entry_at : (n : ℕ) (es : List EntryView) → AreNumbered es → 1 ≤ n → entry_numbered n es ≡ slice_get es (n - 1)
-entry_at n es known low =
-    find_one (λ m. m == n) n 1 es (follow_numbered es known) low (grind (arith, nat_tests)) (λ m above below other. grind (arith, nat_tests))
+pub entry_at : (n s : ℕ) (es : List EntryView) → FollowFrom s es → s ≤ n → entry_numbered n es ≡ slice_get es (n - s)
+entry_at n s es follow low =
+    find_one (λ m. m == n) n s es follow low (grind (arith, nat_tests)) (λ m above below other. grind (arith, nat_tests))
 
-pub no_entry_zero : (es : List EntryView) → AreNumbered es → entry_numbered 0 es ≡ None
-no_entry_zero es known =
-    find_none (λ m. m == 0) 1 es (follow_numbered es known) (λ m above below. grind (arith, nat_tests))
+-- and none has a number below the first or above the last
+pub no_entry : (n s : ℕ) (es : List EntryView) → FollowFrom s es → (n < s) ⊎ (s + length es ≤ n) → entry_numbered n es ≡ None
+no_entry n s es follow outside =
+    find_none (λ m. m == n) s es follow (λ m above below. elim outside [
+      | inl low ↦ grind (arith, nat_tests)
+      | inr high ↦ grind (arith, nat_tests)
+    ])
+
+pub none_outside : {keep : ℕ} (n last : ℕ) (es : List EntryView) → AreKept keep last es → (n + length es ≤ last) ⊎ (last < n) → entry_numbered n es ≡ None
+none_outside n last es kept outside =
+    no_entry n (last + 1 - length es) es (follow_numbered last es kept.numbers kept.within) (elim outside [
+      | inl low ↦ inl (omega (arith, kept.within))
+      | inr high ↦ inr (omega (arith, kept.within))
+    ])
+
+-- a place in a list has an item
+pub at_place : {A : Type 0} (i : ℕ) (xs : List A) → i < length xs → (x : A) × (slice_get xs i ≡ Some x)
+at_place i [] within = absurd (omega arith)
+at_place zero (x ∷ xs) within = (x, refl)
+at_place (suc i) (x ∷ xs) within = at_place i xs (omega arith)

@@ -1,9 +1,10 @@
 -- The definitions, evaluated at values that were worked out beforehand.
 use Rattle.std.proofs.Common.{◌≡◌, ℕ, true, false, [], ◌∷◌, List, Some, None, refl}
 use Rattle.std.specs.Prelude.{codes}
-use Rattle.xmpp_archive.specs.Entries.{EntryView, entry_numbered}
+use Rattle.xmpp_archive.specs.Entries.{EntryView, entry_numbered, newest}
 use Rattle.xmpp_archive.specs.Ids.{id_of}
 use Rattle.xmpp_archive.specs.Pages.{First, After, page_of}
+use Rattle.xmpp_archive.specs.Peers.{bare_form, first_of, next_of, peer_of}
 
 first_id : id_of 1 ≡ codes "0000000000000001"
 unfolding id_of
@@ -60,3 +61,46 @@ second_entry = refl
 
 no_entry : entry_numbered 0 three ≡ None
 no_entry = refl
+
+newest_two : newest 2 three ≡ entry 2 ∷ entry 3 ∷ []
+newest_two = refl
+
+newest_of_few : newest 4 three ≡ three
+newest_of_few = refl
+
+bare_address : bare_form (codes "romeo@montague.example/orchard/west") ≡ codes "romeo@montague.example"
+bare_address = refl
+
+abbrev juliet : List ℕ
+juliet = codes "juliet@capulet.example"
+
+-- an entry of this number, from one address to another
+abbrev message : ℕ → List ℕ → List ℕ → EntryView
+message n from to = record { number = n; stamp = 1000; from = from; to = to; normal = false; id = []; origin = []; bodies = [] }
+
+sent : peer_of juliet (message 1 (codes "juliet@capulet.example/balcony") (codes "romeo@montague.example/orchard")) ≡ codes "romeo@montague.example"
+sent = refl
+
+came : peer_of juliet (message 1 (codes "romeo@montague.example/orchard") juliet) ≡ codes "romeo@montague.example"
+came = refl
+
+to_oneself : peer_of juliet (message 1 (codes "juliet@capulet.example/balcony") juliet) ≡ juliet
+to_oneself = refl
+
+abbrev talk : List EntryView
+talk = message 4 (codes "romeo/a") juliet ∷ message 5 (codes "nurse/b") juliet ∷ message 6 juliet (codes "romeo/c") ∷ []
+
+first_with_romeo : first_of juliet (codes "romeo") talk ≡ Some 4
+first_with_romeo = refl
+
+first_with_paris : first_of juliet (codes "paris") talk ≡ None
+first_with_paris = refl
+
+next_with_romeo : next_of juliet 4 talk ≡ Some 6
+next_with_romeo = refl
+
+next_with_nurse : next_of juliet 5 talk ≡ None
+next_with_nurse = refl
+
+next_of_dropped : next_of juliet 3 talk ≡ None
+next_of_dropped = refl

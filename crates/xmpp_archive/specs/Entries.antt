@@ -1,5 +1,5 @@
 -- Entries and archives (XEP-0313, "Message Archive Management").
-use Rattle.std.specs.Prelude.{◌≡◌, ℕ, ◌+◌, ◌==◌, Bool, List, Option, Some, find, slice_get}
+use Rattle.std.specs.Prelude.{◌≡◌, ℕ, ◌+◌, ◌-◌, ◌≤◌, ◌==◌, Bool, List, Option, Some, find, slice_get, length, drop}
 use Rattle.xmpp_archive.specs.declared.entry.Body.{Body}
 
 -- one message of an account's history: its number, when it was taken (milliseconds since 1970), the addresses
@@ -14,9 +14,12 @@ pub record EntryView : Type 0 where
   pub origin : List ℕ
   pub bodies : List Body
 
--- an account's archive: its bare address, its entries, and how many more fit without further memory
+-- an account's archive: its bare address, how many entries it keeps, the greatest number given (0 where none was),
+-- the entries that it keeps, and how many more are taken without further memory
 pub record ArchiveView : Type 0 where
   pub owner : List ℕ
+  pub keep : ℕ
+  pub last : ℕ
   pub entries : List EntryView
   pub spare : ℕ
 
@@ -24,9 +27,23 @@ pub record ArchiveView : Type 0 where
 abbrev pub numbered : ℕ → EntryView → EntryView
 numbered n e = record e { number = n }
 
--- the numbers are 1, 2, 3 and so on
-pub record AreNumbered (entries : List EntryView) : Type 0 where
-  pub each : (i : ℕ) (e : EntryView) → slice_get entries i ≡ Some e → e.number ≡ i + 1
+-- the numbers are consecutive, and the last entry has this one
+pub record AreNumbered (last : ℕ) (entries : List EntryView) : Type 0 where
+  pub each : (i : ℕ) (e : EntryView) → slice_get entries i ≡ Some e → e.number + length entries ≡ last + 1 + i
+
+-- entries that an archive keeps: at most so many, the last ones of those that got the numbers 1, 2, 3 and so on.
+-- None is kept exactly where no number was given
+pub record AreKept (keep last : ℕ) (entries : List EntryView) : Type 0 where
+  pub numbers : AreNumbered last entries
+  pub some : 1 ≤ keep
+  pub few : length entries ≤ keep
+  pub within : length entries ≤ last
+  pub most : last ≤ 4294967295
+  pub none : length entries ≡ 0 → last ≡ 0
+
+-- the newest so many of a list
+abbrev pub newest : {A : Type 0} → ℕ → List A → List A
+newest keep xs = drop (length xs - keep) xs
 
 -- the entry with a number
 abbrev pub entry_numbered : ℕ → List EntryView → Option EntryView

@@ -1,41 +1,53 @@
-ghost use Rattle.std.specs.Prelude.{◌≡◌, ◌+◌, ◌-◌, ◌<◌, ◌≤◌, ◌↔◌, ◌⊎◌, ◌∷◌, [], ◌++◌, length, slice_get, IfSome, IsNone, IsErrOf, OnOk, IsTrue};
+ghost use Rattle.std.specs.Prelude.{◌≡◌, ◌+◌, ◌-◌, ◌<◌, ◌≤◌, ◌↔◌, ◌⊎◌, ◌∷◌, [], ◌++◌, length, map, slice_get, IfSome, IfNone, IsNone, IsErrOf, OnOk, IsTrue};
 ghost use Rattle.std.specs.Option.{option_copied};
-ghost use Rattle.xmpp_archive.specs.Entries.{AreNumbered, entry_numbered, numbered};
+ghost use Rattle.std.specs.VecDeque.{deque_len, deque_capacity};
+ghost use Rattle.xmpp_archive.specs.Chained.{IsChained};
+ghost use Rattle.xmpp_archive.specs.Entries.{AreKept, entry_numbered, newest, numbered};
+ghost use Rattle.xmpp_archive.specs.Peers.{first_of, next_of, peer_of};
+ghost use Rattle.xmpp_archive.specs.Rooms.{room_of};
 
-use crate::entry::{Entries, Entry};
+use crate::chains::Links;
+use crate::entry::Entry;
 use std::alloc::Global;
+use std::collections::VecDeque;
 use std::error::Error;
 use std::fmt;
 use std::marker::Model;
-use xmpp_edge::{ListOf, NoMemory, Text};
+use xmpp_edge::{NoMemory, Text};
 
-/// The most entries that an archive takes.
-pub const MOST_ENTRIES: u64 = 4_294_967_295;
+/// The greatest number that an archive gives.
+pub const GREATEST_NUMBER: u64 = 4_294_967_295;
 
-/// An account's archive: the account's bare address, and its entries in order. An entry's number is its place,
-/// counted from 1.
+/// An account's archive: the account's bare address, the entries that it keeps in order, which are its newest, and
+/// the chains of their peers. Entries have the numbers 1, 2, 3 and so on, whatever is kept of them.
 #[derive(Drop)]
 pub struct Archive {
     owner: Text,
-    entries: Entries,
+    keep: u32,
+    last: u64,
+    entries: VecDeque<Entry>,
+    links: Links,
 }
 
 impl Model for Archive {
-    ghost use Rattle.std.specs.Prelude.{◌≤◌, length};
-    ghost use Rattle.xmpp_archive.specs.Entries.{AreNumbered, ArchiveView};
-    ghost use Rattle.xmpp_archive.specs.declared.archive.TheConstants.{MOST_ENTRIES};
+    ghost use Rattle.std.specs.Prelude.{◌+◌, ◌-◌, length, map, min};
+    ghost use Rattle.std.specs.VecDeque.{deque_len, deque_capacity};
+    ghost use Rattle.xmpp_archive.specs.Chained.{IsChained};
+    ghost use Rattle.xmpp_archive.specs.Entries.{AreKept, ArchiveView};
+    ghost use Rattle.xmpp_archive.specs.Peers.{peer_of};
+    ghost use Rattle.xmpp_archive.specs.Rooms.{room_of};
 
     ghost Value = { ArchiveView };
 
-    ghost view = { λ a. record { owner = a.owner; entries = a.entries.items; spare = a.entries.spare } };
+    ghost view = { λ a. record { owner = a.owner; keep = a.keep; last = a.last; entries = a.entries.items; spare = min (deque_capacity a.entries - deque_len a.entries) (room_of a.links) } };
 
-    ghost invariant = { λ a. AreNumbered a.entries.items × (length a.entries.items ≤ MOST_ENTRIES) };
+    ghost invariant = { λ a. AreKept a.keep a.last a.entries.items × IsChained (a.last + 1 - length a.entries.items) (map (peer_of a.owner) a.entries.items) a.links.nexts.items a.links.chains.items };
 }
 
 /// Why an archive has no room for an entry.
 #[derive(Clone, Copy, Debug, PartialEq, Eq)]
 pub enum ArchiveFault {
-    /// It has `MOST_ENTRIES` entries.
+    /// The greatest number was given.
     Full,
     /// Memory ran out.
     NoMemory,
@@ -63,15 +75,51 @@ impl From<NoMemory> for ArchiveFault {
     }
 }
 
+/// Drops the oldest entry where as many are there as are kept, to make place for the one with the next number.
+fn make_place(owner: &str, entries: &mut VecDeque<Entry>, links: &mut Links, keep: u32, next: u64)
+    requires kept { AreKept keep (next - 1) entries.old.items }
+    requires next { 1 ≤ next }
+    requires linked { IsChained (next - length entries.old.items) (map (peer_of owner.now) entries.old.items) links.old.nexts.items links.old.chains.items }
+    ensures entries { entries.new.items ≡ newest (keep - 1) entries.old.items }
+    ensures linked { IsChained (next - length entries.new.items) (map (peer_of owner.now) entries.new.items) links.new.nexts.items links.new.chains.items }
+    ensures spare { deque_capacity entries.old - deque_len entries.old ≤ deque_capacity entries.new - deque_len entries.new }
+    ensures room { room_of links.old ≤ room_of links.new }
+{
+    let count = entries.len() as u64;
+    if count == u64::from(keep) {
+        links.unlink_first(owner, entries, next - count);
+        let _oldest = entries.pop_front();
+    }
+}
+
+/// Makes room for one entry more and its links.
+fn make_room(entries: &mut VecDeque<Entry>, links: &mut Links) -> Result<(), NoMemory>
+    ensures entries { entries.new.items ≡ entries.old.items }
+    ensures nexts { links.new.nexts.items ≡ links.old.nexts.items }
+    ensures chains { links.new.chains.items ≡ links.old.chains.items }
+    ensures spare { OnOk result ((1 ≤ deque_capacity entries.new - deque_len entries.new) × (1 ≤ room_of links.new)) }
+    ensures kept { deque_capacity entries.old - deque_len entries.old ≤ deque_capacity entries.new - deque_len entries.new }
+    ensures room { room_of links.old ≤ room_of links.new }
+{
+    entries.reserve(1)?;
+    links.reserve()
+}
+
 impl Archive {
-    /// An archive without entries. It takes no memory.
-    pub fn new(alloc: Global, owner: Text) -> Archive
+    /// An archive without entries, which keeps its newest `keep`. It takes no memory.
+    pub fn new(alloc: Global, owner: Text, keep: u32) -> Archive
+        requires keep { 1 ≤ keep }
         ensures owner { result.owner ≡ owner }
+        ensures keep { result.keep ≡ keep }
+        ensures last { result.last ≡ 0 }
         ensures entries { result.entries ≡ [] }
     {
         Archive {
             owner,
-            entries: ListOf::new(alloc),
+            keep,
+            last: 0,
+            entries: VecDeque::new(alloc),
+            links: Links::new(alloc),
         }
     }
 
@@ -82,70 +130,122 @@ impl Archive {
         self.owner.as_str()
     }
 
-    /// How many entries there are, which is also the number of the last.
-    pub fn len(&self) -> u64
-        ensures entries { result ≡ length self.now.entries }
-        ensures most { result ≤ MOST_ENTRIES }
-        ensures numbered { AreNumbered self.now.entries }
+    /// The greatest number given, which the last entry has, or 0 where no entry came yet.
+    pub fn last(&self) -> u64
+        ensures last { result ≡ self.now.last }
+        ensures kept { AreKept self.now.keep self.now.last self.now.entries }
     {
-        self.entries.as_slice().len() as u64
+        self.last
     }
 
-    /// Whether there are no entries.
+    /// How many entries are kept.
+    pub fn len(&self) -> u64
+        ensures entries { result ≡ length self.now.entries }
+        ensures kept { AreKept self.now.keep self.now.last self.now.entries }
+    {
+        self.entries.len() as u64
+    }
+
+    /// Whether no entry is kept, which is so until the first one came.
     pub fn is_empty(&self) -> bool
         ensures { IsTrue result ↔ (self.now.entries ≡ []) }
     {
-        self.entries.as_slice().is_empty()
+        self.entries.is_empty()
     }
 
-    /// The entry with a number. `None` where no entry has it: it is 0, or above `len`.
+    // The place of a number among the kept entries.
+    fn place(&self, number: u64) -> Option<usize>
+        ensures some { IfSome result (λ at. (at < length self.now.entries) × (number + length self.now.entries ≡ self.now.last + 1 + at)) }
+        ensures none { IfNone result ((number + length self.now.entries ≤ self.now.last) ⊎ (self.now.last < number)) }
+        ensures kept { AreKept self.now.keep self.now.last self.now.entries }
+    {
+        let first = self.last + 1 - self.entries.len() as u64;
+        if number > self.last {
+            return None;
+        }
+        let at = number.checked_sub(first)?;
+        Some(at as usize)
+    }
+
+    /// The entry with a number. `None` where no kept entry has it: it was dropped, it is 0, or it is above `last`.
     pub fn get(&self, number: u64) -> Option<&Entry>
         ensures entry { option_copied result ≡ entry_numbered number self.now.entries }
-        ensures found { IfSome result (λ e. (1 ≤ number) × (slice_get self.now.entries (number - 1) ≡ Some e.now)) }
-        ensures none { IsNone result ↔ ((number ≡ 0) ⊎ (length self.now.entries < number)) }
+        ensures found { IfSome result (λ e. slice_get self.now.entries (number + length self.now.entries - 1 - self.now.last) ≡ Some e.now) }
+        ensures none { IsNone result ↔ ((number + length self.now.entries ≤ self.now.last) ⊎ (self.now.last < number)) }
     {
-        let entries = self.entries.as_slice();
-        let at = number.checked_sub(1)?;
-        entries.get(at as usize)
+        self.entries.get(self.place(number)?)
     }
 
-    /// Makes room for one entry more. `Full` comes exactly where there are `MOST_ENTRIES` entries. On each outcome
-    /// the entries and the room that was there stay.
+    /// The least number of a kept entry with this peer. `None` where there is none.
+    pub fn first_of(&self, peer: &str) -> Option<u64>
+        ensures { result ≡ first_of self.now.owner peer.now self.now.entries }
+    {
+        let first = self.last + 1 - self.entries.len() as u64;
+        self.links
+            .first_of(self.owner.as_str(), &self.entries, first, peer)
+    }
+
+    /// The least number above this one of a kept entry with the same peer as the entry with this number. `None` where
+    /// there is none, or no kept entry has this number.
+    pub fn next_of(&self, number: u64) -> Option<u64>
+        ensures { result ≡ next_of self.now.owner number self.now.entries }
+    {
+        self.links.next_at(self.place(number)?)
+    }
+
+    /// Makes room for one entry more. `Full` comes exactly where the greatest number was given. On each outcome the
+    /// entries and the room that was there stay.
     pub fn reserve(&mut self) -> Result<(), ArchiveFault>
         ensures spare { OnOk result (1 ≤ self.new.spare) }
-        ensures room { OnOk result (length self.new.entries < MOST_ENTRIES) }
-        ensures full { IsErrOf result ArchiveFault.Full ↔ (length self.old.entries ≡ MOST_ENTRIES) }
+        ensures room { OnOk result (self.new.last < GREATEST_NUMBER) }
+        ensures full { IsErrOf result ArchiveFault.Full ↔ (self.old.last ≡ GREATEST_NUMBER) }
         ensures owner { self.new.owner ≡ self.old.owner }
+        ensures keep { self.new.keep ≡ self.old.keep }
+        ensures last { self.new.last ≡ self.old.last }
         ensures entries { self.new.entries ≡ self.old.entries }
         ensures kept { self.old.spare ≤ self.new.spare }
     {
-        if self.len() == MOST_ENTRIES {
+        if self.last == GREATEST_NUMBER {
             return Err(ArchiveFault::Full);
         }
-        self.entries.reserve(1)?;
+        make_room(&mut self.entries, &mut self.links)?;
         Ok(())
     }
 
-    /// Adds an entry at the end, under the next number, which is the answer. It takes no memory, and lowers the
-    /// room by at most 1.
+    /// Adds an entry at the end, under the next number, which is the answer, and drops the oldest one where more than
+    /// `keep` would stand. It takes no memory, and lowers the room by at most 1.
     pub fn append_reserved(&mut self, mut entry: Entry) -> u64
         requires spare { 1 ≤ self.old.spare }
-        requires room { length self.old.entries < MOST_ENTRIES }
-        ensures number { result ≡ length self.old.entries + 1 }
-        ensures entries { self.new.entries ≡ self.old.entries ++ numbered result entry ∷ [] }
+        requires room { self.old.last < GREATEST_NUMBER }
+        ensures number { result ≡ self.old.last + 1 }
+        ensures last { self.new.last ≡ result }
+        ensures entries { self.new.entries ≡ newest self.old.keep (self.old.entries ++ numbered result entry ∷ []) }
         ensures owner { self.new.owner ≡ self.old.owner }
+        ensures keep { self.new.keep ≡ self.old.keep }
         ensures spare { self.old.spare ≤ self.new.spare + 1 }
     {
-        let number = self.len() + 1;
+        let number = self.last + 1;
         entry.number = number;
-        self.entries.push_reserved(entry);
+        make_place(
+            self.owner.as_str(),
+            &mut self.entries,
+            &mut self.links,
+            self.keep,
+            number,
+        );
+        let first = number - self.entries.len() as u64;
+        let owner = self.owner.as_str();
+        self.links
+            .link(owner, &self.entries, first, entry.peer(owner), number);
+        self.entries.push_back_reserved(entry);
+        self.last = number;
         number
     }
 
-    /// The entries, taken out of the archive in order.
-    pub fn into_entries(self) -> Entries
+    /// The kept entries, taken out of the archive in order.
+    pub fn into_entries(self) -> Vec<Entry>
         ensures { result.items ≡ self.entries }
     {
-        self.entries
+        self.entries.into_vec()
     }
 }

@@ -1,5 +1,7 @@
 ghost use Rattle.std.specs.Prelude.{◌≡◌, IfOk};
+ghost use Rattle.xmpp_archive.specs.Peers.{peer_of};
 
+use crate::peers::bare_form;
 use std::alloc::Global;
 use std::marker::Model;
 use xmpp_edge::{Copied, ListOf, NoMemory, Text};
@@ -37,9 +39,6 @@ pub struct Entry {
     pub bodies: Bodies,
 }
 
-/// Entries, in order.
-pub type Entries = ListOf<Entry>;
-
 impl Model for Entry {
     ghost use Rattle.xmpp_archive.specs.Entries.{EntryView};
 
@@ -49,6 +48,19 @@ impl Model for Entry {
 }
 
 impl Entry {
+    /// The entry's peer in the archive of a bare address: the bare form of `to` where `from` has that bare address,
+    /// else of `from`. It borrows.
+    pub fn peer<'a>(&'a self, owner: &str) -> &'a str
+        ensures { result.now ≡ peer_of owner.now self.now }
+    {
+        let from = bare_form(self.from.as_str());
+        if from == owner {
+            bare_form(self.to.as_str())
+        } else {
+            from
+        }
+    }
+
     /// An equal entry, in memory of its own.
     pub fn copy(&self, alloc: Global) -> Result<Entry, NoMemory>
         ensures { IfOk result (λ e. e ≡ self.now) }

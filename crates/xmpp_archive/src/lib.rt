@@ -1,15 +1,18 @@
-//! An account's archive: a list of entries, numbered from 1, and the ids under which they are asked for
-//! (XEP-0313).
+//! An account's archive: its newest entries, numbered from 1, each linked with the next of the same peer, and the ids
+//! under which they are asked for (XEP-0313).
 #![tactic(auto)]
 
 mod archive;
+mod chains;
 mod entry;
 mod ids;
 mod pages;
+mod peers;
 #[cfg(test)]
 mod tests;
 
-pub use archive::{Archive, ArchiveFault, MOST_ENTRIES};
-pub use entry::{Bodies, Body, Entries, Entry};
+pub use archive::{Archive, ArchiveFault, GREATEST_NUMBER};
+pub use entry::{Bodies, Body, Entry};
 pub use ids::{id_is_text, id_of_number, id_text, ids_differ, number_of};
 pub use pages::page_is_a_cut;
+pub use peers::{bare_form, chain_is_walked};

@@ -1,3 +1,5 @@
+ghost use Rattle.std.specs.Prelude.{◌≤◌};
+
 use crate::archive::Archive;
 use crate::entry::{Body, Entry};
 use crate::ids::{id_of_number, id_text, number_of};
@@ -5,54 +7,117 @@ use std::alloc::Global;
 use std::test::Fail;
 use xmpp_edge::{ListOf, NoMemory, Text};
 
-fn entry(alloc: Global, stamp: u64) -> Result<Entry, NoMemory> {
-    let mut bodies = ListOf::new(alloc);
-    bodies.push(Body {
-        lang: Text::from_str(alloc, "en")?,
-        text: Text::from_str(alloc, "Neither, fair saint")?,
-    })?;
+/// The owner of the archives.
+static OWNER: &str = "juliet@capulet.example";
+
+/// Whom the entries are with, in order.
+static PEERS: [&str; 5] = ["nurse", "romeo", "nurse", "nurse", "romeo"];
+
+fn entry(alloc: Global, from: &str, to: &str) -> Result<Entry, NoMemory> {
     Ok(Entry {
         number: 7,
-        stamp,
-        from: Text::from_str(alloc, "romeo@montague.example/orchard")?,
-        to: Text::from_str(alloc, "juliet@capulet.example")?,
+        stamp: 3000,
+        from: Text::from_str(alloc, from)?,
+        to: Text::from_str(alloc, to)?,
         normal: false,
         id: Text::from_str(alloc, "ju2ba41c")?,
         origin: Text::new(alloc),
-        bodies,
+        bodies: ListOf::new(alloc),
     })
 }
 
-#[test]
-fn keeps_entries_in_order(rt: HostRuntime) -> Result<(), Fail> {
-    let alloc = rt.alloc();
-    let owner = Text::from_str(alloc, "juliet@capulet.example")?;
-    let mut archive = Archive::new(alloc, owner);
-    assert!(rt; archive.is_empty());
-    assert!(rt; archive.get(1).is_none());
-    for (stamp, number) in [(1000, 1), (2000, 2)] {
-        let next = entry(alloc, stamp)?;
+/// An archive that keeps so many, to which one entry with each of the peers came.
+fn filled(alloc: Global, keep: u32) -> Result<Archive, Fail>
+    requires { 1 ≤ keep }
+{
+    let mut archive = Archive::new(alloc, Text::from_str(alloc, OWNER)?, keep);
+    for peer in PEERS {
+        let next = entry(alloc, peer, OWNER)?;
         archive.reserve()?;
-        assert_eq!(rt; archive.append_reserved(next), number);
+        archive.append_reserved(next);
     }
-    assert_eq!(rt; archive.len(), 2);
-    assert_eq!(rt; archive.owner(), "juliet@capulet.example");
-    let second = archive.get(2).ok_or("no second entry")?;
-    assert_eq!(rt; second.stamp, 2000);
-    assert_eq!(rt; second.number, 2);
-    assert!(rt; archive.get(0).is_none());
+    Ok(archive)
+}
+
+#[test]
+fn begins_empty(rt: HostRuntime) -> Result<(), Fail> {
+    let archive = Archive::new(rt.alloc(), Text::from_str(rt.alloc(), OWNER)?, 1);
+    assert!(rt; archive.is_empty());
+    assert_eq!(rt; archive.last(), 0);
+    assert!(rt; archive.get(1).is_none());
+    Ok(())
+}
+
+#[test]
+fn keeps_all(rt: HostRuntime) -> Result<(), Fail> {
+    let archive = filled(rt.alloc(), u32::MAX)?;
+    assert_eq!(rt; archive.len(), 5);
+    assert_eq!(rt; archive.first_of("nurse"), Some(1));
+    assert_eq!(rt; archive.next_of(1), Some(3));
+    assert_eq!(rt; archive.next_of(2), Some(5));
+    Ok(())
+}
+
+#[test]
+fn keeps_one(rt: HostRuntime) -> Result<(), Fail> {
+    let archive = filled(rt.alloc(), 1)?;
+    assert_eq!(rt; archive.len(), 1);
+    assert_eq!(rt; archive.last(), 5);
+    assert_eq!(rt; archive.first_of("romeo"), Some(5));
+    assert_eq!(rt; archive.first_of("nurse"), None);
+    Ok(())
+}
+
+#[test]
+fn keeps_two(rt: HostRuntime) -> Result<(), Fail> {
+    let archive = filled(rt.alloc(), 2)?;
+    assert_eq!(rt; archive.first_of("nurse"), Some(4));
+    assert_eq!(rt; archive.next_of(4), None);
+    assert_eq!(rt; archive.next_of(3), None);
     assert!(rt; archive.get(3).is_none());
+    Ok(())
+}
+
+#[test]
+fn keeps_three(rt: HostRuntime) -> Result<(), Fail> {
+    let archive = filled(rt.alloc(), 3)?;
+    assert_eq!(rt; archive.first_of("nurse"), Some(3));
+    assert_eq!(rt; archive.next_of(3), Some(4));
+    assert_eq!(rt; archive.first_of("romeo"), Some(5));
+    assert_eq!(rt; archive.get(4).ok_or("no entry")?.number, 4);
+    Ok(())
+}
+
+#[test]
+fn hands_out_its_entries(rt: HostRuntime) -> Result<(), Fail> {
+    let archive = filled(rt.alloc(), 2)?;
+    assert_eq!(rt; archive.owner(), OWNER);
     let entries = archive.into_entries();
-    let stamps = entries.as_slice().iter().map(|e| e.stamp);
-    assert!(rt; stamps.eq([1000, 2000]));
+    assert!(rt; entries.iter().map(|e| e.number).eq([4, 5]));
+    Ok(())
+}
+
+#[test]
+fn tells_an_entrys_peer(rt: HostRuntime) -> Result<(), Fail> {
+    let sent = entry(
+        rt.alloc(),
+        "juliet@capulet.example/balcony",
+        "romeo@montague.example/orchard",
+    )?;
+    assert_eq!(rt; sent.peer(OWNER), "romeo@montague.example");
+    let came = entry(rt.alloc(), "nurse@capulet.example/hall", OWNER)?;
+    assert_eq!(rt; came.peer(OWNER), "nurse@capulet.example");
     Ok(())
 }
 
 #[test]
 fn copies_an_entry(rt: HostRuntime) -> Result<(), Fail> {
-    let alloc = rt.alloc();
-    let copy = entry(alloc, 3000)?.copy(alloc)?;
-    assert_eq!(rt; copy.stamp, 3000);
+    let mut original = entry(rt.alloc(), "romeo@montague.example/orchard", OWNER)?;
+    original.bodies.push(Body {
+        lang: Text::from_str(rt.alloc(), "en")?,
+        text: Text::from_str(rt.alloc(), "Neither, fair saint")?,
+    })?;
+    let copy = original.copy(rt.alloc())?;
     assert_eq!(rt; copy.from.as_str(), "romeo@montague.example/orchard");
     let body = copy.bodies.as_slice().first().ok_or("no body")?;
     assert_eq!(rt; body.text.as_str(), "Neither, fair saint");

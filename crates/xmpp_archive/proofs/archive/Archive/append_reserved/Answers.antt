@@ -1,14 +1,15 @@
-use Rattle.std.proofs.Common.{◌≡◌, ◌+◌, ap, arith, length}
-use Rattle.std.proofs.lemmas.List.{length_push}
-use Rattle.xmpp_archive.proofs.NumberedEntries.{numbered_push}
-use Rattle.xmpp_archive.specs.Entries.{ArchiveView, EntryView, numbered}
+use Rattle.std.proofs.Common.{◌≡◌, ◌+◌, ◌-◌, ◌∷◌, [], ◌++◌, length, refl, arith}
+use Rattle.std.proofs.lemmas.List.{length_push, map-append}
+use Rattle.xmpp_archive.proofs.Newest.{kept_more}
+use Rattle.xmpp_archive.specs.Entries.{EntryView, numbered}
+use Rattle.xmpp_archive.specs.Peers.{peer_of}
 use Rattle.xmpp_archive.proofs.archive.Archive.append_reserved.Goals as goal
 
--- the list that is left is the old one and the entry, under the number of its place
+-- what stands then is what was kept of the old entries and the new one, under the next number
 pub invariant_of-self : goal.invariant_of-self
 invariant_of-self c =
-    let entries = ap (λ (v : ArchiveView). v.entries) c.self.view_is in
-    let number : c.len-number.result ≡ length c.self.inside.entries.items = rw entries c.len-number.ensures.entries in
+    let next = c.self.inside.last + 1 in
+    let front = c.make_place.new.entries.items in
     let entry : EntryView = record {
       number = c.entry.inside.number;
       stamp = c.entry.inside.stamp;
@@ -19,7 +20,10 @@ invariant_of-self c =
       origin = c.entry.inside.origin;
       bodies = c.entry.inside.bodies.items;
     } in
-    let numbers = numbered_push c.self.inside.entries.items entry c.self.invariant.0 in
-    let size = length_push c.self.inside.entries.items (numbered (length c.self.inside.entries.items + 1) entry) in
-    let few = rw (← entries) at c.requires.room in
-    rw (c.push_reserved.ensures.items, number) (numbers, omega arith)
+    let room = rw (← c.self.view_is) at c.requires.room in
+    let kept = kept_more c.self.inside.keep c.self.inside.last next c.self.inside.entries.items front entry c.self.invariant.0 room refl c.make_place.ensures.entries in
+    let size : length (front ++ numbered next entry ∷ []) ≡ length front + 1 = length_push front (numbered next entry) in
+    let first : next + 1 - length (front ++ numbered next entry ∷ []) ≡ next - length front = omega arith in
+    let count : c.len.result ≡ length front = omega (arith, c.len.ensures, c.make_place.new.entries.ok.0) in
+    let linked = rw (c.peer.ensures, c.as_str-owner.ensures, count) at c.link.ensures.linked in
+    rw (c.push_back_reserved.ensures.items) (kept, rw (first, map-append (peer_of c.self.inside.owner) front (numbered next entry ∷ [])) linked)

@@ -1,25 +1,26 @@
-use Rattle.std.proofs.Common.{◌≡◌, ◌≤◌, zero, arith, sym, ap}
+use Rattle.std.proofs.Common.{◌≡◌, ◌+◌, ◌-◌, length, arith, sym}
 use Rattle.xmpp_archive.proofs.Items.{copied_item, item_at}
-use Rattle.xmpp_archive.proofs.NumberedEntries.{entry_at, no_entry_zero}
-use Rattle.xmpp_archive.specs.Entries.{ArchiveView}
+use Rattle.xmpp_archive.proofs.NumberedEntries.{entry_at, follow_numbered, none_outside}
 use Rattle.xmpp_archive.proofs.archive.Archive.get.Goals as goal
 
-pub returns-in_err-at-clause-entry : goal.returns-in_err-at-clause-entry
-returns-in_err-at-clause-entry c =
-    let entries = ap (λ (v : ArchiveView). v.entries) c.self.view_is in
-    let none : c.args.number ≡ zero = omega (arith, c.in_err-at.ensures) in
-    rw (c.from_residual.ensures, none, ← entries) (sym (no_entry_zero c.self.inside.entries.items c.self.invariant.0))
+pub returns-in_err-place-clause-entry : goal.returns-in_err-place-clause-entry
+returns-in_err-place-clause-entry c =
+    rw c.from_residual.ensures (sym (none_outside c.args.number c.args.self.now.last c.args.self.now.entries c.place.ensures.kept c.in_err-place.ensures.none))
 
 pub returns-clause-entry : goal.returns-clause-entry
 returns-clause-entry c =
-    let entries = ap (λ (v : ArchiveView). v.entries) c.self.view_is in
-    let low : 1 ≤ c.args.number = omega (arith, c.in_ok-at.ensures) in
-    let item = rw c.as_slice-entries.ensures at c.get.ensures.lookup in
-    rw (← entries, entry_at c.args.number c.self.inside.entries.items c.self.invariant.0 low, ← c.in_ok-at.ensures.1)
-    (copied_item c.self.inside.entries.items c.in_ok-at.at c.get.result item)
+    let entries = c.self.inside.entries.items in
+    let first = c.self.inside.last + 1 - length entries in
+    let kept = c.self.invariant.0 in
+    let inside = rw (← c.self.view_is) at c.in_ok-place.ensures.some in
+    let follow = follow_numbered c.self.inside.last entries kept.numbers kept.within in
+    let place : c.args.number - first ≡ c.in_ok-place.field-0 = omega (arith, inside.1, kept.within) in
+    rw (← c.self.view_is, entry_at c.args.number first entries follow (omega (arith, inside.1, kept.within)), place)
+    (copied_item entries c.in_ok-place.field-0 c.get.result c.get.ensures.item)
 
 pub returns-clause-found : goal.returns-clause-found
 returns-clause-found c =
-    let entries = ap (λ (v : ArchiveView). v.entries) c.self.view_is in
-    let item = rw c.as_slice-entries.ensures at c.get.ensures.lookup in
-    rw (← entries) (item_at c.self.inside.entries.items c.in_ok-at.at c.args.number c.get.result c.in_ok-at.ensures item)
+    let entries = c.self.inside.entries.items in
+    let inside = rw (← c.self.view_is) at c.in_ok-place.ensures.some in
+    let place : c.args.number + length entries - 1 - c.self.inside.last ≡ c.in_ok-place.field-0 = omega (arith, inside.1) in
+    rw (← c.self.view_is, place) (item_at entries c.in_ok-place.field-0 c.get.result c.get.ensures.item)

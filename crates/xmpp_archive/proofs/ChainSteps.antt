@@ -1,0 +1,237 @@
+-- The chains of an archive's entries: where one stands, and what an append and a drop make of them.
+use Rattle.std.proofs.Common.{◌≡◌, ◌≢◌, ℕ, suc, add-one, ◌+◌, ◌-◌, ◌<◌, ◌≤◌, inl, inr, Bool, true, false, ◌||◌, ◌==◌, List, [], ◌∷◌, ◌++◌, Option, Some, None, length, map, set, drop, get_or, slice_get, slice_index, refl, sym, ap, subst, ◌∙◌, arith}
+use Rattle.std.proofs.lemmas.Bool.{false≢true, cases_Bool, cases_lt, eq-eqb, ne_eqb}
+use Rattle.std.proofs.lemmas.List.{length-map}
+use Rattle.std.proofs.lemmas.Option.{get_or_from_slice_get, none-some, slice_get-map, slice_get_read}
+use Rattle.std.specs.List.{insert, remove}
+use Rattle.std.specs.Option.{option_map}
+use Rattle.std.specs.Str.{bytes_eq}
+use Rattle.xmpp_archive.proofs.Keys.{ascend-insert, ascend-remove, ascend_at, at_is_text, below-trans, differ_at, equal_texts, gap_absent, map-insert, map-remove, map-set, map_same, same_text, some_same, text-insert, text-remove, text-remove_other}
+use Rattle.xmpp_archive.proofs.Linked.{IsBeside, first-push_new, first-push_old, first-push_other, first_beside, first_none, last-push, last-push_other, length-next_numbers, last_beside, nexts-push_new, nexts-push_old, or_false, text-push}
+use Rattle.xmpp_archive.specs.Chained.{AreChains, Ascend, IsBelow, IsChained, IsGap, chain_at, chain_or, first_number, is_text_of, last_number, moved_on}
+use Rattle.xmpp_archive.specs.Entries.{EntryView}
+use Rattle.xmpp_archive.specs.declared.chains.Chain.{Chain}
+
+-- the chain at a place is that of the key there, which is the peer of an entry
+pub chain_place : (keys : List (List ℕ)) (n : ℕ) (ps : List (List ℕ)) (chains : List Chain) (at : ℕ) (x : Chain) → AreChains keys n ps chains →
+    at < length chains → x ≡ get_or chains at x → (k : List ℕ) × (slice_get keys at ≡ Some k) × (x ≡ chain_at n ps k) × (is_text_of k ps ≡ true)
+chain_place keys n ps chains at x known within read =
+    let is : slice_get chains at ≡ Some x = slice_get_read chains (length chains) at x refl within read in
+    let mapped : option_map (chain_at n ps) (slice_get keys at) ≡ Some x =
+    sym (slice_get-map (chain_at n ps) keys at) ∙ ap (λ cs. slice_get cs at) (sym known.are) ∙ is in
+    go (slice_get keys at) refl mapped
+  where
+    go : (o : Option (List ℕ)) → slice_get keys at ≡ o → option_map (chain_at n ps) o ≡ Some x →
+        (k : List ℕ) × (slice_get keys at ≡ Some k) × (x ≡ chain_at n ps k) × (is_text_of k ps ≡ true)
+    go None here mapped = absurd (none-some x mapped)
+    go (Some k) here mapped = (k, here, sym (some_same (chain_at n ps k) x mapped), sym (known.every k) ∙ at_is_text keys at k here)
+
+pub chain_read : (keys : List (List ℕ)) (n : ℕ) (ps : List (List ℕ)) (chains : List Chain) (at : ℕ) (p : List ℕ) (d : Chain) → AreChains keys n ps chains →
+    slice_get keys at ≡ Some p → get_or chains at d ≡ chain_at n ps p
+chain_read keys n ps chains at p d known key =
+    let is : slice_get (map (chain_at n ps) keys) at ≡ Some (chain_at n ps p) = slice_get-map (chain_at n ps) keys at ∙ ap (option_map (chain_at n ps)) key in
+    rw known.are (get_or_from_slice_get (map (chain_at n ps) keys) at (chain_at n ps p) d is)
+
+pub key_has : (keys : List (List ℕ)) (n : ℕ) (ps : List (List ℕ)) (chains : List Chain) (at : ℕ) (p : List ℕ) → AreChains keys n ps chains →
+    slice_get keys at ≡ Some p → is_text_of p ps ≡ true
+key_has keys n ps chains at p known key = sym (known.every p) ∙ at_is_text keys at p key
+
+-- a chain's first number is that of an entry, whose peer is the chain's key
+pub chain_within : (n : ℕ) (f : EntryView → List ℕ) (es : List EntryView) (nexts : List ℕ) (chains : List Chain) (at : ℕ) (x : Chain) → IsChained n (map f es) nexts chains →
+    at < length chains → x ≡ get_or chains at x → (n ≤ x.first) × (x.first - n < length es)
+chain_within n f es nexts chains at x known within read =
+    let place = chain_place known.keys n (map f es) chains at x known.chained within read in
+    let beside = first_beside place.0 n (map f es) place.3 in
+    let first : x.first ≡ first_number place.0 n (map f es) = ap (λ (c : Chain). c.first) place.2 in
+    let size : length (map f es) ≡ length es = length-map es f in
+    (omega (arith, beside.low), omega (arith, beside.low, beside.high))
+
+pub chain_peer : (keys : List (List ℕ)) (n : ℕ) (f : EntryView → List ℕ) (es : List EntryView) (chains : List Chain) (at : ℕ) (x : Chain) (e : EntryView) →
+    AreChains keys n (map f es) chains → at < length chains → x ≡ get_or chains at x → x.first - n < length es → e ≡ get_or es (x.first - n) e → slice_get keys at ≡ Some (f e)
+chain_peer keys n f es chains at x e known within read inside entry =
+    let place = chain_place keys n (map f es) chains at x known within read in
+    let beside = first_beside place.0 n (map f es) place.3 in
+    let first : x.first ≡ first_number place.0 n (map f es) = ap (λ (c : Chain). c.first) place.2 in
+    let here : slice_get es (x.first - n) ≡ Some e = slice_get_read es (length es) (x.first - n) e refl inside entry in
+    let peer : slice_get (map f es) (x.first - n) ≡ Some (f e) = slice_get-map f es (x.first - n) ∙ ap (option_map f) here in
+    place.1 ∙ sym beside.there ∙ ap (λ m. slice_get (map f es) (m - n)) (sym first) ∙ peer
+
+-- the last number of a peer's chain has a place among the links
+pub chain_last : (n : ℕ) (ps : List (List ℕ)) (p : List ℕ) (nexts : List ℕ) (chains : List Chain) (at : ℕ) → IsChained n ps nexts chains →
+    ((keys : List (List ℕ)) → AreChains keys n ps chains → slice_get keys at ≡ Some p) →
+    (n ≤ (chain_or chains at).last) × ((chain_or chains at).last < n + length nexts)
+chain_last n ps p nexts chains at known found =
+    let key : slice_get known.keys at ≡ Some p = found known.keys known.chained in
+    let chain : chain_or chains at ≡ chain_at n ps p = chain_read known.keys n ps chains at p (record { first = 0; last = 0 }) known.chained key in
+    let last : (chain_or chains at).last ≡ last_number p n ps = ap (λ (c : Chain). c.last) chain in
+    let beside = last_beside p n ps (key_has known.keys n ps chains at p known.chained key) in
+    let size : length nexts ≡ length ps = ap length known.linked ∙ length-next_numbers n ps in
+    (omega (arith, beside.low), omega (arith, beside.high))
+
+-- a peer of an entry has a chain
+pub first_peer : (f : EntryView → List ℕ) (es : List EntryView) (e : EntryView) → 0 < length es → e ≡ get_or es 0 e → slice_get (map f es) 0 ≡ Some (f e)
+first_peer f es e some read = slice_get-map f es 0 ∙ ap (option_map f) (slice_get_read es (length es) 0 e refl some read)
+
+pub peer_chained : (n : ℕ) (ps : List (List ℕ)) (p : List ℕ) (nexts : List ℕ) (chains : List Chain) (i at : ℕ) → IsChained n ps nexts chains → slice_get ps i ≡ Some p →
+    ((keys : List (List ℕ)) → AreChains keys n ps chains → IsGap keys p at) → ⊥
+peer_chained n ps p nexts chains i at known is absent =
+    false≢true (sym (gap_absent known.keys p at (absent known.keys known.chained)) ∙ known.chained.every p ∙ at_is_text ps i p is)
+
+-- steps of a search among keys
+pub below_more : (keys : List (List ℕ)) (m : ℕ) (k p : List ℕ) → Ascend keys → slice_get keys m ≡ Some k → IsBelow k p →
+    (i : ℕ) (q : List ℕ) → i < m + 1 → slice_get keys i ≡ Some q → IsBelow q p
+below_more keys m k p up key low i q within is = elim (cases_lt i m) [
+  | inl front ↦ below-trans q k p (ascend_at keys i m q k up front is key) low
+  | inr back ↦
+      let here : m ≡ i = omega arith in
+      subst (λ t. IsBelow t p) (some_same k q (sym key ∙ ap (λ j. slice_get keys j) here ∙ is)) low
+]
+
+pub above_more : (keys : List (List ℕ)) (m : ℕ) (k p : List ℕ) → Ascend keys → slice_get keys m ≡ Some k → IsBelow p k →
+    (i : ℕ) (q : List ℕ) → m ≤ i → slice_get keys i ≡ Some q → IsBelow p q
+above_more keys m k p up key high i q within is = elim (cases_lt m i) [
+  | inl later ↦ below-trans p k q high (ascend_at keys m i k q up later key is)
+  | inr back ↦
+      let here : m ≡ i = omega arith in
+      subst (λ t. IsBelow p t) (some_same k q (sym key ∙ ap (λ j. slice_get keys j) here ∙ is)) high
+]
+
+-- an entry more leaves the chain of another peer
+chain-push_other : (n : ℕ) (ps : List (List ℕ)) (p q : List ℕ) → bytes_eq p q ≡ false → chain_at n (ps ++ p ∷ []) q ≡ chain_at n ps q
+chain-push_other n ps p q other = rw (first-push_other p q n ps other, last-push_other p q n ps other) refl
+
+-- an entry more of a peer that has a chain
+pub chained_more : (n number : ℕ) (ps : List (List ℕ)) (p : List ℕ) (nexts : List ℕ) (chains : List Chain) (at : ℕ) → IsChained n ps nexts chains →
+    ((keys : List (List ℕ)) → AreChains keys n ps chains → slice_get keys at ≡ Some p) → number ≡ n + length ps →
+    IsChained n (ps ++ p ∷ []) (set nexts ((chain_or chains at).last - n) number ++ 0 ∷ []) (set chains at (record { first = (chain_or chains at).first; last = number }))
+chained_more n number ps p nexts chains at known found next =
+    let keys = known.keys in
+    let key : slice_get keys at ≡ Some p = found keys known.chained in
+    let has : is_text_of p ps ≡ true = key_has keys n ps chains at p known.chained key in
+    let chain : chain_or chains at ≡ chain_at n ps p = chain_read keys n ps chains at p (record { first = 0; last = 0 }) known.chained key in
+    let new : chain_at n (ps ++ p ∷ []) p ≡ record { first = first_number p n ps; last = number } =
+    rw (first-push_old p p n ps has, last-push p n ps, next) refl in
+    let images : map (chain_at n (ps ++ p ∷ [])) keys ≡ set (map (chain_at n ps) keys) at (chain_at n (ps ++ p ∷ []) p) =
+    map-set (chain_at n ps) (chain_at n (ps ++ p ∷ [])) keys at p key
+    (λ i q other is. chain-push_other n ps p q (differ_at keys at i p q known.chained.ascend (λ same. other (sym same)) key is)) in
+    record {
+      linked = rw (chain, known.linked, next) (sym (nexts-push_old p n ps has));
+      keys = keys;
+      chained = record {
+        are = rw (chain, known.chained.are, ← new) (sym images);
+        ascend = known.chained.ascend;
+        every = every keys has;
+      };
+    }
+  where
+    every : (keys : List (List ℕ)) → is_text_of p ps ≡ true → (q : List ℕ) → is_text_of q known.keys ≡ is_text_of q (ps ++ p ∷ [])
+    every keys has q = elim (same_text p q) [
+      | inl same ↦
+          let there : is_text_of q ps ≡ true = subst (λ t. is_text_of t ps ≡ true) same has in
+          known.chained.every q ∙ there ∙ sym (text-push p q ps ∙ rw there refl)
+      | inr other ↦ known.chained.every q ∙ sym (text-push p q ps ∙ rw other (or_false (is_text_of q ps)))
+    ]
+
+-- an entry more of a peer that has none
+pub chained_new : (n number : ℕ) (ps : List (List ℕ)) (p : List ℕ) (nexts : List ℕ) (chains : List Chain) (at : ℕ) → IsChained n ps nexts chains →
+    ((keys : List (List ℕ)) → AreChains keys n ps chains → IsGap keys p at) → number ≡ n + length ps →
+    IsChained n (ps ++ p ∷ []) (nexts ++ 0 ∷ []) (insert chains at (record { first = number; last = number }))
+chained_new n number ps p nexts chains at known absent next =
+    let keys = known.keys in
+    let gap : IsGap keys p at = absent keys known.chained in
+    let none : is_text_of p ps ≡ false = sym (known.chained.every p) ∙ gap_absent keys p at gap in
+    let new : chain_at n (ps ++ p ∷ []) p ≡ record { first = number; last = number } =
+    rw (first-push_new p n ps none, last-push p n ps, next) refl in
+    let old : map (chain_at n (ps ++ p ∷ [])) keys ≡ map (chain_at n ps) keys =
+    map_same (chain_at n ps) (chain_at n (ps ++ p ∷ [])) keys
+    (λ i q is. chain-push_other n ps p q (differs keys none i q is)) in
+    record {
+      linked = rw known.linked (sym (nexts-push_new p n ps none));
+      keys = insert keys at p;
+      chained = record {
+        are = rw (map-insert (chain_at n (ps ++ p ∷ [])) keys at p, new, old, known.chained.are) refl;
+        ascend = ascend-insert keys p at gap known.chained.ascend;
+        every = λ q. text-insert keys p at q ∙ ap (λ b. bytes_eq p q || b) (known.chained.every q) ∙ or_comm (bytes_eq p q) (is_text_of q ps) ∙ sym (text-push p q ps);
+      };
+    }
+  where
+    or_comm : (a b : Bool) → (a || b) ≡ (b || a)
+    or_comm true true = refl
+    or_comm true false = refl
+    or_comm false true = refl
+    or_comm false false = refl
+
+    differs : (keys : List (List ℕ)) → is_text_of p ps ≡ false → (i : ℕ) (q : List ℕ) → slice_get known.keys i ≡ Some q → bytes_eq p q ≡ false
+    differs keys none i q is = elim (same_text p q) [
+      | inl same ↦
+          let there : is_text_of q ps ≡ true = key_has known.keys n ps chains i q known.chained is in
+          absurd (false≢true (sym none ∙ subst (λ t. is_text_of t ps ≡ true) (sym same) there))
+      | inr other ↦ other
+    ]
+
+-- the first entry goes: the chain of another peer stays
+chain_tail_other : (n : ℕ) (qs : List (List ℕ)) (p q : List ℕ) → bytes_eq p q ≡ false → is_text_of q (p ∷ qs) ≡ true → chain_at (suc n) qs q ≡ chain_at n (p ∷ qs) q
+chain_tail_other n qs p q other has =
+    let later : is_text_of q qs ≡ true = rw other at has in
+    rw (other, later) refl
+
+moved : (n : ℕ) (p : List ℕ) (qs : List (List ℕ)) (nexts : List ℕ) (chains : List Chain) (at : ℕ) (known : IsChained n (p ∷ qs) nexts chains) →
+    slice_get known.keys at ≡ Some p → IsChained (suc n) qs (drop 1 nexts) (moved_on (slice_index nexts 0) at chains)
+moved n p qs nexts chains at known key = elim (cases_Bool (is_text_of p qs)) [
+  | inl later ↦
+      let beside : IsBeside p (first_number p (suc n) qs) (suc n) qs = first_beside p (suc n) qs later in
+      let some : (first_number p (suc n) qs == 0) ≡ false = ne_eqb (first_number p (suc n) qs) 0 (λ same. omega (arith, beside.low)) in
+      let new : chain_at (suc n) qs p ≡ record { first = first_number p (suc n) qs; last = (chain_or chains at).last } = rw (chain, later) refl in
+      record {
+        linked = rw known.linked refl;
+        keys = known.keys;
+        chained = record {
+          are = rw (known.linked, some, ← new, known.chained.are) (sym (map-set (chain_at n (p ∷ qs)) (chain_at (suc n) qs) known.keys at p key others));
+          ascend = known.chained.ascend;
+          every = λ q. known.chained.every q ∙ stays later q;
+        };
+      }
+  | inr none ↦
+      let gone : (first_number p (suc n) qs == 0) ≡ true = eq-eqb (first_number p (suc n) qs) 0 (first_none p (suc n) qs none) in
+      record {
+        linked = rw known.linked refl;
+        keys = remove known.keys at;
+        chained = record {
+          are = rw (known.linked, gone, known.chained.are) (sym (map-remove (chain_at n (p ∷ qs)) (chain_at (suc n) qs) known.keys at p key others));
+          ascend = ascend-remove known.keys at known.chained.ascend;
+          every = λ q. goes none q;
+        };
+      }
+]
+  where
+    chain : chain_or chains at ≡ chain_at n (p ∷ qs) p
+    chain = chain_read known.keys n (p ∷ qs) chains at p (record { first = 0; last = 0 }) known.chained key
+
+    others : (i : ℕ) (q : List ℕ) → i ≢ at → slice_get known.keys i ≡ Some q → chain_at (suc n) qs q ≡ chain_at n (p ∷ qs) q
+    others i q other is =
+        chain_tail_other n qs p q (differ_at known.keys at i p q known.chained.ascend (λ same. other (sym same)) key is)
+        (key_has known.keys n (p ∷ qs) chains i q known.chained is)
+
+    stays : is_text_of p qs ≡ true → (q : List ℕ) → is_text_of q (p ∷ qs) ≡ is_text_of q qs
+    stays later q = elim (same_text p q) [
+      | inl same ↦
+          let there : is_text_of q qs ≡ true = subst (λ t. is_text_of t qs ≡ true) same later in
+          rw (equal_texts p q same, there) refl
+      | inr other ↦ rw other refl
+    ]
+
+    goes : is_text_of p qs ≡ false → (q : List ℕ) → is_text_of q (remove known.keys at) ≡ is_text_of q qs
+    goes none q = elim (same_text p q) [
+      | inl same ↦
+          let there : is_text_of q qs ≡ false = subst (λ t. is_text_of t qs ≡ false) same none in
+          text-remove known.keys at q known.chained.ascend (key ∙ ap Some same) ∙ sym there
+      | inr other ↦ text-remove_other known.keys at p q key other ∙ known.chained.every q ∙ rw other refl
+    ]
+
+pub chained_less : (n : ℕ) (p : List ℕ) (ps : List (List ℕ)) (nexts : List ℕ) (chains : List Chain) (at : ℕ) → IsChained n ps nexts chains → slice_get ps 0 ≡ Some p →
+    ((keys : List (List ℕ)) → AreChains keys n ps chains → slice_get keys at ≡ Some p) → IsChained (n + 1) (drop 1 ps) (drop 1 nexts) (moved_on (slice_index nexts 0) at chains)
+chained_less n p [] nexts chains at known first found = absurd (none-some p first)
+chained_less n p (q ∷ qs) nexts chains at known first found =
+    let same : q ≡ p = some_same q p first in
+    let key : slice_get known.keys at ≡ Some q = found known.keys known.chained ∙ ap Some (sym same) in
+    rw (add-one n) (moved n q qs nexts chains at known key)
