@@ -13,7 +13,7 @@ use Rattle.xmpp_pages.proofs.Placed.{FollowOn}
 use Rattle.xmpp_pages.specs.Kept.{Kept}
 use Rattle.xmpp_pages.specs.Matches.{is_wanted, with_passes}
 use Rattle.xmpp_pages.specs.Parties.{is_full, other_party}
-use Rattle.xmpp_pages.specs.Peers.{bare_form, first_of, is_slash, is_with, next_of, peer_of}
+use Rattle.xmpp_archive.specs.Peers.{bare_form, first_of, is_slash, is_with, next_of, peer_of}
 use Rattle.xmpp_pages.specs.Spans.{number_of_entry, numbers_of}
 use Rattle.xmpp_pages.specs.Tallies.{IsTally}
 use Rattle.xmpp_pages.specs.Walks.{chain, head_number, is_in_chain, wanted_number, wanted_numbers}

@@ -5,7 +5,7 @@ use Rattle.xmpp_archive.specs.Entries.{EntryView}
 use Rattle.xmpp_archive.specs.Ids.{id_of}
 use Rattle.xmpp_pages.specs.Cuts.{CutView}
 use Rattle.xmpp_pages.specs.Kept.{Kept, first_number, last_number}
-use Rattle.xmpp_pages.specs.Peers.{first_of, next_of}
+use Rattle.xmpp_archive.specs.Peers.{first_of, next_of}
 use Rattle.xmpp_pages.specs.PageOf.{page_of}
 use Rattle.xmpp_pages.specs.declared.query.PageQuery.{PageQuery}
 use Rattle.xmpp_pages.specs.declared.query.Place.{Place}

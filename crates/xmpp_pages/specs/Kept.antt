@@ -1,16 +1,12 @@
 -- The entries that an archive keeps: those with the highest numbers. So the numbers go up by one, and the first may be
 -- any.
-use Rattle.std.specs.Prelude.{◌≡◌, ℕ, ◌+◌, ◌≤◌, List, [], ◌∷◌, Some, length, slice_get}
-use Rattle.xmpp_archive.specs.Entries.{EntryView}
+use Rattle.std.specs.Prelude.{ℕ, ◌≤◌, List, [], ◌∷◌, length}
+use Rattle.xmpp_archive.specs.Entries.{AreNumbered, EntryView}
 
 -- an account's bare address, and the entries of its archive
 pub record Kept : Type 0 where
   pub owner : List ℕ
   pub entries : List EntryView
-
--- the numbers are consecutive, and the last entry has this one
-pub record AreNumbered (last : ℕ) (entries : List EntryView) : Type 0 where
-  pub each : (i : ℕ) (e : EntryView) → slice_get entries i ≡ Some e → e.number + length entries ≡ last + 1 + i
 
 -- the number of the first entry, or 1 where there is none
 abbrev pub first_number : List EntryView → ℕ

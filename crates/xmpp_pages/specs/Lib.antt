@@ -1,6 +1,6 @@
 pub use Rattle.xmpp_edge.specs.Listed
 pub use Rattle.xmpp_archive.specs.Entries
-pub mod Peers
+pub use Rattle.xmpp_archive.specs.Peers
 pub mod Parties
 pub mod Kept
 pub mod Matches

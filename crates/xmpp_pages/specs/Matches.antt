@@ -4,7 +4,7 @@ use Rattle.std.specs.Str.{bytes_eq}
 use Rattle.xmpp_archive.specs.Entries.{EntryView}
 use Rattle.xmpp_pages.specs.Kept.{Kept}
 use Rattle.xmpp_pages.specs.Parties.{is_full, other_party}
-use Rattle.xmpp_pages.specs.Peers.{is_with}
+use Rattle.xmpp_archive.specs.Peers.{is_with}
 use Rattle.xmpp_pages.specs.declared.query.PageQuery.{PageQuery}
 
 -- an address without a resource matches the other party's bare address, one with a resource its whole address

@@ -3,7 +3,7 @@ use Rattle.std.specs.Prelude.{ℕ, nat_lt, Bool, List, length, if◌then◌else�
 use Rattle.std.specs.List.{position_or_len}
 use Rattle.std.specs.Str.{bytes_eq}
 use Rattle.xmpp_archive.specs.Entries.{EntryView}
-use Rattle.xmpp_pages.specs.Peers.{bare_form, is_slash}
+use Rattle.xmpp_archive.specs.Peers.{bare_form, is_slash}
 
 -- the address has a resource (RFC 6120 section 1.4)
 abbrev pub is_full : List ℕ → Bool

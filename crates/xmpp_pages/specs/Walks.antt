@@ -4,7 +4,7 @@ use Rattle.std.specs.Str.{bytes_eq}
 use Rattle.xmpp_archive.specs.Entries.{EntryView}
 use Rattle.xmpp_pages.specs.Kept.{Kept}
 use Rattle.xmpp_pages.specs.Matches.{is_wanted}
-use Rattle.xmpp_pages.specs.Peers.{bare_form, is_with}
+use Rattle.xmpp_archive.specs.Peers.{bare_form, is_with}
 use Rattle.xmpp_pages.specs.Spans.{numbers_of}
 use Rattle.xmpp_pages.specs.declared.query.PageQuery.{PageQuery}
 

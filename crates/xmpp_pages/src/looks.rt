@@ -5,7 +5,7 @@ ghost use Rattle.std.specs.Option.{option_copied};
 ghost use Rattle.xmpp_archive.specs.Entries.{entry_numbered};
 ghost use Rattle.xmpp_edge.specs.Counts.{counted};
 ghost use Rattle.xmpp_pages.specs.Kept.{AreConsecutive, Kept, first_number, last_number};
-ghost use Rattle.xmpp_pages.specs.Peers.{first_of, next_of};
+ghost use Rattle.xmpp_archive.specs.Peers.{first_of, next_of};
 
 use xmpp_archive::Entry;
 

@@ -3,21 +3,10 @@ ghost use Rattle.std.specs.Prelude.{◌≡◌, ◌↔◌, List, ℕ, true, Some,
 ghost use Rattle.xmpp_archive.specs.Entries.{EntryView};
 ghost use Rattle.xmpp_pages.specs.Matches.{end_passes, is_wanted, stamp_passes, start_passes, with_passes};
 ghost use Rattle.xmpp_pages.specs.Parties.{is_full, other_party};
-ghost use Rattle.xmpp_pages.specs.Peers.{bare_form};
 ghost use Rattle.xmpp_pages.specs.Walks.{is_in_chain, is_own};
 
 use crate::query::PageQuery;
-use xmpp_archive::Entry;
-
-// The bare address: what stands before the first `/`, or all where there is none.
-pub(crate) fn bare_form(address: &str) -> &str
-    ensures { result.now ≡ bare_form address.now }
-{
-    match address.split_once('/') {
-        Some((bare, _)) => bare,
-        None => address,
-    }
-}
+use xmpp_archive::{Entry, bare_form};
 
 // Whether an address has a resource.
 fn has_resource(address: &str) -> bool

@@ -9,10 +9,11 @@ ghost use Rattle.xmpp_pages.specs.Walks.{chain, chain_looks, is_in_chain, is_own
 ghost use Rattle.xmpp_pages.specs.declared.span.Span.{Span};
 
 use crate::looks::Look;
-use crate::passing::{asks_no_more, bare_form, passes};
+use crate::passing::{asks_no_more, passes};
 use crate::query::PageQuery;
 use crate::span::Span;
 use crate::tally::Tally;
+use xmpp_archive::bare_form;
 
 // Whether the entry with a number matches, which is known to be with the query's account.
 fn is_match<V: Look>(look: &mut V, query: &PageQuery, own: bool, number: u64) -> bool

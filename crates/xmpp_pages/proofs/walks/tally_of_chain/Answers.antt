@@ -2,7 +2,7 @@ use Rattle.std.proofs.Common.{rules, ◌≡◌, ◌≢◌, ◌+◌, ◌<◌, ◌
 use Rattle.std.specs.Str.{bytes_eq}
 use Rattle.xmpp_pages.proofs.Walked.{walk_at, walk_begin, walk_end, walk_on, walk_smaller}
 use Rattle.xmpp_pages.specs.Kept.{Kept}
-use Rattle.xmpp_pages.specs.Peers.{first_of, next_of}
+use Rattle.xmpp_archive.specs.Peers.{first_of, next_of}
 use Rattle.xmpp_pages.specs.Walks.{is_own, wanted_numbers}
 use Rattle.xmpp_pages.proofs.walks.tally_of_chain.Goals as goal
 
