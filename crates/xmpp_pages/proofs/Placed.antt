@@ -5,10 +5,10 @@ use Rattle.std.proofs.lemmas.Slice.Eq.{bytes_eq-Decides}
 use Rattle.std.specs.Bool.{Decides}
 use Rattle.std.specs.Option.{option_map}
 use Rattle.std.specs.Str.{bytes_eq}
-use Rattle.xmpp_archive.specs.Entries.{EntryView}
+use Rattle.xmpp_archive.specs.Entries.{AreNumbered, EntryView}
 use Rattle.xmpp_archive.specs.Ids.{id_of}
 use Rattle.std.specs.List.{slice_get}
-use Rattle.xmpp_pages.specs.Kept.{last_number}
+use Rattle.xmpp_pages.specs.Kept.{AreConsecutive, first_number, last_number, last_number_or}
 use Rattle.xmpp_pages.specs.PageOf.{entry_of_id}
 use Rattle.xmpp_pages.specs.Spans.{IsNumbered, number_of_entry}
 
@@ -47,6 +47,36 @@ placed first last (e ∷ es) known =
         end = omega (arith, start, to, here, low);
       },
     )
+
+pub placed_self : (es : List EntryView) → AreConsecutive es → (1 ≤ first_number es) × IsPlaced (first_number es - 1) (last_number es) es
+placed_self es known = placed (first_number es) (last_number es) es (record { consecutive = known; from = refl; to = refl })
+
+last_is : (n : ℕ) (es : List EntryView) → FollowOn n es → last_number_or n es ≡ n + length es
+last_is n [] follow = omega arith
+last_is n (e ∷ es) follow =
+    let rest : last_number_or (suc n) es ≡ suc n + length es = last_is (suc n) es follow.1 in
+    let sum : suc n + length es ≡ n + suc (length es) = omega arith in
+    rw follow.0 (rest ∙ sum)
+
+-- the last number of entries that are kept
+pub kept_last : (last : ℕ) (es : List EntryView) → AreNumbered last es → length es ≤ last → (length es ≡ 0 → last ≡ 0) → last_number es ≡ last
+kept_last last [] numbers low none = sym (none refl)
+kept_last last (e ∷ es) numbers low none =
+    let base = last - length (e ∷ es) in
+    let follow : FollowOn base (e ∷ es) = follow_from base (e ∷ es) (λ i f is. let number = numbers.each i f is in omega (arith, number, low)) in
+    let end : last_number_or base (e ∷ es) ≡ base + length (e ∷ es) = last_is base (e ∷ es) follow in
+    end ∙ omega (arith, low)
+
+pub kept_first : (last : ℕ) (es : List EntryView) → AreNumbered last es → length es ≤ last → (length es ≡ 0 → last ≡ 0) → last + 1 - length es ≡ first_number es
+kept_first last [] numbers low none = let zero_last = none refl in omega (arith, zero_last)
+kept_first last (e ∷ es) numbers low none =
+    let here : e.number + length (e ∷ es) ≡ last + 1 + zero = numbers.each zero e refl in
+    omega (arith, here, low)
+
+pub kept_consecutive : (last : ℕ) (es : List EntryView) → AreNumbered last es → length es ≤ last → (length es ≡ 0 → last ≡ 0) → AreConsecutive es
+kept_consecutive last es numbers low none =
+    let same = kept_last last es numbers low none in
+    record { numbers = rw same numbers; from_one = rw same low }
 
 false_from_Decides : {P : Type 0} → (b : Bool) → Decides b P → ¬ P → b ≡ false
 false_from_Decides true decides fails = absurd (fails (decides.0 refl))

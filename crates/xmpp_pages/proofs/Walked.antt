@@ -72,6 +72,19 @@ wanted_push owner query before e =
     ∙ map-append number_of_entry (filter (is_wanted owner query) before) (filter (is_wanted owner query) (e ∷ []))
     ∙ ap (λ t. numbers_of (filter (is_wanted owner query) before) ++ t) one
 
+pub shorter : (p : EntryView → Bool) (es : List EntryView) → length (filter p es) ≤ length es
+shorter p [] = omega arith
+shorter p (e ∷ es) =
+    let rest = shorter p es in
+    elim (cases_Bool (p e)) [
+      | inl holds ↦ rw holds (omega (arith, rest))
+      | inr fails ↦ rw fails (omega (arith, rest))
+    ]
+
+-- of so many entries no more match
+pub wanted_few : (owner : List ℕ) (query : PageQuery) (es : List EntryView) → length (wanted_numbers owner query es) ≤ length es
+wanted_few owner query es = rw (length-map (filter (is_wanted owner query) es) number_of_entry) (shorter (is_wanted owner query) es)
+
 -- so far along a chain: `before` was counted, and `next` is the number of the first of the rest
 pub record IsWalked (kept : Kept) (query : PageQuery) (span : Span) (had looks : ℕ) (next : Option ℕ) (tally : Tally) : Type 0 where
   pub before : List EntryView
@@ -116,15 +129,6 @@ pub record IsAt (kept : Kept) (query : PageQuery) (span : Span) (had looks numbe
   pub low : number ≤ last_number kept.entries
   pub up : steps_left (last_number kept.entries) (head_number rest) < steps_left (last_number kept.entries) (Some number)
 
-shorter : (p : EntryView → Bool) (es : List EntryView) → length (filter p es) ≤ length es
-shorter p [] = omega arith
-shorter p (e ∷ es) =
-    let rest = shorter p es in
-    elim (cases_Bool (p e)) [
-      | inl holds ↦ rw holds (omega (arith, rest))
-      | inr fails ↦ rw fails (omega (arith, rest))
-    ]
-
 -- an entry of consecutive ones has no higher number than the last
 high_among : (n : ℕ) (es : List EntryView) (m : ℕ) (e : EntryView) → FollowOn n es → entry_numbered m es ≡ Some e → m ≤ n + length es
 high_among n [] m e follow is = absurd (grind (arith, is))
@@ -161,8 +165,7 @@ at_entry kept query peer span had looks number tally before rest e asks known pa
     let low : e.number ≤ last = omega (arith, high_among (first - 1) kept.entries e.number e at.1.follow there, at.1.end) in
     let all : length (before ++ e ∷ rest) ≤ length kept.entries = rw (← left) (shorter p kept.entries) in
     let size = length-append before (e ∷ rest) in
-    let few : length (wanted_numbers kept.owner query before) ≤ length before =
-    rw (length-map (filter (is_wanted kept.owner query) before) number_of_entry) (shorter (is_wanted kept.owner query) before) in
+    let few = wanted_few kept.owner query before in
     record {
       before = before;
       entry = e;

@@ -1,7 +1,7 @@
 -- The entries that an archive keeps: those with the highest numbers. So the numbers go up by one, and the first may be
 -- any.
 use Rattle.std.specs.Prelude.{ℕ, ◌≤◌, List, [], ◌∷◌, length}
-use Rattle.xmpp_archive.specs.Entries.{AreNumbered, EntryView}
+use Rattle.xmpp_archive.specs.Entries.{AreNumbered, ArchiveView, EntryView}
 
 -- an account's bare address, and the entries of its archive
 pub record Kept : Type 0 where
@@ -26,3 +26,7 @@ last_number entries = last_number_or 0 entries
 pub record AreConsecutive (entries : List EntryView) : Type 0 where
   pub numbers : AreNumbered (last_number entries) entries
   pub from_one : length entries ≤ last_number entries
+
+-- what an archive keeps
+abbrev pub kept_of : ArchiveView → Kept
+kept_of archive = record { owner = archive.owner; entries = archive.entries }

@@ -71,3 +71,20 @@ pub(crate) fn tally_of_chain<V: Look>(
     }
     tally
 }
+
+// The tally of all entries that match: each entry is looked at.
+pub(crate) fn tally_of_list<V: Look>(look: &mut V, query: &PageQuery, span: Span) -> Tally
+    requires most { span.most ≤ 100 }
+    requires peer { query.now.peer ≡ None }
+    ensures tally { IsTally span (wanted_numbers (V.archive look.old).owner query.now (V.archive look.old).entries) result }
+    ensures archive { V.archive look.new ≡ V.archive look.old }
+    ensures looks { V.looks look.new ≤ V.looks look.old + length (V.archive look.old).entries }
+{
+    let base = look.first() - 1;
+    let count = look.last() - base;
+    let mut tally = Tally::new(span);
+    for at in 0..count {
+        visit(look, query, true, base + at + 1, &mut tally);
+    }
+    tally
+}
