@@ -30,3 +30,7 @@ pub record AreConsecutive (entries : List EntryView) : Type 0 where
 -- what an archive keeps
 abbrev pub kept_of : ArchiveView → Kept
 kept_of archive = record { owner = archive.owner; entries = archive.entries }
+
+-- these entries of an account's
+abbrev pub kept_by : List ℕ → List EntryView → Kept
+kept_by owner entries = record { owner = owner; entries = entries }

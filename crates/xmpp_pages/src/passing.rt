@@ -9,7 +9,7 @@ use crate::query::PageQuery;
 use xmpp_archive::{Entry, bare_form};
 
 // Whether an address has a resource.
-fn has_resource(address: &str) -> bool
+pub(crate) fn has_resource(address: &str) -> bool
     ensures { result ≡ is_full address.now }
 {
     bare_form(address).len() < address.len()
