@@ -6,6 +6,7 @@ use crate::looks::Look;
 use xmpp_archive::{Archive, Entry};
 
 /// The calls by which a page is found, at an archive in memory.
+#[derive(Drop)]
 pub struct ArchiveLook<'a> {
     archive: &'a Archive,
     looks: u64,

@@ -10,6 +10,8 @@ mod plain;
 mod query;
 mod span;
 mod tally;
+#[cfg(test)]
+mod tests;
 mod walks;
 mod whole;
 mod window;
