@@ -1,24 +1,16 @@
 -- The entries with a peer, one after another.
-use Rattle.std.proofs.Common.{◌≡◌, ℕ, zero, suc, ◌+◌, ◌*◌, ◌-◌, ◌<◌, ◌≤◌, ◌==◌, Bool, true, false, ◌&&◌, List, [], ◌∷◌, ◌++◌, Option, Some, None, length, map, ltb, eqb, refl, sym, ap, ◌∙◌, arith, inl, inr, append_assoc, append-nil}
-use Rattle.std.proofs.lemmas.Bool.{cases_Bool, cases_lt}
+use Rattle.std.proofs.Common.{◌≡◌, ℕ, suc, ◌<◌, ◌≤◌, Bool, true, false, ◌&&◌, List, [], ◌∷◌, ◌++◌, Option, Some, ltb, eqb, refl, ap, ◌∙◌, arith, inl, inr}
+use Rattle.std.proofs.lemmas.Bool.{cases_Bool}
 use Rattle.std.proofs.lemmas.Bool.Decides.{nat_tests}
-use Rattle.std.proofs.lemmas.List.{length-append, map-append, take_all}
-use Rattle.std.proofs.lemmas.List.Elements.{filter-append}
 use Rattle.std.proofs.lemmas.Slice.Eq.{bytes_eq-Decides}
-use Rattle.std.specs.List.{filter, find, position_or_len}
+use Rattle.std.specs.List.{filter, find}
 use Rattle.std.specs.Option.{option_map}
 use Rattle.std.specs.Str.{bytes_eq}
 use Rattle.xmpp_archive.specs.Entries.{EntryView, entry_numbered}
 use Rattle.xmpp_pages.proofs.Placed.{FollowOn}
-use Rattle.xmpp_pages.specs.Kept.{Kept}
-use Rattle.xmpp_pages.specs.Matches.{is_wanted, with_passes}
-use Rattle.xmpp_pages.specs.Parties.{is_full, other_party}
-use Rattle.xmpp_archive.specs.Peers.{bare_form, first_of, is_slash, is_with, next_of, peer_of}
-use Rattle.xmpp_pages.specs.Spans.{number_of_entry, numbers_of}
-use Rattle.xmpp_pages.specs.Tallies.{IsTally}
-use Rattle.xmpp_pages.specs.Walks.{chain, head_number, is_in_chain, wanted_number, wanted_numbers}
-use Rattle.xmpp_pages.specs.declared.query.PageQuery.{PageQuery}
-use Rattle.xmpp_pages.specs.declared.span.Span.{Span}
+use Rattle.xmpp_archive.specs.Peers.{is_with, next_of, peer_of}
+use Rattle.xmpp_pages.specs.Spans.{number_of_entry}
+use Rattle.xmpp_pages.specs.Walks.{head_number}
 
 -- the numbers go up, the first from above n
 abbrev pub Ascend : ℕ → List EntryView → Type 0

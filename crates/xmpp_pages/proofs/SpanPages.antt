@@ -1,5 +1,5 @@
 -- A page out of the entries is the page out of their numbers.
-use Rattle.std.proofs.Common.{◌≡◌, ℕ, zero, suc, ◌+◌, ◌-◌, ◌<◌, ◌≤◌, Bool, true, false, List, [], ◌∷◌, Option, Some, None, length, take, drop, map, ltb, leb, refl, sym, ap, ◌∙◌, arith}
+use Rattle.std.proofs.Common.{◌≡◌, ℕ, ◌-◌, ◌≤◌, Bool, true, false, List, [], ◌∷◌, Option, Some, None, length, take, drop, ltb, leb, refl, sym, ap, ◌∙◌, arith}
 use Rattle.std.proofs.lemmas.List.{length-map, take-map, drop-map}
 use Rattle.std.specs.List.{filter}
 use Rattle.std.specs.Option.{option_map}
@@ -12,7 +12,6 @@ use Rattle.xmpp_pages.specs.Matches.{is_wanted, matching}
 use Rattle.xmpp_pages.specs.PageOf.{cut_out, entry_of_id, index_of, last_of, most_of, page_of}
 use Rattle.xmpp_pages.specs.Spans.{IsNumbered, Rises, cut_by, index_in, number_of_entry, numbers_of, portion_by, within}
 use Rattle.xmpp_pages.specs.declared.query.PageQuery.{PageQuery}
-use Rattle.xmpp_pages.specs.declared.query.Place.{Place}
 use Rattle.xmpp_pages.specs.declared.query.Place.TheVariants.{First, After, Before, Last}
 use Rattle.xmpp_pages.specs.declared.span.Span.{Span}
 

@@ -1,6 +1,6 @@
 -- A chain that is walked: what was counted, and what is left.
-use Rattle.std.proofs.Common.{◌≡◌, ℕ, zero, suc, ◌+◌, ◌*◌, ◌-◌, ◌<◌, ◌≤◌, ◌^◌, Bool, true, false, ◌&&◌, List, [], ◌∷◌, ◌++◌, Option, Some, None, length, map, ltb, eqb, refl, sym, ap, ◌∙◌, arith, inl, inr, append_assoc, append-nil}
-use Rattle.std.proofs.lemmas.Bool.{cases_Bool, cases_eq, cases_lt}
+use Rattle.std.proofs.Common.{◌≡◌, ℕ, suc, ◌+◌, ◌*◌, ◌-◌, ◌<◌, ◌≤◌, Bool, true, false, List, [], ◌∷◌, ◌++◌, Option, Some, None, length, eqb, refl, sym, ap, ◌∙◌, arith, inl, inr, append_assoc, append-nil}
+use Rattle.std.proofs.lemmas.Bool.{cases_Bool, cases_eq}
 use Rattle.std.proofs.lemmas.Bool.Decides.{nat_tests}
 use Rattle.std.proofs.lemmas.List.{length-append, length-map, map-append, take_all}
 use Rattle.std.proofs.lemmas.List.Elements.{filter-append}
@@ -8,13 +8,13 @@ use Rattle.std.proofs.lemmas.Slice.Eq.{bytes_eq-Decides}
 use Rattle.std.specs.List.{filter, position_or_len}
 use Rattle.std.specs.Str.{bytes_eq}
 use Rattle.xmpp_archive.specs.Entries.{EntryView, entry_numbered}
-use Rattle.xmpp_pages.proofs.Chains.{Ascend, among, ascend_filter, ascend_follow, filter_implied, find_head, left_passes, next_in_chain, numbered_left}
-use Rattle.xmpp_pages.proofs.Placed.{FollowOn, IsPlaced, placed}
+use Rattle.xmpp_pages.proofs.Chains.{Ascend, ascend_filter, ascend_follow, filter_implied, find_head, left_passes, next_in_chain, numbered_left}
+use Rattle.xmpp_pages.proofs.Placed.{FollowOn, placed}
 use Rattle.xmpp_pages.specs.Kept.{AreConsecutive, Kept, first_number, last_number}
-use Rattle.xmpp_pages.specs.Matches.{is_wanted, stamp_passes, with_passes}
+use Rattle.xmpp_pages.specs.Matches.{is_wanted, with_passes}
 use Rattle.xmpp_pages.specs.Parties.{is_full, other_party}
 use Rattle.xmpp_archive.specs.Peers.{bare_form, first_of, is_slash, is_with, next_of, peer_of}
-use Rattle.xmpp_pages.specs.Spans.{IsNumbered, number_of_entry, numbers_of}
+use Rattle.xmpp_pages.specs.Spans.{number_of_entry, numbers_of}
 use Rattle.xmpp_pages.specs.Tallies.{IsTally}
 use Rattle.xmpp_pages.specs.Walks.{chain, head_number, is_in_chain, wanted_number, wanted_numbers}
 use Rattle.xmpp_pages.specs.declared.query.PageQuery.{PageQuery}

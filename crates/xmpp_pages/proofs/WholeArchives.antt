@@ -1,9 +1,9 @@
 -- A page out of the entries of a whole archive.
-use Rattle.std.proofs.Common.{◌≡◌, ℕ, zero, suc, ◌+◌, ◌-◌, ◌<◌, ◌≤◌, Bool, true, false, List, [], ◌∷◌, Some, None, length, refl, sym, ap, ◌∙◌, arith}
+use Rattle.std.proofs.Common.{◌≡◌, ℕ, ◌+◌, ◌-◌, ◌≤◌, Bool, true, List, [], ◌∷◌, None, length, refl, sym, ap, ◌∙◌, arith}
 use Rattle.std.specs.List.{filter}
 use Rattle.xmpp_archive.specs.Entries.{EntryView}
 use Rattle.xmpp_pages.proofs.Behind.{numbers_follow}
-use Rattle.xmpp_pages.proofs.Placed.{IsPlaced, placed, placed_self}
+use Rattle.xmpp_pages.proofs.Placed.{placed, placed_self}
 use Rattle.xmpp_pages.proofs.Rising.{rises_entries, rises_weaken}
 use Rattle.xmpp_pages.specs.Kept.{AreConsecutive, Kept, first_number, last_number}
 use Rattle.xmpp_pages.specs.Matches.{is_wanted, matching}

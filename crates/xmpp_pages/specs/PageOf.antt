@@ -1,6 +1,6 @@
 -- The page that answers a query: a filter of the list of entries, whatever the code walks (XEP-0313 section 4.3,
 -- XEP-0059 sections 2.1 to 2.6).
-use Rattle.std.specs.Prelude.{ℕ, ◌-◌, min, nat_lt, nat_le, Bool, List, [], ◌∷◌, Option, Some, None, find, filter, map, take, drop, length}
+use Rattle.std.specs.Prelude.{ℕ, ◌-◌, min, nat_lt, nat_le, List, [], ◌∷◌, Option, Some, None, find, filter, map, take, drop, length}
 use Rattle.std.specs.Option.{option_map}
 use Rattle.std.specs.Str.{bytes_eq}
 use Rattle.xmpp_archive.specs.Entries.{EntryView}

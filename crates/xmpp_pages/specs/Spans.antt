@@ -1,5 +1,5 @@
 -- Where the candidates for a page stand, by numbers alone, and the page by numbers alone.
-use Rattle.std.specs.Prelude.{◌≡◌, ℕ, zero, suc, ◌<◌, ◌≤◌, ◌-◌, nat_lt, nat_le, Bool, ◌&&◌, List, [], ◌∷◌, Option, filter, map, take, length, if◌then◌else◌}
+use Rattle.std.specs.Prelude.{◌≡◌, ℕ, zero, suc, ◌<◌, ◌≤◌, nat_lt, nat_le, Bool, ◌&&◌, List, [], ◌∷◌, Option, filter, map, take, length, if◌then◌else◌}
 use Rattle.std.specs.Option.{option_map}
 use Rattle.xmpp_archive.specs.Entries.{EntryView}
 use Rattle.xmpp_pages.specs.Cuts.{CutView}

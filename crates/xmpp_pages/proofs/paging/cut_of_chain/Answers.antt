@@ -1,4 +1,3 @@
-use Rattle.std.proofs.Common.{◌≡◌, sym, ap, ◌∙◌}
 use Rattle.xmpp_pages.proofs.WholeArchives.{matching_rise}
 use Rattle.xmpp_pages.specs.Kept.{last_number}
 use Rattle.xmpp_pages.specs.Matches.{matching}

@@ -1,9 +1,7 @@
-use Rattle.std.proofs.Common.{◌≡◌, ◌-◌, sym, ap, ◌∙◌}
-use Rattle.std.specs.Result.{IfOk}
 use Rattle.xmpp_pages.proofs.WholeArchives.{matching_all, matching_rise, no_account, numbered_bounds}
 use Rattle.xmpp_pages.specs.Kept.{last_number}
 use Rattle.xmpp_pages.specs.Matches.{matching}
-use Rattle.xmpp_pages.specs.Spans.{cut_by, numbers_of}
+use Rattle.xmpp_pages.specs.Spans.{numbers_of}
 use Rattle.xmpp_pages.proofs.paging.cut_of_list.Goals as goal
 
 pub cut_of_all-requires-clause-first : goal.cut_of_all-requires-clause-first

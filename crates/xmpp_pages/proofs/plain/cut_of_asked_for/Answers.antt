@@ -1,4 +1,3 @@
-use Rattle.std.proofs.Common.{◌≡◌}
 use Rattle.xmpp_pages.proofs.WholeArchives.{matching_rise}
 use Rattle.xmpp_pages.specs.Kept.{kept_by, last_number}
 use Rattle.xmpp_pages.specs.Matches.{matching}

@@ -1,6 +1,5 @@
-use Rattle.std.proofs.Common.{rules, ◌≡◌, ℕ, ◌+◌, ◌<◌, ◌≤◌, ◌^◌, List, [], ◌∷◌, ◌++◌, length, take, sym, ap, ◌∙◌, arith}
+use Rattle.std.proofs.Common.{rules, ◌≡◌, ◌+◌, ◌<◌, ◌^◌, [], ◌∷◌, ◌++◌, length, take, sym, ap, ◌∙◌, arith}
 use Rattle.std.proofs.lemmas.List.{length-take-le, take_all, take_more}
-use Rattle.xmpp_archive.specs.Entries.{EntryView}
 use Rattle.xmpp_pages.proofs.Walked.{wanted_few, wanted_push}
 use Rattle.xmpp_pages.specs.Walks.{wanted_numbers}
 use Rattle.xmpp_pages.proofs.plain.tally_of_all.Goals as goal

@@ -1,4 +1,4 @@
-use Rattle.std.proofs.Common.{rules, ◌≡◌, ap, ◌∙◌, sym}
+use Rattle.std.proofs.Common.{ap, ◌∙◌, sym}
 use Rattle.xmpp_pages.proofs.SpanPages.{page_after, page_before, page_first, page_last}
 use Rattle.xmpp_pages.specs.declared.query.Place.TheVariants.{After, Before}
 use Rattle.xmpp_pages.proofs.span.span_of.Goals as goal

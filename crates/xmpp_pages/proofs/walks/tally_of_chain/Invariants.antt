@@ -1,6 +1,6 @@
-use Rattle.std.proofs.Common.{◌≡◌, ℕ, ◌+◌, length}
+use Rattle.std.proofs.Common.{◌≡◌}
 use Rattle.xmpp_pages.proofs.Walked.{IsWalked, steps_left}
-use Rattle.xmpp_pages.specs.Kept.{Kept, last_number}
+use Rattle.xmpp_pages.specs.Kept.{last_number}
 use Rattle.xmpp_pages.proofs.walks.tally_of_chain.Given as goal
 
 abbrev pub invariant-loop-next : goal.invariant-loop-next

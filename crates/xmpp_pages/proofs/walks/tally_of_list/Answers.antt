@@ -1,12 +1,12 @@
-use Rattle.std.proofs.Common.{rules, ◌^◌, ◌≡◌, ℕ, ◌+◌, ◌-◌, ◌<◌, ◌≤◌, List, ◌∷◌, [], ◌++◌, Some, None, length, take, refl, sym, ap, ◌∙◌, arith}
+use Rattle.std.proofs.Common.{rules, ◌^◌, ◌≡◌, ℕ, ◌+◌, ◌-◌, ◌<◌, ◌≤◌, List, length, take, refl, sym, ap, ◌∙◌, arith}
 use Rattle.std.proofs.lemmas.List.{length-take-le, take_all}
 use Rattle.xmpp_archive.specs.Entries.{EntryView}
-use Rattle.xmpp_pages.proofs.Listing.{IsListed, listed}
-use Rattle.xmpp_pages.proofs.Placed.{IsPlaced, placed_self}
+use Rattle.xmpp_pages.proofs.Listing.{listed}
+use Rattle.xmpp_pages.proofs.Placed.{placed_self}
 use Rattle.xmpp_pages.proofs.Walked.{wanted_few, wanted_push}
-use Rattle.xmpp_pages.specs.Kept.{AreConsecutive, Kept, first_number, last_number}
+use Rattle.xmpp_pages.specs.Kept.{AreConsecutive, first_number, last_number}
 use Rattle.xmpp_pages.specs.Tallies.{IsTally}
-use Rattle.xmpp_pages.specs.Walks.{is_in_chain, is_own, wanted_number, wanted_numbers}
+use Rattle.xmpp_pages.specs.Walks.{is_in_chain, is_own, wanted_numbers}
 use Rattle.xmpp_pages.specs.declared.query.PageQuery.{PageQuery}
 use Rattle.xmpp_pages.specs.declared.span.Span.{Span}
 use Rattle.xmpp_pages.specs.declared.tally.Tally.{Tally}

@@ -1,4 +1,4 @@
-use Rattle.std.proofs.Common.{◌≡◌, ℕ, zero, suc, ◌+◌, ◌-◌, ◌≤◌, refl, arith}
+use Rattle.std.proofs.Common.{◌≡◌, ℕ, zero, suc, ◌-◌, ◌≤◌, refl, arith}
 use Rattle.xmpp_pages.proofs.Behind.{cut_behind, place_by}
 use Rattle.xmpp_pages.proofs.whole.cut_of_all.Goals as goal
 

@@ -1,4 +1,4 @@
-use Rattle.std.proofs.Common.{◌≡◌, ◌+◌, ◌≤◌, ◌++◌, length, take}
+use Rattle.std.proofs.Common.{◌≡◌, ◌+◌, ◌≤◌, ◌++◌, take}
 use Rattle.xmpp_pages.proofs.window.push_all.Given as goal
 
 abbrev pub invariant-loop-number : goal.invariant-loop-number

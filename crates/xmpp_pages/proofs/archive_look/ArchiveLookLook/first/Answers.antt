@@ -1,4 +1,4 @@
-use Rattle.std.proofs.Common.{◌≡◌, ◌+◌, ◌-◌, length, sym, ap, ◌∙◌, arith}
+use Rattle.std.proofs.Common.{arith}
 use Rattle.xmpp_pages.proofs.Placed.{kept_consecutive, kept_first}
 use Rattle.xmpp_pages.proofs.archive_look.ArchiveLookLook.first.Goals as goal
 

@@ -1,4 +1,4 @@
-use Rattle.std.proofs.Common.{◌≡◌, sym, ◌∙◌}
+use Rattle.std.proofs.Common.{sym, ◌∙◌}
 use Rattle.xmpp_pages.proofs.Placed.{kept_last}
 use Rattle.xmpp_pages.proofs.archive_look.ArchiveLookLook.last.Goals as goal
 
