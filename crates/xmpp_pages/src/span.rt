@@ -43,7 +43,6 @@ fn number_kept(id: &str, first: u64, last: u64) -> Option<u64>
 pub(crate) fn span_of(query: &PageQuery, first: u64, last: u64) -> Option<Span>
     ensures span { IsSpanOf query.now first last result }
     ensures through { IfSome result (λ span. span.through ≤ last) }
-    ensures after { IfSome result (λ span. span.after ≤ last) }
     ensures most { IfSome result (λ span. span.most ≤ 100) }
 {
     let most = most(query.max);

@@ -1,6 +1,6 @@
 ghost use Rattle.std.specs.Prelude.{◌≤◌};
 
-use crate::{ArchiveLook, Look, PageCut, PageFault, PageQuery, Place, page};
+use crate::{ArchiveLook, Look, PageCut, PageFault, PageQuery, Place, page, plain_page};
 use std::alloc::Global;
 use std::test::Fail;
 use xmpp_archive::{Archive, Entry, id_of_number};
@@ -308,6 +308,27 @@ fn agrees(alloc: Global, archive: &Archive, row: &Row) -> Result<bool, Fail> {
     let mut look = ArchiveLook::new(archive);
     let cut = page(alloc, &mut look, &query)?;
     Ok(is_page(row, &cut))
+}
+
+/// Whether the kept entries have the row's page, found by a filter of the whole list.
+fn agrees_plainly(alloc: Global, archive: Archive, row: &Row) -> Result<bool, Fail> {
+    if archive.last() == 0 {
+        return Ok(false);
+    }
+    let entries = archive.into_entries();
+    let query = query(alloc, row)?;
+    let cut = plain_page(alloc, "romeo@a", entries.as_slice(), &query)?;
+    Ok(is_page(row, &cut))
+}
+
+#[test]
+fn plain_pages(rt: HostRuntime) -> Result<(), Fail> {
+    for row in &OF_THREE {
+        let archive = archive(rt.alloc(), 3)?;
+        let agrees = agrees_plainly(rt.alloc(), archive, row)?;
+        assert!(rt; agrees);
+    }
+    Ok(())
 }
 
 #[test]
