@@ -1,0 +1,12 @@
+pub use Rattle.xmpp_edge.specs.Listed
+pub use Rattle.xmpp_archive.specs.Entries
+pub use Rattle.xmpp_archive.specs.Peers
+pub mod Parties
+pub mod Kept
+pub mod Matches
+pub mod Cuts
+pub mod PageOf
+pub mod Spans
+pub mod Windows
+pub mod Tallies
+pub mod Walks

@@ -1,0 +1,56 @@
+ghost use Rattle.std.specs.Prelude.{◌≡◌};
+ghost use Rattle.xmpp_archive.specs.Entries.{ArchiveView};
+ghost use Rattle.xmpp_pages.specs.Kept.{Kept, kept_of};
+
+use crate::looks::Look;
+use xmpp_archive::{Archive, Entry};
+
+/// The calls by which a page is found, at an archive in memory.
+#[derive(Drop)]
+pub struct ArchiveLook<'a> {
+    archive: &'a Archive,
+    looks: u64,
+}
+
+impl<'a> ArchiveLook<'a> {
+    /// Stands for the archive, without a look so far. It takes no memory.
+    pub fn new(archive: &'a Archive) -> ArchiveLook<'a>
+        ensures archive { ⟦<ArchiveLook<'a> as Look>⟧.archive result ≡ kept_of archive.now }
+        ensures looks { ⟦<ArchiveLook<'a> as Look>⟧.looks result ≡ 0 }
+    {
+        ArchiveLook { archive, looks: 0 }
+    }
+}
+
+impl Look for ArchiveLook<'_> {
+    ghost archive = { λ s. kept_of s.archive.now };
+
+    ghost looks = { λ s. s.looks };
+
+    fn owner(&self) -> &str {
+        self.archive.owner()
+    }
+
+    fn first(&self) -> u64 {
+        self.archive.last() + 1 - self.archive.len()
+    }
+
+    fn last(&self) -> u64 {
+        self.archive.last()
+    }
+
+    fn get(&mut self, number: u64) -> Option<&Entry> {
+        self.looks = self.looks.saturating_add(1);
+        self.archive.get(number)
+    }
+
+    fn first_of(&mut self, peer: &str) -> Option<u64> {
+        self.looks = self.looks.saturating_add(1);
+        self.archive.first_of(peer)
+    }
+
+    fn next_of(&mut self, number: u64) -> Option<u64> {
+        self.looks = self.looks.saturating_add(1);
+        self.archive.next_of(number)
+    }
+}

@@ -1,0 +1,50 @@
+ghost use Rattle.std.specs.Prelude.{◌≡◌, ℕ, Option};
+ghost use Rattle.std.specs.Borrow.{sem};
+ghost use Rattle.std.specs.Io.BufRead.{Rests};
+ghost use Rattle.std.specs.Option.{option_copied};
+ghost use Rattle.xmpp_archive.specs.Entries.{entry_numbered};
+ghost use Rattle.xmpp_edge.specs.Counts.{counted};
+ghost use Rattle.xmpp_pages.specs.Kept.{AreConsecutive, Kept, first_number, last_number};
+ghost use Rattle.xmpp_archive.specs.Peers.{first_of, next_of};
+
+use xmpp_archive::Entry;
+
+/// What a page is found with: the calls by which an archive is looked at. Contracts alone see two things of it: the
+/// `archive` for which it stands, which no call changes, and the number of `looks`, which stays at 2^64 - 1 once
+/// there. No call takes memory.
+pub trait Look {
+    ghost archive: { Self → Kept };
+
+    ghost looks: { Self → ℕ };
+
+    /// The bare address of the account whose archive it is. This is no look.
+    fn owner(&self) -> &str
+        ensures { result.now ≡ (archive self.now).owner };
+
+    /// The number of the first entry, or 1 where there is none. This is no look.
+    fn first(&self) -> u64
+        ensures first { result ≡ first_number (archive self.now).entries }
+        ensures consecutive { AreConsecutive (archive self.now).entries };
+
+    /// The number of the last entry, or 0 where there is none. This is no look.
+    fn last(&self) -> u64
+        ensures { result ≡ last_number (archive self.now).entries };
+
+    /// The entry with a number, and `None` where no entry has it. This is a look.
+    fn get(&mut self, number: u64) -> Option<&Entry>
+        ensures* after_borrow { sem 𝓛 (Rests Self.row self.entry (λ new. (archive new ≡ archive self.old) × (looks new ≡ counted (looks self.old)))) }
+        ensures entry { option_copied result ≡ entry_numbered number (archive self.old).entries };
+
+    /// The least number of an entry with that peer, and `None` where there is none. This is a look.
+    fn first_of(&mut self, peer: &str) -> Option<u64>
+        ensures number { result ≡ first_of (archive self.old).owner peer.now (archive self.old).entries }
+        ensures archive { archive self.new ≡ archive self.old }
+        ensures looks { looks self.new ≡ counted (looks self.old) };
+
+    /// The least number above this one of an entry with the same peer as the entry with this one, and `None` where
+    /// there is none, or no entry has this one. This is a look.
+    fn next_of(&mut self, number: u64) -> Option<u64>
+        ensures number { result ≡ next_of (archive self.old).owner number (archive self.old).entries }
+        ensures archive { archive self.new ≡ archive self.old }
+        ensures looks { looks self.new ≡ counted (looks self.old) };
+}

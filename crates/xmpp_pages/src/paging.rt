@@ -1,0 +1,116 @@
+ghost use Rattle.std.specs.Prelude.{◌≡◌, ℕ, ◌+◌, ◌*◌, ◌<◌, ◌≤◌, ◌^◌, ◌↔◌, List, Some, None, false, length, IfOk, IsErrOf};
+ghost use Rattle.xmpp_archive.specs.Peers.{bare_form};
+ghost use Rattle.xmpp_pages.specs.Kept.{AreConsecutive};
+ghost use Rattle.xmpp_pages.specs.Matches.{matching};
+ghost use Rattle.xmpp_pages.specs.PageOf.{page_of};
+ghost use Rattle.xmpp_pages.specs.Parties.{is_full};
+ghost use Rattle.xmpp_pages.specs.Spans.{IsNumbered, cut_by, numbers_of};
+ghost use Rattle.xmpp_pages.specs.Walks.{entries_with};
+
+use crate::cut::{PageCut, PageFault};
+use crate::looks::Look;
+use crate::passing::asks_no_more;
+use crate::query::PageQuery;
+use crate::span::{Span, span_of};
+use crate::walks::{tally_of_chain, tally_of_list};
+use crate::whole::cut_of_all;
+use std::alloc::Global;
+use xmpp_edge::NoMemory;
+
+// The page out of the entries with an account.
+fn cut_of_chain<V: Look>(
+    alloc: Global,
+    look: &mut V,
+    query: &PageQuery,
+    peer: &str,
+    span: Span,
+) -> Result<PageCut, NoMemory>
+    requires most { span.most ≤ 100 }
+    requires peer { query.now.peer ≡ Some peer.now }
+    requires consecutive { AreConsecutive (V.archive look.old).entries }
+    requires few { length (V.archive look.old).entries < 2 ^ 64 }
+    ensures cut { IfOk result (λ cut. cut ≡ cut_by span (numbers_of (matching (V.archive look.old) query.now))) }
+    ensures archive { V.archive look.new ≡ V.archive look.old }
+    ensures looks { V.looks look.new ≤ V.looks look.old + (2 * entries_with (bare_form peer.now) (V.archive look.old) + 1) }
+{
+    tally_of_chain(look, query, peer, span).cut(alloc)
+}
+
+// The page out of the whole list.
+fn cut_of_list<V: Look>(
+    alloc: Global,
+    look: &mut V,
+    query: &PageQuery,
+    span: Span,
+    first: u64,
+    last: u64,
+) -> Result<PageCut, NoMemory>
+    requires most { span.most ≤ 100 }
+    requires through { span.through ≤ last }
+    requires peer { query.now.peer ≡ None }
+    requires numbered { IsNumbered first last (V.archive look.old).entries }
+    ensures cut { IfOk result (λ cut. cut ≡ cut_by span (numbers_of (matching (V.archive look.old) query.now))) }
+    ensures archive { V.archive look.new ≡ V.archive look.old }
+    ensures looks { V.looks look.new ≤ V.looks look.old + length (V.archive look.old).entries }
+    ensures unfiltered { query.now.start ≡ None → query.now.end ≡ None → V.looks look.new ≡ V.looks look.old }
+{
+    if asks_no_more(query) {
+        cut_of_all(alloc, &span, first, last)
+    } else {
+        tally_of_list(look, query, span).cut(alloc)
+    }
+}
+
+// The page out of a span.
+fn cut_out<V: Look>(
+    alloc: Global,
+    look: &mut V,
+    query: &PageQuery,
+    span: Span,
+    first: u64,
+    last: u64,
+) -> Result<PageCut, NoMemory>
+    requires most { span.most ≤ 100 }
+    requires through { span.through ≤ last }
+    requires numbered { IsNumbered first last (V.archive look.old).entries }
+    ensures cut { IfOk result (λ cut. cut ≡ cut_by span (numbers_of (matching (V.archive look.old) query.now))) }
+    ensures archive { V.archive look.new ≡ V.archive look.old }
+    ensures account { (peer : List ℕ) → query.now.peer ≡ Some peer → V.looks look.new ≤ V.looks look.old + (2 * entries_with (bare_form peer) (V.archive look.old) + 1) }
+    ensures everybody { query.now.peer ≡ None → V.looks look.new ≤ V.looks look.old + length (V.archive look.old).entries }
+    ensures unfiltered { query.now.peer ≡ None → query.now.start ≡ None → query.now.end ≡ None → V.looks look.new ≡ V.looks look.old }
+{
+    match &query.peer {
+        Some(peer) => cut_of_chain(alloc, look, query, peer.as_str(), span),
+        None => cut_of_list(alloc, look, query, span, first, last),
+    }
+}
+
+/// The page of an archive's entries that answers a query (XEP-0313 section 4.3, XEP-0059 sections 2.1 to 2.6).
+///
+/// Among the entries that match `peer`, `start` and `end`, the candidates are all where `place` is `First` or `Last`, and
+/// else those behind or before the entry with its id. The page has the first of them, or for `Before` and `Last` the
+/// last: at most `max`, and at most 100. `count` is of all entries that match, wherever the page stands among them.
+/// `NotFound` comes exactly where the id is no id of an entry of the archive, whether or not of one that matches, and
+/// `NoMemory` where no memory is left for the page's numbers. The archive stays as it was.
+///
+/// Where `peer` is given, two looks are taken at most for each entry with that account, and one more; without `peer`
+/// at most one for each entry, and none where nothing else narrows the query down.
+pub fn page<V: Look>(alloc: Global, look: &mut V, query: &PageQuery) -> Result<PageCut, PageFault>
+    ensures page { IfOk result (λ cut. page_of (V.archive look.old) query.now ≡ Some cut) }
+    ensures not_found { IsErrOf result PageFault.NotFound ↔ (page_of (V.archive look.old) query.now ≡ None) }
+    ensures archive { V.archive look.new ≡ V.archive look.old }
+    // k entries have this account: 2k + 1
+    ensures bare { (peer : List ℕ) → query.now.peer ≡ Some peer → is_full peer ≡ false →
+        V.looks look.new ≤ V.looks look.old + (2 * entries_with peer (V.archive look.old) + 1) }
+    ensures full { (peer : List ℕ) → query.now.peer ≡ Some peer →
+        V.looks look.new ≤ V.looks look.old + (2 * entries_with (bare_form peer) (V.archive look.old) + 1) }
+    ensures everybody { query.now.peer ≡ None → V.looks look.new ≤ V.looks look.old + length (V.archive look.old).entries }
+    ensures unfiltered { query.now.peer ≡ None → query.now.start ≡ None → query.now.end ≡ None → V.looks look.new ≡ V.looks look.old }
+{
+    let first = look.first();
+    let last = look.last();
+    match span_of(query, first, last) {
+        Some(span) => Ok(cut_out(alloc, look, query, span, first, last)?),
+        None => Err(PageFault::NotFound),
+    }
+}
