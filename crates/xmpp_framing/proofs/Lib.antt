@@ -10,3 +10,4 @@ pub mod OpenText
 pub mod LargerLimits
 pub mod ItemsGrow
 pub mod Pieces
+pub mod FaultLaws

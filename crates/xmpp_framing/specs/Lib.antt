@@ -13,3 +13,4 @@ pub mod TagSteps
 pub mod Machine
 pub mod StateCodes
 pub mod FramerView
+pub mod FaultRows
