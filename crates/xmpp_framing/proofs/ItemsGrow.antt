@@ -1,5 +1,5 @@
 -- A run only adds items.
-use Rattle.std.proofs.Common.{◌≡◌, ℕ, Bool, true, false, ◌==◌, ◌&&◌, not, List, [], ◌∷◌, ◌++◌, Option, Some, None, Result, Ok, Err, refl, sym, ap, ◌∙◌, append_assoc, if◌then◌else◌}
+use Rattle.std.proofs.Common.{ℕ, Bool, true, false, ◌==◌, ◌&&◌, not, List, [], ◌∷◌, ◌++◌, Option, Some, None, Result, Ok, Err, refl, sym, ap, ◌∙◌, append_assoc, if◌then◌else◌}
 use Rattle.std.proofs.lemmas.List.{append-nil}
 use Rattle.std.specs.Option.{is_some}
 use Rattle.xmpp_names.specs.Ends.{end_of}
@@ -10,7 +10,7 @@ use Rattle.xmpp_tokens.specs.Tags.{is_end}
 use Rattle.xmpp_tokens.specs.Utf8.{continues}
 use Rattle.xmpp_framing.specs.Machine.{IsFrontOf, behind_byte, goes_on, is_too_long, run, step, taken, taken_in}
 use Rattle.xmpp_framing.specs.MarkupSteps.{in_phase}
-use Rattle.xmpp_framing.specs.States.{OpenElement, State, Turn, counted, fails, gathered, gathered_in, gives, item_ended, may_declare, moved, token_fails, token_place}
+use Rattle.xmpp_framing.specs.States.{OpenElement, Turn, counted, fails, gathered, gathered_in, gives, item_ended, may_declare, moved, token_fails, token_place}
 use Rattle.xmpp_framing.specs.TagSteps.{added_to, begun, closed, closed_open, element_from, ends, ends_stream, footer_closes, footer_gathered, header_items, header_tag, heads, in_footer, in_opening, in_tag, is_header, is_spelled, is_too_deep, joined_text, leaf, level, misplaced, shallower, starts, tag_anew, tag_closes, tag_gathered, tag_here, tag_in, tag_inside, tag_outside, unlimited}
 use Rattle.xmpp_framing.specs.Tidied.{tidied}
 use Rattle.xmpp_framing.specs.Trees.{Elem}

@@ -1,13 +1,13 @@
 -- A tag within limits is within larger ones, and says the same.
-use Rattle.std.proofs.Common.{◌≡◌, ℕ, Bool, sym, ◌<◌, ◌≤◌, ◌^◌, List, [], ◌∷◌, Ok, All, length, arith}
+use Rattle.std.proofs.Common.{◌≡◌, ℕ, Bool, ◌<◌, ◌≤◌, ◌^◌, List, Ok, All, length, arith}
 use Rattle.xmpp_names.proofs.StartLaws as laws
-use Rattle.xmpp_names.specs.Grammar.{IsShort, IsStart, IsWithin}
+use Rattle.xmpp_names.specs.Grammar.{IsShort}
 use Rattle.xmpp_names.specs.Scopes.{Scope}
 use Rattle.xmpp_names.specs.Starts.{Tag, start_of}
 use Rattle.xmpp_names.specs.declared.limits.TagLimits.{TagLimits}
 use Rattle.xmpp_names.specs.Headers.{opens_stream}
 use Rattle.xmpp_framing.specs.States.{State}
-use Rattle.xmpp_framing.specs.TagSteps.{is_header, largest_limits, scope_in, says_stream, tag_here, tag_limits}
+use Rattle.xmpp_framing.specs.TagSteps.{is_header, largest_limits, scope_in, tag_here, tag_limits}
 
 shorter : (a b : ℕ) (own : Scope) → a ≤ b → All (IsShort a) own → All (IsShort b) own
 shorter a b own le all = λ k d h. let first = all k d h in omega arith

@@ -19,3 +19,4 @@ pub mod OpenText
 pub mod LargerLimits
 pub mod ItemsGrow
 pub mod Pieces
+pub mod FaultLaws

@@ -1,11 +1,10 @@
 -- The stacks of a framer, outermost first, as the lists of the definitions, innermost first.
-use Rattle.std.proofs.Common.{◌≡◌, ℕ, ◌<◌, ◌≤◌, List, [], ◌∷◌, ◌++◌, Vec, Some, Ok, Err, Result, map, reverse, refl, sym, ap, ◌∙◌, append_assoc, arith}
+use Rattle.std.proofs.Common.{◌≡◌, List, [], ◌∷◌, ◌++◌, Vec, map, reverse, refl, sym, ap, ◌∙◌, append_assoc}
 use Rattle.std.proofs.lemmas.List.{append-nil, map-append, reverse-append}
 use Rattle.std.specs.declared.alloc.Global.{Global}
 use Rattle.xmpp_names.specs.Scopes.{Scope, scope_of}
 use Rattle.xmpp_names.specs.declared.scopes.Binding.{Binding}
 use Rattle.xmpp_framing.specs.FramerView.{open_of, opens_of, own_of, scopes_of}
-use Rattle.xmpp_framing.specs.States.{OpenElement}
 use Rattle.xmpp_framing.specs.TagSteps.{scope_in}
 use Rattle.xmpp_framing.specs.declared.states.Open.{Open}
 

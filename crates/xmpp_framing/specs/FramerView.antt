@@ -1,5 +1,5 @@
 -- The state of the machine that a framer stands for.
-use Rattle.std.specs.Prelude.{ℕ, List, Option, Vec, map, reverse, string_bytes}
+use Rattle.std.specs.Prelude.{List, Vec, map, reverse, string_bytes}
 use Rattle.std.specs.Option.{option_map}
 use Rattle.std.specs.declared.alloc.Global.{Global}
 use Rattle.xmpp_names.specs.Scopes.{Scope}

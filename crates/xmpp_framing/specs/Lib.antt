@@ -17,3 +17,4 @@ pub mod TagSteps
 pub mod Machine
 pub mod StateCodes
 pub mod FramerView
+pub mod FaultRows

@@ -1,12 +1,12 @@
 -- A byte behind `<!` or `<?`: a CDATA section opens, or a declaration (XML 1.0, sections 2.7 and 2.8), or what is
 -- restricted begins (RFC 6120, section 11.1).
-use Rattle.std.specs.Prelude.{ℕ, ◌+◌, ◌-◌, nat_lt, Bool, ◌&&◌, ◌==◌, if◌then◌else◌, List, [], ◌∷◌, ◌++◌, length, codes, slice_index}
+use Rattle.std.specs.Prelude.{ℕ, ◌-◌, nat_lt, Bool, ◌&&◌, ◌==◌, if◌then◌else◌, List, [], ◌∷◌, ◌++◌, length, codes, slice_index}
 use Rattle.std.specs.Option.{is_some}
 use Rattle.xmpp_tokens.specs.Characters.{is_white}
 use Rattle.xmpp_tokens.specs.Declarations.{declaration_of}
 use Rattle.xmpp_tokens.specs.declared.declarations.Declaration.{Declaration}
 use Rattle.xmpp_tokens.specs.declared.declarations.Declaration.TheVariants as declaration
-use Rattle.xmpp_framing.specs.States.{State, token_fails, gathered, gathered_in, in_mode, item_ended, token_ended}
+use Rattle.xmpp_framing.specs.States.{State, token_fails, gathered, gathered_in, in_mode, item_ended}
 use Rattle.xmpp_framing.specs.declared.faults.Why.TheVariants as why
 use Rattle.xmpp_framing.specs.declared.states.Mode.TheVariants as mode
 use Rattle.xmpp_framing.specs.declared.states.Phase.{Phase}

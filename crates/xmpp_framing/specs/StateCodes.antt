@@ -1,6 +1,6 @@
 -- A code for states, by which proofs tell them apart.
 use Rattle.std.specs.Prelude.{ℕ, List, Option}
-use Rattle.std.specs.Coded.{Coded, code_by, coded×, coded_list, coded_option, coded_ℕ}
+use Rattle.std.specs.Coded.{Coded, code_by, coded×, coded_list, coded_option}
 use Rattle.std.proofs.Common.{refl}
 use Rattle.xmpp_names.specs.Scopes.{Scope}
 use Rattle.xmpp_names.specs.contracts.scopes.Binding as binding

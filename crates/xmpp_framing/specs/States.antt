@@ -1,5 +1,5 @@
 -- The state of a framer: what it knows of a stream from the bytes so far (RFC 6120, section 4; XML 1.0, section 2.1).
-use Rattle.std.specs.Prelude.{ℕ, ◌+◌, ◌-◌, ◌^◌, min, nat_eq, nat_lt, Bool, true, false, not, ◌&&◌, ◌||◌, ◌==◌, if◌then◌else◌, List, [], ◌∷◌, ◌++◌, Option, Some, None, length}
+use Rattle.std.specs.Prelude.{ℕ, ◌+◌, ◌-◌, ◌^◌, min, Bool, true, false, not, ◌&&◌, ◌==◌, if◌then◌else◌, List, [], ◌∷◌, ◌++◌, Option, Some, None, length}
 use Rattle.std.specs.Option.{is_some}
 use Rattle.xmpp_names.specs.Scopes.{Scope}
 use Rattle.xmpp_framing.specs.Tidied.{text_node}
@@ -97,11 +97,13 @@ token_ended s = record s { token = []; lexical = record s.lexical { mode = mode.
 abbrev pub item_ended : State → State
 item_ended s = record (token_ended s) { places = record s.places { used = 0 } }
 
--- a run of text begins, unless one has
+-- a run of text begins
+abbrev pub run_begun : State → State
+run_begun s = record s { places = record s.places { token_at = s.places.at }; lexical = record s.lexical { in_run = true; returned = false; brackets = 0 } }
+
+-- the same, unless one has
 abbrev pub in_run : State → State
-in_run s =
-    if s.lexical.in_run then s
-    else record s { places = record s.places { token_at = s.places.at }; lexical = record s.lexical { in_run = true; returned = false; brackets = 0 } }
+in_run s = if s.lexical.in_run then s else run_begun s
 
 -- a token begins with the next byte
 abbrev pub token_begun : State → Mode → State

@@ -1,5 +1,5 @@
 -- A byte of a text, a CDATA section or a reference (XML 1.0, sections 2.2, 2.4, 2.7, 2.11 and 4.1).
-use Rattle.std.specs.Prelude.{ℕ, ◌+◌, nat_eq, Bool, true, false, not, ◌&&◌, ◌||◌, ◌==◌, if◌then◌else◌, List, [], ◌∷◌, ◌++◌, Some, None, encode_utf8}
+use Rattle.std.specs.Prelude.{ℕ, Bool, false, ◌&&◌, ◌||◌, ◌==◌, if◌then◌else◌, List, [], ◌∷◌, ◌++◌, encode_utf8}
 use Rattle.std.specs.Option.{is_some}
 use Rattle.xmpp_tokens.specs.Characters.{is_white}
 use Rattle.xmpp_tokens.specs.References.{referred, reference_goes_on}
@@ -52,7 +52,7 @@ is_forbidden s b = ends_forbidden_character s.pending b
 
 -- `]]>` may not stand in a text (2.4)
 abbrev pub ends_section : State → ℕ → Bool
-ends_section s b = b == 62 && s.lexical.brackets == 2
+ends_section s b = s.lexical.brackets == 2 && b == 62
 
 abbrev pub judged_text : State → ℕ → State
 judged_text s b = if is_forbidden s b || ends_section s b then token_fails s NotWellFormed else character_taken s b

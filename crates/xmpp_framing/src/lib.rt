@@ -10,6 +10,7 @@ mod elements_in_hand;
 mod faults;
 mod feeding;
 mod framer;
+mod framer_laws;
 #[cfg(test)]
 mod framer_tests;
 mod items;
@@ -38,6 +39,11 @@ pub use copying::copy_nodes;
 pub use elements::{Element, Node, Nodes};
 pub use faults::{Fault, FeedFault, Why};
 pub use framer::Framer;
+pub use framer_laws::{
+    a_fault_stays, any_pieces, characters_are_judged, declarations_are_judged,
+    long_and_broken_bytes_are_told, references_are_judged, restricted_markup_is_told,
+    tags_in_elements_are_judged, tags_outside_elements_are_judged,
+};
 pub use items::{Item, Items};
 pub use laws::{first_attributes_are_kept, tidy_element_reads_the_same, tidy_element_stays};
 pub use limits::Limits;

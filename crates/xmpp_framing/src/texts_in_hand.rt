@@ -122,7 +122,7 @@ impl Framer {
     fn ends_section(&self, b: u8) -> bool
         ensures { result ≡ TextSteps.ends_section self.now b }
     {
-        b == b'>' && self.lexical.brackets == 2
+        self.lexical.brackets == 2 && b == b'>'
     }
 
     // A character of a text is judged and taken.

@@ -1,7 +1,7 @@
 use Rattle.xmpp_framing.proofs.ItemsGrow.{front_trans}
 use Rattle.xmpp_framing.proofs.Pieces.{at_rest, bound_after, due_after, front_taken, left_after}
 use Rattle.xmpp_framing.specs.States.{turn}
-use Rattle.std.proofs.Common.{◌≤◌, length, drop, arith}
+use Rattle.std.proofs.Common.{drop}
 use Rattle.xmpp_framing.proofs.framer.Framer.take_all.Goals as goal
 
 pub returns-in_err-done-clause-due : goal.returns-in_err-done-clause-due

@@ -1,0 +1,123 @@
+//! Laws of the machine that a framer is.
+ghost use Rattle.std.specs.Prelude.{◌≡◌, ◌≢◌, ◌≤◌, ◌<◌, ◌+◌, ℕ, List, ◌∷◌, ◌++◌, [], Bool, true, false, Some, None, Ok, Err, codes, length, slice_index};
+ghost use Rattle.std.specs.Option.{is_some};
+ghost use Rattle.xmpp_framing.specs.FaultRows.{Decides, EndsTag, Takes, whole};
+ghost use Rattle.xmpp_framing.specs.Machine.{is_too_long, run};
+ghost use Rattle.xmpp_framing.specs.MarkupSteps.{ends_in_question};
+ghost use Rattle.xmpp_framing.specs.States.{Turn, in_run, may_declare, token_place};
+ghost use Rattle.xmpp_framing.specs.TagSteps.{ends_stream, is_header, is_spelled, is_too_deep, misplaced_why, header_why, start_why, tag_anew, tag_here};
+ghost use Rattle.xmpp_framing.specs.TextSteps.{is_forbidden};
+ghost use Rattle.xmpp_framing.specs.declared.faults.Fault.{Fault};
+ghost use Rattle.xmpp_framing.specs.declared.faults.Why.TheVariants as why;
+ghost use Rattle.xmpp_framing.specs.declared.states.Mode.TheVariants as mode;
+ghost use Rattle.xmpp_framing.specs.declared.states.Phase.TheVariants as phase;
+ghost use Rattle.xmpp_names.specs.Ends.{end_of};
+ghost use Rattle.xmpp_names.specs.Starts.{Tag};
+ghost use Rattle.xmpp_names.specs.declared.faults.StartFault.TheVariants as start;
+ghost use Rattle.xmpp_names.specs.declared.faults.StartFault.{StartFault};
+ghost use Rattle.xmpp_tokens.specs.Characters.{is_white};
+ghost use Rattle.xmpp_tokens.specs.Declarations.{declaration_of};
+ghost use Rattle.xmpp_tokens.specs.References.{reference_goes_on, referred};
+ghost use Rattle.xmpp_tokens.specs.Tags.{is_end};
+ghost use Rattle.xmpp_tokens.specs.Utf8.{continues, ends_character};
+ghost use Rattle.xmpp_tokens.specs.declared.declarations.Declaration.TheVariants as declaration;
+ghost use Rattle.xmpp_tokens.specs.declared.references.Reference.TheVariants as reference;
+
+/// A law: how bytes are cut into pieces doesn't matter.
+pub fn any_pieces()
+    ensures { (t : Turn) (a b : List ℕ) → run t (a ++ b) ≡ run (run t a) b }
+{}
+
+/// A law: behind a fault nothing changes.
+pub fn a_fault_stays()
+    ensures { (t : Turn) (bs : List ℕ) (f : Fault) → t.state.fault ≡ Some f → run t bs ≡ t }
+{}
+
+/// A law: a byte past the limit is told before all else, at the place of what it belongs to, and then one that can't
+/// continue a character, at the place of its token.
+pub fn long_and_broken_bytes_are_told()
+    ensures long { (t : Turn) (b : ℕ) → t.state.fault ≡ None → is_too_long t.state b ≡ true → Decides t b t.state.places.item_at why.TooLong }
+    ensures broken { (t : Turn) (b : ℕ) → t.state.fault ≡ None → is_too_long t.state b ≡ false → continues t.state.pending b ≡ false
+        → Decides t b (token_place t.state) why.Encoding }
+{}
+
+/// A law: `<!` that departs from `<![CDATA[` is restricted, and so is `<?` where no declaration may stand or that departs
+/// from `<?xml` and white space. A CDATA section outside elements isn't well formed.
+pub fn restricted_markup_is_told()
+    ensures bang { (t : Turn) (b : ℕ) → Takes t.state mode.Bang b → b ≢ slice_index (codes "<![CDATA[") (length t.state.token)
+        → Decides t b t.state.places.token_at why.Restricted }
+    ensures question { (t : Turn) → Takes t.state mode.Opening 63 → may_declare t.state ≡ false → Decides t 63 t.state.places.token_at why.Restricted }
+    ensures departs { (t : Turn) (b : ℕ) → Takes t.state mode.Question b → length t.state.token < 5 → b ≢ slice_index (codes "<?xml") (length t.state.token)
+        → Decides t b t.state.places.token_at why.Restricted }
+    ensures unspaced { (t : Turn) (b : ℕ) → Takes t.state mode.Question b → 5 ≤ length t.state.token → is_white b ≡ false
+        → Decides t b t.state.places.token_at why.Restricted }
+    ensures section { (t : Turn) → Takes t.state mode.Bang 91 → length t.state.token ≡ 8 → is_some t.state.here ≡ false
+        → Decides t 91 t.state.places.token_at why.NotWellFormed }
+{}
+
+/// A law: a declaration is judged at its `?>`.
+pub fn declarations_are_judged()
+    ensures encoding { (t : Turn) → Takes t.state mode.Declaration 62 → ends_in_question t.state.token ≡ true
+        → declaration_of (t.state.token ++ 62 ∷ []) ≡ declaration.Encoding → Decides t 62 t.state.places.token_at why.Encoding }
+    ensures malformed { (t : Turn) → Takes t.state mode.Declaration 62 → ends_in_question t.state.token ≡ true
+        → declaration_of (t.state.token ++ 62 ∷ []) ≡ declaration.NotWellFormed → Decides t 62 t.state.places.token_at why.NotWellFormed }
+{}
+
+/// A law: a reference is judged at its `;`, or at the byte that can't continue it; outside elements at its `&`.
+pub fn references_are_judged()
+    ensures unknown { (t : Turn) → Takes t.state mode.Reference 59 → referred t.state.token ≡ reference.Unknown
+        → Decides t 59 t.state.places.token_at why.Restricted }
+    ensures malformed { (t : Turn) → Takes t.state mode.Reference 59 → referred t.state.token ≡ reference.Malformed
+        → Decides t 59 t.state.places.token_at why.NotWellFormed }
+    ensures departs { (t : Turn) (b : ℕ) → Takes t.state mode.Reference b → b ≢ 59 → reference_goes_on t.state.token b ≡ false
+        → Decides t b t.state.places.token_at why.NotWellFormed }
+    ensures outside { (t : Turn) → Takes t.state mode.Text 38 → is_some t.state.here ≡ false → Decides t 38 t.state.places.at why.NotWellFormed }
+{}
+
+/// A law: a forbidden character is told at its last byte, in texts and in CDATA sections, and so is `]]>` in a text;
+/// outside elements each character that isn't white.
+pub fn characters_are_judged()
+    ensures forbidden { (t : Turn) (b : ℕ) → Takes t.state mode.Text b → is_some t.state.here ≡ true → b ≢ 60 → b ≢ 38 → ends_character t.state.pending b ≡ true
+        → is_forbidden t.state b ≡ true → Decides t b (in_run t.state).places.token_at why.NotWellFormed }
+    ensures brackets { (t : Turn) → Takes t.state mode.Text 62 → is_some t.state.here ≡ true → t.state.pending ≡ [] → t.state.lexical.in_run ≡ true
+        → t.state.lexical.brackets ≡ 2 → Decides t 62 t.state.places.token_at why.NotWellFormed }
+    ensures in_section { (t : Turn) (b : ℕ) → Takes t.state mode.Section b → ends_character t.state.pending b ≡ true → is_forbidden t.state b ≡ true
+        → Decides t b t.state.places.token_at why.NotWellFormed }
+    ensures outside { (t : Turn) (b : ℕ) → Takes t.state mode.Text b → is_some t.state.here ≡ false → b ≢ 60 → b ≢ 38 → ends_character t.state.pending b ≡ true
+        → is_white b ≡ false → Decides t b (in_run t.state).places.token_at why.NotWellFormed }
+{}
+
+/// A law: a tag in an element is judged at its `>`. An end tag has the name of the element; a start tag is one inside the
+/// scope in force, not too deep, and within the limits, in this order.
+pub fn tags_in_elements_are_judged()
+    ensures end { (t : Turn) → EndsTag t.state mode.Tag → is_some t.state.here ≡ true → is_end (whole t.state).token ≡ true
+        → is_spelled t.state.here (end_of (whole t.state).token) ≡ false → Decides t 62 t.state.places.token_at why.NotWellFormed }
+    ensures restricted { (t : Turn) → EndsTag t.state mode.Tag → is_some t.state.here ≡ true → is_end (whole t.state).token ≡ false
+        → tag_here (whole t.state) ≡ Err start.Restricted → Decides t 62 t.state.places.token_at why.Restricted }
+    ensures malformed { (t : Turn) → EndsTag t.state mode.Tag → is_some t.state.here ≡ true → is_end (whole t.state).token ≡ false
+        → tag_here (whole t.state) ≡ Err start.NotWellFormed → Decides t 62 t.state.places.token_at why.NotWellFormed }
+    ensures deep { (t : Turn) (tag : Tag) → EndsTag t.state mode.Tag → is_some t.state.here ≡ true → is_end (whole t.state).token ≡ false
+        → tag_here (whole t.state) ≡ Ok tag → is_too_deep t.state ≡ true → Decides t 62 t.state.places.token_at why.TooDeep }
+    ensures many { (t : Turn) → EndsTag t.state mode.Tag → is_some t.state.here ≡ true → is_end (whole t.state).token ≡ false
+        → tag_here (whole t.state) ≡ Err start.TooManyAttributes → is_too_deep t.state ≡ false → Decides t 62 t.state.places.token_at why.TooManyAttributes }
+    ensures long { (t : Turn) → EndsTag t.state mode.Tag → is_some t.state.here ≡ true → is_end (whole t.state).token ≡ false
+        → tag_here (whole t.state) ≡ Err start.LongNamespace → is_too_deep t.state ≡ false → Decides t 62 t.state.places.token_at why.LongNamespace }
+{}
+
+/// A law: outside elements the first tag is judged as a header, a tag behind a declaration or the footer may not stand
+/// there unless it is a header's, and an end tag is the footer's.
+pub fn tags_outside_elements_are_judged()
+    ensures first { (t : Turn) (e : StartFault) → EndsTag t.state mode.Tag → is_some t.state.here ≡ false → t.state.lexical.phase ≡ phase.First
+        → tag_anew (whole t.state) ≡ Err e → Decides t 62 t.state.places.token_at (header_why e) }
+    ensures first_declared { (t : Turn) (e : StartFault) → EndsTag t.state mode.Tag → is_some t.state.here ≡ false → t.state.lexical.phase ≡ phase.FirstDeclared
+        → tag_anew (whole t.state) ≡ Err e → Decides t 62 t.state.places.token_at (header_why e) }
+    ensures header { (t : Turn) (e : StartFault) → EndsTag t.state mode.Tag → is_some t.state.here ≡ false → t.state.lexical.phase ≡ phase.Between
+        → is_header (whole t.state) ≡ true → tag_anew (whole t.state) ≡ Err e → Decides t 62 t.state.places.token_at (header_why e) }
+    ensures element { (t : Turn) (e : StartFault) → EndsTag t.state mode.Tag → is_some t.state.here ≡ false → t.state.lexical.phase ≡ phase.Between
+        → is_header (whole t.state) ≡ false → tag_here (whole t.state) ≡ Err e → Decides t 62 t.state.places.token_at (start_why t.state e) }
+    ensures declared { (t : Turn) → EndsTag t.state mode.Tag → is_some t.state.here ≡ false → t.state.lexical.phase ≡ phase.Declared
+        → is_header (whole t.state) ≡ false → Decides t 62 t.state.places.token_at (misplaced_why (tag_here (whole t.state))) }
+    ensures ended { (t : Turn) → EndsTag t.state mode.Tag → is_some t.state.here ≡ false → t.state.lexical.phase ≡ phase.Ended
+        → Decides t 62 t.state.places.token_at (misplaced_why (tag_here (whole t.state))) }
+    ensures footer { (t : Turn) → EndsTag t.state mode.Footer → ends_stream (whole t.state) ≡ false → Decides t 62 t.state.places.token_at why.NotWellFormed }
+{}
