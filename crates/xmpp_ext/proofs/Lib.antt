@@ -1,3 +1,5 @@
+pub mod FaultLemmas
+pub mod Numbers
 pub mod PayloadLaws
 pub mod SaslLaws
 mod Worked

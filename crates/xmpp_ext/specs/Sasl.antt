@@ -1,6 +1,5 @@
 -- The elements of SASL (RFC 6120, section 6).
 use Rattle.std.specs.Prelude.{◌≡◌, ℕ, Bool, true, List, [], ◌∷◌, Option, Some, None, IsSome, codes}
-use Rattle.xmpp_ext.specs.Conditions.{condition_in}
 use Rattle.xmpp_ext.specs.Payloads.{HasNoPayload, IsPayload, base64_of}
 use Rattle.xmpp_ext.specs.declared.fault.Field.{Field}
 use Rattle.xmpp_ext.specs.declared.fault.Field.TheVariants.{Mechanism, Payload, Condition}
@@ -8,6 +7,7 @@ use Rattle.xmpp_framing.specs.Attributes.{attribute}
 use Rattle.xmpp_framing.specs.Readers.{attr_of, is_named, text_of}
 use Rattle.xmpp_framing.specs.Tidied.{text_node}
 use Rattle.xmpp_framing.specs.Trees.{Elem, element, no_nodes, child, nodes_of}
+use Rattle.xmpp_stanza.specs.Conditions.{condition_in}
 
 -- the namespace of SASL's elements
 unfoldable pub sasl : List ℕ
@@ -50,10 +50,6 @@ pub record IsFailure (e : Elem) (condition : List ℕ) : Type 0 where
 abbrev pub FailureLacks : Elem → Field → Type 0
 FailureLacks e Condition = condition_in sasl (nodes_of e) ≡ None
 FailureLacks e _ = ⊥
-
--- `abort` (section 6.4.4) has no field
-abbrev pub LacksNothing : Field → Type 0
-LacksNothing _ = ⊥
 
 -- What is written. An empty payload is written as no text.
 abbrev pub carrier : List ℕ → List ℕ → Elem

@@ -1,8 +1,8 @@
 ghost use Rattle.std.specs.Prelude.{◌≡◌, ◌≢◌, ◌≤◌, ◌↔◌, ◌<ℤ◌, pos, ℕ, List, [], codes, true};
 ghost use Rattle.base64.specs.GeneralPurpose.{IsBytes};
-ghost use Rattle.xmpp_ext.specs.Faults.{IsFault};
+ghost use Rattle.xmpp_ext.specs.Faults.{IsFault, LacksNothing};
 ghost use Rattle.xmpp_ext.specs.Payloads.{IsPayload, base64_of};
-ghost use Rattle.xmpp_ext.specs.Sasl.{AuthLacks, CarrierLacks, FailureLacks, IsAuth, IsCarrier, IsFailure, LacksNothing, abort_of, auth_of, carrier, failure_of, is_sasl};
+ghost use Rattle.xmpp_ext.specs.Sasl.{AuthLacks, CarrierLacks, FailureLacks, IsAuth, IsCarrier, IsFailure, abort_of, auth_of, carrier, failure_of, is_sasl};
 ghost use Rattle.xmpp_ext.specs.declared.fault.ExtFault.{ExtFault};
 ghost use Rattle.xmpp_ext.specs.declared.stamp_reading.StampFault.TheVariants.{BadStamp, BeforeEpoch};
 ghost use Rattle.xmpp_ext.specs.declared.fault.ExtFault.TheVariants.{NoMemory};

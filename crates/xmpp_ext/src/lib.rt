@@ -1,13 +1,15 @@
 //! The payloads of extensions as values: each is read off the tree of its element and written as one.
 #![tactic(auto)]
 
-mod conditions;
+mod bare;
 mod fault;
 mod laws;
 mod payloads;
+mod readers;
 mod sasl;
 mod stamp_reading;
 mod stamp_writing;
+mod writers;
 
 pub use fault::{ExtFault, Field};
 pub use laws::{

@@ -1,6 +1,5 @@
 ghost use Rattle.std.specs.Prelude.{◌≡◌, [], true, IfErr, IfOk};
 ghost use Rattle.std.specs.Option.{option_copied};
-ghost use Rattle.xmpp_ext.specs.Conditions.{condition_in};
 ghost use Rattle.xmpp_ext.specs.Faults.{IsFault};
 ghost use Rattle.xmpp_ext.specs.Payloads.{HasNoPayload, IsPayload, base64_of};
 ghost use Rattle.xmpp_ext.specs.Sasl.{CarrierLacks, IsCarrier, carrier, is_sasl, sasl};
@@ -8,14 +7,15 @@ ghost use Rattle.xmpp_framing.specs.Readers.{text_of};
 ghost use Rattle.xmpp_framing.specs.Tidied.{text_node};
 ghost use Rattle.xmpp_framing.specs.Trees.{element, nodes_of, no_nodes};
 ghost use Rattle.xmpp_framing.specs.Views.{elem_view};
+ghost use Rattle.xmpp_stanza.specs.Conditions.{condition_in};
 
-use crate::conditions::condition_in;
 use crate::fault::{ExtFault, Field};
 use base64::DecodeAllocError;
 use base64::engine::general_purpose::STANDARD;
 use std::alloc::Global;
 use xmpp_edge::{Bytes, NoMemory, Text};
 use xmpp_framing::{Element, Tree};
+use xmpp_stanza::condition_in;
 
 /// The namespace of SASL's elements (RFC 6120, section 6).
 pub(crate) const SASL: &str = "urn:ietf:params:xml:ns:xmpp-sasl";
@@ -41,7 +41,7 @@ pub(crate) fn is_sasl(element: &Element, name: &str) -> bool
 pub(crate) fn sasl_condition(element: &Element) -> Option<&str>
     ensures { option_copied result ≡ condition_in sasl (nodes_of (elem_view element.now)) }
 {
-    condition_in(element, SASL)
+    condition_in(&element.children, SASL)
 }
 
 // The bytes that a text stands for. `Bad(Payload)` where it is neither base64 (RFC 4648, section 4) nor a lone `=`.

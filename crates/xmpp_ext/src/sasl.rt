@@ -1,6 +1,6 @@
 ghost use Rattle.std.specs.Prelude.{◌≡◌, codes, IfErr, IfOk, IsOk, OnOk, true};
-ghost use Rattle.xmpp_ext.specs.Faults.{IsFault};
-ghost use Rattle.xmpp_ext.specs.Sasl.{AuthLacks, CarrierLacks, FailureLacks, IsAuth, IsCarrier, IsFailure, LacksNothing, abort_of, auth_of, carrier, failure_of, is_sasl};
+ghost use Rattle.xmpp_ext.specs.Faults.{IsFault, LacksNothing};
+ghost use Rattle.xmpp_ext.specs.Sasl.{AuthLacks, CarrierLacks, FailureLacks, IsAuth, IsCarrier, IsFailure, abort_of, auth_of, carrier, failure_of, is_sasl};
 
 use crate::fault::{ExtFault, Field};
 use crate::payloads::{

@@ -13,7 +13,7 @@ mod stanzas;
 mod streams;
 mod writing;
 
-pub use conditions::Condition;
+pub use conditions::{Condition, condition_in};
 pub use errors::{ErrorKind, StanzaError, StanzaErrorFault, error_element, stanza_error};
 pub use kinds::{IqKind, MessageKind, PresenceKind};
 pub use laws::{
