@@ -1,9 +1,13 @@
+pub mod CheckLemmas
 pub mod FaultLemmas
+pub mod FinLaws
+pub mod ForwardingLaws
 pub mod Numbers
 pub mod PayloadLaws
 pub mod SaslLaws
 mod Worked
 mod WorkedStamps
+pub mod WhereLemmas
 pub mod Written
 pub mod StampFacts
 pub mod StampJudged

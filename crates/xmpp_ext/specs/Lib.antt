@@ -1,6 +1,12 @@
+pub mod ArchiveAnswers
+pub mod ArchiveNames
 pub mod Bare
+pub mod Checks
 pub mod Faults
+pub mod Forwarding
+pub mod Moments
 pub mod Payloads
+pub mod ResultSets
 pub mod Sasl
 pub mod Shapes
 pub mod StampReading

@@ -1,17 +1,26 @@
 //! The payloads of extensions as values: each is read off the tree of its element and written as one.
 #![tactic(auto)]
 
+mod archive_answers;
+mod archive_laws;
+mod archive_names;
 mod bare;
 mod fault;
+mod forwarding;
 mod laws;
+mod moments;
 mod payloads;
 mod readers;
+mod result_sets;
 mod sasl;
 mod stamp_reading;
 mod stamp_writing;
 mod writers;
 
+pub use archive_answers::Fin;
+pub use archive_laws::{fin_is_exact, forwarding_is_exact};
 pub use fault::{ExtFault, Field};
+pub use forwarding::Forwarded;
 pub use laws::{
     only_stamps_are_read, payload_is_one, sasl_is_read, sasl_is_refused, stamp_is_read,
     stamps_are_read,
