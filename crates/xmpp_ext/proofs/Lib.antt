@@ -1,3 +1,4 @@
+pub mod ArchiveQueryLaws
 pub mod CheckLemmas
 pub mod FaultLemmas
 pub mod FinLaws

@@ -1,7 +1,9 @@
 pub mod ArchiveAnswers
 pub mod ArchiveNames
+pub mod ArchiveQuery
 pub mod Bare
 pub mod Checks
+pub mod DataForms
 pub mod Faults
 pub mod Forwarding
 pub mod Moments

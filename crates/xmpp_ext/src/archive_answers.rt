@@ -11,7 +11,7 @@ ghost use Rattle.xmpp_stanza.specs.Errors.{trees_where};
 use crate::archive_names::{ARCHIVE, RESULT_SETS};
 use crate::fault::{ExtFault, Field};
 use crate::readers::{flag, optional_u64};
-use crate::result_sets::{push_item, set_child, set_element, set_text};
+use crate::result_sets::{push_item, set_child, set_element, set_text, text_where};
 use crate::writers::{push_flag, push_number, push_text_child, text_element};
 use std::alloc::Global;
 use xmpp_edge::{NoMemory, Text};
@@ -47,16 +47,6 @@ fn index_in(element: &Element) -> Option<&str>
     match set_child(element, "first") {
         None => None,
         Some(first) => first.attr("", "index"),
-    }
-}
-
-// The text in a list of one, where there is one.
-fn text_where(text: &Option<Text>) -> Option<&str>
-    ensures { option_copied result ≡ text.now }
-{
-    match text {
-        None => None,
-        Some(text) => Some(text.as_str()),
     }
 }
 

@@ -4,7 +4,9 @@
 mod archive_answers;
 mod archive_laws;
 mod archive_names;
+mod archive_query;
 mod bare;
+mod data_forms;
 mod fault;
 mod forwarding;
 mod laws;
@@ -19,6 +21,7 @@ mod writers;
 
 pub use archive_answers::Fin;
 pub use archive_laws::{fin_is_exact, forwarding_is_exact};
+pub use archive_query::MamQuery;
 pub use fault::{ExtFault, Field};
 pub use forwarding::Forwarded;
 pub use laws::{

@@ -37,6 +37,16 @@ pub(crate) fn set_text(
     }
 }
 
+/// A text that may be absent, borrowed.
+pub(crate) fn text_where(text: &Option<Text>) -> Option<&str>
+    ensures { option_copied result ≡ text.now }
+{
+    match text {
+        None => None,
+        Some(text) => Some(text.as_str()),
+    }
+}
+
 /// A set without items.
 pub(crate) fn set_element(alloc: Global) -> Result<Element, NoMemory>
     ensures { IfOk result (λ e. elem_view e ≡ element result_sets (codes "set") [] no_nodes) }
