@@ -1,5 +1,5 @@
 -- Payloads whose fields are judged in an order.
-use Rattle.std.proofs.Common.{◌≡◌, Bool, true, false, Option, Some, None, is_some, List, ◌∷◌, refl, sym, ◌∙◌}
+use Rattle.std.proofs.Common.{◌≡◌, Bool, true, false, Option, Some, None, is_some, List, [], ◌∷◌, ◌++◌, refl, sym, ◌∙◌}
 use Rattle.xmpp_ext.proofs.FaultLemmas.{for_memory}
 use Rattle.xmpp_ext.specs.Checks.{Check, IsFirstWrong, first_wrong}
 use Rattle.xmpp_ext.specs.Faults.{IsFault}
@@ -22,3 +22,20 @@ right_test false field rest is right = absurd (let p = is in cc)
 
 pub same_value : {A : Type 0} (x y : A) → Some x ≡ Some y → x ≡ y
 same_value x y same = cc
+
+-- checks behind others
+pub right_behind : (front behind : List Check) → first_wrong front ≡ None → first_wrong (front ++ behind) ≡ first_wrong behind
+right_behind [] behind right = refl
+right_behind (check ∷ front) behind right = at_check check.0 check.1 right
+  where
+    at_check : (test : Bool) (field : Field) → first_wrong ((test, field) ∷ front) ≡ None → first_wrong ((test, field) ∷ front ++ behind) ≡ first_wrong behind
+    at_check true field right = right_behind front behind right
+    at_check false field right = absurd (let p = right in cc)
+
+pub wrong_front : (front behind : List Check) (field : Field) → first_wrong front ≡ Some field → first_wrong (front ++ behind) ≡ Some field
+wrong_front [] behind field wrong = absurd (let p = wrong in cc)
+wrong_front (check ∷ front) behind field wrong = at_check check.0 check.1 wrong
+  where
+    at_check : (test : Bool) (other : Field) → first_wrong ((test, other) ∷ front) ≡ Some field → first_wrong ((test, other) ∷ front ++ behind) ≡ Some field
+    at_check true other wrong = wrong_front front behind field wrong
+    at_check false other wrong = wrong

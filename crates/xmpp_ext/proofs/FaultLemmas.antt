@@ -24,3 +24,6 @@ nothing_first f g a b = absurd a
 pub some_is_there : {A : Type 0} (o : Option A) → IsSome o → o ≡ None → ⊥
 some_is_there None there none = cc there
 some_is_there (Some x) there none = cc none
+
+pub same_inside : {A : Type 0} (x y : A) → Some x ≡ Some y → x ≡ y
+same_inside x y same = cc

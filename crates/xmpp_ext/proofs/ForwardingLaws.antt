@@ -1,11 +1,12 @@
 -- Forwarded messages: what is read is exact, and what is written is a tree and read back.
-use Rattle.std.proofs.Common.{◌≡◌, ℕ, ◌≤◌, List, [], ◌∷◌, Option, Some, None, is_some, Result, Ok, Err, refl, sym, ap, ◌∙◌, subst, min, codes, arith}
+use Rattle.std.proofs.Common.{◌≡◌, ℕ, ◌≤◌, List, [], ◌∷◌, Option, Some, None, is_some, unwrap_or, Result, Ok, Err, refl, sym, ap, ◌∙◌, subst, min, codes, arith}
 use Rattle.std.specs.Result.{result_ok}
 use Rattle.xmpp_ext.proofs.CheckLemmas.{right_refused, right_value, same_value}
 use Rattle.xmpp_ext.proofs.StampJudged.{judged_ok}
 use Rattle.xmpp_ext.proofs.StampLaws.{written_read}
+use Rattle.xmpp_ext.specs.Bare.{bare}
 use Rattle.xmpp_ext.specs.Checks.{IsExactBy, first_wrong}
-use Rattle.xmpp_ext.specs.Forwarding.{Forwards, IsForwarded, WritesForwarded, delay_moment, delays, forward_checks, forwarded_checks, forwarded_elem, is_forwarded, message_in, message_read, moment_of_delay, only_message}
+use Rattle.xmpp_ext.specs.Forwarding.{Forwards, IsForwarded, WritesForwarded, delay_moment, delays, forward_checks, forwarded_checks, forwarded_elem, forwarding, is_forwarded, message_in, message_read, moment_of_delay, only_message, the_forwarded}
 use Rattle.xmpp_ext.specs.Moments.{IsStampOf, moment_in}
 use Rattle.xmpp_ext.specs.StampReading.{moment_of}
 use Rattle.xmpp_ext.specs.Stamps.{IsWritten}
@@ -75,6 +76,14 @@ forwards_again absent e written v low tree is w =
     let again = stamp_again v.stamp w.stamp (delay_low absent (child_of delays (codes "delay") e) v.stamp low is.stamp) w.spelled in
     let read = ap only_message w.read ∙ ap (λ nodes. Some (record v.message { payload = nodes })) (tidied_nodes_stay v.message.payload tidy) in
     subst (λ t. Forwards absent t v) (sym w.shape) (record { stamp = again; message = read })
+
+-- the same of a payload's child `forwarded`
+pub inside_again : (absent : Option ℕ) (e written : Elem) (v : Forwarded) → ((n : ℕ) → absent ≡ Some n → n ≤ 253402207200000) → IsTree e → Forwards absent (the_forwarded e) v → WritesForwarded v written → Forwards absent written v
+inside_again absent e written v low tree is w = at_child (child_of forwarding (codes "forwarded") e) (λ f there. child_of_IsTree forwarding (codes "forwarded") e tree f there) is
+  where
+    at_child : (given : Option Elem) → ((f : Elem) → given ≡ Some f → IsTree f) → Forwards absent (unwrap_or given (bare forwarding (codes "forwarded"))) v → Forwards absent written v
+    at_child None trees is = absurd (let p = is.message in cc)
+    at_child (Some f) trees is = forwards_again absent f written v low (trees f refl) is w
 
 pub forwards_one : (absent : Option ℕ) (e : Elem) (v w : Forwarded) → Forwards absent e v → Forwards absent e w → v ≡ w
 forwards_one absent e v w a b i = record { stamp = same_value v.stamp w.stamp (sym a.stamp ∙ b.stamp) i; message = same_value v.message w.message (sym a.message ∙ b.message) i }

@@ -4,17 +4,19 @@ use Rattle.std.specs.Fmt.{decimal}
 use Rattle.std.specs.Option.{option_and_then, option_map}
 use Rattle.xmpp_ext.specs.ArchiveNames.{archive, result_sets}
 use Rattle.xmpp_ext.specs.Checks.{Check}
+use Rattle.xmpp_ext.specs.Forwarding.{Forwards, WritesForwarded, forward_checks, the_forwarded}
 use Rattle.xmpp_ext.specs.ResultSets.{set_child, set_item, set_item_where, set_text}
-use Rattle.xmpp_ext.specs.Shapes.{attr_named, flag, optional_number}
+use Rattle.xmpp_ext.specs.Shapes.{attr_named, attr_or_empty, flag, optional_number}
 use Rattle.xmpp_ext.specs.Writing.{flag_text}
 use Rattle.xmpp_ext.specs.declared.archive_answers.Fin.{Fin}
+use Rattle.xmpp_ext.specs.declared.archive_answers.MamResult.{MamResult}
 use Rattle.xmpp_ext.specs.declared.fault.Field.TheVariants as field
 use Rattle.xmpp_framing.specs.Attributes.{attribute}
 use Rattle.xmpp_framing.specs.Readers.{is_named}
 use Rattle.xmpp_framing.specs.Tidied.{text_node}
 use Rattle.xmpp_framing.specs.Trees.{Elem, element, Nodes, no_nodes, child, joined}
 use Rattle.xmpp_stanza.specs.Errors.{trees_where}
-use Rattle.xmpp_stanza.specs.Written.{attr_where}
+use Rattle.xmpp_stanza.specs.Written.{attr_where, unless_empty}
 
 -- ---- `fin`: the end of a page (XEP-0313, section 4.2; XEP-0059, section 2.1)
 
@@ -58,3 +60,27 @@ page_elem v = element result_sets (codes "set") [] (page_items v.first v.first_i
 
 abbrev pub fin_elem : Fin → Elem
 fin_elem v = element archive (codes "fin") (attr_where [] (codes "complete") (flag_text v.complete)) (child (page_elem v) no_nodes)
+
+-- ---- `result`: an archived message (XEP-0313, section 4.2)
+
+abbrev pub is_result : Elem → Bool
+is_result e = is_named archive (codes "result") e
+
+-- the id of the query, empty where it is absent, the message's id in the archive, and the message
+pub record IsMamResult (e : Elem) (v : MamResult) : Type 0 where
+  pub named : is_result e ≡ true
+  pub queryid : v.queryid ≡ attr_or_empty (codes "queryid") e
+  pub id : attr_named (codes "id") e ≡ Some v.id
+  pub inside : Forwards None (the_forwarded e) v.forwarded
+
+abbrev pub result_checks : Elem → List Check
+result_checks e = (is_some (attr_named (codes "id") e), field.Id) ∷ forward_checks None (the_forwarded e)
+
+abbrev pub result_elem : List ℕ → List ℕ → Elem → Elem
+result_elem queryid id forwarded =
+    element archive (codes "result") (attribute [] (codes "id") id ∷ attr_where [] (codes "queryid") (unless_empty queryid)) (child forwarded no_nodes)
+
+pub record WritesMamResult (v : MamResult) (e : Elem) : Type 0 where
+  pub forwarded : Elem
+  pub forwarded_is : WritesForwarded v.forwarded forwarded
+  pub shape : e ≡ result_elem v.queryid v.id forwarded

@@ -1,6 +1,7 @@
 -- Forwarded messages (XEP-0297, section 3) with their delays (XEP-0203, section 4).
-use Rattle.std.specs.Prelude.{◌≡◌, ℕ, Bool, true, List, [], ◌∷◌, Option, Some, None, Result, Ok, Err, codes, is_some}
+use Rattle.std.specs.Prelude.{◌≡◌, ℕ, Bool, true, List, [], ◌∷◌, Option, Some, None, Result, Ok, Err, codes, is_some, unwrap_or}
 use Rattle.std.specs.Option.{option_and_then}
+use Rattle.xmpp_ext.specs.Bare.{bare}
 use Rattle.xmpp_ext.specs.Checks.{Check}
 use Rattle.xmpp_ext.specs.Moments.{IsStampOf, moment_in}
 use Rattle.xmpp_ext.specs.Shapes.{attr_named}
@@ -69,6 +70,10 @@ pub record IsForwarded (e : Elem) (v : Forwarded) : Type 0 where
 
 abbrev pub forwarded_checks : Elem → List Check
 forwarded_checks e = forward_checks None e
+
+-- the first child `forwarded` of a payload; where there is none, an empty one
+abbrev pub the_forwarded : Elem → Elem
+the_forwarded e = unwrap_or (child_of forwarding (codes "forwarded") e) (bare forwarding (codes "forwarded"))
 
 -- what is written
 abbrev pub delay_elem : List ℕ → Elem

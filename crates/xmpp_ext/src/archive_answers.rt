@@ -1,7 +1,7 @@
 // What an archive answers (XEP-0313).
 ghost use Rattle.std.specs.Prelude.{◌≡◌, None, Some, true, IfErr, IfOk, OnErr, OnOk};
 ghost use Rattle.std.specs.Option.{option_copied};
-ghost use Rattle.xmpp_ext.specs.ArchiveAnswers.{IsFin, fin_checks, fin_elem, first_item_where, index_in, is_fin, number_or_zero, page_elem};
+ghost use Rattle.xmpp_ext.specs.ArchiveAnswers.{IsFin, IsMamResult, WritesMamResult, fin_checks, fin_elem, first_item_where, index_in, is_fin, is_result, number_or_zero, page_elem, result_checks};
 ghost use Rattle.xmpp_ext.specs.Checks.{IsFirstWrong};
 ghost use Rattle.xmpp_ext.specs.Faults.{IsFault};
 ghost use Rattle.xmpp_framing.specs.Trees.{with_nodes};
@@ -10,9 +10,12 @@ ghost use Rattle.xmpp_stanza.specs.Errors.{trees_where};
 
 use crate::archive_names::{ARCHIVE, RESULT_SETS};
 use crate::fault::{ExtFault, Field};
-use crate::readers::{flag, optional_u64};
+use crate::forwarding::{Forwarded, forwarded_element, forwarded_inside};
+use crate::readers::{attr_text, flag, optional_u64};
 use crate::result_sets::{push_item, set_child, set_element, set_text, text_where};
-use crate::writers::{push_flag, push_number, push_text_child, text_element};
+use crate::writers::{
+    push_flag, push_number, push_text_child, push_unless_empty, push_value, text_element,
+};
 use std::alloc::Global;
 use xmpp_edge::{NoMemory, Text};
 use xmpp_framing::{Element, Tree};
@@ -117,5 +120,63 @@ impl Fin {
         push_flag(alloc, &mut fin, "complete", self.complete)?;
         fin.push_child(set)?;
         Tree::of(alloc, fin)
+    }
+}
+
+/// An archived message: the id of the query that it answers, which is empty where there is none, its id in the archive, and
+/// the message (XEP-0313, section 4.2).
+#[derive(Drop)]
+pub struct MamResult {
+    pub queryid: Text,
+    pub id: Text,
+    pub forwarded: Forwarded,
+}
+
+// An archived message as an element.
+fn result_element(alloc: Global, v: &MamResult) -> Result<Element, NoMemory>
+    ensures { IfOk result (λ e. WritesMamResult v.now (elem_view e)) }
+{
+    let forwarded = forwarded_element(alloc, &v.forwarded)?;
+    let mut element = Element::from_strs(alloc, ARCHIVE, "result")?;
+    push_value(alloc, &mut element, "id", v.id.as_str())?;
+    push_unless_empty(alloc, &mut element, "queryid", v.queryid.as_str())?;
+    element.push_child(forwarded)?;
+    Ok(element)
+}
+
+impl MamResult {
+    /// Reads a `result` of an archive: its attributes `queryid`, which is empty where it is absent, and `id`, and what is
+    /// forwarded in its first `forwarded`, an absent one being as an empty one. `NotThis` where the tree is another element.
+    /// Else `Bad` of the first of these that is wrong: `Id` where `id` is absent, `Stamp` where there is no delay or it has no
+    /// stamp from 1970 on, and `Stanza` where there is no message or `read_stanza` refuses it.
+    pub fn read(alloc: Global, tree: &Tree) -> Result<MamResult, ExtFault>
+        ensures ok { IfOk result (λ v. IsMamResult tree.now v) }
+        ensures err { IfErr result (IsFault (is_result tree.now) (IsFirstWrong (result_checks tree.now))) }
+    {
+        let element = tree.element();
+        if !element.is(ARCHIVE, "result") {
+            return Err(ExtFault::NotThis);
+        }
+        let Some(id) = element.attr("", "id") else {
+            return Err(ExtFault::Bad(Field::Id));
+        };
+        let forwarded = match forwarded_inside(alloc, element, None) {
+            Ok(forwarded) => forwarded,
+            Err(fault) => return Err(fault),
+        };
+        Ok(MamResult {
+            queryid: attr_text(alloc, element, "queryid")?,
+            id: Text::from_str(alloc, id)?,
+            forwarded,
+        })
+    }
+
+    /// The element as a tree. `queryid` is left out where it is empty. A moment past `LAST_MOMENT` is written as that.
+    #[tactic(auto, using(crate::proofs::ResultLaws::result_tree))]
+    pub fn tree(&self, alloc: Global) -> Result<Tree, NoMemory>
+        ensures { IfOk result (λ tree. WritesMamResult self.now tree) }
+    {
+        let element = result_element(alloc, self)?;
+        Tree::of(alloc, element)
     }
 }

@@ -283,7 +283,10 @@ impl MamQuery {
         if !element.is(ARCHIVE, "query") {
             return Err(ExtFault::NotThis);
         }
-        let filters = filters_in(alloc, element)?;
+        let filters = match filters_in(alloc, element) {
+            Ok(filters) => filters,
+            Err(fault) => return Err(fault),
+        };
         let (place, max) = limits_in(alloc, element)?;
         let query = PageQuery {
             peer: filters.peer,

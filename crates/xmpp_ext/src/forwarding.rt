@@ -1,9 +1,10 @@
 // Forwarded messages (XEP-0297) with their delays (XEP-0203).
-ghost use Rattle.std.specs.Prelude.{◌≡◌, None, Some, true, IfErr, IfOk};
+ghost use Rattle.std.specs.Prelude.{◌≡◌, None, Some, true, codes, IfErr, IfOk};
 ghost use Rattle.std.specs.Option.{option_copied, option_map};
-ghost use Rattle.xmpp_ext.specs.Checks.{IsFirstWrong};
+ghost use Rattle.xmpp_ext.specs.Bare.{bare};
+ghost use Rattle.xmpp_ext.specs.Checks.{IsFirstWrong, first_wrong};
 ghost use Rattle.xmpp_ext.specs.Faults.{IsFault};
-ghost use Rattle.xmpp_ext.specs.Forwarding.{Forwards, IsForwarded, WritesForwarded, delay_elem, delay_moment, forward_checks, forwarded_checks, is_forwarded, message_read};
+ghost use Rattle.xmpp_ext.specs.Forwarding.{Forwards, IsForwarded, WritesForwarded, delay_elem, delay_moment, forward_checks, forwarded_checks, forwarding, is_forwarded, message_read, the_forwarded};
 ghost use Rattle.xmpp_framing.specs.Views.{elem_view};
 
 use crate::fault::{ExtFault, Field};
@@ -69,6 +70,34 @@ pub(crate) fn forwarded_in(
     match message_read(alloc, element.child(CLIENT, "message")) {
         Ok(message) => Ok(Forwarded { stamp, message }),
         Err(fault) => Err(fault),
+    }
+}
+
+/// The same of the first `forwarded` of a payload. One that is absent is as an empty one.
+pub(crate) fn forwarded_inside(
+    alloc: Global,
+    payload: &Element,
+    absent: Option<u64>,
+) -> Result<Forwarded, ExtFault>
+    ensures ok { IfOk result (λ v. Forwards absent (the_forwarded (elem_view payload.now)) v) }
+    ensures err { IfErr result (IsFault true (IsFirstWrong (forward_checks absent (the_forwarded (elem_view payload.now))))) }
+{
+    let Some(element) = payload.child(FORWARDING, "forwarded") else {
+        return Err(ExtFault::Bad(field_of_empty(absent)));
+    };
+    match forwarded_in(alloc, element, absent) {
+        Ok(forwarded) => Ok(forwarded),
+        Err(fault) => Err(fault),
+    }
+}
+
+// The first field that is wrong of an empty `forwarded`.
+fn field_of_empty(absent: Option<u64>) -> Field
+    ensures { Some result ≡ first_wrong (forward_checks absent (bare forwarding (codes "forwarded"))) }
+{
+    match absent {
+        None => Field::Stamp,
+        Some(_) => Field::Stanza,
     }
 }
 

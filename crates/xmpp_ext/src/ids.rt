@@ -1,0 +1,88 @@
+// Unique and stable ids of stanzas (XEP-0359).
+ghost use Rattle.std.specs.Prelude.{◌≡◌, IfErr, IfOk};
+ghost use Rattle.xmpp_ext.specs.Faults.{IsFault};
+ghost use Rattle.xmpp_ext.specs.Ids.{IsOriginId, IsStanzaId, OriginIdLacks, StanzaIdLacks, is_origin_id, is_stanza_id, origin_id_elem, stanza_id_elem};
+
+use crate::fault::{ExtFault, Field};
+use crate::names::STANZA_IDS;
+use crate::writers::push_value;
+use std::alloc::Global;
+use xmpp_edge::{NoMemory, Text};
+use xmpp_framing::{Element, Tree};
+
+/// The id that an archive or another entity gave to a stanza, and that entity's address as it is written (XEP-0359,
+/// section 3.1).
+#[derive(Drop)]
+pub struct StanzaId {
+    pub id: Text,
+    pub by: Text,
+}
+
+/// The id that a sender gave to its stanza (XEP-0359, section 3.2).
+#[derive(Drop)]
+pub struct OriginId {
+    pub id: Text,
+}
+
+impl StanzaId {
+    /// Reads a `stanza-id` of its namespace: its attributes `id` and `by`, either of which may be empty. `NotThis` where the
+    /// tree is another element, `Bad(Id)` where `id` is absent, and else `Bad(Jid)` where `by` is absent.
+    pub fn read(alloc: Global, tree: &Tree) -> Result<StanzaId, ExtFault>
+        ensures ok { IfOk result (λ id. IsStanzaId tree.now id) }
+        ensures err { IfErr result (IsFault (is_stanza_id tree.now) (StanzaIdLacks tree.now)) }
+    {
+        let element = tree.element();
+        if !element.is(STANZA_IDS, "stanza-id") {
+            return Err(ExtFault::NotThis);
+        }
+        let Some(id) = element.attr("", "id") else {
+            return Err(ExtFault::Bad(Field::Id));
+        };
+        let Some(by) = element.attr("", "by") else {
+            return Err(ExtFault::Bad(Field::Jid));
+        };
+        Ok(StanzaId {
+            id: Text::from_str(alloc, id)?,
+            by: Text::from_str(alloc, by)?,
+        })
+    }
+
+    /// The element as a tree.
+    pub fn tree(&self, alloc: Global) -> Result<Tree, NoMemory>
+        ensures { IfOk result (λ tree. tree ≡ stanza_id_elem self.now) }
+    {
+        let mut element = Element::from_strs(alloc, STANZA_IDS, "stanza-id")?;
+        push_value(alloc, &mut element, "by", self.by.as_str())?;
+        push_value(alloc, &mut element, "id", self.id.as_str())?;
+        Tree::of(alloc, element)
+    }
+}
+
+impl OriginId {
+    /// Reads an `origin-id` of its namespace: its attribute `id`, which may be empty. `NotThis` where the tree is another
+    /// element, `Bad(Id)` where `id` is absent.
+    pub fn read(alloc: Global, tree: &Tree) -> Result<OriginId, ExtFault>
+        ensures ok { IfOk result (λ id. IsOriginId tree.now id) }
+        ensures err { IfErr result (IsFault (is_origin_id tree.now) (OriginIdLacks tree.now)) }
+    {
+        let element = tree.element();
+        if !element.is(STANZA_IDS, "origin-id") {
+            return Err(ExtFault::NotThis);
+        }
+        match element.attr("", "id") {
+            Some(id) => Ok(OriginId {
+                id: Text::from_str(alloc, id)?,
+            }),
+            None => Err(ExtFault::Bad(Field::Id)),
+        }
+    }
+
+    /// The element as a tree.
+    pub fn tree(&self, alloc: Global) -> Result<Tree, NoMemory>
+        ensures { IfOk result (λ tree. tree ≡ origin_id_elem self.now) }
+    {
+        let mut element = Element::from_strs(alloc, STANZA_IDS, "origin-id")?;
+        push_value(alloc, &mut element, "id", self.id.as_str())?;
+        Tree::of(alloc, element)
+    }
+}

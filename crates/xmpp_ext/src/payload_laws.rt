@@ -1,0 +1,43 @@
+ghost use Rattle.std.specs.Prelude.{◌≡◌, ℕ, List, codes, true};
+ghost use Rattle.xmpp_ext.specs.Bare.{bare};
+ghost use Rattle.xmpp_ext.specs.Bind.{BindResultLacks, IsBindRequest, IsBindResult, bind_request_elem, bind_result_elem, is_bind};
+ghost use Rattle.xmpp_ext.specs.Faults.{IsExact, IsFault, LacksNothing};
+ghost use Rattle.xmpp_ext.specs.Ids.{IsOriginId, IsStanzaId, OriginIdLacks, StanzaIdLacks, is_origin_id, is_stanza_id, origin_id_elem, stanza_id_elem};
+ghost use Rattle.xmpp_ext.specs.Requests.{IsCarbonsSwitch, carbons_switch_elem, is_switch};
+ghost use Rattle.xmpp_ext.specs.StreamManagement.{AckLacks, EnabledLacks, IsAck, IsEnable, IsEnabled, IsResume, IsResumed, IsSmFailed, ResumptionLacks, SmFailedLacks, ack_elem, enable_elem, enabled_elem, is_management, resume_elem, resumed_elem, sm_failed_elem};
+ghost use Rattle.xmpp_ext.specs.declared.fault.ExtFault.{ExtFault};
+ghost use Rattle.xmpp_ext.specs.declared.fault.ExtFault.TheVariants.{NoMemory};
+ghost use Rattle.xmpp_framing.specs.Readers.{is_named};
+ghost use Rattle.xmpp_framing.specs.Trees.{Elem};
+
+/// A law for each type of stream management: a tree stands for one value at most, and is refused for want of memory alone
+/// where it stands for one; one field at most is the first that is wrong; and what is written of a value that any tree
+/// stands for is read back as that value.
+pub fn stream_management_is_exact()
+    ensures enable { IsExact (is_management (codes "enable")) (λ e. LacksNothing) IsEnable enable_elem }
+    ensures enabled { IsExact (is_management (codes "enabled")) EnabledLacks IsEnabled enabled_elem }
+    ensures ack { IsExact (is_management (codes "a")) AckLacks IsAck ack_elem }
+    ensures resume { IsExact (is_management (codes "resume")) ResumptionLacks IsResume resume_elem }
+    ensures resumed { IsExact (is_management (codes "resumed")) ResumptionLacks IsResumed resumed_elem }
+    ensures failed { IsExact (is_management (codes "failed")) SmFailedLacks IsSmFailed sm_failed_elem }
+{}
+
+/// The same law for resource binding.
+pub fn binding_is_exact()
+    ensures request { IsExact is_bind (λ e. LacksNothing) IsBindRequest bind_request_elem }
+    ensures result { IsExact is_bind BindResultLacks IsBindResult bind_result_elem }
+{}
+
+/// The same law for ids of stanzas.
+pub fn stanza_ids_are_exact()
+    ensures stanza_id { IsExact is_stanza_id StanzaIdLacks IsStanzaId stanza_id_elem }
+    ensures origin_id { IsExact is_origin_id OriginIdLacks IsOriginId origin_id_elem }
+{}
+
+/// The same law for the switch of carbons, and for each type that is a bare element: `Request`, `Ping`, `DiscoInfo`,
+/// `RosterGet` and `SessionSet`.
+pub fn requests_are_exact()
+    ensures switch { IsExact is_switch (λ e. LacksNothing) IsCarbonsSwitch carbons_switch_elem }
+    ensures refused { (ns name : List ℕ) (e : Elem) (fault : ExtFault) → is_named ns name e ≡ true → IsFault (is_named ns name e) LacksNothing fault → fault ≡ NoMemory }
+    ensures read_back { (ns name : List ℕ) → is_named ns name (bare ns name) ≡ true }
+{}
