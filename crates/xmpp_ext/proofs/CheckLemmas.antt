@@ -24,18 +24,20 @@ pub same_value : {A : Type 0} (x y : A) → Some x ≡ Some y → x ≡ y
 same_value x y same = cc
 
 -- checks behind others
+behind_right : (test : Bool) (field : Field) (front behind : List Check) → (first_wrong front ≡ None → first_wrong (front ++ behind) ≡ first_wrong behind) → first_wrong ((test, field) ∷ front) ≡ None
+    → first_wrong ((test, field) ∷ front ++ behind) ≡ first_wrong behind
+behind_right true field front behind again right = again right
+behind_right false field front behind again right = absurd (let p = right in cc)
+
 pub right_behind : (front behind : List Check) → first_wrong front ≡ None → first_wrong (front ++ behind) ≡ first_wrong behind
 right_behind [] behind right = refl
-right_behind (check ∷ front) behind right = at_check check.0 check.1 right
-  where
-    at_check : (test : Bool) (field : Field) → first_wrong ((test, field) ∷ front) ≡ None → first_wrong ((test, field) ∷ front ++ behind) ≡ first_wrong behind
-    at_check true field right = right_behind front behind right
-    at_check false field right = absurd (let p = right in cc)
+right_behind (check ∷ front) behind right = behind_right check.0 check.1 front behind (right_behind front behind) right
+
+behind_wrong : (test : Bool) (other : Field) (front behind : List Check) (field : Field) → (first_wrong front ≡ Some field → first_wrong (front ++ behind) ≡ Some field) → first_wrong ((test, other) ∷ front) ≡ Some field
+    → first_wrong ((test, other) ∷ front ++ behind) ≡ Some field
+behind_wrong true other front behind field again wrong = again wrong
+behind_wrong false other front behind field again wrong = wrong
 
 pub wrong_front : (front behind : List Check) (field : Field) → first_wrong front ≡ Some field → first_wrong (front ++ behind) ≡ Some field
 wrong_front [] behind field wrong = absurd (let p = wrong in cc)
-wrong_front (check ∷ front) behind field wrong = at_check check.0 check.1 wrong
-  where
-    at_check : (test : Bool) (other : Field) → first_wrong ((test, other) ∷ front) ≡ Some field → first_wrong ((test, other) ∷ front ++ behind) ≡ Some field
-    at_check true other wrong = wrong_front front behind field wrong
-    at_check false other wrong = wrong
+wrong_front (check ∷ front) behind field wrong = behind_wrong check.0 check.1 front behind field (wrong_front front behind field) wrong

@@ -1,6 +1,7 @@
 -- The definitions of an archive's payloads, evaluated at elements in the shape of the examples of XEP-0313, XEP-0059,
 -- XEP-0297 and XEP-0280.
 use Rattle.std.proofs.Common.{◌≡◌, ℕ, true, false, List, [], ◌∷◌, Option, codes, Some, None, refl}
+use Rattle.std.specs.Fmt.{decimal}
 use Rattle.xmpp_ext.specs.ArchiveAnswers.{fin_checks, fin_elem, index_in, number_or_zero, result_checks}
 use Rattle.xmpp_ext.specs.ArchiveNames.{archive, data_forms, result_sets}
 use Rattle.xmpp_ext.specs.ArchiveQuery.{form_checks, form_elem, limit_elem, max_in, place_in, query_checks, query_elem}
@@ -40,7 +41,7 @@ bare_max : max_in (query no_nodes) ≡ Some None
 bare_max = refl
 
 -- <set><max>010</max><after>28482-98726-73623</after></set>
-next_page : Elem
+abbrev next_page : Elem
 next_page = set (child (set_item (codes "max") (codes "010")) (child (set_item (codes "after") (codes "28482-98726-73623")) no_nodes))
 
 next_right : first_wrong (query_checks next_page) ≡ None
@@ -101,14 +102,14 @@ no_value = refl
 -- <fin complete='true'><set><first index='0'>28482-98726-73623</first><last>09af3-cc343-b409f</last><count>20</count></set></fin>
 end_of_page : fin_elem (record { complete = true; first = Some (codes "28482-98726-73623"); first_index = 0; last = Some (codes "09af3-cc343-b409f"); count = 20 })
     ≡ element archive (codes "fin") (attribute [] (codes "complete") (codes "true") ∷ []) (child (element result_sets (codes "set") [] (
-      child (element result_sets (codes "first") (attribute [] (codes "index") (codes "0") ∷ []) (text (codes "28482-98726-73623") no_nodes))
-      (child (element result_sets (codes "last") [] (text (codes "09af3-cc343-b409f") no_nodes)) (child (element result_sets (codes "count") [] (text (codes "20") no_nodes)) no_nodes))
+    child (element result_sets (codes "first") (attribute [] (codes "index") (decimal 0) ∷ []) (text (codes "28482-98726-73623") no_nodes))
+    (child (element result_sets (codes "last") [] (text (codes "09af3-cc343-b409f") no_nodes)) (child (set_item (codes "count") (decimal 20)) no_nodes))
     )) no_nodes)
 end_of_page = refl
 
 -- the set of an empty page has its count alone
 empty_page : fin_elem (record { complete = true; first = None; first_index = 0; last = None; count = 0 })
-    ≡ element archive (codes "fin") (attribute [] (codes "complete") (codes "true") ∷ []) (child (element result_sets (codes "set") [] (child (element result_sets (codes "count") [] (text (codes "0") no_nodes)) no_nodes)) no_nodes)
+    ≡ element archive (codes "fin") (attribute [] (codes "complete") (codes "true") ∷ []) (child (element result_sets (codes "set") [] (child (set_item (codes "count") (decimal 0)) no_nodes)) no_nodes)
 empty_page = refl
 
 -- <fin/>

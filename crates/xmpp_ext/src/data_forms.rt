@@ -59,18 +59,12 @@ pub(crate) fn form_of(element: &Element) -> Option<&Element>
 }
 
 /// The text of a form's first field of this name, empty where the field has no value. `None` where there is no such field.
-pub(crate) fn value_in(
-    alloc: Global,
-    form: &Element,
-    name: &str,
-) -> Result<Option<Text>, NoMemory>
+pub(crate) fn value_in(alloc: Global, form: &Element, name: &str) -> Result<Option<Text>, NoMemory>
     ensures { IfOk result (λ text. text ≡ value_in name.now (elem_view form.now)) }
 {
     match find_field(&form.children, name) {
         None => Ok(None),
-        Some(field) => Ok(Some(child_text_or_empty(
-            alloc, field, DATA_FORMS, "value",
-        )?)),
+        Some(field) => Ok(Some(child_text_or_empty(alloc, field, DATA_FORMS, "value")?)),
     }
 }
 

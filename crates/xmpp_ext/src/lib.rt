@@ -28,8 +28,8 @@ mod writers;
 
 pub use archive_answers::{Fin, MamResult};
 pub use archive_laws::{
-    archived_messages_are_exact, carbons_are_exact, ends_of_pages_are_exact,
-    forwarding_is_exact, queries_are_exact,
+    archived_messages_are_exact, carbons_are_exact, ends_of_pages_are_exact, forwarding_is_exact,
+    queries_are_exact,
 };
 pub use archive_query::MamQuery;
 pub use bind::{BindRequest, BindResult};
