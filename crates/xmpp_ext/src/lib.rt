@@ -1,16 +1,25 @@
 //! The payloads of extensions as values: each is read off the tree of its element and written as one.
 #![tactic(auto)]
 
+mod archive_answers;
+mod archive_laws;
+mod archive_names;
+mod archive_query;
 mod bare;
 mod bind;
+mod carbons;
+mod data_forms;
 mod fault;
+mod forwarding;
 mod ids;
 mod laws;
+mod moments;
 mod names;
 mod payload_laws;
 mod payloads;
 mod readers;
 mod requests;
+mod result_sets;
 mod sasl;
 mod stamp_reading;
 #[cfg(test)]
@@ -21,8 +30,16 @@ mod stream_management;
 mod tests;
 mod writers;
 
+pub use archive_answers::{Fin, MamResult};
+pub use archive_laws::{
+    archived_messages_are_exact, carbons_are_exact, ends_of_pages_are_exact, forwarding_is_exact,
+    queries_are_exact,
+};
+pub use archive_query::MamQuery;
 pub use bind::{BindRequest, BindResult};
+pub use carbons::Carbon;
 pub use fault::{ExtFault, Field};
+pub use forwarding::Forwarded;
 pub use ids::{OriginId, StanzaId};
 pub use laws::{
     only_stamps_are_read, payload_is_one, sasl_is_read, sasl_is_refused, stamp_is_read,

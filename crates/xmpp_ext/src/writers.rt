@@ -102,8 +102,13 @@ pub(crate) fn push_number_where(
     }
 }
 
-// An element that contains a text, which is left out where it is empty.
-fn text_element(alloc: Global, ns: &str, name: &str, text: &str) -> Result<Element, NoMemory>
+/// An element that contains a text, which is left out where it is empty.
+pub(crate) fn text_element(
+    alloc: Global,
+    ns: &str,
+    name: &str,
+    text: &str,
+) -> Result<Element, NoMemory>
     ensures { IfOk result (λ e. elem_view e ≡ element ns.now name.now [] (text_node text.now)) }
 {
     let mut element = Element::from_strs(alloc, ns, name)?;

@@ -25,7 +25,7 @@ pub use laws::{
     written_stanzas_are_read_back,
 };
 pub use names::{CLIENT, STANZA_ERRORS, STREAM_ERRORS, STREAMS, XML};
-pub use reading::read_stanza;
+pub use reading::{read_stanza, read_stanza_element};
 pub use stanzas::{Iq, Message, Presence, Stanza, StanzaFault};
 pub use streams::{stream_condition, stream_error};
 pub use writing::{iq_tree, message_tree, presence_tree};

@@ -24,6 +24,14 @@ pub fn read_stanza(alloc: Global, tree: &Tree) -> Result<Stanza, StanzaFault>
     read_element(alloc, tree.element())
 }
 
+/// The stanza that an element is, which need not keep the rule of a tree. It is judged as by `read_stanza`.
+pub fn read_stanza_element(alloc: Global, element: &Element) -> Result<Stanza, StanzaFault>
+    ensures ok { IfOk result (λ stanza. stanza_of (elem_view element.now) ≡ Ok stanza) }
+    ensures refused { IfErr result (λ fault. fault ≢ StanzaFault.NoMemory → stanza_of (elem_view element.now) ≡ Err fault) }
+{
+    read_element(alloc, element)
+}
+
 fn read_element(alloc: Global, e: &Element) -> Result<Stanza, StanzaFault>
     ensures { Answers result (stanza_of (elem_view e.now)) }
 {

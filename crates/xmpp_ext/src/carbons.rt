@@ -1,0 +1,67 @@
+// Carbons (XEP-0280).
+ghost use Rattle.std.specs.Prelude.{◌≡◌, IfErr, IfOk};
+ghost use Rattle.xmpp_ext.specs.Carbons.{IsCarbon, WritesCarbon, carbon_checks, carbon_name, is_carbon};
+ghost use Rattle.xmpp_ext.specs.Checks.{IsFirstWrong};
+ghost use Rattle.xmpp_ext.specs.Faults.{IsFault};
+ghost use Rattle.xmpp_framing.specs.Views.{elem_view};
+
+use crate::fault::ExtFault;
+use crate::forwarding::{Forwarded, forwarded_element, forwarded_inside};
+use crate::names::CARBONS;
+use std::alloc::Global;
+use xmpp_edge::NoMemory;
+use xmpp_framing::{Element, Tree};
+
+/// A copy of a message that another of one's clients sent, or else received (XEP-0280, sections 7 and 8). The stamp of what
+/// came without a delay is 0.
+#[derive(Drop)]
+pub struct Carbon {
+    pub sent: bool,
+    pub forwarded: Forwarded,
+}
+
+// The name of the element.
+fn carbon_name(sent: bool) -> &'static str
+    ensures { result.now ≡ carbon_name sent }
+{
+    if sent { "sent" } else { "received" }
+}
+
+// A copy as an element.
+fn carbon_element(alloc: Global, v: &Carbon) -> Result<Element, NoMemory>
+    ensures { IfOk result (λ e. WritesCarbon v.now (elem_view e)) }
+{
+    let forwarded = forwarded_element(alloc, &v.forwarded)?;
+    let mut element = Element::from_strs(alloc, CARBONS, carbon_name(v.sent))?;
+    element.push_child(forwarded)?;
+    Ok(element)
+}
+
+impl Carbon {
+    /// Reads a `sent` or `received` of carbons: what is forwarded in its first `forwarded`, an absent one being as an empty one.
+    /// The moment is 0 where there is no delay. `NotThis` where the tree is another element, `Bad(Stamp)` where the delay has no
+    /// stamp from 1970 on, and else `Bad(Stanza)` where there is no message or `read_stanza` refuses it.
+    pub fn read(alloc: Global, tree: &Tree) -> Result<Carbon, ExtFault>
+        ensures ok { IfOk result (λ v. IsCarbon tree.now v) }
+        ensures err { IfErr result (IsFault (is_carbon tree.now) (IsFirstWrong (carbon_checks tree.now))) }
+    {
+        let element = tree.element();
+        let sent = element.is(CARBONS, "sent");
+        if !sent && !element.is(CARBONS, "received") {
+            return Err(ExtFault::NotThis);
+        }
+        match forwarded_inside(alloc, element, Some(0)) {
+            Ok(forwarded) => Ok(Carbon { sent, forwarded }),
+            Err(fault) => Err(fault),
+        }
+    }
+
+    /// The element as a tree, with a delay always. A moment past `LAST_MOMENT` is written as that.
+    #[tactic(auto, using(crate::proofs::CarbonLaws::carbon_tree))]
+    pub fn tree(&self, alloc: Global) -> Result<Tree, NoMemory>
+        ensures { IfOk result (λ tree. WritesCarbon self.now tree) }
+    {
+        let element = carbon_element(alloc, self)?;
+        Tree::of(alloc, element)
+    }
+}
