@@ -1,5 +1,5 @@
 -- The query of an archive: what is read is exact, and what is written is a tree and read back.
-use Rattle.std.proofs.Common.{◌≡◌, ◌≢◌, ℕ, ◌<◌, ◌≤◌, ◌^◌, Bool, true, List, [], ◌∷◌, ◌++◌, Option, Some, None, Ok, is_none, is_some, option_map, codes, refl, sym, ap, ◌∙◌, subst, arith, append-nil}
+use Rattle.std.proofs.Common.{◌≡◌, ◌≢◌, ℕ, ◌<◌, ◌≤◌, ◌^◌, true, List, [], ◌∷◌, Option, Some, None, is_none, is_some, option_map, codes, refl, sym, ap, ◌∙◌, subst, arith, append-nil}
 use Rattle.std.specs.Fmt.{decimal}
 use Rattle.std.specs.Result.{result_ok}
 use Rattle.xmpp_ext.proofs.CheckLemmas.{right_behind, right_refused, right_test, right_value, same_value, wrong_front}
@@ -8,12 +8,12 @@ use Rattle.xmpp_ext.proofs.Numbers.{optional_fits, written_number}
 use Rattle.xmpp_ext.proofs.WhereLemmas.{attr_stays, more_stays}
 use Rattle.xmpp_ext.proofs.Written.{behind_text}
 use Rattle.xmpp_ext.specs.ArchiveNames.{archive, data_forms, result_sets}
-use Rattle.xmpp_ext.specs.ArchiveQuery.{IsFiltered, IsLimited, IsMamQuery, IsStampWhere, WritesForm, WritesMamQuery, form_checks, form_elem, form_items, has_known_fields, is_for_archive, is_query, limit_elem, max_in, optional_address, optional_moment, place_in, place_item, place_of, query_checks, query_elem, set_checks}
+use Rattle.xmpp_ext.specs.ArchiveQuery.{IsFiltered, IsLimited, IsMamQuery, IsStampWhere, WritesMamQuery, form_checks, form_elem, has_known_fields, is_for_archive, is_query, limit_elem, max_in, optional_address, optional_moment, place_in, place_item, place_of, query_checks, query_elem, set_checks}
 use Rattle.xmpp_ext.specs.Checks.{IsExactBy, IsFirstWrong, first_wrong}
 use Rattle.xmpp_ext.specs.DataForms.{field_value, field_where, form_of, form_type_elem, value_in}
 use Rattle.xmpp_ext.specs.Faults.{IsFault}
 use Rattle.xmpp_ext.specs.Moments.{moment_in}
-use Rattle.xmpp_ext.specs.ResultSets.{elem_text, set_child, set_item, set_item_where, set_text}
+use Rattle.xmpp_ext.specs.ResultSets.{elem_text, set_child, set_item_where, set_text}
 use Rattle.xmpp_ext.specs.Shapes.{attr_or_empty, number_below, optional_number}
 use Rattle.xmpp_ext.specs.declared.archive_query.MamQuery.{MamQuery}
 use Rattle.xmpp_ext.specs.declared.fault.ExtFault.{ExtFault}

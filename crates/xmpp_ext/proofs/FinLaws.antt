@@ -5,16 +5,16 @@ use Rattle.xmpp_ext.proofs.CheckLemmas.{right_refused, right_value, same_value}
 use Rattle.xmpp_ext.proofs.Numbers.{spelled_fits, written_number}
 use Rattle.xmpp_ext.proofs.WhereLemmas.{attr_stays, more_stays}
 use Rattle.xmpp_ext.proofs.Written.{behind_text}
-use Rattle.xmpp_ext.specs.ArchiveAnswers.{IsFin, fin_checks, fin_elem, first_item_where, index_in, is_fin, number_or_zero, page_elem, page_items}
+use Rattle.xmpp_ext.specs.ArchiveAnswers.{IsFin, fin_checks, fin_elem, first_item_where, index_in, is_fin, number_or_zero, page_elem}
 use Rattle.xmpp_ext.specs.ArchiveNames.{archive, result_sets}
 use Rattle.xmpp_ext.specs.Checks.{IsExactBy, first_wrong}
 use Rattle.xmpp_ext.specs.ResultSets.{elem_text, set_child, set_item, set_item_where, set_text}
-use Rattle.xmpp_ext.specs.Shapes.{attr_named, flag, number_below, optional_number}
+use Rattle.xmpp_ext.specs.Shapes.{attr_named, flag, number_below}
 use Rattle.xmpp_ext.specs.Writing.{flag_text}
 use Rattle.xmpp_ext.specs.declared.archive_answers.Fin.{Fin}
 use Rattle.xmpp_ext.specs.declared.fault.Field.TheVariants as field
 use Rattle.xmpp_framing.specs.Attributes.{attribute}
-use Rattle.xmpp_framing.specs.Tidied.{text_node, tidied}
+use Rattle.xmpp_framing.specs.Tidied.{tidied}
 use Rattle.xmpp_framing.specs.Trees.{Elem, element, no_nodes, child, joined}
 use Rattle.xmpp_framing.proofs.TidyReads.{text_of-text_node}
 use Rattle.xmpp_stanza.specs.Errors.{trees_where}

@@ -6,7 +6,7 @@ use Rattle.xmpp_ext.proofs.StampJudged.{judged_ok}
 use Rattle.xmpp_ext.proofs.StampLaws.{written_read}
 use Rattle.xmpp_ext.specs.Bare.{bare}
 use Rattle.xmpp_ext.specs.Checks.{IsExactBy, first_wrong}
-use Rattle.xmpp_ext.specs.Forwarding.{Forwards, IsForwarded, WritesForwarded, delay_moment, delays, forward_checks, forwarded_checks, forwarded_elem, forwarding, is_forwarded, message_in, message_read, moment_of_delay, only_message, the_forwarded}
+use Rattle.xmpp_ext.specs.Forwarding.{Forwards, IsForwarded, WritesForwarded, delay_moment, delays, forward_checks, forwarded_checks, forwarded_elem, forwarding, is_forwarded, message_in, message_read, only_message, the_forwarded}
 use Rattle.xmpp_ext.specs.Moments.{IsStampOf, moment_in}
 use Rattle.xmpp_ext.specs.StampReading.{moment_of}
 use Rattle.xmpp_ext.specs.Stamps.{IsWritten}
@@ -15,8 +15,8 @@ use Rattle.xmpp_ext.specs.declared.forwarding.Forwarded.{Forwarded}
 use Rattle.xmpp_framing.proofs.TidyLaws.{tidied_IsTree, tidied_nodes_stay, tidied_stays}
 use Rattle.xmpp_framing.proofs.TidyReads.{child_of_IsTree, nodes_of_tree}
 use Rattle.xmpp_framing.specs.Readers.{child_of}
-use Rattle.xmpp_framing.specs.Tidied.{tidied, tidied_nodes}
-use Rattle.xmpp_framing.specs.Trees.{AreTidy, Elem, IsTree, element, child, no_nodes}
+use Rattle.xmpp_framing.specs.Tidied.{tidied}
+use Rattle.xmpp_framing.specs.Trees.{AreTidy, Elem, IsTree}
 use Rattle.xmpp_stanza.proofs.ReadingLaws.{message_law}
 use Rattle.xmpp_stanza.specs.Names.{client_ns}
 use Rattle.xmpp_stanza.specs.Readings.{stanza_of}

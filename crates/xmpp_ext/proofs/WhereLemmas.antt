@@ -1,6 +1,5 @@
 -- Children and attributes that are there or not.
-use Rattle.std.proofs.Common.{◌≡◌, List, [], ◌∷◌, ◌++◌, ℕ, Option, Some, None, option_map, refl, sym, ap, ◌∙◌}
-use Rattle.xmpp_ext.proofs.CheckLemmas.{same_value}
+use Rattle.std.proofs.Common.{◌≡◌, List, [], ◌++◌, ℕ, Option, Some, None, option_map, refl, sym, ap, ◌∙◌}
 use Rattle.xmpp_framing.proofs.Folds.{joined_assoc, joined_none}
 use Rattle.xmpp_framing.specs.Attributes.{sorted_attributes}
 use Rattle.xmpp_framing.specs.Tidied.{text_node, tidied, tidied_behind, tidied_nodes}

@@ -1,14 +1,14 @@
 -- The definitions of an archive's payloads, evaluated at elements in the shape of the examples of XEP-0313, XEP-0059,
 -- XEP-0297 and XEP-0280.
-use Rattle.std.proofs.Common.{◌≡◌, ℕ, true, false, List, [], ◌∷◌, Option, codes, Some, None, refl}
+use Rattle.std.proofs.Common.{◌≡◌, true, false, [], ◌∷◌, codes, Some, None, refl}
 use Rattle.std.specs.Fmt.{decimal}
-use Rattle.xmpp_ext.specs.ArchiveAnswers.{fin_checks, fin_elem, index_in, number_or_zero, result_checks}
+use Rattle.xmpp_ext.specs.ArchiveAnswers.{fin_checks, fin_elem, number_or_zero, result_checks}
 use Rattle.xmpp_ext.specs.ArchiveNames.{archive, data_forms, result_sets}
-use Rattle.xmpp_ext.specs.ArchiveQuery.{form_checks, form_elem, limit_elem, max_in, place_in, query_checks, query_elem}
-use Rattle.xmpp_ext.specs.Carbons.{carbon_checks, is_carbon, is_sent}
+use Rattle.xmpp_ext.specs.ArchiveQuery.{max_in, place_in, query_checks}
+use Rattle.xmpp_ext.specs.Carbons.{carbon_checks, is_sent}
 use Rattle.xmpp_ext.specs.Checks.{first_wrong}
 use Rattle.xmpp_ext.specs.DataForms.{field_elem, form_type_elem, value_in}
-use Rattle.xmpp_ext.specs.Forwarding.{delay_elem, forwarded_checks, forwarding}
+use Rattle.xmpp_ext.specs.Forwarding.{forwarded_checks, forwarding}
 use Rattle.xmpp_ext.specs.Names.{carbons}
 use Rattle.xmpp_ext.specs.ResultSets.{set_item, set_text}
 use Rattle.xmpp_ext.specs.declared.fault.Field.TheVariants as field

@@ -1,6 +1,6 @@
 -- Moments in payloads, spelled as stamps (XEP-0082).
-use Rattle.std.specs.Prelude.{◌≡◌, ℕ, min, List, Option, Some, None}
-use Rattle.std.specs.Option.{option_and_then, option_map}
+use Rattle.std.specs.Prelude.{ℕ, min, List, Option}
+use Rattle.std.specs.Option.{option_and_then}
 use Rattle.std.specs.Result.{result_ok}
 use Rattle.xmpp_ext.specs.StampReading.{moment_of}
 use Rattle.xmpp_ext.specs.Stamps.{IsWritten}

@@ -1,5 +1,5 @@
 -- Result sets (XEP-0059, section 2): the first child `set` of a payload.
-use Rattle.std.specs.Prelude.{ℕ, List, [], Option, Some, None, codes}
+use Rattle.std.specs.Prelude.{ℕ, List, [], Option, codes}
 use Rattle.std.specs.Option.{option_and_then, option_map}
 use Rattle.xmpp_ext.specs.ArchiveNames.{result_sets}
 use Rattle.xmpp_framing.specs.Readers.{child_of, text_of}
