@@ -142,9 +142,9 @@ fn said(alloc: Global, items: &Items) -> Result<String, Fail> {
     Ok(out)
 }
 
-// The fault of bytes behind a header, a byte at a time.
-fn fault_of(alloc: Global, limits: Limits, bytes: &[u8]) -> Option<Fault> {
-    let mut framer = Framer::new(alloc, limits);
+// The fault of bytes behind a header under the limits of a server, a byte at a time.
+fn fault_of(alloc: Global, bytes: &[u8]) -> Option<Fault> {
+    let mut framer = Framer::new(alloc, Limits::server());
     let mut items = Items::new(alloc);
     if framer.feed(HEADER.as_bytes(), &mut items).is_err() {
         return None;
@@ -162,11 +162,11 @@ fn fault_of(alloc: Global, limits: Limits, bytes: &[u8]) -> Option<Fault> {
 #[test]
 fn each_fault_has_its_place(rt: HostRuntime) -> Result<(), Fail> {
     for (bytes, at, why) in &FAULTS {
-        let fault = fault_of(rt.alloc(), Limits::server(), bytes);
+        let fault = fault_of(rt.alloc(), bytes);
         assert_eq!(rt;
             fault,
             Some(Fault {
-                at: AT + *at,
+                at: at.saturating_add(AT),
                 why: *why
             })
         );
@@ -208,7 +208,7 @@ fn repeated(
 // The fault of a body of so many letters.
 fn body_fault(alloc: Global, count: usize) -> Result<Option<Fault>, Fail> {
     let text = repeated(alloc, "<message><body>", "a", count, "</body></message>")?;
-    Ok(fault_of(alloc, Limits::server(), text.as_bytes()))
+    Ok(fault_of(alloc, text.as_bytes()))
 }
 
 // An element that counts 65,536 bytes is taken, and one of a byte more isn't.
@@ -228,7 +228,7 @@ fn an_element_is_as_long_as_the_limit(rt: HostRuntime) -> Result<(), Fail> {
 // The fault of so many tags in one another.
 fn depth_fault(alloc: Global, count: usize) -> Result<Option<Fault>, Fail> {
     let text = repeated(alloc, "", "<a>", count, "")?;
-    Ok(fault_of(alloc, Limits::server(), text.as_bytes()))
+    Ok(fault_of(alloc, text.as_bytes()))
 }
 
 #[test]
@@ -300,7 +300,7 @@ fn each_limit_is_told_past_its_bound(rt: HostRuntime) -> Result<(), Fail> {
         let fault = small_fault(rt.alloc(), bytes)?;
         let expected = match expected {
             Some((at, why)) => Some(Fault {
-                at: 17 + *at,
+                at: at.saturating_add(17),
                 why: *why,
             }),
             None => None,
