@@ -5,12 +5,16 @@ mod archive_answers;
 mod archive_laws;
 mod archive_names;
 mod archive_query;
+#[cfg(test)]
+mod archive_tests;
 mod bare;
 mod bind;
 mod carbons;
 mod data_forms;
 mod fault;
 mod forwarding;
+#[cfg(test)]
+mod forwarding_tests;
 mod ids;
 mod laws;
 mod moments;
