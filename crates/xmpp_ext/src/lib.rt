@@ -10,11 +10,17 @@ mod names;
 mod payload_laws;
 mod payloads;
 mod readers;
+#[cfg(test)]
+mod request_tests;
 mod requests;
+#[cfg(test)]
+mod row_trees;
 mod sasl;
 mod stamp_reading;
 mod stamp_writing;
 mod stream_management;
+#[cfg(test)]
+mod stream_management_tests;
 mod writers;
 
 pub use bind::{BindRequest, BindResult};
