@@ -26,26 +26,53 @@ fn put_attrs(alloc: Global, element: &mut Element, attrs: &[RowAttr]) -> Result<
     Ok(())
 }
 
+fn put_text(alloc: Global, element: &mut Element, text: &str) -> Result<(), NoMemory> {
+    let text = Text::from_str(alloc, text)?;
+    element.push_text(text)
+}
+
 fn leaf(alloc: Global, ns: &str, name: &str, text: &str) -> Result<Element, NoMemory> {
     let mut element = Element::from_strs(alloc, ns, name)?;
-    element.push_text(Text::from_str(alloc, text)?)?;
+    put_text(alloc, &mut element, text)?;
     Ok(element)
+}
+
+fn put_leaf(
+    alloc: Global,
+    element: &mut Element,
+    ns: &str,
+    name: &str,
+    text: &str,
+) -> Result<(), NoMemory> {
+    let child = leaf(alloc, ns, name, text)?;
+    element.push_child(child)
 }
 
 fn put_children(alloc: Global, element: &mut Element, rows: &[RowChild]) -> Result<(), NoMemory> {
     for (ns, name, text) in rows {
-        let child = leaf(alloc, ns, name, text)?;
-        element.push_child(child)?;
+        put_leaf(alloc, element, ns, name, text)?;
     }
     Ok(())
 }
 
-// The tree of a row.
-pub(crate) fn made(alloc: Global, row: &Row) -> Result<Tree, NoMemory> {
-    let (ns, name, attrs, children) = row;
+// An element with attributes and nothing inside.
+fn begun(alloc: Global, ns: &str, name: &str, attrs: &[RowAttr]) -> Result<Element, NoMemory> {
     let mut element = Element::from_strs(alloc, ns, name)?;
     put_attrs(alloc, &mut element, attrs)?;
+    Ok(element)
+}
+
+// The element of a row.
+fn filled(alloc: Global, row: &Row) -> Result<Element, NoMemory> {
+    let (ns, name, attrs, children) = row;
+    let mut element = begun(alloc, ns, name, attrs)?;
     put_children(alloc, &mut element, children)?;
+    Ok(element)
+}
+
+// The tree of a row.
+pub(crate) fn made(alloc: Global, row: &Row) -> Result<Tree, NoMemory> {
+    let element = filled(alloc, row)?;
     Tree::of(alloc, element)
 }
 
