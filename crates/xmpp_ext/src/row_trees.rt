@@ -18,10 +18,19 @@ pub(crate) type Row = (
     &'static [RowChild],
 );
 
+pub(crate) fn put_attr(
+    alloc: Global,
+    element: &mut Element,
+    name: &str,
+    value: &str,
+) -> Result<(), NoMemory> {
+    let attr = Attr::from_strs(alloc, "", name, value)?;
+    element.push_attr(attr)
+}
+
 fn put_attrs(alloc: Global, element: &mut Element, attrs: &[RowAttr]) -> Result<(), NoMemory> {
     for (name, value) in attrs {
-        let attr = Attr::from_strs(alloc, "", name, value)?;
-        element.push_attr(attr)?;
+        put_attr(alloc, element, name, value)?;
     }
     Ok(())
 }
@@ -37,7 +46,7 @@ fn leaf(alloc: Global, ns: &str, name: &str, text: &str) -> Result<Element, NoMe
     Ok(element)
 }
 
-fn put_leaf(
+pub(crate) fn put_leaf(
     alloc: Global,
     element: &mut Element,
     ns: &str,
