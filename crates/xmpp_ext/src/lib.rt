@@ -5,12 +5,16 @@ mod archive_answers;
 mod archive_laws;
 mod archive_names;
 mod archive_query;
+#[cfg(test)]
+mod archive_tests;
 mod bare;
 mod bind;
 mod carbons;
 mod data_forms;
 mod fault;
 mod forwarding;
+#[cfg(test)]
+mod forwarding_tests;
 mod ids;
 mod laws;
 mod moments;
@@ -18,14 +22,20 @@ mod names;
 mod payload_laws;
 mod payloads;
 mod readers;
+#[cfg(test)]
+mod request_tests;
 mod requests;
 mod result_sets;
+#[cfg(test)]
+mod row_trees;
 mod sasl;
 mod stamp_reading;
 #[cfg(test)]
 mod stamp_tests;
 mod stamp_writing;
 mod stream_management;
+#[cfg(test)]
+mod stream_management_tests;
 #[cfg(test)]
 mod tests;
 mod writers;
