@@ -8,3 +8,6 @@ mod Worked
 mod WorkedSpellings
 pub mod WrittenNodes
 pub mod WrittenTags
+pub mod Stacks
+pub mod OpenText
+pub mod LargerLimits

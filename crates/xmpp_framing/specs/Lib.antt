@@ -9,3 +9,11 @@ pub mod Texts
 pub mod Tidied
 pub mod Trees
 pub mod Views
+pub mod Limits
+pub mod States
+pub mod TextSteps
+pub mod MarkupSteps
+pub mod TagSteps
+pub mod Machine
+pub mod StateCodes
+pub mod FramerView

@@ -1,11 +1,11 @@
 -- A byte at a time is UTF-8, both ways.
-use Rattle.std.proofs.Common.{◌≡◌, ℕ, ◌+◌, ◌-◌, ◌*◌, ◌/◌, ◌%◌, ◌<◌, ◌≤◌, ◌⊎◌, inl, inr, ⊎_elim, true, false, ltb, List, [], ◌∷◌, ◌++◌, Some, None, refl, sym, subst, ◌∙◌, arith}
+use Rattle.std.proofs.Common.{◌≡◌, ℕ, ◌+◌, ◌-◌, ◌*◌, ◌/◌, ◌%◌, ◌<◌, ◌≤◌, ◌⊎◌, inl, inr, ⊎_elim, Bool, true, false, ltb, List, [], ◌∷◌, ◌++◌, Option, Some, None, unwrap_or, refl, sym, subst, ◌∙◌, arith}
 use Rattle.std.proofs.lemmas.Bool.{lt-ltb, le-ltb, le-leb, ltb-true, leb-true, cases_lt, cases_Bool, and_from, and_parts}
 use Rattle.std.proofs.lemmas.Bool.Decides.{nat_tests}
 use Rattle.std.proofs.lemmas.Str.{IsUtf8-append, IsUtf8-encode, IsUtf8-nil}
 use Rattle.std.specs.Str.{IsUtf8}
 use lib.Utf8.{scalar, scalars, encode, encodes, scalar_cases, low_scalar}
-use Rattle.xmpp_tokens.specs.Utf8.{is_tail, is_lead, is_second, utf8_next, utf8_run, IsPending}
+use Rattle.xmpp_tokens.specs.Utf8.{is_tail, is_lead, is_second, utf8_next, utf8_run, held_after, is_nothing, ends_character, IsPending}
 
 -- what is_second says of its bounds
 record Follows (x y : ℕ) : Type 0 where
@@ -226,3 +226,48 @@ runs_are_text (x ∷ y ∷ z ∷ []) (b ∷ bs) p e =
     IsUtf8-append (x ∷ y ∷ z ∷ b ∷ []) bs (four_is x y z b p.0 lead.1 f third.0 third.1 t.0 t.1) (runs_are_text [] bs tt (sym (run_four x y z b bs yes) ∙ e)))
     (λ (no : is_tail b ≡ false). absurd (no_next (x ∷ y ∷ z ∷ []) bs b (rw no refl) e)) (cases_Bool (is_tail b))
 runs_are_text (x ∷ y ∷ z ∷ w ∷ more) (b ∷ bs) p e = absurd p
+
+-- ---- a byte at a time
+
+subst_next : (known next : List ℕ) → IsPending known → Some known ≡ Some next → IsPending next
+subst_next known next p e = let same : known ≡ next = cc in subst IsPending same p
+
+pub next_IsPending : (held next : List ℕ) (b : ℕ) → IsPending held → utf8_next held b ≡ Some next → IsPending next
+unfolding utf8_next
+next_IsPending [] next b p e =
+    ⊎_elim (λ (small : ltb b 128 ≡ true). let n : utf8_next [] b ≡ Some [] = rw small refl in let f = sym n ∙ e in subst_next [] next tt f)
+    (λ (large : ltb b 128 ≡ false). ⊎_elim (λ (lead : is_lead b ≡ true). let n : utf8_next [] b ≡ Some (b ∷ []) = rw (large, lead) refl in let f = sym n ∙ e in subst_next (b ∷ []) next lead f)
+    (λ (other : is_lead b ≡ false). let n : utf8_next [] b ≡ None = rw (large, other) refl in let f = sym n ∙ e in absurd cc) (cases_Bool (is_lead b)))
+    (cases_Bool (ltb b 128))
+next_IsPending (x ∷ []) next b p e =
+    ⊎_elim (λ (yes : is_second x b ≡ true).
+    ⊎_elim (λ less. let n : utf8_next (x ∷ []) b ≡ Some [] = rw (yes, lt-ltb x 224 less) refl in let f = sym n ∙ e in subst_next [] next tt f)
+    (λ more. let n : utf8_next (x ∷ []) b ≡ Some (x ∷ b ∷ []) = rw (yes, le-ltb x 224 more) refl in let f = sym n ∙ e in subst_next (x ∷ b ∷ []) next (more, p, yes) f) (cases_lt x 224))
+    (λ (no : is_second x b ≡ false). let n : utf8_next (x ∷ []) b ≡ None = rw no refl in let f = sym n ∙ e in absurd cc) (cases_Bool (is_second x b))
+next_IsPending (x ∷ y ∷ []) next b p e =
+    ⊎_elim (λ (yes : is_tail b ≡ true).
+    ⊎_elim (λ less. let n : utf8_next (x ∷ y ∷ []) b ≡ Some [] = rw (yes, lt-ltb x 240 less) refl in let f = sym n ∙ e in subst_next [] next tt f)
+    (λ more. let n : utf8_next (x ∷ y ∷ []) b ≡ Some (x ∷ y ∷ b ∷ []) = rw (yes, le-ltb x 240 more) refl in let f = sym n ∙ e in subst_next (x ∷ y ∷ b ∷ []) next (more, p.1, p.2, yes) f) (cases_lt x 240))
+    (λ (no : is_tail b ≡ false). let n : utf8_next (x ∷ y ∷ []) b ≡ None = rw no refl in let f = sym n ∙ e in absurd cc) (cases_Bool (is_tail b))
+next_IsPending (x ∷ y ∷ z ∷ []) next b p e =
+    ⊎_elim (λ (yes : is_tail b ≡ true). let n : utf8_next (x ∷ y ∷ z ∷ []) b ≡ Some [] = rw yes refl in let f = sym n ∙ e in subst_next [] next tt f)
+    (λ (no : is_tail b ≡ false). let n : utf8_next (x ∷ y ∷ z ∷ []) b ≡ None = rw no refl in let f = sym n ∙ e in absurd cc) (cases_Bool (is_tail b))
+next_IsPending (x ∷ y ∷ z ∷ w ∷ more) next b p e = absurd p
+
+pub after_IsPending : (held : List ℕ) (b : ℕ) → IsPending held → IsPending (held_after held b)
+after_IsPending held b p = after (utf8_next held b) (λ next e. next_IsPending held next b p e)
+  where
+    after : (o : Option (List ℕ)) → ((next : List ℕ) → o ≡ Some next → IsPending next) → IsPending (unwrap_or o held)
+    after None f = p
+    after (Some next) f = f next refl
+
+nothing_is : (o : Option (List ℕ)) → is_nothing o ≡ true → o ≡ Some []
+nothing_is None e = absurd cc
+nothing_is (Some []) e = refl
+nothing_is (Some (x ∷ xs)) e = absurd cc
+
+pub ended_is_text : (held : List ℕ) (b : ℕ) → IsPending held → ends_character held b ≡ true → IsUtf8 (held ++ b ∷ [])
+ended_is_text held b p e = runs_are_text held (b ∷ []) p (rw (nothing_is (utf8_next held b) e) refl)
+
+pub ended_in : (held now bytes : List ℕ) (b : ℕ) (r : Bool) → IsPending held → held ≡ now → r ≡ ends_character now b → r ≡ true → held ≡ bytes → IsUtf8 (bytes ++ b ∷ [])
+ended_in held now bytes b r p same told e is = subst (λ xs. IsUtf8 (xs ++ b ∷ [])) is (ended_is_text held b p (rw same (sym told ∙ e)))

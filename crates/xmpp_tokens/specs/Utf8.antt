@@ -1,7 +1,7 @@
 -- UTF-8 a byte at a time, by the table of RFC 3629, section 4 (table 3-7 of Unicode).
-use Rattle.std.specs.Prelude.{ℕ, ◌≤◌, Bool, ◌==◌, nat_lt, if◌then◌else◌, List, [], ◌∷◌, Option, Some, None, IsTrue}
+use Rattle.std.specs.Prelude.{ℕ, ◌≤◌, Bool, true, false, ◌==◌, nat_lt, if◌then◌else◌, List, [], ◌∷◌, ◌++◌, Option, Some, None, IsTrue, unwrap_or}
 use Rattle.std.specs.Int.{is_in_range}
-use Rattle.std.specs.Option.{option_and_then}
+use Rattle.std.specs.Option.{is_some, option_and_then}
 use Rattle.xmpp_tokens.specs.Characters.{ends_forbidden}
 
 -- UTF8-tail
@@ -32,6 +32,27 @@ utf8_next (x ∷ y ∷ z ∷ more) b = if is_tail b then Some [] else None
 abbrev pub utf8_run : List ℕ → List ℕ → Option (List ℕ)
 utf8_run held [] = Some held
 utf8_run held (b ∷ bs) = option_and_then (λ next. utf8_run next bs) (utf8_next held b)
+
+-- a byte can continue the character in hand, or begin one
+abbrev pub continues : List ℕ → ℕ → Bool
+continues held b = is_some (utf8_next held b)
+
+-- the bytes of the character in hand after one more byte, which may be none of them
+abbrev pub held_after : List ℕ → ℕ → List ℕ
+held_after held b = unwrap_or (utf8_next held b) held
+
+abbrev pub is_nothing : Option (List ℕ) → Bool
+is_nothing None = false
+is_nothing (Some []) = true
+is_nothing (Some (x ∷ xs)) = false
+
+-- a byte ends a character
+abbrev pub ends_character : List ℕ → ℕ → Bool
+ends_character held b = is_nothing (utf8_next held b)
+
+-- the character that a byte ends, or nothing
+abbrev pub ended_character : List ℕ → ℕ → List ℕ
+ended_character held b = if ends_character held b then held ++ b ∷ [] else []
 
 -- bytes that begin a character and don't end it
 abbrev pub IsPending : List ℕ → Type 0

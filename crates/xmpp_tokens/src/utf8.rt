@@ -1,16 +1,17 @@
-ghost use Rattle.std.specs.Prelude.{◌≡◌, ◌≤◌, ℕ, List, [], ◌++◌, Some, None, length, take, is_ok, OnErr, if◌then◌else◌};
+ghost use Rattle.std.specs.Prelude.{◌≡◌, ◌≤◌, ℕ, List, [], ◌++◌, Some, None, length, take, is_ok, string_bytes, OnOk, OnErr, if◌then◌else◌};
 ghost use Rattle.std.specs.Option.{option_map};
 ghost use Rattle.std.specs.Result.{result_ok};
 ghost use Rattle.std.specs.Str.{IsUtf8};
 ghost use Rattle.std.specs.Str.Lossy.{utf8_valid_len};
 ghost use Rattle.xmpp_tokens.specs.Held.{held_bytes};
 ghost use Rattle.xmpp_tokens.specs.Utf8;
-ghost use Rattle.xmpp_tokens.specs.Utf8.{IsPending, ends_forbidden_character, utf8_next, utf8_run};
+ghost use Rattle.xmpp_tokens.specs.Utf8.{IsPending, continues, ended_character, ends_character, ends_forbidden_character, held_after, utf8_next, utf8_run};
 
 use crate::characters::ends_forbidden;
 use std::error::Error;
 use std::fmt;
 use std::marker::Model;
+use xmpp_edge::NoMemory;
 
 /// A byte can't continue the character in hand (RFC 3629, section 4).
 #[derive(Clone, Copy, Debug, PartialEq, Eq)]
@@ -45,8 +46,11 @@ impl Model for PartialCharacter {
     ghost Value = { List ℕ };
 
     ghost use Rattle.xmpp_tokens.specs.Held.{held_bytes};
+    ghost use Rattle.xmpp_tokens.specs.Utf8.{IsPending};
 
     ghost view = { λ p. held_bytes p.held };
+
+    ghost invariant = { λ p. IsPending (held_bytes p.held) };
 }
 
 // Whether a byte is the second or a later one of a character (UTF8-tail).
@@ -125,10 +129,45 @@ impl PartialCharacter {
     /// as it was.
     pub fn take(&mut self, b: u8) -> Result<(), NotUtf8>
         ensures next { utf8_next self.old b ≡ (if is_ok result then Some self.new else None) }
+        ensures after { self.new ≡ held_after self.old b }
         ensures refused { OnErr result (self.new ≡ self.old) }
     {
         self.held = next_held(self.held, b)?;
         Ok(())
+    }
+
+    /// Whether the next byte can continue the character in hand, or begin one.
+    pub fn continues(&self, b: u8) -> bool
+        ensures { result ≡ continues self.now b }
+    {
+        next_held(self.held, b).is_ok()
+    }
+
+    /// Whether the next byte ends a character.
+    pub fn ends(&self, b: u8) -> bool
+        ensures { result ≡ ends_character self.now b }
+    {
+        match next_held(self.held, b) {
+            Ok(Held::Nothing) => true,
+            _ => false,
+        }
+    }
+
+    /// Adds the character that the next byte ends to a text, and nothing where it ends none. A refusal leaves the text
+    /// as it was.
+    pub fn append_ended(&self, b: u8, text: &mut String) -> Result<(), NoMemory>
+        ensures ok { OnOk result (string_bytes text.new ≡ string_bytes text.old ++ ended_character self.now b) }
+        ensures err { OnErr result (string_bytes text.new ≡ string_bytes text.old) }
+    {
+        if !self.ends(b) {
+            return Ok(());
+        }
+        match self.held {
+            Held::Nothing => push_bytes(text, &[b]),
+            Held::One(x) => push_bytes(text, &[x, b]),
+            Held::Two(x, y) => push_bytes(text, &[x, y, b]),
+            Held::Three(x, y, z) => push_bytes(text, &[x, y, z, b]),
+        }
     }
 
     /// Whether the next byte ends a character that is none of XML's: a control character, or U+FFFE or U+FFFF.
@@ -140,6 +179,19 @@ impl PartialCharacter {
             _ => ends_forbidden(0, 0, b),
         }
     }
+}
+
+// Adds bytes that are UTF-8 to a text.
+fn push_bytes(text: &mut String, bytes: &[u8]) -> Result<(), NoMemory>
+    requires { IsUtf8 bytes.now }
+    ensures ok { OnOk result (string_bytes text.new ≡ string_bytes text.old ++ bytes.now) }
+    ensures err { OnErr result (string_bytes text.new ≡ string_bytes text.old) }
+{
+    match str::from_utf8(bytes) {
+        Ok(characters) => text.push_str(characters)?,
+        Err(_) => unreachable!(),
+    }
+    Ok(())
 }
 
 /// How many bytes of a slice are whole characters of UTF-8, from the front on.

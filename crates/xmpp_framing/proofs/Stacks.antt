@@ -1,0 +1,27 @@
+-- The stacks of a framer, outermost first, as the lists of the definitions, innermost first.
+use Rattle.std.proofs.Common.{◌≡◌, ℕ, ◌<◌, ◌≤◌, List, [], ◌∷◌, ◌++◌, Vec, Some, Ok, Err, Result, map, reverse, refl, sym, ap, ◌∙◌, append_assoc, arith}
+use Rattle.std.proofs.lemmas.List.{append-nil, map-append, reverse-append}
+use Rattle.std.specs.declared.alloc.Global.{Global}
+use Rattle.xmpp_names.specs.Scopes.{Scope, scope_of}
+use Rattle.xmpp_names.specs.declared.scopes.Binding.{Binding}
+use Rattle.xmpp_framing.specs.FramerView.{open_of, opens_of, own_of, scopes_of}
+use Rattle.xmpp_framing.specs.States.{OpenElement}
+use Rattle.xmpp_framing.specs.TagSteps.{scope_in}
+use Rattle.xmpp_framing.specs.declared.states.Open.{Open}
+
+pub opens_push : (os : List Open) (o : Open) → opens_of (os ++ o ∷ []) ≡ open_of o ∷ opens_of os
+opens_push os o = ap (map open_of) (reverse-append os (o ∷ []))
+
+pub scopes_push : (vs : List (Vec Binding Global)) (v : Vec Binding Global) → scopes_of (vs ++ v ∷ []) ≡ v.items ∷ scopes_of vs
+scopes_push vs v = ap (map own_of) (reverse-append vs (v ∷ []))
+
+scope_append : (xs ys : List Scope) → scope_in (xs ++ ys) ≡ scope_in xs ++ scope_in ys
+scope_append [] ys = refl
+scope_append (x ∷ xs) ys = ap (λ s. x ++ s) (scope_append xs ys) ∙ sym (append_assoc x (scope_in xs) (scope_in ys))
+
+-- the scope of a stack
+pub scope_is : (vs : List (Vec Binding Global)) → scope_of vs ≡ scope_in (scopes_of vs)
+scope_is [] = refl
+scope_is (v ∷ vs) =
+    let apart : scopes_of (v ∷ vs) ≡ scopes_of vs ++ v.items ∷ [] = ap (map own_of) (reverse-append (v ∷ []) vs) ∙ map-append own_of (reverse vs) (v ∷ []) in
+    rw apart (ap (λ s. s ++ v.items) (scope_is vs) ∙ (ap (λ o. scope_in (scopes_of vs) ++ o) (sym (append-nil v.items)) ∙ sym (scope_append (scopes_of vs) (v.items ∷ []))))

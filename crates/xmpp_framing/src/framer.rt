@@ -1,0 +1,208 @@
+//! A framer, and the small changes of its state.
+ghost use Rattle.std.specs.Prelude.{◌≡◌, ◌≤◌, Some, None, OnOk};
+ghost use Rattle.std.specs.Option.{is_some};
+ghost use Rattle.xmpp_framing.specs.Machine.{passed};
+ghost use Rattle.xmpp_framing.specs.States;
+ghost use Rattle.xmpp_framing.specs.States.{counted, fails, from_start, gathered, gathered_in, item_begun, item_ended, token_begun, token_ended, token_fails};
+
+use crate::faults::{Fault, Why};
+use crate::limits::Limits;
+use crate::states::{Lexical, Mode, Open, Phase, Places};
+use std::alloc::Global;
+use std::marker::Model;
+use xmpp_edge::{NoMemory, Text};
+use xmpp_names::Binding;
+use xmpp_tokens::PartialCharacter;
+
+/// A stream parser: from bytes in whatever pieces to headers, elements and footers, or the first fault with its place
+/// (RFC 6120, sections 4 and 11; XML 1.0; Namespaces in XML 1.0). Contracts see it as the state of a machine that takes a
+/// byte at a time.
+#[derive(Drop)]
+pub struct Framer {
+    pub(crate) alloc: Global,
+    pub(crate) limits: Limits,
+    pub(crate) places: Places,
+    pub(crate) lexical: Lexical,
+    pub(crate) token: Vec<u8>,
+    pub(crate) pending: PartialCharacter,
+    pub(crate) chars: String,
+    pub(crate) here: Option<Open>,
+    pub(crate) below: Vec<Open>,
+    pub(crate) scopes: Vec<Vec<Binding>>,
+    pub(crate) name: Text,
+    pub(crate) fault: Option<Fault>,
+}
+
+impl Model for Framer {
+    ghost use Rattle.xmpp_framing.specs.States.{State};
+    ghost use Rattle.xmpp_framing.specs.StateCodes.{state_coded};
+
+    ghost Value = { State };
+
+    ghost coded = { state_coded };
+
+    ghost use Rattle.xmpp_framing.specs.FramerView.{state_of};
+
+    ghost view = { state_of };
+}
+
+impl Framer {
+    /// A framer before the first byte of a stream. It takes no memory.
+    pub fn new(alloc: Global, limits: Limits) -> Framer
+        requires { 1 ≤ limits.bytes }
+        ensures { result ≡ from_start limits }
+    {
+        Framer {
+            alloc,
+            limits,
+            places: Places {
+                at: 0,
+                item_at: 0,
+                token_at: 0,
+                used: 0,
+            },
+            lexical: Lexical {
+                phase: Phase::First,
+                mode: Mode::Text,
+                quote: None,
+                in_run: false,
+                returned: false,
+                brackets: 0,
+                spoiled: false,
+                spent: false,
+            },
+            token: Vec::new(alloc),
+            pending: PartialCharacter::new(),
+            chars: String::new(alloc),
+            here: None,
+            below: Vec::new(alloc),
+            scopes: Vec::new(alloc),
+            name: Text::new(alloc),
+            fault: None,
+        }
+    }
+
+    // The stream has a fault.
+    pub(crate) fn fail(&mut self, at: u64, why: Why)
+        ensures { self.new ≡ fails self.old at why }
+    {
+        self.fault = Some(Fault { at, why });
+    }
+
+    // The token in hand has a fault.
+    pub(crate) fn fail_token(&mut self, why: Why)
+        ensures { self.new ≡ token_fails self.old why }
+    {
+        self.fault = Some(Fault {
+            at: self.places.token_at,
+            why,
+        });
+    }
+
+    // Counts a byte where what it belongs to is counted.
+    pub(crate) fn count(&mut self)
+        ensures { self.new ≡ counted self.old }
+    {
+        if self.places.used != 0 {
+            self.places.used = self.places.used.saturating_add(1);
+        }
+    }
+
+    // The byte is behind.
+    pub(crate) fn pass(&mut self, b: u8)
+        ensures { self.new ≡ passed self.old b }
+    {
+        self.places.at = self.places.at.saturating_add(1);
+        match self.pending.take(b) {
+            Ok(()) => {}
+            Err(_) => {}
+        }
+    }
+
+    // A token ends, and nothing is in hand.
+    pub(crate) fn end_token(&mut self)
+        ensures { self.new ≡ token_ended self.old }
+    {
+        self.token.clear();
+        self.lexical.mode = Mode::Text;
+        self.lexical.quote = None;
+        self.lexical.in_run = false;
+        self.lexical.spoiled = false;
+    }
+
+    // What stands between top-level elements ends.
+    pub(crate) fn end_item(&mut self)
+        ensures { self.new ≡ item_ended self.old }
+    {
+        self.end_token();
+        self.places.used = 0;
+    }
+
+    // A run of text begins, unless one has.
+    pub(crate) fn begin_run(&mut self)
+        ensures { self.new ≡ States.in_run self.old }
+    {
+        if self.lexical.in_run {
+            return;
+        }
+        self.places.token_at = self.places.at;
+        self.lexical.in_run = true;
+        self.lexical.returned = false;
+        self.lexical.brackets = 0;
+    }
+
+    // A token begins with the next byte.
+    pub(crate) fn begin_token(&mut self, mode: Mode)
+        ensures { self.new ≡ token_begun self.old mode }
+    {
+        self.places.token_at = self.places.at;
+        self.lexical.mode = mode;
+        self.lexical.in_run = false;
+        self.lexical.returned = false;
+        self.lexical.brackets = 0;
+    }
+
+    // An element, header tag or declaration may begin with the next byte.
+    pub(crate) fn begin_item(&mut self)
+        ensures { self.new ≡ item_begun self.old }
+    {
+        if self.here.is_none() {
+            self.places.item_at = self.places.at;
+            self.places.used = 1;
+        }
+    }
+
+    // A byte more in the token.
+    pub(crate) fn gather(&mut self, b: u8) -> Result<(), NoMemory>
+        ensures { OnOk result (self.new ≡ gathered self.old b) }
+    {
+        self.token.push(b)?;
+        Ok(())
+    }
+
+    // A byte more in the token, which is of this kind.
+    pub(crate) fn gather_in(&mut self, mode: Mode, b: u8) -> Result<(), NoMemory>
+        ensures { OnOk result (self.new ≡ gathered_in self.old mode b) }
+    {
+        self.lexical.mode = mode;
+        self.token.push(b)?;
+        Ok(())
+    }
+
+    // Whether an element is open.
+    pub(crate) fn is_inside(&self) -> bool
+        ensures { result ≡ is_some self.now.here }
+    {
+        self.here.is_some()
+    }
+
+    // Whether a declaration may stand here.
+    pub(crate) fn may_declare(&self) -> bool
+        ensures { result ≡ States.may_declare self.now }
+    {
+        match self.lexical.phase {
+            Phase::First | Phase::Between => self.here.is_none(),
+            Phase::FirstDeclared | Phase::Declared | Phase::Ended => false,
+        }
+    }
+}

@@ -1,0 +1,17 @@
+use crate::trees::Tree;
+use xmpp_edge::ListOf;
+use xmpp_names::Header;
+
+/// What a stream says, one thing after another (RFC 6120, section 4).
+#[derive(Drop)]
+pub enum Item {
+    /// A header, with the place of its tag's first byte in the stream.
+    Header { at: u64, header: Header },
+    /// A top-level element.
+    Element(Tree),
+    /// The end of the stream.
+    Footer,
+}
+
+/// Items, in order.
+pub type Items = ListOf<Item>;
