@@ -1,6 +1,11 @@
 pub mod AttributeOrder
+pub mod CanonLaws
 pub mod Folds
+pub mod HeaderLaws
 pub mod RuleSteps
+pub mod SpelledAttributes
+pub mod SpelledNames
+pub mod SpelledTexts
 pub mod TidyLaws
 pub mod TidyReads
 pub mod TidySteps

@@ -1,11 +1,15 @@
 -- The written spelling, evaluated at elements that were worked out beforehand.
-use Rattle.std.proofs.Common.{◌≡◌, [], ◌∷◌, ◌++◌, Some, None, refl}
-use Rattle.std.specs.Prelude.{codes}
+use Rattle.std.proofs.Common.{true, false, true≢false, ℕ, List, ◌≡◌, [], ◌∷◌, ◌++◌, Some, None, refl}
+use Rattle.std.specs.List.{list_all}
+use Rattle.std.specs.Prelude.{codes, ◌==◌, ◌||◌, not}
+use lib.Utf8.{encode}
+use Rattle.xmpp_tokens.specs.References.{referred}
 use Rattle.xmpp_tokens.specs.Spelling.{text_byte, value_byte}
 use Rattle.xmpp_names.specs.Scopes.{xml_namespace}
 use Rattle.xmpp_names.specs.declared.headers.Header.{Header}
 use Rattle.xmpp_framing.specs.Attributes.{attribute}
 use Rattle.xmpp_framing.specs.Canon.{assignment, canon, client_namespace, declared_default, default_inside, next_number, number_text, spelled_attribute, spelled_name, streams_namespace, written_footer, written_header}
+use Rattle.xmpp_framing.specs.Texts.{IsCharacterData, SpellsText, data_alone, has_section_end, line_ends, with_reference, with_section}
 use Rattle.xmpp_framing.specs.Trees.{element, no_nodes, child, text}
 
 -- no attribute, nothing inside, the default in force
@@ -56,3 +60,27 @@ client_header = refl
 
 footer : written_footer ≡ codes "</stream:stream>"
 footer = refl
+
+-- ---- other spellings: line ends, references and CDATA sections in a text, white space and quotes in a tag
+
+ends : line_ends (97 ∷ 13 ∷ 10 ∷ 98 ∷ 13 ∷ 13 ∷ 10 ∷ 10 ∷ 99 ∷ []) ≡ 97 ∷ 10 ∷ 98 ∷ 10 ∷ 10 ∷ 10 ∷ 99 ∷ []
+ends = refl
+
+section_end : has_section_end (codes "a]]>") ≡ true
+section_end = refl
+
+no_section_end_yet : has_section_end (codes "]] >]>") ≡ false
+no_section_end_yet = refl
+
+some_data : (bytes : List ℕ) → list_all (λ b. not (b == 60 || b == 38)) bytes ≡ true → has_section_end bytes ≡ false → IsCharacterData bytes
+some_data bytes marks ends = record { no_markup = marks; no_section_end = ends }
+
+a_section : SpellsText (codes "a" ++ 13 ∷ 10 ∷ codes "<![CDATA[<&]]]]>&#65;&lt;b") (codes "a" ++ 10 ∷ codes "<&]]A<b")
+unfolding referred encode
+a_section =
+    with_section _ _ (codes "a" ++ 13 ∷ 10 ∷ []) (codes "<&]]") (codes "&#65;&lt;b") (codes "A<b") (some_data _ refl refl) refl
+    (with_reference _ _ [] (codes "#65") (codes "&lt;b") (codes "<b") 65 (some_data _ refl refl) refl
+    (with_reference _ _ [] (codes "lt") (codes "b") (codes "b") 60 (some_data _ refl refl) refl (data_alone _ _ (some_data (codes "b") refl refl) refl) refl refl) refl refl) refl refl
+
+bare_section_end : ¬ (IsCharacterData (codes "]]>"))
+bare_section_end h = true≢false h.no_section_end

@@ -1,8 +1,9 @@
 -- The elements that have a spelling (XML 1.0, section 2.2; Namespaces in XML 1.0, section 3).
-use Rattle.std.specs.Prelude.{ℕ, ◌≡◌, ◌≢◌, true, List, [], codes}
+use Rattle.std.specs.Prelude.{ℕ, ◌≡◌, ◌≢◌, true, List, [], codes, IfSome}
 use Rattle.std.specs.List.{AllByRecursion}
 use Rattle.xmpp_tokens.specs.Characters.{is_name}
 use Rattle.xmpp_names.specs.Scopes.{xml_namespace, xmlns_namespace}
+use Rattle.xmpp_names.specs.declared.headers.Header.{Header}
 use Rattle.xmpp_framing.specs.Attributes.{Attribute}
 use Rattle.xmpp_framing.specs.Spells.{IsHeaderName}
 use Rattle.xmpp_framing.specs.Texts.{IsCharacters}
@@ -41,3 +42,11 @@ abbrev mutual
 pub record IsPlain (e : Elem) : Type 0 where
   pub inside : IsPlainElement e
   pub no_header : ¬ (IsHeaderName (namespace_of e) (name_of e))
+
+-- a header whose values have a spelling
+pub record IsPlainHeader (h : Header) : Type 0 where
+  pub to : IfSome h.to IsCharacters
+  pub from : IfSome h.from IsCharacters
+  pub id : IfSome h.id IsCharacters
+  pub version : IfSome h.version IsCharacters
+  pub lang : IfSome h.lang IsCharacters

@@ -73,3 +73,16 @@ bind prefix ns = record { prefix = prefix; ns = ns }
 -- the scope of a header that is written
 abbrev pub written_scope : Scope
 written_scope = bind [] client_namespace ∷ bind (codes "stream") streams_namespace ∷ []
+
+-- what a header that is written says: it is the stream's header, with these values
+abbrev pub as_written : Header → Header
+as_written h = record {
+  ns = streams_namespace;
+  name = codes "stream";
+  content = client_namespace;
+  to = h.to;
+  from = h.from;
+  id = h.id;
+  version = h.version;
+  lang = h.lang;
+}

@@ -25,6 +25,7 @@ mod texts_in_hand;
 mod tidying;
 mod trees;
 mod writing;
+mod writing_laws;
 #[cfg(test)]
 mod writing_tests;
 
@@ -39,3 +40,4 @@ pub use limits::Limits;
 pub use reading::{find_attr, find_child, next_element, only_text_in, text_in};
 pub use trees::Tree;
 pub use writing::{spelled_len, write, write_footer, write_header};
+pub use writing_laws::{written_headers_are_spelled, written_trees_are_spelled};
