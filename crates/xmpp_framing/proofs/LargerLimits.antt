@@ -1,17 +1,27 @@
 -- A tag within limits is within larger ones, and says the same.
-use Rattle.std.proofs.Common.{◌≡◌, ℕ, ◌<◌, ◌≤◌, ◌^◌, List, [], ◌∷◌, Ok, All, length, arith}
+use Rattle.std.proofs.Common.{◌≡◌, ℕ, Bool, sym, ◌<◌, ◌≤◌, ◌^◌, List, [], ◌∷◌, Ok, All, length, arith}
 use Rattle.xmpp_names.proofs.StartLaws as laws
 use Rattle.xmpp_names.specs.Grammar.{IsShort, IsStart, IsWithin}
 use Rattle.xmpp_names.specs.Scopes.{Scope}
 use Rattle.xmpp_names.specs.Starts.{Tag, start_of}
 use Rattle.xmpp_names.specs.declared.limits.TagLimits.{TagLimits}
-use Rattle.xmpp_framing.specs.TagSteps.{largest_limits}
+use Rattle.xmpp_names.specs.Headers.{opens_stream}
+use Rattle.xmpp_framing.specs.States.{State}
+use Rattle.xmpp_framing.specs.TagSteps.{is_header, largest_limits, scope_in, says_stream, tag_here, tag_limits}
 
 shorter : (a b : ℕ) (own : Scope) → a ≤ b → All (IsShort a) own → All (IsShort b) own
-shorter a b own le all = ?
+shorter a b own le all = λ k d h. let first = all k d h in omega arith
 
 pub in_largest : (limits : TagLimits) (scope : Scope) (bytes : List ℕ) (t : Tag) → limits.attributes < 2 ^ 32 → limits.namespace_bytes < 2 ^ 32
     → start_of limits scope bytes ≡ Ok t → start_of largest_limits scope bytes ≡ Ok t
 in_largest limits scope bytes t few short e =
     let w = (laws.read limits scope bytes t).0 e in
-    (laws.read largest_limits scope bytes t).1 (w.0, (w.1, (?, ?)))
+    let most : length w.0 ≤ limits.attributes = w.2.0 in
+    (laws.read largest_limits scope bytes t).1 (w.0, w.1, (omega arith, shorter limits.namespace_bytes 4294967295 t.bindings (omega arith) w.2.1))
+
+pub header_is : (s : State) (t : Tag) (limits : TagLimits) (r : Bool) → limits ≡ tag_limits s.limits → limits.attributes < 2 ^ 32 → limits.namespace_bytes < 2 ^ 32
+    → tag_here s ≡ Ok t → r ≡ opens_stream t → r ≡ is_header s
+unfolding is_header
+header_is s t limits r same few short e is =
+    let larger : start_of largest_limits (scope_in s.scopes) s.token ≡ Ok t = in_largest limits (scope_in s.scopes) s.token t few short (rw same e) in
+    rw larger is

@@ -16,3 +16,5 @@ pub mod WrittenTags
 pub mod Stacks
 pub mod OpenText
 pub mod LargerLimits
+pub mod ItemsGrow
+pub mod Pieces

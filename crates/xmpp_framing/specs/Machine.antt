@@ -1,6 +1,6 @@
 -- A framer as a machine: how its state and the items change with each byte. What decides a fault or an item is said of
 -- whole tokens, at the byte that ends or breaks them.
-use Rattle.std.specs.Prelude.{ℕ, nat_lt, nat_le, Bool, not, ◌&&◌, ◌||◌, ◌==◌, if◌then◌else◌, List, [], ◌∷◌, Option, Some, None}
+use Rattle.std.specs.Prelude.{ℕ, ◌≡◌, ◌<◌, ◌≤◌, ◌++◌, length, take, nat_lt, nat_le, Bool, not, ◌&&◌, ◌||◌, ◌==◌, if◌then◌else◌, List, [], ◌∷◌, Option, Some, None}
 use Rattle.std.specs.Option.{is_some}
 use Rattle.xmpp_tokens.specs.Tags.{is_empty}
 use Rattle.xmpp_tokens.specs.Utf8.{continues, held_after}
@@ -8,6 +8,10 @@ use Rattle.xmpp_framing.specs.MarkupSteps.{in_bang, in_declaration, in_question}
 use Rattle.xmpp_framing.specs.States.{State, Turn, counted, fails, is_opening, is_text, may_declare, moved, next_place, token_place}
 use Rattle.xmpp_framing.specs.TagSteps.{in_footer, in_opening, in_tag}
 use Rattle.xmpp_framing.specs.TextSteps.{in_reference, in_section, in_text}
+use Rattle.xmpp_framing.specs.declared.faults.Fault.{Fault}
+use Rattle.xmpp_framing.specs.declared.faults.FeedFault.{FeedFault}
+use Rattle.xmpp_framing.specs.declared.faults.FeedFault.TheVariants as feed
+use Rattle.xmpp_framing.specs.declared.items.Item.{Item}
 use Rattle.xmpp_framing.specs.declared.faults.Why.TheVariants.{Encoding, TooLong}
 use Rattle.xmpp_framing.specs.declared.states.Mode.{Mode}
 use Rattle.xmpp_framing.specs.declared.states.Mode.TheVariants as mode
@@ -62,3 +66,24 @@ unfoldable pub part_of : State → Option ℕ
 part_of s =
     if is_some s.fault || s.lexical.spent then None
     else (if is_some s.here || (not (is_text s.lexical.mode) || not (is_empty s.pending)) then Some s.places.item_at else None)
+
+-- ---- what a call says
+
+abbrev pub IsFrontOf : List Item → List Item → Type 0
+IsFrontOf front all = (more : List Item) × (all ≡ front ++ more)
+
+-- a turn that takes the first n bytes
+pub record TakesFront (old new : Turn) (bytes : List ℕ) (n : ℕ) : Type 0 where
+  pub some : 0 < n
+  pub bound : n ≤ length bytes
+  pub done : new ≡ run old (take n bytes)
+
+-- an answer is a state's fault, or no fault
+abbrev pub IsFault : FeedFault → Option Fault → Type 0
+IsFault (feed.Fault f) fault = fault ≡ Some f
+IsFault feed.NoMemory fault = ⊥
+
+-- an answer is the fault of the run of all bytes, or want of memory
+abbrev pub HasFault : FeedFault → Turn → Turn → List ℕ → Type 0
+HasFault (feed.Fault f) old new bytes = (new ≡ run old bytes) × (new.state.fault ≡ Some f)
+HasFault feed.NoMemory old new bytes = Unit {0}

@@ -10,6 +10,7 @@ use Rattle.xmpp_names.specs.Headers.{header_of, opens_stream}
 use Rattle.xmpp_names.specs.Scopes.{Scope}
 use Rattle.xmpp_names.specs.Starts.{Tag, start_of}
 use Rattle.xmpp_names.specs.declared.expansion.ExpandedAttribute.{ExpandedAttribute}
+use Rattle.xmpp_names.specs.declared.headers.Header.{Header}
 use Rattle.xmpp_names.specs.declared.faults.StartFault.{StartFault}
 use Rattle.xmpp_names.specs.declared.faults.StartFault.TheVariants as start
 use Rattle.xmpp_names.specs.declared.limits.TagLimits.{TagLimits}
@@ -174,10 +175,8 @@ abbrev pub headed : State → Tag → State
 headed s tag = in_phase (item_ended (record s { scopes = tag.bindings ∷ []; name = tag.spelled })) (phase_behind tag.empty)
 
 -- the items of a header's tag: that of an empty element is the footer besides
-abbrev pub header_items : ℕ → Tag → List Item
-header_items at tag =
-    if tag.empty then item.Header at (header_of tag) ∷ item.Footer ∷ []
-    else item.Header at (header_of tag) ∷ []
+abbrev pub header_items : ℕ → Header → Bool → List Item
+header_items at header empty = if empty then item.Header at header ∷ item.Footer ∷ [] else item.Header at header ∷ []
 
 abbrev pub header_why : StartFault → Why
 header_why start.Restricted = why.Restricted
@@ -187,7 +186,7 @@ header_why start.LongNamespace = why.LongNamespace
 header_why start.NoMemory = why.NotWellFormed
 
 abbrev pub headed_turn : Turn → Tag → Turn
-headed_turn t tag = turn (headed t.state tag) (t.items ++ header_items t.state.places.token_at tag)
+headed_turn t tag = turn (headed t.state tag) (t.items ++ header_items t.state.places.token_at (header_of tag) tag.empty)
 
 abbrev pub heads : Turn → Result Tag StartFault → Turn
 heads t (Ok tag) = headed_turn t tag

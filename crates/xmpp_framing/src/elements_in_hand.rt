@@ -56,7 +56,7 @@ fn join_to(alloc: Global, around: &mut Open, chars: &mut String) -> Result<(), N
     ensures joined { OnOk result (open_of around.new ≡ with_text (open_of around.old) (string_bytes chars.old)) }
     ensures taken { OnOk result (string_bytes chars.new ≡ []) }
 {
-    if chars.is_empty() {
+    if chars.as_str().is_empty() {
         return Ok(());
     }
     let text = mem::replace(chars, String::new(alloc));

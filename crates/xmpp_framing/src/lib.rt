@@ -8,6 +8,7 @@ mod copying;
 mod elements;
 mod elements_in_hand;
 mod faults;
+mod feeding;
 mod framer;
 mod items;
 mod laws;
@@ -21,6 +22,7 @@ mod tag_writing;
 mod states;
 #[cfg(test)]
 mod tests;
+mod tags_in_hand;
 mod texts_in_hand;
 mod tidying;
 mod trees;
