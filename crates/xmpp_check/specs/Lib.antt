@@ -5,3 +5,4 @@ pub use Rattle.xmpp_framing.specs.Machine
 pub use Rattle.xmpp_framing.specs.States
 pub mod Lines
 pub mod Checked
+pub mod Pieces

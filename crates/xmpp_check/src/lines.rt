@@ -1,7 +1,7 @@
 //! The lines that tell of a stream's items and of what is wrong with it.
 ghost use Rattle.std.specs.Prelude.{◌≡◌, ◌++◌, Some, None, IfOk, OnOk};
 ghost use Rattle.xmpp_check.specs.Lines;
-ghost use Rattle.xmpp_check.specs.Lines.{fault_line, item_line, is_of_client, strange_at, truncated_line};
+ghost use Rattle.xmpp_check.specs.Lines.{end_line, fault_line, item_line, is_of_client, strange_at, truncated_line};
 
 use std::alloc::Global;
 use xmpp_edge::{Bytes, NoMemory};
@@ -85,4 +85,11 @@ pub(crate) fn append_truncated(alloc: Global, out: &mut Bytes, at: u64) -> Resul
     out.append(b"truncated ")?;
     out.append(at.to_string(alloc)?.as_bytes())?;
     out.append(b"\n")
+}
+
+/// Adds the line of a stream in which nothing is wrong.
+pub(crate) fn append_end(out: &mut Bytes) -> Result<(), NoMemory>
+    ensures { OnOk result (out.new.items ≡ out.old.items ++ end_line) }
+{
+    out.append(b"end\n")
 }
