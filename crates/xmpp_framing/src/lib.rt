@@ -10,6 +10,8 @@ mod elements_in_hand;
 mod faults;
 mod feeding;
 mod framer;
+#[cfg(test)]
+mod framer_tests;
 mod items;
 mod laws;
 mod limits;
@@ -20,9 +22,9 @@ mod runs;
 mod tag_lengths;
 mod tag_writing;
 mod states;
+mod tags_in_hand;
 #[cfg(test)]
 mod tests;
-mod tags_in_hand;
 mod texts_in_hand;
 mod tidying;
 mod trees;

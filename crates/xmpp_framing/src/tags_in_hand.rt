@@ -15,7 +15,9 @@ use crate::items::{Item, Items};
 use crate::limits::Limits;
 use crate::states::{Mode, Phase};
 use xmpp_edge::NoMemory;
-use xmpp_names::{Header, StartFault, Tag, TagLimits, header_of, opens_stream, read_end, read_start};
+use xmpp_names::{
+    Header, StartFault, Tag, TagLimits, header_of, opens_stream, read_end, read_start,
+};
 use xmpp_tokens::{TagFault, is_white};
 
 // Whether a token is an end tag.
@@ -97,7 +99,12 @@ impl Framer {
         ensures ok { IfOk result (λ t. tag_here self.now ≡ Ok (tag_view t)) }
         ensures err { IfErr result (λ e. e ≢ StartFault.NoMemory → tag_here self.now ≡ Err e) }
     {
-        read_start(self.alloc, tag_limits(self.limits), &self.scopes, &self.token)
+        read_start(
+            self.alloc,
+            tag_limits(self.limits),
+            &self.scopes,
+            &self.token,
+        )
     }
 
     // The tag in hand as that of a header.

@@ -47,7 +47,7 @@ fn push_all(out: &mut String, parts: &[&str]) -> Result<(), Fail> {
 }
 
 // An element in one line: NS|NAME{NS|NAME=VALUE;..}[..].
-fn show(out: &mut String, element: &Element) -> Result<(), Fail> {
+pub(crate) fn show(out: &mut String, element: &Element) -> Result<(), Fail> {
     push_all(out, &[element.ns.as_str(), "|", element.name.as_str(), "{"])?;
     for attr in element.attrs.as_slice() {
         let parts = [
