@@ -1,17 +1,21 @@
 //! Telling of a stream, piece by piece.
-ghost use Rattle.std.specs.Prelude.{◌≡◌, ◌×◌, ℕ, List, false, None, IfOk, OnOk};
+ghost use Rattle.std.specs.Prelude.{◌≡◌, ℕ, List, false, None, IfOk, OnOk};
 ghost use Rattle.xmpp_check.specs.Checked.{Told, told, told_behind, told_items, told_last, wrong_with};
 ghost use Rattle.xmpp_check.specs.Lines;
 ghost use Rattle.xmpp_check.specs.Lines.{fault_line};
 ghost use Rattle.xmpp_check.specs.Pieces.{IsToldOf, or_rest, or_strange, told_from, told_with};
 
 use crate::lines::{append_end, append_fault, append_item, append_truncated, strange_at, why_name};
+use crate::pieces::any_pieces;
 use std::alloc::Global;
 use xmpp_edge::{Bytes, NoMemory};
-use xmpp_framing::{Fault, FeedFault, Framer, Item, Items, Limits, any_pieces};
+use xmpp_framing::{Fault, FeedFault, Framer, Item, Items, Limits};
 
 /// The most bytes whose items are held at once.
 const PIECE: usize = 4_096;
+
+/// What is wrong with a header that opens no stream between a client and its server.
+const STRANGE: &str = "InvalidNamespace";
 
 /// What is told of a stream: its lines, and whether nothing is wrong.
 #[derive(Drop)]
@@ -40,25 +44,21 @@ fn tell_sound(alloc: Global, items: &[Item], text: &mut Bytes) -> Result<bool, N
     match tell_items(items, text)? {
         None => Ok(false),
         Some(at) => {
-            append_fault(alloc, text, at, "InvalidNamespace")?;
+            append_fault(alloc, text, at, STRANGE)?;
             Ok(true)
         }
     }
 }
 
 // Tells the items before a fault, and the fault unless a header before it is strange.
-fn tell_fault(
-    alloc: Global,
-    items: &[Item],
-    fault: Fault,
-    text: &mut Bytes,
-) -> Result<(), NoMemory>
+fn tell_fault(alloc: Global, items: &[Item], fault: Fault, text: &mut Bytes) -> Result<(), NoMemory>
     ensures { OnOk result (wrong_with text.new.items ≡ told_behind text.old.items (told_items items.now (wrong_with (fault_line fault.at (Lines.why_name fault.why))))) }
 {
     match tell_items(items, text)? {
-        None => append_fault(alloc, text, fault.at, why_name(fault.why)),
-        Some(at) => append_fault(alloc, text, at, "InvalidNamespace"),
+        None => append_fault(alloc, text, fault.at, why_name(fault.why))?,
+        Some(at) => append_fault(alloc, text, at, STRANGE)?,
     }
+    Ok(())
 }
 
 // Tells a piece, and answers whether all is told.

@@ -4,5 +4,8 @@
 
 mod checking;
 mod lines;
+mod pieces;
+#[cfg(test)]
+mod tests;
 
 pub use checking::{Checked, check};

@@ -68,7 +68,12 @@ pub(crate) fn why_name(why: Why) -> &'static str
 }
 
 /// Adds the line of a fault.
-pub(crate) fn append_fault(alloc: Global, out: &mut Bytes, at: u64, name: &str) -> Result<(), NoMemory>
+pub(crate) fn append_fault(
+    alloc: Global,
+    out: &mut Bytes,
+    at: u64,
+    name: &str,
+) -> Result<(), NoMemory>
     ensures { OnOk result (out.new.items ≡ out.old.items ++ fault_line at name.now) }
 {
     out.append(b"fault ")?;
