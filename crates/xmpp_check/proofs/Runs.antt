@@ -1,7 +1,7 @@
 -- Runs over pieces.
-use Rattle.std.proofs.Common.{◌≡◌, ◌≢◌, ℕ, true, false, List, [], ◌∷◌, ◌++◌, Option, Some, None, refl, if◌then◌else◌}
+use Rattle.std.proofs.Common.{◌≡◌, ◌≢◌, ℕ, true, List, [], ◌∷◌, ◌++◌, Option, Some, None, refl}
 use Rattle.std.specs.Option.{is_some}
-use Rattle.xmpp_framing.specs.Machine.{goes_on, run, step}
+use Rattle.xmpp_framing.specs.Machine.{run, step}
 use Rattle.xmpp_framing.specs.States.{Turn}
 use Rattle.xmpp_framing.specs.declared.faults.Fault.{Fault}
 

@@ -1,6 +1,6 @@
 -- Worked streams, evaluated.
 use Rattle.std.specs.Prelude.{◌≡◌, refl, [], ◌∷◌, ◌++◌, codes}
-use Rattle.xmpp_check.specs.Checked.{told, told_last, sound_with, wrong_with}
+use Rattle.xmpp_check.specs.Checked.{told, told_last, sound_with}
 use Rattle.xmpp_framing.specs.Machine as machine
 
 -- nothing was read
