@@ -1,3 +1,4 @@
+pub use Rattle.xmpp_check.specs.Checked
 pub use Rattle.xmpp_edge.specs.Counts
 pub use Rattle.xmpp_edge.specs.Fronts
 pub use Rattle.xmpp_replay.specs.Direct

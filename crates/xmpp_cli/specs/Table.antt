@@ -1,6 +1,7 @@
 -- When each answer comes, and the text that is due with it.
-use Rattle.std.specs.Prelude.{◌≡◌, ◌≢◌, ℕ, ◌<◌, ◌≤◌, ◌==◌, Bool, ◌||◌, List, length, Option, Some, None, Err, IfSome}
+use Rattle.std.specs.Prelude.{◌≡◌, ◌≢◌, ℕ, ◌<◌, ◌≤◌, ◌==◌, Bool, true, false, ◌||◌, List, length, Option, Some, None, Err, IfSome}
 use Rattle.std.specs.Io.KnownBytes.{IsAtEnd}
+use Rattle.xmpp_check.specs.Checked.{told}
 use Rattle.xmpp_edge.specs.declared.whole.TheConstants.{MOST}
 use Rattle.xmpp_replay.specs.Direct.{direct_report}
 use Rattle.xmpp_replay.specs.Grammar.{IsSchedule, InGrammar, schedule_text}
@@ -12,8 +13,9 @@ use Rattle.xmpp_replay.specs.Schedules.{ScheduleView, steps_of}
 use Rattle.xmpp_replay.specs.declared.schedule.LineWhy.{LineWhy}
 use Rattle.xmpp_replay.specs.declared.schedule.ScheduleFault.TheVariants.{BadLine}
 use Rattle.xmpp_cli.specs.Texts.{words_line, read_fault_line, too_long_line, bad_line}
+use Rattle.xmpp_cli.specs.Words.{reads}
 use Rattle.xmpp_cli.specs.declared.command.Command.{Command}
-use Rattle.xmpp_cli.specs.declared.command.Command.TheVariants.{Help, Version, Replay}
+use Rattle.xmpp_cli.specs.declared.command.Command.TheVariants.{Help, Version, Replay, Check}
 use Rattle.xmpp_cli.specs.declared.outcome.Outcome.{Outcome}
 use Rattle.xmpp_cli.specs.declared.outcome.Outcome.TheVariants.{Done, WrongWords, Refused, ReadFault, TooLong}
 use Rattle.xmpp_cli.specs.declared.texts.TheConstants.{HELP, VERSION}
@@ -48,6 +50,17 @@ IsRefusal known text =
     (line : ℕ) × (reason : LineWhy) × IfSome known (λ input. (reading input ≡ Err (BadLine line reason)) × ¬ (InGrammar input))
     × (text ≡ bad_line line reason)
 
+-- The text is what is told of a stream's bytes, sound or not, and they are the input where it is known.
+abbrev pub IsChecked : Bool → Option (List ℕ) → List ℕ → Type 0
+IsChecked sound known text =
+    (stream : List ℕ) × IfSome known (λ input. input ≡ stream) × ((told stream).sound ≡ sound) × (text ≡ (told stream).text)
+
+-- why an input is refused, by the command that the words ask for
+abbrev pub IsRefused : Option Command → Option (List ℕ) → List ℕ → Type 0
+IsRefused (Some Replay) known text = IsRefusal known text
+IsRefused (Some Check) known text = IsChecked false known text
+IsRefused command known text = ⊥
+
 -- The source was read to its end, and gave no more than the bound.
 pub record IsReadWhole (known left : Option (List ℕ)) : Type 0 where
   pub ended : IsAtEnd left
@@ -60,12 +73,13 @@ pub record IsDone (command : Option Command) (known left : Option (List ℕ)) (t
   pub help : command ≡ Some Help → text ≡ HELP.now
   pub version : command ≡ Some Version → text ≡ VERSION.now
   pub replay : command ≡ Some Replay → IsReplayed known text × IsReadWhole known left
+  pub check : command ≡ Some Check → IsChecked true known text × IsReadWhole known left
 
 -- what is due, where `rose` says that the source's count of faults rose
 abbrev pub Due : Option Command → Option (List ℕ) → Option (List ℕ) → Type 0 → Outcome → List ℕ → Type 0
 Due command known left rose Done text = IsDone command known left text
 Due command known left rose WrongWords text = (command ≡ None) × (text ≡ words_line)
-Due command known left rose Refused text = (command ≡ Some Replay) × IsRefusal known text × IsReadWhole known left
-Due command known left rose ReadFault text = (command ≡ Some Replay) × rose × (text ≡ read_fault_line)
+Due command known left rose Refused text = IsRefused command known text × IsReadWhole known left
+Due command known left rose ReadFault text = (reads command ≡ true) × rose × (text ≡ read_fault_line)
 Due command known left rose TooLong text =
-    (command ≡ Some Replay) × IfSome known (λ input. MOST < length input) × (text ≡ too_long_line)
+    (reads command ≡ true) × IfSome known (λ input. MOST < length input) × (text ≡ too_long_line)

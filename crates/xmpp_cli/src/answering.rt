@@ -1,12 +1,13 @@
-ghost use Rattle.std.specs.Prelude.{◌≡◌, ◌≢◌, ◌<◌, ◌≤◌, ◌⊎◌, IfOk};
+ghost use Rattle.std.specs.Prelude.{◌≡◌, ◌≢◌, false, true, ◌<◌, ◌≤◌, ◌⊎◌, IfOk};
 ghost use Rattle.xmpp_edge.specs.Counts.{Rose};
-ghost use Rattle.xmpp_cli.specs.Words.{asked};
-ghost use Rattle.xmpp_cli.specs.Table.{IsReplayed, IsRefusal, Due};
+ghost use Rattle.xmpp_cli.specs.Words.{asked, reads};
+ghost use Rattle.xmpp_cli.specs.Table.{IsReplayed, IsRefusal, IsChecked, Due};
 
 use crate::command::Command;
 use crate::outcome::Outcome;
 use crate::texts::{HELP, READ_FAULT_LINE, TOO_LONG_LINE, VERSION, WORDS_LINE, refusal};
 use std::alloc::Global;
+use xmpp_check::check;
 use xmpp_edge::{Bytes, NoMemory, ReadAllFault, Source, read_all};
 use xmpp_replay::{ScheduleFault, direct, direct_is_lawful, read_schedule, report_text};
 
@@ -65,18 +66,52 @@ fn replay<S: Source>(alloc: Global, source: &mut S) -> Result<Answer, NoMemory>
     }
 }
 
-/// The answer to these words. The source is read where they ask for `replay`, and otherwise left as it is.
+/// What is told of the stream with these bytes.
+fn answer_to_stream(alloc: Global, input: &[u8]) -> Result<Answer, NoMemory>
+    ensures which { IfOk result (λ answer. (answer.outcome ≡ Outcome.Done) ⊎ (answer.outcome ≡ Outcome.Refused)) }
+    ensures done { IfOk result (λ answer. answer.outcome ≡ Outcome.Done → IsChecked true (Some input.now) answer.text.items) }
+    ensures refused { IfOk result (λ answer. answer.outcome ≡ Outcome.Refused → IsChecked false (Some input.now) answer.text.items) }
+{
+    let checked = check(alloc, input)?;
+    let outcome = if checked.sound {
+        Outcome::Done
+    } else {
+        Outcome::Refused
+    };
+    Ok(Answer {
+        outcome,
+        text: checked.text,
+    })
+}
+
+/// The answer of `check`, whose input is all that the source gives.
+fn check_all<S: Source>(alloc: Global, source: &mut S) -> Result<Answer, NoMemory>
+    ensures due { IfOk result (λ answer. Due (Some Command.Check) (S.left source.old) (S.left source.new)
+        (Rose (S.faults source.old) (S.faults source.new)) answer.outcome answer.text.items) }
+    ensures read_fault { S.faults source.old < S.faults source.new → IfOk result (λ answer. answer.outcome ≡ Outcome.ReadFault) }
+    ensures later { S.faults source.old ≤ S.faults source.new }
+{
+    match read_all(alloc, source) {
+        Ok(input) => answer_to_stream(alloc, input.as_slice()),
+        Err(ReadAllFault::ReadFault) => said(alloc, Outcome::ReadFault, READ_FAULT_LINE),
+        Err(ReadAllFault::TooLong) => said(alloc, Outcome::TooLong, TOO_LONG_LINE),
+        Err(ReadAllFault::NoMemory) => Err(NoMemory),
+    }
+}
+
+/// The answer to these words. The source is read where they ask for `replay` or `check`, and otherwise left as it is.
 pub fn due<S: Source>(alloc: Global, words: &[String], source: &mut S) -> Result<Answer, NoMemory>
     ensures due { IfOk result (λ answer. Due (asked words.now) (S.left source.old) (S.left source.new)
         (Rose (S.faults source.old) (S.faults source.new)) answer.outcome answer.text.items) }
     ensures read_fault { S.faults source.old < S.faults source.new → IfOk result (λ answer. answer.outcome ≡ Outcome.ReadFault) }
     ensures later { S.faults source.old ≤ S.faults source.new }
-    ensures unread { asked words.now ≢ Some Command.Replay → source.new ≡ source.old }
+    ensures unread { reads (asked words.now) ≡ false → source.new ≡ source.old }
 {
     match Command::of_words(words) {
         None => said(alloc, Outcome::WrongWords, WORDS_LINE),
         Some(Command::Help) => said(alloc, Outcome::Done, HELP),
         Some(Command::Version) => said(alloc, Outcome::Done, VERSION),
         Some(Command::Replay) => replay(alloc, source),
+        Some(Command::Check) => check_all(alloc, source),
     }
 }

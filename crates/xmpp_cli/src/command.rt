@@ -10,6 +10,8 @@ pub enum Command {
     Version,
     /// The report of the schedule that is read.
     Replay,
+    /// The items of the stream that is read.
+    Check,
 }
 
 impl Command {
@@ -22,6 +24,7 @@ impl Command {
             [word] if word.as_str() == "--help" => Some(Command::Help),
             [word] if word.as_str() == "--version" => Some(Command::Version),
             [word] if word.as_str() == "replay" => Some(Command::Replay),
+            [word] if word.as_str() == "check" => Some(Command::Check),
             _ => None,
         }
     }

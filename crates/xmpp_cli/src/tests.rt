@@ -176,3 +176,43 @@ fn words_are_answered(rt: HostRuntime) -> Result<(), Fail> {
     }
     Ok(())
 }
+
+/// A header as it is written.
+const HEADER: &str =
+    "<stream:stream to='chat.example' version='1.0' xmlns='jabber:client' xmlns:stream='http://etherx.jabber.org/streams'>";
+
+/// Whether `check` of a header and these bytes, read in steps, answers the status and writes the header and these lines.
+fn is_checked(
+    alloc: Global,
+    step: usize,
+    stream: &str,
+    status: u8,
+    lines: &str,
+) -> Result<bool, Fail>
+    requires { 1 ≤ step }
+{
+    let mut input = String::from_str(alloc, HEADER)?;
+    input.push_str(stream)?;
+    let mut want = String::from_str(alloc, HEADER)?;
+    want.push_str(lines)?;
+    let ran = run_words(alloc, &["check"], input.as_str(), step, &[], &[])?;
+    Ok(ran.status == status && ran.written.as_str() == want.as_str())
+}
+
+#[test]
+fn sound_streams_are_checked(rt: HostRuntime) -> Result<(), Fail> {
+    for step in [1, 65_536] {
+        assert!(rt; is_checked(rt.alloc(), step, "<a></a>", 0, "\n<a/>\nend\n")?);
+    }
+    Ok(())
+}
+
+#[test]
+fn what_is_wrong_with_a_stream_is_told(rt: HostRuntime) -> Result<(), Fail> {
+    let message = "<message><body>a<!-- x --></body></message>";
+    for step in [1, 7, 65_536] {
+        assert!(rt; is_checked(rt.alloc(), step, message, 3, "\nfault 133 Restricted\n")?);
+    }
+    assert!(rt; is_checked(rt.alloc(), 64, "<message><bo", 3, "\ntruncated 117\n")?);
+    Ok(())
+}

@@ -18,17 +18,18 @@ pub const TOO_LONG_LINE: &str = "too long\n";
 pub const VERSION: &str = "xmpp_cli 1\n";
 
 /// How the program is called, in one line.
-pub const USAGE: &str = "usage: xmpp_cli --help | --version | replay";
+pub const USAGE: &str = "usage: xmpp_cli --help | --version | replay | check";
 
 /// How the program is called, and what it answers.
 pub const HELP: &str = "\
 xmpp_cli --help     writes this text
 xmpp_cli --version  writes the name and the version
 xmpp_cli replay     reads a schedule from standard input and writes its report
+xmpp_cli check      reads one direction of a stream from standard input and writes its items
 The exit status is
  0  where it was done
  2  where the words are none of these
- 3  where the input is no schedule; its first bad line is written
+ 3  where the input is no schedule, or the stream has a fault or ends in an item; what is wrong is written
  4  where a read failed
  5  where a write failed
  6  where memory ran out; nothing is written
