@@ -19,4 +19,5 @@ pub mod OpenText
 pub mod LargerLimits
 pub mod ItemsGrow
 pub mod Pieces
+pub mod Quiet
 pub mod FaultLaws

@@ -14,6 +14,8 @@ use Rattle.xmpp_framing.specs.Attributes.{Attribute, attribute, IsAttrsOf}
 use Rattle.xmpp_framing.specs.Canon.{client_namespace, streams_namespace}
 use Rattle.xmpp_framing.specs.Texts.{IsText}
 use Rattle.xmpp_framing.specs.Tidied.{text_node}
+use Rattle.xmpp_framing.specs.declared.items.Item.{Item}
+use Rattle.xmpp_framing.specs.declared.items.Item.TheVariants as item
 use Rattle.xmpp_framing.specs.Trees.{Elem, element, Nodes, no_nodes, child, joined, namespace_of, name_of}
 
 abbrev pub attribute_of : ExpandedAttribute → Attribute
@@ -63,9 +65,26 @@ pub record SpellsHeader (bytes name : List ℕ) (scope : Scope) (h : Header) : T
   pub scope_is : tag.bindings ≡ scope
   pub says : h ≡ header_of tag
 
+-- The same behind another header: inside the scope in force, and what the tag itself declares, the tag has a header's
+-- name.
+pub record SpellsNextHeader (scope : Scope) (bytes name : List ℕ) (inner : Scope) (h : Header) : Type 0 where
+  pub spelled : SpellsHeader bytes name inner h
+  pub raw : List tokens.Attribute
+  pub tag : Tag
+  pub start : IsStart scope bytes raw tag
+  pub named : IsHeaderName tag.ns tag.name
+
 -- Bytes are the footer behind a header with this name as it is spelled.
 abbrev pub SpellsFooter : List ℕ → List ℕ → Type 0
 SpellsFooter bytes name = IsTag bytes (end_tag name)
+
+-- Bytes spell an item behind a header that was read, whose scope and spelled name these are. A header's place is not
+-- spelled.
+pub data SpellsItem : Scope → List ℕ → List ℕ → Item → Type 0 where
+  header : (scope : Scope) (name bytes : List ℕ) (i : Item) (next : List ℕ) (inner : Scope) (at : ℕ) (h : Header)
+      → SpellsNextHeader scope bytes next inner h → i ≡ item.Header at h → SpellsItem scope name bytes i
+  element : (scope : Scope) (name bytes : List ℕ) (i : Item) (e : Elem) → SpellsTop scope bytes e → i ≡ item.Element e → SpellsItem scope name bytes i
+  footer : (scope : Scope) (name bytes : List ℕ) (i : Item) → SpellsFooter bytes name → i ≡ item.Footer → SpellsItem scope name bytes i
 
 abbrev pub bind : List ℕ → List ℕ → Binding
 bind prefix ns = record { prefix = prefix; ns = ns }
