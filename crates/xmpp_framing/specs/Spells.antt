@@ -81,10 +81,10 @@ SpellsFooter bytes name = IsTag bytes (end_tag name)
 -- Bytes spell an item behind a header that was read, whose scope and spelled name these are. A header's place is not
 -- spelled.
 pub data SpellsItem : Scope → List ℕ → List ℕ → Item → Type 0 where
-  header : (scope : Scope) (name bytes : List ℕ) (i : Item) (next : List ℕ) (inner : Scope) (at : ℕ) (h : Header)
+  a_header : (scope : Scope) (name bytes : List ℕ) (i : Item) (next : List ℕ) (inner : Scope) (at : ℕ) (h : Header)
       → SpellsNextHeader scope bytes next inner h → i ≡ item.Header at h → SpellsItem scope name bytes i
-  element : (scope : Scope) (name bytes : List ℕ) (i : Item) (e : Elem) → SpellsTop scope bytes e → i ≡ item.Element e → SpellsItem scope name bytes i
-  footer : (scope : Scope) (name bytes : List ℕ) (i : Item) → SpellsFooter bytes name → i ≡ item.Footer → SpellsItem scope name bytes i
+  an_element : (scope : Scope) (name bytes : List ℕ) (i : Item) (e : Elem) → SpellsTop scope bytes e → i ≡ item.Element e → SpellsItem scope name bytes i
+  a_footer : (scope : Scope) (name bytes : List ℕ) (i : Item) → SpellsFooter bytes name → i ≡ item.Footer → SpellsItem scope name bytes i
 
 abbrev pub bind : List ℕ → List ℕ → Binding
 bind prefix ns = record { prefix = prefix; ns = ns }
