@@ -21,3 +21,6 @@ pub mod ItemsGrow
 pub mod Pieces
 pub mod Quiet
 pub mod FaultLaws
+pub mod TagEnds
+pub mod OneText
+pub mod OneSpelling
