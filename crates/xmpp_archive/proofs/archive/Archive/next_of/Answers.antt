@@ -20,7 +20,7 @@ next_at-requires c =
     let first = c.self.inside.last + 1 - length entries in
     let size : length (next_numbers first (map (peer_of c.self.inside.owner) entries)) ≡ length (map (peer_of c.self.inside.owner) entries) = length-next_numbers first (map (peer_of c.self.inside.owner) entries) in
     let same : length (map (peer_of c.self.inside.owner) entries) ≡ length entries = length-map entries (peer_of c.self.inside.owner) in
-    let nexts : length c.self.inside.links.nexts.items ≡ length (next_numbers first (map (peer_of c.self.inside.owner) entries)) = ap length c.self.invariant.1.linked in
+    let nexts : length c.self.inside.links.links.items ≡ length (next_numbers first (map (peer_of c.self.inside.owner) entries)) = ap length c.self.invariant.1.linked in
     let view : length c.args.self.now.entries ≡ length entries = ap (λ (v : ArchiveView). length v.entries) (sym c.self.view_is) in
     omega (arith, c.in_ok-place.ensures.some.0)
 
