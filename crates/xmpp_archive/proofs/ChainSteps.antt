@@ -1,14 +1,15 @@
 -- The chains of an archive's entries: where one stands, and what an append and a drop make of them.
-use Rattle.std.proofs.Common.{◌≡◌, ◌≢◌, ℕ, suc, add-one, ◌+◌, ◌-◌, ◌<◌, ◌≤◌, inl, inr, Bool, true, false, ◌||◌, ◌==◌, List, [], ◌∷◌, ◌++◌, Option, Some, None, length, map, set, drop, get_or, slice_get, refl, sym, ap, subst, ◌∙◌, arith}
+use Rattle.std.proofs.Common.{◌≡◌, ◌≢◌, ℕ, suc, add-one, ◌+◌, ◌-◌, ◌<◌, ◌≤◌, inl, inr, Bool, true, false, ◌||◌, ◌==◌, List, [], ◌∷◌, ◌++◌, Option, Some, None, length, map, set, take, drop, get_or, slice_get, refl, sym, ap, subst, ◌∙◌, arith}
 use Rattle.std.proofs.lemmas.Bool.{false≢true, cases_Bool, cases_lt, eq-eqb, ne_eqb}
-use Rattle.std.proofs.lemmas.List.{length-map}
-use Rattle.std.proofs.lemmas.Option.{get_or_from_slice_get, none-some, slice_get-map, slice_get_read}
+use Rattle.std.proofs.lemmas.List.{drop-map, length-map, map-append}
+use Rattle.std.proofs.lemmas.Option.{get_or_from_slice_get, none-some, slice_get-get_or, slice_get-map, slice_get_read, slice_get_within}
 use Rattle.std.specs.List.{insert, remove}
 use Rattle.std.specs.Option.{option_map}
 use Rattle.std.specs.Str.{bytes_eq}
 use Rattle.xmpp_archive.proofs.Keys.{ascend-insert, ascend-remove, ascend_at, at_is_text, below-trans, differ_at, equal_texts, gap_absent, map-insert, map-remove, map-set, map_same, same_text, some_same, text-insert, text-remove, text-remove_other}
 use Rattle.xmpp_archive.proofs.Linked.{IsBeside, first-push_new, first-push_old, first-push_other, first_beside, first_none, last-push, last-push_other, length-next_numbers, last_beside, nexts-push_new, nexts-push_old, or_false, text-push}
-use Rattle.xmpp_archive.specs.Chained.{AreBefore, AreChains, Ascend, IsBelow, IsChained, IsGap, Mark, chain_at, chain_or, extended, first_number, is_text_of, last_number, link_or, mark_of, marked, marks, moved_on, next_numbers}
+use Rattle.xmpp_archive.proofs.Marks.{anew, anew_after, anew_early, count_first, count_last, count_within, mark_after, mark_at, marked_early, marks-anew, marks-push, marks-set, nexts-set, ordinal_after, previous_some}
+use Rattle.xmpp_archive.specs.Chained.{AreChains, Ascend, IsBelow, IsChained, IsGap, Mark, chain_at, chain_or, count_of, extended, first_number, is_text_of, last_number, link_or, mark_of, marked, marks, moved_on, next_numbers}
 use Rattle.xmpp_archive.specs.Entries.{EntryView}
 use Rattle.xmpp_archive.specs.declared.chains.Ends.{Ends}
 use Rattle.xmpp_archive.specs.declared.chains.Link.{Link}
@@ -61,6 +62,47 @@ pub links_size : (n : ℕ) (ps : List (List ℕ)) (links : List Link) (chains : 
 links_size n ps links chains known =
     sym (length-map links (λ (l : Link). l.next)) ∙ ap length known.linked ∙ length-next_numbers n ps
 
+-- the mark of an entry is what the entries in front of it left
+pub link_mark : (n : ℕ) (ps : List (List ℕ)) (links : List Link) (chains : List Ends) (known : IsChained n ps links chains) (i : ℕ) (p : List ℕ) (d : Link) → slice_get ps i ≡ Some p →
+    mark_of (get_or links i d) ≡ mark_after n known.before p (take i ps)
+link_mark n ps links chains known i p d is =
+    let size = links_size n ps links chains known in
+    let within : i < length ps = slice_get_within ps i p is in
+    let read : slice_get links i ≡ Some (get_or links i d) = slice_get-get_or links i d (omega arith) in
+    let mark : slice_get (map mark_of links) i ≡ Some (mark_of (get_or links i d)) = slice_get-map mark_of links i ∙ ap (option_map mark_of) read in
+    some_same (mark_of (get_or links i d)) (mark_after n known.before p (take i ps))
+    (sym mark ∙ ap (λ t. slice_get t i) known.beside ∙ mark_at n known.before ps i p is)
+
+pub link_ordinal : (n : ℕ) (ps : List (List ℕ)) (links : List Link) (chains : List Ends) (known : IsChained n ps links chains) (i : ℕ) (p : List ℕ) (d : Link) → slice_get ps i ≡ Some p →
+    (get_or links i d).ordinal ≡ (known.before p).ordinal + count_of p (take i ps)
+link_ordinal n ps links chains known i p d is =
+    ap (λ (m : Mark). m.ordinal) (link_mark n ps links chains known i p d is) ∙ ordinal_after n known.before p (take i ps)
+
+-- the ordinals of the first and of the last entry of a peer
+pub first_ordinal : (n : ℕ) (ps : List (List ℕ)) (links : List Link) (chains : List Ends) (known : IsChained n ps links chains) (p : List ℕ) (d : Link) → is_text_of p ps ≡ true →
+    (get_or links (first_number p n ps - n) d).ordinal ≡ (known.before p).ordinal
+first_ordinal n ps links chains known p d has =
+    let beside = first_beside p n ps has in
+    let ordinal = link_ordinal n ps links chains known (first_number p n ps - n) p d beside.there in
+    let none = count_first p n ps has in
+    omega arith
+
+pub last_ordinal : (n : ℕ) (ps : List (List ℕ)) (links : List Link) (chains : List Ends) (known : IsChained n ps links chains) (p : List ℕ) (d : Link) → is_text_of p ps ≡ true →
+    (get_or links (last_number p n ps - n) d).ordinal + 1 ≡ (known.before p).ordinal + count_of p ps
+last_ordinal n ps links chains known p d has =
+    let beside = last_beside p n ps has in
+    let ordinal = link_ordinal n ps links chains known (last_number p n ps - n) p d beside.there in
+    let more = count_last p n ps has in
+    omega arith
+
+-- what an entry more of a peer gets from the last one
+end_mark : (n : ℕ) (ps : List (List ℕ)) (links : List Link) (chains : List Ends) (known : IsChained n ps links chains) (p : List ℕ) (last : ℕ) → is_text_of p ps ≡ true → last ≡ last_number p n ps →
+    record { previous = last; ordinal = (link_or links (last - n)).ordinal + 1 } ≡ mark_after n known.before p ps
+end_mark n ps links chains known p last has is =
+    let ordinal : (link_or links (last_number p n ps - n)).ordinal + 1 ≡ (mark_after n known.before p ps).ordinal =
+    last_ordinal n ps links chains known p (record { next = 0; previous = 0; ordinal = 0 }) has ∙ sym (ordinal_after n known.before p ps) in
+    rw (is, ordinal, ← previous_some n known.before p ps has) refl
+
 -- the last number of a peer's chain has a place among the links
 pub chain_last : (n : ℕ) (ps : List (List ℕ)) (p : List ℕ) (links : List Link) (chains : List Ends) (at : ℕ) → IsChained n ps links chains →
     ((keys : List (List ℕ)) → AreChains keys n ps chains → slice_get keys at ≡ Some p) →
@@ -73,9 +115,25 @@ chain_last n ps p links chains at known found =
     let size = links_size n ps links chains known in
     (omega (arith, beside.low), omega (arith, beside.high))
 
+-- and the ordinal there is below the number of an entry more
+pub end_ordinal : (n number : ℕ) (ps : List (List ℕ)) (p : List ℕ) (links : List Link) (chains : List Ends) (at : ℕ) → IsChained n ps links chains →
+    ((keys : List (List ℕ)) → AreChains keys n ps chains → slice_get keys at ≡ Some p) → number ≡ n + length ps →
+    (link_or links ((chain_or chains at).last - n)).ordinal < number
+end_ordinal n number ps p links chains at known found next =
+    let none : Link = record { next = 0; previous = 0; ordinal = 0 } in
+    let key : slice_get known.keys at ≡ Some p = found known.keys known.chained in
+    let chain : chain_or chains at ≡ chain_at n ps p = chain_read known.keys n ps chains at p (record { first = 0; last = 0 }) known.chained key in
+    let ordinal = last_ordinal n ps links chains known p none (key_has known.keys n ps chains at p known.chained key) in
+    let few = count_within p ps in
+    let early = known.early.ordinal p in
+    rw chain (omega arith)
+
 -- a peer of an entry has a chain
-pub first_peer : (f : EntryView → List ℕ) (es : List EntryView) (e : EntryView) → 0 < length es → e ≡ get_or es 0 e → slice_get (map f es) 0 ≡ Some (f e)
-first_peer f es e some read = slice_get-map f es 0 ∙ ap (option_map f) (slice_get_read es (length es) 0 e refl some read)
+pub peer_place : (f : EntryView → List ℕ) (es : List EntryView) (i : ℕ) (e : EntryView) → i < length es → e ≡ get_or es i e → slice_get (map f es) i ≡ Some (f e)
+peer_place f es i e within read = slice_get-map f es i ∙ ap (option_map f) (slice_get_read es (length es) i e refl within read)
+
+pub links_of_entries : (n : ℕ) (f : EntryView → List ℕ) (es : List EntryView) (links : List Link) (chains : List Ends) → IsChained n (map f es) links chains → length links ≡ length es
+links_of_entries n f es links chains known = links_size n (map f es) links chains known ∙ length-map es f
 
 pub peer_chained : (n : ℕ) (ps : List (List ℕ)) (p : List ℕ) (links : List Link) (chains : List Ends) (i at : ℕ) → IsChained n ps links chains → slice_get ps i ≡ Some p →
     ((keys : List (List ℕ)) → AreChains keys n ps chains → IsGap keys p at) → ⊥
@@ -120,7 +178,10 @@ chained_more n number ps p links chains at known found next =
     map-set (chain_at n ps) (chain_at n (ps ++ p ∷ [])) keys at p key
     (λ i q other is. chain-push_other n ps p q (differ_at keys at i p q known.chained.ascend (λ same. other (sym same)) key is)) in
     record {
-      linked = rw (chain, known.linked, next) (sym (nexts-push_old p n ps has));
+      linked = rw (map-append, nexts-set, chain, known.linked, next) (sym (nexts-push_old p n ps has));
+      before = known.before;
+      early = known.early;
+      beside = rw (map-append, marks-set, known.beside, marks-push n known.before ps p, end_mark n ps links chains known p (chain_or chains at).last has (ap (λ (c : Ends). c.last) chain)) refl;
       keys = keys;
       chained = record {
         are = rw (chain, known.chained.are, ← new) (sym images);
@@ -151,7 +212,10 @@ chained_new n number ps p links chains at known absent next =
     map_same (chain_at n ps) (chain_at n (ps ++ p ∷ [])) keys
     (λ i q is. chain-push_other n ps p q (differs keys none i q is)) in
     record {
-      linked = rw known.linked (sym (nexts-push_new p n ps none));
+      linked = rw (map-append, known.linked) (sym (nexts-push_new p n ps none));
+      before = anew p known.before;
+      early = anew_early n known.before p known.early;
+      beside = rw (map-append, known.beside, marks-push n (anew p known.before) ps p, marks-anew n known.before p ps none, anew_after n known.before p ps none) refl;
       keys = insert keys at p;
       chained = record {
         are = rw (map-insert (chain_at n (ps ++ p ∷ [])) keys at p, new, old, known.chained.are) refl;
@@ -180,18 +244,25 @@ chain_tail_other n qs p q other has =
     let later : is_text_of q qs ≡ true = rw other at has in
     rw (other, later) refl
 
+first_next : (links : List Link) (m : ℕ) (ms : List ℕ) → map (λ (l : Link). l.next) links ≡ m ∷ ms → (link_or links 0).next ≡ m
+first_next [] m ms is = cc
+first_next (l ∷ ls) m ms is = cc
+
 moved : (n : ℕ) (p : List ℕ) (qs : List (List ℕ)) (links : List Link) (chains : List Ends) (at : ℕ) (known : IsChained n (p ∷ qs) links chains) →
     slice_get known.keys at ≡ Some p → IsChained (suc n) qs (drop 1 links) (moved_on (link_or links 0).next at chains)
 moved n p qs links chains at known key = elim (cases_Bool (is_text_of p qs)) [
   | inl later ↦
-      let beside : IsBeside p (first_number p (suc n) qs) (suc n) qs = first_beside p (suc n) qs later in
-      let some : (first_number p (suc n) qs == 0) ≡ false = ne_eqb (first_number p (suc n) qs) 0 (λ same. omega (arith, beside.low)) in
+      let place : IsBeside p (first_number p (suc n) qs) (suc n) qs = first_beside p (suc n) qs later in
+      let some : (first_number p (suc n) qs == 0) ≡ false = ne_eqb (first_number p (suc n) qs) 0 (λ same. omega (arith, place.low)) in
       let new : chain_at (suc n) qs p ≡ record { first = first_number p (suc n) qs; last = (chain_or chains at).last } = rw (chain, later) refl in
       record {
-        linked = rw known.linked refl;
+        linked = linked;
+        before = marked n p known.before;
+        early = marked_early n known.before p known.early;
+        beside = beside;
         keys = known.keys;
         chained = record {
-          are = rw (known.linked, some, ← new, known.chained.are) (sym (map-set (chain_at n (p ∷ qs)) (chain_at (suc n) qs) known.keys at p key others));
+          are = rw (next, some, ← new, known.chained.are) (sym (map-set (chain_at n (p ∷ qs)) (chain_at (suc n) qs) known.keys at p key others));
           ascend = known.chained.ascend;
           every = λ q. known.chained.every q ∙ stays later q;
         };
@@ -199,16 +270,28 @@ moved n p qs links chains at known key = elim (cases_Bool (is_text_of p qs)) [
   | inr none ↦
       let gone : (first_number p (suc n) qs == 0) ≡ true = eq-eqb (first_number p (suc n) qs) 0 (first_none p (suc n) qs none) in
       record {
-        linked = rw known.linked refl;
+        linked = linked;
+        before = marked n p known.before;
+        early = marked_early n known.before p known.early;
+        beside = beside;
         keys = remove known.keys at;
         chained = record {
-          are = rw (known.linked, gone, known.chained.are) (sym (map-remove (chain_at n (p ∷ qs)) (chain_at (suc n) qs) known.keys at p key others));
+          are = rw (next, gone, known.chained.are) (sym (map-remove (chain_at n (p ∷ qs)) (chain_at (suc n) qs) known.keys at p key others));
           ascend = ascend-remove known.keys at known.chained.ascend;
           every = λ q. goes none q;
         };
       }
 ]
   where
+    linked : map (λ (l : Link). l.next) (drop 1 links) ≡ next_numbers (suc n) qs
+    linked = sym (drop-map (λ (l : Link). l.next) 1 links) ∙ ap (λ t. drop 1 t) known.linked
+
+    beside : map mark_of (drop 1 links) ≡ marks (suc n) (marked n p known.before) qs
+    beside = sym (drop-map mark_of 1 links) ∙ ap (λ t. drop 1 t) known.beside
+
+    next : (link_or links 0).next ≡ first_number p (suc n) qs
+    next = first_next links (first_number p (suc n) qs) (next_numbers (suc n) qs) known.linked
+
     chain : chain_or chains at ≡ chain_at n (p ∷ qs) p
     chain = chain_read known.keys n (p ∷ qs) chains at p (record { first = 0; last = 0 }) known.chained key
 

@@ -174,11 +174,7 @@ impl Links {
         ensures { result ≡ kept_number first (link_or self.now.links.items at).previous }
     {
         let number = self.links[at].previous;
-        if number < first {
-            None
-        } else {
-            Some(number)
-        }
+        if number < first { None } else { Some(number) }
     }
 
     /// How many of the entries before the one at a place have its peer.
@@ -232,22 +228,15 @@ impl Links {
         ensures chains { self.new.chains.items ≡ set self.old.chains.items at (record { first = (chain_or self.old.chains.items at).first; last = number }) }
         ensures room { room_of self.old ≤ room_of self.new + 1 }
     {
-        let chain = self.chains[at];
-        let place = (chain.last - first) as usize;
-        let end = self.links[place];
-        self.links[place] = Link {
-            next: number,
-            previous: end.previous,
-            ordinal: end.ordinal,
-        };
-        self.chains[at] = Ends {
-            first: chain.first,
-            last: number,
-        };
+        let last = self.chains[at].last;
+        let place = (last - first) as usize;
+        let ordinal = self.links[place].ordinal + 1;
+        self.links[place].next = number;
+        self.chains[at].last = number;
         self.links.push_back_reserved(Link {
             next: 0,
-            previous: chain.last,
-            ordinal: end.ordinal + 1,
+            previous: last,
+            ordinal,
         });
     }
 
