@@ -104,6 +104,20 @@ pub fn tags_in_elements_are_judged()
         → tag_here (whole t.state) ≡ Err start.LongNamespace → is_too_deep t.state ≡ false → Decides t 62 t.state.places.token_at why.LongNamespace }
 {}
 
+/// A law: of a start tag past several limits the depth is told first, in an element and behind a header.
+pub fn depth_is_told_first()
+    ensures many { (t : Turn) → EndsTag t.state mode.Tag → is_some t.state.here ≡ true → is_end (whole t.state).token ≡ false
+        → tag_here (whole t.state) ≡ Err start.TooManyAttributes → is_too_deep t.state ≡ true → Decides t 62 t.state.places.token_at why.TooDeep }
+    ensures long { (t : Turn) → EndsTag t.state mode.Tag → is_some t.state.here ≡ true → is_end (whole t.state).token ≡ false
+        → tag_here (whole t.state) ≡ Err start.LongNamespace → is_too_deep t.state ≡ true → Decides t 62 t.state.places.token_at why.TooDeep }
+    ensures many_at_top { (t : Turn) → EndsTag t.state mode.Tag → is_some t.state.here ≡ false → t.state.lexical.phase ≡ phase.Between
+        → is_header (whole t.state) ≡ false → tag_here (whole t.state) ≡ Err start.TooManyAttributes → is_too_deep t.state ≡ true
+        → Decides t 62 t.state.places.token_at why.TooDeep }
+    ensures long_at_top { (t : Turn) → EndsTag t.state mode.Tag → is_some t.state.here ≡ false → t.state.lexical.phase ≡ phase.Between
+        → is_header (whole t.state) ≡ false → tag_here (whole t.state) ≡ Err start.LongNamespace → is_too_deep t.state ≡ true
+        → Decides t 62 t.state.places.token_at why.TooDeep }
+{}
+
 /// A law: outside elements the first tag is judged as a header, a tag behind a declaration or the footer may not stand
 /// there unless it is a header's, and an end tag is the footer's.
 pub fn tags_outside_elements_are_judged()
@@ -115,9 +129,19 @@ pub fn tags_outside_elements_are_judged()
         → is_header (whole t.state) ≡ true → tag_anew (whole t.state) ≡ Err e → Decides t 62 t.state.places.token_at (header_why e) }
     ensures element { (t : Turn) (e : StartFault) → EndsTag t.state mode.Tag → is_some t.state.here ≡ false → t.state.lexical.phase ≡ phase.Between
         → is_header (whole t.state) ≡ false → tag_here (whole t.state) ≡ Err e → Decides t 62 t.state.places.token_at (start_why t.state e) }
+    ensures deep { (t : Turn) (tag : Tag) → EndsTag t.state mode.Tag → is_some t.state.here ≡ false → t.state.lexical.phase ≡ phase.Between
+        → is_header (whole t.state) ≡ false → tag_here (whole t.state) ≡ Ok tag → is_too_deep t.state ≡ true
+        → Decides t 62 t.state.places.token_at why.TooDeep }
+    ensures header_declared { (t : Turn) (e : StartFault) → EndsTag t.state mode.Tag → is_some t.state.here ≡ false → t.state.lexical.phase ≡ phase.Declared
+        → is_header (whole t.state) ≡ true → tag_anew (whole t.state) ≡ Err e → Decides t 62 t.state.places.token_at (header_why e) }
     ensures declared { (t : Turn) → EndsTag t.state mode.Tag → is_some t.state.here ≡ false → t.state.lexical.phase ≡ phase.Declared
         → is_header (whole t.state) ≡ false → Decides t 62 t.state.places.token_at (misplaced_why (tag_here (whole t.state))) }
     ensures ended { (t : Turn) → EndsTag t.state mode.Tag → is_some t.state.here ≡ false → t.state.lexical.phase ≡ phase.Ended
         → Decides t 62 t.state.places.token_at (misplaced_why (tag_here (whole t.state))) }
     ensures footer { (t : Turn) → EndsTag t.state mode.Footer → ends_stream (whole t.state) ≡ false → Decides t 62 t.state.places.token_at why.NotWellFormed }
+{}
+
+/// A law: `<>` is no tag, wherever it stands.
+pub fn tags_without_a_name_are_told()
+    ensures { (t : Turn) → EndsTag t.state mode.Opening → t.state.token ≡ codes "<" → Decides t 62 t.state.places.token_at why.NotWellFormed }
 {}
