@@ -22,6 +22,7 @@ pub mod ItemsGrow
 pub mod Pieces
 pub mod Quiet
 pub mod FaultLaws
+pub mod CountLaws
 pub mod TagEnds
 pub mod OneText
 pub mod OneSpelling
