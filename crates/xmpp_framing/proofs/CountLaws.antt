@@ -257,13 +257,13 @@ opening_keeps t b =
 
 -- ---- a byte
 
-outside_in : (s : State) (m : Mode) → s.lexical.mode ≡ m → is_outer m ≡ true → may_stand s ≡ true → is_some s.here ≡ false
+pub outside_in : (s : State) (m : Mode) → s.lexical.mode ≡ m → is_outer m ≡ true → may_stand s ≡ true → is_some s.here ≡ false
 outside_in s m is outer h =
     ⊎_elim (λ (inner : is_some s.here ≡ true). absurd (false≢true (rw (inner, is, outer) at h)))
     (λ (e : is_some s.here ≡ false). e)
     (cases_Bool (is_some s.here))
 
-inside_in : (s : State) → s.lexical.mode ≡ mode.Text → is_in_hand s ≡ true → is_some s.here ≡ true
+pub inside_in : (s : State) → s.lexical.mode ≡ mode.Text → is_in_hand s ≡ true → is_some s.here ≡ true
 inside_in s is h =
     ⊎_elim (λ (inner : is_some s.here ≡ true). inner)
     (λ (e : is_some s.here ≡ false). absurd (false≢true (rw (e, is) at h)))
@@ -288,7 +288,7 @@ no_fault_before : (t : Turn) (b : ℕ) (o : Option Fault) → t.state.fault ≡ 
 no_fault_before t b None is none = is
 no_fault_before t b (Some f) is none = let same : step t b ≡ t = rw is refl in sym (ap (λ u. u.state.fault) same) ∙ none
 
-takes : (t : Turn) (b : ℕ) → (step t b).state.fault ≡ None → Takes t.state t.state.lexical.mode b
+pub takes : (t : Turn) (b : ℕ) → (step t b).state.fault ≡ None → Takes t.state t.state.lexical.mode b
 takes t b none =
     let before = no_fault_before t b t.state.fault refl none in
     ⊎_elim (λ (far : is_too_long t.state b ≡ true). absurd (some_fault _ (sym (long t b before far) ∙ none)))

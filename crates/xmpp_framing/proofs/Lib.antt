@@ -23,6 +23,7 @@ pub mod Pieces
 pub mod Quiet
 pub mod FaultLaws
 pub mod CountLaws
+pub mod CountedRuns
 pub mod TagEnds
 pub mod OneText
 pub mod OneSpelling

@@ -37,14 +37,16 @@ is_in_hand s = is_some s.here || not (is_text s.lexical.mode)
 -- a footer and a declaration stand outside elements alone
 abbrev pub is_outer : Mode → Bool
 is_outer mode.Footer = true
+is_outer mode.Question = true
 is_outer mode.Declaration = true
 is_outer m = false
 
 abbrev pub may_stand : State → Bool
 may_stand s = not (is_some s.here && is_outer s.lexical.mode)
 
--- of what stands outside elements, tags and declarations have a limit
+-- of what stands outside elements, tags and declarations have a limit, and so has `<` until what it begins is known
 abbrev pub is_limited : Mode → Bool
+is_limited mode.Opening = true
 is_limited mode.Tag = true
 is_limited mode.Question = true
 is_limited mode.Declaration = true

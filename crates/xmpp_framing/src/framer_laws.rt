@@ -1,14 +1,15 @@
 //! Laws of the machine that a framer is.
-ghost use Rattle.std.specs.Prelude.{◌≡◌, ◌≢◌, ◌≤◌, ◌<◌, ◌+◌, ℕ, List, ◌∷◌, ◌++◌, [], Bool, true, false, Some, None, Ok, Err, codes, length, slice_index};
+ghost use Rattle.std.specs.Prelude.{◌≡◌, ◌≢◌, ◌≤◌, ◌<◌, ◌+◌, ◌^◌, ℕ, List, ◌∷◌, ◌++◌, [], Bool, true, false, Some, None, Ok, Err, codes, length, slice_index};
 ghost use Rattle.std.specs.Option.{is_some};
 ghost use Rattle.xmpp_framing.specs.FaultRows.{Counts, Decides, EndsTag, Takes, has_limit, is_in_hand, may_stand, whole};
 ghost use Rattle.xmpp_framing.specs.Machine.{is_too_long, run, step};
 ghost use Rattle.xmpp_framing.specs.MarkupSteps.{ends_in_question};
-ghost use Rattle.xmpp_framing.specs.States.{Turn, in_run, may_declare, token_place};
+ghost use Rattle.xmpp_framing.specs.States.{Turn, from_start, in_run, may_declare, token_place, turn};
 ghost use Rattle.xmpp_framing.specs.TagSteps.{ends_stream, is_header, is_spelled, is_too_deep, misplaced_why, header_why, start_why, tag_anew, tag_here};
 ghost use Rattle.xmpp_framing.specs.TextSteps.{is_forbidden};
 ghost use Rattle.xmpp_framing.specs.declared.faults.Fault.{Fault};
 ghost use Rattle.xmpp_framing.specs.declared.faults.Why.TheVariants as why;
+ghost use Rattle.xmpp_framing.specs.declared.limits.Limits.{Limits};
 ghost use Rattle.xmpp_framing.specs.declared.states.Mode.TheVariants as mode;
 ghost use Rattle.xmpp_framing.specs.declared.states.Phase.TheVariants as phase;
 ghost use Rattle.xmpp_names.specs.Ends.{end_of};
@@ -45,13 +46,20 @@ pub fn long_and_broken_bytes_are_told()
 
 /// A law: what is compared with `Limits.bytes` is how many bytes there are from the first one on. The `<` that begins
 /// something outside elements is byte 1, and its place the first byte's. Each further byte of the element, tag or
-/// declaration adds 1, up to 2^64 - 1, and leaves that place, as long as no fault has come and it isn't whole. The premise
-/// on the state before says that a footer or a declaration isn't in hand inside an element, where neither may come.
+/// declaration adds 1, up to 2^64 - 1, and leaves that place, as long as no fault has come and it isn't whole. So behind
+/// fewer than 2^64 bytes from the start on without a fault, where something with a limit is in hand, the place of its
+/// first byte and the count add up to all of them. Nor is a footer or a declaration ever in hand there inside an element,
+/// as the premise on the state before says.
 pub fn bytes_are_counted_from_the_first()
     ensures first { (t : Turn) → Takes t.state mode.Text 60 → is_some t.state.here ≡ false
         → ((step t 60).state.places.used ≡ 1) × ((step t 60).state.places.item_at ≡ t.state.places.at) }
     ensures more { (t : Turn) (b : ℕ) → is_in_hand t.state ≡ true → may_stand t.state ≡ true → 0 < t.state.places.used → (step t b).state.fault ≡ None
         → has_limit (step t b).state ≡ true → Counts t.state (step t b).state }
+    ensures in_runs { (limits : Limits) (bytes : List ℕ) → length bytes < 2 ^ 64 → (run (turn (from_start limits) []) bytes).state.fault ≡ None
+        → has_limit (run (turn (from_start limits) []) bytes).state ≡ true → (0 < (run (turn (from_start limits) []) bytes).state.places.used)
+        × ((run (turn (from_start limits) []) bytes).state.places.item_at + (run (turn (from_start limits) []) bytes).state.places.used ≡ length bytes) }
+    ensures may_stand { (limits : Limits) (bytes : List ℕ) → length bytes < 2 ^ 64 → (run (turn (from_start limits) []) bytes).state.fault ≡ None
+        → may_stand (run (turn (from_start limits) []) bytes).state ≡ true }
 {}
 
 /// A law: the byte where `<!` departs from `<![CDATA[` tells `Restricted`; so do the `?` of `<?` where no declaration may

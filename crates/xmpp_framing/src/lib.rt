@@ -41,9 +41,10 @@ pub use elements::{Element, Node, Nodes};
 pub use faults::{Fault, FeedFault, Why};
 pub use framer::Framer;
 pub use framer_laws::{
-    a_fault_stays, any_pieces, characters_are_judged, declarations_are_judged,
-    long_and_broken_bytes_are_told, references_are_judged, restricted_markup_is_told,
-    tags_in_elements_are_judged, tags_outside_elements_are_judged,
+    a_fault_stays, any_pieces, bytes_are_counted_from_the_first, characters_are_judged,
+    declarations_are_judged, depth_is_told_first, long_and_broken_bytes_are_told,
+    references_are_judged, restricted_markup_is_told, tags_in_elements_are_judged,
+    tags_outside_elements_are_judged, tags_without_a_name_are_told,
 };
 pub use items::{Item, Items};
 pub use laws::{first_attributes_are_kept, tidy_element_reads_the_same, tidy_element_stays};
