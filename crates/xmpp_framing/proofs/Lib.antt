@@ -21,3 +21,5 @@ pub mod ItemsGrow
 pub mod Pieces
 pub mod Quiet
 pub mod FaultLaws
+pub mod PlainTexts
+pub mod PlainTags

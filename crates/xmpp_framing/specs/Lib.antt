@@ -18,3 +18,4 @@ pub mod Machine
 pub mod StateCodes
 pub mod FramerView
 pub mod FaultRows
+pub mod ManyBytes

@@ -16,6 +16,7 @@ mod framer_tests;
 mod items;
 mod laws;
 mod limits;
+mod many_bytes;
 mod markup_in_hand;
 mod reading;
 mod rule;
