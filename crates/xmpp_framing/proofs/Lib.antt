@@ -21,3 +21,4 @@ pub mod ItemsGrow
 pub mod Pieces
 pub mod Quiet
 pub mod FaultLaws
+pub mod HeldBytes
