@@ -22,3 +22,8 @@ pub mod Pieces
 pub mod Quiet
 pub mod FaultLaws
 pub mod HeldBytes
+pub mod ByteSteps
+pub mod TextBytes
+pub mod DataRuns
+pub mod ReferenceRuns
+pub mod TextRuns
