@@ -51,7 +51,7 @@ pub record Said (s : State) (text : List ℕ) : Type 0 where
   pub quiet : IsQuiet s
   pub chars : s.chars ≡ text
 
-in_front : (front chars held say rest more : List ℕ) → front ≡ chars ++ say → say ++ rest ≡ held ++ more → front ++ rest ≡ (chars ++ held) ++ more
+pub in_front : (front chars held say rest more : List ℕ) → front ≡ chars ++ say → say ++ rest ≡ held ++ more → front ++ rest ≡ (chars ++ held) ++ more
 in_front front chars held say rest more is e = rw is (append_assoc chars say rest ∙ ap (λ l. chars ++ l) e ∙ sym (append_assoc chars held more))
 
 quiet_read : (s : State) (o : OpenElement) (a c n : ℕ) (r : Bool) → Reads s mode.Text o a c n r → s.pending ≡ [] → IsQuiet s

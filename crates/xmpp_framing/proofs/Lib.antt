@@ -26,4 +26,6 @@ pub mod ByteSteps
 pub mod TextBytes
 pub mod DataRuns
 pub mod ReferenceRuns
+pub mod SectionBytes
+pub mod SectionRuns
 pub mod TextRuns
