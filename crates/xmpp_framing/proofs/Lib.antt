@@ -29,3 +29,5 @@ pub mod ReferenceRuns
 pub mod SectionBytes
 pub mod SectionRuns
 pub mod TextRuns
+pub mod DeclarationBytes
+pub mod DeclarationRuns
