@@ -21,3 +21,7 @@ pub mod ItemsGrow
 pub mod Pieces
 pub mod Quiet
 pub mod FaultLaws
+pub mod ValueTexts
+pub mod TagParts
+pub mod TagRuns
+pub mod FooterRuns
