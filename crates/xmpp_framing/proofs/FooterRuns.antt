@@ -1,6 +1,7 @@
 -- A framer reads what spells the footer: the stream ends.
-use Rattle.std.proofs.Common.{◌≡◌, ℕ, ◌+◌, ◌<◌, ◌≤◌, Bool, true, false, eqb, ltb, leb, not, ◌&&◌, ◌||◌, List, [], ◌∷◌, ◌++◌, Option, Some, None, length, bytes_eq, refl, sym, ap, subst, ◌∙◌, arith, append_assoc, append-nil, length-append}
+use Rattle.std.proofs.Common.{◌≡◌, ℕ, ◌+◌, ◌<◌, ◌≤◌, Bool, true, false, eqb, ltb, leb, not, ◌&&◌, List, [], ◌∷◌, ◌++◌, Some, None, length, bytes_eq, refl, sym, ap, subst, ◌∙◌, arith, append_assoc, append-nil, length-append}
 use Rattle.std.proofs.lemmas.Bool.{and_parts, and_left, and_from, not-true, lt-ltb, le-ltb}
+use Rattle.std.proofs.lemmas.Option.{same_Some}
 use Rattle.std.proofs.lemmas.Slice.Eq.{bytes_eq-Decides}
 use Rattle.std.specs.List.{list_all}
 use Rattle.std.specs.Option.{is_some}
@@ -16,13 +17,12 @@ use Rattle.xmpp_framing.proofs.TagParts.{is_inner, name_part, white_inner, white
 use Rattle.xmpp_framing.proofs.TagRuns.{DecidesLast, InMarkup, after, alike_behind, begins, held_behind, opened, opened_is, takes}
 use Rattle.xmpp_framing.proofs.ValueTexts.{leads}
 use Rattle.xmpp_framing.specs.FaultRows.{Takes}
-use Rattle.xmpp_framing.specs.Machine.{is_too_long, passed, run, step}
+use Rattle.xmpp_framing.specs.Machine.{behind_byte, is_too_long, passed, run, step}
 use Rattle.xmpp_framing.specs.MarkupSteps.{in_phase}
-use Rattle.xmpp_framing.specs.States.{State, counted, gathered, gathered_in, item_ended, turn}
+use Rattle.xmpp_framing.specs.States.{State, Turn, counted, gathered, gathered_in, gives, item_ended, moved, turn}
 use Rattle.xmpp_framing.specs.TagSteps.{ends_stream, footer_closes, in_footer, in_opening, is_between, is_name_of}
 use Rattle.xmpp_framing.specs.declared.items.Item.{Item}
 use Rattle.xmpp_framing.specs.declared.items.Item.TheVariants as item
-use Rattle.xmpp_framing.specs.declared.states.Mode.{Mode}
 use Rattle.xmpp_framing.specs.declared.states.Mode.TheVariants as mode
 use Rattle.xmpp_framing.specs.declared.states.Phase.TheVariants as phase
 
@@ -134,12 +134,9 @@ record Keeps (s t : State) (items : List Item) (bytes token : List ℕ) : Type 0
   markup : InMarkup s behind mode.Footer token None []
   uncounted : behind.places.used ≡ 0
 
-one_some : (x y : List ℕ) → Some x ≡ Some y → x ≡ y
-one_some x y e = cc
-
 nothing_more : (s t : State) (items : List Item) (token held : List ℕ) → InMarkup s t mode.Footer token None held → t.places.used ≡ 0 → utf8_run held [] ≡ Some [] → Keeps s t items [] token
 nothing_more s t items token held h none r =
-    record { behind = t; goes_on = refl; markup = subst (InMarkup s t mode.Footer token None) (one_some held [] r) h; uncounted = none }
+    record { behind = t; goes_on = refl; markup = subst (InMarkup s t mode.Footer token None) (same_Some held [] r) h; uncounted = none }
 
 few_kept : (s t : State) (token held : List ℕ) → InMarkup s t mode.Footer token None held → length token < length s.name + 2 → ltb (length t.token) (length t.name + 2) ≡ true
 few_kept s t token held h less =
@@ -182,11 +179,19 @@ skips s t items (b ∷ bs) token held h none most white r =
 abbrev ended : State → State
 ended t = passed (in_phase (item_ended (gathered (counted t) 62)) phase.Ended) 62
 
-end_step : (t : State) (items : List Item) → Takes t mode.Footer 62 → t.lexical.quote ≡ None → ends_stream (gathered (counted t) 62) ≡ true → step (turn t items) 62 ≡ turn (ended t) (items ++ item.Footer ∷ [])
-unfolding in_footer footer_closes
-end_step t items h unquoted e = let none : is_some t.lexical.quote ≡ false = ap is_some unquoted in goes (turn t items) mode.Footer 62 h ∙ rw (none, e) refl
+in_footer_closes : (t : Turn) → t.state.lexical.quote ≡ None → in_footer t 62 ≡ footer_closes (moved t (gathered t.state 62))
+unfolding in_footer
+in_footer_closes t e = let none : is_some t.state.lexical.quote ≡ false = ap is_some e in rw none refl
 
--- The stream has ended: what stays, and that nothing is in hand.
+closes_stream : (t : Turn) → ends_stream t.state ≡ true → footer_closes t ≡ gives (in_phase (item_ended t.state) phase.Ended) t.items item.Footer
+unfolding footer_closes
+closes_stream t e = rw e refl
+
+end_step : (t : State) (items : List Item) → Takes t mode.Footer 62 → t.lexical.quote ≡ None → ends_stream (gathered (counted t) 62) ≡ true → step (turn t items) 62 ≡ turn (ended t) (items ++ item.Footer ∷ [])
+end_step t items h unquoted e =
+    goes (turn t items) mode.Footer 62 h ∙ ap (λ u. behind_byte u 62) (in_footer_closes (turn (counted t) items) unquoted ∙ closes_stream (turn (gathered (counted t) 62) items) e)
+
+-- The stream has ended: what stays as it was, and that nothing is in hand.
 pub record HasEnded (s t : State) : Type 0 where
   pub limits : t.limits ≡ s.limits
   pub here : t.here ≡ s.here
@@ -242,6 +247,7 @@ module _ (s : State) (items : List Item) (bytes : List ℕ) (quiet : IsQuiet s) 
       let shown = takes s t mode.Opening (60 ∷ []) [] [] None 47 h refl (slash_is_short t refl none) in
       (ap (λ u. step u 47) begun ∙ slash_step t items shown none, slashed_is s t (60 ∷ []) h)
 
+  -- White space behind the name isn't kept, and so the end tag in hand is the footer's without it.
   pub footer_run : s.lexical.phase ≡ phase.Between → IsTag bytes (end_tag s.name) → (t : State) × (run (turn s items) bytes ≡ turn t (items ++ item.Footer ∷ [])) × HasEnded s t × DecidesLast s items bytes
   unfolding utf8_next
   footer_run between is =

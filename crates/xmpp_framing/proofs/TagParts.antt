@@ -1,6 +1,6 @@
 -- What the bytes of a tag do to its quotes and to the character in hand.
-use Rattle.std.proofs.Common.{◌≡◌, ◌≢◌, ℕ, Bool, true, false, eqb, ltb, not, ◌&&◌, List, [], ◌∷◌, ◌++◌, Option, Some, None, refl, sym, ap, subst, ◌∙◌, arith, append_assoc}
-use Rattle.std.proofs.lemmas.Bool.{and_parts, and_from, and_left, and_right, eqb-true, eq-eqb, not-true, not_from_false, cond-true, cond-false}
+use Rattle.std.proofs.Common.{◌≡◌, ℕ, Bool, true, false, eqb, ltb, not, ◌&&◌, List, [], ◌∷◌, ◌++◌, Option, Some, None, refl, sym, ap, subst, ◌∙◌, arith, append_assoc}
+use Rattle.std.proofs.lemmas.Bool.{and_parts, and_from, and_left, and_right, eq-eqb, not-true, not_from_false, cond-true, cond-false}
 use Rattle.std.proofs.lemmas.Bool.Decides.{nat_tests}
 use Rattle.std.proofs.lemmas.Str.{IsUtf8-from_is_utf8}
 use Rattle.std.specs.List.{list_all}
@@ -9,10 +9,10 @@ use Rattle.std.specs.Str.{IsUtf8, is_utf8}
 use Rattle.xmpp_tokens.proofs.TagLaws.{qualified_all, qualified_begins}
 use Rattle.xmpp_tokens.proofs.Utf8Runs as runs
 use Rattle.xmpp_tokens.specs.Characters.{is_white, is_name_start}
-use Rattle.xmpp_tokens.specs.Tags.{Attribute, IsAttribute, AreAttributes, IsEndTag, IsSpelled, IsStartTag, are_white, has_parts, is_qualified, is_qualified_byte, is_quote, quote_behind, tag_end}
-use Rattle.xmpp_tokens.specs.Utf8.{utf8_next, utf8_run}
+use Rattle.xmpp_tokens.specs.Tags.{Attribute, AreAttributes, IsEndTag, IsSpelled, IsStartTag, are_white, has_parts, is_qualified, is_qualified_byte, is_quote, quote_behind, tag_end}
+use Rattle.xmpp_tokens.specs.Utf8.{utf8_run}
 use Rattle.xmpp_tokens.specs.Values.{value_of}
-use Rattle.xmpp_framing.proofs.ValueTexts.{are_ascii, ascii_runs, ascii_step, runs_append, value_runs}
+use Rattle.xmpp_framing.proofs.ValueTexts.{ascii_runs, ascii_step, runs_append, value_runs}
 
 -- the quote that is open behind bytes
 abbrev pub quote_after : Option ℕ → List ℕ → Option ℕ

@@ -1,7 +1,8 @@
 -- A framer reads what spells a tag: at the tag's `>` the whole tag is in its hand.
 use Rattle.std.proofs.Common.{◌≡◌, ℕ, ◌+◌, ◌<◌, ◌≤◌, ◌^◌, ◌⊎◌, ⊎_elim, Bool, true, false, eqb, ltb, leb, not, ◌&&◌, if◌then◌else◌, List, [], ◌∷◌, ◌++◌, Option, Some, None, length, unwrap_or, refl, sym, ap, subst, ◌∙◌, arith, append_assoc, append-nil, length-append}
-use Rattle.std.proofs.lemmas.Bool.{cases_Bool, and_parts, and_left, and_right, false≢true, not-true}
+use Rattle.std.proofs.lemmas.Bool.{and_parts, and_left, and_right, false≢true, not-true}
 use Rattle.std.proofs.lemmas.Bool.Decides.{nat_tests}
+use Rattle.std.proofs.lemmas.Option.{same_Some}
 use Rattle.std.specs.Option.{is_some}
 use Rattle.xmpp_names.proofs.EndLaws.{end_tags_are_read}
 use Rattle.xmpp_names.proofs.StartLaws as laws
@@ -19,7 +20,7 @@ use Rattle.xmpp_tokens.specs.Utf8.{continues, held_after, utf8_next, utf8_run}
 use Rattle.xmpp_framing.proofs.FaultLaws.{goes}
 use Rattle.xmpp_framing.proofs.Pieces.{run_append}
 use Rattle.xmpp_framing.proofs.Quiet.{AreAlike, HasInHand, HasRoom, IsQuiet}
-use Rattle.xmpp_framing.proofs.TagParts.{IsPart, IsWhole, ends_tag, none_ends, quote_after, end_whole, start_whole, whole_text}
+use Rattle.xmpp_framing.proofs.TagParts.{IsWhole, ends_tag, none_ends, quote_after, end_whole, start_whole, whole_text}
 use Rattle.xmpp_framing.proofs.ValueTexts.{leads}
 use Rattle.xmpp_framing.specs.FaultRows.{Takes}
 use Rattle.xmpp_framing.specs.Machine.{behind_byte, is_too_long, passed, run, step}
@@ -181,15 +182,12 @@ record Gathers (s t : State) (items : List Item) (bytes token : List ℕ) (quote
   markup : InMarkup s behind mode.Tag token quote []
   count : Counts s behind n
 
-one_some : (x y : List ℕ) → Some x ≡ Some y → x ≡ y
-one_some x y e = cc
-
 gathers : (s t : State) (items : List Item) (bs token held : List ℕ) (quote : Option ℕ) (n end total : ℕ) → HasRoomFor s total → n + length bs ≡ end → end < total → InMarkup s t mode.Tag token quote held → Counts s t n
     → none_ends quote bs ≡ true → utf8_run held bs ≡ Some [] → Gathers s t items bs (token ++ bs) (quote_after quote bs) end
 gathers s t items [] token held quote n end total room is less h count e r = record {
   behind = t;
   goes_on = refl;
-  markup = retold s t mode.Tag token (token ++ []) held [] quote quote h (sym (append-nil token)) refl (one_some held [] r);
+  markup = retold s t mode.Tag token (token ++ []) held [] quote quote h (sym (append-nil token)) refl (same_Some held [] r);
   count = subst (λ m. Counts s t m) (omega (arith, is)) count;
 }
 gathers s t items (b ∷ bs) token held quote n end total room is less h count e r =
@@ -299,10 +297,10 @@ pub record BeginsTag (s : State) (first : ℕ) : Type 0 where
 
 module _ (s : State) (items : List Item) (bytes : List ℕ) (quiet : IsQuiet s) (room : HasRoom s bytes) where
   -- behind `<` and the byte behind it
-  second : (first : ℕ) (others : List ℕ) → BeginsTag s first → ends_tag None first ≡ false → (next : List ℕ) → utf8_next [] first ≡ Some next → 1 < length bytes
+  second : (first : ℕ) → BeginsTag s first → ends_tag None first ≡ false → (next : List ℕ) → utf8_next [] first ≡ Some next → 1 < length bytes
       → let t = after_byte (opened (is_some s.here) s) first in
       (step (step (turn s items) 60) first ≡ turn t items) × InMarkup s t mode.Tag (60 ∷ first ∷ []) (quote_behind None first) next × Counts s t 2
-  second first others b stays next is more =
+  second first b stays next is more =
       let same : AreAlike s s = record { limits = refl; here = refl; below = refl; scopes = refl; name = refl; phase = refl; spent = refl } in
       let none : Counts s s 0 = record { used = omega arith; small = quiet.counted } in
       let begun = begins s items (is_some s.here) quiet (is_short s 60 (fits s s 0 (length bytes) room same none (omega (arith, more)))) refl in
@@ -320,7 +318,7 @@ module _ (s : State) (items : List Item) (bytes : List ℕ) (quiet : IsQuiet s) 
       let p = and_parts (not (ends_tag None first)) (none_ends (quote_behind None first) others) w.part.goes_on in
       let l = leads [] first others w.part.runs in
       let size : length bytes ≡ length others + 3 = ap length w.bytes_are ∙ sized first others in
-      let two = second first others b (not-true _ p.0) l.next l.is (omega (arith, size)) in
+      let two = second first b (not-true _ p.0) l.next l.is (omega (arith, size)) in
       let t = after_byte (opened (is_some s.here) s) first in
       let more = gathers s t items others (60 ∷ first ∷ []) l.next (quote_behind None first) 2 (length others + 2) (length bytes) room (omega arith) (omega (arith, size)) two.1 two.2 p.1 l.goes in
       let u = more.behind in

@@ -1,7 +1,8 @@
 -- What stands between the quotes of a value is UTF-8 where the value is.
-use Rattle.std.proofs.Common.{◌≡◌, ℕ, ◌+◌, ◌/◌, ◌%◌, ◌<◌, ◌≤◌, ◌⊎◌, inl, inr, ⊎_elim, Bool, true, false, cond, eqb, ltb, not, ◌&&◌, ◌||◌, List, [], ◌∷◌, ◌++◌, Option, Some, None, codes, bytes_eq, refl, sym, ap, subst, ◌∙◌, arith}
-use Rattle.std.proofs.lemmas.Bool.{cases_Bool, cases_lt, and_parts, and_from, cond-true, cond-false, eqb-true, false_from_ne_true, false≢true, lt-ltb, le-ltb, ltb-true, or_cases, or_parts}
+use Rattle.std.proofs.Common.{◌≡◌, ℕ, ◌+◌, ◌<◌, ◌≤◌, ◌⊎◌, inl, inr, ⊎_elim, Bool, true, false, cond, eqb, ltb, not, ◌&&◌, ◌||◌, List, [], ◌∷◌, ◌++◌, Option, Some, None, codes, bytes_eq, refl, sym, ap, subst, ◌∙◌, arith}
+use Rattle.std.proofs.lemmas.Bool.{cases_Bool, cases_lt, and_parts, and_from, cond-true, cond-false, eqb-true, false_from_ne_true, false≢true, lt-ltb, le-ltb, ltb-true, or_cases}
 use Rattle.std.proofs.lemmas.Bool.Decides.{nat_tests}
+use Rattle.std.proofs.lemmas.Option.{same_Some}
 use Rattle.std.proofs.lemmas.Slice.Eq.{bytes_eq-Decides}
 use Rattle.std.proofs.lemmas.Str.{IsUtf8-encode, IsUtf8-from_is_utf8}
 use Rattle.std.specs.List.{list_all}
@@ -27,11 +28,8 @@ are_ascii bs = list_all (λ b. ltb b 128) bs
 
 -- ---- the character in hand
 
-one_some : (x y : List ℕ) → Some x ≡ Some y → x ≡ y
-one_some x y e = cc
-
-none_some : (x : List ℕ) → None ≡ Some x → ⊥
-none_some x e = cc
+nsame_Some : (x : List ℕ) → None ≡ Some x → ⊥
+nsame_Some x e = cc
 
 pub record Leads (held : List ℕ) (b : ℕ) (bs : List ℕ) : Type 0 where
   pub next : List ℕ
@@ -46,7 +44,7 @@ leads held b bs h = from (utf8_next held b) refl h
     from (Some next) is h = record { next = next; is = is; goes = h }
 
 pub runs_append : (a b held : List ℕ) → utf8_run held a ≡ Some [] → utf8_run held (a ++ b) ≡ utf8_run [] b
-runs_append [] b held h = let same : held ≡ [] = one_some held [] h in ap (λ l. utf8_run l b) same
+runs_append [] b held h = let same : held ≡ [] = same_Some held [] h in ap (λ l. utf8_run l b) same
 runs_append (x ∷ xs) b held h =
     let l = leads held x xs h in
     ap (option_and_then (λ next. utf8_run next (xs ++ b))) l.is ∙ runs_append xs b l.next l.goes
@@ -81,9 +79,9 @@ no_tail b (inr top) = grind (arith, nat_tests)
 begins_anew : (b : ℕ) (held next : List ℕ) → Begins b → utf8_next held b ≡ Some next → held ≡ []
 unfolding utf8_next
 begins_anew b [] next h e = refl
-begins_anew b (x ∷ []) next h e = absurd (none_some next (sym (cond-false (is_second x b) _ None (no_second x b h)) ∙ e))
-begins_anew b (x ∷ y ∷ []) next h e = absurd (none_some next (sym (cond-false (is_tail b) _ None (no_tail b h)) ∙ e))
-begins_anew b (x ∷ y ∷ z ∷ more) next h e = absurd (none_some next (sym (cond-false (is_tail b) _ None (no_tail b h)) ∙ e))
+begins_anew b (x ∷ []) next h e = absurd (nsame_Some next (sym (cond-false (is_second x b) _ None (no_second x b h)) ∙ e))
+begins_anew b (x ∷ y ∷ []) next h e = absurd (nsame_Some next (sym (cond-false (is_tail b) _ None (no_tail b h)) ∙ e))
+begins_anew b (x ∷ y ∷ z ∷ more) next h e = absurd (nsame_Some next (sym (cond-false (is_tail b) _ None (no_tail b h)) ∙ e))
 
 -- ---- the text of a reference
 
@@ -221,7 +219,7 @@ record Says (c : ℕ) (o : Option (List ℕ)) (v : List ℕ) : Type 0 where
 
 said_tells : (r : Reference) (o : Option (List ℕ)) (v : List ℕ) → said r o ≡ Some v → (c : ℕ) × (r ≡ Character c) × Says c o v
 said_tells (Character c) None v e = absurd cc
-said_tells (Character c) (Some w) v e = (c, refl, record { more = w; is = refl; value_is = one_some v (encode_utf8 c ++ w) (sym e) })
+said_tells (Character c) (Some w) v e = (c, refl, record { more = w; is = refl; value_is = same_Some v (encode_utf8 c ++ w) (sym e) })
 said_tells Unknown o v e = absurd cc
 said_tells Malformed o v e = absurd cc
 
@@ -232,7 +230,7 @@ record Fronted (first : List ℕ) (o : Option (List ℕ)) (v : List ℕ) : Type 
 
 in_front_tells : (first : List ℕ) (o : Option (List ℕ)) (v : List ℕ) → in_front first o ≡ Some v → Fronted first o v
 in_front_tells first None v e = absurd cc
-in_front_tells first (Some w) v e = record { more = w; is = refl; value_is = one_some v (first ++ w) (sym e) }
+in_front_tells first (Some w) v e = record { more = w; is = refl; value_is = same_Some v (first ++ w) (sym e) }
 
 -- a byte of the name in hand
 inside_name : (so more : List ℕ) (b : ℕ) → are_ascii ((so ++ b ∷ []) ++ more) ≡ true → b < 128
@@ -271,7 +269,7 @@ space_tells held v o e h =
 
 mutual
   text_behind : (bs : List ℕ) (returned : Bool) (held v : List ℕ) → value_from (text returned) bs ≡ Some v → (returned ≡ true → held ≡ []) → Runs held v → Runs held bs
-  text_behind [] returned held v e anew h = let same : [] ≡ v = one_some [] v e in ap (utf8_run held) same ∙ h
+  text_behind [] returned held v e anew h = let same : [] ≡ v = same_Some [] v e in ap (utf8_run held) same ∙ h
   text_behind (b ∷ bs) returned held v e anew h =
       ⊎_elim (λ c.
       let p = and_parts returned (eqb b 10) c.0 in
@@ -279,7 +277,7 @@ mutual
       let rest = text_behind bs false [] v c.1 (λ other. refl) (ap (λ s. utf8_run s v) (sym nothing) ∙ h) in
       ap (λ s. utf8_run s (b ∷ bs)) nothing ∙ plain_step b 10 bs p.1 (omega arith) rest)
       (λ c. ⊎_elim (λ d. let r = reference_behind bs [] held v d.1 h in ap (λ s. utf8_run s (b ∷ bs)) r.nothing ∙ plain_step b 38 bs d.0 (omega arith) r.goes)
-      (λ d. ⊎_elim (λ f. absurd (none_some v f.1))
+      (λ d. ⊎_elim (λ f. absurd (nsame_Some v f.1))
       (λ f. ⊎_elim (λ g.
       let s = space_tells held v (value_from (text true) bs) g.1 h in
       ap (λ s. utf8_run s (b ∷ bs)) s.2.nothing ∙ plain_step b 13 bs g.0 (omega arith) (text_behind bs true [] s.0 s.1 (λ other. refl) s.2.goes))
@@ -295,7 +293,7 @@ mutual
       (chosen (eqb b 9 || eqb b 10) _ _ (Some v) g.1)) (chosen (eqb b 13) _ _ (Some v) f.1)) (chosen (eqb b 60) _ _ (Some v) d.1)) (chosen (eqb b 38) _ _ (Some v) c.1)) (chosen (returned && eqb b 10) _ _ (Some v) e)
 
   reference_behind : (bs so held v : List ℕ) → value_from (reference so) bs ≡ Some v → Runs held v → Spaced held bs
-  reference_behind [] so held v e h = absurd (none_some v e)
+  reference_behind [] so held v e h = absurd (nsame_Some v e)
   reference_behind (b ∷ bs) so held v e h =
       ⊎_elim
       (λ end.
@@ -312,9 +310,9 @@ mutual
 text_of : (o : Option (List ℕ)) (v : List ℕ) → as_text o ≡ Some v → (w : List ℕ) × (o ≡ Some w) × IsUtf8 w
 text_of None v e = absurd cc
 text_of (Some w) v e =
-    ⊎_elim (λ (t : is_utf8 w ≡ true). (w, refl, IsUtf8-from_is_utf8 w t)) (λ (f : is_utf8 w ≡ false). absurd (none_some v (sym (cond-false (is_utf8 w) (Some w) None f) ∙ e))) (cases_Bool (is_utf8 w))
+    ⊎_elim (λ (t : is_utf8 w ≡ true). (w, refl, IsUtf8-from_is_utf8 w t)) (λ (f : is_utf8 w ≡ false). absurd (nsame_Some v (sym (cond-false (is_utf8 w) (Some w) None f) ∙ e))) (cases_Bool (is_utf8 w))
 
 pub value_runs : (raw v : List ℕ) → value_of raw ≡ Some v → utf8_run [] raw ≡ Some []
 unfolding value_of
 value_runs raw v e =
-    ⊎_elim (λ c. let w = text_of (value_from (text false) raw) v c.1 in text_behind raw false [] w.0 w.1 (λ other. refl) (text_runs w.0 w.2)) (λ c. absurd (none_some v c.1)) (chosen (are_characters raw) _ _ (Some v) e)
+    ⊎_elim (λ c. let w = text_of (value_from (text false) raw) v c.1 in text_behind raw false [] w.0 w.1 (λ other. refl) (text_runs w.0 w.2)) (λ c. absurd (nsame_Some v c.1)) (chosen (are_characters raw) _ _ (Some v) e)
