@@ -21,6 +21,13 @@ pub mod ItemsGrow
 pub mod Pieces
 pub mod Quiet
 pub mod FaultLaws
+pub mod TagEnds
+pub mod OneText
+pub mod OneSpelling
+pub mod ValueTexts
+pub mod TagParts
+pub mod TagRuns
+pub mod FooterRuns
 pub mod HeldBytes
 pub mod ByteSteps
 pub mod TextBytes
