@@ -10,6 +10,7 @@ pub mod TidyLaws
 pub mod TidyReads
 pub mod TidySteps
 mod Worked
+mod WorkedRuns
 mod WorkedGrammar
 mod WorkedSpellings
 pub mod WrittenNodes
