@@ -74,6 +74,24 @@ pub record SpellsNextHeader (scope : Scope) (bytes name : List ℕ) (inner : Sco
   pub start : IsStart scope bytes raw tag
   pub named : IsHeaderName tag.ns tag.name
 
+-- Bytes are a header's tag that is one of an empty element: it is header and footer together, and spells neither alone.
+pub record SpellsEmptyHeader (bytes name : List ℕ) (scope : Scope) (h : Header) : Type 0 where
+  pub raw : List tokens.Attribute
+  pub tag : Tag
+  pub start : IsStart [] bytes raw tag
+  pub is_empty : tag.empty ≡ true
+  pub name_is : tag.spelled ≡ name
+  pub scope_is : tag.bindings ≡ scope
+  pub says : h ≡ header_of tag
+
+-- The same behind another header, as in `SpellsNextHeader`.
+pub record SpellsNextEmptyHeader (scope : Scope) (bytes name : List ℕ) (inner : Scope) (h : Header) : Type 0 where
+  pub spelled : SpellsEmptyHeader bytes name inner h
+  pub raw : List tokens.Attribute
+  pub tag : Tag
+  pub start : IsStart scope bytes raw tag
+  pub named : IsHeaderName tag.ns tag.name
+
 -- Bytes are the footer behind a header with this name as it is spelled.
 abbrev pub SpellsFooter : List ℕ → List ℕ → Type 0
 SpellsFooter bytes name = IsTag bytes (end_tag name)
@@ -81,10 +99,10 @@ SpellsFooter bytes name = IsTag bytes (end_tag name)
 -- Bytes spell an item behind a header that was read, whose scope and spelled name these are. A header's place is not
 -- spelled.
 pub data SpellsItem : Scope → List ℕ → List ℕ → Item → Type 0 where
-  header : (scope : Scope) (name bytes : List ℕ) (i : Item) (next : List ℕ) (inner : Scope) (at : ℕ) (h : Header)
+  a_header : (scope : Scope) (name bytes : List ℕ) (i : Item) (next : List ℕ) (inner : Scope) (at : ℕ) (h : Header)
       → SpellsNextHeader scope bytes next inner h → i ≡ item.Header at h → SpellsItem scope name bytes i
-  element : (scope : Scope) (name bytes : List ℕ) (i : Item) (e : Elem) → SpellsTop scope bytes e → i ≡ item.Element e → SpellsItem scope name bytes i
-  footer : (scope : Scope) (name bytes : List ℕ) (i : Item) → SpellsFooter bytes name → i ≡ item.Footer → SpellsItem scope name bytes i
+  an_element : (scope : Scope) (name bytes : List ℕ) (i : Item) (e : Elem) → SpellsTop scope bytes e → i ≡ item.Element e → SpellsItem scope name bytes i
+  a_footer : (scope : Scope) (name bytes : List ℕ) (i : Item) → SpellsFooter bytes name → i ≡ item.Footer → SpellsItem scope name bytes i
 
 abbrev pub bind : List ℕ → List ℕ → Binding
 bind prefix ns = record { prefix = prefix; ns = ns }
