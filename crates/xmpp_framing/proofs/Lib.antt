@@ -25,3 +25,4 @@ pub mod TextRuns
 pub mod TextFronts
 pub mod OpenLevels
 pub mod ReadSoFar
+pub mod ReadOutside

@@ -46,7 +46,7 @@ pub record FooterIn (now : InForce) (items : List Item) (bytes token : List ℕ)
 abbrev pub Outside : Mode → State → List Item → List ℕ → Type 0
 Outside mode.Text s items bytes = (s.token ≡ []) × (s.pending ≡ [] → StreamTo (in_force s.lexical.phase s.scopes s.name) bytes items)
 Outside mode.Reference s items bytes = ⊥
-Outside mode.Opening s items bytes = (s.token ≡ 60 ∷ []) × (s.lexical.spoiled ≡ false) × TokenIn (in_force s.lexical.phase s.scopes s.name) items bytes s.token s.places.token_at
+Outside mode.Opening s items bytes = TokenIn (in_force s.lexical.phase s.scopes s.name) items bytes s.token s.places.token_at
 Outside mode.Bang s items bytes = Unit {0}
 Outside mode.Question s items bytes = (admits_declaration s.lexical.phase ≡ true) × TokenIn (in_force s.lexical.phase s.scopes s.name) items bytes s.token s.places.token_at
 Outside mode.Declaration s items bytes = (admits_declaration s.lexical.phase ≡ true) × TokenIn (in_force s.lexical.phase s.scopes s.name) items bytes s.token s.places.token_at
