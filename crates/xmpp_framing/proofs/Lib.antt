@@ -26,3 +26,6 @@ pub mod TextFronts
 pub mod OpenLevels
 pub mod ReadSoFar
 pub mod ReadOutside
+pub mod TextHands
+pub mod ReadInside
+pub mod ReadStreams

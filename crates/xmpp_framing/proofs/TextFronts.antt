@@ -54,6 +54,10 @@ ends-append n (x ∷ xs) ys =
     ap (λ t. (n == 2 && x == 62) || t) (ends-append (brackets_behind n x) xs ys)
     ∙ sym (or_assoc (n == 2 && x == 62) (ends_behind (brackets_behind n x) xs) (ends_behind (counted_behind (brackets_behind n x) xs) ys))
 
+-- a front of what has no `]]>` has none
+pub ends_parted : (xs ys : List ℕ) → ends_behind 0 (xs ++ ys) ≡ false → ends_behind 0 xs ≡ false
+ends_parted xs ys e = (or_parts (ends_behind 0 xs) (ends_behind (counted_behind 0 xs) ys) (sym (ends-append 0 xs ys) ∙ e)).0
+
 line_ends-append : (r : Bool) (xs ys : List ℕ) → line_ends_behind r (xs ++ ys) ≡ line_ends_behind r xs ++ line_ends_behind (returned_behind r xs) ys
 line_ends-append r [] ys = refl
 line_ends-append r (x ∷ xs) ys =
@@ -62,6 +66,13 @@ line_ends-append r (x ∷ xs) ys =
     (λ e. by_test (r && x == 10)
     (λ f. rw (e, f) (line_ends-append false xs ys))
     (λ f. rw (e, f) (ap (λ l. x ∷ l) (line_ends-append false xs ys))))
+
+pub line_ends_bracket : (xs : List ℕ) → line_ends (xs ++ 93 ∷ []) ≡ line_ends xs ++ 93 ∷ []
+line_ends_bracket xs = line_ends-append false xs (93 ∷ []) ∙ ap (λ l. line_ends xs ++ l) (one (returned_behind false xs))
+  where
+    one : (r : Bool) → line_ends_behind r (93 ∷ []) ≡ 93 ∷ []
+    one true = refl
+    one false = refl
 
 no_bracket : (n b : ℕ) → (b == 93) ≡ false → brackets_behind n b ≡ 0
 no_bracket n b e = rw e refl

@@ -175,6 +175,9 @@ byte_judged text held b h c asked =
 abbrev pub are_plain : List ℕ → Bool
 are_plain bs = list_all (λ b. leb 32 b && ltb b 128) bs
 
+pub plain-append : (xs ys : List ℕ) → are_plain (xs ++ ys) ≡ (are_plain xs && are_plain ys)
+plain-append xs ys = list_all-append (λ b. leb 32 b && ltb b 128) xs ys
+
 plain_low : (b : ℕ) → (leb 32 b && ltb b 128) ≡ true → (b < 128) × (is_control b ≡ false)
 plain_low b e = (grind (arith, nat_tests), grind (arith, nat_tests))
 
