@@ -12,6 +12,7 @@ pub mod TidySteps
 mod Worked
 mod WorkedGrammar
 mod WorkedSpellings
+mod WorkedStreams
 pub mod WrittenNodes
 pub mod WrittenTags
 pub mod Stacks

@@ -1,14 +1,14 @@
 -- Open elements, each with the bytes that spell it so far.
-use Rattle.std.proofs.Common.{◌≡◌, ◌≢◌, ℕ, Bool, true, false, List, [], ◌∷◌, ◌++◌, map, refl, sym, ap, subst, ◌∙◌, append_assoc, append-nil}
+use Rattle.std.proofs.Common.{◌≡◌, ℕ, true, false, List, [], ◌∷◌, ◌++◌, map, refl, sym, ap, subst, ◌∙◌, append_assoc, append-nil}
 use Rattle.xmpp_tokens.specs.Tags as tokens
 use Rattle.xmpp_tokens.specs.Tags.{IsTag, end_tag}
 use Rattle.xmpp_names.specs.Grammar.{IsStart}
 use Rattle.xmpp_names.specs.Scopes.{Scope}
 use Rattle.xmpp_names.specs.Starts.{Tag}
 use Rattle.xmpp_framing.proofs.AttributeOrder.{sorted_attributes_IsAttrsOf}
-use Rattle.xmpp_framing.proofs.Folds.{joined_assoc, joined_none}
+use Rattle.xmpp_framing.proofs.Folds.{joined_assoc}
 use Rattle.xmpp_framing.proofs.TidyLaws.{tidied_stays}
-use Rattle.xmpp_framing.specs.Attributes.{Attribute, sorted_attributes}
+use Rattle.xmpp_framing.specs.Attributes.{sorted_attributes}
 use Rattle.xmpp_framing.specs.Spells.{IsBegun, Spells, SpellsContent, attribute_of, empty, filled, text_alone, with_element}
 use Rattle.xmpp_framing.specs.States.{OpenElement, with_more, with_text}
 use Rattle.xmpp_framing.specs.TagSteps.{attribute_from, element_from, scope_in}
@@ -99,7 +99,16 @@ CoveredLevel = Level IsContentBefore
 -- a start tag begins a level
 pub level_begun : (outer : Scope) (bytes : List ℕ) (raw : List tokens.Attribute) (t : Tag) → IsStart outer bytes raw t → t.empty ≡ false → OpenLevel outer t.bindings (record { spelled = t.spelled; element = element_from t }) bytes
 level_begun outer bytes raw t h e = record {
-  raw = raw; tag = t; start = bytes; inside = []; kids = no_nodes; is_start = h; not_empty = e; name_is = refl; own_is = refl; element_is = refl;
+  raw = raw;
+  tag = t;
+  start = bytes;
+  inside = [];
+  kids = no_nodes;
+  is_start = h;
+  not_empty = e;
+  name_is = refl;
+  own_is = refl;
+  element_is = refl;
   content = λ rest more c. c;
   bytes_are = sym (append-nil bytes);
 }
@@ -107,8 +116,15 @@ level_begun outer bytes raw t h e = record {
 -- a text joins it before another begins
 pub level_covered : (outer own : Scope) (o : OpenElement) (bytes front says : List ℕ) → OpenLevel outer own o bytes → IsText front says → CoveredLevel outer own (with_text o says) (bytes ++ front)
 level_covered outer own o bytes front says h t = record {
-  raw = h.raw; tag = h.tag; start = h.start; inside = h.inside ++ front; kids = joined h.kids (text_node says);
-  is_start = h.is_start; not_empty = h.not_empty; name_is = h.name_is; own_is = h.own_is;
+  raw = h.raw;
+  tag = h.tag;
+  start = h.start;
+  inside = h.inside ++ front;
+  kids = joined h.kids (text_node says);
+  is_start = h.is_start;
+  not_empty = h.not_empty;
+  name_is = h.name_is;
+  own_is = h.own_is;
   element_is = ap (λ e. with_nodes e (text_node says)) h.element_is;
   content = text_before (h.tag.bindings ++ outer) h.inside h.kids front says h.content t;
   bytes_are = ap (λ l. l ++ front) h.bytes_are ∙ append_assoc h.start h.inside front;
@@ -117,8 +133,15 @@ level_covered outer own o bytes front says h t = record {
 -- an element inside is whole
 pub level_resumed : (outer own : Scope) (o : OpenElement) (bytes middle : List ℕ) (e : Elem) → CoveredLevel outer own o bytes → Spells (own ++ outer) middle e → OpenLevel outer own (with_more o (child e no_nodes)) (bytes ++ middle)
 level_resumed outer own o bytes middle e h inner = record {
-  raw = h.raw; tag = h.tag; start = h.start; inside = h.inside ++ middle; kids = joined h.kids (child e no_nodes);
-  is_start = h.is_start; not_empty = h.not_empty; name_is = h.name_is; own_is = h.own_is;
+  raw = h.raw;
+  tag = h.tag;
+  start = h.start;
+  inside = h.inside ++ middle;
+  kids = joined h.kids (child e no_nodes);
+  is_start = h.is_start;
+  not_empty = h.not_empty;
+  name_is = h.name_is;
+  own_is = h.own_is;
   element_is = ap (λ f. with_nodes f (child e no_nodes)) h.element_is;
   content = element_behind (h.tag.bindings ++ outer) h.inside h.kids middle e h.content (subst (λ s. Spells (s ++ outer) middle e) (sym h.own_is) inner);
   bytes_are = ap (λ l. l ++ middle) h.bytes_are ∙ append_assoc h.start h.inside middle;

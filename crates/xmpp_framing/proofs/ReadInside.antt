@@ -1,6 +1,6 @@
 -- A byte in an element keeps what is known of the bytes behind it.
-use Rattle.std.proofs.Common.{◌≡◌, ◌≢◌, ℕ, ◌+◌, ◌<◌, ◌≤◌, ◌^◌, ◌⊎◌, inl, inr, ⊎_elim, Bool, true, false, not, ◌&&◌, ◌||◌, ◌==◌, if◌then◌else◌, List, [], ◌∷◌, ◌++◌, length, codes, slice_index, Option, Some, None, Result, Ok, Err, refl, sym, ap, subst, ◌∙◌, arith, append_assoc, append-nil, encode_utf8, bytes_eq}
-use Rattle.std.proofs.lemmas.Bool.{and_parts, cond_both, eqb-true, or_from, or_parts, true≢false, false≢true}
+use Rattle.std.proofs.Common.{◌≡◌, ℕ, Bool, true, false, not, ◌&&◌, ◌||◌, ◌==◌, if◌then◌else◌, List, [], ◌∷◌, ◌++◌, length, Option, Some, None, Result, Ok, Err, refl, sym, ap, subst, ◌∙◌, arith, append_assoc, append-nil}
+use Rattle.std.proofs.lemmas.Bool.{and_parts, cond_both, eqb-true, or_from, or_parts, false≢true}
 use Rattle.std.proofs.lemmas.Slice.Eq.{bytes_eq-Decides}
 use Rattle.std.specs.Option.{is_some}
 use Rattle.xmpp_tokens.specs.References.{reference_goes_on, referred}
@@ -14,19 +14,19 @@ use Rattle.xmpp_names.proofs.StartLaws as start_laws
 use Rattle.xmpp_names.specs.Ends.{end_of}
 use Rattle.xmpp_names.specs.Grammar.{IsStart}
 use Rattle.xmpp_names.specs.Scopes.{Scope}
-use Rattle.xmpp_names.specs.Starts.{Tag, start_of}
+use Rattle.xmpp_names.specs.Starts.{Tag}
 use Rattle.xmpp_names.specs.declared.faults.StartFault.{StartFault}
-use Rattle.xmpp_framing.proofs.OpenLevels.{AreCovered, CoveredLevel, OpenLevel, leaf_spelled, level_begun, level_closed, level_covered, level_resumed, spelled_is_tidy}
-use Rattle.xmpp_framing.proofs.ReadSoFar.{After, Around, Inside, IsFresh, Kept, MarkIn, OpensSection, SectionIn, TextIn, TopIsNoHeader, in_force, kept_on}
+use Rattle.xmpp_framing.proofs.OpenLevels.{AreCovered, CoveredLevel, leaf_spelled, level_begun, level_closed, level_covered, level_resumed, spelled_is_tidy}
+use Rattle.xmpp_framing.proofs.ReadSoFar.{After, Around, Inside, Kept, MarkIn, OpensSection, SectionIn, TextIn, TopIsNoHeader, in_force, kept_on}
 use Rattle.xmpp_framing.proofs.TextFronts.{front_seen, no_front}
 use Rattle.xmpp_framing.proofs.TextHands.{mark_begun, mark_more, marked_text, opens_more, reference_ends, section_bracket, section_ends, section_opens, section_other, section_third, section_waits, text_grows, text_waits}
 use Rattle.xmpp_framing.proofs.TextRuns.{Judged, ascii_alone, nothing_judged}
 use Rattle.xmpp_framing.specs.Machine.{taken_in}
 use Rattle.xmpp_framing.specs.MarkupSteps.{in_bang, section_opened}
-use Rattle.xmpp_framing.specs.Spells.{IsHeaderName, Spells}
-use Rattle.xmpp_framing.specs.States.{OpenElement, State, Turn, fails, gathered, gathered_in, gives, in_run, item_ended, moved, next_place, run_begun, token_begun, token_ended, token_fails, turn, with_more, with_text}
-use Rattle.xmpp_framing.specs.Streams.{InForce, StreamTo, with_element}
-use Rattle.xmpp_framing.specs.TagSteps.{added_to, begun, closed, element_from, ends, first_of, in_opening, in_tag, is_spelled, is_too_deep, joined_text, leaf, level, outer_scopes, rest_of, scope_in, shallower, start_why, starts, tag_closes, tag_gathered, tag_here, tag_inside, tag_limits, unlimited}
+use Rattle.xmpp_framing.specs.Spells.{Spells}
+use Rattle.xmpp_framing.specs.States.{OpenElement, State, Turn, fails, gathered, gathered_in, next_place, token_begun, token_ended, token_fails, turn, with_more, with_text}
+use Rattle.xmpp_framing.specs.Streams.{StreamTo, with_element}
+use Rattle.xmpp_framing.specs.TagSteps.{added_to, begun, closed, element_from, ends, first_of, in_opening, in_tag, is_spelled, is_too_deep, joined_text, leaf, level, outer_scopes, rest_of, scope_in, starts, tag_closes, tag_gathered, tag_here, tag_inside, tag_limits, unlimited}
 use Rattle.xmpp_framing.specs.Texts.{IsText}
 use Rattle.xmpp_framing.specs.TextSteps.{bracket_taken, character_taken, ends_section, in_reference, in_section, in_text, inside, is_forbidden, judged_section, judged_text, markup_begun, other_taken, refers, section_taken, text_inside}
 use Rattle.xmpp_framing.specs.Tidied.{tidied}
@@ -50,7 +50,18 @@ inner s o m = record s { here = Some o; lexical = record s.lexical { mode = m } 
 
 around_more : (p : Phase) (scopes : List Scope) (name : List ℕ) (below : List OpenElement) (o : OpenElement) (items : List Item) (bytes hand : List ℕ) (b : ℕ) → Around p scopes name below o items bytes hand → Around p scopes name below o items (bytes ++ b ∷ []) (hand ++ b ∷ [])
 around_more p scopes name below o items bytes hand b h = record {
-  between = h.between; base = h.base; own = h.own; rest = h.rest; scopes_are = h.scopes_are; top = h.top; done = h.done; outer = h.outer; level = h.level; stream = h.stream; covered = h.covered; open_level = h.open_level;
+  between = h.between;
+  base = h.base;
+  own = h.own;
+  rest = h.rest;
+  scopes_are = h.scopes_are;
+  top = h.top;
+  done = h.done;
+  outer = h.outer;
+  level = h.level;
+  stream = h.stream;
+  covered = h.covered;
+  open_level = h.open_level;
   bytes_are = ap (λ l. l ++ b ∷ []) h.bytes_are ∙ append_assoc h.done (h.outer ++ (h.level ++ hand)) (b ∷ []) ∙ ap (λ l. h.done ++ l) (append_assoc h.outer (h.level ++ hand) (b ∷ []) ∙ ap (λ l. h.outer ++ l) (append_assoc h.level hand (b ∷ [])));
 }
 
@@ -225,9 +236,17 @@ module _ (s : State) (o : OpenElement) (items : List Item) (b : ℕ) (bytes hand
           hand = (
             [],
             record {
-              between = a.between; base = a.base; own = a.own; rest = a.rest; scopes_are = a.scopes_are;
+              between = a.between;
+              base = a.base;
+              own = a.own;
+              rest = a.rest;
+              scopes_are = a.scopes_are;
               top = top_more texted (child (element_from t) no_nodes) s.below (top_more o _ s.below a.top);
-              done = a.done; outer = a.outer; level = (a.level ++ h.text) ++ whole; stream = a.stream; covered = a.covered;
+              done = a.done;
+              outer = a.outer;
+              level = (a.level ++ h.text) ++ whole;
+              stream = a.stream;
+              covered = a.covered;
               open_level = level_resumed (scope_in a.rest) a.own texted (a.level ++ h.text) whole (element_from t) covered spelled;
               bytes_are = bytes_are ∙ ap (λ l. a.done ++ (a.outer ++ l)) (sym (append-nil ((a.level ++ h.text) ++ whole) ∙ append_assoc a.level h.text whole));
             },
@@ -244,9 +263,16 @@ module _ (s : State) (o : OpenElement) (items : List Item) (b : ℕ) (bytes hand
           hand = (
             [],
             record {
-              between = a.between; base = a.base; own = t.bindings; rest = s.scopes; scopes_are = refl;
+              between = a.between;
+              base = a.base;
+              own = t.bindings;
+              rest = s.scopes;
+              scopes_are = refl;
               top = top_more o _ s.below a.top;
-              done = a.done; outer = a.outer ++ (a.level ++ h.text); level = whole; stream = a.stream;
+              done = a.done;
+              outer = a.outer ++ (a.level ++ h.text);
+              level = whole;
+              stream = a.stream;
               covered = subst (λ l. AreCovered a.base l (texted ∷ s.below) (a.outer ++ (a.level ++ h.text))) (sym a.scopes_are) (a.outer, a.level ++ h.text, a.covered, covered, refl);
               open_level = level_begun (scope_in s.scopes) whole w.0 t w.1 n;
               bytes_are =
@@ -297,9 +323,17 @@ module _ (s : State) (o : OpenElement) (items : List Item) (b : ℕ) (bytes hand
     resumed p ps low (own ∷ rest) is down spelled =
         let last = a.level ++ (h.text ++ whole) in
         record {
-          between = a.between; base = a.base; own = own; rest = rest; scopes_are = ap outer_scopes a.scopes_are ∙ is;
+          between = a.between;
+          base = a.base;
+          own = own;
+          rest = rest;
+          scopes_are = ap outer_scopes a.scopes_are ∙ is;
           top = top_more p (child closing no_nodes) ps (subst (TopIsNoHeader o) low a.top);
-          done = a.done; outer = down.0; level = down.1 ++ last; stream = a.stream; covered = down.2;
+          done = a.done;
+          outer = down.0;
+          level = down.1 ++ last;
+          stream = a.stream;
+          covered = down.2;
           open_level = level_resumed (scope_in rest) own p down.1 last closing down.3 spelled;
           bytes_are =
               bytes_are ∙ ap (λ l. a.done ++ (l ++ last)) down.4

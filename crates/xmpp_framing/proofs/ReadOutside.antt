@@ -1,6 +1,6 @@
 -- A byte outside elements keeps what is known of the bytes behind it.
-use Rattle.std.proofs.Common.{◌≡◌, ◌≢◌, ℕ, ◌+◌, ◌<◌, ◌≤◌, ◌^◌, ◌⊎◌, inl, inr, ⊎_elim, Bool, true, false, not, ◌&&◌, ◌||◌, ◌==◌, if◌then◌else◌, List, [], ◌∷◌, ◌++◌, length, codes, Option, Some, None, Result, Ok, Err, refl, sym, ap, subst, ◌∙◌, arith, append_assoc, append-nil, length-append}
-use Rattle.std.proofs.lemmas.Bool.{cases_Bool, and_parts, and_from, cond_both, eqb-true, true≢false, false≢true, ltb-true, ltb-false, not-true, false_from_ne_true}
+use Rattle.std.proofs.Common.{◌≡◌, ℕ, ◌+◌, ◌<◌, ◌≤◌, ◌⊎◌, inl, inr, ⊎_elim, Bool, true, false, not, ◌&&◌, ◌||◌, ◌==◌, if◌then◌else◌, List, [], ◌∷◌, ◌++◌, length, codes, Option, Some, None, Result, Ok, Err, refl, sym, ap, subst, ◌∙◌, arith, append_assoc, append-nil}
+use Rattle.std.proofs.lemmas.Bool.{and_parts, and_from, cond_both, eqb-true, true≢false, false≢true, ltb-true, ltb-false, not-true}
 use Rattle.std.proofs.lemmas.Bool.Decides.{nat_tests}
 use Rattle.std.proofs.lemmas.List.Folds.{list_all-append}
 use Rattle.std.proofs.lemmas.Slice.Eq.{bytes_eq-Decides}
@@ -23,19 +23,17 @@ use Rattle.xmpp_names.specs.Starts.{Tag, start_of}
 use Rattle.xmpp_names.specs.declared.faults.StartFault.{StartFault}
 use Rattle.xmpp_framing.proofs.LargerLimits.{in_largest}
 use Rattle.xmpp_framing.proofs.OpenLevels.{AreCovered, leaf_spelled, level_begun, spelled_is_tidy}
-use Rattle.xmpp_framing.proofs.ReadSoFar.{After, FooterIn, Hand, Kept, Outside, TextIn, TokenIn, TopIsNoHeader, in_force, kept_on}
+use Rattle.xmpp_framing.proofs.ReadSoFar.{After, FooterIn, Kept, Outside, TokenIn, TopIsNoHeader, in_force, kept_on}
 use Rattle.xmpp_framing.proofs.TextFronts.{front_seen, no_front}
 use Rattle.xmpp_framing.proofs.TextRuns.{ascii_alone, grown_after, nothing_judged, Judged}
 use Rattle.xmpp_framing.specs.Canon.{streams_namespace}
 use Rattle.xmpp_framing.specs.Machine.{taken_in}
 use Rattle.xmpp_framing.specs.MarkupSteps.{declared_phase, declares, ends_in_question, in_bang, in_declaration, in_phase, in_question, section_opened}
-use Rattle.xmpp_framing.specs.Spells.{IsHeaderName, SpellsEmptyHeader, SpellsHeader, SpellsNextEmptyHeader, SpellsNextHeader}
-use Rattle.xmpp_framing.specs.States.{OpenElement, State, Turn, admits_declaration, fails, gathered, gathered_in, gives, in_run, item_ended, may_declare, moved, next_place, run_begun, token_fails, turn}
-use Rattle.xmpp_framing.specs.Streams.{InForce, IsDeclared, SpellsEmptyHeaderIn, SpellsHeaderIn, StreamTo, declared, ended, headed, headed_and_ended, place_behind, white_space, with_element}
-use Rattle.xmpp_framing.specs.TagSteps.{begun, element_from, ends_stream, footer_closes, footer_gathered, header_items, header_tag, header_why, heads, in_footer, in_opening, in_tag, is_between, is_header, is_name_of, is_too_deep, largest_limits, leaf, level, misplaced, misplaced_why, phase_behind, says_stream, scope_in, start_why, starts, tag_anew, tag_closes, tag_gathered, tag_here, tag_in, tag_limits, tag_outside, unlimited}
+use Rattle.xmpp_framing.specs.Spells.{IsHeaderName, SpellsEmptyHeader, SpellsHeader}
+use Rattle.xmpp_framing.specs.States.{OpenElement, State, Turn, admits_declaration, fails, gathered, gathered_in, gives, in_run, item_ended, may_declare, next_place, run_begun, token_fails, turn}
+use Rattle.xmpp_framing.specs.Streams.{InForce, IsDeclared, SpellsEmptyHeaderIn, SpellsHeaderIn, StreamTo, declared, ended, headed, headed_and_ended, white_space, with_element}
+use Rattle.xmpp_framing.specs.TagSteps.{begun, element_from, ends_stream, footer_closes, footer_gathered, header_items, header_tag, heads, in_footer, in_opening, in_tag, is_between, is_header, is_name_of, is_too_deep, largest_limits, leaf, level, misplaced, phase_behind, says_stream, scope_in, starts, tag_anew, tag_closes, tag_gathered, tag_here, tag_in, tag_limits, tag_outside, unlimited}
 use Rattle.xmpp_framing.specs.TextSteps.{between, character_begun, in_text, judged_outside, markup_begun, text_outside}
-use Rattle.xmpp_framing.specs.Tidied.{tidied}
-use Rattle.xmpp_framing.specs.Trees.{Elem}
 use Rattle.xmpp_framing.specs.declared.faults.Fault.{Fault}
 use Rattle.xmpp_framing.specs.declared.faults.Why.{Why}
 use Rattle.xmpp_framing.specs.declared.faults.Why.TheVariants as why
@@ -58,7 +56,8 @@ white_low b h = grind (arith, nat_tests)
 
 pub token_more : (now : InForce) (items : List Item) (bytes token : List ℕ) (place b : ℕ) → TokenIn now items bytes token place → TokenIn now items (bytes ++ b ∷ []) (token ++ b ∷ []) place
 token_more now items bytes token place b h = record {
-  done = h.done; stream = h.stream;
+  done = h.done;
+  stream = h.stream;
   bytes_are = ap (λ l. l ++ b ∷ []) h.bytes_are ∙ append_assoc h.done token (b ∷ []);
   place_is = h.place_is;
 }
@@ -162,12 +161,15 @@ module _ (s : State) (items : List Item) (b : ℕ) (bytes : List ℕ) (k : Kept 
       let is = eqb-true b 60 e in
       record {
         kept = on;
-        hand = (low, record {
-          done = bytes;
-          stream = h.1 (ascii_alone s.pending b (omega (arith, is)) c).0;
-          bytes_are = ap (λ l. bytes ++ l) (ap (λ d. d ∷ []) is ∙ ap (λ t. t ++ 60 ∷ []) (sym h.0));
-          place_is = k.at_is;
-        });
+        hand = (
+          low,
+          record {
+            done = bytes;
+            stream = h.1 (ascii_alone s.pending b (omega (arith, is)) c).0;
+            bytes_are = ap (λ l. bytes ++ l) (ap (λ d. d ∷ []) is ∙ ap (λ t. t ++ 60 ∷ []) (sym h.0));
+            place_is = k.at_is;
+          },
+        );
       }
 
   pub outside_text : Outside mode.Text (outer s mode.Text) items bytes → P (in_text (outer s mode.Text) b)
@@ -218,7 +220,9 @@ module _ (s : State) (items : List Item) (b : ℕ) (bytes : List ℕ) (k : Kept 
 
   pub outside_footer_begun : TokenIn now items bytes s.token s.places.token_at → FooterIn now items (bytes ++ b ∷ []) (s.token ++ b ∷ [])
   outside_footer_begun h = record {
-    done = h.done; white = []; stream = h.stream;
+    done = h.done;
+    white = [];
+    stream = h.stream;
     bytes_are = ap (λ l. l ++ b ∷ []) h.bytes_are ∙ append_assoc h.done s.token (b ∷ []) ∙ ap (λ l. h.done ++ l) (sym (append-nil (s.token ++ b ∷ [])));
     is_white = refl;
     whole = inl refl;
@@ -228,7 +232,9 @@ module _ (s : State) (items : List Item) (b : ℕ) (bytes : List ℕ) (k : Kept 
   footer_more h short =
       let none : h.white ≡ [] = ⊎_elim (λ e. e) (λ long. absurd (omega (arith, short, long))) h.whole in
       record {
-        done = h.done; white = []; stream = h.stream;
+        done = h.done;
+        white = [];
+        stream = h.stream;
         bytes_are =
             ap (λ l. l ++ b ∷ []) (h.bytes_are ∙ ap (λ w. h.done ++ (s.token ++ w)) none ∙ ap (λ l. h.done ++ l) (append-nil s.token))
             ∙ append_assoc h.done s.token (b ∷ []) ∙ ap (λ l. h.done ++ l) (sym (append-nil (s.token ++ b ∷ [])));
@@ -238,7 +244,9 @@ module _ (s : State) (items : List Item) (b : ℕ) (bytes : List ℕ) (k : Kept 
 
   footer_white : FooterIn now items bytes s.token → length s.name + 2 ≤ length s.token → is_white b ≡ true → FooterIn now items (bytes ++ b ∷ []) s.token
   footer_white h long w = record {
-    done = h.done; white = h.white ++ b ∷ []; stream = h.stream;
+    done = h.done;
+    white = h.white ++ b ∷ [];
+    stream = h.stream;
     bytes_are = ap (λ l. l ++ b ∷ []) h.bytes_are ∙ append_assoc h.done (s.token ++ h.white) (b ∷ []) ∙ ap (λ l. h.done ++ l) (append_assoc s.token h.white (b ∷ []));
     is_white = list_all-append is_white h.white (b ∷ []) ∙ and_from _ _ h.is_white (and_from _ _ w refl);
     whole = inr long;
@@ -375,8 +383,14 @@ module _ (s : State) (items : List Item) (b : ℕ) (bytes : List ℕ) (k : Kept 
           let spelled = leaf_spelled (scope_in s.scopes) whole w.0 t w.1 n in
           record {
             kept = on;
-            hand = (low, (refl, λ p. with_element now (bytes ++ b ∷ []) _ h.done whole items (element_from t) h.stream between (record { spelled = spelled; no_header = not_named t is other }) h.bytes_are
-                (ap (λ x. items ++ item.Element x ∷ []) (spelled_is_tidy (scope_in s.scopes) whole (element_from t) spelled))));
+            hand = (
+              low,
+              (
+                refl,
+                λ p. with_element now (bytes ++ b ∷ []) _ h.done whole items (element_from t) h.stream between (record { spelled = spelled; no_header = not_named t is other }) h.bytes_are
+                    (ap (λ x. items ++ item.Element x ∷ []) (spelled_is_tidy (scope_in s.scopes) whole (element_from t) spelled)),
+              ),
+            );
           }
 
       level_case : (t : Tag) → tag_here (full m) ≡ Ok t → t.empty ≡ false → Q (turn (level (full m) t) items)
@@ -389,9 +403,15 @@ module _ (s : State) (items : List Item) (b : ℕ) (bytes : List ℕ) (k : Kept 
             hand = (
               [],
               record {
-                between = between; base = s.scopes; own = t.bindings; rest = s.scopes; scopes_are = refl;
+                between = between;
+                base = s.scopes;
+                own = t.bindings;
+                rest = s.scopes;
+                scopes_are = refl;
                 top = subst (TopIsNoHeader o) (sym low) (not_named t is other);
-                done = h.done; outer = []; level = whole;
+                done = h.done;
+                outer = [];
+                level = whole;
                 stream = subst (λ p. StreamTo (in_force p s.scopes s.name) h.done items) between h.stream;
                 covered = subst (λ l. AreCovered s.scopes s.scopes l []) (sym low) (refl, refl);
                 open_level = level_begun (scope_in s.scopes) whole w.0 t w.1 n;

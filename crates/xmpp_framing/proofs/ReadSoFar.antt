@@ -1,14 +1,13 @@
 -- What a state knows of the bytes behind it: the stream of the items so far, and the bytes in hand.
-use Rattle.std.proofs.Common.{◌≡◌, ◌≢◌, ℕ, ◌+◌, ◌-◌, ◌^◌, ◌<◌, ◌≤◌, ◌⊎◌, inl, inr, min, Bool, true, false, if◌then◌else◌, List, [], ◌∷◌, ◌++◌, codes, length, take, Option, Some, None, refl, sym, ap, ◌∙◌, arith, length-append}
+use Rattle.std.proofs.Common.{◌≡◌, ℕ, ◌+◌, ◌^◌, ◌<◌, ◌≤◌, ◌⊎◌, Bool, true, false, if◌then◌else◌, List, [], ◌∷◌, ◌++◌, codes, length, take, Option, Some, None, arith, length-append}
 use Rattle.xmpp_tokens.specs.Tags.{are_white}
-use Rattle.xmpp_tokens.specs.Utf8.{held_after}
 use Rattle.xmpp_names.specs.Scopes.{Scope}
 use Rattle.xmpp_framing.proofs.OpenLevels.{AreCovered, OpenLevel}
-use Rattle.xmpp_framing.proofs.TextFronts.{Gathered, Seen, ends_behind}
+use Rattle.xmpp_framing.proofs.TextFronts.{Gathered, Seen}
 use Rattle.xmpp_framing.proofs.TextRuns.{Judged}
 use Rattle.xmpp_framing.specs.Machine.{behind_byte}
 use Rattle.xmpp_framing.specs.Spells.{IsHeaderName}
-use Rattle.xmpp_framing.specs.States.{OpenElement, State, Turn, admits_declaration, next_place, turn}
+use Rattle.xmpp_framing.specs.States.{OpenElement, State, Turn, admits_declaration, next_place}
 use Rattle.xmpp_framing.specs.Streams.{InForce, StreamTo, place_behind}
 use Rattle.xmpp_framing.specs.TagSteps.{scope_in}
 use Rattle.xmpp_framing.specs.Texts.{line_ends}
@@ -113,8 +112,9 @@ pub record SectionIn (hand pending chars : List ℕ) (returned : Bool) (brackets
   pub judged : Judged hand pending
   pub hand_is : hand ≡ text ++ (codes "<![CDATA[" ++ (whole ++ pending))
 
-abbrev pub IsFresh : State → Type 0
-IsFresh s = (s.lexical.returned ≡ false) × (s.lexical.brackets ≡ 0)
+-- no run of text has begun behind the last tag or token
+abbrev pub HasNoRun : State → Type 0
+HasNoRun s = (s.lexical.returned ≡ false) × (s.lexical.brackets ≡ 0)
 
 -- part of `<![CDATA[`
 abbrev pub OpensSection : List ℕ → Type 0
@@ -123,8 +123,8 @@ OpensSection token = (token ≡ take (length token) (codes "<![CDATA[")) × (len
 abbrev pub Inside : Mode → State → OpenElement → List Item → List ℕ → List ℕ → Type 0
 Inside mode.Text s o items bytes hand = (s.token ≡ []) × TextIn hand s.pending s.chars s.lexical.in_run s.lexical.returned s.lexical.brackets
 Inside mode.Reference s o items bytes hand = MarkIn hand s.chars (38 ∷ s.token)
-Inside mode.Opening s o items bytes hand = (s.token ≡ 60 ∷ []) × IsFresh s × MarkIn hand s.chars s.token
-Inside mode.Bang s o items bytes hand = OpensSection s.token × IsFresh s × MarkIn hand s.chars s.token
+Inside mode.Opening s o items bytes hand = (s.token ≡ 60 ∷ []) × HasNoRun s × MarkIn hand s.chars s.token
+Inside mode.Bang s o items bytes hand = OpensSection s.token × HasNoRun s × MarkIn hand s.chars s.token
 Inside mode.Question s o items bytes hand = ⊥
 Inside mode.Declaration s o items bytes hand = ⊥
 Inside mode.Tag s o items bytes hand = MarkIn hand s.chars s.token

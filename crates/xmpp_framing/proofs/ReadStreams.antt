@@ -1,6 +1,6 @@
 -- What is read is spelled so: each byte keeps what is known of a stream.
-use Rattle.std.proofs.Common.{◌≡◌, ℕ, ◌<◌, ◌^◌, Bool, true, false, not, ◌||◌, if◌then◌else◌, List, [], ◌∷◌, ◌++◌, length, Option, Some, None, refl, sym, ap, subst, ◌∙◌, arith, append_assoc, append-nil}
-use Rattle.std.proofs.lemmas.Bool.{cases_Bool, cond_both, not-false, or_parts, true≢false, false≢true, cond-true}
+use Rattle.std.proofs.Common.{◌≡◌, ℕ, ◌<◌, ◌^◌, Bool, true, false, not, ◌||◌, if◌then◌else◌, List, [], ◌∷◌, ◌++◌, Option, Some, None, refl, sym, ap, subst, ◌∙◌, append_assoc, append-nil}
+use Rattle.std.proofs.lemmas.Bool.{cond_both, not-false, or_parts, true≢false}
 use Rattle.std.specs.Option.{is_some}
 use Rattle.xmpp_tokens.specs.Tags.{is_empty}
 use Rattle.xmpp_tokens.specs.Utf8.{continues}
@@ -88,7 +88,7 @@ ran (b ∷ bs) t bytes h = subst (Explained (run (step t b) bs)) (append_assoc b
 begins : (limits : Limits) → limits.attributes < 2 ^ 32 → limits.namespace_bytes < 2 ^ 32 → Explained (turn (from_start limits) []) []
 begins limits few short none = record {
   kept = record { at_is = refl; not_spent = refl; few_attributes = few; short_namespaces = short };
-  hand = (refl, (refl, λ p. nothing (in_force phase.First [] []) [] [] refl refl refl refl));
+  hand = (refl, (refl, λ p. nothing (in_force phase.First [] []) [] [] refl refl refl refl refl));
 }
 
 -- nothing is unfinished

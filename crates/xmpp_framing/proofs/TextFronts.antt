@@ -1,6 +1,6 @@
 -- A text grows: what has been read of it, up to a character, a reference or a CDATA section.
-use Rattle.std.proofs.Common.{◌≡◌, ◌≢◌, ℕ, ◌<◌, ◌≤◌, ◌⊎◌, inl, inr, ⊎_elim, Bool, true, false, cond, eqb, ltb, leb, not, ◌&&◌, ◌||◌, ◌==◌, if◌then◌else◌, List, [], ◌∷◌, ◌++◌, codes, refl, sym, ap, subst, ◌∙◌, arith, append_assoc, append-nil, encode_utf8}
-use Rattle.std.proofs.lemmas.Bool.{cases_Bool, and_parts, and_from, and_left, and_right, or_from, or_parts, cond-true, cond-false, cond_both, eqb-true, ne_eqb, false_from_ne_true, true≢false, false≢true, lt-ltb, le-leb, leb-true}
+use Rattle.std.proofs.Common.{◌≡◌, ℕ, ◌<◌, Bool, true, false, leb, not, ◌&&◌, ◌||◌, ◌==◌, if◌then◌else◌, List, [], ◌∷◌, ◌++◌, codes, refl, sym, ap, subst, ◌∙◌, arith, append_assoc, append-nil, encode_utf8}
+use Rattle.std.proofs.lemmas.Bool.{and_parts, and_from, and_right, or_from, or_parts, eqb-true, ne_eqb, true≢false, le-leb, leb-true}
 use Rattle.std.proofs.lemmas.Bool.Decides.{nat_tests}
 use Rattle.std.proofs.lemmas.List.Folds.{list_all-append}
 use Rattle.std.specs.List.{list_all}
@@ -9,7 +9,7 @@ use Rattle.xmpp_tokens.specs.Utf8.{IsPending, ended_character, ends_character, i
 use Rattle.xmpp_tokens.specs.declared.references.Reference.TheVariants.{Character}
 use Rattle.xmpp_framing.proofs.TextRuns.{second_high, tail_high}
 use Rattle.xmpp_framing.specs.Texts.{IsCharacterData, SpellsText, begins_section_end, data_alone, has_section_end, line_ends, line_ends_behind, with_reference, with_section}
-use Rattle.xmpp_framing.specs.TextSteps.{brackets_behind, kept_back}
+use Rattle.xmpp_framing.specs.TextSteps.{brackets_behind}
 
 -- ---- `]]>`, with the `]` in front counted
 

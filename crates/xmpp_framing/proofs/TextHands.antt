@@ -1,6 +1,6 @@
 -- A byte keeps what is known of the text, the reference or the CDATA section in hand.
-use Rattle.std.proofs.Common.{◌≡◌, ◌≢◌, ℕ, zero, suc, ◌+◌, ◌<◌, ◌≤◌, ◌⊎◌, inl, inr, ⊎_elim, Bool, true, false, not, ◌&&◌, ◌||◌, ◌==◌, if◌then◌else◌, List, [], ◌∷◌, ◌++◌, codes, length, take, slice_index, refl, sym, ap, subst, ◌∙◌, arith, append_assoc, append-nil, length-append, encode_utf8, bytes_eq}
-use Rattle.std.proofs.lemmas.Bool.{cases_Bool, and_parts, and_from, and_right, or_parts, cond-false, eqb-true, eqb-false, true≢false, false≢true, cases_eq}
+use Rattle.std.proofs.Common.{◌≡◌, ℕ, zero, suc, ◌<◌, ◌≤◌, Bool, true, false, ◌&&◌, ◌||◌, ◌==◌, if◌then◌else◌, List, [], ◌∷◌, ◌++◌, codes, length, take, slice_index, refl, sym, ap, subst, ◌∙◌, arith, append_assoc, append-nil, length-append, encode_utf8, bytes_eq}
+use Rattle.std.proofs.lemmas.Bool.{and_parts, and_from, and_right, eqb-true, eqb-false, true≢false}
 use Rattle.std.proofs.lemmas.Bool.Decides.{nat_tests}
 use Rattle.std.proofs.lemmas.Grind.{take_at_read}
 use Rattle.std.proofs.lemmas.Slice.Eq.{bytes_eq-Decides}
@@ -11,9 +11,9 @@ use Rattle.xmpp_tokens.specs.Utf8.{continues, ends_character, ends_forbidden_cha
 use Rattle.xmpp_tokens.specs.declared.references.Reference.{Reference}
 use Rattle.xmpp_tokens.specs.declared.references.Reference.TheVariants as reference
 use Rattle.xmpp_framing.proofs.ReadSoFar.{MarkIn, OpensSection, SectionIn, TextIn}
-use Rattle.xmpp_framing.proofs.TextFronts.{Gathered, IsFront, Seen, character_gathered, character_seen, ends_behind, ends_parted, front_seen, line_ends_bracket, nothing_gathered, reference_front, said_behind, section_front, seen_text}
+use Rattle.xmpp_framing.proofs.TextFronts.{Gathered, Seen, character_gathered, character_seen, ends_behind, ends_parted, front_seen, line_ends_bracket, nothing_gathered, reference_front, said_behind, section_front, seen_text}
 use Rattle.xmpp_framing.proofs.TextRuns.{Judged, are_plain, ascii_alone, byte_judged, ended_after, grown_after, judged_characters, plain-append, plain_judged}
-use Rattle.xmpp_framing.specs.Texts.{IsText, line_ends}
+use Rattle.xmpp_framing.specs.Texts.{IsText}
 use Rattle.xmpp_framing.specs.TextSteps.{brackets_behind, kept_back}
 
 pub four-append : (x y z w v : List ℕ) → (x ++ (y ++ (z ++ w))) ++ v ≡ x ++ (y ++ (z ++ (w ++ v)))
@@ -26,13 +26,19 @@ marked_text hand chars token h = record { characters = judged_characters h.text 
 
 pub mark_more : (hand chars token : List ℕ) (b : ℕ) → MarkIn hand chars token → MarkIn (hand ++ b ∷ []) chars (token ++ b ∷ [])
 mark_more hand chars token b h = record {
-  text = h.text; returned = h.returned; brackets = h.brackets; judged = h.judged; seen = h.seen;
+  text = h.text;
+  returned = h.returned;
+  brackets = h.brackets;
+  judged = h.judged;
+  seen = h.seen;
   hand_is = ap (λ l. l ++ b ∷ []) h.hand_is ∙ append_assoc h.text token (b ∷ []);
 }
 
 pub mark_begun : (hand pending chars : List ℕ) (r : Bool) (n b : ℕ) → TextIn hand pending chars true r n → pending ≡ [] → MarkIn (hand ++ b ∷ []) chars (b ∷ [])
 mark_begun hand pending chars r n b h none = record {
-  text = hand; returned = r; brackets = n;
+  text = hand;
+  returned = r;
+  brackets = n;
   judged = subst (Judged hand) none h.judged;
   seen = subst (λ t. Seen t chars r n) (sym (h.hand_is ∙ ap (λ p. h.whole ++ p) none ∙ append-nil h.whole)) h.seen;
   hand_is = refl;
@@ -138,8 +144,7 @@ opens_more token b h apart e =
     let small : n < 9 = let l = h.1 in omega arith in
     let step = (take_at_read (codes "<![CDATA[") n 0 small).1 in
     let is = eqb-true b (slice_index (codes "<![CDATA[") n) e in
-    let len = length-append token (b ∷ []) in
-    (
+    let len = length-append token (b ∷ []) in (
       ap (λ l. l ++ b ∷ []) h.0 ∙ ap (λ d. take n (codes "<![CDATA[") ++ d ∷ []) is ∙ sym step ∙ ap (λ m. take m (codes "<![CDATA[")) (sym len),
       let l = h.1 in let other = eqb-false n 8 apart in omega (arith, len, l, other),
     )
@@ -153,8 +158,19 @@ section_opens hand pending chars token b opens h on eight e =
     let token_is : token ++ b ∷ [] ≡ codes "<![CDATA[" = ap (λ l. l ++ b ∷ []) (opens.0 ∙ ap (λ m. take m (codes "<![CDATA[")) n) ∙ ap (λ d. take 8 (codes "<![CDATA[") ++ d ∷ []) is in
     let all : hand ++ b ∷ [] ≡ h.text ++ codes "<![CDATA[" = ap (λ l. l ++ b ∷ []) h.hand_is ∙ append_assoc h.text token (b ∷ []) ∙ ap (λ l. h.text ++ l) token_is in
     record {
-      text = h.text; says = chars; text_returned = h.returned; text_brackets = h.brackets; seen = h.seen;
-      inside = []; said = []; whole = []; whole_said = []; whole_is = refl; gathered = nothing_gathered; inside_says = refl; whole_says = refl;
+      text = h.text;
+      says = chars;
+      text_returned = h.returned;
+      text_brackets = h.brackets;
+      seen = h.seen;
+      inside = [];
+      said = [];
+      whole = [];
+      whole_said = [];
+      whole_is = refl;
+      gathered = nothing_gathered;
+      inside_says = refl;
+      whole_says = refl;
       few = omega arith;
       chars_are = sym (append-nil chars);
       judged = subst (λ l. Judged l (held_after pending b)) (sym all) (subst (Judged (h.text ++ codes "<![CDATA[")) (sym none) (plain_judged h.text (codes "<![CDATA[") h.judged refl));
@@ -165,8 +181,19 @@ section_opens hand pending chars token b opens h on eight e =
 
 pub section_waits : (hand pending chars : List ℕ) (r : Bool) (n b : ℕ) → SectionIn hand pending chars r n → continues pending b ≡ true → ends_character pending b ≡ false → SectionIn (hand ++ b ∷ []) (held_after pending b) chars r n
 section_waits hand pending chars r n b h c e = record {
-  text = h.text; says = h.says; text_returned = h.text_returned; text_brackets = h.text_brackets; seen = h.seen;
-  inside = h.inside; said = h.said; whole = h.whole; whole_said = h.whole_said; whole_is = h.whole_is; gathered = h.gathered; inside_says = h.inside_says; whole_says = h.whole_says;
+  text = h.text;
+  says = h.says;
+  text_returned = h.text_returned;
+  text_brackets = h.text_brackets;
+  seen = h.seen;
+  inside = h.inside;
+  said = h.said;
+  whole = h.whole;
+  whole_said = h.whole_said;
+  whole_is = h.whole_is;
+  gathered = h.gathered;
+  inside_says = h.inside_says;
+  whole_says = h.whole_says;
   few = h.few;
   chars_are = h.chars_are;
   judged = byte_judged hand pending b h.judged c (λ t. absurd (true≢false (sym t ∙ e)));
@@ -219,9 +246,19 @@ module _ (hand pending chars : List ℕ) (r : Bool) (n b : ℕ) (h : SectionIn h
       let said = (h.said ++ kept_back n) ++ said_behind r pending b in
       let same : h.whole_said ++ said_behind r pending b ≡ said = ap (λ l. l ++ said_behind r pending b) h.whole_says in
       record {
-        text = h.text; says = h.says; text_returned = h.text_returned; text_brackets = h.text_brackets; seen = h.seen;
-        inside = next; said = said; whole = next; whole_said = h.whole_said ++ said_behind r pending b; whole_is = sym (append-nil next); gathered = g;
-        inside_says = g.says ∙ same; whole_says = same ∙ sym (append-nil said);
+        text = h.text;
+        says = h.says;
+        text_returned = h.text_returned;
+        text_brackets = h.text_brackets;
+        seen = h.seen;
+        inside = next;
+        said = said;
+        whole = next;
+        whole_said = h.whole_said ++ said_behind r pending b;
+        whole_is = sym (append-nil next);
+        gathered = g;
+        inside_says = g.says ∙ same;
+        whole_says = same ∙ sym (append-nil said);
         few = omega arith;
         chars_are = ap (λ l. (l ++ kept_back n) ++ said_behind r pending b) h.chars_are ∙ simp (append_assoc);
         judged = judged_on;
@@ -264,8 +301,15 @@ module _ (hand pending chars : List ℕ) (r : Bool) (n b : ℕ) (h : SectionIn h
         let counted : brackets_behind n 93 ≡ n = ap (λ m. brackets_behind m 93) two ∙ sym two in
         let shifted : kept_back n ++ 93 ∷ [] ≡ (93 ∷ []) ++ kept_back n = ap (λ m. kept_back m ++ 93 ∷ []) two ∙ ap (λ m. (93 ∷ []) ++ kept_back m) (sym two) in
         record {
-          text = h.text; says = h.says; text_returned = h.text_returned; text_brackets = h.text_brackets; seen = h.seen;
-          inside = h.inside ++ 93 ∷ []; said = h.said ++ 93 ∷ []; whole = next; whole_said = h.whole_said ++ 93 ∷ [];
+          text = h.text;
+          says = h.says;
+          text_returned = h.text_returned;
+          text_brackets = h.text_brackets;
+          seen = h.seen;
+          inside = h.inside ++ 93 ∷ [];
+          said = h.said ++ 93 ∷ [];
+          whole = next;
+          whole_said = h.whole_said ++ 93 ∷ [];
           whole_is = next_is ∙ ap (λ l. h.inside ++ l) shifted ∙ sym (append_assoc h.inside (93 ∷ []) (kept_back n));
           gathered = subst (Gathered next (h.whole_said ++ 93 ∷ []) false) counted bracket_gathered;
           inside_says = line_ends_bracket h.inside ∙ ap (λ l. l ++ 93 ∷ []) h.inside_says;
@@ -281,8 +325,15 @@ module _ (hand pending chars : List ℕ) (r : Bool) (n b : ℕ) (h : SectionIn h
     section_bracket short =
         let counted = kept_more n (let l = h.few in let other = eqb-false n 2 short in omega (arith, l, other)) in
         record {
-          text = h.text; says = h.says; text_returned = h.text_returned; text_brackets = h.text_brackets; seen = h.seen;
-          inside = h.inside; said = h.said; whole = next; whole_said = h.whole_said ++ 93 ∷ [];
+          text = h.text;
+          says = h.says;
+          text_returned = h.text_returned;
+          text_brackets = h.text_brackets;
+          seen = h.seen;
+          inside = h.inside;
+          said = h.said;
+          whole = next;
+          whole_said = h.whole_said ++ 93 ∷ [];
           whole_is = next_is ∙ ap (λ l. h.inside ++ l) counted.0;
           gathered = bracket_gathered;
           inside_says = h.inside_says;

@@ -1,15 +1,14 @@
 -- A text grows by a character: what its bytes come to, as UTF-8, as XML's characters, and as character data.
-use Rattle.std.proofs.Common.{◌≡◌, ◌≢◌, ℕ, ◌<◌, ◌≤◌, ◌⊎◌, inl, inr, ⊎_elim, Bool, true, false, cond, eqb, ltb, leb, not, ◌&&◌, ◌||◌, ◌==◌, if◌then◌else◌, List, [], ◌∷◌, ◌++◌, Option, Some, None, unwrap_or, refl, sym, ap, subst, ◌∙◌, arith, append_assoc, append-nil}
-use Rattle.std.proofs.lemmas.Bool.{cases_Bool, and_parts, and_from, and_left, and_right, or_cases, or_from, cond-true, cond-false, cond_both, eqb-true, eqb-false, ne_eqb, eq-eqb, false_from_ne_true, true≢false, false≢true, lt-ltb, ltb-false, le-leb, leb-true, not-true}
+use Rattle.std.proofs.Common.{◌≡◌, ℕ, ◌<◌, ◌≤◌, ◌⊎◌, inl, inr, ⊎_elim, Bool, true, false, eqb, ltb, leb, not, ◌&&◌, ◌||◌, List, [], ◌∷◌, ◌++◌, Option, Some, None, unwrap_or, refl, sym, ap, subst, ◌∙◌, arith, append_assoc, append-nil}
+use Rattle.std.proofs.lemmas.Bool.{cases_Bool, and_parts, or_cases, cond-false, eqb-true, false_from_ne_true, true≢false, false≢true, lt-ltb}
 use Rattle.std.proofs.lemmas.Bool.Decides.{nat_tests}
 use Rattle.std.proofs.lemmas.List.Folds.{list_all-append}
 use Rattle.std.specs.List.{list_all}
 use Rattle.std.specs.Option.{is_some, option_and_then}
 use Rattle.xmpp_tokens.proofs.Utf8Runs.{after_IsPending, runs_are_text}
 use Rattle.xmpp_tokens.specs.Characters.{are_characters, are_characters_behind, ends_forbidden, is_control}
-use Rattle.xmpp_tokens.specs.Utf8.{IsPending, continues, ended_character, ends_character, ends_forbidden_character, held_after, is_lead, is_nothing, is_second, is_tail, utf8_next, utf8_run}
-use Rattle.xmpp_framing.specs.Texts.{IsCharacters, begins_section_end, has_section_end, line_ends, line_ends_behind}
-use Rattle.xmpp_framing.specs.TextSteps.{brackets_behind}
+use Rattle.xmpp_tokens.specs.Utf8.{IsPending, continues, ends_character, ends_forbidden_character, held_after, is_lead, is_nothing, is_second, is_tail, utf8_next, utf8_run}
+use Rattle.xmpp_framing.specs.Texts.{IsCharacters}
 
 -- ---- UTF-8, a byte at a time
 

@@ -1,4 +1,4 @@
--- Which bytes are a stream of which items, in the grammar's words (RFC 6120, sections 4.2, 4.3, 4.4 and 11.4; XML 1.0,
+-- Which bytes are a stream of which items, in the grammar's words (RFC 6120, sections 4.2 to 4.4, 11.5 and 11.7; XML 1.0,
 -- section 2.8).
 use Rattle.std.specs.Prelude.{ℕ, ◌-◌, ◌^◌, min, ◌≡◌, ◌⊎◌, true, List, [], ◌∷◌, ◌++◌, length}
 use Rattle.xmpp_tokens.specs.Declarations.{declaration_of}
@@ -25,7 +25,7 @@ pub record InForce : Type 0 where
   pub name : List ℕ
 
 -- An XML declaration may stand before a header: before the first one, and behind another, where only a header may
--- follow (XML 1.0, 2.8; RFC 6120, 11.4).
+-- follow (XML 1.0, 2.8; RFC 6120, 11.5).
 abbrev pub IsDeclared : Phase → Phase → Type 0
 IsDeclared before behind = ((before ≡ phase.First) × (behind ≡ phase.FirstDeclared)) ⊎ ((before ≡ phase.Between) × (behind ≡ phase.Declared))
 
@@ -49,14 +49,14 @@ SpellsEmptyHeaderIn phase.Ended scope bytes name inner h = ⊥
 -- Bytes are a stream of these items so far, and this is in force behind them. Each case adds what stands last.
 pub data StreamTo : InForce → List ℕ → List Item → Type 0 where
   nothing : (now : InForce) (bytes : List ℕ) (items : List Item)
-      → now.phase ≡ phase.First → now.scope ≡ [] → bytes ≡ [] → items ≡ [] → StreamTo now bytes items
-  -- white space, anywhere between items and behind the last (4.6.1 and 11.7)
+      → now.phase ≡ phase.First → now.scope ≡ [] → now.name ≡ [] → bytes ≡ [] → items ≡ [] → StreamTo now bytes items
+  -- white space, anywhere between items and behind the last (11.7)
   white_space : (now : InForce) (bytes : List ℕ) (items : List Item) (front space : List ℕ)
       → StreamTo now front items → are_white space ≡ true → bytes ≡ front ++ space → StreamTo now bytes items
   declared : (now : InForce) (bytes : List ℕ) (items : List Item) (before : InForce) (front tag : List ℕ)
       → StreamTo before front items → IsDeclared before.phase now.phase → now.scope ≡ before.scope → now.name ≡ before.name
       → declaration_of tag ≡ declaration.Good → bytes ≡ front ++ tag → StreamTo now bytes items
-  -- a header, which has the place of its first byte (4.3)
+  -- a header, which has the place of its first byte (4.2), or another, which opens the stream anew (4.3.3)
   headed : (now : InForce) (bytes : List ℕ) (items : List Item) (before : InForce) (front tag : List ℕ) (given : List Item) (h : Header)
       → StreamTo before front given → SpellsHeaderIn before.phase before.scope tag now.name now.scope h → now.phase ≡ phase.Between
       → bytes ≡ front ++ tag → items ≡ given ++ item.Header (place_behind (length front)) h ∷ [] → StreamTo now bytes items
