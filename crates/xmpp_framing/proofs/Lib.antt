@@ -22,7 +22,7 @@ pub mod ItemsGrow
 pub mod Pieces
 pub mod Quiet
 pub mod FaultLaws
-pub mod TextRuns
+pub mod ReadCharacters
 pub mod TextFronts
 pub mod OpenLevels
 pub mod ReadSoFar

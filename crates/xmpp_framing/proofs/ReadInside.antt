@@ -20,7 +20,7 @@ use Rattle.xmpp_framing.proofs.OpenLevels.{AreCovered, CoveredLevel, leaf_spelle
 use Rattle.xmpp_framing.proofs.ReadSoFar.{After, Around, Inside, Kept, MarkIn, OpensSection, SectionIn, TextIn, TopIsNoHeader, in_force, kept_on}
 use Rattle.xmpp_framing.proofs.TextFronts.{front_seen, no_front}
 use Rattle.xmpp_framing.proofs.TextHands.{mark_begun, mark_more, marked_text, opens_more, reference_ends, section_bracket, section_ends, section_opens, section_other, section_third, section_waits, text_grows, text_waits}
-use Rattle.xmpp_framing.proofs.TextRuns.{Judged, ascii_alone, nothing_judged}
+use Rattle.xmpp_framing.proofs.ReadCharacters.{Judged, ascii_alone, nothing_judged}
 use Rattle.xmpp_framing.specs.Machine.{taken_in}
 use Rattle.xmpp_framing.specs.MarkupSteps.{in_bang, section_opened}
 use Rattle.xmpp_framing.specs.Spells.{Spells}

@@ -25,7 +25,7 @@ use Rattle.xmpp_framing.proofs.LargerLimits.{in_largest}
 use Rattle.xmpp_framing.proofs.OpenLevels.{AreCovered, leaf_spelled, level_begun, spelled_is_tidy}
 use Rattle.xmpp_framing.proofs.ReadSoFar.{After, FooterIn, Kept, Outside, TokenIn, TopIsNoHeader, in_force, kept_on}
 use Rattle.xmpp_framing.proofs.TextFronts.{front_seen, no_front}
-use Rattle.xmpp_framing.proofs.TextRuns.{ascii_alone, grown_after, nothing_judged, Judged}
+use Rattle.xmpp_framing.proofs.ReadCharacters.{ascii_alone, grown_after, nothing_judged, Judged}
 use Rattle.xmpp_framing.specs.Canon.{streams_namespace}
 use Rattle.xmpp_framing.specs.Machine.{taken_in}
 use Rattle.xmpp_framing.specs.MarkupSteps.{declared_phase, declares, ends_in_question, in_bang, in_declaration, in_phase, in_question, section_opened}

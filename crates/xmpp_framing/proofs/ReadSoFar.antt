@@ -4,7 +4,7 @@ use Rattle.xmpp_tokens.specs.Tags.{are_white}
 use Rattle.xmpp_names.specs.Scopes.{Scope}
 use Rattle.xmpp_framing.proofs.OpenLevels.{AreCovered, OpenLevel}
 use Rattle.xmpp_framing.proofs.TextFronts.{Gathered, Seen}
-use Rattle.xmpp_framing.proofs.TextRuns.{Judged}
+use Rattle.xmpp_framing.proofs.ReadCharacters.{Judged}
 use Rattle.xmpp_framing.specs.Machine.{behind_byte}
 use Rattle.xmpp_framing.specs.Spells.{IsHeaderName}
 use Rattle.xmpp_framing.specs.States.{OpenElement, State, Turn, admits_declaration, next_place}

@@ -12,7 +12,7 @@ use Rattle.xmpp_tokens.specs.declared.references.Reference.{Reference}
 use Rattle.xmpp_tokens.specs.declared.references.Reference.TheVariants as reference
 use Rattle.xmpp_framing.proofs.ReadSoFar.{MarkIn, OpensSection, SectionIn, TextIn}
 use Rattle.xmpp_framing.proofs.TextFronts.{Gathered, Seen, character_gathered, character_seen, ends_behind, ends_parted, front_seen, line_ends_bracket, nothing_gathered, reference_front, said_behind, section_front, seen_text}
-use Rattle.xmpp_framing.proofs.TextRuns.{Judged, are_plain, ascii_alone, byte_judged, ended_after, grown_after, judged_characters, plain-append, plain_judged}
+use Rattle.xmpp_framing.proofs.ReadCharacters.{Judged, are_plain, ascii_alone, byte_judged, ended_after, grown_after, judged_characters, plain-append, plain_judged}
 use Rattle.xmpp_framing.specs.Texts.{IsText}
 use Rattle.xmpp_framing.specs.TextSteps.{brackets_behind, kept_back}
 
