@@ -1,19 +1,21 @@
 -- The chains of an archive's entries: where one stands, and what an append and a drop make of them.
-use Rattle.std.proofs.Common.{◌≡◌, ◌≢◌, ℕ, suc, add-one, ◌+◌, ◌-◌, ◌<◌, ◌≤◌, inl, inr, Bool, true, false, ◌||◌, ◌==◌, List, [], ◌∷◌, ◌++◌, Option, Some, None, length, map, set, drop, get_or, slice_get, slice_index, refl, sym, ap, subst, ◌∙◌, arith}
+use Rattle.std.proofs.Common.{◌≡◌, ◌≢◌, ℕ, suc, add-one, ◌+◌, ◌-◌, ◌<◌, ◌≤◌, inl, inr, Bool, true, false, ◌||◌, ◌==◌, List, [], ◌∷◌, ◌++◌, Option, Some, None, length, map, set, take, drop, get_or, slice_get, refl, sym, ap, subst, ◌∙◌, arith}
 use Rattle.std.proofs.lemmas.Bool.{false≢true, cases_Bool, cases_lt, eq-eqb, ne_eqb}
-use Rattle.std.proofs.lemmas.List.{length-map}
-use Rattle.std.proofs.lemmas.Option.{get_or_from_slice_get, none-some, slice_get-map, slice_get_read}
+use Rattle.std.proofs.lemmas.List.{drop-map, length-map, map-append}
+use Rattle.std.proofs.lemmas.Option.{get_or_from_slice_get, none-some, slice_get-get_or, slice_get-map, slice_get_read, slice_get_within}
 use Rattle.std.specs.List.{insert, remove}
 use Rattle.std.specs.Option.{option_map}
 use Rattle.std.specs.Str.{bytes_eq}
 use Rattle.xmpp_archive.proofs.Keys.{ascend-insert, ascend-remove, ascend_at, at_is_text, below-trans, differ_at, equal_texts, gap_absent, map-insert, map-remove, map-set, map_same, same_text, some_same, text-insert, text-remove, text-remove_other}
 use Rattle.xmpp_archive.proofs.Linked.{IsBeside, first-push_new, first-push_old, first-push_other, first_beside, first_none, last-push, last-push_other, length-next_numbers, last_beside, nexts-push_new, nexts-push_old, or_false, text-push}
-use Rattle.xmpp_archive.specs.Chained.{AreChains, Ascend, IsBelow, IsChained, IsGap, chain_at, chain_or, first_number, is_text_of, last_number, moved_on}
+use Rattle.xmpp_archive.proofs.Marks.{anew, anew_after, anew_early, count_first, count_last, count_within, mark_after, mark_at, marked_early, marks-anew, marks-push, marks-set, nexts-set, ordinal_after, previous_some}
+use Rattle.xmpp_archive.specs.Chained.{AreChains, Ascend, IsBelow, IsChained, IsGap, Mark, chain_at, chain_or, count_of, extended, first_number, is_text_of, last_number, link_or, mark_of, marked, marks, moved_on, next_numbers}
 use Rattle.xmpp_archive.specs.Entries.{EntryView}
-use Rattle.xmpp_archive.specs.declared.chains.Chain.{Chain}
+use Rattle.xmpp_archive.specs.declared.chains.Ends.{Ends}
+use Rattle.xmpp_archive.specs.declared.chains.Link.{Link}
 
 -- the chain at a place is that of the key there, which is the peer of an entry
-pub chain_place : (keys : List (List ℕ)) (n : ℕ) (ps : List (List ℕ)) (chains : List Chain) (at : ℕ) (x : Chain) → AreChains keys n ps chains →
+pub chain_place : (keys : List (List ℕ)) (n : ℕ) (ps : List (List ℕ)) (chains : List Ends) (at : ℕ) (x : Ends) → AreChains keys n ps chains →
     at < length chains → x ≡ get_or chains at x → (k : List ℕ) × (slice_get keys at ≡ Some k) × (x ≡ chain_at n ps k) × (is_text_of k ps ≡ true)
 chain_place keys n ps chains at x known within read =
     let is : slice_get chains at ≡ Some x = slice_get_read chains (length chains) at x refl within read in
@@ -26,55 +28,116 @@ chain_place keys n ps chains at x known within read =
     go None here mapped = absurd (none-some x mapped)
     go (Some k) here mapped = (k, here, sym (some_same (chain_at n ps k) x mapped), sym (known.every k) ∙ at_is_text keys at k here)
 
-pub chain_read : (keys : List (List ℕ)) (n : ℕ) (ps : List (List ℕ)) (chains : List Chain) (at : ℕ) (p : List ℕ) (d : Chain) → AreChains keys n ps chains →
+pub chain_read : (keys : List (List ℕ)) (n : ℕ) (ps : List (List ℕ)) (chains : List Ends) (at : ℕ) (p : List ℕ) (d : Ends) → AreChains keys n ps chains →
     slice_get keys at ≡ Some p → get_or chains at d ≡ chain_at n ps p
 chain_read keys n ps chains at p d known key =
     let is : slice_get (map (chain_at n ps) keys) at ≡ Some (chain_at n ps p) = slice_get-map (chain_at n ps) keys at ∙ ap (option_map (chain_at n ps)) key in
     rw known.are (get_or_from_slice_get (map (chain_at n ps) keys) at (chain_at n ps p) d is)
 
-pub key_has : (keys : List (List ℕ)) (n : ℕ) (ps : List (List ℕ)) (chains : List Chain) (at : ℕ) (p : List ℕ) → AreChains keys n ps chains →
+pub key_has : (keys : List (List ℕ)) (n : ℕ) (ps : List (List ℕ)) (chains : List Ends) (at : ℕ) (p : List ℕ) → AreChains keys n ps chains →
     slice_get keys at ≡ Some p → is_text_of p ps ≡ true
 key_has keys n ps chains at p known key = sym (known.every p) ∙ at_is_text keys at p key
 
 -- a chain's first number is that of an entry, whose peer is the chain's key
-pub chain_within : (n : ℕ) (f : EntryView → List ℕ) (es : List EntryView) (nexts : List ℕ) (chains : List Chain) (at : ℕ) (x : Chain) → IsChained n (map f es) nexts chains →
+pub chain_within : (n : ℕ) (f : EntryView → List ℕ) (es : List EntryView) (links : List Link) (chains : List Ends) (at : ℕ) (x : Ends) → IsChained n (map f es) links chains →
     at < length chains → x ≡ get_or chains at x → (n ≤ x.first) × (x.first - n < length es)
-chain_within n f es nexts chains at x known within read =
+chain_within n f es links chains at x known within read =
     let place = chain_place known.keys n (map f es) chains at x known.chained within read in
     let beside = first_beside place.0 n (map f es) place.3 in
-    let first : x.first ≡ first_number place.0 n (map f es) = ap (λ (c : Chain). c.first) place.2 in
+    let first : x.first ≡ first_number place.0 n (map f es) = ap (λ (c : Ends). c.first) place.2 in
     let size : length (map f es) ≡ length es = length-map es f in
     (omega (arith, beside.low), omega (arith, beside.low, beside.high))
 
-pub chain_peer : (keys : List (List ℕ)) (n : ℕ) (f : EntryView → List ℕ) (es : List EntryView) (chains : List Chain) (at : ℕ) (x : Chain) (e : EntryView) →
+pub chain_peer : (keys : List (List ℕ)) (n : ℕ) (f : EntryView → List ℕ) (es : List EntryView) (chains : List Ends) (at : ℕ) (x : Ends) (e : EntryView) →
     AreChains keys n (map f es) chains → at < length chains → x ≡ get_or chains at x → x.first - n < length es → e ≡ get_or es (x.first - n) e → slice_get keys at ≡ Some (f e)
 chain_peer keys n f es chains at x e known within read inside entry =
     let place = chain_place keys n (map f es) chains at x known within read in
     let beside = first_beside place.0 n (map f es) place.3 in
-    let first : x.first ≡ first_number place.0 n (map f es) = ap (λ (c : Chain). c.first) place.2 in
+    let first : x.first ≡ first_number place.0 n (map f es) = ap (λ (c : Ends). c.first) place.2 in
     let here : slice_get es (x.first - n) ≡ Some e = slice_get_read es (length es) (x.first - n) e refl inside entry in
     let peer : slice_get (map f es) (x.first - n) ≡ Some (f e) = slice_get-map f es (x.first - n) ∙ ap (option_map f) here in
     place.1 ∙ sym beside.there ∙ ap (λ m. slice_get (map f es) (m - n)) (sym first) ∙ peer
 
+pub links_size : (n : ℕ) (ps : List (List ℕ)) (links : List Link) (chains : List Ends) → IsChained n ps links chains → length links ≡ length ps
+links_size n ps links chains known =
+    sym (length-map links (λ (l : Link). l.next)) ∙ ap length known.linked ∙ length-next_numbers n ps
+
+-- the mark of an entry is what the entries in front of it left
+pub link_mark : (n : ℕ) (ps : List (List ℕ)) (links : List Link) (chains : List Ends) (known : IsChained n ps links chains) (i : ℕ) (p : List ℕ) (d : Link) → slice_get ps i ≡ Some p →
+    mark_of (get_or links i d) ≡ mark_after n known.before p (take i ps)
+link_mark n ps links chains known i p d is =
+    let size = links_size n ps links chains known in
+    let within : i < length ps = slice_get_within ps i p is in
+    let read : slice_get links i ≡ Some (get_or links i d) = slice_get-get_or links i d (omega arith) in
+    let mark : slice_get (map mark_of links) i ≡ Some (mark_of (get_or links i d)) = slice_get-map mark_of links i ∙ ap (option_map mark_of) read in
+    some_same (mark_of (get_or links i d)) (mark_after n known.before p (take i ps))
+    (sym mark ∙ ap (λ t. slice_get t i) known.beside ∙ mark_at n known.before ps i p is)
+
+pub link_ordinal : (n : ℕ) (ps : List (List ℕ)) (links : List Link) (chains : List Ends) (known : IsChained n ps links chains) (i : ℕ) (p : List ℕ) (d : Link) → slice_get ps i ≡ Some p →
+    (get_or links i d).ordinal ≡ (known.before p).ordinal + count_of p (take i ps)
+link_ordinal n ps links chains known i p d is =
+    ap (λ (m : Mark). m.ordinal) (link_mark n ps links chains known i p d is) ∙ ordinal_after n known.before p (take i ps)
+
+-- the ordinals of the first and of the last entry of a peer
+pub first_ordinal : (n : ℕ) (ps : List (List ℕ)) (links : List Link) (chains : List Ends) (known : IsChained n ps links chains) (p : List ℕ) (d : Link) → is_text_of p ps ≡ true →
+    (get_or links (first_number p n ps - n) d).ordinal ≡ (known.before p).ordinal
+first_ordinal n ps links chains known p d has =
+    let beside = first_beside p n ps has in
+    let ordinal = link_ordinal n ps links chains known (first_number p n ps - n) p d beside.there in
+    let none = count_first p n ps has in
+    omega arith
+
+pub last_ordinal : (n : ℕ) (ps : List (List ℕ)) (links : List Link) (chains : List Ends) (known : IsChained n ps links chains) (p : List ℕ) (d : Link) → is_text_of p ps ≡ true →
+    (get_or links (last_number p n ps - n) d).ordinal + 1 ≡ (known.before p).ordinal + count_of p ps
+last_ordinal n ps links chains known p d has =
+    let beside = last_beside p n ps has in
+    let ordinal = link_ordinal n ps links chains known (last_number p n ps - n) p d beside.there in
+    let more = count_last p n ps has in
+    omega arith
+
+-- what an entry more of a peer gets from the last one
+end_mark : (n : ℕ) (ps : List (List ℕ)) (links : List Link) (chains : List Ends) (known : IsChained n ps links chains) (p : List ℕ) (last : ℕ) → is_text_of p ps ≡ true → last ≡ last_number p n ps →
+    record { previous = last; ordinal = (link_or links (last - n)).ordinal + 1 } ≡ mark_after n known.before p ps
+end_mark n ps links chains known p last has is =
+    let ordinal : (link_or links (last_number p n ps - n)).ordinal + 1 ≡ (mark_after n known.before p ps).ordinal =
+    last_ordinal n ps links chains known p (record { next = 0; previous = 0; ordinal = 0 }) has ∙ sym (ordinal_after n known.before p ps) in
+    rw (is, ordinal, ← previous_some n known.before p ps has) refl
+
 -- the last number of a peer's chain has a place among the links
-pub chain_last : (n : ℕ) (ps : List (List ℕ)) (p : List ℕ) (nexts : List ℕ) (chains : List Chain) (at : ℕ) → IsChained n ps nexts chains →
+pub chain_last : (n : ℕ) (ps : List (List ℕ)) (p : List ℕ) (links : List Link) (chains : List Ends) (at : ℕ) → IsChained n ps links chains →
     ((keys : List (List ℕ)) → AreChains keys n ps chains → slice_get keys at ≡ Some p) →
-    (n ≤ (chain_or chains at).last) × ((chain_or chains at).last < n + length nexts)
-chain_last n ps p nexts chains at known found =
+    (n ≤ (chain_or chains at).last) × ((chain_or chains at).last < n + length links)
+chain_last n ps p links chains at known found =
     let key : slice_get known.keys at ≡ Some p = found known.keys known.chained in
     let chain : chain_or chains at ≡ chain_at n ps p = chain_read known.keys n ps chains at p (record { first = 0; last = 0 }) known.chained key in
-    let last : (chain_or chains at).last ≡ last_number p n ps = ap (λ (c : Chain). c.last) chain in
+    let last : (chain_or chains at).last ≡ last_number p n ps = ap (λ (c : Ends). c.last) chain in
     let beside = last_beside p n ps (key_has known.keys n ps chains at p known.chained key) in
-    let size : length nexts ≡ length ps = ap length known.linked ∙ length-next_numbers n ps in
+    let size = links_size n ps links chains known in
     (omega (arith, beside.low), omega (arith, beside.high))
 
--- a peer of an entry has a chain
-pub first_peer : (f : EntryView → List ℕ) (es : List EntryView) (e : EntryView) → 0 < length es → e ≡ get_or es 0 e → slice_get (map f es) 0 ≡ Some (f e)
-first_peer f es e some read = slice_get-map f es 0 ∙ ap (option_map f) (slice_get_read es (length es) 0 e refl some read)
+-- and the ordinal there is below the number of an entry more
+pub end_ordinal : (n number : ℕ) (ps : List (List ℕ)) (p : List ℕ) (links : List Link) (chains : List Ends) (at : ℕ) → IsChained n ps links chains →
+    ((keys : List (List ℕ)) → AreChains keys n ps chains → slice_get keys at ≡ Some p) → number ≡ n + length ps →
+    (link_or links ((chain_or chains at).last - n)).ordinal < number
+end_ordinal n number ps p links chains at known found next =
+    let none : Link = record { next = 0; previous = 0; ordinal = 0 } in
+    let key : slice_get known.keys at ≡ Some p = found known.keys known.chained in
+    let chain : chain_or chains at ≡ chain_at n ps p = chain_read known.keys n ps chains at p (record { first = 0; last = 0 }) known.chained key in
+    let ordinal = last_ordinal n ps links chains known p none (key_has known.keys n ps chains at p known.chained key) in
+    let few = count_within p ps in
+    let early = known.early.ordinal p in
+    rw chain (omega arith)
 
-pub peer_chained : (n : ℕ) (ps : List (List ℕ)) (p : List ℕ) (nexts : List ℕ) (chains : List Chain) (i at : ℕ) → IsChained n ps nexts chains → slice_get ps i ≡ Some p →
+-- a peer of an entry has a chain
+pub peer_place : (f : EntryView → List ℕ) (es : List EntryView) (i : ℕ) (e : EntryView) → i < length es → e ≡ get_or es i e → slice_get (map f es) i ≡ Some (f e)
+peer_place f es i e within read = slice_get-map f es i ∙ ap (option_map f) (slice_get_read es (length es) i e refl within read)
+
+pub links_of_entries : (n : ℕ) (f : EntryView → List ℕ) (es : List EntryView) (links : List Link) (chains : List Ends) → IsChained n (map f es) links chains → length links ≡ length es
+links_of_entries n f es links chains known = links_size n (map f es) links chains known ∙ length-map es f
+
+pub peer_chained : (n : ℕ) (ps : List (List ℕ)) (p : List ℕ) (links : List Link) (chains : List Ends) (i at : ℕ) → IsChained n ps links chains → slice_get ps i ≡ Some p →
     ((keys : List (List ℕ)) → AreChains keys n ps chains → IsGap keys p at) → ⊥
-peer_chained n ps p nexts chains i at known is absent =
+peer_chained n ps p links chains i at known is absent =
     false≢true (sym (gap_absent known.keys p at (absent known.keys known.chained)) ∙ known.chained.every p ∙ at_is_text ps i p is)
 
 -- steps of a search among keys
@@ -101,10 +164,10 @@ chain-push_other : (n : ℕ) (ps : List (List ℕ)) (p q : List ℕ) → bytes_e
 chain-push_other n ps p q other = rw (first-push_other p q n ps other, last-push_other p q n ps other) refl
 
 -- an entry more of a peer that has a chain
-pub chained_more : (n number : ℕ) (ps : List (List ℕ)) (p : List ℕ) (nexts : List ℕ) (chains : List Chain) (at : ℕ) → IsChained n ps nexts chains →
+pub chained_more : (n number : ℕ) (ps : List (List ℕ)) (p : List ℕ) (links : List Link) (chains : List Ends) (at : ℕ) → IsChained n ps links chains →
     ((keys : List (List ℕ)) → AreChains keys n ps chains → slice_get keys at ≡ Some p) → number ≡ n + length ps →
-    IsChained n (ps ++ p ∷ []) (set nexts ((chain_or chains at).last - n) number ++ 0 ∷ []) (set chains at (record { first = (chain_or chains at).first; last = number }))
-chained_more n number ps p nexts chains at known found next =
+    IsChained n (ps ++ p ∷ []) (extended ((chain_or chains at).last - n) (chain_or chains at).last number links) (set chains at (record { first = (chain_or chains at).first; last = number }))
+chained_more n number ps p links chains at known found next =
     let keys = known.keys in
     let key : slice_get keys at ≡ Some p = found keys known.chained in
     let has : is_text_of p ps ≡ true = key_has keys n ps chains at p known.chained key in
@@ -115,7 +178,10 @@ chained_more n number ps p nexts chains at known found next =
     map-set (chain_at n ps) (chain_at n (ps ++ p ∷ [])) keys at p key
     (λ i q other is. chain-push_other n ps p q (differ_at keys at i p q known.chained.ascend (λ same. other (sym same)) key is)) in
     record {
-      linked = rw (chain, known.linked, next) (sym (nexts-push_old p n ps has));
+      linked = rw (map-append, nexts-set, chain, known.linked, next) (sym (nexts-push_old p n ps has));
+      before = known.before;
+      early = known.early;
+      beside = rw (map-append, marks-set, known.beside, marks-push n known.before ps p, end_mark n ps links chains known p (chain_or chains at).last has (ap (λ (c : Ends). c.last) chain)) refl;
       keys = keys;
       chained = record {
         are = rw (chain, known.chained.are, ← new) (sym images);
@@ -133,10 +199,10 @@ chained_more n number ps p nexts chains at known found next =
     ]
 
 -- an entry more of a peer that has none
-pub chained_new : (n number : ℕ) (ps : List (List ℕ)) (p : List ℕ) (nexts : List ℕ) (chains : List Chain) (at : ℕ) → IsChained n ps nexts chains →
+pub chained_new : (n number : ℕ) (ps : List (List ℕ)) (p : List ℕ) (links : List Link) (chains : List Ends) (at : ℕ) → IsChained n ps links chains →
     ((keys : List (List ℕ)) → AreChains keys n ps chains → IsGap keys p at) → number ≡ n + length ps →
-    IsChained n (ps ++ p ∷ []) (nexts ++ 0 ∷ []) (insert chains at (record { first = number; last = number }))
-chained_new n number ps p nexts chains at known absent next =
+    IsChained n (ps ++ p ∷ []) (links ++ record { next = 0; previous = 0; ordinal = 0 } ∷ []) (insert chains at (record { first = number; last = number }))
+chained_new n number ps p links chains at known absent next =
     let keys = known.keys in
     let gap : IsGap keys p at = absent keys known.chained in
     let none : is_text_of p ps ≡ false = sym (known.chained.every p) ∙ gap_absent keys p at gap in
@@ -146,7 +212,10 @@ chained_new n number ps p nexts chains at known absent next =
     map_same (chain_at n ps) (chain_at n (ps ++ p ∷ [])) keys
     (λ i q is. chain-push_other n ps p q (differs keys none i q is)) in
     record {
-      linked = rw known.linked (sym (nexts-push_new p n ps none));
+      linked = rw (map-append, known.linked) (sym (nexts-push_new p n ps none));
+      before = anew p known.before;
+      early = anew_early n known.before p known.early;
+      beside = rw (map-append, known.beside, marks-push n (anew p known.before) ps p, marks-anew n known.before p ps none, anew_after n known.before p ps none) refl;
       keys = insert keys at p;
       chained = record {
         are = rw (map-insert (chain_at n (ps ++ p ∷ [])) keys at p, new, old, known.chained.are) refl;
@@ -175,18 +244,25 @@ chain_tail_other n qs p q other has =
     let later : is_text_of q qs ≡ true = rw other at has in
     rw (other, later) refl
 
-moved : (n : ℕ) (p : List ℕ) (qs : List (List ℕ)) (nexts : List ℕ) (chains : List Chain) (at : ℕ) (known : IsChained n (p ∷ qs) nexts chains) →
-    slice_get known.keys at ≡ Some p → IsChained (suc n) qs (drop 1 nexts) (moved_on (slice_index nexts 0) at chains)
-moved n p qs nexts chains at known key = elim (cases_Bool (is_text_of p qs)) [
+first_next : (links : List Link) (m : ℕ) (ms : List ℕ) → map (λ (l : Link). l.next) links ≡ m ∷ ms → (link_or links 0).next ≡ m
+first_next [] m ms is = cc
+first_next (l ∷ ls) m ms is = cc
+
+moved : (n : ℕ) (p : List ℕ) (qs : List (List ℕ)) (links : List Link) (chains : List Ends) (at : ℕ) (known : IsChained n (p ∷ qs) links chains) →
+    slice_get known.keys at ≡ Some p → IsChained (suc n) qs (drop 1 links) (moved_on (link_or links 0).next at chains)
+moved n p qs links chains at known key = elim (cases_Bool (is_text_of p qs)) [
   | inl later ↦
-      let beside : IsBeside p (first_number p (suc n) qs) (suc n) qs = first_beside p (suc n) qs later in
-      let some : (first_number p (suc n) qs == 0) ≡ false = ne_eqb (first_number p (suc n) qs) 0 (λ same. omega (arith, beside.low)) in
+      let place : IsBeside p (first_number p (suc n) qs) (suc n) qs = first_beside p (suc n) qs later in
+      let some : (first_number p (suc n) qs == 0) ≡ false = ne_eqb (first_number p (suc n) qs) 0 (λ same. omega (arith, place.low)) in
       let new : chain_at (suc n) qs p ≡ record { first = first_number p (suc n) qs; last = (chain_or chains at).last } = rw (chain, later) refl in
       record {
-        linked = rw known.linked refl;
+        linked = linked;
+        before = marked n p known.before;
+        early = marked_early n known.before p known.early;
+        beside = beside;
         keys = known.keys;
         chained = record {
-          are = rw (known.linked, some, ← new, known.chained.are) (sym (map-set (chain_at n (p ∷ qs)) (chain_at (suc n) qs) known.keys at p key others));
+          are = rw (next, some, ← new, known.chained.are) (sym (map-set (chain_at n (p ∷ qs)) (chain_at (suc n) qs) known.keys at p key others));
           ascend = known.chained.ascend;
           every = λ q. known.chained.every q ∙ stays later q;
         };
@@ -194,16 +270,28 @@ moved n p qs nexts chains at known key = elim (cases_Bool (is_text_of p qs)) [
   | inr none ↦
       let gone : (first_number p (suc n) qs == 0) ≡ true = eq-eqb (first_number p (suc n) qs) 0 (first_none p (suc n) qs none) in
       record {
-        linked = rw known.linked refl;
+        linked = linked;
+        before = marked n p known.before;
+        early = marked_early n known.before p known.early;
+        beside = beside;
         keys = remove known.keys at;
         chained = record {
-          are = rw (known.linked, gone, known.chained.are) (sym (map-remove (chain_at n (p ∷ qs)) (chain_at (suc n) qs) known.keys at p key others));
+          are = rw (next, gone, known.chained.are) (sym (map-remove (chain_at n (p ∷ qs)) (chain_at (suc n) qs) known.keys at p key others));
           ascend = ascend-remove known.keys at known.chained.ascend;
           every = λ q. goes none q;
         };
       }
 ]
   where
+    linked : map (λ (l : Link). l.next) (drop 1 links) ≡ next_numbers (suc n) qs
+    linked = sym (drop-map (λ (l : Link). l.next) 1 links) ∙ ap (λ t. drop 1 t) known.linked
+
+    beside : map mark_of (drop 1 links) ≡ marks (suc n) (marked n p known.before) qs
+    beside = sym (drop-map mark_of 1 links) ∙ ap (λ t. drop 1 t) known.beside
+
+    next : (link_or links 0).next ≡ first_number p (suc n) qs
+    next = first_next links (first_number p (suc n) qs) (next_numbers (suc n) qs) known.linked
+
     chain : chain_or chains at ≡ chain_at n (p ∷ qs) p
     chain = chain_read known.keys n (p ∷ qs) chains at p (record { first = 0; last = 0 }) known.chained key
 
@@ -228,10 +316,10 @@ moved n p qs nexts chains at known key = elim (cases_Bool (is_text_of p qs)) [
       | inr other ↦ text-remove_other known.keys at p q key other ∙ known.chained.every q ∙ rw other refl
     ]
 
-pub chained_less : (n : ℕ) (p : List ℕ) (ps : List (List ℕ)) (nexts : List ℕ) (chains : List Chain) (at : ℕ) → IsChained n ps nexts chains → slice_get ps 0 ≡ Some p →
-    ((keys : List (List ℕ)) → AreChains keys n ps chains → slice_get keys at ≡ Some p) → IsChained (n + 1) (drop 1 ps) (drop 1 nexts) (moved_on (slice_index nexts 0) at chains)
-chained_less n p [] nexts chains at known first found = absurd (none-some p first)
-chained_less n p (q ∷ qs) nexts chains at known first found =
+pub chained_less : (n : ℕ) (p : List ℕ) (ps : List (List ℕ)) (links : List Link) (chains : List Ends) (at : ℕ) → IsChained n ps links chains → slice_get ps 0 ≡ Some p →
+    ((keys : List (List ℕ)) → AreChains keys n ps chains → slice_get keys at ≡ Some p) → IsChained (n + 1) (drop 1 ps) (drop 1 links) (moved_on (link_or links 0).next at chains)
+chained_less n p [] links chains at known first found = absurd (none-some p first)
+chained_less n p (q ∷ qs) links chains at known first found =
     let same : q ≡ p = some_same q p first in
     let key : slice_get known.keys at ≡ Some q = found known.keys known.chained ∙ ap Some (sym same) in
-    rw (add-one n) (moved n q qs nexts chains at known key)
+    rw (add-one n) (moved n q qs links chains at known key)

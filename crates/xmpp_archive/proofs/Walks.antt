@@ -68,14 +68,14 @@ next_of_is owner n m i es e follow low place is =
     rw (entry, ← number) (next_is (peer_of owner) n i es e follow low is)
 
 -- the walk along the entries that pass a test
-record IsStep (t : EntryView → Bool) (s i : ℕ) (es : List EntryView) (e : EntryView) : Type 0 where
-  next : find (λ f. ltb e.number f.number && t f) es ≡ slice_get (filter t es) (suc i)
-  low : s ≤ e.number
-  high : e.number < s + length es
-  there : slice_get es (e.number - s) ≡ Some e
-  passes : t e ≡ true
+pub record IsStep (t : EntryView → Bool) (s i : ℕ) (es : List EntryView) (e : EntryView) : Type 0 where
+  pub next : find (λ f. ltb e.number f.number && t f) es ≡ slice_get (filter t es) (suc i)
+  pub low : s ≤ e.number
+  pub high : e.number < s + length es
+  pub there : slice_get es (e.number - s) ≡ Some e
+  pub passes : t e ≡ true
 
-find_first : (t : EntryView → Bool) (es : List EntryView) → find t es ≡ slice_get (filter t es) 0
+pub find_first : (t : EntryView → Bool) (es : List EntryView) → find t es ≡ slice_get (filter t es) 0
 find_first t [] = refl
 find_first t (e ∷ es) = elim (cases_Bool (t e)) [
   | inl yes' ↦ rw yes' refl
@@ -88,7 +88,7 @@ step_later t s i f es e first step =
     let place : e.number - s ≡ suc (e.number - suc s) = omega (arith, step.low) in
     (find_skip t e.number f es (omega (arith, step.low)) ∙ step.next, omega (arith, step.low), omega (arith, step.high), rw place step.there)
 
-step_at : (t : EntryView → Bool) (s i : ℕ) (es : List EntryView) (e : EntryView) → FollowFrom s es → slice_get (filter t es) i ≡ Some e → IsStep t s i es e
+pub step_at : (t : EntryView → Bool) (s i : ℕ) (es : List EntryView) (e : EntryView) → FollowFrom s es → slice_get (filter t es) i ≡ Some e → IsStep t s i es e
 step_at t s i [] e follow is = absurd (none-some e is)
 step_at t s i (f ∷ es) e follow is = elim (cases_Bool (t f)) [
   | inl passes ↦ here i (λ j. step_at t (suc s) j es e follow.1) passes (rw passes at is)

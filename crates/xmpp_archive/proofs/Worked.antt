@@ -4,7 +4,7 @@ use Rattle.std.specs.Prelude.{codes}
 use Rattle.xmpp_archive.specs.Entries.{EntryView, entry_numbered, newest}
 use Rattle.xmpp_archive.specs.Ids.{id_of}
 use Rattle.xmpp_archive.specs.Pages.{First, After, page_of}
-use Rattle.xmpp_archive.specs.Peers.{bare_form, first_of, next_of, peer_of}
+use Rattle.xmpp_archive.specs.Peers.{bare_form, chain_ends, first_of, index_of, next_of, peer_of, previous_of}
 
 first_id : id_of 1 ≡ codes "0000000000000001"
 unfolding id_of
@@ -104,3 +104,21 @@ next_with_nurse = refl
 
 next_of_dropped : next_of juliet 3 talk ≡ None
 next_of_dropped = refl
+
+chain_with_romeo : chain_ends juliet (codes "romeo") talk ≡ Some (record { first = 4; last = 6; count = 2 })
+chain_with_romeo = refl
+
+chain_with_paris : chain_ends juliet (codes "paris") talk ≡ None
+chain_with_paris = refl
+
+previous_with_romeo : previous_of juliet 6 talk ≡ Some 4
+previous_with_romeo = refl
+
+previous_with_nurse : previous_of juliet 5 talk ≡ None
+previous_with_nurse = refl
+
+index_with_romeo : index_of juliet 6 talk ≡ Some 1
+index_with_romeo = refl
+
+index_of_dropped : index_of juliet 3 talk ≡ None
+index_of_dropped = refl

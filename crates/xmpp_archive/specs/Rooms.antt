@@ -5,4 +5,4 @@ use Rattle.xmpp_archive.specs.declared.chains.Links.{Links}
 
 -- the room of the links
 abbrev pub room_of : Links → ℕ
-room_of l = min (deque_capacity l.nexts - deque_len l.nexts) (vec_capacity l.chains - vec_len l.chains)
+room_of l = min (deque_capacity l.links - deque_len l.links) (vec_capacity l.chains - vec_len l.chains)

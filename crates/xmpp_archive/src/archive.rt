@@ -3,10 +3,10 @@ ghost use Rattle.std.specs.Option.{option_copied};
 ghost use Rattle.std.specs.VecDeque.{deque_len, deque_capacity};
 ghost use Rattle.xmpp_archive.specs.Chained.{IsChained};
 ghost use Rattle.xmpp_archive.specs.Entries.{AreKept, entry_numbered, newest, numbered};
-ghost use Rattle.xmpp_archive.specs.Peers.{first_of, next_of, peer_of};
+ghost use Rattle.xmpp_archive.specs.Peers.{chain_ends, first_of, index_of, next_of, peer_of, previous_of};
 ghost use Rattle.xmpp_archive.specs.Rooms.{room_of};
 
-use crate::chains::Links;
+use crate::chains::{Chain, Links};
 use crate::entry::Entry;
 use std::alloc::Global;
 use std::collections::VecDeque;
@@ -48,7 +48,7 @@ impl Model for Archive {
     } };
 
     ghost invariant = { λ a. AreKept a.keep a.last a.entries.items ×
-        IsChained (a.last + 1 - length a.entries.items) (map (peer_of a.owner) a.entries.items) a.links.nexts.items a.links.chains.items };
+        IsChained (a.last + 1 - length a.entries.items) (map (peer_of a.owner) a.entries.items) a.links.links.items a.links.chains.items };
 }
 
 /// Why an archive has no room for an entry.
@@ -86,9 +86,9 @@ impl From<NoMemory> for ArchiveFault {
 fn make_place(owner: &str, entries: &mut VecDeque<Entry>, links: &mut Links, keep: u32, next: u64)
     requires kept { AreKept keep (next - 1) entries.old.items }
     requires next { 1 ≤ next }
-    requires linked { IsChained (next - length entries.old.items) (map (peer_of owner.now) entries.old.items) links.old.nexts.items links.old.chains.items }
+    requires linked { IsChained (next - length entries.old.items) (map (peer_of owner.now) entries.old.items) links.old.links.items links.old.chains.items }
     ensures entries { entries.new.items ≡ newest (keep - 1) entries.old.items }
-    ensures linked { IsChained (next - length entries.new.items) (map (peer_of owner.now) entries.new.items) links.new.nexts.items links.new.chains.items }
+    ensures linked { IsChained (next - length entries.new.items) (map (peer_of owner.now) entries.new.items) links.new.links.items links.new.chains.items }
     ensures spare { deque_capacity entries.old - deque_len entries.old ≤ deque_capacity entries.new - deque_len entries.new }
     ensures room { room_of links.old ≤ room_of links.new }
 {
@@ -102,7 +102,7 @@ fn make_place(owner: &str, entries: &mut VecDeque<Entry>, links: &mut Links, kee
 /// Makes room for one entry more and its links.
 fn make_room(entries: &mut VecDeque<Entry>, links: &mut Links) -> Result<(), NoMemory>
     ensures entries { entries.new.items ≡ entries.old.items }
-    ensures nexts { links.new.nexts.items ≡ links.old.nexts.items }
+    ensures links { links.new.links.items ≡ links.old.links.items }
     ensures chains { links.new.chains.items ≡ links.old.chains.items }
     ensures spare { OnOk result ((1 ≤ deque_capacity entries.new - deque_len entries.new) × (1 ≤ room_of links.new)) }
     ensures kept { deque_capacity entries.old - deque_len entries.old ≤ deque_capacity entries.new - deque_len entries.new }
@@ -198,6 +198,38 @@ impl Archive {
         ensures { result ≡ next_of self.now.owner number self.now.entries }
     {
         self.links.next_at(self.place(number)?)
+    }
+
+    /// The first and the last number of the kept entries with this peer, and how many there are. `None` where there is
+    /// none. It takes no memory, and one search by peer.
+    pub fn chain(&self, peer: &str) -> Option<Chain>
+        ensures { result ≡ chain_ends self.now.owner peer.now self.now.entries }
+    {
+        let first = self.last + 1 - self.entries.len() as u64;
+        self.links
+            .chain(self.owner.as_str(), &self.entries, first, peer)
+    }
+
+    /// The greatest number below this one of a kept entry with the same peer as the entry with this number. `None`
+    /// where there is none, or no kept entry has this number. It takes no memory, and no search.
+    pub fn previous_of(&self, number: u64) -> Option<u64>
+        ensures { result ≡ previous_of self.now.owner number self.now.entries }
+    {
+        let first = self.last + 1 - self.entries.len() as u64;
+        self.links.previous_at(first, self.place(number)?)
+    }
+
+    /// How many kept entries with the same peer stand before the entry with this number, which is its place in its
+    /// chain, from 0. `None` where no kept entry has this number. It takes no memory, and one search by peer.
+    pub fn index_of(&self, number: u64) -> Option<u64>
+        ensures { result ≡ index_of self.now.owner number self.now.entries }
+    {
+        let first = self.last + 1 - self.entries.len() as u64;
+        let at = self.place(number)?;
+        Some(
+            self.links
+                .index_at(self.owner.as_str(), &self.entries, first, at),
+        )
     }
 
     /// Makes room for one entry more. `Full` comes exactly where the greatest number was given. On each outcome the

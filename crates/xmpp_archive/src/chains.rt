@@ -1,8 +1,9 @@
-//! The chains of an archive: for each peer the numbers of its first and last entry, and beside each entry the number
-//! of the next one with the same peer. A chain's peer is read off its first entry, so that no text is copied.
-ghost use Rattle.std.specs.Prelude.{◌≡◌, ℕ, ◌+◌, ◌-◌, ◌<◌, ◌≤◌, List, [], ◌∷◌, ◌++◌, Some, map, drop, set, length, slice_get, slice_index, IfOk, IfErr, OnOk};
+//! The chains of an archive: for each peer the numbers of its first and last entry, and beside each entry the numbers
+//! of the next and of the previous one with the same peer, and its ordinal. A chain's peer is read off its first entry,
+//! so that no text is copied.
+ghost use Rattle.std.specs.Prelude.{◌≡◌, ℕ, ◌+◌, ◌-◌, ◌<◌, ◌≤◌, List, [], ◌∷◌, ◌++◌, Some, map, take, drop, set, length, slice_get, IfOk, IfErr, OnOk};
 ghost use Rattle.std.specs.List.{insert};
-ghost use Rattle.xmpp_archive.specs.Chained.{AreChains, IsChained, IsGap, chain_or, first_number, moved_on, some_number};
+ghost use Rattle.xmpp_archive.specs.Chained.{AreChains, IsChained, IsGap, chain_or, count_of, extended, first_number, kept_number, link_or, moved_on, some_chain, some_number};
 ghost use Rattle.xmpp_archive.specs.Rooms.{room_of};
 ghost use Rattle.xmpp_archive.specs.Peers.{peer_of};
 
@@ -12,41 +13,57 @@ use std::cmp::Ordering;
 use std::collections::VecDeque;
 use xmpp_edge::NoMemory;
 
+/// The numbers of the first and of the last entry with a peer, and how many there are.
+#[derive(Clone, Copy)]
+pub struct Chain {
+    pub first: u64,
+    pub last: u64,
+    pub count: u64,
+}
+
 /// The numbers of the first and of the last entry of a peer.
 #[derive(Clone, Copy)]
-pub(crate) struct Chain {
+pub(crate) struct Ends {
     pub(crate) first: u64,
     pub(crate) last: u64,
 }
 
-/// What an archive has beside its entries: for each the number of the next one with the same peer, or 0, and the
-/// chains in the order of their peers.
+/// What stands beside an entry: the number of the next one with the same peer, or 0, that of the previous one, or 0,
+/// which may be of a dropped entry, and how many came before it in its chain, dropped ones too.
+#[derive(Clone, Copy)]
+pub(crate) struct Link {
+    next: u64,
+    previous: u64,
+    ordinal: u64,
+}
+
+/// What an archive has beside its entries: the link of each, and the chains in the order of their peers.
 #[derive(Drop)]
 pub(crate) struct Links {
-    nexts: VecDeque<u64>,
-    chains: Vec<Chain>,
+    links: VecDeque<Link>,
+    chains: Vec<Ends>,
 }
 
 impl Links {
     /// The links of no entry. It takes no memory.
     pub(crate) fn new(alloc: Global) -> Links
-        ensures nexts { result.nexts.items ≡ [] }
+        ensures links { result.links.items ≡ [] }
         ensures chains { result.chains.items ≡ [] }
     {
         Links {
-            nexts: VecDeque::new(alloc),
+            links: VecDeque::new(alloc),
             chains: Vec::new(alloc),
         }
     }
 
     /// Makes room for the links of one entry more, and never lowers it.
     pub(crate) fn reserve(&mut self) -> Result<(), NoMemory>
-        ensures nexts { self.new.nexts.items ≡ self.old.nexts.items }
+        ensures links { self.new.links.items ≡ self.old.links.items }
         ensures chains { self.new.chains.items ≡ self.old.chains.items }
         ensures room { OnOk result (1 ≤ room_of self.new) }
         ensures kept { room_of self.old ≤ room_of self.new }
     {
-        self.nexts.reserve(1)?;
+        self.links.reserve(1)?;
         self.chains.reserve(1)?;
         Ok(())
     }
@@ -59,7 +76,7 @@ impl Links {
         first: u64,
         at: usize,
     ) -> &'a str
-        requires linked { IsChained first (map (peer_of owner.now) entries.now.items) self.now.nexts.items self.now.chains.items }
+        requires linked { IsChained first (map (peer_of owner.now) entries.now.items) self.now.links.items self.now.chains.items }
         requires there { at < length self.now.chains.items }
         ensures { (keys : List (List ℕ)) → AreChains keys first (map (peer_of owner.now) entries.now.items) self.now.chains.items →
             slice_get keys at ≡ Some result.now }
@@ -76,7 +93,7 @@ impl Links {
         first: u64,
         peer: &str,
     ) -> Result<usize, usize>
-        requires linked { IsChained first (map (peer_of owner.now) entries.now.items) self.now.nexts.items self.now.chains.items }
+        requires linked { IsChained first (map (peer_of owner.now) entries.now.items) self.now.links.items self.now.chains.items }
         ensures within { IfOk result (λ at. at < length self.now.chains.items) }
         ensures found { IfOk result (λ at. (keys : List (List ℕ)) →
             AreChains keys first (map (peer_of owner.now) entries.now.items) self.now.chains.items → slice_get keys at ≡ Some peer.now) }
@@ -105,7 +122,7 @@ impl Links {
         first: u64,
         peer: &str,
     ) -> Option<u64>
-        requires linked { IsChained first (map (peer_of owner.now) entries.now.items) self.now.nexts.items self.now.chains.items }
+        requires linked { IsChained first (map (peer_of owner.now) entries.now.items) self.now.links.items self.now.chains.items }
         requires positive { 1 ≤ first }
         ensures { result ≡ some_number (first_number peer.now first (map (peer_of owner.now) entries.now.items)) }
     {
@@ -115,31 +132,69 @@ impl Links {
         }
     }
 
+    /// The numbers of the first and of the last entry of a peer, and how many there are.
+    pub(crate) fn chain(
+        &self,
+        owner: &str,
+        entries: &VecDeque<Entry>,
+        first: u64,
+        peer: &str,
+    ) -> Option<Chain>
+        requires linked { IsChained first (map (peer_of owner.now) entries.now.items) self.now.links.items self.now.chains.items }
+        ensures { result ≡ some_chain peer.now first (map (peer_of owner.now) entries.now.items) }
+    {
+        match self.search(owner, entries, first, peer) {
+            Ok(at) => {
+                let ends = self.chains[at];
+                let before = self.links[(ends.first - first) as usize].ordinal;
+                Some(Chain {
+                    first: ends.first,
+                    last: ends.last,
+                    count: self.links[(ends.last - first) as usize].ordinal - before + 1,
+                })
+            }
+            Err(_) => None,
+        }
+    }
+
     /// The number of the next entry with the peer of the entry at a place.
     pub(crate) fn next_at(&self, at: usize) -> Option<u64>
-        requires { at < length self.now.nexts.items }
-        ensures { result ≡ some_number (slice_index self.now.nexts.items at) }
+        requires { at < length self.now.links.items }
+        ensures { result ≡ some_number (link_or self.now.links.items at).next }
     {
-        match self.nexts[at] {
+        match self.links[at].next {
             0 => None,
             number => Some(number),
         }
     }
 
-    // Puts an entry's number at the end of the chain at a place.
-    fn extend(&mut self, first: u64, at: usize, number: u64)
-        requires there { at < length self.old.chains.items }
-        requires place { (first ≤ (chain_or self.old.chains.items at).last) × ((chain_or self.old.chains.items at).last < first + length self.old.nexts.items) }
-        ensures nexts { self.new.nexts.items ≡ set self.old.nexts.items ((chain_or self.old.chains.items at).last - first) number }
-        ensures chains { self.new.chains.items ≡ set self.old.chains.items at (record { first = (chain_or self.old.chains.items at).first; last = number }) }
-        ensures room { room_of self.new ≡ room_of self.old }
+    /// The number of the previous entry with the peer of the entry at a place, where it is not below the first.
+    pub(crate) fn previous_at(&self, first: u64, at: usize) -> Option<u64>
+        requires { at < length self.now.links.items }
+        ensures { result ≡ kept_number first (link_or self.now.links.items at).previous }
     {
-        let chain = self.chains[at];
-        self.nexts[(chain.last - first) as usize] = number;
-        self.chains[at] = Chain {
-            first: chain.first,
-            last: number,
+        let number = self.links[at].previous;
+        if number < first { None } else { Some(number) }
+    }
+
+    /// How many of the entries before the one at a place have its peer.
+    pub(crate) fn index_at(
+        &self,
+        owner: &str,
+        entries: &VecDeque<Entry>,
+        first: u64,
+        at: usize,
+    ) -> u64
+        requires linked { IsChained first (map (peer_of owner.now) entries.now.items) self.now.links.items self.now.chains.items }
+        requires there { at < length entries.now.items }
+        ensures { (peer : List ℕ) → slice_get (map (peer_of owner.now) entries.now.items) at ≡ Some peer →
+            result ≡ count_of peer (take at (map (peer_of owner.now) entries.now.items)) }
+    {
+        let Ok(chain) = self.search(owner, entries, first, entries[at].peer(owner)) else {
+            unreachable!()
         };
+        let start = (self.chains[chain].first - first) as usize;
+        self.links[at].ordinal - self.links[start].ordinal
     }
 
     /// Links an entry with this peer and number, which is to follow the entries. It takes no memory.
@@ -151,43 +206,69 @@ impl Links {
         peer: &str,
         number: u64,
     )
-        requires linked { IsChained first (map (peer_of owner.now) entries.now.items) self.old.nexts.items self.old.chains.items }
+        requires linked { IsChained first (map (peer_of owner.now) entries.now.items) self.old.links.items self.old.chains.items }
         requires number { number ≡ first + length entries.now.items }
         requires room { 1 ≤ room_of self.old }
-        ensures linked { IsChained first (map (peer_of owner.now) entries.now.items ++ peer.now ∷ []) self.new.nexts.items self.new.chains.items }
+        ensures linked { IsChained first (map (peer_of owner.now) entries.now.items ++ peer.now ∷ []) self.new.links.items self.new.chains.items }
         ensures room { room_of self.old ≤ room_of self.new + 1 }
     {
         match self.search(owner, entries, first, peer) {
             Ok(at) => self.extend(first, at, number),
             Err(at) => self.begin(at, number),
         }
-        self.nexts.push_back_reserved(0);
     }
 
-    // Puts a chain of one entry at a place.
+    // Puts an entry's number and link at the end of the chain at a place.
+    fn extend(&mut self, first: u64, at: usize, number: u64)
+        requires there { at < length self.old.chains.items }
+        requires place { (first ≤ (chain_or self.old.chains.items at).last) × ((chain_or self.old.chains.items at).last < first + length self.old.links.items) }
+        requires ordinal { (link_or self.old.links.items ((chain_or self.old.chains.items at).last - first)).ordinal < number }
+        requires room { 1 ≤ room_of self.old }
+        ensures links { self.new.links.items ≡ extended ((chain_or self.old.chains.items at).last - first) (chain_or self.old.chains.items at).last number self.old.links.items }
+        ensures chains { self.new.chains.items ≡ set self.old.chains.items at (record { first = (chain_or self.old.chains.items at).first; last = number }) }
+        ensures room { room_of self.old ≤ room_of self.new + 1 }
+    {
+        let last = self.chains[at].last;
+        let place = (last - first) as usize;
+        let ordinal = self.links[place].ordinal + 1;
+        self.links[place].next = number;
+        self.chains[at].last = number;
+        self.links.push_back_reserved(Link {
+            next: 0,
+            previous: last,
+            ordinal,
+        });
+    }
+
+    // Puts a chain of one entry at a place, and the link of that entry at the end.
     fn begin(&mut self, at: usize, number: u64)
         requires there { at ≤ length self.old.chains.items }
         requires room { 1 ≤ room_of self.old }
-        ensures nexts { self.new.nexts ≡ self.old.nexts }
+        ensures links { self.new.links.items ≡ self.old.links.items ++ record { next = 0; previous = 0; ordinal = 0 } ∷ [] }
         ensures chains { self.new.chains.items ≡ insert self.old.chains.items at (record { first = number; last = number }) }
         ensures room { room_of self.old ≤ room_of self.new + 1 }
     {
-        let chain = Chain {
+        let ends = Ends {
             first: number,
             last: number,
         };
-        match self.chains.insert(at, chain) {
+        match self.chains.insert(at, ends) {
             Ok(()) => {}
             Err(_) => unreachable!(),
         }
+        self.links.push_back_reserved(Link {
+            next: 0,
+            previous: 0,
+            ordinal: 0,
+        });
     }
 
     /// Unlinks the first of the entries: its chain moves on to the next, or goes where there is none.
     pub(crate) fn unlink_first(&mut self, owner: &str, entries: &VecDeque<Entry>, first: u64)
-        requires linked { IsChained first (map (peer_of owner.now) entries.now.items) self.old.nexts.items self.old.chains.items }
+        requires linked { IsChained first (map (peer_of owner.now) entries.now.items) self.old.links.items self.old.chains.items }
         requires some { 0 < length entries.now.items }
         requires positive { 1 ≤ first }
-        ensures linked { IsChained (first + 1) (drop 1 (map (peer_of owner.now) entries.now.items)) self.new.nexts.items self.new.chains.items }
+        ensures linked { IsChained (first + 1) (drop 1 (map (peer_of owner.now) entries.now.items)) self.new.links.items self.new.chains.items }
         ensures room { room_of self.old ≤ room_of self.new }
     {
         let Ok(at) = self.search(owner, entries, first, entries[0].peer(owner)) else {
@@ -199,17 +280,17 @@ impl Links {
     // Drops the first link, and moves the chain at a place on to it, or removes the chain where the link was to none.
     fn move_on(&mut self, at: usize)
         requires there { at < length self.old.chains.items }
-        requires some { 0 < length self.old.nexts.items }
-        ensures nexts { self.new.nexts.items ≡ drop 1 self.old.nexts.items }
-        ensures chains { self.new.chains.items ≡ moved_on (slice_index self.old.nexts.items 0) at self.old.chains.items }
+        requires some { 0 < length self.old.links.items }
+        ensures links { self.new.links.items ≡ drop 1 self.old.links.items }
+        ensures chains { self.new.chains.items ≡ moved_on (link_or self.old.links.items 0).next at self.old.chains.items }
         ensures room { room_of self.old ≤ room_of self.new }
     {
-        match self.nexts.pop_front() {
-            Some(0) => {
+        match self.links.pop_front() {
+            Some(Link { next: 0, .. }) => {
                 self.chains.remove(at);
             }
-            Some(next) => {
-                self.chains[at] = Chain {
+            Some(Link { next, .. }) => {
+                self.chains[at] = Ends {
                     first: next,
                     last: self.chains[at].last,
                 };

@@ -30,8 +30,15 @@ fn entry(alloc: Global, from: &str, to: &str) -> Result<Entry, NoMemory> {
 fn filled(alloc: Global, keep: u32) -> Result<Archive, Fail>
     requires { 1 ≤ keep }
 {
+    filled_with(alloc, keep, PEERS)
+}
+
+/// The same with these peers.
+fn filled_with(alloc: Global, keep: u32, peers: [&str; 5]) -> Result<Archive, Fail>
+    requires { 1 ≤ keep }
+{
     let mut archive = Archive::new(alloc, Text::from_str(alloc, OWNER)?, keep);
-    for peer in PEERS {
+    for peer in peers {
         let next = entry(alloc, peer, OWNER)?;
         archive.reserve()?;
         archive.append_reserved(next);
@@ -85,6 +92,54 @@ fn keeps_three(rt: HostRuntime) -> Result<(), Fail> {
     assert_eq!(rt; archive.next_of(3), Some(4));
     assert_eq!(rt; archive.first_of("romeo"), Some(5));
     assert_eq!(rt; archive.get(4).ok_or("no entry")?.number, 4);
+    Ok(())
+}
+
+/// Whom five entries are with, of which an archive keeps three.
+static THREE_PEERS: [&str; 5] = ["nurse", "romeo", "nurse", "friar", "nurse"];
+
+/// The peers, and the first, the last and the count of what is kept with each.
+static CHAINS: [(&str, [u64; 3]); 4] = [
+    ("nurse", [3, 5, 2]),
+    ("friar", [4, 4, 1]),
+    ("romeo", [0, 0, 0]),
+    ("paris", [0, 0, 0]),
+];
+
+/// Numbers, and for each the previous one with the same peer and the index.
+static PLACES: [(u64, Option<u64>, Option<u64>); 6] = [
+    (0, None, None),
+    (2, None, None),
+    (3, None, Some(0)),
+    (4, None, Some(0)),
+    (5, Some(3), Some(1)),
+    (6, None, None),
+];
+
+/// What is known of a chain, or zeros.
+fn told(archive: &Archive, peer: &str) -> [u64; 3] {
+    match archive.chain(peer) {
+        Some(chain) => [chain.first, chain.last, chain.count],
+        None => [0; 3],
+    }
+}
+
+#[test]
+fn tells_chains(rt: HostRuntime) -> Result<(), Fail> {
+    let archive = filled_with(rt.alloc(), 3, THREE_PEERS)?;
+    for (peer, chain) in CHAINS {
+        assert_eq!(rt; told(&archive, peer), chain);
+    }
+    Ok(())
+}
+
+#[test]
+fn tells_places(rt: HostRuntime) -> Result<(), Fail> {
+    let archive = filled_with(rt.alloc(), 3, THREE_PEERS)?;
+    for (number, previous, index) in PLACES {
+        assert_eq!(rt; archive.previous_of(number), previous);
+        assert_eq!(rt; archive.index_of(number), index);
+    }
     Ok(())
 }
 

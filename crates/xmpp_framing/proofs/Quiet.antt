@@ -1,9 +1,11 @@
 -- States between tokens, and in what a state behind some bytes differs from the one before them.
-use Rattle.std.specs.Prelude.{ℕ, ◌≡◌, ◌+◌, ◌^◌, ◌≤◌, ◌⊎◌, false, List, [], ◌++◌, None, length}
+use Rattle.std.specs.Prelude.{ℕ, ◌≡◌, ◌+◌, ◌^◌, ◌<◌, ◌≤◌, ◌⊎◌, false, List, [], ◌++◌, None, length}
+use Rattle.std.specs.Option.{is_some}
 use Rattle.xmpp_framing.specs.States.{State}
 use Rattle.xmpp_framing.specs.declared.states.Mode.TheVariants as mode
 
--- no fault, no token and no character in hand
+-- No fault, no token and no character in hand. What belongs to an element is counted, up to the last number that is, and
+-- outside elements nothing is.
 pub record IsQuiet (s : State) : Type 0 where
   pub no_fault : s.fault ≡ None
   pub text : s.lexical.mode ≡ mode.Text
@@ -11,6 +13,8 @@ pub record IsQuiet (s : State) : Type 0 where
   pub no_pending : s.pending ≡ []
   pub no_quote : s.lexical.quote ≡ None
   pub not_spoiled : s.lexical.spoiled ≡ false
+  pub counted : s.places.used < 2 ^ 64
+  pub uncounted : is_some s.here ≡ false → s.places.used ≡ 0
 
 -- a token ended, and no run of text has begun
 pub record IsFresh (s : State) : Type 0 where
@@ -48,4 +52,5 @@ pub record HasInHand (s t : State) (bytes : List ℕ) : Type 0 where
   pub token : t.token ≡ bytes
   pub no_pending : t.pending ≡ []
   pub used : t.places.used ≤ s.places.used + length bytes
+  pub counted : t.places.used < 2 ^ 64
   pub token_at : t.places.token_at ≡ s.places.at

@@ -1,9 +1,7 @@
-use Rattle.std.proofs.Common.{◌≡◌, ◌+◌, ◌-◌, None, length, map, arith, sym, ap, refl}
-use Rattle.std.proofs.lemmas.List.{length-map}
-use Rattle.xmpp_archive.proofs.Linked.{length-next_numbers}
-use Rattle.xmpp_archive.proofs.NumberedEntries.{at_place, follow_numbered, none_outside}
-use Rattle.xmpp_archive.proofs.Walks.{next_of_is}
-use Rattle.xmpp_archive.specs.Chained.{next_numbers}
+use Rattle.std.proofs.Common.{◌≡◌, ◌+◌, ◌-◌, None, length, arith, sym, ap, refl}
+use Rattle.xmpp_archive.proofs.ChainPlaces.{place_has}
+use Rattle.xmpp_archive.proofs.ChainSteps.{links_of_entries}
+use Rattle.xmpp_archive.proofs.NumberedEntries.{follow_numbered, none_outside}
 use Rattle.xmpp_archive.specs.Entries.{ArchiveView, entry_numbered}
 use Rattle.xmpp_archive.specs.Peers.{peer_of}
 use Rattle.xmpp_archive.proofs.archive.Archive.next_of.Goals as goal
@@ -17,10 +15,7 @@ returns-in_err-place c =
 pub next_at-requires : goal.next_at-requires
 next_at-requires c =
     let entries = c.self.inside.entries.items in
-    let first = c.self.inside.last + 1 - length entries in
-    let size : length (next_numbers first (map (peer_of c.self.inside.owner) entries)) ≡ length (map (peer_of c.self.inside.owner) entries) = length-next_numbers first (map (peer_of c.self.inside.owner) entries) in
-    let same : length (map (peer_of c.self.inside.owner) entries) ≡ length entries = length-map entries (peer_of c.self.inside.owner) in
-    let nexts : length c.self.inside.links.nexts.items ≡ length (next_numbers first (map (peer_of c.self.inside.owner) entries)) = ap length c.self.invariant.1.linked in
+    let size = links_of_entries (c.self.inside.last + 1 - length entries) (peer_of c.self.inside.owner) entries c.self.inside.links.links.items c.self.inside.links.chains.items c.self.invariant.1 in
     let view : length c.args.self.now.entries ≡ length entries = ap (λ (v : ArchiveView). length v.entries) (sym c.self.view_is) in
     omega (arith, c.in_ok-place.ensures.some.0)
 
@@ -29,9 +24,8 @@ returns c =
     let entries = c.self.inside.entries.items in
     let first = c.self.inside.last + 1 - length entries in
     let kept = c.self.invariant.0 in
-    let view = c.self.view_is in
-    let inside = rw (← view) at c.in_ok-place.ensures.some in
-    let entry = at_place c.in_ok-place.field-0 entries inside.0 in
+    let inside = rw (← c.self.view_is) at c.in_ok-place.ensures.some in
     let follow = follow_numbered c.self.inside.last entries kept.numbers kept.within in
-    rw (c.next_at.ensures, c.self.invariant.1.linked, ← view)
-    (sym (next_of_is c.self.inside.owner first c.args.number c.in_ok-place.field-0 entries entry.0 follow (omega (arith, kept.within)) (omega (arith, inside.1, kept.within)) entry.1))
+    let place = place_has c.self.inside.owner first c.args.number c.in_ok-place.field-0 entries c.self.inside.links.links.items c.self.inside.links.chains.items c.self.invariant.1
+    follow (omega (arith, kept.within)) (omega (arith, inside.1, kept.within)) inside.0 in
+    rw (c.next_at.ensures, ← c.self.view_is) (sym place.0)
