@@ -13,6 +13,7 @@ mod Worked
 mod WorkedRuns
 mod WorkedGrammar
 mod WorkedSpellings
+mod WorkedStreams
 pub mod WrittenNodes
 pub mod WrittenTags
 pub mod Stacks
@@ -41,3 +42,11 @@ pub mod SectionRuns
 pub mod TextRuns
 pub mod DeclarationBytes
 pub mod DeclarationRuns
+pub mod ReadCharacters
+pub mod TextFronts
+pub mod OpenLevels
+pub mod ReadSoFar
+pub mod ReadOutside
+pub mod TextHands
+pub mod ReadInside
+pub mod ReadStreams

@@ -5,6 +5,7 @@ pub mod Plain
 pub mod Readers
 pub mod Runs
 pub mod Spells
+pub mod Streams
 pub mod Texts
 pub mod Tidied
 pub mod Trees
