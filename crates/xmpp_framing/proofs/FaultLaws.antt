@@ -45,7 +45,7 @@ pub broken : (t : Turn) (b : ℕ) → t.state.fault ≡ None → is_too_long t.s
 unfolding goes_on is_too_long
 broken t b none h e = rw (none, h, e) refl
 
-goes : (t : Turn) (m : Mode) (b : ℕ) → Takes t.state m b → step t b ≡ behind_byte (taken_in m (moved t (counted t.state)) b) b
+pub goes : (t : Turn) (m : Mode) (b : ℕ) → Takes t.state m b → step t b ≡ behind_byte (taken_in m (moved t (counted t.state)) b) b
 unfolding goes_on taken is_too_long utf8_next
 goes t m b h = rw (h.no_fault, h.short, h.is_text, h.mode_is) refl
 

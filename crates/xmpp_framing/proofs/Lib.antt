@@ -24,3 +24,7 @@ pub mod FaultLaws
 pub mod TagEnds
 pub mod OneText
 pub mod OneSpelling
+pub mod ValueTexts
+pub mod TagParts
+pub mod TagRuns
+pub mod FooterRuns
