@@ -28,3 +28,11 @@ pub mod ValueTexts
 pub mod TagParts
 pub mod TagRuns
 pub mod FooterRuns
+pub mod HeldBytes
+pub mod ByteSteps
+pub mod TextBytes
+pub mod DataRuns
+pub mod ReferenceRuns
+pub mod SectionBytes
+pub mod SectionRuns
+pub mod TextRuns
