@@ -18,3 +18,6 @@ pub mod Machine
 pub mod StateCodes
 pub mod FramerView
 pub mod FaultRows
+pub mod Within
+pub mod Standing
+pub mod Streams

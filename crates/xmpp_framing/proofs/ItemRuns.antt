@@ -1,0 +1,163 @@
+-- What spells an item is read as that item.
+use Rattle.std.proofs.Common.{◌≡◌, ℕ, ◌⊎◌, ◌≤◌, inl, inr, List, [], ◌∷◌, ◌++◌, None, length, refl, sym, ap, subst, ◌∙◌, arith}
+use Rattle.std.proofs.lemmas.List.{append-nil}
+use Rattle.std.specs.Option.{is_some}
+use Rattle.xmpp_tokens.specs.Tags.{IsTag, end_tag}
+use Rattle.xmpp_names.specs.Scopes.{Scope}
+use Rattle.xmpp_names.specs.declared.headers.Header.{Header}
+use Rattle.xmpp_framing.proofs.ElementRuns.{element_read, front_of}
+use Rattle.xmpp_framing.proofs.ElementStates.{IsWhole, none_before, none_held}
+use Rattle.xmpp_framing.proofs.HeaderRuns.{HasHead, MayHead, header_run, next_opens}
+use Rattle.xmpp_framing.proofs.Quiet.{HasRoom, IsQuiet}
+use Rattle.xmpp_framing.proofs.SpelledTrees.{spelled_stays}
+use Rattle.xmpp_framing.proofs.FooterRuns.{HasEnded, footer_run}
+use Rattle.xmpp_framing.specs.Machine.{behind_byte, passed}
+use Rattle.xmpp_framing.specs.Spells.{SpellsFooter, SpellsHeader, SpellsItem, SpellsNextHeader, SpellsTop, a_footer, a_header, an_element}
+use Rattle.xmpp_framing.specs.Standing.{Gives, IsItemWithin, StandsOutside, name_left, phase_left, placed, scope_left}
+use Rattle.xmpp_framing.specs.States.{State, item_ended, open_count, turn}
+use Rattle.xmpp_framing.specs.TagSteps.{added, added_to, scope_in, tag_limits, text_joined}
+use Rattle.xmpp_framing.specs.Tidied.{tidied}
+use Rattle.xmpp_framing.specs.Trees.{Elem}
+use Rattle.xmpp_framing.specs.Within.{IsElementWithin, IsHeaderWithin, IsNextHeaderWithin}
+use Rattle.xmpp_framing.specs.declared.items.Item.{Item}
+use Rattle.xmpp_framing.specs.declared.items.Item.TheVariants as item
+use Rattle.xmpp_framing.specs.declared.states.Phase.{Phase}
+use Rattle.xmpp_framing.specs.declared.states.Phase.TheVariants as phase
+
+pub quiet_there : (s : State) (p : Phase) (scope : Scope) (name : List ℕ) → StandsOutside s p scope name → IsQuiet s
+quiet_there s p scope name at = record { no_fault = at.no_fault; text = at.text; no_token = at.no_token; no_pending = at.no_pending; no_quote = at.no_quote; not_spoiled = at.not_spoiled; counted = rw at.none_used (omega arith); uncounted = λ e. at.none_used }
+
+room_there : (s : State) (bytes : List ℕ) → s.places.used ≡ 0 → length bytes ≤ s.limits.bytes → HasRoom s bytes
+room_there s bytes unused short = inl (omega (arith, unused, short))
+
+-- ---- headers
+
+pub head_gives : (s : State) (items : List Item) (p : Phase) (scope inner : Scope) (name next bytes : List ℕ) (at : ℕ) (h : Header) (i : Item) (spelled : SpellsHeader bytes next inner h) → StandsOutside s p scope name
+    → IsHeaderWithin s.limits bytes next inner h spelled → MayHead s bytes → i ≡ item.Header at h → Gives s items bytes i phase.Between inner next
+head_gives s items p scope inner name next bytes at h i spelled stands within may is =
+    let r = header_run s items bytes next inner h spelled (quiet_there s p scope name stands) (ap is_some stands.outside) (room_there s bytes stands.none_used within.short) within.tag may in
+    let has : HasHead s r.0 inner next = r.2 in
+    let quiet = has.fresh.quiet in
+    record {
+      behind = r.0;
+      run_is = r.1 ∙ ap (λ j. turn r.0 (items ++ placed s.places.at j ∷ [])) (sym is);
+      stands = record {
+        no_fault = quiet.no_fault;
+        outside = has.here ∙ stands.outside;
+        none_open = has.below ∙ stands.none_open;
+        text = quiet.text;
+        no_quote = quiet.no_quote;
+        not_spoiled = quiet.not_spoiled;
+        no_token = quiet.no_token;
+        no_pending = quiet.no_pending;
+        none_used = has.unused;
+        phase_is = has.phase_is;
+        scope_is = ap scope_in has.scopes ∙ append-nil inner;
+        name_is = has.name_is;
+      };
+      same_limits = has.limits;
+      none_before = none_before s items bytes r.3;
+    }
+
+pub next_header_gives : (s : State) (items : List Item) (p : Phase) (scope inner : Scope) (name next bytes : List ℕ) (at : ℕ) (h : Header) (i : Item) (spelled : SpellsNextHeader scope bytes next inner h)
+    → StandsOutside s p scope name → (s.lexical.phase ≡ phase.Between) ⊎ (s.lexical.phase ≡ phase.Declared) → IsNextHeaderWithin s.limits scope bytes next inner h spelled → i ≡ item.Header at h
+    → Gives s items bytes i phase.Between inner next
+next_header_gives s items p scope inner name next bytes at h i spelled stands later within is =
+    let opens = next_opens (tag_limits s.limits) scope bytes next inner h spelled within.attributes_fit within.names_fit within.header.tag in
+    head_gives s items p scope inner name next bytes at h i spelled.spelled stands within.header (inr (inr (later, rw stands.scope_is opens))) is
+
+-- ---- elements
+
+top_given : (s h : State) (items : List Item) (bytes : List ℕ) (e : Elem) → s.here ≡ None → IsWhole s h bytes → behind_byte (added (turn h items) e) 62 ≡ turn (passed (item_ended h) 62) (items ++ item.Element (tidied e) ∷ [])
+top_given s h items bytes e outside whole = ap (λ o. behind_byte (added_to o (turn h items) e) 62) (whole.here ∙ ap (λ o. text_joined o s.chars) outside)
+
+pub element_gives : (s : State) (items : List Item) (scope : Scope) (name bytes : List ℕ) (e : Elem) (i : Item) (spelled : SpellsTop scope bytes e) → StandsOutside s phase.Between scope name
+    → IsElementWithin s.limits scope bytes e spelled.spelled → i ≡ item.Element e → Gives s items bytes i phase.Between scope name
+element_gives s items scope name bytes e i spelled stands within is =
+    let count : open_count s ≡ 0 = rw stands.outside refl in
+    let shallow = within.shallow in
+    let r =
+    element_read scope bytes e spelled.spelled s items (quiet_there s phase.Between scope name stands) stands.scope_is (room_there s bytes stands.none_used within.short) within.tags (omega (arith, count, shallow))
+    (inr (record { outside = stands.outside; none_open = stands.none_open; phase_is = stands.phase_is }, spelled.no_header)) in
+    let h = r.0 in
+    let whole : IsWhole s h bytes = r.2 in
+    record {
+      behind = passed (item_ended h) 62;
+      run_is =
+          r.1 ∙ top_given s h items bytes e stands.outside whole
+          ∙ ap (λ f. turn (passed (item_ended h) 62) (items ++ item.Element f ∷ [])) (spelled_stays scope bytes e spelled.spelled)
+          ∙ ap (λ j. turn (passed (item_ended h) 62) (items ++ placed s.places.at j ∷ [])) (sym is);
+      stands = record {
+        no_fault = whole.no_fault;
+        outside = whole.here ∙ ap (λ o. text_joined o s.chars) stands.outside;
+        none_open = whole.below ∙ stands.none_open;
+        text = refl;
+        no_quote = refl;
+        not_spoiled = refl;
+        no_token = refl;
+        no_pending = none_held h.pending whole.no_pending;
+        none_used = refl;
+        phase_is = whole.phase ∙ stands.phase_is;
+        scope_is = ap scope_in whole.scopes ∙ stands.scope_is;
+        name_is = whole.name ∙ stands.name_is;
+      };
+      same_limits = whole.limits;
+      none_before = none_before s items bytes r.3;
+    }
+
+-- ---- footers
+
+pub footer_gives : (s : State) (items : List Item) (scope : Scope) (name bytes : List ℕ) (i : Item) → SpellsFooter bytes name → StandsOutside s phase.Between scope name → i ≡ item.Footer
+    → Gives s items bytes i phase.Ended scope name
+footer_gives s items scope name bytes i spelled stands is =
+    let r =
+    footer_run s items bytes (quiet_there s phase.Between scope name stands) (ap is_some stands.outside) stands.phase_is
+    (subst (λ n. IsTag bytes (end_tag n)) (sym stands.name_is) spelled) in
+    let has : HasEnded s r.0 = r.2 in
+    let quiet = has.fresh.quiet in
+    record {
+      behind = r.0;
+      run_is = r.1 ∙ ap (λ j. turn r.0 (items ++ placed s.places.at j ∷ [])) (sym is);
+      stands = record {
+        no_fault = quiet.no_fault;
+        outside = has.here ∙ stands.outside;
+        none_open = has.below ∙ stands.none_open;
+        text = quiet.text;
+        no_quote = quiet.no_quote;
+        not_spoiled = quiet.not_spoiled;
+        no_token = quiet.no_token;
+        no_pending = quiet.no_pending;
+        none_used = has.uncounted;
+        phase_is = has.phase_is;
+        scope_is = ap scope_in has.scopes ∙ stands.scope_is;
+        name_is = has.name ∙ stands.name_is;
+      };
+      same_limits = has.limits;
+      none_before = none_before s items bytes (front_of s items bytes r.3);
+    }
+
+-- ---- items
+
+pub item_gives : (s : State) (items : List Item) (scope : Scope) (name bytes : List ℕ) (i : Item) (spelled : SpellsItem scope name bytes i) → StandsOutside s phase.Between scope name
+    → IsItemWithin s.limits scope name bytes i spelled → Gives s items bytes i (phase_left scope name bytes i spelled) (scope_left scope name bytes i spelled) (name_left scope name bytes i spelled)
+item_gives s items scope name bytes i (a_header _ _ _ _ next inner at h spelled is) stands within =
+    next_header_gives s items phase.Between scope inner name next bytes at h i spelled stands (inl stands.phase_is) within is
+item_gives s items scope name bytes i (an_element _ _ _ _ e spelled is) stands within = element_gives s items scope name bytes e i spelled stands within is
+item_gives s items scope name bytes i (a_footer _ _ _ _ spelled is) stands within = footer_gives s items scope name bytes i spelled stands is
+
+-- ---- headers elsewhere
+
+pub first_gives : (s : State) (items : List Item) (scope inner : Scope) (name next bytes : List ℕ) (h : Header) (spelled : SpellsHeader bytes next inner h) → StandsOutside s phase.First scope name
+    → IsHeaderWithin s.limits bytes next inner h spelled → Gives s items bytes (item.Header s.places.at h) phase.Between inner next
+first_gives s items scope inner name next bytes h spelled stands within =
+    head_gives s items phase.First scope inner name next bytes s.places.at h (item.Header s.places.at h) spelled stands within (inl stands.phase_is) refl
+
+pub first_declared_gives : (s : State) (items : List Item) (scope inner : Scope) (name next bytes : List ℕ) (h : Header) (spelled : SpellsHeader bytes next inner h) → StandsOutside s phase.FirstDeclared scope name
+    → IsHeaderWithin s.limits bytes next inner h spelled → Gives s items bytes (item.Header s.places.at h) phase.Between inner next
+first_declared_gives s items scope inner name next bytes h spelled stands within =
+    head_gives s items phase.FirstDeclared scope inner name next bytes s.places.at h (item.Header s.places.at h) spelled stands within (inr (inl stands.phase_is)) refl
+
+pub declared_gives : (s : State) (items : List Item) (scope inner : Scope) (name next bytes : List ℕ) (h : Header) (spelled : SpellsNextHeader scope bytes next inner h) → StandsOutside s phase.Declared scope name
+    → IsNextHeaderWithin s.limits scope bytes next inner h spelled → Gives s items bytes (item.Header s.places.at h) phase.Between inner next
+declared_gives s items scope inner name next bytes h spelled stands within =
+    next_header_gives s items phase.Declared scope inner name next bytes s.places.at h (item.Header s.places.at h) spelled stands (inr stands.phase_is) within refl

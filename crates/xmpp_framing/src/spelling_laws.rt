@@ -1,0 +1,44 @@
+//! Laws of the machine that a framer is and of XML's grammar.
+ghost use Rattle.std.specs.Prelude.{◌≡◌, [], ℕ, List};
+ghost use Rattle.xmpp_framing.specs.Spells.{SpellsHeader, SpellsItem, SpellsNextHeader};
+ghost use Rattle.xmpp_framing.specs.Standing.{Gives, IsItemWithin, StandsOutside, name_left, phase_left, scope_left};
+ghost use Rattle.xmpp_framing.specs.States.{State, from_start};
+ghost use Rattle.xmpp_framing.specs.Streams.{AreItemsWithin, GivesAll, IsStreamWithin, SpellsItems, SpellsStream, place_of};
+ghost use Rattle.xmpp_framing.specs.Within.{IsHeaderWithin, IsNextHeaderWithin};
+ghost use Rattle.xmpp_framing.specs.declared.items.Item.{Item};
+ghost use Rattle.xmpp_framing.specs.declared.items.Item.TheVariants as item;
+ghost use Rattle.xmpp_framing.specs.declared.limits.Limits.{Limits};
+ghost use Rattle.xmpp_framing.specs.declared.states.Phase.TheVariants as phase;
+ghost use Rattle.xmpp_names.specs.Scopes.{Scope};
+ghost use Rattle.xmpp_names.specs.declared.headers.Header.{Header};
+
+/// A law: what spells an item is read as that item (XML 1.0, section 3; Namespaces in XML 1.0; RFC 6120, section 4).
+/// From a state behind a header in which no element is open and no token is in hand, the bytes that spell an item in the
+/// scope in force, within the limits, give exactly that item, a header with its place. They leave the machine in such a
+/// state again, in the scope and behind the name that the item leaves in force; behind a footer the stream has ended.
+/// Before the first header, and behind a declaration, the same holds of a header.
+pub fn spelled_items_are_read()
+    ensures item { (s : State) (items : List Item) (scope : Scope) (name bytes : List ℕ) (i : Item) (spelled : SpellsItem scope name bytes i)
+        → StandsOutside s phase.Between scope name → IsItemWithin s.limits scope name bytes i spelled
+        → Gives s items bytes i (phase_left scope name bytes i spelled) (scope_left scope name bytes i spelled) (name_left scope name bytes i spelled) }
+    ensures first { (s : State) (items : List Item) (scope inner : Scope) (name next bytes : List ℕ) (h : Header) (spelled : SpellsHeader bytes next inner h)
+        → StandsOutside s phase.First scope name → IsHeaderWithin s.limits bytes next inner h spelled
+        → Gives s items bytes (item.Header s.places.at h) phase.Between inner next }
+    ensures first_declared { (s : State) (items : List Item) (scope inner : Scope) (name next bytes : List ℕ) (h : Header) (spelled : SpellsHeader bytes next inner h)
+        → StandsOutside s phase.FirstDeclared scope name → IsHeaderWithin s.limits bytes next inner h spelled
+        → Gives s items bytes (item.Header s.places.at h) phase.Between inner next }
+    ensures declared { (s : State) (items : List Item) (scope inner : Scope) (name next bytes : List ℕ) (h : Header) (spelled : SpellsNextHeader scope bytes next inner h)
+        → StandsOutside s phase.Declared scope name → IsNextHeaderWithin s.limits scope bytes next inner h spelled
+        → Gives s items bytes (item.Header s.places.at h) phase.Between inner next }
+{}
+
+/// A law: what spells a stream, each header and element within the limits, is read as its items, and nothing is unfinished
+/// behind its bytes (RFC 6120, section 4). Headers and elements follow one another, a footer is the last, and white space
+/// may stand between. The same holds behind a header of what is left of a stream.
+pub fn spelled_streams_are_read()
+    ensures whole { (limits : Limits) (bytes : List ℕ) (said : List Item) (spelled : SpellsStream bytes said) → IsStreamWithin limits bytes said spelled
+        → GivesAll (from_start limits) [] bytes said }
+    ensures rest { (s : State) (items : List Item) (offset : ℕ) (scope : Scope) (name bytes : List ℕ) (said : List Item) (spelled : SpellsItems offset scope name bytes said)
+        → StandsOutside s phase.Between scope name → s.places.at ≡ place_of offset
+        → AreItemsWithin s.limits offset scope name bytes said spelled → GivesAll s items bytes said }
+{}
