@@ -1,15 +1,14 @@
 -- The machine's way over bytes that break nothing: the room that the byte limit leaves, what stays the same, and the
 -- states between.
-use Rattle.std.proofs.Common.{◌≡◌, ℕ, suc, ◌+◌, ◌-◌, ◌^◌, ◌<◌, ◌≤◌, ◌⊎◌, inl, inr, ⊎_elim, min, Bool, true, false, cond, eqb, leb, List, [], ◌∷◌, ◌++◌, Option, Some, None, length, refl, sym, ap, subst, ◌∙◌, arith, append_assoc, length-append}
-use Rattle.std.proofs.lemmas.Bool.{cases_Bool, and_left, and_right, cond-true, cond-false, false_from_ne_true, leb-true}
+use Rattle.std.proofs.Common.{◌≡◌, ℕ, suc, ◌+◌, ◌-◌, ◌^◌, ◌<◌, ◌≤◌, ◌⊎◌, inl, inr, ⊎_elim, min, true, false, cond, eqb, leb, List, [], ◌∷◌, ◌++◌, Some, None, length, refl, sym, ap, subst, ◌∙◌, arith, length-append}
+use Rattle.std.proofs.lemmas.Bool.{cases_Bool, and_left, and_right, false_from_ne_true, leb-true}
 use Rattle.std.specs.Option.{is_some}
 use Rattle.xmpp_tokens.specs.Utf8.{utf8_next}
-use Rattle.xmpp_framing.proofs.FaultLaws.{goes}
 use Rattle.xmpp_framing.proofs.Pieces.{run_append}
-use Rattle.xmpp_framing.proofs.Quiet.{AreAlike, HasRoom, IsFresh, IsQuiet}
+use Rattle.xmpp_framing.proofs.Quiet.{AreAlike, HasRoom}
 use Rattle.xmpp_framing.specs.FaultRows.{Takes}
-use Rattle.xmpp_framing.specs.Machine.{behind_byte, is_too_long, passed, run, step, taken_in}
-use Rattle.xmpp_framing.specs.States.{OpenElement, State, counted, gathered, turn}
+use Rattle.xmpp_framing.specs.Machine.{is_too_long, passed, run, step}
+use Rattle.xmpp_framing.specs.States.{State, counted, gathered, turn}
 use Rattle.xmpp_framing.specs.declared.items.Item.{Item}
 use Rattle.xmpp_framing.specs.declared.limits.Limits.{Limits}
 use Rattle.xmpp_framing.specs.declared.states.Mode.{Mode}
@@ -18,11 +17,11 @@ use Rattle.xmpp_framing.specs.declared.states.Mode.{Mode}
 
 -- A count is within the limit for this many bytes more: nothing is counted, the count stays below the limit, or the limit
 -- is past all numbers that are counted.
-abbrev pub Leaves : ℕ → ℕ → ℕ → Type 0
-Leaves used most n = (used ≡ 0) ⊎ ((used + n ≤ most) ⊎ ((used < 2 ^ 64) × (2 ^ 64 ≤ most)))
+abbrev pub LeavesRoom : ℕ → ℕ → ℕ → Type 0
+LeavesRoom used most n = (used ≡ 0) ⊎ ((used + n ≤ most) ⊎ ((used < 2 ^ 64) × (2 ^ 64 ≤ most)))
 
 abbrev pub Room : State → ℕ → Type 0
-Room s n = Leaves s.places.used s.limits.bytes n
+Room s n = LeavesRoom s.places.used s.limits.bytes n
 
 pub room : (s : State) (bytes : List ℕ) → s.places.used < 2 ^ 64 → HasRoom s bytes → Room s (length bytes)
 room s bytes low h = ⊎_elim (λ below. inr (inl below)) (λ large. inr (inr (low, large))) h
@@ -114,8 +113,8 @@ pub record Goes (s : State) (items : List Item) (bytes : List ℕ) (P : State �
   pub kept : Kept s state (length bytes)
   pub holds : P state
 
-pub goes_nowhere : (s : State) (items : List Item) (P : State → Type 0) → P s → Goes s items [] P
-goes_nowhere s items P h = record { state = s; runs = refl; kept = kept_none s; holds = h }
+pub goes_none : (s : State) (items : List Item) (P : State → Type 0) → P s → Goes s items [] P
+goes_none s items P h = record { state = s; runs = refl; kept = kept_none s; holds = h }
 
 -- one byte and then others
 pub goes_first : (s u : State) (items : List Item) (b : ℕ) (bs : List ℕ) (P : State → Type 0) → step (turn s items) b ≡ turn u items → Kept s u 1 → Goes u items bs P → Goes s items (b ∷ bs) P
@@ -127,7 +126,7 @@ goes_first s u items b bs P e k g = record {
 }
 
 pub goes_one : (s u : State) (items : List Item) (b : ℕ) (P : State → Type 0) → step (turn s items) b ≡ turn u items → Kept s u 1 → P u → Goes s items (b ∷ []) P
-goes_one s u items b P e k h = goes_first s u items b [] P e k (goes_nowhere u items P h)
+goes_one s u items b P e k h = goes_first s u items b [] P e k (goes_none u items P h)
 
 -- some bytes and then others
 pub goes_then : (s : State) (items : List Item) (xs ys : List ℕ) (P Q : State → Type 0) → Goes s items xs P → ((t : State) → Kept s t (length xs) → P t → Goes t items ys Q) → Goes s items (xs ++ ys) Q

@@ -1,19 +1,19 @@
 -- The machine reads character data, and white space outside elements (XML 1.0, sections 2.4, 2.8 and 2.11).
-use Rattle.std.proofs.Common.{◌≡◌, ℕ, suc, ◌+◌, ◌<◌, ◌≤◌, inl, ⊎_elim, Bool, true, false, cond, eqb, not, ◌&&◌, ◌||◌, List, [], ◌∷◌, ◌++◌, Option, Some, None, length, unwrap_or, refl, sym, ap, subst, ◌∙◌, arith, append_assoc, append-nil}
-use Rattle.std.proofs.lemmas.Bool.{and_parts, or_parts, or_from, not-true, true≢false, lt-ltb, cond-true, cond-false}
+use Rattle.std.proofs.Common.{◌≡◌, ℕ, suc, ◌<◌, inl, Bool, true, false, cond, eqb, not, ◌&&◌, ◌||◌, List, [], ◌∷◌, ◌++◌, Option, Some, length, unwrap_or, refl, sym, ap, subst, ◌∙◌, arith, append_assoc, append-nil}
+use Rattle.std.proofs.lemmas.Bool.{and_parts, or_parts, or_from, not-true, true≢false, cond-true, cond-false}
 use Rattle.std.proofs.lemmas.Bool.Decides.{nat_tests}
 use Rattle.std.specs.List.{list_all}
 use Rattle.std.specs.Option.{is_some}
 use Rattle.xmpp_tokens.specs.Characters.{are_characters_behind, is_white}
 use Rattle.xmpp_tokens.specs.Utf8.{ends_character, is_nothing, utf8_next, utf8_run}
-use Rattle.xmpp_framing.proofs.ByteSteps.{Goes, Kept, Room, goes_first, goes_nowhere, kept_one, kept_room, kept_then, one_more, one_more_low, takes}
+use Rattle.xmpp_framing.proofs.ByteSteps.{Goes, Kept, Room, goes_first, goes_none, kept_one, kept_room, kept_then, one_more, one_more_low, takes}
 use Rattle.xmpp_framing.proofs.FaultLaws.{goes}
-use Rattle.xmpp_framing.proofs.HeldBytes.{Follows, ends_within, first_allowed, none_within}
+use Rattle.xmpp_framing.proofs.HeldBytes.{Follows, ends_within, first_allowed, low_next, none_within}
 use Rattle.xmpp_framing.proofs.Quiet.{IsFresh, IsQuiet}
 use Rattle.xmpp_framing.proofs.SpelledTexts.{leads, one_some}
 use Rattle.xmpp_framing.proofs.TextBytes.{Reads, character_kept, ending_says, ends_it, ends_none, fine, going_kept, going_says, no_end, reads_character, reads_going, says}
 use Rattle.xmpp_framing.specs.FaultRows.{Takes}
-use Rattle.xmpp_framing.specs.Machine.{behind_byte, passed, run, step}
+use Rattle.xmpp_framing.specs.Machine.{passed, run, step}
 use Rattle.xmpp_framing.specs.States.{OpenElement, State, counted, in_run, run_begun, token_fails, turn}
 use Rattle.xmpp_framing.specs.Texts.{IsCharacterData, line_ends, line_ends_behind}
 use Rattle.xmpp_framing.specs.TextSteps.{between, brackets_behind, character_taken, ends_section, in_text, inside, is_forbidden, judged_text, text_inside, text_outside}
@@ -111,7 +111,7 @@ data_runs : (bs : List ℕ) (s : State) (items : List Item) (o : OpenElement) (a
     → ends_within n bs ≡ false → are_characters_behind a c bs ≡ true → utf8_run s.pending bs ≡ Some [] → DataGoes s items n r bs
 data_runs [] s items o a c n r h running room plain none all utf8 =
     let held : s.pending ≡ [] = one_some s.pending [] utf8 in
-    goes_nowhere s items (λ t. Said t ((s.chars ++ s.pending) ++ [])) (record {
+    goes_none s items (λ t. Said t ((s.chars ++ s.pending) ++ [])) (record {
       quiet = quiet_read s o a c n r h held;
       chars = sym (append-nil (s.chars ++ s.pending) ∙ ap (λ l. s.chars ++ l) held ∙ append-nil s.chars);
     })
@@ -154,7 +154,7 @@ module _ (s : State) (items : List Item) (o : OpenElement) (a c : ℕ) (h : IsFr
       ∙ sym (text_step (run_begun s) items b o (takes (run_begun s) mode.Text b n next q.no_fault q.text room is) here plain)
 
   pub data_fresh : (bs : List ℕ) → Room s (length bs) → IsCharacterData bs → are_characters_behind a c bs ≡ true → utf8_run [] bs ≡ Some [] → Goes s items bs (λ t. Said t (s.chars ++ line_ends bs))
-  data_fresh [] room good all utf8 = goes_nowhere s items (λ t. Said t (s.chars ++ [])) (record { quiet = h.quiet; chars = sym (append-nil s.chars) })
+  data_fresh [] room good all utf8 = goes_none s items (λ t. Said t (s.chars ++ [])) (record { quiet = h.quiet; chars = sym (append-nil s.chars) })
   data_fresh (b ∷ bs) room good all utf8 =
       let v = run_begun s in
       let q = h.quiet in
@@ -181,10 +181,6 @@ white_low b h = grind (arith, nat_tests)
 white_no_mark : (b : ℕ) → is_white b ≡ true → (eqb b 60 || eqb b 38) ≡ false
 white_no_mark b h = grind (arith, nat_tests)
 
-white_next : (b : ℕ) → is_white b ≡ true → utf8_next [] b ≡ Some []
-unfolding utf8_next
-white_next b h = rw (lt-ltb b 128 (white_low b h)) refl
-
 white_is : (s : State) (b : ℕ) → is_some s.here ≡ false → ends_character s.pending b ≡ true → is_white b ≡ true → eqb b 60 ≡ false → eqb b 38 ≡ false → in_text s b ≡ in_run s
 unfolding in_text between text_outside
 white_is s b outer ended white less and = rw (outer, less, and, ended, white) refl
@@ -203,11 +199,11 @@ white_said s b q outer e =
     (record { quiet = record { no_fault = q.no_fault; text = q.text; no_token = q.no_token; no_pending = held; no_quote = q.no_quote; not_spoiled = q.not_spoiled; counted = one_more_low s.places.used; uncounted = λ none. ap one_more (q.uncounted outer) }; chars = refl })
 
 pub white_goes : (bs : List ℕ) (s : State) (items : List Item) → IsQuiet s → is_some s.here ≡ false → list_all is_white bs ≡ true → Goes s items bs (λ t. Said t s.chars)
-white_goes [] s items q outer white = goes_nowhere s items (λ t. Said t s.chars) (record { quiet = q; chars = refl })
+white_goes [] s items q outer white = goes_none s items (λ t. Said t s.chars) (record { quiet = q; chars = refl })
 white_goes (b ∷ bs) s items q outer white =
     let p = and_parts (is_white b) (list_all is_white bs) white in
     let m = or_parts (eqb b 60) (eqb b 38) (white_no_mark b p.0) in
-    let e : utf8_next s.pending b ≡ Some [] = ap (λ x. utf8_next x b) q.no_pending ∙ white_next b p.0 in
+    let e : utf8_next s.pending b ≡ Some [] = ap (λ x. utf8_next x b) q.no_pending ∙ low_next b (white_low b p.0) in
     let u : State = passed (in_run (counted s)) b in
     let k = white_kept s b in
     let w = white_said s b q outer e in

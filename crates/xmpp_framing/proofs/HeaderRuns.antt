@@ -20,11 +20,10 @@ use Rattle.xmpp_framing.proofs.LargerLimits.{shorter}
 use Rattle.xmpp_framing.proofs.Quiet.{HasInHand, HasRoom, IsFresh, IsQuiet}
 use Rattle.xmpp_framing.proofs.TagRuns.{start_run}
 use Rattle.xmpp_framing.specs.Machine.{behind_byte, passed, run}
-use Rattle.xmpp_framing.specs.Spells.{IsHeaderName, SpellsHeader, SpellsNextHeader}
+use Rattle.xmpp_framing.specs.Spells.{IsHeaderName}
 use Rattle.xmpp_framing.specs.States.{State, turn}
-use Rattle.xmpp_framing.specs.TagSteps.{header_tag, headed, is_header, largest_limits, says_stream, scope_in, tag_anew, tag_closes, tag_limits, tag_outside}
+use Rattle.xmpp_framing.specs.TagSteps.{header_items, header_tag, headed, is_header, largest_limits, phase_behind, says_stream, scope_in, tag_anew, tag_closes, tag_limits, tag_outside}
 use Rattle.xmpp_framing.specs.declared.items.Item.{Item}
-use Rattle.xmpp_framing.specs.declared.items.Item.TheVariants as item
 use Rattle.xmpp_framing.specs.declared.states.Phase.TheVariants as phase
 
 -- ---- the tag of a later header
@@ -45,14 +44,13 @@ within_largest : (limits : TagLimits) (xs ys : List tokens.Attribute) (t u : Tag
 within_largest limits xs ys t u same binds few short (most, all) =
     (rw same (omega (arith, most, few)), subst (All (IsShort largest_limits.namespace_bytes)) (sym binds) (shorter limits.namespace_bytes 4294967295 u.bindings (omega (arith, short)) all))
 
-pub next_opens : (limits : TagLimits) (scope : Scope) (bytes name : List ℕ) (inner : Scope) (h : Header) (next : SpellsNextHeader scope bytes name inner h) → limits.attributes < 2 ^ 32 → limits.namespace_bytes < 2 ^ 32
-    → IsWithin limits next.spelled.raw next.spelled.tag → says_stream (start_of largest_limits scope bytes) ≡ true
-next_opens limits scope bytes name inner h next few short within =
-    let first = next.spelled in
-    let same = same_raw scope [] bytes next.raw first.raw next.tag first.tag next.start first.start in
-    let binds : next.tag.bindings ≡ first.tag.bindings = next.start.declarations ∙ ap bindings_of same ∙ sym first.start.declarations in
-    let read = (laws.read largest_limits scope bytes next.tag).1 (next.raw, next.start, within_largest limits next.raw first.raw next.tag first.tag same binds few short within) in
-    ap says_stream read ∙ opens next.tag next.named
+pub next_opens : (limits : TagLimits) (scope : Scope) (bytes : List ℕ) (xs ys : List tokens.Attribute) (t u : Tag) → IsStart [] bytes xs t → IsStart scope bytes ys u → IsHeaderName u.ns u.name
+    → limits.attributes < 2 ^ 32 → limits.namespace_bytes < 2 ^ 32 → IsWithin limits xs t → says_stream (start_of largest_limits scope bytes) ≡ true
+next_opens limits scope bytes xs ys t u first next named few short within =
+    let same = same_raw scope [] bytes ys xs u t next first in
+    let binds : u.bindings ≡ t.bindings = next.declarations ∙ ap bindings_of same ∙ sym first.declarations in
+    let read = (laws.read largest_limits scope bytes u).1 (ys, next, within_largest limits ys xs u t same binds few short within) in
+    ap says_stream read ∙ opens u named
 
 -- ---- a header
 
@@ -88,14 +86,14 @@ heads_there s h items bytes hand outside (inr (inl p)) = heads_declared h items 
 heads_there s h items bytes hand outside (inr (inr (inl p, e))) = heads_between h items outside (hand.alike.phase ∙ p) (header_here s h bytes hand e)
 heads_there s h items bytes hand outside (inr (inr (inr p, e))) = heads_behind h items outside (hand.alike.phase ∙ p) (header_here s h bytes hand e)
 
-header_closes : (h : State) (items : List Item) (tag : Tag) → tag_anew h ≡ Ok tag → tag.empty ≡ false → header_tag (turn h items) ≡ turn (headed h tag) (items ++ item.Header h.places.token_at (header_of tag) ∷ [])
+header_closes : (h : State) (items : List Item) (tag : Tag) → tag_anew h ≡ Ok tag → header_tag (turn h items) ≡ turn (headed h tag) (items ++ header_items h.places.token_at (header_of tag) tag.empty)
 unfolding header_tag
-header_closes h items tag e not_empty = rw (e, not_empty) refl
+header_closes h items tag e = rw e refl
 
--- behind a header
-pub record HasHead (s t : State) (scope : Scope) (name : List ℕ) : Type 0 where
+-- behind a header's tag
+pub record HasHead (s t : State) (ends : Bool) (scope : Scope) (name : List ℕ) : Type 0 where
   pub fresh : IsFresh t
-  pub phase_is : t.lexical.phase ≡ phase.Between
+  pub phase_is : t.lexical.phase ≡ phase_behind ends
   pub scopes : t.scopes ≡ scope ∷ []
   pub name_is : t.name ≡ name
   pub unused : t.places.used ≡ 0
@@ -104,14 +102,15 @@ pub record HasHead (s t : State) (scope : Scope) (name : List ℕ) : Type 0 wher
   pub below : t.below ≡ s.below
   pub spent : t.lexical.spent ≡ s.lexical.spent
 
-has_head : (s h : State) (bytes name : List ℕ) (scope : Scope) (tag : Tag) → HasInHand s h bytes → tag.empty ≡ false → tag.spelled ≡ name → tag.bindings ≡ scope → HasHead s (passed (headed h tag) 62) scope name
-has_head s h bytes name scope tag hand not_empty named binds =
+has_head : (s h : State) (bytes name : List ℕ) (scope : Scope) (ends : Bool) (tag : Tag) → HasInHand s h bytes → tag.empty ≡ ends → tag.spelled ≡ name → tag.bindings ≡ scope
+    → HasHead s (passed (headed h tag) 62) ends scope name
+has_head s h bytes name scope ends tag hand is_empty named binds =
     record {
       fresh = record {
         quiet = record { no_fault = hand.no_fault; text = refl; no_token = refl; no_pending = none_held h.pending hand.no_pending; no_quote = refl; not_spoiled = refl; counted = omega arith; uncounted = λ e. refl };
         no_run = refl;
       };
-      phase_is = rw not_empty refl;
+      phase_is = ap phase_behind is_empty;
       scopes = ap (λ own. own ∷ []) binds;
       name_is = named;
       unused = refl;
@@ -121,18 +120,19 @@ has_head s h bytes name scope tag hand not_empty named binds =
       spent = hand.alike.spent;
     }
 
-pub header_run : (s : State) (items : List Item) (bytes name : List ℕ) (scope : Scope) (h : Header) (spelled : SpellsHeader bytes name scope h) → IsQuiet s → is_some s.here ≡ false → HasRoom s bytes
-    → IsWithin (tag_limits s.limits) spelled.raw spelled.tag → MayHead s bytes → (t : State) × (run (turn s items) bytes ≡ turn t (items ++ item.Header s.places.at h ∷ [])) × HasHead s t scope name × HasFront s items bytes
-header_run s items bytes name scope h spelled quiet outside room within may =
-    let tag = spelled.tag in
-    let r = start_run s items [] bytes spelled.raw tag quiet room spelled.start in
+-- a header's tag, of an empty element or not
+pub head_run : (s : State) (items : List Item) (bytes name : List ℕ) (scope : Scope) (h : Header) (ends : Bool) (raw : List tokens.Attribute) (tag : Tag) → IsStart [] bytes raw tag → tag.empty ≡ ends
+    → tag.spelled ≡ name → tag.bindings ≡ scope → h ≡ header_of tag → IsQuiet s → is_some s.here ≡ false → HasRoom s bytes → IsWithin (tag_limits s.limits) raw tag → MayHead s bytes
+    → (t : State) × (run (turn s items) bytes ≡ turn t (items ++ header_items s.places.at h ends)) × HasHead s t ends scope name × HasFront s items bytes
+head_run s items bytes name scope h ends raw tag start is_empty named binds says quiet outside room within may =
+    let r = start_run s items [] bytes raw tag quiet room start in
     let u = r.0 in
     let hand : HasInHand s u bytes = r.2 in
-    let read : tag_anew u ≡ Ok tag = rw (hand.alike.limits, hand.token) ((laws.read (tag_limits s.limits) [] bytes tag).1 (spelled.raw, spelled.start, within)) in
-    let closed = heads_there s u items bytes hand (ap is_some hand.alike.here ∙ outside) may ∙ header_closes u items tag read spelled.not_empty in
-    let is : items ++ item.Header u.places.token_at (header_of tag) ∷ [] ≡ items ++ item.Header s.places.at h ∷ [] = λ i. items ++ item.Header (hand.token_at i) (sym spelled.says i) ∷ [] in (
+    let read : tag_anew u ≡ Ok tag = rw (hand.alike.limits, hand.token) ((laws.read (tag_limits s.limits) [] bytes tag).1 (raw, start, within)) in
+    let closed = heads_there s u items bytes hand (ap is_some hand.alike.here ∙ outside) may ∙ header_closes u items tag read in
+    let is : items ++ header_items u.places.token_at (header_of tag) tag.empty ≡ items ++ header_items s.places.at h ends = λ i. items ++ header_items (hand.token_at i) (sym says i) (is_empty i) in (
       passed (headed u tag) 62,
       r.1 ∙ ap (λ w. behind_byte w 62) closed ∙ ap (turn (passed (headed u tag) 62)) is,
-      has_head s u bytes name scope tag hand spelled.not_empty spelled.name_is spelled.scope_is,
+      has_head s u bytes name scope ends tag hand is_empty named binds,
       front_of s items bytes r.5,
     )

@@ -1,7 +1,7 @@
 -- Bytes of a text one at a time, without the machine: the character in hand (RFC 3629, section 4), what is none of XML's
 -- characters (XML 1.0, section 2.2), and `]]>` (2.4).
-use Rattle.std.proofs.Common.{◌≡◌, ◌≢◌, ℕ, ◌<◌, ◌≤◌, Bool, true, false, eqb, ltb, ◌&&◌, ◌||◌, List, [], ◌∷◌, ◌++◌, Option, Some, None, refl, sym, ap, subst, ◌∙◌, ⊎_elim}
-use Rattle.std.proofs.lemmas.Bool.{cases_Bool, cases_lt, eqb-true, and_parts, or_parts, or_from, not-true}
+use Rattle.std.proofs.Common.{◌≡◌, ◌≢◌, ℕ, ◌<◌, ◌≤◌, Bool, true, false, eqb, ltb, ◌&&◌, ◌||◌, List, [], ◌∷◌, ◌++◌, Some, None, refl, sym, ap, subst, ◌∙◌, ⊎_elim}
+use Rattle.std.proofs.lemmas.Bool.{cases_Bool, cases_lt, lt-ltb, eqb-true, and_parts, or_parts, or_from, not-true}
 use Rattle.xmpp_tokens.specs.Characters.{is_control, ends_forbidden, are_characters_behind}
 use Rattle.xmpp_tokens.specs.Utf8.{is_lead, is_second, is_tail, utf8_next, utf8_run, ends_forbidden_character}
 use Rattle.xmpp_framing.proofs.SpelledTexts.{alone, leads, none_some, one_some}
@@ -42,6 +42,11 @@ grown (u ∷ v ∷ w ∷ more) b x xs e =
 -- a byte that doesn't end its character is no byte of ASCII
 pub grown_high : (held : List ℕ) (b x : ℕ) (xs : List ℕ) → utf8_next held b ≡ Some (x ∷ xs) → 128 ≤ b
 grown_high held b x xs e = ⊎_elim (λ low. absurd (nil_cons x xs (sym (alone b low held (x ∷ xs) e).1))) (λ above. above) (cases_lt b 128)
+
+-- a byte of ASCII is a character
+pub low_next : (b : ℕ) → b < 128 → utf8_next [] b ≡ Some []
+unfolding utf8_next
+low_next b low = rw (lt-ltb b 128 low) refl
 
 -- a text with a byte of ASCII in it is a text, the byte, and a text
 pub cut : (held xs : List ℕ) (b : ℕ) (ys : List ℕ) → b < 128 → utf8_run held (xs ++ b ∷ ys) ≡ Some [] → (utf8_run held xs ≡ Some []) × (utf8_run [] ys ≡ Some [])

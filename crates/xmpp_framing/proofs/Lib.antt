@@ -44,3 +44,5 @@ pub mod HeaderRuns
 pub mod ItemRuns
 pub mod StreamRuns
 pub mod RunPlaces
+pub mod DeclarationBytes
+pub mod DeclarationRuns

@@ -1,18 +1,17 @@
 -- The machine reads a reference (XML 1.0, section 4.1).
-use Rattle.std.proofs.Common.{◌≡◌, ◌≢◌, ℕ, suc, ◌+◌, ◌<◌, ◌≤◌, ⊎_elim, Bool, true, false, cond, eqb, ◌&&◌, ◌||◌, List, [], ◌∷◌, ◌++◌, Option, Some, None, length, encode_utf8, unwrap_or, refl, sym, ap, subst, ◌∙◌, arith, append_assoc, append-nil, length-append}
-use Rattle.std.proofs.lemmas.Bool.{and_parts, cases_Bool, eqb-true, false_from_ne_true, lt-ltb, true≢false}
+use Rattle.std.proofs.Common.{◌≡◌, ℕ, ◌+◌, ⊎_elim, Bool, true, false, cond, eqb, List, [], ◌∷◌, ◌++◌, Option, Some, length, encode_utf8, unwrap_or, refl, sym, ap, subst, ◌∙◌, arith, append_assoc, append-nil, length-append}
+use Rattle.std.proofs.lemmas.Bool.{and_parts, cases_Bool, eqb-true, false_from_ne_true, true≢false}
 use Rattle.std.specs.Option.{is_some}
 use Rattle.xmpp_tokens.proofs.Going.{references_go_on}
 use Rattle.xmpp_tokens.specs.References.{each_goes_on, number_goes_on, reference_goes_on, referred}
 use Rattle.xmpp_tokens.specs.Utf8.{utf8_next, utf8_run}
 use Rattle.xmpp_tokens.specs.declared.references.Reference.TheVariants.{Character, Malformed}
-use Rattle.xmpp_framing.proofs.ByteSteps.{Goes, InToken, Kept, Room, gathered_kept, goes_first, goes_nowhere, goes_one, goes_then, first_room, in_token_more, kept_one, kept_room, one_more, one_more_low, takes}
-use Rattle.xmpp_framing.proofs.DataRuns.{Said}
+use Rattle.xmpp_framing.proofs.ByteSteps.{Goes, InToken, Room, gathered_kept, goes_first, goes_none, goes_one, goes_then, first_room, in_token_more, kept_one, kept_room, one_more_low, takes}
 use Rattle.xmpp_framing.proofs.FaultLaws.{goes}
-use Rattle.xmpp_framing.proofs.HeldBytes.{cut}
+use Rattle.xmpp_framing.proofs.HeldBytes.{low_next}
 use Rattle.xmpp_framing.proofs.Quiet.{IsFresh, IsQuiet}
 use Rattle.xmpp_framing.proofs.SpelledTexts.{leads, one_some}
-use Rattle.xmpp_framing.specs.Machine.{passed, run, step}
+use Rattle.xmpp_framing.specs.Machine.{passed, step}
 use Rattle.xmpp_framing.specs.States.{OpenElement, State, counted, gathered, token_begun, token_ended, turn}
 use Rattle.xmpp_framing.specs.TextSteps.{in_reference, in_text, inside, refers}
 use Rattle.xmpp_framing.specs.declared.items.Item.{Item}
@@ -45,7 +44,7 @@ gathers s b other h = rw (other, h) refl
 name_runs : (name : List ℕ) (s : State) (items : List Item) (so_far held chars : List ℕ) → InToken s mode.Reference so_far held chars → Room s (length name) → each_goes_on so_far name ≡ true → utf8_run held name ≡ Some []
     → Goes s items name (λ t. InToken t mode.Reference (so_far ++ name) [] chars)
 name_runs [] s items so_far held chars h room each utf8 =
-    goes_nowhere s items (λ t. InToken t mode.Reference (so_far ++ []) [] chars)
+    goes_none s items (λ t. InToken t mode.Reference (so_far ++ []) [] chars)
     (record { no_fault = h.no_fault; mode_is = h.mode_is; token_is = h.token_is ∙ sym (append-nil so_far); pending_is = h.pending_is ∙ one_some held [] utf8; no_quote = h.no_quote; not_spoiled = h.not_spoiled; chars_are = h.chars_are; counted = h.counted })
 name_runs (b ∷ bs) s items so_far held chars h room each utf8 =
     let l = leads (utf8_next held b) (λ next. utf8_run next bs) utf8 in
@@ -70,10 +69,6 @@ pub record Fresh (s : State) (text : List ℕ) : Type 0 where
 ampersand_is : (s : State) (o : OpenElement) → s.here ≡ Some o → in_text s 38 ≡ token_begun s mode.Reference
 unfolding in_text inside
 ampersand_is s o here = rw here refl
-
-pub low_next : (b : ℕ) → b < 128 → utf8_next [] b ≡ Some []
-unfolding utf8_next
-low_next b low = rw (lt-ltb b 128 low) refl
 
 ampersand_runs : (s : State) (items : List Item) (o : OpenElement) → IsQuiet s → s.here ≡ Some o → Room s 1 → Goes s items (38 ∷ []) (λ t. InToken t mode.Reference [] [] s.chars)
 ampersand_runs s items o q here room =

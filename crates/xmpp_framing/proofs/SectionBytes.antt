@@ -1,9 +1,8 @@
 -- What a byte of a CDATA section changes, before the `]]>` that ends it (XML 1.0, sections 2.7 and 2.11).
-use Rattle.std.proofs.Common.{◌≡◌, ℕ, ◌<◌, ◌≤◌, ◌⊎◌, inl, inr, ⊎_elim, Bool, true, false, cond, eqb, ◌&&◌, ◌||◌, List, [], ◌∷◌, ◌++◌, Option, Some, None, unwrap_or, refl, sym, ap, subst, ◌∙◌, arith, append_assoc, append-nil}
-use Rattle.std.proofs.lemmas.Bool.{cases_Bool, cases_lt, cond-true, cond-false, eqb-true, lt-ltb}
+use Rattle.std.proofs.Common.{◌≡◌, ℕ, ◌<◌, ◌≤◌, ⊎_elim, Bool, true, false, cond, eqb, ◌&&◌, List, [], ◌∷◌, ◌++◌, Option, Some, unwrap_or, refl, sym, ap, subst, ◌∙◌, arith, append_assoc, append-nil}
+use Rattle.std.proofs.lemmas.Bool.{cases_Bool, cases_lt, cond-true, cond-false, eqb-true}
 use Rattle.xmpp_tokens.specs.Utf8.{ends_character, utf8_next}
 use Rattle.xmpp_framing.proofs.ByteSteps.{Kept, kept_one, one_more_low}
-use Rattle.xmpp_framing.proofs.HeldBytes.{ends_within}
 use Rattle.xmpp_framing.proofs.SpelledTexts.{alone}
 use Rattle.xmpp_framing.proofs.TextBytes.{Reads, brackets_same, says}
 use Rattle.xmpp_framing.specs.Machine.{passed}

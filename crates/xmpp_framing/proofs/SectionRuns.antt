@@ -1,25 +1,25 @@
 -- The machine reads a CDATA section (XML 1.0, section 2.7).
-use Rattle.std.proofs.Common.{◌≡◌, ℕ, suc, ◌+◌, ◌<◌, ◌≤◌, ⊎_elim, Bool, true, false, cond, eqb, ltb, not, ◌&&◌, ◌||◌, List, [], ◌∷◌, ◌++◌, Option, Some, None, codes, length, slice_index, unwrap_or, refl, sym, ap, subst, ◌∙◌, arith, append_assoc, append-nil, length-append}
+use Rattle.std.proofs.Common.{◌≡◌, ℕ, ◌+◌, ◌≤◌, ⊎_elim, Bool, true, false, cond, eqb, ltb, not, ◌&&◌, List, [], ◌∷◌, ◌++◌, Option, Some, codes, length, slice_index, unwrap_or, refl, sym, ap, subst, ◌∙◌, arith, append_assoc, append-nil, length-append}
 use Rattle.std.proofs.lemmas.Bool.{and_parts, and_right, cases_Bool, cond-true, ltb-true, not-true, or_parts, true≢false}
 use Rattle.std.proofs.lemmas.List.{append_cancel_right}
 use Rattle.std.specs.Option.{is_some}
 use Rattle.xmpp_tokens.specs.Characters.{are_characters_behind}
 use Rattle.xmpp_tokens.specs.Utf8.{utf8_next, utf8_run}
-use Rattle.xmpp_framing.proofs.ByteSteps.{Goes, InToken, Kept, Room, first_room, gathered_kept, goes_first, goes_nowhere, goes_one, goes_then, in_token_more, kept_one, kept_room, one_more_low, takes}
+use Rattle.xmpp_framing.proofs.ByteSteps.{Goes, InToken, Room, first_room, gathered_kept, goes_first, goes_none, goes_one, goes_then, in_token_more, kept_one, kept_room, one_more_low, takes}
 use Rattle.xmpp_framing.proofs.DataRuns.{in_front}
 use Rattle.xmpp_framing.proofs.FaultLaws.{goes}
-use Rattle.xmpp_framing.proofs.HeldBytes.{Follows, ends_within, first_allowed, none_within}
-use Rattle.xmpp_framing.proofs.Quiet.{IsFresh, IsQuiet}
-use Rattle.xmpp_framing.proofs.ReferenceRuns.{Fresh, low_next}
-use Rattle.xmpp_framing.proofs.SectionBytes.{SectionByte, bracket_says, section_byte, section_ends, section_takes, section_waits, so_far}
+use Rattle.xmpp_framing.proofs.HeldBytes.{Follows, ends_within, first_allowed, low_next, none_within}
+use Rattle.xmpp_framing.proofs.Quiet.{IsQuiet}
+use Rattle.xmpp_framing.proofs.ReferenceRuns.{Fresh}
+use Rattle.xmpp_framing.proofs.SectionBytes.{bracket_says, section_byte, section_ends, section_takes, section_waits, so_far}
 use Rattle.xmpp_framing.proofs.SpelledTexts.{leads, one_some}
 use Rattle.xmpp_framing.proofs.TextBytes.{Reads, ending_says, ends_it, ends_none, fine, going_kept, going_says, no_end, reads_going, says}
 use Rattle.xmpp_framing.specs.Machine.{passed, step}
 use Rattle.xmpp_framing.specs.MarkupSteps.{in_bang, section_opened}
 use Rattle.xmpp_framing.specs.States.{OpenElement, State, counted, gathered, gathered_in, in_mode, moved, token_begun, token_ended, token_fails, turn}
-use Rattle.xmpp_framing.specs.TagSteps.{in_opening, unlimited}
+use Rattle.xmpp_framing.specs.TagSteps.{in_opening}
 use Rattle.xmpp_framing.specs.Texts.{has_section_end, line_ends, line_ends_behind}
-use Rattle.xmpp_framing.specs.TextSteps.{brackets_behind, ends_section, in_section, in_text, inside, is_forbidden, kept_back, section_taken}
+use Rattle.xmpp_framing.specs.TextSteps.{brackets_behind, in_text, inside, is_forbidden, kept_back, section_taken}
 use Rattle.xmpp_framing.specs.declared.faults.Why.TheVariants as why
 use Rattle.xmpp_framing.specs.declared.items.Item.{Item}
 use Rattle.xmpp_framing.specs.declared.states.Mode.{Mode}
@@ -99,7 +99,7 @@ letter_is s token b is due more = rw (is, due, more) refl
 
 letters_go : (bs : List ℕ) (s : State) (items : List Item) (token text : List ℕ) → Opens s mode.Bang token text → Room s (length bs) → are_due token bs ≡ true → Goes s items bs (λ t. Opens t mode.Bang (token ++ bs) text)
 letters_go [] s items token text h room due =
-    goes_nowhere s items (λ t. Opens t mode.Bang (token ++ []) text) (subst (λ l. Opens s mode.Bang l text) (sym (append-nil token)) h)
+    goes_none s items (λ t. Opens t mode.Bang (token ++ []) text) (subst (λ l. Opens s mode.Bang l text) (sym (append-nil token)) h)
 letters_go (b ∷ bs) s items token text h room due =
     let i = h.in_token in
     let p = and_parts (eqb b (slice_index (codes "<![CDATA[") (length token)) && (not (eqb (length token) 8) && ltb b 128)) (are_due (token ++ b ∷ []) bs) due in
@@ -138,23 +138,25 @@ bracket_goes s items o token text a c h eight here room =
     let stepped : step (turn s items) 91 ≡ turn u items =
     goes (turn s items) mode.Bang 91 (takes s mode.Bang 91 0 [] i.no_fault i.mode_is room is) ∙ ap (λ v. turn (passed v 91) items) (bracket_is (counted s) o token here i.token_is eight) in
     goes_one s u items 91 (λ t. (t.pending ≡ []) × InSection t o a c 0 false text) stepped
-    (kept_one s u (record { limits = refl; here = refl; below = refl; scopes = refl; name = refl; phase = refl; spent = refl }) refl refl)
-    (held, record {
-      reads = record {
-        no_fault = i.no_fault;
-        mode_is = refl;
-        here = here;
-        no_token = refl;
-        no_quote = i.no_quote;
-        not_spoiled = i.not_spoiled;
-        counted = one_more_low s.places.used;
-        follows = subst (Follows a c) (sym held) tt;
-        brackets = λ none. h.brackets;
-        returned = λ none. h.returned;
-      };
-      few = subst (λ n. n ≤ 2) (sym h.brackets) (omega arith);
-      chars = ap (λ l. so_far u ++ l) held ∙ append-nil (so_far u) ∙ ap (λ n. s.chars ++ kept_back n) h.brackets ∙ append-nil s.chars ∙ i.chars_are;
-    })
+    (kept_one s u (record { limits = refl; here = refl; below = refl; scopes = refl; name = refl; phase = refl; spent = refl }) refl refl) (
+      held,
+      record {
+        reads = record {
+          no_fault = i.no_fault;
+          mode_is = refl;
+          here = here;
+          no_token = refl;
+          no_quote = i.no_quote;
+          not_spoiled = i.not_spoiled;
+          counted = one_more_low s.places.used;
+          follows = subst (Follows a c) (sym held) tt;
+          brackets = λ none. h.brackets;
+          returned = λ none. h.returned;
+        };
+        few = subst (λ n. n ≤ 2) (sym h.brackets) (omega arith);
+        chars = ap (λ l. so_far u ++ l) held ∙ append-nil (so_far u) ∙ ap (λ n. s.chars ++ kept_back n) h.brackets ∙ append-nil s.chars ∙ i.chars_are;
+      },
+    )
 
 -- `<![CDATA[` in an element
 opening_goes : (s : State) (items : List Item) (o : OpenElement) (a c : ℕ) → IsQuiet s → s.here ≡ Some o → Room s 9 → Goes s items (codes "<![CDATA[") (λ t. (t.pending ≡ []) × InSection t o a c 0 false s.chars)
@@ -238,7 +240,7 @@ inside_goes : (bs : List ℕ) (s : State) (items : List Item) (o : OpenElement) 
     → ends_within n bs ≡ false → are_characters_behind a c bs ≡ true → utf8_run s.pending bs ≡ Some [] → SectionGoes s items o r bs
 inside_goes [] s items o a c n r h few room none all utf8 =
     let held : s.pending ≡ [] = one_some s.pending [] utf8 in
-    goes_nowhere s items (λ t. Holds t o ((so_far s ++ s.pending) ++ [])) (record {
+    goes_none s items (λ t. Holds t o ((so_far s ++ s.pending) ++ [])) (record {
       reads = reads_again s o a c n r h held;
       few = few;
       held = held;
@@ -268,9 +270,10 @@ closing_goes s items o text h room =
     let stepped : step (turn s items) 93 ≡ turn u items =
     goes (turn s items) mode.Section 93 (takes s mode.Section 93 0 [] i.no_fault i.mode_is room is)
     ∙ ap (λ v. turn (passed v 93) items) (section_takes (counted s) 93 (ends_it s 93 is) (allowed_here s 93 h.held) (and_right (eqb s.lexical.brackets 2) false refl)) in
-    goes_one s u items 93 (λ t. Holds t o (text ++ 93 ∷ []) × (t.lexical.brackets ≡ brackets_behind s.lexical.brackets 93)) stepped w.kept
-    (record { reads = reads_again u o 0 93 (brackets_behind s.lexical.brackets 93) false w.reads w.held; few = w.few; held = w.held; text_is = w.text ∙ ap (λ l. so_far s ++ l) (says_there s.lexical.returned s.pending h.held) ∙ ap (λ l. l ++ 93 ∷ []) h.text_is },
-    w.counts)
+    goes_one s u items 93 (λ t. Holds t o (text ++ 93 ∷ []) × (t.lexical.brackets ≡ brackets_behind s.lexical.brackets 93)) stepped w.kept (
+      record { reads = reads_again u o 0 93 (brackets_behind s.lexical.brackets 93) false w.reads w.held; few = w.few; held = w.held; text_is = w.text ∙ ap (λ l. so_far s ++ l) (says_there s.lexical.returned s.pending h.held) ∙ ap (λ l. l ++ 93 ∷ []) h.text_is },
+      w.counts,
+    )
 
 two_behind : (m n : ℕ) → n ≡ brackets_behind m 93 → brackets_behind n 93 ≡ 2
 two_behind m n e =

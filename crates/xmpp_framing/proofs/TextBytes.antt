@@ -1,5 +1,5 @@
 -- What a byte of character data or of a CDATA section changes (XML 1.0, sections 2.4, 2.7 and 2.11).
-use Rattle.std.proofs.Common.{◌≡◌, ◌≢◌, ℕ, ◌^◌, ◌<◌, ◌≤◌, ◌⊎◌, inl, inr, ⊎_elim, Bool, true, false, cond, eqb, ◌&&◌, ◌||◌, List, [], ◌∷◌, ◌++◌, Option, Some, None, unwrap_or, refl, sym, ap, subst, ◌∙◌, arith, append_assoc}
+use Rattle.std.proofs.Common.{◌≡◌, ◌≢◌, ℕ, ◌^◌, ◌<◌, ◌≤◌, ◌⊎◌, inl, inr, ⊎_elim, Bool, true, false, cond, eqb, ◌&&◌, List, [], ◌∷◌, ◌++◌, Option, Some, None, unwrap_or, refl, sym, ap, subst, ◌∙◌, arith, append_assoc}
 use Rattle.std.proofs.lemmas.Bool.{cases_Bool, and_right, eqb-true, false_from_ne_true, or_parts}
 use Rattle.xmpp_tokens.specs.Characters.{are_characters_behind}
 use Rattle.xmpp_tokens.specs.Utf8.{ended_character, ends_character, is_nothing, utf8_next}

@@ -7,7 +7,7 @@ use Rattle.xmpp_tokens.specs.Characters.{are_characters, are_characters_behind, 
 use Rattle.xmpp_tokens.specs.References.{referred}
 use Rattle.xmpp_tokens.specs.Utf8.{utf8_next, utf8_run}
 use Rattle.xmpp_tokens.specs.declared.references.Reference.TheVariants.{Character}
-use Rattle.xmpp_framing.proofs.ByteSteps.{Goes, Kept, Room, first_room, goes_then, kept_room, room}
+use Rattle.xmpp_framing.proofs.ByteSteps.{Goes, Room, first_room, goes_then, kept_room, room}
 use Rattle.xmpp_framing.proofs.DataRuns.{Said, data_fresh, white_goes}
 use Rattle.xmpp_framing.proofs.HeldBytes.{cut, parted}
 use Rattle.xmpp_framing.proofs.Quiet.{HasRoom, HasSaid, IsFresh, IsQuiet}
@@ -27,8 +27,8 @@ abbrev section : List ℕ → List ℕ
 section held = codes "<![CDATA[" ++ (held ++ codes "]]>")
 
 -- bytes say this, from each state behind a token in an element
-abbrev Reads : List ℕ → List ℕ → Type 0
-Reads bytes says = (s : State) (items : List Item) (o : OpenElement) (a c : ℕ) → IsFresh s → s.here ≡ Some o → Room s (length bytes) → are_characters_behind a c bytes ≡ true → utf8_run [] bytes ≡ Some []
+abbrev IsRead : List ℕ → List ℕ → Type 0
+IsRead bytes says = (s : State) (items : List Item) (o : OpenElement) (a c : ℕ) → IsFresh s → s.here ≡ Some o → Room s (length bytes) → are_characters_behind a c bytes ≡ true → utf8_run [] bytes ≡ Some []
     → Goes s items bytes (λ t. Said t (s.chars ++ says))
 
 -- no character is in hand behind `![CDATA[`, nor behind `]>`
@@ -41,7 +41,7 @@ unfolding utf8_next
 closing_utf8 rest = refl
 
 -- character data, one reference or section, and a text
-then_reads : (plain token rest said more : List ℕ) → IsCharacterData plain → Reads rest more
+then_reads : (plain token rest said more : List ℕ) → IsCharacterData plain → IsRead rest more
     → utf8_run [] (plain ++ (token ++ rest)) ≡ Some [] → utf8_run [] plain ≡ Some [] → utf8_run [] rest ≡ Some []
     → ((t : State) (items : List Item) (o : OpenElement) (a c : ℕ) → IsQuiet t → t.here ≡ Some o → Room t (length token) → are_characters_behind a c token ≡ true → Goes t items token (λ u. Fresh u (t.chars ++ said)))
     → (s : State) (items : List Item) (o : OpenElement) (a c : ℕ) → IsFresh s → s.here ≡ Some o → Room s (length (plain ++ (token ++ rest))) → are_characters_behind a c (plain ++ (token ++ rest)) ≡ true
@@ -65,7 +65,7 @@ then_reads plain token rest said more good ih utf8 utf8_plain utf8_rest reads s 
     ∙ append_assoc (s.chars ++ line_ends plain) said more ∙ append_assoc s.chars (line_ends plain) (said ++ more) in
     subst (λ l. Goes u items rest (λ v. Said v l)) whole (ih u items o q.before q.last fresh_u.fresh (kept_u.alike.here ∙ here_t) third q.second utf8_rest)))
 
-reference_reads : (plain name rest more : List ℕ) (c : ℕ) → IsCharacterData plain → referred name ≡ Character c → Reads rest more → Reads (plain ++ (reference name ++ rest)) (line_ends plain ++ (encode_utf8 c ++ more))
+reference_reads : (plain name rest more : List ℕ) (c : ℕ) → IsCharacterData plain → referred name ≡ Character c → IsRead rest more → IsRead (plain ++ (reference name ++ rest)) (line_ends plain ++ (encode_utf8 c ++ more))
 reference_reads plain name rest more c good e ih s items o a b fresh here fits all utf8 =
     let first = cut [] plain 38 ((name ++ 59 ∷ []) ++ rest) (omega arith) utf8 in
     let second = cut [] name 59 rest (omega arith) (ap (utf8_run []) (sym (append_assoc name (59 ∷ []) rest)) ∙ first.1) in
@@ -73,7 +73,7 @@ reference_reads plain name rest more c good e ih s items o a b fresh here fits a
     (λ t items o a b q here_t fits_t all_t. reference_runs t items o name c q here_t fits_t e second.0)
     s items o a b fresh here fits all
 
-section_reads : (plain held rest more : List ℕ) → IsCharacterData plain → has_section_end held ≡ false → Reads rest more → Reads (plain ++ (section held ++ rest)) (line_ends plain ++ (line_ends held ++ more))
+section_reads : (plain held rest more : List ℕ) → IsCharacterData plain → has_section_end held ≡ false → IsRead rest more → IsRead (plain ++ (section held ++ rest)) (line_ends plain ++ (line_ends held ++ more))
 section_reads plain held rest more good none ih s items o a b fresh here fits all utf8 =
     let first = cut [] plain 60 (codes "![CDATA[" ++ ((held ++ codes "]]>") ++ rest)) (omega arith) utf8 in
     let inner : utf8_run [] (held ++ 93 ∷ (93 ∷ 62 ∷ rest)) ≡ Some [] = ap (utf8_run []) (sym (append_assoc held (codes "]]>") rest)) ∙ sym (opening_utf8 ((held ++ codes "]]>") ++ rest)) ∙ first.1 in
@@ -85,15 +85,15 @@ section_reads plain held rest more good none ih s items o a b fresh here fits al
     section_runs t items o p.before p.last held q here_t fits_t none r.first second.0)
     s items o a b fresh here fits all
 
-spelled_reads : (bytes says : List ℕ) → SpellsText bytes says → Reads bytes says
+spelled_reads : (bytes says : List ℕ) → SpellsText bytes says → IsRead bytes says
 spelled_reads bytes says (data_alone bytes' says' good is) =
-    subst (Reads bytes') (sym is) (λ s items o a c fresh here fits all utf8. data_fresh s items o a c fresh here bytes' fits good all utf8)
+    subst (IsRead bytes') (sym is) (λ s items o a c fresh here fits all utf8. data_fresh s items o a c fresh here bytes' fits good all utf8)
 spelled_reads bytes says (with_reference bytes' says' plain name rest more c good e spelled bytes_are says_is) =
     let whole : plain ++ (reference name ++ rest) ≡ bytes' = ap (λ l. plain ++ (38 ∷ l)) (append_assoc name (59 ∷ []) rest) ∙ sym bytes_are in
-    subst (Reads bytes') (sym says_is) (subst (λ l. Reads l (line_ends plain ++ (encode_utf8 c ++ more))) whole (reference_reads plain name rest more c good e (spelled_reads rest more spelled)))
+    subst (IsRead bytes') (sym says_is) (subst (λ l. IsRead l (line_ends plain ++ (encode_utf8 c ++ more))) whole (reference_reads plain name rest more c good e (spelled_reads rest more spelled)))
 spelled_reads bytes says (with_section bytes' says' plain held rest more good none spelled bytes_are says_is) =
     let whole : plain ++ (section held ++ rest) ≡ bytes' = ap (λ l. plain ++ (codes "<![CDATA[" ++ l)) (append_assoc held (codes "]]>") rest) ∙ sym bytes_are in
-    subst (Reads bytes') (sym says_is) (subst (λ l. Reads l (line_ends plain ++ (line_ends held ++ more))) whole (section_reads plain held rest more good none (spelled_reads rest more spelled)))
+    subst (IsRead bytes') (sym says_is) (subst (λ l. IsRead l (line_ends plain ++ (line_ends held ++ more))) whole (section_reads plain held rest more good none (spelled_reads rest more spelled)))
 
 -- ---- what is read
 
@@ -106,6 +106,6 @@ unfolding are_characters
 text_run s items bytes says o fresh here fits h =
     has_said s items bytes says (spelled_reads bytes says h.spelled s items o 0 0 fresh here (room s bytes fresh.quiet.counted fits) h.characters.characters (runs.text_runs bytes h.characters.utf8))
 
--- White space outside elements says nothing, gives nothing and is counted nowhere (XML 1.0, sections 2.8 and 2.10).
+-- White space outside elements says nothing, gives nothing and is counted nowhere (XML 1.0, section 2.8; RFC 6120, section 11.7).
 pub white_run : (s : State) (items : List Item) (bytes : List ℕ) → IsQuiet s → is_some s.here ≡ false → list_all is_white bytes ≡ true → (t : State) × (run (turn s items) bytes ≡ turn t items) × HasSaid s t bytes []
 white_run s items bytes q outer white = has_said s items bytes [] (subst (λ l. Goes s items bytes (λ t. Said t l)) (sym (append-nil s.chars)) (white_goes bytes s items q outer white))

@@ -5,6 +5,7 @@ pub mod Plain
 pub mod Readers
 pub mod Runs
 pub mod Spells
+pub mod Streams
 pub mod Texts
 pub mod Tidied
 pub mod Trees
@@ -20,4 +21,4 @@ pub mod FramerView
 pub mod FaultRows
 pub mod Within
 pub mod Standing
-pub mod Streams
+pub mod StreamLimits

@@ -1,68 +1,79 @@
--- Which bytes spell a stream, in the grammar's words (RFC 6120, sections 4.2 to 4.4, 4.6.1 and 4.8): a header, and behind
--- it headers, elements and at last a footer, with white space between.
-use Rattle.std.specs.Prelude.{ℕ, ◌≡◌, ◌+◌, ◌-◌, ◌^◌, min, true, List, [], ◌∷◌, ◌++◌, None, length}
+-- Which bytes are a stream of which items, in the grammar's words (RFC 6120, sections 4.2 to 4.4, 11.5 and 11.7; XML 1.0,
+-- section 2.8).
+use Rattle.std.specs.Prelude.{ℕ, ◌-◌, ◌^◌, min, ◌≡◌, ◌⊎◌, true, List, [], ◌∷◌, ◌++◌, length}
+use Rattle.xmpp_tokens.specs.Declarations.{declaration_of}
 use Rattle.xmpp_tokens.specs.Tags.{are_white}
+use Rattle.xmpp_tokens.specs.declared.declarations.Declaration.TheVariants as declaration
 use Rattle.xmpp_names.specs.Scopes.{Scope}
 use Rattle.xmpp_names.specs.declared.headers.Header.{Header}
-use Rattle.xmpp_framing.specs.Machine.{part_of, run}
-use Rattle.xmpp_framing.specs.Spells.{SpellsFooter, SpellsHeader, SpellsNextHeader, SpellsTop}
-use Rattle.xmpp_framing.specs.States.{State, turn}
+use Rattle.xmpp_framing.specs.Spells.{SpellsEmptyHeader, SpellsFooter, SpellsHeader, SpellsNextEmptyHeader, SpellsNextHeader, SpellsTop}
 use Rattle.xmpp_framing.specs.Trees.{Elem}
-use Rattle.xmpp_framing.specs.Within.{IsElementWithin, IsHeaderWithin, IsNextHeaderWithin}
 use Rattle.xmpp_framing.specs.declared.items.Item.{Item}
 use Rattle.xmpp_framing.specs.declared.items.Item.TheVariants as item
-use Rattle.xmpp_framing.specs.declared.limits.Limits.{Limits}
+use Rattle.xmpp_framing.specs.declared.states.Phase.{Phase}
+use Rattle.xmpp_framing.specs.declared.states.Phase.TheVariants as phase
 
--- a place in a stream: the smaller of an offset and the largest number of 64 bits
-abbrev pub place_of : ℕ → ℕ
-place_of offset = min offset (2 ^ 64 - 1)
+-- The place of what begins behind so many bytes: a place is at most 2 ^ 64 - 1.
+abbrev pub place_behind : ℕ → ℕ
+place_behind count = min count (2 ^ 64 - 1)
 
--- Bytes from an offset on spell these items behind a header whose scope and spelled name these are. White space may stand
--- before each and at the end, and behind a footer stands nothing else. A header's place is that of its tag's first byte.
-pub data SpellsItems : ℕ → Scope → List ℕ → List ℕ → List Item → Type 0 where
-  white_alone : (offset : ℕ) (scope : Scope) (name bytes : List ℕ) (items : List Item) → are_white bytes ≡ true → items ≡ [] → SpellsItems offset scope name bytes items
-  then_header : (offset : ℕ) (scope : Scope) (name bytes : List ℕ) (items : List Item) (space first rest next : List ℕ) (inner : Scope) (h : Header) (more : List Item)
-      → are_white space ≡ true → SpellsNextHeader scope first next inner h → SpellsItems (offset + length space + length first) inner next rest more
-      → bytes ≡ space ++ (first ++ rest) → items ≡ item.Header (place_of (offset + length space)) h ∷ more → SpellsItems offset scope name bytes items
-  then_element : (offset : ℕ) (scope : Scope) (name bytes : List ℕ) (items : List Item) (space first rest : List ℕ) (e : Elem) (more : List Item)
-      → are_white space ≡ true → SpellsTop scope first e → SpellsItems (offset + length space + length first) scope name rest more
-      → bytes ≡ space ++ (first ++ rest) → items ≡ item.Element e ∷ more → SpellsItems offset scope name bytes items
-  then_footer : (offset : ℕ) (scope : Scope) (name bytes : List ℕ) (items : List Item) (space first rest : List ℕ)
-      → are_white space ≡ true → SpellsFooter first name → are_white rest ≡ true
-      → bytes ≡ space ++ (first ++ rest) → items ≡ item.Footer ∷ [] → SpellsItems offset scope name bytes items
-
--- Bytes spell a stream from its first byte: a header, and items behind it.
-pub record SpellsStream (bytes : List ℕ) (items : List Item) : Type 0 where
-  pub space : List ℕ
-  pub first : List ℕ
-  pub rest : List ℕ
-  pub name : List ℕ
+-- What is in force behind the bytes of a stream so far: what may follow, and the scope and the name as it is spelled of
+-- the last header.
+pub record InForce : Type 0 where
+  pub phase : Phase
   pub scope : Scope
-  pub says : Header
-  pub more : List Item
-  pub space_white : are_white space ≡ true
-  pub header : SpellsHeader first name scope says
-  pub behind : SpellsItems (length space + length first) scope name rest more
-  pub bytes_are : bytes ≡ space ++ (first ++ rest)
-  pub items_are : items ≡ item.Header (place_of (length space)) says ∷ more
+  pub name : List ℕ
 
--- each header and element of these is within the limits
-abbrev pub AreItemsWithin : (limits : Limits) (offset : ℕ) (scope : Scope) (name bytes : List ℕ) (items : List Item) → SpellsItems offset scope name bytes items → Type 0
-AreItemsWithin limits offset scope name bytes items (white_alone _ _ _ _ _ white are) = Unit {0}
-AreItemsWithin limits offset scope name bytes items (then_header _ _ _ _ _ space first rest next inner h more white spelled behind bytes_are are) =
-    IsNextHeaderWithin limits scope first next inner h spelled × AreItemsWithin limits (offset + length space + length first) inner next rest more behind
-AreItemsWithin limits offset scope name bytes items (then_element _ _ _ _ _ space first rest e more white spelled behind bytes_are are) =
-    IsElementWithin limits scope first e spelled.spelled × AreItemsWithin limits (offset + length space + length first) scope name rest more behind
-AreItemsWithin limits offset scope name bytes items (then_footer _ _ _ _ _ space first rest white spelled more_white bytes_are are) = Unit {0}
+-- An XML declaration may stand before a header: before the first one, and behind another, where only a header may
+-- follow (XML 1.0, 2.8; RFC 6120, 11.5).
+abbrev pub IsDeclared : Phase → Phase → Type 0
+IsDeclared before behind = ((before ≡ phase.First) × (behind ≡ phase.FirstDeclared)) ⊎ ((before ≡ phase.Between) × (behind ≡ phase.Declared))
 
--- the same of a whole stream
-pub record IsStreamWithin (limits : Limits) (bytes : List ℕ) (items : List Item) (spelled : SpellsStream bytes items) : Type 0 where
-  pub header : IsHeaderWithin limits spelled.first spelled.name spelled.scope spelled.says spelled.header
-  pub behind : AreItemsWithin limits (length spelled.space + length spelled.first) spelled.scope spelled.name spelled.rest spelled.more spelled.behind
+-- Bytes are the tag of a header that may stand there. The first tag of a stream is a header's whatever its name; behind
+-- the footer none may stand (RFC 6120, 4.2 to 4.4).
+abbrev pub SpellsHeaderIn : Phase → Scope → List ℕ → List ℕ → Scope → Header → Type 0
+SpellsHeaderIn phase.First scope bytes name inner h = SpellsHeader bytes name inner h
+SpellsHeaderIn phase.FirstDeclared scope bytes name inner h = SpellsHeader bytes name inner h
+SpellsHeaderIn phase.Between scope bytes name inner h = SpellsNextHeader scope bytes name inner h
+SpellsHeaderIn phase.Declared scope bytes name inner h = SpellsNextHeader scope bytes name inner h
+SpellsHeaderIn phase.Ended scope bytes name inner h = ⊥
 
--- Bytes give these items and no others, without a fault, and nothing is unfinished behind them.
-pub record GivesAll (s : State) (before : List Item) (bytes : List ℕ) (items : List Item) : Type 0 where
-  pub behind : State
-  pub run_is : run (turn s before) bytes ≡ turn behind (before ++ items)
-  pub no_fault : behind.fault ≡ None
-  pub no_part : part_of behind ≡ None
+-- the same for the tag of an empty element
+abbrev pub SpellsEmptyHeaderIn : Phase → Scope → List ℕ → List ℕ → Scope → Header → Type 0
+SpellsEmptyHeaderIn phase.First scope bytes name inner h = SpellsEmptyHeader bytes name inner h
+SpellsEmptyHeaderIn phase.FirstDeclared scope bytes name inner h = SpellsEmptyHeader bytes name inner h
+SpellsEmptyHeaderIn phase.Between scope bytes name inner h = SpellsNextEmptyHeader scope bytes name inner h
+SpellsEmptyHeaderIn phase.Declared scope bytes name inner h = SpellsNextEmptyHeader scope bytes name inner h
+SpellsEmptyHeaderIn phase.Ended scope bytes name inner h = ⊥
+
+-- Bytes are a stream of these items so far, and this is in force behind them. Each case adds what stands last.
+pub data StreamTo : InForce → List ℕ → List Item → Type 0 where
+  nothing : (now : InForce) (bytes : List ℕ) (items : List Item)
+      → now.phase ≡ phase.First → now.scope ≡ [] → now.name ≡ [] → bytes ≡ [] → items ≡ [] → StreamTo now bytes items
+  -- white space, anywhere between items and behind the last (11.7)
+  white_space : (now : InForce) (bytes : List ℕ) (items : List Item) (front space : List ℕ)
+      → StreamTo now front items → are_white space ≡ true → bytes ≡ front ++ space → StreamTo now bytes items
+  declared : (now : InForce) (bytes : List ℕ) (items : List Item) (before : InForce) (front tag : List ℕ)
+      → StreamTo before front items → IsDeclared before.phase now.phase → now.scope ≡ before.scope → now.name ≡ before.name
+      → declaration_of tag ≡ declaration.Good → bytes ≡ front ++ tag → StreamTo now bytes items
+  -- a header, which has the place of its first byte (4.2), or another, which opens the stream anew (4.3.3)
+  headed : (now : InForce) (bytes : List ℕ) (items : List Item) (before : InForce) (front tag : List ℕ) (given : List Item) (h : Header)
+      → StreamTo before front given → SpellsHeaderIn before.phase before.scope tag now.name now.scope h → now.phase ≡ phase.Between
+      → bytes ≡ front ++ tag → items ≡ given ++ item.Header (place_behind (length front)) h ∷ [] → StreamTo now bytes items
+  -- the tag of an empty element is header and footer (XML 1.0, 3.1)
+  headed_and_ended : (now : InForce) (bytes : List ℕ) (items : List Item) (before : InForce) (front tag : List ℕ) (given : List Item) (h : Header)
+      → StreamTo before front given → SpellsEmptyHeaderIn before.phase before.scope tag now.name now.scope h → now.phase ≡ phase.Ended
+      → bytes ≡ front ++ tag → items ≡ given ++ item.Header (place_behind (length front)) h ∷ item.Footer ∷ [] → StreamTo now bytes items
+  -- an element, which a header's scope is around
+  with_element : (now : InForce) (bytes : List ℕ) (items : List Item) (front inside : List ℕ) (given : List Item) (e : Elem)
+      → StreamTo now front given → now.phase ≡ phase.Between → SpellsTop now.scope inside e
+      → bytes ≡ front ++ inside → items ≡ given ++ item.Element e ∷ [] → StreamTo now bytes items
+  -- the footer, which has the last header's name (4.4)
+  ended : (now : InForce) (bytes : List ℕ) (items : List Item) (before : InForce) (front tag : List ℕ) (given : List Item)
+      → StreamTo before front given → before.phase ≡ phase.Between → SpellsFooter tag before.name
+      → now.phase ≡ phase.Ended → now.scope ≡ before.scope → now.name ≡ before.name
+      → bytes ≡ front ++ tag → items ≡ given ++ item.Footer ∷ [] → StreamTo now bytes items
+
+-- Bytes are a stream of these items so far.
+abbrev pub IsStream : List ℕ → List Item → Type 0
+IsStream bytes items = (now : InForce) × StreamTo now bytes items

@@ -2,8 +2,10 @@
 -- an item takes, how deep its elements lie in one another, how many attributes a tag has, and how long the name of a
 -- declared namespace is.
 use Rattle.std.specs.Prelude.{ℕ, ◌<◌, ◌≤◌, ◌^◌, ◌++◌, List, length}
+use Rattle.xmpp_tokens.specs.Tags as tokens
 use Rattle.xmpp_names.specs.Grammar.{IsWithin}
 use Rattle.xmpp_names.specs.Scopes.{Scope}
+use Rattle.xmpp_names.specs.Starts.{Tag}
 use Rattle.xmpp_names.specs.declared.headers.Header.{Header}
 use Rattle.xmpp_names.specs.declared.limits.TagLimits.{TagLimits}
 use Rattle.xmpp_framing.specs.Spells.{Spells, SpellsContent, SpellsHeader, SpellsNextHeader, empty, filled, text_alone, with_element}
@@ -29,14 +31,20 @@ pub record IsElementWithin (limits : Limits) (scope : Scope) (bytes : List ℕ) 
   pub shallow : depth e ≤ limits.depth
   pub tags : AreTagsWithin (tag_limits limits) scope bytes e spelled
 
--- The tag of a header is within the limits.
-pub record IsHeaderWithin (limits : Limits) (bytes name : List ℕ) (scope : Scope) (h : Header) (spelled : SpellsHeader bytes name scope h) : Type 0 where
+-- A header's tag, with these attributes as they are spelled, is within the limits.
+pub record IsHeadWithin (limits : Limits) (bytes : List ℕ) (raw : List tokens.Attribute) (t : Tag) : Type 0 where
   pub short : length bytes ≤ limits.bytes
-  pub tag : IsWithin (tag_limits limits) spelled.raw spelled.tag
+  pub tag : IsWithin (tag_limits limits) raw t
 
--- The same of a later header. Whether its tag is one is asked in the scope in force, under the largest limits that there
--- are: a limit on attributes and one on the names of namespaces are numbers of 32 bits.
-pub record IsNextHeaderWithin (limits : Limits) (scope : Scope) (bytes name : List ℕ) (inner : Scope) (h : Header) (spelled : SpellsNextHeader scope bytes name inner h) : Type 0 where
-  pub header : IsHeaderWithin limits bytes name inner h spelled.spelled
+-- The same behind another header. Whether the tag is a header's is asked in the scope in force, under the largest limits
+-- that there are: a limit on attributes and one on the names of namespaces are numbers of 32 bits.
+pub record IsNextHeadWithin (limits : Limits) (bytes : List ℕ) (raw : List tokens.Attribute) (t : Tag) : Type 0 where
+  pub head : IsHeadWithin limits bytes raw t
   pub attributes_fit : limits.attributes < 2 ^ 32
   pub names_fit : limits.namespace_bytes < 2 ^ 32
+
+abbrev pub IsHeaderWithin : (limits : Limits) (bytes name : List ℕ) (scope : Scope) (h : Header) → SpellsHeader bytes name scope h → Type 0
+IsHeaderWithin limits bytes name scope h spelled = IsHeadWithin limits bytes spelled.raw spelled.tag
+
+abbrev pub IsNextHeaderWithin : (limits : Limits) (scope : Scope) (bytes name : List ℕ) (inner : Scope) (h : Header) → SpellsNextHeader scope bytes name inner h → Type 0
+IsNextHeaderWithin limits scope bytes name inner h spelled = IsNextHeadWithin limits bytes spelled.spelled.raw spelled.spelled.tag

@@ -1,9 +1,10 @@
 //! Laws of the machine that a framer is and of XML's grammar.
-ghost use Rattle.std.specs.Prelude.{◌≡◌, [], ℕ, List};
+ghost use Rattle.std.specs.Prelude.{ℕ, List};
 ghost use Rattle.xmpp_framing.specs.Spells.{SpellsHeader, SpellsItem, SpellsNextHeader};
 ghost use Rattle.xmpp_framing.specs.Standing.{Gives, IsItemWithin, StandsOutside, name_left, phase_left, scope_left};
-ghost use Rattle.xmpp_framing.specs.States.{State, from_start};
-ghost use Rattle.xmpp_framing.specs.Streams.{AreItemsWithin, GivesAll, IsStreamWithin, SpellsItems, SpellsStream, place_of};
+ghost use Rattle.xmpp_framing.specs.States.{State};
+ghost use Rattle.xmpp_framing.specs.StreamLimits.{IsReadAs, IsStreamWithin};
+ghost use Rattle.xmpp_framing.specs.Streams.{InForce, StreamTo};
 ghost use Rattle.xmpp_framing.specs.Within.{IsHeaderWithin, IsNextHeaderWithin};
 ghost use Rattle.xmpp_framing.specs.declared.items.Item.{Item};
 ghost use Rattle.xmpp_framing.specs.declared.items.Item.TheVariants as item;
@@ -32,13 +33,10 @@ pub fn spelled_items_are_read()
         → Gives s items bytes (item.Header s.places.at h) phase.Between inner next }
 {}
 
-/// A law: what spells a stream, each header and element within the limits, is read as its items, and nothing is unfinished
-/// behind its bytes (RFC 6120, section 4). Headers and elements follow one another, a footer is the last, and white space
-/// may stand between. The same holds behind a header of what is left of a stream.
+/// A law: what is a stream in the grammar's words, within the limits, is read as its items and no others, each header with
+/// its place (RFC 6120, section 4; XML 1.0, section 2.8). There is no fault, nothing is unfinished behind the bytes, and
+/// the machine knows of the stream what is in force behind them.
 pub fn spelled_streams_are_read()
-    ensures whole { (limits : Limits) (bytes : List ℕ) (said : List Item) (spelled : SpellsStream bytes said) → IsStreamWithin limits bytes said spelled
-        → GivesAll (from_start limits) [] bytes said }
-    ensures rest { (s : State) (items : List Item) (offset : ℕ) (scope : Scope) (name bytes : List ℕ) (said : List Item) (spelled : SpellsItems offset scope name bytes said)
-        → StandsOutside s phase.Between scope name → s.places.at ≡ place_of offset
-        → AreItemsWithin s.limits offset scope name bytes said spelled → GivesAll s items bytes said }
+    ensures { (limits : Limits) (now : InForce) (bytes : List ℕ) (said : List Item) (stream : StreamTo now bytes said) → IsStreamWithin limits now bytes said stream
+        → IsReadAs limits now bytes said }
 {}
