@@ -40,6 +40,14 @@ pub mod ReferenceRuns
 pub mod SectionBytes
 pub mod SectionRuns
 pub mod TextRuns
+pub mod SpelledTrees
+pub mod ElementTags
+pub mod ElementStates
+pub mod ElementRuns
+pub mod HeaderRuns
+pub mod ItemRuns
+pub mod StreamRuns
+pub mod RunPlaces
 pub mod DeclarationBytes
 pub mod DeclarationRuns
 pub mod ReadCharacters

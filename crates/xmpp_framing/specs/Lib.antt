@@ -20,3 +20,6 @@ pub mod StateCodes
 pub mod FramerView
 pub mod FaultRows
 pub mod ManyBytes
+pub mod Within
+pub mod Standing
+pub mod StreamLimits
