@@ -25,6 +25,7 @@ pub mod Quiet
 pub mod FaultLaws
 pub mod PlainTexts
 pub mod PlainTags
+pub mod CountLaws
 pub mod TagEnds
 pub mod OneText
 pub mod OneSpelling

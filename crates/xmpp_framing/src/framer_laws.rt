@@ -1,8 +1,8 @@
 //! Laws of the machine that a framer is.
 ghost use Rattle.std.specs.Prelude.{◌≡◌, ◌≢◌, ◌≤◌, ◌<◌, ◌+◌, ℕ, List, ◌∷◌, ◌++◌, [], Bool, true, false, Some, None, Ok, Err, codes, length, slice_index};
 ghost use Rattle.std.specs.Option.{is_some};
-ghost use Rattle.xmpp_framing.specs.FaultRows.{Decides, EndsTag, Takes, whole};
-ghost use Rattle.xmpp_framing.specs.Machine.{is_too_long, run};
+ghost use Rattle.xmpp_framing.specs.FaultRows.{Counts, Decides, EndsTag, Takes, has_limit, is_in_hand, may_stand, whole};
+ghost use Rattle.xmpp_framing.specs.Machine.{is_too_long, run, step};
 ghost use Rattle.xmpp_framing.specs.MarkupSteps.{ends_in_question};
 ghost use Rattle.xmpp_framing.specs.States.{Turn, in_run, may_declare, token_place};
 ghost use Rattle.xmpp_framing.specs.TagSteps.{ends_stream, is_header, is_spelled, is_too_deep, misplaced_why, header_why, start_why, tag_anew, tag_here};
@@ -41,6 +41,17 @@ pub fn long_and_broken_bytes_are_told()
     ensures long { (t : Turn) (b : ℕ) → t.state.fault ≡ None → is_too_long t.state b ≡ true → Decides t b t.state.places.item_at why.TooLong }
     ensures broken { (t : Turn) (b : ℕ) → t.state.fault ≡ None → is_too_long t.state b ≡ false → continues t.state.pending b ≡ false
         → Decides t b (token_place t.state) why.Encoding }
+{}
+
+/// A law: what is compared with `Limits.bytes` is how many bytes there are from the first one on. The `<` that begins
+/// something outside elements is byte 1, and its place the first byte's. Each further byte of the element, tag or
+/// declaration adds 1, up to 2^64 - 1, and leaves that place, as long as no fault has come and it isn't whole. The premise
+/// on the state before says that a footer or a declaration isn't in hand inside an element, where neither may come.
+pub fn bytes_are_counted_from_the_first()
+    ensures first { (t : Turn) → Takes t.state mode.Text 60 → is_some t.state.here ≡ false
+        → ((step t 60).state.places.used ≡ 1) × ((step t 60).state.places.item_at ≡ t.state.places.at) }
+    ensures more { (t : Turn) (b : ℕ) → is_in_hand t.state ≡ true → may_stand t.state ≡ true → 0 < t.state.places.used → (step t b).state.fault ≡ None
+        → has_limit (step t b).state ≡ true → Counts t.state (step t b).state }
 {}
 
 /// A law: the byte where `<!` departs from `<![CDATA[` tells `Restricted`; so do the `?` of `<?` where no declaration may
