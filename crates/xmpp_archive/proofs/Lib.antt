@@ -5,6 +5,5 @@ pub mod Keys
 pub mod Linked
 pub mod Newest
 pub mod NumberedEntries
-pub mod PageCuts
 pub mod Walks
 mod Worked
