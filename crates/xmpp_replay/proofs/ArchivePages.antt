@@ -1,5 +1,5 @@
 -- The page that an archive answers behind a log that is its front: the entries at the next places of its list.
-use Rattle.std.proofs.Common.{◌≡◌, ℕ, zero, suc, add-one, ◌+◌, ◌-◌, ◌<◌, ◌≤◌, ◌^◌, min, unwrap_or, true, false, Bool, List, [], ◌∷◌, ◌++◌, Option, Some, None, length, take, drop, get_or, map, ltb, leb, refl, sym, ap, ◌∙◌, arith}
+use Rattle.std.proofs.Common.{◌≡◌, ℕ, zero, suc, add-one, ◌+◌, ◌-◌, ◌<◌, ◌≤◌, ◌^◌, min, unwrap_or, List, [], ◌∷◌, ◌++◌, Option, Some, None, length, take, drop, get_or, map, ltb, refl, sym, ap, ◌∙◌, arith}
 use Rattle.std.proofs.lemmas.Bool.{false_from_ne_true}
 use Rattle.std.proofs.lemmas.List.{map_push, take_more}
 use Rattle.std.proofs.lemmas.Option.{get_or_from_slice_get, none-some, same_Some, slice_get-get_or, slice_get_within}

@@ -1,15 +1,14 @@
 -- A page of the next entries of a log's archive ends well: its ids are new, and it has an entry where entries remain.
-use Rattle.std.proofs.Common.{◌≡◌, ◌≢◌, ℕ, zero, suc, add-one, ◌+◌, ◌-◌, ◌<◌, ◌≤◌, ◌^◌, min, Bool, true, false, cond, ◌&&◌, ◌||◌, leb, ltb, eqb, List, [], ◌∷◌, ◌++◌, Option, Some, None, Ok, length, take, drop, get_or, map, refl, sym, ap, ◌∙◌, arith}
-use Rattle.std.proofs.lemmas.Bool.{false_from_ne_true, le-ltb, leb-false, ne_eqb, or_from}
-use Rattle.std.proofs.lemmas.List.{length-drop, length-map, length-take, take_min}
+use Rattle.std.proofs.Common.{◌≡◌, ◌≢◌, ℕ, zero, suc, ◌+◌, ◌-◌, ◌<◌, ◌≤◌, ◌^◌, min, Bool, true, false, cond, ◌&&◌, ◌||◌, leb, ltb, List, [], ◌∷◌, ◌++◌, Option, Some, None, Ok, length, take, drop, get_or, map, refl, sym, ap, ◌∙◌, arith}
+use Rattle.std.proofs.lemmas.Bool.{false_from_ne_true, le-ltb, leb-false, or_from}
+use Rattle.std.proofs.lemmas.List.{length-drop, length-map, length-take}
 use Rattle.std.proofs.lemmas.List.Folds.{list_any-append}
 use Rattle.std.proofs.lemmas.Slice.Eq.{bytes_eq-Decides}
-use Rattle.std.proofs.lemmas.Option.{get_or_from_slice_get}
 use Rattle.std.specs.List.{list_any}
 use Rattle.std.specs.Option.{IsSomeAnd}
 use Rattle.std.specs.Str.{bytes_eq}
 use Rattle.xmpp_archive.proofs.IdDigits.{id_of_same}
-use Rattle.xmpp_archive.proofs.NumberedEntries.{FollowFrom, at_place, follow_all}
+use Rattle.xmpp_archive.proofs.NumberedEntries.{FollowFrom, follow_all}
 use Rattle.xmpp_archive.specs.Entries.{AreNumbered, EntryView}
 use Rattle.xmpp_archive.specs.Ids.{id_of}
 use Rattle.xmpp_log.specs.LogPages.{ids_of, last_id}

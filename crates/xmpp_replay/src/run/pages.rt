@@ -1,5 +1,5 @@
 //! The pages that a device takes of its account's archive, one behind the other (XEP-0313 section 4.3, XEP-0059).
-ghost use Rattle.std.specs.Prelude.{◌≡◌, ℕ, ◌+◌, ◌-◌, ◌<◌, ◌≤◌, nat_le, IsTrue, not, [], ◌∷◌, ◌++◌, Some, None, Ok, length, map, take, drop, slice_index_or, OnOk, OnErr, IfOk, IsSomeAnd};
+ghost use Rattle.std.specs.Prelude.{◌≡◌, ◌-◌, ◌<◌, ◌≤◌, nat_le, [], Some, None, Ok, length, map, take, drop, slice_index_or, OnOk, IfOk, IsSomeAnd};
 ghost use Rattle.std.specs.Option.{option_copied, option_map};
 ghost use Rattle.xmpp_archive.specs.Entries.{EntryView};
 ghost use Rattle.xmpp_archive.specs.Ids.{id_of};
