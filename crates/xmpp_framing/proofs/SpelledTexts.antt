@@ -131,26 +131,26 @@ no_second x b low = false_from_ne_true (is_second x b) (λ h. let high = second_
 no_tail : (b : ℕ) → b < 128 → is_tail b ≡ false
 no_tail b low = false_from_ne_true (is_tail b) (λ h. let high = tail_high b h in omega (arith, low, high))
 
-none_some : (x : List ℕ) → None ≡ Some x → ⊥
+pub none_some : (x : List ℕ) → None ≡ Some x → ⊥
 none_some x e = cc
 
-one_some : (x y : List ℕ) → Some x ≡ Some y → x ≡ y
+pub one_some : (x y : List ℕ) → Some x ≡ Some y → x ≡ y
 one_some x y e = cc
 
 -- a byte of ASCII ends no character that began before
-alone : (b : ℕ) → b < 128 → (held next : List ℕ) → utf8_next held b ≡ Some next → (held ≡ []) × (next ≡ [])
+pub alone : (b : ℕ) → b < 128 → (held next : List ℕ) → utf8_next held b ≡ Some next → (held ≡ []) × (next ≡ [])
 unfolding utf8_next
 alone b low [] next h = (refl, sym (one_some [] next (sym (cond-true (ltb b 128) (Some []) _ (lt-ltb b 128 low)) ∙ h)))
 alone b low (x ∷ []) next h = absurd (none_some next (sym (cond-false (is_second x b) _ None (no_second x b low)) ∙ h))
 alone b low (x ∷ y ∷ []) next h = absurd (none_some next (sym (cond-false (is_tail b) _ None (no_tail b low)) ∙ h))
 alone b low (x ∷ y ∷ z ∷ more) next h = absurd (none_some next (sym (cond-false (is_tail b) _ None (no_tail b low)) ∙ h))
 
-record Leads (o : Option (List ℕ)) (f : List ℕ → Option (List ℕ)) : Type 0 where
-  next : List ℕ
-  is : o ≡ Some next
-  goes : f next ≡ Some []
+pub record Leads (o : Option (List ℕ)) (f : List ℕ → Option (List ℕ)) : Type 0 where
+  pub next : List ℕ
+  pub is : o ≡ Some next
+  pub goes : f next ≡ Some []
 
-leads : (o : Option (List ℕ)) (f : List ℕ → Option (List ℕ)) → option_and_then f o ≡ Some [] → Leads o f
+pub leads : (o : Option (List ℕ)) (f : List ℕ → Option (List ℕ)) → option_and_then f o ≡ Some [] → Leads o f
 leads None f h = absurd (none_some [] h)
 leads (Some x) f h = record { next = x; is = refl; goes = h }
 

@@ -70,6 +70,24 @@ pub record SpellsNextHeader (scope : Scope) (bytes name : List ℕ) (inner : Sco
   pub start : IsStart scope bytes raw tag
   pub named : IsHeaderName tag.ns tag.name
 
+-- Bytes are a header's tag that is one of an empty element: it is header and footer together, and spells neither alone.
+pub record SpellsEmptyHeader (bytes name : List ℕ) (scope : Scope) (h : Header) : Type 0 where
+  pub raw : List tokens.Attribute
+  pub tag : Tag
+  pub start : IsStart [] bytes raw tag
+  pub is_empty : tag.empty ≡ true
+  pub name_is : tag.spelled ≡ name
+  pub scope_is : tag.bindings ≡ scope
+  pub says : h ≡ header_of tag
+
+-- The same behind another header, as in `SpellsNextHeader`.
+pub record SpellsNextEmptyHeader (scope : Scope) (bytes name : List ℕ) (inner : Scope) (h : Header) : Type 0 where
+  pub spelled : SpellsEmptyHeader bytes name inner h
+  pub raw : List tokens.Attribute
+  pub tag : Tag
+  pub start : IsStart scope bytes raw tag
+  pub named : IsHeaderName tag.ns tag.name
+
 -- Bytes are the footer behind a header with this name as it is spelled.
 abbrev pub SpellsFooter : List ℕ → List ℕ → Type 0
 SpellsFooter bytes name = IsTag bytes (end_tag name)
