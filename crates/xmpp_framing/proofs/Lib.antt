@@ -11,6 +11,7 @@ pub mod TidyReads
 pub mod TidySteps
 mod Worked
 mod WorkedGrammar
+mod WorkedReadings
 mod WorkedSpellings
 pub mod WrittenNodes
 pub mod WrittenTags
