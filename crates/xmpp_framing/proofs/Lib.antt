@@ -10,9 +10,11 @@ pub mod TidyLaws
 pub mod TidyReads
 pub mod TidySteps
 mod Worked
+mod WorkedRuns
 mod WorkedGrammar
 mod WorkedReadings
 mod WorkedSpellings
+mod WorkedStreams
 pub mod WrittenNodes
 pub mod WrittenTags
 pub mod Stacks
@@ -22,6 +24,9 @@ pub mod ItemsGrow
 pub mod Pieces
 pub mod Quiet
 pub mod FaultLaws
+pub mod PlainTexts
+pub mod PlainTags
+pub mod CountLaws
 pub mod TagEnds
 pub mod OneText
 pub mod OneSpelling
@@ -47,3 +52,11 @@ pub mod StreamRuns
 pub mod RunPlaces
 pub mod DeclarationBytes
 pub mod DeclarationRuns
+pub mod ReadCharacters
+pub mod TextFronts
+pub mod OpenLevels
+pub mod ReadSoFar
+pub mod ReadOutside
+pub mod TextHands
+pub mod ReadInside
+pub mod ReadStreams

@@ -19,6 +19,7 @@ pub mod Machine
 pub mod StateCodes
 pub mod FramerView
 pub mod FaultRows
+pub mod ManyBytes
 pub mod Within
 pub mod Standing
 pub mod StreamLimits

@@ -111,13 +111,27 @@ impl Framer {
         Ok(())
     }
 
+    // Takes the first byte of a piece.
+    fn take_first(&mut self, rest: &[u8], items: &mut Items) -> Result<(), NoMemory>
+        requires { 0 < length rest.now }
+        ensures ok { OnOk result (TakesFront (turn self.old items.old.items) (turn self.new items.new.items) rest.now 1) }
+        ensures err { OnErr result (items.new.items ≡ items.old.items) }
+    {
+        self.step(rest[0], items)?;
+        Ok(())
+    }
+
     // Takes some first bytes of a piece, and answers how many.
     fn take_some(&mut self, rest: &[u8], items: &mut Items) -> Result<usize, NoMemory>
         requires { 0 < length rest.now }
         ensures ok { IfOk result (λ n. TakesFront (turn self.old items.old.items) (turn self.new items.new.items) rest.now n) }
         ensures err { OnErr result (items.new.items ≡ items.old.items) }
     {
-        self.step(rest[0], items)?;
+        let taken = self.take_run(rest)?;
+        if taken > 0 {
+            return Ok(taken);
+        }
+        self.take_first(rest, items)?;
         Ok(1)
     }
 

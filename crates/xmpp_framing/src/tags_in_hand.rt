@@ -36,8 +36,8 @@ fn is_quote(b: u8) -> bool
     b == b'"' || b == b'\''
 }
 
-// The quote that is open behind a byte.
-fn quote_behind(quote: Option<u8>, b: u8) -> Option<u8>
+/// The quote that is open behind a byte.
+pub(crate) fn quote_behind(quote: Option<u8>, b: u8) -> Option<u8>
     ensures { result ≡ Tags.quote_behind quote b }
 {
     match quote {

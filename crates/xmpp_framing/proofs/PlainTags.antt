@@ -1,0 +1,113 @@
+-- Bytes of a tag, one after another, are taken as all at once are.
+use Rattle.std.proofs.Common.{◌≡◌, ℕ, ◌+◌, ◌-◌, ◌<◌, ◌≤◌, ltb, Bool, true, false, true≢false, not, ◌&&◌, ◌==◌, List, [], ◌∷◌, ◌++◌, Option, None, length, take, get_or, refl, sym, ap, ◌∙◌, arith, append_assoc, append-nil}
+use Rattle.std.proofs.lemmas.Bool.{and_parts, and_from, not-true}
+use Rattle.std.proofs.lemmas.List.{length-take-le, take-take, take_more}
+use Rattle.std.specs.Option.{is_some}
+use Rattle.xmpp_tokens.specs.Tags.{quote_behind}
+use Rattle.xmpp_tokens.specs.Utf8.{utf8_next}
+use Rattle.xmpp_framing.proofs.PlainTexts.{empty_is, none_is, room_after, short, used_next}
+use Rattle.xmpp_framing.specs.Machine.{goes_on, is_too_long, run, step, taken}
+use Rattle.xmpp_framing.specs.ManyBytes.{LeavesRoom, TakesRun, go_on_in, goes_on_in, is_tag, place_behind, quote_after, tag_taken, takes_tag, used_behind}
+use Rattle.xmpp_framing.specs.States.{State, Turn, moved, next_place, turn}
+use Rattle.xmpp_framing.specs.TagSteps.{in_tag}
+use Rattle.xmpp_framing.specs.declared.states.Mode.{Mode}
+use Rattle.xmpp_framing.specs.declared.states.Mode.TheVariants as mode
+
+-- a state in a tag
+abbrev tagging : State → ℕ → ℕ → List ℕ → Option ℕ → State
+tagging s at used token quote = record s {
+  places = record s.places { at = at; used = used };
+  lexical = record s.lexical { mode = mode.Tag; quote = quote };
+  token = token;
+  pending = [];
+  fault = None;
+}
+
+byte_goes : (t : Turn) (s : State) (at used : ℕ) (token : List ℕ) (quote : Option ℕ) (b : ℕ) → is_too_long (tagging s at used token quote) b ≡ false → ltb b 128 ≡ true
+    → (b == 62 && not (is_some quote)) ≡ false → step (moved t (tagging s at used token quote)) b ≡ moved t (tagging s (next_place at) (used_next used) (token ++ b ∷ []) (quote_behind quote b))
+unfolding goes_on taken in_tag utf8_next
+byte_goes t s at used token quote b long low inside = rw (long, low, inside, low) refl
+
+goes : (t : Turn) (s : State) (bs : List ℕ) (at used : ℕ) (token : List ℕ) (quote : Option ℕ) → (0 < used → length bs ≤ s.limits.bytes - used) → go_on_in quote bs ≡ true
+    → run (moved t (tagging s at used token quote)) bs ≡ moved t (tagging s (place_behind bs at) (used_behind bs used) (token ++ bs) (quote_after quote bs))
+goes t s [] at used token quote room inside = ap (λ l. moved t (tagging s at used l quote)) (sym (append-nil token))
+goes t s (b ∷ bs) at used token quote room inside =
+    let parts = and_parts (goes_on_in quote b) (go_on_in (quote_behind quote b) bs) inside in
+    let here = and_parts (ltb b 128) _ parts.0 in
+    let left : 0 < used → length bs + 1 ≤ s.limits.bytes - used = λ counts. omega (arith, room counts) in
+    let long = short (tagging s at used token quote) b (length bs + 1) (omega arith) left in
+    ap (λ u. run u bs) (byte_goes t s at used token quote b long here.0 (not-true _ here.1))
+    ∙ (goes t s bs (next_place at) (used_next used) (token ++ b ∷ []) (quote_behind quote b) (room_after used s.limits.bytes (length bs) left) parts.1
+    ∙ ap (λ l. moved t (tagging s (place_behind (b ∷ bs) at) (used_behind (b ∷ bs) used) l (quote_after quote (b ∷ bs)))) (append_assoc token (b ∷ []) bs))
+
+tag_is : (m : Mode) → is_tag m ≡ true → m ≡ mode.Tag
+tag_is mode.Tag e = refl
+tag_is m e = absurd (true≢false (sym e))
+
+record TakesTag (s : State) : Type 0 where
+  no_fault : s.fault ≡ None
+  tag : s.lexical.mode ≡ mode.Tag
+  no_pending : s.pending ≡ []
+
+takes_is : (s : State) → takes_tag s ≡ true → TakesTag s
+takes_is s h =
+    let fault = and_parts (not (is_some s.fault)) _ h in
+    let tag = and_parts (is_tag s.lexical.mode) _ fault.1 in
+    record { no_fault = none_is s.fault (not-true _ fault.0); tag = tag_is s.lexical.mode tag.0; no_pending = empty_is s.pending tag.1 }
+
+tagging_same : (s : State) → TakesTag s → (at used : ℕ) (token : List ℕ) (quote : Option ℕ)
+    → tagging s at used token quote ≡ record s { places = record s.places { at = at; used = used }; lexical = record s.lexical { quote = quote }; token = token }
+tagging_same s h at used token quote =
+    let places = record s.places { at = at; used = used } in
+    let lexical = record s.lexical { quote = quote } in
+    ap (λ m. record s { places = places; lexical = record lexical { mode = m }; token = token; pending = []; fault = None }) (sym h.tag)
+    ∙ (ap (λ p. record s { places = places; lexical = lexical; token = token; pending = p; fault = None }) (sym h.no_pending)
+    ∙ ap (λ f. record s { places = places; lexical = lexical; token = token; fault = f }) (sym h.no_fault))
+
+tag_goes : (t : Turn) (bs : List ℕ) → takes_tag t.state ≡ true → LeavesRoom t.state (length bs) → go_on_in t.state.lexical.quote bs ≡ true → run t bs ≡ moved t (tag_taken t.state bs)
+tag_goes t bs takes room inside =
+    let s = t.state in
+    let same = tagging_same s (takes_is s takes) in
+    ap (λ u. run (moved t u) bs) (sym (same s.places.at s.places.used s.token s.lexical.quote))
+    ∙ (goes t s bs s.places.at s.places.used s.token s.lexical.quote room inside
+    ∙ ap (moved t) (same (place_behind bs s.places.at) (used_behind bs s.places.used) (s.token ++ bs) (quote_after s.lexical.quote bs)))
+
+pub tag_run_taken : (s new : State) (bytes within front : List ℕ) (n : ℕ) → takes_tag s ≡ true → within ≡ take (length within) bytes → length within ≤ length bytes → front ≡ take n within
+    → n ≤ length within → LeavesRoom s (length within) → go_on_in s.lexical.quote front ≡ true → new ≡ tag_taken s front → TakesRun s new bytes n
+tag_run_taken s new bytes within front n takes is_front bound front_is few room inside new_is =
+    let len : length front ≡ n = ap length front_is ∙ length-take-le n within few in
+    let front_of : front ≡ take n bytes = front_is ∙ (ap (take n) is_front ∙ take-take n (length within) bytes few) in
+    record {
+      bound = omega arith;
+      done = λ items.
+          ap (λ u. turn u items) new_is
+          ∙ sym (ap (run (turn s items)) (sym front_of) ∙ tag_goes (turn s items) front takes (λ counts. omega (arith, room counts, len)) inside);
+    }
+
+-- ---- a scan
+
+and_last : (x : Bool) → (x && true) ≡ x
+and_last true = refl
+and_last false = refl
+
+and_again : (x y z : Bool) → (x && (y && z)) ≡ ((x && y) && z)
+and_again true y z = refl
+and_again false y z = refl
+
+pub go_on_more : (quote : Option ℕ) (bs : List ℕ) (b : ℕ) → go_on_in quote (bs ++ b ∷ []) ≡ (go_on_in quote bs && goes_on_in (quote_after quote bs) b)
+go_on_more quote [] b = and_last (goes_on_in quote b)
+go_on_more quote (x ∷ xs) b = ap (λ r. goes_on_in quote x && r) (go_on_more (quote_behind quote x) xs b) ∙ and_again (goes_on_in quote x) (go_on_in (quote_behind quote x) xs) (goes_on_in (quote_after (quote_behind quote x) xs) b)
+
+pub quote_more : (quote : Option ℕ) (bs : List ℕ) (b : ℕ) → quote_after quote (bs ++ b ∷ []) ≡ quote_behind (quote_after quote bs) b
+quote_more quote [] b = refl
+quote_more quote (x ∷ xs) b = quote_more (quote_behind quote x) xs b
+
+pub scan_more : (quote now next : Option ℕ) (bs : List ℕ) (i : ℕ) → i < length bs → (go_on_in quote (take i bs) ≡ true) × (now ≡ quote_after quote (take i bs)) → goes_on_in now (get_or bs i 0) ≡ true
+    → next ≡ quote_behind now (get_or bs i 0) → (go_on_in quote (take (i + 1) bs) ≡ true) × (next ≡ quote_after quote (take (i + 1) bs))
+scan_more quote now next bs i within h on behind =
+    let front = take i bs in
+    let b = get_or bs i 0 in
+    let more : take (i + 1) bs ≡ front ++ b ∷ [] = take_more bs i 0 within in (
+      ap (go_on_in quote) more ∙ (go_on_more quote front b ∙ and_from _ _ h.0 (ap (λ q. goes_on_in q b) (sym h.1) ∙ on)),
+      behind ∙ (ap (λ q. quote_behind q b) h.1 ∙ (sym (quote_more quote front b) ∙ ap (quote_after quote) (sym more))),
+    )

@@ -1,0 +1,223 @@
+//! Many bytes at once, where each of them only adds to a text or a tag.
+ghost use Rattle.std.specs.Prelude.{◌≡◌, ◌≤◌, ◌<◌, ◌++◌, true, take, length, IfOk, OnOk};
+ghost use Rattle.std.specs.List.{list_all, prefix_len};
+ghost use Rattle.std.specs.Option.{is_some};
+ghost use Rattle.xmpp_framing.specs.ManyBytes;
+ghost use Rattle.xmpp_framing.specs.ManyBytes.{LeavesRoom, TakesRun, behind_bytes, go_on_in, quote_after, tag_taken, text_taken};
+ghost use Rattle.xmpp_tokens.specs.Characters;
+
+use crate::framer::Framer;
+use crate::states::Mode;
+use crate::tags_in_hand::quote_behind;
+use xmpp_edge::NoMemory;
+
+// ---- scans
+
+fn is_control(b: u8) -> bool
+    ensures { result ≡ Characters.is_control b }
+{
+    b < 32 && b != b'\t' && b != b'\n' && b != b'\r'
+}
+
+// Whether a byte says itself in a text, whatever stands before it.
+fn is_plain(b: u8) -> bool
+    ensures { result ≡ ManyBytes.is_plain b }
+{
+    b != b'<' && b != b'&' && b != b'>' && b != b']' && b != b'\r' && b != 0xef && !is_control(b)
+}
+
+fn plain_len(bytes: &[u8]) -> usize
+    ensures { result ≡ prefix_len ManyBytes.is_plain bytes.now }
+{
+    bytes.iter().take_while(|b| is_plain(**b)).count()
+}
+
+// The plain bytes that bytes begin with.
+fn plain_front(bytes: &[u8]) -> &[u8]
+    ensures front { result.now ≡ take (length result.now) bytes.now }
+    ensures bound { length result.now ≤ length bytes.now }
+    ensures plain { list_all ManyBytes.is_plain result.now ≡ true }
+{
+    bytes.split_at(plain_len(bytes)).0
+}
+
+// The whole characters that bytes begin with.
+fn whole_characters(bytes: &[u8]) -> &str
+    ensures front { result.now ≡ take (length result.now) bytes.now }
+    ensures bound { length result.now ≤ length bytes.now }
+{
+    match str::from_utf8(bytes) {
+        Ok(text) => text,
+        Err(e) => match str::from_utf8(&bytes[..e.valid_up_to()]) {
+            Ok(text) => text,
+            Err(_) => "",
+        },
+    }
+}
+
+// The plain characters that a text begins with.
+fn plain_text(bytes: &[u8]) -> &str
+    ensures front { result.now ≡ take (length result.now) bytes.now }
+    ensures bound { length result.now ≤ length bytes.now }
+    ensures plain { list_all ManyBytes.is_plain result.now ≡ true }
+{
+    whole_characters(plain_front(bytes))
+}
+
+// Whether a byte is one of ASCII that doesn't end a tag.
+fn goes_on_in(quote: Option<u8>, b: u8) -> bool
+    ensures { result ≡ ManyBytes.goes_on_in quote b }
+{
+    b < 128 && !(b == b'>' && quote.is_none())
+}
+
+// How many first bytes are of ASCII and don't end a tag, and the quote that is open behind them.
+fn tag_front(quote: Option<u8>, bytes: &[u8]) -> (usize, Option<u8>)
+    ensures bound { result.0 ≤ length bytes.now }
+    ensures inside { go_on_in quote (take result.0 bytes.now) ≡ true }
+    ensures quote { result.1 ≡ quote_after quote (take result.0 bytes.now) }
+{
+    let mut open = quote;
+    for (i, b) in bytes.iter().enumerate() {
+        if !goes_on_in(open, *b) {
+            return (i, open);
+        }
+        open = quote_behind(open, *b);
+    }
+    (bytes.len(), open)
+}
+
+// ---- places
+
+// A place behind some bytes.
+#[tactic(auto, using(crate::proofs::PlainTexts::place_is))]
+fn place_behind(place: u64, bytes: &[u8]) -> u64
+    ensures { result ≡ ManyBytes.place_behind bytes.now place }
+{
+    place.saturating_add(bytes.len() as u64)
+}
+
+// A count behind some bytes, where what they belong to is counted.
+#[tactic(auto, using(crate::proofs::PlainTexts::none_used, crate::proofs::PlainTexts::used_is))]
+fn used_behind(used: u64, bytes: &[u8]) -> u64
+    ensures { result ≡ ManyBytes.used_behind bytes.now used }
+{
+    if used == 0 {
+        return 0;
+    }
+    place_behind(used, bytes)
+}
+
+impl Framer {
+    // The bytes of a piece that the limit leaves room for.
+    fn within<'a>(&self, bytes: &'a [u8]) -> &'a [u8]
+        ensures front { result.now ≡ take (length result.now) bytes.now }
+        ensures bound { length result.now ≤ length bytes.now }
+        ensures room { LeavesRoom self.now (length result.now) }
+    {
+        let left = self.limits.bytes.saturating_sub(self.places.used);
+        if self.places.used == 0 || bytes.len() as u64 <= left {
+            bytes
+        } else {
+            &bytes[..left as usize]
+        }
+    }
+
+    // Some bytes are behind.
+    fn pass_bytes(&mut self, bytes: &[u8])
+        ensures { self.new ≡ behind_bytes self.old bytes.now }
+    {
+        self.places.at = place_behind(self.places.at, bytes);
+        self.places.used = used_behind(self.places.used, bytes);
+    }
+
+    // ---- texts in an element
+
+    // Whether plain bytes may be taken at once.
+    fn takes_text(&self) -> bool
+        ensures { result ≡ ManyBytes.takes_text self.now }
+    {
+        let is_text = match self.lexical.mode {
+            Mode::Text => true,
+            _ => false,
+        };
+        is_text
+            && self.fault.is_none()
+            && self.is_inside()
+            && self.pending.len() == 0
+            && !(self.lexical.in_run && (self.lexical.returned || self.lexical.brackets != 0))
+    }
+
+    // Takes plain bytes of a text.
+    fn take_text(&mut self, text: &str) -> Result<(), NoMemory>
+        ensures { OnOk result (self.new ≡ text_taken self.old text.now) }
+    {
+        self.chars.push_str(text)?;
+        self.begin_run();
+        self.pass_bytes(text.as_bytes());
+        Ok(())
+    }
+
+    // Takes the plain bytes that a piece begins with, and answers how many.
+    fn take_text_run(&mut self, bytes: &[u8]) -> Result<usize, NoMemory>
+        requires { ManyBytes.takes_text self.old ≡ true }
+        ensures { IfOk result (λ n. TakesRun self.old self.new bytes.now n) }
+    {
+        let text = plain_text(self.within(bytes));
+        if text.is_empty() {
+            return Ok(0);
+        }
+        self.take_text(text)?;
+        Ok(text.len())
+    }
+
+    // ---- tags
+
+    // Whether bytes of a tag may be taken at once.
+    fn takes_tag(&self) -> bool
+        ensures { result ≡ ManyBytes.takes_tag self.now }
+    {
+        let is_tag = match self.lexical.mode {
+            Mode::Tag => true,
+            _ => false,
+        };
+        is_tag && self.fault.is_none() && self.pending.len() == 0
+    }
+
+    // Takes bytes of a tag, behind which this quote is open.
+    fn take_tag(&mut self, bytes: &[u8], quote: Option<u8>) -> Result<(), NoMemory>
+        requires { quote ≡ quote_after self.old.lexical.quote bytes.now }
+        ensures { OnOk result (self.new ≡ tag_taken self.old bytes.now) }
+    {
+        self.token.extend_from_slice(bytes)?;
+        self.lexical.quote = quote;
+        self.pass_bytes(bytes);
+        Ok(())
+    }
+
+    // Takes the bytes that a piece begins with up to what ends a tag, and answers how many.
+    fn take_tag_run(&mut self, bytes: &[u8]) -> Result<usize, NoMemory>
+        requires { ManyBytes.takes_tag self.old ≡ true }
+        ensures { IfOk result (λ n. TakesRun self.old self.new bytes.now n) }
+    {
+        let within = self.within(bytes);
+        let (len, quote) = tag_front(self.lexical.quote, within);
+        self.take_tag(&within[..len], quote)?;
+        Ok(len)
+    }
+
+    // ---- both
+
+    // Takes bytes that a piece begins with and that only add to what is in hand, and answers how many.
+    pub(crate) fn take_run(&mut self, bytes: &[u8]) -> Result<usize, NoMemory>
+        ensures { IfOk result (λ n. TakesRun self.old self.new bytes.now n) }
+    {
+        if self.takes_text() {
+            return self.take_text_run(bytes);
+        }
+        if self.takes_tag() {
+            return self.take_tag_run(bytes);
+        }
+        Ok(0)
+    }
+}
