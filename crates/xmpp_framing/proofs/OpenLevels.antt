@@ -8,10 +8,10 @@ use Rattle.xmpp_names.specs.Starts.{Tag}
 use Rattle.xmpp_framing.proofs.AttributeOrder.{sorted_attributes_IsAttrsOf}
 use Rattle.xmpp_framing.proofs.Folds.{joined_assoc}
 use Rattle.xmpp_framing.proofs.TidyLaws.{tidied_stays}
-use Rattle.xmpp_framing.specs.Attributes.{sorted_attributes}
-use Rattle.xmpp_framing.specs.Spells.{IsBegun, Spells, SpellsContent, attribute_of, empty, filled, text_alone, with_element}
+use Rattle.xmpp_framing.specs.Attributes.{attribute_of, sorted_attributes}
+use Rattle.xmpp_framing.specs.Spells.{IsBegun, Spells, SpellsContent, empty, filled, text_alone, with_element}
 use Rattle.xmpp_framing.specs.States.{OpenElement, with_more, with_text}
-use Rattle.xmpp_framing.specs.TagSteps.{attribute_from, element_from, scope_in}
+use Rattle.xmpp_framing.specs.TagSteps.{element_from, scope_in}
 use Rattle.xmpp_framing.specs.Texts.{IsText}
 use Rattle.xmpp_framing.specs.Tidied.{text_node, tidied}
 use Rattle.xmpp_framing.specs.Trees.{Elem, element, Nodes, no_nodes, child, joined, with_nodes, IsTree, AreTidy, NoTextFirst}
@@ -86,7 +86,7 @@ pub record Level (IsInside : Scope → List ℕ → Nodes → Type 0) (outer own
   pub not_empty : tag.empty ≡ false
   pub name_is : tag.spelled ≡ o.spelled
   pub own_is : tag.bindings ≡ own
-  pub element_is : o.element ≡ element tag.ns tag.name (sorted_attributes (map attribute_from tag.attributes)) kids
+  pub element_is : o.element ≡ element tag.ns tag.name (sorted_attributes (map attribute_of tag.attributes)) kids
   pub content : IsInside (tag.bindings ++ outer) inside kids
   pub bytes_are : bytes ≡ start ++ inside
 
