@@ -1,5 +1,5 @@
 -- What the machine does at the end of a tag of an element.
-use Rattle.std.proofs.Common.{◌≡◌, ℕ, ◌+◌, ◌≤◌, ◌⊎◌, inl, inr, ⊎_elim, true, false, List, [], Option, Some, None, Result, Ok, Err, codes, length, refl, sym, ap, ◌∙◌, arith}
+use Rattle.std.proofs.Common.{◌≡◌, ℕ, ◌+◌, ◌≤◌, ◌⊎◌, inl, inr, ⊎_elim, true, false, List, [], Some, None, Result, Ok, Err, codes, length, refl, sym, ap, ◌∙◌, arith}
 use Rattle.std.proofs.lemmas.Bool.{and_parts, cases_Bool, le-ltb}
 use Rattle.std.proofs.lemmas.Slice.Eq.{bytes_eq-Decides}
 use Rattle.std.specs.Option.{is_some}
@@ -66,9 +66,6 @@ pub record IsTopLevel (s : State) : Type 0 where
 -- a start tag with this name begins an element: in an element each does
 abbrev pub MayBegin : State → List ℕ → List ℕ → Type 0
 MayBegin s ns name = (is_some s.here ≡ true) ⊎ (IsTopLevel s × (IsHeaderName ns name → ⊥))
-
-none_here : (o : Option OpenElement) → o ≡ None → is_some o ≡ false
-none_here o e = ap is_some e
 
 begins_inside : (h : State) (items : List Item) (tag : Tag) → is_some h.here ≡ true → is_end h.token ≡ false → tag_here h ≡ Ok tag → tag_closes (turn h items) ≡ begun (turn h items) tag
 unfolding tag_closes tag_inside

@@ -12,6 +12,7 @@ pub mod TidySteps
 mod Worked
 mod WorkedRuns
 mod WorkedGrammar
+mod WorkedReadings
 mod WorkedSpellings
 mod WorkedStreams
 pub mod WrittenNodes

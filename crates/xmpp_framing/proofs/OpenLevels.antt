@@ -7,40 +7,13 @@ use Rattle.xmpp_names.specs.Scopes.{Scope}
 use Rattle.xmpp_names.specs.Starts.{Tag}
 use Rattle.xmpp_framing.proofs.AttributeOrder.{sorted_attributes_IsAttrsOf}
 use Rattle.xmpp_framing.proofs.Folds.{joined_assoc}
-use Rattle.xmpp_framing.proofs.TidyLaws.{tidied_stays}
 use Rattle.xmpp_framing.specs.Attributes.{attribute_of, sorted_attributes}
-use Rattle.xmpp_framing.specs.Spells.{IsBegun, Spells, SpellsContent, empty, filled, text_alone, with_element}
+use Rattle.xmpp_framing.specs.Spells.{Spells, SpellsContent, empty, filled, text_alone, with_element}
 use Rattle.xmpp_framing.specs.States.{OpenElement, with_more, with_text}
 use Rattle.xmpp_framing.specs.TagSteps.{element_from, scope_in}
 use Rattle.xmpp_framing.specs.Texts.{IsText}
-use Rattle.xmpp_framing.specs.Tidied.{text_node, tidied}
-use Rattle.xmpp_framing.specs.Trees.{Elem, element, Nodes, no_nodes, child, joined, with_nodes, IsTree, AreTidy, NoTextFirst}
-
--- ---- what is spelled is a tree
-
-tidy_text : (run : List ℕ) (rest : Nodes) → NoTextFirst rest → AreTidy rest → AreTidy (joined (text_node run) rest)
-tidy_text [] rest first tidy = tidy
-tidy_text (c ∷ cs) rest first tidy = (λ e. let is = e in cc, first, tidy)
-
-tidy_end : (run : List ℕ) → AreTidy (text_node run)
-tidy_end [] = tt
-tidy_end (c ∷ cs) = (λ e. let is = e in cc, tt, tt)
-
-begun_IsTree : (t : Tag) (kids : Nodes) (e : Elem) → IsBegun t kids e → AreTidy kids → IsTree e
-begun_IsTree t kids e h tidy = subst IsTree (sym h.is) (h.sorted.ascending, tidy)
-
-mutual
-  spelled_IsTree : (scope : Scope) (bytes : List ℕ) (e : Elem) → Spells scope bytes e → IsTree e
-  spelled_IsTree scope bytes e (empty s b f raw t start is begun) = begun_IsTree t no_nodes e begun tt
-  spelled_IsTree scope bytes e (filled s b f raw t first inside close kids start is content end whole begun) = begun_IsTree t kids e begun (content_AreTidy (t.bindings ++ scope) inside kids content)
-
-  content_AreTidy : (scope : Scope) (bytes : List ℕ) (kids : Nodes) → SpellsContent scope bytes kids → AreTidy kids
-  content_AreTidy scope bytes kids (text_alone s b k says h is) = subst AreTidy (sym is) (tidy_end says)
-  content_AreTidy scope bytes kids (with_element s b k front says middle rest e more h inner outer whole is) =
-      subst AreTidy (sym is) (tidy_text says (child e more) tt (spelled_IsTree scope middle e inner, content_AreTidy scope rest more outer))
-
-pub spelled_is_tidy : (scope : Scope) (bytes : List ℕ) (e : Elem) → Spells scope bytes e → tidied e ≡ e
-spelled_is_tidy scope bytes e h = tidied_stays e (spelled_IsTree scope bytes e h)
+use Rattle.xmpp_framing.specs.Tidied.{text_node}
+use Rattle.xmpp_framing.specs.Trees.{Elem, element, Nodes, no_nodes, child, joined, with_nodes}
 
 -- ---- content so far
 

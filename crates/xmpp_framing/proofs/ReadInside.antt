@@ -16,7 +16,8 @@ use Rattle.xmpp_names.specs.Grammar.{IsStart}
 use Rattle.xmpp_names.specs.Scopes.{Scope}
 use Rattle.xmpp_names.specs.Starts.{Tag}
 use Rattle.xmpp_names.specs.declared.faults.StartFault.{StartFault}
-use Rattle.xmpp_framing.proofs.OpenLevels.{AreCovered, CoveredLevel, leaf_spelled, level_begun, level_closed, level_covered, level_resumed, spelled_is_tidy}
+use Rattle.xmpp_framing.proofs.OpenLevels.{AreCovered, CoveredLevel, leaf_spelled, level_begun, level_closed, level_covered, level_resumed}
+use Rattle.xmpp_framing.proofs.SpelledTrees.{spelled_stays}
 use Rattle.xmpp_framing.proofs.ReadSoFar.{After, Around, Inside, Kept, MarkIn, OpensSection, SectionIn, TextIn, TopIsNoHeader, in_force, kept_on}
 use Rattle.xmpp_framing.proofs.TextFronts.{front_seen, no_front}
 use Rattle.xmpp_framing.proofs.TextHands.{mark_begun, mark_more, marked_text, opens_more, reference_ends, section_bracket, section_ends, section_opens, section_other, section_third, section_waits, text_grows, text_waits}
@@ -313,7 +314,7 @@ module _ (s : State) (o : OpenElement) (items : List Item) (b : ℕ) (bytes hand
         let made : StreamTo (in_force phase.Between a.base s.name) (bytes ++ b ∷ []) (items ++ item.Element (tidied closing) ∷ []) =
         with_element (in_force phase.Between a.base s.name) (bytes ++ b ∷ []) _ a.done (a.level ++ (h.text ++ whole)) items closing a.stream refl (record { spelled = at_base; no_header = top })
         (bytes_are ∙ ap (λ l. a.done ++ (l ++ (a.level ++ (h.text ++ whole)))) down.1)
-        (ap (λ x. items ++ item.Element x ∷ []) (spelled_is_tidy (scope_in a.rest) (a.level ++ (h.text ++ whole)) closing spelled)) in
+        (ap (λ x. items ++ item.Element x ∷ []) (spelled_stays (scope_in a.rest) (a.level ++ (h.text ++ whole)) closing spelled)) in
         subst (λ p. StreamTo (in_force p (outer_scopes s.scopes) s.name) (bytes ++ b ∷ []) (items ++ item.Element (tidied closing) ∷ [])) (sym a.between)
         (subst (λ l. StreamTo (in_force phase.Between l s.name) (bytes ++ b ∷ []) (items ++ item.Element (tidied closing) ∷ [])) (sym (ap outer_scopes a.scopes_are ∙ down.0)) made)
 

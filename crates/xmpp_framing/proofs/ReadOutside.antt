@@ -22,7 +22,8 @@ use Rattle.xmpp_names.specs.Scopes.{Scope}
 use Rattle.xmpp_names.specs.Starts.{Tag, start_of}
 use Rattle.xmpp_names.specs.declared.faults.StartFault.{StartFault}
 use Rattle.xmpp_framing.proofs.LargerLimits.{in_largest}
-use Rattle.xmpp_framing.proofs.OpenLevels.{AreCovered, leaf_spelled, level_begun, spelled_is_tidy}
+use Rattle.xmpp_framing.proofs.OpenLevels.{AreCovered, leaf_spelled, level_begun}
+use Rattle.xmpp_framing.proofs.SpelledTrees.{spelled_stays}
 use Rattle.xmpp_framing.proofs.ReadSoFar.{After, FooterIn, Kept, Outside, TokenIn, TopIsNoHeader, in_force, kept_on}
 use Rattle.xmpp_framing.proofs.TextFronts.{front_seen, no_front}
 use Rattle.xmpp_framing.proofs.ReadCharacters.{ascii_alone, grown_after, nothing_judged, Judged}
@@ -388,7 +389,7 @@ module _ (s : State) (items : List Item) (b : ℕ) (bytes : List ℕ) (k : Kept 
               (
                 refl,
                 λ p. with_element now (bytes ++ b ∷ []) _ h.done whole items (element_from t) h.stream between (record { spelled = spelled; no_header = not_named t is other }) h.bytes_are
-                    (ap (λ x. items ++ item.Element x ∷ []) (spelled_is_tidy (scope_in s.scopes) whole (element_from t) spelled)),
+                    (ap (λ x. items ++ item.Element x ∷ []) (spelled_stays (scope_in s.scopes) whole (element_from t) spelled)),
               ),
             );
           }

@@ -4,7 +4,7 @@ use Rattle.xmpp_names.specs.Scopes.{Scope}
 use Rattle.xmpp_names.specs.Starts.{Tag}
 use Rattle.xmpp_framing.proofs.AttributeOrder.{one_IsAttrsOf, sorted_attributes_IsAttrsOf}
 use Rattle.xmpp_framing.proofs.TidyLaws.{tidied_stays, tidy_end, tidy_text}
-use Rattle.xmpp_framing.specs.Attributes.{Attribute, attribute_of, IsAttrsOf, sorted_attributes}
+use Rattle.xmpp_framing.specs.Attributes.{Attribute, IsAttrsOf, attribute_of, sorted_attributes}
 use Rattle.xmpp_framing.specs.Spells.{IsBegun, Spells, SpellsContent, empty, filled, text_alone, with_element}
 use Rattle.xmpp_framing.specs.TagSteps.{element_from}
 use Rattle.xmpp_framing.specs.Tidied.{tidied}
