@@ -9,6 +9,5 @@ pub mod Linked
 pub mod Marks
 pub mod Newest
 pub mod NumberedEntries
-pub mod PageCuts
 pub mod Walks
 mod Worked

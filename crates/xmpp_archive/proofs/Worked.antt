@@ -3,7 +3,6 @@ use Rattle.std.proofs.Common.{◌≡◌, ℕ, true, false, [], ◌∷◌, List, 
 use Rattle.std.specs.Prelude.{codes}
 use Rattle.xmpp_archive.specs.Entries.{EntryView, entry_numbered, newest}
 use Rattle.xmpp_archive.specs.Ids.{id_of}
-use Rattle.xmpp_archive.specs.Pages.{First, After, page_of}
 use Rattle.xmpp_archive.specs.Peers.{bare_form, chain_ends, first_of, index_of, next_of, peer_of, previous_of}
 
 first_id : id_of 1 ≡ codes "0000000000000001"
@@ -27,34 +26,6 @@ entry n = record { number = n; stamp = 1000; from = []; to = []; normal = true; 
 
 abbrev three : List EntryView
 three = entry 1 ∷ entry 2 ∷ entry 3 ∷ []
-
-first_page : page_of First 2 three ≡ Some (record { entries = entry 1 ∷ entry 2 ∷ []; complete = false; count = 3 })
-first_page = refl
-
-second_page : page_of (After (codes "0000000000000002")) 2 three ≡ Some (record { entries = entry 3 ∷ []; complete = true; count = 3 })
-unfolding id_of
-second_page = refl
-
-full_page : page_of First 3 three ≡ Some (record { entries = three; complete = true; count = 3 })
-full_page = refl
-
-page_behind_last : page_of (After (codes "0000000000000003")) 2 three ≡ Some (record { entries = []; complete = true; count = 3 })
-unfolding id_of
-page_behind_last = refl
-
-empty_page : page_of First 0 three ≡ Some (record { entries = []; complete = false; count = 3 })
-empty_page = refl
-
-no_entries : page_of First 0 [] ≡ Some (record { entries = []; complete = true; count = 0 })
-no_entries = refl
-
-unknown_id : page_of (After (codes "0000000000000004")) 2 three ≡ None
-unfolding id_of
-unknown_id = refl
-
-upper_case : page_of (After (codes "000000000000000A")) 2 (entry 10 ∷ []) ≡ None
-unfolding id_of
-upper_case = refl
 
 second_entry : entry_numbered 2 three ≡ Some (entry 2)
 second_entry = refl

@@ -6,7 +6,6 @@ mod archive;
 mod chains;
 mod entry;
 mod ids;
-mod pages;
 mod peers;
 #[cfg(test)]
 mod tests;
@@ -15,5 +14,4 @@ pub use archive::{Archive, ArchiveFault, GREATEST_NUMBER};
 pub use chains::Chain;
 pub use entry::{Bodies, Body, Entry};
 pub use ids::{id_is_text, id_of_number, id_text, ids_differ, number_of};
-pub use pages::page_is_a_cut;
 pub use peers::{bare_form, chain_is_walked};

@@ -152,16 +152,26 @@ fn hands_out_its_entries(rt: HostRuntime) -> Result<(), Fail> {
     Ok(())
 }
 
-#[test]
-fn tells_an_entrys_peer(rt: HostRuntime) -> Result<(), Fail> {
-    let sent = entry(
-        rt.alloc(),
+/// From whom an entry is, to whom, and its peer.
+static ADDRESSES: [(&str, &str, &str); 2] = [
+    (
         "juliet@capulet.example/balcony",
         "romeo@montague.example/orchard",
-    )?;
-    assert_eq!(rt; sent.peer(OWNER), "romeo@montague.example");
-    let came = entry(rt.alloc(), "nurse@capulet.example/hall", OWNER)?;
-    assert_eq!(rt; came.peer(OWNER), "nurse@capulet.example");
+        "romeo@montague.example",
+    ),
+    (
+        "nurse@capulet.example/hall",
+        "juliet@capulet.example",
+        "nurse@capulet.example",
+    ),
+];
+
+#[test]
+fn tells_an_entrys_peer(rt: HostRuntime) -> Result<(), Fail> {
+    for (from, to, peer) in ADDRESSES {
+        let message = entry(rt.alloc(), from, to)?;
+        assert_eq!(rt; message.peer(OWNER), peer);
+    }
     Ok(())
 }
 

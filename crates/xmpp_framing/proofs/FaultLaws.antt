@@ -4,13 +4,15 @@ use Rattle.std.proofs.lemmas.Bool.{cases_Bool, eqb-true, le-ltb, lt-ltb}
 use Rattle.std.specs.Option.{is_some}
 use Rattle.std.specs.Prelude.{codes, slice_index}
 use Rattle.xmpp_names.specs.Ends.{end_of}
-use Rattle.xmpp_names.specs.Starts.{Tag}
+use Rattle.xmpp_names.specs.Scopes.{Scope}
+use Rattle.xmpp_names.specs.Starts.{Tag, start_of}
 use Rattle.xmpp_names.specs.declared.faults.StartFault.{StartFault}
 use Rattle.xmpp_names.specs.declared.faults.StartFault.TheVariants as start
+use Rattle.xmpp_names.specs.declared.limits.TagLimits.{TagLimits}
 use Rattle.xmpp_tokens.specs.Characters.{is_white}
 use Rattle.xmpp_tokens.specs.Declarations.{declaration_of}
 use Rattle.xmpp_tokens.specs.References.{reference_goes_on, referred}
-use Rattle.xmpp_tokens.specs.Tags.{is_end}
+use Rattle.xmpp_tokens.specs.Tags.{is_end, is_qualified, start_at, tag_of}
 use Rattle.xmpp_tokens.specs.Utf8.{continues, ends_character, utf8_next}
 use Rattle.xmpp_tokens.specs.declared.declarations.Declaration.TheVariants as declaration
 use Rattle.xmpp_tokens.specs.declared.references.Reference.TheVariants as reference
@@ -18,13 +20,14 @@ use Rattle.xmpp_framing.specs.FaultRows.{Decides, EndsTag, Takes, whole}
 use Rattle.xmpp_framing.specs.Machine.{behind_byte, goes_on, is_too_long, run, step, taken, taken_in}
 use Rattle.xmpp_framing.specs.MarkupSteps.{ends_in_question, in_bang, in_declaration, in_question}
 use Rattle.xmpp_framing.specs.States.{State, Turn, counted, in_run, may_declare, moved, run_begun, token_place}
-use Rattle.xmpp_framing.specs.TagSteps.{begun, ends, ends_stream, footer_closes, header_tag, header_why, in_footer, in_opening, in_tag, is_header, is_spelled, is_too_deep, misplaced, misplaced_why, start_why, tag_anew, tag_closes, tag_here, tag_inside, tag_outside}
+use Rattle.xmpp_framing.specs.TagSteps.{begun, ends, ends_stream, footer_closes, header_tag, header_why, in_footer, in_opening, in_tag, is_header, is_spelled, is_too_deep, largest_limits, misplaced, misplaced_why, scope_in, start_why, tag_anew, tag_closes, tag_here, tag_in, tag_inside, tag_limits, tag_outside}
 use Rattle.xmpp_framing.specs.TextSteps.{between, in_reference, in_section, in_text, inside, is_forbidden, judged_section, text_inside, text_outside}
 use Rattle.xmpp_framing.specs.declared.faults.Fault.{Fault}
 use Rattle.xmpp_framing.specs.declared.faults.Why.{Why}
 use Rattle.xmpp_framing.specs.declared.faults.Why.TheVariants as why
 use Rattle.xmpp_framing.specs.declared.states.Mode.{Mode}
 use Rattle.xmpp_framing.specs.declared.states.Mode.TheVariants as mode
+use Rattle.xmpp_framing.specs.declared.states.Phase.{Phase}
 use Rattle.xmpp_framing.specs.declared.states.Phase.TheVariants as phase
 
 abbrev found_at : ℕ → Why → Option Fault
@@ -216,6 +219,14 @@ module _ (t : Turn) (inner : is_some t.state.here ≡ true) (h : EndsTag t.state
   unfolding tag_inside
   long_name started e near = tag_due t.state.places.token_at why.LongNamespace (rw (started, e, near) refl)
 
+  pub many_and_deep : is_end (whole t.state).token ≡ false → tag_here (whole t.state) ≡ Err start.TooManyAttributes → is_too_deep t.state ≡ true → Decides t 62 t.state.places.token_at why.TooDeep
+  unfolding tag_inside
+  many_and_deep started e far = tag_due t.state.places.token_at why.TooDeep (rw (started, e, far) refl)
+
+  pub long_and_deep : is_end (whole t.state).token ≡ false → tag_here (whole t.state) ≡ Err start.LongNamespace → is_too_deep t.state ≡ true → Decides t 62 t.state.places.token_at why.TooDeep
+  unfolding tag_inside
+  long_and_deep started e far = tag_due t.state.places.token_at why.TooDeep (rw (started, e, far) refl)
+
 module _ (t : Turn) (outer : is_some t.state.here ≡ false) (h : EndsTag t.state mode.Tag) where
   outside_due : (at : ℕ) (w : Why) → (tag_outside (moved t (whole (counted t.state)))).state.fault ≡ Some (record { at = at; why = w }) → Decides t 62 at w
   unfolding in_tag tag_closes
@@ -244,6 +255,22 @@ module _ (t : Turn) (outer : is_some t.state.here ≡ false) (h : EndsTag t.stat
       same_why start.LongNamespace = refl
       same_why start.NoMemory = refl
 
+  pub top_deep : (tag : Tag) → t.state.lexical.phase ≡ phase.Between → is_header (whole t.state) ≡ false → tag_here (whole t.state) ≡ Ok tag → is_too_deep t.state ≡ true → Decides t 62 t.state.places.token_at why.TooDeep
+  unfolding tag_outside is_header begun
+  top_deep tag p opens is far = outside_due t.state.places.token_at why.TooDeep (rw (p, opens, is, far) refl)
+
+  pub top_many : t.state.lexical.phase ≡ phase.Between → is_header (whole t.state) ≡ false → tag_here (whole t.state) ≡ Err start.TooManyAttributes → is_too_deep t.state ≡ true → Decides t 62 t.state.places.token_at why.TooDeep
+  unfolding tag_outside is_header
+  top_many p opens is far = outside_due t.state.places.token_at why.TooDeep (rw (p, opens, is, far) refl)
+
+  pub top_long : t.state.lexical.phase ≡ phase.Between → is_header (whole t.state) ≡ false → tag_here (whole t.state) ≡ Err start.LongNamespace → is_too_deep t.state ≡ true → Decides t 62 t.state.places.token_at why.TooDeep
+  unfolding tag_outside is_header
+  top_long p opens is far = outside_due t.state.places.token_at why.TooDeep (rw (p, opens, is, far) refl)
+
+  pub header_behind_declaration : (e : StartFault) → t.state.lexical.phase ≡ phase.Declared → is_header (whole t.state) ≡ true → tag_anew (whole t.state) ≡ Err e → Decides t 62 t.state.places.token_at (header_why e)
+  unfolding tag_outside header_tag is_header
+  header_behind_declaration e p opens is = outside_due t.state.places.token_at (header_why e) (rw (p, opens, is) refl)
+
   pub behind_declaration : t.state.lexical.phase ≡ phase.Declared → is_header (whole t.state) ≡ false → Decides t 62 t.state.places.token_at (misplaced_why (tag_here (whole t.state)))
   unfolding tag_outside misplaced is_header
   behind_declaration p opens = outside_due t.state.places.token_at (misplaced_why (tag_here (whole t.state))) (rw (p, opens) refl)
@@ -258,3 +285,28 @@ footer_fails t unquoted e = rw (unquoted, e) refl
 
 pub footer : (t : Turn) → EndsTag t.state mode.Footer → ends_stream (whole t.state) ≡ false → Decides t 62 t.state.places.token_at why.NotWellFormed
 footer t h e = due t mode.Footer 62 t.state.places.token_at why.NotWellFormed h.takes (footer_fails (moved t (counted t.state)) h.unquoted e)
+
+-- ---- `<>`
+
+nothing_read : (limits : TagLimits) (scope : Scope) → start_of limits scope (codes "<>") ≡ Err start.NotWellFormed
+unfolding start_of tag_of start_at is_qualified
+nothing_read limits scope = refl
+
+nothing_in_phase : (t : Turn) (p : Phase) → t.state.token ≡ codes "<>" → (tag_in p t).state.fault ≡ Some (record { at = t.state.places.token_at; why = why.NotWellFormed })
+unfolding header_tag misplaced is_header
+nothing_in_phase t phase.First e = rw (e, nothing_read (tag_limits t.state.limits) []) refl
+nothing_in_phase t phase.FirstDeclared e = rw (e, nothing_read (tag_limits t.state.limits) []) refl
+nothing_in_phase t phase.Between e = rw (e, nothing_read largest_limits (scope_in t.state.scopes), nothing_read (tag_limits t.state.limits) (scope_in t.state.scopes)) refl
+nothing_in_phase t phase.Declared e = rw (e, nothing_read largest_limits (scope_in t.state.scopes), nothing_read (tag_limits t.state.limits) (scope_in t.state.scopes)) refl
+nothing_in_phase t phase.Ended e = rw (e, nothing_read (tag_limits t.state.limits) (scope_in t.state.scopes)) refl
+
+nothing_closes : (t : Turn) (b : Bool) → is_some t.state.here ≡ b → t.state.token ≡ codes "<>" → (tag_closes t).state.fault ≡ Some (record { at = t.state.places.token_at; why = why.NotWellFormed })
+unfolding tag_closes tag_inside tag_outside
+nothing_closes t true inner e = rw (inner, e, nothing_read (tag_limits t.state.limits) (scope_in t.state.scopes)) refl
+nothing_closes t false outer e = rw outer (nothing_in_phase t t.state.lexical.phase e)
+
+pub without_name : (t : Turn) → EndsTag t.state mode.Opening → t.state.token ≡ codes "<" → Decides t 62 t.state.places.token_at why.NotWellFormed
+unfolding in_opening in_tag
+without_name t h one =
+    let unquoted : is_some t.state.lexical.quote ≡ false = rw h.unquoted refl in
+    due t mode.Opening 62 t.state.places.token_at why.NotWellFormed h.takes (rw unquoted (nothing_closes (moved t (whole (counted t.state))) (is_some t.state.here) refl (ap (λ bs. bs ++ 62 ∷ []) one)))

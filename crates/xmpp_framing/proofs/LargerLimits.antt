@@ -9,7 +9,7 @@ use Rattle.xmpp_names.specs.Headers.{opens_stream}
 use Rattle.xmpp_framing.specs.States.{State}
 use Rattle.xmpp_framing.specs.TagSteps.{is_header, largest_limits, scope_in, tag_here, tag_limits}
 
-shorter : (a b : ℕ) (own : Scope) → a ≤ b → All (IsShort a) own → All (IsShort b) own
+pub shorter : (a b : ℕ) (own : Scope) → a ≤ b → All (IsShort a) own → All (IsShort b) own
 shorter a b own le all = λ k d h. let first = all k d h in omega arith
 
 pub in_largest : (limits : TagLimits) (scope : Scope) (bytes : List ℕ) (t : Tag) → limits.attributes < 2 ^ 32 → limits.namespace_bytes < 2 ^ 32

@@ -10,8 +10,11 @@ pub mod TidyLaws
 pub mod TidyReads
 pub mod TidySteps
 mod Worked
+mod WorkedRuns
 mod WorkedGrammar
+mod WorkedReadings
 mod WorkedSpellings
+mod WorkedStreams
 pub mod WrittenNodes
 pub mod WrittenTags
 pub mod Stacks
@@ -23,6 +26,7 @@ pub mod Quiet
 pub mod FaultLaws
 pub mod PlainTexts
 pub mod PlainTags
+pub mod CountLaws
 pub mod TagEnds
 pub mod OneText
 pub mod OneSpelling
@@ -38,5 +42,21 @@ pub mod ReferenceRuns
 pub mod SectionBytes
 pub mod SectionRuns
 pub mod TextRuns
+pub mod SpelledTrees
+pub mod ElementTags
+pub mod ElementStates
+pub mod ElementRuns
+pub mod HeaderRuns
+pub mod ItemRuns
+pub mod StreamRuns
+pub mod RunPlaces
 pub mod DeclarationBytes
 pub mod DeclarationRuns
+pub mod ReadCharacters
+pub mod TextFronts
+pub mod OpenLevels
+pub mod ReadSoFar
+pub mod ReadOutside
+pub mod TextHands
+pub mod ReadInside
+pub mod ReadStreams

@@ -4,11 +4,11 @@ use Rattle.xmpp_framing.proofs.AttributeOrder.{sorted_attributes_IsAttrsOf, sort
 use Rattle.xmpp_framing.specs.Tidied.{text_node, tidied, tidied_behind, tidied_nodes}
 use Rattle.xmpp_framing.specs.Trees.{Elem, element, Nodes, no_nodes, child, text, joined, IsTree, AreTidy, NoTextFirst}
 
-tidy_text : (run : List ℕ) (rest : Nodes) → NoTextFirst rest → AreTidy rest → AreTidy (joined (text_node run) rest)
+pub tidy_text : (run : List ℕ) (rest : Nodes) → NoTextFirst rest → AreTidy rest → AreTidy (joined (text_node run) rest)
 tidy_text [] rest first tidy = tidy
 tidy_text (c ∷ cs) rest first tidy = (λ e. let is = e in cc, first, tidy)
 
-tidy_end : (run : List ℕ) → AreTidy (text_node run)
+pub tidy_end : (run : List ℕ) → AreTidy (text_node run)
 tidy_end [] = tt
 tidy_end (c ∷ cs) = (λ e. let is = e in cc, tt, tt)
 

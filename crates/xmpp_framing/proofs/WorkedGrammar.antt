@@ -23,59 +23,59 @@ use Rattle.xmpp_framing.specs.Texts.{IsText, data_alone, with_section}
 use Rattle.xmpp_framing.specs.Trees.{Elem, element, Nodes, no_nodes, child, text}
 use Rattle.xmpp_framing.proofs.SpelledTexts.{no_text}
 
-abbrev limits : TagLimits
+abbrev pub limits : TagLimits
 limits = record { attributes = 9; namespace_bytes = 99 }
 
-abbrev outer : List ℕ
+abbrev pub outer : List ℕ
 outer = codes "<a b = \"1\" xmlns:p='u' >"
 
-abbrev outer_tag : Tag
+abbrev pub outer_tag : Tag
 outer_tag = record { spelled = codes "a"; ns = client_namespace; name = codes "a"; attributes = record { ns = []; name = codes "b"; value = codes "1" } ∷ []; bindings = bind (codes "p") (codes "u") ∷ []; empty = false }
 
-outer_is : start_of limits written_scope outer ≡ Ok outer_tag
+pub outer_is : start_of limits written_scope outer ≡ Ok outer_tag
 unfolding start_of parted_tag attributes_in past_limits element_ns attribute_ns expanded_name bound prefix_of local_of declared_prefix may_declare tag_of start_at inside_of spelled_at is_qualified value_of are_characters is_utf8 chars encode value_byte text_byte
 outer_is = refl
 
-abbrev inside : Scope
+abbrev pub inside : Scope
 inside = bind (codes "p") (codes "u") ∷ written_scope
 
-abbrev inner : List ℕ
+abbrev pub inner : List ℕ
 inner = codes "<p:c/>"
 
-abbrev inner_tag : Tag
+abbrev pub inner_tag : Tag
 inner_tag = record { spelled = codes "p:c"; ns = codes "u"; name = codes "c"; attributes = []; bindings = []; empty = true }
 
-inner_is : start_of limits inside inner ≡ Ok inner_tag
+pub inner_is : start_of limits inside inner ≡ Ok inner_tag
 unfolding start_of parted_tag attributes_in past_limits element_ns attribute_ns expanded_name bound prefix_of local_of declared_prefix may_declare tag_of start_at inside_of spelled_at is_qualified value_of are_characters is_utf8 chars encode value_byte text_byte
 inner_is = refl
 
-abbrev section : List ℕ
+abbrev pub section : List ℕ
 section = codes "<![CDATA[x]]>"
 
-abbrev inner_element : Elem
+abbrev pub inner_element : Elem
 inner_element = element (codes "u") (codes "c") [] no_nodes
 
-inner_spelled : Spells inside inner inner_element
+unfoldable pub inner_spelled : Spells inside inner inner_element
 unfolding IsStrictlySortedBy
 inner_spelled =
     let start = (laws.read limits inside inner inner_tag).0 inner_is in
     empty inside inner inner_element start.0 inner_tag start.1 refl (record { attributes = []; sorted = record { ascending = tt; firsts = λ ns name. refl }; is = refl })
 
-section_is : IsText section (codes "x")
+pub section_is : IsText section (codes "x")
 unfolding are_characters is_utf8 chars encode
 section_is = record {
   characters = record { utf8 = IsUtf8-from_is_utf8 section refl; characters = refl };
   spelled = with_section section (codes "x") [] (codes "x") [] [] (record { no_markup = refl; no_section_end = refl }) refl (data_alone [] [] (record { no_markup = refl; no_section_end = refl }) refl) refl refl;
 }
 
-close_is : IsTag (codes "</a >") (end_tag (codes "a"))
+pub close_is : IsTag (codes "</a >") (end_tag (codes "a"))
 unfolding is_qualified are_characters is_utf8 chars encode
 close_is = record { space = 32 ∷ []; bytes_are = refl; name_is = refl; space_white = refl }
 
-abbrev kids : Nodes
+abbrev pub kids : Nodes
 kids = child inner_element (text (codes "x") no_nodes)
 
-spelled : Spells written_scope (codes "<a b = \"1\" xmlns:p='u' ><p:c/><![CDATA[x]]></a >") (element client_namespace (codes "a") (attribute [] (codes "b") (codes "1") ∷ []) kids)
+unfoldable pub spelled : Spells written_scope (codes "<a b = \"1\" xmlns:p='u' ><p:c/><![CDATA[x]]></a >") (element client_namespace (codes "a") (attribute [] (codes "b") (codes "1") ∷ []) kids)
 unfolding IsStrictlySortedBy
 spelled =
     let start = (laws.read limits written_scope outer outer_tag).0 outer_is in

@@ -5,6 +5,7 @@ use Rattle.std.specs.List.Sorted.{IsStrictlySortedBy}
 use Rattle.std.specs.Ordering.{is_lt, match_ordering, nat_cmp, on, then_cmp}
 use Rattle.std.specs.Str.{bytes_eq}
 use Rattle.std.specs.declared.cmp.Ordering.{Ordering}
+use Rattle.xmpp_names.specs.declared.expansion.ExpandedAttribute.{ExpandedAttribute}
 use Rattle.xmpp_framing.specs.declared.attributes.Attr.{Attr}
 
 -- an attribute: its namespace (empty where it has none), its name without a prefix, and its value
@@ -13,6 +14,10 @@ Attribute = Attr
 
 abbrev pub attribute : List ℕ → List ℕ → List ℕ → Attribute
 attribute ns name value = record { ns = ns; name = name; value = value }
+
+-- the attribute of an element that one of its start tag is, its name expanded
+abbrev pub attribute_of : ExpandedAttribute → Attribute
+attribute_of a = attribute a.ns a.name a.value
 
 -- the order of names: by the bytes of the namespace, and then by the bytes of the name
 abbrev pub name_order : Attribute → Attribute → Ordering

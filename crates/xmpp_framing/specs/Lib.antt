@@ -5,6 +5,7 @@ pub mod Plain
 pub mod Readers
 pub mod Runs
 pub mod Spells
+pub mod Streams
 pub mod Texts
 pub mod Tidied
 pub mod Trees
@@ -19,3 +20,6 @@ pub mod StateCodes
 pub mod FramerView
 pub mod FaultRows
 pub mod ManyBytes
+pub mod Within
+pub mod Standing
+pub mod StreamLimits

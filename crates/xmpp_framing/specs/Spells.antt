@@ -7,19 +7,15 @@ use Rattle.xmpp_names.specs.Grammar.{IsStart}
 use Rattle.xmpp_names.specs.Headers.{header_of}
 use Rattle.xmpp_names.specs.Scopes.{Scope}
 use Rattle.xmpp_names.specs.Starts.{Tag}
-use Rattle.xmpp_names.specs.declared.expansion.ExpandedAttribute.{ExpandedAttribute}
 use Rattle.xmpp_names.specs.declared.headers.Header.{Header}
 use Rattle.xmpp_names.specs.declared.scopes.Binding.{Binding}
-use Rattle.xmpp_framing.specs.Attributes.{Attribute, attribute, IsAttrsOf}
+use Rattle.xmpp_framing.specs.Attributes.{Attribute, attribute_of, IsAttrsOf}
 use Rattle.xmpp_framing.specs.Canon.{client_namespace, streams_namespace}
 use Rattle.xmpp_framing.specs.Texts.{IsText}
 use Rattle.xmpp_framing.specs.Tidied.{text_node}
 use Rattle.xmpp_framing.specs.declared.items.Item.{Item}
 use Rattle.xmpp_framing.specs.declared.items.Item.TheVariants as item
 use Rattle.xmpp_framing.specs.Trees.{Elem, element, Nodes, no_nodes, child, joined, namespace_of, name_of}
-
-abbrev pub attribute_of : ExpandedAttribute → Attribute
-attribute_of a = attribute a.ns a.name a.value
 
 -- The element that a start tag begins, with these nodes inside: the attributes are the tag's, in the order of their
 -- names.
@@ -69,6 +65,24 @@ pub record SpellsHeader (bytes name : List ℕ) (scope : Scope) (h : Header) : T
 -- name.
 pub record SpellsNextHeader (scope : Scope) (bytes name : List ℕ) (inner : Scope) (h : Header) : Type 0 where
   pub spelled : SpellsHeader bytes name inner h
+  pub raw : List tokens.Attribute
+  pub tag : Tag
+  pub start : IsStart scope bytes raw tag
+  pub named : IsHeaderName tag.ns tag.name
+
+-- Bytes are a header's tag that is one of an empty element: it is header and footer together, and spells neither alone.
+pub record SpellsEmptyHeader (bytes name : List ℕ) (scope : Scope) (h : Header) : Type 0 where
+  pub raw : List tokens.Attribute
+  pub tag : Tag
+  pub start : IsStart [] bytes raw tag
+  pub is_empty : tag.empty ≡ true
+  pub name_is : tag.spelled ≡ name
+  pub scope_is : tag.bindings ≡ scope
+  pub says : h ≡ header_of tag
+
+-- The same behind another header, as in `SpellsNextHeader`.
+pub record SpellsNextEmptyHeader (scope : Scope) (bytes name : List ℕ) (inner : Scope) (h : Header) : Type 0 where
+  pub spelled : SpellsEmptyHeader bytes name inner h
   pub raw : List tokens.Attribute
   pub tag : Tag
   pub start : IsStart scope bytes raw tag

@@ -9,12 +9,11 @@ use Rattle.xmpp_names.specs.Ends.{end_of}
 use Rattle.xmpp_names.specs.Headers.{header_of, opens_stream}
 use Rattle.xmpp_names.specs.Scopes.{Scope}
 use Rattle.xmpp_names.specs.Starts.{Tag, start_of}
-use Rattle.xmpp_names.specs.declared.expansion.ExpandedAttribute.{ExpandedAttribute}
 use Rattle.xmpp_names.specs.declared.headers.Header.{Header}
 use Rattle.xmpp_names.specs.declared.faults.StartFault.{StartFault}
 use Rattle.xmpp_names.specs.declared.faults.StartFault.TheVariants as start
 use Rattle.xmpp_names.specs.declared.limits.TagLimits.{TagLimits}
-use Rattle.xmpp_framing.specs.Attributes.{Attribute, attribute, sorted_attributes}
+use Rattle.xmpp_framing.specs.Attributes.{attribute_of, sorted_attributes}
 use Rattle.xmpp_framing.specs.MarkupSteps.{in_phase}
 use Rattle.xmpp_framing.specs.States.{OpenElement, State, Turn, gathered, gathered_in, gives, item_ended, may_declare, moved, open_count, token_ended, token_fails, turn, with_more, with_text}
 use Rattle.xmpp_framing.specs.Tidied.{tidied}
@@ -65,12 +64,9 @@ is_header s = says_stream (start_of largest_limits (scope_in s.scopes) s.token)
 
 -- ---- elements
 
-abbrev pub attribute_from : ExpandedAttribute → Attribute
-attribute_from a = attribute a.ns a.name a.value
-
 -- the element that a start tag begins, its attributes in the order of a tree
 abbrev pub element_from : Tag → Elem
-element_from t = element t.ns t.name (sorted_attributes (map attribute_from t.attributes)) no_nodes
+element_from t = element t.ns t.name (sorted_attributes (map attribute_of t.attributes)) no_nodes
 
 abbrev pub text_joined : Option OpenElement → List ℕ → Option OpenElement
 text_joined None chars = None

@@ -1,10 +1,10 @@
 //! Elements under construction.
 ghost use Rattle.std.specs.Prelude.{◌≡◌, [], map, string_bytes, IfOk, OnOk, OnErr};
-ghost use Rattle.xmpp_framing.specs.Attributes.{sorted_attributes};
+ghost use Rattle.xmpp_framing.specs.Attributes.{attribute_of, sorted_attributes};
 ghost use Rattle.xmpp_framing.specs.FramerView.{open_of};
 ghost use Rattle.xmpp_framing.specs.States.{gives, item_ended, moved, turn, with_text};
 ghost use Rattle.xmpp_framing.specs.TagSteps;
-ghost use Rattle.xmpp_framing.specs.TagSteps.{added, attribute_from, closed, deeper, element_from, joined_text, leaf, level, shallower};
+ghost use Rattle.xmpp_framing.specs.TagSteps.{added, closed, deeper, element_from, joined_text, leaf, level, shallower};
 ghost use Rattle.xmpp_framing.specs.Trees.{element, no_nodes};
 ghost use Rattle.xmpp_framing.specs.Views.{elem_view};
 ghost use Rattle.xmpp_names.specs.TagView.{tag_view};
@@ -22,7 +22,7 @@ use xmpp_names::{ExpandedAttribute, Tag};
 
 // The attributes of a tag in the order of a tree, moved.
 fn attrs_of(alloc: Global, attributes: Vec<ExpandedAttribute>) -> Result<Attrs, NoMemory>
-    ensures { IfOk result (λ attrs. attrs.items ≡ sorted_attributes (map attribute_from attributes.items)) }
+    ensures { IfOk result (λ attrs. attrs.items ≡ sorted_attributes (map attribute_of attributes.items)) }
 {
     let mut attrs = Attrs::new(alloc);
     attrs.reserve(attributes.len())?;
@@ -40,7 +40,7 @@ fn element_of(
     name: Text,
     attributes: Vec<ExpandedAttribute>,
 ) -> Result<Element, NoMemory>
-    ensures { IfOk result (λ e. elem_view e ≡ element ns name (sorted_attributes (map attribute_from attributes.items)) no_nodes) }
+    ensures { IfOk result (λ e. elem_view e ≡ element ns name (sorted_attributes (map attribute_of attributes.items)) no_nodes) }
 {
     let attrs = attrs_of(alloc, attributes)?;
     Ok(Element {

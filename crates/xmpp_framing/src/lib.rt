@@ -22,7 +22,9 @@ mod reading;
 mod reading_laws;
 mod rule;
 mod runs;
+mod spelling_laws;
 mod states;
+mod stream_laws;
 mod tag_lengths;
 mod tag_writing;
 mod tags_in_hand;
@@ -51,6 +53,8 @@ pub use laws::{first_attributes_are_kept, tidy_element_reads_the_same, tidy_elem
 pub use limits::Limits;
 pub use reading::{find_attr, find_child, next_element, only_text_in, text_in};
 pub use reading_laws::spellings_are_unambiguous;
+pub use spelling_laws::{spelled_items_are_read, spelled_streams_are_read};
+pub use stream_laws::what_is_read_is_spelled;
 pub use trees::Tree;
 pub use writing::{spelled_len, write, write_footer, write_header};
 pub use writing_laws::{written_headers_are_spelled, written_trees_are_spelled};

@@ -15,6 +15,7 @@ use Rattle.xmpp_pages.specs.Matches.{is_wanted, with_passes}
 use Rattle.xmpp_pages.specs.Parties.{is_full, other_party}
 use Rattle.xmpp_archive.specs.Peers.{bare_form, first_of, is_slash, is_with, next_of, peer_of}
 use Rattle.xmpp_pages.specs.Spans.{number_of_entry, numbers_of}
+use Rattle.xmpp_pages.specs.Stretches.{is_plain}
 use Rattle.xmpp_pages.specs.Tallies.{IsTally}
 use Rattle.xmpp_pages.specs.Walks.{chain, head_number, is_in_chain, wanted_number, wanted_numbers}
 use Rattle.xmpp_pages.specs.declared.query.PageQuery.{PageQuery}
@@ -22,7 +23,7 @@ use Rattle.xmpp_pages.specs.declared.span.Span.{Span}
 use Rattle.xmpp_pages.specs.declared.tally.Tally.{Tally}
 
 -- an address without a resource is its own bare form
-bare_itself : (peer : List ℕ) → is_full peer ≡ false → bare_form peer ≡ peer
+pub bare_itself : (peer : List ℕ) → is_full peer ≡ false → bare_form peer ≡ peer
 bare_itself peer bare =
     let long : length peer ≤ position_or_len is_slash peer = grind (arith, nat_tests, bare) in
     take_all (position_or_len is_slash peer) peer long
@@ -92,7 +93,8 @@ pub record IsWalked (kept : Kept) (query : PageQuery) (span : Span) (had looks :
   pub parts : chain kept query ≡ before ++ rest
   pub head : next ≡ head_number rest
   pub counted : IsTally span (wanted_numbers kept.owner query before) tally
-  pub taken : looks ≤ had + 1 + 2 * length before
+  pub taken : looks ≤ had + 2 * length before
+  pub plain : is_plain query ≡ true → looks ≤ had + length before
 
 -- how much is left, where the last number is known
 abbrev pub steps_left : ℕ → Option ℕ → ℕ
@@ -100,7 +102,7 @@ steps_left last None = 0
 steps_left last (Some n) = last + 1 - n
 
 pub walk_begin : (kept : Kept) (query : PageQuery) (peer : List ℕ) (span : Span) (had looks : ℕ) (next : Option ℕ) (tally : Tally) →
-    query.peer ≡ Some peer → next ≡ first_of kept.owner (bare_form peer) kept.entries → IsTally span [] tally → looks ≤ had + 1 →
+    query.peer ≡ Some peer → next ≡ first_of kept.owner (bare_form peer) kept.entries → IsTally span [] tally → looks ≤ had →
     IsWalked kept query span had looks next tally
 walk_begin kept query peer span had looks next tally asks first none few =
     record {
@@ -111,6 +113,7 @@ walk_begin kept query peer span had looks next tally asks first none few =
           ∙ ap (λ asked. head_number (filter (is_in_chain kept.owner asked) kept.entries)) (sym asks);
       counted = none;
       taken = omega (arith, few);
+      plain = λ _. omega (arith, few);
     }
 
 -- the walk stands at an entry
@@ -124,7 +127,8 @@ pub record IsAt (kept : Kept) (query : PageQuery) (span : Span) (had looks numbe
   pub in_chain : is_in_chain kept.owner query.peer entry ≡ true
   pub next : next_of kept.owner number kept.entries ≡ head_number rest
   pub counted : IsTally span (wanted_numbers kept.owner query before) tally
-  pub taken : looks ≤ had + 1 + 2 * length before
+  pub taken : looks ≤ had + 2 * length before
+  pub plain : is_plain query ≡ true → looks ≤ had + length before
   pub room : tally.count + 1 ≤ length kept.entries
   pub low : number ≤ last_number kept.entries
   pub up : steps_left (last_number kept.entries) (head_number rest) < steps_left (last_number kept.entries) (Some number)
@@ -152,8 +156,8 @@ steps_fall n last before e (f ∷ rest) up low = let rises = behind_rises n befo
 
 at_entry : (kept : Kept) (query : PageQuery) (peer : List ℕ) (span : Span) (had looks number : ℕ) (tally : Tally) (before rest : List EntryView) (e : EntryView) →
     query.peer ≡ Some peer → AreConsecutive kept.entries → chain kept query ≡ before ++ e ∷ rest → number ≡ e.number →
-    IsTally span (wanted_numbers kept.owner query before) tally → looks ≤ had + 1 + 2 * length before → IsAt kept query span had looks number tally
-at_entry kept query peer span had looks number tally before rest e asks known parts is counted taken =
+    IsTally span (wanted_numbers kept.owner query before) tally → looks ≤ had + 2 * length before → (is_plain query ≡ true → looks ≤ had + length before) → IsAt kept query span had looks number tally
+at_entry kept query peer span had looks number tally before rest e asks known parts is counted taken plain =
     let first = first_number kept.entries in
     let last = last_number kept.entries in
     let at = placed first last kept.entries (record { consecutive = known; from = refl; to = refl }) in
@@ -177,6 +181,7 @@ at_entry kept query peer span had looks number tally before rest e asks known pa
       next = rw is (next_in_chain kept.owner (bare_form peer) (first - 1) kept.entries before e rest up left);
       counted = counted;
       taken = taken;
+      plain = plain;
       room = omega (arith, counted.count, few, size, all);
       low = rw is low;
       up = rw is (steps_fall (first - 1) last before e rest up_chain low);
@@ -184,23 +189,23 @@ at_entry kept query peer span had looks number tally before rest e asks known pa
 
 at_rest : (kept : Kept) (query : PageQuery) (peer : List ℕ) (span : Span) (had looks number : ℕ) (tally : Tally) (before rest : List EntryView) →
     query.peer ≡ Some peer → AreConsecutive kept.entries → chain kept query ≡ before ++ rest → Some number ≡ head_number rest →
-    IsTally span (wanted_numbers kept.owner query before) tally → looks ≤ had + 1 + 2 * length before → IsAt kept query span had looks number tally
-at_rest kept query peer span had looks number tally before [] asks known parts head counted taken = absurd (grind (arith, head))
-at_rest kept query peer span had looks number tally before (e ∷ rest) asks known parts head counted taken =
+    IsTally span (wanted_numbers kept.owner query before) tally → looks ≤ had + 2 * length before → (is_plain query ≡ true → looks ≤ had + length before) → IsAt kept query span had looks number tally
+at_rest kept query peer span had looks number tally before [] asks known parts head counted taken plain = absurd (grind (arith, head))
+at_rest kept query peer span had looks number tally before (e ∷ rest) asks known parts head counted taken plain =
     let is : number ≡ e.number = grind (arith, head) in
-    at_entry kept query peer span had looks number tally before rest e asks known parts is counted taken
+    at_entry kept query peer span had looks number tally before rest e asks known parts is counted taken plain
 
 pub walk_at : (kept : Kept) (query : PageQuery) (peer : List ℕ) (span : Span) (had looks number : ℕ) (next : Option ℕ) (tally : Tally) →
     query.peer ≡ Some peer → AreConsecutive kept.entries → next ≡ Some number → IsWalked kept query span had looks next tally →
     IsAt kept query span had looks number tally
 walk_at kept query peer span had looks number next tally asks known is walked =
-    at_rest kept query peer span had looks number tally walked.before walked.rest asks known walked.parts (sym is ∙ walked.head) walked.counted walked.taken
+    at_rest kept query peer span had looks number tally walked.before walked.rest asks known walked.parts (sym is ∙ walked.head) walked.counted walked.taken walked.plain
 
 pub walk_on : (kept : Kept) (query : PageQuery) (span : Span) (had looks more number : ℕ) (next : Option ℕ) (tally after : Tally) →
     (at : IsAt kept query span had looks number tally) → next ≡ next_of kept.owner number kept.entries →
-    IsTally span (wanted_numbers kept.owner query at.before ++ wanted_number kept.owner query at.entry) after → more ≤ looks + 2 →
+    IsTally span (wanted_numbers kept.owner query at.before ++ wanted_number kept.owner query at.entry) after → more ≤ looks + 2 → (is_plain query ≡ true → more ≤ looks + 1) →
     IsWalked kept query span had more next after
-walk_on kept query span had looks more number next tally after at is counted few =
+walk_on kept query span had looks more number next tally after at is counted few fewer =
     record {
       before = at.before ++ at.entry ∷ [];
       rest = at.rest;
@@ -208,6 +213,7 @@ walk_on kept query span had looks more number next tally after at is counted few
       head = is ∙ at.next;
       counted = rw (wanted_push kept.owner query at.before at.entry) counted;
       taken = omega (arith, few, at.taken, length-append at.before (at.entry ∷ []));
+      plain = λ is_so. omega (arith, fewer is_so, at.plain is_so, length-append at.before (at.entry ∷ []));
     }
 
 nothing_left : (next : Option ℕ) (rest : List EntryView) → next ≡ None → next ≡ head_number rest → rest ≡ []

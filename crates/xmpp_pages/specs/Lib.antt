@@ -10,3 +10,4 @@ pub mod Spans
 pub mod Windows
 pub mod Tallies
 pub mod Walks
+pub mod Stretches

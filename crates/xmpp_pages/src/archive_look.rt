@@ -3,7 +3,7 @@ ghost use Rattle.xmpp_archive.specs.Entries.{ArchiveView};
 ghost use Rattle.xmpp_pages.specs.Kept.{Kept, kept_of};
 
 use crate::looks::Look;
-use xmpp_archive::{Archive, Entry};
+use xmpp_archive::{Archive, Chain, Entry};
 
 /// The calls by which a page is found, at an archive in memory.
 #[derive(Drop)]
@@ -52,5 +52,28 @@ impl Look for ArchiveLook<'_> {
     fn next_of(&mut self, number: u64) -> Option<u64> {
         self.looks = self.looks.saturating_add(1);
         self.archive.next_of(number)
+    }
+
+    fn chain(&mut self, peer: &str) -> Option<Chain> {
+        self.looks = self.looks.saturating_add(1);
+        self.archive.chain(peer)
+    }
+
+    fn previous_of(&mut self, number: u64) -> Option<u64> {
+        self.looks = self.looks.saturating_add(1);
+        self.archive.previous_of(number)
+    }
+
+    fn index_of(&mut self, number: u64) -> Option<u64> {
+        self.looks = self.looks.saturating_add(1);
+        self.archive.index_of(number)
+    }
+
+    fn is_with(&mut self, number: u64, peer: &str) -> bool {
+        self.looks = self.looks.saturating_add(1);
+        match self.archive.get(number) {
+            Some(entry) => entry.peer(self.archive.owner()) == peer,
+            None => false,
+        }
     }
 }

@@ -9,6 +9,7 @@ mod passing;
 mod plain;
 mod query;
 mod span;
+mod stretch;
 mod tally;
 #[cfg(test)]
 mod tests;

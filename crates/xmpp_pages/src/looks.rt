@@ -5,9 +5,10 @@ ghost use Rattle.std.specs.Option.{option_copied};
 ghost use Rattle.xmpp_archive.specs.Entries.{entry_numbered};
 ghost use Rattle.xmpp_edge.specs.Counts.{counted};
 ghost use Rattle.xmpp_pages.specs.Kept.{AreConsecutive, Kept, first_number, last_number};
-ghost use Rattle.xmpp_archive.specs.Peers.{first_of, next_of};
+ghost use Rattle.xmpp_archive.specs.Peers.{chain_ends, first_of, index_of, next_of, previous_of};
+ghost use Rattle.xmpp_pages.specs.Stretches.{is_number_with};
 
-use xmpp_archive::Entry;
+use xmpp_archive::{Chain, Entry};
 
 /// What a page is found with: the calls by which an archive is looked at. Contracts alone see two things of it: the
 /// `archive` for which it stands, which no call changes, and the number of `looks`, which stays at 2^64 - 1 once
@@ -45,6 +46,33 @@ pub trait Look {
     /// there is none, or no entry has this one. This is a look.
     fn next_of(&mut self, number: u64) -> Option<u64>
         ensures number { result ≡ next_of (archive self.old).owner number (archive self.old).entries }
+        ensures archive { archive self.new ≡ archive self.old }
+        ensures looks { looks self.new ≡ counted (looks self.old) };
+
+    /// The numbers of the first and of the last entry with that peer, and how many there are, and `None` where there is
+    /// none. This is a look.
+    fn chain(&mut self, peer: &str) -> Option<Chain>
+        ensures ends { result ≡ chain_ends (archive self.old).owner peer.now (archive self.old).entries }
+        ensures archive { archive self.new ≡ archive self.old }
+        ensures looks { looks self.new ≡ counted (looks self.old) };
+
+    /// The greatest number below this one of an entry with the same peer as the entry with this one, and `None` where
+    /// there is none, or no entry has this one. This is a look.
+    fn previous_of(&mut self, number: u64) -> Option<u64>
+        ensures number { result ≡ previous_of (archive self.old).owner number (archive self.old).entries }
+        ensures archive { archive self.new ≡ archive self.old }
+        ensures looks { looks self.new ≡ counted (looks self.old) };
+
+    /// How many entries with the same peer stand before the entry with a number, and `None` where no entry has it. This
+    /// is a look.
+    fn index_of(&mut self, number: u64) -> Option<u64>
+        ensures index { result ≡ index_of (archive self.old).owner number (archive self.old).entries }
+        ensures archive { archive self.new ≡ archive self.old }
+        ensures looks { looks self.new ≡ counted (looks self.old) };
+
+    /// Whether there is an entry with a number and it is with that peer. This is a look.
+    fn is_with(&mut self, number: u64, peer: &str) -> bool
+        ensures answer { result ≡ is_number_with (archive self.old) peer.now number }
         ensures archive { archive self.new ≡ archive self.old }
         ensures looks { looks self.new ≡ counted (looks self.old) };
 }

@@ -1,10 +1,11 @@
-ghost use Rattle.std.specs.Prelude.{◌≡◌, ℕ, ◌+◌, ◌*◌, ◌<◌, ◌≤◌, ◌^◌, ◌↔◌, List, Some, None, false, length, IfOk, IsErrOf};
+ghost use Rattle.std.specs.Prelude.{◌≡◌, ℕ, ◌+◌, ◌*◌, ◌<◌, ◌≤◌, ◌^◌, ◌↔◌, List, Some, None, true, false, length, IfOk, IsErrOf};
 ghost use Rattle.xmpp_archive.specs.Peers.{bare_form};
-ghost use Rattle.xmpp_pages.specs.Kept.{AreConsecutive};
+ghost use Rattle.xmpp_pages.specs.Kept.{AreConsecutive, last_number};
 ghost use Rattle.xmpp_pages.specs.Matches.{matching};
-ghost use Rattle.xmpp_pages.specs.PageOf.{page_of};
+ghost use Rattle.xmpp_pages.specs.PageOf.{most_of, page_of};
 ghost use Rattle.xmpp_pages.specs.Parties.{is_full};
 ghost use Rattle.xmpp_pages.specs.Spans.{IsNumbered, cut_by, numbers_of};
+ghost use Rattle.xmpp_pages.specs.Stretches.{IsOpenSpan, edge_of, is_edge_with, is_place_with, is_plain};
 ghost use Rattle.xmpp_pages.specs.Walks.{entries_with};
 
 use crate::cut::{PageCut, PageFault};
@@ -12,6 +13,7 @@ use crate::looks::Look;
 use crate::passing::asks_no_more;
 use crate::query::PageQuery;
 use crate::span::{Span, span_of};
+use crate::stretch::cut_of_account;
 use crate::walks::{tally_of_chain, tally_of_list};
 use crate::whole::cut_of_all;
 use std::alloc::Global;
@@ -34,6 +36,33 @@ fn cut_of_chain<V: Look>(
     ensures looks { V.looks look.new ≤ V.looks look.old + (2 * entries_with (bare_form peer.now) (V.archive look.old) + 1) }
 {
     tally_of_chain(look, query, peer, span).cut(alloc)
+}
+
+// The page out of the entries with an account: found from its place where each of them matches, else out of the chain.
+fn cut_of_peer<V: Look>(
+    alloc: Global,
+    look: &mut V,
+    query: &PageQuery,
+    peer: &str,
+    span: Span,
+    last: u64,
+) -> Result<PageCut, NoMemory>
+    requires most { span.most ≤ 100 }
+    requires peer { query.now.peer ≡ Some peer.now }
+    requires consecutive { AreConsecutive (V.archive look.old).entries }
+    requires few { length (V.archive look.old).entries < 2 ^ 64 }
+    requires last { last_number (V.archive look.old).entries ≡ last }
+    requires reach { IsOpenSpan last span }
+    ensures cut { IfOk result (λ cut. cut ≡ cut_by span (numbers_of (matching (V.archive look.old) query.now))) }
+    ensures archive { V.archive look.new ≡ V.archive look.old }
+    ensures looks { V.looks look.new ≤ V.looks look.old + (2 * entries_with (bare_form peer.now) (V.archive look.old) + 1) }
+    ensures bounded { is_plain query.now ≡ true → is_edge_with (V.archive look.old) peer.now (edge_of span last) ≡ true → V.looks look.new ≤ V.looks look.old + (span.most + 3) }
+{
+    if asks_no_more(query) {
+        cut_of_account(alloc, look, query, peer, span, last)
+    } else {
+        cut_of_chain(alloc, look, query, peer, span)
+    }
 }
 
 // The page out of the whole list.
@@ -71,16 +100,18 @@ fn cut_out<V: Look>(
     last: u64,
 ) -> Result<PageCut, NoMemory>
     requires most { span.most ≤ 100 }
-    requires through { span.through ≤ last }
+    requires reach { IsOpenSpan last span }
     requires numbered { IsNumbered first last (V.archive look.old).entries }
     ensures cut { IfOk result (λ cut. cut ≡ cut_by span (numbers_of (matching (V.archive look.old) query.now))) }
     ensures archive { V.archive look.new ≡ V.archive look.old }
+    ensures bounded { (peer : List ℕ) → query.now.peer ≡ Some peer → is_plain query.now ≡ true → is_edge_with (V.archive look.old) peer (edge_of span last) ≡ true →
+        V.looks look.new ≤ V.looks look.old + (span.most + 3) }
     ensures account { (peer : List ℕ) → query.now.peer ≡ Some peer → V.looks look.new ≤ V.looks look.old + (2 * entries_with (bare_form peer) (V.archive look.old) + 1) }
     ensures everybody { query.now.peer ≡ None → V.looks look.new ≤ V.looks look.old + length (V.archive look.old).entries }
     ensures unfiltered { query.now.peer ≡ None → query.now.start ≡ None → query.now.end ≡ None → V.looks look.new ≡ V.looks look.old }
 {
     match &query.peer {
-        Some(peer) => cut_of_chain(alloc, look, query, peer.as_str(), span),
+        Some(peer) => cut_of_peer(alloc, look, query, peer.as_str(), span, last),
         None => cut_of_list(alloc, look, query, span, first, last),
     }
 }
@@ -94,7 +125,10 @@ fn cut_out<V: Look>(
 /// `NoMemory` where no memory is left for the page's numbers. The archive stays as it was.
 ///
 /// Where `peer` is given, two looks are taken at most for each entry with that account, and one more; without `peer`
-/// at most one for each entry, and none where nothing else narrows the query down.
+/// at most one for each entry, and none where nothing else narrows the query down. Where `peer` has no resource and
+/// neither `start` nor `end` is given, the page is found from its place: one look for each entry that it may have, and
+/// three more, however many entries stand outside it, if `place` is `First` or `Last` or its id is that of an entry
+/// with the peer.
 pub fn page<V: Look>(alloc: Global, look: &mut V, query: &PageQuery) -> Result<PageCut, PageFault>
     ensures page { IfOk result (λ cut. page_of (V.archive look.old) query.now ≡ Some cut) }
     ensures not_found { IsErrOf result PageFault.NotFound ↔ (page_of (V.archive look.old) query.now ≡ None) }
@@ -104,6 +138,9 @@ pub fn page<V: Look>(alloc: Global, look: &mut V, query: &PageQuery) -> Result<P
         V.looks look.new ≤ V.looks look.old + (2 * entries_with peer (V.archive look.old) + 1) }
     ensures full { (peer : List ℕ) → query.now.peer ≡ Some peer →
         V.looks look.new ≤ V.looks look.old + (2 * entries_with (bare_form peer) (V.archive look.old) + 1) }
+    // the page is found from its place
+    ensures bounded { (peer : List ℕ) → query.now.peer ≡ Some peer → is_full peer ≡ false → query.now.start ≡ None → query.now.end ≡ None →
+        is_place_with (V.archive look.old) peer query.now.place ≡ true → V.looks look.new ≤ V.looks look.old + (most_of query.now.max + 3) }
     ensures everybody { query.now.peer ≡ None → V.looks look.new ≤ V.looks look.old + length (V.archive look.old).entries }
     ensures unfiltered { query.now.peer ≡ None → query.now.start ≡ None → query.now.end ≡ None → V.looks look.new ≡ V.looks look.old }
 {

@@ -3,6 +3,7 @@ ghost use Rattle.std.specs.Prelude.{◌≡◌, ◌↔◌, List, ℕ, true, Some,
 ghost use Rattle.xmpp_archive.specs.Entries.{EntryView};
 ghost use Rattle.xmpp_pages.specs.Matches.{end_passes, is_wanted, stamp_passes, start_passes, with_passes};
 ghost use Rattle.xmpp_pages.specs.Parties.{is_full, other_party};
+ghost use Rattle.xmpp_pages.specs.Stretches.{is_plain};
 ghost use Rattle.xmpp_pages.specs.Walks.{is_in_chain, is_own};
 
 use crate::query::PageQuery;
@@ -66,6 +67,7 @@ pub(crate) fn passes(entry: &Entry, query: &PageQuery, own: bool) -> bool
 pub(crate) fn asks_no_more(query: &PageQuery) -> bool
     ensures all { (owner : List ℕ) → (entry : EntryView) → result ≡ true → is_in_chain owner query.now.peer entry ≡ true → is_wanted owner query.now entry ≡ true }
     ensures none { query.now.peer ≡ None → query.now.start ≡ None → query.now.end ≡ None → result ≡ true }
+    ensures plain { result ≡ is_plain query.now }
 {
     let account = match &query.peer {
         Some(peer) => !has_resource(peer.as_str()),

@@ -1,6 +1,7 @@
 ghost use Rattle.std.specs.Prelude.{◌≡◌, ◌≤◌, ◌<◌, IfSome};
 ghost use Rattle.xmpp_pages.specs.PageOf.{most_of};
 ghost use Rattle.xmpp_pages.specs.Spans.{IsNumberOf, IsSpanOf};
+ghost use Rattle.xmpp_pages.specs.Stretches.{IsEdgeOf, IsOpenSpan};
 
 use crate::query::{PageQuery, Place};
 use xmpp_archive::{ids_differ, number_of};
@@ -44,6 +45,9 @@ pub(crate) fn span_of(query: &PageQuery, first: u64, last: u64) -> Option<Span>
     ensures span { IsSpanOf query.now first last result }
     ensures through { IfSome result (λ span. span.through ≤ last) }
     ensures most { IfSome result (λ span. span.most ≤ 100) }
+    ensures max { IfSome result (λ span. span.most ≡ most_of query.now.max) }
+    ensures reach { IfSome result (λ span. IsOpenSpan last span) }
+    ensures edge { IfSome result (λ span. IsEdgeOf query.now first last span) }
 {
     let most = most(query.max);
     let (after, through, backward) = match &query.place {

@@ -6,7 +6,7 @@ use std::marker::Model;
 use xmpp_edge::{ListOf, NoMemory, Numbers};
 
 /// The most numbers that a window may have.
-const SLOTS: usize = 100;
+pub(crate) const SLOTS: usize = 100;
 
 // The first or the last of the numbers that were put in. Once the slots are full, the oldest number stands at `at`.
 #[derive(Drop)]
@@ -89,7 +89,7 @@ impl Window {
 }
 
 // Adds numbers at the end of a list that has room for them.
-fn push_all(numbers: &mut Numbers, more: &[u64])
+pub(crate) fn push_all(numbers: &mut Numbers, more: &[u64])
     requires { length more.now ≤ numbers.old.spare }
     ensures items { numbers.new.items ≡ numbers.old.items ++ more.now }
     ensures spare { numbers.old.spare ≤ numbers.new.spare + length more.now }

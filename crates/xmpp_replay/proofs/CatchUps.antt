@@ -3,46 +3,14 @@ use Rattle.std.proofs.Common.{◌≡◌, ℕ, zero, suc, add-one, ◌+◌, ◌-�
 use Rattle.std.proofs.lemmas.Bool.{cond_both, leb-false}
 use Rattle.std.proofs.lemmas.List.{append-nil, drop-take, get_or-drop, length-append, length-drop, length-map, length-take, map-append, map_push, take-append-drop, take-take, take_more}
 use Rattle.std.proofs.lemmas.List.Concat.{flat_map-append}
-use Rattle.std.proofs.lemmas.Option.{get_or_from_slice_get}
-use Rattle.xmpp_archive.proofs.NumberedEntries.{at_place}
-use Rattle.xmpp_archive.proofs.PageCuts.{page_after}
 use Rattle.xmpp_archive.specs.Entries.{AreNumbered, EntryView}
-use Rattle.xmpp_archive.specs.Ids.{id_of}
-use Rattle.xmpp_archive.specs.Pages.{Page, page_behind, page_of}
 use Rattle.xmpp_log.specs.LogPages.{LogPage, last_id, log_of, tile_of}
 use Rattle.xmpp_log.specs.Views.{LogView}
 use Rattle.xmpp_log.specs.declared.log_entry.LogEntry.{LogEntry}
-use Rattle.xmpp_replay.specs.Direct.{as_logged, as_taken_over, catch_up, place_behind}
-use Rattle.xmpp_replay.specs.Turns.{IsFrontOf, IsLogOf, caught_up, log_after, with_turn}
-
-pub last_id_push : (es : List LogEntry) (e : LogEntry) → last_id (es ++ e ∷ []) ≡ Some e.id
-last_id_push [] e = refl
-last_id_push (x ∷ []) e = refl
-last_id_push (x ∷ y ∷ es) e = last_id_push (y ∷ es) e
-
--- the last of the first k entries has the id of k
-pub last_of_front : (k : ℕ) (archive : List EntryView) → AreNumbered (length archive) archive → k < length archive →
-    last_id (map as_logged (take (k + 1) archive)) ≡ Some (id_of (k + 1))
-last_of_front k archive known within =
-    let place = at_place k archive within in
-    let is : get_or archive k place.0 ≡ place.0 = get_or_from_slice_get archive k place.0 place.0 place.1 in
-    let cut : take (k + 1) archive ≡ take k archive ++ place.0 ∷ [] =
-    take_more archive k place.0 within ∙ ap (λ e. take k archive ++ e ∷ []) is in
-    let number : place.0.number ≡ k + 1 = let n : place.0.number + length archive ≡ length archive + 1 + k = known.each k place.0 place.1 in omega arith in
-    ap (λ es. last_id (map as_logged es)) cut
-    ∙ ap last_id (map_push as_logged (take k archive) place.0)
-    ∙ last_id_push (map as_logged (take k archive)) (as_logged place.0)
-    ∙ ap (λ n. Some (id_of n)) number
-
--- the page behind the first k entries
-pub page_behind_front : (k most : ℕ) (archive : List EntryView) → AreNumbered (length archive) archive → length archive < 2 ^ 64 → k ≤ length archive →
-    page_of (place_behind (last_id (map as_logged (take k archive)))) most archive ≡ Some (page_behind k most archive)
-page_behind_front zero most archive known small within = refl
-page_behind_front (suc k) most archive known small within =
-    let last : last_id (map as_logged (take (suc k) archive)) ≡ Some (id_of (suc k)) =
-    ap (λ n. last_id (map as_logged (take n archive))) (sym (add-one k)) ∙ last_of_front k archive known (omega arith) ∙ ap (λ n. Some (id_of n)) (add-one k) in
-    ap (λ id. page_of (place_behind id) most archive) last
-    ∙ page_after (suc k) most archive known small (omega arith) within
+use Rattle.xmpp_pages.specs.Kept.{kept_by}
+use Rattle.xmpp_replay.proofs.ArchivePages.{page_found}
+use Rattle.xmpp_replay.specs.Direct.{Page, as_logged, as_taken_over, catch_up, page_answered}
+use Rattle.xmpp_replay.specs.Turns.{IsFrontOf, IsLogOf, caught_up, log_after, page_behind, with_turn}
 
 pub take_further : {X : Type 0} (k most : ℕ) (xs : List X) → take k xs ++ take most (drop k xs) ≡ take (k + most) xs
 take_further k most xs =
@@ -103,21 +71,21 @@ cond_pair P true x y u v yes_case no_case = yes_case refl
 cond_pair P false x y u v yes_case no_case = no_case refl
 
 -- where the definitions stand on pages, the log stands on the log
-pub catch_up_logged : (turns most : ℕ) (archive : List EntryView) (pages : List LogPage) (log : LogView) →
+pub catch_up_logged : (turns most : ℕ) (owner : List ℕ) (archive : List EntryView) (pages : List LogPage) (log : LogView) → most ≤ 100 →
     AreNumbered (length archive) archive → length archive < 2 ^ 64 → IsLogOf pages log → IsFrontOf archive log.entries →
-    IsLogOf (catch_up turns most archive pages) (log_after turns most archive log)
-catch_up_logged zero most archive pages log known small is front = is
-catch_up_logged (suc turns) most archive pages log known small is front =
-    let page : page_of (place_behind (last_id (log_of pages))) most archive ≡ Some (page_behind (length log.entries) most archive) =
-    ap (λ es. page_of (place_behind (last_id es)) most archive) (sym is.entries ∙ front.same)
-    ∙ page_behind_front (length log.entries) most archive known small front.within in
+    IsLogOf (catch_up turns most (kept_by owner archive) pages) (log_after turns most archive log)
+catch_up_logged zero most owner archive pages log cap known small is front = is
+catch_up_logged (suc turns) most owner archive pages log cap known small is front =
+    let page : page_answered (last_id (log_of pages)) most (kept_by owner archive) ≡ Some (page_behind (length log.entries) most archive) =
+    ap (λ es. page_answered (last_id es) most (kept_by owner archive)) (sym is.entries)
+    ∙ page_found owner most archive log.entries cap known small front in
     let next = turn_taken pages log (page_behind (length log.entries) most archive) is in
     rw page (cond_pair (λ p l. IsLogOf p l) (leb (length (drop (length log.entries) archive)) most) _ _ _ _
     (λ complete. next)
-    (λ more. catch_up_logged turns most archive
+    (λ more. catch_up_logged turns most owner archive
     (pages ++ as_taken_over (last_id (log_of pages)) (page_behind (length log.entries) most archive) ∷ [])
     (with_turn log (page_behind (length log.entries) most archive))
-    known small next (front_grows most archive log.entries front)))
+    cap known small next (front_grows most archive log.entries front)))
 
 pub log_after_front : (turns most : ℕ) (archive : List EntryView) (log : LogView) → IsFrontOf archive log.entries →
     IsFrontOf archive (log_after turns most archive log).entries

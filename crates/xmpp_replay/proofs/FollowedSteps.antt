@@ -14,7 +14,7 @@ use Rattle.xmpp_replay.proofs.CatchUps.{catch_up_logged, log_after_front}
 use Rattle.xmpp_replay.proofs.Deliveries.{among_placed, delivered_takes, named_at, names_apart, not_placed, once_among, once_push}
 use Rattle.xmpp_replay.proofs.PageEnds.{bytes_eq_apart, bytes_eq_itself}
 use Rattle.xmpp_replay.proofs.Prefixes.{among_push, archive_few, archive_numbered, archive_push, along_push, devices_push, home_push, pages_push, sent_few, sent_push, takes_few, takes_push}
-use Rattle.xmpp_replay.specs.Direct.{Take, accounts_of, along, archive_of, as_logged, catch_up, concerns, device_name, devices_of, entry_of, home_of, is_said_by, pages_after, pages_of, said_at, sent_by, take_at, take_line, takes_of}
+use Rattle.xmpp_replay.specs.Direct.{Take, accounts_of, along, archive_of, as_logged, bare_address, catch_up, concerns, device_name, devices_of, entry_of, home_of, is_said_by, kept_after, pages_after, pages_of, said_at, sent_by, take_at, take_line, takes_of}
 use Rattle.xmpp_replay.specs.Grammar.{is_among, is_name, is_text, may_stand}
 use Rattle.xmpp_replay.specs.Homes.{Home, delivered, empty_home, home_at, names_of}
 use Rattle.xmpp_replay.specs.Messages.{homes_after, said_by, take_by, takes_after}
@@ -366,9 +366,9 @@ after_say all before name to text run next once is known sent = record {
         (home_known before (Say name to text) (get_or run.devices.items k d).name (name_known all before run k d is within))
         (rw far refl) far refl (is.devices k d within)
 
-after_catch_up : (all before : List Step) (name : List ℕ) (most : ℕ) (run next : Run) → length before < 100000 → IsAfter all before run →
+after_catch_up : (all before : List Step) (name : List ℕ) (most : ℕ) (run next : Run) → length before < 100000 → most ≤ 100 → IsAfter all before run →
     is_among name (devices_of before) ≡ true → HasCaughtUp run next name most → IsAfter all (before ++ Catchup name most ∷ []) next
-after_catch_up all before name most run next few is known made = record {
+after_catch_up all before name most run next few cap is known made = record {
   homes = made.homes ∙ is.homes ∙ ap (λ ts. map (home_at ts) (accounts_of all)) (sym (no_take all before (Catchup name most) refl));
   takes = made.takes ∙ is.takes ∙ ap (map take_line) (sym (no_take all before (Catchup name most) refl));
   index = made.index ∙ is.index ∙ sym (no_device before (Catchup name most) refl);
@@ -401,14 +401,14 @@ after_catch_up all before name most run next few is known made = record {
     log_is = made.log (empty_home []) ∙ ap (λ es. caught_up most es made.old.log) entries_are
 
     pages_are : pages_after all made.old.name before (pages_of all made.old.name before) (Catchup name most)
-        ≡ catch_up (length (archive_of made.old.account (takes_of all before)) + 1) most (archive_of made.old.account (takes_of all before)) (pages_of all made.old.name before)
-    pages_are = rw hit (ap (λ a. catch_up (length (archive_of a (takes_of all before)) + 1) most (archive_of a (takes_of all before)) (pages_of all made.old.name before)) (sym was.account))
+        ≡ catch_up (length (archive_of made.old.account (takes_of all before)) + 1) most (kept_after made.old.account (takes_of all before)) (pages_of all made.old.name before)
+    pages_are = rw hit (ap (λ a. catch_up (length (archive_of a (takes_of all before)) + 1) most (kept_after a (takes_of all before)) (pages_of all made.old.name before)) (sym was.account))
 
     logged : IsLogOf (pages_after all made.old.name before (pages_of all made.old.name before) (Catchup name most)) made.new.log
     logged = subst (λ l. IsLogOf (pages_after all made.old.name before (pages_of all made.old.name before) (Catchup name most)) l) (sym log_is)
         (subst (λ ps. IsLogOf ps (caught_up most (archive_of made.old.account (takes_of all before)) made.old.log)) (sym pages_are)
-        (catch_up_logged (length (archive_of made.old.account (takes_of all before)) + 1) most (archive_of made.old.account (takes_of all before))
-        (pages_of all made.old.name before) made.old.log (archive_numbered made.old.account (takes_of all before))
+        (catch_up_logged (length (archive_of made.old.account (takes_of all before)) + 1) most (bare_address made.old.account)
+        (archive_of made.old.account (takes_of all before)) (pages_of all made.old.name before) made.old.log cap (archive_numbered made.old.account (takes_of all before))
         (omega (arith, archive_small all before made.old.account)) was.log was.front))
 
     fronts : IsFrontOf (archive_of made.old.account (takes_of all (before ++ Catchup name most ∷ []))) made.new.log.entries
@@ -456,4 +456,4 @@ after_followed all before run next (Account name) few once is may did = subst (�
 after_followed all before run next (DeviceStep name account) few once is may did = after_device all before name account run next is (ap (is_among name) (sym is.index) ∙ may.0) did
 after_followed all before run next (Say device to text) few once is may did = after_say all before device to text run next once is (ap (is_among device) (sym is.index) ∙ may) did
 after_followed all before run next (Catchup device most) few once is may did =
-    after_catch_up all before device most run next few is (ap (is_among device) (sym is.index) ∙ may.0) did
+    after_catch_up all before device most run next few may.2 is (ap (is_among device) (sym is.index) ∙ may.0) did

@@ -1,9 +1,11 @@
 -- What a change of one account does to the lists that clauses see.
 use Rattle.std.proofs.Common.{◌≡◌, ◌≢◌, ℕ, zero, suc, ◌+◌, ◌<◌, ◌≤◌, List, [], ◌∷◌, ◌++◌, length, get_or, set, map, refl, sym, ap, ◌∙◌, arith, subst}
 use Rattle.std.proofs.lemmas.List.{length-append, length-map, length_push}
+use Rattle.std.proofs.lemmas.Option.{none-some}
 use Rattle.std.specs.List.{All}
 use Rattle.xmpp_archive.proofs.Newest.{newest_few}
-use Rattle.xmpp_archive.specs.Entries.{AreKept, AreNumbered, ArchiveView, EntryView, newest, numbered}
+use Rattle.xmpp_archive.proofs.NumberedEntries.{FollowFrom, follow_all, follow_push, numbered_following}
+use Rattle.xmpp_archive.specs.Entries.{ArchiveView, EntryView, newest, numbered}
 use Rattle.xmpp_replay.specs.Homes.{Home, HomesView, IsWhole, IsWholeAccount, appended, appended_at, home_of_account, names_of, room_of_account}
 use Rattle.xmpp_replay.specs.declared.run.accounts.Account.{Account}
 
@@ -101,8 +103,36 @@ few_after (h ∷ homes) (suc i) entry few zero d within = let here : length h.en
 few_after (h ∷ homes) (suc i) entry few (suc k) d within = few_after homes i entry (λ j e w. few (suc j) e (omega arith)) k d (omega arith)
 
 -- an archive that keeps all that came
-pub whole_numbered : (archive : ArchiveView) → IsWhole archive → AreKept archive.keep archive.last archive.entries → AreNumbered (length archive.entries) archive.entries
-whole_numbered archive whole kept = subst (λ n. AreNumbered n archive.entries) whole.last kept.numbers
+pub whole_empty : (archive : ArchiveView) → archive.keep ≡ 4294967295 → archive.last ≡ 0 → archive.entries ≡ [] → IsWhole archive
+whole_empty archive keep last none = record {
+  keep = keep;
+  last = last ∙ ap length (sym none);
+  few = rw none (omega arith);
+  numbers = rw none (record { each = λ i e is. absurd (none-some e is) });
+}
+
+pub whole_kept : (before after : ArchiveView) → IsWhole before → after.keep ≡ before.keep → after.last ≡ before.last → after.entries ≡ before.entries → IsWhole after
+whole_kept before after whole keep last same = record {
+  keep = keep ∙ whole.keep;
+  last = last ∙ whole.last ∙ ap length (sym same);
+  few = rw same whole.few;
+  numbers = rw same whole.numbers;
+}
+
+pub whole_grown : (before after : ArchiveView) (entry : EntryView) → IsWhole before → length before.entries < 4294967295 → after.keep ≡ before.keep →
+    after.last ≡ before.last + 1 → after.entries ≡ before.entries ++ numbered (length before.entries + 1) entry ∷ [] → IsWhole after
+whole_grown before after entry whole few keep last grown =
+    let all : List EntryView = before.entries ++ numbered (length before.entries + 1) entry ∷ [] in
+    let size : length (before.entries ++ numbered (length before.entries + 1) entry ∷ []) ≡ length before.entries + 1 =
+    length_push before.entries (numbered (length before.entries + 1) entry) in
+    let follow : FollowFrom 1 (before.entries ++ numbered (length before.entries + 1) entry ∷ []) =
+    follow_push 1 (length before.entries + 1) before.entries entry (follow_all before.entries whole.numbers) (omega arith) in
+    record {
+      keep = keep ∙ whole.keep;
+      last = rw grown (omega (arith, last, whole.last, size));
+      few = rw grown (omega (arith, size));
+      numbers = rw grown (numbered_following 1 (length all) all follow (omega arith));
+    }
 
 -- nothing is dropped of it
 pub whole_appended : (archive : ArchiveView) (entry : EntryView) (n : ℕ) → IsWhole archive → length archive.entries < 4294967295 → n ≡ archive.last + 1 →

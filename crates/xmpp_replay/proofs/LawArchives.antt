@@ -1,22 +1,23 @@
 -- The archives of the direct run: numbered from 1, no longer than the schedule, each the front of the later ones, their
 -- ids distinct.
 use Rattle.std.proofs.Common.{◌≡◌, ◌≢◌, ℕ, zero, suc, ◌+◌, ◌-◌, ◌<◌, ◌≤◌, ◌^◌, Bool, true, false, cond, List, [], ◌∷◌, ◌++◌, Some, length, take, drop, map, refl, sym, ap, ◌∙◌, arith}
-use Rattle.std.proofs.lemmas.List.{drop-map, drop_at, length-append, length-map, length-take-le, map-append, take-map, take_at as front_of_join}
+use Rattle.std.proofs.lemmas.List.{drop-map, drop_at, length-append, length-map, map-append, take-map, take_at as front_of_join}
 use Rattle.std.proofs.lemmas.List.Elements.{filter-append}
 use Rattle.std.proofs.lemmas.List.Sums.{count_by-le-length, length-filter}
 use Rattle.std.specs.List.{AllByRecursion, filter, slice_get}
 use Rattle.xmpp_archive.proofs.IdDigits.{id_of_same}
 use Rattle.xmpp_archive.proofs.NumberedEntries.{FollowFrom, follow_all}
-use Rattle.xmpp_archive.proofs.PageCuts.{page_after}
 use Rattle.xmpp_archive.specs.Entries.{AreNumbered, EntryView, numbered}
 use Rattle.xmpp_archive.specs.Ids.{id_of}
-use Rattle.xmpp_archive.specs.Pages.{page_behind, page_of}
 use Rattle.xmpp_log.specs.LogPages.{last_id}
 use Rattle.xmpp_log.specs.declared.log_entry.LogEntry.{LogEntry}
+use Rattle.xmpp_pages.specs.Kept.{kept_by}
+use Rattle.xmpp_replay.proofs.ArchivePages.{page_found}
 use Rattle.xmpp_replay.proofs.LawLists.{all_weaker, along-append}
-use Rattle.xmpp_replay.specs.Direct.{Take, accounts_of, along, archive_of, as_logged, concerns, entry_of, home_of, numbered_from, place_behind, sent_by, take_at, takes_of}
+use Rattle.xmpp_replay.specs.Direct.{Take, accounts_of, along, archive_of, as_logged, concerns, entry_of, home_of, numbered_from, page_answered, sent_by, take_at, takes_of}
 use Rattle.xmpp_replay.specs.Grammar.{is_among}
 use Rattle.xmpp_replay.specs.Lawful.{EachPair}
+use Rattle.xmpp_replay.specs.Turns.{page_behind}
 use Rattle.xmpp_replay.specs.declared.schedule.Step.{Step}
 use Rattle.xmpp_replay.specs.declared.schedule.Step.TheVariants.{Say}
 
@@ -112,22 +113,6 @@ apart_follow s (e ∷ entries) follow few =
 pub ids_apart : (entries : List EntryView) → AreNumbered (length entries) entries → length entries < 2 ^ 64 → EachPair (λ a b. id_of a.number ≢ id_of b.number) entries
 ids_apart entries known few = apart_follow 1 entries (follow_all entries known) (omega arith)
 
--- the id of the last entry of a front
-follow_take : (n s : ℕ) (entries : List EntryView) → FollowFrom s entries → FollowFrom s (take n entries)
-follow_take zero s entries follow = tt
-follow_take (suc n) s [] follow = tt
-follow_take (suc n) s (e ∷ entries) follow = (follow.0, follow_take n (suc s) entries follow.1)
-
-last_follows : (s : ℕ) (entries : List EntryView) → FollowFrom s entries → 1 ≤ length entries → last_id (map as_logged entries) ≡ Some (id_of (s + length entries - 1))
-last_follows s [] follow some = absurd (omega arith)
-last_follows s (e ∷ []) follow some =
-    let number : e.number ≡ s + 1 - 1 = omega (arith, follow.0) in
-    ap (λ n. Some (id_of n)) number
-last_follows s (e ∷ f ∷ entries) follow some =
-    let rest : last_id (map as_logged (f ∷ entries)) ≡ Some (id_of (suc s + length (f ∷ entries) - 1)) = last_follows (suc s) (f ∷ entries) follow.1 (omega arith) in
-    let number : suc s + length (f ∷ entries) - 1 ≡ s + length (e ∷ f ∷ entries) - 1 = omega arith in
-    rest ∙ ap (λ n. Some (id_of n)) number
-
 -- a log that is a front of the archive, and what is left of the archive
 pub front_entries : (archive : List EntryView) (log rest : List LogEntry) → map as_logged archive ≡ log ++ rest → log ≡ map as_logged (take (length log) archive)
 front_entries archive log rest front =
@@ -138,14 +123,9 @@ rest_entries archive log rest front =
     sym (drop_at log rest (length log) refl) ∙ ap (drop (length log)) (sym front) ∙ drop-map as_logged (length log) archive
 
 -- a page is asked for behind what is logged
-pub page_behind_log : (most : ℕ) (archive : List EntryView) (log rest : List LogEntry) → AreNumbered (length archive) archive → length archive < 2 ^ 64 → map as_logged archive ≡ log ++ rest →
-    page_of (place_behind (last_id log)) most archive ≡ Some (page_behind (length log) most archive)
-page_behind_log most archive [] rest known few front = refl
-page_behind_log most archive (e ∷ es) rest known few front =
-    let log = e ∷ es in
+pub page_behind_log : (owner : List ℕ) (most : ℕ) (archive : List EntryView) (log rest : List LogEntry) → most ≤ 100 →
+    AreNumbered (length archive) archive → length archive < 2 ^ 64 → map as_logged archive ≡ log ++ rest →
+    page_answered (last_id log) most (kept_by owner archive) ≡ Some (page_behind (length log) most archive)
+page_behind_log owner most archive log rest cap known few front =
     let total : length archive ≡ length log + length rest = sym (length-map archive as_logged) ∙ ap length front ∙ length-append log rest in
-    let here : length (take (length log) archive) ≡ length log = length-take-le (length log) archive (omega arith) in
-    let last : last_id log ≡ Some (id_of (1 + length (take (length log) archive) - 1)) =
-    ap last_id (front_entries archive log rest front) ∙ last_follows 1 (take (length log) archive) (follow_take (length log) 1 archive (follow_all archive known)) (omega arith) in
-    let number : 1 + length (take (length log) archive) - 1 ≡ length log = omega arith in
-    rw (last, number) (page_after (length log) most archive known few (omega arith) (omega arith))
+    page_found owner most archive log cap known few (record { within = omega arith; same = front_entries archive log rest front })

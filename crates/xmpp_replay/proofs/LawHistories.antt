@@ -13,7 +13,7 @@ use Rattle.xmpp_log.specs.declared.log_entry.LogEntry.{LogEntry}
 use Rattle.xmpp_replay.proofs.LawArchives.{archive_after, archive_few, archive_grows, archive_numbered}
 use Rattle.xmpp_replay.proofs.LawPages.{AreTilesBehind, CaughtUp, catch_up_is, log_of-append, tiles_append}
 use Rattle.xmpp_replay.proofs.StandingSteps.{AreStanding, Stands, home_kept, standing_front, standing_rest}
-use Rattle.xmpp_replay.specs.Direct.{as_logged, catch_up, devices_of, home_of, pages_after, pages_from, pages_of, takes_of}
+use Rattle.xmpp_replay.specs.Direct.{as_logged, bare_address, catch_up, devices_of, home_of, kept_after, pages_after, pages_from, pages_of, takes_of}
 use Rattle.xmpp_replay.specs.Grammar.{is_among}
 use Rattle.xmpp_replay.specs.Lawful.{is_catchup_of}
 use Rattle.xmpp_replay.specs.declared.schedule.Step.{Step}
@@ -53,14 +53,16 @@ nothing_next : (archive : List EntryView) (pages : List LogPage) → IsNext arch
 nothing_next archive pages = record { more = []; joined = sym (append-nil pages); totals = tt }
 
 -- a catch-up of the device
-caught_up : (all : List Step) (device : List ℕ) (before : List Step) (most : ℕ) (pages : List LogPage) (n : ℕ) → length before < 2 ^ 64 → 1 ≤ most →
+caught_up : (all : List Step) (device : List ℕ) (before : List Step) (most : ℕ) (pages : List LogPage) (n : ℕ) → length before < 2 ^ 64 → 1 ≤ most → most ≤ 100 →
     ArePaged (archive_after all (home_of all device) before) pages n →
-    CaughtUp (archive_after all (home_of all device) before) pages (catch_up (length (archive_after all (home_of all device) before) + 1) most (archive_after all (home_of all device) before) pages)
-caught_up all device before most pages n few some known =
+    CaughtUp (archive_after all (home_of all device) before) pages
+    (catch_up (length (archive_after all (home_of all device) before) + 1) most (kept_after (home_of all device) (takes_of all before)) pages)
+caught_up all device before most pages n few some cap known =
     let archive = archive_after all (home_of all device) before in
     let long : length archive ≤ length before = archive_few all (home_of all device) before in
     let total : length archive ≡ length (log_of pages) + length known.rest = sym (length-map archive as_logged) ∙ ap length known.front ∙ length-append (log_of pages) known.rest in
-    rw add-one (catch_up_is (suc (length archive)) most archive pages known.rest some (archive_numbered (home_of all device) (takes_of all before)) (omega arith) known.front (omega arith))
+    rw add-one (catch_up_is (suc (length archive)) most (bare_address (home_of all device)) archive pages known.rest some cap
+    (archive_numbered (home_of all device) (takes_of all before)) (omega arith) known.front (omega arith))
 
 record IsStepOf (all : List Step) (device : List ℕ) (before : List Step) (step : Step) (pages : List LogPage) (n : ℕ) : Type 0 where
   pub paged : ArePaged (archive_after all (home_of all device) (before ++ step ∷ [])) (pages_after all device before pages step) (n + cond (is_catchup_of device step) 1 0)
@@ -94,8 +96,8 @@ step_is all device before rest (Catchup name most) whole stands few pages n know
           let home : home_of before device ≡ home_of all device = sym (rw whole at (home_kept device before (Catchup name most ∷ rest) among)) in
           let size : length (before ++ Catchup name most ∷ rest) ≡ length all = ap length whole in
           let short : length before < 2 ^ 64 = omega (arith, length-append before (Catchup name most ∷ rest)) in
-          catchup_step all device before name most pages (catch_up (length archive + 1) most archive pages) n (rw (same, home)) same known
-          (caught_up all device before most pages n short stands.1 known)
+          catchup_step all device before name most pages (catch_up (length archive + 1) most (kept_after (home_of all device) (takes_of all before)) pages) n (rw (same, home)) same known
+          (caught_up all device before most pages n short stands.1 stands.2 known)
       | inr other ↦ quiet_step all device before (Catchup name most) pages n (rw other) other known
     ]
 step_is all device before rest step whole stands few pages n known = quiet_step all device before step pages n refl refl known

@@ -7,12 +7,13 @@ use Rattle.std.proofs.lemmas.List.Concat.{flat_map-append}
 use Rattle.std.proofs.lemmas.List.Sums.{sum_by-cons}
 use Rattle.std.specs.List.{AllByRecursion, count_by}
 use Rattle.xmpp_archive.specs.Entries.{AreNumbered, EntryView}
-use Rattle.xmpp_archive.specs.Pages.{page_behind, page_of}
 use Rattle.xmpp_log.specs.LogPages.{LogPage, last_id, log_of}
 use Rattle.xmpp_log.specs.declared.log_entry.LogEntry.{LogEntry}
+use Rattle.xmpp_pages.specs.Kept.{kept_by}
 use Rattle.xmpp_replay.proofs.LawArchives.{page_behind_log, rest_entries}
-use Rattle.xmpp_replay.specs.Direct.{as_logged, as_taken_over, catch_up, logged_line, page_line, place_behind}
+use Rattle.xmpp_replay.specs.Direct.{as_logged, as_taken_over, catch_up, logged_line, page_answered, page_line}
 use Rattle.xmpp_replay.specs.Lawful.{AreTiles, last_logged}
+use Rattle.xmpp_replay.specs.Turns.{page_behind}
 
 pub log_of-append : (xs ys : List LogPage) → log_of (xs ++ ys) ≡ log_of xs ++ log_of ys
 log_of-append xs ys = flat_map-append (λ (page : LogPage). page.entries) xs ys
@@ -48,12 +49,14 @@ page_taken most archive log rest front =
     rw (size, entries)
 
 -- one turn of a catch-up
-catch_up_turn : (turns most : ℕ) (archive : List EntryView) (pages : List LogPage) (rest : List LogEntry) →
+catch_up_turn : (turns most : ℕ) (owner : List ℕ) (archive : List EntryView) (pages : List LogPage) (rest : List LogEntry) → most ≤ 100 →
     AreNumbered (length archive) archive → length archive < 2 ^ 64 → map as_logged archive ≡ log_of pages ++ rest →
-    catch_up (suc turns) most archive pages
-    ≡ cond (leb (length rest) most) (pages ++ next_page most archive (log_of pages) rest ∷ []) (catch_up turns most archive (pages ++ next_page most archive (log_of pages) rest ∷ []))
-catch_up_turn turns most archive pages rest known few front =
-    let found : page_of (place_behind (last_id (log_of pages))) most archive ≡ Some (page_behind (length (log_of pages)) most archive) = page_behind_log most archive (log_of pages) rest known few front in
+    catch_up (suc turns) most (kept_by owner archive) pages
+    ≡ cond (leb (length rest) most) (pages ++ next_page most archive (log_of pages) rest ∷ [])
+    (catch_up turns most (kept_by owner archive) (pages ++ next_page most archive (log_of pages) rest ∷ []))
+catch_up_turn turns most owner archive pages rest cap known few front =
+    let found : page_answered (last_id (log_of pages)) most (kept_by owner archive) ≡ Some (page_behind (length (log_of pages)) most archive) =
+    page_behind_log owner most archive (log_of pages) rest cap known few front in
     let size : length (drop (length (log_of pages)) archive) ≡ length rest =
     sym (length-map (drop (length (log_of pages)) archive) as_logged) ∙ ap length (sym (rest_entries archive (log_of pages) rest front)) in
     rw (found, page_taken most archive (log_of pages) rest front, size)
@@ -99,14 +102,15 @@ further_turn most archive pages rest result partial some later =
       one = sum_by-cons (λ (p : LogPage). cond p.complete 1 0) page later.more ∙ rw partial (omega (arith, later.one));
     }
 
-pub catch_up_is : (turns most : ℕ) (archive : List EntryView) (pages : List LogPage) (rest : List LogEntry) →
-    1 ≤ most → AreNumbered (length archive) archive → length archive < 2 ^ 64 → map as_logged archive ≡ log_of pages ++ rest → length rest < turns →
-    CaughtUp archive pages (catch_up turns most archive pages)
-catch_up_is zero most archive pages rest some known few front enough = absurd (omega arith)
-catch_up_is (suc turns) most archive pages rest some known few front enough =
+pub catch_up_is : (turns most : ℕ) (owner : List ℕ) (archive : List EntryView) (pages : List LogPage) (rest : List LogEntry) →
+    1 ≤ most → most ≤ 100 → AreNumbered (length archive) archive → length archive < 2 ^ 64 → map as_logged archive ≡ log_of pages ++ rest → length rest < turns →
+    CaughtUp archive pages (catch_up turns most (kept_by owner archive) pages)
+catch_up_is zero most owner archive pages rest some cap known few front enough = absurd (omega arith)
+catch_up_is (suc turns) most owner archive pages rest some cap known few front enough =
     let page = next_page most archive (log_of pages) rest in
-    rw (catch_up_turn turns most archive pages rest known few front)
-    (cond_both (leb (length rest) most) (pages ++ page ∷ []) (catch_up turns most archive (pages ++ page ∷ [])) (λ result. CaughtUp archive pages result)
+    let kept = kept_by owner archive in
+    rw (catch_up_turn turns most owner archive pages rest cap known few front)
+    (cond_both (leb (length rest) most) (pages ++ page ∷ []) (catch_up turns most kept (pages ++ page ∷ [])) (λ result. CaughtUp archive pages result)
     (λ complete. last_turn most archive pages rest front complete)
     (λ partial.
     let long : most < length rest = leb-false (length rest) most partial in
@@ -114,8 +118,8 @@ catch_up_is (suc turns) most archive pages rest some known few front enough =
     let joined : map as_logged archive ≡ log_of (pages ++ page ∷ []) ++ drop most rest =
     front ∙ ap (λ es. log_of pages ++ es) (sym (take-append-drop most rest)) ∙ sym (append_assoc (log_of pages) (take most rest) (drop most rest))
     ∙ ap (λ es. es ++ drop most rest) (sym (log_of-push pages page)) in
-    further_turn most archive pages rest (catch_up turns most archive (pages ++ page ∷ [])) partial some
-    (catch_up_is turns most archive (pages ++ page ∷ []) (drop most rest) some known few joined left)))
+    further_turn most archive pages rest (catch_up turns most kept (pages ++ page ∷ [])) partial some
+    (catch_up_is turns most owner archive (pages ++ page ∷ []) (drop most rest) some cap known few joined left)))
 
 -- the tiles as the report has them
 last_logged_is : (es : List LogEntry) → last_logged (map logged_line es) ≡ last_id es

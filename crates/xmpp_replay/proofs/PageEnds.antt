@@ -1,24 +1,28 @@
 -- A page of the next entries of a log's archive ends well: its ids are new, and it has an entry where entries remain.
-use Rattle.std.proofs.Common.{◌≡◌, ◌≢◌, ℕ, zero, suc, add-one, ◌+◌, ◌-◌, ◌<◌, ◌≤◌, ◌^◌, min, Bool, true, false, cond, ◌&&◌, ◌||◌, leb, ltb, eqb, List, [], ◌∷◌, ◌++◌, Option, Some, None, Ok, length, take, drop, get_or, map, refl, sym, ap, ◌∙◌, arith}
-use Rattle.std.proofs.lemmas.Bool.{false_from_ne_true, le-ltb, leb-false, ne_eqb, or_from}
-use Rattle.std.proofs.lemmas.List.{length-drop, length-map, length-take, take_min}
+use Rattle.std.proofs.Common.{◌≡◌, ◌≢◌, ℕ, zero, suc, ◌+◌, ◌-◌, ◌<◌, ◌≤◌, ◌^◌, min, Bool, true, false, cond, ◌&&◌, ◌||◌, leb, ltb, List, [], ◌∷◌, ◌++◌, Option, Some, None, Ok, length, take, drop, get_or, map, refl, sym, ap, ◌∙◌, arith}
+use Rattle.std.proofs.lemmas.Bool.{false_from_ne_true, le-ltb, leb-false, or_from}
+use Rattle.std.proofs.lemmas.List.{length-drop, length-map, length-take}
 use Rattle.std.proofs.lemmas.List.Folds.{list_any-append}
 use Rattle.std.proofs.lemmas.Slice.Eq.{bytes_eq-Decides}
-use Rattle.std.proofs.lemmas.Option.{get_or_from_slice_get}
 use Rattle.std.specs.List.{list_any}
 use Rattle.std.specs.Option.{IsSomeAnd}
 use Rattle.std.specs.Str.{bytes_eq}
 use Rattle.xmpp_archive.proofs.IdDigits.{id_of_same}
-use Rattle.xmpp_archive.proofs.NumberedEntries.{FollowFrom, at_place, follow_all}
+use Rattle.xmpp_archive.proofs.NumberedEntries.{FollowFrom, follow_all}
 use Rattle.xmpp_archive.specs.Entries.{AreNumbered, EntryView}
 use Rattle.xmpp_archive.specs.Ids.{id_of}
 use Rattle.xmpp_log.specs.LogPages.{ids_of, last_id}
-use Rattle.xmpp_log.specs.Views.{LogView, advance_of, fin_answer, first_repeat, outcome_of, page_for, same_id, with_result}
+use Rattle.xmpp_log.specs.Views.{LogView, advance_of, after_fin, fin_answer, first_repeat, outcome_of, page_for, same_id, with_result}
 use Rattle.xmpp_log.specs.declared.fin.Fin.{Fin}
 use Rattle.xmpp_log.specs.declared.log_entry.LogEntry.{LogEntry}
-use Rattle.xmpp_replay.proofs.CatchUps.{last_id_push, results_more}
-use Rattle.xmpp_replay.specs.Direct.{as_logged}
-use Rattle.xmpp_replay.specs.Turns.{IsFrontOf, open_page, opened}
+use Rattle.xmpp_pages.specs.Cuts.{CutView}
+use Rattle.xmpp_pages.specs.Kept.{kept_by}
+use Rattle.xmpp_pages.specs.PageOf.{page_of}
+use Rattle.xmpp_pages.specs.Spans.{number_of_entry, numbers_of}
+use Rattle.xmpp_replay.proofs.ArchivePages.{cut_behind, cut_is, last_of_page, number_at}
+use Rattle.xmpp_replay.proofs.CatchUps.{results_more, take_whole}
+use Rattle.xmpp_replay.specs.Direct.{as_logged, query_behind}
+use Rattle.xmpp_replay.specs.Turns.{IsFrontOf, fin_of, open_page, opened, page_behind, with_turn}
 
 pub bytes_eq_itself : (a : List ℕ) → bytes_eq a a ≡ true
 bytes_eq_itself a = (bytes_eq-Decides a a).1 refl
@@ -124,52 +128,60 @@ any_entry : EntryView
 any_entry = record { number = 0; stamp = 0; from = []; to = []; normal = false; id = []; origin = []; bodies = [] }
 
 -- a result more in the open page
-pub result_taken : (queryid : List ℕ) (most had at : ℕ) (archive : List EntryView) (log now next : LogView) →
-    had ≡ length log.entries → now ≡ opened queryid most log (map as_logged (take at (drop (length log.entries) archive))) →
-    length log.entries + at < length archive →
-    ((d : EntryView) → next ≡ with_result now (as_logged (get_or archive (had + at + 1 - 1) d))) →
+pub result_taken : (queryid : List ℕ) (most at : ℕ) (archive : List EntryView) (numbers : List ℕ) (log now next : LogView) →
+    AreNumbered (length archive) archive → numbers ≡ numbers_of (take most (drop (length log.entries) archive)) → at < length numbers →
+    now ≡ opened queryid most log (map as_logged (take at (drop (length log.entries) archive))) →
+    ((d : EntryView) → next ≡ with_result now (as_logged (get_or archive (get_or numbers at 0 - 1) d))) →
     next ≡ opened queryid most log (map as_logged (take (at + 1) (drop (length log.entries) archive)))
-result_taken queryid most had at archive log now next size is within taken =
+result_taken queryid most at archive numbers log now next known are there is taken =
+    let place = number_at (length log.entries) most at archive numbers known are there in
     taken any_entry
-    ∙ ap (λ n. with_result now (as_logged (get_or archive (n + at + 1 - 1) any_entry))) size
+    ∙ ap (λ n. with_result now (as_logged (get_or archive (n - 1) any_entry))) place.0
     ∙ ap (λ l. with_result l (as_logged (get_or archive (length log.entries + at + 1 - 1) any_entry))) is
-    ∙ ap (opened queryid most log) (sym (results_more (length log.entries) at archive any_entry within))
+    ∙ ap (opened queryid most log) (sym (results_more (length log.entries) at archive any_entry place.2))
 
--- the id of the last entry of a page
-pub last_in_page : (k count : ℕ) (archive : List EntryView) → AreNumbered (length archive) archive → k + count ≤ length archive →
-    cond (eqb count 0) None (Some (id_of (k + count))) ≡ last_id (map as_logged (take count (drop k archive)))
-last_in_page k zero archive numbered within = refl
-last_in_page k (suc j) archive numbered within =
-    let place = at_place (k + j) archive (omega arith) in
-    let is : get_or archive (k + j) place.0 ≡ place.0 = get_or_from_slice_get archive (k + j) place.0 place.0 place.1 in
-    let number : place.0.number ≡ k + suc j = let n : place.0.number + length archive ≡ length archive + 1 + (k + j) = numbered.each (k + j) place.0 place.1 in omega arith in
-    let back : k + j + 1 - 1 ≡ k + j = omega arith in
-    let test : eqb (suc j) 0 ≡ false = ne_eqb (suc j) 0 (λ (e : suc j ≡ 0). omega arith) in
-    rw test (sym (ap (λ n. last_id (map as_logged (take n (drop k archive)))) (sym (add-one j))
-    ∙ ap last_id (results_more k j archive place.0 (omega arith))
-    ∙ last_id_push (map as_logged (take j (drop k archive))) (as_logged (get_or archive (k + j + 1 - 1) place.0))
-    ∙ ap (λ n. Some (id_of (get_or archive n place.0).number)) back
-    ∙ ap (λ (e : EntryView). Some (id_of e.number)) is
-    ∙ ap (λ n. Some (id_of n)) number))
+-- with all results of the page
+pub results_taken : (queryid : List ℕ) (most at : ℕ) (archive : List EntryView) (numbers : List ℕ) (log now : LogView) →
+    numbers ≡ numbers_of (take most (drop (length log.entries) archive)) → at ≡ length numbers →
+    now ≡ opened queryid most log (map as_logged (take at (drop (length log.entries) archive))) →
+    now ≡ opened queryid most log (map as_logged (take most (drop (length log.entries) archive)))
+results_taken queryid most at archive numbers log now are end is =
+    let size : at ≡ length (take most (drop (length log.entries) archive)) =
+    end ∙ ap length are ∙ length-map (take most (drop (length log.entries) archive)) number_of_entry in
+    is ∙ ap (λ n. opened queryid most log (map as_logged (take n (drop (length log.entries) archive)))) size
+    ∙ ap (λ es. opened queryid most log (map as_logged es)) (sym (take_whole most (drop (length log.entries) archive)))
 
--- the page as the code makes it ends well
-pub made_page_ends_well : (queryid : List ℕ) (most count : ℕ) (archive : List EntryView) (log begun now : LogView) (fin : Fin) → 1 ≤ most →
+-- the page that the archive answered ends well
+pub answered_page_ends_well : (owner queryid : List ℕ) (most : ℕ) (archive : List EntryView) (log begun now : LogView) (cut : CutView) (fin : Fin) → 1 ≤ most → most ≤ 100 →
     AreNumbered (length archive) archive → length archive < 2 ^ 64 → IsFrontOf archive log.entries →
-    count ≡ min (length archive - length log.entries) most →
+    page_of (kept_by owner archive) (query_behind (last_id log.entries) most) ≡ Some cut →
+    fin ≡ fin_of cut →
     begun ≡ opened queryid most log [] →
-    now ≡ opened queryid most begun (map as_logged (take count (drop (length begun.entries) archive))) →
-    fin.last ≡ cond (eqb count 0) None (Some (id_of (length log.entries + count))) →
-    fin.complete ≡ leb (length archive - length log.entries) most →
+    now ≡ opened queryid most begun (map as_logged (take most (drop (length begun.entries) archive))) →
     fin_answer now queryid fin ≡ Ok (outcome_of fin.complete)
-made_page_ends_well queryid most count archive log begun now fin low numbered small front many begins is last complete =
-    let within = front.within in
-    let left : length (drop (length log.entries) archive) ≡ length archive - length log.entries = length-drop (length log.entries) archive in
-    let same : take count (drop (length log.entries) archive) ≡ take most (drop (length log.entries) archive) =
-    ap (λ n. take n (drop (length log.entries) archive)) (let m : count ≡ min most (length (drop (length log.entries) archive)) = omega arith in m)
-    ∙ take_min most (drop (length log.entries) archive) in
-    let opens : now ≡ opened queryid most log (map as_logged (take most (drop (length log.entries) archive))) =
-    is ∙ ap (λ (l : LogView). opened queryid most l (map as_logged (take count (drop (length l.entries) archive)))) begins
-    ∙ ap (λ es. opened queryid most log (map as_logged es)) same in
-    let ends : fin.last ≡ last_id (map as_logged (take most (drop (length log.entries) archive))) =
-    last ∙ last_in_page (length log.entries) count archive numbered (omega arith) ∙ ap (λ es. last_id (map as_logged es)) same in
-    rw opens (page_ends_well queryid most archive log fin low numbered small front ends (complete ∙ ap (λ n. leb n most) (sym left)))
+answered_page_ends_well owner queryid most archive log begun now cut fin low cap numbered small front answered tells begins is =
+    let page = take most (drop (length log.entries) archive) in
+    let told : fin ≡ fin_of (cut_behind (length log.entries) most archive) =
+    tells ∙ ap fin_of (cut_is owner most archive log.entries cut cap numbered small front answered) in
+    let opens : now ≡ opened queryid most log (map as_logged page) =
+    is ∙ ap (λ (l : LogView). opened queryid most l (map as_logged (take most (drop (length l.entries) archive)))) begins in
+    rw opens (page_ends_well queryid most archive log fin low numbered small front
+    (ap (λ (f : Fin). f.last) told ∙ last_of_page page) (ap (λ (f : Fin). f.complete) told))
+
+-- and its entries and its tile join the log
+pub answered_page_taken_over : (owner queryid : List ℕ) (most : ℕ) (archive : List EntryView) (log begun now next : LogView) (cut : CutView) (fin : Fin) → most ≤ 100 →
+    AreNumbered (length archive) archive → length archive < 2 ^ 64 → IsFrontOf archive log.entries →
+    page_of (kept_by owner archive) (query_behind (last_id log.entries) most) ≡ Some cut →
+    fin ≡ fin_of cut →
+    begun ≡ opened queryid most log [] →
+    now ≡ opened queryid most begun (map as_logged (take most (drop (length begun.entries) archive))) →
+    next ≡ after_fin now fin →
+    next ≡ with_turn log (page_behind (length log.entries) most archive)
+answered_page_taken_over owner queryid most archive log begun now next cut fin cap numbered small front answered tells begins is over =
+    let page = take most (drop (length log.entries) archive) in
+    let told : fin ≡ fin_of (cut_behind (length log.entries) most archive) =
+    tells ∙ ap fin_of (cut_is owner most archive log.entries cut cap numbered small front answered) in
+    let opens : now ≡ opened queryid most log (map as_logged page) =
+    is ∙ ap (λ (l : LogView). opened queryid most l (map as_logged (take most (drop (length l.entries) archive)))) begins in
+    over ∙ ap (λ l. after_fin l fin) opens ∙ ap (after_fin (opened queryid most log (map as_logged page))) told
+    ∙ rw (length-map page as_logged)

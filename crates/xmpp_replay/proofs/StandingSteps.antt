@@ -22,7 +22,7 @@ abbrev pub Stands : List Step → Step → Type 0
 Stands before (Account name) = Unit {0}
 Stands before (Device name account) = (is_among name (devices_of before) ≡ false) × (is_among account (accounts_of before) ≡ true)
 Stands before (Say device to text) = is_among device (devices_of before) ≡ true
-Stands before (Catchup device most) = (is_among device (devices_of before) ≡ true) × (1 ≤ most)
+Stands before (Catchup device most) = (is_among device (devices_of before) ≡ true) × (1 ≤ most) × (most ≤ 100)
 
 abbrev pub AreStanding : List Step → List Step → Type 0
 AreStanding before [] = Unit {0}
@@ -57,8 +57,9 @@ stands before (Device name account) may =
     (not-true (is_among name (devices_of before)) inner.1, outer.1)
 stands before (Say device to text) may = (and_parts _ _ (and_parts _ _ may).0).0
 stands before (Catchup device most) may =
-    let inner = and_parts _ _ (and_parts _ _ may).0 in
-    (inner.0, leb-true 1 most inner.1)
+    let outer = and_parts _ _ may in
+    let inner = and_parts _ _ outer.0 in
+    (inner.0, leb-true 1 most inner.1, leb-true most 100 outer.1)
 
 pub steps_stand : (before : List Step) (n : ℕ) (lines : List Line) → AreLines (declared_of before) n lines → AreStanding before (steps_of lines)
 steps_stand before n [] known = tt

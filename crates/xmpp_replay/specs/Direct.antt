@@ -1,16 +1,21 @@
 -- The direct run of a schedule: every message is taken at once and acknowledged, and every page that is asked for is
 -- answered at once. No session, counter, queue or connection occurs here.
-use Rattle.std.specs.Prelude.{ℕ, ◌+◌, Bool, true, false, ◌||◌, List, [], ◌∷◌, ◌++◌, Option, Some, None, length, map, filter, count_by, zero, suc, codes, if◌then◌else◌}
+use Rattle.std.specs.Prelude.{ℕ, ◌+◌, Bool, true, false, ◌||◌, List, [], ◌∷◌, ◌++◌, Option, Some, None, length, map, filter, filter_map, count_by, zero, suc, codes, if◌then◌else◌}
 use Rattle.std.specs.Fmt.{decimal}
 use Rattle.std.specs.List.{flat_map}
-use Rattle.std.specs.Option.{option_map_or}
+use Rattle.std.specs.Option.{option_map, option_map_or}
 use Rattle.std.specs.Str.{bytes_eq}
-use Rattle.xmpp_archive.specs.Entries.{EntryView, numbered}
+use Rattle.xmpp_archive.specs.Entries.{EntryView, entry_numbered, numbered}
 use Rattle.xmpp_archive.specs.Ids.{id_of}
-use Rattle.xmpp_archive.specs.Pages.{Page, Place, First, After, page_of}
 use Rattle.xmpp_archive.specs.declared.entry.Body.{Body}
 use Rattle.xmpp_log.specs.LogPages.{LogPage, log_of, last_id}
 use Rattle.xmpp_log.specs.declared.log_entry.LogEntry.{LogEntry}
+use Rattle.xmpp_pages.specs.Cuts.{CutView}
+use Rattle.xmpp_pages.specs.Kept.{Kept, kept_by}
+use Rattle.xmpp_pages.specs.PageOf.{page_of}
+use Rattle.xmpp_pages.specs.declared.query.PageQuery.{PageQuery}
+use Rattle.xmpp_pages.specs.declared.query.Place.{Place}
+use Rattle.xmpp_pages.specs.declared.query.Place.TheVariants.{First, After}
 use Rattle.xmpp_replay.specs.Grammar.{is_among}
 use Rattle.xmpp_replay.specs.Reports.{AccountView, DeviceView, ReportView}
 use Rattle.xmpp_replay.specs.declared.report.EntryLine.{EntryLine}
@@ -120,29 +125,56 @@ takes_of all steps = along (take_at all) [] steps
 abbrev pub as_logged : EntryView → LogEntry
 as_logged entry = record { id = id_of entry.number; entry = entry }
 
-abbrev pub as_taken_over : Option (List ℕ) → Page → LogPage
-as_taken_over after page = record { after = after; entries = map as_logged page.entries; complete = page.complete; total = page.count }
+-- a page as a device gets it: its entries, whether nothing remains behind it, and how many entries the archive has
+pub record Page : Type 0 where
+  pub entries : List EntryView
+  pub complete : Bool
+  pub count : ℕ
+
+-- the entries with these numbers
+abbrev pub entries_numbered : List ℕ → List EntryView → List EntryView
+entries_numbered numbers entries = filter_map (λ n. entry_numbered n entries) numbers
+
+-- the page with the entries that it was cut to
+abbrev pub page_with : List EntryView → CutView → Page
+page_with entries cut = record { entries = entries_numbered cut.numbers entries; complete = cut.complete; count = cut.count }
 
 abbrev pub place_behind : Option (List ℕ) → Place
 place_behind None = First
 place_behind (Some id) = After id
 
+-- asks for everybody's messages of all times, from the first one on or behind the entry with an id (XEP-0313 section
+-- 4.3, XEP-0059 section 2.2)
+abbrev pub query_behind : Option (List ℕ) → ℕ → PageQuery
+query_behind after most = record { peer = None; start = None; end = None; place = place_behind after; max = Some most }
+
+-- what an archive answers to that
+abbrev pub page_answered : Option (List ℕ) → ℕ → Kept → Option Page
+page_answered after most kept = option_map (page_with kept.entries) (page_of kept (query_behind after most))
+
+abbrev pub as_taken_over : Option (List ℕ) → Page → LogPage
+as_taken_over after page = record { after = after; entries = map as_logged page.entries; complete = page.complete; total = page.count }
+
 -- A catch-up asks for pages behind the log's last entry until one is complete, in so many turns at most.
-abbrev pub catch_up : ℕ → ℕ → List EntryView → List LogPage → List LogPage
-catch_up zero most archive pages = pages
-catch_up (suc turns) most archive pages =
+abbrev pub catch_up : ℕ → ℕ → Kept → List LogPage → List LogPage
+catch_up zero most kept pages = pages
+catch_up (suc turns) most kept pages =
     option_map_or
     (λ page.
     if page.complete then pages ++ as_taken_over (last_id (log_of pages)) page ∷ []
-    else catch_up turns most archive (pages ++ as_taken_over (last_id (log_of pages)) page ∷ []))
-    (page_of (place_behind (last_id (log_of pages))) most archive)
+    else catch_up turns most kept (pages ++ as_taken_over (last_id (log_of pages)) page ∷ []))
+    (page_answered (last_id (log_of pages)) most kept)
     pages
+
+-- an account's bare address, and its archive after these takes
+abbrev pub kept_after : List ℕ → List Take → Kept
+kept_after account takes = kept_by (bare_address account) (archive_of account takes)
 
 -- the device's pages after a step, below the steps before it; an archive of k entries takes at most k + 1 turns
 abbrev pub pages_after : List Step → List ℕ → List Step → List LogPage → Step → List LogPage
 pages_after all device before pages (Catchup name most) =
     if bytes_eq device name
-    then (let archive = archive_of (home_of before device) (takes_of all before) in catch_up (length archive + 1) most archive pages)
+    then (let kept = kept_after (home_of before device) (takes_of all before) in catch_up (length kept.entries + 1) most kept pages)
     else pages
 pages_after all device before pages _ = pages
 

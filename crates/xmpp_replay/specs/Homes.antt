@@ -1,6 +1,6 @@
 -- The accounts of a run, each with its archive.
-use Rattle.std.specs.Prelude.{◌≡◌, ℕ, zero, suc, ◌+◌, ◌==◌, List, [], ◌∷◌, ◌++◌, length, map, if◌then◌else◌}
-use Rattle.xmpp_archive.specs.Entries.{ArchiveView, EntryView, numbered}
+use Rattle.std.specs.Prelude.{◌≡◌, ℕ, zero, suc, ◌+◌, ◌≤◌, ◌==◌, List, [], ◌∷◌, ◌++◌, length, map, if◌then◌else◌}
+use Rattle.xmpp_archive.specs.Entries.{AreNumbered, ArchiveView, EntryView, numbered}
 use Rattle.xmpp_replay.specs.Direct.{Take, archive_of}
 use Rattle.xmpp_replay.specs.declared.run.accounts.Account.{Account}
 
@@ -9,10 +9,12 @@ pub record Home : Type 0 where
   pub name : List ℕ
   pub entries : List EntryView
 
--- the archive keeps all that came
+-- the archive keeps all that came, numbered 1, 2, 3 and so on
 pub record IsWhole (archive : ArchiveView) : Type 0 where
   pub keep : archive.keep ≡ 4294967295
   pub last : archive.last ≡ length archive.entries
+  pub few : length archive.entries ≤ 4294967295
+  pub numbers : AreNumbered (length archive.entries) archive.entries
 
 -- the accounts, and how many entries more fit into each archive without further memory
 pub record HomesView : Type 0 where

@@ -1,8 +1,8 @@
 pub use Rattle.xmpp_edge.specs.Listed
 pub use Rattle.xmpp_archive.specs.Entries
 pub use Rattle.xmpp_archive.specs.Ids
-pub use Rattle.xmpp_archive.specs.Pages
 pub use Rattle.xmpp_log.specs.LogPages
+pub use Rattle.xmpp_pages.specs.PageOf
 pub mod Direct
 pub mod Gives
 pub mod Grammar

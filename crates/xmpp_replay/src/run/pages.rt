@@ -1,18 +1,77 @@
 //! The pages that a device takes of its account's archive, one behind the other (XEP-0313 section 4.3, XEP-0059).
-ghost use Rattle.std.specs.Prelude.{◌≡◌, ℕ, ◌+◌, ◌-◌, ◌<◌, ◌≤◌, nat_le, IsTrue, not, [], ◌∷◌, ◌++◌, Some, None, Ok, length, map, take, drop, slice_index_or, OnOk, OnErr, IfOk, IsSomeAnd, if◌then◌else◌};
+ghost use Rattle.std.specs.Prelude.{◌≡◌, ◌-◌, ◌<◌, ◌≤◌, nat_le, [], Some, None, Ok, length, map, take, drop, slice_index_or, OnOk, IfOk, IsSomeAnd};
+ghost use Rattle.std.specs.Option.{option_copied, option_map};
 ghost use Rattle.xmpp_archive.specs.Entries.{EntryView};
 ghost use Rattle.xmpp_archive.specs.Ids.{id_of};
-ghost use Rattle.xmpp_archive.specs.Pages.{page_behind};
 ghost use Rattle.xmpp_log.specs.LogPages.{last_id};
 ghost use Rattle.xmpp_log.specs.Views.{after_fin, fin_answer, outcome_of, page_for, with_result};
-ghost use Rattle.xmpp_replay.specs.Direct.{as_logged};
+ghost use Rattle.xmpp_pages.specs.Kept.{kept_of};
+ghost use Rattle.xmpp_pages.specs.PageOf.{page_of};
+ghost use Rattle.xmpp_pages.specs.Spans.{numbers_of};
+ghost use Rattle.xmpp_replay.specs.Direct.{as_logged, place_behind, query_behind};
 ghost use Rattle.xmpp_replay.specs.Homes.{IsWhole};
-ghost use Rattle.xmpp_replay.specs.Turns.{IsFrontOf, caught_up, opened, open_page, with_turn};
+ghost use Rattle.xmpp_replay.specs.Turns.{IsFrontOf, caught_up, fin_of, opened, open_page, page_behind, with_turn};
 
 use std::alloc::Global;
 use xmpp_archive::{Archive, id_of_number};
-use xmpp_edge::{NoMemory, Text};
+use xmpp_edge::{Copied, NoMemory, Text};
 use xmpp_log::{BeginFault, Fin, FinFault, Log, LogEntry, ResultFault};
+use xmpp_pages::{ArchiveLook, PageCut, PageFault, PageQuery, Place, page};
+
+/// Behind the log's last entry, or at the archive's first one where the log has none.
+fn place_behind(alloc: Global, log: &Log) -> Result<Place, NoMemory>
+    ensures { IfOk result (λ place. place ≡ place_behind (last_id log.now.entries)) }
+{
+    match log.entries().last() {
+        Some(last) => Ok(Place::After(last.id.copied(alloc)?)),
+        None => Ok(Place::First),
+    }
+}
+
+/// Asks the archive for the page behind the log's last entry, of at most so many entries.
+fn ask(alloc: Global, log: &Log, archive: &Archive, most: u32) -> Result<PageCut, NoMemory>
+    requires whole { IsWhole archive.now }
+    requires most { most ≤ 100 }
+    requires front { IsFrontOf archive.now.entries log.now.entries }
+    ensures { IfOk result (λ cut. page_of (kept_of archive.now) (query_behind (last_id log.now.entries) most) ≡ Some cut) }
+{
+    let query = PageQuery {
+        peer: None,
+        start: None,
+        end: None,
+        place: place_behind(alloc, log)?,
+        max: Some(most),
+    };
+    match page(alloc, &mut ArchiveLook::new(archive), &query) {
+        Ok(cut) => Ok(cut),
+        Err(PageFault::NoMemory) => Err(NoMemory),
+        Err(PageFault::NotFound) => unreachable!(),
+    }
+}
+
+/// The id of the entry with a number, where a page has one.
+fn id_in_page(alloc: Global, number: Option<&u64>) -> Result<Option<Text>, NoMemory>
+    ensures { IfOk result (λ id. id ≡ option_map id_of (option_copied number.entry)) }
+{
+    match number {
+        Some(number) => Ok(Some(id_of_number(alloc, *number)?)),
+        None => Ok(None),
+    }
+}
+
+/// What the archive tells at the page's end.
+fn fin_of(alloc: Global, cut: &PageCut) -> Result<Fin, NoMemory>
+    ensures { IfOk result (λ fin. fin ≡ fin_of cut.now) }
+{
+    let numbers = cut.numbers.as_slice();
+    Ok(Fin {
+        complete: cut.complete,
+        first: id_in_page(alloc, numbers.first())?,
+        first_index: cut.first_index,
+        last: id_in_page(alloc, numbers.last())?,
+        count: cut.count,
+    })
+}
 
 /// Begins the next page, and answers its query id.
 fn begin_page(log: &mut Log, alloc: Global, most: u32) -> Result<Text, NoMemory>
@@ -73,42 +132,28 @@ fn end_page(log: &mut Log, alloc: Global, queryid: &str, fin: &Fin) -> Result<()
     }
 }
 
-/// Copies so many entries of the archive behind the log's last into the open page.
-#[tactic(auto, using(crate::proofs::CatchUps::results_more))]
+/// Copies the archive's entries with the numbers of the next page into the open page.
 fn copy_results(
     log: &mut Log,
     alloc: Global,
     queryid: &str,
     archive: &Archive,
     most: u32,
-    count: u64,
+    numbers: &[u64],
 ) -> Result<(), NoMemory>
     requires whole { IsWhole archive.now }
     requires begun { log.old.page ≡ Some (open_page queryid.now most log.old []) }
-    requires few { count ≤ most }
-    requires there { length log.old.entries + count ≤ length archive.now.entries }
-    ensures { OnOk result (log.new ≡ opened queryid.now most log.old (map as_logged (take count (drop (length log.old.entries) archive.now.entries)))) }
+    requires next { numbers.now ≡ numbers_of (take most (drop (length log.old.entries) archive.now.entries)) }
+    ensures { OnOk result (log.new ≡ opened queryid.now most log.old (map as_logged (take most (drop (length log.old.entries) archive.now.entries)))) }
 {
-    let had = log.entries().len() as u64;
-    for at in 0..count {
-        copy_result(log, alloc, queryid, archive, had + at + 1)?;
+    for number in numbers {
+        copy_result(log, alloc, queryid, archive, *number)?;
     }
     Ok(())
 }
 
-/// The id of the entry with a number, of a page that has one.
-fn id_in_page(alloc: Global, empty: bool, number: u64) -> Result<Option<Text>, NoMemory>
-    ensures { IfOk result (λ id. id ≡ (if empty then None else Some (id_of number))) }
-{
-    if empty {
-        return Ok(None);
-    }
-    Ok(Some(id_of_number(alloc, number)?))
-}
-
 /// Takes the archive's next page of at most so many entries over into the log. It answers whether the page is
 /// complete, and costs what the page costs, however long the archive is.
-#[tactic(auto, using(crate::proofs::PageEnds::page_ends_well))]
 fn take_page(log: &mut Log, alloc: Global, archive: &Archive, most: u32) -> Result<bool, NoMemory>
     requires whole { IsWhole archive.now }
     requires most { (1 ≤ most) × (most ≤ 100) }
@@ -117,21 +162,19 @@ fn take_page(log: &mut Log, alloc: Global, archive: &Archive, most: u32) -> Resu
     ensures page { OnOk result (log.new ≡ with_turn log.old (page_behind (length log.old.entries) most archive.now.entries)) }
     ensures complete { IfOk result (λ complete. complete ≡ nat_le (length (drop (length log.old.entries) archive.now.entries)) most) }
 {
-    let total = archive.len();
-    let had = log.entries().len() as u64;
-    let count = (total - had).min(u64::from(most));
-    let complete = total - had <= u64::from(most);
-    let fin = Fin {
-        complete,
-        first: id_in_page(alloc, count == 0, had + 1)?,
-        first_index: had,
-        last: id_in_page(alloc, count == 0, had + count)?,
-        count: total,
-    };
+    let cut = ask(alloc, log, archive, most)?;
+    let fin = fin_of(alloc, &cut)?;
     let queryid = begin_page(log, alloc, most)?;
-    copy_results(log, alloc, queryid.as_str(), archive, most, count)?;
+    copy_results(
+        log,
+        alloc,
+        queryid.as_str(),
+        archive,
+        most,
+        cut.numbers.as_slice(),
+    )?;
     end_page(log, alloc, queryid.as_str(), &fin)?;
-    Ok(complete)
+    Ok(cut.complete)
 }
 
 /// Takes the pages behind the log's last entry until one is complete. Each costs what its entries cost.

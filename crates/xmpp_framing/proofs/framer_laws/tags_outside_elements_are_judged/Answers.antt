@@ -13,6 +13,12 @@ returns-clause-header c = λ t e h outer p opens is. laws.header t outer h e p o
 pub returns-clause-element : goal.returns-clause-element
 returns-clause-element c = λ t e h outer p opens is. laws.element t outer h e p opens is
 
+pub returns-clause-deep : goal.returns-clause-deep
+returns-clause-deep c = λ t tag h outer p opens is far. laws.top_deep t outer h tag p opens is far
+
+pub returns-clause-header_declared : goal.returns-clause-header_declared
+returns-clause-header_declared c = λ t e h outer p opens is. laws.header_behind_declaration t outer h e p opens is
+
 pub returns-clause-declared : goal.returns-clause-declared
 returns-clause-declared c = λ t h outer p opens. laws.behind_declaration t outer h p opens
 

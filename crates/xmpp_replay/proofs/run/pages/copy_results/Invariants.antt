@@ -4,8 +4,6 @@ use Rattle.xmpp_replay.specs.Direct.{as_logged}
 use Rattle.xmpp_replay.specs.Turns.{opened}
 use Rattle.xmpp_replay.proofs.run.pages.copy_results.Given as goal
 
-abbrev pub invariant-loop-at : goal.invariant-loop-at
-invariant-loop-at l = record {
-  had : l.had ≡ length l.fn.log.entries;
-  log : l.log ≡ opened l.queryid l.most l.fn.log (map as_logged (take l.at (drop (length l.fn.log.entries) l.archive.entries)));
-}
+abbrev pub invariant-loop-number : goal.invariant-loop-number
+invariant-loop-number l =
+    l.log ≡ opened l.queryid l.most l.fn.log (map as_logged (take l.number-index (drop (length l.fn.log.entries) l.archive.entries)))

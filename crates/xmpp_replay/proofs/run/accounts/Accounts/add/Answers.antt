@@ -1,7 +1,7 @@
 -- The account that is added stands behind the others, and its archive keeps all that comes.
-use Rattle.std.proofs.Common.{◌≡◌, [], ◌∷◌, ◌++◌, length, map, sym, ap, ◌∙◌}
+use Rattle.std.proofs.Common.{◌≡◌, [], ◌∷◌, ◌++◌, map, sym, ap, ◌∙◌}
 use Rattle.std.proofs.lemmas.List.{map-append}
-use Rattle.xmpp_replay.proofs.HomeLists.{whole_push}
+use Rattle.xmpp_replay.proofs.HomeLists.{whole_empty, whole_push}
 use Rattle.xmpp_replay.specs.Homes.{Home, IsWhole, home_of_account, names_of}
 use Rattle.xmpp_replay.specs.declared.run.accounts.Account.{Account}
 use Rattle.xmpp_replay.proofs.run.accounts.Accounts.add.Goals as goal
@@ -11,7 +11,7 @@ invariant_of-self-2 c =
     let items = c.self.inside.accounts.items in
     let account : Account = record { name = c.in_ok-from_str.field-0; archive = c.new.result } in
     let all : c.push.new.self.items ≡ items ++ account ∷ [] = c.in-Ok.ensures.items ∙ ap (λ l. l ++ account ∷ []) c.reserve.ensures.items in
-    let whole : IsWhole c.new.result = record { keep = c.new.ensures.keep; last = c.new.ensures.last ∙ ap length (sym c.new.ensures.entries) } in
+    let whole : IsWhole c.new.result = whole_empty c.new.result c.new.ensures.keep c.new.ensures.last c.new.ensures.entries in
     let homes : map home_of_account (items ++ account ∷ []) ≡ map home_of_account items ++ home_of_account account ∷ [] = map-append home_of_account items (account ∷ []) in
     let names : names_of (map home_of_account items ++ home_of_account account ∷ []) ≡ names_of (map home_of_account items) ++ account.name ∷ [] =
     map-append (λ (h : Home). h.name) (map home_of_account items) (home_of_account account ∷ []) in

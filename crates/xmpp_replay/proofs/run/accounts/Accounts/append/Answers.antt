@@ -1,8 +1,7 @@
 -- The account at the place has the entry at its archive's end.
 use Rattle.std.proofs.Common.{◌≡◌, ◌+◌, map, length, sym, ap, ◌∙◌, arith}
-use Rattle.std.proofs.lemmas.List.{length_push}
 use Rattle.xmpp_archive.specs.Entries.{numbered}
-use Rattle.xmpp_replay.proofs.HomeLists.{few_of_view, few_there, homes_appended, names_kept, place_in_view, rooms_elsewhere, whole_appended, whole_set, whole_there}
+use Rattle.xmpp_replay.proofs.HomeLists.{few_of_view, few_there, homes_appended, names_kept, place_in_view, rooms_elsewhere, whole_appended, whole_grown, whole_set, whole_there}
 use Rattle.xmpp_replay.specs.Homes.{HomesView, IsWhole, appended_at, home_of_account, names_of}
 use Rattle.xmpp_replay.proofs.run.accounts.Accounts.append.Goals as goal
 use Rattle.std.proofs.Common.{◌++◌, [], ◌∷◌, set}
@@ -35,13 +34,12 @@ made c =
 pub invariant_of-self : goal.invariant_of-self
 invariant_of-self c =
     let items = c.self.inside.accounts.items in
-    let whole = whole_there items c.args.place c.index_mut.result.now c.self.invariant.1 c.index_mut.ensures.value
-    (place_in_view items c.args.self.now c.args.place c.self.view_is c.requires.there) in
-    let size : length c.append_reserved.new.self.entries ≡ length c.index_mut.result.now.archive.entries + 1 =
-    ap length (grown c) ∙ length_push c.index_mut.result.now.archive.entries (numbered (length c.index_mut.result.now.archive.entries + 1) c.args.entry) in
-    let last : c.append_reserved.new.self.last ≡ length c.append_reserved.new.self.entries =
-    omega (arith, c.append_reserved.ensures.last, c.append_reserved.ensures.number, whole.last) in
-    let stays : IsWhole c.append_reserved.new.self = record { keep = c.append_reserved.ensures.keep ∙ whole.keep; last = last } in (
+    let there = place_in_view items c.args.self.now c.args.place c.self.view_is c.requires.there in
+    let whole = whole_there items c.args.place c.index_mut.result.now c.self.invariant.1 c.index_mut.ensures.value there in
+    let few = few_there items c.args.place c.index_mut.result.now c.index_mut.ensures.value there (few_of_view items c.args.self.now c.self.view_is c.requires.few) in
+    let stays : IsWhole c.append_reserved.new.self =
+    whole_grown c.index_mut.result.now.archive c.append_reserved.new.self c.args.entry whole few c.append_reserved.ensures.keep
+    (c.append_reserved.ensures.last ∙ c.append_reserved.ensures.number) (grown c) in (
       c.self.invariant.0 ∙ sym (names_kept (map home_of_account items) c.args.place c.args.entry) ∙ ap names_of (sym (made c)),
       whole_set items c.args.place (record { name = c.index_mut.result.now.name; archive = c.append_reserved.new.self }) c.self.invariant.1 stays,
     )

@@ -1,7 +1,7 @@
 -- The account at the place has its archive with more room, and the lists that clauses see are as they were.
-use Rattle.std.proofs.Common.{length, sym, ap, ◌∙◌, arith}
+use Rattle.std.proofs.Common.{sym, ap, ◌∙◌, arith}
 use Rattle.std.proofs.lemmas.Grind.{common_steps}
-use Rattle.xmpp_replay.proofs.HomeLists.{few_of_view, few_there, homes_kept, place_in_view, rooms_raised, room_there, whole_set, whole_there}
+use Rattle.xmpp_replay.proofs.HomeLists.{few_of_view, few_there, homes_kept, place_in_view, rooms_raised, room_there, whole_kept, whole_set, whole_there}
 use Rattle.xmpp_replay.specs.Homes.{HomesView, IsWhole, names_of}
 use Rattle.xmpp_replay.proofs.run.accounts.Accounts.reserve.Goals as goal
 use Rattle.xmpp_replay.proofs.run.accounts.Accounts.reserve.Goals.{in-Ok, in-Err-NoMemory}
@@ -20,10 +20,8 @@ invariant_of-self c =
     let items = c.self.inside.accounts.items in
     let there = place_in_view items c.args.self.now c.args.place c.self.view_is c.requires.there in
     let whole = whole_there items c.args.place c.index_mut.result.now c.self.invariant.1 c.index_mut.ensures.value there in
-    let stays : IsWhole c.reserve.new.self = record {
-      keep = c.reserve.ensures.keep ∙ whole.keep;
-      last = c.reserve.ensures.last ∙ whole.last ∙ ap length (sym c.reserve.ensures.entries);
-    } in (
+    let stays : IsWhole c.reserve.new.self =
+    whole_kept c.index_mut.result.now.archive c.reserve.new.self whole c.reserve.ensures.keep c.reserve.ensures.last c.reserve.ensures.entries in (
       c.self.invariant.0 ∙ ap names_of (sym (homes_kept items c.args.place c.index_mut.result.now c.reserve.new.self c.index_mut.ensures.value c.reserve.ensures.entries)),
       whole_set items c.args.place (record { name = c.index_mut.result.now.name; archive = c.reserve.new.self }) c.self.invariant.1 stays,
     )

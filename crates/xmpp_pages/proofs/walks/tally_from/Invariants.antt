@@ -1,7 +1,7 @@
 use Rattle.std.proofs.Common.{◌≡◌}
 use Rattle.xmpp_pages.proofs.Walked.{IsWalked, steps_left}
 use Rattle.xmpp_pages.specs.Kept.{last_number}
-use Rattle.xmpp_pages.proofs.walks.tally_of_chain.Given as goal
+use Rattle.xmpp_pages.proofs.walks.tally_from.Given as goal
 
 abbrev pub invariant-loop-next : goal.invariant-loop-next
 invariant-loop-next g l =

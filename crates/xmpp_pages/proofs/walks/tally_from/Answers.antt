@@ -1,20 +1,18 @@
-use Rattle.std.proofs.Common.{◌≡◌, sym, ap, ap₂, ◌∙◌, arith}
+use Rattle.std.proofs.Common.{◌≡◌, refl, sym, ap, ap₂, ◌∙◌, arith}
 use Rattle.std.specs.Str.{bytes_eq}
 use Rattle.xmpp_pages.proofs.Walked.{walk_at, walk_begin, walk_end, walk_on, walk_smaller}
 use Rattle.xmpp_pages.specs.Kept.{Kept}
-use Rattle.xmpp_archive.specs.Peers.{first_of, next_of}
+use Rattle.xmpp_archive.specs.Peers.{next_of}
 use Rattle.xmpp_pages.specs.Walks.{is_own, wanted_numbers}
-use Rattle.xmpp_pages.proofs.walks.tally_of_chain.Goals as goal
+use Rattle.xmpp_pages.proofs.walks.tally_from.Goals as goal
 
 pub loop-next-init : goal.loop-next-init
 loop-next-init g c =
     let kept = g.V.Look.archive c.args.look.now in
     record {
-      same = c.first_of-next.ensures.archive;
+      same = refl;
       walked = walk_begin kept c.args.query.now c.args.peer.now c.args.span (g.V.Look.looks c.args.look.now)
-          (g.V.Look.looks c.first_of-next.new.self) c.first_of-next.result c.new-tally.result c.requires.peer
-          (c.first_of-next.ensures.number ∙ ap (λ p. first_of kept.owner p kept.entries) c.bare_form-2.ensures)
-          c.new-tally.ensures (omega (arith, c.first_of-next.ensures.looks));
+          (g.V.Look.looks c.args.look.now) c.args.first c.new-tally.result c.requires.peer c.requires.first c.new-tally.ensures (omega arith);
     }
 
 pub visit-requires : goal.visit-requires
@@ -37,7 +35,8 @@ loop-next-preserved g c =
       walked = walk_on kept c.args.query.now c.args.span (g.V.Look.looks c.args.look.now) (g.V.Look.looks c.loop-next.look)
           (g.V.Look.looks c.next_of-next.new.self) c.in-Some.number c.next_of-next.result c.loop-next.tally c.visit.new.tally at
           (c.next_of-next.ensures.number ∙ ap (λ (k : Kept). next_of k.owner c.in-Some.number k.entries) (c.visit.ensures.archive ∙ same))
-          (counted at.there at.is own at.in_chain at.counted) (omega (arith, c.next_of-next.ensures.looks, c.visit.ensures.looks));
+          (counted at.there at.is own at.in_chain at.counted) (omega (arith, c.next_of-next.ensures.looks, c.visit.ensures.looks))
+          (λ plain. omega (arith, c.next_of-next.ensures.looks, c.visit.ensures.plain plain));
     }
 
 pub loop-next-smaller : goal.loop-next-smaller
