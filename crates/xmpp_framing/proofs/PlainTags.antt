@@ -1,13 +1,16 @@
 -- Bytes of a tag, one after another, are taken as all at once are.
-use Rattle.std.proofs.Common.{◌≡◌, ℕ, ◌+◌, ◌-◌, ◌<◌, ◌≤◌, ltb, Bool, true, false, true≢false, not, ◌&&◌, ◌==◌, List, [], ◌∷◌, ◌++◌, Option, None, length, take, get_or, refl, sym, ap, ◌∙◌, arith, append_assoc, append-nil}
+use Rattle.std.proofs.Common.{◌≡◌, ℕ, ◌+◌, ◌-◌, ◌<◌, ◌≤◌, ltb, Bool, true, false, true≢false, not, ◌&&◌, ◌==◌, List, [], ◌∷◌, ◌++◌, Option, Some, None, length, take, drop, get_or, subst, refl, sym, ap, ◌∙◌, arith, append_assoc, append-nil}
 use Rattle.std.proofs.lemmas.Bool.{and_parts, and_from, not-true}
-use Rattle.std.proofs.lemmas.List.{length-take-le, take-take, take_more}
+use Rattle.std.proofs.lemmas.List.{length-drop, length-take-le, take-take, take_more, take_rest}
+use Rattle.std.proofs.Math.Seq.{take-add}
+use Rattle.std.specs.List.{list_all, prefix_len}
 use Rattle.std.specs.Option.{is_some}
+use Rattle.xmpp_tokens.proofs.Splits as splits
 use Rattle.xmpp_tokens.specs.Tags.{quote_behind}
 use Rattle.xmpp_tokens.specs.Utf8.{utf8_next}
 use Rattle.xmpp_framing.proofs.PlainTexts.{empty_is, none_is, room_after, short, used_next}
 use Rattle.xmpp_framing.specs.Machine.{goes_on, is_too_long, run, step, taken}
-use Rattle.xmpp_framing.specs.ManyBytes.{LeavesRoom, TakesRun, go_on_in, goes_on_in, is_tag, place_behind, quote_after, tag_taken, takes_tag, used_behind}
+use Rattle.xmpp_framing.specs.ManyBytes.{GoesOnTo, KeepsQuote, LeavesRoom, TakesRun, is_quoted, is_unquoted, go_on_in, goes_on_in, is_tag, place_behind, quote_after, tag_taken, takes_tag, used_behind}
 use Rattle.xmpp_framing.specs.States.{State, Turn, moved, next_place, turn}
 use Rattle.xmpp_framing.specs.TagSteps.{in_tag}
 use Rattle.xmpp_framing.specs.declared.states.Mode.{Mode}
@@ -90,6 +93,10 @@ and_last : (x : Bool) → (x && true) ≡ x
 and_last true = refl
 and_last false = refl
 
+never : (x : Bool) → (x && false) ≡ false
+never true = refl
+never false = refl
+
 and_again : (x y z : Bool) → (x && (y && z)) ≡ ((x && y) && z)
 and_again true y z = refl
 and_again false y z = refl
@@ -102,12 +109,85 @@ pub quote_more : (quote : Option ℕ) (bs : List ℕ) (b : ℕ) → quote_after 
 quote_more quote [] b = refl
 quote_more quote (x ∷ xs) b = quote_more (quote_behind quote x) xs b
 
-pub scan_more : (quote now next : Option ℕ) (bs : List ℕ) (i : ℕ) → i < length bs → (go_on_in quote (take i bs) ≡ true) × (now ≡ quote_after quote (take i bs)) → goes_on_in now (get_or bs i 0) ≡ true
-    → next ≡ quote_behind now (get_or bs i 0) → (go_on_in quote (take (i + 1) bs) ≡ true) × (next ≡ quote_after quote (take (i + 1) bs))
-scan_more quote now next bs i within h on behind =
-    let front = take i bs in
-    let b = get_or bs i 0 in
-    let more : take (i + 1) bs ≡ front ++ b ∷ [] = take_more bs i 0 within in (
-      ap (go_on_in quote) more ∙ (go_on_more quote front b ∙ and_from _ _ h.0 (ap (λ q. goes_on_in q b) (sym h.1) ∙ on)),
-      behind ∙ (ap (λ q. quote_behind q b) h.1 ∙ (sym (quote_more quote front b) ∙ ap (quote_after quote) (sym more))),
-    )
+pub go_on_append : (quote : Option ℕ) (xs ys : List ℕ) → go_on_in quote (xs ++ ys) ≡ (go_on_in quote xs && go_on_in (quote_after quote xs) ys)
+go_on_append quote [] ys = refl
+go_on_append quote (x ∷ xs) ys =
+    ap (λ r. goes_on_in quote x && r) (go_on_append (quote_behind quote x) xs ys) ∙ and_again (goes_on_in quote x) (go_on_in (quote_behind quote x) xs) (go_on_in (quote_after (quote_behind quote x) xs) ys)
+
+pub quote_append : (quote : Option ℕ) (xs ys : List ℕ) → quote_after quote (xs ++ ys) ≡ quote_after (quote_after quote xs) ys
+quote_append quote [] ys = refl
+quote_append quote (x ∷ xs) ys = quote_append (quote_behind quote x) xs ys
+
+-- bytes that go on, and then more of them
+goes_further : (quote now next : Option ℕ) (bs : List ℕ) (d n : ℕ) → GoesOnTo quote bs d now → GoesOnTo now (drop d bs) n next → GoesOnTo quote bs (d + n) next
+goes_further quote now next bs d n h more =
+    let apart : take (d + n) bs ≡ take d bs ++ take n (drop d bs) = take-add d n bs in
+    let bound = more.bound in
+    let within = h.bound in
+    record {
+      bound = omega (arith, length-drop d bs);
+      inside = ap (go_on_in quote) apart ∙ (go_on_append quote (take d bs) (take n (drop d bs)) ∙ and_from _ _ h.inside (ap (λ q. go_on_in q (take n (drop d bs))) (sym h.behind_is) ∙ more.inside));
+      behind_is = more.behind_is ∙ (ap (λ q. quote_after q (take n (drop d bs))) h.behind_is ∙ (sym (quote_append quote (take d bs) (take n (drop d bs))) ∙ ap (quote_after quote) (sym apart)));
+    }
+
+-- the rest of a slice is seen as a part of it
+pub goes_on_behind : (quote now next : Option ℕ) (bs : List ℕ) (d n : ℕ) → GoesOnTo quote bs d now → GoesOnTo now (take (length bs - d) (drop d bs)) n next → GoesOnTo quote bs (d + n) next
+goes_on_behind quote now next bs d n h more = goes_further quote now next bs d n h (subst (λ r. GoesOnTo now r n next) (take_rest bs d) more)
+
+pub one_further : (quote next : Option ℕ) (bs : List ℕ) (n b : ℕ) → KeepsQuote quote bs n → n < length bs → b ≡ get_or bs n 0 → goes_on_in quote b ≡ true → next ≡ quote_behind quote b → GoesOnTo quote bs (n + 1) next
+one_further quote next bs n b h within is on behind =
+    let more : take (n + 1) bs ≡ take n bs ++ b ∷ [] = take_more bs n 0 within ∙ ap (λ x. take n bs ++ x ∷ []) (sym is) in
+    record {
+      bound = omega arith;
+      inside = ap (go_on_in quote) more ∙ (go_on_more quote (take n bs) b ∙ and_from _ _ h.inside (ap (λ q. goes_on_in q b) (sym h.behind_is) ∙ on));
+      behind_is = behind ∙ (ap (λ q. quote_behind q b) h.behind_is ∙ (sym (quote_more quote (take n bs) b) ∙ ap (quote_after quote) (sym more)));
+    }
+
+pub goes_nowhere : (quote : Option ℕ) (bs : List ℕ) → GoesOnTo quote bs 0 quote
+goes_nowhere quote bs = record { bound = omega arith; inside = refl; behind_is = refl }
+
+-- ---- bytes that leave the open quote as it is
+
+record Unquoted (b : ℕ) : Type 0 where
+  on : goes_on_in None b ≡ true
+  none : quote_behind None b ≡ None
+
+unquoted_is : (b : ℕ) → is_unquoted b ≡ true → Unquoted b
+unquoted_is b h =
+    let low = and_parts (ltb b 128) _ h in
+    let greater = and_parts (not (b == 62)) _ low.1 in
+    let double = and_parts (not (b == 34)) _ greater.1 in
+    let no_greater = not-true _ greater.0 in
+    let no_double = not-true _ double.0 in
+    let no_single = not-true _ double.1 in
+    record { on = rw (low.0, no_greater) refl; none = rw (no_double, no_single) refl }
+
+unquoted_on : (bs : List ℕ) → list_all is_unquoted bs ≡ true → (go_on_in None bs ≡ true) × (None ≡ quote_after None bs)
+unquoted_on [] h = (refl, refl)
+unquoted_on (b ∷ bs) h =
+    let parts = and_parts (is_unquoted b) (list_all is_unquoted bs) h in
+    let u = unquoted_is b parts.0 in
+    let more = unquoted_on bs parts.1 in
+    (and_from _ _ u.on (ap (λ q. go_on_in q bs) u.none ∙ more.0), more.1 ∙ ap (λ q. quote_after q bs) (sym u.none))
+
+quoted_on : (quote : ℕ) (bs : List ℕ) → list_all (is_quoted quote) bs ≡ true → (go_on_in (Some quote) bs ≡ true) × (Some quote ≡ quote_after (Some quote) bs)
+quoted_on quote [] h = (refl, refl)
+quoted_on quote (b ∷ bs) h =
+    let parts = and_parts (is_quoted quote b) (list_all (is_quoted quote) bs) h in
+    let low = and_parts (ltb b 128) _ parts.0 in
+    let other = not-true _ low.1 in
+    let on : goes_on_in (Some quote) b ≡ true = and_from _ _ low.0 (ap not (never (b == 62))) in
+    let same : quote_behind (Some quote) b ≡ Some quote = rw other refl in
+    let more = quoted_on quote bs parts.1 in
+    (and_from _ _ on (ap (λ q. go_on_in q bs) same ∙ more.0), more.1 ∙ ap (λ q. quote_after q bs) (sym same))
+
+pub unquoted_front : (bs : List ℕ) → KeepsQuote None bs (prefix_len is_unquoted bs)
+unquoted_front bs =
+    let on = unquoted_on (take (prefix_len is_unquoted bs) bs) (ap (list_all is_unquoted) (splits.take_prefix is_unquoted bs) ∙ splits.front_passes is_unquoted bs) in
+    record { bound = splits.prefix_within is_unquoted bs; inside = on.0; behind_is = on.1 }
+
+pub quoted_front : (quote : ℕ) (bs : List ℕ) → KeepsQuote (Some quote) bs (prefix_len (is_quoted quote) bs)
+quoted_front quote bs =
+    let p = is_quoted quote in
+    let on = quoted_on quote (take (prefix_len p bs) bs) (ap (list_all p) (splits.take_prefix p bs) ∙ splits.front_passes p bs) in
+    record { bound = splits.prefix_within p bs; inside = on.0; behind_is = on.1 }

@@ -70,6 +70,23 @@ abbrev pub quote_after : Option ℕ → List ℕ → Option ℕ
 quote_after quote [] = quote
 quote_after quote (b ∷ bs) = quote_after (quote_behind quote b) bs
 
+-- outside quotes, a byte of ASCII that is no quote and doesn't end a tag
+abbrev pub is_unquoted : ℕ → Bool
+is_unquoted b = nat_lt b 128 && (not (b == 62) && (not (b == 34) && not (b == 39)))
+
+-- inside a quote, a byte of ASCII that doesn't end it
+abbrev pub is_quoted : ℕ → ℕ → Bool
+is_quoted quote b = nat_lt b 128 && not (b == quote)
+
+-- the first n bytes are of ASCII and don't end a tag, and behind them this quote is open
+pub record GoesOnTo (quote : Option ℕ) (bytes : List ℕ) (n : ℕ) (behind : Option ℕ) : Type 0 where
+  pub bound : n ≤ length bytes
+  pub inside : go_on_in quote (take n bytes) ≡ true
+  pub behind_is : behind ≡ quote_after quote (take n bytes)
+
+abbrev pub KeepsQuote : Option ℕ → List ℕ → ℕ → Type 0
+KeepsQuote quote bytes n = GoesOnTo quote bytes n quote
+
 -- behind bytes that don't end a tag
 abbrev pub tag_taken : State → List ℕ → State
 tag_taken s bs = behind_bytes (record s { token = s.token ++ bs; lexical = record s.lexical { quote = quote_after s.lexical.quote bs } }) bs

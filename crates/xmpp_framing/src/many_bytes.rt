@@ -3,7 +3,7 @@ ghost use Rattle.std.specs.Prelude.{◌≡◌, ◌≤◌, ◌<◌, ◌++◌, tru
 ghost use Rattle.std.specs.List.{list_all, prefix_len};
 ghost use Rattle.std.specs.Option.{is_some};
 ghost use Rattle.xmpp_framing.specs.ManyBytes;
-ghost use Rattle.xmpp_framing.specs.ManyBytes.{LeavesRoom, TakesRun, behind_bytes, go_on_in, quote_after, tag_taken, text_taken};
+ghost use Rattle.xmpp_framing.specs.ManyBytes.{GoesOnTo, KeepsQuote, LeavesRoom, TakesRun, behind_bytes, quote_after, tag_taken, text_taken};
 ghost use Rattle.xmpp_tokens.specs.Characters;
 
 use crate::framer::Framer;
@@ -71,20 +71,71 @@ fn goes_on_in(quote: Option<u8>, b: u8) -> bool
     b < 128 && !(b == b'>' && quote.is_none())
 }
 
+// Whether a byte outside quotes is one of ASCII that changes nothing but a tag's bytes.
+fn is_unquoted(b: u8) -> bool
+    ensures { result ≡ ManyBytes.is_unquoted b }
+{
+    b < 128 && b != b'>' && b != b'"' && b != b'\''
+}
+
+fn unquoted_len(bytes: &[u8]) -> usize
+    ensures { result ≡ prefix_len ManyBytes.is_unquoted bytes.now }
+{
+    bytes.iter().take_while(|b| is_unquoted(**b)).count()
+}
+
+// Whether a byte inside a quote is one of ASCII that doesn't end it.
+fn is_quoted(quote: u8, b: u8) -> bool
+    ensures { result ≡ ManyBytes.is_quoted quote b }
+{
+    b < 128 && b != quote
+}
+
+fn quoted_len(quote: u8, bytes: &[u8]) -> usize
+    ensures { result ≡ prefix_len (ManyBytes.is_quoted quote) bytes.now }
+{
+    bytes.iter().take_while(|b| is_quoted(quote, **b)).count()
+}
+
+// How many first bytes leave the open quote as it is.
+#[tactic(auto, using(crate::proofs::PlainTags::unquoted_front, crate::proofs::PlainTags::quoted_front))]
+fn same_quote_len(quote: Option<u8>, bytes: &[u8]) -> usize
+    ensures { KeepsQuote quote bytes.now result }
+{
+    match quote {
+        None => unquoted_len(bytes),
+        Some(q) => quoted_len(q, bytes),
+    }
+}
+
+// How many first bytes are of ASCII and don't end a tag, up to a quote at most, and the quote that is open behind them.
+#[tactic(auto, using(crate::proofs::PlainTags::one_further))]
+fn part_front(quote: Option<u8>, bytes: &[u8]) -> (usize, Option<u8>)
+    ensures { GoesOnTo quote bytes.now result.0 result.1 }
+{
+    let len = same_quote_len(quote, bytes);
+    match bytes.get(len) {
+        Some(b) if goes_on_in(quote, *b) => (len + 1, quote_behind(quote, *b)),
+        _ => (len, quote),
+    }
+}
+
 // How many first bytes are of ASCII and don't end a tag, and the quote that is open behind them.
+#[tactic(auto, using(crate::proofs::PlainTags::goes_nowhere, crate::proofs::PlainTags::goes_on_behind))]
 fn tag_front(quote: Option<u8>, bytes: &[u8]) -> (usize, Option<u8>)
-    ensures bound { result.0 ≤ length bytes.now }
-    ensures inside { go_on_in quote (take result.0 bytes.now) ≡ true }
-    ensures quote { result.1 ≡ quote_after quote (take result.0 bytes.now) }
+    ensures { GoesOnTo quote bytes.now result.0 result.1 }
 {
     let mut open = quote;
-    for (i, b) in bytes.iter().enumerate() {
-        if !goes_on_in(open, *b) {
-            return (i, open);
+    let mut done = 0;
+    while done < bytes.len() {
+        let (len, behind) = part_front(open, &bytes[done..]);
+        if len == 0 {
+            return (done, open);
         }
-        open = quote_behind(open, *b);
+        done += len;
+        open = behind;
     }
-    (bytes.len(), open)
+    (done, open)
 }
 
 // ---- places

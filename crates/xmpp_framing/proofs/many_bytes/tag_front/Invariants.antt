@@ -1,6 +1,9 @@
-use Rattle.std.proofs.Common.{◌≡◌, true, take}
-use Rattle.xmpp_framing.specs.ManyBytes.{go_on_in, quote_after}
+use Rattle.std.proofs.Common.{◌-◌, length}
+use Rattle.xmpp_framing.specs.ManyBytes.{GoesOnTo}
 use Rattle.xmpp_framing.proofs.many_bytes.tag_front.Given as goal
 
-abbrev pub invariant-loop-i : goal.invariant-loop-i
-invariant-loop-i l = (go_on_in l.fn.quote (take l.i l.bytes) ≡ true) × (l.open ≡ quote_after l.fn.quote (take l.i l.bytes))
+abbrev pub invariant-loop-done : goal.invariant-loop-done
+invariant-loop-done l = GoesOnTo l.fn.quote l.bytes l.done l.open
+
+abbrev pub decreases-loop-done : goal.decreases-loop-done
+decreases-loop-done l = length l.bytes - l.done
