@@ -2,6 +2,8 @@
 #![tactic(auto)]
 
 mod archive_look;
+#[cfg(test)]
+mod compared;
 mod cut;
 mod looks;
 mod paging;

@@ -351,6 +351,250 @@ fn pages_of_the_newest(rt: HostRuntime) -> Result<(), Fail> {
     Ok(())
 }
 
+/// A page with an account, of the newest entries.
+struct Seam {
+    keep: u32,
+    row: Row,
+}
+
+/// Pages of the last one, two and three of the entries. An id may be of an entry with another account.
+static SEAMS: [Seam; 16] = [
+    Seam {
+        keep: 1,
+        row: Row {
+            peer: "carol@a",
+            start: None,
+            end: None,
+            at: At::First,
+            max: None,
+            numbers: &[5],
+            first_index: 0,
+            count: 1,
+            complete: true,
+        },
+    },
+    Seam {
+        keep: 1,
+        row: Row {
+            peer: "carol@a",
+            start: None,
+            end: None,
+            at: At::Last,
+            max: Some(7),
+            numbers: &[5],
+            first_index: 0,
+            count: 1,
+            complete: true,
+        },
+    },
+    Seam {
+        keep: 1,
+        row: Row {
+            peer: "carol@a",
+            start: None,
+            end: None,
+            at: At::After(5),
+            max: None,
+            numbers: &[],
+            first_index: 0,
+            count: 1,
+            complete: true,
+        },
+    },
+    Seam {
+        keep: 1,
+        row: Row {
+            peer: "carol@a",
+            start: None,
+            end: None,
+            at: At::Before(5),
+            max: None,
+            numbers: &[],
+            first_index: 0,
+            count: 1,
+            complete: true,
+        },
+    },
+    Seam {
+        keep: 1,
+        row: Row {
+            peer: "bob@a",
+            start: None,
+            end: None,
+            at: At::First,
+            max: None,
+            numbers: &[],
+            first_index: 0,
+            count: 0,
+            complete: true,
+        },
+    },
+    Seam {
+        keep: 1,
+        row: Row {
+            peer: "bob@a",
+            start: None,
+            end: None,
+            at: At::Before(5),
+            max: None,
+            numbers: &[],
+            first_index: 0,
+            count: 0,
+            complete: true,
+        },
+    },
+    Seam {
+        keep: 2,
+        row: Row {
+            peer: "bob@a",
+            start: None,
+            end: None,
+            at: At::Last,
+            max: None,
+            numbers: &[4],
+            first_index: 0,
+            count: 1,
+            complete: true,
+        },
+    },
+    Seam {
+        keep: 2,
+        row: Row {
+            peer: "bob@a",
+            start: None,
+            end: None,
+            at: At::Before(5),
+            max: None,
+            numbers: &[4],
+            first_index: 0,
+            count: 1,
+            complete: true,
+        },
+    },
+    Seam {
+        keep: 2,
+        row: Row {
+            peer: "carol@a",
+            start: None,
+            end: None,
+            at: At::After(4),
+            max: None,
+            numbers: &[5],
+            first_index: 0,
+            count: 1,
+            complete: true,
+        },
+    },
+    Seam {
+        keep: 2,
+        row: Row {
+            peer: "bob@a",
+            start: None,
+            end: None,
+            at: At::After(4),
+            max: None,
+            numbers: &[],
+            first_index: 0,
+            count: 1,
+            complete: true,
+        },
+    },
+    Seam {
+        keep: 3,
+        row: Row {
+            peer: "bob@a",
+            start: None,
+            end: None,
+            at: At::First,
+            max: Some(1),
+            numbers: &[3],
+            first_index: 0,
+            count: 2,
+            complete: false,
+        },
+    },
+    Seam {
+        keep: 3,
+        row: Row {
+            peer: "bob@a",
+            start: None,
+            end: None,
+            at: At::Last,
+            max: Some(1),
+            numbers: &[4],
+            first_index: 1,
+            count: 2,
+            complete: false,
+        },
+    },
+    Seam {
+        keep: 3,
+        row: Row {
+            peer: "bob@a",
+            start: None,
+            end: None,
+            at: At::After(3),
+            max: Some(1),
+            numbers: &[4],
+            first_index: 1,
+            count: 2,
+            complete: true,
+        },
+    },
+    Seam {
+        keep: 3,
+        row: Row {
+            peer: "bob@a",
+            start: None,
+            end: None,
+            at: At::Before(4),
+            max: None,
+            numbers: &[3],
+            first_index: 0,
+            count: 2,
+            complete: true,
+        },
+    },
+    Seam {
+        keep: 3,
+        row: Row {
+            peer: "bob@a",
+            start: None,
+            end: None,
+            at: At::Before(5),
+            max: Some(1),
+            numbers: &[4],
+            first_index: 1,
+            count: 2,
+            complete: false,
+        },
+    },
+    Seam {
+        keep: 3,
+        row: Row {
+            peer: "bob@a",
+            start: None,
+            end: None,
+            at: At::Last,
+            max: Some(0),
+            numbers: &[],
+            first_index: 0,
+            count: 2,
+            complete: false,
+        },
+    },
+];
+
+#[test]
+fn pages_over_the_seam(rt: HostRuntime) -> Result<(), Fail> {
+    for seam in &SEAMS {
+        let archive = archive(rt.alloc(), seam.keep.max(1))?;
+        let agrees = agrees(rt.alloc(), &archive, &seam.row)?;
+        assert!(rt; agrees);
+    }
+    Ok(())
+}
+
 /// Whether an archive has no page behind this id.
 fn is_unknown(alloc: Global, archive: &Archive, id: &str) -> Result<bool, Fail> {
     let query = PageQuery {

@@ -1,4 +1,3 @@
-use Rattle.std.proofs.Common.{◌≡◌, sym, ap, ◌∙◌}
 use Rattle.xmpp_pages.proofs.Placed.{kept_consecutive}
 use Rattle.xmpp_pages.proofs.tests.agrees_plainly.Goals as goal
 
