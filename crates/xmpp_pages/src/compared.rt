@@ -164,14 +164,14 @@ fn is_plain(
     )
 }
 
-/// How many pages are what a filter of the whole list gives, of each fifth account and on each side.
+/// How many pages are what a filter of the whole list gives, of each account and on each side.
 fn count_plain(alloc: Global, archive: &Archive, entries: &[Entry]) -> Result<u32, Fail>
     requires { AreConsecutive entries.now }
 {
     let mut count = 0u32;
-    for at in 0..80u32 {
+    for at in 0..PEERS * 4 {
         let side = SIDES[(at % 4) as usize];
-        if is_plain(alloc, archive, entries, at / 4 * 5, side)? {
+        if is_plain(alloc, archive, entries, at / 4, side)? {
             count = count.saturating_add(1);
         }
     }
@@ -191,6 +191,6 @@ fn plain_pages_of_many(rt: HostRuntime) -> Result<(), Fail> {
     let kept = archive(rt.alloc())?;
     let entries = entries_of(rt.alloc(), archive(rt.alloc())?);
     let count = count_plain(rt.alloc(), &kept, entries.as_slice())?;
-    assert_eq!(rt; count, 80);
+    assert_eq!(rt; count, 400);
     Ok(())
 }
