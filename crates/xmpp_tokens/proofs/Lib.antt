@@ -8,6 +8,7 @@ pub mod InsideRuns
 pub mod Names
 pub mod Outcomes
 pub mod TagLaws
+pub mod EndNames
 pub mod TagOutcomes
 pub mod DeclarationLaws
 pub mod SpellingRuns

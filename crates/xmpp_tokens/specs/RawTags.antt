@@ -6,8 +6,8 @@ use Rattle.xmpp_tokens.specs.declared.raw_tags.RawTag.{RawTag}
 use Rattle.xmpp_tokens.specs.declared.raw_tags.RawTag.TheVariants.{Start, End}
 
 abbrev pub attribute_of : RawAttribute → Attribute
-attribute_of a = record { name = a.name; value = a.value }
+attribute_of a = record { name = a.name.now; value = a.value }
 
 abbrev pub raw_tag : RawTag → Tag
-raw_tag (Start t) = start_tag t.name (map attribute_of t.attributes.items) t.empty
-raw_tag (End name) = end_tag name
+raw_tag (Start t) = start_tag t.name.now (map attribute_of t.attributes.items) t.empty
+raw_tag (End name) = end_tag name.now

@@ -1,6 +1,6 @@
 -- The inside of a tag (XML 1.0, sections 2.3 and 3.1; Namespaces in XML 1.0, section 3), first as a grammar: the bytes
 -- of a tag, from its `<` to its `>`, and what they say.
-use Rattle.std.specs.Prelude.{ℕ, zero, suc, ◌≡◌, ◌≢◌, ◌==◌, Bool, true, false, not, ◌&&◌, ◌||◌, if◌then◌else◌, List, [], ◌∷◌, ◌++◌, Option, Some, None, Result, Err, length, map, AllPairs}
+use Rattle.std.specs.Prelude.{ℕ, zero, suc, ◌≡◌, ◌≢◌, ◌==◌, Bool, true, false, not, ◌&&◌, ◌||◌, if◌then◌else◌, List, [], ◌∷◌, ◌++◌, Option, Some, None, Result, Ok, Err, length, map, AllPairs}
 use Rattle.std.specs.List.{list_all, list_any}
 use Rattle.std.specs.Option.{option_map, option_and_then, ok_or}
 use Rattle.std.specs.Str.{bytes_eq, is_utf8}
@@ -235,3 +235,9 @@ tag_at (b ∷ bs) = if b == 60 then begun_at bs else None
 -- What a tag comes to: an unknown name in a reference in quotes is told before all else.
 unfoldable pub tag_of : List ℕ → Result Tag TagFault
 tag_of bytes = if is_restricted bytes then Err Restricted else ok_or (tag_at bytes) NotWellFormed
+
+-- the name of an end tag, as it is spelled
+abbrev pub end_name : Result Tag TagFault → Option (List ℕ)
+end_name (Ok (end_tag name)) = Some name
+end_name (Ok (start_tag name attributes empty)) = None
+end_name (Err fault) = None

@@ -11,13 +11,13 @@ use crate::raw_tags::RawAttribute;
 use std::alloc::Global;
 
 // The spelled names, borrowed.
-fn names<'a>(alloc: Global, attributes: &'a [RawAttribute]) -> Result<Vec<&'a str>, TagFault>
+fn names<'a>(alloc: Global, attributes: &[RawAttribute<'a>]) -> Result<Vec<&'a str>, TagFault>
     ensures ok { IfOk result (λ v. map (λ n. n.now) v.items ≡ names_of (map attribute_of attributes.now)) }
     ensures err { IfErr result (λ e. e ≡ TagFault.NoMemory) }
 {
     let mut names = Vec::with_capacity(alloc, attributes.len())?;
     for attribute in attributes {
-        names.push(attribute.name.as_str())?;
+        names.push(attribute.name)?;
     }
     Ok(names)
 }

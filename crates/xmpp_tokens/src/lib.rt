@@ -29,7 +29,9 @@ pub use spelling::{
     append_text, append_text_reserved, append_value, append_value_reserved, spelled_text_len,
     spelled_value_len, texts_are_read_back, values_are_read_back,
 };
-pub use tags::{read_tag, tags_are_read, unknown_names_are_restricted, what_is_read_is_a_tag};
+pub use tags::{
+    read_end_tag, read_tag, tags_are_read, unknown_names_are_restricted, what_is_read_is_a_tag,
+};
 pub use utf8::{NotUtf8, PartialCharacter, runs_are_text, text_front, text_runs};
 pub use values::{has_unknown, read_value};
 

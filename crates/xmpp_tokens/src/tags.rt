@@ -1,7 +1,8 @@
 ghost use Rattle.std.specs.Prelude.{◌≡◌, ◌≢◌, ◌<◌, ◌↔◌, ℕ, List, true, false, Some, None, Ok, Err, length, map, IfOk, IfErr, IsErrOf};
 ghost use Rattle.xmpp_tokens.specs.RawTags.{attribute_of, raw_tag};
 ghost use Rattle.xmpp_tokens.specs.Tags;
-ghost use Rattle.xmpp_tokens.specs.Tags.{IsTag, Tag, inside_of, tag_of};
+ghost use Rattle.std.specs.Option.{option_map};
+ghost use Rattle.xmpp_tokens.specs.Tags.{IsTag, Tag, end_name, end_tag, inside_of, tag_of};
 
 use crate::attributes::{end_in, is_quote, qualified, spelled_at};
 use crate::distinct::are_distinct;
@@ -13,7 +14,10 @@ use std::alloc::Global;
 use xmpp_edge::Text;
 
 // The attribute that bytes begin with, and what is behind it.
-fn attribute_at<'a>(alloc: Global, bytes: &'a [u8]) -> Result<(RawAttribute, &'a [u8]), TagFault>
+fn attribute_at<'a>(
+    alloc: Global,
+    bytes: &'a [u8],
+) -> Result<(RawAttribute<'a>, &'a [u8]), TagFault>
     ensures ok { IfOk result (λ r. Tags.attribute_at bytes.now
         ≡ Some (record { attribute = attribute_of r.0; rest = r.1.now })) }
     ensures malformed { IsErrOf result TagFault.NotWellFormed → Tags.attribute_at bytes.now ≡ None }
@@ -21,13 +25,16 @@ fn attribute_at<'a>(alloc: Global, bytes: &'a [u8]) -> Result<(RawAttribute, &'a
     ensures not_restricted { IfErr result (λ e. e ≢ TagFault.Restricted) }
 {
     let spelled = spelled_at(bytes).ok_or(TagFault::NotWellFormed)?;
-    let name = Text::from_str(alloc, spelled.name)?;
     let value = value_text(alloc, spelled.raw)?;
+    let name = spelled.name;
     Ok((RawAttribute { name, value }, spelled.rest))
 }
 
 // The attributes of a start tag, and whether it is that of an empty element.
-fn read_inside(alloc: Global, bytes: &[u8]) -> Result<(Vec<RawAttribute>, bool), TagFault>
+fn read_inside<'a>(
+    alloc: Global,
+    bytes: &'a [u8],
+) -> Result<(Vec<RawAttribute<'a>>, bool), TagFault>
     ensures ok { IfOk result (λ r. inside_of bytes.now
         ≡ Some (record { attributes = map attribute_of r.0.items; empty = r.1 })) }
     ensures malformed { IsErrOf result TagFault.NotWellFormed → inside_of bytes.now ≡ None }
@@ -47,7 +54,7 @@ fn read_inside(alloc: Global, bytes: &[u8]) -> Result<(Vec<RawAttribute>, bool),
 
 // A start tag, from behind its `<`.
 #[tactic(auto, unfolding(crate::specs::Tags::start_at))]
-fn start_at(alloc: Global, bytes: &[u8]) -> Result<StartTag, TagFault>
+fn start_at<'a>(alloc: Global, bytes: &'a [u8]) -> Result<StartTag<'a>, TagFault>
     ensures ok { IfOk result (λ t. Tags.start_at bytes.now ≡ Some (raw_tag (RawTag.Start t))) }
     ensures malformed { IsErrOf result TagFault.NotWellFormed → Tags.start_at bytes.now ≡ None }
     ensures not_restricted { IfErr result (λ e. e ≢ TagFault.Restricted) }
@@ -58,7 +65,6 @@ fn start_at(alloc: Global, bytes: &[u8]) -> Result<StartTag, TagFault>
     if !are_distinct(alloc, &attributes)? {
         return Err(TagFault::NotWellFormed);
     }
-    let name = Text::from_str(alloc, name)?;
     Ok(StartTag {
         name,
         attributes,
@@ -68,17 +74,16 @@ fn start_at(alloc: Global, bytes: &[u8]) -> Result<StartTag, TagFault>
 
 // An end tag's name, from behind its `</`.
 #[tactic(auto, unfolding(crate::specs::Tags::end_at))]
-fn end_at(alloc: Global, bytes: &[u8]) -> Result<Text, TagFault>
-    ensures ok { IfOk result (λ t. Tags.end_at bytes.now ≡ Some (raw_tag (RawTag.End t))) }
-    ensures malformed { IsErrOf result TagFault.NotWellFormed → Tags.end_at bytes.now ≡ None }
-    ensures not_restricted { IfErr result (λ e. e ≢ TagFault.Restricted) }
+fn end_at(bytes: &[u8]) -> Option<&str>
+    ensures { option_map (λ name. end_tag name.now) result ≡ Tags.end_at bytes.now }
 {
     let (name, end) = split_qualified(bytes);
-    let name = qualified(name).ok_or(TagFault::NotWellFormed)?;
-    if split_white(end).1 != b">".as_slice() {
-        return Err(TagFault::NotWellFormed);
+    let name = qualified(name)?;
+    if split_white(end).1 == b">".as_slice() {
+        Some(name)
+    } else {
+        None
     }
-    Ok(Text::from_str(alloc, name)?)
 }
 
 // Whether bytes are those of an end tag.
@@ -92,20 +97,26 @@ fn is_end(bytes: &[u8]) -> bool
 }
 
 // A tag, from behind its `<`.
-fn begun_at(alloc: Global, bytes: &[u8]) -> Result<RawTag, TagFault>
+fn begun_at<'a>(alloc: Global, bytes: &'a [u8]) -> Result<RawTag<'a>, TagFault>
     ensures ok { IfOk result (λ t. Tags.begun_at bytes.now ≡ Some (raw_tag t)) }
     ensures malformed { IsErrOf result TagFault.NotWellFormed → Tags.begun_at bytes.now ≡ None }
     ensures not_restricted { IfErr result (λ e. e ≢ TagFault.Restricted) }
 {
     match bytes.split_first() {
-        Some((first, rest)) if *first == b'/' => Ok(RawTag::End(end_at(alloc, rest)?)),
-        Some(_) => Ok(RawTag::Start(start_at(alloc, bytes)?)),
+        Some((first, rest)) if *first == b'/' => match end_at(rest) {
+            Some(name) => Ok(RawTag::End(name)),
+            None => Err(TagFault::NotWellFormed),
+        },
+        Some(_) => match start_at(alloc, bytes) {
+            Ok(tag) => Ok(RawTag::Start(tag)),
+            Err(fault) => Err(fault),
+        },
         None => Err(TagFault::NotWellFormed),
     }
 }
 
 // A tag, its references in quotes aside.
-fn tag_at(alloc: Global, bytes: &[u8]) -> Result<RawTag, TagFault>
+fn tag_at<'a>(alloc: Global, bytes: &'a [u8]) -> Result<RawTag<'a>, TagFault>
     ensures ok { IfOk result (λ t. Tags.tag_at bytes.now ≡ Some (raw_tag t)) }
     ensures malformed { IsErrOf result TagFault.NotWellFormed → Tags.tag_at bytes.now ≡ None }
     ensures not_restricted { IfErr result (λ e. e ≢ TagFault.Restricted) }
@@ -150,7 +161,7 @@ fn has_unknown_quoted(bytes: &[u8]) -> bool
 /// isn't formed as XML has it, a value has a `<`, a bad reference or a character that is none of XML's, or two
 /// attributes have one spelled name.
 #[tactic(auto, unfolding(crate::specs::Tags::tag_of))]
-pub fn read_tag(alloc: Global, bytes: &[u8]) -> Result<RawTag, TagFault>
+pub fn read_tag<'a>(alloc: Global, bytes: &'a [u8]) -> Result<RawTag<'a>, TagFault>
     ensures ok { IfOk result (λ t. tag_of bytes.now ≡ Ok (raw_tag t)) }
     ensures restricted { IsErrOf result TagFault.Restricted → tag_of bytes.now ≡ Err TagFault.Restricted }
     ensures malformed { IsErrOf result TagFault.NotWellFormed → tag_of bytes.now ≡ Err TagFault.NotWellFormed }
@@ -159,6 +170,17 @@ pub fn read_tag(alloc: Global, bytes: &[u8]) -> Result<RawTag, TagFault>
         return Err(TagFault::Restricted);
     }
     tag_at(alloc, bytes)
+}
+
+/// Reads an end tag off its whole bytes, from its `</` to its `>` (XML 1.0, section 3.1, ETag), and answers its name as
+/// it is spelled, borrowed from them. `None` comes exactly where the bytes are no end tag.
+pub fn read_end_tag(bytes: &[u8]) -> Option<&str>
+    ensures { option_map (λ name. name.now) result ≡ end_name (tag_of bytes.now) }
+{
+    if !is_end(bytes) {
+        return None;
+    }
+    end_at(&bytes[2..])
 }
 
 /// Bytes that the grammar has as a tag are read as that tag.

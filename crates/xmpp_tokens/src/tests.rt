@@ -19,10 +19,10 @@ fn shown(alloc: Global, read: Result<RawTag, TagFault>) -> Result<String, AllocE
     let mut text = String::new(alloc);
     match read {
         Ok(RawTag::Start(tag)) => {
-            text.push_str(tag.name.as_str())?;
+            text.push_str(tag.name)?;
             for attribute in tag.attributes.as_slice() {
                 text.push_str("|")?;
-                text.push_str(attribute.name.as_str())?;
+                text.push_str(attribute.name)?;
                 text.push_str("=")?;
                 text.push_str(attribute.value.as_str())?;
             }
@@ -30,7 +30,7 @@ fn shown(alloc: Global, read: Result<RawTag, TagFault>) -> Result<String, AllocE
         }
         Ok(RawTag::End(name)) => {
             text.push_str("/")?;
-            text.push_str(name.as_str())?;
+            text.push_str(name)?;
         }
         Err(TagFault::Restricted) => text.push_str("restricted")?,
         Err(TagFault::NotWellFormed) => text.push_str("malformed")?,
