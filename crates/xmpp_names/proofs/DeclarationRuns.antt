@@ -26,24 +26,24 @@ others_push (x ∷ xs) a = unless_more (declared_prefix x.name) x (others_of (xs
 -- ---- a list of attributes that grows
 
 module _ (seen : List RawAttribute) (a : RawAttribute) where
-  bindings_next : bindings_of (map attribute_of (seen ++ a ∷ [])) ≡ bindings_of (map attribute_of seen) ++ with_binding (declared_prefix a.name) a.value []
+  bindings_next : bindings_of (map attribute_of (seen ++ a ∷ [])) ≡ bindings_of (map attribute_of seen) ++ with_binding (declared_prefix a.name.now) a.value []
   bindings_next = ap bindings_of (map_push attribute_of seen a) ∙ bindings_push (map attribute_of seen) (attribute_of a)
 
-  others_next : others_of (map attribute_of (seen ++ a ∷ [])) ≡ others_of (map attribute_of seen) ++ unless_binding (declared_prefix a.name) (attribute_of a) []
+  others_next : others_of (map attribute_of (seen ++ a ∷ [])) ≡ others_of (map attribute_of seen) ++ unless_binding (declared_prefix a.name.now) (attribute_of a) []
   others_next = ap others_of (map_push attribute_of seen a) ∙ others_push (map attribute_of seen) (attribute_of a)
 
-pub declared_next : (seen : List RawAttribute) (a : RawAttribute) (p : List ℕ) (old new : Scope) → declared_prefix a.name ≡ Some p → old ≡ bindings_of (map attribute_of seen) → new ≡ old ++ record { prefix = p; ns = a.value } ∷ [] → new ≡ bindings_of (map attribute_of (seen ++ a ∷ []))
+pub declared_next : (seen : List RawAttribute) (a : RawAttribute) (p : List ℕ) (old new : Scope) → declared_prefix a.name.now ≡ Some p → old ≡ bindings_of (map attribute_of seen) → new ≡ old ++ record { prefix = p; ns = a.value } ∷ [] → new ≡ bindings_of (map attribute_of (seen ++ a ∷ []))
 declared_next seen a p old new e o n =
     n ∙ ap (λ (s : Scope). s ++ record { prefix = p; ns = a.value } ∷ []) o ∙ sym (bindings_next seen a ∙ ap (λ q. bindings_of (map attribute_of seen) ++ with_binding q a.value []) e)
 
-pub declared_kept : (seen : List RawAttribute) (a : RawAttribute) (p : List ℕ) (old : List Attribute) → declared_prefix a.name ≡ Some p → old ≡ others_of (map attribute_of seen) → old ≡ others_of (map attribute_of (seen ++ a ∷ []))
+pub declared_kept : (seen : List RawAttribute) (a : RawAttribute) (p : List ℕ) (old : List Attribute) → declared_prefix a.name.now ≡ Some p → old ≡ others_of (map attribute_of seen) → old ≡ others_of (map attribute_of (seen ++ a ∷ []))
 declared_kept seen a p old e o =
     o ∙ sym (others_next seen a ∙ ap (λ q. others_of (map attribute_of seen) ++ unless_binding q (attribute_of a) []) e ∙ append-nil (others_of (map attribute_of seen)))
 
-pub other_kept : (seen : List RawAttribute) (a : RawAttribute) (old : Scope) → declared_prefix a.name ≡ None → old ≡ bindings_of (map attribute_of seen) → old ≡ bindings_of (map attribute_of (seen ++ a ∷ []))
+pub other_kept : (seen : List RawAttribute) (a : RawAttribute) (old : Scope) → declared_prefix a.name.now ≡ None → old ≡ bindings_of (map attribute_of seen) → old ≡ bindings_of (map attribute_of (seen ++ a ∷ []))
 other_kept seen a old e o =
     o ∙ sym (bindings_next seen a ∙ ap (λ q. bindings_of (map attribute_of seen) ++ with_binding q a.value []) e ∙ append-nil (bindings_of (map attribute_of seen)))
 
-pub other_next : (seen : List RawAttribute) (a : RawAttribute) (old new : List RawAttribute) → declared_prefix a.name ≡ None → map attribute_of old ≡ others_of (map attribute_of seen) → new ≡ old ++ a ∷ [] → map attribute_of new ≡ others_of (map attribute_of (seen ++ a ∷ []))
+pub other_next : (seen : List RawAttribute) (a : RawAttribute) (old new : List RawAttribute) → declared_prefix a.name.now ≡ None → map attribute_of old ≡ others_of (map attribute_of seen) → new ≡ old ++ a ∷ [] → map attribute_of new ≡ others_of (map attribute_of (seen ++ a ∷ []))
 other_next seen a old new e o n =
     ap (map attribute_of) n ∙ map_push attribute_of old a ∙ ap (λ l. l ++ attribute_of a ∷ []) o ∙ sym (others_next seen a ∙ ap (λ q. others_of (map attribute_of seen) ++ unless_binding q (attribute_of a) []) e)

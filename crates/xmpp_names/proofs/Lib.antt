@@ -7,3 +7,5 @@ pub mod EndLaws
 pub mod NameLaws
 pub mod StartLaws
 mod Worked
+pub mod JoinedNames
+pub mod HeaderValues

@@ -1,5 +1,5 @@
 -- Qualified names (Namespaces in XML 1.0, section 4).
-use Rattle.std.specs.Prelude.{ℕ, ◌≡◌, ◌⊎◌, ◌==◌, nat_lt, Bool, true, not, if◌then◌else◌, List, [], ◌∷◌, ◌++◌, length}
+use Rattle.std.specs.Prelude.{ℕ, ◌≡◌, ◌⊎◌, ◌==◌, nat_lt, Bool, true, not, if◌then◌else◌, List, [], ◌∷◌, ◌++◌, Option, Some, None, length}
 use Rattle.std.specs.List.{list_all, position_or_len, before_first, after_first}
 
 abbrev pub is_colon : ℕ → Bool
@@ -15,6 +15,11 @@ prefix_of name = if has_colon name then before_first is_colon name else []
 -- LocalPart: what is behind the colon, or all
 unfoldable pub local_of : List ℕ → List ℕ
 local_of name = if has_colon name then after_first is_colon name else name
+
+-- a name with this prefix, or with none, and this local part
+abbrev pub with_prefix : Option (List ℕ) → List ℕ → List ℕ
+with_prefix None local = local
+with_prefix (Some prefix) local = prefix ++ (58 ∷ local)
 
 -- ---- the grammar
 

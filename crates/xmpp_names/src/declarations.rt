@@ -18,9 +18,9 @@ const XMLNS_NAMESPACE: &str = "http://www.w3.org/2000/xmlns/";
 
 /// The namespace declarations of a tag, and its other attributes, each in order.
 #[derive(Drop)]
-pub(crate) struct PartedAttributes {
+pub(crate) struct PartedAttributes<'a> {
     pub(crate) bindings: Vec<Binding>,
-    pub(crate) others: Vec<RawAttribute>,
+    pub(crate) others: Vec<RawAttribute<'a>>,
 }
 
 // The prefix that an attribute with this name declares, if it is a declaration.
@@ -36,18 +36,18 @@ fn declared_prefix(name: &str) -> Option<&str>
 }
 
 // Declarations and other attributes apart.
-pub(crate) fn part(
+pub(crate) fn part<'a>(
     alloc: Global,
-    attributes: Vec<RawAttribute>,
-) -> Result<PartedAttributes, StartFault>
-    ensures bindings { IfOk result (λ p. p.bindings.items ≡ bindings_of (map attribute_of attributes.items)) }
-    ensures others { IfOk result (λ p. map attribute_of p.others.items ≡ others_of (map attribute_of attributes.items)) }
+    attributes: Vec<RawAttribute<'a>>,
+) -> Result<PartedAttributes<'a>, StartFault>
+    ensures bindings { IfOk result (λ p. p.bindings.items ≡ bindings_of (map attribute_of attributes.entry.items)) }
+    ensures others { IfOk result (λ p. map attribute_of p.others.items ≡ others_of (map attribute_of attributes.entry.items)) }
     ensures err { IfErr result (λ e. e ≡ StartFault.NoMemory) }
 {
     let mut bindings = Vec::new(alloc);
     let mut others = Vec::new(alloc);
     for attribute in attributes {
-        match declared_prefix(attribute.name.as_str()) {
+        match declared_prefix(attribute.name) {
             Some(prefix) => {
                 let prefix = Text::from_str(alloc, prefix)?;
                 bindings.push(Binding {

@@ -84,7 +84,7 @@ pub(crate) fn expanded_names<'a>(
     alloc: Global,
     own: &'a [Binding],
     stack: &'a [Vec<Binding>],
-    others: &'a [RawAttribute],
+    others: &[RawAttribute<'a>],
 ) -> Result<Option<Vec<ExpandedName<'a>>>, NoMemory>
     ensures { IfOk result (λ o. option_map (λ v. map borrowed_name v.items) o
         ≡ Expansion.expanded_names (own.now ++ scope_of stack.now) (names_of (map attribute_of others.now))) }
@@ -94,7 +94,7 @@ pub(crate) fn expanded_names<'a>(
     }
     let mut names = Vec::with_capacity(alloc, others.len())?;
     for attribute in others {
-        match expanded_name(own, stack, attribute.name.as_str()) {
+        match expanded_name(own, stack, attribute.name) {
             Some(name) => names.push(name)?,
             None => return Ok(None),
         }
@@ -107,13 +107,13 @@ fn expanded_attribute(
     alloc: Global,
     own: &[Binding],
     stack: &[Vec<Binding>],
-    attribute: RawAttribute,
+    attribute: RawAttribute<'_>,
 ) -> Result<Option<ExpandedAttribute>, NoMemory>
     ensures { IfOk result (λ o. o
-        ≡ Expansion.expanded_attribute (own.now ++ scope_of stack.now) (attribute_of attribute)) }
+        ≡ Expansion.expanded_attribute (own.now ++ scope_of stack.now) (attribute_of attribute.entry)) }
 {
     let RawAttribute { name, value } = attribute;
-    match expanded_name(own, stack, name.as_str()) {
+    match expanded_name(own, stack, name) {
         Some(expanded) => Ok(Some(ExpandedAttribute {
             ns: Text::from_str(alloc, expanded.ns)?,
             name: Text::from_str(alloc, expanded.local)?,
@@ -128,10 +128,10 @@ pub(crate) fn expanded_attributes(
     alloc: Global,
     own: &[Binding],
     stack: &[Vec<Binding>],
-    others: Vec<RawAttribute>,
+    others: Vec<RawAttribute<'_>>,
 ) -> Result<Option<Vec<ExpandedAttribute>>, NoMemory>
     ensures { IfOk result (λ o. option_map (λ v. v.items) o
-        ≡ Expansion.expanded_attributes (own.now ++ scope_of stack.now) (map attribute_of others.items)) }
+        ≡ Expansion.expanded_attributes (own.now ++ scope_of stack.now) (map attribute_of others.entry.items)) }
 {
     let mut attributes = Vec::with_capacity(alloc, others.len())?;
     for attribute in others {

@@ -1,12 +1,11 @@
 //! What the header of a stream says.
-ghost use Rattle.std.specs.Prelude.{◌≡◌, [], codes, IfOk};
-ghost use Rattle.std.specs.Option.{option_map};
+ghost use Rattle.std.specs.Prelude.{◌≡◌, [], ◌∷◌, ◌++◌, IfOk};
 ghost use Rattle.xmpp_names.specs.Headers;
-ghost use Rattle.xmpp_names.specs.Headers.{value_in};
+ghost use Rattle.xmpp_names.specs.Names.{with_prefix};
 ghost use Rattle.xmpp_names.specs.TagView.{tag_view};
 
 use crate::expansion::ExpandedAttribute;
-use crate::scopes::{XML_NAMESPACE, first_bound};
+use crate::scopes::{Binding, XML_NAMESPACE, first_bound};
 use crate::starts::Tag;
 use std::alloc::Global;
 use xmpp_edge::{NoMemory, Text};
@@ -35,31 +34,79 @@ pub struct Header {
     pub lang: Option<Text>,
 }
 
-// The value of the attribute with an expanded name.
-fn value<'a>(attributes: &'a [ExpandedAttribute], ns: &str, name: &str) -> Option<&'a str>
-    ensures { option_map (λ s. s.now) result ≡ value_in attributes.now ns.now name.now }
-{
-    for attribute in attributes {
-        if attribute.ns.as_str() == ns && attribute.name.as_str() == name {
-            return Some(attribute.value.as_str());
-        }
-    }
-    None
+/// The tag of a stream's header: what it says, and what a stream keeps of it.
+#[derive(Debug, Drop)]
+pub struct HeaderTag {
+    /// What it says.
+    pub header: Header,
+    /// The name as it is spelled, with its prefix: the footer repeats it.
+    pub spelled: Text,
+    /// The declarations in the order in which they are given.
+    pub bindings: Vec<Binding>,
+    /// Whether it is the tag of an empty element: then the stream ends with it.
+    pub empty: bool,
 }
 
-// A copy of the value of the attribute with an expanded name.
-fn copied_value(
-    alloc: Global,
-    attributes: &[ExpandedAttribute],
-    ns: &str,
-    name: &str,
-) -> Result<Option<Text>, NoMemory>
-    ensures { IfOk result (λ o. o ≡ value_in attributes.now ns.now name.now) }
+/// The values of the attributes that a header may have.
+#[derive(Drop)]
+pub(crate) struct HeaderValues {
+    to: Option<Text>,
+    from: Option<Text>,
+    id: Option<Text>,
+    version: Option<Text>,
+    lang: Option<Text>,
+}
+
+// No values.
+fn no_values() -> HeaderValues
+    ensures { result ≡ Headers.values_of [] }
 {
-    match value(attributes, ns, name) {
-        Some(text) => Ok(Some(Text::from_str(alloc, text)?)),
-        None => Ok(None),
+    HeaderValues {
+        to: None,
+        from: None,
+        id: None,
+        version: None,
+        lang: None,
     }
+}
+
+// Puts the value of an attribute without a namespace in its place.
+fn put_plain(values: &mut HeaderValues, name: &str, value: Text)
+    ensures { values.new ≡ Headers.plain_put values.old name.now value }
+{
+    if name == "to" {
+        values.to = Some(value);
+    } else if name == "from" {
+        values.from = Some(value);
+    } else if name == "id" {
+        values.id = Some(value);
+    } else if name == "version" {
+        values.version = Some(value);
+    }
+}
+
+// Puts an attribute's value in its place, if it is one of a header.
+fn put(values: &mut HeaderValues, attribute: ExpandedAttribute)
+    ensures { values.new ≡ Headers.put values.old attribute }
+{
+    let ExpandedAttribute { ns, name, value } = attribute;
+    if ns.as_str().is_empty() {
+        put_plain(values, name.as_str(), value);
+    } else if ns.as_str() == XML_NAMESPACE && name.as_str() == "lang" {
+        values.lang = Some(value);
+    }
+}
+
+// The values of the attributes that a header may have, moved: of several with one name the first.
+fn values_of(attributes: Vec<ExpandedAttribute>) -> HeaderValues
+    ensures { result ≡ Headers.values_of attributes.items }
+{
+    let mut rest = attributes;
+    let mut values = no_values();
+    while let Some(attribute) = rest.pop() {
+        put(&mut values, attribute);
+    }
+    values
 }
 
 // The default namespace that a tag declares, or the empty text.
@@ -76,20 +123,66 @@ pub fn opens_stream(tag: &Tag) -> bool
     tag.ns.as_str() == STREAMS_NAMESPACE && tag.name.as_str() == "stream"
 }
 
-/// What a start tag says as the header of a stream. The tag is to be read with an empty scope, since a header begins
-/// namespace scopes anew.
-pub fn header_of(alloc: Global, tag: &Tag) -> Result<Header, NoMemory>
-    ensures { IfOk result (λ h. h ≡ Headers.header_of (tag_view tag.now)) }
+// A prefix, a colon and a local part.
+fn joined(alloc: Global, prefix: &str, local: &str) -> Result<Text, NoMemory>
+    ensures { IfOk result (λ t. t ≡ prefix.now ++ (58 ∷ local.now)) }
 {
-    let attributes = tag.attributes.as_slice();
-    Ok(Header {
-        ns: Text::from_str(alloc, tag.ns.as_str())?,
-        name: Text::from_str(alloc, tag.name.as_str())?,
-        content: Text::from_str(alloc, declared_default(tag))?,
-        to: copied_value(alloc, attributes, "", "to")?,
-        from: copied_value(alloc, attributes, "", "from")?,
-        id: copied_value(alloc, attributes, "", "id")?,
-        version: copied_value(alloc, attributes, "", "version")?,
-        lang: copied_value(alloc, attributes, XML_NAMESPACE, "lang")?,
+    let mut name = String::new(alloc);
+    name.push_str(prefix)?;
+    name.push_str(":")?;
+    name.push_str(local)?;
+    Ok(Text::from(name))
+}
+
+// The name of a tag as it is spelled.
+fn spelled_name(alloc: Global, tag: &Tag) -> Result<Text, NoMemory>
+    ensures { IfOk result (λ t. t ≡ with_prefix tag.now.prefix tag.now.name) }
+{
+    match &tag.prefix {
+        Some(prefix) => joined(alloc, prefix.as_str(), tag.name.as_str()),
+        None => Ok(Text::from_str(alloc, tag.name.as_str())?),
+    }
+}
+
+/// What a start tag says as the header of a stream, its values moved. The tag is to be read with an empty scope, since a
+/// header begins namespace scopes anew.
+pub fn header_of(alloc: Global, tag: Tag) -> Result<HeaderTag, NoMemory>
+    ensures header { IfOk result (λ h. h.header ≡ Headers.header_of (tag_view tag)) }
+    ensures spelled { IfOk result (λ h. h.spelled ≡ (tag_view tag).spelled) }
+    ensures bindings { IfOk result (λ h. h.bindings.items ≡ tag.bindings.items) }
+    ensures empty { IfOk result (λ h. h.empty ≡ tag.empty) }
+{
+    let spelled = spelled_name(alloc, &tag)?;
+    let content = Text::from_str(alloc, declared_default(&tag))?;
+    let Tag {
+        ns,
+        name,
+        attributes,
+        bindings,
+        empty,
+        ..
+    } = tag;
+    let HeaderValues {
+        to,
+        from,
+        id,
+        version,
+        lang,
+    } = values_of(attributes);
+    let header = Header {
+        ns,
+        name,
+        content,
+        to,
+        from,
+        id,
+        version,
+        lang,
+    };
+    Ok(HeaderTag {
+        header,
+        spelled,
+        bindings,
+        empty,
     })
 }

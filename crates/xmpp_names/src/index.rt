@@ -92,7 +92,7 @@ fn names_by<'a>(
     alloc: Global,
     index: &Index<'a>,
     stack: &'a [Vec<Binding>],
-    others: &'a [RawAttribute],
+    others: &[RawAttribute<'a>],
 ) -> Result<Option<Vec<ExpandedName<'a>>>, NoMemory>
     requires { (q : List ℕ) → option_map (λ s. s.now) (tree.get_by (λ k. slice_cmp nat_cmp q k.now) index.now.first) ≡ Scopes.first_bound index.now.own.now q }
     ensures { IfOk result (λ o. option_map (λ v. map borrowed_name v.items) o
@@ -100,7 +100,7 @@ fn names_by<'a>(
 {
     let mut names = Vec::with_capacity(alloc, others.len())?;
     for attribute in others {
-        match expanded_by(index, stack, attribute.name.as_str()) {
+        match expanded_by(index, stack, attribute.name) {
             Some(name) => names.push(name)?,
             None => return Ok(None),
         }
@@ -113,7 +113,7 @@ pub(crate) fn indexed_names<'a>(
     alloc: Global,
     own: &'a [Binding],
     stack: &'a [Vec<Binding>],
-    others: &'a [RawAttribute],
+    others: &[RawAttribute<'a>],
 ) -> Result<Option<Vec<ExpandedName<'a>>>, NoMemory>
     ensures { IfOk result (λ o. option_map (λ v. map borrowed_name v.items) o
         ≡ Expansion.expanded_names (own.now ++ scope_of stack.now) (names_of (map attribute_of others.now))) }

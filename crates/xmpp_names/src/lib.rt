@@ -18,9 +18,10 @@ mod starts;
 pub use ends::{end_tags_are_read, read_end};
 pub use expansion::ExpandedAttribute;
 pub use faults::StartFault;
-pub use headers::{Header, header_of, opens_stream};
+pub use headers::{Header, HeaderTag, header_of, opens_stream};
 pub use laws::{declarations_are_tested, names_are_split, start_refusals_are_due, starts_are_read};
 pub use limits::TagLimits;
+pub use names::is_spelled;
 pub use scopes::Binding;
 pub use starts::{Tag, read_start};
 

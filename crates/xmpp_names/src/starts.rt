@@ -15,7 +15,7 @@ use crate::distinct::are_distinct;
 use crate::expansion::{ExpandedAttribute, element_ns, expanded_attributes, expanded_names};
 use crate::faults::StartFault;
 use crate::limits::TagLimits;
-use crate::names::split_name;
+use crate::names::{split_name, split_prefix};
 use crate::scopes::Binding;
 use std::alloc::Global;
 use xmpp_edge::{NoMemory, Text};
@@ -24,8 +24,8 @@ use xmpp_tokens::{RawAttribute, RawTag, StartTag, TagFault, read_tag, spelled_va
 /// A start tag, or the tag of an empty element, with its names expanded (Namespaces in XML 1.0, section 2.1).
 #[derive(Debug, Drop)]
 pub struct Tag {
-    /// The element's name as it is spelled, with its prefix: its end tag repeats it.
-    pub spelled: Text,
+    /// The prefix of the element's name, where it has one: its end tag repeats it.
+    pub prefix: Option<Text>,
     /// The element's namespace name; empty where it has none.
     pub ns: Text,
     /// The element's local name.
@@ -76,7 +76,7 @@ fn have_names(
     alloc: Global,
     own: &[Binding],
     stack: &[Vec<Binding>],
-    others: &[RawAttribute],
+    others: &[RawAttribute<'_>],
 ) -> Result<bool, NoMemory>
     ensures { IfOk result (λ b. b ≡ is_some (attributes_in (own.now ++ scope_of stack.now) (map attribute_of others.now))) }
 {
@@ -91,7 +91,7 @@ fn is_well_formed(
     alloc: Global,
     stack: &[Vec<Binding>],
     name: &str,
-    parted: &PartedAttributes,
+    parted: &PartedAttributes<'_>,
 ) -> Result<bool, NoMemory>
     ensures { IfOk result (λ b. b ≡ Starts.is_well_formed (scope_of stack.now) name.now parted.now.bindings.items (map attribute_of parted.now.others.items)) }
 {
@@ -102,28 +102,39 @@ fn is_well_formed(
     have_names(alloc, own, stack, parted.others.as_slice())
 }
 
+// A copy of a text, if there is one.
+fn copied(alloc: Global, text: Option<&str>) -> Result<Option<Text>, NoMemory>
+    ensures { IfOk result (λ o. o ≡ option_map (λ s. s.now) text.entry) }
+{
+    match text {
+        Some(text) => Ok(Some(Text::from_str(alloc, text)?)),
+        None => Ok(None),
+    }
+}
+
 // The tag, its memory taken.
 fn finished(
     alloc: Global,
     stack: &[Vec<Binding>],
-    spelled: Text,
-    parted: PartedAttributes,
+    spelled: &str,
+    parted: PartedAttributes<'_>,
     empty: bool,
 ) -> Result<Option<Tag>, NoMemory>
-    requires { Starts.is_well_formed (scope_of stack.now) spelled parted.bindings.items (map attribute_of parted.others.items) ≡ true }
+    requires { Starts.is_well_formed (scope_of stack.now) spelled.now parted.bindings.items (map attribute_of parted.others.items) ≡ true }
     ensures { IfOk result (λ o. option_map tag_view o
-        ≡ parted_tag (scope_of stack.now) spelled parted.bindings.items (map attribute_of parted.others.items) empty) }
+        ≡ parted_tag (scope_of stack.now) spelled.now parted.entry.bindings.items (map attribute_of parted.entry.others.items) empty) }
 {
     let PartedAttributes { bindings, others } = parted;
-    let (prefix, local) = split_name(spelled.as_str());
-    let Some(ns) = element_ns(bindings.as_slice(), stack, prefix) else {
+    let (prefix, local) = split_prefix(spelled);
+    let Some(ns) = element_ns(bindings.as_slice(), stack, prefix.unwrap_or("")) else {
         return Ok(None);
     };
     let ns = Text::from_str(alloc, ns)?;
     let name = Text::from_str(alloc, local)?;
+    let prefix = copied(alloc, prefix)?;
     match expanded_attributes(alloc, bindings.as_slice(), stack, others)? {
         Some(attributes) => Ok(Some(Tag {
-            spelled,
+            prefix,
             ns,
             name,
             attributes,
@@ -140,16 +151,16 @@ fn expand(
     limits: TagLimits,
     stack: &[Vec<Binding>],
     count: usize,
-    spelled: Text,
-    parted: PartedAttributes,
+    spelled: &str,
+    parted: PartedAttributes<'_>,
     empty: bool,
 ) -> Result<Tag, StartFault>
-    ensures ok { IfOk result (λ t. limited limits count parted.bindings.items
-        (parted_tag (scope_of stack.now) spelled parted.bindings.items (map attribute_of parted.others.items) empty) ≡ Ok (tag_view t)) }
-    ensures err { IfErr result (λ e. e ≢ StartFault.NoMemory → limited limits count parted.bindings.items
-        (parted_tag (scope_of stack.now) spelled parted.bindings.items (map attribute_of parted.others.items) empty) ≡ Err e) }
+    ensures ok { IfOk result (λ t. limited limits count parted.entry.bindings.items
+        (parted_tag (scope_of stack.now) spelled.now parted.entry.bindings.items (map attribute_of parted.entry.others.items) empty) ≡ Ok (tag_view t)) }
+    ensures err { IfErr result (λ e. e ≢ StartFault.NoMemory → limited limits count parted.entry.bindings.items
+        (parted_tag (scope_of stack.now) spelled.now parted.entry.bindings.items (map attribute_of parted.entry.others.items) empty) ≡ Err e) }
 {
-    if !is_well_formed(alloc, stack, spelled.as_str(), &parted)? {
+    if !is_well_formed(alloc, stack, spelled, &parted)? {
         return Err(StartFault::NotWellFormed);
     }
     if let Some(fault) = past_limits(limits, count, parted.bindings.as_slice()) {
@@ -161,9 +172,31 @@ fn expand(
     }
 }
 
+// What a start tag says, as it is spelled.
+fn expand_spelled(
+    alloc: Global,
+    limits: TagLimits,
+    stack: &[Vec<Binding>],
+    tag: StartTag<'_>,
+) -> Result<Tag, StartFault>
+    ensures ok { IfOk result (λ t. Starts.start_from limits (scope_of stack.now) (raw_tag (RawTag.Start tag.entry)) ≡ Ok (tag_view t)) }
+    ensures err { IfErr result (λ e. e ≢ StartFault.NoMemory → Starts.start_from limits (scope_of stack.now) (raw_tag (RawTag.Start tag.entry)) ≡ Err e) }
+{
+    let StartTag {
+        name,
+        attributes,
+        empty,
+    } = tag;
+    let count = attributes.len();
+    match part(alloc, attributes) {
+        Ok(parted) => expand(alloc, limits, stack, count, name, parted, empty),
+        Err(fault) => Err(fault),
+    }
+}
+
 // A start tag as it is spelled.
 #[tactic(auto, unfolding(crate::specs::Starts::start_of))]
-fn read_spelled(alloc: Global, bytes: &[u8]) -> Result<StartTag, StartFault>
+fn read_spelled<'a>(alloc: Global, bytes: &'a [u8]) -> Result<StartTag<'a>, StartFault>
     ensures ok { IfOk result (λ t. tag_of bytes.now ≡ Ok (raw_tag (RawTag.Start t))) }
     ensures err { IfErr result (λ e. e ≢ StartFault.NoMemory → (limits : declared_limits.TagLimits) (scope : Scope) → start_of limits scope bytes.now ≡ Err e) }
 {
@@ -196,12 +229,8 @@ pub fn read_start(
     ensures ok { IfOk result (λ t. start_of limits (scope_of scope.now) bytes.now ≡ Ok (tag_view t)) }
     ensures err { IfErr result (λ e. e ≢ StartFault.NoMemory → start_of limits (scope_of scope.now) bytes.now ≡ Err e) }
 {
-    let StartTag {
-        name,
-        attributes,
-        empty,
-    } = read_spelled(alloc, bytes)?;
-    let count = attributes.len();
-    let parted = part(alloc, attributes)?;
-    expand(alloc, limits, scope, count, name, parted, empty)
+    match read_spelled(alloc, bytes) {
+        Ok(tag) => expand_spelled(alloc, limits, scope, tag),
+        Err(fault) => Err(fault),
+    }
 }

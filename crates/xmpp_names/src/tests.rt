@@ -200,13 +200,13 @@ fn show_some(text: &mut String, some: Option<&Text>) -> Result<(), AllocError> {
 // A header's fields in order, each with `;` behind it.
 fn shown_header(alloc: Global, bytes: &[u8]) -> Result<String, StartFault> {
     let tag = read_start(alloc, WIDE, &[], bytes)?;
-    let header = header_of(alloc, &tag)?;
     let mut text = String::new(alloc);
     text.push_str(if opens_stream(&tag) {
         "stream;"
     } else {
         "other;"
     })?;
+    let header = header_of(alloc, tag)?.header;
     show_some(&mut text, Some(&header.ns))?;
     show_some(&mut text, Some(&header.name))?;
     show_some(&mut text, Some(&header.content))?;
@@ -240,7 +240,6 @@ fn tells_headers(rt: HostRuntime) -> Result<(), Fail> {
 
 #[test]
 fn reads_end_tags(rt: HostRuntime) -> Result<(), Fail> {
-    let alloc = rt.alloc();
     let rows: [(&[u8], &str); 5] = [
         (b"</a >", "a"),
         (b"</p:a>", "p:a"),
@@ -249,14 +248,7 @@ fn reads_end_tags(rt: HostRuntime) -> Result<(), Fail> {
         (b"<a b='&x;'/>", "-"),
     ];
     for (bytes, expected) in rows {
-        let name = read_end(alloc, bytes);
-        assert_eq!(rt;
-            match &name {
-                Ok(name) => name.as_str(),
-                Err(_) => "-"
-            },
-            expected
-        );
+        assert_eq!(rt; read_end(bytes).unwrap_or("-"), expected);
     }
     Ok(())
 }

@@ -1,7 +1,7 @@
 use Rattle.std.proofs.Common.{map, sym, ap, ◌∙◌}
 use Rattle.xmpp_names.proofs.Parted.{refused, past_refused}
 use Rattle.xmpp_names.specs.Scopes.{scope_of}
-use Rattle.xmpp_names.specs.Starts.{is_well_formed, past_limits}
+use Rattle.xmpp_names.specs.Starts.{past_limits}
 use Rattle.xmpp_tokens.specs.RawTags.{attribute_of}
 use Rattle.xmpp_names.proofs.starts.expand.Goals as goal
 
@@ -10,14 +10,14 @@ returns-then-not-branch-clause-err c =
     let scope = scope_of c.args.stack.now in
     let own = c.args.parted.bindings.items in
     let others = map attribute_of c.args.parted.others.items in
-    λ _. refused c.args.limits c.args.count scope c.args.spelled own others c.args.empty
-    (ap (λ n. is_well_formed scope n own others) (sym c.as_str.ensures) ∙ sym c.in_ok-is_well_formed.ensures ∙ c.if-not-branch.true)
+    λ _. refused c.args.limits c.args.count scope c.args.spelled.now own others c.args.empty
+    (sym c.in_ok-is_well_formed.ensures ∙ c.if-not-branch.true)
 
 pub returns-in-Some-clause-err : goal.returns-in-Some-clause-err
 returns-in-Some-clause-err c =
     let scope = scope_of c.args.stack.now in
     let own = c.args.parted.bindings.items in
     let others = map attribute_of c.args.parted.others.items in
-    λ _. past_refused c.args.limits c.args.count scope c.args.spelled own others c.args.empty c.in-Some.fault
-    (ap (λ n. is_well_formed scope n own others) (sym c.as_str.ensures) ∙ sym c.in_ok-is_well_formed.ensures ∙ c.if-not-branch.false)
+    λ _. past_refused c.args.limits c.args.count scope c.args.spelled.now own others c.args.empty c.in-Some.fault
+    (sym c.in_ok-is_well_formed.ensures ∙ c.if-not-branch.false)
     (ap (past_limits c.args.limits c.args.count) (sym c.as_slice.ensures.value) ∙ sym c.past_limits.ensures ∙ c.in-Some.is)
