@@ -16,4 +16,5 @@ pub mod RoundTrips
 mod Worked
 pub mod DeclarationGrammar
 pub mod Unrestricted
+pub mod Ampersands
 pub mod CharacterLaws

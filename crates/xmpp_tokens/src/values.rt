@@ -1,4 +1,5 @@
-ghost use Rattle.std.specs.Prelude.{◌≡◌, ◌≢◌, ◌<◌, ◌≤◌, ◌++◌, [], ◌∷◌, true, false, Some, None, Ok, Err, length, encode_utf8, IfOk, IfErr, IfSome, IfNone, OnOk, IsErrOf};
+ghost use Rattle.std.specs.Prelude.{◌≡◌, ◌≢◌, ◌<◌, ◌≤◌, ◌==◌, ◌++◌, [], ◌∷◌, true, false, Some, None, Ok, Err, length, encode_utf8, IfOk, IfErr, IfSome, IfNone, OnOk, IsErrOf};
+ghost use Rattle.std.specs.List.{list_any};
 ghost use Rattle.xmpp_tokens.specs.Values;
 ghost use Rattle.xmpp_tokens.specs.Values.{as_text, in_front, reference, text, value_from, value_of};
 
@@ -136,6 +137,13 @@ pub(crate) fn value_text(alloc: Global, raw: &[u8]) -> Result<Text, TagFault>
     text_from(value)
 }
 
+// Whether a reference may begin somewhere in bytes.
+pub(crate) fn has_ampersand(bytes: &[u8]) -> bool
+    ensures { result ≡ list_any (λ b. b == 38) bytes.now }
+{
+    bytes.contains(&b'&')
+}
+
 // Whether bytes behind `&` begin with an unknown name and `;`.
 pub(crate) fn begins_unknown(after: &[u8]) -> bool
     ensures { result ≡ Values.begins_unknown after.now }
@@ -164,9 +172,13 @@ fn is_unknown(reference: Reference) -> bool
 }
 
 /// Whether some reference in a spelled value has an unknown name.
+#[tactic(auto, using(crate::proofs::Ampersands::no_unknown))]
 pub fn has_unknown(raw: &[u8]) -> bool
     ensures { result ≡ Values.has_unknown raw.now }
 {
+    if !has_ampersand(raw) {
+        return false;
+    }
     for (i, b) in raw.iter().enumerate() {
         if *b == b'&' && begins_unknown(&raw[i + 1..]) {
             return true;
