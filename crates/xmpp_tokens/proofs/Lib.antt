@@ -17,4 +17,5 @@ mod Worked
 pub mod DeclarationGrammar
 pub mod Unrestricted
 pub mod Ampersands
+pub mod PlainValues
 pub mod CharacterLaws
