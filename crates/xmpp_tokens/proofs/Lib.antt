@@ -18,4 +18,5 @@ pub mod DeclarationGrammar
 pub mod Unrestricted
 pub mod Ampersands
 pub mod PlainValues
+pub mod NameCharacters
 pub mod CharacterLaws
