@@ -16,4 +16,7 @@ pub mod RoundTrips
 mod Worked
 pub mod DeclarationGrammar
 pub mod Unrestricted
+pub mod Ampersands
+pub mod PlainValues
+pub mod NameCharacters
 pub mod CharacterLaws

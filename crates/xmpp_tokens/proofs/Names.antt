@@ -85,11 +85,6 @@ repeated ns k d within same h =
 
 -- ---- as a test
 
-pub few : (ns : List (List ℕ)) → length ns < 2 → true ≡ are_distinct ns
-few [] h = refl
-few (n ∷ []) h = refl
-few (n ∷ m ∷ ns) h = absurd (omega arith)
-
 differ_from : (n : List ℕ) (ns : List (List ℕ)) → list_any (bytes_eq n) ns ≡ false → (j : ℕ) (d : List ℕ) → j < length ns → n ≡ get_or ns j d → ⊥
 differ_from n [] e j d within same = omega arith
 differ_from n (m ∷ ns) e zero d within same = false≢true (sym (or_parts (bytes_eq n m) _ e).0 ∙ (bytes_eq-Decides n m).1 same)

@@ -35,7 +35,7 @@ reference_run so (b ∷ bs) =
     (cases_Bool (eqb b 59))
 
 -- a byte that is plain
-plain_byte : (b : ℕ) (rest : List ℕ) → is_plain b ≡ true → value_from (text false) (b ∷ rest) ≡ in_front (b ∷ []) (value_from (text false) rest)
+pub plain_byte : (b : ℕ) (rest : List ℕ) → is_plain b ≡ true → value_from (text false) (b ∷ rest) ≡ in_front (b ∷ []) (value_from (text false) rest)
 plain_byte b rest h =
     let p = or_parts (eqb b 38) _ (not-true _ h) in
     let q = or_parts (eqb b 60) _ p.1 in

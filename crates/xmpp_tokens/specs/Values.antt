@@ -1,5 +1,6 @@
 -- What an attribute's value says (XML 1.0, sections 2.11, 3.1 and 3.3.3). `raw` is what stands between its quotes.
 use Rattle.std.specs.Prelude.{ℕ, ◌==◌, Bool, true, false, not, ◌&&◌, ◌||◌, if◌then◌else◌, List, [], ◌∷◌, ◌++◌, Option, Some, None, Result, Err, encode_utf8}
+use Rattle.std.specs.Int.{is_in_range}
 use Rattle.std.specs.Option.{option_map, ok_or}
 use Rattle.std.specs.Str.{is_utf8}
 use Rattle.xmpp_tokens.specs.Characters.{is_name_byte, are_characters}
@@ -71,6 +72,10 @@ has_unknown (b ∷ bs) = (b == 38 && begins_unknown bs) || has_unknown bs
 -- a byte that a value says as it is
 abbrev pub is_plain : ℕ → Bool
 is_plain b = not (b == 38 || (b == 60 || (b == 13 || (b == 9 || b == 10))))
+
+-- an ASCII character that a value says as it is
+abbrev pub is_plain_ascii : ℕ → Bool
+is_plain_ascii b = is_in_range 32 127 b && not (b == 38 || b == 60)
 
 -- what a spelled value comes to: an unknown name in a reference, wherever it stands, is told before all else
 abbrev pub outcome_of : List ℕ → Result (List ℕ) TagFault

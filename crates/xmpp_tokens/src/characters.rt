@@ -1,4 +1,4 @@
-ghost use Rattle.std.specs.Prelude.{◌≡◌, ℕ, List};
+ghost use Rattle.std.specs.Prelude.{◌≡◌, ℕ, List, true};
 ghost use Rattle.std.specs.List.{list_all};
 ghost use Rattle.std.specs.Str.{IsUtf8, chars};
 ghost use Rattle.xmpp_tokens.specs.Characters;
@@ -73,12 +73,21 @@ fn is_named(bytes: &[u8]) -> bool
     }
 }
 
+// Whether each character of what begins and goes on as a name does is one of XML's. U+FFFE and U+FFFF begin with EF.
+#[tactic(auto, using(crate::proofs::NameCharacters::name_characters))]
+fn are_name_characters(bytes: &[u8]) -> bool
+    requires { Characters.is_named bytes.now ≡ true }
+    ensures { result ≡ Characters.are_characters bytes.now }
+{
+    !bytes.contains(&0xEF) || are_characters(bytes)
+}
+
 /// Whether bytes are a name without a colon (Namespaces in XML 1.0, section 3, NCName): ASCII letters, digits, `_`,
 /// `-`, `.` and characters from U+0080 on, and neither a digit nor `-` nor `.` at the front.
 pub fn is_name(bytes: &[u8]) -> bool
     ensures { result ≡ Characters.is_name bytes.now }
 {
-    is_named(bytes) && are_characters(bytes)
+    is_named(bytes) && are_name_characters(bytes)
 }
 
 /// Of a text, the test on its bytes is that each of its characters is one of XML's: U+9, U+A, U+D, U+20 to U+D7FF,

@@ -1,7 +1,9 @@
 //! Whether the attributes of one tag have names of their own.
 ghost use Rattle.std.specs.Prelude.{◌≡◌, ◌↔◌, map, IfOk, IsTrue, IsSorted, IfErr};
 ghost use Rattle.std.specs.Cmp.Lexicographic.{slice_cmp};
+ghost use Rattle.std.specs.List.{list_any};
 ghost use Rattle.std.specs.Ordering.{nat_cmp};
+ghost use Rattle.std.specs.Str.{bytes_eq};
 ghost use Rattle.xmpp_tokens.specs.RawTags.{attribute_of};
 ghost use Rattle.xmpp_tokens.specs.Tags;
 ghost use Rattle.xmpp_tokens.specs.Tags.{AreDistinct, names_of};
@@ -9,6 +11,34 @@ ghost use Rattle.xmpp_tokens.specs.Tags.{AreDistinct, names_of};
 use crate::faults::TagFault;
 use crate::raw_tags::RawAttribute;
 use std::alloc::Global;
+
+/// The names of up to so many attributes are compared in pairs, which takes no memory. The names of more are put in
+/// order, so that many names cost little more than their bytes.
+const FEW: usize = 8;
+
+// Whether an attribute has this spelled name.
+fn has_name(attributes: &[RawAttribute], name: &str) -> bool
+    ensures { result ≡ list_any (bytes_eq name.now) (names_of (map attribute_of attributes.now)) }
+{
+    for attribute in attributes {
+        if name == attribute.name {
+            return true;
+        }
+    }
+    false
+}
+
+// Whether no two of a few attributes have one spelled name.
+fn few_are_distinct(attributes: &[RawAttribute]) -> bool
+    ensures { result ≡ Tags.are_distinct (names_of (map attribute_of attributes.now)) }
+{
+    for (i, attribute) in attributes.iter().enumerate() {
+        if has_name(&attributes[i + 1..], attribute.name) {
+            return false;
+        }
+    }
+    true
+}
 
 // The spelled names, borrowed.
 fn names<'a>(alloc: Global, attributes: &[RawAttribute<'a>]) -> Result<Vec<&'a str>, TagFault>
@@ -35,7 +65,7 @@ fn neighbours_differ(names: &[&str]) -> bool
     true
 }
 
-// Whether no two names are equal. They are put in order, so that many names cost little more than their bytes.
+// Whether no two names are equal. They are put in order.
 fn are_all_distinct(names: &mut [&str]) -> bool
     ensures { IsTrue result ↔ AreDistinct (map (λ n. n.now) names.old) }
 {
@@ -48,8 +78,8 @@ pub(crate) fn are_distinct(alloc: Global, attributes: &[RawAttribute]) -> Result
     ensures ok { IfOk result (λ b. b ≡ Tags.are_distinct (names_of (map attribute_of attributes.now))) }
     ensures err { IfErr result (λ e. e ≡ TagFault.NoMemory) }
 {
-    if attributes.len() < 2 {
-        return Ok(true);
+    if attributes.len() <= FEW {
+        return Ok(few_are_distinct(attributes));
     }
     let mut names = names(alloc, attributes)?;
     Ok(are_all_distinct(names.as_mut_slice()))

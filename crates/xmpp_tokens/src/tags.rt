@@ -9,7 +9,7 @@ use crate::distinct::are_distinct;
 use crate::faults::TagFault;
 use crate::fronts::{split_qualified, split_white};
 use crate::raw_tags::{RawAttribute, RawTag, StartTag};
-use crate::values::{begins_unknown, value_text};
+use crate::values::{begins_unknown, has_ampersand, value_text};
 use std::alloc::Global;
 use xmpp_edge::Text;
 
@@ -140,9 +140,13 @@ fn quote_behind(quote: Option<u8>, b: u8) -> Option<u8>
 }
 
 // Whether some reference inside quotes has an unknown name.
+#[tactic(auto, using(crate::proofs::Ampersands::no_unknown_quoted))]
 fn has_unknown_quoted(bytes: &[u8]) -> bool
     ensures { result ≡ Tags.has_unknown_quoted None bytes.now }
 {
+    if !has_ampersand(bytes) {
+        return false;
+    }
     let mut quote = None;
     for (i, b) in bytes.iter().enumerate() {
         if quote.is_some() && *b == b'&' && begins_unknown(&bytes[i + 1..]) {

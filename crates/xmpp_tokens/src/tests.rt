@@ -42,7 +42,7 @@ fn shown(alloc: Global, read: Result<RawTag, TagFault>) -> Result<String, AllocE
 #[test]
 fn reads_tags(rt: HostRuntime) -> Result<(), Fail> {
     let alloc = rt.alloc();
-    let rows: [(&[u8], &str); 38] = [
+    let rows: [(&[u8], &str); 40] = [
         (b"<a/>", "a|/"),
         (b"<a>", "a|"),
         (b"</a >", "/a"),
@@ -62,6 +62,14 @@ fn reads_tags(rt: HostRuntime) -> Result<(), Fail> {
         (b"<a b='1'c='2'/>", "malformed"),
         (b"<a b='1' b='2'/>", "malformed"),
         (b"<a z='' y='' x='' b='' c='' z=''/>", "malformed"),
+        (
+            b"<a i='' h='' g='' f='' e='' d='' c='' b='' i=''/>",
+            "malformed",
+        ),
+        (
+            b"<a i='' h='' g='' f='' e='' d='' c='' b='' a=''/>",
+            "a|i=|h=|g=|f=|e=|d=|c=|b=|a=|/",
+        ),
         (b"<a b=1/>", "malformed"),
         (b"<a b/>", "malformed"),
         (b"<a/ >", "malformed"),

@@ -1,4 +1,5 @@
-ghost use Rattle.std.specs.Prelude.{◌≡◌, ◌≢◌, ◌<◌, ◌≤◌, ◌++◌, [], ◌∷◌, true, false, Some, None, Ok, Err, length, encode_utf8, IfOk, IfErr, IfSome, IfNone, OnOk, IsErrOf};
+ghost use Rattle.std.specs.Prelude.{◌≡◌, ◌≢◌, ◌<◌, ◌≤◌, ◌==◌, ◌++◌, [], ◌∷◌, true, false, Some, None, Ok, Err, length, encode_utf8, IfOk, IfErr, IfSome, IfNone, OnOk, IsErrOf};
+ghost use Rattle.std.specs.List.{list_all, list_any};
 ghost use Rattle.xmpp_tokens.specs.Values;
 ghost use Rattle.xmpp_tokens.specs.Values.{as_text, in_front, reference, text, value_from, value_of};
 
@@ -122,6 +123,32 @@ fn text_from(bytes: Vec<u8>) -> Result<Text, TagFault>
     }
 }
 
+// Whether a byte is an ASCII character that a value says as it is.
+fn is_plain_ascii(b: u8) -> bool
+    ensures { result ≡ Values.is_plain_ascii b }
+{
+    b' ' <= b && b < 128 && b != b'&' && b != b'<'
+}
+
+// Whether a spelled value is what it says, and in ASCII.
+fn are_plain_ascii(raw: &[u8]) -> bool
+    ensures { result ≡ list_all Values.is_plain_ascii raw.now }
+{
+    raw.iter().all(|b| is_plain_ascii(*b))
+}
+
+// A copy of a spelled value that is what it says.
+fn plain_text(alloc: Global, raw: &[u8]) -> Result<Text, TagFault>
+    requires { list_all Values.is_plain_ascii raw.now ≡ true }
+    ensures ok { IfOk result (λ t. t ≡ raw.now) }
+    ensures err { IfErr result (λ e. e ≡ TagFault.NoMemory) }
+{
+    match str::from_utf8(raw) {
+        Ok(text) => Ok(Text::from_str(alloc, text)?),
+        Err(_) => Err(TagFault::NotWellFormed),
+    }
+}
+
 // The value that a spelled one says, where no reference in it has an unknown name.
 #[tactic(auto, unfolding(crate::specs::Values::value_of))]
 pub(crate) fn value_text(alloc: Global, raw: &[u8]) -> Result<Text, TagFault>
@@ -129,11 +156,21 @@ pub(crate) fn value_text(alloc: Global, raw: &[u8]) -> Result<Text, TagFault>
     ensures malformed { IsErrOf result TagFault.NotWellFormed → value_of raw.now ≡ None }
     ensures not_restricted { IfErr result (λ e. e ≢ TagFault.Restricted) }
 {
+    if are_plain_ascii(raw) {
+        return plain_text(alloc, raw);
+    }
     if !are_characters(raw) {
         return Err(TagFault::NotWellFormed);
     }
     let value = value_bytes(alloc, raw)?;
     text_from(value)
+}
+
+// Whether a reference may begin somewhere in bytes.
+pub(crate) fn has_ampersand(bytes: &[u8]) -> bool
+    ensures { result ≡ list_any (λ b. b == 38) bytes.now }
+{
+    bytes.contains(&b'&')
 }
 
 // Whether bytes behind `&` begin with an unknown name and `;`.
@@ -164,9 +201,13 @@ fn is_unknown(reference: Reference) -> bool
 }
 
 /// Whether some reference in a spelled value has an unknown name.
+#[tactic(auto, using(crate::proofs::Ampersands::no_unknown))]
 pub fn has_unknown(raw: &[u8]) -> bool
     ensures { result ≡ Values.has_unknown raw.now }
 {
+    if !has_ampersand(raw) {
+        return false;
+    }
     for (i, b) in raw.iter().enumerate() {
         if *b == b'&' && begins_unknown(&raw[i + 1..]) {
             return true;
