@@ -19,11 +19,14 @@ fn is_control(b: u8) -> bool
     b < 32 && b != b'\t' && b != b'\n' && b != b'\r'
 }
 
-// Whether a byte says itself in a text, whatever stands before it.
+// Whether a byte says itself in a text, whatever stands before it. Small letters are told by two tests.
 fn is_plain(b: u8) -> bool
     ensures { result ≡ ManyBytes.is_plain b }
 {
-    b != b'<' && b != b'&' && b != b'>' && b != b']' && b != b'\r' && b != 0xef && !is_control(b)
+    if b > b']' {
+        return b != 0xef;
+    }
+    b != b'<' && b != b'&' && b != b'>' && b != b']' && b != b'\r' && !is_control(b)
 }
 
 fn plain_len(bytes: &[u8]) -> usize
@@ -71,11 +74,14 @@ fn goes_on_in(quote: Option<u8>, b: u8) -> bool
     b < 128 && !(b == b'>' && quote.is_none())
 }
 
-// Whether a byte outside quotes is one of ASCII that changes nothing but a tag's bytes.
+// Whether a byte outside quotes is one of ASCII that changes nothing but a tag's bytes. Letters are told by two tests.
 fn is_unquoted(b: u8) -> bool
     ensures { result ≡ ManyBytes.is_unquoted b }
 {
-    b < 128 && b != b'>' && b != b'"' && b != b'\''
+    if b > b'>' {
+        return b < 128;
+    }
+    b != b'>' && b != b'"' && b != b'\''
 }
 
 fn unquoted_len(bytes: &[u8]) -> usize
