@@ -130,11 +130,15 @@ fn is_plain_ascii(b: u8) -> bool
     b' ' <= b && b < 128 && b != b'&' && b != b'<'
 }
 
-// Whether a spelled value is what it says, and in ASCII.
+// Whether a spelled value is what it says, and in ASCII. No byte ends the loop, so that it can become vector code.
 fn are_plain_ascii(raw: &[u8]) -> bool
     ensures { result ≡ list_all Values.is_plain_ascii raw.now }
 {
-    raw.iter().all(|b| is_plain_ascii(*b))
+    let mut plain = true;
+    for b in raw {
+        plain &= is_plain_ascii(*b);
+    }
+    plain
 }
 
 // A copy of a spelled value that is what it says.
