@@ -1,5 +1,6 @@
 pub mod ScopeRuns
 pub mod DeclarationRuns
+pub mod SpelledNames
 pub mod Reordered
 pub mod Expanded
 pub mod Parted

@@ -61,7 +61,7 @@ fn declare(
     Ok(())
 }
 
-// Declarations and other attributes apart, where there may be both.
+// Declarations and other attributes apart, where there is a declaration: the others are one fewer at least.
 fn part_declared<'a>(
     alloc: Global,
     attributes: Vec<RawAttribute<'a>>,
@@ -70,7 +70,7 @@ fn part_declared<'a>(
     ensures others { IfOk result (λ p. map attribute_of p.others.items ≡ others_of (map attribute_of attributes.entry.items)) }
 {
     let mut bindings = Vec::new(alloc);
-    let mut others = Vec::with_capacity(alloc, attributes.len())?;
+    let mut others = Vec::with_capacity(alloc, attributes.len().saturating_sub(1))?;
     for attribute in attributes {
         if let Some(prefix) = declared_prefix(attribute.name) {
             declare(alloc, &mut bindings, prefix, attribute.value)?;
