@@ -4,6 +4,7 @@ pub mod SpelledNames
 pub mod Reordered
 pub mod Expanded
 pub mod Parted
+pub mod NamePairs
 pub mod EndLaws
 pub mod NameLaws
 pub mod StartLaws

@@ -18,6 +18,7 @@ use crate::expansion::{ExpandedAttribute, element_ns, expanded_attributes, expan
 use crate::faults::StartFault;
 use crate::limits::TagLimits;
 use crate::names::{is_prefixed, split_name, split_prefix};
+use crate::pairs::{FEW_NAMES, have_names_in_pairs};
 use crate::scopes::Binding;
 use std::alloc::Global;
 use xmpp_edge::{NoMemory, Text};
@@ -85,7 +86,8 @@ fn has_prefixed(attributes: &[RawAttribute]) -> bool
     false
 }
 
-// Whether each attribute has an expanded name, and no two have the same. Without a prefix the spelled names are those.
+// Whether each attribute has an expanded name, and no two have the same. Without a prefix the spelled names are those,
+// and few names are compared in pairs: memory is taken for many alone.
 fn have_names(
     alloc: Global,
     own: &[Binding],
@@ -97,6 +99,9 @@ fn have_names(
 {
     if !has_prefixed(others) {
         return Ok(true);
+    }
+    if others.len() <= FEW_NAMES {
+        return Ok(have_names_in_pairs(own, stack, others));
     }
     match expanded_names(alloc, own, stack, others)? {
         Some(mut names) => Ok(are_distinct(names.as_mut_slice())),
