@@ -23,11 +23,14 @@ pub(crate) struct PartedAttributes<'a> {
     pub(crate) others: Vec<RawAttribute<'a>>,
 }
 
-// The prefix that an attribute with this name declares, if it is a declaration.
+// The prefix that an attribute with this name declares, if it is a declaration. Most names differ in their first byte.
 #[tactic(auto, unfolding(crate::specs::Declarations::declared_prefix))]
 fn declared_prefix(name: &str) -> Option<&str>
     ensures { option_map (λ s. s.now) result ≡ Declarations.declared_prefix name.now }
 {
+    if !name.starts_with('x') {
+        return None;
+    }
     if name == "xmlns" {
         return Some("");
     }
