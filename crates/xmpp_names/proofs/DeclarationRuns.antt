@@ -1,6 +1,9 @@
 -- Declarations and other attributes of a list with one more at its end.
-use Rattle.std.proofs.Common.{◌≡◌, ℕ, List, [], ◌∷◌, ◌++◌, Option, Some, None, map, refl, sym, ap, ◌∙◌, append-nil}
+use Rattle.std.proofs.Common.{◌≡◌, ℕ, false, List, [], ◌∷◌, ◌++◌, Option, Some, None, map, refl, sym, ap, ◌∙◌, append-nil}
+use Rattle.std.proofs.lemmas.Bool.{false≢true, or_parts}
 use Rattle.std.proofs.lemmas.List.{map_push}
+use Rattle.std.specs.List.{list_any}
+use Rattle.std.specs.Option.{is_some}
 use Rattle.xmpp_tokens.specs.RawTags.{attribute_of}
 use Rattle.xmpp_tokens.specs.declared.raw_tags.RawAttribute.{RawAttribute}
 use Rattle.xmpp_tokens.specs.Tags.{Attribute}
@@ -47,3 +50,16 @@ other_kept seen a old e o =
 pub other_next : (seen : List RawAttribute) (a : RawAttribute) (old new : List RawAttribute) → declared_prefix a.name.now ≡ None → map attribute_of old ≡ others_of (map attribute_of seen) → new ≡ old ++ a ∷ [] → map attribute_of new ≡ others_of (map attribute_of (seen ++ a ∷ []))
 other_next seen a old new e o n =
     ap (map attribute_of) n ∙ map_push attribute_of old a ∙ ap (λ l. l ++ attribute_of a ∷ []) o ∙ sym (others_next seen a ∙ ap (λ q. others_of (map attribute_of seen) ++ unless_binding q (attribute_of a) []) e)
+
+-- ---- no declaration
+
+kept_first : (a : RawAttribute) (o : Option (List ℕ)) (xs ys : List Attribute) (zs : Scope) → is_some o ≡ false → [] ≡ zs → xs ≡ ys → ([] ≡ with_binding o a.value zs) × (attribute_of a ∷ xs ≡ unless_binding o (attribute_of a) ys)
+kept_first a None xs ys zs h z e = (z, ap (λ l. attribute_of a ∷ l) e)
+kept_first a (Some p) xs ys zs h z e = absurd (false≢true (sym h))
+
+pub undeclared : (xs : List RawAttribute) → list_any (λ a. is_some (declared_prefix a.name.now)) xs ≡ false → ([] ≡ bindings_of (map attribute_of xs)) × (map attribute_of xs ≡ others_of (map attribute_of xs))
+undeclared [] h = (refl, refl)
+undeclared (a ∷ xs) h =
+    let p = or_parts (is_some (declared_prefix a.name.now)) _ h in
+    let ih = undeclared xs p.1 in
+    kept_first a (declared_prefix a.name.now) (map attribute_of xs) (others_of (map attribute_of xs)) (bindings_of (map attribute_of xs)) p.0 ih.0 ih.1

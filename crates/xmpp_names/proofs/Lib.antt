@@ -1,8 +1,10 @@
 pub mod ScopeRuns
 pub mod DeclarationRuns
+pub mod SpelledNames
 pub mod Reordered
 pub mod Expanded
 pub mod Parted
+pub mod NamePairs
 pub mod EndLaws
 pub mod NameLaws
 pub mod StartLaws

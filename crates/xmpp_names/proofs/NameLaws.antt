@@ -1,5 +1,5 @@
 -- The tests of names, declarations and expansions are what the grammar says.
-use Rattle.std.proofs.Common.{◌≡◌, ◌≢◌, ℕ, ◌+◌, ◌<◌, inl, inr, ⊎_elim, Bool, true, false, cond, eqb, not, ◌&&◌, ◌||◌, List, [], ◌∷◌, ◌++◌, Option, Some, None, length, take, drop, get_or, codes, bytes_eq, refl, sym, ap, subst, ◌∙◌, arith}
+use Rattle.std.proofs.Common.{◌≡◌, ◌≢◌, ℕ, ◌+◌, ◌<◌, inl, inr, ⊎_elim, Bool, true, false, cond, eqb, not, ◌&&◌, ◌||◌, List, [], ◌∷◌, ◌++◌, Option, Some, None, length, take, drop, get_or, slice_index, codes, bytes_eq, refl, sym, ap, subst, ◌∙◌, arith}
 use Rattle.std.proofs.lemmas.Bool.{cases_Bool, and_parts, and_from, false≢true, not-true, not_from_false, false_from_ne_true, cond-true, cond-false, eqb-true, ltb-true}
 use Rattle.std.proofs.lemmas.Bool.Decides.{nat_tests}
 use Rattle.std.proofs.lemmas.List.{length-append}
@@ -10,7 +10,7 @@ use Rattle.std.specs.List.{AllZip, position_or_len, before_first, after_first}
 use Rattle.std.specs.Option.{option_map, option_and_then}
 use Rattle.xmpp_tokens.proofs.Splits.{take_prefix, front_passes, prefix_within}
 use Rattle.xmpp_tokens.specs.Tags.{Attribute, is_empty}
-use Rattle.xmpp_names.specs.Declarations.{MayDeclare, may_declare}
+use Rattle.xmpp_names.specs.Declarations.{MayDeclare, declared_prefix, may_declare}
 use Rattle.xmpp_names.specs.Expansion.{attribute_ns, element_ns, expanded_attribute, expanded_attributes, expanded_name, in_front, name_with, with_value}
 use Rattle.xmpp_names.specs.Grammar.{IsElementIn, IsAttributeIn, IsExpanded}
 use Rattle.xmpp_names.specs.Names.{IsName, has_colon, is_colon, local_of, no_colon, prefix_of}
@@ -81,6 +81,23 @@ is_name_of name =
     (cases_Bool (has_colon name))
 
 -- ---- declarations
+
+begins : (name p l : List ℕ) → IsName name p l → p ≡ codes "xmlns" → slice_index name 0 ≡ 120
+begins name p l (inl (is, plain)) e = ap (λ n. slice_index n 0) (is ∙ ap (λ q. q ++ 58 ∷ l) e)
+begins name p l (inr (is, none, plain)) e = let never : [] ≡ codes "xmlns" = sym none ∙ e in absurd cc
+
+neither : (a b : Bool) (o p : Option (List ℕ)) → a ≡ false → b ≡ false → None ≡ cond a o (cond b p None)
+neither false false o p e f = refl
+neither false true o p e f = absurd (false≢true (sym f))
+neither true b o p e f = absurd (false≢true (sym e))
+
+pub declares_nothing : (name : List ℕ) → eqb (slice_index name 0) 120 ≡ false → None ≡ declared_prefix name
+unfolding declared_prefix
+declares_nothing name h =
+    let other : slice_index name 0 ≡ 120 → ⊥ = λ e. false≢true (sym h ∙ ap (λ x. eqb x 120) e) in
+    neither (bytes_eq name (codes "xmlns")) (bytes_eq (prefix_of name) (codes "xmlns")) (Some []) (Some (local_of name))
+    (false_from_ne_true _ (λ t. other (ap (λ n. slice_index n 0) ((bytes_eq-Decides name (codes "xmlns")).0 t))))
+    (false_from_ne_true _ (λ t. other (begins name (prefix_of name) (local_of name) (is_name_of name) ((bytes_eq-Decides (prefix_of name) (codes "xmlns")).0 t))))
 
 undeclared : (prefix ns : List ℕ) → (is_empty prefix || not (is_empty ns)) ≡ true → ns ≡ [] → prefix ≡ []
 undeclared [] ns h e = refl

@@ -33,7 +33,7 @@ pub names_mean : (scope : Scope) (xs : List Attribute) → expanded_names scope 
 names_mean scope [] = refl
 names_mean scope (a ∷ xs) = next (expanded_name scope a.name) a.value (expanded_names scope (names_of xs)) (expanded_attributes scope xs) (names_mean scope xs)
 
-some_if : (b : Bool) (es : List ExpandedAttribute) → b ≡ is_some (cond b (Some es) None)
+pub some_if : (b : Bool) (es : List ExpandedAttribute) → b ≡ is_some (cond b (Some es) None)
 some_if true es = refl
 some_if false es = refl
 

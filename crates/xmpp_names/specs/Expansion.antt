@@ -1,5 +1,5 @@
 -- Expanded names (Namespaces in XML 1.0, sections 2.1, 5 and 6).
-use Rattle.std.specs.Prelude.{ℕ, ◌≢◌, Bool, true, not, ◌&&◌, if◌then◌else◌, List, [], ◌∷◌, ◌++◌, Option, Some, None, codes, unwrap_or, AllPairs}
+use Rattle.std.specs.Prelude.{ℕ, ◌≢◌, Bool, true, false, not, ◌&&◌, if◌then◌else◌, List, [], ◌∷◌, ◌++◌, Option, Some, None, codes, unwrap_or, AllPairs}
 use Rattle.std.specs.List.{list_any}
 use Rattle.std.specs.Option.{option_map, option_and_then}
 use Rattle.std.specs.Str.{bytes_eq}
@@ -64,6 +64,11 @@ is_same a b = bytes_eq a.name b.name && bytes_eq a.ns b.ns
 abbrev pub are_distinct : List Name → Bool
 are_distinct [] = true
 are_distinct (n ∷ more) = not (list_any (is_same n) more) && are_distinct more
+
+-- whether an attribute has this expanded name, if it has one
+abbrev pub is_same_if : Name → Option Name → Bool
+is_same_if n None = false
+is_same_if n (Some m) = is_same n m
 
 -- a borrowed name, without where it lies in memory
 abbrev pub borrowed_name : ExpandedName → Name

@@ -1,7 +1,7 @@
 //! Namespace declarations among the attributes of a tag.
-ghost use Rattle.std.specs.Prelude.{◌≡◌, map, IfOk, IfErr};
-ghost use Rattle.std.specs.List.{list_all};
-ghost use Rattle.std.specs.Option.{option_map};
+ghost use Rattle.std.specs.Prelude.{◌≡◌, [], ◌∷◌, ◌++◌, map, IfOk, IfErr, OnOk};
+ghost use Rattle.std.specs.List.{list_all, list_any};
+ghost use Rattle.std.specs.Option.{option_map, is_some};
 ghost use Rattle.xmpp_names.specs.Declarations;
 ghost use Rattle.xmpp_names.specs.Declarations.{bindings_of, others_of};
 ghost use Rattle.xmpp_tokens.specs.RawTags.{attribute_of};
@@ -10,7 +10,7 @@ use crate::faults::StartFault;
 use crate::names::split_name;
 use crate::scopes::{Binding, XML_NAMESPACE};
 use std::alloc::Global;
-use xmpp_edge::Text;
+use xmpp_edge::{NoMemory, Text};
 use xmpp_tokens::RawAttribute;
 
 /// The namespace that the prefix `xmlns` is bound to (Namespaces in XML 1.0, section 3).
@@ -23,11 +23,14 @@ pub(crate) struct PartedAttributes<'a> {
     pub(crate) others: Vec<RawAttribute<'a>>,
 }
 
-// The prefix that an attribute with this name declares, if it is a declaration.
+// The prefix that an attribute with this name declares, if it is a declaration. Most names differ in their first byte.
 #[tactic(auto, unfolding(crate::specs::Declarations::declared_prefix))]
 fn declared_prefix(name: &str) -> Option<&str>
     ensures { option_map (λ s. s.now) result ≡ Declarations.declared_prefix name.now }
 {
+    if !name.starts_with('x') {
+        return None;
+    }
     if name == "xmlns" {
         return Some("");
     }
@@ -35,7 +38,53 @@ fn declared_prefix(name: &str) -> Option<&str>
     if prefix == "xmlns" { Some(local) } else { None }
 }
 
-// Declarations and other attributes apart.
+// Whether some attribute is a declaration.
+fn has_declaration(attributes: &[RawAttribute]) -> bool
+    ensures { result ≡ list_any (λ a. is_some (Declarations.declared_prefix a.name.now)) attributes.now }
+{
+    for attribute in attributes {
+        if declared_prefix(attribute.name).is_some() {
+            return true;
+        }
+    }
+    false
+}
+
+// Adds what a declaration binds.
+fn declare(
+    alloc: Global,
+    bindings: &mut Vec<Binding>,
+    prefix: &str,
+    ns: Text,
+) -> Result<(), NoMemory>
+    ensures { OnOk result (bindings.new.items ≡ bindings.old.items ++ record { prefix = prefix.now; ns = ns } ∷ []) }
+{
+    let prefix = Text::from_str(alloc, prefix)?;
+    bindings.push(Binding { prefix, ns })?;
+    Ok(())
+}
+
+// Declarations and other attributes apart, where there is a declaration: the others are one fewer at least.
+fn part_declared<'a>(
+    alloc: Global,
+    attributes: Vec<RawAttribute<'a>>,
+) -> Result<PartedAttributes<'a>, NoMemory>
+    ensures bindings { IfOk result (λ p. p.bindings.items ≡ bindings_of (map attribute_of attributes.entry.items)) }
+    ensures others { IfOk result (λ p. map attribute_of p.others.items ≡ others_of (map attribute_of attributes.entry.items)) }
+{
+    let mut bindings = Vec::new(alloc);
+    let mut others = Vec::with_capacity(alloc, attributes.len().saturating_sub(1))?;
+    for attribute in attributes {
+        if let Some(prefix) = declared_prefix(attribute.name) {
+            declare(alloc, &mut bindings, prefix, attribute.value)?;
+            continue;
+        }
+        others.push(attribute)?;
+    }
+    Ok(PartedAttributes { bindings, others })
+}
+
+// Declarations and other attributes apart. Where there is no declaration, the attributes are handed on as they are.
 pub(crate) fn part<'a>(
     alloc: Global,
     attributes: Vec<RawAttribute<'a>>,
@@ -44,21 +93,13 @@ pub(crate) fn part<'a>(
     ensures others { IfOk result (λ p. map attribute_of p.others.items ≡ others_of (map attribute_of attributes.entry.items)) }
     ensures err { IfErr result (λ e. e ≡ StartFault.NoMemory) }
 {
-    let mut bindings = Vec::new(alloc);
-    let mut others = Vec::new(alloc);
-    for attribute in attributes {
-        match declared_prefix(attribute.name) {
-            Some(prefix) => {
-                let prefix = Text::from_str(alloc, prefix)?;
-                bindings.push(Binding {
-                    prefix,
-                    ns: attribute.value,
-                })?;
-            }
-            None => others.push(attribute)?,
-        }
+    if has_declaration(attributes.as_slice()) {
+        return Ok(part_declared(alloc, attributes)?);
     }
-    Ok(PartedAttributes { bindings, others })
+    Ok(PartedAttributes {
+        bindings: Vec::new(alloc),
+        others: attributes,
+    })
 }
 
 // Whether a declaration may be made.

@@ -56,7 +56,11 @@ pub(crate) fn element_ns<'a>(
 
 // The namespace of an attribute whose name has this prefix.
 #[tactic(auto, unfolding(crate::specs::Expansion::attribute_ns))]
-fn attribute_ns<'a>(own: &'a [Binding], stack: &'a [Vec<Binding>], prefix: &str) -> Option<&'a str>
+pub(crate) fn attribute_ns<'a>(
+    own: &'a [Binding],
+    stack: &'a [Vec<Binding>],
+    prefix: &str,
+) -> Option<&'a str>
     ensures { option_map (λ s. s.now) result ≡ Expansion.attribute_ns (own.now ++ scope_of stack.now) prefix.now }
 {
     if prefix.is_empty() {
@@ -67,7 +71,7 @@ fn attribute_ns<'a>(own: &'a [Binding], stack: &'a [Vec<Binding>], prefix: &str)
 
 // The expanded name of an attribute.
 #[tactic(auto, unfolding(crate::specs::Expansion::expanded_name))]
-fn expanded_name<'a>(
+pub(crate) fn expanded_name<'a>(
     own: &'a [Binding],
     stack: &'a [Vec<Binding>],
     name: &'a str,

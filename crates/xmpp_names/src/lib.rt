@@ -12,6 +12,7 @@ mod index;
 mod laws;
 mod limits;
 mod names;
+mod pairs;
 mod scopes;
 mod starts;
 

@@ -2,7 +2,14 @@
 ghost use Rattle.std.specs.Prelude.{◌≡◌, [], ◌∷◌, ◌++◌, unwrap_or};
 ghost use Rattle.std.specs.Option.{option_map};
 ghost use Rattle.std.specs.Str.{bytes_eq};
-ghost use Rattle.xmpp_names.specs.Names.{prefix_of, local_of, with_prefix};
+ghost use Rattle.xmpp_names.specs.Names.{has_colon, prefix_of, local_of, with_prefix};
+
+// Whether a name as it is spelled has a prefix.
+pub(crate) fn is_prefixed(name: &str) -> bool
+    ensures { result ≡ has_colon name.now }
+{
+    name.split_once(':').is_some()
+}
 
 // The prefix and the local part of a name as it is spelled, apart at its colon.
 #[tactic(auto, unfolding(crate::specs::Names::prefix_of, crate::specs::Names::local_of))]

@@ -2,20 +2,23 @@
 ghost use Rattle.std.specs.Prelude.{◌≡◌, ◌≢◌, ◌++◌, Ok, Err, Some, true, map, length, IfOk, IfErr};
 ghost use Rattle.std.specs.List.{list_any};
 ghost use Rattle.std.specs.Option.{option_map, is_some};
+ghost use Rattle.xmpp_names.specs.Names.{has_colon};
 ghost use Rattle.xmpp_names.specs.Scopes.{Scope, scope_of};
 ghost use Rattle.xmpp_names.specs.Starts;
 ghost use Rattle.xmpp_names.specs.Starts.{attributes_in, limited, parted_tag, start_of};
 ghost use Rattle.xmpp_names.specs.TagView.{tag_view};
 ghost use Rattle.xmpp_names.specs.declared.limits.TagLimits as declared_limits;
 ghost use Rattle.xmpp_tokens.specs.RawTags.{attribute_of, raw_tag};
-ghost use Rattle.xmpp_tokens.specs.Tags.{tag_of};
+ghost use Rattle.xmpp_tokens.specs.Tags;
+ghost use Rattle.xmpp_tokens.specs.Tags.{names_of, tag_of};
 
 use crate::declarations::{PartedAttributes, all_may_declare, part};
 use crate::distinct::are_distinct;
 use crate::expansion::{ExpandedAttribute, element_ns, expanded_attributes, expanded_names};
 use crate::faults::StartFault;
 use crate::limits::TagLimits;
-use crate::names::{split_name, split_prefix};
+use crate::names::{is_prefixed, split_name, split_prefix};
+use crate::pairs::{FEW_NAMES, have_names_in_pairs};
 use crate::scopes::Binding;
 use std::alloc::Global;
 use xmpp_edge::{NoMemory, Text};
@@ -71,15 +74,35 @@ fn past_limits(limits: TagLimits, count: usize, bindings: &[Binding]) -> Option<
     None
 }
 
-// Whether each attribute has an expanded name, and no two have the same.
+// Whether some attribute has a prefix.
+fn has_prefixed(attributes: &[RawAttribute]) -> bool
+    ensures { result ≡ list_any (λ a. has_colon a.name.now) attributes.now }
+{
+    for attribute in attributes {
+        if is_prefixed(attribute.name) {
+            return true;
+        }
+    }
+    false
+}
+
+// Whether each attribute has an expanded name, and no two have the same. Without a prefix the spelled names are those,
+// and few names are compared in pairs: memory is taken for many alone.
 fn have_names(
     alloc: Global,
     own: &[Binding],
     stack: &[Vec<Binding>],
     others: &[RawAttribute<'_>],
 ) -> Result<bool, NoMemory>
+    requires { Tags.are_distinct (names_of (map attribute_of others.now)) ≡ true }
     ensures { IfOk result (λ b. b ≡ is_some (attributes_in (own.now ++ scope_of stack.now) (map attribute_of others.now))) }
 {
+    if !has_prefixed(others) {
+        return Ok(true);
+    }
+    if others.len() <= FEW_NAMES {
+        return Ok(have_names_in_pairs(own, stack, others));
+    }
     match expanded_names(alloc, own, stack, others)? {
         Some(mut names) => Ok(are_distinct(names.as_mut_slice())),
         None => Ok(false),
@@ -93,6 +116,7 @@ fn is_well_formed(
     name: &str,
     parted: &PartedAttributes<'_>,
 ) -> Result<bool, NoMemory>
+    requires { Tags.are_distinct (names_of (map attribute_of parted.now.others.items)) ≡ true }
     ensures { IfOk result (λ b. b ≡ Starts.is_well_formed (scope_of stack.now) name.now parted.now.bindings.items (map attribute_of parted.now.others.items)) }
 {
     let own = parted.bindings.as_slice();
@@ -155,6 +179,7 @@ fn expand(
     parted: PartedAttributes<'_>,
     empty: bool,
 ) -> Result<Tag, StartFault>
+    requires { Tags.are_distinct (names_of (map attribute_of parted.others.items)) ≡ true }
     ensures ok { IfOk result (λ t. limited limits count parted.entry.bindings.items
         (parted_tag (scope_of stack.now) spelled.now parted.entry.bindings.items (map attribute_of parted.entry.others.items) empty) ≡ Ok (tag_view t)) }
     ensures err { IfErr result (λ e. e ≢ StartFault.NoMemory → limited limits count parted.entry.bindings.items
@@ -179,6 +204,7 @@ fn expand_spelled(
     stack: &[Vec<Binding>],
     tag: StartTag<'_>,
 ) -> Result<Tag, StartFault>
+    requires { Tags.are_distinct (names_of (map attribute_of tag.attributes.items)) ≡ true }
     ensures ok { IfOk result (λ t. Starts.start_from limits (scope_of stack.now) (raw_tag (RawTag.Start tag.entry)) ≡ Ok (tag_view t)) }
     ensures err { IfErr result (λ e. e ≢ StartFault.NoMemory → Starts.start_from limits (scope_of stack.now) (raw_tag (RawTag.Start tag.entry)) ≡ Err e) }
 {

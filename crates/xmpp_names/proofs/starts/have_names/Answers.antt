@@ -3,11 +3,16 @@ use Rattle.std.specs.Option.{option_map}
 use Rattle.std.specs.declared.alloc.Global.{Global}
 use Rattle.xmpp_names.proofs.Parted.{names_tell, no_names_tell}
 use Rattle.xmpp_names.proofs.Reordered.{tested}
+use Rattle.xmpp_names.proofs.SpelledNames.{plain_tell}
 use Rattle.xmpp_names.specs.Expansion.{borrowed_name}
 use Rattle.xmpp_names.specs.Scopes.{scope_of}
 use Rattle.xmpp_names.specs.declared.expansion.ExpandedName.{ExpandedName}
 use Rattle.xmpp_tokens.specs.RawTags.{attribute_of}
 use Rattle.xmpp_names.proofs.starts.have_names.Goals as goal
+
+pub returns-then-not-has_prefixed : goal.returns-then-not-has_prefixed
+returns-then-not-has_prefixed c =
+    plain_tell (c.args.own.now ++ scope_of c.args.stack.now) c.args.others.now (sym c.has_prefixed.ensures ∙ c.if-not-has_prefixed.true) c.requires
 
 pub returns-in-Some : goal.returns-in-Some
 returns-in-Some c =

@@ -1,7 +1,7 @@
 use Rattle.std.proofs.Common.{◌≡◌, map}
 use Rattle.xmpp_names.specs.Declarations.{bindings_of, others_of}
 use Rattle.xmpp_tokens.specs.RawTags.{attribute_of}
-use Rattle.xmpp_names.proofs.declarations.part.Given as goal
+use Rattle.xmpp_names.proofs.declarations.part_declared.Given as goal
 
 -- those so far, apart
 abbrev pub invariant-loop-attribute : goal.invariant-loop-attribute
