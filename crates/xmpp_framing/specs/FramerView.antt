@@ -2,15 +2,17 @@
 use Rattle.std.specs.Prelude.{List, Vec, map, reverse, string_bytes}
 use Rattle.std.specs.Option.{option_map}
 use Rattle.std.specs.declared.alloc.Global.{Global}
+use Rattle.xmpp_names.specs.Names.{with_prefix}
 use Rattle.xmpp_names.specs.Scopes.{Scope}
 use Rattle.xmpp_names.specs.declared.scopes.Binding.{Binding}
 use Rattle.xmpp_framing.specs.States.{OpenElement, State}
+use Rattle.xmpp_framing.specs.Trees.{name_of}
 use Rattle.xmpp_framing.specs.Views.{elem_view}
 use Rattle.xmpp_framing.specs.declared.framer.Framer.TheInside.{Inside}
 use Rattle.xmpp_framing.specs.declared.states.Open.{Open}
 
 abbrev pub open_of : Open → OpenElement
-open_of o = record { spelled = o.spelled; element = elem_view o.element }
+open_of o = record { spelled = with_prefix o.prefix (name_of (elem_view o.element)); element = elem_view o.element }
 
 -- open elements, the innermost first
 abbrev pub opens_of : List Open → List OpenElement

@@ -16,9 +16,9 @@ use crate::limits::Limits;
 use crate::states::{Mode, Phase};
 use xmpp_edge::NoMemory;
 use xmpp_names::{
-    Header, StartFault, Tag, TagLimits, header_of, opens_stream, read_end, read_start,
+    Header, HeaderTag, StartFault, Tag, TagLimits, header_of, opens_stream, read_end, read_start,
 };
-use xmpp_tokens::{TagFault, is_white};
+use xmpp_tokens::is_white;
 
 // Whether a token is an end tag.
 fn is_end(token: &[u8]) -> bool
@@ -132,34 +132,32 @@ impl Framer {
     }
 
     // Whether the end tag in hand has the name of the innermost open element.
-    fn is_spelled(&self) -> Result<bool, NoMemory>
-        ensures { IfOk result (λ b. b ≡ TagSteps.is_spelled self.now.here (end_of self.now.token)) }
+    fn is_spelled(&self) -> bool
+        ensures { result ≡ TagSteps.is_spelled self.now.here (end_of self.now.token) }
     {
-        match read_end(self.alloc, &self.token) {
-            Ok(name) => match &self.here {
-                Some(open) => Ok(name.as_str() == open.spelled.as_str()),
-                None => Ok(false),
+        match read_end(&self.token) {
+            Some(name) => match &self.here {
+                Some(open) => open.is_spelled(name),
+                None => false,
             },
-            Err(TagFault::NoMemory) => Err(NoMemory),
-            Err(_) => Ok(false),
+            None => false,
         }
     }
 
     // Whether the end tag in hand is the footer's.
-    fn ends_stream(&self) -> Result<bool, NoMemory>
-        ensures { IfOk result (λ b. b ≡ TagSteps.ends_stream self.now) }
+    fn ends_stream(&self) -> bool
+        ensures { result ≡ TagSteps.ends_stream self.now }
     {
         if self.lexical.spoiled {
-            return Ok(false);
+            return false;
         }
         match self.lexical.phase {
             Phase::Between => {}
-            _ => return Ok(false),
+            _ => return false,
         }
-        match read_end(self.alloc, &self.token) {
-            Ok(name) => Ok(name.as_str() == self.name.as_str()),
-            Err(TagFault::NoMemory) => Err(NoMemory),
-            Err(_) => Ok(false),
+        match read_end(&self.token) {
+            Some(name) => name == self.name.as_str(),
+            None => false,
         }
     }
 
@@ -231,7 +229,7 @@ impl Framer {
         ensures ok { OnOk result (turn self.new items.new.items ≡ ends (turn self.old items.old.items)) }
         ensures err { OnErr result (items.new.items ≡ items.old.items) }
     {
-        if self.is_spelled()? {
+        if self.is_spelled() {
             self.close(items)?;
         } else {
             self.fail_token(Why::NotWellFormed);
@@ -260,16 +258,16 @@ impl Framer {
         ensures err { OnErr result (items.new.items ≡ items.old.items) }
     {
         items.reserve(2)?;
-        let header = header_of(self.alloc, &tag)?;
-        let at = self.places.token_at;
-        let Tag {
+        let HeaderTag {
+            header,
             spelled,
             bindings,
             empty,
-            ..
-        } = tag;
-        self.scopes = Vec::with_capacity(self.alloc, 1)?;
-        self.scopes.push(bindings)?;
+        } = header_of(self.alloc, tag)?;
+        let mut scopes = Vec::with_capacity(self.alloc, 1)?;
+        scopes.push(bindings)?;
+        let at = self.places.token_at;
+        self.scopes = scopes;
         self.name = spelled;
         self.end_item();
         self.set_phase(phase_behind(empty));
@@ -429,7 +427,7 @@ impl Framer {
         ensures ok { OnOk result (turn self.new items.new.items ≡ footer_closes (turn self.old items.old.items)) }
         ensures err { OnErr result (items.new.items ≡ items.old.items) }
     {
-        if self.ends_stream()? {
+        if self.ends_stream() {
             items.push(Item::Footer)?;
             self.end_item();
             self.set_phase(Phase::Ended);
