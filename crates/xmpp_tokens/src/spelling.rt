@@ -106,7 +106,7 @@ fn append_text_run<'a>(out: &mut Bytes, rest: &'a [u8]) -> &'a [u8]
     }
 }
 
-/// textrites a text at the end and takes no memory. It lowers `spare` by at most its written length.
+/// Writes a text at the end and takes no memory. It lowers `spare` by at most its written length.
 pub fn append_text_reserved(out: &mut Bytes, bytes: &[u8])
     requires { length (spelled_text bytes.now) ≤ out.old.spare }
     ensures items { out.new.items ≡ out.old.items ++ spelled_text bytes.now }
@@ -118,7 +118,7 @@ pub fn append_text_reserved(out: &mut Bytes, bytes: &[u8])
     }
 }
 
-/// textrites a text at the end (XML 1.0, section 2.4: `&`, `<` and `>` escaped, and a carriage return as a character reference). A refusal leaves the bytes as they were.
+/// Writes a text at the end (XML 1.0, section 2.4: `&`, `<` and `>` escaped, and a carriage return as a character reference). A refusal leaves the bytes as they were.
 pub fn append_text(out: &mut Bytes, bytes: &[u8]) -> Result<(), NoMemory>
     ensures ok { OnOk result (out.new.items ≡ out.old.items ++ spelled_text bytes.now) }
     ensures err { OnErr result (out.new.items ≡ out.old.items) }
@@ -151,7 +151,7 @@ fn append_value_run<'a>(out: &mut Bytes, rest: &'a [u8]) -> &'a [u8]
     }
 }
 
-/// valuerites a value at the end and takes no memory. It lowers `spare` by at most its written length.
+/// Writes a value at the end and takes no memory. It lowers `spare` by at most its written length.
 pub fn append_value_reserved(out: &mut Bytes, bytes: &[u8])
     requires { length (spelled_value bytes.now) ≤ out.old.spare }
     ensures items { out.new.items ≡ out.old.items ++ spelled_value bytes.now }
@@ -163,7 +163,7 @@ pub fn append_value_reserved(out: &mut Bytes, bytes: &[u8])
     }
 }
 
-/// valuerites a value at the end (XML 1.0, section 3.3.3: as a text, and `'`, the tab and the line feed escaped too). A refusal leaves the bytes as they were.
+/// Writes a value at the end (XML 1.0, section 3.3.3: as a text, and `'`, the tab and the line feed escaped too). A refusal leaves the bytes as they were.
 pub fn append_value(out: &mut Bytes, bytes: &[u8]) -> Result<(), NoMemory>
     ensures ok { OnOk result (out.new.items ≡ out.old.items ++ spelled_value bytes.now) }
     ensures err { OnErr result (out.new.items ≡ out.old.items) }
