@@ -14,8 +14,8 @@ use Rattle.xmpp_framing.proofs.RunPlaces.{run_place}
 use Rattle.xmpp_framing.proofs.TextRuns.{white_run}
 use Rattle.xmpp_framing.specs.Machine.{part_of, run}
 use Rattle.xmpp_framing.specs.MarkupSteps.{declared_phase}
-use Rattle.xmpp_framing.specs.Spells.{SpellsTop}
-use Rattle.xmpp_framing.specs.Standing.{Gives, StandsOutside, placed}
+use Rattle.xmpp_framing.specs.Spells.{SpellsTop, placed}
+use Rattle.xmpp_framing.specs.Standing.{Gives, StandsOutside}
 use Rattle.xmpp_framing.specs.States.{OpenElement, State, Turn, admits_declaration, from_start, may_declare, turn}
 use Rattle.xmpp_framing.specs.StreamLimits.{IsEmptyHeaderInWithin, IsHeaderInWithin, IsReadAs, IsStreamWithin}
 use Rattle.xmpp_framing.specs.Streams.{InForce, IsDeclared, SpellsEmptyHeaderIn, SpellsHeaderIn, StreamTo, declared, ended, headed, headed_and_ended, nothing, place_behind, white_space, with_element}
