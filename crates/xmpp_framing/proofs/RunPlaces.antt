@@ -21,7 +21,7 @@ use Rattle.xmpp_framing.specs.States.{OpenElement, State, Turn, counted, fails, 
 use Rattle.xmpp_framing.specs.TagSteps.{added_to, begun, closed, closed_open, element_from, ends, ends_stream, footer_closes, footer_gathered, header_tag, heads, in_footer, in_opening, in_tag, is_header, is_spelled, is_too_deep, joined_text, leaf, level, misplaced, shallower, starts, tag_anew, tag_closes, tag_gathered, tag_here, tag_in, tag_inside, tag_outside, unlimited}
 use Rattle.xmpp_framing.specs.TextSteps.{between, bracket_taken, character_begun, character_taken, ends_section, in_reference, in_section, in_text, inside, is_forbidden, judged_outside, judged_section, judged_text, markup_begun, other_taken, refers, section_taken, text_inside, text_outside}
 use Rattle.xmpp_framing.specs.Trees.{Elem}
-use Rattle.xmpp_framing.specs.Streams.{place_behind}
+use Rattle.xmpp_framing.specs.Streams.{place_of}
 use Rattle.xmpp_framing.specs.declared.faults.Fault.{Fault}
 use Rattle.xmpp_framing.specs.declared.faults.Why.TheVariants as why
 use Rattle.xmpp_framing.specs.declared.states.Mode.{Mode}
@@ -262,12 +262,12 @@ no_fault_before t bs e = was t.state.fault refl
     was None is = refl
     was (Some f) is = absurd (true≢false (sym (ap is_some (ap (λ (u : Turn). u.state.fault) (stays t bs f is) ∙ is)) ∙ ap is_some e))
 
-next_of : (offset : ℕ) → next_place (place_behind offset) ≡ place_behind (offset + 1)
+next_of : (offset : ℕ) → next_place (place_of offset) ≡ place_of (offset + 1)
 next_of offset = omega arith
 
 -- Behind bytes that led to no fault the next byte's place is so much further.
-pub run_place : (bs : List ℕ) (t : Turn) (offset : ℕ) → t.state.places.at ≡ place_behind offset → (run t bs).state.fault ≡ None → (run t bs).state.places.at ≡ place_behind (offset + length bs)
-run_place [] t offset at e = at ∙ ap place_behind (omega arith)
+pub run_place : (bs : List ℕ) (t : Turn) (offset : ℕ) → t.state.places.at ≡ place_of offset → (run t bs).state.fault ≡ None → (run t bs).state.places.at ≡ place_of (offset + length bs)
+run_place [] t offset at e = at ∙ ap place_of (omega arith)
 run_place (b ∷ bs) t offset at e =
     let here = step_place t b (no_fault_before (step t b) bs e) in
-    run_place bs (step t b) (offset + 1) (here ∙ ap next_place at ∙ next_of offset) e ∙ ap place_behind (omega arith)
+    run_place bs (step t b) (offset + 1) (here ∙ ap next_place at ∙ next_of offset) e ∙ ap place_of (omega arith)
