@@ -243,7 +243,7 @@ past_fault : (n : ℕ) (b : Bool) (u v : Turn) → (b ≡ true → is_some u.sta
 past_fault n true u v f h e = absurd (true≢false (sym (f refl) ∙ ap is_some e))
 past_fault n false u v f h e = h e
 
-step_place : (t : Turn) (b : ℕ) → (step t b).state.fault ≡ None → (step t b).state.places.at ≡ next_place t.state.places.at
+pub step_place : (t : Turn) (b : ℕ) → (step t b).state.fault ≡ None → (step t b).state.places.at ≡ next_place t.state.places.at
 unfolding goes_on taken
 step_place t b =
     let n = next_place t.state.places.at in
@@ -255,7 +255,7 @@ step_place t b =
     (past_fault n (is_too_long t.state b) long rest (λ e. refl)
     (past_fault n (not (continues t.state.pending b)) broken next (λ e. refl) (λ e. ap next_place (taken_remains t.state.lexical.mode (moved t (counted t.state)) b))))
 
-no_fault_before : (t : Turn) (bs : List ℕ) → (run t bs).state.fault ≡ None → t.state.fault ≡ None
+pub no_fault_before : (t : Turn) (bs : List ℕ) → (run t bs).state.fault ≡ None → t.state.fault ≡ None
 no_fault_before t bs e = was t.state.fault refl
   where
     was : (o : Option Fault) → t.state.fault ≡ o → o ≡ None
