@@ -1,5 +1,5 @@
 -- The place of the next byte rises by one with each byte, and by nothing else.
-use Rattle.std.proofs.Common.{◌≡◌, ℕ, ◌+◌, Bool, true, false, true≢false, ◌==◌, ◌&&◌, ◌||◌, not, if◌then◌else◌, List, [], ◌∷◌, ◌++◌, Option, Some, None, Result, Ok, Err, codes, length, refl, sym, ap, ◌∙◌, arith}
+use Rattle.std.proofs.Common.{◌≡◌, ℕ, ◌+◌, Bool, true, false, true≢false, ◌==◌, ◌&&◌, ◌||◌, not, if◌then◌else◌, List, [], ◌∷◌, ◌++◌, Option, Some, None, Result, Ok, Err, codes, length, refl, sym, ap, ◌∙◌}
 use Rattle.std.specs.Option.{is_some}
 use Rattle.std.specs.Prelude.{nat_lt, slice_index}
 use Rattle.xmpp_tokens.specs.Characters.{is_white}
@@ -16,12 +16,12 @@ use Rattle.xmpp_names.specs.Starts.{Tag}
 use Rattle.xmpp_names.specs.declared.faults.StartFault.{StartFault}
 use Rattle.xmpp_framing.proofs.FaultLaws.{stays}
 use Rattle.xmpp_framing.specs.Machine.{behind_byte, goes_on, is_too_long, run, step, taken, taken_in}
+use Rattle.xmpp_framing.specs.ManyBytes.{place_behind}
 use Rattle.xmpp_framing.specs.MarkupSteps.{declares, ends_in_question, in_bang, in_declaration, in_question, section_opened}
 use Rattle.xmpp_framing.specs.States.{OpenElement, State, Turn, counted, fails, gathered, gathered_in, in_mode, in_run, may_declare, moved, next_place, run_begun, token_begun, token_ended, token_fails, token_place}
 use Rattle.xmpp_framing.specs.TagSteps.{added_to, begun, closed, closed_open, element_from, ends, ends_stream, footer_closes, footer_gathered, header_tag, heads, in_footer, in_opening, in_tag, is_header, is_spelled, is_too_deep, joined_text, leaf, level, misplaced, shallower, starts, tag_anew, tag_closes, tag_gathered, tag_here, tag_in, tag_inside, tag_outside, unlimited}
 use Rattle.xmpp_framing.specs.TextSteps.{between, bracket_taken, character_begun, character_taken, ends_section, in_reference, in_section, in_text, inside, is_forbidden, judged_outside, judged_section, judged_text, markup_begun, other_taken, refers, section_taken, text_inside, text_outside}
 use Rattle.xmpp_framing.specs.Trees.{Elem}
-use Rattle.xmpp_framing.specs.Streams.{place_of}
 use Rattle.xmpp_framing.specs.declared.faults.Fault.{Fault}
 use Rattle.xmpp_framing.specs.declared.faults.Why.TheVariants as why
 use Rattle.xmpp_framing.specs.declared.states.Mode.{Mode}
@@ -262,12 +262,7 @@ no_fault_before t bs e = was t.state.fault refl
     was None is = refl
     was (Some f) is = absurd (true≢false (sym (ap is_some (ap (λ (u : Turn). u.state.fault) (stays t bs f is) ∙ is)) ∙ ap is_some e))
 
-next_of : (offset : ℕ) → next_place (place_of offset) ≡ place_of (offset + 1)
-next_of offset = omega arith
-
--- Behind bytes that led to no fault the next byte's place is so much further.
-pub run_place : (bs : List ℕ) (t : Turn) (offset : ℕ) → t.state.places.at ≡ place_of offset → (run t bs).state.fault ≡ None → (run t bs).state.places.at ≡ place_of (offset + length bs)
-run_place [] t offset at e = at ∙ ap place_of (omega arith)
-run_place (b ∷ bs) t offset at e =
-    let here = step_place t b (no_fault_before (step t b) bs e) in
-    run_place bs (step t b) (offset + 1) (here ∙ ap next_place at ∙ next_of offset) e ∙ ap place_of (omega arith)
+-- Each of the bytes that led to no fault raised the next byte's place.
+pub run_place : (bs : List ℕ) (t : Turn) → (run t bs).state.fault ≡ None → (run t bs).state.places.at ≡ place_behind bs t.state.places.at
+run_place [] t e = refl
+run_place (b ∷ bs) t e = run_place bs (step t b) e ∙ ap (place_behind bs) (step_place t b (no_fault_before (step t b) bs e))

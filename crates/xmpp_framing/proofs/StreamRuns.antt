@@ -1,5 +1,5 @@
 -- What spells a stream is read as its items.
-use Rattle.std.proofs.Common.{◌≡◌, ℕ, ◌+◌, ◌≤◌, inl, inr, Bool, true, false, not, ◌&&◌, cond, List, [], ◌∷◌, ◌++◌, Option, None, length, zero-add, refl, sym, ap, subst, ◌∙◌}
+use Rattle.std.proofs.Common.{◌≡◌, ℕ, ◌+◌, ◌≤◌, inl, inr, Bool, true, false, not, ◌&&◌, cond, List, [], ◌∷◌, ◌++◌, Option, None, length, zero-add, refl, sym, ap, subst, ◌∙◌, arith}
 use Rattle.std.specs.Option.{is_some}
 use Rattle.xmpp_tokens.specs.Declarations.{declaration_of}
 use Rattle.xmpp_tokens.specs.Tags.{are_white}
@@ -10,9 +10,11 @@ use Rattle.xmpp_framing.proofs.DeclarationRuns.{HasDeclared, declaration_run}
 use Rattle.xmpp_framing.proofs.ElementStates.{split_run}
 use Rattle.xmpp_framing.proofs.ItemRuns.{HasHeaded, element_gives, footer_gives, head_read, may_head_next, quiet_there, room_there}
 use Rattle.xmpp_framing.proofs.Quiet.{HasSaid}
+use Rattle.xmpp_framing.proofs.PlainTexts.{place_is}
 use Rattle.xmpp_framing.proofs.RunPlaces.{run_place}
 use Rattle.xmpp_framing.proofs.TextRuns.{white_run}
 use Rattle.xmpp_framing.specs.Machine.{part_of, run}
+use Rattle.xmpp_framing.specs.ManyBytes.{place_behind}
 use Rattle.xmpp_framing.specs.MarkupSteps.{declared_phase}
 use Rattle.xmpp_framing.specs.Spells.{SpellsTop, placed}
 use Rattle.xmpp_framing.specs.Standing.{Gives, StandsOutside}
@@ -40,7 +42,8 @@ record IsBehind (s t : State) (before after : List Item) (bytes : List ℕ) (p :
 place_there : (s t : State) (before after : List Item) (bytes : List ℕ) (offset : ℕ) → s.places.at ≡ place_of offset → run (turn s before) bytes ≡ turn t after → t.fault ≡ None
     → t.places.at ≡ place_of (offset + length bytes)
 place_there s t before after bytes offset at runs none =
-    ap (λ (u : Turn). u.state.places.at) (sym runs) ∙ run_place bytes (turn s before) offset at (ap (λ (u : Turn). u.state.fault) runs ∙ none)
+    ap (λ (u : Turn). u.state.places.at) (sym runs) ∙ run_place bytes (turn s before) (ap (λ (u : Turn). u.state.fault) runs ∙ none)
+    ∙ (ap (place_behind bytes) at ∙ place_is bytes (place_of offset) (omega arith) ∙ omega arith)
 
 white_read : (s : State) (before : List Item) (bytes : List ℕ) (p : Phase) (scope : Scope) (name : List ℕ) → StandsOutside s p scope name → are_white bytes ≡ true
     → (t : State) × IsBehind s t before before bytes p scope name
