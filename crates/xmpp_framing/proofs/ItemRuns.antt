@@ -16,8 +16,8 @@ use Rattle.xmpp_framing.proofs.Quiet.{HasRoom, IsQuiet}
 use Rattle.xmpp_framing.proofs.SpelledTrees.{spelled_stays}
 use Rattle.xmpp_framing.proofs.FooterRuns.{HasEnded, footer_run}
 use Rattle.xmpp_framing.specs.Machine.{behind_byte, passed, run}
-use Rattle.xmpp_framing.specs.Spells.{IsHeaderName, SpellsFooter, SpellsHeader, SpellsItem, SpellsNextHeader, SpellsTop, a_footer, a_header, an_element}
-use Rattle.xmpp_framing.specs.Standing.{Gives, IsItemWithin, StandsOutside, name_left, phase_left, placed, scope_left}
+use Rattle.xmpp_framing.specs.Spells.{IsHeaderName, SpellsFooter, SpellsHeader, SpellsItem, SpellsNextHeader, SpellsTop, a_footer, a_header, an_element, placed}
+use Rattle.xmpp_framing.specs.Standing.{Gives, IsItemWithin, StandsOutside, name_left, phase_left, scope_left}
 use Rattle.xmpp_framing.specs.States.{State, item_ended, open_count, turn}
 use Rattle.xmpp_framing.specs.TagSteps.{added, added_to, header_items, phase_behind, scope_in, tag_limits, text_joined}
 use Rattle.xmpp_framing.specs.Tidied.{tidied}

@@ -20,7 +20,7 @@ use Rattle.xmpp_framing.proofs.AttributeOrder.{one_IsAttrsOf}
 use Rattle.xmpp_framing.specs.Attributes.{attribute_of}
 use Rattle.xmpp_framing.proofs.OneText.{one_text}
 use Rattle.xmpp_framing.proofs.TagEnds.{BeginsEnd, BeginsStart, end_begins, one_tag, start_begins, start_no_exclamation, start_no_slash}
-use Rattle.xmpp_framing.specs.Spells.{IsBegun, IsSameItem, Spells, SpellsContent, SpellsItem, SpellsNextHeader, SpellsTop, a_footer, a_header, an_element, empty, filled, text_alone, with_element, without_place}
+use Rattle.xmpp_framing.specs.Spells.{IsBegun, IsSameItem, Spells, SpellsContent, SpellsItem, SpellsNextHeader, SpellsTop, a_footer, a_header, an_element, empty, filled, placed, text_alone, with_element}
 use Rattle.xmpp_framing.specs.Texts.{IsText}
 use Rattle.xmpp_framing.specs.Tidied.{text_node}
 use Rattle.xmpp_framing.specs.Trees.{Elem, element, Nodes, no_nodes, child, joined, name_of, namespace_of}
@@ -219,7 +219,7 @@ one_header scope a b x y next other inner innermost h g p q same =
 one_item : (scope : Scope) (name a : List ℕ) (i : Item) → SpellsItem scope name a i → (b : List ℕ) (j : Item) (x y : List ℕ) → SpellsItem scope name b j → a ++ x ≡ b ++ y → (a ≡ b) × IsSameItem i j
 one_item scope name a i (a_header _ _ _ _ next inner at h p is) b j x y (a_header _ _ _ _ next' inner' at' h' p' is') same =
     let one = one_header scope a b x y next next' inner inner' h h' p p' same in
-    (one.0, ap without_place is ∙ (ap (λ h. item.Header 0 h) one.1 ∙ sym (ap without_place is')))
+    (one.0, ap (placed 0) is ∙ (ap (λ h. item.Header 0 h) one.1 ∙ sym (ap (placed 0) is')))
 one_item scope name a i (a_header _ _ _ _ next inner at h p is) b j x y (an_element _ _ _ _ e q is') same =
     absurd (header_no_element scope a b x y next inner h e p q same)
 one_item scope name a i (a_header _ _ _ _ next inner at h p is) b j x y (a_footer _ _ _ _ q is') same =
@@ -228,7 +228,7 @@ one_item scope name a i (an_element _ _ _ _ e p is) b j x y (a_header _ _ _ _ ne
     absurd (header_no_element scope b a y x next inner h e q p (sym same))
 one_item scope name a i (an_element _ _ _ _ e p is) b j x y (an_element _ _ _ _ f q is') same =
     let one = one_element scope a e p.spelled b f x y q.spelled same in
-    (one.0, ap without_place is ∙ (ap (λ e. item.Element e) one.1 ∙ sym (ap without_place is')))
+    (one.0, ap (placed 0) is ∙ (ap (λ e. item.Element e) one.1 ∙ sym (ap (placed 0) is')))
 one_item scope name a i (an_element _ _ _ _ e p is) b j x y (a_footer _ _ _ _ q is') same =
     absurd (start_no_end a b x y (begins_top scope a e p) (end_begins b name q) same)
 one_item scope name a i (a_footer _ _ _ _ p is) b j x y (a_header _ _ _ _ next inner at h q is') same =
@@ -236,7 +236,7 @@ one_item scope name a i (a_footer _ _ _ _ p is) b j x y (a_header _ _ _ _ next i
 one_item scope name a i (a_footer _ _ _ _ p is) b j x y (an_element _ _ _ _ e q is') same =
     absurd (start_no_end b a y x (begins_top scope b e q) (end_begins a name p) (sym same))
 one_item scope name a i (a_footer _ _ _ _ p is) b j x y (a_footer _ _ _ _ q is') same =
-    (one_tag a b x y (end_tag name) (end_tag name) p q same, ap without_place is ∙ sym (ap without_place is'))
+    (one_tag a b x y (end_tag name) (end_tag name) p q same, ap (placed 0) is ∙ sym (ap (placed 0) is'))
 
 pub items_are_one : (scope : Scope) (name a b more : List ℕ) (i j : Item) → SpellsItem scope name a i → SpellsItem scope name b j → b ≡ a ++ more → (more ≡ []) × IsSameItem i j
 items_are_one scope name a b more i j p q is =

@@ -1,18 +1,9 @@
--- An open element that nodes join, or no text.
+-- An open element that no text joins.
 use Rattle.std.proofs.Common.{◌≡◌, ℕ, Bool, true, ◌==◌, List, [], ◌∷◌, length, refl, sym, ap, ◌∙◌, arith}
 use Rattle.std.proofs.lemmas.Bool.{eqb-true}
-use Rattle.xmpp_framing.proofs.Folds.{elem_view_is, joined_none}
+use Rattle.xmpp_framing.proofs.Folds.{joined_none}
 use Rattle.xmpp_framing.specs.States.{OpenElement, with_text}
-use Rattle.xmpp_framing.specs.Trees.{Elem, element, Nodes, name_of, no_nodes, with_nodes}
-use Rattle.xmpp_framing.specs.Views.{elem_view}
-use Rattle.xmpp_framing.specs.declared.elements.Element.{Element, out-Element}
-
--- an element has its name, whatever else it contains
-pub name_is : (e : Element) → (out-Element e).name ≡ name_of (elem_view e)
-name_is e = sym (ap name_of (elem_view_is e))
-
-pub name_stays : (e : Elem) (more : Nodes) → name_of (with_nodes e more) ≡ name_of e
-name_stays (element ns name attrs kids) more = refl
+use Rattle.xmpp_framing.specs.Trees.{Elem, element, no_nodes, with_nodes}
 
 with_no_nodes : (e : Elem) → with_nodes e no_nodes ≡ e
 with_no_nodes (element ns name attrs kids) = ap (element ns name attrs) (joined_none kids)

@@ -8,7 +8,7 @@ use Rattle.xmpp_framing.proofs.ReadCharacters.{Judged}
 use Rattle.xmpp_framing.specs.Machine.{behind_byte}
 use Rattle.xmpp_framing.specs.Spells.{IsHeaderName}
 use Rattle.xmpp_framing.specs.States.{OpenElement, State, Turn, admits_declaration, next_place}
-use Rattle.xmpp_framing.specs.Streams.{InForce, StreamTo, place_behind}
+use Rattle.xmpp_framing.specs.Streams.{InForce, StreamTo, place_of}
 use Rattle.xmpp_framing.specs.TagSteps.{scope_in}
 use Rattle.xmpp_framing.specs.Texts.{line_ends}
 use Rattle.xmpp_framing.specs.TextSteps.{kept_back}
@@ -31,7 +31,7 @@ pub record TokenIn (now : InForce) (items : List Item) (bytes token : List ℕ) 
   pub done : List ℕ
   pub stream : StreamTo now done items
   pub bytes_are : bytes ≡ done ++ token
-  pub place_is : place ≡ place_behind (length done)
+  pub place_is : place ≡ place_of (length done)
 
 -- an end tag is in hand, of which white space behind the name is not kept
 pub record FooterIn (now : InForce) (items : List Item) (bytes token : List ℕ) : Type 0 where
@@ -139,7 +139,7 @@ Hand (Some o) m s items bytes = (hand : List ℕ) × Around s.lexical.phase s.sc
 
 -- the place of the next byte, and what no byte changes
 pub record Kept (at : ℕ) (spent : Bool) (limits : Limits) (bytes : List ℕ) : Type 0 where
-  pub at_is : at ≡ place_behind (length bytes)
+  pub at_is : at ≡ place_of (length bytes)
   pub not_spent : spent ≡ false
   pub few_attributes : limits.attributes < 2 ^ 32
   pub short_namespaces : limits.namespace_bytes < 2 ^ 32

@@ -1,5 +1,5 @@
 -- The place of the next byte rises by one with each byte, and by nothing else.
-use Rattle.std.proofs.Common.{◌≡◌, ℕ, ◌+◌, Bool, true, false, true≢false, ◌==◌, ◌&&◌, ◌||◌, not, if◌then◌else◌, List, [], ◌∷◌, ◌++◌, Option, Some, None, Result, Ok, Err, codes, length, refl, sym, ap, ◌∙◌, arith}
+use Rattle.std.proofs.Common.{◌≡◌, ℕ, ◌+◌, Bool, true, false, true≢false, ◌==◌, ◌&&◌, ◌||◌, not, if◌then◌else◌, List, [], ◌∷◌, ◌++◌, Option, Some, None, Result, Ok, Err, codes, length, refl, sym, ap, ◌∙◌}
 use Rattle.std.specs.Option.{is_some}
 use Rattle.std.specs.Prelude.{nat_lt, slice_index}
 use Rattle.xmpp_tokens.specs.Characters.{is_white}
@@ -16,12 +16,12 @@ use Rattle.xmpp_names.specs.Starts.{Tag}
 use Rattle.xmpp_names.specs.declared.faults.StartFault.{StartFault}
 use Rattle.xmpp_framing.proofs.FaultLaws.{stays}
 use Rattle.xmpp_framing.specs.Machine.{behind_byte, goes_on, is_too_long, run, step, taken, taken_in}
+use Rattle.xmpp_framing.specs.ManyBytes.{place_behind}
 use Rattle.xmpp_framing.specs.MarkupSteps.{declares, ends_in_question, in_bang, in_declaration, in_question, section_opened}
 use Rattle.xmpp_framing.specs.States.{OpenElement, State, Turn, counted, fails, gathered, gathered_in, in_mode, in_run, may_declare, moved, next_place, run_begun, token_begun, token_ended, token_fails, token_place}
 use Rattle.xmpp_framing.specs.TagSteps.{added_to, begun, closed, closed_open, element_from, ends, ends_stream, footer_closes, footer_gathered, header_tag, heads, in_footer, in_opening, in_tag, is_header, is_spelled, is_too_deep, joined_text, leaf, level, misplaced, shallower, starts, tag_anew, tag_closes, tag_gathered, tag_here, tag_in, tag_inside, tag_outside, unlimited}
 use Rattle.xmpp_framing.specs.TextSteps.{between, bracket_taken, character_begun, character_taken, ends_section, in_reference, in_section, in_text, inside, is_forbidden, judged_outside, judged_section, judged_text, markup_begun, other_taken, refers, section_taken, text_inside, text_outside}
 use Rattle.xmpp_framing.specs.Trees.{Elem}
-use Rattle.xmpp_framing.specs.Streams.{place_behind}
 use Rattle.xmpp_framing.specs.declared.faults.Fault.{Fault}
 use Rattle.xmpp_framing.specs.declared.faults.Why.TheVariants as why
 use Rattle.xmpp_framing.specs.declared.states.Mode.{Mode}
@@ -243,7 +243,7 @@ past_fault : (n : ℕ) (b : Bool) (u v : Turn) → (b ≡ true → is_some u.sta
 past_fault n true u v f h e = absurd (true≢false (sym (f refl) ∙ ap is_some e))
 past_fault n false u v f h e = h e
 
-step_place : (t : Turn) (b : ℕ) → (step t b).state.fault ≡ None → (step t b).state.places.at ≡ next_place t.state.places.at
+pub step_place : (t : Turn) (b : ℕ) → (step t b).state.fault ≡ None → (step t b).state.places.at ≡ next_place t.state.places.at
 unfolding goes_on taken
 step_place t b =
     let n = next_place t.state.places.at in
@@ -255,19 +255,14 @@ step_place t b =
     (past_fault n (is_too_long t.state b) long rest (λ e. refl)
     (past_fault n (not (continues t.state.pending b)) broken next (λ e. refl) (λ e. ap next_place (taken_remains t.state.lexical.mode (moved t (counted t.state)) b))))
 
-no_fault_before : (t : Turn) (bs : List ℕ) → (run t bs).state.fault ≡ None → t.state.fault ≡ None
+pub no_fault_before : (t : Turn) (bs : List ℕ) → (run t bs).state.fault ≡ None → t.state.fault ≡ None
 no_fault_before t bs e = was t.state.fault refl
   where
     was : (o : Option Fault) → t.state.fault ≡ o → o ≡ None
     was None is = refl
     was (Some f) is = absurd (true≢false (sym (ap is_some (ap (λ (u : Turn). u.state.fault) (stays t bs f is) ∙ is)) ∙ ap is_some e))
 
-next_of : (offset : ℕ) → next_place (place_behind offset) ≡ place_behind (offset + 1)
-next_of offset = omega arith
-
--- Behind bytes that led to no fault the next byte's place is so much further.
-pub run_place : (bs : List ℕ) (t : Turn) (offset : ℕ) → t.state.places.at ≡ place_behind offset → (run t bs).state.fault ≡ None → (run t bs).state.places.at ≡ place_behind (offset + length bs)
-run_place [] t offset at e = at ∙ ap place_behind (omega arith)
-run_place (b ∷ bs) t offset at e =
-    let here = step_place t b (no_fault_before (step t b) bs e) in
-    run_place bs (step t b) (offset + 1) (here ∙ ap next_place at ∙ next_of offset) e ∙ ap place_behind (omega arith)
+-- Each of the bytes that led to no fault raised the next byte's place.
+pub run_place : (bs : List ℕ) (t : Turn) → (run t bs).state.fault ≡ None → (run t bs).state.places.at ≡ place_behind bs t.state.places.at
+run_place [] t e = refl
+run_place (b ∷ bs) t e = run_place bs (step t b) e ∙ ap (place_behind bs) (step_place t b (no_fault_before (step t b) bs e))

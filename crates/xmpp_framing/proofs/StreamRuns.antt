@@ -1,5 +1,5 @@
 -- What spells a stream is read as its items.
-use Rattle.std.proofs.Common.{◌≡◌, ℕ, ◌+◌, ◌≤◌, inl, inr, Bool, true, false, not, ◌&&◌, cond, List, [], ◌∷◌, ◌++◌, Option, None, length, zero-add, refl, sym, ap, subst, ◌∙◌}
+use Rattle.std.proofs.Common.{◌≡◌, ℕ, ◌+◌, ◌≤◌, inl, inr, Bool, true, false, not, ◌&&◌, cond, List, [], ◌∷◌, ◌++◌, Option, None, length, zero-add, refl, sym, ap, subst, ◌∙◌, arith}
 use Rattle.std.specs.Option.{is_some}
 use Rattle.xmpp_tokens.specs.Declarations.{declaration_of}
 use Rattle.xmpp_tokens.specs.Tags.{are_white}
@@ -10,15 +10,17 @@ use Rattle.xmpp_framing.proofs.DeclarationRuns.{HasDeclared, declaration_run}
 use Rattle.xmpp_framing.proofs.ElementStates.{split_run}
 use Rattle.xmpp_framing.proofs.ItemRuns.{HasHeaded, element_gives, footer_gives, head_read, may_head_next, quiet_there, room_there}
 use Rattle.xmpp_framing.proofs.Quiet.{HasSaid}
+use Rattle.xmpp_framing.proofs.PlainTexts.{place_is}
 use Rattle.xmpp_framing.proofs.RunPlaces.{run_place}
 use Rattle.xmpp_framing.proofs.TextRuns.{white_run}
 use Rattle.xmpp_framing.specs.Machine.{part_of, run}
+use Rattle.xmpp_framing.specs.ManyBytes.{place_behind}
 use Rattle.xmpp_framing.specs.MarkupSteps.{declared_phase}
-use Rattle.xmpp_framing.specs.Spells.{SpellsTop}
-use Rattle.xmpp_framing.specs.Standing.{Gives, StandsOutside, placed}
+use Rattle.xmpp_framing.specs.Spells.{SpellsTop, placed}
+use Rattle.xmpp_framing.specs.Standing.{Gives, StandsOutside}
 use Rattle.xmpp_framing.specs.States.{OpenElement, State, Turn, admits_declaration, from_start, may_declare, turn}
 use Rattle.xmpp_framing.specs.StreamLimits.{IsEmptyHeaderInWithin, IsHeaderInWithin, IsReadAs, IsStreamWithin}
-use Rattle.xmpp_framing.specs.Streams.{InForce, IsDeclared, SpellsEmptyHeaderIn, SpellsHeaderIn, StreamTo, declared, ended, headed, headed_and_ended, nothing, place_behind, white_space, with_element}
+use Rattle.xmpp_framing.specs.Streams.{InForce, IsDeclared, SpellsEmptyHeaderIn, SpellsHeaderIn, StreamTo, declared, ended, headed, headed_and_ended, nothing, place_of, white_space, with_element}
 use Rattle.xmpp_framing.specs.TagSteps.{header_items, phase_behind, scope_in}
 use Rattle.xmpp_framing.specs.Trees.{Elem}
 use Rattle.xmpp_framing.specs.Within.{IsElementWithin}
@@ -37,10 +39,11 @@ record IsBehind (s t : State) (before after : List Item) (bytes : List ℕ) (p :
   limits : t.limits ≡ s.limits
 
 -- the place behind bytes that led there without a fault
-place_there : (s t : State) (before after : List Item) (bytes : List ℕ) (offset : ℕ) → s.places.at ≡ place_behind offset → run (turn s before) bytes ≡ turn t after → t.fault ≡ None
-    → t.places.at ≡ place_behind (offset + length bytes)
+place_there : (s t : State) (before after : List Item) (bytes : List ℕ) (offset : ℕ) → s.places.at ≡ place_of offset → run (turn s before) bytes ≡ turn t after → t.fault ≡ None
+    → t.places.at ≡ place_of (offset + length bytes)
 place_there s t before after bytes offset at runs none =
-    ap (λ (u : Turn). u.state.places.at) (sym runs) ∙ run_place bytes (turn s before) offset at (ap (λ (u : Turn). u.state.fault) runs ∙ none)
+    ap (λ (u : Turn). u.state.places.at) (sym runs) ∙ run_place bytes (turn s before) (ap (λ (u : Turn). u.state.fault) runs ∙ none)
+    ∙ (ap (place_behind bytes) at ∙ place_is bytes (place_of offset) (omega arith) ∙ omega arith)
 
 white_read : (s : State) (before : List Item) (bytes : List ℕ) (p : Phase) (scope : Scope) (name : List ℕ) → StandsOutside s p scope name → are_white bytes ≡ true
     → (t : State) × IsBehind s t before before bytes p scope name
@@ -243,9 +246,9 @@ abbrev Reads : Limits → InForce → List ℕ → List Item → Type 0
 Reads limits now bytes items = (t : State) × IsBehind (from_start limits) t [] items bytes now.phase now.scope now.name
 
 from_first : (limits : Limits) (front : List ℕ) (t : State) (items : List Item) (p : Phase) (scope : Scope) (name : List ℕ) → IsBehind (from_start limits) t [] items front p scope name
-    → t.places.at ≡ place_behind (length front)
+    → t.places.at ≡ place_of (length front)
 from_first limits front t items p scope name h =
-    place_there (from_start limits) t [] items front 0 refl h.run_is h.stands.no_fault ∙ ap place_behind (zero-add (length front))
+    place_there (from_start limits) t [] items front 0 refl h.run_is h.stands.no_fault ∙ ap place_of (zero-add (length front))
 
 stream_reads : (limits : Limits) (now : InForce) (bytes : List ℕ) (items : List Item) (stream : StreamTo now bytes items) → IsStreamWithin limits now bytes items stream → Reads limits now bytes items
 stream_reads limits now bytes items (nothing _ _ _ is_first no_scope no_name no_bytes no_items) within = (
@@ -281,7 +284,7 @@ stream_reads limits now bytes items (headed _ _ _ before front tag given h so_fa
     let place = from_first limits front t given before.phase before.scope before.name there in (
       more.0,
       then_behind s t more.0 [] given items all bytes front tag before.phase now.phase before.scope now.scope before.name now.name bytes_are
-          (header_at t.places.at (place_behind (length front)) h false given items place items_are) there now_there,
+          (header_at t.places.at (place_of (length front)) h false given items place items_are) there now_there,
     )
 stream_reads limits now bytes items (headed_and_ended _ _ _ before front tag given h so_far spelled phase_is bytes_are items_are) within =
     let s = from_start limits in
@@ -296,7 +299,7 @@ stream_reads limits now bytes items (headed_and_ended _ _ _ before front tag giv
     let place = from_first limits front t given before.phase before.scope before.name there in (
       more.0,
       then_behind s t more.0 [] given items all bytes front tag before.phase now.phase before.scope now.scope before.name now.name bytes_are
-          (header_at t.places.at (place_behind (length front)) h true given items place items_are) there now_there,
+          (header_at t.places.at (place_of (length front)) h true given items place items_are) there now_there,
     )
 stream_reads limits now bytes items (with_element _ _ _ front inside given e so_far phase_is spelled bytes_are items_are) within =
     let s = from_start limits in

@@ -12,12 +12,9 @@ use Rattle.xmpp_tokens.specs.Characters.{is_white, is_name_start}
 use Rattle.xmpp_tokens.specs.Tags.{Attribute, AreAttributes, IsEndTag, IsSpelled, IsStartTag, are_white, has_parts, is_qualified, is_qualified_byte, is_quote, quote_behind, tag_end}
 use Rattle.xmpp_tokens.specs.Utf8.{utf8_run}
 use Rattle.xmpp_tokens.specs.Values.{value_of}
+use Rattle.xmpp_framing.proofs.PlainTags.{quote_append}
 use Rattle.xmpp_framing.proofs.ValueTexts.{ascii_runs, ascii_step, runs_append, value_runs}
-
--- the quote that is open behind bytes
-abbrev pub quote_after : Option ℕ → List ℕ → Option ℕ
-quote_after quote [] = quote
-quote_after quote (b ∷ bs) = quote_after (quote_behind quote b) bs
+use Rattle.xmpp_framing.specs.ManyBytes.{quote_after}
 
 -- a byte ends a tag
 abbrev pub ends_tag : Option ℕ → ℕ → Bool
@@ -33,10 +30,6 @@ pub record IsPart (bytes : List ℕ) : Type 0 where
   pub goes_on : none_ends None bytes ≡ true
   pub unquoted : quote_after None bytes ≡ None
   pub runs : utf8_run [] bytes ≡ Some []
-
-quote_append : (quote : Option ℕ) (a b : List ℕ) → quote_after quote (a ++ b) ≡ quote_after (quote_after quote a) b
-quote_append quote [] b = refl
-quote_append quote (x ∷ xs) b = quote_append (quote_behind quote x) xs b
 
 ends_append : (quote : Option ℕ) (a b : List ℕ) → none_ends quote a ≡ true → none_ends (quote_after quote a) b ≡ true → none_ends quote (a ++ b) ≡ true
 ends_append quote [] b h k = k

@@ -20,10 +20,11 @@ use Rattle.xmpp_tokens.specs.Utf8.{continues, held_after, utf8_next, utf8_run}
 use Rattle.xmpp_framing.proofs.FaultLaws.{goes}
 use Rattle.xmpp_framing.proofs.Pieces.{run_append}
 use Rattle.xmpp_framing.proofs.Quiet.{AreAlike, HasInHand, HasRoom, IsQuiet}
-use Rattle.xmpp_framing.proofs.TagParts.{IsWhole, ends_tag, none_ends, quote_after, end_whole, start_whole, whole_text}
+use Rattle.xmpp_framing.proofs.TagParts.{IsWhole, ends_tag, none_ends, end_whole, start_whole, whole_text}
 use Rattle.xmpp_framing.proofs.ValueTexts.{leads}
 use Rattle.xmpp_framing.specs.FaultRows.{Takes}
 use Rattle.xmpp_framing.specs.Machine.{behind_byte, is_too_long, passed, run, step}
+use Rattle.xmpp_framing.specs.ManyBytes.{quote_after}
 use Rattle.xmpp_framing.specs.States.{State, Turn, counted, gathered, moved, next_place, token_begun, turn}
 use Rattle.xmpp_framing.specs.TagSteps.{in_opening, in_tag, tag_closes, tag_gathered}
 use Rattle.xmpp_framing.specs.TextSteps.{between, in_text, inside}

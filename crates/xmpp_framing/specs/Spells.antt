@@ -100,15 +100,15 @@ pub data SpellsItem : Scope → List ℕ → List ℕ → Item → Type 0 where
   an_element : (scope : Scope) (name bytes : List ℕ) (i : Item) (e : Elem) → SpellsTop scope bytes e → i ≡ item.Element e → SpellsItem scope name bytes i
   a_footer : (scope : Scope) (name bytes : List ℕ) (i : Item) → SpellsFooter bytes name → i ≡ item.Footer → SpellsItem scope name bytes i
 
--- an item but for the place of a header
-abbrev pub without_place : Item → Item
-without_place (item.Header at h) = item.Header 0 h
-without_place (item.Element e) = item.Element e
-without_place item.Footer = item.Footer
+-- the item with the place of its first byte, where it has one
+abbrev pub placed : ℕ → Item → Item
+placed at (item.Header other h) = item.Header at h
+placed at (item.Element e) = item.Element e
+placed at item.Footer = item.Footer
 
 -- two items are one, but for the place of a header
 abbrev pub IsSameItem : Item → Item → Type 0
-IsSameItem i j = without_place i ≡ without_place j
+IsSameItem i j = placed 0 i ≡ placed 0 j
 
 abbrev pub bind : List ℕ → List ℕ → Binding
 bind prefix ns = record { prefix = prefix; ns = ns }

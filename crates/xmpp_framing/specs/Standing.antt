@@ -2,12 +2,11 @@
 use Rattle.std.specs.Prelude.{ℕ, ◌≡◌, ◌<◌, false, List, [], ◌∷◌, ◌++◌, None, length, take}
 use Rattle.xmpp_names.specs.Scopes.{Scope}
 use Rattle.xmpp_framing.specs.Machine.{run}
-use Rattle.xmpp_framing.specs.Spells.{SpellsItem, a_footer, a_header, an_element}
+use Rattle.xmpp_framing.specs.Spells.{SpellsItem, a_footer, a_header, an_element, placed}
 use Rattle.xmpp_framing.specs.States.{State, turn}
 use Rattle.xmpp_framing.specs.TagSteps.{scope_in}
 use Rattle.xmpp_framing.specs.Within.{IsElementWithin, IsNextHeaderWithin}
 use Rattle.xmpp_framing.specs.declared.items.Item.{Item}
-use Rattle.xmpp_framing.specs.declared.items.Item.TheVariants as item
 use Rattle.xmpp_framing.specs.declared.limits.Limits.{Limits}
 use Rattle.xmpp_framing.specs.declared.states.Mode.TheVariants as mode
 use Rattle.xmpp_framing.specs.declared.states.Phase.{Phase}
@@ -28,12 +27,6 @@ pub record StandsOutside (s : State) (p : Phase) (scope : Scope) (name : List �
   pub phase_is : s.lexical.phase ≡ p
   pub scope_is : scope_in s.scopes ≡ scope
   pub name_is : s.name ≡ name
-
--- the item with the place of its first byte, where it has one
-abbrev pub placed : ℕ → Item → Item
-placed at (item.Header other h) = item.Header at h
-placed at (item.Element e) = item.Element e
-placed at item.Footer = item.Footer
 
 -- Bytes give this item and nothing else, at the last of them, and leave the framer outside elements.
 pub record Gives (s : State) (items : List Item) (bytes : List ℕ) (i : Item) (p : Phase) (scope : Scope) (name : List ℕ) : Type 0 where

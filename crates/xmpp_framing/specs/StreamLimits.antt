@@ -5,7 +5,7 @@ use Rattle.xmpp_names.specs.declared.headers.Header.{Header}
 use Rattle.xmpp_framing.specs.Machine.{part_of, run}
 use Rattle.xmpp_framing.specs.Standing.{StandsOutside}
 use Rattle.xmpp_framing.specs.States.{State, from_start, turn}
-use Rattle.xmpp_framing.specs.Streams.{InForce, SpellsEmptyHeaderIn, SpellsHeaderIn, StreamTo, declared, ended, headed, headed_and_ended, nothing, place_behind, white_space, with_element}
+use Rattle.xmpp_framing.specs.Streams.{InForce, SpellsEmptyHeaderIn, SpellsHeaderIn, StreamTo, declared, ended, headed, headed_and_ended, nothing, place_of, white_space, with_element}
 use Rattle.xmpp_framing.specs.Within.{IsElementWithin, IsHeadWithin, IsNextHeadWithin}
 use Rattle.xmpp_framing.specs.declared.items.Item.{Item}
 use Rattle.xmpp_framing.specs.declared.limits.Limits.{Limits}
@@ -50,4 +50,4 @@ pub record IsReadAs (limits : Limits) (now : InForce) (bytes : List ℕ) (items 
   pub run_is : run (turn (from_start limits) []) bytes ≡ turn behind items
   pub stands : StandsOutside behind now.phase now.scope now.name
   pub no_part : part_of behind ≡ None
-  pub place : behind.places.at ≡ place_behind (length bytes)
+  pub place : behind.places.at ≡ place_of (length bytes)

@@ -52,7 +52,6 @@ fn element_of(
 }
 
 // The text in hand joins an element.
-#[tactic(auto, using(crate::proofs::OpenText::name_stays))]
 fn join_to(alloc: Global, around: &mut Open, chars: &mut String) -> Result<(), NoMemory>
     ensures joined { OnOk result (open_of around.new ≡ with_text (open_of around.old) (string_bytes chars.old)) }
     ensures taken { OnOk result (string_bytes chars.new ≡ []) }
@@ -78,7 +77,6 @@ impl Framer {
     }
 
     // A whole element becomes a child of the innermost open one, or is given.
-    #[tactic(auto, using(crate::proofs::OpenText::name_stays))]
     fn add(&mut self, element: Element, items: &mut Items) -> Result<(), NoMemory>
         ensures ok { OnOk result (turn self.new items.new.items ≡ added (turn self.old items.old.items) (elem_view element)) }
         ensures err { OnErr result (items.new.items ≡ items.old.items) }

@@ -87,7 +87,6 @@ pub(crate) struct Open {
 
 impl Open {
     // Whether a name is the element's as its start tag spells it.
-    #[tactic(auto, using(crate::proofs::OpenText::name_is))]
     pub(crate) fn is_spelled(&self, name: &str) -> bool
         ensures { result ≡ bytes_eq name.now (open_of self.now).spelled }
     {
