@@ -1,6 +1,8 @@
 pub mod Utf8Runs
 pub mod Going
 pub mod Splits
+pub mod UntilLens
+pub mod LetterNames
 pub mod ValueRuns
 pub mod Texts
 pub mod TagWords

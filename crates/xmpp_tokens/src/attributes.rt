@@ -1,6 +1,8 @@
 //! An attribute as it is spelled, read off the bytes of a tag.
 ghost use Rattle.std.specs.Prelude.{◌≡◌, Some, None, if◌then◌else◌};
+ghost use Rattle.std.specs.List.{list_all};
 ghost use Rattle.std.specs.Option.{option_map};
+ghost use Rattle.xmpp_tokens.specs.Characters;
 ghost use Rattle.xmpp_tokens.specs.Tags;
 ghost use Rattle.xmpp_tokens.specs.Values.{as_text};
 ghost use Rattle.xmpp_tokens.specs.SpelledView.{spelled_view};
@@ -33,10 +35,25 @@ fn is_behind_colon(bytes: &[u8]) -> bool
     }
 }
 
-// Whether bytes are a name or two with a colon between, if they are UTF-8.
+// Whether each byte is an ASCII letter. No byte ends the loop, so that it can become vector code.
+fn are_letters(bytes: &[u8]) -> bool
+    ensures { result ≡ list_all Characters.is_letter bytes.now }
+{
+    let mut letters = true;
+    for b in bytes {
+        letters &= b.is_ascii_lowercase() || b.is_ascii_uppercase();
+    }
+    letters
+}
+
+// Whether bytes are a name or two with a colon between, if they are UTF-8. Letters are told at once.
+#[tactic(auto, using(crate::proofs::LetterNames::letters_have_parts))]
 fn has_parts(name: &[u8]) -> bool
     ensures { result ≡ Tags.has_parts name.now }
 {
+    if !name.is_empty() && are_letters(name) {
+        return true;
+    }
     let (prefix, rest) = split_until(name, b':');
     is_name(prefix) && is_behind_colon(rest)
 }

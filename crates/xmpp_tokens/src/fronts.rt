@@ -8,6 +8,7 @@ ghost use Rattle.xmpp_tokens.specs.Tags;
 ghost use Rattle.xmpp_tokens.specs.Values;
 
 use crate::characters::{is_name_byte, is_white};
+use memchr::memchr;
 
 fn name_len(bytes: &[u8]) -> usize
     ensures { result ≡ prefix_len Characters.is_name_byte bytes.now }
@@ -42,7 +43,10 @@ pub(crate) fn split_white(bytes: &[u8]) -> (&[u8], &[u8])
 fn until_len(bytes: &[u8], end: u8) -> usize
     ensures { result ≡ prefix_len (λ b. not (b == end)) bytes.now }
 {
-    bytes.iter().take_while(|b| **b != end).count()
+    match memchr(end, bytes) {
+        Some(at) => at,
+        None => bytes.len(),
+    }
 }
 
 // The bytes before the first that is `end`, and the rest from there.
