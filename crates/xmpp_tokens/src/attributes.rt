@@ -8,7 +8,7 @@ ghost use Rattle.xmpp_tokens.specs.Values.{as_text};
 ghost use Rattle.xmpp_tokens.specs.SpelledView.{spelled_view};
 
 use crate::characters::is_name;
-use crate::fronts::{split_qualified, split_until, split_white};
+use crate::fronts::{split_colon, split_qualified, split_until, split_white};
 
 /// An attribute as it is spelled, and what is behind it.
 #[derive(Clone, Copy)]
@@ -54,7 +54,7 @@ fn has_parts(name: &[u8]) -> bool
     if !name.is_empty() && are_letters(name) {
         return true;
     }
-    let (prefix, rest) = split_until(name, b':');
+    let (prefix, rest) = split_colon(name);
     is_name(prefix) && is_behind_colon(rest)
 }
 

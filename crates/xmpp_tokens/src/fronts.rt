@@ -58,6 +58,21 @@ pub(crate) fn split_until(bytes: &[u8], end: u8) -> (&[u8], &[u8])
     bytes.split_at(until_len(bytes, end))
 }
 
+fn colon_len(bytes: &[u8]) -> usize
+    ensures { result ≡ prefix_len (λ b. not (b == 58)) bytes.now }
+{
+    bytes.iter().take_while(|b| **b != b':').count()
+}
+
+// The bytes before the first colon, and the rest from there. Names are short: a search of many bytes at once gains nothing.
+#[tactic(auto, using(crate::proofs::Splits::take_prefix, crate::proofs::Splits::drop_prefix, crate::proofs::Splits::prefix_within))]
+pub(crate) fn split_colon(bytes: &[u8]) -> (&[u8], &[u8])
+    ensures front { result.0.now ≡ front (λ b. not (b == 58)) bytes.now }
+    ensures behind { result.1.now ≡ behind (λ b. not (b == 58)) bytes.now }
+{
+    bytes.split_at(colon_len(bytes))
+}
+
 fn is_plain(b: u8) -> bool
     ensures { result ≡ Values.is_plain b }
 {
