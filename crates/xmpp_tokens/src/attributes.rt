@@ -35,15 +35,18 @@ fn is_behind_colon(bytes: &[u8]) -> bool
     }
 }
 
-// Whether each byte is an ASCII letter. No byte ends the loop, so that it can become vector code.
+// Whether a byte is an ASCII letter.
+fn is_letter(b: u8) -> bool
+    ensures { result ≡ Characters.is_letter b }
+{
+    b.is_ascii_lowercase() || b.is_ascii_uppercase()
+}
+
+// Whether each byte is an ASCII letter.
 fn are_letters(bytes: &[u8]) -> bool
     ensures { result ≡ list_all Characters.is_letter bytes.now }
 {
-    let mut letters = true;
-    for b in bytes {
-        letters &= b.is_ascii_lowercase() || b.is_ascii_uppercase();
-    }
-    letters
+    bytes.iter().all(|b| is_letter(*b))
 }
 
 // Whether bytes are a name or two with a colon between, if they are UTF-8. Letters are told at once.
