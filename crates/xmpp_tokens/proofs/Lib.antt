@@ -14,7 +14,6 @@ pub mod EndNames
 pub mod TagOutcomes
 pub mod DeclarationLaws
 pub mod SpellingRuns
-pub mod PlainSpellings
 pub mod RoundTrips
 mod Worked
 pub mod DeclarationGrammar

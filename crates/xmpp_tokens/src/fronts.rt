@@ -115,7 +115,7 @@ pub(crate) fn split_qualified(bytes: &[u8]) -> (&[u8], &[u8])
     bytes.split_at(qualified_len(bytes))
 }
 
-pub(crate) fn is_text_plain(b: u8) -> bool
+fn is_text_plain(b: u8) -> bool
     ensures { result ≡ Spelling.is_text_plain b }
 {
     b != b'&' && b != b'<' && b != b'>' && b != b'\r'
@@ -136,7 +136,7 @@ pub(crate) fn split_text_plain(bytes: &[u8]) -> (&[u8], &[u8])
     bytes.split_at(text_plain_len(bytes))
 }
 
-pub(crate) fn is_value_plain(b: u8) -> bool
+fn is_value_plain(b: u8) -> bool
     ensures { result ≡ Spelling.is_value_plain b }
 {
     is_text_plain(b) && b != b'\'' && b != b'\t' && b != b'\n'

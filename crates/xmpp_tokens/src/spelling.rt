@@ -6,7 +6,7 @@ ghost use Rattle.xmpp_tokens.specs.Spelling;
 ghost use Rattle.xmpp_tokens.specs.Spelling.{spelled_text, spelled_value, text_byte, text_from, value_byte};
 ghost use Rattle.xmpp_tokens.specs.Values.{text, value_of};
 
-use crate::fronts::{is_text_plain, is_value_plain, split_text_plain, split_value_plain};
+use crate::fronts::{split_text_plain, split_value_plain};
 use xmpp_edge::{Bytes, NoMemory};
 
 // What a byte of a text is written as, where that isn't the byte itself.
@@ -65,19 +65,8 @@ fn value_byte_len(b: u8) -> usize
     }
 }
 
-// Whether each byte of a text is written as it is. No byte ends the loop, so that it can become vector code.
-fn are_text_plain(bytes: &[u8]) -> bool
-    ensures { result ≡ list_all Spelling.is_text_plain bytes.now }
-{
-    let mut plain = true;
-    for b in bytes {
-        plain &= is_text_plain(*b);
-    }
-    plain
-}
-
-// The length of a text as it is written, byte by byte, or 2^64 - 1 where that is less.
-fn escaped_text_len(bytes: &[u8]) -> usize
+/// The length of a text as it is written, or 2^64 - 1 where that is less. It takes no memory.
+pub fn spelled_text_len(bytes: &[u8]) -> usize
     ensures { result ≡ min (length (spelled_text bytes.now)) (2 ^ 64 - 1) }
 {
     let mut len = 0usize;
@@ -87,30 +76,8 @@ fn escaped_text_len(bytes: &[u8]) -> usize
     len
 }
 
-/// The length of a text as it is written, or 2^64 - 1 where that is less. It takes no memory.
-#[tactic(auto, using(crate::proofs::PlainSpellings::text_as_it_is))]
-pub fn spelled_text_len(bytes: &[u8]) -> usize
-    ensures { result ≡ min (length (spelled_text bytes.now)) (2 ^ 64 - 1) }
-{
-    if are_text_plain(bytes) {
-        return bytes.len();
-    }
-    escaped_text_len(bytes)
-}
-
-// Whether each byte of a value is written as it is. No byte ends the loop, so that it can become vector code.
-fn are_value_plain(bytes: &[u8]) -> bool
-    ensures { result ≡ list_all Spelling.is_value_plain bytes.now }
-{
-    let mut plain = true;
-    for b in bytes {
-        plain &= is_value_plain(*b);
-    }
-    plain
-}
-
-// The length of a value as it is written, byte by byte, or 2^64 - 1 where that is less.
-fn escaped_value_len(bytes: &[u8]) -> usize
+/// The length of a value as it is written, or 2^64 - 1 where that is less. It takes no memory.
+pub fn spelled_value_len(bytes: &[u8]) -> usize
     ensures { result ≡ min (length (spelled_value bytes.now)) (2 ^ 64 - 1) }
 {
     let mut len = 0usize;
@@ -118,17 +85,6 @@ fn escaped_value_len(bytes: &[u8]) -> usize
         len = len.saturating_add(value_byte_len(*b));
     }
     len
-}
-
-/// The length of a value as it is written, or 2^64 - 1 where that is less. It takes no memory.
-#[tactic(auto, using(crate::proofs::PlainSpellings::value_as_it_is))]
-pub fn spelled_value_len(bytes: &[u8]) -> usize
-    ensures { result ≡ min (length (spelled_value bytes.now)) (2 ^ 64 - 1) }
-{
-    if are_value_plain(bytes) {
-        return bytes.len();
-    }
-    escaped_value_len(bytes)
 }
 
 // Writes what comes before the first byte to escape, and that byte escaped, and answers what is left.
@@ -150,8 +106,8 @@ fn append_text_run<'a>(out: &mut Bytes, rest: &'a [u8]) -> &'a [u8]
     }
 }
 
-// Writes a text at the end, run by run.
-fn append_text_runs(out: &mut Bytes, bytes: &[u8])
+/// Writes a text at the end and takes no memory. It lowers `spare` by at most its written length.
+pub fn append_text_reserved(out: &mut Bytes, bytes: &[u8])
     requires { length (spelled_text bytes.now) ≤ out.old.spare }
     ensures items { out.new.items ≡ out.old.items ++ spelled_text bytes.now }
     ensures spare { out.old.spare ≤ out.new.spare + length (spelled_text bytes.now) }
@@ -159,20 +115,6 @@ fn append_text_runs(out: &mut Bytes, bytes: &[u8])
     let mut rest = bytes;
     while !rest.is_empty() {
         rest = append_text_run(out, rest);
-    }
-}
-
-/// Writes a text at the end and takes no memory. It lowers `spare` by at most its written length.
-#[tactic(auto, using(crate::proofs::PlainSpellings::text_as_it_is))]
-pub fn append_text_reserved(out: &mut Bytes, bytes: &[u8])
-    requires { length (spelled_text bytes.now) ≤ out.old.spare }
-    ensures items { out.new.items ≡ out.old.items ++ spelled_text bytes.now }
-    ensures spare { out.old.spare ≤ out.new.spare + length (spelled_text bytes.now) }
-{
-    if are_text_plain(bytes) {
-        out.append_reserved(bytes);
-    } else {
-        append_text_runs(out, bytes);
     }
 }
 
@@ -209,8 +151,8 @@ fn append_value_run<'a>(out: &mut Bytes, rest: &'a [u8]) -> &'a [u8]
     }
 }
 
-// Writes a value at the end, run by run.
-fn append_value_runs(out: &mut Bytes, bytes: &[u8])
+/// Writes a value at the end and takes no memory. It lowers `spare` by at most its written length.
+pub fn append_value_reserved(out: &mut Bytes, bytes: &[u8])
     requires { length (spelled_value bytes.now) ≤ out.old.spare }
     ensures items { out.new.items ≡ out.old.items ++ spelled_value bytes.now }
     ensures spare { out.old.spare ≤ out.new.spare + length (spelled_value bytes.now) }
@@ -218,20 +160,6 @@ fn append_value_runs(out: &mut Bytes, bytes: &[u8])
     let mut rest = bytes;
     while !rest.is_empty() {
         rest = append_value_run(out, rest);
-    }
-}
-
-/// Writes a value at the end and takes no memory. It lowers `spare` by at most its written length.
-#[tactic(auto, using(crate::proofs::PlainSpellings::value_as_it_is))]
-pub fn append_value_reserved(out: &mut Bytes, bytes: &[u8])
-    requires { length (spelled_value bytes.now) ≤ out.old.spare }
-    ensures items { out.new.items ≡ out.old.items ++ spelled_value bytes.now }
-    ensures spare { out.old.spare ≤ out.new.spare + length (spelled_value bytes.now) }
-{
-    if are_value_plain(bytes) {
-        out.append_reserved(bytes);
-    } else {
-        append_value_runs(out, bytes);
     }
 }
 

@@ -1,6 +1,6 @@
 use Rattle.std.proofs.Common.{◌≡◌, ◌+◌, ◌≤◌, ◌++◌, length}
 use Rattle.xmpp_tokens.specs.Spelling.{spelled_value}
-use Rattle.xmpp_tokens.proofs.spelling.append_value_runs.Given as goal
+use Rattle.xmpp_tokens.proofs.spelling.append_value_reserved.Given as goal
 
 -- what was written and what is left to write are the whole
 abbrev pub invariant-loop-rest : goal.invariant-loop-rest
