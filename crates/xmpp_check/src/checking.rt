@@ -11,8 +11,9 @@ use std::alloc::Global;
 use xmpp_edge::{Bytes, NoMemory};
 use xmpp_framing::{Fault, FeedFault, Framer, Item, Items, Limits};
 
-/// The most bytes whose items are held at once.
-const PIECE: usize = 4_096;
+/// The most bytes whose items are held at once. They are few, so that the items of one piece lie where those of the
+/// last one lay.
+const PIECE: usize = 512;
 
 /// What is wrong with a header that opens no stream between a client and its server.
 const STRANGE: &str = "InvalidNamespace";
@@ -129,7 +130,7 @@ fn tell_pieces(
 /// middle of an item, `truncated AT`; where a header opens no stream between a client and its server, `fault AT
 /// InvalidNamespace` with its place, and nothing behind it is looked at (RFC 6120, sections 4.8, 4.9.3 and 11).
 ///
-/// It holds the items of at most 4,096 bytes at a time besides the text.
+/// It holds the items that end in 512 bytes at a time besides the text.
 pub fn check(alloc: Global, input: &[u8]) -> Result<Checked, NoMemory>
     ensures { IfOk result (λ checked. told_with checked.text.items checked.sound ≡ told input.now) }
 {
