@@ -1,5 +1,5 @@
 -- What is told of items and pieces, one after another.
-use Rattle.std.proofs.Common.{◌≡◌, ◌≢◌, ℕ, Bool, true, false, List, [], ◌∷◌, ◌++◌, Option, Some, None, Result, Ok, Err, IfOk, refl, sym, ap, subst, ◌∙◌, append_assoc, codes}
+use Rattle.std.proofs.Common.{◌≡◌, ℕ, Bool, true, false, List, [], ◌∷◌, ◌++◌, Option, Some, Result, Ok, Err, IfOk, refl, sym, ap, subst, ◌∙◌, append_assoc, codes}
 use Rattle.xmpp_check.specs.Checked.{Told, told, told_behind, told_item, told_items, told_last, told_turn, wrong_with}
 use Rattle.xmpp_check.specs.Lines.{fault_line, item_line, strange_at, why_name}
 use Rattle.xmpp_check.specs.Pieces.{IsToldOf, or_rest, or_strange, told_from, told_with}
@@ -35,7 +35,7 @@ sound_piece pieces behind old new items piece rest done =
     ap told_turn (apart ∙ behind new items rest) ∙ items_append items after.items (told_last after.state)
 
 abbrev pub Stays : Type 0
-Stays = (t : Turn) (bs : List ℕ) → t.state.fault ≢ None → run t bs ≡ t
+Stays = (t : Turn) (bs : List ℕ) (f : Fault) → t.state.fault ≡ Some f → run t bs ≡ t
 
 -- a piece with a fault: its items and the fault
 told_last_fault : (s : State) (fault : Fault) → s.fault ≡ Some fault → told_last s ≡ wrong_with (fault_line fault.at (why_name fault.why))
@@ -45,9 +45,8 @@ told_last_fault s fault e = rw (e) refl
 fault_piece : Pieces → Stays → (old new : State) (items : List Item) (piece rest : List ℕ) (fault : Fault) → turn new items ≡ run (turn old []) piece → new.fault ≡ Some fault
     → told_from old (piece ++ rest) ≡ told_items items (wrong_with (fault_line fault.at (why_name fault.why)))
 fault_piece pieces stays old new items piece rest fault done e =
-    let there : new.fault ≢ None = λ none. let both : Some fault ≡ None = sym e ∙ none in cc in
     let apart : run (turn old []) (piece ++ rest) ≡ run (turn new items) rest = pieces (turn old []) piece rest ∙ ap (λ t. run t rest) (sym done) in
-    ap told_turn (apart ∙ stays (turn new items) rest there) ∙ ap (told_items items) (told_last_fault new fault e)
+    ap told_turn (apart ∙ stays (turn new items) rest fault e) ∙ ap (told_items items) (told_last_fault new fault e)
 
 pub sound_told : {E : Type 0} (result : Result Bool E) (old new : State) (given items slice : List Item) (piece before text : List ℕ)
     → Pieces → Behind → given ≡ [] → slice ≡ items → turn new items ≡ run (turn old given) piece

@@ -6,10 +6,9 @@ ghost use Rattle.xmpp_check.specs.Lines.{fault_line};
 ghost use Rattle.xmpp_check.specs.Pieces.{IsToldOf, or_rest, or_strange, told_from, told_with};
 
 use crate::lines::{append_end, append_fault, append_item, append_truncated, strange_at, why_name};
-use crate::pieces::any_pieces;
 use std::alloc::Global;
 use xmpp_edge::{Bytes, NoMemory};
-use xmpp_framing::{Fault, FeedFault, Framer, Item, Items, Limits};
+use xmpp_framing::{Fault, FeedFault, Framer, Item, Items, Limits, a_fault_stays, any_pieces};
 
 /// The most bytes whose items are held at once. They are few, so that the items of one piece lie where those of the
 /// last one lay.
@@ -74,6 +73,7 @@ fn tell_piece(
     ensures told { IfOk result (λ over. IsToldOf over framer.old framer.new piece.now text.old.items text.new.items) }
 {
     any_pieces();
+    a_fault_stays();
     let mut items = Items::new(alloc);
     match framer.feed(piece, &mut items) {
         Ok(()) => tell_sound(alloc, items.as_slice(), text),

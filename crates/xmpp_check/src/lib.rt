@@ -4,7 +4,6 @@
 
 mod checking;
 mod lines;
-mod pieces;
 #[cfg(test)]
 mod tests;
 

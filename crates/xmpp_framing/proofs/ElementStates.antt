@@ -6,7 +6,7 @@ use Rattle.xmpp_tokens.specs.Utf8.{held_after, utf8_next}
 use Rattle.xmpp_names.specs.Starts.{Tag}
 use Rattle.xmpp_framing.proofs.ElementTags.{MayBegin}
 use Rattle.xmpp_framing.proofs.Folds.{joined_assoc}
-use Rattle.xmpp_framing.proofs.ItemsGrow.{run_grows}
+use Rattle.xmpp_framing.proofs.ItemsBefore.{run_grows}
 use Rattle.xmpp_framing.proofs.Pieces.{run_append}
 use Rattle.xmpp_framing.proofs.Quiet.{HasInHand, HasRoom, HasSaid, IsFresh}
 use Rattle.xmpp_framing.specs.Machine.{IsFrontOf, behind_byte, passed, run}

@@ -20,7 +20,7 @@ pub mod WrittenTags
 pub mod Stacks
 pub mod OpenText
 pub mod LargerLimits
-pub mod ItemsGrow
+pub mod ItemsBefore
 pub mod Pieces
 pub mod Quiet
 pub mod FaultLaws

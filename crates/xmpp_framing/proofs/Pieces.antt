@@ -1,7 +1,7 @@
 -- Runs over pieces.
 use Rattle.std.proofs.Common.{◌≡◌, ℕ, ◌+◌, ◌-◌, ◌≤◌, List, [], ◌∷◌, ◌++◌, take, drop, length, length-drop, refl, sym, ap, subst, ◌∙◌, arith}
 use Rattle.std.proofs.lemmas.List.{drop-drop, take-append-drop, take_rest}
-use Rattle.xmpp_framing.proofs.ItemsGrow.{run_grows}
+use Rattle.xmpp_framing.proofs.ItemsBefore.{run_grows}
 use Rattle.xmpp_framing.specs.Machine.{IsFrontOf, TakesFront, run, step}
 use Rattle.xmpp_framing.specs.States.{Turn}
 use Rattle.xmpp_framing.specs.declared.items.Item.{Item}

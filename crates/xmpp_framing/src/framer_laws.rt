@@ -4,11 +4,12 @@ ghost use Rattle.std.specs.Option.{is_some};
 ghost use Rattle.xmpp_framing.specs.FaultRows.{Counts, Decides, EndsTag, Takes, has_limit, is_in_hand, may_stand, whole};
 ghost use Rattle.xmpp_framing.specs.Machine.{is_too_long, run, step};
 ghost use Rattle.xmpp_framing.specs.MarkupSteps.{ends_in_question};
-ghost use Rattle.xmpp_framing.specs.States.{Turn, from_start, in_run, may_declare, token_place, turn};
+ghost use Rattle.xmpp_framing.specs.States.{State, Turn, from_start, in_run, may_declare, token_place, turn};
 ghost use Rattle.xmpp_framing.specs.TagSteps.{ends_stream, is_header, is_spelled, is_too_deep, misplaced_why, header_why, start_why, tag_anew, tag_here};
 ghost use Rattle.xmpp_framing.specs.TextSteps.{is_forbidden};
 ghost use Rattle.xmpp_framing.specs.declared.faults.Fault.{Fault};
 ghost use Rattle.xmpp_framing.specs.declared.faults.Why.TheVariants as why;
+ghost use Rattle.xmpp_framing.specs.declared.items.Item.{Item};
 ghost use Rattle.xmpp_framing.specs.declared.limits.Limits.{Limits};
 ghost use Rattle.xmpp_framing.specs.declared.states.Mode.TheVariants as mode;
 ghost use Rattle.xmpp_framing.specs.declared.states.Phase.TheVariants as phase;
@@ -25,9 +26,10 @@ ghost use Rattle.xmpp_tokens.specs.declared.declarations.Declaration.TheVariants
 ghost use Rattle.xmpp_tokens.specs.declared.references.Reference.TheVariants as reference;
 
 /// A law: how bytes are cut into pieces doesn't matter. The state and the items behind two pieces, one after the other,
-/// are those behind both in one.
+/// are those behind both in one. Nor do the items matter that were given before: they stay in front.
 pub fn any_pieces()
-    ensures { (t : Turn) (a b : List ℕ) → run t (a ++ b) ≡ run (run t a) b }
+    ensures pieces { (t : Turn) (a b : List ℕ) → run t (a ++ b) ≡ run (run t a) b }
+    ensures behind { (s : State) (items : List Item) (bs : List ℕ) → run (turn s items) bs ≡ turn (run (turn s []) bs).state (items ++ (run (turn s []) bs).items) }
 {}
 
 /// A law: behind a fault nothing changes, neither the state nor the items, whatever bytes come.

@@ -15,4 +15,4 @@ returns-in-Err-Fault-clause-told c =
     let (done, fault) = fault_of c.in-Err-Fault.field-0 c.in-Err-Fault.fault old new c.args.piece.now c.in-Err-Fault.field-0-is c.in-Err-Fault.ensures.fault in
     fault_told c.args.framer.now c.feed.new.self c.new-items.result.items c.feed.new.items.items c.as_slice-in-Err-Fault.result.now
     c.args.piece.now c.args.text.now.items c.tell_fault.new.text.items c.in-Err-Fault.fault c.any_pieces.ensures.pieces
-    c.any_pieces.ensures.fault_stays c.new-items.ensures c.as_slice-in-Err-Fault.ensures done fault c.in_ok-tell_fault-in-Err-Fault.ensures
+    c.a_fault_stays.ensures c.new-items.ensures c.as_slice-in-Err-Fault.ensures done fault c.in_ok-tell_fault-in-Err-Fault.ensures

@@ -1,4 +1,4 @@
-use Rattle.xmpp_framing.proofs.ItemsGrow.{run_grows}
+use Rattle.xmpp_framing.proofs.ItemsBefore.{run_grows}
 use Rattle.xmpp_framing.specs.States.{turn}
 use Rattle.xmpp_framing.proofs.framer.Framer.feed.Goals as goal
 

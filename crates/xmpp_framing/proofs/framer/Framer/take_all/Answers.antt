@@ -1,4 +1,4 @@
-use Rattle.xmpp_framing.proofs.ItemsGrow.{front_trans}
+use Rattle.xmpp_framing.proofs.ItemsBefore.{front_trans}
 use Rattle.xmpp_framing.proofs.Pieces.{at_rest, bound_after, due_after, front_taken, left_after}
 use Rattle.xmpp_framing.specs.States.{turn}
 use Rattle.std.proofs.Common.{drop}

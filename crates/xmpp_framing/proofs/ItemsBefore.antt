@@ -8,7 +8,7 @@ use Rattle.xmpp_names.specs.Starts.{Tag}
 use Rattle.xmpp_names.specs.declared.faults.StartFault.{StartFault}
 use Rattle.xmpp_tokens.specs.Tags.{is_end}
 use Rattle.xmpp_tokens.specs.Utf8.{continues}
-use Rattle.xmpp_framing.specs.Machine.{behind_byte, goes_on, is_too_long, run, step, taken, taken_in}
+use Rattle.xmpp_framing.specs.Machine.{IsFrontOf, behind_byte, goes_on, is_too_long, run, step, taken, taken_in}
 use Rattle.xmpp_framing.specs.MarkupSteps.{in_phase}
 use Rattle.xmpp_framing.specs.States.{OpenElement, State, Turn, counted, fails, gathered, gathered_in, gives, item_ended, may_declare, moved, token_fails, token_place, turn}
 use Rattle.xmpp_framing.specs.TagSteps.{added_to, begun, closed, closed_open, element_from, ends, ends_stream, footer_closes, footer_gathered, headed, header_items, header_tag, heads, in_footer, in_opening, in_tag, is_header, is_spelled, is_too_deep, joined_text, leaf, level, misplaced, shallower, starts, tag_anew, tag_closes, tag_gathered, tag_here, tag_in, tag_inside, tag_outside, unlimited}
@@ -160,3 +160,10 @@ run_keeps front t (b ∷ bs) = ap (λ u. run u bs) (step_keeps front t b) ∙ ru
 
 pub given_before : (s : State) (items : List Item) (bs : List ℕ) → run (turn s items) bs ≡ turn (run (turn s []) bs).state (items ++ (run (turn s []) bs).items)
 given_before s items bs = ap (λ all. run (turn s all) bs) (sym (append-nil items)) ∙ run_keeps items (turn s []) bs
+
+-- a run only adds items
+pub run_grows : (t : Turn) (bs : List ℕ) → IsFrontOf t.items (run t bs).items
+run_grows t bs = ((run (turn t.state []) bs).items, ap (λ u. u.items) (given_before t.state t.items bs))
+
+pub front_trans : (xs ys zs : List Item) → IsFrontOf xs ys → IsFrontOf ys zs → IsFrontOf xs zs
+front_trans xs ys zs a b = (a.0 ++ b.0, b.1 ∙ (ap (λ v. v ++ b.0) a.1 ∙ append_assoc xs a.0 b.0))
