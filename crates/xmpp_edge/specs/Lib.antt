@@ -1,3 +1,6 @@
 pub mod Counts
-pub mod Fronts
+pub mod InMemory
 pub mod Listed
+pub mod Names
+pub mod Prefixes
+pub mod Texts

@@ -1,7 +1,8 @@
+//! Lists whose calls answer want of memory.
 ghost use Rattle.std.specs.Prelude.{◌≡◌, ◌+◌, ◌≤◌, [], ◌∷◌, ◌++◌, IfOk, IsOk, OnOk, OnErr};
 
-use crate::characters::Text;
-use crate::failure::NoMemory;
+use crate::fault::NoMemory;
+use crate::text::Text;
 use std::alloc::Global;
 use std::marker::Model;
 
@@ -91,6 +92,12 @@ pub trait Copied: Sized {
     /// An equal value.
     fn copied(&self, alloc: Global) -> Result<Self, NoMemory>
         ensures { IfOk result (λ copy. copy ≡ self.now) };
+}
+
+impl Copied for u64 {
+    fn copied(&self, _alloc: Global) -> Result<u64, NoMemory> {
+        Ok(*self)
+    }
 }
 
 impl<T: Copied + Drop> ListOf<T> {

@@ -1,14 +1,17 @@
+//! Sinks in memory.
 ghost use Rattle.std.specs.Prelude.{◌≡◌, ◌<◌, ◌≤◌, [], length, None, Some, IfOk, IsErr, Contains};
 ghost use Rattle.std.specs.Io.{WritesAtMost};
 ghost use Rattle.std.specs.Io.KnownBytes.{WriteAppends};
-ghost use Rattle.xmpp_edge.specs.Counts.{HasCause};
+ghost use Rattle.xmpp_edge.specs.Counts.{HasCause, counted};
+ghost use Rattle.xmpp_edge.specs.InMemory.{not_called};
 
-use crate::failure::Failed;
+use crate::bytes::Bytes;
+use crate::failing_calls::FailingCalls;
+use crate::fault::Failed;
 use crate::list::Numbers;
-use crate::octets::Bytes;
-use crate::schedule::Schedule;
-use crate::writing::Sink;
+use crate::sink::Sink;
 use std::alloc::Global;
+use std::marker::Model;
 
 /// A sink that keeps what it takes in memory, and tells it. It takes a bounded number of bytes a call, and
 /// chosen calls fail: what a writer does with short and failing writes can be tried on it.
@@ -16,8 +19,18 @@ use std::alloc::Global;
 pub struct MemorySink {
     kept: Bytes,
     step: usize,
-    schedule: Schedule,
-    ghost moves: { 1 ≤ step },
+    failing: FailingCalls,
+}
+
+impl Model for MemorySink {
+    ghost use Rattle.std.specs.Prelude.{◌≤◌};
+    ghost use Rattle.xmpp_edge.specs.InMemory.{MemorySinkView};
+
+    ghost Value = { MemorySinkView };
+
+    ghost view = { λ s. record { written = s.kept.items; step = s.step; failing = s.failing } };
+
+    ghost invariant = { λ s. 1 ≤ s.step };
 }
 
 impl MemorySink {
@@ -26,48 +39,47 @@ impl MemorySink {
     /// bytes.
     pub fn new(alloc: Global, step: usize, fails: Numbers) -> MemorySink
         requires { 1 ≤ step }
-        ensures written { ⟦<MemorySink as Sink>⟧.written result ≡ Some [] }
-        ensures faults { ⟦<MemorySink as Sink>⟧.faults result ≡ 0 }
-        ensures step { result.step ≡ step }
-        ensures calls { result.schedule.calls ≡ 0 }
-        ensures fails { result.schedule.fails ≡ fails }
+        ensures { result ≡ record { written = []; step = step; failing = not_called fails.items } }
     {
         MemorySink {
             kept: Bytes::new(alloc),
             step,
-            schedule: Schedule::new(fails),
+            failing: FailingCalls::new(fails),
         }
     }
 
     /// The bytes that it took so far, without a copy.
     pub fn written(&self) -> &[u8]
-        ensures { ⟦<MemorySink as Sink>⟧.written self.now ≡ Some result.now }
+        ensures { result.now ≡ self.now.written }
     {
         self.kept.as_slice()
     }
 }
 
 impl Sink for MemorySink {
-    ghost written = { λ s. Some s.kept.items };
+    ghost written = { λ s. Some s.written };
 
-    ghost faults = { λ s. s.schedule.faults };
+    ghost faults = { λ s. s.failing.faults };
 
     fn write(&mut self, bytes: &[u8]) -> Result<usize, Failed>
         ensures bound { WritesAtMost result bytes.now }
-        ensures bytes { WriteAppends (Some self.old.kept.items) (Some self.new.kept.items) result bytes.now }
+        ensures bytes { WriteAppends (Some self.old.written) (Some self.new.written) result bytes.now }
         ensures some { IfOk result (λ n. 0 < length bytes.now → 0 < n) }
-        ensures cause { HasCause self.old.schedule.faults self.new.schedule.faults result }
+        ensures cause { HasCause self.old.failing.faults self.new.failing.faults result }
         ensures most { IfOk result (λ n. n ≤ self.old.step) }
-        ensures chosen { Contains self.old.schedule.fails.items self.new.schedule.calls → IsErr result }
+        ensures calls { self.new.failing.calls ≡ counted self.old.failing.calls }
+        ensures chosen { Contains self.old.failing.fails self.new.failing.calls → IsErr result }
+        ensures fails { self.new.failing.fails ≡ self.old.failing.fails }
+        ensures step { self.new.step ≡ self.old.step }
     {
-        if self.schedule.next_fails() {
+        if self.failing.next_fails() {
             return Err(Failed);
         }
         let n = bytes.len().min(self.step);
         match self.kept.append(&bytes[..n]) {
             Ok(()) => Ok(n),
             Err(_) => {
-                self.schedule.count_fault();
+                self.failing.count_fault();
                 Err(Failed)
             }
         }

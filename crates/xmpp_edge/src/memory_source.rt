@@ -1,14 +1,17 @@
+//! Sources over bytes in memory.
 ghost use Rattle.std.specs.Prelude.{◌≡◌, ◌≤◌, ◌↔◌, Some, IfOk, IsErr, Contains};
 ghost use Rattle.std.specs.Io.{ReadsAtMost};
 ghost use Rattle.std.specs.Io.KnownBytes.{ReadConsumes};
-ghost use Rattle.xmpp_edge.specs.Counts.{HasCause};
+ghost use Rattle.xmpp_edge.specs.Counts.{HasCause, counted};
+ghost use Rattle.xmpp_edge.specs.InMemory.{not_called};
 
-use crate::failure::Failed;
+use crate::bytes::Bytes;
+use crate::failing_calls::FailingCalls;
+use crate::fault::Failed;
 use crate::list::Numbers;
-use crate::octets::Bytes;
-use crate::reading::Source;
-use crate::schedule::Schedule;
+use crate::source::Source;
 use crate::unread::Unread;
+use std::marker::Model;
 
 /// A source over bytes in memory, which tells them. It gives a bounded number of bytes a call, and chosen
 /// calls fail: what a reader does with short and failing reads can be tried on it.
@@ -16,8 +19,18 @@ use crate::unread::Unread;
 pub struct MemorySource {
     unread: Unread,
     step: usize,
-    schedule: Schedule,
-    ghost moves: { 1 ≤ step },
+    failing: FailingCalls,
+}
+
+impl Model for MemorySource {
+    ghost use Rattle.std.specs.Prelude.{◌≤◌};
+    ghost use Rattle.xmpp_edge.specs.InMemory.{MemorySourceView};
+
+    ghost Value = { MemorySourceView };
+
+    ghost view = { λ s. record { left = s.unread; step = s.step; failing = s.failing } };
+
+    ghost invariant = { λ s. 1 ≤ s.step };
 }
 
 impl MemorySource {
@@ -25,33 +38,32 @@ impl MemorySource {
     /// in `fails` answer `Failed` and give nothing.
     pub fn new(bytes: Bytes, step: usize, fails: Numbers) -> MemorySource
         requires { 1 ≤ step }
-        ensures left { ⟦<MemorySource as Source>⟧.left result ≡ Some bytes.items }
-        ensures faults { ⟦<MemorySource as Source>⟧.faults result ≡ 0 }
-        ensures step { result.step ≡ step }
-        ensures calls { result.schedule.calls ≡ 0 }
-        ensures fails { result.schedule.fails ≡ fails }
+        ensures { result ≡ record { left = bytes.items; step = step; failing = not_called fails.items } }
     {
         MemorySource {
             unread: Unread::new(bytes),
             step,
-            schedule: Schedule::new(fails),
+            failing: FailingCalls::new(fails),
         }
     }
 }
 
 impl Source for MemorySource {
-    ghost left = { λ s. Some s.unread };
+    ghost left = { λ s. Some s.left };
 
-    ghost faults = { λ s. s.schedule.faults };
+    ghost faults = { λ s. s.failing.faults };
 
     fn read(&mut self, buf: &mut [u8]) -> Result<usize, Failed>
         ensures bound { ReadsAtMost result buf.new }
-        ensures bytes { ReadConsumes (Some self.old.unread) (Some self.new.unread) result buf.new }
-        ensures cause { HasCause self.old.schedule.faults self.new.schedule.faults result }
+        ensures bytes { ReadConsumes (Some self.old.left) (Some self.new.left) result buf.new }
+        ensures cause { HasCause self.old.failing.faults self.new.failing.faults result }
         ensures most { IfOk result (λ n. n ≤ self.old.step) }
-        ensures chosen { IsErr result ↔ Contains self.old.schedule.fails.items self.new.schedule.calls }
+        ensures calls { self.new.failing.calls ≡ counted self.old.failing.calls }
+        ensures chosen { IsErr result ↔ Contains self.old.failing.fails self.new.failing.calls }
+        ensures fails { self.new.failing.fails ≡ self.old.failing.fails }
+        ensures step { self.new.step ≡ self.old.step }
     {
-        if self.schedule.next_fails() {
+        if self.failing.next_fails() {
             return Err(Failed);
         }
         Ok(self.unread.give(self.step, buf))

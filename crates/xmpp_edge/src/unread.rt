@@ -1,6 +1,7 @@
+//! Bytes in memory, less those that were given.
 ghost use Rattle.std.specs.Prelude.{◌≡◌, ◌<◌, ◌≤◌, [], ◌++◌, length, take};
 
-use crate::octets::Bytes;
+use crate::bytes::Bytes;
 use std::marker::Model;
 
 /// Bytes in memory, less those that were given. Contracts see what is left.

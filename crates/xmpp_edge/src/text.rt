@@ -1,0 +1,123 @@
+//! A text that answers want of memory, and that can be shared.
+ghost use Rattle.std.specs.Prelude.{◌≡◌, [], IfOk};
+
+use crate::fault::NoMemory;
+use crate::list::Copied;
+use std::alloc::Global;
+use std::fmt;
+use std::marker::Model;
+use std::rc::RcStr;
+
+/// How a text holds its characters.
+#[derive(Drop)]
+enum Characters {
+    /// It alone has them.
+    Owned(String),
+    /// Copies of it have them too.
+    Shared(RcStr),
+    /// They are part of the program.
+    Fixed(&'static str),
+}
+
+/// A text. Contracts see it as the list of its bytes, which are UTF-8.
+#[derive(Drop)]
+pub struct Text {
+    characters: Characters,
+}
+
+impl Model for Text {
+    ghost use Rattle.std.specs.Prelude.{List, ℕ};
+    ghost use Rattle.xmpp_edge.specs.Texts.{bytes_of};
+
+    ghost Value = { List ℕ };
+
+    ghost view = { λ t. bytes_of t.characters };
+}
+
+impl Text {
+    /// The empty text. It takes no memory.
+    pub fn new(_alloc: Global) -> Text
+        ensures { result ≡ [] }
+    {
+        Text::fixed("")
+    }
+
+    /// A text that is part of the program. It takes no memory, and neither do its copies.
+    pub fn fixed(characters: &'static str) -> Text
+        ensures { result ≡ characters.now }
+    {
+        Text {
+            characters: Characters::Fixed(characters),
+        }
+    }
+
+    /// A copy of a text.
+    pub fn from_str(alloc: Global, s: &str) -> Result<Text, NoMemory>
+        ensures { IfOk result (λ t. t ≡ s.now) }
+    {
+        Ok(Text {
+            characters: Characters::Owned(String::from_str(alloc, s)?),
+        })
+    }
+
+    /// The same text, so held that its copies share its characters and take no memory for them. The characters
+    /// are not copied. Where memory runs out the text is dropped.
+    pub fn shared(self) -> Result<Text, NoMemory>
+        ensures { IfOk result (λ t. t ≡ self) }
+    {
+        match self.characters {
+            Characters::Owned(characters) => Ok(Text {
+                characters: Characters::Shared(RcStr::from_string(characters)?),
+            }),
+            characters => Ok(Text { characters }),
+        }
+    }
+
+    /// The text, without a copy.
+    pub fn as_str(&self) -> &str
+        ensures { result.now ≡ self.now }
+    {
+        match &self.characters {
+            Characters::Owned(characters) => characters.as_str(),
+            Characters::Shared(characters) => characters.as_str(),
+            Characters::Fixed(characters) => characters,
+        }
+    }
+}
+
+impl From<String> for Text {
+    ghost use Rattle.std.specs.Prelude.{◌≡◌, string_bytes};
+
+    ghost from_gives = { λ s t. t ≡ string_bytes s };
+
+    fn from(characters: String) -> Text {
+        Text {
+            characters: Characters::Owned(characters),
+        }
+    }
+}
+
+impl Copied for Text {
+    fn copied(&self, alloc: Global) -> Result<Text, NoMemory> {
+        match &self.characters {
+            Characters::Owned(characters) => Text::from_str(alloc, characters.as_str()),
+            Characters::Shared(characters) => Ok(Text {
+                characters: Characters::Shared(characters.clone()?),
+            }),
+            Characters::Fixed(characters) => Ok(Text::fixed(characters)),
+        }
+    }
+}
+
+impl fmt::Display for Text {
+    fn fmt<W: fmt::Write>(&self, f: &mut fmt::Formatter<W>) -> fmt::Result {
+        f.write_str(self.as_str())
+    }
+}
+
+impl fmt::Debug for Text {
+    fn fmt<W: fmt::Write>(&self, f: &mut fmt::Formatter<W>) -> fmt::Result {
+        let text = self.as_str();
+        write!(f, "{text:?}")
+    }
+}
