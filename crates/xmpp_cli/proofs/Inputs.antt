@@ -1,7 +1,7 @@
 -- What is said of the bytes that were read, said of the bytes that the source tells.
 use Rattle.std.proofs.Common.{◌≡◌, ℕ, Bool, true, false, ◌≤◌, List, length, Option, Some, None, Result, Ok, Err, IfOk, IfSome, ◌⊎◌, inl, inr, sym, ◌∙◌, subst}
 use Rattle.std.specs.Io.KnownBytes.{IsAtEnd}
-use Rattle.xmpp_edge.specs.declared.whole.TheConstants.{MOST}
+use Rattle.xmpp_edge.specs.declared.whole_reads.TheConstants.{MOST_BYTES_READ}
 use Rattle.xmpp_cli.specs.Table.{IsReplayed, IsRefusal, IsRefused, IsChecked, IsReadWhole, IsDone, Due}
 use Rattle.xmpp_cli.specs.declared.answering.Answer.{Answer}
 use Rattle.xmpp_cli.specs.declared.command.Command.{Command}
@@ -27,9 +27,9 @@ known_as_seen : (seen input : List ℕ) (known : Option (List ℕ)) → seen ≡
 known_as_seen seen input None e same = tt
 known_as_seen seen input (Some all) e same = e ∙ same
 
-short_as_read : (input : List ℕ) (known : Option (List ℕ)) → IfSome known (λ all. input ≡ all) → length input ≤ MOST → IfSome known (λ all. length all ≤ MOST)
+short_as_read : (input : List ℕ) (known : Option (List ℕ)) → IfSome known (λ all. input ≡ all) → length input ≤ MOST_BYTES_READ → IfSome known (λ all. length all ≤ MOST_BYTES_READ)
 short_as_read input None same short = tt
-short_as_read input (Some all) same short = subst (λ bytes. length bytes ≤ MOST) same short
+short_as_read input (Some all) same short = subst (λ bytes. length bytes ≤ MOST_BYTES_READ) same short
 
 done_replay : (known left : Option (List ℕ)) (text : List ℕ) → IsReplayed known text → IsReadWhole known left → IsDone (Some Replay) known left text
 done_replay known left text replayed whole =
@@ -49,7 +49,7 @@ due_of_either command known left rose outcome text (inr e) done refused = subst 
 
 -- the answer to what was read as a schedule is due
 pub due_of_schedule : {E : Type 0} (result : Result Answer E) (seen input : List ℕ) (known left : Option (List ℕ)) (rose : Type 0)
-    → seen ≡ input → IfSome known (λ all. input ≡ all) → length input ≤ MOST → IsAtEnd left
+    → seen ≡ input → IfSome known (λ all. input ≡ all) → length input ≤ MOST_BYTES_READ → IsAtEnd left
     → IfOk result (λ answer. (answer.outcome ≡ Done) ⊎ (answer.outcome ≡ Refused))
     → IfOk result (λ answer. answer.outcome ≡ Done → IsReplayed (Some seen) answer.text.items)
     → IfOk result (λ answer. answer.outcome ≡ Refused → IsRefusal (Some seen) answer.text.items)
@@ -65,7 +65,7 @@ due_of_schedule (Err _) seen input known left rose e same short ended which done
 
 -- the answer to what was read as a stream is due
 pub due_of_stream : {E : Type 0} (result : Result Answer E) (seen input : List ℕ) (known left : Option (List ℕ)) (rose : Type 0)
-    → seen ≡ input → IfSome known (λ all. input ≡ all) → length input ≤ MOST → IsAtEnd left
+    → seen ≡ input → IfSome known (λ all. input ≡ all) → length input ≤ MOST_BYTES_READ → IsAtEnd left
     → IfOk result (λ answer. (answer.outcome ≡ Done) ⊎ (answer.outcome ≡ Refused))
     → IfOk result (λ answer. answer.outcome ≡ Done → IsChecked true (Some seen) answer.text.items)
     → IfOk result (λ answer. answer.outcome ≡ Refused → IsChecked false (Some seen) answer.text.items)

@@ -3,7 +3,7 @@ use Rattle.std.proofs.Common.{◌≡◌, ◌≢◌, Bool, true, false, ap, ℕ, 
 use Rattle.std.proofs.lemmas.Bool.Decides.{eqb_tells}
 use Rattle.std.proofs.Math.Nat.{min-eq_left}
 use Rattle.xmpp_edge.specs.Counts.{Rose, Quiet}
-use Rattle.xmpp_edge.specs.declared.whole.TheConstants.{MOST}
+use Rattle.xmpp_edge.specs.declared.whole_reads.TheConstants.{MOST_BYTES_READ}
 use Rattle.xmpp_replay.specs.Grammar.{InGrammar}
 use Rattle.xmpp_check.specs.Checked.{told}
 use Rattle.xmpp_cli.specs.Table.{code_of, IsDone, IsRefused, IsChecked, Due}
@@ -41,7 +41,7 @@ refused_unsound command input text e refused = checked_as false input text (subs
 
 -- What is due of an input that was read whole without a fault is that it was done or refused.
 refused_code : (command : Option Command) (input : List ℕ) (left : Option (List ℕ)) (rose : Type 0) (outcome : Outcome) (text : List ℕ)
-    → command ≢ None → ¬ rose → length input ≤ MOST → ¬ (IsDone command (Some input) left text)
+    → command ≢ None → ¬ rose → length input ≤ MOST_BYTES_READ → ¬ (IsDone command (Some input) left text)
     → Due command (Some input) left rose outcome text → code_of outcome ≡ 3
 refused_code command input left rose Done text known calm short bad due = absurd (bad due)
 refused_code command input left rose WrongWords text known calm short bad due = absurd (known due.0)
@@ -50,7 +50,7 @@ refused_code command input left rose ReadFault text known calm short bad due = a
 refused_code command input left rose TooLong text known calm short bad due = absurd (omega (arith, short, due.1))
 
 done_code : (command : Option Command) (input : List ℕ) (left : Option (List ℕ)) (rose : Type 0) (outcome : Outcome) (text : List ℕ)
-    → command ≢ None → ¬ rose → length input ≤ MOST → ¬ (IsRefused command (Some input) text)
+    → command ≢ None → ¬ rose → length input ≤ MOST_BYTES_READ → ¬ (IsRefused command (Some input) text)
     → Due command (Some input) left rose outcome text → code_of outcome ≡ 0
 done_code command input left rose Done text known calm short good due = refl
 done_code command input left rose WrongWords text known calm short good due = absurd (known due.0)
@@ -62,8 +62,8 @@ done_code command input left rose TooLong text known calm short good due = absur
 settled : (command : Option Command) (known left : Option (List ℕ)) (rose : Type 0) (Written : List ℕ → Type 0) (result wanted : ℕ) (Is : List ℕ → Type 0)
     → result ≢ 5
     → (result ≢ 5 → result ≢ 6 → (outcome : Outcome) × (text : List ℕ) × (result ≡ code_of outcome) × Due command known left rose outcome text × Written text)
-    → ((input : List ℕ) (outcome : Outcome) (text : List ℕ) → length input ≤ MOST → Is input → Due command (Some input) left rose outcome text → code_of outcome ≡ wanted)
-    → IfSome known (λ input. length input ≤ MOST → Is input → (result ≡ wanted) ⊎ (result ≡ 6))
+    → ((input : List ℕ) (outcome : Outcome) (text : List ℕ) → length input ≤ MOST_BYTES_READ → Is input → Due command (Some input) left rose outcome text → code_of outcome ≡ wanted)
+    → IfSome known (λ input. length input ≤ MOST_BYTES_READ → Is input → (result ≡ wanted) ⊎ (result ≡ 6))
 settled command None left rose Written result wanted Is written answer code = tt
 settled command (Some input) left rose Written result wanted Is written answer code = λ short is.
     elim (eqb_tells result 6) [
@@ -83,7 +83,7 @@ Told command known left rose Written result =
 
 pub refused_only : (command : Option Command) (known left : Option (List ℕ)) (rose : Type 0) (Written : List ℕ → Type 0) (result : ℕ)
     → command ≡ Some Replay → ¬ rose → result ≢ 5 → Told command known left rose Written result
-    → IfSome known (λ input. length input ≤ MOST → ¬ (InGrammar input) → (result ≡ 3) ⊎ (result ≡ 6))
+    → IfSome known (λ input. length input ≤ MOST_BYTES_READ → ¬ (InGrammar input) → (result ≡ 3) ⊎ (result ≡ 6))
 refused_only command known left rose Written result e calm written answer =
     settled command known left rose Written result 3 (λ input. ¬ (InGrammar input)) written answer
     (λ input outcome text short bad due. refused_code command input left rose outcome text (asked_for command Replay e) calm short
@@ -91,7 +91,7 @@ refused_only command known left rose Written result e calm written answer =
 
 pub complete : (command : Option Command) (known left : Option (List ℕ)) (rose : Type 0) (Written : List ℕ → Type 0) (result : ℕ)
     → command ≡ Some Replay → ¬ rose → result ≢ 5 → Told command known left rose Written result
-    → IfSome known (λ input. length input ≤ MOST → InGrammar input → (result ≡ 0) ⊎ (result ≡ 6))
+    → IfSome known (λ input. length input ≤ MOST_BYTES_READ → InGrammar input → (result ≡ 0) ⊎ (result ≡ 6))
 complete command known left rose Written result e calm written answer =
     settled command known left rose Written result 0 InGrammar written answer
     (λ input outcome text short good due. done_code command input left rose outcome text (asked_for command Replay e) calm short
@@ -99,7 +99,7 @@ complete command known left rose Written result e calm written answer =
 
 pub unsound_only : (command : Option Command) (known left : Option (List ℕ)) (rose : Type 0) (Written : List ℕ → Type 0) (result : ℕ)
     → command ≡ Some Check → ¬ rose → result ≢ 5 → Told command known left rose Written result
-    → IfSome known (λ input. length input ≤ MOST → (told input).sound ≡ false → (result ≡ 3) ⊎ (result ≡ 6))
+    → IfSome known (λ input. length input ≤ MOST_BYTES_READ → (told input).sound ≡ false → (result ≡ 3) ⊎ (result ≡ 6))
 unsound_only command known left rose Written result e calm written answer =
     settled command known left rose Written result 3 (λ input. (told input).sound ≡ false) written answer
     (λ input outcome text short bad due. refused_code command input left rose outcome text (asked_for command Check e) calm short
@@ -107,7 +107,7 @@ unsound_only command known left rose Written result e calm written answer =
 
 pub sound_only : (command : Option Command) (known left : Option (List ℕ)) (rose : Type 0) (Written : List ℕ → Type 0) (result : ℕ)
     → command ≡ Some Check → ¬ rose → result ≢ 5 → Told command known left rose Written result
-    → IfSome known (λ input. length input ≤ MOST → (told input).sound ≡ true → (result ≡ 0) ⊎ (result ≡ 6))
+    → IfSome known (λ input. length input ≤ MOST_BYTES_READ → (told input).sound ≡ true → (result ≡ 0) ⊎ (result ≡ 6))
 sound_only command known left rose Written result e calm written answer =
     settled command known left rose Written result 0 (λ input. (told input).sound ≡ true) written answer
     (λ input outcome text short good due. done_code command input left rose outcome text (asked_for command Check e) calm short

@@ -1,6 +1,6 @@
 pub use Rattle.xmpp_check.specs.Checked
 pub use Rattle.xmpp_edge.specs.Counts
-pub use Rattle.xmpp_edge.specs.Fronts
+pub use Rattle.xmpp_edge.specs.Prefixes
 pub use Rattle.xmpp_replay.specs.Direct
 pub use Rattle.xmpp_replay.specs.Grammar
 pub use Rattle.xmpp_replay.specs.Lawful

@@ -2,7 +2,7 @@
 use Rattle.std.specs.Prelude.{◌≡◌, ◌≢◌, ℕ, ◌<◌, ◌≤◌, ◌==◌, Bool, true, false, ◌||◌, List, length, Option, Some, None, Err, IfSome}
 use Rattle.std.specs.Io.KnownBytes.{IsAtEnd}
 use Rattle.xmpp_check.specs.Checked.{told}
-use Rattle.xmpp_edge.specs.declared.whole.TheConstants.{MOST}
+use Rattle.xmpp_edge.specs.declared.whole_reads.TheConstants.{MOST_BYTES_READ}
 use Rattle.xmpp_replay.specs.Direct.{direct_report}
 use Rattle.xmpp_replay.specs.Grammar.{IsSchedule, InGrammar, schedule_text}
 use Rattle.xmpp_replay.specs.Lawful.{IsLawful}
@@ -64,7 +64,7 @@ IsRefused command known text = ⊥
 -- The source was read to its end, and gave no more than the bound.
 pub record IsReadWhole (known left : Option (List ℕ)) : Type 0 where
   pub ended : IsAtEnd left
-  pub short : IfSome known (λ input. length input ≤ MOST)
+  pub short : IfSome known (λ input. length input ≤ MOST_BYTES_READ)
 
 -- What is written where all went well, by the command that the words ask for. `known` is the input where it is
 -- known, and `left` what is left of it.
@@ -82,4 +82,4 @@ Due command known left rose WrongWords text = (command ≡ None) × (text ≡ wo
 Due command known left rose Refused text = IsRefused command known text × IsReadWhole known left
 Due command known left rose ReadFault text = (reads command ≡ true) × rose × (text ≡ read_fault_line)
 Due command known left rose TooLong text =
-    (reads command ≡ true) × IfSome known (λ input. MOST < length input) × (text ≡ too_long_line)
+    (reads command ≡ true) × IfSome known (λ input. MOST_BYTES_READ < length input) × (text ≡ too_long_line)

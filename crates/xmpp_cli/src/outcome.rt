@@ -12,7 +12,7 @@ pub enum Outcome {
     Refused,
     /// A read failed.
     ReadFault,
-    /// The source gave more than `MOST` bytes.
+    /// The source gave more than `MOST_BYTES_READ` bytes.
     TooLong,
 }
 

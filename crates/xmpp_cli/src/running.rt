@@ -1,7 +1,7 @@
 ghost use Rattle.std.specs.Prelude.{◌≡◌, ◌≢◌, true, false, ◌<◌, ◌≤◌, ◌⊎◌, ℕ, List, length, IfSome, IsTrue};
 ghost use Rattle.std.specs.Io.KnownBytes.{Appends, Keeps, IsAtEnd};
 ghost use Rattle.xmpp_edge.specs.Counts.{Rose, Quiet};
-ghost use Rattle.xmpp_edge.specs.Fronts.{AppendsFront};
+ghost use Rattle.xmpp_edge.specs.Prefixes.{AppendsPrefix};
 ghost use Rattle.xmpp_replay.specs.Grammar.{IsSchedule, InGrammar, schedule_text};
 ghost use Rattle.xmpp_replay.specs.Reading.{reading};
 ghost use Rattle.xmpp_replay.specs.ReportText.{text_of};
@@ -19,7 +19,7 @@ use crate::command::Command;
 use crate::outcome::Outcome;
 use crate::texts::{HELP, VERSION};
 use std::alloc::Global;
-use xmpp_edge::{MOST, Sink, Source, write_all};
+use xmpp_edge::{MOST_BYTES_READ, Sink, Source, write_all};
 
 /// Writes what is due, and answers the exit status.
 fn write_due<S: Source, K: Sink>(
@@ -33,7 +33,7 @@ fn write_due<S: Source, K: Sink>(
         × Appends (K.written sink.old) (K.written sink.new) text }
     ensures front { result ≡ 5 → Rose (K.faults sink.old) (K.faults sink.new) × ((outcome : Outcome) × (text : List ℕ)
         × Due (asked words.now) (S.left source.old) (S.left source.new) (Rose (S.faults source.old) (S.faults source.new)) outcome text
-        × AppendsFront (K.written sink.old) (K.written sink.new) text) }
+        × AppendsPrefix (K.written sink.old) (K.written sink.new) text) }
     ensures no_memory { result ≡ 6 → Keeps (K.written sink.old) (K.written sink.new) }
     ensures write_fault_only { K.faults sink.old < K.faults sink.new → result ≡ 5 }
     ensures read_fault_only { S.faults source.old < S.faults source.new → (result ≡ 4) ⊎ (result ≡ 5) ⊎ (result ≡ 6) }
@@ -60,7 +60,7 @@ fn write_due<S: Source, K: Sink>(
 /// | 4 | only where a read failed | `read fault` |
 /// | 5 | exactly where a write failed | a front of what was due |
 /// | 6 | where memory ran out | nothing |
-/// | 11 | exactly where the source gave more than `MOST` bytes | `too long` |
+/// | 11 | exactly where the source gave more than `MOST_BYTES_READ` bytes | `too long` |
 ///
 /// Each "exactly" yields to want of memory, and to what comes before it in the order words, read, length, grammar,
 /// write. Clauses speak of bytes where the source and the sink tell them.
@@ -91,7 +91,7 @@ pub fn run<S: Source, K: Sink>(alloc: Global, words: &[String], source: &mut S, 
         × Appends (K.written sink.old) (K.written sink.new) (bad_line line reason)) }
     ensures refused_only { asked words.now ≡ Some Command.Replay
         → Quiet (S.faults source.old) (S.faults source.new) → Quiet (K.faults sink.old) (K.faults sink.new)
-        → IfSome (S.left source.old) (λ input. length input ≤ MOST → ¬ (InGrammar input) → (result ≡ 3) ⊎ (result ≡ 6)) }
+        → IfSome (S.left source.old) (λ input. length input ≤ MOST_BYTES_READ → ¬ (InGrammar input) → (result ≡ 3) ⊎ (result ≡ 6)) }
     // What was written is what is told of the stream that was read, and something is wrong with it.
     ensures refused_check { result ≡ 3 → asked words.now ≡ Some Command.Check → (stream : List ℕ)
         × IfSome (S.left source.old) (λ input. input ≡ stream)
@@ -100,32 +100,32 @@ pub fn run<S: Source, K: Sink>(alloc: Global, words: &[String], source: &mut S, 
         × Appends (K.written sink.old) (K.written sink.new) (told stream).text }
     ensures refused_check_only { asked words.now ≡ Some Command.Check
         → Quiet (S.faults source.old) (S.faults source.new) → Quiet (K.faults sink.old) (K.faults sink.new)
-        → IfSome (S.left source.old) (λ input. length input ≤ MOST → (told input).sound ≡ false → (result ≡ 3) ⊎ (result ≡ 6)) }
+        → IfSome (S.left source.old) (λ input. length input ≤ MOST_BYTES_READ → (told input).sound ≡ false → (result ≡ 3) ⊎ (result ≡ 6)) }
     ensures read_fault { result ≡ 4 → (reads (asked words.now) ≡ true)
         × Rose (S.faults source.old) (S.faults source.new)
         × Appends (K.written sink.old) (K.written sink.new) read_fault_line }
     ensures read_fault_only { S.faults source.old < S.faults source.new → (result ≡ 4) ⊎ (result ≡ 5) ⊎ (result ≡ 6) }
     ensures too_long { result ≡ 11 → (reads (asked words.now) ≡ true)
-        × IfSome (S.left source.old) (λ input. MOST < length input)
+        × IfSome (S.left source.old) (λ input. MOST_BYTES_READ < length input)
         × Appends (K.written sink.old) (K.written sink.new) too_long_line }
     ensures too_long_only { reads (asked words.now) ≡ true
         → Quiet (S.faults source.old) (S.faults source.new) → Quiet (K.faults sink.old) (K.faults sink.new)
-        → IfSome (S.left source.old) (λ input. MOST < length input → (result ≡ 11) ⊎ (result ≡ 6)) }
+        → IfSome (S.left source.old) (λ input. MOST_BYTES_READ < length input → (result ≡ 11) ⊎ (result ≡ 6)) }
 
     // What went out is a front of the text that was due.
     ensures write_fault { result ≡ 5 → Rose (K.faults sink.old) (K.faults sink.new) × ((outcome : Outcome) × (text : List ℕ)
         × Due (asked words.now) (S.left source.old) (S.left source.new) (Rose (S.faults source.old) (S.faults source.new)) outcome text
-        × AppendsFront (K.written sink.old) (K.written sink.new) text) }
+        × AppendsPrefix (K.written sink.old) (K.written sink.new) text) }
     ensures write_fault_only { K.faults sink.old < K.faults sink.new → result ≡ 5 }
     ensures no_memory { result ≡ 6 → Keeps (K.written sink.old) (K.written sink.new) }
 
     // Where nothing failed, words of the table are answered, and a schedule has its report.
     ensures complete { asked words.now ≡ Some Command.Replay
         → Quiet (S.faults source.old) (S.faults source.new) → Quiet (K.faults sink.old) (K.faults sink.new)
-        → IfSome (S.left source.old) (λ input. length input ≤ MOST → InGrammar input → (result ≡ 0) ⊎ (result ≡ 6)) }
+        → IfSome (S.left source.old) (λ input. length input ≤ MOST_BYTES_READ → InGrammar input → (result ≡ 0) ⊎ (result ≡ 6)) }
     ensures complete_check { asked words.now ≡ Some Command.Check
         → Quiet (S.faults source.old) (S.faults source.new) → Quiet (K.faults sink.old) (K.faults sink.new)
-        → IfSome (S.left source.old) (λ input. length input ≤ MOST → (told input).sound ≡ true → (result ≡ 0) ⊎ (result ≡ 6)) }
+        → IfSome (S.left source.old) (λ input. length input ≤ MOST_BYTES_READ → (told input).sound ≡ true → (result ≡ 0) ⊎ (result ≡ 6)) }
     ensures complete_help { asked words.now ≡ Some Command.Help → Quiet (K.faults sink.old) (K.faults sink.new) → (result ≡ 0) ⊎ (result ≡ 6) }
     ensures complete_version { asked words.now ≡ Some Command.Version → Quiet (K.faults sink.old) (K.faults sink.new) → (result ≡ 0) ⊎ (result ≡ 6) }
     ensures known { IsTrue (is_status result) }

@@ -11,7 +11,7 @@ pub const WORDS_LINE: &str = "words\n";
 /// What is written where a read failed.
 pub const READ_FAULT_LINE: &str = "read fault\n";
 
-/// What is written where the source gave more than `MOST` bytes.
+/// What is written where the source gave more than `MOST_BYTES_READ` bytes.
 pub const TOO_LONG_LINE: &str = "too long\n";
 
 /// The program's name and version.

@@ -10,7 +10,8 @@ use Rattle.std.proofs.lemmas.List.Concat.{flat_map-cons}
 use Rattle.std.proofs.lemmas.Slice.Eq.{bytes_eq-Decides}
 use Rattle.std.proofs.lemmas.Str.{IsUtf8-append, IsUtf8-from_ascii, IsUtf8-from_is_utf8, is_utf8-from_IsUtf8, encodes-chars}
 use Rattle.std.proofs.lemmas.Str.Pattern.{NoCharPasses-char}
-use Rattle.xmpp_replay.specs.Grammar.{is_lower, is_digit, is_name, is_text, is_text_character, is_among, Declared, nothing_declared, declared_by, may_stand, AreLines, IsSchedule, step_text, schedule_text}
+use Rattle.xmpp_replay.specs.Grammar.{is_lower, is_digit, is_name, is_text, is_text_character, Declared, nothing_declared, declared_by, may_stand, AreLines, IsSchedule, step_text, schedule_text}
+use Rattle.xmpp_edge.specs.Names.{is_among}
 use Rattle.xmpp_replay.specs.Reading.{pieces_of, cut_of, not_empty, next_field, last_field, rest_field, is_number, read_account, read_device, read_say, read_catchup, read_words, read_line, read_lines, read_header, read_below, reading}
 use Rattle.xmpp_replay.specs.Schedules.{ScheduleView}
 use Rattle.xmpp_replay.specs.declared.schedule.Line.{Line}

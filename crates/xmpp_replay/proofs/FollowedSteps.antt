@@ -15,10 +15,11 @@ use Rattle.xmpp_replay.proofs.Deliveries.{among_placed, delivered_takes, named_a
 use Rattle.xmpp_replay.proofs.PageEnds.{bytes_eq_apart, bytes_eq_itself}
 use Rattle.xmpp_replay.proofs.Prefixes.{among_push, archive_few, archive_numbered, archive_push, along_push, devices_push, home_push, pages_push, sent_few, sent_push, takes_few, takes_push}
 use Rattle.xmpp_replay.specs.Direct.{Take, accounts_of, along, archive_of, as_logged, bare_address, catch_up, concerns, device_name, devices_of, entry_of, home_of, is_said_by, kept_after, pages_after, pages_of, said_at, sent_by, take_at, take_line, takes_of}
-use Rattle.xmpp_replay.specs.Grammar.{is_among, is_name, is_text, may_stand}
+use Rattle.xmpp_replay.specs.Grammar.{is_name, is_text, may_stand}
+use Rattle.xmpp_edge.specs.Names.{is_among}
 use Rattle.xmpp_replay.specs.Homes.{Home, delivered, empty_home, home_at, names_of}
 use Rattle.xmpp_replay.specs.Messages.{homes_after, said_by, take_by, takes_after}
-use Rattle.xmpp_replay.specs.Names.{place_of}
+use Rattle.xmpp_edge.specs.Names.{place_of}
 use Rattle.xmpp_replay.specs.Runs.{HasCaughtUp, HasDeclared, HasFollowed, HasSent, IsAfter, IsDevice, IsReady, IsReadyDevice, IsUnused, MayFollow}
 use Rattle.xmpp_replay.specs.Standing.{AreOnce, declared_in}
 use Rattle.xmpp_replay.specs.Turns.{IsFrontOf, IsLogOf, caught_up}

@@ -7,7 +7,8 @@ use Rattle.std.specs.Str.{bytes_eq, is_utf8}
 use Rattle.std.proofs.lemmas.Bool.{cases_Bool, and_parts, and_from, eqb-true, leb-true, le-leb}
 use Rattle.std.proofs.lemmas.List.Concat.{flat_map-cons}
 use Rattle.std.proofs.lemmas.Slice.Eq.{bytes_eq-Decides}
-use Rattle.xmpp_replay.specs.Grammar.{is_name, is_text, is_among, Declared, nothing_declared, declared_by, may_stand, AreLines, IsSchedule, step_text, direct_header, wire_header, schedule_text}
+use Rattle.xmpp_replay.specs.Grammar.{is_name, is_text, Declared, nothing_declared, declared_by, may_stand, AreLines, IsSchedule, step_text, direct_header, wire_header, schedule_text}
+use Rattle.xmpp_edge.specs.Names.{is_among}
 use Rattle.xmpp_replay.specs.Reading.{Piece, Cut, ◌>>=◌, wants, joined, pieces_of, cut_of, not_empty, next_field, last_field, rest_field, number_within, read_account, read_device, read_say, read_catchup, read_words, read_line, with_front, either, read_lines, read_header, as_schedule, read_below, reading}
 use Rattle.xmpp_replay.specs.Schedules.{ScheduleView}
 use Rattle.xmpp_replay.specs.declared.schedule.Line.{Line}

@@ -15,7 +15,7 @@ use Rattle.xmpp_pages.specs.Kept.{kept_by}
 use Rattle.xmpp_replay.proofs.ArchivePages.{page_found}
 use Rattle.xmpp_replay.proofs.LawLists.{all_weaker, along-append}
 use Rattle.xmpp_replay.specs.Direct.{Take, accounts_of, along, archive_of, as_logged, concerns, entry_of, home_of, numbered_from, page_answered, sent_by, take_at, takes_of}
-use Rattle.xmpp_replay.specs.Grammar.{is_among}
+use Rattle.xmpp_edge.specs.Names.{is_among}
 use Rattle.xmpp_replay.specs.Lawful.{EachPair}
 use Rattle.xmpp_replay.specs.Turns.{page_behind}
 use Rattle.xmpp_replay.specs.declared.schedule.Step.{Step}

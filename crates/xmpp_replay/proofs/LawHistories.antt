@@ -14,7 +14,7 @@ use Rattle.xmpp_replay.proofs.LawArchives.{archive_after, archive_few, archive_g
 use Rattle.xmpp_replay.proofs.LawPages.{AreTilesBehind, CaughtUp, catch_up_is, log_of-append, tiles_append}
 use Rattle.xmpp_replay.proofs.StandingSteps.{AreStanding, Stands, home_kept, standing_front, standing_rest}
 use Rattle.xmpp_replay.specs.Direct.{as_logged, bare_address, catch_up, devices_of, home_of, kept_after, pages_after, pages_from, pages_of, takes_of}
-use Rattle.xmpp_replay.specs.Grammar.{is_among}
+use Rattle.xmpp_edge.specs.Names.{is_among}
 use Rattle.xmpp_replay.specs.Lawful.{is_catchup_of}
 use Rattle.xmpp_replay.specs.declared.schedule.Step.{Step}
 use Rattle.xmpp_replay.specs.declared.schedule.Step.TheVariants.{Catchup}

@@ -12,7 +12,7 @@ use Rattle.xmpp_archive.specs.Entries.{EntryView}
 use Rattle.xmpp_replay.proofs.LawLists.{all_append, all_filter, all_if, all_map, all_weaker, along-append, map-map, map_nothing, same_bytes}
 use Rattle.xmpp_replay.proofs.StandingSteps.{AreStanding, Stands, all_along, device_found, device_kept, home_kept}
 use Rattle.xmpp_replay.specs.Direct.{Take, accounts_of, along, archive_of, concerns, device_line, devices_of, entry_of, home_of, is_said_by, numbered_from, said_at, sent_by, take_at, take_line, takes_of}
-use Rattle.xmpp_replay.specs.Grammar.{is_among}
+use Rattle.xmpp_edge.specs.Names.{is_among}
 use Rattle.xmpp_replay.specs.Lawful.{AreNumberedBehind, AreOutcomes, AreSubmissions, EachPair, IsOfSubmission, IsOutcome, Precedes, device_named, is_taken, submission, take_named}
 use Rattle.xmpp_replay.specs.Schedules.{steps_of}
 use Rattle.xmpp_replay.specs.declared.report.RefusedLine.{RefusedLine}

@@ -15,7 +15,8 @@ use Rattle.xmpp_replay.proofs.LawTakes.{acknowledged, are_outcomes, are_submissi
 use Rattle.xmpp_replay.proofs.LawWorlds.{complete_lines, ends_with, is_fresh}
 use Rattle.xmpp_replay.proofs.StandingSteps.{AreStanding, account_found, few_lines, homes_are, homes_exist, steps_stand}
 use Rattle.xmpp_replay.specs.Direct.{account_line, accounts_of, along, archive_of, as_logged, device_line, devices_of, direct_report, entry_line, home_of, logged_line, page_line, pages_of, said_at, take_line, takes_of}
-use Rattle.xmpp_replay.specs.Grammar.{IsSchedule, is_among, nothing_declared}
+use Rattle.xmpp_replay.specs.Grammar.{IsSchedule, nothing_declared}
+use Rattle.xmpp_edge.specs.Names.{is_among}
 use Rattle.xmpp_replay.specs.Lawful.{AgreeOnStamp, ArePages, AreOutcomes, AreSubmissions, EachPair, Home, IsAcknowledgedFirst, IsAcknowledgedRight, IsLawful, IsLogged, IsOfSchedule, IsOnceInOrder, IsPaged, IsPrefixOfAccount, IsSettledRight, IsTakenFirst, IsTakenRight, IsUndisturbed, Precedes, account_named, at_any_time, is_account, is_catchup_of, is_taken, logged_as}
 use Rattle.xmpp_replay.specs.Reports.{AccountView, DeviceView}
 use Rattle.xmpp_replay.specs.Schedules.{ScheduleView, steps_of}

@@ -12,7 +12,8 @@ use Rattle.std.specs.Str.{bytes_eq}
 use Rattle.xmpp_archive.specs.Entries.{AreNumbered, EntryView, numbered}
 use Rattle.xmpp_log.specs.LogPages.{LogPage}
 use Rattle.xmpp_replay.specs.Direct.{Take, account_name, accounts_of, along, archive_of, concerns, device_name, devices_of, entry_of, home_of, is_said_by, numbered_from, pages_after, pages_from, pages_of, sent_by, take_at, takes_of}
-use Rattle.xmpp_replay.specs.Grammar.{Declared, AreLines, declared_by, is_among, may_stand, nothing_declared}
+use Rattle.xmpp_replay.specs.Grammar.{Declared, AreLines, declared_by, may_stand, nothing_declared}
+use Rattle.xmpp_edge.specs.Names.{is_among}
 use Rattle.xmpp_replay.specs.Schedules.{steps_of}
 use Rattle.xmpp_replay.specs.Standing.{AreRight}
 use Rattle.xmpp_replay.specs.declared.schedule.Line.{Line}

@@ -10,7 +10,8 @@ use Rattle.std.specs.List.{AllByRecursion}
 use Rattle.std.specs.Str.{bytes_eq}
 use Rattle.xmpp_replay.proofs.LawLists.{all_append, same_bytes}
 use Rattle.xmpp_replay.specs.Direct.{account_line, account_name, accounts_of, along, device_line, device_name, devices_of, home_of}
-use Rattle.xmpp_replay.specs.Grammar.{AreLines, Declared, declared_by, is_among, may_stand}
+use Rattle.xmpp_replay.specs.Grammar.{AreLines, Declared, declared_by, may_stand}
+use Rattle.xmpp_edge.specs.Names.{is_among}
 use Rattle.xmpp_replay.specs.Lawful.{Home, account_named, device_named, homes_of}
 use Rattle.xmpp_replay.specs.Schedules.{steps_of}
 use Rattle.xmpp_replay.specs.declared.schedule.Line.{Line}

@@ -13,7 +13,8 @@ use Rattle.xmpp_replay.proofs.Deliveries.{once_push}
 use Rattle.xmpp_replay.proofs.Prefixes.{accounts_push, right_steps}
 use Rattle.xmpp_replay.proofs.FollowedSteps.{after_followed, may_follow, ready_after}
 use Rattle.xmpp_replay.specs.Direct.{account_line, account_name, accounts_of, device_line, direct_report, page_line, pages_of, takes_of}
-use Rattle.xmpp_replay.specs.Grammar.{IsSchedule, is_among, is_name}
+use Rattle.xmpp_replay.specs.Grammar.{IsSchedule, is_name}
+use Rattle.xmpp_edge.specs.Names.{is_among}
 use Rattle.xmpp_replay.specs.Homes.{Home, empty_home, home_at, names_of}
 use Rattle.xmpp_replay.specs.ReportLines.{home_line, report_of, state_line, tile_line}
 use Rattle.xmpp_replay.specs.Reports.{DeviceView}

@@ -16,7 +16,7 @@ use Rattle.xmpp_pages.specs.PageOf.{page_of}
 use Rattle.xmpp_pages.specs.declared.query.PageQuery.{PageQuery}
 use Rattle.xmpp_pages.specs.declared.query.Place.{Place}
 use Rattle.xmpp_pages.specs.declared.query.Place.TheVariants.{First, After}
-use Rattle.xmpp_replay.specs.Grammar.{is_among}
+use Rattle.xmpp_edge.specs.Names.{is_among}
 use Rattle.xmpp_replay.specs.Reports.{AccountView, DeviceView, ReportView}
 use Rattle.xmpp_replay.specs.declared.report.EntryLine.{EntryLine}
 use Rattle.xmpp_replay.specs.declared.report.LoggedLine.{LoggedLine}

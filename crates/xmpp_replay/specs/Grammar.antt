@@ -7,6 +7,7 @@ use Rattle.xmpp_replay.specs.Schedules.{ScheduleView}
 use Rattle.xmpp_replay.specs.declared.schedule.Line.{Line}
 use Rattle.xmpp_replay.specs.declared.schedule.Step.{Step}
 use Rattle.xmpp_replay.specs.declared.schedule.Step.TheVariants.{Account, Device, Say, Catchup}
+use Rattle.xmpp_edge.specs.Names.{is_among}
 
 abbrev pub is_lower : ℕ → Bool
 is_lower c = nat_le 97 c && nat_le c 122
@@ -29,8 +30,6 @@ abbrev pub is_text : List ℕ → Bool
 is_text text =
     nat_le 1 (length text) && nat_le (length text) 1000 && is_utf8 text && list_all is_text_character (chars text)
 
-abbrev pub is_among : List ℕ → List (List ℕ) → Bool
-is_among name names = list_any (λ other. bytes_eq name other) names
 
 -- the accounts and the devices that stand above a line
 pub record Declared : Type 0 where

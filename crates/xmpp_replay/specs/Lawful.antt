@@ -6,7 +6,7 @@ use Rattle.std.specs.List.{flat_map, list_any, AllByRecursion}
 use Rattle.std.specs.List.Sorted.{IsNonDecreasing}
 use Rattle.std.specs.Str.{bytes_eq}
 use Rattle.xmpp_replay.specs.Direct.{Take, archive_of, entry_line, accounts_of}
-use Rattle.xmpp_replay.specs.Grammar.{is_among}
+use Rattle.xmpp_edge.specs.Names.{is_among}
 use Rattle.xmpp_replay.specs.History.{World, history}
 use Rattle.xmpp_replay.specs.Reports.{AccountView, DeviceView, ReportView}
 use Rattle.xmpp_replay.specs.Schedules.{ScheduleView, steps_of}

@@ -1,4 +1,5 @@
 pub use Rattle.xmpp_edge.specs.Listed
+pub use Rattle.xmpp_edge.specs.Names
 pub use Rattle.xmpp_archive.specs.Entries
 pub use Rattle.xmpp_archive.specs.Ids
 pub use Rattle.xmpp_log.specs.LogPages
@@ -10,7 +11,6 @@ pub mod History
 pub mod Homes
 pub mod Lawful
 pub mod Messages
-pub mod Names
 pub mod Reading
 pub mod ReportLines
 pub mod ReportText

@@ -3,7 +3,7 @@ use Rattle.std.specs.Prelude.{◌≡◌, ℕ, ◌+◌, List, [], ◌∷◌, ◌+
 use Rattle.std.specs.Option.{option_map_or}
 use Rattle.xmpp_replay.specs.Direct.{Take, entry_of, take_line}
 use Rattle.xmpp_replay.specs.Homes.{Home, delivered, names_of}
-use Rattle.xmpp_replay.specs.Names.{place_of}
+use Rattle.xmpp_edge.specs.Names.{place_of}
 use Rattle.xmpp_replay.specs.declared.report.SaidLine.{SaidLine}
 use Rattle.xmpp_replay.specs.declared.report.SaidMark.TheVariants.{Acknowledged}
 use Rattle.xmpp_replay.specs.declared.report.TakeLine.{TakeLine}

@@ -2,7 +2,8 @@
 use Rattle.std.specs.Prelude.{ℕ, ◌+◌, ◌*◌, ◌-◌, ◌==◌, nat_lt, nat_le, Bool, true, false, ◌&&◌, not, List, [], ◌∷◌, Option, Some, None, Result, Ok, Err, length, fold, codes, if◌then◌else◌}
 use Rattle.std.specs.List.{list_all}
 use Rattle.std.specs.Str.{bytes_eq, is_utf8}
-use Rattle.xmpp_replay.specs.Grammar.{is_digit, is_name, is_text, is_among, Declared, nothing_declared, declared_by, direct_header, wire_header}
+use Rattle.xmpp_replay.specs.Grammar.{is_digit, is_name, is_text, Declared, nothing_declared, declared_by, direct_header, wire_header}
+use Rattle.xmpp_edge.specs.Names.{is_among}
 use Rattle.xmpp_replay.specs.Schedules.{ScheduleView}
 use Rattle.xmpp_replay.specs.declared.schedule.Line.{Line}
 use Rattle.xmpp_replay.specs.declared.schedule.LineWhy.{LineWhy}

@@ -2,10 +2,10 @@
 use Rattle.std.specs.Prelude.{◌≡◌, ℕ, ◌<◌, ◌≤◌, true, false, List, [], ◌∷◌, ◌++◌, Some, None, length, map, slice_set, slice_index_or, slice_get}
 use Rattle.std.specs.List.{All}
 use Rattle.xmpp_replay.specs.Direct.{accounts_of, along, archive_of, devices_of, home_of, pages_of, said_at, sent_by, take_line, takes_of}
-use Rattle.xmpp_replay.specs.Grammar.{is_among}
+use Rattle.xmpp_edge.specs.Names.{is_among}
 use Rattle.xmpp_replay.specs.Homes.{Home, home_at, names_of}
 use Rattle.xmpp_replay.specs.Messages.{HasSaid, homes_after, takes_after}
-use Rattle.xmpp_replay.specs.Names.{place_of}
+use Rattle.xmpp_edge.specs.Names.{place_of}
 use Rattle.xmpp_replay.specs.Standing.{AreOnce}
 use Rattle.xmpp_replay.specs.Turns.{IsFrontOf, IsLogOf, caught_up}
 use Rattle.xmpp_replay.specs.declared.run.Run.{Run}

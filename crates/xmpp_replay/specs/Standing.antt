@@ -2,7 +2,7 @@
 use Rattle.std.specs.Prelude.{◌≡◌, ℕ, ◌≤◌, List, Some, IsTrue, length, take, slice_get}
 use Rattle.xmpp_replay.specs.Direct.{accounts_of, devices_of}
 use Rattle.xmpp_replay.specs.Grammar.{Declared, may_stand}
-use Rattle.xmpp_replay.specs.Names.{place_of}
+use Rattle.xmpp_edge.specs.Names.{place_of}
 use Rattle.xmpp_replay.specs.declared.schedule.Step.{Step}
 
 abbrev pub declared_in : List Step → Declared

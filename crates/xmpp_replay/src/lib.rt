@@ -6,7 +6,6 @@ mod laws;
 mod line_fault;
 mod line_texts;
 mod lines;
-mod name_index;
 mod printed;
 mod reading;
 mod report;
@@ -16,7 +15,6 @@ mod schedule;
 mod steps;
 
 pub use laws::direct_is_lawful;
-pub use name_index::NameIndex;
 pub use reading::{read_schedule, reading_is_the_grammar};
 pub use report::{
     AccountLine, AccountLines, ConnEnd, ConnLine, ConnLines, DeviceLine, DeviceLines, EntryLine,

@@ -2,7 +2,8 @@
 //! is answered at once.
 ghost use Rattle.std.specs.Prelude.{◌≡◌, ◌≤◌, false, true, [], IfOk, OnOk};
 ghost use Rattle.xmpp_replay.specs.Direct.{direct_report};
-ghost use Rattle.xmpp_replay.specs.Grammar.{IsSchedule, is_among};
+ghost use Rattle.xmpp_replay.specs.Grammar.{IsSchedule};
+ghost use Rattle.xmpp_edge.specs.Names.{is_among};
 ghost use Rattle.xmpp_replay.specs.Homes.{names_of};
 ghost use Rattle.xmpp_replay.specs.ReportLines.{report_of};
 ghost use Rattle.xmpp_replay.specs.Runs.{HasCaughtUp, HasDeclared, HasFollowed, HasSent, IsAfter, IsReady, MayFollow};
@@ -15,7 +16,7 @@ mod messages;
 mod pages;
 mod summary;
 
-use crate::name_index::NameIndex;
+use xmpp_edge::NameIndex;
 use crate::report::{Report, TakeLines};
 use crate::run::accounts::Accounts;
 use crate::run::devices::Device;

@@ -7,7 +7,7 @@ ghost use Rattle.xmpp_replay.specs.declared.schedule.LineWhy.TheVariants.{Ending
 
 use crate::fields::{cut_word, is_name, is_text, last_field, next_field, page_limit, rest_field};
 use crate::line_fault::{LineFault, wants};
-use crate::name_index::NameIndex;
+use xmpp_edge::NameIndex;
 use crate::schedule::{LineWhy, Step};
 use std::alloc::Global;
 use std::marker::Model;

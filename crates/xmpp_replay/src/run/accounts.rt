@@ -2,13 +2,13 @@
 ghost use Rattle.std.specs.Prelude.{◌≡◌, ◌≢◌, ℕ, ◌+◌, ◌<◌, ◌≤◌, false, List, [], ◌∷◌, ◌++◌, length, map, slice_get, slice_index, slice_index_or, OnOk, OnErr, IfOk, IfSome, IfNone};
 ghost use Rattle.std.specs.List.{All};
 ghost use Rattle.xmpp_replay.specs.Direct.{account_name, accounts_of, bare_address};
-ghost use Rattle.xmpp_replay.specs.Grammar.{is_among};
+ghost use Rattle.xmpp_edge.specs.Names.{is_among};
 ghost use Rattle.xmpp_replay.specs.Homes.{Home, IsWhole, home_of_account, names_of, empty_home, appended_at, delivered};
-ghost use Rattle.xmpp_replay.specs.Names.{place_of};
+ghost use Rattle.xmpp_edge.specs.Names.{place_of};
 ghost use Rattle.xmpp_replay.specs.Schedules.{steps_of};
 ghost use Rattle.xmpp_replay.specs.Standing.{AreRight};
 
-use crate::name_index::NameIndex;
+use xmpp_edge::NameIndex;
 use crate::schedule::{Line, Step};
 use std::alloc::Global;
 use std::marker::Model;
