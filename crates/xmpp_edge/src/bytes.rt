@@ -1,5 +1,5 @@
 //! Bytes whose calls answer want of memory.
-ghost use Rattle.std.specs.Prelude.{◌≡◌, ◌+◌, ◌≤◌, [], ◌++◌, length, IfOk, OnOk, OnErr};
+ghost use Rattle.std.specs.Prelude.{◌≡◌, ◌+◌, ◌≤◌, [], ◌++◌, length, IfOk, IsOk, OnOk, OnErr};
 
 use crate::fault::NoMemory;
 use std::alloc::Global;
@@ -51,6 +51,7 @@ impl Bytes {
     pub fn append(&mut self, bytes: &[u8]) -> Result<(), NoMemory>
         ensures ok { OnOk result (self.new.items ≡ self.old.items ++ bytes.now) }
         ensures err { OnErr result (self.new.items ≡ self.old.items) }
+        ensures room { length bytes.now ≤ self.old.spare → IsOk result }
     {
         self.bytes.extend_from_slice(bytes)?;
         Ok(())
