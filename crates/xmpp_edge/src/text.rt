@@ -15,8 +15,6 @@ enum Characters {
     Owned(String),
     /// Copies of it have them too.
     Shared(RcStr),
-    /// They are part of the program.
-    Fixed(&'static str),
 }
 
 /// A text. Contracts see it as the list of its bytes, which are UTF-8.
@@ -36,18 +34,11 @@ impl Model for Text {
 
 impl Text {
     /// The empty text. It takes no memory.
-    pub fn new(_alloc: Global) -> Text
+    pub fn new(alloc: Global) -> Text
         ensures { result ≡ [] }
     {
-        Text::fixed("")
-    }
-
-    /// A text that is part of the program. It takes no memory, and neither do its copies.
-    pub fn fixed(characters: &'static str) -> Text
-        ensures { result ≡ characters.now }
-    {
         Text {
-            characters: Characters::Fixed(characters),
+            characters: Characters::Owned(String::new(alloc)),
         }
     }
 
@@ -69,7 +60,9 @@ impl Text {
             Characters::Owned(characters) => Ok(Text {
                 characters: Characters::Shared(RcStr::from_string(characters)?),
             }),
-            characters => Ok(Text { characters }),
+            Characters::Shared(characters) => Ok(Text {
+                characters: Characters::Shared(characters),
+            }),
         }
     }
 
@@ -80,7 +73,6 @@ impl Text {
         match &self.characters {
             Characters::Owned(characters) => characters.as_str(),
             Characters::Shared(characters) => characters.as_str(),
-            Characters::Fixed(characters) => characters,
         }
     }
 }
@@ -104,7 +96,6 @@ impl Copied for Text {
             Characters::Shared(characters) => Ok(Text {
                 characters: Characters::Shared(characters.clone()?),
             }),
-            Characters::Fixed(characters) => Ok(Text::fixed(characters)),
         }
     }
 }
