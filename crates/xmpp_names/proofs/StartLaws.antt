@@ -13,9 +13,10 @@ use Rattle.xmpp_tokens.specs.Tags as tokens
 use Rattle.xmpp_tokens.specs.declared.faults.TagFault.{TagFault}
 use Rattle.xmpp_tokens.specs.declared.faults.TagFault.TheVariants as spelling
 use Rattle.xmpp_names.proofs.NameLaws.{parts_of, is_name_of, may_from_test, test_from_may, element_from, element_to, attributes_from, attributes_to}
-use Rattle.xmpp_names.proofs.Reordered.{distinct_tested, distinct_passes}
+use Rattle.xmpp_basis.proofs.DistinctItems.{AllPairs-from_test, test-from_AllPairs}
+use Rattle.xmpp_names.proofs.SameNames.{is_same-Decides}
 use Rattle.xmpp_names.specs.Declarations.{MayDeclare, may_declare, bindings_of, others_of}
-use Rattle.xmpp_names.specs.Expansion.{are_distinct, element_ns, expanded_attributes, name_of}
+use Rattle.xmpp_names.specs.Expansion.{are_distinct, is_same, element_ns, expanded_attributes, name_of}
 use Rattle.xmpp_names.specs.Grammar.{IsStart, IsShort, IsWithin}
 use Rattle.xmpp_names.specs.Names.{prefix_of}
 use Rattle.xmpp_names.specs.Scopes.{Scope}
@@ -93,7 +94,7 @@ start_from_parts scope bytes name xs empty t read e =
       name_is = is_name_of name;
       element = element_from (own ++ scope) (prefix_of name) p.ns p.ns_is;
       others = attributes_from (own ++ scope) (others_of xs) p.es p.es_are;
-      distinct = distinct_tested (map name_of p.es) p.differ;
+      distinct = AllPairs-from_test is_same is_same-Decides (map name_of p.es) p.differ;
     } in
     subst (λ u. IsStart scope bytes xs u) p.tag_is made
 
@@ -106,7 +107,7 @@ parts_from_start scope bytes xs t h =
     let o = element_ns (own ++ scope) (prefix_of name) in
     let a = option_and_then if_distinct (expanded_attributes (own ++ scope) (others_of xs)) in
     let o_is : o ≡ Some t.ns = ap (element_ns (own ++ scope)) parts.0 ∙ element_to (own ++ scope) h.prefix t.ns h.element in
-    let a_is : a ≡ Some t.attributes = ap (option_and_then if_distinct) (attributes_to (own ++ scope) (others_of xs) t.attributes h.others) ∙ cond-true (are_distinct (map name_of t.attributes)) (Some t.attributes) None (distinct_passes (map name_of t.attributes) h.distinct) in
+    let a_is : a ≡ Some t.attributes = ap (option_and_then if_distinct) (attributes_to (own ++ scope) (others_of xs) t.attributes h.others) ∙ cond-true (are_distinct (map name_of t.attributes)) (Some t.attributes) None (test-from_AllPairs is_same is_same-Decides (map name_of t.attributes) h.distinct) in
     let named : List ℕ → Tag = λ n. record { spelled = t.spelled; ns = t.ns; name = n; attributes = t.attributes; bindings = t.bindings; empty = t.empty } in
     ap (λ (bs : Scope). parted_tag scope name bs (others_of xs) t.empty) (sym h.declarations)
     ∙ cond-true (list_all may_declare own) (tag_with name own t.empty o a) None (may_all own h.may_be_made)

@@ -3,7 +3,6 @@
 #![tactic(auto)]
 
 mod declarations;
-mod distinct;
 mod ends;
 mod expansion;
 mod faults;

@@ -13,7 +13,6 @@ ghost use Rattle.xmpp_tokens.specs.Tags;
 ghost use Rattle.xmpp_tokens.specs.Tags.{names_of, tag_of};
 
 use crate::declarations::{PartedAttributes, all_may_declare, part};
-use crate::distinct::are_distinct;
 use crate::expansion::{ExpandedAttribute, element_ns, expanded_attributes, expanded_names};
 use crate::faults::StartFault;
 use crate::limits::TagLimits;
@@ -21,6 +20,7 @@ use crate::names::{is_prefixed, split_name, split_prefix};
 use crate::pairs::{FEW_NAMES, have_names_in_pairs};
 use crate::scopes::Binding;
 use std::alloc::Global;
+use xmpp_basis::are_distinct;
 use xmpp_edge::{NoMemory, Text};
 use xmpp_tokens::{RawAttribute, RawTag, StartTag, TagFault, read_tag, spelled_value_len};
 

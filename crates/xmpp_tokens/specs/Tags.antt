@@ -1,9 +1,10 @@
 -- The inside of a tag (XML 1.0, sections 2.3 and 3.1; Namespaces in XML 1.0, section 3), first as a grammar: the bytes
 -- of a tag, from its `<` to its `>`, and what they say.
 use Rattle.std.specs.Prelude.{ℕ, zero, suc, ◌≡◌, ◌≢◌, ◌==◌, Bool, true, false, not, ◌&&◌, ◌||◌, if◌then◌else◌, List, [], ◌∷◌, ◌++◌, Option, Some, None, Result, Ok, Err, length, map, AllPairs}
-use Rattle.std.specs.List.{list_all, list_any}
+use Rattle.std.specs.List.{list_all}
 use Rattle.std.specs.Option.{option_map, option_and_then, ok_or}
 use Rattle.std.specs.Str.{bytes_eq, is_utf8}
+use Rattle.xmpp_basis.specs.Distinct.{are_distinct_by}
 use Rattle.xmpp_tokens.specs.Characters.{is_white, is_name_byte, is_name}
 use Rattle.xmpp_tokens.specs.Fronts.{front, behind}
 use Rattle.xmpp_tokens.specs.Values.{value_of, begins_unknown}
@@ -204,8 +205,7 @@ unfoldable pub inside_of : List ℕ → Option Inside
 inside_of bs = inside_within (suc (length bs)) bs
 
 abbrev pub are_distinct : List (List ℕ) → Bool
-are_distinct [] = true
-are_distinct (x ∷ xs) = not (list_any (bytes_eq x) xs) && are_distinct xs
+are_distinct names = are_distinct_by bytes_eq names
 
 abbrev pub start_with : List ℕ → Inside → Option Tag
 start_with name i = if are_distinct (names_of i.attributes) then Some (start_tag name i.attributes i.empty) else None

@@ -1,16 +1,15 @@
 //! Whether the attributes of one tag have names of their own.
-ghost use Rattle.std.specs.Prelude.{◌≡◌, ◌↔◌, map, IfOk, IsTrue, IsSorted, IfErr};
-ghost use Rattle.std.specs.Cmp.Lexicographic.{slice_cmp};
+ghost use Rattle.std.specs.Prelude.{◌≡◌, map, IfOk, IfErr};
 ghost use Rattle.std.specs.List.{list_any};
-ghost use Rattle.std.specs.Ordering.{nat_cmp};
 ghost use Rattle.std.specs.Str.{bytes_eq};
 ghost use Rattle.xmpp_tokens.specs.RawTags.{attribute_of};
 ghost use Rattle.xmpp_tokens.specs.Tags;
-ghost use Rattle.xmpp_tokens.specs.Tags.{AreDistinct, names_of};
+ghost use Rattle.xmpp_tokens.specs.Tags.{names_of};
 
 use crate::faults::TagFault;
 use crate::raw_tags::RawAttribute;
 use std::alloc::Global;
+use xmpp_basis::are_distinct as are_all_distinct;
 
 /// The names of up to so many attributes are compared in pairs, which takes no memory. The names of more are put in
 /// order, so that many names cost little more than their bytes.
@@ -50,27 +49,6 @@ fn names<'a>(alloc: Global, attributes: &[RawAttribute<'a>]) -> Result<Vec<&'a s
         names.push(attribute.name)?;
     }
     Ok(names)
-}
-
-// Whether no name stands beside an equal one, in a list that is in order.
-fn neighbours_differ(names: &[&str]) -> bool
-    requires { IsSorted (λ a b. slice_cmp nat_cmp a.now b.now) names.now }
-    ensures { IsTrue result ↔ AreDistinct (map (λ n. n.now) names.now) }
-{
-    for later in 1..names.len() {
-        if names[later - 1] == names[later] {
-            return false;
-        }
-    }
-    true
-}
-
-// Whether no two names are equal. They are put in order.
-fn are_all_distinct(names: &mut [&str]) -> bool
-    ensures { IsTrue result ↔ AreDistinct (map (λ n. n.now) names.old) }
-{
-    names.sort_unstable();
-    neighbours_differ(names)
 }
 
 // Whether no two attributes have one spelled name.

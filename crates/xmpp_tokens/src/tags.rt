@@ -86,8 +86,8 @@ fn end_at(bytes: &[u8]) -> Option<&str>
     }
 }
 
-// Whether bytes are those of an end tag.
-fn is_end(bytes: &[u8]) -> bool
+/// Whether bytes begin as an end tag does, with `</` (XML 1.0, section 3.1).
+pub fn is_end(bytes: &[u8]) -> bool
     ensures { result ≡ Tags.is_end bytes.now }
 {
     match *bytes {
@@ -127,8 +127,8 @@ fn tag_at<'a>(alloc: Global, bytes: &'a [u8]) -> Result<RawTag<'a>, TagFault>
     }
 }
 
-// The quote that is open behind a byte.
-fn quote_behind(quote: Option<u8>, b: u8) -> Option<u8>
+/// The quote that is open after a byte of a tag, where `quote` is the one that was open before it.
+pub fn quote_behind(quote: Option<u8>, b: u8) -> Option<u8>
     ensures { result ≡ Tags.quote_behind quote b }
 {
     match quote {
