@@ -7,7 +7,6 @@ pub mod ValueRuns
 pub mod Texts
 pub mod TagWords
 pub mod InsideRuns
-pub mod Outcomes
 pub mod TagLaws
 pub mod EndNames
 pub mod TagOutcomes

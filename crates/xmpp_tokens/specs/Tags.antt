@@ -8,8 +8,8 @@ use Rattle.xmpp_basis.specs.Distinct.{are_distinct_by}
 use Rattle.xmpp_tokens.specs.Characters.{is_white, is_name_byte, is_name}
 use Rattle.xmpp_tokens.specs.Fronts.{front, behind}
 use Rattle.xmpp_tokens.specs.Values.{value_of, begins_unknown}
-use Rattle.xmpp_tokens.specs.declared.faults.TagFault.{TagFault}
-use Rattle.xmpp_tokens.specs.declared.faults.TagFault.TheVariants.{Restricted, NotWellFormed}
+use Rattle.xmpp_tokens.specs.declared.fault.TagWhy.{TagWhy}
+use Rattle.xmpp_tokens.specs.declared.fault.TagWhy.TheVariants.{Restricted, NotWellFormed}
 
 -- an attribute: its name as it is spelled, and its value
 pub record Attribute : Type 0 where
@@ -233,11 +233,11 @@ tag_at [] = None
 tag_at (b ∷ bs) = if b == 60 then begun_at bs else None
 
 -- What a tag comes to: an unknown name in a reference in quotes is told before all else.
-unfoldable pub tag_of : List ℕ → Result Tag TagFault
+unfoldable pub tag_of : List ℕ → Result Tag TagWhy
 tag_of bytes = if is_restricted bytes then Err Restricted else ok_or (tag_at bytes) NotWellFormed
 
 -- the name of an end tag, as it is spelled
-abbrev pub end_name : Result Tag TagFault → Option (List ℕ)
+abbrev pub end_name : Result Tag TagWhy → Option (List ℕ)
 end_name (Ok (end_tag name)) = Some name
 end_name (Ok (start_tag name attributes empty)) = None
 end_name (Err fault) = None

@@ -6,7 +6,7 @@ mod attributes;
 mod characters;
 mod declarations;
 mod distinct;
-mod faults;
+mod fault;
 mod fronts;
 mod raw_tags;
 mod references;
@@ -23,7 +23,7 @@ pub use characters::{
 pub use declarations::{
     Declaration, good_declarations_are_well_formed, other_encodings_are_told, read_declaration,
 };
-pub use faults::TagFault;
+pub use fault::{TagFault, TagWhy};
 pub use raw_tags::{RawAttribute, RawTag, StartTag};
 pub use references::{Reference, reference_goes_on, references_go_on, referred};
 pub use spelling::{

@@ -7,6 +7,6 @@ use Rattle.xmpp_tokens.proofs.distinct.are_distinct.Goals as goal
 abbrev order : Bor (List ℕ) → Bor (List ℕ) → Ordering
 order a b = slice_cmp nat_cmp a.now b.now
 
-pub returns-clause-ok : goal.returns-clause-ok
-returns-clause-ok c =
-    rw (← c.in_ok-names.ensures.ok) (answer_is_test (λ (n : Bor (List ℕ)). n.now) order bytes_eq (λ x y. is_eq-slice_cmp x.now y.now) c.in_ok-names.names.items c.are_distinct.result (rw (← c.as_mut_slice.ensures.value) c.are_distinct.ensures.told))
+pub returns : goal.returns
+returns c =
+    rw (← c.in_ok-names.ensures) (answer_is_test (λ (n : Bor (List ℕ)). n.now) order bytes_eq (λ x y. is_eq-slice_cmp x.now y.now) c.in_ok-names.names.items c.are_distinct.result (rw (← c.as_mut_slice.ensures.value) c.are_distinct.ensures.told))
