@@ -5,7 +5,7 @@ ghost use Rattle.xmpp_framing.specs.Machine.{passed};
 ghost use Rattle.xmpp_framing.specs.States;
 ghost use Rattle.xmpp_framing.specs.States.{counted, fails, from_start, gathered, gathered_in, item_begun, item_ended, token_begun, token_ended, token_fails};
 
-use crate::faults::{Fault, Why};
+use crate::fault::{Fault, Why};
 use crate::limits::Limits;
 use crate::states::{Lexical, Mode, Open, Phase, Places};
 use std::alloc::Global;

@@ -9,7 +9,7 @@ ghost use Rattle.xmpp_names.specs.Ends.{end_of};
 ghost use Rattle.xmpp_names.specs.TagView.{tag_view};
 ghost use Rattle.xmpp_tokens.specs.Tags;
 
-use crate::faults::Why;
+use crate::fault::Why;
 use crate::framer::Framer;
 use crate::items::{Item, Items};
 use crate::limits::Limits;
