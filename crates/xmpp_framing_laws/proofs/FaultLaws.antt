@@ -1,5 +1,5 @@
 -- Each row of the table of faults.
-use Rattle.std.proofs.Common.{◌≡◌, ◌≢◌, ℕ, ◌<◌, ◌≤◌, ⊎_elim, Bool, true, false, ◌==◌, if◌then◌else◌, List, [], ◌∷◌, ◌++◌, Option, Some, None, Ok, Err, length, refl, ap, ◌∙◌}
+use Rattle.std.proofs.Common.{◌≡◌, ◌≢◌, ℕ, ◌<◌, ◌≤◌, ⊎_elim, Bool, true, false, ◌==◌, if◌then◌else◌, [], ◌∷◌, ◌++◌, Option, Some, None, Ok, Err, length, refl, ap, ◌∙◌}
 use Rattle.std.proofs.lemmas.Bool.{cases_Bool, eqb-true, le-ltb, lt-ltb}
 use Rattle.std.specs.Option.{is_some}
 use Rattle.std.specs.Prelude.{codes, slice_index}
@@ -17,7 +17,7 @@ use Rattle.xmpp_tokens.specs.Utf8.{continues, ends_character, utf8_next}
 use Rattle.xmpp_tokens.specs.declared.declarations.Declaration.TheVariants as declaration
 use Rattle.xmpp_tokens.specs.declared.references.Reference.TheVariants as reference
 use Rattle.xmpp_framing_laws.specs.FaultRows.{Decides, EndsTag, Takes, whole}
-use Rattle.xmpp_framing.specs.Machine.{behind_byte, goes_on, is_too_long, run, step, taken, taken_in}
+use Rattle.xmpp_framing.specs.Machine.{behind_byte, goes_on, is_too_long, step, taken, taken_in}
 use Rattle.xmpp_framing.specs.MarkupSteps.{ends_in_question, in_bang, in_declaration, in_question}
 use Rattle.xmpp_framing.specs.States.{State, Turn, counted, in_run, may_declare, moved, run_begun, token_place}
 use Rattle.xmpp_framing.specs.TagSteps.{begun, ends, ends_stream, footer_closes, header_tag, header_why, in_footer, in_opening, in_tag, is_header, is_spelled, is_too_deep, largest_limits, misplaced, misplaced_why, scope_in, start_why, tag_anew, tag_closes, tag_here, tag_in, tag_inside, tag_limits, tag_outside}

@@ -2,20 +2,17 @@
 pub mod OneText
 pub mod TagEnds
 pub mod OneSpelling
-
 -- what is written is spelled
 pub mod SpelledNames
 pub mod SpelledAttributes
 pub mod SpelledTexts
 pub mod CanonLaws
 pub mod HeaderLaws
-
 -- which byte decides which fault
 pub mod FaultLaws
 pub mod CountLaws
 pub mod CountedRuns
 pub mod RunPlaces
-
 -- what is spelled is read: runs of bytes
 pub mod Quiet
 pub mod HeldBytes
@@ -32,7 +29,6 @@ pub mod TagRuns
 pub mod FooterRuns
 pub mod DeclarationBytes
 pub mod DeclarationRuns
-
 -- what is spelled is read: elements, headers, items, streams
 pub mod SpelledTrees
 pub mod ElementTags
@@ -41,7 +37,6 @@ pub mod ElementRuns
 pub mod HeaderRuns
 pub mod ItemRuns
 pub mod StreamRuns
-
 -- what is read is spelled
 pub mod ReadCharacters
 pub mod TextFronts
@@ -51,7 +46,6 @@ pub mod ReadOutside
 pub mod TextHands
 pub mod ReadInside
 pub mod ReadStreams
-
 -- definitions at values
 mod WorkedGrammar
 mod WorkedReadings
