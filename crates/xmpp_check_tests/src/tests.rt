@@ -1,18 +1,38 @@
-use crate::check;
+//! Streams behind a header, and the lines that are told of them.
 use std::alloc::Global;
 use std::test::Fail;
+use xmpp_check::check;
+use xmpp_edge::{Bytes, NoMemory};
 
-const HEADER: &str =
-    "<stream:stream to='chat.example' version='1.0' xmlns='jabber:client' xmlns:stream='http://etherx.jabber.org/streams'>";
+static HEADER: &[u8] =
+    b"<stream:stream to='chat.example' version='1.0' xmlns='jabber:client' xmlns:stream='http://etherx.jabber.org/streams'>";
 
-/// A header of another content namespace.
-const SERVER_HEADER: &str =
-    "<stream:stream xmlns='jabber:server' xmlns:stream='http://etherx.jabber.org/streams'>";
+/// Whether a stream is told in this text, and sound or not.
+fn is_told(alloc: Global, input: &[u8], text: &[u8], sound: bool) -> Result<bool, NoMemory> {
+    let told = check(alloc, input)?;
+    Ok(told.text.as_slice() == text && told.sound == sound)
+}
 
-/// A message as it is written.
-const MESSAGE: &str = "<message id='1' to='bob@chat.example'><body>hello</body></message>";
+fn behind_header(alloc: Global, parts: [&[u8]; 3]) -> Result<Bytes, NoMemory> {
+    let mut bytes = Bytes::from_slice(alloc, HEADER)?;
+    for part in parts {
+        bytes.append(part)?;
+    }
+    Ok(bytes)
+}
 
-// What stands behind the header, what is told behind the header's line, and whether nothing is wrong.
+/// The same of what stands behind the header and of the lines behind the header's line, before which so much stands in both.
+fn is_told_behind(
+    alloc: Global,
+    both: [&[u8]; 2],
+    row: &(&str, &str, bool),
+) -> Result<bool, NoMemory> {
+    let input = behind_header(alloc, [b"", both[0], row.0.as_bytes()])?;
+    let text = behind_header(alloc, [b"\n", both[1], row.1.as_bytes()])?;
+    is_told(alloc, input.as_slice(), text.as_slice(), row.2)
+}
+
+/// What stands behind the header, what is told behind the header's line, and whether nothing is wrong.
 static STREAMS: [(&str, &str, bool); 7] = [
     ("", "end\n", true),
     ("</stream:stream>", "</stream:stream>\nend\n", true),
@@ -31,93 +51,73 @@ static STREAMS: [(&str, &str, bool); 7] = [
     ("<root xmlns='jabber:client'/>", "<root/>\nend\n", true),
 ];
 
-// Whether a stream with a header is told so.
-fn is_told(alloc: Global, stream: &str, lines: &str, sound: bool) -> Result<bool, Fail> {
-    let mut input = String::from_str(alloc, HEADER)?;
-    input.push_str(stream)?;
-    let mut text = String::from_str(alloc, HEADER)?;
-    text.push_str("\n")?;
-    text.push_str(lines)?;
-    let told = check(alloc, input.as_bytes())?;
-    Ok(told.text.as_slice() == text.as_bytes() && told.sound == sound)
+#[test]
+fn streams_are_told(rt: HostRuntime) -> Result<(), Fail> {
+    for row in &STREAMS {
+        assert!(rt; is_told_behind(rt.alloc(), [b"", b""], row)?);
+    }
+    Ok(())
 }
 
-// So many times the same.
-fn repeated(alloc: Global, text: &str, times: usize) -> Result<String, Fail> {
-    let mut all = String::new(alloc);
+/// So many times the same.
+fn repeated(alloc: Global, part: &str, times: usize) -> Result<Bytes, NoMemory> {
+    let mut all = Bytes::new(alloc);
     for _ in 0..times {
-        all.push_str(text)?;
+        all.append(part.as_bytes())?;
     }
     Ok(all)
 }
 
-#[test]
-fn streams_are_told(rt: HostRuntime) -> Result<(), Fail> {
-    for (stream, lines, sound) in &STREAMS {
-        assert!(rt; is_told(rt.alloc(), stream, lines, *sound)?, "of {stream}");
-    }
-    Ok(())
+/// What stands so often before a stream's end, and before the end of its lines.
+type Repeated = (&'static str, &'static str, usize);
+
+/// A message as it is written, many times; and the limits of bytes and of depth.
+static REPEATED: [(Repeated, (&str, &str, bool)); 5] = [
+    (
+        (
+            "<message id='1' to='bob@chat.example'><body>hello</body></message>",
+            "<message id='1' to='bob@chat.example'><body>hello</body></message>\n",
+            200,
+        ),
+        ("<a><!-", "fault 13320 Restricted\n", false),
+    ),
+    (("<a>", "", 32), ("", "truncated 117\n", false)),
+    (("<a>", "", 33), ("", "fault 213 TooDeep\n", false)),
+    ((" ", "", 65_600), ("<a/>", "<a/>\nend\n", true)),
+    (("<a/>", "<a/>\n", 600), ("</b>", "fault 2517 NotWellFormed\n", false)),
+];
+
+fn is_told_repeated(
+    alloc: Global,
+    times: &Repeated,
+    row: &(&str, &str, bool),
+) -> Result<bool, NoMemory> {
+    let input = repeated(alloc, times.0, times.2)?;
+    let lines = repeated(alloc, times.1, times.2)?;
+    is_told_behind(alloc, [input.as_slice(), lines.as_slice()], row)
 }
 
 #[test]
 fn streams_are_told_over_many_pieces(rt: HostRuntime) -> Result<(), Fail> {
-    let mut stream = repeated(rt.alloc(), MESSAGE, 200)?;
-    let mut line = String::from_str(rt.alloc(), MESSAGE)?;
-    line.push_str("\n")?;
-    let mut lines = repeated(rt.alloc(), line.as_str(), 200)?;
-    stream.push_str("<a><!-")?;
-    lines.push_str("fault 13320 Restricted\n")?;
-    assert!(rt; is_told(rt.alloc(), stream.as_str(), lines.as_str(), false)?);
-    Ok(())
-}
-
-// Tells a message with so many letters.
-fn is_long_told(alloc: Global, letters: usize, lines: &str, sound: bool) -> Result<bool, Fail> {
-    let mut stream = String::from_str(alloc, "<message><body>")?;
-    stream.push_str(repeated(alloc, "a", letters)?.as_str())?;
-    stream.push_str("</body></message>")?;
-    if sound {
-        stream.push_str("\n")?;
-        let mut told = String::from_str(alloc, stream.as_str())?;
-        told.push_str(lines)?;
-        return is_told(alloc, stream.as_str(), told.as_str(), sound);
+    for (times, row) in &REPEATED {
+        assert!(rt; is_told_repeated(rt.alloc(), times, row)?);
     }
-    is_told(alloc, stream.as_str(), lines, sound)
-}
-
-#[test]
-fn the_limit_of_bytes_is_exact(rt: HostRuntime) -> Result<(), Fail> {
-    assert!(rt; is_long_told(rt.alloc(), 65_504, "end\n", true)?);
-    assert!(rt; is_long_told(rt.alloc(), 65_505, "fault 117 TooLong\n", false)?);
     Ok(())
 }
 
-#[test]
-fn the_limit_of_depth_is_exact(rt: HostRuntime) -> Result<(), Fail> {
-    let inside = repeated(rt.alloc(), "<a>", 32)?;
-    let deep = repeated(rt.alloc(), "<a>", 33)?;
-    assert!(rt; is_told(rt.alloc(), inside.as_str(), "truncated 117\n", false)?);
-    assert!(rt; is_told(rt.alloc(), deep.as_str(), "fault 213 TooDeep\n", false)?);
-    Ok(())
-}
+/// Headers of another content namespace, and what is told.
+static STRANGE: [(&str, &str); 2] = [
+    (
+        "<?xml version='1.0'?><stream:stream xmlns='jabber:server' xmlns:stream='http://etherx.jabber.org/streams'><a/><!-- -->",
+        "fault 21 InvalidNamespace\n",
+    ),
+    ("<a/>", "fault 0 InvalidNamespace\n"),
+];
 
 #[test]
 fn strange_headers_end_what_is_told(rt: HostRuntime) -> Result<(), Fail> {
-    let mut stream = String::from_str(rt.alloc(), "<?xml version='1.0'?>")?;
-    stream.push_str(SERVER_HEADER)?;
-    stream.push_str("<a/><!-- -->")?;
-    let told = check(rt.alloc(), stream.as_bytes())?;
-    assert_eq!(rt;
-        told.text.as_slice(),
-        b"fault 21 InvalidNamespace\n".as_slice()
-    );
-    assert!(rt;
-        is_told(
-            rt.alloc(),
-            SERVER_HEADER,
-            "fault 117 InvalidNamespace\n",
-            false
-        )?
-    );
+    for (input, text) in &STRANGE {
+        assert!(rt; is_told(rt.alloc(), input.as_bytes(), text.as_bytes(), false)?);
+    }
     Ok(())
 }

@@ -1,16 +1,93 @@
-use crate::tests::show;
-use crate::{Fault, FeedFault, Framer, Item, Items, Limits, Why};
+//! A framer over bytes: its fault, its unfinished part and its items.
 use std::alloc::Global;
 use std::test::Fail;
+use xmpp_edge::{Bytes, NoMemory};
+use xmpp_framing::{Fault, FeedFault, Framer, Item, Items, Limits, Why};
+use xmpp_writer::{write, write_footer, write_header};
 
-const HEADER: &str =
-    "<stream:stream to='chat.example' version='1.0' xmlns='jabber:client' xmlns:stream='http://etherx.jabber.org/streams'>";
+/// What comes of bytes: the fault, the unfinished part, and how many items there are.
+type Told = (Option<Fault>, Option<u64>, usize);
 
-// How many bytes the header has.
-const AT: u64 = 117;
+/// Feeds bytes in pieces of so many. Of several faults the last is answered.
+fn feed_all(
+    framer: &mut Framer,
+    items: &mut Items,
+    bytes: &[u8],
+    step: usize,
+) -> Result<Option<Fault>, NoMemory> {
+    let mut last = None;
+    for piece in bytes.chunks(step.max(1)) {
+        match framer.feed(piece, items) {
+            Ok(()) => {}
+            Err(FeedFault::Fault(fault)) => last = Some(fault),
+            Err(FeedFault::NoMemory) => return Err(NoMemory),
+        }
+    }
+    Ok(last)
+}
 
-// What stands behind the header, and the fault.
-static FAULTS: [(&[u8], u64, Why); 60] = [
+/// What comes of bytes, the first of which are fed at once, and the others in pieces of so many. The items are written.
+fn told(
+    alloc: Global,
+    limits: Limits,
+    first: &[u8],
+    others: (&[u8], usize),
+    out: &mut Bytes,
+) -> Result<Told, NoMemory>
+    requires { 1 ≤ limits.bytes }
+{
+    let mut framer = Framer::new(alloc, limits);
+    let mut items = Items::new(alloc);
+    feed_all(&mut framer, &mut items, first, first.len())?;
+    let fault = feed_all(&mut framer, &mut items, others.0, others.1)?;
+    append_items(&items, out)?;
+    Ok((fault, framer.part(), items.as_slice().len()))
+}
+
+fn append_item(out: &mut Bytes, item: &Item) -> Result<(), NoMemory> {
+    match item {
+        Item::Header { at: _, header } => write_header(header, out),
+        Item::Element(tree) => write(tree, out),
+        Item::Footer => write_footer(out),
+    }
+}
+
+fn append_items(items: &Items, out: &mut Bytes) -> Result<(), NoMemory> {
+    for item in items.as_slice() {
+        append_item(out, item)?;
+        out.append(b"\n")?;
+    }
+    Ok(())
+}
+
+/// The fault of a stream, the second part of which comes a byte at a time.
+fn fault_of(
+    alloc: Global,
+    limits: Limits,
+    first: &[u8],
+    others: &[u8],
+) -> Result<Option<Fault>, NoMemory>
+    requires { 1 ≤ limits.bytes }
+{
+    Ok(told(alloc, limits, first, (others, 1), &mut Bytes::new(alloc))?.0)
+}
+
+/// A fault at a place behind a header of so many bytes.
+fn behind(header: &[u8], found: Option<(u64, Why)>) -> Option<Fault> {
+    match found {
+        Some((at, why)) => Some(Fault {
+            at: at.saturating_add(header.len() as u64),
+            why,
+        }),
+        None => None,
+    }
+}
+
+static HEADER: &[u8] =
+    b"<stream:stream to='chat.example' version='1.0' xmlns='jabber:client' xmlns:stream='http://etherx.jabber.org/streams'>";
+
+/// What stands behind the header, and the fault.
+static FAULTS: [(&[u8], u64, Why); 62] = [
     // restricted
     (b"<!-- x -->", 0, Why::Restricted),
     (b"<a><!-- x -->", 3, Why::Restricted),
@@ -32,6 +109,16 @@ static FAULTS: [(&[u8], u64, Why); 60] = [
     (b"<a><![CDATA[\x80", 3, Why::Encoding),
     (b"<?xml version='1.0' encoding='x'?>", 0, Why::Encoding),
     (b"<?xml version='1.0' encoding=''?>", 0, Why::Encoding),
+    (
+        b"<?xml version='1.0' a:b='1' encoding='x'?>",
+        0,
+        Why::Encoding,
+    ),
+    (
+        b"<?xml version='1.0' \xc3\xa9='1' encoding='x'?>",
+        0,
+        Why::Encoding,
+    ),
     // not well formed
     (b"<?xml version='1.1'?>", 0, Why::NotWellFormed),
     (b"<?xml encoding='UTF-8'?>", 0, Why::NotWellFormed),
@@ -88,159 +175,76 @@ static FAULTS: [(&[u8], u64, Why); 60] = [
     (b"</stream:stream>\tx", 16, Why::NotWellFormed),
 ];
 
-// A stream that uses every token: what comes of it.
-const STREAM: &str =
-    " <?xml version='1.0' encoding='utf-8' ?>\r\n<stream:stream from='a' xml:lang=\"en\" xmlns='jabber:client' xmlns:stream='http://etherx.jabber.org/streams'>\n<message b='1' a = '&lt;&#x41;\r\n' ><body xmlns='urn:b'>\u{e9}\r\n&amp;\r]&#93;><![CDATA[<b>]]\r\n]]]><\u{20ac}/></body >\u{1f600}<x:y xmlns:x='urn:x' x:z=''/></message> <?xml version=\"1.0\"?> <stream:stream xmlns:stream='http://etherx.jabber.org/streams'>\t<a/></stream:stream \n> ";
-
-const SAID: &str =
-    "H42 http://etherx.jabber.org/streams stream jabber:client to=- from=a id=- version=- lang=en\njabber:client|message{|a=<A ;|b=1;}[urn:b|body{}['\u{e9}\n&\n]]><b>]]\n]'urn:b|\u{20ac}{}[]]'\u{1f600}'urn:x|y{urn:x|z=;}[]]\nH323 http://etherx.jabber.org/streams stream  to=- from=- id=- version=- lang=-\n|a{}[]\nF\n";
-
-fn push_number(out: &mut String, n: u64) -> Result<(), Fail> {
-    write!(out, "{n}")?;
-    Ok(())
-}
-
-fn push_item(out: &mut String, item: &Item) -> Result<(), Fail> {
-    match item {
-        Item::Header { at, header } => {
-            out.push_str("H")?;
-            push_number(out, *at)?;
-            for part in [
-                header.ns.as_str(),
-                header.name.as_str(),
-                header.content.as_str(),
-            ] {
-                out.push_str(" ")?;
-                out.push_str(part)?;
-            }
-            for (name, value) in [
-                (" to=", &header.to),
-                (" from=", &header.from),
-                (" id=", &header.id),
-                (" version=", &header.version),
-                (" lang=", &header.lang),
-            ] {
-                out.push_str(name)?;
-                match value {
-                    Some(text) => out.push_str(text.as_str())?,
-                    None => out.push_str("-")?,
-                }
-            }
-        }
-        Item::Element(tree) => show(out, tree.element())?,
-        Item::Footer => out.push_str("F")?,
-    }
-    out.push_str("\n")?;
-    Ok(())
-}
-
-fn said(alloc: Global, items: &Items) -> Result<String, Fail> {
-    let mut out = String::new(alloc);
-    for item in items.as_slice() {
-        push_item(&mut out, item)?;
-    }
-    Ok(out)
-}
-
-// The fault of bytes behind a header under the limits of a server, a byte at a time.
-fn fault_of(alloc: Global, bytes: &[u8]) -> Option<Fault> {
-    let mut framer = Framer::new(alloc, Limits::server());
-    let mut items = Items::new(alloc);
-    if framer.feed(HEADER.as_bytes(), &mut items).is_err() {
-        return None;
-    }
-    for b in bytes {
-        match framer.feed(&[*b], &mut items) {
-            Ok(()) => {}
-            Err(FeedFault::Fault(fault)) => return Some(fault),
-            Err(FeedFault::NoMemory) => return None,
-        }
-    }
-    None
-}
-
 #[test]
 fn each_fault_has_its_place(rt: HostRuntime) -> Result<(), Fail> {
     for (bytes, at, why) in &FAULTS {
-        let fault = fault_of(rt.alloc(), bytes);
-        assert_eq!(rt;
-            fault,
-            Some(Fault {
-                at: at.saturating_add(AT),
-                why: *why
-            })
-        );
+        let fault = fault_of(rt.alloc(), Limits::server(), HEADER, bytes)?;
+        assert!(rt; fault == behind(HEADER, Some((*at, *why))));
     }
     Ok(())
+}
+
+/// A stream that uses every token, and its items.
+const STREAM: &str =
+    " <?xml version='1.0' encoding='utf-8' ?>\r\n<stream:stream from='a' xml:lang=\"en\" xmlns='jabber:client' xmlns:stream='http://etherx.jabber.org/streams'>\n<message b='1' a = '&lt;&#x41;\r\n' ><body xmlns='urn:b'>\u{e9}\r\n&amp;\r]&#93;><![CDATA[<b>]]\r\n]]]><\u{20ac}/></body >\u{1f600}<x:y xmlns:x='urn:x' x:z=''/></message> <?xml version=\"1.0\"?> <stream:stream xmlns:stream='http://etherx.jabber.org/streams'>\t<a/></stream:stream \n> ";
+
+const WRITTEN: &str =
+    "<stream:stream from='a' xml:lang='en' xmlns='jabber:client' xmlns:stream='http://etherx.jabber.org/streams'>\n<message a='&lt;A ' b='1'><body xmlns='urn:b'>\u{e9}\n&amp;\n]]&gt;&lt;b&gt;]]\n]<\u{20ac}/></body>\u{1f600}<y xmlns='urn:x' xmlns:a0='urn:x' a0:z=''/></message>\n<stream:stream xmlns='jabber:client' xmlns:stream='http://etherx.jabber.org/streams'>\n<a xmlns=''/>\n</stream:stream>\n";
+
+/// Whether a stream that is cut in two has these items, and neither a fault nor anything unfinished.
+fn is_read(alloc: Global, stream: &[u8], cut: usize, written: &[u8]) -> Result<bool, NoMemory> {
+    let (first, others) = stream.split_at(cut.min(stream.len()));
+    let mut out = Bytes::new(alloc);
+    let told = told(alloc, Limits::client(), first, (others, others.len()), &mut out)?;
+    Ok(told == (None, None, 5) && out.as_slice() == written)
 }
 
 #[test]
 fn every_cut_gives_the_same(rt: HostRuntime) -> Result<(), Fail> {
-    let alloc = rt.alloc();
-    let bytes = STREAM.as_bytes();
-    for cut in 0..bytes.len() + 1 {
-        let mut framer = Framer::new(alloc, Limits::client());
-        let mut items = Items::new(alloc);
-        framer.feed(&bytes[..cut], &mut items)?;
-        framer.feed(&bytes[cut..], &mut items)?;
-        assert_eq!(rt; said(alloc, &items)?.as_str(), SAID);
-        assert_eq!(rt; framer.part(), None);
+    let stream = STREAM.as_bytes();
+    for cut in 0..stream.len() + 1 {
+        assert!(rt; is_read(rt.alloc(), stream, cut, WRITTEN.as_bytes())?);
     }
     Ok(())
 }
 
-// Bytes that repeat a part between two others.
-fn repeated(
-    alloc: Global,
-    before: &str,
-    part: &str,
-    count: usize,
-    behind: &str,
-) -> Result<String, Fail> {
-    let mut out = String::from_str(alloc, before)?;
-    for _ in 0..count {
-        out.push_str(part)?;
+/// A part that stands so often between two others, and the fault.
+type Repeated = (&'static str, usize, &'static str, Option<(u64, Why)>);
+
+/// An element that counts 65,536 bytes is taken, and one of a byte more isn't; and so with 32 levels.
+static LARGEST: [(&str, Repeated); 4] = [
+    ("<message><body>", ("a", 65_504, "</body></message>", None)),
+    (
+        "<message><body>",
+        ("a", 65_505, "</body></message>", Some((0, Why::TooLong))),
+    ),
+    ("", ("<a>", 32, "", None)),
+    ("", ("<a>", 33, "", Some((96, Why::TooDeep)))),
+];
+
+fn repeated(alloc: Global, before: &str, inside: &Repeated) -> Result<Bytes, NoMemory> {
+    let mut out = Bytes::from_slice(alloc, before.as_bytes())?;
+    for _ in 0..inside.1 {
+        out.append(inside.0.as_bytes())?;
     }
-    out.push_str(behind)?;
+    out.append(inside.2.as_bytes())?;
     Ok(out)
 }
 
-// The fault of a body of so many letters.
-fn body_fault(alloc: Global, count: usize) -> Result<Option<Fault>, Fail> {
-    let text = repeated(alloc, "<message><body>", "a", count, "</body></message>")?;
-    Ok(fault_of(alloc, text.as_bytes()))
-}
-
-// An element that counts 65,536 bytes is taken, and one of a byte more isn't.
-#[test]
-fn an_element_is_as_long_as_the_limit(rt: HostRuntime) -> Result<(), Fail> {
-    assert_eq!(rt; body_fault(rt.alloc(), 65_504)?, None);
-    assert_eq!(rt;
-        body_fault(rt.alloc(), 65_505)?,
-        Some(Fault {
-            at: AT,
-            why: Why::TooLong
-        })
-    );
-    Ok(())
-}
-
-// The fault of so many tags in one another.
-fn depth_fault(alloc: Global, count: usize) -> Result<Option<Fault>, Fail> {
-    let text = repeated(alloc, "", "<a>", count, "")?;
-    Ok(fault_of(alloc, text.as_bytes()))
+fn repeated_fault(
+    alloc: Global,
+    before: &str,
+    inside: &Repeated,
+) -> Result<Option<Fault>, NoMemory> {
+    let bytes = repeated(alloc, before, inside)?;
+    fault_of(alloc, Limits::server(), HEADER, bytes.as_slice())
 }
 
 #[test]
-fn elements_are_as_deep_as_the_limit(rt: HostRuntime) -> Result<(), Fail> {
-    assert_eq!(rt; depth_fault(rt.alloc(), 32)?, None);
-    assert_eq!(rt;
-        depth_fault(rt.alloc(), 33)?,
-        Some(Fault {
-            at: AT + 96,
-            why: Why::TooDeep
-        })
-    );
+fn elements_are_as_large_as_the_limits(rt: HostRuntime) -> Result<(), Fail> {
+    for (before, inside) in &LARGEST {
+        assert!(rt; repeated_fault(rt.alloc(), before, inside)? == behind(HEADER, inside.3));
+    }
     Ok(())
 }
 
@@ -251,7 +255,9 @@ const SMALL: Limits = Limits {
     namespace_bytes: 5,
 };
 
-// What stands behind the header under small limits, and the fault.
+static SHORT_HEADER: &[u8] = b"<a:a xmlns:a='n'>";
+
+/// What stands behind the header under small limits, and the fault.
 static LIMITED: [(&[u8], Option<(u64, Why)>); 18] = [
     (b"<a b='' c=''/>", None),
     (b"<a b='' c='' d=''/>", Some((0, Why::TooManyAttributes))),
@@ -297,32 +303,13 @@ static LIMITED: [(&[u8], Option<(u64, Why)>); 18] = [
 #[test]
 fn each_limit_is_told_past_its_bound(rt: HostRuntime) -> Result<(), Fail> {
     for (bytes, expected) in &LIMITED {
-        let fault = small_fault(rt.alloc(), bytes)?;
-        let expected = match expected {
-            Some((at, why)) => Some(Fault {
-                at: at.saturating_add(17),
-                why: *why,
-            }),
-            None => None,
-        };
-        assert_eq!(rt; fault, expected);
+        let fault = fault_of(rt.alloc(), SMALL, SHORT_HEADER, bytes)?;
+        assert!(rt; fault == behind(SHORT_HEADER, *expected));
     }
     Ok(())
 }
 
-// The fault of bytes behind a short header, under small limits.
-fn small_fault(alloc: Global, bytes: &[u8]) -> Result<Option<Fault>, Fail> {
-    let mut framer = Framer::new(alloc, SMALL);
-    let mut items = Items::new(alloc);
-    framer.feed(b"<a:a xmlns:a='n'>", &mut items)?;
-    match framer.feed(bytes, &mut items) {
-        Ok(()) => Ok(None),
-        Err(FeedFault::Fault(fault)) => Ok(Some(fault)),
-        Err(FeedFault::NoMemory) => Err(Fail::from("out of memory")),
-    }
-}
-
-// The unfinished part behind some bytes.
+/// The unfinished part after some bytes.
 static PARTS: [(&[u8], Option<u64>); 14] = [
     (b"", None),
     (b" ", None),
@@ -340,32 +327,31 @@ static PARTS: [(&[u8], Option<u64>); 14] = [
     (b"<a:a xmlns:a='n'><b>&c", Some(17)),
 ];
 
+fn part_of(alloc: Global, bytes: &[u8]) -> Result<Option<u64>, NoMemory> {
+    let mut out = Bytes::new(alloc);
+    Ok(told(alloc, Limits::server(), bytes, (&[], 1), &mut out)?.1)
+}
+
 #[test]
 fn the_unfinished_part_is_told(rt: HostRuntime) -> Result<(), Fail> {
-    for (bytes, expected) in &PARTS {
-        let mut framer = Framer::new(rt.alloc(), Limits::server());
-        let mut items = Items::new(rt.alloc());
-        framer.feed(bytes, &mut items)?;
-        assert_eq!(rt; framer.part(), *expected);
+    for (bytes, part) in &PARTS {
+        assert!(rt; part_of(rt.alloc(), bytes)? == *part);
     }
     Ok(())
 }
 
-// A fault is told again, and no item comes behind it.
+/// A fault with an item before it, and an element after it.
+static FAULTY: (&[u8], &[u8]) = (b"<a:a xmlns:a='n'><b/>x<b/>", b"<b/>");
+
+fn faulty(alloc: Global) -> Result<Told, NoMemory> {
+    let mut out = Bytes::new(alloc);
+    told(alloc, Limits::server(), FAULTY.0, (FAULTY.1, 4), &mut out)
+}
+
+// A fault is told again, and no item comes after it.
 #[test]
 fn a_fault_stays(rt: HostRuntime) -> Result<(), Fail> {
-    let mut framer = Framer::new(rt.alloc(), Limits::server());
-    let mut items = Items::new(rt.alloc());
-    let fault = Err(FeedFault::Fault(Fault {
-        at: 21,
-        why: Why::NotWellFormed,
-    }));
-    assert_eq!(rt;
-        framer.feed(b"<a:a xmlns:a='n'><b/>x<b/>", &mut items),
-        fault
-    );
-    assert_eq!(rt; framer.feed(b"<b/>", &mut items), fault);
-    assert_eq!(rt; framer.part(), None);
-    assert_eq!(rt; items.as_slice().len(), 2);
+    let fault = behind(&[], Some((21, Why::NotWellFormed)));
+    assert!(rt; faulty(rt.alloc())? == (fault, None, 2));
     Ok(())
 }

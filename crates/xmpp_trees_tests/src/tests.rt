@@ -1,9 +1,14 @@
-use crate::{Attr, Element, Node, Tree, copy_nodes, next_element};
+//! Elements from tables, the trees of them, and copies.
 use std::alloc::Global;
 use std::test::Fail;
 use xmpp_edge::{Copied, NoMemory, Text};
+use xmpp_trees::{Attr, Element, Node, Tree, copy_nodes};
 
-const ATTRS: [(&str, &str, &str); 6] = [
+/// A namespace, a name and a value.
+type Row = (&'static str, &'static str, &'static str);
+
+/// Attributes out of order and repeated, and how a tree has them.
+static ATTRS: [Row; 6] = [
     ("urn:a", "b", "3"),
     ("", "to", "first"),
     ("urn:a", "a", "4"),
@@ -12,112 +17,154 @@ const ATTRS: [(&str, &str, &str); 6] = [
     ("", "id", "1"),
 ];
 
-fn push_texts(alloc: Global, element: &mut Element, texts: &[&str]) -> Result<(), NoMemory> {
-    for text in texts {
-        element.push_text(Text::from_str(alloc, text)?)?;
+static TIDY_ATTRS: [Row; 5] = [
+    ("", "id", "1"),
+    ("", "to", "first"),
+    ("", "é", "5"),
+    ("urn:a", "a", "4"),
+    ("urn:a", "b", "3"),
+];
+
+/// Texts that are empty or adjoin, and how a tree has them. `<` stands for an element of that name.
+static NODES: [&str; 9] = ["", "one", "", "two", "three", "", "<", "", "end"];
+
+static TIDY_NODES: [&str; 3] = ["onetwothree", "<", "end"];
+
+fn push(alloc: Global, element: &mut Element, node: &str) -> Result<(), NoMemory> {
+    if node == "<" {
+        return element.push_child(Element::from_strs(alloc, "", node)?);
+    }
+    element.push_text(Text::from_str(alloc, node)?)
+}
+
+fn push_all(alloc: Global, element: &mut Element, nodes: &[&str]) -> Result<(), NoMemory> {
+    for node in nodes {
+        push(alloc, element, node)?;
     }
     Ok(())
 }
 
-// Attributes out of order and repeated, texts that are empty or adjoin.
+fn push_attrs(alloc: Global, element: &mut Element, rows: &[Row]) -> Result<(), NoMemory> {
+    for (ns, name, value) in rows {
+        element.push_attr(Attr::from_strs(alloc, ns, name, value)?)?;
+    }
+    Ok(())
+}
+
 fn untidy(alloc: Global) -> Result<Element, NoMemory> {
-    let mut message = Element::from_strs(alloc, "jabber:client", "message")?;
-    for (ns, name, value) in ATTRS {
-        message.push_attr(Attr::from_strs(alloc, ns, name, value)?)?;
-    }
-    push_texts(alloc, &mut message, &["", "one", "", "two", "three", ""])?;
-    message.push_child(Element::from_strs(alloc, "", "x")?)?;
-    push_texts(alloc, &mut message, &["", "end"])?;
-    Ok(message)
+    let mut element = Element::from_strs(alloc, "jabber:client", "message")?;
+    push_attrs(alloc, &mut element, &ATTRS)?;
+    push_all(alloc, &mut element, &NODES)?;
+    Ok(element)
 }
 
-// The same at two levels.
-fn untidy_twice(alloc: Global) -> Result<Element, NoMemory> {
-    let mut outside = untidy(alloc)?;
-    outside.push_child(untidy(alloc)?)?;
-    push_texts(alloc, &mut outside, &["", ""])?;
-    Ok(outside)
+/// The same inside an element with a text.
+fn untidy_inside(alloc: Global) -> Result<Element, NoMemory> {
+    let mut around = Element::from_strs(alloc, "", "a")?;
+    around.push_text(Text::from_str(alloc, "")?)?;
+    around.push_child(untidy(alloc)?)?;
+    Ok(around)
 }
 
-fn push_all(out: &mut String, parts: &[&str]) -> Result<(), Fail> {
-    for part in parts {
-        out.push_str(part)?;
-    }
-    Ok(())
+fn is_attr(attr: &Attr, row: &Row) -> bool {
+    attr.is(row.0, row.1) && attr.value.as_str() == row.2
 }
 
-// An element in one line: NS|NAME{NS|NAME=VALUE;..}[..].
-pub(crate) fn show(out: &mut String, element: &Element) -> Result<(), Fail> {
-    push_all(out, &[element.ns.as_str(), "|", element.name.as_str(), "{"])?;
-    for attr in element.attrs.as_slice() {
-        let parts = [
-            attr.ns.as_str(),
-            "|",
-            attr.name.as_str(),
-            "=",
-            attr.value.as_str(),
-            ";",
-        ];
-        push_all(out, &parts)?;
+fn is_node(node: &Node, expected: &str) -> bool {
+    match node {
+        Node::Child(element) => expected == "<" && element.is("", expected),
+        Node::Text(text) => text.as_str() == expected,
     }
-    out.push_str("}[")?;
-    for node in &element.children {
-        match node {
-            Node::Child(inner) => show(out, inner)?,
-            Node::Text(text) => push_all(out, &["'", text.as_str(), "'"])?,
+}
+
+fn has_attrs(attrs: &[Attr], rows: &[Row]) -> bool {
+    for (attr, row) in attrs.iter().zip(rows) {
+        if !is_attr(attr, row) {
+            return false;
         }
     }
-    out.push_str("]")?;
-    Ok(())
+    attrs.len() == rows.len()
 }
 
-fn shown(alloc: Global, element: &Element) -> Result<String, Fail> {
-    let mut text = String::new(alloc);
-    show(&mut text, element)?;
-    Ok(text)
+fn has_nodes(nodes: &[Node], expected: &[&str]) -> bool {
+    for (node, text) in nodes.iter().zip(expected) {
+        if !is_node(node, text) {
+            return false;
+        }
+    }
+    nodes.len() == expected.len()
 }
 
-const ONE_LEVEL: &str =
-    "jabber:client|message{|id=1;|to=first;|é=5;urn:a|a=4;urn:a|b=3;}['onetwothree'|x{}[]'end']";
+fn is_tidy(element: &Element) -> bool {
+    has_attrs(element.attrs.as_slice(), &TIDY_ATTRS) && has_nodes(&element.children, &TIDY_NODES)
+}
 
-const TWO_LEVELS: &str =
-    "jabber:client|message{|id=1;|to=first;|é=5;urn:a|a=4;urn:a|b=3;}['onetwothree'|x{}[]'end'jabber:client|message{|id=1;|to=first;|é=5;urn:a|a=4;urn:a|b=3;}['onetwothree'|x{}[]'end']]";
+/// Whether the message in an element is tidy, and stands alone there.
+fn is_tidy_inside(around: &Element) -> bool {
+    match around.child("jabber:client", "message") {
+        Some(message) => is_tidy(message) && around.children.len() == 1,
+        None => false,
+    }
+}
+
+/// Whether a tree is tidy at two levels, and so is the tree of its element.
+fn is_tidied(alloc: Global) -> Result<bool, NoMemory> {
+    let tree = Tree::of(alloc, untidy_inside(alloc)?)?;
+    let tidied = is_tidy_inside(tree.element());
+    let again = Tree::of(alloc, tree.into_element())?;
+    Ok(tidied && is_tidy_inside(again.element()))
+}
 
 #[test]
 fn a_tree_is_tidy_at_every_level(rt: HostRuntime) -> Result<(), Fail> {
-    let alloc = rt.alloc();
-    let tree = Tree::of(alloc, untidy_twice(alloc)?)?;
-    assert_eq!(rt; shown(alloc, tree.element())?.as_str(), TWO_LEVELS);
-    let again = Tree::of(alloc, tree.into_element())?;
-    assert_eq!(rt; shown(alloc, again.element())?.as_str(), TWO_LEVELS);
+    assert!(rt; is_tidied(rt.alloc())?);
     Ok(())
 }
 
-#[test]
-fn trees_and_nodes_are_copied(rt: HostRuntime) -> Result<(), Fail> {
-    let alloc = rt.alloc();
+/// Whether copies of a tree and of its nodes outlive it.
+fn is_copied(alloc: Global) -> Result<bool, NoMemory> {
     let tree = Tree::of(alloc, untidy(alloc)?)?;
     let copy = tree.copied(alloc)?;
     let nodes = copy_nodes(alloc, &tree.element().children)?;
     drop(tree);
-    assert_eq!(rt; shown(alloc, copy.element())?.as_str(), ONE_LEVEL);
-    assert_eq!(rt; nodes.as_slice().len(), 3);
+    Ok(is_tidy(copy.element()) && has_nodes(nodes.as_slice(), &TIDY_NODES))
+}
+
+#[test]
+fn trees_and_nodes_are_copied(rt: HostRuntime) -> Result<(), Fail> {
+    assert!(rt; is_copied(rt.alloc())?);
     Ok(())
 }
 
-// An element that lies `depth` deep, with texts that adjoin at each level.
-fn nested(alloc: Global, depth: u32) -> Result<Element, NoMemory> {
-    let mut inside = Element::from_strs(alloc, "", "a")?;
-    for _ in 1..depth {
-        let mut outside = Element::from_strs(alloc, "", "a")?;
-        push_texts(alloc, &mut outside, &["b", "c"])?;
-        outside.push_child(inside)?;
-        inside = outside;
-    }
-    Ok(inside)
+/// The texts directly in an element, one after the other, in memory of their own.
+fn says(alloc: Global, expected: &str) -> Result<bool, NoMemory> {
+    let text = untidy(alloc)?.text(alloc)?;
+    Ok(text.as_str() == expected)
 }
 
-// How deep the first children lie in one another, counting the element itself.
+#[test]
+fn texts_are_joined(rt: HostRuntime) -> Result<(), Fail> {
+    assert!(rt; says(rt.alloc(), "onetwothreeend")?);
+    Ok(())
+}
+
+/// An element around another, with texts that adjoin.
+fn around(alloc: Global, inside: Element) -> Result<Element, NoMemory> {
+    let mut element = Element::from_strs(alloc, "", "a")?;
+    push_all(alloc, &mut element, &["b", "c"])?;
+    element.push_child(inside)?;
+    Ok(element)
+}
+
+fn nested(alloc: Global, depth: u32) -> Result<Element, NoMemory> {
+    let mut element = Element::from_strs(alloc, "", "a")?;
+    for _ in 1..depth {
+        element = around(alloc, element)?;
+    }
+    Ok(element)
+}
+
+/// How deep the first children lie in one another, counting the element itself.
 fn levels(element: &Element) -> u32 {
     let mut inside = element;
     for count in 1..300 {
@@ -129,47 +176,15 @@ fn levels(element: &Element) -> u32 {
     300
 }
 
-#[test]
-fn trees_are_as_deep_as_a_framer_admits(rt: HostRuntime) -> Result<(), Fail> {
-    let alloc = rt.alloc();
-    let tree = Tree::of(alloc, nested(alloc, 256)?)?;
+fn levels_of_copy(alloc: Global, depth: u32) -> Result<u32, NoMemory> {
+    let tree = Tree::of(alloc, nested(alloc, depth)?)?;
     let copy = tree.copy(alloc)?;
     drop(tree);
-    assert_eq!(rt; levels(copy.element()), 256);
-    Ok(())
+    Ok(levels(copy.element()))
 }
 
 #[test]
-fn readers_find_what_is_there(rt: HostRuntime) -> Result<(), Fail> {
-    let alloc = rt.alloc();
-    let message = untidy(alloc)?;
-    let mut values = String::new(alloc);
-    for (ns, name) in [
-        ("", "to"),
-        ("urn:a", "a"),
-        ("", "a"),
-        ("urn:a", "to"),
-        ("", "é"),
-    ] {
-        values.push_str(message.attr(ns, name).unwrap_or("-"))?;
-    }
-    assert_eq!(rt; values.as_str(), "first4--5");
-    assert_eq!(rt; message.text(alloc)?.as_str(), "onetwothreeend");
-    assert!(rt; message.only_text().is_none());
-    let x = message.child("", "x").ok_or("no x")?;
-    assert_eq!(rt; x.only_text().unwrap_or("-"), "");
-    assert!(rt; message.child("urn:a", "x").is_none());
-    Ok(())
-}
-
-#[test]
-fn elements_are_gone_over_in_order(rt: HostRuntime) -> Result<(), Fail> {
-    let alloc = rt.alloc();
-    let message = untidy_twice(alloc)?;
-    let (first, behind) = next_element(&message.children).ok_or("no element")?;
-    assert!(rt; first.is("", "x"));
-    let (second, rest) = next_element(behind).ok_or("no second element")?;
-    assert!(rt; second.is("jabber:client", "message"));
-    assert!(rt; next_element(rest).is_none());
+fn trees_are_as_deep_as_a_framer_admits(rt: HostRuntime) -> Result<(), Fail> {
+    assert!(rt; levels_of_copy(rt.alloc(), 256)? == 256);
     Ok(())
 }
