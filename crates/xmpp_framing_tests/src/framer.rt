@@ -195,7 +195,13 @@ const WRITTEN: &str =
 fn is_read(alloc: Global, stream: &[u8], cut: usize, written: &[u8]) -> Result<bool, NoMemory> {
     let (first, others) = stream.split_at(cut.min(stream.len()));
     let mut out = Bytes::new(alloc);
-    let told = told(alloc, Limits::client(), first, (others, others.len()), &mut out)?;
+    let told = told(
+        alloc,
+        Limits::client(),
+        first,
+        (others, others.len()),
+        &mut out,
+    )?;
     Ok(told == (None, None, 5) && out.as_slice() == written)
 }
 

@@ -114,11 +114,7 @@ const HEADER: &[u8] =
     b"<stream:stream from='example.org' id='x&apos;1' xml:lang='en' xmlns='jabber:client' xmlns:stream='http://etherx.jabber.org/streams'></stream:stream>";
 
 /// Whether a header and a footer are written so, one after the other.
-fn is_header_written(
-    alloc: Global,
-    values: [&str; 3],
-    expected: &[u8],
-) -> Result<bool, NoMemory> {
+fn is_header_written(alloc: Global, values: [&str; 3], expected: &[u8]) -> Result<bool, NoMemory> {
     let mut out = Bytes::new(alloc);
     write_header(&server_header(alloc, values)?, &mut out)?;
     write_footer(&mut out)?;
