@@ -108,7 +108,8 @@ impl Framer {
         }
     }
 
-    // The byte is behind.
+    // The stream goes on after a byte. One that can't continue the character in hand was refused before (`go_on`), and
+    // `held_after` says what is held after any other: so there is no answer of `take` to heed.
     pub(crate) fn pass(&mut self, b: u8)
         ensures { self.new ≡ passed self.old b }
     {

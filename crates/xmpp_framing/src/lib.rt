@@ -6,12 +6,14 @@ mod elements_in_hand;
 mod fault;
 mod feeding;
 mod framer;
+mod headers_in_hand;
 mod items;
 mod laws;
 mod limits;
 mod many_bytes;
 mod markup_in_hand;
 mod states;
+mod tag_bytes;
 mod tags_in_hand;
 mod texts_in_hand;
 

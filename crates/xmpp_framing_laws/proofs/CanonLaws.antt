@@ -1,5 +1,5 @@
 -- What is written for a plain tree spells it.
-use Rattle.std.proofs.Common.{◌≡◌, ◌≢◌, ℕ, inl, inr, Bool, true, false, eqb, not, ◌||◌, List, [], ◌∷◌, ◌++◌, map, codes, bytes_eq, Some, refl, sym, ap, subst, ◌∙◌, ⊎_elim, append_assoc, append-nil, arith}
+use Rattle.std.proofs.Common.{◌≡◌, ◌≢◌, ℕ, inl, inr, Bool, true, false, eqb, not, cond, ◌||◌, List, [], ◌∷◌, ◌++◌, map, codes, bytes_eq, Some, refl, sym, ap, subst, ◌∙◌, ⊎_elim, append_assoc, append-nil, arith}
 use Rattle.std.proofs.lemmas.Bool.{cases_Bool, and_parts, and_from, or_parts, false≢true, cond-true, cond-false, not-true, not-false}
 use Rattle.std.proofs.lemmas.List.Elements.{All-from_recursion}
 use Rattle.std.proofs.lemmas.List.Kept.{AllPairs-cons}
@@ -15,18 +15,18 @@ use Rattle.xmpp_names.specs.Declarations.{MayDeclare, bindings_of, declared_pref
 use Rattle.xmpp_names.specs.Expansion.{Name, name_of}
 use Rattle.xmpp_names.specs.Grammar.{IsElementIn, IsExpanded, IsStart}
 use Rattle.xmpp_names.specs.Names.{IsName}
-use Rattle.xmpp_names.specs.Scopes.{Scope, bound, first_bound}
+use Rattle.xmpp_names.specs.Scopes.{Scope, bound, first_bound, xml_namespace}
 use Rattle.xmpp_names.specs.Starts.{Tag}
 use Rattle.xmpp_trees.specs.Attributes.{Attribute, found, name_order}
 use Rattle.xmpp_framing.specs.Expanded.{attribute_of}
-use Rattle.xmpp_writer.specs.Canon.{assignment, assignments, canon, client_namespace, declared_default, declares_default, default_inside, opened, spelled, spelled_attributes, spelled_name, streams_namespace, tag_attributes, written, written_end_tag, written_nodes}
+use Rattle.xmpp_writer.specs.Canon.{assignment, assignments, canon, client_namespace, declared_default, declares_default, default_inside, has_prefix, opened, spelled, spelled_attributes, spelled_name, streams_namespace, tag_attributes, written, written_end_tag, written_nodes}
 use Rattle.xmpp_framing_laws.specs.Plain.{ArePlainNodes, HasPlainName, IsPlain, IsPlainElement}
 use Rattle.xmpp_framing_laws.specs.Spells.{IsBegun, Spells, SpellsContent, SpellsTop, bind, empty, filled, text_alone, with_element, written_scope}
 use Rattle.xmpp_framing_laws.specs.Texts.{IsText}
 use Rattle.xmpp_trees.specs.Tidied.{text_node}
 use Rattle.xmpp_trees.specs.Trees.{AreTidy, Elem, IsTree, Nodes, element, no_nodes, child, text, joined}
 use Rattle.xmpp_framing_laws.proofs.SpelledAttributes.{Above, Apart, ArePlain, Fine, all_fine, all_may, all_said, binds_one, default_first, expanded, here_bound, is_no_other, name_differs, names_apart, outer_bound}
-use Rattle.xmpp_framing_laws.proofs.SpelledNames.{differ, name_no_colon, name_qualified, numbered_prefix, prefixed_qualified, stream_plain, xmlns_plain}
+use Rattle.xmpp_framing_laws.proofs.SpelledNames.{differ, name_no_colon, name_qualified, numbered_prefix, prefixed_qualified, stream_plain, xml_plain, xmlns_plain}
 use Rattle.xmpp_framing_laws.proofs.SpelledTexts.{no_text, text_spelled}
 
 -- ---- attributes in the bytes of a tag
@@ -88,9 +88,9 @@ no_number n = differ [] (numbered_prefix n) refl
 stream_no_number : (n : ℕ) → codes "stream" ≢ numbered_prefix n
 stream_no_number n = differ (codes "stream") (numbered_prefix n) refl
 
-default_may : (ns name : List ℕ) → HasPlainName ns name → MayDeclare (bind [] ns)
-default_may ns name h = record {
-  xml_alone = (λ e. absurd (differ [] (codes "xml") refl e), λ e. absurd (h.not_xml e));
+default_may : (ns name : List ℕ) → HasPlainName ns name → bytes_eq ns xml_namespace ≡ false → MayDeclare (bind [] ns)
+default_may ns name h other = record {
+  xml_alone = (λ e. absurd (differ [] (codes "xml") refl e), λ e. absurd (differ ns xml_namespace other e));
   not_xmlns = differ [] (codes "xmlns") refl;
   not_its_name = h.not_xmlns;
   not_undeclared = λ e. refl;
@@ -127,10 +127,10 @@ xmlns_qualified : is_qualified (codes "xmlns") ≡ true
 xmlns_qualified = name_qualified (codes "xmlns") xmlns_plain
 
 -- a default namespace is declared
-new_default : (scope : Scope) (d ns name : List ℕ) (attrs : List Attribute) → InForce scope d → HasPlainName ns name → ArePlain attrs → IsStrictlySortedBy name_order attrs → default_inside d ns ≡ ns
+new_default : (scope : Scope) (d ns name : List ℕ) (attrs : List Attribute) → InForce scope d → HasPlainName ns name → ArePlain attrs → IsStrictlySortedBy name_order attrs → default_inside d ns ≡ ns → bytes_eq ns xml_namespace ≡ false
     → Tagged scope d ns attrs (spelled (codes "xmlns") ns ∷ spelled_attributes 0 attrs)
 unfolding bound
-new_default scope d ns name attrs f h plain sorted new =
+new_default scope d ns name attrs f h plain sorted new other =
     let xs = spelled_attributes 0 attrs in
     let x = spelled (codes "xmlns") ns in
     let b : bind [] ns ∷ bindings_of xs ≡ bindings_of (x ∷ xs) = sym (default_is_declared ns xs) in
@@ -138,7 +138,7 @@ new_default scope d ns name attrs f h plain sorted new =
     record {
       fine = (record { name = xmlns_qualified; value = h.characters }, all_fine 0 attrs plain);
       distinct = default_first 0 attrs plain sorted;
-      may = subst (AllByRecursion MayDeclare) b (default_may ns name h, all_may 0 attrs plain);
+      may = subst (AllByRecursion MayDeclare) b (default_may ns name h other, all_may 0 attrs plain);
       inside = subst (λ bs. InForce (bs ++ scope) (default_inside d ns)) b (record { default = ap (λ o. unwrap_or o []) (here_bound [] ns (bindings_of xs ++ scope)) ∙ sym new; stream = stream_is });
       others = subst (λ bs. AllZip (IsExpanded (bs ++ scope)) (others_of (x ∷ xs)) (map expanded attrs)) b
           (subst (λ os. AllZip (IsExpanded ((bind [] ns ∷ bindings_of xs) ++ scope)) os (map expanded attrs)) (sym (default_is_no_other ns xs))
@@ -150,17 +150,18 @@ unfolding declared_default default_inside
 tagged scope d ns name attrs f h plain sorted =
     ⊎_elim
     (λ (due : declares_default d ns ≡ true).
-    let apart = or_parts (bytes_eq ns streams_namespace) (bytes_eq ns d) (not-true _ due) in
+    let apart = or_parts (has_prefix ns) (bytes_eq ns d) (not-true _ due) in
+    let none = or_parts (bytes_eq ns streams_namespace) (bytes_eq ns xml_namespace) apart.0 in
     subst (Tagged scope d ns attrs) (sym (ap (λ l. l ++ spelled_attributes 0 attrs) (cond-true (declares_default d ns) (spelled (codes "xmlns") ns ∷ []) [] due)))
-    (new_default scope d ns name attrs f h plain sorted (cond-false (bytes_eq ns streams_namespace) d ns apart.0)))
+    (new_default scope d ns name attrs f h plain sorted (cond-false (has_prefix ns) d ns apart.0) none.1))
     (λ (free : declares_default d ns ≡ false).
     subst (Tagged scope d ns attrs) (sym (ap (λ l. l ++ spelled_attributes 0 attrs) (cond-false (declares_default d ns) (spelled (codes "xmlns") ns ∷ []) [] free)))
     (kept_default scope d ns name attrs f plain sorted
     (⊎_elim
-    (λ (streams : bytes_eq ns streams_namespace ≡ true). cond-true (bytes_eq ns streams_namespace) d ns streams)
-    (λ (other : bytes_eq ns streams_namespace ≡ false).
-    cond-false (bytes_eq ns streams_namespace) d ns other ∙ (bytes_eq-Decides ns d).0 (not-false _ (subst (λ b. not (b || bytes_eq ns d) ≡ false) other free)))
-    (cases_Bool (bytes_eq ns streams_namespace)))))
+    (λ (prefixed : has_prefix ns ≡ true). cond-true (has_prefix ns) d ns prefixed)
+    (λ (other : has_prefix ns ≡ false).
+    cond-false (has_prefix ns) d ns other ∙ (bytes_eq-Decides ns d).0 (not-false _ (subst (λ b. not (b || bytes_eq ns d) ≡ false) other free)))
+    (cases_Bool (has_prefix ns)))))
     (cases_Bool (declares_default d ns))
 
 -- ---- a tag
@@ -186,12 +187,21 @@ record Prefixed (scope : Scope) (ns name : List ℕ) : Type 0 where
   parts : IsName (spelled_name ns name) prefix name
   element : IsElementIn scope prefix ns
 
+-- the prefix `xml` is always bound
+xml_is_bound : (scope : Scope) → bound scope (codes "xml") ≡ Some xml_namespace
+unfolding bound
+xml_is_bound scope = refl
+
+-- the name of an element that isn't in the streams namespace
+abbrev unless_xml : List ℕ → List ℕ → List ℕ
+unless_xml ns name = cond (bytes_eq ns xml_namespace) (codes "xml:" ++ name) name
+
 prefixed_name : (scope : Scope) (d ns name : List ℕ) → InForce scope (default_inside d ns) → HasPlainName ns name → Prefixed scope ns name
 unfolding spelled_name default_inside
 prefixed_name scope d ns name f h =
     ⊎_elim
     (λ (streams : bytes_eq ns streams_namespace ≡ true).
-    let is = cond-true (bytes_eq ns streams_namespace) (codes "stream:" ++ name) name streams in
+    let is = cond-true (bytes_eq ns streams_namespace) (codes "stream:" ++ name) (unless_xml ns name) streams in
     let same = (bytes_eq-Decides ns streams_namespace).0 streams in
     record {
       qualified = ap is_qualified is ∙ prefixed_qualified (codes "stream") name stream_plain h.name_is;
@@ -200,13 +210,27 @@ prefixed_name scope d ns name f h =
       element = inr (differ (codes "stream") [] refl, differ (codes "stream") (codes "xmlns") refl, f.stream ∙ ap Some (sym same));
     })
     (λ (other : bytes_eq ns streams_namespace ≡ false).
-    let is = cond-false (bytes_eq ns streams_namespace) (codes "stream:" ++ name) name other in
+    let or_xml = cond-false (bytes_eq ns streams_namespace) (codes "stream:" ++ name) (unless_xml ns name) other in
+    ⊎_elim
+    (λ (xml : bytes_eq ns xml_namespace ≡ true).
+    let is = or_xml ∙ cond-true (bytes_eq ns xml_namespace) (codes "xml:" ++ name) name xml in
+    let same = (bytes_eq-Decides ns xml_namespace).0 xml in
+    record {
+      qualified = ap is_qualified is ∙ prefixed_qualified (codes "xml") name xml_plain h.name_is;
+      prefix = codes "xml";
+      parts = subst (λ l. IsName l (codes "xml") name) (sym is) (inl (refl, refl));
+      element = inr (differ (codes "xml") [] refl, differ (codes "xml") (codes "xmlns") refl, xml_is_bound scope ∙ ap Some (sym same));
+    })
+    (λ (neither : bytes_eq ns xml_namespace ≡ false).
+    let is = or_xml ∙ cond-false (bytes_eq ns xml_namespace) (codes "xml:" ++ name) name neither in
+    let none : has_prefix ns ≡ false = ap (λ b. b || bytes_eq ns xml_namespace) other ∙ neither in
     record {
       qualified = ap is_qualified is ∙ name_qualified name h.name_is;
       prefix = [];
       parts = subst (λ l. IsName l [] name) (sym is) (inr (refl, refl, name_no_colon name h.name_is.is_name));
-      element = inl (refl, sym (f.default ∙ cond-false (bytes_eq ns streams_namespace) d ns other));
+      element = inl (refl, sym (f.default ∙ cond-false (has_prefix ns) d ns none));
     })
+    (cases_Bool (bytes_eq ns xml_namespace)))
     (cases_Bool (bytes_eq ns streams_namespace))
 
 record Started (scope : Scope) (d ns name : List ℕ) (attrs : List Attribute) : Type 0 where

@@ -29,6 +29,12 @@ in_streams : canon (element streams_namespace (codes "error") [] (child (element
 unfolding assignment declared_default default_inside spelled_name value_byte text_byte
 in_streams = refl
 
+-- and so does that of XML, in which elements have the prefix `xml`
+in_xml : canon (element xml_namespace (codes "a") [] (child (element client_namespace (codes "b") [] no_nodes) (child (element (codes "urn:c") (codes "c") [] (child (element xml_namespace (codes "d") [] no_nodes) (child (element (codes "urn:c") (codes "e") [] no_nodes) no_nodes))) no_nodes)))
+    ≡ codes "<xml:a><b/><c xmlns='urn:c'><xml:d/><e/></c></xml:a>"
+unfolding assignment declared_default default_inside spelled_name value_byte text_byte
+in_xml = refl
+
 -- attributes of no namespace, of two others, and of XML's
 with_attributes : canon (element client_namespace (codes "m") (attribute [] (codes "id") (codes "1") ∷ attribute xml_namespace (codes "lang") (codes "en") ∷ attribute (codes "urn:a") (codes "b") (codes "2") ∷ attribute (codes "urn:a") (codes "c") (codes "3") ∷ []) no_nodes)
     ≡ codes "<m id='1' xml:lang='en' xmlns:a0='urn:a' a0:b='2' xmlns:a1='urn:a' a1:c='3'/>"

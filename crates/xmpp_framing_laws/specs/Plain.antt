@@ -2,7 +2,7 @@
 use Rattle.std.specs.Prelude.{ℕ, ◌≡◌, ◌≢◌, true, List, [], codes, IfSome}
 use Rattle.std.specs.List.{AllByRecursion}
 use Rattle.xmpp_tokens.specs.Characters.{is_name}
-use Rattle.xmpp_names.specs.Scopes.{xml_namespace, xmlns_namespace}
+use Rattle.xmpp_names.specs.Scopes.{xmlns_namespace}
 use Rattle.xmpp_names.specs.declared.headers.Header.{Header}
 use Rattle.xmpp_trees.specs.Attributes.{Attribute}
 use Rattle.xmpp_framing_laws.specs.Spells.{IsHeaderName}
@@ -22,11 +22,10 @@ pub record IsPlainAttribute (a : Attribute) : Type 0 where
   pub not_xmlns : a.ns ≢ xmlns_namespace
   pub no_declaration : a.ns ≡ [] → a.name ≢ codes "xmlns"
 
--- An element can't have the prefix `xml` here, nor `xmlns` at all.
+-- No element has the prefix `xmlns`.
 pub record HasPlainName (ns name : List ℕ) : Type 0 where
   pub characters : IsCharacters ns
   pub name_is : IsPlainName name
-  pub not_xml : ns ≢ xml_namespace
   pub not_xmlns : ns ≢ xmlns_namespace
 
 abbrev mutual

@@ -1,4 +1,6 @@
 //! A framer over bytes: its fault, its unfinished part and its items.
+ghost use Rattle.std.specs.Prelude.{◌≤◌};
+
 use std::alloc::Global;
 use std::test::Fail;
 use xmpp_edge::{Bytes, NoMemory};

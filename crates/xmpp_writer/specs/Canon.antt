@@ -63,20 +63,27 @@ assignments attributes = flat_map assignment attributes
 
 -- ---- tags
 
--- an element's name: in the streams namespace with the prefix `stream`
+-- an element's name: in the streams namespace with the prefix `stream`, and in the XML namespace with `xml`
 unfoldable pub spelled_name : List ℕ → List ℕ → List ℕ
-spelled_name ns name = if bytes_eq ns streams_namespace then codes "stream:" ++ name else name
+spelled_name ns name =
+    if bytes_eq ns streams_namespace then codes "stream:" ++ name
+    else (if bytes_eq ns xml_namespace then codes "xml:" ++ name else name)
 
--- The default namespace is declared where it isn't the one in force. In the streams namespace it isn't needed.
+-- An element of the namespace has a prefix: `stream` is bound by the header, and `xml` always is (Namespaces in XML 1.0,
+-- section 3).
+abbrev pub has_prefix : List ℕ → Bool
+has_prefix ns = bytes_eq ns streams_namespace || bytes_eq ns xml_namespace
+
+-- The default namespace is declared where it isn't the one in force. A name with a prefix doesn't need it.
 abbrev pub declares_default : List ℕ → List ℕ → Bool
-declares_default default ns = not (bytes_eq ns streams_namespace || bytes_eq ns default)
+declares_default default ns = not (has_prefix ns || bytes_eq ns default)
 
 unfoldable pub declared_default : List ℕ → List ℕ → List tokens.Attribute
 declared_default default ns = if declares_default default ns then spelled (codes "xmlns") ns ∷ [] else []
 
 -- the default in force inside an element
 unfoldable pub default_inside : List ℕ → List ℕ → List ℕ
-default_inside default ns = if bytes_eq ns streams_namespace then default else ns
+default_inside default ns = if has_prefix ns then default else ns
 
 -- what a start tag declares and its attributes
 abbrev pub tag_attributes : List ℕ → List ℕ → List Attribute → List tokens.Attribute

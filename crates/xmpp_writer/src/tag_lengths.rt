@@ -86,6 +86,8 @@ fn name_len(ns: &str, name: &str) -> usize
 {
     if ns == STREAMS_NAMESPACE {
         name.len().saturating_add(7)
+    } else if ns == XML_NAMESPACE {
+        name.len().saturating_add(4)
     } else {
         name.len()
     }

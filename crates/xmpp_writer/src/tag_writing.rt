@@ -130,11 +130,18 @@ fn put_attributes(out: &mut Bytes, attrs: &[Attr])
     }
 }
 
+// Whether an element of a namespace has a prefix.
+fn has_prefix(ns: &str) -> bool
+    ensures { result ≡ Canon.has_prefix ns.now }
+{
+    ns == STREAMS_NAMESPACE || ns == XML_NAMESPACE
+}
+
 /// Whether a namespace is to be declared as the default one.
 pub(crate) fn declares_default(default: &str, ns: &str) -> bool
     ensures { result ≡ Canon.declares_default default.now ns.now }
 {
-    ns != STREAMS_NAMESPACE && ns != default
+    !has_prefix(ns) && ns != default
 }
 
 /// The default namespace inside an element of a namespace.
@@ -142,7 +149,7 @@ pub(crate) fn declares_default(default: &str, ns: &str) -> bool
 pub(crate) fn default_inside<'a>(default: &'a str, ns: &'a str) -> &'a str
     ensures { result.now ≡ Canon.default_inside default.now ns.now }
 {
-    if ns == STREAMS_NAMESPACE { default } else { ns }
+    if has_prefix(ns) { default } else { ns }
 }
 
 // Adds the declaration of the default namespace where it is due.
@@ -166,6 +173,8 @@ fn put_name(out: &mut Bytes, ns: &str, name: &str)
 {
     if ns == STREAMS_NAMESPACE {
         out.append_reserved(b"stream:");
+    } else if ns == XML_NAMESPACE {
+        out.append_reserved(b"xml:");
     }
     out.append_reserved(name.as_bytes());
 }

@@ -140,8 +140,9 @@ pub fn spelled_len(tree: &Tree) -> u64
 ///
 /// A start tag has the name, `xmlns` exactly where the namespace isn't the default in force, and the attributes in their
 /// order; values stand in single quotes, and an element with nothing inside is `<name/>`. In the streams namespace a
-/// name has the prefix `stream` and no `xmlns`. An attribute in the XML namespace has the prefix `xml`, and one in
-/// another namespace a prefix of its own, `a0`, `a1` and so on, declared just before it.
+/// name has the prefix `stream` and no `xmlns`, and in the XML namespace the prefix `xml` and none; the default in force
+/// stays the same inside these. An attribute in the XML namespace has the prefix `xml`, and one in another namespace a
+/// prefix of its own, `a0`, `a1` and so on, declared just before it.
 ///
 /// By the law `written_trees_are_spelled` the bytes spell the tree where its names and characters are those of XML. Where
 /// they aren't, they are written all the same, and no reader need accept them.
