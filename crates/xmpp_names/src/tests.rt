@@ -1,7 +1,7 @@
 // What start tags come to is what Python's expat tells of them with namespace processing, in a document of their own or
 // inside the two elements of `inside`. The header is that of RFC 6120, section 4.8.
 use crate::ends::read_end;
-use crate::faults::StartFault;
+use crate::fault::{StartFault, StartWhy};
 use crate::headers::{header_of, opens_stream};
 use crate::limits::TagLimits;
 use crate::scopes::Binding;
@@ -46,10 +46,10 @@ fn shown(alloc: Global, read: Result<Tag, StartFault>) -> Result<String, AllocEr
                 text.push_str(attribute.value.as_str())?;
             }
         }
-        Err(StartFault::Restricted) => text.push_str("restricted")?,
-        Err(StartFault::NotWellFormed) => text.push_str("malformed")?,
-        Err(StartFault::TooManyAttributes) => text.push_str("many")?,
-        Err(StartFault::LongNamespace) => text.push_str("long")?,
+        Err(StartFault::Refused(StartWhy::Restricted)) => text.push_str("restricted")?,
+        Err(StartFault::Refused(StartWhy::NotWellFormed)) => text.push_str("malformed")?,
+        Err(StartFault::Refused(StartWhy::TooManyAttributes)) => text.push_str("many")?,
+        Err(StartFault::Refused(StartWhy::LongNamespace)) => text.push_str("long")?,
         Err(StartFault::NoMemory) => text.push_str("no memory")?,
     }
     Ok(text)

@@ -24,8 +24,8 @@ pub fn is_name_byte(b: u8) -> bool
     is_name_start(b) || b.is_ascii_digit() || b == b'-' || b == b'.'
 }
 
-// Whether a byte is a control character that XML leaves out.
-fn is_control(b: u8) -> bool
+/// Whether a byte is a control character that is none of XML's (section 2.2).
+pub fn is_control(b: u8) -> bool
     ensures { result ≡ Characters.is_control b }
 {
     b < b' ' && b != b'\t' && b != b'\n' && b != b'\r'

@@ -6,7 +6,7 @@ mod attributes;
 mod characters;
 mod declarations;
 mod distinct;
-mod faults;
+mod fault;
 mod fronts;
 mod raw_tags;
 mod references;
@@ -15,14 +15,15 @@ mod tags;
 mod utf8;
 mod values;
 
+pub use attributes::is_quote;
 pub use characters::{
-    are_characters, characters_are_those_of_xml, ends_forbidden, is_name, is_name_byte,
+    are_characters, characters_are_those_of_xml, ends_forbidden, is_control, is_name, is_name_byte,
     is_name_start, is_white,
 };
 pub use declarations::{
     Declaration, good_declarations_are_well_formed, other_encodings_are_told, read_declaration,
 };
-pub use faults::TagFault;
+pub use fault::{TagFault, TagWhy};
 pub use raw_tags::{RawAttribute, RawTag, StartTag};
 pub use references::{Reference, reference_goes_on, references_go_on, referred};
 pub use spelling::{
@@ -30,7 +31,8 @@ pub use spelling::{
     spelled_value_len, texts_are_read_back, values_are_read_back,
 };
 pub use tags::{
-    read_end_tag, read_tag, tags_are_read, unknown_names_are_restricted, what_is_read_is_a_tag,
+    is_end, quote_behind, read_end_tag, read_tag, tags_are_read, unknown_names_are_restricted,
+    what_is_read_is_a_tag,
 };
 pub use utf8::{NotUtf8, PartialCharacter, runs_are_text, text_front, text_runs};
 pub use values::{has_unknown, read_value};

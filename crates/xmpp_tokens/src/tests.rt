@@ -3,7 +3,7 @@
 // tells them.
 use crate::characters::is_name;
 use crate::declarations::{Declaration, read_declaration};
-use crate::faults::TagFault;
+use crate::fault::{TagFault, TagWhy};
 use crate::raw_tags::RawTag;
 use crate::references::{Reference, reference_goes_on, referred};
 use crate::spelling::{append_text, append_value, spelled_text_len, spelled_value_len};
@@ -32,8 +32,8 @@ fn shown(alloc: Global, read: Result<RawTag, TagFault>) -> Result<String, AllocE
             text.push_str("/")?;
             text.push_str(name)?;
         }
-        Err(TagFault::Restricted) => text.push_str("restricted")?,
-        Err(TagFault::NotWellFormed) => text.push_str("malformed")?,
+        Err(TagFault::Refused(TagWhy::Restricted)) => text.push_str("restricted")?,
+        Err(TagFault::Refused(TagWhy::NotWellFormed)) => text.push_str("malformed")?,
         Err(TagFault::NoMemory) => text.push_str("no memory")?,
     }
     Ok(text)
