@@ -8,7 +8,7 @@ ghost use Rattle.xmpp_ext.specs.declared.stamp_reading.StampFault.TheVariants.{B
 ghost use Rattle.xmpp_ext.specs.declared.fault.ExtFault.TheVariants.{NoMemory};
 ghost use Rattle.xmpp_ext.specs.StampReading.{moment_at, moment_of};
 ghost use Rattle.xmpp_ext.specs.Stamps.{IsStamp, IsWritten, Parts, millis, moment, seconds};
-ghost use Rattle.xmpp_framing.specs.Trees.{Elem};
+ghost use Rattle.xmpp_trees.specs.Trees.{Elem};
 
 use crate::stamp_writing::LAST_MOMENT;
 
