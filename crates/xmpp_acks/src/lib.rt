@@ -2,8 +2,6 @@
 //! Management").
 #![tactic(auto)]
 
-mod delivery;
 mod end;
 
-pub use delivery::delivery_is_a_prefix;
 pub use end::{AckEnd, MOST_UNACKNOWLEDGED, TooHigh};

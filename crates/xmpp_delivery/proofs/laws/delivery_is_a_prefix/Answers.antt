@@ -1,5 +1,5 @@
 use Rattle.xmpp_acks.proofs.Directions.{got_prefix, kept_always}
-use Rattle.xmpp_acks.proofs.delivery.delivery_is_a_prefix.Goals as goal
+use Rattle.xmpp_delivery.proofs.laws.delivery_is_a_prefix.Goals as goal
 
 pub returns-clause-prefix : goal.returns-clause-prefix
 returns-clause-prefix g c = λ moves d reaches. got_prefix d (kept_always moves d reaches)
