@@ -2,7 +2,7 @@
 use Rattle.std.proofs.Common.{◌≡◌, [], ◌∷◌, ◌++◌, Some, None, Ok, Err, codes, encode_utf8_all, refl}
 use Rattle.std.specs.Prelude.{replicate}
 use Rattle.idna.proofs.Computing.{idna}
-use Rattle.xmpp_jid.specs.declared.fault.JidFault.TheVariants.{Empty, BadLocal, BadDomain, BadResource, TooLong}
+use Rattle.xmpp_jid.specs.declared.fault.JidFault.TheVariants.{BadLocal, BadResource}
 use Rattle.xmpp_jid.specs.Cuts.{bare_of, local_of, domain_of, resource_of}
 use Rattle.xmpp_jid.specs.Normal.{normal}
 
@@ -14,29 +14,9 @@ with_umlaut : normal (codes "b" ++ encode_utf8_all (0xFC ∷ []) ++ codes "cher.
 unfolding idna
 with_umlaut = refl
 
-space_in_local : normal (codes "a b@chat.example") ≡ Err BadLocal
-unfolding idna
-space_in_local = refl
-
-no_local : normal (codes "@chat.example") ≡ Err Empty
-unfolding idna
-no_local = refl
-
-no_resource : normal (codes "chat.example/") ≡ Err Empty
-unfolding idna
-no_resource = refl
-
-long_local : normal (replicate 1024 97 ++ codes "@chat.example") ≡ Err TooLong
-unfolding idna
-long_local = refl
-
 longest_local : normal (replicate 1023 65 ++ codes "@chat.example") ≡ Ok (replicate 1023 97 ++ codes "@chat.example")
 unfolding idna
 longest_local = refl
-
-nothing : normal [] ≡ Err Empty
-unfolding idna
-nothing = refl
 
 -- the first `/` and then the first `@`: both may stand in the resource
 cuts_resource : resource_of (codes "a@b/c/d@e") ≡ Some (codes "c/d@e")
@@ -54,30 +34,10 @@ cuts_domain = refl
 at_in_resource : local_of (codes "b/c@d") ≡ None
 at_in_resource = refl
 
-two_ats : normal (codes "a@b@c") ≡ Err BadDomain
-unfolding idna
-two_ats = refl
-
-one_dot_less : normal (codes "chat.example.") ≡ Ok (codes "chat.example")
-unfolding idna
-one_dot_less = refl
-
-two_dots : normal (codes "chat.example..") ≡ Err BadDomain
-unfolding idna
-two_dots = refl
-
-dot_alone : normal (codes ".") ≡ Err BadDomain
-unfolding idna
-dot_alone = refl
-
 -- e and a combining acute accent are one character in normal form
 composes : normal (codes "b/e" ++ encode_utf8_all (0x301 ∷ [])) ≡ Ok (codes "b/" ++ encode_utf8_all (0xE9 ∷ []))
 unfolding idna
 composes = refl
-
-control : normal (codes "b/a" ++ 10 ∷ []) ≡ Err BadResource
-unfolding idna
-control = refl
 
 control_of_c1 : normal (codes "b/a" ++ encode_utf8_all (0x85 ∷ [])) ≡ Err BadResource
 unfolding idna
@@ -87,7 +47,3 @@ control_of_c1 = refl
 left_first : normal (codes "a b@_/") ≡ Err BadLocal
 unfolding idna
 left_first = refl
-
-domain_before_resource : normal (codes "a@_/") ≡ Err BadDomain
-unfolding idna
-domain_before_resource = refl

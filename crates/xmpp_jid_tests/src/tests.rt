@@ -1,7 +1,11 @@
-use super::*;
-use crate::JidFault::{BadDomain, BadLocal, BadResource, Empty, TooLong};
+//! Addresses: vectors from outside, each call that takes memory, and printed texts.
+use std::alloc::Global;
 use std::test::Fail;
-use xmpp_edge::Copied;
+use xmpp_edge::{Copied, Text};
+use xmpp_jid::JidFault::{BadDomain, BadLocal, BadResource, Empty, TooLong};
+use xmpp_jid::{
+    Jid, JidFault, domain_in_normal_form, local_in_normal_form, resource_in_normal_form,
+};
 
 // Texts and their normal forms. The first rows are those of RFC 7622 section 3.5; the ASCII forms of domains are
 // those of the Python package `idna`, and the forms NFC those of Python's `unicodedata`.
@@ -130,37 +134,46 @@ static REFUSED: [(&str, JidFault); 59] = [
     ("a@_/\x00", BadDomain),
 ];
 
+// Whether a text is an address whose normal form is `normal`.
+fn is_read(alloc: Global, text: &str, normal: &str) -> Result<bool, JidFault> {
+    let jid = Jid::parse(alloc, text)?;
+    Ok(jid.text() == normal)
+}
+
+// Why a text is no address, if it is none.
+fn fault_of(alloc: Global, text: &str) -> Option<JidFault> {
+    Jid::parse(alloc, text).err()
+}
+
 #[test]
-fn addresses(rt: HostRuntime) -> Result<(), Fail> {
+fn reads_addresses(rt: HostRuntime) -> Result<(), Fail> {
     for (text, normal) in &ACCEPTED {
-        let jid = Jid::parse(rt.alloc(), text)?;
-        assert_eq!(rt; jid.text(), *normal, "{text:?}");
-        let again = Jid::parse(rt.alloc(), jid.text())?;
-        assert_eq!(rt; again.text(), *normal, "{text:?}");
-    }
-    for (text, fault) in &REFUSED {
-        match Jid::parse(rt.alloc(), text) {
-            Ok(jid) => assert!(rt; false, "{text:?} is {}", jid.text()),
-            Err(e) => assert_eq!(rt; e, *fault, "{text:?}"),
-        }
+        assert!(rt; is_read(rt.alloc(), text, normal)?);
     }
     Ok(())
 }
 
+#[test]
+fn refuses_what_is_no_address(rt: HostRuntime) {
+    for (text, fault) in &REFUSED {
+        assert!(rt; fault_of(rt.alloc(), text) == Some(*fault));
+    }
+}
+
 // A text of `before`, a part so many times, and `after`.
 fn repeated(
-    rt: &HostRuntime,
+    alloc: Global,
     before: &str,
     part: &str,
     times: usize,
     after: &str,
-) -> Result<String, Fail> {
-    let mut text = String::from_str(rt.alloc(), before)?;
+) -> Result<Text, JidFault> {
+    let mut text = String::from_str(alloc, before)?;
     for _ in 0..times {
         text.push_str(part)?;
     }
     text.push_str(after)?;
-    Ok(text)
+    Ok(Text::from(text))
 }
 
 // Each side of the limit of 1,023 bytes, which is one of the normal form: a part, how often it stands, and what it
@@ -196,88 +209,74 @@ static LONG: [(&str, &str, usize, &str, JidFault); 12] = [
 ];
 
 #[test]
-fn limits(rt: HostRuntime) -> Result<(), Fail> {
+fn reads_the_longest_parts(rt: HostRuntime) -> Result<(), Fail> {
     for (before, part, times, after, form) in &LIMITS {
-        let text = repeated(&rt, before, part, *times, after)?;
-        let normal = repeated(&rt, before, form, *times, after)?;
-        let jid = Jid::parse(rt.alloc(), text.as_str())?;
-        assert_eq!(rt; jid.text(), normal.as_str());
+        let text = repeated(rt.alloc(), before, part, *times, after)?;
+        let normal = repeated(rt.alloc(), before, form, *times, after)?;
+        assert!(rt; is_read(rt.alloc(), text.as_str(), normal.as_str())?);
     }
     Ok(())
 }
 
 #[test]
-fn too_long(rt: HostRuntime) -> Result<(), Fail> {
+fn refuses_longer_parts(rt: HostRuntime) -> Result<(), Fail> {
     for (before, part, times, after, fault) in &LONG {
-        let text = repeated(&rt, before, part, *times, after)?;
-        match Jid::parse(rt.alloc(), text.as_str()) {
-            Ok(jid) => assert!(rt; false, "{} bytes", jid.text().len()),
-            Err(e) => assert_eq!(rt; e, *fault, "{} bytes", text.len()),
-        }
+        let text = repeated(rt.alloc(), before, part, *times, after)?;
+        assert!(rt; fault_of(rt.alloc(), text.as_str()) == Some(*fault));
     }
     Ok(())
 }
 
-// An address, its local part, domain, bare address and resource, and how it is printed for a reader.
-static PARTS: [(&str, Option<&str>, &str, &str, Option<&str>, &str); 4] = [
+// An address, its bare address with another resource, and how that is printed for a reader.
+static PRINTED_ADDRESSES: [(&str, &str, &str, &str); 2] = [
     (
-        "Alice@Chat.Example/Pad@home/1",
-        Some("alice"),
-        "chat.example",
-        "alice@chat.example",
-        Some("Pad@home/1"),
-        "\"alice@chat.example/Pad@home/1\"",
+        "Alice@Chat.Example/Pad",
+        "e\u{301}/@",
+        "alice@chat.example/\u{E9}/@",
+        "\"alice@chat.example/\u{E9}/@\"",
     ),
     (
-        "alice@chat.example",
-        Some("alice"),
-        "chat.example",
-        "alice@chat.example",
-        None,
-        "\"alice@chat.example\"",
-    ),
-    (
-        "chat.example./\"",
-        None,
-        "chat.example",
-        "chat.example",
-        Some("\""),
+        "chat.example.",
+        "\"",
+        "chat.example/\"",
         "\"chat.example/\\\"\"",
     ),
-    ("b", None, "b", "b", None, "\"b\""),
 ];
 
+// The bare address of a text with a resource, copied and read from its text again.
+fn with_resource(alloc: Global, text: &str, resource: &str) -> Result<Jid, JidFault> {
+    let bare = Jid::parse(alloc, text)?.to_bare(alloc)?;
+    bare.with_resource(alloc, resource)
+}
+
+fn is_printed(alloc: Global, jid: &Jid, text: &str, debug: &str) -> Result<bool, JidFault> {
+    let shown = format!(in alloc; "{jid}")?;
+    let quoted = format!(in alloc; "{jid:?}")?;
+    Ok(shown.as_str() == text && quoted.as_str() == debug)
+}
+
 #[test]
-fn parts(rt: HostRuntime) -> Result<(), Fail> {
-    for (text, local, domain, bare, resource, printed) in &PARTS {
-        let jid = Jid::parse(rt.alloc(), text)?.copied(rt.alloc())?;
-        assert!(rt; jid.local() == *local && jid.domain() == *domain, "{text}");
-        assert!(rt;
-            jid.bare() == *bare && jid.resource() == *resource,
-            "{text}"
-        );
-        assert!(rt; jid.is_full() == resource.is_some(), "{text}");
-        let shown = format!(in rt.alloc(); "{jid:?}")?;
-        assert_eq!(rt; shown.as_str(), *printed);
-        let shown = format!(in rt.alloc(); "{jid}")?;
-        assert_eq!(rt; shown.as_str(), jid.text());
+fn prints_addresses(rt: HostRuntime) -> Result<(), Fail> {
+    for (text, resource, printed, debug) in &PRINTED_ADDRESSES {
+        let jid = with_resource(rt.alloc(), text, resource)?.copied(rt.alloc())?;
+        assert!(rt; is_printed(rt.alloc(), &jid, printed, debug)?);
     }
     Ok(())
 }
 
-// In the order of their bytes.
-static ORDERED: [&str; 6] = ["a@b", "a@b/C", "a@b/c", "a@bc", "ab", "b@b/c"];
+// Whether each part of an address has the form that it should have.
+fn are_forms(alloc: Global, given: [&str; 3], forms: [&str; 3]) -> Result<bool, JidFault> {
+    let local = local_in_normal_form(alloc, given[0])?;
+    let domain = domain_in_normal_form(alloc, given[1])?;
+    let resource = resource_in_normal_form(alloc, given[2])?;
+    Ok([local.as_str(), domain.as_str(), resource.as_str()] == forms)
+}
 
 #[test]
-fn order(rt: HostRuntime) -> Result<(), Fail> {
-    for (i, first) in ORDERED.iter().enumerate() {
-        let a = Jid::parse(rt.alloc(), first)?;
-        for (j, second) in ORDERED.iter().enumerate() {
-            let b = Jid::parse(rt.alloc(), second)?;
-            assert!(rt; (a < b) == (i < j) && (a == b) == (i == j), "{a} {b}");
-            assert!(rt; a.same_bare(&b) == (i == j || i < 3 && j < 3), "{a} {b}");
-        }
-    }
+fn brings_parts_into_normal_form(rt: HostRuntime) -> Result<(), Fail> {
+    let given = ["Alice", "B\u{DC}CHER.example.", "e\u{301}/@"];
+    let forms = ["alice", "xn--bcher-kva.example", "\u{E9}/@"];
+    assert!(rt; are_forms(rt.alloc(), given, forms)?);
     Ok(())
 }
 
@@ -293,11 +292,15 @@ static PRINTED: [(JidFault, &str); 6] = [
     (JidFault::NoMemory, "out of memory"),
 ];
 
+fn is_shown(alloc: Global, fault: JidFault, text: &str) -> Result<bool, JidFault> {
+    let shown = format!(in alloc; "{fault}")?;
+    Ok(shown.as_str() == text)
+}
+
 #[test]
-fn faults(rt: HostRuntime) -> Result<(), Fail> {
+fn prints_faults(rt: HostRuntime) -> Result<(), Fail> {
     for (fault, text) in &PRINTED {
-        let shown = format!(in rt.alloc(); "{fault}")?;
-        assert_eq!(rt; shown.as_str(), *text);
+        assert!(rt; is_shown(rt.alloc(), *fault, text)?);
     }
     Ok(())
 }
