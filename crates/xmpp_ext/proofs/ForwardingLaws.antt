@@ -2,14 +2,14 @@
 use Rattle.std.proofs.Common.{◌≡◌, ℕ, ◌≤◌, List, [], ◌∷◌, Option, Some, None, is_some, unwrap_or, Result, Ok, Err, refl, sym, ap, ◌∙◌, subst, min, codes, arith}
 use Rattle.std.specs.Result.{result_ok}
 use Rattle.xmpp_ext.proofs.CheckLemmas.{right_refused, right_value, same_value}
-use Rattle.xmpp_ext.proofs.StampJudged.{judged_ok}
-use Rattle.xmpp_ext.proofs.StampLaws.{written_read}
+use Rattle.xmpp_stamp.proofs.StampJudged.{judged_ok}
+use Rattle.xmpp_stamp.proofs.StampLaws.{written_read}
 use Rattle.xmpp_ext.specs.Bare.{bare}
 use Rattle.xmpp_ext.specs.Checks.{IsExactBy, first_wrong}
 use Rattle.xmpp_ext.specs.Forwarding.{Forwards, IsForwarded, WritesForwarded, delay_moment, delays, forward_checks, forwarded_checks, forwarded_elem, forwarding, is_forwarded, message_in, message_read, only_message, the_forwarded}
 use Rattle.xmpp_ext.specs.Moments.{IsStampOf, moment_in}
-use Rattle.xmpp_ext.specs.StampReading.{moment_of}
-use Rattle.xmpp_ext.specs.Stamps.{IsWritten}
+use Rattle.xmpp_stamp.specs.StampReading.{moment_of}
+use Rattle.xmpp_stamp.specs.Stamps.{IsWritten}
 use Rattle.xmpp_ext.specs.declared.fault.Field.TheVariants as field
 use Rattle.xmpp_ext.specs.declared.forwarding.Forwarded.{Forwarded}
 use Rattle.xmpp_framing.proofs.TidyLaws.{tidied_IsTree, tidied_nodes_stay, tidied_stays}

@@ -12,17 +12,9 @@ pub mod RequestLaws
 pub mod ResultLaws
 pub mod SaslLaws
 pub mod SmFailedLaws
-pub mod StampFacts
-pub mod StampJudged
-pub mod StampLaws
-pub mod StampOne
-pub mod StampShapes
-pub mod StampTexts
 pub mod StreamManagementLaws
 pub mod WhereLemmas
 mod Worked
 mod WorkedArchives
 mod WorkedPayloads
-mod WorkedStamps
 pub mod Written
-pub mod Years

@@ -16,7 +16,5 @@ pub mod Requests
 pub mod ResultSets
 pub mod Sasl
 pub mod Shapes
-pub mod StampReading
-pub mod Stamps
 pub mod StreamManagement
 pub mod Writing

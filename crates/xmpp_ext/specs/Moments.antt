@@ -2,8 +2,8 @@
 use Rattle.std.specs.Prelude.{ℕ, min, List, Option}
 use Rattle.std.specs.Option.{option_and_then}
 use Rattle.std.specs.Result.{result_ok}
-use Rattle.xmpp_ext.specs.StampReading.{moment_of}
-use Rattle.xmpp_ext.specs.Stamps.{IsWritten}
+use Rattle.xmpp_stamp.specs.StampReading.{moment_of}
+use Rattle.xmpp_stamp.specs.Stamps.{IsWritten}
 
 -- the moment that a text is the stamp of, where it is one from 1970 on
 abbrev pub moment_in : Option (List ℕ) → Option ℕ

@@ -29,10 +29,6 @@ mod result_sets;
 #[cfg(test)]
 mod row_trees;
 mod sasl;
-mod stamp_reading;
-#[cfg(test)]
-mod stamp_tests;
-mod stamp_writing;
 mod stream_management;
 #[cfg(test)]
 mod stream_management_tests;
@@ -51,15 +47,10 @@ pub use carbons::Carbon;
 pub use fault::{ExtFault, Field};
 pub use forwarding::Forwarded;
 pub use ids::{OriginId, StanzaId};
-pub use laws::{
-    only_stamps_are_read, payload_is_one, sasl_is_read, sasl_is_refused, stamp_is_read,
-    stamps_are_read,
-};
+pub use laws::{payload_is_one, sasl_is_read, sasl_is_refused};
 pub use payload_laws::{
     binding_is_exact, requests_are_exact, stanza_ids_are_exact, stream_management_is_exact,
 };
 pub use requests::{CarbonsSwitch, DiscoInfo, Ping, RosterGet, SessionSet};
 pub use sasl::{Abort, Auth, Challenge, Response, SaslFailure, Success};
-pub use stamp_reading::{StampFault, read_stamp};
-pub use stamp_writing::{LAST_MOMENT, stamp_text};
 pub use stream_management::{Ack, Enable, Enabled, Request, Resume, Resumed, SmFailed};

@@ -3,10 +3,9 @@ ghost use Rattle.std.specs.Prelude.{◌≡◌, IfOk};
 ghost use Rattle.std.specs.Option.{option_copied};
 ghost use Rattle.xmpp_ext.specs.Moments.{IsStampOf, moment_in};
 
-use crate::stamp_reading::read_stamp;
-use crate::stamp_writing::{LAST_MOMENT, stamp_text};
 use std::alloc::Global;
 use xmpp_edge::{NoMemory, Text};
+use xmpp_stamp::{LAST_MOMENT, read_stamp, stamp_text};
 
 /// The moment that a text is the stamp of, in milliseconds since 1970. `None` where the text is absent or `read_stamp`
 /// refuses it.

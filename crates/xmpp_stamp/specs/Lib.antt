@@ -1,0 +1,2 @@
+pub mod StampReading
+pub mod Stamps
