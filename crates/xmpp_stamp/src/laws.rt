@@ -2,6 +2,7 @@
 ghost use Rattle.std.specs.Prelude.{◌≡◌, ◌≤◌, ◌↔◌, ◌<ℤ◌, pos, ℕ, List};
 ghost use Rattle.xmpp_stamp.specs.declared.fault.StampFault.TheVariants.{BadStamp, BeforeEpoch};
 ghost use Rattle.xmpp_stamp.specs.StampReading.{moment_at, moment_of};
+ghost use Rattle.xmpp_stamp.specs.Dates.{stamp_at};
 ghost use Rattle.xmpp_stamp.specs.Stamps.{IsStamp, IsWritten, Parts, millis, moment, seconds};
 
 use crate::stamp_writing::LAST_MOMENT;
@@ -12,8 +13,9 @@ pub fn stamps_are_read()
     ensures { (text : List ℕ) (p : Parts) → IsStamp text p → moment_of text ≡ moment_at (seconds p) (millis p.digits) }
 {}
 
-/// A law: what is written for a moment is read as that moment, and a moment has one such text.
+/// A law: what is written for a moment is read as that moment, and a moment has one such text, which `stamp_at` tells.
 pub fn stamp_is_read()
+    ensures written { (ms : ℕ) → ms ≤ LAST_MOMENT → IsWritten ms (stamp_at ms) }
     ensures one { (ms : ℕ) (a b : List ℕ) → IsWritten ms a → IsWritten ms b → a ≡ b }
     ensures read { (ms : ℕ) (text : List ℕ) → ms ≤ LAST_MOMENT → IsWritten ms text → moment_of text ≡ Ok ms }
 {}

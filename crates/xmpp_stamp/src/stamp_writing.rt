@@ -1,6 +1,7 @@
 //! Time stamps are written (XEP-0082, section 3.2).
 ghost use Rattle.std.specs.Prelude.{◌≡◌, ◌+◌, ◌<◌, ◌≤◌, pos, ◌≤ℤ◌, IfOk};
 ghost use Rattle.jiff_core.specs.Date.{epoch_day};
+ghost use Rattle.xmpp_stamp.specs.Dates.{stamp_at};
 ghost use Rattle.xmpp_stamp.specs.Stamps.{IsWritten, stamp_of};
 
 use jiff_core::civil::Date;
@@ -100,7 +101,8 @@ fn stamp_bytes(ms: u64) -> [u8; 24]
 /// The stamp of a moment, which is given in milliseconds since 1970: `YYYY-MM-DDThh:mm:ss.mmmZ` (XEP-0082, section 3.2).
 pub fn stamp_text(alloc: Global, ms: u64) -> Result<Text, NoMemory>
     requires { ms ≤ LAST_MOMENT }
-    ensures { IfOk result (λ text. IsWritten ms text) }
+    ensures written { IfOk result (λ text. IsWritten ms text) }
+    ensures value { IfOk result (λ text. text ≡ stamp_at ms) }
 {
     match str::from_utf8(&stamp_bytes(ms)) {
         Ok(text) => Text::from_str(alloc, text),
