@@ -19,11 +19,11 @@ use Rattle.xmpp_ext.specs.declared.archive_query.MamQuery.{MamQuery}
 use Rattle.xmpp_ext.specs.declared.fault.ExtFault.{ExtFault}
 use Rattle.xmpp_ext.specs.declared.fault.ExtFault.TheVariants.{NotThis, Bad, NoMemory}
 use Rattle.xmpp_ext.specs.declared.fault.Field.TheVariants as field
-use Rattle.xmpp_framing.proofs.TidyReads.{text_of-text_node}
-use Rattle.xmpp_framing.specs.Attributes.{attribute}
-use Rattle.xmpp_framing.specs.Readers.{child_of, text_of}
-use Rattle.xmpp_framing.specs.Tidied.{text_node, tidied, tidied_nodes}
-use Rattle.xmpp_framing.specs.Trees.{Elem, element, no_nodes, child, joined}
+use Rattle.xmpp_trees.proofs.TidyReads.{text_of-text_node}
+use Rattle.xmpp_trees.specs.Attributes.{attribute}
+use Rattle.xmpp_trees.specs.Readers.{child_of, text_of}
+use Rattle.xmpp_trees.specs.Tidied.{text_node, tidied, tidied_nodes}
+use Rattle.xmpp_trees.specs.Trees.{Elem, element, no_nodes, child, joined}
 use Rattle.xmpp_pages.specs.declared.query.Place.{Place}
 use Rattle.xmpp_pages.specs.declared.query.Place.TheVariants.{First, After, Before, Last}
 use Rattle.xmpp_stanza.specs.Errors.{trees_where}

@@ -10,8 +10,8 @@ use Rattle.xmpp_ext.specs.declared.bind.BindRequest.{BindRequest}
 use Rattle.xmpp_ext.specs.declared.bind.BindResult.{BindResult}
 use Rattle.xmpp_ext.specs.declared.fault.Field.{Field}
 use Rattle.xmpp_ext.specs.declared.fault.Field.TheVariants.{Jid}
-use Rattle.xmpp_framing.specs.Tidied.{tidied}
-use Rattle.xmpp_framing.specs.Trees.{Elem, element}
+use Rattle.xmpp_trees.specs.Tidied.{tidied}
+use Rattle.xmpp_trees.specs.Trees.{Elem, element}
 use Rattle.xmpp_jid.specs.Normal.{normal}
 
 abbrev request_with : List ℕ → Elem

@@ -7,8 +7,8 @@ use Rattle.xmpp_ext.specs.Checks.{IsExactBy}
 use Rattle.xmpp_ext.specs.Forwarding.{Forwards, is_forwarded, the_forwarded}
 use Rattle.xmpp_ext.specs.Names.{carbons}
 use Rattle.xmpp_ext.specs.declared.carbons.Carbon.{Carbon}
-use Rattle.xmpp_framing.specs.Tidied.{tidied}
-use Rattle.xmpp_framing.specs.Trees.{Elem, IsTree, element, no_nodes, child}
+use Rattle.xmpp_trees.specs.Tidied.{tidied}
+use Rattle.xmpp_trees.specs.Trees.{Elem, IsTree, element, no_nodes, child}
 
 carbon_stays : (v : Carbon) (e : Elem) → WritesCarbon v e → tidied e ≡ e
 carbon_stays v e w = ap tidied w.shape ∙ ap (λ f. element carbons (carbon_name v.sent) [] (child f no_nodes)) (written_stays v.forwarded w.forwarded w.forwarded_is) ∙ sym w.shape

@@ -13,10 +13,10 @@ use Rattle.xmpp_ext.specs.Shapes.{attr_named, flag, number_below}
 use Rattle.xmpp_ext.specs.Writing.{flag_text}
 use Rattle.xmpp_ext.specs.declared.archive_answers.Fin.{Fin}
 use Rattle.xmpp_ext.specs.declared.fault.Field.TheVariants as field
-use Rattle.xmpp_framing.specs.Attributes.{attribute}
-use Rattle.xmpp_framing.specs.Tidied.{tidied}
-use Rattle.xmpp_framing.specs.Trees.{Elem, element, no_nodes, child, joined}
-use Rattle.xmpp_framing.proofs.TidyReads.{text_of-text_node}
+use Rattle.xmpp_trees.specs.Attributes.{attribute}
+use Rattle.xmpp_trees.specs.Tidied.{tidied}
+use Rattle.xmpp_trees.specs.Trees.{Elem, element, no_nodes, child, joined}
+use Rattle.xmpp_trees.proofs.TidyReads.{text_of-text_node}
 use Rattle.xmpp_stanza.specs.Errors.{trees_where}
 use Rattle.xmpp_stanza.specs.Written.{attr_where}
 

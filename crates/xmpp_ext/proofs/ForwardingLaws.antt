@@ -12,11 +12,11 @@ use Rattle.xmpp_stamp.specs.StampReading.{moment_of}
 use Rattle.xmpp_stamp.specs.Stamps.{IsWritten}
 use Rattle.xmpp_ext.specs.declared.fault.Field.TheVariants as field
 use Rattle.xmpp_ext.specs.declared.forwarding.Forwarded.{Forwarded}
-use Rattle.xmpp_framing.proofs.TidyLaws.{tidied_IsTree, tidied_nodes_stay, tidied_stays}
-use Rattle.xmpp_framing.proofs.TidyReads.{child_of_IsTree, nodes_of_tree}
-use Rattle.xmpp_framing.specs.Readers.{child_of}
-use Rattle.xmpp_framing.specs.Tidied.{tidied}
-use Rattle.xmpp_framing.specs.Trees.{AreTidy, Elem, IsTree}
+use Rattle.xmpp_trees.proofs.TidyLaws.{tidied_IsTree, tidied_nodes_stay, tidied_stays}
+use Rattle.xmpp_trees.proofs.TidyReads.{child_of_IsTree, nodes_of_tree}
+use Rattle.xmpp_trees.specs.Readers.{child_of}
+use Rattle.xmpp_trees.specs.Tidied.{tidied}
+use Rattle.xmpp_trees.specs.Trees.{AreTidy, Elem, IsTree}
 use Rattle.xmpp_stanza.proofs.ReadingLaws.{message_law}
 use Rattle.xmpp_stanza.specs.Names.{client_ns}
 use Rattle.xmpp_stanza.specs.Readings.{stanza_of}

@@ -7,7 +7,7 @@ use Rattle.xmpp_ext.specs.declared.fault.Field.{Field}
 use Rattle.xmpp_ext.specs.declared.fault.Field.TheVariants.{Id, Jid}
 use Rattle.xmpp_ext.specs.declared.ids.OriginId.{OriginId}
 use Rattle.xmpp_ext.specs.declared.ids.StanzaId.{StanzaId}
-use Rattle.xmpp_framing.specs.Trees.{Elem}
+use Rattle.xmpp_trees.specs.Trees.{Elem}
 
 stanza_id_right : (e : Elem) (v : StanzaId) (f : Field) → IsStanzaId e v → StanzaIdLacks e f → ⊥
 stanza_id_right e v Id is lacks = let both = sym is.id ∙ lacks in cc both

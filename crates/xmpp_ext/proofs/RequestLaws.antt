@@ -7,8 +7,8 @@ use Rattle.xmpp_ext.specs.Names.{carbons}
 use Rattle.xmpp_ext.specs.Requests.{IsCarbonsSwitch, carbons_switch_elem, is_switch, switch_name}
 use Rattle.xmpp_ext.specs.declared.fault.ExtFault.{ExtFault}
 use Rattle.xmpp_ext.specs.declared.fault.ExtFault.TheVariants.{NoMemory}
-use Rattle.xmpp_framing.specs.Readers.{is_named}
-use Rattle.xmpp_framing.specs.Trees.{Elem, name_of}
+use Rattle.xmpp_trees.specs.Readers.{is_named}
+use Rattle.xmpp_trees.specs.Trees.{Elem, name_of}
 use Rattle.xmpp_stanza.proofs.KindLemmas.{equal_bytes, same_bytes}
 
 pub bare_refused : (ns name : List ℕ) (e : Elem) (fault : ExtFault) → is_named ns name e ≡ true → IsFault (is_named ns name e) LacksNothing fault → fault ≡ NoMemory

@@ -12,9 +12,9 @@ use Rattle.xmpp_ext.specs.declared.archive_answers.MamResult.{MamResult}
 use Rattle.xmpp_ext.specs.declared.fault.ExtFault.{ExtFault}
 use Rattle.xmpp_ext.specs.declared.fault.ExtFault.TheVariants.{NotThis, Bad, NoMemory}
 use Rattle.xmpp_ext.specs.declared.fault.Field.TheVariants as field
-use Rattle.xmpp_framing.specs.Attributes.{attribute, sorted_attributes}
-use Rattle.xmpp_framing.specs.Tidied.{tidied}
-use Rattle.xmpp_framing.specs.Trees.{Elem, IsTree, element, no_nodes, child}
+use Rattle.xmpp_trees.specs.Attributes.{attribute, sorted_attributes}
+use Rattle.xmpp_trees.specs.Tidied.{tidied}
+use Rattle.xmpp_trees.specs.Trees.{Elem, IsTree, element, no_nodes, child}
 use Rattle.xmpp_stanza.specs.Written.{attr_where, unless_empty}
 
 attrs_stay : (queryid id : List ℕ) → sorted_attributes (attribute [] (codes "id") id ∷ attr_where [] (codes "queryid") (unless_empty queryid)) ≡ attribute [] (codes "id") id ∷ attr_where [] (codes "queryid") (unless_empty queryid)

@@ -6,7 +6,7 @@ use Rattle.xmpp_ext.specs.declared.fault.ExtFault.{ExtFault}
 use Rattle.xmpp_ext.specs.declared.fault.ExtFault.TheVariants.{NotThis, Bad, NoMemory}
 use Rattle.xmpp_ext.specs.declared.fault.Field.{Field}
 use Rattle.xmpp_ext.specs.declared.fault.Field.TheVariants.{Mechanism, Payload}
-use Rattle.xmpp_framing.specs.Trees.{Elem}
+use Rattle.xmpp_trees.specs.Trees.{Elem}
 
 auth_lacks_none : (e : Elem) (m p : List ℕ) (field : Field) → IsAuth e m p → AuthLacks e field → ⊥
 auth_lacks_none e m p Mechanism is lacks = let both = sym lacks ∙ is.chosen in cc both

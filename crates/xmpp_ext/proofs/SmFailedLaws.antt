@@ -9,8 +9,8 @@ use Rattle.xmpp_ext.specs.StreamManagement.{IsSmFailed, SmFailedLacks, failed_co
 use Rattle.xmpp_ext.specs.declared.fault.Field.{Field}
 use Rattle.xmpp_ext.specs.declared.fault.Field.TheVariants.{Condition}
 use Rattle.xmpp_ext.specs.declared.stream_management.SmFailed.{SmFailed}
-use Rattle.xmpp_framing.specs.Readers.{elements_of}
-use Rattle.xmpp_framing.specs.Trees.{Elem, name_of, namespace_of, nodes_of}
+use Rattle.xmpp_trees.specs.Readers.{elements_of}
+use Rattle.xmpp_trees.specs.Trees.{Elem, name_of, namespace_of, nodes_of}
 use Rattle.xmpp_stanza.proofs.ErrorLaws.{name_again, named_is_plain, plain_same}
 use Rattle.xmpp_stanza.specs.Conditions.{condition_name, condition_named, is_condition}
 use Rattle.xmpp_stanza.specs.declared.conditions.Condition.{Condition as StanzaCondition}

@@ -14,8 +14,8 @@ use Rattle.xmpp_ext.specs.declared.fault.Field.TheVariants.{H, Previd, Max}
 use Rattle.xmpp_ext.specs.declared.stream_management.Ack.{Ack}
 use Rattle.xmpp_ext.specs.declared.stream_management.Enable.{Enable}
 use Rattle.xmpp_ext.specs.declared.stream_management.Enabled.{Enabled}
-use Rattle.xmpp_framing.specs.Tidied.{tidied}
-use Rattle.xmpp_framing.specs.Trees.{Elem, element, no_nodes}
+use Rattle.xmpp_trees.specs.Tidied.{tidied}
+use Rattle.xmpp_trees.specs.Trees.{Elem, element, no_nodes}
 use Rattle.xmpp_stanza.specs.Written.{attr_where, unless_empty}
 
 flag_again : (b : Bool) → flag (flag_text b) ≡ b

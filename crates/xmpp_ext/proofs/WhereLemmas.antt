@@ -1,9 +1,9 @@
 -- Children and attributes that are there or not.
 use Rattle.std.proofs.Common.{◌≡◌, List, [], ◌++◌, ℕ, Option, Some, None, option_map, refl, sym, ap, ◌∙◌}
-use Rattle.xmpp_framing.proofs.Folds.{joined_assoc, joined_none}
-use Rattle.xmpp_framing.specs.Attributes.{sorted_attributes}
-use Rattle.xmpp_framing.specs.Tidied.{text_node, tidied, tidied_behind, tidied_nodes}
-use Rattle.xmpp_framing.specs.Trees.{Elem, element, Nodes, no_nodes, child, text, joined, with_nodes}
+use Rattle.xmpp_trees.proofs.Folds.{joined_assoc, joined_none}
+use Rattle.xmpp_trees.specs.Attributes.{sorted_attributes}
+use Rattle.xmpp_trees.specs.Tidied.{text_node, tidied, tidied_behind, tidied_nodes}
+use Rattle.xmpp_trees.specs.Trees.{Elem, element, Nodes, no_nodes, child, text, joined, with_nodes}
 use Rattle.xmpp_stanza.specs.Errors.{trees_where}
 use Rattle.xmpp_stanza.specs.Written.{attr_where}
 

@@ -3,8 +3,8 @@ use Rattle.std.proofs.Common.{◌≡◌, ℕ, false, List, [], ◌∷◌, codes,
 use Rattle.base64.proofs.OnLiterals.{base64_on_literals}
 use Rattle.xmpp_ext.specs.Payloads.{IsPayload, base64_of}
 use Rattle.xmpp_ext.specs.Sasl.{auth_of, carrier, failure_of, is_sasl, mechanism_of, sasl}
-use Rattle.xmpp_framing.specs.Attributes.{attribute}
-use Rattle.xmpp_framing.specs.Trees.{Elem, element, Nodes, no_nodes, child, text, nodes_of}
+use Rattle.xmpp_trees.specs.Attributes.{attribute}
+use Rattle.xmpp_trees.specs.Trees.{Elem, element, Nodes, no_nodes, child, text, nodes_of}
 use Rattle.xmpp_stanza.specs.Conditions.{condition_in}
 
 abbrev named : List ℕ → Nodes → Elem

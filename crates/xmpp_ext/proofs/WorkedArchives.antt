@@ -12,8 +12,8 @@ use Rattle.xmpp_ext.specs.Forwarding.{forwarded_checks, forwarding}
 use Rattle.xmpp_ext.specs.Names.{carbons}
 use Rattle.xmpp_ext.specs.ResultSets.{set_item, set_text}
 use Rattle.xmpp_ext.specs.declared.fault.Field.TheVariants as field
-use Rattle.xmpp_framing.specs.Attributes.{attribute}
-use Rattle.xmpp_framing.specs.Trees.{Elem, element, Nodes, no_nodes, child, text}
+use Rattle.xmpp_trees.specs.Attributes.{attribute}
+use Rattle.xmpp_trees.specs.Trees.{Elem, element, Nodes, no_nodes, child, text}
 use Rattle.xmpp_pages.specs.declared.query.Place.TheVariants.{First, After, Before, Last}
 
 abbrev query : Nodes → Elem

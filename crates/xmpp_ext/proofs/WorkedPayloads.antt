@@ -7,8 +7,8 @@ use Rattle.xmpp_ext.specs.Names.{binding, management}
 use Rattle.xmpp_ext.specs.Requests.{is_switch}
 use Rattle.xmpp_ext.specs.Shapes.{attr_named, child_text, child_text_or_empty, flag, number_below, optional_number, required_number}
 use Rattle.xmpp_ext.specs.StreamManagement.{count_of, enable_elem, enabled_elem, failed_condition, is_management}
-use Rattle.xmpp_framing.specs.Attributes.{attribute}
-use Rattle.xmpp_framing.specs.Trees.{element, Nodes, no_nodes, child, text}
+use Rattle.xmpp_trees.specs.Attributes.{attribute}
+use Rattle.xmpp_trees.specs.Trees.{element, Nodes, no_nodes, child, text}
 use Rattle.xmpp_stanza.specs.Names.{stanza_errors_ns}
 
 -- booleans

@@ -1,9 +1,9 @@
 -- What is written keeps the rule of a tree.
 use Rattle.std.proofs.Common.{◌≡◌, ℕ, List, [], ◌∷◌, length, refl, sym, ap, arith}
 use Rattle.xmpp_ext.specs.Writing.{text_child_where}
-use Rattle.xmpp_framing.proofs.Folds.{joined_none}
-use Rattle.xmpp_framing.specs.Tidied.{text_node, tidied_behind}
-use Rattle.xmpp_framing.specs.Trees.{Elem, element, no_nodes, with_nodes}
+use Rattle.xmpp_trees.proofs.Folds.{joined_none}
+use Rattle.xmpp_trees.specs.Tidied.{text_node, tidied_behind}
+use Rattle.xmpp_trees.specs.Trees.{Elem, element, no_nodes, with_nodes}
 
 pub behind_text : (t : List ℕ) → tidied_behind [] (text_node t) ≡ text_node t
 behind_text [] = refl

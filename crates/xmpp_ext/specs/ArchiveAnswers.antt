@@ -11,10 +11,10 @@ use Rattle.xmpp_ext.specs.Writing.{flag_text}
 use Rattle.xmpp_ext.specs.declared.archive_answers.Fin.{Fin}
 use Rattle.xmpp_ext.specs.declared.archive_answers.MamResult.{MamResult}
 use Rattle.xmpp_ext.specs.declared.fault.Field.TheVariants as field
-use Rattle.xmpp_framing.specs.Attributes.{attribute}
-use Rattle.xmpp_framing.specs.Readers.{is_named}
-use Rattle.xmpp_framing.specs.Tidied.{text_node}
-use Rattle.xmpp_framing.specs.Trees.{Elem, element, Nodes, no_nodes, child, joined}
+use Rattle.xmpp_trees.specs.Attributes.{attribute}
+use Rattle.xmpp_trees.specs.Readers.{is_named}
+use Rattle.xmpp_trees.specs.Tidied.{text_node}
+use Rattle.xmpp_trees.specs.Trees.{Elem, element, Nodes, no_nodes, child, joined}
 use Rattle.xmpp_stanza.specs.Errors.{trees_where}
 use Rattle.xmpp_stanza.specs.Written.{attr_where, unless_empty}
 

@@ -12,9 +12,9 @@ use Rattle.xmpp_ext.specs.ResultSets.{set_child, set_item, set_item_where, set_t
 use Rattle.xmpp_ext.specs.Shapes.{attr_or_empty, optional_number}
 use Rattle.xmpp_ext.specs.declared.archive_query.MamQuery.{MamQuery}
 use Rattle.xmpp_ext.specs.declared.fault.Field.TheVariants as field
-use Rattle.xmpp_framing.specs.Attributes.{attribute}
-use Rattle.xmpp_framing.specs.Readers.{elements_of, is_named}
-use Rattle.xmpp_framing.specs.Trees.{Elem, element, Nodes, no_nodes, child, joined, nodes_of}
+use Rattle.xmpp_trees.specs.Attributes.{attribute}
+use Rattle.xmpp_trees.specs.Readers.{elements_of, is_named}
+use Rattle.xmpp_trees.specs.Trees.{Elem, element, Nodes, no_nodes, child, joined, nodes_of}
 use Rattle.xmpp_jid.specs.Normal.{normal}
 use Rattle.xmpp_pages.specs.declared.query.PageQuery.{PageQuery}
 use Rattle.xmpp_pages.specs.declared.query.Place.{Place}

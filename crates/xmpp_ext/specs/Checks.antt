@@ -4,7 +4,7 @@ use Rattle.xmpp_ext.specs.Faults.{IsFault}
 use Rattle.xmpp_ext.specs.declared.fault.ExtFault.{ExtFault}
 use Rattle.xmpp_ext.specs.declared.fault.ExtFault.TheVariants.{NoMemory}
 use Rattle.xmpp_ext.specs.declared.fault.Field.{Field}
-use Rattle.xmpp_framing.specs.Trees.{Elem, IsTree}
+use Rattle.xmpp_trees.specs.Trees.{Elem, IsTree}
 
 -- whether a field is right, and which field it is
 abbrev pub Check : Type 0

@@ -5,9 +5,9 @@ use Rattle.std.specs.Str.{bytes_eq}
 use Rattle.xmpp_ext.specs.ArchiveNames.{data_forms}
 use Rattle.xmpp_ext.specs.Shapes.{attr_named, child_text_or_empty}
 use Rattle.xmpp_ext.specs.Writing.{text_child}
-use Rattle.xmpp_framing.specs.Attributes.{attribute}
-use Rattle.xmpp_framing.specs.Readers.{child_of, elements_of, is_named}
-use Rattle.xmpp_framing.specs.Trees.{Elem, element, nodes_of}
+use Rattle.xmpp_trees.specs.Attributes.{attribute}
+use Rattle.xmpp_trees.specs.Readers.{child_of, elements_of, is_named}
+use Rattle.xmpp_trees.specs.Trees.{Elem, element, nodes_of}
 
 -- a text is there, and is this one
 abbrev pub is_given : List ℕ → Option (List ℕ) → Bool

@@ -3,7 +3,7 @@ use Rattle.std.specs.Prelude.{◌≡◌, Bool, true, false}
 use Rattle.xmpp_ext.specs.declared.fault.ExtFault.{ExtFault}
 use Rattle.xmpp_ext.specs.declared.fault.ExtFault.TheVariants.{NotThis, Bad, NoMemory}
 use Rattle.xmpp_ext.specs.declared.fault.Field.{Field}
-use Rattle.xmpp_framing.specs.Trees.{Elem}
+use Rattle.xmpp_trees.specs.Trees.{Elem}
 
 -- `NotThis` where the element isn't this one; of this one the field that is wrong, and none is wrong before it; want of
 -- memory is free

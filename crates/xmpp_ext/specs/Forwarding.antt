@@ -7,10 +7,10 @@ use Rattle.xmpp_ext.specs.Moments.{IsStampOf, moment_in}
 use Rattle.xmpp_ext.specs.Shapes.{attr_named}
 use Rattle.xmpp_ext.specs.declared.fault.Field.TheVariants as field
 use Rattle.xmpp_ext.specs.declared.forwarding.Forwarded.{Forwarded}
-use Rattle.xmpp_framing.specs.Attributes.{attribute}
-use Rattle.xmpp_framing.specs.Readers.{child_of, is_named}
-use Rattle.xmpp_framing.specs.Tidied.{tidied, tidied_nodes}
-use Rattle.xmpp_framing.specs.Trees.{Elem, element, no_nodes, child}
+use Rattle.xmpp_trees.specs.Attributes.{attribute}
+use Rattle.xmpp_trees.specs.Readers.{child_of, is_named}
+use Rattle.xmpp_trees.specs.Tidied.{tidied, tidied_nodes}
+use Rattle.xmpp_trees.specs.Trees.{Elem, element, no_nodes, child}
 use Rattle.xmpp_stanza.specs.Names.{client_ns}
 use Rattle.xmpp_stanza.specs.Readings.{stanza_of}
 use Rattle.xmpp_stanza.specs.Views.{MessageView}

@@ -3,8 +3,8 @@ use Rattle.std.specs.Prelude.{◌≡◌, ℕ, Bool, true, false, ◌||◌, List,
 use Rattle.xmpp_ext.specs.Bare.{bare}
 use Rattle.xmpp_ext.specs.Names.{carbons}
 use Rattle.xmpp_ext.specs.declared.requests.CarbonsSwitch.{CarbonsSwitch}
-use Rattle.xmpp_framing.specs.Readers.{is_named}
-use Rattle.xmpp_framing.specs.Trees.{Elem}
+use Rattle.xmpp_trees.specs.Readers.{is_named}
+use Rattle.xmpp_trees.specs.Trees.{Elem}
 
 -- `enable` switches carbons on, `disable` off
 abbrev pub switch_name : Bool → List ℕ

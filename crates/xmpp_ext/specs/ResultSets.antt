@@ -2,9 +2,9 @@
 use Rattle.std.specs.Prelude.{ℕ, List, [], Option, codes}
 use Rattle.std.specs.Option.{option_and_then, option_map}
 use Rattle.xmpp_ext.specs.ArchiveNames.{result_sets}
-use Rattle.xmpp_framing.specs.Readers.{child_of, text_of}
-use Rattle.xmpp_framing.specs.Tidied.{text_node}
-use Rattle.xmpp_framing.specs.Trees.{Elem, element, nodes_of}
+use Rattle.xmpp_trees.specs.Readers.{child_of, text_of}
+use Rattle.xmpp_trees.specs.Tidied.{text_node}
+use Rattle.xmpp_trees.specs.Trees.{Elem, element, nodes_of}
 
 -- the first child of this name in the set
 abbrev pub set_child : List ℕ → Elem → Option Elem

@@ -3,10 +3,10 @@ use Rattle.std.specs.Prelude.{◌≡◌, ℕ, Bool, true, List, [], ◌∷◌, O
 use Rattle.xmpp_ext.specs.Payloads.{HasNoPayload, IsPayload, base64_of}
 use Rattle.xmpp_ext.specs.declared.fault.Field.{Field}
 use Rattle.xmpp_ext.specs.declared.fault.Field.TheVariants.{Mechanism, Payload, Condition}
-use Rattle.xmpp_framing.specs.Attributes.{attribute}
-use Rattle.xmpp_framing.specs.Readers.{attr_of, is_named, text_of}
-use Rattle.xmpp_framing.specs.Tidied.{text_node}
-use Rattle.xmpp_framing.specs.Trees.{Elem, element, no_nodes, child, nodes_of}
+use Rattle.xmpp_trees.specs.Attributes.{attribute}
+use Rattle.xmpp_trees.specs.Readers.{attr_of, is_named, text_of}
+use Rattle.xmpp_trees.specs.Tidied.{text_node}
+use Rattle.xmpp_trees.specs.Trees.{Elem, element, no_nodes, child, nodes_of}
 use Rattle.xmpp_stanza.specs.Conditions.{condition_in}
 
 -- the namespace of SASL's elements

@@ -3,8 +3,8 @@ use Rattle.std.specs.Prelude.{ℕ, nat_lt, Bool, false, ◌&&◌, ◌||◌, List
 use Rattle.std.specs.Option.{option_and_then, option_map}
 use Rattle.std.specs.Str.{all_ascii_digits, bytes_eq}
 use Rattle.std.specs.Str.Parse.{digits_value}
-use Rattle.xmpp_framing.specs.Readers.{attr_of, child_of, text_of}
-use Rattle.xmpp_framing.specs.Trees.{Elem, nodes_of}
+use Rattle.xmpp_trees.specs.Readers.{attr_of, child_of, text_of}
+use Rattle.xmpp_trees.specs.Trees.{Elem, nodes_of}
 
 -- The true spellings of a boolean (XML Schema Part 2, section 3.2.2.1).
 abbrev pub is_true : List ℕ → Bool

@@ -13,9 +13,9 @@ use Rattle.xmpp_ext.specs.declared.stream_management.Enabled.{Enabled}
 use Rattle.xmpp_ext.specs.declared.stream_management.Resume.{Resume}
 use Rattle.xmpp_ext.specs.declared.stream_management.Resumed.{Resumed}
 use Rattle.xmpp_ext.specs.declared.stream_management.SmFailed.{SmFailed}
-use Rattle.xmpp_framing.specs.Attributes.{attribute}
-use Rattle.xmpp_framing.specs.Readers.{is_named}
-use Rattle.xmpp_framing.specs.Trees.{Elem, element, no_nodes, child, nodes_of}
+use Rattle.xmpp_trees.specs.Attributes.{attribute}
+use Rattle.xmpp_trees.specs.Readers.{is_named}
+use Rattle.xmpp_trees.specs.Trees.{Elem, element, no_nodes, child, nodes_of}
 use Rattle.xmpp_stanza.specs.Conditions.{IsPlain, condition_in, condition_name}
 use Rattle.xmpp_stanza.specs.Names.{stanza_errors_ns}
 use Rattle.xmpp_stanza.specs.Written.{attr_where, unless_empty}

@@ -1,8 +1,8 @@
 -- What the writers of payloads have in common.
 use Rattle.std.specs.Prelude.{ℕ, Bool, true, false, List, [], ◌∷◌, ◌++◌, Option, Some, None, codes}
-use Rattle.xmpp_framing.specs.Attributes.{Attribute}
-use Rattle.xmpp_framing.specs.Tidied.{text_node}
-use Rattle.xmpp_framing.specs.Trees.{Elem, element, Nodes, no_nodes, child}
+use Rattle.xmpp_trees.specs.Attributes.{Attribute}
+use Rattle.xmpp_trees.specs.Tidied.{text_node}
+use Rattle.xmpp_trees.specs.Trees.{Elem, element, Nodes, no_nodes, child}
 
 -- the element with attributes more, behind the others
 abbrev pub with_attributes : Elem → List Attribute → Elem

@@ -4,8 +4,8 @@ ghost use Rattle.std.specs.Option.{option_copied};
 ghost use Rattle.xmpp_ext.specs.ArchiveAnswers.{IsFin, IsMamResult, WritesMamResult, fin_checks, fin_elem, first_item_where, index_in, is_fin, is_result, number_or_zero, page_elem, result_checks};
 ghost use Rattle.xmpp_ext.specs.Checks.{IsFirstWrong};
 ghost use Rattle.xmpp_ext.specs.Faults.{IsFault};
-ghost use Rattle.xmpp_framing.specs.Trees.{with_nodes};
-ghost use Rattle.xmpp_framing.specs.Views.{elem_view};
+ghost use Rattle.xmpp_trees.specs.Trees.{with_nodes};
+ghost use Rattle.xmpp_trees.specs.Views.{elem_view};
 ghost use Rattle.xmpp_stanza.specs.Errors.{trees_where};
 
 use crate::archive_names::{ARCHIVE, RESULT_SETS};
@@ -18,7 +18,7 @@ use crate::writers::{
 };
 use std::alloc::Global;
 use xmpp_edge::{NoMemory, Text};
-use xmpp_framing::{Element, Tree};
+use xmpp_trees::{Element, Tree};
 
 /// The end of a page of an archive (XEP-0313, section 4.2; XEP-0059, section 2.1): whether nothing remains in the direction of
 /// paging, the ids of the page's first and last item, the place of the first among all that match, and how many match.

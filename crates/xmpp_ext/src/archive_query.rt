@@ -7,10 +7,10 @@ ghost use Rattle.xmpp_ext.specs.ArchiveQuery.{IsFiltered, IsLimited, IsMamQuery,
 ghost use Rattle.xmpp_ext.specs.Checks.{IsFirstWrong};
 ghost use Rattle.xmpp_ext.specs.DataForms.{field_value, form_of};
 ghost use Rattle.xmpp_ext.specs.Faults.{IsFault};
-ghost use Rattle.xmpp_framing.specs.Readers.{elements_of};
+ghost use Rattle.xmpp_trees.specs.Readers.{elements_of};
 ghost use Rattle.xmpp_ext.specs.ResultSets.{set_item_where};
-ghost use Rattle.xmpp_framing.specs.Trees.{with_nodes};
-ghost use Rattle.xmpp_framing.specs.Views.{elem_view, nodes_view};
+ghost use Rattle.xmpp_trees.specs.Trees.{with_nodes};
+ghost use Rattle.xmpp_trees.specs.Views.{elem_view, nodes_view};
 ghost use Rattle.xmpp_stanza.specs.Errors.{trees_where};
 ghost use Rattle.xmpp_stanza.specs.Written.{IsNormal};
 
@@ -25,9 +25,9 @@ use crate::result_sets::{set_child, set_element, set_text, text_where};
 use crate::writers::{push_text_child, push_unless_empty, push_value};
 use std::alloc::Global;
 use xmpp_edge::{NoMemory, Text};
-use xmpp_framing::{Element, Node, Tree};
 use xmpp_jid::{Jid, JidFault};
 use xmpp_pages::{PageQuery, Place};
+use xmpp_trees::{Element, Node, Tree};
 
 /// What an archive is asked for, and the id by which the answers name the query, which is empty where there is none
 /// (XEP-0313, sections 4.1 and 4.3). The address of the query is in normal form.

@@ -3,8 +3,8 @@ use crate::row_trees::{is_fault, put_attr, put_leaf};
 use crate::{ExtFault, Field, Fin, MamQuery};
 use std::alloc::Global;
 use xmpp_edge::{NoMemory, Text};
-use xmpp_framing::{Element, Tree};
 use xmpp_pages::Place;
+use xmpp_trees::{Element, Tree};
 
 const ARCHIVE: &str = "urn:xmpp:mam:2";
 

@@ -2,12 +2,12 @@
 ghost use Rattle.std.specs.Prelude.{◌≡◌, IfErr, IfOk, IsOk, OnOk, true};
 ghost use Rattle.xmpp_ext.specs.Bare.{bare};
 ghost use Rattle.xmpp_ext.specs.Faults.{IsFault, LacksNothing};
-ghost use Rattle.xmpp_framing.specs.Readers.{is_named};
+ghost use Rattle.xmpp_trees.specs.Readers.{is_named};
 
 use crate::fault::ExtFault;
 use std::alloc::Global;
 use xmpp_edge::NoMemory;
-use xmpp_framing::{Element, Tree};
+use xmpp_trees::{Element, Tree};
 
 /// Reads the element of this namespace and name, whatever it has and contains. `NotThis` where the tree is another
 /// element. It takes no memory.

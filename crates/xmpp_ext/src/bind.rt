@@ -2,7 +2,7 @@
 ghost use Rattle.std.specs.Prelude.{◌≡◌, Some, IfErr, IfOk, true};
 ghost use Rattle.xmpp_ext.specs.Bind.{BindResultLacks, IsBindRequest, IsBindResult, IsNoAddress, bind_request_elem, bind_result_elem, is_bind};
 ghost use Rattle.xmpp_ext.specs.Faults.{IsFault, LacksNothing};
-ghost use Rattle.xmpp_framing.specs.Views.{elem_view};
+ghost use Rattle.xmpp_trees.specs.Views.{elem_view};
 ghost use Rattle.xmpp_jid.specs.Normal.{normal};
 
 use crate::fault::{ExtFault, Field};
@@ -11,8 +11,8 @@ use crate::readers::{child_text, child_text_or_empty};
 use crate::writers::{push_text_child, push_text_child_where};
 use std::alloc::Global;
 use xmpp_edge::{NoMemory, Text};
-use xmpp_framing::{Element, Tree};
 use xmpp_jid::{Jid, JidFault};
+use xmpp_trees::{Element, Tree};
 
 /// A client's wish for a resource, which is empty where it leaves the choice to the server (RFC 6120, sections 7.6 and
 /// 7.7).

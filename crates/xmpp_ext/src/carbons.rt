@@ -3,14 +3,14 @@ ghost use Rattle.std.specs.Prelude.{◌≡◌, IfErr, IfOk};
 ghost use Rattle.xmpp_ext.specs.Carbons.{IsCarbon, WritesCarbon, carbon_checks, carbon_name, is_carbon};
 ghost use Rattle.xmpp_ext.specs.Checks.{IsFirstWrong};
 ghost use Rattle.xmpp_ext.specs.Faults.{IsFault};
-ghost use Rattle.xmpp_framing.specs.Views.{elem_view};
+ghost use Rattle.xmpp_trees.specs.Views.{elem_view};
 
 use crate::fault::ExtFault;
 use crate::forwarding::{Forwarded, forwarded_element, forwarded_inside};
 use crate::names::CARBONS;
 use std::alloc::Global;
 use xmpp_edge::NoMemory;
-use xmpp_framing::{Element, Tree};
+use xmpp_trees::{Element, Tree};
 
 /// A copy of a message that another of one's clients sent, or else received (XEP-0280, sections 7 and 8). The stamp of what
 /// came without a delay is 0.

@@ -2,9 +2,9 @@
 ghost use Rattle.std.specs.Prelude.{◌≡◌, find, IfOk, OnErr, OnOk};
 ghost use Rattle.std.specs.Option.{option_copied, option_map};
 ghost use Rattle.xmpp_ext.specs.DataForms.{field_elem, field_of, field_value, field_where, form_of, form_type_elem, has_var, is_field, is_field_of, value_in};
-ghost use Rattle.xmpp_framing.specs.Readers.{elements_of};
-ghost use Rattle.xmpp_framing.specs.Trees.{with_nodes};
-ghost use Rattle.xmpp_framing.specs.Views.{elem_view, nodes_view};
+ghost use Rattle.xmpp_trees.specs.Readers.{elements_of};
+ghost use Rattle.xmpp_trees.specs.Trees.{with_nodes};
+ghost use Rattle.xmpp_trees.specs.Views.{elem_view, nodes_view};
 ghost use Rattle.xmpp_stanza.specs.Errors.{trees_where};
 
 use crate::archive_names::DATA_FORMS;
@@ -12,7 +12,7 @@ use crate::readers::child_text_or_empty;
 use crate::writers::{push_text_child, push_value};
 use std::alloc::Global;
 use xmpp_edge::{NoMemory, Text};
-use xmpp_framing::{Element, Node};
+use xmpp_trees::{Element, Node};
 
 /// Whether an element is a field.
 pub(crate) fn is_field(element: &Element) -> bool

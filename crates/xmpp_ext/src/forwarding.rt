@@ -5,15 +5,15 @@ ghost use Rattle.xmpp_ext.specs.Bare.{bare};
 ghost use Rattle.xmpp_ext.specs.Checks.{IsFirstWrong, first_wrong};
 ghost use Rattle.xmpp_ext.specs.Faults.{IsFault};
 ghost use Rattle.xmpp_ext.specs.Forwarding.{Forwards, IsForwarded, WritesForwarded, delay_elem, delay_moment, forward_checks, forwarded_checks, forwarding, is_forwarded, message_read, the_forwarded};
-ghost use Rattle.xmpp_framing.specs.Views.{elem_view};
+ghost use Rattle.xmpp_trees.specs.Views.{elem_view};
 
 use crate::fault::{ExtFault, Field};
 use crate::moments::{moment_in, moment_text};
 use crate::writers::push_value;
 use std::alloc::Global;
 use xmpp_edge::NoMemory;
-use xmpp_framing::{Element, Tree};
 use xmpp_stanza::{CLIENT, Message, Stanza, StanzaFault, message_tree, read_stanza_element};
+use xmpp_trees::{Element, Tree};
 
 /// The namespace of forwarded stanzas (XEP-0297).
 pub(crate) const FORWARDING: &str = "urn:xmpp:forward:0";

@@ -3,7 +3,7 @@ use crate::row_trees::{is_fault, put_attr, put_leaf};
 use crate::{Carbon, ExtFault, Field, Forwarded, MamResult};
 use std::alloc::Global;
 use xmpp_edge::NoMemory;
-use xmpp_framing::{Element, Tree};
+use xmpp_trees::{Element, Tree};
 
 const FORWARDING: &str = "urn:xmpp:forward:0";
 

@@ -8,7 +8,7 @@ use crate::names::STANZA_IDS;
 use crate::writers::push_value;
 use std::alloc::Global;
 use xmpp_edge::{NoMemory, Text};
-use xmpp_framing::{Element, Tree};
+use xmpp_trees::{Element, Tree};
 
 /// The id that an archive or another entity gave to a stanza, and that entity's address as it is written (XEP-0359,
 /// section 3.1).

@@ -5,7 +5,7 @@ ghost use Rattle.xmpp_ext.specs.Payloads.{IsPayload, base64_of};
 ghost use Rattle.xmpp_ext.specs.Sasl.{AuthLacks, CarrierLacks, FailureLacks, IsAuth, IsCarrier, IsFailure, abort_of, auth_of, carrier, failure_of, is_sasl};
 ghost use Rattle.xmpp_ext.specs.declared.fault.ExtFault.{ExtFault};
 ghost use Rattle.xmpp_ext.specs.declared.fault.ExtFault.TheVariants.{NoMemory};
-ghost use Rattle.xmpp_framing.specs.Trees.{Elem};
+ghost use Rattle.xmpp_trees.specs.Trees.{Elem};
 
 /// A law: a text stands for the bytes of one payload at most, and the base64 of bytes for those bytes.
 pub fn payload_is_one()

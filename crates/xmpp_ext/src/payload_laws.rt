@@ -7,8 +7,8 @@ ghost use Rattle.xmpp_ext.specs.Requests.{IsCarbonsSwitch, carbons_switch_elem, 
 ghost use Rattle.xmpp_ext.specs.StreamManagement.{AckLacks, EnabledLacks, IsAck, IsEnable, IsEnabled, IsResume, IsResumed, IsSmFailed, ResumptionLacks, SmFailedLacks, ack_elem, enable_elem, enabled_elem, is_management, resume_elem, resumed_elem, sm_failed_elem};
 ghost use Rattle.xmpp_ext.specs.declared.fault.ExtFault.{ExtFault};
 ghost use Rattle.xmpp_ext.specs.declared.fault.ExtFault.TheVariants.{NoMemory};
-ghost use Rattle.xmpp_framing.specs.Readers.{is_named};
-ghost use Rattle.xmpp_framing.specs.Trees.{Elem};
+ghost use Rattle.xmpp_trees.specs.Readers.{is_named};
+ghost use Rattle.xmpp_trees.specs.Trees.{Elem};
 
 /// A law for each type of stream management: a tree stands for one value at most, and is refused for want of memory alone
 /// where it stands for one; one field at most is the first that is wrong; and what is written of a value that any tree

@@ -3,10 +3,10 @@ ghost use Rattle.std.specs.Option.{option_copied};
 ghost use Rattle.xmpp_ext.specs.Faults.{IsFault};
 ghost use Rattle.xmpp_ext.specs.Payloads.{HasNoPayload, IsPayload, base64_of};
 ghost use Rattle.xmpp_ext.specs.Sasl.{CarrierLacks, IsCarrier, carrier, is_sasl, sasl};
-ghost use Rattle.xmpp_framing.specs.Readers.{text_of};
-ghost use Rattle.xmpp_framing.specs.Tidied.{text_node};
-ghost use Rattle.xmpp_framing.specs.Trees.{element, nodes_of, no_nodes};
-ghost use Rattle.xmpp_framing.specs.Views.{elem_view};
+ghost use Rattle.xmpp_trees.specs.Readers.{text_of};
+ghost use Rattle.xmpp_trees.specs.Tidied.{text_node};
+ghost use Rattle.xmpp_trees.specs.Trees.{element, nodes_of, no_nodes};
+ghost use Rattle.xmpp_trees.specs.Views.{elem_view};
 ghost use Rattle.xmpp_stanza.specs.Conditions.{condition_in};
 
 use crate::fault::{ExtFault, Field};
@@ -14,8 +14,8 @@ use base64::DecodeAllocError;
 use base64::engine::general_purpose::STANDARD;
 use std::alloc::Global;
 use xmpp_edge::{Bytes, NoMemory, Text};
-use xmpp_framing::{Element, Tree};
 use xmpp_stanza::condition_in;
+use xmpp_trees::{Element, Tree};
 
 /// The namespace of SASL's elements (RFC 6120, section 6).
 pub(crate) const SASL: &str = "urn:ietf:params:xml:ns:xmpp-sasl";

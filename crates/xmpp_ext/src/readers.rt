@@ -2,12 +2,12 @@
 ghost use Rattle.std.specs.Prelude.{◌≡◌, ◌^◌, None, Some, IfErr, IfOk};
 ghost use Rattle.std.specs.Option.{option_copied};
 ghost use Rattle.xmpp_ext.specs.Shapes.{attr_or_empty, child_text, child_text_or_empty, flag, is_true, number_below, optional_number, required_number};
-ghost use Rattle.xmpp_framing.specs.Views.{elem_view};
+ghost use Rattle.xmpp_trees.specs.Views.{elem_view};
 
 use crate::fault::{ExtFault, Field};
 use std::alloc::Global;
 use xmpp_edge::{NoMemory, Text};
-use xmpp_framing::Element;
+use xmpp_trees::Element;
 
 // Whether a text is one of the two spellings of true.
 fn is_true(spelled: &str) -> bool

@@ -6,7 +6,7 @@ use crate::{
     SessionSet, StanzaId,
 };
 use std::alloc::Global;
-use xmpp_framing::Tree;
+use xmpp_trees::Tree;
 
 const BINDING: &str = "urn:ietf:params:xml:ns:xmpp-bind";
 

@@ -4,14 +4,14 @@ ghost use Rattle.xmpp_ext.specs.Bare.{bare};
 ghost use Rattle.xmpp_ext.specs.Faults.{IsFault, LacksNothing};
 ghost use Rattle.xmpp_ext.specs.Names.{disco_info, pings, roster, sessions};
 ghost use Rattle.xmpp_ext.specs.Requests.{IsCarbonsSwitch, carbons_switch_elem, is_switch};
-ghost use Rattle.xmpp_framing.specs.Readers.{is_named};
+ghost use Rattle.xmpp_trees.specs.Readers.{is_named};
 
 use crate::bare::{bare_tree, read_bare};
 use crate::fault::ExtFault;
 use crate::names::{CARBONS, DISCO_INFO, PINGS, ROSTER, SESSIONS};
 use std::alloc::Global;
 use xmpp_edge::NoMemory;
-use xmpp_framing::Tree;
+use xmpp_trees::Tree;
 
 /// A client's wish to get copies of the messages of its account's other sessions from now on, or no longer (XEP-0280,
 /// sections 4 and 5).

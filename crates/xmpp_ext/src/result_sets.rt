@@ -3,15 +3,15 @@ ghost use Rattle.std.specs.Prelude.{◌≡◌, [], IfOk, OnErr, OnOk, codes};
 ghost use Rattle.std.specs.Option.{option_copied, option_map};
 ghost use Rattle.xmpp_ext.specs.ArchiveNames.{result_sets};
 ghost use Rattle.xmpp_ext.specs.ResultSets.{set_child, set_item_where, set_text};
-ghost use Rattle.xmpp_framing.specs.Trees.{element, no_nodes, with_nodes};
-ghost use Rattle.xmpp_framing.specs.Views.{elem_view};
+ghost use Rattle.xmpp_trees.specs.Trees.{element, no_nodes, with_nodes};
+ghost use Rattle.xmpp_trees.specs.Views.{elem_view};
 ghost use Rattle.xmpp_stanza.specs.Errors.{trees_where};
 
 use crate::archive_names::RESULT_SETS;
 use crate::writers::push_text_child;
 use std::alloc::Global;
 use xmpp_edge::{NoMemory, Text};
-use xmpp_framing::Element;
+use xmpp_trees::Element;
 
 /// The first child of this name in the first `set` of an element. `None` where there is none.
 pub(crate) fn set_child<'a>(element: &'a Element, name: &str) -> Option<&'a Element>

@@ -2,7 +2,7 @@
 use crate::ExtFault;
 use std::alloc::Global;
 use xmpp_edge::{NoMemory, Text};
-use xmpp_framing::{Attr, Element, Tree};
+use xmpp_trees::{Attr, Element, Tree};
 
 // The name and the value of an attribute without a namespace.
 type RowAttr = (&'static str, &'static str);

@@ -8,7 +8,7 @@ use crate::payloads::{
 };
 use std::alloc::Global;
 use xmpp_edge::{Bytes, NoMemory, Text};
-use xmpp_framing::{Attr, Tree};
+use xmpp_trees::{Attr, Tree};
 
 /// How a client begins a negotiation: the mechanism, and the bytes that it sends with it (RFC 6120, section 6.4.2).
 #[derive(Drop)]

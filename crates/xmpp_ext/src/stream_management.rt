@@ -5,8 +5,8 @@ ghost use Rattle.xmpp_ext.specs.Bare.{bare};
 ghost use Rattle.xmpp_ext.specs.Faults.{IsFault, LacksNothing};
 ghost use Rattle.xmpp_ext.specs.Names.{management};
 ghost use Rattle.xmpp_ext.specs.StreamManagement.{AckLacks, EnabledLacks, IsAck, IsEnable, IsEnabled, IsResume, IsResumed, IsResumption, IsSmFailed, ResumptionLacks, SmFailedLacks, ack_elem, enable_elem, enabled_elem, failed_condition, is_management, resume_elem, resumed_elem, resumption, sm_failed_elem};
-ghost use Rattle.xmpp_framing.specs.Readers.{is_named};
-ghost use Rattle.xmpp_framing.specs.Views.{elem_view};
+ghost use Rattle.xmpp_trees.specs.Readers.{is_named};
+ghost use Rattle.xmpp_trees.specs.Views.{elem_view};
 
 use crate::bare::{bare_tree, read_bare};
 use crate::fault::{ExtFault, Field};
@@ -15,8 +15,8 @@ use crate::readers::{attr_text, flag, optional_u32, required_u32};
 use crate::writers::{push_flag, push_number, push_number_where, push_unless_empty, push_value};
 use std::alloc::Global;
 use xmpp_edge::{NoMemory, Text};
-use xmpp_framing::{Element, Tree};
 use xmpp_stanza::{Condition, STANZA_ERRORS, condition_in};
+use xmpp_trees::{Element, Tree};
 
 /// A client's wish to have its stanzas acknowledged, and whether it wants to resume the stream later (XEP-0198, section
 /// 3).

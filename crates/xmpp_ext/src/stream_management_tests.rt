@@ -2,7 +2,7 @@
 use crate::row_trees::{Row, is_fault, is_row, made};
 use crate::{Ack, Enable, Enabled, ExtFault, Field, Request, Resume, Resumed, SmFailed};
 use std::alloc::Global;
-use xmpp_framing::Tree;
+use xmpp_trees::Tree;
 
 const MANAGEMENT: &str = "urn:xmpp:sm:3";
 

@@ -2,7 +2,7 @@
 use crate::{Abort, Auth, Challenge, ExtFault, Field, Response, SaslFailure, Success};
 use std::alloc::Global;
 use xmpp_edge::{NoMemory, Text};
-use xmpp_framing::{Attr, Element, Tree};
+use xmpp_trees::{Attr, Element, Tree};
 
 const SASL: &str = "urn:ietf:params:xml:ns:xmpp-sasl";
 

@@ -3,15 +3,15 @@ ghost use Rattle.std.specs.Prelude.{◌≡◌, [], IfOk, OnErr, OnOk};
 ghost use Rattle.std.specs.Fmt.{decimal};
 ghost use Rattle.std.specs.Option.{option_copied, option_map};
 ghost use Rattle.xmpp_ext.specs.Writing.{flag_text, text_child, text_child_where, with_attributes};
-ghost use Rattle.xmpp_framing.specs.Attributes.{attribute};
-ghost use Rattle.xmpp_framing.specs.Tidied.{text_node};
-ghost use Rattle.xmpp_framing.specs.Trees.{element, with_attribute, with_nodes};
-ghost use Rattle.xmpp_framing.specs.Views.{elem_view};
+ghost use Rattle.xmpp_trees.specs.Attributes.{attribute};
+ghost use Rattle.xmpp_trees.specs.Tidied.{text_node};
+ghost use Rattle.xmpp_trees.specs.Trees.{element, with_attribute, with_nodes};
+ghost use Rattle.xmpp_trees.specs.Views.{elem_view};
 ghost use Rattle.xmpp_stanza.specs.Written.{attr_where, unless_empty};
 
 use std::alloc::Global;
 use xmpp_edge::{NoMemory, Text};
-use xmpp_framing::{Attr, Element};
+use xmpp_trees::{Attr, Element};
 
 /// Adds an attribute without a namespace behind the others. A refusal leaves the element as it was, as it does below.
 pub(crate) fn push_value(

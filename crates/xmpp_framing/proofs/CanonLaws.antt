@@ -17,13 +17,14 @@ use Rattle.xmpp_names.specs.Grammar.{IsElementIn, IsExpanded, IsStart}
 use Rattle.xmpp_names.specs.Names.{IsName}
 use Rattle.xmpp_names.specs.Scopes.{Scope, bound, first_bound}
 use Rattle.xmpp_names.specs.Starts.{Tag}
-use Rattle.xmpp_framing.specs.Attributes.{Attribute, attribute_of, found, name_order}
+use Rattle.xmpp_trees.specs.Attributes.{Attribute, found, name_order}
+use Rattle.xmpp_framing.specs.Expanded.{attribute_of}
 use Rattle.xmpp_framing.specs.Canon.{assignment, assignments, canon, client_namespace, declared_default, declares_default, default_inside, opened, spelled, spelled_attributes, spelled_name, streams_namespace, tag_attributes, written, written_end_tag, written_nodes}
 use Rattle.xmpp_framing.specs.Plain.{ArePlainNodes, HasPlainName, IsPlain, IsPlainElement}
 use Rattle.xmpp_framing.specs.Spells.{IsBegun, Spells, SpellsContent, SpellsTop, bind, empty, filled, text_alone, with_element, written_scope}
 use Rattle.xmpp_framing.specs.Texts.{IsText}
-use Rattle.xmpp_framing.specs.Tidied.{text_node}
-use Rattle.xmpp_framing.specs.Trees.{AreTidy, Elem, IsTree, Nodes, element, no_nodes, child, text, joined}
+use Rattle.xmpp_trees.specs.Tidied.{text_node}
+use Rattle.xmpp_trees.specs.Trees.{AreTidy, Elem, IsTree, Nodes, element, no_nodes, child, text, joined}
 use Rattle.xmpp_framing.proofs.SpelledAttributes.{Above, Apart, ArePlain, Fine, all_fine, all_may, all_said, binds_one, default_first, expanded, here_bound, is_no_other, name_differs, names_apart, outer_bound}
 use Rattle.xmpp_framing.proofs.SpelledNames.{differ, name_no_colon, name_qualified, numbered_prefix, prefixed_qualified, stream_plain, xmlns_plain}
 use Rattle.xmpp_framing.proofs.SpelledTexts.{no_text, text_spelled}

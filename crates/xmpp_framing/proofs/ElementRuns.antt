@@ -10,18 +10,18 @@ use Rattle.xmpp_names.specs.Scopes.{Scope}
 use Rattle.xmpp_names.specs.Starts.{Tag}
 use Rattle.xmpp_framing.proofs.ElementStates.{HasBegun, HasFront, HasNodes, IsCovered, IsWhole, begun_count, both_open, child_added, first_covered, leaf_is_whole, level_has_begun, longer_front, may_cover, more_and_more, opened, parts_run, rest_covered, room_front, room_rest, same_count, split_run, text_and_nodes, then_run}
 use Rattle.xmpp_framing.proofs.ElementTags.{MayBegin, begins, closes, leaf_begins, level_begins, near, reads_tag}
-use Rattle.xmpp_framing.proofs.Folds.{joined_assoc}
+use Rattle.xmpp_trees.proofs.Folds.{joined_assoc}
 use Rattle.xmpp_framing.proofs.Quiet.{HasInHand, HasRoom, HasSaid, IsFresh, IsQuiet}
 use Rattle.xmpp_framing.proofs.SpelledTrees.{begun_is}
 use Rattle.xmpp_framing.proofs.TagRuns.{DecidesLast, end_run, start_run}
 use Rattle.xmpp_framing.proofs.TextRuns.{text_run}
-use Rattle.xmpp_framing.proofs.TidyReads.{depth_below-text_node}
+use Rattle.xmpp_trees.proofs.TidyReads.{depth_below-text_node}
 use Rattle.xmpp_framing.specs.Machine.{behind_byte, passed, run}
 use Rattle.xmpp_framing.specs.Spells.{IsBegun, Spells, SpellsContent, empty, filled, text_alone, with_element}
 use Rattle.xmpp_framing.specs.States.{OpenElement, State, open_count, turn, with_more, with_text}
 use Rattle.xmpp_framing.specs.TagSteps.{added, begun, joined_text, level, outer_scopes, rest_of, first_of, scope_in, shallower, tag_closes, tag_limits}
-use Rattle.xmpp_framing.specs.Tidied.{text_node}
-use Rattle.xmpp_framing.specs.Trees.{Elem, Nodes, child, depth, depth_below, joined, name_of, namespace_of, no_nodes}
+use Rattle.xmpp_trees.specs.Tidied.{text_node}
+use Rattle.xmpp_trees.specs.Trees.{Elem, Nodes, child, depth, depth_below, joined, name_of, namespace_of, no_nodes}
 use Rattle.xmpp_framing.specs.Within.{AreTagsWithin, AreTagsWithinContent}
 use Rattle.xmpp_framing.specs.declared.items.Item.{Item}
 

@@ -5,15 +5,15 @@ use Rattle.std.specs.Option.{is_some}
 use Rattle.xmpp_tokens.specs.Utf8.{held_after, utf8_next}
 use Rattle.xmpp_names.specs.Starts.{Tag}
 use Rattle.xmpp_framing.proofs.ElementTags.{MayBegin}
-use Rattle.xmpp_framing.proofs.Folds.{joined_assoc}
+use Rattle.xmpp_trees.proofs.Folds.{joined_assoc}
 use Rattle.xmpp_framing.proofs.ItemsBefore.{run_grows}
 use Rattle.xmpp_framing.proofs.Pieces.{run_append}
 use Rattle.xmpp_framing.proofs.Quiet.{HasInHand, HasRoom, HasSaid, IsFresh}
 use Rattle.xmpp_framing.specs.Machine.{IsFrontOf, behind_byte, passed, run}
 use Rattle.xmpp_framing.specs.States.{OpenElement, State, Turn, open_count, token_ended, turn, with_more, with_text}
 use Rattle.xmpp_framing.specs.TagSteps.{added, added_to, covered, element_from, first_of, joined_text, level, rest_of, text_joined}
-use Rattle.xmpp_framing.specs.Tidied.{text_node}
-use Rattle.xmpp_framing.specs.Trees.{Elem, Nodes, child, element, joined, no_nodes, with_nodes}
+use Rattle.xmpp_trees.specs.Tidied.{text_node}
+use Rattle.xmpp_trees.specs.Trees.{Elem, Nodes, child, element, joined, no_nodes, with_nodes}
 use Rattle.xmpp_framing.specs.declared.items.Item.{Item}
 
 -- ---- runs and room

@@ -20,8 +20,8 @@ use Rattle.xmpp_framing.specs.Spells.{IsHeaderName, SpellsFooter, SpellsHeader, 
 use Rattle.xmpp_framing.specs.Standing.{Gives, IsItemWithin, StandsOutside, name_left, phase_left, scope_left}
 use Rattle.xmpp_framing.specs.States.{State, item_ended, open_count, turn}
 use Rattle.xmpp_framing.specs.TagSteps.{added, added_to, header_items, phase_behind, scope_in, tag_limits, text_joined}
-use Rattle.xmpp_framing.specs.Tidied.{tidied}
-use Rattle.xmpp_framing.specs.Trees.{Elem}
+use Rattle.xmpp_trees.specs.Tidied.{tidied}
+use Rattle.xmpp_trees.specs.Trees.{Elem}
 use Rattle.xmpp_framing.specs.Within.{IsElementWithin, IsHeadWithin, IsHeaderWithin, IsNextHeadWithin, IsNextHeaderWithin}
 use Rattle.xmpp_framing.specs.declared.items.Item.{Item}
 use Rattle.xmpp_framing.specs.declared.items.Item.TheVariants as item

@@ -1,15 +1,8 @@
-pub mod AttributeOrder
 pub mod CanonLaws
-pub mod Folds
 pub mod HeaderLaws
-pub mod RuleSteps
 pub mod SpelledAttributes
 pub mod SpelledNames
 pub mod SpelledTexts
-pub mod TidyLaws
-pub mod TidyReads
-pub mod TidySteps
-mod Worked
 mod WorkedRuns
 mod WorkedGrammar
 mod WorkedReadings

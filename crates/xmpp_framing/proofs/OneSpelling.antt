@@ -16,14 +16,14 @@ use Rattle.xmpp_names.specs.Starts.{Tag, start_of}
 use Rattle.xmpp_names.specs.declared.faults.StartFault.{StartFault}
 use Rattle.xmpp_names.specs.declared.headers.Header.{Header}
 use Rattle.xmpp_names.specs.declared.limits.TagLimits.{TagLimits}
-use Rattle.xmpp_framing.proofs.AttributeOrder.{one_IsAttrsOf}
-use Rattle.xmpp_framing.specs.Attributes.{attribute_of}
+use Rattle.xmpp_trees.proofs.AttributeOrder.{one_IsAttrsOf}
+use Rattle.xmpp_framing.specs.Expanded.{attribute_of}
 use Rattle.xmpp_framing.proofs.OneText.{one_text}
 use Rattle.xmpp_framing.proofs.TagEnds.{BeginsEnd, BeginsStart, end_begins, one_tag, start_begins, start_no_exclamation, start_no_slash}
 use Rattle.xmpp_framing.specs.Spells.{IsBegun, IsSameItem, Spells, SpellsContent, SpellsItem, SpellsNextHeader, SpellsTop, a_footer, a_header, an_element, empty, filled, placed, text_alone, with_element}
 use Rattle.xmpp_framing.specs.Texts.{IsText}
-use Rattle.xmpp_framing.specs.Tidied.{text_node}
-use Rattle.xmpp_framing.specs.Trees.{Elem, element, Nodes, no_nodes, child, joined, name_of, namespace_of}
+use Rattle.xmpp_trees.specs.Tidied.{text_node}
+use Rattle.xmpp_trees.specs.Trees.{Elem, element, Nodes, no_nodes, child, joined, name_of, namespace_of}
 use Rattle.xmpp_framing.specs.declared.items.Item.{Item}
 use Rattle.xmpp_framing.specs.declared.items.Item.TheVariants as item
 

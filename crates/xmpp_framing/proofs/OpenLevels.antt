@@ -5,15 +5,16 @@ use Rattle.xmpp_tokens.specs.Tags.{IsTag, end_tag}
 use Rattle.xmpp_names.specs.Grammar.{IsStart}
 use Rattle.xmpp_names.specs.Scopes.{Scope}
 use Rattle.xmpp_names.specs.Starts.{Tag}
-use Rattle.xmpp_framing.proofs.AttributeOrder.{sorted_attributes_IsAttrsOf}
-use Rattle.xmpp_framing.proofs.Folds.{joined_assoc}
-use Rattle.xmpp_framing.specs.Attributes.{attribute_of, sorted_attributes}
+use Rattle.xmpp_trees.proofs.AttributeOrder.{sorted_attributes_IsAttrsOf}
+use Rattle.xmpp_trees.proofs.Folds.{joined_assoc}
+use Rattle.xmpp_trees.specs.Attributes.{sorted_attributes}
+use Rattle.xmpp_framing.specs.Expanded.{attribute_of}
 use Rattle.xmpp_framing.specs.Spells.{Spells, SpellsContent, empty, filled, text_alone, with_element}
 use Rattle.xmpp_framing.specs.States.{OpenElement, with_more, with_text}
 use Rattle.xmpp_framing.specs.TagSteps.{element_from, scope_in}
 use Rattle.xmpp_framing.specs.Texts.{IsText}
-use Rattle.xmpp_framing.specs.Tidied.{text_node}
-use Rattle.xmpp_framing.specs.Trees.{Elem, element, Nodes, no_nodes, child, joined, with_nodes}
+use Rattle.xmpp_trees.specs.Tidied.{text_node}
+use Rattle.xmpp_trees.specs.Trees.{Elem, element, Nodes, no_nodes, child, joined, with_nodes}
 
 -- ---- content so far
 

@@ -30,8 +30,8 @@ use Rattle.xmpp_framing.specs.Streams.{StreamTo, with_element}
 use Rattle.xmpp_framing.specs.TagSteps.{added_to, begun, closed, element_from, ends, first_of, in_opening, in_tag, is_spelled, is_too_deep, joined_text, leaf, level, outer_scopes, rest_of, scope_in, starts, tag_closes, tag_gathered, tag_here, tag_inside, tag_limits, unlimited}
 use Rattle.xmpp_framing.specs.Texts.{IsText}
 use Rattle.xmpp_framing.specs.TextSteps.{bracket_taken, character_taken, ends_section, in_reference, in_section, in_text, inside, is_forbidden, judged_section, judged_text, markup_begun, other_taken, refers, section_taken, text_inside}
-use Rattle.xmpp_framing.specs.Tidied.{tidied}
-use Rattle.xmpp_framing.specs.Trees.{Elem, element, Nodes, no_nodes, child, name_of, namespace_of, with_nodes}
+use Rattle.xmpp_trees.specs.Tidied.{tidied}
+use Rattle.xmpp_trees.specs.Trees.{Elem, element, Nodes, no_nodes, child, name_of, namespace_of, with_nodes}
 use Rattle.xmpp_framing.specs.declared.faults.Fault.{Fault}
 use Rattle.xmpp_framing.specs.declared.faults.Why.{Why}
 use Rattle.xmpp_framing.specs.declared.faults.Why.TheVariants as why

@@ -12,7 +12,7 @@ use Rattle.xmpp_framing.specs.Streams.{InForce, StreamTo, place_of}
 use Rattle.xmpp_framing.specs.TagSteps.{scope_in}
 use Rattle.xmpp_framing.specs.Texts.{line_ends}
 use Rattle.xmpp_framing.specs.TextSteps.{kept_back}
-use Rattle.xmpp_framing.specs.Trees.{name_of, namespace_of}
+use Rattle.xmpp_trees.specs.Trees.{name_of, namespace_of}
 use Rattle.xmpp_framing.specs.declared.items.Item.{Item}
 use Rattle.xmpp_framing.specs.declared.limits.Limits.{Limits}
 use Rattle.xmpp_framing.specs.declared.states.Mode.{Mode}

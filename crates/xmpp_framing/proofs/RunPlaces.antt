@@ -21,7 +21,7 @@ use Rattle.xmpp_framing.specs.MarkupSteps.{declares, ends_in_question, in_bang, 
 use Rattle.xmpp_framing.specs.States.{OpenElement, State, Turn, counted, fails, gathered, gathered_in, in_mode, in_run, may_declare, moved, next_place, run_begun, token_begun, token_ended, token_fails, token_place}
 use Rattle.xmpp_framing.specs.TagSteps.{added_to, begun, closed, closed_open, element_from, ends, ends_stream, footer_closes, footer_gathered, header_tag, heads, in_footer, in_opening, in_tag, is_header, is_spelled, is_too_deep, joined_text, leaf, level, misplaced, shallower, starts, tag_anew, tag_closes, tag_gathered, tag_here, tag_in, tag_inside, tag_outside, unlimited}
 use Rattle.xmpp_framing.specs.TextSteps.{between, bracket_taken, character_begun, character_taken, ends_section, in_reference, in_section, in_text, inside, is_forbidden, judged_outside, judged_section, judged_text, markup_begun, other_taken, refers, section_taken, text_inside, text_outside}
-use Rattle.xmpp_framing.specs.Trees.{Elem}
+use Rattle.xmpp_trees.specs.Trees.{Elem}
 use Rattle.xmpp_framing.specs.declared.faults.Fault.{Fault}
 use Rattle.xmpp_framing.specs.declared.faults.Why.TheVariants as why
 use Rattle.xmpp_framing.specs.declared.states.Mode.{Mode}

@@ -14,12 +14,12 @@ use Rattle.xmpp_names.specs.Grammar.{IsExpanded}
 use Rattle.xmpp_names.specs.Names.{IsName, prefix_of, local_of}
 use Rattle.xmpp_names.specs.Scopes.{Scope, bound, first_bound, xml_namespace}
 use Rattle.xmpp_names.specs.declared.expansion.ExpandedAttribute.{ExpandedAttribute}
-use Rattle.xmpp_framing.specs.Attributes.{Attribute, name_order}
+use Rattle.xmpp_trees.specs.Attributes.{Attribute, name_order}
 use Rattle.xmpp_framing.specs.Canon.{next_number, spelled, spelled_attribute, spelled_attributes}
 use Rattle.xmpp_framing.specs.Plain.{IsPlainAttribute}
 use Rattle.xmpp_framing.specs.Spells.{bind}
 use Rattle.xmpp_framing.specs.Texts.{IsCharacters}
-use Rattle.xmpp_framing.proofs.AttributeOrder.{has_name-order}
+use Rattle.xmpp_trees.proofs.AttributeOrder.{has_name-order}
 use Rattle.xmpp_framing.proofs.SpelledNames.{apart_by_local, apart_by_prefix, differ, name_no_colon, name_qualified, numbered_differ, numbered_plain, numbered_prefix, prefixed_qualified, xml_plain, xmlns_plain}
 
 -- ---- attribute by attribute

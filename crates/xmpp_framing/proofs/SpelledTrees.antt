@@ -2,13 +2,14 @@
 use Rattle.std.proofs.Common.{◌≡◌, ℕ, List, ◌++◌, map, sym, ap, subst, ◌∙◌}
 use Rattle.xmpp_names.specs.Scopes.{Scope}
 use Rattle.xmpp_names.specs.Starts.{Tag}
-use Rattle.xmpp_framing.proofs.AttributeOrder.{one_IsAttrsOf, sorted_attributes_IsAttrsOf}
-use Rattle.xmpp_framing.proofs.TidyLaws.{tidied_stays, tidy_end, tidy_text}
-use Rattle.xmpp_framing.specs.Attributes.{Attribute, IsAttrsOf, attribute_of, sorted_attributes}
+use Rattle.xmpp_trees.proofs.AttributeOrder.{one_IsAttrsOf, sorted_attributes_IsAttrsOf}
+use Rattle.xmpp_trees.proofs.TidyLaws.{tidied_stays, tidy_end, tidy_text}
+use Rattle.xmpp_trees.specs.Attributes.{Attribute, IsAttrsOf, sorted_attributes}
+use Rattle.xmpp_framing.specs.Expanded.{attribute_of}
 use Rattle.xmpp_framing.specs.Spells.{IsBegun, Spells, SpellsContent, empty, filled, text_alone, with_element}
 use Rattle.xmpp_framing.specs.TagSteps.{element_from}
-use Rattle.xmpp_framing.specs.Tidied.{tidied}
-use Rattle.xmpp_framing.specs.Trees.{AreTidy, Elem, IsTree, Nodes, child, element, no_nodes, with_nodes}
+use Rattle.xmpp_trees.specs.Tidied.{tidied}
+use Rattle.xmpp_trees.specs.Trees.{AreTidy, Elem, IsTree, Nodes, child, element, no_nodes, with_nodes}
 
 attributes_are : (given kept : List Attribute) → IsAttrsOf given kept → kept ≡ sorted_attributes given
 attributes_are given kept h = one_IsAttrsOf given kept (sorted_attributes given) h (sorted_attributes_IsAttrsOf given)

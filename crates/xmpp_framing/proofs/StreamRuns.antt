@@ -22,7 +22,7 @@ use Rattle.xmpp_framing.specs.States.{OpenElement, State, Turn, admits_declarati
 use Rattle.xmpp_framing.specs.StreamLimits.{IsEmptyHeaderInWithin, IsHeaderInWithin, IsReadAs, IsStreamWithin}
 use Rattle.xmpp_framing.specs.Streams.{InForce, IsDeclared, SpellsEmptyHeaderIn, SpellsHeaderIn, StreamTo, declared, ended, headed, headed_and_ended, nothing, place_of, white_space, with_element}
 use Rattle.xmpp_framing.specs.TagSteps.{header_items, phase_behind, scope_in}
-use Rattle.xmpp_framing.specs.Trees.{Elem}
+use Rattle.xmpp_trees.specs.Trees.{Elem}
 use Rattle.xmpp_framing.specs.Within.{IsElementWithin}
 use Rattle.xmpp_framing.specs.declared.items.Item.{Item}
 use Rattle.xmpp_framing.specs.declared.items.Item.TheVariants as item

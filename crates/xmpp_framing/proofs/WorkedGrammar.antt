@@ -16,11 +16,11 @@ use Rattle.xmpp_names.specs.Names.{local_of, prefix_of}
 use Rattle.xmpp_names.specs.Scopes.{Scope, bound}
 use Rattle.xmpp_names.specs.Starts.{Tag, attributes_in, parted_tag, past_limits, start_of}
 use Rattle.xmpp_names.specs.declared.limits.TagLimits.{TagLimits}
-use Rattle.xmpp_framing.specs.Attributes.{attribute}
+use Rattle.xmpp_trees.specs.Attributes.{attribute}
 use Rattle.xmpp_framing.specs.Canon.{client_namespace}
 use Rattle.xmpp_framing.specs.Spells.{Spells, SpellsContent, bind, empty, filled, text_alone, with_element, written_scope}
 use Rattle.xmpp_framing.specs.Texts.{IsText, data_alone, with_section}
-use Rattle.xmpp_framing.specs.Trees.{Elem, element, Nodes, no_nodes, child, text}
+use Rattle.xmpp_trees.specs.Trees.{Elem, element, Nodes, no_nodes, child, text}
 use Rattle.xmpp_framing.proofs.SpelledTexts.{no_text}
 
 abbrev pub limits : TagLimits

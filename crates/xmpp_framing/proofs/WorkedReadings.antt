@@ -2,11 +2,11 @@
 use Rattle.std.proofs.Common.{[], ◌∷◌, codes, arith}
 use Rattle.xmpp_names.proofs.StartLaws as laws
 use Rattle.xmpp_framing.proofs.WorkedGrammar.{inner, inner_is, inner_spelled, inner_tag, inside, kids, outer, outer_is, outer_tag, spelled}
-use Rattle.xmpp_framing.specs.Attributes.{attribute}
+use Rattle.xmpp_trees.specs.Attributes.{attribute}
 use Rattle.xmpp_framing.specs.Canon.{client_namespace}
 use Rattle.xmpp_framing.specs.Spells.{written_scope}
 use Rattle.xmpp_framing.specs.TagSteps.{tag_limits}
-use Rattle.xmpp_framing.specs.Trees.{element}
+use Rattle.xmpp_trees.specs.Trees.{element}
 use Rattle.xmpp_framing.specs.Within.{IsElementWithin}
 use Rattle.xmpp_framing.specs.declared.limits.Limits.{Limits}
 

@@ -24,7 +24,7 @@ use Rattle.xmpp_framing.specs.TextSteps.{between, in_text, inside, text_outside}
 use Rattle.xmpp_framing.specs.declared.faults.Why.TheVariants as why
 use Rattle.xmpp_framing.specs.declared.items.Item.{Item}
 use Rattle.xmpp_framing.specs.declared.items.Item.TheVariants as item
-use Rattle.xmpp_framing.specs.Trees.{element, no_nodes}
+use Rattle.xmpp_trees.specs.Trees.{element, no_nodes}
 use Rattle.xmpp_framing.specs.declared.limits.Limits.{Limits}
 use Rattle.xmpp_framing.specs.declared.states.Mode.{Mode}
 use Rattle.xmpp_framing.specs.declared.states.Mode.TheVariants as mode

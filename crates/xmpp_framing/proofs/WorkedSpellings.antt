@@ -7,10 +7,10 @@ use Rattle.xmpp_tokens.specs.References.{referred}
 use Rattle.xmpp_tokens.specs.Spelling.{text_byte, value_byte}
 use Rattle.xmpp_names.specs.Scopes.{xml_namespace}
 use Rattle.xmpp_names.specs.declared.headers.Header.{Header}
-use Rattle.xmpp_framing.specs.Attributes.{attribute}
+use Rattle.xmpp_trees.specs.Attributes.{attribute}
 use Rattle.xmpp_framing.specs.Canon.{assignment, canon, client_namespace, declared_default, default_inside, next_number, number_text, spelled_attribute, spelled_name, streams_namespace, written_footer, written_header}
 use Rattle.xmpp_framing.specs.Texts.{IsCharacterData, SpellsText, data_alone, has_section_end, line_ends, with_reference, with_section}
-use Rattle.xmpp_framing.specs.Trees.{element, no_nodes, child, text}
+use Rattle.xmpp_trees.specs.Trees.{element, no_nodes, child, text}
 
 -- no attribute, nothing inside, the default in force
 a_leaf : canon (element client_namespace (codes "presence") [] no_nodes) ≡ codes "<presence/>"

@@ -23,7 +23,7 @@ use Rattle.xmpp_framing.specs.Canon.{streams_namespace}
 use Rattle.xmpp_framing.specs.Spells.{SpellsTop, bind, filled, text_alone}
 use Rattle.xmpp_framing.specs.Streams.{InForce, IsDeclared, IsStream, SpellsHeaderIn, StreamTo, declared, ended, headed, headed_and_ended, nothing, white_space, with_element}
 use Rattle.xmpp_framing.specs.Texts.{IsText, data_alone}
-use Rattle.xmpp_framing.specs.Trees.{Elem, element, no_nodes, text}
+use Rattle.xmpp_trees.specs.Trees.{Elem, element, no_nodes, text}
 use Rattle.xmpp_framing.specs.declared.items.Item.{Item}
 use Rattle.xmpp_framing.specs.declared.items.Item.TheVariants as item
 use Rattle.xmpp_framing.specs.declared.states.Phase.{Phase}

@@ -3,10 +3,10 @@ use Rattle.std.proofs.Common.{◌≡◌, ◌≢◌, true≢false, ℕ, ◌+◌, 
 use Rattle.std.specs.Prelude.{◌==◌}
 use Rattle.std.specs.declared.alloc.Global.{Global}
 use Rattle.xmpp_framing.specs.Canon.{behind_attributes, default_inside, has_nothing, written_inside, written_nodes, written_end_tag}
-use Rattle.xmpp_framing.specs.Trees.{Elem, Nodes, joined}
-use Rattle.xmpp_framing.specs.Views.{nodes_view, node_step, elem_step}
-use Rattle.xmpp_framing.specs.declared.elements.Node.{Node, fold_out-Node}
-use Rattle.xmpp_framing.specs.declared.elements.Node.TheOpen.{Node-F}
+use Rattle.xmpp_trees.specs.Trees.{Elem, Nodes, joined}
+use Rattle.xmpp_trees.specs.Views.{nodes_view, node_step, elem_step}
+use Rattle.xmpp_trees.specs.declared.elements.Node.{Node, fold_out-Node}
+use Rattle.xmpp_trees.specs.declared.elements.Node.TheOpen.{Node-F}
 
 something_there : (n : Node-F Nodes Elem) (more : Nodes) → has_nothing (joined (node_step n) more) ≡ false
 something_there (Node-F.Child e) more = refl

@@ -5,10 +5,10 @@ use Rattle.std.proofs.lemmas.Bool.{cases_Bool, eqb-true}
 use Rattle.std.proofs.lemmas.Fmt.{decimal_digit, decimal-digits_of}
 use Rattle.std.proofs.lemmas.Bool.Decides.{nat_tests}
 use Rattle.std.proofs.lemmas.Grind.{flat_map-append}
-use Rattle.xmpp_framing.specs.Attributes.{Attribute}
+use Rattle.xmpp_trees.specs.Attributes.{Attribute}
 use Rattle.xmpp_framing.specs.Canon.{number_text, next_number, is_foreign, assignment, assignments, spelled_attribute, spelled_attributes}
-use Rattle.xmpp_framing.proofs.AttributeOrder.{nothing_left}
-use Rattle.xmpp_framing.proofs.RuleSteps.{drop_item}
+use Rattle.xmpp_trees.proofs.AttributeOrder.{nothing_left}
+use Rattle.xmpp_trees.proofs.RuleSteps.{drop_item}
 
 pub decimal_is : (n : ℕ) → n < 2 ^ 64 → decimal n ≡ number_text n
 unfolding number_text

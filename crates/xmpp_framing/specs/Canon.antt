@@ -9,8 +9,8 @@ use Rattle.xmpp_tokens.specs.Tags as tokens
 use Rattle.xmpp_tokens.specs.Tags.{is_empty, tag_end}
 use Rattle.xmpp_names.specs.Scopes.{xml_namespace}
 use Rattle.xmpp_names.specs.declared.headers.Header.{Header}
-use Rattle.xmpp_framing.specs.Attributes.{Attribute}
-use Rattle.xmpp_framing.specs.Trees.{Elem, element, Nodes, no_nodes, child, text}
+use Rattle.xmpp_trees.specs.Attributes.{Attribute}
+use Rattle.xmpp_trees.specs.Trees.{Elem, element, Nodes, no_nodes, child, text}
 
 -- the content namespace of a written header, which is the default in force at the top
 abbrev pub client_namespace : List ℕ

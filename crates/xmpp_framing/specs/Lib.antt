@@ -1,15 +1,9 @@
-pub mod Attributes
+pub mod Expanded
 pub mod Canon
-pub mod Codes
 pub mod Plain
-pub mod Readers
-pub mod Runs
 pub mod Spells
 pub mod Streams
 pub mod Texts
-pub mod Tidied
-pub mod Trees
-pub mod Views
 pub mod Limits
 pub mod States
 pub mod TextSteps

@@ -4,10 +4,10 @@ use Rattle.std.specs.List.{AllByRecursion}
 use Rattle.xmpp_tokens.specs.Characters.{is_name}
 use Rattle.xmpp_names.specs.Scopes.{xml_namespace, xmlns_namespace}
 use Rattle.xmpp_names.specs.declared.headers.Header.{Header}
-use Rattle.xmpp_framing.specs.Attributes.{Attribute}
+use Rattle.xmpp_trees.specs.Attributes.{Attribute}
 use Rattle.xmpp_framing.specs.Spells.{IsHeaderName}
 use Rattle.xmpp_framing.specs.Texts.{IsCharacters}
-use Rattle.xmpp_framing.specs.Trees.{Elem, element, Nodes, no_nodes, child, text, namespace_of, name_of}
+use Rattle.xmpp_trees.specs.Trees.{Elem, element, Nodes, no_nodes, child, text, namespace_of, name_of}
 
 -- a name of XML's characters without a colon (NCName)
 pub record IsPlainName (name : List ℕ) : Type 0 where

@@ -9,13 +9,14 @@ use Rattle.xmpp_names.specs.Scopes.{Scope}
 use Rattle.xmpp_names.specs.Starts.{Tag}
 use Rattle.xmpp_names.specs.declared.headers.Header.{Header}
 use Rattle.xmpp_names.specs.declared.scopes.Binding.{Binding}
-use Rattle.xmpp_framing.specs.Attributes.{Attribute, attribute_of, IsAttrsOf}
+use Rattle.xmpp_trees.specs.Attributes.{Attribute, IsAttrsOf}
+use Rattle.xmpp_framing.specs.Expanded.{attribute_of}
 use Rattle.xmpp_framing.specs.Canon.{client_namespace, streams_namespace}
 use Rattle.xmpp_framing.specs.Texts.{IsText}
-use Rattle.xmpp_framing.specs.Tidied.{text_node}
+use Rattle.xmpp_trees.specs.Tidied.{text_node}
 use Rattle.xmpp_framing.specs.declared.items.Item.{Item}
 use Rattle.xmpp_framing.specs.declared.items.Item.TheVariants as item
-use Rattle.xmpp_framing.specs.Trees.{Elem, element, Nodes, no_nodes, child, joined, namespace_of, name_of}
+use Rattle.xmpp_trees.specs.Trees.{Elem, element, Nodes, no_nodes, child, joined, namespace_of, name_of}
 
 -- The element that a start tag begins, with these nodes inside: the attributes are the tag's, in the order of their
 -- names.

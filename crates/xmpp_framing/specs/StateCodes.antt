@@ -4,9 +4,9 @@ use Rattle.std.specs.Coded.{Coded, code_by, coded×, coded_list, coded_option}
 use Rattle.std.proofs.Common.{refl}
 use Rattle.xmpp_names.specs.Scopes.{Scope}
 use Rattle.xmpp_names.specs.contracts.scopes.Binding as binding
-use Rattle.xmpp_framing.specs.Codes.{coded_bytes, elem_coded}
+use Rattle.xmpp_trees.specs.Codes.{coded_bytes, elem_coded}
 use Rattle.xmpp_framing.specs.States.{OpenElement, State}
-use Rattle.xmpp_framing.specs.Trees.{Elem}
+use Rattle.xmpp_trees.specs.Trees.{Elem}
 use Rattle.xmpp_framing.specs.contracts.faults.Fault as fault
 use Rattle.xmpp_framing.specs.contracts.limits.Limits as limits
 use Rattle.xmpp_framing.specs.contracts.states.Lexical as lexical

@@ -7,7 +7,7 @@ use Rattle.xmpp_tokens.specs.declared.declarations.Declaration.TheVariants as de
 use Rattle.xmpp_names.specs.Scopes.{Scope}
 use Rattle.xmpp_names.specs.declared.headers.Header.{Header}
 use Rattle.xmpp_framing.specs.Spells.{SpellsEmptyHeader, SpellsFooter, SpellsHeader, SpellsNextEmptyHeader, SpellsNextHeader, SpellsTop}
-use Rattle.xmpp_framing.specs.Trees.{Elem}
+use Rattle.xmpp_trees.specs.Trees.{Elem}
 use Rattle.xmpp_framing.specs.declared.items.Item.{Item}
 use Rattle.xmpp_framing.specs.declared.items.Item.TheVariants as item
 use Rattle.xmpp_framing.specs.declared.states.Phase.{Phase}

@@ -10,7 +10,7 @@ use Rattle.xmpp_names.specs.declared.headers.Header.{Header}
 use Rattle.xmpp_names.specs.declared.limits.TagLimits.{TagLimits}
 use Rattle.xmpp_framing.specs.Spells.{Spells, SpellsContent, SpellsHeader, SpellsNextHeader, empty, filled, text_alone, with_element}
 use Rattle.xmpp_framing.specs.TagSteps.{tag_limits}
-use Rattle.xmpp_framing.specs.Trees.{Elem, Nodes, depth}
+use Rattle.xmpp_trees.specs.Trees.{Elem, Nodes, depth}
 use Rattle.xmpp_framing.specs.declared.limits.Limits.{Limits}
 
 -- Each start tag of a spelled element is within limits, and each in what it contains.

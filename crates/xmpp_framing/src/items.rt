@@ -1,4 +1,4 @@
-use crate::trees::Tree;
+use xmpp_trees::Tree;
 use xmpp_edge::ListOf;
 use xmpp_names::Header;
 

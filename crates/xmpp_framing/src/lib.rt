@@ -2,10 +2,6 @@
 //! the trees among them, which have one form each.
 #![tactic(auto)]
 
-mod attributes;
-mod building;
-mod copying;
-mod elements;
 mod elements_in_hand;
 mod faults;
 mod feeding;
@@ -14,33 +10,22 @@ mod framer_laws;
 #[cfg(test)]
 mod framer_tests;
 mod items;
-mod laws;
 mod limits;
 mod many_bytes;
 mod markup_in_hand;
-mod reading;
 mod reading_laws;
-mod rule;
-mod runs;
 mod spelling_laws;
 mod states;
 mod stream_laws;
 mod tag_lengths;
 mod tag_writing;
 mod tags_in_hand;
-#[cfg(test)]
-mod tests;
 mod texts_in_hand;
-mod tidying;
-mod trees;
 mod writing;
 mod writing_laws;
 #[cfg(test)]
 mod writing_tests;
 
-pub use attributes::{Attr, Attrs};
-pub use copying::copy_nodes;
-pub use elements::{Element, Node, Nodes};
 pub use faults::{Fault, FeedFault, Why};
 pub use framer::Framer;
 pub use framer_laws::{
@@ -50,12 +35,9 @@ pub use framer_laws::{
     tags_outside_elements_are_judged, tags_without_a_name_are_told,
 };
 pub use items::{Item, Items};
-pub use laws::{first_attributes_are_kept, tidy_element_reads_the_same, tidy_element_stays};
 pub use limits::Limits;
-pub use reading::{find_attr, find_child, next_element, only_text_in, text_in};
 pub use reading_laws::spellings_are_unambiguous;
 pub use spelling_laws::{spelled_items_are_read, spelled_streams_are_read};
 pub use stream_laws::what_is_read_is_spelled;
-pub use trees::Tree;
 pub use writing::{spelled_len, write, write_footer, write_header};
 pub use writing_laws::{written_headers_are_spelled, written_trees_are_spelled};

@@ -1,6 +1,6 @@
 ghost use Rattle.std.specs.Prelude.{◌≡◌, ◌++◌, ℕ, [], List};
 ghost use Rattle.xmpp_framing.specs.Spells.{IsSameItem, Spells, SpellsItem};
-ghost use Rattle.xmpp_framing.specs.Trees.{Elem};
+ghost use Rattle.xmpp_trees.specs.Trees.{Elem};
 ghost use Rattle.xmpp_framing.specs.declared.items.Item.{Item};
 ghost use Rattle.xmpp_names.specs.Scopes.{Scope};
 

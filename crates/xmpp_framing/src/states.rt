@@ -3,7 +3,7 @@ ghost use Rattle.std.specs.Prelude.{◌≡◌};
 ghost use Rattle.std.specs.Str.{bytes_eq};
 ghost use Rattle.xmpp_framing.specs.FramerView.{open_of};
 
-use crate::elements::Element;
+use xmpp_trees::Element;
 use xmpp_edge::Text;
 use xmpp_names::is_spelled;
 

@@ -4,7 +4,7 @@ ghost use Rattle.xmpp_framing.specs.Canon.{assignment, assignments, declared_def
 ghost use Rattle.xmpp_framing.specs.Canon.{spelled_attribute, spelled_attributes, spelled_name, written_end_tag};
 ghost use Rattle.xmpp_tokens.specs.Spelling.{spelled_value};
 
-use crate::attributes::Attr;
+use xmpp_trees::Attr;
 use crate::tag_writing::{STREAMS_NAMESPACE, XML_NAMESPACE, declares_default, number_behind};
 use itoa::Buffer;
 use xmpp_tokens::spelled_value_len;

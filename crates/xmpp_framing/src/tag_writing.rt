@@ -6,7 +6,7 @@ ghost use Rattle.xmpp_framing.specs.Canon;
 ghost use Rattle.xmpp_framing.specs.Canon.{assignment, assignments, declared_default, foreign, next_number, number_text, opened};
 ghost use Rattle.xmpp_framing.specs.Canon.{spelled, spelled_attribute, spelled_attributes, spelled_name, written_end_tag};
 
-use crate::attributes::Attr;
+use xmpp_trees::Attr;
 use itoa::Buffer;
 use xmpp_edge::Bytes;
 use xmpp_tokens::append_value_reserved;

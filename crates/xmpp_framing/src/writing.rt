@@ -2,12 +2,12 @@
 ghost use Rattle.std.specs.Prelude.{◌≡◌, ◌+◌, ◌-◌, ◌<◌, ◌≤◌, ◌^◌, ◌++◌, length, min, OnErr, OnOk};
 ghost use Rattle.xmpp_framing.specs.Canon;
 ghost use Rattle.xmpp_framing.specs.Canon.{canon, written, written_footer, written_given, written_header, written_inside, written_nodes};
-ghost use Rattle.xmpp_framing.specs.Views.{elem_view, node_view, nodes_view};
+ghost use Rattle.xmpp_trees.specs.Views.{elem_view, node_view, nodes_view};
 
-use crate::elements::{Element, Node};
+use xmpp_trees::{Element, Node};
 use crate::tag_lengths::{assignment_len, end_len, start_len};
 use crate::tag_writing::{default_inside, put_assignment, put_end, put_start};
-use crate::trees::Tree;
+use xmpp_trees::Tree;
 use xmpp_edge::{Bytes, NoMemory, Text};
 use xmpp_names::Header;
 use xmpp_tokens::{append_text_reserved, spelled_text_len};

@@ -3,7 +3,7 @@ ghost use Rattle.std.specs.Option.{unwrap_or};
 ghost use Rattle.xmpp_framing.specs.Canon.{canon, streams_namespace, written, written_footer, written_header};
 ghost use Rattle.xmpp_framing.specs.Plain.{IsPlain, IsPlainElement, IsPlainHeader};
 ghost use Rattle.xmpp_framing.specs.Spells.{Spells, SpellsFooter, SpellsHeader, SpellsTop, as_written, written_scope};
-ghost use Rattle.xmpp_framing.specs.Trees.{Elem, IsTree};
+ghost use Rattle.xmpp_trees.specs.Trees.{Elem, IsTree};
 ghost use Rattle.xmpp_names.specs.Scopes.{Scope, bound};
 ghost use Rattle.xmpp_names.specs.declared.headers.Header.{Header};
 

@@ -4,8 +4,8 @@ use Rattle.std.specs.Str.{bytes_eq}
 use Rattle.std.proofs.lemmas.Bool.{cases_Bool}
 use Rattle.std.proofs.lemmas.Bool.Decides.{Decides-and}
 use Rattle.std.proofs.lemmas.Slice.Eq.{bytes_eq-Decides}
-use Rattle.xmpp_framing.specs.Readers.{is_named}
-use Rattle.xmpp_framing.specs.Trees.{Elem, namespace_of, name_of}
+use Rattle.xmpp_trees.specs.Readers.{is_named}
+use Rattle.xmpp_trees.specs.Trees.{Elem, namespace_of, name_of}
 use Rattle.xmpp_stanza.proofs.KindLemmas.{equal_bytes, message_reads, iq_kind_is, iq_kind_read}
 use Rattle.xmpp_stanza.specs.Kinds.{message_type, message_kind, answers_message, iq_type, iq_kind, answers_iq}
 use Rattle.xmpp_stanza.specs.Names.{client_ns}

@@ -1,8 +1,8 @@
 -- The reading as one value answers by the relations of trees and stanzas.
 use Rattle.std.proofs.Common.{◌≡◌, ◌≢◌, ◌↔◌, ℕ, Bool, true, false, List, [], Option, Some, Result, Ok, Err, refl, sym, ◌∙◌, ap, ◌⊎◌, inl, inr, codes, unwrap_or}
 use Rattle.std.proofs.lemmas.Bool.Decides.{same_from_decides}
-use Rattle.xmpp_framing.specs.Readers.{attr_of}
-use Rattle.xmpp_framing.specs.Trees.{Elem, nodes_of}
+use Rattle.xmpp_trees.specs.Readers.{attr_of}
+use Rattle.xmpp_trees.specs.Trees.{Elem, nodes_of}
 use Rattle.xmpp_stanza.proofs.AddressLemmas.{address_is, address_read, bad_is, bad_read, address_cases, both_ok, both_err, with_ok, with_err}
 use Rattle.xmpp_stanza.proofs.Judged.{Formed, judged, iq_cases, which, at_message, at_presence, at_none, at_formed_iq}
 use Rattle.xmpp_stanza.proofs.KindLemmas.{message_kind_is, message_kind_unique, presence_kind_is, presence_kind_unique, iq_kind_is, iq_kind_read}

@@ -1,7 +1,7 @@
 -- The definitions, evaluated at values that were worked out beforehand.
 use Rattle.std.proofs.Common.{◌≡◌, ℕ, true, false, [], ◌∷◌, List, Some, None, Ok, Err, codes, pos, negsuc, refl}
-use Rattle.xmpp_framing.specs.Attributes.{Attribute}
-use Rattle.xmpp_framing.specs.Trees.{element, Nodes, no_nodes, child, text}
+use Rattle.xmpp_trees.specs.Attributes.{Attribute}
+use Rattle.xmpp_trees.specs.Trees.{element, Nodes, no_nodes, child, text}
 use Rattle.xmpp_stanza.specs.Errors.{stanza_error_of, error_elem, stream_error_elem}
 use Rattle.xmpp_stanza.specs.Names.{client_ns, stanza_errors_ns, stream_errors_ns, streams_ns, xml_ns}
 use Rattle.xmpp_stanza.specs.Priority.{priority_of, presence_priority}

@@ -1,8 +1,8 @@
 -- Stanza errors and stream errors (RFC 6120 sections 8.3 and 4.9).
 use Rattle.std.specs.Prelude.{◌≡◌, ℕ, List, [], ◌∷◌, Option, Some, None, Result, Ok, Err, codes, if◌then◌else◌}
 use Rattle.std.specs.Str.{bytes_eq}
-use Rattle.xmpp_framing.specs.Readers.{child_of}
-use Rattle.xmpp_framing.specs.Trees.{Elem, element, Nodes, no_nodes, child, nodes_of}
+use Rattle.xmpp_trees.specs.Readers.{child_of}
+use Rattle.xmpp_trees.specs.Trees.{Elem, element, Nodes, no_nodes, child, nodes_of}
 use Rattle.xmpp_stanza.specs.Conditions.{condition_in, condition_name, condition_named, IsPlain}
 use Rattle.xmpp_stanza.specs.Kinds.{IsKindOf}
 use Rattle.xmpp_stanza.specs.Names.{client_ns, stanza_errors_ns, streams_ns, stream_errors_ns}

@@ -1,7 +1,7 @@
 -- The stanza that a tree is, or why it is none, as one value. The laws tie it to the relations of `Stanzas`.
 use Rattle.std.specs.Prelude.{◌≡◌, ℕ, Bool, true, false, List, [], Option, Some, None, Result, Ok, Err, unwrap_or, codes, if◌then◌else◌}
-use Rattle.xmpp_framing.specs.Readers.{attr_of, is_named}
-use Rattle.xmpp_framing.specs.Trees.{Elem, nodes_of}
+use Rattle.xmpp_trees.specs.Readers.{attr_of, is_named}
+use Rattle.xmpp_trees.specs.Trees.{Elem, nodes_of}
 use Rattle.xmpp_jid.specs.Normal.{normal}
 use Rattle.xmpp_jid.specs.declared.fault.JidFault.{JidFault}
 use Rattle.xmpp_jid.specs.declared.fault.JidFault.TheVariants as jid

@@ -1,7 +1,7 @@
 -- Which trees are which stanza: the relations of a tree and a value (RFC 6120 section 8).
 use Rattle.std.specs.Prelude.{◌≡◌, ◌≢◌, ℕ, ◌⊎◌, ◌↔◌, Bool, true, List, [], Option, Some, None, Ok, Err, unwrap_or, codes}
-use Rattle.xmpp_framing.specs.Readers.{attr_of}
-use Rattle.xmpp_framing.specs.Trees.{Elem, namespace_of, name_of, nodes_of}
+use Rattle.xmpp_trees.specs.Readers.{attr_of}
+use Rattle.xmpp_trees.specs.Trees.{Elem, namespace_of, name_of, nodes_of}
 use Rattle.xmpp_jid.specs.Normal.{normal}
 use Rattle.xmpp_jid.specs.declared.fault.JidFault.{JidFault}
 use Rattle.xmpp_stanza.specs.Kinds.{message_type, IsMessageKind, IsPresenceKind, iq_type}

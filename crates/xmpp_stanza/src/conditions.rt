@@ -1,11 +1,11 @@
 ghost use Rattle.std.specs.Prelude.{◌≡◌, ◌∷◌, IfOk};
 ghost use Rattle.std.specs.Option.{option_copied};
-ghost use Rattle.xmpp_framing.specs.Views.{elem_view, nodes_view};
+ghost use Rattle.xmpp_trees.specs.Views.{elem_view, nodes_view};
 ghost use Rattle.xmpp_stanza.specs.Conditions.{condition_in, condition_name, condition_named, is_condition};
 
 use std::alloc::Global;
 use xmpp_edge::{NoMemory, Text};
-use xmpp_framing::{Element, Node};
+use xmpp_trees::{Element, Node};
 
 /// What is wrong with a stanza (RFC 6120 section 8.3.3). `Other` is any condition that has no variant of its own. Two
 /// conditions of one name are one; readers never answer `Other` of a name that has a variant.

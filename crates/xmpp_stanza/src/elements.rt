@@ -1,14 +1,14 @@
 // Elements made of their parts.
 ghost use Rattle.std.specs.Prelude.{◌≡◌, [], ◌++◌, IfOk, OnOk};
 ghost use Rattle.std.specs.Option.{option_copied};
-ghost use Rattle.xmpp_framing.specs.Trees.{element, no_nodes};
-ghost use Rattle.xmpp_framing.specs.Views.{elem_view, nodes_view};
+ghost use Rattle.xmpp_trees.specs.Trees.{element, no_nodes};
+ghost use Rattle.xmpp_trees.specs.Views.{elem_view, nodes_view};
 ghost use Rattle.xmpp_stanza.specs.Written.{attr_where, attrs_written, unless_empty};
 
 use crate::names::XML;
 use std::alloc::Global;
 use xmpp_edge::{NoMemory, Text};
-use xmpp_framing::{Attr, Attrs, Element, Nodes};
+use xmpp_trees::{Attr, Attrs, Element, Nodes};
 
 /// An element that contains nothing.
 pub fn empty_element(alloc: Global, ns: &str, name: &str) -> Result<Element, NoMemory>

@@ -6,7 +6,7 @@ use crate::{
 };
 use std::alloc::Global;
 use xmpp_edge::{NoMemory, Text};
-use xmpp_framing::{Element, Tree};
+use xmpp_trees::{Element, Tree};
 
 // A condition of stanzas, the kind that it goes with there, and whether it has a variant of its own.
 static CONDITIONS: [(&str, ErrorKind, bool); 22] = [

@@ -1,6 +1,6 @@
 ghost use Rattle.std.specs.Prelude.{◌≡◌, ◌≢◌, Some, Ok, Err, IfOk, IfErr};
 ghost use Rattle.std.specs.Option.{option_copied};
-ghost use Rattle.xmpp_framing.specs.Views.{elem_view};
+ghost use Rattle.xmpp_trees.specs.Views.{elem_view};
 ghost use Rattle.xmpp_stanza.specs.Conditions.{condition_name};
 ghost use Rattle.xmpp_stanza.specs.Errors.{error_elem, error_in, error_kind, error_kind_named, error_type, stanza_error_of};
 ghost use Rattle.xmpp_stanza.specs.Names.{stanza_errors_ns};
@@ -12,7 +12,7 @@ use std::alloc::Global;
 use std::error::Error;
 use std::fmt;
 use xmpp_edge::NoMemory;
-use xmpp_framing::{Element, Tree};
+use xmpp_trees::{Element, Tree};
 
 /// What the sender of a stanza that met an error may do (RFC 6120 section 8.3.2). A `type` that is absent or none of
 /// these is `Cancel`.

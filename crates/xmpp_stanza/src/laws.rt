@@ -1,8 +1,8 @@
 ghost use Rattle.std.specs.Prelude.{◌≡◌, ◌≢◌, ◌↔◌, ℕ, Bool, List, Option, Some, Ok, Err, IfSome, FitsSigned, codes};
 ghost use Rattle.std.specs.Int.{w8};
-ghost use Rattle.xmpp_framing.specs.Readers.{child_of};
-ghost use Rattle.xmpp_framing.specs.Tidied.{tidied, tidied_nodes};
-ghost use Rattle.xmpp_framing.specs.Trees.{AreTidy, Elem, IsTree, nodes_of};
+ghost use Rattle.xmpp_trees.specs.Readers.{child_of};
+ghost use Rattle.xmpp_trees.specs.Tidied.{tidied, tidied_nodes};
+ghost use Rattle.xmpp_trees.specs.Trees.{AreTidy, Elem, IsTree, nodes_of};
 ghost use Rattle.xmpp_stanza.specs.Conditions.{condition_in, condition_name, IsPlain};
 ghost use Rattle.xmpp_stanza.specs.Errors.{HasNoError, IsStanzaError, error_elem, stanza_error_of, stream_error_elem};
 ghost use Rattle.xmpp_stanza.specs.Names.{client_ns, stream_errors_ns};

@@ -1,8 +1,8 @@
 // Trees read as stanzas.
 ghost use Rattle.std.specs.Prelude.{◌≡◌, ◌≢◌, Ok, Err, [], true, false, unwrap_or, codes, IfOk, IfErr};
 ghost use Rattle.std.specs.Option.{option_copied, option_map};
-ghost use Rattle.xmpp_framing.specs.Trees.{nodes_of};
-ghost use Rattle.xmpp_framing.specs.Views.{elem_view, nodes_view};
+ghost use Rattle.xmpp_trees.specs.Trees.{nodes_of};
+ghost use Rattle.xmpp_trees.specs.Views.{elem_view, nodes_view};
 ghost use Rattle.xmpp_stanza.specs.Kinds.{answers_iq, answers_message, iq_kind, message_kind, presence_kind};
 ghost use Rattle.xmpp_stanza.specs.Priority.{presence_priority, priority_of};
 ghost use Rattle.xmpp_stanza.specs.Readings.{Answers, AnswersAddress, address_of, addresses_of, iq_of, message_of, presence_of, stanza_of};
@@ -12,8 +12,8 @@ use crate::names::{CLIENT, XML};
 use crate::stanzas::{Iq, Message, Presence, Stanza, StanzaFault};
 use std::alloc::Global;
 use xmpp_edge::{NoMemory, Text};
-use xmpp_framing::{Element, Nodes, Tree, copy_nodes};
 use xmpp_jid::{Jid, JidFault};
+use xmpp_trees::{Element, Nodes, Tree, copy_nodes};
 
 /// The stanza that a tree is. Each refusal but `NoMemory` comes exactly where the definition refuses so, in the order
 /// `NotAStanza`, `BadFormat`, `BadFrom`, `BadTo`; `stanzas_are_read_as_stated` says what that means.

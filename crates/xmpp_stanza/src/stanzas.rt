@@ -3,8 +3,8 @@ use std::error::Error;
 use std::fmt;
 use std::marker::Model;
 use xmpp_edge::{NoMemory, Text};
-use xmpp_framing::Nodes;
 use xmpp_jid::Jid;
+use xmpp_trees::Nodes;
 
 /// A message (RFC 6120 section 8.2.1, RFC 6121 section 5.2). An absent `id` or `xml:lang` is empty; `payload` is all
 /// that the element contains.
@@ -38,7 +38,7 @@ pub struct Iq {
 }
 
 impl Model for Message {
-    ghost use Rattle.xmpp_framing.specs.Views.{nodes_view};
+    ghost use Rattle.xmpp_trees.specs.Views.{nodes_view};
     ghost use Rattle.xmpp_stanza.specs.Views.{MessageView, message_coded};
 
     ghost Value = { MessageView };
@@ -49,7 +49,7 @@ impl Model for Message {
 }
 
 impl Model for Iq {
-    ghost use Rattle.xmpp_framing.specs.Views.{nodes_view};
+    ghost use Rattle.xmpp_trees.specs.Views.{nodes_view};
     ghost use Rattle.xmpp_stanza.specs.Views.{IqView, iq_coded};
 
     ghost Value = { IqView };

@@ -1,8 +1,8 @@
 // Errors of streams.
 ghost use Rattle.std.specs.Prelude.{◌≡◌, IfOk};
 ghost use Rattle.std.specs.Option.{option_copied};
-ghost use Rattle.xmpp_framing.specs.Tidied.{tidied};
-ghost use Rattle.xmpp_framing.specs.Trees.{nodes_of};
+ghost use Rattle.xmpp_trees.specs.Tidied.{tidied};
+ghost use Rattle.xmpp_trees.specs.Trees.{nodes_of};
 ghost use Rattle.xmpp_stanza.specs.Conditions.{condition_in};
 ghost use Rattle.xmpp_stanza.specs.Errors.{stream_error_elem};
 ghost use Rattle.xmpp_stanza.specs.Names.{stream_errors_ns};
@@ -12,7 +12,7 @@ use crate::elements::empty_element;
 use crate::names::{STREAM_ERRORS, STREAMS};
 use std::alloc::Global;
 use xmpp_edge::NoMemory;
-use xmpp_framing::Tree;
+use xmpp_trees::Tree;
 
 /// A stream error with this condition, and behind it what an application adds (RFC 6120 section 4.9.2).
 pub fn stream_error(alloc: Global, condition: &str, extra: Option<Tree>) -> Result<Tree, NoMemory>

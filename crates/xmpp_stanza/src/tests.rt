@@ -5,8 +5,8 @@ use crate::{
 };
 use std::alloc::Global;
 use xmpp_edge::{NoMemory, Text};
-use xmpp_framing::{Attr, Element, Node, Tree};
 use xmpp_jid::Jid;
+use xmpp_trees::{Attr, Element, Node, Tree};
 
 fn put_text(alloc: Global, element: &mut Element, text: &str) -> Result<(), NoMemory> {
     let text = Text::from_str(alloc, text)?;

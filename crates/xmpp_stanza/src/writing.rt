@@ -2,8 +2,8 @@
 ghost use Rattle.std.specs.Prelude.{◌≡◌, Ok, IfOk, FitsSigned};
 ghost use Rattle.std.specs.Int.{w8};
 ghost use Rattle.std.specs.Option.{option_copied};
-ghost use Rattle.xmpp_framing.specs.Tidied.{tidied, tidied_nodes};
-ghost use Rattle.xmpp_framing.specs.Views.{elem_view, nodes_view};
+ghost use Rattle.xmpp_trees.specs.Tidied.{tidied, tidied_nodes};
+ghost use Rattle.xmpp_trees.specs.Views.{elem_view, nodes_view};
 ghost use Rattle.xmpp_stanza.specs.Readings.{stanza_of};
 ghost use Rattle.xmpp_stanza.specs.Written.{IsNormal, iq_elem, message_elem, presence_elem, priority_nodes};
 
@@ -12,8 +12,8 @@ use crate::names::CLIENT;
 use crate::stanzas::{Iq, Message, Presence, Stanza};
 use std::alloc::Global;
 use xmpp_edge::{NoMemory, Text};
-use xmpp_framing::{Element, Node, Nodes, Tree, copy_nodes};
 use xmpp_jid::Jid;
+use xmpp_trees::{Element, Node, Nodes, Tree, copy_nodes};
 
 /// A message as a tree. `type` is always written, `normal` included; `id` and `xml:lang` are where they aren't empty. The
 /// payload is copied, and stands as it is where it is tidy. `written_stanzas_are_read_back` says that the tree is read

@@ -1,8 +1,8 @@
 use Rattle.std.proofs.Common.{◌≡◌, drop}
 use Rattle.std.specs.List.{list_all}
 use Rattle.xmpp_ext.specs.ArchiveQuery.{is_known}
-use Rattle.xmpp_framing.specs.Readers.{elements_of}
-use Rattle.xmpp_framing.specs.Views.{nodes_view}
+use Rattle.xmpp_trees.specs.Readers.{elements_of}
+use Rattle.xmpp_trees.specs.Views.{nodes_view}
 use Rattle.xmpp_ext.proofs.archive_query.are_known.Given as goal
 
 -- those so far are known

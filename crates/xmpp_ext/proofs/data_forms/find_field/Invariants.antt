@@ -1,7 +1,7 @@
 use Rattle.std.proofs.Common.{◌≡◌, drop, find}
 use Rattle.xmpp_ext.specs.DataForms.{is_field_of}
-use Rattle.xmpp_framing.specs.Readers.{elements_of}
-use Rattle.xmpp_framing.specs.Views.{nodes_view}
+use Rattle.xmpp_trees.specs.Readers.{elements_of}
+use Rattle.xmpp_trees.specs.Views.{nodes_view}
 use Rattle.xmpp_ext.proofs.data_forms.find_field.Given as goal
 
 -- what is found lies ahead

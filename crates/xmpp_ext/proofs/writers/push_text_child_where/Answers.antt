@@ -2,7 +2,7 @@ use Rattle.std.proofs.Common.{◌≡◌, length, arith}
 use Rattle.std.proofs.lemmas.Bool.Decides.{nat_tests}
 use Rattle.xmpp_ext.proofs.Written.{none_added}
 use Rattle.xmpp_ext.proofs.writers.push_text_child_where.Goals as goal
-use Rattle.xmpp_framing.specs.Views.{elem_view}
+use Rattle.xmpp_trees.specs.Views.{elem_view}
 
 pub returns-then-is_empty-clause-ok : goal.returns-then-is_empty-clause-ok
 returns-then-is_empty-clause-ok c =

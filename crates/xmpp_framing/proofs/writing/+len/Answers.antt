@@ -1,6 +1,6 @@
 use Rattle.std.proofs.Common.{◌-◌, ◌^◌}
 use Rattle.xmpp_framing.specs.Canon.{written_end_tag, written_inside, written_nodes}
-use Rattle.xmpp_framing.specs.Views.{nodes_view}
+use Rattle.xmpp_trees.specs.Views.{nodes_view}
 use Rattle.xmpp_framing.proofs.WrittenNodes.{inside_is, inside_length, some_nodes}
 use Rattle.xmpp_framing.proofs.writing.+len.Goals as goal
 

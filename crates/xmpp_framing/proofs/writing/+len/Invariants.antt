@@ -1,6 +1,6 @@
 use Rattle.std.proofs.Common.{◌≡◌, ◌+◌, ◌-◌, ◌^◌, ◌≤◌, drop, length, min}
 use Rattle.xmpp_framing.specs.Canon.{written_nodes}
-use Rattle.xmpp_framing.specs.Views.{nodes_view}
+use Rattle.xmpp_trees.specs.Views.{nodes_view}
 use Rattle.xmpp_framing.proofs.writing.+len.Given as goal
 
 -- the length so far and that of what is left are the whole

@@ -1,6 +1,6 @@
 use Rattle.std.proofs.Common.{◌≡◌, ◌+◌, ◌≤◌, ◌++◌, drop, length}
 use Rattle.xmpp_framing.specs.Canon.{written_nodes}
-use Rattle.xmpp_framing.specs.Views.{nodes_view}
+use Rattle.xmpp_trees.specs.Views.{nodes_view}
 use Rattle.xmpp_framing.proofs.writing.+put.Given as goal
 
 -- what was put and what is left are the whole
