@@ -24,7 +24,7 @@ use Rattle.xmpp_stanza.specs.Views.{MessageView}
 use Rattle.xmpp_stanza.specs.Written.{message_elem}
 use Rattle.xmpp_stanza.specs.declared.stanzas.Stanza.{Stanza}
 use Rattle.xmpp_stanza.specs.declared.stanzas.Stanza.TheVariants.{Message, Presence, Iq}
-use Rattle.xmpp_stanza.specs.declared.stanzas.StanzaFault.{StanzaFault}
+use Rattle.xmpp_stanza.specs.declared.fault.StanzaFault.{StanzaFault}
 
 -- ---- moments
 
