@@ -78,7 +78,9 @@ fn added_to(alloc: Global, condition: &str) -> Result<Tree, NoMemory> {
 
 fn is_condition(alloc: Global, name: &str) -> Result<bool, NoMemory> {
     let tree = added_to(alloc, name)?;
-    let is_added = tree.element().child("urn:xmpp:sm:3", "handled-count-too-high");
+    let is_added = tree
+        .element()
+        .child("urn:xmpp:sm:3", "handled-count-too-high");
     Ok(is_added.is_some() && stream_condition(&tree) == Some(name))
 }
 

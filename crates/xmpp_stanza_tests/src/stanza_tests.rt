@@ -9,7 +9,11 @@ use xmpp_trees::{Attr, Element, Tree};
 type Attributes = &'static [(&'static str, &'static str)];
 
 fn put_attr(alloc: Global, element: &mut Element, name: &str, value: &str) -> Result<(), NoMemory> {
-    let (ns, name) = if name == "lang" { (XML, name) } else { ("", name) };
+    let (ns, name) = if name == "lang" {
+        (XML, name)
+    } else {
+        ("", name)
+    };
     element.push_attr(Attr::from_strs(alloc, ns, name, value)?)
 }
 
@@ -206,7 +210,8 @@ static REFUSED: [(&str, Attributes, &str, &str); 4] = [
 fn sender(fault: &StanzaFault) -> &str {
     match fault {
         StanzaFault::BadTo {
-            from: Some(from), ..
+            from: Some(from),
+            ..
         } => from.text(),
         _ => "-",
     }
