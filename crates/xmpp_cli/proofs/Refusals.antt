@@ -4,7 +4,7 @@ use Rattle.std.proofs.lemmas.Bool.Decides.{eqb_tells}
 use Rattle.std.proofs.Math.Nat.{min-eq_left}
 use Rattle.xmpp_edge.specs.Counts.{Rose, Quiet}
 use Rattle.xmpp_edge.specs.declared.whole_reads.TheConstants.{MOST_BYTES_READ}
-use Rattle.xmpp_replay.specs.Grammar.{InGrammar}
+use Rattle.xmpp_schedule.specs.Grammar.{InGrammar}
 use Rattle.xmpp_check.specs.Checked.{told}
 use Rattle.xmpp_cli.specs.Table.{code_of, IsDone, IsRefused, IsChecked, Due}
 use Rattle.xmpp_cli.specs.declared.command.Command.{Command}

@@ -4,14 +4,14 @@ use Rattle.std.specs.Io.KnownBytes.{IsAtEnd}
 use Rattle.xmpp_check.specs.Checked.{told}
 use Rattle.xmpp_edge.specs.declared.whole_reads.TheConstants.{MOST_BYTES_READ}
 use Rattle.xmpp_replay.specs.Direct.{direct_report}
-use Rattle.xmpp_replay.specs.Grammar.{IsSchedule, InGrammar, schedule_text}
-use Rattle.xmpp_replay.specs.Lawful.{IsLawful}
-use Rattle.xmpp_replay.specs.Reading.{reading}
-use Rattle.xmpp_replay.specs.ReportText.{text_of}
-use Rattle.xmpp_replay.specs.Reports.{ReportView}
-use Rattle.xmpp_replay.specs.Schedules.{ScheduleView, steps_of}
-use Rattle.xmpp_replay.specs.declared.schedule.LineWhy.{LineWhy}
-use Rattle.xmpp_replay.specs.declared.schedule.ScheduleFault.TheVariants.{BadLine}
+use Rattle.xmpp_schedule.specs.Grammar.{IsSchedule, InGrammar, schedule_text}
+use Rattle.xmpp_report.specs.Lawful.{IsLawful}
+use Rattle.xmpp_schedule.specs.Reading.{reading}
+use Rattle.xmpp_report.specs.ReportText.{text_of}
+use Rattle.xmpp_report.specs.Reports.{ReportView}
+use Rattle.xmpp_schedule.specs.Schedules.{ScheduleView, steps_of}
+use Rattle.xmpp_schedule.specs.declared.fault.LineWhy.{LineWhy}
+use Rattle.xmpp_schedule.specs.declared.fault.ScheduleFault.TheVariants.{BadLine}
 use Rattle.xmpp_cli.specs.Texts.{words_line, read_fault_line, too_long_line, bad_line}
 use Rattle.xmpp_cli.specs.Words.{reads}
 use Rattle.xmpp_cli.specs.declared.command.Command.{Command}

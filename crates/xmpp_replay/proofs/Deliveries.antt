@@ -11,12 +11,11 @@ use Rattle.xmpp_archive.specs.Entries.{EntryView, numbered}
 use Rattle.xmpp_replay.proofs.HomeLists.{appended_length}
 use Rattle.xmpp_replay.proofs.PageEnds.{bytes_eq_apart}
 use Rattle.xmpp_edge.proofs.NamePlaces.{is_some-place_of, place_of-push, stands_there}
-use Rattle.xmpp_replay.proofs.Prefixes.{archive_push}
-use Rattle.xmpp_replay.specs.Direct.{Take, archive_of, concerns, entry_of}
-use Rattle.xmpp_edge.specs.Names.{is_among}
+use Rattle.xmpp_report.proofs.TakenArchives.{archive_push}
+use Rattle.xmpp_report.specs.Takes.{Take, archive_of, concerns, entry_of}
+use Rattle.xmpp_edge.specs.Names.{is_among, place_of}
 use Rattle.xmpp_replay.specs.Homes.{Home, appended, appended_at, delivered, home_at}
-use Rattle.xmpp_edge.specs.Names.{place_of}
-use Rattle.xmpp_replay.specs.Standing.{AreOnce}
+use Rattle.xmpp_schedule.specs.Standing.{AreOnce}
 
 -- the name stands at its place
 pub named_at : (name : List ℕ) (names : List (List ℕ)) (i : ℕ) → place_of name names ≡ Some i → (i < length names) × (slice_get names i ≡ Some name)

@@ -13,23 +13,28 @@ use Rattle.xmpp_log.specs.Views.{LogView}
 use Rattle.xmpp_replay.proofs.CatchUps.{catch_up_logged, log_after_front}
 use Rattle.xmpp_replay.proofs.Deliveries.{among_placed, delivered_takes, named_at, names_apart, not_placed, once_among, once_push}
 use Rattle.xmpp_replay.proofs.PageEnds.{bytes_eq_apart, bytes_eq_itself}
-use Rattle.xmpp_replay.proofs.Prefixes.{among_push, archive_few, archive_numbered, archive_push, along_push, devices_push, home_push, pages_push, sent_few, sent_push, takes_few, takes_push}
-use Rattle.xmpp_replay.specs.Direct.{Take, accounts_of, along, archive_of, as_logged, bare_address, catch_up, concerns, device_name, devices_of, entry_of, home_of, is_said_by, kept_after, pages_after, pages_of, said_at, sent_by, take_at, take_line, takes_of}
-use Rattle.xmpp_replay.specs.Grammar.{is_name, is_text, may_stand}
-use Rattle.xmpp_edge.specs.Names.{is_among}
+use Rattle.xmpp_schedule.proofs.Prefixes.{among_push, along_push, devices_push, home_push, sent_few, sent_push}
+use Rattle.xmpp_report.proofs.TakenArchives.{archive_few, archive_numbered, archive_push}
+use Rattle.xmpp_replay.proofs.Prefixes.{pages_push, takes_few, takes_push}
+use Rattle.xmpp_report.specs.Takes.{Take, archive_of, concerns, entry_of}
+use Rattle.xmpp_schedule.specs.Contents.{accounts_of, along, device_name, devices_of, home_of, is_said_by, sent_by}
+use Rattle.xmpp_replay.specs.Direct.{as_logged, catch_up, kept_after, pages_after, pages_of, said_at, take_at, takes_of}
+use Rattle.xmpp_report.specs.Addresses.{bare_address}
+use Rattle.xmpp_report.specs.Lines.{take_line}
+use Rattle.xmpp_schedule.specs.Grammar.{is_name, is_text, may_stand}
+use Rattle.xmpp_edge.specs.Names.{is_among, place_of}
 use Rattle.xmpp_replay.specs.Homes.{Home, delivered, empty_home, home_at, names_of}
 use Rattle.xmpp_replay.specs.Messages.{homes_after, said_by, take_by, takes_after}
-use Rattle.xmpp_edge.specs.Names.{place_of}
 use Rattle.xmpp_replay.specs.Runs.{HasCaughtUp, HasDeclared, HasFollowed, HasSent, IsAfter, IsDevice, IsReady, IsReadyDevice, IsUnused, MayFollow}
-use Rattle.xmpp_replay.specs.Standing.{AreOnce, declared_in}
+use Rattle.xmpp_schedule.specs.Standing.{AreOnce, declared_in}
 use Rattle.xmpp_replay.specs.Turns.{IsFrontOf, IsLogOf, caught_up}
-use Rattle.xmpp_replay.specs.declared.report.SaidLine.{SaidLine}
-use Rattle.xmpp_replay.specs.declared.report.SaidMark.TheVariants.{Acknowledged}
-use Rattle.xmpp_replay.specs.declared.report.TakeLine.{TakeLine}
+use Rattle.xmpp_report.specs.declared.report.SaidLine.{SaidLine}
+use Rattle.xmpp_report.specs.declared.report.SaidMark.TheVariants.{Acknowledged}
+use Rattle.xmpp_report.specs.declared.report.TakeLine.{TakeLine}
 use Rattle.xmpp_replay.specs.declared.run.Run.{Run}
 use Rattle.xmpp_replay.specs.declared.run.devices.Device.{Device}
-use Rattle.xmpp_replay.specs.declared.schedule.Step.{Step}
-use Rattle.xmpp_replay.specs.declared.schedule.Step.TheVariants.{Account, Device as DeviceStep, Say, Catchup}
+use Rattle.xmpp_schedule.specs.declared.schedule.Step.{Step}
+use Rattle.xmpp_schedule.specs.declared.schedule.Step.TheVariants.{Account, Device as DeviceStep, Say, Catchup}
 
 -- a front of an archive is one of the archive with further takes
 pub front_after : (account : List ℕ) (takes more : List Take) (log : LogView) → IsFrontOf (archive_of account takes) log.entries →

@@ -11,8 +11,9 @@ use Rattle.xmpp_log.specs.LogPages.{LogPage, last_id, log_of}
 use Rattle.xmpp_log.specs.declared.log_entry.LogEntry.{LogEntry}
 use Rattle.xmpp_pages.specs.Kept.{kept_by}
 use Rattle.xmpp_replay.proofs.LawArchives.{page_behind_log, rest_entries}
-use Rattle.xmpp_replay.specs.Direct.{as_logged, as_taken_over, catch_up, logged_line, page_answered, page_line}
-use Rattle.xmpp_replay.specs.Lawful.{AreTiles, last_logged}
+use Rattle.xmpp_replay.specs.Direct.{as_logged, as_taken_over, catch_up, page_answered}
+use Rattle.xmpp_report.specs.Lines.{logged_line, page_line}
+use Rattle.xmpp_report.specs.Lawful.{AreTiles, last_logged}
 use Rattle.xmpp_replay.specs.Turns.{page_behind}
 
 pub log_of-append : (xs ys : List LogPage) → log_of (xs ++ ys) ≡ log_of xs ++ log_of ys

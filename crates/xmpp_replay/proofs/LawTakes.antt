@@ -9,19 +9,24 @@ use Rattle.std.proofs.lemmas.Slice.Eq.{bytes_eq-Decides}
 use Rattle.std.specs.List.{AllByRecursion, filter}
 use Rattle.std.specs.Str.{bytes_eq}
 use Rattle.xmpp_archive.specs.Entries.{EntryView}
-use Rattle.xmpp_replay.proofs.LawLists.{all_append, all_filter, all_if, all_map, all_weaker, along-append, map-map, map_nothing, same_bytes}
-use Rattle.xmpp_replay.proofs.StandingSteps.{AreStanding, Stands, all_along, device_found, device_kept, home_kept}
-use Rattle.xmpp_replay.specs.Direct.{Take, accounts_of, along, archive_of, concerns, device_line, devices_of, entry_of, home_of, is_said_by, numbered_from, said_at, sent_by, take_at, take_line, takes_of}
+use Rattle.xmpp_schedule.proofs.Lists.{all_append, all_filter, all_if, all_map, all_weaker, map-map, map_nothing, same_bytes}
+use Rattle.xmpp_schedule.proofs.Prefixes.{along-append}
+use Rattle.xmpp_schedule.proofs.StandingSteps.{AreStanding, Stands, all_along, device_kept, home_kept}
+use Rattle.xmpp_replay.proofs.LawLists.{device_found}
+use Rattle.xmpp_report.specs.Takes.{Take, archive_of, concerns, entry_of, numbered_from}
+use Rattle.xmpp_schedule.specs.Contents.{accounts_of, along, devices_of, home_of, is_said_by, sent_by}
+use Rattle.xmpp_replay.specs.Direct.{device_line, said_at, take_at, takes_of}
+use Rattle.xmpp_report.specs.Lines.{take_line}
 use Rattle.xmpp_edge.specs.Names.{is_among}
-use Rattle.xmpp_replay.specs.Lawful.{AreNumberedBehind, AreOutcomes, AreSubmissions, EachPair, IsOfSubmission, IsOutcome, Precedes, device_named, is_taken, submission, take_named}
-use Rattle.xmpp_replay.specs.Schedules.{steps_of}
-use Rattle.xmpp_replay.specs.declared.report.RefusedLine.{RefusedLine}
-use Rattle.xmpp_replay.specs.declared.report.SaidLine.{SaidLine}
-use Rattle.xmpp_replay.specs.declared.report.SaidMark.TheVariants.{Acknowledged}
-use Rattle.xmpp_replay.specs.declared.report.TakeLine.{TakeLine}
-use Rattle.xmpp_replay.specs.declared.schedule.Line.{Line}
-use Rattle.xmpp_replay.specs.declared.schedule.Step.{Step}
-use Rattle.xmpp_replay.specs.declared.schedule.Step.TheVariants.{Say, Catchup}
+use Rattle.xmpp_report.specs.Lawful.{AreNumberedBehind, AreOutcomes, AreSubmissions, EachPair, IsOfSubmission, IsOutcome, Precedes, device_named, is_taken, submission, take_named}
+use Rattle.xmpp_schedule.specs.Schedules.{steps_of}
+use Rattle.xmpp_report.specs.declared.report.RefusedLine.{RefusedLine}
+use Rattle.xmpp_report.specs.declared.report.SaidLine.{SaidLine}
+use Rattle.xmpp_report.specs.declared.report.SaidMark.TheVariants.{Acknowledged}
+use Rattle.xmpp_report.specs.declared.report.TakeLine.{TakeLine}
+use Rattle.xmpp_schedule.specs.declared.schedule.Line.{Line}
+use Rattle.xmpp_schedule.specs.declared.schedule.Step.{Step}
+use Rattle.xmpp_schedule.specs.declared.schedule.Step.TheVariants.{Say, Catchup}
 
 -- a device has sent one more message, or no more
 sent_one : (device name to text : List ℕ) (before : List Step) → bytes_eq device name ≡ true →

@@ -7,24 +7,30 @@ use Rattle.std.specs.Str.{bytes_eq}
 use Rattle.xmpp_archive.specs.Entries.{EntryView}
 use Rattle.xmpp_log.specs.LogPages.{log_of}
 use Rattle.xmpp_log.specs.declared.log_entry.LogEntry.{LogEntry}
-use Rattle.xmpp_replay.proofs.LawArchives.{archive_few, archive_numbered, ids_apart}
+use Rattle.xmpp_replay.proofs.LawArchives.{archive_few, ids_apart}
+use Rattle.xmpp_report.proofs.TakenArchives.{archive_numbered}
 use Rattle.xmpp_replay.proofs.LawHistories.{ArePaged, paged_at}
-use Rattle.xmpp_replay.proofs.LawLists.{all_flat_map, all_map, all_of, all_weaker, map-map, map_nothing, pairs_by_both, pairs_by_first, pairs_front, pairs_map, zeros_not_falling}
+use Rattle.xmpp_schedule.proofs.Lists.{all_flat_map, all_map, all_of, all_weaker, map-map, map_nothing}
+use Rattle.xmpp_report.proofs.Pairs.{pairs_by_both, pairs_by_first, pairs_front, pairs_map}
+use Rattle.xmpp_replay.proofs.LawLists.{zeros_not_falling, account_found}
 use Rattle.xmpp_replay.proofs.LawPages.{tiles_are}
 use Rattle.xmpp_replay.proofs.LawTakes.{acknowledged, are_outcomes, are_submissions, first_epoch, named_in, stamps_known, taken_from, takes_back, takes_exist, takes_rise, takes_submitted}
 use Rattle.xmpp_replay.proofs.LawWorlds.{complete_lines, ends_with, is_fresh}
-use Rattle.xmpp_replay.proofs.StandingSteps.{AreStanding, account_found, few_lines, homes_are, homes_exist, steps_stand}
-use Rattle.xmpp_replay.specs.Direct.{account_line, accounts_of, along, archive_of, as_logged, device_line, devices_of, direct_report, entry_line, home_of, logged_line, page_line, pages_of, said_at, take_line, takes_of}
-use Rattle.xmpp_replay.specs.Grammar.{IsSchedule, nothing_declared}
+use Rattle.xmpp_schedule.proofs.StandingSteps.{AreStanding, few_lines, homes_are, homes_exist, steps_stand}
+use Rattle.xmpp_replay.specs.Direct.{account_line, as_logged, device_line, direct_report, pages_of, said_at, takes_of}
+use Rattle.xmpp_schedule.specs.Contents.{accounts_of, along, devices_of, home_of, Owned, is_account, is_catchup_of}
+use Rattle.xmpp_report.specs.Takes.{archive_of}
+use Rattle.xmpp_report.specs.Lines.{entry_line, logged_line, page_line, take_line}
+use Rattle.xmpp_schedule.specs.Grammar.{IsSchedule, nothing_declared}
 use Rattle.xmpp_edge.specs.Names.{is_among}
-use Rattle.xmpp_replay.specs.Lawful.{AgreeOnStamp, ArePages, AreOutcomes, AreSubmissions, EachPair, Home, IsAcknowledgedFirst, IsAcknowledgedRight, IsLawful, IsLogged, IsOfSchedule, IsOnceInOrder, IsPaged, IsPrefixOfAccount, IsSettledRight, IsTakenFirst, IsTakenRight, IsUndisturbed, Precedes, account_named, at_any_time, is_account, is_catchup_of, is_taken, logged_as}
-use Rattle.xmpp_replay.specs.Reports.{AccountView, DeviceView}
-use Rattle.xmpp_replay.specs.Schedules.{ScheduleView, steps_of}
-use Rattle.xmpp_replay.specs.declared.report.EntryLine.{EntryLine}
-use Rattle.xmpp_replay.specs.declared.report.LoggedLine.{LoggedLine}
-use Rattle.xmpp_replay.specs.declared.report.SaidMark.TheVariants.{Acknowledged, Waiting}
-use Rattle.xmpp_replay.specs.declared.schedule.Line.{Line}
-use Rattle.xmpp_replay.specs.declared.schedule.Step.{Step}
+use Rattle.xmpp_report.specs.Lawful.{AgreeOnStamp, ArePages, AreOutcomes, AreSubmissions, EachPair, IsAcknowledgedFirst, IsAcknowledgedRight, IsLawful, IsLogged, IsOfSchedule, IsOnceInOrder, IsPaged, IsPrefixOfAccount, IsSettledRight, IsTakenFirst, IsTakenRight, IsUndisturbed, Precedes, account_named, at_any_time, is_taken, logged_as}
+use Rattle.xmpp_report.specs.Reports.{AccountView, DeviceView}
+use Rattle.xmpp_schedule.specs.Schedules.{ScheduleView, steps_of}
+use Rattle.xmpp_report.specs.declared.report.EntryLine.{EntryLine}
+use Rattle.xmpp_report.specs.declared.report.LoggedLine.{LoggedLine}
+use Rattle.xmpp_report.specs.declared.report.SaidMark.TheVariants.{Acknowledged, Waiting}
+use Rattle.xmpp_schedule.specs.declared.schedule.Line.{Line}
+use Rattle.xmpp_schedule.specs.declared.schedule.Step.{Step}
 
 known_steps : (s : ScheduleView) → IsSchedule s → AreStanding [] (steps_of s.lines)
 known_steps s known = steps_stand [] 2 s.lines known.lines
@@ -36,7 +42,7 @@ each_device P all each = all_map P (device_line all) (devices_of all) (all_of (�
 each_account : (P : AccountView → Type 0) (all : List Step) → ((name : List ℕ) → P (account_line all name)) → AllByRecursion P (map (account_line all) (accounts_of all))
 each_account P all each = all_map P (account_line all) (accounts_of all) (all_of (λ name. P (account_line all name)) each (accounts_of all))
 
-abbrev home_line : DeviceView → Home
+abbrev home_line : DeviceView → Owned
 home_line d = record { device = d.name; account = d.account }
 
 abbrev account_name_of : AccountView → List ℕ

@@ -5,12 +5,12 @@ use Rattle.std.specs.List.{flat_map}
 use Rattle.std.specs.Str.{is_utf8, chars}
 use Rattle.xmpp_archive.specs.Ids.{id_of}
 use Rattle.xmpp_replay.specs.Direct.{direct_report}
-use Rattle.xmpp_replay.specs.Reading.{reading, read_line, read_words, read_account, read_device, read_say, read_catchup}
-use Rattle.xmpp_replay.specs.ReportText.{text_of}
-use Rattle.xmpp_replay.specs.Schedules.{ScheduleView, steps_of}
-use Rattle.xmpp_replay.specs.declared.schedule.LineWhy.TheVariants as why
-use Rattle.xmpp_replay.specs.declared.schedule.ScheduleFault.{ScheduleFault}
-use Rattle.xmpp_replay.specs.declared.schedule.ScheduleFault.TheVariants.{BadLine}
+use Rattle.xmpp_schedule.specs.Reading.{reading, read_line, read_words, read_account, read_device, read_say, read_catchup}
+use Rattle.xmpp_report.specs.ReportText.{text_of}
+use Rattle.xmpp_schedule.specs.Schedules.{ScheduleView, steps_of}
+use Rattle.xmpp_schedule.specs.declared.fault.ScheduleFault.{ScheduleFault}
+use Rattle.xmpp_schedule.specs.declared.fault.ScheduleFault.TheVariants.{BadLine}
+use Rattle.xmpp_schedule.specs.declared.fault.LineWhy.TheVariants as why
 
 -- each text with LF behind it
 abbrev ended : List (List ℕ) → List ℕ

@@ -4,19 +4,20 @@ use Rattle.std.proofs.lemmas.Bool.{false≢true}
 use Rattle.std.specs.Fmt.{digits}
 use Rattle.xmpp_archive.specs.Ids.{id_of}
 use Rattle.xmpp_replay.specs.Direct.{direct_report}
-use Rattle.xmpp_replay.specs.History.{World, world_after}
-use Rattle.xmpp_replay.specs.Lawful.{IsLawful}
-use Rattle.xmpp_replay.specs.Reports.{ReportView}
-use Rattle.xmpp_replay.specs.Schedules.{ScheduleView, steps_of}
-use Rattle.xmpp_replay.specs.declared.report.EntryLine.{EntryLine}
-use Rattle.xmpp_replay.specs.declared.report.LoggedLine.{LoggedLine}
-use Rattle.xmpp_replay.specs.declared.report.PageLine.{PageLine}
-use Rattle.xmpp_replay.specs.declared.report.RefusedLine.{RefusedLine}
-use Rattle.xmpp_replay.specs.declared.report.RefusedWhy.TheVariants.{NotBound}
-use Rattle.xmpp_replay.specs.declared.report.SaidLine.{SaidLine}
-use Rattle.xmpp_replay.specs.declared.report.SaidMark.TheVariants.{Acknowledged}
-use Rattle.xmpp_replay.specs.declared.report.TakeLine.{TakeLine}
-use Rattle.xmpp_replay.specs.declared.schedule.Step.TheVariants.{Account, Device, Say, Catchup}
+use Rattle.xmpp_report.specs.Worlds.{World}
+use Rattle.xmpp_replay.specs.History.{world_after}
+use Rattle.xmpp_report.specs.Lawful.{IsLawful}
+use Rattle.xmpp_report.specs.Reports.{ReportView}
+use Rattle.xmpp_schedule.specs.Schedules.{ScheduleView, steps_of}
+use Rattle.xmpp_report.specs.declared.report.EntryLine.{EntryLine}
+use Rattle.xmpp_report.specs.declared.report.LoggedLine.{LoggedLine}
+use Rattle.xmpp_report.specs.declared.report.PageLine.{PageLine}
+use Rattle.xmpp_report.specs.declared.report.RefusedLine.{RefusedLine}
+use Rattle.xmpp_report.specs.declared.report.RefusedWhy.TheVariants.{NotBound}
+use Rattle.xmpp_report.specs.declared.report.SaidLine.{SaidLine}
+use Rattle.xmpp_report.specs.declared.report.SaidMark.TheVariants.{Acknowledged}
+use Rattle.xmpp_report.specs.declared.report.TakeLine.{TakeLine}
+use Rattle.xmpp_schedule.specs.declared.schedule.Step.TheVariants.{Account, Device, Say, Catchup}
 
 -- one message to oneself, and a catch-up behind it
 abbrev schedule : ScheduleView

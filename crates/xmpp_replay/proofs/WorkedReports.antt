@@ -2,14 +2,14 @@
 use Rattle.std.proofs.Common.{◌≡◌, ℕ, List, [], ◌∷◌, ◌++◌, Some, None, refl, true, false, codes}
 use Rattle.std.specs.Fmt.{digits}
 use Rattle.std.specs.List.{flat_map}
-use Rattle.xmpp_replay.specs.ReportText.{text_of}
-use Rattle.xmpp_replay.specs.Reports.{AccountView, DeviceView, ReportView}
-use Rattle.xmpp_replay.specs.declared.report.ConnEnd.{ConnEnd}
-use Rattle.xmpp_replay.specs.declared.report.ConnEnd.TheVariants.{Cut, Left, Shut, Open}
-use Rattle.xmpp_replay.specs.declared.report.ConnLine.{ConnLine}
-use Rattle.xmpp_replay.specs.declared.report.EntryLine.{EntryLine}
-use Rattle.xmpp_replay.specs.declared.report.RefusedWhy.TheVariants as why
-use Rattle.xmpp_replay.specs.declared.report.SaidMark.TheVariants.{Acknowledged, Waiting, Undecided}
+use Rattle.xmpp_report.specs.ReportText.{text_of}
+use Rattle.xmpp_report.specs.Reports.{AccountView, DeviceView, ReportView}
+use Rattle.xmpp_report.specs.declared.report.ConnEnd.{ConnEnd}
+use Rattle.xmpp_report.specs.declared.report.ConnEnd.TheVariants.{Cut, Left, Shut, Open}
+use Rattle.xmpp_report.specs.declared.report.ConnLine.{ConnLine}
+use Rattle.xmpp_report.specs.declared.report.EntryLine.{EntryLine}
+use Rattle.xmpp_report.specs.declared.report.SaidMark.TheVariants.{Acknowledged, Waiting, Undecided}
+use Rattle.xmpp_report.specs.declared.report.RefusedWhy.TheVariants as why
 
 -- each text with LF behind it
 abbrev ended : List (List ℕ) → List ℕ

@@ -1,12 +1,13 @@
 -- What a device's message does to its account's archive, to the recipient's, and to what the device said.
 use Rattle.std.specs.Prelude.{◌≡◌, ℕ, ◌+◌, List, [], ◌∷◌, ◌++◌}
 use Rattle.std.specs.Option.{option_map_or}
-use Rattle.xmpp_replay.specs.Direct.{Take, entry_of, take_line}
+use Rattle.xmpp_report.specs.Takes.{Take, entry_of}
+use Rattle.xmpp_report.specs.Lines.{take_line}
 use Rattle.xmpp_replay.specs.Homes.{Home, delivered, names_of}
 use Rattle.xmpp_edge.specs.Names.{place_of}
-use Rattle.xmpp_replay.specs.declared.report.SaidLine.{SaidLine}
-use Rattle.xmpp_replay.specs.declared.report.SaidMark.TheVariants.{Acknowledged}
-use Rattle.xmpp_replay.specs.declared.report.TakeLine.{TakeLine}
+use Rattle.xmpp_report.specs.declared.report.SaidLine.{SaidLine}
+use Rattle.xmpp_report.specs.declared.report.SaidMark.TheVariants.{Acknowledged}
+use Rattle.xmpp_report.specs.declared.report.TakeLine.{TakeLine}
 use Rattle.xmpp_replay.specs.declared.run.devices.Device.{Device}
 
 -- the take of the device's next message

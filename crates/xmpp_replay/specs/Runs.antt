@@ -1,17 +1,19 @@
 -- A run in the middle of a schedule: what its parts are after the first steps, and what one step does to them.
 use Rattle.std.specs.Prelude.{◌≡◌, ℕ, ◌<◌, ◌≤◌, true, false, List, [], ◌∷◌, ◌++◌, Some, None, length, map, slice_set, slice_index_or, slice_get}
 use Rattle.std.specs.List.{All}
-use Rattle.xmpp_replay.specs.Direct.{accounts_of, along, archive_of, devices_of, home_of, pages_of, said_at, sent_by, take_line, takes_of}
-use Rattle.xmpp_edge.specs.Names.{is_among}
+use Rattle.xmpp_schedule.specs.Contents.{accounts_of, along, devices_of, home_of, sent_by}
+use Rattle.xmpp_report.specs.Takes.{archive_of}
+use Rattle.xmpp_replay.specs.Direct.{pages_of, said_at, takes_of}
+use Rattle.xmpp_report.specs.Lines.{take_line}
+use Rattle.xmpp_edge.specs.Names.{is_among, place_of}
 use Rattle.xmpp_replay.specs.Homes.{Home, home_at, names_of}
 use Rattle.xmpp_replay.specs.Messages.{HasSaid, homes_after, takes_after}
-use Rattle.xmpp_edge.specs.Names.{place_of}
-use Rattle.xmpp_replay.specs.Standing.{AreOnce}
+use Rattle.xmpp_schedule.specs.Standing.{AreOnce}
 use Rattle.xmpp_replay.specs.Turns.{IsFrontOf, IsLogOf, caught_up}
 use Rattle.xmpp_replay.specs.declared.run.Run.{Run}
 use Rattle.xmpp_replay.specs.declared.run.devices.Device.{Device}
-use Rattle.xmpp_replay.specs.declared.schedule.Step.{Step}
-use Rattle.xmpp_replay.specs.declared.schedule.Step.TheVariants.{Account, Device as DeviceStep, Say, Catchup}
+use Rattle.xmpp_schedule.specs.declared.schedule.Step.{Step}
+use Rattle.xmpp_schedule.specs.declared.schedule.Step.TheVariants.{Account, Device as DeviceStep, Say, Catchup}
 
 -- a device after the first steps
 pub record IsDevice (all before : List Step) (device : Device) : Type 0 where

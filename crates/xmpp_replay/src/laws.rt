@@ -1,7 +1,7 @@
 ghost use Rattle.xmpp_replay.specs.Direct.{direct_report};
-ghost use Rattle.xmpp_replay.specs.Grammar.{IsSchedule};
-ghost use Rattle.xmpp_replay.specs.Lawful.{IsLawful};
-ghost use Rattle.xmpp_replay.specs.Schedules.{ScheduleView, steps_of};
+ghost use Rattle.xmpp_schedule.specs.Grammar.{IsSchedule};
+ghost use Rattle.xmpp_report.specs.Lawful.{IsLawful};
+ghost use Rattle.xmpp_schedule.specs.Schedules.{ScheduleView, steps_of};
 
 /// A law: the report of a direct run keeps the five laws. What the archives hold is what was taken; each message was
 /// taken once and in order; what was acknowledged was taken; each log is a prefix of its account's archive; and the

@@ -2,13 +2,13 @@
 //! is answered at once.
 ghost use Rattle.std.specs.Prelude.{◌≡◌, ◌≤◌, false, true, [], IfOk, OnOk};
 ghost use Rattle.xmpp_replay.specs.Direct.{direct_report};
-ghost use Rattle.xmpp_replay.specs.Grammar.{IsSchedule};
+ghost use Rattle.xmpp_schedule.specs.Grammar.{IsSchedule};
 ghost use Rattle.xmpp_edge.specs.Names.{is_among};
 ghost use Rattle.xmpp_replay.specs.Homes.{names_of};
 ghost use Rattle.xmpp_replay.specs.ReportLines.{report_of};
 ghost use Rattle.xmpp_replay.specs.Runs.{HasCaughtUp, HasDeclared, HasFollowed, HasSent, IsAfter, IsReady, MayFollow};
-ghost use Rattle.xmpp_replay.specs.Schedules.{steps_of};
-ghost use Rattle.xmpp_replay.specs.Standing.{AreRight};
+ghost use Rattle.xmpp_schedule.specs.Schedules.{steps_of};
+ghost use Rattle.xmpp_schedule.specs.Standing.{AreRight};
 
 mod accounts;
 mod devices;

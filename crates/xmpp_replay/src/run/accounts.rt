@@ -1,12 +1,13 @@
 //! The accounts of a run, each with its archive.
 ghost use Rattle.std.specs.Prelude.{◌≡◌, ◌≢◌, ℕ, ◌+◌, ◌<◌, ◌≤◌, false, List, [], ◌∷◌, ◌++◌, length, map, slice_get, slice_index, slice_index_or, OnOk, OnErr, IfOk, IfSome, IfNone};
 ghost use Rattle.std.specs.List.{All};
-ghost use Rattle.xmpp_replay.specs.Direct.{account_name, accounts_of, bare_address};
+ghost use Rattle.xmpp_schedule.specs.Contents.{account_name, accounts_of};
+ghost use Rattle.xmpp_report.specs.Addresses.{bare_address};
 ghost use Rattle.xmpp_edge.specs.Names.{is_among};
 ghost use Rattle.xmpp_replay.specs.Homes.{Home, IsWhole, home_of_account, names_of, empty_home, appended_at, delivered};
 ghost use Rattle.xmpp_edge.specs.Names.{place_of};
-ghost use Rattle.xmpp_replay.specs.Schedules.{steps_of};
-ghost use Rattle.xmpp_replay.specs.Standing.{AreRight};
+ghost use Rattle.xmpp_schedule.specs.Schedules.{steps_of};
+ghost use Rattle.xmpp_schedule.specs.Standing.{AreRight};
 
 use xmpp_edge::NameIndex;
 use crate::schedule::{Line, Step};

@@ -1,7 +1,9 @@
 //! A device's message on its way into the archives.
 ghost use Rattle.std.specs.Prelude.{◌≡◌, ◌+◌, ◌<◌, ◌∷◌, ◌++◌, [], length, OnOk, OnErr, IfOk};
 ghost use Rattle.std.specs.List.{All};
-ghost use Rattle.xmpp_replay.specs.Direct.{entry_of, full_address, origin_of, take_line};
+ghost use Rattle.xmpp_report.specs.Takes.{entry_of};
+ghost use Rattle.xmpp_report.specs.Addresses.{full_address, origin_of};
+ghost use Rattle.xmpp_report.specs.Lines.{take_line};
 ghost use Rattle.xmpp_replay.specs.Homes.{Home, delivered};
 ghost use Rattle.xmpp_replay.specs.Messages.{HasSaid, homes_after, said_by, take_by, takes_after};
 

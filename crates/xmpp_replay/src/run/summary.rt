@@ -1,8 +1,9 @@
 //! What a run came to, moved into the lines of its report.
 ghost use Rattle.std.specs.Prelude.{◌≡◌, map, IfOk};
-ghost use Rattle.xmpp_replay.specs.Direct.{entry_line, first_body, logged_line};
+ghost use Rattle.xmpp_report.specs.Lines.{entry_line, first_body, logged_line};
 ghost use Rattle.xmpp_replay.specs.Homes.{home_of_account};
-ghost use Rattle.xmpp_replay.specs.ReportLines.{home_line, state_line, tile_line};
+ghost use Rattle.xmpp_replay.specs.ReportLines.{home_line, state_line};
+ghost use Rattle.xmpp_report.specs.Lines.{tile_line};
 
 use crate::report::{
     AccountLine, AccountLines, DeviceLine, DeviceLines, EntryLine, EntryLines, LoggedLine,

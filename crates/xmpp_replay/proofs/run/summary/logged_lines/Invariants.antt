@@ -1,7 +1,7 @@
 -- The lines so far, and those of the entries to come.
 use Rattle.std.proofs.Common.{◌≡◌, ◌++◌, length, map}
 use Rattle.std.specs.Vec.Iter.{into_iter_items, into_iter_len}
-use Rattle.xmpp_replay.specs.Direct.{logged_line}
+use Rattle.xmpp_report.specs.Lines.{logged_line}
 use Rattle.xmpp_replay.proofs.run.summary.logged_lines.Given as goal
 
 abbrev pub invariant-loop-logged : goal.invariant-loop-logged

@@ -1,7 +1,7 @@
 -- The lines so far, and those of the tiles to come.
 use Rattle.std.proofs.Common.{◌≡◌, ◌++◌, length, map}
 use Rattle.std.specs.Vec.Iter.{into_iter_items, into_iter_len}
-use Rattle.xmpp_replay.specs.ReportLines.{tile_line}
+use Rattle.xmpp_report.specs.Lines.{tile_line}
 use Rattle.xmpp_replay.proofs.run.summary.page_lines.Given as goal
 
 abbrev pub invariant-loop-tile : goal.invariant-loop-tile

@@ -1,0 +1,9 @@
+pub mod Again
+pub mod Answered
+pub mod Found
+pub mod Lists
+pub mod Numbers
+pub mod Prefixes
+pub mod ReadLines
+pub mod StandingSteps
+pub mod Words
