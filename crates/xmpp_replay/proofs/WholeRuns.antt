@@ -103,7 +103,7 @@ after_none all run homes takes index devices = record {
   names = ap (map (λ (d : Device). d.name)) devices;
   devices = subst (λ (ds : List Device). All (IsDevice all []) ds) (sym devices) (All-nil (IsDevice all []));
   once = none_once;
-  unused = λ name absent. record { said = refl; sent = refl; pages = refl };
+  unused = λ name absent. record { said = refl; pages = refl };
 }
 
 page_lines_same : (pages : List LogPage) → map tile_line (map tile_of pages) ≡ map page_line pages

@@ -24,8 +24,6 @@ use Rattle.xmpp_report.specs.Addresses.{bare_address}
 use Rattle.xmpp_report.specs.Takes.{Take, archive_of}
 use Rattle.xmpp_report.specs.Lines.{take_line, entry_line, logged_line, page_line}
 
--- Addresses (RFC 7622): an account's bare address, and a device's full one. The device's name is its resource.
-
 -- A message is taken at once where its account exists: where any line of the whole schedule declares it.
 abbrev pub take_at : List Step → List Step → Step → List Take
 take_at all before (Say device to text) =

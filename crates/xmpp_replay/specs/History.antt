@@ -1,9 +1,8 @@
--- The history of a schedule: the archives and the logs before its first move and after each move. Each line of a
--- direct schedule is one move.
+-- The history of the direct run of a schedule: the archives and the logs before its first move and after each move.
+-- Each line is one move. Of a wire schedule this says nothing: its moves are others.
 use Rattle.std.specs.Prelude.{◌∷◌, [], ◌++◌, List, length}
 use Rattle.xmpp_report.specs.Takes.{archive_of}
 use Rattle.xmpp_replay.specs.Direct.{takes_of, pages_of}
-use Rattle.xmpp_schedule.specs.Schedules.{ScheduleView, steps_of}
 use Rattle.xmpp_schedule.specs.declared.schedule.Step.{Step}
 use Rattle.xmpp_report.specs.Worlds.{World}
 
@@ -19,6 +18,6 @@ abbrev pub worlds_from : List Step → List Step → List Step → List World
 worlds_from all before [] = world_after all before ∷ []
 worlds_from all before (step ∷ steps) = world_after all before ∷ worlds_from all (before ++ step ∷ []) steps
 
--- the first world, and the world after each move
-abbrev pub history : ScheduleView → List World
-history schedule = worlds_from (steps_of schedule.lines) [] (steps_of schedule.lines)
+-- the worlds of the direct run of these steps: the first one, and the one after each move
+abbrev pub direct_history : List Step → List World
+direct_history steps = worlds_from steps [] steps

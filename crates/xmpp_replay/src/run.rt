@@ -16,13 +16,12 @@ mod messages;
 mod pages;
 mod summary;
 
-use xmpp_edge::NameIndex;
-use crate::report::{Report, TakeLines};
 use crate::run::accounts::Accounts;
 use crate::run::devices::Device;
-use crate::schedule::{Line, Schedule, Step};
 use std::alloc::Global;
-use xmpp_edge::{ListOf, NoMemory};
+use xmpp_edge::{ListOf, NameIndex, NoMemory};
+use xmpp_report::{Report, TakeLines};
+use xmpp_schedule::{Line, Schedule, Step};
 
 /// The accounts that a schedule declares anywhere, the devices that were declared so far, each found by its name,
 /// and the messages that were taken so far.
@@ -63,10 +62,10 @@ impl Run {
             unreachable!()
         };
         messages::say(
+            alloc,
             &mut self.devices[place],
             &mut self.accounts,
             &mut self.takes,
-            alloc,
             to,
             text,
         )
@@ -84,8 +83,8 @@ impl Run {
         };
         let device = &mut self.devices[place];
         pages::catch_up(
-            &mut device.log,
             alloc,
+            &mut device.log,
             self.accounts.archive(device.home),
             most,
         )
@@ -168,6 +167,3 @@ pub fn direct(alloc: Global, schedule: &Schedule) -> Result<Report, NoMemory>
     run.follow_lines(alloc, lines)?;
     run.into_report(alloc)
 }
-
-#[cfg(test)]
-mod tests;

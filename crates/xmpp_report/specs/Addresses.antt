@@ -1,9 +1,13 @@
--- The addresses and ids that a schedule's names make.
+-- The addresses (RFC 7622) and ids that a schedule's names make. A device's name is its resource.
 use Rattle.std.specs.Prelude.{ℕ, ◌+◌, List, ◌∷◌, ◌++◌, codes}
 use Rattle.std.specs.Fmt.{decimal}
 
+-- the one domain
+abbrev pub domain : List ℕ
+domain = codes "chat.example"
+
 abbrev pub bare_address : List ℕ → List ℕ
-bare_address account = account ++ codes "@chat.example"
+bare_address account = account ++ 64 ∷ domain
 
 abbrev pub full_address : List ℕ → List ℕ → List ℕ
 full_address account device = bare_address account ++ 47 ∷ device

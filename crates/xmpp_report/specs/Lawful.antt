@@ -1,5 +1,6 @@
 -- The five laws that a report keeps, whatever came between the devices and the server. They speak of takes,
--- submissions, archives, logs and pages, and of no connection and no run.
+-- submissions, archives, logs and pages, and of no connection and no run. What the archives and logs were at each
+-- moment is given to them as a list of worlds: the history of whichever run the report is of.
 use Rattle.std.specs.Prelude.{◌≡◌, ◌≢◌, ℕ, ◌+◌, ◌<◌, ◌≤◌, ◌==◌, Bool, false, ◌&&◌, ◌⊎◌, List, [], ◌∷◌, ◌++◌, Option, Some, None, IsTrue, IfSome, is_some, length, map, filter, take, drop, count_by, slice_get, if◌then◌else◌}
 use Rattle.std.specs.Bool.{MatchBool}
 use Rattle.std.specs.List.{flat_map, list_any, AllByRecursion}
@@ -10,7 +11,6 @@ use Rattle.xmpp_report.specs.Lines.{entry_line}
 use Rattle.xmpp_schedule.specs.Contents.{accounts_of, is_account, is_catchup_of}
 use Rattle.xmpp_edge.specs.Names.{is_among}
 use Rattle.xmpp_report.specs.Worlds.{World}
-use Rattle.xmpp_replay.specs.History.{history}
 use Rattle.xmpp_report.specs.Reports.{AccountView, DeviceView, ReportView}
 use Rattle.xmpp_schedule.specs.Schedules.{ScheduleView, steps_of}
 use Rattle.xmpp_report.specs.declared.report.EntryLine.{EntryLine}
@@ -154,7 +154,7 @@ pub record IsTakenRight (schedule : ScheduleView) (report : ReportView) : Type 0
   -- each message of the schedule is one submission or one refused line
   pub said : AllByRecursion (λ d. AreOutcomes d.name schedule.lines d.said d.refused) report.devices
 
--- Law 2: once and in order.
+-- Law 2: each message is taken at most once, and in order.
 
 abbrev pub Precedes : TakeLine → TakeLine → Type 0
 Precedes a b = (a.epoch < b.epoch) ⊎ ((a.epoch ≡ b.epoch) × (a.n < b.n))
@@ -170,7 +170,8 @@ pub record IsOnceInOrder (schedule : ScheduleView) (report : ReportView) : Type 
   pub rise : AllByRecursion (λ d. EachPair Precedes (filter (λ t. bytes_eq d.name t.device) report.takes)) report.devices
   pub gapless : AllByRecursion (λ d. EachPair (IsTakenFirst schedule report.takes d.name) d.said) report.devices
 
--- Law 3: what was acknowledged was taken, and of a settled device nothing is outstanding.
+-- Law 3: what was acknowledged and is to an account that exists was taken, and of a settled device nothing is
+-- outstanding.
 
 abbrev pub IsAcknowledgedFirst : SaidLine → SaidLine → Type 0
 IsAcknowledgedFirst first second = first.epoch ≡ second.epoch → second.state ≡ Acknowledged → first.state ≡ Acknowledged
@@ -200,13 +201,10 @@ pub record IsAcknowledgedRight (schedule : ScheduleView) (report : ReportView) :
 
 -- Law 4: each log is a prefix of its account's archive.
 
-abbrev pub logged_as : EntryLine → LoggedLine
-logged_as e = record { id = e.id; stamp = e.stamp; from = e.from; to = e.to; origin = e.origin; text = e.text }
-
 -- the device's log and its held messages, beside its account's archive
 pub record IsPrefixOf (archive : List EntryLine) (device : DeviceView) : Type 0 where
   pub short : length device.logged ≤ length archive
-  pub logged : device.logged ≡ map logged_as (take (length device.logged) archive)
+  pub logged : map (λ l. l.entry) device.logged ≡ take (length device.logged) archive
   pub apart : EachPair (λ a b. a.id ≢ b.id) device.held
   -- what is held stands behind the log's last entry
   pub held : AllByRecursion (λ h. IsTrue (is_among h.id (map (λ e. e.id) (drop (length device.logged) archive)))) device.held
@@ -223,7 +221,7 @@ pub record IsLogged (schedule : ScheduleView) (report : ReportView) : Type 0 whe
 
 abbrev pub last_logged : List LoggedLine → Option (List ℕ)
 last_logged [] = None
-last_logged (e ∷ []) = Some e.id
+last_logged (e ∷ []) = Some e.entry.id
 last_logged (e ∷ f ∷ es) = last_logged (f ∷ es)
 
 -- Behind what was logged before, the pages cut what is left of the log: each was asked for behind the last entry
@@ -252,28 +250,28 @@ IsFresh worlds device k total =
     → Passes k (length (taking.pages device.name)) (length (taken.pages device.name))
     → (length (asking.archive device.account) ≤ total) × (total ≤ length (taken.archive device.account))
 
--- the report's pages are those of the last world
+-- the last world has as many pages of the device as the report
 abbrev pub EndsWith : List World → DeviceView → Type 0
 EndsWith [] device = ⊥
 EndsWith (world ∷ []) device = length (world.pages device.name) ≡ length device.pages
 EndsWith (world ∷ next ∷ worlds) device = EndsWith (next ∷ worlds) device
 
-pub record ArePages (schedule : ScheduleView) (device : DeviceView) : Type 0 where
+pub record ArePages (worlds : List World) (schedule : ScheduleView) (device : DeviceView) : Type 0 where
   pub tiles : AreTiles [] device.pages device.logged
-  pub distinct : EachPair (λ a b. a.id ≢ b.id) device.logged
-  pub fresh : (k total : ℕ) (page : PageLine) → slice_get device.pages k ≡ Some page → page.total ≡ Some total → IsFresh (history schedule) device k total
-  pub last : EndsWith (history schedule) device
+  pub distinct : EachPair (λ a b. a.entry.id ≢ b.entry.id) device.logged
+  pub fresh : (k total : ℕ) (page : PageLine) → slice_get device.pages k ≡ Some page → page.total ≡ Some total → IsFresh worlds device k total
+  pub last : EndsWith worlds device
   -- in a direct run each catch-up came to a complete page
   pub answered : schedule.wire ≡ false → count_by (λ page. is_some page.total) device.pages ≡ count_by (is_catchup_of device.name) (steps_of schedule.lines)
 
-pub record IsPaged (schedule : ScheduleView) (report : ReportView) : Type 0 where
+pub record IsPaged (worlds : List World) (schedule : ScheduleView) (report : ReportView) : Type 0 where
   pub whole : IsOfSchedule schedule report
-  pub pages : AllByRecursion (ArePages schedule) report.devices
+  pub pages : AllByRecursion (ArePages worlds schedule) report.devices
 
--- the report keeps all five laws
-pub record IsLawful (schedule : ScheduleView) (report : ReportView) : Type 0 where
+-- the report keeps all five laws, where these were the worlds before the first move and after each move
+pub record IsLawful (worlds : List World) (schedule : ScheduleView) (report : ReportView) : Type 0 where
   pub taken : IsTakenRight schedule report
   pub in_order : IsOnceInOrder schedule report
   pub acknowledged : IsAcknowledgedRight schedule report
   pub logged : IsLogged schedule report
-  pub paged : IsPaged schedule report
+  pub paged : IsPaged worlds schedule report

@@ -24,7 +24,9 @@ abbrev pub entry_line : EntryView → EntryLine
 entry_line e = record { id = id_of e.number; stamp = e.stamp; from = e.from; to = e.to; origin = e.origin; text = first_body e.bodies }
 
 abbrev pub logged_line : LogEntry → LoggedLine
-logged_line l = record { id = l.id; stamp = l.entry.stamp; from = l.entry.from; to = l.entry.to; origin = l.entry.origin; text = first_body l.entry.bodies }
+logged_line l = record {
+  entry = record { id = l.id; stamp = l.entry.stamp; from = l.entry.from; to = l.entry.to; origin = l.entry.origin; text = first_body l.entry.bodies };
+}
 
 abbrev pub page_line : LogPage → PageLine
 page_line page = record { after = page.after; count = length page.entries; total = if page.complete then Some page.total else None }

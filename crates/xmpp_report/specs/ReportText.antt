@@ -28,12 +28,11 @@ take_text line =
     codes "take " ++ line.device ++ 32 ∷ decimal line.epoch ++ 32 ∷ decimal line.n ++ 32 ∷ line.account ++ 10 ∷ []
 
 -- the fields of an entry, in an archive and in a log alike
-abbrev pub fields_text : List ℕ → ℕ → List ℕ → List ℕ → List ℕ → List ℕ → List ℕ
-fields_text id stamp from to origin text =
-    id ++ 32 ∷ decimal stamp ++ 32 ∷ from ++ 32 ∷ to ++ 32 ∷ origin ++ 32 ∷ text ++ 10 ∷ []
+abbrev pub fields_text : EntryLine → List ℕ
+fields_text e = e.id ++ 32 ∷ decimal e.stamp ++ 32 ∷ e.from ++ 32 ∷ e.to ++ 32 ∷ e.origin ++ 32 ∷ e.text ++ 10 ∷ []
 
 abbrev pub entry_text : EntryLine → List ℕ
-entry_text line = codes "entry " ++ fields_text line.id line.stamp line.from line.to line.origin line.text
+entry_text line = codes "entry " ++ fields_text line
 
 abbrev pub account_text : AccountView → List ℕ
 account_text line =
@@ -85,7 +84,7 @@ abbrev pub underway_text : UnderwayLine → List ℕ
 underway_text line = codes "underway " ++ line.queryid ++ 32 ∷ decimal line.got ++ 10 ∷ []
 
 abbrev pub logged_text : LoggedLine → List ℕ
-logged_text line = codes "logged " ++ fields_text line.id line.stamp line.from line.to line.origin line.text
+logged_text line = codes "logged " ++ fields_text line.entry
 
 abbrev pub held_text : HeldLine → List ℕ
 held_text line = codes "held " ++ line.id ++ 10 ∷ []

@@ -1,3 +1,4 @@
+//! The texts of a report's single lines.
 ghost use Rattle.std.specs.Prelude.{◌≡◌, [], ◌∷◌, ◌++◌, OnOk};
 ghost use Rattle.xmpp_report.specs.ReportText.{fields_text, conn_end_text, mark_text, refused_why_text, after_text, total_text};
 
@@ -24,26 +25,15 @@ impl Printed for TakeLine {
 }
 
 /// The fields of an entry, in an archive and in a log alike.
-#[derive(Clone, Copy)]
-struct Fields<'a> {
-    id: &'a Text,
-    stamp: u64,
-    from: &'a Text,
-    to: &'a Text,
-    origin: &'a Text,
-    text: &'a Text,
-}
-
-fn print_fields(out: &mut Bytes, fields: &Fields) -> Result<(), NoMemory>
-    ensures { OnOk result (out.new.items ≡ out.old.items
-        ++ fields_text fields.now.id.now fields.now.stamp fields.now.from.now fields.now.to.now fields.now.origin.now fields.now.text.now) }
+fn print_fields(out: &mut Bytes, entry: &EntryLine) -> Result<(), NoMemory>
+    ensures { OnOk result (out.new.items ≡ out.old.items ++ fields_text entry.now) }
 {
-    out.append(fields.id.as_str().as_bytes())?;
-    append_number_field(out, fields.stamp)?;
-    append_field(out, fields.from.as_str())?;
-    append_field(out, fields.to.as_str())?;
-    append_field(out, fields.origin.as_str())?;
-    append_field(out, fields.text.as_str())?;
+    out.append(entry.id.as_str().as_bytes())?;
+    append_number_field(out, entry.stamp)?;
+    append_field(out, entry.from.as_str())?;
+    append_field(out, entry.to.as_str())?;
+    append_field(out, entry.origin.as_str())?;
+    append_field(out, entry.text.as_str())?;
     out.append(b"\n")
 }
 
@@ -54,17 +44,7 @@ impl Printed for EntryLine {
 
     fn print(&self, out: &mut Bytes) -> Result<(), NoMemory> {
         out.append(b"entry ")?;
-        print_fields(
-            out,
-            &Fields {
-                id: &self.id,
-                stamp: self.stamp,
-                from: &self.from,
-                to: &self.to,
-                origin: &self.origin,
-                text: &self.text,
-            },
-        )
+        print_fields(out, self)
     }
 }
 
@@ -75,17 +55,7 @@ impl Printed for LoggedLine {
 
     fn print(&self, out: &mut Bytes) -> Result<(), NoMemory> {
         out.append(b"logged ")?;
-        print_fields(
-            out,
-            &Fields {
-                id: &self.id,
-                stamp: self.stamp,
-                from: &self.from,
-                to: &self.to,
-                origin: &self.origin,
-                text: &self.text,
-            },
-        )
+        print_fields(out, &self.entry)
     }
 }
 

@@ -1,3 +1,4 @@
+//! What a run of a schedule came to: a line for each thing that it tells.
 use std::marker::Model;
 use xmpp_edge::{ListOf, Text};
 
@@ -142,15 +143,10 @@ pub struct UnderwayLine {
 /// The page under way, where there is one.
 pub type UnderwayLines = ListOf<UnderwayLine>;
 
-/// An entry of a device's log, field by field as in its account's archive.
+/// An entry of a device's log.
 #[derive(Drop)]
 pub struct LoggedLine {
-    pub id: Text,
-    pub stamp: u64,
-    pub from: Text,
-    pub to: Text,
-    pub origin: Text,
-    pub text: Text,
+    pub entry: EntryLine,
 }
 
 /// Entries of a log, in order.

@@ -1,3 +1,4 @@
+//! The text of a report.
 ghost use Rattle.std.specs.Prelude.{◌≡◌, [], ◌∷◌, ◌++◌, IfOk, OnOk, codes, decimal};
 ghost use Rattle.std.specs.List.{flat_map};
 ghost use Rattle.xmpp_report.specs.ReportText.{text_of, settled_text, said_text, refused_text, page_text, underway_text, logged_text, held_text};
@@ -86,63 +87,4 @@ pub fn report_text(alloc: Global, report: &Report) -> Result<Bytes, NoMemory>
     print_all(&mut out, &report.devices)?;
     out.append(b"end\n")?;
     Ok(out)
-}
-
-#[cfg(test)]
-mod tests {
-    use super::*;
-    use crate::report::{
-        AccountLines, ConnLines, DeviceLines, EntryLine, EntryLines, TakeLine, TakeLines,
-    };
-    use std::test::Fail;
-    use xmpp_edge::Text;
-
-    fn greeting(alloc: Global) -> Result<EntryLine, NoMemory> {
-        Ok(EntryLine {
-            id: Text::from_str(alloc, "0000000000000001")?,
-            stamp: 1500,
-            from: Text::from_str(alloc, "alice@chat.example/phone")?,
-            to: Text::from_str(alloc, "bob@chat.example")?,
-            origin: Text::from_str(alloc, "phone.2.1")?,
-            text: Text::from_str(alloc, "hi bob")?,
-        })
-    }
-
-    fn report(alloc: Global) -> Result<Report, NoMemory> {
-        let mut takes = TakeLines::new(alloc);
-        takes.push(TakeLine {
-            device: Text::from_str(alloc, "phone")?,
-            epoch: 2,
-            n: 1,
-            account: Text::from_str(alloc, "bob")?,
-        })?;
-        let mut entries = EntryLines::new(alloc);
-        entries.push(greeting(alloc)?)?;
-        let mut accounts = AccountLines::new(alloc);
-        accounts.push(AccountLine {
-            name: Text::from_str(alloc, "bob")?,
-            count: 1,
-            entries,
-        })?;
-        Ok(Report {
-            wire: true,
-            takes,
-            accounts,
-            conns: ConnLines::new(alloc),
-            devices: DeviceLines::new(alloc),
-        })
-    }
-
-    #[test]
-    fn prints_a_take_and_an_entry(rt: HostRuntime) -> Result<(), Fail> {
-        let text = report_text(rt.alloc(), &report(rt.alloc())?)?;
-        let wanted = b"xmpp-report 1 wire
-take phone 2 1 bob
-account bob 1
-entry 0000000000000001 1500 alice@chat.example/phone bob@chat.example phone.2.1 hi bob
-end
-";
-        assert_eq!(rt; text.as_slice(), wanted.as_slice());
-        Ok(())
-    }
 }

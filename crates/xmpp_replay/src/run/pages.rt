@@ -73,8 +73,9 @@ fn fin_of(alloc: Global, cut: &PageCut) -> Result<Fin, NoMemory>
     })
 }
 
-/// Begins the next page, and answers its query id.
-fn begin_page(log: &mut Log, alloc: Global, most: u32) -> Result<Text, NoMemory>
+/// Begins the next page, and answers its query id: `q` and how many pages the log has, so that no two pages of a log
+/// share one.
+fn begin_page(alloc: Global, log: &mut Log, most: u32) -> Result<Text, NoMemory>
     requires most { (1 ≤ most) × (most ≤ 100) }
     requires closed { log.old.page ≡ None }
     ensures { IfOk result (λ queryid. log.new ≡ opened queryid most log.old []) }
@@ -92,8 +93,8 @@ fn begin_page(log: &mut Log, alloc: Global, most: u32) -> Result<Text, NoMemory>
 
 /// Copies the archive's entry with a number into the open page.
 fn copy_result(
-    log: &mut Log,
     alloc: Global,
+    log: &mut Log,
     queryid: &str,
     archive: &Archive,
     number: u64,
@@ -118,7 +119,7 @@ fn copy_result(
 }
 
 /// Ends the open page, of which it is known that it ends well.
-fn end_page(log: &mut Log, alloc: Global, queryid: &str, fin: &Fin) -> Result<(), NoMemory>
+fn end_page(alloc: Global, log: &mut Log, queryid: &str, fin: &Fin) -> Result<(), NoMemory>
     requires { fin_answer log.old queryid.now fin.now ≡ Ok (outcome_of fin.now.complete) }
     ensures { OnOk result (log.new ≡ after_fin log.old fin.now) }
 {
@@ -134,8 +135,8 @@ fn end_page(log: &mut Log, alloc: Global, queryid: &str, fin: &Fin) -> Result<()
 
 /// Copies the archive's entries with the numbers of the next page into the open page.
 fn copy_results(
-    log: &mut Log,
     alloc: Global,
+    log: &mut Log,
     queryid: &str,
     archive: &Archive,
     most: u32,
@@ -147,14 +148,14 @@ fn copy_results(
     ensures { OnOk result (log.new ≡ opened queryid.now most log.old (map as_logged (take most (drop (length log.old.entries) archive.now.entries)))) }
 {
     for number in numbers {
-        copy_result(log, alloc, queryid, archive, *number)?;
+        copy_result(alloc, log, queryid, archive, *number)?;
     }
     Ok(())
 }
 
 /// Takes the archive's next page of at most so many entries over into the log. It answers whether the page is
 /// complete, and costs what the page costs, however long the archive is.
-fn take_page(log: &mut Log, alloc: Global, archive: &Archive, most: u32) -> Result<bool, NoMemory>
+fn take_page(alloc: Global, log: &mut Log, archive: &Archive, most: u32) -> Result<bool, NoMemory>
     requires whole { IsWhole archive.now }
     requires most { (1 ≤ most) × (most ≤ 100) }
     requires closed { log.old.page ≡ None }
@@ -164,24 +165,24 @@ fn take_page(log: &mut Log, alloc: Global, archive: &Archive, most: u32) -> Resu
 {
     let cut = ask(alloc, log, archive, most)?;
     let fin = fin_of(alloc, &cut)?;
-    let queryid = begin_page(log, alloc, most)?;
+    let queryid = begin_page(alloc, log, most)?;
     copy_results(
-        log,
         alloc,
+        log,
         queryid.as_str(),
         archive,
         most,
         cut.numbers.as_slice(),
     )?;
-    end_page(log, alloc, queryid.as_str(), &fin)?;
+    end_page(alloc, log, queryid.as_str(), &fin)?;
     Ok(cut.complete)
 }
 
 /// Takes the pages behind the log's last entry until one is complete. Each costs what its entries cost.
 #[tactic(auto, using(crate::proofs::CatchUps::turn_kept, crate::proofs::CatchUps::turn_smaller, crate::proofs::CatchUps::front_grows))]
 pub(crate) fn catch_up(
-    log: &mut Log,
     alloc: Global,
+    log: &mut Log,
     archive: &Archive,
     most: u32,
 ) -> Result<(), NoMemory>
@@ -193,7 +194,7 @@ pub(crate) fn catch_up(
 {
     let mut more = true;
     while more {
-        more = !take_page(log, alloc, archive, most)?;
+        more = !take_page(alloc, log, archive, most)?;
     }
     Ok(())
 }

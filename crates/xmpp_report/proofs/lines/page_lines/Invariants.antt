@@ -2,7 +2,7 @@
 use Rattle.std.proofs.Common.{◌≡◌, ◌++◌, length, map}
 use Rattle.std.specs.Vec.Iter.{into_iter_items, into_iter_len}
 use Rattle.xmpp_report.specs.Lines.{tile_line}
-use Rattle.xmpp_replay.proofs.run.summary.page_lines.Given as goal
+use Rattle.xmpp_report.proofs.lines.page_lines.Given as goal
 
 abbrev pub invariant-loop-tile : goal.invariant-loop-tile
 invariant-loop-tile l = record {

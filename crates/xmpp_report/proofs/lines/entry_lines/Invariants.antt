@@ -2,7 +2,7 @@
 use Rattle.std.proofs.Common.{◌≡◌, ◌++◌, length, map}
 use Rattle.std.specs.Vec.Iter.{into_iter_items, into_iter_len}
 use Rattle.xmpp_report.specs.Lines.{entry_line}
-use Rattle.xmpp_replay.proofs.run.summary.entry_lines.Given as goal
+use Rattle.xmpp_report.proofs.lines.entry_lines.Given as goal
 
 abbrev pub invariant-loop-entry : goal.invariant-loop-entry
 invariant-loop-entry l = record {
