@@ -1,4 +1,4 @@
-ghost use Rattle.std.specs.Prelude.{◌≡◌, ◌+◌, ◌-◌, ◌<◌, ◌≤◌, ◌↔◌, ◌⊎◌, ◌∷◌, [], ◌++◌, length, map, slice_get, IfSome, IfNone, IsNone, IsErrOf, OnOk, IsTrue};
+ghost use Rattle.std.specs.Prelude.{◌≡◌, ◌+◌, ◌-◌, ◌<◌, ◌≤◌, ◌↔◌, ◌⊎◌, ◌∷◌, [], ◌++◌, length, map, drop, slice_get, IfSome, IfNone, IsNone, IsErrOf, OnOk, IsTrue};
 ghost use Rattle.std.specs.Option.{option_copied};
 ghost use Rattle.std.specs.VecDeque.{deque_len, deque_capacity};
 ghost use Rattle.xmpp_archive.specs.Chained.{IsChained};
@@ -82,6 +82,14 @@ impl From<NoMemory> for ArchiveFault {
     }
 }
 
+/// Drops the first entry.
+fn drop_oldest(entries: &mut VecDeque<Entry>)
+    ensures entries { entries.new.items ≡ drop 1 entries.old.items }
+    ensures spare { deque_capacity entries.old - deque_len entries.old ≤ deque_capacity entries.new - deque_len entries.new }
+{
+    let _oldest = entries.pop_front();
+}
+
 /// Drops the oldest entry where as many are there as are kept, to make place for the one with the next number.
 fn make_place(owner: &str, entries: &mut VecDeque<Entry>, links: &mut Links, keep: u32, next: u64)
     requires kept { AreKept keep (next - 1) entries.old.items }
@@ -95,7 +103,7 @@ fn make_place(owner: &str, entries: &mut VecDeque<Entry>, links: &mut Links, kee
     let count = entries.len() as u64;
     if count == u64::from(keep) {
         links.unlink_first(owner, entries, next - count);
-        let _oldest = entries.pop_front();
+        drop_oldest(entries);
     }
 }
 

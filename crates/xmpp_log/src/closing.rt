@@ -4,7 +4,7 @@ ghost use Rattle.xmpp_log.specs.IdSets.{IsIndexOf};
 ghost use Rattle.xmpp_log.specs.LogPages.{ids_of, last_id};
 ghost use Rattle.xmpp_log.specs.Views.{LogView, advance_of, end_of, outcome_of, first_repeat, repeat_of, same_id};
 
-use crate::fin::{Fin, FinFault, PageOutcome};
+use crate::fin::{FinFault, PageOutcome};
 use crate::index::add_ids;
 use crate::log_entry::LogEntries;
 use crate::open_page::{Page, borrowed, copied, last_id, same_id};
@@ -12,6 +12,7 @@ use crate::tile::{Tile, Tiles};
 use std::alloc::Global;
 use std::collections::BTreeSet;
 use xmpp_edge::NoMemory;
+use xmpp_pages::Fin;
 
 /// Makes room for further entries and a further tile.
 pub(crate) fn make_room(

@@ -7,7 +7,7 @@ ghost use Rattle.xmpp_log.specs.Views.{after_fin, after_refusal, fin_answer, pag
 
 use crate::closing::{judge, make_room, take_over};
 use crate::faults::{BeginFault, ResultFault};
-use crate::fin::{Fin, FinFault, PageOutcome};
+use crate::fin::{FinFault, PageOutcome};
 use crate::log_entry::{LogEntries, LogEntry};
 use crate::open_page::{Page, copied, last_id, take_page};
 use crate::tile::{Tile, Tiles};
@@ -15,6 +15,7 @@ use std::alloc::Global;
 use std::collections::BTreeSet;
 use std::marker::Model;
 use xmpp_edge::{ListOf, Text};
+use xmpp_pages::Fin;
 
 /// A device's log: the entries that it took of its account's archive page by page, in order, what is kept of each
 /// page, and the page that is under way (XEP-0313). An id is looked up in an ordered set, so that no step costs

@@ -12,6 +12,6 @@ mod tile;
 
 pub use device_log::Log;
 pub use faults::{BeginFault, ResultFault};
-pub use fin::{Fin, FinFault, PageOutcome};
+pub use fin::{FinFault, PageOutcome};
 pub use log_entry::{LogEntries, LogEntry};
 pub use tile::{Tile, Tiles};

@@ -5,6 +5,7 @@ mod archive_look;
 #[cfg(test)]
 mod compared;
 mod cut;
+mod fin;
 mod looks;
 mod paging;
 mod passing;
@@ -21,6 +22,7 @@ mod window;
 
 pub use archive_look::ArchiveLook;
 pub use cut::{PageCut, PageFault};
+pub use fin::Fin;
 pub use looks::Look;
 pub use paging::page;
 pub use plain::plain_page;
