@@ -13,16 +13,16 @@ use Rattle.xmpp_archive.specs.Entries.{AreNumbered, EntryView}
 use Rattle.xmpp_archive.specs.Ids.{id_of}
 use Rattle.xmpp_log.specs.LogPages.{ids_of, last_id}
 use Rattle.xmpp_log.specs.Views.{LogView, advance_of, after_fin, fin_answer, first_repeat, outcome_of, page_for, same_id, with_result}
-use Rattle.xmpp_log.specs.declared.fin.Fin.{Fin}
+use Rattle.xmpp_pages.specs.declared.fin.Fin.{Fin}
 use Rattle.xmpp_log.specs.declared.log_entry.LogEntry.{LogEntry}
-use Rattle.xmpp_pages.specs.Cuts.{CutView}
+use Rattle.xmpp_pages.specs.Cuts.{CutView, fin_of}
 use Rattle.xmpp_pages.specs.Kept.{kept_by}
 use Rattle.xmpp_pages.specs.PageOf.{page_of}
 use Rattle.xmpp_pages.specs.Spans.{number_of_entry, numbers_of}
 use Rattle.xmpp_replay.proofs.ArchivePages.{cut_behind, cut_is, last_of_page, number_at}
 use Rattle.xmpp_replay.proofs.CatchUps.{results_more, take_whole}
 use Rattle.xmpp_replay.specs.Direct.{as_logged, query_behind}
-use Rattle.xmpp_replay.specs.Turns.{IsFrontOf, fin_of, open_page, opened, page_behind, with_turn}
+use Rattle.xmpp_replay.specs.Turns.{IsFrontOf, open_page, opened, page_behind, with_turn}
 
 pub bytes_eq_itself : (a : List ℕ) → bytes_eq a a ≡ true
 bytes_eq_itself a = (bytes_eq-Decides a a).1 refl

@@ -157,7 +157,7 @@ impl Run {
 
 /// The direct run of a schedule: each message is taken at once where its account exists, and each page that a
 /// catch-up asks for (XEP-0313) is answered at once. `NoMemory` comes only where memory runs out.
-#[tactic(auto, using(crate::proofs::Prefixes::right_steps, crate::proofs::WholeRuns::report_told))]
+#[tactic(auto, using(xmpp_schedule::proofs::Prefixes::right_steps, crate::proofs::WholeRuns::report_told))]
 pub fn direct(alloc: Global, schedule: &Schedule) -> Result<Report, NoMemory>
     requires { IsSchedule schedule.now }
     ensures { IfOk result (λ report. report ≡ direct_report (steps_of schedule.now.lines)) }

@@ -1,5 +1,5 @@
 -- The addresses (RFC 7622) and ids that a schedule's names make. A device's name is its resource.
-use Rattle.std.specs.Prelude.{ℕ, ◌+◌, List, ◌∷◌, ◌++◌, codes}
+use Rattle.std.specs.Prelude.{ℕ, List, ◌∷◌, ◌++◌, codes}
 use Rattle.std.specs.Fmt.{decimal}
 
 -- the one domain

@@ -8,7 +8,7 @@ use Rattle.std.specs.List.Sorted.{IsNonDecreasing}
 use Rattle.std.specs.Str.{bytes_eq}
 use Rattle.xmpp_report.specs.Takes.{Take, archive_of}
 use Rattle.xmpp_report.specs.Lines.{entry_line}
-use Rattle.xmpp_schedule.specs.Contents.{accounts_of, is_account, is_catchup_of}
+use Rattle.xmpp_schedule.specs.Contents.{accounts_of, is_account, is_catchup_of, owned_in}
 use Rattle.xmpp_edge.specs.Names.{is_among}
 use Rattle.xmpp_report.specs.Worlds.{World}
 use Rattle.xmpp_report.specs.Reports.{AccountView, DeviceView, ReportView}
@@ -54,7 +54,7 @@ is_taken takes device said = list_any (λ t. bytes_eq device t.device && t.epoch
 pub record IsOfSchedule (schedule : ScheduleView) (report : ReportView) : Type 0 where
   pub mode : report.wire ≡ schedule.wire
   pub accounts : map (λ a. a.name) report.accounts ≡ accounts_of (steps_of schedule.lines)
-  pub devices : map (λ d. record { device = d.name; account = d.account }) report.devices ≡ homes_of (steps_of schedule.lines)
+  pub devices : map (λ d. record { device = d.name; account = d.account }) report.devices ≡ owned_in (steps_of schedule.lines)
   pub counts : AllByRecursion (λ a. a.count ≡ length a.entries) report.accounts
   pub conns : schedule.wire ≡ false → report.conns ≡ []
 

@@ -1,5 +1,5 @@
 //! The addresses (RFC 7622) and origin ids (XEP-0359) that a schedule's names make.
-ghost use Rattle.std.specs.Prelude.{◌≡◌, IfOk};
+ghost use Rattle.std.specs.Prelude.{◌≡◌, string_bytes, IfOk};
 ghost use Rattle.xmpp_report.specs.Addresses.{bare_address, full_address, origin_of};
 
 use std::alloc::Global;
@@ -9,7 +9,7 @@ use xmpp_edge::{NoMemory, Text};
 pub const DOMAIN: &str = "chat.example";
 
 fn bare_characters(alloc: Global, account: &str) -> Result<String, NoMemory>
-    ensures { IfOk result (λ address. address ≡ bare_address account.now) }
+    ensures { IfOk result (λ address. string_bytes address ≡ bare_address account.now) }
 {
     let mut address = String::from_str(alloc, account)?;
     address.push_str("@")?;

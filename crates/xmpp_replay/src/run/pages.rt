@@ -1,8 +1,6 @@
 //! The pages that a device takes of its account's archive, one behind the other (XEP-0313 section 4.3, XEP-0059).
 ghost use Rattle.std.specs.Prelude.{◌≡◌, ◌-◌, ◌<◌, ◌≤◌, nat_le, [], Some, None, Ok, length, map, take, drop, slice_index_or, OnOk, IfOk, IsSomeAnd};
-ghost use Rattle.std.specs.Option.{option_copied, option_map};
 ghost use Rattle.xmpp_archive.specs.Entries.{EntryView};
-ghost use Rattle.xmpp_archive.specs.Ids.{id_of};
 ghost use Rattle.xmpp_log.specs.LogPages.{last_id};
 ghost use Rattle.xmpp_log.specs.Views.{after_fin, fin_answer, outcome_of, page_for, with_result};
 ghost use Rattle.xmpp_pages.specs.Kept.{kept_of};
@@ -10,13 +8,13 @@ ghost use Rattle.xmpp_pages.specs.PageOf.{page_of};
 ghost use Rattle.xmpp_pages.specs.Spans.{numbers_of};
 ghost use Rattle.xmpp_replay.specs.Direct.{as_logged, place_behind, query_behind};
 ghost use Rattle.xmpp_replay.specs.Homes.{IsWhole};
-ghost use Rattle.xmpp_replay.specs.Turns.{IsFrontOf, caught_up, fin_of, opened, open_page, page_behind, with_turn};
+ghost use Rattle.xmpp_replay.specs.Turns.{IsFrontOf, caught_up, opened, open_page, page_behind, with_turn};
 
 use std::alloc::Global;
 use xmpp_archive::{Archive, id_of_number};
 use xmpp_edge::{Copied, NoMemory, Text};
-use xmpp_log::{BeginFault, Fin, FinFault, Log, LogEntry, ResultFault};
-use xmpp_pages::{ArchiveLook, PageCut, PageFault, PageQuery, Place, page};
+use xmpp_log::{BeginFault, FinFault, Log, LogEntry, ResultFault};
+use xmpp_pages::{ArchiveLook, Fin, PageCut, PageFault, PageQuery, Place, page};
 
 /// Behind the log's last entry, or at the archive's first one where the log has none.
 fn place_behind(alloc: Global, log: &Log) -> Result<Place, NoMemory>
@@ -47,30 +45,6 @@ fn ask(alloc: Global, log: &Log, archive: &Archive, most: u32) -> Result<PageCut
         Err(PageFault::NoMemory) => Err(NoMemory),
         Err(PageFault::NotFound) => unreachable!(),
     }
-}
-
-/// The id of the entry with a number, where a page has one.
-fn id_in_page(alloc: Global, number: Option<&u64>) -> Result<Option<Text>, NoMemory>
-    ensures { IfOk result (λ id. id ≡ option_map id_of (option_copied number.entry)) }
-{
-    match number {
-        Some(number) => Ok(Some(id_of_number(alloc, *number)?)),
-        None => Ok(None),
-    }
-}
-
-/// What the archive tells at the page's end.
-fn fin_of(alloc: Global, cut: &PageCut) -> Result<Fin, NoMemory>
-    ensures { IfOk result (λ fin. fin ≡ fin_of cut.now) }
-{
-    let numbers = cut.numbers.as_slice();
-    Ok(Fin {
-        complete: cut.complete,
-        first: id_in_page(alloc, numbers.first())?,
-        first_index: cut.first_index,
-        last: id_in_page(alloc, numbers.last())?,
-        count: cut.count,
-    })
 }
 
 /// Begins the next page, and answers its query id: `q` and how many pages the log has, so that no two pages of a log
@@ -164,7 +138,7 @@ fn take_page(alloc: Global, log: &mut Log, archive: &Archive, most: u32) -> Resu
     ensures complete { IfOk result (λ complete. complete ≡ nat_le (length (drop (length log.old.entries) archive.now.entries)) most) }
 {
     let cut = ask(alloc, log, archive, most)?;
-    let fin = fin_of(alloc, &cut)?;
+    let fin = cut.fin(alloc)?;
     let queryid = begin_page(alloc, log, most)?;
     copy_results(
         alloc,
