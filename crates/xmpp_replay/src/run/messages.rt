@@ -33,7 +33,7 @@ fn next_number(device: &Device) -> u64
     requires { sent_of device.now < 100000 }
     ensures { result ≡ sent_of device.now + 1 }
 {
-    device.said.len() as u64 + 1
+    device.said.as_slice().len() as u64 + 1
 }
 
 /// The archive entry of a device's next message, without a number.
