@@ -1,6 +1,6 @@
 use Rattle.xmpp_archive.proofs.ChainLaw.{walk_ends, walk_index, walk_none, walk_previous, walk_start}
 use Rattle.xmpp_archive.proofs.Walks.{walk_first, walk_next}
-use Rattle.xmpp_archive.proofs.peers.chain_is_walked.Goals as goal
+use Rattle.xmpp_archive.proofs.laws.chain_is_walked.Goals as goal
 
 pub returns-clause-first : goal.returns-clause-first
 returns-clause-first c = walk_first
