@@ -13,8 +13,7 @@ use Rattle.xmpp_archive.specs.Entries.{EntryView, numbered}
 use Rattle.xmpp_log.specs.Views.{LogView}
 use Rattle.xmpp_replay.proofs.CatchUps.{catch_up_logged, log_after_front}
 use Rattle.xmpp_replay.proofs.Deliveries.{among_placed, delivered_takes, named_at, names_apart, not_placed, once_among, once_push}
-use Rattle.xmpp_replay.proofs.PageEnds.{bytes_eq_apart, bytes_eq_itself}
-use Rattle.xmpp_schedule.proofs.Prefixes.{among_push, along_push, devices_push, home_push, sent_few, sent_push}
+use Rattle.xmpp_schedule.proofs.Prefixes.{among_push, along_push, devices_push, home_push, sent_few}
 use Rattle.xmpp_report.proofs.TakenArchives.{archive_few, archive_numbered, archive_push}
 use Rattle.xmpp_replay.proofs.Prefixes.{pages_push, takes_few, takes_push}
 use Rattle.xmpp_report.specs.Takes.{Take, archive_of, concerns, entry_of}
@@ -36,6 +35,7 @@ use Rattle.xmpp_replay.specs.declared.run.Run.{Run}
 use Rattle.xmpp_replay.specs.declared.run.devices.Device.{Device}
 use Rattle.xmpp_schedule.specs.declared.schedule.Step.{Step}
 use Rattle.xmpp_schedule.specs.declared.schedule.Step.TheVariants.{Account, Device as DeviceStep, Say, Catchup}
+use Rattle.xmpp_basis.proofs.Bytes.{bytes_eq-self, bytes_eq-from_other}
 
 -- a front of an archive is one of the archive with further takes
 pub front_after : (account : List ℕ) (takes more : List Take) (log : LogView) → IsFrontOf (archive_of account takes) log.entries →
@@ -192,9 +192,6 @@ ready_after all before run few is = record { names = is.index ∙ sym is.names; 
         ∙ ap (λ (h : Home). h.entries) (get_or-map (home_at (takes_of all before)) (accounts_of all) k [] d (omega arith)) in
         omega (arith, ap length here, archive_small all before (get_or (accounts_of all) k []))
 
-other_name : (name other : List ℕ) → name ≢ other → bytes_eq name other ≡ false
-other_name name other apart = bytes_eq_apart name other apart
-
 -- a name that no line has declared is not the name of one that was
 unlike : (name other : List ℕ) (names : List (List ℕ)) → is_among name names ≡ false → is_among other names ≡ true → name ≢ other
 unlike name other names absent there same = false≢true (sym absent ∙ ap (λ n. is_among n names) same ∙ there)
@@ -254,7 +251,7 @@ after_device all before name account run next is fresh made = record {
     owner : home_of (before ++ DeviceStep name account ∷ []) name ≡ account
     owner = home_push before (DeviceStep name account) name
         ∙ ap (λ b. cond b (home_of before name) (home_of (DeviceStep name account ∷ []) name)) fresh
-        ∙ ap (λ b. cond b account []) (bytes_eq_itself name)
+        ∙ ap (λ b. cond b account []) (bytes_eq-self name)
 
     newest : IsDevice all (before ++ DeviceStep name account ∷ []) made.new
     newest = record {
@@ -344,7 +341,7 @@ after_say all before name to text run next once is known sent = record {
   once = subst AreOnce (sym (no_device before (Say name to text) refl)) is.once;
   unused = λ other absent.
       let fresh : is_among other (devices_of before) ≡ false = ap (is_among other) (sym (no_device before (Say name to text) refl)) ∙ absent in
-      let apart : bytes_eq other name ≡ false = other_name other name (unlike other name (devices_of before) fresh known) in
+      let apart : bytes_eq other name ≡ false = bytes_eq-from_other other name (unlike other name (devices_of before) fresh known) in
       unused_stays all before (Say name to text) other (rw apart refl) refl (is.unused other fresh);
 }
   where
@@ -359,7 +356,7 @@ after_say all before name to text run next once is known sent = record {
     done = message_taken all before sent.old name to text run.accounts.homes run.takes.items once was named is.homes is.takes
 
     hit : bytes_eq sent.old.name name ≡ true
-    hit = ap (λ n. bytes_eq n name) named ∙ bytes_eq_itself name
+    hit = ap (λ n. bytes_eq n name) named ∙ bytes_eq-self name
 
     said_is : said_by sent.old to text ∷ [] ≡ said_at sent.old.name before (Say name to text)
     said_is = ap (λ m. said_of m ∷ []) (device_sent all before sent.old was) ∙ ap (λ b. cond b (said_of (sent_by sent.old.name before) ∷ []) []) (sym hit)
@@ -380,7 +377,7 @@ after_say all before name to text run next once is known sent = record {
     others : (k : ℕ) (d : Device) → k < length run.devices.items → k ≢ sent.place → IsDevice all (before ++ Say name to text ∷ []) (get_or run.devices.items k d)
     others k d within apart =
         let far : bytes_eq (get_or run.devices.items k d).name name ≡ false =
-        other_name (get_or run.devices.items k d).name name (name_elsewhere all before run k sent.place d name is within sent.named apart) in
+        bytes_eq-from_other (get_or run.devices.items k d).name name (name_elsewhere all before run k sent.place d name is within sent.named apart) in
         device_stays all before (Say name to text) (get_or run.devices.items k d)
         (home_known before (Say name to text) (get_or run.devices.items k d).name (name_known all before run k d is within))
         (rw far refl) refl (is.devices k d within)
@@ -397,7 +394,7 @@ after_catch_up all before name most run next few cap is known made = record {
   once = subst AreOnce (sym (no_device before (Catchup name most) refl)) is.once;
   unused = λ other absent.
       let fresh : is_among other (devices_of before) ≡ false = ap (is_among other) (sym (no_device before (Catchup name most) refl)) ∙ absent in
-      let apart : bytes_eq other name ≡ false = other_name other name (unlike other name (devices_of before) fresh known) in
+      let apart : bytes_eq other name ≡ false = bytes_eq-from_other other name (unlike other name (devices_of before) fresh known) in
       unused_stays all before (Catchup name most) other refl (rw apart refl) (is.unused other fresh);
 }
   where
@@ -408,7 +405,7 @@ after_catch_up all before name most run next few cap is known made = record {
     named = name_here all before run made.place made.old name is made.named made.there
 
     hit : bytes_eq made.old.name name ≡ true
-    hit = ap (λ n. bytes_eq n name) named ∙ bytes_eq_itself name
+    hit = ap (λ n. bytes_eq n name) named ∙ bytes_eq-self name
 
     archive : List EntryView
     archive = archive_of made.old.account (takes_of all before)
@@ -444,7 +441,7 @@ after_catch_up all before name most run next few cap is known made = record {
     others : (k : ℕ) (d : Device) → k < length run.devices.items → k ≢ made.place → IsDevice all (before ++ Catchup name most ∷ []) (get_or run.devices.items k d)
     others k d within apart =
         let far : bytes_eq (get_or run.devices.items k d).name name ≡ false =
-        other_name (get_or run.devices.items k d).name name (name_elsewhere all before run k made.place d name is within made.named apart) in
+        bytes_eq-from_other (get_or run.devices.items k d).name name (name_elsewhere all before run k made.place d name is within made.named apart) in
         device_stays all before (Catchup name most) (get_or run.devices.items k d)
         (home_known before (Catchup name most) (get_or run.devices.items k d).name (name_known all before run k d is within))
         refl (rw far refl) (is.devices k d within)

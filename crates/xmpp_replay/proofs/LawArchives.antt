@@ -13,7 +13,6 @@ use Rattle.xmpp_log.specs.LogPages.{last_id}
 use Rattle.xmpp_log.specs.declared.log_entry.LogEntry.{LogEntry}
 use Rattle.xmpp_pages.specs.Kept.{kept_by}
 use Rattle.xmpp_replay.proofs.ArchivePages.{page_found}
-use Rattle.xmpp_schedule.proofs.Lists.{all_weaker}
 use Rattle.xmpp_schedule.proofs.Prefixes.{along-append}
 use Rattle.xmpp_report.specs.Takes.{archive_of, concerns, entry_of, numbered_from}
 use Rattle.xmpp_schedule.specs.Contents.{accounts_of, along, home_of, sent_by}
@@ -24,6 +23,7 @@ use Rattle.xmpp_replay.specs.Turns.{page_behind}
 use Rattle.xmpp_schedule.specs.declared.schedule.Step.{Step}
 use Rattle.xmpp_schedule.specs.declared.schedule.Step.TheVariants.{Say}
 use Rattle.xmpp_report.proofs.TakenArchives.{length-numbered_from}
+use Rattle.xmpp_basis.proofs.Lists.{AllByRecursion-weaker}
 
 -- an account's archive after the first steps
 abbrev pub archive_after : List Step → List ℕ → List Step → List EntryView
@@ -81,7 +81,7 @@ above_follow s [] follow few = tt
 above_follow s (e ∷ entries) follow few =
     let number : e.number ≡ s = follow.0 in (
       (omega arith, omega arith),
-      all_weaker (λ f. (suc s ≤ f.number) × (f.number < 2 ^ 64)) (λ f. (s ≤ f.number) × (f.number < 2 ^ 64)) (λ f is. (omega (arith, is.0), is.1)) entries
+      AllByRecursion-weaker (λ f. (suc s ≤ f.number) × (f.number < 2 ^ 64)) (λ f. (s ≤ f.number) × (f.number < 2 ^ 64)) (λ f is. (omega (arith, is.0), is.1)) entries
           (above_follow (suc s) entries follow.1 (omega arith)),
     )
 
@@ -89,7 +89,7 @@ apart_follow : (s : ℕ) (entries : List EntryView) → FollowFrom s entries →
 apart_follow s [] follow few = tt
 apart_follow s (e ∷ entries) follow few =
     let number : e.number ≡ s = follow.0 in (
-      all_weaker (λ f. (suc s ≤ f.number) × (f.number < 2 ^ 64)) (λ f. id_of e.number ≢ id_of f.number)
+      AllByRecursion-weaker (λ f. (suc s ≤ f.number) × (f.number < 2 ^ 64)) (λ f. id_of e.number ≢ id_of f.number)
           (λ f is same. let equal : e.number ≡ f.number = id_of_same e.number f.number (omega arith) is.1 same in omega (arith, is.0)) entries
           (above_follow (suc s) entries follow.1 (omega arith)),
       apart_follow (suc s) entries follow.1 (omega arith),

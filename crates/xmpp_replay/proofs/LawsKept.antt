@@ -1,6 +1,6 @@
 -- The direct run keeps each of the five laws.
 use Rattle.std.proofs.Common.{◌≡◌, ◌≢◌, ℕ, ◌+◌, ◌<◌, ◌≤◌, ◌^◌, true, List, [], ◌++◌, length, take, map, filter, IsTrue, refl, sym, ap, ◌∙◌, arith}
-use Rattle.std.proofs.lemmas.List.{append-nil, length-append, length-map, map-append, take-map, take_at as front_of_join}
+use Rattle.std.proofs.lemmas.List.{append-nil, length-append, length-map, map-append, take_at as front_of_join}
 use Rattle.std.specs.List.{AllByRecursion, count_by, flat_map}
 use Rattle.std.specs.List.Sorted.{IsNonDecreasing}
 use Rattle.std.specs.Str.{bytes_eq}
@@ -10,7 +10,7 @@ use Rattle.xmpp_log.specs.declared.log_entry.LogEntry.{LogEntry}
 use Rattle.xmpp_replay.proofs.LawArchives.{archive_few, ids_apart}
 use Rattle.xmpp_report.proofs.TakenArchives.{archive_numbered}
 use Rattle.xmpp_replay.proofs.LawHistories.{ArePaged, paged_at}
-use Rattle.xmpp_schedule.proofs.Lists.{all_flat_map, all_map, all_of, all_weaker, map-map, map_nothing}
+use Rattle.xmpp_schedule.proofs.Lists.{all_flat_map, all_map, all_of, map-map, map_nothing}
 use Rattle.xmpp_report.proofs.Pairs.{pairs_by_both, pairs_by_first, pairs_front, pairs_map}
 use Rattle.xmpp_replay.proofs.LawLists.{zeros_not_falling, account_found}
 use Rattle.xmpp_replay.proofs.LawPages.{tiles_are}
@@ -32,6 +32,7 @@ use Rattle.xmpp_report.specs.declared.report.LoggedLine.{LoggedLine}
 use Rattle.xmpp_report.specs.declared.report.SaidMark.TheVariants.{Acknowledged, Waiting}
 use Rattle.xmpp_schedule.specs.declared.schedule.Line.{Line}
 use Rattle.xmpp_schedule.specs.declared.schedule.Step.{Step}
+use Rattle.xmpp_basis.proofs.Lists.{AllByRecursion-weaker}
 
 known_steps : (s : ScheduleView) → IsSchedule s → AreStanding [] (steps_of s.lines)
 known_steps s known = steps_stand [] 2 s.lines known.lines
@@ -127,15 +128,15 @@ once_in_order s known =
 
 settled_right : (all : List Step) (name : List ℕ) → IsSettledRight (device_line all name)
 settled_right all name = record {
-  nothing_waits = all_weaker (λ said. said.state ≡ Acknowledged) (λ said. said.state ≢ Waiting) (λ said is waits. cc) (along (said_at name) [] all) (acknowledged name [] all);
+  nothing_waits = AllByRecursion-weaker (λ said. said.state ≡ Acknowledged) (λ said. said.state ≢ Waiting) (λ said is waits. cc) (along (said_at name) [] all) (acknowledged name [] all);
   nothing_underway = refl;
-  present_epoch = all_weaker (λ said. said.state ≡ Acknowledged) (λ said. said.epoch ≡ 1 → said.state ≡ Acknowledged) (λ said is epoch. is) (along (said_at name) [] all) (acknowledged name [] all);
+  present_epoch = AllByRecursion-weaker (λ said. said.state ≡ Acknowledged) (λ said. said.epoch ≡ 1 → said.state ≡ Acknowledged) (λ said is epoch. is) (along (said_at name) [] all) (acknowledged name [] all);
 }
 
 acknowledged_taken : (all : List Step) (name : List ℕ) →
     AllByRecursion (λ said. said.state ≡ Acknowledged → IsTrue (is_among said.to (accounts_of all)) → IsTrue (is_taken (map take_line (takes_of all all)) name said)) (along (said_at name) [] all)
 acknowledged_taken all name =
-    all_weaker (λ said. is_among said.to (accounts_of all) ≡ true → is_taken (map take_line (takes_of all all)) name said ≡ true)
+    AllByRecursion-weaker (λ said. is_among said.to (accounts_of all) ≡ true → is_taken (map take_line (takes_of all all)) name said ≡ true)
     (λ said. said.state ≡ Acknowledged → IsTrue (is_among said.to (accounts_of all)) → IsTrue (is_taken (map take_line (takes_of all all)) name said))
     (λ said taken is. taken) (along (said_at name) [] all) (taken_from all name [] all)
 
@@ -200,7 +201,7 @@ logged_right s known =
     record {
       whole = of_schedule s known;
       prefix = all_map (λ d. IsPrefixOfAccount d (account_named d.account (map (account_line all) (accounts_of all)))) (device_line all) (devices_of all)
-          (all_weaker (λ name. is_among (home_of all name) (accounts_of all) ≡ true)
+          (AllByRecursion-weaker (λ name. is_among (home_of all name) (accounts_of all) ≡ true)
           (λ name. IsPrefixOfAccount (device_line all name) (account_named (home_of all name) (map (account_line all) (accounts_of all))))
           (λ name exists. prefix_of_account all name standing (known_few s known) exists) (devices_of all) (homes_exist all [] all refl standing));
     }

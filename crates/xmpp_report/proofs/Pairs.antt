@@ -2,7 +2,8 @@
 use Rattle.std.proofs.Common.{List, [], ◌∷◌, ◌++◌, map}
 use Rattle.std.specs.List.{AllByRecursion}
 use Rattle.xmpp_report.specs.Lawful.{EachPair}
-use Rattle.xmpp_schedule.proofs.Lists.{all_of, all_weaker, all_map, all_front}
+use Rattle.xmpp_schedule.proofs.Lists.{all_of, all_map, all_front}
+use Rattle.xmpp_basis.proofs.Lists.{AllByRecursion-weaker}
 
 -- pairs of which the first has what they want
 pub pairs_by_first : {A : Type 0} (P : A → Type 0) (R : A → A → Type 0) → ((x y : A) → P x → R x y) → (xs : List A) → AllByRecursion P xs → EachPair R xs
@@ -12,7 +13,7 @@ pairs_by_first P R each (x ∷ xs) all = (all_of (R x) (λ y. each x y all.0) xs
 -- pairs of which both have what they want
 pub pairs_by_both : {A : Type 0} (P : A → Type 0) (R : A → A → Type 0) → ((x y : A) → P x → P y → R x y) → (xs : List A) → AllByRecursion P xs → EachPair R xs
 pairs_by_both P R each [] all = tt
-pairs_by_both P R each (x ∷ xs) all = (all_weaker P (R x) (λ y. each x y all.0) xs all.1, pairs_by_both P R each xs all.1)
+pairs_by_both P R each (x ∷ xs) all = (AllByRecursion-weaker P (R x) (λ y. each x y all.0) xs all.1, pairs_by_both P R each xs all.1)
 
 pub pairs_front : {A : Type 0} (R : A → A → Type 0) (xs ys : List A) → EachPair R (xs ++ ys) → EachPair R xs
 pairs_front R [] ys pairs = tt

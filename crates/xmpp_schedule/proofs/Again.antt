@@ -21,6 +21,7 @@ use Rattle.xmpp_schedule.specs.declared.schedule.Step.TheVariants.{Account, Devi
 use Rattle.xmpp_schedule.proofs.Found.{line_text}
 use Rattle.xmpp_schedule.proofs.Numbers.{number_again, number_digits, within_is_number}
 use Rattle.xmpp_schedule.proofs.Words.{Lacks, cut_behind, piece_behind}
+use Rattle.xmpp_basis.proofs.Lists.{list_all-weaker}
 
 -- ---- bytes that pass a test
 
@@ -76,18 +77,12 @@ record IsWord (bytes : List ℕ) : Type 0 where
   whole : list_all (λ b. not (eqb b 32)) bytes ≡ true
   plain : IsPlain bytes
 
-all_weaker : (p q : ℕ → Bool) → ((c : ℕ) → p c ≡ true → q c ≡ true) → (bytes : List ℕ) → list_all p bytes ≡ true → list_all q bytes ≡ true
-all_weaker p q f [] h = refl
-all_weaker p q f (b ∷ bytes) h =
-    let parts = and_parts (p b) (list_all p bytes) h in
-    and_from (q b) (list_all q bytes) (f b parts.0) (all_weaker p q f bytes parts.1)
-
 word_from_all : (p : ℕ → Bool) → ((c : ℕ) → p c ≡ true → (33 ≤ c) × (c < 128)) → (bytes : List ℕ) → not_empty bytes ≡ true → list_all p bytes ≡ true → IsWord bytes
 word_from_all p range bytes some h = record {
   some = some;
-  lacks = lacks_from_all (λ b. not (eqb b 32)) 32 bytes refl (all_weaker p (λ b. not (eqb b 32)) (λ c e. let r = range c e in grind (arith, nat_tests)) bytes h);
-  whole = all_weaker p (λ b. not (eqb b 32)) (λ c e. let r = range c e in grind (arith, nat_tests)) bytes h;
-  plain = plain_from_all bytes (all_weaker p is_plain_ascii (λ c e. let r = range c e in grind (arith, nat_tests)) bytes h);
+  lacks = lacks_from_all (λ b. not (eqb b 32)) 32 bytes refl (list_all-weaker p (λ b. not (eqb b 32)) (λ c e. let r = range c e in grind (arith, nat_tests)) bytes h);
+  whole = list_all-weaker p (λ b. not (eqb b 32)) (λ c e. let r = range c e in grind (arith, nat_tests)) bytes h;
+  plain = plain_from_all bytes (list_all-weaker p is_plain_ascii (λ c e. let r = range c e in grind (arith, nat_tests)) bytes h);
 }
 
 name_range : (c : ℕ) → is_name_byte c ≡ true → (33 ≤ c) × (c < 128)

@@ -1,5 +1,6 @@
 pub mod Again
 pub mod Answered
+pub mod Cuts
 pub mod Found
 pub mod Lists
 pub mod Numbers

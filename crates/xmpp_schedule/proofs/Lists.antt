@@ -1,18 +1,15 @@
 -- What is true of each element of a list.
 use Rattle.std.proofs.Common.{◌≡◌, ℕ, Bool, true, false, cond, List, [], ◌∷◌, ◌++◌, map, refl, ap}
 use Rattle.std.proofs.lemmas.Bool.{cond_both, or_left, or_right}
-use Rattle.std.proofs.lemmas.Slice.Eq.{bytes_eq-Decides}
 use Rattle.std.specs.List.{AllByRecursion, filter, flat_map}
 use Rattle.std.specs.Str.{bytes_eq}
 use Rattle.xmpp_edge.specs.Names.{is_among}
+use Rattle.xmpp_basis.proofs.Bytes.{bytes_eq-self}
+use Rattle.xmpp_basis.proofs.Lists.{AllByRecursion-weaker}
 
 pub all_of : {A : Type 0} (P : A → Type 0) → ((x : A) → P x) → (xs : List A) → AllByRecursion P xs
 all_of P each [] = tt
 all_of P each (x ∷ xs) = (each x, all_of P each xs)
-
-pub all_weaker : {A : Type 0} (P Q : A → Type 0) → ((x : A) → P x → Q x) → (xs : List A) → AllByRecursion P xs → AllByRecursion Q xs
-all_weaker P Q each [] all = tt
-all_weaker P Q each (x ∷ xs) all = (each x all.0, all_weaker P Q each xs all.1)
 
 pub all_map : {A B : Type 0} (P : B → Type 0) (f : A → B) (xs : List A) → AllByRecursion (λ x. P (f x)) xs → AllByRecursion P (map f xs)
 all_map P f [] all = tt
@@ -51,10 +48,7 @@ pub map_nothing : {A : Type 0} (f : A → A) (xs : List A) → AllByRecursion (�
 map_nothing f [] all = refl
 map_nothing f (x ∷ xs) all = cc (all.0, map_nothing f xs all.1)
 
-pub same_bytes : (xs : List ℕ) → bytes_eq xs xs ≡ true
-same_bytes xs = (bytes_eq-Decides xs xs).1 refl
-
 pub each_among : (names : List (List ℕ)) → AllByRecursion (λ name. is_among name names ≡ true) names
 each_among [] = tt
 each_among (x ∷ xs) =
-    (or_left (bytes_eq x x) (is_among x xs) (same_bytes x), all_weaker (λ name. is_among name xs ≡ true) (λ name. is_among name (x ∷ xs) ≡ true) (λ name among. or_right (bytes_eq name x) (is_among name xs) among) xs (each_among xs))
+    (or_left (bytes_eq x x) (is_among x xs) (bytes_eq-self x), AllByRecursion-weaker (λ name. is_among name xs ≡ true) (λ name. is_among name (x ∷ xs) ≡ true) (λ name among. or_right (bytes_eq name x) (is_among name xs) among) xs (each_among xs))

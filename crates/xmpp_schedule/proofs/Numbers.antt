@@ -1,23 +1,20 @@
 -- Decimal numbers.
-use Rattle.std.proofs.Common.{◌≡◌, ℕ, ◌+◌, ◌*◌, ◌-◌, ◌/◌, ◌%◌, ◌<◌, ◌≤◌, Bool, true, false, cond, leb, eqb, List, [], ◌∷◌, ◌++◌, length, Result, Ok, Err, refl, sym, ap, subst, ◌∙◌, arith, inl, inr}
+use Rattle.std.proofs.lemmas.List.{drop_all, drop_more}
+use Rattle.std.proofs.Common.{Some, None, get_or, drop, ◌≡◌, ℕ, ◌+◌, ◌/◌, ◌%◌, ◌<◌, ◌≤◌, Bool, true, false, cond, leb, eqb, List, [], ◌∷◌, ◌++◌, length, Result, Ok, Err, refl, sym, ap, subst, ◌∙◌, arith, inl, inr}
 use Rattle.std.specs.Prelude.{◌≢◌, not, ◌&&◌, fold, codes}
 use Rattle.std.specs.Str.{bytes_eq}
 use Rattle.std.proofs.lemmas.Slice.Eq.{bytes_eq-Decides}
 use Rattle.std.specs.Fmt.{decimal, digits}
+use Rattle.std.proofs.lemmas.Option.{none-some, same_Some}
 use Rattle.std.proofs.lemmas.Fmt.{decimal_digit, decimal_step}
 use Rattle.std.proofs.lemmas.Bool.{cases_lt, cases_Bool, and_parts, and_from, false≢true, leb-true, le-leb}
 use Rattle.std.specs.List.{list_all}
 use Rattle.std.proofs.lemmas.Bool.Decides.{nat_tests}
+use Rattle.xmpp_basis.proofs.Bytes.{other-from_bytes_eq}
 use Rattle.xmpp_schedule.specs.Grammar.{is_digit}
-use Rattle.xmpp_schedule.specs.Reading.{value_of, not_empty, is_number, number_within}
+use Rattle.xmpp_schedule.specs.Reading.{at_most, grown, value_of, not_empty, is_number, number_within}
 use Rattle.xmpp_schedule.specs.declared.fault.LineWhy.{LineWhy}
 use Rattle.xmpp_schedule.specs.declared.fault.LineWhy.TheVariants as why
-
-pub other_from_test : (xs ys : List ℕ) → bytes_eq xs ys ≡ false → xs ≢ ys
-other_from_test xs ys h same = absurd (false≢true (sym h ∙ (bytes_eq-Decides xs ys).1 same))
-
-abbrev pub grown : ℕ → ℕ → ℕ
-grown value digit = value * 10 + (digit - 48)
 
 pub fold_grows : (n : ℕ) (ds : List ℕ) → n ≤ fold grown n ds
 fold_grows n [] = omega arith
@@ -128,7 +125,7 @@ number_found (a ∷ b ∷ c ∷ []) n e =
           let hundred : number_within 1 100 (codes "100") ≡ Ok n = subst (λ (bytes : List ℕ). number_within 1 100 bytes ≡ Ok n) is e in
           let n-is : n ≡ 100 = cc in
           (omega arith, omega arith, is ∙ sym decimal_hundred ∙ ap (λ (x : ℕ). decimal x) (sym n-is))
-      | inr other ↦ absurd (made_no_fault n (sym (long_is_refused (a ∷ b ∷ c ∷ []) (omega arith) (other_from_test (a ∷ b ∷ c ∷ []) (codes "100") other)) ∙ e))
+      | inr other ↦ absurd (made_no_fault n (sym (long_is_refused (a ∷ b ∷ c ∷ []) (omega arith) (other-from_bytes_eq (a ∷ b ∷ c ∷ []) (codes "100") other)) ∙ e))
     ]
 number_found (a ∷ b ∷ c ∷ d ∷ ds) n e =
     absurd (made_no_fault n (sym (long_is_refused (a ∷ b ∷ c ∷ d ∷ ds) (omega arith) too_long) ∙ e))
@@ -159,3 +156,72 @@ number_digits (d ∷ e ∷ ds) h =
     let outer = and_parts (is_digit d && not (eqb d 48)) (list_all is_digit (e ∷ ds)) h in
     let inner = and_parts (is_digit d) (not (eqb d 48)) outer.0 in
     (refl, and_from (is_digit d) (list_all is_digit (e ∷ ds)) inner.0 outer.1)
+
+-- the digits from the one at i on, and those behind it
+pub one_more : (value i whole : ℕ) (ds : List ℕ) → i < length ds → fold grown value (drop i ds) ≡ whole → fold grown (grown value (get_or ds i 0)) (drop (i + 1) ds) ≡ whole
+one_more value i whole ds h e = sym (ap (λ xs. fold grown value xs) (drop_more ds i 0 h)) ∙ e
+
+within_bound : (most n : ℕ) → n ≤ most → Some n ≡ at_most most n
+within_bound most n low = rw (le-leb n most low) refl
+
+above_bound : (most n : ℕ) → most < n → None ≡ at_most most n
+above_bound most n high = grind (arith, nat_tests)
+
+at_most_none : (most n : ℕ) → None ≡ at_most most n → most < n
+at_most_none most n e =
+    elim (cases_lt most n) [
+      | inl high ↦ high
+      | inr low ↦ absurd (none-some n (e ∙ sym (within_bound most n (omega arith))))
+    ]
+
+pub at_most_some : (most n m : ℕ) → Some m ≡ at_most most n → (m ≡ n) × (n ≤ most)
+at_most_some most n m e =
+    elim (cases_lt most n) [
+      | inl high ↦ absurd (none-some m (above_bound most n high ∙ sym e))
+      | inr low ↦ (same_Some m n (e ∙ sym (within_bound most n (omega arith))), omega arith)
+    ]
+
+pub whole_value : (most value i : ℕ) (ds : List ℕ) → length ds ≤ i → value ≤ most → fold grown value (drop i ds) ≡ value_of ds → Some value ≡ at_most most (value_of ds)
+whole_value most value i ds past low e =
+    let none : drop i ds ≡ [] = drop_all i ds past in
+    let same : value ≡ value_of ds = sym (ap (λ xs. fold grown value xs) none) ∙ e in
+    within_bound most value low ∙ ap (at_most most) same
+
+-- a value that is too great already stays so
+pub too_great : (most value i : ℕ) (ds : List ℕ) → i < length ds → fold grown value (drop i ds) ≡ value_of ds → None ≡ at_most most (grown value (get_or ds i 0)) →
+    None ≡ at_most most (value_of ds)
+too_great most value i ds h e high =
+    let more = one_more value i (value_of ds) ds h e in
+    let grows = fold_grows (grown value (get_or ds i 0)) (drop (i + 1) ds) in
+    let great = at_most_none most (grown value (get_or ds i 0)) high in
+    above_bound most (value_of ds) (omega arith)
+
+judged : (number low high : Bool) (value : ℕ) → number ≡ true → low ≡ true → high ≡ true → cond (number && low && high) (Ok value) (Err why.Number) ≡ Ok value
+judged number low high value a b c = rw (a, b, c) refl
+
+pub judged_ok : (least most : ℕ) (bytes : List ℕ) (v : ℕ) → is_number bytes ≡ true → Some v ≡ at_most most (value_of bytes) → leb least v ≡ true → number_within least most bytes ≡ Ok v
+judged_ok least most bytes v number is low =
+    let parts = at_most_some most (value_of bytes) v is in
+    judged (is_number bytes) (leb least (value_of bytes)) (leb (value_of bytes) most) (value_of bytes) number (ap (leb least) (sym parts.0) ∙ low) (le-leb (value_of bytes) most parts.1)
+    ∙ ap Ok (sym parts.0)
+
+and_false : (b : Bool) → (b && false) ≡ false
+and_false true = refl
+and_false false = refl
+
+not_judged : (number low high : Bool) (value : ℕ) → low && high ≡ false → cond (number && low && high) (Ok value) (Err why.Number) ≡ Err why.Number
+not_judged true true high value e = rw e refl
+not_judged true false high value e = refl
+not_judged false low high value e = refl
+
+pub judged_low : (least most : ℕ) (bytes : List ℕ) (v : ℕ) → Some v ≡ at_most most (value_of bytes) → leb least v ≡ false → number_within least most bytes ≡ Err why.Number
+judged_low least most bytes v is low =
+    let parts = at_most_some most (value_of bytes) v is in
+    let small : leb least (value_of bytes) ≡ false = ap (leb least) (sym parts.0) ∙ low in
+    not_judged (is_number bytes) (leb least (value_of bytes)) (leb (value_of bytes) most) (value_of bytes) (rw small refl)
+
+pub judged_high : (least most : ℕ) (bytes : List ℕ) → None ≡ at_most most (value_of bytes) → number_within least most bytes ≡ Err why.Number
+judged_high least most bytes is =
+    let great = at_most_none most (value_of bytes) is in
+    let high : leb (value_of bytes) most ≡ false = grind (arith, nat_tests) in
+    not_judged (is_number bytes) (leb least (value_of bytes)) (leb (value_of bytes) most) (value_of bytes) (rw high (and_false (leb least (value_of bytes))))

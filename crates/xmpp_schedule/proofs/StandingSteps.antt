@@ -7,7 +7,7 @@ use Rattle.std.proofs.lemmas.List.Concat.{flat_map-append}
 use Rattle.std.proofs.lemmas.List.Folds.{list_any-append}
 use Rattle.std.specs.List.{AllByRecursion}
 use Rattle.std.specs.Str.{bytes_eq}
-use Rattle.xmpp_schedule.proofs.Lists.{all_append, same_bytes}
+use Rattle.xmpp_schedule.proofs.Lists.{all_append}
 use Rattle.xmpp_schedule.specs.Contents.{account_name, accounts_of, along, device_name, devices_of, home_of, Owned, owned_in}
 use Rattle.xmpp_schedule.specs.Grammar.{AreLines, Declared, declared_by, may_stand}
 use Rattle.xmpp_edge.specs.Names.{is_among}
@@ -15,6 +15,7 @@ use Rattle.xmpp_schedule.specs.Schedules.{steps_of}
 use Rattle.xmpp_schedule.specs.declared.schedule.Line.{Line}
 use Rattle.xmpp_schedule.specs.declared.schedule.Step.{Step}
 use Rattle.xmpp_schedule.specs.declared.schedule.Step.TheVariants.{Account, Device, Say, Catchup}
+use Rattle.xmpp_basis.proofs.Bytes.{bytes_eq-self}
 
 -- what a step says of the steps above it
 abbrev pub Stands : List Step → Step → Type 0
@@ -118,7 +119,7 @@ home_behind name (Device other account ∷ before) rest known =
 home_behind name (step ∷ before) rest known = home_behind name before rest known
 
 home_here : (name account : List ℕ) (before rest : List Step) → is_among name (devices_of before) ≡ false → home_of (before ++ Device name account ∷ rest) name ≡ account
-home_here name account before rest known = home_behind name before (Device name account ∷ rest) known ∙ rw (same_bytes name)
+home_here name account before rest known = home_behind name before (Device name account ∷ rest) known ∙ rw (bytes_eq-self name)
 
 abbrev pub home_in : List Step → List ℕ → Owned
 home_in all name = record { device = name; account = home_of all name }

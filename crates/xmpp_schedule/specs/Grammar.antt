@@ -30,7 +30,6 @@ abbrev pub is_text : List ℕ → Bool
 is_text text =
     nat_le 1 (length text) && nat_le (length text) 1000 && is_utf8 text && list_all is_text_character (chars text)
 
-
 -- the accounts and the devices that stand above a line
 pub record Declared : Type 0 where
   pub accounts : List (List ℕ)

@@ -73,9 +73,17 @@ abbrev pub rest_field : Option (List ℕ) → Result (List ℕ) LineWhy
 rest_field None = Err why.Shape
 rest_field (Some bytes) = if not_empty bytes then Ok bytes else Err why.Shape
 
+-- a number with a digit more
+abbrev pub grown : ℕ → ℕ → ℕ
+grown value digit = value * 10 + (digit - 48)
+
 -- the value of decimal digits
 abbrev pub value_of : List ℕ → ℕ
-value_of digits = fold (λ value digit. value * 10 + (digit - 48)) 0 digits
+value_of digits = fold grown 0 digits
+
+-- a number that is no more than a bound
+abbrev pub at_most : ℕ → ℕ → Option ℕ
+at_most most n = if nat_le n most then Some n else None
 
 -- digits, the first of which is no 0 unless it stands alone
 abbrev pub is_number : List ℕ → Bool

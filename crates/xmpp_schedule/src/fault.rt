@@ -5,8 +5,6 @@ ghost use Rattle.xmpp_schedule.specs.Reading.{wants};
 ghost use Rattle.xmpp_schedule.specs.declared.fault.LineFault.TheVariants.{NoMemory as WantOfMemory};
 ghost use Rattle.xmpp_schedule.specs.declared.fault.ScheduleFault.TheVariants.{NoMemory as NoMemoryForLines};
 
-use std::error::Error;
-use std::fmt;
 use xmpp_edge::NoMemory;
 
 /// Why a line is not in the grammar. Of a bad line the first reason is told: those up to `Shape` in this order, and
@@ -73,17 +71,6 @@ pub enum ScheduleFault {
     /// Memory ran out.
     NoMemory,
 }
-
-impl fmt::Display for ScheduleFault {
-    fn fmt<W: fmt::Write>(&self, f: &mut fmt::Formatter<W>) -> fmt::Result {
-        match self {
-            ScheduleFault::BadLine { line, why } => write!(f, "line {line} {why:?}"),
-            ScheduleFault::NoMemory => f.write_str("out of memory"),
-        }
-    }
-}
-
-impl Error for ScheduleFault {}
 
 impl From<NoMemory> for ScheduleFault {
     ghost from_gives = { λ _ e. e ≡ NoMemoryForLines };

@@ -3,9 +3,9 @@ ghost use Rattle.std.specs.Prelude.{◌≡◌, ◌==◌, ◌&&◌, ◌||◌, not
 ghost use Rattle.std.specs.List.{list_all};
 ghost use Rattle.xmpp_schedule.specs.Gives.{Gives, left, cut_seen};
 ghost use Rattle.xmpp_schedule.specs.Grammar.{is_name, is_text, is_lower, is_digit, is_text_character};
-ghost use Rattle.xmpp_schedule.specs.Reading.{cut_of, not_empty, next_field, last_field, rest_field, number_within};
+ghost use Rattle.xmpp_schedule.specs.Reading.{at_most, cut_of, grown, is_number, not_empty, next_field, last_field, rest_field, number_within, value_of};
 
-use crate::fault::{LineFault, LineWhy};
+use crate::fault::{LineFault, LineWhy, wants};
 
 /// What precedes the first space, and what follows it where there is one.
 pub fn cut_word(text: &str) -> (&str, Option<&str>)
@@ -122,19 +122,69 @@ fn are_text_characters(text: &str) -> bool
     text.chars().all(is_text_character)
 }
 
-/// The most entries of a page: a decimal number from 1 to 100, without leading zeros.
-#[tactic(auto, using(crate::proofs::Numbers::long_is_refused, crate::proofs::Numbers::other_from_test))]
+fn are_digits(bytes: &[u8]) -> bool
+    ensures { result ≡ list_all is_digit bytes.now }
+{
+    bytes.iter().all(|c| is_digit(*c))
+}
+
+fn is_number(digits: &[u8]) -> bool
+    ensures { result ≡ is_number digits.now }
+{
+    match digits {
+        [] => false,
+        [digit] => is_digit(*digit),
+        [first, rest @ ..] => is_digit(*first) && *first != b'0' && are_digits(rest),
+    }
+}
+
+/// A number with a digit more, where it is no more than a bound.
+fn grown_within(most: u64, value: u64, digit: u8) -> Option<u64>
+    ensures { result ≡ at_most most (grown value digit) }
+{
+    let next = value
+        .checked_mul(10)?
+        .checked_add(u64::from(digit.saturating_sub(48)))?;
+    if next <= most { Some(next) } else { None }
+}
+
+/// The value of digits, where it is no more than a bound.
+fn value_within(most: u64, digits: &[u8]) -> Option<u64>
+    ensures { result ≡ at_most most (value_of digits.now) }
+{
+    let mut value: u64 = 0;
+    for i in 0..digits.len() {
+        match grown_within(most, value, digits[i]) {
+            Some(next) => value = next,
+            None => return None,
+        }
+    }
+    Some(value)
+}
+
+/// A decimal number within bounds, without leading zeros.
+#[tactic(auto, using(crate::proofs::Numbers::judged_ok, crate::proofs::Numbers::judged_low, crate::proofs::Numbers::judged_high))]
+pub fn number_within(least: u64, most: u64, field: &str) -> Result<u64, LineFault>
+    ensures { Gives (λ n. n) result (number_within least most field.now) }
+{
+    let digits = field.as_bytes();
+    wants(is_number(digits), LineWhy::Number)?;
+    match value_within(most, digits) {
+        Some(value) => {
+            wants(least <= value, LineWhy::Number)?;
+            Ok(value)
+        }
+        None => Err(LineFault::Reason(LineWhy::Number)),
+    }
+}
+
+/// The most entries of a page, 1 to 100.
+#[tactic(auto, using(crate::proofs::Numbers::number_found))]
 pub fn page_limit(field: &str) -> Result<u32, LineFault>
     ensures { Gives (λ n. n) result (number_within 1 100 field.now) }
 {
-    if field == "100" {
-        return Ok(100);
-    }
-    match field.as_bytes() {
-        [ones @ b'1'..=b'9'] => Ok(u32::from(*ones) - 48),
-        [tens @ b'1'..=b'9', ones @ b'0'..=b'9'] => {
-            Ok((u32::from(*tens) - 48) * 10 + (u32::from(*ones) - 48))
-        }
-        _ => Err(LineFault::Reason(LineWhy::Number)),
+    match number_within(1, 100, field) {
+        Ok(most) => Ok(most as u32),
+        Err(e) => Err(e),
     }
 }

@@ -6,8 +6,8 @@ ghost use Rattle.xmpp_schedule.specs.Grammar.{declared_by, nothing_declared};
 ghost use Rattle.xmpp_schedule.specs.Reading.{wants, cut_of, read_account, read_device, read_say, read_catchup, read_words, read_line};
 ghost use Rattle.xmpp_schedule.specs.declared.fault.LineWhy.TheVariants.{Ending};
 
-use crate::fields::{cut_word, is_name, is_text, last_field, next_field, page_limit, rest_field};
 use crate::fault::{LineFault, LineWhy, wants};
+use crate::fields::{cut_word, is_name, is_text, last_field, next_field, page_limit, rest_field};
 use crate::schedule::Step;
 use std::alloc::Global;
 use std::marker::Model;

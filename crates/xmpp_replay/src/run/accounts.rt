@@ -11,7 +11,7 @@ ghost use Rattle.xmpp_schedule.specs.Standing.{AreRight};
 use std::alloc::Global;
 use std::marker::Model;
 use xmpp_archive::{Archive, ArchiveFault, Entry};
-use xmpp_edge::{NameIndex, NoMemory, Text};
+use xmpp_edge::{Copied, NameIndex, NoMemory, Text};
 use xmpp_report::bare_address;
 use xmpp_schedule::{Line, Step};
 
@@ -161,7 +161,7 @@ impl Accounts {
             self.append(from, entry);
             return Ok(());
         }
-        let copy = entry.copy(alloc)?;
+        let copy = entry.copied(alloc)?;
         self.reserve(to)?;
         self.append(from, entry);
         self.append(to, copy);

@@ -12,9 +12,7 @@ use crate::run::devices::Device;
 use std::alloc::Global;
 use xmpp_archive::{Bodies, Body, Entry};
 use xmpp_edge::{ListOf, NoMemory, Text};
-use xmpp_report::{
-    SaidLine, SaidMark, TakeLine, TakeLines, bare_address, full_address, origin_of,
-};
+use xmpp_report::{SaidLine, SaidMark, TakeLine, TakeLines, bare_address, full_address, origin_of};
 
 /// The bodies of a message with a text in no language.
 fn bodies_of(alloc: Global, text: &str) -> Result<Bodies, NoMemory>

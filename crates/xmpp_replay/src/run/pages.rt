@@ -83,7 +83,7 @@ fn copy_result(
     };
     let logged = LogEntry {
         id: id_of_number(alloc, entry.number)?,
-        entry: entry.copy(alloc)?,
+        entry: entry.copied(alloc)?,
     };
     match log.result(queryid, logged) {
         Ok(()) => Ok(()),
