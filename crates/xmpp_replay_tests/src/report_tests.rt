@@ -114,7 +114,11 @@ fn conns(alloc: Global) -> Result<ConnLines, NoMemory> {
 
 fn said(alloc: Global) -> Result<SaidLines, NoMemory> {
     let mut lines = SaidLines::new(alloc);
-    for state in [SaidMark::Acknowledged, SaidMark::Waiting, SaidMark::Undecided] {
+    for state in [
+        SaidMark::Acknowledged,
+        SaidMark::Waiting,
+        SaidMark::Undecided,
+    ] {
         lines.push(SaidLine {
             epoch: 2,
             n: 1,
@@ -128,7 +132,11 @@ fn said(alloc: Global) -> Result<SaidLines, NoMemory> {
 
 fn refused(alloc: Global) -> Result<RefusedLines, NoMemory> {
     let mut lines = RefusedLines::new(alloc);
-    for why in [RefusedWhy::NotBound, RefusedWhy::OutboxFull, RefusedWhy::Underway] {
+    for why in [
+        RefusedWhy::NotBound,
+        RefusedWhy::OutboxFull,
+        RefusedWhy::Underway,
+    ] {
         lines.push(RefusedLine { line: 4, why })?;
     }
     Ok(lines)
