@@ -8,8 +8,6 @@ mod entry;
 mod ids;
 mod laws;
 mod peers;
-#[cfg(test)]
-mod tests;
 
 pub use archive::{Archive, ArchiveFault, GREATEST_NUMBER};
 pub use chains::Chain;

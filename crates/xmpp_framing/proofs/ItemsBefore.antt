@@ -14,7 +14,7 @@ use Rattle.xmpp_framing.specs.States.{OpenElement, State, Turn, counted, fails, 
 use Rattle.xmpp_framing.specs.TagSteps.{added_to, begun, closed, closed_open, element_from, ends, ends_stream, footer_closes, footer_gathered, headed, header_items, header_tag, heads, in_footer, in_opening, in_tag, is_header, is_spelled, is_too_deep, joined_text, leaf, level, misplaced, shallower, starts, tag_anew, tag_closes, tag_gathered, tag_here, tag_in, tag_inside, tag_outside, unlimited}
 use Rattle.xmpp_trees.specs.Tidied.{tidied}
 use Rattle.xmpp_trees.specs.Trees.{Elem}
-use Rattle.xmpp_framing.specs.declared.faults.Why.TheVariants as why
+use Rattle.xmpp_framing.specs.declared.fault.Why.TheVariants as why
 use Rattle.xmpp_framing.specs.declared.items.Item.{Item}
 use Rattle.xmpp_framing.specs.declared.items.Item.TheVariants as item
 use Rattle.xmpp_framing.specs.declared.states.Mode.{Mode}

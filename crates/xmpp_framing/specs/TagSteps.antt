@@ -19,8 +19,8 @@ use Rattle.xmpp_framing.specs.MarkupSteps.{in_phase}
 use Rattle.xmpp_framing.specs.States.{OpenElement, State, Turn, gathered, gathered_in, gives, item_ended, may_declare, moved, open_count, token_ended, token_fails, turn, with_more, with_text}
 use Rattle.xmpp_trees.specs.Tidied.{tidied}
 use Rattle.xmpp_trees.specs.Trees.{Elem, element, no_nodes, child}
-use Rattle.xmpp_framing.specs.declared.faults.Why.{Why}
-use Rattle.xmpp_framing.specs.declared.faults.Why.TheVariants as why
+use Rattle.xmpp_framing.specs.declared.fault.Why.{Why}
+use Rattle.xmpp_framing.specs.declared.fault.Why.TheVariants as why
 use Rattle.xmpp_framing.specs.declared.items.Item.{Item}
 use Rattle.xmpp_framing.specs.declared.items.Item.TheVariants as item
 use Rattle.xmpp_framing.specs.declared.limits.Limits.{Limits}

@@ -10,16 +10,14 @@ ghost use Rattle.xmpp_trees.specs.Trees.{element, no_nodes};
 ghost use Rattle.xmpp_trees.specs.Views.{elem_view};
 ghost use Rattle.xmpp_names.specs.TagView.{tag_view};
 
-use xmpp_trees::{Attr, Attrs, tidy_attrs};
-use xmpp_trees::Element;
 use crate::framer::Framer;
 use crate::items::{Item, Items};
 use crate::states::Open;
-use xmpp_trees::Tree;
 use std::alloc::Global;
 use std::mem;
 use xmpp_edge::{NoMemory, Text};
 use xmpp_names::{ExpandedAttribute, Tag};
+use xmpp_trees::{Attr, Attrs, Element, Tree, tidy_attrs};
 
 // The attributes of a tag in the order of a tree, moved.
 fn attrs_of(alloc: Global, attributes: Vec<ExpandedAttribute>) -> Result<Attrs, NoMemory>

@@ -8,7 +8,7 @@ ghost use Rattle.xmpp_tokens.specs.Characters;
 
 use crate::framer::Framer;
 use crate::states::Mode;
-use crate::tags_in_hand::quote_behind;
+use crate::tag_bytes::quote_behind;
 use xmpp_edge::NoMemory;
 
 // ---- scans

@@ -7,3 +7,4 @@ pub mod Rows
 pub mod Moves
 pub mod Stored
 pub mod Indexed
+pub mod Changes

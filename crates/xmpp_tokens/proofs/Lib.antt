@@ -7,8 +7,6 @@ pub mod ValueRuns
 pub mod Texts
 pub mod TagWords
 pub mod InsideRuns
-pub mod Names
-pub mod Outcomes
 pub mod TagLaws
 pub mod EndNames
 pub mod TagOutcomes

@@ -1,6 +1,7 @@
 pub use Rattle.xmpp_edge.specs.Listed
 pub mod Characters
 pub mod Declarations
+pub mod Faults
 pub mod Fronts
 pub mod Held
 pub mod References

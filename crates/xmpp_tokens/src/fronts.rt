@@ -1,5 +1,5 @@
 //! A slice's front of bytes of a class, and what is behind it.
-ghost use Rattle.std.specs.Prelude.{◌≡◌, ◌+◌, ◌<◌, ◌≤◌, ◌==◌, not, length};
+ghost use Rattle.std.specs.Prelude.{◌≡◌, ◌<◌, ◌==◌, not};
 ghost use Rattle.std.specs.List.{prefix_len};
 ghost use Rattle.xmpp_tokens.specs.Characters;
 ghost use Rattle.xmpp_tokens.specs.Fronts.{front, behind};

@@ -1,10 +1,8 @@
-ghost use Rattle.std.specs.Prelude.{◌≡◌, ◌≢◌, ◌+◌, ◌-◌, ◌^◌, ◌<◌, ◌≤◌, ◌==◌, ◌&&◌, not, ℕ, List, ◌++◌, true, false, Some, length, min, OnOk, OnErr};
-ghost use Rattle.std.specs.List.{list_all};
-ghost use Rattle.std.specs.Str.{IsUtf8};
-ghost use Rattle.xmpp_tokens.specs.Characters;
+//! Texts and values as they are written (XML 1.0, sections 2.4, 2.11, 3.3.3 and 4.6).
+ghost use Rattle.std.specs.Prelude.{◌≡◌, ◌≢◌, ◌+◌, ◌-◌, ◌^◌, ◌<◌, ◌≤◌, ◌==◌, ◌++◌, false, Some, length, min, OnOk, OnErr};
 ghost use Rattle.xmpp_tokens.specs.Spelling;
-ghost use Rattle.xmpp_tokens.specs.Spelling.{spelled_text, spelled_value, text_byte, text_from, value_byte};
-ghost use Rattle.xmpp_tokens.specs.Values.{text, value_of};
+ghost use Rattle.xmpp_tokens.specs.Spelling.{spelled_text, spelled_value, text_byte, value_byte};
+ghost use Rattle.xmpp_tokens.specs.Values.{text};
 
 use crate::fronts::{split_text_plain, split_value_plain};
 use xmpp_edge::{Bytes, NoMemory};
@@ -176,18 +174,3 @@ pub fn append_value(out: &mut Bytes, bytes: &[u8]) -> Result<(), NoMemory>
     append_value_reserved(out, bytes);
     Ok(())
 }
-
-/// A value that is written is read back as itself, where it is a text of XML's characters (section 2.2). What is
-/// written holds neither `'` nor `<`.
-pub fn values_are_read_back()
-    ensures back { (v : List ℕ) → IsUtf8 v → Characters.are_characters v ≡ true → value_of (spelled_value v) ≡ Some v }
-    ensures inside { (v : List ℕ) → list_all (λ b. not (b == 39) && not (b == 60)) (spelled_value v) ≡ true }
-{}
-
-/// A text that is written is read back as itself. What is written holds neither `<` nor `>`, and so no `]]>`, and no
-/// character that the text doesn't hold but XML's.
-pub fn texts_are_read_back()
-    ensures back { (t : List ℕ) → text_from (text false) (spelled_text t) ≡ Some t }
-    ensures inside { (t : List ℕ) → list_all (λ b. not (b == 60) && not (b == 62)) (spelled_text t) ≡ true }
-    ensures characters { (t : List ℕ) → Characters.are_characters t ≡ true → Characters.are_characters (spelled_text t) ≡ true }
-{}

@@ -1,0 +1,4 @@
+mod Worked
+mod WorkedLaws
+mod WorkedPages
+mod WorkedReports
