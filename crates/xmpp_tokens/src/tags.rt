@@ -1,10 +1,10 @@
 //! Tags (XML 1.0, section 3.1).
-ghost use Rattle.std.specs.Prelude.{◌≡◌, ◌≢◌, ◌<◌, ◌↔◌, ℕ, List, true, false, Some, None, Ok, Err, length, map, IfOk, IfErr, IfSome};
+ghost use Rattle.std.specs.Prelude.{◌≡◌, ◌<◌, true, false, Some, None, Ok, Err, length, map, IfOk, IfErr, IfSome};
 ghost use Rattle.xmpp_tokens.specs.Faults.{IfRefused};
 ghost use Rattle.xmpp_tokens.specs.RawTags.{attribute_of, raw_tag};
 ghost use Rattle.xmpp_tokens.specs.Tags;
 ghost use Rattle.std.specs.Option.{option_map};
-ghost use Rattle.xmpp_tokens.specs.Tags.{IsTag, Tag, end_name, end_tag, inside_of, tag_of};
+ghost use Rattle.xmpp_tokens.specs.Tags.{end_name, end_tag, inside_of, tag_of};
 
 use crate::attributes::{end_in, is_quote, qualified, spelled_at};
 use crate::distinct::are_distinct;
@@ -192,18 +192,3 @@ pub fn read_end_tag(bytes: &[u8]) -> Option<&str>
     }
     end_at(&bytes[2..])
 }
-
-/// Bytes that the grammar has as a tag are read as that tag.
-pub fn tags_are_read()
-    ensures { (bytes : List ℕ) (t : Tag) → IsTag bytes t → tag_of bytes ≡ Ok t }
-{}
-
-/// What is read as a tag, the grammar has as that tag.
-pub fn what_is_read_is_a_tag()
-    ensures { (bytes : List ℕ) (t : Tag) → tag_of bytes ≡ Ok t → IsTag bytes t }
-{}
-
-/// `Restricted` is told exactly of a tag that is no end tag and has a reference with an unknown name in its quotes.
-pub fn unknown_names_are_restricted()
-    ensures { (bytes : List ℕ) → (tag_of bytes ≡ Err TagWhy.Restricted) ↔ (Tags.is_restricted bytes ≡ true) }
-{}
