@@ -90,7 +90,10 @@ static REPEATED: [(Repeated, (&str, &str, bool)); 5] = [
     (("<a>", "", 32), ("", "truncated 117\n", false)),
     (("<a>", "", 33), ("", "fault 213 TooDeep\n", false)),
     ((" ", "", 65_600), ("<a/>", "<a/>\nend\n", true)),
-    (("<a/>", "<a/>\n", 600), ("</b>", "fault 2517 NotWellFormed\n", false)),
+    (
+        ("<a/>", "<a/>\n", 600),
+        ("</b>", "fault 2517 NotWellFormed\n", false),
+    ),
 ];
 
 fn is_told_repeated(
