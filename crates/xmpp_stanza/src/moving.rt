@@ -83,6 +83,6 @@ fn address_copy(alloc: Global, address: &Option<Jid>) -> Result<Option<Jid>, NoM
 {
     match address {
         None => Ok(None),
-        Some(jid) => Ok(Some(jid.copy(alloc)?)),
+        Some(jid) => Ok(Some(jid.copied(alloc)?)),
     }
 }
