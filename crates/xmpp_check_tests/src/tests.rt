@@ -33,7 +33,7 @@ fn is_told_behind(
 }
 
 /// What stands behind the header, what is told behind the header's line, and whether nothing is wrong.
-static STREAMS: [(&str, &str, bool); 7] = [
+static STREAMS: [(&str, &str, bool); 9] = [
     ("", "end\n", true),
     ("</stream:stream>", "</stream:stream>\nend\n", true),
     (
@@ -49,6 +49,12 @@ static STREAMS: [(&str, &str, bool); 7] = [
     ("<a/><message><bo", "<a/>\ntruncated 121\n", false),
     ("<a/></b><c/>", "<a/>\nfault 121 NotWellFormed\n", false),
     ("<root xmlns='jabber:client'/>", "<root/>\nend\n", true),
+    ("<xml:a/>", "<xml:a/>\nend\n", true),
+    (
+        "<root><xml:a>b<c xmlns='d'><xml:e/></c></xml:a></root>",
+        "<root><xml:a>b<c xmlns='d'><xml:e/></c></xml:a></root>\nend\n",
+        true,
+    ),
 ];
 
 #[test]

@@ -1,11 +1,11 @@
 -- The definitions at worked messages, by evaluation: the example of RFC 7677, section 3, and departures.
-use Rattle.std.proofs.Common.{◌≡◌, ℕ, [], ◌∷◌, List, Some, None, Ok, Err, refl}
+use Rattle.std.proofs.Common.{◌≡◌, ℕ, [], ◌∷◌, List, Some, Ok, Err, refl}
 use Rattle.std.specs.Prelude.{codes}
 use Rattle.base64.specs.Decode.{groups_error, groups_bytes, scan_steps}
-use Rattle.xmpp_scram.specs.Messages.{bare_parts, bare_texts, binding, client_final_of, client_final_parts, client_first_of, error_part, first_parts, identity, server_final_of, server_first_of, server_first_parts, verifier_part}
+use Rattle.xmpp_scram.specs.Messages.{bare_parts, bare_texts, client_final_of, client_final_parts, client_first_of, first_parts, server_final_of, server_first_of, server_first_parts, verifier_part}
 use Rattle.xmpp_scram.specs.Values.{base64_bytes}
 use Rattle.xmpp_scram.specs.declared.binding_flag.BindingFlag.TheVariants.{Unsupported, NotOffered}
-use Rattle.xmpp_scram.specs.declared.fault.ScramFault.TheVariants.{Malformed, Plus, Authzid}
+use Rattle.xmpp_scram.specs.declared.fault.ScramFault.TheVariants.{Malformed}
 
 first_message : client_first_of (codes "n,,n=user,r=rOprNGfwEbeRWgbNEkqO") ≡
     Ok (record { flag = Unsupported; name = codes "user"; nonce = codes "rOprNGfwEbeRWgbNEkqO"; bare = codes "n=user,r=rOprNGfwEbeRWgbNEkqO" })
@@ -40,34 +40,10 @@ servers_final_message : server_final_of (codes "v=6rriTRBi23WpRR/wtup+mMhUZUn/dB
 unfolding verifier_part base64_bytes groups_error groups_bytes scan_steps
 servers_final_message = refl
 
-an_error : server_final_of (codes "e=other-error") ≡ Ok None
-unfolding error_part
-an_error = refl
-
-channel_binding : client_first_of (codes "p=tls-unique,,n=a,r=b") ≡ Err Plus
-unfolding first_parts bare_parts bare_texts binding
-channel_binding = refl
-
-an_identity : client_first_of (codes "n,a=bob,n=a,r=b") ≡ Err Authzid
-unfolding first_parts bare_parts bare_texts identity
-an_identity = refl
-
 a_mandatory_extension : client_first_of (codes "n,,n=a,r=b,m=x") ≡ Err (Malformed 11)
 unfolding first_parts bare_parts bare_texts
 a_mandatory_extension = refl
 
-a_lower_case_escape : client_first_of (codes "n,,n=a=2c,r=b") ≡ Err (Malformed 8)
-unfolding first_parts bare_parts bare_texts
-a_lower_case_escape = refl
-
 a_decoded_name : client_first_of (codes "y,,n=a=2C=3D,r=b") ≡ Ok (record { flag = NotOffered; name = codes "a,="; nonce = codes "b"; bare = codes "n=a=2C=3D,r=b" })
 unfolding first_parts bare_parts bare_texts
 a_decoded_name = refl
-
-another_header : client_final_of Unsupported (codes "c=eSws,r=a,p=QQ==") ≡ Err (Malformed 2)
-unfolding client_final_parts
-another_header = refl
-
-bits_left_over : server_first_of (codes "r=a,s=QR==,i=1") ≡ Err (Malformed 8)
-unfolding server_first_parts
-bits_left_over = refl

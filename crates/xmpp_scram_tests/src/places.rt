@@ -91,6 +91,17 @@ fn last_place(alloc: Global, bytes: &[u8]) -> Result<Option<ScramFault>, ScramFa
     Ok(server.judge(alloc, bytes).err())
 }
 
+// Why a client that has replied to a challenge refuses a server's final message, if it does.
+fn check_place(
+    alloc: Global,
+    challenge: &[u8],
+    bytes: &[u8],
+) -> Result<Option<ScramFault>, ScramFault> {
+    let mut client = client(alloc, "x")?;
+    let _reply = client.reply(alloc, challenge)?;
+    Ok(client.check(bytes).err())
+}
+
 #[test]
 fn finds_the_places_in_first_messages(rt: HostRuntime) {
     for (bytes, at) in &FIRST {
@@ -101,7 +112,18 @@ fn finds_the_places_in_first_messages(rt: HostRuntime) {
 #[test]
 fn finds_the_places_in_challenges(rt: HostRuntime) -> Result<(), Fail> {
     for (bytes, at) in &SERVER_FIRST {
-        assert!(rt; reply_place(rt.alloc(), "a", bytes)? == Some(ScramFault::Malformed { at: *at }));
+        assert!(rt;
+            reply_place(rt.alloc(), "a", bytes)? == Some(ScramFault::Malformed { at: *at })
+        );
+    }
+    Ok(())
+}
+
+#[test]
+fn finds_the_places_in_answers(rt: HostRuntime) -> Result<(), Fail> {
+    for (bytes, at) in &SERVER_FINAL {
+        let fault = check_place(rt.alloc(), b"r=xy,s=QQ==,i=4096", bytes)?;
+        assert!(rt; fault == Some(ScramFault::Malformed { at: *at }));
     }
     Ok(())
 }
