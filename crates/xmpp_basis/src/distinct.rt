@@ -1,5 +1,5 @@
 //! Whether no two of some items are equal.
-ghost use Rattle.std.specs.Prelude.{◌≡◌, ◌↔◌, IsTrue, IsSorted, IsPermutation};
+ghost use Rattle.std.specs.Prelude.{◌↔◌, IsTrue, IsSorted, IsPermutation};
 ghost use Rattle.std.specs.List.{IsDistinct};
 ghost use Rattle.std.specs.Ordering.{eq_by_cmp};
 

@@ -5,7 +5,7 @@ ghost use Rattle.xmpp_framing.specs.Machine.{HasFault, IsFault, IsFrontOf, Takes
 ghost use Rattle.xmpp_framing.specs.States;
 ghost use Rattle.xmpp_framing.specs.States.{turn};
 
-use crate::faults::{FeedFault, Why};
+use crate::fault::{FeedFault, Why};
 use crate::framer::Framer;
 use crate::items::Items;
 use crate::states::Mode;
@@ -13,7 +13,7 @@ use xmpp_edge::NoMemory;
 
 impl Framer {
     // Whether the token in hand is a text.
-    fn is_text(&self) -> bool
+    pub(crate) fn is_text(&self) -> bool
         ensures { result ≡ States.is_text self.now.lexical.mode }
     {
         match self.lexical.mode {

@@ -2,10 +2,10 @@
 use Rattle.std.proofs.Common.{◌≡◌, ◌↔◌, ℕ, List, Some, Result, Ok, Err, ap}
 use Rattle.xmpp_tokens.proofs.TagOutcomes.{tags_are_read, what_is_read_is_a_tag}
 use Rattle.xmpp_tokens.specs.Tags.{Tag, start_tag, end_tag, tag_of, end_name, IsEndTag}
-use Rattle.xmpp_tokens.specs.declared.faults.TagFault.{TagFault}
+use Rattle.xmpp_tokens.specs.declared.fault.TagWhy.{TagWhy}
 use Rattle.xmpp_names.specs.Ends.{end_of}
 
-was_read : (r : Result Tag TagFault) (name : List ℕ) → end_name r ≡ Some name → r ≡ Ok (end_tag name)
+was_read : (r : Result Tag TagWhy) (name : List ℕ) → end_name r ≡ Some name → r ≡ Ok (end_tag name)
 was_read (Ok (end_tag n)) name e = let same : n ≡ name = cc in ap (λ x. Ok (end_tag x)) same
 was_read (Ok (start_tag n xs b)) name e = absurd cc
 was_read (Err f) name e = absurd cc

@@ -1,7 +1,7 @@
 pub mod ScopeRuns
 pub mod DeclarationRuns
 pub mod SpelledNames
-pub mod Reordered
+pub mod SameNames
 pub mod Expanded
 pub mod Parted
 pub mod NamePairs

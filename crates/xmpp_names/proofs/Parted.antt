@@ -10,8 +10,8 @@ use Rattle.xmpp_names.specs.Names.{prefix_of, local_of}
 use Rattle.xmpp_names.specs.Scopes.{Scope}
 use Rattle.xmpp_names.specs.Starts.{Tag, attributes_in, if_distinct, is_well_formed, limited, or_fault, parted_tag, past_limits, tag_with}
 use Rattle.xmpp_names.specs.declared.expansion.ExpandedAttribute.{ExpandedAttribute}
-use Rattle.xmpp_names.specs.declared.faults.StartFault.{StartFault}
-use Rattle.xmpp_names.specs.declared.faults.StartFault.TheVariants.{NotWellFormed}
+use Rattle.xmpp_names.specs.declared.fault.StartWhy.{StartWhy}
+use Rattle.xmpp_names.specs.declared.fault.StartWhy.TheVariants.{NotWellFormed}
 use Rattle.xmpp_names.specs.declared.limits.TagLimits.{TagLimits}
 
 -- ---- names and attributes
@@ -99,7 +99,7 @@ builds true None a name own empty h = absurd (false≢true h)
 builds true (Some n) None name own empty h = absurd (false≢true h)
 builds true (Some n) (Some es) name own empty h = refl
 
-past : (limits : TagLimits) (count : ℕ) (own : Scope) (fault : StartFault) (o : Option Tag) → is_some o ≡ true → past_limits limits count own ≡ Some fault → limited limits count own o ≡ Err fault
+past : (limits : TagLimits) (count : ℕ) (own : Scope) (fault : StartWhy) (o : Option Tag) → is_some o ≡ true → past_limits limits count own ≡ Some fault → limited limits count own o ≡ Err fault
 past limits count own fault None h e = absurd (false≢true h)
 past limits count own fault (Some t) h e = ap (λ f. or_fault f t) e
 
@@ -108,7 +108,7 @@ module _ (limits : TagLimits) (count : ℕ) (scope : Scope) (name : List ℕ) (o
   unfolding parted_tag
   refused h = ap (limited limits count own) (refuses (list_all may_declare own) (element_ns (own ++ scope) (prefix_of name)) (attributes_in (own ++ scope) others) name own empty h)
 
-  pub past_refused : (fault : StartFault) → is_well_formed scope name own others ≡ true → past_limits limits count own ≡ Some fault → limited limits count own (parted_tag scope name own others empty) ≡ Err fault
+  pub past_refused : (fault : StartWhy) → is_well_formed scope name own others ≡ true → past_limits limits count own ≡ Some fault → limited limits count own (parted_tag scope name own others empty) ≡ Err fault
   unfolding parted_tag
   past_refused fault h e =
       past limits count own fault (parted_tag scope name own others empty) (builds (list_all may_declare own) (element_ns (own ++ scope) (prefix_of name)) (attributes_in (own ++ scope) others) name own empty h) e

@@ -1,9 +1,11 @@
 -- Attributes without a prefix: their expanded names are distinct where the spelled ones are.
 use Rattle.std.proofs.Common.{◌≡◌, ℕ, Bool, true, false, cond, not, ◌&&◌, ◌||◌, List, [], ◌∷◌, Option, Some, None, Ok, map, bytes_eq, refl, sym, ap, ◌∙◌}
 use Rattle.std.proofs.lemmas.Bool.{and_parts, and_from, false≢true, not-true, not_from_false, or_parts, or_from}
+use Rattle.std.proofs.Math.Bool.{and-true}
+use Rattle.std.proofs.lemmas.Slice.Eq.{bytes_eq-Decides}
 use Rattle.std.specs.List.{list_any, before_first, after_first}
 use Rattle.std.specs.Option.{option_map, option_and_then, is_some}
-use Rattle.xmpp_tokens.proofs.Names.{distinct_passes}
+use Rattle.xmpp_basis.proofs.DistinctItems.{test-from_AllPairs}
 use Rattle.xmpp_tokens.proofs.TagOutcomes.{what_is_read_is_a_tag}
 use Rattle.xmpp_tokens.specs.RawTags.{attribute_of}
 use Rattle.xmpp_tokens.specs.Tags.{Attribute, is_empty, names_of, start_tag, tag_of}
@@ -19,7 +21,7 @@ use Rattle.xmpp_names.specs.Starts.{attributes_in}
 -- ---- a tag's attributes have spelled names of their own, and so have those that are no declarations
 
 pub distinct_read : (bytes name : List ℕ) (xs : List Attribute) (empty : Bool) → tag_of bytes ≡ Ok (start_tag name xs empty) → spelled.are_distinct (names_of xs) ≡ true
-distinct_read bytes name xs empty e = distinct_passes (names_of xs) (what_is_read_is_a_tag bytes (start_tag name xs empty) e).distinct
+distinct_read bytes name xs empty e = test-from_AllPairs bytes_eq bytes_eq-Decides (names_of xs) (what_is_read_is_a_tag bytes (start_tag name xs empty) e).distinct
 
 none_kept : (n : List ℕ) (o : Option (List ℕ)) (a : Attribute) (xs : List Attribute) → bytes_eq n a.name ≡ false → list_any (bytes_eq n) (names_of xs) ≡ false → list_any (bytes_eq n) (names_of (unless_binding o a xs)) ≡ false
 none_kept n None a xs e h = or_from (bytes_eq n a.name) _ e h
@@ -62,13 +64,9 @@ plain_names scope (a ∷ xs) h =
     ap (λ o. option_and_then (λ e. in_front (e ∷ []) (expanded_names scope (names_of (map attribute_of xs)))) o) (plain_name scope a.name.now p.0)
     ∙ ap (in_front (plain a.name.now ∷ [])) (plain_names scope xs p.1)
 
-and_true : (b : Bool) → (b && true) ≡ b
-and_true true = refl
-and_true false = refl
-
 any_plain : (n : List ℕ) (ns : List (List ℕ)) → list_any (is_same (plain n)) (map plain ns) ≡ list_any (bytes_eq n) ns
 any_plain n [] = refl
-any_plain n (m ∷ ns) = ap (λ b. b || list_any (is_same (plain n)) (map plain ns)) (and_true (bytes_eq n m)) ∙ ap (λ b. bytes_eq n m || b) (any_plain n ns)
+any_plain n (m ∷ ns) = ap (λ b. b || list_any (is_same (plain n)) (map plain ns)) (and-true (bytes_eq n m)) ∙ ap (λ b. bytes_eq n m || b) (any_plain n ns)
 
 distinct_plain : (ns : List (List ℕ)) → are_distinct (map plain ns) ≡ spelled.are_distinct ns
 distinct_plain [] = refl

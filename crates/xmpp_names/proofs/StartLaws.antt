@@ -1,28 +1,30 @@
 -- What bytes come to as a start tag is what the grammar says, and each refusal is told exactly where it is due.
-use Rattle.std.proofs.Common.{◌≡◌, ◌≢◌, ◌↔◌, ℕ, ◌<◌, ◌≤◌, ◌⊎◌, inl, inr, ⊎_elim, Bool, true, false, cond, ltb, not, List, [], ◌∷◌, ◌++◌, Option, Some, None, Result, Ok, Err, map, length, get_or, refl, sym, ap, subst, ◌∙◌, arith}
+use Rattle.std.proofs.Common.{◌≡◌, ◌↔◌, ℕ, ◌<◌, ◌≤◌, ◌⊎◌, inl, inr, ⊎_elim, Bool, true, false, cond, ltb, not, List, [], ◌∷◌, ◌++◌, Option, Some, None, Result, Ok, Err, map, length, get_or, refl, sym, ap, subst, ◌∙◌, arith}
 use Rattle.std.proofs.lemmas.Bool.{cases_Bool, and_parts, false≢true, cond-true, cond-false, ltb-true, ltb-false, false_from_ne_true, or_parts, not-true}
 use Rattle.std.proofs.lemmas.Bool.Decides.{nat_tests}
 use Rattle.std.proofs.lemmas.List.Sums.{AllPass-from_list_all, list_all-from_AllPass}
+use Rattle.std.proofs.lemmas.Option.{none-some}
 use Rattle.std.specs.List.{list_all, list_any}
-use Rattle.std.specs.Option.{option_and_then, ok_or}
+use Rattle.std.specs.Option.{option_and_then}
 use Rattle.std.specs.Prelude.{All}
 use Rattle.xmpp_tokens.proofs.TagOutcomes.{tags_are_read, what_is_read_is_a_tag, unknown_names_are_restricted}
 use Rattle.xmpp_tokens.specs.Spelling.{spelled_value}
 use Rattle.xmpp_tokens.specs.Tags.{Attribute, start_tag, end_tag, tag_of, tag_at, is_restricted}
 use Rattle.xmpp_tokens.specs.Tags as tokens
-use Rattle.xmpp_tokens.specs.declared.faults.TagFault.{TagFault}
-use Rattle.xmpp_tokens.specs.declared.faults.TagFault.TheVariants as spelling
+use Rattle.xmpp_tokens.specs.declared.fault.TagWhy.{TagWhy}
+use Rattle.xmpp_tokens.specs.declared.fault.TagWhy.TheVariants as spelling
 use Rattle.xmpp_names.proofs.NameLaws.{parts_of, is_name_of, may_from_test, test_from_may, element_from, element_to, attributes_from, attributes_to}
-use Rattle.xmpp_names.proofs.Reordered.{distinct_tested, distinct_passes}
+use Rattle.xmpp_basis.proofs.DistinctItems.{AllPairs-from_test, test-from_AllPairs}
+use Rattle.xmpp_names.proofs.SameNames.{is_same-Decides}
 use Rattle.xmpp_names.specs.Declarations.{MayDeclare, may_declare, bindings_of, others_of}
-use Rattle.xmpp_names.specs.Expansion.{are_distinct, element_ns, expanded_attributes, name_of}
+use Rattle.xmpp_names.specs.Expansion.{are_distinct, is_same, element_ns, expanded_attributes, name_of}
 use Rattle.xmpp_names.specs.Grammar.{IsStart, IsShort, IsWithin}
 use Rattle.xmpp_names.specs.Names.{prefix_of}
 use Rattle.xmpp_names.specs.Scopes.{Scope}
 use Rattle.xmpp_names.specs.Starts.{Tag, attributes_in, if_distinct, is_long, limited, or_fault, parted_tag, past_limits, start_behind, start_of, tag_from, tag_with}
 use Rattle.xmpp_names.specs.declared.expansion.ExpandedAttribute.{ExpandedAttribute}
-use Rattle.xmpp_names.specs.declared.faults.StartFault.{StartFault}
-use Rattle.xmpp_names.specs.declared.faults.StartFault.TheVariants.{Restricted, NotWellFormed, TooManyAttributes, LongNamespace, NoMemory}
+use Rattle.xmpp_names.specs.declared.fault.StartWhy.{StartWhy}
+use Rattle.xmpp_names.specs.declared.fault.StartWhy.TheVariants.{Restricted, NotWellFormed, TooManyAttributes, LongNamespace}
 use Rattle.xmpp_names.specs.declared.limits.TagLimits.{TagLimits}
 
 -- ---- a tag of its parts
@@ -93,7 +95,7 @@ start_from_parts scope bytes name xs empty t read e =
       name_is = is_name_of name;
       element = element_from (own ++ scope) (prefix_of name) p.ns p.ns_is;
       others = attributes_from (own ++ scope) (others_of xs) p.es p.es_are;
-      distinct = distinct_tested (map name_of p.es) p.differ;
+      distinct = AllPairs-from_test is_same is_same-Decides (map name_of p.es) p.differ;
     } in
     subst (λ u. IsStart scope bytes xs u) p.tag_is made
 
@@ -106,7 +108,7 @@ parts_from_start scope bytes xs t h =
     let o = element_ns (own ++ scope) (prefix_of name) in
     let a = option_and_then if_distinct (expanded_attributes (own ++ scope) (others_of xs)) in
     let o_is : o ≡ Some t.ns = ap (element_ns (own ++ scope)) parts.0 ∙ element_to (own ++ scope) h.prefix t.ns h.element in
-    let a_is : a ≡ Some t.attributes = ap (option_and_then if_distinct) (attributes_to (own ++ scope) (others_of xs) t.attributes h.others) ∙ cond-true (are_distinct (map name_of t.attributes)) (Some t.attributes) None (distinct_passes (map name_of t.attributes) h.distinct) in
+    let a_is : a ≡ Some t.attributes = ap (option_and_then if_distinct) (attributes_to (own ++ scope) (others_of xs) t.attributes h.others) ∙ cond-true (are_distinct (map name_of t.attributes)) (Some t.attributes) None (test-from_AllPairs is_same is_same-Decides (map name_of t.attributes) h.distinct) in
     let named : List ℕ → Tag = λ n. record { spelled = t.spelled; ns = t.ns; name = n; attributes = t.attributes; bindings = t.bindings; empty = t.empty } in
     ap (λ (bs : Scope). parted_tag scope name bs (others_of xs) t.empty) (sym h.declarations)
     ∙ cond-true (list_all may_declare own) (tag_with name own t.empty o a) None (may_all own h.may_be_made)
@@ -135,7 +137,7 @@ IsPast limits count bs =
     ⊎ (((past_limits limits count bs ≡ Some LongNamespace) × (count ≤ limits.attributes) × (All (IsShort limits.namespace_bytes) bs → ⊥))
     ⊎ ((past_limits limits count bs ≡ None) × (count ≤ limits.attributes) × All (IsShort limits.namespace_bytes) bs))
 
-abbrev long_or_not : TagLimits → Scope → Option StartFault
+abbrev long_or_not : TagLimits → Scope → Option StartWhy
 long_or_not limits bs = cond (list_any (is_long limits.namespace_bytes) bs) (Some LongNamespace) None
 
 past_cases : (limits : TagLimits) (count : ℕ) (bs : Scope) → IsPast limits count bs
@@ -166,15 +168,6 @@ comes_to limits scope bytes xs t h =
     ∙ ap (limited limits (length xs) (bindings_of xs)) (parts_from_start scope bytes xs t h)
     ∙ ap (λ bs. or_fault (past_limits limits (length xs) bs) t) (sym h.declarations)
 
-told : (b : Bool) (o : Option tokens.Tag) → cond b (Err spelling.Restricted) (ok_or o spelling.NotWellFormed) ≡ Err spelling.NoMemory → ⊥
-told true o e = absurd cc
-told false None e = absurd cc
-told false (Some t) e = absurd cc
-
-no_want : (bytes : List ℕ) → tag_of bytes ≡ Err spelling.NoMemory → ⊥
-unfolding tag_of
-no_want bytes e = told (is_restricted bytes) (tag_at bytes) e
-
 abbrev Unspelled : TagLimits → Scope → List ℕ → Type 0
 Unspelled limits scope bytes = (start_of limits scope bytes ≡ Err NotWellFormed) × (is_restricted bytes ≡ false) × ((xs : List Attribute) (t : Tag) → IsStart scope bytes xs t → ⊥)
 
@@ -186,20 +179,17 @@ Outcome limits scope bytes =
 unrestricted : (bytes : List ℕ) → (tag_of bytes ≡ Err spelling.Restricted → ⊥) → is_restricted bytes ≡ false
 unrestricted bytes h = false_from_ne_true (is_restricted bytes) (λ e. h ((unknown_names_are_restricted bytes).1 e))
 
-abbrev read_as : tokens.Tag → Result tokens.Tag TagFault
+abbrev read_as : tokens.Tag → Result tokens.Tag TagWhy
 read_as t = Ok t
 
 same_tag : (a b : tokens.Tag) → read_as a ≡ read_as b → a ≡ b
 same_tag a b e = cc
 
-abbrev start_as : Tag → Result Tag StartFault
+abbrev start_as : Tag → Result Tag StartWhy
 start_as t = Ok t
 
 same_start : (a b : Tag) → start_as a ≡ start_as b → a ≡ b
 same_start a b e = cc
-
-none_some : (t : Tag) → None ≡ Some t → ⊥
-none_some t e = absurd cc
 
 module _ (limits : TagLimits) (scope : Scope) (bytes : List ℕ) where
   started : (name : List ℕ) (xs : List Attribute) (empty : Bool) (o : Option Tag) → tag_of bytes ≡ Ok (start_tag name xs empty) → parted_tag scope name (bindings_of xs) (others_of xs) empty ≡ o → Outcome limits scope bytes
@@ -210,10 +200,10 @@ module _ (limits : TagLimits) (scope : Scope) (bytes : List ℕ) where
         ap (start_behind limits scope) read ∙ ap (limited limits (length xs) (bindings_of xs)) e,
         unrestricted bytes (λ r. let never : Ok (start_tag name xs empty) ≡ Err spelling.Restricted = sym read ∙ r in absurd cc),
         λ ys t h. let other : start_tag name xs empty ≡ start_tag t.spelled ys t.empty = same_tag _ _ (sym read ∙ tags_are_read bytes (start_tag t.spelled ys t.empty) h.spelled) in
-            none_some t (sym e ∙ ap (parted_as scope) other ∙ parts_from_start scope bytes ys t h),
+            none-some t (sym e ∙ ap (parted_as scope) other ∙ parts_from_start scope bytes ys t h),
       ))
 
-  outcome : (r : Result tokens.Tag TagFault) → tag_of bytes ≡ r → Outcome limits scope bytes
+  outcome : (r : Result tokens.Tag TagWhy) → tag_of bytes ≡ r → Outcome limits scope bytes
   unfolding start_of
   outcome (Err spelling.Restricted) e = inr (inr (ap (start_behind limits scope) e, (unknown_names_are_restricted bytes).0 e))
   outcome (Err spelling.NotWellFormed) e =
@@ -222,7 +212,6 @@ module _ (limits : TagLimits) (scope : Scope) (bytes : List ℕ) where
         unrestricted bytes (λ r. let never : Err spelling.NotWellFormed ≡ Err spelling.Restricted = sym e ∙ r in absurd cc),
         λ ys t h. let never : Err spelling.NotWellFormed ≡ Ok (start_tag t.spelled ys t.empty) = sym e ∙ tags_are_read bytes (start_tag t.spelled ys t.empty) h.spelled in absurd cc,
       ))
-  outcome (Err spelling.NoMemory) e = absurd (no_want bytes e)
   outcome (Ok (end_tag n)) e =
       inr (inl (
         ap (start_behind limits scope) e,
@@ -234,14 +223,14 @@ module _ (limits : TagLimits) (scope : Scope) (bytes : List ℕ) where
   all : Outcome limits scope bytes
   all = outcome (tag_of bytes) refl
 
-  abbrev come : Result Tag StartFault
+  abbrev come : Result Tag StartWhy
   come = start_of limits scope bytes
 
   -- the answer for a tag, by its limits
   within : (xs : List Attribute) (t : Tag) → IsStart scope bytes xs t → past_limits limits (length xs) t.bindings ≡ None → come ≡ Ok t
   within xs t h e = comes_to limits scope bytes xs t h ∙ ap (λ f. or_fault f t) e
 
-  past : (xs : List Attribute) (t : Tag) (f : StartFault) → IsStart scope bytes xs t → past_limits limits (length xs) t.bindings ≡ Some f → come ≡ Err f
+  past : (xs : List Attribute) (t : Tag) (f : StartWhy) → IsStart scope bytes xs t → past_limits limits (length xs) t.bindings ≡ Some f → come ≡ Err f
   past xs t f h e = comes_to limits scope bytes xs t h ∙ ap (λ g. or_fault g t) e
 
   abbrev Verdict : Type 0
@@ -265,7 +254,7 @@ module _ (limits : TagLimits) (scope : Scope) (bytes : List ℕ) where
   verdict = verdict_of all
 
   -- no two answers
-  one : (a b : Result Tag StartFault) → come ≡ a → come ≡ b → a ≡ b
+  one : (a b : Result Tag StartWhy) → come ≡ a → come ≡ b → a ≡ b
   one a b x y = sym x ∙ y
 
   read_to : (t : Tag) → Verdict → come ≡ Ok t → (xs : List Attribute) × IsStart scope bytes xs t × IsWithin limits xs t
@@ -285,10 +274,10 @@ module _ (limits : TagLimits) (scope : Scope) (bytes : List ℕ) where
   pub read : (t : Tag) → ((come ≡ Ok t) ↔ ((xs : List Attribute) × IsStart scope bytes xs t × IsWithin limits xs t))
   read t = (read_to t verdict, λ h. read_from h.0 t h.1 h.2 (past_cases limits (length h.0) t.bindings))
 
-  is_fault : (f g : StartFault) → come ≡ Err f → come ≡ Err g → f ≡ g
+  is_fault : (f g : StartWhy) → come ≡ Err f → come ≡ Err g → f ≡ g
   is_fault f g x y = let both : Err f ≡ Err g = one (Err f) (Err g) x y in cc
 
-  is_tag : (t : Tag) (f : StartFault) → come ≡ Ok t → come ≡ Err f → ⊥
+  is_tag : (t : Tag) (f : StartWhy) → come ≡ Ok t → come ≡ Err f → ⊥
   is_tag t f x y = let both : Ok t ≡ Err f = one (Ok t) (Err f) x y in absurd cc
 
   restricted_to : Verdict → come ≡ Err Restricted → is_restricted bytes ≡ true
@@ -351,13 +340,3 @@ module _ (limits : TagLimits) (scope : Scope) (bytes : List ℕ) where
 
   pub long : (come ≡ Err LongNamespace) ↔ ((xs : List Attribute) × (t : Tag) × IsStart scope bytes xs t × (length xs ≤ limits.attributes) × (All (IsShort limits.namespace_bytes) t.bindings → ⊥))
   long = (long_to verdict, λ h. long_from h.0 h.1 h.2 h.3 h.4 (past_cases limits (length h.0) h.1.bindings))
-
-  no_memory : Verdict → come ≡ Err NoMemory → ⊥
-  no_memory (inl (xs, u, h, w, c)) e = is_tag u NoMemory c e
-  no_memory (inr (inl (xs, u, h, m, c))) e = let never = is_fault TooManyAttributes NoMemory c e in absurd cc
-  no_memory (inr (inr (inl (xs, u, h, f, l, c)))) e = let never = is_fault LongNamespace NoMemory c e in absurd cc
-  no_memory (inr (inr (inr (inl u)))) e = let never = is_fault NotWellFormed NoMemory u.0 e in absurd cc
-  no_memory (inr (inr (inr (inr u)))) e = let never = is_fault Restricted NoMemory u.0 e in absurd cc
-
-  pub never_memory : come ≢ Err NoMemory
-  never_memory e = no_memory verdict e

@@ -11,7 +11,7 @@ use Rattle.xmpp_names.specs.Expansion.{attribute_ns, element_ns, expanded_name}
 use Rattle.xmpp_names.specs.Names.{local_of, prefix_of}
 use Rattle.xmpp_names.specs.Scopes.{Scope, bound, xml_namespace, xmlns_namespace}
 use Rattle.xmpp_names.specs.Starts.{attributes_in, parted_tag, past_limits, start_of}
-use Rattle.xmpp_names.specs.declared.faults.StartFault.TheVariants as fault
+use Rattle.xmpp_names.specs.declared.fault.StartWhy.TheVariants as fault
 use Rattle.xmpp_names.specs.declared.limits.TagLimits.{TagLimits}
 use Rattle.xmpp_names.specs.declared.scopes.Binding.{Binding}
 

@@ -1,8 +1,8 @@
 -- Expanded names (Namespaces in XML 1.0, sections 2.1, 5 and 6).
-use Rattle.std.specs.Prelude.{ℕ, ◌≢◌, Bool, true, false, not, ◌&&◌, if◌then◌else◌, List, [], ◌∷◌, ◌++◌, Option, Some, None, codes, unwrap_or, AllPairs}
-use Rattle.std.specs.List.{list_any}
+use Rattle.std.specs.Prelude.{ℕ, ◌≢◌, Bool, false, ◌&&◌, if◌then◌else◌, List, [], ◌∷◌, ◌++◌, Option, Some, None, codes, unwrap_or, AllPairs}
 use Rattle.std.specs.Option.{option_map, option_and_then}
 use Rattle.std.specs.Str.{bytes_eq}
+use Rattle.xmpp_basis.specs.Distinct.{are_distinct_by}
 use Rattle.xmpp_tokens.specs.Tags.{Attribute, is_empty}
 use Rattle.xmpp_names.specs.Names.{prefix_of, local_of}
 use Rattle.xmpp_names.specs.Scopes.{Scope, bound}
@@ -62,8 +62,7 @@ is_same a b = bytes_eq a.name b.name && bytes_eq a.ns b.ns
 
 -- the same, as a test
 abbrev pub are_distinct : List Name → Bool
-are_distinct [] = true
-are_distinct (n ∷ more) = not (list_any (is_same n) more) && are_distinct more
+are_distinct names = are_distinct_by is_same names
 
 -- whether an attribute has this expanded name, if it has one
 abbrev pub is_same_if : Name → Option Name → Bool

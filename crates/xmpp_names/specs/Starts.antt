@@ -6,15 +6,15 @@ use Rattle.std.specs.Option.{option_map, option_and_then, is_some}
 use Rattle.xmpp_tokens.specs.Spelling.{spelled_value}
 use Rattle.xmpp_tokens.specs.Tags.{Attribute, start_tag, end_tag, tag_of}
 use Rattle.xmpp_tokens.specs.Tags as tokens
-use Rattle.xmpp_tokens.specs.declared.faults.TagFault.{TagFault}
-use Rattle.xmpp_tokens.specs.declared.faults.TagFault.TheVariants as spelling
+use Rattle.xmpp_tokens.specs.declared.fault.TagWhy.{TagWhy}
+use Rattle.xmpp_tokens.specs.declared.fault.TagWhy.TheVariants as spelling
 use Rattle.xmpp_names.specs.Declarations.{may_declare, bindings_of, others_of}
 use Rattle.xmpp_names.specs.Expansion.{are_distinct, element_ns, expanded_attributes, name_of}
 use Rattle.xmpp_names.specs.Names.{prefix_of, local_of}
 use Rattle.xmpp_names.specs.Scopes.{Scope}
 use Rattle.xmpp_names.specs.declared.expansion.ExpandedAttribute.{ExpandedAttribute}
-use Rattle.xmpp_names.specs.declared.faults.StartFault.{StartFault}
-use Rattle.xmpp_names.specs.declared.faults.StartFault.TheVariants.{Restricted, NotWellFormed, TooManyAttributes, LongNamespace, NoMemory}
+use Rattle.xmpp_names.specs.declared.fault.StartWhy.{StartWhy}
+use Rattle.xmpp_names.specs.declared.fault.StartWhy.TheVariants.{Restricted, NotWellFormed, TooManyAttributes, LongNamespace}
 use Rattle.xmpp_names.specs.declared.limits.TagLimits.{TagLimits}
 use Rattle.xmpp_names.specs.declared.scopes.Binding.{Binding}
 
@@ -34,7 +34,7 @@ abbrev pub is_long : ℕ → Binding → Bool
 is_long most b = nat_lt most (length (spelled_value b.ns))
 
 -- the limit that so many attributes, declarations counted, and these declarations are past
-unfoldable pub past_limits : TagLimits → ℕ → Scope → Option StartFault
+unfoldable pub past_limits : TagLimits → ℕ → Scope → Option StartWhy
 past_limits limits count bindings =
     if nat_lt limits.attributes count then Some TooManyAttributes
     else (if list_any (is_long limits.namespace_bytes) bindings then Some LongNamespace else None)
@@ -61,31 +61,30 @@ parted_tag scope name own others empty =
     then tag_with name own empty (element_ns (own ++ scope) (prefix_of name)) (attributes_in (own ++ scope) others)
     else None
 
-abbrev pub or_fault : Option StartFault → Tag → Result Tag StartFault
+abbrev pub or_fault : Option StartWhy → Tag → Result Tag StartWhy
 or_fault None t = Ok t
-or_fault (Some fault) t = Err fault
+or_fault (Some why) t = Err why
 
 -- a tag with so many attributes and these declarations, unless it is past the limits
-abbrev pub limited : TagLimits → ℕ → Scope → Option Tag → Result Tag StartFault
+abbrev pub limited : TagLimits → ℕ → Scope → Option Tag → Result Tag StartWhy
 limited limits count own None = Err NotWellFormed
 limited limits count own (Some t) = or_fault (past_limits limits count own) t
 
-abbrev pub start_from : TagLimits → Scope → tokens.Tag → Result Tag StartFault
+abbrev pub start_from : TagLimits → Scope → tokens.Tag → Result Tag StartWhy
 start_from limits scope (start_tag name attributes empty) =
     limited limits (length attributes) (bindings_of attributes) (parted_tag scope name (bindings_of attributes) (others_of attributes) empty)
 start_from limits scope (end_tag name) = Err NotWellFormed
 
-abbrev pub as_start_fault : TagFault → StartFault
-as_start_fault spelling.Restricted = Restricted
-as_start_fault spelling.NotWellFormed = NotWellFormed
-as_start_fault spelling.NoMemory = NoMemory
+abbrev pub as_start_why : TagWhy → StartWhy
+as_start_why spelling.Restricted = Restricted
+as_start_why spelling.NotWellFormed = NotWellFormed
 
-abbrev pub start_behind : TagLimits → Scope → Result tokens.Tag TagFault → Result Tag StartFault
+abbrev pub start_behind : TagLimits → Scope → Result tokens.Tag TagWhy → Result Tag StartWhy
 start_behind limits scope (Ok t) = start_from limits scope t
-start_behind limits scope (Err fault) = Err (as_start_fault fault)
+start_behind limits scope (Err why) = Err (as_start_why why)
 
 -- What bytes come to as a start tag inside a scope, within limits.
-unfoldable pub start_of : TagLimits → Scope → List ℕ → Result Tag StartFault
+unfoldable pub start_of : TagLimits → Scope → List ℕ → Result Tag StartWhy
 start_of limits scope bytes = start_behind limits scope (tag_of bytes)
 
 -- a name, declarations and other attributes that say a tag

@@ -1,12 +1,11 @@
 //! Namespace declarations among the attributes of a tag.
-ghost use Rattle.std.specs.Prelude.{◌≡◌, [], ◌∷◌, ◌++◌, map, IfOk, IfErr, OnOk};
+ghost use Rattle.std.specs.Prelude.{◌≡◌, [], ◌∷◌, ◌++◌, map, IfOk, OnOk};
 ghost use Rattle.std.specs.List.{list_all, list_any};
 ghost use Rattle.std.specs.Option.{option_map, is_some};
 ghost use Rattle.xmpp_names.specs.Declarations;
 ghost use Rattle.xmpp_names.specs.Declarations.{bindings_of, others_of};
 ghost use Rattle.xmpp_tokens.specs.RawTags.{attribute_of};
 
-use crate::faults::StartFault;
 use crate::names::split_name;
 use crate::scopes::{Binding, XML_NAMESPACE};
 use std::alloc::Global;
@@ -88,13 +87,12 @@ fn part_declared<'a>(
 pub(crate) fn part<'a>(
     alloc: Global,
     attributes: Vec<RawAttribute<'a>>,
-) -> Result<PartedAttributes<'a>, StartFault>
+) -> Result<PartedAttributes<'a>, NoMemory>
     ensures bindings { IfOk result (λ p. p.bindings.items ≡ bindings_of (map attribute_of attributes.entry.items)) }
     ensures others { IfOk result (λ p. map attribute_of p.others.items ≡ others_of (map attribute_of attributes.entry.items)) }
-    ensures err { IfErr result (λ e. e ≡ StartFault.NoMemory) }
 {
     if has_declaration(attributes.as_slice()) {
-        return Ok(part_declared(alloc, attributes)?);
+        return part_declared(alloc, attributes);
     }
     Ok(PartedAttributes {
         bindings: Vec::new(alloc),

@@ -1,8 +1,7 @@
 //! End tags.
 ghost use Rattle.std.specs.Option.{option_map};
-ghost use Rattle.std.specs.Prelude.{◌≡◌, ◌↔◌, ℕ, List, Some};
+ghost use Rattle.std.specs.Prelude.{◌≡◌};
 ghost use Rattle.xmpp_names.specs.Ends.{end_of};
-ghost use Rattle.xmpp_tokens.specs.Tags.{IsEndTag};
 
 use xmpp_tokens::read_end_tag;
 
@@ -14,8 +13,3 @@ pub fn read_end(bytes: &[u8]) -> Option<&str>
 {
     read_end_tag(bytes)
 }
-
-/// An end tag is read as what the grammar has it as.
-pub fn end_tags_are_read()
-    ensures { (bytes name : List ℕ) → ((end_of bytes ≡ Some name) ↔ IsEndTag bytes name) }
-{}

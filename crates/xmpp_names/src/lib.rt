@@ -3,10 +3,9 @@
 #![tactic(auto)]
 
 mod declarations;
-mod distinct;
 mod ends;
 mod expansion;
-mod faults;
+mod fault;
 mod headers;
 mod index;
 mod laws;
@@ -16,15 +15,15 @@ mod pairs;
 mod scopes;
 mod starts;
 
-pub use ends::{end_tags_are_read, read_end};
+pub use ends::read_end;
 pub use expansion::ExpandedAttribute;
-pub use faults::StartFault;
-pub use headers::{Header, HeaderTag, header_of, opens_stream};
-pub use laws::{declarations_are_tested, names_are_split, start_refusals_are_due, starts_are_read};
+pub use fault::{StartFault, StartWhy};
+pub use headers::{Header, HeaderTag, STREAMS_NAMESPACE, header_of, opens_stream};
+pub use laws::{
+    declarations_are_tested, end_tags_are_read, names_are_split, start_refusals_are_due,
+    starts_are_read,
+};
 pub use limits::TagLimits;
 pub use names::is_spelled;
 pub use scopes::Binding;
 pub use starts::{Tag, read_start};
-
-#[cfg(test)]
-mod tests;

@@ -1,3 +1,4 @@
+//! What a tag may hold.
 /// What a tag may hold.
 #[derive(Clone, Copy, Debug, PartialEq, Eq)]
 pub struct TagLimits {

@@ -1,7 +1,8 @@
 //! Start tags with their names expanded.
-ghost use Rattle.std.specs.Prelude.{◌≡◌, ◌≢◌, ◌++◌, Ok, Err, Some, true, map, length, IfOk, IfErr};
+ghost use Rattle.std.specs.Prelude.{◌≡◌, ◌++◌, Ok, Err, Some, true, map, IfOk, IfErr};
 ghost use Rattle.std.specs.List.{list_any};
 ghost use Rattle.std.specs.Option.{option_map, is_some};
+ghost use Rattle.xmpp_names.specs.Faults.{IfRefused};
 ghost use Rattle.xmpp_names.specs.Names.{has_colon};
 ghost use Rattle.xmpp_names.specs.Scopes.{Scope, scope_of};
 ghost use Rattle.xmpp_names.specs.Starts;
@@ -13,16 +14,16 @@ ghost use Rattle.xmpp_tokens.specs.Tags;
 ghost use Rattle.xmpp_tokens.specs.Tags.{names_of, tag_of};
 
 use crate::declarations::{PartedAttributes, all_may_declare, part};
-use crate::distinct::are_distinct;
 use crate::expansion::{ExpandedAttribute, element_ns, expanded_attributes, expanded_names};
-use crate::faults::StartFault;
+use crate::fault::{StartFault, StartWhy};
 use crate::limits::TagLimits;
 use crate::names::{is_prefixed, split_name, split_prefix};
 use crate::pairs::{FEW_NAMES, have_names_in_pairs};
 use crate::scopes::Binding;
 use std::alloc::Global;
+use xmpp_basis::are_distinct;
 use xmpp_edge::{NoMemory, Text};
-use xmpp_tokens::{RawAttribute, RawTag, StartTag, TagFault, read_tag, spelled_value_len};
+use xmpp_tokens::{RawAttribute, RawTag, StartTag, TagFault, TagWhy, read_tag, spelled_value_len};
 
 /// A start tag, or the tag of an empty element, with its names expanded (Namespaces in XML 1.0, section 2.1).
 #[derive(Debug, Drop)]
@@ -62,14 +63,14 @@ fn has_long(most: u32, bindings: &[Binding]) -> bool
 
 // The limit that so many attributes and these declarations are past.
 #[tactic(auto, unfolding(crate::specs::Starts::past_limits))]
-fn past_limits(limits: TagLimits, count: usize, bindings: &[Binding]) -> Option<StartFault>
+fn past_limits(limits: TagLimits, count: usize, bindings: &[Binding]) -> Option<StartWhy>
     ensures { result ≡ Starts.past_limits limits count bindings.now }
 {
     if count > limits.attributes as usize {
-        return Some(StartFault::TooManyAttributes);
+        return Some(StartWhy::TooManyAttributes);
     }
     if has_long(limits.namespace_bytes, bindings) {
-        return Some(StartFault::LongNamespace);
+        return Some(StartWhy::LongNamespace);
     }
     None
 }
@@ -182,18 +183,18 @@ fn expand(
     requires { Tags.are_distinct (names_of (map attribute_of parted.others.items)) ≡ true }
     ensures ok { IfOk result (λ t. limited limits count parted.entry.bindings.items
         (parted_tag (scope_of stack.now) spelled.now parted.entry.bindings.items (map attribute_of parted.entry.others.items) empty) ≡ Ok (tag_view t)) }
-    ensures err { IfErr result (λ e. e ≢ StartFault.NoMemory → limited limits count parted.entry.bindings.items
-        (parted_tag (scope_of stack.now) spelled.now parted.entry.bindings.items (map attribute_of parted.entry.others.items) empty) ≡ Err e) }
+    ensures refused { IfErr result (λ e. IfRefused e (λ why. limited limits count parted.entry.bindings.items
+        (parted_tag (scope_of stack.now) spelled.now parted.entry.bindings.items (map attribute_of parted.entry.others.items) empty) ≡ Err why)) }
 {
     if !is_well_formed(alloc, stack, spelled, &parted)? {
-        return Err(StartFault::NotWellFormed);
+        return Err(StartFault::Refused(StartWhy::NotWellFormed));
     }
-    if let Some(fault) = past_limits(limits, count, parted.bindings.as_slice()) {
-        return Err(fault);
+    if let Some(why) = past_limits(limits, count, parted.bindings.as_slice()) {
+        return Err(StartFault::Refused(why));
     }
     match finished(alloc, stack, spelled, parted, empty)? {
         Some(tag) => Ok(tag),
-        None => Err(StartFault::NotWellFormed),
+        None => Err(StartFault::Refused(StartWhy::NotWellFormed)),
     }
 }
 
@@ -206,7 +207,7 @@ fn expand_spelled(
 ) -> Result<Tag, StartFault>
     requires { Tags.are_distinct (names_of (map attribute_of tag.attributes.items)) ≡ true }
     ensures ok { IfOk result (λ t. Starts.start_from limits (scope_of stack.now) (raw_tag (RawTag.Start tag.entry)) ≡ Ok (tag_view t)) }
-    ensures err { IfErr result (λ e. e ≢ StartFault.NoMemory → Starts.start_from limits (scope_of stack.now) (raw_tag (RawTag.Start tag.entry)) ≡ Err e) }
+    ensures refused { IfErr result (λ e. IfRefused e (λ why. Starts.start_from limits (scope_of stack.now) (raw_tag (RawTag.Start tag.entry)) ≡ Err why)) }
 {
     let StartTag {
         name,
@@ -216,7 +217,7 @@ fn expand_spelled(
     let count = attributes.len();
     match part(alloc, attributes) {
         Ok(parted) => expand(alloc, limits, stack, count, name, parted, empty),
-        Err(fault) => Err(fault),
+        Err(NoMemory) => Err(StartFault::NoMemory),
     }
 }
 
@@ -224,13 +225,17 @@ fn expand_spelled(
 #[tactic(auto, unfolding(crate::specs::Starts::start_of))]
 fn read_spelled<'a>(alloc: Global, bytes: &'a [u8]) -> Result<StartTag<'a>, StartFault>
     ensures ok { IfOk result (λ t. tag_of bytes.now ≡ Ok (raw_tag (RawTag.Start t))) }
-    ensures err { IfErr result (λ e. e ≢ StartFault.NoMemory → (limits : declared_limits.TagLimits) (scope : Scope) → start_of limits scope bytes.now ≡ Err e) }
+    ensures refused { IfErr result (λ e. IfRefused e (λ why. (limits : declared_limits.TagLimits) (scope : Scope) → start_of limits scope bytes.now ≡ Err why)) }
 {
     match read_tag(alloc, bytes) {
         Ok(RawTag::Start(tag)) => Ok(tag),
-        Ok(RawTag::End(_)) => Err(StartFault::NotWellFormed),
-        Err(TagFault::Restricted) => Err(StartFault::Restricted),
-        Err(TagFault::NotWellFormed) => Err(StartFault::NotWellFormed),
+        Ok(RawTag::End(_)) => Err(StartFault::Refused(StartWhy::NotWellFormed)),
+        Err(TagFault::Refused(TagWhy::Restricted)) => {
+            Err(StartFault::Refused(StartWhy::Restricted))
+        }
+        Err(TagFault::Refused(TagWhy::NotWellFormed)) => {
+            Err(StartFault::Refused(StartWhy::NotWellFormed))
+        }
         Err(TagFault::NoMemory) => Err(StartFault::NoMemory),
     }
 }
@@ -253,7 +258,7 @@ pub fn read_start(
     bytes: &[u8],
 ) -> Result<Tag, StartFault>
     ensures ok { IfOk result (λ t. start_of limits (scope_of scope.now) bytes.now ≡ Ok (tag_view t)) }
-    ensures err { IfErr result (λ e. e ≢ StartFault.NoMemory → start_of limits (scope_of scope.now) bytes.now ≡ Err e) }
+    ensures refused { IfErr result (λ e. IfRefused e (λ why. start_of limits (scope_of scope.now) bytes.now ≡ Err why)) }
 {
     match read_spelled(alloc, bytes) {
         Ok(tag) => expand_spelled(alloc, limits, scope, tag),

@@ -4,8 +4,8 @@ use Rattle.std.proofs.lemmas.Bool.{cases_Bool, and_parts, false≢true}
 use Rattle.std.specs.Option.{option_map, option_and_then, ok_or}
 use Rattle.xmpp_tokens.specs.Tags.{Tag, start_tag, end_tag, Inside, is_end, is_qualified, is_qualified_byte, inside_of, are_distinct, names_of, start_with, start_at, end_at, tag_at, is_restricted, tag_of, end_name}
 use Rattle.xmpp_tokens.specs.Fronts.{front, behind}
-use Rattle.xmpp_tokens.specs.declared.faults.TagFault.{TagFault}
-use Rattle.xmpp_tokens.specs.declared.faults.TagFault.TheVariants.{Restricted, NotWellFormed}
+use Rattle.xmpp_tokens.specs.declared.fault.TagWhy.{TagWhy}
+use Rattle.xmpp_tokens.specs.declared.fault.TagWhy.TheVariants.{Restricted, NotWellFormed}
 
 abbrev name_in : Option Tag → Option (List ℕ)
 name_in o = end_name (ok_or o NotWellFormed)
@@ -44,7 +44,7 @@ other_has_none [] h = refl
 other_has_none (a ∷ []) h = unless (eqb a 60) None refl
 other_has_none (a ∷ b ∷ bs) h = begun_has_none a b bs h
 
-told : (b : Bool) (r : Result Tag TagFault) → end_name r ≡ None → end_name (cond b (Err Restricted) r) ≡ None
+told : (b : Bool) (r : Result Tag TagWhy) → end_name r ≡ None → end_name (cond b (Err Restricted) r) ≡ None
 told true r h = refl
 told false r h = h
 

@@ -4,11 +4,11 @@ pub mod Splits
 pub mod UntilLens
 pub mod LetterNames
 pub mod ValueRuns
+pub mod ValueTexts
+pub mod ValueSpellings
 pub mod Texts
 pub mod TagWords
 pub mod InsideRuns
-pub mod Names
-pub mod Outcomes
 pub mod TagLaws
 pub mod EndNames
 pub mod TagOutcomes

@@ -1,5 +1,6 @@
 -- What is written is read back as itself.
 use Rattle.std.proofs.Common.{◌≡◌, ℕ, Bool, true, false, eqb, not, ◌&&◌, List, [], ◌∷◌, ◌++◌, Some, None, refl, sym, ap, subst, ◌∙◌, ⊎_elim}
+use Rattle.std.proofs.Math.Bool.{and-false}
 use Rattle.std.proofs.lemmas.Bool.{cases_Bool, and_parts, and_from, or_from, eqb-true, cond-true, not-true}
 use Rattle.std.proofs.lemmas.List.Folds.{list_all-append}
 use Rattle.std.proofs.lemmas.Str.{is_utf8-from_IsUtf8}
@@ -150,12 +151,8 @@ first_forgotten : (c x : ℕ) (xs : List ℕ) → eqb c 239 ≡ false → are_ch
 first_forgotten c x [] h = refl
 first_forgotten c x (y ∷ ys) h = rw h refl
 
-and_no : (b : Bool) → (b && false) ≡ false
-and_no true = refl
-and_no false = refl
-
 quiet : (a c x : ℕ) → eqb c 191 ≡ false → ends_forbidden a c x ≡ ends_forbidden 0 0 x
-quiet a c x k = let e : (eqb a 239 && eqb c 191) ≡ false = rw k (and_no (eqb a 239)) in rw e refl
+quiet a c x k = let e : (eqb a 239 && eqb c 191) ≡ false = rw k (and-false (eqb a 239)) in rw e refl
 
 both_same : (p q r s : Bool) → p ≡ q → r ≡ s → (p && r) ≡ (q && s)
 both_same p q r s e f = rw (e, f) refl
@@ -172,7 +169,7 @@ low_passes a b c rest h =
     let p = and_parts (not (is_control c)) _ h in
     let q = and_parts (not (eqb c 190)) _ p.1 in
     let r = and_parts (not (eqb c 191)) _ q.1 in
-    let no_end : ends_forbidden a b c ≡ false = or_from (is_control c) _ (not-true _ p.0) (rw (not-true _ q.0, not-true _ r.0) (and_no (eqb a 239 && eqb b 191))) in
+    let no_end : ends_forbidden a b c ≡ false = or_from (is_control c) _ (not-true _ p.0) (rw (not-true _ q.0, not-true _ r.0) (and-false (eqb a 239 && eqb b 191))) in
     rw no_end (both_forgotten b c rest (not-true _ r.1) (not-true _ r.0))
 
 low_run : (a b : ℕ) (es rest : List ℕ) → list_all is_low es ≡ true → are_characters_behind 0 0 rest ≡ true → are_characters_behind 0 0 (es ++ rest) ≡ true

@@ -3,6 +3,7 @@ use Rattle.std.proofs.Common.{◌≡◌, ◌≢◌, ℕ, zero, suc, Bool, true, 
 use Rattle.std.proofs.lemmas.Bool.{cases_Bool, and_parts, and_from, or_left, or_right, eqb-true, eq-eqb, false≢true, not-false, not_from_true, not_from_false, cond-true, cond-false}
 use Rattle.std.proofs.lemmas.Bool.Decides.{nat_tests}
 use Rattle.std.proofs.lemmas.List.Folds.{list_all-append}
+use Rattle.std.proofs.lemmas.Option.{cond_some, same_Some}
 use Rattle.std.proofs.lemmas.Slice.Eq.{bytes_eq-Decides}
 use Rattle.std.specs.List.{list_all}
 use Rattle.std.specs.Option.{option_map, option_and_then}
@@ -11,9 +12,11 @@ use Rattle.xmpp_tokens.specs.Characters.{is_white, is_name_start, is_name_byte, 
 use Rattle.xmpp_tokens.specs.Fronts.{front, behind}
 use Rattle.xmpp_tokens.specs.Tags.{Attribute, Tag, start_tag, end_tag, is_quote, is_qualified, has_parts, is_behind_colon, are_white, IsSpelled, IsAttribute, AreAttributes, names_of, tag_end, IsStartTag, IsEndTag, IsTag, Spelled, Found, Inside, found, closed, quoted, assigned, named, is_empty, is_qualified_byte, spelled_at, attribute_at, end_in, with_more, unless_ended, inside_within, inside_of, are_distinct, start_with, start_at, end_at, begun_at, tag_at}
 use Rattle.xmpp_tokens.proofs.Splits.{joined, front_passes, stops, front-append, behind-append, behind_stops}
+use Rattle.xmpp_tokens.proofs.ValueSpellings.{is_value, says_value}
 use Rattle.xmpp_tokens.proofs.TagWords.{is_spelled}
 use Rattle.xmpp_tokens.proofs.InsideRuns.{finds, inside_step}
-use Rattle.xmpp_tokens.proofs.Names.{distinct_tested, distinct_passes}
+use Rattle.xmpp_basis.proofs.Conditions.{guard_tells}
+use Rattle.xmpp_basis.proofs.DistinctItems.{AllPairs-from_test, test-from_AllPairs}
 
 abbrev spelled : List ℕ → List ℕ → List ℕ → Spelled
 spelled n r s = record { name = n; raw = r; rest = s }
@@ -125,7 +128,7 @@ spelled_again bytes name raw rest h =
 attribute_again : (bytes : List ℕ) (a : Attribute) (rest : List ℕ) → IsAttribute bytes a rest → attribute_at bytes ≡ Some (record { attribute = a; rest = rest })
 attribute_again bytes a rest h =
     ap (option_and_then found) (spelled_again bytes a.name h.0 rest h.1)
-    ∙ ap (option_map (λ v. record { attribute = record { name = a.name; value = v }; rest = rest })) h.2
+    ∙ ap (option_map (λ v. record { attribute = record { name = a.name; value = v }; rest = rest })) (says_value h.0 a.value h.2)
 
 end_again : (empty : Bool) → end_in (tag_end empty) ≡ Some empty
 end_again true = refl
@@ -172,7 +175,7 @@ inside_stops (a ∷ more) inside space empty white h =
     space_stops [] rest some white = absurd (some refl)
     space_stops (w ∷ ws) rest some white = let p = and_parts (is_white w) (are_white ws) white in not_from_false _ (white_no_name w p.0)
 
-start_no_slash : (n : ℕ) → is_name_start n ≡ true → eqb n 47 ≡ false
+pub start_no_slash : (n : ℕ) → is_name_start n ≡ true → eqb n 47 ≡ false
 start_no_slash n h = grind (arith, nat_tests)
 
 -- behind `<` a name says a start tag
@@ -193,7 +196,7 @@ start_again bytes name attributes empty h =
     let made : at name h.inside ≡ Some (start_tag name attributes empty) =
     cond-true (is_qualified name) (option_and_then (start_with name) (inside_of h.inside)) None h.name_is
     ∙ ap (option_and_then (start_with name)) i
-    ∙ cond-true (are_distinct (names_of attributes)) (Some (start_tag name attributes empty)) None (distinct_passes (names_of attributes) h.distinct) in
+    ∙ cond-true (are_distinct (names_of attributes)) (Some (start_tag name attributes empty)) None (test-from_AllPairs bytes_eq bytes_eq-Decides (names_of attributes) h.distinct) in
     ap tag_at h.bytes_are ∙ begun_by_name name h.inside h.name_is
     ∙ ap (λ n. at n (behind is_qualified_byte (name ++ h.inside))) f ∙ ap (at name) b ∙ made
 
@@ -222,19 +225,12 @@ end_tells bs empty e =
     ⊎_elim
     (λ (closes : bytes_eq bs (62 ∷ []) ≡ true).
     let same : Some false ≡ Some empty = sym (cond-true (bytes_eq bs (62 ∷ [])) (Some false) (cond (bytes_eq bs (47 ∷ 62 ∷ [])) (Some true) None) closes) ∙ e in
-    (bytes_eq-Decides bs (62 ∷ [])).0 closes ∙ ap tag_end (some_inner _ _ same))
+    (bytes_eq-Decides bs (62 ∷ [])).0 closes ∙ ap tag_end (same_Some _ _ same))
     (λ (other : bytes_eq bs (62 ∷ []) ≡ false).
     let rest : cond (bytes_eq bs (47 ∷ 62 ∷ [])) (Some true) None ≡ Some empty = sym (cond-false (bytes_eq bs (62 ∷ [])) (Some false) (cond (bytes_eq bs (47 ∷ 62 ∷ [])) (Some true) None) other) ∙ e in
-    let p = guard_some (bytes_eq bs (47 ∷ 62 ∷ [])) true empty rest in
+    let p = cond_some (bytes_eq bs (47 ∷ 62 ∷ [])) true empty rest in
     (bytes_eq-Decides bs (47 ∷ 62 ∷ [])).0 p.0 ∙ ap tag_end p.1)
     (cases_Bool (bytes_eq bs (62 ∷ [])))
-  where
-    some_inner : (a b : Bool) → Some a ≡ Some b → a ≡ b
-    some_inner a b e = cc
-
-    guard_some : (t : Bool) (x y : Bool) → cond t (Some x) None ≡ Some y → (t ≡ true) × (x ≡ y)
-    guard_some true x y e = (refl, cc)
-    guard_some false x y e = absurd cc
 
 record Insides (bs : List ℕ) (i : Inside) : Type 0 where
   space : List ℕ
@@ -245,7 +241,7 @@ found_attribute : (bs : List ℕ) (f : Found) → attribute_at bs ≡ Some f →
 found_attribute bs f e =
     let h = finds bs f e in
     let s = is_spelled bs h.as_spelled h.spelled_is in
-    (h.as_spelled.raw, subst (λ n. IsSpelled bs n h.as_spelled.raw f.rest) (sym h.name_is) (subst (λ r. IsSpelled bs h.as_spelled.name h.as_spelled.raw r) (sym h.rest_is) s), h.value_is)
+    (h.as_spelled.raw, subst (λ n. IsSpelled bs n h.as_spelled.raw f.rest) (sym h.name_is) (subst (λ r. IsSpelled bs h.as_spelled.name h.as_spelled.raw r) (sym h.rest_is) s), is_value h.as_spelled.raw f.attribute.value h.value_is)
 
 ended_tells : (bs : List ℕ) (empty : Bool) (i : Inside) → end_in (behind is_white bs) ≡ Some empty → Some (record { attributes = []; empty = empty }) ≡ Some i → Insides bs i
 ended_tells bs empty i ends e =
@@ -277,27 +273,20 @@ inside_tells : (k : ℕ) (bs : List ℕ) (i : Inside) → inside_within k bs ≡
 inside_tells zero bs i e = absurd cc
 inside_tells (suc k) bs i e = by_end k (inside_tells k) bs i (end_in (behind is_white bs)) refl e
 
-guard_tells : {X : Type 0} (b : Bool) (x : Option X) (y : X) → cond b x None ≡ Some y → (b ≡ true) × (x ≡ Some y)
-guard_tells true x y e = (refl, e)
-guard_tells false x y e = absurd cc
-
-some_inner : {X : Type 0} (x y : X) → Some x ≡ Some y → x ≡ y
-some_inner x y e = cc
-
 started : (bs name inside : List ℕ) (o : Option Inside) (t : Tag) → bs ≡ name ++ inside → is_qualified name ≡ true → inside_of inside ≡ o → option_and_then (start_with name) o ≡ Some t → IsTag (60 ∷ bs) t
 unfolding inside_of
 started bs name inside None t bs_are named_so is e = absurd cc
 started bs name inside (Some i) t bs_are named_so is e =
     let g = guard_tells (are_distinct (names_of i.attributes)) (Some (start_tag name i.attributes i.empty)) t e in
     let inner = inside_tells (suc (length inside)) inside i is in
-    subst (IsTag (60 ∷ bs)) (some_inner (start_tag name i.attributes i.empty) t g.1) (record {
+    subst (IsTag (60 ∷ bs)) (same_Some (start_tag name i.attributes i.empty) t g.1) (record {
       inside = inside;
       space = inner.space;
       bytes_are = ap (λ l. 60 ∷ l) bs_are;
       name_is = named_so;
       inside_is = inner.attributes_are;
       space_white = inner.space_white;
-      distinct = distinct_tested (names_of i.attributes) g.0;
+      distinct = AllPairs-from_test bytes_eq bytes_eq-Decides (names_of i.attributes) g.0;
     })
 
 start_tells : (bs : List ℕ) (t : Tag) → start_at bs ≡ Some t → IsTag (60 ∷ bs) t
@@ -314,7 +303,7 @@ end_tag_tells bs t e =
     let g = guard_tells (is_qualified name && bytes_eq (behind is_white rest) (62 ∷ [])) (Some (end_tag name)) t e in
     let p = and_parts (is_qualified name) _ g.0 in
     let closes = (bytes_eq-Decides (behind is_white rest) (62 ∷ [])).0 p.1 in
-    subst (IsTag (60 ∷ 47 ∷ bs)) (some_inner (end_tag name) t g.1) (record {
+    subst (IsTag (60 ∷ 47 ∷ bs)) (same_Some (end_tag name) t g.1) (record {
       space = front is_white rest;
       bytes_are = ap (λ l. 60 ∷ 47 ∷ l) (sym (joined is_qualified_byte bs) ∙ ap (λ l. name ++ l) (sym (joined is_white rest) ∙ ap (λ l. front is_white rest ++ l) closes));
       name_is = p.0;

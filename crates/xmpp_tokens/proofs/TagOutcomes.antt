@@ -3,7 +3,7 @@ use Rattle.std.proofs.Common.{◌≡◌, ◌↔◌, ℕ, Bool, true, false, cond
 use Rattle.std.proofs.lemmas.Bool.{cond-true, cond-false}
 use Rattle.std.specs.Option.{ok_or}
 use Rattle.xmpp_tokens.specs.Tags.{Tag, IsTag, is_restricted, tag_at, tag_of}
-use Rattle.xmpp_tokens.specs.declared.faults.TagFault.TheVariants.{Restricted, NotWellFormed}
+use Rattle.xmpp_tokens.specs.declared.fault.TagWhy.TheVariants.{Restricted, NotWellFormed}
 use Rattle.xmpp_tokens.proofs.TagLaws.{tag_again, tag_tells}
 use Rattle.xmpp_tokens.proofs.Unrestricted.{tag_unrestricted}
 

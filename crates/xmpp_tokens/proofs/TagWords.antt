@@ -2,6 +2,7 @@
 use Rattle.std.proofs.Common.{◌≡◌, ◌≢◌, ℕ, suc, ◌+◌, ◌<◌, Bool, true, false, cond, eqb, not, List, [], ◌∷◌, ◌++◌, Option, Some, None, length, refl, sym, ap, subst, ◌∙◌, arith, length-append}
 use Rattle.std.proofs.lemmas.Bool.{eqb-true, false≢true, not-false}
 use Rattle.std.specs.List.{list_all}
+use Rattle.xmpp_basis.proofs.Conditions.{guard_tells}
 use Rattle.xmpp_tokens.specs.Characters.{is_white}
 use Rattle.xmpp_tokens.specs.Fronts.{front, behind}
 use Rattle.xmpp_tokens.specs.Tags.{is_quote, is_qualified, are_white, IsSpelled, Spelled, closed, quoted, assigned, is_empty, is_qualified_byte, spelled_at}
@@ -30,11 +31,6 @@ record Quotes (name bytes : List ℕ) (s : Spelled) : Type 0 where
   bytes_are : bytes ≡ quote ∷ (s.raw ++ (quote ∷ s.rest))
   raw_inside : list_all (λ b. not (eqb b quote)) s.raw ≡ true
   name_is : s.name ≡ name
-
--- a guarded answer was given
-guard_tells : {X : Type 0} (b : Bool) (x : Option X) (y : X) → cond b x None ≡ Some y → (b ≡ true) × (x ≡ Some y)
-guard_tells true x y e = (refl, e)
-guard_tells false x y e = absurd cc
 
 quoted_tells : (name bytes : List ℕ) (s : Spelled) → quoted name bytes ≡ Some s → Quotes name bytes s
 quoted_tells name [] s e = absurd cc
@@ -70,9 +66,13 @@ assigned_tells name (b ∷ bs) s e =
       quotes = quoted_tells name (behind is_white bs) s g.1;
     }
 
-some_front : (bs : List ℕ) → is_empty bs ≡ false → bs ≢ []
-some_front [] e same = false≢true (sym e)
-some_front (b ∷ bs) e same = cc
+pub some-from_is_empty : (bs : List ℕ) → is_empty bs ≡ false → bs ≢ []
+some-from_is_empty [] e same = false≢true (sym e)
+some-from_is_empty (b ∷ bs) e same = cc
+
+pub none-from_is_empty : (bs : List ℕ) → is_empty bs ≡ true → bs ≡ []
+none-from_is_empty [] e = refl
+none-from_is_empty (b ∷ bs) e = absurd (false≢true e)
 
 guard_not : {X : Type 0} (b : Bool) (x : Option X) (y : X) → cond b None x ≡ Some y → (b ≡ false) × (x ≡ Some y)
 guard_not false x y e = (refl, e)
@@ -98,7 +98,7 @@ is_spelled bs s e =
       after = a.after;
       quote = q.quote;
       bytes_are = sym (joined is_white bs) ∙ ap (λ l. front is_white bs ++ l) tail;
-      some_space = some_front (front is_white bs) g.0;
+      some_space = some-from_is_empty (front is_white bs) g.0;
       space_white = front_passes is_white bs;
       name_is = subst (λ l. is_qualified l ≡ true) name_same h.0;
       before_white = front_passes is_white m;

@@ -1,8 +1,10 @@
 -- A tag of the grammar has no reference with an unknown name in its quotes.
-use Rattle.std.proofs.Common.{◌≡◌, ℕ, ◌⊎◌, inl, inr, Bool, true, false, cond, eqb, not, ◌&&◌, ◌||◌, List, [], ◌∷◌, ◌++◌, Option, Some, None, refl, sym, ap, subst, ◌∙◌, arith, ⊎_elim}
-use Rattle.std.proofs.lemmas.Bool.{cases_Bool, and_parts, and_from, and_left, or_parts, or_from, eqb-true, eq-eqb, false≢true, false_from_ne_true, not-true, not_from_false}
+use Rattle.std.proofs.Common.{◌≡◌, ℕ, Bool, true, false, cond, eqb, not, ◌&&◌, ◌||◌, List, [], ◌∷◌, ◌++◌, Option, Some, None, refl, sym, ap, subst, ◌∙◌, arith, ⊎_elim}
+use Rattle.std.proofs.lemmas.Bool.{cases_Bool, and_parts, and_from, and_left, and_right, or_parts, or_from, eqb-true, eq-eqb, false≢true, false_from_ne_true, not-true, not_from_false}
 use Rattle.std.proofs.lemmas.Bool.Decides.{nat_tests}
+use Rattle.std.proofs.lemmas.Option.{none-some}
 use Rattle.std.specs.List.{list_all}
+use Rattle.xmpp_basis.proofs.Conditions.{chosen}
 use Rattle.xmpp_tokens.specs.Characters.{is_white, is_digit, is_name_byte, is_name_start, are_characters}
 use Rattle.xmpp_tokens.specs.Fronts.{front, behind}
 use Rattle.xmpp_tokens.specs.References.{referred, is_hex_digit, number_goes_on, reference_goes_on, each_goes_on}
@@ -12,11 +14,8 @@ use Rattle.xmpp_tokens.specs.declared.references.Reference.{Reference}
 use Rattle.xmpp_tokens.specs.declared.references.Reference.TheVariants.{Character, Unknown, Malformed}
 use Rattle.xmpp_tokens.proofs.Going.{references_go_on}
 use Rattle.xmpp_tokens.proofs.TagLaws.{qualified_all}
+use Rattle.xmpp_tokens.proofs.ValueSpellings.{says_value}
 use Rattle.xmpp_tokens.proofs.ValueRuns.{ended, reference_run}
-
-chosen : {X : Type 0} (b : Bool) (x y z : X) → cond b x y ≡ z → ((b ≡ true) × (x ≡ z)) ⊎ ((b ≡ false) × (y ≡ z))
-chosen true x y z e = inl (refl, e)
-chosen false x y z e = inr (refl, e)
 
 -- ---- a value has none
 
@@ -30,7 +29,7 @@ in_front_tells : (more : List ℕ) (o : Option (List ℕ)) (v : List ℕ) → in
 in_front_tells more None v e = absurd cc
 in_front_tells more (Some w) v e = (w, refl)
 
-ended_tells : (name rest v : List ℕ) → ended name rest ≡ Some v → (c : ℕ) × (referred name ≡ Character c)
+pub ended_tells : (name rest v : List ℕ) → ended name rest ≡ Some v → (c : ℕ) × (referred name ≡ Character c)
 ended_tells name [] v e = absurd cc
 ended_tells name (x ∷ xs) v e = (said_tells (referred name) (value_from (text false) xs) v e).0
 
@@ -102,13 +101,6 @@ other_than b n e h = subst (λ x. eqb x 38 ≡ false) (sym (eqb-true b n e)) h
 unknown_behind : (b : ℕ) (bs : List ℕ) → eqb b 38 ≡ false → has_unknown bs ≡ false → has_unknown (b ∷ bs) ≡ false
 unknown_behind b bs other rest = or_from (eqb b 38 && begins_unknown bs) (has_unknown bs) (and_left _ _ other) rest
 
-none_some : (v : List ℕ) → None ≡ Some v → ⊥
-none_some v e = cc
-
-and_no_right : (a b : Bool) → b ≡ false → (a && b) ≡ false
-and_no_right true b h = h
-and_no_right false b h = refl
-
 no_ampersand_in : (bs so : List ℕ) (b : ℕ) (v : List ℕ) → value_from (reference (so ++ b ∷ [])) bs ≡ Some v → eqb b 38 ≡ false
 no_ampersand_in bs so b v e =
     let t = ended_tells ((so ++ b ∷ []) ++ front (λ b. not (eqb b 59)) bs) (behind (λ b. not (eqb b 59)) bs) v (sym (reference_run (so ++ b ∷ []) bs) ∙ e) in
@@ -119,8 +111,8 @@ mutual
   text_known [] returned v e = refl
   text_known (b ∷ bs) returned v e =
       ⊎_elim (λ c. unknown_behind b bs (other_than b 10 (and_parts returned _ c.0).1 refl) (text_known bs false v c.1))
-      (λ c. ⊎_elim (λ d. or_from (eqb b 38 && begins_unknown bs) (has_unknown bs) (and_no_right (eqb b 38) (begins_unknown bs) (not_unknown bs v d.1)) (reference_known bs [] v d.1))
-      (λ d. ⊎_elim (λ f. absurd (none_some v f.1))
+      (λ c. ⊎_elim (λ d. or_from (eqb b 38 && begins_unknown bs) (has_unknown bs) (and_right (eqb b 38) (begins_unknown bs) (not_unknown bs v d.1)) (reference_known bs [] v d.1))
+      (λ d. ⊎_elim (λ f. absurd (none-some v f.1))
       (λ f. ⊎_elim (λ g. let w = in_front_tells (32 ∷ []) (value_from (text true) bs) v g.1 in unknown_behind b bs d.0 (text_known bs true w.0 w.1))
       (λ g. ⊎_elim (λ i. let w = in_front_tells (32 ∷ []) (value_from (text false) bs) v i.1 in unknown_behind b bs d.0 (text_known bs false w.0 w.1))
       (λ i. let w = in_front_tells (b ∷ []) (value_from (text false) bs) v i.1 in unknown_behind b bs d.0 (text_known bs false w.0 w.1))
@@ -142,7 +134,7 @@ as_text_tells (Some w) v e = (w, refl)
 value_known : (raw v : List ℕ) → value_of raw ≡ Some v → has_unknown raw ≡ false
 unfolding value_of
 value_known raw v e =
-    ⊎_elim (λ c. let w = as_text_tells (value_from (text false) raw) v c.1 in text_known raw false w.0 w.1) (λ c. absurd (none_some v c.1)) (chosen (are_characters raw) _ _ (Some v) e)
+    ⊎_elim (λ c. let w = as_text_tells (value_from (text false) raw) v c.1 in text_known raw false w.0 w.1) (λ c. absurd (none-some v c.1)) (chosen (are_characters raw) _ _ (Some v) e)
 
 -- ---- a tag has none
 
@@ -213,7 +205,7 @@ attribute_run bytes name raw rest v h value =
 
 attributes_run : (attributes : List Attribute) (bytes rest : List ℕ) → AreAttributes bytes attributes rest → has_unknown_quoted None bytes ≡ has_unknown_quoted None rest
 attributes_run [] bytes rest h = ap (has_unknown_quoted None) h
-attributes_run (a ∷ more) bytes rest h = attribute_run bytes a.name h.1.0 h.0 a.value h.1.1 h.1.2 ∙ attributes_run more h.0 rest h.2
+attributes_run (a ∷ more) bytes rest h = attribute_run bytes a.name h.1.0 h.0 a.value h.1.1 (says_value h.1.0 a.value h.1.2) ∙ attributes_run more h.0 rest h.2
 
 end_known : (empty : Bool) → has_unknown_quoted None (tag_end empty) ≡ false
 end_known true = refl
@@ -227,5 +219,5 @@ start_known bytes name attributes empty h =
     ∙ unquoted_run h.space (tag_end empty) (white_unquoted h.space h.space_white) ∙ end_known empty
 
 pub tag_unrestricted : (bytes : List ℕ) (t : Tag) → IsTag bytes t → is_restricted bytes ≡ false
-tag_unrestricted bytes (start_tag name attributes empty) h = and_no_right _ _ (start_known bytes name attributes empty h)
+tag_unrestricted bytes (start_tag name attributes empty) h = and_right _ _ (start_known bytes name attributes empty h)
 tag_unrestricted bytes (end_tag name) h = ap is_restricted h.bytes_are

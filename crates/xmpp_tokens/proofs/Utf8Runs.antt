@@ -43,7 +43,7 @@ tail_tells x h = let p = and_parts _ _ h in (leb-true 128 x p.0, leb-true x 191 
 
 -- ---- a text runs
 
-run_one : (x : ℕ) (rest : List ℕ) → x < 128 → utf8_run [] (x ∷ rest) ≡ utf8_run [] rest
+pub run_one : (x : ℕ) (rest : List ℕ) → x < 128 → utf8_run [] (x ∷ rest) ≡ utf8_run [] rest
 unfolding utf8_next
 run_one x rest h = rw (lt-ltb x 128 h) refl
 
@@ -261,7 +261,7 @@ after_IsPending held b p = after (utf8_next held b) (λ next e. next_IsPending h
     after None f = p
     after (Some next) f = f next refl
 
-nothing_is : (o : Option (List ℕ)) → is_nothing o ≡ true → o ≡ Some []
+pub nothing_is : (o : Option (List ℕ)) → is_nothing o ≡ true → o ≡ Some []
 nothing_is None e = absurd cc
 nothing_is (Some []) e = refl
 nothing_is (Some (x ∷ xs)) e = absurd cc

@@ -11,7 +11,7 @@ use Rattle.xmpp_tokens.specs.Tags.{tag_of, start_at, end_at, inside_of, spelled_
 use Rattle.xmpp_tokens.specs.Utf8.{utf8_next, utf8_run}
 use Rattle.xmpp_tokens.specs.Values.{value_of}
 use Rattle.xmpp_tokens.specs.declared.declarations.Declaration.TheVariants as declaration
-use Rattle.xmpp_tokens.specs.declared.faults.TagFault.TheVariants as fault
+use Rattle.xmpp_tokens.specs.declared.fault.TagWhy.TheVariants as fault
 use Rattle.xmpp_tokens.specs.declared.references.Reference.TheVariants.{Character, Unknown, Malformed}
 
 plain_name : is_name (codes "a-1") ≡ true

@@ -1,14 +1,16 @@
 -- The inside of a tag (XML 1.0, sections 2.3 and 3.1; Namespaces in XML 1.0, section 3), first as a grammar: the bytes
 -- of a tag, from its `<` to its `>`, and what they say.
 use Rattle.std.specs.Prelude.{ℕ, zero, suc, ◌≡◌, ◌≢◌, ◌==◌, Bool, true, false, not, ◌&&◌, ◌||◌, if◌then◌else◌, List, [], ◌∷◌, ◌++◌, Option, Some, None, Result, Ok, Err, length, map, AllPairs}
-use Rattle.std.specs.List.{list_all, list_any}
+use Rattle.std.specs.List.{list_all}
 use Rattle.std.specs.Option.{option_map, option_and_then, ok_or}
 use Rattle.std.specs.Str.{bytes_eq, is_utf8}
+use Rattle.xmpp_basis.specs.Distinct.{are_distinct_by}
 use Rattle.xmpp_tokens.specs.Characters.{is_white, is_name_byte, is_name}
 use Rattle.xmpp_tokens.specs.Fronts.{front, behind}
+use Rattle.xmpp_tokens.specs.ValueGrammar.{IsValue}
 use Rattle.xmpp_tokens.specs.Values.{value_of, begins_unknown}
-use Rattle.xmpp_tokens.specs.declared.faults.TagFault.{TagFault}
-use Rattle.xmpp_tokens.specs.declared.faults.TagFault.TheVariants.{Restricted, NotWellFormed}
+use Rattle.xmpp_tokens.specs.declared.fault.TagWhy.{TagWhy}
+use Rattle.xmpp_tokens.specs.declared.fault.TagWhy.TheVariants.{Restricted, NotWellFormed}
 
 -- an attribute: its name as it is spelled, and its value
 pub record Attribute : Type 0 where
@@ -60,7 +62,7 @@ pub record IsSpelled (bytes name raw rest : List ℕ) : Type 0 where
 
 -- bytes spell an attribute and then the rest
 abbrev pub IsAttribute : List ℕ → Attribute → List ℕ → Type 0
-IsAttribute bytes a rest = (raw : List ℕ) × IsSpelled bytes a.name raw rest × (value_of raw ≡ Some a.value)
+IsAttribute bytes a rest = (raw : List ℕ) × IsSpelled bytes a.name raw rest × IsValue raw a.value
 
 -- bytes spell attributes and then the rest
 abbrev pub AreAttributes : List ℕ → List Attribute → List ℕ → Type 0
@@ -204,8 +206,7 @@ unfoldable pub inside_of : List ℕ → Option Inside
 inside_of bs = inside_within (suc (length bs)) bs
 
 abbrev pub are_distinct : List (List ℕ) → Bool
-are_distinct [] = true
-are_distinct (x ∷ xs) = not (list_any (bytes_eq x) xs) && are_distinct xs
+are_distinct names = are_distinct_by bytes_eq names
 
 abbrev pub start_with : List ℕ → Inside → Option Tag
 start_with name i = if are_distinct (names_of i.attributes) then Some (start_tag name i.attributes i.empty) else None
@@ -233,11 +234,11 @@ tag_at [] = None
 tag_at (b ∷ bs) = if b == 60 then begun_at bs else None
 
 -- What a tag comes to: an unknown name in a reference in quotes is told before all else.
-unfoldable pub tag_of : List ℕ → Result Tag TagFault
+unfoldable pub tag_of : List ℕ → Result Tag TagWhy
 tag_of bytes = if is_restricted bytes then Err Restricted else ok_or (tag_at bytes) NotWellFormed
 
 -- the name of an end tag, as it is spelled
-abbrev pub end_name : Result Tag TagFault → Option (List ℕ)
+abbrev pub end_name : Result Tag TagWhy → Option (List ℕ)
 end_name (Ok (end_tag name)) = Some name
 end_name (Ok (start_tag name attributes empty)) = None
 end_name (Err fault) = None

@@ -6,8 +6,8 @@ use Rattle.std.specs.Str.{is_utf8}
 use Rattle.xmpp_tokens.specs.Characters.{is_name_byte, are_characters}
 use Rattle.xmpp_tokens.specs.Fronts.{front, behind}
 use Rattle.xmpp_tokens.specs.References.{referred}
-use Rattle.xmpp_tokens.specs.declared.faults.TagFault.{TagFault}
-use Rattle.xmpp_tokens.specs.declared.faults.TagFault.TheVariants.{Restricted, NotWellFormed}
+use Rattle.xmpp_tokens.specs.declared.fault.TagWhy.{TagWhy}
+use Rattle.xmpp_tokens.specs.declared.fault.TagWhy.TheVariants.{Restricted, NotWellFormed}
 use Rattle.xmpp_tokens.specs.declared.references.Reference.{Reference}
 use Rattle.xmpp_tokens.specs.declared.references.Reference.TheVariants.{Character, Unknown, Malformed}
 
@@ -78,5 +78,5 @@ abbrev pub is_plain_ascii : ℕ → Bool
 is_plain_ascii b = is_in_range 32 127 b && not (b == 38 || b == 60)
 
 -- what a spelled value comes to: an unknown name in a reference, wherever it stands, is told before all else
-abbrev pub outcome_of : List ℕ → Result (List ℕ) TagFault
+abbrev pub outcome_of : List ℕ → Result (List ℕ) TagWhy
 outcome_of raw = if has_unknown raw then Err Restricted else ok_or (value_of raw) NotWellFormed

@@ -18,8 +18,8 @@ pub(crate) struct SpelledAttribute<'a> {
     pub(crate) rest: &'a [u8],
 }
 
-// Whether a byte opens a value.
-pub(crate) fn is_quote(b: u8) -> bool
+/// Whether a byte opens a value: `"` or `'` (XML 1.0, section 2.3).
+pub fn is_quote(b: u8) -> bool
     ensures { result ≡ Tags.is_quote b }
 {
     b == b'"' || b == b'\''

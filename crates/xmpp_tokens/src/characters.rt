@@ -1,6 +1,5 @@
-ghost use Rattle.std.specs.Prelude.{◌≡◌, ℕ, List, true};
-ghost use Rattle.std.specs.List.{list_all};
-ghost use Rattle.std.specs.Str.{IsUtf8, chars};
+//! Classes of bytes and characters (XML 1.0, sections 2.2 and 2.3; Namespaces in XML 1.0, section 4).
+ghost use Rattle.std.specs.Prelude.{◌≡◌, true};
 ghost use Rattle.xmpp_tokens.specs.Characters;
 
 /// Whether a byte is white space: a space, a tab, a line feed or a carriage return (XML 1.0, section 2.3).
@@ -24,8 +23,8 @@ pub fn is_name_byte(b: u8) -> bool
     is_name_start(b) || b.is_ascii_digit() || b == b'-' || b == b'.'
 }
 
-// Whether a byte is a control character that XML leaves out.
-fn is_control(b: u8) -> bool
+/// Whether a byte is a control character that is none of XML's (section 2.2).
+pub fn is_control(b: u8) -> bool
     ensures { result ≡ Characters.is_control b }
 {
     b < b' ' && b != b'\t' && b != b'\n' && b != b'\r'
@@ -83,15 +82,10 @@ fn are_name_characters(bytes: &[u8]) -> bool
 }
 
 /// Whether bytes are a name without a colon (Namespaces in XML 1.0, section 3, NCName): ASCII letters, digits, `_`,
-/// `-`, `.` and characters from U+0080 on, and neither a digit nor `-` nor `.` at the front.
+/// `-`, `.` and characters from U+0080 on, and neither a digit nor `-` nor `.` at the front. Beyond ASCII it is wider
+/// than XML, which leaves some characters out of names (XML 1.0, section 2.3).
 pub fn is_name(bytes: &[u8]) -> bool
     ensures { result ≡ Characters.is_name bytes.now }
 {
     is_named(bytes) && are_name_characters(bytes)
 }
-
-/// Of a text, the test on its bytes is that each of its characters is one of XML's: U+9, U+A, U+D, U+20 to U+D7FF,
-/// U+E000 to U+FFFD and U+10000 to U+10FFFF (section 2.2).
-pub fn characters_are_those_of_xml()
-    ensures { (bs : List ℕ) → IsUtf8 bs → Characters.are_characters bs ≡ list_all Characters.is_character (chars bs) }
-{}

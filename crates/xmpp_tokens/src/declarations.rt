@@ -1,8 +1,9 @@
-ghost use Rattle.std.specs.Prelude.{◌≡◌, ◌↔◌, ℕ, List, ◌++◌, true, codes, Some, None, take, drop, if◌then◌else◌};
+//! XML declarations (XML 1.0, section 2.8).
+ghost use Rattle.std.specs.Prelude.{◌≡◌, true, codes, Some, None, take, drop, if◌then◌else◌};
 ghost use Rattle.std.specs.Option.{option_map};
 ghost use Rattle.std.specs.Str.{bytes_eq};
 ghost use Rattle.xmpp_tokens.specs.Declarations;
-ghost use Rattle.xmpp_tokens.specs.Declarations.{HasOther, IsGood, declaration_of};
+ghost use Rattle.xmpp_tokens.specs.Declarations.{declaration_of};
 ghost use Rattle.xmpp_tokens.specs.SpelledView.{spelled_view};
 
 use crate::attributes::{SpelledAttribute, spelled_at};
@@ -133,15 +134,3 @@ pub fn read_declaration(bytes: &[u8]) -> Declaration
         _ => Declaration::NotWellFormed,
     }
 }
-
-/// `Good` is told exactly of what the grammar has as a declaration of version 1.0 in UTF-8 (XML 1.0, section 2.8).
-pub fn good_declarations_are_well_formed()
-    ensures { (bytes : List ℕ) → (declaration_of bytes ≡ Declaration.Good) ↔ IsGood bytes }
-{}
-
-/// `Encoding` is told exactly where items `name = 'value'` stand behind `<?xml`, and one of them is an encoding other
-/// than UTF-8.
-pub fn other_encodings_are_told()
-    ensures { (bytes : List ℕ) → (declaration_of bytes ≡ Declaration.Encoding)
-        ↔ ((items : List ℕ) × (bytes ≡ codes "<?xml" ++ items) × HasOther items) }
-{}

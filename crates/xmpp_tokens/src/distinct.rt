@@ -1,16 +1,15 @@
 //! Whether the attributes of one tag have names of their own.
-ghost use Rattle.std.specs.Prelude.{◌≡◌, ◌↔◌, map, IfOk, IsTrue, IsSorted, IfErr};
-ghost use Rattle.std.specs.Cmp.Lexicographic.{slice_cmp};
+ghost use Rattle.std.specs.Prelude.{◌≡◌, map, IfOk};
 ghost use Rattle.std.specs.List.{list_any};
-ghost use Rattle.std.specs.Ordering.{nat_cmp};
 ghost use Rattle.std.specs.Str.{bytes_eq};
 ghost use Rattle.xmpp_tokens.specs.RawTags.{attribute_of};
 ghost use Rattle.xmpp_tokens.specs.Tags;
-ghost use Rattle.xmpp_tokens.specs.Tags.{AreDistinct, names_of};
+ghost use Rattle.xmpp_tokens.specs.Tags.{names_of};
 
-use crate::faults::TagFault;
 use crate::raw_tags::RawAttribute;
 use std::alloc::Global;
+use xmpp_basis::are_distinct as are_all_distinct;
+use xmpp_edge::NoMemory;
 
 /// The names of up to so many attributes are compared in pairs, which takes no memory. The names of more are put in
 /// order, so that many names cost little more than their bytes.
@@ -41,9 +40,8 @@ fn few_are_distinct(attributes: &[RawAttribute]) -> bool
 }
 
 // The spelled names, borrowed.
-fn names<'a>(alloc: Global, attributes: &[RawAttribute<'a>]) -> Result<Vec<&'a str>, TagFault>
-    ensures ok { IfOk result (λ v. map (λ n. n.now) v.items ≡ names_of (map attribute_of attributes.now)) }
-    ensures err { IfErr result (λ e. e ≡ TagFault.NoMemory) }
+fn names<'a>(alloc: Global, attributes: &[RawAttribute<'a>]) -> Result<Vec<&'a str>, NoMemory>
+    ensures { IfOk result (λ v. map (λ n. n.now) v.items ≡ names_of (map attribute_of attributes.now)) }
 {
     let mut names = Vec::with_capacity(alloc, attributes.len())?;
     for attribute in attributes {
@@ -52,31 +50,9 @@ fn names<'a>(alloc: Global, attributes: &[RawAttribute<'a>]) -> Result<Vec<&'a s
     Ok(names)
 }
 
-// Whether no name stands beside an equal one, in a list that is in order.
-fn neighbours_differ(names: &[&str]) -> bool
-    requires { IsSorted (λ a b. slice_cmp nat_cmp a.now b.now) names.now }
-    ensures { IsTrue result ↔ AreDistinct (map (λ n. n.now) names.now) }
-{
-    for later in 1..names.len() {
-        if names[later - 1] == names[later] {
-            return false;
-        }
-    }
-    true
-}
-
-// Whether no two names are equal. They are put in order.
-fn are_all_distinct(names: &mut [&str]) -> bool
-    ensures { IsTrue result ↔ AreDistinct (map (λ n. n.now) names.old) }
-{
-    names.sort_unstable();
-    neighbours_differ(names)
-}
-
 // Whether no two attributes have one spelled name.
-pub(crate) fn are_distinct(alloc: Global, attributes: &[RawAttribute]) -> Result<bool, TagFault>
-    ensures ok { IfOk result (λ b. b ≡ Tags.are_distinct (names_of (map attribute_of attributes.now))) }
-    ensures err { IfErr result (λ e. e ≡ TagFault.NoMemory) }
+pub(crate) fn are_distinct(alloc: Global, attributes: &[RawAttribute]) -> Result<bool, NoMemory>
+    ensures { IfOk result (λ b. b ≡ Tags.are_distinct (names_of (map attribute_of attributes.now))) }
 {
     if attributes.len() <= FEW {
         return Ok(few_are_distinct(attributes));

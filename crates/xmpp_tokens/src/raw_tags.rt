@@ -1,3 +1,4 @@
+//! Tags as they are spelled, before their names are expanded (XML 1.0, section 3.1).
 use xmpp_edge::Text;
 
 /// An attribute of a tag: its name as it is spelled, with its prefix, borrowed from the tag's bytes, and its value.

@@ -1,4 +1,5 @@
-ghost use Rattle.std.specs.Prelude.{◌≡◌, ◌≢◌, ℕ, ◌<◌, ◌^◌, [], ◌∷◌, List, true, min};
+//! References (XML 1.0, sections 4.1 and 4.6).
+ghost use Rattle.std.specs.Prelude.{◌≡◌, ◌<◌, [], min};
 ghost use Rattle.std.specs.List.{list_all};
 ghost use Rattle.xmpp_tokens.specs.Characters;
 ghost use Rattle.xmpp_tokens.specs.References;
@@ -205,8 +206,3 @@ pub fn reference_goes_on(so_far: &[u8], b: u8) -> bool
         None => b == b'#' || is_name_start(b),
     }
 }
-
-/// A reference that is well formed, known or unknown, goes on at each of its bytes.
-pub fn references_go_on()
-    ensures { (name : List ℕ) → References.referred name ≢ Reference.Malformed → References.each_goes_on [] name ≡ true }
-{}

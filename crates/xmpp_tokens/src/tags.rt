@@ -1,75 +1,83 @@
-ghost use Rattle.std.specs.Prelude.{◌≡◌, ◌≢◌, ◌<◌, ◌↔◌, ℕ, List, true, false, Some, None, Ok, Err, length, map, IfOk, IfErr, IsErrOf};
+//! Tags (XML 1.0, section 3.1).
+ghost use Rattle.std.specs.Prelude.{◌≡◌, ◌<◌, true, false, Some, None, Ok, Err, length, map, IfOk, IfErr, IfSome};
+ghost use Rattle.xmpp_tokens.specs.Faults.{IfRefused};
 ghost use Rattle.xmpp_tokens.specs.RawTags.{attribute_of, raw_tag};
 ghost use Rattle.xmpp_tokens.specs.Tags;
 ghost use Rattle.std.specs.Option.{option_map};
-ghost use Rattle.xmpp_tokens.specs.Tags.{IsTag, Tag, end_name, end_tag, inside_of, tag_of};
+ghost use Rattle.xmpp_tokens.specs.Tags.{end_name, end_tag, inside_of, tag_of};
 
 use crate::attributes::{end_in, is_quote, qualified, spelled_at};
 use crate::distinct::are_distinct;
-use crate::faults::TagFault;
+use crate::fault::{TagFault, TagWhy};
 use crate::fronts::{split_qualified, split_white};
 use crate::raw_tags::{RawAttribute, RawTag, StartTag};
 use crate::values::{begins_unknown, has_ampersand, value_text};
 use std::alloc::Global;
-use xmpp_edge::Text;
+use xmpp_edge::NoMemory;
 
-// The attribute that bytes begin with, and what is behind it.
+// The attribute that bytes begin with, and what is behind it, if they begin with one.
 fn attribute_at<'a>(
     alloc: Global,
     bytes: &'a [u8],
-) -> Result<(RawAttribute<'a>, &'a [u8]), TagFault>
-    ensures ok { IfOk result (λ r. Tags.attribute_at bytes.now
-        ≡ Some (record { attribute = attribute_of r.0; rest = r.1.now })) }
-    ensures malformed { IsErrOf result TagFault.NotWellFormed → Tags.attribute_at bytes.now ≡ None }
-    ensures shorter { IfOk result (λ r. length r.1.now < length bytes.now) }
-    ensures not_restricted { IfErr result (λ e. e ≢ TagFault.Restricted) }
+) -> Result<Option<(RawAttribute<'a>, &'a [u8])>, NoMemory>
+    ensures found { IfOk result (λ o. option_map (λ r. record { attribute = attribute_of r.0; rest = r.1.now }) o
+        ≡ Tags.attribute_at bytes.now) }
+    ensures shorter { IfOk result (λ o. IfSome o (λ r. length r.1.now < length bytes.now)) }
 {
-    let spelled = spelled_at(bytes).ok_or(TagFault::NotWellFormed)?;
-    let value = value_text(alloc, spelled.raw)?;
+    let Some(spelled) = spelled_at(bytes) else {
+        return Ok(None);
+    };
     let name = spelled.name;
-    Ok((RawAttribute { name, value }, spelled.rest))
+    match value_text(alloc, spelled.raw)? {
+        Some(value) => Ok(Some((RawAttribute { name, value }, spelled.rest))),
+        None => Ok(None),
+    }
 }
 
-// The attributes of a start tag, and whether it is that of an empty element.
+// The attributes of a start tag, and whether it is that of an empty element, if bytes are such.
 fn read_inside<'a>(
     alloc: Global,
     bytes: &'a [u8],
-) -> Result<(Vec<RawAttribute<'a>>, bool), TagFault>
-    ensures ok { IfOk result (λ r. inside_of bytes.now
-        ≡ Some (record { attributes = map attribute_of r.0.items; empty = r.1 })) }
-    ensures malformed { IsErrOf result TagFault.NotWellFormed → inside_of bytes.now ≡ None }
-    ensures not_restricted { IfErr result (λ e. e ≢ TagFault.Restricted) }
+) -> Result<Option<(Vec<RawAttribute<'a>>, bool)>, NoMemory>
+    ensures { IfOk result (λ o. option_map (λ r. record { attributes = map attribute_of r.0.items; empty = r.1 }) o
+        ≡ inside_of bytes.now) }
 {
     let mut attributes = Vec::new(alloc);
     let mut rest = bytes;
     loop {
         if let Some(empty) = end_in(split_white(rest).1) {
-            return Ok((attributes, empty));
+            return Ok(Some((attributes, empty)));
         }
-        let (attribute, left) = attribute_at(alloc, rest)?;
-        attributes.push(attribute)?;
-        rest = left;
+        match attribute_at(alloc, rest)? {
+            Some((attribute, left)) => {
+                attributes.push(attribute)?;
+                rest = left;
+            }
+            None => return Ok(None),
+        }
     }
 }
 
-// A start tag, from behind its `<`.
+// A start tag, from behind its `<`, if bytes are one.
 #[tactic(auto, unfolding(crate::specs::Tags::start_at))]
-fn start_at<'a>(alloc: Global, bytes: &'a [u8]) -> Result<StartTag<'a>, TagFault>
-    ensures ok { IfOk result (λ t. Tags.start_at bytes.now ≡ Some (raw_tag (RawTag.Start t))) }
-    ensures malformed { IsErrOf result TagFault.NotWellFormed → Tags.start_at bytes.now ≡ None }
-    ensures not_restricted { IfErr result (λ e. e ≢ TagFault.Restricted) }
+fn start_at<'a>(alloc: Global, bytes: &'a [u8]) -> Result<Option<StartTag<'a>>, NoMemory>
+    ensures { IfOk result (λ o. option_map (λ t. raw_tag (RawTag.Start t)) o ≡ Tags.start_at bytes.now) }
 {
     let (name, inside) = split_qualified(bytes);
-    let name = qualified(name).ok_or(TagFault::NotWellFormed)?;
-    let (attributes, empty) = read_inside(alloc, inside)?;
+    let Some(name) = qualified(name) else {
+        return Ok(None);
+    };
+    let Some((attributes, empty)) = read_inside(alloc, inside)? else {
+        return Ok(None);
+    };
     if !are_distinct(alloc, &attributes)? {
-        return Err(TagFault::NotWellFormed);
+        return Ok(None);
     }
-    Ok(StartTag {
+    Ok(Some(StartTag {
         name,
         attributes,
         empty,
-    })
+    }))
 }
 
 // An end tag's name, from behind its `</`.
@@ -86,8 +94,8 @@ fn end_at(bytes: &[u8]) -> Option<&str>
     }
 }
 
-// Whether bytes are those of an end tag.
-fn is_end(bytes: &[u8]) -> bool
+/// Whether bytes begin as an end tag does, with `</` (XML 1.0, section 3.1).
+pub fn is_end(bytes: &[u8]) -> bool
     ensures { result ≡ Tags.is_end bytes.now }
 {
     match *bytes {
@@ -96,39 +104,35 @@ fn is_end(bytes: &[u8]) -> bool
     }
 }
 
-// A tag, from behind its `<`.
-fn begun_at<'a>(alloc: Global, bytes: &'a [u8]) -> Result<RawTag<'a>, TagFault>
-    ensures ok { IfOk result (λ t. Tags.begun_at bytes.now ≡ Some (raw_tag t)) }
-    ensures malformed { IsErrOf result TagFault.NotWellFormed → Tags.begun_at bytes.now ≡ None }
-    ensures not_restricted { IfErr result (λ e. e ≢ TagFault.Restricted) }
+// A tag, from behind its `<`, if bytes are one.
+fn begun_at<'a>(alloc: Global, bytes: &'a [u8]) -> Result<Option<RawTag<'a>>, NoMemory>
+    ensures { IfOk result (λ o. option_map raw_tag o ≡ Tags.begun_at bytes.now) }
 {
     match bytes.split_first() {
         Some((first, rest)) if *first == b'/' => match end_at(rest) {
-            Some(name) => Ok(RawTag::End(name)),
-            None => Err(TagFault::NotWellFormed),
+            Some(name) => Ok(Some(RawTag::End(name))),
+            None => Ok(None),
         },
-        Some(_) => match start_at(alloc, bytes) {
-            Ok(tag) => Ok(RawTag::Start(tag)),
-            Err(fault) => Err(fault),
+        Some(_) => match start_at(alloc, bytes)? {
+            Some(tag) => Ok(Some(RawTag::Start(tag))),
+            None => Ok(None),
         },
-        None => Err(TagFault::NotWellFormed),
+        None => Ok(None),
     }
 }
 
-// A tag, its references in quotes aside.
-fn tag_at<'a>(alloc: Global, bytes: &'a [u8]) -> Result<RawTag<'a>, TagFault>
-    ensures ok { IfOk result (λ t. Tags.tag_at bytes.now ≡ Some (raw_tag t)) }
-    ensures malformed { IsErrOf result TagFault.NotWellFormed → Tags.tag_at bytes.now ≡ None }
-    ensures not_restricted { IfErr result (λ e. e ≢ TagFault.Restricted) }
+// A tag, its references in quotes aside, if bytes are one.
+fn tag_at<'a>(alloc: Global, bytes: &'a [u8]) -> Result<Option<RawTag<'a>>, NoMemory>
+    ensures { IfOk result (λ o. option_map raw_tag o ≡ Tags.tag_at bytes.now) }
 {
     match bytes.split_first() {
         Some((first, rest)) if *first == b'<' => begun_at(alloc, rest),
-        _ => Err(TagFault::NotWellFormed),
+        _ => Ok(None),
     }
 }
 
-// The quote that is open behind a byte.
-fn quote_behind(quote: Option<u8>, b: u8) -> Option<u8>
+/// The quote that is open after a byte of a tag, where `quote` is the one that was open before it.
+pub fn quote_behind(quote: Option<u8>, b: u8) -> Option<u8>
     ensures { result ≡ Tags.quote_behind quote b }
 {
     match quote {
@@ -167,13 +171,15 @@ fn has_unknown_quoted(bytes: &[u8]) -> bool
 #[tactic(auto, unfolding(crate::specs::Tags::tag_of))]
 pub fn read_tag<'a>(alloc: Global, bytes: &'a [u8]) -> Result<RawTag<'a>, TagFault>
     ensures ok { IfOk result (λ t. tag_of bytes.now ≡ Ok (raw_tag t)) }
-    ensures restricted { IsErrOf result TagFault.Restricted → tag_of bytes.now ≡ Err TagFault.Restricted }
-    ensures malformed { IsErrOf result TagFault.NotWellFormed → tag_of bytes.now ≡ Err TagFault.NotWellFormed }
+    ensures refused { IfErr result (λ e. IfRefused e (λ why. tag_of bytes.now ≡ Err why)) }
 {
     if !is_end(bytes) && has_unknown_quoted(bytes) {
-        return Err(TagFault::Restricted);
+        return Err(TagFault::Refused(TagWhy::Restricted));
     }
-    tag_at(alloc, bytes)
+    match tag_at(alloc, bytes)? {
+        Some(tag) => Ok(tag),
+        None => Err(TagFault::Refused(TagWhy::NotWellFormed)),
+    }
 }
 
 /// Reads an end tag off its whole bytes, from its `</` to its `>` (XML 1.0, section 3.1, ETag), and answers its name as
@@ -186,18 +192,3 @@ pub fn read_end_tag(bytes: &[u8]) -> Option<&str>
     }
     end_at(&bytes[2..])
 }
-
-/// Bytes that the grammar has as a tag are read as that tag.
-pub fn tags_are_read()
-    ensures { (bytes : List ℕ) (t : Tag) → IsTag bytes t → tag_of bytes ≡ Ok t }
-{}
-
-/// What is read as a tag, the grammar has as that tag.
-pub fn what_is_read_is_a_tag()
-    ensures { (bytes : List ℕ) (t : Tag) → tag_of bytes ≡ Ok t → IsTag bytes t }
-{}
-
-/// `Restricted` is told exactly of a tag that is no end tag and has a reference with an unknown name in its quotes.
-pub fn unknown_names_are_restricted()
-    ensures { (bytes : List ℕ) → (tag_of bytes ≡ Err TagFault.Restricted) ↔ (Tags.is_restricted bytes ≡ true) }
-{}

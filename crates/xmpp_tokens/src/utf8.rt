@@ -1,3 +1,4 @@
+//! UTF-8, a byte at a time (RFC 3629).
 ghost use Rattle.std.specs.Prelude.{◌≡◌, ◌≤◌, ℕ, List, [], ◌++◌, Some, None, length, take, is_ok, string_bytes, OnOk, OnErr, if◌then◌else◌};
 ghost use Rattle.std.specs.Option.{option_map};
 ghost use Rattle.std.specs.Result.{result_ok};
@@ -5,7 +6,7 @@ ghost use Rattle.std.specs.Str.{IsUtf8};
 ghost use Rattle.std.specs.Str.Lossy.{utf8_valid_len};
 ghost use Rattle.xmpp_tokens.specs.Held.{held_bytes};
 ghost use Rattle.xmpp_tokens.specs.Utf8;
-ghost use Rattle.xmpp_tokens.specs.Utf8.{IsPending, continues, ended_character, ends_character, ends_forbidden_character, held_after, utf8_next, utf8_run};
+ghost use Rattle.xmpp_tokens.specs.Utf8.{IsPending, continues, ended_character, ends_character, ends_forbidden_character, held_after, utf8_next};
 
 use crate::characters::ends_forbidden;
 use std::error::Error;
@@ -205,13 +206,3 @@ pub fn text_front(bytes: &[u8]) -> usize
         Err(e) => e.valid_up_to(),
     }
 }
-
-/// The characters of a text, a byte at a time, leave none in hand.
-pub fn text_runs()
-    ensures { (bs : List ℕ) → IsUtf8 bs → utf8_run [] bs ≡ Some [] }
-{}
-
-/// Bytes that leave none in hand are whole characters, behind the front of a character as well.
-pub fn runs_are_text()
-    ensures { (held bs : List ℕ) → IsPending held → utf8_run held bs ≡ Some [] → IsUtf8 (held ++ bs) }
-{}

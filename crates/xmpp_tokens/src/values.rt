@@ -1,27 +1,28 @@
-ghost use Rattle.std.specs.Prelude.{◌≡◌, ◌≢◌, ◌<◌, ◌≤◌, ◌==◌, ◌++◌, [], ◌∷◌, true, false, Some, None, Ok, Err, length, encode_utf8, IfOk, IfErr, IfSome, IfNone, OnOk, IsErrOf};
+//! Attribute values (XML 1.0, sections 2.11, 3.1 and 3.3.3).
+ghost use Rattle.std.specs.Prelude.{◌≡◌, ◌<◌, ◌≤◌, ◌==◌, ◌++◌, [], ◌∷◌, true, false, Some, None, Ok, Err, length, encode_utf8, IfOk, IfErr, IfSome, IfNone, OnOk};
 ghost use Rattle.std.specs.List.{list_all, list_any};
+ghost use Rattle.std.specs.Option.{option_map};
+ghost use Rattle.xmpp_tokens.specs.Faults.{IfRefused};
 ghost use Rattle.xmpp_tokens.specs.Values;
 ghost use Rattle.xmpp_tokens.specs.Values.{as_text, in_front, reference, text, value_from, value_of};
 
 use crate::characters::are_characters;
-use crate::faults::TagFault;
+use crate::fault::{TagFault, TagWhy};
 use crate::fronts::{split_name_bytes, split_plain, split_until};
 use crate::references::{Reference, referred};
 use std::alloc::Global;
-use xmpp_edge::Text;
+use xmpp_edge::{NoMemory, Text};
 
 // Puts a character at the end.
-fn push_character(value: &mut Vec<u8>, c: char) -> Result<(), TagFault>
-    ensures ok { OnOk result (value.new.items ≡ value.old.items ++ encode_utf8 c) }
-    ensures err { IfErr result (λ e. e ≡ TagFault.NoMemory) }
+fn push_character(value: &mut Vec<u8>, c: char) -> Result<(), NoMemory>
+    ensures { OnOk result (value.new.items ≡ value.old.items ++ encode_utf8 c) }
 {
     let mut buffer = [0; 4];
     value.extend_from_slice(c.encode_utf8(&mut buffer).as_bytes())?;
     Ok(())
 }
 
-// The character that a reference says, and what is behind it. `after` is what stands behind its `&`.
-
+// The character that a reference says, and what is behind it. `after` is what stands after its `&`.
 fn reference_at(after: &[u8]) -> Option<(char, &[u8])>
     ensures found { IfSome result (λ f. value_from (reference []) after.now
         ≡ in_front (encode_utf8 f.0) (value_from (text false) f.1.now)) }
@@ -38,7 +39,6 @@ fn reference_at(after: &[u8]) -> Option<(char, &[u8])>
 }
 
 // What is behind a line feed at the front, or all where there is none.
-
 fn skip_line_feed(after: &[u8]) -> &[u8]
     ensures same { value_from (text false) result.now ≡ value_from (text true) after.now }
     ensures shorter { length result.now ≤ length after.now }
@@ -50,7 +50,6 @@ fn skip_line_feed(after: &[u8]) -> &[u8]
 }
 
 // What one special byte at the front says, and what is behind it. `None` where it says nothing.
-
 fn special_at(first: u8, after: &[u8]) -> Option<(char, &[u8])>
     requires { Values.is_plain first ≡ false }
     ensures found { IfSome result (λ f. value_from (text false) (first ∷ after.now)
@@ -66,60 +65,66 @@ fn special_at(first: u8, after: &[u8]) -> Option<(char, &[u8])>
     }
 }
 
-// Puts what one special byte at the front says at the end, and answers what is behind it.
+// Puts what one special byte at the front says at the end, and answers what is behind it, if it says something.
 #[tactic(auto, using(crate::proofs::ValueRuns::in_front_pushed))]
-fn take_special<'a>(value: &mut Vec<u8>, first: u8, after: &'a [u8]) -> Result<&'a [u8], TagFault>
+fn take_special<'a>(
+    value: &mut Vec<u8>,
+    first: u8,
+    after: &'a [u8],
+) -> Result<Option<&'a [u8]>, NoMemory>
     requires { Values.is_plain first ≡ false }
-    ensures ok { IfOk result (λ left. in_front value.new.items (value_from (text false) left.now)
-        ≡ in_front value.old.items (value_from (text false) (first ∷ after.now))) }
-    ensures shorter { IfOk result (λ left. length left.now ≤ length after.now) }
-    ensures malformed { IsErrOf result TagFault.NotWellFormed → value_from (text false) (first ∷ after.now) ≡ None }
-    ensures not_restricted { IfErr result (λ e. e ≢ TagFault.Restricted) }
+    ensures left { IfOk result (λ o. IfSome o (λ left. in_front value.new.items (value_from (text false) left.now)
+        ≡ in_front value.old.items (value_from (text false) (first ∷ after.now)))) }
+    ensures shorter { IfOk result (λ o. IfSome o (λ left. length left.now ≤ length after.now)) }
+    ensures nothing { IfOk result (λ o. IfNone o (value_from (text false) (first ∷ after.now) ≡ None)) }
 {
-    let (c, left) = special_at(first, after).ok_or(TagFault::NotWellFormed)?;
-    push_character(value, c)?;
-    Ok(left)
+    match special_at(first, after) {
+        Some((c, left)) => {
+            push_character(value, c)?;
+            Ok(Some(left))
+        }
+        None => Ok(None),
+    }
 }
 
-// Puts what the bytes at the front say at the end, and answers what is behind them.
-fn take_bytes<'a>(value: &mut Vec<u8>, rest: &'a [u8]) -> Result<&'a [u8], TagFault>
+// Puts what the bytes at the front say at the end, and answers what is behind them, if they say something.
+fn take_bytes<'a>(value: &mut Vec<u8>, rest: &'a [u8]) -> Result<Option<&'a [u8]>, NoMemory>
     requires { 0 < length rest.now }
-    ensures ok { IfOk result (λ left. in_front value.new.items (value_from (text false) left.now)
-        ≡ in_front value.old.items (value_from (text false) rest.now)) }
-    ensures shorter { IfOk result (λ left. length left.now < length rest.now) }
-    ensures malformed { IsErrOf result TagFault.NotWellFormed → value_from (text false) rest.now ≡ None }
-    ensures not_restricted { IfErr result (λ e. e ≢ TagFault.Restricted) }
+    ensures left { IfOk result (λ o. IfSome o (λ left. in_front value.new.items (value_from (text false) left.now)
+        ≡ in_front value.old.items (value_from (text false) rest.now))) }
+    ensures shorter { IfOk result (λ o. IfSome o (λ left. length left.now < length rest.now)) }
+    ensures nothing { IfOk result (λ o. IfNone o (value_from (text false) rest.now ≡ None)) }
 {
     let (plain, special) = split_plain(rest);
     value.extend_from_slice(plain)?;
     match special.split_first() {
         Some((first, after)) => take_special(value, *first, after),
-        None => Ok(special),
+        None => Ok(Some(special)),
     }
 }
 
-// The bytes that a spelled value says.
-fn value_bytes(alloc: Global, raw: &[u8]) -> Result<Vec<u8>, TagFault>
-    ensures ok { IfOk result (λ v. value_from (text false) raw.now ≡ Some v.items) }
-    ensures malformed { IsErrOf result TagFault.NotWellFormed → value_from (text false) raw.now ≡ None }
-    ensures not_restricted { IfErr result (λ e. e ≢ TagFault.Restricted) }
+// The bytes that a spelled value says, if it says some.
+fn value_bytes(alloc: Global, raw: &[u8]) -> Result<Option<Vec<u8>>, NoMemory>
+    ensures { IfOk result (λ o. option_map (λ v. v.items) o ≡ value_from (text false) raw.now) }
 {
     let mut value = Vec::with_capacity(alloc, raw.len())?;
     let mut rest = raw;
     while !rest.is_empty() {
-        rest = take_bytes(&mut value, rest)?;
+        match take_bytes(&mut value, rest)? {
+            Some(left) => rest = left,
+            None => return Ok(None),
+        }
     }
-    Ok(value)
+    Ok(Some(value))
 }
 
 // The text that bytes are, if they are UTF-8.
-fn text_from(bytes: Vec<u8>) -> Result<Text, TagFault>
-    ensures ok { IfOk result (λ t. as_text (Some bytes.items) ≡ Some t) }
-    ensures malformed { IfErr result (λ e. (e ≡ TagFault.NotWellFormed) × (as_text (Some bytes.items) ≡ None)) }
+fn text_from(bytes: Vec<u8>) -> Option<Text>
+    ensures { result ≡ as_text (Some bytes.items) }
 {
     match String::from_utf8(bytes) {
-        Ok(characters) => Ok(Text::from(characters)),
-        Err(_) => Err(TagFault::NotWellFormed),
+        Ok(characters) => Some(Text::from(characters)),
+        Err(_) => None,
     }
 }
 
@@ -142,32 +147,31 @@ fn are_plain_ascii(raw: &[u8]) -> bool
 }
 
 // A copy of a spelled value that is what it says.
-fn plain_text(alloc: Global, raw: &[u8]) -> Result<Text, TagFault>
+fn plain_text(alloc: Global, raw: &[u8]) -> Result<Option<Text>, NoMemory>
     requires { list_all Values.is_plain_ascii raw.now ≡ true }
-    ensures ok { IfOk result (λ t. t ≡ raw.now) }
-    ensures err { IfErr result (λ e. e ≡ TagFault.NoMemory) }
+    ensures { IfOk result (λ o. o ≡ Some raw.now) }
 {
     match str::from_utf8(raw) {
-        Ok(text) => Ok(Text::from_str(alloc, text)?),
-        Err(_) => Err(TagFault::NotWellFormed),
+        Ok(text) => Ok(Some(Text::from_str(alloc, text)?)),
+        Err(_) => Ok(None),
     }
 }
 
 // The value that a spelled one says, where no reference in it has an unknown name.
 #[tactic(auto, unfolding(crate::specs::Values::value_of))]
-pub(crate) fn value_text(alloc: Global, raw: &[u8]) -> Result<Text, TagFault>
-    ensures ok { IfOk result (λ t. value_of raw.now ≡ Some t) }
-    ensures malformed { IsErrOf result TagFault.NotWellFormed → value_of raw.now ≡ None }
-    ensures not_restricted { IfErr result (λ e. e ≢ TagFault.Restricted) }
+pub(crate) fn value_text(alloc: Global, raw: &[u8]) -> Result<Option<Text>, NoMemory>
+    ensures { IfOk result (λ o. o ≡ value_of raw.now) }
 {
     if are_plain_ascii(raw) {
         return plain_text(alloc, raw);
     }
     if !are_characters(raw) {
-        return Err(TagFault::NotWellFormed);
+        return Ok(None);
     }
-    let value = value_bytes(alloc, raw)?;
-    text_from(value)
+    match value_bytes(alloc, raw)? {
+        Some(value) => Ok(text_from(value)),
+        None => Ok(None),
+    }
 }
 
 // Whether a reference may begin somewhere in bytes.
@@ -227,11 +231,13 @@ pub fn has_unknown(raw: &[u8]) -> bool
 /// yet it says no value: a reference that is malformed, a `<`, or a character that is none of XML's.
 pub fn read_value(alloc: Global, raw: &[u8]) -> Result<Text, TagFault>
     ensures ok { IfOk result (λ t. Values.outcome_of raw.now ≡ Ok t) }
-    ensures restricted { IsErrOf result TagFault.Restricted → Values.outcome_of raw.now ≡ Err TagFault.Restricted }
-    ensures malformed { IsErrOf result TagFault.NotWellFormed → Values.outcome_of raw.now ≡ Err TagFault.NotWellFormed }
+    ensures refused { IfErr result (λ e. IfRefused e (λ why. Values.outcome_of raw.now ≡ Err why)) }
 {
     if has_unknown(raw) {
-        return Err(TagFault::Restricted);
+        return Err(TagFault::Refused(TagWhy::Restricted));
     }
-    value_text(alloc, raw)
+    match value_text(alloc, raw)? {
+        Some(value) => Ok(value),
+        None => Err(TagFault::Refused(TagWhy::NotWellFormed)),
+    }
 }

@@ -12,6 +12,3 @@ returns-clause-attributes c = laws.many
 
 pub returns-clause-namespace : goal.returns-clause-namespace
 returns-clause-namespace c = laws.long
-
-pub returns-clause-memory : goal.returns-clause-memory
-returns-clause-memory c = laws.never_memory

@@ -5,19 +5,19 @@ use Rattle.xmpp_names.specs.Starts.{past_limits}
 use Rattle.xmpp_tokens.specs.RawTags.{attribute_of}
 use Rattle.xmpp_names.proofs.starts.expand.Goals as goal
 
-pub returns-then-not-branch-clause-err : goal.returns-then-not-branch-clause-err
-returns-then-not-branch-clause-err c =
+pub returns-then-not-branch-clause-refused : goal.returns-then-not-branch-clause-refused
+returns-then-not-branch-clause-refused c =
     let scope = scope_of c.args.stack.now in
     let own = c.args.parted.bindings.items in
     let others = map attribute_of c.args.parted.others.items in
-    λ _. refused c.args.limits c.args.count scope c.args.spelled.now own others c.args.empty
+    refused c.args.limits c.args.count scope c.args.spelled.now own others c.args.empty
     (sym c.in_ok-is_well_formed.ensures ∙ c.if-not-branch.true)
 
-pub returns-in-Some-clause-err : goal.returns-in-Some-clause-err
-returns-in-Some-clause-err c =
+pub returns-in-Some-clause-refused : goal.returns-in-Some-clause-refused
+returns-in-Some-clause-refused c =
     let scope = scope_of c.args.stack.now in
     let own = c.args.parted.bindings.items in
     let others = map attribute_of c.args.parted.others.items in
-    λ _. past_refused c.args.limits c.args.count scope c.args.spelled.now own others c.args.empty c.in-Some.fault
+    past_refused c.args.limits c.args.count scope c.args.spelled.now own others c.args.empty c.in-Some.why
     (sym c.in_ok-is_well_formed.ensures ∙ c.if-not-branch.false)
     (ap (past_limits c.args.limits c.args.count) (sym c.as_slice.ensures.value) ∙ sym c.past_limits.ensures ∙ c.in-Some.is)

@@ -2,9 +2,10 @@ use Rattle.std.proofs.Common.{◌++◌, Vec, map, sym, ap, ◌∙◌}
 use Rattle.std.specs.Option.{option_map}
 use Rattle.std.specs.declared.alloc.Global.{Global}
 use Rattle.xmpp_names.proofs.Parted.{names_tell, no_names_tell}
-use Rattle.xmpp_names.proofs.Reordered.{tested}
+use Rattle.xmpp_basis.proofs.DistinctItems.{answer_is_test}
+use Rattle.xmpp_names.proofs.SameNames.{is_eq-name_cmp, name_cmp}
 use Rattle.xmpp_names.proofs.SpelledNames.{plain_tell}
-use Rattle.xmpp_names.specs.Expansion.{borrowed_name}
+use Rattle.xmpp_names.specs.Expansion.{borrowed_name, is_same}
 use Rattle.xmpp_names.specs.Scopes.{scope_of}
 use Rattle.xmpp_names.specs.declared.expansion.ExpandedName.{ExpandedName}
 use Rattle.xmpp_tokens.specs.RawTags.{attribute_of}
@@ -19,7 +20,7 @@ returns-in-Some c =
     let found = map borrowed_name c.in-Some.names.items in
     names_tell (c.args.own.now ++ scope_of c.args.stack.now) (map attribute_of c.args.others.now) found c.are_distinct.result
     (sym c.in_ok-names.ensures ∙ ap (option_map (λ (v : Vec ExpandedName Global). map borrowed_name v.items)) c.in-Some.is)
-    (tested found c.are_distinct.result (rw (← c.as_mut_slice.ensures.value) c.are_distinct.ensures))
+    (answer_is_test borrowed_name name_cmp is_same is_eq-name_cmp c.in-Some.names.items c.are_distinct.result (rw (← c.as_mut_slice.ensures.value) c.are_distinct.ensures.told))
 
 pub returns-in-None : goal.returns-in-None
 returns-in-None c =

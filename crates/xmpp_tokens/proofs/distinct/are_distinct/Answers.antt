@@ -1,8 +1,12 @@
-use Rattle.std.proofs.Common.{map}
-use Rattle.xmpp_tokens.proofs.Names.{tested}
-use Rattle.xmpp_tokens.specs.RawTags.{attribute_of}
-use Rattle.xmpp_tokens.specs.Tags.{names_of}
+use Rattle.std.proofs.Common.{Bor, Ordering, List, ℕ, nat_cmp, bytes_eq}
+use Rattle.std.proofs.lemmas.Map.Text.{is_eq-slice_cmp}
+use Rattle.std.specs.Cmp.Lexicographic.{slice_cmp}
+use Rattle.xmpp_basis.proofs.DistinctItems.{answer_is_test}
 use Rattle.xmpp_tokens.proofs.distinct.are_distinct.Goals as goal
 
-pub returns-clause-ok : goal.returns-clause-ok
-returns-clause-ok c = tested (names_of (map attribute_of c.args.attributes.now)) c.are_all_distinct.result (rw (← c.in_ok-names.ensures.ok, ← c.as_mut_slice.ensures.value) c.are_all_distinct.ensures)
+abbrev order : Bor (List ℕ) → Bor (List ℕ) → Ordering
+order a b = slice_cmp nat_cmp a.now b.now
+
+pub returns : goal.returns
+returns c =
+    rw (← c.in_ok-names.ensures) (answer_is_test (λ (n : Bor (List ℕ)). n.now) order bytes_eq (λ x y. is_eq-slice_cmp x.now y.now) c.in_ok-names.names.items c.are_distinct.result (rw (← c.as_mut_slice.ensures.value) c.are_distinct.ensures.told))

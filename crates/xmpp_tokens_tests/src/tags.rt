@@ -1,0 +1,201 @@
+//! Tags as they are spelled, declarations and UTF-8.
+use std::alloc::Global;
+use std::test::Fail;
+use xmpp_edge::NoMemory;
+use xmpp_tokens::{
+    Declaration, PartialCharacter, RawAttribute, RawTag, StartTag, TagFault, TagWhy,
+    read_declaration, read_tag,
+};
+
+/// A name and a value for each attribute.
+type Said = &'static [(&'static str, &'static str)];
+
+fn is_said(attribute: Option<&RawAttribute>, said: (&str, &str)) -> bool {
+    match attribute {
+        Some(given) => given.name == said.0 && given.value.as_str() == said.1,
+        None => false,
+    }
+}
+
+fn are_said(attributes: &[RawAttribute], said: Said) -> bool {
+    for (i, one) in said.iter().enumerate() {
+        if !is_said(attributes.get(i), *one) {
+            return false;
+        }
+    }
+    attributes.len() == said.len()
+}
+
+fn says(tag: &StartTag, name: &str, said: Said, empty: bool) -> bool {
+    tag.name == name && tag.empty == empty && are_said(tag.attributes.as_slice(), said)
+}
+
+fn is_read(alloc: Global, bytes: &[u8], name: &str, said: Said) -> Result<bool, NoMemory> {
+    match read_tag(alloc, bytes) {
+        Ok(RawTag::Start(tag)) => Ok(says(&tag, name, said, bytes.ends_with(b"/>"))),
+        Ok(RawTag::End(ended)) => Ok(ended == name && said.is_empty()),
+        Err(TagFault::Refused(_)) => Ok(false),
+        Err(TagFault::NoMemory) => Err(NoMemory),
+    }
+}
+
+static READ: [(&[u8], &str, Said); 13] = [
+    (b"<a>", "a", &[]),
+    (b"</a >", "a", &[]),
+    (b"<a b='1'  c = \"2\"/>", "a", &[("b", "1"), ("c", "2")]),
+    (b"<a b='1\n'\nc='2'\t/>", "a", &[("b", "1 "), ("c", "2")]),
+    (b"<a b='x\r\ny\tz\nw\rq'/>", "a", &[("b", "x y z w q")]),
+    (b"<a b='\r\r\n\n&#10;'/>", "a", &[("b", "   \n")]),
+    (b"<a b='&#xD;&#x9;&#10;'/>", "a", &[("b", "\r\t\n")]),
+    (
+        b"<a b='&lt;&amp;lt;&gt;&apos;&quot;>'/>",
+        "a",
+        &[("b", "<&lt;>'\">")],
+    ),
+    (b"<a b='&#x1F600;'/>", "a", &[("b", "\u{1F600}")]),
+    (b"<\xC3\xA9 b='\xC3\xA9'/>", "\u{E9}", &[("b", "\u{E9}")]),
+    (b"<p:a xmlns:p='u'>", "p:a", &[("xmlns:p", "u")]),
+    (b"<a b='\xEF\xBF\xBD'/>", "a", &[("b", "\u{FFFD}")]),
+    (
+        b"<a i='' h='' g='' f='' e='' d='' c='' b='' j=''/>",
+        "a",
+        &[
+            ("i", ""),
+            ("h", ""),
+            ("g", ""),
+            ("f", ""),
+            ("e", ""),
+            ("d", ""),
+            ("c", ""),
+            ("b", ""),
+            ("j", ""),
+        ],
+    ),
+];
+
+#[test]
+fn tags_are_read(rt: HostRuntime) -> Result<(), Fail> {
+    for (bytes, name, said) in &READ {
+        assert!(rt; is_read(rt.alloc(), bytes, name, said)?);
+    }
+    Ok(())
+}
+
+fn refusal(alloc: Global, bytes: &[u8]) -> Option<TagWhy> {
+    match read_tag(alloc, bytes) {
+        Err(TagFault::Refused(why)) => Some(why),
+        _ => None,
+    }
+}
+
+static MALFORMED: [&[u8]; 24] = [
+    b"</a b='1'>",
+    b"</a b='&x;'>",
+    b"<a b='<'/>",
+    b"<a b='1'c='2'/>",
+    b"<a b='1' b='2'/>",
+    b"<a i='' h='' g='' f='' e='' d='' c='' b='' i=''/>",
+    b"<a b=1/>",
+    b"<a b/>",
+    b"<a/ >",
+    b"< a/>",
+    b"<1a/>",
+    b"<p:1a/>",
+    b"<a -b='1'/>",
+    b"<a b='&#X41;'/>",
+    b"<a b='&#xFFFE;'/>",
+    b"<a b='&#0;'/>",
+    b"<a b='&#99999999999999999999;'/>",
+    b"<a b='&;'/>",
+    b"<a b='& '/>",
+    b"<a b='\x01'/>",
+    b"<a b='\xEF\xBF\xBE'/>",
+    b"<a b='\xC0\x80'/>",
+    b"<a b='\xED\xA0\x80'/>",
+    b"<a &nbsp; b='1'/>",
+];
+
+static RESTRICTED: [&[u8]; 2] = [b"<a b='&nbsp;'/>", b"<1a b='&; &nbsp;' b=1>"];
+
+#[test]
+fn tags_are_refused(rt: HostRuntime) -> Result<(), Fail> {
+    for bytes in &MALFORMED {
+        assert!(rt; refusal(rt.alloc(), bytes) == Some(TagWhy::NotWellFormed));
+    }
+    for bytes in &RESTRICTED {
+        assert!(rt; refusal(rt.alloc(), bytes) == Some(TagWhy::Restricted));
+    }
+    Ok(())
+}
+
+static DECLARATIONS: [(&[u8], Declaration); 8] = [
+    (
+        b"<?xml version=\"1.0\" encoding='utf-8' standalone='no' ?>",
+        Declaration::Good,
+    ),
+    (
+        b"<?xml version='1.0' encoding='latin1'?>",
+        Declaration::Encoding,
+    ),
+    (
+        b"<?xml version='1.1' encoding='' ='x'?>",
+        Declaration::Encoding,
+    ),
+    (
+        b"<?xml version='1.0' =x encoding='latin1'?>",
+        Declaration::NotWellFormed,
+    ),
+    (b"<?xml encoding='UTF-8'?>", Declaration::NotWellFormed),
+    (
+        b"<?xml version='1.0'encoding='UTF-8'?>",
+        Declaration::NotWellFormed,
+    ),
+    (
+        b"<?xml version='1.0' standalone='YES'?>",
+        Declaration::NotWellFormed,
+    ),
+    (b"<?xml version='1.1'?>", Declaration::NotWellFormed),
+];
+
+#[test]
+fn declarations_are_read(rt: HostRuntime) -> Result<(), Fail> {
+    for (bytes, read) in &DECLARATIONS {
+        assert!(rt; read_declaration(bytes) == *read);
+    }
+    Ok(())
+}
+
+/// Whether bytes are whole characters, a byte at a time.
+fn are_whole(bytes: &[u8]) -> bool {
+    let mut held = PartialCharacter::new();
+    for b in bytes {
+        if held.take(*b).is_err() {
+            return false;
+        }
+    }
+    held.len() == 0
+}
+
+/// The bounds of Unicode's table 3-7.
+static BOUNDS: [(&[u8], bool); 12] = [
+    (b"a\xC3\xA9", true),
+    (b"\xC1\xBF", false),
+    (b"\xE0\x9F\xBF", false),
+    (b"\xE0\xA0\x80", true),
+    (b"\xED\x9F\xBF", true),
+    (b"\xED\xA0\x80", false),
+    (b"\xF0\x8F\xBF\xBF", false),
+    (b"\xF0\x90\x80\x80", true),
+    (b"\xF4\x8F\xBF\xBF", true),
+    (b"\xF4\x90\x80\x80", false),
+    (b"\xF5\x80\x80\x80", false),
+    (b"a\xC3", false),
+];
+
+#[test]
+fn characters_are_whole_within_their_bounds(rt: HostRuntime) -> Result<(), Fail> {
+    for (bytes, whole) in &BOUNDS {
+        assert!(rt; are_whole(bytes) == *whole);
+    }
+    Ok(())
+}
