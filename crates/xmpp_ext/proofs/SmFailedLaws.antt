@@ -3,11 +3,11 @@ use Rattle.std.proofs.Common.{◌≡◌, ◌&&◌, ℕ, Bool, true, false, not, 
 use Rattle.std.proofs.lemmas.Bool.{cases_Bool}
 use Rattle.std.specs.Option.{option_map}
 use Rattle.std.specs.Str.{bytes_eq}
-use Rattle.xmpp_ext.proofs.FaultLemmas.{for_memory, one_field, same_inside}
-use Rattle.xmpp_ext.specs.Faults.{IsExact}
+use Rattle.xmpp_payload.proofs.FaultLemmas.{for_memory, one_field, same_inside}
+use Rattle.xmpp_payload.specs.Faults.{IsExact}
 use Rattle.xmpp_ext.specs.StreamManagement.{IsSmFailed, SmFailedLacks, failed_condition, is_management, sm_failed_elem}
-use Rattle.xmpp_ext.specs.declared.fault.Field.{Field}
-use Rattle.xmpp_ext.specs.declared.fault.Field.TheVariants.{Condition}
+use Rattle.xmpp_payload.specs.declared.fault.Field.{Field}
+use Rattle.xmpp_payload.specs.declared.fault.Field.TheVariants.{Condition}
 use Rattle.xmpp_ext.specs.declared.stream_management.SmFailed.{SmFailed}
 use Rattle.xmpp_trees.specs.Readers.{elements_of}
 use Rattle.xmpp_trees.specs.Trees.{Elem, name_of, namespace_of, nodes_of}

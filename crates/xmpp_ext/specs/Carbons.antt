@@ -1,8 +1,8 @@
 -- Carbons (XEP-0280, sections 7 and 8): copies of what another of one's clients sent or received.
 use Rattle.std.specs.Prelude.{◌≡◌, ℕ, Bool, true, false, ◌||◌, List, [], Some, codes}
-use Rattle.xmpp_ext.specs.Checks.{Check}
+use Rattle.xmpp_payload.specs.Checks.{Check}
 use Rattle.xmpp_ext.specs.Forwarding.{Forwards, WritesForwarded, forward_checks, the_forwarded}
-use Rattle.xmpp_ext.specs.Names.{carbons}
+use Rattle.xmpp_payload.specs.Names.{carbons}
 use Rattle.xmpp_ext.specs.declared.carbons.Carbon.{Carbon}
 use Rattle.xmpp_trees.specs.Readers.{is_named}
 use Rattle.xmpp_trees.specs.Trees.{Elem, element, no_nodes, child}

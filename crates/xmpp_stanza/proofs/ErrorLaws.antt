@@ -15,7 +15,7 @@ use Rattle.xmpp_stanza.specs.declared.conditions.Condition.{Condition}
 use Rattle.xmpp_stanza.specs.declared.conditions.Condition.TheVariants.{BadRequest, FeatureNotImplemented, ItemNotFound, JidMalformed, RemoteServerNotFound, ResourceConstraint, ServiceUnavailable, UnexpectedRequest, Other}
 use Rattle.xmpp_stanza.specs.declared.errors.ErrorKind.{ErrorKind}
 use Rattle.xmpp_stanza.specs.declared.errors.StanzaError.{StanzaError}
-use Rattle.xmpp_stanza.specs.declared.errors.StanzaErrorFault.TheVariants.{NoError}
+use Rattle.xmpp_stanza.specs.declared.fault.StanzaErrorFault.TheVariants.{NoError}
 
 -- a condition that has a variant of its own is read as that variant
 known_again : (c : Condition) → IsKnown c → condition_named (condition_name c) ≡ c

@@ -16,7 +16,7 @@ use Rattle.xmpp_stanza.specs.declared.kinds.MessageKind.TheVariants.{Chat, Norma
 use Rattle.xmpp_stanza.specs.declared.kinds.IqKind.{IqKind}
 use Rattle.xmpp_stanza.specs.declared.kinds.IqKind.TheVariants as iq
 use Rattle.xmpp_stanza.specs.declared.stanzas.Stanza.{Stanza}
-use Rattle.xmpp_stanza.specs.declared.stanzas.StanzaFault.TheVariants.{NotAStanza, BadFormat}
+use Rattle.xmpp_stanza.specs.declared.fault.StanzaFault.TheVariants.{NotAStanza, BadFormat}
 
 named-Decides : (name : List ℕ) (e : Elem) → Decides (is_named client_ns name e) (IsNamed name e)
 named-Decides name e = Decides-and _ _ (bytes_eq-Decides (namespace_of e) client_ns) (bytes_eq-Decides (name_of e) name)

@@ -10,8 +10,8 @@ use Rattle.xmpp_stanza.specs.Stanzas.{attr_named}
 use Rattle.xmpp_stanza.specs.declared.errors.ErrorKind.{ErrorKind}
 use Rattle.xmpp_stanza.specs.declared.errors.ErrorKind.TheVariants.{Auth, Cancel, Continue, Modify, Wait}
 use Rattle.xmpp_stanza.specs.declared.errors.StanzaError.{StanzaError}
-use Rattle.xmpp_stanza.specs.declared.errors.StanzaErrorFault.{StanzaErrorFault}
-use Rattle.xmpp_stanza.specs.declared.errors.StanzaErrorFault.TheVariants.{NoError}
+use Rattle.xmpp_stanza.specs.declared.fault.StanzaErrorFault.{StanzaErrorFault}
+use Rattle.xmpp_stanza.specs.declared.fault.StanzaErrorFault.TheVariants.{NoError}
 
 -- the `type` of an error (RFC 6120 section 8.3.2)
 abbrev pub error_type : ErrorKind → List ℕ

@@ -91,14 +91,15 @@ IsAnswered tree =
     (IsNamed (codes "message") tree × (attr_named (codes "type") tree ≢ Some (message_type message.Error)))
     ⊎ (IsNamed (codes "iq") tree × ((attr_named (codes "type") tree ≡ Some (iq_type iq.Get)) ⊎ (attr_named (codes "type") tree ≡ Some (iq_type iq.Set))))
 
--- The `to` of a stanza is there and is no address: whether the stanza is a message, whether an error is due, the id,
--- and the attribute as it was written.
-pub record IsBadTo (tree : Elem) (is_message reply : Bool) (id to : List ℕ) : Type 0 where
+-- The `to` of a stanza is there and is no address: whether the stanza is a message, whether an error is due, the sender,
+-- the id, and the attribute as it was written.
+pub record IsBadTo (tree : Elem) (is_message reply : Bool) (sender : Option (List ℕ)) (id to : List ℕ) : Type 0 where
   pub stanza : ¬ (IsNoStanza tree)
   pub format : ¬ (IsBadFormat tree)
   pub from : ¬ (IsBadAddress (attr_named (codes "from") tree))
   pub bad : IsBadAddress (attr_named (codes "to") tree)
   pub message : (is_message ≡ true) ↔ IsNamed (codes "message") tree
   pub answered : (reply ≡ true) ↔ IsAnswered tree
+  pub the_sender : IsAddressOf (attr_named (codes "from") tree) sender
   pub the_id : id ≡ id_or_empty tree
   pub written : attr_named (codes "to") tree ≡ Some to
