@@ -1,3 +1,4 @@
+//! Sessions that are resumed (XEP-0198, section 5).
 ghost use Rattle.std.specs.Prelude.{◌≡◌, ◌≢◌, ℕ, ◌%◌, ◌<◌, ◌≤◌, ◌^◌, length, Ok, None, Some, IsSome, IfSome, IfNone, List, true};
 ghost use Rattle.std.specs.Option.{option_map};
 ghost use Rattle.xmpp_resume.specs.Housed.{IsFree, IsHoused};
