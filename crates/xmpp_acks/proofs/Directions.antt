@@ -17,7 +17,7 @@ pub record Kept {A : Type 0} (d : Direction A) : Type 0 where
 none_stated : (n : ℕ) → Contains [] n → n ≤ 0
 none_stated n among = absurd (omega (arith, among.1))
 
-kept_beginning : {A : Type 0} → Kept {A = A} beginning
+pub kept_beginning : {A : Type 0} → Kept {A = A} beginning
 kept_beginning = record { front = ([], refl); whole = λ _. refl; acked = omega arith; stated = none_stated }
 
 kept_put : {A : Type 0} (d : Direction A) (a : A) → Kept d → Kept (record d { put = d.put ++ a ∷ []; way = cond d.is_open (d.way ++ a ∷ []) d.way })
@@ -92,7 +92,7 @@ kept_resume d kept =
       stated = kept.stated;
     }
 
-kept_move : {A : Type 0} (move : Move A) (d next : Direction A) → Moves move d next → Kept d → Kept next
+pub kept_move : {A : Type 0} (move : Move A) (d next : Direction A) → Moves move d next → Kept d → Kept next
 kept_move (Put a) d next is kept = subst Kept (sym is) (kept_put d a kept)
 kept_move Handle d next is kept = subst Kept (sym is.3) (kept_handle d is.0 is.1 is.2 kept)
 kept_move State d next is kept = subst Kept (sym is) (kept_state d kept)

@@ -1,4 +1,4 @@
-ghost use Rattle.std.specs.Prelude.{◌≡◌, ◌≢◌, ℕ, ◌+◌, ◌-◌, ◌<◌, ◌≤◌, ◌%◌, ◌^◌, ◌↔◌, List, [], ◌∷◌, ◌++◌, drop, length, IfOk, IfErr, IsErr, OnOk, OnErr, IsTrue};
+ghost use Rattle.std.specs.Prelude.{◌≡◌, ◌≢◌, ℕ, ◌+◌, ◌-◌, ◌<◌, ◌≤◌, ◌%◌, ◌^◌, ◌↔◌, List, [], ◌∷◌, ◌++◌, drop, length, ◌⊎◌, IfNone, IfOk, IfErr, IfSome, IsErr, OnOk, OnErr, IsTrue};
 ghost use Rattle.xmpp_pool.specs.Queues.{Lives, list_of, stanzas_of};
 ghost use Rattle.xmpp_acks.specs.Counters.{ahead};
 ghost use Rattle.xmpp_acks.specs.Delivery.{Acknowledge, Direction, Handle, IsReceiver, IsSender, Moves, Put, Reached, Resume};
@@ -101,16 +101,6 @@ impl AckEnd {
         self.handled = self.handled.wrapping_add(1);
     }
 
-    /// Sets the counters of an end whose queue is empty, so that a test can begin near 2^32.
-    pub fn set_counters(&mut self, pool: &Pool, acked: u32, handled: u32)
-        requires { stanzas_of self.old.queue pool.now ≡ Some [] }
-        ensures { self.new ≡ record self.old { acked = acked; handled = handled } }
-    {
-        let _ = pool;
-        self.acked = acked;
-        self.handled = handled;
-    }
-
     /// Whether the queue holds as many stanzas as it may.
     pub fn is_full(&self, pool: &Pool) -> bool
         requires lives { Lives self.now.queue pool.now }
@@ -137,6 +127,22 @@ impl AckEnd {
         pool.push_reserved(self.queue, bytes);
     }
 
+    /// What `ack` answers to a count `h` that is too high, and `None` exactly where it takes the count. Nothing changes.
+    pub fn is_too_high(&self, pool: &Pool, h: u32) -> Option<TooHigh>
+        requires lives { Lives self.now.queue pool.now }
+        requires few { length (list_of self.now.queue pool.now) ≤ MOST_UNACKNOWLEDGED }
+        ensures some { IfSome result (λ e. length (list_of self.now.queue pool.now) < ahead h self.now.acked) }
+        ensures none { IfNone result (ahead h self.now.acked ≤ length (list_of self.now.queue pool.now)) }
+        ensures counts { IfSome result (λ e. e ≡ record { h = h; send_count = (self.now.acked + length (list_of self.now.queue pool.now)) % 2 ^ 32 }) }
+    {
+        let waiting = pool.len(self.queue);
+        if waiting < u64::from(h.wrapping_sub(self.acked)) {
+            let send_count = self.acked.wrapping_add(waiting as u32);
+            return Some(TooHigh { h, send_count });
+        }
+        None
+    }
+
     /// Takes the count `h` of handled stanzas that the other end states (XEP-0198 section 4): the stanzas up to it
     /// leave the queue, and the answer is their number. `TooHigh` comes exactly where `h` is further ahead of the
     /// acknowledged count, modulo 2^32, than the queue is long; then nothing changes. It takes no memory.
@@ -160,13 +166,15 @@ impl AckEnd {
             Moves (Acknowledge n) d next → h ≡ n % 2 ^ 32 → (result ≡ Ok (n - d.acked)) × IsSender self.new pool.new next }
         ensures resumes { (d next : Direction (List ℕ)) → Reached d → IsSender self.old pool.old d →
             Moves Resume d next → h ≡ length d.got % 2 ^ 32 → (result ≡ Ok (length d.got - d.acked)) × IsSender self.new pool.new next }
+        // Where fewer than 2^32 stanzas were put, a count is too high exactly where it is below the last one that was
+        // acknowledged, or above the number of those that were put.
+        ensures exact { (d : Direction (List ℕ)) → IsSender self.old pool.old d → length d.put < 2 ^ 32 → IsErr result ↔ ((h < d.acked) ⊎ (length d.put < h)) }
+        ensures sent { IfErr result (λ e. (d : Direction (List ℕ)) → IsSender self.old pool.old d → e.send_count ≡ length d.put % 2 ^ 32) }
     {
-        let waiting = pool.len(self.queue);
-        let count = h.wrapping_sub(self.acked);
-        if waiting < u64::from(count) {
-            let send_count = self.acked.wrapping_add(waiting as u32);
-            return Err(TooHigh { h, send_count });
+        if let Some(fault) = self.is_too_high(pool, h) {
+            return Err(fault);
         }
+        let count = h.wrapping_sub(self.acked);
         pop_oldest(pool, self.queue, count);
         self.acked = h;
         Ok(count)

@@ -2,10 +2,6 @@
 //! Management").
 #![tactic(auto)]
 
-mod delivery;
 mod end;
-#[cfg(test)]
-mod tests;
 
-pub use delivery::delivery_is_a_prefix;
 pub use end::{AckEnd, MOST_UNACKNOWLEDGED, TooHigh};

@@ -3,16 +3,15 @@ use Rattle.std.proofs.Common.{◌≡◌, ℕ, zero, suc, ◌+◌, ◌-◌, ◌<�
 use Rattle.std.proofs.lemmas.Bool.{cases_Bool}
 use Rattle.std.proofs.lemmas.Bool.Decides.{nat_tests}
 use Rattle.std.proofs.lemmas.List.{length-take-le}
-use Rattle.std.proofs.lemmas.Option.{none-some, slice_get_within}
+use Rattle.std.proofs.lemmas.Option.{none-some, slice_get_within, same_Some}
 use Rattle.std.proofs.lemmas.Slice.Eq.{bytes_eq-Decides}
 use Rattle.std.specs.List.{filter}
 use Rattle.std.specs.Option.{option_map}
 use Rattle.xmpp_archive.proofs.ChainPlaces.{filter_below}
-use Rattle.xmpp_archive.proofs.Keys.{some_same}
 use Rattle.xmpp_archive.proofs.NumberedEntries.{FollowFrom, entry_at, follow_numbered}
 use Rattle.xmpp_archive.proofs.Walks.{step_at}
 use Rattle.xmpp_archive.specs.Entries.{AreNumbered, EntryView, entry_numbered}
-use Rattle.xmpp_archive.specs.Peers.{chain_below, chain_ends, chain_of, index_of, is_with, last_of, peer_of, previous_of}
+use Rattle.xmpp_archive.specs.Peers.{chain_below, chain_ends, chain_of, index_of, is_with, last_entry, peer_of, previous_of}
 
 abbrev number_of : EntryView → ℕ
 number_of e = e.number
@@ -35,7 +34,7 @@ below_item t s i (f ∷ es) e follow is = elim (cases_Bool (t f)) [
     here : (j : ℕ) → ((k : ℕ) → slice_get (filter t es) k ≡ Some e → filter (λ g. ltb g.number e.number) (filter t es) ≡ take k (filter t es)) → slice_get (f ∷ filter t es) j ≡ Some e →
         filter (λ g. ltb g.number e.number) (f ∷ filter t es) ≡ take j (f ∷ filter t es)
     here zero rest is =
-        let number : f.number ≡ e.number = ap number_of (some_same f e is) in
+        let number : f.number ≡ e.number = ap number_of (same_Some f e is) in
         let test : ltb f.number e.number ≡ false = grind (arith, nat_tests) in
         let place : e.number - suc s ≡ zero = omega (arith, follow.0) in
         rw test (rw place at (filter_below t e.number (suc s) es follow.1))
@@ -69,7 +68,7 @@ pub walk_previous : (last i : ℕ) (owner peer : List ℕ) (es : List EntryView)
     slice_get (chain_of owner peer es) i ≡ Some e → 1 ≤ i → previous_of owner e.number es ≡ option_map (λ f. f.number) (slice_get (chain_of owner peer es) (i - 1))
 walk_previous last i owner peer es e known within is later =
     let place = placed last i owner peer es e known within is in
-    let end : last_of (take i (chain_of owner peer es)) ≡ slice_get (chain_of owner peer es) (i - 1) =
+    let end : last_entry (take i (chain_of owner peer es)) ≡ slice_get (chain_of owner peer es) (i - 1) =
     ap (λ n. slice_get (take i (chain_of owner peer es)) (n - 1)) place.size ∙ slice_get-take i (i - 1) (chain_of owner peer es) (omega arith) in
     rw (place.entry, place.peer_is, place.below) (ap (option_map number_of) end)
 

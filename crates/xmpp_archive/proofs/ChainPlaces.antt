@@ -3,19 +3,18 @@ use Rattle.std.proofs.Common.{◌≡◌, ℕ, zero, suc, ◌+◌, ◌-◌, ◌<�
 use Rattle.std.proofs.lemmas.Bool.{false≢true, cases_Bool, cases_lt}
 use Rattle.std.proofs.lemmas.Bool.Decides.{nat_tests}
 use Rattle.std.proofs.lemmas.List.{get_or-map, length-map, take-map}
-use Rattle.std.proofs.lemmas.Option.{none-some, slice_get-map}
+use Rattle.std.proofs.lemmas.Option.{none-some, slice_get-map, same_Some}
 use Rattle.std.specs.List.{filter}
 use Rattle.std.specs.Option.{option_and_then, option_map}
 use Rattle.std.specs.Str.{bytes_eq}
 use Rattle.xmpp_archive.proofs.ChainSteps.{link_mark, links_size}
-use Rattle.xmpp_archive.proofs.Keys.{some_same}
 use Rattle.xmpp_archive.proofs.Linked.{first_beside, last_beside}
 use Rattle.xmpp_archive.proofs.Marks.{mark_after, previous_none, previous_some}
 use Rattle.xmpp_archive.proofs.NumberedEntries.{FollowFrom, at_place, entry_at}
 use Rattle.xmpp_archive.proofs.Walks.{find_first, first_is, next_of_is, some_number-positive}
-use Rattle.xmpp_archive.specs.Chained.{AreBefore, IsChained, Mark, count_of, first_number, is_text_of, kept_number, last_number, link_or, next_numbers, some_chain, some_number}
+use Rattle.xmpp_archive.specs.Chained.{AreBefore, IsChained, Mark, count_of, least_beside, is_text_of, kept_number, greatest_beside, link_or, next_numbers, some_chain, some_number}
 use Rattle.xmpp_archive.specs.Entries.{AreKept, EntryView, entry_numbered}
-use Rattle.xmpp_archive.specs.Peers.{chain_below, chain_ends, index_of, is_with, last_of, next_of, peer_of, previous_of}
+use Rattle.xmpp_archive.specs.Peers.{chain_below, chain_ends, index_of, is_with, last_entry, next_of, peer_of, previous_of}
 use Rattle.xmpp_archive.specs.declared.chains.Chain.{Chain}
 use Rattle.xmpp_archive.specs.declared.chains.Ends.{Ends}
 use Rattle.xmpp_archive.specs.declared.chains.Link.{Link}
@@ -74,7 +73,7 @@ none_with key p (e ∷ es) none = elim (cases_Bool (bytes_eq (key e) p)) [
 ]
 
 -- the last of a list
-last_more : (e : EntryView) (es : List EntryView) (m : ℕ) → option_map number_of (last_of es) ≡ Some m → option_map number_of (last_of (e ∷ es)) ≡ Some m
+last_more : (e : EntryView) (es : List EntryView) (m : ℕ) → option_map number_of (last_entry es) ≡ Some m → option_map number_of (last_entry (e ∷ es)) ≡ Some m
 last_more e [] m is = absurd (none-some m is)
 last_more e (f ∷ fs) m is =
     let place : suc (suc (length fs)) - 1 ≡ suc (length fs) = omega arith in
@@ -82,13 +81,13 @@ last_more e (f ∷ fs) m is =
     rw place (rw before at is)
 
 pub last_with : (key : EntryView → List ℕ) (p : List ℕ) (n : ℕ) (es : List EntryView) → FollowFrom n es → is_text_of p (map key es) ≡ true →
-    option_map number_of (last_of (filter (λ e. bytes_eq (key e) p) es)) ≡ Some (last_number p n (map key es))
+    option_map number_of (last_entry (filter (λ e. bytes_eq (key e) p) es)) ≡ Some (greatest_beside p n (map key es))
 last_with key p n [] follow has = absurd (false≢true has)
 last_with key p n (e ∷ es) follow has = elim (cases_Bool (is_text_of p (map key es))) [
   | inl later ↦
       let rest = last_with key p (suc n) es follow.1 later in
       elim (cases_Bool (bytes_eq (key e) p)) [
-        | inl same ↦ rw (later, same) (last_more e (filter (λ f. bytes_eq (key f) p) es) (last_number p (suc n) (map key es)) rest)
+        | inl same ↦ rw (later, same) (last_more e (filter (λ f. bytes_eq (key f) p) es) (greatest_beside p (suc n) (map key es)) rest)
         | inr other ↦ rw (later, other) rest
       ]
   | inr none ↦ elim (cases_Bool (bytes_eq (key e) p)) [
@@ -104,7 +103,7 @@ ends_same : (a b : Option EntryView) (first last count : ℕ) → option_map num
 ends_same None b first last count start end = absurd (none-some first start)
 ends_same (Some e) None first last count start end = absurd (none-some last end)
 ends_same (Some e) (Some f) first last count start end =
-    rw (some_same e.number first start, some_same f.number last end) refl
+    rw (same_Some e.number first start, same_Some f.number last end) refl
 
 pub chain_ends_is : (owner p : List ℕ) (n : ℕ) (es : List EntryView) → FollowFrom n es → 1 ≤ n → chain_ends owner p es ≡ some_chain p n (map (peer_of owner) es)
 chain_ends_is owner p n es follow low =
@@ -112,12 +111,12 @@ chain_ends_is owner p n es follow low =
     elim (cases_Bool (is_text_of p (map (peer_of owner) es))) [
       | inl has ↦
           let beside = first_beside p n (map (peer_of owner) es) has in
-          let start : option_map number_of (slice_get (filter t es) 0) ≡ Some (first_number p n (map (peer_of owner) es)) =
+          let start : option_map number_of (slice_get (filter t es) 0) ≡ Some (least_beside p n (map (peer_of owner) es)) =
           ap (option_map number_of) (sym (find_first t es)) ∙ first_is (peer_of owner) p n es follow low
-          ∙ some_number-positive (first_number p n (map (peer_of owner) es)) (omega (arith, beside.low)) in
+          ∙ some_number-positive (least_beside p n (map (peer_of owner) es)) (omega (arith, beside.low)) in
           let end = last_with (peer_of owner) p n es follow has in
           rw (has, ← count_entries (peer_of owner) p es)
-          (ends_same (slice_get (filter t es) 0) (last_of (filter t es)) (first_number p n (map (peer_of owner) es)) (last_number p n (map (peer_of owner) es)) (length (filter t es)) start end)
+          (ends_same (slice_get (filter t es) 0) (last_entry (filter t es)) (least_beside p n (map (peer_of owner) es)) (greatest_beside p n (map (peer_of owner) es)) (length (filter t es)) start end)
       | inr none ↦ rw (none, none_with (peer_of owner) p es none) refl
     ]
 
@@ -128,14 +127,14 @@ below_at owner p n m i es follow place =
     filter_below (is_with owner p) m n es follow ∙ rw at refl
 
 previous_is : (key : EntryView → List ℕ) (p : List ℕ) (n i : ℕ) (before : List ℕ → Mark) (es : List EntryView) → AreBefore n before → FollowFrom n es →
-    option_map number_of (last_of (filter (λ e. bytes_eq (key e) p) (take i es))) ≡ kept_number n (mark_after n before p (take i (map key es))).previous
+    option_map number_of (last_entry (filter (λ e. bytes_eq (key e) p) (take i es))) ≡ kept_number n (mark_after n before p (take i (map key es))).previous
 previous_is key p n i before es early follow =
     let ps = map key (take i es) in
     rw (take-map key i es) (elim (cases_Bool (is_text_of p ps)) [
       | inl has ↦
           let beside = last_beside p n ps has in
-          let low : n ≤ last_number p n ps = beside.low in
-          let test : ltb (last_number p n ps) n ≡ false = grind (arith, nat_tests) in
+          let low : n ≤ greatest_beside p n ps = beside.low in
+          let test : ltb (greatest_beside p n ps) n ≡ false = grind (arith, nat_tests) in
           last_with key p n (take i es) (follow_take i n es follow) has ∙ sym (rw (previous_some n before p ps has, test) refl)
       | inr none ↦
           let low : (before p).previous < n = early.previous p in
@@ -148,7 +147,7 @@ pub previous_of_is : (owner : List ℕ) (n m i : ℕ) (before : List ℕ → Mar
 previous_of_is owner n m i before es e early follow place is =
     let at : m - n ≡ i = omega arith in
     let entry : entry_numbered m es ≡ Some e = entry_at m n es follow (omega arith) ∙ rw at is in
-    rw entry (ap (λ l. option_map number_of (last_of l)) (below_at owner (peer_of owner e) n m i es follow place)
+    rw entry (ap (λ l. option_map number_of (last_entry l)) (below_at owner (peer_of owner e) n m i es follow place)
     ∙ previous_is (peer_of owner) (peer_of owner e) n i before es early follow)
 
 pub index_of_is : (owner : List ℕ) (n m i : ℕ) (es : List EntryView) (e : EntryView) → FollowFrom n es → m ≡ n + i → slice_get es i ≡ Some e →

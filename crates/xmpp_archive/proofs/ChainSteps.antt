@@ -2,17 +2,19 @@
 use Rattle.std.proofs.Common.{◌≡◌, ◌≢◌, ℕ, suc, add-one, ◌+◌, ◌-◌, ◌<◌, ◌≤◌, inl, inr, Bool, true, false, ◌||◌, ◌==◌, List, [], ◌∷◌, ◌++◌, Option, Some, None, length, map, set, take, drop, get_or, slice_get, refl, sym, ap, subst, ◌∙◌, arith}
 use Rattle.std.proofs.lemmas.Bool.{false≢true, cases_Bool, cases_lt, eq-eqb, ne_eqb}
 use Rattle.std.proofs.lemmas.List.{drop-map, length-map, map-append}
-use Rattle.std.proofs.lemmas.Option.{get_or_from_slice_get, none-some, slice_get-get_or, slice_get-map, slice_get_read, slice_get_within}
+use Rattle.std.proofs.lemmas.Option.{get_or_from_slice_get, none-some, slice_get-get_or, slice_get-map, slice_get_read, slice_get_within, same_Some}
 use Rattle.std.specs.List.{insert, remove}
 use Rattle.std.specs.Option.{option_map}
 use Rattle.std.specs.Str.{bytes_eq}
-use Rattle.xmpp_archive.proofs.Keys.{ascend-insert, ascend-remove, ascend_at, at_is_text, below-trans, differ_at, equal_texts, gap_absent, map-insert, map-remove, map-set, map_same, same_text, some_same, text-insert, text-remove, text-remove_other}
-use Rattle.xmpp_archive.proofs.Linked.{IsBeside, first-push_new, first-push_old, first-push_other, first_beside, first_none, last-push, last-push_other, length-next_numbers, last_beside, nexts-push_new, nexts-push_old, or_false, text-push}
+use Rattle.xmpp_archive.proofs.Keys.{ascend-insert, ascend-remove, ascend_at, at_is_text, below-trans, differ_at, gap_absent, map-insert, map-remove, map-set, map_same, same_text, text-insert, text-remove, text-remove_other}
+use Rattle.xmpp_archive.proofs.Linked.{IsBeside, first-push_new, first-push_old, first-push_other, first_beside, first_none, last-push, last-push_other, length-next_numbers, last_beside, nexts-push_new, nexts-push_old, text-push}
 use Rattle.xmpp_archive.proofs.Marks.{anew, anew_after, anew_early, count_first, count_last, count_within, mark_after, mark_at, marked_early, marks-anew, marks-push, marks-set, nexts-set, ordinal_after, previous_some}
-use Rattle.xmpp_archive.specs.Chained.{AreChains, Ascend, IsBelow, IsChained, IsGap, Mark, chain_at, chain_or, count_of, extended, first_number, is_text_of, last_number, link_or, mark_of, marked, marks, moved_on, next_numbers}
+use Rattle.xmpp_archive.specs.Chained.{AreChains, Ascend, IsBelow, IsChained, IsGap, Mark, chain_at, chain_or, count_of, extended, least_beside, is_text_of, greatest_beside, link_or, mark_of, marked, marks, moved_on, next_numbers}
 use Rattle.xmpp_archive.specs.Entries.{EntryView}
 use Rattle.xmpp_archive.specs.declared.chains.Ends.{Ends}
 use Rattle.xmpp_archive.specs.declared.chains.Link.{Link}
+use Rattle.xmpp_basis.proofs.Bytes.{bytes_eq-from_same}
+use Rattle.std.proofs.Math.Bool.{or-false}
 
 -- the chain at a place is that of the key there, which is the peer of an entry
 pub chain_place : (keys : List (List ℕ)) (n : ℕ) (ps : List (List ℕ)) (chains : List Ends) (at : ℕ) (x : Ends) → AreChains keys n ps chains →
@@ -26,7 +28,7 @@ chain_place keys n ps chains at x known within read =
     go : (o : Option (List ℕ)) → slice_get keys at ≡ o → option_map (chain_at n ps) o ≡ Some x →
         (k : List ℕ) × (slice_get keys at ≡ Some k) × (x ≡ chain_at n ps k) × (is_text_of k ps ≡ true)
     go None here mapped = absurd (none-some x mapped)
-    go (Some k) here mapped = (k, here, sym (some_same (chain_at n ps k) x mapped), sym (known.every k) ∙ at_is_text keys at k here)
+    go (Some k) here mapped = (k, here, sym (same_Some (chain_at n ps k) x mapped), sym (known.every k) ∙ at_is_text keys at k here)
 
 pub chain_read : (keys : List (List ℕ)) (n : ℕ) (ps : List (List ℕ)) (chains : List Ends) (at : ℕ) (p : List ℕ) (d : Ends) → AreChains keys n ps chains →
     slice_get keys at ≡ Some p → get_or chains at d ≡ chain_at n ps p
@@ -44,7 +46,7 @@ pub chain_within : (n : ℕ) (f : EntryView → List ℕ) (es : List EntryView) 
 chain_within n f es links chains at x known within read =
     let place = chain_place known.keys n (map f es) chains at x known.chained within read in
     let beside = first_beside place.0 n (map f es) place.3 in
-    let first : x.first ≡ first_number place.0 n (map f es) = ap (λ (c : Ends). c.first) place.2 in
+    let first : x.first ≡ least_beside place.0 n (map f es) = ap (λ (c : Ends). c.first) place.2 in
     let size : length (map f es) ≡ length es = length-map es f in
     (omega (arith, beside.low), omega (arith, beside.low, beside.high))
 
@@ -53,7 +55,7 @@ pub chain_peer : (keys : List (List ℕ)) (n : ℕ) (f : EntryView → List ℕ)
 chain_peer keys n f es chains at x e known within read inside entry =
     let place = chain_place keys n (map f es) chains at x known within read in
     let beside = first_beside place.0 n (map f es) place.3 in
-    let first : x.first ≡ first_number place.0 n (map f es) = ap (λ (c : Ends). c.first) place.2 in
+    let first : x.first ≡ least_beside place.0 n (map f es) = ap (λ (c : Ends). c.first) place.2 in
     let here : slice_get es (x.first - n) ≡ Some e = slice_get_read es (length es) (x.first - n) e refl inside entry in
     let peer : slice_get (map f es) (x.first - n) ≡ Some (f e) = slice_get-map f es (x.first - n) ∙ ap (option_map f) here in
     place.1 ∙ sym beside.there ∙ ap (λ m. slice_get (map f es) (m - n)) (sym first) ∙ peer
@@ -70,7 +72,7 @@ link_mark n ps links chains known i p d is =
     let within : i < length ps = slice_get_within ps i p is in
     let read : slice_get links i ≡ Some (get_or links i d) = slice_get-get_or links i d (omega arith) in
     let mark : slice_get (map mark_of links) i ≡ Some (mark_of (get_or links i d)) = slice_get-map mark_of links i ∙ ap (option_map mark_of) read in
-    some_same (mark_of (get_or links i d)) (mark_after n known.before p (take i ps))
+    same_Some (mark_of (get_or links i d)) (mark_after n known.before p (take i ps))
     (sym mark ∙ ap (λ t. slice_get t i) known.beside ∙ mark_at n known.before ps i p is)
 
 pub link_ordinal : (n : ℕ) (ps : List (List ℕ)) (links : List Link) (chains : List Ends) (known : IsChained n ps links chains) (i : ℕ) (p : List ℕ) (d : Link) → slice_get ps i ≡ Some p →
@@ -80,26 +82,26 @@ link_ordinal n ps links chains known i p d is =
 
 -- the ordinals of the first and of the last entry of a peer
 pub first_ordinal : (n : ℕ) (ps : List (List ℕ)) (links : List Link) (chains : List Ends) (known : IsChained n ps links chains) (p : List ℕ) (d : Link) → is_text_of p ps ≡ true →
-    (get_or links (first_number p n ps - n) d).ordinal ≡ (known.before p).ordinal
+    (get_or links (least_beside p n ps - n) d).ordinal ≡ (known.before p).ordinal
 first_ordinal n ps links chains known p d has =
     let beside = first_beside p n ps has in
-    let ordinal = link_ordinal n ps links chains known (first_number p n ps - n) p d beside.there in
+    let ordinal = link_ordinal n ps links chains known (least_beside p n ps - n) p d beside.there in
     let none = count_first p n ps has in
     omega arith
 
 pub last_ordinal : (n : ℕ) (ps : List (List ℕ)) (links : List Link) (chains : List Ends) (known : IsChained n ps links chains) (p : List ℕ) (d : Link) → is_text_of p ps ≡ true →
-    (get_or links (last_number p n ps - n) d).ordinal + 1 ≡ (known.before p).ordinal + count_of p ps
+    (get_or links (greatest_beside p n ps - n) d).ordinal + 1 ≡ (known.before p).ordinal + count_of p ps
 last_ordinal n ps links chains known p d has =
     let beside = last_beside p n ps has in
-    let ordinal = link_ordinal n ps links chains known (last_number p n ps - n) p d beside.there in
+    let ordinal = link_ordinal n ps links chains known (greatest_beside p n ps - n) p d beside.there in
     let more = count_last p n ps has in
     omega arith
 
 -- what an entry more of a peer gets from the last one
-end_mark : (n : ℕ) (ps : List (List ℕ)) (links : List Link) (chains : List Ends) (known : IsChained n ps links chains) (p : List ℕ) (last : ℕ) → is_text_of p ps ≡ true → last ≡ last_number p n ps →
+end_mark : (n : ℕ) (ps : List (List ℕ)) (links : List Link) (chains : List Ends) (known : IsChained n ps links chains) (p : List ℕ) (last : ℕ) → is_text_of p ps ≡ true → last ≡ greatest_beside p n ps →
     record { previous = last; ordinal = (link_or links (last - n)).ordinal + 1 } ≡ mark_after n known.before p ps
 end_mark n ps links chains known p last has is =
-    let ordinal : (link_or links (last_number p n ps - n)).ordinal + 1 ≡ (mark_after n known.before p ps).ordinal =
+    let ordinal : (link_or links (greatest_beside p n ps - n)).ordinal + 1 ≡ (mark_after n known.before p ps).ordinal =
     last_ordinal n ps links chains known p (record { next = 0; previous = 0; ordinal = 0 }) has ∙ sym (ordinal_after n known.before p ps) in
     rw (is, ordinal, ← previous_some n known.before p ps has) refl
 
@@ -110,7 +112,7 @@ pub chain_last : (n : ℕ) (ps : List (List ℕ)) (p : List ℕ) (links : List L
 chain_last n ps p links chains at known found =
     let key : slice_get known.keys at ≡ Some p = found known.keys known.chained in
     let chain : chain_or chains at ≡ chain_at n ps p = chain_read known.keys n ps chains at p (record { first = 0; last = 0 }) known.chained key in
-    let last : (chain_or chains at).last ≡ last_number p n ps = ap (λ (c : Ends). c.last) chain in
+    let last : (chain_or chains at).last ≡ greatest_beside p n ps = ap (λ (c : Ends). c.last) chain in
     let beside = last_beside p n ps (key_has known.keys n ps chains at p known.chained key) in
     let size = links_size n ps links chains known in
     (omega (arith, beside.low), omega (arith, beside.high))
@@ -147,7 +149,7 @@ below_more keys m k p up key low i q within is = elim (cases_lt i m) [
   | inl front ↦ below-trans q k p (ascend_at keys i m q k up front is key) low
   | inr back ↦
       let here : m ≡ i = omega arith in
-      subst (λ t. IsBelow t p) (some_same k q (sym key ∙ ap (λ j. slice_get keys j) here ∙ is)) low
+      subst (λ t. IsBelow t p) (same_Some k q (sym key ∙ ap (λ j. slice_get keys j) here ∙ is)) low
 ]
 
 pub above_more : (keys : List (List ℕ)) (m : ℕ) (k p : List ℕ) → Ascend keys → slice_get keys m ≡ Some k → IsBelow p k →
@@ -156,7 +158,7 @@ above_more keys m k p up key high i q within is = elim (cases_lt m i) [
   | inl later ↦ below-trans p k q high (ascend_at keys m i k q up later key is)
   | inr back ↦
       let here : m ≡ i = omega arith in
-      subst (λ t. IsBelow p t) (some_same k q (sym key ∙ ap (λ j. slice_get keys j) here ∙ is)) high
+      subst (λ t. IsBelow p t) (same_Some k q (sym key ∙ ap (λ j. slice_get keys j) here ∙ is)) high
 ]
 
 -- an entry more leaves the chain of another peer
@@ -172,7 +174,7 @@ chained_more n number ps p links chains at known found next =
     let key : slice_get keys at ≡ Some p = found keys known.chained in
     let has : is_text_of p ps ≡ true = key_has keys n ps chains at p known.chained key in
     let chain : chain_or chains at ≡ chain_at n ps p = chain_read keys n ps chains at p (record { first = 0; last = 0 }) known.chained key in
-    let new : chain_at n (ps ++ p ∷ []) p ≡ record { first = first_number p n ps; last = number } =
+    let new : chain_at n (ps ++ p ∷ []) p ≡ record { first = least_beside p n ps; last = number } =
     rw (first-push_old p p n ps has, last-push p n ps, next) refl in
     let images : map (chain_at n (ps ++ p ∷ [])) keys ≡ set (map (chain_at n ps) keys) at (chain_at n (ps ++ p ∷ []) p) =
     map-set (chain_at n ps) (chain_at n (ps ++ p ∷ [])) keys at p key
@@ -195,7 +197,7 @@ chained_more n number ps p links chains at known found next =
       | inl same ↦
           let there : is_text_of q ps ≡ true = subst (λ t. is_text_of t ps ≡ true) same has in
           known.chained.every q ∙ there ∙ sym (text-push p q ps ∙ rw there refl)
-      | inr other ↦ known.chained.every q ∙ sym (text-push p q ps ∙ rw other (or_false (is_text_of q ps)))
+      | inr other ↦ known.chained.every q ∙ sym (text-push p q ps ∙ rw other (or-false (is_text_of q ps)))
     ]
 
 -- an entry more of a peer that has none
@@ -252,9 +254,9 @@ moved : (n : ℕ) (p : List ℕ) (qs : List (List ℕ)) (links : List Link) (cha
     slice_get known.keys at ≡ Some p → IsChained (suc n) qs (drop 1 links) (moved_on (link_or links 0).next at chains)
 moved n p qs links chains at known key = elim (cases_Bool (is_text_of p qs)) [
   | inl later ↦
-      let place : IsBeside p (first_number p (suc n) qs) (suc n) qs = first_beside p (suc n) qs later in
-      let some : (first_number p (suc n) qs == 0) ≡ false = ne_eqb (first_number p (suc n) qs) 0 (λ same. omega (arith, place.low)) in
-      let new : chain_at (suc n) qs p ≡ record { first = first_number p (suc n) qs; last = (chain_or chains at).last } = rw (chain, later) refl in
+      let place : IsBeside p (least_beside p (suc n) qs) (suc n) qs = first_beside p (suc n) qs later in
+      let some : (least_beside p (suc n) qs == 0) ≡ false = ne_eqb (least_beside p (suc n) qs) 0 (λ same. omega (arith, place.low)) in
+      let new : chain_at (suc n) qs p ≡ record { first = least_beside p (suc n) qs; last = (chain_or chains at).last } = rw (chain, later) refl in
       record {
         linked = linked;
         before = marked n p known.before;
@@ -268,7 +270,7 @@ moved n p qs links chains at known key = elim (cases_Bool (is_text_of p qs)) [
         };
       }
   | inr none ↦
-      let gone : (first_number p (suc n) qs == 0) ≡ true = eq-eqb (first_number p (suc n) qs) 0 (first_none p (suc n) qs none) in
+      let gone : (least_beside p (suc n) qs == 0) ≡ true = eq-eqb (least_beside p (suc n) qs) 0 (first_none p (suc n) qs none) in
       record {
         linked = linked;
         before = marked n p known.before;
@@ -289,8 +291,8 @@ moved n p qs links chains at known key = elim (cases_Bool (is_text_of p qs)) [
     beside : map mark_of (drop 1 links) ≡ marks (suc n) (marked n p known.before) qs
     beside = sym (drop-map mark_of 1 links) ∙ ap (λ t. drop 1 t) known.beside
 
-    next : (link_or links 0).next ≡ first_number p (suc n) qs
-    next = first_next links (first_number p (suc n) qs) (next_numbers (suc n) qs) known.linked
+    next : (link_or links 0).next ≡ least_beside p (suc n) qs
+    next = first_next links (least_beside p (suc n) qs) (next_numbers (suc n) qs) known.linked
 
     chain : chain_or chains at ≡ chain_at n (p ∷ qs) p
     chain = chain_read known.keys n (p ∷ qs) chains at p (record { first = 0; last = 0 }) known.chained key
@@ -304,7 +306,7 @@ moved n p qs links chains at known key = elim (cases_Bool (is_text_of p qs)) [
     stays later q = elim (same_text p q) [
       | inl same ↦
           let there : is_text_of q qs ≡ true = subst (λ t. is_text_of t qs ≡ true) same later in
-          rw (equal_texts p q same, there) refl
+          rw (bytes_eq-from_same p q same, there) refl
       | inr other ↦ rw other refl
     ]
 
@@ -320,6 +322,6 @@ pub chained_less : (n : ℕ) (p : List ℕ) (ps : List (List ℕ)) (links : List
     ((keys : List (List ℕ)) → AreChains keys n ps chains → slice_get keys at ≡ Some p) → IsChained (n + 1) (drop 1 ps) (drop 1 links) (moved_on (link_or links 0).next at chains)
 chained_less n p [] links chains at known first found = absurd (none-some p first)
 chained_less n p (q ∷ qs) links chains at known first found =
-    let same : q ≡ p = some_same q p first in
+    let same : q ≡ p = same_Some q p first in
     let key : slice_get known.keys at ≡ Some q = found known.keys known.chained ∙ ap Some (sym same) in
     rw (add-one n) (moved n q qs links chains at known key)

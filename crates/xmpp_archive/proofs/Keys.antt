@@ -3,12 +3,13 @@ use Rattle.std.proofs.Common.{◌≡◌, ◌≢◌, ℕ, zero, suc, ◌<◌, ◌
 use Rattle.std.proofs.lemmas.Bool.{false≢true, cases_Bool, cases_lt}
 use Rattle.std.proofs.lemmas.Cmp.{nat_list_cmp_total}
 use Rattle.std.proofs.lemmas.Map.Text.{is_eq-slice_cmp}
-use Rattle.std.proofs.lemmas.Option.{none-some}
+use Rattle.std.proofs.lemmas.Option.{none-some, same_Some}
 use Rattle.std.proofs.lemmas.Slice.Eq.{bytes_eq-Decides}
 use Rattle.std.specs.Cmp.Lexicographic.{slice_cmp}
 use Rattle.std.specs.List.{AllByRecursion, insert, remove}
 use Rattle.std.specs.Ordering.{nat_cmp, is_eq, ordering_reverse}
 use Rattle.std.specs.Str.{bytes_eq}
+use Rattle.xmpp_basis.proofs.Bytes.{bytes_eq-from_same}
 use Rattle.xmpp_archive.specs.Chained.{Ascend, IsBelow, IsGap, is_text_of}
 
 pub same_text : (q p : List ℕ) → (q ≡ p) ⊎ (bytes_eq q p ≡ false)
@@ -17,25 +18,13 @@ same_text q p = elim (cases_Bool (bytes_eq q p)) [
   | inr other ↦ inr other
 ]
 
-pub equal_texts : (q p : List ℕ) → q ≡ p → bytes_eq q p ≡ true
-equal_texts q p same = (bytes_eq-Decides q p).1 same
-
-pub other_text : (q p : List ℕ) → q ≢ p → bytes_eq q p ≡ false
-other_text q p other = elim (same_text q p) [
-  | inl same ↦ absurd (other same)
-  | inr unlike ↦ unlike
-]
-
-pub some_same : {A : Type 0} (x y : A) → Some x ≡ Some y → x ≡ y
-some_same x y same = cc
-
 pub below-trans : (p q r : List ℕ) → IsBelow p q → IsBelow q r → IsBelow p r
 below-trans p q r low high = nat_list_cmp_total.trans p q r low high
 
 below_itself : (p : List ℕ) → IsBelow p p → ⊥
 below_itself p low =
     let test : is_eq (slice_cmp nat_cmp p p) ≡ bytes_eq p p = is_eq-slice_cmp p p in
-    false≢true (rw low at test ∙ equal_texts p p refl)
+    false≢true (rw low at test ∙ bytes_eq-from_same p p refl)
 
 pub below_from_greater : (p q : List ℕ) → slice_cmp nat_cmp p q ≡ Greater → IsBelow q p
 below_from_greater p q greater = nat_list_cmp_total.antisymm q p ∙ ap ordering_reverse greater
@@ -48,7 +37,7 @@ same_from_equal p q equal =
 -- a text at a place is one of them
 pub at_is_text : (keys : List (List ℕ)) (i : ℕ) (k : List ℕ) → slice_get keys i ≡ Some k → is_text_of k keys ≡ true
 at_is_text [] i k is = absurd (none-some k is)
-at_is_text (q ∷ qs) zero k is = rw (equal_texts q k (some_same q k is)) refl
+at_is_text (q ∷ qs) zero k is = rw (bytes_eq-from_same q k (same_Some q k is)) refl
 at_is_text (q ∷ qs) (suc i) k is = elim (cases_Bool (bytes_eq q k)) [
   | inl same ↦ rw same refl
   | inr other ↦ rw other (at_is_text qs i k is)
@@ -74,14 +63,14 @@ gap_absent keys p at gap = not_text keys p differs
 -- texts in order
 all_at : (P : List ℕ → Type 0) (keys : List (List ℕ)) (i : ℕ) (q : List ℕ) → AllByRecursion P keys → slice_get keys i ≡ Some q → P q
 all_at P [] i q all is = absurd (none-some q is)
-all_at P (k ∷ ks) zero q all is = subst P (some_same k q is) all.0
+all_at P (k ∷ ks) zero q all is = subst P (same_Some k q is) all.0
 all_at P (k ∷ ks) (suc i) q all is = all_at P ks i q all.1 is
 
 pub ascend_at : (keys : List (List ℕ)) (i j : ℕ) (p q : List ℕ) → Ascend keys → i < j → slice_get keys i ≡ Some p → slice_get keys j ≡ Some q → IsBelow p q
 ascend_at [] i j p q up order first second = absurd (none-some p first)
 ascend_at (k ∷ ks) i zero p q up order first second = absurd (omega arith)
 ascend_at (k ∷ ks) zero (suc j) p q up order first second =
-    subst (λ t. IsBelow t q) (some_same k p first) (all_at (IsBelow k) ks j q up.0 second)
+    subst (λ t. IsBelow t q) (same_Some k p first) (all_at (IsBelow k) ks j q up.0 second)
 ascend_at (k ∷ ks) (suc i) (suc j) p q up order first second = ascend_at ks i j p q up.1 (omega arith) first second
 
 pub differ_at : (keys : List (List ℕ)) (i j : ℕ) (p q : List ℕ) → Ascend keys → i ≢ j → slice_get keys i ≡ Some p → slice_get keys j ≡ Some q → bytes_eq p q ≡ false
@@ -146,7 +135,7 @@ ascend-remove (k ∷ ks) (suc at) up = (all-remove (IsBelow k) ks at up.0, ascen
 pub text-remove_other : (keys : List (List ℕ)) (at : ℕ) (p q : List ℕ) → slice_get keys at ≡ Some p → bytes_eq p q ≡ false → is_text_of q (remove keys at) ≡ is_text_of q keys
 text-remove_other [] at p q is other = absurd (none-some p is)
 text-remove_other (k ∷ ks) zero p q is other =
-    let head : bytes_eq k q ≡ false = ap (λ t. bytes_eq t q) (some_same k p is) ∙ other in
+    let head : bytes_eq k q ≡ false = ap (λ t. bytes_eq t q) (same_Some k p is) ∙ other in
     rw head refl
 text-remove_other (k ∷ ks) (suc at) p q is other = ap (λ b. bytes_eq k q || b) (text-remove_other ks at p q is other)
 
@@ -158,7 +147,7 @@ all_other keys p all = not_text keys p (λ i q is. elim (same_text q p) [
 
 pub text-remove : (keys : List (List ℕ)) (at : ℕ) (p : List ℕ) → Ascend keys → slice_get keys at ≡ Some p → is_text_of p (remove keys at) ≡ false
 text-remove [] at p up is = absurd (none-some p is)
-text-remove (k ∷ ks) zero p up is = all_other ks p (subst (λ t. AllByRecursion (IsBelow t) ks) (some_same k p is) up.0)
+text-remove (k ∷ ks) zero p up is = all_other ks p (subst (λ t. AllByRecursion (IsBelow t) ks) (same_Some k p is) up.0)
 text-remove (k ∷ ks) (suc at) p up is =
     let head : bytes_eq k p ≡ false = differ_at (k ∷ ks) zero (suc at) k p up (λ same. omega arith) refl is in
     rw head (text-remove ks at p up.1 is)
@@ -178,7 +167,7 @@ pub map-set : {A B : Type 0} (f g : A → B) (xs : List A) (at : ℕ) (x : A) �
     ((i : ℕ) (y : A) → i ≢ at → slice_get xs i ≡ Some y → g y ≡ f y) → map g xs ≡ set (map f xs) at (g x)
 map-set f g [] at x is same = absurd (none-some x is)
 map-set f g (y ∷ ys) zero x is same =
-    rw (some_same y x is) (ap (λ t. g x ∷ t) (map_same f g ys (λ i z is. same (suc i) z (λ e. omega arith) is)))
+    rw (same_Some y x is) (ap (λ t. g x ∷ t) (map_same f g ys (λ i z is. same (suc i) z (λ e. omega arith) is)))
 map-set f g (y ∷ ys) (suc at) x is same =
     rw (same zero y (λ e. omega arith) refl) (ap (λ t. f y ∷ t) (map-set f g ys at x is (λ i z other is. same (suc i) z (λ e. other (omega arith)) is)))
 

@@ -1,12 +1,13 @@
 -- What is true of the marks of entries: what each gets from those that came before, under an append and a drop.
 use Rattle.std.proofs.Common.{◌≡◌, ℕ, zero, suc, ◌+◌, ◌-◌, ◌<◌, ◌≤◌, inl, inr, true, false, true≢false, List, [], ◌∷◌, ◌++◌, Some, length, map, set, take, slice_get, if◌then◌else◌, refl, sym, ap, subst, ◌∙◌, arith}
 use Rattle.std.proofs.lemmas.Bool.{false≢true, cases_Bool}
-use Rattle.std.proofs.lemmas.Option.{none-some}
+use Rattle.std.proofs.lemmas.Option.{none-some, same_Some}
 use Rattle.std.specs.Str.{bytes_eq}
-use Rattle.xmpp_archive.proofs.Keys.{equal_texts, same_text, some_same}
+use Rattle.xmpp_archive.proofs.Keys.{same_text}
 use Rattle.xmpp_archive.proofs.Linked.{IsBeside, first_beside, last_beside}
-use Rattle.xmpp_archive.specs.Chained.{AreBefore, Mark, count_of, first_number, is_text_of, last_number, link_or, mark_of, marked, marks}
+use Rattle.xmpp_archive.specs.Chained.{AreBefore, Mark, count_of, least_beside, is_text_of, greatest_beside, link_or, mark_of, marked, marks}
 use Rattle.xmpp_archive.specs.declared.chains.Link.{Link}
+use Rattle.xmpp_basis.proofs.Bytes.{bytes_eq-from_same}
 
 -- what the next entry with a peer gets behind these
 abbrev pub mark_after : ℕ → (List ℕ → Mark) → List ℕ → List (List ℕ) → Mark
@@ -20,7 +21,7 @@ marks-push n before (q ∷ qs) p = ap (λ t. before q ∷ t) (marks-push (suc n)
 -- the mark of an entry is what those in front of it left
 pub mark_at : (n : ℕ) (before : List ℕ → Mark) (ps : List (List ℕ)) (i : ℕ) (p : List ℕ) → slice_get ps i ≡ Some p → slice_get (marks n before ps) i ≡ Some (mark_after n before p (take i ps))
 mark_at n before [] i p is = absurd (none-some p is)
-mark_at n before (q ∷ qs) zero p is = ap (λ t. Some (before t)) (some_same q p is)
+mark_at n before (q ∷ qs) zero p is = ap (λ t. Some (before t)) (same_Some q p is)
 mark_at n before (q ∷ qs) (suc i) p is = mark_at (suc n) (marked n q before) qs i p is
 
 pub ordinal_after : (n : ℕ) (before : List ℕ → Mark) (q : List ℕ) (ps : List (List ℕ)) → (mark_after n before q ps).ordinal ≡ (before q).ordinal + count_of q ps
@@ -45,7 +46,7 @@ previous_none n before q (p ∷ ps) none = elim (cases_Bool (bytes_eq p q)) [
       previous_none (suc n) (marked n p before) q ps (rw other at none) ∙ first
 ]
 
-pub previous_some : (n : ℕ) (before : List ℕ → Mark) (q : List ℕ) (ps : List (List ℕ)) → is_text_of q ps ≡ true → (mark_after n before q ps).previous ≡ last_number q n ps
+pub previous_some : (n : ℕ) (before : List ℕ → Mark) (q : List ℕ) (ps : List (List ℕ)) → is_text_of q ps ≡ true → (mark_after n before q ps).previous ≡ greatest_beside q n ps
 previous_some n before q [] has = absurd (false≢true has)
 previous_some n before q (p ∷ ps) has = elim (cases_Bool (is_text_of q ps)) [
   | inl later ↦ rw later (previous_some (suc n) (marked n p before) q ps later)
@@ -63,7 +64,7 @@ previous_some n before q (p ∷ ps) has = elim (cases_Bool (is_text_of q ps)) [
 pub marks_same : (n : ℕ) (before other : List ℕ → Mark) (ps : List (List ℕ)) → ((q : List ℕ) → is_text_of q ps ≡ true → other q ≡ before q) → marks n other ps ≡ marks n before ps
 marks_same n before other [] same = refl
 marks_same n before other (p ∷ ps) same =
-    rw (same p (rw (equal_texts p p refl) refl), marks_same (suc n) (marked n p before) (marked n p other) ps later) refl
+    rw (same p (rw (bytes_eq-from_same p p refl) refl), marks_same (suc n) (marked n p before) (marked n p other) ps later) refl
   where
     later : (q : List ℕ) → is_text_of q ps ≡ true → marked n p other q ≡ marked n p before q
     later q has = elim (cases_Bool (bytes_eq p q)) [
@@ -85,7 +86,7 @@ marks-anew n before p ps none = marks_same n before (anew p before) ps same
     ]
 
 pub anew_after : (n : ℕ) (before : List ℕ → Mark) (p : List ℕ) (ps : List (List ℕ)) → is_text_of p ps ≡ false → mark_after n (anew p before) p ps ≡ record { previous = 0; ordinal = 0 }
-anew_after n before p ps none = previous_none n (anew p before) p ps none ∙ rw (equal_texts p p refl) refl
+anew_after n before p ps none = previous_none n (anew p before) p ps none ∙ rw (bytes_eq-from_same p p refl) refl
 
 -- what came before stays below the number
 pub anew_early : (n : ℕ) (before : List ℕ → Mark) (p : List ℕ) → AreBefore n before → AreBefore n (anew p before)
@@ -133,7 +134,7 @@ count_within p (q ∷ qs) = elim (cases_Bool (bytes_eq q p)) [
   | inr other ↦ rw other (omega (arith, count_within p qs))
 ]
 
-pub count_first : (p : List ℕ) (n : ℕ) (ps : List (List ℕ)) → is_text_of p ps ≡ true → count_of p (take (first_number p n ps - n) ps) ≡ 0
+pub count_first : (p : List ℕ) (n : ℕ) (ps : List (List ℕ)) → is_text_of p ps ≡ true → count_of p (take (least_beside p n ps - n) ps) ≡ 0
 count_first p n [] has = absurd (false≢true has)
 count_first p n (q ∷ qs) has = elim (cases_Bool (bytes_eq q p)) [
   | inl same ↦
@@ -141,17 +142,17 @@ count_first p n (q ∷ qs) has = elim (cases_Bool (bytes_eq q p)) [
       rw (same, place) refl
   | inr other ↦
       let later : is_text_of p qs ≡ true = rw other at has in
-      let beside : IsBeside p (first_number p (suc n) qs) (suc n) qs = first_beside p (suc n) qs later in
-      let place : first_number p (suc n) qs - n ≡ suc (first_number p (suc n) qs - suc n) = omega (arith, beside.low) in
+      let beside : IsBeside p (least_beside p (suc n) qs) (suc n) qs = first_beside p (suc n) qs later in
+      let place : least_beside p (suc n) qs - n ≡ suc (least_beside p (suc n) qs - suc n) = omega (arith, beside.low) in
       rw (other, place, other) (count_first p (suc n) qs later)
 ]
 
-pub count_last : (p : List ℕ) (n : ℕ) (ps : List (List ℕ)) → is_text_of p ps ≡ true → count_of p ps ≡ suc (count_of p (take (last_number p n ps - n) ps))
+pub count_last : (p : List ℕ) (n : ℕ) (ps : List (List ℕ)) → is_text_of p ps ≡ true → count_of p ps ≡ suc (count_of p (take (greatest_beside p n ps - n) ps))
 count_last p n [] has = absurd (false≢true has)
 count_last p n (q ∷ qs) has = elim (cases_Bool (is_text_of p qs)) [
   | inl later ↦
-      let beside : IsBeside p (last_number p (suc n) qs) (suc n) qs = last_beside p (suc n) qs later in
-      let place : last_number p (suc n) qs - n ≡ suc (last_number p (suc n) qs - suc n) = omega (arith, beside.low) in
+      let beside : IsBeside p (greatest_beside p (suc n) qs) (suc n) qs = last_beside p (suc n) qs later in
+      let place : greatest_beside p (suc n) qs - n ≡ suc (greatest_beside p (suc n) qs - suc n) = omega (arith, beside.low) in
       let rest = count_last p (suc n) qs later in
       elim (cases_Bool (bytes_eq q p)) [
         | inl same ↦ rw (later, place, same) (ap suc rest)

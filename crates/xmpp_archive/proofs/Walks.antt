@@ -2,14 +2,13 @@
 use Rattle.std.proofs.Common.{◌≡◌, ℕ, zero, suc, ◌+◌, ◌-◌, ◌<◌, ◌≤◌, Bool, true, false, ◌&&◌, List, [], ◌∷◌, Some, length, map, slice_get, slice_index, ltb, refl, sym, ap, ◌∙◌, arith, inl, inr}
 use Rattle.std.proofs.lemmas.Bool.{cases_Bool, ne_eqb}
 use Rattle.std.proofs.lemmas.Bool.Decides.{nat_tests}
-use Rattle.std.proofs.lemmas.Option.{none-some}
+use Rattle.std.proofs.lemmas.Option.{none-some, same_Some}
 use Rattle.std.proofs.lemmas.Slice.Eq.{bytes_eq-Decides}
 use Rattle.std.specs.List.{filter, find}
 use Rattle.std.specs.Option.{option_map}
 use Rattle.std.specs.Str.{bytes_eq}
-use Rattle.xmpp_archive.proofs.Keys.{some_same}
 use Rattle.xmpp_archive.proofs.NumberedEntries.{FollowFrom, entry_at, follow_at, follow_numbered}
-use Rattle.xmpp_archive.specs.Chained.{first_number, next_numbers, some_number}
+use Rattle.xmpp_archive.specs.Chained.{least_beside, next_numbers, some_number}
 use Rattle.xmpp_archive.specs.Entries.{AreNumbered, EntryView, entry_numbered}
 use Rattle.xmpp_archive.specs.Peers.{chain_of, first_of, is_with, next_of, peer_of}
 
@@ -20,7 +19,7 @@ pub some_number-positive : (n : ℕ) → 1 ≤ n → some_number n ≡ Some n
 some_number-positive n low = rw (ne_eqb n 0 (λ none. omega arith)) refl
 
 pub first_is : (key : EntryView → List ℕ) (peer : List ℕ) (n : ℕ) (es : List EntryView) → FollowFrom n es → 1 ≤ n →
-    option_map (λ e. e.number) (find (λ e. bytes_eq (key e) peer) es) ≡ some_number (first_number peer n (map key es))
+    option_map (λ e. e.number) (find (λ e. bytes_eq (key e) peer) es) ≡ some_number (least_beside peer n (map key es))
 first_is key peer n [] follow low = refl
 first_is key peer n (e ∷ es) follow low = elim (cases_Bool (bytes_eq (key e) peer)) [
   | inl same ↦ rw same (ap Some follow.0 ∙ sym (some_number-positive n low))
@@ -44,7 +43,7 @@ pub next_is : (key : EntryView → List ℕ) (n i : ℕ) (es : List EntryView) (
     option_map (λ f. f.number) (find (λ f. ltb e.number f.number && bytes_eq (key f) (key e)) es) ≡ some_number (slice_index (next_numbers n (map key es)) i)
 next_is key n i [] e follow low is = absurd (none-some e is)
 next_is key n zero (f ∷ es) e follow low is =
-    let same : f ≡ e = some_same f e is in
+    let same : f ≡ e = same_Some f e is in
     let number : e.number ≡ n = sym (ap number_of same) ∙ follow.0 in
     let here : f.number ≤ e.number = omega (arith, follow.0) in
     let skipped = find_skip (λ g. bytes_eq (key g) (key e)) e.number f es here in
@@ -56,7 +55,7 @@ next_is key n (suc i) (f ∷ es) e follow low is =
     rw (find_skip (λ g. bytes_eq (key g) (key e)) e.number f es here) (next_is key (suc n) i es e follow.1 (omega arith) is)
 
 pub first_of_is : (owner peer : List ℕ) (n : ℕ) (es : List EntryView) → FollowFrom n es → 1 ≤ n →
-    first_of owner peer es ≡ some_number (first_number peer n (map (peer_of owner) es))
+    first_of owner peer es ≡ some_number (least_beside peer n (map (peer_of owner) es))
 first_of_is owner peer n es follow low = first_is (peer_of owner) peer n es follow low
 
 pub next_of_is : (owner : List ℕ) (n m i : ℕ) (es : List EntryView) (e : EntryView) → FollowFrom n es → 1 ≤ n → m ≡ n + i → slice_get es i ≡ Some e →
@@ -101,7 +100,7 @@ step_at t s i (f ∷ es) e follow is = elim (cases_Bool (t f)) [
   where
     here : (j : ℕ) → ((k : ℕ) → slice_get (filter t es) k ≡ Some e → IsStep t (suc s) k es e) → t f ≡ true → slice_get (f ∷ filter t es) j ≡ Some e → IsStep t s j (f ∷ es) e
     here zero steps passes is =
-        let same : f ≡ e = some_same f e is in
+        let same : f ≡ e = same_Some f e is in
         let number : e.number ≡ s = sym (ap number_of same) ∙ follow.0 in
         let low : f.number ≤ e.number = omega (arith, follow.0) in
         let place : e.number - s ≡ zero = omega arith in

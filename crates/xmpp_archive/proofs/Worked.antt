@@ -3,22 +3,23 @@ use Rattle.std.proofs.Common.{◌≡◌, ℕ, true, false, [], ◌∷◌, List, 
 use Rattle.std.specs.Prelude.{codes}
 use Rattle.xmpp_archive.specs.Entries.{EntryView, entry_numbered, newest}
 use Rattle.xmpp_archive.specs.Ids.{id_of}
+use Rattle.xmpp_basis.specs.Hexadecimal.{hex16_of}
 use Rattle.xmpp_archive.specs.Peers.{bare_form, chain_ends, first_of, index_of, next_of, peer_of, previous_of}
 
 first_id : id_of 1 ≡ codes "0000000000000001"
-unfolding id_of
+unfolding hex16_of
 first_id = refl
 
 hundredth_id : id_of 100 ≡ codes "0000000000000064"
-unfolding id_of
+unfolding hex16_of
 hundredth_id = refl
 
 last_id : id_of 4294967295 ≡ codes "00000000ffffffff"
-unfolding id_of
+unfolding hex16_of
 last_id = refl
 
 highest_id : id_of 18446744073709551615 ≡ codes "ffffffffffffffff"
-unfolding id_of
+unfolding hex16_of
 highest_id = refl
 
 abbrev entry : ℕ → EntryView

@@ -1,5 +1,6 @@
 -- Entries and archives (XEP-0313, "Message Archive Management").
 use Rattle.std.specs.Prelude.{◌≡◌, ℕ, ◌+◌, ◌-◌, ◌≤◌, ◌==◌, Bool, List, Option, Some, find, slice_get, length, drop}
+use Rattle.xmpp_archive.specs.declared.archive.TheConstants.{GREATEST_NUMBER}
 use Rattle.xmpp_archive.specs.declared.entry.Body.{Body}
 
 -- one message of an account's history: its number, when it was taken (milliseconds since 1970), the addresses
@@ -38,7 +39,7 @@ pub record AreKept (keep last : ℕ) (entries : List EntryView) : Type 0 where
   pub some : 1 ≤ keep
   pub few : length entries ≤ keep
   pub within : length entries ≤ last
-  pub most : last ≤ 4294967295
+  pub most : last ≤ GREATEST_NUMBER
   pub none : length entries ≡ 0 → last ≡ 0
 
 -- the newest so many of a list

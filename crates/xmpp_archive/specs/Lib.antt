@@ -1,6 +1,8 @@
 pub use Rattle.xmpp_edge.specs.Listed
-pub mod Chained
+-- ---- what an archive is, which its public clauses cite
 pub mod Entries
 pub mod Ids
 pub mod Peers
+-- ---- what the private code keeps beside the entries
+pub mod Chained
 pub mod Rooms

@@ -37,14 +37,14 @@ next_of owner n entries =
     (entry_numbered n entries)
 
 -- the last entry of a list
-abbrev pub last_of : List EntryView → Option EntryView
-last_of entries = slice_get entries (length entries - 1)
+abbrev pub last_entry : List EntryView → Option EntryView
+last_entry entries = slice_get entries (length entries - 1)
 
 -- the numbers of the first and of the last of these entries, and how many there are; none where there is no entry
 abbrev pub ends_of : List EntryView → Option Chain
 ends_of chain =
     option_and_then
-    (λ e. option_map (λ f. record { first = e.number; last = f.number; count = length chain }) (last_of chain))
+    (λ e. option_map (λ f. record { first = e.number; last = f.number; count = length chain }) (last_entry chain))
     (slice_get chain 0)
 
 -- the same of the entries with a peer
@@ -59,7 +59,7 @@ chain_below owner peer n entries = filter (λ f. nat_lt f.number n) (chain_of ow
 abbrev pub previous_of : List ℕ → ℕ → List EntryView → Option ℕ
 previous_of owner n entries =
     option_and_then
-    (λ e. option_map (λ f. f.number) (last_of (chain_below owner (peer_of owner e) n entries)))
+    (λ e. option_map (λ f. f.number) (last_entry (chain_below owner (peer_of owner e) n entries)))
     (entry_numbered n entries)
 
 -- how many entries below a number have the same peer as the entry with that number

@@ -1,4 +1,5 @@
-ghost use Rattle.std.specs.Prelude.{◌≡◌, ◌+◌, ◌-◌, ◌<◌, ◌≤◌, ◌↔◌, ◌⊎◌, ◌∷◌, [], ◌++◌, length, map, slice_get, IfSome, IfNone, IsNone, IsErrOf, OnOk, IsTrue};
+//! An account's archive (XEP-0313).
+ghost use Rattle.std.specs.Prelude.{◌≡◌, ◌+◌, ◌-◌, ◌<◌, ◌≤◌, ◌↔◌, ◌⊎◌, ◌∷◌, [], ◌++◌, length, map, drop, slice_get, IfSome, IfNone, IsNone, IsErrOf, OnOk, IsTrue};
 ghost use Rattle.std.specs.Option.{option_copied};
 ghost use Rattle.std.specs.VecDeque.{deque_len, deque_capacity};
 ghost use Rattle.xmpp_archive.specs.Chained.{IsChained};
@@ -82,6 +83,14 @@ impl From<NoMemory> for ArchiveFault {
     }
 }
 
+/// Drops the first entry.
+fn drop_oldest(entries: &mut VecDeque<Entry>)
+    ensures entries { entries.new.items ≡ drop 1 entries.old.items }
+    ensures spare { deque_capacity entries.old - deque_len entries.old ≤ deque_capacity entries.new - deque_len entries.new }
+{
+    let _oldest = entries.pop_front();
+}
+
 /// Drops the oldest entry where as many are there as are kept, to make place for the one with the next number.
 fn make_place(owner: &str, entries: &mut VecDeque<Entry>, links: &mut Links, keep: u32, next: u64)
     requires kept { AreKept keep (next - 1) entries.old.items }
@@ -95,7 +104,7 @@ fn make_place(owner: &str, entries: &mut VecDeque<Entry>, links: &mut Links, kee
     let count = entries.len() as u64;
     if count == u64::from(keep) {
         links.unlink_first(owner, entries, next - count);
-        let _oldest = entries.pop_front();
+        drop_oldest(entries);
     }
 }
 
@@ -145,6 +154,14 @@ impl Archive {
         self.last
     }
 
+    /// The number of the first entry that is kept, or 1 where no entry came yet.
+    pub fn first(&self) -> u64
+        ensures first { result ≡ self.now.last + 1 - length self.now.entries }
+        ensures kept { AreKept self.now.keep self.now.last self.now.entries }
+    {
+        self.last + 1 - self.entries.len() as u64
+    }
+
     /// How many entries are kept.
     pub fn len(&self) -> u64
         ensures entries { result ≡ length self.now.entries }
@@ -160,13 +177,13 @@ impl Archive {
         self.entries.is_empty()
     }
 
-    // The place of a number among the kept entries.
+    /// The place of a number among the kept entries.
     fn place(&self, number: u64) -> Option<usize>
         ensures some { IfSome result (λ at. (at < length self.now.entries) × (number + length self.now.entries ≡ self.now.last + 1 + at)) }
         ensures none { IfNone result ((number + length self.now.entries ≤ self.now.last) ⊎ (self.now.last < number)) }
         ensures kept { AreKept self.now.keep self.now.last self.now.entries }
     {
-        let first = self.last + 1 - self.entries.len() as u64;
+        let first = self.first();
         if number > self.last {
             return None;
         }
@@ -187,9 +204,8 @@ impl Archive {
     pub fn first_of(&self, peer: &str) -> Option<u64>
         ensures { result ≡ first_of self.now.owner peer.now self.now.entries }
     {
-        let first = self.last + 1 - self.entries.len() as u64;
         self.links
-            .first_of(self.owner.as_str(), &self.entries, first, peer)
+            .first_of(self.owner.as_str(), &self.entries, self.first(), peer)
     }
 
     /// The least number above this one of a kept entry with the same peer as the entry with this number. `None` where
@@ -205,9 +221,8 @@ impl Archive {
     pub fn chain(&self, peer: &str) -> Option<Chain>
         ensures { result ≡ chain_ends self.now.owner peer.now self.now.entries }
     {
-        let first = self.last + 1 - self.entries.len() as u64;
         self.links
-            .chain(self.owner.as_str(), &self.entries, first, peer)
+            .chain(self.owner.as_str(), &self.entries, self.first(), peer)
     }
 
     /// The greatest number below this one of a kept entry with the same peer as the entry with this number. `None`
@@ -215,8 +230,7 @@ impl Archive {
     pub fn previous_of(&self, number: u64) -> Option<u64>
         ensures { result ≡ previous_of self.now.owner number self.now.entries }
     {
-        let first = self.last + 1 - self.entries.len() as u64;
-        self.links.previous_at(first, self.place(number)?)
+        self.links.previous_at(self.first(), self.place(number)?)
     }
 
     /// How many kept entries with the same peer stand before the entry with this number, which is its place in its
@@ -224,11 +238,10 @@ impl Archive {
     pub fn index_of(&self, number: u64) -> Option<u64>
         ensures { result ≡ index_of self.now.owner number self.now.entries }
     {
-        let first = self.last + 1 - self.entries.len() as u64;
         let at = self.place(number)?;
         Some(
             self.links
-                .index_at(self.owner.as_str(), &self.entries, first, at),
+                .index_at(self.owner.as_str(), &self.entries, self.first(), at),
         )
     }
 

@@ -3,7 +3,7 @@
 //! so that no text is copied.
 ghost use Rattle.std.specs.Prelude.{◌≡◌, ℕ, ◌+◌, ◌-◌, ◌<◌, ◌≤◌, List, [], ◌∷◌, ◌++◌, Some, map, take, drop, set, length, slice_get, IfOk, IfErr, OnOk};
 ghost use Rattle.std.specs.List.{insert};
-ghost use Rattle.xmpp_archive.specs.Chained.{AreChains, IsChained, IsGap, chain_or, count_of, extended, first_number, kept_number, link_or, moved_on, some_chain, some_number};
+ghost use Rattle.xmpp_archive.specs.Chained.{AreChains, IsChained, IsGap, chain_or, count_of, extended, least_beside, kept_number, link_or, moved_on, some_chain, some_number};
 ghost use Rattle.xmpp_archive.specs.Rooms.{room_of};
 ghost use Rattle.xmpp_archive.specs.Peers.{peer_of};
 
@@ -68,7 +68,7 @@ impl Links {
         Ok(())
     }
 
-    // The peer of the chain at a place.
+    /// The peer of the chain at a place.
     fn peer_at<'a>(
         &self,
         owner: &str,
@@ -124,7 +124,7 @@ impl Links {
     ) -> Option<u64>
         requires linked { IsChained first (map (peer_of owner.now) entries.now.items) self.now.links.items self.now.chains.items }
         requires positive { 1 ≤ first }
-        ensures { result ≡ some_number (first_number peer.now first (map (peer_of owner.now) entries.now.items)) }
+        ensures { result ≡ some_number (least_beside peer.now first (map (peer_of owner.now) entries.now.items)) }
     {
         match self.search(owner, entries, first, peer) {
             Ok(at) => Some(self.chains[at].first),
@@ -218,7 +218,7 @@ impl Links {
         }
     }
 
-    // Puts an entry's number and link at the end of the chain at a place.
+    /// Puts an entry's number and link at the end of the chain at a place.
     fn extend(&mut self, first: u64, at: usize, number: u64)
         requires there { at < length self.old.chains.items }
         requires place { (first ≤ (chain_or self.old.chains.items at).last) × ((chain_or self.old.chains.items at).last < first + length self.old.links.items) }
@@ -240,7 +240,7 @@ impl Links {
         });
     }
 
-    // Puts a chain of one entry at a place, and the link of that entry at the end.
+    /// Puts a chain of one entry at a place, and the link of that entry at the end.
     fn begin(&mut self, at: usize, number: u64)
         requires there { at ≤ length self.old.chains.items }
         requires room { 1 ≤ room_of self.old }
@@ -277,7 +277,7 @@ impl Links {
         self.move_on(at);
     }
 
-    // Drops the first link, and moves the chain at a place on to it, or removes the chain where the link was to none.
+    /// Drops the first link, and moves the chain at a place on to it, or removes the chain where the link was to none.
     fn move_on(&mut self, at: usize)
         requires there { at < length self.old.chains.items }
         requires some { 0 < length self.old.links.items }

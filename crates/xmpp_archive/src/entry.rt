@@ -1,4 +1,5 @@
-ghost use Rattle.std.specs.Prelude.{◌≡◌, IfOk};
+//! A message in an archive (XEP-0313).
+ghost use Rattle.std.specs.Prelude.{◌≡◌};
 ghost use Rattle.xmpp_archive.specs.Peers.{peer_of};
 
 use crate::peers::bare_form;
@@ -6,7 +7,7 @@ use std::alloc::Global;
 use std::marker::Model;
 use xmpp_edge::{Copied, ListOf, NoMemory, Text};
 
-/// A body of a message, in a language (RFC 6121 section 5.2.3). Without a language `lang` is empty.
+/// A body of a message, in a language (RFC 6121, section 5.2.3). Without a language `lang` is empty.
 #[derive(Drop)]
 pub struct Body {
     pub lang: Text,
@@ -39,6 +40,9 @@ pub struct Entry {
     pub bodies: Bodies,
 }
 
+/// Entries, in order.
+pub type Entries = ListOf<Entry>;
+
 impl Model for Entry {
     ghost use Rattle.xmpp_archive.specs.Entries.{EntryView};
 
@@ -60,11 +64,10 @@ impl Entry {
             from
         }
     }
+}
 
-    /// An equal entry, in memory of its own.
-    pub fn copy(&self, alloc: Global) -> Result<Entry, NoMemory>
-        ensures { IfOk result (λ e. e ≡ self.now) }
-    {
+impl Copied for Entry {
+    fn copied(&self, alloc: Global) -> Result<Entry, NoMemory> {
         Ok(Entry {
             number: self.number,
             stamp: self.stamp,

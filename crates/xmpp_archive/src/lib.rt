@@ -6,12 +6,12 @@ mod archive;
 mod chains;
 mod entry;
 mod ids;
+mod laws;
 mod peers;
-#[cfg(test)]
-mod tests;
 
 pub use archive::{Archive, ArchiveFault, GREATEST_NUMBER};
 pub use chains::Chain;
-pub use entry::{Bodies, Body, Entry};
-pub use ids::{id_is_text, id_of_number, id_text, ids_differ, number_of};
-pub use peers::{bare_form, chain_is_walked};
+pub use entry::{Bodies, Body, Entries, Entry};
+pub use ids::{id_of_number, id_text, number_of};
+pub use laws::{chain_is_walked, entries_are_kept, id_is_text, ids_differ};
+pub use peers::bare_form;

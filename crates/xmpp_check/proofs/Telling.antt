@@ -7,9 +7,9 @@ use Rattle.xmpp_framing.specs.Machine.{HasFault, run}
 use Rattle.xmpp_framing.specs.Limits.{server_limits}
 use Rattle.xmpp_framing.specs.States.{State, Turn, from_start, turn}
 use Rattle.xmpp_framing.specs.declared.limits.Limits.{Limits}
-use Rattle.xmpp_framing.specs.declared.faults.Fault.{Fault}
-use Rattle.xmpp_framing.specs.declared.faults.FeedFault.{FeedFault}
-use Rattle.xmpp_framing.specs.declared.faults.FeedFault.TheVariants as feed
+use Rattle.xmpp_framing.specs.declared.fault.Fault.{Fault}
+use Rattle.xmpp_framing.specs.declared.fault.FeedFault.{FeedFault}
+use Rattle.xmpp_framing.specs.declared.fault.FeedFault.TheVariants as feed
 use Rattle.xmpp_framing.specs.declared.items.Item.{Item}
 
 pub behind_append : (a b : List ℕ) (r : Told) → told_behind (a ++ b) r ≡ told_behind a (told_behind b r)

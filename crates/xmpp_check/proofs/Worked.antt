@@ -4,7 +4,7 @@ use Rattle.std.specs.Fmt.{digits}
 use Rattle.xmpp_tokens.specs.Spelling.{text_byte, value_byte}
 use Rattle.xmpp_tokens.specs.Utf8.{utf8_next}
 use Rattle.xmpp_names.specs.declared.headers.Header.{Header}
-use Rattle.xmpp_framing.specs.Canon.{assignment, client_namespace, streams_namespace}
+use Rattle.xmpp_writer.specs.Canon.{assignment, client_namespace, streams_namespace}
 use Rattle.xmpp_framing.specs.Limits.{server_limits}
 use Rattle.xmpp_framing.specs.Machine.{goes_on, is_too_long, part_of, taken}
 use Rattle.xmpp_framing.specs.MarkupSteps.{in_bang}

@@ -5,7 +5,7 @@ use Rattle.xmpp_check.specs.Lines.{end_line, fault_line, item_line, strange_at, 
 use Rattle.xmpp_framing.specs.Limits.{server_limits}
 use Rattle.xmpp_framing.specs.Machine.{part_of, run}
 use Rattle.xmpp_framing.specs.States.{State, Turn, from_start, turn}
-use Rattle.xmpp_framing.specs.declared.faults.Fault.{Fault}
+use Rattle.xmpp_framing.specs.declared.fault.Fault.{Fault}
 use Rattle.xmpp_framing.specs.declared.items.Item.{Item}
 
 -- the lines, and whether nothing is wrong

@@ -3,9 +3,9 @@ use Rattle.std.specs.Prelude.{ℕ, ◌&&◌, Bool, if◌then◌else◌, List, []
 use Rattle.std.specs.Fmt.{decimal}
 use Rattle.std.specs.Str.{bytes_eq}
 use Rattle.xmpp_names.specs.declared.headers.Header.{Header}
-use Rattle.xmpp_framing.specs.Canon.{canon, client_namespace, streams_namespace, written_footer, written_header}
-use Rattle.xmpp_framing.specs.declared.faults.Why.{Why}
-use Rattle.xmpp_framing.specs.declared.faults.Why.TheVariants as why
+use Rattle.xmpp_writer.specs.Canon.{canon, client_namespace, streams_namespace, written_footer, written_header}
+use Rattle.xmpp_framing.specs.declared.fault.Why.{Why}
+use Rattle.xmpp_framing.specs.declared.fault.Why.TheVariants as why
 use Rattle.xmpp_framing.specs.declared.items.Item.{Item}
 use Rattle.xmpp_framing.specs.declared.items.Item.TheVariants as item
 

@@ -4,7 +4,5 @@
 
 mod checking;
 mod lines;
-#[cfg(test)]
-mod tests;
 
 pub use checking::{Checked, check};

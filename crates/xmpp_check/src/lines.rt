@@ -5,8 +5,9 @@ ghost use Rattle.xmpp_check.specs.Lines.{end_line, fault_line, item_line, is_of_
 
 use std::alloc::Global;
 use xmpp_edge::{Bytes, NoMemory};
-use xmpp_framing::{Item, Why, write, write_footer, write_header};
+use xmpp_framing::{Item, Why};
 use xmpp_names::Header;
+use xmpp_writer::{write, write_footer, write_header};
 
 /// The namespace of a header (RFC 6120, section 4.8.1).
 const STREAMS_NAMESPACE: &str = "http://etherx.jabber.org/streams";

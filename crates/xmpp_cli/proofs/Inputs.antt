@@ -1,13 +1,14 @@
 -- What is said of the bytes that were read, said of the bytes that the source tells.
-use Rattle.std.proofs.Common.{◌≡◌, ℕ, Bool, true, false, ◌≤◌, List, length, Option, Some, None, Result, Ok, Err, IfOk, IfSome, ◌⊎◌, inl, inr, sym, ◌∙◌, subst}
+use Rattle.std.proofs.Common.{◌≡◌, ◌≢◌, ℕ, Bool, true, false, ◌≤◌, List, length, Option, Some, None, Result, Ok, Err, IfOk, IfSome, sym, ◌∙◌, subst}
 use Rattle.std.specs.Io.KnownBytes.{IsAtEnd}
 use Rattle.xmpp_edge.specs.declared.whole_reads.TheConstants.{MOST_BYTES_READ}
-use Rattle.xmpp_cli.specs.Table.{IsReplayed, IsRefusal, IsRefused, IsChecked, IsReadWhole, IsDone, Due}
+use Rattle.xmpp_cli.specs.Words.{reads}
+use Rattle.xmpp_cli.specs.Table.{IsReplayed, IsRefusal, IsRefused, IsChecked, IsReadWhole, IsDone, IsAnswer, IsDueOf, Due}
 use Rattle.xmpp_cli.specs.declared.answering.Answer.{Answer}
 use Rattle.xmpp_cli.specs.declared.command.Command.{Command}
-use Rattle.xmpp_cli.specs.declared.command.Command.TheVariants.{Replay, Check}
+use Rattle.xmpp_cli.specs.declared.command.Command.TheVariants.{Help, Version, Replay, Check}
 use Rattle.xmpp_cli.specs.declared.outcome.Outcome.{Outcome}
-use Rattle.xmpp_cli.specs.declared.outcome.Outcome.TheVariants.{Done, Refused}
+use Rattle.xmpp_cli.specs.declared.outcome.Outcome.TheVariants.{Done, WrongWords, Refused, ReadFault, TooLong}
 
 replayed_of_known : (input : List ℕ) (known : Option (List ℕ)) (text : List ℕ) → IfSome known (λ all. input ≡ all) → IsReplayed (Some input) text → IsReplayed known text
 replayed_of_known input None text same (schedule, report, is, spelled, of, due) = (schedule, report, is, tt, of, due)
@@ -22,6 +23,18 @@ checked_of_known : (sound : Bool) (input : List ℕ) (known : Option (List ℕ))
 checked_of_known sound input None text same (stream, is, whether, due) = (stream, tt, whether, due)
 checked_of_known sound input (Some all) text same checked = subst (λ bytes. IsChecked sound (Some bytes) text) same checked
 
+done_of_known : (command : Command) (input : List ℕ) (known : Option (List ℕ)) (text : List ℕ) → IfSome known (λ all. input ≡ all) → IsDone command (Some input) text → IsDone command known text
+done_of_known Help input known text same done = done
+done_of_known Version input known text same done = done
+done_of_known Replay input known text same done = replayed_of_known input known text same done
+done_of_known Check input known text same done = checked_of_known true input known text same done
+
+refused_of_known : (command : Command) (input : List ℕ) (known : Option (List ℕ)) (text : List ℕ) → IfSome known (λ all. input ≡ all) → IsRefused command (Some input) text → IsRefused command known text
+refused_of_known Help input known text same refused = refused
+refused_of_known Version input known text same refused = refused
+refused_of_known Replay input known text same refused = refusal_of_known input known text same refused
+refused_of_known Check input known text same refused = checked_of_known false input known text same refused
+
 -- what was seen is what was read, and so what the source tells
 known_as_seen : (seen input : List ℕ) (known : Option (List ℕ)) → seen ≡ input → IfSome known (λ all. input ≡ all) → IfSome known (λ all. seen ≡ all)
 known_as_seen seen input None e same = tt
@@ -31,50 +44,52 @@ short_as_read : (input : List ℕ) (known : Option (List ℕ)) → IfSome known 
 short_as_read input None same short = tt
 short_as_read input (Some all) same short = subst (λ bytes. length bytes ≤ MOST_BYTES_READ) same short
 
-done_replay : (known left : Option (List ℕ)) (text : List ℕ) → IsReplayed known text → IsReadWhole known left → IsDone (Some Replay) known left text
-done_replay known left text replayed whole =
-    record { in_table = λ e. cc; help = λ e. cc; version = λ e. cc; replay = λ e. (replayed, whole); check = λ e. cc }
+-- an answer to what was seen is due of what the source tells
+due_of_answer : (command : Command) (seen : List ℕ) (known left : Option (List ℕ)) (rose : Type 0) (outcome : Outcome) (text : List ℕ)
+    → IfSome known (λ all. seen ≡ all) → IsReadWhole known left → IsAnswer command (Some seen) outcome text → IsDueOf command known left rose outcome text
+due_of_answer command seen known left rose Done text same whole answer = (done_of_known command seen known text same answer, λ e. whole)
+due_of_answer command seen known left rose Refused text same whole answer = (refused_of_known command seen known text same answer, λ e. whole)
+due_of_answer command seen known left rose WrongWords text same whole answer = absurd answer
+due_of_answer command seen known left rose ReadFault text same whole answer = absurd answer
+due_of_answer command seen known left rose TooLong text same whole answer = absurd answer
 
-done_check : (known left : Option (List ℕ)) (text : List ℕ) → IsChecked true known text → IsReadWhole known left → IsDone (Some Check) known left text
-done_check known left text checked whole =
-    record { in_table = λ e. cc; help = λ e. cc; version = λ e. cc; replay = λ e. cc; check = λ e. (checked, whole) }
-
--- it was done or refused
-due_of_either : (command : Option Command) (known left : Option (List ℕ)) (rose : Type 0) (outcome : Outcome) (text : List ℕ)
-    → (outcome ≡ Done) ⊎ (outcome ≡ Refused)
-    → (outcome ≡ Done → IsDone command known left text) → (outcome ≡ Refused → IsRefused command known text × IsReadWhole known left)
-    → Due command known left rose outcome text
-due_of_either command known left rose outcome text (inl e) done refused = subst (λ o. Due command known left rose o text) (sym e) (done e)
-due_of_either command known left rose outcome text (inr e) done refused = subst (λ o. Due command known left rose o text) (sym e) (refused e)
-
--- the answer to what was read as a schedule is due
-pub due_of_schedule : {E : Type 0} (result : Result Answer E) (seen input : List ℕ) (known left : Option (List ℕ)) (rose : Type 0)
+-- the answer to what was read whole is due
+pub due_of_read : {E : Type 0} (result : Result Answer E) (command : Command) (seen input : List ℕ) (known left : Option (List ℕ)) (rose : Type 0)
     → seen ≡ input → IfSome known (λ all. input ≡ all) → length input ≤ MOST_BYTES_READ → IsAtEnd left
-    → IfOk result (λ answer. (answer.outcome ≡ Done) ⊎ (answer.outcome ≡ Refused))
-    → IfOk result (λ answer. answer.outcome ≡ Done → IsReplayed (Some seen) answer.text.items)
-    → IfOk result (λ answer. answer.outcome ≡ Refused → IsRefusal (Some seen) answer.text.items)
-    → IfOk result (λ answer. Due (Some Replay) known left rose answer.outcome answer.text.items)
-due_of_schedule (Ok answer) seen input known left rose e same short ended which done refused =
-    let whole : IsReadWhole known left = record { ended = ended; short = short_as_read input known same short } in
-    let text = answer.text.items in
-    let as_seen = known_as_seen seen input known e same in
-    due_of_either (Some Replay) known left rose answer.outcome text which
-    (λ is. done_replay known left text (replayed_of_known seen known text as_seen (done is)) whole)
-    (λ is. (refusal_of_known seen known text as_seen (refused is), whole))
-due_of_schedule (Err _) seen input known left rose e same short ended which done refused = tt
+    → IfOk result (λ answer. IsAnswer command (Some seen) answer.outcome answer.text.items)
+    → IfOk result (λ answer. Due (Some command) known left rose answer.outcome answer.text.items)
+due_of_read (Ok answer) command seen input known left rose e same short ended is =
+    due_of_answer command seen known left rose answer.outcome answer.text.items (known_as_seen seen input known e same)
+    (record { ended = ended; short = short_as_read input known same short }) is
+due_of_read (Err _) command seen input known left rose e same short ended is = tt
 
--- the answer to what was read as a stream is due
-pub due_of_stream : {E : Type 0} (result : Result Answer E) (seen input : List ℕ) (known left : Option (List ℕ)) (rose : Type 0)
-    → seen ≡ input → IfSome known (λ all. input ≡ all) → length input ≤ MOST_BYTES_READ → IsAtEnd left
-    → IfOk result (λ answer. (answer.outcome ≡ Done) ⊎ (answer.outcome ≡ Refused))
-    → IfOk result (λ answer. answer.outcome ≡ Done → IsChecked true (Some seen) answer.text.items)
-    → IfOk result (λ answer. answer.outcome ≡ Refused → IsChecked false (Some seen) answer.text.items)
-    → IfOk result (λ answer. Due (Some Check) known left rose answer.outcome answer.text.items)
-due_of_stream (Ok answer) seen input known left rose e same short ended which done refused =
-    let whole : IsReadWhole known left = record { ended = ended; short = short_as_read input known same short } in
-    let text = answer.text.items in
-    let as_seen = known_as_seen seen input known e same in
-    due_of_either (Some Check) known left rose answer.outcome text which
-    (λ is. done_check known left text (checked_of_known true seen known text as_seen (done is)) whole)
-    (λ is. (checked_of_known false seen known text as_seen (refused is), whole))
-due_of_stream (Err _) seen input known left rose e same short ended which done refused = tt
+-- a command that does not read has the same answer whatever the input is
+unread_done : (command : Command) (seen : List ℕ) (known : Option (List ℕ)) (text : List ℕ) → reads (Some command) ≡ false → IsDone command (Some seen) text → IsDone command known text
+unread_done Help seen known text e done = done
+unread_done Version seen known text e done = done
+unread_done Replay seen known text e done = absurd (cc)
+unread_done Check seen known text e done = absurd (cc)
+
+unread_refused : (command : Command) (seen : List ℕ) (known : Option (List ℕ)) (text : List ℕ) → reads (Some command) ≡ false → IsRefused command (Some seen) text → IsRefused command known text
+unread_refused Help seen known text e refused = refused
+unread_refused Version seen known text e refused = refused
+unread_refused Replay seen known text e refused = absurd (cc)
+unread_refused Check seen known text e refused = absurd (cc)
+
+unread_whole : {P : Type 0} (command : Command) → reads (Some command) ≡ false → reads (Some command) ≡ true → P
+unread_whole command e is = let both : false ≡ true = sym e ∙ is in absurd (cc)
+
+unread_due : (command : Command) (seen : List ℕ) (known left : Option (List ℕ)) (rose : Type 0) (outcome : Outcome) (text : List ℕ)
+    → reads (Some command) ≡ false → IsAnswer command (Some seen) outcome text → IsDueOf command known left rose outcome text
+unread_due command seen known left rose Done text e answer = (unread_done command seen known text e answer, unread_whole command e)
+unread_due command seen known left rose Refused text e answer = (unread_refused command seen known text e answer, unread_whole command e)
+unread_due command seen known left rose WrongWords text e answer = absurd answer
+unread_due command seen known left rose ReadFault text e answer = absurd answer
+unread_due command seen known left rose TooLong text e answer = absurd answer
+
+-- the answer of a command that does not read is due
+pub due_unread : {E : Type 0} (result : Result Answer E) (command : Command) (seen : List ℕ) (known left : Option (List ℕ)) (rose : Type 0)
+    → reads (Some command) ≡ false → IfOk result (λ answer. IsAnswer command (Some seen) answer.outcome answer.text.items)
+    → IfOk result (λ answer. Due (Some command) known left rose answer.outcome answer.text.items)
+due_unread (Ok answer) command seen known left rose e is = unread_due command seen known left rose answer.outcome answer.text.items e is
+due_unread (Err _) command seen known left rose e is = tt

@@ -1,17 +1,19 @@
 -- When each answer comes, and the text that is due with it.
-use Rattle.std.specs.Prelude.{◌≡◌, ◌≢◌, ℕ, ◌<◌, ◌≤◌, ◌==◌, Bool, true, false, ◌||◌, List, length, Option, Some, None, Err, IfSome}
+use Rattle.std.specs.Prelude.{◌≡◌, ◌≢◌, ℕ, ◌<◌, ◌≤◌, ◌==◌, Bool, true, false, ◌||◌, List, length, Option, Some, None, Err, IfSome, IsSomeAnd}
+use Rattle.std.specs.Bool.{MatchBool}
 use Rattle.std.specs.Io.KnownBytes.{IsAtEnd}
 use Rattle.xmpp_check.specs.Checked.{told}
 use Rattle.xmpp_edge.specs.declared.whole_reads.TheConstants.{MOST_BYTES_READ}
 use Rattle.xmpp_replay.specs.Direct.{direct_report}
-use Rattle.xmpp_replay.specs.Grammar.{IsSchedule, InGrammar, schedule_text}
-use Rattle.xmpp_replay.specs.Lawful.{IsLawful}
-use Rattle.xmpp_replay.specs.Reading.{reading}
-use Rattle.xmpp_replay.specs.ReportText.{text_of}
-use Rattle.xmpp_replay.specs.Reports.{ReportView}
-use Rattle.xmpp_replay.specs.Schedules.{ScheduleView, steps_of}
-use Rattle.xmpp_replay.specs.declared.schedule.LineWhy.{LineWhy}
-use Rattle.xmpp_replay.specs.declared.schedule.ScheduleFault.TheVariants.{BadLine}
+use Rattle.xmpp_replay.specs.History.{direct_history}
+use Rattle.xmpp_schedule.specs.Grammar.{IsSchedule, InGrammar, schedule_text}
+use Rattle.xmpp_report.specs.Lawful.{IsLawful}
+use Rattle.xmpp_schedule.specs.Reading.{reading}
+use Rattle.xmpp_report.specs.ReportText.{text_of}
+use Rattle.xmpp_report.specs.Reports.{ReportView}
+use Rattle.xmpp_schedule.specs.Schedules.{ScheduleView, steps_of}
+use Rattle.xmpp_schedule.specs.declared.fault.LineWhy.{LineWhy}
+use Rattle.xmpp_schedule.specs.declared.fault.ScheduleFault.TheVariants.{BadLine}
 use Rattle.xmpp_cli.specs.Texts.{words_line, read_fault_line, too_long_line, bad_line}
 use Rattle.xmpp_cli.specs.Words.{reads}
 use Rattle.xmpp_cli.specs.declared.command.Command.{Command}
@@ -35,7 +37,7 @@ is_status n = n == 0 || n == 2 || n == 3 || n == 4 || n == 5 || n == 6 || n == 1
 -- the report is that of the schedule's direct run, and keeps the five laws
 pub record IsReportOf (schedule : ScheduleView) (report : ReportView) : Type 0 where
   pub direct : report ≡ direct_report (steps_of schedule.lines)
-  pub lawful : IsLawful schedule report
+  pub lawful : IsLawful (direct_history (steps_of schedule.lines)) schedule report
 
 -- The text is the report of one schedule, and the input, where it is known, is that schedule's text.
 abbrev pub IsReplayed : Option (List ℕ) → List ℕ → Type 0
@@ -55,31 +57,61 @@ abbrev pub IsChecked : Bool → Option (List ℕ) → List ℕ → Type 0
 IsChecked sound known text =
     (stream : List ℕ) × IfSome known (λ input. input ≡ stream) × ((told stream).sound ≡ sound) × (text ≡ (told stream).text)
 
--- why an input is refused, by the command that the words ask for
-abbrev pub IsRefused : Option Command → Option (List ℕ) → List ℕ → Type 0
-IsRefused (Some Replay) known text = IsRefusal known text
-IsRefused (Some Check) known text = IsChecked false known text
+-- A case for each command: the text where it was done. `known` is the input where it is known.
+abbrev pub IsDone : Command → Option (List ℕ) → List ℕ → Type 0
+IsDone Help known text = text ≡ HELP.now
+IsDone Version known text = text ≡ VERSION.now
+IsDone Replay known text = IsReplayed known text
+IsDone Check known text = IsChecked true known text
+
+-- A case for each command that can refuse its input: the text where it does.
+abbrev pub IsRefused : Command → Option (List ℕ) → List ℕ → Type 0
+IsRefused Replay known text = IsRefusal known text
+IsRefused Check known text = IsChecked false known text
 IsRefused command known text = ⊥
+
+-- A case for each command that can refuse its input: which inputs it doesn't refuse.
+abbrev pub Accepts : Command → List ℕ → Type 0
+Accepts Replay input = InGrammar input
+Accepts Check input = (told input).sound ≡ true
+Accepts command input = Unit {0}
+
+-- what a command makes of its input
+abbrev pub IsAnswer : Command → Option (List ℕ) → Outcome → List ℕ → Type 0
+IsAnswer command known Done text = IsDone command known text
+IsAnswer command known Refused text = IsRefused command known text
+IsAnswer command known outcome text = ⊥
 
 -- The source was read to its end, and gave no more than the bound.
 pub record IsReadWhole (known left : Option (List ℕ)) : Type 0 where
   pub ended : IsAtEnd left
   pub short : IfSome known (λ input. length input ≤ MOST_BYTES_READ)
 
--- What is written where all went well, by the command that the words ask for. `known` is the input where it is
--- known, and `left` what is left of it.
-pub record IsDone (command : Option Command) (known left : Option (List ℕ)) (text : List ℕ) : Type 0 where
-  pub in_table : command ≢ None
-  pub help : command ≡ Some Help → text ≡ HELP.now
-  pub version : command ≡ Some Version → text ≡ VERSION.now
-  pub replay : command ≡ Some Replay → IsReplayed known text × IsReadWhole known left
-  pub check : command ≡ Some Check → IsChecked true known text × IsReadWhole known left
+-- What is due of a command with an outcome, where `rose` says that the source's count of faults rose. `left` is what is
+-- left of the input.
+abbrev pub IsDueOf : Command → Option (List ℕ) → Option (List ℕ) → Type 0 → Outcome → List ℕ → Type 0
+IsDueOf command known left rose ReadFault text = (reads (Some command) ≡ true) × rose × (text ≡ read_fault_line)
+IsDueOf command known left rose TooLong text =
+    (reads (Some command) ≡ true) × IfSome known (λ input. MOST_BYTES_READ < length input) × (text ≡ too_long_line)
+IsDueOf command known left rose outcome text =
+    IsAnswer command known outcome text × (reads (Some command) ≡ true → IsReadWhole known left)
 
--- what is due, where `rose` says that the source's count of faults rose
+-- what is due with an outcome, by the command that the words ask for, where they ask for one
 abbrev pub Due : Option Command → Option (List ℕ) → Option (List ℕ) → Type 0 → Outcome → List ℕ → Type 0
-Due command known left rose Done text = IsDone command known left text
-Due command known left rose WrongWords text = (command ≡ None) × (text ≡ words_line)
-Due command known left rose Refused text = IsRefused command known text × IsReadWhole known left
-Due command known left rose ReadFault text = (reads command ≡ true) × rose × (text ≡ read_fault_line)
-Due command known left rose TooLong text =
-    (reads command ≡ true) × IfSome known (λ input. MOST_BYTES_READ < length input) × (text ≡ too_long_line)
+Due (Some command) known left rose outcome text = IsDueOf command known left rose outcome text
+Due None known left rose WrongWords text = text ≡ words_line
+Due None known left rose outcome text = ⊥
+
+-- the outcome that an input must have
+abbrev pub MustEnd : Command → List ℕ → Outcome → Type 0
+MustEnd command input Done = (length input ≤ MOST_BYTES_READ) × Accepts command input
+MustEnd command input Refused = (length input ≤ MOST_BYTES_READ) × ¬ (Accepts command input)
+MustEnd command input TooLong = MOST_BYTES_READ < length input
+MustEnd command input outcome = ⊥
+
+-- The converse of what is due: the outcome that there must be, where memory suffices and no write failed. `calm` says
+-- that no read failed. Of a command that reads, it is said where the input is known.
+abbrev pub MustAnswer : Option Command → Option (List ℕ) → Type 0 → Outcome → Type 0
+MustAnswer None known calm outcome = outcome ≡ WrongWords
+MustAnswer (Some command) known calm outcome =
+    MatchBool (reads (Some command)) (calm × IsSomeAnd known (λ input. MustEnd command input outcome)) (outcome ≡ Done)

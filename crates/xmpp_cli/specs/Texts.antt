@@ -1,8 +1,8 @@
 -- The lines that say why there is no report.
 use Rattle.std.specs.Prelude.{ℕ, List, [], ◌∷◌, ◌++◌, codes}
 use Rattle.std.specs.Fmt.{decimal}
-use Rattle.xmpp_replay.specs.declared.schedule.LineWhy.{LineWhy}
-use Rattle.xmpp_replay.specs.declared.schedule.LineWhy.TheVariants as why
+use Rattle.xmpp_schedule.specs.declared.fault.LineWhy.{LineWhy}
+use Rattle.xmpp_schedule.specs.declared.fault.LineWhy.TheVariants as why
 
 abbrev pub words_line : List ℕ
 words_line = codes "words" ++ 10 ∷ []

@@ -1,7 +1,8 @@
-ghost use Rattle.std.specs.Prelude.{◌≡◌, ◌≢◌, false, true, ◌<◌, ◌≤◌, ◌⊎◌, IfOk};
+//! What is answered to the words and the input of a call.
+ghost use Rattle.std.specs.Prelude.{◌≡◌, false, true, ◌<◌, ◌≤◌, Some, IfOk};
 ghost use Rattle.xmpp_edge.specs.Counts.{Rose};
 ghost use Rattle.xmpp_cli.specs.Words.{asked, reads};
-ghost use Rattle.xmpp_cli.specs.Table.{IsReplayed, IsRefusal, IsChecked, Due};
+ghost use Rattle.xmpp_cli.specs.Table.{IsAnswer, Due};
 
 use crate::command::Command;
 use crate::outcome::Outcome;
@@ -9,7 +10,9 @@ use crate::texts::{HELP, READ_FAULT_LINE, TOO_LONG_LINE, VERSION, WORDS_LINE, re
 use std::alloc::Global;
 use xmpp_check::check;
 use xmpp_edge::{Bytes, NoMemory, ReadAllFault, Source, read_all};
-use xmpp_replay::{ScheduleFault, direct, direct_is_lawful, read_schedule, report_text};
+use xmpp_replay::{direct, direct_is_lawful};
+use xmpp_report::report_text;
+use xmpp_schedule::{ScheduleFault, read_schedule};
 
 /// What a call comes to, and the text that is due.
 #[derive(Drop)]
@@ -28,11 +31,10 @@ fn said(alloc: Global, outcome: Outcome, text: &str) -> Result<Answer, NoMemory>
     })
 }
 
-/// The report of the schedule whose text this is, or the refusal of the text.
-fn answer_to(alloc: Global, input: &[u8]) -> Result<Answer, NoMemory>
-    ensures which { IfOk result (λ answer. (answer.outcome ≡ Outcome.Done) ⊎ (answer.outcome ≡ Outcome.Refused)) }
-    ensures done { IfOk result (λ answer. answer.outcome ≡ Outcome.Done → IsReplayed (Some input.now) answer.text.items) }
-    ensures refused { IfOk result (λ answer. answer.outcome ≡ Outcome.Refused → IsRefusal (Some input.now) answer.text.items) }
+/// The report of the schedule whose text this is, or the refusal of the text. The law is called for its fact, that the
+/// report keeps the five laws: the answer's clause says so.
+fn replayed(alloc: Global, input: &[u8]) -> Result<Answer, NoMemory>
+    ensures { IfOk result (λ answer. IsAnswer Command.Replay (Some input.now) answer.outcome answer.text.items) }
 {
     match read_schedule(alloc, input) {
         Ok(schedule) => {
@@ -51,26 +53,9 @@ fn answer_to(alloc: Global, input: &[u8]) -> Result<Answer, NoMemory>
     }
 }
 
-/// The answer of `replay`, whose input is all that the source gives.
-fn replay<S: Source>(alloc: Global, source: &mut S) -> Result<Answer, NoMemory>
-    ensures due { IfOk result (λ answer. Due (Some Command.Replay) (S.left source.old) (S.left source.new)
-        (Rose (S.faults source.old) (S.faults source.new)) answer.outcome answer.text.items) }
-    ensures read_fault { S.faults source.old < S.faults source.new → IfOk result (λ answer. answer.outcome ≡ Outcome.ReadFault) }
-    ensures later { S.faults source.old ≤ S.faults source.new }
-{
-    match read_all(alloc, source) {
-        Ok(input) => answer_to(alloc, input.as_slice()),
-        Err(ReadAllFault::ReadFault) => said(alloc, Outcome::ReadFault, READ_FAULT_LINE),
-        Err(ReadAllFault::TooLong) => said(alloc, Outcome::TooLong, TOO_LONG_LINE),
-        Err(ReadAllFault::NoMemory) => Err(NoMemory),
-    }
-}
-
 /// What is told of the stream with these bytes.
-fn answer_to_stream(alloc: Global, input: &[u8]) -> Result<Answer, NoMemory>
-    ensures which { IfOk result (λ answer. (answer.outcome ≡ Outcome.Done) ⊎ (answer.outcome ≡ Outcome.Refused)) }
-    ensures done { IfOk result (λ answer. answer.outcome ≡ Outcome.Done → IsChecked true (Some input.now) answer.text.items) }
-    ensures refused { IfOk result (λ answer. answer.outcome ≡ Outcome.Refused → IsChecked false (Some input.now) answer.text.items) }
+fn checked(alloc: Global, input: &[u8]) -> Result<Answer, NoMemory>
+    ensures { IfOk result (λ answer. IsAnswer Command.Check (Some input.now) answer.outcome answer.text.items) }
 {
     let checked = check(alloc, input)?;
     let outcome = if checked.sound {
@@ -84,22 +69,39 @@ fn answer_to_stream(alloc: Global, input: &[u8]) -> Result<Answer, NoMemory>
     })
 }
 
-/// The answer of `check`, whose input is all that the source gives.
-fn check_all<S: Source>(alloc: Global, source: &mut S) -> Result<Answer, NoMemory>
-    ensures due { IfOk result (λ answer. Due (Some Command.Check) (S.left source.old) (S.left source.new)
+/// The answer of a command to an input, which it looks at only if it is one that reads.
+fn answer_to(alloc: Global, command: Command, input: &[u8]) -> Result<Answer, NoMemory>
+    ensures { IfOk result (λ answer. IsAnswer command (Some input.now) answer.outcome answer.text.items) }
+{
+    match command {
+        Command::Help => said(alloc, Outcome::Done, HELP),
+        Command::Version => said(alloc, Outcome::Done, VERSION),
+        Command::Replay => replayed(alloc, input),
+        Command::Check => checked(alloc, input),
+    }
+}
+
+/// The answer of a command that reads, whose input is all that the source gives.
+fn answer_read<S: Source>(
+    alloc: Global,
+    command: Command,
+    source: &mut S,
+) -> Result<Answer, NoMemory>
+    requires { reads (Some command) ≡ true }
+    ensures due { IfOk result (λ answer. Due (Some command) (S.left source.old) (S.left source.new)
         (Rose (S.faults source.old) (S.faults source.new)) answer.outcome answer.text.items) }
     ensures read_fault { S.faults source.old < S.faults source.new → IfOk result (λ answer. answer.outcome ≡ Outcome.ReadFault) }
     ensures later { S.faults source.old ≤ S.faults source.new }
 {
     match read_all(alloc, source) {
-        Ok(input) => answer_to_stream(alloc, input.as_slice()),
+        Ok(input) => answer_to(alloc, command, input.as_slice()),
         Err(ReadAllFault::ReadFault) => said(alloc, Outcome::ReadFault, READ_FAULT_LINE),
         Err(ReadAllFault::TooLong) => said(alloc, Outcome::TooLong, TOO_LONG_LINE),
         Err(ReadAllFault::NoMemory) => Err(NoMemory),
     }
 }
 
-/// The answer to these words. The source is read where they ask for `replay` or `check`, and otherwise left as it is.
+/// The answer to these words. The source is read where they ask for a command that reads, and otherwise left as it is.
 pub fn due<S: Source>(alloc: Global, words: &[String], source: &mut S) -> Result<Answer, NoMemory>
     ensures due { IfOk result (λ answer. Due (asked words.now) (S.left source.old) (S.left source.new)
         (Rose (S.faults source.old) (S.faults source.new)) answer.outcome answer.text.items) }
@@ -109,9 +111,7 @@ pub fn due<S: Source>(alloc: Global, words: &[String], source: &mut S) -> Result
 {
     match Command::of_words(words) {
         None => said(alloc, Outcome::WrongWords, WORDS_LINE),
-        Some(Command::Help) => said(alloc, Outcome::Done, HELP),
-        Some(Command::Version) => said(alloc, Outcome::Done, VERSION),
-        Some(Command::Replay) => replay(alloc, source),
-        Some(Command::Check) => check_all(alloc, source),
+        Some(command) if command.reads() => answer_read(alloc, command, source),
+        Some(command) => answer_to(alloc, command, &[]),
     }
 }

@@ -1,5 +1,6 @@
-ghost use Rattle.std.specs.Prelude.{◌≡◌};
-ghost use Rattle.xmpp_cli.specs.Words.{asked};
+//! The commands, and the words that ask for them.
+ghost use Rattle.std.specs.Prelude.{◌≡◌, Some};
+ghost use Rattle.xmpp_cli.specs.Words.{asked, reads};
 
 /// What the program can be asked for.
 #[derive(Clone, Copy, Debug, PartialEq, Eq)]
@@ -26,6 +27,16 @@ impl Command {
             [word] if word.as_str() == "replay" => Some(Command::Replay),
             [word] if word.as_str() == "check" => Some(Command::Check),
             _ => None,
+        }
+    }
+
+    /// Whether the command's input is read.
+    pub fn reads(self) -> bool
+        ensures { result ≡ reads (Some self) }
+    {
+        match self {
+            Command::Help | Command::Version => false,
+            Command::Replay | Command::Check => true,
         }
     }
 }

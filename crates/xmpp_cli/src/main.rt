@@ -1,4 +1,4 @@
-//! `xmpp_cli`: replays a schedule of messages and writes what came of it.
+//! The program `xmpp`: it replays a schedule of messages and writes what came of it, or checks a stream.
 #![tactic(auto)]
 
 mod answering;

@@ -1,3 +1,4 @@
+//! What became of a call, and its exit status.
 ghost use Rattle.std.specs.Prelude.{◌≡◌};
 ghost use Rattle.xmpp_cli.specs.Table.{code_of};
 

@@ -1,9 +1,10 @@
+//! The texts that the program writes besides reports and items.
 ghost use Rattle.std.specs.Prelude.{◌≡◌, IfOk};
 ghost use Rattle.xmpp_cli.specs.Texts.{why_name, bad_line};
 
 use std::alloc::Global;
 use xmpp_edge::{Bytes, NoMemory};
-use xmpp_replay::LineWhy;
+use xmpp_schedule::LineWhy;
 
 /// What is written where the words are not in the table.
 pub const WORDS_LINE: &str = "words\n";
@@ -15,17 +16,17 @@ pub const READ_FAULT_LINE: &str = "read fault\n";
 pub const TOO_LONG_LINE: &str = "too long\n";
 
 /// The program's name and version.
-pub const VERSION: &str = "xmpp_cli 1\n";
+pub const VERSION: &str = "xmpp 1\n";
 
 /// How the program is called, in one line.
-pub const USAGE: &str = "usage: xmpp_cli --help | --version | replay | check";
+pub const USAGE: &str = "usage: xmpp --help | --version | replay | check";
 
 /// How the program is called, and what it answers.
 pub const HELP: &str = "\
-xmpp_cli --help     writes this text
-xmpp_cli --version  writes the name and the version
-xmpp_cli replay     reads a schedule from standard input and writes its report
-xmpp_cli check      reads one direction of a stream from standard input and writes its items
+xmpp --help     writes this text
+xmpp --version  writes the name and the version
+xmpp replay     reads a schedule from standard input and writes its report
+xmpp check      reads one direction of a stream from standard input and writes its items
 The exit status is
  0  where it was done
  2  where the words are none of these

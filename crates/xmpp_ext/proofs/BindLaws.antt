@@ -1,17 +1,17 @@
 -- Resource binding: what is read is exact, and what is written is a tree and read back.
 use Rattle.std.proofs.Common.{◌≡◌, ℕ, List, [], ◌∷◌, Option, Some, None, Ok, codes, refl, sym, ap, ◌∙◌, append-nil}
-use Rattle.xmpp_ext.proofs.FaultLemmas.{for_memory, nothing_first, nothing_lacks, one_field}
+use Rattle.xmpp_payload.proofs.FaultLemmas.{for_memory, nothing_first, nothing_lacks, one_field}
 use Rattle.xmpp_ext.specs.Bind.{BindResultLacks, IsBindRequest, IsBindResult, IsNoAddress, bind_request_elem, bind_result_elem, is_bind}
-use Rattle.xmpp_ext.specs.Faults.{IsExact, LacksNothing}
-use Rattle.xmpp_ext.specs.Names.{binding}
-use Rattle.xmpp_ext.specs.Shapes.{child_text, child_text_or_empty}
-use Rattle.xmpp_ext.specs.Writing.{text_child, text_child_where}
+use Rattle.xmpp_payload.specs.Faults.{IsExact, LacksNothing}
+use Rattle.xmpp_payload.specs.Names.{binding}
+use Rattle.xmpp_payload.specs.Shapes.{child_text, child_text_or_empty}
+use Rattle.xmpp_payload.specs.Writing.{text_child, text_child_where}
 use Rattle.xmpp_ext.specs.declared.bind.BindRequest.{BindRequest}
 use Rattle.xmpp_ext.specs.declared.bind.BindResult.{BindResult}
-use Rattle.xmpp_ext.specs.declared.fault.Field.{Field}
-use Rattle.xmpp_ext.specs.declared.fault.Field.TheVariants.{Jid}
-use Rattle.xmpp_framing.specs.Tidied.{tidied}
-use Rattle.xmpp_framing.specs.Trees.{Elem, element}
+use Rattle.xmpp_payload.specs.declared.fault.Field.{Field}
+use Rattle.xmpp_payload.specs.declared.fault.Field.TheVariants.{Jid}
+use Rattle.xmpp_trees.specs.Tidied.{tidied}
+use Rattle.xmpp_trees.specs.Trees.{Elem, element}
 use Rattle.xmpp_jid.specs.Normal.{normal}
 
 abbrev request_with : List ℕ → Elem

@@ -1,14 +1,14 @@
 -- Carbons: what is read is exact, and what is written is a tree and read back.
 use Rattle.std.proofs.Common.{◌≡◌, ℕ, ◌≤◌, Bool, true, false, [], Some, refl, sym, ap, ◌∙◌, subst, arith}
-use Rattle.xmpp_ext.proofs.CheckLemmas.{right_refused, same_value}
+use Rattle.xmpp_payload.proofs.CheckLemmas.{right_refused, same_value}
 use Rattle.xmpp_ext.proofs.ForwardingLaws.{forwards_one, forwards_right, inside_again, written_stays}
 use Rattle.xmpp_ext.specs.Carbons.{IsCarbon, WritesCarbon, carbon_checks, carbon_elem, carbon_name, is_carbon, is_sent}
-use Rattle.xmpp_ext.specs.Checks.{IsExactBy}
+use Rattle.xmpp_payload.specs.Checks.{IsExactBy}
 use Rattle.xmpp_ext.specs.Forwarding.{Forwards, is_forwarded, the_forwarded}
-use Rattle.xmpp_ext.specs.Names.{carbons}
+use Rattle.xmpp_payload.specs.Names.{carbons}
 use Rattle.xmpp_ext.specs.declared.carbons.Carbon.{Carbon}
-use Rattle.xmpp_framing.specs.Tidied.{tidied}
-use Rattle.xmpp_framing.specs.Trees.{Elem, IsTree, element, no_nodes, child}
+use Rattle.xmpp_trees.specs.Tidied.{tidied}
+use Rattle.xmpp_trees.specs.Trees.{Elem, IsTree, element, no_nodes, child}
 
 carbon_stays : (v : Carbon) (e : Elem) → WritesCarbon v e → tidied e ≡ e
 carbon_stays v e w = ap tidied w.shape ∙ ap (λ f. element carbons (carbon_name v.sent) [] (child f no_nodes)) (written_stays v.forwarded w.forwarded w.forwarded_is) ∙ sym w.shape

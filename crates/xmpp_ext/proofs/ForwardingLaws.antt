@@ -1,22 +1,23 @@
 -- Forwarded messages: what is read is exact, and what is written is a tree and read back.
 use Rattle.std.proofs.Common.{◌≡◌, ℕ, ◌≤◌, List, [], ◌∷◌, Option, Some, None, is_some, unwrap_or, Result, Ok, Err, refl, sym, ap, ◌∙◌, subst, min, codes, arith}
 use Rattle.std.specs.Result.{result_ok}
-use Rattle.xmpp_ext.proofs.CheckLemmas.{right_refused, right_value, same_value}
-use Rattle.xmpp_ext.proofs.StampJudged.{judged_ok}
-use Rattle.xmpp_ext.proofs.StampLaws.{written_read}
-use Rattle.xmpp_ext.specs.Bare.{bare}
-use Rattle.xmpp_ext.specs.Checks.{IsExactBy, first_wrong}
-use Rattle.xmpp_ext.specs.Forwarding.{Forwards, IsForwarded, WritesForwarded, delay_moment, delays, forward_checks, forwarded_checks, forwarded_elem, forwarding, is_forwarded, message_in, message_read, only_message, the_forwarded}
-use Rattle.xmpp_ext.specs.Moments.{IsStampOf, moment_in}
-use Rattle.xmpp_ext.specs.StampReading.{moment_of}
-use Rattle.xmpp_ext.specs.Stamps.{IsWritten}
-use Rattle.xmpp_ext.specs.declared.fault.Field.TheVariants as field
+use Rattle.xmpp_payload.proofs.CheckLemmas.{right_refused, right_value, same_value}
+use Rattle.xmpp_stamp.proofs.StampJudged.{judged_ok}
+use Rattle.xmpp_stamp.proofs.StampLaws.{written_read}
+use Rattle.xmpp_payload.specs.Bare.{bare}
+use Rattle.xmpp_payload.specs.Checks.{IsExactBy, first_wrong}
+use Rattle.xmpp_ext.specs.Forwarding.{Forwards, IsForwarded, WritesForwarded, delay_moment, forward_checks, forwarded_checks, forwarded_elem, is_forwarded, message_in, message_read, only_message, the_forwarded}
+use Rattle.xmpp_payload.specs.Names.{delays, forwarding}
+use Rattle.xmpp_payload.specs.Moments.{IsStampOf, moment_in}
+use Rattle.xmpp_stamp.specs.StampReading.{moment_of}
+use Rattle.xmpp_stamp.specs.Stamps.{IsWritten}
+use Rattle.xmpp_payload.specs.declared.fault.Field.TheVariants as field
 use Rattle.xmpp_ext.specs.declared.forwarding.Forwarded.{Forwarded}
-use Rattle.xmpp_framing.proofs.TidyLaws.{tidied_IsTree, tidied_nodes_stay, tidied_stays}
-use Rattle.xmpp_framing.proofs.TidyReads.{child_of_IsTree, nodes_of_tree}
-use Rattle.xmpp_framing.specs.Readers.{child_of}
-use Rattle.xmpp_framing.specs.Tidied.{tidied}
-use Rattle.xmpp_framing.specs.Trees.{AreTidy, Elem, IsTree}
+use Rattle.xmpp_trees.proofs.TidyLaws.{tidied_IsTree, tidied_nodes_stay, tidied_stays}
+use Rattle.xmpp_trees.proofs.TidyReads.{child_of_IsTree, nodes_of_tree}
+use Rattle.xmpp_trees.specs.Readers.{child_of}
+use Rattle.xmpp_trees.specs.Tidied.{tidied}
+use Rattle.xmpp_trees.specs.Trees.{AreTidy, Elem, IsTree}
 use Rattle.xmpp_stanza.proofs.ReadingLaws.{message_law}
 use Rattle.xmpp_stanza.specs.Names.{client_ns}
 use Rattle.xmpp_stanza.specs.Readings.{stanza_of}
@@ -24,7 +25,7 @@ use Rattle.xmpp_stanza.specs.Views.{MessageView}
 use Rattle.xmpp_stanza.specs.Written.{message_elem}
 use Rattle.xmpp_stanza.specs.declared.stanzas.Stanza.{Stanza}
 use Rattle.xmpp_stanza.specs.declared.stanzas.Stanza.TheVariants.{Message, Presence, Iq}
-use Rattle.xmpp_stanza.specs.declared.stanzas.StanzaFault.{StanzaFault}
+use Rattle.xmpp_stanza.specs.declared.fault.StanzaFault.{StanzaFault}
 
 -- ---- moments
 

@@ -1,13 +1,13 @@
 -- Ids of stanzas: what is read is exact, and what is written is read back.
 use Rattle.std.proofs.Common.{◌≡◌, refl, sym, ◌∙◌}
-use Rattle.xmpp_ext.proofs.FaultLemmas.{for_memory, one_field, same_inside, some_is_there}
-use Rattle.xmpp_ext.specs.Faults.{IsExact}
+use Rattle.xmpp_payload.proofs.FaultLemmas.{for_memory, one_field, same_inside, some_is_there}
+use Rattle.xmpp_payload.specs.Faults.{IsExact}
 use Rattle.xmpp_ext.specs.Ids.{IsOriginId, IsStanzaId, OriginIdLacks, StanzaIdLacks, is_origin_id, is_stanza_id, origin_id_elem, stanza_id_elem}
-use Rattle.xmpp_ext.specs.declared.fault.Field.{Field}
-use Rattle.xmpp_ext.specs.declared.fault.Field.TheVariants.{Id, Jid}
+use Rattle.xmpp_payload.specs.declared.fault.Field.{Field}
+use Rattle.xmpp_payload.specs.declared.fault.Field.TheVariants.{Id, Jid}
 use Rattle.xmpp_ext.specs.declared.ids.OriginId.{OriginId}
 use Rattle.xmpp_ext.specs.declared.ids.StanzaId.{StanzaId}
-use Rattle.xmpp_framing.specs.Trees.{Elem}
+use Rattle.xmpp_trees.specs.Trees.{Elem}
 
 stanza_id_right : (e : Elem) (v : StanzaId) (f : Field) → IsStanzaId e v → StanzaIdLacks e f → ⊥
 stanza_id_right e v Id is lacks = let both = sym is.id ∙ lacks in cc both

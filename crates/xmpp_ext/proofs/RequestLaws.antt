@@ -1,14 +1,14 @@
 -- Bare elements and the switch of carbons: what is read is exact, and what is written is read back.
 use Rattle.std.proofs.Common.{◌≡◌, ◌&&◌, ◌||◌, ℕ, Bool, true, false, cond, List, length, codes, refl, sym, ap, ◌∙◌, arith}
-use Rattle.xmpp_ext.proofs.FaultLemmas.{for_memory, nothing_first, nothing_lacks}
-use Rattle.xmpp_ext.specs.Bare.{bare}
-use Rattle.xmpp_ext.specs.Faults.{IsExact, IsFault, LacksNothing}
-use Rattle.xmpp_ext.specs.Names.{carbons}
+use Rattle.xmpp_payload.proofs.FaultLemmas.{for_memory, nothing_first, nothing_lacks}
+use Rattle.xmpp_payload.specs.Bare.{bare}
+use Rattle.xmpp_payload.specs.Faults.{IsExact, IsFault, LacksNothing}
+use Rattle.xmpp_payload.specs.Names.{carbons}
 use Rattle.xmpp_ext.specs.Requests.{IsCarbonsSwitch, carbons_switch_elem, is_switch, switch_name}
-use Rattle.xmpp_ext.specs.declared.fault.ExtFault.{ExtFault}
-use Rattle.xmpp_ext.specs.declared.fault.ExtFault.TheVariants.{NoMemory}
-use Rattle.xmpp_framing.specs.Readers.{is_named}
-use Rattle.xmpp_framing.specs.Trees.{Elem, name_of}
+use Rattle.xmpp_payload.specs.declared.fault.ExtFault.{ExtFault}
+use Rattle.xmpp_payload.specs.declared.fault.ExtFault.TheVariants.{NoMemory}
+use Rattle.xmpp_trees.specs.Readers.{is_named}
+use Rattle.xmpp_trees.specs.Trees.{Elem, name_of}
 use Rattle.xmpp_stanza.proofs.KindLemmas.{equal_bytes, same_bytes}
 
 pub bare_refused : (ns name : List ℕ) (e : Elem) (fault : ExtFault) → is_named ns name e ≡ true → IsFault (is_named ns name e) LacksNothing fault → fault ≡ NoMemory

@@ -3,14 +3,14 @@ use Rattle.std.proofs.Common.{◌≡◌, ◌&&◌, ℕ, Bool, true, false, not, 
 use Rattle.std.proofs.lemmas.Bool.{cases_Bool}
 use Rattle.std.specs.Option.{option_map}
 use Rattle.std.specs.Str.{bytes_eq}
-use Rattle.xmpp_ext.proofs.FaultLemmas.{for_memory, one_field, same_inside}
-use Rattle.xmpp_ext.specs.Faults.{IsExact}
+use Rattle.xmpp_payload.proofs.FaultLemmas.{for_memory, one_field, same_inside}
+use Rattle.xmpp_payload.specs.Faults.{IsExact}
 use Rattle.xmpp_ext.specs.StreamManagement.{IsSmFailed, SmFailedLacks, failed_condition, is_management, sm_failed_elem}
-use Rattle.xmpp_ext.specs.declared.fault.Field.{Field}
-use Rattle.xmpp_ext.specs.declared.fault.Field.TheVariants.{Condition}
+use Rattle.xmpp_payload.specs.declared.fault.Field.{Field}
+use Rattle.xmpp_payload.specs.declared.fault.Field.TheVariants.{Condition}
 use Rattle.xmpp_ext.specs.declared.stream_management.SmFailed.{SmFailed}
-use Rattle.xmpp_framing.specs.Readers.{elements_of}
-use Rattle.xmpp_framing.specs.Trees.{Elem, name_of, namespace_of, nodes_of}
+use Rattle.xmpp_trees.specs.Readers.{elements_of}
+use Rattle.xmpp_trees.specs.Trees.{Elem, name_of, namespace_of, nodes_of}
 use Rattle.xmpp_stanza.proofs.ErrorLaws.{name_again, named_is_plain, plain_same}
 use Rattle.xmpp_stanza.specs.Conditions.{condition_name, condition_named, is_condition}
 use Rattle.xmpp_stanza.specs.declared.conditions.Condition.{Condition as StanzaCondition}

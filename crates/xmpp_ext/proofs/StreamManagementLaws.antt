@@ -2,20 +2,21 @@
 use Rattle.std.proofs.Common.{◌≡◌, ℕ, ◌^◌, Bool, true, false, List, [], ◌∷◌, ◌++◌, Option, Some, None, codes, refl, sym, ap, ◌∙◌, arith}
 use Rattle.std.specs.Fmt.{decimal}
 use Rattle.std.specs.Option.{option_map}
-use Rattle.xmpp_ext.proofs.FaultLemmas.{for_memory, nothing_first, nothing_lacks, one_field, same_inside, some_is_there}
-use Rattle.xmpp_ext.proofs.Numbers.{optional_fits, required_fits, written_number}
-use Rattle.xmpp_ext.specs.Faults.{IsExact, LacksNothing}
-use Rattle.xmpp_ext.specs.Names.{management}
-use Rattle.xmpp_ext.specs.Shapes.{attr_named, attr_or_empty, flag, optional_number, required_number}
+use Rattle.xmpp_payload.proofs.FaultLemmas.{for_memory, nothing_first, nothing_lacks, one_field, same_inside, some_is_there}
+use Rattle.xmpp_payload.proofs.Numbers.{optional_fits, required_fits, written_number}
+use Rattle.xmpp_payload.specs.Faults.{IsExact, LacksNothing}
+use Rattle.xmpp_payload.specs.Names.{management}
+use Rattle.xmpp_payload.specs.Shapes.{attr_or_empty, flag, optional_number, required_number}
+use Rattle.xmpp_stanza.specs.Stanzas.{attr_named}
 use Rattle.xmpp_ext.specs.StreamManagement.{AckLacks, EnabledLacks, IsAck, IsEnable, IsEnabled, IsResume, IsResumed, IsResumption, ResumptionLacks, ack_elem, enable_elem, enabled_elem, is_management, resume_elem, resumed_elem, resumption}
-use Rattle.xmpp_ext.specs.Writing.{flag_text}
-use Rattle.xmpp_ext.specs.declared.fault.Field.{Field}
-use Rattle.xmpp_ext.specs.declared.fault.Field.TheVariants.{H, Previd, Max}
+use Rattle.xmpp_payload.specs.Writing.{flag_text}
+use Rattle.xmpp_payload.specs.declared.fault.Field.{Field}
+use Rattle.xmpp_payload.specs.declared.fault.Field.TheVariants.{H, Previd, Max}
 use Rattle.xmpp_ext.specs.declared.stream_management.Ack.{Ack}
 use Rattle.xmpp_ext.specs.declared.stream_management.Enable.{Enable}
 use Rattle.xmpp_ext.specs.declared.stream_management.Enabled.{Enabled}
-use Rattle.xmpp_framing.specs.Tidied.{tidied}
-use Rattle.xmpp_framing.specs.Trees.{Elem, element, no_nodes}
+use Rattle.xmpp_trees.specs.Tidied.{tidied}
+use Rattle.xmpp_trees.specs.Trees.{Elem, element, no_nodes}
 use Rattle.xmpp_stanza.specs.Written.{attr_where, unless_empty}
 
 flag_again : (b : Bool) → flag (flag_text b) ≡ b

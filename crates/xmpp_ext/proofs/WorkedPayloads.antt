@@ -3,12 +3,13 @@ use Rattle.std.proofs.Common.{◌≡◌, ℕ, ◌^◌, true, false, List, [], �
 use Rattle.std.specs.Fmt.{decimal}
 use Rattle.xmpp_ext.specs.Bind.{bind_request_elem}
 use Rattle.xmpp_ext.specs.Ids.{stanza_id_elem}
-use Rattle.xmpp_ext.specs.Names.{binding, management}
+use Rattle.xmpp_payload.specs.Names.{binding, management}
 use Rattle.xmpp_ext.specs.Requests.{is_switch}
-use Rattle.xmpp_ext.specs.Shapes.{attr_named, child_text, child_text_or_empty, flag, number_below, optional_number, required_number}
+use Rattle.xmpp_payload.specs.Shapes.{child_text, child_text_or_empty, flag, number_below, optional_number, required_number}
+use Rattle.xmpp_stanza.specs.Stanzas.{attr_named}
 use Rattle.xmpp_ext.specs.StreamManagement.{count_of, enable_elem, enabled_elem, failed_condition, is_management}
-use Rattle.xmpp_framing.specs.Attributes.{attribute}
-use Rattle.xmpp_framing.specs.Trees.{element, Nodes, no_nodes, child, text}
+use Rattle.xmpp_trees.specs.Attributes.{attribute}
+use Rattle.xmpp_trees.specs.Trees.{element, Nodes, no_nodes, child, text}
 use Rattle.xmpp_stanza.specs.Names.{stanza_errors_ns}
 
 -- booleans

@@ -1,14 +1,14 @@
 -- Resource binding (RFC 6120, section 7).
 use Rattle.std.specs.Prelude.{◌≡◌, ℕ, Bool, true, List, [], Option, Some, None, Ok, Err, codes}
-use Rattle.xmpp_ext.specs.Names.{binding}
-use Rattle.xmpp_ext.specs.Shapes.{child_text, child_text_or_empty}
-use Rattle.xmpp_ext.specs.Writing.{text_child, text_child_where}
+use Rattle.xmpp_payload.specs.Names.{binding}
+use Rattle.xmpp_payload.specs.Shapes.{child_text, child_text_or_empty}
+use Rattle.xmpp_payload.specs.Writing.{text_child, text_child_where}
 use Rattle.xmpp_ext.specs.declared.bind.BindRequest.{BindRequest}
 use Rattle.xmpp_ext.specs.declared.bind.BindResult.{BindResult}
-use Rattle.xmpp_ext.specs.declared.fault.Field.{Field}
-use Rattle.xmpp_ext.specs.declared.fault.Field.TheVariants.{Jid}
-use Rattle.xmpp_framing.specs.Readers.{is_named}
-use Rattle.xmpp_framing.specs.Trees.{Elem, element}
+use Rattle.xmpp_payload.specs.declared.fault.Field.{Field}
+use Rattle.xmpp_payload.specs.declared.fault.Field.TheVariants.{Jid}
+use Rattle.xmpp_trees.specs.Readers.{is_named}
+use Rattle.xmpp_trees.specs.Trees.{Elem, element}
 use Rattle.xmpp_jid.specs.Normal.{normal}
 use Rattle.xmpp_jid.specs.declared.fault.JidFault.{JidFault}
 

@@ -1,11 +1,11 @@
 -- Carbons (XEP-0280, sections 7 and 8): copies of what another of one's clients sent or received.
 use Rattle.std.specs.Prelude.{◌≡◌, ℕ, Bool, true, false, ◌||◌, List, [], Some, codes}
-use Rattle.xmpp_ext.specs.Checks.{Check}
+use Rattle.xmpp_payload.specs.Checks.{Check}
 use Rattle.xmpp_ext.specs.Forwarding.{Forwards, WritesForwarded, forward_checks, the_forwarded}
-use Rattle.xmpp_ext.specs.Names.{carbons}
+use Rattle.xmpp_payload.specs.Names.{carbons}
 use Rattle.xmpp_ext.specs.declared.carbons.Carbon.{Carbon}
-use Rattle.xmpp_framing.specs.Readers.{is_named}
-use Rattle.xmpp_framing.specs.Trees.{Elem, element, no_nodes, child}
+use Rattle.xmpp_trees.specs.Readers.{is_named}
+use Rattle.xmpp_trees.specs.Trees.{Elem, element, no_nodes, child}
 
 abbrev pub is_sent : Elem → Bool
 is_sent e = is_named carbons (codes "sent") e

@@ -1,30 +1,24 @@
 -- Forwarded messages (XEP-0297, section 3) with their delays (XEP-0203, section 4).
 use Rattle.std.specs.Prelude.{◌≡◌, ℕ, Bool, true, List, [], ◌∷◌, Option, Some, None, Result, Ok, Err, codes, is_some, unwrap_or}
 use Rattle.std.specs.Option.{option_and_then}
-use Rattle.xmpp_ext.specs.Bare.{bare}
-use Rattle.xmpp_ext.specs.Checks.{Check}
-use Rattle.xmpp_ext.specs.Moments.{IsStampOf, moment_in}
-use Rattle.xmpp_ext.specs.Shapes.{attr_named}
-use Rattle.xmpp_ext.specs.declared.fault.Field.TheVariants as field
+use Rattle.xmpp_payload.specs.Bare.{bare}
+use Rattle.xmpp_payload.specs.Checks.{Check}
+use Rattle.xmpp_payload.specs.Names.{delays, forwarding}
+use Rattle.xmpp_payload.specs.Moments.{IsStampOf, moment_in}
+use Rattle.xmpp_stanza.specs.Stanzas.{attr_named}
+use Rattle.xmpp_payload.specs.declared.fault.Field.TheVariants as field
 use Rattle.xmpp_ext.specs.declared.forwarding.Forwarded.{Forwarded}
-use Rattle.xmpp_framing.specs.Attributes.{attribute}
-use Rattle.xmpp_framing.specs.Readers.{child_of, is_named}
-use Rattle.xmpp_framing.specs.Tidied.{tidied, tidied_nodes}
-use Rattle.xmpp_framing.specs.Trees.{Elem, element, no_nodes, child}
+use Rattle.xmpp_trees.specs.Attributes.{attribute}
+use Rattle.xmpp_trees.specs.Readers.{child_of, is_named}
+use Rattle.xmpp_trees.specs.Tidied.{tidied, tidied_nodes}
+use Rattle.xmpp_trees.specs.Trees.{Elem, element, no_nodes, child}
 use Rattle.xmpp_stanza.specs.Names.{client_ns}
 use Rattle.xmpp_stanza.specs.Readings.{stanza_of}
 use Rattle.xmpp_stanza.specs.Views.{MessageView}
 use Rattle.xmpp_stanza.specs.Written.{message_elem}
 use Rattle.xmpp_stanza.specs.declared.stanzas.Stanza.{Stanza}
 use Rattle.xmpp_stanza.specs.declared.stanzas.Stanza.TheVariants.{Message, Presence, Iq}
-use Rattle.xmpp_stanza.specs.declared.stanzas.StanzaFault.{StanzaFault}
-
--- the namespace of forwarded stanzas, and that of delays
-abbrev pub forwarding : List ℕ
-forwarding = codes "urn:xmpp:forward:0"
-
-abbrev pub delays : List ℕ
-delays = codes "urn:xmpp:delay"
+use Rattle.xmpp_stanza.specs.declared.fault.StanzaFault.{StanzaFault}
 
 abbrev pub is_forwarded : Elem → Bool
 is_forwarded e = is_named forwarding (codes "forwarded") e

@@ -1,14 +1,14 @@
 -- Unique and stable ids of stanzas (XEP-0359, section 3).
 use Rattle.std.specs.Prelude.{◌≡◌, Bool, true, [], ◌∷◌, Some, None, IsSome, codes}
-use Rattle.xmpp_ext.specs.Names.{stanza_ids}
-use Rattle.xmpp_ext.specs.Shapes.{attr_named}
-use Rattle.xmpp_ext.specs.declared.fault.Field.{Field}
-use Rattle.xmpp_ext.specs.declared.fault.Field.TheVariants.{Id, Jid}
+use Rattle.xmpp_payload.specs.Names.{stanza_ids}
+use Rattle.xmpp_stanza.specs.Stanzas.{attr_named}
+use Rattle.xmpp_payload.specs.declared.fault.Field.{Field}
+use Rattle.xmpp_payload.specs.declared.fault.Field.TheVariants.{Id, Jid}
 use Rattle.xmpp_ext.specs.declared.ids.OriginId.{OriginId}
 use Rattle.xmpp_ext.specs.declared.ids.StanzaId.{StanzaId}
-use Rattle.xmpp_framing.specs.Attributes.{attribute}
-use Rattle.xmpp_framing.specs.Readers.{is_named}
-use Rattle.xmpp_framing.specs.Trees.{Elem, element, no_nodes}
+use Rattle.xmpp_trees.specs.Attributes.{attribute}
+use Rattle.xmpp_trees.specs.Readers.{is_named}
+use Rattle.xmpp_trees.specs.Trees.{Elem, element, no_nodes}
 
 abbrev pub is_stanza_id : Elem → Bool
 is_stanza_id e = is_named stanza_ids (codes "stanza-id") e

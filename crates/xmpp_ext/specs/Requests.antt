@@ -1,10 +1,12 @@
 -- Requests that ask by a bare element: carbons (XEP-0280, sections 4 and 5), and those of which the whole shape is the name.
-use Rattle.std.specs.Prelude.{◌≡◌, ℕ, Bool, true, false, ◌||◌, List, codes}
-use Rattle.xmpp_ext.specs.Bare.{bare}
-use Rattle.xmpp_ext.specs.Names.{carbons}
+use Rattle.std.specs.Prelude.{◌≡◌, ℕ, Bool, true, false, ◌||◌, List, codes, Result, Ok, Err, if◌then◌else◌}
+use Rattle.xmpp_payload.specs.Bare.{bare}
+use Rattle.xmpp_payload.specs.Names.{carbons}
 use Rattle.xmpp_ext.specs.declared.requests.CarbonsSwitch.{CarbonsSwitch}
-use Rattle.xmpp_framing.specs.Readers.{is_named}
-use Rattle.xmpp_framing.specs.Trees.{Elem}
+use Rattle.xmpp_payload.specs.declared.fault.ExtFault.{ExtFault}
+use Rattle.xmpp_payload.specs.declared.fault.ExtFault.TheVariants.{NotThis}
+use Rattle.xmpp_trees.specs.Readers.{is_named}
+use Rattle.xmpp_trees.specs.Trees.{Elem}
 
 -- `enable` switches carbons on, `disable` off
 abbrev pub switch_name : Bool → List ℕ
@@ -19,3 +21,9 @@ IsCarbonsSwitch e v = is_named carbons (switch_name v.on) e ≡ true
 
 abbrev pub carbons_switch_elem : CarbonsSwitch → Elem
 carbons_switch_elem v = bare carbons (switch_name v.on)
+
+-- what is read of an element
+abbrev pub switch_read : Elem → Result CarbonsSwitch ExtFault
+switch_read e =
+    if is_named carbons (codes "enable") e then Ok (record { on = true })
+    else (if is_named carbons (codes "disable") e then Ok (record { on = false }) else Err NotThis)

@@ -1,21 +1,24 @@
 -- Stream management (XEP-0198, sections 3 to 5).
-use Rattle.std.specs.Prelude.{◌≡◌, ℕ, ◌^◌, Bool, true, List, [], ◌∷◌, ◌++◌, Option, Some, None, IsSome, codes}
+use Rattle.std.specs.Prelude.{◌≡◌, ℕ, ◌^◌, Bool, true, List, [], ◌∷◌, ◌++◌, Option, Some, None, IsSome, Result, Ok, Err, codes, if◌then◌else◌}
 use Rattle.std.specs.Fmt.{decimal}
 use Rattle.std.specs.Option.{option_map}
-use Rattle.xmpp_ext.specs.Names.{management}
-use Rattle.xmpp_ext.specs.Shapes.{attr_named, attr_or_empty, flag, optional_number, required_number}
-use Rattle.xmpp_ext.specs.Writing.{flag_text}
-use Rattle.xmpp_ext.specs.declared.fault.Field.{Field}
-use Rattle.xmpp_ext.specs.declared.fault.Field.TheVariants.{H, Previd, Max, Condition}
+use Rattle.xmpp_payload.specs.Names.{management}
+use Rattle.xmpp_payload.specs.Shapes.{attr_or_empty, flag, optional_number, required_number}
+use Rattle.xmpp_stanza.specs.Stanzas.{attr_named}
+use Rattle.xmpp_payload.specs.Writing.{flag_text}
+use Rattle.xmpp_payload.specs.declared.fault.ExtFault.{ExtFault}
+use Rattle.xmpp_payload.specs.declared.fault.ExtFault.TheVariants.{Bad, NotThis}
+use Rattle.xmpp_payload.specs.declared.fault.Field.{Field}
+use Rattle.xmpp_payload.specs.declared.fault.Field.TheVariants.{H, Previd, Max, Condition}
 use Rattle.xmpp_ext.specs.declared.stream_management.Ack.{Ack}
 use Rattle.xmpp_ext.specs.declared.stream_management.Enable.{Enable}
 use Rattle.xmpp_ext.specs.declared.stream_management.Enabled.{Enabled}
 use Rattle.xmpp_ext.specs.declared.stream_management.Resume.{Resume}
 use Rattle.xmpp_ext.specs.declared.stream_management.Resumed.{Resumed}
 use Rattle.xmpp_ext.specs.declared.stream_management.SmFailed.{SmFailed}
-use Rattle.xmpp_framing.specs.Attributes.{attribute}
-use Rattle.xmpp_framing.specs.Readers.{is_named}
-use Rattle.xmpp_framing.specs.Trees.{Elem, element, no_nodes, child, nodes_of}
+use Rattle.xmpp_trees.specs.Attributes.{attribute}
+use Rattle.xmpp_trees.specs.Readers.{is_named}
+use Rattle.xmpp_trees.specs.Trees.{Elem, element, no_nodes, child, nodes_of}
 use Rattle.xmpp_stanza.specs.Conditions.{IsPlain, condition_in, condition_name}
 use Rattle.xmpp_stanza.specs.Names.{stanza_errors_ns}
 use Rattle.xmpp_stanza.specs.Written.{attr_where, unless_empty}
@@ -28,6 +31,10 @@ is_management name e = is_named management name e
 pub record IsEnable (e : Elem) (v : Enable) : Type 0 where
   pub named : is_management (codes "enable") e ≡ true
   pub resume : v.resume ≡ flag (attr_named (codes "resume") e)
+
+-- the same as a function
+abbrev pub enable_read : Elem → Result Enable ExtFault
+enable_read e = if is_management (codes "enable") e then Ok (record { resume = flag (attr_named (codes "resume") e) }) else Err NotThis
 
 abbrev pub enable_elem : Enable → Elem
 enable_elem v = element management (codes "enable") (attr_where [] (codes "resume") (flag_text v.resume)) no_nodes
@@ -62,6 +69,14 @@ pub record IsAck (e : Elem) (v : Ack) : Type 0 where
 abbrev pub AckLacks : Elem → Field → Type 0
 AckLacks e H = count_of e ≡ None
 AckLacks e _ = ⊥
+
+-- the same as a function
+abbrev pub ack_with : Option ℕ → Result Ack ExtFault
+ack_with None = Err (Bad H)
+ack_with (Some h) = Ok (record { h = h })
+
+abbrev pub ack_read : Elem → Result Ack ExtFault
+ack_read e = if is_management (codes "a") e then ack_with (count_of e) else Err NotThis
 
 abbrev pub ack_elem : Ack → Elem
 ack_elem v = element management (codes "a") (attribute [] (codes "h") (decimal v.h) ∷ []) no_nodes

@@ -1,18 +1,18 @@
-// Resource binding (RFC 6120, section 7).
+//! Resource binding (RFC 6120, section 7).
 ghost use Rattle.std.specs.Prelude.{◌≡◌, Some, IfErr, IfOk, true};
 ghost use Rattle.xmpp_ext.specs.Bind.{BindResultLacks, IsBindRequest, IsBindResult, IsNoAddress, bind_request_elem, bind_result_elem, is_bind};
-ghost use Rattle.xmpp_ext.specs.Faults.{IsFault, LacksNothing};
-ghost use Rattle.xmpp_framing.specs.Views.{elem_view};
+ghost use Rattle.xmpp_payload.specs.Faults.{IsFault, LacksNothing};
+ghost use Rattle.xmpp_trees.specs.Views.{elem_view};
 ghost use Rattle.xmpp_jid.specs.Normal.{normal};
 
-use crate::fault::{ExtFault, Field};
-use crate::names::BINDING;
-use crate::readers::{child_text, child_text_or_empty};
-use crate::writers::{push_text_child, push_text_child_where};
 use std::alloc::Global;
 use xmpp_edge::{NoMemory, Text};
-use xmpp_framing::{Element, Tree};
 use xmpp_jid::{Jid, JidFault};
+use xmpp_payload::{
+    BINDING, ExtFault, Field, child_text, child_text_or_empty, push_text_child,
+    push_text_child_where,
+};
+use xmpp_trees::{Element, Tree};
 
 /// A client's wish for a resource, which is empty where it leaves the choice to the server (RFC 6120, sections 7.6 and
 /// 7.7).
@@ -41,7 +41,14 @@ impl BindRequest {
         ensures ok { IfOk result (λ request. IsBindRequest tree.now request) }
         ensures err { IfErr result (IsFault (is_bind tree.now) LacksNothing) }
     {
-        let element = tree.element();
+        BindRequest::read_element(alloc, tree.element())
+    }
+
+    /// The same of an element, which need not keep the rule of a tree.
+    pub fn read_element(alloc: Global, element: &Element) -> Result<BindRequest, ExtFault>
+        ensures ok { IfOk result (λ request. IsBindRequest (elem_view element.now) request) }
+        ensures err { IfErr result (IsFault (is_bind (elem_view element.now)) LacksNothing) }
+    {
         if !is_bind(element) {
             return Err(ExtFault::NotThis);
         }
@@ -86,7 +93,14 @@ impl BindResult {
         ensures ok { IfOk result (λ bound. IsBindResult tree.now bound) }
         ensures err { IfErr result (IsFault (is_bind tree.now) (BindResultLacks tree.now)) }
     {
-        let element = tree.element();
+        BindResult::read_element(alloc, tree.element())
+    }
+
+    /// The same of an element, which need not keep the rule of a tree.
+    pub fn read_element(alloc: Global, element: &Element) -> Result<BindResult, ExtFault>
+        ensures ok { IfOk result (λ bound. IsBindResult (elem_view element.now) bound) }
+        ensures err { IfErr result (IsFault (is_bind (elem_view element.now)) (BindResultLacks (elem_view element.now))) }
+    {
         if !is_bind(element) {
             return Err(ExtFault::NotThis);
         }

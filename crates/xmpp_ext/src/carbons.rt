@@ -1,16 +1,15 @@
-// Carbons (XEP-0280).
+//! Carbons (XEP-0280).
 ghost use Rattle.std.specs.Prelude.{◌≡◌, IfErr, IfOk};
 ghost use Rattle.xmpp_ext.specs.Carbons.{IsCarbon, WritesCarbon, carbon_checks, carbon_name, is_carbon};
-ghost use Rattle.xmpp_ext.specs.Checks.{IsFirstWrong};
-ghost use Rattle.xmpp_ext.specs.Faults.{IsFault};
-ghost use Rattle.xmpp_framing.specs.Views.{elem_view};
+ghost use Rattle.xmpp_payload.specs.Checks.{IsFirstWrong};
+ghost use Rattle.xmpp_payload.specs.Faults.{IsFault};
+ghost use Rattle.xmpp_trees.specs.Views.{elem_view};
 
-use crate::fault::ExtFault;
 use crate::forwarding::{Forwarded, forwarded_element, forwarded_inside};
-use crate::names::CARBONS;
 use std::alloc::Global;
 use xmpp_edge::NoMemory;
-use xmpp_framing::{Element, Tree};
+use xmpp_payload::{CARBONS, ExtFault};
+use xmpp_trees::{Element, Tree};
 
 /// A copy of a message that another of one's clients sent, or else received (XEP-0280, sections 7 and 8). The stamp of what
 /// came without a delay is 0.
@@ -45,7 +44,14 @@ impl Carbon {
         ensures ok { IfOk result (λ v. IsCarbon tree.now v) }
         ensures err { IfErr result (IsFault (is_carbon tree.now) (IsFirstWrong (carbon_checks tree.now))) }
     {
-        let element = tree.element();
+        Carbon::read_element(alloc, tree.element())
+    }
+
+    /// The same of an element, which need not keep the rule of a tree.
+    pub fn read_element(alloc: Global, element: &Element) -> Result<Carbon, ExtFault>
+        ensures ok { IfOk result (λ v. IsCarbon (elem_view element.now) v) }
+        ensures err { IfErr result (IsFault (is_carbon (elem_view element.now)) (IsFirstWrong (carbon_checks (elem_view element.now)))) }
+    {
         let sent = element.is(CARBONS, "sent");
         if !sent && !element.is(CARBONS, "received") {
             return Err(ExtFault::NotThis);

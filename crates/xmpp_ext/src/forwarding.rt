@@ -1,25 +1,18 @@
-// Forwarded messages (XEP-0297) with their delays (XEP-0203).
+//! Forwarded messages (XEP-0297) with their delays (XEP-0203).
 ghost use Rattle.std.specs.Prelude.{◌≡◌, None, Some, true, codes, IfErr, IfOk};
 ghost use Rattle.std.specs.Option.{option_copied, option_map};
-ghost use Rattle.xmpp_ext.specs.Bare.{bare};
-ghost use Rattle.xmpp_ext.specs.Checks.{IsFirstWrong, first_wrong};
-ghost use Rattle.xmpp_ext.specs.Faults.{IsFault};
-ghost use Rattle.xmpp_ext.specs.Forwarding.{Forwards, IsForwarded, WritesForwarded, delay_elem, delay_moment, forward_checks, forwarded_checks, forwarding, is_forwarded, message_read, the_forwarded};
-ghost use Rattle.xmpp_framing.specs.Views.{elem_view};
+ghost use Rattle.xmpp_payload.specs.Bare.{bare};
+ghost use Rattle.xmpp_payload.specs.Checks.{IsFirstWrong, first_wrong};
+ghost use Rattle.xmpp_payload.specs.Faults.{IsFault};
+ghost use Rattle.xmpp_ext.specs.Forwarding.{Forwards, IsForwarded, WritesForwarded, delay_elem, delay_moment, forward_checks, forwarded_checks, is_forwarded, message_read, the_forwarded};
+ghost use Rattle.xmpp_payload.specs.Names.{forwarding};
+ghost use Rattle.xmpp_trees.specs.Views.{elem_view};
 
-use crate::fault::{ExtFault, Field};
-use crate::moments::{moment_in, moment_text};
-use crate::writers::push_value;
 use std::alloc::Global;
 use xmpp_edge::NoMemory;
-use xmpp_framing::{Element, Tree};
+use xmpp_payload::{DELAYS, ExtFault, FORWARDING, Field, moment_in, moment_text, push_value};
 use xmpp_stanza::{CLIENT, Message, Stanza, StanzaFault, message_tree, read_stanza_element};
-
-/// The namespace of forwarded stanzas (XEP-0297).
-pub(crate) const FORWARDING: &str = "urn:xmpp:forward:0";
-
-/// The namespace of delays (XEP-0203).
-pub(crate) const DELAYS: &str = "urn:xmpp:delay";
+use xmpp_trees::{Element, Tree};
 
 /// A message that is forwarded, and when it was sent, in milliseconds since 1970 (XEP-0297, section 3; XEP-0203).
 #[derive(Drop)]
@@ -74,7 +67,7 @@ pub(crate) fn forwarded_in(
 }
 
 /// The same of the first `forwarded` of a payload. One that is absent is as an empty one.
-pub(crate) fn forwarded_inside(
+pub fn forwarded_inside(
     alloc: Global,
     payload: &Element,
     absent: Option<u64>,
@@ -85,10 +78,7 @@ pub(crate) fn forwarded_inside(
     let Some(element) = payload.child(FORWARDING, "forwarded") else {
         return Err(ExtFault::Bad(field_of_empty(absent)));
     };
-    match forwarded_in(alloc, element, absent) {
-        Ok(forwarded) => Ok(forwarded),
-        Err(fault) => Err(fault),
-    }
+    forwarded_in(alloc, element, absent)
 }
 
 // The first field that is wrong of an empty `forwarded`.
@@ -111,7 +101,7 @@ fn delay_element(alloc: Global, stamp: &str) -> Result<Element, NoMemory>
 }
 
 /// What is forwarded as an element.
-pub(crate) fn forwarded_element(alloc: Global, v: &Forwarded) -> Result<Element, NoMemory>
+pub fn forwarded_element(alloc: Global, v: &Forwarded) -> Result<Element, NoMemory>
     ensures { IfOk result (λ e. WritesForwarded v.now (elem_view e)) }
 {
     let stamp = moment_text(alloc, v.stamp)?;
@@ -131,14 +121,18 @@ impl Forwarded {
         ensures ok { IfOk result (λ v. IsForwarded tree.now v) }
         ensures err { IfErr result (IsFault (is_forwarded tree.now) (IsFirstWrong (forwarded_checks tree.now))) }
     {
-        let element = tree.element();
+        Forwarded::read_element(alloc, tree.element())
+    }
+
+    /// The same of an element, which need not keep the rule of a tree.
+    pub fn read_element(alloc: Global, element: &Element) -> Result<Forwarded, ExtFault>
+        ensures ok { IfOk result (λ v. IsForwarded (elem_view element.now) v) }
+        ensures err { IfErr result (IsFault (is_forwarded (elem_view element.now)) (IsFirstWrong (forwarded_checks (elem_view element.now)))) }
+    {
         if !element.is(FORWARDING, "forwarded") {
             return Err(ExtFault::NotThis);
         }
-        match forwarded_in(alloc, element, None) {
-            Ok(forwarded) => Ok(forwarded),
-            Err(fault) => Err(fault),
-        }
+        forwarded_in(alloc, element, None)
     }
 
     /// The element as a tree. A moment past `LAST_MOMENT` is written as that.

@@ -1,14 +1,13 @@
-// Unique and stable ids of stanzas (XEP-0359).
+//! Unique and stable ids of stanzas (XEP-0359).
 ghost use Rattle.std.specs.Prelude.{◌≡◌, IfErr, IfOk};
-ghost use Rattle.xmpp_ext.specs.Faults.{IsFault};
+ghost use Rattle.xmpp_payload.specs.Faults.{IsFault};
+ghost use Rattle.xmpp_trees.specs.Views.{elem_view};
 ghost use Rattle.xmpp_ext.specs.Ids.{IsOriginId, IsStanzaId, OriginIdLacks, StanzaIdLacks, is_origin_id, is_stanza_id, origin_id_elem, stanza_id_elem};
 
-use crate::fault::{ExtFault, Field};
-use crate::names::STANZA_IDS;
-use crate::writers::push_value;
 use std::alloc::Global;
 use xmpp_edge::{NoMemory, Text};
-use xmpp_framing::{Element, Tree};
+use xmpp_payload::{ExtFault, Field, STANZA_IDS, push_value};
+use xmpp_trees::{Element, Tree};
 
 /// The id that an archive or another entity gave to a stanza, and that entity's address as it is written (XEP-0359,
 /// section 3.1).
@@ -31,7 +30,14 @@ impl StanzaId {
         ensures ok { IfOk result (λ id. IsStanzaId tree.now id) }
         ensures err { IfErr result (IsFault (is_stanza_id tree.now) (StanzaIdLacks tree.now)) }
     {
-        let element = tree.element();
+        StanzaId::read_element(alloc, tree.element())
+    }
+
+    /// The same of an element, which need not keep the rule of a tree.
+    pub fn read_element(alloc: Global, element: &Element) -> Result<StanzaId, ExtFault>
+        ensures ok { IfOk result (λ id. IsStanzaId (elem_view element.now) id) }
+        ensures err { IfErr result (IsFault (is_stanza_id (elem_view element.now)) (StanzaIdLacks (elem_view element.now))) }
+    {
         if !element.is(STANZA_IDS, "stanza-id") {
             return Err(ExtFault::NotThis);
         }
@@ -65,7 +71,14 @@ impl OriginId {
         ensures ok { IfOk result (λ id. IsOriginId tree.now id) }
         ensures err { IfErr result (IsFault (is_origin_id tree.now) (OriginIdLacks tree.now)) }
     {
-        let element = tree.element();
+        OriginId::read_element(alloc, tree.element())
+    }
+
+    /// The same of an element, which need not keep the rule of a tree.
+    pub fn read_element(alloc: Global, element: &Element) -> Result<OriginId, ExtFault>
+        ensures ok { IfOk result (λ id. IsOriginId (elem_view element.now) id) }
+        ensures err { IfErr result (IsFault (is_origin_id (elem_view element.now)) (OriginIdLacks (elem_view element.now))) }
+    {
         if !element.is(STANZA_IDS, "origin-id") {
             return Err(ExtFault::NotThis);
         }

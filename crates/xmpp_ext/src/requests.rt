@@ -1,17 +1,15 @@
-// Requests that ask by a bare element.
-ghost use Rattle.std.specs.Prelude.{◌≡◌, IfErr, IfOk, IsOk, OnOk, codes, true};
-ghost use Rattle.xmpp_ext.specs.Bare.{bare};
-ghost use Rattle.xmpp_ext.specs.Faults.{IsFault, LacksNothing};
-ghost use Rattle.xmpp_ext.specs.Names.{disco_info, pings, roster, sessions};
-ghost use Rattle.xmpp_ext.specs.Requests.{IsCarbonsSwitch, carbons_switch_elem, is_switch};
-ghost use Rattle.xmpp_framing.specs.Readers.{is_named};
+//! Requests that ask by a bare element.
+ghost use Rattle.std.specs.Prelude.{◌≡◌, Err, IfOk, Ok, codes, if◌then◌else◌};
+ghost use Rattle.xmpp_payload.specs.Bare.{bare};
+ghost use Rattle.xmpp_payload.specs.Names.{disco_info, pings, roster, sessions};
+ghost use Rattle.xmpp_ext.specs.Requests.{carbons_switch_elem, switch_read};
+ghost use Rattle.xmpp_trees.specs.Readers.{is_named};
+ghost use Rattle.xmpp_trees.specs.Views.{elem_view};
 
-use crate::bare::{bare_tree, read_bare};
-use crate::fault::ExtFault;
-use crate::names::{CARBONS, DISCO_INFO, PINGS, ROSTER, SESSIONS};
 use std::alloc::Global;
 use xmpp_edge::NoMemory;
-use xmpp_framing::Tree;
+use xmpp_payload::{CARBONS, DISCO_INFO, ExtFault, PINGS, ROSTER, SESSIONS, bare_tree};
+use xmpp_trees::{Element, Tree};
 
 /// A client's wish to get copies of the messages of its account's other sessions from now on, or no longer (XEP-0280,
 /// sections 4 and 5).
@@ -22,13 +20,17 @@ pub struct CarbonsSwitch {
 
 impl CarbonsSwitch {
     /// Reads an `enable` or a `disable` of carbons' namespace, whatever it has and contains. `NotThis` where the tree is
-    /// another element. It takes no memory.
-    pub fn read(_alloc: Global, tree: &Tree) -> Result<CarbonsSwitch, ExtFault>
-        ensures ok { IfOk result (λ switch. IsCarbonsSwitch tree.now switch) }
-        ensures err { IfErr result (IsFault (is_switch tree.now) LacksNothing) }
-        ensures free { is_switch tree.now ≡ true → IsOk result }
+    /// another element.
+    pub fn read(tree: &Tree) -> Result<CarbonsSwitch, ExtFault>
+        ensures { result ≡ switch_read tree.now }
     {
-        let element = tree.element();
+        CarbonsSwitch::read_element(tree.element())
+    }
+
+    /// The same of an element.
+    pub fn read_element(element: &Element) -> Result<CarbonsSwitch, ExtFault>
+        ensures { result ≡ switch_read (elem_view element.now) }
+    {
         if element.is(CARBONS, "enable") {
             Ok(CarbonsSwitch { on: true })
         } else if element.is(CARBONS, "disable") {
@@ -52,15 +54,23 @@ impl CarbonsSwitch {
 pub struct Ping;
 
 impl Ping {
-    /// Reads a `ping` of pings' namespace, whatever it has and contains. `NotThis` where the tree is another element. It
-    /// takes no memory.
-    pub fn read(_alloc: Global, tree: &Tree) -> Result<Ping, ExtFault>
-        ensures ok { OnOk result (is_named pings (codes "ping") tree.now ≡ true) }
-        ensures err { IfErr result (IsFault (is_named pings (codes "ping") tree.now) LacksNothing) }
-        ensures free { is_named pings (codes "ping") tree.now ≡ true → IsOk result }
+    /// Reads a `ping` of pings' namespace, whatever it has and contains. `NotThis` where the tree is another
+    /// element.
+    pub fn read(tree: &Tree) -> Result<Ping, ExtFault>
+        ensures { result ≡ (if is_named pings (codes "ping") tree.now then Ok (record {}) else Err ExtFault.NotThis) }
     {
-        read_bare(tree, PINGS, "ping")?;
-        Ok(Ping)
+        Ping::read_element(tree.element())
+    }
+
+    /// The same of an element.
+    pub fn read_element(element: &Element) -> Result<Ping, ExtFault>
+        ensures { result ≡ (if is_named pings (codes "ping") (elem_view element.now) then Ok (record {}) else Err ExtFault.NotThis) }
+    {
+        if element.is(PINGS, "ping") {
+            Ok(Ping)
+        } else {
+            Err(ExtFault::NotThis)
+        }
     }
 
     /// The element as a tree.
@@ -76,15 +86,23 @@ impl Ping {
 pub struct DiscoInfo;
 
 impl DiscoInfo {
-    /// Reads a `query` of service discovery's namespace, whatever it has and contains. `NotThis` where the tree is another element. It
-    /// takes no memory.
-    pub fn read(_alloc: Global, tree: &Tree) -> Result<DiscoInfo, ExtFault>
-        ensures ok { OnOk result (is_named disco_info (codes "query") tree.now ≡ true) }
-        ensures err { IfErr result (IsFault (is_named disco_info (codes "query") tree.now) LacksNothing) }
-        ensures free { is_named disco_info (codes "query") tree.now ≡ true → IsOk result }
+    /// Reads a `query` of service discovery's namespace, whatever it has and contains. `NotThis` where the tree is another
+    /// element.
+    pub fn read(tree: &Tree) -> Result<DiscoInfo, ExtFault>
+        ensures { result ≡ (if is_named disco_info (codes "query") tree.now then Ok (record {}) else Err ExtFault.NotThis) }
     {
-        read_bare(tree, DISCO_INFO, "query")?;
-        Ok(DiscoInfo)
+        DiscoInfo::read_element(tree.element())
+    }
+
+    /// The same of an element.
+    pub fn read_element(element: &Element) -> Result<DiscoInfo, ExtFault>
+        ensures { result ≡ (if is_named disco_info (codes "query") (elem_view element.now) then Ok (record {}) else Err ExtFault.NotThis) }
+    {
+        if element.is(DISCO_INFO, "query") {
+            Ok(DiscoInfo)
+        } else {
+            Err(ExtFault::NotThis)
+        }
     }
 
     /// The element as a tree.
@@ -100,15 +118,23 @@ impl DiscoInfo {
 pub struct RosterGet;
 
 impl RosterGet {
-    /// Reads a `query` of the roster's namespace, whatever it has and contains. `NotThis` where the tree is another element. It
-    /// takes no memory.
-    pub fn read(_alloc: Global, tree: &Tree) -> Result<RosterGet, ExtFault>
-        ensures ok { OnOk result (is_named roster (codes "query") tree.now ≡ true) }
-        ensures err { IfErr result (IsFault (is_named roster (codes "query") tree.now) LacksNothing) }
-        ensures free { is_named roster (codes "query") tree.now ≡ true → IsOk result }
+    /// Reads a `query` of the roster's namespace, whatever it has and contains. `NotThis` where the tree is another
+    /// element.
+    pub fn read(tree: &Tree) -> Result<RosterGet, ExtFault>
+        ensures { result ≡ (if is_named roster (codes "query") tree.now then Ok (record {}) else Err ExtFault.NotThis) }
     {
-        read_bare(tree, ROSTER, "query")?;
-        Ok(RosterGet)
+        RosterGet::read_element(tree.element())
+    }
+
+    /// The same of an element.
+    pub fn read_element(element: &Element) -> Result<RosterGet, ExtFault>
+        ensures { result ≡ (if is_named roster (codes "query") (elem_view element.now) then Ok (record {}) else Err ExtFault.NotThis) }
+    {
+        if element.is(ROSTER, "query") {
+            Ok(RosterGet)
+        } else {
+            Err(ExtFault::NotThis)
+        }
     }
 
     /// The element as a tree.
@@ -124,15 +150,23 @@ impl RosterGet {
 pub struct SessionSet;
 
 impl SessionSet {
-    /// Reads a `session` of sessions' namespace, whatever it has and contains. `NotThis` where the tree is another element. It
-    /// takes no memory.
-    pub fn read(_alloc: Global, tree: &Tree) -> Result<SessionSet, ExtFault>
-        ensures ok { OnOk result (is_named sessions (codes "session") tree.now ≡ true) }
-        ensures err { IfErr result (IsFault (is_named sessions (codes "session") tree.now) LacksNothing) }
-        ensures free { is_named sessions (codes "session") tree.now ≡ true → IsOk result }
+    /// Reads a `session` of sessions' namespace, whatever it has and contains. `NotThis` where the tree is another
+    /// element.
+    pub fn read(tree: &Tree) -> Result<SessionSet, ExtFault>
+        ensures { result ≡ (if is_named sessions (codes "session") tree.now then Ok (record {}) else Err ExtFault.NotThis) }
     {
-        read_bare(tree, SESSIONS, "session")?;
-        Ok(SessionSet)
+        SessionSet::read_element(tree.element())
+    }
+
+    /// The same of an element.
+    pub fn read_element(element: &Element) -> Result<SessionSet, ExtFault>
+        ensures { result ≡ (if is_named sessions (codes "session") (elem_view element.now) then Ok (record {}) else Err ExtFault.NotThis) }
+    {
+        if element.is(SESSIONS, "session") {
+            Ok(SessionSet)
+        } else {
+            Err(ExtFault::NotThis)
+        }
     }
 
     /// The element as a tree.

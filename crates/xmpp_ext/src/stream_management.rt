@@ -1,22 +1,21 @@
-// Stream management (XEP-0198).
-ghost use Rattle.std.specs.Prelude.{◌≡◌, ◌≢◌, Err, IfErr, IfOk, IsOk, OnOk, codes, true};
+//! Stream management (XEP-0198).
+ghost use Rattle.std.specs.Prelude.{◌≡◌, Err, IfErr, IfOk, Ok, codes, if◌then◌else◌};
 ghost use Rattle.std.specs.Option.{option_copied};
-ghost use Rattle.xmpp_ext.specs.Bare.{bare};
-ghost use Rattle.xmpp_ext.specs.Faults.{IsFault, LacksNothing};
-ghost use Rattle.xmpp_ext.specs.Names.{management};
-ghost use Rattle.xmpp_ext.specs.StreamManagement.{AckLacks, EnabledLacks, IsAck, IsEnable, IsEnabled, IsResume, IsResumed, IsResumption, IsSmFailed, ResumptionLacks, SmFailedLacks, ack_elem, enable_elem, enabled_elem, failed_condition, is_management, resume_elem, resumed_elem, resumption, sm_failed_elem};
-ghost use Rattle.xmpp_framing.specs.Readers.{is_named};
-ghost use Rattle.xmpp_framing.specs.Views.{elem_view};
+ghost use Rattle.xmpp_payload.specs.Bare.{bare};
+ghost use Rattle.xmpp_payload.specs.Faults.{IsFault};
+ghost use Rattle.xmpp_payload.specs.Names.{management};
+ghost use Rattle.xmpp_ext.specs.StreamManagement.{EnabledLacks, IsEnabled, IsResume, IsResumed, IsResumption, IsSmFailed, ResumptionLacks, SmFailedLacks, ack_elem, ack_read, enable_elem, enable_read, enabled_elem, failed_condition, is_management, resume_elem, resumed_elem, resumption, sm_failed_elem};
+ghost use Rattle.xmpp_trees.specs.Readers.{is_named};
+ghost use Rattle.xmpp_trees.specs.Views.{elem_view};
 
-use crate::bare::{bare_tree, read_bare};
-use crate::fault::{ExtFault, Field};
-use crate::names::MANAGEMENT;
-use crate::readers::{attr_text, flag, optional_u32, required_u32};
-use crate::writers::{push_flag, push_number, push_number_where, push_unless_empty, push_value};
 use std::alloc::Global;
 use xmpp_edge::{NoMemory, Text};
-use xmpp_framing::{Element, Tree};
+use xmpp_payload::{
+    ExtFault, Field, MANAGEMENT, attr_text, bare_tree, flag, optional_u32, push_flag, push_number,
+    push_number_where, push_unless_empty, push_value, required_u32,
+};
 use xmpp_stanza::{Condition, STANZA_ERRORS, condition_in};
+use xmpp_trees::{Element, Tree};
 
 /// A client's wish to have its stanzas acknowledged, and whether it wants to resume the stream later (XEP-0198, section
 /// 3).
@@ -87,13 +86,17 @@ fn failed_condition(element: &Element) -> Option<&str>
 
 impl Enable {
     /// Reads an `enable` of stream management's namespace: its attribute `resume`, which is true exactly where it is `true`
-    /// or `1`. `NotThis` where the tree is another element. It takes no memory.
-    pub fn read(_alloc: Global, tree: &Tree) -> Result<Enable, ExtFault>
-        ensures ok { IfOk result (λ enable. IsEnable tree.now enable) }
-        ensures err { IfErr result (IsFault (is_management (codes "enable") tree.now) LacksNothing) }
-        ensures free { is_management (codes "enable") tree.now ≡ true → IsOk result }
+    /// or `1`. `NotThis` where the tree is another element.
+    pub fn read(tree: &Tree) -> Result<Enable, ExtFault>
+        ensures { result ≡ enable_read tree.now }
     {
-        let element = tree.element();
+        Enable::read_element(tree.element())
+    }
+
+    /// The same of an element.
+    pub fn read_element(element: &Element) -> Result<Enable, ExtFault>
+        ensures { result ≡ enable_read (elem_view element.now) }
+    {
         if !is_management(element, "enable") {
             return Err(ExtFault::NotThis);
         }
@@ -120,7 +123,14 @@ impl Enabled {
         ensures ok { IfOk result (λ enabled. IsEnabled tree.now enabled) }
         ensures err { IfErr result (IsFault (is_management (codes "enabled") tree.now) (EnabledLacks tree.now)) }
     {
-        let element = tree.element();
+        Enabled::read_element(alloc, tree.element())
+    }
+
+    /// The same of an element, which need not keep the rule of a tree.
+    pub fn read_element(alloc: Global, element: &Element) -> Result<Enabled, ExtFault>
+        ensures ok { IfOk result (λ enabled. IsEnabled (elem_view element.now) enabled) }
+        ensures err { IfErr result (IsFault (is_management (codes "enabled") (elem_view element.now)) (EnabledLacks (elem_view element.now))) }
+    {
         if !is_management(element, "enabled") {
             return Err(ExtFault::NotThis);
         }
@@ -144,14 +154,23 @@ impl Enabled {
 }
 
 impl Request {
-    /// Reads an `r` of stream management's namespace. `NotThis` where the tree is another element. It takes no memory.
-    pub fn read(_alloc: Global, tree: &Tree) -> Result<Request, ExtFault>
-        ensures ok { OnOk result (is_named management (codes "r") tree.now ≡ true) }
-        ensures err { IfErr result (IsFault (is_named management (codes "r") tree.now) LacksNothing) }
-        ensures free { is_named management (codes "r") tree.now ≡ true → IsOk result }
+    /// Reads an `r` of stream management's namespace, whatever it has and contains. `NotThis` where the tree is another
+    /// element.
+    pub fn read(tree: &Tree) -> Result<Request, ExtFault>
+        ensures { result ≡ (if is_named management (codes "r") tree.now then Ok (record {}) else Err ExtFault.NotThis) }
     {
-        read_bare(tree, MANAGEMENT, "r")?;
-        Ok(Request)
+        Request::read_element(tree.element())
+    }
+
+    /// The same of an element.
+    pub fn read_element(element: &Element) -> Result<Request, ExtFault>
+        ensures { result ≡ (if is_named management (codes "r") (elem_view element.now) then Ok (record {}) else Err ExtFault.NotThis) }
+    {
+        if element.is(MANAGEMENT, "r") {
+            Ok(Request)
+        } else {
+            Err(ExtFault::NotThis)
+        }
     }
 
     /// The element as a tree.
@@ -164,13 +183,17 @@ impl Request {
 
 impl Ack {
     /// Reads an `a` of stream management's namespace: its attribute `h`. `NotThis` where the tree is another element,
-    /// `Bad(H)` where `h` is absent or no number below 2^32. It takes no memory.
-    pub fn read(_alloc: Global, tree: &Tree) -> Result<Ack, ExtFault>
-        ensures ok { IfOk result (λ ack. IsAck tree.now ack) }
-        ensures err { IfErr result (IsFault (is_management (codes "a") tree.now) (AckLacks tree.now)) }
-        ensures free { result ≢ Err ExtFault.NoMemory }
+    /// `Bad(H)` where `h` is absent or no number below 2^32.
+    pub fn read(tree: &Tree) -> Result<Ack, ExtFault>
+        ensures { result ≡ ack_read tree.now }
     {
-        let element = tree.element();
+        Ack::read_element(tree.element())
+    }
+
+    /// The same of an element.
+    pub fn read_element(element: &Element) -> Result<Ack, ExtFault>
+        ensures { result ≡ ack_read (elem_view element.now) }
+    {
         if !is_management(element, "a") {
             return Err(ExtFault::NotThis);
         }
@@ -189,11 +212,10 @@ impl Ack {
 }
 
 // The id and the count of a `resume` or a `resumed`, whichever the name says.
-fn read_resumption(alloc: Global, tree: &Tree, name: &str) -> Result<(Text, u32), ExtFault>
-    ensures ok { IfOk result (λ found. IsResumption name.now tree.now found.0 found.1) }
-    ensures err { IfErr result (IsFault (is_management name.now tree.now) (ResumptionLacks tree.now)) }
+fn read_resumption(alloc: Global, element: &Element, name: &str) -> Result<(Text, u32), ExtFault>
+    ensures ok { IfOk result (λ found. IsResumption name.now (elem_view element.now) found.0 found.1) }
+    ensures err { IfErr result (IsFault (is_management name.now (elem_view element.now)) (ResumptionLacks (elem_view element.now))) }
 {
-    let element = tree.element();
     if !is_management(element, name) {
         return Err(ExtFault::NotThis);
     }
@@ -222,7 +244,15 @@ impl Resume {
         ensures ok { IfOk result (λ resume. IsResume tree.now resume) }
         ensures err { IfErr result (IsFault (is_management (codes "resume") tree.now) (ResumptionLacks tree.now)) }
     {
-        let (previd, h) = read_resumption(alloc, tree, "resume")?;
+        Resume::read_element(alloc, tree.element())
+    }
+
+    /// The same of an element, which need not keep the rule of a tree.
+    pub fn read_element(alloc: Global, element: &Element) -> Result<Resume, ExtFault>
+        ensures ok { IfOk result (λ resume. IsResume (elem_view element.now) resume) }
+        ensures err { IfErr result (IsFault (is_management (codes "resume") (elem_view element.now)) (ResumptionLacks (elem_view element.now))) }
+    {
+        let (previd, h) = read_resumption(alloc, element, "resume")?;
         Ok(Resume { previd, h })
     }
 
@@ -242,7 +272,15 @@ impl Resumed {
         ensures ok { IfOk result (λ resumed. IsResumed tree.now resumed) }
         ensures err { IfErr result (IsFault (is_management (codes "resumed") tree.now) (ResumptionLacks tree.now)) }
     {
-        let (previd, h) = read_resumption(alloc, tree, "resumed")?;
+        Resumed::read_element(alloc, tree.element())
+    }
+
+    /// The same of an element, which need not keep the rule of a tree.
+    pub fn read_element(alloc: Global, element: &Element) -> Result<Resumed, ExtFault>
+        ensures ok { IfOk result (λ resumed. IsResumed (elem_view element.now) resumed) }
+        ensures err { IfErr result (IsFault (is_management (codes "resumed") (elem_view element.now)) (ResumptionLacks (elem_view element.now))) }
+    {
+        let (previd, h) = read_resumption(alloc, element, "resumed")?;
         Ok(Resumed { previd, h })
     }
 
@@ -262,7 +300,14 @@ impl SmFailed {
         ensures ok { IfOk result (λ failed. IsSmFailed tree.now failed) }
         ensures err { IfErr result (IsFault (is_management (codes "failed") tree.now) (SmFailedLacks tree.now)) }
     {
-        let element = tree.element();
+        SmFailed::read_element(alloc, tree.element())
+    }
+
+    /// The same of an element, which need not keep the rule of a tree.
+    pub fn read_element(alloc: Global, element: &Element) -> Result<SmFailed, ExtFault>
+        ensures ok { IfOk result (λ failed. IsSmFailed (elem_view element.now) failed) }
+        ensures err { IfErr result (IsFault (is_management (codes "failed") (elem_view element.now)) (SmFailedLacks (elem_view element.now))) }
+    {
         if !is_management(element, "failed") {
             return Err(ExtFault::NotThis);
         }

@@ -5,16 +5,16 @@ use Rattle.std.specs.Option.{is_some}
 use Rattle.xmpp_names.specs.Ends.{end_of}
 use Rattle.xmpp_names.specs.Headers.{header_of}
 use Rattle.xmpp_names.specs.Starts.{Tag}
-use Rattle.xmpp_names.specs.declared.faults.StartFault.{StartFault}
+use Rattle.xmpp_names.specs.declared.fault.StartWhy.{StartWhy}
 use Rattle.xmpp_tokens.specs.Tags.{is_end}
 use Rattle.xmpp_tokens.specs.Utf8.{continues}
 use Rattle.xmpp_framing.specs.Machine.{IsFrontOf, behind_byte, goes_on, is_too_long, run, step, taken, taken_in}
 use Rattle.xmpp_framing.specs.MarkupSteps.{in_phase}
 use Rattle.xmpp_framing.specs.States.{OpenElement, State, Turn, counted, fails, gathered, gathered_in, gives, item_ended, may_declare, moved, token_fails, token_place, turn}
 use Rattle.xmpp_framing.specs.TagSteps.{added_to, begun, closed, closed_open, element_from, ends, ends_stream, footer_closes, footer_gathered, headed, header_items, header_tag, heads, in_footer, in_opening, in_tag, is_header, is_spelled, is_too_deep, joined_text, leaf, level, misplaced, shallower, starts, tag_anew, tag_closes, tag_gathered, tag_here, tag_in, tag_inside, tag_outside, unlimited}
-use Rattle.xmpp_framing.specs.Tidied.{tidied}
-use Rattle.xmpp_framing.specs.Trees.{Elem}
-use Rattle.xmpp_framing.specs.declared.faults.Why.TheVariants as why
+use Rattle.xmpp_trees.specs.Tidied.{tidied}
+use Rattle.xmpp_trees.specs.Trees.{Elem}
+use Rattle.xmpp_framing.specs.declared.fault.Why.TheVariants as why
 use Rattle.xmpp_framing.specs.declared.items.Item.{Item}
 use Rattle.xmpp_framing.specs.declared.items.Item.TheVariants as item
 use Rattle.xmpp_framing.specs.declared.states.Mode.{Mode}
@@ -52,7 +52,7 @@ begun_keeps front t tag =
     let inner : Turn → Turn = λ u. moved u (level t.state tag) in
     either front deep (λ u. if tag.empty then leaf u tag else inner u) t (is_too_deep t.state) refl (either front (λ u. leaf u tag) inner t tag.empty (leaf_keeps front t tag) refl)
 
-starts_keep : (front : List Item) (t : Turn) (r : Result Tag StartFault) → Keeps front (λ u. starts u r) t
+starts_keep : (front : List Item) (t : Turn) (r : Result Tag StartWhy) → Keeps front (λ u. starts u r) t
 starts_keep front t (Ok tag) = begun_keeps front t tag
 starts_keep front t (Err fault) = refl
 
@@ -72,7 +72,7 @@ inside_keeps : (front : List Item) (t : Turn) → Keeps front tag_inside t
 unfolding tag_inside
 inside_keeps front t = either front ends (λ u. starts u (tag_here t.state)) t (is_end t.state.token) (ends_keep front t) (starts_keep front t (tag_here t.state))
 
-heads_keep : (front : List Item) (t : Turn) (r : Result Tag StartFault) → Keeps front (λ u. heads u r) t
+heads_keep : (front : List Item) (t : Turn) (r : Result Tag StartWhy) → Keeps front (λ u. heads u r) t
 heads_keep front t (Ok tag) = given front (headed t.state tag) t.items (header_items t.state.places.token_at (header_of tag) tag.empty)
 heads_keep front t (Err fault) = refl
 

@@ -19,9 +19,8 @@ in_largest limits scope bytes t few short e =
     let most : length w.0 ≤ limits.attributes = w.2.0 in
     (laws.read largest_limits scope bytes t).1 (w.0, w.1, (omega arith, shorter limits.namespace_bytes 4294967295 t.bindings (omega arith) w.2.1))
 
-pub header_is : (s : State) (t : Tag) (limits : TagLimits) (r : Bool) → limits ≡ tag_limits s.limits → limits.attributes < 2 ^ 32 → limits.namespace_bytes < 2 ^ 32
-    → tag_here s ≡ Ok t → r ≡ opens_stream t → r ≡ is_header s
+pub header_is : (s : State) (t : Tag) (r : Bool) → s.limits.attributes < 2 ^ 32 → s.limits.namespace_bytes < 2 ^ 32 → tag_here s ≡ Ok t → r ≡ opens_stream t → r ≡ is_header s
 unfolding is_header
-header_is s t limits r same few short e is =
-    let larger : start_of largest_limits (scope_in s.scopes) s.token ≡ Ok t = in_largest limits (scope_in s.scopes) s.token t few short (rw same e) in
+header_is s t r few short e is =
+    let larger : start_of largest_limits (scope_in s.scopes) s.token ≡ Ok t = in_largest (tag_limits s.limits) (scope_in s.scopes) s.token t few short e in
     rw larger is

@@ -1,9 +1,9 @@
 -- An open element that no text joins.
 use Rattle.std.proofs.Common.{◌≡◌, ℕ, Bool, true, ◌==◌, List, [], ◌∷◌, length, refl, sym, ap, ◌∙◌, arith}
 use Rattle.std.proofs.lemmas.Bool.{eqb-true}
-use Rattle.xmpp_framing.proofs.Folds.{joined_none}
+use Rattle.xmpp_trees.proofs.Folds.{joined_none}
 use Rattle.xmpp_framing.specs.States.{OpenElement, with_text}
-use Rattle.xmpp_framing.specs.Trees.{Elem, element, no_nodes, with_nodes}
+use Rattle.xmpp_trees.specs.Trees.{Elem, element, no_nodes, with_nodes}
 
 with_no_nodes : (e : Elem) → with_nodes e no_nodes ≡ e
 with_no_nodes (element ns name attrs kids) = ap (element ns name attrs) (joined_none kids)

@@ -1,9 +1,10 @@
--- Runs over pieces.
-use Rattle.std.proofs.Common.{◌≡◌, ℕ, ◌+◌, ◌-◌, ◌≤◌, List, [], ◌∷◌, ◌++◌, take, drop, length, length-drop, refl, sym, ap, subst, ◌∙◌, arith}
+-- Runs over pieces, and behind a fault.
+use Rattle.std.proofs.Common.{◌≡◌, ℕ, ◌+◌, ◌-◌, ◌≤◌, List, [], ◌∷◌, ◌++◌, Some, take, drop, length, length-drop, refl, sym, ap, subst, ◌∙◌, arith}
 use Rattle.std.proofs.lemmas.List.{drop-drop, take-append-drop, take_rest}
 use Rattle.xmpp_framing.proofs.ItemsBefore.{run_grows}
 use Rattle.xmpp_framing.specs.Machine.{IsFrontOf, TakesFront, run, step}
 use Rattle.xmpp_framing.specs.States.{Turn}
+use Rattle.xmpp_framing.specs.declared.fault.Fault.{Fault}
 use Rattle.xmpp_framing.specs.declared.items.Item.{Item}
 
 pub run_append : (t : Turn) (a b : List ℕ) → run t (a ++ b) ≡ run (run t a) b
@@ -30,3 +31,8 @@ front_taken t u bs n h = subst (λ v. IsFrontOf t.items v.items) (sym h.done) (r
 
 pub due_after : (t u : Turn) (items : List Item) (bs whole : List ℕ) → items ≡ t.items → run t bs ≡ run u whole → IsFrontOf items (run u whole).items
 due_after t u items bs whole same left = subst (λ v. IsFrontOf items v.items) left (rw same (run_grows t bs))
+
+-- behind a fault nothing changes
+pub stays : (t : Turn) (bs : List ℕ) (f : Fault) → t.state.fault ≡ Some f → run t bs ≡ t
+stays t [] f h = refl
+stays t (b ∷ bs) f h = let same : step t b ≡ t = rw h refl in rw same (stays t bs f h)

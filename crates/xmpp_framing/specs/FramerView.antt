@@ -6,8 +6,8 @@ use Rattle.xmpp_names.specs.Names.{with_prefix}
 use Rattle.xmpp_names.specs.Scopes.{Scope}
 use Rattle.xmpp_names.specs.declared.scopes.Binding.{Binding}
 use Rattle.xmpp_framing.specs.States.{OpenElement, State}
-use Rattle.xmpp_framing.specs.Trees.{name_of}
-use Rattle.xmpp_framing.specs.Views.{elem_view}
+use Rattle.xmpp_trees.specs.Trees.{name_of}
+use Rattle.xmpp_trees.specs.Views.{elem_view}
 use Rattle.xmpp_framing.specs.declared.framer.Framer.TheInside.{Inside}
 use Rattle.xmpp_framing.specs.declared.states.Open.{Open}
 

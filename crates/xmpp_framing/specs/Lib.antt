@@ -1,25 +1,12 @@
-pub mod Attributes
-pub mod Canon
-pub mod Codes
-pub mod Plain
-pub mod Readers
-pub mod Runs
-pub mod Spells
-pub mod Streams
-pub mod Texts
-pub mod Tidied
-pub mod Trees
-pub mod Views
+-- machine: a function from state and byte to state and items
 pub mod Limits
 pub mod States
+pub mod Expanded
 pub mod TextSteps
 pub mod MarkupSteps
 pub mod TagSteps
 pub mod Machine
+-- views: the state that a declared framer stands for, and steps of many bytes at once
 pub mod StateCodes
 pub mod FramerView
-pub mod FaultRows
 pub mod ManyBytes
-pub mod Within
-pub mod Standing
-pub mod StreamLimits

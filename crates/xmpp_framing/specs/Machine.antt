@@ -8,11 +8,11 @@ use Rattle.xmpp_framing.specs.MarkupSteps.{in_bang, in_declaration, in_question}
 use Rattle.xmpp_framing.specs.States.{State, Turn, counted, fails, is_opening, is_text, may_declare, moved, next_place, token_place}
 use Rattle.xmpp_framing.specs.TagSteps.{in_footer, in_opening, in_tag}
 use Rattle.xmpp_framing.specs.TextSteps.{in_reference, in_section, in_text}
-use Rattle.xmpp_framing.specs.declared.faults.Fault.{Fault}
-use Rattle.xmpp_framing.specs.declared.faults.FeedFault.{FeedFault}
-use Rattle.xmpp_framing.specs.declared.faults.FeedFault.TheVariants as feed
+use Rattle.xmpp_framing.specs.declared.fault.Fault.{Fault}
+use Rattle.xmpp_framing.specs.declared.fault.FeedFault.{FeedFault}
+use Rattle.xmpp_framing.specs.declared.fault.FeedFault.TheVariants as feed
 use Rattle.xmpp_framing.specs.declared.items.Item.{Item}
-use Rattle.xmpp_framing.specs.declared.faults.Why.TheVariants.{Encoding, TooLong}
+use Rattle.xmpp_framing.specs.declared.fault.Why.TheVariants.{Encoding, TooLong}
 use Rattle.xmpp_framing.specs.declared.states.Mode.{Mode}
 use Rattle.xmpp_framing.specs.declared.states.Mode.TheVariants as mode
 

@@ -4,14 +4,14 @@ use Rattle.std.specs.Coded.{Coded, code_by, coded×, coded_list, coded_option}
 use Rattle.std.proofs.Common.{refl}
 use Rattle.xmpp_names.specs.Scopes.{Scope}
 use Rattle.xmpp_names.specs.contracts.scopes.Binding as binding
-use Rattle.xmpp_framing.specs.Codes.{coded_bytes, elem_coded}
+use Rattle.xmpp_trees.specs.Codes.{coded_bytes, elem_coded}
 use Rattle.xmpp_framing.specs.States.{OpenElement, State}
-use Rattle.xmpp_framing.specs.Trees.{Elem}
-use Rattle.xmpp_framing.specs.contracts.faults.Fault as fault
+use Rattle.xmpp_trees.specs.Trees.{Elem}
+use Rattle.xmpp_framing.specs.contracts.fault.Fault as fault
 use Rattle.xmpp_framing.specs.contracts.limits.Limits as limits
 use Rattle.xmpp_framing.specs.contracts.states.Lexical as lexical
 use Rattle.xmpp_framing.specs.contracts.states.Places as places
-use Rattle.xmpp_framing.specs.declared.faults.Fault.{Fault}
+use Rattle.xmpp_framing.specs.declared.fault.Fault.{Fault}
 use Rattle.xmpp_framing.specs.declared.limits.Limits.{Limits}
 use Rattle.xmpp_framing.specs.declared.states.Lexical.{Lexical}
 use Rattle.xmpp_framing.specs.declared.states.Places.{Places}

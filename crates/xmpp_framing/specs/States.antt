@@ -2,10 +2,10 @@
 use Rattle.std.specs.Prelude.{ℕ, ◌+◌, ◌-◌, ◌^◌, min, Bool, true, false, not, ◌&&◌, ◌==◌, if◌then◌else◌, List, [], ◌∷◌, ◌++◌, Option, Some, None, length}
 use Rattle.std.specs.Option.{is_some}
 use Rattle.xmpp_names.specs.Scopes.{Scope}
-use Rattle.xmpp_framing.specs.Tidied.{text_node}
-use Rattle.xmpp_framing.specs.Trees.{Elem, Nodes, with_nodes}
-use Rattle.xmpp_framing.specs.declared.faults.Fault.{Fault}
-use Rattle.xmpp_framing.specs.declared.faults.Why.{Why}
+use Rattle.xmpp_trees.specs.Tidied.{text_node}
+use Rattle.xmpp_trees.specs.Trees.{Elem, Nodes, with_nodes}
+use Rattle.xmpp_framing.specs.declared.fault.Fault.{Fault}
+use Rattle.xmpp_framing.specs.declared.fault.Why.{Why}
 use Rattle.xmpp_framing.specs.declared.items.Item.{Item}
 use Rattle.xmpp_framing.specs.declared.limits.Limits.{Limits}
 use Rattle.xmpp_framing.specs.declared.states.Lexical.{Lexical}

@@ -8,7 +8,7 @@ use Rattle.xmpp_tokens.specs.Utf8.{ended_character, ends_character, ends_forbidd
 use Rattle.xmpp_tokens.specs.declared.references.Reference.{Reference}
 use Rattle.xmpp_tokens.specs.declared.references.Reference.TheVariants as reference
 use Rattle.xmpp_framing.specs.States.{State, fails, token_fails, gathered, in_run, item_begun, token_begun, token_ended}
-use Rattle.xmpp_framing.specs.declared.faults.Why.TheVariants.{Restricted, NotWellFormed}
+use Rattle.xmpp_framing.specs.declared.fault.Why.TheVariants.{Restricted, NotWellFormed}
 use Rattle.xmpp_framing.specs.declared.states.Mode.TheVariants as mode
 
 -- `<` begins a tag, a CDATA section, a declaration, or what is restricted

@@ -1,24 +1,23 @@
 //! Elements under construction.
 ghost use Rattle.std.specs.Prelude.{◌≡◌, [], map, string_bytes, IfOk, OnOk, OnErr};
-ghost use Rattle.xmpp_framing.specs.Attributes.{attribute_of, sorted_attributes};
+ghost use Rattle.xmpp_trees.specs.Attributes.{sorted_attributes};
+ghost use Rattle.xmpp_framing.specs.Expanded.{attribute_of};
 ghost use Rattle.xmpp_framing.specs.FramerView.{open_of};
 ghost use Rattle.xmpp_framing.specs.States.{gives, item_ended, moved, turn, with_text};
 ghost use Rattle.xmpp_framing.specs.TagSteps;
 ghost use Rattle.xmpp_framing.specs.TagSteps.{added, closed, deeper, element_from, joined_text, leaf, level, shallower};
-ghost use Rattle.xmpp_framing.specs.Trees.{element, no_nodes};
-ghost use Rattle.xmpp_framing.specs.Views.{elem_view};
+ghost use Rattle.xmpp_trees.specs.Trees.{element, no_nodes};
+ghost use Rattle.xmpp_trees.specs.Views.{elem_view};
 ghost use Rattle.xmpp_names.specs.TagView.{tag_view};
 
-use crate::attributes::{Attr, Attrs, tidy_attrs};
-use crate::elements::Element;
 use crate::framer::Framer;
 use crate::items::{Item, Items};
 use crate::states::Open;
-use crate::trees::Tree;
 use std::alloc::Global;
 use std::mem;
 use xmpp_edge::{NoMemory, Text};
 use xmpp_names::{ExpandedAttribute, Tag};
+use xmpp_trees::{Attr, Attrs, Element, Tree, tidy_attrs};
 
 // The attributes of a tag in the order of a tree, moved.
 fn attrs_of(alloc: Global, attributes: Vec<ExpandedAttribute>) -> Result<Attrs, NoMemory>
@@ -87,6 +86,8 @@ impl Framer {
                 self.end_token();
             }
             None => {
+                // Attributes were put in order and texts joined as they were read. `Tree::of` finds that so in one walk,
+                // and takes no memory: the state of the definitions needn't say it of each open element.
                 let tree = Tree::of(self.alloc, element)?;
                 items.push(Item::Element(tree))?;
                 self.end_item();

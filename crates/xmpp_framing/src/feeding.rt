@@ -5,7 +5,7 @@ ghost use Rattle.xmpp_framing.specs.Machine.{HasFault, IsFault, IsFrontOf, Takes
 ghost use Rattle.xmpp_framing.specs.States;
 ghost use Rattle.xmpp_framing.specs.States.{turn};
 
-use crate::faults::{FeedFault, Why};
+use crate::fault::{FeedFault, Why};
 use crate::framer::Framer;
 use crate::items::Items;
 use crate::states::Mode;

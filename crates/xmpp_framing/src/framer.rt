@@ -5,7 +5,7 @@ ghost use Rattle.xmpp_framing.specs.Machine.{passed};
 ghost use Rattle.xmpp_framing.specs.States;
 ghost use Rattle.xmpp_framing.specs.States.{counted, fails, from_start, gathered, gathered_in, item_begun, item_ended, token_begun, token_ended, token_fails};
 
-use crate::faults::{Fault, Why};
+use crate::fault::{Fault, Why};
 use crate::limits::Limits;
 use crate::states::{Lexical, Mode, Open, Phase, Places};
 use std::alloc::Global;
@@ -108,7 +108,8 @@ impl Framer {
         }
     }
 
-    // The byte is behind.
+    // The stream goes on after a byte. One that can't continue the character in hand was refused before (`go_on`), and
+    // `held_after` says what is held after any other: so there is no answer of `take` to heed.
     pub(crate) fn pass(&mut self, b: u8)
         ensures { self.new ≡ passed self.old b }
     {

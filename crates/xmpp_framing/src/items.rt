@@ -1,6 +1,6 @@
-use crate::trees::Tree;
 use xmpp_edge::ListOf;
 use xmpp_names::Header;
+use xmpp_trees::Tree;
 
 /// What a stream says, one thing after another (RFC 6120, section 4).
 #[derive(Drop)]

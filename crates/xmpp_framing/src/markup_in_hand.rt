@@ -3,7 +3,7 @@ ghost use Rattle.std.specs.Prelude.{◌≡◌, ◌<◌, length, codes, slice_ind
 ghost use Rattle.xmpp_framing.specs.MarkupSteps;
 ghost use Rattle.xmpp_framing.specs.MarkupSteps.{declares, in_bang, in_declaration, in_phase, in_question, section_opened};
 
-use crate::faults::Why;
+use crate::fault::Why;
 use crate::framer::Framer;
 use crate::states::{Mode, Phase};
 use xmpp_edge::NoMemory;

@@ -3,9 +3,9 @@ ghost use Rattle.std.specs.Prelude.{◌≡◌};
 ghost use Rattle.std.specs.Str.{bytes_eq};
 ghost use Rattle.xmpp_framing.specs.FramerView.{open_of};
 
-use crate::elements::Element;
 use xmpp_edge::Text;
 use xmpp_names::is_spelled;
+use xmpp_trees::Element;
 
 /// Places in the stream, each the smaller of an offset and 2^64 - 1, and a count.
 #[derive(Clone, Copy)]

@@ -3,7 +3,7 @@ ghost use Rattle.std.specs.Prelude.{◌≡◌, ◌++◌, string_bytes, OnOk, OnE
 ghost use Rattle.xmpp_framing.specs.TextSteps;
 ghost use Rattle.xmpp_framing.specs.TextSteps.{between, bracket_taken, character_begun, character_taken, in_reference, in_section, in_text, inside, judged_outside, judged_section, judged_text, kept_back, markup_begun, other_taken, refers, section_taken, text_inside, text_outside};
 
-use crate::faults::Why;
+use crate::fault::Why;
 use crate::framer::Framer;
 use crate::states::Mode;
 use xmpp_edge::NoMemory;

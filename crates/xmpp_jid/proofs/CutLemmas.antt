@@ -1,7 +1,7 @@
 -- Where a text is cut, when it is known how it was put together.
-use Rattle.std.proofs.Common.{◌≡◌, ℕ, ◌+◌, Bool, true, false, nat_lt, List, [], ◌∷◌, ◌++◌, length, take, drop, Some, None, refl, ap, arith, length-append}
-use Rattle.std.specs.List.{list_any, position_or_len}
-use Rattle.std.proofs.lemmas.Bool.{or_parts}
+use Rattle.std.proofs.Common.{◌≡◌, ℕ, ◌+◌, Bool, true, false, nat_lt, List, [], ◌∷◌, ◌++◌, length, take, drop, Some, None, refl, ap, arith, length-append, suc, inl, inr}
+use Rattle.std.specs.List.{list_any, position_or_len, before_first}
+use Rattle.std.proofs.lemmas.Bool.{cases_Bool, or_parts, or_from}
 use Rattle.std.proofs.lemmas.Bool.Decides.{nat_tests}
 use Rattle.std.proofs.lemmas.Grind.{common_steps}
 use Rattle.std.proofs.Math.Seq.{take-append_seam, drop-append-add}
@@ -16,6 +16,16 @@ position_here : (p : ℕ → Bool) (xs : List ℕ) (y : ℕ) (ys : List ℕ) →
 position_here p [] y ys none here = rw here refl
 position_here p (x ∷ xs) y ys none here =
     let parts = or_parts (p x) (list_any p xs) none in rw (parts.0, position_here p xs y ys parts.1 here) (omega arith)
+
+pub before_first_uncut : (p : ℕ → Bool) (xs : List ℕ) → list_any p (before_first p xs) ≡ false
+before_first_uncut p [] = refl
+before_first_uncut p (x ∷ xs) =
+    elim (cases_Bool (p x)) [
+      | inl here ↦ rw here refl
+      | inr none ↦
+          let next : 1 + position_or_len p xs ≡ suc (position_or_len p xs) = omega arith in
+          rw (none, next) (or_from _ _ none (before_first_uncut p xs))
+    ]
 
 drop_behind : (xs : List ℕ) (y : ℕ) (ys : List ℕ) → drop (length xs + 1) (xs ++ y ∷ ys) ≡ ys
 drop_behind xs y ys = drop-append-add xs (y ∷ ys) 1

@@ -3,30 +3,23 @@ use Rattle.std.proofs.Common.{◌≡◌, ℕ, ◌+◌, ◌<◌, true, false, not
 use Rattle.std.specs.Char.{is_ascii_uppercase}
 use Rattle.std.specs.List.{list_all, list_any, AllPass}
 use Rattle.std.specs.Prelude.{IfSome}
+use Rattle.std.specs.Result.{IsErr, IsErrAnd}
 use Rattle.std.proofs.lemmas.Bool.{cases_Bool, and_from, and_parts, or_parts, not_from_false}
 use Rattle.std.proofs.lemmas.List.Folds.{list_any-append}
 use Rattle.std.proofs.lemmas.List.Sums.{AllPass-from_list_all, passes_at_first}
+use Rattle.std.proofs.lemmas.Result.{err_from_is_err_and}
 use Rattle.std.proofs.lemmas.Str.{IsUtf8-nil, IsUtf8-append, IsUtf8-from_ascii, IsUtf8-drop, IsCharBoundary-after_ascii}
 use Rattle.std.proofs.lemmas.Str.Ascii.{IsAscii-nil, IsAscii-cons}
 use Rattle.xmpp_jid.specs.declared.fault.JidFault.{JidFault}
+use Rattle.xmpp_jid.specs.declared.fault.JidFault.TheVariants.{Empty, BadLocal, BadDomain, BadResource, TooLong, NoMemory}
+use Rattle.xmpp_jid.specs.Answers.{Answers, Appends}
 use Rattle.xmpp_jid.specs.Cuts.{is_slash, bare_len, bare_of, resource_of, domain_start, local_of_bare, domain_of_bare, local_of, domain_of}
 use Rattle.xmpp_jid.specs.Forms.{is_local_byte, local_form, domain_form, resource_form}
 use Rattle.xmpp_jid.specs.Indexed.{IsIndexed}
-use Rattle.xmpp_jid.specs.Normal.{joined, followed_by_at, behind_slash, local_front, resource_back, normal, IsPartLength, IsAddress}
-use Rattle.xmpp_jid.proofs.CutLemmas.{cut_full, cut_bare, cut_local, cut_domain}
-use Rattle.xmpp_jid.proofs.PartForms.{IsLocalForm, local_form_ok, local_form_again, local_uncut, local_ascii, IsDomainForm, domain_form_ok, domain_form_again, domain_uncut, domain_ascii, IsResourceForm, resource_form_ok, resource_form_again}
-
--- the local part with its `@`, and the resource with its `/`
-abbrev local_text : Option (List ℕ) → List ℕ
-local_text None = []
-local_text (Some part) = part ++ 64 ∷ []
-
-abbrev resource_text : Option (List ℕ) → List ℕ
-resource_text None = []
-resource_text (Some part) = 47 ∷ part
-
-abbrev whole : Option (List ℕ) → List ℕ → Option (List ℕ) → List ℕ
-whole local domain resource = local_text local ++ domain ++ resource_text resource
+use Rattle.xmpp_jid.specs.Normal.{joined, followed_by_at, behind_slash, local_front, resource_back, normal, IsPartLength, IsAddress, local_text, resource_text, address_text as whole, AreNormalParts, IsJoined}
+use Rattle.xmpp_jid.proofs.CutLemmas.{before_first_uncut, cut_full, cut_bare, cut_local, cut_domain}
+use Rattle.xmpp_jid.proofs.TextCuts.{bare_size}
+use Rattle.xmpp_jid.proofs.PartForms.{resource_form_utf8, IsLocalForm, local_form_ok, local_form_again, local_uncut, local_ascii, IsDomainForm, domain_form_ok, domain_form_again, domain_uncut, domain_ascii, IsResourceForm, resource_form_ok, resource_form_again}
 
 -- the parts of a text, each in normal form
 record AreParts (local : Option (List ℕ)) (domain : List ℕ) (resource : Option (List ℕ)) : Type 0 where
@@ -271,3 +264,118 @@ indexed_whole text local domain resource utf8 l d r =
 pub indexed_from : (text local domain resource out : List ℕ) (domain_at bare_end : ℕ) → IsUtf8 text → local_front (local_of text) ≡ Ok local → domain_form (domain_of text) ≡ Ok domain → resource_back (resource_of text) ≡ Ok resource → out ≡ local ++ domain ++ resource → domain_at ≡ length local → bare_end ≡ length (local ++ domain) → IsIndexed out domain_at bare_end
 indexed_from text local domain resource out domain_at bare_end utf8 l d r whole starts ends =
     rw (whole, starts, ends) (indexed_whole text local domain resource utf8 l d r)
+
+-- ---- parts that are put together
+
+local_parts : (local : Option (List ℕ)) → IfSome local (λ part. local_form part ≡ Ok part) → IfSome local IsLocalForm
+local_parts None h = h
+local_parts (Some part) h = local_form_ok part part h
+
+resource_parts : (resource : Option (List ℕ)) → IfSome resource (λ part. resource_form part ≡ Ok part) → IfSome resource IsResourceForm
+resource_parts None h = h
+resource_parts (Some part) h = resource_form_ok part part (resource_form_utf8 part part h) h
+
+pub are_joined : (local : Option (List ℕ)) (domain : List ℕ) (resource : Option (List ℕ)) → AreNormalParts local domain resource → IsJoined local domain resource
+are_joined local domain resource h =
+    let parts : AreParts local domain resource =
+    record { local_form = local_parts local h.local_stays; domain_form = domain_form_ok domain domain h.domain_stays; resource_form = resource_parts resource h.resource_stays } in
+    let bare = bare_cut local domain parts.local_form parts.domain_form in
+    let cut = whole_cut local domain resource bare.uncut in
+    record {
+      normal_form = whole_again local domain resource parts;
+      local_is = rw cut.front bare.front;
+      domain_is = rw cut.front bare.back;
+      resource_is = cut.back;
+      bare_is = cut.front;
+    }
+
+-- ---- a bare address, and one with a resource
+
+resource_back_utf8 : (given : Option (List ℕ)) (out : List ℕ) → resource_back given ≡ Ok out → IsUtf8 out
+resource_back_utf8 None out is =
+    let same : [] ≡ out = cc in subst IsUtf8 same IsUtf8-nil
+resource_back_utf8 (Some given) out is = by_form (resource_form given) refl is
+  where
+    by_form : (form : Result (List ℕ) JidFault) → resource_form given ≡ form → behind_slash form ≡ Ok out → IsUtf8 out
+    by_form (Err e) f is' = cc
+    by_form (Ok part) f is' =
+        let same : 47 ∷ part ≡ out = cc in
+        subst IsUtf8 same (IsUtf8-append (47 ∷ []) part (IsUtf8-from_ascii (47 ∷ []) slash_ascii) (resource_form_utf8 given part f))
+
+-- a normal form is UTF-8
+pub normal_is_utf8 : (text out : List ℕ) → normal text ≡ Ok out → IsUtf8 out
+normal_is_utf8 text out is =
+    let h = joined_from text out _ _ _ refl refl refl is in
+    let l = local_text_from (local_of text) h.local h.local_is in
+    let domain = IsUtf8-from_ascii h.domain (domain_ascii h.domain (domain_form_ok (domain_of text) h.domain h.domain_is)) in
+    let local = subst IsUtf8 l.is (local_utf8 l.part l.form) in
+    subst IsUtf8 h.joined_is
+    (IsUtf8-append (h.local ++ h.domain) h.resource (IsUtf8-append h.local h.domain local domain) (resource_back_utf8 (resource_of text) h.resource h.resource_is))
+
+bare_stays : (text : List ℕ) → normal text ≡ Ok text → normal (bare_of text) ≡ Ok (bare_of text)
+bare_stays text is = normal_bare text text (normal_is_utf8 text text is) is
+
+pub indexed_bare : (text : List ℕ) (domain_at bare_end : ℕ) → IsIndexed text domain_at bare_end → IsIndexed (bare_of text) domain_at bare_end
+indexed_bare text domain_at bare_end h =
+    let cut = cut_bare (bare_of text) (before_first_uncut is_slash text) in
+    record {
+      normal_form = bare_stays text h.normal_form;
+      domain = rw cut.front h.domain;
+      bare = rw cut.len (h.bare ∙ sym (bare_size text));
+    }
+
+-- a bare text's parts, where it is in normal form
+bare_joined : (bare : List ℕ) (local domain : Result (List ℕ) JidFault) (resource : Result (List ℕ) JidFault) → joined local domain (Ok []) ≡ Ok bare → joined local domain resource ≡ joined (Ok []) (Ok bare) resource
+bare_joined bare (Err e) domain resource is = cc
+bare_joined bare (Ok local) (Err e) resource is = cc
+bare_joined bare (Ok local) (Ok domain) (Err e) is = refl
+bare_joined bare (Ok local) (Ok domain) (Ok resource) is =
+    let same : local ++ domain ++ [] ≡ bare = cc in
+    let less : local ++ domain ≡ bare = sym (append_nil (local ++ domain)) ∙ same in
+    ap (λ (t : List ℕ). Ok (t ++ resource)) less
+
+-- a bare text in normal form with a resource
+pub normal-with_resource : (text given : List ℕ) → normal (bare_of text) ≡ Ok (bare_of text) → normal (bare_of text ++ 47 ∷ given) ≡ joined (Ok []) (Ok (bare_of text)) (resource_back (Some given))
+normal-with_resource text given is =
+    let uncut = before_first_uncut is_slash text in
+    let cut = cut_full (bare_of text) given uncut in
+    let bare = cut_bare (bare_of text) uncut in
+    let again : joined (local_front (local_of_bare (bare_of text))) (domain_form (domain_of_bare (bare_of text))) (Ok []) ≡ Ok (bare_of text) =
+    rw (bare.front, bare.back) at is in
+    rw (cut.front, cut.back) (bare_joined (bare_of text) _ _ (resource_back (Some given)) again)
+
+pub with_resource_ok : (text given part : List ℕ) → normal (bare_of text) ≡ Ok (bare_of text) → resource_back (Some given) ≡ Ok part → normal (bare_of text ++ 47 ∷ given) ≡ Ok (bare_of text ++ part)
+with_resource_ok text given part is resource =
+    normal-with_resource text given is ∙ ap (joined (Ok []) (Ok (bare_of text))) resource
+
+pub with_resource_err : (text given old new : List ℕ) (e : JidFault) (result : Result (List ℕ) JidFault) → IsErr result × IsErrAnd result (λ fault. fault ≡ e) → normal (bare_of text) ≡ Ok (bare_of text) → Appends old new (Err e) (resource_back (Some given)) → Answers {T = List ℕ} (λ jid. jid) result (normal (bare_of text ++ 47 ∷ given))
+with_resource_err text given old new e result handed is h =
+    let found = err_from_is_err_and result handed.1 in
+    rw (found.1, found.2, normal-with_resource text given is) (by_fault e _ h)
+  where
+    by_fault : (e : JidFault) (answer : Result (List ℕ) JidFault) → Appends old new (Err e) answer → Answers {T = List ℕ} (λ jid. jid) (Err e) (joined (Ok []) (Ok (bare_of text)) answer)
+    by_fault Empty answer h' = rw h' refl
+    by_fault BadLocal answer h' = rw h' refl
+    by_fault BadDomain answer h' = rw h' refl
+    by_fault BadResource answer h' = rw h' refl
+    by_fault TooLong answer h' = rw h' refl
+    by_fault NoMemory answer h' = tt
+
+slash_from : (given part : List ℕ) → resource_back (Some given) ≡ Ok part → (resource : List ℕ) × (47 ∷ resource ≡ part)
+slash_from given part is = by_form (resource_form given) is
+  where
+    by_form : (form : Result (List ℕ) JidFault) → behind_slash form ≡ Ok part → (resource : List ℕ) × (47 ∷ resource ≡ part)
+    by_form (Err e) is' = cc
+    by_form (Ok resource) is' = (resource, cc)
+
+pub with_resource_indexed : (text given part : List ℕ) (domain_at bare_end : ℕ) → IsUtf8 given → IsIndexed text domain_at bare_end → resource_back (Some given) ≡ Ok part → IsIndexed (bare_of text ++ part) domain_at bare_end
+with_resource_indexed text given part domain_at bare_end utf8 h is =
+    let slash = slash_from given part is in
+    let cut = cut_full (bare_of text) slash.0 (before_first_uncut is_slash text) in
+    let bare = normal_is_utf8 (bare_of text) (bare_of text) (bare_stays text h.normal_form) in
+    let whole_is = IsUtf8-append (bare_of text) (47 ∷ given) bare (IsUtf8-append (47 ∷ []) given (IsUtf8-from_ascii (47 ∷ []) slash_ascii) utf8) in
+    record {
+      normal_form = normal_again (bare_of text ++ 47 ∷ given) (bare_of text ++ part) whole_is (with_resource_ok text given part (bare_stays text h.normal_form) is);
+      domain = rw (← slash.1, cut.front) h.domain;
+      bare = rw (← slash.1, cut.len) (h.bare ∙ sym (bare_size text));
+    }

@@ -208,3 +208,11 @@ resource_form_ok given part utf8 e =
 pub resource_form_again : (part : List ℕ) → IsResourceForm part → resource_form part ≡ Ok part
 resource_form_again part h =
     rw (not_empty part h.size.0, h.composed, h.fits, encodes-chars part h.utf8) (fitting_again part h.size.1)
+
+-- a resource in normal form is UTF-8
+pub resource_form_utf8 : (given part : List ℕ) → resource_form given ≡ Ok part → IsUtf8 part
+resource_form_utf8 given part e =
+    let some = ok_from_else (length given == 0) Empty _ part e in
+    let fit = ok_from_then (fits_resource (nfc (chars given))) BadResource _ part some.1 in
+    let fits = fitting_ok _ part fit.1 in
+    (nfc (chars given), ((and_parts (all_scalars (nfc (chars given))) _ fit.0).0, fits.0))

@@ -6,7 +6,7 @@ use Rattle.std.proofs.lemmas.Bool.{cases_Bool, cases_lt}
 use Rattle.std.proofs.lemmas.List.{length-take-le, get_or-take, drop-take, take-take}
 use Rattle.std.proofs.lemmas.List.Sums.{passes_at_first, prefix_len-le-length}
 use Rattle.std.proofs.lemmas.Str.{IsCharBoundary-start, IsCharBoundary-end, IsCharBoundary-before_ascii, IsCharBoundary-after_ascii}
-use Rattle.xmpp_jid.specs.Cuts.{is_slash, is_at, bare_len, bare_of, has_local, domain_start, domain_of, local_of}
+use Rattle.xmpp_jid.specs.Cuts.{is_slash, is_at, bare_len, bare_of, has_local, domain_start, domain_of, local_of, local_of_bare}
 
 pub bare_len_within : (text : List ℕ) → bare_len text ≤ length text
 bare_len_within text = prefix_len-le-length _ text
@@ -98,5 +98,29 @@ pub local_none : (text : List ℕ) → domain_start (bare_of text) ≡ 0 → loc
 local_none text zero_start =
     elim (cases_Bool (has_local (bare_of text))) [
       | inl there ↦ absurd (omega (arith, rw there at zero_start))
+      | inr none ↦ rw none refl
+    ]
+
+pub bare_size : (text : List ℕ) → length (bare_of text) ≡ bare_len text
+bare_size text = length-take-le (bare_len text) text (bare_len_within text)
+
+-- the domain begins after the `@` of the local part
+pub start_after : (bare local : List ℕ) → Some local ≡ local_of_bare bare → domain_start bare ≡ length local + 1
+start_after bare local is =
+    elim (cases_Bool (has_local bare)) [
+      | inl there ↦
+          let at : Some local ≡ Some (take (position_or_len is_at bare) bare) = rw there at is in
+          let same : local ≡ take (position_or_len is_at bare) bare = cc in
+          let lt : position_or_len is_at bare < length bare = ltb-true _ _ there in
+          rw there (omega (arith, ap length same, length-take-le (position_or_len is_at bare) bare (omega arith)))
+      | inr none ↦
+          let at : Some local ≡ None = rw none at is in cc
+    ]
+
+pub start_none : (bare : List ℕ) → None ≡ local_of_bare bare → domain_start bare ≡ 0
+start_none bare is =
+    elim (cases_Bool (has_local bare)) [
+      | inl there ↦
+          let at : None ≡ Some (take (position_or_len is_at bare) bare) = rw there at is in cc
       | inr none ↦ rw none refl
     ]

@@ -1,17 +1,21 @@
-ghost use Rattle.std.specs.Prelude.{◌≡◌, ◌≢◌, ◌↔◌, IfOk, IfErr, IsTrue, IsSome, Ok, Err};
+//! An address in normal form (RFC 7622).
+ghost use Rattle.std.specs.Prelude.{◌≡◌, ◌≢◌, ◌↔◌, ◌∷◌, ◌++◌, IfOk, IfErr, IsTrue, IsSome, Ok, Err};
 ghost use Rattle.std.specs.Option.{option_copied};
+ghost use Rattle.xmpp_jid.specs.Answers.{Answers};
 ghost use Rattle.xmpp_jid.specs.Cuts.{bare_of, local_of, domain_of, resource_of};
 ghost use Rattle.xmpp_jid.specs.Normal.{IsAddress, normal};
 
 use crate::fault::JidFault;
-use crate::forms::{begin, end, push_domain, split_local, split_resource};
+use crate::forms::{
+    domain_offset, local_and_at, push_domain, push_slash_and_resource, split_local, split_resource,
+};
 use std::alloc::Global;
 use std::cmp::Ordering;
 use std::fmt;
 use std::marker::Model;
 use xmpp_edge::{Copied, NoMemory, Text};
 
-/// An address `[local@]domain[/resource]` in normal form (RFC 7622 section 3.1). What stands behind the first `/` is
+/// An address `[local@]domain[/resource]` in normal form (RFC 7622, section 3.1). What stands after the first `/` is
 /// the resource, and of the rest, what stands before the first `@` is the local part. Each part has 1 to 1,023 bytes.
 /// The local part is printable ASCII without space and without `"&'/:<>@`, in lower case. The domain is in its ASCII
 /// form, without a full stop at its end. The resource is in Unicode's form NFC and has no control character.
@@ -46,11 +50,11 @@ impl Jid {
     {
         let (bare, resource) = split_resource(text);
         let (local, domain) = split_local(bare);
-        let mut out = begin(alloc, local, text.len())?;
+        let mut out = local_and_at(alloc, local, text.len())?;
         let domain_at = out.len();
         push_domain(alloc, &mut out, domain)?;
         let bare_end = out.len();
-        end(alloc, &mut out, resource)?;
+        push_slash_and_resource(alloc, &mut out, resource)?;
         Ok(Jid {
             text: Text::from(out),
             domain_at,
@@ -115,28 +119,62 @@ impl Jid {
         self.bare() == other.bare()
     }
 
-    /// Whether the address has a resource (RFC 6120 section 1.4).
+    /// Whether the address has a resource (RFC 6120, section 1.4).
     pub fn is_full(&self) -> bool
         ensures { IsTrue result ↔ IsSome (resource_of self.now) }
     {
         self.bare_end < self.text.as_str().len()
     }
 
-    /// An equal address, in memory of its own.
-    pub fn copy(&self, alloc: Global) -> Result<Jid, NoMemory>
-        ensures { IfOk result (λ copy. copy ≡ self.now) }
+    /// The bare address, in memory of its own.
+    pub fn to_bare(&self, alloc: Global) -> Result<Jid, NoMemory>
+        ensures { IfOk result (λ jid. jid ≡ bare_of self.now) }
     {
+        let bare = self.bare();
         Ok(Jid {
-            text: self.text.copied(alloc)?,
+            text: Text::from_str(alloc, bare)?,
             domain_at: self.domain_at,
             bare_end: self.bare_end,
         })
+    }
+
+    /// The bare address with a resource: the normal form of the two with a `/` between them, or why there is none.
+    pub fn with_resource(&self, alloc: Global, resource: &str) -> Result<Jid, JidFault>
+        ensures { Answers (λ jid. jid) result (normal (bare_of self.now ++ 47 ∷ resource.now)) }
+    {
+        let bare = self.bare();
+        let mut out = String::from_str(alloc, bare)?;
+        push_slash_and_resource(alloc, &mut out, Some(resource))?;
+        Ok(Jid {
+            text: Text::from(out),
+            domain_at: self.domain_at,
+            bare_end: self.bare_end,
+        })
+    }
+
+    /// The address that a text in normal form is. It takes no memory.
+    pub fn of_normal(text: Text) -> Jid
+        requires { normal text ≡ Ok text }
+        ensures { result ≡ text }
+    {
+        let (bare, _) = split_resource(text.as_str());
+        let domain_at = domain_offset(bare);
+        let bare_end = bare.len();
+        Jid {
+            text,
+            domain_at,
+            bare_end,
+        }
     }
 }
 
 impl Copied for Jid {
     fn copied(&self, alloc: Global) -> Result<Jid, NoMemory> {
-        self.copy(alloc)
+        Ok(Jid {
+            text: self.text.copied(alloc)?,
+            domain_at: self.domain_at,
+            bare_end: self.bare_end,
+        })
     }
 }
 

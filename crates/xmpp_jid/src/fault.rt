@@ -1,10 +1,11 @@
+//! Why a text is no address.
 use std::alloc::AllocError;
 use std::error::Error;
 use std::fmt;
 use xmpp_edge::NoMemory;
 
 /// Why a text is no address. The parts are judged from the left: local part, domain, resource. Of one part `Empty`
-/// comes first, then the part's own rule, then `TooLong` (RFC 7622 sections 3.2 to 3.4).
+/// comes first, then the part's own rule, then `TooLong` (RFC 7622, sections 3.2 to 3.4).
 #[derive(Clone, Copy, Debug, PartialEq, Eq)]
 pub enum JidFault {
     /// A part that its `@` or `/` announces, or the domain, is empty as given.

@@ -1,10 +1,10 @@
-// The parts of an address, each written in normal form at the end of a text.
+//! The parts of an address, each written in normal form at the end of a text (RFC 7622, sections 3.2 to 3.4).
 ghost use Rattle.std.specs.Prelude.{◌≡◌, chars, string_bytes};
 ghost use Rattle.std.specs.List.{list_all};
 ghost use Rattle.std.specs.Option.{option_copied};
 ghost use Rattle.xmpp_jid.specs.Answers.{Answers, Appends};
-ghost use Rattle.xmpp_jid.specs.Cuts.{bare_of, resource_of, local_of_bare, domain_of_bare};
-ghost use Rattle.xmpp_jid.specs.Forms.{fitting, is_local_byte, less_dot, whole_domain, domain_form, is_resource_char, resource_form};
+ghost use Rattle.xmpp_jid.specs.Cuts.{bare_of, resource_of, domain_start, local_of_bare, domain_of_bare};
+ghost use Rattle.xmpp_jid.specs.Forms.{fitting, is_local_byte, local_form, less_dot, whole_domain, domain_form, is_resource_char, resource_form};
 ghost use Rattle.xmpp_jid.specs.Normal.{local_front, resource_back};
 ghost use Rattle.xmpp_jid.specs.Plain.{is_plain_name, is_printable};
 ghost use Rattle.std.specs.Prelude.{Some, false};
@@ -13,9 +13,10 @@ use crate::fault::JidFault;
 use idna::{AsciiDenyList, Errors, domain_to_ascii_cow};
 use std::alloc::Global;
 use unicode_normalization::to_nfc;
+use xmpp_edge::Text;
 
 /// The most bytes that a part has in normal form.
-const MOST: usize = 1023;
+const MOST_PART_BYTES: usize = 1023;
 
 /// The bare text and the resource of an address.
 pub fn split_resource(text: &str) -> (&str, Option<&str>)
@@ -43,7 +44,7 @@ pub fn split_local(bare: &str) -> (Option<&str>, &str)
 fn push_fitting(out: &mut String, part: &str) -> Result<(), JidFault>
     ensures { Appends (string_bytes out.old) (string_bytes out.new) result (fitting part.now) }
 {
-    if part.len() > MOST {
+    if part.len() > MOST_PART_BYTES {
         return Err(JidFault::TooLong);
     }
     out.push_str(part)?;
@@ -67,28 +68,38 @@ fn is_local(given: &str) -> bool
     given.as_bytes().iter().all(|byte| is_local_byte(*byte))
 }
 
-/// A text with room for `room` bytes, that begins with the local part in normal form and its `@`, where there is a
-/// local part.
-pub fn begin(alloc: Global, local: Option<&str>, room: usize) -> Result<String, JidFault>
-    ensures { Answers string_bytes result (local_front (option_copied local.entry)) }
+// A text with room for `room` bytes, that is a local part in normal form.
+fn local_with_room(alloc: Global, given: &str, room: usize) -> Result<String, JidFault>
+    ensures { Answers string_bytes result (local_form given.now) }
 {
     let mut out = String::with_capacity(alloc, room)?;
-    let Some(given) = local else {
-        return Ok(out);
-    };
     if given.is_empty() {
         return Err(JidFault::Empty);
     }
     if !is_local(given) {
         return Err(JidFault::BadLocal);
     }
-    if given.len() > MOST {
+    if given.len() > MOST_PART_BYTES {
         return Err(JidFault::TooLong);
     }
     out.push_str(given)?;
     out.make_ascii_lowercase();
-    out.push('@')?;
     Ok(out)
+}
+
+/// A text with room for `room` bytes, that is a local part in normal form with its `@`, and empty where there is no
+/// local part.
+pub fn local_and_at(alloc: Global, local: Option<&str>, room: usize) -> Result<String, JidFault>
+    ensures { Answers string_bytes result (local_front (option_copied local.entry)) }
+{
+    match local {
+        None => Ok(String::with_capacity(alloc, room)?),
+        Some(given) => {
+            let mut out = local_with_room(alloc, given, room)?;
+            out.push('@')?;
+            Ok(out)
+        }
+    }
 }
 
 // The name without one full stop at its end.
@@ -185,7 +196,11 @@ fn push_resource(alloc: Global, out: &mut String, given: &str) -> Result<(), Jid
 }
 
 /// Adds a `/` and the resource in its form NFC, where there is a resource.
-pub fn end(alloc: Global, out: &mut String, resource: Option<&str>) -> Result<(), JidFault>
+pub fn push_slash_and_resource(
+    alloc: Global,
+    out: &mut String,
+    resource: Option<&str>,
+) -> Result<(), JidFault>
     ensures { Appends (string_bytes out.old) (string_bytes out.new) result (resource_back (option_copied resource.entry)) }
 {
     match resource {
@@ -195,4 +210,41 @@ pub fn end(alloc: Global, out: &mut String, resource: Option<&str>) -> Result<()
             push_resource(alloc, out, given)
         }
     }
+}
+
+/// Where the domain of a bare text begins, in bytes.
+pub fn domain_offset(bare: &str) -> usize
+    ensures { result ≡ domain_start bare.now }
+{
+    let (local, _) = split_local(bare);
+    match local {
+        Some(local) => local.len() + 1,
+        None => 0,
+    }
+}
+
+/// A local part in normal form: printable ASCII without space and without `"&'/:<>@`, in lower case, of 1 to 1,023
+/// bytes (RFC 7622, section 3.3). It is refused as `Jid::parse` refuses it.
+pub fn local_in_normal_form(alloc: Global, given: &str) -> Result<Text, JidFault>
+    ensures { Answers (λ text. text) result (local_form given.now) }
+{
+    Ok(Text::from(local_with_room(alloc, given, given.len())?))
+}
+
+/// A domain in normal form, its ASCII form (RFC 7622, section 3.2). It is refused as `Jid::parse` refuses it.
+pub fn domain_in_normal_form(alloc: Global, given: &str) -> Result<Text, JidFault>
+    ensures { Answers (λ text. text) result (domain_form given.now) }
+{
+    let mut out = String::with_capacity(alloc, given.len())?;
+    push_domain(alloc, &mut out, given)?;
+    Ok(Text::from(out))
+}
+
+/// A resource in normal form, its form NFC (RFC 7622, section 3.4). It is refused as `Jid::parse` refuses it.
+pub fn resource_in_normal_form(alloc: Global, given: &str) -> Result<Text, JidFault>
+    ensures { Answers (λ text. text) result (resource_form given.now) }
+{
+    let mut out = String::with_capacity(alloc, given.len())?;
+    push_resource(alloc, &mut out, given)?;
+    Ok(Text::from(out))
 }

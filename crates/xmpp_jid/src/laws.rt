@@ -1,7 +1,8 @@
-ghost use Rattle.std.specs.Prelude.{◌≡◌, ℕ, List, Ok};
+//! Laws of normal forms.
+ghost use Rattle.std.specs.Prelude.{◌≡◌, ℕ, List, Ok, Option};
 ghost use Rattle.std.specs.Str.{IsUtf8};
 ghost use Rattle.xmpp_jid.specs.Cuts.{bare_of};
-ghost use Rattle.xmpp_jid.specs.Normal.{IsAddress, normal};
+ghost use Rattle.xmpp_jid.specs.Normal.{AreNormalParts, IsAddress, IsJoined, normal};
 
 /// A law: what is in normal form stays as it is. The normal form of a text is a text whose parts have 1 to 1,023
 /// bytes, and its bare text is in normal form too.
@@ -10,4 +11,10 @@ pub fn normal_form_stays()
     ensures bare { (text out : List ℕ) → IsUtf8 text → normal text ≡ Ok out → normal (bare_of out) ≡ Ok (bare_of out) }
     ensures text { (text out : List ℕ) → IsUtf8 text → normal text ≡ Ok out → IsUtf8 out }
     ensures parts { (text out : List ℕ) → IsUtf8 text → normal text ≡ Ok out → IsAddress out }
+{}
+
+/// A law: parts that are their own normal forms, put together, are an address in normal form, and its parts are these.
+pub fn parts_are_joined()
+    ensures { (local : Option (List ℕ)) (domain : List ℕ) (resource : Option (List ℕ))
+        → AreNormalParts local domain resource → IsJoined local domain resource }
 {}

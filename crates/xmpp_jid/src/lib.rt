@@ -6,9 +6,8 @@ mod address;
 mod fault;
 mod forms;
 mod laws;
-#[cfg(test)]
-mod tests;
 
 pub use address::Jid;
 pub use fault::JidFault;
-pub use laws::normal_form_stays;
+pub use forms::{domain_in_normal_form, local_in_normal_form, resource_in_normal_form};
+pub use laws::{normal_form_stays, parts_are_joined};

@@ -1,4 +1,5 @@
-pub mod IdSets
 pub mod LastIds
+pub mod Orders
+pub mod Repeats
 pub mod Tilings
 pub mod Worked

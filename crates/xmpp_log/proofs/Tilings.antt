@@ -1,6 +1,5 @@
 -- Pages that are tiled stay so with a page behind them.
-use Rattle.std.proofs.Common.{◌≡◌, ◌≢◌, ℕ, ◌<◌, Bool, true, false, cond, List, [], ◌∷◌, ◌++◌, Option, Some, None, String, length, get_or, IfSome, arith, refl, sym, ap, subst, ◌∙◌, append-nil, append_assoc}
-use Rattle.std.specs.BTreeSet.{BTreeSet}
+use Rattle.std.proofs.Common.{◌≡◌, ◌≢◌, ℕ, ◌<◌, Bool, true, false, cond, List, [], ◌∷◌, ◌++◌, Option, Some, None, length, get_or, IfSome, arith, refl, sym, ap, subst, ◌∙◌, append-nil, append_assoc}
 use Rattle.std.specs.List.{AllPairs, list_any}
 use Rattle.std.specs.Str.{bytes_eq}
 use Rattle.std.proofs.lemmas.Bool.{false≢true}
@@ -9,8 +8,9 @@ use Rattle.std.proofs.lemmas.List.{map-append}
 use Rattle.std.proofs.lemmas.List.Folds.{list_any_at}
 use Rattle.std.proofs.lemmas.List.Quantifiers.{all_pairs_push}
 use Rattle.std.proofs.lemmas.Slice.Eq.{bytes_eq-Decides}
-use Rattle.xmpp_log.specs.IdSets.{IsIndexOf}
+use Rattle.xmpp_log.proofs.Repeats.{first_id}
 use Rattle.xmpp_log.specs.LogPages.{LogPage, FollowsOn, ids_of, last_id, log_of, tile_of}
+use Rattle.xmpp_log.specs.Orders.{IsOrderOf}
 use Rattle.xmpp_log.specs.Tilings.{IsTiling, IsSound}
 use Rattle.xmpp_log.specs.Views.{OpenPage, first_repeat, page_for}
 use Rattle.xmpp_log.specs.declared.log_entry.LogEntry.{LogEntry}
@@ -26,14 +26,6 @@ FollowsOn-push before (p ∷ ps) page f e c =
 differs : (ids : List (List ℕ)) (id : List ℕ) → list_any (λ other. bytes_eq id other) ids ≡ false → (k : ℕ) (d : List ℕ) → k < length ids → get_or ids k d ≢ id
 differs ids id none k d below same =
     false≢true (sym none ∙ list_any_at (λ other. bytes_eq id other) ids k d below ((bytes_eq-Decides id (get_or ids k d)).1 (sym same)))
-
-first_at : (b : Bool) (id : List ℕ) (rest : Option (List ℕ)) → cond b (Some id) rest ≡ None → (b ≡ false) × (rest ≡ None)
-first_at true id rest e = absurd cc
-first_at false id rest e = (refl, e)
-
--- where none repeats, the first id is not known, and none of the others repeats behind it
-first_id : (known : List (List ℕ)) (id : List ℕ) (ids : List (List ℕ)) → first_repeat known (id ∷ ids) ≡ None → (list_any (λ other. bytes_eq id other) known ≡ false) × (first_repeat (known ++ id ∷ []) ids ≡ None)
-first_id known id ids none = first_at (list_any (λ other. bytes_eq id other) known) id (first_repeat (known ++ id ∷ []) ids) none
 
 -- ids in which none repeats are distinct
 distinct-append : (known ids : List (List ℕ)) → AllPairs (λ a b. a ≢ b) known → first_repeat known ids ≡ None → AllPairs (λ a b. a ≢ b) (known ++ ids)
@@ -74,21 +66,22 @@ page_for-if queryid None page P e h = absurd cc
 page_for-if queryid (Some p) page P e h = subst P (named_at (bytes_eq p.queryid queryid) p page e) h
 
 -- a log that took over its open page
-pub IsSound-joined : {A : Type 0} (ids new_ids : BTreeSet (String A)) (entries new_entries : List LogEntry) (tiles new_tiles : List Tile) (o left : Option OpenPage) (queryid : List ℕ) (page : OpenPage) (complete : Bool) (total : ℕ)
-    → IsSound ids entries tiles o
+pub IsSound-joined : (order new_order : List ℕ) (entries new_entries : List LogEntry) (tiles new_tiles : List Tile) (o left : Option OpenPage) (queryid : List ℕ) (page : OpenPage) (complete : Bool) (total : ℕ)
+    → IsSound order entries tiles o
     → Some page ≡ page_for queryid o
     → left ≡ None
-    → IsIndexOf new_ids (ids_of entries ++ ids_of page.results)
+    → IsOrderOf new_order (ids_of new_entries)
     → first_repeat (ids_of entries) (ids_of page.results) ≡ None
     → (complete ≡ false → 0 < length page.results)
     → new_entries ≡ entries ++ page.results
     → new_tiles ≡ tiles ++ record { after = page.after; count = length page.results; complete = complete; total = total } ∷ []
-    → IsSound new_ids new_entries new_tiles left
-IsSound-joined ids new_ids entries new_entries tiles new_tiles o left queryid page complete total sound named none indexed fresh advances e f =
+    → IsSound new_order new_entries new_tiles left
+IsSound-joined order new_order entries new_entries tiles new_tiles o left queryid page complete total sound named none ordered fresh advances e f =
     let taken : LogPage = record { after = page.after; entries = page.results; complete = complete; total = total } in
     let behind = page_for-if queryid o page (λ p. p.after ≡ last_id entries) named sound.behind in
     rw (e, f, none) (record {
-      indexed = rw (map-append (λ (e : LogEntry). e.id) entries page.results) indexed;
+      ordered = rw e at ordered;
       tiling = IsTiling-push entries tiles taken sound.tiling behind advances fresh;
       behind = tt;
+      bound = tt;
     })

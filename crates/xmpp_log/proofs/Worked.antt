@@ -1,7 +1,7 @@
 -- The definitions of a log, evaluated at small logs.
 use Rattle.std.proofs.Common.{◌≡◌, ℕ, Bool, true, false, List, [], ◌∷◌, Option, Some, None, Ok, Err, refl}
 use Rattle.xmpp_log.specs.Views.{LogView, with_begun, with_result, fin_answer, after_fin, after_refusal}
-use Rattle.xmpp_log.specs.declared.fin.Fin.{Fin}
+use Rattle.xmpp_pages.specs.declared.fin.Fin.{Fin}
 use Rattle.xmpp_log.specs.declared.fin.FinFault.TheVariants as faults
 use Rattle.xmpp_log.specs.declared.fin.PageOutcome.TheVariants.{More, Complete}
 use Rattle.xmpp_log.specs.declared.log_entry.LogEntry.{LogEntry}

@@ -4,7 +4,7 @@ use Rattle.std.specs.List.{list_any}
 use Rattle.std.specs.Option.{option_map}
 use Rattle.std.specs.Str.{bytes_eq}
 use Rattle.xmpp_log.specs.LogPages.{ids_of, last_id}
-use Rattle.xmpp_log.specs.declared.fin.Fin.{Fin}
+use Rattle.xmpp_pages.specs.declared.fin.Fin.{Fin}
 use Rattle.xmpp_log.specs.declared.fin.FinFault.{FinFault}
 use Rattle.xmpp_log.specs.declared.fin.FinFault.TheVariants as faults
 use Rattle.xmpp_log.specs.declared.fin.PageOutcome.{PageOutcome}

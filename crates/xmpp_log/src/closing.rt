@@ -1,29 +1,32 @@
 //! The end of a page: whether it may join the log, and how it does.
-ghost use Rattle.std.specs.Prelude.{◌≡◌, ℕ, ◌<◌, ◌≤◌, false, None, ◌⊎◌, if◌then◌else◌, List, [], ◌∷◌, ◌++◌, Ok, Err, Result, IfOk, IfErr, OnOk, OnErr, length};
-ghost use Rattle.xmpp_log.specs.IdSets.{IsIndexOf};
+ghost use Rattle.std.specs.Prelude.{◌≡◌, ℕ, ◌-◌, ◌<◌, ◌≤◌, false, None, ◌⊎◌, if◌then◌else◌, List, [], ◌∷◌, ◌++◌, Ok, Err, Result, IfOk, IfErr, OnOk, OnErr, length, vec_len, vec_capacity};
 ghost use Rattle.xmpp_log.specs.LogPages.{ids_of, last_id};
+ghost use Rattle.xmpp_log.specs.Orders.{IsOrderOf};
 ghost use Rattle.xmpp_log.specs.Views.{LogView, advance_of, end_of, outcome_of, first_repeat, repeat_of, same_id};
 
-use crate::fin::{Fin, FinFault, PageOutcome};
-use crate::index::add_ids;
-use crate::log_entry::LogEntries;
+use crate::fin::{FinFault, PageOutcome};
+use crate::id_order::{put, repeated};
+use crate::log_entry::{LogEntries, LogEntry};
 use crate::open_page::{Page, borrowed, copied, last_id, same_id};
 use crate::tile::{Tile, Tiles};
 use std::alloc::Global;
-use std::collections::BTreeSet;
 use xmpp_edge::NoMemory;
+use xmpp_pages::Fin;
 
-/// Makes room for further entries and a further tile.
+/// Makes room for further entries, their places and a further tile.
 pub(crate) fn make_room(
     entries: &mut LogEntries,
+    order: &mut Vec<usize>,
     tiles: &mut Tiles,
     count: usize,
 ) -> Result<(), NoMemory>
     ensures entries { entries.new.items ≡ entries.old.items }
+    ensures order { order.new.items ≡ order.old.items }
     ensures tiles { tiles.new.items ≡ tiles.old.items }
-    ensures room { OnOk result ((count ≤ entries.new.spare) × (1 ≤ tiles.new.spare)) }
+    ensures room { OnOk result ((count ≤ entries.new.spare) × (count ≤ vec_capacity order.new - vec_len order.new) × (1 ≤ tiles.new.spare)) }
 {
     entries.reserve(count)?;
+    order.reserve(count)?;
     tiles.reserve(1)?;
     Ok(())
 }
@@ -43,28 +46,27 @@ fn check_last(alloc: Global, page: &Page, fin: &Fin) -> Result<(), FinFault>
     })
 }
 
-/// Judges a page, and where it may join the log adds its results' ids. Else it leaves the ids as they were.
+/// Judges a page that is to follow these entries.
 pub(crate) fn judge(
-    ids: &mut BTreeSet<String>,
     alloc: Global,
+    entries: &[LogEntry],
+    order: &[usize],
     page: &Page,
     fin: &Fin,
 ) -> Result<PageOutcome, FinFault>
-    ensures exact { (log : LogView) → IsIndexOf ids.old (ids_of log.entries) → (result ≡ Err FinFault.NoMemory) ⊎ (result ≡ end_of log page.now fin.now) }
-    ensures added { OnOk result ((known : List (List ℕ)) → IsIndexOf ids.old known → IsIndexOf ids.new (known ++ ids_of page.now.results)) }
-    ensures fresh { OnOk result ((known : List (List ℕ)) → IsIndexOf ids.old known → first_repeat known (ids_of page.now.results) ≡ None) }
+    requires { IsOrderOf order.now (ids_of entries.now) }
+    ensures exact { (log : LogView) → log.entries ≡ entries.now → (result ≡ Err FinFault.NoMemory) ⊎ (result ≡ end_of log page.now fin.now) }
+    ensures fresh { OnOk result (first_repeat (ids_of entries.now) (ids_of page.now.results) ≡ None) }
     ensures advances { OnOk result (fin.now.complete ≡ false → 0 < length page.now.results) }
-    ensures kept { OnErr result ((known : List (List ℕ)) → IsIndexOf ids.old known → IsIndexOf ids.new known) }
 {
     check_last(alloc, page, fin)?;
     let results = page.results.as_slice();
     if results.is_empty() && !fin.complete {
         return Err(FinFault::NoAdvance);
     }
-    match add_ids(ids, alloc, results) {
-        Ok(None) => Ok(outcome(fin.complete)),
-        Ok(Some(id)) => Err(FinFault::Repeats(id)),
-        Err(NoMemory) => Err(FinFault::NoMemory),
+    match repeated(alloc, order, entries, results)? {
+        None => Ok(outcome(fin.complete)),
+        Some(id) => Err(FinFault::Repeats(id)),
     }
 }
 
@@ -79,21 +81,36 @@ fn outcome(complete: bool) -> PageOutcome
     }
 }
 
-/// Moves results to the end of the entries.
-fn join(entries: &mut LogEntries, results: LogEntries)
-    requires { length results.items ≤ entries.old.spare }
-    ensures { entries.new.items ≡ entries.old.items ++ results.items }
+/// Moves results to the end of the entries, and puts their places in the order.
+fn join(entries: &mut LogEntries, order: &mut Vec<usize>, results: LogEntries)
+    requires entries { length results.items ≤ entries.old.spare }
+    requires places { length results.items ≤ vec_capacity order.old - vec_len order.old }
+    requires order { IsOrderOf order.old.items (ids_of entries.old.items) }
+    requires fresh { first_repeat (ids_of entries.old.items) (ids_of results.items) ≡ None }
+    ensures entries { entries.new.items ≡ entries.old.items ++ results.items }
+    ensures order { IsOrderOf order.new.items (ids_of entries.new.items) }
 {
     for entry in results.into_items() {
+        put(order, entries.as_slice(), entry.id.as_str());
         entries.push_reserved(entry);
     }
 }
 
 /// Moves a page's results to the end of the entries, and keeps the rest of it as a tile.
-pub(crate) fn take_over(entries: &mut LogEntries, tiles: &mut Tiles, page: Page, fin: &Fin)
+pub(crate) fn take_over(
+    entries: &mut LogEntries,
+    order: &mut Vec<usize>,
+    tiles: &mut Tiles,
+    page: Page,
+    fin: &Fin,
+)
     requires entries { length page.results ≤ entries.old.spare }
+    requires places { length page.results ≤ vec_capacity order.old - vec_len order.old }
     requires tiles { 1 ≤ tiles.old.spare }
+    requires order { IsOrderOf order.old.items (ids_of entries.old.items) }
+    requires fresh { first_repeat (ids_of entries.old.items) (ids_of page.results) ≡ None }
     ensures entries { entries.new.items ≡ entries.old.items ++ page.results }
+    ensures order { IsOrderOf order.new.items (ids_of entries.new.items) }
     ensures tiles { tiles.new.items ≡ tiles.old.items ++ record { after = page.after; count = length page.results; complete = fin.now.complete; total = fin.now.count } ∷ [] }
 {
     let Page { after, results, .. } = page;
@@ -103,5 +120,5 @@ pub(crate) fn take_over(entries: &mut LogEntries, tiles: &mut Tiles, page: Page,
         complete: fin.complete,
         total: fin.count,
     });
-    join(entries, results);
+    join(entries, order, results);
 }

@@ -1,5 +1,5 @@
 //! What a device keeps of its account's archive.
-ghost use Rattle.std.specs.Prelude.{◌≡◌, ℕ, ◌≤◌, ◌⊎◌, List, [], ◌∷◌, ◌++◌, Ok, Err, Some, None, IsSome, IsErrOf, IfErr, OnOk, OnErr, IsSomeAnd, MatchOption, length, ◌↔◌};
+ghost use Rattle.std.specs.Prelude.{◌≡◌, ℕ, ◌≤◌, ◌⊎◌, List, [], ◌∷◌, ◌++◌, Ok, Err, Some, None, IsSome, IsErrOf, IfErr, IfSome, OnOk, OnErr, IsSomeAnd, MatchOption, length, ◌↔◌};
 ghost use Rattle.std.specs.Option.{option_copied, option_map};
 ghost use Rattle.xmpp_log.specs.LogPages.{last_id};
 ghost use Rattle.xmpp_log.specs.Tilings.{IsTiling};
@@ -7,24 +7,25 @@ ghost use Rattle.xmpp_log.specs.Views.{after_fin, after_refusal, fin_answer, pag
 
 use crate::closing::{judge, make_room, take_over};
 use crate::faults::{BeginFault, ResultFault};
-use crate::fin::{Fin, FinFault, PageOutcome};
+use crate::fin::{FinFault, PageOutcome};
 use crate::log_entry::{LogEntries, LogEntry};
 use crate::open_page::{Page, copied, last_id, take_page};
 use crate::tile::{Tile, Tiles};
 use std::alloc::Global;
-use std::collections::BTreeSet;
 use std::marker::Model;
 use xmpp_edge::{ListOf, Text};
+use xmpp_pages::{Fin, MOST_RESULTS};
 
 /// A device's log: the entries that it took of its account's archive page by page, in order, what is kept of each
-/// page, and the page that is under way (XEP-0313). An id is looked up in an ordered set, so that no step costs
-/// more as the log grows.
+/// page, and the page that is under way (XEP-0313). Beside the entries it has their places in the order of their ids,
+/// 8 bytes each. An id that is above all others, as each new one of an archive is, is found to be new by one
+/// comparison. Any other is searched for, and moves the places of the ids above it.
 #[derive(Drop)]
 pub struct Log {
     entries: LogEntries,
     tiles: Tiles,
     page: Option<Page>,
-    ids: BTreeSet<String>,
+    order: Vec<usize>,
 }
 
 impl Model for Log {
@@ -35,7 +36,7 @@ impl Model for Log {
 
     ghost view = { λ l. record { entries = l.entries.items; tiles = l.tiles.items; page = l.page } };
 
-    ghost invariant = { λ l. IsSound l.ids l.entries.items l.tiles.items l.page };
+    ghost invariant = { λ l. IsSound l.order.items l.entries.items l.tiles.items l.page };
 }
 
 impl Log {
@@ -47,14 +48,14 @@ impl Log {
             entries: ListOf::new(alloc),
             tiles: ListOf::new(alloc),
             page: None,
-            ids: BTreeSet::new(alloc),
+            order: Vec::new(alloc),
         }
     }
 
     /// Begins a page of at most `max` results behind the last entry, under its query's id. `Underway` comes where
     /// a page is open already; an error leaves the log as it was.
     pub fn begin(&mut self, alloc: Global, queryid: Text, max: u32) -> Result<(), BeginFault>
-        requires { (1 ≤ max) × (max ≤ 100) }
+        requires { (1 ≤ max) × (max ≤ MOST_RESULTS) }
         ensures ok { OnOk result (self.new ≡ with_begun self.old queryid max) }
         ensures underway { IsErrOf result BeginFault.Underway ↔ IsSome self.old.page }
         ensures err { OnErr result (self.new ≡ self.old) }
@@ -101,6 +102,7 @@ impl Log {
         };
         if make_room(
             &mut self.entries,
+            &mut self.order,
             &mut self.tiles,
             page.results.as_slice().len(),
         )
@@ -109,9 +111,21 @@ impl Log {
             self.page = Some(page);
             return Err(FinFault::NoMemory);
         }
-        match judge(&mut self.ids, alloc, &page, fin) {
+        match judge(
+            alloc,
+            self.entries.as_slice(),
+            self.order.as_slice(),
+            &page,
+            fin,
+        ) {
             Ok(outcome) => {
-                take_over(&mut self.entries, &mut self.tiles, page, fin);
+                take_over(
+                    &mut self.entries,
+                    &mut self.order,
+                    &mut self.tiles,
+                    page,
+                    fin,
+                );
                 Ok(outcome)
             }
             Err(FinFault::NoMemory) => {
@@ -150,7 +164,8 @@ impl Log {
 
     /// How many results the open page has, or 0. It takes no memory.
     pub fn got(&self) -> u64
-        ensures { MatchOption self.now.page (result ≡ 0) (λ page. result ≡ length page.results) }
+        ensures count { MatchOption self.now.page (result ≡ 0) (λ page. result ≡ length page.results) }
+        ensures bound { IfSome self.now.page (λ page. (result ≤ page.max) × (page.max ≤ MOST_RESULTS)) }
     {
         match &self.page {
             Some(page) => page.results.as_slice().len() as u64,
@@ -165,101 +180,5 @@ impl Log {
     {
         let Log { entries, tiles, .. } = self;
         (entries, tiles)
-    }
-}
-
-#[cfg(test)]
-mod tests {
-    use super::*;
-    use std::test::Fail;
-    use xmpp_archive::Entry;
-
-    fn entry(alloc: Global, id: &str) -> Result<LogEntry, Fail> {
-        Ok(LogEntry {
-            id: Text::from_str(alloc, id)?,
-            entry: Entry {
-                number: 1,
-                stamp: 0,
-                from: Text::new(alloc),
-                to: Text::new(alloc),
-                normal: false,
-                id: Text::new(alloc),
-                origin: Text::new(alloc),
-                bodies: ListOf::new(alloc),
-            },
-        })
-    }
-
-    /// Runs a page with results of these ids, and names how it ended.
-    fn ending(
-        alloc: Global,
-        ids: &[&str],
-        complete: bool,
-        last: Option<Text>,
-    ) -> Result<&'static str, Fail> {
-        let mut log = Log::new(alloc);
-        log.begin(alloc, Text::from_str(alloc, "q")?, 2)?;
-        for id in ids {
-            log.result("q", entry(alloc, id)?)?;
-        }
-        let fin = Fin {
-            complete,
-            first: None,
-            first_index: 0,
-            last,
-            count: 2,
-        };
-        Ok(named(log.fin(alloc, "q", &fin)))
-    }
-
-    fn named(ending: Result<PageOutcome, FinFault>) -> &'static str {
-        match ending {
-            Ok(PageOutcome::More) => "more",
-            Ok(PageOutcome::Complete) => "complete",
-            Err(FinFault::Stranger) => "stranger",
-            Err(FinFault::Mismatch { .. }) => "mismatch",
-            Err(FinFault::Repeats(_)) => "repeats",
-            Err(FinFault::NoAdvance) => "no advance",
-            Err(FinFault::NoMemory) => "out of memory",
-        }
-    }
-
-    #[test]
-    fn ends_pages(rt: HostRuntime) -> Result<(), Fail> {
-        let alloc = rt.alloc();
-        let a = Text::from_str(alloc, "a")?;
-        assert_eq!(rt; ending(alloc, &["b", "a"], false, Some(a))?, "more");
-        assert_eq!(rt; ending(alloc, &["a"], true, None)?, "mismatch");
-        assert_eq!(rt; ending(alloc, &[], false, None)?, "no advance");
-        Ok(())
-    }
-
-    #[test]
-    fn refuses_repeats(rt: HostRuntime) -> Result<(), Fail> {
-        let alloc = rt.alloc();
-        let a = Text::from_str(alloc, "a")?;
-        assert_eq!(rt; ending(alloc, &["a", "a"], true, Some(a))?, "repeats");
-        Ok(())
-    }
-
-    #[test]
-    fn refuses_calls(rt: HostRuntime) -> Result<(), Fail> {
-        let alloc = rt.alloc();
-        let mut log = Log::new(alloc);
-        assert!(rt; log.result("q", entry(alloc, "a")?) == Err(ResultFault::Stranger));
-        log.begin(alloc, Text::from_str(alloc, "q")?, 1)?;
-        assert!(rt; log.begin(alloc, Text::new(alloc), 1) == Err(BeginFault::Underway));
-        log.result("q", entry(alloc, "a")?)?;
-        assert!(rt; log.result("q", entry(alloc, "b")?) == Err(ResultFault::Overrun));
-        assert!(rt; log.underway() == Some("q") && log.got() == 1);
-        Ok(())
-    }
-
-    #[test]
-    fn gives_its_parts(rt: HostRuntime) {
-        let log = Log::new(rt.alloc());
-        assert!(rt; log.entries().is_empty() && log.tiles().is_empty());
-        let (entries, tiles) = log.into_parts();
-        assert!(rt; entries.as_slice().is_empty() && tiles.as_slice().is_empty());
     }
 }

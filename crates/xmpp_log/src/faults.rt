@@ -1,3 +1,4 @@
+//! Why no page was begun, and why a result was not taken.
 use std::error::Error;
 use std::fmt;
 use xmpp_edge::NoMemory;

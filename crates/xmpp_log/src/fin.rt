@@ -1,16 +1,7 @@
+//! How a page of a log ended, and why one was not taken over.
 use std::error::Error;
 use std::fmt;
 use xmpp_edge::{NoMemory, Text};
-
-/// The end of a page, as the server tells it (XEP-0313 section 4.3, XEP-0059).
-#[derive(Drop)]
-pub struct Fin {
-    pub complete: bool,
-    pub first: Option<Text>,
-    pub first_index: u64,
-    pub last: Option<Text>,
-    pub count: u64,
-}
 
 /// How a page ended.
 #[derive(Clone, Copy, Debug, PartialEq, Eq)]

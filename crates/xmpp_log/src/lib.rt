@@ -5,13 +5,15 @@ mod closing;
 mod device_log;
 mod faults;
 mod fin;
-mod index;
+mod id_order;
+mod laws;
 mod log_entry;
 mod open_page;
 mod tile;
 
 pub use device_log::Log;
 pub use faults::{BeginFault, ResultFault};
-pub use fin::{Fin, FinFault, PageOutcome};
+pub use fin::{FinFault, PageOutcome};
+pub use laws::entries_are_tiled;
 pub use log_entry::{LogEntries, LogEntry};
 pub use tile::{Tile, Tiles};

@@ -1,11 +1,22 @@
+//! An entry of an archive as a device knows it.
+use std::alloc::Global;
 use xmpp_archive::Entry;
-use xmpp_edge::{ListOf, Text};
+use xmpp_edge::{Copied, ListOf, NoMemory, Text};
 
 /// An entry as a device knows it: under the id that the server gave it.
 #[derive(Drop)]
 pub struct LogEntry {
     pub id: Text,
     pub entry: Entry,
+}
+
+impl Copied for LogEntry {
+    fn copied(&self, alloc: Global) -> Result<LogEntry, NoMemory> {
+        Ok(LogEntry {
+            id: self.id.copied(alloc)?,
+            entry: self.entry.copied(alloc)?,
+        })
+    }
 }
 
 /// Entries of a log, in order.

@@ -1,3 +1,4 @@
+//! What is kept of a page.
 use xmpp_edge::{ListOf, Text};
 
 /// What is kept of a page beside its results: the id behind which it was asked for, how many results it had,

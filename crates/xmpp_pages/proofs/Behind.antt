@@ -1,14 +1,13 @@
 -- Numbers one after another, and the pages out of them.
-use Rattle.std.proofs.Common.{◌≡◌, ℕ, zero, suc, ◌+◌, ◌-◌, ◌≤◌, min, max, if◌then◌else◌, Bool, true, false, List, [], ◌∷◌, ◌++◌, length, take, drop, ltb, leb, refl, sym, ap, ◌∙◌, arith, inl, inr}
+use Rattle.std.proofs.Common.{◌≡◌, ℕ, zero, suc, ◌+◌, ◌-◌, ◌≤◌, min, max, if◌then◌else◌, true, false, List, [], ◌∷◌, ◌++◌, length, take, drop, ltb, leb, refl, sym, ap, ◌∙◌, arith, inl, inr}
 use Rattle.std.proofs.lemmas.Bool.{cases_Bool, cases_lt}
 use Rattle.std.proofs.lemmas.Bool.Decides.{nat_tests}
 use Rattle.std.specs.List.{filter}
-use Rattle.xmpp_archive.specs.Entries.{EntryView}
-use Rattle.xmpp_pages.specs.Cuts.{CutView}
+use Rattle.xmpp_archive.specs.Entries.{EntryView, newest}
 use Rattle.xmpp_pages.proofs.Placed.{FollowOn}
-use Rattle.xmpp_pages.specs.PageOf.{last_of}
 use Rattle.xmpp_pages.specs.Spans.{cut_by, index_in, is_within, numbers_behind, numbers_of, portion_by, within}
 use Rattle.xmpp_pages.specs.declared.span.Span.{Span}
+use Rattle.xmpp_pages.proofs.CutViews.{view, same_view}
 
 pub length-numbers_behind : (b k : ℕ) → length (numbers_behind b k) ≡ k
 length-numbers_behind b zero = refl
@@ -96,7 +95,7 @@ abbrev pub behind_by : Span → ℕ → ℕ → ℕ
 behind_by span before count = if span.backward then span.through - count else before
 
 last_behind : (most through before found count : ℕ) → count ≡ min found most → found ≡ through - before →
-    last_of most (numbers_behind before found) ≡ numbers_behind (through - count) count
+    newest most (numbers_behind before found) ≡ numbers_behind (through - count) count
 last_behind most through before found count some size =
     let all = length-numbers_behind before found in
     ap (λ n. drop (n - most) (numbers_behind before found)) all
@@ -126,13 +125,6 @@ place_by base behind (suc k) = behind - base
 place_behind : (base k behind count : ℕ) → (1 ≤ count → behind ≤ base + k) → place_by base behind count ≡ index_in (numbers_behind base k) (numbers_behind behind count)
 place_behind base k behind zero within = refl
 place_behind base k behind (suc count) within = sym (index_behind base k behind (suc count) (within (omega arith)) (omega arith))
-
-abbrev view : List ℕ → ℕ → ℕ → Bool → CutView
-view numbers first_index count complete =
-    record { numbers = numbers; first_index = first_index; count = count; complete = complete }
-
-same_view : (ns ms : List ℕ) (i j c d : ℕ) (a b : Bool) → ns ≡ ms → i ≡ j → c ≡ d → a ≡ b → view ns i c a ≡ view ms j d b
-same_view ns ms i j c d a b numbers index count complete = rw (numbers, index, count, complete)
 
 -- the page out of numbers one after another
 pub cut_behind : (span : Span) (base k before found count behind place : ℕ) (numbers : List ℕ) → before ≡ max span.after base → span.through ≤ base + k →

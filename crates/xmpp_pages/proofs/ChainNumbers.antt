@@ -3,11 +3,10 @@ use Rattle.std.proofs.Common.{◌≡◌, ℕ, zero, suc, ◌+◌, ◌-◌, ◌�
 use Rattle.std.proofs.lemmas.Bool.{cases_Bool}
 use Rattle.std.proofs.lemmas.Bool.Decides.{nat_tests}
 use Rattle.std.proofs.lemmas.List.{length-map}
-use Rattle.std.proofs.lemmas.Option.{none-some, slice_get-map}
+use Rattle.std.proofs.lemmas.Option.{none-some, slice_get-map, same_Some}
 use Rattle.std.specs.List.{filter}
 use Rattle.std.specs.Option.{option_map}
 use Rattle.xmpp_archive.proofs.ChainLaw.{walk_index, walk_none, walk_previous}
-use Rattle.xmpp_archive.proofs.Keys.{some_same}
 use Rattle.xmpp_archive.proofs.Walks.{walk_first, walk_next}
 use Rattle.xmpp_archive.specs.Entries.{EntryView, entry_numbered}
 use Rattle.xmpp_archive.specs.Peers.{chain_ends, chain_of, ends_of, first_of, index_of, is_with, next_of, previous_of}
@@ -16,7 +15,8 @@ use Rattle.xmpp_pages.proofs.Placed.{placed_self}
 use Rattle.xmpp_pages.proofs.Rising.{rises_entries, rises_weaken}
 use Rattle.xmpp_pages.specs.Kept.{AreConsecutive, Kept, first_number, last_number}
 use Rattle.xmpp_pages.specs.Spans.{Rises, number_of_entry, numbers_of}
-use Rattle.xmpp_pages.specs.Stretches.{IsEndsOf, chain_numbers, is_found_with, is_number_with}
+use Rattle.xmpp_pages.specs.Stretches.{IsEndsOf, chain_numbers}
+use Rattle.xmpp_pages.specs.Looks.{is_found_with, is_number_with}
 
 -- the entry at a place of which the number is known
 record IsEntryAt (es : List EntryView) (i x : ℕ) : Type 0 where
@@ -26,7 +26,7 @@ record IsEntryAt (es : List EntryView) (i x : ℕ) : Type 0 where
 
 entry_of : (i x : ℕ) (es : List EntryView) → slice_get (numbers_of es) i ≡ Some x → IsEntryAt es i x
 entry_of i x [] is = absurd (none-some x is)
-entry_of zero x (e ∷ es) is = record { entry = e; there = refl; is = some_same e.number x is }
+entry_of zero x (e ∷ es) is = record { entry = e; there = refl; is = same_Some e.number x is }
 entry_of (suc i) x (e ∷ es) is =
     let rest = entry_of i x es is in
     record { entry = rest.entry; there = rest.there; is = rest.is }
@@ -75,7 +75,7 @@ place_passing t n [] e is passes = absurd (none-some e is)
 place_passing t n (f ∷ es) e is passes =
     elim (cases_Bool (eqb f.number n)) [
       | inl here ↦
-          let same : f ≡ e = some_same f e (rw here at is) in
+          let same : f ≡ e = same_Some f e (rw here at is) in
           let holds : t f ≡ true = rw same passes in
           let number : f.number ≡ n = grind (arith, nat_tests, here) in
           rw holds (0, ap Some number)
@@ -117,7 +117,7 @@ ends_are owner peer es [] ends are is = absurd (none-some ends (sym (walk_none o
 ends_are owner peer es (e ∷ some) ends are is =
     let last = last_entry e some in
     let here = ends_some owner peer es some e last.0 are last.1 in
-    let same : ends_with e (length (e ∷ some)) last.0 ≡ ends = some_same (ends_with e (length (e ∷ some)) last.0) ends (sym here ∙ is) in
+    let same : ends_with e (length (e ∷ some)) last.0 ≡ ends = same_Some (ends_with e (length (e ∷ some)) last.0) ends (sym here ∙ is) in
     let count : length (numbers_of (e ∷ some)) ≡ length (e ∷ some) = length-map (e ∷ some) number_of_entry in
     let end : slice_get (numbers_of (e ∷ some)) (length some) ≡ Some last.0.number =
     slice_get-map number_of_entry (e ∷ some) (length some) ∙ ap (option_map number_of_entry) last.1 in

@@ -2,11 +2,10 @@
 use Rattle.std.proofs.Common.{◌≡◌, ℕ, suc, ◌<◌, ◌≤◌, Bool, true, false, ◌&&◌, List, [], ◌∷◌, ◌++◌, Option, Some, ltb, eqb, refl, ap, ◌∙◌, arith, inl, inr}
 use Rattle.std.proofs.lemmas.Bool.{cases_Bool}
 use Rattle.std.proofs.lemmas.Bool.Decides.{nat_tests}
-use Rattle.std.proofs.lemmas.Slice.Eq.{bytes_eq-Decides}
 use Rattle.std.specs.List.{filter, find}
 use Rattle.std.specs.Option.{option_map}
-use Rattle.std.specs.Str.{bytes_eq}
 use Rattle.xmpp_archive.specs.Entries.{EntryView, entry_numbered}
+use Rattle.xmpp_basis.proofs.Bytes.{same-from_bytes_eq}
 use Rattle.xmpp_pages.proofs.Placed.{FollowOn}
 use Rattle.xmpp_archive.specs.Peers.{is_with, next_of, peer_of}
 use Rattle.xmpp_pages.specs.Spans.{number_of_entry}
@@ -130,15 +129,12 @@ find_head p (e ∷ es) =
       | inr fails ↦ rw fails (find_head p es)
     ]
 
-bytes_same : (xs ys : List ℕ) → bytes_eq xs ys ≡ true → xs ≡ ys
-bytes_same xs ys same = (bytes_eq-Decides xs ys).0 same
-
 -- the next one with the peer of an entry
 pub next_in_chain : (owner peer : List ℕ) (n : ℕ) (es before : List EntryView) (e : EntryView) (rest : List EntryView) → Ascend n es →
     filter (is_with owner peer) es ≡ before ++ e ∷ rest → next_of owner e.number es ≡ head_number rest
 next_in_chain owner peer n es before e rest up is =
     let there : entry_numbered e.number es ≡ Some e = numbered_left (is_with owner peer) n es before e rest up is in
-    let same : peer_of owner e ≡ peer = bytes_same (peer_of owner e) peer (left_passes (is_with owner peer) es before e rest is) in
+    let same : peer_of owner e ≡ peer = same-from_bytes_eq (peer_of owner e) peer (left_passes (is_with owner peer) es before e rest is) in
     let next : number_found (find (λ f. ltb e.number f.number && is_with owner peer f) es) ≡ head_number rest =
     ap number_found (find_both (λ f. ltb e.number f.number) (is_with owner peer) es ∙ ap (find (λ f. ltb e.number f.number)) is)
     ∙ find_behind n before e rest (rw (← is) (ascend_filter (is_with owner peer) n es up)) in

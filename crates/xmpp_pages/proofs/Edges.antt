@@ -2,19 +2,19 @@
 use Rattle.std.proofs.Common.{◌≡◌, ℕ, suc, ◌-◌, ◌<◌, ◌≤◌, if◌then◌else◌, Bool, true, false, List, [], ◌∷◌, Option, Some, None, ltb, eqb, refl, ap, arith, inl, inr}
 use Rattle.std.proofs.lemmas.Bool.{cases_Bool}
 use Rattle.std.proofs.lemmas.Bool.Decides.{nat_tests}
-use Rattle.std.proofs.lemmas.Option.{none-some}
+use Rattle.std.proofs.lemmas.Option.{none-some, same_Some}
 use Rattle.std.specs.List.{find}
 use Rattle.std.specs.Option.{option_map}
-use Rattle.xmpp_archive.proofs.Keys.{some_same}
 use Rattle.xmpp_archive.specs.Entries.{EntryView, entry_numbered}
 use Rattle.xmpp_pages.proofs.Chains.{Ascend, ascend_follow}
 use Rattle.xmpp_pages.proofs.Placed.{placed}
 use Rattle.xmpp_pages.specs.Kept.{Kept}
 use Rattle.xmpp_pages.specs.PageOf.{entry_of_id}
 use Rattle.xmpp_pages.specs.Spans.{IsNumbered, number_of_entry}
-use Rattle.xmpp_pages.specs.Stretches.{is_edge_with, is_found_with, is_number_with, is_place_with}
+use Rattle.xmpp_pages.specs.Stretches.{is_edge_with}
 use Rattle.xmpp_pages.specs.declared.query.Place.{Place}
 use Rattle.xmpp_pages.specs.declared.query.Place.TheVariants.{After, Before}
+use Rattle.xmpp_pages.specs.Looks.{is_found_with, is_number_with, is_place_with}
 
 -- an entry that is found is above what all are above
 found_above : (p : EntryView → Bool) (n : ℕ) (es : List EntryView) (e : EntryView) → Ascend n es → find p es ≡ Some e → n < e.number
@@ -22,7 +22,7 @@ found_above p n [] e up is = absurd (none-some e is)
 found_above p n (f ∷ es) e up is =
     elim (cases_Bool (p f)) [
       | inl here ↦
-          let same : f ≡ e = some_same f e (rw here at is) in
+          let same : f ≡ e = same_Some f e (rw here at is) in
           rw (← same) up.0
       | inr other ↦
           let rest = found_above p f.number es e up.1 (rw other at is) in
@@ -35,7 +35,7 @@ found_numbered p n [] e up is = absurd (none-some e is)
 found_numbered p n (f ∷ es) e up is =
     elim (cases_Bool (p f)) [
       | inl here ↦
-          let same : f ≡ e = some_same f e (rw here at is) in
+          let same : f ≡ e = same_Some f e (rw here at is) in
           let test : eqb f.number e.number ≡ true = rw same (grind (arith, nat_tests)) in
           rw test (ap Some same)
       | inr other ↦
@@ -49,7 +49,7 @@ number_found : (kept : Kept) (peer : List ℕ) (p : EntryView → Bool) (n k : �
     option_map number_of_entry found ≡ Some k → is_found_with kept.owner peer found ≡ true → is_number_with kept peer k ≡ true
 number_found kept peer p n k None up is number passes = absurd (none-some k number)
 number_found kept peer p n k (Some e) up is number passes =
-    let same : e.number ≡ k = some_same e.number k number in
+    let same : e.number ≡ k = same_Some e.number k number in
     let there : entry_numbered k kept.entries ≡ Some e = rw (← same) (found_numbered p n kept.entries e up is) in
     rw there passes
 

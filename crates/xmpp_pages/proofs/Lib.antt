@@ -1,3 +1,4 @@
+pub mod CutViews
 pub mod Behind
 pub mod ChainNumbers
 pub mod Chains

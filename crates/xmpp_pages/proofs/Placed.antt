@@ -112,13 +112,3 @@ find_lost id n (e ∷ es) follow unknown =
     rw follow.0 (false_from_Decides (bytes_eq (id_of (suc n)) id) (bytes_eq-Decides (id_of (suc n)) id)
     (λ is. unknown (suc n) (omega arith) (omega arith) (sym is))) in
     rw other_id (find_lost id (suc n) es follow.1 (λ m above below. unknown m (omega arith) (omega arith)))
-
--- what stands at the last place
-pub last_read : (n : ℕ) (es : List EntryView) (e : EntryView) → slice_get es (length es - 1) ≡ Some e → last_number_or n es ≡ e.number
-last_read n [] e is = absurd (grind (arith, is))
-last_read n (x ∷ []) e is =
-    let same : x ≡ e = grind (arith, is) in
-    ap (λ (v : EntryView). v.number) same
-last_read n (x ∷ y ∷ es) e is =
-    let place : length (x ∷ y ∷ es) - 1 ≡ suc (length (y ∷ es) - 1) = omega arith in
-    last_read x.number (y ∷ es) e (rw place at is)

@@ -13,8 +13,9 @@ use Rattle.xmpp_pages.specs.Matches.{end_passes, is_wanted, matching, start_pass
 use Rattle.xmpp_pages.specs.Parties.{is_full}
 use Rattle.xmpp_pages.specs.Spans.{numbers_of}
 use Rattle.xmpp_pages.specs.Stretches.{chain_numbers, is_absent, is_bare, is_plain}
-use Rattle.xmpp_pages.specs.Walks.{chain, entries_with, is_in_chain}
+use Rattle.xmpp_pages.specs.Walks.{chain, is_in_chain}
 use Rattle.xmpp_pages.specs.declared.query.PageQuery.{PageQuery}
+use Rattle.xmpp_pages.specs.Looks.{entries_with}
 
 record ArePlain (p : Option (List ℕ)) (start end : Option ℕ) : Type 0 where
   bare : is_bare p ≡ true

@@ -1,16 +1,15 @@
 -- Rising numbers, cut at one of them.
 use Rattle.std.proofs.Common.{◌≡◌, ℕ, zero, suc, ◌+◌, ◌<◌, ◌≤◌, true, false, List, [], ◌∷◌, ◌++◌, Some, length, take, drop, slice_get, ltb, leb, refl, ap, arith}
 use Rattle.std.proofs.lemmas.Bool.Decides.{nat_tests}
-use Rattle.std.proofs.lemmas.Option.{none-some}
+use Rattle.std.proofs.lemmas.Option.{none-some, same_Some}
 use Rattle.std.specs.List.{filter}
-use Rattle.xmpp_archive.proofs.Keys.{some_same}
 use Rattle.xmpp_pages.proofs.Rising.{filter_all, filter_none}
 use Rattle.xmpp_pages.specs.Spans.{Rises}
 
 -- a number among rising ones is within them
 pub place_within : (low high i k : ℕ) (ns : List ℕ) → Rises low high ns → slice_get ns i ≡ Some k → (low < k) × (k ≤ high)
 place_within low high i k [] rises is = absurd (none-some k is)
-place_within low high zero k (n ∷ ns) rises is = let same : n ≡ k = some_same n k is in rw (← same) (rises.0, rises.1)
+place_within low high zero k (n ∷ ns) rises is = let same : n ≡ k = same_Some n k is in rw (← same) (rises.0, rises.1)
 place_within low high (suc i) k (n ∷ ns) rises is =
     let rest = place_within n high i k ns rises.2 is in
     (omega (arith, rest.0, rises.0), rest.1)
@@ -19,7 +18,7 @@ place_within low high (suc i) k (n ∷ ns) rises is =
 pub up_to_place : (low high i k : ℕ) (ns : List ℕ) → Rises low high ns → slice_get ns i ≡ Some k → length (filter (λ n. leb n k) ns) ≡ suc i
 up_to_place low high i k [] rises is = absurd (none-some k is)
 up_to_place low high zero k (n ∷ ns) rises is =
-    let same : n ≡ k = some_same n k is in
+    let same : n ≡ k = same_Some n k is in
     let here : leb n k ≡ true = grind (arith, nat_tests, same) in
     let none : filter (λ m. leb m k) ns ≡ [] = filter_none (λ m. leb m k) n high ns rises.2 (λ m above below. grind (arith, nat_tests, same)) in
     rw (here, none) refl
@@ -32,7 +31,7 @@ up_to_place low high (suc i) k (n ∷ ns) rises is =
 pub behind_place : (low high i k : ℕ) (ns : List ℕ) → Rises low high ns → slice_get ns i ≡ Some k → filter (λ n. ltb k n) ns ≡ drop (suc i) ns
 behind_place low high i k [] rises is = absurd (none-some k is)
 behind_place low high zero k (n ∷ ns) rises is =
-    let same : n ≡ k = some_same n k is in
+    let same : n ≡ k = same_Some n k is in
     let here : ltb k n ≡ false = grind (arith, nat_tests, same) in
     rw here (filter_all (λ m. ltb k m) n high ns rises.2 (λ m above below. grind (arith, nat_tests, same)))
 behind_place low high (suc i) k (n ∷ ns) rises is =
@@ -44,7 +43,7 @@ behind_place low high (suc i) k (n ∷ ns) rises is =
 pub before_place : (low high i k : ℕ) (ns : List ℕ) → Rises low high ns → slice_get ns i ≡ Some k → filter (λ n. ltb n k) ns ≡ take i ns
 before_place low high i k [] rises is = absurd (none-some k is)
 before_place low high zero k (n ∷ ns) rises is =
-    let same : n ≡ k = some_same n k is in
+    let same : n ≡ k = same_Some n k is in
     let here : ltb n k ≡ false = grind (arith, nat_tests, same) in
     rw here (filter_none (λ m. ltb m k) n high ns rises.2 (λ m above below. grind (arith, nat_tests, same)))
 before_place low high (suc i) k (n ∷ ns) rises is =
@@ -55,12 +54,12 @@ before_place low high (suc i) k (n ∷ ns) rises is =
 -- a list from the one at a place on
 pub drop_at : (i x : ℕ) (ns : List ℕ) → slice_get ns i ≡ Some x → drop i ns ≡ x ∷ drop (suc i) ns
 drop_at i x [] is = absurd (none-some x is)
-drop_at zero x (n ∷ ns) is = ap (λ m. m ∷ ns) (some_same n x is)
+drop_at zero x (n ∷ ns) is = ap (λ m. m ∷ ns) (same_Some n x is)
 drop_at (suc i) x (n ∷ ns) is = drop_at i x ns is
 
 pub take_at : (k x : ℕ) (ns : List ℕ) → slice_get ns k ≡ Some x → take (suc k) ns ≡ take k ns ++ x ∷ []
 take_at k x [] is = absurd (none-some x is)
-take_at zero x (n ∷ ns) is = ap (λ m. m ∷ []) (some_same n x is)
+take_at zero x (n ∷ ns) is = ap (λ m. m ∷ []) (same_Some n x is)
 take_at (suc k) x (n ∷ ns) is = ap (λ t. n ∷ t) (take_at k x ns is)
 
 pub get_dropped : (p k : ℕ) (ns : List ℕ) → slice_get (drop p ns) k ≡ slice_get ns (p + k)

@@ -5,7 +5,7 @@ use Rattle.std.proofs.Math.Seq.{drop-cons, take-set-lt, take-suc-set}
 use Rattle.std.proofs.Math.ListN.{drop_of_length-le}
 use Rattle.std.proofs.lemmas.Bool.{cases_lt}
 use Rattle.std.proofs.lemmas.List.{drop-set-lt, length-append, length-drop, length-take-le}
-use Rattle.xmpp_pages.specs.PageOf.{last_of}
+use Rattle.xmpp_archive.specs.Entries.{newest}
 
 module _ (slots : List ℕ) (m a x : ℕ) (below : a < m) (fits : m ≤ length slots) where
   -- what both sides are
@@ -38,7 +38,7 @@ module _ (slots : List ℕ) (m a x : ℕ) (below : a < m) (fits : m ≤ length s
       let t = length-append (drop a (take m slots)) (take a slots) in
       omega (arith, s, t, length-drop a (take m slots), length-take-le m slots fits, length-take-le a slots (omega arith))
 
-  last_ones : last_of m ((drop a (take m slots) ++ take a slots) ++ x ∷ []) ≡ turned
+  last_ones : newest m ((drop a (take m slots) ++ take a slots) ++ x ∷ []) ≡ turned
   last_ones =
       let rest : length ((drop a (take m slots) ++ take a slots) ++ x ∷ []) - m ≡ suc zero = omega (arith, size) in
       let oldest : drop a (take m slots) ≡ get_or (take m slots) a 0 ∷ drop (suc a) (take m slots) =
@@ -47,5 +47,5 @@ module _ (slots : List ℕ) (m a x : ℕ) (below : a < m) (fits : m ≤ length s
       rw rest (rw (oldest, next) (append_assoc (drop (a + 1) (take m slots)) (take a slots) (x ∷ [])))
 
   pub ring_step : drop ((a + 1) % m) (take m (set slots a x)) ++ take ((a + 1) % m) (set slots a x)
-      ≡ last_of m ((drop a (take m slots) ++ take a slots) ++ x ∷ [])
+      ≡ newest m ((drop a (take m slots) ++ take a slots) ++ x ∷ [])
   ring_step = after_store ∙ sym last_ones

@@ -3,43 +3,36 @@ use Rattle.std.proofs.Common.{◌≡◌, ℕ, ◌-◌, ◌≤◌, Bool, true, fa
 use Rattle.std.proofs.lemmas.List.{length-map, take-map, drop-map}
 use Rattle.std.specs.List.{filter}
 use Rattle.std.specs.Option.{option_map}
-use Rattle.xmpp_archive.specs.Entries.{EntryView}
+use Rattle.xmpp_archive.specs.Entries.{EntryView, newest}
 use Rattle.xmpp_pages.proofs.Placed.{IsPlaced, placed}
 use Rattle.xmpp_pages.proofs.Rising.{filter_numbers, rises_entries, within_above, within_all, within_below}
-use Rattle.xmpp_pages.specs.Cuts.{CutView}
 use Rattle.xmpp_pages.specs.Kept.{Kept}
 use Rattle.xmpp_pages.specs.Matches.{is_wanted, matching}
-use Rattle.xmpp_pages.specs.PageOf.{cut_out, entry_of_id, index_of, last_of, most_of, page_of}
+use Rattle.xmpp_pages.specs.PageOf.{cut_out, entry_of_id, index_of_page, most_of, page_of}
 use Rattle.xmpp_pages.specs.Spans.{IsNumbered, Rises, cut_by, index_in, number_of_entry, numbers_of, portion_by, within}
 use Rattle.xmpp_pages.specs.declared.query.PageQuery.{PageQuery}
 use Rattle.xmpp_pages.specs.declared.query.Place.TheVariants.{First, After, Before, Last}
 use Rattle.xmpp_pages.specs.declared.span.Span.{Span}
+use Rattle.xmpp_pages.proofs.CutViews.{same_view}
 
-index_same : (matches page : List EntryView) → index_of matches page ≡ index_in (numbers_of matches) (numbers_of page)
+index_same : (matches page : List EntryView) → index_of_page matches page ≡ index_in (numbers_of matches) (numbers_of page)
 index_same matches [] = refl
 index_same matches (e ∷ es) =
     sym (ap length (filter_numbers (λ k. ltb k e.number) matches) ∙ length-map (filter (λ f. ltb (number_of_entry f) e.number) matches) number_of_entry)
-
-abbrev view : List ℕ → ℕ → ℕ → Bool → CutView
-view numbers first_index count complete =
-    record { numbers = numbers; first_index = first_index; count = count; complete = complete }
-
-same_view : (ns ms : List ℕ) (i j c d : ℕ) (a b : Bool) → ns ≡ ms → i ≡ j → c ≡ d → a ≡ b → view ns i c a ≡ view ms j d b
-same_view ns ms i j c d a b numbers index count complete = rw (numbers, index, count, complete)
 
 pub cut_same : (span : Span) (matches found page : List EntryView) → numbers_of found ≡ within span (numbers_of matches) →
     numbers_of page ≡ portion_by span (numbers_of found) → cut_out matches span.most found page ≡ cut_by span (numbers_of matches)
 cut_same span matches found page inside some =
     let numbers : numbers_of page ≡ portion_by span (within span (numbers_of matches)) = some ∙ ap (portion_by span) inside in
     let size : length found ≡ length (within span (numbers_of matches)) = sym (length-map found number_of_entry) ∙ ap length inside in
-    same_view (numbers_of page) (portion_by span (within span (numbers_of matches))) (index_of matches page)
+    same_view (numbers_of page) (portion_by span (within span (numbers_of matches))) (index_of_page matches page)
     (index_in (numbers_of matches) (portion_by span (within span (numbers_of matches)))) (length matches)
     (length (numbers_of matches)) (leb (length found) span.most) (leb (length (within span (numbers_of matches))) span.most)
     numbers (index_same matches page ∙ ap (index_in (numbers_of matches)) numbers)
     (sym (length-map matches number_of_entry)) (ap (λ n. leb n span.most) size)
 
-last_of-map : (most : ℕ) (es : List EntryView) → numbers_of (last_of most es) ≡ last_of most (numbers_of es)
-last_of-map most es =
+newest-map : (most : ℕ) (es : List EntryView) → numbers_of (newest most es) ≡ newest most (numbers_of es)
+newest-map most es =
     sym (drop-map number_of_entry (length es - most) es) ∙ ap (λ n. drop (n - most) (numbers_of es)) (sym (length-map es number_of_entry))
 
 -- of the archive's entries that match, the numbers
@@ -67,7 +60,7 @@ page_last kept query first last most known place max =
     let matches = matching kept query in
     let all : within (span_at 0 last most true) (numbers_of matches) ≡ numbers_of matches =
     within_all (span_at 0 last most true) (first - 1) last (numbers_of matches) (matches_rise kept query (first - 1) last known.1) (omega arith) (omega arith) in
-    rw (place, ← max) (ap Some (cut_same (span_at 0 last most true) matches matches (last_of most matches) (sym all) (last_of-map most matches)))
+    rw (place, ← max) (ap Some (cut_same (span_at 0 last most true) matches matches (newest most matches) (sym all) (newest-map most matches)))
 
 -- an entry with the number that was found
 entry_found : (k : ℕ) (found : Option EntryView) → option_map number_of_entry found ≡ Some k → (e : EntryView) × (found ≡ Some e) × (e.number ≡ k)
@@ -98,4 +91,4 @@ page_before kept query id first last most k known place is low max =
     let inside : numbers_of found ≡ within (span_at 0 (k - 1) most true) (numbers_of matches) =
     sym (within_below (span_at 0 (k - 1) most true) k (first - 1) last (numbers_of matches) (matches_rise kept query (first - 1) last known.1) (omega arith) (omega arith)
     ∙ filter_numbers (λ n. ltb n k) matches) in
-    rw (place, entry.1, entry.2, ← max) (ap Some (cut_same (span_at 0 (k - 1) most true) matches found (last_of most found) inside (last_of-map most found)))
+    rw (place, entry.1, entry.2, ← max) (ap Some (cut_same (span_at 0 (k - 1) most true) matches found (newest most found) inside (newest-map most found)))

@@ -8,9 +8,10 @@ use Rattle.xmpp_pages.proofs.ChainNumbers.{numbers_ends, numbers_index, numbers_
 use Rattle.xmpp_pages.proofs.Positions.{get_within}
 use Rattle.xmpp_pages.proofs.StretchCuts.{beside_is}
 use Rattle.xmpp_pages.specs.Kept.{AreConsecutive, Kept, last_number}
-use Rattle.xmpp_pages.specs.Stretches.{IsOpenSpan, IsStretch, chain_numbers, edge_of, is_number_with, number_or, start_of, stretch_at}
+use Rattle.xmpp_pages.specs.Stretches.{IsOpenSpan, IsStretch, chain_numbers, edge_of, number_or, start_of, stretch_at}
 use Rattle.xmpp_pages.specs.declared.span.Span.{Span}
 use Rattle.xmpp_pages.specs.declared.stretch.Stretch.{Stretch}
+use Rattle.xmpp_pages.specs.Looks.{is_number_with}
 
 -- the entry stands at this index
 pub record IsFound (kept : Kept) (peer : List ℕ) (number index count : ℕ) : Type 0 where

@@ -4,17 +4,16 @@ use Rattle.std.proofs.Math.Seq.{drop-nil}
 use Rattle.std.proofs.lemmas.Bool.{cases_Bool, cases_lt}
 use Rattle.std.proofs.lemmas.Bool.Decides.{nat_tests}
 use Rattle.std.proofs.lemmas.List.{length-drop, length-take-le, take_all}
-use Rattle.std.proofs.lemmas.Option.{none-some, slice_get_within}
-use Rattle.xmpp_archive.proofs.Keys.{some_same}
+use Rattle.std.proofs.lemmas.Option.{none-some, slice_get_within, same_Some}
 use Rattle.xmpp_archive.specs.declared.chains.Chain.{Chain}
 use Rattle.xmpp_pages.proofs.Positions.{before_place, behind_place, up_to_place}
 use Rattle.xmpp_pages.proofs.Rising.{filter_none, within_above, within_all, within_below}
 use Rattle.xmpp_pages.proofs.Tallying.{index_of_first, index_of_last, index_of_none}
-use Rattle.xmpp_pages.specs.Cuts.{CutView}
 use Rattle.xmpp_pages.specs.Spans.{Rises, cut_by, index_in, portion_by, skipped, within}
 use Rattle.xmpp_pages.specs.Stretches.{IsEndsOf, IsOpenSpan, IsStretch, edge_of, first_index_of, start_of, stretch_at}
 use Rattle.xmpp_pages.specs.declared.span.Span.{Span}
 use Rattle.xmpp_pages.specs.declared.stretch.Stretch.{Stretch}
+use Rattle.xmpp_pages.proofs.CutViews.{view, same_view}
 
 -- which edge a span has
 forward_open : (span : Span) (last : ℕ) → span.backward ≡ false → edge_of span last ≡ None → span.after ≡ 0
@@ -37,7 +36,7 @@ forward_edge : (span : Span) (last n : ℕ) → span.backward ≡ false → edge
 forward_edge span last n front is = elim (cases_lt 0 span.after) [
   | inl some ↦
       let test : ltb 0 span.after ≡ true = grind (arith, nat_tests) in
-      some_same span.after n (rw (front, test) at is)
+      same_Some span.after n (rw (front, test) at is)
   | inr zero_after ↦
       let test : ltb 0 span.after ≡ false = grind (arith, nat_tests) in
       absurd (none-some n (rw (front, test) at is))
@@ -47,7 +46,7 @@ backward_edge : (span : Span) (last n : ℕ) → span.backward ≡ true → edge
 backward_edge span last n back is = elim (cases_lt span.through last) [
   | inl some ↦
       let test : ltb span.through last ≡ true = grind (arith, nat_tests) in
-      some_same (suc span.through) n (rw (back, test) at is)
+      same_Some (suc span.through) n (rw (back, test) at is)
   | inr end ↦
       let test : ltb span.through last ≡ false = grind (arith, nat_tests) in
       absurd (none-some n (rw (back, test) at is))
@@ -206,13 +205,6 @@ first_index_is span high ns s count rises known some = elim (cases_lt 0 count) [
       let index : first_index_of span s count ≡ 0 = rw test refl in
       index ∙ (index_of_none span ns (portion_by span (within span ns)) refl size)
 ]
-
-abbrev view : List ℕ → ℕ → ℕ → Bool → CutView
-view numbers first_index count complete =
-    record { numbers = numbers; first_index = first_index; count = count; complete = complete }
-
-same_view : (ns ms : List ℕ) (i j c d : ℕ) (a b : Bool) → ns ≡ ms → i ≡ j → c ≡ d → a ≡ b → view ns i c a ≡ view ms j d b
-same_view ns ms i j c d a b numbers index count complete = rw (numbers, index, count, complete)
 
 -- the page out of a stretch
 pub stretch_cut : (span : Span) (high : ℕ) (ns : List ℕ) (s : Stretch) (count : ℕ) (numbers : List ℕ) (index : ℕ) → Rises 0 high ns → IsStretch span ns s →

@@ -7,7 +7,7 @@ use Rattle.std.proofs.lemmas.List.{drop-append-le, drop-drop, length-drop, lengt
 use Rattle.std.proofs.lemmas.List.Elements.{filter-append}
 use Rattle.std.specs.List.{filter}
 use Rattle.xmpp_pages.proofs.Rising.{filter_none}
-use Rattle.xmpp_pages.specs.PageOf.{last_of}
+use Rattle.xmpp_archive.specs.Entries.{newest}
 use Rattle.xmpp_pages.specs.Spans.{Rises, index_in, is_within, portion_by, skipped, within}
 use Rattle.xmpp_pages.specs.declared.span.Span.{Span}
 
@@ -33,7 +33,7 @@ take_push m xs x =
     ]
 
 -- the last so many of one more
-pub last_push : (m : ℕ) (xs : List ℕ) (x : ℕ) → last_of m (xs ++ x ∷ []) ≡ last_of m (last_of m xs ++ x ∷ [])
+pub last_push : (m : ℕ) (xs : List ℕ) (x : ℕ) → newest m (xs ++ x ∷ []) ≡ newest m (newest m xs ++ x ∷ [])
 last_push m xs x =
     elim (cases_lt m (length xs)) [
       | inl inside ↦

@@ -10,6 +10,7 @@ use Rattle.xmpp_pages.specs.PageOf.{page_of}
 use Rattle.xmpp_pages.specs.declared.query.PageQuery.{PageQuery}
 use Rattle.xmpp_pages.specs.declared.query.Place.{Place}
 use Rattle.xmpp_pages.specs.declared.query.Place.TheVariants.{First, After, Before, Last}
+use Rattle.xmpp_basis.specs.Hexadecimal.{hex16_of}
 
 abbrev romeo : List ℕ
 romeo = codes "romeo@a"
@@ -48,30 +49,30 @@ first_of_peer : page_of (five 0) (asks (Some bob) First (Some 2)) ≡ cut (1 ∷
 first_of_peer = refl
 
 after_of_peer : page_of (five 0) (asks (Some bob) (After (id_of 2)) (Some 2)) ≡ cut (3 ∷ 4 ∷ []) 1 3 true
-unfolding id_of
+unfolding hex16_of
 after_of_peer = refl
 
 last_two : page_of (five 0) (asks None Last (Some 2)) ≡ cut (4 ∷ 5 ∷ []) 3 5 false
 last_two = refl
 
 before_first : page_of (five 0) (asks None (Before (id_of 1)) None) ≡ cut [] 0 5 true
-unfolding id_of
+unfolding hex16_of
 before_first = refl
 
 none_wanted : page_of (five 0) (asks None First (Some 0)) ≡ cut [] 0 5 false
 none_wanted = refl
 
 unknown_id : page_of (five 0) (asks None (After (codes "0000000000000006")) None) ≡ None
-unfolding id_of
+unfolding hex16_of
 unknown_id = refl
 
 -- the archive lost its first 400 entries
 behind_seam : page_of (five 400) (asks (Some bob) (Before (id_of 404)) (Some 1)) ≡ cut (403 ∷ []) 1 3 false
-unfolding id_of
+unfolding hex16_of
 behind_seam = refl
 
 lost_id : page_of (five 400) (asks (Some bob) (After (id_of 400)) None) ≡ None
-unfolding id_of
+unfolding hex16_of
 lost_id = refl
 
 of_session : page_of (five 400) (asks (Some (codes "bob@a/x")) Last None) ≡ cut (403 ∷ 404 ∷ []) 0 2 true

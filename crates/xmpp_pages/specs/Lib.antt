@@ -1,11 +1,14 @@
 pub use Rattle.xmpp_edge.specs.Listed
 pub use Rattle.xmpp_archive.specs.Entries
 pub use Rattle.xmpp_archive.specs.Peers
-pub mod Parties
+-- ---- what a page is, which the public clauses cite
 pub mod Kept
+pub mod Parties
 pub mod Matches
 pub mod Cuts
 pub mod PageOf
+pub mod Looks
+-- ---- what the private code finds a page by
 pub mod Spans
 pub mod Windows
 pub mod Tallies

@@ -1,21 +1,22 @@
 -- The page that answers a query: a filter of the list of entries, whatever the code walks (XEP-0313 section 4.3,
 -- XEP-0059 sections 2.1 to 2.6).
-use Rattle.std.specs.Prelude.{ℕ, ◌-◌, min, nat_lt, nat_le, List, [], ◌∷◌, Option, Some, None, find, filter, map, take, drop, length}
+use Rattle.std.specs.Prelude.{ℕ, min, nat_lt, nat_le, List, [], ◌∷◌, Option, Some, None, find, filter, map, take, length}
 use Rattle.std.specs.Option.{option_map}
 use Rattle.std.specs.Str.{bytes_eq}
-use Rattle.xmpp_archive.specs.Entries.{EntryView}
+use Rattle.xmpp_archive.specs.Entries.{EntryView, newest}
 use Rattle.xmpp_archive.specs.Ids.{id_of}
 use Rattle.xmpp_pages.specs.Cuts.{CutView}
 use Rattle.xmpp_pages.specs.Kept.{Kept}
 use Rattle.xmpp_pages.specs.Matches.{matching}
 use Rattle.xmpp_pages.specs.declared.query.PageQuery.{PageQuery}
 use Rattle.xmpp_pages.specs.declared.query.Place.{Place}
+use Rattle.xmpp_pages.specs.declared.span.TheConstants.{MOST_RESULTS}
 use Rattle.xmpp_pages.specs.declared.query.Place.TheVariants.{First, After, Before, Last}
 
--- the most entries of a page: at most 100, and 100 where nothing is said
+-- the most entries of a page: at most `MOST_RESULTS`, and so many where nothing is said
 abbrev pub most_of : Option ℕ → ℕ
-most_of None = 100
-most_of (Some max) = min 100 max
+most_of None = MOST_RESULTS
+most_of (Some max) = min MOST_RESULTS max
 
 -- the entry with an id
 abbrev pub entry_of_id : List ℕ → List EntryView → Option EntryView
@@ -31,28 +32,24 @@ candidates (After id) entries matches =
 candidates (Before id) entries matches =
     option_map (λ found. filter (λ e. nat_lt e.number found.number) matches) (entry_of_id id entries)
 
--- the last so many
-abbrev pub last_of : {A : Type 0} → ℕ → List A → List A
-last_of most xs = drop (length xs - most) xs
-
 -- the first so many candidates, or the last where the direction is backward
 abbrev pub portion : Place → ℕ → List EntryView → List EntryView
 portion First most found = take most found
 portion (After id) most found = take most found
-portion (Before id) most found = last_of most found
-portion Last most found = last_of most found
+portion (Before id) most found = newest most found
+portion Last most found = newest most found
 
 -- how many of the entries that match stand before the page's first entry, and 0 for an empty page
-abbrev pub index_of : List EntryView → List EntryView → ℕ
-index_of matches [] = 0
-index_of matches (e ∷ es) = length (filter (λ f. nat_lt f.number e.number) matches)
+abbrev pub index_of_page : List EntryView → List EntryView → ℕ
+index_of_page matches [] = 0
+index_of_page matches (e ∷ es) = length (filter (λ f. nat_lt f.number e.number) matches)
 
 -- the page of the candidates
 abbrev pub cut_out : List EntryView → ℕ → List EntryView → List EntryView → CutView
 cut_out matches most found page =
     record {
       numbers = map (λ e. e.number) page;
-      first_index = index_of matches page;
+      first_index = index_of_page matches page;
       count = length matches;
       complete = nat_le (length found) most;
     }

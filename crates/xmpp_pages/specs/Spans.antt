@@ -1,11 +1,11 @@
 -- Where the candidates for a page stand, by numbers alone, and the page by numbers alone.
 use Rattle.std.specs.Prelude.{◌≡◌, ℕ, zero, suc, ◌<◌, ◌≤◌, nat_lt, nat_le, Bool, ◌&&◌, List, [], ◌∷◌, Option, filter, map, take, length, if◌then◌else◌}
 use Rattle.std.specs.Option.{option_map}
-use Rattle.xmpp_archive.specs.Entries.{EntryView}
+use Rattle.xmpp_archive.specs.Entries.{EntryView, newest}
 use Rattle.xmpp_pages.specs.Cuts.{CutView}
 use Rattle.xmpp_pages.specs.Kept.{AreConsecutive, Kept, first_number, last_number}
 use Rattle.xmpp_pages.specs.Matches.{matching}
-use Rattle.xmpp_pages.specs.PageOf.{entry_of_id, last_of, page_of}
+use Rattle.xmpp_pages.specs.PageOf.{entry_of_id, page_of}
 use Rattle.xmpp_pages.specs.declared.query.PageQuery.{PageQuery}
 use Rattle.xmpp_pages.specs.declared.span.Span.{Span}
 
@@ -31,7 +31,7 @@ abbrev pub skipped : Span → List ℕ → List ℕ
 skipped span numbers = filter (λ n. nat_le n span.after) numbers
 
 abbrev pub portion_by : Span → List ℕ → List ℕ
-portion_by span found = if span.backward then last_of span.most found else take span.most found
+portion_by span found = if span.backward then newest span.most found else take span.most found
 
 abbrev pub index_in : List ℕ → List ℕ → ℕ
 index_in numbers [] = 0

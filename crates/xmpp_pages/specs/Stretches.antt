@@ -1,37 +1,18 @@
 -- A page that is found from its place among the entries with an account, where each of them matches.
 use Rattle.std.specs.Prelude.{◌≡◌, ℕ, suc, ◌+◌, ◌-◌, ◌≤◌, min, nat_lt, nat_le, Bool, true, false, List, Option, Some, None, take, drop, length, slice_get, if◌then◌else◌}
-use Rattle.xmpp_archive.specs.Entries.{EntryView, entry_numbered}
-use Rattle.xmpp_archive.specs.Peers.{chain_of, is_with}
+use Rattle.xmpp_archive.specs.Peers.{chain_of}
 use Rattle.xmpp_archive.specs.declared.chains.Chain.{Chain}
 use Rattle.xmpp_pages.specs.Kept.{Kept}
-use Rattle.xmpp_pages.specs.PageOf.{entry_of_id}
+use Rattle.xmpp_pages.specs.Looks.{is_number_with, is_place_with}
 use Rattle.xmpp_pages.specs.Parties.{is_full}
 use Rattle.xmpp_pages.specs.Spans.{IsNumbered, numbers_of, skipped, within}
 use Rattle.xmpp_pages.specs.declared.query.PageQuery.{PageQuery}
-use Rattle.xmpp_pages.specs.declared.query.Place.{Place}
-use Rattle.xmpp_pages.specs.declared.query.Place.TheVariants.{First, After, Before, Last}
 use Rattle.xmpp_pages.specs.declared.span.Span.{Span}
 use Rattle.xmpp_pages.specs.declared.stretch.Stretch.{Stretch}
 
 -- the numbers of the entries with an account
 abbrev pub chain_numbers : Kept → List ℕ → List ℕ
 chain_numbers kept peer = numbers_of (chain_of kept.owner peer kept.entries)
-
--- there is an entry, and it is with this account
-abbrev pub is_found_with : List ℕ → List ℕ → Option EntryView → Bool
-is_found_with owner peer None = false
-is_found_with owner peer (Some e) = is_with owner peer e
-
--- the entry with this number is with this account
-abbrev pub is_number_with : Kept → List ℕ → ℕ → Bool
-is_number_with kept peer n = is_found_with kept.owner peer (entry_numbered n kept.entries)
-
--- the page stands at an end of the archive, or beside an entry with this account (XEP-0059 sections 2.1 to 2.5)
-abbrev pub is_place_with : Kept → List ℕ → Place → Bool
-is_place_with kept peer First = true
-is_place_with kept peer Last = true
-is_place_with kept peer (After id) = is_found_with kept.owner peer (entry_of_id id kept.entries)
-is_place_with kept peer (Before id) = is_found_with kept.owner peer (entry_of_id id kept.entries)
 
 -- the number beside which the candidates of a span begin, in an archive with this last number
 abbrev pub edge_of : Span → ℕ → Option ℕ

@@ -1,5 +1,5 @@
 -- What is walked for a page, and how many looks that may take.
-use Rattle.std.specs.Prelude.{ℕ, ◌+◌, ◌*◌, Bool, true, List, [], ◌∷◌, Option, Some, None, filter, length, if◌then◌else◌}
+use Rattle.std.specs.Prelude.{ℕ, ◌+◌, ◌*◌, Bool, true, List, [], ◌∷◌, Option, Some, None, filter, if◌then◌else◌}
 use Rattle.std.specs.Str.{bytes_eq}
 use Rattle.xmpp_archive.specs.Entries.{EntryView}
 use Rattle.xmpp_pages.specs.Kept.{Kept}
@@ -29,10 +29,6 @@ wanted_number owner query e = if is_wanted owner query e then e.number ∷ [] el
 -- of these entries, the numbers of those that match
 abbrev pub wanted_numbers : List ℕ → PageQuery → List EntryView → List ℕ
 wanted_numbers owner query entries = numbers_of (filter (is_wanted owner query) entries)
-
--- the number of entries with an account
-abbrev pub entries_with : List ℕ → Kept → ℕ
-entries_with peer kept = length (filter (is_with kept.owner peer) kept.entries)
 
 -- how many looks at most are taken for entries that are walked along their chain: where it begins, and for each the
 -- entry and the next

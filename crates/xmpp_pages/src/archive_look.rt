@@ -1,3 +1,4 @@
+//! The calls by which a page is found, at an archive in memory.
 ghost use Rattle.std.specs.Prelude.{◌≡◌};
 ghost use Rattle.xmpp_archive.specs.Entries.{ArchiveView};
 ghost use Rattle.xmpp_pages.specs.Kept.{Kept, kept_of};
@@ -32,7 +33,7 @@ impl Look for ArchiveLook<'_> {
     }
 
     fn first(&self) -> u64 {
-        self.archive.last() + 1 - self.archive.len()
+        self.archive.first()
     }
 
     fn last(&self) -> u64 {

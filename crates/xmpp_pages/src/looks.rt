@@ -1,3 +1,4 @@
+//! The calls by which a page is found.
 ghost use Rattle.std.specs.Prelude.{◌≡◌, ℕ, Option};
 ghost use Rattle.std.specs.Borrow.{sem};
 ghost use Rattle.std.specs.Io.BufRead.{Rests};
@@ -6,7 +7,7 @@ ghost use Rattle.xmpp_archive.specs.Entries.{entry_numbered};
 ghost use Rattle.xmpp_edge.specs.Counts.{counted};
 ghost use Rattle.xmpp_pages.specs.Kept.{AreConsecutive, Kept, first_number, last_number};
 ghost use Rattle.xmpp_archive.specs.Peers.{chain_ends, first_of, index_of, next_of, previous_of};
-ghost use Rattle.xmpp_pages.specs.Stretches.{is_number_with};
+ghost use Rattle.xmpp_pages.specs.Looks.{is_number_with};
 
 use xmpp_archive::{Chain, Entry};
 

@@ -1,3 +1,4 @@
+//! The page that answers a query (XEP-0313, section 4.3; XEP-0059, sections 2.1 to 2.6).
 ghost use Rattle.std.specs.Prelude.{◌≡◌, ℕ, ◌+◌, ◌*◌, ◌<◌, ◌≤◌, ◌^◌, ◌↔◌, List, Some, None, true, false, length, IfOk, IsErrOf};
 ghost use Rattle.xmpp_archive.specs.Peers.{bare_form};
 ghost use Rattle.xmpp_pages.specs.Kept.{AreConsecutive, last_number};
@@ -5,8 +6,8 @@ ghost use Rattle.xmpp_pages.specs.Matches.{matching};
 ghost use Rattle.xmpp_pages.specs.PageOf.{most_of, page_of};
 ghost use Rattle.xmpp_pages.specs.Parties.{is_full};
 ghost use Rattle.xmpp_pages.specs.Spans.{IsNumbered, cut_by, numbers_of};
-ghost use Rattle.xmpp_pages.specs.Stretches.{IsOpenSpan, edge_of, is_edge_with, is_place_with, is_plain};
-ghost use Rattle.xmpp_pages.specs.Walks.{entries_with};
+ghost use Rattle.xmpp_pages.specs.Looks.{entries_with, is_place_with};
+ghost use Rattle.xmpp_pages.specs.Stretches.{IsOpenSpan, edge_of, is_edge_with, is_plain};
 
 use crate::cut::{PageCut, PageFault};
 use crate::looks::Look;
@@ -19,7 +20,7 @@ use crate::whole::cut_of_all;
 use std::alloc::Global;
 use xmpp_edge::NoMemory;
 
-// The page out of the entries with an account.
+/// The page out of the entries with an account.
 fn cut_of_chain<V: Look>(
     alloc: Global,
     look: &mut V,
@@ -38,7 +39,7 @@ fn cut_of_chain<V: Look>(
     tally_of_chain(look, query, peer, span).cut(alloc)
 }
 
-// The page out of the entries with an account: found from its place where each of them matches, else out of the chain.
+/// The page out of the entries with an account: found from its place where each of them matches, else out of the chain.
 fn cut_of_peer<V: Look>(
     alloc: Global,
     look: &mut V,
@@ -65,7 +66,7 @@ fn cut_of_peer<V: Look>(
     }
 }
 
-// The page out of the whole list.
+/// The page out of the whole list.
 fn cut_of_list<V: Look>(
     alloc: Global,
     look: &mut V,
@@ -90,7 +91,7 @@ fn cut_of_list<V: Look>(
     }
 }
 
-// The page out of a span.
+/// The page out of a span.
 fn cut_out<V: Look>(
     alloc: Global,
     look: &mut V,
@@ -136,7 +137,7 @@ pub fn page<V: Look>(alloc: Global, look: &mut V, query: &PageQuery) -> Result<P
     // k entries have this account: 2k + 1
     ensures bare { (peer : List ℕ) → query.now.peer ≡ Some peer → is_full peer ≡ false →
         V.looks look.new ≤ V.looks look.old + (2 * entries_with peer (V.archive look.old) + 1) }
-    ensures full { (peer : List ℕ) → query.now.peer ≡ Some peer →
+    ensures account { (peer : List ℕ) → query.now.peer ≡ Some peer →
         V.looks look.new ≤ V.looks look.old + (2 * entries_with (bare_form peer) (V.archive look.old) + 1) }
     // the page is found from its place
     ensures bounded { (peer : List ℕ) → query.now.peer ≡ Some peer → is_full peer ≡ false → query.now.start ≡ None → query.now.end ≡ None →

@@ -1,4 +1,4 @@
-// Whether an entry matches a query, where it is known with whom it is.
+//! Whether an entry matches a query, where it is known with whom it is.
 ghost use Rattle.std.specs.Prelude.{◌≡◌, ◌↔◌, List, ℕ, true, Some, None, IsTrue};
 ghost use Rattle.xmpp_archive.specs.Entries.{EntryView};
 ghost use Rattle.xmpp_pages.specs.Matches.{end_passes, is_wanted, stamp_passes, start_passes, with_passes};
@@ -9,15 +9,15 @@ ghost use Rattle.xmpp_pages.specs.Walks.{is_in_chain, is_own};
 use crate::query::PageQuery;
 use xmpp_archive::{Entry, bare_form};
 
-// Whether an address has a resource.
+/// Whether an address has a resource.
 pub(crate) fn has_resource(address: &str) -> bool
     ensures { result ≡ is_full address.now }
 {
     bare_form(address).len() < address.len()
 }
 
-// Whether this is the whole address of the other party of an entry with its account. `own` says whether that account
-// is the owner's: then both parties are the owner, and the other one is the recipient.
+/// Whether this is the whole address of the other party of an entry with its account. `own` says whether that account
+/// is the owner's: then both parties are the owner, and the other one is the recipient.
 fn is_other_party(entry: &Entry, party: &str, own: bool) -> bool
     ensures { (owner : List ℕ) → own ≡ is_own owner (Some party.now) → is_in_chain owner (Some party.now) entry.now ≡ true →
         (IsTrue result ↔ (other_party owner entry.now ≡ party.now)) }
@@ -29,7 +29,7 @@ fn is_other_party(entry: &Entry, party: &str, own: bool) -> bool
     }
 }
 
-// Whether the other party of an entry with the query's account is the one that is asked for.
+/// Whether the other party of an entry with the query's account is the one that is asked for.
 fn with_asked(entry: &Entry, query: &PageQuery, own: bool) -> bool
     ensures { (owner : List ℕ) → own ≡ is_own owner query.now.peer → is_in_chain owner query.now.peer entry.now ≡ true →
         result ≡ with_passes owner query.now.peer entry.now }
@@ -40,7 +40,7 @@ fn with_asked(entry: &Entry, query: &PageQuery, own: bool) -> bool
     }
 }
 
-// Whether an entry was taken in the time that is asked for.
+/// Whether an entry was taken in the time that is asked for.
 pub(crate) fn in_time(entry: &Entry, query: &PageQuery) -> bool
     ensures { result ≡ stamp_passes query.now entry.now }
 {
@@ -55,7 +55,7 @@ pub(crate) fn in_time(entry: &Entry, query: &PageQuery) -> bool
     begun && !over
 }
 
-// Whether an entry with the query's account matches. `own` says whether that account is the owner's.
+/// Whether an entry with the query's account matches. `own` says whether that account is the owner's.
 pub(crate) fn passes(entry: &Entry, query: &PageQuery, own: bool) -> bool
     ensures { (owner : List ℕ) → own ≡ is_own owner query.now.peer → is_in_chain owner query.now.peer entry.now ≡ true →
         result ≡ is_wanted owner query.now entry.now }
@@ -63,7 +63,7 @@ pub(crate) fn passes(entry: &Entry, query: &PageQuery, own: bool) -> bool
     in_time(entry, query) && with_asked(entry, query, own)
 }
 
-// Whether a query asks for no more than an account, so that each entry with it matches.
+/// Whether a query asks for no more than an account, so that each entry with it matches.
 pub(crate) fn asks_no_more(query: &PageQuery) -> bool
     ensures all { (owner : List ℕ) → (entry : EntryView) → result ≡ true → is_in_chain owner query.now.peer entry ≡ true → is_wanted owner query.now entry ≡ true }
     ensures none { query.now.peer ≡ None → query.now.start ≡ None → query.now.end ≡ None → result ≡ true }

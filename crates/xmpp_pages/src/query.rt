@@ -1,3 +1,4 @@
+//! What a page is asked for (XEP-0313, sections 4.1 and 4.3; XEP-0059).
 use xmpp_edge::Text;
 
 /// Where a page lies among the entries that match (XEP-0059 sections 2.1 to 2.5). An id is an archive id.

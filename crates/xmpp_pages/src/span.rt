@@ -1,3 +1,4 @@
+//! Where the candidates for a page stand, by their numbers.
 ghost use Rattle.std.specs.Prelude.{◌≡◌, ◌≤◌, ◌<◌, IfSome};
 ghost use Rattle.xmpp_pages.specs.PageOf.{most_of};
 ghost use Rattle.xmpp_pages.specs.Spans.{IsNumberOf, IsSpanOf};
@@ -19,14 +20,14 @@ pub(crate) struct Span {
     pub backward: bool,
 }
 
-// The most entries of a page.
+/// The most entries of a page.
 fn most(max: Option<u32>) -> u64
     ensures { result ≡ most_of max }
 {
     u64::from(max.unwrap_or(MOST_RESULTS).min(MOST_RESULTS))
 }
 
-// The number of the entry with an id, in an archive whose entries are numbered from `first` to `last`.
+/// The number of the entry with an id, in an archive whose entries are numbered from `first` to `last`.
 fn number_kept(id: &str, first: u64, last: u64) -> Option<u64>
     ensures number { IsNumberOf id.now first last result }
     ensures kept { IfSome result (λ n. (1 ≤ n) × (n ≤ last)) }
@@ -39,8 +40,8 @@ fn number_kept(id: &str, first: u64, last: u64) -> Option<u64>
     Some(number)
 }
 
-// Where the candidates stand in an archive whose entries are numbered from `first` to `last`. `None` where the id is
-// no entry's.
+/// Where the candidates stand in an archive whose entries are numbered from `first` to `last`. `None` where the id is
+/// no entry's.
 pub(crate) fn span_of(query: &PageQuery, first: u64, last: u64) -> Option<Span>
     ensures span { IsSpanOf query.now first last result }
     ensures through { IfSome result (λ span. span.through ≤ last) }

@@ -1,12 +1,12 @@
-// A page of the entries with an account, where each of them matches: it is found from its place, and no more entries
-// are walked than it has.
+//! A page of the entries with an account, where each of them matches: it is found from its place, and no more entries
+//! are walked than it has.
 ghost use Rattle.std.specs.Prelude.{◌≡◌, ℕ, ◌+◌, ◌-◌, ◌*◌, ◌<◌, ◌≤◌, ◌^◌, min, List, Some, None, true, take, drop, length, slice_get, if◌then◌else◌, IfOk, IfSome, IfNone};
 ghost use Rattle.xmpp_archive.specs.Peers.{bare_form, chain_ends, next_of, previous_of};
 ghost use Rattle.xmpp_pages.specs.Kept.{AreConsecutive, last_number};
+ghost use Rattle.xmpp_pages.specs.Looks.{entries_with, is_number_with};
 ghost use Rattle.xmpp_pages.specs.Matches.{matching};
 ghost use Rattle.xmpp_pages.specs.Spans.{Rises, cut_by, numbers_of, portion_by, within};
-ghost use Rattle.xmpp_pages.specs.Stretches.{IsEndsOf, IsOpenSpan, IsStretch, chain_numbers, edge_of, first_index_of, is_edge_with, is_number_with, is_plain, number_or, stretch_at};
-ghost use Rattle.xmpp_pages.specs.Walks.{entries_with};
+ghost use Rattle.xmpp_pages.specs.Stretches.{IsEndsOf, IsOpenSpan, IsStretch, chain_numbers, edge_of, first_index_of, is_edge_with, is_plain, number_or, stretch_at};
 
 use crate::cut::PageCut;
 use crate::looks::Look;
@@ -18,8 +18,8 @@ use std::alloc::Global;
 use xmpp_archive::Chain;
 use xmpp_edge::{ListOf, NoMemory, Numbers};
 
-// The candidates for a page among the `count` entries of a chain: `skipped` entries stand before them, `found` is how
-// many they are, and `number` is that of the one nearest to the place, if the page is to have one.
+/// The candidates for a page among the `count` entries of a chain: `skipped` entries stand before them, `found` is how
+/// many they are, and `number` is that of the one nearest to the place, if the page is to have one.
 #[derive(Clone, Copy)]
 pub(crate) struct Stretch {
     pub number: u64,
@@ -28,7 +28,7 @@ pub(crate) struct Stretch {
     pub count: u64,
 }
 
-// The number of the entry beside which the candidates begin, or `None` where they begin at an end of the archive.
+/// The number of the entry beside which the candidates begin, or `None` where they begin at an end of the archive.
 fn edge(span: &Span, last: u64) -> Option<u64>
     ensures { result ≡ edge_of span.now last }
 {
@@ -45,7 +45,7 @@ fn edge(span: &Span, last: u64) -> Option<u64>
     }
 }
 
-// The number of the last entry of a chain where the page is found backward, else of the first.
+/// The number of the last entry of a chain where the page is found backward, else of the first.
 fn end_of(chain: &Chain, span: &Span) -> u64
     ensures { result ≡ (if span.now.backward then chain.now.last else chain.now.first) }
 {
@@ -56,7 +56,7 @@ fn end_of(chain: &Chain, span: &Span) -> u64
     }
 }
 
-// The stretch where all entries of a chain are candidates.
+/// The stretch where all entries of a chain are candidates.
 fn whole_stretch(chain: &Chain, span: &Span) -> Stretch
     ensures stretch { (numbers : List ℕ) → (last : ℕ) → Rises 0 last numbers → IsEndsOf numbers chain.now → IsOpenSpan last span.now →
         edge_of span.now last ≡ None → IsStretch span.now numbers result }
@@ -70,7 +70,7 @@ fn whole_stretch(chain: &Chain, span: &Span) -> Stretch
     }
 }
 
-// The stretch beside the entry that has this index among so many, with another number.
+/// The stretch beside the entry that has this index among so many, with another number.
 fn beside(span: &Span, number: u64, index: u64, count: u64) -> Stretch
     requires { index < count }
     ensures { result ≡ stretch_at span.now number index count }
@@ -92,7 +92,7 @@ fn beside(span: &Span, number: u64, index: u64, count: u64) -> Stretch
     }
 }
 
-// The number of the next entry with the same peer, or backward of the previous one, and this number where there is none.
+/// The number of the next entry with the same peer, or backward of the previous one, and this number where there is none.
 fn neighbour<V: Look>(look: &mut V, span: &Span, number: u64) -> u64
     ensures number { result ≡ number_or (if span.now.backward then previous_of (V.archive look.old).owner number (V.archive look.old).entries else next_of (V.archive look.old).owner number (V.archive look.old).entries) number }
     ensures archive { V.archive look.new ≡ V.archive look.old }
@@ -105,7 +105,7 @@ fn neighbour<V: Look>(look: &mut V, span: &Span, number: u64) -> u64
     }
 }
 
-// The stretch beside the entry with a number, and `None` where that entry is with another account.
+/// The stretch beside the entry with a number, and `None` where that entry is with another account.
 fn stretch_beside<V: Look>(
     look: &mut V,
     peer: &str,
@@ -136,7 +136,7 @@ fn stretch_beside<V: Look>(
     Some(beside(span, nearest, index, chain.count))
 }
 
-// The numbers of so many entries with the same peer, from one of them on.
+/// The numbers of so many entries with the same peer, from one of them on.
 fn numbers_from<V: Look>(
     alloc: Global,
     look: &mut V,
@@ -162,8 +162,8 @@ fn numbers_from<V: Look>(
     Ok(numbers)
 }
 
-// Fills so many slots from the last one on: with the number of an entry, and those of the entries before it with the
-// same peer.
+/// Fills so many slots from the last one on: with the number of an entry, and those of the entries before it with the
+/// same peer.
 fn fill_back<V: Look>(look: &mut V, last: u64, slots: &mut [u64; SLOTS], count: usize)
     requires some { 1 ≤ count }
     requires few { count ≤ 100 }
@@ -181,7 +181,7 @@ fn fill_back<V: Look>(look: &mut V, last: u64, slots: &mut [u64; SLOTS], count: 
     }
 }
 
-// The numbers of so many entries with the same peer, up to one of them.
+/// The numbers of so many entries with the same peer, up to one of them.
 fn numbers_up_to<V: Look>(
     alloc: Global,
     look: &mut V,
@@ -204,7 +204,7 @@ fn numbers_up_to<V: Look>(
     Ok(numbers)
 }
 
-// The place of the page's first entry among all of the chain, or 0 where the page has none.
+/// The place of the page's first entry among all of the chain, or 0 where the page has none.
 fn first_index(span: &Span, stretch: &Stretch, count: u64) -> u64
     requires room { stretch.now.skipped + stretch.now.found ≤ stretch.now.count }
     requires count { count ≤ stretch.now.found }
@@ -219,7 +219,7 @@ fn first_index(span: &Span, stretch: &Stretch, count: u64) -> u64
     }
 }
 
-// The numbers of the page out of a stretch, which has so many.
+/// The numbers of the page out of a stretch, which has so many.
 fn numbers_of_stretch<V: Look>(
     alloc: Global,
     look: &mut V,
@@ -245,7 +245,7 @@ fn numbers_of_stretch<V: Look>(
     }
 }
 
-// The page out of a stretch.
+/// The page out of a stretch.
 fn cut_of_stretch<V: Look>(
     alloc: Global,
     look: &mut V,
@@ -270,8 +270,8 @@ fn cut_of_stretch<V: Look>(
     })
 }
 
-// The page out of the entries with an account, whose candidates begin beside the entry with a number. Where that entry
-// is with another account, the chain is walked to the end.
+/// The page out of the entries with an account, whose candidates begin beside the entry with a number. Where that entry
+/// is with another account, the chain is walked to the end.
 fn cut_beside<V: Look>(
     alloc: Global,
     look: &mut V,
@@ -300,7 +300,7 @@ fn cut_beside<V: Look>(
     }
 }
 
-// The page out of the entries with an account, where each of them matches.
+/// The page out of the entries with an account, where each of them matches.
 pub(crate) fn cut_of_account<V: Look>(
     alloc: Global,
     look: &mut V,

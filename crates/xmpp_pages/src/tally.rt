@@ -1,3 +1,4 @@
+//! What is kept of the entries that match while they go by.
 ghost use Rattle.std.specs.Prelude.{◌≡◌, ℕ, ◌+◌, ◌<◌, ◌≤◌, ◌^◌, List, [], ◌∷◌, ◌++◌, length, IfOk};
 ghost use Rattle.xmpp_pages.specs.Spans.{Rises, cut_by, index_in, portion_by, within};
 
@@ -7,8 +8,8 @@ use crate::window::Window;
 use std::alloc::Global;
 use xmpp_edge::NoMemory;
 
-// What is kept of the numbers of matching entries while they go by, in ascending order: how many there are, how many
-// of them stand before the candidates, how many are candidates, and the page so far.
+/// What is kept of the numbers of matching entries while they go by, in ascending order: how many there are, how many
+/// of them stand before the candidates, how many are candidates, and the page so far.
 #[derive(Drop)]
 pub(crate) struct Tally {
     pub span: Span,
@@ -22,7 +23,7 @@ pub(crate) struct Tally {
 impl Tally {
     ghost use Rattle.xmpp_pages.specs.Tallies.{IsTally};
 
-    // The tally of no numbers.
+    /// The tally of no numbers.
     pub(crate) fn new(span: Span) -> Tally
         requires { span.most ≤ 100 }
         ensures { IsTally span [] result }
@@ -36,7 +37,7 @@ impl Tally {
         }
     }
 
-    // Counts one number more.
+    /// Counts one number more.
     pub(crate) fn add(&mut self, number: u64)
         requires { self.old.count + 1 < 2 ^ 64 }
         ensures { (span : Span) → (numbers : List ℕ) → IsTally span numbers self.old → IsTally span (numbers ++ number ∷ []) self.new }
@@ -54,7 +55,7 @@ impl Tally {
         }
     }
 
-    // The page of the numbers that went by.
+    /// The page of the numbers that went by.
     pub(crate) fn cut(&self, alloc: Global) -> Result<PageCut, NoMemory>
         ensures { (span : Span) → (numbers : List ℕ) → (high : ℕ) → Rises 0 high numbers → IsTally span numbers self.now →
             IfOk result (λ cut. cut ≡ cut_by span numbers) }
@@ -68,7 +69,7 @@ impl Tally {
         })
     }
 
-    // The place of the page's first number among all.
+    /// The place of the page's first number among all.
     fn first_index(&self) -> u64
         ensures { (span : Span) → (numbers : List ℕ) → (high : ℕ) → Rises 0 high numbers → IsTally span numbers self.now →
             result ≡ index_in numbers (portion_by span (within span numbers)) }

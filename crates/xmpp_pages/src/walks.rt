@@ -1,4 +1,4 @@
-// The entries that match, counted one after another, along the chain of an account or through the whole list.
+//! The entries that match, counted one after another, along the chain of an account or through the whole list.
 ghost use Rattle.std.specs.Prelude.{◌≡◌, ℕ, ◌+◌, ◌*◌, ◌<◌, ◌≤◌, ◌^◌, List, [], ◌++◌, Some, None, true, length};
 ghost use Rattle.xmpp_archive.specs.Entries.{EntryView, entry_numbered};
 ghost use Rattle.xmpp_edge.specs.Counts.{counted};
@@ -17,7 +17,7 @@ use crate::span::Span;
 use crate::tally::Tally;
 use xmpp_archive::bare_form;
 
-// Whether the entry with a number matches, which is known to be with the query's account.
+/// Whether the entry with a number matches, which is known to be with the query's account.
 fn is_match<V: Look>(look: &mut V, query: &PageQuery, own: bool, number: u64) -> bool
     ensures archive { V.archive look.new ≡ V.archive look.old }
     ensures looks { V.looks look.new ≤ V.looks look.old + 1 }
@@ -35,7 +35,7 @@ fn is_match<V: Look>(look: &mut V, query: &PageQuery, own: bool, number: u64) ->
     }
 }
 
-// Counts the entry with a number, which is known to be with the query's account.
+/// Counts the entry with a number, which is known to be with the query's account.
 fn visit<V: Look>(look: &mut V, query: &PageQuery, own: bool, number: u64, tally: &mut Tally)
     requires { tally.old.count + 1 < 2 ^ 64 }
     ensures archive { V.archive look.new ≡ V.archive look.old }
@@ -50,7 +50,7 @@ fn visit<V: Look>(look: &mut V, query: &PageQuery, own: bool, number: u64, tally
     }
 }
 
-// The tally of the entries with an account that match: the chain of the account is walked from its first entry on.
+/// The tally of the entries with an account that match: the chain of the account is walked from its first entry on.
 pub(crate) fn tally_from<V: Look>(
     look: &mut V,
     query: &PageQuery,
@@ -78,7 +78,7 @@ pub(crate) fn tally_from<V: Look>(
     tally
 }
 
-// The tally of the entries with an account that match: the chain of the account is walked once.
+/// The tally of the entries with an account that match: the chain of the account is walked once.
 pub(crate) fn tally_of_chain<V: Look>(
     look: &mut V,
     query: &PageQuery,
@@ -97,7 +97,7 @@ pub(crate) fn tally_of_chain<V: Look>(
     tally_from(look, query, peer, first, span)
 }
 
-// The tally of all entries that match: each entry is looked at.
+/// The tally of all entries that match: each entry is looked at.
 pub(crate) fn tally_of_list<V: Look>(look: &mut V, query: &PageQuery, span: Span) -> Tally
     requires most { span.most ≤ 100 }
     requires peer { query.now.peer ≡ None }

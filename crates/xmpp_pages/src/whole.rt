@@ -1,4 +1,4 @@
-// The page where every entry matches. Its numbers follow from the archive's first and last.
+//! The page where every entry matches. Its numbers follow from the archive's first and last.
 ghost use Rattle.std.specs.Prelude.{◌≡◌, ℕ, ◌+◌, ◌-◌, ◌<◌, ◌≤◌, ◌^◌, if◌then◌else◌, IfOk};
 ghost use Rattle.xmpp_pages.specs.Spans.{cut_by, numbers_behind};
 
@@ -7,7 +7,7 @@ use crate::span::Span;
 use std::alloc::Global;
 use xmpp_edge::{ListOf, NoMemory, Numbers};
 
-// The next so many numbers behind one.
+/// The next so many numbers behind one.
 #[tactic(auto, using(crate::proofs::Behind::numbers_push))]
 fn next_numbers(alloc: Global, behind: u64, count: u64) -> Result<Numbers, NoMemory>
     requires fits { behind + count < 2 ^ 64 }
@@ -22,7 +22,7 @@ fn next_numbers(alloc: Global, behind: u64, count: u64) -> Result<Numbers, NoMem
     Ok(numbers)
 }
 
-// The number before the page's first, of so many numbers behind `before` and up to the span's end.
+/// The number before the page's first, of so many numbers behind `before` and up to the span's end.
 fn first_behind(span: &Span, before: u64, count: u64) -> u64
     requires { count ≤ span.now.through }
     ensures { result ≡ (if span.now.backward then span.now.through - count else before) }
@@ -34,7 +34,7 @@ fn first_behind(span: &Span, before: u64, count: u64) -> u64
     }
 }
 
-// The place of the page's first number among all those behind `base`, or 0 where it has none.
+/// The place of the page's first number among all those behind `base`, or 0 where it has none.
 fn place(base: u64, behind: u64, count: u64) -> u64
     requires { 1 ≤ count → base ≤ behind }
     ensures none { count ≡ 0 → result ≡ 0 }
@@ -43,7 +43,7 @@ fn place(base: u64, behind: u64, count: u64) -> u64
     if count == 0 { 0 } else { behind - base }
 }
 
-// The page out of all numbers from `first` to `last`. No entry is looked at.
+/// The page out of all numbers from `first` to `last`. No entry is looked at.
 pub(crate) fn cut_of_all(
     alloc: Global,
     span: &Span,

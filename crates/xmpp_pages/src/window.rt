@@ -1,5 +1,6 @@
+//! The numbers that a page has so far.
 ghost use Rattle.std.specs.Prelude.{◌≡◌, ◌+◌, ◌≤◌, [], ◌∷◌, ◌++◌, take, drop, length, IfOk};
-ghost use Rattle.xmpp_pages.specs.PageOf.{last_of};
+ghost use Rattle.xmpp_archive.specs.Entries.{newest};
 
 use std::alloc::Global;
 use std::marker::Model;
@@ -8,7 +9,7 @@ use xmpp_edge::{ListOf, NoMemory, Numbers};
 /// The most numbers that a window may have.
 pub(crate) const SLOTS: usize = 100;
 
-// The first or the last of the numbers that were put in. Once the slots are full, the oldest number stands at `at`.
+/// The first or the last of the numbers that were put in. Once the slots are full, the oldest number stands at `at`.
 #[derive(Drop)]
 pub(crate) struct Window {
     slots: [u64; SLOTS],
@@ -29,7 +30,7 @@ impl Model for Window {
 }
 
 impl Window {
-    // A window of so many numbers, without one.
+    /// A window of so many numbers, without one.
     pub(crate) fn new(most: usize) -> Window
         requires { most ≤ 100 }
         ensures most { result.most ≡ most }
@@ -43,7 +44,7 @@ impl Window {
         }
     }
 
-    // How many numbers it has.
+    /// How many numbers it has.
     pub(crate) fn len(&self) -> usize
         ensures len { result ≡ length self.now.numbers }
         ensures most { length self.now.numbers ≤ self.now.most }
@@ -51,7 +52,7 @@ impl Window {
         self.filled
     }
 
-    // Puts in a number, where there is room.
+    /// Puts in a number, where there is room.
     pub(crate) fn put_first(&mut self, number: u64)
         ensures most { self.new.most ≡ self.old.most }
         ensures numbers { self.new.numbers ≡ take self.old.most (self.old.numbers ++ number ∷ []) }
@@ -62,10 +63,10 @@ impl Window {
         }
     }
 
-    // Puts in a number, in place of the oldest where there is no room.
+    /// Puts in a number, in place of the oldest where there is no room.
     pub(crate) fn put_last(&mut self, number: u64)
         ensures most { self.new.most ≡ self.old.most }
-        ensures numbers { self.new.numbers ≡ last_of self.old.most (self.old.numbers ++ number ∷ []) }
+        ensures numbers { self.new.numbers ≡ newest self.old.most (self.old.numbers ++ number ∷ []) }
     {
         if self.filled < self.most {
             self.slots[self.filled] = number;
@@ -76,7 +77,7 @@ impl Window {
         }
     }
 
-    // The numbers in order, in a list of their own.
+    /// The numbers in order, in a list of their own.
     pub(crate) fn numbers(&self, alloc: Global) -> Result<Numbers, NoMemory>
         ensures { IfOk result (λ numbers. numbers.items ≡ self.now.numbers) }
     {
@@ -88,7 +89,7 @@ impl Window {
     }
 }
 
-// Adds numbers at the end of a list that has room for them.
+/// Adds numbers at the end of a list that has room for them.
 pub(crate) fn push_all(numbers: &mut Numbers, more: &[u64])
     requires { length more.now ≤ numbers.old.spare }
     ensures items { numbers.new.items ≡ numbers.old.items ++ more.now }

@@ -4,7 +4,5 @@
 
 mod pool;
 mod rows;
-#[cfg(test)]
-mod tests;
 
 pub use pool::{Pool, QueueId};

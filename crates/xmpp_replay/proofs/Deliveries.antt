@@ -9,14 +9,13 @@ use Rattle.std.specs.Option.{IfSome}
 use Rattle.std.specs.Str.{bytes_eq}
 use Rattle.xmpp_archive.specs.Entries.{EntryView, numbered}
 use Rattle.xmpp_replay.proofs.HomeLists.{appended_length}
-use Rattle.xmpp_replay.proofs.PageEnds.{bytes_eq_apart}
 use Rattle.xmpp_edge.proofs.NamePlaces.{is_some-place_of, place_of-push, stands_there}
-use Rattle.xmpp_replay.proofs.Prefixes.{archive_push}
-use Rattle.xmpp_replay.specs.Direct.{Take, archive_of, concerns, entry_of}
-use Rattle.xmpp_edge.specs.Names.{is_among}
+use Rattle.xmpp_report.proofs.TakenArchives.{archive_push}
+use Rattle.xmpp_report.specs.Takes.{Take, archive_of, concerns, entry_of}
+use Rattle.xmpp_edge.specs.Names.{is_among, place_of}
 use Rattle.xmpp_replay.specs.Homes.{Home, appended, appended_at, delivered, home_at}
-use Rattle.xmpp_edge.specs.Names.{place_of}
-use Rattle.xmpp_replay.specs.Standing.{AreOnce}
+use Rattle.xmpp_schedule.specs.Standing.{AreOnce}
+use Rattle.xmpp_basis.proofs.Bytes.{bytes_eq-from_other}
 
 -- the name stands at its place
 pub named_at : (name : List ℕ) (names : List (List ℕ)) (i : ℕ) → place_of name names ≡ Some i → (i < length names) × (slice_get names i ≡ Some name)
@@ -47,7 +46,7 @@ place_test names k i name d once within is =
       | inl same ↦
           let there : get_or names k d ≡ name = ap (λ j. get_or names j d) same ∙ get_or_from_slice_get names i name d (named_at name names i is).1 in
           (bytes_eq-Decides (get_or names k d) name).1 there ∙ sym (eq-eqb k i same)
-      | inr apart ↦ bytes_eq_apart (get_or names k d) name (names_apart names k i name d once within is apart) ∙ sym (ne_eqb k i apart)
+      | inr apart ↦ bytes_eq-from_other (get_or names k d) name (names_apart names k i name d once within is apart) ∙ sym (ne_eqb k i apart)
     ]
 
 -- a name more

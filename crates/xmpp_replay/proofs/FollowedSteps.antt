@@ -2,6 +2,7 @@
 use Rattle.std.proofs.Common.{◌≡◌, ◌≢◌, ℕ, ◌+◌, ◌<◌, ◌≤◌, Bool, true, false, cond, not, ◌&&◌, List, [], ◌∷◌, ◌++◌, Option, Some, None, IsTrue, nat_lt, nat_le, length, get_or, set, map, refl, sym, ap, ◌∙◌, subst, arith, inl, inr}
 use Rattle.std.proofs.lemmas.Bool.{and_parts, cases_eq, cond_both, false≢true, leb-true, not-true, or_parts}
 use Rattle.std.proofs.lemmas.List.{append-nil, append_assoc, get_or-map, get_or-set_other, get_or-set_same, length-append, length-map, length-set, map_push, take-append-le}
+use Rattle.std.proofs.lemmas.List.Sums.{sum_by-cons}
 use Rattle.std.proofs.lemmas.List.Elements.{All-push, All-weaker}
 use Rattle.std.proofs.lemmas.Option.{get_or_from_slice_get, slice_get_within}
 use Rattle.std.proofs.Math.Seq.{map-set_same}
@@ -12,24 +13,29 @@ use Rattle.xmpp_archive.specs.Entries.{EntryView, numbered}
 use Rattle.xmpp_log.specs.Views.{LogView}
 use Rattle.xmpp_replay.proofs.CatchUps.{catch_up_logged, log_after_front}
 use Rattle.xmpp_replay.proofs.Deliveries.{among_placed, delivered_takes, named_at, names_apart, not_placed, once_among, once_push}
-use Rattle.xmpp_replay.proofs.PageEnds.{bytes_eq_apart, bytes_eq_itself}
-use Rattle.xmpp_replay.proofs.Prefixes.{among_push, archive_few, archive_numbered, archive_push, along_push, devices_push, home_push, pages_push, sent_few, sent_push, takes_few, takes_push}
-use Rattle.xmpp_replay.specs.Direct.{Take, accounts_of, along, archive_of, as_logged, bare_address, catch_up, concerns, device_name, devices_of, entry_of, home_of, is_said_by, kept_after, pages_after, pages_of, said_at, sent_by, take_at, take_line, takes_of}
-use Rattle.xmpp_replay.specs.Grammar.{is_name, is_text, may_stand}
-use Rattle.xmpp_edge.specs.Names.{is_among}
+use Rattle.xmpp_schedule.proofs.Prefixes.{among_push, along_push, devices_push, home_push, sent_few}
+use Rattle.xmpp_report.proofs.TakenArchives.{archive_few, archive_numbered, archive_push}
+use Rattle.xmpp_replay.proofs.Prefixes.{pages_push, takes_few, takes_push}
+use Rattle.xmpp_report.specs.Takes.{Take, archive_of, concerns, entry_of}
+use Rattle.xmpp_schedule.specs.Contents.{accounts_of, along, device_name, devices_of, home_of, is_said_by, sent_by}
+use Rattle.xmpp_replay.specs.Direct.{as_logged, catch_up, kept_after, pages_after, pages_of, said_at, take_at, takes_of}
+use Rattle.xmpp_report.specs.Addresses.{bare_address}
+use Rattle.xmpp_report.specs.Lines.{take_line}
+use Rattle.xmpp_schedule.specs.Grammar.{is_name, is_text, may_stand}
+use Rattle.xmpp_edge.specs.Names.{is_among, place_of}
 use Rattle.xmpp_replay.specs.Homes.{Home, delivered, empty_home, home_at, names_of}
-use Rattle.xmpp_replay.specs.Messages.{homes_after, said_by, take_by, takes_after}
-use Rattle.xmpp_edge.specs.Names.{place_of}
+use Rattle.xmpp_replay.specs.Messages.{homes_after, said_by, sent_of, take_by, takes_after}
 use Rattle.xmpp_replay.specs.Runs.{HasCaughtUp, HasDeclared, HasFollowed, HasSent, IsAfter, IsDevice, IsReady, IsReadyDevice, IsUnused, MayFollow}
-use Rattle.xmpp_replay.specs.Standing.{AreOnce, declared_in}
+use Rattle.xmpp_schedule.specs.Standing.{AreOnce, declared_in}
 use Rattle.xmpp_replay.specs.Turns.{IsFrontOf, IsLogOf, caught_up}
-use Rattle.xmpp_replay.specs.declared.report.SaidLine.{SaidLine}
-use Rattle.xmpp_replay.specs.declared.report.SaidMark.TheVariants.{Acknowledged}
-use Rattle.xmpp_replay.specs.declared.report.TakeLine.{TakeLine}
+use Rattle.xmpp_report.specs.declared.report.SaidLine.{SaidLine}
+use Rattle.xmpp_report.specs.declared.report.SaidMark.TheVariants.{Acknowledged}
+use Rattle.xmpp_report.specs.declared.report.TakeLine.{TakeLine}
 use Rattle.xmpp_replay.specs.declared.run.Run.{Run}
 use Rattle.xmpp_replay.specs.declared.run.devices.Device.{Device}
-use Rattle.xmpp_replay.specs.declared.schedule.Step.{Step}
-use Rattle.xmpp_replay.specs.declared.schedule.Step.TheVariants.{Account, Device as DeviceStep, Say, Catchup}
+use Rattle.xmpp_schedule.specs.declared.schedule.Step.{Step}
+use Rattle.xmpp_schedule.specs.declared.schedule.Step.TheVariants.{Account, Device as DeviceStep, Say, Catchup}
+use Rattle.xmpp_basis.proofs.Bytes.{bytes_eq-self, bytes_eq-from_other}
 
 -- a front of an archive is one of the archive with further takes
 pub front_after : (account : List ℕ) (takes more : List Take) (log : LogView) → IsFrontOf (archive_of account takes) log.entries →
@@ -54,44 +60,58 @@ front_after account takes (t ∷ more) log front =
 pub device_after : (all before : List Step) (step : Step) (old new : Device) → new.name ≡ old.name → new.account ≡ old.account → new.home ≡ old.home →
     home_of (before ++ step ∷ []) old.name ≡ home_of before old.name →
     new.said.items ≡ old.said.items ++ said_at old.name before step →
-    new.sent ≡ old.sent + cond (is_said_by old.name step) 1 0 →
     IsLogOf (pages_after all old.name before (pages_of all old.name before) step) new.log →
     IsFrontOf (archive_of old.account (takes_of all (before ++ step ∷ []))) new.log.entries →
     IsDevice all before old → IsDevice all (before ++ step ∷ []) new
-device_after all before step old new named owned housed home said sent log front is = record {
+device_after all before step old new named owned housed home said log front is = record {
   account = owned ∙ is.account ∙ sym home ∙ ap (home_of (before ++ step ∷ [])) (sym named);
   place = ap (λ a. place_of a (accounts_of all)) owned ∙ is.place ∙ ap Some (sym housed);
   said = said ∙ ap (λ t. t ++ said_at old.name before step) is.said ∙ sym (along_push (said_at old.name) [] before step)
       ∙ ap (λ n. along (said_at n) [] (before ++ step ∷ [])) (sym named);
-  sent = sent ∙ ap (λ n. n + cond (is_said_by old.name step) 1 0) is.sent ∙ sym (sent_push old.name before step)
-      ∙ ap (λ n. sent_by n (before ++ step ∷ [])) (sym named);
   log = subst (λ pages. IsLogOf pages new.log) (sym (pages_push all before old.name step) ∙ ap (λ n. pages_of all n (before ++ step ∷ [])) (sym named)) log;
   front = subst (λ a. IsFrontOf (archive_of a (takes_of all (before ++ step ∷ []))) new.log.entries) (sym owned) front;
 }
 
-none_more : (n : ℕ) (hit : Bool) → hit ≡ false → n ≡ n + cond hit 1 0
-none_more n hit none = rw none (omega arith)
+one_counted : {A : Type 0} (hit : Bool) (x : A) → length (cond hit (x ∷ []) []) ≡ cond hit 1 0
+one_counted true x = refl
+one_counted false x = refl
+
+said_one : (name : List ℕ) (before : List Step) (step : Step) → length (said_at name before step) ≡ cond (is_said_by name step) 1 0
+said_one name before (Say device to text) = one_counted (bytes_eq name device) _
+said_one name before (Account other) = refl
+said_one name before (DeviceStep other account) = refl
+said_one name before (Catchup other most) = refl
+
+-- a device's lines are as many as it sent
+said_count : (name : List ℕ) (before steps : List Step) → length (along (said_at name) before steps) ≡ sent_by name steps
+said_count name before [] = refl
+said_count name before (step ∷ steps) =
+    length-append (said_at name before step) (along (said_at name) (before ++ step ∷ []) steps)
+    ∙ ap (λ n. n + length (along (said_at name) (before ++ step ∷ []) steps)) (said_one name before step)
+    ∙ ap (λ n. cond (is_said_by name step) 1 0 + n) (said_count name (before ++ step ∷ []) steps)
+    ∙ sym (sum_by-cons (λ s. cond (is_said_by name s) 1 0) step steps)
+
+device_sent : (all before : List Step) (device : Device) → IsDevice all before device → sent_of device ≡ sent_by device.name before
+device_sent all before device is = ap length is.said ∙ said_count device.name [] before
 
 -- a device of another name, or one that the step does not name
 pub device_stays : (all before : List Step) (step : Step) (device : Device) →
-    home_of (before ++ step ∷ []) device.name ≡ home_of before device.name → said_at device.name before step ≡ [] → is_said_by device.name step ≡ false →
+    home_of (before ++ step ∷ []) device.name ≡ home_of before device.name → said_at device.name before step ≡ [] →
     pages_after all device.name before (pages_of all device.name before) step ≡ pages_of all device.name before →
     IsDevice all before device → IsDevice all (before ++ step ∷ []) device
-device_stays all before step device home said sent pages is =
+device_stays all before step device home said pages is =
     device_after all before step device device refl refl refl home
     (sym (append-nil device.said.items) ∙ ap (λ t. device.said.items ++ t) (sym said))
-    (none_more device.sent (is_said_by device.name step) sent)
     (subst (λ ps. IsLogOf ps device.log) (sym pages) is.log)
     (subst (λ ts. IsFrontOf (archive_of device.account ts) device.log.entries) (sym (takes_push all before step))
     (front_after device.account (takes_of all before) (take_at all before step) device.log is.front))
     is
 
 -- a name that no step used, and that this one does not use
-pub unused_stays : (all before : List Step) (step : Step) (name : List ℕ) → said_at name before step ≡ [] → is_said_by name step ≡ false →
+pub unused_stays : (all before : List Step) (step : Step) (name : List ℕ) → said_at name before step ≡ [] →
     pages_after all name before (pages_of all name before) step ≡ pages_of all name before → IsUnused all before name → IsUnused all (before ++ step ∷ []) name
-unused_stays all before step name said sent pages is = record {
+unused_stays all before step name said pages is = record {
   said = along_push (said_at name) [] before step ∙ ap (λ t. along (said_at name) [] before ++ t) said ∙ append-nil (along (said_at name) [] before) ∙ is.said;
-  sent = sent_push name before step ∙ ap (λ b. sent_by name before + cond b 1 0) sent ∙ (let none = is.sent in omega arith);
   pages = pages_push all before name step ∙ pages ∙ is.pages;
 }
 
@@ -157,7 +177,7 @@ ready_after all before run few is = record { names = is.index ∙ sym is.names; 
   where
     devices : All (IsReadyDevice run.accounts.homes) run.devices.items
     devices = All-weaker (IsDevice all before) (IsReadyDevice run.accounts.homes) (λ (device : Device) one. record {
-      sent = let count = one.sent in omega (arith, sent_few device.name before);
+      sent = let count = device_sent all before device one in omega (arith, sent_few device.name before);
       home = let stands = named_at device.account (accounts_of all) device.home one.place in
           omega (arith, ap length is.homes, length-map (accounts_of all) (home_at (takes_of all before)));
       closed = one.log.closed;
@@ -171,9 +191,6 @@ ready_after all before run few is = record { names = is.index ∙ sym is.names; 
         ap (λ homes. (get_or homes k d).entries) is.homes
         ∙ ap (λ (h : Home). h.entries) (get_or-map (home_at (takes_of all before)) (accounts_of all) k [] d (omega arith)) in
         omega (arith, ap length here, archive_small all before (get_or (accounts_of all) k []))
-
-other_name : (name other : List ℕ) → name ≢ other → bytes_eq name other ≡ false
-other_name name other apart = bytes_eq_apart name other apart
 
 -- a name that no line has declared is not the name of one that was
 unlike : (name other : List ℕ) (names : List (List ℕ)) → is_among name names ≡ false → is_among other names ≡ true → name ≢ other
@@ -197,9 +214,9 @@ after_account all before name run is = record {
   index = is.index ∙ sym (no_device before (Account name) refl);
   names = is.names ∙ sym (no_device before (Account name) refl);
   devices = λ k d within. device_stays all before (Account name) (get_or run.devices.items k d)
-      (home_known before (Account name) (get_or run.devices.items k d).name (name_known all before run k d is within)) refl refl refl (is.devices k d within);
+      (home_known before (Account name) (get_or run.devices.items k d).name (name_known all before run k d is within)) refl refl (is.devices k d within);
   once = subst AreOnce (sym (no_device before (Account name) refl)) is.once;
-  unused = λ other absent. unused_stays all before (Account name) other refl refl refl
+  unused = λ other absent. unused_stays all before (Account name) other refl refl
       (is.unused other (ap (is_among other) (sym (no_device before (Account name) refl)) ∙ absent));
 }
 
@@ -217,7 +234,7 @@ after_device all before name account run next is fresh made = record {
   devices = subst (λ (ds : List Device). All (IsDevice all (before ++ step ∷ [])) ds) (sym made.devices)
       (All-push (IsDevice all (before ++ step ∷ [])) run.devices.items made.new others newest);
   once = subst AreOnce (sym (devices_push before step)) (once_push (devices_of before) name is.once fresh);
-  unused = λ other absent. unused_stays all before step other refl refl refl
+  unused = λ other absent. unused_stays all before step other refl refl
       (is.unused other (or_parts (is_among other (devices_of before)) (is_among other (device_name step)) (sym (among_push other before step) ∙ absent)).0);
 }
   where
@@ -226,22 +243,21 @@ after_device all before name account run next is fresh made = record {
 
     others : All (IsDevice all (before ++ DeviceStep name account ∷ [])) run.devices.items
     others k d within = device_stays all before (DeviceStep name account) (get_or run.devices.items k d)
-        (home_known before (DeviceStep name account) (get_or run.devices.items k d).name (name_known all before run k d is within)) refl refl refl (is.devices k d within)
+        (home_known before (DeviceStep name account) (get_or run.devices.items k d).name (name_known all before run k d is within)) refl refl (is.devices k d within)
 
     unsaid : IsUnused all (before ++ DeviceStep name account ∷ []) name
-    unsaid = unused_stays all before (DeviceStep name account) name refl refl refl (is.unused name fresh)
+    unsaid = unused_stays all before (DeviceStep name account) name refl refl (is.unused name fresh)
 
     owner : home_of (before ++ DeviceStep name account ∷ []) name ≡ account
     owner = home_push before (DeviceStep name account) name
         ∙ ap (λ b. cond b (home_of before name) (home_of (DeviceStep name account ∷ []) name)) fresh
-        ∙ ap (λ b. cond b account []) (bytes_eq_itself name)
+        ∙ ap (λ b. cond b account []) (bytes_eq-self name)
 
     newest : IsDevice all (before ++ DeviceStep name account ∷ []) made.new
     newest = record {
       account = made.owned ∙ sym owner ∙ ap (home_of (before ++ DeviceStep name account ∷ [])) (sym made.named);
       place = ap (λ a. place_of a (accounts_of all)) made.owned ∙ ap (place_of account) (sym (run_names all before run is)) ∙ made.placed;
       said = made.said ∙ sym unsaid.said ∙ ap (λ n. along (said_at n) [] (before ++ DeviceStep name account ∷ [])) (sym made.named);
-      sent = made.sent ∙ sym unsaid.sent ∙ ap (λ n. sent_by n (before ++ DeviceStep name account ∷ [])) (sym made.named);
       log = subst (λ pages. IsLogOf pages made.new.log) (sym unsaid.pages ∙ ap (λ n. pages_of all n (before ++ DeviceStep name account ∷ [])) (sym made.named))
           (record { entries = ap (λ (l : LogView). l.entries) made.log; tiles = ap (λ (l : LogView). l.tiles) made.log; closed = ap (λ (l : LogView). l.page) made.log });
       front = front_of_none (archive_of made.new.account (takes_of all (before ++ DeviceStep name account ∷ []))) made.new.log (ap (λ (l : LogView). l.entries) made.log);
@@ -265,7 +281,7 @@ message_taken all before device name to text homes lines once is named held told
     take_is =
         ap (λ n. let t : Take = record { device = n; account = home_of before n; epoch = 1; n = sent_by n before + 1; to = to; text = text; moment = 0 } in t) (sym named)
         ∙ ap (λ a. let t : Take = record { device = device.name; account = a; epoch = 1; n = sent_by device.name before + 1; to = to; text = text; moment = 0 } in t) (sym is.account)
-        ∙ ap (λ m. let t : Take = record { device = device.name; account = device.account; epoch = 1; n = m + 1; to = to; text = text; moment = 0 } in t) (sym is.sent)
+        ∙ ap (λ m. let t : Take = record { device = device.name; account = device.account; epoch = 1; n = m + 1; to = to; text = text; moment = 0 } in t) (sym (device_sent all before device is))
 
     go : (place : Option ℕ) → place_of to (accounts_of all) ≡ place →
         (homes_after device to text homes ≡ map (home_at (takes_of all (before ++ Say name to text ∷ []))) (accounts_of all))
@@ -325,8 +341,8 @@ after_say all before name to text run next once is known sent = record {
   once = subst AreOnce (sym (no_device before (Say name to text) refl)) is.once;
   unused = λ other absent.
       let fresh : is_among other (devices_of before) ≡ false = ap (is_among other) (sym (no_device before (Say name to text) refl)) ∙ absent in
-      let apart : bytes_eq other name ≡ false = other_name other name (unlike other name (devices_of before) fresh known) in
-      unused_stays all before (Say name to text) other (rw apart refl) apart refl (is.unused other fresh);
+      let apart : bytes_eq other name ≡ false = bytes_eq-from_other other name (unlike other name (devices_of before) fresh known) in
+      unused_stays all before (Say name to text) other (rw apart refl) refl (is.unused other fresh);
 }
   where
     was : IsDevice all before sent.old
@@ -340,10 +356,10 @@ after_say all before name to text run next once is known sent = record {
     done = message_taken all before sent.old name to text run.accounts.homes run.takes.items once was named is.homes is.takes
 
     hit : bytes_eq sent.old.name name ≡ true
-    hit = ap (λ n. bytes_eq n name) named ∙ bytes_eq_itself name
+    hit = ap (λ n. bytes_eq n name) named ∙ bytes_eq-self name
 
     said_is : said_by sent.old to text ∷ [] ≡ said_at sent.old.name before (Say name to text)
-    said_is = ap (λ m. said_of m ∷ []) was.sent ∙ ap (λ b. cond b (said_of (sent_by sent.old.name before) ∷ []) []) (sym hit)
+    said_is = ap (λ m. said_of m ∷ []) (device_sent all before sent.old was) ∙ ap (λ b. cond b (said_of (sent_by sent.old.name before) ∷ []) []) (sym hit)
       where
         said_of : ℕ → SaidLine
         said_of m = record { epoch = 1; n = m + 1; state = Acknowledged; to = to; text = text }
@@ -352,7 +368,6 @@ after_say all before name to text run next once is known sent = record {
     one = device_after all before (Say name to text) sent.old sent.new sent.said.name sent.said.account sent.said.home
         (home_known before (Say name to text) sent.old.name (ap (λ n. is_among n (devices_of before)) named ∙ known))
         (sent.said.said ∙ ap (λ t. sent.old.said.items ++ t) said_is)
-        (sent.said.sent ∙ ap (λ b. sent.old.sent + cond b 1 0) (sym hit))
         (subst (λ l. IsLogOf (pages_of all sent.old.name before) l) (sym sent.said.log) was.log)
         (subst (λ (l : LogView). IsFrontOf (archive_of sent.old.account (takes_of all (before ++ Say name to text ∷ []))) l.entries) (sym sent.said.log)
         (subst (λ ts. IsFrontOf (archive_of sent.old.account ts) sent.old.log.entries) (sym (takes_push all before (Say name to text)))
@@ -362,10 +377,10 @@ after_say all before name to text run next once is known sent = record {
     others : (k : ℕ) (d : Device) → k < length run.devices.items → k ≢ sent.place → IsDevice all (before ++ Say name to text ∷ []) (get_or run.devices.items k d)
     others k d within apart =
         let far : bytes_eq (get_or run.devices.items k d).name name ≡ false =
-        other_name (get_or run.devices.items k d).name name (name_elsewhere all before run k sent.place d name is within sent.named apart) in
+        bytes_eq-from_other (get_or run.devices.items k d).name name (name_elsewhere all before run k sent.place d name is within sent.named apart) in
         device_stays all before (Say name to text) (get_or run.devices.items k d)
         (home_known before (Say name to text) (get_or run.devices.items k d).name (name_known all before run k d is within))
-        (rw far refl) far refl (is.devices k d within)
+        (rw far refl) refl (is.devices k d within)
 
 after_catch_up : (all before : List Step) (name : List ℕ) (most : ℕ) (run next : Run) → length before < 100000 → most ≤ 100 → IsAfter all before run →
     is_among name (devices_of before) ≡ true → HasCaughtUp run next name most → IsAfter all (before ++ Catchup name most ∷ []) next
@@ -379,8 +394,8 @@ after_catch_up all before name most run next few cap is known made = record {
   once = subst AreOnce (sym (no_device before (Catchup name most) refl)) is.once;
   unused = λ other absent.
       let fresh : is_among other (devices_of before) ≡ false = ap (is_among other) (sym (no_device before (Catchup name most) refl)) ∙ absent in
-      let apart : bytes_eq other name ≡ false = other_name other name (unlike other name (devices_of before) fresh known) in
-      unused_stays all before (Catchup name most) other refl refl (rw apart refl) (is.unused other fresh);
+      let apart : bytes_eq other name ≡ false = bytes_eq-from_other other name (unlike other name (devices_of before) fresh known) in
+      unused_stays all before (Catchup name most) other refl (rw apart refl) (is.unused other fresh);
 }
   where
     was : IsDevice all before made.old
@@ -390,7 +405,7 @@ after_catch_up all before name most run next few cap is known made = record {
     named = name_here all before run made.place made.old name is made.named made.there
 
     hit : bytes_eq made.old.name name ≡ true
-    hit = ap (λ n. bytes_eq n name) named ∙ bytes_eq_itself name
+    hit = ap (λ n. bytes_eq n name) named ∙ bytes_eq-self name
 
     archive : List EntryView
     archive = archive_of made.old.account (takes_of all before)
@@ -421,16 +436,15 @@ after_catch_up all before name most run next few cap is known made = record {
     one = device_after all before (Catchup name most) made.old made.new made.same.0 made.same.1 made.same.2
         (home_known before (Catchup name most) made.old.name (ap (λ n. is_among n (devices_of before)) named ∙ known))
         (made.same.3 ∙ sym (append-nil made.old.said.items))
-        (made.same.4 ∙ none_more made.old.sent false refl)
         logged fronts was
 
     others : (k : ℕ) (d : Device) → k < length run.devices.items → k ≢ made.place → IsDevice all (before ++ Catchup name most ∷ []) (get_or run.devices.items k d)
     others k d within apart =
         let far : bytes_eq (get_or run.devices.items k d).name name ≡ false =
-        other_name (get_or run.devices.items k d).name name (name_elsewhere all before run k made.place d name is within made.named apart) in
+        bytes_eq-from_other (get_or run.devices.items k d).name name (name_elsewhere all before run k made.place d name is within made.named apart) in
         device_stays all before (Catchup name most) (get_or run.devices.items k d)
         (home_known before (Catchup name most) (get_or run.devices.items k d).name (name_known all before run k d is within))
-        refl refl (rw far refl) (is.devices k d within)
+        refl (rw far refl) (is.devices k d within)
 
 -- what a step may say, of a run in the middle of a schedule
 pub may_follow : (all before : List Step) (run : Run) (step : Step) → IsAfter all before run →

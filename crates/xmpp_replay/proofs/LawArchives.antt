@@ -1,10 +1,10 @@
 -- The archives of the direct run: numbered from 1, no longer than the schedule, each the front of the later ones, their
 -- ids distinct.
-use Rattle.std.proofs.Common.{◌≡◌, ◌≢◌, ℕ, zero, suc, ◌+◌, ◌-◌, ◌<◌, ◌≤◌, ◌^◌, Bool, true, false, cond, List, [], ◌∷◌, ◌++◌, Some, length, take, drop, map, refl, sym, ap, ◌∙◌, arith}
+use Rattle.std.proofs.Common.{◌≡◌, ◌≢◌, ℕ, suc, ◌+◌, ◌<◌, ◌≤◌, ◌^◌, Bool, true, false, cond, List, [], ◌∷◌, ◌++◌, Some, length, take, drop, map, refl, sym, ap, ◌∙◌, arith}
 use Rattle.std.proofs.lemmas.List.{drop-map, drop_at, length-append, length-map, map-append, take-map, take_at as front_of_join}
 use Rattle.std.proofs.lemmas.List.Elements.{filter-append}
 use Rattle.std.proofs.lemmas.List.Sums.{count_by-le-length, length-filter}
-use Rattle.std.specs.List.{AllByRecursion, filter, slice_get}
+use Rattle.std.specs.List.{AllByRecursion, filter}
 use Rattle.xmpp_archive.proofs.IdDigits.{id_of_same}
 use Rattle.xmpp_archive.proofs.NumberedEntries.{FollowFrom, follow_all}
 use Rattle.xmpp_archive.specs.Entries.{AreNumbered, EntryView, numbered}
@@ -13,36 +13,21 @@ use Rattle.xmpp_log.specs.LogPages.{last_id}
 use Rattle.xmpp_log.specs.declared.log_entry.LogEntry.{LogEntry}
 use Rattle.xmpp_pages.specs.Kept.{kept_by}
 use Rattle.xmpp_replay.proofs.ArchivePages.{page_found}
-use Rattle.xmpp_replay.proofs.LawLists.{all_weaker, along-append}
-use Rattle.xmpp_replay.specs.Direct.{Take, accounts_of, along, archive_of, as_logged, concerns, entry_of, home_of, numbered_from, page_answered, sent_by, take_at, takes_of}
+use Rattle.xmpp_schedule.proofs.Prefixes.{along-append}
+use Rattle.xmpp_report.specs.Takes.{archive_of, concerns, entry_of, numbered_from}
+use Rattle.xmpp_schedule.specs.Contents.{accounts_of, along, home_of, sent_by}
+use Rattle.xmpp_replay.specs.Direct.{as_logged, page_answered, take_at, takes_of}
 use Rattle.xmpp_edge.specs.Names.{is_among}
-use Rattle.xmpp_replay.specs.Lawful.{EachPair}
+use Rattle.xmpp_report.specs.Lawful.{EachPair}
 use Rattle.xmpp_replay.specs.Turns.{page_behind}
-use Rattle.xmpp_replay.specs.declared.schedule.Step.{Step}
-use Rattle.xmpp_replay.specs.declared.schedule.Step.TheVariants.{Say}
+use Rattle.xmpp_schedule.specs.declared.schedule.Step.{Step}
+use Rattle.xmpp_schedule.specs.declared.schedule.Step.TheVariants.{Say}
+use Rattle.xmpp_report.proofs.TakenArchives.{length-numbered_from}
+use Rattle.xmpp_basis.proofs.Lists.{AllByRecursion-weaker}
 
 -- an account's archive after the first steps
 abbrev pub archive_after : List Step → List ℕ → List Step → List EntryView
 archive_after all account before = archive_of account (takes_of all before)
-
-length-numbered_from : (n : ℕ) (entries : List EntryView) → length (numbered_from n entries) ≡ length entries
-length-numbered_from n [] = refl
-length-numbered_from n (entry ∷ entries) = ap suc (length-numbered_from (n + 1) entries)
-
-numbered_place : (n : ℕ) (entries : List EntryView) (i : ℕ) (e : EntryView) → slice_get (numbered_from n entries) i ≡ Some e → e.number ≡ i + n
-numbered_place n [] i e at = absurd (cc)
-numbered_place n (entry ∷ entries) zero e at =
-    let same : numbered n entry ≡ e = cc in
-    let number : n ≡ e.number = ap (λ (x : EntryView). x.number) same in
-    omega arith
-numbered_place n (entry ∷ entries) (suc i) e at =
-    let rest : e.number ≡ i + (n + 1) = numbered_place (n + 1) entries i e at in
-    omega arith
-
-pub archive_numbered : (account : List ℕ) (takes : List Take) → AreNumbered (length (archive_of account takes)) (archive_of account takes)
-archive_numbered account takes = record {
-  each = λ i e is. let number : e.number ≡ i + 1 = numbered_place 1 (map entry_of (filter (concerns account) takes)) i e is in omega arith;
-}
 
 numbered_more : (n : ℕ) (xs ys : List EntryView) → (more : List EntryView) × (numbered_from n (xs ++ ys) ≡ numbered_from n xs ++ more)
 numbered_more n [] ys = (numbered_from n ys, refl)
@@ -96,7 +81,7 @@ above_follow s [] follow few = tt
 above_follow s (e ∷ entries) follow few =
     let number : e.number ≡ s = follow.0 in (
       (omega arith, omega arith),
-      all_weaker (λ f. (suc s ≤ f.number) × (f.number < 2 ^ 64)) (λ f. (s ≤ f.number) × (f.number < 2 ^ 64)) (λ f is. (omega (arith, is.0), is.1)) entries
+      AllByRecursion-weaker (λ f. (suc s ≤ f.number) × (f.number < 2 ^ 64)) (λ f. (s ≤ f.number) × (f.number < 2 ^ 64)) (λ f is. (omega (arith, is.0), is.1)) entries
           (above_follow (suc s) entries follow.1 (omega arith)),
     )
 
@@ -104,7 +89,7 @@ apart_follow : (s : ℕ) (entries : List EntryView) → FollowFrom s entries →
 apart_follow s [] follow few = tt
 apart_follow s (e ∷ entries) follow few =
     let number : e.number ≡ s = follow.0 in (
-      all_weaker (λ f. (suc s ≤ f.number) × (f.number < 2 ^ 64)) (λ f. id_of e.number ≢ id_of f.number)
+      AllByRecursion-weaker (λ f. (suc s ≤ f.number) × (f.number < 2 ^ 64)) (λ f. id_of e.number ≢ id_of f.number)
           (λ f is same. let equal : e.number ≡ f.number = id_of_same e.number f.number (omega arith) is.1 same in omega (arith, is.0)) entries
           (above_follow (suc s) entries follow.1 (omega arith)),
       apart_follow (suc s) entries follow.1 (omega arith),

@@ -1,86 +1,15 @@
 -- What is true of each element of a list, of each pair, and of what steps add one by one.
-use Rattle.std.proofs.Common.{◌≡◌, ℕ, Bool, true, false, cond, List, [], ◌∷◌, ◌++◌, get_or, map, refl, sym, ap, ◌∙◌, arith}
-use Rattle.std.proofs.lemmas.Bool.{cond_both, or_left, or_right}
-use Rattle.std.proofs.lemmas.List.{append_assoc, append-nil}
+use Rattle.std.proofs.Common.{◌≡◌, ℕ, true, List, [], ◌∷◌, get_or, map, sym, ap, arith, Some, inl, inr}
+use Rattle.std.proofs.lemmas.Bool.{cases_Bool, false≢true}
 use Rattle.std.proofs.lemmas.List.Elements.{All-from_recursion}
 use Rattle.std.proofs.lemmas.Slice.Eq.{bytes_eq-Decides}
-use Rattle.std.specs.List.{AllByRecursion, filter, flat_map}
+use Rattle.std.specs.List.{AllByRecursion}
 use Rattle.std.specs.List.Sorted.{IsNonDecreasing}
 use Rattle.std.specs.Str.{bytes_eq}
 use Rattle.xmpp_edge.specs.Names.{is_among}
-use Rattle.xmpp_replay.specs.Direct.{along}
-use Rattle.xmpp_replay.specs.Lawful.{EachPair}
-use Rattle.xmpp_replay.specs.declared.schedule.Step.{Step}
-
-pub all_of : {A : Type 0} (P : A → Type 0) → ((x : A) → P x) → (xs : List A) → AllByRecursion P xs
-all_of P each [] = tt
-all_of P each (x ∷ xs) = (each x, all_of P each xs)
-
-pub all_weaker : {A : Type 0} (P Q : A → Type 0) → ((x : A) → P x → Q x) → (xs : List A) → AllByRecursion P xs → AllByRecursion Q xs
-all_weaker P Q each [] all = tt
-all_weaker P Q each (x ∷ xs) all = (each x all.0, all_weaker P Q each xs all.1)
-
-pub all_map : {A B : Type 0} (P : B → Type 0) (f : A → B) (xs : List A) → AllByRecursion (λ x. P (f x)) xs → AllByRecursion P (map f xs)
-all_map P f [] all = tt
-all_map P f (x ∷ xs) all = (all.0, all_map P f xs all.1)
-
-pub all_append : {A : Type 0} (P : A → Type 0) (xs ys : List A) → AllByRecursion P xs → AllByRecursion P ys → AllByRecursion P (xs ++ ys)
-all_append P [] ys all more = more
-all_append P (x ∷ xs) ys all more = (all.0, all_append P xs ys all.1 more)
-
-pub all_front : {A : Type 0} (P : A → Type 0) (xs ys : List A) → AllByRecursion P (xs ++ ys) → AllByRecursion P xs
-all_front P [] ys all = tt
-all_front P (x ∷ xs) ys all = (all.0, all_front P xs ys all.1)
-
-pub all_flat_map : {A B : Type 0} (P : B → Type 0) (f : A → List B) (xs : List A) → AllByRecursion (λ x. AllByRecursion P (f x)) xs → AllByRecursion P (flat_map f xs)
-all_flat_map P f [] all = tt
-all_flat_map P f (x ∷ xs) all = all_append P (f x) (flat_map f xs) all.0 (all_flat_map P f xs all.1)
-
-pub all_if : {A : Type 0} (P : A → Type 0) (test : Bool) (x : A) → (test ≡ true → P x) → AllByRecursion P (cond test (x ∷ []) [])
-all_if P true x holds = (holds refl, tt)
-all_if P false x holds = tt
-
-pub all_filter : {A : Type 0} (P : A → Type 0) (test : A → Bool) (xs : List A) → AllByRecursion P xs → AllByRecursion P (filter test xs)
-all_filter P test [] all = tt
-all_filter P test (x ∷ xs) all =
-    cond_both (test x) (x ∷ filter test xs) (filter test xs) (λ ys. AllByRecursion P ys) (λ e. (all.0, all_filter P test xs all.1)) (λ e. all_filter P test xs all.1)
-
--- pairs of which the first has what they want
-pub pairs_by_first : {A : Type 0} (P : A → Type 0) (R : A → A → Type 0) → ((x y : A) → P x → R x y) → (xs : List A) → AllByRecursion P xs → EachPair R xs
-pairs_by_first P R each [] all = tt
-pairs_by_first P R each (x ∷ xs) all = (all_of (R x) (λ y. each x y all.0) xs, pairs_by_first P R each xs all.1)
-
--- pairs of which both have what they want
-pub pairs_by_both : {A : Type 0} (P : A → Type 0) (R : A → A → Type 0) → ((x y : A) → P x → P y → R x y) → (xs : List A) → AllByRecursion P xs → EachPair R xs
-pairs_by_both P R each [] all = tt
-pairs_by_both P R each (x ∷ xs) all = (all_weaker P (R x) (λ y. each x y all.0) xs all.1, pairs_by_both P R each xs all.1)
-
-pub pairs_front : {A : Type 0} (R : A → A → Type 0) (xs ys : List A) → EachPair R (xs ++ ys) → EachPair R xs
-pairs_front R [] ys pairs = tt
-pairs_front R (x ∷ xs) ys pairs = (all_front (R x) xs ys pairs.0, pairs_front R xs ys pairs.1)
-
-pub pairs_map : {A B : Type 0} (R : B → B → Type 0) (f : A → B) (xs : List A) → EachPair (λ x y. R (f x) (f y)) xs → EachPair R (map f xs)
-pairs_map R f [] pairs = tt
-pairs_map R f (x ∷ xs) pairs = (all_map (R (f x)) f xs pairs.0, pairs_map R f xs pairs.1)
-
-pub map-map : {A B C : Type 0} (f : A → B) (g : B → C) (xs : List A) → map g (map f xs) ≡ map (λ x. g (f x)) xs
-map-map f g [] = refl
-map-map f g (x ∷ xs) = ap (λ ys. g (f x) ∷ ys) (map-map f g xs)
-
-pub map_same : {A B : Type 0} (f g : A → B) (xs : List A) → AllByRecursion (λ x. f x ≡ g x) xs → map f xs ≡ map g xs
-map_same f g [] all = refl
-map_same f g (x ∷ xs) all = cc (all.0, map_same f g xs all.1)
-
-pub map_nothing : {A : Type 0} (f : A → A) (xs : List A) → AllByRecursion (λ x. f x ≡ x) xs → map f xs ≡ xs
-map_nothing f [] all = refl
-map_nothing f (x ∷ xs) all = cc (all.0, map_nothing f xs all.1)
-
-pub along-append : {A : Type 0} (f : List Step → Step → List A) (before xs ys : List Step) →
-    along f before (xs ++ ys) ≡ along f before xs ++ along f (before ++ xs) ys
-along-append f before [] ys = ap (λ b. along f b ys) (sym (append-nil before))
-along-append f before (x ∷ xs) ys =
-    ap (λ rest. f before x ++ rest) (along-append f (before ++ x ∷ []) xs ys ∙ ap (λ b. along f (before ++ x ∷ []) xs ++ along f b ys) (append_assoc before (x ∷ []) xs))
-    ∙ sym (append_assoc (f before x) (along f (before ++ x ∷ []) xs) (along f (before ++ x ∷ xs) ys))
+use Rattle.xmpp_report.specs.Lawful.{account_named, device_named}
+use Rattle.xmpp_schedule.specs.declared.schedule.Step.{Step}
+use Rattle.xmpp_replay.specs.Direct.{account_line, device_line}
 
 -- the numbers of a list that are all 0 don't fall
 pub zeros_not_falling : (xs : List ℕ) → AllByRecursion (λ x. x ≡ 0) xs → IsNonDecreasing xs
@@ -90,10 +19,21 @@ zeros_not_falling xs zeros =
     let first : get_or xs i d ≡ 0 = each i d (omega arith) in
     omega (arith, first)
 
-pub same_bytes : (xs : List ℕ) → bytes_eq xs xs ≡ true
-same_bytes xs = (bytes_eq-Decides xs xs).1 refl
+-- a declared device has its line in the report, and a declared account
+pub device_found : (all : List Step) (name : List ℕ) (names : List (List ℕ)) → is_among name names ≡ true →
+    device_named name (map (device_line all) names) ≡ Some (device_line all name)
+device_found all name [] known = absurd (false≢true known)
+device_found all name (other ∷ names) known =
+    elim (cases_Bool (bytes_eq name other)) [
+      | inl same ↦ rw same (ap (λ n. Some (device_line all n)) (sym ((bytes_eq-Decides name other).0 same)))
+      | inr differs ↦ rw differs (device_found all name names (rw differs at known))
+    ]
 
-pub each_among : (names : List (List ℕ)) → AllByRecursion (λ name. is_among name names ≡ true) names
-each_among [] = tt
-each_among (x ∷ xs) =
-    (or_left (bytes_eq x x) (is_among x xs) (same_bytes x), all_weaker (λ name. is_among name xs ≡ true) (λ name. is_among name (x ∷ xs) ≡ true) (λ name among. or_right (bytes_eq name x) (is_among name xs) among) xs (each_among xs))
+pub account_found : (all : List Step) (name : List ℕ) (names : List (List ℕ)) → is_among name names ≡ true →
+    account_named name (map (account_line all) names) ≡ Some (account_line all name)
+account_found all name [] known = absurd (false≢true known)
+account_found all name (other ∷ names) known =
+    elim (cases_Bool (bytes_eq name other)) [
+      | inl same ↦ rw same (ap (λ n. Some (account_line all n)) (sym ((bytes_eq-Decides name other).0 same)))
+      | inr differs ↦ rw differs (account_found all name names (rw differs at known))
+    ]

@@ -11,15 +11,14 @@ use Rattle.xmpp_log.specs.LogPages.{LogPage, last_id, log_of}
 use Rattle.xmpp_log.specs.declared.log_entry.LogEntry.{LogEntry}
 use Rattle.xmpp_pages.specs.Kept.{kept_by}
 use Rattle.xmpp_replay.proofs.LawArchives.{page_behind_log, rest_entries}
-use Rattle.xmpp_replay.specs.Direct.{as_logged, as_taken_over, catch_up, logged_line, page_answered, page_line}
-use Rattle.xmpp_replay.specs.Lawful.{AreTiles, last_logged}
+use Rattle.xmpp_replay.specs.Direct.{as_logged, as_taken_over, catch_up, page_answered}
+use Rattle.xmpp_report.specs.Lines.{logged_line, page_line}
+use Rattle.xmpp_report.specs.Lawful.{AreTiles, last_logged}
 use Rattle.xmpp_replay.specs.Turns.{page_behind}
+use Rattle.xmpp_replay.proofs.CatchUps.{log_of_push}
 
 pub log_of-append : (xs ys : List LogPage) → log_of (xs ++ ys) ≡ log_of xs ++ log_of ys
 log_of-append xs ys = flat_map-append (λ (page : LogPage). page.entries) xs ys
-
-pub log_of-push : (pages : List LogPage) (page : LogPage) → log_of (pages ++ page ∷ []) ≡ log_of pages ++ page.entries
-log_of-push pages page = log_of-append pages (page ∷ []) ∙ ap (λ es. log_of pages ++ es) (append-nil page.entries)
 
 -- pages behind a log that are tiles: each asked for behind the last entry before it, none but a complete one empty, and
 -- a complete one with the length of the log to its end
@@ -90,7 +89,7 @@ further_turn : (most : ℕ) (archive : List EntryView) (pages : List LogPage) (r
     CaughtUp archive (pages ++ next_page most archive (log_of pages) rest ∷ []) result → CaughtUp archive pages result
 further_turn most archive pages rest result partial some later =
     let page = next_page most archive (log_of pages) rest in
-    let joined : log_of (pages ++ page ∷ []) ≡ log_of pages ++ take most rest = log_of-push pages page in
+    let joined : log_of (pages ++ page ∷ []) ≡ log_of pages ++ take most rest = log_of_push pages page in
     let long : most < length rest = leb-false (length rest) most partial in
     let size : length (take most rest) ≡ most = length-take-le most rest (omega arith) in
     record {
@@ -117,7 +116,7 @@ catch_up_is (suc turns) most owner archive pages rest some cap known few front e
     let left : length (drop most rest) < turns = omega (arith, length-drop most rest) in
     let joined : map as_logged archive ≡ log_of (pages ++ page ∷ []) ++ drop most rest =
     front ∙ ap (λ es. log_of pages ++ es) (sym (take-append-drop most rest)) ∙ sym (append_assoc (log_of pages) (take most rest) (drop most rest))
-    ∙ ap (λ es. es ++ drop most rest) (sym (log_of-push pages page)) in
+    ∙ ap (λ es. es ++ drop most rest) (sym (log_of_push pages page)) in
     further_turn most archive pages rest (catch_up turns most kept (pages ++ page ∷ [])) partial some
     (catch_up_is turns most owner archive (pages ++ page ∷ []) (drop most rest) some cap known few joined left)))
 

@@ -9,19 +9,26 @@ use Rattle.std.proofs.lemmas.Slice.Eq.{bytes_eq-Decides}
 use Rattle.std.specs.List.{AllByRecursion, filter}
 use Rattle.std.specs.Str.{bytes_eq}
 use Rattle.xmpp_archive.specs.Entries.{EntryView}
-use Rattle.xmpp_replay.proofs.LawLists.{all_append, all_filter, all_if, all_map, all_weaker, along-append, map-map, map_nothing, same_bytes}
-use Rattle.xmpp_replay.proofs.StandingSteps.{AreStanding, Stands, all_along, device_found, device_kept, home_kept}
-use Rattle.xmpp_replay.specs.Direct.{Take, accounts_of, along, archive_of, concerns, device_line, devices_of, entry_of, home_of, is_said_by, numbered_from, said_at, sent_by, take_at, take_line, takes_of}
+use Rattle.xmpp_schedule.proofs.Lists.{all_append, all_filter, all_if, all_map, map-map, map_nothing}
+use Rattle.xmpp_schedule.proofs.Prefixes.{along-append}
+use Rattle.xmpp_schedule.proofs.StandingSteps.{AreStanding, Stands, all_along, device_kept, home_kept}
+use Rattle.xmpp_replay.proofs.LawLists.{device_found}
+use Rattle.xmpp_report.specs.Takes.{Take, archive_of, concerns, entry_of, numbered_from}
+use Rattle.xmpp_schedule.specs.Contents.{accounts_of, along, devices_of, home_of, is_said_by, sent_by}
+use Rattle.xmpp_replay.specs.Direct.{device_line, said_at, take_at, takes_of}
+use Rattle.xmpp_report.specs.Lines.{take_line}
 use Rattle.xmpp_edge.specs.Names.{is_among}
-use Rattle.xmpp_replay.specs.Lawful.{AreNumberedBehind, AreOutcomes, AreSubmissions, EachPair, IsOfSubmission, IsOutcome, Precedes, device_named, is_taken, submission, take_named}
-use Rattle.xmpp_replay.specs.Schedules.{steps_of}
-use Rattle.xmpp_replay.specs.declared.report.RefusedLine.{RefusedLine}
-use Rattle.xmpp_replay.specs.declared.report.SaidLine.{SaidLine}
-use Rattle.xmpp_replay.specs.declared.report.SaidMark.TheVariants.{Acknowledged}
-use Rattle.xmpp_replay.specs.declared.report.TakeLine.{TakeLine}
-use Rattle.xmpp_replay.specs.declared.schedule.Line.{Line}
-use Rattle.xmpp_replay.specs.declared.schedule.Step.{Step}
-use Rattle.xmpp_replay.specs.declared.schedule.Step.TheVariants.{Say, Catchup}
+use Rattle.xmpp_report.specs.Lawful.{AreNumberedBehind, AreOutcomes, AreSubmissions, EachPair, IsOfSubmission, IsOutcome, Precedes, device_named, is_taken, submission, take_named}
+use Rattle.xmpp_schedule.specs.Schedules.{steps_of}
+use Rattle.xmpp_report.specs.declared.report.RefusedLine.{RefusedLine}
+use Rattle.xmpp_report.specs.declared.report.SaidLine.{SaidLine}
+use Rattle.xmpp_report.specs.declared.report.SaidMark.TheVariants.{Acknowledged}
+use Rattle.xmpp_report.specs.declared.report.TakeLine.{TakeLine}
+use Rattle.xmpp_schedule.specs.declared.schedule.Line.{Line}
+use Rattle.xmpp_schedule.specs.declared.schedule.Step.{Step}
+use Rattle.xmpp_schedule.specs.declared.schedule.Step.TheVariants.{Say, Catchup}
+use Rattle.xmpp_basis.proofs.Bytes.{bytes_eq-self}
+use Rattle.xmpp_basis.proofs.Lists.{AllByRecursion-weaker}
 
 -- a device has sent one more message, or no more
 sent_one : (device name to text : List ℕ) (before : List Step) → bytes_eq device name ≡ true →
@@ -69,7 +76,7 @@ submission_found device to text before rest =
     let same : (sent_by device before + 1 == sent_by device before + 1) ≡ true = eq-eqb (sent_by device before + 1) (sent_by device before + 1) refl in
     rw (along-append (said_at device) [] before (Say device to text ∷ rest))
     (behind_lower device (sent_by device before + 1) [] before (along (said_at device) before (Say device to text ∷ rest)) low
-    ∙ rw (same_bytes device, same))
+    ∙ rw (bytes_eq-self device, same))
 
 -- what is known of each take
 record IsTake (all : List Step) (take : Take) : Type 0 where
@@ -105,7 +112,7 @@ pub takes_back : (all : List Step) → AreStanding [] all → map (named_in all)
 takes_back all known =
     map-map take_line (named_in all) (takes_of all all)
     ∙ map_nothing (λ take. named_in all (take_line take)) (takes_of all all)
-    (all_weaker (IsTake all) (λ take. named_in all (take_line take) ≡ take) (take_back all) (takes_of all all) (takes_known all known))
+    (AllByRecursion-weaker (IsTake all) (λ take. named_in all (take_line take) ≡ take) (take_back all) (takes_of all all) (takes_known all known))
 
 take_submitted : (all : List Step) (take : Take) → IsTake all take →
     IsOfSubmission (take_line take) (device_named take.device (map (device_line all) (devices_of all)))
@@ -115,12 +122,12 @@ pub takes_submitted : (all : List Step) → AreStanding [] all →
     AllByRecursion (λ line. IsOfSubmission line (device_named line.device (map (device_line all) (devices_of all)))) (map take_line (takes_of all all))
 takes_submitted all known =
     all_map (λ line. IsOfSubmission line (device_named line.device (map (device_line all) (devices_of all)))) take_line (takes_of all all)
-    (all_weaker (IsTake all) (λ take. IsOfSubmission (take_line take) (device_named take.device (map (device_line all) (devices_of all)))) (take_submitted all) (takes_of all all) (takes_known all known))
+    (AllByRecursion-weaker (IsTake all) (λ take. IsOfSubmission (take_line take) (device_named take.device (map (device_line all) (devices_of all)))) (take_submitted all) (takes_of all all) (takes_known all known))
 
 pub takes_exist : (all : List Step) → AreStanding [] all → AllByRecursion (λ line. is_among line.account (accounts_of all) ≡ true) (map take_line (takes_of all all))
 takes_exist all known =
     all_map (λ line. is_among line.account (accounts_of all) ≡ true) take_line (takes_of all all)
-    (all_weaker (IsTake all) (λ take. is_among take.to (accounts_of all) ≡ true) (λ take is. is.exists) (takes_of all all) (takes_known all known))
+    (AllByRecursion-weaker (IsTake all) (λ take. is_among take.to (accounts_of all) ≡ true) (λ take is. is.exists) (takes_of all all) (takes_known all known))
 
 -- each entry has the stamp 0
 abbrev IsFirstMoment : EntryView → Type 0
@@ -135,7 +142,7 @@ stamps_known all account known =
     numbered_stamps 1 (map entry_of (filter (concerns account) (takes_of all all)))
     (all_map IsFirstMoment entry_of (filter (concerns account) (takes_of all all))
     (all_filter (λ take. take.moment ≡ 0) (concerns account) (takes_of all all)
-    (all_weaker (IsTake all) (λ take. take.moment ≡ 0) (λ take is. is.moment) (takes_of all all) (takes_known all known))))
+    (AllByRecursion-weaker (IsTake all) (λ take. take.moment ≡ 0) (λ take is. is.moment) (takes_of all all) (takes_known all known))))
 
 -- the submissions of a device are numbered
 numbered_behind : (device : List ℕ) (before steps : List Step) (last : SaidLine) → last.epoch ≡ 1 → last.n ≡ sent_by device before →
@@ -214,14 +221,14 @@ record Rise (low : ℕ) (takes : List TakeLine) : Type 0 where
 
 rise_lower : (low high : ℕ) (takes : List TakeLine) → low ≤ high → Rise high takes → Rise low takes
 rise_lower low high takes less rise = record {
-  above = all_weaker (λ t. (t.epoch ≡ 1) × (high < t.n)) (λ t. (t.epoch ≡ 1) × (low < t.n)) (λ t is. (is.0, omega (arith, is.1))) takes rise.above;
+  above = AllByRecursion-weaker (λ t. (t.epoch ≡ 1) × (high < t.n)) (λ t. (t.epoch ≡ 1) × (low < t.n)) (λ t is. (is.0, omega (arith, is.1))) takes rise.above;
   pairs = rise.pairs;
 }
 
 rise_more : (low : ℕ) (take : TakeLine) (takes : List TakeLine) → take.epoch ≡ 1 → take.n ≡ low + 1 → Rise (low + 1) takes → Rise low (take ∷ takes)
 rise_more low take takes epoch number rise = record {
   above = ((epoch, omega arith), (rise_lower low (low + 1) takes (omega arith) rise).above);
-  pairs = (all_weaker (λ t. (t.epoch ≡ 1) × (low + 1 < t.n)) (Precedes take) (λ t is. inr (epoch ∙ sym is.0, omega (arith, is.1))) takes rise.above, rise.pairs);
+  pairs = (AllByRecursion-weaker (λ t. (t.epoch ≡ 1) × (low + 1 < t.n)) (Precedes take) (λ t is. inr (epoch ∙ sym is.0, omega (arith, is.1))) takes rise.above, rise.pairs);
 }
 
 abbrev takes_by : List Step → List ℕ → List Step → List Step → List TakeLine
@@ -275,7 +282,7 @@ taken_from all device before (Say name to text ∷ steps) =
     all_append (IsTakenIn all (map take_line (take_at all before (Say name to text) ++ later)) device) (said_at device before (Say name to text)) (along (said_at device) (before ++ Say name to text ∷ []) steps)
     (all_if (IsTakenIn all (map take_line (take_at all before (Say name to text) ++ later)) device) (bytes_eq device name) (submitted (sent_by device before + 1) to text)
     (taken_here all name to text device before later))
-    (all_weaker (IsTakenIn all (map take_line later) device) (IsTakenIn all (map take_line (take_at all before (Say name to text) ++ later)) device)
+    (AllByRecursion-weaker (IsTakenIn all (map take_line later) device) (IsTakenIn all (map take_line (take_at all before (Say name to text) ++ later)) device)
     (taken_later all device (take_at all before (Say name to text)) later) (along (said_at device) (before ++ Say name to text ∷ []) steps)
     (taken_from all device (before ++ Say name to text ∷ []) steps))
 taken_from all device before (step ∷ steps) = taken_from all device (before ++ step ∷ []) steps

@@ -7,13 +7,16 @@ use Rattle.std.specs.List.{count_by, slice_get}
 use Rattle.xmpp_log.specs.LogPages.{LogPage}
 use Rattle.xmpp_replay.proofs.LawArchives.{archive_after, archive_grows}
 use Rattle.xmpp_replay.proofs.LawHistories.{total_at}
-use Rattle.xmpp_replay.proofs.StandingSteps.{AreStanding}
-use Rattle.xmpp_replay.specs.Direct.{device_line, home_of, page_line, pages_of}
-use Rattle.xmpp_replay.specs.History.{World, world_after, worlds_from}
-use Rattle.xmpp_replay.specs.Lawful.{EndsWith, IsFresh}
-use Rattle.xmpp_replay.specs.Reports.{DeviceView}
-use Rattle.xmpp_replay.specs.declared.report.PageLine.{PageLine}
-use Rattle.xmpp_replay.specs.declared.schedule.Step.{Step}
+use Rattle.xmpp_schedule.proofs.StandingSteps.{AreStanding}
+use Rattle.xmpp_replay.specs.Direct.{device_line, pages_of}
+use Rattle.xmpp_schedule.specs.Contents.{home_of}
+use Rattle.xmpp_report.specs.Lines.{page_line}
+use Rattle.xmpp_report.specs.Worlds.{World}
+use Rattle.xmpp_replay.specs.History.{world_after, worlds_from}
+use Rattle.xmpp_report.specs.Lawful.{EndsWith, IsFresh}
+use Rattle.xmpp_report.specs.Reports.{DeviceView}
+use Rattle.xmpp_report.specs.declared.report.PageLine.{PageLine}
+use Rattle.xmpp_schedule.specs.declared.schedule.Step.{Step}
 
 first_world : (all before steps : List Step) → slice_get (worlds_from all before steps) zero ≡ Some (world_after all before)
 first_world all before [] = refl

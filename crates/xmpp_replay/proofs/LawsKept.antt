@@ -1,30 +1,38 @@
 -- The direct run keeps each of the five laws.
 use Rattle.std.proofs.Common.{◌≡◌, ◌≢◌, ℕ, ◌+◌, ◌<◌, ◌≤◌, ◌^◌, true, List, [], ◌++◌, length, take, map, filter, IsTrue, refl, sym, ap, ◌∙◌, arith}
-use Rattle.std.proofs.lemmas.List.{append-nil, length-append, length-map, map-append, take-map, take_at as front_of_join}
+use Rattle.std.proofs.lemmas.List.{append-nil, length-append, length-map, map-append, take_at as front_of_join}
 use Rattle.std.specs.List.{AllByRecursion, count_by, flat_map}
 use Rattle.std.specs.List.Sorted.{IsNonDecreasing}
 use Rattle.std.specs.Str.{bytes_eq}
 use Rattle.xmpp_archive.specs.Entries.{EntryView}
 use Rattle.xmpp_log.specs.LogPages.{log_of}
 use Rattle.xmpp_log.specs.declared.log_entry.LogEntry.{LogEntry}
-use Rattle.xmpp_replay.proofs.LawArchives.{archive_few, archive_numbered, ids_apart}
+use Rattle.xmpp_replay.proofs.LawArchives.{archive_few, ids_apart}
+use Rattle.xmpp_report.proofs.TakenArchives.{archive_numbered}
 use Rattle.xmpp_replay.proofs.LawHistories.{ArePaged, paged_at}
-use Rattle.xmpp_replay.proofs.LawLists.{all_flat_map, all_map, all_of, all_weaker, map-map, map_nothing, pairs_by_both, pairs_by_first, pairs_front, pairs_map, zeros_not_falling}
+use Rattle.xmpp_schedule.proofs.Lists.{all_flat_map, all_map, all_of, map-map, map_nothing}
+use Rattle.xmpp_report.proofs.Pairs.{pairs_by_both, pairs_by_first, pairs_front, pairs_map}
+use Rattle.xmpp_replay.proofs.LawLists.{zeros_not_falling, account_found}
 use Rattle.xmpp_replay.proofs.LawPages.{tiles_are}
 use Rattle.xmpp_replay.proofs.LawTakes.{acknowledged, are_outcomes, are_submissions, first_epoch, named_in, stamps_known, taken_from, takes_back, takes_exist, takes_rise, takes_submitted}
 use Rattle.xmpp_replay.proofs.LawWorlds.{complete_lines, ends_with, is_fresh}
-use Rattle.xmpp_replay.proofs.StandingSteps.{AreStanding, account_found, few_lines, homes_are, homes_exist, steps_stand}
-use Rattle.xmpp_replay.specs.Direct.{account_line, accounts_of, along, archive_of, as_logged, device_line, devices_of, direct_report, entry_line, home_of, logged_line, page_line, pages_of, said_at, take_line, takes_of}
-use Rattle.xmpp_replay.specs.Grammar.{IsSchedule, nothing_declared}
+use Rattle.xmpp_schedule.proofs.StandingSteps.{AreStanding, few_lines, homes_are, homes_exist, steps_stand}
+use Rattle.xmpp_replay.specs.History.{direct_history}
+use Rattle.xmpp_replay.specs.Direct.{account_line, as_logged, device_line, direct_report, pages_of, said_at, takes_of}
+use Rattle.xmpp_schedule.specs.Contents.{accounts_of, along, devices_of, home_of, Owned, is_account, is_catchup_of}
+use Rattle.xmpp_report.specs.Takes.{archive_of}
+use Rattle.xmpp_report.specs.Lines.{entry_line, logged_line, page_line, take_line}
+use Rattle.xmpp_schedule.specs.Grammar.{IsSchedule, nothing_declared}
 use Rattle.xmpp_edge.specs.Names.{is_among}
-use Rattle.xmpp_replay.specs.Lawful.{AgreeOnStamp, ArePages, AreOutcomes, AreSubmissions, EachPair, Home, IsAcknowledgedFirst, IsAcknowledgedRight, IsLawful, IsLogged, IsOfSchedule, IsOnceInOrder, IsPaged, IsPrefixOfAccount, IsSettledRight, IsTakenFirst, IsTakenRight, IsUndisturbed, Precedes, account_named, at_any_time, is_account, is_catchup_of, is_taken, logged_as}
-use Rattle.xmpp_replay.specs.Reports.{AccountView, DeviceView}
-use Rattle.xmpp_replay.specs.Schedules.{ScheduleView, steps_of}
-use Rattle.xmpp_replay.specs.declared.report.EntryLine.{EntryLine}
-use Rattle.xmpp_replay.specs.declared.report.LoggedLine.{LoggedLine}
-use Rattle.xmpp_replay.specs.declared.report.SaidMark.TheVariants.{Acknowledged, Waiting}
-use Rattle.xmpp_replay.specs.declared.schedule.Line.{Line}
-use Rattle.xmpp_replay.specs.declared.schedule.Step.{Step}
+use Rattle.xmpp_report.specs.Lawful.{AgreeOnStamp, ArePages, AreOutcomes, AreSubmissions, EachPair, IsAcknowledgedFirst, IsAcknowledgedRight, IsLawful, IsLogged, IsOfSchedule, IsOnceInOrder, IsPaged, IsPrefixOfAccount, IsSettledRight, IsTakenFirst, IsTakenRight, IsUndisturbed, Precedes, account_named, at_any_time, is_taken}
+use Rattle.xmpp_report.specs.Reports.{AccountView, DeviceView}
+use Rattle.xmpp_schedule.specs.Schedules.{ScheduleView, steps_of}
+use Rattle.xmpp_report.specs.declared.report.EntryLine.{EntryLine}
+use Rattle.xmpp_report.specs.declared.report.LoggedLine.{LoggedLine}
+use Rattle.xmpp_report.specs.declared.report.SaidMark.TheVariants.{Acknowledged, Waiting}
+use Rattle.xmpp_schedule.specs.declared.schedule.Line.{Line}
+use Rattle.xmpp_schedule.specs.declared.schedule.Step.{Step}
+use Rattle.xmpp_basis.proofs.Lists.{AllByRecursion-weaker}
 
 known_steps : (s : ScheduleView) → IsSchedule s → AreStanding [] (steps_of s.lines)
 known_steps s known = steps_stand [] 2 s.lines known.lines
@@ -36,7 +44,7 @@ each_device P all each = all_map P (device_line all) (devices_of all) (all_of (�
 each_account : (P : AccountView → Type 0) (all : List Step) → ((name : List ℕ) → P (account_line all name)) → AllByRecursion P (map (account_line all) (accounts_of all))
 each_account P all each = all_map P (account_line all) (accounts_of all) (all_of (λ name. P (account_line all name)) each (accounts_of all))
 
-abbrev home_line : DeviceView → Home
+abbrev home_line : DeviceView → Owned
 home_line d = record { device = d.name; account = d.account }
 
 abbrev account_name_of : AccountView → List ℕ
@@ -120,15 +128,15 @@ once_in_order s known =
 
 settled_right : (all : List Step) (name : List ℕ) → IsSettledRight (device_line all name)
 settled_right all name = record {
-  nothing_waits = all_weaker (λ said. said.state ≡ Acknowledged) (λ said. said.state ≢ Waiting) (λ said is waits. cc) (along (said_at name) [] all) (acknowledged name [] all);
+  nothing_waits = AllByRecursion-weaker (λ said. said.state ≡ Acknowledged) (λ said. said.state ≢ Waiting) (λ said is waits. cc) (along (said_at name) [] all) (acknowledged name [] all);
   nothing_underway = refl;
-  present_epoch = all_weaker (λ said. said.state ≡ Acknowledged) (λ said. said.epoch ≡ 1 → said.state ≡ Acknowledged) (λ said is epoch. is) (along (said_at name) [] all) (acknowledged name [] all);
+  present_epoch = AllByRecursion-weaker (λ said. said.state ≡ Acknowledged) (λ said. said.epoch ≡ 1 → said.state ≡ Acknowledged) (λ said is epoch. is) (along (said_at name) [] all) (acknowledged name [] all);
 }
 
 acknowledged_taken : (all : List Step) (name : List ℕ) →
     AllByRecursion (λ said. said.state ≡ Acknowledged → IsTrue (is_among said.to (accounts_of all)) → IsTrue (is_taken (map take_line (takes_of all all)) name said)) (along (said_at name) [] all)
 acknowledged_taken all name =
-    all_weaker (λ said. is_among said.to (accounts_of all) ≡ true → is_taken (map take_line (takes_of all all)) name said ≡ true)
+    AllByRecursion-weaker (λ said. is_among said.to (accounts_of all) ≡ true → is_taken (map take_line (takes_of all all)) name said ≡ true)
     (λ said. said.state ≡ Acknowledged → IsTrue (is_among said.to (accounts_of all)) → IsTrue (is_taken (map take_line (takes_of all all)) name said))
     (λ said taken is. taken) (along (said_at name) [] all) (taken_from all name [] all)
 
@@ -159,17 +167,22 @@ log_front : (all : List Step) (name : List ℕ) → AreStanding [] all → lengt
     ArePaged (archive_of (home_of all name) (takes_of all all)) (pages_of all name all) (count_by (is_catchup_of name) all)
 log_front all name stand few = paged_at all name all [] (append-nil all) stand few
 
+-- the entry of a log's line
+abbrev line_entry : LoggedLine → EntryLine
+line_entry line = line.entry
+
 prefix_kept : (archive : List EntryView) (log rest : List LogEntry) → map as_logged archive ≡ log ++ rest →
     (length (map logged_line log) ≤ length (map entry_line archive))
-    × (map logged_line log ≡ map logged_as (take (length (map logged_line log)) (map entry_line archive)))
+    × (map line_entry (map logged_line log) ≡ take (length (map logged_line log)) (map entry_line archive))
 prefix_kept archive log rest front =
     let total : length archive ≡ length log + length rest = sym (length-map archive as_logged) ∙ ap length front ∙ length-append log rest in
-    let lines : map logged_as (map entry_line archive) ≡ map logged_line log ++ map logged_line rest =
-    map-map entry_line logged_as archive ∙ sym (map-map as_logged logged_line archive) ∙ ap (map logged_line) front ∙ map-append logged_line log rest in (
+    let entry_of_line : LogEntry → EntryLine = λ l. line_entry (logged_line l) in
+    let lines : map entry_line archive ≡ map entry_of_line log ++ map entry_of_line rest =
+    sym (map-map as_logged entry_of_line archive) ∙ ap (map entry_of_line) front ∙ map-append entry_of_line log rest in (
       omega (arith, length-map log logged_line, length-map archive entry_line),
-      sym (front_of_join (map logged_line log) (map logged_line rest) (length (map logged_line log)) refl)
-          ∙ ap (take (length (map logged_line log))) (sym lines)
-          ∙ take-map logged_as (length (map logged_line log)) (map entry_line archive),
+      map-map logged_line line_entry log
+          ∙ sym (front_of_join (map entry_of_line log) (map entry_of_line rest) (length (map logged_line log)) (length-map log entry_of_line ∙ sym (length-map log logged_line)))
+          ∙ ap (take (length (map logged_line log))) (sym lines),
     )
 
 prefix_of_account : (all : List Step) (name : List ℕ) → AreStanding [] all → length all < 2 ^ 64 → is_among (home_of all name) (accounts_of all) ≡ true →
@@ -188,14 +201,14 @@ logged_right s known =
     record {
       whole = of_schedule s known;
       prefix = all_map (λ d. IsPrefixOfAccount d (account_named d.account (map (account_line all) (accounts_of all)))) (device_line all) (devices_of all)
-          (all_weaker (λ name. is_among (home_of all name) (accounts_of all) ≡ true)
+          (AllByRecursion-weaker (λ name. is_among (home_of all name) (accounts_of all) ≡ true)
           (λ name. IsPrefixOfAccount (device_line all name) (account_named (home_of all name) (map (account_line all) (accounts_of all))))
           (λ name exists. prefix_of_account all name standing (known_few s known) exists) (devices_of all) (homes_exist all [] all refl standing));
     }
 
 -- Law 5.
 
-ids_differ : (all : List Step) (name : List ℕ) → AreStanding [] all → length all < 2 ^ 64 → EachPair (λ a b. a.id ≢ b.id) (map logged_line (log_of (pages_of all name all)))
+ids_differ : (all : List Step) (name : List ℕ) → AreStanding [] all → length all < 2 ^ 64 → EachPair (λ a b. a.entry.id ≢ b.entry.id) (map logged_line (log_of (pages_of all name all)))
 ids_differ all name stand few =
     let account = home_of all name in
     let archive = archive_of account (takes_of all all) in
@@ -204,10 +217,10 @@ ids_differ all name stand few =
     let short : length archive ≤ length all = archive_few all account all in
     let apart : EachPair (λ a b. a.id ≢ b.id) (map as_logged archive) =
     pairs_map (λ (a b : LogEntry). a.id ≢ b.id) as_logged archive (ids_apart archive (archive_numbered account (takes_of all all)) (omega arith)) in
-    pairs_map (λ (a b : LoggedLine). a.id ≢ b.id) logged_line log
+    pairs_map (λ (a b : LoggedLine). a.entry.id ≢ b.entry.id) logged_line log
     (pairs_front (λ (a b : LogEntry). a.id ≢ b.id) log known.rest (rw known.front at apart))
 
-are_pages : (s : ScheduleView) → IsSchedule s → (name : List ℕ) → ArePages s (device_line (steps_of s.lines) name)
+are_pages : (s : ScheduleView) → IsSchedule s → (name : List ℕ) → ArePages (direct_history (steps_of s.lines)) s (device_line (steps_of s.lines) name)
 are_pages s known name =
     let all = steps_of s.lines in
     let standing : AreStanding [] all = known_steps s known in
@@ -220,15 +233,15 @@ are_pages s known name =
       answered = λ direct. complete_lines (pages_of all name all) ∙ paged.complete;
     }
 
-pub paged_right : (s : ScheduleView) → IsSchedule s → IsPaged s (direct_report (steps_of s.lines))
+pub paged_right : (s : ScheduleView) → IsSchedule s → IsPaged (direct_history (steps_of s.lines)) s (direct_report (steps_of s.lines))
 unfolding direct_report of_schedule
 paged_right s known =
     record {
       whole = of_schedule s known;
-      pages = each_device (ArePages s) (steps_of s.lines) (are_pages s known);
+      pages = each_device (ArePages (direct_history (steps_of s.lines)) s) (steps_of s.lines) (are_pages s known);
     }
 
-pub lawful : (s : ScheduleView) → IsSchedule s → IsLawful s (direct_report (steps_of s.lines))
+pub lawful : (s : ScheduleView) → IsSchedule s → IsLawful (direct_history (steps_of s.lines)) s (direct_report (steps_of s.lines))
 lawful s known = record {
   taken = taken_right s known;
   in_order = once_in_order s known;

@@ -1,10 +1,10 @@
 -- A page of the next entries of a log's archive ends well: its ids are new, and it has an entry where entries remain.
 use Rattle.std.proofs.Common.{◌≡◌, ◌≢◌, ℕ, zero, suc, ◌+◌, ◌-◌, ◌<◌, ◌≤◌, ◌^◌, min, Bool, true, false, cond, ◌&&◌, ◌||◌, leb, ltb, List, [], ◌∷◌, ◌++◌, Option, Some, None, Ok, length, take, drop, get_or, map, refl, sym, ap, ◌∙◌, arith}
-use Rattle.std.proofs.lemmas.Bool.{false_from_ne_true, le-ltb, leb-false, or_from}
+use Rattle.std.proofs.lemmas.Bool.{le-ltb, leb-false, or_from}
 use Rattle.std.proofs.lemmas.List.{length-drop, length-map, length-take}
 use Rattle.std.proofs.lemmas.List.Folds.{list_any-append}
-use Rattle.std.proofs.lemmas.Slice.Eq.{bytes_eq-Decides}
-use Rattle.std.specs.List.{list_any}
+use Rattle.std.specs.List.{list_any, slice_get}
+use Rattle.std.proofs.lemmas.Option.{get_or_from_slice_get}
 use Rattle.std.specs.Option.{IsSomeAnd}
 use Rattle.std.specs.Str.{bytes_eq}
 use Rattle.xmpp_archive.proofs.IdDigits.{id_of_same}
@@ -13,25 +13,20 @@ use Rattle.xmpp_archive.specs.Entries.{AreNumbered, EntryView}
 use Rattle.xmpp_archive.specs.Ids.{id_of}
 use Rattle.xmpp_log.specs.LogPages.{ids_of, last_id}
 use Rattle.xmpp_log.specs.Views.{LogView, advance_of, after_fin, fin_answer, first_repeat, outcome_of, page_for, same_id, with_result}
-use Rattle.xmpp_log.specs.declared.fin.Fin.{Fin}
+use Rattle.xmpp_pages.specs.declared.fin.Fin.{Fin}
 use Rattle.xmpp_log.specs.declared.log_entry.LogEntry.{LogEntry}
-use Rattle.xmpp_pages.specs.Cuts.{CutView}
+use Rattle.xmpp_pages.specs.Cuts.{CutView, fin_of}
 use Rattle.xmpp_pages.specs.Kept.{kept_by}
 use Rattle.xmpp_pages.specs.PageOf.{page_of}
 use Rattle.xmpp_pages.specs.Spans.{number_of_entry, numbers_of}
 use Rattle.xmpp_replay.proofs.ArchivePages.{cut_behind, cut_is, last_of_page, number_at}
 use Rattle.xmpp_replay.proofs.CatchUps.{results_more, take_whole}
 use Rattle.xmpp_replay.specs.Direct.{as_logged, query_behind}
-use Rattle.xmpp_replay.specs.Turns.{IsFrontOf, fin_of, open_page, opened, page_behind, with_turn}
-
-pub bytes_eq_itself : (a : List ℕ) → bytes_eq a a ≡ true
-bytes_eq_itself a = (bytes_eq-Decides a a).1 refl
-
-pub bytes_eq_apart : (a b : List ℕ) → a ≢ b → bytes_eq a b ≡ false
-bytes_eq_apart a b apart = false_from_ne_true (bytes_eq a b) (λ e. apart ((bytes_eq-Decides a b).0 e))
+use Rattle.xmpp_replay.specs.Turns.{IsFrontOf, open_page, opened, page_behind, with_turn}
+use Rattle.xmpp_basis.proofs.Bytes.{bytes_eq-self, bytes_eq-from_other}
 
 other_ids : (m n : ℕ) → m < 2 ^ 64 → n < 2 ^ 64 → m ≢ n → bytes_eq (id_of m) (id_of n) ≡ false
-other_ids m n low below apart = bytes_eq_apart (id_of m) (id_of n) (λ e. apart (id_of_same m n low below e))
+other_ids m n low below apart = bytes_eq-from_other (id_of m) (id_of n) (λ e. apart (id_of_same m n low below e))
 
 follow_take : (s k : ℕ) (es : List EntryView) → FollowFrom s es → FollowFrom s (take k es)
 follow_take s zero es follow = tt
@@ -66,7 +61,7 @@ no_repeat s (e ∷ es) known follow small absent =
 
 pub same_id_itself : (id : Option (List ℕ)) → same_id id id ≡ true
 same_id_itself None = refl
-same_id_itself (Some id) = bytes_eq_itself id
+same_id_itself (Some id) = bytes_eq-self id
 
 -- the ids of the next entries are new
 pub next_are_new : (most : ℕ) (archive : List EntryView) (logged : List LogEntry) → AreNumbered (length archive) archive → length archive < 2 ^ 64 → IsFrontOf archive logged →
@@ -108,7 +103,7 @@ pub page_ends_well : (queryid : List ℕ) (most : ℕ) (archive : List EntryView
     fin.complete ≡ leb (length (drop (length log.entries) archive)) most →
     fin_answer (opened queryid most log (map as_logged (take most (drop (length log.entries) archive)))) queryid fin ≡ Ok (outcome_of fin.complete)
 page_ends_well queryid most archive log fin low numbered small front last complete =
-    let named : bytes_eq queryid queryid ≡ true = bytes_eq_itself queryid in
+    let named : bytes_eq queryid queryid ≡ true = bytes_eq-self queryid in
     let ids : same_id fin.last (last_id (map as_logged (take most (drop (length log.entries) archive)))) ≡ true =
     rw last (same_id_itself (last_id (map as_logged (take most (drop (length log.entries) archive))))) in
     let new = next_are_new most archive log.entries numbered small front in
@@ -119,7 +114,7 @@ pub page_has_room : (queryid : List ℕ) (most at : ℕ) (log now : LogView) (xs
     now ≡ opened queryid most log (map as_logged (take at xs)) →
     IsSomeAnd (page_for queryid now.page) (λ page. length page.results < page.max)
 page_has_room queryid most at log now xs few is =
-    let named : bytes_eq queryid queryid ≡ true = bytes_eq_itself queryid in
+    let named : bytes_eq queryid queryid ≡ true = bytes_eq-self queryid in
     let size : length (map as_logged (take at xs)) ≡ length (take at xs) = length-map (take at xs) as_logged in
     let short : length (take at xs) ≡ min at (length xs) = length-take at xs in
     rw (is, named) (omega arith)
@@ -185,3 +180,10 @@ answered_page_taken_over owner queryid most archive log begun now next cut fin c
     is ∙ ap (λ (l : LogView). opened queryid most l (map as_logged (take most (drop (length l.entries) archive)))) begins in
     over ∙ ap (λ l. after_fin l fin) opens ∙ ap (after_fin (opened queryid most log (map as_logged page))) told
     ∙ rw (length-map page as_logged)
+
+-- an entry that was copied with its id is the one at its number's place, as it is logged
+pub result_copied : (archive : List EntryView) (place : ℕ) (e copy d : EntryView) (id : List ℕ) → slice_get archive place ≡ Some e → copy ≡ e → id ≡ id_of e.number →
+    (let logged : LogEntry = record { id = id; entry = copy } in logged) ≡ as_logged (get_or archive place d)
+result_copied archive place e copy d id there same is =
+    ap (λ i. let logged : LogEntry = record { id = i; entry = copy } in logged) (is ∙ ap (λ (v : EntryView). id_of v.number) (sym same))
+    ∙ ap as_logged (same ∙ sym (get_or_from_slice_get archive place e d there))

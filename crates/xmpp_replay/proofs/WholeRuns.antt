@@ -10,22 +10,24 @@ use Rattle.std.specs.List.{All, slice_get}
 use Rattle.std.specs.Str.{bytes_eq}
 use Rattle.xmpp_log.specs.LogPages.{LogPage, tile_of}
 use Rattle.xmpp_replay.proofs.Deliveries.{once_push}
-use Rattle.xmpp_replay.proofs.Prefixes.{accounts_push, right_steps}
+use Rattle.xmpp_schedule.proofs.Prefixes.{accounts_push, right_steps}
 use Rattle.xmpp_replay.proofs.FollowedSteps.{after_followed, may_follow, ready_after}
-use Rattle.xmpp_replay.specs.Direct.{account_line, account_name, accounts_of, device_line, direct_report, page_line, pages_of, takes_of}
-use Rattle.xmpp_replay.specs.Grammar.{IsSchedule, is_name}
+use Rattle.xmpp_replay.specs.Direct.{account_line, device_line, direct_report, pages_of, takes_of}
+use Rattle.xmpp_schedule.specs.Contents.{account_name, accounts_of}
+use Rattle.xmpp_report.specs.Lines.{page_line, tile_line}
+use Rattle.xmpp_schedule.specs.Grammar.{IsSchedule, is_name}
 use Rattle.xmpp_edge.specs.Names.{is_among}
 use Rattle.xmpp_replay.specs.Homes.{Home, empty_home, home_at, names_of}
-use Rattle.xmpp_replay.specs.ReportLines.{home_line, report_of, state_line, tile_line}
-use Rattle.xmpp_replay.specs.Reports.{DeviceView}
+use Rattle.xmpp_replay.specs.ReportLines.{home_line, report_of, state_line}
+use Rattle.xmpp_report.specs.Reports.{DeviceView}
 use Rattle.xmpp_replay.specs.Runs.{HasFollowed, IsAfter, IsDevice, IsReady, MayFollow}
-use Rattle.xmpp_replay.specs.Schedules.{ScheduleView, steps_of}
-use Rattle.xmpp_replay.specs.Standing.{AreOnce, AreRight}
+use Rattle.xmpp_schedule.specs.Schedules.{ScheduleView, steps_of}
+use Rattle.xmpp_schedule.specs.Standing.{AreOnce, AreRight}
 use Rattle.xmpp_replay.specs.declared.run.Run.{Run}
 use Rattle.xmpp_replay.specs.declared.run.devices.Device.{Device}
-use Rattle.xmpp_replay.specs.declared.schedule.Line.{Line}
-use Rattle.xmpp_replay.specs.declared.schedule.Step.{Step}
-use Rattle.xmpp_replay.specs.declared.schedule.Step.TheVariants.{Account, Device as DeviceStep, Say, Catchup}
+use Rattle.xmpp_schedule.specs.declared.schedule.Line.{Line}
+use Rattle.xmpp_schedule.specs.declared.schedule.Step.{Step}
+use Rattle.xmpp_schedule.specs.declared.schedule.Step.TheVariants.{Account, Device as DeviceStep, Say, Catchup}
 
 -- the first steps, with the next one
 pub taken_push : (all : List Step) (i : ℕ) (step : Step) → slice_get all i ≡ Some step → take (i + 1) all ≡ take i all ++ step ∷ []
@@ -101,7 +103,7 @@ after_none all run homes takes index devices = record {
   names = ap (map (λ (d : Device). d.name)) devices;
   devices = subst (λ (ds : List Device). All (IsDevice all []) ds) (sym devices) (All-nil (IsDevice all []));
   once = none_once;
-  unused = λ name absent. record { said = refl; sent = refl; pages = refl };
+  unused = λ name absent. record { said = refl; pages = refl };
 }
 
 page_lines_same : (pages : List LogPage) → map tile_line (map tile_of pages) ≡ map page_line pages

@@ -1,13 +1,10 @@
 -- The direct run of a schedule: every message is taken at once and acknowledged, and every page that is asked for is
 -- answered at once. No session, counter, queue or connection occurs here.
-use Rattle.std.specs.Prelude.{ℕ, ◌+◌, Bool, true, false, ◌||◌, List, [], ◌∷◌, ◌++◌, Option, Some, None, length, map, filter, filter_map, count_by, zero, suc, codes, if◌then◌else◌}
-use Rattle.std.specs.Fmt.{decimal}
-use Rattle.std.specs.List.{flat_map}
+use Rattle.std.specs.Prelude.{ℕ, ◌+◌, Bool, true, false, List, [], ◌∷◌, ◌++◌, Option, Some, None, length, map, filter_map, zero, suc, if◌then◌else◌}
 use Rattle.std.specs.Option.{option_map, option_map_or}
 use Rattle.std.specs.Str.{bytes_eq}
-use Rattle.xmpp_archive.specs.Entries.{EntryView, entry_numbered, numbered}
+use Rattle.xmpp_archive.specs.Entries.{EntryView, entry_numbered}
 use Rattle.xmpp_archive.specs.Ids.{id_of}
-use Rattle.xmpp_archive.specs.declared.entry.Body.{Body}
 use Rattle.xmpp_log.specs.LogPages.{LogPage, log_of, last_id}
 use Rattle.xmpp_log.specs.declared.log_entry.LogEntry.{LogEntry}
 use Rattle.xmpp_pages.specs.Cuts.{CutView}
@@ -17,98 +14,15 @@ use Rattle.xmpp_pages.specs.declared.query.PageQuery.{PageQuery}
 use Rattle.xmpp_pages.specs.declared.query.Place.{Place}
 use Rattle.xmpp_pages.specs.declared.query.Place.TheVariants.{First, After}
 use Rattle.xmpp_edge.specs.Names.{is_among}
-use Rattle.xmpp_replay.specs.Reports.{AccountView, DeviceView, ReportView}
-use Rattle.xmpp_replay.specs.declared.report.EntryLine.{EntryLine}
-use Rattle.xmpp_replay.specs.declared.report.LoggedLine.{LoggedLine}
-use Rattle.xmpp_replay.specs.declared.report.PageLine.{PageLine}
-use Rattle.xmpp_replay.specs.declared.report.SaidLine.{SaidLine}
-use Rattle.xmpp_replay.specs.declared.report.SaidMark.TheVariants.{Acknowledged}
-use Rattle.xmpp_replay.specs.declared.report.TakeLine.{TakeLine}
-use Rattle.xmpp_replay.specs.declared.schedule.Step.{Step}
-use Rattle.xmpp_replay.specs.declared.schedule.Step.TheVariants.{Account, Device, Say, Catchup}
-
--- Addresses (RFC 7622): an account's bare address, and a device's full one. The device's name is its resource.
-
-abbrev pub bare_address : List ℕ → List ℕ
-bare_address account = account ++ codes "@chat.example"
-
-abbrev pub full_address : List ℕ → List ℕ → List ℕ
-full_address account device = bare_address account ++ 47 ∷ device
-
--- the origin id (XEP-0359) of the n-th message of a device in an epoch
-abbrev pub origin_of : List ℕ → ℕ → ℕ → List ℕ
-origin_of device epoch n = device ++ 46 ∷ decimal epoch ++ 46 ∷ decimal n
-
--- A message of a device that the server took: of which account the device is, in which epoch, its number there, to
--- which account, its text, and the moment.
-pub record Take : Type 0 where
-  pub device : List ℕ
-  pub account : List ℕ
-  pub epoch : ℕ
-  pub n : ℕ
-  pub to : List ℕ
-  pub text : List ℕ
-  pub moment : ℕ
-
--- the entry that a take makes in an archive, but for its number
-abbrev pub entry_of : Take → EntryView
-entry_of take = record {
-  number = 0;
-  stamp = take.moment;
-  from = full_address take.account take.device;
-  to = bare_address take.to;
-  normal = false;
-  id = origin_of take.device take.epoch take.n;
-  origin = origin_of take.device take.epoch take.n;
-  bodies = record { lang = []; text = take.text } ∷ [];
-}
-
--- the take goes into the archive of its sender's account and into that of its recipient
-abbrev pub concerns : List ℕ → Take → Bool
-concerns account take = bytes_eq account take.account || bytes_eq account take.to
-
-abbrev pub numbered_from : ℕ → List EntryView → List EntryView
-numbered_from n [] = []
-numbered_from n (entry ∷ entries) = numbered n entry ∷ numbered_from (n + 1) entries
-
--- an account's archive after these takes, in their order
-abbrev pub archive_of : List ℕ → List Take → List EntryView
-archive_of account takes = numbered_from 1 (map entry_of (filter (concerns account) takes))
-
--- what each step adds, below the steps before it
-abbrev pub along : {A : Type 0} → (List Step → Step → List A) → List Step → List Step → List A
-along f before [] = []
-along f before (step ∷ steps) = f before step ++ along f (before ++ step ∷ []) steps
-
-abbrev pub account_name : Step → List (List ℕ)
-account_name (Account name) = name ∷ []
-account_name _ = []
-
--- the accounts that steps declare
-abbrev pub accounts_of : List Step → List (List ℕ)
-accounts_of steps = flat_map account_name steps
-
-abbrev pub device_name : Step → List (List ℕ)
-device_name (Device name account) = name ∷ []
-device_name _ = []
-
--- the devices that steps declare
-abbrev pub devices_of : List Step → List (List ℕ)
-devices_of steps = flat_map device_name steps
-
--- the account of a device, as its line says
-abbrev pub home_of : List Step → List ℕ → List ℕ
-home_of [] device = []
-home_of (Device name account ∷ steps) device = if bytes_eq device name then account else home_of steps device
-home_of (_ ∷ steps) device = home_of steps device
-
-abbrev pub is_said_by : List ℕ → Step → Bool
-is_said_by device (Say name to text) = bytes_eq device name
-is_said_by device _ = false
-
--- how many messages the device sent
-abbrev pub sent_by : List ℕ → List Step → ℕ
-sent_by device steps = count_by (is_said_by device) steps
+use Rattle.xmpp_report.specs.Reports.{AccountView, DeviceView, ReportView}
+use Rattle.xmpp_report.specs.declared.report.SaidLine.{SaidLine}
+use Rattle.xmpp_report.specs.declared.report.SaidMark.TheVariants.{Acknowledged}
+use Rattle.xmpp_schedule.specs.declared.schedule.Step.{Step}
+use Rattle.xmpp_schedule.specs.declared.schedule.Step.TheVariants.{Say, Catchup}
+use Rattle.xmpp_schedule.specs.Contents.{accounts_of, devices_of, home_of, sent_by, along}
+use Rattle.xmpp_report.specs.Addresses.{bare_address}
+use Rattle.xmpp_report.specs.Takes.{Take, archive_of}
+use Rattle.xmpp_report.specs.Lines.{take_line, entry_line, logged_line, page_line}
 
 -- A message is taken at once where its account exists: where any line of the whole schedule declares it.
 abbrev pub take_at : List Step → List Step → Step → List Take
@@ -194,23 +108,6 @@ said_at device before (Say name to text) =
     then record { epoch = 1; n = sent_by device before + 1; state = Acknowledged; to = to; text = text } ∷ []
     else []
 said_at device before _ = []
-
--- the first body, or nothing
-abbrev pub first_body : List Body → List ℕ
-first_body [] = []
-first_body (body ∷ bodies) = body.text
-
-abbrev pub take_line : Take → TakeLine
-take_line take = record { device = take.device; epoch = take.epoch; n = take.n; account = take.to }
-
-abbrev pub entry_line : EntryView → EntryLine
-entry_line e = record { id = id_of e.number; stamp = e.stamp; from = e.from; to = e.to; origin = e.origin; text = first_body e.bodies }
-
-abbrev pub logged_line : LogEntry → LoggedLine
-logged_line l = record { id = l.id; stamp = l.entry.stamp; from = l.entry.from; to = l.entry.to; origin = l.entry.origin; text = first_body l.entry.bodies }
-
-abbrev pub page_line : LogPage → PageLine
-page_line page = record { after = page.after; count = length page.entries; total = if page.complete then Some page.total else None }
 
 abbrev pub account_line : List Step → List ℕ → AccountView
 account_line all name =

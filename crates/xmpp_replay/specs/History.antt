@@ -1,18 +1,10 @@
--- The history of a schedule: the archives and the logs before its first move and after each move. Each line of a
--- direct schedule is one move.
-use Rattle.std.specs.Prelude.{ℕ, ◌∷◌, [], ◌++◌, List, length}
-use Rattle.xmpp_archive.specs.Entries.{EntryView}
-use Rattle.xmpp_log.specs.LogPages.{LogPage}
-use Rattle.xmpp_replay.specs.Direct.{archive_of, takes_of, pages_of}
-use Rattle.xmpp_replay.specs.Schedules.{ScheduleView, steps_of}
-use Rattle.xmpp_replay.specs.declared.schedule.Step.{Step}
-
--- the archives and logs at one moment: of an account its entries; of a device the pages that it took over, and
--- how many these are with the one that is under way, so that a page counts as asked for from the move that began it
-pub record World : Type 0 where
-  pub archive : List ℕ → List EntryView
-  pub pages : List ℕ → List LogPage
-  pub asked : List ℕ → ℕ
+-- The history of the direct run of a schedule: the archives and the logs before its first move and after each move.
+-- Each line is one move. Of a wire schedule this says nothing: its moves are others.
+use Rattle.std.specs.Prelude.{◌∷◌, [], ◌++◌, List, length}
+use Rattle.xmpp_report.specs.Takes.{archive_of}
+use Rattle.xmpp_replay.specs.Direct.{takes_of, pages_of}
+use Rattle.xmpp_schedule.specs.declared.schedule.Step.{Step}
+use Rattle.xmpp_report.specs.Worlds.{World}
 
 -- In a direct run a page that is asked for is answered within the same line.
 abbrev pub world_after : List Step → List Step → World
@@ -26,6 +18,6 @@ abbrev pub worlds_from : List Step → List Step → List Step → List World
 worlds_from all before [] = world_after all before ∷ []
 worlds_from all before (step ∷ steps) = world_after all before ∷ worlds_from all (before ++ step ∷ []) steps
 
--- the first world, and the world after each move
-abbrev pub history : ScheduleView → List World
-history schedule = worlds_from (steps_of schedule.lines) [] (steps_of schedule.lines)
+-- the worlds of the direct run of these steps: the first one, and the one after each move
+abbrev pub direct_history : List Step → List World
+direct_history steps = worlds_from steps [] steps

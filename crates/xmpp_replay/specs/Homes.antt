@@ -1,7 +1,7 @@
 -- The accounts of a run, each with its archive.
 use Rattle.std.specs.Prelude.{◌≡◌, ℕ, zero, suc, ◌+◌, ◌≤◌, ◌==◌, List, [], ◌∷◌, ◌++◌, length, map, if◌then◌else◌}
 use Rattle.xmpp_archive.specs.Entries.{AreNumbered, ArchiveView, EntryView, numbered}
-use Rattle.xmpp_replay.specs.Direct.{Take, archive_of}
+use Rattle.xmpp_report.specs.Takes.{Take, archive_of}
 use Rattle.xmpp_replay.specs.declared.run.accounts.Account.{Account}
 
 -- an account's name, and its archive's entries

@@ -4,18 +4,16 @@ pub use Rattle.xmpp_archive.specs.Entries
 pub use Rattle.xmpp_archive.specs.Ids
 pub use Rattle.xmpp_log.specs.LogPages
 pub use Rattle.xmpp_pages.specs.PageOf
+pub use Rattle.xmpp_schedule.specs.Schedules
+pub use Rattle.xmpp_schedule.specs.Contents
+pub use Rattle.xmpp_report.specs.Reports
+pub use Rattle.xmpp_report.specs.Lawful
+-- The direct run, and the worlds that it passes.
 pub mod Direct
-pub mod Gives
-pub mod Grammar
 pub mod History
+-- What clauses of the code and lemmas cite.
 pub mod Homes
-pub mod Lawful
 pub mod Messages
-pub mod Reading
 pub mod ReportLines
-pub mod ReportText
-pub mod Reports
 pub mod Runs
-pub mod Schedules
-pub mod Standing
 pub mod Turns

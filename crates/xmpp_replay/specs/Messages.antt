@@ -1,22 +1,27 @@
 -- What a device's message does to its account's archive, to the recipient's, and to what the device said.
-use Rattle.std.specs.Prelude.{◌≡◌, ℕ, ◌+◌, List, [], ◌∷◌, ◌++◌}
+use Rattle.std.specs.Prelude.{◌≡◌, ℕ, ◌+◌, List, [], ◌∷◌, ◌++◌, length}
 use Rattle.std.specs.Option.{option_map_or}
-use Rattle.xmpp_replay.specs.Direct.{Take, entry_of, take_line}
+use Rattle.xmpp_report.specs.Takes.{Take, entry_of}
+use Rattle.xmpp_report.specs.Lines.{take_line}
 use Rattle.xmpp_replay.specs.Homes.{Home, delivered, names_of}
 use Rattle.xmpp_edge.specs.Names.{place_of}
-use Rattle.xmpp_replay.specs.declared.report.SaidLine.{SaidLine}
-use Rattle.xmpp_replay.specs.declared.report.SaidMark.TheVariants.{Acknowledged}
-use Rattle.xmpp_replay.specs.declared.report.TakeLine.{TakeLine}
+use Rattle.xmpp_report.specs.declared.report.SaidLine.{SaidLine}
+use Rattle.xmpp_report.specs.declared.report.SaidMark.TheVariants.{Acknowledged}
+use Rattle.xmpp_report.specs.declared.report.TakeLine.{TakeLine}
 use Rattle.xmpp_replay.specs.declared.run.devices.Device.{Device}
+
+-- how many messages the device sent
+abbrev pub sent_of : Device → ℕ
+sent_of device = length device.said.items
 
 -- the take of the device's next message
 abbrev pub take_by : Device → List ℕ → List ℕ → Take
 take_by device to text =
-    record { device = device.name; account = device.account; epoch = 1; n = device.sent + 1; to = to; text = text; moment = 0 }
+    record { device = device.name; account = device.account; epoch = 1; n = sent_of device + 1; to = to; text = text; moment = 0 }
 
 -- the line of the device's next message
 abbrev pub said_by : Device → List ℕ → List ℕ → SaidLine
-said_by device to text = record { epoch = 1; n = device.sent + 1; state = Acknowledged; to = to; text = text }
+said_by device to text = record { epoch = 1; n = sent_of device + 1; state = Acknowledged; to = to; text = text }
 
 -- the accounts after the device's next message, which goes nowhere where no account has the name
 abbrev pub homes_after : Device → List ℕ → List ℕ → List Home → List Home
@@ -34,5 +39,4 @@ pub record HasSaid (before after : Device) (to text : List ℕ) : Type 0 where
   pub account : after.account ≡ before.account
   pub home : after.home ≡ before.home
   pub said : after.said.items ≡ before.said.items ++ said_by before to text ∷ []
-  pub sent : after.sent ≡ before.sent + 1
   pub log : after.log ≡ before.log

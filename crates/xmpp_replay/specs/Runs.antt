@@ -1,31 +1,31 @@
 -- A run in the middle of a schedule: what its parts are after the first steps, and what one step does to them.
 use Rattle.std.specs.Prelude.{◌≡◌, ℕ, ◌<◌, ◌≤◌, true, false, List, [], ◌∷◌, ◌++◌, Some, None, length, map, slice_set, slice_index_or, slice_get}
 use Rattle.std.specs.List.{All}
-use Rattle.xmpp_replay.specs.Direct.{accounts_of, along, archive_of, devices_of, home_of, pages_of, said_at, sent_by, take_line, takes_of}
-use Rattle.xmpp_edge.specs.Names.{is_among}
+use Rattle.xmpp_schedule.specs.Contents.{accounts_of, along, devices_of, home_of}
+use Rattle.xmpp_report.specs.Takes.{archive_of}
+use Rattle.xmpp_replay.specs.Direct.{pages_of, said_at, takes_of}
+use Rattle.xmpp_report.specs.Lines.{take_line}
+use Rattle.xmpp_edge.specs.Names.{is_among, place_of}
 use Rattle.xmpp_replay.specs.Homes.{Home, home_at, names_of}
-use Rattle.xmpp_replay.specs.Messages.{HasSaid, homes_after, takes_after}
-use Rattle.xmpp_edge.specs.Names.{place_of}
-use Rattle.xmpp_replay.specs.Standing.{AreOnce}
+use Rattle.xmpp_replay.specs.Messages.{HasSaid, homes_after, sent_of, takes_after}
+use Rattle.xmpp_schedule.specs.Standing.{AreOnce}
 use Rattle.xmpp_replay.specs.Turns.{IsFrontOf, IsLogOf, caught_up}
 use Rattle.xmpp_replay.specs.declared.run.Run.{Run}
 use Rattle.xmpp_replay.specs.declared.run.devices.Device.{Device}
-use Rattle.xmpp_replay.specs.declared.schedule.Step.{Step}
-use Rattle.xmpp_replay.specs.declared.schedule.Step.TheVariants.{Account, Device as DeviceStep, Say, Catchup}
+use Rattle.xmpp_schedule.specs.declared.schedule.Step.{Step}
+use Rattle.xmpp_schedule.specs.declared.schedule.Step.TheVariants.{Account, Device as DeviceStep, Say, Catchup}
 
 -- a device after the first steps
 pub record IsDevice (all before : List Step) (device : Device) : Type 0 where
   pub account : device.account ≡ home_of before device.name
   pub place : place_of device.account (accounts_of all) ≡ Some device.home
   pub said : device.said.items ≡ along (said_at device.name) [] before
-  pub sent : device.sent ≡ sent_by device.name before
   pub log : IsLogOf (pages_of all device.name before) device.log
   pub front : IsFrontOf (archive_of device.account (takes_of all before)) device.log.entries
 
 -- no step was of a device with this name
 pub record IsUnused (all before : List Step) (name : List ℕ) : Type 0 where
   pub said : along (said_at name) [] before ≡ []
-  pub sent : sent_by name before ≡ 0
   pub pages : pages_of all name before ≡ []
 
 -- a run after the first steps of a schedule
@@ -40,7 +40,7 @@ pub record IsAfter (all before : List Step) (run : Run) : Type 0 where
 
 -- what a step asks of a device: its count can grow, its account is there, and its log is a front of the archive
 pub record IsReadyDevice (homes : List Home) (device : Device) : Type 0 where
-  pub sent : device.sent < 100000
+  pub sent : sent_of device < 100000
   pub home : device.home < length homes
   pub closed : device.log.page ≡ None
   pub front : (d : Home) → IsFrontOf (slice_index_or homes device.home d).entries device.log.entries
@@ -69,7 +69,6 @@ pub record HasDeclared (before after : Run) (name account : List ℕ) : Type 0 w
   pub owned : new.account ≡ account
   pub placed : place_of account (names_of before.accounts.homes) ≡ Some new.home
   pub said : new.said.items ≡ []
-  pub sent : new.sent ≡ 0
   pub log : new.log ≡ record { entries = []; tiles = []; page = None }
 
 -- a device said something
@@ -87,7 +86,7 @@ pub record HasSent (before after : Run) (name to text : List ℕ) : Type 0 where
 
 -- the device with another log
 abbrev pub HasLog : Device → Device → Type 0
-HasLog old new = (new.name ≡ old.name) × (new.account ≡ old.account) × (new.home ≡ old.home) × (new.said.items ≡ old.said.items) × (new.sent ≡ old.sent)
+HasLog old new = (new.name ≡ old.name) × (new.account ≡ old.account) × (new.home ≡ old.home) × (new.said.items ≡ old.said.items)
 
 -- a device caught up on its account's archive
 pub record HasCaughtUp (before after : Run) (name : List ℕ) (most : ℕ) : Type 0 where

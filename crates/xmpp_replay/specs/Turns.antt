@@ -1,13 +1,9 @@
 -- A log that is a front of its archive, and the pages that make it grow.
-use Rattle.std.specs.Prelude.{◌≡◌, ℕ, zero, suc, ◌+◌, ◌-◌, ◌≤◌, nat_le, List, [], ◌∷◌, ◌++◌, Some, None, length, map, take, drop, slice_get, if◌then◌else◌}
-use Rattle.std.specs.Option.{option_map}
+use Rattle.std.specs.Prelude.{◌≡◌, ℕ, zero, suc, ◌+◌, ◌≤◌, nat_le, List, [], ◌∷◌, ◌++◌, Some, None, length, map, take, drop, if◌then◌else◌}
 use Rattle.xmpp_archive.specs.Entries.{EntryView}
-use Rattle.xmpp_archive.specs.Ids.{id_of}
 use Rattle.xmpp_log.specs.LogPages.{LogPage, log_of, last_id, tile_of}
 use Rattle.xmpp_log.specs.Views.{LogView, OpenPage}
-use Rattle.xmpp_log.specs.declared.fin.Fin.{Fin}
 use Rattle.xmpp_log.specs.declared.log_entry.LogEntry.{LogEntry}
-use Rattle.xmpp_pages.specs.Cuts.{CutView}
 use Rattle.xmpp_replay.specs.Direct.{Page, as_logged}
 
 -- the log's entries are the archive's first ones
@@ -29,16 +25,6 @@ page_behind n most entries =
       complete = nat_le (length (drop n entries)) most;
       count = length entries;
     }
-
--- what an archive tells at the end of a page (XEP-0313 section 4.3, XEP-0059 section 2.6)
-abbrev pub fin_of : CutView → Fin
-fin_of cut = record {
-  complete = cut.complete;
-  first = option_map id_of (slice_get cut.numbers 0);
-  first_index = cut.first_index;
-  last = option_map id_of (slice_get cut.numbers (length cut.numbers - 1));
-  count = cut.count;
-}
 
 -- the log with an archive's page at its end
 abbrev pub with_turn : LogView → Page → LogView

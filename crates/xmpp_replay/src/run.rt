@@ -2,13 +2,13 @@
 //! is answered at once.
 ghost use Rattle.std.specs.Prelude.{◌≡◌, ◌≤◌, false, true, [], IfOk, OnOk};
 ghost use Rattle.xmpp_replay.specs.Direct.{direct_report};
-ghost use Rattle.xmpp_replay.specs.Grammar.{IsSchedule};
+ghost use Rattle.xmpp_schedule.specs.Grammar.{IsSchedule};
 ghost use Rattle.xmpp_edge.specs.Names.{is_among};
 ghost use Rattle.xmpp_replay.specs.Homes.{names_of};
 ghost use Rattle.xmpp_replay.specs.ReportLines.{report_of};
 ghost use Rattle.xmpp_replay.specs.Runs.{HasCaughtUp, HasDeclared, HasFollowed, HasSent, IsAfter, IsReady, MayFollow};
-ghost use Rattle.xmpp_replay.specs.Schedules.{steps_of};
-ghost use Rattle.xmpp_replay.specs.Standing.{AreRight};
+ghost use Rattle.xmpp_schedule.specs.Schedules.{steps_of};
+ghost use Rattle.xmpp_schedule.specs.Standing.{AreRight};
 
 mod accounts;
 mod devices;
@@ -16,13 +16,12 @@ mod messages;
 mod pages;
 mod summary;
 
-use xmpp_edge::NameIndex;
-use crate::report::{Report, TakeLines};
 use crate::run::accounts::Accounts;
 use crate::run::devices::Device;
-use crate::schedule::{Line, Schedule, Step};
 use std::alloc::Global;
-use xmpp_edge::{ListOf, NoMemory};
+use xmpp_edge::{ListOf, NameIndex, NoMemory};
+use xmpp_report::{Report, TakeLines};
+use xmpp_schedule::{Line, Schedule, Step};
 
 /// The accounts that a schedule declares anywhere, the devices that were declared so far, each found by its name,
 /// and the messages that were taken so far.
@@ -63,10 +62,10 @@ impl Run {
             unreachable!()
         };
         messages::say(
+            alloc,
             &mut self.devices[place],
             &mut self.accounts,
             &mut self.takes,
-            alloc,
             to,
             text,
         )
@@ -84,8 +83,8 @@ impl Run {
         };
         let device = &mut self.devices[place];
         pages::catch_up(
-            &mut device.log,
             alloc,
+            &mut device.log,
             self.accounts.archive(device.home),
             most,
         )
@@ -158,7 +157,7 @@ impl Run {
 
 /// The direct run of a schedule: each message is taken at once where its account exists, and each page that a
 /// catch-up asks for (XEP-0313) is answered at once. `NoMemory` comes only where memory runs out.
-#[tactic(auto, using(crate::proofs::Prefixes::right_steps, crate::proofs::WholeRuns::report_told))]
+#[tactic(auto, using(xmpp_schedule::proofs::Prefixes::right_steps, crate::proofs::WholeRuns::report_told))]
 pub fn direct(alloc: Global, schedule: &Schedule) -> Result<Report, NoMemory>
     requires { IsSchedule schedule.now }
     ensures { IfOk result (λ report. report ≡ direct_report (steps_of schedule.now.lines)) }
@@ -168,6 +167,3 @@ pub fn direct(alloc: Global, schedule: &Schedule) -> Result<Report, NoMemory>
     run.follow_lines(alloc, lines)?;
     run.into_report(alloc)
 }
-
-#[cfg(test)]
-mod tests;

@@ -1,19 +1,18 @@
 -- What binding, parking and ending leave of the table and of the pool.
-use Rattle.std.proofs.Common.{◌≡◌, ℕ, Bool, true, false, List, Option, Some, None, refl, sym, ap, subst, ◌∙◌, inl, inr}
-use Rattle.std.specs.Prelude.{IfSome, IsSome, ◌&&◌, ◌==◌}
+use Rattle.std.proofs.Common.{◌≡◌, ℕ, Bool, true, false, List, Option, Some, None, refl, sym, subst, ◌∙◌, inl, inr}
+use Rattle.std.specs.Prelude.{IsSome, ◌&&◌, ◌==◌}
 use Rattle.std.specs.List.{find}
 use Rattle.std.specs.Option.{option_map}
 use Rattle.std.specs.Str.{bytes_eq}
 use Rattle.std.proofs.lemmas.Bool.{cases_Bool, false≢true}
-use Rattle.std.proofs.lemmas.Option.{none-some, same_Some}
 use Rattle.std.proofs.lemmas.Slice.Eq.{bytes_eq-Decides}
 use Rattle.xmpp_pool.specs.Queues.{PoolView}
 use Rattle.xmpp_resume.proofs.HousedFacts.{housed_same, housed_without}
 use Rattle.xmpp_resume.proofs.RowFacts.{find_no, find_none_at, find_passes, found_by_number, option_map_some, same_from_eqb, same_row, without_none}
 use Rattle.xmpp_resume.proofs.TableFacts.{from_without, table_without}
 use Rattle.xmpp_resume.specs.Housed.{Drops, IsFree, IsHoused}
-use Rattle.xmpp_resume.specs.Moves.{lost, number_of, parked, rows_parked}
-use Rattle.xmpp_resume.specs.Rows.{IsTable, is_at, is_named, less, row_at, row_named, row_of, with_row, without}
+use Rattle.xmpp_resume.specs.Moves.{number_of}
+use Rattle.xmpp_resume.specs.Rows.{IsTable, is_at, is_named, is_of, less, row_at, row_named, row_of, without}
 use Rattle.xmpp_resume.specs.declared.session.Row.{Row}
 
 -- a session that ends
@@ -28,22 +27,16 @@ found_is_there n next p rows table is =
     let P : Option Row → Type 0 = λ o. IsSome o in
     subst P (sym (same_row next 1 n p rows table.ascending is ∙ found.1)) refl
 
--- parking a session that can be resumed, and one that can't
-pub rows_parked_kept : (n now : ℕ) (o : Option Row) (rows : List Row) → Some n ≡ option_map number_of o → IfSome o (λ r. true ≡ r.shown.resumable) → with_row n (parked now) rows ≡ rows_parked now o rows
-rows_parked_kept n now None rows is yes_ = absurd (none-some n (sym is))
-rows_parked_kept n now (Some r) rows is yes_ = rw (← yes_) (ap (λ k. with_row k (parked now) rows) (same_Some n (number_of r) is))
+-- the session on a connection, by its number
+pub record Parks (n conn : ℕ) (r : Row) (rows : List Row) : Type 0 where
+  pub at : row_at conn rows ≡ Some r
+  pub number : r.shown.number ≡ n
+  pub found : row_of n rows ≡ Some r
 
-pub lost_none : (o : Option Row) → IfSome o (λ r. true ≡ r.shown.resumable) → lost o ≡ None
-lost_none None yes_ = refl
-lost_none (Some r) yes_ = rw (← yes_)
-
-pub rows_parked_gone : (n now : ℕ) (o : Option Row) (rows : List Row) → Some n ≡ option_map number_of o → IfSome o (λ r. false ≡ r.shown.resumable) → without n rows ≡ rows_parked now o rows
-rows_parked_gone n now None rows is no_ = absurd (none-some n (sym is))
-rows_parked_gone n now (Some r) rows is no_ = rw (← no_) (ap (λ k. without k rows) (same_Some n (number_of r) is))
-
-pub lost_some : (o : Option Row) → IfSome o (λ r. false ≡ r.shown.resumable) → lost o ≡ o
-lost_some None no_ = refl
-lost_some (Some r) no_ = rw (← no_)
+pub parks : (n next conn : ℕ) (rows : List Row) → IsTable rows next → Some n ≡ option_map number_of (row_at conn rows) → (r : Row) × Parks n conn r rows
+parks n next conn rows table is =
+    let found = option_map_some number_of (row_at conn rows) n (sym is) in
+    (found.0, record { at = found.1; number = found.2; found = same_row next 1 n (is_at conn) rows table.ascending is ∙ found.1 })
 
 -- who is on no connection is on none when others ended
 pub none_at_less : (conn next : ℕ) (o : Option Row) (rows : List Row) → IsTable rows next → row_at conn rows ≡ None → row_at conn (less o rows) ≡ None
@@ -69,6 +62,9 @@ pub named : (account : ℕ) (resource : List ℕ) (r : Row) → is_named account
 named account resource r is =
     let parts = and_parts (r.shown.account == account) (bytes_eq r.shown.resource resource) is in
     record { account_is = same_from_eqb r.shown.account account parts.0; resource_is = (bytes_eq-Decides r.shown.resource resource).0 parts.1 }
+
+pub named_of : (account : ℕ) (resource : List ℕ) (r : Row) → is_named account resource r ≡ true → is_of account r ≡ true
+named_of account resource r is = (and_parts (r.shown.account == account) (bytes_eq r.shown.resource resource) is).0
 
 -- the older session is gone, and with it the name
 pub none_named_less : (account next : ℕ) (resource : List ℕ) (rows : List Row) → IsTable rows next → row_named account resource (less (row_named account resource rows) rows) ≡ None

@@ -1,23 +1,23 @@
--- What a change leaves of the index: each session is found by its connection or among the parked, and by its name.
+-- What a change leaves of the index: each session is found by its connection or among the parked, and by its account.
 use Rattle.std.proofs.Common.{◌+◌, ◌≡◌, ◌≢◌, ℕ, zero, suc, ◌-◌, ◌<◌, ◌≤◌, Bool, true, false, length, get_or, map, take, drop, List, [], ◌∷◌, ◌++◌, Option, Some, None, Result, Ok, Err, refl, sym, ap, subst, ◌∙◌, arith, inl, inr}
-use Rattle.std.specs.Prelude.{IsSome, IfNone, IfSome, MatchOption, nat_eq, nat_le, is_none, is_some, ◌&&◌, ◌||◌}
+use Rattle.std.specs.Prelude.{IfNone, IfSome, MatchOption, nat_eq, nat_le, is_none, is_some, ◌&&◌, ◌||◌, ◌==◌, not}
 use Rattle.std.specs.List.{filter, find, insert, list_any}
 use Rattle.std.specs.List.Sorted.{IsNonDecreasingBy}
 use Rattle.std.proofs.lemmas.List.Folds.{list_any-append}
 use Rattle.std.proofs.lemmas.Map.Views.{any-filter_same}
-use Rattle.xmpp_resume.proofs.StoredFacts.{Tried, at_conn, by_name, listed_at, meets_of}
+use Rattle.xmpp_resume.proofs.StoredFacts.{Tried, at_conn, listed_at, meets_of, numbers_without}
 use Rattle.xmpp_resume.specs.Stored.{Meets, collected, passes}
 use Rattle.xmpp_resume.specs.declared.answers.TheConstants.{RESUMABLE_FOR}
 use Rattle.std.proofs.lemmas.Bool.{cases_Bool, cases_eq, false≢true}
 use Rattle.std.proofs.lemmas.Bool.Decides.{nat_tests}
 use Rattle.std.proofs.lemmas.List.{take-append-drop}
 use Rattle.std.proofs.lemmas.Option.{none-some, same_Some}
-use Rattle.xmpp_resume.proofs.RowFacts.{KeepsNumber, eqb_same, find_no, row_of_bounds, same_from_eqb}
+use Rattle.xmpp_resume.proofs.RowFacts.{KeepsNumber, KeepsSession, eqb_other, eqb_same, filter_without, filters_commute, find_no, same_from_eqb, seats_push, seats_push_other, seats_with}
 use Rattle.xmpp_resume.proofs.TableFacts.{FromPush, FromWith, from_push, from_with, from_without, not_at}
-use Rattle.xmpp_resume.specs.Indexed.{AreApart, AreInOrder, HasFirst, IsFound, IsIndexed, IsKnown, KeepsParked, conn_in, is_parked_at, is_wait, mark_of, marked, name_in, waits_in}
+use Rattle.xmpp_resume.specs.Indexed.{AreApart, AreInOrder, HasFirst, IsFound, IsIndexed, KeepsParked, conn_in, is_parked_at, is_wait, seats_in, waits_in}
 use Rattle.xmpp_resume.specs.declared.index.Wait.{Wait}
 use Rattle.xmpp_resume.specs.Moves.{HasExpired, attached, fresh_row, is_expired, number_of, parked}
-use Rattle.xmpp_resume.specs.Rows.{IsTable, is_at, is_named, row_at, row_of, with_row, without}
+use Rattle.xmpp_resume.specs.Rows.{IsTable, is_at, is_of, row_at, row_of, with_row, without}
 use Rattle.xmpp_resume.specs.declared.index.Index.{Index}
 use Rattle.xmpp_resume.specs.declared.session.Row.{Row}
 
@@ -28,6 +28,9 @@ found_still m (Some c) since i j waits conns found = conns c refl ∙ found
 -- the same entries
 pub waits_same : (s q : ℕ) (i j : Index) → j.waits ≡ i.waits → waits_in i s q ≡ true → waits_in j s q ≡ true
 waits_same s q i j waits has = ap (λ ws. waits_in (record i { waits = ws }) s q) waits ∙ has
+
+pub seats_same : (a : ℕ) (i j : Index) → j.seats ≡ i.seats → seats_in j a ≡ seats_in i a
+seats_same a i j seats = ap (λ ss. seats_in (record i { seats = ss }) a) seats
 
 pub ordered_same : (i j : Index) → j.waits ≡ i.waits → AreInOrder i → AreInOrder j
 ordered_same i j waits ordered = subst (λ ws. AreInOrder (record i { waits = ws })) (sym waits) ordered
@@ -40,14 +43,11 @@ spared n m next r s i j rows table is was other conns waits found =
     (λ c on. conns c (λ same. other (table.conns m n c s r was is on same))) found
 
 -- a change of a row that keeps its name
-pub indexed_with : (n : ℕ) (f : Row → Row) (r : Row) (i j : Index) (rows : List Row) → KeepsNumber f → ((s : Row) → (f s).shown.account ≡ s.shown.account) → ((s : Row) → (f s).shown.resource ≡ s.shown.resource) →
+pub indexed_with : (n : ℕ) (f : Row → Row) (r : Row) (i j : Index) (rows : List Row) → KeepsNumber f → ((s : Row) → (f s).shown.account ≡ s.shown.account) →
     row_of n rows ≡ Some r → (j.whole ≡ true → i.whole ≡ true) → ((m : ℕ) (s : Row) → row_of m rows ≡ Some s → m ≢ n → IsFound i m s.shown.conn s.shown.parked_at → IsFound j m s.shown.conn s.shown.parked_at) →
-    (j.whole ≡ true → IsFound j n (f r).shown.conn (f r).shown.parked_at) → j.names ≡ i.names → AreInOrder j → IsIndexed i rows → IsIndexed j (with_row n f rows)
-indexed_with n f r i j rows keeps account resource is whole others mine names ordered indexed = record { placed = placed; named = named; ordered = ordered }
+    (j.whole ≡ true → IsFound j n (f r).shown.conn (f r).shown.parked_at) → j.seats ≡ i.seats → AreInOrder j → IsIndexed i rows → IsIndexed j (with_row n f rows)
+indexed_with n f r i j rows keeps account is whole others mine seats ordered indexed = record { placed = placed; seated = seated; ordered = ordered }
   where
-    mark_same : (t : Row) → mark_of (f t) ≡ mark_of t
-    mark_same t = rw (account t, resource t) refl
-
     placed : j.whole ≡ true → (m : ℕ) (s : Row) → row_of m (with_row n f rows) ≡ Some s → IsFound j m s.shown.conn s.shown.parked_at
     placed w m s was =
         let from : FromWith m n f s rows = from_with m n f s rows keeps was in
@@ -63,51 +63,40 @@ indexed_with n f r i j rows keeps account resource is whole others mine names or
               subst P (from.same other) (others m from.was from.found other (indexed.placed (whole w) m from.was from.found))
         ]
 
-    named : (m : ℕ) (s : Row) → row_of m (with_row n f rows) ≡ Some s → IsKnown m (name_in j (mark_of s))
-    named m s was =
-        let from : FromWith m n f s rows = from_with m n f s rows keeps was in
-        let known : IsKnown m (name_in i (mark_of from.was)) = indexed.named m from.was from.found in
-        let same_mark : mark_of from.was ≡ mark_of s =
-        elim (cases_eq m n) [
-          | inl same ↦
-              sym (mark_same from.was) ∙ ap mark_of (from.changed same)
-          | inr other ↦ ap mark_of (from.same other)
-        ] in
-        let P : Option ℕ → Type 0 = λ o. IsKnown m o in
-        subst P (ap (name_in i) same_mark ∙ sym (ap (λ ns. name_in (record i { names = ns }) (mark_of s)) names)) known
+    seated : (a : ℕ) → seats_in j a ≡ map number_of (filter (is_of a) (with_row n f rows))
+    seated a = seats_same a i j seats ∙ indexed.seated a ∙ sym (seats_with a n f rows keeps account)
 
 -- a change that keeps the connection and the moment too, and the index
-pub indexed_kept : (n : ℕ) (f : Row → Row) (r : Row) (i : Index) (rows : List Row) → KeepsNumber f → ((s : Row) → (f s).shown.account ≡ s.shown.account) → ((s : Row) → (f s).shown.resource ≡ s.shown.resource) →
-    ((s : Row) → (f s).shown.conn ≡ s.shown.conn) → ((s : Row) → (f s).shown.parked_at ≡ s.shown.parked_at) → row_of n rows ≡ Some r → IsIndexed i rows → IsIndexed i (with_row n f rows)
-indexed_kept n f r i rows keeps account resource conn since is indexed =
-    indexed_with n f r i i rows keeps account resource is (λ w. w) (λ m s was other found. found)
-    (λ w. rw (conn r, since r) (indexed.placed w n r is)) refl indexed.ordered indexed
+pub indexed_kept : (n : ℕ) (f : Row → Row) (r : Row) (i : Index) (rows : List Row) → KeepsSession f → row_of n rows ≡ Some r → IsIndexed i rows → IsIndexed i (with_row n f rows)
+indexed_kept n f r i rows keeps is indexed =
+    indexed_with n f r i i rows keeps.number keeps.account is (λ w. w) (λ m s was other found. found)
+    (λ w. rw (keeps.conn r, keeps.parked_at r) (indexed.placed w n r is)) refl indexed.ordered indexed
 
 -- a session that is parked
 pub indexed_parked : (n next now : ℕ) (r : Row) (i j k : Index) (rows : List Row) → IsTable rows next → row_of n rows ≡ Some r → ((q : ℕ) → r.shown.conn ≢ Some q → conn_in j q ≡ conn_in i q) → j.waits ≡ i.waits → j.whole ≡ i.whole →
-    j.names ≡ i.names → k.conns ≡ j.conns → (k.whole ≡ true → waits_in k now n ≡ true) → ((s q : ℕ) → waits_in j s q ≡ true → waits_in k s q ≡ true) → (k.whole ≡ true → j.whole ≡ true) → k.names ≡ j.names → AreInOrder k →
+    j.seats ≡ i.seats → k.conns ≡ j.conns → (k.whole ≡ true → waits_in k now n ≡ true) → ((s q : ℕ) → waits_in j s q ≡ true → waits_in k s q ≡ true) → (k.whole ≡ true → j.whole ≡ true) → k.seats ≡ j.seats → AreInOrder k →
     IsIndexed i rows → IsIndexed k (with_row n (parked now) rows)
-indexed_parked n next now r i j k rows table is conns waits_j whole names conns_k here waits whole_k names_k ordered indexed =
-    indexed_with n (parked now) r i k rows (record { same = λ s. refl }) (λ s. refl) (λ s. refl) is (λ w. sym whole ∙ whole_k w)
+indexed_parked n next now r i j k rows table is conns waits_j whole seats conns_k here waits whole_k seats_k ordered indexed =
+    indexed_with n (parked now) r i k rows (record { same = λ s. refl }) (λ s. refl) is (λ w. sym whole ∙ whole_k w)
     (λ m s was other found. found_still m s.shown.conn s.shown.parked_at j k (waits s.shown.parked_at m) (λ c on. ap (λ cs. conn_in (record j { conns = cs }) c) conns_k) (spared n m next r s i j rows table is was other conns waits_j found))
-    here (names_k ∙ names) ordered indexed
+    here (seats_k ∙ seats) ordered indexed
 
 -- a session that gets another connection
 pub indexed_attached : (n next conn queue : ℕ) (r : Row) (i j k : Index) (rows : List Row) → IsTable rows next → row_of n rows ≡ Some r → row_at conn rows ≡ None → ((q : ℕ) → r.shown.conn ≢ Some q → conn_in j q ≡ conn_in i q) →
-    j.waits ≡ i.waits → j.whole ≡ i.whole → j.names ≡ i.names → (k.whole ≡ true → conn_in k conn ≡ Some n) → ((q : ℕ) → q ≢ conn → conn_in k q ≡ conn_in j q) → k.waits ≡ j.waits → (k.whole ≡ true → j.whole ≡ true) →
-    k.names ≡ j.names → IsIndexed i rows → IsIndexed k (with_row n (attached conn queue) rows)
-indexed_attached n next conn queue r i j k rows table is free conns_j waits_j whole names here conns waits whole_k names_k indexed =
-    indexed_with n (attached conn queue) r i k rows (record { same = λ s. refl }) (λ s. refl) (λ s. refl) is (λ w. sym whole ∙ whole_k w)
+    j.waits ≡ i.waits → j.whole ≡ i.whole → j.seats ≡ i.seats → (k.whole ≡ true → conn_in k conn ≡ Some n) → ((q : ℕ) → q ≢ conn → conn_in k q ≡ conn_in j q) → k.waits ≡ j.waits → (k.whole ≡ true → j.whole ≡ true) →
+    k.seats ≡ j.seats → IsIndexed i rows → IsIndexed k (with_row n (attached conn queue) rows)
+indexed_attached n next conn queue r i j k rows table is free conns_j waits_j whole seats here conns waits whole_k seats_k indexed =
+    indexed_with n (attached conn queue) r i k rows (record { same = λ s. refl }) (λ s. refl) is (λ w. sym whole ∙ whole_k w)
     (λ m s was other found. found_still m s.shown.conn s.shown.parked_at j k (waits_same s.shown.parked_at m j k waits)
     (λ c on. conns c (λ same. not_at conn m s rows free was (on ∙ ap Some same))) (spared n m next r s i j rows table is was other conns_j waits_j found))
-    here (names_k ∙ names) (ordered_same i k (waits ∙ waits_j) indexed.ordered) indexed
+    here (seats_k ∙ seats) (ordered_same i k (waits ∙ waits_j) indexed.ordered) indexed
 
 -- a session that is gone
-pub indexed_without : (n next : ℕ) (r : Row) (i j k : Index) (rows : List Row) → IsTable rows next → row_of n rows ≡ Some r → ((q : ℕ) → r.shown.conn ≢ Some q → conn_in j q ≡ conn_in i q) → j.waits ≡ i.waits → j.whole ≡ i.whole → j.names ≡ i.names →
-    k.conns ≡ j.conns → k.waits ≡ j.waits → k.whole ≡ j.whole → (name_in j (mark_of r) ≢ Some n → name_in k (mark_of r) ≡ name_in j (mark_of r)) →
-    ((q : ℕ) → q ≢ mark_of r → name_in k q ≡ name_in j q) → IsIndexed i rows → IsIndexed k (without n rows)
-indexed_without n next r i j k rows table is conns waits whole names conns_k waits_k whole_k mine marks indexed =
-    record { placed = placed; named = named; ordered = ordered_same i k (waits_k ∙ waits) indexed.ordered }
+pub indexed_without : (n next : ℕ) (r : Row) (i j k : Index) (rows : List Row) → IsTable rows next → row_of n rows ≡ Some r → ((q : ℕ) → r.shown.conn ≢ Some q → conn_in j q ≡ conn_in i q) → j.waits ≡ i.waits → j.whole ≡ i.whole → j.seats ≡ i.seats →
+    k.conns ≡ j.conns → k.waits ≡ j.waits → k.whole ≡ j.whole → seats_in k r.shown.account ≡ filter (λ m. not (m == n)) (seats_in j r.shown.account) →
+    ((q : ℕ) → q ≢ r.shown.account → seats_in k q ≡ seats_in j q) → IsIndexed i rows → IsIndexed k (without n rows)
+indexed_without n next r i j k rows table is conns waits whole seats conns_k waits_k whole_k mine others indexed =
+    record { placed = placed; seated = seated; ordered = ordered_same i k (waits_k ∙ waits) indexed.ordered }
   where
     placed : k.whole ≡ true → (m : ℕ) (s : Row) → row_of m (without n rows) ≡ Some s → IsFound k m s.shown.conn s.shown.parked_at
     placed w m s was =
@@ -115,34 +104,27 @@ indexed_without n next r i j k rows table is conns waits whole names conns_k wai
         found_still m s.shown.conn s.shown.parked_at j k (waits_same s.shown.parked_at m j k waits_k) (λ c on. ap (λ cs. conn_in (record j { conns = cs }) c) conns_k)
         (spared n m next r s i j rows table is from.1 from.0 conns waits (indexed.placed (sym whole ∙ sym whole_k ∙ w) m s from.1))
 
-    named : (m : ℕ) (s : Row) → row_of m (without n rows) ≡ Some s → IsKnown m (name_in k (mark_of s))
-    named m s was =
-        let from = from_without m n s rows was in
-        let known : IsKnown m (name_in j (mark_of s)) =
-        (let P : Option ℕ → Type 0 = λ o. IsKnown m o in subst P (sym (ap (λ ns. name_in (record i { names = ns }) (mark_of s)) names)) (indexed.named m s from.1)) in
-        let P : Option ℕ → Type 0 = λ o. IsKnown m o in
-        elim (cases_eq (mark_of s) (mark_of r)) [
+    before : (a : ℕ) → seats_in j a ≡ map number_of (filter (is_of a) rows)
+    before a = seats_same a i j seats ∙ indexed.seated a
+
+    seated : (a : ℕ) → seats_in k a ≡ map number_of (filter (is_of a) (without n rows))
+    seated a =
+        elim (cases_eq a r.shown.account) [
           | inl same ↦
-              let stays : name_in k (mark_of r) ≡ name_in j (mark_of r) = mine
-              (λ has. elim known [
-                | inl one ↦ from.0 (same_Some m n (sym one ∙ ap (name_in j) same ∙ has))
-                | inr many ↦
-                    let zero_is : 0 ≡ n = same_Some 0 n (sym many ∙ ap (name_in j) same ∙ has) in
-                    let low : 1 ≤ n = (row_of_bounds next 1 n r rows table.ascending is).0 in
-                    omega arith
-              ]) in
-              subst P (sym (ap (name_in k) same ∙ stays ∙ ap (name_in j) (sym same))) known
-          | inr other ↦ subst P (sym (marks (mark_of s) other)) known
+              ap (seats_in k) same ∙ mine ∙ ap (λ q. filter (λ m. not (m == n)) (seats_in j q)) (sym same)
+              ∙ ap (filter (λ m. not (m == n))) (before a) ∙ numbers_without n (filter (is_of a) rows) ∙ ap (map number_of) (filters_commute (λ s. not (s.shown.number == n)) (is_of a) rows)
+          | inr other ↦
+              let fails : is_of a r ≡ false = eqb_other r.shown.account a (λ same. other (sym same)) in
+              others a other ∙ before a ∙ ap (map number_of) (sym (filter_without next 1 n (is_of a) r rows table.ascending is fails))
         ]
 
 -- a session more
 pub indexed_pushed : (next account conn queue : ℕ) (resource : List ℕ) (i j k : Index) (rows : List Row) → IsTable rows next → row_at conn rows ≡ None →
-    (j.whole ≡ true → conn_in j conn ≡ Some next) → ((q : ℕ) → q ≢ conn → conn_in j q ≡ conn_in i q) → j.waits ≡ i.waits → (j.whole ≡ true → i.whole ≡ true) → j.names ≡ i.names →
-    IsKnown next (name_in k (marked account resource)) → (IsSome (name_in j (marked account resource)) → name_in k (marked account resource) ≡ Some 0) →
-    ((q : ℕ) → q ≢ marked account resource → name_in k q ≡ name_in j q) → k.conns ≡ j.conns → k.waits ≡ j.waits → k.whole ≡ j.whole →
+    (j.whole ≡ true → conn_in j conn ≡ Some next) → ((q : ℕ) → q ≢ conn → conn_in j q ≡ conn_in i q) → j.waits ≡ i.waits → (j.whole ≡ true → i.whole ≡ true) → j.seats ≡ i.seats →
+    seats_in k account ≡ seats_in j account ++ next ∷ [] → ((q : ℕ) → q ≢ account → seats_in k q ≡ seats_in j q) → k.conns ≡ j.conns → k.waits ≡ j.waits → k.whole ≡ j.whole →
     IsIndexed i rows → IsIndexed k (rows ++ fresh_row next account resource conn queue ∷ [])
-indexed_pushed next account conn queue resource i j k rows table free here conns waits whole names known_k shared marks conns_k waits_k whole_k indexed =
-    record { placed = placed; named = named; ordered = ordered_same i k (waits_k ∙ waits) indexed.ordered }
+indexed_pushed next account conn queue resource i j k rows table free here conns waits whole seats mine others conns_k waits_k whole_k indexed =
+    record { placed = placed; seated = seated; ordered = ordered_same i k (waits_k ∙ waits) indexed.ordered }
   where
     placed : k.whole ≡ true → (m : ℕ) (s : Row) → row_of m (rows ++ fresh_row next account resource conn queue ∷ []) ≡ Some s → IsFound k m s.shown.conn s.shown.parked_at
     placed w m s was =
@@ -160,27 +142,20 @@ indexed_pushed next account conn queue resource i j k rows table free here conns
               (indexed.placed (whole before) m s (from.old other))
         ]
 
-    named : (m : ℕ) (s : Row) → row_of m (rows ++ fresh_row next account resource conn queue ∷ []) ≡ Some s → IsKnown m (name_in k (mark_of s))
-    named m s was =
-        let from : FromPush m next (fresh_row next account resource conn queue) s rows = from_push m next (fresh_row next account resource conn queue) s rows table refl was in
-        elim (cases_eq m next) [
+    before : (a : ℕ) → seats_in j a ≡ map number_of (filter (is_of a) rows)
+    before a = seats_same a i j seats ∙ indexed.seated a
+
+    seated : (a : ℕ) → seats_in k a ≡ map number_of (filter (is_of a) (rows ++ fresh_row next account resource conn queue ∷ []))
+    seated a =
+        elim (cases_eq a account) [
           | inl same ↦
-              let P : ℕ → Row → Type 0 = λ n t. IsKnown n (name_in k (mark_of t)) in
-              let first : P next s = subst (P next) (from.new same) known_k in
-              subst (λ n. P n s) (sym same) first
+              let passes_ : is_of a (fresh_row next account resource conn queue) ≡ true = rw same (eqb_same account) in
+              ap (seats_in k) same ∙ mine ∙ ap (λ q. seats_in j q ++ next ∷ []) (sym same) ∙ ap (λ l. l ++ next ∷ []) (before a)
+              ∙ sym (seats_push a (fresh_row next account resource conn queue) rows passes_)
           | inr other ↦
-              let P : Option ℕ → Type 0 = λ o. IsKnown m o in
-              let known : IsKnown m (name_in j (mark_of s)) = subst P (sym (ap (λ ns. name_in (record i { names = ns }) (mark_of s)) names)) (indexed.named m s (from.old other)) in
-              elim (cases_eq (mark_of s) (marked account resource)) [
-                | inl equal ↦ inr (ap (name_in k) equal ∙ shared (known_some m (name_in j (marked account resource)) (subst P (ap (name_in j) equal) known)))
-                | inr differs ↦ subst P (sym (marks (mark_of s) differs)) known
-              ]
+              let fails : is_of a (fresh_row next account resource conn queue) ≡ false = eqb_other account a (λ same. other (sym same)) in
+              others a other ∙ before a ∙ sym (seats_push_other a (fresh_row next account resource conn queue) rows fails)
         ]
-      where
-        known_some : (m : ℕ) (o : Option ℕ) → IsKnown m o → IsSome o
-        known_some m None (inl is) = absurd (none-some m is)
-        known_some m None (inr is) = absurd (none-some 0 is)
-        known_some m (Some n) known = refl
 
 -- the number and the moment of an entry
 pub wait_is : (s q : ℕ) (w : Wait) → is_wait s q w ≡ true → (s ≡ w.since) × (q ≡ w.number)
@@ -283,24 +258,6 @@ conn_absent conn next i rows table indexed whole fails =
       | inr failed ↦ failed
     ])
 
-pub name_absent : (account next : ℕ) (resource : List ℕ) (i : Index) (rows : List Row) → IsTable rows next → IsIndexed i rows → name_in i (marked account resource) ≢ Some 0 →
-    IfSome (name_in i (marked account resource)) (λ n. passes (is_named account resource) (row_of n rows) ≡ false) → find (is_named account resource) rows ≡ None
-name_absent account next resource i rows table indexed one fails =
-    find_no next 1 (is_named account resource) rows table.ascending
-    (λ m s is.
-    elim (cases_Bool (is_named account resource s)) [
-      | inl passed ↦
-          let name = by_name account resource s passed in
-          let same_mark : mark_of s ≡ marked account resource = rw (name.0, name.1) refl in
-          elim (indexed.named m s is) [
-            | inl known ↦
-                let found : name_in i (marked account resource) ≡ Some m = sym (ap (name_in i) same_mark) ∙ known in
-                sym (ap (passes (is_named account resource)) is) ∙ (rw found at fails)
-            | inr many ↦ absurd (one (sym (ap (name_in i) same_mark) ∙ many))
-          ]
-      | inr failed ↦ failed
-    ])
-
 pub no_conn : (o : Option ℕ) (b : Bool) → (is_none o && b) ≡ true → o ≡ None
 no_conn None b passed = refl
 no_conn (Some c) b passed = absurd (false≢true passed)
@@ -320,20 +277,20 @@ expired_absent now next i get rows table indexed found whole fails =
     ])
 
 -- an index that has the same
-pub indexed_same : (i j : Index) (rows : List Row) → ((q : ℕ) → conn_in j q ≡ conn_in i q) → j.waits.items ≡ i.waits.items → j.whole ≡ i.whole → ((q : ℕ) → name_in j q ≡ name_in i q) → IsIndexed i rows → IsIndexed j rows
-indexed_same i j rows conns waits whole names indexed =
+pub indexed_same : (i j : Index) (rows : List Row) → ((q : ℕ) → conn_in j q ≡ conn_in i q) → j.waits.items ≡ i.waits.items → j.whole ≡ i.whole → ((q : ℕ) → seats_in j q ≡ seats_in i q) → IsIndexed i rows → IsIndexed j rows
+indexed_same i j rows conns waits whole seats indexed =
     record {
       placed = λ w n r is. found_still n r.shown.conn r.shown.parked_at i j (λ waiting. ap (list_any (is_wait r.shown.parked_at n)) waits ∙ waiting) (λ c on. conns c) (indexed.placed (sym whole ∙ w) n r is);
-      named = λ n r is. let P : Option ℕ → Type 0 = λ o. IsKnown n o in subst P (sym (names (mark_of r))) (indexed.named n r is);
+      seated = λ a. seats a ∙ indexed.seated a;
       ordered = subst (λ ws. IsNonDecreasingBy (λ v. v.since) ws) (sym waits) indexed.ordered;
     }
 
 -- an index that has of the parked what it needs
-pub indexed_swept : (i j : Index) (get : ℕ → Option Row) (rows : List Row) → ((n : ℕ) → get n ≡ row_of n rows) → j.conns ≡ i.conns → KeepsParked get i j → j.whole ≡ i.whole → j.names ≡ i.names → AreInOrder j → IsIndexed i rows → IsIndexed j rows
-indexed_swept i j get rows found conns waits whole names ordered indexed =
+pub indexed_swept : (i j : Index) (get : ℕ → Option Row) (rows : List Row) → ((n : ℕ) → get n ≡ row_of n rows) → j.conns ≡ i.conns → KeepsParked get i j → j.whole ≡ i.whole → j.seats ≡ i.seats → AreInOrder j → IsIndexed i rows → IsIndexed j rows
+indexed_swept i j get rows found conns waits whole seats ordered indexed =
     record {
       placed = λ w n r is. still n r r.shown.conn refl is (indexed.placed (sym whole ∙ w) n r is);
-      named = λ n r is. let P : Option ℕ → Type 0 = λ o. IsKnown n o in subst P (sym (ap (λ ns. name_in (record i { names = ns }) (mark_of r)) names)) (indexed.named n r is);
+      seated = λ a. seats_same a i j seats ∙ indexed.seated a;
       ordered = ordered;
     }
   where
@@ -342,18 +299,17 @@ indexed_swept i j get rows found conns waits whole names ordered indexed =
     still n r (Some c) on is has = ap (λ cs. conn_in (record i { conns = cs }) c) conns ∙ has
 
 -- no session is there
-pub indexed_nobody : (i : Index) (rows : List Row) → rows ≡ [] → AreInOrder i → IsIndexed i rows
-indexed_nobody i rows none ordered = rw none (record { placed = λ w n r is. absurd (none-some r is); named = λ n r is. absurd (none-some r is); ordered = ordered })
+pub indexed_nobody : (i : Index) (rows : List Row) → rows ≡ [] → ((a : ℕ) → seats_in i a ≡ []) → AreInOrder i → IsIndexed i rows
+indexed_nobody i rows none seats ordered = rw none (record { placed = λ w n r is. absurd (none-some r is); seated = seats; ordered = ordered })
 
 -- what a table that is seen has indexed
 pub indexed_as : (i : Index) (inside rows : List Row) → inside ≡ rows → IsIndexed i inside → IsIndexed i rows
 indexed_as i inside rows seen indexed = let P : List Row → Type 0 = λ rs. IsIndexed i rs in subst P seen indexed
 
 -- a call that changes a row where it is well, and doesn't where it fails
-pub indexed_tried : {T E : Type 0} (t : Result T E) (n next : ℕ) (f : Row → Row) (x : Row) (i : Index) (get : ℕ → Option Row) (numbers : List ℕ) (rows : List Row) → KeepsNumber f → ((s : Row) → (f s).shown.account ≡ s.shown.account) →
-    ((s : Row) → (f s).shown.resource ≡ s.shown.resource) → ((s : Row) → (f s).shown.conn ≡ s.shown.conn) → ((s : Row) → (f s).shown.parked_at ≡ s.shown.parked_at) → Tried t n next f x get numbers rows → IsIndexed i rows → IsIndexed i (collected get numbers)
-indexed_tried (Ok v) n next f x i get numbers rows keeps account resource conn since tried indexed = rw tried.ok (indexed_kept n f x i rows keeps account resource conn since tried.found indexed)
-indexed_tried (Err e) n next f x i get numbers rows keeps account resource conn since tried indexed = rw tried.err indexed
+pub indexed_tried : {T E : Type 0} (t : Result T E) (n next : ℕ) (f : Row → Row) (x : Row) (i : Index) (get : ℕ → Option Row) (numbers : List ℕ) (rows : List Row) → KeepsSession f → Tried t n next f x get numbers rows → IsIndexed i rows → IsIndexed i (collected get numbers)
+indexed_tried (Ok v) n next f x i get numbers rows keeps tried indexed = rw tried.ok (indexed_kept n f x i rows keeps tried.found indexed)
+indexed_tried (Err e) n next f x i get numbers rows keeps tried indexed = rw tried.err indexed
 
 -- the answers of the index
 pub absent_conn : (conn next : ℕ) (i : Index) (rows : List Row) (o result : Option ℕ) → IsTable rows next → IsIndexed i rows → i.whole ≡ true → o ≡ conn_in i conn →
@@ -363,14 +319,6 @@ absent_conn conn next i rows o None table indexed whole is fails =
     let P : Option ℕ → Type 0 = λ o. IfSome o (λ n. passes (is_at conn) (row_of n rows) ≡ false) in
     conn_absent conn next i rows table indexed whole (subst P is fails)
 absent_conn conn next i rows o (Some n) table indexed whole is meets = meets
-
-pub absent_name : (account next : ℕ) (resource : List ℕ) (i : Index) (rows : List Row) (o result : Option ℕ) → IsTable rows next → IsIndexed i rows → o ≡ name_in i (marked account resource) → o ≢ Some 0 →
-    MatchOption result (IfSome o (λ n. passes (is_named account resource) (row_of n rows) ≡ false)) (λ n. Meets (is_named account resource) n rows) →
-    MatchOption result (find (is_named account resource) rows ≡ None) (λ n. Meets (is_named account resource) n rows)
-absent_name account next resource i rows o None table indexed is one fails =
-    let P : Option ℕ → Type 0 = λ o. IfSome o (λ n. passes (is_named account resource) (row_of n rows) ≡ false) in
-    name_absent account next resource i rows table indexed (λ many. one (is ∙ many)) (subst P is fails)
-absent_name account next resource i rows o (Some n) table indexed is one meets = meets
 
 pub found_conn : (n d since : ℕ) (j : Index) (o : Option ℕ) → o ≡ Some d → IsFound j n o since → conn_in j d ≡ Some n
 found_conn n d since j None is has = absurd (none-some d is)
@@ -420,13 +368,13 @@ found_none n since i o is has = let P : Option ℕ → Type 0 = λ o. IsFound i 
 
 -- all sessions are put back
 pub indexed_mended : (next : ℕ) (i j : Index) (numbers : List ℕ) (get : ℕ → Option Row) (rows : List Row) → filter (λ n. is_some (get n)) numbers ≡ map number_of rows → ((n : ℕ) → get n ≡ row_of n rows) →
-    (j.whole ≡ true → HasFirst (length numbers) j numbers get) → j.names ≡ i.names → AreInOrder j → IsIndexed i rows → IsIndexed j rows
-indexed_mended next i j numbers get rows listed found placed names ordered indexed =
+    (j.whole ≡ true → HasFirst (length numbers) j numbers get) → j.seats ≡ i.seats → AreInOrder j → IsIndexed i rows → IsIndexed j rows
+indexed_mended next i j numbers get rows listed found placed seats ordered indexed =
     record {
       placed = λ w n r is.
           (let at = listed_at n r (λ m. is_some (get m)) numbers rows listed is in
           subst (λ m. IsFound j m r.shown.conn r.shown.parked_at) at.2 (placed w at.0 r at.1 (ap get at.2 ∙ found n ∙ is)));
-      named = λ n r is. let P : Option ℕ → Type 0 = λ o. IsKnown n o in subst P (sym (ap (λ ns. name_in (record i { names = ns }) (mark_of r)) names)) (indexed.named n r is);
+      seated = λ a. seats_same a i j seats ∙ indexed.seated a;
       ordered = ordered;
     }
 

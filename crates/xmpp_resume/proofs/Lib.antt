@@ -1,8 +1,8 @@
 pub mod BindFacts
+pub mod DeliveryFacts
 pub mod ExpiryFacts
 pub mod HousedFacts
 pub mod IndexFacts
-pub mod PrevidDigits
 pub mod ResumeFacts
 pub mod RowFacts
 pub mod StoredFacts

@@ -1,6 +1,7 @@
 -- Which session a previd names.
 use Rattle.std.proofs.Common.{◌≡◌, ℕ, ◌<◌, ◌^◌, ◌+◌, ◌-◌, ◌==◌, true, false, List, Option, Some, None, Result, Ok, Err, [], refl, sym, ap, ◌∙◌, arith, inl, inr}
-use Rattle.std.specs.Prelude.{◌&&◌}
+use Rattle.std.specs.Prelude.{IfSome, ◌&&◌}
+use Rattle.std.proofs.lemmas.Option.{none-some, same_Some}
 use Rattle.std.specs.Option.{option_map, unwrap_or}
 use Rattle.std.proofs.lemmas.Bool.Decides.{nat_tests}
 use Rattle.std.specs.Str.{bytes_eq}
@@ -11,14 +12,16 @@ use Rattle.xmpp_acks.specs.declared.end.TooHigh.{TooHigh as TooHighCount}
 use Rattle.xmpp_pool.specs.Queues.{PoolView}
 use Rattle.xmpp_resume.proofs.BindFacts.{and_parts}
 use Rattle.xmpp_resume.proofs.HousedFacts.{queue_is}
-use Rattle.xmpp_resume.proofs.PrevidDigits.{previd_of_same}
+use Rattle.xmpp_basis.proofs.HexDigits.{hex16_of_same}
 use Rattle.xmpp_resume.proofs.RowFacts.{eqb_same, find_no, find_only, number_is, found_by_number, row_of_bounds, row_of_with_same, same_from_eqb, with_row_twice}
 use Rattle.xmpp_resume.proofs.TableFacts.{FromWith, from_with, lawful_parked, table_with}
 use Rattle.xmpp_resume.specs.Housed.{IsFree}
-use Rattle.xmpp_resume.specs.Moves.{HandsOver, Leaves, PoolAcknowledged, PoolResumed, ack_answer, acknowledged, attached, is_resumed_by, is_too_high, parked, resume_answer, row_resumed, rows_resumed, send_count_of}
+use Rattle.xmpp_resume.specs.Moves.{HandsOver, Leaves, PoolAcknowledged, PoolResumed, ack_answer, acknowledged, attached, is_resumed_by, is_too_high, number_of, parked, resume_answer, resume_ok, row_resumed, rows_resumed, send_count_of, too_high_of}
 use Rattle.xmpp_resume.specs.Previds.{previd_of}
 use Rattle.xmpp_resume.specs.Rows.{IsTable, is_at, row_at, row_of, with_row}
 use Rattle.xmpp_resume.specs.Laws.{ComesBackWhole}
+use Rattle.xmpp_resume.specs.declared.answers.ResumeFault.TheVariants.{TooHigh}
+use Rattle.xmpp_resume.specs.declared.answers.ResumeOk.{ResumeOk}
 use Rattle.xmpp_resume.specs.declared.session.Row.{Row}
 
 -- what the test of a previd says
@@ -51,7 +54,7 @@ resumed_row n account next previd r rows table low named is mine can =
         let its : Resumes previd account s = resumes previd account s passed in
         let bounds : m < next = (row_of_bounds next 1 m s rows table.ascending found).1 in
         let fits : next < 2 ^ 64 = table.fits in
-        previd_of_same m n (omega arith) low (ap previd_of (sym (number_is m s rows found)) ∙ sym its.named ∙ named)
+        hex16_of_same m n (omega arith) low (ap previd_of (sym (number_is m s rows found)) ∙ sym its.named ∙ named)
 
 -- none, where no session that can be resumed has the previd
 pub resumed_none : (account next : ℕ) (previd : List ℕ) (rows : List Row) → IsTable rows next →
@@ -75,7 +78,7 @@ pub resumed_not : (n account next : ℕ) (previd : List ℕ) (rows : List Row) �
 resumed_not n account next previd rows table low named none =
     resumed_none account next previd rows table
     (λ m s fits found is mine can.
-    let same : m ≡ n = previd_of_same m n fits low (sym is ∙ named) in
+    let same : m ≡ n = hex16_of_same m n fits low (sym is ∙ named) in
     none s (ap (λ k. row_of k rows) (sym same) ∙ found) mine can)
 
 -- whether a count was too high, by the answer to it
@@ -161,3 +164,29 @@ comes_back_whole rows next conn now queue r old new table at can =
       answer = rw (can, target, low);
       whole = λ change. rw (ahead_same r.end.acked) at ((rw (can, target, low) at change).rest);
     }
+
+-- the session of which this is told
+pub told_number : (told : ResumeOk) (o : Option Row) → Some told ≡ option_map resume_ok o → Some told.number ≡ option_map number_of o
+told_number told None is = absurd (none-some told (sym is))
+told_number told (Some r) is = ap (λ (t : ResumeOk). Some t.number) (same_Some told (resume_ok r) is)
+
+pub told_is : (told : ResumeOk) (o : Option Row) → Some told ≡ option_map resume_ok o → IfSome o (λ r. told ≡ resume_ok r)
+told_is told None is = absurd (none-some told (sym is))
+told_is told (Some r) is = same_Some told (resume_ok r) is
+
+-- what a resumption would answer, where the count is told to be too high, and where it isn't
+pub would_high : (h : ℕ) (told : ResumeOk) (e : TooHighCount) (r : Row) (pool : PoolView) → Some e ≡ too_high_of h r pool → told ≡ resume_ok r → Err (TooHigh e.h e.send_count told.former) ≡ resume_answer h (Some r) pool
+would_high h told e r pool is same =
+    elim (cases_Bool (is_too_high h r pool)) [
+      | inl high ↦
+          let count : e ≡ record { h = h; send_count = send_count_of r pool } = same_Some e _ (rw high at is) in
+          rw high (ap (λ (f : TooHighCount). Err (TooHigh f.h f.send_count told.former)) count ∙ ap (λ (t : ResumeOk). Err (TooHigh h (send_count_of r pool) t.former)) same)
+      | inr low ↦ absurd (none-some e (sym (rw low at is)))
+    ]
+
+pub would_ok : (h : ℕ) (told : ResumeOk) (r : Row) (pool : PoolView) → None ≡ too_high_of h r pool → told ≡ resume_ok r → Ok told ≡ resume_answer h (Some r) pool
+would_ok h told r pool is same =
+    elim (cases_Bool (is_too_high h r pool)) [
+      | inl high ↦ absurd (none-some _ (rw high at is))
+      | inr low ↦ rw low (ap Ok same)
+    ]

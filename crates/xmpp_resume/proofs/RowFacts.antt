@@ -5,8 +5,12 @@ use Rattle.std.proofs.lemmas.Bool.Decides.{nat_tests}
 use Rattle.std.proofs.lemmas.Option.{none-some, same_Some}
 use Rattle.std.specs.List.{filter, find}
 use Rattle.std.specs.Option.{option_map, IsSome}
-use Rattle.xmpp_resume.specs.Moves.{number_of}
-use Rattle.xmpp_resume.specs.Rows.{RisesTo, row_of, with_row, without}
+use Rattle.xmpp_resume.specs.Changes.{changed}
+use Rattle.xmpp_resume.specs.Moves.{acknowledged, number_of}
+use Rattle.xmpp_resume.specs.Rows.{RisesTo, is_of, row_of, with_row, without}
+use Rattle.xmpp_resume.specs.declared.change.Change.{Change}
+use Rattle.xmpp_resume.specs.declared.change.Change.TheVariants.{Asked, Carbons, Enabled, Handled, Present}
+use Rattle.xmpp_resume.specs.Stored.{passes}
 use Rattle.xmpp_resume.specs.declared.session.Row.{Row}
 
 pub eqb_same : (n : ℕ) → (n == n) ≡ true
@@ -170,6 +174,28 @@ rises_without next low n (r ∷ rows) rise =
 -- a change that keeps numbers
 pub record KeepsNumber (f : Row → Row) : Type 0 where
   pub same : (r : Row) → (f r).shown.number ≡ r.shown.number
+
+-- a change that keeps the connection, the name and the queue too
+pub record KeepsSession (f : Row → Row) : Type 0 where
+  pub number : KeepsNumber f
+  pub account : (r : Row) → (f r).shown.account ≡ r.shown.account
+  pub resource : (r : Row) → (f r).shown.resource ≡ r.shown.resource
+  pub conn : (r : Row) → (f r).shown.conn ≡ r.shown.conn
+  pub parked_at : (r : Row) → (f r).shown.parked_at ≡ r.shown.parked_at
+  pub queue : (r : Row) → (f r).end.queue ≡ r.end.queue
+
+pub keeps_all : KeepsSession (λ r. r)
+keeps_all = record { number = record { same = λ r. refl }; account = λ r. refl; resource = λ r. refl; conn = λ r. refl; parked_at = λ r. refl; queue = λ r. refl }
+
+pub keeps_acknowledged : (h : ℕ) → KeepsSession (acknowledged h)
+keeps_acknowledged h = record { number = record { same = λ r. refl }; account = λ r. refl; resource = λ r. refl; conn = λ r. refl; parked_at = λ r. refl; queue = λ r. refl }
+
+pub keeps_changed : (change : Change) → KeepsSession (changed change)
+keeps_changed (Enabled resume) = record { number = record { same = λ r. refl }; account = λ r. refl; resource = λ r. refl; conn = λ r. refl; parked_at = λ r. refl; queue = λ r. refl }
+keeps_changed (Present available priority) = record { number = record { same = λ r. refl }; account = λ r. refl; resource = λ r. refl; conn = λ r. refl; parked_at = λ r. refl; queue = λ r. refl }
+keeps_changed (Carbons on) = record { number = record { same = λ r. refl }; account = λ r. refl; resource = λ r. refl; conn = λ r. refl; parked_at = λ r. refl; queue = λ r. refl }
+keeps_changed (Asked on) = record { number = record { same = λ r. refl }; account = λ r. refl; resource = λ r. refl; conn = λ r. refl; parked_at = λ r. refl; queue = λ r. refl }
+keeps_changed Handled = record { number = record { same = λ r. refl }; account = λ r. refl; resource = λ r. refl; conn = λ r. refl; parked_at = λ r. refl; queue = λ r. refl }
 
 pub row_of_with_same : (n : ℕ) (f : Row → Row) (rows : List Row) → KeepsNumber f → row_of n (with_row n f rows) ≡ option_map f (row_of n rows)
 row_of_with_same n f [] keeps = refl
@@ -356,5 +382,84 @@ find_none_with p n f (r ∷ rows) same none =
           elim (cases_Bool (r.shown.number == n)) [
             | inl here ↦ rw here (rw changed rest)
             | inr other ↦ rw other (rw failed rest)
+          ]
+    ]
+
+-- the sessions of an account after a change of one
+pub seats_with : (a n : ℕ) (f : Row → Row) (rows : List Row) → KeepsNumber f → ((r : Row) → (f r).shown.account ≡ r.shown.account) → map number_of (filter (is_of a) (with_row n f rows)) ≡ map number_of (filter (is_of a) rows)
+seats_with a n f [] keeps account = refl
+seats_with a n f (r ∷ rows) keeps account =
+    let rest : map number_of (filter (is_of a) (with_row n f rows)) ≡ map number_of (filter (is_of a) rows) = seats_with a n f rows keeps account in
+    elim (cases_Bool (r.shown.number == n)) [
+      | inl here ↦
+          elim (cases_Bool (r.shown.account == a)) [
+            | inl mine ↦
+                let still : ((f r).shown.account == a) ≡ true = ap (λ b. b == a) (account r) ∙ mine in
+                rw here (rw (still, mine) (rw (keeps.same r) (ap (λ t. r.shown.number ∷ t) rest)))
+            | inr other ↦
+                let still : ((f r).shown.account == a) ≡ false = ap (λ b. b == a) (account r) ∙ other in
+                rw here (rw (still, other) rest)
+          ]
+      | inr there ↦
+          elim (cases_Bool (r.shown.account == a)) [
+            | inl mine ↦ rw there (rw mine (ap (λ t. r.shown.number ∷ t) rest))
+            | inr other ↦ rw there (rw other rest)
+          ]
+    ]
+
+-- and with one more
+pub seats_push : (a : ℕ) (x : Row) (rows : List Row) → is_of a x ≡ true → map number_of (filter (is_of a) (rows ++ x ∷ [])) ≡ map number_of (filter (is_of a) rows) ++ x.shown.number ∷ []
+seats_push a x [] mine = rw mine refl
+seats_push a x (r ∷ rows) mine =
+    let rest : map number_of (filter (is_of a) (rows ++ x ∷ [])) ≡ map number_of (filter (is_of a) rows) ++ x.shown.number ∷ [] = seats_push a x rows mine in
+    elim (cases_Bool (is_of a r)) [
+      | inl here ↦ rw here (ap (λ t. r.shown.number ∷ t) rest)
+      | inr other ↦ rw other rest
+    ]
+
+pub seats_push_other : (a : ℕ) (x : Row) (rows : List Row) → is_of a x ≡ false → map number_of (filter (is_of a) (rows ++ x ∷ [])) ≡ map number_of (filter (is_of a) rows)
+seats_push_other a x [] other = rw other refl
+seats_push_other a x (r ∷ rows) other =
+    let rest : map number_of (filter (is_of a) (rows ++ x ∷ [])) ≡ map number_of (filter (is_of a) rows) = seats_push_other a x rows other in
+    elim (cases_Bool (is_of a r)) [
+      | inl here ↦ rw here (ap (λ t. r.shown.number ∷ t) rest)
+      | inr there ↦ rw there rest
+    ]
+
+-- two tests of rows, in either order
+pub filters_commute : (p q : Row → Bool) (rows : List Row) → filter p (filter q rows) ≡ filter q (filter p rows)
+filters_commute p q [] = refl
+filters_commute p q (r ∷ rows) =
+    let rest : filter p (filter q rows) ≡ filter q (filter p rows) = filters_commute p q rows in
+    elim (cases_Bool (p r)) [
+      | inl first ↦
+          elim (cases_Bool (q r)) [
+            | inl second ↦ rw (first, second) (rw first (ap (λ t. r ∷ t) rest))
+            | inr second ↦ rw (first, second) rest
+          ]
+      | inr first ↦
+          elim (cases_Bool (q r)) [
+            | inl second ↦ rw (first, second) (rw first rest)
+            | inr second ↦ rw (first, second) rest
+          ]
+    ]
+
+-- what is sought among some rows, by their numbers
+pub found_among : (next low : ℕ) (p q : Row → Bool) (get : ℕ → Option Row) (rows : List Row) → RisesTo next low rows → ((r : Row) → p r ≡ true → q r ≡ true) → ((n : ℕ) (r : Row) → row_of n rows ≡ Some r → get n ≡ Some r) →
+    find (λ n. passes p (get n)) (map number_of (filter q rows)) ≡ option_map number_of (find p rows)
+found_among next low p q get [] rise within has = refl
+found_among next low p q get (r ∷ rows) rise within has =
+    let rest : find (λ n. passes p (get n)) (map number_of (filter q rows)) ≡ option_map number_of (find p rows) =
+    found_among next (r.shown.number + 1) p q get rows rise.1 within (λ n s is. has n s (row_of_rest next low n s r rows rise is)) in
+    let here : get r.shown.number ≡ Some r = has r.shown.number r (row_of_first r rows) in
+    elim (cases_Bool (p r)) [
+      | inl passed ↦
+          let tested : passes p (get r.shown.number) ≡ true = ap (passes p) here ∙ passed in
+          rw (within r passed, passed) (rw tested refl)
+      | inr failed ↦
+          let tested : passes p (get r.shown.number) ≡ false = ap (passes p) here ∙ failed in
+          elim (cases_Bool (q r)) [
+            | inl mine ↦ rw (mine, failed) (rw tested rest)
+            | inr other ↦ rw (other, failed) rest
           ]
     ]

@@ -4,14 +4,13 @@ use Rattle.std.specs.Prelude.{MatchOption, IsSome, OnErr, OnOk, nat_eq, nat_lt, 
 use Rattle.std.specs.List.{filter, find}
 use Rattle.std.specs.Option.{option_map}
 use Rattle.std.proofs.lemmas.Bool.{cases_Bool, cases_eq, false≢true}
-use Rattle.std.proofs.lemmas.Slice.Eq.{bytes_eq-Decides}
 use Rattle.std.proofs.lemmas.List.{length-map, map_push}
 use Rattle.std.proofs.lemmas.List.Elements.{filter-append}
 use Rattle.std.proofs.lemmas.Bool.Decides.{nat_tests}
-use Rattle.xmpp_resume.proofs.RowFacts.{eqb_other, eqb_same, find_no, find_only, number_is, numbers_with, row_of_first, row_of_push_other, row_of_push_same, row_of_rest, row_of_with_other, row_of_with_same, row_of_without_other, row_of_without_same, same_from_eqb, with_row_id}
+use Rattle.xmpp_resume.proofs.RowFacts.{keeps_all, eqb_other, eqb_same, find_no, find_only, number_is, numbers_with, row_of_first, row_of_push_other, row_of_push_same, row_of_rest, row_of_with_other, row_of_with_same, row_of_without_other, row_of_without_same, same_from_eqb, with_row_id}
 use Rattle.xmpp_resume.proofs.TableFacts.{IsLawfulChange, lawful_kept, table_push, table_with, table_without}
 use Rattle.xmpp_resume.specs.Moves.{fresh_row, number_of}
-use Rattle.xmpp_resume.specs.Rows.{IsTable, RisesTo, is_at, is_named, is_some_number, row_at, row_named, row_of, with_row, without}
+use Rattle.xmpp_resume.specs.Rows.{IsTable, RisesTo, is_at, is_some_number, row_at, row_named, row_of, with_row, without}
 use Rattle.xmpp_resume.specs.Stored.{Climbs, IsStored, Meets, ahead_of, collected, passes}
 use Rattle.xmpp_resume.specs.declared.session.Row.{Row}
 
@@ -186,7 +185,7 @@ tried_row (Ok v) n next f x y old new numbers rows seen kept is updates ok err l
 tried_row (Err e) n next f x y old new numbers rows seen kept is updates ok err lawful =
     let table : IsTable rows next = (opened old numbers next rows seen kept).table in
     let changed = changed_row n next (λ s. s) x y old new numbers rows seen kept is updates err
-    (lawful_kept n next (λ s. s) rows table (record { same = λ s. refl }) (λ s. refl) (λ s. refl) (λ s. refl)) in
+    (lawful_kept n next (λ s. s) rows table keeps_all) in
     record { found = changed.found; ok = tt; err = changed.written ∙ with_row_id n rows; kept = changed.kept }
 
 -- what the removal of a row leaves
@@ -369,29 +368,12 @@ pub at_conn : (conn : ℕ) (o : Option ℕ) → is_some_number conn o ≡ true �
 at_conn conn None passed = absurd (false≢true passed)
 at_conn conn (Some m) passed = ap Some (same_from_eqb m conn passed)
 
-pub by_name : (account : ℕ) (resource : List ℕ) (r : Row) → is_named account resource r ≡ true → (r.shown.account ≡ account) × (r.shown.resource ≡ resource)
-by_name account resource r passed =
-    elim (cases_Bool (r.shown.account == account)) [
-      | inl same ↦ (same_from_eqb r.shown.account account same, (bytes_eq-Decides r.shown.resource resource).0 (rw same at passed))
-      | inr other ↦ absurd (false≢true (rw other at passed))
-    ]
-
 pub conn_answer : (conn next : ℕ) (rows : List Row) (result : Option ℕ) → IsTable rows next → MatchOption result (find (is_at conn) rows ≡ None) (λ n. Meets (is_at conn) n rows) →
     result ≡ option_map number_of (row_at conn rows)
 conn_answer conn next rows None table none = sym (ap (option_map number_of) none)
 conn_answer conn next rows (Some n) table meets =
     met_only n next (is_at conn) rows table meets
     (λ m s is passed. table.conns m n conn s meets.0 is meets.1 (at_conn conn s.shown.conn passed) (at_conn conn meets.0.shown.conn meets.2))
-
-pub name_answer : (account next : ℕ) (resource : List ℕ) (rows : List Row) (result : Option ℕ) → IsTable rows next →
-    MatchOption result (find (is_named account resource) rows ≡ None) (λ n. Meets (is_named account resource) n rows) → result ≡ option_map number_of (row_named account resource rows)
-name_answer account next resource rows None table none = sym (ap (option_map number_of) none)
-name_answer account next resource rows (Some n) table meets =
-    met_only n next (is_named account resource) rows table meets
-    (λ m s is passed.
-    let one = by_name account resource s passed in
-    let two = by_name account resource meets.0 meets.2 in
-    table.names m n s meets.0 is meets.1 (one.0 ∙ sym two.0) (one.1 ∙ sym two.1))
 
 pub same_kept : (f g : ℕ → Option Row) (numbers : List ℕ) (next : ℕ) → ((n : ℕ) → g n ≡ f n) → IsStored f numbers next (collected f numbers) → IsStored g numbers next (collected g numbers)
 same_kept f g numbers next same stored = rw (same_collected f g numbers same) (same_stored f g numbers next (collected f numbers) same stored)

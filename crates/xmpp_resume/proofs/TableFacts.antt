@@ -5,7 +5,7 @@ use Rattle.std.specs.Str.{bytes_eq}
 use Rattle.std.proofs.lemmas.Bool.{cases_eq, false≢true}
 use Rattle.std.proofs.lemmas.Option.{none-some, same_Some}
 use Rattle.std.proofs.lemmas.Slice.Eq.{bytes_eq-Decides}
-use Rattle.xmpp_resume.proofs.RowFacts.{KeepsNumber, eqb_same, find_none_at, option_map_some, rises_push, rises_with, rises_without, row_of_push_other, row_of_push_same, row_of_with_other, row_of_with_same, row_of_without_other, row_of_without_same}
+use Rattle.xmpp_resume.proofs.RowFacts.{KeepsNumber, KeepsSession, eqb_same, find_none_at, option_map_some, rises_push, rises_with, rises_without, row_of_push_other, row_of_push_same, row_of_with_other, row_of_with_same, row_of_without_other, row_of_without_same}
 use Rattle.xmpp_resume.specs.Moves.{fresh_row, parked, attached}
 use Rattle.xmpp_resume.specs.Rows.{IsTable, is_at, is_named, row_at, row_named, row_of, with_row, without}
 use Rattle.xmpp_resume.specs.declared.session.Row.{Row}
@@ -100,10 +100,9 @@ table_with n next f rows lawful table = record { ascending = rises_with next 1 n
         ]
 
 -- a change that keeps the connection too
-pub lawful_kept : (n next : ℕ) (f : Row → Row) (rows : List Row) → IsTable rows next → KeepsNumber f → ((r : Row) → (f r).shown.account ≡ r.shown.account) →
-    ((r : Row) → (f r).shown.resource ≡ r.shown.resource) → ((r : Row) → (f r).shown.conn ≡ r.shown.conn) → IsLawfulChange n f rows
-lawful_kept n next f rows table number account resource conn =
-    record { number = number; account = account; resource = resource; conn = λ r c is gives m s was at. table.conns m n c s r was is at (sym (conn r) ∙ gives) }
+pub lawful_kept : (n next : ℕ) (f : Row → Row) (rows : List Row) → IsTable rows next → KeepsSession f → IsLawfulChange n f rows
+lawful_kept n next f rows table keeps =
+    record { number = keeps.number; account = keeps.account; resource = keeps.resource; conn = λ r c is gives m s was at. table.conns m n c s r was is at (sym (keeps.conn r) ∙ gives) }
 
 -- nobody is on a connection
 pub not_at : (conn m : ℕ) (s : Row) (rows : List Row) → row_at conn rows ≡ None → row_of m rows ≡ Some s → s.shown.conn ≡ Some conn → ⊥

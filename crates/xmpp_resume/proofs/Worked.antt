@@ -4,6 +4,7 @@ use Rattle.std.specs.Prelude.{codes, map, nat_lt}
 use Rattle.std.specs.List.{find}
 use Rattle.xmpp_pool.specs.Queues.{PoolView, list_among}
 use Rattle.xmpp_resume.specs.Moves.{is_expired, number_of, resume_answer, row_resumed, rows_parked, rows_resumed}
+use Rattle.xmpp_basis.specs.Hexadecimal.{hex16_of}
 use Rattle.xmpp_resume.specs.Previds.{previd_of}
 use Rattle.xmpp_resume.specs.Rows.{less, row_at, row_named, row_of}
 use Rattle.xmpp_resume.specs.Stored.{collected}
@@ -11,22 +12,22 @@ use Rattle.xmpp_resume.specs.declared.session.Row.{Row}
 use Rattle.xmpp_resume.specs.declared.answers.ResumeFault.TheVariants.{TooHigh, UnknownPrevid}
 
 first_previd : previd_of 1 ≡ codes "0000000000000001"
-unfolding previd_of
+unfolding hex16_of
 first_previd = refl
 
 tenth_previd : previd_of 10 ≡ codes "000000000000000a"
-unfolding previd_of
+unfolding hex16_of
 tenth_previd = refl
 
 highest_previd : previd_of 18446744073709551615 ≡ codes "ffffffffffffffff"
-unfolding previd_of
+unfolding hex16_of
 highest_previd = refl
 
 -- a session of account 7, with its queue and what is acknowledged
 abbrev session : ℕ → List ℕ → Option ℕ → ℕ → Bool → ℕ → ℕ → Row
 session number resource conn parked_at resumable queue acked =
     record {
-      shown = record { number = number; account = 7; resource = resource; conn = conn; parked_at = parked_at; available = true; priority = pos 0; carbons = false; counted = resumable; resumable = resumable };
+      shown = record { number = number; account = 7; resource = resource; conn = conn; parked_at = parked_at; available = true; priority = pos 0; carbons = false; counted = resumable; resumable = resumable; asked = false };
       end = record { queue = queue; acked = acked; handled = 3 };
     }
 
@@ -93,11 +94,11 @@ attached_never_expires : is_expired 900000 phone ≡ false
 attached_never_expires = refl
 
 the_pad_by_previd : row_resumed (codes "0000000000000002") 7 two ≡ Some pad
-unfolding previd_of
+unfolding hex16_of
 the_pad_by_previd = refl
 
 no_pad_of_another_account : row_resumed (codes "0000000000000002") 8 two ≡ None
-unfolding previd_of
+unfolding hex16_of
 no_pad_of_another_account = refl
 
 -- the count wraps: of two stanzas behind 4,294,967,295, the peer handled both

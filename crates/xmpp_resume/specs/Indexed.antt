@@ -1,19 +1,34 @@
--- What sessions are found by, other than their numbers: connections, names, and that they are parked.
-use Rattle.std.specs.Prelude.{◌≡◌, ℕ, ◌+◌, ◌*◌, ◌%◌, ◌^◌, ◌<◌, ◌⊎◌, ◌==◌, ◌&&◌, get_or, Bool, true, List, [], ◌∷◌, Option, None, Some, nat_eq, is_none}
+-- What sessions are found by, other than their numbers: connections, accounts, and that they are parked.
+use Rattle.std.specs.Prelude.{◌≡◌, ℕ, ◌-◌, ◌<◌, ◌==◌, ◌&&◌, get_or, Bool, true, List, [], Option, None, Some, Vec, filter, map, nat_eq, is_none, vec_capacity, vec_len}
 use Rattle.std.specs.List.{list_any}
 use Rattle.std.specs.List.Sorted.{IsNonDecreasingBy}
 use Rattle.std.specs.HashMap as hash
-use Rattle.xmpp_resume.specs.Rows.{row_of}
+use Rattle.std.specs.declared.alloc.Global.{Global}
+use Rattle.xmpp_resume.specs.Moves.{number_of}
+use Rattle.xmpp_resume.specs.Rows.{is_of, row_of}
 use Rattle.xmpp_resume.specs.declared.index.Index.{Index}
 use Rattle.xmpp_resume.specs.declared.index.Wait.{Wait}
 use Rattle.xmpp_resume.specs.declared.session.Row.{Row}
 
--- the session that the index has for a connection, and for the mark of a name
+-- the session that the index has for a connection
 abbrev pub conn_in : Index → ℕ → Option ℕ
 conn_in i conn = hash.get nat_eq i.conns conn
 
-abbrev pub name_in : Index → ℕ → Option ℕ
-name_in i mark = hash.get nat_eq i.names mark
+-- the numbers that a list has, where there is one, and how many more fit it
+abbrev pub numbers_in : Option (Vec ℕ Global) → List ℕ
+numbers_in None = []
+numbers_in (Some v) = v.items
+
+abbrev pub room_in : Option (Vec ℕ Global) → ℕ
+room_in None = 0
+room_in (Some v) = vec_capacity v - vec_len v
+
+-- the sessions that the index has for an account, and how many more fit
+abbrev pub seats_in : Index → ℕ → List ℕ
+seats_in i account = numbers_in (hash.get nat_eq i.seats account)
+
+abbrev pub seat_in : Index → ℕ → ℕ
+seat_in i account = room_in (hash.get nat_eq i.seats account)
 
 -- whether the index has it that a session was parked at a moment
 abbrev pub is_wait : ℕ → ℕ → Wait → Bool
@@ -30,26 +45,14 @@ is_parked_at since r = is_none r.shown.conn && (r.shown.parked_at == since)
 abbrev pub AreInOrder : Index → Type 0
 AreInOrder i = IsNonDecreasingBy (λ w. w.since) i.waits.items
 
--- a short number for the bytes of a name, which others may have too
-abbrev pub marked : ℕ → List ℕ → ℕ
-marked mark [] = mark
-marked mark (b ∷ bs) = marked (((mark * 1099511628211) % 2 ^ 64 + b) % 2 ^ 64) bs
-
-abbrev pub mark_of : Row → ℕ
-mark_of r = marked r.shown.account r.shown.resource
-
 -- a session is found by its connection, or since when it is parked
 abbrev pub IsFound : Index → ℕ → Option ℕ → ℕ → Type 0
 IsFound i n None since = waits_in i since n ≡ true
 IsFound i n (Some conn) since = conn_in i conn ≡ Some n
 
--- a session is found by its mark, or several sessions have it
-abbrev pub IsKnown : ℕ → Option ℕ → Type 0
-IsKnown n found = (found ≡ Some n) ⊎ (found ≡ Some 0)
-
 pub record IsIndexed (i : Index) (rows : List Row) : Type 0 where
   pub placed : i.whole ≡ true → (n : ℕ) (r : Row) → row_of n rows ≡ Some r → IsFound i n r.shown.conn r.shown.parked_at
-  pub named : (n : ℕ) (r : Row) → row_of n rows ≡ Some r → IsKnown n (name_in i (mark_of r))
+  pub seated : (account : ℕ) → seats_in i account ≡ map number_of (filter (is_of account) rows)
   pub ordered : AreInOrder i
 
 -- no two sessions are on one connection

@@ -1,4 +1,5 @@
 pub use Rattle.xmpp_acks.specs.Counters
+pub use Rattle.xmpp_acks.specs.Delivery
 pub use Rattle.xmpp_pool.specs.Queues
 pub mod Housed
 pub mod Laws
@@ -7,3 +8,5 @@ pub mod Rows
 pub mod Moves
 pub mod Stored
 pub mod Indexed
+pub mod Changes
+pub mod Deliveries

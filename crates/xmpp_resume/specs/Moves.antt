@@ -8,6 +8,8 @@ use Rattle.xmpp_resume.specs.Housed.{IsGone, IsSame}
 use Rattle.xmpp_resume.specs.Previds.{previd_of}
 use Rattle.xmpp_resume.specs.Rows.{row_of, with_row, without}
 use Rattle.xmpp_resume.specs.declared.answers.Ended.{Ended}
+use Rattle.xmpp_resume.specs.declared.answers.Lost.{Lost}
+use Rattle.xmpp_resume.specs.declared.answers.Lost.TheVariants.{Parked, Ended as LostEnded}
 use Rattle.xmpp_resume.specs.declared.answers.ResumeFault.{ResumeFault}
 use Rattle.xmpp_resume.specs.declared.answers.ResumeFault.TheVariants.{TooHigh, UnknownPrevid}
 use Rattle.xmpp_resume.specs.declared.answers.ResumeOk.{ResumeOk}
@@ -18,7 +20,7 @@ use Rattle.xmpp_resume.specs.declared.session.Row.{Row}
 abbrev pub fresh_row : ℕ → ℕ → List ℕ → ℕ → ℕ → Row
 fresh_row number account resource conn queue =
     record {
-      shown = record { number = number; account = account; resource = resource; conn = Some conn; parked_at = 0; available = false; priority = pos 0; carbons = false; counted = false; resumable = false };
+      shown = record { number = number; account = account; resource = resource; conn = Some conn; parked_at = 0; available = false; priority = pos 0; carbons = false; counted = false; resumable = false; asked = false };
       end = record { queue = queue; acked = 0; handled = 0 };
     }
 
@@ -29,6 +31,14 @@ ended_of r = record { number = r.shown.number; conn = r.shown.conn }
 abbrev pub number_of : Row → ℕ
 number_of r = r.shown.number
 
+-- what becomes of a session whose connection was lost
+abbrev pub lost_as : Row → Lost
+lost_as r = if r.shown.resumable then Parked r.shown.number else LostEnded r.shown.number
+
+-- what is told of a session that is resumed
+abbrev pub resume_ok : Row → ResumeOk
+resume_ok r = record { number = r.shown.number; handled = r.end.handled; former = r.shown.conn }
+
 abbrev pub enabled : Bool → Row → Row
 enabled resume r = record r { shown = record r.shown { counted = true; resumable = resume } }
 
@@ -37,6 +47,9 @@ present available priority r = record r { shown = record r.shown { available = a
 
 abbrev pub copying : Bool → Row → Row
 copying on r = record r { shown = record r.shown { carbons = on } }
+
+abbrev pub asking : Bool → Row → Row
+asking on r = record r { shown = record r.shown { asked = on } }
 
 -- the connection is lost
 abbrev pub parked : ℕ → Row → Row
@@ -87,6 +100,10 @@ is_too_high h r pool = nat_lt (length (list_of r.end.queue pool)) (ahead h r.end
 abbrev pub send_count_of : Row → PoolView → ℕ
 send_count_of r pool = (r.end.acked + length (list_of r.end.queue pool)) % 2 ^ 32
 
+-- what is told of a count that is too high
+abbrev pub too_high_of : ℕ → Row → PoolView → Option TooHighCount
+too_high_of h r pool = if is_too_high h r pool then Some (record { h = h; send_count = send_count_of r pool }) else None
+
 -- the answer to a count of handled stanzas that the peer states (XEP-0198 section 4)
 abbrev pub ack_answer : ℕ → Row → PoolView → Result ℕ TooHighCount
 ack_answer h r pool = if is_too_high h r pool then Err (record { h = h; send_count = send_count_of r pool }) else Ok (ahead h r.end.acked)
@@ -111,7 +128,7 @@ resume_answer h None pool = Err UnknownPrevid
 resume_answer h (Some r) pool =
     if is_too_high h r pool
     then Err (TooHigh h (send_count_of r pool) r.shown.conn)
-    else Ok (record { number = r.shown.number; handled = r.end.handled; former = r.shown.conn })
+    else Ok (resume_ok r)
 
 -- a session as a resumption leaves it
 abbrev pub resumed : ℕ → ℕ → ℕ → Row → Row

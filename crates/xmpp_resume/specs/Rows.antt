@@ -3,11 +3,12 @@ use Rattle.std.specs.Prelude.{◌≡◌, ℕ, ◌+◌, ◌^◌, ◌<◌, ◌≤�
 use Rattle.std.specs.Str.{bytes_eq}
 use Rattle.xmpp_resume.specs.declared.session.Row.{Row}
 
--- what clauses see of the table: the rows, ascending by number; the number that the next session gets; and how many
--- more rows fit without further memory
+-- what clauses see of the table: the rows, ascending by number; the number that the next session gets; the account for
+-- whose sessions room was made last; and how many more sessions of it fit without further memory
 pub record Table : Type 0 where
   pub rows : List Row
   pub next : ℕ
+  pub seat : ℕ
   pub spare : ℕ
 
 -- the session with a number
@@ -24,6 +25,10 @@ is_at conn r = is_some_number conn r.shown.conn
 
 abbrev pub row_at : ℕ → List Row → Option Row
 row_at conn rows = find (is_at conn) rows
+
+-- a session of an account
+abbrev pub is_of : ℕ → Row → Bool
+is_of account r = r.shown.account == account
 
 -- the session of an account with a resource
 abbrev pub is_named : ℕ → List ℕ → Row → Bool

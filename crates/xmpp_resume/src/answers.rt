@@ -18,6 +18,15 @@ pub struct Ended {
     pub conn: Option<u64>,
 }
 
+/// What became of a session whose connection was lost, by its number.
+#[derive(Clone, Copy, Debug, PartialEq, Eq)]
+pub enum Lost {
+    /// It is parked, and can be resumed.
+    Parked(u64),
+    /// It ended.
+    Ended(u64),
+}
+
 /// The session's stanzas are counted already (XEP-0198 section 3).
 #[derive(Clone, Copy, Debug, PartialEq, Eq)]
 pub struct AlreadyEnabled;

@@ -1,11 +1,17 @@
-ghost use Rattle.std.specs.Prelude.{◌≡◌, ◌≢◌, ℕ, ◌+◌, ◌-◌, ◌<◌, ◌≤◌, ◌^◌, ◌∷◌, [], ◌++◌, None, Some, IsSome, IfSome, IsErr, OnOk, OnErr, ◌↔◌, filter, not, true};
+ghost use Rattle.std.specs.Prelude.{◌≡◌, ◌≢◌, ℕ, ◌+◌, ◌-◌, ◌<◌, ◌≤◌, ◌^◌, ◌∷◌, [], ◌++◌, None, Some, IsSome, IfSome, IsErr, OnOk, OnErr, ◌↔◌, filter, false, not, true};
 ghost use Rattle.std.specs.Option.{option_map};
 ghost use Rattle.xmpp_pool.specs.Queues.{PoolView};
 ghost use Rattle.xmpp_resume.specs.Housed.{Drops, IsFree, IsHoused};
-ghost use Rattle.xmpp_resume.specs.Moves.{DropsExpired, enabled, ended_of, fresh_row, is_expired, lost, number_of, rows_parked};
-ghost use Rattle.xmpp_resume.specs.Rows.{IsTable, less, row_at, row_named, row_of, with_row, without};
+ghost use Rattle.xmpp_resume.specs.Moves.{DropsExpired, enabled, ended_of, fresh_row, is_expired, lost, lost_as, parked, rows_parked};
+ghost use Rattle.xmpp_acks.specs.Delivery.{IsReceiver, IsSender, beginning};
+ghost use Rattle.xmpp_resume.specs.Changes.{ChangesRow};
+ghost use Rattle.xmpp_resume.specs.Deliveries.{OthersStand, Stands};
+ghost use Rattle.xmpp_resume.specs.declared.session.Row.{Row};
+ghost use Rattle.xmpp_resume.specs.Rows.{IsTable, less, row_at, row_named, row_of, without};
 
-use crate::answers::{AlreadyEnabled, Bound, Ended};
+use crate::answers::{AlreadyEnabled, Bound, Ended, Lost};
+use crate::change::Change;
+use crate::session::SessionView;
 use crate::table::Sessions;
 use xmpp_edge::Text;
 use xmpp_pool::{Pool, QueueId};
@@ -18,11 +24,13 @@ impl Sessions {
         ensures ended { result ≡ option_map ended_of (row_of number self.old.rows) }
         ensures rows { self.new.rows ≡ without number self.old.rows }
         ensures next { self.new.next ≡ self.old.next }
+        ensures seat { self.new.seat ≡ self.old.seat }
         ensures kept { self.old.spare ≤ self.new.spare }
         ensures pool { Drops (row_of number self.old.rows) pool.old pool.new }
         ensures made { pool.new.made ≡ pool.old.made }
         ensures room { pool.old.spare ≤ pool.new.spare }
         ensures housed { IsHoused self.new.rows pool.new }
+        ensures others { OthersStand (row_of number self.old.rows) self.old.rows self.new.rows pool.old pool.new }
     {
         let row = self.remove_row(number)?;
         pool.drop_queue(row.end.queue());
@@ -38,11 +46,13 @@ impl Sessions {
         ensures ended { result ≡ option_map ended_of (row_named account resource.now self.old.rows) }
         ensures rows { self.new.rows ≡ less (row_named account resource.now self.old.rows) self.old.rows }
         ensures next { self.new.next ≡ self.old.next }
+        ensures seat { self.new.seat ≡ self.old.seat }
         ensures kept { self.old.spare ≤ self.new.spare }
         ensures pool { Drops (row_named account resource.now self.old.rows) pool.old pool.new }
         ensures made { pool.new.made ≡ pool.old.made }
         ensures room { pool.old.spare ≤ pool.new.spare }
         ensures housed { IsHoused self.new.rows pool.new }
+        ensures others { OthersStand (row_named account resource.now self.old.rows) self.old.rows self.new.rows pool.old pool.new }
         ensures table { IsTable self.old.rows self.old.next }
     {
         match self.by_name(account, resource) {
@@ -63,6 +73,7 @@ impl Sessions {
         queue: QueueId,
     ) -> Bound
         requires spare { 1 ≤ self.old.spare }
+        requires seat { self.old.seat ≡ account }
         requires next { self.old.next < 2 ^ 64 - 1 }
         requires housed { IsHoused self.old.rows pool.old }
         requires conn { row_at conn self.old.rows ≡ None }
@@ -76,6 +87,9 @@ impl Sessions {
         ensures made { pool.new.made ≡ pool.old.made }
         ensures room { pool.old.spare ≤ pool.new.spare }
         ensures housed { IsHoused self.new.rows pool.new }
+        // The new session stands for two directions on which nothing happened.
+        ensures begins { IsSender (fresh_row self.old.next account resource conn queue).end pool.new beginning × IsReceiver (fresh_row self.old.next account resource conn queue).end beginning }
+        ensures others { OthersStand (row_named account resource self.old.rows) self.old.rows self.new.rows pool.old pool.new }
     {
         let ended = self.end_named(pool, account, resource.as_str());
         let number = self.push_row(account, resource, conn, queue);
@@ -87,75 +101,68 @@ impl Sessions {
     pub fn enable(&mut self, number: u64, resume: bool) -> Result<(), AlreadyEnabled>
         requires { IsSome (row_of number self.old.rows) }
         ensures already { IfSome (row_of number self.old.rows) (λ r. IsErr result ↔ (r.shown.counted ≡ true)) }
-        ensures ok { OnOk result (self.new.rows ≡ with_row number (enabled resume) self.old.rows) }
-        ensures err { OnErr result (self.new.rows ≡ self.old.rows) }
-        ensures next { self.new.next ≡ self.old.next }
-        ensures kept { self.old.spare ≤ self.new.spare }
-        ensures housed { (pool : PoolView) → IsHoused self.old.rows pool → IsHoused self.new.rows pool }
+        ensures ok { OnOk result (ChangesRow number (enabled resume) self.old self.new) }
+        ensures err { OnErr result (self.new ≡ self.old) }
     {
-        if self.is_counted(number) {
+        if self.told(number).counted {
             return Err(AlreadyEnabled);
         }
-        self.count_row(number, resume);
+        self.change(number, Change::Enabled(resume));
         Ok(())
     }
 
-    // Whether a session's stanzas are counted.
-    fn is_counted(&self, number: u64) -> bool
+    // What is told of a session that is there.
+    fn told(&self, number: u64) -> &SessionView
         requires { IsSome (row_of number self.now.rows) }
-        ensures { IfSome (row_of number self.now.rows) (λ r. result ≡ r.shown.counted) }
+        ensures { IfSome (row_of number self.now.rows) (λ r. result.now ≡ r.shown) }
     {
         match self.row(number) {
-            Some(row) => row.shown.counted,
-            None => unreachable!(),
-        }
-    }
-
-    // Whether a session can be resumed.
-    fn is_resumable(&self, number: u64) -> bool
-        requires { IsSome (row_of number self.now.rows) }
-        ensures { IfSome (row_of number self.now.rows) (λ r. result ≡ r.shown.resumable) }
-    {
-        match self.row(number) {
-            Some(row) => row.shown.resumable,
+            Some(row) => &row.shown,
             None => unreachable!(),
         }
     }
 
     /// Parks the session of a connection that was lost, at the moment `now` in milliseconds since 1970: a session that
-    /// can be resumed stays without a connection, with its queue, and any other ends. The answer is its number, and
-    /// `None` where the connection has no session; then nothing changes. It takes no memory.
-    pub fn park(&mut self, pool: &mut Pool, conn: u64, now: u64) -> Option<u64>
+    /// can be resumed stays without a connection, with its queue, and any other ends. The answer says which, and is `None`
+    /// where the connection has no session; then nothing changes. It takes no memory.
+    pub fn park(&mut self, pool: &mut Pool, conn: u64, now: u64) -> Option<Lost>
         requires { IsHoused self.old.rows pool.old }
-        ensures number { result ≡ option_map number_of (row_at conn self.old.rows) }
+        ensures answer { result ≡ option_map lost_as (row_at conn self.old.rows) }
         ensures rows { self.new.rows ≡ rows_parked now (row_at conn self.old.rows) self.old.rows }
         ensures next { self.new.next ≡ self.old.next }
+        ensures seat { self.new.seat ≡ self.old.seat }
         ensures kept { self.old.spare ≤ self.new.spare }
         ensures pool { Drops (lost (row_at conn self.old.rows)) pool.old pool.new }
         ensures made { pool.new.made ≡ pool.old.made }
         ensures room { pool.old.spare ≤ pool.new.spare }
         ensures housed { IsHoused self.new.rows pool.new }
+        // A session that is parked stands for the same directions.
+        ensures stays { IfSome (row_at conn self.old.rows) (λ r. r.shown.resumable ≡ true → Stands r (parked now r) pool.old pool.new) }
+        ensures others { OthersStand (row_at conn self.old.rows) self.old.rows self.new.rows pool.old pool.new }
     {
         let number = self.by_conn(conn)?;
-        if self.is_resumable(number) {
+        if self.told(number).resumable {
             self.park_row(number, now);
+            Some(Lost::Parked(number))
         } else {
             let _ = self.end(pool, number);
+            Some(Lost::Ended(number))
         }
-        Some(number)
     }
 
     /// Ends each session that has been parked for `RESUMABLE_FOR` milliseconds or longer at the moment `now`. It takes no
-    /// memory, and looks at no parked session that was parked later than the first that stays.
+    /// memory.
     pub fn expire(&mut self, pool: &mut Pool, now: u64)
         requires { IsHoused self.old.rows pool.old }
         ensures rows { self.new.rows ≡ filter (λ r. not (is_expired now r)) self.old.rows }
         ensures next { self.new.next ≡ self.old.next }
+        ensures seat { self.new.seat ≡ self.old.seat }
         ensures kept { self.old.spare ≤ self.new.spare }
         ensures pool { DropsExpired now self.old.rows pool.old pool.new }
         ensures made { pool.new.made ≡ pool.old.made }
         ensures room { pool.old.spare ≤ pool.new.spare }
         ensures housed { IsHoused self.new.rows pool.new }
+        ensures others { (n : ℕ) (r : Row) → row_of n self.old.rows ≡ Some r → is_expired now r ≡ false → (row_of n self.new.rows ≡ Some r) × Stands r r pool.old pool.new }
     {
         'ending: loop {
             match self.expired(now) {

@@ -1,7 +1,7 @@
 ghost use Rattle.std.specs.HashMap as hash;
 ghost use Rattle.std.specs.List.Sorted.{IsNonDecreasingBy};
-ghost use Rattle.std.specs.Prelude.{◌≡◌, ◌≢◌, ℕ, ◌+◌, ◌-◌, ◌<◌, ◌≤◌, ◌∷◌, List, Some, None, IfNone, IfSome, IsSome, MatchOption, OnOk, false, length, nat_eq, slice_index_or, true};
-ghost use Rattle.xmpp_resume.specs.Indexed.{AreApart, AreInOrder, HasFirst, IsKnown, KeepsParked, conn_in, is_parked_at, is_wait, marked, name_in, waits_in};
+ghost use Rattle.std.specs.Prelude.{◌≡◌, ◌≢◌, ℕ, ◌+◌, ◌-◌, ◌<◌, ◌≤◌, ◌==◌, [], ◌∷◌, ◌++◌, List, filter, not, Some, None, IfNone, IfSome, IsSome, MatchOption, OnOk, false, length, nat_eq, slice_index_or, true};
+ghost use Rattle.xmpp_resume.specs.Indexed.{AreApart, AreInOrder, HasFirst, KeepsParked, conn_in, is_parked_at, is_wait, seat_in, seats_in, waits_in};
 ghost use Rattle.xmpp_resume.specs.Moves.{is_expired};
 ghost use Rattle.xmpp_resume.specs.Stored.{passes};
 ghost use Rattle.xmpp_resume.specs.declared.session.Row.{Row};
@@ -12,19 +12,6 @@ use std::alloc::Global;
 use std::collections::{HashMap, VecDeque};
 use xmpp_edge::NoMemory;
 
-// A short number for an account and a resource, which others may have too.
-pub(crate) fn mark(account: u32, resource: &str) -> u64
-    ensures { result ≡ marked account resource.now }
-{
-    let mut mark = u64::from(account);
-    for byte in resource.as_bytes() {
-        mark = mark
-            .wrapping_mul(1_099_511_628_211)
-            .wrapping_add(u64::from(*byte));
-    }
-    mark
-}
-
 // That a session was parked, and when.
 #[derive(Clone, Copy)]
 pub(crate) struct Wait {
@@ -34,15 +21,16 @@ pub(crate) struct Wait {
 
 // What sessions are found by, other than their numbers. `conns` has the session of each connection, and `waits` those
 // that were parked, in the order of the moments. An entry of `waits` stays where its session is resumed or ends, and says
-// nothing from then on. Where room ran out `whole` is false, and some sessions may be missing from both. `names` has the
-// session with a mark, and 0 where there was more than one. `reserve` alone asks for memory: an entry is added only where
-// there is room to spare.
+// nothing from then on. Where room ran out `whole` is false, and some sessions may be missing from both. `seats` has the
+// sessions of each account, ascending. `reserve` alone asks for memory: an entry is added only where there is room to
+// spare.
 #[derive(Drop)]
 pub(crate) struct Index {
     pub(crate) conns: HashMap<u64, u64>,
     pub(crate) waits: VecDeque<Wait>,
     pub(crate) whole: bool,
-    pub(crate) names: HashMap<u64, u64>,
+    pub(crate) seats: HashMap<u32, Vec<u64>>,
+    pub(crate) alloc: Global,
 }
 
 // Whether a session is parked since a moment.
@@ -68,27 +56,39 @@ fn has_expired(rows: &HashMap<u64, Row>, number: u64, now: u64) -> bool
 impl Index {
     // An index of no sessions.
     pub(crate) fn new(alloc: Global) -> Index
-        ensures { AreInOrder result }
+        ensures ordered { AreInOrder result }
+        ensures seats { (account : ℕ) → seats_in result account ≡ [] }
     {
         Index {
             conns: HashMap::new(alloc),
             waits: VecDeque::new(alloc),
             whole: true,
-            names: HashMap::new(alloc),
+            seats: HashMap::new(alloc),
+            alloc,
         }
     }
 
-    // Makes room for one session more by name, for `count` and a quarter more by connection, and for twice as many that were
-    // parked.
-    pub(crate) fn reserve(&mut self, count: usize) -> Result<(), NoMemory>
+    // The sessions of an account, ascending.
+    pub(crate) fn seats_of(&self, account: u32) -> &[u64]
+        ensures { result.now ≡ seats_in self.now account }
+    {
+        match self.seats.get(&account) {
+            Some(numbers) => numbers.as_slice(),
+            None => &[],
+        }
+    }
+
+    // Makes room for one session more of an account, for `count` and a quarter more by connection, and for twice as many
+    // that were parked.
+    pub(crate) fn reserve(&mut self, count: usize, account: u32) -> Result<(), NoMemory>
         ensures conns { (q : ℕ) → conn_in self.new q ≡ conn_in self.old q }
         ensures waits { self.new.waits.items ≡ self.old.waits.items }
         ensures whole { self.new.whole ≡ self.old.whole }
-        ensures names { (q : ℕ) → name_in self.new q ≡ name_in self.old q }
-        ensures kept { hash.spare self.old.names ≤ hash.spare self.new.names }
-        ensures spare { OnOk result (1 ≤ hash.spare self.new.names) }
+        ensures seats { (q : ℕ) → seats_in self.new q ≡ seats_in self.old q }
+        ensures kept { (q : ℕ) → seat_in self.old q ≤ seat_in self.new q }
+        ensures spare { OnOk result (1 ≤ seat_in self.new account) }
     {
-        self.names.reserve(1)?;
+        self.reserve_seat(account)?;
         if self.waits.capacity() / 2 < count {
             self.waits.reserve(count.saturating_mul(3))?;
         }
@@ -98,11 +98,32 @@ impl Index {
         Ok(())
     }
 
+    // Makes room for one session more of an account.
+    fn reserve_seat(&mut self, account: u32) -> Result<(), NoMemory>
+        ensures conns { self.new.conns ≡ self.old.conns }
+        ensures waits { self.new.waits ≡ self.old.waits }
+        ensures whole { self.new.whole ≡ self.old.whole }
+        ensures seats { (q : ℕ) → seats_in self.new q ≡ seats_in self.old q }
+        ensures kept { (q : ℕ) → seat_in self.old q ≤ seat_in self.new q }
+        ensures spare { OnOk result (1 ≤ seat_in self.new account) }
+    {
+        if !self.seats.contains_key(&account) {
+            self.seats.insert(account, Vec::new(self.alloc))?;
+        }
+        match self.seats.get_mut(&account) {
+            Some(numbers) => {
+                numbers.reserve(1)?;
+                Ok(())
+            }
+            None => unreachable!(),
+        }
+    }
+
     // Puts each session back, by its connection or among the parked, into the room that there is.
     pub(crate) fn mend(&mut self, numbers: &[u64], rows: &HashMap<u64, Row>)
         requires { AreApart (hash.get nat_eq rows.now) }
         ensures placed { self.new.whole ≡ true → HasFirst (length numbers.now) self.new numbers.now (hash.get nat_eq rows.now) }
-        ensures names { self.new.names ≡ self.old.names }
+        ensures seats { self.new.seats ≡ self.old.seats }
         ensures ordered { AreInOrder self.new }
     {
         self.conns.clear();
@@ -123,7 +144,7 @@ impl Index {
         ensures conns { (q : ℕ) → conn ≢ Some q → conn_in self.new q ≡ conn_in self.old q }
         ensures waits { self.new.waits ≡ self.old.waits }
         ensures whole { self.new.whole ≡ self.old.whole }
-        ensures names { self.new.names ≡ self.old.names }
+        ensures seats { self.new.seats ≡ self.old.seats }
     {
         if let Some(conn) = conn {
             let _ = self.conns.remove(&conn);
@@ -137,7 +158,7 @@ impl Index {
         ensures waits { KeepsParked (hash.get nat_eq rows.now) self.old self.new }
         ensures ordered { AreInOrder self.new }
         ensures whole { self.new.whole ≡ self.old.whole }
-        ensures names { self.new.names ≡ self.old.names }
+        ensures seats { self.new.seats ≡ self.old.seats }
     {
         if self.waits.len() == self.waits.capacity() {
             self.waits.retain(|wait| is_waiting(rows, wait));
@@ -167,7 +188,7 @@ impl Index {
         ensures waits { (s q : ℕ) → waits_in self.old s q ≡ true → waits_in self.new s q ≡ true }
         ensures ordered { AreInOrder self.new }
         ensures whole { self.new.whole ≡ true → self.old.whole ≡ true }
-        ensures names { self.new.names ≡ self.old.names }
+        ensures seats { self.new.seats ≡ self.old.seats }
     {
         if self.waits.len() == self.waits.capacity() {
             self.whole = false;
@@ -202,7 +223,7 @@ impl Index {
         ensures waits { KeepsParked (hash.get nat_eq rows.now) self.old self.new }
         ensures ordered { AreInOrder self.new }
         ensures whole { self.new.whole ≡ self.old.whole }
-        ensures names { self.new.names ≡ self.old.names }
+        ensures seats { self.new.seats ≡ self.old.seats }
         ensures some { IfSome result (λ n. passes (is_expired now) (hash.get nat_eq rows.now n) ≡ true) }
         ensures none { IfNone result ((n : ℕ) (r : Row) → hash.get nat_eq rows.now n ≡ Some r → r.shown.conn ≡ None → waits_in self.old r.shown.parked_at n ≡ true → is_expired now r ≡ false) }
     {
@@ -221,7 +242,7 @@ impl Index {
         ensures conns { (q : ℕ) → q ≢ conn → conn_in self.new q ≡ conn_in self.old q }
         ensures waits { self.new.waits ≡ self.old.waits }
         ensures whole { self.new.whole ≡ true → self.old.whole ≡ true }
-        ensures names { self.new.names ≡ self.old.names }
+        ensures seats { self.new.seats ≡ self.old.seats }
     {
         if self.conns.len() == self.conns.capacity() {
             self.whole = false;
@@ -233,39 +254,36 @@ impl Index {
         }
     }
 
-    // A session has a mark.
-    pub(crate) fn name(&mut self, number: u64, mark: u64)
-        requires { 1 ≤ hash.spare self.old.names }
-        ensures here { IsKnown number (name_in self.new mark) }
-        ensures shared { IsSome (name_in self.old mark) → name_in self.new mark ≡ Some 0 }
-        ensures names { (q : ℕ) → q ≢ mark → name_in self.new q ≡ name_in self.old q }
-        ensures spare { hash.spare self.old.names ≤ hash.spare self.new.names + 1 }
+    // An account has a session more, whose number is above those of its others.
+    pub(crate) fn seat(&mut self, account: u32, number: u64)
+        requires { 1 ≤ seat_in self.old account }
+        ensures here { seats_in self.new account ≡ seats_in self.old account ++ number ∷ [] }
+        ensures others { (q : ℕ) → q ≢ account → seats_in self.new q ≡ seats_in self.old q }
+        ensures spare { (q : ℕ) → seat_in self.old q ≤ seat_in self.new q + 1 }
         ensures conns { self.new.conns ≡ self.old.conns }
         ensures waits { self.new.waits ≡ self.old.waits }
         ensures whole { self.new.whole ≡ self.old.whole }
     {
-        let told = if self.names.contains_key(&mark) {
-            0
-        } else {
-            number
-        };
-        match self.names.insert(mark, told) {
-            Ok(_) => {}
-            Err(_) => unreachable!(),
+        match self.seats.get_mut(&account) {
+            Some(numbers) => match numbers.push(number) {
+                Ok(()) => {}
+                Err(_) => unreachable!(),
+            },
+            None => unreachable!(),
         }
     }
 
-    // A session with a mark is gone.
-    pub(crate) fn unname(&mut self, number: u64, mark: u64)
-        ensures here { name_in self.old mark ≢ Some number → name_in self.new mark ≡ name_in self.old mark }
-        ensures names { (q : ℕ) → q ≢ mark → name_in self.new q ≡ name_in self.old q }
-        ensures spare { hash.spare self.old.names ≤ hash.spare self.new.names }
+    // A session of an account is gone.
+    pub(crate) fn unseat(&mut self, account: u32, number: u64)
+        ensures here { seats_in self.new account ≡ filter (λ m. not (m == number)) (seats_in self.old account) }
+        ensures others { (q : ℕ) → q ≢ account → seats_in self.new q ≡ seats_in self.old q }
+        ensures spare { (q : ℕ) → seat_in self.old q ≤ seat_in self.new q }
         ensures conns { self.new.conns ≡ self.old.conns }
         ensures waits { self.new.waits ≡ self.old.waits }
         ensures whole { self.new.whole ≡ self.old.whole }
     {
-        if self.names.get(&mark).copied() == Some(number) {
-            let _ = self.names.remove(&mark);
+        if let Some(numbers) = self.seats.get_mut(&account) {
+            numbers.retain(|other| *other != number);
         }
     }
 }

@@ -3,6 +3,7 @@
 
 mod answers;
 mod binding;
+mod change;
 mod index;
 mod previds;
 mod resumption;
@@ -10,10 +11,8 @@ mod session;
 mod sought;
 mod table;
 
-pub use answers::{AlreadyEnabled, Bound, Ended, RESUMABLE_FOR, ResumeFault, ResumeOk};
+pub use answers::{AlreadyEnabled, Bound, Ended, Lost, RESUMABLE_FOR, ResumeFault, ResumeOk};
+pub use previds::previd_text;
 pub use resumption::parked_comes_back_whole;
 pub use session::SessionView;
 pub use table::Sessions;
-
-#[cfg(test)]
-mod tests;

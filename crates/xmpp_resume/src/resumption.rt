@@ -1,56 +1,81 @@
-ghost use Rattle.std.specs.Prelude.{◌≡◌, ◌≢◌, ℕ, ◌<◌, ◌≤◌, ◌^◌, None, Some, IsSome, IfSome, IfNone, List, true};
+ghost use Rattle.std.specs.Prelude.{◌≡◌, ◌≢◌, ℕ, ◌%◌, ◌<◌, ◌≤◌, ◌^◌, length, Ok, None, Some, IsSome, IfSome, IfNone, List, true};
 ghost use Rattle.std.specs.Option.{option_map};
 ghost use Rattle.xmpp_resume.specs.Housed.{IsFree, IsHoused};
-ghost use Rattle.xmpp_resume.specs.Moves.{PoolResumed, number_of, resume_answer, row_resumed, rows_resumed};
+ghost use Rattle.xmpp_resume.specs.Moves.{PoolResumed, number_of, resume_answer, resume_ok, resumed, row_resumed, rows_resumed, too_high_of};
+ghost use Rattle.xmpp_acks.specs.Delivery.{Acknowledge, Direction, IsSender, Moves, Reached, Resume};
 ghost use Rattle.xmpp_pool.specs.Queues.{PoolView};
+ghost use Rattle.xmpp_resume.specs.Deliveries.{OthersStand};
 ghost use Rattle.xmpp_resume.specs.Laws.{ComesBackWhole};
 ghost use Rattle.xmpp_resume.specs.declared.session.Row.{Row};
 ghost use Rattle.xmpp_resume.specs.Rows.{IsTable, row_at, row_of};
 
 use crate::answers::{ResumeFault, ResumeOk};
-use crate::previds::number_named;
 use crate::table::Sessions;
 use xmpp_acks::TooHigh;
+use xmpp_basis::read_hex16;
 use xmpp_pool::{Pool, QueueId};
 
 impl Sessions {
-    // The number of the session that a previd names for an account, which can be resumed.
-    fn resumable(&self, previd: &str, account: u32) -> Option<u64>
-        ensures number { result ≡ option_map number_of (row_resumed previd.now account self.now.rows) }
+    // What a resumption tells of the session that a previd names for an account, which can be resumed.
+    fn resumable(&self, previd: &str, account: u32) -> Option<ResumeOk>
+        ensures told { result ≡ option_map resume_ok (row_resumed previd.now account self.now.rows) }
         ensures table { IsTable self.now.rows self.now.next }
     {
-        let table = self;
-        let _ = table.listed();
-        let number = number_named(previd)?;
+        // The table's rule has it that no number is too great for a `previd`.
+        self.keeps_rule();
+        let number = read_hex16(previd)?;
         let row = self.row(number)?;
-        if row.shown.account != account {
-            return None;
-        }
-        if row.shown.resumable {
-            Some(number)
+        if row.shown.account == account && row.shown.resumable {
+            Some(ResumeOk {
+                number,
+                handled: row.end.handled(),
+                former: row.shown.conn,
+            })
         } else {
             None
         }
     }
 
-    // The connection of a session.
-    fn conn_of(&self, number: u64) -> Option<u64>
-        requires { IsSome (row_of number self.now.rows) }
-        ensures { IfSome (row_of number self.now.rows) (λ r. result ≡ r.shown.conn) }
+    /// The number of the session that a `previd` names for an account, and that can be resumed. `None` where there is
+    /// none.
+    pub fn named(&self, previd: &str, account: u32) -> Option<u64>
+        ensures { result ≡ option_map number_of (row_resumed previd.now account self.now.rows) }
     {
-        match self.row(number) {
-            Some(row) => row.shown.conn,
-            None => unreachable!(),
+        Some(self.resumable(previd, account)?.number)
+    }
+
+    /// What `resume` would answer. Nothing changes.
+    pub fn would_resume(
+        &self,
+        pool: &Pool,
+        previd: &str,
+        account: u32,
+        h: u32,
+    ) -> Result<ResumeOk, ResumeFault>
+        requires { IsHoused self.now.rows pool.now }
+        ensures { result ≡ resume_answer h (row_resumed previd.now account self.now.rows) pool.now }
+    {
+        match self.resumable(previd, account) {
+            Some(told) => match self.too_high(pool, told.number, h) {
+                Some(TooHigh { h, send_count }) => Err(ResumeFault::TooHigh {
+                    h,
+                    send_count,
+                    former: told.former,
+                }),
+                None => Ok(told),
+            },
+            None => Err(ResumeFault::UnknownPrevid),
         }
     }
 
-    // How many stanzas of the peer a session handled.
-    fn handled_of(&self, number: u64) -> u32
-        requires { IsSome (row_of number self.now.rows) }
-        ensures { IfSome (row_of number self.now.rows) (λ r. result ≡ r.end.handled) }
+    // Whether a count that a session's peer states is too high.
+    fn too_high(&self, pool: &Pool, number: u64, h: u32) -> Option<TooHigh>
+        requires lives { IsSome (row_of number self.now.rows) }
+        requires housed { IsHoused self.now.rows pool.now }
+        ensures { IfSome (row_of number self.now.rows) (λ r. result ≡ too_high_of h r pool.now) }
     {
         match self.row(number) {
-            Some(row) => row.end.handled(),
+            Some(row) => row.end.is_too_high(pool, h),
             None => unreachable!(),
         }
     }
@@ -78,57 +103,61 @@ impl Sessions {
         ensures answer { result ≡ resume_answer h (row_resumed previd.now account self.old.rows) pool.old }
         ensures rows { self.new.rows ≡ rows_resumed h conn queue (row_resumed previd.now account self.old.rows) pool.old self.old.rows }
         ensures next { self.new.next ≡ self.old.next }
+        ensures seat { self.new.seat ≡ self.old.seat }
         ensures kept { self.old.spare ≤ self.new.spare }
         ensures pool { PoolResumed h queue (row_resumed previd.now account self.old.rows) pool.old pool.new }
         ensures made { pool.new.made ≡ pool.old.made }
         ensures room { pool.old.spare ≤ pool.new.spare }
         ensures housed { IsHoused self.new.rows pool.new }
+        // It is the move of the direction by which its sending end hears how many stanzas were handled. A resumption that
+        // comes late, with a count that was stated before, acknowledges that count.
+        ensures resumes { IfSome (row_resumed previd.now account self.old.rows) (λ r. (d next : Direction (List ℕ)) → Reached d → IsSender r.end pool.old d →
+            Moves Resume d next → h ≡ length d.got % 2 ^ 32 → (result ≡ Ok (resume_ok r)) × IsSender (resumed h conn queue r).end pool.new next) }
+        ensures late { IfSome (row_resumed previd.now account self.old.rows) (λ r. (n : ℕ) (d next : Direction (List ℕ)) → Reached d → IsSender r.end pool.old d →
+            Moves (Acknowledge n) d next → h ≡ n % 2 ^ 32 → (result ≡ Ok (resume_ok r)) × IsSender (resumed h conn queue r).end pool.new next) }
+        ensures others { OthersStand (row_resumed previd.now account self.old.rows) self.old.rows self.new.rows pool.old pool.new }
     {
         match self.resumable(previd, account) {
-            Some(number) => self.resume_number(pool, number, h, conn, queue),
+            Some(told) => self.resume_told(pool, told, h, conn, queue),
             None => Err(ResumeFault::UnknownPrevid),
         }
     }
 
-    // Resumes the session with a number.
-    fn resume_number(
+    // Resumes a session of which this is told.
+    fn resume_told(
         &mut self,
         pool: &mut Pool,
-        number: u64,
+        told: ResumeOk,
         h: u32,
         conn: u64,
         queue: QueueId,
     ) -> Result<ResumeOk, ResumeFault>
-        requires lives { IsSome (row_of number self.old.rows) }
+        requires lives { IsSome (row_of told.number self.old.rows) }
+        requires told { IfSome (row_of told.number self.old.rows) (λ r. told ≡ resume_ok r) }
         requires housed { IsHoused self.old.rows pool.old }
         requires conn { row_at conn self.old.rows ≡ None }
         requires queue { IsFree queue self.old.rows pool.old }
-        ensures answer { result ≡ resume_answer h (row_of number self.old.rows) pool.old }
-        ensures rows { self.new.rows ≡ rows_resumed h conn queue (row_of number self.old.rows) pool.old self.old.rows }
+        ensures answer { result ≡ resume_answer h (row_of told.number self.old.rows) pool.old }
+        ensures rows { self.new.rows ≡ rows_resumed h conn queue (row_of told.number self.old.rows) pool.old self.old.rows }
         ensures next { self.new.next ≡ self.old.next }
+        ensures seat { self.new.seat ≡ self.old.seat }
         ensures kept { self.old.spare ≤ self.new.spare }
-        ensures pool { PoolResumed h queue (row_of number self.old.rows) pool.old pool.new }
+        ensures pool { PoolResumed h queue (row_of told.number self.old.rows) pool.old pool.new }
         ensures made { pool.new.made ≡ pool.old.made }
         ensures room { pool.old.spare ≤ pool.new.spare }
         ensures housed { IsHoused self.new.rows pool.new }
     {
-        let former = self.conn_of(number);
-        let handled = self.handled_of(number);
-        match self.ack(pool, number, h) {
+        match self.ack(pool, told.number, h) {
             Ok(_) => {
-                self.attach_row(pool, number, conn, queue);
-                Ok(ResumeOk {
-                    number,
-                    handled,
-                    former,
-                })
+                self.attach_row(pool, told.number, conn, queue);
+                Ok(told)
             }
             Err(TooHigh { h, send_count }) => {
-                let _ = self.end(pool, number);
+                let _ = self.end(pool, told.number);
                 Err(ResumeFault::TooHigh {
                     h,
                     send_count,
-                    former,
+                    former: told.former,
                 })
             }
         }

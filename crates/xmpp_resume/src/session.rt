@@ -1,8 +1,11 @@
-ghost use Rattle.std.specs.Prelude.{◌≡◌, ◌≢◌, ◌+◌, ◌<◌, ◌≤◌, [], Some, false, length, pos, OnOk, OnErr};
+ghost use Rattle.std.specs.Prelude.{◌≡◌, ◌≢◌, ℕ, ◌+◌, ◌^◌, ◌<◌, ◌≤◌, ◌↔◌, ◌⊎◌, IsErr, List, [], Some, false, length, pos, OnOk, OnErr};
 ghost use Rattle.xmpp_pool.specs.Queues.{Lives, list_of, stanzas_of};
-ghost use Rattle.xmpp_resume.specs.Moves.{HandsOver, Joins, PoolAcknowledged, ack_answer, acknowledged, attached, copying, enabled, handling, is_expired, parked, present};
+ghost use Rattle.xmpp_resume.specs.Moves.{HandsOver, Joins, PoolAcknowledged, ack_answer, acknowledged, attached, is_expired, parked};
+ghost use Rattle.xmpp_acks.specs.Delivery.{Direction, IsSender};
+ghost use Rattle.xmpp_resume.specs.Changes.{changed};
 
 use crate::answers::RESUMABLE_FOR;
+use crate::change::Change;
 use xmpp_acks::{AckEnd, MOST_UNACKNOWLEDGED, TooHigh};
 use xmpp_edge::{Bytes, Text};
 use xmpp_pool::{Pool, QueueId};
@@ -30,12 +33,14 @@ pub struct SessionView {
     pub counted: bool,
     /// Whether it can be resumed (XEP-0198 section 5).
     pub resumable: bool,
+    /// Whether it was asked for its count of handled stanzas, and has not answered (XEP-0198 section 4).
+    pub asked: bool,
 }
 
 impl SessionView {
     // A session as a bind makes it.
     pub(crate) fn fresh(number: u64, account: u32, resource: Text, conn: u64) -> SessionView
-        ensures { result ≡ record { number = number; account = account; resource = resource; conn = Some conn; parked_at = 0; available = false; priority = pos 0; carbons = false; counted = false; resumable = false } }
+        ensures { result ≡ record { number = number; account = account; resource = resource; conn = Some conn; parked_at = 0; available = false; priority = pos 0; carbons = false; counted = false; resumable = false; asked = false } }
     {
         SessionView {
             number,
@@ -48,6 +53,7 @@ impl SessionView {
             carbons: false,
             counted: false,
             resumable: false,
+            asked: false,
         }
     }
 }
@@ -75,34 +81,23 @@ impl Row {
         self.shown.parked_at = now;
     }
 
-    // The session's stanzas are counted from now on.
-    pub(crate) fn enable(&mut self, resume: bool)
-        ensures { self.new ≡ enabled resume self.old }
+    // A change that keeps the connection, the name and the queue.
+    pub(crate) fn change(&mut self, change: Change)
+        ensures { self.new ≡ changed change self.old }
     {
-        self.shown.counted = true;
-        self.shown.resumable = resume;
-    }
-
-    // The session's presence.
-    pub(crate) fn present(&mut self, available: bool, priority: i8)
-        ensures { self.new ≡ present available priority self.old }
-    {
-        self.shown.available = available;
-        self.shown.priority = priority;
-    }
-
-    // Whether the session wants copies.
-    pub(crate) fn copy(&mut self, on: bool)
-        ensures { self.new ≡ copying on self.old }
-    {
-        self.shown.carbons = on;
-    }
-
-    // One stanza more of the peer is handled.
-    pub(crate) fn handle(&mut self)
-        ensures { self.new ≡ handling self.old }
-    {
-        self.end.count_handled();
+        match change {
+            Change::Enabled(resume) => {
+                self.shown.counted = true;
+                self.shown.resumable = resume;
+            }
+            Change::Present(available, priority) => {
+                self.shown.available = available;
+                self.shown.priority = priority;
+            }
+            Change::Carbons(on) => self.shown.carbons = on,
+            Change::Asked(on) => self.shown.asked = on,
+            Change::Handled => self.end.count_handled(),
+        }
     }
 
     // The count of handled stanzas that the peer states.
@@ -115,6 +110,7 @@ impl Row {
         ensures pool { PoolAcknowledged h self.old pool.old pool.new }
         ensures made { pool.new.made ≡ pool.old.made }
         ensures room { pool.old.spare ≤ pool.new.spare }
+        ensures exact { (d : Direction (List ℕ)) → IsSender self.old.end pool.old d → length d.put < 2 ^ 32 → IsErr result ↔ ((h < d.acked) ⊎ (length d.put < h)) }
     {
         self.end.ack(pool, h)
     }

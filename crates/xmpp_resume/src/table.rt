@@ -1,16 +1,20 @@
-ghost use Rattle.std.specs.Prelude.{◌≡◌, ℕ, ◌+◌, ◌-◌, ◌<◌, ◌≤◌, ◌^◌, [], ◌∷◌, ◌++◌, map, None, Some, false, IsSome, OnOk, OnErr, IsTrue, MatchOption, IfSome, filter, is_some, length, nat_eq, nat_lt, slice_index_or, vec_len, vec_capacity};
+ghost use Rattle.std.specs.Prelude.{◌≡◌, ℕ, ◌+◌, ◌-◌, ◌%◌, ◌<◌, ◌≤◌, ◌^◌, ◌↔◌, ◌⊎◌, List, [], ◌∷◌, ◌++◌, map, None, Ok, Some, IsErr, false, IsSome, OnOk, OnErr, IsTrue, MatchOption, IfSome, filter, is_some, length, nat_eq, nat_lt, slice_index_or, vec_len, vec_capacity};
 ghost use Rattle.std.specs.Option.{option_copied, option_map};
-ghost use Rattle.xmpp_resume.specs.Moves.{HandsOver, HasExpired, Joins, PoolAcknowledged, ack_answer, acknowledged, attached, copying, enabled, fresh_row, handling, is_expired, number_of, parked, present};
+ghost use Rattle.xmpp_resume.specs.Moves.{HandsOver, HasExpired, Joins, PoolAcknowledged, ack_answer, acknowledged, asking, attached, copying, fresh_row, handling, is_expired, number_of, parked, present};
+ghost use Rattle.xmpp_acks.specs.Delivery.{Acknowledge, Direction, Handle, IsReceiver, IsSender, Moves, Put, Reached};
+ghost use Rattle.xmpp_resume.specs.Changes.{ChangesRow, changed};
+ghost use Rattle.xmpp_resume.specs.Deliveries.{OthersStand};
 ghost use Rattle.std.specs.HashMap as hash;
 ghost use Rattle.std.specs.List.{find};
 ghost use Rattle.std.specs.List.Sorted.{IsNonDecreasing};
 ghost use Rattle.xmpp_pool.specs.Queues.{PoolView, list_of};
 ghost use Rattle.xmpp_resume.specs.Housed.{IsFree, IsHoused};
-ghost use Rattle.xmpp_resume.specs.Rows.{IsTable, row_at, row_named, row_of, with_row, without};
+ghost use Rattle.xmpp_resume.specs.Rows.{IsTable, is_of, row_at, row_named, row_of, with_row, without};
 ghost use Rattle.xmpp_resume.specs.Stored.{Climbs, Meets, passes, seeks};
 ghost use Rattle.xmpp_resume.specs.declared.session.Row.{Row};
 
-use crate::index::{Index, mark};
+use crate::change::Change;
+use crate::index::Index;
 use crate::session::{Row, SessionView};
 use crate::sought::Sought;
 use std::alloc::Global;
@@ -20,16 +24,17 @@ use xmpp_acks::{AckEnd, MOST_UNACKNOWLEDGED, TooHigh};
 use xmpp_edge::{Bytes, NoMemory, Text};
 use xmpp_pool::{Pool, QueueId};
 
-/// The table of sessions. Contracts see its rows, ascending by number, the number that the next session gets, and the
-/// number `spare` of further sessions that fit without more memory.
+/// The table of sessions. Contracts see its rows, ascending by number, the number that the next session gets, the account
+/// `seat` for which room was made last, and the number `spare` of further sessions of it that fit without more memory.
 ///
-/// A session is found by its number, by its connection and by its account and resource in hash maps, whatever the number
-/// of sessions. Parked sessions wait in the order of the moments at which they were parked: an expiry looks at the first
+/// A session is found by its number and by its connection in hash maps, and by its account and resource among the
+/// sessions of the account, whatever the number of other sessions. Parked sessions wait in the order of the moments at which they were parked: an expiry looks at the first
 /// ones alone, and passes over one that was resumed or ended since when its turn comes. (Where a park is given an earlier
 /// moment than one before it, its entry goes ahead of the later ones, 16 bytes each.) The numbers of ended sessions stay
 /// listed until a `reserve` finds that they are at least half of the list.
 ///
-/// `reserve` alone asks for memory: an entry is added only where there is room to spare. It makes room for a quarter more
+/// `reserve` alone asks for memory: an entry is added only where there is room to spare. It makes room for a session more of
+/// an account, which keeps the room of its list where its sessions end, and for a quarter more
 /// connections than there are sessions, and for twice as many parks; where that is used up, what is said of sessions that
 /// ended or were resumed is dropped first. Where it runs out before the next `reserve` all the same, look-ups by
 /// connection and expiries go through all sessions until then, and answer the same.
@@ -39,18 +44,19 @@ pub struct Sessions {
     rows: HashMap<u64, Row>,
     index: Index,
     next: u64,
+    seat: u32,
 }
 
 impl Model for Sessions {
     ghost use Rattle.std.specs.HashMap as hash;
     ghost use Rattle.std.specs.Prelude.{◌-◌, min, nat_eq, vec_len, vec_capacity};
-    ghost use Rattle.xmpp_resume.specs.Indexed.{IsIndexed};
+    ghost use Rattle.xmpp_resume.specs.Indexed.{IsIndexed, seat_in};
     ghost use Rattle.xmpp_resume.specs.Rows.{Table};
     ghost use Rattle.xmpp_resume.specs.Stored.{IsStored, collected};
 
     ghost Value = { Table };
 
-    ghost view = { λ s. record { rows = collected (hash.get nat_eq s.rows) s.numbers.items; next = s.next; spare = min (hash.spare s.rows) (min (hash.spare s.index.names) (vec_capacity s.numbers - vec_len s.numbers)) } };
+    ghost view = { λ s. record { rows = collected (hash.get nat_eq s.rows) s.numbers.items; next = s.next; seat = s.seat; spare = min (hash.spare s.rows) (min (seat_in s.index s.seat) (vec_capacity s.numbers - vec_len s.numbers)) } };
 
     ghost invariant = { λ s. IsStored (hash.get nat_eq s.rows) s.numbers.items s.next (collected (hash.get nat_eq s.rows) s.numbers.items) × IsIndexed s.index (collected (hash.get nat_eq s.rows) s.numbers.items) };
 }
@@ -87,6 +93,7 @@ impl Sessions {
             rows: HashMap::new(alloc),
             index: Index::new(alloc),
             next: first,
+            seat: 0,
         }
     }
 
@@ -97,22 +104,25 @@ impl Sessions {
         self.next
     }
 
-    /// Makes room for one session more, and never lowers the room. The sessions stay on each outcome. No other call takes
-    /// memory.
-    pub fn reserve(&mut self) -> Result<(), NoMemory>
+    /// Makes room for one session more of an account. The sessions stay on each outcome, and so does the room where it
+    /// refuses. No other call takes memory.
+    pub fn reserve(&mut self, account: u32) -> Result<(), NoMemory>
         ensures spare { OnOk result (1 ≤ self.new.spare) }
+        ensures seat { OnOk result (self.new.seat ≡ account) }
         ensures rows { self.new.rows ≡ self.old.rows }
         ensures next { self.new.next ≡ self.old.next }
-        ensures kept { self.old.spare ≤ self.new.spare }
+        ensures stays { OnErr result (self.new.seat ≡ self.old.seat) }
+        ensures kept { OnErr result (self.old.spare ≤ self.new.spare) }
     {
         self.prune();
-        self.make_room()
+        self.make_room(account)
     }
 
     // Strikes the numbers of sessions that ended off the list, where they are at least half of it.
     fn prune(&mut self)
         ensures rows { self.new.rows ≡ self.old.rows }
         ensures next { self.new.next ≡ self.old.next }
+        ensures seat { self.new.seat ≡ self.old.seat }
         ensures kept { self.old.spare ≤ self.new.spare }
     {
         if self.rows.len() <= self.numbers.len() / 2 {
@@ -120,20 +130,32 @@ impl Sessions {
         }
     }
 
-    // Makes room for one session more.
-    fn make_room(&mut self) -> Result<(), NoMemory>
+    // Makes room for one session more of an account.
+    fn make_room(&mut self, account: u32) -> Result<(), NoMemory>
         ensures spare { OnOk result (1 ≤ self.new.spare) }
+        ensures seat { OnOk result (self.new.seat ≡ account) }
         ensures rows { self.new.rows ≡ self.old.rows }
         ensures next { self.new.next ≡ self.old.next }
-        ensures kept { self.old.spare ≤ self.new.spare }
+        ensures stays { OnErr result (self.new.seat ≡ self.old.seat) }
+        ensures kept { OnErr result (self.old.spare ≤ self.new.spare) }
     {
         self.numbers.reserve(1)?;
         self.rows.reserve(1)?;
-        self.index.reserve(self.rows.len().saturating_add(1))?;
+        self.index
+            .reserve(self.rows.len().saturating_add(1), account)?;
+        self.seat = account;
         if !self.index.whole {
             self.index.mend(&self.numbers, &self.rows);
         }
         Ok(())
+    }
+
+    /// What is true of every table: numbers ascend from 1 and stay below the next one, a connection has one session at most,
+    /// and so has a resource of an account. It does nothing.
+    pub fn keeps_rule(&self)
+        ensures { IsTable self.now.rows self.now.next }
+    {
+        let _ = self.listed();
     }
 
     // The numbers of all sessions, and of some that ended, ascending.
@@ -237,18 +259,33 @@ impl Sessions {
         }
     }
 
-    /// The number of the session of an account with a resource. `None` where there is none.
+    /// The numbers of an account's sessions, ascending.
+    pub fn of_account(&self, account: u32) -> &[u64]
+        ensures numbers { result.now ≡ map number_of (filter (is_of account) self.now.rows) }
+        ensures table { IsTable self.now.rows self.now.next }
+    {
+        self.index.seats_of(account)
+    }
+
+    /// The number of the session of an account with a resource. `None` where there is none. It goes through the sessions
+    /// of the account alone.
     pub fn by_name(&self, account: u32, resource: &str) -> Option<u64>
         ensures number { result ≡ option_map number_of (row_named account resource.now self.now.rows) }
         ensures table { IsTable self.now.rows self.now.next }
     {
-        let sought = Sought::Named(account, resource);
-        let number = self.index.names.get(&mark(account, resource)).copied();
-        if number == Some(0) {
-            self.scan(&sought)
-        } else {
-            self.checked(number, &sought)
+        self.first_sought(self.of_account(account), &Sought::Named(account, resource))
+    }
+
+    // The first of some numbers that is that of a session that is sought.
+    fn first_sought(&self, numbers: &[u64], sought: &Sought) -> Option<u64>
+        ensures { result ≡ find (λ n. passes (seeks sought.now) (row_of n self.now.rows)) numbers.now }
+    {
+        for number in numbers {
+            if self.meets(*number, sought) {
+                return Some(*number);
+            }
         }
+        None
     }
 
     // Adds a session under the next number, last.
@@ -260,6 +297,7 @@ impl Sessions {
         queue: QueueId,
     ) -> u64
         requires spare { 1 ≤ self.old.spare }
+        requires seat { self.old.seat ≡ account }
         requires next { self.old.next < 2 ^ 64 - 1 }
         requires conn { row_at conn self.old.rows ≡ None }
         requires name { row_named account resource self.old.rows ≡ None }
@@ -269,7 +307,6 @@ impl Sessions {
         ensures spare { self.old.spare ≤ self.new.spare + 1 }
     {
         let number = self.next;
-        let mark = mark(account, resource.as_str());
         let shown = SessionView::fresh(number, account, resource, conn);
         let row = Row {
             shown,
@@ -284,7 +321,7 @@ impl Sessions {
             Err(_) => unreachable!(),
         }
         self.index.enter(number, conn);
-        self.index.name(number, mark);
+        self.index.seat(account, number);
         self.next = number + 1;
         number
     }
@@ -294,11 +331,12 @@ impl Sessions {
         ensures row { result ≡ row_of number self.old.rows }
         ensures rows { self.new.rows ≡ without number self.old.rows }
         ensures next { self.new.next ≡ self.old.next }
+        ensures seat { self.new.seat ≡ self.old.seat }
         ensures kept { self.old.spare ≤ self.new.spare }
     {
         let row = self.rows.remove(&number)?;
         self.index.forget(row.shown.conn);
-        self.index.unname(number, mark(row.shown.account, row.shown.resource.as_str()));
+        self.index.unseat(row.shown.account, number);
         Some(row)
     }
 
@@ -307,6 +345,7 @@ impl Sessions {
         requires { IsSome (row_of number self.old.rows) }
         ensures rows { self.new.rows ≡ with_row number (parked now) self.old.rows }
         ensures next { self.new.next ≡ self.old.next }
+        ensures seat { self.new.seat ≡ self.old.seat }
         ensures kept { self.old.spare ≤ self.new.spare }
     {
         self.index.sweep(&self.rows);
@@ -320,16 +359,13 @@ impl Sessions {
         }
     }
 
-    // Writes that a session's stanzas are counted, and whether it can be resumed.
-    pub(crate) fn count_row(&mut self, number: u64, resume: bool)
+    // Changes a session.
+    pub(crate) fn change(&mut self, number: u64, change: Change)
         requires { IsSome (row_of number self.old.rows) }
-        ensures rows { self.new.rows ≡ with_row number (enabled resume) self.old.rows }
-        ensures next { self.new.next ≡ self.old.next }
-        ensures kept { self.old.spare ≤ self.new.spare }
-        ensures housed { (pool : PoolView) → IsHoused self.old.rows pool → IsHoused self.new.rows pool }
+        ensures { ChangesRow number (changed change) self.old self.new }
     {
         match self.rows.get_mut(&number) {
-            Some(row) => row.enable(resume),
+            Some(row) => row.change(change),
             None => unreachable!(),
         }
     }
@@ -337,43 +373,35 @@ impl Sessions {
     /// Writes a session's presence: whether it is available, and its priority (RFC 6121 section 4.7.2.3).
     pub fn set_presence(&mut self, number: u64, available: bool, priority: i8)
         requires { IsSome (row_of number self.old.rows) }
-        ensures rows { self.new.rows ≡ with_row number (present available priority) self.old.rows }
-        ensures next { self.new.next ≡ self.old.next }
-        ensures kept { self.old.spare ≤ self.new.spare }
-        ensures housed { (pool : PoolView) → IsHoused self.old.rows pool → IsHoused self.new.rows pool }
+        ensures { ChangesRow number (present available priority) self.old self.new }
     {
-        match self.rows.get_mut(&number) {
-            Some(row) => row.present(available, priority),
-            None => unreachable!(),
-        }
+        self.change(number, Change::Present(available, priority));
     }
 
     /// Writes whether a session wants copies of the account's messages (XEP-0280).
     pub fn set_carbons(&mut self, number: u64, on: bool)
         requires { IsSome (row_of number self.old.rows) }
-        ensures rows { self.new.rows ≡ with_row number (copying on) self.old.rows }
-        ensures next { self.new.next ≡ self.old.next }
-        ensures kept { self.old.spare ≤ self.new.spare }
-        ensures housed { (pool : PoolView) → IsHoused self.old.rows pool → IsHoused self.new.rows pool }
+        ensures { ChangesRow number (copying on) self.old self.new }
     {
-        match self.rows.get_mut(&number) {
-            Some(row) => row.copy(on),
-            None => unreachable!(),
-        }
+        self.change(number, Change::Carbons(on));
+    }
+
+    /// Writes whether a session was asked for its count of handled stanzas and has not answered (XEP-0198 section 4).
+    pub fn set_asked(&mut self, number: u64, on: bool)
+        requires { IsSome (row_of number self.old.rows) }
+        ensures { ChangesRow number (asking on) self.old self.new }
+    {
+        self.change(number, Change::Asked(on));
     }
 
     /// Counts one more stanza of the peer as handled by a session, modulo 2^32 (XEP-0198 section 4).
     pub fn count_handled(&mut self, number: u64)
         requires { IsSome (row_of number self.old.rows) }
-        ensures rows { self.new.rows ≡ with_row number handling self.old.rows }
-        ensures next { self.new.next ≡ self.old.next }
-        ensures kept { self.old.spare ≤ self.new.spare }
-        ensures housed { (pool : PoolView) → IsHoused self.old.rows pool → IsHoused self.new.rows pool }
+        ensures changes { ChangesRow number handling self.old self.new }
+        // It is the move by which a stanza under way is handled.
+        ensures handles { IfSome (row_of number self.old.rows) (λ r. (d next : Direction (List ℕ)) → IsReceiver r.end d → Moves Handle d next → IsReceiver (handling r).end next) }
     {
-        match self.rows.get_mut(&number) {
-            Some(row) => row.handle(),
-            None => unreachable!(),
-        }
+        self.change(number, Change::Handled);
     }
 
     /// Takes the count `h` of handled stanzas that a session's peer states (XEP-0198 section 4): the stanzas up to it
@@ -386,11 +414,18 @@ impl Sessions {
         ensures ok { OnOk result (self.new.rows ≡ with_row number (acknowledged h) self.old.rows) }
         ensures err { OnErr result (self.new.rows ≡ self.old.rows) }
         ensures next { self.new.next ≡ self.old.next }
+        ensures seat { self.new.seat ≡ self.old.seat }
         ensures kept { self.old.spare ≤ self.new.spare }
         ensures pool { IfSome (row_of number self.old.rows) (λ r. PoolAcknowledged h r pool.old pool.new) }
         ensures made { pool.new.made ≡ pool.old.made }
         ensures room { pool.old.spare ≤ pool.new.spare }
         ensures housed { IsHoused self.new.rows pool.new }
+        // It is the move by which a count that was stated, and is not below the last one, is acknowledged. Where fewer
+        // than 2^32 stanzas were put, it is refused exactly where it is below that one or above their number.
+        ensures acknowledges { IfSome (row_of number self.old.rows) (λ r. (n : ℕ) (d next : Direction (List ℕ)) → Reached d → IsSender r.end pool.old d →
+            Moves (Acknowledge n) d next → h ≡ n % 2 ^ 32 → (result ≡ Ok (n - d.acked)) × IsSender (acknowledged h r).end pool.new next) }
+        ensures exact { IfSome (row_of number self.old.rows) (λ r. (d : Direction (List ℕ)) → IsSender r.end pool.old d → length d.put < 2 ^ 32 → IsErr result ↔ ((h < d.acked) ⊎ (length d.put < h))) }
+        ensures others { OthersStand (row_of number self.old.rows) self.old.rows self.new.rows pool.old pool.new }
     {
         match self.rows.get_mut(&number) {
             Some(row) => row.ack(pool, h),
@@ -407,11 +442,15 @@ impl Sessions {
         requires spare { 1 ≤ pool.old.spare }
         ensures rows { self.new.rows ≡ self.old.rows }
         ensures next { self.new.next ≡ self.old.next }
+        ensures seat { self.new.seat ≡ self.old.seat }
         ensures kept { self.old.spare ≤ self.new.spare }
         ensures pool { IfSome (row_of number self.old.rows) (λ r. Joins bytes.items r pool.old pool.new) }
         ensures made { pool.new.made ≡ pool.old.made }
         ensures room { pool.old.spare ≤ pool.new.spare + 1 }
         ensures housed { IsHoused self.new.rows pool.new }
+        // It is the move by which the stanza is put.
+        ensures puts { IfSome (row_of number self.old.rows) (λ r. (d next : Direction (List ℕ)) → IsSender r.end pool.old d → Moves (Put bytes.items) d next → IsSender r.end pool.new next) }
+        ensures others { OthersStand (row_of number self.old.rows) self.old.rows self.new.rows pool.old pool.new }
     {
         match self.rows.get_mut(&number) {
             Some(row) => row.put(pool, bytes),
@@ -427,6 +466,7 @@ impl Sessions {
         requires queue { IsFree queue self.old.rows pool.old }
         ensures rows { self.new.rows ≡ with_row number (attached conn queue) self.old.rows }
         ensures next { self.new.next ≡ self.old.next }
+        ensures seat { self.new.seat ≡ self.old.seat }
         ensures kept { self.old.spare ≤ self.new.spare }
         ensures pool { IfSome (row_of number self.old.rows) (λ r. HandsOver 0 queue r pool.old pool.new) }
         ensures made { pool.new.made ≡ pool.old.made }
@@ -449,6 +489,7 @@ impl Sessions {
         ensures table { IsTable self.old.rows self.old.next }
         ensures rows { self.new.rows ≡ self.old.rows }
         ensures next { self.new.next ≡ self.old.next }
+        ensures seat { self.new.seat ≡ self.old.seat }
         ensures kept { self.old.spare ≤ self.new.spare }
     {
         if !self.index.whole {

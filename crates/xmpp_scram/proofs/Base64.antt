@@ -30,7 +30,7 @@ bytes_are text bytes h = (outcome_ok _ (decoded_bytes_of standard text) bytes h)
 pub bytes_again : (text bytes : List ℕ) → IsBytes bytes → text ≡ encode_of standard bytes → base64_bytes text ≡ bytes
 bytes_again text bytes fits is_text = bytes_are text bytes (decodes text bytes fits is_text)
 
-length_of : (bytes : List ℕ) → length (encode_of standard bytes) ≡ unpadded_len (length bytes) + padding_len (length bytes)
+pub length_of : (bytes : List ℕ) → length (encode_of standard bytes) ≡ unpadded_len (length bytes) + padding_len (length bytes)
 length_of bytes =
     omega (
       arith,

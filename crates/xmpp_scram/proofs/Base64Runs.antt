@@ -1,12 +1,13 @@
 -- The base64 texts that are read are those of bytes.
 use Rattle.std.proofs.Common.{◌≡◌, ℕ, zero, suc, ◌+◌, ◌-◌, ◌*◌, ◌/◌, ◌%◌, ◌==◌, ◌<◌, ◌≤◌, ◌⊎◌, Bool, true, false, cond, ◌&&◌, List, [], ◌∷◌, ◌++◌, slice_index, Option, Some, None, refl, sym, ap, ◌∙◌, arith, inl, inr, eq-eqb, ne_eqb}
 use Rattle.std.proofs.lemmas.Bool.{and_parts, eqb-true, cases_lt}
+use Rattle.std.specs.List.{list_all}
 use Rattle.std.specs.Option.{option_map}
 use Rattle.base64.specs.Engines.{standard}
 use Rattle.base64.specs.GeneralPurpose.{IsBytes, encode_of}
 use Rattle.base64.specs.Rfc4648.{encode_symbols}
 use Rattle.base64.proofs.EngineFacts.{encode_of-append, encode_of-nil}
-use Rattle.xmpp_scram.specs.Classes.{is_within, sextet}
+use Rattle.xmpp_scram.specs.Classes.{is_printable, is_within, sextet}
 use Rattle.xmpp_scram.specs.States.{group_goes_on, group_may_end}
 use Rattle.xmpp_scram.specs.Values.{IsBase64}
 use Rattle.xmpp_scram.specs.declared.base64_text.Group.{Group}
@@ -333,3 +334,34 @@ whole_encoded (a ∷ b ∷ c ∷ d ∷ text) t h e =
         | inr fd ↦ whole_group a b c d fa.0 fb.0 fc.0 fd.0 text fa.1 fb.1 fc.1 fd.1 (whole_encoded text t fd.2 e)
       ]
     ]
+
+-- ---- each byte of a base64 text may stand in a nonce
+
+symbol-printable : (v : ℕ) → v < 64 → is_printable (symbol v) ≡ true
+symbol-printable v lt = below 64 (λ k. is_printable (symbol k)) refl v lt
+
+pub encoded_printable : (bytes : List ℕ) → IsBytes bytes → list_all is_printable (encode_of standard bytes) ≡ true
+encoded_printable [] fits = rw (encode_of-nil standard) refl
+encoded_printable (a ∷ []) fits =
+    let la : a < 256 = fits 0 in
+    rw (one_text a, symbol-printable (a / 4) (omega arith), symbol-printable (a % 4 * 16) (omega arith)) refl
+encoded_printable (a ∷ b ∷ []) fits =
+    let la : a < 256 = fits 0 in
+    let lb : b < 256 = fits 1 in
+    rw (
+      two_text a b,
+      symbol-printable (a / 4) (omega arith),
+      symbol-printable (a % 4 * 16 + b / 16) (omega arith),
+      symbol-printable (b % 16 * 4) (omega arith),
+    ) refl
+encoded_printable (a ∷ b ∷ c ∷ bytes) fits =
+    let la : a < 256 = fits 0 in
+    let lb : b < 256 = fits 1 in
+    let lc : c < 256 = fits 2 in
+    rw (
+      more_text a b c bytes,
+      symbol-printable (a / 4) (omega arith),
+      symbol-printable (a % 4 * 16 + b / 16) (omega arith),
+      symbol-printable (b % 16 * 4 + c / 64) (omega arith),
+      symbol-printable (c % 64) (omega arith),
+    ) (encoded_printable bytes (λ i. fits (suc (suc (suc i)))))

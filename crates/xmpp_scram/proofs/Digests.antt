@@ -7,8 +7,8 @@ use Rattle.std.proofs.lemmas.Nat.{xor_of_8}
 use Rattle.base64.specs.GeneralPurpose.{IsBytes}
 use Rattle.sha2.specs.Sha256.{digest_bytes, sha256}
 use Rattle.sha2.proofs.Facts256.{length-sha256}
-use Rattle.xmpp_scram.proofs.SameBytes.{xor_twice}
-use Rattle.xmpp_scram.specs.Hashes.{hmac_of, xor_bytes}
+use Rattle.xmpp_hashes.proofs.SameBytes.{xor_twice}
+use Rattle.xmpp_hashes.specs.Hashes.{hmac_of, xor_bytes}
 
 -- ---- bytes
 

@@ -4,7 +4,7 @@ use Rattle.std.proofs.lemmas.Bool.{and_parts, eqb-true}
 use Rattle.std.proofs.lemmas.List.{append-nil}
 use Rattle.std.specs.List.{AllByRecursion, flat_map}
 use Rattle.std.specs.Option.{option_map}
-use Rattle.xmpp_scram.specs.Classes.{is_letter, is_plain, is_within}
+use Rattle.xmpp_scram.specs.Classes.{is_letter, is_value_ascii, is_within}
 use Rattle.xmpp_scram.specs.Grammar.{AreExtensions, IsExtension, IsValue, names_extension}
 use Rattle.xmpp_scram.specs.Parts.{run}
 use Rattle.xmpp_scram.specs.States.{character_step, extension_starts, extensions_go_on, extensions_may_end, in_value, tails_step, where_so}
@@ -19,24 +19,24 @@ use Rattle.xmpp_scram.proofs.Runs.{Stops, behind, behind_first, behind_more, beh
 use Rattle.xmpp_scram.proofs.Sequences.{IsPart, stopped_part}
 use Rattle.xmpp_scram.proofs.PassedTests.{chosen, if_some, map_some, within}
 
-plain_low : (b : ℕ) → is_plain b ≡ true → b < 128
+plain_low : (b : ℕ) → is_value_ascii b ≡ true → b < 128
 plain_low b h = let w = within 1 127 b (and_parts (is_within 1 127 b) (not (b == 44)) h).0 in omega arith
 
 -- the characters of a value, one after the other
 abbrev valued : Option Tails → List ℕ → Option (Option Tails)
-valued = behind (char_on is_plain) char_end
+valued = behind (char_on is_value_ascii) char_end
 
-valued_step : (q r : Option Tails) (b : ℕ) (bytes : List ℕ) → char_on is_plain q b ≡ Some r → valued q (b ∷ bytes) ≡ valued r bytes
-valued_step q r b bytes h = behind_step (char_on is_plain) char_end q r b bytes h
+valued_step : (q r : Option Tails) (b : ℕ) (bytes : List ℕ) → char_on is_value_ascii q b ≡ Some r → valued q (b ∷ bytes) ≡ valued r bytes
+valued_step q r b bytes h = behind_step (char_on is_value_ascii) char_end q r b bytes h
 
 abbrev goes : Extensions → List ℕ → Option Extensions
 goes = behind extensions_go_on extensions_may_end
 
 value_found : (text : List ℕ) → 0 < length text → valued None text ≡ Some None → IsValue text
-value_found text lt h = record { some = lt; utf8 = utf8_found is_plain plain_low None text h; bytes = allowed_found is_plain None text h }
+value_found text lt h = record { some = lt; utf8 = utf8_found is_value_ascii plain_low None text h; bytes = allowed_found is_value_ascii None text h }
 
 value_run : (text : List ℕ) → IsValue text → valued None text ≡ Some None
-value_run text is = utf8_only is_plain plain_low text is.utf8 is.bytes
+value_run text is = utf8_only is_value_ascii plain_low text is.utf8 is.bytes
 
 -- what extensions are followed by, and that
 abbrev pub Goal : Until → List ℕ → Type 0
@@ -84,10 +84,10 @@ placed_rest : (until : Until) (q : Option Tails) (text : List ℕ) → Rest (in_
 placed_rest until None text h = h
 placed_rest until (Some tails) text h = h
 
-with_byte : (until : Until) (q r : Option Tails) (b : ℕ) (text : List ℕ) → char_on is_plain q b ≡ Some r → Valued until r text → Valued until q (b ∷ text)
+with_byte : (until : Until) (q r : Option Tails) (b : ℕ) (text : List ℕ) → char_on is_value_ascii q b ≡ Some r → Valued until r text → Valued until q (b ∷ text)
 with_byte until q r b text on rest = (b ∷ rest.0, rest.1, ap (λ (x : List ℕ). b ∷ x) rest.2, valued_step q r b rest.0 on ∙ rest.3, rest.4)
 
-first_whole : (until : Until) (r : Option Tails) (b : ℕ) (text : List ℕ) → char_on is_plain None b ≡ Some r → Valued until r text → Whole until (b ∷ text)
+first_whole : (until : Until) (r : Option Tails) (b : ℕ) (text : List ℕ) → char_on is_value_ascii None b ≡ Some r → Valued until r text → Whole until (b ∷ text)
 first_whole until r b text on rest =
     (b ∷ rest.0, rest.1, ap (λ (x : List ℕ). b ∷ x) rest.2, value_found (b ∷ rest.0) (omega arith) (valued_step None r b rest.0 on ∙ rest.3), rest.4)
 
@@ -177,7 +177,7 @@ values_found part t h e = extensions_rest t e (First End) part h
 no_comma : (b : ℕ) (q : Option Tails) → character_step b ≡ Some q → b ≡ 44 → ⊥
 no_comma b q h e = let bad = rw e at h in cc bad
 
-value_on : (until : Until) (q r : Option Tails) (b : ℕ) → char_on is_plain q b ≡ Some r → extensions_go_on (in_value until q) b ≡ Some (in_value until r)
+value_on : (until : Until) (q r : Option Tails) (b : ℕ) → char_on is_value_ascii q b ≡ Some r → extensions_go_on (in_value until q) b ≡ Some (in_value until r)
 value_on until None r b h =
     let step : character_step b ≡ Some r = h in
     rw (step, ne_eqb b 44 (no_comma b r step)) refl
@@ -189,14 +189,14 @@ value_goes : (until : Until) (q : Option Tails) (value rest : List ℕ) → valu
 value_goes until None [] rest h = refl
 value_goes until (Some tails) [] rest h = cc h
 value_goes until q (b ∷ value) rest h =
-    let first = behind_first (char_on is_plain) char_end q None b value h in
+    let first = behind_first (char_on is_value_ascii) char_end q None b value h in
     behind_step extensions_go_on extensions_may_end (in_value until q) (in_value until first.0) b (value ++ rest) (value_on until q first.0 b first.1)
     ∙ value_goes until first.0 value rest first.2
 
 first_goes : (until : Until) (value rest : List ℕ) → 0 < length value → valued None value ≡ Some None → goes (First until) (value ++ rest) ≡ goes (Value until) rest
 first_goes until [] rest lt h = absurd (omega arith)
 first_goes until (b ∷ value) rest lt h =
-    let first = behind_first (char_on is_plain) char_end None None b value h in
+    let first = behind_first (char_on is_value_ascii) char_end None None b value h in
     let step : character_step b ≡ Some first.0 = first.1 in
     let on : extensions_go_on (First until) b ≡ Some (in_value until first.0) = rw step refl in
     behind_step extensions_go_on extensions_may_end (First until) (in_value until first.0) b (value ++ rest) on ∙ value_goes until first.0 value rest first.2

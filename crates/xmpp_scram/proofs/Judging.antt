@@ -6,7 +6,7 @@ use Rattle.std.specs.Str.{bytes_eq}
 use Rattle.std.proofs.lemmas.Bool.Decides.{Decides-and, Decides-eqb, nat_tests}
 use Rattle.std.proofs.lemmas.Slice.Eq.{bytes_eq-Decides, starts_is}
 use Rattle.xmpp_scram.specs.Exchange.{ClientView, ServerView, client_auth, client_final_without_proof, is_count_taken, is_proof, is_verifier, replied, reply_to, sent, server_auth, server_final_message, then_judge, verifier_for}
-use Rattle.xmpp_scram.specs.Hashes.{client_signature, salted_password, stored_key, verifier_of, xor_bytes}
+use Rattle.xmpp_hashes.specs.Hashes.{client_signature, salted_password, stored_key, verifier_of, xor_bytes}
 use Rattle.xmpp_scram.specs.Judgements.{Continues, IsCheck, IsCountTaken, IsLastAnswer, IsReply, IsRightProof, JudgementsAreExact}
 use Rattle.xmpp_scram.specs.Messages as reading
 use Rattle.xmpp_scram.specs.Messages.{ClientFinalView, ServerFirstView}

@@ -4,11 +4,11 @@ pub mod Characters
 pub mod Choices
 pub mod Counts
 pub mod Digests
+pub mod DrawnNonces
 pub mod Escapes
 pub mod ExtensionRuns
 pub mod FirstMessages
 pub mod Headers
-pub mod Iterating
 pub mod Judging
 pub mod Languages
 pub mod LeavingPlaces
@@ -20,11 +20,8 @@ pub mod ReadBack
 pub mod ReadTexts
 pub mod ReadWritten
 pub mod Runs
-pub mod SameBytes
+pub mod SentMessages
 pub mod Sequences
 pub mod Spelled
 pub mod Utf8
-pub mod Worked
-pub mod WorkedExchange
 pub mod WrittenMessages
-pub mod Xors

@@ -4,7 +4,7 @@ use Rattle.std.specs.Option.{option_and_then, option_map}
 use Rattle.base64.specs.Engines.{standard}
 use Rattle.base64.specs.GeneralPurpose.{encode_of}
 use Rattle.xmpp_scram.specs.Grammar.{InClientFinal, InClientFirst, InServerFinal, InServerFirst, IsClientFinal, IsClientFirst, IsServerFinal, IsServerFirst}
-use Rattle.xmpp_scram.specs.Messages.{ClientFinalParts, ClientFinalView, FirstParts, ServerFirstParts, ServerFirstView, before_proof, client_final_of, client_final_parts, client_first_of, first_of, first_parts, judged_client_final, judged_first, judged_server_final, judged_server_first, server_final_of, server_final_parts, server_first_of, server_first_parts, verifier_of}
+use Rattle.xmpp_scram.specs.Messages.{ClientFinalParts, ClientFinalView, FirstParts, ServerFirstParts, ServerFirstView, before_proof, client_final_of, client_final_parts, client_first_of, first_of, first_parts, judged_client_final, judged_first, judged_server_final, judged_server_first, server_final_of, server_final_parts, server_first_of, server_first_parts, verifier_read}
 use Rattle.xmpp_scram.specs.Places.{LeavesAt, malformed}
 use Rattle.xmpp_scram.specs.Values.{base64_bytes, hash_of, most_told, name_of, value_of}
 use Rattle.xmpp_scram.specs.declared.binding_flag.BindingFlag.{BindingFlag}
@@ -259,13 +259,13 @@ module _ (flag : BindingFlag) where
 
 -- ---- the server's final message
 
-told_ok : (bytes : List ℕ) (r : Result (Option (List ℕ)) (List ℕ)) (v : Option (List ℕ)) → r ≡ Ok v → judged_server_final bytes r ≡ Ok (verifier_of v)
+told_ok : (bytes : List ℕ) (r : Result (Option (List ℕ)) (List ℕ)) (v : Option (List ℕ)) → r ≡ Ok v → judged_server_final bytes r ≡ Ok (verifier_read v)
 told_ok bytes r v h = rw h refl
 
 told_err : (bytes : List ℕ) (r : Result (Option (List ℕ)) (List ℕ)) (rest : List ℕ) → r ≡ Err rest → judged_server_final bytes r ≡ Err (malformed bytes rest)
 told_err bytes r rest h = rw h refl
 
-says_hash : (text verifier : Option (List ℕ)) → Says text verifier → verifier_of text ≡ option_and_then hash_of verifier
+says_hash : (text verifier : Option (List ℕ)) → Says text verifier → verifier_read text ≡ option_and_then hash_of verifier
 says_hash None None says = refl
 says_hash (Some text) (Some verifier) says = ap hash_of (bytes_again text verifier says.0 says.1)
 says_hash None (Some verifier) says = absurd says
@@ -276,14 +276,14 @@ pub server_final_found : (bytes : List ℕ) (v : Option (List ℕ)) → server_f
 server_final_found bytes v h =
     elim (result_cases (server_final_parts bytes)) [
       | inl ok ↦
-          let same : Ok (verifier_of ok.0) ≡ Ok v = sym (told_ok bytes (server_final_parts bytes) ok.0 ok.1) ∙ h in
-          let is_v : verifier_of ok.0 ≡ v = cc in
+          let same : Ok (verifier_read ok.0) ≡ Ok v = sym (told_ok bytes (server_final_parts bytes) ok.0 ok.1) ∙ h in
+          let is_v : verifier_read ok.0 ≡ v = cc in
           let is = server_final_to ok.0 bytes (server_final_reads.found bytes ok.0 ok.1) in
           (is.0, is.2, sym is_v ∙ says_hash ok.0 is.0 is.1)
       | inr err ↦ cc (sym (told_err bytes (server_final_parts bytes) err.0 err.1) ∙ h)
     ]
 
-encoded_hash : (verifier : Option (List ℕ)) (bytes : List ℕ) → IsServerFinal verifier bytes → verifier_of (option_map (encode_of standard) verifier) ≡ option_and_then hash_of verifier
+encoded_hash : (verifier : Option (List ℕ)) (bytes : List ℕ) → IsServerFinal verifier bytes → verifier_read (option_map (encode_of standard) verifier) ≡ option_and_then hash_of verifier
 encoded_hash None bytes is = refl
 encoded_hash (Some verifier) bytes is = ap hash_of (bytes_again (encode_of standard verifier) verifier is.verified refl)
 

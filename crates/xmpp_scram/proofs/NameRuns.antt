@@ -4,8 +4,8 @@ use Rattle.std.proofs.lemmas.Bool.{and_parts, cases_eq, eqb-true}
 use Rattle.std.specs.List.{flat_map}
 use Rattle.std.specs.Option.{option_map}
 use Rattle.std.specs.Str.{IsUtf8}
-use Rattle.xmpp_scram.specs.Classes.{is_plain, is_within}
-use Rattle.xmpp_scram.specs.Grammar.{IsName, escaped}
+use Rattle.xmpp_scram.specs.Classes.{is_value_ascii, is_within}
+use Rattle.xmpp_scram.specs.Grammar.{IsName, escaped_byte}
 use Rattle.xmpp_scram.specs.Parts.{run}
 use Rattle.xmpp_scram.specs.States.{character_step, name_goes_on, name_may_end, name_starts, placed, tails_of, tails_step, where_so}
 use Rattle.xmpp_scram.specs.Values.{name_of}
@@ -40,7 +40,7 @@ goes = behind name_goes_on name_may_end
 
 -- bytes that spell the rest of a name
 abbrev Spelt : Option Tails → List ℕ → Type 0
-Spelt q text = (name : List ℕ) × (named q name ≡ Some None) × (text ≡ flat_map escaped name)
+Spelt q text = (name : List ℕ) × (named q name ≡ Some None) × (text ≡ flat_map escaped_byte name)
 
 abbrev Rest : Name → List ℕ → Type 0
 Rest Start text = Spelt None text
@@ -50,13 +50,13 @@ Rest Escape text = (more : List ℕ) × ((text ≡ 50 ∷ 67 ∷ more) ⊎ (text
 Rest EscapedComma text = (more : List ℕ) × (text ≡ 67 ∷ more) × Spelt None more
 Rest EscapedEquals text = (more : List ℕ) × (text ≡ 68 ∷ more) × Spelt None more
 
-itself : (b : ℕ) → (b ≡ 44 → ⊥) → (b ≡ 61 → ⊥) → escaped b ≡ b ∷ []
+itself : (b : ℕ) → (b ≡ 44 → ⊥) → (b ≡ 61 → ⊥) → escaped_byte b ≡ b ∷ []
 itself b n m = rw (ne_eqb b 44 n, ne_eqb b 61 m) refl
 
 -- a character of a value is one of a name
 plain_named : (b : ℕ) (q : Option Tails) → character_step b ≡ Some q → char_on ascii None b ≡ Some q
 plain_named b q h =
-    elim (chosen (is_plain b) (Some None) (option_map (λ tails. Some tails) (tails_of b)) (Some q) h) [
+    elim (chosen (is_value_ascii b) (Some None) (option_map (λ tails. Some tails) (tails_of b)) (Some q) h) [
       | inl p ↦
           let one = (and_parts (is_within 1 127 b) (not (b == 44)) p.0).0 in
           rw one p.1
@@ -69,8 +69,8 @@ plain_named b q h =
 no_comma : (b : ℕ) (q : Option Tails) → character_step b ≡ Some q → b ≡ 44 → ⊥
 no_comma b q h e = let bad = rw e at h in cc bad
 
-with_byte : (q r : Option Tails) (b : ℕ) (text : List ℕ) → char_on ascii q b ≡ Some r → escaped b ≡ b ∷ [] → Spelt r text → Spelt q (b ∷ text)
-with_byte q r b text on alone rest = (b ∷ rest.0, named_step q r b rest.0 on ∙ rest.1, ap (λ (x : List ℕ). b ∷ x) rest.2 ∙ ap (λ (x : List ℕ). x ++ flat_map escaped rest.0) (sym alone))
+with_byte : (q r : Option Tails) (b : ℕ) (text : List ℕ) → char_on ascii q b ≡ Some r → escaped_byte b ≡ b ∷ [] → Spelt r text → Spelt q (b ∷ text)
+with_byte q r b text on alone rest = (b ∷ rest.0, named_step q r b rest.0 on ∙ rest.1, ap (λ (x : List ℕ). b ∷ x) rest.2 ∙ ap (λ (x : List ℕ). x ++ flat_map escaped_byte rest.0) (sym alone))
 
 placed_rest : (q : Option Tails) (text : List ℕ) → Rest (in_name q) text → Spelt q text
 placed_rest None text h = h
@@ -147,7 +147,7 @@ is_between Escape h = cc h
 is_between EscapedComma h = cc h
 is_between EscapedEquals h = cc h
 
-some_name : (name text : List ℕ) → text ≡ flat_map escaped name → 0 < length text → 0 < length name
+some_name : (name text : List ℕ) → text ≡ flat_map escaped_byte name → 0 < length text → 0 < length name
 some_name [] text e lt = absurd (let none = ap length e in omega arith)
 some_name (b ∷ name) text e lt = omega arith
 
@@ -181,7 +181,7 @@ name_on (Some tails) r b h n m = rw h refl
 never_inside : (tails : Tails) (b : ℕ) (r : Option Tails) → b < 128 → tails_step tails b ≡ Some r → ⊥
 never_inside tails b r lt h = let high = tails_high tails b r h in absurd (omega arith)
 
-escape_on : (q r : Option Tails) (c : ℕ) (text : List ℕ) → (c ≡ 44) ⊎ (c ≡ 61) → char_on ascii q c ≡ Some r → goes (in_name q) (escaped c ++ text) ≡ goes (in_name r) text
+escape_on : (q r : Option Tails) (c : ℕ) (text : List ℕ) → (c ≡ 44) ⊎ (c ≡ 61) → char_on ascii q c ≡ Some r → goes (in_name q) (escaped_byte c ++ text) ≡ goes (in_name r) text
 escape_on None r c text (inl e) h =
     let is : char_on ascii None 44 ≡ Some r = rw e at h in
     let none : r ≡ None = cc is in
@@ -193,7 +193,7 @@ escape_on None r c text (inr e) h =
 escape_on (Some tails) r c text (inl e) h = absurd (never_inside tails c r (omega arith) h)
 escape_on (Some tails) r c text (inr e) h = absurd (never_inside tails c r (omega arith) h)
 
-byte_on : (q r : Option Tails) (b : ℕ) (text : List ℕ) → char_on ascii q b ≡ Some r → goes (in_name q) (escaped b ++ text) ≡ goes (in_name r) text
+byte_on : (q r : Option Tails) (b : ℕ) (text : List ℕ) → char_on ascii q b ≡ Some r → goes (in_name q) (escaped_byte b ++ text) ≡ goes (in_name r) text
 byte_on q r b text h =
     elim (cases_eq b 44) [
       | inl e ↦ escape_on q r b text (inl e) h
@@ -205,18 +205,18 @@ byte_on q r b text h =
       ]
     ]
 
-name_goes : (q : Option Tails) (name : List ℕ) → named q name ≡ Some None → goes (in_name q) (flat_map escaped name) ≡ Some Between
+name_goes : (q : Option Tails) (name : List ℕ) → named q name ≡ Some None → goes (in_name q) (flat_map escaped_byte name) ≡ Some Between
 name_goes None [] h = refl
 name_goes (Some tails) [] h = cc h
 name_goes q (b ∷ name) h =
     let first = behind_first (char_on ascii) char_end q None b name h in
-    byte_on q first.0 b (flat_map escaped name) first.1 ∙ name_goes first.0 name first.2
+    byte_on q first.0 b (flat_map escaped_byte name) first.1 ∙ name_goes first.0 name first.2
 
 from_start : (text : List ℕ) → 0 < length text → goes Start text ≡ goes Between text
 from_start [] lt = absurd (omega arith)
 from_start (b ∷ text) lt = refl
 
-some_text : (name : List ℕ) → 0 < length name → 0 < length (flat_map escaped name)
+some_text : (name : List ℕ) → 0 < length name → 0 < length (flat_map escaped_byte name)
 some_text [] lt = absurd (omega arith)
 some_text (b ∷ name) lt =
     elim (cases_eq b 44) [
@@ -229,7 +229,7 @@ name_only text is =
     let name = is.0 in
     let spelt = is.1.spelled in
     let read = utf8_only ascii ascii_low name is.1.utf8 is.1.bytes in
-    rw spelt (Between, from_start (flat_map escaped name) (some_text name is.1.some) ∙ name_goes None name read, refl)
+    rw spelt (Between, from_start (flat_map escaped_byte name) (some_text name is.1.some) ∙ name_goes None name read, refl)
 
 tails_end : (tails : Tails) → (more : List ℕ) × (goes (Inside tails) more ≡ Some Between)
 tails_end One = (128 ∷ [], refl)
@@ -257,19 +257,19 @@ name_part = run_part name_goes_on name_may_end Start (λ part. (name : List ℕ)
 
 -- ---- what a spelled name stands for
 
-unescaped_byte : (b : ℕ) (text : List ℕ) → name_of (escaped b ++ text) ≡ b ∷ name_of text
+unescaped_byte : (b : ℕ) (text : List ℕ) → name_of (escaped_byte b ++ text) ≡ b ∷ name_of text
 unescaped_byte b text =
     elim (cases_eq b 44) [
       | inl e ↦ rw e refl
       | inr n ↦ elim (cases_eq b 61) [ inl e ↦ rw e refl | inr m ↦ rw (itself b n m, ne_eqb b 61 m) refl ]
     ]
 
-pub name_again : (name : List ℕ) → name_of (flat_map escaped name) ≡ name
+pub name_again : (name : List ℕ) → name_of (flat_map escaped_byte name) ≡ name
 name_again [] = refl
-name_again (b ∷ name) = unescaped_byte b (flat_map escaped name) ∙ ap (λ (x : List ℕ). b ∷ x) (name_again name)
+name_again (b ∷ name) = unescaped_byte b (flat_map escaped_byte name) ∙ ap (λ (x : List ℕ). b ∷ x) (name_again name)
 
 -- a spelled name is text
-escaped_text : (q r : Option Tails) (b : ℕ) (text : List ℕ) → char_on ascii q b ≡ Some r → named q (escaped b ++ text) ≡ named r text
+escaped_text : (q r : Option Tails) (b : ℕ) (text : List ℕ) → char_on ascii q b ≡ Some r → named q (escaped_byte b ++ text) ≡ named r text
 escaped_text None r b text h =
     elim (cases_eq b 44) [
       | inl e ↦
@@ -288,16 +288,16 @@ escaped_text (Some tails) r b text h =
     let high = tails_high tails b r h in
     ap (λ (x : List ℕ). named (Some tails) (x ++ text)) (itself b (λ e. absurd (omega arith)) (λ e. absurd (omega arith))) ∙ named_step (Some tails) r b text h
 
-spelled_text : (q : Option Tails) (name : List ℕ) → named q name ≡ Some None → named q (flat_map escaped name) ≡ Some None
+spelled_text : (q : Option Tails) (name : List ℕ) → named q name ≡ Some None → named q (flat_map escaped_byte name) ≡ Some None
 spelled_text q [] h = h
 spelled_text q (b ∷ name) h =
     let first = behind_first (char_on ascii) char_end q None b name h in
-    escaped_text q first.0 b (flat_map escaped name) first.1 ∙ spelled_text first.0 name first.2
+    escaped_text q first.0 b (flat_map escaped_byte name) first.1 ∙ spelled_text first.0 name first.2
 
 pub name_text : (name text : List ℕ) → IsName name text → IsUtf8 text
 name_text name text is =
-    let spelled : text ≡ flat_map escaped name = is.spelled in
-    rw spelled (utf8_found ascii ascii_low None (flat_map escaped name) (spelled_text None name (utf8_only ascii ascii_low name is.utf8 is.bytes)))
+    let spelled : text ≡ flat_map escaped_byte name = is.spelled in
+    rw spelled (utf8_found ascii ascii_low None (flat_map escaped_byte name) (spelled_text None name (utf8_only ascii ascii_low name is.utf8 is.bytes)))
 
 pub name_is : (name text : List ℕ) → IsName name text → name_of text ≡ name
 name_is name text is = ap name_of is.spelled ∙ name_again name

@@ -10,7 +10,7 @@ use Rattle.base64.specs.GeneralPurpose.{IsBytes, encode_of}
 use Rattle.base64.specs.Rfc4648.{encode_symbols}
 use Rattle.base64.proofs.EngineFacts.{encode_of-nil}
 use Rattle.xmpp_scram.specs.Grammar.{IsClientFinal, IsServerFinal, IsServerFirst, IsValue, gs2_header, is_count}
-use Rattle.xmpp_scram.specs.Messages.{ClientFinalParts, ServerFirstParts, base64, before_proof, client_final_parts, count, error_part, extensions, header, nonce, server_final_parts, server_first_parts, up_to_proof, value_and_extensions, verifier_part}
+use Rattle.xmpp_scram.specs.Messages.{ClientFinalParts, ServerFirstParts, base64, before_proof, client_final_parts, count, error_part, extensions, gs2_base64, nonce, server_final_parts, server_first_parts, up_to_proof, value_and_extensions, verifier_part}
 use Rattle.xmpp_scram.specs.Parts.{◌>>=◌, ends_here, literal}
 use Rattle.xmpp_scram.specs.Values.{IsBase64, value_of}
 use Rattle.xmpp_scram.specs.declared.binding_flag.BindingFlag.{BindingFlag}
@@ -213,13 +213,13 @@ some_final : (v : ClientFinalParts) × (rest : List ℕ) × FinalRest v rest
 some_final = let s = some_up_to (97 ∷ []) in (s.0, 97 ∷ s.1, (97 ∷ [], 97 ∷ [], s.1, refl, (refl, refl), s.2))
 
 abbrev pub Bound : BindingFlag → ClientFinalParts → List ℕ → Type 0
-Bound flag = After (header flag) (After (codes ",r=") FinalRest)
+Bound flag = After (gs2_base64 flag) (After (codes ",r=") FinalRest)
 
 some_random : (v : ClientFinalParts) × (rest : List ℕ) × After (codes ",r=") FinalRest v rest
 some_random = let s = some_final in (s.0, codes ",r=" ++ s.1, (s.1, refl, s.2))
 
 some_bound : (flag : BindingFlag) → (v : ClientFinalParts) × (rest : List ℕ) × Bound flag v rest
-some_bound flag = let s = some_random in (s.0, header flag ++ s.1, (s.1, refl, s.2))
+some_bound flag = let s = some_random in (s.0, gs2_base64 flag ++ s.1, (s.1, refl, s.2))
 
 abbrev final_rest : List ℕ → Result ClientFinalParts (List ℕ)
 final_rest bytes = nonce bytes >>= λ n. up_to_proof n.1 >>= λ x. base64 x.1 >>= λ p. ends_here p.1 >>= λ end. Ok (proved n.0 p.0)
@@ -227,12 +227,12 @@ final_rest bytes = nonce bytes >>= λ n. up_to_proof n.1 >>= λ x. base64 x.1 >>
 pub client_final_reads : (flag : BindingFlag) → Reads (client_final_parts flag) (After (codes "c=") (Bound flag))
 unfolding client_final_parts
 client_final_reads flag =
-    after_word (codes "c=") (λ bytes. literal (header flag) bytes >>= λ bound. literal (codes ",r=") bound >>= final_rest) (Bound flag)
-    (after_word (header flag) (λ bytes. literal (codes ",r=") bytes >>= final_rest) (After (codes ",r=") FinalRest) (after_word (codes ",r=") final_rest FinalRest final_rest_reads some_final) some_random)
+    after_word (codes "c=") (λ bytes. literal (gs2_base64 flag) bytes >>= λ bound. literal (codes ",r=") bound >>= final_rest) (Bound flag)
+    (after_word (gs2_base64 flag) (λ bytes. literal (codes ",r=") bytes >>= final_rest) (After (codes ",r=") FinalRest) (after_word (codes ",r=") final_rest FinalRest final_rest_reads some_final) some_random)
     (some_bound flag)
 
 -- the base64 of a GS2 header
-pub header_is : (flag : BindingFlag) → header flag ≡ encode_of standard (gs2_header flag)
+pub header_is : (flag : BindingFlag) → gs2_base64 flag ≡ encode_of standard (gs2_header flag)
 unfolding encode_symbols
 header_is Unsupported = refl
 header_is NotOffered = refl
@@ -267,8 +267,8 @@ final_to flag parts bytes w =
     let goal = u.4.1 in
     let base = b.4.1 in
     let is : parts ≡ proved n.0 b.0 = b.5.0 in
-    let front : List ℕ = codes "c=" ++ header flag ++ codes ",r=" ++ n.1 ++ goal.0 in
-    let spelled : bytes ≡ front ++ codes ",p=" ++ b.1 = front_of bytes (codes "c=") (header flag) (codes ",r=") n.1 goal.0 w.0 h.0 r.0 n.2 u.1 b.1 u.2 b.2 w.1 h.1 r.1 n.3 u.3 goal.2 b.3 b.5.1 in
+    let front : List ℕ = codes "c=" ++ gs2_base64 flag ++ codes ",r=" ++ n.1 ++ goal.0 in
+    let spelled : bytes ≡ front ++ codes ",p=" ++ b.1 = front_of bytes (codes "c=") (gs2_base64 flag) (codes ",r=") n.1 goal.0 w.0 h.0 r.0 n.2 u.1 b.1 u.2 b.2 w.1 h.1 r.1 n.3 u.3 goal.2 b.3 b.5.1 in
     let cut : before_proof bytes b.1 ≡ front = before_is front b.1 bytes spelled in
     rw is (record {
       proof = base.0;
@@ -285,9 +285,9 @@ final_to flag parts bytes w =
     })
   where
     front_as : (flag : BindingFlag) (n m extensions : List ℕ) → n ≡ m
-        → codes "c=" ++ header flag ++ codes ",r=" ++ n ++ extensions ≡ codes "c=" ++ encode_of standard (gs2_header flag) ++ codes ",r=" ++ m ++ extensions
+        → codes "c=" ++ gs2_base64 flag ++ codes ",r=" ++ n ++ extensions ≡ codes "c=" ++ encode_of standard (gs2_header flag) ++ codes ",r=" ++ m ++ extensions
     front_as flag n m extensions e =
-        ap (λ (x : List ℕ). codes "c=" ++ header flag ++ codes ",r=" ++ x ++ extensions) e ∙ ap (λ (x : List ℕ). codes "c=" ++ x ++ codes ",r=" ++ m ++ extensions) (header_is flag)
+        ap (λ (x : List ℕ). codes "c=" ++ gs2_base64 flag ++ codes ",r=" ++ x ++ extensions) e ∙ ap (λ (x : List ℕ). codes "c=" ++ x ++ codes ",r=" ++ m ++ extensions) (header_is flag)
 
     both : (a b c d : List ℕ) → a ≡ b → c ≡ d → a ++ codes ",p=" ++ c ≡ b ++ codes ",p=" ++ d
     both a b c d e f = ap (λ (x : List ℕ). x ++ codes ",p=" ++ c) e ∙ ap (λ (x : List ℕ). b ++ codes ",p=" ++ x) f
@@ -298,12 +298,12 @@ final_from flag without_proof random proof bytes is =
     let text = encode_of standard proof in
     let extensions = is.extensions in
     let r4 = (extensions ++ codes ",p=") ++ text in
-    let front : without_proof ≡ codes "c=" ++ header flag ++ codes ",r=" ++ random ++ extensions =
+    let front : without_proof ≡ codes "c=" ++ gs2_base64 flag ++ codes ",r=" ++ random ++ extensions =
     is.front ∙ ap (λ (x : List ℕ). codes "c=" ++ x ++ codes ",r=" ++ random ++ extensions) (sym (header_is flag)) in
-    let whole : bytes ≡ (codes "c=" ++ header flag ++ codes ",r=" ++ random ++ extensions) ++ codes ",p=" ++ text =
+    let whole : bytes ≡ (codes "c=" ++ gs2_base64 flag ++ codes ",r=" ++ random ++ extensions) ++ codes ",p=" ++ text =
     is.spelled ∙ ap (λ (x : List ℕ). x ++ codes ",p=" ++ text) front in (
-      header flag ++ (codes ",r=" ++ (random ++ r4)),
-      whole ∙ six_apart (codes "c=") (header flag) (codes ",r=") random extensions (codes ",p=") text,
+      gs2_base64 flag ++ (codes ",r=" ++ (random ++ r4)),
+      whole ∙ six_apart (codes "c=") (gs2_base64 flag) (codes ",r=") random extensions (codes ",p=") text,
       (
         codes ",r=" ++ (random ++ r4),
         refl,

@@ -1,17 +1,19 @@
 -- That the two ends agree, from what it says of their messages that they are read back.
-use Rattle.std.proofs.Common.{◌≡◌, ◌∙◌, ℕ, ◌≤◌, Bool, true, false, cond, ◌&&◌, List, ◌++◌, length, Some, None, Ok, Err, refl, sym, ap, arith, length-append}
-use Rattle.std.specs.Prelude.{nat_eq, nat_lt}
+use Rattle.std.proofs.Common.{◌≡◌, ◌∙◌, ℕ, ◌≤◌, Bool, true, false, cond, ◌&&◌, List, [], ◌∷◌, ◌++◌, length, Some, None, Ok, Err, refl, sym, ap, arith}
+use Rattle.std.specs.Prelude.{nat_eq}
 use Rattle.std.specs.List.{list_all, starts_with}
 use Rattle.std.specs.Str.{bytes_eq}
 use Rattle.std.proofs.Math.Seq.{take-append_seam}
 use Rattle.std.proofs.lemmas.List.Folds.{list_all-append}
-use Rattle.std.proofs.lemmas.Bool.Decides.{Decides-ltb, nat_tests}
+use Rattle.std.proofs.lemmas.Bool.{and_parts}
+use Rattle.std.proofs.lemmas.Bool.Decides.{nat_tests}
 use Rattle.std.proofs.lemmas.Slice.Eq.{bytes_eq-Decides}
 use Rattle.base64.specs.GeneralPurpose.{IsBytes}
-use Rattle.xmpp_scram.specs.Agreement.{Given, GoesThrough, IsAllowed, is_nonce, server_given}
+use Rattle.xmpp_scram.specs.Agreement.{Given, GoesThrough, IsAllowed, server_given}
 use Rattle.xmpp_scram.specs.Classes.{is_printable}
 use Rattle.xmpp_scram.specs.Exchange.{ClientView, ReplyView, begun_client, check_of, client_final_message, client_final_without_proof, client_first_bare, client_first_message, expecting, is_count_taken, is_expected, is_plain, is_proof, last_of, replied, reply_of, reply_to, sent, server_final_message, server_first_message, then_judge, verifier_for}
-use Rattle.xmpp_scram.specs.Hashes.{auth_message, client_key, client_signature, proof_of, salted_password, server_key, stored_key, verifier_of}
+use Rattle.xmpp_scram.specs.Grammar.{is_nonce}
+use Rattle.xmpp_hashes.specs.Hashes.{auth_message, client_key, client_signature, proof_of, salted_password, server_key, stored_key, verifier_of}
 use Rattle.xmpp_scram.specs.Messages as reading
 use Rattle.xmpp_scram.specs.Messages.{ClientFinalView, ServerFirstView}
 use Rattle.xmpp_scram.specs.declared.fault.ScramFault.TheVariants.{BadName, BadNonce, BadProof, BadVerifier, Iterations}
@@ -43,19 +45,6 @@ starts_with-front xs ys = rw take-append_seam (same_bytes xs)
 count_taken : (i : ℕ) → 4096 ≤ i → i ≤ 1000000 → is_count_taken i ≡ true
 count_taken i least most = grind (arith, nat_tests)
 
-both-left : (p q : Bool) → (p && q) ≡ true → p ≡ true
-both-left true q e = refl
-both-left false q e = e
-
-both-right : (p q : Bool) → (p && q) ≡ true → q ≡ true
-both-right true q e = e
-both-right false q e = absurd (cc)
-
-not_empty-append : (xs ys : List ℕ) → nat_lt 0 (length xs) ≡ true → nat_lt 0 (length (xs ++ ys)) ≡ true
-not_empty-append xs ys e =
-    let some = (Decides-ltb 0 (length xs)).0 e in
-    (Decides-ltb 0 (length (xs ++ ys))).1 (omega (arith, length-append xs ys, some))
-
 one_pass : {A : Type 0} (x y : A) (b : Bool) → b ≡ true → cond b x y ≡ x
 one_pass x y true e = refl
 one_pass x y false e = absurd (cc)
@@ -64,11 +53,11 @@ both_pass : {A : Type 0} (x y z : A) (b d : Bool) → b ≡ true → d ≡ true 
 both_pass x y z b d p q = one_pass (cond d x y) z b p ∙ one_pass x y d q
 
 -- a nonce and a tail are a nonce
-is_nonce-append : (nonce tail : List ℕ) → is_nonce nonce ≡ true → list_all is_printable tail ≡ true → is_nonce (nonce ++ tail) ≡ true
-is_nonce-append nonce tail n t =
-    let some = not_empty-append nonce tail (both-left _ _ n) in
-    let each = both-right (nat_lt 0 (length nonce)) (list_all is_printable nonce) n in
-    rw (some, list_all-append is_printable nonce tail, each, t) refl
+pub is_nonce-append : (nonce tail : List ℕ) → is_nonce nonce ≡ true → list_all is_printable tail ≡ true → is_nonce (nonce ++ tail) ≡ true
+is_nonce-append [] tail n t = absurd (cc)
+is_nonce-append (b ∷ nonce) tail n t =
+    let parts = and_parts (is_printable b) (list_all is_printable nonce) n in
+    rw (parts.0, list_all-append is_printable nonce tail, parts.1, t) refl
 
 -- ---- what the ends hold and send
 

@@ -3,27 +3,21 @@ use Rattle.std.proofs.Common.{◌≡◌, ℕ, true, List, [], ◌∷◌, length}
 use Rattle.std.specs.Prelude.{nat_lt}
 use Rattle.std.specs.List.{list_all}
 use Rattle.std.proofs.lemmas.Bool.{and_parts}
-use Rattle.xmpp_scram.specs.Agreement.{is_nonce}
-use Rattle.xmpp_scram.specs.Classes.{is_printable}
 use Rattle.xmpp_scram.specs.Exchange.{base64_of, is_plain, is_printable_ascii}
-use Rattle.xmpp_scram.specs.Grammar.{IsNonce, are_some}
+use Rattle.xmpp_scram.specs.Grammar.{are_some}
 use Rattle.xmpp_scram.specs.declared.binding_flag.BindingFlag.TheVariants.{Unsupported}
 use Rattle.xmpp_scram.proofs.ReadBack.{AreReadBack}
 use Rattle.xmpp_scram.proofs.WrittenMessages.{written_client_final, written_client_first, written_server_final, written_server_first}
 
-is_nonce-IsNonce : (nonce : List ℕ) → is_nonce nonce ≡ true → IsNonce nonce
-is_nonce-IsNonce [] e = absurd (cc)
-is_nonce-IsNonce (b ∷ nonce) e = (and_parts (nat_lt 0 (length (b ∷ nonce))) (list_all is_printable (b ∷ nonce)) e).1
-
-is_plain-some : (name : List ℕ) → is_plain name ≡ true → are_some is_printable_ascii name ≡ true
+pub is_plain-some : (name : List ℕ) → is_plain name ≡ true → are_some is_printable_ascii name ≡ true
 is_plain-some [] e = absurd (cc)
 is_plain-some (b ∷ name) e = (and_parts (nat_lt 0 (length (b ∷ name))) (list_all is_printable_ascii (b ∷ name)) e).1
 
 pub read_back : AreReadBack
 unfolding base64_of
 read_back = record {
-  first = λ name nonce plain random. written_client_first Unsupported name nonce (is_plain-some name plain) (is_nonce-IsNonce nonce random);
-  server_first = λ nonce salt i random fits some most. written_server_first nonce salt i (is_nonce-IsNonce nonce random) fits some most;
-  client_final = λ nonce proof random fits whole. written_client_final Unsupported nonce proof (is_nonce-IsNonce nonce random) fits whole;
+  first = λ name nonce plain random. written_client_first Unsupported name nonce (is_plain-some name plain) random;
+  server_first = λ nonce salt i random fits some most. written_server_first nonce salt i random fits some most;
+  client_final = λ nonce proof random fits whole. written_client_final Unsupported nonce proof random fits whole;
   server_final = λ verifier fits whole. written_server_final verifier fits whole;
 }

@@ -1,15 +1,12 @@
 -- The two ends of an exchange under one password agree.
-use Rattle.std.specs.Prelude.{◌≡◌, ℕ, ◌≤◌, nat_lt, Bool, true, ◌&&◌, List, length, Ok}
+use Rattle.std.specs.Prelude.{◌≡◌, ℕ, ◌≤◌, true, List, Ok}
 use Rattle.std.specs.List.{list_all}
 use Rattle.base64.specs.GeneralPurpose.{IsBytes}
 use Rattle.xmpp_scram.specs.Classes.{is_printable}
 use Rattle.xmpp_scram.specs.Exchange.{ClientView, ReplyView, ServerView, begun_client, begun_server, check_of, credentials_of, expecting, is_plain, last_of, reply_of, server_final_message}
+use Rattle.xmpp_scram.specs.Grammar.{is_nonce}
 use Rattle.xmpp_scram.specs.Messages as reading
 use Rattle.xmpp_scram.specs.declared.client_first.ClientFirst.{ClientFirst}
-
--- a nonce (RFC 5802 section 7): one or more printable characters other than the comma
-abbrev pub is_nonce : List ℕ → Bool
-is_nonce nonce = nat_lt 0 (length nonce) && list_all is_printable nonce
 
 -- what a client and a server are given for an exchange
 pub record Given : Type 0 where

@@ -23,8 +23,8 @@ abbrev pub is_binding : ℕ → Bool
 is_binding b = is_letter b || is_digit b || b == 45 || b == 46
 
 -- the character of one byte that a value may have: any but 0 and the comma
-abbrev pub is_plain : ℕ → Bool
-is_plain b = is_within 1 127 b && not (b == 44)
+abbrev pub is_value_ascii : ℕ → Bool
+is_value_ascii b = is_within 1 127 b && not (b == 44)
 
 -- the number of a base64 symbol
 abbrev pub sextet : ℕ → Option ℕ

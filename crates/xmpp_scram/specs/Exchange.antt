@@ -1,16 +1,20 @@
 -- One exchange of SCRAM-SHA-256: the four messages as its two ends make them (RFC 5802 sections 3, 5 and 7, without
 -- extensions), and what each end holds.
-use Rattle.std.specs.Prelude.{◌≡◌, ℕ, Bool, false, nat_eq, drop, ◌&&◌, ◌==◌, nat_le, nat_lt, if◌then◌else◌, List, [], ◌∷◌, ◌++◌, length, codes, decimal, Option, Some, None, Result, Ok, Err, IsOk}
-use Rattle.std.specs.List.{flat_map, list_all, starts_with}
+use Rattle.std.specs.Prelude.{◌≡◌, ℕ, Bool, false, nat_eq, drop, ◌&&◌, nat_le, nat_lt, if◌then◌else◌, List, ◌++◌, length, take, codes, decimal, Option, Some, None, Result, Ok, Err, IsOk}
+use Rattle.std.specs.List.{list_all, starts_with}
 use Rattle.std.specs.Str.{bytes_eq}
+use Rattle.sha2.specs.Sha256.{sha256}
 use Rattle.base64.specs.Engines.{standard}
 use Rattle.base64.specs.GeneralPurpose.{encode_of}
 use Rattle.xmpp_scram.specs.declared.fault.ScramFault.{ScramFault}
 use Rattle.xmpp_scram.specs.declared.fault.ScramFault.TheVariants.{BadName, BadNonce, BadProof, BadVerifier, Iterations, NoMemory}
 use Rattle.xmpp_scram.specs.declared.binding_flag.BindingFlag.{BindingFlag}
 use Rattle.xmpp_scram.specs.declared.client_first.ClientFirst.{ClientFirst}
+use Rattle.xmpp_scram.specs.Grammar.{escaped, gs2_header}
 use Rattle.xmpp_scram.specs.Messages as reading
-use Rattle.xmpp_scram.specs.Hashes.{auth_message, client_key, client_signature, proof_of, salted_password, server_key, stored_key, verifier_of, xor_bytes}
+use Rattle.xmpp_scram.specs.Messages.{gs2_base64}
+use Rattle.xmpp_scram.specs.declared.binding_flag.BindingFlag.TheVariants.{Unsupported}
+use Rattle.xmpp_hashes.specs.Hashes.{auth_message, client_key, client_signature, proof_of, salted_password, server_key, stored_key, verifier_of, xor_bytes}
 
 -- printable ASCII: U+20 to U+7E
 abbrev pub is_printable_ascii : ℕ → Bool
@@ -41,12 +45,13 @@ credentials_of password salt i = record {
 unfoldable pub base64_of : List ℕ → List ℕ
 base64_of bytes = encode_of standard bytes
 
--- a name as a saslname: `,` is `=2C` and `=` is `=3D`
-abbrev pub escaped_byte : ℕ → List ℕ
-escaped_byte b = if b == 44 then codes "=2C" else (if b == 61 then codes "=3D" else b ∷ [])
+-- the nonce that an end adds, of the bytes that were drawn for it
+abbrev pub nonce_of : List ℕ → List ℕ
+nonce_of drawn = base64_of drawn
 
-abbrev pub escaped : List ℕ → List ℕ
-escaped name = flat_map escaped_byte name
+-- the salt of an account, by its bare address
+abbrev pub salt_of : List ℕ → List ℕ
+salt_of bare = take 16 (sha256 bare)
 
 -- client-first-message-bare
 abbrev pub client_first_bare : List ℕ → List ℕ → List ℕ
@@ -54,15 +59,15 @@ client_first_bare name nonce = codes "n=" ++ escaped name ++ codes ",r=" ++ nonc
 
 -- client-first-message, of a client that knows no channel binding
 abbrev pub client_first_message : List ℕ → List ℕ → List ℕ
-client_first_message name nonce = codes "n,," ++ client_first_bare name nonce
+client_first_message name nonce = gs2_header Unsupported ++ client_first_bare name nonce
 
 -- server-first-message
 abbrev pub server_first_message : List ℕ → List ℕ → ℕ → List ℕ
 server_first_message nonce salt i = codes "r=" ++ nonce ++ codes ",s=" ++ base64_of salt ++ codes ",i=" ++ decimal i
 
--- client-final-message-without-proof, where `biws` is the base64 of `n,,`
+-- client-final-message-without-proof, with the base64 of the GS2 header
 abbrev pub client_final_without_proof : List ℕ → List ℕ
-client_final_without_proof nonce = codes "c=biws,r=" ++ nonce
+client_final_without_proof nonce = codes "c=" ++ gs2_base64 Unsupported ++ codes ",r=" ++ nonce
 
 -- client-final-message
 abbrev pub with_proof : List ℕ → List ℕ → List ℕ
@@ -137,7 +142,7 @@ pub record ReplyView : Type 0 where
   pub message : List ℕ
   pub verifier : List ℕ
 
--- client-first-message-bare, behind the GS2 header `n,,`
+-- client-first-message-bare, after the GS2 header
 abbrev pub bare_of : ClientView → List ℕ
 bare_of client = drop 3 client.message
 

@@ -5,7 +5,7 @@ use Rattle.std.specs.List.{AllByRecursion, flat_map, list_all}
 use Rattle.std.specs.Str.{IsUtf8}
 use Rattle.base64.specs.Engines.{standard}
 use Rattle.base64.specs.GeneralPurpose.{IsBytes, encode_of}
-use Rattle.xmpp_scram.specs.Classes.{is_within, is_printable, is_letter, is_digit, is_count_start, is_binding, is_plain}
+use Rattle.xmpp_scram.specs.Classes.{is_within, is_printable, is_letter, is_digit, is_count_start, is_binding, is_value_ascii}
 use Rattle.xmpp_scram.specs.Values.{value_of}
 use Rattle.xmpp_scram.specs.declared.binding_flag.BindingFlag.{BindingFlag}
 use Rattle.xmpp_scram.specs.declared.binding_flag.BindingFlag.TheVariants.{Unsupported, NotOffered}
@@ -18,12 +18,15 @@ are_some is [] = false
 are_some is (b ∷ bytes) = is b && list_all is bytes
 
 -- nonce: one or more printable
+abbrev pub is_nonce : List ℕ → Bool
+is_nonce text = are_some is_printable text
+
 abbrev pub IsNonce : List ℕ → Type 0
-IsNonce text = IsTrue (are_some is_printable text)
+IsNonce text = IsTrue (is_nonce text)
 
 -- a byte of a value-char: a value-char is a character of UTF-8 (RFC 3629) but U+0000 and the comma
 abbrev pub is_value_byte : ℕ → Bool
-is_value_byte b = is_plain b || nat_le 128 b
+is_value_byte b = is_value_ascii b || nat_le 128 b
 
 -- value: one or more value-char
 pub record IsValue (text : List ℕ) : Type 0 where
@@ -36,15 +39,18 @@ abbrev pub is_name_byte : ℕ → Bool
 is_name_byte b = is_within 1 127 b || nat_le 128 b
 
 -- a comma is spelled `=2C`, an equals sign `=3D`
-abbrev pub escaped : ℕ → List ℕ
-escaped b = if b == 44 then codes "=2C" else (if b == 61 then codes "=3D" else b ∷ [])
+abbrev pub escaped_byte : ℕ → List ℕ
+escaped_byte b = if b == 44 then codes "=2C" else (if b == 61 then codes "=3D" else b ∷ [])
+
+abbrev pub escaped : List ℕ → List ℕ
+escaped name = flat_map escaped_byte name
 
 -- saslname: one or more of value-safe-char, `=2C` and `=3D`
 pub record IsName (name text : List ℕ) : Type 0 where
   pub some : 0 < length name
   pub utf8 : IsUtf8 name
   pub bytes : IsTrue (list_all is_name_byte name)
-  pub spelled : text ≡ flat_map escaped name
+  pub spelled : text ≡ escaped name
 
 -- posit-number: a digit that is no 0, and digits
 abbrev pub is_count : List ℕ → Bool

@@ -1,7 +1,7 @@
 -- When each answer of the two ends comes: the definitions of the answers, said as relations (RFC 5802 section 5).
 use Rattle.std.specs.Prelude.{◌≡◌, ◌≢◌, ◌↔◌, ℕ, ◌≤◌, List, ◌++◌, Option, Some, Result, Ok, Err, MatchResult}
 use Rattle.xmpp_scram.specs.Exchange.{ClientView, ReplyView, ServerView, check_of, client_auth, client_final_without_proof, last_of, replied, reply_of, server_auth, server_final_message}
-use Rattle.xmpp_scram.specs.Hashes.{client_signature, salted_password, stored_key, verifier_of, xor_bytes}
+use Rattle.xmpp_hashes.specs.Hashes.{client_signature, salted_password, stored_key, verifier_of, xor_bytes}
 use Rattle.xmpp_scram.specs.Messages as reading
 use Rattle.xmpp_scram.specs.Messages.{ClientFinalView, ServerFirstView}
 use Rattle.xmpp_scram.specs.declared.fault.ScramFault.{ScramFault}

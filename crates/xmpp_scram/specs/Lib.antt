@@ -2,9 +2,7 @@ pub mod Agreement
 pub mod Classes
 pub mod Exchange
 pub mod Grammar
-pub mod Hashes
 pub mod Judgements
-pub mod Keyed
 pub mod Messages
 pub mod Parts
 pub mod Places

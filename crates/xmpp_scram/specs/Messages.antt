@@ -161,14 +161,14 @@ pub record ClientFinalParts : Type 0 where
   pub proof : List ℕ
 
 -- the base64 of the GS2 headers `n,,` and `y,,`
-abbrev pub header : BindingFlag → List ℕ
-header Unsupported = codes "biws"
-header NotOffered = codes "eSws"
+abbrev pub gs2_base64 : BindingFlag → List ℕ
+gs2_base64 Unsupported = codes "biws"
+gs2_base64 NotOffered = codes "eSws"
 
 unfoldable pub client_final_parts : BindingFlag → List ℕ → Result ClientFinalParts (List ℕ)
 client_final_parts flag bytes = do
   headed ← literal (codes "c=") bytes
-  bound ← literal (header flag) headed
+  bound ← literal (gs2_base64 flag) headed
   random ← literal (codes ",r=") bound
   nonce ← nonce random
   extensions ← up_to_proof nonce.1
@@ -216,12 +216,12 @@ server_final_parts (b ∷ bytes) =
     else (if b == 101 then error_part bytes
     else Err (b ∷ bytes))
 
-abbrev pub verifier_of : Option (List ℕ) → Option (List ℕ)
-verifier_of None = None
-verifier_of (Some text) = hash_of (base64_bytes text)
+abbrev pub verifier_read : Option (List ℕ) → Option (List ℕ)
+verifier_read None = None
+verifier_read (Some text) = hash_of (base64_bytes text)
 
 abbrev pub judged_server_final : List ℕ → Result (Option (List ℕ)) (List ℕ) → Result (Option (List ℕ)) ScramFault
-judged_server_final bytes (Ok verifier) = Ok (verifier_of verifier)
+judged_server_final bytes (Ok verifier) = Ok (verifier_read verifier)
 judged_server_final bytes (Err rest) = Err (malformed bytes rest)
 
 abbrev pub server_final_of : List ℕ → Result (Option (List ℕ)) ScramFault

@@ -2,12 +2,12 @@
 use Rattle.std.specs.Prelude.{◌≡◌, ℕ, Bool, List, Option, Result, Ok, Err}
 use Rattle.std.specs.Borrow.{Bor}
 use Rattle.xmpp_scram.specs.Messages.{ClientFinalParts, ClientFinalView, FirstParts, ServerFirstParts, ServerFirstView}
+use Rattle.xmpp_scram.specs.Values.{base64_bytes}
 use Rattle.xmpp_scram.specs.declared.binding_flag.BindingFlag.{BindingFlag}
 use Rattle.xmpp_scram.specs.declared.client_first.FirstParts.{FirstParts as FirstTexts}
 use Rattle.xmpp_scram.specs.declared.client_final.ClientFinal.{ClientFinal}
 use Rattle.xmpp_scram.specs.declared.client_final.ClientFinalParts.{ClientFinalParts as FinalTexts}
 use Rattle.xmpp_scram.specs.declared.fault.ScramFault.{ScramFault}
-use Rattle.xmpp_scram.specs.declared.fault.ScramFault.TheVariants.{NoMemory}
 use Rattle.xmpp_scram.specs.declared.server_first.ServerFirst.{ServerFirst}
 use Rattle.xmpp_scram.specs.declared.server_first.ServerFirstParts.{ServerFirstParts as ServerTexts}
 
@@ -24,7 +24,7 @@ abbrev pub server_first_seen : ServerTexts → ServerFirstParts
 server_first_seen t = record { nonce = t.nonce.now; salt = t.salt.now; count = t.count.now }
 
 abbrev pub server_first_view : ServerFirst → ServerFirstView
-server_first_view m = record { nonce = m.nonce; salt = m.salt.items; count = m.count }
+server_first_view m = record { nonce = m.nonce.now; salt = base64_bytes m.salt.now; count = m.count }
 
 abbrev pub client_final_seen : FinalTexts → ClientFinalParts
 client_final_seen t = record { nonce = t.nonce.now; proof = t.proof.now }
@@ -36,9 +36,3 @@ client_final_view m = record { without_proof = m.without_proof.now; nonce = m.no
 abbrev pub Refuses : {X Y : Type 0} → (X → Y) → Result X ScramFault → Result Y ScramFault → Type 0
 Refuses view (Ok x) answer = answer ≡ Ok (view x)
 Refuses view (Err fault) answer = answer ≡ Err fault
-
--- the same, unless memory ran out
-abbrev pub Answers : {X Y : Type 0} → (X → Y) → Result X ScramFault → Result Y ScramFault → Type 0
-Answers view (Ok x) answer = answer ≡ Ok (view x)
-Answers view (Err NoMemory) answer = Unit {0}
-Answers view (Err fault) answer = answer ≡ Err fault

@@ -1,7 +1,7 @@
 -- What each part of a message may go on with, and where it may end.
 use Rattle.std.specs.Prelude.{ℕ, ◌%◌, ◌==◌, Bool, true, false, ◌&&◌, not, Option, Some, None, if◌then◌else◌}
 use Rattle.std.specs.Option.{option_map}
-use Rattle.xmpp_scram.specs.Classes.{is_within, is_printable, is_letter, is_digit, is_count_start, is_binding, is_plain, sextet}
+use Rattle.xmpp_scram.specs.Classes.{is_within, is_printable, is_letter, is_digit, is_count_start, is_binding, is_value_ascii, sextet}
 use Rattle.xmpp_scram.specs.declared.classes.OneOrMore.{OneOrMore}
 use Rattle.xmpp_scram.specs.declared.classes.Class.{Class}
 use Rattle.xmpp_scram.specs.declared.classes.Class.TheVariants.{Printable, Binding}
@@ -65,7 +65,7 @@ tails_step AfterF4 b = where_so (is_within 0x80 0x8F b) (Some Two)
 
 -- what is to come behind the first byte of a character of a value
 abbrev pub character_step : ℕ → Option (Option Tails)
-character_step b = if is_plain b then Some None else option_map (λ tails. Some tails) (tails_of b)
+character_step b = if is_value_ascii b then Some None else option_map (λ tails. Some tails) (tails_of b)
 
 -- the state behind a whole character, or inside one
 abbrev pub placed : {S : Type 0} → S → (Tails → S) → Option Tails → S

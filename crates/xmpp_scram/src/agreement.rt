@@ -1,3 +1,4 @@
+//! Laws of the two ends (RFC 5802, section 5).
 ghost use Rattle.xmpp_scram.specs.Agreement.{EndsAgree};
 ghost use Rattle.xmpp_scram.specs.Judgements.{JudgementsAreExact};
 

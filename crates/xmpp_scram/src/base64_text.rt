@@ -1,3 +1,4 @@
+//! Canonical base64 as it is read (RFC 4648, section 4).
 ghost use Rattle.std.specs.Prelude.{◌≡◌, ◌%◌, ◌==◌};
 ghost use Rattle.xmpp_scram.specs.Classes.{sextet};
 ghost use Rattle.xmpp_scram.specs.States.{group_goes_on, group_may_end};

@@ -1,3 +1,4 @@
+//! The client's flag of channel binding (RFC 5802, section 7).
 /// Whether the client supports channel binding (RFC 5802, section 7, `gs2-cbind-flag`).
 #[derive(Clone, Copy, Debug, PartialEq, Eq)]
 pub enum BindingFlag {

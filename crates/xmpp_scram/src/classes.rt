@@ -1,3 +1,4 @@
+//! Nonces, names of channel bindings and counts as they are read (RFC 5802, section 7).
 ghost use Rattle.std.specs.Prelude.{◌≡◌};
 ghost use Rattle.xmpp_scram.specs.Classes.{is_binding, is_printable};
 ghost use Rattle.xmpp_scram.specs.States.{class_goes_on, class_may_end, count_goes_on, count_may_end, is_of};
@@ -33,7 +34,7 @@ pub(crate) enum Count {
     Digits,
 }
 
-fn is_printable(byte: u8) -> bool
+pub(crate) fn is_printable(byte: u8) -> bool
     ensures { result ≡ is_printable byte }
 {
     matches!(byte, 0x21..=0x2B | 0x2D..=0x7E)

@@ -1,11 +1,12 @@
-ghost use Rattle.std.specs.Prelude.{◌≡◌, IfOk, IsSome, OnErr, OnOk};
+//! The client's end of an exchange (RFC 5802, section 5).
+ghost use Rattle.std.specs.Prelude.{◌≡◌, true, IfOk, IsSome, OnErr, OnOk};
 ghost use Rattle.xmpp_scram.specs.Exchange.{Judges, begun_client, check_of, expecting, replied, reply_of, reply_to, sent};
-ghost use Rattle.xmpp_scram.specs.Seen.{Answers};
-ghost use Rattle.xmpp_scram.specs.Hashes.{auth_message};
+ghost use Rattle.xmpp_scram.specs.Grammar.{is_nonce};
+ghost use Rattle.xmpp_scram.specs.Values.{IsBase64, base64_bytes};
+ghost use Rattle.xmpp_hashes.specs.Hashes.{auth_message};
 
-use crate::comparing::is_same;
+use crate::contents::base64_bytes;
 use crate::fault::ScramFault;
-use crate::hashing::{KeyedHash, digest, hi, hmac, xor};
 use crate::plain::is_plain;
 use crate::server_final::read_server_final;
 use crate::server_first::read_server_first;
@@ -13,17 +14,18 @@ use crate::spelling::{append_proof, client_first, without_proof};
 use std::alloc::Global;
 use std::marker::Model;
 use xmpp_edge::{Bytes, NoMemory, Text};
+use xmpp_hashes::{KeyedHash, digest, hi, hmac, is_same, xor};
 
 // The length of the GS2 header `n,,`.
 const GS2_HEADER: usize = 3;
 
-/// The fewest iterations that the client takes (RFC 7677 section 4).
+/// The fewest iterations that the client takes (RFC 7677, section 4).
 pub const LEAST_ITERATIONS: u32 = 4_096;
 
 /// The most iterations that the client takes.
 pub const MOST_ITERATIONS: u32 = 1_000_000;
 
-/// The client's end of an exchange (RFC 5802 section 5).
+/// The client's end of an exchange (RFC 5802, section 5).
 #[derive(Drop)]
 pub struct ScramClient {
     password: Text,
@@ -82,8 +84,7 @@ fn reply_under(
 }
 
 impl ScramClient {
-    /// Begins an exchange. `nonce` is one or more printable characters other than a comma, which were never used
-    /// before. `BadName` comes exactly where the name or the password is empty or not printable ASCII (U+20 to
+    /// Begins an exchange, with a nonce that was never used before. `BadName` comes exactly where the name or the password is empty or not printable ASCII (U+20 to
     /// U+7E).
     pub fn first(
         alloc: Global,
@@ -91,6 +92,7 @@ impl ScramClient {
         password: &str,
         nonce: &str,
     ) -> Result<ScramClient, ScramFault>
+        requires { is_nonce nonce.now ≡ true }
         ensures { Judges (λ c. c) result (begun_client name.now password.now nonce.now) }
     {
         if !is_plain(name) || !is_plain(password) {
@@ -104,25 +106,27 @@ impl ScramClient {
         })
     }
 
-    // Judges a first message of the server of these parts, and answers the reply.
+    // Judges a first message of the server of these parts, of which the salt is in base64, and answers the reply.
     fn answer(
         &self,
         alloc: Global,
         server_first: &[u8],
-        nonce: &str,
+        nonce: &[u8],
         salt: &[u8],
         i: u32,
     ) -> Result<Reply, ScramFault>
-        ensures { Judges (λ r. r) result (reply_to self.now server_first.now nonce.now salt.now i) }
+        requires { IsBase64 salt.now }
+        ensures { Judges (λ r. r) result (reply_to self.now server_first.now nonce.now (base64_bytes salt.now) i) }
     {
-        if !nonce.as_bytes().starts_with(self.nonce.as_str().as_bytes()) {
+        if !nonce.starts_with(self.nonce.as_str().as_bytes()) {
             return Err(ScramFault::BadNonce);
         }
         if !(LEAST_ITERATIONS <= i && i <= MOST_ITERATIONS) {
             return Err(ScramFault::Iterations { count: i });
         }
+        let salt = base64_bytes(alloc, salt)?;
         let message = without_proof(alloc, nonce)?;
-        let salted = hi(self.password.as_str().as_bytes(), salt, i);
+        let salted = hi(self.password.as_str().as_bytes(), salt.as_slice(), i);
         let bare = &self.message.as_slice()[GS2_HEADER..];
         Ok(reply_under(message, &salted, bare, server_first)?)
     }
@@ -137,29 +141,23 @@ impl ScramClient {
     /// Replies to the server's first message: `c=biws,r=` its nonce, `,p=` the base64 of the proof. `Malformed` comes
     /// exactly where the message leaves the grammar, else `BadNonce` exactly where its nonce does not begin with the
     /// client's, else `Iterations` exactly where the count is not within `LEAST_ITERATIONS` to `MOST_ITERATIONS`. A
-    /// refusal leaves the client as it was; behind an Ok it expects a verifier.
+    /// refusal leaves the client as it was; after an Ok it expects a verifier. Memory is taken only where the answer is Ok.
     pub fn reply(&mut self, alloc: Global, server_first: &[u8]) -> Result<Bytes, ScramFault>
-        ensures answer { Answers (λ m. m.items) result (sent (λ r. r.message) (reply_of self.old server_first.now)) }
+        ensures answer { Judges (λ m. m.items) result (sent (λ r. r.message) (reply_of self.old server_first.now)) }
         ensures expects { OnOk result (self.new ≡ expecting self.old (reply_of self.old server_first.now)) }
         ensures replied { OnOk result (IsSome self.new.expected) }
         ensures refused { OnErr result (self.new ≡ self.old) }
     {
-        let read = read_server_first(alloc, server_first)?;
-        let reply = self.answer(
-            alloc,
-            server_first,
-            read.nonce.as_str(),
-            read.salt.as_slice(),
-            read.count,
-        )?;
+        let read = read_server_first(server_first)?;
+        let reply = self.answer(alloc, server_first, read.nonce, read.salt, read.count)?;
         self.expected = Some(reply.verifier);
         Ok(reply.message)
     }
 
     /// Judges the server's final message: whether the server knows the account's keys. `Malformed` comes exactly where
     /// it leaves the grammar, else `BadVerifier` exactly where its verifier isn't the one that is expected, so also
-    /// where it tells an error. It takes no memory, and the time that it takes does not tell how much of a verifier is
-    /// right.
+    /// where it reports an error. It takes no memory. By its code, not by its contract, the time that it takes doesn't
+    /// depend on how much of a verifier is right.
     pub fn check(&self, server_final: &[u8]) -> Result<(), ScramFault>
         requires { IsSome self.now.expected }
         ensures { result ≡ check_of self.now server_final.now }

@@ -1,5 +1,6 @@
+//! The client's final message as it is read (RFC 5802, section 7).
 ghost use Rattle.std.specs.Prelude.{◌≡◌};
-ghost use Rattle.xmpp_scram.specs.Messages.{before_proof, client_final_of, client_final_parts, header};
+ghost use Rattle.xmpp_scram.specs.Messages.{before_proof, client_final_of, client_final_parts, gs2_base64};
 ghost use Rattle.xmpp_scram.specs.Parts.{Gives};
 ghost use Rattle.xmpp_scram.specs.Seen.{Refuses, client_final_seen, client_final_view};
 
@@ -28,8 +29,8 @@ pub(crate) struct ClientFinalParts<'a> {
 }
 
 /// The base64 of the GS2 header that has this flag and no authorization identity.
-fn header(flag: BindingFlag) -> &'static [u8]
-    ensures { result.now ≡ header flag }
+fn gs2_base64(flag: BindingFlag) -> &'static [u8]
+    ensures { result.now ≡ gs2_base64 flag }
 {
     match flag {
         BindingFlag::Unsupported => b"biws",
@@ -46,7 +47,7 @@ fn client_final_parts(
     ensures { Gives client_final_seen result (client_final_parts flag bytes.now) }
 {
     let rest = literal(b"c=", bytes)?;
-    let rest = literal(header(flag), rest)?;
+    let rest = literal(gs2_base64(flag), rest)?;
     let rest = literal(b",r=", rest)?;
     let (nonce, rest) = run(NONCE, rest)?;
     let (_, rest) = run(Extensions::Comma(Until::Proof), rest)?;

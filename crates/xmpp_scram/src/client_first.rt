@@ -1,8 +1,9 @@
-ghost use Rattle.std.specs.Prelude.{◌≡◌, ◌⊎◌, Err, IfOk};
+//! The client's first message as it is read (RFC 5802, section 7).
+ghost use Rattle.std.specs.Prelude.{◌≡◌};
+ghost use Rattle.xmpp_scram.specs.Exchange.{Judges};
 ghost use Rattle.xmpp_scram.specs.Messages.{authzid, bare_parts, bare_texts, binding, binding_flag, client_first_of, first_parts, identity};
 ghost use Rattle.xmpp_scram.specs.Parts.{Gives, cut_seen};
 ghost use Rattle.xmpp_scram.specs.Seen.{first_seen, flagged, identified};
-ghost use Rattle.xmpp_scram.specs.declared.fault.ScramFault.TheVariants.{NoMemory as WantOfMemory};
 
 use crate::binding_flag::BindingFlag;
 use crate::classes::{Class, NONCE, OneOrMore};
@@ -131,9 +132,9 @@ fn first_parts(bytes: &[u8]) -> Result<FirstParts<'_>, Departure<'_>>
 
 /// What a client's first message says (RFC 5802, section 7). `Malformed` comes exactly where it leaves the grammar,
 /// with the place. Within the grammar, `Plus` comes exactly where its flag is `p`, and else `Authzid` exactly where it
-/// asks for an authorization identity. `NoMemory` comes where memory ran out.
+/// asks for an authorization identity. Memory is taken only where the answer is Ok.
 pub fn read_first(alloc: Global, bytes: &[u8]) -> Result<ClientFirst, ScramFault>
-    ensures exact { (result ≡ Err WantOfMemory) ⊎ (result ≡ client_first_of bytes.now) }
+    ensures { Judges (λ first. first) result (client_first_of bytes.now) }
 {
     let parts = match first_parts(bytes) {
         Ok(parts) => parts,

@@ -1,15 +1,16 @@
+//! What a server keeps for an account (RFC 5802, section 3).
 ghost use Rattle.std.specs.Prelude.{◌≡◌, ◌↔◌, ◌≤◌, false, IfOk, IsErrOf};
 ghost use Rattle.xmpp_scram.specs.Exchange.{credentials_of, is_plain};
 
-use crate::hashing::{digest, hi, hmac};
 use crate::plain::is_plain;
 use std::alloc::Global;
 use std::error::Error;
 use std::fmt;
 use std::marker::Model;
 use xmpp_edge::{Bytes, NoMemory};
+use xmpp_hashes::{digest, hi, hmac};
 
-/// What a server keeps for an account in place of its password (RFC 5802 section 3): the salt, the number of
+/// What a server keeps for an account in place of its password (RFC 5802, section 3): the salt, the number of
 /// iterations, and the two keys that it checks and answers with.
 #[derive(Drop)]
 pub struct Credentials {

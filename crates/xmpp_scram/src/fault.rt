@@ -1,3 +1,4 @@
+//! Why a message is refused.
 ghost use Rattle.std.specs.Prelude.{◌≡◌};
 ghost use Rattle.xmpp_scram.specs.Places.{malformed};
 

@@ -1,14 +1,17 @@
+//! Laws of reading and writing messages (RFC 5802, section 7).
 ghost use Rattle.std.specs.Prelude.{◌≡◌, ℕ, Bool, ◌≤◌, ◌↔◌, ◌++◌, List, Option, Some, None, Ok, Err, IsTrue, codes, length, min, option_and_then, true, false};
 ghost use Rattle.std.specs.Fmt.{decimal};
 ghost use Rattle.std.specs.List.{flat_map};
 ghost use Rattle.base64.specs.Engines.{standard};
 ghost use Rattle.base64.specs.GeneralPurpose.{IsBytes, encode_of};
 ghost use Rattle.xmpp_scram.specs.Classes.{is_within};
-ghost use Rattle.xmpp_scram.specs.Grammar.{InClientFinal, InClientFirst, InServerFinal, InServerFirst, IsClientFinal, IsClientFirst, IsNonce, IsServerFinal, IsServerFirst, are_some, escaped, gs2_header};
-ghost use Rattle.xmpp_scram.specs.Messages.{ClientFinalView, ServerFirstView, client_final_of, client_first_of, header, server_final_of, server_first_of};
+ghost use Rattle.xmpp_scram.specs.Exchange.{ClientView, CredentialsView, ReplyView, ServerView, bare_of, begun_client, begun_server, last_of, reply_of};
+ghost use Rattle.xmpp_scram.specs.Grammar.{InClientFinal, InClientFirst, InServerFinal, InServerFirst, IsClientFinal, IsClientFirst, IsNonce, IsServerFinal, IsServerFirst, are_some, escaped_byte, gs2_header};
+ghost use Rattle.xmpp_scram.specs.Messages.{ClientFinalView, ServerFirstView, client_final_of, client_first_of, gs2_base64, server_final_of, server_first_of};
 ghost use Rattle.xmpp_scram.specs.Places.{LeavesAt};
 ghost use Rattle.xmpp_scram.specs.Values.{hash_of, most_told};
 ghost use Rattle.xmpp_scram.specs.declared.binding_flag.BindingFlag.{BindingFlag};
+ghost use Rattle.xmpp_scram.specs.declared.binding_flag.BindingFlag.TheVariants.{Unsupported};
 ghost use Rattle.xmpp_scram.specs.declared.client_first.ClientFirst.{ClientFirst};
 ghost use Rattle.xmpp_scram.specs.declared.fault.ScramFault.TheVariants.{Authzid, Malformed, Plus};
 
@@ -59,12 +62,12 @@ pub fn reading_is_the_grammar()
 pub fn written_messages_are_read()
     ensures client_first { (flag : BindingFlag) (name nonce : List ℕ)
         → IsTrue (are_some (is_within 0x20 0x7E) name) → IsNonce nonce
-        → client_first_of (gs2_header flag ++ (codes "n=" ++ flat_map escaped name ++ codes ",r=" ++ nonce))
+        → client_first_of (gs2_header flag ++ (codes "n=" ++ flat_map escaped_byte name ++ codes ",r=" ++ nonce))
         ≡ Ok (record {
           flag = flag;
           name = name;
           nonce = nonce;
-          bare = codes "n=" ++ flat_map escaped name ++ codes ",r=" ++ nonce;
+          bare = codes "n=" ++ flat_map escaped_byte name ++ codes ",r=" ++ nonce;
         }) }
     ensures server_first { (nonce salt : List ℕ) (count : ℕ) → IsNonce nonce → IsBytes salt → 1 ≤ count
         → count ≤ most_told
@@ -72,12 +75,30 @@ pub fn written_messages_are_read()
         ≡ Ok (record { nonce = nonce; salt = salt; count = count }) }
     ensures client_final { (flag : BindingFlag) (nonce proof : List ℕ) → IsNonce nonce → IsBytes proof
         → length proof ≡ 32
-        → client_final_of flag (codes "c=" ++ header flag ++ codes ",r=" ++ nonce ++ codes ",p=" ++ encode_of standard proof)
+        → client_final_of flag (codes "c=" ++ gs2_base64 flag ++ codes ",r=" ++ nonce ++ codes ",p=" ++ encode_of standard proof)
         ≡ Ok (record {
-          without_proof = codes "c=" ++ header flag ++ codes ",r=" ++ nonce;
+          without_proof = codes "c=" ++ gs2_base64 flag ++ codes ",r=" ++ nonce;
           nonce = nonce;
           proof = Some proof;
         }) }
     ensures server_final { (verifier : List ℕ) → IsBytes verifier → length verifier ≡ 32
         → server_final_of (codes "v=" ++ encode_of standard verifier) ≡ Ok (Some verifier) }
+{}
+
+/// A law: the messages that the two ends send are those of RFC 5802, section 7. What a client begins with is a first
+/// message of its name and nonce; what a server answers, to a first message that was read, is a first message of both
+/// nonces, the salt and the count; and a reply, and an answer that accepts, are final messages.
+pub fn sent_messages_are_within_the_grammar()
+    ensures client_first { (name password nonce : List ℕ) (client : ClientView) → IsNonce nonce
+        → begun_client name password nonce ≡ Ok client
+        → IsClientFirst (Some Unsupported) false name nonce (bare_of client) client.message }
+    ensures server_first { (bytes tail : List ℕ) (first : ClientFirst) (credentials : CredentialsView)
+        → client_first_of bytes ≡ Ok first → IsNonce tail → IsBytes credentials.salt
+        → 1 ≤ credentials.iterations → credentials.iterations ≤ most_told
+        → IsServerFirst (first.nonce ++ tail) credentials.salt credentials.iterations
+        (begun_server first credentials tail).message }
+    ensures client_final { (client : ClientView) (bytes : List ℕ) (reply : ReplyView) → reply_of client bytes ≡ Ok reply
+        → InClientFinal Unsupported reply.message }
+    ensures server_final { (server : ServerView) (bytes message : List ℕ) → last_of server bytes ≡ Ok message
+        → InServerFinal message }
 {}

@@ -8,15 +8,12 @@ mod classes;
 mod client;
 mod client_final;
 mod client_first;
-mod comparing;
 mod contents;
 mod credentials;
-#[cfg(test)]
-mod exchange_tests;
 mod fault;
-mod hashing;
 mod laws;
 mod names;
+mod nonces;
 mod parts;
 mod plain;
 mod server;
@@ -31,9 +28,8 @@ pub use client::{LEAST_ITERATIONS, MOST_ITERATIONS, ScramClient};
 pub use client_first::{ClientFirst, read_first};
 pub use credentials::{Credentials, CredentialsFault};
 pub use fault::ScramFault;
-pub use hashing::{hi, hmac};
-pub use laws::{reading_is_the_grammar, written_messages_are_read};
+pub use laws::{
+    reading_is_the_grammar, sent_messages_are_within_the_grammar, written_messages_are_read,
+};
+pub use nonces::{is_nonce, nonce_of, salt_of};
 pub use server::ScramServer;
-
-#[cfg(test)]
-mod tests;

@@ -1,3 +1,4 @@
+//! Names as they are read (RFC 5802, section 7, `saslname`).
 ghost use Rattle.std.specs.Prelude.{◌≡◌};
 ghost use Rattle.std.specs.Option.{option_map};
 ghost use Rattle.xmpp_scram.specs.States.{name_goes_on, name_may_end, name_starts, placed};

@@ -1,3 +1,4 @@
+//! Reading a message part by part, with the place where it leaves its grammar.
 ghost use Rattle.std.specs.Prelude.{◌≡◌, ◌≤◌, true, length, take, drop};
 ghost use Rattle.xmpp_scram.specs.Parts.{Gives, cut_seen, ended, ends_here, literal, run, with_front};
 

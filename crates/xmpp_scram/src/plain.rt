@@ -1,3 +1,4 @@
+//! Names and passwords of printable ASCII.
 ghost use Rattle.std.specs.Prelude.{◌≡◌};
 ghost use Rattle.std.specs.List.{list_all};
 ghost use Rattle.xmpp_scram.specs.Exchange.{is_plain, is_printable_ascii};

@@ -1,20 +1,21 @@
-ghost use Rattle.std.specs.Prelude.{◌≡◌, IfOk};
+//! The server's end of an exchange (RFC 5802, section 5).
+ghost use Rattle.std.specs.Prelude.{◌≡◌, ◌≤◌, true, IfOk};
 ghost use Rattle.xmpp_scram.specs.Exchange.{Judges, begun_server, is_proof, last_of, server_auth, verifier_for};
-ghost use Rattle.xmpp_scram.specs.Hashes.{hmac_of};
+ghost use Rattle.xmpp_scram.specs.Grammar.{is_nonce};
+ghost use Rattle.xmpp_hashes.specs.Hashes.{hmac_of};
 
 use crate::binding_flag::BindingFlag;
 use crate::client_final::read_client_final;
 use crate::client_first::ClientFirst;
-use crate::comparing::is_same;
 use crate::credentials::Credentials;
 use crate::fault::ScramFault;
-use crate::hashing::{KeyedHash, digest, xor};
 use crate::spelling::{joined, server_final, server_first};
 use std::alloc::Global;
 use std::marker::Model;
 use xmpp_edge::{Bytes, NoMemory, Text};
+use xmpp_hashes::{KeyedHash, digest, is_same, xor};
 
-/// The server's end of an exchange, behind its first message (RFC 5802 section 5).
+/// The server's end of an exchange, after its first message (RFC 5802, section 5).
 #[derive(Drop)]
 pub struct ScramServer {
     flag: BindingFlag,
@@ -34,14 +35,16 @@ impl Model for ScramServer {
 }
 
 impl ScramServer {
-    /// Answers a client's first message with the credentials of its account. The server's nonce is the client's with
-    /// `tail` behind it: one or more printable characters other than a comma, which were never used before.
+    /// Answers a client's first message with the credentials of its account. The server's nonce is the client's and
+    /// `tail`, a nonce that was never used before.
     pub fn first(
         alloc: Global,
         client: ClientFirst,
         credentials: &Credentials,
         tail: &str,
     ) -> Result<ScramServer, NoMemory>
+        requires random { is_nonce tail.now ≡ true }
+        requires counted { 1 ≤ credentials.now.iterations }
         ensures { IfOk result (λ s. s ≡ begun_server client credentials.now tail.now) }
     {
         let nonce = joined(alloc, client.nonce.as_str(), tail)?;
@@ -110,9 +113,18 @@ impl ScramServer {
     /// Answers the client's final message: `v=` and the base64 of the verifier, where the message is within the grammar
     /// and has the whole nonce and the right proof. `Malformed` comes exactly where it leaves the grammar, else
     /// `BadNonce` exactly where the nonce is another, else `BadProof` exactly where the proof isn't the right one. The
-    /// exchange is spent, whatever the answer is. The time that it takes does not tell how much of a proof is right.
+    /// exchange is spent, whatever the answer is. By its code, not by its contract, the time that it takes doesn't
+    /// depend on how much of a proof is right.
     pub fn last(self, alloc: Global, bytes: &[u8]) -> Result<Bytes, ScramFault>
         ensures { Judges (λ m. m.items) result (last_of self bytes.now) }
+    {
+        self.judge(alloc, bytes)
+    }
+
+    /// Answers the client's final message as `last` does, and leaves the exchange, for a caller that may try again
+    /// where memory ran out.
+    pub fn judge(&self, alloc: Global, bytes: &[u8]) -> Result<Bytes, ScramFault>
+        ensures { Judges (λ m. m.items) result (last_of self.now bytes.now) }
     {
         let message = read_client_final(self.flag, bytes)?;
         let verifier = self.verifier(message.without_proof, message.nonce, message.proof)?;

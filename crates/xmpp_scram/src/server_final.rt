@@ -1,3 +1,4 @@
+//! The server's final message as it is read (RFC 5802, section 7).
 ghost use Rattle.std.specs.Prelude.{◌≡◌};
 ghost use Rattle.std.specs.Option.{option_map};
 ghost use Rattle.xmpp_scram.specs.Messages.{error_part, server_final_of, server_final_parts, verifier_part};

@@ -1,22 +1,23 @@
-ghost use Rattle.std.specs.Prelude.{◌≡◌};
+//! The server's first message as it is read (RFC 5802, section 7).
+ghost use Rattle.std.specs.Prelude.{◌≡◌, IfOk};
 ghost use Rattle.xmpp_scram.specs.Messages.{server_first_of, server_first_parts};
 ghost use Rattle.xmpp_scram.specs.Parts.{Gives};
-ghost use Rattle.xmpp_scram.specs.Seen.{Answers, server_first_seen, server_first_view};
+ghost use Rattle.xmpp_scram.specs.Seen.{Refuses, server_first_seen, server_first_view};
+ghost use Rattle.xmpp_scram.specs.Values.{IsBase64};
 
 use crate::base64_text::Group;
 use crate::classes::{Count, NONCE};
-use crate::contents::{base64_bytes, count_of, text_of};
+use crate::contents::count_of;
 use crate::fault::{ScramFault, malformed};
 use crate::parts::{Departure, end, literal, run};
 use crate::values::{Extensions, Until};
-use std::alloc::Global;
-use xmpp_edge::{Bytes, Text};
 
-/// The server's first message (RFC 5802, section 7). A count above 4,294,967,295 is told as that.
-#[derive(Drop)]
-pub(crate) struct ServerFirst {
-    pub nonce: Text,
-    pub salt: Bytes,
+/// The server's first message (RFC 5802, section 7): the nonce, the salt in base64, and the count; a count above
+/// 4,294,967,295 is given as that.
+#[derive(Clone, Copy)]
+pub(crate) struct ServerFirst<'a> {
+    pub nonce: &'a [u8],
+    pub salt: &'a [u8],
     pub count: u32,
 }
 
@@ -44,17 +45,19 @@ fn server_first_parts(bytes: &[u8]) -> Result<ServerFirstParts<'_>, Departure<'_
     Ok(ServerFirstParts { nonce, salt, count })
 }
 
-/// What a server's first message says. `Malformed` comes exactly where it leaves the grammar, with the place;
-/// `NoMemory` where memory ran out.
-pub(crate) fn read_server_first(alloc: Global, bytes: &[u8]) -> Result<ServerFirst, ScramFault>
-    ensures { Answers server_first_view result (server_first_of bytes.now) }
+/// What a server's first message says. `Malformed` comes exactly where it leaves the grammar, with the place. It takes
+/// no memory.
+pub(crate) fn read_server_first(bytes: &[u8]) -> Result<ServerFirst<'_>, ScramFault>
+    ensures read { Refuses server_first_view result (server_first_of bytes.now) }
+    ensures salt { IfOk result (λ m. IsBase64 m.salt.now) }
 {
     let parts = match server_first_parts(bytes) {
         Ok(parts) => parts,
         Err(departure) => return Err(malformed(bytes, departure.rest)),
     };
-    let nonce = text_of(alloc, parts.nonce)?;
-    let salt = base64_bytes(alloc, parts.salt)?;
-    let count = count_of(parts.count);
-    Ok(ServerFirst { nonce, salt, count })
+    Ok(ServerFirst {
+        nonce: parts.nonce,
+        salt: parts.salt,
+        count: count_of(parts.count),
+    })
 }

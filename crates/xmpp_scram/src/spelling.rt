@@ -1,5 +1,7 @@
+//! The messages as they are written (RFC 5802, section 7).
 ghost use Rattle.std.specs.Prelude.{◌≡◌, ◌++◌, IfOk};
-ghost use Rattle.xmpp_scram.specs.Exchange.{base64_of, client_final_without_proof, client_first_message, escaped, server_first_message, server_final_message, with_proof};
+ghost use Rattle.xmpp_scram.specs.Grammar.{escaped};
+ghost use Rattle.xmpp_scram.specs.Exchange.{base64_of, client_final_without_proof, client_first_message, server_first_message, server_final_message, with_proof};
 
 use base64::engine::general_purpose::STANDARD;
 use std::alloc::Global;
@@ -12,7 +14,7 @@ pub(crate) fn joined(alloc: Global, first: &str, second: &str) -> Result<Text, N
     Ok(Text::from(format!(in alloc; "{first}{second}")?))
 }
 
-// Bytes in base64 (RFC 4648 section 4).
+// Bytes in base64 (RFC 4648, section 4).
 fn base64(alloc: Global, bytes: &[u8]) -> Result<Text, NoMemory>
     ensures { IfOk result (λ t. t ≡ base64_of bytes.now) }
 {
@@ -70,11 +72,11 @@ pub(crate) fn client_first(alloc: Global, name: &str, nonce: &str) -> Result<Byt
 }
 
 // The client's final message up to its proof.
-pub(crate) fn without_proof(alloc: Global, nonce: &str) -> Result<Bytes, NoMemory>
+pub(crate) fn without_proof(alloc: Global, nonce: &[u8]) -> Result<Bytes, NoMemory>
     ensures { IfOk result (λ m. m.items ≡ client_final_without_proof nonce.now) }
 {
     let mut message = Bytes::from_slice(alloc, b"c=biws,r=")?;
-    message.append(nonce.as_bytes())?;
+    message.append(nonce)?;
     Ok(message)
 }
 

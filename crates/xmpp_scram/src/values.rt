@@ -1,6 +1,7 @@
+//! Values and extensions as they are read (RFC 5802, section 7).
 ghost use Rattle.std.specs.Prelude.{◌≡◌};
 ghost use Rattle.std.specs.Option.{option_map};
-ghost use Rattle.xmpp_scram.specs.Classes.{is_letter, is_plain};
+ghost use Rattle.xmpp_scram.specs.Classes.{is_letter, is_value_ascii};
 ghost use Rattle.xmpp_scram.specs.States.{character_step, extension_starts, extensions_go_on, extensions_may_end, in_value, tails_of, tails_step};
 
 use crate::parts::Part;
@@ -46,8 +47,8 @@ pub(crate) enum Extensions {
     ProofBegins,
 }
 
-pub(crate) fn is_plain(byte: u8) -> bool
-    ensures { result ≡ is_plain byte }
+pub(crate) fn is_value_ascii(byte: u8) -> bool
+    ensures { result ≡ is_value_ascii byte }
 {
     matches!(byte, 0x01..=0x2B | 0x2D..=0x7F)
 }
@@ -79,7 +80,7 @@ pub(crate) fn tails_of(byte: u8) -> Option<Tails>
 pub(crate) fn character(byte: u8) -> Option<Option<Tails>>
     ensures { result ≡ character_step byte }
 {
-    if is_plain(byte) {
+    if is_value_ascii(byte) {
         return Some(None);
     }
     match tails_of(byte) {

@@ -5,8 +5,8 @@ use Rattle.xmpp_jid.specs.declared.fault.JidFault.{JidFault}
 use Rattle.xmpp_stanza.specs.Readings.{Addresses, given_address, address_of, both_addresses, with_addresses}
 use Rattle.xmpp_stanza.specs.Stanzas.{IsAddressOf, IsBadAddress}
 use Rattle.xmpp_stanza.specs.declared.stanzas.Stanza.{Stanza}
-use Rattle.xmpp_stanza.specs.declared.stanzas.StanzaFault.{StanzaFault}
-use Rattle.xmpp_stanza.specs.declared.stanzas.StanzaFault.TheVariants.{BadFrom}
+use Rattle.xmpp_stanza.specs.declared.fault.StanzaFault.{StanzaFault}
+use Rattle.xmpp_stanza.specs.declared.fault.StanzaFault.TheVariants.{BadFrom}
 
 given_ok : (r : Result (List ℕ) JidFault) (address : Option (List ℕ)) → given_address r ≡ Ok address → (form : List ℕ) × (r ≡ Ok form) × (address ≡ Some form)
 given_ok (Ok form) address e = (form, refl, cc)
@@ -31,19 +31,14 @@ bad_is (Some value) why e = record { value = value; why = why; there = refl; ref
 pub bad_read : (value : Option (List ℕ)) (bad : IsBadAddress value) → address_of value ≡ Err bad.why
 bad_read value bad = ap address_of bad.there ∙ ap given_address bad.refused
 
--- an address, or none
-pub address_cases : (r : Result (Option (List ℕ)) JidFault) → ((address : Option (List ℕ)) × (r ≡ Ok address)) ⊎ ((why : JidFault) × (r ≡ Err why))
-address_cases (Ok address) = inl (address, refl)
-address_cases (Err why) = inr (why, refl)
-
 -- what each answer of `both_addresses` tells
-pub both_ok : (from to : Result (Option (List ℕ)) JidFault) (bad_to : StanzaFault) (both : Addresses) → both_addresses from to bad_to ≡ Ok both → (from ≡ Ok both.0) × (to ≡ Ok both.1)
+pub both_ok : (from to : Result (Option (List ℕ)) JidFault) (bad_to : Option (List ℕ) → StanzaFault) (both : Addresses) → both_addresses from to bad_to ≡ Ok both → (from ≡ Ok both.0) × (to ≡ Ok both.1)
 both_ok (Err e) to bad_to both is = absurd cc
 both_ok (Ok from) (Err e) bad_to both is = absurd cc
 both_ok (Ok from) (Ok to) bad_to both is = let p : (from, to) ≡ both = cc in (λ i. Ok (p i).0, λ i. Ok (p i).1)
 
-pub both_err : (from to : Result (Option (List ℕ)) JidFault) (bad_to why : StanzaFault) → both_addresses from to bad_to ≡ Err why
-    → ((e : JidFault) × (from ≡ Err e) × (why ≡ BadFrom)) ⊎ ((address : Option (List ℕ)) × (e : JidFault) × (from ≡ Ok address) × (to ≡ Err e) × (why ≡ bad_to))
+pub both_err : (from to : Result (Option (List ℕ)) JidFault) (bad_to : Option (List ℕ) → StanzaFault) (why : StanzaFault) → both_addresses from to bad_to ≡ Err why
+    → ((e : JidFault) × (from ≡ Err e) × (why ≡ BadFrom)) ⊎ ((address : Option (List ℕ)) × (e : JidFault) × (from ≡ Ok address) × (to ≡ Err e) × (why ≡ bad_to address))
 both_err (Err e) to bad_to why is = inl (e, refl, cc)
 both_err (Ok from) (Err e) bad_to why is = inr (from, e, refl, refl, cc)
 both_err (Ok from) (Ok to) bad_to why is = absurd cc

@@ -2,10 +2,10 @@
 use Rattle.std.proofs.Common.{◌≡◌, ◌≢◌, ◌↔◌, ℕ, false, cond, List, Option, Some, None, Ok, Err, IfSome, refl, sym, ◌∙◌, ap, ◌⊎◌, inl, inr, codes}
 use Rattle.std.specs.Str.{bytes_eq}
 use Rattle.std.proofs.lemmas.Bool.{cases_Bool}
-use Rattle.xmpp_framing.specs.Readers.{child_of}
-use Rattle.xmpp_framing.specs.Tidied.{tidied}
-use Rattle.xmpp_framing.specs.Trees.{Elem, IsTree, nodes_of}
-use Rattle.xmpp_framing.proofs.TidyLaws.{tidied_stays}
+use Rattle.xmpp_trees.specs.Readers.{child_of}
+use Rattle.xmpp_trees.specs.Tidied.{tidied}
+use Rattle.xmpp_trees.specs.Trees.{Elem, IsTree, nodes_of}
+use Rattle.xmpp_trees.proofs.TidyLaws.{tidied_stays}
 use Rattle.xmpp_stanza.proofs.KindLemmas.{same_bytes, error_kind_is, error_kind_unique, error_reads, spelled_is}
 use Rattle.xmpp_stanza.specs.Conditions.{condition_in, condition_name, condition_named, IsKnown, IsPlain}
 use Rattle.xmpp_stanza.specs.Errors.{HasNoError, IsStanzaError, error_elem, error_in, error_kind, error_kind_named, error_type, error_with, stanza_error_of, stream_error_elem}
@@ -15,7 +15,7 @@ use Rattle.xmpp_stanza.specs.declared.conditions.Condition.{Condition}
 use Rattle.xmpp_stanza.specs.declared.conditions.Condition.TheVariants.{BadRequest, FeatureNotImplemented, ItemNotFound, JidMalformed, RemoteServerNotFound, ResourceConstraint, ServiceUnavailable, UnexpectedRequest, Other}
 use Rattle.xmpp_stanza.specs.declared.errors.ErrorKind.{ErrorKind}
 use Rattle.xmpp_stanza.specs.declared.errors.StanzaError.{StanzaError}
-use Rattle.xmpp_stanza.specs.declared.errors.StanzaErrorFault.TheVariants.{NoError}
+use Rattle.xmpp_stanza.specs.declared.fault.StanzaErrorFault.TheVariants.{NoError}
 
 -- a condition that has a variant of its own is read as that variant
 known_again : (c : Condition) → IsKnown c → condition_named (condition_name c) ≡ c

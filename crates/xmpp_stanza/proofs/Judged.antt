@@ -4,8 +4,8 @@ use Rattle.std.specs.Str.{bytes_eq}
 use Rattle.std.proofs.lemmas.Bool.{cases_Bool}
 use Rattle.std.proofs.lemmas.Bool.Decides.{Decides-and}
 use Rattle.std.proofs.lemmas.Slice.Eq.{bytes_eq-Decides}
-use Rattle.xmpp_framing.specs.Readers.{is_named}
-use Rattle.xmpp_framing.specs.Trees.{Elem, namespace_of, name_of}
+use Rattle.xmpp_trees.specs.Readers.{is_named}
+use Rattle.xmpp_trees.specs.Trees.{Elem, namespace_of, name_of}
 use Rattle.xmpp_stanza.proofs.KindLemmas.{equal_bytes, message_reads, iq_kind_is, iq_kind_read}
 use Rattle.xmpp_stanza.specs.Kinds.{message_type, message_kind, answers_message, iq_type, iq_kind, answers_iq}
 use Rattle.xmpp_stanza.specs.Names.{client_ns}
@@ -16,7 +16,7 @@ use Rattle.xmpp_stanza.specs.declared.kinds.MessageKind.TheVariants.{Chat, Norma
 use Rattle.xmpp_stanza.specs.declared.kinds.IqKind.{IqKind}
 use Rattle.xmpp_stanza.specs.declared.kinds.IqKind.TheVariants as iq
 use Rattle.xmpp_stanza.specs.declared.stanzas.Stanza.{Stanza}
-use Rattle.xmpp_stanza.specs.declared.stanzas.StanzaFault.TheVariants.{NotAStanza, BadFormat}
+use Rattle.xmpp_stanza.specs.declared.fault.StanzaFault.TheVariants.{NotAStanza, BadFormat}
 
 named-Decides : (name : List ℕ) (e : Elem) → Decides (is_named client_ns name e) (IsNamed name e)
 named-Decides name e = Decides-and _ _ (bytes_eq-Decides (namespace_of e) client_ns) (bytes_eq-Decides (name_of e) name)

@@ -1,9 +1,9 @@
 -- The reading as one value answers by the relations of trees and stanzas.
 use Rattle.std.proofs.Common.{◌≡◌, ◌≢◌, ◌↔◌, ℕ, Bool, true, false, List, [], Option, Some, Result, Ok, Err, refl, sym, ◌∙◌, ap, ◌⊎◌, inl, inr, codes, unwrap_or}
 use Rattle.std.proofs.lemmas.Bool.Decides.{same_from_decides}
-use Rattle.xmpp_framing.specs.Readers.{attr_of}
-use Rattle.xmpp_framing.specs.Trees.{Elem, nodes_of}
-use Rattle.xmpp_stanza.proofs.AddressLemmas.{address_is, address_read, bad_is, bad_read, address_cases, both_ok, both_err, with_ok, with_err}
+use Rattle.xmpp_trees.specs.Readers.{attr_of}
+use Rattle.xmpp_trees.specs.Trees.{Elem, nodes_of}
+use Rattle.xmpp_stanza.proofs.AddressLemmas.{address_is, address_read, bad_is, bad_read, both_ok, both_err, with_ok, with_err}
 use Rattle.xmpp_stanza.proofs.Judged.{Formed, judged, iq_cases, which, at_message, at_presence, at_none, at_formed_iq}
 use Rattle.xmpp_stanza.proofs.KindLemmas.{message_kind_is, message_kind_unique, presence_kind_is, presence_kind_unique, iq_kind_is, iq_kind_read}
 use Rattle.xmpp_stanza.specs.Kinds.{message_kind, presence_kind, iq_type}
@@ -16,8 +16,8 @@ use Rattle.xmpp_stanza.specs.declared.kinds.IqKind.{IqKind}
 use Rattle.xmpp_stanza.specs.declared.stanzas.Presence.{Presence as PresenceView}
 use Rattle.xmpp_stanza.specs.declared.stanzas.Stanza.{Stanza}
 use Rattle.xmpp_stanza.specs.declared.stanzas.Stanza.TheVariants.{Message, Presence, Iq}
-use Rattle.xmpp_stanza.specs.declared.stanzas.StanzaFault.{StanzaFault}
-use Rattle.xmpp_stanza.specs.declared.stanzas.StanzaFault.TheVariants.{BadFormat, BadFrom, BadTo}
+use Rattle.xmpp_stanza.specs.declared.fault.StanzaFault.{StanzaFault}
+use Rattle.xmpp_stanza.specs.declared.fault.StanzaFault.TheVariants.{BadFormat, BadFrom, BadTo}
 
 abbrev from_attr : Elem → Option (List ℕ)
 from_attr e = attr_named (codes "from") e
@@ -36,7 +36,7 @@ addresses_are message reply e both is =
 
 addresses_read : (message reply : Bool) (e : Elem) (from to : Option (List ℕ)) → IsAddressOf (from_attr e) from → IsAddressOf (to_attr e) to → addresses_of message reply e ≡ Ok (from, to)
 addresses_read message reply e from to f t =
-    λ i. both_addresses (address_read (from_attr e) from f i) (address_read (to_attr e) to t i) (BadTo message reply (id_or_empty e) (unwrap_or (to_attr e) []))
+    λ i. both_addresses (address_read (from_attr e) from f i) (address_read (to_attr e) to t i) (λ given. BadTo message reply given (id_or_empty e) (unwrap_or (to_attr e) []))
 
 no_stanza_so : (e : Elem) (make : Addresses → Stanza) (r : Result Addresses StanzaFault) (s : Stanza) → stanza_of e ≡ with_addresses make r → ((both : Addresses) → make both ≢ s) → stanza_of e ≢ Ok s
 no_stanza_so e make r s is other p = let w = with_ok make r s (sym is ∙ p) in other w.0 w.2
@@ -149,11 +149,11 @@ iq_law e v = (iq_from e v, iq_to e v)
 
 -- what a formed stanza is refused for is one of its addresses
 refused_formed : (e : Elem) (f : Formed e) (why : StanzaFault) → stanza_of e ≡ Err why
-    → (IsBadAddress (from_attr e) × (why ≡ BadFrom)) ⊎ (¬ (IsBadAddress (from_attr e)) × IsBadAddress (to_attr e) × (why ≡ BadTo f.is_message f.reply (id_or_empty e) (unwrap_or (to_attr e) [])))
+    → (IsBadAddress (from_attr e) × (why ≡ BadFrom)) ⊎ (¬ (IsBadAddress (from_attr e)) × IsBadAddress (to_attr e) × (from : Option (List ℕ)) × (address_of (from_attr e) ≡ Ok from) × (why ≡ BadTo f.is_message f.reply from (id_or_empty e) (unwrap_or (to_attr e) [])))
 refused_formed e f why p =
     elim (both_err (address_of (from_attr e)) (address_of (to_attr e)) _ why (with_err f.stanza _ why (sym f.is ∙ p))) [
       | inl bad ↦ inl (bad_is (from_attr e) bad.0 bad.1, bad.2)
-      | inr bad ↦ inr ((λ b. let x = sym bad.2 ∙ bad_read (from_attr e) b in cc), bad_is (to_attr e) bad.1 bad.3, bad.4)
+      | inr bad ↦ inr ((λ b. let x = sym bad.2 ∙ bad_read (from_attr e) b in cc), bad_is (to_attr e) bad.1 bad.3, bad.0, bad.2, bad.4)
     ]
 
 bad_format_from : (e : Elem) → stanza_of e ≡ Err BadFormat → IsBadFormat e
@@ -162,7 +162,7 @@ bad_format_from e p =
       | inl none ↦ absurd (let x = sym (at_none e none) ∙ p in cc)
       | inr other ↦ elim other [
         | inl bad ↦ bad.0
-        | inr f ↦ absurd (elim (refused_formed e f BadFormat p) [ inl x ↦ let y = x.1 in cc | inr x ↦ let y = x.2 in cc ])
+        | inr f ↦ absurd (elim (refused_formed e f BadFormat p) [ inl x ↦ let y = x.1 in cc | inr x ↦ let y = x.4 in cc ])
       ]
     ]
 
@@ -184,7 +184,7 @@ bad_from_from e p =
         | inl bad ↦ absurd (let x = sym bad.1 ∙ p in cc)
         | inr f ↦ elim (refused_formed e f BadFrom p) [
           | inl x ↦ record { stanza = f.some; format = f.format; bad = x.0 }
-          | inr x ↦ absurd (let y = x.2 in cc)
+          | inr x ↦ absurd (let y = x.4 in cc)
         ]
       ]
     ]
@@ -195,7 +195,7 @@ bad_from_to e is =
       | inl none ↦ absurd (is.stanza none)
       | inr other ↦ elim other [
         | inl bad ↦ absurd (is.format bad.0)
-        | inr f ↦ f.is ∙ ap (λ from. with_addresses f.stanza (both_addresses from (address_of (to_attr e)) (BadTo f.is_message f.reply (id_or_empty e) (unwrap_or (to_attr e) [])))) (bad_read (from_attr e) is.bad)
+        | inr f ↦ f.is ∙ ap (λ from. with_addresses f.stanza (both_addresses from (address_of (to_attr e)) (λ given. BadTo f.is_message f.reply given (id_or_empty e) (unwrap_or (to_attr e) [])))) (bad_read (from_attr e) is.bad)
       ]
     ]
 
@@ -205,55 +205,54 @@ bad_from_law e = (bad_from_from e, bad_from_to e)
 written_as : (attribute : Option (List ℕ)) (bad : IsBadAddress attribute) → attribute ≡ Some (unwrap_or attribute [])
 written_as attribute bad = bad.there ∙ ap (λ a. Some (unwrap_or a [])) (sym bad.there)
 
-bad_to_formed : (e : Elem) (f : Formed e) → ¬ (IsBadAddress (from_attr e)) → IsBadAddress (to_attr e) → IsBadTo e f.is_message f.reply (id_or_empty e) (unwrap_or (to_attr e) [])
-bad_to_formed e f from bad = record {
+bad_to_formed : (e : Elem) (f : Formed e) (sender : Option (List ℕ)) → IsAddressOf (from_attr e) sender → ¬ (IsBadAddress (from_attr e)) → IsBadAddress (to_attr e)
+    → IsBadTo e f.is_message f.reply sender (id_or_empty e) (unwrap_or (to_attr e) [])
+bad_to_formed e f sender is from bad = record {
   stanza = f.some;
   format = f.format;
   from = from;
   bad = bad;
   message = f.message;
   answered = f.answered;
+  the_sender = is;
   the_id = refl;
   written = written_as (to_attr e) bad;
 }
 
-bad_to_from : (e : Elem) (message reply : Bool) (id to : List ℕ) → stanza_of e ≡ Err (BadTo message reply id to) → IsBadTo e message reply id to
-bad_to_from e message reply id to p =
+bad_to_from : (e : Elem) (message reply : Bool) (from : Option (List ℕ)) (id to : List ℕ) → stanza_of e ≡ Err (BadTo message reply from id to) → IsBadTo e message reply from id to
+bad_to_from e message reply from id to p =
     elim (judged e) [
       | inl none ↦ absurd (let x = sym (at_none e none) ∙ p in cc)
       | inr other ↦ elim other [
         | inl bad ↦ absurd (let x = sym bad.1 ∙ p in cc)
-        | inr f ↦ elim (refused_formed e f (BadTo message reply id to) p) [
+        | inr f ↦ elim (refused_formed e f (BadTo message reply from id to) p) [
           | inl x ↦ absurd (let y = x.1 in cc)
           | inr x ↦
-              let y = x.2 in
+              let y = x.4 in
               let a : message ≡ f.is_message = cc in
               let b : reply ≡ f.reply = cc in
+              let h : from ≡ x.2 = cc in
               let d : id ≡ id_or_empty e = cc in
               let g : to ≡ unwrap_or (to_attr e) [] = cc in
-              rw (a, b, d, g) (bad_to_formed e f x.0 x.1)
+              rw (a, b, h, d, g) (bad_to_formed e f x.2 (address_is (from_attr e) x.2 x.3) x.0 x.1)
         ]
       ]
     ]
 
--- an address is read, or it is there and is none
-readable : (value : Option (List ℕ)) → ¬ (IsBadAddress value) → (address : Option (List ℕ)) × (address_of value ≡ Ok address)
-readable value good = elim (address_cases (address_of value)) [ inl a ↦ a | inr bad ↦ absurd (good (bad_is value bad.0 bad.1)) ]
-
-bad_to_to : (e : Elem) (message reply : Bool) (id to : List ℕ) → IsBadTo e message reply id to → stanza_of e ≡ Err (BadTo message reply id to)
-bad_to_to e message reply id to is =
+bad_to_to : (e : Elem) (message reply : Bool) (from : Option (List ℕ)) (id to : List ℕ) → IsBadTo e message reply from id to → stanza_of e ≡ Err (BadTo message reply from id to)
+bad_to_to e message reply from id to is =
     elim (judged e) [
       | inl none ↦ absurd (is.stanza none)
       | inr other ↦ elim other [
         | inl bad ↦ absurd (is.format bad.0)
         | inr f ↦
-            let from = readable (from_attr e) is.from in
+            let read = address_read (from_attr e) from is.the_sender in
             let a : f.is_message ≡ message = same_from_decides f.is_message message f.message is.message in
             let b : f.reply ≡ reply = same_from_decides f.reply reply f.answered is.answered in
             let g : unwrap_or (to_attr e) [] ≡ to = ap (λ t. unwrap_or t []) is.written in
-            f.is ∙ (λ i. with_addresses f.stanza (both_addresses (from.1 i) (bad_read (to_attr e) is.bad i) (BadTo (a i) (b i) (sym is.the_id i) (g i))))
+            f.is ∙ (λ i. with_addresses f.stanza (both_addresses (read i) (bad_read (to_attr e) is.bad i) (λ given. BadTo (a i) (b i) given (sym is.the_id i) (g i))))
       ]
     ]
 
-pub bad_to_law : (e : Elem) (message reply : Bool) (id to : List ℕ) → (stanza_of e ≡ Err (BadTo message reply id to)) ↔ IsBadTo e message reply id to
-bad_to_law e message reply id to = (bad_to_from e message reply id to, bad_to_to e message reply id to)
+pub bad_to_law : (e : Elem) (message reply : Bool) (from : Option (List ℕ)) (id to : List ℕ) → (stanza_of e ≡ Err (BadTo message reply from id to)) ↔ IsBadTo e message reply from id to
+bad_to_law e message reply from id to = (bad_to_from e message reply from id to, bad_to_to e message reply from id to)

@@ -1,7 +1,7 @@
 -- The definitions, evaluated at values that were worked out beforehand.
 use Rattle.std.proofs.Common.{◌≡◌, ℕ, true, false, [], ◌∷◌, List, Some, None, Ok, Err, codes, pos, negsuc, refl}
-use Rattle.xmpp_framing.specs.Attributes.{Attribute}
-use Rattle.xmpp_framing.specs.Trees.{element, Nodes, no_nodes, child, text}
+use Rattle.xmpp_trees.specs.Attributes.{Attribute}
+use Rattle.xmpp_trees.specs.Trees.{element, Nodes, no_nodes, child, text}
 use Rattle.xmpp_stanza.specs.Errors.{stanza_error_of, error_elem, stream_error_elem}
 use Rattle.xmpp_stanza.specs.Names.{client_ns, stanza_errors_ns, stream_errors_ns, streams_ns, xml_ns}
 use Rattle.xmpp_stanza.specs.Priority.{priority_of, presence_priority}
@@ -9,11 +9,11 @@ use Rattle.xmpp_stanza.specs.Readings.{stanza_of}
 use Rattle.xmpp_stanza.specs.Written.{message_elem, presence_elem}
 use Rattle.xmpp_stanza.specs.declared.conditions.Condition.TheVariants.{ItemNotFound, Other}
 use Rattle.xmpp_stanza.specs.declared.errors.ErrorKind.TheVariants as error
-use Rattle.xmpp_stanza.specs.declared.errors.StanzaErrorFault.TheVariants.{NoError}
+use Rattle.xmpp_stanza.specs.declared.fault.StanzaErrorFault.TheVariants.{NoError}
 use Rattle.xmpp_stanza.specs.declared.kinds.MessageKind.TheVariants.{Normal}
 use Rattle.xmpp_stanza.specs.declared.kinds.PresenceKind.TheVariants as presence
 use Rattle.xmpp_stanza.specs.declared.stanzas.Stanza.TheVariants.{Message}
-use Rattle.xmpp_stanza.specs.declared.stanzas.StanzaFault.TheVariants.{NotAStanza, BadFormat, BadFrom, BadTo}
+use Rattle.xmpp_stanza.specs.declared.fault.StanzaFault.TheVariants.{NotAStanza, BadFormat, BadFrom, BadTo}
 
 abbrev attr : List ℕ → List ℕ → Attribute
 attr name value = record { ns = []; name = name; value = value }
@@ -38,10 +38,10 @@ iq_without_type = refl
 both_bad : stanza_of (element client_ns (codes "message") (attr (codes "from") [] ∷ attr (codes "to") [] ∷ []) hello) ≡ Err BadFrom
 both_bad = refl
 
-bad_to_of_an_error : stanza_of (element client_ns (codes "message") (attr (codes "to") [] ∷ attr (codes "type") (codes "error") ∷ []) hello) ≡ Err (BadTo true false [] [])
+bad_to_of_an_error : stanza_of (element client_ns (codes "message") (attr (codes "to") [] ∷ attr (codes "type") (codes "error") ∷ []) hello) ≡ Err (BadTo true false None [] [])
 bad_to_of_an_error = refl
 
-bad_to_of_a_request : stanza_of (element client_ns (codes "iq") (attr (codes "id") (codes "7") ∷ attr (codes "to") [] ∷ attr (codes "type") (codes "set") ∷ []) no_nodes) ≡ Err (BadTo false true (codes "7") [])
+bad_to_of_a_request : stanza_of (element client_ns (codes "iq") (attr (codes "id") (codes "7") ∷ attr (codes "to") [] ∷ attr (codes "type") (codes "set") ∷ []) no_nodes) ≡ Err (BadTo false true None (codes "7") [])
 bad_to_of_a_request = refl
 
 lowest_priority : priority_of (codes "-128") ≡ negsuc 127

@@ -6,11 +6,11 @@ use Rattle.std.specs.Option.{option_map, option_or}
 use Rattle.std.specs.Str.{bytes_eq}
 use Rattle.std.specs.declared.cmp.Ordering.TheVariants.{Less}
 use Rattle.std.proofs.lemmas.List.Folds.{find-append}
-use Rattle.xmpp_framing.specs.Attributes.{Attribute, found, has_name, name_order, sorted_attributes}
-use Rattle.xmpp_framing.specs.Readers.{attr_of}
-use Rattle.xmpp_framing.specs.Tidied.{tidied}
-use Rattle.xmpp_framing.specs.Trees.{Elem, element}
-use Rattle.xmpp_framing.proofs.AttributeOrder.{sorted_attributes_IsAttrsOf, sorted_attributes_stay}
+use Rattle.xmpp_trees.specs.Attributes.{Attribute, found, has_name, name_order, sorted_attributes}
+use Rattle.xmpp_trees.specs.Readers.{attr_of}
+use Rattle.xmpp_trees.specs.Tidied.{tidied}
+use Rattle.xmpp_trees.specs.Trees.{Elem, element}
+use Rattle.xmpp_trees.proofs.AttributeOrder.{sorted_attributes_IsAttrsOf, sorted_attributes_stay}
 use Rattle.xmpp_stanza.specs.Names.{xml_ns}
 use Rattle.xmpp_stanza.specs.Written.{attr_where, attrs_written}
 

@@ -4,10 +4,10 @@ use Rattle.std.specs.Fmt.{signed_decimal}
 use Rattle.std.specs.Ordering.{int_eq}
 use Rattle.std.proofs.lemmas.Bool.{cases_Bool}
 use Rattle.std.proofs.lemmas.Bool.Decides.{Decides-int_eq}
-use Rattle.xmpp_framing.specs.Readers.{first_named, text_of}
-use Rattle.xmpp_framing.specs.Tidied.{tidied, tidied_nodes, text_node}
-use Rattle.xmpp_framing.specs.Trees.{AreTidy, element, no_nodes, child}
-use Rattle.xmpp_framing.proofs.TidyLaws.{tidied_nodes_stay, text_node_some}
+use Rattle.xmpp_trees.specs.Readers.{first_named, text_of}
+use Rattle.xmpp_trees.specs.Tidied.{tidied, tidied_nodes, text_node}
+use Rattle.xmpp_trees.specs.Trees.{AreTidy, element, no_nodes, child}
+use Rattle.xmpp_trees.proofs.TidyLaws.{tidied_nodes_stay, text_node_some}
 use Rattle.xmpp_stanza.proofs.KindLemmas.{message_reads, spelled_is, presence_kind_is}
 use Rattle.xmpp_stanza.proofs.Priorities.{printed, printed_some}
 use Rattle.xmpp_stanza.proofs.ReadingLaws.{message_law, presence_law, iq_law}

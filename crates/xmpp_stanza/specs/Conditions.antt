@@ -2,8 +2,8 @@
 use Rattle.std.specs.Prelude.{◌≡◌, ℕ, Bool, not, ◌&&◌, List, Option, find, codes, if◌then◌else◌}
 use Rattle.std.specs.Option.{option_map}
 use Rattle.std.specs.Str.{bytes_eq}
-use Rattle.xmpp_framing.specs.Readers.{elements_of}
-use Rattle.xmpp_framing.specs.Trees.{Elem, Nodes, namespace_of, name_of}
+use Rattle.xmpp_trees.specs.Readers.{elements_of}
+use Rattle.xmpp_trees.specs.Trees.{Elem, Nodes, namespace_of, name_of}
 use Rattle.xmpp_stanza.specs.declared.conditions.Condition.{Condition}
 use Rattle.xmpp_stanza.specs.declared.conditions.Condition.TheVariants.{BadRequest, FeatureNotImplemented, ItemNotFound, JidMalformed, RemoteServerNotFound, ResourceConstraint, ServiceUnavailable, UnexpectedRequest, Other}
 

@@ -1,8 +1,8 @@
 -- Stanza errors and stream errors (RFC 6120 sections 8.3 and 4.9).
 use Rattle.std.specs.Prelude.{◌≡◌, ℕ, List, [], ◌∷◌, Option, Some, None, Result, Ok, Err, codes, if◌then◌else◌}
 use Rattle.std.specs.Str.{bytes_eq}
-use Rattle.xmpp_framing.specs.Readers.{child_of}
-use Rattle.xmpp_framing.specs.Trees.{Elem, element, Nodes, no_nodes, child, nodes_of}
+use Rattle.xmpp_trees.specs.Readers.{child_of}
+use Rattle.xmpp_trees.specs.Trees.{Elem, element, Nodes, no_nodes, child, nodes_of}
 use Rattle.xmpp_stanza.specs.Conditions.{condition_in, condition_name, condition_named, IsPlain}
 use Rattle.xmpp_stanza.specs.Kinds.{IsKindOf}
 use Rattle.xmpp_stanza.specs.Names.{client_ns, stanza_errors_ns, streams_ns, stream_errors_ns}
@@ -10,8 +10,8 @@ use Rattle.xmpp_stanza.specs.Stanzas.{attr_named}
 use Rattle.xmpp_stanza.specs.declared.errors.ErrorKind.{ErrorKind}
 use Rattle.xmpp_stanza.specs.declared.errors.ErrorKind.TheVariants.{Auth, Cancel, Continue, Modify, Wait}
 use Rattle.xmpp_stanza.specs.declared.errors.StanzaError.{StanzaError}
-use Rattle.xmpp_stanza.specs.declared.errors.StanzaErrorFault.{StanzaErrorFault}
-use Rattle.xmpp_stanza.specs.declared.errors.StanzaErrorFault.TheVariants.{NoError}
+use Rattle.xmpp_stanza.specs.declared.fault.StanzaErrorFault.{StanzaErrorFault}
+use Rattle.xmpp_stanza.specs.declared.fault.StanzaErrorFault.TheVariants.{NoError}
 
 -- the `type` of an error (RFC 6120 section 8.3.2)
 abbrev pub error_type : ErrorKind → List ℕ

@@ -1,5 +1,7 @@
+pub mod Answering
 pub mod Conditions
 pub mod Errors
+pub mod Heads
 pub mod Kinds
 pub mod Names
 pub mod Priority

@@ -2,8 +2,8 @@
 use Rattle.std.specs.Prelude.{ℕ, nat_lt, nat_le, Bool, ◌&&◌, List, drop, length, ℤ, pos, neg_ℤ, Option, Some, None, codes, if◌then◌else◌}
 use Rattle.std.specs.Str.{all_ascii_digits}
 use Rattle.std.specs.Str.Parse.{digits_value, starts_with_minus}
-use Rattle.xmpp_framing.specs.Readers.{child_of, text_of}
-use Rattle.xmpp_framing.specs.Trees.{Elem, nodes_of}
+use Rattle.xmpp_trees.specs.Readers.{child_of, text_of}
+use Rattle.xmpp_trees.specs.Trees.{Elem, nodes_of}
 use Rattle.xmpp_stanza.specs.Names.{client_ns}
 
 -- one decimal digit or more, whose number is at most this

@@ -1,7 +1,7 @@
 -- The stanza that a tree is, or why it is none, as one value. The laws tie it to the relations of `Stanzas`.
 use Rattle.std.specs.Prelude.{◌≡◌, ℕ, Bool, true, false, List, [], Option, Some, None, Result, Ok, Err, unwrap_or, codes, if◌then◌else◌}
-use Rattle.xmpp_framing.specs.Readers.{attr_of, is_named}
-use Rattle.xmpp_framing.specs.Trees.{Elem, nodes_of}
+use Rattle.xmpp_trees.specs.Readers.{attr_of, is_named}
+use Rattle.xmpp_trees.specs.Trees.{Elem, nodes_of}
 use Rattle.xmpp_jid.specs.Normal.{normal}
 use Rattle.xmpp_jid.specs.declared.fault.JidFault.{JidFault}
 use Rattle.xmpp_jid.specs.declared.fault.JidFault.TheVariants as jid
@@ -12,8 +12,8 @@ use Rattle.xmpp_stanza.specs.Stanzas.{attr_named, id_or_empty}
 use Rattle.xmpp_stanza.specs.declared.kinds.IqKind.{IqKind}
 use Rattle.xmpp_stanza.specs.declared.stanzas.Stanza.{Stanza}
 use Rattle.xmpp_stanza.specs.declared.stanzas.Stanza.TheVariants.{Message, Presence, Iq}
-use Rattle.xmpp_stanza.specs.declared.stanzas.StanzaFault.{StanzaFault}
-use Rattle.xmpp_stanza.specs.declared.stanzas.StanzaFault.TheVariants.{NotAStanza, BadFormat, BadFrom, BadTo, NoMemory}
+use Rattle.xmpp_stanza.specs.declared.fault.StanzaFault.{StanzaFault}
+use Rattle.xmpp_stanza.specs.declared.fault.StanzaFault.TheVariants.{NotAStanza, BadFormat, BadFrom, BadTo, NoMemory}
 
 -- the addresses of a stanza: its `from` and its `to`
 abbrev pub Addresses : Type 0
@@ -29,15 +29,15 @@ address_of None = Ok None
 address_of (Some value) = given_address (normal value)
 
 -- `from` is judged before `to`
-abbrev pub both_addresses : Result (Option (List ℕ)) JidFault → Result (Option (List ℕ)) JidFault → StanzaFault → Result Addresses StanzaFault
+abbrev pub both_addresses : Result (Option (List ℕ)) JidFault → Result (Option (List ℕ)) JidFault → (Option (List ℕ) → StanzaFault) → Result Addresses StanzaFault
 both_addresses (Err e) to bad_to = Err BadFrom
-both_addresses (Ok from) (Err e) bad_to = Err bad_to
+both_addresses (Ok from) (Err e) bad_to = Err (bad_to from)
 both_addresses (Ok from) (Ok to) bad_to = Ok (from, to)
 
 abbrev pub addresses_of : Bool → Bool → Elem → Result Addresses StanzaFault
 addresses_of message reply e =
     both_addresses (address_of (attr_named (codes "from") e)) (address_of (attr_named (codes "to") e))
-    (BadTo message reply (id_or_empty e) (unwrap_or (attr_named (codes "to") e) []))
+    (λ from. BadTo message reply from (id_or_empty e) (unwrap_or (attr_named (codes "to") e) []))
 
 abbrev pub with_addresses : (Addresses → Stanza) → Result Addresses StanzaFault → Result Stanza StanzaFault
 with_addresses stanza (Ok both) = Ok (stanza both)

@@ -1,7 +1,7 @@
 -- Which trees are which stanza: the relations of a tree and a value (RFC 6120 section 8).
 use Rattle.std.specs.Prelude.{◌≡◌, ◌≢◌, ℕ, ◌⊎◌, ◌↔◌, Bool, true, List, [], Option, Some, None, Ok, Err, unwrap_or, codes}
-use Rattle.xmpp_framing.specs.Readers.{attr_of}
-use Rattle.xmpp_framing.specs.Trees.{Elem, namespace_of, name_of, nodes_of}
+use Rattle.xmpp_trees.specs.Readers.{attr_of}
+use Rattle.xmpp_trees.specs.Trees.{Elem, namespace_of, name_of, nodes_of}
 use Rattle.xmpp_jid.specs.Normal.{normal}
 use Rattle.xmpp_jid.specs.declared.fault.JidFault.{JidFault}
 use Rattle.xmpp_stanza.specs.Kinds.{message_type, IsMessageKind, IsPresenceKind, iq_type}
@@ -91,14 +91,15 @@ IsAnswered tree =
     (IsNamed (codes "message") tree × (attr_named (codes "type") tree ≢ Some (message_type message.Error)))
     ⊎ (IsNamed (codes "iq") tree × ((attr_named (codes "type") tree ≡ Some (iq_type iq.Get)) ⊎ (attr_named (codes "type") tree ≡ Some (iq_type iq.Set))))
 
--- The `to` of a stanza is there and is no address: whether the stanza is a message, whether an error is due, the id,
--- and the attribute as it was written.
-pub record IsBadTo (tree : Elem) (is_message reply : Bool) (id to : List ℕ) : Type 0 where
+-- The `to` of a stanza is there and is no address: whether the stanza is a message, whether an error is due, the sender,
+-- the id, and the attribute as it was written.
+pub record IsBadTo (tree : Elem) (is_message reply : Bool) (sender : Option (List ℕ)) (id to : List ℕ) : Type 0 where
   pub stanza : ¬ (IsNoStanza tree)
   pub format : ¬ (IsBadFormat tree)
   pub from : ¬ (IsBadAddress (attr_named (codes "from") tree))
   pub bad : IsBadAddress (attr_named (codes "to") tree)
   pub message : (is_message ≡ true) ↔ IsNamed (codes "message") tree
   pub answered : (reply ≡ true) ↔ IsAnswered tree
+  pub the_sender : IsAddressOf (attr_named (codes "from") tree) sender
   pub the_id : id ≡ id_or_empty tree
   pub written : attr_named (codes "to") tree ≡ Some to

@@ -1,8 +1,8 @@
 -- What contracts see of stanzas: records with plain lists. A presence is seen as its own fields.
 use Rattle.std.specs.Prelude.{◌≡◌, ℕ, zero, suc, List, Option, refl}
 use Rattle.std.specs.Coded.{Coded, code_by, coded×, coded_ℕ, coded_option}
-use Rattle.xmpp_framing.specs.Codes.{coded_bytes, nodes_code, nodes_code_inj}
-use Rattle.xmpp_framing.specs.Trees.{Nodes}
+use Rattle.xmpp_trees.specs.Codes.{coded_bytes, nodes_code, nodes_code_inj}
+use Rattle.xmpp_trees.specs.Trees.{Nodes}
 use Rattle.xmpp_stanza.specs.declared.kinds.MessageKind.{MessageKind}
 use Rattle.xmpp_stanza.specs.declared.kinds.MessageKind.TheVariants.{Chat, Normal, Headline, Groupchat, Error}
 use Rattle.xmpp_stanza.specs.declared.kinds.IqKind.{IqKind}

@@ -2,8 +2,8 @@
 use Rattle.std.specs.Prelude.{◌≡◌, ℕ, List, [], ◌∷◌, ◌++◌, ℤ, pos, Option, Some, None, Ok, IfSome, codes, if◌then◌else◌}
 use Rattle.std.specs.Fmt.{signed_decimal}
 use Rattle.std.specs.Ordering.{int_eq}
-use Rattle.xmpp_framing.specs.Attributes.{Attribute}
-use Rattle.xmpp_framing.specs.Trees.{Elem, element, Nodes, no_nodes, child, text}
+use Rattle.xmpp_trees.specs.Attributes.{Attribute}
+use Rattle.xmpp_trees.specs.Trees.{Elem, element, Nodes, no_nodes, child, text}
 use Rattle.xmpp_jid.specs.Normal.{normal}
 use Rattle.xmpp_stanza.specs.Kinds.{message_type, presence_type, iq_type}
 use Rattle.xmpp_stanza.specs.Names.{client_ns, xml_ns}

@@ -1,14 +1,15 @@
+//! The conditions of errors (RFC 6120, sections 4.9.3 and 8.3.3).
 ghost use Rattle.std.specs.Prelude.{◌≡◌, ◌∷◌, IfOk};
 ghost use Rattle.std.specs.Option.{option_copied};
-ghost use Rattle.xmpp_framing.specs.Views.{elem_view, nodes_view};
+ghost use Rattle.xmpp_trees.specs.Views.{elem_view, nodes_view};
 ghost use Rattle.xmpp_stanza.specs.Conditions.{condition_in, condition_name, condition_named, is_condition};
 
 use std::alloc::Global;
-use xmpp_edge::{NoMemory, Text};
-use xmpp_framing::{Element, Node};
+use xmpp_edge::{Copied, NoMemory, Text};
+use xmpp_trees::{Element, Node};
 
-/// What is wrong with a stanza (RFC 6120 section 8.3.3). `Other` is any condition that has no variant of its own. Two
-/// conditions of one name are one; readers never answer `Other` of a name that has a variant.
+/// What is wrong with a stanza (RFC 6120, section 8.3.3). `Other` is any condition that has no variant of its own. Readers
+/// never answer `Other` of a name that has a variant.
 #[derive(Drop, Debug)]
 pub enum Condition {
     BadRequest,
@@ -63,6 +64,23 @@ impl Condition {
         } else {
             Ok(Condition::Other(Text::from_str(alloc, name)?))
         }
+    }
+
+    /// An equal condition, in memory of its own.
+    pub fn copy(&self, alloc: Global) -> Result<Condition, NoMemory>
+        ensures { IfOk result (λ copy. copy ≡ self.now) }
+    {
+        Ok(match self {
+            Condition::BadRequest => Condition::BadRequest,
+            Condition::FeatureNotImplemented => Condition::FeatureNotImplemented,
+            Condition::ItemNotFound => Condition::ItemNotFound,
+            Condition::JidMalformed => Condition::JidMalformed,
+            Condition::RemoteServerNotFound => Condition::RemoteServerNotFound,
+            Condition::ResourceConstraint => Condition::ResourceConstraint,
+            Condition::ServiceUnavailable => Condition::ServiceUnavailable,
+            Condition::UnexpectedRequest => Condition::UnexpectedRequest,
+            Condition::Other(name) => Condition::Other(name.copied(alloc)?),
+        })
     }
 }
 

@@ -1,50 +1,41 @@
-// Elements made of their parts.
-ghost use Rattle.std.specs.Prelude.{◌≡◌, [], ◌++◌, IfOk, OnOk};
+//! The element of a stanza, made of its parts (RFC 6120, section 8.1).
+ghost use Rattle.std.specs.Prelude.{◌≡◌, ◌++◌, IfOk, OnOk};
 ghost use Rattle.std.specs.Option.{option_copied};
-ghost use Rattle.xmpp_framing.specs.Trees.{element, no_nodes};
-ghost use Rattle.xmpp_framing.specs.Views.{elem_view, nodes_view};
+ghost use Rattle.xmpp_stanza.specs.Names.{client_ns};
 ghost use Rattle.xmpp_stanza.specs.Written.{attr_where, attrs_written, unless_empty};
+ghost use Rattle.xmpp_trees.specs.Trees.{element};
+ghost use Rattle.xmpp_trees.specs.Views.{elem_view, nodes_view};
 
-use crate::names::XML;
+use crate::names::{CLIENT, XML};
 use std::alloc::Global;
 use xmpp_edge::{NoMemory, Text};
-use xmpp_framing::{Attr, Attrs, Element, Nodes};
+use xmpp_trees::{Attr, Attrs, Element, Nodes};
 
-/// An element that contains nothing.
-pub fn empty_element(alloc: Global, ns: &str, name: &str) -> Result<Element, NoMemory>
-    ensures { IfOk result (λ e. elem_view e ≡ element ns.now name.now [] no_nodes) }
-{
-    let ns = Text::from_str(alloc, ns)?;
-    let name = Text::from_str(alloc, name)?;
-    Ok(Element::new(alloc, ns, name))
+/// The attributes of a stanza, each where it has a value.
+#[derive(Drop)]
+pub struct StanzaAttrs<'a> {
+    pub from: Option<&'a str>,
+    pub id: Option<&'a str>,
+    pub to: Option<&'a str>,
+    pub kind: Option<&'a str>,
+    pub lang: Option<&'a str>,
 }
 
-/// An element of these parts.
-pub fn whole_element(
+/// The element of a stanza of this name, with its attributes and what it contains, which is moved. Nothing is judged: a
+/// `to` may be no address, and a `type` may be absent.
+pub fn stanza_element(
     alloc: Global,
-    ns: &str,
     name: &str,
-    attrs: Attrs,
-    children: Nodes,
+    given: &StanzaAttrs,
+    payload: Nodes,
 ) -> Result<Element, NoMemory>
-    ensures { IfOk result (λ e. elem_view e ≡ element ns.now name.now attrs.items (nodes_view children.items)) }
+    ensures { IfOk result (λ e. elem_view e ≡ element client_ns name.now (attrs_written (option_copied given.now.from) (option_copied given.now.id) (option_copied given.now.to) (option_copied given.now.kind) (option_copied given.now.lang)) (nodes_view payload.items)) }
 {
     Ok(Element {
-        ns: Text::from_str(alloc, ns)?,
+        ns: Text::from_str(alloc, CLIENT)?,
         name: Text::from_str(alloc, name)?,
-        attrs,
-        children: children.into_items(),
-    })
-}
-
-/// An attribute.
-pub fn attr(alloc: Global, ns: &str, name: &str, value: &str) -> Result<Attr, NoMemory>
-    ensures { IfOk result (λ a. a ≡ record { ns = ns.now; name = name.now; value = value.now }) }
-{
-    Ok(Attr {
-        ns: Text::from_str(alloc, ns)?,
-        name: Text::from_str(alloc, name)?,
-        value: Text::from_str(alloc, value)?,
+        attrs: stanza_attrs(alloc, given)?,
+        children: payload.into_items(),
     })
 }
 
@@ -60,22 +51,12 @@ fn push_where(
 {
     match value {
         None => Ok(()),
-        Some(value) => attrs.push(attr(alloc, ns, name, value)?),
+        Some(value) => attrs.push(Attr::from_strs(alloc, ns, name, value)?),
     }
 }
 
-/// The attributes of a stanza, each where it has a value.
-#[derive(Drop)]
-pub struct StanzaAttrs<'a> {
-    pub from: Option<&'a str>,
-    pub id: Option<&'a str>,
-    pub to: Option<&'a str>,
-    pub kind: Option<&'a str>,
-    pub lang: Option<&'a str>,
-}
-
-/// The attributes as a list.
-pub fn stanza_attrs(alloc: Global, given: &StanzaAttrs) -> Result<Attrs, NoMemory>
+// The attributes as a list.
+fn stanza_attrs(alloc: Global, given: &StanzaAttrs) -> Result<Attrs, NoMemory>
     ensures { IfOk result (λ attrs. attrs.items ≡ attrs_written (option_copied given.now.from) (option_copied given.now.id) (option_copied given.now.to) (option_copied given.now.kind) (option_copied given.now.lang)) }
 {
     let mut attrs = Attrs::new(alloc);
@@ -88,9 +69,8 @@ pub fn stanza_attrs(alloc: Global, given: &StanzaAttrs) -> Result<Attrs, NoMemor
 }
 
 /// The text where it isn't empty.
-pub fn unless_empty(text: &Text) -> Option<&str>
+pub(crate) fn unless_empty(text: &str) -> Option<&str>
     ensures { option_copied result ≡ unless_empty text.now }
 {
-    let text = text.as_str();
     if text.is_empty() { None } else { Some(text) }
 }

@@ -1,20 +1,20 @@
-ghost use Rattle.std.specs.Prelude.{◌≡◌, ◌≢◌, Some, Ok, Err, IfOk, IfErr};
+//! The errors of stanzas (RFC 6120, section 8.3).
+ghost use Rattle.std.specs.Prelude.{◌≡◌, ◌≢◌, Some, Ok, Err, codes, IfOk, IfErr};
 ghost use Rattle.std.specs.Option.{option_copied};
-ghost use Rattle.xmpp_framing.specs.Views.{elem_view};
+ghost use Rattle.xmpp_trees.specs.Readers.{first_named};
+ghost use Rattle.xmpp_trees.specs.Views.{elem_view, nodes_view};
 ghost use Rattle.xmpp_stanza.specs.Conditions.{condition_name};
 ghost use Rattle.xmpp_stanza.specs.Errors.{error_elem, error_in, error_kind, error_kind_named, error_type, stanza_error_of};
-ghost use Rattle.xmpp_stanza.specs.Names.{stanza_errors_ns};
+ghost use Rattle.xmpp_stanza.specs.Names.{client_ns, stanza_errors_ns};
 
 use crate::conditions::{Condition, condition_in};
-use crate::elements::{attr, empty_element};
+use crate::fault::StanzaErrorFault;
 use crate::names::{CLIENT, STANZA_ERRORS};
 use std::alloc::Global;
-use std::error::Error;
-use std::fmt;
 use xmpp_edge::NoMemory;
-use xmpp_framing::{Element, Tree};
+use xmpp_trees::{Attr, Element, Node, Tree, find_child};
 
-/// What the sender of a stanza that met an error may do (RFC 6120 section 8.3.2). A `type` that is absent or none of
+/// What the sender of a stanza that met an error may do (RFC 6120, section 8.3.2). A `type` that is absent or none of
 /// these is `Cancel`.
 #[derive(Clone, Copy, Debug, PartialEq, Eq)]
 pub enum ErrorKind {
@@ -25,42 +25,11 @@ pub enum ErrorKind {
     Wait,
 }
 
-/// The error in a stanza (RFC 6120 section 8.3), less its text and what an application adds.
+/// The error in a stanza (RFC 6120, section 8.3), less its text and what an application adds.
 #[derive(Drop, Debug)]
 pub struct StanzaError {
     pub kind: ErrorKind,
     pub condition: Condition,
-}
-
-/// Why no error was read from a stanza.
-#[derive(Clone, Copy, Debug, PartialEq, Eq)]
-pub enum StanzaErrorFault {
-    /// The stanza has no child `error`, or the first one names no condition.
-    NoError,
-    /// Memory ran out.
-    NoMemory,
-}
-
-impl fmt::Display for StanzaErrorFault {
-    fn fmt<W: fmt::Write>(&self, f: &mut fmt::Formatter<W>) -> fmt::Result {
-        f.write_str(match self {
-            StanzaErrorFault::NoError => "no error with a condition",
-            StanzaErrorFault::NoMemory => "out of memory",
-        })
-    }
-}
-
-impl Error for StanzaErrorFault {}
-
-impl From<NoMemory> for StanzaErrorFault {
-    ghost use Rattle.std.specs.Prelude.{◌≡◌};
-    ghost use Rattle.xmpp_stanza.specs.declared.errors.StanzaErrorFault.TheVariants.{NoMemory};
-
-    ghost from_gives = { λ _ fault. fault ≡ NoMemory };
-
-    fn from(_e: NoMemory) -> StanzaErrorFault {
-        StanzaErrorFault::NoMemory
-    }
 }
 
 impl ErrorKind {
@@ -75,6 +44,18 @@ impl ErrorKind {
             ErrorKind::Modify => "modify",
             ErrorKind::Wait => "wait",
         }
+    }
+}
+
+impl StanzaError {
+    /// An equal error, in memory of its own.
+    pub fn copy(&self, alloc: Global) -> Result<StanzaError, NoMemory>
+        ensures { IfOk result (λ copy. copy ≡ self.now) }
+    {
+        Ok(StanzaError {
+            kind: self.kind,
+            condition: self.condition.copy(alloc)?,
+        })
     }
 }
 
@@ -111,7 +92,15 @@ pub fn stanza_error(alloc: Global, tree: &Tree) -> Result<StanzaError, StanzaErr
     ensures ok { IfOk result (λ error. stanza_error_of tree.now ≡ Ok error) }
     ensures refused { IfErr result (λ fault. fault ≢ StanzaErrorFault.NoMemory → stanza_error_of tree.now ≡ Err fault) }
 {
-    match tree.element().child(CLIENT, "error") {
+    stanza_error_in(alloc, &tree.element().children)
+}
+
+/// The same of what a stanza contains.
+pub fn stanza_error_in(alloc: Global, nodes: &[Node]) -> Result<StanzaError, StanzaErrorFault>
+    ensures ok { IfOk result (λ error. error_in (first_named client_ns (codes "error") (nodes_view nodes.now)) ≡ Ok error) }
+    ensures refused { IfErr result (λ fault. fault ≢ StanzaErrorFault.NoMemory → error_in (first_named client_ns (codes "error") (nodes_view nodes.now)) ≡ Err fault) }
+{
+    match find_child(nodes, CLIENT, "error") {
         None => Err(StanzaErrorFault::NoError),
         Some(error) => read_error(alloc, error),
     }
@@ -130,12 +119,12 @@ fn read_error(alloc: Global, error: &Element) -> Result<StanzaError, StanzaError
     }
 }
 
-/// The element `error` of a stanza, as a child for it (RFC 6120 section 8.3.2).
+/// The element `error` of a stanza, as a child for it (RFC 6120, section 8.3.2).
 pub fn error_element(alloc: Global, e: &StanzaError) -> Result<Element, NoMemory>
     ensures { IfOk result (λ element. elem_view element ≡ error_elem e.now) }
 {
-    let mut error = empty_element(alloc, CLIENT, "error")?;
-    error.push_attr(attr(alloc, "", "type", e.kind.text())?)?;
-    error.push_child(empty_element(alloc, STANZA_ERRORS, e.condition.name())?)?;
+    let mut error = Element::from_strs(alloc, CLIENT, "error")?;
+    error.push_attr(Attr::from_strs(alloc, "", "type", e.kind.text())?)?;
+    error.push_child(Element::from_strs(alloc, STANZA_ERRORS, e.condition.name())?)?;
     Ok(error)
 }

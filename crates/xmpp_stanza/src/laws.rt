@@ -1,8 +1,9 @@
+//! What reading and writing say of each other.
 ghost use Rattle.std.specs.Prelude.{◌≡◌, ◌≢◌, ◌↔◌, ℕ, Bool, List, Option, Some, Ok, Err, IfSome, FitsSigned, codes};
 ghost use Rattle.std.specs.Int.{w8};
-ghost use Rattle.xmpp_framing.specs.Readers.{child_of};
-ghost use Rattle.xmpp_framing.specs.Tidied.{tidied, tidied_nodes};
-ghost use Rattle.xmpp_framing.specs.Trees.{AreTidy, Elem, IsTree, nodes_of};
+ghost use Rattle.xmpp_trees.specs.Readers.{child_of};
+ghost use Rattle.xmpp_trees.specs.Tidied.{tidied, tidied_nodes};
+ghost use Rattle.xmpp_trees.specs.Trees.{AreTidy, Elem, IsTree, nodes_of};
 ghost use Rattle.xmpp_stanza.specs.Conditions.{condition_in, condition_name, IsPlain};
 ghost use Rattle.xmpp_stanza.specs.Errors.{HasNoError, IsStanzaError, error_elem, stanza_error_of, stream_error_elem};
 ghost use Rattle.xmpp_stanza.specs.Names.{client_ns, stream_errors_ns};
@@ -13,8 +14,8 @@ ghost use Rattle.xmpp_stanza.specs.declared.errors.StanzaError.{StanzaError};
 ghost use Rattle.xmpp_stanza.specs.declared.stanzas.Presence.{Presence};
 ghost use Rattle.xmpp_stanza.specs.Written.{IsNormal, iq_elem, message_elem, presence_elem};
 
-use crate::errors::StanzaErrorFault;
-use crate::stanzas::{Stanza, StanzaFault};
+use crate::fault::{StanzaErrorFault, StanzaFault};
+use crate::stanzas::Stanza;
 
 /// A law: what `read_stanza` answers is told by the relations of trees and stanzas. A stanza comes exactly for the trees
 /// that are it, and each refusal exactly where it is stated.
@@ -25,7 +26,7 @@ pub fn stanzas_are_read_as_stated()
     ensures no_stanza { (tree : Elem) → (stanza_of tree ≡ Err StanzaFault.NotAStanza) ↔ IsNoStanza tree }
     ensures bad_format { (tree : Elem) → (stanza_of tree ≡ Err StanzaFault.BadFormat) ↔ IsBadFormat tree }
     ensures bad_from { (tree : Elem) → (stanza_of tree ≡ Err StanzaFault.BadFrom) ↔ IsBadFrom tree }
-    ensures bad_to { (tree : Elem) (message reply : Bool) (id to : List ℕ) → (stanza_of tree ≡ Err (StanzaFault.BadTo message reply id to)) ↔ IsBadTo tree message reply id to }
+    ensures bad_to { (tree : Elem) (message reply : Bool) (from : Option (List ℕ)) (id to : List ℕ) → (stanza_of tree ≡ Err (StanzaFault.BadTo message reply from id to)) ↔ IsBadTo tree message reply from id to }
 {}
 
 /// A law: what is written of a stanza is read back as that stanza, its payload tidied where it wasn't. Of a tidy payload

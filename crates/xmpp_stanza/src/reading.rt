@@ -1,19 +1,21 @@
-// Trees read as stanzas.
+//! Trees are read as stanzas (RFC 6120, section 8).
 ghost use Rattle.std.specs.Prelude.{◌≡◌, ◌≢◌, Ok, Err, [], true, false, unwrap_or, codes, IfOk, IfErr};
 ghost use Rattle.std.specs.Option.{option_copied, option_map};
-ghost use Rattle.xmpp_framing.specs.Trees.{nodes_of};
-ghost use Rattle.xmpp_framing.specs.Views.{elem_view, nodes_view};
+ghost use Rattle.xmpp_trees.specs.Trees.{nodes_of};
+ghost use Rattle.xmpp_trees.specs.Views.{elem_view, nodes_view};
+ghost use Rattle.xmpp_stanza.specs.Heads.{iq_whole, message_with};
 ghost use Rattle.xmpp_stanza.specs.Kinds.{answers_iq, answers_message, iq_kind, message_kind, presence_kind};
 ghost use Rattle.xmpp_stanza.specs.Priority.{presence_priority, priority_of};
 ghost use Rattle.xmpp_stanza.specs.Readings.{Answers, AnswersAddress, address_of, addresses_of, iq_of, message_of, presence_of, stanza_of};
 
-use crate::kinds::{answers_iq, answers_message, iq_kind, message_kind, presence_kind};
+use crate::fault::StanzaFault;
+use crate::kinds::{IqKind, MessageKind, PresenceKind};
 use crate::names::{CLIENT, XML};
-use crate::stanzas::{Iq, Message, Presence, Stanza, StanzaFault};
+use crate::stanzas::{Iq, Message, Presence, Stanza};
 use std::alloc::Global;
 use xmpp_edge::{NoMemory, Text};
-use xmpp_framing::{Element, Nodes, Tree, copy_nodes};
 use xmpp_jid::{Jid, JidFault};
+use xmpp_trees::{Element, Node, Nodes, Tree, copy_nodes};
 
 /// The stanza that a tree is. Each refusal but `NoMemory` comes exactly where the definition refuses so, in the order
 /// `NotAStanza`, `BadFormat`, `BadFrom`, `BadTo`; `stanzas_are_read_as_stated` says what that means.
@@ -32,33 +34,96 @@ pub fn read_stanza_element(alloc: Global, element: &Element) -> Result<Stanza, S
     read_element(alloc, element)
 }
 
-fn read_element(alloc: Global, e: &Element) -> Result<Stanza, StanzaFault>
-    ensures { Answers result (stanza_of (elem_view e.now)) }
+/// The stanza that a tree is, with what the tree contains moved into it. It is judged as by `read_stanza`.
+pub fn stanza_of(alloc: Global, tree: Tree) -> Result<Stanza, StanzaFault>
+    ensures ok { IfOk result (λ stanza. stanza_of tree ≡ Ok stanza) }
+    ensures refused { IfErr result (λ fault. fault ≢ StanzaFault.NoMemory → stanza_of tree ≡ Err fault) }
+{
+    take_element(alloc, tree.into_element())
+}
+
+fn take_element(alloc: Global, e: Element) -> Result<Stanza, StanzaFault>
+    ensures { Answers result (stanza_of (elem_view e)) }
 {
     if e.is(CLIENT, "message") {
-        read_message(alloc, e)
+        let head = message_head(alloc, &e)?;
+        Ok(head.with_payload(moved_nodes(alloc, e.children)?))
     } else if e.is(CLIENT, "presence") {
-        read_presence(alloc, e)
+        read_presence(alloc, &e)
     } else if e.is(CLIENT, "iq") {
-        read_iq(alloc, e)
+        let head = iq_head(alloc, &e)?;
+        Ok(head.with_payload(moved_nodes(alloc, e.children)?))
     } else {
         Err(StanzaFault::NotAStanza)
     }
 }
 
-fn read_message(alloc: Global, e: &Element) -> Result<Stanza, StanzaFault>
-    ensures { Answers result (message_of (elem_view e.now)) }
+fn read_element(alloc: Global, e: &Element) -> Result<Stanza, StanzaFault>
+    ensures { Answers result (stanza_of (elem_view e.now)) }
 {
-    let kind = message_kind(e.attr("", "type"));
-    let (from, to) = addresses(alloc, e, true, answers_message(kind))?;
-    Ok(Stanza::Message(Message {
+    if e.is(CLIENT, "message") {
+        let head = message_head(alloc, e)?;
+        Ok(head.with_payload(copy_nodes(alloc, &e.children)?))
+    } else if e.is(CLIENT, "presence") {
+        read_presence(alloc, e)
+    } else if e.is(CLIENT, "iq") {
+        let head = iq_head(alloc, e)?;
+        Ok(head.with_payload(copy_nodes(alloc, &e.children)?))
+    } else {
+        Err(StanzaFault::NotAStanza)
+    }
+}
+
+// The nodes as a list. None is copied.
+fn moved_nodes(alloc: Global, nodes: Vec<Node>) -> Result<Nodes, NoMemory>
+    ensures { IfOk result (λ moved. moved.items ≡ nodes.items) }
+{
+    let mut moved = Nodes::new(alloc);
+    moved.reserve(nodes.len())?;
+    for node in nodes {
+        moved.push(node)?;
+    }
+    Ok(moved)
+}
+
+// A message but for what it contains.
+#[derive(Drop)]
+struct MessageHead {
+    from: Option<Jid>,
+    to: Option<Jid>,
+    id: Text,
+    kind: MessageKind,
+    lang: Text,
+}
+
+impl MessageHead {
+    fn with_payload(self, payload: Nodes) -> Stanza
+        ensures { result ≡ message_with self (nodes_view payload.items) }
+    {
+        Stanza::Message(Message {
+            from: self.from,
+            to: self.to,
+            id: self.id,
+            kind: self.kind,
+            lang: self.lang,
+            payload,
+        })
+    }
+}
+
+fn message_head(alloc: Global, e: &Element) -> Result<MessageHead, StanzaFault>
+    ensures ok { IfOk result (λ head. message_of (elem_view e.now) ≡ Ok (message_with head (nodes_of (elem_view e.now)))) }
+    ensures refused { IfErr result (λ fault. Answers (Err fault) (message_of (elem_view e.now))) }
+{
+    let kind = MessageKind::of(e.attr("", "type"));
+    let (from, to) = addresses(alloc, e, true, kind.is_answered())?;
+    Ok(MessageHead {
         from,
         to,
         id: text_of(alloc, e.attr("", "id"))?,
         kind,
         lang: text_of(alloc, e.attr(XML, "lang"))?,
-        payload: payload_of(alloc, e)?,
-    }))
+    })
 }
 
 fn read_presence(alloc: Global, e: &Element) -> Result<Stanza, StanzaFault>
@@ -68,28 +133,51 @@ fn read_presence(alloc: Global, e: &Element) -> Result<Stanza, StanzaFault>
     Ok(Stanza::Presence(Presence {
         from,
         to,
-        kind: presence_kind(e.attr("", "type")),
+        kind: PresenceKind::of(e.attr("", "type")),
         priority: priority(alloc, e)?,
     }))
 }
 
-fn read_iq(alloc: Global, e: &Element) -> Result<Stanza, StanzaFault>
-    ensures { Answers result (iq_of (elem_view e.now)) }
+// An `iq` but for what it contains.
+#[derive(Drop)]
+struct IqHead {
+    from: Option<Jid>,
+    to: Option<Jid>,
+    id: Text,
+    kind: IqKind,
+}
+
+impl IqHead {
+    fn with_payload(self, payload: Nodes) -> Stanza
+        ensures { result ≡ iq_whole self (nodes_view payload.items) }
+    {
+        Stanza::Iq(Iq {
+            from: self.from,
+            to: self.to,
+            id: self.id,
+            kind: self.kind,
+            payload,
+        })
+    }
+}
+
+fn iq_head(alloc: Global, e: &Element) -> Result<IqHead, StanzaFault>
+    ensures ok { IfOk result (λ head. iq_of (elem_view e.now) ≡ Ok (iq_whole head (nodes_of (elem_view e.now)))) }
+    ensures refused { IfErr result (λ fault. Answers (Err fault) (iq_of (elem_view e.now))) }
 {
     let Some(id) = e.attr("", "id") else {
         return Err(StanzaFault::BadFormat);
     };
-    let Some(kind) = iq_kind(e.attr("", "type")) else {
+    let Some(kind) = IqKind::of(e.attr("", "type")) else {
         return Err(StanzaFault::BadFormat);
     };
-    let (from, to) = addresses(alloc, e, false, answers_iq(kind))?;
-    Ok(Stanza::Iq(Iq {
+    let (from, to) = addresses(alloc, e, false, kind.is_answered())?;
+    Ok(IqHead {
         from,
         to,
         id: Text::from_str(alloc, id)?,
         kind,
-        payload: payload_of(alloc, e)?,
-    }))
+    })
 }
 
 // The addresses of a stanza, `from` before `to`. The flags are what a bad `to` tells.
@@ -112,6 +200,7 @@ fn addresses(
         Err(_) => Err(StanzaFault::BadTo {
             message,
             reply,
+            from,
             id: text_of(alloc, e.attr("", "id"))?,
             to: text_of(alloc, e.attr("", "to"))?,
         }),
@@ -136,13 +225,6 @@ fn text_of(alloc: Global, value: Option<&str>) -> Result<Text, NoMemory>
         None => Ok(Text::new(alloc)),
         Some(text) => Text::from_str(alloc, text),
     }
-}
-
-// A copy of what the element contains.
-fn payload_of(alloc: Global, e: &Element) -> Result<Nodes, NoMemory>
-    ensures { IfOk result (λ payload. nodes_view payload.items ≡ nodes_of (elem_view e.now)) }
-{
-    copy_nodes(alloc, &e.children)
 }
 
 // The priority of a presence.

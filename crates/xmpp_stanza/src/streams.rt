@@ -1,25 +1,24 @@
-// Errors of streams.
+//! The errors of streams (RFC 6120, section 4.9).
 ghost use Rattle.std.specs.Prelude.{◌≡◌, IfOk};
 ghost use Rattle.std.specs.Option.{option_copied};
-ghost use Rattle.xmpp_framing.specs.Tidied.{tidied};
-ghost use Rattle.xmpp_framing.specs.Trees.{nodes_of};
+ghost use Rattle.xmpp_trees.specs.Tidied.{tidied};
+ghost use Rattle.xmpp_trees.specs.Trees.{nodes_of};
 ghost use Rattle.xmpp_stanza.specs.Conditions.{condition_in};
 ghost use Rattle.xmpp_stanza.specs.Errors.{stream_error_elem};
 ghost use Rattle.xmpp_stanza.specs.Names.{stream_errors_ns};
 
 use crate::conditions::condition_in;
-use crate::elements::empty_element;
 use crate::names::{STREAM_ERRORS, STREAMS};
 use std::alloc::Global;
 use xmpp_edge::NoMemory;
-use xmpp_framing::Tree;
+use xmpp_trees::{Element, Tree};
 
-/// A stream error with this condition, and behind it what an application adds (RFC 6120 section 4.9.2).
+/// A stream error with this condition, and behind it what an application adds (RFC 6120, section 4.9.2).
 pub fn stream_error(alloc: Global, condition: &str, extra: Option<Tree>) -> Result<Tree, NoMemory>
     ensures { IfOk result (λ tree. tree ≡ tidied (stream_error_elem condition.now extra)) }
 {
-    let mut error = empty_element(alloc, STREAMS, "error")?;
-    error.push_child(empty_element(alloc, STREAM_ERRORS, condition)?)?;
+    let mut error = Element::from_strs(alloc, STREAMS, "error")?;
+    error.push_child(Element::from_strs(alloc, STREAM_ERRORS, condition)?)?;
     match extra {
         None => {}
         Some(tree) => error.push_child(tree.into_element())?,
@@ -28,7 +27,7 @@ pub fn stream_error(alloc: Global, condition: &str, extra: Option<Tree>) -> Resu
 }
 
 /// The condition of a stream error: the name of its first child in the namespace of such conditions other than `text`
-/// (RFC 6120 sections 4.9.2 and 4.9.3). `None` exactly where there is none. It takes no memory.
+/// (RFC 6120, sections 4.9.2 and 4.9.3). `None` exactly where there is none. It takes no memory.
 pub fn stream_condition(tree: &Tree) -> Option<&str>
     ensures { option_copied result ≡ condition_in stream_errors_ns (nodes_of tree.now) }
 {

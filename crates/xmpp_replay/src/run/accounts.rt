@@ -1,19 +1,19 @@
 //! The accounts of a run, each with its archive.
 ghost use Rattle.std.specs.Prelude.{◌≡◌, ◌≢◌, ℕ, ◌+◌, ◌<◌, ◌≤◌, false, List, [], ◌∷◌, ◌++◌, length, map, slice_get, slice_index, slice_index_or, OnOk, OnErr, IfOk, IfSome, IfNone};
 ghost use Rattle.std.specs.List.{All};
-ghost use Rattle.xmpp_replay.specs.Direct.{account_name, accounts_of, bare_address};
+ghost use Rattle.xmpp_schedule.specs.Contents.{account_name, accounts_of};
 ghost use Rattle.xmpp_edge.specs.Names.{is_among};
 ghost use Rattle.xmpp_replay.specs.Homes.{Home, IsWhole, home_of_account, names_of, empty_home, appended_at, delivered};
 ghost use Rattle.xmpp_edge.specs.Names.{place_of};
-ghost use Rattle.xmpp_replay.specs.Schedules.{steps_of};
-ghost use Rattle.xmpp_replay.specs.Standing.{AreRight};
+ghost use Rattle.xmpp_schedule.specs.Schedules.{steps_of};
+ghost use Rattle.xmpp_schedule.specs.Standing.{AreRight};
 
-use xmpp_edge::NameIndex;
-use crate::schedule::{Line, Step};
 use std::alloc::Global;
 use std::marker::Model;
 use xmpp_archive::{Archive, ArchiveFault, Entry};
-use xmpp_edge::{NoMemory, Text};
+use xmpp_edge::{Copied, NameIndex, NoMemory, Text};
+use xmpp_report::bare_address;
+use xmpp_schedule::{Line, Step};
 
 /// How many entries an archive keeps: all that can come.
 const KEEP: u32 = 4_294_967_295;
@@ -42,15 +42,6 @@ impl Model for Accounts {
     ghost view = { λ a. record { homes = map home_of_account a.accounts.items; rooms = map room_of_account a.accounts.items } };
 
     ghost invariant = { λ a. (a.index ≡ names_of (map home_of_account a.accounts.items)) × All IsWholeAccount a.accounts.items };
-}
-
-/// An account's bare address (RFC 7622).
-pub(crate) fn bare_address(alloc: Global, account: &str) -> Result<Text, NoMemory>
-    ensures { IfOk result (λ t. t ≡ bare_address account.now) }
-{
-    let mut address = String::from_str(alloc, account)?;
-    address.push_str("@chat.example")?;
-    Ok(Text::from(address))
 }
 
 impl Accounts {
@@ -170,7 +161,7 @@ impl Accounts {
             self.append(from, entry);
             return Ok(());
         }
-        let copy = entry.copy(alloc)?;
+        let copy = entry.copied(alloc)?;
         self.reserve(to)?;
         self.append(from, entry);
         self.append(to, copy);

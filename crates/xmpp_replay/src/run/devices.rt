@@ -1,19 +1,18 @@
 //! The devices of a run.
 ghost use Rattle.std.specs.Prelude.{◌≡◌, [], None, IfOk};
 
-use crate::report::SaidLines;
 use std::alloc::Global;
 use xmpp_edge::{ListOf, NoMemory, Text};
 use xmpp_log::Log;
+use xmpp_report::SaidLines;
 
-/// A device: its account and that account's place, what it said and how many messages that were, and its log.
+/// A device: its account and that account's place, what it said, and its log.
 #[derive(Drop)]
 pub(crate) struct Device {
     pub(crate) name: Text,
     pub(crate) account: Text,
     pub(crate) home: usize,
     pub(crate) said: SaidLines,
-    pub(crate) sent: u64,
     pub(crate) log: Log,
 }
 
@@ -29,7 +28,6 @@ impl Device {
         ensures account { IfOk result (λ d. d.account ≡ account.now) }
         ensures home { IfOk result (λ d. d.home ≡ home) }
         ensures said { IfOk result (λ d. d.said.items ≡ []) }
-        ensures sent { IfOk result (λ d. d.sent ≡ 0) }
         ensures log { IfOk result (λ d. d.log ≡ record { entries = []; tiles = []; page = None }) }
     {
         Ok(Device {
@@ -37,7 +35,6 @@ impl Device {
             account: Text::from_str(alloc, account)?,
             home,
             said: ListOf::new(alloc),
-            sent: 0,
             log: Log::new(alloc),
         })
     }

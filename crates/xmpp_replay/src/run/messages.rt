@@ -1,39 +1,18 @@
 //! A device's message on its way into the archives.
 ghost use Rattle.std.specs.Prelude.{◌≡◌, ◌+◌, ◌<◌, ◌∷◌, ◌++◌, [], length, OnOk, OnErr, IfOk};
 ghost use Rattle.std.specs.List.{All};
-ghost use Rattle.xmpp_replay.specs.Direct.{entry_of, full_address, origin_of, take_line};
+ghost use Rattle.xmpp_report.specs.Takes.{entry_of};
+ghost use Rattle.xmpp_report.specs.Addresses.{full_address, origin_of};
+ghost use Rattle.xmpp_report.specs.Lines.{take_line};
 ghost use Rattle.xmpp_replay.specs.Homes.{Home, delivered};
-ghost use Rattle.xmpp_replay.specs.Messages.{HasSaid, homes_after, said_by, take_by, takes_after};
+ghost use Rattle.xmpp_replay.specs.Messages.{HasSaid, homes_after, said_by, sent_of, take_by, takes_after};
 
-use crate::report::{SaidLine, SaidMark, TakeLine, TakeLines};
-use crate::run::accounts::{Accounts, bare_address};
+use crate::run::accounts::Accounts;
 use crate::run::devices::Device;
 use std::alloc::Global;
 use xmpp_archive::{Bodies, Body, Entry};
 use xmpp_edge::{ListOf, NoMemory, Text};
-
-/// A device's full address (RFC 7622).
-fn full_address(alloc: Global, account: &str, device: &str) -> Result<Text, NoMemory>
-    ensures { IfOk result (λ t. t ≡ full_address account.now device.now) }
-{
-    let mut address = String::from_str(alloc, account)?;
-    address.push_str("@chat.example")?;
-    address.push_str("/")?;
-    address.push_str(device)?;
-    Ok(Text::from(address))
-}
-
-/// The origin id of a device's message in an epoch (XEP-0359).
-fn origin_of(alloc: Global, device: &str, epoch: u64, number: u64) -> Result<Text, NoMemory>
-    ensures { IfOk result (λ t. t ≡ origin_of device.now epoch number) }
-{
-    let mut origin = String::from_str(alloc, device)?;
-    origin.push_str(".")?;
-    origin.push_str(epoch.to_string(alloc)?.as_str())?;
-    origin.push_str(".")?;
-    origin.push_str(number.to_string(alloc)?.as_str())?;
-    Ok(Text::from(origin))
-}
+use xmpp_report::{SaidLine, SaidMark, TakeLine, TakeLines, bare_address, full_address, origin_of};
 
 /// The bodies of a message with a text in no language.
 fn bodies_of(alloc: Global, text: &str) -> Result<Bodies, NoMemory>
@@ -47,12 +26,20 @@ fn bodies_of(alloc: Global, text: &str) -> Result<Bodies, NoMemory>
     Ok(bodies)
 }
 
+/// The number of a device's next message.
+fn next_number(device: &Device) -> u64
+    requires { sent_of device.now < 100000 }
+    ensures { result ≡ sent_of device.now + 1 }
+{
+    device.said.as_slice().len() as u64 + 1
+}
+
 /// The archive entry of a device's next message, without a number.
 fn sent_entry(alloc: Global, device: &Device, to: &str, text: &str) -> Result<Entry, NoMemory>
-    requires { device.now.sent < 100000 }
+    requires { sent_of device.now < 100000 }
     ensures { IfOk result (λ e. e ≡ entry_of (take_by device.now to.now text.now)) }
 {
-    let number = device.sent + 1;
+    let number = next_number(device);
     Ok(Entry {
         number: 0,
         stamp: 0,
@@ -67,25 +54,25 @@ fn sent_entry(alloc: Global, device: &Device, to: &str, text: &str) -> Result<En
 
 /// The report's line of the take of a device's next message.
 fn take_line(alloc: Global, device: &Device, to: &str) -> Result<TakeLine, NoMemory>
-    requires { device.now.sent < 100000 }
+    requires { sent_of device.now < 100000 }
     ensures { IfOk result (λ line. line ≡ take_line (take_by device.now to.now [])) }
 {
     Ok(TakeLine {
         device: Text::from_str(alloc, device.name.as_str())?,
         epoch: 1,
-        n: device.sent + 1,
+        n: next_number(device),
         account: Text::from_str(alloc, to)?,
     })
 }
 
 /// The report's line of a device's next message.
 fn said_line(alloc: Global, device: &Device, to: &str, text: &str) -> Result<SaidLine, NoMemory>
-    requires { device.now.sent < 100000 }
+    requires { sent_of device.now < 100000 }
     ensures { IfOk result (λ line. line ≡ said_by device.now to.now text.now) }
 {
     Ok(SaidLine {
         epoch: 1,
-        n: device.sent + 1,
+        n: next_number(device),
         state: SaidMark::Acknowledged,
         to: Text::from_str(alloc, to)?,
         text: Text::from_str(alloc, text)?,
@@ -95,15 +82,15 @@ fn said_line(alloc: Global, device: &Device, to: &str, text: &str) -> Result<Sai
 /// Takes a device's next message, where its recipient's account stands at a place. A refusal leaves the archives
 /// and the takes as they were.
 fn take_message(
+    alloc: Global,
     device: &Device,
     accounts: &mut Accounts,
     takes: &mut TakeLines,
-    alloc: Global,
     place: usize,
     to: &str,
     text: &str,
 ) -> Result<(), NoMemory>
-    requires sent { device.now.sent < 100000 }
+    requires sent { sent_of device.now < 100000 }
     requires home { device.now.home < length accounts.old.homes }
     requires place { place < length accounts.old.homes }
     requires few { All (λ (home : Home). length home.entries < 4294967294) accounts.old.homes }
@@ -123,14 +110,14 @@ fn take_message(
 /// Takes a device's next message, where its recipient has an account. A refusal leaves the archives and the takes
 /// as they were.
 fn take_if_known(
+    alloc: Global,
     device: &Device,
     accounts: &mut Accounts,
     takes: &mut TakeLines,
-    alloc: Global,
     to: &str,
     text: &str,
 ) -> Result<(), NoMemory>
-    requires sent { device.now.sent < 100000 }
+    requires sent { sent_of device.now < 100000 }
     requires home { device.now.home < length accounts.old.homes }
     requires few { All (λ (home : Home). length home.entries < 4294967294) accounts.old.homes }
     ensures homes { OnOk result (accounts.new.homes ≡ homes_after device.now to.now text.now accounts.old.homes) }
@@ -139,7 +126,7 @@ fn take_if_known(
     ensures refused_takes { OnErr result (takes.new.items ≡ takes.old.items) }
 {
     match accounts.find(to) {
-        Some(place) => take_message(device, accounts, takes, alloc, place, to, text),
+        Some(place) => take_message(alloc, device, accounts, takes, place, to, text),
         None => Ok(()),
     }
 }
@@ -147,14 +134,14 @@ fn take_if_known(
 /// Sends a device's next message, which is taken and acknowledged at once. A refusal leaves the archives, the
 /// takes and what the device said as they were.
 pub(crate) fn say(
+    alloc: Global,
     device: &mut Device,
     accounts: &mut Accounts,
     takes: &mut TakeLines,
-    alloc: Global,
     to: &str,
     text: &str,
 ) -> Result<(), NoMemory>
-    requires sent { device.old.sent < 100000 }
+    requires sent { sent_of device.old < 100000 }
     requires home { device.old.home < length accounts.old.homes }
     requires few { All (λ (home : Home). length home.entries < 4294967294) accounts.old.homes }
     ensures homes { OnOk result (accounts.new.homes ≡ homes_after device.old to.now text.now accounts.old.homes) }
@@ -166,8 +153,7 @@ pub(crate) fn say(
 {
     let line = said_line(alloc, device, to, text)?;
     device.said.reserve(1)?;
-    take_if_known(device, accounts, takes, alloc, to, text)?;
+    take_if_known(alloc, device, accounts, takes, to, text)?;
     device.said.push_reserved(line);
-    device.sent += 1;
     Ok(())
 }

@@ -1,8 +1,6 @@
 //! The pages that a device takes of its account's archive, one behind the other (XEP-0313 section 4.3, XEP-0059).
 ghost use Rattle.std.specs.Prelude.{◌≡◌, ◌-◌, ◌<◌, ◌≤◌, nat_le, [], Some, None, Ok, length, map, take, drop, slice_index_or, OnOk, IfOk, IsSomeAnd};
-ghost use Rattle.std.specs.Option.{option_copied, option_map};
 ghost use Rattle.xmpp_archive.specs.Entries.{EntryView};
-ghost use Rattle.xmpp_archive.specs.Ids.{id_of};
 ghost use Rattle.xmpp_log.specs.LogPages.{last_id};
 ghost use Rattle.xmpp_log.specs.Views.{after_fin, fin_answer, outcome_of, page_for, with_result};
 ghost use Rattle.xmpp_pages.specs.Kept.{kept_of};
@@ -10,13 +8,13 @@ ghost use Rattle.xmpp_pages.specs.PageOf.{page_of};
 ghost use Rattle.xmpp_pages.specs.Spans.{numbers_of};
 ghost use Rattle.xmpp_replay.specs.Direct.{as_logged, place_behind, query_behind};
 ghost use Rattle.xmpp_replay.specs.Homes.{IsWhole};
-ghost use Rattle.xmpp_replay.specs.Turns.{IsFrontOf, caught_up, fin_of, opened, open_page, page_behind, with_turn};
+ghost use Rattle.xmpp_replay.specs.Turns.{IsFrontOf, caught_up, opened, open_page, page_behind, with_turn};
 
 use std::alloc::Global;
 use xmpp_archive::{Archive, id_of_number};
 use xmpp_edge::{Copied, NoMemory, Text};
-use xmpp_log::{BeginFault, Fin, FinFault, Log, LogEntry, ResultFault};
-use xmpp_pages::{ArchiveLook, PageCut, PageFault, PageQuery, Place, page};
+use xmpp_log::{BeginFault, FinFault, Log, LogEntry, ResultFault};
+use xmpp_pages::{ArchiveLook, Fin, PageCut, PageFault, PageQuery, Place, page};
 
 /// Behind the log's last entry, or at the archive's first one where the log has none.
 fn place_behind(alloc: Global, log: &Log) -> Result<Place, NoMemory>
@@ -49,32 +47,9 @@ fn ask(alloc: Global, log: &Log, archive: &Archive, most: u32) -> Result<PageCut
     }
 }
 
-/// The id of the entry with a number, where a page has one.
-fn id_in_page(alloc: Global, number: Option<&u64>) -> Result<Option<Text>, NoMemory>
-    ensures { IfOk result (λ id. id ≡ option_map id_of (option_copied number.entry)) }
-{
-    match number {
-        Some(number) => Ok(Some(id_of_number(alloc, *number)?)),
-        None => Ok(None),
-    }
-}
-
-/// What the archive tells at the page's end.
-fn fin_of(alloc: Global, cut: &PageCut) -> Result<Fin, NoMemory>
-    ensures { IfOk result (λ fin. fin ≡ fin_of cut.now) }
-{
-    let numbers = cut.numbers.as_slice();
-    Ok(Fin {
-        complete: cut.complete,
-        first: id_in_page(alloc, numbers.first())?,
-        first_index: cut.first_index,
-        last: id_in_page(alloc, numbers.last())?,
-        count: cut.count,
-    })
-}
-
-/// Begins the next page, and answers its query id.
-fn begin_page(log: &mut Log, alloc: Global, most: u32) -> Result<Text, NoMemory>
+/// Begins the next page, and answers its query id: `q` and how many pages the log has, so that no two pages of a log
+/// share one.
+fn begin_page(alloc: Global, log: &mut Log, most: u32) -> Result<Text, NoMemory>
     requires most { (1 ≤ most) × (most ≤ 100) }
     requires closed { log.old.page ≡ None }
     ensures { IfOk result (λ queryid. log.new ≡ opened queryid most log.old []) }
@@ -92,8 +67,8 @@ fn begin_page(log: &mut Log, alloc: Global, most: u32) -> Result<Text, NoMemory>
 
 /// Copies the archive's entry with a number into the open page.
 fn copy_result(
-    log: &mut Log,
     alloc: Global,
+    log: &mut Log,
     queryid: &str,
     archive: &Archive,
     number: u64,
@@ -108,7 +83,7 @@ fn copy_result(
     };
     let logged = LogEntry {
         id: id_of_number(alloc, entry.number)?,
-        entry: entry.copy(alloc)?,
+        entry: entry.copied(alloc)?,
     };
     match log.result(queryid, logged) {
         Ok(()) => Ok(()),
@@ -118,7 +93,7 @@ fn copy_result(
 }
 
 /// Ends the open page, of which it is known that it ends well.
-fn end_page(log: &mut Log, alloc: Global, queryid: &str, fin: &Fin) -> Result<(), NoMemory>
+fn end_page(alloc: Global, log: &mut Log, queryid: &str, fin: &Fin) -> Result<(), NoMemory>
     requires { fin_answer log.old queryid.now fin.now ≡ Ok (outcome_of fin.now.complete) }
     ensures { OnOk result (log.new ≡ after_fin log.old fin.now) }
 {
@@ -134,8 +109,8 @@ fn end_page(log: &mut Log, alloc: Global, queryid: &str, fin: &Fin) -> Result<()
 
 /// Copies the archive's entries with the numbers of the next page into the open page.
 fn copy_results(
-    log: &mut Log,
     alloc: Global,
+    log: &mut Log,
     queryid: &str,
     archive: &Archive,
     most: u32,
@@ -147,14 +122,14 @@ fn copy_results(
     ensures { OnOk result (log.new ≡ opened queryid.now most log.old (map as_logged (take most (drop (length log.old.entries) archive.now.entries)))) }
 {
     for number in numbers {
-        copy_result(log, alloc, queryid, archive, *number)?;
+        copy_result(alloc, log, queryid, archive, *number)?;
     }
     Ok(())
 }
 
 /// Takes the archive's next page of at most so many entries over into the log. It answers whether the page is
 /// complete, and costs what the page costs, however long the archive is.
-fn take_page(log: &mut Log, alloc: Global, archive: &Archive, most: u32) -> Result<bool, NoMemory>
+fn take_page(alloc: Global, log: &mut Log, archive: &Archive, most: u32) -> Result<bool, NoMemory>
     requires whole { IsWhole archive.now }
     requires most { (1 ≤ most) × (most ≤ 100) }
     requires closed { log.old.page ≡ None }
@@ -163,25 +138,25 @@ fn take_page(log: &mut Log, alloc: Global, archive: &Archive, most: u32) -> Resu
     ensures complete { IfOk result (λ complete. complete ≡ nat_le (length (drop (length log.old.entries) archive.now.entries)) most) }
 {
     let cut = ask(alloc, log, archive, most)?;
-    let fin = fin_of(alloc, &cut)?;
-    let queryid = begin_page(log, alloc, most)?;
+    let fin = cut.fin(alloc)?;
+    let queryid = begin_page(alloc, log, most)?;
     copy_results(
-        log,
         alloc,
+        log,
         queryid.as_str(),
         archive,
         most,
         cut.numbers.as_slice(),
     )?;
-    end_page(log, alloc, queryid.as_str(), &fin)?;
+    end_page(alloc, log, queryid.as_str(), &fin)?;
     Ok(cut.complete)
 }
 
 /// Takes the pages behind the log's last entry until one is complete. Each costs what its entries cost.
 #[tactic(auto, using(crate::proofs::CatchUps::turn_kept, crate::proofs::CatchUps::turn_smaller, crate::proofs::CatchUps::front_grows))]
 pub(crate) fn catch_up(
-    log: &mut Log,
     alloc: Global,
+    log: &mut Log,
     archive: &Archive,
     most: u32,
 ) -> Result<(), NoMemory>
@@ -193,7 +168,7 @@ pub(crate) fn catch_up(
 {
     let mut more = true;
     while more {
-        more = !take_page(log, alloc, archive, most)?;
+        more = !take_page(alloc, log, archive, most)?;
     }
     Ok(())
 }

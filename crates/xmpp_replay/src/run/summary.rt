@@ -1,61 +1,15 @@
 //! What a run came to, moved into the lines of its report.
 ghost use Rattle.std.specs.Prelude.{◌≡◌, map, IfOk};
-ghost use Rattle.xmpp_replay.specs.Direct.{entry_line, first_body, logged_line};
 ghost use Rattle.xmpp_replay.specs.Homes.{home_of_account};
-ghost use Rattle.xmpp_replay.specs.ReportLines.{home_line, state_line, tile_line};
+ghost use Rattle.xmpp_replay.specs.ReportLines.{home_line, state_line};
 
-use crate::report::{
-    AccountLine, AccountLines, DeviceLine, DeviceLines, EntryLine, EntryLines, LoggedLine,
-    LoggedLines, PageLine, PageLines,
-};
 use crate::run::accounts::Account;
 use crate::run::devices::Device;
 use std::alloc::Global;
-use xmpp_archive::{Bodies, Entry, id_of_number};
-use xmpp_edge::{ListOf, NoMemory, Text};
-use xmpp_log::{LogEntries, LogEntry, Tile, Tiles};
-
-/// The first body's text, or an empty one.
-fn first_body(alloc: Global, bodies: Bodies) -> Text
-    ensures { result ≡ first_body bodies.items }
-{
-    match bodies.into_items().into_iter().next() {
-        Some(body) => body.text,
-        None => Text::new(alloc),
-    }
-}
-
-fn entry_line(alloc: Global, entry: Entry) -> Result<EntryLine, NoMemory>
-    ensures { IfOk result (λ line. line ≡ entry_line entry) }
-{
-    let Entry {
-        number,
-        stamp,
-        from,
-        to,
-        origin,
-        bodies,
-        ..
-    } = entry;
-    Ok(EntryLine {
-        id: id_of_number(alloc, number)?,
-        stamp,
-        from,
-        to,
-        origin,
-        text: first_body(alloc, bodies),
-    })
-}
-
-fn entry_lines(alloc: Global, entries: Vec<Entry>) -> Result<EntryLines, NoMemory>
-    ensures { IfOk result (λ lines. lines.items ≡ map entry_line entries.items) }
-{
-    let mut lines = ListOf::new(alloc);
-    for entry in entries {
-        lines.push(entry_line(alloc, entry)?)?;
-    }
-    Ok(lines)
-}
+use xmpp_edge::{ListOf, NoMemory};
+use xmpp_report::{
+    AccountLine, AccountLines, DeviceLine, DeviceLines, entry_lines, logged_lines, page_lines,
+};
 
 fn account_line(alloc: Global, account: Account) -> Result<AccountLine, NoMemory>
     ensures { IfOk result (λ line. line ≡ home_line (home_of_account account)) }
@@ -76,64 +30,6 @@ pub(crate) fn account_lines(alloc: Global, accounts: Vec<Account>) -> Result<Acc
     let mut lines = ListOf::new(alloc);
     for account in accounts {
         lines.push(account_line(alloc, account)?)?;
-    }
-    Ok(lines)
-}
-
-fn page_line(tile: Tile) -> PageLine
-    ensures { result ≡ tile_line tile }
-{
-    let Tile {
-        after,
-        count,
-        complete,
-        total,
-    } = tile;
-    PageLine {
-        after,
-        count,
-        total: if complete { Some(total) } else { None },
-    }
-}
-
-fn page_lines(alloc: Global, tiles: Tiles) -> Result<PageLines, NoMemory>
-    ensures { IfOk result (λ lines. lines.items ≡ map tile_line tiles.items) }
-{
-    let mut lines = ListOf::new(alloc);
-    for tile in tiles.into_items() {
-        lines.push(page_line(tile))?;
-    }
-    Ok(lines)
-}
-
-fn logged_line(alloc: Global, logged: LogEntry) -> LoggedLine
-    ensures { result ≡ logged_line logged }
-{
-    let LogEntry { id, entry } = logged;
-    let Entry {
-        stamp,
-        from,
-        to,
-        origin,
-        bodies,
-        ..
-    } = entry;
-    LoggedLine {
-        id,
-        stamp,
-        from,
-        to,
-        origin,
-        text: first_body(alloc, bodies),
-    }
-}
-
-fn logged_lines(alloc: Global, entries: LogEntries) -> Result<LoggedLines, NoMemory>
-    ensures { IfOk result (λ lines. lines.items ≡ map logged_line entries.items) }
-{
-    let mut lines = ListOf::new(alloc);
-    for logged in entries.into_items() {
-        lines.push(logged_line(alloc, logged))?;
     }
     Ok(lines)
 }

@@ -1,18 +1,12 @@
-use Rattle.xmpp_cli.proofs.Refusals.{complete, not_risen, refused_only, sound_only, unsound_only}
+use Rattle.xmpp_cli.proofs.Statuses.{answered, exactly, not_risen, replayed}
 use Rattle.xmpp_cli.proofs.running.run.Goals as goal
 
-pub returns-clause-refused_only : goal.returns-clause-refused_only
-returns-clause-refused_only g c = λ words calm still.
-    refused_only _ _ _ _ _ _ words (not_risen _ _ calm) (λ five. not_risen _ _ still (c.write_due.ensures.front five).0) c.write_due.ensures.told
+pub returns-clause-done_replay : goal.returns-clause-done_replay
+returns-clause-done_replay g c = λ zero words. replayed _ _ _ _ _ _ c.write_due.ensures.told zero words
 
-pub returns-clause-complete : goal.returns-clause-complete
-returns-clause-complete g c = λ words calm still.
-    complete _ _ _ _ _ _ words (not_risen _ _ calm) (λ five. not_risen _ _ still (c.write_due.ensures.front five).0) c.write_due.ensures.told
+pub returns-clause-answered : goal.returns-clause-answered
+returns-clause-answered g c = answered _ _ _ _ _ _ c.write_due.ensures.told
 
-pub returns-clause-refused_check_only : goal.returns-clause-refused_check_only
-returns-clause-refused_check_only g c = λ words calm still.
-    unsound_only _ _ _ _ _ _ words (not_risen _ _ calm) (λ five. not_risen _ _ still (c.write_due.ensures.front five).0) c.write_due.ensures.told
-
-pub returns-clause-complete_check : goal.returns-clause-complete_check
-returns-clause-complete_check g c = λ words calm still.
-    sound_only _ _ _ _ _ _ words (not_risen _ _ calm) (λ five. not_risen _ _ still (c.write_due.ensures.front five).0) c.write_due.ensures.told
+pub returns-clause-exactly : goal.returns-clause-exactly
+returns-clause-exactly g c = λ outcome must still.
+    exactly _ _ _ _ _ _ _ outcome (not_risen _ _) (λ five. not_risen _ _ still (c.write_due.ensures.prefix five).0) must c.write_due.ensures.told

@@ -1,6 +1,6 @@
 use Rattle.std.proofs.Common.{◌≡◌, ◌++◌, map}
 use Rattle.std.specs.Vec.Iter.{into_iter_items}
-use Rattle.xmpp_framing.specs.Attributes.{attribute_of}
+use Rattle.xmpp_framing.specs.Expanded.{attribute_of}
 use Rattle.xmpp_framing.proofs.elements_in_hand.attrs_of.Given as goal
 
 -- those so far and what is left are all

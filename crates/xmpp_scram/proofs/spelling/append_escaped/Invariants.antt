@@ -1,5 +1,5 @@
 use Rattle.std.proofs.Common.{◌≡◌, ◌++◌, take}
-use Rattle.xmpp_scram.specs.Exchange.{escaped}
+use Rattle.xmpp_scram.specs.Grammar.{escaped}
 use Rattle.xmpp_scram.proofs.spelling.append_escaped.Given as goal
 
 -- the name so far has been added

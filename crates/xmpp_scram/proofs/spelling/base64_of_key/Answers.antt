@@ -8,4 +8,4 @@ use Rattle.xmpp_scram.proofs.spelling.base64_of_key.Goals as goal
 pub returns : goal.returns
 unfolding base64_of
 returns c =
-    c.in-Ok.ensures.written ∙ append-drop_all (encode_of standard c.args.key.now) _ _ (ap (encoded_size_of standard) c.told-key) refl
+    c.in-Ok.ensures.written ∙ append-drop_all (encode_of standard c.args.key.now) _ _ 44 (ap (encoded_size_of standard) c.told-key) refl

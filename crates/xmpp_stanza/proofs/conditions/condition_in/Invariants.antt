@@ -1,5 +1,5 @@
 use Rattle.std.proofs.Common.{◌≡◌, drop}
-use Rattle.xmpp_framing.specs.Views.{nodes_view}
+use Rattle.xmpp_trees.specs.Views.{nodes_view}
 use Rattle.xmpp_stanza.specs.Conditions.{condition_in}
 use Rattle.xmpp_stanza.proofs.conditions.condition_in.Given as goal
 

@@ -3,24 +3,19 @@ use Rattle.xmpp_acks.proofs.Directions.{kept_reached}
 use Rattle.xmpp_acks.proofs.Senders.{acks, sender_acked}
 use Rattle.xmpp_acks.specs.Counters.{AckView}
 use Rattle.xmpp_acks.specs.Delivery.{Direction}
-use Rattle.xmpp_pool.specs.Queues.{list_of}
 use Rattle.xmpp_acks.proofs.end.AckEnd.ack.Goals as goal
 
-pub returns-then-waiting-from-clause-acknowledges : goal.returns-then-waiting-from-clause-acknowledges
-returns-then-waiting-from-clause-acknowledges c = λ n d next reached sender move is.
+pub returns-in-Some-clause-acknowledges : goal.returns-in-Some-clause-acknowledges
+returns-in-Some-clause-acknowledges c = λ n d next reached sender move is.
     let stated : n ≤ length d.got = (kept_reached d reached).stated n move.0 in
     let facts = acks c.args.self.now c.args.pool.now d n c.args.h reached sender stated move.1 is c.requires.few in
-    let acked = ap (λ (v : AckView). v.acked) c.self.view_is in
-    let queue = ap (λ (v : AckView). length (list_of v.queue c.args.pool.now)) c.self.view_is in
-    absurd (omega arith)
+    absurd (omega (arith, facts.exact, facts.enough, c.in-Some.ensures.some))
 
-pub returns-then-waiting-from-clause-resumes : goal.returns-then-waiting-from-clause-resumes
-returns-then-waiting-from-clause-resumes c = λ d next reached sender move is.
+pub returns-in-Some-clause-resumes : goal.returns-in-Some-clause-resumes
+returns-in-Some-clause-resumes c = λ d next reached sender move is.
     let facts = acks c.args.self.now c.args.pool.now d (length d.got) c.args.h reached sender (omega arith) (kept_reached d reached).acked is
     c.requires.few in
-    let acked = ap (λ (v : AckView). v.acked) c.self.view_is in
-    let queue = ap (λ (v : AckView). length (list_of v.queue c.args.pool.now)) c.self.view_is in
-    absurd (omega arith)
+    absurd (omega (arith, facts.exact, facts.enough, c.in-Some.ensures.some))
 
 pub returns-clause-acknowledges : goal.returns-clause-acknowledges
 returns-clause-acknowledges c = λ n d next reached sender move is.

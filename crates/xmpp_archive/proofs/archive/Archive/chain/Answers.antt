@@ -9,6 +9,6 @@ returns c =
     let kept = c.self.invariant.0 in
     let first = c.self.inside.last + 1 - length entries in
     let follow = follow_numbered c.self.inside.last entries kept.numbers kept.within in
-    let size : c.len.result ≡ length entries = omega (arith, c.len.ensures, c.self.inside.entries.ok.0) in
-    rw (c.chain.ensures, c.as_str.ensures, size, ← c.self.view_is)
+    let start : c.first.result ≡ first = rw (← c.self.view_is) at c.first.ensures.first in
+    rw (c.chain.ensures, c.as_str.ensures, start, ← c.self.view_is)
     (sym (chain_ends_is c.self.inside.owner c.args.peer.now first entries follow (omega (arith, kept.within))))

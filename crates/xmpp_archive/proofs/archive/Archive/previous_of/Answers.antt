@@ -28,5 +28,5 @@ returns c =
     let follow = follow_numbered c.self.inside.last entries kept.numbers kept.within in
     let place = place_has c.self.inside.owner first c.args.number c.in_ok-place.field-0 entries c.self.inside.links.links.items c.self.inside.links.chains.items c.self.invariant.1
     follow (omega (arith, kept.within)) (omega (arith, inside.1, kept.within)) inside.0 in
-    let size : c.len.result ≡ length entries = omega (arith, c.len.ensures, c.self.inside.entries.ok.0) in
-    rw (c.previous_at.ensures, size, ← c.self.view_is) (sym place.1)
+    let start : c.first.result ≡ first = rw (← c.self.view_is) at c.first.ensures.first in
+    rw (c.previous_at.ensures, start, ← c.self.view_is) (sym place.1)

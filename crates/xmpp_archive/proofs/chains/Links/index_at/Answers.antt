@@ -1,8 +1,8 @@
 use Rattle.std.proofs.Common.{Some, map, sym, ap, ◌∙◌, arith}
 use Rattle.xmpp_archive.proofs.ChainReads.{ends_read, index_count}
 use Rattle.xmpp_archive.proofs.ChainSteps.{links_of_entries, peer_chained, peer_place}
-use Rattle.xmpp_archive.proofs.Keys.{some_same}
 use Rattle.xmpp_archive.specs.Peers.{peer_of}
+use Rattle.std.proofs.lemmas.Option.{same_Some}
 use Rattle.xmpp_archive.proofs.chains.Links.index_at.Goals as goal
 
 pub unreachable-requires : goal.unreachable-requires
@@ -42,4 +42,4 @@ returns c = λ peer is.
     let here = peer_place (peer_of c.args.owner.now) c.args.entries.now.items c.args.at c.index.result.now c.requires.there c.index.ensures ∙ ap Some (sym c.peer.ensures) in
     let ends = ends_read c.args.first peers c.peer.result.now c.args.self.now.links.items c.args.self.now.chains.items c.in-Ok.chain c.index-2.result.now c.requires.linked c.in-Ok.ensures.found c.index-2.ensures in
     let count = index_count c.args.first peers c.peer.result.now c.args.self.now.links.items c.args.self.now.chains.items c.index-2.result.now c.args.at c.index-3.result.now c.index-4.result.now c.requires.linked ends here c.index-3.ensures c.index-4.ensures in
-    rw (← some_same c.peer.result.now peer (sym here ∙ is)) count.1
+    rw (← same_Some c.peer.result.now peer (sym here ∙ is)) count.1

@@ -14,7 +14,7 @@ invariant_of-result c =
     let domain = c.in_ok-push_domain.ensures in
     let domain_is : domain_form (domain_of text) ≡ Ok domain.0 =
     rw (c.split_local.ensures.domain, c.split_resource.ensures.bare) at domain.1 in
-    let resource = c.in_ok-end.ensures in
+    let resource = c.in_ok-push_slash_and_resource.ensures in
     let resource_is : resource_back (resource_of text) ≡ Ok resource.0 = rw c.split_resource.ensures.resource at resource.1 in
     let bare_text : string_bytes c.push_domain.new.out ≡ local ++ domain.0 = domain.2 in
     let whole_text : c.from.result ≡ local ++ domain.0 ++ resource.0 = c.from.ensures ∙ resource.2 ∙ ap (λ (front : List ℕ). front ++ resource.0) bare_text in

@@ -20,6 +20,6 @@ returns c = OnOk_then c.catch_up.result c.catch_up.ensures (λ done. record {
   index = refl;
   homes = refl;
   takes = refl;
-  same = (refl, refl, refl, refl, refl);
+  same = (refl, refl, refl, refl);
   log = λ d. done ∙ ap (λ (es : _). caught_up c.args.most es c.index_mut-device.result.now.log) (c.archive.ensures.entries d);
 })

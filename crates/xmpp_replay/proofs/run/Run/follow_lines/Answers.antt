@@ -1,7 +1,7 @@
 -- Each line may stand where it stands, so its step can be followed.
 use Rattle.std.proofs.Common.{arith}
 use Rattle.xmpp_replay.proofs.WholeRuns.{after_at, may_at, ready_at, step_there}
-use Rattle.xmpp_replay.specs.Schedules.{steps_of}
+use Rattle.xmpp_schedule.specs.Schedules.{steps_of}
 use Rattle.xmpp_replay.proofs.run.Run.follow_lines.Goals as goal
 
 pub follow-requires-clause-ready : goal.follow-requires-clause-ready

@@ -1,7 +1,7 @@
 -- The run is what the lines so far make of it.
 use Rattle.std.proofs.Common.{take}
 use Rattle.xmpp_replay.specs.Runs.{IsAfter}
-use Rattle.xmpp_replay.specs.Schedules.{steps_of}
+use Rattle.xmpp_schedule.specs.Schedules.{steps_of}
 use Rattle.xmpp_replay.proofs.run.Run.follow_lines.Given as goal
 
 abbrev pub invariant-loop-line : goal.invariant-loop-line

@@ -11,7 +11,7 @@ invariant-first l = record {
   ordered : AreInOrder l.self;
   conns : l.self.conns ≡ l.fn.self.conns;
   whole : l.self.whole ≡ l.fn.self.whole;
-  names : l.self.names ≡ l.fn.self.names;
+  seats : l.self.seats ≡ l.fn.self.seats;
 }
 
 abbrev pub decreases-first : goal.decreases-first

@@ -1,20 +1,13 @@
-use Rattle.std.proofs.Common.{rules, ap, ◌∙◌}
-use Rattle.std.specs.Prelude.{nat_eq}
-use Rattle.std.specs.HashMap as hash
-use Rattle.xmpp_resume.proofs.IndexFacts.{absent_name, indexed_as}
-use Rattle.xmpp_resume.proofs.StoredFacts.{name_answer, opened}
-use Rattle.xmpp_resume.specs.Indexed.{IsIndexed, name_in}
-use Rattle.xmpp_resume.specs.Rows.{IsTable, Table}
+use Rattle.std.proofs.Common.{ap, ◌∙◌}
+use Rattle.std.specs.List.{find}
+use Rattle.xmpp_resume.proofs.BindFacts.{named_of}
+use Rattle.xmpp_resume.proofs.RowFacts.{found_among}
+use Rattle.xmpp_resume.specs.Rows.{is_named, is_of, row_of}
+use Rattle.xmpp_resume.specs.Stored.{passes}
 use Rattle.xmpp_resume.proofs.table.Sessions.by_name.Goals as goal
 
-pub returns-then-eq-clause-number : goal.returns-then-eq-clause-number
-returns-then-eq-clause-number c = name_answer c.args.account c.args.self.now.next c.args.resource.now c.args.self.now.rows c.scan.result c.scan.ensures.table c.scan.ensures.number
-
-pub returns-else-eq-clause-number : goal.returns-else-eq-clause-number
-returns-else-eq-clause-number c =
-    let seen = ap (λ (t : Table). t.rows) c.self.view_is in
-    let table : IsTable c.args.self.now.rows c.self.inside.next = (opened (hash.get nat_eq c.self.inside.rows) c.self.inside.numbers.items c.self.inside.next c.args.self.now.rows seen c.self.invariant.0).table in
-    let indexed : IsIndexed c.self.inside.index c.args.self.now.rows = indexed_as c.self.inside.index _ c.args.self.now.rows seen c.self.invariant.1 in
-    name_answer c.args.account c.self.inside.next c.args.resource.now c.args.self.now.rows c.checked.result table
-    (absent_name c.args.account c.self.inside.next c.args.resource.now c.self.inside.index c.args.self.now.rows c.copied-number.result c.checked.result table indexed
-    (c.copied-number.ensures ∙ c.get.ensures.value ∙ ap (name_in c.self.inside.index) c.mark.ensures) (search rules) c.checked.ensures)
+pub returns-clause-number : goal.returns-clause-number
+returns-clause-number c =
+    c.first_sought.ensures ∙ ap (find (λ n. passes (is_named c.args.account c.args.resource.now) (row_of n c.args.self.now.rows))) c.of_account.ensures.numbers
+    ∙ found_among c.args.self.now.next 1 (is_named c.args.account c.args.resource.now) (is_of c.args.account) (λ n. row_of n c.args.self.now.rows) c.args.self.now.rows c.of_account.ensures.table.ascending
+    (λ r passed. named_of c.args.account c.args.resource.now r passed) (λ n r is. is)

@@ -1,4 +1,5 @@
 use Rattle.std.proofs.Common.{refl, ◌∙◌, arith}
+use Rattle.xmpp_resume.proofs.DeliveryFacts.{unexpired_stand}
 use Rattle.xmpp_resume.proofs.ExpiryFacts.{expiring_begins, expiring_ends, expiring_more}
 use Rattle.xmpp_resume.proofs.RowFacts.{length-without}
 use Rattle.xmpp_resume.specs.Housed.{IsGone}
@@ -9,6 +10,7 @@ ending-init c =
     record {
       so_far = expiring_begins c.args.now c.args.self.now.rows c.args.pool.now;
       next = refl;
+      seat = refl;
       kept = omega arith;
       made = refl;
       room = omega arith;
@@ -31,6 +33,7 @@ ending-preserved c =
           (expiring_more c.args.now c.in-Some.number c.ending.self.next row c.args.self.now.rows c.ending.self.rows c.args.pool.now c.ending.pool c.end.new.pool
           c.in-Some.ensures.table c.in-Some.ensures.number.1 c.in-Some.ensures.number.2 gone c.ending.invariant.so_far);
       next = c.end.ensures.next ∙ c.in-Some.ensures.next ∙ c.ending.invariant.next;
+      seat = c.end.ensures.seat ∙ c.in-Some.ensures.seat ∙ c.ending.invariant.seat;
       kept = omega arith;
       made = c.end.ensures.made ∙ c.ending.invariant.made;
       room = omega arith;
@@ -43,3 +46,7 @@ returns-in-None-clause-rows c =
 
 pub returns-in-None-clause-pool : goal.returns-in-None-clause-pool
 returns-in-None-clause-pool c = (expiring_ends c.args.now c.args.self.now.rows c.ending.self.rows c.args.pool.now c.ending.pool c.in-None.ensures.number c.ending.invariant.so_far).1
+
+pub returns-in-None-clause-others : goal.returns-in-None-clause-others
+returns-in-None-clause-others c =
+    unexpired_stand c.args.now c.args.self.now.rows _ c.args.pool.now c.ending.pool c.requires (returns-in-None-clause-rows c) (returns-in-None-clause-pool c)

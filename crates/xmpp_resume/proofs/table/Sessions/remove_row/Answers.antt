@@ -8,9 +8,9 @@ use Rattle.xmpp_resume.proofs.StoredFacts.{ShownAs, opened, removed_row}
 use Rattle.xmpp_resume.specs.Rows.{Table, row_of, without}
 use Rattle.xmpp_resume.specs.Stored.{IsStored}
 use Rattle.xmpp_resume.proofs.table.Sessions.remove_row.Goals as goal
-use Rattle.xmpp_resume.proofs.table.Sessions.remove_row.Goals.{After-from_residual, After-unname}
+use Rattle.xmpp_resume.proofs.table.Sessions.remove_row.Goals.{After-from_residual, After-unseat}
 
-removed : (c : After-unname) → ShownAs (hash.get nat_eq c.remove.new.self) c.self.inside.numbers.items c.self.inside.next (without c.args.number c.args.self.now.rows)
+removed : (c : After-unseat) → ShownAs (hash.get nat_eq c.remove.new.self) c.self.inside.numbers.items c.self.inside.next (without c.args.number c.args.self.now.rows)
 removed c =
     let seen = ap (λ (t : Table). t.rows) c.self.view_is in
     let stored : IsStored (hash.get nat_eq c.self.inside.rows) c.self.inside.numbers.items c.self.inside.next c.args.self.now.rows = opened (hash.get nat_eq c.self.inside.rows) c.self.inside.numbers.items c.self.inside.next c.args.self.now.rows seen c.self.invariant.0 in
@@ -24,9 +24,9 @@ invariant_of-self-2 c =
     let found : row_of c.args.number c.args.self.now.rows ≡ Some c.in_ok-row.row = sym (stored.found c.args.number) ∙ sym c.in_ok-row.ensures.value in (
       (removed c).kept,
       rw (removed c).shown
-          (indexed_without c.args.number c.self.inside.next c.in_ok-row.row c.self.inside.index c.forget.new.self c.unname.new.self c.args.self.now.rows stored.table found
-          c.forget.ensures.conns c.forget.ensures.waits c.forget.ensures.whole c.forget.ensures.names c.unname.ensures.conns c.unname.ensures.waits c.unname.ensures.whole
-          (rw (c.mark.ensures, c.as_str.ensures) at c.unname.ensures.here) (rw (c.mark.ensures, c.as_str.ensures) at c.unname.ensures.names) indexed),
+          (indexed_without c.args.number c.self.inside.next c.in_ok-row.row c.self.inside.index c.forget.new.self c.unseat.new.self c.args.self.now.rows stored.table found
+          c.forget.ensures.conns c.forget.ensures.waits c.forget.ensures.whole c.forget.ensures.seats c.unseat.ensures.conns c.unseat.ensures.waits c.unseat.ensures.whole
+          c.unseat.ensures.here c.unseat.ensures.others indexed),
     )
 
 -- where there is no such session

@@ -1,7 +1,7 @@
 -- The account of a line is new among those of the lines before it.
 use Rattle.std.proofs.Common.{arith}
 use Rattle.xmpp_replay.proofs.WholeRuns.{account_new, homes_more, step_there}
-use Rattle.xmpp_replay.specs.Schedules.{steps_of}
+use Rattle.xmpp_schedule.specs.Schedules.{steps_of}
 use Rattle.xmpp_replay.proofs.run.accounts.Accounts.of_lines.Goals as goal
 
 pub declare-requires : goal.declare-requires

@@ -1,8 +1,8 @@
 -- The accounts of the lines so far.
 use Rattle.std.proofs.Common.{◌≡◌, map, take}
-use Rattle.xmpp_replay.specs.Direct.{accounts_of}
+use Rattle.xmpp_schedule.specs.Contents.{accounts_of}
 use Rattle.xmpp_replay.specs.Homes.{empty_home}
-use Rattle.xmpp_replay.specs.Schedules.{steps_of}
+use Rattle.xmpp_schedule.specs.Schedules.{steps_of}
 use Rattle.xmpp_replay.proofs.run.accounts.Accounts.of_lines.Given as goal
 
 abbrev pub invariant-loop-line : goal.invariant-loop-line

@@ -1,9 +1,0 @@
-use Rattle.xmpp_ext.proofs.StampLaws.{written_read}
-use Rattle.xmpp_ext.proofs.StampOne.{one_stamp}
-use Rattle.xmpp_ext.proofs.laws.stamp_is_read.Goals as goal
-
-pub returns-clause-one : goal.returns-clause-one
-returns-clause-one c = one_stamp
-
-pub returns-clause-read : goal.returns-clause-read
-returns-clause-read c = written_read

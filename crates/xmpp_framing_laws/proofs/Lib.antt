@@ -1,0 +1,54 @@
+-- the grammar: no two spellings of one item
+pub mod OneText
+pub mod TagEnds
+pub mod OneSpelling
+-- what is written is spelled
+pub mod SpelledNames
+pub mod SpelledAttributes
+pub mod SpelledTexts
+pub mod CanonLaws
+pub mod HeaderLaws
+-- which byte decides which fault
+pub mod FaultLaws
+pub mod CountLaws
+pub mod CountedRuns
+pub mod RunPlaces
+-- what is spelled is read: runs of bytes
+pub mod Quiet
+pub mod HeldBytes
+pub mod ByteSteps
+pub mod TextBytes
+pub mod DataRuns
+pub mod ReferenceRuns
+pub mod SectionBytes
+pub mod SectionRuns
+pub mod TextRuns
+pub mod ValueTexts
+pub mod TagParts
+pub mod TagRuns
+pub mod FooterRuns
+pub mod DeclarationBytes
+pub mod DeclarationRuns
+-- what is spelled is read: elements, headers, items, streams
+pub mod SpelledTrees
+pub mod ElementTags
+pub mod ElementStates
+pub mod ElementRuns
+pub mod HeaderRuns
+pub mod ItemRuns
+pub mod StreamRuns
+-- what is read is spelled
+pub mod ReadCharacters
+pub mod TextFronts
+pub mod OpenLevels
+pub mod ReadSoFar
+pub mod ReadOutside
+pub mod TextHands
+pub mod ReadInside
+pub mod ReadStreams
+-- definitions at values
+mod WorkedGrammar
+mod WorkedReadings
+mod WorkedRuns
+mod WorkedSpellings
+mod WorkedStreams

@@ -1,0 +1,165 @@
+-- What a state knows of the bytes behind it: the stream of the items so far, and the bytes in hand.
+use Rattle.std.proofs.Common.{◌≡◌, ℕ, ◌+◌, ◌^◌, ◌<◌, ◌≤◌, ◌⊎◌, Bool, true, false, if◌then◌else◌, List, [], ◌∷◌, ◌++◌, codes, length, take, Option, Some, None, arith, length-append}
+use Rattle.xmpp_tokens.specs.Tags.{are_white}
+use Rattle.xmpp_names.specs.Scopes.{Scope}
+use Rattle.xmpp_framing_laws.proofs.OpenLevels.{AreCovered, OpenLevel}
+use Rattle.xmpp_framing_laws.proofs.TextFronts.{Gathered, Seen}
+use Rattle.xmpp_framing_laws.proofs.ReadCharacters.{Judged}
+use Rattle.xmpp_framing.specs.Machine.{behind_byte}
+use Rattle.xmpp_framing_laws.specs.Spells.{IsHeaderName}
+use Rattle.xmpp_framing.specs.States.{OpenElement, State, Turn, admits_declaration, next_place}
+use Rattle.xmpp_framing_laws.specs.Streams.{InForce, StreamTo, place_of}
+use Rattle.xmpp_framing.specs.TagSteps.{scope_in}
+use Rattle.xmpp_framing_laws.specs.Texts.{line_ends}
+use Rattle.xmpp_framing.specs.TextSteps.{kept_back}
+use Rattle.xmpp_trees.specs.Trees.{name_of, namespace_of}
+use Rattle.xmpp_framing.specs.declared.items.Item.{Item}
+use Rattle.xmpp_framing.specs.declared.limits.Limits.{Limits}
+use Rattle.xmpp_framing.specs.declared.states.Mode.{Mode}
+use Rattle.xmpp_framing.specs.declared.states.Mode.TheVariants as mode
+use Rattle.xmpp_framing.specs.declared.states.Phase.{Phase}
+use Rattle.xmpp_framing.specs.declared.states.Phase.TheVariants as phase
+
+-- what is in force by a state
+abbrev pub in_force : Phase → List Scope → List ℕ → InForce
+in_force p scopes name = record { phase = p; scope = scope_in scopes; name = name }
+
+-- ---- outside elements
+
+-- a token is in hand, behind the stream so far
+pub record TokenIn (now : InForce) (items : List Item) (bytes token : List ℕ) (place : ℕ) : Type 0 where
+  pub done : List ℕ
+  pub stream : StreamTo now done items
+  pub bytes_are : bytes ≡ done ++ token
+  pub place_is : place ≡ place_of (length done)
+
+-- an end tag is in hand, of which white space behind the name is not kept
+pub record FooterIn (now : InForce) (items : List Item) (bytes token : List ℕ) : Type 0 where
+  pub done : List ℕ
+  pub white : List ℕ
+  pub stream : StreamTo now done items
+  pub bytes_are : bytes ≡ done ++ (token ++ white)
+  pub is_white : are_white white ≡ true
+  pub whole : (white ≡ []) ⊎ (length now.name + 2 ≤ length token)
+
+abbrev pub Outside : Mode → State → List Item → List ℕ → Type 0
+Outside mode.Text s items bytes = (s.token ≡ []) × (s.pending ≡ [] → StreamTo (in_force s.lexical.phase s.scopes s.name) bytes items)
+Outside mode.Reference s items bytes = ⊥
+Outside mode.Opening s items bytes = TokenIn (in_force s.lexical.phase s.scopes s.name) items bytes s.token s.places.token_at
+Outside mode.Bang s items bytes = Unit {0}
+Outside mode.Question s items bytes = (admits_declaration s.lexical.phase ≡ true) × TokenIn (in_force s.lexical.phase s.scopes s.name) items bytes s.token s.places.token_at
+Outside mode.Declaration s items bytes = (admits_declaration s.lexical.phase ≡ true) × TokenIn (in_force s.lexical.phase s.scopes s.name) items bytes s.token s.places.token_at
+Outside mode.Tag s items bytes = TokenIn (in_force s.lexical.phase s.scopes s.name) items bytes s.token s.places.token_at
+Outside mode.Footer s items bytes = s.lexical.spoiled ≡ false → FooterIn (in_force s.lexical.phase s.scopes s.name) items bytes s.token
+Outside mode.Section s items bytes = ⊥
+
+-- ---- in an element
+
+-- the top-level element is no header
+abbrev pub TopIsNoHeader : OpenElement → List OpenElement → Type 0
+TopIsNoHeader o [] = ¬ (IsHeaderName (namespace_of o.element) (name_of o.element))
+TopIsNoHeader o (p ∷ ps) = TopIsNoHeader p ps
+
+-- the stream so far, the open elements, and the bytes in hand behind the last tag
+pub record Around (p : Phase) (scopes : List Scope) (name : List ℕ) (below : List OpenElement) (o : OpenElement) (items : List Item) (bytes hand : List ℕ) : Type 0 where
+  pub between : p ≡ phase.Between
+  pub base : List Scope
+  pub own : Scope
+  pub rest : List Scope
+  pub scopes_are : scopes ≡ own ∷ rest
+  pub top : TopIsNoHeader o below
+  pub done : List ℕ
+  pub outer : List ℕ
+  pub level : List ℕ
+  pub stream : StreamTo (in_force phase.Between base name) done items
+  pub covered : AreCovered base rest below outer
+  pub open_level : OpenLevel (scope_in rest) own o level
+  pub bytes_are : bytes ≡ done ++ (outer ++ (level ++ hand))
+
+-- a text is in hand
+pub record TextIn (hand pending chars : List ℕ) (in_run returned : Bool) (brackets : ℕ) : Type 0 where
+  pub whole : List ℕ
+  pub hand_is : hand ≡ whole ++ pending
+  pub judged : Judged hand pending
+  pub seen : Seen whole chars (if in_run then returned else false) (if in_run then brackets else 0)
+
+-- a token is in hand behind a text
+pub record MarkIn (hand chars token : List ℕ) : Type 0 where
+  pub text : List ℕ
+  pub returned : Bool
+  pub brackets : ℕ
+  pub judged : Judged text []
+  pub seen : Seen text chars returned brackets
+  pub hand_is : hand ≡ text ++ token
+
+-- a CDATA section is in hand behind a text
+pub record SectionIn (hand pending chars : List ℕ) (returned : Bool) (brackets : ℕ) : Type 0 where
+  pub text : List ℕ
+  pub says : List ℕ
+  pub text_returned : Bool
+  pub text_brackets : ℕ
+  pub seen : Seen text says text_returned text_brackets
+  pub inside : List ℕ
+  pub said : List ℕ
+  pub whole : List ℕ
+  pub whole_said : List ℕ
+  pub whole_is : whole ≡ inside ++ kept_back brackets
+  pub gathered : Gathered whole whole_said returned brackets
+  pub inside_says : line_ends inside ≡ said
+  pub whole_says : whole_said ≡ said ++ kept_back brackets
+  pub few : brackets ≤ 2
+  pub chars_are : chars ≡ says ++ said
+  pub judged : Judged hand pending
+  pub hand_is : hand ≡ text ++ (codes "<![CDATA[" ++ (whole ++ pending))
+
+-- no run of text has begun behind the last tag or token
+abbrev pub HasNoRun : State → Type 0
+HasNoRun s = (s.lexical.returned ≡ false) × (s.lexical.brackets ≡ 0)
+
+-- part of `<![CDATA[`
+abbrev pub OpensSection : List ℕ → Type 0
+OpensSection token = (token ≡ take (length token) (codes "<![CDATA[")) × (length token ≤ 8)
+
+abbrev pub Inside : Mode → State → OpenElement → List Item → List ℕ → List ℕ → Type 0
+Inside mode.Text s o items bytes hand = (s.token ≡ []) × TextIn hand s.pending s.chars s.lexical.in_run s.lexical.returned s.lexical.brackets
+Inside mode.Reference s o items bytes hand = MarkIn hand s.chars (38 ∷ s.token)
+Inside mode.Opening s o items bytes hand = (s.token ≡ 60 ∷ []) × HasNoRun s × MarkIn hand s.chars s.token
+Inside mode.Bang s o items bytes hand = OpensSection s.token × HasNoRun s × MarkIn hand s.chars s.token
+Inside mode.Question s o items bytes hand = ⊥
+Inside mode.Declaration s o items bytes hand = ⊥
+Inside mode.Tag s o items bytes hand = MarkIn hand s.chars s.token
+Inside mode.Footer s o items bytes hand = ⊥
+Inside mode.Section s o items bytes hand = (s.token ≡ []) × SectionIn hand s.pending s.chars s.lexical.returned s.lexical.brackets
+
+abbrev pub Hand : Option OpenElement → Mode → State → List Item → List ℕ → Type 0
+Hand None m s items bytes = (s.below ≡ []) × Outside m s items bytes
+Hand (Some o) m s items bytes = (hand : List ℕ) × Around s.lexical.phase s.scopes s.name s.below o items bytes hand × Inside m s o items bytes hand
+
+-- ---- a state
+
+-- the place of the next byte, and what no byte changes
+pub record Kept (at : ℕ) (spent : Bool) (limits : Limits) (bytes : List ℕ) : Type 0 where
+  pub at_is : at ≡ place_of (length bytes)
+  pub not_spent : spent ≡ false
+  pub few_attributes : limits.attributes < 2 ^ 32
+  pub short_namespaces : limits.namespace_bytes < 2 ^ 32
+
+pub record Read (t : Turn) (bytes : List ℕ) : Type 0 where
+  pub kept : Kept t.state.places.at t.state.lexical.spent t.state.limits bytes
+  pub hand : Hand t.state.here t.state.lexical.mode t.state t.items bytes
+
+-- what is so behind bytes, unless there is a fault
+abbrev pub Explained : Turn → List ℕ → Type 0
+Explained t bytes = t.state.fault ≡ None → Read t bytes
+
+-- the same behind one byte more, which is still to be passed
+abbrev pub After : ℕ → List ℕ → Turn → Type 0
+After b bytes u = Explained (behind_byte u b) (bytes ++ b ∷ [])
+
+pub kept_on : (at : ℕ) (spent : Bool) (limits : Limits) (bytes : List ℕ) (b : ℕ) → Kept at spent limits bytes → Kept (next_place at) spent limits (bytes ++ b ∷ [])
+kept_on at spent limits bytes b k = record {
+  at_is = let h = k.at_is in let n = length-append bytes (b ∷ []) in (rw n (omega (arith, h)));
+  not_spent = k.not_spent;
+  few_attributes = k.few_attributes;
+  short_namespaces = k.short_namespaces;
+}

@@ -1,0 +1,11 @@
+-- grammar: which bytes spell a text, an item, a stream
+pub mod Texts
+pub mod Spells
+pub mod Plain
+pub mod Streams
+-- machine: where a framer stands, and which byte decides which fault
+pub mod Standing
+pub mod FaultRows
+-- grammar and machine: spellings within the limits of a framer
+pub mod Within
+pub mod StreamLimits

@@ -1,0 +1,5 @@
+//! Tests of `xmpp_jid`: what no clause says.
+#![tactic(auto)]
+
+#[cfg(test)]
+mod tests;

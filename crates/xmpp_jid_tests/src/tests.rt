@@ -1,0 +1,306 @@
+//! Addresses: vectors from outside, each call that takes memory, and printed texts.
+use std::alloc::Global;
+use std::test::Fail;
+use xmpp_edge::{Copied, Text};
+use xmpp_jid::JidFault::{BadDomain, BadLocal, BadResource, Empty, TooLong};
+use xmpp_jid::{
+    Jid, JidFault, domain_in_normal_form, local_in_normal_form, resource_in_normal_form,
+};
+
+// Texts and their normal forms. The first rows are those of RFC 7622 section 3.5; the ASCII forms of domains are
+// those of the Python package `idna`, and the forms NFC those of Python's `unicodedata`.
+static ACCEPTED: [(&str, &str); 50] = [
+    ("juliet@example.com", "juliet@example.com"),
+    ("juliet@example.com/foo", "juliet@example.com/foo"),
+    ("juliet@example.com/foo bar", "juliet@example.com/foo bar"),
+    ("juliet@example.com/foo@bar", "juliet@example.com/foo@bar"),
+    ("foo\\20bar@example.com", "foo\\20bar@example.com"),
+    ("fussball@example.com", "fussball@example.com"),
+    ("king@example.com/\u{265A}", "king@example.com/\u{265A}"),
+    ("example.com", "example.com"),
+    ("example.com/foobar", "example.com/foobar"),
+    ("a.example.com/b@example.net", "a.example.com/b@example.net"),
+    ("juliet@example.com/ foo", "juliet@example.com/ foo"),
+    ("henry..@example.com", "henry..@example.com"),
+    ("Alice@Chat.Example/Pad", "alice@chat.example/Pad"),
+    ("b\u{FC}cher.example", "xn--bcher-kva.example"),
+    ("a/b/c@d", "a/b/c@d"),
+    ("a@b/c@d/e", "a@b/c@d/e"),
+    ("!#$%()*+,-.;=?[\\]^_`{|}~@b", "!#$%()*+,-.;=?[\\]^_`{|}~@b"),
+    ("ABCXYZ.az09@b", "abcxyz.az09@b"),
+    ("a..b", "a..b"),
+    (".a", ".a"),
+    ("-a-.b--c", "-a-.b--c"),
+    ("127.0.0.1", "127.0.0.1"),
+    ("chat.example.", "chat.example"),
+    ("a@chat.example./b", "a@chat.example/b"),
+    ("a\u{3002}b", "a.b"),
+    ("xn--bcher-kva.example", "xn--bcher-kva.example"),
+    ("XN--BCHER-KVA.Example", "xn--bcher-kva.example"),
+    ("B\u{DC}CHER.example", "xn--bcher-kva.example"),
+    ("bu\u{308}cher.example", "xn--bcher-kva.example"),
+    ("\u{FF23}\u{FF28}\u{FF21}\u{FF34}.example", "chat.example"),
+    ("fa\u{DF}.de", "xn--fa-hia.de"),
+    ("\u{2603}.net", "xn--n3h.net"),
+    (
+        "\u{4F8B}\u{3048}.\u{30C6}\u{30B9}\u{30C8}",
+        "xn--r8jz45g.xn--zckzah",
+    ),
+    (
+        "\u{392}\u{38C}\u{39B}\u{39F}\u{3A3}.com",
+        "xn--nxasmq6b.com",
+    ),
+    (
+        "\u{3B2}\u{3CC}\u{3BB}\u{3BF}\u{3C2}.com",
+        "xn--nxasmm1c.com",
+    ),
+    ("ex\u{AD}ample.com", "example.com"),
+    ("\u{FB00}.example", "ff.example"),
+    ("\u{2173}.example", "iv.example"),
+    ("a-b.c-d/e", "a-b.c-d/e"),
+    ("a--b.example", "a--b.example"),
+    ("b/e\u{301}", "b/\u{E9}"),
+    ("b/\u{212B}", "b/\u{C5}"),
+    ("b/\u{1100}\u{1161}\u{11A8}", "b/\u{AC01}"),
+    ("b/q\u{307}\u{323}", "b/q\u{323}\u{307}"),
+    ("b/\u{344}", "b/\u{308}\u{301}"),
+    ("b/\u{FB01}", "b/\u{FB01}"),
+    ("b/\u{FF26}", "b/\u{FF26}"),
+    ("b/\u{2126}~", "b/\u{3A9}~"),
+    ("b/\u{A0}", "b/\u{A0}"),
+    ("b/Pad 7", "b/Pad 7"),
+];
+
+// Texts that are no address.
+static REFUSED: [(&str, JidFault); 59] = [
+    ("fu\u{DF}ball@example.com", BadLocal),
+    ("\u{3C0}@example.com", BadLocal),
+    ("\u{3A3}@example.com/foo", BadLocal),
+    ("\u{3C3}@example.com/foo", BadLocal),
+    ("\u{3C2}@example.com/foo", BadLocal),
+    ("\"juliet\"@example.com", BadLocal),
+    ("foo bar@example.com", BadLocal),
+    ("@example.com/", Empty),
+    ("henry\u{2163}@example.com", BadLocal),
+    ("\u{265A}@example.com", BadLocal),
+    ("juliet@", Empty),
+    ("/foobar", Empty),
+    ("juliet@example.com/", Empty),
+    ("a b@chat.example", BadLocal),
+    ("@chat.example", Empty),
+    ("chat.example/", Empty),
+    ("", Empty),
+    ("@", Empty),
+    ("/", Empty),
+    ("@/", Empty),
+    ("a@/b", Empty),
+    ("a@b/", Empty),
+    ("a@b@c", BadDomain),
+    ("a@b@c/d", BadDomain),
+    ("a\"b@c", BadLocal),
+    ("a&b@c", BadLocal),
+    ("a'b@c", BadLocal),
+    ("a:b@c", BadLocal),
+    ("a<b@c", BadLocal),
+    ("a>b@c", BadLocal),
+    ("a\x7fb@c", BadLocal),
+    ("a\x1fb@c", BadLocal),
+    ("\u{FF41}@c", BadLocal),
+    (".", BadDomain),
+    ("a..", BadDomain),
+    ("a\u{3002}", BadDomain),
+    ("a_b", BadDomain),
+    ("[::1]", BadDomain),
+    ("a:1", BadDomain),
+    ("a\u{FF20}b", BadDomain),
+    ("a\u{FF0F}b", BadDomain),
+    ("a b", BadDomain),
+    ("*.example", BadDomain),
+    ("xn--", BadDomain),
+    ("xn--a", BadDomain),
+    ("b.xn--", BadDomain),
+    ("\u{AD}", BadDomain),
+    ("a\u{200D}b.example", BadDomain),
+    ("a@\u{301}b", BadDomain),
+    ("b/a\x00", BadResource),
+    ("b/a\tb", BadResource),
+    ("b/\x1f", BadResource),
+    ("b/\x7f", BadResource),
+    ("b/\u{80}", BadResource),
+    ("b/\u{9F}e\u{301}", BadResource),
+    ("a b@_/", BadLocal),
+    ("@_/", Empty),
+    ("a@_/", BadDomain),
+    ("a@_/\x00", BadDomain),
+];
+
+// Whether a text is an address whose normal form is `normal`.
+fn is_read(alloc: Global, text: &str, normal: &str) -> Result<bool, JidFault> {
+    let jid = Jid::parse(alloc, text)?;
+    Ok(jid.text() == normal)
+}
+
+// Why a text is no address, if it is none.
+fn fault_of(alloc: Global, text: &str) -> Option<JidFault> {
+    Jid::parse(alloc, text).err()
+}
+
+#[test]
+fn reads_addresses(rt: HostRuntime) -> Result<(), Fail> {
+    for (text, normal) in &ACCEPTED {
+        assert!(rt; is_read(rt.alloc(), text, normal)?);
+    }
+    Ok(())
+}
+
+#[test]
+fn refuses_what_is_no_address(rt: HostRuntime) {
+    for (text, fault) in &REFUSED {
+        assert!(rt; fault_of(rt.alloc(), text) == Some(*fault));
+    }
+}
+
+// A text of `before`, a part so many times, and `after`.
+fn repeated(
+    alloc: Global,
+    before: &str,
+    part: &str,
+    times: usize,
+    after: &str,
+) -> Result<Text, JidFault> {
+    let mut text = String::from_str(alloc, before)?;
+    for _ in 0..times {
+        text.push_str(part)?;
+    }
+    text.push_str(after)?;
+    Ok(Text::from(text))
+}
+
+// Each side of the limit of 1,023 bytes, which is one of the normal form: a part, how often it stands, and what it
+// is in normal form.
+static LIMITS: [(&str, &str, usize, &str, &str); 12] = [
+    ("", "a", 1023, "@b", "a"),
+    ("", "A", 1023, "@b/c", "a"),
+    ("", "a", 1023, "", "a"),
+    ("", "A", 1023, "", "a"),
+    ("a@", "a", 1023, "/b", "a"),
+    ("a@", "\u{FC}.", 127, "example", "xn--tda."),
+    ("b/", "a", 1023, "", "a"),
+    ("b/", "e\u{301}", 511, "a", "\u{E9}"),
+    ("b/", "\u{344}", 255, "abc", "\u{308}\u{301}"),
+    ("", "ab.", 340, "abc", "ab."),
+    ("", "a-", 511, "a@b", "a-"),
+    ("a@b/", " ", 1023, "", " "),
+];
+
+static LONG: [(&str, &str, usize, &str, JidFault); 12] = [
+    ("", "a", 1024, "@b", TooLong),
+    ("", "A", 1024, "@_/", TooLong),
+    ("", "a", 1024, "", TooLong),
+    ("", "A", 1024, "", TooLong),
+    ("a@", "\u{FC}.", 127, "examples", TooLong),
+    ("a@", "\u{FC}.", 127, "examples/", TooLong),
+    ("b/", "a", 1024, "", TooLong),
+    ("b/", "e\u{301}", 512, "", TooLong),
+    ("b/", "\u{344}", 256, "", TooLong),
+    ("b/", "a", 5000, "", TooLong),
+    ("", "a", 1024, " @b", BadLocal),
+    ("b/", "a", 1024, "\n", BadResource),
+];
+
+#[test]
+fn reads_the_longest_parts(rt: HostRuntime) -> Result<(), Fail> {
+    for (before, part, times, after, form) in &LIMITS {
+        let text = repeated(rt.alloc(), before, part, *times, after)?;
+        let normal = repeated(rt.alloc(), before, form, *times, after)?;
+        assert!(rt; is_read(rt.alloc(), text.as_str(), normal.as_str())?);
+    }
+    Ok(())
+}
+
+#[test]
+fn refuses_longer_parts(rt: HostRuntime) -> Result<(), Fail> {
+    for (before, part, times, after, fault) in &LONG {
+        let text = repeated(rt.alloc(), before, part, *times, after)?;
+        assert!(rt; fault_of(rt.alloc(), text.as_str()) == Some(*fault));
+    }
+    Ok(())
+}
+
+// An address, its bare address with another resource, and how that is printed for a reader.
+static PRINTED_ADDRESSES: [(&str, &str, &str, &str); 2] = [
+    (
+        "Alice@Chat.Example/Pad",
+        "e\u{301}/@",
+        "alice@chat.example/\u{E9}/@",
+        "\"alice@chat.example/\u{E9}/@\"",
+    ),
+    (
+        "chat.example.",
+        "\"",
+        "chat.example/\"",
+        "\"chat.example/\\\"\"",
+    ),
+];
+
+// The bare address of a text with a resource, copied and read from its text again.
+fn with_resource(alloc: Global, text: &str, resource: &str) -> Result<Jid, JidFault> {
+    let bare = Jid::parse(alloc, text)?.to_bare(alloc)?;
+    bare.with_resource(alloc, resource)
+}
+
+fn is_printed(alloc: Global, jid: &Jid, text: &str, debug: &str) -> Result<bool, JidFault> {
+    let shown = format!(in alloc; "{jid}")?;
+    let quoted = format!(in alloc; "{jid:?}")?;
+    Ok(shown.as_str() == text && quoted.as_str() == debug)
+}
+
+#[test]
+fn prints_addresses(rt: HostRuntime) -> Result<(), Fail> {
+    for (text, resource, printed, debug) in &PRINTED_ADDRESSES {
+        let jid = with_resource(rt.alloc(), text, resource)?.copied(rt.alloc())?;
+        assert!(rt; is_printed(rt.alloc(), &jid, printed, debug)?);
+    }
+    Ok(())
+}
+
+// Whether each part of an address has the form that it should have.
+fn are_forms(alloc: Global, given: [&str; 3], forms: [&str; 3]) -> Result<bool, JidFault> {
+    let local = local_in_normal_form(alloc, given[0])?;
+    let domain = domain_in_normal_form(alloc, given[1])?;
+    let resource = resource_in_normal_form(alloc, given[2])?;
+    Ok([local.as_str(), domain.as_str(), resource.as_str()] == forms)
+}
+
+#[test]
+fn brings_parts_into_normal_form(rt: HostRuntime) -> Result<(), Fail> {
+    let given = ["Alice", "B\u{DC}CHER.example.", "e\u{301}/@"];
+    let forms = ["alice", "xn--bcher-kva.example", "\u{E9}/@"];
+    assert!(rt; are_forms(rt.alloc(), given, forms)?);
+    Ok(())
+}
+
+static PRINTED: [(JidFault, &str); 6] = [
+    (Empty, "a part of the address is empty"),
+    (
+        BadLocal,
+        "the local part has a character that it may not have",
+    ),
+    (BadDomain, "the domain is not a domain name"),
+    (BadResource, "the resource has a control character"),
+    (TooLong, "a part of the address is too long"),
+    (JidFault::NoMemory, "out of memory"),
+];
+
+fn is_shown(alloc: Global, fault: JidFault, text: &str) -> Result<bool, JidFault> {
+    let shown = format!(in alloc; "{fault}")?;
+    Ok(shown.as_str() == text)
+}
+
+#[test]
+fn prints_faults(rt: HostRuntime) -> Result<(), Fail> {
+    for (fault, text) in &PRINTED {
+        assert!(rt; is_shown(rt.alloc(), *fault, text)?);
+    }
+    Ok(())
+}

@@ -1,0 +1,17 @@
+-- The places of texts in the order of the texts.
+use Rattle.std.specs.Prelude.{◌≡◌, ℕ, ◌<◌, List, [], length, map, slice_index_or}
+use Rattle.std.specs.List.{AllByRecursion}
+use Rattle.xmpp_archive.specs.Chained.{Ascend, is_text_of}
+
+-- the text at a place
+abbrev pub text_at : List (List ℕ) → ℕ → List ℕ
+text_at texts i = slice_index_or texts i []
+
+abbrev pub texts_at : List (List ℕ) → List ℕ → List (List ℕ)
+texts_at texts places = map (text_at texts) places
+
+-- the texts at these places are all texts, each once, and each is above the ones before it
+pub record IsOrderOf (places : List ℕ) (texts : List (List ℕ)) : Type 0 where
+  pub within : AllByRecursion (λ i. i < length texts) places
+  pub ascend : Ascend (texts_at texts places)
+  pub every : (p : List ℕ) → is_text_of p (texts_at texts places) ≡ is_text_of p texts

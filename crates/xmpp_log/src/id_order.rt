@@ -1,0 +1,122 @@
+//! The places of entries in the order of their ids. Where ids rise, as those of an archive do, that is the order of the
+//! entries, and an id is found to be new by one comparison.
+ghost use Rattle.std.specs.Prelude.{◌≡◌, ℕ, ◌-◌, ◌+◌, ◌<◌, ◌≤◌, List, [], ◌∷◌, ◌++◌, ◌||◌, Some, true, false, length, slice_get, vec_len, vec_capacity, IfOk, IfSome, IfNone};
+ghost use Rattle.std.specs.List.{list_any};
+ghost use Rattle.std.specs.Str.{bytes_eq};
+ghost use Rattle.xmpp_archive.specs.Chained.{IsGap, is_text_of};
+ghost use Rattle.xmpp_log.specs.LogPages.{ids_of};
+ghost use Rattle.xmpp_log.specs.Orders.{IsOrderOf, texts_at};
+ghost use Rattle.xmpp_log.specs.Views.{first_repeat};
+
+use crate::log_entry::LogEntry;
+use std::alloc::Global;
+use std::cmp::Ordering;
+use xmpp_edge::{Copied, NoMemory, Text};
+
+/// The id that is at a place of the order.
+fn id_at<'a>(places: &[usize], entries: &'a [LogEntry], at: usize) -> &'a str
+    requires order { IsOrderOf places.now (ids_of entries.now) }
+    requires there { at < length places.now }
+    ensures { slice_get (texts_at (ids_of entries.now) places.now) at ≡ Some result.now }
+{
+    entries[places[at]].id.as_str()
+}
+
+/// Where an id would stand in the order. `None` where an entry has it.
+fn search(places: &[usize], entries: &[LogEntry], id: &str) -> Option<usize>
+    requires order { IsOrderOf places.now (ids_of entries.now) }
+    ensures gap { IfSome result (λ at. IsGap (texts_at (ids_of entries.now) places.now) id.now at) }
+    ensures there { IfNone result (is_text_of id.now (ids_of entries.now) ≡ true) }
+{
+    let mut low = 0;
+    let mut high = places.len();
+    while low < high {
+        let middle = low + (high - low) / 2;
+        match id_at(places, entries, middle).cmp(id) {
+            Ordering::Less => low = middle + 1,
+            Ordering::Equal => return None,
+            Ordering::Greater => high = middle,
+        }
+    }
+    Some(low)
+}
+
+/// The same, where the greatest id is looked at first.
+fn gap(places: &[usize], entries: &[LogEntry], id: &str) -> Option<usize>
+    requires order { IsOrderOf places.now (ids_of entries.now) }
+    ensures gap { IfSome result (λ at. IsGap (texts_at (ids_of entries.now) places.now) id.now at) }
+    ensures there { IfNone result (is_text_of id.now (ids_of entries.now) ≡ true) }
+{
+    let count = places.len();
+    if count == 0 {
+        return search(places, entries, id);
+    }
+    match id_at(places, entries, count - 1).cmp(id) {
+        Ordering::Less => Some(count),
+        Ordering::Equal => None,
+        Ordering::Greater => search(places, entries, id),
+    }
+}
+
+/// Whether an entry has an id.
+fn has_id(places: &[usize], entries: &[LogEntry], id: &str) -> bool
+    requires order { IsOrderOf places.now (ids_of entries.now) }
+    ensures { result ≡ list_any (λ other. bytes_eq id.now other) (ids_of entries.now) }
+{
+    gap(places, entries, id).is_none()
+}
+
+/// Puts in the place of the entry that is to follow these, with an id that none of them has. It takes no memory.
+pub(crate) fn put(places: &mut Vec<usize>, entries: &[LogEntry], id: &str)
+    requires order { IsOrderOf places.old.items (ids_of entries.now) }
+    requires fresh { list_any (λ other. bytes_eq id.now other) (ids_of entries.now) ≡ false }
+    requires room { 1 ≤ vec_capacity places.old - vec_len places.old }
+    ensures order { IsOrderOf places.new.items (ids_of entries.now ++ id.now ∷ []) }
+    ensures room { vec_capacity places.old - vec_len places.old ≤ vec_capacity places.new - vec_len places.new + 1 }
+{
+    let Some(at) = gap(places, entries, id) else {
+        unreachable!()
+    };
+    match places.insert(at, entries.len()) {
+        Ok(()) => {}
+        Err(_) => unreachable!(),
+    }
+}
+
+/// Whether an entry has an id, or one of the results before it.
+fn is_repeated(
+    places: &[usize],
+    entries: &[LogEntry],
+    page: &[usize],
+    before: &[LogEntry],
+    id: &str,
+) -> bool
+    requires order { IsOrderOf places.now (ids_of entries.now) }
+    requires page { IsOrderOf page.now (ids_of before.now) }
+    ensures { result ≡ (list_any (λ other. bytes_eq id.now other) (ids_of entries.now) || list_any (λ other. bytes_eq id.now other) (ids_of before.now)) }
+{
+    has_id(places, entries, id) || has_id(page, before, id)
+}
+
+/// The first of the results' ids that an entry has or that stands before itself.
+pub(crate) fn repeated(
+    alloc: Global,
+    places: &[usize],
+    entries: &[LogEntry],
+    results: &[LogEntry],
+) -> Result<Option<Text>, NoMemory>
+    requires order { IsOrderOf places.now (ids_of entries.now) }
+    ensures { IfOk result (λ id. id ≡ first_repeat (ids_of entries.now) (ids_of results.now)) }
+{
+    let mut page: Vec<usize> = Vec::new(alloc);
+    page.reserve(results.len())?;
+    for at in 0..results.len() {
+        let before = &results[..at];
+        let id = &results[at].id;
+        if is_repeated(places, entries, page.as_slice(), before, id.as_str()) {
+            return Ok(Some(id.copied(alloc)?));
+        }
+        put(&mut page, before, id.as_str());
+    }
+    Ok(None)
+}

@@ -1,0 +1,4 @@
+pub mod ArchiveQueryLaws
+pub mod FinLaws
+pub mod ResultLaws
+mod WorkedArchives

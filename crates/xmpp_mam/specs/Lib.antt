@@ -1,0 +1,4 @@
+pub mod ArchiveAnswers
+pub mod ArchiveQuery
+pub mod DataForms
+pub mod ResultSets

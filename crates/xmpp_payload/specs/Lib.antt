@@ -1,0 +1,7 @@
+pub mod Bare
+pub mod Checks
+pub mod Faults
+pub mod Moments
+pub mod Names
+pub mod Shapes
+pub mod Writing

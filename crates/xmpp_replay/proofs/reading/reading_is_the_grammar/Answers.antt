@@ -1,9 +1,0 @@
-use Rattle.xmpp_replay.proofs.Again.{reading_again}
-use Rattle.xmpp_replay.proofs.Found.{reading_found}
-use Rattle.xmpp_replay.proofs.reading.reading_is_the_grammar.Goals as goal
-
-pub returns-clause-found : goal.returns-clause-found
-returns-clause-found c = reading_found
-
-pub returns-clause-only : goal.returns-clause-only
-returns-clause-only c = reading_again

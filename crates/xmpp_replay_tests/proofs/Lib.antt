@@ -1,0 +1,6 @@
+mod Worked
+mod WorkedLaws
+mod WorkedPages
+mod WorkedReports
+mod WorkedWire
+pub mod WireReports

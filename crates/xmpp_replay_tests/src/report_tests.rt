@@ -1,0 +1,207 @@
+//! The text of a wire report with a line of each kind, and lines that are made by copying.
+use std::alloc::Global;
+use std::test::Fail;
+use xmpp_archive::{Bodies, Body, Entry};
+use xmpp_edge::{NoMemory, Text};
+use xmpp_log::{LogEntry, Tile};
+use xmpp_report::{
+    AccountLine, AccountLines, ConnEnd, ConnLine, ConnLines, DeviceLine, DeviceLines, EntryLine,
+    EntryLines, HeldLine, HeldLines, LoggedLine, LoggedLines, PageLine, PageLines, RefusedLine,
+    RefusedLines, RefusedWhy, Report, SaidLine, SaidLines, SaidMark, TakeLine, TakeLines,
+    UnderwayLine, UnderwayLines, bare_address, copied_entry_line, copied_logged_line,
+    copied_page_line, full_address, origin_of, report_text,
+};
+
+static REPORT: &str = "xmpp-report 1 wire
+take phone 2 1 bob
+account alice 1
+entry 0000000000000001 1500 alice@chat.example/phone bob@chat.example phone.2.1 hi bob
+conn 1 phone 900 850 2400 2310 cut
+conn 2 phone 900 850 2400 2310 left
+conn 3 phone 900 850 2400 2310 shut
+conn 4 phone 900 850 2400 2310 open
+device phone alice 2 no
+said 2 1 acknowledged bob hi
+said 2 1 waiting bob hi
+said 2 1 undecided bob hi
+refused 4 NotBound
+refused 4 OutboxFull
+refused 4 Underway
+page 0000000000000001 0 complete 1
+underway q3 12
+logged 0000000000000001 1500 alice@chat.example/phone bob@chat.example phone.2.1 hi bob
+held 0000000000000002
+end
+";
+
+fn text(alloc: Global, characters: &str) -> Result<Text, NoMemory> {
+    Text::from_str(alloc, characters)
+}
+
+// An archive's entry.
+fn entry(alloc: Global) -> Result<Entry, NoMemory> {
+    let mut bodies = Bodies::new(alloc);
+    bodies.push(Body {
+        lang: Text::new(alloc),
+        text: text(alloc, "hi bob")?,
+    })?;
+    Ok(Entry {
+        number: 1,
+        stamp: 1500,
+        from: full_address(alloc, "alice", "phone")?,
+        to: bare_address(alloc, "bob")?,
+        normal: false,
+        id: Text::new(alloc),
+        origin: origin_of(alloc, "phone", 2, 1)?,
+        bodies,
+    })
+}
+
+fn greeting(alloc: Global) -> Result<EntryLine, NoMemory> {
+    copied_entry_line(alloc, &entry(alloc)?)
+}
+
+fn logged(alloc: Global) -> Result<LoggedLines, NoMemory> {
+    let mut lines = LoggedLines::new(alloc);
+    let held = LogEntry {
+        id: text(alloc, "0000000000000001")?,
+        entry: entry(alloc)?,
+    };
+    lines.push(copied_logged_line(alloc, &held)?)?;
+    Ok(lines)
+}
+
+fn takes(alloc: Global) -> Result<TakeLines, NoMemory> {
+    let mut lines = TakeLines::new(alloc);
+    lines.push(TakeLine {
+        device: text(alloc, "phone")?,
+        epoch: 2,
+        n: 1,
+        account: text(alloc, "bob")?,
+    })?;
+    Ok(lines)
+}
+
+fn accounts(alloc: Global) -> Result<AccountLines, NoMemory> {
+    let mut entries = EntryLines::new(alloc);
+    entries.push(greeting(alloc)?)?;
+    let mut lines = AccountLines::new(alloc);
+    lines.push(AccountLine {
+        name: text(alloc, "alice")?,
+        count: 1,
+        entries,
+    })?;
+    Ok(lines)
+}
+
+fn conns(alloc: Global) -> Result<ConnLines, NoMemory> {
+    let mut lines = ConnLines::new(alloc);
+    let mut k = 0;
+    for end in [ConnEnd::Cut, ConnEnd::Left, ConnEnd::Shut, ConnEnd::Open] {
+        k += 1;
+        lines.push(ConnLine {
+            k,
+            device: text(alloc, "phone")?,
+            upput: 900,
+            uptaken: 850,
+            downput: 2400,
+            downtaken: 2310,
+            end,
+        })?;
+    }
+    Ok(lines)
+}
+
+fn said(alloc: Global) -> Result<SaidLines, NoMemory> {
+    let mut lines = SaidLines::new(alloc);
+    for state in [
+        SaidMark::Acknowledged,
+        SaidMark::Waiting,
+        SaidMark::Undecided,
+    ] {
+        lines.push(SaidLine {
+            epoch: 2,
+            n: 1,
+            state,
+            to: text(alloc, "bob")?,
+            text: text(alloc, "hi")?,
+        })?;
+    }
+    Ok(lines)
+}
+
+fn refused(alloc: Global) -> Result<RefusedLines, NoMemory> {
+    let mut lines = RefusedLines::new(alloc);
+    for why in [
+        RefusedWhy::NotBound,
+        RefusedWhy::OutboxFull,
+        RefusedWhy::Underway,
+    ] {
+        lines.push(RefusedLine { line: 4, why })?;
+    }
+    Ok(lines)
+}
+
+fn pages(alloc: Global) -> Result<PageLines, NoMemory> {
+    let mut lines = PageLines::new(alloc);
+    let tile = Tile {
+        after: Some(text(alloc, "0000000000000001")?),
+        count: 0,
+        complete: true,
+        total: 1,
+    };
+    lines.push(copied_page_line(alloc, &tile)?)?;
+    Ok(lines)
+}
+
+fn underway(alloc: Global) -> Result<UnderwayLines, NoMemory> {
+    let mut lines = UnderwayLines::new(alloc);
+    lines.push(UnderwayLine {
+        queryid: text(alloc, "q3")?,
+        got: 12,
+    })?;
+    Ok(lines)
+}
+
+fn held(alloc: Global) -> Result<HeldLines, NoMemory> {
+    let mut lines = HeldLines::new(alloc);
+    lines.push(HeldLine {
+        id: text(alloc, "0000000000000002")?,
+    })?;
+    Ok(lines)
+}
+
+fn devices(alloc: Global) -> Result<DeviceLines, NoMemory> {
+    let mut lines = DeviceLines::new(alloc);
+    lines.push(DeviceLine {
+        name: text(alloc, "phone")?,
+        account: text(alloc, "alice")?,
+        epoch: 2,
+        settled: false,
+        said: said(alloc)?,
+        refused: refused(alloc)?,
+        pages: pages(alloc)?,
+        underway: underway(alloc)?,
+        logged: logged(alloc)?,
+        held: held(alloc)?,
+    })?;
+    Ok(lines)
+}
+
+// Whether a report with a line of each kind has this text.
+fn is_printed(alloc: Global, wanted: &str) -> Result<bool, NoMemory> {
+    let report = Report {
+        wire: true,
+        takes: takes(alloc)?,
+        accounts: accounts(alloc)?,
+        conns: conns(alloc)?,
+        devices: devices(alloc)?,
+    };
+    Ok(report_text(alloc, &report)?.as_slice() == wanted.as_bytes())
+}
+
+#[test]
+fn prints_a_line_of_each_kind(rt: HostRuntime) -> Result<(), Fail> {
+    assert!(rt; is_printed(rt.alloc(), REPORT)?);
+    Ok(())
+}

@@ -1,0 +1,104 @@
+//! Texts that are no schedules, each with its first bad line and the reason.
+use std::alloc::Global;
+use std::test::Fail;
+use xmpp_edge::NoMemory;
+use xmpp_schedule::{LineWhy, ScheduleFault, read_schedule};
+
+// Texts, and why line 1 is bad.
+static OF_LINE_ONE: [(&str, LineWhy); 7] = [
+    ("", LineWhy::Header),
+    ("xmpp-schedule 2 direct\n", LineWhy::Header),
+    ("xmpp-schedule 1 direct \n", LineWhy::Header),
+    ("account bob", LineWhy::Header),
+    ("xmpp-schedule 1 direct", LineWhy::Ending),
+    ("xmpp-schedule 1 wire\n", LineWhy::NotBuilt),
+    ("xmpp-schedule 1 wire", LineWhy::NotBuilt),
+];
+
+// What stands from line 4 on, behind an account and a device, and why line 4 is bad.
+static BELOW_A_DEVICE: [(&str, LineWhy); 33] = [
+    ("account carol", LineWhy::Ending),
+    ("\n", LineWhy::Word),
+    ("private bob\n", LineWhy::Word),
+    ("tick\n", LineWhy::Word),
+    ("Account carol\n", LineWhy::Word),
+    ("account\n", LineWhy::Shape),
+    ("account \n", LineWhy::Shape),
+    ("account carol x\n", LineWhy::Shape),
+    ("device desk\n", LineWhy::Shape),
+    ("device desk  bob\n", LineWhy::Shape),
+    ("say phone bob\n", LineWhy::Shape),
+    ("say phone bob \n", LineWhy::Shape),
+    ("say  bob hi\n", LineWhy::Shape),
+    ("catchup phone 5 \n", LineWhy::Shape),
+    ("account Carol\n", LineWhy::Name),
+    ("account 1carol\n", LineWhy::Name),
+    ("account aaaaaaaaaaaaaaaaaaaaaaaaaaaaaaaaa\n", LineWhy::Name),
+    ("device Desk bob\n", LineWhy::Name),
+    ("say phone Bob hi\n", LineWhy::Name),
+    ("account bob\n", LineWhy::Twice),
+    ("device phone bob\n", LineWhy::Twice),
+    ("device desk Carol\n", LineWhy::Unknown),
+    ("say NoBody bob hi\n", LineWhy::Unknown),
+    ("catchup desk 5\n", LineWhy::Unknown),
+    ("catchup phone 0\n", LineWhy::Number),
+    ("catchup phone 101\n", LineWhy::Number),
+    ("catchup phone 05\n", LineWhy::Number),
+    ("catchup phone +5\n", LineWhy::Number),
+    ("catchup phone 18446744073709551617\n", LineWhy::Number),
+    ("say phone bob a\tb\n", LineWhy::Text),
+    ("say phone bob a\r\n", LineWhy::Text),
+    ("account Carol\nprivate\n", LineWhy::Name),
+    ("private\naccount Carol\n", LineWhy::Word),
+];
+
+// Whether two texts, one behind the other, have this first bad line.
+fn is_bad(
+    alloc: Global,
+    above: &str,
+    below: &str,
+    line: u64,
+    why: LineWhy,
+) -> Result<bool, NoMemory> {
+    let mut text = String::from_str(alloc, above)?;
+    text.push_str(below)?;
+    Ok(match read_schedule(alloc, text.as_bytes()) {
+        Ok(_) => false,
+        Err(fault) => fault == ScheduleFault::BadLine { line, why },
+    })
+}
+
+#[test]
+fn bad_first_lines(rt: HostRuntime) -> Result<(), Fail> {
+    for (text, why) in &OF_LINE_ONE {
+        assert!(rt; is_bad(rt.alloc(), text, "", 1, *why)?);
+    }
+    Ok(())
+}
+
+#[test]
+fn bad_lines_below_a_device(rt: HostRuntime) -> Result<(), Fail> {
+    let above = "xmpp-schedule 1 direct\naccount bob\ndevice phone bob\n";
+    for (below, why) in &BELOW_A_DEVICE {
+        assert!(rt; is_bad(rt.alloc(), above, below, 4, *why)?);
+    }
+    Ok(())
+}
+
+// A hundred accounts, and the first word of one more.
+fn crowd(alloc: Global) -> Result<String, NoMemory> {
+    let mut text = String::from_str(alloc, "xmpp-schedule 1 direct\n")?;
+    for i in 0..100 {
+        text.push_str("account a")?;
+        text.push_str((i as u64).to_string(alloc)?.as_str())?;
+        text.push_str("\n")?;
+    }
+    Ok(text)
+}
+
+#[test]
+fn too_many_accounts(rt: HostRuntime) -> Result<(), Fail> {
+    let text = crowd(rt.alloc())?;
+    assert!(rt; is_bad(rt.alloc(), text.as_str(), "account \n", 102, LineWhy::Many)?);
+    Ok(())
+}

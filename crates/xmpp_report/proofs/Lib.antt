@@ -1,0 +1,3 @@
+pub mod DeviceTexts
+pub mod Pairs
+pub mod TakenArchives

@@ -1,0 +1,16 @@
+pub use Rattle.xmpp_edge.specs.Names
+pub use Rattle.xmpp_archive.specs.Entries
+pub use Rattle.xmpp_archive.specs.Ids
+pub use Rattle.xmpp_log.specs.LogPages
+pub use Rattle.xmpp_schedule.specs.Schedules
+pub use Rattle.xmpp_schedule.specs.Contents
+-- What a report is, and its text.
+pub mod Reports
+pub mod ReportText
+-- What was taken, and the lines of what is held.
+pub mod Addresses
+pub mod Takes
+pub mod Lines
+-- The laws.
+pub mod Worlds
+pub mod Lawful

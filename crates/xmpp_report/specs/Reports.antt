@@ -1,0 +1,38 @@
+-- What clauses see of a report: plain lists of its lines.
+use Rattle.std.specs.Prelude.{ℕ, Bool, List}
+use Rattle.xmpp_report.specs.declared.report.ConnLine.{ConnLine}
+use Rattle.xmpp_report.specs.declared.report.EntryLine.{EntryLine}
+use Rattle.xmpp_report.specs.declared.report.HeldLine.{HeldLine}
+use Rattle.xmpp_report.specs.declared.report.LoggedLine.{LoggedLine}
+use Rattle.xmpp_report.specs.declared.report.PageLine.{PageLine}
+use Rattle.xmpp_report.specs.declared.report.RefusedLine.{RefusedLine}
+use Rattle.xmpp_report.specs.declared.report.SaidLine.{SaidLine}
+use Rattle.xmpp_report.specs.declared.report.TakeLine.{TakeLine}
+use Rattle.xmpp_report.specs.declared.report.UnderwayLine.{UnderwayLine}
+
+-- an account and its archive
+pub record AccountView : Type 0 where
+  pub name : List ℕ
+  pub count : ℕ
+  pub entries : List EntryLine
+
+-- a device, what it sent, refused and asked for, and its log
+pub record DeviceView : Type 0 where
+  pub name : List ℕ
+  pub account : List ℕ
+  pub epoch : ℕ
+  pub settled : Bool
+  pub said : List SaidLine
+  pub refused : List RefusedLine
+  pub pages : List PageLine
+  pub underway : List UnderwayLine
+  pub logged : List LoggedLine
+  pub held : List HeldLine
+
+-- what a run of a schedule came to
+pub record ReportView : Type 0 where
+  pub wire : Bool
+  pub takes : List TakeLine
+  pub accounts : List AccountView
+  pub conns : List ConnLine
+  pub devices : List DeviceView

@@ -1,0 +1,90 @@
+//! The text of a report.
+ghost use Rattle.std.specs.Prelude.{◌≡◌, [], ◌∷◌, ◌++◌, IfOk, OnOk, codes, decimal};
+ghost use Rattle.std.specs.List.{flat_map};
+ghost use Rattle.xmpp_report.specs.ReportText.{text_of, settled_text, said_text, refused_text, page_text, underway_text, logged_text, held_text};
+
+use crate::printed::{Printed, append_field, append_number_field, print_all};
+use crate::report::{AccountLine, DeviceLine, Report};
+use std::alloc::Global;
+use xmpp_edge::{Bytes, NoMemory};
+
+impl Printed for AccountLine {
+    ghost use Rattle.xmpp_report.specs.ReportText.{account_text};
+
+    ghost text = { account_text };
+
+    fn print(&self, out: &mut Bytes) -> Result<(), NoMemory> {
+        out.append(b"account ")?;
+        out.append(self.name.as_str().as_bytes())?;
+        append_number_field(out, self.count)?;
+        out.append(b"\n")?;
+        print_all(out, &self.entries)
+    }
+}
+
+fn settled_name(settled: bool) -> &'static str
+    ensures { result.now ≡ settled_text settled }
+{
+    if settled { "yes" } else { "no" }
+}
+
+fn print_device_head(out: &mut Bytes, line: &DeviceLine) -> Result<(), NoMemory>
+    ensures { OnOk result (out.new.items ≡ out.old.items ++ codes "device " ++ line.now.name ++ 32 ∷ line.now.account
+        ++ 32 ∷ decimal line.now.epoch ++ 32 ∷ settled_text line.now.settled ++ 10 ∷ []) }
+{
+    out.append(b"device ")?;
+    out.append(line.name.as_str().as_bytes())?;
+    append_field(out, line.account.as_str())?;
+    append_number_field(out, line.epoch)?;
+    append_field(out, settled_name(line.settled))?;
+    out.append(b"\n")
+}
+
+/// Adds what a device sent, refused and took over.
+fn print_device_past(out: &mut Bytes, line: &DeviceLine) -> Result<(), NoMemory>
+    ensures { OnOk result (out.new.items ≡ out.old.items ++ flat_map said_text line.now.said ++ flat_map refused_text line.now.refused
+        ++ flat_map page_text line.now.pages) }
+{
+    print_all(out, &line.said)?;
+    print_all(out, &line.refused)?;
+    print_all(out, &line.pages)
+}
+
+/// Adds what a device awaits, and what is in its log and beside it.
+fn print_device_log(out: &mut Bytes, line: &DeviceLine) -> Result<(), NoMemory>
+    ensures { OnOk result (out.new.items ≡ out.old.items ++ flat_map underway_text line.now.underway
+        ++ flat_map logged_text line.now.logged ++ flat_map held_text line.now.held) }
+{
+    print_all(out, &line.underway)?;
+    print_all(out, &line.logged)?;
+    print_all(out, &line.held)
+}
+
+impl Printed for DeviceLine {
+    ghost use Rattle.xmpp_report.specs.ReportText.{device_text};
+
+    ghost text = { device_text };
+
+    fn print(&self, out: &mut Bytes) -> Result<(), NoMemory> {
+        print_device_head(out, self)?;
+        print_device_past(out, self)?;
+        print_device_log(out, self)
+    }
+}
+
+/// The text of a report: a line for each thing that it tells, its fields separated by one space, each line ended by
+/// LF.
+#[tactic(auto, unfolding(crate::specs::ReportText::text_of))]
+pub fn report_text(alloc: Global, report: &Report) -> Result<Bytes, NoMemory>
+    ensures { IfOk result (λ bytes. bytes.items ≡ text_of report.now) }
+{
+    let mut out = Bytes::new(alloc);
+    out.append(b"xmpp-report 1 ")?;
+    out.append(if report.wire { b"wire\n" } else { b"direct\n" })?;
+    print_all(&mut out, &report.takes)?;
+    print_all(&mut out, &report.accounts)?;
+    print_all(&mut out, &report.conns)?;
+    print_all(&mut out, &report.devices)?;
+    out.append(b"end\n")?;
+    Ok(out)
+}

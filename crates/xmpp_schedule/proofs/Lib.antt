@@ -1,0 +1,10 @@
+pub mod Again
+pub mod Answered
+pub mod Cuts
+pub mod Found
+pub mod Lists
+pub mod Numbers
+pub mod Prefixes
+pub mod ReadLines
+pub mod StandingSteps
+pub mod Words

@@ -1,0 +1,190 @@
+//! The fields of a line, each read and judged.
+ghost use Rattle.std.specs.Prelude.{◌≡◌, ◌==◌, ◌&&◌, ◌||◌, not, chars};
+ghost use Rattle.std.specs.List.{list_all};
+ghost use Rattle.xmpp_schedule.specs.Gives.{Gives, left, cut_seen};
+ghost use Rattle.xmpp_schedule.specs.Grammar.{is_name, is_text, is_lower, is_digit, is_text_character};
+ghost use Rattle.xmpp_schedule.specs.Reading.{at_most, cut_of, grown, is_number, not_empty, next_field, last_field, rest_field, number_within, value_of};
+
+use crate::fault::{LineFault, LineWhy, wants};
+
+/// What precedes the first space, and what follows it where there is one.
+pub fn cut_word(text: &str) -> (&str, Option<&str>)
+    ensures { cut_of text.now ≡ cut_seen result }
+{
+    match text.split_once(' ') {
+        Some((front, rest)) => (front, Some(rest)),
+        None => (text, None),
+    }
+}
+
+/// A field that others follow, and what follows the space behind it.
+pub fn next_field(fields: Option<&str>) -> Result<(&str, Option<&str>), LineFault>
+    ensures { Gives cut_seen result (next_field (left fields.entry)) }
+{
+    match fields {
+        None => Err(LineFault::Reason(LineWhy::Shape)),
+        Some(text) => {
+            let (front, rest) = cut_word(text);
+            if front.is_empty() {
+                return Err(LineFault::Reason(LineWhy::Shape));
+            }
+            Ok((front, rest))
+        }
+    }
+}
+
+/// The last field: all that is left, which has bytes and no space.
+pub fn last_field(fields: Option<&str>) -> Result<&str, LineFault>
+    ensures { Gives (λ x. x.now) result (last_field (left fields.entry)) }
+{
+    match fields {
+        None => Err(LineFault::Reason(LineWhy::Shape)),
+        Some(text) => {
+            if !is_word(text) {
+                return Err(LineFault::Reason(LineWhy::Shape));
+            }
+            Ok(text)
+        }
+    }
+}
+
+fn is_word(text: &str) -> bool
+    ensures { result ≡ (not_empty text.now && list_all (λ b. not (b == 32)) text.now) }
+{
+    !text.is_empty() && lacks_spaces(text)
+}
+
+fn lacks_spaces(text: &str) -> bool
+    ensures { result ≡ list_all (λ b. not (b == 32)) text.now }
+{
+    text.bytes().all(|b| b != b' ')
+}
+
+/// The rest of the line as it is, which has bytes.
+pub fn rest_field(fields: Option<&str>) -> Result<&str, LineFault>
+    ensures { Gives (λ x. x.now) result (rest_field (left fields.entry)) }
+{
+    match fields {
+        None => Err(LineFault::Reason(LineWhy::Shape)),
+        Some(text) => {
+            if text.is_empty() {
+                return Err(LineFault::Reason(LineWhy::Shape));
+            }
+            Ok(text)
+        }
+    }
+}
+
+fn is_lower(c: u8) -> bool
+    ensures { result ≡ is_lower c }
+{
+    b'a' <= c && c <= b'z'
+}
+
+fn is_digit(c: u8) -> bool
+    ensures { result ≡ is_digit c }
+{
+    b'0' <= c && c <= b'9'
+}
+
+/// Whether a name is a lower-case letter and up to 31 lower-case letters or digits.
+pub fn is_name(name: &str) -> bool
+    ensures { result ≡ is_name name.now }
+{
+    match name.as_bytes() {
+        [] => false,
+        [first, rest @ ..] => is_lower(*first) && rest.len() <= 31 && are_name_bytes(rest),
+    }
+}
+
+fn are_name_bytes(bytes: &[u8]) -> bool
+    ensures { result ≡ list_all (λ c. is_lower c || is_digit c) bytes.now }
+{
+    bytes.iter().all(|c| is_lower(*c) || is_digit(*c))
+}
+
+fn is_text_character(c: char) -> bool
+    ensures { result ≡ is_text_character c }
+{
+    matches!(c, '\u{20}'..='\u{D7FF}' | '\u{E000}'..='\u{FFFD}' | '\u{10000}'..='\u{10FFFF}')
+}
+
+/// Whether a text has 1 to 1,000 bytes, and only characters that are allowed.
+pub fn is_text(text: &str) -> bool
+    ensures { result ≡ is_text text.now }
+{
+    1 <= text.len() && text.len() <= 1000 && are_text_characters(text)
+}
+
+fn are_text_characters(text: &str) -> bool
+    ensures { result ≡ list_all is_text_character (chars text.now) }
+{
+    text.chars().all(is_text_character)
+}
+
+fn are_digits(bytes: &[u8]) -> bool
+    ensures { result ≡ list_all is_digit bytes.now }
+{
+    bytes.iter().all(|c| is_digit(*c))
+}
+
+fn is_number(digits: &[u8]) -> bool
+    ensures { result ≡ is_number digits.now }
+{
+    match digits {
+        [] => false,
+        [digit] => is_digit(*digit),
+        [first, rest @ ..] => is_digit(*first) && *first != b'0' && are_digits(rest),
+    }
+}
+
+/// A number with a digit more, where it is no more than a bound.
+fn grown_within(most: u64, value: u64, digit: u8) -> Option<u64>
+    ensures { result ≡ at_most most (grown value digit) }
+{
+    let next = value
+        .checked_mul(10)?
+        .checked_add(u64::from(digit.saturating_sub(48)))?;
+    if next <= most { Some(next) } else { None }
+}
+
+/// The value of digits, where it is no more than a bound.
+fn value_within(most: u64, digits: &[u8]) -> Option<u64>
+    ensures { result ≡ at_most most (value_of digits.now) }
+{
+    let mut value: u64 = 0;
+    for i in 0..digits.len() {
+        match grown_within(most, value, digits[i]) {
+            Some(next) => value = next,
+            None => return None,
+        }
+    }
+    Some(value)
+}
+
+/// A decimal number within bounds, without leading zeros.
+#[tactic(auto, using(crate::proofs::Numbers::judged_ok, crate::proofs::Numbers::judged_low, crate::proofs::Numbers::judged_high))]
+pub fn number_within(least: u64, most: u64, field: &str) -> Result<u64, LineFault>
+    ensures { Gives (λ n. n) result (number_within least most field.now) }
+{
+    let digits = field.as_bytes();
+    wants(is_number(digits), LineWhy::Number)?;
+    match value_within(most, digits) {
+        Some(value) => {
+            wants(least <= value, LineWhy::Number)?;
+            Ok(value)
+        }
+        None => Err(LineFault::Reason(LineWhy::Number)),
+    }
+}
+
+/// The most entries of a page, 1 to 100.
+#[tactic(auto, using(crate::proofs::Numbers::number_found))]
+pub fn page_limit(field: &str) -> Result<u32, LineFault>
+    ensures { Gives (λ n. n) result (number_within 1 100 field.now) }
+{
+    match number_within(1, 100, field) {
+        Ok(most) => Ok(most as u32),
+        Err(e) => Err(e),
+    }
+}

@@ -1,0 +1,13 @@
+//! Schedules: their lines, their grammar, and the reading of their text.
+#![tactic(auto)]
+
+mod fault;
+mod fields;
+mod lines;
+mod reading;
+mod schedule;
+mod steps;
+
+pub use fault::{LineWhy, ScheduleFault};
+pub use reading::{read_schedule, reading_is_the_grammar};
+pub use schedule::{Line, Lines, Schedule, Step};

@@ -1,0 +1,163 @@
+//! What a line says, by its first word, below what the lines above it declare.
+ghost use Rattle.std.specs.Prelude.{◌≡◌, ◌≤◌, ◌&&◌, true, IfOk, OnOk, OnErr};
+ghost use Rattle.std.specs.Str.{is_utf8};
+ghost use Rattle.xmpp_schedule.specs.Gives.{Gives, left};
+ghost use Rattle.xmpp_schedule.specs.Grammar.{declared_by, nothing_declared};
+ghost use Rattle.xmpp_schedule.specs.Reading.{wants, cut_of, read_account, read_device, read_say, read_catchup, read_words, read_line};
+ghost use Rattle.xmpp_schedule.specs.declared.fault.LineWhy.TheVariants.{Ending};
+
+use crate::fault::{LineFault, LineWhy, wants};
+use crate::fields::{cut_word, is_name, is_text, last_field, next_field, page_limit, rest_field};
+use crate::schedule::Step;
+use std::alloc::Global;
+use std::marker::Model;
+use std::str;
+use xmpp_edge::{NameIndex, Text};
+
+/// The names that are declared above a line.
+#[derive(Drop)]
+pub struct NamesAbove {
+    accounts: NameIndex,
+    devices: NameIndex,
+}
+
+impl Model for NamesAbove {
+    ghost use Rattle.xmpp_schedule.specs.Grammar.{Declared};
+
+    ghost Value = { Declared };
+
+    ghost view = { λ a. record { accounts = a.accounts; devices = a.devices } };
+}
+
+impl NamesAbove {
+    /// No names. It takes no memory.
+    pub fn new(alloc: Global) -> NamesAbove
+        ensures { result ≡ nothing_declared }
+    {
+        NamesAbove {
+            accounts: NameIndex::new(alloc),
+            devices: NameIndex::new(alloc),
+        }
+    }
+}
+
+#[tactic(auto, unfolding(crate::specs::Reading::read_account))]
+fn read_account(
+    alloc: Global,
+    above: &mut NamesAbove,
+    fields: Option<&str>,
+) -> Result<Step, LineFault>
+    ensures exact { Gives (λ step. step) result (read_account above.old (left fields.entry)) }
+    ensures declared { IfOk result (λ step. above.new ≡ declared_by step above.old) }
+    ensures err { OnErr result (above.new ≡ above.old) }
+{
+    wants(above.accounts.len() < 100, LineWhy::Many)?;
+    let name = last_field(fields)?;
+    wants(is_name(name), LineWhy::Name)?;
+    wants(!above.accounts.contains(name), LineWhy::Twice)?;
+    let kept = Text::from_str(alloc, name)?;
+    above.accounts.add(alloc, name)?;
+    Ok(Step::Account(kept))
+}
+
+#[tactic(auto, unfolding(crate::specs::Reading::read_device))]
+fn read_device(
+    alloc: Global,
+    above: &mut NamesAbove,
+    fields: Option<&str>,
+) -> Result<Step, LineFault>
+    ensures exact { Gives (λ step. step) result (read_device above.old (left fields.entry)) }
+    ensures declared { IfOk result (λ step. above.new ≡ declared_by step above.old) }
+    ensures err { OnErr result (above.new ≡ above.old) }
+{
+    wants(above.devices.len() < 100, LineWhy::Many)?;
+    let (name, rest) = next_field(fields)?;
+    let account = last_field(rest)?;
+    wants(is_name(name), LineWhy::Name)?;
+    wants(!above.devices.contains(name), LineWhy::Twice)?;
+    wants(above.accounts.contains(account), LineWhy::Unknown)?;
+    let kept = Text::from_str(alloc, name)?;
+    let account = Text::from_str(alloc, account)?;
+    above.devices.add(alloc, name)?;
+    Ok(Step::Device(kept, account))
+}
+
+#[tactic(auto, unfolding(crate::specs::Reading::read_say))]
+fn read_say(alloc: Global, above: &NamesAbove, fields: Option<&str>) -> Result<Step, LineFault>
+    ensures exact { Gives (λ step. step) result (read_say above.now (left fields.entry)) }
+    ensures declared { IfOk result (λ step. declared_by step above.now ≡ above.now) }
+{
+    let (device, rest) = next_field(fields)?;
+    let (to, rest) = next_field(rest)?;
+    let text = rest_field(rest)?;
+    wants(above.devices.contains(device), LineWhy::Unknown)?;
+    wants(is_name(to), LineWhy::Name)?;
+    wants(is_text(text), LineWhy::Text)?;
+    let device = Text::from_str(alloc, device)?;
+    let to = Text::from_str(alloc, to)?;
+    let text = Text::from_str(alloc, text)?;
+    Ok(Step::Say(device, to, text))
+}
+
+#[tactic(auto, unfolding(crate::specs::Reading::read_catchup))]
+fn read_catchup(alloc: Global, above: &NamesAbove, fields: Option<&str>) -> Result<Step, LineFault>
+    ensures exact { Gives (λ step. step) result (read_catchup above.now (left fields.entry)) }
+    ensures declared { IfOk result (λ step. declared_by step above.now ≡ above.now) }
+{
+    let (device, rest) = next_field(fields)?;
+    let field = last_field(rest)?;
+    wants(above.devices.contains(device), LineWhy::Unknown)?;
+    let most = page_limit(field)?;
+    Ok(Step::Catchup(Text::from_str(alloc, device)?, most))
+}
+
+/// What a line says, by its first word. It adds to the names above what the line declares.
+#[tactic(auto, unfolding(crate::specs::Reading::read_words))]
+fn read_words(alloc: Global, above: &mut NamesAbove, line: &str) -> Result<Step, LineFault>
+    ensures exact { Gives (λ step. step) result (read_words above.old (cut_of line.now)) }
+    ensures declared { IfOk result (λ step. above.new ≡ declared_by step above.old) }
+    ensures err { OnErr result (above.new ≡ above.old) }
+{
+    let (word, fields) = cut_word(line);
+    match word {
+        "account" => read_account(alloc, above, fields),
+        "device" => read_device(alloc, above, fields),
+        "say" => read_say(alloc, above, fields),
+        "catchup" => read_catchup(alloc, above, fields),
+        _ => Err(LineFault::Reason(LineWhy::Word)),
+    }
+}
+
+/// What line `number` says. It adds to the names above what the line declares, and a line that is not read leaves
+/// them as they were.
+#[tactic(auto, unfolding(crate::specs::Reading::read_line))]
+pub fn read_line(
+    alloc: Global,
+    above: &mut NamesAbove,
+    number: u64,
+    line: &[u8],
+    ended: bool,
+) -> Result<Step, LineFault>
+    ensures exact { Gives (λ step. step) result (read_line above.old number (record { bytes = line.now; ended = ended })) }
+    ensures declared { IfOk result (λ step. above.new ≡ declared_by step above.old) }
+    ensures err { OnErr result (above.new ≡ above.old) }
+    ensures few { OnOk result (number ≤ 100000) }
+{
+    let line = spelled(line, ended)?;
+    wants(number <= 100_000, LineWhy::Many)?;
+    read_words(alloc, above, line)
+}
+
+/// The characters of a line that an LF ends.
+fn spelled(line: &[u8], ended: bool) -> Result<&str, LineFault>
+    ensures exact { Gives (λ _. true) result (wants (ended && is_utf8 line.now) Ending) }
+    ensures same { IfOk result (λ text. text.now ≡ line.now) }
+{
+    if !ended {
+        return Err(LineFault::Reason(LineWhy::Ending));
+    }
+    match str::from_utf8(line) {
+        Ok(text) => Ok(text),
+        Err(_) => Err(LineFault::Reason(LineWhy::Ending)),
+    }
+}

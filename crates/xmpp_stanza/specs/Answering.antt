@@ -1,0 +1,14 @@
+-- What answers a stanza with an error (RFC 6120, section 8.3.1).
+use Rattle.std.specs.Prelude.{ℕ, List, Some, None, codes}
+use Rattle.xmpp_stanza.specs.Errors.{error_elem}
+use Rattle.xmpp_stanza.specs.Kinds.{message_type}
+use Rattle.xmpp_stanza.specs.Names.{client_ns}
+use Rattle.xmpp_stanza.specs.Written.{attrs_written, unless_empty}
+use Rattle.xmpp_stanza.specs.declared.errors.StanzaError.{StanzaError}
+use Rattle.xmpp_stanza.specs.declared.kinds.MessageKind.TheVariants.{Error}
+use Rattle.xmpp_trees.specs.Trees.{Elem, element, no_nodes, child}
+
+-- the answer to a message: it comes from where the message went, has its id where that isn't empty, and no `to`
+abbrev pub bounce_elem : List ℕ → List ℕ → StanzaError → Elem
+bounce_elem from id e =
+    element client_ns (codes "message") (attrs_written (Some from) (unless_empty id) None (Some (message_type Error)) None) (child (error_elem e) no_nodes)

@@ -1,0 +1,110 @@
+// Errors of stanzas and of streams.
+use std::alloc::Global;
+use xmpp_edge::NoMemory;
+use xmpp_stanza::{
+    Condition, ErrorKind, StanzaError, StanzaErrorFault, bounce, stanza_error, stream_condition,
+    stream_error,
+};
+use xmpp_trees::{Element, Tree};
+
+// A condition of stanzas, the kind that it goes with there, and whether it has a variant of its own (RFC 6120, section
+// 8.3.3).
+static CONDITIONS: [(&str, ErrorKind, bool); 12] = [
+    ("bad-request", ErrorKind::Modify, true),
+    ("conflict", ErrorKind::Cancel, false),
+    ("feature-not-implemented", ErrorKind::Cancel, true),
+    ("forbidden", ErrorKind::Auth, false),
+    ("item-not-found", ErrorKind::Cancel, true),
+    ("jid-malformed", ErrorKind::Modify, true),
+    ("recipient-unavailable", ErrorKind::Wait, false),
+    ("remote-server-not-found", ErrorKind::Cancel, true),
+    ("resource-constraint", ErrorKind::Wait, true),
+    ("service-unavailable", ErrorKind::Cancel, true),
+    ("undefined-condition", ErrorKind::Continue, false),
+    ("unexpected-request", ErrorKind::Wait, true),
+];
+
+// A copy of an error of this condition and kind.
+fn error_of(alloc: Global, name: &str, kind: ErrorKind) -> Result<StanzaError, NoMemory> {
+    let condition = Condition::named(alloc, name)?;
+    StanzaError { kind, condition }.copy(alloc)
+}
+
+fn bounced(alloc: Global, name: &str, kind: ErrorKind) -> Result<Tree, NoMemory> {
+    let error = error_of(alloc, name, kind)?;
+    bounce(alloc, "not an address", "7", &error)
+}
+
+fn read(alloc: Global, tree: &Tree) -> Option<StanzaError> {
+    stanza_error(alloc, tree).ok()
+}
+
+fn is_error(error: &StanzaError, row: &(&str, ErrorKind, bool)) -> bool {
+    let is_other = matches!(error.condition, Condition::Other(_));
+    error.condition.name() == row.0 && error.kind == row.1 && is_other != row.2
+}
+
+fn is_read_back(alloc: Global, row: &(&str, ErrorKind, bool)) -> Result<bool, NoMemory> {
+    let tree = bounced(alloc, row.0, row.1)?;
+    let from = tree.element().attr("", "from") == Some("not an address");
+    match read(alloc, &tree) {
+        None => Ok(false),
+        Some(error) => Ok(from && is_error(&error, row)),
+    }
+}
+
+#[test]
+fn conditions_are_read_back(rt: HostRuntime) -> Result<(), NoMemory> {
+    for row in &CONDITIONS {
+        assert!(rt; is_read_back(rt.alloc(), row)?);
+    }
+    Ok(())
+}
+
+// Conditions of streams (RFC 6120, section 4.9.3), and whether they are read back.
+static STREAM_CONDITIONS: [(&str, bool); 4] = [
+    ("conflict", true),
+    ("not-well-formed", true),
+    ("undefined-condition", true),
+    ("text", false),
+];
+
+// A stream error to which an element is added.
+fn added_to(alloc: Global, condition: &str) -> Result<Tree, NoMemory> {
+    let extra = Element::from_strs(alloc, "urn:xmpp:sm:3", "handled-count-too-high")?;
+    let extra = Tree::of(alloc, extra)?;
+    stream_error(alloc, condition, Some(extra))
+}
+
+fn is_condition(alloc: Global, name: &str) -> Result<bool, NoMemory> {
+    let tree = added_to(alloc, name)?;
+    let is_added = tree
+        .element()
+        .child("urn:xmpp:sm:3", "handled-count-too-high");
+    Ok(is_added.is_some() && stream_condition(&tree) == Some(name))
+}
+
+#[test]
+fn stream_conditions_are_read_back(rt: HostRuntime) -> Result<(), NoMemory> {
+    for (name, is_read) in &STREAM_CONDITIONS {
+        assert!(rt; is_condition(rt.alloc(), name)? == *is_read);
+    }
+    Ok(())
+}
+
+static FAULTS: [(StanzaErrorFault, &str); 2] = [
+    (StanzaErrorFault::NoError, "no error with a condition"),
+    (StanzaErrorFault::NoMemory, "out of memory"),
+];
+
+fn is_text(alloc: Global, fault: StanzaErrorFault, text: &str) -> Result<bool, NoMemory> {
+    Ok(format!(in alloc; "{fault}")?.as_str() == text)
+}
+
+#[test]
+fn faults_have_texts(rt: HostRuntime) -> Result<(), NoMemory> {
+    for (fault, text) in &FAULTS {
+        assert!(rt; is_text(rt.alloc(), *fault, text)?);
+    }
+    Ok(())
+}

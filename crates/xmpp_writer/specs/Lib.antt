@@ -1,0 +1,2 @@
+-- what is written
+pub mod Canon

@@ -1,0 +1,9 @@
+//! Elements, headers and footers of a stream as they are written (RFC 6120, section 4; XML 1.0, sections 2.4 and 3.1;
+//! Namespaces in XML 1.0, sections 3 to 6): one spelling each, into memory that is reserved first.
+#![tactic(auto)]
+
+mod tag_lengths;
+mod tag_writing;
+mod writing;
+
+pub use writing::{spelled_len, write, write_footer, write_header};
