@@ -187,11 +187,7 @@ impl Framer {
     fn takes_text(&self) -> bool
         ensures { result ≡ ManyBytes.takes_text self.now }
     {
-        let is_text = match self.lexical.mode {
-            Mode::Text => true,
-            _ => false,
-        };
-        is_text
+        self.is_text()
             && self.fault.is_none()
             && self.is_inside()
             && self.pending.len() == 0
