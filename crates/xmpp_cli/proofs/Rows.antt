@@ -10,7 +10,7 @@ use Rattle.xmpp_schedule.specs.declared.fault.LineWhy.{LineWhy}
 use Rattle.xmpp_schedule.specs.declared.fault.ScheduleFault.TheVariants.{BadLine}
 use Rattle.xmpp_cli.specs.Texts.{words_line, read_fault_line, too_long_line, bad_line}
 use Rattle.xmpp_cli.specs.Words.{reads}
-use Rattle.xmpp_cli.specs.Table.{code_of, is_status, Accepts, Due, MustAnswer}
+use Rattle.xmpp_cli.specs.Table.{code_of, is_status, Due, MustAnswer}
 use Rattle.xmpp_cli.specs.declared.command.Command.{Command}
 use Rattle.xmpp_cli.specs.declared.command.Command.TheVariants.{Help, Version, Replay, Check}
 use Rattle.xmpp_cli.specs.declared.outcome.Outcome.{Outcome}
