@@ -3,6 +3,7 @@ use Rattle.std.proofs.Common.{◌≡◌, ◌≢◌, Bool, true, false, ap, ℕ, 
 use Rattle.std.proofs.lemmas.Bool.Decides.{eqb_tells}
 use Rattle.std.proofs.Math.Nat.{min-eq_left}
 use Rattle.std.specs.Bool.{MatchBool}
+use Rattle.std.specs.Prelude.{◌==◌, if◌then◌else◌}
 use Rattle.std.specs.Io.KnownBytes.{IsAtEnd}
 use Rattle.xmpp_edge.specs.Counts.{Rose, Quiet}
 use Rattle.xmpp_edge.specs.declared.whole_reads.TheConstants.{MOST_BYTES_READ}
@@ -45,12 +46,13 @@ code_not_6 Refused e = omega arith
 code_not_6 ReadFault e = omega arith
 code_not_6 TooLong e = omega arith
 
-outcome_with : ℕ → Outcome
-outcome_with 0 = Done
-outcome_with 2 = WrongWords
-outcome_with 3 = Refused
-outcome_with 4 = ReadFault
-outcome_with _ = TooLong
+abbrev outcome_with : ℕ → Outcome
+outcome_with n =
+    if n == 0 then Done
+    else (if n == 2 then WrongWords
+    else (if n == 3 then Refused
+    else (if n == 4 then ReadFault
+    else TooLong)))
 
 outcome_back : (outcome : Outcome) → outcome_with (code_of outcome) ≡ outcome
 outcome_back Done = refl

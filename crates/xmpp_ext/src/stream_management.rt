@@ -212,11 +212,7 @@ impl Ack {
 }
 
 // The id and the count of a `resume` or a `resumed`, whichever the name says.
-fn read_resumption(
-    alloc: Global,
-    element: &Element,
-    name: &str,
-) -> Result<(Text, u32), ExtFault>
+fn read_resumption(alloc: Global, element: &Element, name: &str) -> Result<(Text, u32), ExtFault>
     ensures ok { IfOk result (λ found. IsResumption name.now (elem_view element.now) found.0 found.1) }
     ensures err { IfErr result (IsFault (is_management name.now (elem_view element.now)) (ResumptionLacks (elem_view element.now))) }
 {

@@ -27,8 +27,20 @@ type FinRow = (bool, Option<&'static str>, u64, Option<&'static str>, u64);
 
 static FINS: [FinRow; 3] = [
     (true, None, 0, None, 0),
-    (false, Some("0000000000000001"), 3, Some("0000000000000002"), 9),
-    (true, Some("a"), 18_446_744_073_709_551_615, Some(""), 18_446_744_073_709_551_615),
+    (
+        false,
+        Some("0000000000000001"),
+        3,
+        Some("0000000000000002"),
+        9,
+    ),
+    (
+        true,
+        Some("a"),
+        18_446_744_073_709_551_615,
+        Some(""),
+        18_446_744_073_709_551_615,
+    ),
 ];
 
 fn fin(alloc: Global, row: &FinRow) -> Result<Fin, NoMemory> {
@@ -70,7 +82,12 @@ type QueryRow = (Option<&'static str>, Option<u64>, Option<u64>, Option<u32>);
 
 static QUERIES: [QueryRow; 3] = [
     (None, None, None, None),
-    (Some("juliet@capulet.lit"), Some(1_276_041_600_000), None, Some(10)),
+    (
+        Some("juliet@capulet.lit"),
+        Some(1_276_041_600_000),
+        None,
+        Some(10),
+    ),
     (None, None, Some(1_278_547_199_000), Some(0)),
 ];
 

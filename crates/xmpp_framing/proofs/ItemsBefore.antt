@@ -5,7 +5,7 @@ use Rattle.std.specs.Option.{is_some}
 use Rattle.xmpp_names.specs.Ends.{end_of}
 use Rattle.xmpp_names.specs.Headers.{header_of}
 use Rattle.xmpp_names.specs.Starts.{Tag}
-use Rattle.xmpp_names.specs.declared.faults.StartFault.{StartFault}
+use Rattle.xmpp_names.specs.declared.fault.StartWhy.{StartWhy}
 use Rattle.xmpp_tokens.specs.Tags.{is_end}
 use Rattle.xmpp_tokens.specs.Utf8.{continues}
 use Rattle.xmpp_framing.specs.Machine.{IsFrontOf, behind_byte, goes_on, is_too_long, run, step, taken, taken_in}
@@ -52,7 +52,7 @@ begun_keeps front t tag =
     let inner : Turn → Turn = λ u. moved u (level t.state tag) in
     either front deep (λ u. if tag.empty then leaf u tag else inner u) t (is_too_deep t.state) refl (either front (λ u. leaf u tag) inner t tag.empty (leaf_keeps front t tag) refl)
 
-starts_keep : (front : List Item) (t : Turn) (r : Result Tag StartFault) → Keeps front (λ u. starts u r) t
+starts_keep : (front : List Item) (t : Turn) (r : Result Tag StartWhy) → Keeps front (λ u. starts u r) t
 starts_keep front t (Ok tag) = begun_keeps front t tag
 starts_keep front t (Err fault) = refl
 
@@ -72,7 +72,7 @@ inside_keeps : (front : List Item) (t : Turn) → Keeps front tag_inside t
 unfolding tag_inside
 inside_keeps front t = either front ends (λ u. starts u (tag_here t.state)) t (is_end t.state.token) (ends_keep front t) (starts_keep front t (tag_here t.state))
 
-heads_keep : (front : List Item) (t : Turn) (r : Result Tag StartFault) → Keeps front (λ u. heads u r) t
+heads_keep : (front : List Item) (t : Turn) (r : Result Tag StartWhy) → Keeps front (λ u. heads u r) t
 heads_keep front t (Ok tag) = given front (headed t.state tag) t.items (header_items t.state.places.token_at (header_of tag) tag.empty)
 heads_keep front t (Err fault) = refl
 

@@ -10,8 +10,8 @@ use Rattle.xmpp_names.specs.Headers.{header_of, opens_stream}
 use Rattle.xmpp_names.specs.Scopes.{Scope}
 use Rattle.xmpp_names.specs.Starts.{Tag, start_of}
 use Rattle.xmpp_names.specs.declared.headers.Header.{Header}
-use Rattle.xmpp_names.specs.declared.faults.StartFault.{StartFault}
-use Rattle.xmpp_names.specs.declared.faults.StartFault.TheVariants as start
+use Rattle.xmpp_names.specs.declared.fault.StartWhy.{StartWhy}
+use Rattle.xmpp_names.specs.declared.fault.StartWhy.TheVariants as start
 use Rattle.xmpp_names.specs.declared.limits.TagLimits.{TagLimits}
 use Rattle.xmpp_trees.specs.Attributes.{sorted_attributes}
 use Rattle.xmpp_framing.specs.Expanded.{attribute_of}
@@ -47,14 +47,14 @@ outer_scopes [] = []
 outer_scopes (own ∷ outer) = outer
 
 -- the tag in hand, inside the scope in force
-abbrev pub tag_here : State → Result Tag StartFault
+abbrev pub tag_here : State → Result Tag StartWhy
 tag_here s = start_of (tag_limits s.limits) (scope_in s.scopes) s.token
 
 -- the tag in hand as that of a header, which begins scopes anew
-abbrev pub tag_anew : State → Result Tag StartFault
+abbrev pub tag_anew : State → Result Tag StartWhy
 tag_anew s = start_of (tag_limits s.limits) [] s.token
 
-abbrev pub says_stream : Result Tag StartFault → Bool
+abbrev pub says_stream : Result Tag StartWhy → Bool
 says_stream (Ok t) = opens_stream t
 says_stream (Err fault) = false
 
@@ -111,19 +111,18 @@ is_too_deep s = nat_lt s.limits.depth (open_count s + 1)
 abbrev pub past : State → Why → Why
 past s other = if is_too_deep s then why.TooDeep else other
 
-abbrev pub start_why : State → StartFault → Why
+abbrev pub start_why : State → StartWhy → Why
 start_why s start.Restricted = why.Restricted
 start_why s start.NotWellFormed = why.NotWellFormed
 start_why s start.TooManyAttributes = past s why.TooManyAttributes
 start_why s start.LongNamespace = past s why.LongNamespace
-start_why s start.NoMemory = why.NotWellFormed
 
 unfoldable pub begun : Turn → Tag → Turn
 begun t tag =
     if is_too_deep t.state then moved t (token_fails t.state why.TooDeep)
     else (if tag.empty then leaf t tag else moved t (level t.state tag))
 
-abbrev pub starts : Turn → Result Tag StartFault → Turn
+abbrev pub starts : Turn → Result Tag StartWhy → Turn
 starts t (Ok tag) = begun t tag
 starts t (Err fault) = moved t (token_fails t.state (start_why t.state fault))
 
@@ -175,22 +174,21 @@ headed s tag = in_phase (item_ended (record s { scopes = tag.bindings ∷ []; na
 abbrev pub header_items : ℕ → Header → Bool → List Item
 header_items at header empty = if empty then item.Header at header ∷ item.Footer ∷ [] else item.Header at header ∷ []
 
-abbrev pub header_why : StartFault → Why
+abbrev pub header_why : StartWhy → Why
 header_why start.Restricted = why.Restricted
 header_why start.NotWellFormed = why.NotWellFormed
 header_why start.TooManyAttributes = why.TooManyAttributes
 header_why start.LongNamespace = why.LongNamespace
-header_why start.NoMemory = why.NotWellFormed
 
 abbrev pub headed_turn : Turn → Tag → Turn
 headed_turn t tag = turn (headed t.state tag) (t.items ++ header_items t.state.places.token_at (header_of tag) tag.empty)
 
-abbrev pub heads : Turn → Result Tag StartFault → Turn
+abbrev pub heads : Turn → Result Tag StartWhy → Turn
 heads t (Ok tag) = headed_turn t tag
 heads t (Err fault) = moved t (token_fails t.state (header_why fault))
 
 -- a tag that may not stand there
-abbrev pub misplaced_why : Result Tag StartFault → Why
+abbrev pub misplaced_why : Result Tag StartWhy → Why
 misplaced_why (Err start.Restricted) = why.Restricted
 misplaced_why r = why.NotWellFormed
 

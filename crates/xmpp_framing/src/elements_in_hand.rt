@@ -86,6 +86,8 @@ impl Framer {
                 self.end_token();
             }
             None => {
+                // Attributes were put in order and texts joined as they were read. `Tree::of` finds that so in one walk,
+                // and takes no memory: the state of the definitions needn't say it of each open element.
                 let tree = Tree::of(self.alloc, element)?;
                 items.push(Item::Element(tree))?;
                 self.end_item();

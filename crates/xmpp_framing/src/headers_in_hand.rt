@@ -12,17 +12,17 @@ use crate::framer::Framer;
 use crate::items::{Item, Items};
 use crate::states::Phase;
 use xmpp_edge::NoMemory;
-use xmpp_names::{Header, HeaderTag, StartFault, Tag, header_of, opens_stream};
+use xmpp_names::{Header, HeaderTag, StartFault, StartWhy, Tag, header_of, opens_stream};
 
 // What is wrong with a header's tag.
-fn header_why(fault: StartFault) -> Why
-    ensures { result ≡ TagSteps.header_why fault }
+fn header_why(why: StartWhy) -> Why
+    ensures { result ≡ TagSteps.header_why why }
 {
-    match fault {
-        StartFault::Restricted => Why::Restricted,
-        StartFault::TooManyAttributes => Why::TooManyAttributes,
-        StartFault::LongNamespace => Why::LongNamespace,
-        StartFault::NotWellFormed | StartFault::NoMemory => Why::NotWellFormed,
+    match why {
+        StartWhy::Restricted => Why::Restricted,
+        StartWhy::NotWellFormed => Why::NotWellFormed,
+        StartWhy::TooManyAttributes => Why::TooManyAttributes,
+        StartWhy::LongNamespace => Why::LongNamespace,
     }
 }
 
@@ -77,7 +77,7 @@ impl Framer {
         match self.read_anew() {
             Ok(tag) => self.give_header(tag, items)?,
             Err(StartFault::NoMemory) => return Err(NoMemory),
-            Err(fault) => self.fail_token(header_why(fault)),
+            Err(StartFault::Refused(why)) => self.fail_token(header_why(why)),
         }
         Ok(())
     }
@@ -89,7 +89,7 @@ impl Framer {
     {
         match self.read_here() {
             Err(StartFault::NoMemory) => return Err(NoMemory),
-            Err(StartFault::Restricted) => self.fail_token(Why::Restricted),
+            Err(StartFault::Refused(StartWhy::Restricted)) => self.fail_token(Why::Restricted),
             _ => self.fail_token(Why::NotWellFormed),
         }
         Ok(())
@@ -106,15 +106,15 @@ impl Framer {
     }
 
     // A tag behind a header that is refused.
-    fn refuse_between(&mut self, fault: StartFault, items: &mut Items) -> Result<(), NoMemory>
-        requires { tag_here self.old ≡ Err fault }
+    fn refuse_between(&mut self, why: StartWhy, items: &mut Items) -> Result<(), NoMemory>
+        requires { tag_here self.old ≡ Err why }
         ensures ok { OnOk result (turn self.new items.new.items ≡ TagSteps.tag_in Phase.Between (turn self.old items.old.items)) }
         ensures err { OnErr result (items.new.items ≡ items.old.items) }
     {
         if self.is_header()? {
             self.header_tag(items)?;
         } else {
-            self.fail_token(self.start_why(fault));
+            self.fail_token(self.start_why(why));
         }
         Ok(())
     }
@@ -128,7 +128,7 @@ impl Framer {
             Ok(tag) if self.opens_stream(&tag) => self.header_tag(items)?,
             Ok(tag) => self.begin(tag, items)?,
             Err(StartFault::NoMemory) => return Err(NoMemory),
-            Err(fault) => self.refuse_between(fault, items)?,
+            Err(StartFault::Refused(why)) => self.refuse_between(why, items)?,
         }
         Ok(())
     }

@@ -4,20 +4,13 @@ ghost use Rattle.std.specs.List.{list_all, prefix_len};
 ghost use Rattle.std.specs.Option.{is_some};
 ghost use Rattle.xmpp_framing.specs.ManyBytes;
 ghost use Rattle.xmpp_framing.specs.ManyBytes.{GoesOnTo, KeepsQuote, LeavesRoom, TakesRun, behind_bytes, quote_after, tag_taken, text_taken};
-ghost use Rattle.xmpp_tokens.specs.Characters;
 
 use crate::framer::Framer;
 use crate::states::Mode;
-use crate::tag_bytes::quote_behind;
 use xmpp_edge::NoMemory;
+use xmpp_tokens::{is_control, quote_behind};
 
 // ---- scans
-
-fn is_control(b: u8) -> bool
-    ensures { result ≡ Characters.is_control b }
-{
-    b < 32 && b != b'\t' && b != b'\n' && b != b'\r'
-}
 
 // Whether a byte says itself in a text, whatever stands before it. Small letters are told by two tests.
 fn is_plain(b: u8) -> bool
@@ -194,11 +187,7 @@ impl Framer {
     fn takes_text(&self) -> bool
         ensures { result ≡ ManyBytes.takes_text self.now }
     {
-        let is_text = match self.lexical.mode {
-            Mode::Text => true,
-            _ => false,
-        };
-        is_text
+        self.is_text()
             && self.fault.is_none()
             && self.is_inside()
             && self.pending.len() == 0

@@ -3,32 +3,13 @@ ghost use Rattle.std.specs.Prelude.{◌≡◌, OnOk, OnErr};
 ghost use Rattle.std.specs.Option.{is_some};
 ghost use Rattle.xmpp_framing.specs.States.{turn};
 ghost use Rattle.xmpp_framing.specs.TagSteps.{footer_closes, footer_gathered, in_footer, in_opening, in_tag, tag_closes, tag_gathered, unlimited};
-ghost use Rattle.xmpp_tokens.specs.Tags;
 
 use crate::fault::Why;
 use crate::framer::Framer;
 use crate::items::{Item, Items};
 use crate::states::{Mode, Phase};
 use xmpp_edge::NoMemory;
-use xmpp_tokens::is_white;
-
-fn is_quote(b: u8) -> bool
-    ensures { result ≡ Tags.is_quote b }
-{
-    b == b'"' || b == b'\''
-}
-
-/// The quote that is open behind a byte.
-pub(crate) fn quote_behind(quote: Option<u8>, b: u8) -> Option<u8>
-    ensures { result ≡ Tags.quote_behind quote b }
-{
-    match quote {
-        None if is_quote(b) => Some(b),
-        None => None,
-        Some(q) if q == b => None,
-        Some(q) => Some(q),
-    }
-}
+use xmpp_tokens::{is_quote, is_white, quote_behind};
 
 impl Framer {
     // A tag is whole.

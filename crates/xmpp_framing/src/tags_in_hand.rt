@@ -5,8 +5,8 @@ ghost use Rattle.xmpp_framing.specs.States.{turn};
 ghost use Rattle.xmpp_framing.specs.TagSteps;
 ghost use Rattle.xmpp_framing.specs.TagSteps.{begun, ends, starts, tag_anew, tag_here, tag_inside};
 ghost use Rattle.xmpp_names.specs.Ends.{end_of};
+ghost use Rattle.xmpp_names.specs.Faults.{IfRefused};
 ghost use Rattle.xmpp_names.specs.TagView.{tag_view};
-ghost use Rattle.xmpp_tokens.specs.Tags;
 
 use crate::fault::Why;
 use crate::framer::Framer;
@@ -14,17 +14,8 @@ use crate::items::Items;
 use crate::limits::Limits;
 use crate::states::Phase;
 use xmpp_edge::NoMemory;
-use xmpp_names::{StartFault, Tag, TagLimits, opens_stream, read_end, read_start};
-
-// Whether a token is an end tag.
-fn is_end(token: &[u8]) -> bool
-    ensures { result ≡ Tags.is_end token.now }
-{
-    match *token {
-        [a, b, ..] => a == b'<' && b == b'/',
-        _ => false,
-    }
-}
+use xmpp_names::{StartFault, StartWhy, Tag, TagLimits, opens_stream, read_end, read_start};
+use xmpp_tokens::is_end;
 
 // What a tag is read with.
 fn tag_limits(limits: Limits) -> TagLimits
@@ -43,7 +34,7 @@ impl Framer {
     #[tactic(auto, using(crate::proofs::Stacks::scope_is))]
     pub(crate) fn read_here(&self) -> Result<Tag, StartFault>
         ensures ok { IfOk result (λ t. tag_here self.now ≡ Ok (tag_view t)) }
-        ensures err { IfErr result (λ e. e ≢ StartFault.NoMemory → tag_here self.now ≡ Err e) }
+        ensures refused { IfErr result (λ e. IfRefused e (λ why. tag_here self.now ≡ Err why)) }
 
         // The limits are numbers of 32 bits, as a state of the definitions doesn't say by itself.
         ensures attributes { self.now.limits.attributes < 2 ^ 32 }
@@ -60,7 +51,7 @@ impl Framer {
     // The tag in hand as that of a header.
     pub(crate) fn read_anew(&self) -> Result<Tag, StartFault>
         ensures ok { IfOk result (λ t. tag_anew self.now ≡ Ok (tag_view t)) }
-        ensures err { IfErr result (λ e. e ≢ StartFault.NoMemory → tag_anew self.now ≡ Err e) }
+        ensures refused { IfErr result (λ e. IfRefused e (λ why. tag_anew self.now ≡ Err why)) }
     {
         read_start(self.alloc, tag_limits(self.limits), &[], &self.token)
     }
@@ -78,8 +69,8 @@ impl Framer {
         };
         match read_start(self.alloc, largest, &self.scopes, &self.token) {
             Ok(tag) => Ok(opens_stream(&tag)),
+            Err(StartFault::Refused(_)) => Ok(false),
             Err(StartFault::NoMemory) => Err(NoMemory),
-            Err(_) => Ok(false),
         }
     }
 
@@ -130,17 +121,17 @@ impl Framer {
     }
 
     // What is wrong with a start tag.
-    pub(crate) fn start_why(&self, fault: StartFault) -> Why
-        ensures { result ≡ TagSteps.start_why self.now fault }
+    pub(crate) fn start_why(&self, why: StartWhy) -> Why
+        ensures { result ≡ TagSteps.start_why self.now why }
     {
-        match fault {
-            StartFault::Restricted => Why::Restricted,
-            StartFault::TooManyAttributes | StartFault::LongNamespace if self.is_too_deep() => {
+        match why {
+            StartWhy::Restricted => Why::Restricted,
+            StartWhy::NotWellFormed => Why::NotWellFormed,
+            StartWhy::TooManyAttributes | StartWhy::LongNamespace if self.is_too_deep() => {
                 Why::TooDeep
             }
-            StartFault::TooManyAttributes => Why::TooManyAttributes,
-            StartFault::LongNamespace => Why::LongNamespace,
-            StartFault::NotWellFormed | StartFault::NoMemory => Why::NotWellFormed,
+            StartWhy::TooManyAttributes => Why::TooManyAttributes,
+            StartWhy::LongNamespace => Why::LongNamespace,
         }
     }
 
@@ -168,7 +159,7 @@ impl Framer {
         match self.read_here() {
             Ok(tag) => self.begin(tag, items)?,
             Err(StartFault::NoMemory) => return Err(NoMemory),
-            Err(fault) => self.fail_token(self.start_why(fault)),
+            Err(StartFault::Refused(why)) => self.fail_token(self.start_why(why)),
         }
         Ok(())
     }

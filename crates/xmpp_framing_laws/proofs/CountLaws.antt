@@ -6,7 +6,7 @@ use Rattle.std.specs.Option.{is_some}
 use Rattle.std.specs.Prelude.{codes, nat_lt, slice_index}
 use Rattle.xmpp_names.specs.Ends.{end_of}
 use Rattle.xmpp_names.specs.Starts.{Tag}
-use Rattle.xmpp_names.specs.declared.faults.StartFault.{StartFault}
+use Rattle.xmpp_names.specs.declared.fault.StartWhy.{StartWhy}
 use Rattle.xmpp_tokens.specs.Characters.{is_white}
 use Rattle.xmpp_tokens.specs.Declarations.{declaration_of}
 use Rattle.xmpp_tokens.specs.References.{reference_goes_on, referred}
@@ -166,7 +166,7 @@ begun_keeps t tag =
     either_turn t.state deep (if tag.empty then leaf t tag else inner) (is_too_deep t.state) (λ h. (refl, refl))
     (either_turn t.state (leaf t tag) inner tag.empty (leaf_keeps t tag) (λ h. (refl, refl)))
 
-starts_keep : (t : Turn) (r : Result Tag StartFault) → KeepsTurn t.state (starts t r)
+starts_keep : (t : Turn) (r : Result Tag StartWhy) → KeepsTurn t.state (starts t r)
 starts_keep t (Ok tag) = begun_keeps t tag
 starts_keep t (Err fault) = λ h. (refl, refl)
 
@@ -186,7 +186,7 @@ tag_inside_keeps : (t : Turn) → KeepsTurn t.state (tag_inside t)
 unfolding tag_inside
 tag_inside_keeps t = either_turn t.state (ends t) (starts t (tag_here t.state)) (is_end t.state.token) (ends_keep t) (starts_keep t (tag_here t.state))
 
-heads_keep : (t : Turn) (r : Result Tag StartFault) → is_some t.state.here ≡ false → KeepsTurn t.state (heads t r)
+heads_keep : (t : Turn) (r : Result Tag StartWhy) → is_some t.state.here ≡ false → KeepsTurn t.state (heads t r)
 heads_keep t (Ok tag) outer = over t.state (heads t (Ok tag)).state outer refl
 heads_keep t (Err fault) outer = λ h. (refl, refl)
 

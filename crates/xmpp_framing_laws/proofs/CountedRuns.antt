@@ -5,7 +5,7 @@ use Rattle.std.specs.Option.{is_some}
 use Rattle.std.specs.Prelude.{codes, nat_lt, slice_index}
 use Rattle.xmpp_names.specs.Ends.{end_of}
 use Rattle.xmpp_names.specs.Starts.{Tag}
-use Rattle.xmpp_names.specs.declared.faults.StartFault.{StartFault}
+use Rattle.xmpp_names.specs.declared.fault.StartWhy.{StartWhy}
 use Rattle.xmpp_tokens.specs.Characters.{is_white}
 use Rattle.xmpp_tokens.specs.Declarations.{declaration_of}
 use Rattle.xmpp_tokens.specs.References.{reference_goes_on, referred}
@@ -168,7 +168,7 @@ begun_stands t tag p =
     pick_turn deep (if tag.empty then leaf t tag else inner) (is_too_deep t.state) p
     (pick_turn (leaf t tag) inner tag.empty (leaf_stands t tag) refl)
 
-starts_stand : (t : Turn) (r : Result Tag StartFault) → StandsTurn t → StandsTurn (starts t r)
+starts_stand : (t : Turn) (r : Result Tag StartWhy) → StandsTurn t → StandsTurn (starts t r)
 starts_stand t (Ok tag) p = begun_stands t tag p
 starts_stand t (Err fault) p = p
 
@@ -192,7 +192,7 @@ tag_inside_stands : (t : Turn) → is_outer t.state.lexical.mode ≡ false → S
 unfolding tag_inside
 tag_inside_stands t e = pick_turn (ends t) (starts t (tag_here t.state)) (is_end t.state.token) (ends_stand t e) (starts_stand t (tag_here t.state) (inner_mode t.state e))
 
-heads_stand : (t : Turn) (r : Result Tag StartFault) → StandsTurn t → StandsTurn (heads t r)
+heads_stand : (t : Turn) (r : Result Tag StartWhy) → StandsTurn t → StandsTurn (heads t r)
 heads_stand t (Ok tag) p = free (is_some t.state.here)
 heads_stand t (Err fault) p = p
 

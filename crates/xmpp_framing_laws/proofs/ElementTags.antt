@@ -12,7 +12,7 @@ use Rattle.xmpp_names.specs.Grammar.{IsStart, IsWithin}
 use Rattle.xmpp_names.specs.Headers.{opens_stream}
 use Rattle.xmpp_names.specs.Scopes.{Scope}
 use Rattle.xmpp_names.specs.Starts.{Tag, start_of}
-use Rattle.xmpp_names.specs.declared.faults.StartFault.{StartFault}
+use Rattle.xmpp_names.specs.declared.fault.StartWhy.{StartWhy}
 use Rattle.xmpp_names.specs.declared.limits.TagLimits.{TagLimits}
 use Rattle.xmpp_framing.proofs.LargerLimits.{shorter}
 use Rattle.xmpp_framing_laws.proofs.Quiet.{HasInHand}
@@ -31,7 +31,7 @@ larger a b scope bytes t few short e =
     let most : length w.0 ≤ a.attributes = w.2.0 in
     (laws.read b scope bytes t).1 (w.0, w.1, (omega (arith, most, few), shorter a.namespace_bytes b.namespace_bytes t.bindings short w.2.1))
 
-same_value : (r : Result Tag StartFault) (t u : Tag) → r ≡ Ok t → r ≡ Ok u → t ≡ u
+same_value : (r : Result Tag StartWhy) (t u : Tag) → r ≡ Ok t → r ≡ Ok u → t ≡ u
 same_value r t u e f = cc
 
 -- the limits have no part in what a tag says
@@ -41,7 +41,7 @@ one_tag a b scope bytes t u e f =
     same_value (start_of both scope bytes) t u (larger a both scope bytes t (omega arith) (omega arith) e) (larger b both scope bytes u (omega arith) (omega arith) f)
 
 not_stream : (a : TagLimits) (scope : Scope) (bytes : List ℕ) (t : Tag) → start_of a scope bytes ≡ Ok t → opens_stream t ≡ false
-    → (r : Result Tag StartFault) → start_of largest_limits scope bytes ≡ r → says_stream r ≡ false
+    → (r : Result Tag StartWhy) → start_of largest_limits scope bytes ≡ r → says_stream r ≡ false
 not_stream a scope bytes t e other (Ok u) is = ap opens_stream (sym (one_tag a largest_limits scope bytes t u e is)) ∙ other
 not_stream a scope bytes t e other (Err fault) is = refl
 

@@ -6,8 +6,8 @@ use Rattle.std.specs.Prelude.{codes, slice_index}
 use Rattle.xmpp_names.specs.Ends.{end_of}
 use Rattle.xmpp_names.specs.Scopes.{Scope}
 use Rattle.xmpp_names.specs.Starts.{Tag, start_of}
-use Rattle.xmpp_names.specs.declared.faults.StartFault.{StartFault}
-use Rattle.xmpp_names.specs.declared.faults.StartFault.TheVariants as start
+use Rattle.xmpp_names.specs.declared.fault.StartWhy.{StartWhy}
+use Rattle.xmpp_names.specs.declared.fault.StartWhy.TheVariants as start
 use Rattle.xmpp_names.specs.declared.limits.TagLimits.{TagLimits}
 use Rattle.xmpp_tokens.specs.Characters.{is_white}
 use Rattle.xmpp_tokens.specs.Declarations.{declaration_of}
@@ -228,28 +228,27 @@ module _ (t : Turn) (outer : is_some t.state.here ≡ false) (h : EndsTag t.stat
   unfolding in_tag tag_closes
   outside_due at w e = let unquoted : is_some t.state.lexical.quote ≡ false = rw h.unquoted refl in due t mode.Tag 62 at w h.takes (rw (unquoted, outer) e)
 
-  pub first : (e : StartFault) → t.state.lexical.phase ≡ phase.First → tag_anew (whole t.state) ≡ Err e → Decides t 62 t.state.places.token_at (header_why e)
+  pub first : (e : StartWhy) → t.state.lexical.phase ≡ phase.First → tag_anew (whole t.state) ≡ Err e → Decides t 62 t.state.places.token_at (header_why e)
   unfolding tag_outside header_tag
   first e p is = outside_due t.state.places.token_at (header_why e) (rw (p, is) refl)
 
-  pub first_declared : (e : StartFault) → t.state.lexical.phase ≡ phase.FirstDeclared → tag_anew (whole t.state) ≡ Err e → Decides t 62 t.state.places.token_at (header_why e)
+  pub first_declared : (e : StartWhy) → t.state.lexical.phase ≡ phase.FirstDeclared → tag_anew (whole t.state) ≡ Err e → Decides t 62 t.state.places.token_at (header_why e)
   unfolding tag_outside header_tag
   first_declared e p is = outside_due t.state.places.token_at (header_why e) (rw (p, is) refl)
 
-  pub header : (e : StartFault) → t.state.lexical.phase ≡ phase.Between → is_header (whole t.state) ≡ true → tag_anew (whole t.state) ≡ Err e → Decides t 62 t.state.places.token_at (header_why e)
+  pub header : (e : StartWhy) → t.state.lexical.phase ≡ phase.Between → is_header (whole t.state) ≡ true → tag_anew (whole t.state) ≡ Err e → Decides t 62 t.state.places.token_at (header_why e)
   unfolding tag_outside header_tag is_header
   header e p opens is = outside_due t.state.places.token_at (header_why e) (rw (p, opens, is) refl)
 
-  pub element : (e : StartFault) → t.state.lexical.phase ≡ phase.Between → is_header (whole t.state) ≡ false → tag_here (whole t.state) ≡ Err e → Decides t 62 t.state.places.token_at (start_why t.state e)
+  pub element : (e : StartWhy) → t.state.lexical.phase ≡ phase.Between → is_header (whole t.state) ≡ false → tag_here (whole t.state) ≡ Err e → Decides t 62 t.state.places.token_at (start_why t.state e)
   unfolding tag_outside is_header
   element e p opens is = outside_due t.state.places.token_at (start_why t.state e) (rw (p, opens, is) (ap (found_at t.state.places.token_at) (same_why e)))
     where
-      same_why : (e : StartFault) → start_why (whole (counted t.state)) e ≡ start_why t.state e
+      same_why : (e : StartWhy) → start_why (whole (counted t.state)) e ≡ start_why t.state e
       same_why start.Restricted = refl
       same_why start.NotWellFormed = refl
       same_why start.TooManyAttributes = refl
       same_why start.LongNamespace = refl
-      same_why start.NoMemory = refl
 
   pub top_deep : (tag : Tag) → t.state.lexical.phase ≡ phase.Between → is_header (whole t.state) ≡ false → tag_here (whole t.state) ≡ Ok tag → is_too_deep t.state ≡ true → Decides t 62 t.state.places.token_at why.TooDeep
   unfolding tag_outside is_header begun
@@ -263,7 +262,7 @@ module _ (t : Turn) (outer : is_some t.state.here ≡ false) (h : EndsTag t.stat
   unfolding tag_outside is_header
   top_long p opens is far = outside_due t.state.places.token_at why.TooDeep (rw (p, opens, is, far) refl)
 
-  pub header_behind_declaration : (e : StartFault) → t.state.lexical.phase ≡ phase.Declared → is_header (whole t.state) ≡ true → tag_anew (whole t.state) ≡ Err e → Decides t 62 t.state.places.token_at (header_why e)
+  pub header_behind_declaration : (e : StartWhy) → t.state.lexical.phase ≡ phase.Declared → is_header (whole t.state) ≡ true → tag_anew (whole t.state) ≡ Err e → Decides t 62 t.state.places.token_at (header_why e)
   unfolding tag_outside header_tag is_header
   header_behind_declaration e p opens is = outside_due t.state.places.token_at (header_why e) (rw (p, opens, is) refl)
 

@@ -5,7 +5,7 @@ use Rattle.std.specs.Option.{is_some}
 use Rattle.xmpp_tokens.proofs.TagOutcomes.{tags_are_read}
 use Rattle.xmpp_tokens.specs.Tags as tokens
 use Rattle.xmpp_tokens.specs.Tags.{start_tag, tag_of}
-use Rattle.xmpp_tokens.specs.declared.faults.TagFault.{TagFault}
+use Rattle.xmpp_tokens.specs.declared.fault.TagWhy.{TagWhy}
 use Rattle.xmpp_names.proofs.StartLaws as laws
 use Rattle.xmpp_names.specs.Declarations.{bindings_of}
 use Rattle.xmpp_names.specs.Grammar.{IsShort, IsStart, IsWithin}
@@ -31,7 +31,7 @@ use Rattle.xmpp_framing.specs.declared.states.Phase.TheVariants as phase
 opens : (t : Tag) → IsHeaderName t.ns t.name → opens_stream t ≡ true
 opens t (ns, name) = rw ((bytes_eq-Decides t.ns (codes "http://etherx.jabber.org/streams")).1 ns, (bytes_eq-Decides t.name (codes "stream")).1 name) refl
 
-same_tag : (a b : List ℕ) (xs ys : List tokens.Attribute) (c d : Bool) (r : Result tokens.Tag TagFault) → r ≡ Ok (start_tag a xs c) → r ≡ Ok (start_tag b ys d) → xs ≡ ys
+same_tag : (a b : List ℕ) (xs ys : List tokens.Attribute) (c d : Bool) (r : Result tokens.Tag TagWhy) → r ≡ Ok (start_tag a xs c) → r ≡ Ok (start_tag b ys d) → xs ≡ ys
 same_tag a b xs ys c d r e f = cc
 
 -- the attributes of a tag are the same in each scope

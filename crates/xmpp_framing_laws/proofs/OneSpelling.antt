@@ -13,7 +13,7 @@ use Rattle.xmpp_names.specs.Grammar.{IsShort, IsStart}
 use Rattle.xmpp_names.specs.Headers.{header_of}
 use Rattle.xmpp_names.specs.Scopes.{Scope}
 use Rattle.xmpp_names.specs.Starts.{Tag, start_of}
-use Rattle.xmpp_names.specs.declared.faults.StartFault.{StartFault}
+use Rattle.xmpp_names.specs.declared.fault.StartWhy.{StartWhy}
 use Rattle.xmpp_names.specs.declared.headers.Header.{Header}
 use Rattle.xmpp_names.specs.declared.limits.TagLimits.{TagLimits}
 use Rattle.xmpp_trees.proofs.AttributeOrder.{one_IsAttrsOf}
@@ -39,7 +39,7 @@ unfolding longest
 all_short [] most h = tt
 all_short (b ∷ bs) most h = (omega (arith, h), all_short bs most (omega (arith, h)))
 
-abbrev start_as : Tag → Result Tag StartFault
+abbrev start_as : Tag → Result Tag StartWhy
 start_as t = Ok t
 
 same_start : (t u : Tag) → start_as t ≡ start_as u → t ≡ u

@@ -15,7 +15,7 @@ use Rattle.xmpp_names.specs.Ends.{end_of}
 use Rattle.xmpp_names.specs.Grammar.{IsStart}
 use Rattle.xmpp_names.specs.Scopes.{Scope}
 use Rattle.xmpp_names.specs.Starts.{Tag}
-use Rattle.xmpp_names.specs.declared.faults.StartFault.{StartFault}
+use Rattle.xmpp_names.specs.declared.fault.StartWhy.{StartWhy}
 use Rattle.xmpp_framing_laws.proofs.OpenLevels.{AreCovered, CoveredLevel, leaf_spelled, level_begun, level_closed, level_covered, level_resumed}
 use Rattle.xmpp_framing_laws.proofs.SpelledTrees.{spelled_stays}
 use Rattle.xmpp_framing_laws.proofs.ReadSoFar.{After, Around, Inside, Kept, MarkIn, OpensSection, SectionIn, TextIn, TopIsNoHeader, in_force, kept_on}
@@ -284,7 +284,7 @@ module _ (s : State) (o : OpenElement) (items : List Item) (b : ℕ) (bytes hand
           );
         }
 
-    starts_at : (r : Result Tag StartFault) → tag_here (full m) ≡ r → Q (starts (turn (full m) items) r)
+    starts_at : (r : Result Tag StartWhy) → tag_here (full m) ≡ r → Q (starts (turn (full m) items) r)
     unfolding begun
     starts_at (Err fault) is = failed (full m) _ _
     starts_at (Ok t) is =

@@ -20,7 +20,7 @@ use Rattle.xmpp_names.specs.Grammar.{IsStart}
 use Rattle.xmpp_names.specs.Headers.{header_of, opens_stream}
 use Rattle.xmpp_names.specs.Scopes.{Scope}
 use Rattle.xmpp_names.specs.Starts.{Tag, start_of}
-use Rattle.xmpp_names.specs.declared.faults.StartFault.{StartFault}
+use Rattle.xmpp_names.specs.declared.fault.StartWhy.{StartWhy}
 use Rattle.xmpp_framing.proofs.LargerLimits.{in_largest}
 use Rattle.xmpp_framing_laws.proofs.OpenLevels.{AreCovered, leaf_spelled, level_begun}
 use Rattle.xmpp_framing_laws.proofs.SpelledTrees.{spelled_stays}
@@ -108,7 +108,7 @@ record Named (scope : Scope) (bytes : List ℕ) : Type 0 where
   start : IsStart scope bytes raw tag
   is_named : IsHeaderName tag.ns tag.name
 
-named_by : (scope : Scope) (bytes : List ℕ) (r : Result Tag StartFault) → start_of largest_limits scope bytes ≡ r → says_stream r ≡ true → Named scope bytes
+named_by : (scope : Scope) (bytes : List ℕ) (r : Result Tag StartWhy) → start_of largest_limits scope bytes ≡ r → says_stream r ≡ true → Named scope bytes
 named_by scope bytes (Err fault) is e = absurd (false≢true e)
 named_by scope bytes (Ok t) is e =
     let w = (start_laws.read largest_limits scope bytes t).0 is in
@@ -324,7 +324,7 @@ module _ (s : State) (items : List Item) (b : ℕ) (bytes : List ℕ) (k : Kept 
       hand = (low, (refl, λ p. headed_and_ended (in_force phase.Ended (t.bindings ∷ []) t.spelled) (bytes ++ b ∷ []) _ now h.done whole items (header_of t) h.stream (heads.1 e) refl h.bytes_are (ap (λ at. items ++ item.Header at (header_of t) ∷ item.Footer ∷ []) h.place_is)));
     }
 
-    heads_at : ((t : Tag) → tag_anew (full m) ≡ Ok t → Heads t) → (r : Result Tag StartFault) → tag_anew (full m) ≡ r → Q (heads (turn (full m) items) r)
+    heads_at : ((t : Tag) → tag_anew (full m) ≡ Ok t → Heads t) → (r : Result Tag StartWhy) → tag_anew (full m) ≡ r → Q (heads (turn (full m) items) r)
     heads_at f (Ok t) e = headed_at t (f t e) t.empty refl
     heads_at f (Err fault) e = failed (full m) items _ _
 
@@ -422,7 +422,7 @@ module _ (s : State) (items : List Item) (b : ℕ) (bytes : List ℕ) (k : Kept 
             );
           }
 
-      starts_at : (r : Result Tag StartFault) → tag_here (full m) ≡ r → Q (starts (turn (full m) items) r)
+      starts_at : (r : Result Tag StartWhy) → tag_here (full m) ≡ r → Q (starts (turn (full m) items) r)
       unfolding begun
       starts_at (Err fault) is = failed (full m) items _ _
       starts_at (Ok t) is =

@@ -13,7 +13,7 @@ use Rattle.xmpp_tokens.specs.declared.references.Reference.{Reference}
 use Rattle.xmpp_tokens.specs.declared.references.Reference.TheVariants as reference
 use Rattle.xmpp_names.specs.Ends.{end_of}
 use Rattle.xmpp_names.specs.Starts.{Tag}
-use Rattle.xmpp_names.specs.declared.faults.StartFault.{StartFault}
+use Rattle.xmpp_names.specs.declared.fault.StartWhy.{StartWhy}
 use Rattle.xmpp_framing.proofs.Pieces.{stays}
 use Rattle.xmpp_framing.specs.Machine.{behind_byte, goes_on, is_too_long, run, step, taken, taken_in}
 use Rattle.xmpp_framing.specs.ManyBytes.{place_behind}
@@ -145,7 +145,7 @@ begun_remains t tag =
     let inner = moved t (level t.state tag) in
     either t deep (if tag.empty then leaf t tag else inner) (is_too_deep t.state) refl (either t (leaf t tag) inner tag.empty (leaf_remains t tag) refl)
 
-starts_remains : (t : Turn) (r : Result Tag StartFault) → Remains t (starts t r)
+starts_remains : (t : Turn) (r : Result Tag StartWhy) → Remains t (starts t r)
 starts_remains t (Ok tag) = begun_remains t tag
 starts_remains t (Err fault) = refl
 
@@ -165,7 +165,7 @@ inside_remains : (t : Turn) → Remains t (tag_inside t)
 unfolding tag_inside
 inside_remains t = either t (ends t) (starts t (tag_here t.state)) (is_end t.state.token) (ends_remain t) (starts_remains t (tag_here t.state))
 
-heads_remain : (t : Turn) (r : Result Tag StartFault) → Remains t (heads t r)
+heads_remain : (t : Turn) (r : Result Tag StartWhy) → Remains t (heads t r)
 heads_remain t (Ok tag) = refl
 heads_remain t (Err fault) = refl
 

@@ -16,8 +16,8 @@ ghost use Rattle.xmpp_framing.specs.declared.states.Mode.TheVariants as mode;
 ghost use Rattle.xmpp_framing.specs.declared.states.Phase.TheVariants as phase;
 ghost use Rattle.xmpp_names.specs.Ends.{end_of};
 ghost use Rattle.xmpp_names.specs.Starts.{Tag};
-ghost use Rattle.xmpp_names.specs.declared.faults.StartFault.TheVariants as start;
-ghost use Rattle.xmpp_names.specs.declared.faults.StartFault.{StartFault};
+ghost use Rattle.xmpp_names.specs.declared.fault.StartWhy.TheVariants as start;
+ghost use Rattle.xmpp_names.specs.declared.fault.StartWhy.{StartWhy};
 ghost use Rattle.xmpp_tokens.specs.Characters.{is_white};
 ghost use Rattle.xmpp_tokens.specs.Declarations.{declaration_of};
 ghost use Rattle.xmpp_tokens.specs.References.{reference_goes_on, referred};
@@ -150,18 +150,18 @@ pub fn depth_is_told_first()
 /// there: it is `Restricted` where it is read so, and else `NotWellFormed`. An end tag that isn't the footer's is
 /// `NotWellFormed` (RFC 6120, sections 4.2 to 4.4, 4.7 and 4.8).
 pub fn tags_outside_elements_are_judged()
-    ensures first { (t : Turn) (e : StartFault) → EndsTag t.state mode.Tag → is_some t.state.here ≡ false → t.state.lexical.phase ≡ phase.First
+    ensures first { (t : Turn) (e : StartWhy) → EndsTag t.state mode.Tag → is_some t.state.here ≡ false → t.state.lexical.phase ≡ phase.First
         → tag_anew (whole t.state) ≡ Err e → Decides t 62 t.state.places.token_at (header_why e) }
-    ensures first_declared { (t : Turn) (e : StartFault) → EndsTag t.state mode.Tag → is_some t.state.here ≡ false → t.state.lexical.phase ≡ phase.FirstDeclared
+    ensures first_declared { (t : Turn) (e : StartWhy) → EndsTag t.state mode.Tag → is_some t.state.here ≡ false → t.state.lexical.phase ≡ phase.FirstDeclared
         → tag_anew (whole t.state) ≡ Err e → Decides t 62 t.state.places.token_at (header_why e) }
-    ensures header { (t : Turn) (e : StartFault) → EndsTag t.state mode.Tag → is_some t.state.here ≡ false → t.state.lexical.phase ≡ phase.Between
+    ensures header { (t : Turn) (e : StartWhy) → EndsTag t.state mode.Tag → is_some t.state.here ≡ false → t.state.lexical.phase ≡ phase.Between
         → is_header (whole t.state) ≡ true → tag_anew (whole t.state) ≡ Err e → Decides t 62 t.state.places.token_at (header_why e) }
-    ensures element { (t : Turn) (e : StartFault) → EndsTag t.state mode.Tag → is_some t.state.here ≡ false → t.state.lexical.phase ≡ phase.Between
+    ensures element { (t : Turn) (e : StartWhy) → EndsTag t.state mode.Tag → is_some t.state.here ≡ false → t.state.lexical.phase ≡ phase.Between
         → is_header (whole t.state) ≡ false → tag_here (whole t.state) ≡ Err e → Decides t 62 t.state.places.token_at (start_why t.state e) }
     ensures deep { (t : Turn) (tag : Tag) → EndsTag t.state mode.Tag → is_some t.state.here ≡ false → t.state.lexical.phase ≡ phase.Between
         → is_header (whole t.state) ≡ false → tag_here (whole t.state) ≡ Ok tag → is_too_deep t.state ≡ true
         → Decides t 62 t.state.places.token_at why.TooDeep }
-    ensures header_declared { (t : Turn) (e : StartFault) → EndsTag t.state mode.Tag → is_some t.state.here ≡ false → t.state.lexical.phase ≡ phase.Declared
+    ensures header_declared { (t : Turn) (e : StartWhy) → EndsTag t.state mode.Tag → is_some t.state.here ≡ false → t.state.lexical.phase ≡ phase.Declared
         → is_header (whole t.state) ≡ true → tag_anew (whole t.state) ≡ Err e → Decides t 62 t.state.places.token_at (header_why e) }
     ensures declared { (t : Turn) → EndsTag t.state mode.Tag → is_some t.state.here ≡ false → t.state.lexical.phase ≡ phase.Declared
         → is_header (whole t.state) ≡ false → Decides t 62 t.state.places.token_at (misplaced_why (tag_here (whole t.state))) }

@@ -18,16 +18,17 @@ static ATTRS: [Row; 5] = [
 ];
 
 /// Elements inside, with a text each.
-static INSIDE: [Row; 5] = [
+static INSIDE: [Row; 6] = [
     ("jabber:client", "body", "<&>'\"\t\n\r é"),
     ("urn:a", "x", ""),
     ("", "y", ""),
     ("http://etherx.jabber.org/streams", "error", "e"),
+    ("http://www.w3.org/XML/1998/namespace", "a", "b"),
     ("jabber:client", "z", ""),
 ];
 
 const WRITTEN: &str =
-    "<message id='&lt;&amp;&gt;&apos;\"&#x9;&#xA;&#xD;' xml:lang='en' xmlns:a0='urn:a' a0:b='1' xmlns:a1='urn:a' a1:c='2' xmlns:a2='urn:b' a2:c='é'><body>&lt;&amp;&gt;'\"\t\n&#xD; é</body><x xmlns='urn:a'/><y xmlns=''/><stream:error>e</stream:error><z/></message>";
+    "<message id='&lt;&amp;&gt;&apos;\"&#x9;&#xA;&#xD;' xml:lang='en' xmlns:a0='urn:a' a0:b='1' xmlns:a1='urn:a' a1:c='2' xmlns:a2='urn:b' a2:c='é'><body>&lt;&amp;&gt;'\"\t\n&#xD; é</body><x xmlns='urn:a'/><y xmlns=''/><stream:error>e</stream:error><xml:a>b</xml:a><z/></message>";
 
 fn push_inside(alloc: Global, element: &mut Element, row: &Row) -> Result<(), NoMemory> {
     let mut inside = Element::from_strs(alloc, row.0, row.1)?;

@@ -107,12 +107,7 @@ pub fn push_number_where(
 }
 
 /// An element that contains a text, which is left out where it is empty.
-pub fn text_element(
-    alloc: Global,
-    ns: &str,
-    name: &str,
-    text: Text,
-) -> Result<Element, NoMemory>
+pub fn text_element(alloc: Global, ns: &str, name: &str, text: Text) -> Result<Element, NoMemory>
     ensures { IfOk result (λ e. elem_view e ≡ element ns.now name.now [] (text_node text)) }
 {
     let mut element = Element::from_strs(alloc, ns, name)?;

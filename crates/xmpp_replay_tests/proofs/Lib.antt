@@ -2,3 +2,5 @@ mod Worked
 mod WorkedLaws
 mod WorkedPages
 mod WorkedReports
+mod WorkedWire
+pub mod WireReports

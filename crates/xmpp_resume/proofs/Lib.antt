@@ -1,4 +1,5 @@
 pub mod BindFacts
+pub mod DeliveryFacts
 pub mod ExpiryFacts
 pub mod HousedFacts
 pub mod IndexFacts

@@ -1,4 +1,5 @@
 pub use Rattle.xmpp_acks.specs.Counters
+pub use Rattle.xmpp_acks.specs.Delivery
 pub use Rattle.xmpp_pool.specs.Queues
 pub mod Housed
 pub mod Laws
@@ -8,3 +9,4 @@ pub mod Moves
 pub mod Stored
 pub mod Indexed
 pub mod Changes
+pub mod Deliveries

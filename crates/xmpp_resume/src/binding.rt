@@ -1,9 +1,12 @@
-ghost use Rattle.std.specs.Prelude.{◌≡◌, ◌≢◌, ℕ, ◌+◌, ◌-◌, ◌<◌, ◌≤◌, ◌^◌, ◌∷◌, [], ◌++◌, None, Some, IsSome, IfSome, IsErr, OnOk, OnErr, ◌↔◌, filter, not, true};
+ghost use Rattle.std.specs.Prelude.{◌≡◌, ◌≢◌, ℕ, ◌+◌, ◌-◌, ◌<◌, ◌≤◌, ◌^◌, ◌∷◌, [], ◌++◌, None, Some, IsSome, IfSome, IsErr, OnOk, OnErr, ◌↔◌, filter, false, not, true};
 ghost use Rattle.std.specs.Option.{option_map};
 ghost use Rattle.xmpp_pool.specs.Queues.{PoolView};
 ghost use Rattle.xmpp_resume.specs.Housed.{Drops, IsFree, IsHoused};
-ghost use Rattle.xmpp_resume.specs.Moves.{DropsExpired, enabled, ended_of, fresh_row, is_expired, lost, lost_as, rows_parked};
+ghost use Rattle.xmpp_resume.specs.Moves.{DropsExpired, enabled, ended_of, fresh_row, is_expired, lost, lost_as, parked, rows_parked};
+ghost use Rattle.xmpp_acks.specs.Delivery.{IsReceiver, IsSender, beginning};
 ghost use Rattle.xmpp_resume.specs.Changes.{ChangesRow};
+ghost use Rattle.xmpp_resume.specs.Deliveries.{OthersStand, Stands};
+ghost use Rattle.xmpp_resume.specs.declared.session.Row.{Row};
 ghost use Rattle.xmpp_resume.specs.Rows.{IsTable, less, row_at, row_named, row_of, without};
 
 use crate::answers::{AlreadyEnabled, Bound, Ended, Lost};
@@ -27,6 +30,7 @@ impl Sessions {
         ensures made { pool.new.made ≡ pool.old.made }
         ensures room { pool.old.spare ≤ pool.new.spare }
         ensures housed { IsHoused self.new.rows pool.new }
+        ensures others { OthersStand (row_of number self.old.rows) self.old.rows self.new.rows pool.old pool.new }
     {
         let row = self.remove_row(number)?;
         pool.drop_queue(row.end.queue());
@@ -48,6 +52,7 @@ impl Sessions {
         ensures made { pool.new.made ≡ pool.old.made }
         ensures room { pool.old.spare ≤ pool.new.spare }
         ensures housed { IsHoused self.new.rows pool.new }
+        ensures others { OthersStand (row_named account resource.now self.old.rows) self.old.rows self.new.rows pool.old pool.new }
         ensures table { IsTable self.old.rows self.old.next }
     {
         match self.by_name(account, resource) {
@@ -82,6 +87,9 @@ impl Sessions {
         ensures made { pool.new.made ≡ pool.old.made }
         ensures room { pool.old.spare ≤ pool.new.spare }
         ensures housed { IsHoused self.new.rows pool.new }
+        // The new session stands for two directions on which nothing happened.
+        ensures begins { IsSender (fresh_row self.old.next account resource conn queue).end pool.new beginning × IsReceiver (fresh_row self.old.next account resource conn queue).end beginning }
+        ensures others { OthersStand (row_named account resource self.old.rows) self.old.rows self.new.rows pool.old pool.new }
     {
         let ended = self.end_named(pool, account, resource.as_str());
         let number = self.push_row(account, resource, conn, queue);
@@ -128,6 +136,9 @@ impl Sessions {
         ensures made { pool.new.made ≡ pool.old.made }
         ensures room { pool.old.spare ≤ pool.new.spare }
         ensures housed { IsHoused self.new.rows pool.new }
+        // A session that is parked stands for the same directions.
+        ensures stays { IfSome (row_at conn self.old.rows) (λ r. r.shown.resumable ≡ true → Stands r (parked now r) pool.old pool.new) }
+        ensures others { OthersStand (row_at conn self.old.rows) self.old.rows self.new.rows pool.old pool.new }
     {
         let number = self.by_conn(conn)?;
         if self.told(number).resumable {
@@ -151,6 +162,7 @@ impl Sessions {
         ensures made { pool.new.made ≡ pool.old.made }
         ensures room { pool.old.spare ≤ pool.new.spare }
         ensures housed { IsHoused self.new.rows pool.new }
+        ensures others { (n : ℕ) (r : Row) → row_of n self.old.rows ≡ Some r → is_expired now r ≡ false → (row_of n self.new.rows ≡ Some r) × Stands r r pool.old pool.new }
     {
         'ending: loop {
             match self.expired(now) {

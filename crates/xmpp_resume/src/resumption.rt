@@ -1,8 +1,10 @@
-ghost use Rattle.std.specs.Prelude.{◌≡◌, ◌≢◌, ℕ, ◌<◌, ◌≤◌, ◌^◌, None, Some, IsSome, IfSome, IfNone, List, true};
+ghost use Rattle.std.specs.Prelude.{◌≡◌, ◌≢◌, ℕ, ◌%◌, ◌<◌, ◌≤◌, ◌^◌, length, Ok, None, Some, IsSome, IfSome, IfNone, List, true};
 ghost use Rattle.std.specs.Option.{option_map};
 ghost use Rattle.xmpp_resume.specs.Housed.{IsFree, IsHoused};
-ghost use Rattle.xmpp_resume.specs.Moves.{PoolResumed, number_of, resume_answer, resume_ok, row_resumed, rows_resumed, too_high_of};
+ghost use Rattle.xmpp_resume.specs.Moves.{PoolResumed, number_of, resume_answer, resume_ok, resumed, row_resumed, rows_resumed, too_high_of};
+ghost use Rattle.xmpp_acks.specs.Delivery.{Acknowledge, Direction, IsSender, Moves, Reached, Resume};
 ghost use Rattle.xmpp_pool.specs.Queues.{PoolView};
+ghost use Rattle.xmpp_resume.specs.Deliveries.{OthersStand};
 ghost use Rattle.xmpp_resume.specs.Laws.{ComesBackWhole};
 ghost use Rattle.xmpp_resume.specs.declared.session.Row.{Row};
 ghost use Rattle.xmpp_resume.specs.Rows.{IsTable, row_at, row_of};
@@ -107,6 +109,13 @@ impl Sessions {
         ensures made { pool.new.made ≡ pool.old.made }
         ensures room { pool.old.spare ≤ pool.new.spare }
         ensures housed { IsHoused self.new.rows pool.new }
+        // It is the move of the direction by which its sending end hears how many stanzas were handled. A resumption that
+        // comes late, with a count that was stated before, acknowledges that count.
+        ensures resumes { IfSome (row_resumed previd.now account self.old.rows) (λ r. (d next : Direction (List ℕ)) → Reached d → IsSender r.end pool.old d →
+            Moves Resume d next → h ≡ length d.got % 2 ^ 32 → (result ≡ Ok (resume_ok r)) × IsSender (resumed h conn queue r).end pool.new next) }
+        ensures late { IfSome (row_resumed previd.now account self.old.rows) (λ r. (n : ℕ) (d next : Direction (List ℕ)) → Reached d → IsSender r.end pool.old d →
+            Moves (Acknowledge n) d next → h ≡ n % 2 ^ 32 → (result ≡ Ok (resume_ok r)) × IsSender (resumed h conn queue r).end pool.new next) }
+        ensures others { OthersStand (row_resumed previd.now account self.old.rows) self.old.rows self.new.rows pool.old pool.new }
     {
         match self.resumable(previd, account) {
             Some(told) => self.resume_told(pool, told, h, conn, queue),
@@ -155,8 +164,8 @@ impl Sessions {
     }
 }
 
-/// A law: a session that can be resumed, and is parked and then resumed with the count that is acknowledged, comes back
-/// with all its stanzas, in order.
+/// A law: a session that can be resumed, and is parked and right after it resumed with the count that is acknowledged,
+/// comes back with all its stanzas, in order.
 pub fn parked_comes_back_whole()
     ensures { (rows : List Row) (next conn now queue : ℕ) (r : Row) (old new : PoolView) → IsTable rows next → row_at conn rows ≡ Some r → r.shown.resumable ≡ true → ComesBackWhole now queue r rows old new }
 {}

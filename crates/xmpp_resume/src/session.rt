@@ -1,6 +1,7 @@
-ghost use Rattle.std.specs.Prelude.{◌≡◌, ◌≢◌, ◌+◌, ◌<◌, ◌≤◌, [], Some, false, length, pos, OnOk, OnErr};
+ghost use Rattle.std.specs.Prelude.{◌≡◌, ◌≢◌, ℕ, ◌+◌, ◌^◌, ◌<◌, ◌≤◌, ◌↔◌, ◌⊎◌, IsErr, List, [], Some, false, length, pos, OnOk, OnErr};
 ghost use Rattle.xmpp_pool.specs.Queues.{Lives, list_of, stanzas_of};
 ghost use Rattle.xmpp_resume.specs.Moves.{HandsOver, Joins, PoolAcknowledged, ack_answer, acknowledged, attached, is_expired, parked};
+ghost use Rattle.xmpp_acks.specs.Delivery.{Direction, IsSender};
 ghost use Rattle.xmpp_resume.specs.Changes.{changed};
 
 use crate::answers::RESUMABLE_FOR;
@@ -109,6 +110,7 @@ impl Row {
         ensures pool { PoolAcknowledged h self.old pool.old pool.new }
         ensures made { pool.new.made ≡ pool.old.made }
         ensures room { pool.old.spare ≤ pool.new.spare }
+        ensures exact { (d : Direction (List ℕ)) → IsSender self.old.end pool.old d → length d.put < 2 ^ 32 → IsErr result ↔ ((h < d.acked) ⊎ (length d.put < h)) }
     {
         self.end.ack(pool, h)
     }

@@ -1,7 +1,9 @@
-ghost use Rattle.std.specs.Prelude.{◌≡◌, ℕ, ◌+◌, ◌-◌, ◌<◌, ◌≤◌, ◌^◌, [], ◌∷◌, ◌++◌, map, None, Some, false, IsSome, OnOk, OnErr, IsTrue, MatchOption, IfSome, filter, is_some, length, nat_eq, nat_lt, slice_index_or, vec_len, vec_capacity};
+ghost use Rattle.std.specs.Prelude.{◌≡◌, ℕ, ◌+◌, ◌-◌, ◌%◌, ◌<◌, ◌≤◌, ◌^◌, ◌↔◌, ◌⊎◌, List, [], ◌∷◌, ◌++◌, map, None, Ok, Some, IsErr, false, IsSome, OnOk, OnErr, IsTrue, MatchOption, IfSome, filter, is_some, length, nat_eq, nat_lt, slice_index_or, vec_len, vec_capacity};
 ghost use Rattle.std.specs.Option.{option_copied, option_map};
 ghost use Rattle.xmpp_resume.specs.Moves.{HandsOver, HasExpired, Joins, PoolAcknowledged, ack_answer, acknowledged, asking, attached, copying, fresh_row, handling, is_expired, number_of, parked, present};
+ghost use Rattle.xmpp_acks.specs.Delivery.{Acknowledge, Direction, Handle, IsReceiver, IsSender, Moves, Put, Reached};
 ghost use Rattle.xmpp_resume.specs.Changes.{ChangesRow, changed};
+ghost use Rattle.xmpp_resume.specs.Deliveries.{OthersStand};
 ghost use Rattle.std.specs.HashMap as hash;
 ghost use Rattle.std.specs.List.{find};
 ghost use Rattle.std.specs.List.Sorted.{IsNonDecreasing};
@@ -395,7 +397,9 @@ impl Sessions {
     /// Counts one more stanza of the peer as handled by a session, modulo 2^32 (XEP-0198 section 4).
     pub fn count_handled(&mut self, number: u64)
         requires { IsSome (row_of number self.old.rows) }
-        ensures { ChangesRow number handling self.old self.new }
+        ensures changes { ChangesRow number handling self.old self.new }
+        // It is the move by which a stanza under way is handled.
+        ensures handles { IfSome (row_of number self.old.rows) (λ r. (d next : Direction (List ℕ)) → IsReceiver r.end d → Moves Handle d next → IsReceiver (handling r).end next) }
     {
         self.change(number, Change::Handled);
     }
@@ -416,6 +420,12 @@ impl Sessions {
         ensures made { pool.new.made ≡ pool.old.made }
         ensures room { pool.old.spare ≤ pool.new.spare }
         ensures housed { IsHoused self.new.rows pool.new }
+        // It is the move by which a count that was stated, and is not below the last one, is acknowledged. Where fewer
+        // than 2^32 stanzas were put, it is refused exactly where it is below that one or above their number.
+        ensures acknowledges { IfSome (row_of number self.old.rows) (λ r. (n : ℕ) (d next : Direction (List ℕ)) → Reached d → IsSender r.end pool.old d →
+            Moves (Acknowledge n) d next → h ≡ n % 2 ^ 32 → (result ≡ Ok (n - d.acked)) × IsSender (acknowledged h r).end pool.new next) }
+        ensures exact { IfSome (row_of number self.old.rows) (λ r. (d : Direction (List ℕ)) → IsSender r.end pool.old d → length d.put < 2 ^ 32 → IsErr result ↔ ((h < d.acked) ⊎ (length d.put < h))) }
+        ensures others { OthersStand (row_of number self.old.rows) self.old.rows self.new.rows pool.old pool.new }
     {
         match self.rows.get_mut(&number) {
             Some(row) => row.ack(pool, h),
@@ -438,6 +448,9 @@ impl Sessions {
         ensures made { pool.new.made ≡ pool.old.made }
         ensures room { pool.old.spare ≤ pool.new.spare + 1 }
         ensures housed { IsHoused self.new.rows pool.new }
+        // It is the move by which the stanza is put.
+        ensures puts { IfSome (row_of number self.old.rows) (λ r. (d next : Direction (List ℕ)) → IsSender r.end pool.old d → Moves (Put bytes.items) d next → IsSender r.end pool.new next) }
+        ensures others { OthersStand (row_of number self.old.rows) self.old.rows self.new.rows pool.old pool.new }
     {
         match self.rows.get_mut(&number) {
             Some(row) => row.put(pool, bytes),

@@ -76,11 +76,7 @@ pub(crate) fn payload_in(alloc: Global, element: &Element) -> Result<Bytes, ExtF
 
 /// The bytes that SASL's element of this name carries. `NotThis` where it is another element, `Bad(Payload)` where
 /// its text stands for no bytes.
-pub(crate) fn read_carrier(
-    alloc: Global,
-    element: &Element,
-    name: &str,
-) -> Result<Bytes, ExtFault>
+pub(crate) fn read_carrier(alloc: Global, element: &Element, name: &str) -> Result<Bytes, ExtFault>
     ensures ok { IfOk result (λ bytes. IsCarrier name.now (elem_view element.now) bytes.items) }
     ensures err { IfErr result (IsFault (is_sasl name.now (elem_view element.now)) (CarrierLacks (elem_view element.now))) }
 {

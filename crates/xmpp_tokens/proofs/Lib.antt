@@ -4,6 +4,8 @@ pub mod Splits
 pub mod UntilLens
 pub mod LetterNames
 pub mod ValueRuns
+pub mod ValueTexts
+pub mod ValueSpellings
 pub mod Texts
 pub mod TagWords
 pub mod InsideRuns

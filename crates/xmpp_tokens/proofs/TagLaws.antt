@@ -12,6 +12,7 @@ use Rattle.xmpp_tokens.specs.Characters.{is_white, is_name_start, is_name_byte, 
 use Rattle.xmpp_tokens.specs.Fronts.{front, behind}
 use Rattle.xmpp_tokens.specs.Tags.{Attribute, Tag, start_tag, end_tag, is_quote, is_qualified, has_parts, is_behind_colon, are_white, IsSpelled, IsAttribute, AreAttributes, names_of, tag_end, IsStartTag, IsEndTag, IsTag, Spelled, Found, Inside, found, closed, quoted, assigned, named, is_empty, is_qualified_byte, spelled_at, attribute_at, end_in, with_more, unless_ended, inside_within, inside_of, are_distinct, start_with, start_at, end_at, begun_at, tag_at}
 use Rattle.xmpp_tokens.proofs.Splits.{joined, front_passes, stops, front-append, behind-append, behind_stops}
+use Rattle.xmpp_tokens.proofs.ValueSpellings.{is_value, says_value}
 use Rattle.xmpp_tokens.proofs.TagWords.{is_spelled}
 use Rattle.xmpp_tokens.proofs.InsideRuns.{finds, inside_step}
 use Rattle.xmpp_basis.proofs.Conditions.{guard_tells}
@@ -127,7 +128,7 @@ spelled_again bytes name raw rest h =
 attribute_again : (bytes : List ℕ) (a : Attribute) (rest : List ℕ) → IsAttribute bytes a rest → attribute_at bytes ≡ Some (record { attribute = a; rest = rest })
 attribute_again bytes a rest h =
     ap (option_and_then found) (spelled_again bytes a.name h.0 rest h.1)
-    ∙ ap (option_map (λ v. record { attribute = record { name = a.name; value = v }; rest = rest })) h.2
+    ∙ ap (option_map (λ v. record { attribute = record { name = a.name; value = v }; rest = rest })) (says_value h.0 a.value h.2)
 
 end_again : (empty : Bool) → end_in (tag_end empty) ≡ Some empty
 end_again true = refl
@@ -240,7 +241,7 @@ found_attribute : (bs : List ℕ) (f : Found) → attribute_at bs ≡ Some f →
 found_attribute bs f e =
     let h = finds bs f e in
     let s = is_spelled bs h.as_spelled h.spelled_is in
-    (h.as_spelled.raw, subst (λ n. IsSpelled bs n h.as_spelled.raw f.rest) (sym h.name_is) (subst (λ r. IsSpelled bs h.as_spelled.name h.as_spelled.raw r) (sym h.rest_is) s), h.value_is)
+    (h.as_spelled.raw, subst (λ n. IsSpelled bs n h.as_spelled.raw f.rest) (sym h.name_is) (subst (λ r. IsSpelled bs h.as_spelled.name h.as_spelled.raw r) (sym h.rest_is) s), is_value h.as_spelled.raw f.attribute.value h.value_is)
 
 ended_tells : (bs : List ℕ) (empty : Bool) (i : Inside) → end_in (behind is_white bs) ≡ Some empty → Some (record { attributes = []; empty = empty }) ≡ Some i → Insides bs i
 ended_tells bs empty i ends e =

@@ -14,6 +14,7 @@ use Rattle.xmpp_tokens.specs.declared.references.Reference.{Reference}
 use Rattle.xmpp_tokens.specs.declared.references.Reference.TheVariants.{Character, Unknown, Malformed}
 use Rattle.xmpp_tokens.proofs.Going.{references_go_on}
 use Rattle.xmpp_tokens.proofs.TagLaws.{qualified_all}
+use Rattle.xmpp_tokens.proofs.ValueSpellings.{says_value}
 use Rattle.xmpp_tokens.proofs.ValueRuns.{ended, reference_run}
 
 -- ---- a value has none
@@ -204,7 +205,7 @@ attribute_run bytes name raw rest v h value =
 
 attributes_run : (attributes : List Attribute) (bytes rest : List ℕ) → AreAttributes bytes attributes rest → has_unknown_quoted None bytes ≡ has_unknown_quoted None rest
 attributes_run [] bytes rest h = ap (has_unknown_quoted None) h
-attributes_run (a ∷ more) bytes rest h = attribute_run bytes a.name h.1.0 h.0 a.value h.1.1 h.1.2 ∙ attributes_run more h.0 rest h.2
+attributes_run (a ∷ more) bytes rest h = attribute_run bytes a.name h.1.0 h.0 a.value h.1.1 (says_value h.1.0 a.value h.1.2) ∙ attributes_run more h.0 rest h.2
 
 end_known : (empty : Bool) → has_unknown_quoted None (tag_end empty) ≡ false
 end_known true = refl

@@ -1,5 +1,7 @@
 -- Classes of bytes and characters (XML 1.0, fifth edition, sections 2.2 and 2.3; Namespaces in XML 1.0, section 4).
 -- A text is the list of its UTF-8 bytes. Each byte from 128 on is part of a character from U+0080 on.
+-- Names are wider than those of XML beyond ASCII: there each of XML's characters may begin a name and go on one, where
+-- XML 1.0 has some of them only (2.3, NameStartChar and NameChar): U+00D7 and U+2028 are in no name of XML's.
 use Rattle.std.specs.Prelude.{ℕ, Bool, true, false, not, ◌&&◌, ◌||◌, ◌==◌, nat_lt, nat_le, List, [], ◌∷◌}
 use Rattle.std.specs.Int.{is_in_range}
 use Rattle.std.specs.List.{list_all}
@@ -53,6 +55,6 @@ abbrev pub is_named : List ℕ → Bool
 is_named [] = false
 is_named (b ∷ bs) = is_name_start b && go_on bs
 
--- a name without a colon (Namespaces in XML 1.0, section 3, NCName)
+-- a name without a colon (Namespaces in XML 1.0, section 3, NCName), wider than XML's beyond ASCII as the head says
 abbrev pub is_name : List ℕ → Bool
 is_name bs = is_named bs && are_characters bs

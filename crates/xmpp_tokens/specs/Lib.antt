@@ -4,9 +4,11 @@ pub mod Declarations
 pub mod Faults
 pub mod Fronts
 pub mod Held
+pub mod Lines
 pub mod References
 pub mod Utf8
 pub mod Values
+pub mod ValueGrammar
 pub mod Tags
 pub mod RawTags
 pub mod SpelledView

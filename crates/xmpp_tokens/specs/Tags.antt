@@ -7,6 +7,7 @@ use Rattle.std.specs.Str.{bytes_eq, is_utf8}
 use Rattle.xmpp_basis.specs.Distinct.{are_distinct_by}
 use Rattle.xmpp_tokens.specs.Characters.{is_white, is_name_byte, is_name}
 use Rattle.xmpp_tokens.specs.Fronts.{front, behind}
+use Rattle.xmpp_tokens.specs.ValueGrammar.{IsValue}
 use Rattle.xmpp_tokens.specs.Values.{value_of, begins_unknown}
 use Rattle.xmpp_tokens.specs.declared.fault.TagWhy.{TagWhy}
 use Rattle.xmpp_tokens.specs.declared.fault.TagWhy.TheVariants.{Restricted, NotWellFormed}
@@ -61,7 +62,7 @@ pub record IsSpelled (bytes name raw rest : List ℕ) : Type 0 where
 
 -- bytes spell an attribute and then the rest
 abbrev pub IsAttribute : List ℕ → Attribute → List ℕ → Type 0
-IsAttribute bytes a rest = (raw : List ℕ) × IsSpelled bytes a.name raw rest × (value_of raw ≡ Some a.value)
+IsAttribute bytes a rest = (raw : List ℕ) × IsSpelled bytes a.name raw rest × IsValue raw a.value
 
 -- bytes spell attributes and then the rest
 abbrev pub AreAttributes : List ℕ → List Attribute → List ℕ → Type 0

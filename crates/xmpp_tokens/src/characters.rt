@@ -82,7 +82,8 @@ fn are_name_characters(bytes: &[u8]) -> bool
 }
 
 /// Whether bytes are a name without a colon (Namespaces in XML 1.0, section 3, NCName): ASCII letters, digits, `_`,
-/// `-`, `.` and characters from U+0080 on, and neither a digit nor `-` nor `.` at the front.
+/// `-`, `.` and characters from U+0080 on, and neither a digit nor `-` nor `.` at the front. Beyond ASCII it is wider
+/// than XML, which leaves some characters out of names (XML 1.0, section 2.3).
 pub fn is_name(bytes: &[u8]) -> bool
     ensures { result ≡ Characters.is_name bytes.now }
 {

@@ -10,6 +10,7 @@ ghost use Rattle.xmpp_tokens.specs.Spelling.{spelled_text, spelled_value, text_f
 ghost use Rattle.xmpp_tokens.specs.Tags;
 ghost use Rattle.xmpp_tokens.specs.Tags.{IsTag, Tag, tag_of};
 ghost use Rattle.xmpp_tokens.specs.Utf8.{IsPending, utf8_run};
+ghost use Rattle.xmpp_tokens.specs.ValueGrammar.{IsValue};
 ghost use Rattle.xmpp_tokens.specs.Values.{text, value_of};
 ghost use Rattle.xmpp_tokens.specs.declared.declarations.Declaration.TheVariants as declaration;
 ghost use Rattle.xmpp_tokens.specs.declared.fault.TagWhy.TheVariants as why;
@@ -24,6 +25,12 @@ pub fn characters_are_those_of_xml()
 /// A reference that is well formed, known or unknown, goes on at each of its bytes.
 pub fn references_go_on()
     ensures { (name : List ℕ) → References.referred name ≢ reference.Malformed → References.each_goes_on [] name ≡ true }
+{}
+
+/// What stands between quotes is read as the value that the grammar has it as (XML 1.0, sections 2.3, 2.11, 3.3.3 and
+/// 4.1), and as none where the grammar has it as none.
+pub fn values_are_spelled()
+    ensures { (raw v : List ℕ) → (value_of raw ≡ Some v) ↔ IsValue raw v }
 {}
 
 /// Bytes that the grammar has as a tag are read as that tag.

@@ -15,6 +15,7 @@ mod spelling;
 mod tags;
 mod utf8;
 mod values;
+mod written;
 
 pub use attributes::is_quote;
 pub use characters::{
@@ -25,7 +26,7 @@ pub use fault::{TagFault, TagWhy};
 pub use laws::{
     characters_are_those_of_xml, good_declarations_are_well_formed, other_encodings_are_told,
     references_go_on, runs_are_text, tags_are_read, text_runs, texts_are_read_back,
-    unknown_names_are_restricted, values_are_read_back, what_is_read_is_a_tag,
+    unknown_names_are_restricted, values_are_read_back, values_are_spelled, what_is_read_is_a_tag,
 };
 pub use raw_tags::{RawAttribute, RawTag, StartTag};
 pub use references::{Reference, reference_goes_on, referred};

@@ -171,12 +171,14 @@ fn put_name(out: &mut Bytes, ns: &str, name: &str)
     ensures items { out.new.items ≡ out.old.items ++ spelled_name ns.now name.now }
     ensures spare { out.old.spare ≤ out.new.spare + length (spelled_name ns.now name.now) }
 {
+    let name = name.as_bytes();
     if ns == STREAMS_NAMESPACE {
-        out.append_reserved(b"stream:");
+        put_parts(out, &[b"stream:".as_slice(), name]);
     } else if ns == XML_NAMESPACE {
-        out.append_reserved(b"xml:");
+        put_parts(out, &[b"xml:".as_slice(), name]);
+    } else {
+        out.append_reserved(name);
     }
-    out.append_reserved(name.as_bytes());
 }
 
 /// Adds a start tag but for its end.

@@ -1,6 +1,7 @@
-use Rattle.std.proofs.Common.{ap}
+use Rattle.std.proofs.Common.{ap, refl, ◌∙◌}
 use Rattle.std.specs.Prelude.{nat_eq}
 use Rattle.std.specs.HashMap as hash
+use Rattle.xmpp_resume.proofs.DeliveryFacts.{acknowledged_others, others_of_queue, others_stand, sender_acknowledged, tried_others}
 use Rattle.xmpp_resume.proofs.HousedFacts.{housed_tried}
 use Rattle.xmpp_resume.proofs.IndexFacts.{indexed_as, indexed_tried}
 use Rattle.xmpp_resume.specs.Indexed.{IsIndexed}
@@ -42,3 +43,20 @@ pub returns-clause-housed : goal.returns-clause-housed
 returns-clause-housed c =
     housed_tried c.ack.result c.args.h c.args.number c.self.inside.next c.in-Some.row.now (hash.get nat_eq (c.get_mut.follows.lender c.ack.new.self)) c.self.inside.numbers.items c.args.self.now.rows c.args.pool.now c.ack.new.pool
     (tried c) c.ack.ensures.pool c.requires.housed
+
+pub returns-clause-acknowledges : goal.returns-clause-acknowledges
+returns-clause-acknowledges c =
+    rw (tried c).found
+    (λ n d next reached sender move is.
+    let after = sender_acknowledged c.args.h n c.in-Some.row.now c.args.pool.now c.ack.new.pool d next (c.requires.housed.few c.args.number c.in-Some.row.now (tried c).found) c.ack.ensures.pool reached sender move is in
+    (c.ack.ensures.answer ∙ after.0, after.1))
+
+pub returns-clause-exact : goal.returns-clause-exact
+returns-clause-exact c = rw (tried c).found c.ack.ensures.exact
+
+pub returns-clause-others : goal.returns-clause-others
+returns-clause-others c =
+    rw (tried c).found
+    (others_stand c.args.number c.in-Some.row.now c.args.self.now.rows _ c.args.pool.now c.ack.new.pool (tried c).found
+    (tried_others c.ack.result c.args.number c.self.inside.next (acknowledged c.args.h) c.in-Some.row.now (hash.get nat_eq (c.get_mut.follows.lender c.ack.new.self)) c.self.inside.numbers.items c.args.self.now.rows (record { same = λ r. refl }) (tried c))
+    (others_of_queue c.args.number c.in-Some.row.now c.args.self.now.rows c.args.pool.now c.ack.new.pool (tried c).found c.requires.housed (acknowledged_others c.args.h c.in-Some.row.now c.args.pool.now c.ack.new.pool c.ack.ensures.pool)))

@@ -1,6 +1,10 @@
+use Rattle.std.proofs.Common.{refl}
+use Rattle.xmpp_resume.proofs.DeliveryFacts.{begins, bound_others}
+use Rattle.xmpp_resume.specs.Deliveries.{OthersStand}
+use Rattle.xmpp_resume.specs.Moves.{fresh_row}
 use Rattle.xmpp_resume.proofs.BindFacts.{free_less, none_at_less, none_named_less, table_less}
 use Rattle.xmpp_resume.proofs.HousedFacts.{housed_push}
-use Rattle.xmpp_resume.specs.Housed.{IsHoused}
+use Rattle.xmpp_resume.specs.Housed.{IsFree, IsHoused}
 use Rattle.xmpp_resume.specs.Rows.{is_named, less, row_named}
 use Rattle.xmpp_resume.proofs.table.Sessions.bind.Goals as goal
 
@@ -23,3 +27,17 @@ returns-clause-housed c =
     (table_less c.args.self.now.next (row_named c.args.account c.as_str.result.now c.args.self.now.rows) c.args.self.now.rows c.end_named-ended.ensures.table)
     (free_less c.args.queue c.args.self.now.next (is_named c.args.account c.as_str.result.now) c.args.self.now.rows c.args.pool.now c.end_named-ended.new.pool c.end_named-ended.ensures.table c.requires.queue c.end_named-ended.ensures.pool)
     housed)
+
+pub returns-clause-begins : goal.returns-clause-begins
+returns-clause-begins c =
+    let free : IsFree c.args.queue (less (row_named c.args.account c.as_str.result.now c.args.self.now.rows) c.args.self.now.rows) c.end_named-ended.new.pool =
+    free_less c.args.queue c.args.self.now.next (is_named c.args.account c.as_str.result.now) c.args.self.now.rows c.args.pool.now c.end_named-ended.new.pool c.end_named-ended.ensures.table c.requires.queue c.end_named-ended.ensures.pool in
+    begins (fresh_row c.args.self.now.next c.args.account c.args.resource c.args.conn c.args.queue).end _ c.end_named-ended.new.pool refl refl free
+
+pub returns-clause-others : goal.returns-clause-others
+returns-clause-others c =
+    let stand : OthersStand (row_named c.args.account c.args.resource c.args.self.now.rows) c.args.self.now.rows c.end_named-ended.new.self.rows c.args.pool.now c.end_named-ended.new.pool =
+    rw (← c.as_str.ensures) c.end_named-ended.ensures.others in
+    rw (c.push_row-number.ensures.rows)
+    (bound_others c.args.self.now.next 1 (row_named c.args.account c.args.resource c.args.self.now.rows) (fresh_row c.end_named-ended.new.self.next c.args.account c.args.resource c.args.conn c.args.queue) c.args.self.now.rows
+    c.end_named-ended.new.self.rows c.args.pool.now c.end_named-ended.new.pool c.end_named-ended.ensures.table.ascending c.end_named-ended.ensures.next stand)

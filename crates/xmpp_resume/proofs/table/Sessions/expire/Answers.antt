@@ -1,4 +1,5 @@
 use Rattle.std.proofs.Common.{refl, ◌∙◌, arith}
+use Rattle.xmpp_resume.proofs.DeliveryFacts.{unexpired_stand}
 use Rattle.xmpp_resume.proofs.ExpiryFacts.{expiring_begins, expiring_ends, expiring_more}
 use Rattle.xmpp_resume.proofs.RowFacts.{length-without}
 use Rattle.xmpp_resume.specs.Housed.{IsGone}
@@ -45,3 +46,7 @@ returns-in-None-clause-rows c =
 
 pub returns-in-None-clause-pool : goal.returns-in-None-clause-pool
 returns-in-None-clause-pool c = (expiring_ends c.args.now c.args.self.now.rows c.ending.self.rows c.args.pool.now c.ending.pool c.in-None.ensures.number c.ending.invariant.so_far).1
+
+pub returns-in-None-clause-others : goal.returns-in-None-clause-others
+returns-in-None-clause-others c =
+    unexpired_stand c.args.now c.args.self.now.rows _ c.args.pool.now c.ending.pool c.requires (returns-in-None-clause-rows c) (returns-in-None-clause-pool c)

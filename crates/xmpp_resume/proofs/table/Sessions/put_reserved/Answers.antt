@@ -1,13 +1,14 @@
 use Rattle.std.proofs.Common.{ap, ◌∙◌}
 use Rattle.std.specs.Prelude.{nat_eq}
 use Rattle.std.specs.HashMap as hash
+use Rattle.xmpp_resume.proofs.DeliveryFacts.{others_of_queue, others_stand, sender_put}
 use Rattle.xmpp_resume.proofs.HousedFacts.{housed_joined}
 use Rattle.xmpp_resume.proofs.IndexFacts.{indexed_kept, indexed_as}
 use Rattle.xmpp_resume.specs.Indexed.{IsIndexed}
 use Rattle.xmpp_resume.proofs.StoredFacts.{Changed, changed_row, opened, there_is}
 use Rattle.xmpp_resume.proofs.TableFacts.{lawful_kept}
 use Rattle.xmpp_resume.proofs.RowFacts.{keeps_all, with_row_id}
-use Rattle.xmpp_resume.specs.Rows.{IsTable, Table}
+use Rattle.xmpp_resume.specs.Rows.{IsTable, Table, row_of}
 use Rattle.xmpp_resume.proofs.table.Sessions.put_reserved.Goals as goal
 use Rattle.xmpp_resume.proofs.table.Sessions.put_reserved.Goals.{After-self-in-Some-1}
 
@@ -32,3 +33,13 @@ pub returns-clause-housed : goal.returns-clause-housed
 returns-clause-housed c =
     rw ((changed c).written, with_row_id)
     (housed_joined c.args.number c.args.bytes.items c.in-Some.row.now c.args.self.now.rows c.args.pool.now c.put.new.pool (changed c).found (rw (changed c).found at c.requires.few) c.put.ensures.pool c.requires.housed)
+
+pub returns-clause-puts : goal.returns-clause-puts
+returns-clause-puts c =
+    rw (changed c).found (λ d next sender move. sender_put c.args.bytes.items c.in-Some.row.now c.args.pool.now c.put.new.pool d next c.put.ensures.pool sender move)
+
+pub returns-clause-others : goal.returns-clause-others
+returns-clause-others c =
+    rw (changed c).found
+    (others_stand c.args.number c.in-Some.row.now c.args.self.now.rows _ c.args.pool.now c.put.new.pool (changed c).found (λ m other. ap (row_of m) ((changed c).written ∙ with_row_id c.args.number c.args.self.now.rows))
+    (others_of_queue c.args.number c.in-Some.row.now c.args.self.now.rows c.args.pool.now c.put.new.pool (changed c).found c.requires.housed c.put.ensures.pool.others))

@@ -1,0 +1,126 @@
+-- A wire schedule of two devices, and the parts of its reports: what a report of it looks like where connections broke.
+use Rattle.std.specs.Prelude.{ℕ, Bool, true, false, List, [], ◌∷◌, Some, None, length, codes}
+use Rattle.xmpp_archive.specs.Ids.{id_of}
+use Rattle.xmpp_report.specs.Reports.{AccountView, DeviceView, ReportView}
+use Rattle.xmpp_report.specs.declared.report.ConnEnd.TheVariants.{Cut, Open}
+use Rattle.xmpp_report.specs.declared.report.ConnLine.{ConnLine}
+use Rattle.xmpp_report.specs.declared.report.EntryLine.{EntryLine}
+use Rattle.xmpp_report.specs.declared.report.HeldLine.{HeldLine}
+use Rattle.xmpp_report.specs.declared.report.LoggedLine.{LoggedLine}
+use Rattle.xmpp_report.specs.declared.report.PageLine.{PageLine}
+use Rattle.xmpp_report.specs.declared.report.RefusedWhy.TheVariants.{NotBound}
+use Rattle.xmpp_report.specs.declared.report.SaidLine.{SaidLine}
+use Rattle.xmpp_report.specs.declared.report.SaidMark.{SaidMark}
+use Rattle.xmpp_report.specs.declared.report.SaidMark.TheVariants.{Acknowledged, Waiting, Undecided}
+use Rattle.xmpp_report.specs.declared.report.TakeLine.{TakeLine}
+use Rattle.xmpp_schedule.specs.Schedules.{ScheduleView}
+use Rattle.xmpp_schedule.specs.declared.schedule.Step.TheVariants.{Account, Device, Say, Catchup}
+
+-- p of a sends four messages, of which its second session sends the last two; q of b sends one; both catch up
+abbrev pub wire_schedule : ScheduleView
+wire_schedule = record {
+  wire = true;
+  lines =
+      record { number = 2; step = Account (codes "a") } ∷
+      record { number = 3; step = Account (codes "b") } ∷
+      record { number = 4; step = Device (codes "p") (codes "a") } ∷
+      record { number = 5; step = Device (codes "q") (codes "b") } ∷
+      record { number = 6; step = Say (codes "p") (codes "b") (codes "x") } ∷
+      record { number = 7; step = Say (codes "p") (codes "b") (codes "y") } ∷
+      record { number = 8; step = Say (codes "p") (codes "b") (codes "z") } ∷
+      record { number = 9; step = Say (codes "p") (codes "a") (codes "u") } ∷
+      record { number = 10; step = Say (codes "q") (codes "a") (codes "w") } ∷
+      record { number = 11; step = Catchup (codes "p") 5 } ∷
+      record { number = 12; step = Catchup (codes "q") 1 } ∷ [];
+}
+
+abbrev pub take : List ℕ → ℕ → ℕ → List ℕ → TakeLine
+take device epoch n account = record { device = device; epoch = epoch; n = n; account = account }
+
+-- x, w and z were taken; y was lost, and u is on its way
+abbrev pub taken : List TakeLine
+taken = take (codes "p") 1 1 (codes "b") ∷ take (codes "q") 1 1 (codes "a") ∷ take (codes "p") 2 1 (codes "b") ∷ []
+
+abbrev pub said : ℕ → ℕ → SaidMark → List ℕ → List ℕ → SaidLine
+said epoch n state to text = record { epoch = epoch; n = n; state = state; to = to; text = text }
+
+abbrev pub of_p : List SaidLine
+of_p =
+    said 1 1 Acknowledged (codes "b") (codes "x") ∷ said 1 2 Undecided (codes "b") (codes "y")
+    ∷ said 2 1 Acknowledged (codes "b") (codes "z") ∷ said 2 2 Waiting (codes "a") (codes "u") ∷ []
+
+abbrev pub of_q : List SaidLine
+of_q = said 1 1 Acknowledged (codes "a") (codes "w") ∷ []
+
+abbrev pub x : ℕ → ℕ → EntryLine
+x n stamp = record { id = id_of n; stamp = stamp; from = codes "a@chat.example/p"; to = codes "b@chat.example"; origin = codes "p.1.1"; text = codes "x" }
+
+abbrev pub w : ℕ → ℕ → EntryLine
+w n stamp = record { id = id_of n; stamp = stamp; from = codes "b@chat.example/q"; to = codes "a@chat.example"; origin = codes "q.1.1"; text = codes "w" }
+
+abbrev pub z : ℕ → ℕ → EntryLine
+z n stamp = record { id = id_of n; stamp = stamp; from = codes "a@chat.example/p"; to = codes "b@chat.example"; origin = codes "p.2.1"; text = codes "z" }
+
+abbrev pub archived : List EntryLine
+archived = x 1 10 ∷ w 2 20 ∷ z 3 30 ∷ []
+
+abbrev pub account : List ℕ → List EntryLine → AccountView
+account name entries = record { name = name; count = length entries; entries = entries }
+
+-- p has no session, and refused to catch up
+abbrev pub p_with : Bool → List SaidLine → DeviceView
+p_with settled saids = record {
+  name = codes "p";
+  account = codes "a";
+  epoch = 2;
+  settled = settled;
+  said = saids;
+  refused = record { line = 11; why = NotBound } ∷ [];
+  pages = [];
+  underway = [];
+  logged = [];
+  held = [];
+}
+
+abbrev pub logged : EntryLine → LoggedLine
+logged e = record { entry = e }
+
+-- two pages of one entry each
+abbrev pub two_pages : List PageLine
+two_pages = record { after = None; count = 1; total = None } ∷ record { after = Some (id_of 1); count = 1; total = None } ∷ []
+
+abbrev pub hold : ℕ → HeldLine
+hold n = record { id = id_of n }
+
+-- q is in the middle of its third page, and the third message came live
+abbrev pub q_with : List SaidLine → List PageLine → List LoggedLine → List HeldLine → DeviceView
+q_with saids pages log holds = record {
+  name = codes "q";
+  account = codes "b";
+  epoch = 1;
+  settled = false;
+  said = saids;
+  refused = [];
+  pages = pages;
+  underway = record { queryid = codes "q2"; got = 1 } ∷ [];
+  logged = log;
+  held = holds;
+}
+
+abbrev pub q_right : DeviceView
+q_right = q_with of_q two_pages (logged (x 1 10) ∷ logged (w 2 20) ∷ []) (hold 3 ∷ [])
+
+abbrev pub conn : ℕ → List ℕ → ConnLine
+conn k device = record { k = k; device = device; upput = 900; uptaken = 850; downput = 2400; downtaken = 2310; end = Cut }
+
+abbrev pub reported : List TakeLine → List EntryLine → List EntryLine → DeviceView → DeviceView → ReportView
+reported takes of_a of_b p q = record {
+  wire = true;
+  takes = takes;
+  accounts = account (codes "a") of_a ∷ account (codes "b") of_b ∷ [];
+  conns = conn 1 (codes "p") ∷ conn 2 (codes "q") ∷ [];
+  devices = p ∷ q ∷ [];
+}
+
+abbrev pub right : ReportView
+right = reported taken archived archived (p_with false of_p) q_right
