@@ -5,7 +5,7 @@ use std::alloc::Global;
 use std::test::Fail;
 use xmpp_edge::{Bytes, MemorySink, MemorySource, NoMemory, Numbers};
 
-static SCHEDULE: &str = "\
+const SCHEDULE: &str = "\
 xmpp-schedule 1 direct
 account alice
 account bob
@@ -17,7 +17,7 @@ say phone alice note to self
 catchup phone 2
 ";
 
-static REPORT: &str = "\
+const REPORT: &str = "\
 xmpp-report 1 direct
 take phone 1 1 bob
 take desk 1 1 alice
@@ -42,10 +42,10 @@ said 1 1 acknowledged alice hi there
 end
 ";
 
-static STREAM: &str =
+const STREAM: &str =
     "<stream:stream to='chat.example' version='1.0' xmlns='jabber:client' xmlns:stream='http://etherx.jabber.org/streams'><a></a>";
 
-static ITEMS: &str =
+const ITEMS: &str =
     "<stream:stream to='chat.example' version='1.0' xmlns='jabber:client' xmlns:stream='http://etherx.jabber.org/streams'>\n<a/>\nend\n";
 
 // A word, the input, the reading that fails and the writing that fails, from 1 or 0 for none, the status, and what is
