@@ -1,4 +1,7 @@
 //! Many bytes at once, where each of them only adds to a text or a tag.
+//!
+//! Plain bytes of a text or a tag are taken at once: a scan by slice, one copy, and offsets that advance by its
+//! length. That is the run of those bytes.
 ghost use Rattle.std.specs.Prelude.{◌≡◌, ◌≤◌, ◌<◌, ◌++◌, true, take, length, IfOk, OnOk};
 ghost use Rattle.std.specs.List.{list_all, prefix_len};
 ghost use Rattle.std.specs.Option.{is_some};
