@@ -1,3 +1,4 @@
+//! One end of a session: its counters, and its stanzas that wait to be acknowledged (XEP-0198, section 4).
 ghost use Rattle.std.specs.Prelude.{◌≡◌, ◌≢◌, ℕ, ◌+◌, ◌-◌, ◌<◌, ◌≤◌, ◌%◌, ◌^◌, ◌↔◌, List, [], ◌∷◌, ◌++◌, drop, length, ◌⊎◌, IfNone, IfOk, IfErr, IfSome, IsErr, OnOk, OnErr, IsTrue};
 ghost use Rattle.xmpp_pool.specs.Queues.{Lives, list_of, stanzas_of};
 ghost use Rattle.xmpp_acks.specs.Counters.{ahead};

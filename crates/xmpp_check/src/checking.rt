@@ -1,4 +1,7 @@
 //! Telling of a stream, piece by piece.
+//!
+//! The bytes go to a framer 512 at a time, and its items are written at once, so that only those of one piece are
+//! held. After the last piece `part` tells what is unfinished.
 ghost use Rattle.std.specs.Prelude.{◌≡◌, ℕ, List, false, None, IfOk, OnOk};
 ghost use Rattle.xmpp_check.specs.Checked.{Told, told, told_behind, told_items, told_last, wrong_with};
 ghost use Rattle.xmpp_check.specs.Lines;

@@ -13,23 +13,30 @@ fn is_told(alloc: Global, input: &[u8], text: &[u8], sound: bool) -> Result<bool
     Ok(told.text.as_slice() == text && told.sound == sound)
 }
 
-fn behind_header(alloc: Global, parts: [&[u8]; 3]) -> Result<Bytes, NoMemory> {
+/// The header and three parts after it.
+fn behind_header(
+    alloc: Global,
+    first: &[u8],
+    second: &[u8],
+    third: &[u8],
+) -> Result<Bytes, NoMemory> {
     let mut bytes = Bytes::from_slice(alloc, HEADER)?;
-    for part in parts {
-        bytes.append(part)?;
-    }
+    bytes.append(first)?;
+    bytes.append(second)?;
+    bytes.append(third)?;
     Ok(bytes)
 }
 
-/// The same of what stands behind the header and of the lines behind the header's line, before which so much stands in both.
+/// Whether a stream after the header, in two parts, is told in these lines after the header's line.
 fn is_told_behind(
     alloc: Global,
-    both: [&[u8]; 2],
-    row: &(&str, &str, bool),
+    stream: (&[u8], &str),
+    lines: (&[u8], &str),
+    sound: bool,
 ) -> Result<bool, NoMemory> {
-    let input = behind_header(alloc, [b"", both[0], row.0.as_bytes()])?;
-    let text = behind_header(alloc, [b"\n", both[1], row.1.as_bytes()])?;
-    is_told(alloc, input.as_slice(), text.as_slice(), row.2)
+    let input = behind_header(alloc, b"", stream.0, stream.1.as_bytes())?;
+    let text = behind_header(alloc, b"\n", lines.0, lines.1.as_bytes())?;
+    is_told(alloc, input.as_slice(), text.as_slice(), sound)
 }
 
 /// What stands behind the header, what is told behind the header's line, and whether nothing is wrong.
@@ -59,8 +66,8 @@ static STREAMS: [(&str, &str, bool); 9] = [
 
 #[test]
 fn streams_are_told(rt: HostRuntime) -> Result<(), Fail> {
-    for row in &STREAMS {
-        assert!(rt; is_told_behind(rt.alloc(), [b"", b""], row)?);
+    for (stream, lines, sound) in &STREAMS {
+        assert!(rt; is_told_behind(rt.alloc(), (b"", stream), (b"", lines), *sound)?);
     }
     Ok(())
 }
@@ -90,23 +97,33 @@ static REPEATED: [(Repeated, (&str, &str, bool)); 5] = [
     (("<a>", "", 32), ("", "truncated 117\n", false)),
     (("<a>", "", 33), ("", "fault 213 TooDeep\n", false)),
     ((" ", "", 65_600), ("<a/>", "<a/>\nend\n", true)),
-    (("<a/>", "<a/>\n", 600), ("</b>", "fault 2517 NotWellFormed\n", false)),
+    (
+        ("<a/>", "<a/>\n", 600),
+        ("</b>", "fault 2517 NotWellFormed\n", false),
+    ),
 ];
 
 fn is_told_repeated(
     alloc: Global,
     times: &Repeated,
-    row: &(&str, &str, bool),
+    stream: &str,
+    told: &str,
+    sound: bool,
 ) -> Result<bool, NoMemory> {
     let input = repeated(alloc, times.0, times.2)?;
     let lines = repeated(alloc, times.1, times.2)?;
-    is_told_behind(alloc, [input.as_slice(), lines.as_slice()], row)
+    is_told_behind(
+        alloc,
+        (input.as_slice(), stream),
+        (lines.as_slice(), told),
+        sound,
+    )
 }
 
 #[test]
 fn streams_are_told_over_many_pieces(rt: HostRuntime) -> Result<(), Fail> {
-    for (times, row) in &REPEATED {
-        assert!(rt; is_told_repeated(rt.alloc(), times, row)?);
+    for (times, (stream, told, sound)) in &REPEATED {
+        assert!(rt; is_told_repeated(rt.alloc(), times, stream, told, *sound)?);
     }
     Ok(())
 }

@@ -1,5 +1,5 @@
 -- What is said of the bytes that were read, said of the bytes that the source tells.
-use Rattle.std.proofs.Common.{◌≡◌, ◌≢◌, ℕ, Bool, true, false, ◌≤◌, List, length, Option, Some, None, Result, Ok, Err, IfOk, IfSome, sym, ◌∙◌, subst}
+use Rattle.std.proofs.Common.{◌≡◌, ℕ, Bool, true, false, ◌≤◌, List, length, Option, Some, None, Result, Ok, Err, IfOk, IfSome, sym, ◌∙◌, subst}
 use Rattle.std.specs.Io.KnownBytes.{IsAtEnd}
 use Rattle.xmpp_edge.specs.declared.whole_reads.TheConstants.{MOST_BYTES_READ}
 use Rattle.xmpp_cli.specs.Words.{reads}

@@ -1,2 +1,3 @@
 pub mod Inputs
+mod Rows
 pub mod Statuses

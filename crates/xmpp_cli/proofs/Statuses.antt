@@ -1,18 +1,18 @@
 -- What is due with a status, and which status there must be.
-use Rattle.std.proofs.Common.{◌≡◌, ◌≢◌, Bool, true, false, ap, ℕ, ◌+◌, ◌-◌, ◌^◌, ◌<◌, ◌≤◌, min, subst, List, length, Option, Some, None, IfSome, IsSomeAnd, ◌⊎◌, inl, inr, refl, ◌∙◌, sym, arith}
+use Rattle.std.proofs.Common.{◌≡◌, ◌≢◌, Bool, true, false, ap, ℕ, ◌+◌, ◌-◌, ◌^◌, ◌≤◌, min, subst, List, Option, Some, None, IfSome, IsSomeAnd, ◌⊎◌, inl, inr, refl, ◌∙◌, sym, arith}
 use Rattle.std.proofs.lemmas.Bool.Decides.{eqb_tells}
 use Rattle.std.proofs.Math.Nat.{min-eq_left}
 use Rattle.std.specs.Bool.{MatchBool}
+use Rattle.std.specs.Prelude.{◌==◌, if◌then◌else◌}
 use Rattle.std.specs.Io.KnownBytes.{IsAtEnd}
 use Rattle.xmpp_edge.specs.Counts.{Rose, Quiet}
-use Rattle.xmpp_edge.specs.declared.whole_reads.TheConstants.{MOST_BYTES_READ}
 use Rattle.xmpp_check.specs.Checked.{told}
 use Rattle.xmpp_report.specs.ReportText.{text_of}
 use Rattle.xmpp_report.specs.Reports.{ReportView}
-use Rattle.xmpp_schedule.specs.Grammar.{InGrammar, IsSchedule, schedule_text}
+use Rattle.xmpp_schedule.specs.Grammar.{IsSchedule, schedule_text}
 use Rattle.xmpp_schedule.specs.Schedules.{ScheduleView}
 use Rattle.xmpp_cli.specs.Words.{reads}
-use Rattle.xmpp_cli.specs.Table.{code_of, Accepts, IsDone, IsRefused, IsChecked, IsReportOf, Due, IsDueOf, MustAnswer, MustEnd}
+use Rattle.xmpp_cli.specs.Table.{code_of, Accepts, IsDone, IsRefused, IsReportOf, Due, IsDueOf, MustAnswer, MustEnd}
 use Rattle.xmpp_cli.specs.declared.command.Command.{Command}
 use Rattle.xmpp_cli.specs.declared.command.Command.TheVariants.{Help, Version, Replay, Check}
 use Rattle.xmpp_cli.specs.declared.outcome.Outcome.{Outcome}
@@ -45,12 +45,13 @@ code_not_6 Refused e = omega arith
 code_not_6 ReadFault e = omega arith
 code_not_6 TooLong e = omega arith
 
-outcome_with : ℕ → Outcome
-outcome_with 0 = Done
-outcome_with 2 = WrongWords
-outcome_with 3 = Refused
-outcome_with 4 = ReadFault
-outcome_with _ = TooLong
+abbrev outcome_with : ℕ → Outcome
+outcome_with n =
+    if n == 0 then Done
+    else (if n == 2 then WrongWords
+    else (if n == 3 then Refused
+    else (if n == 4 then ReadFault
+    else TooLong)))
 
 outcome_back : (outcome : Outcome) → outcome_with (code_of outcome) ≡ outcome
 outcome_back Done = refl

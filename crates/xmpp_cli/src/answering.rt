@@ -1,4 +1,6 @@
 //! What is answered to the words and the input of a call.
+//!
+//! All text is made before a byte of it is written; want of memory is an answer of its own.
 ghost use Rattle.std.specs.Prelude.{◌≡◌, false, true, ◌<◌, ◌≤◌, Some, IfOk};
 ghost use Rattle.xmpp_edge.specs.Counts.{Rose};
 ghost use Rattle.xmpp_cli.specs.Words.{asked, reads};

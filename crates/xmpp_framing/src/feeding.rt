@@ -13,7 +13,7 @@ use xmpp_edge::NoMemory;
 
 impl Framer {
     // Whether the token in hand is a text.
-    fn is_text(&self) -> bool
+    pub(crate) fn is_text(&self) -> bool
         ensures { result ≡ States.is_text self.now.lexical.mode }
     {
         match self.lexical.mode {

@@ -1,4 +1,7 @@
 //! A framer, and the small changes of its state.
+//!
+//! A framer keeps the token in hand, the text after the last tag, and the open elements, the innermost beside the
+//! stack. Each private method has one equation as its contract: the machine's own definition for it.
 ghost use Rattle.std.specs.Prelude.{◌≡◌, ◌≤◌, Some, None, OnOk};
 ghost use Rattle.std.specs.Option.{is_some};
 ghost use Rattle.xmpp_framing.specs.Machine.{passed};

@@ -1,4 +1,7 @@
 //! Many bytes at once, where each of them only adds to a text or a tag.
+//!
+//! Plain bytes of a text or a tag are taken at once: a scan by slice, one copy, and offsets that advance by its
+//! length. That is the run of those bytes.
 ghost use Rattle.std.specs.Prelude.{◌≡◌, ◌≤◌, ◌<◌, ◌++◌, true, take, length, IfOk, OnOk};
 ghost use Rattle.std.specs.List.{list_all, prefix_len};
 ghost use Rattle.std.specs.Option.{is_some};
@@ -187,11 +190,7 @@ impl Framer {
     fn takes_text(&self) -> bool
         ensures { result ≡ ManyBytes.takes_text self.now }
     {
-        let is_text = match self.lexical.mode {
-            Mode::Text => true,
-            _ => false,
-        };
-        is_text
+        self.is_text()
             && self.fault.is_none()
             && self.is_inside()
             && self.pending.len() == 0

@@ -8,6 +8,7 @@ use Rattle.std.specs.List.{AllByRecursion, AllPairs, AllZip, list_all}
 use Rattle.std.specs.List.Sorted.{IsStrictlySortedBy}
 use Rattle.std.specs.Option.{unwrap_or}
 use Rattle.xmpp_tokens.proofs.RoundTrips.{no_quote, value_is_read_back, value_unquoted}
+use Rattle.xmpp_tokens.proofs.ValueSpellings.{is_value}
 use Rattle.xmpp_tokens.specs.Spelling.{spelled_text, spelled_value}
 use Rattle.xmpp_tokens.specs.Tags as tokens
 use Rattle.xmpp_tokens.specs.Tags.{AreAttributes, IsAttribute, IsSpelled, IsStartTag, IsTag, end_tag, is_qualified, names_of, tag_end}
@@ -57,7 +58,7 @@ one_attribute a rest h = (
     quote_is = refl;
     raw_inside = unquoted (spelled_value a.value) (value_unquoted a.value);
   },
-  value_is_read_back a.value h.value.utf8 h.value.characters,
+  is_value (spelled_value a.value) a.value (value_is_read_back a.value h.value.utf8 h.value.characters),
 )
 
 pub attributes_spelled : (xs : List tokens.Attribute) (rest : List ℕ) → AllByRecursion Fine xs → AreAttributes (assignments xs ++ rest) xs rest

@@ -15,7 +15,8 @@ use Rattle.xmpp_framing_laws.proofs.TextBytes.{Reads, character_kept, ending_say
 use Rattle.xmpp_framing_laws.specs.FaultRows.{Takes}
 use Rattle.xmpp_framing.specs.Machine.{passed, run, step}
 use Rattle.xmpp_framing.specs.States.{OpenElement, State, counted, in_run, run_begun, token_fails, turn}
-use Rattle.xmpp_framing_laws.specs.Texts.{IsCharacterData, line_ends, line_ends_behind}
+use Rattle.xmpp_framing_laws.specs.Texts.{IsCharacterData}
+use Rattle.xmpp_tokens.specs.Lines.{line_ends, line_ends_behind}
 use Rattle.xmpp_framing.specs.TextSteps.{between, brackets_behind, character_taken, ends_section, in_text, inside, is_forbidden, judged_text, text_inside, text_outside}
 use Rattle.xmpp_framing.specs.declared.items.Item.{Item}
 use Rattle.xmpp_framing.specs.declared.fault.Why.TheVariants.{NotWellFormed}

@@ -15,7 +15,7 @@ use Rattle.xmpp_framing.proofs.Pieces.{run_append}
 use Rattle.xmpp_framing_laws.proofs.Quiet.{AreAlike, IsFresh, IsQuiet}
 use Rattle.xmpp_framing_laws.proofs.TagParts.{is_inner, name_part, white_inner, white_part, name_is_inner}
 use Rattle.xmpp_framing_laws.proofs.TagRuns.{DecidesLast, InMarkup, after, alike_behind, begins, held_behind, opened, opened_is, takes}
-use Rattle.xmpp_framing_laws.proofs.ValueTexts.{leads}
+use Rattle.xmpp_tokens.proofs.ValueTexts.{leads}
 use Rattle.xmpp_framing_laws.specs.FaultRows.{Takes}
 use Rattle.xmpp_framing.specs.Machine.{behind_byte, is_too_long, passed, run, step}
 use Rattle.xmpp_framing.specs.MarkupSteps.{in_phase}

@@ -23,7 +23,7 @@ use Rattle.xmpp_names.specs.declared.headers.Header.{Header}
 use Rattle.xmpp_writer.specs.Canon.{assignment, assignments, client_namespace, spelled, streams_namespace, written_footer, written_given, written_header}
 use Rattle.xmpp_framing_laws.specs.Plain.{IsPlainHeader}
 use Rattle.xmpp_framing_laws.specs.Spells.{SpellsFooter, SpellsHeader, as_written, bind, written_scope}
-use Rattle.xmpp_framing_laws.specs.Texts.{IsCharacters}
+use Rattle.xmpp_tokens.specs.Lines.{IsCharacters}
 use Rattle.xmpp_framing_laws.proofs.CanonLaws.{attributes_spelled}
 use Rattle.xmpp_framing_laws.proofs.SpelledAttributes.{Apart, Fine, each, nothing_apart}
 use Rattle.xmpp_framing_laws.proofs.SpelledNames.{differ}

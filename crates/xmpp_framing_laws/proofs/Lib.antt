@@ -23,7 +23,6 @@ pub mod ReferenceRuns
 pub mod SectionBytes
 pub mod SectionRuns
 pub mod TextRuns
-pub mod ValueTexts
 pub mod TagParts
 pub mod TagRuns
 pub mod FooterRuns

@@ -10,7 +10,8 @@ use Rattle.xmpp_tokens.specs.Characters.{is_digit, is_name_byte, is_name_start}
 use Rattle.xmpp_tokens.specs.Fronts.{behind, front}
 use Rattle.xmpp_tokens.specs.References.{each_goes_on, is_hex_digit, number_goes_on, reference_goes_on, referred}
 use Rattle.xmpp_tokens.specs.declared.references.Reference.TheVariants.{Character, Malformed}
-use Rattle.xmpp_framing_laws.specs.Texts.{IsCharacterData, IsText, SpellsText, begins_section_end, data_alone, has_section_end, line_ends, with_reference, with_section}
+use Rattle.xmpp_framing_laws.specs.Texts.{IsCharacterData, IsText, SpellsText, begins_section_end, data_alone, has_section_end, with_reference, with_section}
+use Rattle.xmpp_tokens.specs.Lines.{line_ends}
 
 -- ---- what runs up to the first byte that fails a test is one list
 

@@ -8,7 +8,7 @@ use Rattle.std.specs.Option.{is_some, option_and_then}
 use Rattle.xmpp_tokens.proofs.Utf8Runs.{after_IsPending, runs_are_text}
 use Rattle.xmpp_tokens.specs.Characters.{are_characters, are_characters_behind, ends_forbidden, is_control}
 use Rattle.xmpp_tokens.specs.Utf8.{IsPending, continues, ends_character, ends_forbidden_character, held_after, is_lead, is_nothing, is_second, is_tail, utf8_next, utf8_run}
-use Rattle.xmpp_framing_laws.specs.Texts.{IsCharacters}
+use Rattle.xmpp_tokens.specs.Lines.{IsCharacters}
 
 -- ---- UTF-8, a byte at a time
 

@@ -10,7 +10,7 @@ use Rattle.xmpp_framing_laws.specs.Spells.{IsHeaderName}
 use Rattle.xmpp_framing.specs.States.{OpenElement, State, Turn, admits_declaration, next_place}
 use Rattle.xmpp_framing_laws.specs.Streams.{InForce, StreamTo, place_of}
 use Rattle.xmpp_framing.specs.TagSteps.{scope_in}
-use Rattle.xmpp_framing_laws.specs.Texts.{line_ends}
+use Rattle.xmpp_tokens.specs.Lines.{line_ends}
 use Rattle.xmpp_framing.specs.TextSteps.{kept_back}
 use Rattle.xmpp_trees.specs.Trees.{name_of, namespace_of}
 use Rattle.xmpp_framing.specs.declared.items.Item.{Item}

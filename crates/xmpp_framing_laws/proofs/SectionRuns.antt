@@ -18,7 +18,8 @@ use Rattle.xmpp_framing.specs.Machine.{passed, step}
 use Rattle.xmpp_framing.specs.MarkupSteps.{in_bang, section_opened}
 use Rattle.xmpp_framing.specs.States.{OpenElement, State, counted, gathered, gathered_in, in_mode, moved, token_begun, token_ended, token_fails, turn}
 use Rattle.xmpp_framing.specs.TagSteps.{in_opening}
-use Rattle.xmpp_framing_laws.specs.Texts.{has_section_end, line_ends, line_ends_behind}
+use Rattle.xmpp_framing_laws.specs.Texts.{has_section_end}
+use Rattle.xmpp_tokens.specs.Lines.{line_ends, line_ends_behind}
 use Rattle.xmpp_framing.specs.TextSteps.{brackets_behind, in_text, inside, is_forbidden, kept_back, section_taken}
 use Rattle.xmpp_framing.specs.declared.fault.Why.TheVariants as why
 use Rattle.xmpp_framing.specs.declared.items.Item.{Item}

@@ -18,7 +18,7 @@ use Rattle.xmpp_trees.specs.Attributes.{Attribute, name_order}
 use Rattle.xmpp_writer.specs.Canon.{next_number, spelled, spelled_attribute, spelled_attributes}
 use Rattle.xmpp_framing_laws.specs.Plain.{IsPlainAttribute}
 use Rattle.xmpp_framing_laws.specs.Spells.{bind}
-use Rattle.xmpp_framing_laws.specs.Texts.{IsCharacters}
+use Rattle.xmpp_tokens.specs.Lines.{IsCharacters}
 use Rattle.xmpp_trees.proofs.AttributeOrder.{has_name-order}
 use Rattle.xmpp_framing_laws.proofs.SpelledNames.{apart_by_local, apart_by_prefix, differ, name_no_colon, name_qualified, numbered_differ, numbered_plain, numbered_prefix, prefixed_qualified, xml_plain, xmlns_plain}
 

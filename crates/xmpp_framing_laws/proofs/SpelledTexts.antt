@@ -16,7 +16,8 @@ use Rattle.xmpp_tokens.specs.References.{referred}
 use Rattle.xmpp_tokens.specs.Spelling.{text_byte, is_text_plain, spelled_text}
 use Rattle.xmpp_tokens.specs.Utf8.{is_second, is_tail, utf8_next, utf8_run}
 use Rattle.xmpp_tokens.specs.declared.references.Reference.TheVariants.{Character}
-use Rattle.xmpp_framing_laws.specs.Texts.{IsCharacters, IsCharacterData, IsText, SpellsText, data_alone, with_reference, begins_section_end, has_section_end, line_ends, line_ends_behind}
+use Rattle.xmpp_framing_laws.specs.Texts.{IsCharacterData, IsText, SpellsText, data_alone, with_reference, begins_section_end, has_section_end}
+use Rattle.xmpp_tokens.specs.Lines.{IsCharacters, line_ends, line_ends_behind}
 
 -- ---- a run of plain bytes
 

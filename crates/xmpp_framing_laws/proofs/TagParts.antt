@@ -12,8 +12,9 @@ use Rattle.xmpp_tokens.specs.Characters.{is_white, is_name_start}
 use Rattle.xmpp_tokens.specs.Tags.{Attribute, AreAttributes, IsEndTag, IsSpelled, IsStartTag, are_white, has_parts, is_qualified, is_qualified_byte, is_quote, quote_behind, tag_end}
 use Rattle.xmpp_tokens.specs.Utf8.{utf8_run}
 use Rattle.xmpp_tokens.specs.Values.{value_of}
+use Rattle.xmpp_tokens.proofs.ValueSpellings.{says_value}
 use Rattle.xmpp_framing.proofs.PlainTags.{quote_append}
-use Rattle.xmpp_framing_laws.proofs.ValueTexts.{ascii_runs, ascii_step, runs_append, value_runs}
+use Rattle.xmpp_tokens.proofs.ValueTexts.{ascii_runs, ascii_step, runs_append, value_runs}
 use Rattle.xmpp_framing.specs.ManyBytes.{quote_after}
 
 -- a byte ends a tag
@@ -154,7 +155,7 @@ attribute_front bytes name raw rest v h value =
 attributes_front : (attributes : List Attribute) (bytes rest : List ℕ) → AreAttributes bytes attributes rest → Front bytes rest
 attributes_front [] bytes rest h = record { front = []; bytes_are = h; part = nothing_part }
 attributes_front (a ∷ more) bytes rest h =
-    let one = attribute_front bytes a.name h.1.0 h.0 a.value h.1.1 h.1.2 in
+    let one = attribute_front bytes a.name h.1.0 h.0 a.value h.1.1 (says_value h.1.0 a.value h.1.2) in
     let others = attributes_front more h.0 rest h.2 in
     record {
       front = one.front ++ others.front;

@@ -21,7 +21,7 @@ use Rattle.xmpp_framing_laws.proofs.FaultLaws.{goes}
 use Rattle.xmpp_framing.proofs.Pieces.{run_append}
 use Rattle.xmpp_framing_laws.proofs.Quiet.{AreAlike, HasInHand, HasRoom, IsQuiet}
 use Rattle.xmpp_framing_laws.proofs.TagParts.{IsWhole, ends_tag, none_ends, end_whole, start_whole, whole_text}
-use Rattle.xmpp_framing_laws.proofs.ValueTexts.{leads}
+use Rattle.xmpp_tokens.proofs.ValueTexts.{leads}
 use Rattle.xmpp_framing_laws.specs.FaultRows.{Takes}
 use Rattle.xmpp_framing.specs.Machine.{behind_byte, is_too_long, passed, run, step}
 use Rattle.xmpp_framing.specs.ManyBytes.{quote_after}

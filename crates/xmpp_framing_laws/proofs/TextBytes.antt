@@ -7,7 +7,7 @@ use Rattle.xmpp_framing_laws.proofs.ByteSteps.{Kept, kept_one, one_more_low}
 use Rattle.xmpp_framing_laws.proofs.HeldBytes.{Follows, allowed, ends_within, first_allowed, follows_more, grown, grown_high, high}
 use Rattle.xmpp_framing.specs.Machine.{passed}
 use Rattle.xmpp_framing.specs.States.{OpenElement, State, counted}
-use Rattle.xmpp_framing_laws.specs.Texts.{line_ends_behind}
+use Rattle.xmpp_tokens.specs.Lines.{line_ends_behind}
 use Rattle.xmpp_framing.specs.TextSteps.{brackets_behind, character_taken, ends_section, is_forbidden}
 use Rattle.xmpp_framing.specs.declared.states.Mode.{Mode}
 

@@ -8,7 +8,8 @@ use Rattle.xmpp_tokens.specs.References.{referred}
 use Rattle.xmpp_tokens.specs.Utf8.{IsPending, ended_character, ends_character, is_lead, is_second, is_tail, utf8_next}
 use Rattle.xmpp_tokens.specs.declared.references.Reference.TheVariants.{Character}
 use Rattle.xmpp_framing_laws.proofs.ReadCharacters.{second_high, tail_high}
-use Rattle.xmpp_framing_laws.specs.Texts.{IsCharacterData, SpellsText, begins_section_end, data_alone, has_section_end, line_ends, line_ends_behind, with_reference, with_section}
+use Rattle.xmpp_framing_laws.specs.Texts.{IsCharacterData, SpellsText, begins_section_end, data_alone, has_section_end, with_reference, with_section}
+use Rattle.xmpp_tokens.specs.Lines.{line_ends, line_ends_behind}
 use Rattle.xmpp_framing.specs.TextSteps.{brackets_behind}
 
 -- ---- `]]>`, with the `]` in front counted

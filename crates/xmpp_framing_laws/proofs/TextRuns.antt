@@ -15,7 +15,8 @@ use Rattle.xmpp_framing_laws.proofs.ReferenceRuns.{Fresh, reference_runs}
 use Rattle.xmpp_framing_laws.proofs.SectionRuns.{section_runs}
 use Rattle.xmpp_framing.specs.Machine.{run}
 use Rattle.xmpp_framing.specs.States.{OpenElement, State, turn}
-use Rattle.xmpp_framing_laws.specs.Texts.{IsCharacterData, IsText, SpellsText, data_alone, with_reference, with_section, has_section_end, line_ends}
+use Rattle.xmpp_framing_laws.specs.Texts.{IsCharacterData, IsText, SpellsText, data_alone, with_reference, with_section, has_section_end}
+use Rattle.xmpp_tokens.specs.Lines.{line_ends}
 use Rattle.xmpp_framing.specs.declared.items.Item.{Item}
 
 -- ---- a text in its parts

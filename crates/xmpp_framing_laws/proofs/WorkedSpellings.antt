@@ -9,7 +9,8 @@ use Rattle.xmpp_names.specs.Scopes.{xml_namespace}
 use Rattle.xmpp_names.specs.declared.headers.Header.{Header}
 use Rattle.xmpp_trees.specs.Attributes.{attribute}
 use Rattle.xmpp_writer.specs.Canon.{assignment, canon, client_namespace, declared_default, default_inside, next_number, number_text, spelled_attribute, spelled_name, streams_namespace, written_footer, written_header}
-use Rattle.xmpp_framing_laws.specs.Texts.{IsCharacterData, SpellsText, data_alone, has_section_end, line_ends, with_reference, with_section}
+use Rattle.xmpp_framing_laws.specs.Texts.{IsCharacterData, SpellsText, data_alone, has_section_end, with_reference, with_section}
+use Rattle.xmpp_tokens.specs.Lines.{line_ends}
 use Rattle.xmpp_trees.specs.Trees.{element, no_nodes, child, text}
 
 -- no attribute, nothing inside, the default in force

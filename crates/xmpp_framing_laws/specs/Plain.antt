@@ -6,7 +6,7 @@ use Rattle.xmpp_names.specs.Scopes.{xmlns_namespace}
 use Rattle.xmpp_names.specs.declared.headers.Header.{Header}
 use Rattle.xmpp_trees.specs.Attributes.{Attribute}
 use Rattle.xmpp_framing_laws.specs.Spells.{IsHeaderName}
-use Rattle.xmpp_framing_laws.specs.Texts.{IsCharacters}
+use Rattle.xmpp_tokens.specs.Lines.{IsCharacters}
 use Rattle.xmpp_trees.specs.Trees.{Elem, element, Nodes, no_nodes, child, text, namespace_of, name_of}
 
 -- a name of XML's characters without a colon (NCName)

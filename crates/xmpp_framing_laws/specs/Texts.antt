@@ -1,26 +1,9 @@
 -- Which bytes between tags spell a text, in the grammar's words (XML 1.0, sections 2.2, 2.4, 2.7, 2.11 and 4.1).
-use Rattle.std.specs.Prelude.{ℕ, ◌≡◌, ◌==◌, Bool, true, false, not, ◌&&◌, ◌||◌, if◌then◌else◌, List, [], ◌∷◌, ◌++◌, codes, encode_utf8}
+use Rattle.std.specs.Prelude.{ℕ, ◌≡◌, ◌==◌, Bool, true, false, not, ◌&&◌, ◌||◌, List, [], ◌∷◌, ◌++◌, codes, encode_utf8}
 use Rattle.std.specs.List.{list_all}
-use Rattle.std.specs.Str.{IsUtf8}
-use Rattle.xmpp_tokens.specs.Characters.{are_characters}
+use Rattle.xmpp_tokens.specs.Lines.{IsCharacters, line_ends}
 use Rattle.xmpp_tokens.specs.References.{referred}
 use Rattle.xmpp_tokens.specs.declared.references.Reference.TheVariants.{Character}
-
--- a text of XML's characters (2.2, Char)
-pub record IsCharacters (bytes : List ℕ) : Type 0 where
-  pub utf8 : IsUtf8 bytes
-  pub characters : are_characters bytes ≡ true
-
--- Line ends (2.11): a carriage return with the line feed behind it, or alone, is a line feed. `returned`: a carriage
--- return stands in front.
-abbrev pub line_ends_behind : Bool → List ℕ → List ℕ
-line_ends_behind returned [] = []
-line_ends_behind returned (b ∷ bs) =
-    if b == 13 then 10 ∷ line_ends_behind true bs
-    else (if returned && b == 10 then line_ends_behind false bs else b ∷ line_ends_behind false bs)
-
-abbrev pub line_ends : List ℕ → List ℕ
-line_ends bytes = line_ends_behind false bytes
 
 abbrev pub begins_section_end : List ℕ → Bool
 begins_section_end [] = false

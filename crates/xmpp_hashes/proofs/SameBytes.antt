@@ -1,5 +1,6 @@
 -- Whether two texts are the same, told from the differences of their bytes.
-use Rattle.std.proofs.Common.{◌≡◌, ◌∙◌, ℕ, zero, suc, ◌+◌, ◌<◌, Bool, true, false, ◌&&◌, nat_eq, List, [], ◌∷◌, length, get_or, take, bit_or, bit_xor, refl, sym, ap, arith, add-one}
+use Rattle.std.proofs.Math.Bool.{and-true, and_assoc}
+use Rattle.std.proofs.Common.{◌≡◌, ◌∙◌, ℕ, zero, suc, ◌+◌, ◌<◌, ◌&&◌, nat_eq, List, [], ◌∷◌, length, get_or, take, bit_or, bit_xor, refl, sym, ap, arith, add-one}
 use Rattle.std.specs.Int.Bits.{xor_assoc, xor_self, xor_zero_l, xor_zero_r}
 use Rattle.std.specs.Str.{bytes_eq}
 use Rattle.std.proofs.lemmas.Nat.{le_or_l, le_or_r}
@@ -26,19 +27,11 @@ one_more d x y =
     same_from_decides {P = (d ≡ 0) × (x ≡ y)} (nat_eq (bit_or d (bit_xor x y)) 0) (nat_eq d 0 && nat_eq x y)
     (λ e. no_difference d x y (whole.0 e), λ h. whole.1 (no_difference-from d x y h)) parts
 
-and_assoc : (p q r : Bool) → ((p && q) && r) ≡ (p && (q && r))
-and_assoc true q r = refl
-and_assoc false q r = refl
-
-and_true : (p : Bool) → (p && true) ≡ p
-and_true true = refl
-and_true false = refl
-
 bytes_eq-take_suc : (a b : List ℕ) (i : ℕ) → i < length a → i < length b
     → bytes_eq (take (suc i) a) (take (suc i) b) ≡ (bytes_eq (take i a) (take i b) && nat_eq (get_or a i 0) (get_or b i 0))
 bytes_eq-take_suc [] b i la lb = absurd (omega arith)
 bytes_eq-take_suc (x ∷ a) [] i la lb = absurd (omega arith)
-bytes_eq-take_suc (x ∷ a) (y ∷ b) zero la lb = and_true (nat_eq x y)
+bytes_eq-take_suc (x ∷ a) (y ∷ b) zero la lb = and-true (nat_eq x y)
 bytes_eq-take_suc (x ∷ a) (y ∷ b) (suc i) la lb =
     ap (λ r. nat_eq x y && r) (bytes_eq-take_suc a b i (omega arith) (omega arith))
     ∙ sym (and_assoc (nat_eq x y) (bytes_eq (take i a) (take i b)) (nat_eq (get_or a i 0) (get_or b i 0)))

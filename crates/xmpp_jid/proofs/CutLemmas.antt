@@ -1,10 +1,9 @@
 -- Where a text is cut, when it is known how it was put together.
-use Rattle.std.proofs.Common.{◌≡◌, ℕ, ◌+◌, Bool, true, false, nat_lt, List, [], ◌∷◌, ◌++◌, length, take, drop, Some, None, refl, ap, arith, length-append, suc, inl, inr}
+use Rattle.std.proofs.Common.{◌≡◌, ℕ, ◌+◌, Bool, true, false, nat_lt, List, [], ◌∷◌, ◌++◌, length, drop, Some, None, refl, ap, arith, length-append, suc, inl, inr}
 use Rattle.std.specs.List.{list_any, position_or_len, before_first}
 use Rattle.std.proofs.lemmas.Bool.{cases_Bool, or_parts, or_from}
 use Rattle.std.proofs.lemmas.Bool.Decides.{nat_tests}
-use Rattle.std.proofs.lemmas.Grind.{common_steps}
-use Rattle.std.proofs.Math.Seq.{take-append_seam, drop-append-add}
+use Rattle.std.proofs.Math.Seq.{take-append_seam, take-length, drop-append-add}
 use Rattle.xmpp_jid.specs.Cuts.{is_slash, is_at, bare_len, bare_of, resource_of, domain_start, local_of_bare, domain_of_bare}
 
 position_none : (p : ℕ → Bool) (xs : List ℕ) → list_any p xs ≡ false → position_or_len p xs ≡ length xs
@@ -29,9 +28,6 @@ before_first_uncut p (x ∷ xs) =
 
 drop_behind : (xs : List ℕ) (y : ℕ) (ys : List ℕ) → drop (length xs + 1) (xs ++ y ∷ ys) ≡ ys
 drop_behind xs y ys = drop-append-add xs (y ∷ ys) 1
-
-take_whole : (xs : List ℕ) → take (length xs) xs ≡ xs
-take_whole xs = grind (arith, common_steps)
 
 within : (xs : List ℕ) (y : ℕ) (ys : List ℕ) → nat_lt (length xs) (length (xs ++ y ∷ ys)) ≡ true
 within xs y ys = let size = length-append xs (y ∷ ys) in grind (arith, nat_tests)
@@ -62,7 +58,7 @@ cut_full bare resource none =
 pub cut_bare : (bare : List ℕ) → list_any is_slash bare ≡ false → IsCutBare bare
 cut_bare bare none =
     let all = position_none is_slash bare none in
-    record { len = all; front = rw all (take_whole bare); back = rw (all, not_within (length bare)) refl }
+    record { len = all; front = rw all (take-length bare); back = rw (all, not_within (length bare)) refl }
 
 -- a bare text with a local part, and a domain alone
 pub record IsCutLocal (local domain : List ℕ) : Type 0 where

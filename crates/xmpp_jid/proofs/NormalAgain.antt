@@ -5,6 +5,7 @@ use Rattle.std.specs.List.{list_all, list_any, AllPass}
 use Rattle.std.specs.Prelude.{IfSome}
 use Rattle.std.specs.Result.{IsErr, IsErrAnd}
 use Rattle.std.proofs.lemmas.Bool.{cases_Bool, and_from, and_parts, or_parts, not_from_false}
+use Rattle.std.proofs.lemmas.List.{append-nil}
 use Rattle.std.proofs.lemmas.List.Folds.{list_any-append}
 use Rattle.std.proofs.lemmas.List.Sums.{AllPass-from_list_all, passes_at_first}
 use Rattle.std.proofs.lemmas.Result.{err_from_is_err_and}
@@ -58,13 +59,9 @@ record IsWholeCut (local : Option (List ℕ)) (domain : List ℕ) (resource : Op
   front : bare_of (whole local domain resource) ≡ local_text local ++ domain
   back : resource_of (whole local domain resource) ≡ resource
 
-append_nil : (xs : List ℕ) → xs ++ [] ≡ xs
-append_nil [] = refl
-append_nil (x ∷ xs) = ap (λ ys. x ∷ ys) (append_nil xs)
-
 whole_cut : (local : Option (List ℕ)) (domain : List ℕ) (resource : Option (List ℕ)) → list_any is_slash (local_text local ++ domain) ≡ false → IsWholeCut local domain resource
 whole_cut local domain None uncut =
-    let same = append_nil (local_text local ++ domain) in
+    let same = append-nil (local_text local ++ domain) in
     let cut = cut_bare (local_text local ++ domain) uncut in
     record { len = rw same cut.len; front = rw same cut.front; back = rw same cut.back }
 whole_cut local domain (Some part) uncut =
@@ -174,7 +171,7 @@ bare_again : (local : Option (List ℕ)) (domain : List ℕ) (resource : Option 
 bare_again local domain resource h =
     let bare = bare_cut local domain h.local_form h.domain_form in
     let cut = whole_cut local domain resource bare.uncut in
-    let same : whole local domain None ≡ bare_of (whole local domain resource) = append_nil (local_text local ++ domain) ∙ sym cut.front in
+    let same : whole local domain None ≡ bare_of (whole local domain resource) = append-nil (local_text local ++ domain) ∙ sym cut.front in
     subst (λ t. normal t ≡ Ok t) same
     (whole_again local domain None (record { local_form = h.local_form; domain_form = h.domain_form; resource_form = tt }))
 
@@ -331,7 +328,7 @@ bare_joined bare (Ok local) (Err e) resource is = cc
 bare_joined bare (Ok local) (Ok domain) (Err e) is = refl
 bare_joined bare (Ok local) (Ok domain) (Ok resource) is =
     let same : local ++ domain ++ [] ≡ bare = cc in
-    let less : local ++ domain ≡ bare = sym (append_nil (local ++ domain)) ∙ same in
+    let less : local ++ domain ≡ bare = sym (append-nil (local ++ domain)) ∙ same in
     ap (λ (t : List ℕ). Ok (t ++ resource)) less
 
 -- a bare text in normal form with a resource

@@ -243,10 +243,12 @@ static PRINTED_ADDRESSES: [(&str, &str, &str, &str); 2] = [
     ),
 ];
 
-// The bare address of a text with a resource, copied and read from its text again.
+// The bare address of a text with a resource, made of its text again.
 fn with_resource(alloc: Global, text: &str, resource: &str) -> Result<Jid, JidFault> {
     let bare = Jid::parse(alloc, text)?.to_bare(alloc)?;
-    bare.with_resource(alloc, resource)
+    let jid = bare.with_resource(alloc, resource)?;
+    let text = Text::from_str(alloc, jid.text())?;
+    Ok(Jid::of_normal(text))
 }
 
 fn is_printed(alloc: Global, jid: &Jid, text: &str, debug: &str) -> Result<bool, JidFault> {

@@ -1,13 +1,17 @@
-pub mod ScopeRuns
+-- ---- names, scopes and declarations
 pub mod DeclarationRuns
-pub mod SpelledNames
-pub mod SameNames
-pub mod Expanded
-pub mod Parted
-pub mod NamePairs
-pub mod EndLaws
-pub mod NameLaws
-pub mod StartLaws
-mod Worked
 pub mod JoinedNames
+pub mod NameLaws
+pub mod ScopeRuns
+-- ---- expanded names, and whether they are distinct
+pub mod Expanded
+pub mod NamePairs
+pub mod SameNames
+pub mod SpelledNames
+-- ---- whole tags and headers
+pub mod EndLaws
 pub mod HeaderValues
+pub mod Parted
+pub mod StartLaws
+-- ---- values at which the definitions are tried
+mod Worked

@@ -11,7 +11,7 @@ use std::alloc::Global;
 use xmpp_edge::{NoMemory, Text};
 
 /// The namespace of a stream's header (RFC 6120, section 4.8.1).
-const STREAMS_NAMESPACE: &str = "http://etherx.jabber.org/streams";
+pub const STREAMS_NAMESPACE: &str = "http://etherx.jabber.org/streams";
 
 /// What the header of a stream says (RFC 6120, sections 4.7 and 4.8).
 #[derive(Debug, Drop)]

@@ -18,7 +18,7 @@ mod starts;
 pub use ends::read_end;
 pub use expansion::ExpandedAttribute;
 pub use fault::{StartFault, StartWhy};
-pub use headers::{Header, HeaderTag, header_of, opens_stream};
+pub use headers::{Header, HeaderTag, STREAMS_NAMESPACE, header_of, opens_stream};
 pub use laws::{
     declarations_are_tested, end_tags_are_read, names_are_split, start_refusals_are_due,
     starts_are_read,

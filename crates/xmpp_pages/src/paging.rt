@@ -1,4 +1,11 @@
 //! The page that answers a query (XEP-0313, section 4.3; XEP-0059, sections 2.1 to 2.6).
+//!
+//! A page is found in one of three ways. The place becomes a span of numbers (`span_of`). Where nothing narrows
+//! the query down, the first and the last number decide (`cut_of_all`). Where it asks only for an account, the
+//! page is found from its place (`stretch`); only where the place's id is of an entry with another account is the
+//! chain walked to its end. Else matching entries go by one after another (`tally_of_chain`, `tally_of_list`),
+//! and a `Tally` keeps their count and the page's numbers in 100 slots. Memory is taken once, for the page's
+//! numbers.
 ghost use Rattle.std.specs.Prelude.{◌≡◌, ℕ, ◌+◌, ◌*◌, ◌<◌, ◌≤◌, ◌^◌, ◌↔◌, List, Some, None, true, false, length, IfOk, IsErrOf};
 ghost use Rattle.xmpp_archive.specs.Peers.{bare_form};
 ghost use Rattle.xmpp_pages.specs.Kept.{AreConsecutive, last_number};

@@ -1,3 +1,4 @@
+//! The queues of stanzas, by their numbers.
 ghost use Rattle.std.specs.Prelude.{◌≡◌, ◌≢◌, ℕ, ◌+◌, ◌<◌, ◌≤◌, ◌^◌, ◌↔◌, [], ◌∷◌, ◌++◌, length, slice_get, IfOk, IfSome, IfNone, IsNone, OnOk, OnErr, OnSome, IsTrue};
 ghost use Rattle.xmpp_pool.specs.Queues.{Lives, list_of, stanzas_of};
 

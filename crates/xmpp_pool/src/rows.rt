@@ -1,3 +1,4 @@
+//! The rows of a pool: stanzas with the numbers of their queues, in the order in which they were put.
 ghost use Rattle.std.specs.Prelude.{◌≡◌, ◌≢◌, ℕ, ◌+◌, ◌<◌, ◌≤◌, [], ◌∷◌, ◌++◌, length, nat_eq, position, slice_get, IfSome, IfNone, vec_len, vec_capacity};
 ghost use Rattle.std.specs.Option.{option_copied};
 ghost use Rattle.xmpp_pool.specs.Rows.{rows_of, stanzas_in};
@@ -12,15 +13,14 @@ pub struct Row {
     pub bytes: Bytes,
 }
 
-/// How many rows a queue has: the stanzas that wait in it unacknowledged (XEP-0198, section 4). It goes through all rows.
+/// How many rows a queue has. It goes through all rows.
 pub fn count_rows(rows: &[Row], queue: QueueId) -> usize
     ensures { result ≡ length (rows_of queue rows.now) }
 {
     rows.iter().filter(|row| row.queue == queue).count()
 }
 
-/// The row at a place among those of a queue, counted from 0, so that a queue is resent in order (XEP-0198, section 5). `None`
-/// exactly where the queue has no such row.
+/// The row at a place among those of a queue, counted from 0. `None` exactly where the queue has no such row.
 pub fn row_at(rows: &[Row], queue: QueueId, i: usize) -> Option<&Row>
     ensures { option_copied result ≡ slice_get (rows_of queue rows.now) i }
 {
@@ -59,8 +59,8 @@ fn first_row(rows: &[Row], queue: QueueId) -> Option<usize>
     rows.iter().position(|row| row.queue == queue)
 }
 
-/// Takes the first row of a queue out, and gives its stanza: the oldest one, which is acknowledged first (XEP-0198, section
-/// 4). `None` exactly where the queue is empty, and then nothing changes. The other queues stay as they were.
+/// Takes the first row of a queue out, and gives its stanza, the oldest one. `None` exactly where the queue is empty, and
+/// then nothing changes. The other queues stay as they were.
 pub fn take_row(rows: &mut Vec<Row>, queue: QueueId) -> Option<Bytes>
     ensures front { IfSome result (λ b. stanzas_in queue rows.old.items ≡ b.items ∷ stanzas_in queue rows.new.items) }
     ensures none { IfNone result (stanzas_in queue rows.old.items ≡ []) }
@@ -75,8 +75,7 @@ pub fn take_row(rows: &mut Vec<Row>, queue: QueueId) -> Option<Bytes>
     Some(bytes)
 }
 
-/// Drops the rows of a queue with their stanzas, as where a session ends. The other queues stay as they were. It cannot
-/// refuse.
+/// Drops the rows of a queue with their stanzas. The other queues stay as they were. It cannot refuse.
 pub fn drop_rows(rows: &mut Vec<Row>, queue: QueueId)
     ensures queue { stanzas_in queue rows.new.items ≡ [] }
     ensures others { (other : ℕ) → other ≢ queue → stanzas_in other rows.new.items ≡ stanzas_in other rows.old.items }
@@ -86,8 +85,7 @@ pub fn drop_rows(rows: &mut Vec<Row>, queue: QueueId)
     rows.retain(|row| row.queue != queue);
 }
 
-/// Gives the rows of a queue to another one, which has none, in their order: a resumed session's queue moves whole (XEP-0198,
-/// section 5). It takes no memory and cannot refuse.
+/// Gives the rows of a queue to another one, which has none, in their order. It takes no memory and cannot refuse.
 pub fn relabel(rows: &mut Vec<Row>, from: QueueId, to: QueueId)
     requires apart { from ≢ to }
     requires empty { stanzas_in to rows.old.items ≡ [] }

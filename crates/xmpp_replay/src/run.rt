@@ -1,5 +1,9 @@
 //! The direct run of a schedule: every message is taken at once and acknowledged, and every page that is asked for
 //! is answered at once.
+//!
+//! A message is appended to its two archives once both have room. A catch-up asks for the page after the log's
+//! last entry, copies the entries of the page's numbers out of the archive, and ends the page with the count that
+//! it was answered. Archives are reached by number, accounts and devices by name.
 ghost use Rattle.std.specs.Prelude.{◌≡◌, ◌≤◌, false, true, [], IfOk, OnOk};
 ghost use Rattle.xmpp_replay.specs.Direct.{direct_report};
 ghost use Rattle.xmpp_schedule.specs.Grammar.{IsSchedule};

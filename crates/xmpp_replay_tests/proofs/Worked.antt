@@ -3,6 +3,7 @@ use Rattle.std.proofs.Common.{◌≡◌, ℕ, List, [], ◌∷◌, ◌++◌, Ok,
 use Rattle.std.specs.Fmt.{digits}
 use Rattle.std.specs.List.{flat_map}
 use Rattle.std.specs.Str.{is_utf8, chars}
+use Rattle.xmpp_basis.specs.Hexadecimal.{hex16_of}
 use Rattle.xmpp_archive.specs.Ids.{id_of}
 use Rattle.xmpp_replay.specs.Direct.{direct_report}
 use Rattle.xmpp_schedule.specs.Reading.{reading, read_line, read_words, read_account, read_device, read_say, read_catchup}
@@ -56,17 +57,17 @@ three_archived_and_two_pages : replayed (reading first_schedule) ≡ ended (
     codes "device desk bob 1 yes" ∷
     codes "said 1 1 acknowledged alice hi there" ∷
     codes "end" ∷ [])
-unfolding reading read_line read_words read_account read_device read_say read_catchup is_utf8 chars text_of direct_report digits id_of lib.Utf8.encode
+unfolding reading read_line read_words read_account read_device read_say read_catchup is_utf8 chars text_of direct_report digits hex16_of lib.Utf8.encode
 three_archived_and_two_pages = refl
 
 nothing_declared_reports_nothing : replayed (reading (ended (codes "xmpp-schedule 1 direct" ∷ []))) ≡ ended (codes "xmpp-report 1 direct" ∷ codes "end" ∷ [])
-unfolding reading read_line read_words read_account read_device read_say read_catchup is_utf8 chars text_of direct_report digits id_of lib.Utf8.encode
+unfolding reading read_line read_words read_account read_device read_say read_catchup is_utf8 chars text_of direct_report digits hex16_of lib.Utf8.encode
 nothing_declared_reports_nothing = refl
 
 an_empty_archive_is_complete_at_once :
     replayed (reading (ended (codes "xmpp-schedule 1 direct" ∷ codes "account alice" ∷ codes "device phone alice" ∷ codes "catchup phone 5" ∷ [])))
     ≡ ended (codes "xmpp-report 1 direct" ∷ codes "account alice 0" ∷ codes "device phone alice 1 yes" ∷ codes "page - 0 complete 0" ∷ codes "end" ∷ [])
-unfolding reading read_line read_words read_account read_device read_say read_catchup is_utf8 chars text_of direct_report digits id_of lib.Utf8.encode
+unfolding reading read_line read_words read_account read_device read_say read_catchup is_utf8 chars text_of direct_report digits hex16_of lib.Utf8.encode
 an_empty_archive_is_complete_at_once = refl
 
 -- the first bad line, with its first reason

@@ -1,5 +1,6 @@
 -- The pages that a device is answered, by evaluation.
 use Rattle.std.proofs.Common.{◌≡◌, ℕ, true, false, [], ◌∷◌, Some, None, refl, codes}
+use Rattle.xmpp_basis.specs.Hexadecimal.{hex16_of}
 use Rattle.xmpp_archive.specs.Entries.{EntryView}
 use Rattle.xmpp_archive.specs.Ids.{id_of}
 use Rattle.xmpp_pages.specs.Kept.{Kept, kept_by}
@@ -18,20 +19,20 @@ full_page : page_answered None 3 three ≡ Some (record { entries = three.entrie
 full_page = refl
 
 second_page : page_answered (Some (codes "0000000000000002")) 2 three ≡ Some (record { entries = entry 3 ∷ []; complete = true; count = 3 })
-unfolding id_of
+unfolding hex16_of
 second_page = refl
 
 page_behind_last : page_answered (Some (codes "0000000000000003")) 2 three ≡ Some (record { entries = []; complete = true; count = 3 })
-unfolding id_of
+unfolding hex16_of
 page_behind_last = refl
 
 no_entries : page_answered None 5 (kept_by (codes "alice@chat.example") []) ≡ Some (record { entries = []; complete = true; count = 0 })
 no_entries = refl
 
 unknown_id : page_answered (Some (codes "0000000000000004")) 2 three ≡ None
-unfolding id_of
+unfolding hex16_of
 unknown_id = refl
 
 upper_case : page_answered (Some (codes "000000000000000A")) 2 (kept_by (codes "alice@chat.example") (entry 10 ∷ [])) ≡ None
-unfolding id_of
+unfolding hex16_of
 upper_case = refl

@@ -96,9 +96,12 @@ fn accounts(alloc: Global) -> Result<AccountLines, NoMemory> {
 
 fn conns(alloc: Global) -> Result<ConnLines, NoMemory> {
     let mut lines = ConnLines::new(alloc);
-    let mut k = 0;
-    for end in [ConnEnd::Cut, ConnEnd::Left, ConnEnd::Shut, ConnEnd::Open] {
-        k += 1;
+    for (k, end) in [
+        (1, ConnEnd::Cut),
+        (2, ConnEnd::Left),
+        (3, ConnEnd::Shut),
+        (4, ConnEnd::Open),
+    ] {
         lines.push(ConnLine {
             k,
             device: text(alloc, "phone")?,

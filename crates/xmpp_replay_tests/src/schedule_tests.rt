@@ -88,9 +88,9 @@ fn bad_lines_below_a_device(rt: HostRuntime) -> Result<(), Fail> {
 // A hundred accounts, and the first word of one more.
 fn crowd(alloc: Global) -> Result<String, NoMemory> {
     let mut text = String::from_str(alloc, "xmpp-schedule 1 direct\n")?;
-    for i in 0..100 {
+    for i in 0_u64..100 {
         text.push_str("account a")?;
-        text.push_str((i as u64).to_string(alloc)?.as_str())?;
+        text.push_str(i.to_string(alloc)?.as_str())?;
         text.push_str("\n")?;
     }
     Ok(text)

@@ -1,3 +1,4 @@
+//! The answers of the table of sessions.
 use std::error::Error;
 use std::fmt;
 

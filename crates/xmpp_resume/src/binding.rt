@@ -1,3 +1,4 @@
+//! Sessions begin and end (RFC 6120, section 7; XEP-0198, sections 3 and 5).
 ghost use Rattle.std.specs.Prelude.{◌≡◌, ◌≢◌, ℕ, ◌+◌, ◌-◌, ◌<◌, ◌≤◌, ◌^◌, ◌∷◌, [], ◌++◌, None, Some, IsSome, IfSome, IsErr, OnOk, OnErr, ◌↔◌, filter, false, not, true};
 ghost use Rattle.std.specs.Option.{option_map};
 ghost use Rattle.xmpp_pool.specs.Queues.{PoolView};

@@ -1,3 +1,4 @@
+//! What sessions are found by, other than their numbers.
 ghost use Rattle.std.specs.HashMap as hash;
 ghost use Rattle.std.specs.List.Sorted.{IsNonDecreasingBy};
 ghost use Rattle.std.specs.Prelude.{◌≡◌, ◌≢◌, ℕ, ◌+◌, ◌-◌, ◌<◌, ◌≤◌, ◌==◌, [], ◌∷◌, ◌++◌, List, filter, not, Some, None, IfNone, IfSome, IsSome, MatchOption, OnOk, false, length, nat_eq, slice_index_or, true};

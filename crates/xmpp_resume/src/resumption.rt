@@ -1,3 +1,4 @@
+//! Sessions that are resumed (XEP-0198, section 5).
 ghost use Rattle.std.specs.Prelude.{◌≡◌, ◌≢◌, ℕ, ◌%◌, ◌<◌, ◌≤◌, ◌^◌, length, Ok, None, Some, IsSome, IfSome, IfNone, List, true};
 ghost use Rattle.std.specs.Option.{option_map};
 ghost use Rattle.xmpp_resume.specs.Housed.{IsFree, IsHoused};
@@ -164,8 +165,8 @@ impl Sessions {
     }
 }
 
-/// A law: a session that can be resumed, and is parked and then resumed with the count that is acknowledged, comes back
-/// with all its stanzas, in order.
+/// A law: a session that can be resumed, and is parked and right after it resumed with the count that is acknowledged,
+/// comes back with all its stanzas, in order.
 pub fn parked_comes_back_whole()
     ensures { (rows : List Row) (next conn now queue : ℕ) (r : Row) (old new : PoolView) → IsTable rows next → row_at conn rows ≡ Some r → r.shown.resumable ≡ true → ComesBackWhole now queue r rows old new }
 {}

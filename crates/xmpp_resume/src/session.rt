@@ -1,3 +1,4 @@
+//! A session, and its row in the table.
 ghost use Rattle.std.specs.Prelude.{◌≡◌, ◌≢◌, ℕ, ◌+◌, ◌^◌, ◌<◌, ◌≤◌, ◌↔◌, ◌⊎◌, IsErr, List, [], Some, false, length, pos, OnOk, OnErr};
 ghost use Rattle.xmpp_pool.specs.Queues.{Lives, list_of, stanzas_of};
 ghost use Rattle.xmpp_resume.specs.Moves.{HandsOver, Joins, PoolAcknowledged, ack_answer, acknowledged, attached, is_expired, parked};

@@ -1,3 +1,4 @@
+//! What a session is sought by.
 ghost use Rattle.std.specs.Prelude.{◌≡◌};
 ghost use Rattle.xmpp_resume.specs.Stored.{seeks};
 

@@ -1,3 +1,4 @@
+//! The table of sessions: look-ups, changes of one session, and its stanzas that wait (XEP-0198, section 4).
 ghost use Rattle.std.specs.Prelude.{◌≡◌, ℕ, ◌+◌, ◌-◌, ◌%◌, ◌<◌, ◌≤◌, ◌^◌, ◌↔◌, ◌⊎◌, List, [], ◌∷◌, ◌++◌, map, None, Ok, Some, IsErr, false, IsSome, OnOk, OnErr, IsTrue, MatchOption, IfSome, filter, is_some, length, nat_eq, nat_lt, slice_index_or, vec_len, vec_capacity};
 ghost use Rattle.std.specs.Option.{option_copied, option_map};
 ghost use Rattle.xmpp_resume.specs.Moves.{HandsOver, HasExpired, Joins, PoolAcknowledged, ack_answer, acknowledged, asking, attached, copying, fresh_row, handling, is_expired, number_of, parked, present};

@@ -12,7 +12,8 @@ use Rattle.xmpp_scram.specs.States.{group_goes_on, group_may_end}
 use Rattle.xmpp_scram.specs.Values.{IsBase64}
 use Rattle.xmpp_scram.specs.declared.base64_text.Group.{Group}
 use Rattle.xmpp_scram.specs.declared.base64_text.Group.TheVariants.{Whole, One, Two, Three, Padding, Padded}
-use Rattle.xmpp_scram.proofs.PassedTests.{chosen, if_some, map_some, within}
+use Rattle.xmpp_scram.proofs.PassedTests.{if_some, map_some, within}
+use Rattle.xmpp_basis.proofs.Conditions.{chosen}
 use Rattle.xmpp_scram.proofs.Runs.{behind, behind_first, behind_step}
 
 -- ---- symbols

@@ -11,7 +11,8 @@ use Rattle.xmpp_scram.specs.States.{tails_of, tails_step, where_so}
 use Rattle.xmpp_scram.specs.declared.values.Tails.{Tails}
 use Rattle.xmpp_scram.specs.declared.values.Tails.TheVariants.{One, Two, Three, AfterE0, AfterED, AfterF0, AfterF4}
 use Rattle.xmpp_scram.proofs.Runs.{behind, behind_first, behind_step}
-use Rattle.xmpp_scram.proofs.PassedTests.{chosen, if_some, map_some, not_eq, within, within_high, within_yes}
+use Rattle.xmpp_scram.proofs.PassedTests.{if_some, map_some, not_eq, within, within_high, within_yes}
+use Rattle.xmpp_basis.proofs.Conditions.{chosen}
 use Rattle.xmpp_scram.proofs.Utf8.{Leads, Rests, Tail, four, lead_text, three, two}
 
 -- inside a character or between two, where these bytes are characters

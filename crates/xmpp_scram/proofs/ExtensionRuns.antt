@@ -17,7 +17,8 @@ use Rattle.xmpp_scram.specs.declared.values.Until.TheVariants.{End, Proof}
 use Rattle.xmpp_scram.proofs.Characters.{allowed_found, char_end, char_on, utf8_found, utf8_only}
 use Rattle.xmpp_scram.proofs.Runs.{Stops, behind, behind_first, behind_more, behind_step}
 use Rattle.xmpp_scram.proofs.Sequences.{IsPart, stopped_part}
-use Rattle.xmpp_scram.proofs.PassedTests.{chosen, if_some, map_some, within}
+use Rattle.xmpp_scram.proofs.PassedTests.{if_some, map_some, within}
+use Rattle.xmpp_basis.proofs.Conditions.{chosen}
 
 plain_low : (b : ℕ) → is_value_ascii b ≡ true → b < 128
 plain_low b h = let w = within 1 127 b (and_parts (is_within 1 127 b) (not (b == 44)) h).0 in omega arith

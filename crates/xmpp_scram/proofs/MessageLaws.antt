@@ -18,7 +18,7 @@ use Rattle.xmpp_scram.proofs.NameRuns.{name_is}
 use Rattle.xmpp_scram.proofs.OtherMessages.{Bound, FinalSaid, Says, ServerRest, before_is, client_final_reads, final_from, final_to, server_final_from, server_final_reads, server_final_to, server_first_reads, server_from, server_to}
 use Rattle.xmpp_scram.proofs.Runs.{result_cases}
 use Rattle.xmpp_scram.proofs.Sequences.{After}
-use Rattle.xmpp_scram.proofs.PassedTests.{chosen}
+use Rattle.xmpp_basis.proofs.Conditions.{chosen}
 
 place_is : (a b : ℕ) → Malformed a ≡ Malformed b → a ≡ b
 place_is a b h = cc h

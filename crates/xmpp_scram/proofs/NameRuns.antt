@@ -17,7 +17,8 @@ use Rattle.xmpp_scram.proofs.Characters.{allowed_found, char_end, char_on, lead_
 use Rattle.xmpp_scram.proofs.Languages.{Closed}
 use Rattle.xmpp_scram.proofs.Runs.{Stops, behind, behind_first, behind_step}
 use Rattle.xmpp_scram.proofs.Sequences.{IsPart, run_part}
-use Rattle.xmpp_scram.proofs.PassedTests.{chosen, if_some, map_some, not_eq, within, within_high}
+use Rattle.xmpp_scram.proofs.PassedTests.{if_some, map_some, not_eq, within, within_high}
+use Rattle.xmpp_basis.proofs.Conditions.{chosen}
 
 abbrev ascii : ℕ → Bool
 ascii b = is_within 1 127 b

@@ -1,14 +1,10 @@
 -- Tests, and what passes them.
-use Rattle.std.proofs.Common.{◌≡◌, ℕ, ◌<◌, ◌≤◌, ◌⊎◌, Bool, true, false, cond, eqb, Option, Some, None, refl, sym, ◌∙◌, arith, inl, inr, eq-eqb, le-leb}
+use Rattle.std.proofs.Common.{◌≡◌, ℕ, ◌<◌, ◌≤◌, Bool, true, false, eqb, Option, Some, None, refl, sym, ◌∙◌, arith, eq-eqb, le-leb}
 use Rattle.std.proofs.lemmas.Bool.{and_parts, leb-true}
 use Rattle.std.proofs.lemmas.Bool.Decides.{nat_tests}
 use Rattle.std.specs.Option.{option_map}
 use Rattle.xmpp_scram.specs.Classes.{is_within}
 use Rattle.xmpp_scram.specs.States.{where_so}
-
-pub chosen : {A : Type 0} (b : Bool) (x y z : A) → cond b x y ≡ z → ((b ≡ true) × (x ≡ z)) ⊎ ((b ≡ false) × (y ≡ z))
-chosen true x y z h = inl (refl, h)
-chosen false x y z h = inr (refl, h)
 
 pub within : (low high b : ℕ) → is_within low high b ≡ true → (low ≤ b) × (b ≤ high)
 within low high b h = let parts = and_parts _ _ h in (leb-true low b parts.0, leb-true b high parts.1)

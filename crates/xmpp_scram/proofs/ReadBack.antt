@@ -7,8 +7,8 @@ use Rattle.std.proofs.Math.Seq.{take-append_seam}
 use Rattle.std.proofs.lemmas.List.Folds.{list_all-append}
 use Rattle.std.proofs.lemmas.Bool.{and_parts}
 use Rattle.std.proofs.lemmas.Bool.Decides.{nat_tests}
-use Rattle.std.proofs.lemmas.Slice.Eq.{bytes_eq-Decides}
 use Rattle.base64.specs.GeneralPurpose.{IsBytes}
+use Rattle.xmpp_basis.proofs.Bytes.{bytes_eq-self}
 use Rattle.xmpp_scram.specs.Agreement.{Given, GoesThrough, IsAllowed, server_given}
 use Rattle.xmpp_scram.specs.Classes.{is_printable}
 use Rattle.xmpp_scram.specs.Exchange.{ClientView, ReplyView, begun_client, check_of, client_final_message, client_final_without_proof, client_first_bare, client_first_message, expecting, is_count_taken, is_expected, is_plain, is_proof, last_of, replied, reply_of, reply_to, sent, server_final_message, server_first_message, then_judge, verifier_for}
@@ -36,11 +36,8 @@ pub record AreReadBack : Type 0 where
 
 -- ---- tests
 
-same_bytes : (xs : List ℕ) → bytes_eq xs xs ≡ true
-same_bytes xs = (bytes_eq-Decides xs xs).1 refl
-
 starts_with-front : (xs ys : List ℕ) → starts_with nat_eq (xs ++ ys) xs ≡ true
-starts_with-front xs ys = rw take-append_seam (same_bytes xs)
+starts_with-front xs ys = rw take-append_seam (bytes_eq-self xs)
 
 count_taken : (i : ℕ) → 4096 ≤ i → i ≤ 1000000 → is_count_taken i ≡ true
 count_taken i least most = grind (arith, nat_tests)
@@ -130,7 +127,7 @@ length-proof given =
 proves : (given : Given) → is_proof (stored given) (auth given) (Some (proof given)) ≡ true
 proves given =
     let key = xor_bytes-twice (client_key (salted given)) (signature given) (length-hmac_of _ _ ∙ sym (length-hmac_of _ _)) in
-    ap (λ k. bytes_eq (stored_key k) (stored given)) key ∙ same_bytes (stored given)
+    ap (λ k. bytes_eq (stored_key k) (stored given)) key ∙ bytes_eq-self (stored given)
 
 accepts : AreReadBack → (given : Given) → IsAllowed given
     → last_of (server_given given (first given)) (reply given).message ≡ Ok (server_final_message (verifier given))
@@ -144,14 +141,14 @@ accepts back given allowed =
     ∙ ap (sent server_final_message)
     (both_pass (Ok (verifier given)) (Err BadProof) (Err BadNonce)
     (bytes_eq (whole_nonce given) (whole_nonce given)) (is_proof (stored given) (auth given) (Some (proof given)))
-    (same_bytes (whole_nonce given)) (proves given))
+    (bytes_eq-self (whole_nonce given)) (proves given))
 
 checks : AreReadBack → (given : Given)
     → check_of (expecting (client given) (Ok (reply given))) (server_final_message (verifier given)) ≡ Ok tt
 checks back given =
     let read = back.server_final (verifier given) (IsBytes-hmac_of _ _) (length-hmac_of _ _) in
     ap (then_judge (is_expected (expecting (client given) (Ok (reply given))))) read
-    ∙ one_pass (Ok tt) (Err BadVerifier) (bytes_eq (verifier given) (verifier given)) (same_bytes (verifier given))
+    ∙ one_pass (Ok tt) (Err BadVerifier) (bytes_eq (verifier given) (verifier given)) (bytes_eq-self (verifier given))
 
 pub goes_through : AreReadBack → (given : Given) → IsAllowed given → GoesThrough given
 goes_through back given allowed = record {

@@ -2,6 +2,7 @@
 use Rattle.std.proofs.Common.{◌≡◌, ℕ, ◌<◌, ◌⊎◌, Bool, true, false, List, [], ◌∷◌, ◌++◌, length, drop, Option, Some, None, Result, Ok, Err, refl, sym, ap, ◌∙◌, arith, inl, inr}
 use Rattle.std.proofs.lemmas.List.{drop_more}
 use Rattle.std.specs.Option.{option_and_then}
+use Rattle.xmpp_basis.proofs.Options.{option_cases}
 use Rattle.xmpp_scram.specs.Parts.{Cut, with_first, ended, run, literal}
 
 -- the bytes end inside a word
@@ -15,10 +16,6 @@ Alike [] [] = Unit {0}
 Alike [] (c ∷ cs) = ⊥
 Alike (b ∷ bs) [] = ⊥
 Alike (b ∷ bs) (c ∷ cs) = b ≡ c
-
-pub option_cases : {A : Type 0} (o : Option A) → (o ≡ None) ⊎ ((x : A) × (o ≡ Some x))
-option_cases None = inl refl
-option_cases (Some x) = inr (x, refl)
 
 pub result_cases : {A E : Type 0} (r : Result A E) → ((x : A) × (r ≡ Ok x)) ⊎ ((e : E) × (r ≡ Err e))
 result_cases (Ok x) = inl (x, refl)

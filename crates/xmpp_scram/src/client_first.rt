@@ -134,7 +134,7 @@ fn first_parts(bytes: &[u8]) -> Result<FirstParts<'_>, Departure<'_>>
 /// with the place. Within the grammar, `Plus` comes exactly where its flag is `p`, and else `Authzid` exactly where it
 /// asks for an authorization identity. Memory is taken only where the answer is Ok.
 pub fn read_first(alloc: Global, bytes: &[u8]) -> Result<ClientFirst, ScramFault>
-    ensures { Judges (λ first. first) result (client_first_of bytes.now) }
+    ensures exact { Judges (λ first. first) result (client_first_of bytes.now) }
 {
     let parts = match first_parts(bytes) {
         Ok(parts) => parts,

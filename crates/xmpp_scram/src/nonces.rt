@@ -1,6 +1,7 @@
 //! Nonces and salts (RFC 5802, sections 5.1 and 7).
 ghost use Rattle.std.specs.Prelude.{◌≡◌, true};
 ghost use Rattle.std.specs.List.{list_all};
+ghost use Rattle.std.specs.Str.{IsUtf8};
 ghost use Rattle.xmpp_scram.specs.Classes.{is_printable};
 ghost use Rattle.xmpp_scram.specs.Exchange.{nonce_of, salt_of};
 ghost use Rattle.xmpp_scram.specs.Grammar.{is_nonce};
@@ -27,6 +28,7 @@ fn are_printable(bytes: &[u8]) -> bool
 pub fn nonce_of(drawn: &[u8; 18]) -> [u8; 24]
     ensures nonce { result ≡ nonce_of drawn.now }
     ensures within { is_nonce result ≡ true }
+    ensures text { IsUtf8 result }
 {
     let mut text = [0u8; 24];
     match STANDARD.encode_slice(drawn, &mut text) {

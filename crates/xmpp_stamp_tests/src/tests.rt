@@ -1,6 +1,6 @@
-use crate::{LAST_MOMENT, StampFault, read_stamp, stamp_text};
 use std::alloc::Global;
 use xmpp_edge::{NoMemory, Text};
+use xmpp_stamp::{LAST_MOMENT, StampFault, read_stamp, stamp_text};
 
 // The moments of stamps, by Python's `datetime`, which counts whole milliseconds down.
 static READ: [(&str, u64); 25] = [

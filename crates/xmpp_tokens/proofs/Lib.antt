@@ -1,24 +1,29 @@
-pub mod Utf8Runs
-pub mod Going
-pub mod Splits
-pub mod UntilLens
+-- ---- characters, UTF-8 and fronts of bytes
+pub mod CharacterLaws
+pub mod NameCharacters
 pub mod LetterNames
-pub mod ValueRuns
-pub mod ValueTexts
-pub mod ValueSpellings
+pub mod Splits
 pub mod Texts
-pub mod TagWords
+pub mod UntilLens
+pub mod Utf8Runs
+-- ---- references and values
+pub mod Ampersands
+pub mod Going
+pub mod PlainValues
+pub mod ValueRuns
+pub mod ValueSpellings
+pub mod ValueTexts
+-- ---- tags and declarations
+pub mod DeclarationGrammar
+pub mod DeclarationLaws
+pub mod EndNames
 pub mod InsideRuns
 pub mod TagLaws
-pub mod EndNames
 pub mod TagOutcomes
-pub mod DeclarationLaws
-pub mod SpellingRuns
-pub mod RoundTrips
-mod Worked
-pub mod DeclarationGrammar
+pub mod TagWords
 pub mod Unrestricted
-pub mod Ampersands
-pub mod PlainValues
-pub mod NameCharacters
-pub mod CharacterLaws
+-- ---- writing
+pub mod RoundTrips
+pub mod SpellingRuns
+-- ---- values at which the definitions are tried
+mod Worked

@@ -1,9 +1,12 @@
 -- What is written, a run of plain bytes or one escaped byte at a time.
 use Rattle.std.proofs.Common.{◌≡◌, ℕ, ◌+◌, ◌<◌, ◌≤◌, Bool, true, false, eqb, List, [], ◌∷◌, ◌++◌, length, refl, sym, ap, ◌∙◌, arith, ⊎_elim, append_assoc, length-append}
 use Rattle.std.proofs.lemmas.Bool.{cases_Bool, and_parts, or_parts, not-true}
+use Rattle.std.proofs.lemmas.Bool.Decides.{nat_tests}
 use Rattle.std.specs.List.{flat_map}
 use Rattle.xmpp_tokens.specs.Fronts.{front, behind}
-use Rattle.xmpp_tokens.specs.Spelling.{text_byte, value_byte, is_text_plain, is_value_plain}
+use Rattle.xmpp_tokens.specs.Spelling.{text_byte, value_byte, written_byte, is_text_plain, is_value_plain, is_plain_as}
+use Rattle.xmpp_tokens.specs.declared.written.Written.{Written}
+use Rattle.xmpp_tokens.specs.declared.written.Written.TheVariants.{Text, Value}
 use Rattle.xmpp_tokens.proofs.Splits.{behind_stops, length-joined}
 
 pub text_plain_is : (b : ℕ) → is_text_plain b ≡ true → text_byte b ≡ b ∷ []
@@ -21,6 +24,30 @@ value_plain_is b h =
     let p = or_parts (eqb b 39) _ (not-true _ s.1) in
     let q = or_parts (eqb b 9) _ p.1 in
     rw (p.0, q.0, q.1) (text_plain_is b s.0)
+
+pub plain_is : (form : Written) (b : ℕ) → is_plain_as form b ≡ true → written_byte form b ≡ b ∷ []
+plain_is Text b h = text_plain_is b h
+plain_is Value b h = value_plain_is b h
+
+-- what a text escapes, a value does, and in the same way
+pub text_needs : (b : ℕ) → is_text_plain b ≡ false → is_value_plain b ≡ false
+text_needs b h = rw h refl
+
+pub text_escaped_is : (b : ℕ) → is_text_plain b ≡ false → value_byte b ≡ text_byte b
+unfolding value_byte
+text_escaped_is b h =
+    let n39 : eqb b 39 ≡ false = grind (arith, nat_tests) in
+    let n9 : eqb b 9 ≡ false = grind (arith, nat_tests) in
+    let n10 : eqb b 10 ≡ false = grind (arith, nat_tests) in
+    rw (n39, n9, n10) refl
+
+pub needs : (form : Written) (b : ℕ) → is_plain_as form b ≡ false → is_value_plain b ≡ false
+needs Text b h = text_needs b h
+needs Value b h = h
+
+pub escaped_is : (form : Written) (b : ℕ) → is_plain_as form b ≡ false → value_byte b ≡ written_byte form b
+escaped_is Text b h = text_escaped_is b h
+escaped_is Value b h = refl
 
 module _ (f : ℕ → List ℕ) (p : ℕ → Bool) (plain_is : (b : ℕ) → p b ≡ true → f b ≡ b ∷ []) where
   run : (bs : List ℕ) → flat_map f bs ≡ front p bs ++ flat_map f (behind p bs)

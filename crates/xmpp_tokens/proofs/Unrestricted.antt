@@ -1,20 +1,21 @@
 -- A tag of the grammar has no reference with an unknown name in its quotes.
-use Rattle.std.proofs.Common.{◌≡◌, ℕ, Bool, true, false, cond, eqb, not, ◌&&◌, ◌||◌, List, [], ◌∷◌, ◌++◌, Option, Some, None, refl, sym, ap, subst, ◌∙◌, arith, ⊎_elim}
-use Rattle.std.proofs.lemmas.Bool.{cases_Bool, and_parts, and_from, and_left, and_right, or_parts, or_from, eqb-true, eq-eqb, false≢true, false_from_ne_true, not-true, not_from_false}
+use Rattle.std.proofs.Common.{◌≡◌, ℕ, Bool, true, false, cond, eqb, not, ◌&&◌, ◌||◌, List, [], ◌∷◌, ◌++◌, Option, Some, None, encode_utf8, append-nil, refl, sym, ap, subst, ◌∙◌, arith, ⊎_elim}
+use Rattle.std.proofs.lemmas.Bool.{cases_Bool, and_parts, and_from, and_right, or_parts, eq-eqb, false≢true, false_from_ne_true, not-true, not_from_false}
 use Rattle.std.proofs.lemmas.Bool.Decides.{nat_tests}
-use Rattle.std.proofs.lemmas.Option.{none-some}
 use Rattle.std.specs.List.{list_all}
 use Rattle.xmpp_basis.proofs.Conditions.{chosen}
-use Rattle.xmpp_tokens.specs.Characters.{is_white, is_digit, is_name_byte, is_name_start, are_characters}
+use Rattle.xmpp_basis.proofs.Lists.{list_all-weaker}
+use Rattle.xmpp_tokens.specs.Characters.{is_white, is_digit, is_name_byte, is_name_start}
 use Rattle.xmpp_tokens.specs.Fronts.{front, behind}
 use Rattle.xmpp_tokens.specs.References.{referred, is_hex_digit, number_goes_on, reference_goes_on, each_goes_on}
 use Rattle.xmpp_tokens.specs.Tags.{Attribute, Tag, start_tag, end_tag, is_quote, is_qualified_byte, are_white, IsSpelled, AreAttributes, tag_end, IsStartTag, IsTag, has_unknown_quoted, is_restricted}
-use Rattle.xmpp_tokens.specs.Values.{text, reference, in_front, said, value_from, value_of, as_text, is_unknown, begins_with, begins_unknown, has_unknown}
+use Rattle.xmpp_tokens.specs.ValueGrammar.{IsValue, IsValueData, SpellsValue, data_alone, with_reference}
+use Rattle.xmpp_tokens.specs.Values.{text, reference, said, value_from, is_unknown, begins_with, begins_unknown, has_unknown}
 use Rattle.xmpp_tokens.specs.declared.references.Reference.{Reference}
 use Rattle.xmpp_tokens.specs.declared.references.Reference.TheVariants.{Character, Unknown, Malformed}
 use Rattle.xmpp_tokens.proofs.Going.{references_go_on}
 use Rattle.xmpp_tokens.proofs.TagLaws.{qualified_all}
-use Rattle.xmpp_tokens.proofs.ValueSpellings.{says_value}
+use Rattle.xmpp_tokens.proofs.ValueSpellings.{reference_said, spelled_is_said}
 use Rattle.xmpp_tokens.proofs.ValueRuns.{ended, reference_run}
 
 -- ---- a value has none
@@ -24,10 +25,6 @@ said_tells (Character c) None v e = absurd cc
 said_tells (Character c) (Some w) v e = ((c, refl), (w, refl))
 said_tells Unknown o v e = absurd cc
 said_tells Malformed o v e = absurd cc
-
-in_front_tells : (more : List ℕ) (o : Option (List ℕ)) (v : List ℕ) → in_front more o ≡ Some v → (w : List ℕ) × (o ≡ Some w)
-in_front_tells more None v e = absurd cc
-in_front_tells more (Some w) v e = (w, refl)
 
 pub ended_tells : (name rest v : List ℕ) → ended name rest ≡ Some v → (c : ℕ) × (referred name ≡ Character c)
 ended_tells name [] v e = absurd cc
@@ -66,10 +63,6 @@ each_no_ampersand so (b ∷ bs) h =
 character_no_ampersand : (name : List ℕ) (c : ℕ) → referred name ≡ Character c → list_all (λ b. not (eqb b 38)) name ≡ true
 character_no_ampersand name c e = each_no_ampersand [] name (references_go_on name (λ bad. let clash : Malformed ≡ Character c = sym bad ∙ e in cc))
 
-inside_name : (so more : List ℕ) (b : ℕ) → list_all (λ b. not (eqb b 38)) ((so ++ b ∷ []) ++ more) ≡ true → eqb b 38 ≡ false
-inside_name [] more b h = not-true _ (and_parts (not (eqb b 38)) _ h).0
-inside_name (x ∷ xs) more b h = inside_name xs more b (and_parts (not (eqb x 38)) _ h).1
-
 -- where a name and `;` begin, the reference ends there
 fronts_same : (bs : List ℕ) → begins_with 59 (behind is_name_byte bs) ≡ true → front (λ b. not (eqb b 59)) bs ≡ front is_name_byte bs
 fronts_same [] h = refl
@@ -95,46 +88,21 @@ not_unknown bs v e =
     let known : referred (front is_name_byte bs) ≡ Character t.0 = ap referred (sym (fronts_same bs p.0)) ∙ t.1 in
     false≢true (sym (ap is_unknown known) ∙ p.1))
 
-other_than : (b n : ℕ) → eqb b n ≡ true → eqb n 38 ≡ false → eqb b 38 ≡ false
-other_than b n e h = subst (λ x. eqb x 38 ≡ false) (sym (eqb-true b n e)) h
+-- bytes without `&` change nothing
+passed : (plain rest : List ℕ) → list_all (λ b. not (eqb b 38)) plain ≡ true → has_unknown (plain ++ rest) ≡ has_unknown rest
+passed [] rest h = refl
+passed (b ∷ bs) rest h = let p = and_parts (not (eqb b 38)) _ h in rw (not-true _ p.0) (passed bs rest p.1)
 
-unknown_behind : (b : ℕ) (bs : List ℕ) → eqb b 38 ≡ false → has_unknown bs ≡ false → has_unknown (b ∷ bs) ≡ false
-unknown_behind b bs other rest = or_from (eqb b 38 && begins_unknown bs) (has_unknown bs) (and_left _ _ other) rest
+no_reference : (plain : List ℕ) → IsValueData plain → list_all (λ b. not (eqb b 38)) plain ≡ true
+no_reference plain h = list_all-weaker (λ b. not (eqb b 60 || eqb b 38)) (λ b. not (eqb b 38)) (λ b e. not_from_false _ (or_parts (eqb b 60) (eqb b 38) (not-true _ e)).1) plain h
 
-no_ampersand_in : (bs so : List ℕ) (b : ℕ) (v : List ℕ) → value_from (reference (so ++ b ∷ [])) bs ≡ Some v → eqb b 38 ≡ false
-no_ampersand_in bs so b v e =
-    let t = ended_tells ((so ++ b ∷ []) ++ front (λ b. not (eqb b 59)) bs) (behind (λ b. not (eqb b 59)) bs) v (sym (reference_run (so ++ b ∷ []) bs) ∙ e) in
-    inside_name so (front (λ b. not (eqb b 59)) bs) b (character_no_ampersand ((so ++ b ∷ []) ++ front (λ b. not (eqb b 59)) bs) t.0 t.1)
-
-mutual
-  text_known : (bs : List ℕ) (returned : Bool) (v : List ℕ) → value_from (text returned) bs ≡ Some v → has_unknown bs ≡ false
-  text_known [] returned v e = refl
-  text_known (b ∷ bs) returned v e =
-      ⊎_elim (λ c. unknown_behind b bs (other_than b 10 (and_parts returned _ c.0).1 refl) (text_known bs false v c.1))
-      (λ c. ⊎_elim (λ d. or_from (eqb b 38 && begins_unknown bs) (has_unknown bs) (and_right (eqb b 38) (begins_unknown bs) (not_unknown bs v d.1)) (reference_known bs [] v d.1))
-      (λ d. ⊎_elim (λ f. absurd (none-some v f.1))
-      (λ f. ⊎_elim (λ g. let w = in_front_tells (32 ∷ []) (value_from (text true) bs) v g.1 in unknown_behind b bs d.0 (text_known bs true w.0 w.1))
-      (λ g. ⊎_elim (λ i. let w = in_front_tells (32 ∷ []) (value_from (text false) bs) v i.1 in unknown_behind b bs d.0 (text_known bs false w.0 w.1))
-      (λ i. let w = in_front_tells (b ∷ []) (value_from (text false) bs) v i.1 in unknown_behind b bs d.0 (text_known bs false w.0 w.1))
-      (chosen (eqb b 9 || eqb b 10) _ _ (Some v) g.1)) (chosen (eqb b 13) _ _ (Some v) f.1)) (chosen (eqb b 60) _ _ (Some v) d.1)) (chosen (eqb b 38) _ _ (Some v) c.1))
-      (chosen (returned && eqb b 10) _ _ (Some v) e)
-
-  reference_known : (bs so : List ℕ) (v : List ℕ) → value_from (reference so) bs ≡ Some v → has_unknown bs ≡ false
-  reference_known [] so v e = refl
-  reference_known (b ∷ bs) so v e =
-      ⊎_elim
-      (λ end. let w = (said_tells (referred so) (value_from (text false) bs) v end.1).1 in unknown_behind b bs (other_than b 59 end.0 refl) (text_known bs false w.0 w.1))
-      (λ on. unknown_behind b bs (no_ampersand_in bs so b v on.1) (reference_known bs (so ++ b ∷ []) v on.1))
-      (chosen (eqb b 59) _ _ (Some v) e)
-
-as_text_tells : (o : Option (List ℕ)) (v : List ℕ) → as_text o ≡ Some v → (w : List ℕ) × (o ≡ Some w)
-as_text_tells None v e = absurd cc
-as_text_tells (Some w) v e = (w, refl)
-
-value_known : (raw v : List ℕ) → value_of raw ≡ Some v → has_unknown raw ≡ false
-unfolding value_of
-value_known raw v e =
-    ⊎_elim (λ c. let w = as_text_tells (value_from (text false) raw) v c.1 in text_known raw false w.0 w.1) (λ c. absurd (none-some v c.1)) (chosen (are_characters raw) _ _ (Some v) e)
+value_known : (raw v : List ℕ) → SpellsValue raw v → has_unknown raw ≡ false
+value_known raw v (data_alone _ _ plain says) = ap has_unknown (sym (append-nil raw)) ∙ passed raw [] (no_reference raw plain)
+value_known raw v (with_reference _ _ plain name rest more c plainly known spelled is says) =
+    let after = name ++ (59 ∷ rest) in
+    let here : begins_unknown after ≡ false = not_unknown after (encode_utf8 c ++ more) (reference_said name rest more c known (spelled_is_said rest more spelled)) in
+    ap has_unknown is ∙ passed plain (38 ∷ after) (no_reference plain plainly)
+    ∙ ap (λ b. b || has_unknown after) here ∙ passed name (59 ∷ rest) (character_no_ampersand name c known) ∙ value_known rest more spelled
 
 -- ---- a tag has none
 
@@ -191,7 +159,7 @@ name_unquoted (x ∷ xs) h = let p = and_parts (is_qualified_byte x) _ h in and_
 opening_run : (q : ℕ) (rest : List ℕ) → is_quote q ≡ true → has_unknown_quoted None (q ∷ rest) ≡ has_unknown_quoted (Some q) rest
 opening_run q rest h = rw h refl
 
-attribute_run : (bytes name raw rest v : List ℕ) → IsSpelled bytes name raw rest → value_of raw ≡ Some v → has_unknown_quoted None bytes ≡ has_unknown_quoted None rest
+attribute_run : (bytes name raw rest v : List ℕ) → IsSpelled bytes name raw rest → IsValue raw v → has_unknown_quoted None bytes ≡ has_unknown_quoted None rest
 attribute_run bytes name raw rest v h value =
     let opened = h.quote ∷ (raw ++ (h.quote ∷ rest)) in
     let gap = h.before ++ (61 ∷ (h.after ++ opened)) in
@@ -201,11 +169,11 @@ attribute_run bytes name raw rest v h value =
     ∙ unquoted_run h.before (61 ∷ (h.after ++ opened)) (white_unquoted h.before h.before_white)
     ∙ unquoted_run h.after opened (white_unquoted h.after h.after_white)
     ∙ opening_run h.quote (raw ++ (h.quote ∷ rest)) h.quote_is
-    ∙ quoted_run h.quote raw rest h.quote_is h.raw_inside (value_known raw v value)
+    ∙ quoted_run h.quote raw rest h.quote_is h.raw_inside (value_known raw v value.spelled)
 
 attributes_run : (attributes : List Attribute) (bytes rest : List ℕ) → AreAttributes bytes attributes rest → has_unknown_quoted None bytes ≡ has_unknown_quoted None rest
 attributes_run [] bytes rest h = ap (has_unknown_quoted None) h
-attributes_run (a ∷ more) bytes rest h = attribute_run bytes a.name h.1.0 h.0 a.value h.1.1 (says_value h.1.0 a.value h.1.2) ∙ attributes_run more h.0 rest h.2
+attributes_run (a ∷ more) bytes rest h = attribute_run bytes a.name h.1.0 h.0 a.value h.1.1 h.1.2 ∙ attributes_run more h.0 rest h.2
 
 end_known : (empty : Bool) → has_unknown_quoted None (tag_end empty) ≡ false
 end_known true = refl

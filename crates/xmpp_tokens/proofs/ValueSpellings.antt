@@ -108,7 +108,7 @@ name_unended name c e = each_unended [] name (references_go_on name (λ bad. let
 
 -- ---- what is spelled is read
 
-reference_said : (name rest more : List ℕ) (c : ℕ) → referred name ≡ Character c → value_from (text false) rest ≡ Some more → value_from (reference []) (name ++ (59 ∷ rest)) ≡ Some (encode_utf8 c ++ more)
+pub reference_said : (name rest more : List ℕ) (c : ℕ) → referred name ≡ Character c → value_from (text false) rest ≡ Some more → value_from (reference []) (name ++ (59 ∷ rest)) ≡ Some (encode_utf8 c ++ more)
 reference_said name rest more c known is =
     let all = name_unended name c known in
     reference_run [] (name ++ (59 ∷ rest))

@@ -2,6 +2,8 @@
 use Rattle.std.specs.Prelude.{ℕ, ◌==◌, Bool, true, false, not, ◌&&◌, ◌||◌, if◌then◌else◌, List, [], ◌∷◌, ◌++◌, Option, Some, None, codes}
 use Rattle.std.specs.List.{flat_map}
 use Rattle.xmpp_tokens.specs.References.{referred}
+use Rattle.xmpp_tokens.specs.declared.written.Written.{Written}
+use Rattle.xmpp_tokens.specs.declared.written.Written.TheVariants.{Text, Value}
 use Rattle.xmpp_tokens.specs.Values.{InHand, text, reference, in_front, said}
 
 -- what a text escapes: `&`, `<`, `>`, and CR, which would be read as a line feed
@@ -32,6 +34,19 @@ is_text_plain b = not (b == 38 || (b == 60 || (b == 62 || b == 13)))
 -- a byte that a value is written with as it is
 abbrev pub is_value_plain : ℕ → Bool
 is_value_plain b = is_text_plain b && not (b == 39 || (b == 9 || b == 10))
+
+-- a byte, as a text or a value is written with it
+abbrev pub written_byte : Written → ℕ → List ℕ
+written_byte Text b = text_byte b
+written_byte Value b = value_byte b
+
+abbrev pub written : Written → List ℕ → List ℕ
+written form bytes = flat_map (written_byte form) bytes
+
+-- a byte that a text or a value is written with as it is
+abbrev pub is_plain_as : Written → ℕ → Bool
+is_plain_as Text b = is_text_plain b
+is_plain_as Value b = is_value_plain b
 
 -- The text that bytes between tags say, but for `]]>` and CDATA sections: references are replaced, and a line end (a
 -- carriage return, a line feed, or the two in this order) is a line feed. `<` says nothing.

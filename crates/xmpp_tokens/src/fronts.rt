@@ -8,6 +8,7 @@ ghost use Rattle.xmpp_tokens.specs.Tags;
 ghost use Rattle.xmpp_tokens.specs.Values;
 
 use crate::characters::{is_name_byte, is_white};
+use crate::written::Written;
 use memchr::memchr;
 
 fn name_len(bytes: &[u8]) -> usize
@@ -115,7 +116,8 @@ pub(crate) fn split_qualified(bytes: &[u8]) -> (&[u8], &[u8])
     bytes.split_at(qualified_len(bytes))
 }
 
-fn is_text_plain(b: u8) -> bool
+// Whether a text is written with a byte as it is.
+pub(crate) fn is_text_plain(b: u8) -> bool
     ensures { result ≡ Spelling.is_text_plain b }
 {
     b != b'&' && b != b'<' && b != b'>' && b != b'\r'
@@ -129,14 +131,15 @@ fn text_plain_len(bytes: &[u8]) -> usize
 
 // The bytes that a text is written with as they are, and the rest.
 #[tactic(auto, using(crate::proofs::Splits::take_prefix, crate::proofs::Splits::drop_prefix, crate::proofs::Splits::prefix_within))]
-pub(crate) fn split_text_plain(bytes: &[u8]) -> (&[u8], &[u8])
+fn split_text_plain(bytes: &[u8]) -> (&[u8], &[u8])
     ensures front { result.0.now ≡ front Spelling.is_text_plain bytes.now }
     ensures behind { result.1.now ≡ behind Spelling.is_text_plain bytes.now }
 {
     bytes.split_at(text_plain_len(bytes))
 }
 
-fn is_value_plain(b: u8) -> bool
+// Whether a value is written with a byte as it is.
+pub(crate) fn is_value_plain(b: u8) -> bool
     ensures { result ≡ Spelling.is_value_plain b }
 {
     is_text_plain(b) && b != b'\'' && b != b'\t' && b != b'\n'
@@ -150,9 +153,20 @@ fn value_plain_len(bytes: &[u8]) -> usize
 
 // The bytes that a value is written with as they are, and the rest.
 #[tactic(auto, using(crate::proofs::Splits::take_prefix, crate::proofs::Splits::drop_prefix, crate::proofs::Splits::prefix_within))]
-pub(crate) fn split_value_plain(bytes: &[u8]) -> (&[u8], &[u8])
+fn split_value_plain(bytes: &[u8]) -> (&[u8], &[u8])
     ensures front { result.0.now ≡ front Spelling.is_value_plain bytes.now }
     ensures behind { result.1.now ≡ behind Spelling.is_value_plain bytes.now }
 {
     bytes.split_at(value_plain_len(bytes))
+}
+
+// The bytes that are written as they are, and the rest.
+pub(crate) fn split_plain_as(form: Written, bytes: &[u8]) -> (&[u8], &[u8])
+    ensures front { result.0.now ≡ front (Spelling.is_plain_as form) bytes.now }
+    ensures behind { result.1.now ≡ behind (Spelling.is_plain_as form) bytes.now }
+{
+    match form {
+        Written::Text => split_text_plain(bytes),
+        Written::Value => split_value_plain(bytes),
+    }
 }

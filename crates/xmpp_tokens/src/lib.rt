@@ -15,6 +15,7 @@ mod spelling;
 mod tags;
 mod utf8;
 mod values;
+mod written;
 
 pub use attributes::is_quote;
 pub use characters::{

@@ -1,6 +1,9 @@
 use crate::attributes::Attrs;
 use xmpp_edge::{ListOf, Text};
 
+// The namespace is a text of its own in each element, and its name is copied there. A tree leaves the stream that it came
+// from: it is moved into queues and archives, and outlives the tags whose declarations it could borrow.
+
 /// An element: its namespace, which is empty where it has none, its name without a prefix, its attributes, and what it
 /// contains in order (XML 1.0, section 3). It need not keep the rule of a `Tree`. Contracts see it through `elem_view`.
 ///

@@ -1,4 +1,9 @@
 //! Elements, headers and footers as they are written (RFC 6120, section 4).
+//!
+//! A tree is written in two walks: one for the length (`tag_lengths`), and, once all room is reserved, one that
+//! writes and so has no refusal (`tag_writing`). Each call is given the default namespace in force; what it
+//! declares holds only inside. A text and a value go by runs: the longest prefix without a byte to escape, then
+//! the escape.
 ghost use Rattle.std.specs.Prelude.{◌≡◌, ◌+◌, ◌-◌, ◌<◌, ◌≤◌, ◌^◌, ◌++◌, length, min, OnErr, OnOk};
 ghost use Rattle.xmpp_writer.specs.Canon;
 ghost use Rattle.xmpp_writer.specs.Canon.{canon, written, written_footer, written_given, written_header, written_inside, written_nodes};

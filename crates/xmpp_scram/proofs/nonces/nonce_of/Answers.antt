@@ -3,6 +3,7 @@ use Rattle.base64.specs.Engines.{standard}
 use Rattle.base64.specs.GeneralPurpose.{encode_of, encoded_size_of}
 use Rattle.xmpp_scram.specs.Exchange.{base64_of}
 use Rattle.xmpp_scram.proofs.DrawnNonces.{drawn_is_nonce}
+use Rattle.xmpp_scram.proofs.ReadTexts.{nonce_text}
 use Rattle.xmpp_scram.proofs.Spelled.{append-drop_all}
 use Rattle.xmpp_scram.proofs.nonces.nonce_of.Goals as goal
 
@@ -15,3 +16,6 @@ pub returns-clause-within : goal.returns-clause-within
 unfolding base64_of
 returns-clause-within c =
     rw (returns-clause-nonce c) (drawn_is_nonce c.args.drawn.now c.fits-drawn c.told-drawn)
+
+pub returns-clause-text : goal.returns-clause-text
+returns-clause-text c = nonce_text c.encode_slice.new.output (returns-clause-within c)

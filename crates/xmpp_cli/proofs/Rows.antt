@@ -1,0 +1,129 @@
+-- What the clauses `answered` and `exactly` of `run` say of each status and command, one by one.
+use Rattle.std.proofs.Common.{◌≡◌, ◌≢◌, true, false, ℕ, ◌<◌, ◌≤◌, subst, List, length, Option, Some, None, Err, IfSome, IsTrue, ◌⊎◌, inl, inr, refl, ◌∙◌, sym, arith}
+use Rattle.std.proofs.lemmas.Bool.Decides.{eqb_tells, nat_tests}
+use Rattle.std.specs.Io.KnownBytes.{IsAtEnd}
+use Rattle.xmpp_edge.specs.declared.whole_reads.TheConstants.{MOST_BYTES_READ}
+use Rattle.xmpp_check.specs.Checked.{told}
+use Rattle.xmpp_schedule.specs.Grammar.{InGrammar}
+use Rattle.xmpp_schedule.specs.Reading.{reading}
+use Rattle.xmpp_schedule.specs.declared.fault.LineWhy.{LineWhy}
+use Rattle.xmpp_schedule.specs.declared.fault.ScheduleFault.TheVariants.{BadLine}
+use Rattle.xmpp_cli.specs.Texts.{words_line, read_fault_line, too_long_line, bad_line}
+use Rattle.xmpp_cli.specs.Words.{reads}
+use Rattle.xmpp_cli.specs.Table.{code_of, is_status, Due, MustAnswer}
+use Rattle.xmpp_cli.specs.declared.command.Command.{Command}
+use Rattle.xmpp_cli.specs.declared.command.Command.TheVariants.{Help, Version, Replay, Check}
+use Rattle.xmpp_cli.specs.declared.outcome.Outcome.{Outcome}
+use Rattle.xmpp_cli.specs.declared.outcome.Outcome.TheVariants.{Done, WrongWords, Refused, ReadFault, TooLong}
+use Rattle.xmpp_cli.specs.declared.texts.TheConstants.{HELP, VERSION}
+
+module _ (known left : Option (List ℕ)) (rose calm still : Type 0) (Written : List ℕ → Type 0) (result : ℕ) where
+  abbrev Answered : Option Command → Type 0
+  Answered command = (outcome : Outcome) → result ≡ code_of outcome → (text : List ℕ) × Due command known left rose outcome text × Written text
+
+  abbrev Exactly : Option Command → Type 0
+  Exactly command = (outcome : Outcome) → MustAnswer command known calm outcome → still → (result ≡ code_of outcome) ⊎ (result ≡ 6)
+
+  done_help : (command : Option Command) → Answered command → result ≡ 0 → command ≡ Some Help → Written HELP.now
+  done_help command answer zero e =
+      let (text, due, out) = answer Done zero in
+      subst Written (subst (λ c. Due c known left rose Done text) e due).0 out
+
+  done_version : (command : Option Command) → Answered command → result ≡ 0 → command ≡ Some Version → Written VERSION.now
+  done_version command answer zero e =
+      let (text, due, out) = answer Done zero in
+      subst Written (subst (λ c. Due c known left rose Done text) e due).0 out
+
+  done_check : (command : Option Command) → Answered command → result ≡ 0 → command ≡ Some Check →
+      (stream : List ℕ) × IfSome known (λ input. input ≡ stream) × IsAtEnd left × ((told stream).sound ≡ true) × Written (told stream).text
+  done_check command answer zero e =
+      let (text, due, out) = answer Done zero in
+      let ((stream, is, sound, text_is), whole) = subst (λ c. Due c known left rose Done text) e due in
+      (stream, is, (whole refl).ended, sound, subst Written text_is out)
+
+  refused_check : (command : Option Command) → Answered command → result ≡ 3 → command ≡ Some Check →
+      (stream : List ℕ) × IfSome known (λ input. input ≡ stream) × IsAtEnd left × ((told stream).sound ≡ false) × Written (told stream).text
+  refused_check command answer three e =
+      let (text, due, out) = answer Refused three in
+      let ((stream, is, sound, text_is), whole) = subst (λ c. Due c known left rose Refused text) e due in
+      (stream, is, (whole refl).ended, sound, subst Written text_is out)
+
+  refused : (command : Option Command) → Answered command → result ≡ 3 → command ≡ Some Replay → IsAtEnd left
+      × ((line : ℕ) × (reason : LineWhy) × IfSome known (λ input. (reading input ≡ Err (BadLine line reason)) × ¬ (InGrammar input)) × Written (bad_line line reason))
+  refused command answer three e =
+      let (text, due, out) = answer Refused three in
+      let ((line, reason, why, text_is), whole) = subst (λ c. Due c known left rose Refused text) e due in
+      ((whole refl).ended, (line, reason, why, subst Written text_is out))
+
+  refused_command : (command : Option Command) → Answered command → result ≡ 3 → reads command ≡ true
+  refused_command None answer three = let (text, due, out) = answer Refused three in absurd due
+  refused_command (Some Help) answer three = let (text, due, out) = answer Refused three in absurd due.0
+  refused_command (Some Version) answer three = let (text, due, out) = answer Refused three in absurd due.0
+  refused_command (Some Replay) answer three = refl
+  refused_command (Some Check) answer three = refl
+
+  words : (command : Option Command) → Answered command → result ≡ 2 → (command ≡ None) × Written words_line
+  words None answer two = let (text, due, out) = answer WrongWords two in (refl, subst Written due out)
+  words (Some command) answer two = let (text, due, out) = answer WrongWords two in absurd due.0
+
+  read_fault : (command : Option Command) → Answered command → result ≡ 4 → (reads command ≡ true) × rose × Written read_fault_line
+  read_fault None answer four = let (text, due, out) = answer ReadFault four in absurd due
+  read_fault (Some command) answer four = let (text, due, out) = answer ReadFault four in (due.0, due.1, subst Written due.2 out)
+
+  too_long : (command : Option Command) → Answered command → result ≡ 11 → (reads command ≡ true) × IfSome known (λ input. MOST_BYTES_READ < length input) × Written too_long_line
+  too_long None answer eleven = let (text, due, out) = answer TooLong eleven in absurd due
+  too_long (Some command) answer eleven = let (text, due, out) = answer TooLong eleven in (due.0, due.1, subst Written due.2 out)
+
+  words_only : (command : Option Command) → Answered command → IsTrue (is_status result) → command ≡ None → (result ≡ 2) ⊎ (result ≡ 5) ⊎ (result ≡ 6)
+  words_only command answer status e =
+      let none : (outcome : Outcome) → outcome ≢ WrongWords → result ≢ code_of outcome = never command answer e in
+      elim (eqb_tells result 2) [
+        | inl two ↦ inl two.1
+        | inr a ↦ elim (eqb_tells result 5) [
+          | inl five ↦ inr (inl five.1)
+          | inr b ↦ elim (eqb_tells result 6) [
+            | inl six ↦ inr (inr six.1)
+            | inr c ↦ absurd (left_over status a.1 b.1 c.1 (none Done (λ s. cc)) (none Refused (λ s. cc)) (none ReadFault (λ s. cc)) (none TooLong (λ s. cc)))
+          ]
+        ]
+      ]
+    where
+      never : (command : Option Command) → Answered command → command ≡ None → (outcome : Outcome) → outcome ≢ WrongWords → result ≢ code_of outcome
+      never None answer e Done other is = let (text, due, out) = answer Done is in due
+      never None answer e WrongWords other is = other refl
+      never None answer e Refused other is = let (text, due, out) = answer Refused is in due
+      never None answer e ReadFault other is = let (text, due, out) = answer ReadFault is in due
+      never None answer e TooLong other is = let (text, due, out) = answer TooLong is in due
+      never (Some c) answer e outcome other is = cc
+
+      left_over : IsTrue (is_status result) → result ≢ 2 → result ≢ 5 → result ≢ 6 → result ≢ 0 → result ≢ 3 → result ≢ 4 → result ≢ 11 → ⊥
+      left_over status a b c d e f g = grind (arith, nat_tests)
+
+module _ (rose calm still : Type 0) (result : ℕ) where
+  complete_help : (known : Option (List ℕ)) (command : Option Command) → Exactly known None rose calm still (λ text. Unit {0}) result command → command ≡ Some Help → still → (result ≡ 0) ⊎ (result ≡ 6)
+  complete_help known command exactly e quiet = exactly Done (subst (λ c. MustAnswer c known calm Done) (sym e) refl) quiet
+
+  complete : (known : Option (List ℕ)) (command : Option Command) → Exactly known None rose calm still (λ text. Unit {0}) result command → command ≡ Some Replay → calm → still →
+      IfSome known (λ input. length input ≤ MOST_BYTES_READ → InGrammar input → (result ≡ 0) ⊎ (result ≡ 6))
+  complete None command exactly e read quiet = tt
+  complete (Some input) command exactly e read quiet = λ short good. exactly Done (subst (λ c. MustAnswer c (Some input) calm Done) (sym e) (read, (short, good))) quiet
+
+  refused_only : (known : Option (List ℕ)) (command : Option Command) → Exactly known None rose calm still (λ text. Unit {0}) result command → command ≡ Some Replay → calm → still →
+      IfSome known (λ input. length input ≤ MOST_BYTES_READ → ¬ (InGrammar input) → (result ≡ 3) ⊎ (result ≡ 6))
+  refused_only None command exactly e read quiet = tt
+  refused_only (Some input) command exactly e read quiet = λ short bad. exactly Refused (subst (λ c. MustAnswer c (Some input) calm Refused) (sym e) (read, (short, bad))) quiet
+
+  refused_check_only : (known : Option (List ℕ)) (command : Option Command) → Exactly known None rose calm still (λ text. Unit {0}) result command → command ≡ Some Check → calm → still →
+      IfSome known (λ input. length input ≤ MOST_BYTES_READ → (told input).sound ≡ false → (result ≡ 3) ⊎ (result ≡ 6))
+  refused_check_only None command exactly e read quiet = tt
+  refused_check_only (Some input) command exactly e read quiet = λ short bad.
+      exactly Refused (subst (λ c. MustAnswer c (Some input) calm Refused) (sym e) (read, (short, λ good. let both : true ≡ false = sym good ∙ bad in cc))) quiet
+
+  too_long_only : (known : Option (List ℕ)) (command : Option Command) → Exactly known None rose calm still (λ text. Unit {0}) result command → reads command ≡ true → calm → still →
+      IfSome known (λ input. MOST_BYTES_READ < length input → (result ≡ 11) ⊎ (result ≡ 6))
+  too_long_only None command exactly e read quiet = tt
+  too_long_only (Some input) (Some Replay) exactly e read quiet = λ long. exactly TooLong (read, long) quiet
+  too_long_only (Some input) (Some Check) exactly e read quiet = λ long. exactly TooLong (read, long) quiet
+  too_long_only (Some input) (Some Help) exactly e read quiet = absurd cc
+  too_long_only (Some input) (Some Version) exactly e read quiet = absurd cc
+  too_long_only (Some input) None exactly e read quiet = absurd cc
