@@ -45,6 +45,9 @@ pub mod ReadOutside
 pub mod TextHands
 pub mod ReadInside
 pub mod ReadStreams
+-- what is unfinished
+pub mod PrefixSteps
+pub mod PrefixRuns
 -- definitions at values
 mod WorkedGrammar
 mod WorkedReadings

@@ -69,14 +69,14 @@ goes t b bytes h =
     cond_both (is_too_long t.state b) long (if not (continues t.state.pending b) then broken else on) E (λ e. failed t _ _ b bytes)
     (λ e. cond_both (not (continues t.state.pending b)) broken on E (λ f. failed t _ _ b bytes) (λ f. taken_byte t b bytes h (not-false (continues t.state.pending b) f)))
 
-none_there : (o : Option Fault) → is_some o ≡ false → o ≡ None
+pub none_there : (o : Option Fault) → is_some o ≡ false → o ≡ None
 none_there None e = refl
 none_there (Some f) e = absurd (true≢false e)
 
 fault_there : (o : Option Fault) → is_some o ≡ true → o ≡ None → ⊥
 fault_there o e none = true≢false (sym e ∙ ap is_some none)
 
-stepped : (t : Turn) (b : ℕ) (bytes : List ℕ) → Explained t bytes → Explained (step t b) (bytes ++ b ∷ [])
+pub stepped : (t : Turn) (b : ℕ) (bytes : List ℕ) → Explained t bytes → Explained (step t b) (bytes ++ b ∷ [])
 stepped t b bytes h =
     cond_both (is_some t.state.fault) t (goes_on t b) (λ u. Explained u (bytes ++ b ∷ []))
     (λ e none. absurd (fault_there t.state.fault e none)) (λ e. goes t b bytes (h (none_there t.state.fault e)))
@@ -85,7 +85,7 @@ ran : (bs : List ℕ) (t : Turn) (bytes : List ℕ) → Explained t bytes → Ex
 ran [] t bytes h = subst (Explained t) (sym (append-nil bytes)) h
 ran (b ∷ bs) t bytes h = subst (Explained (run (step t b) bs)) (append_assoc bytes (b ∷ []) bs) (ran bs (step t b) (bytes ++ b ∷ []) (stepped t b bytes h))
 
-begins : (limits : Limits) → limits.attributes < 2 ^ 32 → limits.namespace_bytes < 2 ^ 32 → Explained (turn (from_start limits) []) []
+pub begins : (limits : Limits) → limits.attributes < 2 ^ 32 → limits.namespace_bytes < 2 ^ 32 → Explained (turn (from_start limits) []) []
 begins limits few short none = record {
   kept = record { at_is = refl; not_spent = refl; few_attributes = few; short_namespaces = short };
   hand = (refl, (refl, λ p. nothing (in_force phase.First [] []) [] [] refl refl refl refl refl));
@@ -111,7 +111,7 @@ nothing_left (x ∷ xs) e = absurd (true≢false e)
 some_place : (n : ℕ) → Some n ≡ None → ⊥
 some_place n e = cc
 
-is_whole : (s : State) (items : List Item) (bytes : List ℕ) → s.fault ≡ None → part_of s ≡ None → Read (turn s items) bytes → IsStream bytes items
+pub is_whole : (s : State) (items : List Item) (bytes : List ℕ) → s.fault ≡ None → part_of s ≡ None → Read (turn s items) bytes → IsStream bytes items
 unfolding part_of
 is_whole s items bytes none part h =
     let open_here = is_some s.here || (not (is_text s.lexical.mode) || not (is_empty s.pending)) in

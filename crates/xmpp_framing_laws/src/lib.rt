@@ -5,5 +5,6 @@
 
 pub mod faults;
 pub mod grammar;
+pub mod prefixes;
 pub mod reading;
 pub mod writing;
