@@ -48,6 +48,9 @@ pub mod ReadStreams
 -- what is unfinished
 pub mod PrefixSteps
 pub mod PrefixRuns
+-- where tokens begin
+pub mod OffsetSteps
+pub mod OffsetRuns
 -- definitions at values
 mod WorkedGrammar
 mod WorkedReadings

@@ -4,6 +4,7 @@ pub mod Spells
 pub mod Plain
 pub mod Streams
 pub mod Prefixes
+pub mod Offsets
 -- machine: where a framer stands, and which byte decides which fault
 pub mod Standing
 pub mod FaultRows

@@ -5,6 +5,7 @@
 
 pub mod faults;
 pub mod grammar;
+pub mod offsets;
 pub mod prefixes;
 pub mod reading;
 pub mod writing;
