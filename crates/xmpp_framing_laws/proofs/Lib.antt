@@ -39,6 +39,7 @@ pub mod StreamRuns
 -- what is read is spelled
 pub mod ReadCharacters
 pub mod TextFronts
+pub mod WithinParts
 pub mod OpenLevels
 pub mod ReadSoFar
 pub mod ReadOutside

@@ -43,26 +43,26 @@ pub record Part (t : Turn) (bytes : List ℕ) : Type 0 where
   pub stream : IsStream done t.items
   pub at : t.state.places.item_at ≡ place_of (length done)
 
-pub record Known (t : Turn) (bytes : List ℕ) : Type 0 where
-  pub read : Read t bytes
+pub record Known (given : Limits) (t : Turn) (bytes : List ℕ) : Type 0 where
+  pub read : Read given t bytes
   pub part : has_part t.state t.state.pending ≡ true → Part t bytes
 
-stands_there : (o : Option OpenElement) (m : Mode) (s : State) (items : List Item) (bytes : List ℕ) → Hand o m s items bytes → not (is_some o && is_outer m) ≡ true
-stands_there None m s items bytes h = refl
-stands_there (Some o) mode.Text s items bytes h = refl
-stands_there (Some o) mode.Reference s items bytes h = refl
-stands_there (Some o) mode.Opening s items bytes h = refl
-stands_there (Some o) mode.Bang s items bytes h = refl
-stands_there (Some o) mode.Question s items bytes h = absurd h.2
-stands_there (Some o) mode.Declaration s items bytes h = absurd h.2
-stands_there (Some o) mode.Tag s items bytes h = refl
-stands_there (Some o) mode.Footer s items bytes h = absurd h.2
-stands_there (Some o) mode.Section s items bytes h = refl
+stands_there : (o : Option OpenElement) (m : Mode) (s : State) (items : List Item) (bytes : List ℕ) (used : ℕ) → Hand o m s used items bytes → not (is_some o && is_outer m) ≡ true
+stands_there None m s items bytes used h = refl
+stands_there (Some o) mode.Text s items bytes used h = refl
+stands_there (Some o) mode.Reference s items bytes used h = refl
+stands_there (Some o) mode.Opening s items bytes used h = refl
+stands_there (Some o) mode.Bang s items bytes used h = refl
+stands_there (Some o) mode.Question s items bytes used h = absurd h.2
+stands_there (Some o) mode.Declaration s items bytes used h = absurd h.2
+stands_there (Some o) mode.Tag s items bytes used h = refl
+stands_there (Some o) mode.Footer s items bytes used h = absurd h.2
+stands_there (Some o) mode.Section s items bytes used h = refl
 
 -- nothing is unfinished
-whole_there : (t : Turn) (bytes : List ℕ) → t.state.fault ≡ None → has_part t.state t.state.pending ≡ false → Read t bytes → IsStream bytes t.items
+whole_there : (given : Limits) (t : Turn) (bytes : List ℕ) → t.state.fault ≡ None → has_part t.state t.state.pending ≡ false → Read given t bytes → IsStream bytes t.items
 unfolding part_of
-whole_there t bytes none whole read = is_whole t.state t.items bytes none (no_part t.state none read.kept.not_spent whole) read
+whole_there given t bytes none whole read = is_whole given t.state t.items bytes none (no_part t.state none read.kept.not_spent whole) read
   where
     no_part : (s : State) → s.fault ≡ None → s.lexical.spent ≡ false → has_part s s.pending ≡ false → part_of s ≡ None
     no_part s none spent whole = rw (none, spent, whole) refl
@@ -75,7 +75,7 @@ begins_more : (hand : List ℕ) (b : ℕ) → is_empty hand ≡ false → Begins
 begins_more [] b some h = absurd (true≢false some)
 begins_more (x ∷ xs) b some h = h
 
-module _ (t : Turn) (b : ℕ) (bytes : List ℕ) (h : Known t bytes) (none : (step t b).state.fault ≡ None) where
+module _ (t : Turn) (b : ℕ) (bytes : List ℕ) (given : Limits) (h : Known given t bytes) (none : (step t b).state.fault ≡ None) where
   before : t.state.fault ≡ None
   before = no_fault_before t (b ∷ []) none
 
@@ -98,7 +98,7 @@ module _ (t : Turn) (b : ℕ) (bytes : List ℕ) (h : Known t bytes) (none : (st
       ⊎_elim
       (λ (open_before : has_part t.state t.state.pending ≡ true).
       let was = h.part open_before in
-      let stands = stands_there t.state.here t.state.lexical.mode t.state t.items bytes h.read.hand in
+      let stands = stands_there t.state.here t.state.lexical.mode t.state t.items bytes t.state.places.used h.read.hand in
       let there = after t.state.places.item_at (keeps_on t.state.lexical.mode (moved t (counted t.state)) b refl takes_it.is_text stands open_before) part in
       record {
         done = was.done;
@@ -117,27 +117,27 @@ module _ (t : Turn) (b : ℕ) (bytes : List ℕ) (h : Known t bytes) (none : (st
         bytes_are = refl;
         some = refl;
         begins_so = first (first_from t.state.here t.state.lexical.mode t.state.pending (moved t (counted t.state)) b whole takes_it.is_text) part;
-        stream = subst (IsStream bytes) (sym there.0) (whole_there t bytes before whole h.read);
+        stream = subst (IsStream bytes) (sym there.0) (whole_there given t bytes before whole h.read);
         at = there.1 ∙ h.read.kept.at_is;
       })
       (cases_Bool (has_part t.state t.state.pending))
 
-  known_after : Known (step t b) (bytes ++ b ∷ [])
-  known_after = record { read = stepped t b bytes (λ e. h.read) none; part = part_after }
+  known_after : Known given (step t b) (bytes ++ b ∷ [])
+  known_after = record { read = stepped given t b bytes (λ e. h.read) none; part = part_after }
 
-known_run : (bs : List ℕ) (t : Turn) (bytes : List ℕ) → Known t bytes → (run t bs).state.fault ≡ None → Known (run t bs) (bytes ++ bs)
-known_run [] t bytes h none = subst (Known t) (sym (append-nil bytes)) h
-known_run (b ∷ bs) t bytes h none =
-    subst (Known (run (step t b) bs)) (append_assoc bytes (b ∷ []) bs) (known_run bs (step t b) (bytes ++ b ∷ []) (known_after t b bytes h (no_fault_before (step t b) bs none)) none)
+known_run : (given : Limits) (bs : List ℕ) (t : Turn) (bytes : List ℕ) → Known given t bytes → (run t bs).state.fault ≡ None → Known given (run t bs) (bytes ++ bs)
+known_run given [] t bytes h none = subst (Known given t) (sym (append-nil bytes)) h
+known_run given (b ∷ bs) t bytes h none =
+    subst (Known given (run (step t b) bs)) (append_assoc bytes (b ∷ []) bs) (known_run given bs (step t b) (bytes ++ b ∷ []) (known_after t b bytes given h (no_fault_before (step t b) bs none)) none)
 
 pub known_first : (limits : Limits) (bytes : List ℕ) → limits.attributes < 2 ^ 32 → limits.namespace_bytes < 2 ^ 32 → (run (turn (from_start limits) []) bytes).state.fault ≡ None
-    → Known (run (turn (from_start limits) []) bytes) bytes
+    → Known limits (run (turn (from_start limits) []) bytes) bytes
 known_first limits bytes few short none =
-    known_run bytes (turn (from_start limits) []) [] (record { read = begins limits few short refl; part = λ e. absurd (true≢false (sym e)) }) none
+    known_run limits bytes (turn (from_start limits) []) [] (record { read = begins limits few short refl; part = λ e. absurd (true≢false (sym e)) }) none
 
-is_prefix : (t : Turn) (bytes : List ℕ) → t.state.fault ≡ None → Known t bytes → IsPrefix bytes t.items (part_of t.state)
+is_prefix : (given : Limits) (t : Turn) (bytes : List ℕ) → t.state.fault ≡ None → Known given t bytes → IsPrefix bytes t.items (part_of t.state)
 unfolding part_of
-is_prefix t bytes none h =
+is_prefix given t bytes none h =
     let s = t.state in
     ⊎_elim
     (λ (part : has_part s s.pending ≡ true).
@@ -155,7 +155,7 @@ is_prefix t bytes none h =
       done = bytes;
       hand = [];
       bytes_are = sym (append-nil bytes);
-      stream = whole_there t bytes none whole h.read;
+      stream = whole_there given t bytes none whole h.read;
       begins = tt;
       part_is = rw (none, h.read.kept.not_spent, whole) refl;
     })
@@ -163,4 +163,4 @@ is_prefix t bytes none h =
 
 pub prefix_known : (limits : Limits) (bytes : List ℕ) → limits.attributes < 2 ^ 32 → limits.namespace_bytes < 2 ^ 32
     → (run (turn (from_start limits) []) bytes).state.fault ≡ None → IsPrefix bytes (run (turn (from_start limits) []) bytes).items (part_of (run (turn (from_start limits) []) bytes).state)
-prefix_known limits bytes few short none = is_prefix (run (turn (from_start limits) []) bytes) bytes none (known_first limits bytes few short none)
+prefix_known limits bytes few short none = is_prefix limits (run (turn (from_start limits) []) bytes) bytes none (known_first limits bytes few short none)
