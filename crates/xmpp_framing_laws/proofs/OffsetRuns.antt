@@ -209,10 +209,20 @@ run_place : (c : Bool) (s : State) → (if c then counted s else run_begun (coun
 run_place true s = refl
 run_place false s = refl
 
-pub runs : (t : Turn) (b : ℕ) → rows.Takes t.state mode.Text b → (step t b).state.fault ≡ None → is_text (step t b).state.lexical.mode ≡ true
+runs : (t : Turn) (b : ℕ) → rows.Takes t.state mode.Text b → (step t b).state.fault ≡ None → is_text (step t b).state.lexical.mode ≡ true
     → ((step t b).state.places.token_at ≡ (in_run t.state).places.token_at) × ((step t b).state.lexical.in_run ≡ true)
 runs t b h none e =
     let is = goes t mode.Text b h in
     let taken = text_goes mode.Text (moved t (counted t.state)) b h.mode_is h.no_fault refl in
     let g = taken.goes (ap (λ (v : Turn). v.state.fault) (sym is) ∙ none) (subst (λ (v : Turn). is_text v.state.lexical.mode ≡ true) is e) in
     (ap (λ (v : Turn). v.state.places.token_at) is ∙ (g.0 ∙ run_place t.state.lexical.in_run t.state), ap (λ (v : Turn). v.state.lexical.in_run) is ∙ g.1)
+
+pub run_begins : (t : Turn) (b : ℕ) → rows.Takes t.state mode.Text b → t.state.lexical.in_run ≡ false → (step t b).state.fault ≡ None → is_text (step t b).state.lexical.mode ≡ true
+    → ((step t b).state.places.token_at ≡ t.state.places.at) × ((step t b).state.lexical.in_run ≡ true)
+run_begins t b h first none e =
+    let r = runs t b h none e in let is : (in_run t.state).places.token_at ≡ t.state.places.at = rw first refl in (r.0 ∙ is, r.1)
+
+pub run_goes_on : (t : Turn) (b : ℕ) → rows.Takes t.state mode.Text b → t.state.lexical.in_run ≡ true → (step t b).state.fault ≡ None → is_text (step t b).state.lexical.mode ≡ true
+    → ((step t b).state.places.token_at ≡ t.state.places.token_at) × ((step t b).state.lexical.in_run ≡ true)
+run_goes_on t b h on none e =
+    let r = runs t b h none e in let is : (in_run t.state).places.token_at ≡ t.state.places.token_at = rw on refl in (r.0 ∙ is, r.1)

@@ -1,23 +1,24 @@
 -- What the bytes of a prefix are, whatever follows them.
-use Rattle.std.proofs.Common.{◌≡◌, ℕ, ◌<◌, ◌≤◌, ◌^◌, ◌⊎◌, ⊎_elim, true, false, true≢false, not, ◌&&◌, List, [], ◌∷◌, ◌++◌, length, Option, Some, None, refl, sym, ap, subst, ◌∙◌, append_assoc, append-nil}
-use Rattle.std.proofs.lemmas.Bool.{cases_Bool}
+use Rattle.std.proofs.Common.{◌≡◌, ℕ, ◌<◌, ◌≤◌, ◌^◌, ◌⊎◌, ⊎_elim, true, false, true≢false, not, ◌||◌, ◌&&◌, List, [], ◌∷◌, ◌++◌, length, Option, Some, None, refl, sym, ap, subst, ◌∙◌, append_assoc, append-nil, arith}
+use Rattle.std.proofs.lemmas.Bool.{and_parts, cases_Bool, ltb-true}
 use Rattle.std.specs.Option.{is_some}
 use Rattle.xmpp_tokens.specs.Tags.{is_empty}
 use Rattle.xmpp_framing.proofs.Pieces.{run_append}
 use Rattle.xmpp_framing_laws.proofs.CountLaws.{takes}
-use Rattle.xmpp_framing_laws.proofs.FaultLaws.{goes}
+use Rattle.xmpp_framing_laws.proofs.FaultLaws.{goes, long}
 use Rattle.xmpp_framing_laws.proofs.PrefixSteps.{IsFirst, Keeps, begins_from, first_from, has_part, keeps_on}
 use Rattle.xmpp_framing_laws.proofs.ReadSoFar.{Hand, Read}
 use Rattle.xmpp_framing_laws.proofs.ReadStreams.{begins, is_whole, stepped}
 use Rattle.xmpp_framing_laws.proofs.RunPlaces.{no_fault_before}
 use Rattle.xmpp_framing_laws.proofs.StreamRuns.{stream_read}
-use Rattle.xmpp_framing.specs.Machine.{part_of, run, step, taken_in}
-use Rattle.xmpp_framing.specs.States.{OpenElement, State, Turn, counted, from_start, moved, turn}
-use Rattle.xmpp_framing_laws.specs.FaultRows.{Takes, is_outer}
+use Rattle.xmpp_framing.specs.Machine.{is_too_long, part_of, run, step, taken_in}
+use Rattle.xmpp_framing.specs.States.{OpenElement, State, Turn, counted, from_start, is_text, moved, turn}
+use Rattle.xmpp_framing_laws.specs.FaultRows.{Decides, Takes, is_outer}
 use Rattle.xmpp_framing_laws.specs.Prefixes.{BeginsSo, IsPrefix}
 use Rattle.xmpp_framing_laws.specs.StreamLimits.{IsStreamWithin}
 use Rattle.xmpp_framing_laws.specs.Streams.{InForce, IsStream, StreamTo, place_of}
 use Rattle.xmpp_framing.specs.declared.items.Item.{Item}
+use Rattle.xmpp_framing.specs.declared.fault.Why.TheVariants as why
 use Rattle.xmpp_framing.specs.declared.limits.Limits.{Limits}
 use Rattle.xmpp_framing.specs.declared.states.Mode.{Mode}
 use Rattle.xmpp_framing.specs.declared.states.Mode.TheVariants as mode
@@ -164,3 +165,36 @@ is_prefix given t bytes none h =
 pub prefix_known : (limits : Limits) (bytes : List ℕ) → limits.attributes < 2 ^ 32 → limits.namespace_bytes < 2 ^ 32
     → (run (turn (from_start limits) []) bytes).state.fault ≡ None → IsPrefix bytes (run (turn (from_start limits) []) bytes).items (part_of (run (turn (from_start limits) []) bytes).state)
 prefix_known limits bytes few short none = is_prefix limits (run (turn (from_start limits) []) bytes) bytes none (known_first limits bytes few short none)
+
+-- ---- what is too long
+
+-- what is counted is unfinished
+used_part : (o : Option OpenElement) (m : Mode) (s : State) (used : ℕ) (items : List Item) (bytes held : List ℕ) → Hand o m s used items bytes → 0 < used
+    → (is_some o || (not (is_text m) || not (is_empty held))) ≡ true
+used_part (Some o) m s used items bytes held h some = refl
+used_part None mode.Text s used items bytes held h some = let idle = h.1.1 in absurd (omega (arith, idle, some))
+used_part None mode.Reference s used items bytes held h some = refl
+used_part None mode.Opening s used items bytes held h some = refl
+used_part None mode.Bang s used items bytes held h some = refl
+used_part None mode.Question s used items bytes held h some = refl
+used_part None mode.Declaration s used items bytes held h some = refl
+used_part None mode.Tag s used items bytes held h some = refl
+used_part None mode.Footer s used items bytes held h some = refl
+used_part None mode.Section s used items bytes held h some = refl
+
+long_used : (s : State) (b : ℕ) → is_too_long s b ≡ true → 0 < s.places.used
+unfolding is_too_long
+long_used s b e = ltb-true 0 s.places.used (and_parts _ _ e).0
+
+long_after : (given : Limits) (t : Turn) (b : ℕ) (bytes : List ℕ) → t.state.fault ≡ None → Known given t bytes → is_too_long t.state b ≡ true
+    → (n : ℕ) × (part_of t.state ≡ Some n) × Decides t b n why.TooLong
+unfolding part_of
+long_after given t b bytes none h far =
+    let s = t.state in
+    let part = used_part s.here s.lexical.mode s s.places.used t.items bytes s.pending h.read.hand (long_used s b far) in
+    (s.places.item_at, rw (none, h.read.kept.not_spent, part) refl, long t b none far)
+
+pub long_told : (limits : Limits) (bytes : List ℕ) (b : ℕ) → limits.attributes < 2 ^ 32 → limits.namespace_bytes < 2 ^ 32 → (run (turn (from_start limits) []) bytes).state.fault ≡ None
+    → is_too_long (run (turn (from_start limits) []) bytes).state b ≡ true
+    → (n : ℕ) × (part_of (run (turn (from_start limits) []) bytes).state ≡ Some n) × Decides (run (turn (from_start limits) []) bytes) b n why.TooLong
+long_told limits bytes b few short none = long_after limits (run (turn (from_start limits) []) bytes) b bytes none (known_first limits bytes few short none)

@@ -386,7 +386,7 @@ module _ (given : Limits) (s : State) (o : OpenElement) (items : List Item) (b :
         }
 
     added_at : (below : List OpenElement) → s.below ≡ below → IsEndTag whole o.spelled → Q (added_to (first_of below) (turn (left below) items) closing)
-    added_at [] low end sound = record { kept = on; hand = (refl, (refl, λ p. given_at low end)) }
+    added_at [] low end sound = record { kept = on; hand = (refl, (refl, refl, λ p. given_at low end)) }
     added_at (p ∷ ps) low end sound =
         let down = subst (λ l. AreCovered s.limits a.base a.rest l a.outer) low a.covered in
         record {

@@ -130,7 +130,8 @@ abbrev pub outer : State → Mode → State
 outer s m = record s { here = None; lexical = record s.lexical { mode = m } }
 
 -- a byte and what it finds
-module _ (given : Limits) (s : State) (items : List Item) (b : ℕ) (bytes : List ℕ) (used : ℕ) (k : Kept given s.places.at s.lexical.spent s.limits bytes) (c : continues s.pending b ≡ true) (low : s.below ≡ []) where
+module _ (given : Limits) (s : State) (items : List Item) (b : ℕ) (bytes : List ℕ) (used : ℕ) (k : Kept given s.places.at s.lexical.spent s.limits bytes) (c : continues s.pending b ≡ true)
+    (idle : used ≡ 0 → s.places.used ≡ 0) (low : s.below ≡ []) where
   abbrev now : InForce
   now = in_force s.lexical.phase s.scopes s.name
 
@@ -175,11 +176,11 @@ module _ (given : Limits) (s : State) (items : List Item) (b : ℕ) (bytes : Lis
       let r = outer s mode.Text in
       cond_both (ends_character s.pending b) (judged_outside (in_run r) b) (character_begun (in_run r)) P
       (λ e. cond_both s.lexical.in_run r (run_begun r) (λ u. P (judged_outside u b))
-      (λ i. cond_both (is_white b) r (token_fails r why.NotWellFormed) P (λ w none. record { kept = on; hand = (low, (h.0, λ p. white_hand h.1 w)) }) (λ w. failed r items _ _))
-      (λ i. cond_both (is_white b) (run_begun r) (token_fails (run_begun r) why.NotWellFormed) P (λ w none. record { kept = on; hand = (low, (h.0, λ p. white_hand h.1 w)) }) (λ w. failed (run_begun r) items _ _)))
+      (λ i. cond_both (is_white b) r (token_fails r why.NotWellFormed) P (λ w none. record { kept = on; hand = (low, (h.0, idle h.1, λ p. white_hand h.2 w)) }) (λ w. failed r items _ _))
+      (λ i. cond_both (is_white b) (run_begun r) (token_fails (run_begun r) why.NotWellFormed) P (λ w none. record { kept = on; hand = (low, (h.0, idle h.1, λ p. white_hand h.2 w)) }) (λ w. failed (run_begun r) items _ _)))
       (λ e. cond_both s.lexical.in_run r (run_begun r) (λ u. P (character_begun u))
-      (λ i. cond_both (is_empty s.pending) (record r { places = record r.places { item_at = r.places.at } }) r P (λ w none. record { kept = on; hand = (low, (h.0, λ p. absurd (grown e p))) }) (λ w none. record { kept = on; hand = (low, (h.0, λ p. absurd (grown e p))) }))
-      (λ i. cond_both (is_empty s.pending) (record (run_begun r) { places = record (run_begun r).places { item_at = r.places.at } }) (run_begun r) P (λ w none. record { kept = on; hand = (low, (h.0, λ p. absurd (grown e p))) }) (λ w none. record { kept = on; hand = (low, (h.0, λ p. absurd (grown e p))) })))
+      (λ i. cond_both (is_empty s.pending) (record r { places = record r.places { item_at = r.places.at } }) r P (λ w none. record { kept = on; hand = (low, (h.0, idle h.1, λ p. absurd (grown e p))) }) (λ w none. record { kept = on; hand = (low, (h.0, idle h.1, λ p. absurd (grown e p))) }))
+      (λ i. cond_both (is_empty s.pending) (record (run_begun r) { places = record (run_begun r).places { item_at = r.places.at } }) (run_begun r) P (λ w none. record { kept = on; hand = (low, (h.0, idle h.1, λ p. absurd (grown e p))) }) (λ w none. record { kept = on; hand = (low, (h.0, idle h.1, λ p. absurd (grown e p))) })))
 
   markup_case : Outside mode.Text (outer s mode.Text) used items bytes → (b == 60) ≡ true → P (markup_begun (outer s mode.Text))
   markup_case h e none =
@@ -190,7 +191,7 @@ module _ (given : Limits) (s : State) (items : List Item) (b : ℕ) (bytes : Lis
           low,
           record {
             done = bytes;
-            stream = h.1 (ascii_alone s.pending b (omega (arith, is)) c).0;
+            stream = h.2 (ascii_alone s.pending b (omega (arith, is)) c).0;
             count = λ few. (omega arith, let n = length-append bytes (b ∷ []) in omega (arith, n));
             bytes_are = ap (λ l. bytes ++ l) (ap (λ d. d ∷ []) is ∙ ap (λ t. t ++ 60 ∷ []) (sym h.0));
             place_is = k.at_is;
@@ -229,7 +230,7 @@ module _ (given : Limits) (s : State) (items : List Item) (b : ℕ) (bytes : Lis
       let more = grows room h.1 in
       record {
         kept = on;
-        hand = (low, (refl, λ p. (declared (in_force (declared_phase s.lexical.phase) s.scopes s.name) (bytes ++ b ∷ []) items now more.done (s.token ++ b ∷ []) more.stream.0 (is_declared s.lexical.phase h.0) refl refl e more.bytes_are, λ few. (more.stream.1 few, whole_short room h.1 few))));
+        hand = (low, (refl, refl, λ p. (declared (in_force (declared_phase s.lexical.phase) s.scopes s.name) (bytes ++ b ∷ []) items now more.done (s.token ++ b ∷ []) more.stream.0 (is_declared s.lexical.phase h.0) refl refl e more.bytes_are, λ few. (more.stream.1 few, whole_short room h.1 few))));
       }
   declared_at room h declaration.Encoding e none = failed (gathered (outer s mode.Declaration) b) items _ _ none
   declared_at room h declaration.NotWellFormed e none = failed (gathered (outer s mode.Declaration) b) items _ _ none
@@ -311,7 +312,7 @@ module _ (given : Limits) (s : State) (items : List Item) (b : ℕ) (bytes : Lis
       (λ f none.
       let p = and_parts _ _ f in
       let q = and_parts _ _ p.1 in
-      record { kept = on; hand = (low, (refl, λ n. footer_ends (h (not-true s.lexical.spoiled p.0)) e q.0 q.1)) })
+      record { kept = on; hand = (low, (refl, refl, λ n. footer_ends (h (not-true s.lexical.spoiled p.0)) e q.0 q.1)) })
       (λ f. failed r items _ _)
 
   pub outside_footer : Outside mode.Footer (outer s mode.Footer) used items bytes → After given b bytes (in_footer (turn (outer s mode.Footer) items) b)
@@ -346,11 +347,11 @@ module _ (given : Limits) (s : State) (items : List Item) (b : ℕ) (bytes : Lis
         → Q (turn (in_phase (item_ended (record (full m) { scopes = t.bindings ∷ []; name = t.spelled })) (phase_behind empty)) (items ++ header_items s.places.token_at (header_of t) empty))
     headed_at t heads false e none = record {
       kept = on;
-      hand = (low, (refl, λ p. (headed (in_force phase.Between (t.bindings ∷ []) t.spelled) (bytes ++ b ∷ []) _ now h.done whole items (header_of t) h.stream.0 (heads.0 e).0 refl h.bytes_are (ap (λ at. items ++ item.Header at (header_of t) ∷ []) h.place_is), λ few. (h.stream.1 few, (heads.0 e).1 few))));
+      hand = (low, (refl, refl, λ p. (headed (in_force phase.Between (t.bindings ∷ []) t.spelled) (bytes ++ b ∷ []) _ now h.done whole items (header_of t) h.stream.0 (heads.0 e).0 refl h.bytes_are (ap (λ at. items ++ item.Header at (header_of t) ∷ []) h.place_is), λ few. (h.stream.1 few, (heads.0 e).1 few))));
     }
     headed_at t heads true e none = record {
       kept = on;
-      hand = (low, (refl, λ p. (headed_and_ended (in_force phase.Ended (t.bindings ∷ []) t.spelled) (bytes ++ b ∷ []) _ now h.done whole items (header_of t) h.stream.0 (heads.1 e).0 refl h.bytes_are (ap (λ at. items ++ item.Header at (header_of t) ∷ item.Footer ∷ []) h.place_is), λ few. (h.stream.1 few, (heads.1 e).1 few))));
+      hand = (low, (refl, refl, λ p. (headed_and_ended (in_force phase.Ended (t.bindings ∷ []) t.spelled) (bytes ++ b ∷ []) _ now h.done whole items (header_of t) h.stream.0 (heads.1 e).0 refl h.bytes_are (ap (λ at. items ++ item.Header at (header_of t) ∷ item.Footer ∷ []) h.place_is), λ few. (h.stream.1 few, (heads.1 e).1 few))));
     }
 
     heads_at : ((t : Tag) → tag_anew (full m) ≡ Ok t → Heads t) → (r : Result Tag StartWhy) → tag_anew (full m) ≡ r → Q (heads (turn (full m) items) r)
@@ -423,6 +424,7 @@ module _ (given : Limits) (s : State) (items : List Item) (b : ℕ) (bytes : Lis
             hand = (
               low,
               (
+                refl,
                 refl,
                 λ p. (
                   with_element now (bytes ++ b ∷ []) _ h.done whole items (element_from t) h.stream.0 between (record { spelled = spelled.0; no_header = not_named t is other }) h.bytes_are

@@ -45,7 +45,7 @@ pub record FooterIn (limits : Limits) (now : InForce) (items : List Item) (bytes
   pub whole : (white ≡ []) ⊎ (length now.name + 2 ≤ length token)
 
 abbrev pub Outside : Mode → State → ℕ → List Item → List ℕ → Type 0
-Outside mode.Text s used items bytes = (s.token ≡ []) × (s.pending ≡ [] → StreamIn s.limits (in_force s.lexical.phase s.scopes s.name) bytes items)
+Outside mode.Text s used items bytes = (s.token ≡ []) × (used ≡ 0) × (s.pending ≡ [] → StreamIn s.limits (in_force s.lexical.phase s.scopes s.name) bytes items)
 Outside mode.Reference s used items bytes = ⊥
 Outside mode.Opening s used items bytes = TokenIn s.limits used (in_force s.lexical.phase s.scopes s.name) items bytes s.token s.places.token_at
 Outside mode.Bang s used items bytes = Unit {0}

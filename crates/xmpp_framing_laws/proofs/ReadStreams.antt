@@ -39,10 +39,10 @@ none_shown false = refl
 abbrev HasRoom : State → ℕ → ℕ → Type 0
 HasRoom s used b = s.limits.bytes < 2 ^ 64 → 0 < used → shows_unlimited s b ≡ false → (used + 1 ≤ s.limits.bytes) × (s.places.used ≡ used + 1)
 
-byte : (given : Limits) (s : State) (items : List Item) (b : ℕ) (bytes : List ℕ) (used : ℕ) → Kept given s.places.at s.lexical.spent s.limits bytes → continues s.pending b ≡ true
+byte : (given : Limits) (s : State) (items : List Item) (b : ℕ) (bytes : List ℕ) (used : ℕ) → Kept given s.places.at s.lexical.spent s.limits bytes → continues s.pending b ≡ true → (used ≡ 0 → s.places.used ≡ 0)
     → (o : Option OpenElement) (m : Mode) → HasRoom (with_hand s o m) used b → Hand o m (with_hand s o m) used items bytes → After given b bytes (taken_in m (turn (with_hand s o m) items) b)
-byte given s items b bytes used k c None m room h = outside_byte given s items b bytes used k c h.0 m room h.1
-byte given s items b bytes used k c (Some o) m room h = inside_byte given s o items b bytes h.0 used k c (λ few p. room few p (none_shown (is_opening m))) h.1 m h.2
+byte given s items b bytes used k c idle None m room h = outside_byte given s items b bytes used k c idle h.0 m room h.1
+byte given s items b bytes used k c idle (Some o) m room h = inside_byte given s o items b bytes h.0 used k c (λ few p. room few p (none_shown (is_opening m))) h.1 m h.2
 
 below : (least n : ℕ) → nat_le least n ≡ false → n < least
 below least n e = grind (arith, nat_tests)
@@ -92,7 +92,7 @@ taken_byte : (given : Limits) (t : Turn) (b : ℕ) (bytes : List ℕ) → Read g
     → After given b bytes (taken (moved t (counted t.state)) b)
 unfolding taken
 taken_byte given t b bytes h near c =
-    byte given (counted t.state) t.items b bytes t.state.places.used h.kept c t.state.here t.state.lexical.mode (has_room t.state b near)
+    byte given (counted t.state) t.items b bytes t.state.places.used h.kept c (λ e. rw e refl) t.state.here t.state.lexical.mode (has_room t.state b near)
     (counted_hand t.state.here t.state.lexical.mode t.state t.state.places.used t.items bytes h.hand)
 
 goes : (given : Limits) (t : Turn) (b : ℕ) (bytes : List ℕ) → Read given t bytes → Explained given (goes_on t b) (bytes ++ b ∷ [])
@@ -124,13 +124,13 @@ ran given (b ∷ bs) t bytes h = subst (Explained given (run (step t b) bs)) (ap
 pub begins : (limits : Limits) → limits.attributes < 2 ^ 32 → limits.namespace_bytes < 2 ^ 32 → Explained limits (turn (from_start limits) []) []
 begins limits few short none = record {
   kept = record { at_is = refl; not_spent = refl; limits_are = refl; few_attributes = few; short_namespaces = short };
-  hand = (refl, (refl, λ p. (nothing (in_force phase.First [] []) [] [] refl refl refl refl refl, λ f. tt)));
+  hand = (refl, (refl, refl, λ p. (nothing (in_force phase.First [] []) [] [] refl refl refl refl refl, λ f. tt)));
 }
 
 -- nothing is unfinished
 ended_hand : (o : Option OpenElement) (m : Mode) (s : State) (used : ℕ) (items : List Item) (bytes : List ℕ) → is_some o ≡ false → not (is_text m) ≡ false → s.pending ≡ [] → Hand o m s used items bytes → StreamIn s.limits (in_force s.lexical.phase s.scopes s.name) bytes items
 ended_hand (Some o) m s used items bytes e f none h = absurd (true≢false e)
-ended_hand None mode.Text s used items bytes e f none h = h.1.1 none
+ended_hand None mode.Text s used items bytes e f none h = h.1.2 none
 ended_hand None mode.Reference s used items bytes e f none h = absurd (true≢false f)
 ended_hand None mode.Opening s used items bytes e f none h = absurd (true≢false f)
 ended_hand None mode.Bang s used items bytes e f none h = absurd (true≢false f)

@@ -2,7 +2,7 @@
 //! 2.4, 2.7, 2.8, 3.1 and 4.1).
 ghost use Rattle.std.specs.Prelude.{◌≡◌, ◌≢◌, ℕ, List, [], length, true, false, None, Some};
 ghost use Rattle.xmpp_framing.specs.Machine.{run, step};
-ghost use Rattle.xmpp_framing.specs.States.{Turn, from_start, in_run, is_text, turn};
+ghost use Rattle.xmpp_framing.specs.States.{Turn, from_start, is_text, turn};
 ghost use Rattle.xmpp_framing.specs.declared.fault.Fault.{Fault};
 ghost use Rattle.xmpp_framing.specs.declared.fault.Why.TheVariants as why;
 ghost use Rattle.xmpp_framing.specs.declared.limits.Limits.{Limits};
@@ -28,7 +28,9 @@ pub fn tokens_have_the_offset_of_their_first_byte()
         → (run (turn (from_start limits) []) bytes).state.places.at ≡ place_of (length bytes) }
     ensures begins { (t : Turn) (b : ℕ) → Takes t.state mode.Text b → is_text (step t b).state.lexical.mode ≡ false
         → ((step t b).state.places.token_at ≡ t.state.places.at) × (b ≡ first_of (step t b).state.lexical.mode) }
-    ensures run { (t : Turn) (b : ℕ) → Takes t.state mode.Text b → (step t b).state.fault ≡ None → is_text (step t b).state.lexical.mode ≡ true
-        → ((step t b).state.places.token_at ≡ (in_run t.state).places.token_at) × ((step t b).state.lexical.in_run ≡ true) }
+    ensures run_begins { (t : Turn) (b : ℕ) → Takes t.state mode.Text b → t.state.lexical.in_run ≡ false → (step t b).state.fault ≡ None
+        → is_text (step t b).state.lexical.mode ≡ true → ((step t b).state.places.token_at ≡ t.state.places.at) × ((step t b).state.lexical.in_run ≡ true) }
+    ensures run_goes_on { (t : Turn) (b : ℕ) → Takes t.state mode.Text b → t.state.lexical.in_run ≡ true → (step t b).state.fault ≡ None
+        → is_text (step t b).state.lexical.mode ≡ true → ((step t b).state.places.token_at ≡ t.state.places.token_at) × ((step t b).state.lexical.in_run ≡ true) }
     ensures goes_on { (t : Turn) (m : Mode) (b : ℕ) → Takes t.state m b → is_text m ≡ false → (step t b).state.places.token_at ≡ t.state.places.token_at }
 {}

@@ -7,8 +7,11 @@ returns-clause-next c = runs.place_behind_bytes
 pub returns-clause-begins : goal.returns-clause-begins
 returns-clause-begins c = runs.begins
 
-pub returns-clause-run : goal.returns-clause-run
-returns-clause-run c = runs.runs
+pub returns-clause-run_begins : goal.returns-clause-run_begins
+returns-clause-run_begins c = runs.run_begins
+
+pub returns-clause-run_goes_on : goal.returns-clause-run_goes_on
+returns-clause-run_goes_on c = runs.run_goes_on
 
 pub returns-clause-goes_on : goal.returns-clause-goes_on
 returns-clause-goes_on c = runs.goes_on
