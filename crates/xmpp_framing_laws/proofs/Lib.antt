@@ -51,6 +51,7 @@ pub mod PrefixSteps
 pub mod PrefixRuns
 -- where tokens begin
 pub mod OffsetSteps
+pub mod OffsetTags
 pub mod OffsetRuns
 -- definitions at values
 mod WorkedGrammar

@@ -1,5 +1,5 @@
 -- The offset of each fault is that of its token.
-use Rattle.std.proofs.Common.{◌≡◌, ◌≢◌, ℕ, inl, inr, ⊎_elim, Bool, true, false, not, ◌&&◌, if◌then◌else◌, List, [], ◌∷◌, ◌++◌, length, length-append, Some, None, refl, sym, ap, subst, ◌∙◌, append_assoc, append-nil, arith}
+use Rattle.std.proofs.Common.{◌≡◌, ◌≢◌, ℕ, inl, inr, ⊎_elim, Bool, true, false, not, ◌&&◌, if◌then◌else◌, List, [], ◌∷◌, ◌++◌, length, length-append, Option, Some, None, refl, sym, ap, subst, ◌∙◌, append_assoc, append-nil, arith}
 use Rattle.std.proofs.lemmas.Bool.{and_from, cases_Bool, false≢true}
 use Rattle.std.proofs.lemmas.List.Folds.{list_all-append}
 use Rattle.std.specs.List.{list_all}
@@ -7,6 +7,7 @@ use Rattle.xmpp_tokens.specs.Utf8.{continues}
 use Rattle.xmpp_framing_laws.proofs.CountLaws.{takes}
 use Rattle.xmpp_framing_laws.proofs.FaultLaws.{broken, goes, long}
 use Rattle.xmpp_framing_laws.proofs.OffsetSteps.{text_goes, token_goes}
+use Rattle.xmpp_framing_laws.proofs.OffsetTags.{Spot, first_spot, named_there, open_there, quote_after_text, spot_after}
 use Rattle.xmpp_framing_laws.proofs.RunPlaces.{no_fault_before, taken_remains}
 use Rattle.xmpp_framing.specs.Machine.{is_too_long, passed, run, step, taken_in}
 use Rattle.xmpp_framing.specs.States.{State, Turn, counted, from_start, in_run, is_text, moved, next_place, run_begun, token_place, turn}
@@ -28,29 +29,23 @@ record InText (at : ℕ) (bytes : List ℕ) : Type 0 where
   after : IsAfterToken before
   plain : list_all is_no_markup token ≡ true
 
--- a token in hand that begins with this byte
-record InToken (first at : ℕ) (bytes : List ℕ) : Type 0 where
+-- a token in hand, as its mode and its quote have it
+record InToken (m : Mode) (q : Option ℕ) (at : ℕ) (bytes : List ℕ) : Type 0 where
   before : List ℕ
   more : List ℕ
-  bytes_are : bytes ≡ before ++ first ∷ more
+  bytes_are : bytes ≡ before ++ first_of m ∷ more
   at_is : at ≡ place_of (length before)
+  spot : Spot m q more
 
 record Known (s : State) (bytes : List ℕ) : Type 0 where
   at : s.places.at ≡ place_of (length bytes)
   between : is_text s.lexical.mode ≡ true → s.lexical.in_run ≡ false → IsAfterToken bytes
   running : is_text s.lexical.mode ≡ true → s.lexical.in_run ≡ true → InText s.places.token_at bytes
-  token : is_text s.lexical.mode ≡ false → InToken (first_of s.lexical.mode) s.places.token_at bytes
+  token : is_text s.lexical.mode ≡ false → InToken s.lexical.mode s.lexical.quote s.places.token_at bytes
+  quiet : is_text s.lexical.mode ≡ true → s.lexical.quote ≡ None
 
 next_offset : (at : ℕ) (bytes : List ℕ) (b : ℕ) → at ≡ place_of (length bytes) → next_place at ≡ place_of (length (bytes ++ b ∷ []))
 next_offset at bytes b h = let n = length-append bytes (b ∷ []) in rw n (omega (arith, h))
-
-token_more : (first at : ℕ) (bytes : List ℕ) (b : ℕ) → InToken first at bytes → InToken first at (bytes ++ b ∷ [])
-token_more first at bytes b h = record {
-  before = h.before;
-  more = h.more ++ b ∷ [];
-  bytes_are = ap (λ l. l ++ b ∷ []) h.bytes_are ∙ append_assoc h.before (first ∷ h.more) (b ∷ []);
-  at_is = h.at_is;
-}
 
 text_more : (at : ℕ) (bytes : List ℕ) (b : ℕ) → is_no_markup b ≡ true → InText at bytes → InText at (bytes ++ b ∷ [])
 text_more at bytes b plain h = record {
@@ -94,24 +89,35 @@ module _ (t : Turn) (b : ℕ) (bytes : List ℕ) (h : Known t.state bytes) where
   text_after : s.fault ≡ None → u.fault ≡ None → is_text s.lexical.mode ≡ true → More (passed u b)
   text_after before none text =
       let taken = text_goes s.lexical.mode (moved t (counted s)) b refl before text in
+      let same = quote_after_text s.lexical.mode (moved t (counted s)) b text in
       record {
         at = offset;
         between = λ e i. absurd (false≢true (sym i ∙ (taken.goes none e).1));
         running = λ e i. let g = taken.goes none e in subst (λ n. InText n (bytes ++ b ∷ [])) (sym g.0) (in_text_now s.lexical.in_run refl text g.2);
-        token = λ e. let g = taken.begins e in record { before = bytes; more = []; bytes_are = ap (λ d. bytes ++ d ∷ []) g.1; at_is = g.0 ∙ h.at };
+        token = λ e.
+            let g = taken.begins e in
+            record { before = bytes; more = []; bytes_are = ap (λ d. bytes ++ d ∷ []) g.1; at_is = g.0 ∙ h.at; spot = first_spot u.lexical.mode u.lexical.quote g.2 (same ∙ h.quiet text) };
+        quiet = λ e. same ∙ h.quiet text;
       }
 
-  token_after : s.fault ≡ None → is_text s.lexical.mode ≡ false → More (passed u b)
-  token_after before no_text =
+  token_after : s.fault ≡ None → u.fault ≡ None → is_text s.lexical.mode ≡ false → More (passed u b)
+  token_after before after_none no_text =
       let taken = token_goes s.lexical.mode (moved t (counted s)) b refl before no_text in
       record {
         at = offset;
         between = λ e i. inr (bytes, b, refl, (taken.ends e).1);
         running = λ e i. absurd (false≢true (sym (taken.ends e).0 ∙ i));
         token = λ e.
-            let more = token_more (first_of s.lexical.mode) s.places.token_at bytes b (h.token no_text) in
-            subst (λ n. InToken (first_of u.lexical.mode) n (bytes ++ b ∷ [])) (sym taken.token_at)
-            (subst (λ (r : Bool). InToken (if r then 38 else 60) s.places.token_at (bytes ++ b ∷ [])) (sym (taken.goes e)) more);
+            let k = h.token no_text in
+            let first_same = ap (λ (r : Bool). if r then 38 else 60) (sym (taken.goes e)) in
+            record {
+              before = k.before;
+              more = k.more ++ b ∷ [];
+              bytes_are = ap (λ l. l ++ b ∷ []) k.bytes_are ∙ append_assoc k.before (first_of s.lexical.mode ∷ k.more) (b ∷ []) ∙ ap (λ d. k.before ++ d ∷ (k.more ++ b ∷ [])) first_same;
+              at_is = taken.token_at ∙ k.at_is;
+              spot = spot_after s.lexical.mode (moved t (counted s)) b k.more refl before no_text k.spot e after_none;
+            };
+        quiet = taken.quiet;
       }
 
   known_after : (step t b).state.fault ≡ None → More (step t b).state
@@ -121,7 +127,7 @@ module _ (t : Turn) (b : ℕ) (bytes : List ℕ) (h : Known t.state bytes) where
       let after_none : u.fault ≡ None = ap (λ (v : Turn). v.state.fault) (sym is) ∙ none in
       let after : More (passed u b) =
       ⊎_elim (λ (text : is_text s.lexical.mode ≡ true). text_after takes_it.no_fault after_none text)
-      (λ (no_text : is_text s.lexical.mode ≡ false). token_after takes_it.no_fault no_text) (cases_Bool (is_text s.lexical.mode)) in
+      (λ (no_text : is_text s.lexical.mode ≡ false). token_after takes_it.no_fault after_none no_text) (cases_Bool (is_text s.lexical.mode)) in
       subst (λ (v : Turn). More v.state) (sym is) after
 
   -- ---- a fault
@@ -131,15 +137,25 @@ module _ (t : Turn) (b : ℕ) (bytes : List ℕ) (h : Known t.state bytes) where
       let k = h.running text is in record { before = k.before; token = k.token; bytes_are = k.bytes_are; at_is = k.at_is; is_token = a_text k.before k.token b k.after k.plain }
   at_run false is text = record { before = bytes; token = []; bytes_are = sym (append-nil bytes); at_is = h.at; is_token = a_text bytes [] b (h.between text is) refl }
 
-  at_first : (r : Bool) → InToken (if r then 38 else 60) s.places.token_at bytes → IsAtToken bytes b s.places.token_at
-  at_first true k = record { before = k.before; token = 38 ∷ k.more; bytes_are = k.bytes_are; at_is = k.at_is; is_token = a_reference k.before (38 ∷ k.more) b (k.more ++ b ∷ []) refl }
-  at_first false k = record { before = k.before; token = 60 ∷ k.more; bytes_are = k.bytes_are; at_is = k.at_is; is_token = a_markup k.before (60 ∷ k.more) b (k.more ++ b ∷ []) refl }
+  at_first : (r : Bool) → is_reference s.lexical.mode ≡ r → is_text s.lexical.mode ≡ false → InToken s.lexical.mode s.lexical.quote s.places.token_at bytes → IsAtToken bytes b s.places.token_at
+  at_first true e no_text k =
+      let first = ap (λ (x : Bool). k.before ++ (if x then 38 else 60) ∷ k.more) e in
+      record { before = k.before; token = 38 ∷ k.more; bytes_are = k.bytes_are ∙ first; at_is = k.at_is; is_token = a_reference k.before (38 ∷ k.more) b (k.more ++ b ∷ []) refl (named_there s.lexical.mode s.lexical.quote k.more k.spot e) }
+  at_first false e no_text k =
+      let first = ap (λ (x : Bool). k.before ++ (if x then 38 else 60) ∷ k.more) e in
+      record {
+        before = k.before;
+        token = 60 ∷ k.more;
+        bytes_are = k.bytes_are ∙ first;
+        at_is = k.at_is;
+        is_token = a_markup k.before (60 ∷ k.more) b k.more refl (open_there s.lexical.mode s.lexical.quote k.more k.spot no_text e);
+      }
 
   at_token : is_text s.lexical.mode ≡ false → IsAtToken bytes b s.places.token_at
-  at_token no_text = at_first (is_reference s.lexical.mode) (h.token no_text)
+  at_token no_text = at_first (is_reference s.lexical.mode) refl no_text (h.token no_text)
 
   at_reference : b ≡ 38 → IsAtToken bytes b s.places.at
-  at_reference is = record { before = bytes; token = []; bytes_are = sym (append-nil bytes); at_is = h.at; is_token = a_reference bytes [] b [] (ap (λ d. d ∷ []) is) }
+  at_reference is = record { before = bytes; token = []; bytes_are = sym (append-nil bytes); at_is = h.at; is_token = a_reference bytes [] b [] (ap (λ d. d ∷ []) is) refl }
 
   -- the place of a byte that breaks a character
   at_place : (text run : Bool) → is_text s.lexical.mode ≡ text → s.lexical.in_run ≡ run → IsAtToken bytes b (if text && not run then s.places.at else s.places.token_at)
@@ -182,7 +198,7 @@ known_run (b ∷ bs) t bytes h none =
     subst (Known (run (step t b) bs).state) (append_assoc bytes (b ∷ []) bs) (known_run bs (step t b) (bytes ++ b ∷ []) (known_after t b bytes h (no_fault_before (step t b) bs none)) none)
 
 known_first : (limits : Limits) → Known (from_start limits) []
-known_first limits = record { at = refl; between = λ e i. inl refl; running = λ e i. absurd (false≢true i); token = λ e. absurd (false≢true (sym e)) }
+known_first limits = record { at = refl; between = λ e i. inl refl; running = λ e i. absurd (false≢true i); token = λ e. absurd (false≢true (sym e)); quiet = λ e. refl }
 
 pub fault_at_token : (limits : Limits) (bytes : List ℕ) (b : ℕ) (f : Fault) → (run (turn (from_start limits) []) bytes).state.fault ≡ None
     → (step (run (turn (from_start limits) []) bytes) b).state.fault ≡ Some f → f.why ≢ why.TooLong → IsAtToken bytes b f.at
@@ -198,8 +214,8 @@ pub begins : (t : Turn) (b : ℕ) → rows.Takes t.state mode.Text b → is_text
     → ((step t b).state.places.token_at ≡ t.state.places.at) × (b ≡ first_of (step t b).state.lexical.mode)
 begins t b h e =
     let is = goes t mode.Text b h in
-    let g = (text_goes mode.Text (moved t (counted t.state)) b h.mode_is h.no_fault refl).begins (subst (λ (v : Turn). is_text v.state.lexical.mode ≡ false) is e) in
-    subst (λ (v : Turn). (v.state.places.token_at ≡ t.state.places.at) × (b ≡ first_of v.state.lexical.mode)) (sym is) g
+    let all = (text_goes mode.Text (moved t (counted t.state)) b h.mode_is h.no_fault refl).begins (subst (λ (v : Turn). is_text v.state.lexical.mode ≡ false) is e) in
+    subst (λ (v : Turn). (v.state.places.token_at ≡ t.state.places.at) × (b ≡ first_of v.state.lexical.mode)) (sym is) (all.0, all.1)
 
 pub goes_on : (t : Turn) (m : Mode) (b : ℕ) → rows.Takes t.state m b → is_text m ≡ false → (step t b).state.places.token_at ≡ t.state.places.token_at
 goes_on t m b h no_text =

@@ -37,6 +37,7 @@ pub record Goes (b n : ℕ) (r : Bool) (u : State) : Type 0 where
   pub fault : (f : Fault) → u.fault ≡ Some f → f.at ≡ n
   pub ends : is_text u.lexical.mode ≡ true → (u.lexical.in_run ≡ false) × ((b ≡ 62) ⊎ (b ≡ 59))
   pub goes : is_text u.lexical.mode ≡ false → is_reference u.lexical.mode ≡ r
+  pub quiet : is_text u.lexical.mode ≡ true → u.lexical.quote ≡ None
 
 one : (b n : ℕ) (r : Bool) (u v : State) (c : Bool) → (c ≡ true → Goes b n r u) → (c ≡ false → Goes b n r v) → Goes b n r (if c then u else v)
 one b n r u v true x y = x refl
@@ -72,6 +73,7 @@ module _ (b : ℕ) (r : Bool) (s : State) (h : InHand r s) where
     fault = no_fault u.fault s.places.token_at (fault ∙ h.none);
     ends = λ e. absurd (false≢true (sym h.no_text ∙ (ap is_text (sym same) ∙ e)));
     goes = λ e. ap is_reference same ∙ h.kind;
+    quiet = λ e. absurd (false≢true (sym h.no_text ∙ (ap is_text (sym same) ∙ e)));
   }
 
   -- it has another mode
@@ -81,6 +83,7 @@ module _ (b : ℕ) (r : Bool) (s : State) (h : InHand r s) where
     fault = no_fault u.fault s.places.token_at (fault ∙ h.none);
     ends = λ e. absurd (false≢true (sym no_text ∙ (ap is_text (sym is) ∙ e)));
     goes = λ e. ap is_reference is ∙ kind;
+    quiet = λ e. absurd (false≢true (sym no_text ∙ (ap is_text (sym is) ∙ e)));
   }
 
   -- it has a fault
@@ -90,21 +93,23 @@ module _ (b : ℕ) (r : Bool) (s : State) (h : InHand r s) where
     fault = λ f is. one_fault u.places.token_at w f (sym fault ∙ is) ∙ at;
     ends = λ e. absurd (false≢true (sym h.no_text ∙ (ap is_text (sym same) ∙ e)));
     goes = λ e. ap is_reference same ∙ h.kind;
+    quiet = λ e. absurd (false≢true (sym h.no_text ∙ (ap is_text (sym same) ∙ e)));
   }
 
   -- it ends
-  ended : (u : State) → (b ≡ 62) ⊎ (b ≡ 59) → u.places.token_at ≡ s.places.token_at → u.fault ≡ s.fault → u.lexical.in_run ≡ false → u.lexical.mode ≡ mode.Text → At u
-  ended u last at fault run is = record {
+  ended : (u : State) → (b ≡ 62) ⊎ (b ≡ 59) → u.places.token_at ≡ s.places.token_at → u.fault ≡ s.fault → u.lexical.in_run ≡ false → u.lexical.mode ≡ mode.Text → u.lexical.quote ≡ None → At u
+  ended u last at fault run is quote = record {
     token_at = at;
     fault = no_fault u.fault s.places.token_at (fault ∙ h.none);
     ends = λ e. (run, last);
     goes = λ e. absurd (false≢true (sym e ∙ ap is_text is));
+    quiet = λ e. quote;
   }
 
   -- ---- references, sections, declarations
 
   refers_at : (b == 59) ≡ true → (x : Reference) → At (refers s x)
-  refers_at e (reference.Character c) = ended (refers s (reference.Character c)) (inr (eqb-true b 59 e)) refl refl refl refl
+  refers_at e (reference.Character c) = ended (refers s (reference.Character c)) (inr (eqb-true b 59 e)) refl refl refl refl refl
   refers_at e reference.Unknown = fails_so (refers s reference.Unknown) _ refl refl refl
   refers_at e reference.Malformed = fails_so (refers s reference.Malformed) _ refl refl refl
 
@@ -125,7 +130,7 @@ module _ (b : ℕ) (r : Bool) (s : State) (h : InHand r s) where
       let third = record s { chars = s.chars ++ 93 ∷ []; lexical = record s.lexical { returned = false } } in
       one b n r (if is_forbidden s b then fault else rest) s (ends_character s.pending b)
       (λ e. one b n r fault rest (is_forbidden s b) (λ f. fails_so fault _ refl refl refl)
-      (λ f. one b n r (token_ended s) taken (ends_section s b) (λ g. ended (token_ended s) (inl (eqb-true b 62 (and_parts (s.lexical.brackets == 2) (b == 62) g).1)) refl refl refl refl)
+      (λ f. one b n r (token_ended s) taken (ends_section s b) (λ g. ended (token_ended s) (inl (eqb-true b 62 (and_parts (s.lexical.brackets == 2) (b == 62) g).1)) refl refl refl refl refl)
       (λ g. one b n r (bracket_taken s) (other_taken s b) (b == 93)
       (λ i. one b n r third _ (s.lexical.brackets == 2) (λ j. more third refl refl refl) (λ j. more _ refl refl refl))
       (λ i. more (other_taken s b) refl refl refl))))
@@ -153,7 +158,7 @@ module _ (b : ℕ) (r : Bool) (s : State) (h : InHand r s) where
       (λ e. one b n r (gathered_in s mode.Declaration b) fault (is_white b) (λ f. other (gathered_in s mode.Declaration b) mode.Declaration refl refl refl refl (sym plain)) (λ f. fails_so fault _ refl refl refl))
 
   declares_at : b ≡ 62 → (d : Declaration) → At (declares (gathered s b) d)
-  declares_at last declaration.Good = ended (declares (gathered s b) declaration.Good) (inl last) refl refl refl refl
+  declares_at last declaration.Good = ended (declares (gathered s b) declaration.Good) (inl last) refl refl refl refl refl
   declares_at last declaration.Encoding = fails_so (declares (gathered s b) declaration.Encoding) _ refl refl refl
   declares_at last declaration.NotWellFormed = fails_so (declares (gathered s b) declaration.NotWellFormed) _ refl refl refl
 
@@ -167,8 +172,8 @@ module _ (b : ℕ) (r : Bool) (s : State) (h : InHand r s) where
 -- ---- tags
 
 added_at : (b : ℕ) (r : Bool) (o : Option OpenElement) (t : Turn) (e : Elem) → InHand r t.state → (b ≡ 62) ⊎ (b ≡ 59) → Goes b t.state.places.token_at r (added_to o t e).state
-added_at b r None t e h last = ended b r t.state h (added_to None t e).state last refl refl refl refl
-added_at b r (Some o) t e h last = ended b r t.state h (added_to (Some o) t e).state last refl refl refl refl
+added_at b r None t e h last = ended b r t.state h (added_to None t e).state last refl refl refl refl refl
+added_at b r (Some o) t e h last = ended b r t.state h (added_to (Some o) t e).state last refl refl refl refl refl
 
 leaf_at : (b : ℕ) (r : Bool) (t : Turn) (tag : Tag) → InHand r t.state → (b ≡ 62) ⊎ (b ≡ 59) → Goes b t.state.places.token_at r (leaf t tag).state
 unfolding leaf
@@ -181,7 +186,7 @@ begun_at b r t tag h last =
     let deep = moved t (token_fails t.state why.TooDeep) in
     let inner = moved t (level t.state tag) in
     turns b n r deep (if tag.empty then leaf t tag else inner) (is_too_deep t.state) (λ e. fails_so b r t.state h deep.state _ refl refl refl)
-    (λ e. turns b n r (leaf t tag) inner tag.empty (λ f. leaf_at b r t tag h last) (λ f. ended b r t.state h inner.state last refl refl refl refl))
+    (λ e. turns b n r (leaf t tag) inner tag.empty (λ f. leaf_at b r t tag h last) (λ f. ended b r t.state h inner.state last refl refl refl refl refl))
 
 starts_at : (b : ℕ) (r : Bool) (t : Turn) (x : Result Tag StartWhy) → InHand r t.state → (b ≡ 62) ⊎ (b ≡ 59) → Goes b t.state.places.token_at r (starts t x).state
 starts_at b r t (Ok tag) h last = begun_at b r t tag h last
@@ -206,7 +211,7 @@ unfolding tag_inside
 inside_at b r t h last = turns b t.state.places.token_at r (ends t) (starts t (tag_here t.state)) (is_end t.state.token) (λ e. ends_at b r t h last) (λ e. starts_at b r t (tag_here t.state) h last)
 
 heads_at : (b : ℕ) (r : Bool) (t : Turn) (x : Result Tag StartWhy) → InHand r t.state → (b ≡ 62) ⊎ (b ≡ 59) → Goes b t.state.places.token_at r (heads t x).state
-heads_at b r t (Ok tag) h last = ended b r t.state h (heads t (Ok tag)).state last refl refl refl refl
+heads_at b r t (Ok tag) h last = ended b r t.state h (heads t (Ok tag)).state last refl refl refl refl refl
 heads_at b r t (Err fault) h last = fails_so b r t.state h (heads t (Err fault)).state _ refl refl refl
 
 header_at : (b : ℕ) (r : Bool) (t : Turn) → InHand r t.state → (b ≡ 62) ⊎ (b ≡ 59) → Goes b t.state.places.token_at r (header_tag t).state
@@ -242,7 +247,7 @@ unfolding footer_closes
 footer_closes_at b r t h last =
     let given = gives (in_phase (item_ended t.state) phase.Ended) t.items item.Footer in
     let fault = moved t (token_fails t.state why.NotWellFormed) in
-    turns b t.state.places.token_at r given fault (ends_stream t.state) (λ e. ended b r t.state h given.state last refl refl refl refl) (λ e. fails_so b r t.state h fault.state _ refl refl refl)
+    turns b t.state.places.token_at r given fault (ends_stream t.state) (λ e. ended b r t.state h given.state last refl refl refl refl refl) (λ e. fails_so b r t.state h fault.state _ refl refl refl)
 
 gathered_at : (b : ℕ) (r : Bool) (s : State) → InHand r s → Goes b s.places.token_at r (footer_gathered s b)
 gathered_at b r s h =
@@ -300,10 +305,16 @@ token_goes mode.Section t b is none no_text = section_at b false t.state (in_han
 
 -- ---- texts
 
+-- what a text is left for
+abbrev pub is_first : Mode → Bool
+is_first mode.Opening = true
+is_first mode.Reference = true
+is_first m = false
+
 -- A byte of a text whose run begins at an offset: it begins markup or a reference, or it belongs to the run.
 pub record Takes (b at run : ℕ) (u : State) : Type 0 where
   pub fault : (f : Fault) → u.fault ≡ Some f → (f.at ≡ run) ⊎ ((f.at ≡ at) × (b ≡ 38))
-  pub begins : is_text u.lexical.mode ≡ false → (u.places.token_at ≡ at) × (b ≡ (if is_reference u.lexical.mode then 38 else 60))
+  pub begins : is_text u.lexical.mode ≡ false → (u.places.token_at ≡ at) × (b ≡ (if is_reference u.lexical.mode then 38 else 60)) × (is_first u.lexical.mode ≡ true)
   pub goes : u.fault ≡ None → is_text u.lexical.mode ≡ true → (u.places.token_at ≡ run) × (u.lexical.in_run ≡ true) × (is_no_markup b ≡ true)
 
 pick : (b at run : ℕ) (u v : State) (c : Bool) → (c ≡ true → Takes b at run u) → (c ≡ false → Takes b at run v) → Takes b at run (if c then u else v)
@@ -356,10 +367,10 @@ module _ (b at : ℕ) (v : State) (h : Running v) (plain : is_no_markup b ≡ tr
       (λ e. pick b at n (token_fails v why.NotWellFormed) (character_taken v b) (is_forbidden v b || ends_section v b) (λ f. run_fails _) (λ f. run_more (character_taken v b) refl refl refl refl))
       (λ e. run_more v refl refl refl refl)
 
-token_takes : (b at run : ℕ) (u : State) (m : Mode) → u.lexical.mode ≡ m → is_text m ≡ false → u.places.token_at ≡ at → u.fault ≡ None → b ≡ (if is_reference m then 38 else 60) → Takes b at run u
-token_takes b at run u m is no_text place none first = record {
+token_takes : (b at run : ℕ) (u : State) (m : Mode) → u.lexical.mode ≡ m → is_text m ≡ false → u.places.token_at ≡ at → u.fault ≡ None → b ≡ (if is_reference m then 38 else 60) → is_first m ≡ true → Takes b at run u
+token_takes b at run u m is no_text place none first new = record {
   fault = λ f e. absurd (none_some f (sym e ∙ none));
-  begins = λ e. (place, first ∙ ap (λ k. if is_reference k then 38 else 60) (sym is));
+  begins = λ e. (place, first ∙ ap (λ k. if is_reference k then 38 else 60) (sym is), ap is_first is ∙ new);
   goes = λ e t. absurd (false≢true (sym no_text ∙ (ap is_text (sym is) ∙ t)));
 }
 
@@ -372,8 +383,8 @@ module _ (s : State) (b : ℕ) (none : s.fault ≡ None) (text : is_text s.lexic
       let begun = token_begun s mode.Opening in
       let placed = record begun { places = record begun.places { item_at = begun.places.at; used = 1 } } in
       cond_both (is_some s.here) begun placed (λ u. T (gathered u 60))
-      (λ f. token_takes b s.places.at _ (gathered begun 60) mode.Opening refl refl refl none (eqb-true b 60 e))
-      (λ f. token_takes b s.places.at _ (gathered placed 60) mode.Opening refl refl refl none (eqb-true b 60 e))
+      (λ f. token_takes b s.places.at _ (gathered begun 60) mode.Opening refl refl refl none (eqb-true b 60 e) refl)
+      (λ f. token_takes b s.places.at _ (gathered placed 60) mode.Opening refl refl refl none (eqb-true b 60 e) refl)
 
   not_either : (b == 60) ≡ false → (b == 38) ≡ false → is_no_markup b ≡ true
   not_either e f = rw (e, f) refl
@@ -387,7 +398,7 @@ module _ (s : State) (b : ℕ) (none : s.fault ≡ None) (text : is_text s.lexic
       let fault = fails s s.places.at why.NotWellFormed in
       pick b s.places.at n (inside s b) (between s b) (is_some s.here)
       (λ i. pick b s.places.at n (markup_begun s) (if b == 38 then reference else text_inside s b) (b == 60) markup_takes
-      (λ e. pick b s.places.at n reference (text_inside s b) (b == 38) (λ f. token_takes b s.places.at n reference mode.Reference refl refl refl none (eqb-true b 38 f))
+      (λ e. pick b s.places.at n reference (text_inside s b) (b == 38) (λ f. token_takes b s.places.at n reference mode.Reference refl refl refl none (eqb-true b 38 f) refl)
       (λ f. run_within b s.places.at (in_run s) running (not_either e f) (ends_character s.pending b))))
       (λ i. pick b s.places.at n (markup_begun s) (if b == 38 then fault else text_outside s b) (b == 60) markup_takes
       (λ e. pick b s.places.at n fault (text_outside s b) (b == 38)

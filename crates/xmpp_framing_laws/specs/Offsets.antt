@@ -1,6 +1,8 @@
 -- Where a token begins that a byte belongs to (XML 1.0, sections 2.4, 2.7, 2.8, 3.1 and 4.1).
-use Rattle.std.specs.Prelude.{ℕ, ◌≡◌, ◌==◌, ◌⊎◌, Bool, true, false, not, ◌||◌, if◌then◌else◌, List, [], ◌∷◌, ◌++◌, length}
+use Rattle.std.specs.Prelude.{ℕ, ◌≡◌, ◌==◌, ◌⊎◌, Bool, true, false, not, ◌&&◌, ◌||◌, if◌then◌else◌, List, [], ◌∷◌, ◌++◌, Option, None, length}
+use Rattle.std.specs.Option.{is_some}
 use Rattle.std.specs.List.{list_all}
+use Rattle.xmpp_tokens.specs.Tags.{quote_behind}
 use Rattle.xmpp_framing_laws.specs.Streams.{place_of}
 use Rattle.xmpp_framing.specs.declared.states.Mode.{Mode}
 use Rattle.xmpp_framing.specs.declared.states.Mode.TheVariants as mode
@@ -22,10 +24,25 @@ is_no_markup b = not (b == 60 || b == 38)
 abbrev pub IsAfterToken : List ℕ → Type 0
 IsAfterToken before = (before ≡ []) ⊎ ((front : List ℕ) × (last : ℕ) × (before ≡ front ++ last ∷ []) × ((last ≡ 62) ⊎ (last ≡ 59)))
 
--- A byte belongs to a token of which these bytes are known: markup, a reference, or a text between markup and references.
+-- no `;`
+abbrev pub is_no_end : ℕ → Bool
+is_no_end b = not (b == 59)
+
+-- no `>` stands outside quotes
+abbrev pub is_open_tag : Option ℕ → List ℕ → Bool
+is_open_tag quote [] = true
+is_open_tag quote (b ∷ bs) = not (b == 62 && not (is_some quote)) && is_open_tag (quote_behind quote b) bs
+
+-- what stands after a `<` is the beginning of a tag, and not of `<!` or `<?`
+abbrev pub leads_tag : List ℕ → Bool
+leads_tag [] = true
+leads_tag (b ∷ bs) = not (b == 33 || b == 63)
+
+-- A byte belongs to a token of which these bytes are known: markup, a reference, or a text between markup and
+-- references. A tag and a reference have not ended in them.
 pub data IsToken : List ℕ → List ℕ → ℕ → Type 0 where
-  a_markup : (before token : List ℕ) (b : ℕ) (more : List ℕ) → token ++ b ∷ [] ≡ 60 ∷ more → IsToken before token b
-  a_reference : (before token : List ℕ) (b : ℕ) (more : List ℕ) → token ++ b ∷ [] ≡ 38 ∷ more → IsToken before token b
+  a_markup : (before token : List ℕ) (b : ℕ) (more : List ℕ) → token ≡ 60 ∷ more → (leads_tag more ≡ true → is_open_tag None more ≡ true) → IsToken before token b
+  a_reference : (before token : List ℕ) (b : ℕ) (more : List ℕ) → token ++ b ∷ [] ≡ 38 ∷ more → list_all is_no_end token ≡ true → IsToken before token b
   a_text : (before token : List ℕ) (b : ℕ) → IsAfterToken before → list_all is_no_markup token ≡ true → IsToken before token b
 
 -- The token that a byte after others belongs to has this offset.
