@@ -1,6 +1,8 @@
 -- What the bytes of a prefix are, whatever follows them.
-use Rattle.std.proofs.Common.{◌≡◌, ℕ, ◌<◌, ◌≤◌, ◌^◌, ◌⊎◌, ⊎_elim, true, false, true≢false, not, ◌||◌, ◌&&◌, List, [], ◌∷◌, ◌++◌, length, Option, Some, None, refl, sym, ap, subst, ◌∙◌, append_assoc, append-nil, arith}
-use Rattle.std.proofs.lemmas.Bool.{and_parts, cases_Bool, ltb-true}
+use Rattle.std.proofs.Common.{◌≡◌, ℕ, ◌<◌, ◌≤◌, ◌^◌, ◌⊎◌, ⊎_elim, true, false, true≢false, not, ◌||◌, ◌&&◌, List, [], ◌∷◌, ◌++◌, length, length-append, take, Option, Some, None, refl, sym, ap, subst, ◌∙◌, append_assoc, append-nil, arith}
+use Rattle.std.proofs.lemmas.Bool.{and_parts, cases_Bool, cases_lt, ltb-true}
+use Rattle.std.proofs.Math.Seq.{take-append_seam}
+use Rattle.std.proofs.lemmas.List.{take-append-le, take_all}
 use Rattle.std.specs.Option.{is_some}
 use Rattle.xmpp_tokens.specs.Tags.{is_empty}
 use Rattle.xmpp_framing.proofs.Pieces.{run_append}
@@ -34,8 +36,17 @@ none_too_soon limits bytes more now items stream faulty within =
 
 -- ---- what is unfinished
 
+abbrev pub HasPart : Turn → Type 0
+HasPart t = has_part t.state t.state.pending ≡ true
+
+abbrev pub IsWhole : Turn → Type 0
+IsWhole t = has_part t.state t.state.pending ≡ false
+
+abbrev pub behind : Limits → List ℕ → Turn
+behind limits bytes = run (turn (from_start limits) []) bytes
+
 -- a stream of the items, and what is unfinished after it
-pub record Part (t : Turn) (bytes : List ℕ) : Type 0 where
+pub record Part (given : Limits) (t : Turn) (bytes : List ℕ) : Type 0 where
   pub done : List ℕ
   pub hand : List ℕ
   pub bytes_are : bytes ≡ done ++ hand
@@ -43,10 +54,12 @@ pub record Part (t : Turn) (bytes : List ℕ) : Type 0 where
   pub begins_so : BeginsSo hand
   pub stream : IsStream done t.items
   pub at : t.state.places.item_at ≡ place_of (length done)
+  pub last : (n : ℕ) → n ≤ length bytes → IsWhole (behind given (take n bytes)) → n ≤ length done
 
 pub record Known (given : Limits) (t : Turn) (bytes : List ℕ) : Type 0 where
+  pub from : behind given bytes ≡ t
   pub read : Read given t bytes
-  pub part : has_part t.state t.state.pending ≡ true → Part t bytes
+  pub part : has_part t.state t.state.pending ≡ true → Part given t bytes
 
 stands_there : (o : Option OpenElement) (m : Mode) (s : State) (items : List Item) (bytes : List ℕ) (used : ℕ) → Hand o m s used items bytes → not (is_some o && is_outer m) ≡ true
 stands_there None m s items bytes used h = refl
@@ -94,7 +107,24 @@ module _ (t : Turn) (b : ℕ) (bytes : List ℕ) (given : Limits) (h : Known giv
   first : IsFirst b (taken_in t.state.lexical.mode (moved t (counted t.state)) b).state → has_part (step t b).state (step t b).state.pending ≡ true → (b ≡ 60) ⊎ (128 ≤ b)
   first is_first part = is_first (subst (λ u. has_part u.state u.state.pending ≡ true) (goes t t.state.lexical.mode b takes_it) part)
 
-  part_after : has_part (step t b).state (step t b).state.pending ≡ true → Part (step t b) (bytes ++ b ∷ [])
+  from_after : behind given (bytes ++ b ∷ []) ≡ step t b
+  from_after = run_append (turn (from_start given) []) bytes (b ∷ []) ∙ ap (λ (u : Turn). run u (b ∷ [])) h.from
+
+  -- nothing is unfinished only before the byte
+  last_before : HasPart (step t b) → (n : ℕ) → n ≤ length (bytes ++ b ∷ []) → IsWhole (behind given (take n (bytes ++ b ∷ []))) → n ≤ length bytes
+  last_before part n le whole =
+      ⊎_elim
+      (λ (large : length bytes < n).
+      let long = length-append bytes (b ∷ []) in
+      let all : take n (bytes ++ b ∷ []) ≡ bytes ++ b ∷ [] = take_all n (bytes ++ b ∷ []) (omega (arith, long, large)) in
+      let there : IsWhole (step t b) = subst IsWhole (ap (behind given) all ∙ from_after) whole in
+      absurd (true≢false (sym part ∙ there)))
+      (λ (small : n ≤ length bytes). small) (cases_lt (length bytes) n)
+
+  same_before : (n : ℕ) → n ≤ length bytes → IsWhole (behind given (take n (bytes ++ b ∷ []))) → IsWhole (behind given (take n bytes))
+  same_before n small whole = subst (λ l. IsWhole (behind given l)) (take-append-le n bytes (b ∷ []) small) whole
+
+  part_after : has_part (step t b).state (step t b).state.pending ≡ true → Part given (step t b) (bytes ++ b ∷ [])
   part_after part =
       ⊎_elim
       (λ (open_before : has_part t.state t.state.pending ≡ true).
@@ -109,6 +139,7 @@ module _ (t : Turn) (b : ℕ) (bytes : List ℕ) (given : Limits) (h : Known giv
         begins_so = begins_more was.hand b was.some was.begins_so;
         stream = subst (IsStream was.done) (sym there.0) was.stream;
         at = there.1 ∙ was.at;
+        last = λ n le w. let small = last_before part n le w in was.last n small (same_before n small w);
       })
       (λ (whole : has_part t.state t.state.pending ≡ false).
       let there = after t.state.places.at (begins_from t.state.here t.state.lexical.mode t.state.pending (moved t (counted t.state)) b whole takes_it.is_text) part in
@@ -120,11 +151,12 @@ module _ (t : Turn) (b : ℕ) (bytes : List ℕ) (given : Limits) (h : Known giv
         begins_so = first (first_from t.state.here t.state.lexical.mode t.state.pending (moved t (counted t.state)) b whole takes_it.is_text) part;
         stream = subst (IsStream bytes) (sym there.0) (whole_there given t bytes before whole h.read);
         at = there.1 ∙ h.read.kept.at_is;
+        last = last_before part;
       })
       (cases_Bool (has_part t.state t.state.pending))
 
   known_after : Known given (step t b) (bytes ++ b ∷ [])
-  known_after = record { read = stepped given t b bytes (λ e. h.read) none; part = part_after }
+  known_after = record { from = from_after; read = stepped given t b bytes (λ e. h.read) none; part = part_after }
 
 known_run : (given : Limits) (bs : List ℕ) (t : Turn) (bytes : List ℕ) → Known given t bytes → (run t bs).state.fault ≡ None → Known given (run t bs) (bytes ++ bs)
 known_run given [] t bytes h none = subst (Known given t) (sym (append-nil bytes)) h
@@ -134,9 +166,19 @@ known_run given (b ∷ bs) t bytes h none =
 pub known_first : (limits : Limits) (bytes : List ℕ) → limits.attributes < 2 ^ 32 → limits.namespace_bytes < 2 ^ 32 → (run (turn (from_start limits) []) bytes).state.fault ≡ None
     → Known limits (run (turn (from_start limits) []) bytes) bytes
 known_first limits bytes few short none =
-    known_run limits bytes (turn (from_start limits) []) [] (record { read = begins limits few short refl; part = λ e. absurd (true≢false (sym e)) }) none
+    known_run limits bytes (turn (from_start limits) []) [] (record { from = refl; read = begins limits few short refl; part = λ e. absurd (true≢false (sym e)) }) none
 
-is_prefix : (given : Limits) (t : Turn) (bytes : List ℕ) → t.state.fault ≡ None → Known given t bytes → IsPrefix bytes t.items (part_of t.state)
+-- no more is a stream within the limits
+whole_front : (given : Limits) (bytes : List ℕ) (now : InForce) (front rest : List ℕ) (said : List Item) (more : StreamTo now front said) → bytes ≡ front ++ rest → IsStreamWithin given now front said more
+    → (length front ≤ length bytes) × IsWhole (behind given (take (length front) bytes))
+whole_front given bytes now front rest said more are within =
+    let r = stream_read given now front said more within in
+    let n = ap length are ∙ length-append front rest in
+    let taken : take (length front) bytes ≡ front = ap (take (length front)) are ∙ take-append_seam front rest in
+    let there : IsWhole (turn r.behind said) = rw (r.stands.outside, r.stands.text, r.stands.no_pending) refl in
+    (omega (arith, n), subst IsWhole (sym (ap (behind given) taken ∙ r.run_is)) there)
+
+is_prefix : (given : Limits) (t : Turn) (bytes : List ℕ) → t.state.fault ≡ None → Known given t bytes → IsPrefix given bytes t.items (part_of t.state)
 unfolding part_of
 is_prefix given t bytes none h =
     let s = t.state in
@@ -149,6 +191,7 @@ is_prefix given t bytes none h =
       bytes_are = p.bytes_are;
       stream = p.stream;
       begins = p.begins_so;
+      longest = λ now front rest said more are within. let w = whole_front given bytes now front rest said more are within in p.last (length front) w.0 w.1;
       part_is = rw (none, h.read.kept.not_spent, part, p.some) (ap Some p.at);
     })
     (λ (whole : has_part s s.pending ≡ false).
@@ -158,12 +201,13 @@ is_prefix given t bytes none h =
       bytes_are = sym (append-nil bytes);
       stream = whole_there given t bytes none whole h.read;
       begins = tt;
+      longest = λ now front rest said more are within. (whole_front given bytes now front rest said more are within).0;
       part_is = rw (none, h.read.kept.not_spent, whole) refl;
     })
     (cases_Bool (has_part s s.pending))
 
 pub prefix_known : (limits : Limits) (bytes : List ℕ) → limits.attributes < 2 ^ 32 → limits.namespace_bytes < 2 ^ 32
-    → (run (turn (from_start limits) []) bytes).state.fault ≡ None → IsPrefix bytes (run (turn (from_start limits) []) bytes).items (part_of (run (turn (from_start limits) []) bytes).state)
+    → (run (turn (from_start limits) []) bytes).state.fault ≡ None → IsPrefix limits bytes (run (turn (from_start limits) []) bytes).items (part_of (run (turn (from_start limits) []) bytes).state)
 prefix_known limits bytes few short none = is_prefix limits (run (turn (from_start limits) []) bytes) bytes none (known_first limits bytes few short none)
 
 -- ---- what is too long

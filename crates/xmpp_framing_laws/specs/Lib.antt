@@ -3,7 +3,6 @@ pub mod Texts
 pub mod Spells
 pub mod Plain
 pub mod Streams
-pub mod Prefixes
 pub mod Offsets
 -- machine: where a framer stands, and which byte decides which fault
 pub mod Standing
@@ -11,3 +10,4 @@ pub mod FaultRows
 -- grammar and machine: spellings within the limits of a framer
 pub mod Within
 pub mod StreamLimits
+pub mod Prefixes

@@ -2,7 +2,9 @@
 use Rattle.std.specs.Prelude.{ℕ, ◌≡◌, ◌≤◌, ◌⊎◌, if◌then◌else◌, List, [], ◌∷◌, ◌++◌, length, Option, Some, None}
 use Rattle.xmpp_tokens.specs.Tags.{is_empty}
 use Rattle.xmpp_framing.specs.declared.items.Item.{Item}
-use Rattle.xmpp_framing_laws.specs.Streams.{IsStream, place_of}
+use Rattle.xmpp_framing_laws.specs.StreamLimits.{IsStreamWithin}
+use Rattle.xmpp_framing_laws.specs.Streams.{InForce, IsStream, StreamTo, place_of}
+use Rattle.xmpp_framing.specs.declared.limits.Limits.{Limits}
 
 -- What is unfinished begins with `<`, or with the first byte of a character that is no ASCII. So no white space stands
 -- before it.
@@ -10,11 +12,14 @@ abbrev pub BeginsSo : List ℕ → Type 0
 BeginsSo [] = Unit {0}
 BeginsSo (b ∷ bs) = (b ≡ 60) ⊎ (128 ≤ b)
 
--- Bytes are a stream of these items, and then what is unfinished, which begins at this offset.
-pub record IsPrefix (bytes : List ℕ) (items : List Item) (part : Option ℕ) : Type 0 where
+-- Bytes are a stream of these items, and then what is unfinished, which begins at this offset. No more of them are a
+-- stream within the limits.
+pub record IsPrefix (limits : Limits) (bytes : List ℕ) (items : List Item) (part : Option ℕ) : Type 0 where
   pub done : List ℕ
   pub hand : List ℕ
   pub bytes_are : bytes ≡ done ++ hand
   pub stream : IsStream done items
   pub begins : BeginsSo hand
+  pub longest : (now : InForce) (front rest : List ℕ) (said : List Item) (more : StreamTo now front said) → bytes ≡ front ++ rest → IsStreamWithin limits now front said more
+      → length front ≤ length done
   pub part_is : part ≡ (if is_empty hand then None else Some (place_of (length done)))

@@ -21,10 +21,10 @@ pub fn no_fault_comes_too_soon()
 
 /// A law: what an unfinished stream is. Bytes after which there is no fault are a stream of exactly the items that were
 /// given, and then what is unfinished: nothing, or bytes with no white space before the first of them, whose offset is
-/// told. The premises on the limits are the ranges of a `Limits`'s fields, which a variable of a law doesn't have.
+/// told. No more of the bytes are a stream within the limits. The premises on the limits are the ranges of a `Limits`'s fields, which a variable of a law doesn't have.
 pub fn unfinished_streams_are_told()
     ensures { (limits : Limits) (bytes : List ℕ) → limits.attributes < 2 ^ 32 → limits.namespace_bytes < 2 ^ 32
-        → let end = run (turn (from_start limits) []) bytes in (end.state.fault ≡ None → IsPrefix bytes end.items (part_of end.state)) }
+        → let end = run (turn (from_start limits) []) bytes in (end.state.fault ≡ None → IsPrefix limits bytes end.items (part_of end.state)) }
 {}
 
 /// A law: the offset of `TooLong` is that of what is unfinished, which is the first byte of the element, header tag or
