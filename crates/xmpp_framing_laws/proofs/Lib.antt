@@ -45,6 +45,9 @@ pub mod ReadOutside
 pub mod TextHands
 pub mod ReadInside
 pub mod ReadStreams
+-- what is read is plain
+pub mod SaidCharacters
+pub mod PlainElements
 -- definitions at values
 mod WorkedGrammar
 mod WorkedReadings

@@ -3,6 +3,7 @@ pub mod Texts
 pub mod Spells
 pub mod Plain
 pub mod Streams
+pub mod PlainItems
 -- machine: where a framer stands, and which byte decides which fault
 pub mod Standing
 pub mod FaultRows

@@ -6,4 +6,5 @@
 pub mod faults;
 pub mod grammar;
 pub mod reading;
+pub mod round_trips;
 pub mod writing;

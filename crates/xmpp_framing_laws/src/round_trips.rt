@@ -1,0 +1,25 @@
+//! Laws of round trips: what is read can be written again, and what is written is read (RFC 6120, section 4; XML 1.0,
+//! section 2.2; Namespaces in XML 1.0).
+ghost use Rattle.std.specs.Prelude.{◌≡◌, ℕ, List};
+ghost use Rattle.std.specs.List.{All};
+ghost use Rattle.xmpp_writer.specs.Canon.{canon};
+ghost use Rattle.xmpp_framing_laws.specs.Plain.{IsPlain, IsPlainElement, IsPlainHeader};
+ghost use Rattle.xmpp_framing_laws.specs.PlainItems.{IsPlainItem, IsPlainScope};
+ghost use Rattle.xmpp_framing_laws.specs.Spells.{Spells, SpellsHeader, SpellsTop, written_scope};
+ghost use Rattle.xmpp_framing_laws.specs.Streams.{IsStream};
+ghost use Rattle.xmpp_trees.specs.Trees.{Elem, IsTree};
+ghost use Rattle.xmpp_framing.specs.declared.items.Item.{Item};
+ghost use Rattle.xmpp_names.specs.Scopes.{Scope};
+ghost use Rattle.xmpp_names.specs.declared.headers.Header.{Header};
+
+/// A law: what is read can be written again. What spells an element spells a tree, and a plain one in each scope that a
+/// header and start tags put in force; a header's values are plain, and so is the scope that it puts in force. All items
+/// of a stream are plain. So what is written for an element that was read, in whatever scope, spells that element.
+pub fn what_is_read_is_plain()
+    ensures tree { (scope : Scope) (bytes : List ℕ) (e : Elem) → Spells scope bytes e → IsTree e }
+    ensures element { (scope : Scope) (bytes : List ℕ) (e : Elem) → IsPlainScope scope → Spells scope bytes e → IsPlainElement e }
+    ensures top { (scope : Scope) (bytes : List ℕ) (e : Elem) → IsPlainScope scope → SpellsTop scope bytes e → IsPlain e }
+    ensures header { (bytes name : List ℕ) (scope : Scope) (h : Header) → SpellsHeader bytes name scope h → IsPlainHeader h × IsPlainScope scope }
+    ensures stream { (bytes : List ℕ) (items : List Item) → IsStream bytes items → All IsPlainItem items }
+    ensures again { (scope : Scope) (bytes : List ℕ) (e : Elem) → IsPlainScope scope → SpellsTop scope bytes e → SpellsTop written_scope (canon e) e }
+{}
