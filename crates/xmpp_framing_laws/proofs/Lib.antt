@@ -48,6 +48,8 @@ pub mod ReadStreams
 -- what is read is plain
 pub mod SaidCharacters
 pub mod PlainElements
+-- what is written is read
+pub mod WrittenFits
 -- definitions at values
 mod WorkedGrammar
 mod WorkedReadings

@@ -10,3 +10,4 @@ pub mod FaultRows
 -- grammar and machine: spellings within the limits of a framer
 pub mod Within
 pub mod StreamLimits
+pub mod Fitting

@@ -1,15 +1,21 @@
 //! Laws of round trips: what is read can be written again, and what is written is read (RFC 6120, section 4; XML 1.0,
 //! section 2.2; Namespaces in XML 1.0).
-ghost use Rattle.std.specs.Prelude.{◌≡◌, ℕ, List};
+ghost use Rattle.std.specs.Prelude.{◌≡◌, ℕ, [], List, Some, codes};
 ghost use Rattle.std.specs.List.{All};
-ghost use Rattle.xmpp_writer.specs.Canon.{canon};
+ghost use Rattle.std.specs.Option.{unwrap_or};
+ghost use Rattle.xmpp_writer.specs.Canon.{canon, client_namespace, streams_namespace};
+ghost use Rattle.xmpp_framing_laws.specs.Fitting.{Fits};
 ghost use Rattle.xmpp_framing_laws.specs.Plain.{IsPlain, IsPlainElement, IsPlainHeader};
 ghost use Rattle.xmpp_framing_laws.specs.PlainItems.{IsPlainItem, IsPlainScope};
 ghost use Rattle.xmpp_framing_laws.specs.Spells.{Spells, SpellsHeader, SpellsTop, written_scope};
+ghost use Rattle.xmpp_framing_laws.specs.Standing.{Gives, StandsOutside};
 ghost use Rattle.xmpp_framing_laws.specs.Streams.{IsStream};
 ghost use Rattle.xmpp_trees.specs.Trees.{Elem, IsTree};
+ghost use Rattle.xmpp_framing.specs.States.{State};
 ghost use Rattle.xmpp_framing.specs.declared.items.Item.{Item};
-ghost use Rattle.xmpp_names.specs.Scopes.{Scope};
+ghost use Rattle.xmpp_framing.specs.declared.items.Item.TheVariants as item;
+ghost use Rattle.xmpp_framing.specs.declared.states.Phase.TheVariants as phase;
+ghost use Rattle.xmpp_names.specs.Scopes.{Scope, bound};
 ghost use Rattle.xmpp_names.specs.declared.headers.Header.{Header};
 
 /// A law: what is read can be written again. What spells an element spells a tree, and a plain one in each scope that a
@@ -22,4 +28,17 @@ pub fn what_is_read_is_plain()
     ensures header { (bytes name : List ℕ) (scope : Scope) (h : Header) → SpellsHeader bytes name scope h → IsPlainHeader h × IsPlainScope scope }
     ensures stream { (bytes : List ℕ) (items : List Item) → IsStream bytes items → All IsPlainItem items }
     ensures again { (scope : Scope) (bytes : List ℕ) (e : Elem) → IsPlainScope scope → SpellsTop scope bytes e → SpellsTop written_scope (canon e) e }
+{}
+
+/// A law: what is written for a plain tree that fits into the limits is read as that tree. From a state behind a written
+/// header in which no element is open and no token is in hand, its bytes give exactly that element, at the last of them,
+/// and leave such a state again; and so behind each header that puts the same default namespace in force and binds
+/// `stream`.
+pub fn written_items_are_read()
+    ensures element { (s : State) (items : List Item) (e : Elem) → IsTree e → IsPlain e → Fits s.limits e
+        → StandsOutside s phase.Between written_scope (codes "stream:stream")
+        → Gives s items (canon e) (item.Element e) phase.Between written_scope (codes "stream:stream") }
+    ensures element_in { (s : State) (items : List Item) (scope : Scope) (name : List ℕ) (e : Elem) → unwrap_or (bound scope []) [] ≡ client_namespace
+        → bound scope (codes "stream") ≡ Some streams_namespace → IsTree e → IsPlain e → Fits s.limits e → StandsOutside s phase.Between scope name
+        → Gives s items (canon e) (item.Element e) phase.Between scope name }
 {}
