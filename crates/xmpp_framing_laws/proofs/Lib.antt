@@ -50,6 +50,7 @@ pub mod SaidCharacters
 pub mod PlainElements
 -- what is written is read
 pub mod WrittenFits
+pub mod WrittenHeaders
 -- definitions at values
 mod WorkedGrammar
 mod WorkedReadings

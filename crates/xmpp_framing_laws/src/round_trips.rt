@@ -1,13 +1,13 @@
 //! Laws of round trips: what is read can be written again, and what is written is read (RFC 6120, section 4; XML 1.0,
 //! section 2.2; Namespaces in XML 1.0).
-ghost use Rattle.std.specs.Prelude.{◌≡◌, ℕ, [], List, Some, codes};
+ghost use Rattle.std.specs.Prelude.{◌≡◌, ◌<◌, ◌^◌, ℕ, [], List, Some, codes};
 ghost use Rattle.std.specs.List.{All};
 ghost use Rattle.std.specs.Option.{unwrap_or};
-ghost use Rattle.xmpp_writer.specs.Canon.{canon, client_namespace, streams_namespace};
-ghost use Rattle.xmpp_framing_laws.specs.Fitting.{Fits};
+ghost use Rattle.xmpp_writer.specs.Canon.{canon, client_namespace, streams_namespace, written_footer, written_header};
+ghost use Rattle.xmpp_framing_laws.specs.Fitting.{Fits, HeaderFits};
 ghost use Rattle.xmpp_framing_laws.specs.Plain.{IsPlain, IsPlainElement, IsPlainHeader};
 ghost use Rattle.xmpp_framing_laws.specs.PlainItems.{IsPlainItem, IsPlainScope};
-ghost use Rattle.xmpp_framing_laws.specs.Spells.{Spells, SpellsHeader, SpellsTop, written_scope};
+ghost use Rattle.xmpp_framing_laws.specs.Spells.{Spells, SpellsHeader, SpellsTop, as_written, written_scope};
 ghost use Rattle.xmpp_framing_laws.specs.Standing.{Gives, StandsOutside};
 ghost use Rattle.xmpp_framing_laws.specs.Streams.{IsStream};
 ghost use Rattle.xmpp_trees.specs.Trees.{Elem, IsTree};
@@ -30,10 +30,12 @@ pub fn what_is_read_is_plain()
     ensures again { (scope : Scope) (bytes : List ℕ) (e : Elem) → IsPlainScope scope → SpellsTop scope bytes e → SpellsTop written_scope (canon e) e }
 {}
 
-/// A law: what is written for a plain tree that fits into the limits is read as that tree. From a state behind a written
-/// header in which no element is open and no token is in hand, its bytes give exactly that element, at the last of them,
-/// and leave such a state again; and so behind each header that puts the same default namespace in force and binds
-/// `stream`.
+/// A law: what is written for an item that fits into the limits is read as that item. From a state behind a written
+/// header in which no element is open and no token is in hand, the bytes of a plain tree give exactly that element, at
+/// the last of them, and leave such a state again; and so behind each header that puts the same default namespace in
+/// force and binds `stream`. The bytes of a header give that header, with its place, wherever a header may stand, and
+/// those of the footer the footer behind a written header. Of a header behind another it is asked besides that the limits
+/// are numbers of 32 bits, as they are in `Limits`.
 pub fn written_items_are_read()
     ensures element { (s : State) (items : List Item) (e : Elem) → IsTree e → IsPlain e → Fits s.limits e
         → StandsOutside s phase.Between written_scope (codes "stream:stream")
@@ -41,4 +43,18 @@ pub fn written_items_are_read()
     ensures element_in { (s : State) (items : List Item) (scope : Scope) (name : List ℕ) (e : Elem) → unwrap_or (bound scope []) [] ≡ client_namespace
         → bound scope (codes "stream") ≡ Some streams_namespace → IsTree e → IsPlain e → Fits s.limits e → StandsOutside s phase.Between scope name
         → Gives s items (canon e) (item.Element e) phase.Between scope name }
+    ensures first { (s : State) (items : List Item) (scope : Scope) (name : List ℕ) (h : Header) → IsPlainHeader h → HeaderFits s.limits h
+        → StandsOutside s phase.First scope name
+        → Gives s items (written_header h) (item.Header s.places.at (as_written h)) phase.Between written_scope (codes "stream:stream") }
+    ensures first_declared { (s : State) (items : List Item) (scope : Scope) (name : List ℕ) (h : Header) → IsPlainHeader h → HeaderFits s.limits h
+        → StandsOutside s phase.FirstDeclared scope name
+        → Gives s items (written_header h) (item.Header s.places.at (as_written h)) phase.Between written_scope (codes "stream:stream") }
+    ensures next { (s : State) (items : List Item) (scope : Scope) (name : List ℕ) (h : Header) → IsPlainHeader h → HeaderFits s.limits h
+        → s.limits.attributes < 2 ^ 32 → s.limits.namespace_bytes < 2 ^ 32 → StandsOutside s phase.Between scope name
+        → Gives s items (written_header h) (item.Header s.places.at (as_written h)) phase.Between written_scope (codes "stream:stream") }
+    ensures declared { (s : State) (items : List Item) (scope : Scope) (name : List ℕ) (h : Header) → IsPlainHeader h → HeaderFits s.limits h
+        → s.limits.attributes < 2 ^ 32 → s.limits.namespace_bytes < 2 ^ 32 → StandsOutside s phase.Declared scope name
+        → Gives s items (written_header h) (item.Header s.places.at (as_written h)) phase.Between written_scope (codes "stream:stream") }
+    ensures footer { (s : State) (items : List Item) (scope : Scope) → StandsOutside s phase.Between scope (codes "stream:stream")
+        → Gives s items written_footer item.Footer phase.Ended scope (codes "stream:stream") }
 {}
