@@ -51,6 +51,7 @@ pub mod PlainElements
 -- what is written is read
 pub mod WrittenFits
 pub mod WrittenHeaders
+pub mod WrittenRuns
 -- definitions at values
 mod WorkedGrammar
 mod WorkedReadings

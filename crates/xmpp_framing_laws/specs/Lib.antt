@@ -11,3 +11,4 @@ pub mod FaultRows
 pub mod Within
 pub mod StreamLimits
 pub mod Fitting
+pub mod WrittenStreams

@@ -1,6 +1,6 @@
 //! Laws of round trips: what is read can be written again, and what is written is read (RFC 6120, section 4; XML 1.0,
 //! section 2.2; Namespaces in XML 1.0).
-ghost use Rattle.std.specs.Prelude.{◌≡◌, ◌<◌, ◌^◌, ℕ, [], List, Some, codes};
+ghost use Rattle.std.specs.Prelude.{◌≡◌, ◌<◌, ◌^◌, ℕ, [], List, Some, None, codes};
 ghost use Rattle.std.specs.List.{All};
 ghost use Rattle.std.specs.Option.{unwrap_or};
 ghost use Rattle.xmpp_writer.specs.Canon.{canon, client_namespace, streams_namespace, written_footer, written_header};
@@ -9,11 +9,15 @@ ghost use Rattle.xmpp_framing_laws.specs.Plain.{IsPlain, IsPlainElement, IsPlain
 ghost use Rattle.xmpp_framing_laws.specs.PlainItems.{IsPlainItem, IsPlainScope};
 ghost use Rattle.xmpp_framing_laws.specs.Spells.{Spells, SpellsHeader, SpellsTop, as_written, written_scope};
 ghost use Rattle.xmpp_framing_laws.specs.Standing.{Gives, StandsOutside};
+ghost use Rattle.xmpp_framing_laws.specs.StreamLimits.{IsReadAs};
 ghost use Rattle.xmpp_framing_laws.specs.Streams.{IsStream};
+ghost use Rattle.xmpp_framing_laws.specs.WrittenStreams.{ItemFits, MayFollow, at_start, now_after, read_items, written_items};
 ghost use Rattle.xmpp_trees.specs.Trees.{Elem, IsTree};
-ghost use Rattle.xmpp_framing.specs.States.{State};
+ghost use Rattle.xmpp_framing.specs.Machine.{part_of, run};
+ghost use Rattle.xmpp_framing.specs.States.{State, from_start, turn};
 ghost use Rattle.xmpp_framing.specs.declared.items.Item.{Item};
 ghost use Rattle.xmpp_framing.specs.declared.items.Item.TheVariants as item;
+ghost use Rattle.xmpp_framing.specs.declared.limits.Limits.{Limits};
 ghost use Rattle.xmpp_framing.specs.declared.states.Phase.TheVariants as phase;
 ghost use Rattle.xmpp_names.specs.Scopes.{Scope, bound};
 ghost use Rattle.xmpp_names.specs.declared.headers.Header.{Header};
@@ -57,4 +61,20 @@ pub fn written_items_are_read()
         → Gives s items (written_header h) (item.Header s.places.at (as_written h)) phase.Between written_scope (codes "stream:stream") }
     ensures footer { (s : State) (items : List Item) (scope : Scope) → StandsOutside s phase.Between scope (codes "stream:stream")
         → Gives s items written_footer item.Footer phase.Ended scope (codes "stream:stream") }
+{}
+
+/// A law: a stream that is written is read as its items and no others. Of plain items that fit into the limits, first a
+/// header and behind a footer nothing, the bytes one after another are a stream in the grammar's words, and are read from
+/// the first byte on without a fault, with nothing unfinished behind them: each tree as that tree, and each header with
+/// the place of its first byte. The premises on the limits are the ranges of a `Limits`'s fields.
+pub fn written_streams_are_read()
+    ensures spelled { (limits : Limits) (items : List Item) → limits.attributes < 2 ^ 32 → limits.namespace_bytes < 2 ^ 32
+        → MayFollow phase.First items → All (ItemFits limits) items → IsStream (written_items items) (read_items 0 items) }
+    ensures in_force { (limits : Limits) (items : List Item) → limits.attributes < 2 ^ 32 → limits.namespace_bytes < 2 ^ 32
+        → MayFollow phase.First items → All (ItemFits limits) items
+        → IsReadAs limits (now_after at_start items) (written_items items) (read_items 0 items) }
+    ensures given { (limits : Limits) (items : List Item) → limits.attributes < 2 ^ 32 → limits.namespace_bytes < 2 ^ 32
+        → MayFollow phase.First items → All (ItemFits limits) items
+        → let end = run (turn (from_start limits) []) (written_items items)
+        in ((end.items ≡ read_items 0 items) × (end.state.fault ≡ None) × (part_of end.state ≡ None)) }
 {}

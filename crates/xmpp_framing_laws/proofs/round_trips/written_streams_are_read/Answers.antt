@@ -1,0 +1,5 @@
+use Rattle.xmpp_framing_laws.proofs.WrittenRuns.{items_are_read, items_are_spelled, run_gives}
+use Rattle.xmpp_framing_laws.proofs.round_trips.written_streams_are_read.Goals as goal
+
+pub returns : goal.returns
+returns c = record { spelled = items_are_spelled; in_force = items_are_read; given = run_gives }
