@@ -53,6 +53,7 @@ pub mod WrittenFits
 pub mod WrittenHeaders
 pub mod WrittenRuns
 -- definitions at values
+mod WorkedFits
 mod WorkedGrammar
 mod WorkedReadings
 mod WorkedRuns
