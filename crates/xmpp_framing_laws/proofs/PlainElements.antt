@@ -47,7 +47,7 @@ append_each : {A : Type 0} (P : A → Type 0) (xs ys : List A) → AllByRecursio
 append_each P [] ys h k = k
 append_each P (x ∷ xs) ys h k = (h.0, append_each P xs ys h.1 k)
 
-chosen : {A : Type 0} (b : Bool) (x y z : A) → cond b x y ≡ z → ((b ≡ true) × (x ≡ z)) ⊎ ((b ≡ false) × (y ≡ z))
+pub chosen : {A : Type 0} (b : Bool) (x y z : A) → cond b x y ≡ z → ((b ≡ true) × (x ≡ z)) ⊎ ((b ≡ false) × (y ≡ z))
 chosen true x y z e = inl (refl, e)
 chosen false x y z e = inr (refl, e)
 
@@ -180,7 +180,7 @@ put_each : (P : Attribute → Type 0) (a : Attribute) (bs : List Attribute) → 
 put_each P a [] h k = (h, tt)
 put_each P a (b ∷ bs) h k = one_of (AllByRecursion P) (name_order a b) (a ∷ b ∷ bs) (a ∷ bs) (b ∷ put_attribute a bs) (h, k) (h, k.1) (k.0, put_each P a bs h k.1)
 
-sorted_each : (P : Attribute → Type 0) (xs : List Attribute) → AllByRecursion P xs → AllByRecursion P (sorted_attributes xs)
+pub sorted_each : (P : Attribute → Type 0) (xs : List Attribute) → AllByRecursion P xs → AllByRecursion P (sorted_attributes xs)
 sorted_each P [] h = tt
 sorted_each P (a ∷ xs) h = put_each P a (sorted_attributes xs) h.0 (sorted_each P xs h.1)
 

@@ -1,6 +1,6 @@
 //! Laws of round trips: what is read can be written again, and what is written is read (RFC 6120, section 4; XML 1.0,
 //! section 2.2; Namespaces in XML 1.0).
-ghost use Rattle.std.specs.Prelude.{◌≡◌, ◌<◌, ◌^◌, ℕ, [], List, Some, None, codes};
+ghost use Rattle.std.specs.Prelude.{◌≡◌, ◌<◌, ◌≤◌, ◌+◌, ◌*◌, ◌^◌, ℕ, [], List, Some, None, codes, length};
 ghost use Rattle.std.specs.List.{All};
 ghost use Rattle.std.specs.Option.{unwrap_or};
 ghost use Rattle.xmpp_writer.specs.Canon.{canon, client_namespace, streams_namespace, written_footer, written_header};
@@ -12,13 +12,16 @@ ghost use Rattle.xmpp_framing_laws.specs.Standing.{Gives, StandsOutside};
 ghost use Rattle.xmpp_framing_laws.specs.StreamLimits.{IsReadAs};
 ghost use Rattle.xmpp_framing_laws.specs.Streams.{IsStream};
 ghost use Rattle.xmpp_framing_laws.specs.WrittenStreams.{ItemFits, MayFollow, at_start, now_after, read_items, written_items};
+ghost use Rattle.xmpp_framing_laws.specs.Within.{IsElementWithin, IsHeaderWithin};
 ghost use Rattle.xmpp_trees.specs.Trees.{Elem, IsTree};
+ghost use Rattle.xmpp_framing.specs.Limits.{client_limits, server_limits};
 ghost use Rattle.xmpp_framing.specs.Machine.{part_of, run};
 ghost use Rattle.xmpp_framing.specs.States.{State, from_start, turn};
 ghost use Rattle.xmpp_framing.specs.declared.items.Item.{Item};
 ghost use Rattle.xmpp_framing.specs.declared.items.Item.TheVariants as item;
 ghost use Rattle.xmpp_framing.specs.declared.limits.Limits.{Limits};
 ghost use Rattle.xmpp_framing.specs.declared.states.Phase.TheVariants as phase;
+ghost use Rattle.xmpp_names.specs.Grammar.{IsShort};
 ghost use Rattle.xmpp_names.specs.Scopes.{Scope, bound};
 ghost use Rattle.xmpp_names.specs.declared.headers.Header.{Header};
 
@@ -77,4 +80,27 @@ pub fn written_streams_are_read()
         → MayFollow phase.First items → All (ItemFits limits) items
         → let end = run (turn (from_start limits) []) (written_items items)
         in ((end.items ≡ read_items 0 items) × (end.state.fault ≡ None) × (part_of end.state ≡ None)) }
+{}
+
+/// A law: what is read within limits fits, as it is written, into limits as deep and with names as long that admit twice as
+/// many attributes and one more, if its bytes are not too many: so what is read within a server's limits fits into a
+/// client's. The scope around it has short names, as one that a header puts in force within the limits does. What was
+/// read so can be passed on: its bytes are read as that element.
+///
+/// More bytes may be written than were read, and more than a client admits: a namespace that is declared once, and in
+/// force in many elements, may have to be declared in each of them.
+pub fn what_is_read_fits()
+    ensures fits { (read most : Limits) (scope : Scope) (bytes : List ℕ) (e : Elem) (spelled : Spells scope bytes e)
+        → All (IsShort read.namespace_bytes) scope → IsElementWithin read scope bytes e spelled → 2 * read.attributes + 1 ≤ most.attributes
+        → read.namespace_bytes ≤ most.namespace_bytes → read.depth ≤ most.depth → length (canon e) ≤ most.bytes → Fits most e }
+    ensures server_to_client { (scope : Scope) (bytes : List ℕ) (e : Elem) (spelled : Spells scope bytes e)
+        → All (IsShort server_limits.namespace_bytes) scope → IsElementWithin server_limits scope bytes e spelled
+        → length (canon e) ≤ client_limits.bytes → Fits client_limits e }
+    ensures header { (limits : Limits) (bytes name : List ℕ) (scope : Scope) (h : Header) (spelled : SpellsHeader bytes name scope h)
+        → IsHeaderWithin limits bytes name scope h spelled → All (IsShort limits.namespace_bytes) scope }
+    ensures passed_on { (s : State) (items : List Item) (read : Limits) (scope : Scope) (bytes : List ℕ) (e : Elem) (spelled : SpellsTop scope bytes e)
+        → IsPlainScope scope → All (IsShort read.namespace_bytes) scope → IsElementWithin read scope bytes e spelled.spelled
+        → 2 * read.attributes + 1 ≤ s.limits.attributes → read.namespace_bytes ≤ s.limits.namespace_bytes → read.depth ≤ s.limits.depth
+        → length (canon e) ≤ s.limits.bytes → StandsOutside s phase.Between written_scope (codes "stream:stream")
+        → Gives s items (canon e) (item.Element e) phase.Between written_scope (codes "stream:stream") }
 {}
