@@ -52,6 +52,7 @@ pub mod PlainElements
 pub mod WrittenFits
 pub mod WrittenHeaders
 pub mod WrittenRuns
+pub mod WrittenPieces
 pub mod FitsAgain
 -- definitions at values
 mod WorkedFits

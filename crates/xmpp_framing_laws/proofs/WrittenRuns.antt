@@ -21,9 +21,9 @@ use Rattle.xmpp_framing_laws.proofs.WrittenFits.{top_within}
 use Rattle.xmpp_framing_laws.proofs.WrittenHeaders.{header_within, next_header_by, next_header_within}
 
 -- the ranges of the limits of a tag
-record AreLimits (limits : Limits) : Type 0 where
-  few : limits.attributes < 2 ^ 32
-  short : limits.namespace_bytes < 2 ^ 32
+pub record AreLimits (limits : Limits) : Type 0 where
+  pub few : limits.attributes < 2 ^ 32
+  pub short : limits.namespace_bytes < 2 ^ 32
 
 -- a stream so far, within the limits
 record SoFar (limits : Limits) (now : InForce) (bytes : List ℕ) (said : List Item) : Type 0 where
@@ -66,7 +66,7 @@ between limits bytes said item.Footer limited s fits =
     }
 
 -- a first header was there
-abbrev IsBehindHeader : Phase → Type 0
+abbrev pub IsBehindHeader : Phase → Type 0
 IsBehindHeader phase.First = ⊥
 IsBehindHeader phase.FirstDeclared = ⊥
 IsBehindHeader phase.Between = Unit {0}
@@ -81,7 +81,7 @@ next_item limits phase.Between bytes said i limited after s may fits = between l
 next_item limits phase.Declared bytes said i limited after s may fits = absurd may
 next_item limits phase.Ended bytes said i limited after s may fits = absurd may
 
-is_behind : (i : Item) → IsBehindHeader (phase_after i)
+pub is_behind : (i : Item) → IsBehindHeader (phase_after i)
 is_behind (item.Header at h) = tt
 is_behind (item.Element e) = tt
 is_behind item.Footer = tt

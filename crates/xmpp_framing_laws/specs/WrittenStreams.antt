@@ -1,6 +1,6 @@
 -- Streams as they are written, one item after another, and the items that are read of them (RFC 6120, sections 4.2 to
 -- 4.4).
-use Rattle.std.specs.Prelude.{ℕ, ◌+◌, List, [], ◌∷◌, codes, length}
+use Rattle.std.specs.Prelude.{ℕ, ◌+◌, ◌-◌, nat_le, if◌then◌else◌, List, [], ◌∷◌, codes, length}
 use Rattle.std.specs.List.{flat_map}
 use Rattle.xmpp_trees.specs.Trees.{IsTree}
 use Rattle.xmpp_framing.specs.declared.items.Item.{Item}
@@ -62,6 +62,11 @@ read_item offset item.Footer = item.Footer
 abbrev pub read_items : ℕ → List Item → List Item
 read_items offset [] = []
 read_items offset (i ∷ more) = read_item offset i ∷ read_items (offset + length (written_item i)) more
+
+-- the items of which each byte is among so many first ones
+abbrev pub whole_items : ℕ → List Item → List Item
+whole_items n [] = []
+whole_items n (i ∷ more) = if nat_le (length (written_item i)) n then i ∷ whole_items (n - length (written_item i)) more else []
 
 -- ---- what is in force
 
