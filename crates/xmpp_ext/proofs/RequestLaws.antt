@@ -32,7 +32,7 @@ named_so : (name : List ℕ) (e : Elem) → is_named carbons name e ≡ true →
 named_so name e h = same_bytes (name_of e) name (and_right _ _ h)
 
 -- an element has one name
-two_names : (e : Elem) → is_named carbons (codes "enable") e ≡ true → is_named carbons (codes "disable") e ≡ true → ⊥
+pub two_names : (e : Elem) → is_named carbons (codes "enable") e ≡ true → is_named carbons (codes "disable") e ≡ true → ⊥
 two_names e p q =
     let same : codes "enable" ≡ codes "disable" = sym (named_so (codes "enable") e p) ∙ named_so (codes "disable") e q in
     omega (arith, ap length same)

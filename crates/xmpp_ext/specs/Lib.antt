@@ -1,6 +1,10 @@
 pub mod Bind
 pub mod Carbons
+pub mod Counts
+pub mod ForwardReadings
 pub mod Forwarding
+pub mod Given
 pub mod Ids
+pub mod Readings
 pub mod Requests
 pub mod StreamManagement

@@ -4,6 +4,8 @@ ghost use Rattle.xmpp_ext.specs.Bind.{BindResultLacks, IsBindRequest, IsBindResu
 ghost use Rattle.xmpp_payload.specs.Faults.{IsFault, LacksNothing};
 ghost use Rattle.xmpp_trees.specs.Views.{elem_view};
 ghost use Rattle.xmpp_jid.specs.Normal.{normal};
+ghost use Rattle.xmpp_ext.specs.Readings.{bind_request_read, bind_result_read};
+ghost use Rattle.xmpp_payload.specs.Readings.{Reads, ReadsBy};
 
 use std::alloc::Global;
 use xmpp_edge::{NoMemory, Text};
@@ -40,6 +42,7 @@ impl BindRequest {
     pub fn read(alloc: Global, tree: &Tree) -> Result<BindRequest, ExtFault>
         ensures ok { IfOk result (λ request. IsBindRequest tree.now request) }
         ensures err { IfErr result (IsFault (is_bind tree.now) LacksNothing) }
+        ensures reading { Reads result (bind_request_read tree.now) }
     {
         BindRequest::read_element(alloc, tree.element())
     }
@@ -48,6 +51,7 @@ impl BindRequest {
     pub fn read_element(alloc: Global, element: &Element) -> Result<BindRequest, ExtFault>
         ensures ok { IfOk result (λ request. IsBindRequest (elem_view element.now) request) }
         ensures err { IfErr result (IsFault (is_bind (elem_view element.now)) LacksNothing) }
+        ensures reading { Reads result (bind_request_read (elem_view element.now)) }
     {
         if !is_bind(element) {
             return Err(ExtFault::NotThis);
@@ -92,6 +96,7 @@ impl BindResult {
     pub fn read(alloc: Global, tree: &Tree) -> Result<BindResult, ExtFault>
         ensures ok { IfOk result (λ bound. IsBindResult tree.now bound) }
         ensures err { IfErr result (IsFault (is_bind tree.now) (BindResultLacks tree.now)) }
+        ensures reading { ReadsBy (λ bound. bound.jid) result (bind_result_read tree.now) }
     {
         BindResult::read_element(alloc, tree.element())
     }
@@ -100,6 +105,7 @@ impl BindResult {
     pub fn read_element(alloc: Global, element: &Element) -> Result<BindResult, ExtFault>
         ensures ok { IfOk result (λ bound. IsBindResult (elem_view element.now) bound) }
         ensures err { IfErr result (IsFault (is_bind (elem_view element.now)) (BindResultLacks (elem_view element.now))) }
+        ensures reading { ReadsBy (λ bound. bound.jid) result (bind_result_read (elem_view element.now)) }
     {
         if !is_bind(element) {
             return Err(ExtFault::NotThis);

@@ -4,8 +4,10 @@ ghost use Rattle.xmpp_ext.specs.Carbons.{IsCarbon, WritesCarbon, carbon_checks, 
 ghost use Rattle.xmpp_payload.specs.Checks.{IsFirstWrong};
 ghost use Rattle.xmpp_payload.specs.Faults.{IsFault};
 ghost use Rattle.xmpp_trees.specs.Views.{elem_view};
+ghost use Rattle.xmpp_ext.specs.ForwardReadings.{carbon_read};
+ghost use Rattle.xmpp_payload.specs.Readings.{Reads};
 
-use crate::forwarding::{Forwarded, forwarded_element, forwarded_inside};
+use crate::forwarding::{Forwarded, forwarded_element, forwarded_inside, forwarded_moved};
 use std::alloc::Global;
 use xmpp_edge::NoMemory;
 use xmpp_payload::{CARBONS, ExtFault};
@@ -36,6 +38,17 @@ fn carbon_element(alloc: Global, v: &Carbon) -> Result<Element, NoMemory>
     Ok(element)
 }
 
+// The same with the message moved.
+fn carbon_moved(alloc: Global, v: Carbon) -> Result<Element, NoMemory>
+    ensures { IfOk result (λ e. WritesCarbon v (elem_view e)) }
+{
+    let name = carbon_name(v.sent);
+    let forwarded = forwarded_moved(alloc, v.forwarded)?;
+    let mut element = Element::from_strs(alloc, CARBONS, name)?;
+    element.push_child(forwarded)?;
+    Ok(element)
+}
+
 impl Carbon {
     /// Reads a `sent` or `received` of carbons: what is forwarded in its first `forwarded`, an absent one being as an empty one.
     /// The moment is 0 where there is no delay. `NotThis` where the tree is another element, `Bad(Stamp)` where the delay has no
@@ -43,6 +56,7 @@ impl Carbon {
     pub fn read(alloc: Global, tree: &Tree) -> Result<Carbon, ExtFault>
         ensures ok { IfOk result (λ v. IsCarbon tree.now v) }
         ensures err { IfErr result (IsFault (is_carbon tree.now) (IsFirstWrong (carbon_checks tree.now))) }
+        ensures reading { Reads result (carbon_read tree.now) }
     {
         Carbon::read_element(alloc, tree.element())
     }
@@ -51,6 +65,7 @@ impl Carbon {
     pub fn read_element(alloc: Global, element: &Element) -> Result<Carbon, ExtFault>
         ensures ok { IfOk result (λ v. IsCarbon (elem_view element.now) v) }
         ensures err { IfErr result (IsFault (is_carbon (elem_view element.now)) (IsFirstWrong (carbon_checks (elem_view element.now)))) }
+        ensures reading { Reads result (carbon_read (elem_view element.now)) }
     {
         let sent = element.is(CARBONS, "sent");
         if !sent && !element.is(CARBONS, "received") {
@@ -68,6 +83,15 @@ impl Carbon {
         ensures { IfOk result (λ tree. WritesCarbon self.now tree) }
     {
         let element = carbon_element(alloc, self)?;
+        Tree::of(alloc, element)
+    }
+
+    /// The same with the message moved.
+    #[tactic(auto, using(crate::proofs::CarbonLaws::carbon_tree))]
+    pub fn into_tree(self, alloc: Global) -> Result<Tree, NoMemory>
+        ensures { IfOk result (λ tree. WritesCarbon self tree) }
+    {
+        let element = carbon_moved(alloc, self)?;
         Tree::of(alloc, element)
     }
 }

@@ -7,6 +7,8 @@ ghost use Rattle.xmpp_payload.specs.Faults.{IsFault};
 ghost use Rattle.xmpp_ext.specs.Forwarding.{Forwards, IsForwarded, WritesForwarded, delay_elem, delay_moment, forward_checks, forwarded_checks, is_forwarded, message_read, the_forwarded};
 ghost use Rattle.xmpp_payload.specs.Names.{forwarding};
 ghost use Rattle.xmpp_trees.specs.Views.{elem_view};
+ghost use Rattle.xmpp_ext.specs.ForwardReadings.{forward_read, forwarded_read};
+ghost use Rattle.xmpp_payload.specs.Readings.{Reads, or_bad};
 
 use std::alloc::Global;
 use xmpp_edge::NoMemory;
@@ -35,6 +37,7 @@ fn delay_moment(delay: Option<&Element>, absent: Option<u64>) -> Option<u64>
 fn message_read(alloc: Global, element: Option<&Element>) -> Result<Message, ExtFault>
     ensures ok { IfOk result (λ m. message_read (option_map elem_view (option_copied element.entry)) ≡ Some m) }
     ensures err { IfErr result (IsFault true (λ f. (f ≡ Field.Stanza) × (message_read (option_map elem_view (option_copied element.entry)) ≡ None))) }
+    ensures reading { Reads result (or_bad Field.Stanza (message_read (option_map elem_view (option_copied element.entry)))) }
 {
     let Some(element) = element else {
         return Err(ExtFault::Bad(Field::Stanza));
@@ -56,6 +59,7 @@ pub(crate) fn forwarded_in(
 ) -> Result<Forwarded, ExtFault>
     ensures ok { IfOk result (λ v. Forwards absent (elem_view element.now) v) }
     ensures err { IfErr result (IsFault true (IsFirstWrong (forward_checks absent (elem_view element.now)))) }
+    ensures reading { Reads result (forward_read absent (elem_view element.now)) }
 {
     let Some(stamp) = delay_moment(element.child(DELAYS, "delay"), absent) else {
         return Err(ExtFault::Bad(Field::Stamp));
@@ -74,6 +78,7 @@ pub fn forwarded_inside(
 ) -> Result<Forwarded, ExtFault>
     ensures ok { IfOk result (λ v. Forwards absent (the_forwarded (elem_view payload.now)) v) }
     ensures err { IfErr result (IsFault true (IsFirstWrong (forward_checks absent (the_forwarded (elem_view payload.now))))) }
+    ensures reading { Reads result (forward_read absent (the_forwarded (elem_view payload.now))) }
 {
     let Some(element) = payload.child(FORWARDING, "forwarded") else {
         return Err(ExtFault::Bad(field_of_empty(absent)));
@@ -113,6 +118,19 @@ pub fn forwarded_element(alloc: Global, v: &Forwarded) -> Result<Element, NoMemo
     Ok(element)
 }
 
+/// The same with the message moved.
+pub fn forwarded_moved(alloc: Global, v: Forwarded) -> Result<Element, NoMemory>
+    ensures { IfOk result (λ e. WritesForwarded v (elem_view e)) }
+{
+    let stamp = moment_text(alloc, v.stamp)?;
+    let delay = delay_element(alloc, stamp.as_str())?;
+    let message = v.message.into_tree(alloc)?;
+    let mut element = Element::from_strs(alloc, FORWARDING, "forwarded")?;
+    element.push_child(delay)?;
+    element.push_child(message.into_element())?;
+    Ok(element)
+}
+
 impl Forwarded {
     /// Reads a `forwarded` of its namespace: the moment of its first `delay`, and the message that its first `message` is.
     /// `NotThis` where the tree is another element, `Bad(Stamp)` where there is no delay or it has no stamp from 1970 on,
@@ -120,6 +138,7 @@ impl Forwarded {
     pub fn read(alloc: Global, tree: &Tree) -> Result<Forwarded, ExtFault>
         ensures ok { IfOk result (λ v. IsForwarded tree.now v) }
         ensures err { IfErr result (IsFault (is_forwarded tree.now) (IsFirstWrong (forwarded_checks tree.now))) }
+        ensures reading { Reads result (forwarded_read tree.now) }
     {
         Forwarded::read_element(alloc, tree.element())
     }
@@ -128,6 +147,7 @@ impl Forwarded {
     pub fn read_element(alloc: Global, element: &Element) -> Result<Forwarded, ExtFault>
         ensures ok { IfOk result (λ v. IsForwarded (elem_view element.now) v) }
         ensures err { IfErr result (IsFault (is_forwarded (elem_view element.now)) (IsFirstWrong (forwarded_checks (elem_view element.now)))) }
+        ensures reading { Reads result (forwarded_read (elem_view element.now)) }
     {
         if !element.is(FORWARDING, "forwarded") {
             return Err(ExtFault::NotThis);
@@ -141,6 +161,15 @@ impl Forwarded {
         ensures { IfOk result (λ tree. WritesForwarded self.now tree) }
     {
         let element = forwarded_element(alloc, self)?;
+        Tree::of(alloc, element)
+    }
+
+    /// The same with the message moved.
+    #[tactic(auto, using(crate::proofs::ForwardingLaws::written_tree))]
+    pub fn into_tree(self, alloc: Global) -> Result<Tree, NoMemory>
+        ensures { IfOk result (λ tree. WritesForwarded self tree) }
+    {
+        let element = forwarded_moved(alloc, self)?;
         Tree::of(alloc, element)
     }
 }

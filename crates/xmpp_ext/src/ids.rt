@@ -3,6 +3,8 @@ ghost use Rattle.std.specs.Prelude.{◌≡◌, IfErr, IfOk};
 ghost use Rattle.xmpp_payload.specs.Faults.{IsFault};
 ghost use Rattle.xmpp_trees.specs.Views.{elem_view};
 ghost use Rattle.xmpp_ext.specs.Ids.{IsOriginId, IsStanzaId, OriginIdLacks, StanzaIdLacks, is_origin_id, is_stanza_id, origin_id_elem, stanza_id_elem};
+ghost use Rattle.xmpp_ext.specs.Readings.{origin_id_read, stanza_id_read};
+ghost use Rattle.xmpp_payload.specs.Readings.{Reads};
 
 use std::alloc::Global;
 use xmpp_edge::{NoMemory, Text};
@@ -29,6 +31,7 @@ impl StanzaId {
     pub fn read(alloc: Global, tree: &Tree) -> Result<StanzaId, ExtFault>
         ensures ok { IfOk result (λ id. IsStanzaId tree.now id) }
         ensures err { IfErr result (IsFault (is_stanza_id tree.now) (StanzaIdLacks tree.now)) }
+        ensures reading { Reads result (stanza_id_read tree.now) }
     {
         StanzaId::read_element(alloc, tree.element())
     }
@@ -37,6 +40,7 @@ impl StanzaId {
     pub fn read_element(alloc: Global, element: &Element) -> Result<StanzaId, ExtFault>
         ensures ok { IfOk result (λ id. IsStanzaId (elem_view element.now) id) }
         ensures err { IfErr result (IsFault (is_stanza_id (elem_view element.now)) (StanzaIdLacks (elem_view element.now))) }
+        ensures reading { Reads result (stanza_id_read (elem_view element.now)) }
     {
         if !element.is(STANZA_IDS, "stanza-id") {
             return Err(ExtFault::NotThis);
@@ -70,6 +74,7 @@ impl OriginId {
     pub fn read(alloc: Global, tree: &Tree) -> Result<OriginId, ExtFault>
         ensures ok { IfOk result (λ id. IsOriginId tree.now id) }
         ensures err { IfErr result (IsFault (is_origin_id tree.now) (OriginIdLacks tree.now)) }
+        ensures reading { Reads result (origin_id_read tree.now) }
     {
         OriginId::read_element(alloc, tree.element())
     }
@@ -78,6 +83,7 @@ impl OriginId {
     pub fn read_element(alloc: Global, element: &Element) -> Result<OriginId, ExtFault>
         ensures ok { IfOk result (λ id. IsOriginId (elem_view element.now) id) }
         ensures err { IfErr result (IsFault (is_origin_id (elem_view element.now)) (OriginIdLacks (elem_view element.now))) }
+        ensures reading { Reads result (origin_id_read (elem_view element.now)) }
     {
         if !element.is(STANZA_IDS, "origin-id") {
             return Err(ExtFault::NotThis);

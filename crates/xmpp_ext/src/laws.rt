@@ -1,11 +1,11 @@
 //! What reading and writing payloads say of each other.
-ghost use Rattle.std.specs.Prelude.{◌≡◌, ℕ, List, codes, true};
+ghost use Rattle.std.specs.Prelude.{◌≡◌, ◌↔◌, ℕ, List, Ok, codes, true};
 ghost use Rattle.xmpp_ext.specs.Bind.{BindResultLacks, IsBindRequest, IsBindResult, bind_request_elem, bind_result_elem, is_bind};
 ghost use Rattle.xmpp_ext.specs.Carbons.{IsCarbon, WritesCarbon, carbon_checks, is_carbon};
 ghost use Rattle.xmpp_ext.specs.Forwarding.{IsForwarded, WritesForwarded, forwarded_checks, is_forwarded};
 ghost use Rattle.xmpp_ext.specs.Ids.{IsOriginId, IsStanzaId, OriginIdLacks, StanzaIdLacks, is_origin_id, is_stanza_id, origin_id_elem, stanza_id_elem};
-ghost use Rattle.xmpp_ext.specs.Requests.{IsCarbonsSwitch, carbons_switch_elem, is_switch};
-ghost use Rattle.xmpp_ext.specs.StreamManagement.{AckLacks, EnabledLacks, IsAck, IsEnable, IsEnabled, IsResume, IsResumed, IsSmFailed, ResumptionLacks, SmFailedLacks, ack_elem, enable_elem, enabled_elem, is_management, resume_elem, resumed_elem, sm_failed_elem};
+ghost use Rattle.xmpp_ext.specs.Requests.{IsCarbonsSwitch, carbons_switch_elem, is_switch, switch_read};
+ghost use Rattle.xmpp_ext.specs.StreamManagement.{AckLacks, EnabledLacks, IsAck, IsEnable, IsEnabled, IsResume, IsResumed, IsSmFailed, ResumptionLacks, SmFailedLacks, ack_elem, ack_read, enable_elem, enable_read, enabled_elem, is_management, resume_elem, resumed_elem, sm_failed_elem};
 ghost use Rattle.xmpp_payload.specs.Bare.{bare};
 ghost use Rattle.xmpp_payload.specs.Checks.{IsExactBy};
 ghost use Rattle.xmpp_payload.specs.Faults.{IsExact, IsFault, LacksNothing};
@@ -13,6 +13,9 @@ ghost use Rattle.xmpp_payload.specs.declared.fault.ExtFault.TheVariants.{NoMemor
 ghost use Rattle.xmpp_payload.specs.declared.fault.ExtFault.{ExtFault};
 ghost use Rattle.xmpp_trees.specs.Readers.{is_named};
 ghost use Rattle.xmpp_trees.specs.Trees.{Elem};
+
+use crate::requests::CarbonsSwitch;
+use crate::stream_management::{Ack, Enable};
 
 /// A law for each type of stream management: a tree stands for one value at most, and is refused for want of memory alone
 /// where it stands for one; one field at most is the first that is wrong; and what is written of a value that any tree
@@ -55,4 +58,11 @@ pub fn forwarding_is_exact()
 /// The same law for carbons.
 pub fn carbons_are_exact()
     ensures { IsExactBy is_carbon carbon_checks IsCarbon WritesCarbon }
+{}
+
+/// A law: of the readers that take no memory the answer is `Ok` of a value exactly where the element stands for it.
+pub fn small_payloads_are_read()
+    ensures enable { (e : Elem) (v : Enable) → (enable_read e ≡ Ok v) ↔ IsEnable e v }
+    ensures ack { (e : Elem) (v : Ack) → (ack_read e ≡ Ok v) ↔ IsAck e v }
+    ensures switch { (e : Elem) (v : CarbonsSwitch) → (switch_read e ≡ Ok v) ↔ IsCarbonsSwitch e v }
 {}

@@ -7,6 +7,8 @@ ghost use Rattle.xmpp_payload.specs.Names.{management};
 ghost use Rattle.xmpp_ext.specs.StreamManagement.{EnabledLacks, IsEnabled, IsResume, IsResumed, IsResumption, IsSmFailed, ResumptionLacks, SmFailedLacks, ack_elem, ack_read, enable_elem, enable_read, enabled_elem, failed_condition, is_management, resume_elem, resumed_elem, resumption, sm_failed_elem};
 ghost use Rattle.xmpp_trees.specs.Readers.{is_named};
 ghost use Rattle.xmpp_trees.specs.Views.{elem_view};
+ghost use Rattle.xmpp_ext.specs.Readings.{enabled_read, failed_read, resumption_read};
+ghost use Rattle.xmpp_payload.specs.Readings.{Reads, ReadsBy};
 
 use std::alloc::Global;
 use xmpp_edge::{NoMemory, Text};
@@ -122,6 +124,7 @@ impl Enabled {
     pub fn read(alloc: Global, tree: &Tree) -> Result<Enabled, ExtFault>
         ensures ok { IfOk result (λ enabled. IsEnabled tree.now enabled) }
         ensures err { IfErr result (IsFault (is_management (codes "enabled") tree.now) (EnabledLacks tree.now)) }
+        ensures reading { Reads result (enabled_read tree.now) }
     {
         Enabled::read_element(alloc, tree.element())
     }
@@ -130,6 +133,7 @@ impl Enabled {
     pub fn read_element(alloc: Global, element: &Element) -> Result<Enabled, ExtFault>
         ensures ok { IfOk result (λ enabled. IsEnabled (elem_view element.now) enabled) }
         ensures err { IfErr result (IsFault (is_management (codes "enabled") (elem_view element.now)) (EnabledLacks (elem_view element.now))) }
+        ensures reading { Reads result (enabled_read (elem_view element.now)) }
     {
         if !is_management(element, "enabled") {
             return Err(ExtFault::NotThis);
@@ -215,6 +219,7 @@ impl Ack {
 fn read_resumption(alloc: Global, element: &Element, name: &str) -> Result<(Text, u32), ExtFault>
     ensures ok { IfOk result (λ found. IsResumption name.now (elem_view element.now) found.0 found.1) }
     ensures err { IfErr result (IsFault (is_management name.now (elem_view element.now)) (ResumptionLacks (elem_view element.now))) }
+    ensures reading { Reads result (resumption_read name.now (elem_view element.now)) }
 {
     if !is_management(element, name) {
         return Err(ExtFault::NotThis);
@@ -243,6 +248,7 @@ impl Resume {
     pub fn read(alloc: Global, tree: &Tree) -> Result<Resume, ExtFault>
         ensures ok { IfOk result (λ resume. IsResume tree.now resume) }
         ensures err { IfErr result (IsFault (is_management (codes "resume") tree.now) (ResumptionLacks tree.now)) }
+        ensures reading { ReadsBy (λ resume. (resume.previd, resume.h)) result (resumption_read (codes "resume") tree.now) }
     {
         Resume::read_element(alloc, tree.element())
     }
@@ -251,6 +257,7 @@ impl Resume {
     pub fn read_element(alloc: Global, element: &Element) -> Result<Resume, ExtFault>
         ensures ok { IfOk result (λ resume. IsResume (elem_view element.now) resume) }
         ensures err { IfErr result (IsFault (is_management (codes "resume") (elem_view element.now)) (ResumptionLacks (elem_view element.now))) }
+        ensures reading { ReadsBy (λ resume. (resume.previd, resume.h)) result (resumption_read (codes "resume") (elem_view element.now)) }
     {
         let (previd, h) = read_resumption(alloc, element, "resume")?;
         Ok(Resume { previd, h })
@@ -271,6 +278,7 @@ impl Resumed {
     pub fn read(alloc: Global, tree: &Tree) -> Result<Resumed, ExtFault>
         ensures ok { IfOk result (λ resumed. IsResumed tree.now resumed) }
         ensures err { IfErr result (IsFault (is_management (codes "resumed") tree.now) (ResumptionLacks tree.now)) }
+        ensures reading { ReadsBy (λ resumed. (resumed.previd, resumed.h)) result (resumption_read (codes "resumed") tree.now) }
     {
         Resumed::read_element(alloc, tree.element())
     }
@@ -279,6 +287,7 @@ impl Resumed {
     pub fn read_element(alloc: Global, element: &Element) -> Result<Resumed, ExtFault>
         ensures ok { IfOk result (λ resumed. IsResumed (elem_view element.now) resumed) }
         ensures err { IfErr result (IsFault (is_management (codes "resumed") (elem_view element.now)) (ResumptionLacks (elem_view element.now))) }
+        ensures reading { ReadsBy (λ resumed. (resumed.previd, resumed.h)) result (resumption_read (codes "resumed") (elem_view element.now)) }
     {
         let (previd, h) = read_resumption(alloc, element, "resumed")?;
         Ok(Resumed { previd, h })
@@ -299,6 +308,7 @@ impl SmFailed {
     pub fn read(alloc: Global, tree: &Tree) -> Result<SmFailed, ExtFault>
         ensures ok { IfOk result (λ failed. IsSmFailed tree.now failed) }
         ensures err { IfErr result (IsFault (is_management (codes "failed") tree.now) (SmFailedLacks tree.now)) }
+        ensures reading { ReadsBy (λ failed. failed.condition) result (failed_read tree.now) }
     {
         SmFailed::read_element(alloc, tree.element())
     }
@@ -307,6 +317,7 @@ impl SmFailed {
     pub fn read_element(alloc: Global, element: &Element) -> Result<SmFailed, ExtFault>
         ensures ok { IfOk result (λ failed. IsSmFailed (elem_view element.now) failed) }
         ensures err { IfErr result (IsFault (is_management (codes "failed") (elem_view element.now)) (SmFailedLacks (elem_view element.now))) }
+        ensures reading { ReadsBy (λ failed. failed.condition) result (failed_read (elem_view element.now)) }
     {
         if !is_management(element, "failed") {
             return Err(ExtFault::NotThis);

@@ -7,11 +7,13 @@ ghost use Rattle.xmpp_payload.specs.Faults.{IsFault};
 ghost use Rattle.xmpp_trees.specs.Trees.{with_nodes};
 ghost use Rattle.xmpp_trees.specs.Views.{elem_view};
 ghost use Rattle.xmpp_stanza.specs.Errors.{trees_where};
+ghost use Rattle.xmpp_mam.specs.Readings.{fin_read, result_read};
+ghost use Rattle.xmpp_payload.specs.Readings.{Reads};
 
 use crate::result_sets::{push_item, set_child, set_element, set_text, text_where};
 use std::alloc::Global;
 use xmpp_edge::{NoMemory, Text};
-use xmpp_ext::{Forwarded, forwarded_element, forwarded_inside};
+use xmpp_ext::{Forwarded, forwarded_element, forwarded_inside, forwarded_moved};
 use xmpp_pages::Fin;
 use xmpp_payload::{
     ARCHIVE, ExtFault, Field, RESULT_SETS, attr_text, flag, optional_u64, push_flag, push_number,
@@ -80,6 +82,7 @@ fn page_element(alloc: Global, fin: &Fin) -> Result<Element, NoMemory>
 pub fn read_fin(alloc: Global, tree: &Tree) -> Result<Fin, ExtFault>
     ensures ok { IfOk result (λ fin. IsFin tree.now fin) }
     ensures err { IfErr result (IsFault (is_fin tree.now) (IsFirstWrong (fin_checks tree.now))) }
+    ensures reading { Reads result (fin_read tree.now) }
 {
     read_fin_element(alloc, tree.element())
 }
@@ -88,6 +91,7 @@ pub fn read_fin(alloc: Global, tree: &Tree) -> Result<Fin, ExtFault>
 pub fn read_fin_element(alloc: Global, element: &Element) -> Result<Fin, ExtFault>
     ensures ok { IfOk result (λ fin. IsFin (elem_view element.now) fin) }
     ensures err { IfErr result (IsFault (is_fin (elem_view element.now)) (IsFirstWrong (fin_checks (elem_view element.now)))) }
+    ensures reading { Reads result (fin_read (elem_view element.now)) }
 {
     if !element.is(ARCHIVE, "fin") {
         return Err(ExtFault::NotThis);
@@ -138,6 +142,18 @@ fn result_element(alloc: Global, v: &MamResult) -> Result<Element, NoMemory>
     Ok(element)
 }
 
+// The same with the message moved.
+fn result_moved(alloc: Global, v: MamResult) -> Result<Element, NoMemory>
+    ensures { IfOk result (λ e. WritesMamResult v (elem_view e)) }
+{
+    let mut element = Element::from_strs(alloc, ARCHIVE, "result")?;
+    push_value(alloc, &mut element, "id", v.id.as_str())?;
+    push_unless_empty(alloc, &mut element, "queryid", v.queryid.as_str())?;
+    let forwarded = forwarded_moved(alloc, v.forwarded)?;
+    element.push_child(forwarded)?;
+    Ok(element)
+}
+
 impl MamResult {
     /// Reads a `result` of an archive: its attributes `queryid`, which is empty where it is absent, and `id`, and what is
     /// forwarded in its first `forwarded`, an absent one being as an empty one. `NotThis` where the tree is another element.
@@ -146,6 +162,7 @@ impl MamResult {
     pub fn read(alloc: Global, tree: &Tree) -> Result<MamResult, ExtFault>
         ensures ok { IfOk result (λ v. IsMamResult tree.now v) }
         ensures err { IfErr result (IsFault (is_result tree.now) (IsFirstWrong (result_checks tree.now))) }
+        ensures reading { Reads result (result_read tree.now) }
     {
         MamResult::read_element(alloc, tree.element())
     }
@@ -154,6 +171,7 @@ impl MamResult {
     pub fn read_element(alloc: Global, element: &Element) -> Result<MamResult, ExtFault>
         ensures ok { IfOk result (λ v. IsMamResult (elem_view element.now) v) }
         ensures err { IfErr result (IsFault (is_result (elem_view element.now)) (IsFirstWrong (result_checks (elem_view element.now)))) }
+        ensures reading { Reads result (result_read (elem_view element.now)) }
     {
         if !element.is(ARCHIVE, "result") {
             return Err(ExtFault::NotThis);
@@ -178,6 +196,15 @@ impl MamResult {
         ensures { IfOk result (λ tree. WritesMamResult self.now tree) }
     {
         let element = result_element(alloc, self)?;
+        Tree::of(alloc, element)
+    }
+
+    /// The same with the message moved.
+    #[tactic(auto, using(crate::proofs::ResultLaws::result_tree))]
+    pub fn into_tree(self, alloc: Global) -> Result<Tree, NoMemory>
+        ensures { IfOk result (λ tree. WritesMamResult self tree) }
+    {
+        let element = result_moved(alloc, self)?;
         Tree::of(alloc, element)
     }
 }

@@ -1,2 +1,3 @@
 pub mod Payloads
+pub mod Readings
 pub mod Sasl

@@ -10,6 +10,8 @@ ghost use Rattle.xmpp_trees.specs.Tidied.{text_node};
 ghost use Rattle.xmpp_trees.specs.Trees.{element, nodes_of, no_nodes};
 ghost use Rattle.xmpp_trees.specs.Views.{elem_view};
 ghost use Rattle.xmpp_stanza.specs.Conditions.{condition_in};
+ghost use Rattle.xmpp_payload.specs.Readings.{ReadsBy};
+ghost use Rattle.xmpp_sasl.specs.Readings.{carrier_read, payload_read};
 
 use base64::DecodeAllocError;
 use base64::engine::general_purpose::STANDARD;
@@ -44,10 +46,11 @@ pub(crate) fn sasl_condition(element: &Element) -> Option<&str>
 }
 
 // The bytes that a text stands for. `Bad(Payload)` where it is neither base64 (RFC 4648, section 4) nor a lone `=`.
-#[tactic(auto, unfolding(crate::specs::Payloads::base64_of))]
+#[tactic(auto, unfolding(crate::specs::Payloads::base64_of, crate::specs::Readings::payload_read))]
 fn payload_of(alloc: Global, text: &str) -> Result<Bytes, ExtFault>
     ensures ok { IfOk result (λ bytes. IsPayload text.now bytes.items) }
     ensures err { IfErr result (IsFault true (HasNoPayload text.now)) }
+    ensures reading { ReadsBy (λ bytes. bytes.items) result (payload_read text.now) }
 {
     if text == "=" {
         return Ok(Bytes::new(alloc));
@@ -64,6 +67,7 @@ fn payload_of(alloc: Global, text: &str) -> Result<Bytes, ExtFault>
 pub(crate) fn payload_in(alloc: Global, element: &Element) -> Result<Bytes, ExtFault>
     ensures ok { IfOk result (λ bytes. IsPayload (text_of (nodes_of (elem_view element.now))) bytes.items) }
     ensures err { IfErr result (IsFault true (CarrierLacks (elem_view element.now))) }
+    ensures reading { ReadsBy (λ bytes. bytes.items) result (payload_read (text_of (nodes_of (elem_view element.now)))) }
 {
     match element.only_text() {
         Some(text) => payload_of(alloc, text),
@@ -79,6 +83,7 @@ pub(crate) fn payload_in(alloc: Global, element: &Element) -> Result<Bytes, ExtF
 pub(crate) fn read_carrier(alloc: Global, element: &Element, name: &str) -> Result<Bytes, ExtFault>
     ensures ok { IfOk result (λ bytes. IsCarrier name.now (elem_view element.now) bytes.items) }
     ensures err { IfErr result (IsFault (is_sasl name.now (elem_view element.now)) (CarrierLacks (elem_view element.now))) }
+    ensures reading { ReadsBy (λ bytes. bytes.items) result (carrier_read name.now (elem_view element.now)) }
 {
     if !is_sasl(element, name) {
         return Err(ExtFault::NotThis);

@@ -4,6 +4,8 @@ ghost use Rattle.std.specs.Option.{option_copied};
 ghost use Rattle.xmpp_payload.specs.Faults.{IsFault};
 ghost use Rattle.xmpp_sasl.specs.Sasl.{AuthLacks, CarrierLacks, FailureLacks, IsAuth, IsCarrier, IsFailure, abort_of, abort_read, auth_mechanism, auth_of, carrier, failure_of, is_sasl};
 ghost use Rattle.xmpp_trees.specs.Views.{elem_view};
+ghost use Rattle.xmpp_payload.specs.Readings.{ReadsBy};
+ghost use Rattle.xmpp_sasl.specs.Readings.{auth_read, carrier_read, failure_read};
 
 use crate::payloads::{
     carrier_element, carrier_tree, is_sasl, payload_in, read_carrier, sasl_condition, sasl_element,
@@ -27,6 +29,7 @@ impl Auth {
     pub fn read(alloc: Global, tree: &Tree) -> Result<Auth, ExtFault>
         ensures ok { IfOk result (λ auth. IsAuth tree.now auth.mechanism auth.payload.items) }
         ensures err { IfErr result (IsFault (is_sasl (codes "auth") tree.now) (AuthLacks tree.now)) }
+        ensures reading { ReadsBy (λ auth. (auth.mechanism, auth.payload.items)) result (auth_read tree.now) }
     {
         Auth::read_element(alloc, tree.element())
     }
@@ -35,6 +38,7 @@ impl Auth {
     pub fn read_element(alloc: Global, element: &Element) -> Result<Auth, ExtFault>
         ensures ok { IfOk result (λ auth. IsAuth (elem_view element.now) auth.mechanism auth.payload.items) }
         ensures err { IfErr result (IsFault (is_sasl (codes "auth") (elem_view element.now)) (AuthLacks (elem_view element.now))) }
+        ensures reading { ReadsBy (λ auth. (auth.mechanism, auth.payload.items)) result (auth_read (elem_view element.now)) }
     {
         if !is_sasl(element, "auth") {
             return Err(ExtFault::NotThis);
@@ -85,6 +89,7 @@ impl Challenge {
     pub fn read(alloc: Global, tree: &Tree) -> Result<Challenge, ExtFault>
         ensures ok { IfOk result (λ challenge. IsCarrier (codes "challenge") tree.now challenge.payload.items) }
         ensures err { IfErr result (IsFault (is_sasl (codes "challenge") tree.now) (CarrierLacks tree.now)) }
+        ensures reading { ReadsBy (λ challenge. challenge.payload.items) result (carrier_read (codes "challenge") tree.now) }
     {
         Challenge::read_element(alloc, tree.element())
     }
@@ -93,6 +98,7 @@ impl Challenge {
     pub fn read_element(alloc: Global, element: &Element) -> Result<Challenge, ExtFault>
         ensures ok { IfOk result (λ challenge. IsCarrier (codes "challenge") (elem_view element.now) challenge.payload.items) }
         ensures err { IfErr result (IsFault (is_sasl (codes "challenge") (elem_view element.now)) (CarrierLacks (elem_view element.now))) }
+        ensures reading { ReadsBy (λ challenge. challenge.payload.items) result (carrier_read (codes "challenge") (elem_view element.now)) }
     {
         let payload = read_carrier(alloc, element, "challenge")?;
         Ok(Challenge { payload })
@@ -119,6 +125,7 @@ impl Response {
     pub fn read(alloc: Global, tree: &Tree) -> Result<Response, ExtFault>
         ensures ok { IfOk result (λ response. IsCarrier (codes "response") tree.now response.payload.items) }
         ensures err { IfErr result (IsFault (is_sasl (codes "response") tree.now) (CarrierLacks tree.now)) }
+        ensures reading { ReadsBy (λ response. response.payload.items) result (carrier_read (codes "response") tree.now) }
     {
         Response::read_element(alloc, tree.element())
     }
@@ -127,6 +134,7 @@ impl Response {
     pub fn read_element(alloc: Global, element: &Element) -> Result<Response, ExtFault>
         ensures ok { IfOk result (λ response. IsCarrier (codes "response") (elem_view element.now) response.payload.items) }
         ensures err { IfErr result (IsFault (is_sasl (codes "response") (elem_view element.now)) (CarrierLacks (elem_view element.now))) }
+        ensures reading { ReadsBy (λ response. response.payload.items) result (carrier_read (codes "response") (elem_view element.now)) }
     {
         let payload = read_carrier(alloc, element, "response")?;
         Ok(Response { payload })
@@ -153,6 +161,7 @@ impl Success {
     pub fn read(alloc: Global, tree: &Tree) -> Result<Success, ExtFault>
         ensures ok { IfOk result (λ success. IsCarrier (codes "success") tree.now success.payload.items) }
         ensures err { IfErr result (IsFault (is_sasl (codes "success") tree.now) (CarrierLacks tree.now)) }
+        ensures reading { ReadsBy (λ success. success.payload.items) result (carrier_read (codes "success") tree.now) }
     {
         Success::read_element(alloc, tree.element())
     }
@@ -161,6 +170,7 @@ impl Success {
     pub fn read_element(alloc: Global, element: &Element) -> Result<Success, ExtFault>
         ensures ok { IfOk result (λ success. IsCarrier (codes "success") (elem_view element.now) success.payload.items) }
         ensures err { IfErr result (IsFault (is_sasl (codes "success") (elem_view element.now)) (CarrierLacks (elem_view element.now))) }
+        ensures reading { ReadsBy (λ success. success.payload.items) result (carrier_read (codes "success") (elem_view element.now)) }
     {
         let payload = read_carrier(alloc, element, "success")?;
         Ok(Success { payload })
@@ -186,6 +196,7 @@ impl SaslFailure {
     pub fn read(alloc: Global, tree: &Tree) -> Result<SaslFailure, ExtFault>
         ensures ok { IfOk result (λ failure. IsFailure tree.now failure.condition) }
         ensures err { IfErr result (IsFault (is_sasl (codes "failure") tree.now) (FailureLacks tree.now)) }
+        ensures reading { ReadsBy (λ failure. failure.condition) result (failure_read tree.now) }
     {
         SaslFailure::read_element(alloc, tree.element())
     }
@@ -194,6 +205,7 @@ impl SaslFailure {
     pub fn read_element(alloc: Global, element: &Element) -> Result<SaslFailure, ExtFault>
         ensures ok { IfOk result (λ failure. IsFailure (elem_view element.now) failure.condition) }
         ensures err { IfErr result (IsFault (is_sasl (codes "failure") (elem_view element.now)) (FailureLacks (elem_view element.now))) }
+        ensures reading { ReadsBy (λ failure. failure.condition) result (failure_read (elem_view element.now)) }
     {
         if !is_sasl(element, "failure") {
             return Err(ExtFault::NotThis);
