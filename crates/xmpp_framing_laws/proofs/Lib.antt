@@ -54,6 +54,7 @@ pub mod WrittenHeaders
 pub mod WrittenRuns
 pub mod WrittenPieces
 pub mod FitsAgain
+pub mod PassedOn
 -- definitions at values
 mod WorkedFits
 mod WorkedGrammar

@@ -43,7 +43,7 @@ use Rattle.xmpp_framing_laws.proofs.SpelledTrees.{begun_is, spelled_tree}
 
 -- ---- lists
 
-append_each : {A : Type 0} (P : A → Type 0) (xs ys : List A) → AllByRecursion P xs → AllByRecursion P ys → AllByRecursion P (xs ++ ys)
+pub append_each : {A : Type 0} (P : A → Type 0) (xs ys : List A) → AllByRecursion P xs → AllByRecursion P ys → AllByRecursion P (xs ++ ys)
 append_each P [] ys h k = k
 append_each P (x ∷ xs) ys h k = (h.0, append_each P xs ys h.1 k)
 
@@ -309,17 +309,17 @@ empty_header_in_plain phase.Ended outer bytes name scope h n = absurd n
 
 -- ---- streams
 
-abbrev ArePlainItems : List Item → Type 0
+abbrev pub ArePlainItems : List Item → Type 0
 ArePlainItems items = AllByRecursion IsPlainItem items
 
-record IsPlainSoFar (now : InForce) (said : List Item) : Type 0 where
-  scope : IsPlainScope now.scope
-  items : ArePlainItems said
+pub record IsPlainSoFar (now : InForce) (said : List Item) : Type 0 where
+  pub scope : IsPlainScope now.scope
+  pub items : ArePlainItems said
 
 more_items : (items given more : List Item) → items ≡ given ++ more → ArePlainItems given → ArePlainItems more → ArePlainItems items
 more_items items given more are h k = subst ArePlainItems (sym are) (append_each IsPlainItem given more h k)
 
-stream_so_far : (now : InForce) (bytes : List ℕ) (items : List Item) → StreamTo now bytes items → IsPlainSoFar now items
+pub stream_so_far : (now : InForce) (bytes : List ℕ) (items : List Item) → StreamTo now bytes items → IsPlainSoFar now items
 stream_so_far now bytes items (nothing _ _ _ is_first no_scope no_name no_bytes no_items) = record { scope = subst IsPlainScope (sym no_scope) tt; items = subst ArePlainItems (sym no_items) tt }
 stream_so_far now bytes items (white_space _ _ _ front space so_far white bytes_are) = stream_so_far now front items so_far
 stream_so_far now bytes items (declared _ _ _ before front tag so_far phases scope_is name_is good bytes_are) =

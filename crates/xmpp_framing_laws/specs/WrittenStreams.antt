@@ -1,6 +1,6 @@
 -- Streams as they are written, one item after another, and the items that are read of them (RFC 6120, sections 4.2 to
 -- 4.4).
-use Rattle.std.specs.Prelude.{ℕ, ◌+◌, ◌-◌, nat_le, if◌then◌else◌, List, [], ◌∷◌, codes, length}
+use Rattle.std.specs.Prelude.{ℕ, ◌+◌, ◌-◌, ◌≤◌, nat_le, if◌then◌else◌, List, [], ◌∷◌, codes, length}
 use Rattle.std.specs.List.{flat_map}
 use Rattle.xmpp_trees.specs.Trees.{IsTree}
 use Rattle.xmpp_framing.specs.declared.items.Item.{Item}
@@ -29,6 +29,12 @@ abbrev pub ItemFits : Limits → Item → Type 0
 ItemFits limits (item.Header at h) = IsPlainHeader h × HeaderFits limits h
 ItemFits limits (item.Element e) = IsTree e × IsPlain e × Fits limits e
 ItemFits limits item.Footer = Unit {0}
+
+-- an element that was read is a plain tree that fits, if its bytes aren't too many
+abbrev pub CanPass : Limits → Item → Type 0
+CanPass limits (item.Header at h) = Unit {0}
+CanPass limits (item.Element e) = length (canon e) ≤ limits.bytes → ItemFits limits (item.Element e)
+CanPass limits item.Footer = Unit {0}
 
 -- An item may be written there: first a header, then each, and behind the footer none.
 abbrev pub MayStand : Phase → Item → Type 0

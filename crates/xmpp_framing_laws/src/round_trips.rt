@@ -9,9 +9,9 @@ ghost use Rattle.xmpp_framing_laws.specs.Plain.{IsPlain, IsPlainElement, IsPlain
 ghost use Rattle.xmpp_framing_laws.specs.PlainItems.{IsPlainItem, IsPlainScope};
 ghost use Rattle.xmpp_framing_laws.specs.Spells.{Spells, SpellsHeader, SpellsTop, as_written, written_scope};
 ghost use Rattle.xmpp_framing_laws.specs.Standing.{Gives, StandsOutside};
-ghost use Rattle.xmpp_framing_laws.specs.StreamLimits.{IsReadAs};
-ghost use Rattle.xmpp_framing_laws.specs.Streams.{IsStream};
-ghost use Rattle.xmpp_framing_laws.specs.WrittenStreams.{ItemFits, MayFollow, at_start, now_after, read_items, whole_items, written_items};
+ghost use Rattle.xmpp_framing_laws.specs.StreamLimits.{IsReadAs, IsStreamWithin};
+ghost use Rattle.xmpp_framing_laws.specs.Streams.{InForce, IsStream, StreamTo};
+ghost use Rattle.xmpp_framing_laws.specs.WrittenStreams.{CanPass, ItemFits, MayFollow, at_start, now_after, read_items, whole_items, written_items};
 ghost use Rattle.xmpp_framing_laws.specs.Within.{IsElementWithin, IsHeaderWithin};
 ghost use Rattle.xmpp_trees.specs.Trees.{Elem, IsTree};
 ghost use Rattle.xmpp_framing.specs.Limits.{client_limits, server_limits};
@@ -89,8 +89,9 @@ pub fn written_streams_are_read()
 
 /// A law: what is read within limits fits, as it is written, into limits as deep and with names as long that admit twice as
 /// many attributes and one more, if its bytes are not too many: so what is read within a server's limits fits into a
-/// client's. The scope around it has short names, as one that a header puts in force within the limits does. What was
-/// read so can be passed on: its bytes are read as that element.
+/// client's. The scope around it has short names, as one that a header puts in force within the limits does; so each
+/// element of a stream within the limits is a plain tree that fits, if its bytes are not too many. What was read so can be
+/// passed on: its bytes are read as that element.
 ///
 /// More bytes may be written than were read, and more than a client admits: a namespace that is declared once, and in
 /// force in many elements, may have to be declared in each of them.
@@ -103,6 +104,9 @@ pub fn what_is_read_fits()
         → length (canon e) ≤ client_limits.bytes → Fits client_limits e }
     ensures header { (limits : Limits) (bytes name : List ℕ) (scope : Scope) (h : Header) (spelled : SpellsHeader bytes name scope h)
         → IsHeaderWithin limits bytes name scope h spelled → All (IsShort limits.namespace_bytes) scope }
+    ensures stream { (read most : Limits) (now : InForce) (bytes : List ℕ) (items : List Item) (stream : StreamTo now bytes items)
+        → IsStreamWithin read now bytes items stream → 2 * read.attributes + 1 ≤ most.attributes → read.namespace_bytes ≤ most.namespace_bytes
+        → read.depth ≤ most.depth → All (CanPass most) items }
     ensures passed_on { (s : State) (items : List Item) (read : Limits) (scope : Scope) (bytes : List ℕ) (e : Elem) (spelled : SpellsTop scope bytes e)
         → IsPlainScope scope → All (IsShort read.namespace_bytes) scope → IsElementWithin read scope bytes e spelled.spelled
         → 2 * read.attributes + 1 ≤ s.limits.attributes → read.namespace_bytes ≤ s.limits.namespace_bytes → read.depth ≤ s.limits.depth

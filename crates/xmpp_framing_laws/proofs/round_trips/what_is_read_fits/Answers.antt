@@ -1,4 +1,5 @@
 use Rattle.xmpp_framing_laws.proofs.FitsAgain as again
+use Rattle.xmpp_framing_laws.proofs.PassedOn.{stream_can_pass}
 use Rattle.xmpp_framing_laws.proofs.round_trips.what_is_read_fits.Goals as goal
 
 pub returns-clause-fits : goal.returns-clause-fits
@@ -12,3 +13,6 @@ returns-clause-header c = again.header_scope_short
 
 pub returns-clause-passed_on : goal.returns-clause-passed_on
 returns-clause-passed_on c = again.passed_on
+
+pub returns-clause-stream : goal.returns-clause-stream
+returns-clause-stream c = stream_can_pass
