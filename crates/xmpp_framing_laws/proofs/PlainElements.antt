@@ -1,5 +1,5 @@
 -- What is spelled is plain, so that it can be written.
-use Rattle.std.proofs.Common.{◌≡◌, ◌≢◌, ℕ, ◌⊎◌, inl, inr, Bool, true, false, cond, ◌&&◌, List, [], ◌∷◌, ◌++◌, map, codes, bytes_eq, Option, Some, None, Ordering, Less, Equal, Greater, unwrap_or, refl, sym, ap, subst, ◌∙◌, ⊎_elim}
+use Rattle.std.proofs.Common.{◌≡◌, ◌≢◌, ℕ, ◌<◌, ◌^◌, ◌⊎◌, inl, inr, Bool, true, false, cond, ◌&&◌, List, [], ◌∷◌, ◌++◌, map, codes, bytes_eq, Option, Some, None, Ordering, Less, Equal, Greater, unwrap_or, refl, sym, ap, subst, ◌∙◌, ⊎_elim}
 use Rattle.std.specs.Prelude.{IfSome}
 use Rattle.std.proofs.lemmas.Bool.{and_parts, false≢true}
 use Rattle.std.proofs.lemmas.List.Elements.{All-from_recursion, recursion_from_All}
@@ -29,13 +29,18 @@ use Rattle.xmpp_framing.specs.Expanded.{attribute_of}
 use Rattle.xmpp_framing.specs.declared.items.Item.{Item}
 use Rattle.xmpp_framing.specs.declared.states.Phase.{Phase}
 use Rattle.xmpp_framing.specs.declared.states.Phase.TheVariants as phase
-use Rattle.xmpp_writer.specs.Canon.{canon}
+use Rattle.xmpp_framing.specs.Machine.{part_of, run}
+use Rattle.xmpp_framing.specs.States.{from_start, turn}
+use Rattle.xmpp_framing.specs.declared.limits.Limits.{Limits}
+use Rattle.xmpp_writer.specs.Canon.{canon, client_namespace, streams_namespace, written_header}
 use Rattle.xmpp_framing_laws.specs.Plain.{ArePlainNodes, HasPlainName, IsPlain, IsPlainAttribute, IsPlainElement, IsPlainHeader, IsPlainName}
 use Rattle.xmpp_framing_laws.specs.PlainItems.{IsPlainBinding, IsPlainItem, IsPlainScope}
-use Rattle.xmpp_framing_laws.specs.Spells.{IsBegun, Spells, SpellsContent, SpellsHeader, SpellsTop, bind, empty, filled, text_alone, with_element, written_scope}
+use Rattle.xmpp_framing_laws.specs.Spells.{IsBegun, Spells, SpellsContent, SpellsHeader, SpellsTop, as_written, bind, empty, filled, text_alone, with_element, written_scope}
 use Rattle.xmpp_framing_laws.specs.Streams.{InForce, IsStream, SpellsEmptyHeaderIn, SpellsHeaderIn, StreamTo, declared, ended, headed, headed_and_ended, nothing, white_space}
 use Rattle.xmpp_framing_laws.specs.Streams as streams
 use Rattle.xmpp_framing_laws.proofs.CanonLaws.{canon_spelled}
+use Rattle.xmpp_framing_laws.proofs.HeaderLaws.{header_spelled}
+use Rattle.xmpp_framing_laws.proofs.ReadStreams.{what_is_read}
 use Rattle.xmpp_framing_laws.proofs.SaidCharacters.{local_is_plain, text_says_characters, value_says_characters}
 use Rattle.xmpp_framing_laws.proofs.SpelledAttributes.{Fine}
 use Rattle.xmpp_framing_laws.proofs.SpelledNames.{differ}
@@ -256,14 +261,10 @@ written_again scope bytes e s h = canon_spelled e (spelled_tree scope bytes e h.
 
 -- ---- headers
 
-if_given : (o : Option (List ℕ)) → o ≡ None → IfSome o IsCharacters
-if_given o e = subst (λ o. IfSome o IsCharacters) (sym e) tt
-
 value_plain : (es : List ExpandedAttribute) (ns name : List ℕ) → AllByRecursion IsPlainAttribute (map attribute_of es) → IfSome (value_in es ns name) IsCharacters
 value_plain [] ns name h = tt
 value_plain (a ∷ more) ns name h =
-    subst (λ o. IfSome o IsCharacters) refl
-    (either_value (bytes_eq a.ns ns && bytes_eq a.name name) a.value (value_in more ns name) h.0.value (value_plain more ns name h.1))
+    either_value (bytes_eq a.ns ns && bytes_eq a.name name) a.value (value_in more ns name) h.0.value (value_plain more ns name h.1)
   where
     either_value : (b : Bool) (value : List ℕ) (o : Option (List ℕ)) → IsCharacters value → IfSome o IsCharacters → IfSome (cond b (Some value) o) IsCharacters
     either_value true value o h k = h
@@ -341,3 +342,26 @@ stream_so_far now bytes items (ended _ _ _ before front tag given so_far was_bet
 
 pub stream_is_plain : (bytes : List ℕ) (items : List Item) → IsStream bytes items → All IsPlainItem items
 stream_is_plain bytes items h = All-from_recursion IsPlainItem items (stream_so_far h.0 bytes items h.1).items
+
+-- ---- what is read, written again
+
+written_same : (h : Header) → h.ns ≡ streams_namespace → h.name ≡ codes "stream" → h.content ≡ client_namespace → as_written h ≡ h
+written_same h ns_is name_is content_is = λ i. record {
+  ns = sym ns_is i;
+  name = sym name_is i;
+  content = sym content_is i;
+  to = h.to;
+  from = h.from;
+  id = h.id;
+  version = h.version;
+  lang = h.lang;
+}
+
+pub header_again : (bytes name : List ℕ) (scope : Scope) (h : Header) → SpellsHeader bytes name scope h → h.ns ≡ streams_namespace → h.name ≡ codes "stream" → h.content ≡ client_namespace
+    → SpellsHeader (written_header h) (codes "stream:stream") written_scope h
+header_again bytes name scope h spelled ns_is name_is content_is =
+    subst (SpellsHeader (written_header h) (codes "stream:stream") written_scope) (written_same h ns_is name_is content_is) (header_spelled h (header_is_plain bytes name scope h spelled).0)
+
+pub given_is_plain : (limits : Limits) (bytes : List ℕ) → limits.attributes < 2 ^ 32 → limits.namespace_bytes < 2 ^ 32 → (run (turn (from_start limits) []) bytes).state.fault ≡ None
+    → part_of (run (turn (from_start limits) []) bytes).state ≡ None → All IsPlainItem (run (turn (from_start limits) []) bytes).items
+given_is_plain limits bytes few short none part = stream_is_plain bytes (run (turn (from_start limits) []) bytes).items (what_is_read limits bytes few short none part)

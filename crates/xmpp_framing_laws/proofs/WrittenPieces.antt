@@ -82,8 +82,8 @@ before_last s said bytes i p g n less =
     }
 
 -- an item, and then what the bytes behind it give
-after_item : (s t : State) (said all : List Item) (first rest : List ℕ) (i : Item) (more : List Item) → run (turn s said) first ≡ turn t (said ++ i ∷ []) → Gave t (said ++ i ∷ []) rest more → Gave s said (first ++ rest) (i ∷ more)
-after_item s t said all first rest i more runs h =
+after_item : (s t : State) (said : List Item) (first rest : List ℕ) (i : Item) (more : List Item) → run (turn s said) first ≡ turn t (said ++ i ∷ []) → Gave t (said ++ i ∷ []) rest more → Gave s said (first ++ rest) (i ∷ more)
+after_item s t said first rest i more runs h =
     let whole : run (turn s said) (first ++ rest) ≡ run (turn t (said ++ i ∷ [])) rest = run_append (turn s said) first rest ∙ ap (λ u. run u rest) runs in
     record {
       items = ap (λ (u : Turn). u.items) whole ∙ h.items ∙ append_assoc said (i ∷ []) more;
@@ -113,7 +113,7 @@ one_more s said offset i more n at g others =
     let items_are : whole_items n (i ∷ more) ≡ i ∷ whole_items k more = cond-true (leb (length w) n) (i ∷ whole_items k more) [] fits in
     subst (λ l. Gave s said (take n (w ++ rest)) (read_items offset l)) (sym items_are)
     (subst (λ l. Gave s said l (read_items offset (i ∷ whole_items k more))) (sym bytes_are)
-    (after_item s g.behind said [] w (take k rest) (read_item offset i) (read_items (offset + length w) (whole_items k more)) runs after)))
+    (after_item s g.behind said w (take k rest) (read_item offset i) (read_items (offset + length w) (whole_items k more)) runs after)))
     (λ (cut : leb (length w) n ≡ false).
     let less : n < length w = grind (arith, nat_tests) in
     let bytes_are : take n (w ++ rest) ≡ take n w = take-append-le n w rest (omega (arith, less)) in

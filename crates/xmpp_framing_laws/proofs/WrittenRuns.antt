@@ -87,9 +87,6 @@ is_behind (item.Element e) = tt
 is_behind item.Footer = tt
 
 -- one item, and then the others
-more_bytes : (bytes first rest : List ℕ) → (bytes ++ first) ++ rest ≡ bytes ++ (first ++ rest)
-more_bytes bytes first rest = append_assoc bytes first rest
-
 more_items : (said : List Item) (bytes : List ℕ) (i : Item) (more : List Item) → (said ++ read_item (length bytes) i ∷ []) ++ read_items (length (bytes ++ written_item i)) more ≡ said ++ read_items (length bytes) (i ∷ more)
 more_items said bytes i more =
     ap (λ n. (said ++ read_item (length bytes) i ∷ []) ++ read_items n more) (length-append bytes (written_item i))
@@ -107,7 +104,7 @@ items_from limits p bytes said (i ∷ more) limited after s may fits =
     let rest = items_from limits (phase_after i) (bytes ++ written_item i) (said ++ read_item (length bytes) i ∷ []) more limited (is_behind i) one may.1 fits.1 in
     moved limits now ((bytes ++ written_item i) ++ written_items more) (bytes ++ written_items (i ∷ more))
     ((said ++ read_item (length bytes) i ∷ []) ++ read_items (length (bytes ++ written_item i)) more) (said ++ read_items (length bytes) (i ∷ more))
-    (more_bytes bytes (written_item i) (written_items more)) (more_items said bytes i more) rest
+    (append_assoc bytes (written_item i) (written_items more)) (more_items said bytes i more) rest
 
 whole_stream : (limits : Limits) (items : List Item) → AreLimits limits → MayFollow phase.First items → AllByRecursion (ItemFits limits) items
     → SoFar limits (now_after at_start items) (written_items items) (read_items 0 items)

@@ -27,13 +27,19 @@ ghost use Rattle.xmpp_names.specs.declared.headers.Header.{Header};
 
 /// A law: what is read can be written again. What spells an element spells a tree, and a plain one in each scope that a
 /// header and start tags put in force; a header's values are plain, and so is the scope that it puts in force. All items
-/// of a stream are plain. So what is written for an element that was read, in whatever scope, spells that element.
+/// of a stream are plain, and so are those that a framer gives where nothing is unfinished. So what is written for an
+/// element that was read, in whatever scope, spells that element, and what is written for a header that was read, whose
+/// content is `jabber:client`, spells that header.
 pub fn what_is_read_is_plain()
     ensures tree { (scope : Scope) (bytes : List ℕ) (e : Elem) → Spells scope bytes e → IsTree e }
     ensures element { (scope : Scope) (bytes : List ℕ) (e : Elem) → IsPlainScope scope → Spells scope bytes e → IsPlainElement e }
     ensures top { (scope : Scope) (bytes : List ℕ) (e : Elem) → IsPlainScope scope → SpellsTop scope bytes e → IsPlain e }
     ensures header { (bytes name : List ℕ) (scope : Scope) (h : Header) → SpellsHeader bytes name scope h → IsPlainHeader h × IsPlainScope scope }
     ensures stream { (bytes : List ℕ) (items : List Item) → IsStream bytes items → All IsPlainItem items }
+    ensures given { (limits : Limits) (bytes : List ℕ) → limits.attributes < 2 ^ 32 → limits.namespace_bytes < 2 ^ 32
+        → let end = run (turn (from_start limits) []) bytes in (end.state.fault ≡ None → part_of end.state ≡ None → All IsPlainItem end.items) }
+    ensures header_again { (bytes name : List ℕ) (scope : Scope) (h : Header) → SpellsHeader bytes name scope h → h.ns ≡ streams_namespace
+        → h.name ≡ codes "stream" → h.content ≡ client_namespace → SpellsHeader (written_header h) (codes "stream:stream") written_scope h }
     ensures again { (scope : Scope) (bytes : List ℕ) (e : Elem) → IsPlainScope scope → SpellsTop scope bytes e → SpellsTop written_scope (canon e) e }
 {}
 
