@@ -1,5 +1,5 @@
 -- Of the first bytes of a written stream the items are read of which all bytes are there.
-use Rattle.std.proofs.Common.{◌≡◌, ℕ, zero, suc, ◌+◌, ◌-◌, ◌<◌, ◌^◌, leb, true, false, List, [], ◌∷◌, ◌++◌, None, codes, length, take, drop, refl, sym, ap, subst, ◌∙◌, ⊎_elim, arith, append_assoc, append-nil}
+use Rattle.std.proofs.Common.{◌≡◌, ℕ, zero, suc, ◌+◌, ◌-◌, ◌<◌, ◌^◌, leb, true, false, List, [], ◌∷◌, ◌++◌, None, codes, length, take, drop, refl, sym, ap, subst, ◌∙◌, ⊎_elim, arith, append_assoc, append-nil, length-append}
 use Rattle.std.proofs.Math.Seq.{take-append-add}
 use Rattle.std.proofs.lemmas.Bool.{cases_Bool, cond-true, cond-false}
 use Rattle.std.proofs.lemmas.Bool.Decides.{nat_tests}
@@ -149,3 +149,33 @@ pub pieces_are_read : (limits : Limits) (items : List Item) (n : ℕ) → limits
 pieces_are_read limits items n few short may fits =
     let g = all_pieces limits items n (record { few = few; short = short }) may (recursion_from_All (ItemFits limits) items fits) in
     (g.items, g.no_fault)
+
+-- ---- which items are whole
+
+rest_of_length : (a b k : ℕ) → (a + b + k) - a ≡ b + k
+rest_of_length a b k = omega arith
+
+is_within : (a b k : ℕ) → leb a (a + b + k) ≡ true
+is_within a b k = grind (arith, nat_tests)
+
+is_beyond : (a k : ℕ) → k < a → leb a (0 + k) ≡ false
+is_beyond a k less = grind (arith, nat_tests)
+
+whole_first : (i : Item) (more others : List Item) (k : ℕ) → whole_items (length (written_items more) + k) others ≡ more → whole_items (length (written_items (i ∷ more)) + k) (i ∷ others) ≡ i ∷ more
+whole_first i more others k is =
+    let a = length (written_item i) in
+    let b = length (written_items more) in
+    ap (λ n. whole_items (n + k) (i ∷ others)) (length-append (written_item i) (written_items more))
+    ∙ cond-true (leb a (a + b + k)) (i ∷ whole_items ((a + b + k) - a) others) [] (is_within a b k)
+    ∙ ap (λ n. i ∷ whole_items n others) (rest_of_length a b k)
+    ∙ ap (λ l. i ∷ l) is
+
+-- those before the item in which the bytes end
+pub whole_before : (done : List Item) (i : Item) (more : List Item) (k : ℕ) → k < length (written_item i) → whole_items (length (written_items done) + k) (done ++ i ∷ more) ≡ done
+whole_before [] i more k less = cond-false (leb (length (written_item i)) (0 + k)) (i ∷ whole_items (0 + k - length (written_item i)) more) [] (is_beyond (length (written_item i)) k less)
+whole_before (j ∷ done) i more k less = whole_first j done (done ++ i ∷ more) k (whole_before done i more k less)
+
+-- all of them, where all bytes are there
+pub whole_all : (items : List Item) (k : ℕ) → whole_items (length (written_items items) + k) items ≡ items
+whole_all [] k = refl
+whole_all (i ∷ more) k = whole_first i more more k (whole_all more k)

@@ -1,6 +1,6 @@
 //! Laws of round trips: what is read can be written again, and what is written is read (RFC 6120, section 4; XML 1.0,
 //! section 2.2; Namespaces in XML 1.0).
-ghost use Rattle.std.specs.Prelude.{◌≡◌, ◌<◌, ◌≤◌, ◌+◌, ◌*◌, ◌^◌, ℕ, [], List, Some, None, codes, length, take};
+ghost use Rattle.std.specs.Prelude.{◌≡◌, ◌<◌, ◌≤◌, ◌+◌, ◌*◌, ◌^◌, ℕ, [], ◌∷◌, ◌++◌, List, Some, None, codes, length, take};
 ghost use Rattle.std.specs.List.{All};
 ghost use Rattle.std.specs.Option.{unwrap_or};
 ghost use Rattle.xmpp_writer.specs.Canon.{canon, client_namespace, streams_namespace, written_footer, written_header};
@@ -11,7 +11,7 @@ ghost use Rattle.xmpp_framing_laws.specs.Spells.{Spells, SpellsHeader, SpellsTop
 ghost use Rattle.xmpp_framing_laws.specs.Standing.{Gives, StandsOutside};
 ghost use Rattle.xmpp_framing_laws.specs.StreamLimits.{IsReadAs, IsStreamWithin};
 ghost use Rattle.xmpp_framing_laws.specs.Streams.{InForce, IsStream, StreamTo};
-ghost use Rattle.xmpp_framing_laws.specs.WrittenStreams.{CanPass, ItemFits, MayFollow, at_start, now_after, read_items, whole_items, written_items};
+ghost use Rattle.xmpp_framing_laws.specs.WrittenStreams.{CanPass, ItemFits, MayFollow, at_start, now_after, read_items, whole_items, written_item, written_items};
 ghost use Rattle.xmpp_framing_laws.specs.Within.{IsElementWithin, IsHeaderWithin};
 ghost use Rattle.xmpp_trees.specs.Trees.{Elem, IsTree};
 ghost use Rattle.xmpp_framing.specs.Limits.{client_limits, server_limits};
@@ -76,7 +76,8 @@ pub fn written_items_are_read()
 /// header and behind a footer nothing, the bytes one after another are a stream in the grammar's words, and are read from
 /// the first byte on without a fault, with nothing unfinished behind them: each tree as that tree, and each header with
 /// the place of its first byte. Of so many first bytes of them the items are read of which all bytes are there, without a
-/// fault. The premises on the limits are the ranges of a `Limits`'s fields.
+/// fault: those before the item in which the bytes end, and all where all bytes are there. The premises on the limits are
+/// the ranges of a `Limits`'s fields.
 pub fn written_streams_are_read()
     ensures spelled { (limits : Limits) (items : List Item) → limits.attributes < 2 ^ 32 → limits.namespace_bytes < 2 ^ 32
         → MayFollow phase.First items → All (ItemFits limits) items → IsStream (written_items items) (read_items 0 items) }
@@ -91,6 +92,9 @@ pub fn written_streams_are_read()
         → MayFollow phase.First items → All (ItemFits limits) items
         → let end = run (turn (from_start limits) []) (take n (written_items items))
         in ((end.items ≡ read_items 0 (whole_items n items)) × (end.state.fault ≡ None)) }
+    ensures whole { (done : List Item) (i : Item) (more : List Item) (k : ℕ) → k < length (written_item i)
+        → whole_items (length (written_items done) + k) (done ++ i ∷ more) ≡ done }
+    ensures all_whole { (items : List Item) (k : ℕ) → whole_items (length (written_items items) + k) items ≡ items }
 {}
 
 /// A law: what is read within limits fits, as it is written, into limits as deep and with names as long that admit twice as
