@@ -39,6 +39,7 @@ pub mod StreamRuns
 -- what is read is spelled
 pub mod ReadCharacters
 pub mod TextFronts
+pub mod WithinParts
 pub mod OpenLevels
 pub mod ReadSoFar
 pub mod ReadOutside
@@ -55,6 +56,12 @@ pub mod WrittenRuns
 pub mod WrittenPieces
 pub mod FitsAgain
 pub mod PassedOn
+-- what is unfinished
+pub mod PrefixSteps
+pub mod PrefixRuns
+-- where tokens begin
+pub mod OffsetSteps
+pub mod OffsetRuns
 -- definitions at values
 mod WorkedFits
 mod WorkedGrammar

@@ -59,7 +59,7 @@ pub ascii_alone : (held : List ℕ) (b : ℕ) → b < 128 → continues held b �
 ascii_alone held b low h =
     let none = begins b (inl low) held (held_after held b) (next_is held b h) in (none, ap (λ p. held_after p b) none ∙ ascii_after b low)
 
-ascii_ends : (b : ℕ) → b < 128 → ends_character [] b ≡ true
+pub ascii_ends : (b : ℕ) → b < 128 → ends_character [] b ≡ true
 unfolding utf8_next
 ascii_ends b low = rw (lt-ltb b 128 low) refl
 

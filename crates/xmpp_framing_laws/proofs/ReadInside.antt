@@ -1,6 +1,6 @@
 -- A byte in an element keeps what is known of the bytes behind it.
-use Rattle.std.proofs.Common.{◌≡◌, ℕ, Bool, true, false, not, ◌&&◌, ◌||◌, ◌==◌, if◌then◌else◌, List, [], ◌∷◌, ◌++◌, length, Option, Some, None, Result, Ok, Err, refl, sym, ap, subst, ◌∙◌, arith, append_assoc, append-nil}
-use Rattle.std.proofs.lemmas.Bool.{and_parts, cond_both, eqb-true, or_from, or_parts, false≢true}
+use Rattle.std.proofs.Common.{◌≡◌, ℕ, ◌+◌, ◌^◌, ◌<◌, ◌≤◌, Bool, true, false, not, ◌&&◌, ◌||◌, ◌==◌, if◌then◌else◌, List, [], ◌∷◌, ◌++◌, length, Option, Some, None, Result, Ok, Err, refl, sym, ap, subst, ◌∙◌, arith, append_assoc, append-nil}
+use Rattle.std.proofs.lemmas.Bool.{and_parts, cond_both, eqb-true, or_from, or_parts, false≢true, ltb-false}
 use Rattle.std.proofs.lemmas.Slice.Eq.{bytes_eq-Decides}
 use Rattle.std.specs.Option.{is_some}
 use Rattle.xmpp_tokens.specs.References.{reference_goes_on, referred}
@@ -12,7 +12,7 @@ use Rattle.xmpp_tokens.specs.declared.references.Reference.TheVariants as refere
 use Rattle.xmpp_names.proofs.EndLaws.{end_tags_are_read}
 use Rattle.xmpp_names.proofs.StartLaws as start_laws
 use Rattle.xmpp_names.specs.Ends.{end_of}
-use Rattle.xmpp_names.specs.Grammar.{IsStart}
+use Rattle.xmpp_names.specs.Grammar.{IsStart, IsWithin}
 use Rattle.xmpp_names.specs.Scopes.{Scope}
 use Rattle.xmpp_names.specs.Starts.{Tag}
 use Rattle.xmpp_names.specs.declared.fault.StartWhy.{StartWhy}
@@ -24,9 +24,10 @@ use Rattle.xmpp_framing_laws.proofs.TextHands.{mark_begun, mark_more, marked_tex
 use Rattle.xmpp_framing_laws.proofs.ReadCharacters.{Judged, ascii_alone, nothing_judged}
 use Rattle.xmpp_framing.specs.Machine.{taken_in}
 use Rattle.xmpp_framing.specs.MarkupSteps.{in_bang, section_opened}
-use Rattle.xmpp_framing_laws.specs.Spells.{Spells}
+use Rattle.xmpp_framing_laws.proofs.WithinParts.{AreShallow, IsCounted, SpellsIn, StreamIn, counted_length, counted_more, depth_more, depth_text, shallow_own, shallow_with}
+use Rattle.xmpp_framing.specs.declared.limits.Limits.{Limits}
 use Rattle.xmpp_framing.specs.States.{OpenElement, State, Turn, fails, gathered, gathered_in, next_place, token_begun, token_ended, token_fails, turn, with_more, with_text}
-use Rattle.xmpp_framing_laws.specs.Streams.{StreamTo, with_element}
+use Rattle.xmpp_framing_laws.specs.Streams.{with_element}
 use Rattle.xmpp_framing.specs.TagSteps.{added_to, begun, closed, element_from, ends, first_of, in_opening, in_tag, is_spelled, is_too_deep, joined_text, leaf, level, outer_scopes, rest_of, scope_in, starts, tag_closes, tag_gathered, tag_here, tag_inside, tag_limits, unlimited}
 use Rattle.xmpp_framing_laws.specs.Texts.{IsText}
 use Rattle.xmpp_framing.specs.TextSteps.{bracket_taken, character_taken, ends_section, in_reference, in_section, in_text, inside, is_forbidden, judged_section, judged_text, markup_begun, other_taken, refers, section_taken, text_inside}
@@ -49,8 +50,8 @@ no_fault f e = absurd cc
 abbrev pub inner : State → OpenElement → Mode → State
 inner s o m = record s { here = Some o; lexical = record s.lexical { mode = m } }
 
-around_more : (p : Phase) (scopes : List Scope) (name : List ℕ) (below : List OpenElement) (o : OpenElement) (items : List Item) (bytes hand : List ℕ) (b : ℕ) → Around p scopes name below o items bytes hand → Around p scopes name below o items (bytes ++ b ∷ []) (hand ++ b ∷ [])
-around_more p scopes name below o items bytes hand b h = record {
+around_more : (limits : Limits) (used next : ℕ) (p : Phase) (scopes : List Scope) (name : List ℕ) (below : List OpenElement) (o : OpenElement) (items : List Item) (bytes hand : List ℕ) (b : ℕ) → (limits.bytes < 2 ^ 64 → next ≡ used + 1) → Around limits used p scopes name below o items bytes hand → Around limits next p scopes name below o items (bytes ++ b ∷ []) (hand ++ b ∷ [])
+around_more limits used next p scopes name below o items bytes hand b is h = record {
   between = h.between;
   base = h.base;
   own = h.own;
@@ -61,6 +62,8 @@ around_more p scopes name below o items bytes hand b h = record {
   outer = h.outer;
   level = h.level;
   stream = h.stream;
+  count = λ few. counted_more used next h.done bytes b (is few) (h.count few);
+  shallow = h.shallow;
   covered = h.covered;
   open_level = h.open_level;
   bytes_are = ap (λ l. l ++ b ∷ []) h.bytes_are ∙ append_assoc h.done (h.outer ++ (h.level ++ hand)) (b ∷ []) ∙ ap (λ l. h.done ++ l) (append_assoc h.outer (h.level ++ hand) (b ∷ []) ∙ ap (λ l. h.outer ++ l) (append_assoc h.level hand (b ∷ [])));
@@ -75,19 +78,22 @@ top_more o more [] h = λ n. let same = same_name o.element more in h (sym same.
 top_more o more (p ∷ ps) h = h
 
 -- a byte and what it finds
-module _ (s : State) (o : OpenElement) (items : List Item) (b : ℕ) (bytes hand : List ℕ) (k : Kept s.places.at s.lexical.spent s.limits bytes) (c : continues s.pending b ≡ true)
-    (a : Around s.lexical.phase s.scopes s.name s.below o items bytes hand) where
+module _ (given : Limits) (s : State) (o : OpenElement) (items : List Item) (b : ℕ) (bytes hand : List ℕ) (used : ℕ) (k : Kept given s.places.at s.lexical.spent s.limits bytes) (c : continues s.pending b ≡ true)
+    (room : s.limits.bytes < 2 ^ 64 → 0 < used → (used + 1 ≤ s.limits.bytes) × (s.places.used ≡ used + 1)) (a : Around s.limits used s.lexical.phase s.scopes s.name s.below o items bytes hand) where
   abbrev P : State → Type 0
-  P r = After b bytes (turn r items)
+  P r = After given b bytes (turn r items)
 
   abbrev Q : Turn → Type 0
-  Q = After b bytes
+  Q = After given b bytes
 
-  on : Kept (next_place s.places.at) s.lexical.spent s.limits (bytes ++ b ∷ [])
-  on = kept_on s.places.at s.lexical.spent s.limits bytes b k
+  on : Kept given (next_place s.places.at) s.lexical.spent s.limits (bytes ++ b ∷ [])
+  on = kept_on given s.places.at s.lexical.spent s.limits bytes b k
 
-  around : Around s.lexical.phase s.scopes s.name s.below o items (bytes ++ b ∷ []) (hand ++ b ∷ [])
-  around = around_more s.lexical.phase s.scopes s.name s.below o items bytes hand b a
+  counts : s.limits.bytes < 2 ^ 64 → s.places.used ≡ used + 1
+  counts few = (room few (a.count few).0).1
+
+  around : Around s.limits s.places.used s.lexical.phase s.scopes s.name s.below o items (bytes ++ b ∷ []) (hand ++ b ∷ [])
+  around = around_more s.limits used s.places.used s.lexical.phase s.scopes s.name s.below o items bytes hand b counts a
 
   failed : (r : State) (at : ℕ) (w : Why) → P (fails r at w)
   failed r at w none = absurd (no_fault (record { at = at; why = w }) none)
@@ -207,8 +213,8 @@ module _ (s : State) (o : OpenElement) (items : List Item) (b : ℕ) (bytes hand
     abbrev texted : OpenElement
     texted = with_text o s.chars
 
-    covered : CoveredLevel (scope_in a.rest) a.own texted (a.level ++ h.text)
-    covered = level_covered (scope_in a.rest) a.own o a.level h.text s.chars a.open_level text_is
+    covered : CoveredLevel s.limits (scope_in a.rest) a.own texted (a.level ++ h.text)
+    covered = level_covered s.limits (scope_in a.rest) a.own o a.level h.text s.chars a.open_level text_is
 
     bytes_are : bytes ++ b ∷ [] ≡ a.done ++ (a.outer ++ (a.level ++ (h.text ++ whole)))
     unfolding around around_more
@@ -224,14 +230,33 @@ module _ (s : State) (o : OpenElement) (items : List Item) (b : ℕ) (bytes hand
         let none = (ascii_alone s.pending b (omega (arith, is)) c).1 in
         record { whole = []; hand_is = sym none; judged = subst (Judged []) (sym none) nothing_judged; seen = front_seen [] [] no_front }
 
-    started : (t : Tag) → tag_here (full m) ≡ Ok t → (xs : List tokens.Attribute) × IsStart (scope_in s.scopes) whole xs t
-    started t is = let w = (start_laws.read (tag_limits s.limits) (scope_in s.scopes) whole t).0 is in (w.0, w.1)
+    started : (t : Tag) → tag_here (full m) ≡ Ok t → (xs : List tokens.Attribute) × IsStart (scope_in s.scopes) whole xs t × IsWithin (tag_limits s.limits) xs t
+    started t is = (start_laws.read (tag_limits s.limits) (scope_in s.scopes) whole t).0 is
 
-    leaf_case : (t : Tag) → tag_here (full m) ≡ Ok t → t.empty ≡ true → Q (leaf (turn (full m) items) t)
+    -- there is room for a level more
+    next_level : is_too_deep (full m) ≡ false → length s.below + 1 + 1 ≤ s.limits.depth
+    next_level near = ltb-false s.limits.depth (length s.below + 1 + 1) near
+
+    count_on : s.limits.bytes < 2 ^ 64 → IsCounted s.places.used a.done (bytes ++ b ∷ [])
+    count_on few = counted_more used s.places.used a.done bytes b (counts few) (a.count few)
+
+    texted_shallow : AreShallow s.limits.depth texted s.below
+    texted_shallow =
+        let own = shallow_own s.limits.depth o s.below a.shallow in
+        let same = depth_text o.element s.chars in shallow_with s.limits.depth o texted s.below a.shallow (rw same own)
+
+    leaf_shallow : (t : Tag) → is_too_deep (full m) ≡ false → AreShallow s.limits.depth (with_more texted (child (element_from t) no_nodes)) s.below
+    leaf_shallow t near =
+        let own = shallow_own s.limits.depth texted s.below texted_shallow in
+        let deeper = depth_more texted.element (element_from t) in
+        let room_for = next_level near in
+        shallow_with s.limits.depth texted (with_more texted (child (element_from t) no_nodes)) s.below texted_shallow (rw deeper (omega (arith, own, room_for)))
+
+    leaf_case : is_too_deep (full m) ≡ false → (t : Tag) → tag_here (full m) ≡ Ok t → t.empty ≡ true → Q (leaf (turn (full m) items) t)
     unfolding leaf
-    leaf_case t is n sound =
+    leaf_case near t is n sound =
         let w = started t is in
-        let spelled = subst (λ x. Spells x whole (element_from t)) scope_is (leaf_spelled (scope_in s.scopes) whole w.0 t w.1 n) in
+        let spelled = subst (λ x. SpellsIn s.limits x whole (element_from t)) scope_is (leaf_spelled s.limits (scope_in s.scopes) whole w.0 t w.1 w.2 n) in
         record {
           kept = on;
           hand = (
@@ -247,17 +272,19 @@ module _ (s : State) (o : OpenElement) (items : List Item) (b : ℕ) (bytes hand
               outer = a.outer;
               level = (a.level ++ h.text) ++ whole;
               stream = a.stream;
+              count = count_on;
+              shallow = leaf_shallow t near;
               covered = a.covered;
-              open_level = level_resumed (scope_in a.rest) a.own texted (a.level ++ h.text) whole (element_from t) covered spelled;
+              open_level = level_resumed s.limits (scope_in a.rest) a.own texted (a.level ++ h.text) whole (element_from t) covered spelled;
               bytes_are = bytes_are ∙ ap (λ l. a.done ++ (a.outer ++ l)) (sym (append-nil ((a.level ++ h.text) ++ whole) ∙ append_assoc a.level h.text whole));
             },
             (refl, no_hand s.lexical.returned s.lexical.brackets),
           );
         }
 
-    level_case : (t : Tag) → tag_here (full m) ≡ Ok t → t.empty ≡ false → Q (turn (level (full m) t) items)
+    level_case : is_too_deep (full m) ≡ false → (t : Tag) → tag_here (full m) ≡ Ok t → t.empty ≡ false → Q (turn (level (full m) t) items)
     unfolding level
-    level_case t is n sound =
+    level_case near t is n sound =
         let w = started t is in
         record {
           kept = on;
@@ -274,8 +301,10 @@ module _ (s : State) (o : OpenElement) (items : List Item) (b : ℕ) (bytes hand
               outer = a.outer ++ (a.level ++ h.text);
               level = whole;
               stream = a.stream;
-              covered = subst (λ l. AreCovered a.base l (texted ∷ s.below) (a.outer ++ (a.level ++ h.text))) (sym a.scopes_are) (a.outer, a.level ++ h.text, a.covered, covered, refl);
-              open_level = level_begun (scope_in s.scopes) whole w.0 t w.1 n;
+              count = count_on;
+              shallow = (let room_for = next_level near in omega (arith, room_for), texted_shallow);
+              covered = subst (λ l. AreCovered s.limits a.base l (texted ∷ s.below) (a.outer ++ (a.level ++ h.text))) (sym a.scopes_are) (a.outer, a.level ++ h.text, a.covered, covered, refl);
+              open_level = level_begun s.limits (scope_in s.scopes) whole w.0 t w.1 w.2 n;
               bytes_are =
                   bytes_are ∙ ap (λ l. a.done ++ (a.outer ++ l)) (sym (append_assoc a.level h.text whole)) ∙ ap (λ l. a.done ++ l) (sym (append_assoc a.outer (a.level ++ h.text) whole))
                   ∙ ap (λ l. a.done ++ ((a.outer ++ (a.level ++ h.text)) ++ l)) (sym (append-nil whole));
@@ -290,7 +319,7 @@ module _ (s : State) (o : OpenElement) (items : List Item) (b : ℕ) (bytes hand
     starts_at (Ok t) is =
         cond_both (is_too_deep (full m)) (turn (token_fails (full m) why.TooDeep) items) (if t.empty then leaf (turn (full m) items) t else turn (level (full m) t) items) Q
         (λ f. failed (full m) _ _)
-        (λ f. cond_both t.empty (leaf (turn (full m) items) t) (turn (level (full m) t) items) Q (λ n. leaf_case t is n) (λ n. level_case t is n))
+        (λ f. cond_both t.empty (leaf (turn (full m) items) t) (turn (level (full m) t) items) Q (λ n. leaf_case f t is n) (λ n. level_case f t is n))
 
     -- ---- an end tag
 
@@ -298,28 +327,41 @@ module _ (s : State) (o : OpenElement) (items : List Item) (b : ℕ) (bytes hand
     abbrev closing : Elem
     closing = texted.element
 
-    closing_spelled : IsEndTag whole o.spelled → Spells (scope_in a.rest) (a.level ++ (h.text ++ whole)) closing
-    closing_spelled end = level_closed (scope_in a.rest) a.own o a.level h.text s.chars whole a.open_level text_is end
+    closing_spelled : IsEndTag whole o.spelled → SpellsIn s.limits (scope_in a.rest) (a.level ++ (h.text ++ whole)) closing
+    closing_spelled end = level_closed s.limits (scope_in a.rest) a.own o a.level h.text s.chars whole a.open_level text_is end
 
     -- the state without the element
     abbrev left : List OpenElement → State
     left below = record (joined_text (full m)) { here = first_of below; below = rest_of below; scopes = outer_scopes s.scopes }
 
-    given_at : s.below ≡ [] → IsEndTag whole o.spelled → StreamTo (in_force s.lexical.phase (outer_scopes s.scopes) s.name) (bytes ++ b ∷ []) (items ++ item.Element (tidied closing) ∷ [])
+    given_at : s.below ≡ [] → IsEndTag whole o.spelled → StreamIn s.limits (in_force s.lexical.phase (outer_scopes s.scopes) s.name) (bytes ++ b ∷ []) (items ++ item.Element (tidied closing) ∷ [])
     given_at low end =
-        let down = subst (λ l. AreCovered a.base a.rest l a.outer) low a.covered in
+        let last = a.level ++ (h.text ++ whole) in
+        let down = subst (λ l. AreCovered s.limits a.base a.rest l a.outer) low a.covered in
         let top = subst (TopIsNoHeader texted) low (top_more o _ s.below a.top) in
         let spelled = closing_spelled end in
-        let at_base = subst (λ l. Spells (scope_in l) (a.level ++ (h.text ++ whole)) closing) down.0 spelled in
-        let made : StreamTo (in_force phase.Between a.base s.name) (bytes ++ b ∷ []) (items ++ item.Element (tidied closing) ∷ []) =
-        with_element (in_force phase.Between a.base s.name) (bytes ++ b ∷ []) _ a.done (a.level ++ (h.text ++ whole)) items closing a.stream refl (record { spelled = at_base; no_header = top })
-        (bytes_are ∙ ap (λ l. a.done ++ (l ++ (a.level ++ (h.text ++ whole)))) down.1)
-        (ap (λ x. items ++ item.Element x ∷ []) (spelled_stays (scope_in a.rest) (a.level ++ (h.text ++ whole)) closing spelled)) in
-        subst (λ p. StreamTo (in_force p (outer_scopes s.scopes) s.name) (bytes ++ b ∷ []) (items ++ item.Element (tidied closing) ∷ [])) (sym a.between)
-        (subst (λ l. StreamTo (in_force phase.Between l s.name) (bytes ++ b ∷ []) (items ++ item.Element (tidied closing) ∷ [])) (sym (ap outer_scopes a.scopes_are ∙ down.0)) made)
+        let at_base = subst (λ l. SpellsIn s.limits (scope_in l) last closing) down.0 spelled in
+        let all = bytes_are ∙ ap (λ l. a.done ++ (l ++ last)) down.1 in
+        let short : s.limits.bytes < 2 ^ 64 → length last ≤ s.limits.bytes =
+        λ few. let long = counted_length s.places.used a.done (bytes ++ b ∷ []) last (count_on few) all in let fits = (room few (a.count few).0).0 in let is = counts few in omega (arith, long, fits, is) in
+        let made : StreamIn s.limits (in_force phase.Between a.base s.name) (bytes ++ b ∷ []) (items ++ item.Element (tidied closing) ∷ []) = (
+          with_element (in_force phase.Between a.base s.name) (bytes ++ b ∷ []) _ a.done last items closing a.stream.0 refl (record { spelled = at_base.0; no_header = top }) all
+              (ap (λ x. items ++ item.Element x ∷ []) (spelled_stays (scope_in a.rest) last closing spelled.0)),
+          λ few. (a.stream.1 few, record { short = short few; shallow = subst (AreShallow s.limits.depth texted) low texted_shallow; tags = at_base.1 }),
+        ) in
+        subst (λ p. StreamIn s.limits (in_force p (outer_scopes s.scopes) s.name) (bytes ++ b ∷ []) (items ++ item.Element (tidied closing) ∷ [])) (sym a.between)
+        (subst (λ l. StreamIn s.limits (in_force phase.Between l s.name) (bytes ++ b ∷ []) (items ++ item.Element (tidied closing) ∷ [])) (sym (ap outer_scopes a.scopes_are ∙ down.0)) made)
 
-    resumed : (p : OpenElement) (ps : List OpenElement) → s.below ≡ p ∷ ps → (rest : List Scope) → a.rest ≡ rest → AreCovered a.base rest (p ∷ ps) a.outer → Spells (scope_in rest) (a.level ++ (h.text ++ whole)) closing
-        → Around s.lexical.phase (outer_scopes s.scopes) s.name ps (with_more p (child closing no_nodes)) items (bytes ++ b ∷ []) []
+    closing_shallow : (p : OpenElement) (ps : List OpenElement) → s.below ≡ p ∷ ps → AreShallow s.limits.depth (with_more p (child closing no_nodes)) ps
+    closing_shallow p ps low =
+        let both = subst (AreShallow s.limits.depth texted) low texted_shallow in
+        let own = shallow_own s.limits.depth p ps both.1 in
+        let inner_one = both.0 in
+        let deeper = depth_more p.element closing in
+        shallow_with s.limits.depth p (with_more p (child closing no_nodes)) ps both.1 (rw deeper (omega (arith, own, inner_one)))
+
+    resumed : (p : OpenElement) (ps : List OpenElement) → s.below ≡ p ∷ ps → (rest : List Scope) → a.rest ≡ rest → AreCovered s.limits a.base rest (p ∷ ps) a.outer → SpellsIn s.limits (scope_in rest) (a.level ++ (h.text ++ whole)) closing
+        → Around s.limits s.places.used s.lexical.phase (outer_scopes s.scopes) s.name ps (with_more p (child closing no_nodes)) items (bytes ++ b ∷ []) []
     resumed p ps low [] is down spelled = absurd down
     resumed p ps low (own ∷ rest) is down spelled =
         let last = a.level ++ (h.text ++ whole) in
@@ -334,17 +376,19 @@ module _ (s : State) (o : OpenElement) (items : List Item) (b : ℕ) (bytes hand
           outer = down.0;
           level = down.1 ++ last;
           stream = a.stream;
+          count = count_on;
+          shallow = closing_shallow p ps low;
           covered = down.2;
-          open_level = level_resumed (scope_in rest) own p down.1 last closing down.3 spelled;
+          open_level = level_resumed s.limits (scope_in rest) own p down.1 last closing down.3 spelled;
           bytes_are =
               bytes_are ∙ ap (λ l. a.done ++ (l ++ last)) down.4
               ∙ ap (λ l. a.done ++ l) (append_assoc down.0 down.1 last ∙ ap (λ l. down.0 ++ l) (sym (append-nil (down.1 ++ last))));
         }
 
     added_at : (below : List OpenElement) → s.below ≡ below → IsEndTag whole o.spelled → Q (added_to (first_of below) (turn (left below) items) closing)
-    added_at [] low end sound = record { kept = on; hand = (refl, (refl, λ p. given_at low end)) }
+    added_at [] low end sound = record { kept = on; hand = (refl, (refl, refl, λ p. given_at low end)) }
     added_at (p ∷ ps) low end sound =
-        let down = subst (λ l. AreCovered a.base a.rest l a.outer) low a.covered in
+        let down = subst (λ l. AreCovered s.limits a.base a.rest l a.outer) low a.covered in
         record {
           kept = on;
           hand = ([], resumed p ps low a.rest refl down (closing_spelled end), (refl, no_hand s.lexical.returned s.lexical.brackets));

@@ -1,5 +1,5 @@
 -- A byte outside elements keeps what is known of the bytes behind it.
-use Rattle.std.proofs.Common.{◌≡◌, ℕ, ◌+◌, ◌<◌, ◌≤◌, ◌⊎◌, inl, inr, ⊎_elim, Bool, true, false, not, ◌&&◌, ◌||◌, ◌==◌, if◌then◌else◌, List, [], ◌∷◌, ◌++◌, length, codes, Option, Some, None, Result, Ok, Err, refl, sym, ap, subst, ◌∙◌, arith, append_assoc, append-nil}
+use Rattle.std.proofs.Common.{◌≡◌, ℕ, ◌+◌, ◌^◌, ◌<◌, ◌≤◌, ◌⊎◌, inl, inr, ⊎_elim, Bool, true, false, not, ◌&&◌, ◌||◌, ◌==◌, if◌then◌else◌, List, [], ◌∷◌, ◌++◌, length, length-append, codes, Option, Some, None, Result, Ok, Err, refl, sym, ap, subst, ◌∙◌, arith, append_assoc, append-nil}
 use Rattle.std.proofs.lemmas.Bool.{and_parts, and_from, cond_both, eqb-true, true≢false, false≢true, ltb-true, ltb-false, not-true}
 use Rattle.std.proofs.lemmas.Bool.Decides.{nat_tests}
 use Rattle.std.proofs.lemmas.List.Folds.{list_all-append}
@@ -16,7 +16,7 @@ use Rattle.xmpp_tokens.specs.declared.declarations.Declaration.TheVariants as de
 use Rattle.xmpp_names.proofs.EndLaws.{end_tags_are_read}
 use Rattle.xmpp_names.proofs.StartLaws as start_laws
 use Rattle.xmpp_names.specs.Ends.{end_of}
-use Rattle.xmpp_names.specs.Grammar.{IsStart}
+use Rattle.xmpp_names.specs.Grammar.{IsStart, IsWithin}
 use Rattle.xmpp_names.specs.Headers.{header_of, opens_stream}
 use Rattle.xmpp_names.specs.Scopes.{Scope}
 use Rattle.xmpp_names.specs.Starts.{Tag, start_of}
@@ -28,11 +28,15 @@ use Rattle.xmpp_framing_laws.proofs.ReadSoFar.{After, FooterIn, Kept, Outside, T
 use Rattle.xmpp_framing_laws.proofs.TextFronts.{front_seen, no_front}
 use Rattle.xmpp_framing_laws.proofs.ReadCharacters.{ascii_alone, grown_after, nothing_judged, Judged}
 use Rattle.xmpp_writer.specs.Canon.{streams_namespace}
-use Rattle.xmpp_framing.specs.Machine.{taken_in}
+use Rattle.xmpp_framing.specs.Machine.{shows_unlimited, taken_in}
 use Rattle.xmpp_framing.specs.MarkupSteps.{declared_phase, declares, ends_in_question, in_bang, in_declaration, in_phase, in_question, section_opened}
 use Rattle.xmpp_framing_laws.specs.Spells.{IsHeaderName, SpellsEmptyHeader, SpellsHeader}
 use Rattle.xmpp_framing.specs.States.{OpenElement, State, Turn, admits_declaration, fails, gathered, gathered_in, gives, in_run, item_ended, may_declare, next_place, run_begun, token_fails, turn}
-use Rattle.xmpp_framing_laws.specs.Streams.{InForce, IsDeclared, SpellsEmptyHeaderIn, SpellsHeaderIn, StreamTo, declared, ended, headed, headed_and_ended, white_space, with_element}
+use Rattle.xmpp_framing_laws.proofs.WithinParts.{AreShallow, StreamIn, counted_length, counted_more}
+use Rattle.xmpp_framing_laws.specs.StreamLimits.{IsEmptyHeaderInWithin, IsHeaderInWithin}
+use Rattle.xmpp_framing_laws.specs.Within.{IsHeadWithin}
+use Rattle.xmpp_framing.specs.declared.limits.Limits.{Limits}
+use Rattle.xmpp_framing_laws.specs.Streams.{InForce, IsDeclared, SpellsEmptyHeaderIn, SpellsHeaderIn, declared, ended, headed, headed_and_ended, white_space, with_element}
 use Rattle.xmpp_framing.specs.TagSteps.{begun, element_from, ends_stream, footer_closes, footer_gathered, header_items, header_tag, heads, in_footer, in_opening, in_tag, is_between, is_header, is_name_of, is_too_deep, largest_limits, leaf, level, misplaced, phase_behind, says_stream, scope_in, starts, tag_anew, tag_closes, tag_gathered, tag_here, tag_in, tag_limits, tag_outside, unlimited}
 use Rattle.xmpp_framing.specs.TextSteps.{between, character_begun, in_text, judged_outside, markup_begun, text_outside}
 use Rattle.xmpp_framing.specs.declared.fault.Fault.{Fault}
@@ -55,10 +59,12 @@ grown_some (x ∷ xs) b e = absurd cc
 white_low : (b : ℕ) → is_white b ≡ true → b < 128
 white_low b h = grind (arith, nat_tests)
 
-pub token_more : (now : InForce) (items : List Item) (bytes token : List ℕ) (place b : ℕ) → TokenIn now items bytes token place → TokenIn now items (bytes ++ b ∷ []) (token ++ b ∷ []) place
-token_more now items bytes token place b h = record {
+token_more : (limits : Limits) (used next : ℕ) (now : InForce) (items : List Item) (bytes token : List ℕ) (place b : ℕ) → (limits.bytes < 2 ^ 64 → 0 < used → next ≡ used + 1) → TokenIn limits used now items bytes token place
+    → TokenIn limits next now items (bytes ++ b ∷ []) (token ++ b ∷ []) place
+token_more limits used next now items bytes token place b is h = record {
   done = h.done;
   stream = h.stream;
+  count = λ few. counted_more used next h.done bytes b (is few (h.count few).0) (h.count few);
   bytes_are = ap (λ l. l ++ b ∷ []) h.bytes_are ∙ append_assoc h.done token (b ∷ []);
   place_is = h.place_is;
 }
@@ -124,40 +130,59 @@ abbrev pub outer : State → Mode → State
 outer s m = record s { here = None; lexical = record s.lexical { mode = m } }
 
 -- a byte and what it finds
-module _ (s : State) (items : List Item) (b : ℕ) (bytes : List ℕ) (k : Kept s.places.at s.lexical.spent s.limits bytes) (c : continues s.pending b ≡ true) (low : s.below ≡ []) where
+module _ (given : Limits) (s : State) (items : List Item) (b : ℕ) (bytes : List ℕ) (used : ℕ) (k : Kept given s.places.at s.lexical.spent s.limits bytes) (c : continues s.pending b ≡ true)
+    (idle : used ≡ 0 → s.places.used ≡ 0) (low : s.below ≡ []) where
   abbrev now : InForce
   now = in_force s.lexical.phase s.scopes s.name
 
   abbrev P : State → Type 0
-  P r = After b bytes (turn r items)
+  P r = After given b bytes (turn r items)
 
-  on : Kept (next_place s.places.at) s.lexical.spent s.limits (bytes ++ b ∷ [])
-  on = kept_on s.places.at s.lexical.spent s.limits bytes b k
+  on : Kept given (next_place s.places.at) s.lexical.spent s.limits (bytes ++ b ∷ [])
+  on = kept_on given s.places.at s.lexical.spent s.limits bytes b k
 
-  failed : (r : State) (given : List Item) (at : ℕ) (w : Why) → After b bytes (turn (fails r at w) given)
-  failed r given at w none = absurd (no_fault (record { at = at; why = w }) none)
+  failed : (r : State) (gave : List Item) (at : ℕ) (w : Why) → After given b bytes (turn (fails r at w) gave)
+  failed r gave at w none = absurd (no_fault (record { at = at; why = w }) none)
 
   -- ---- white space
 
-  white_hand : (s.pending ≡ [] → StreamTo now bytes items) → is_white b ≡ true → StreamTo now (bytes ++ b ∷ []) items
-  white_hand h w = white_space now (bytes ++ b ∷ []) items bytes (b ∷ []) (h (ascii_alone s.pending b (white_low b w) c).0) (and_from _ _ w refl) refl
+  white_hand : (s.pending ≡ [] → StreamIn s.limits now bytes items) → is_white b ≡ true → StreamIn s.limits now (bytes ++ b ∷ []) items
+  white_hand h w = let so_far = h (ascii_alone s.pending b (white_low b w) c).0 in (white_space now (bytes ++ b ∷ []) items bytes (b ∷ []) so_far.0 (and_from _ _ w refl) refl, so_far.1)
+
+  -- there is room for the byte
+  abbrev Room : Type 0
+  Room = s.limits.bytes < 2 ^ 64 → 0 < used → (used + 1 ≤ s.limits.bytes) × (s.places.used ≡ used + 1)
+
+  abbrev HasToken : Type 0
+  HasToken = TokenIn s.limits used now items bytes s.token s.places.token_at
+
+  grows : Room → HasToken → TokenIn s.limits s.places.used now items (bytes ++ b ∷ []) (s.token ++ b ∷ []) s.places.token_at
+  grows room h = token_more s.limits used s.places.used now items bytes s.token s.places.token_at b (λ few p. (room few p).1) h
+
+  whole_short : Room → HasToken → s.limits.bytes < 2 ^ 64 → length (s.token ++ b ∷ []) ≤ s.limits.bytes
+  whole_short room h few =
+      let more = grows room h in
+      let n = counted_length s.places.used more.done (bytes ++ b ∷ []) (s.token ++ b ∷ []) (more.count few) more.bytes_are in
+      let r = room few (h.count few).0 in
+      let fits = r.0 in
+      let is = r.1 in omega (arith, n, fits, is)
 
   grown : ends_character s.pending b ≡ false → held_after s.pending b ≡ [] → ⊥
   grown e none = grown_some s.pending b (sym (grown_after s.pending b c e) ∙ none)
 
-  text_case : Outside mode.Text (outer s mode.Text) items bytes → P (text_outside (outer s mode.Text) b)
+  text_case : Outside mode.Text (outer s mode.Text) used items bytes → P (text_outside (outer s mode.Text) b)
   unfolding text_outside
   text_case h =
       let r = outer s mode.Text in
       cond_both (ends_character s.pending b) (judged_outside (in_run r) b) (character_begun (in_run r)) P
       (λ e. cond_both s.lexical.in_run r (run_begun r) (λ u. P (judged_outside u b))
-      (λ i. cond_both (is_white b) r (token_fails r why.NotWellFormed) P (λ w none. record { kept = on; hand = (low, (h.0, λ p. white_hand h.1 w)) }) (λ w. failed r items _ _))
-      (λ i. cond_both (is_white b) (run_begun r) (token_fails (run_begun r) why.NotWellFormed) P (λ w none. record { kept = on; hand = (low, (h.0, λ p. white_hand h.1 w)) }) (λ w. failed (run_begun r) items _ _)))
+      (λ i. cond_both (is_white b) r (token_fails r why.NotWellFormed) P (λ w none. record { kept = on; hand = (low, (h.0, idle h.1, λ p. white_hand h.2 w)) }) (λ w. failed r items _ _))
+      (λ i. cond_both (is_white b) (run_begun r) (token_fails (run_begun r) why.NotWellFormed) P (λ w none. record { kept = on; hand = (low, (h.0, idle h.1, λ p. white_hand h.2 w)) }) (λ w. failed (run_begun r) items _ _)))
       (λ e. cond_both s.lexical.in_run r (run_begun r) (λ u. P (character_begun u))
-      (λ i. cond_both (is_empty s.pending) (record r { places = record r.places { item_at = r.places.at } }) r P (λ w none. record { kept = on; hand = (low, (h.0, λ p. absurd (grown e p))) }) (λ w none. record { kept = on; hand = (low, (h.0, λ p. absurd (grown e p))) }))
-      (λ i. cond_both (is_empty s.pending) (record (run_begun r) { places = record (run_begun r).places { item_at = r.places.at } }) (run_begun r) P (λ w none. record { kept = on; hand = (low, (h.0, λ p. absurd (grown e p))) }) (λ w none. record { kept = on; hand = (low, (h.0, λ p. absurd (grown e p))) })))
+      (λ i. cond_both (is_empty s.pending) (record r { places = record r.places { item_at = r.places.at } }) r P (λ w none. record { kept = on; hand = (low, (h.0, idle h.1, λ p. absurd (grown e p))) }) (λ w none. record { kept = on; hand = (low, (h.0, idle h.1, λ p. absurd (grown e p))) }))
+      (λ i. cond_both (is_empty s.pending) (record (run_begun r) { places = record (run_begun r).places { item_at = r.places.at } }) (run_begun r) P (λ w none. record { kept = on; hand = (low, (h.0, idle h.1, λ p. absurd (grown e p))) }) (λ w none. record { kept = on; hand = (low, (h.0, idle h.1, λ p. absurd (grown e p))) })))
 
-  markup_case : Outside mode.Text (outer s mode.Text) items bytes → (b == 60) ≡ true → P (markup_begun (outer s mode.Text))
+  markup_case : Outside mode.Text (outer s mode.Text) used items bytes → (b == 60) ≡ true → P (markup_begun (outer s mode.Text))
   markup_case h e none =
       let is = eqb-true b 60 e in
       record {
@@ -166,14 +191,15 @@ module _ (s : State) (items : List Item) (b : ℕ) (bytes : List ℕ) (k : Kept 
           low,
           record {
             done = bytes;
-            stream = h.1 (ascii_alone s.pending b (omega (arith, is)) c).0;
+            stream = h.2 (ascii_alone s.pending b (omega (arith, is)) c).0;
+            count = λ few. (omega arith, let n = length-append bytes (b ∷ []) in omega (arith, n));
             bytes_are = ap (λ l. bytes ++ l) (ap (λ d. d ∷ []) is ∙ ap (λ t. t ++ 60 ∷ []) (sym h.0));
             place_is = k.at_is;
           },
         );
       }
 
-  pub outside_text : Outside mode.Text (outer s mode.Text) items bytes → P (in_text (outer s mode.Text) b)
+  pub outside_text : Outside mode.Text (outer s mode.Text) used items bytes → P (in_text (outer s mode.Text) b)
   unfolding in_text between
   outside_text h =
       let r = outer s mode.Text in
@@ -190,36 +216,36 @@ module _ (s : State) (items : List Item) (b : ℕ) (bytes : List ℕ) (k : Kept 
       (λ e. cond_both (length r.token == 8) (section_opened r) (gathered r b) P (λ f. failed r items _ _) (λ f none. record { kept = on; hand = (low, tt) }))
       (λ e. failed r items _ _)
 
-  pub outside_question : Outside mode.Question (outer s mode.Question) items bytes → P (in_question (outer s mode.Question) b)
+  outside_question : Room → Outside mode.Question (outer s mode.Question) used items bytes → P (in_question (outer s mode.Question) b)
   unfolding in_question
-  outside_question h =
+  outside_question room h =
       let r = outer s mode.Question in
-      let more = token_more now items bytes s.token s.places.token_at b h.1 in
+      let more = grows room h.1 in
       cond_both _ (if _ then gathered r b else token_fails r why.Restricted) (if is_white b then gathered_in r mode.Declaration b else token_fails r why.Restricted) P
       (λ e. cond_both _ (gathered r b) (token_fails r why.Restricted) P (λ f none. record { kept = on; hand = (low, (h.0, more)) }) (λ f. failed r items _ _))
       (λ e. cond_both (is_white b) (gathered_in r mode.Declaration b) (token_fails r why.Restricted) P (λ f none. record { kept = on; hand = (low, (h.0, more)) }) (λ f. failed r items _ _))
 
-  declared_at : Outside mode.Declaration (outer s mode.Declaration) items bytes → (d : Declaration) → declaration_of (s.token ++ b ∷ []) ≡ d → P (declares (gathered (outer s mode.Declaration) b) d)
-  declared_at h declaration.Good e none =
-      let more = token_more now items bytes s.token s.places.token_at b h.1 in
+  declared_at : Room → Outside mode.Declaration (outer s mode.Declaration) used items bytes → (d : Declaration) → declaration_of (s.token ++ b ∷ []) ≡ d → P (declares (gathered (outer s mode.Declaration) b) d)
+  declared_at room h declaration.Good e none =
+      let more = grows room h.1 in
       record {
         kept = on;
-        hand = (low, (refl, λ p. declared (in_force (declared_phase s.lexical.phase) s.scopes s.name) (bytes ++ b ∷ []) items now more.done (s.token ++ b ∷ []) more.stream (is_declared s.lexical.phase h.0) refl refl e more.bytes_are));
+        hand = (low, (refl, refl, λ p. (declared (in_force (declared_phase s.lexical.phase) s.scopes s.name) (bytes ++ b ∷ []) items now more.done (s.token ++ b ∷ []) more.stream.0 (is_declared s.lexical.phase h.0) refl refl e more.bytes_are, λ few. (more.stream.1 few, whole_short room h.1 few))));
       }
-  declared_at h declaration.Encoding e none = failed (gathered (outer s mode.Declaration) b) items _ _ none
-  declared_at h declaration.NotWellFormed e none = failed (gathered (outer s mode.Declaration) b) items _ _ none
+  declared_at room h declaration.Encoding e none = failed (gathered (outer s mode.Declaration) b) items _ _ none
+  declared_at room h declaration.NotWellFormed e none = failed (gathered (outer s mode.Declaration) b) items _ _ none
 
-  pub outside_declaration : Outside mode.Declaration (outer s mode.Declaration) items bytes → P (in_declaration (outer s mode.Declaration) b)
+  outside_declaration : Room → Outside mode.Declaration (outer s mode.Declaration) used items bytes → P (in_declaration (outer s mode.Declaration) b)
   unfolding in_declaration
-  outside_declaration h =
+  outside_declaration room h =
       let r = outer s mode.Declaration in
       cond_both (b == 62 && ends_in_question r.token) (declares (gathered r b) (declaration_of (r.token ++ b ∷ []))) (gathered r b) P
-      (λ e. declared_at h (declaration_of (s.token ++ b ∷ [])) refl)
-      (λ e none. record { kept = on; hand = (low, (h.0, token_more now items bytes s.token s.places.token_at b h.1)) })
+      (λ e. declared_at room h (declaration_of (s.token ++ b ∷ [])) refl)
+      (λ e none. record { kept = on; hand = (low, (h.0, grows room h.1)) })
 
   -- ---- the footer
 
-  pub outside_footer_begun : TokenIn now items bytes s.token s.places.token_at → FooterIn now items (bytes ++ b ∷ []) (s.token ++ b ∷ [])
+  outside_footer_begun : HasToken → FooterIn s.limits now items (bytes ++ b ∷ []) (s.token ++ b ∷ [])
   outside_footer_begun h = record {
     done = h.done;
     white = [];
@@ -229,7 +255,7 @@ module _ (s : State) (items : List Item) (b : ℕ) (bytes : List ℕ) (k : Kept 
     whole = inl refl;
   }
 
-  footer_more : FooterIn now items bytes s.token → length s.token < length s.name + 2 → FooterIn now items (bytes ++ b ∷ []) (s.token ++ b ∷ [])
+  footer_more : FooterIn s.limits now items bytes s.token → length s.token < length s.name + 2 → FooterIn s.limits now items (bytes ++ b ∷ []) (s.token ++ b ∷ [])
   footer_more h short =
       let none : h.white ≡ [] = ⊎_elim (λ e. e) (λ long. absurd (omega (arith, short, long))) h.whole in
       record {
@@ -243,7 +269,7 @@ module _ (s : State) (items : List Item) (b : ℕ) (bytes : List ℕ) (k : Kept 
         whole = inl refl;
       }
 
-  footer_white : FooterIn now items bytes s.token → length s.name + 2 ≤ length s.token → is_white b ≡ true → FooterIn now items (bytes ++ b ∷ []) s.token
+  footer_white : FooterIn s.limits now items bytes s.token → length s.name + 2 ≤ length s.token → is_white b ≡ true → FooterIn s.limits now items (bytes ++ b ∷ []) s.token
   footer_white h long w = record {
     done = h.done;
     white = h.white ++ b ∷ [];
@@ -253,7 +279,7 @@ module _ (s : State) (items : List Item) (b : ℕ) (bytes : List ℕ) (k : Kept 
     whole = inr long;
   }
 
-  footer_gathers : Outside mode.Footer (outer s mode.Footer) items bytes → P (footer_gathered (outer s mode.Footer) b)
+  footer_gathers : Outside mode.Footer (outer s mode.Footer) used items bytes → P (footer_gathered (outer s mode.Footer) b)
   footer_gathers h =
       let r = outer s mode.Footer in
       cond_both (is_some s.lexical.quote || is_quote b) _ (if _ then gathered r b else (if is_white b then r else record r { lexical = record r.lexical { spoiled = true } })) P
@@ -264,34 +290,36 @@ module _ (s : State) (items : List Item) (b : ℕ) (bytes : List ℕ) (k : Kept 
       (λ w none. record { kept = on; hand = (low, λ g. footer_white (h g) (ltb-false (length s.token) (length s.name + 2) f) w) })
       (λ w none. record { kept = on; hand = (low, λ g. absurd (true≢false g)) })))
 
-  footer_ends : FooterIn now items bytes s.token → (b == 62) ≡ true → is_between s.lexical.phase ≡ true → is_name_of (end_of (s.token ++ b ∷ [])) s.name ≡ true
-      → StreamTo (in_force phase.Ended s.scopes s.name) (bytes ++ b ∷ []) (items ++ item.Footer ∷ [])
+  footer_ends : FooterIn s.limits now items bytes s.token → (b == 62) ≡ true → is_between s.lexical.phase ≡ true → is_name_of (end_of (s.token ++ b ∷ [])) s.name ≡ true
+      → StreamIn s.limits (in_force phase.Ended s.scopes s.name) (bytes ++ b ∷ []) (items ++ item.Footer ∷ [])
   footer_ends h e p n =
-      let tag = footer_tag s.token h.white s.name b (eqb-true b 62 e) h.is_white (named (end_of (s.token ++ b ∷ [])) refl n) in
-      ended (in_force phase.Ended s.scopes s.name) (bytes ++ b ∷ []) (items ++ item.Footer ∷ []) now h.done (s.token ++ (h.white ++ b ∷ [])) items
-      h.stream (is_phase s.lexical.phase p) tag refl refl refl
-      (ap (λ l. l ++ b ∷ []) h.bytes_are ∙ append_assoc h.done (s.token ++ h.white) (b ∷ []) ∙ ap (λ l. h.done ++ l) (append_assoc s.token h.white (b ∷ []))) refl
+      let tag = footer_tag s.token h.white s.name b (eqb-true b 62 e) h.is_white (named (end_of (s.token ++ b ∷ [])) refl n) in (
+        ended (in_force phase.Ended s.scopes s.name) (bytes ++ b ∷ []) (items ++ item.Footer ∷ []) now h.done (s.token ++ (h.white ++ b ∷ [])) items
+            h.stream.0 (is_phase s.lexical.phase p) tag refl refl refl
+            (ap (λ l. l ++ b ∷ []) h.bytes_are ∙ append_assoc h.done (s.token ++ h.white) (b ∷ []) ∙ ap (λ l. h.done ++ l) (append_assoc s.token h.white (b ∷ []))) refl,
+        h.stream.1,
+      )
     where
       named : (o : Option (List ℕ)) → end_of (s.token ++ b ∷ []) ≡ o → is_name_of o s.name ≡ true → IsEndTag (s.token ++ b ∷ []) s.name
       named None is f = absurd (false≢true f)
       named (Some n) is f = subst (IsEndTag (s.token ++ b ∷ [])) ((bytes_eq-Decides n s.name).0 f) ((end_tags_are_read (s.token ++ b ∷ []) n).0 is)
 
-  footer_whole : Outside mode.Footer (outer s mode.Footer) items bytes → (b == 62) ≡ true → After b bytes (footer_closes (turn (gathered (outer s mode.Footer) b) items))
+  footer_whole : Outside mode.Footer (outer s mode.Footer) used items bytes → (b == 62) ≡ true → After given b bytes (footer_closes (turn (gathered (outer s mode.Footer) b) items))
   unfolding footer_closes
   footer_whole h e =
       let r = gathered (outer s mode.Footer) b in
-      cond_both (ends_stream r) (gives (in_phase (item_ended r) phase.Ended) items item.Footer) (turn (token_fails r why.NotWellFormed) items) (After b bytes)
+      cond_both (ends_stream r) (gives (in_phase (item_ended r) phase.Ended) items item.Footer) (turn (token_fails r why.NotWellFormed) items) (After given b bytes)
       (λ f none.
       let p = and_parts _ _ f in
       let q = and_parts _ _ p.1 in
-      record { kept = on; hand = (low, (refl, λ n. footer_ends (h (not-true s.lexical.spoiled p.0)) e q.0 q.1)) })
+      record { kept = on; hand = (low, (refl, refl, λ n. footer_ends (h (not-true s.lexical.spoiled p.0)) e q.0 q.1)) })
       (λ f. failed r items _ _)
 
-  pub outside_footer : Outside mode.Footer (outer s mode.Footer) items bytes → After b bytes (in_footer (turn (outer s mode.Footer) items) b)
+  pub outside_footer : Outside mode.Footer (outer s mode.Footer) used items bytes → After given b bytes (in_footer (turn (outer s mode.Footer) items) b)
   unfolding in_footer
   outside_footer h =
       let r = outer s mode.Footer in
-      cond_both (b == 62 && not (is_some s.lexical.quote)) (footer_closes (turn (gathered r b) items)) (turn (footer_gathered r b) items) (After b bytes)
+      cond_both (b == 62 && not (is_some s.lexical.quote)) (footer_closes (turn (gathered r b) items)) (turn (footer_gathered r b) items) (After given b bytes)
       (λ e. footer_whole h (and_parts _ _ e).0) (λ e. footer_gathers h)
 
   -- ---- a whole tag
@@ -304,24 +332,26 @@ module _ (s : State) (items : List Item) (b : ℕ) (bytes : List ℕ) (k : Kept 
   whole = s.token ++ b ∷ []
 
   abbrev Q : Turn → Type 0
-  Q = After b bytes
+  Q = After given b bytes
 
-  module _ (m : Mode) (h : TokenIn now items (bytes ++ b ∷ []) (s.token ++ b ∷ []) s.places.token_at) where
+  module _ (m : Mode) (h : TokenIn s.limits s.places.used now items (bytes ++ b ∷ []) (s.token ++ b ∷ []) s.places.token_at) (short : s.limits.bytes < 2 ^ 64 → length (s.token ++ b ∷ []) ≤ s.limits.bytes) where
     -- what the tag of a header has to spell
     abbrev Heads : Tag → Type 0
     Heads t =
-        (t.empty ≡ false → SpellsHeaderIn s.lexical.phase (scope_in s.scopes) whole t.spelled (t.bindings ++ []) (header_of t))
-        × (t.empty ≡ true → SpellsEmptyHeaderIn s.lexical.phase (scope_in s.scopes) whole t.spelled (t.bindings ++ []) (header_of t))
+        (t.empty ≡ false → (x : SpellsHeaderIn s.lexical.phase (scope_in s.scopes) whole t.spelled (t.bindings ++ []) (header_of t))
+        × (s.limits.bytes < 2 ^ 64 → IsHeaderInWithin s.limits s.lexical.phase (scope_in s.scopes) whole t.spelled (t.bindings ++ []) (header_of t) x))
+        × (t.empty ≡ true → (x : SpellsEmptyHeaderIn s.lexical.phase (scope_in s.scopes) whole t.spelled (t.bindings ++ []) (header_of t))
+        × (s.limits.bytes < 2 ^ 64 → IsEmptyHeaderInWithin s.limits s.lexical.phase (scope_in s.scopes) whole t.spelled (t.bindings ++ []) (header_of t) x))
 
     headed_at : (t : Tag) → Heads t → (empty : Bool) → t.empty ≡ empty
         → Q (turn (in_phase (item_ended (record (full m) { scopes = t.bindings ∷ []; name = t.spelled })) (phase_behind empty)) (items ++ header_items s.places.token_at (header_of t) empty))
     headed_at t heads false e none = record {
       kept = on;
-      hand = (low, (refl, λ p. headed (in_force phase.Between (t.bindings ∷ []) t.spelled) (bytes ++ b ∷ []) _ now h.done whole items (header_of t) h.stream (heads.0 e) refl h.bytes_are (ap (λ at. items ++ item.Header at (header_of t) ∷ []) h.place_is)));
+      hand = (low, (refl, refl, λ p. (headed (in_force phase.Between (t.bindings ∷ []) t.spelled) (bytes ++ b ∷ []) _ now h.done whole items (header_of t) h.stream.0 (heads.0 e).0 refl h.bytes_are (ap (λ at. items ++ item.Header at (header_of t) ∷ []) h.place_is), λ few. (h.stream.1 few, (heads.0 e).1 few))));
     }
     headed_at t heads true e none = record {
       kept = on;
-      hand = (low, (refl, λ p. headed_and_ended (in_force phase.Ended (t.bindings ∷ []) t.spelled) (bytes ++ b ∷ []) _ now h.done whole items (header_of t) h.stream (heads.1 e) refl h.bytes_are (ap (λ at. items ++ item.Header at (header_of t) ∷ item.Footer ∷ []) h.place_is)));
+      hand = (low, (refl, refl, λ p. (headed_and_ended (in_force phase.Ended (t.bindings ∷ []) t.spelled) (bytes ++ b ∷ []) _ now h.done whole items (header_of t) h.stream.0 (heads.1 e).0 refl h.bytes_are (ap (λ at. items ++ item.Header at (header_of t) ∷ item.Footer ∷ []) h.place_is), λ few. (h.stream.1 few, (heads.1 e).1 few))));
     }
 
     heads_at : ((t : Tag) → tag_anew (full m) ≡ Ok t → Heads t) → (r : Result Tag StartWhy) → tag_anew (full m) ≡ r → Q (heads (turn (full m) items) r)
@@ -332,14 +362,18 @@ module _ (s : State) (items : List Item) (b : ℕ) (bytes : List ℕ) (k : Kept 
     unfolding header_tag
     header_case f = heads_at f (tag_anew (full m)) refl
 
-    started : (t : Tag) → tag_anew (full m) ≡ Ok t → (xs : List tokens.Attribute) × IsStart [] whole xs t
-    started t e = let w = (start_laws.read (tag_limits s.limits) [] whole t).0 e in (w.0, w.1)
+    started : (t : Tag) → tag_anew (full m) ≡ Ok t → (xs : List tokens.Attribute) × IsStart [] whole xs t × IsWithin (tag_limits s.limits) xs t
+    started t e = (start_laws.read (tag_limits s.limits) [] whole t).0 e
 
-    first_header : (t : Tag) → tag_anew (full m) ≡ Ok t → t.empty ≡ false → SpellsHeader whole t.spelled (t.bindings ++ []) (header_of t)
-    first_header t e n = let w = started t e in record { raw = w.0; tag = t; start = w.1; not_empty = n; name_is = refl; scope_is = sym (append-nil t.bindings); says = refl }
+    first_header : (t : Tag) → tag_anew (full m) ≡ Ok t → t.empty ≡ false → (x : SpellsHeader whole t.spelled (t.bindings ++ []) (header_of t)) × (s.limits.bytes < 2 ^ 64 → IsHeadWithin s.limits whole x.raw x.tag)
+    first_header t e n =
+        let w = started t e in
+        (record { raw = w.0; tag = t; start = w.1; not_empty = n; name_is = refl; scope_is = sym (append-nil t.bindings); says = refl }, λ few. record { short = short few; tag = w.2 })
 
-    first_empty_header : (t : Tag) → tag_anew (full m) ≡ Ok t → t.empty ≡ true → SpellsEmptyHeader whole t.spelled (t.bindings ++ []) (header_of t)
-    first_empty_header t e n = let w = started t e in record { raw = w.0; tag = t; start = w.1; is_empty = n; name_is = refl; scope_is = sym (append-nil t.bindings); says = refl }
+    first_empty_header : (t : Tag) → tag_anew (full m) ≡ Ok t → t.empty ≡ true → (x : SpellsEmptyHeader whole t.spelled (t.bindings ++ []) (header_of t)) × (s.limits.bytes < 2 ^ 64 → IsHeadWithin s.limits whole x.raw x.tag)
+    first_empty_header t e n =
+        let w = started t e in
+        (record { raw = w.0; tag = t; start = w.1; is_empty = n; name_is = refl; scope_is = sym (append-nil t.bindings); says = refl }, λ few. record { short = short few; tag = w.2 })
 
     first_heads : (s.lexical.phase ≡ phase.First) ⊎ (s.lexical.phase ≡ phase.FirstDeclared) → (t : Tag) → tag_anew (full m) ≡ Ok t → Heads t
     first_heads (inl is) t e = (λ n. rw is (first_header t e n), λ n. rw is (first_empty_header t e n))
@@ -353,12 +387,12 @@ module _ (s : State) (items : List Item) (b : ℕ) (bytes : List ℕ) (k : Kept 
 
         at : (s.lexical.phase ≡ phase.Between) ⊎ (s.lexical.phase ≡ phase.Declared) → Heads t
         at (inl is) = (
-          λ n. rw is (record { spelled = first_header t e n; raw = w.raw; tag = w.tag; start = w.start; named = w.is_named }),
-          λ n. rw is (record { spelled = first_empty_header t e n; raw = w.raw; tag = w.tag; start = w.start; named = w.is_named }),
+          λ n. let x = first_header t e n in rw is (record { spelled = x.0; raw = w.raw; tag = w.tag; start = w.start; named = w.is_named }, λ few. record { head = x.1 few; attributes_fit = k.few_attributes; names_fit = k.short_namespaces }),
+          λ n. let x = first_empty_header t e n in rw is (record { spelled = x.0; raw = w.raw; tag = w.tag; start = w.start; named = w.is_named }, λ few. record { head = x.1 few; attributes_fit = k.few_attributes; names_fit = k.short_namespaces }),
         )
         at (inr is) = (
-          λ n. rw is (record { spelled = first_header t e n; raw = w.raw; tag = w.tag; start = w.start; named = w.is_named }),
-          λ n. rw is (record { spelled = first_empty_header t e n; raw = w.raw; tag = w.tag; start = w.start; named = w.is_named }),
+          λ n. let x = first_header t e n in rw is (record { spelled = x.0; raw = w.raw; tag = w.tag; start = w.start; named = w.is_named }, λ few. record { head = x.1 few; attributes_fit = k.few_attributes; names_fit = k.short_namespaces }),
+          λ n. let x = first_empty_header t e n in rw is (record { spelled = x.0; raw = w.raw; tag = w.tag; start = w.start; named = w.is_named }, λ few. record { head = x.1 few; attributes_fit = k.few_attributes; names_fit = k.short_namespaces }),
         )
 
     -- ---- an element begins
@@ -373,30 +407,37 @@ module _ (s : State) (items : List Item) (b : ℕ) (bytes : List ℕ) (k : Kept 
         let opens : opens_stream t ≡ true = and_from _ _ ((bytes_eq-Decides t.ns streams_namespace).1 n.0) ((bytes_eq-Decides t.name (codes "stream")).1 n.1) in
         true≢false (sym opens ∙ ap says_stream (sym larger) ∙ other)
 
-    started_here : (t : Tag) → tag_here (full m) ≡ Ok t → (xs : List tokens.Attribute) × IsStart (scope_in s.scopes) whole xs t
-    started_here t e = let w = (start_laws.read (tag_limits s.limits) (scope_in s.scopes) whole t).0 e in (w.0, w.1)
+    started_here : (t : Tag) → tag_here (full m) ≡ Ok t → (xs : List tokens.Attribute) × IsStart (scope_in s.scopes) whole xs t × IsWithin (tag_limits s.limits) xs t
+    started_here t e = (start_laws.read (tag_limits s.limits) (scope_in s.scopes) whole t).0 e
 
     module _ (between : s.lexical.phase ≡ phase.Between) (other : is_header (full m) ≡ false) (e : (b == 62) ≡ true) where
-      leaf_case : (t : Tag) → tag_here (full m) ≡ Ok t → t.empty ≡ true → Q (leaf (turn (full m) items) t)
+      shallow : is_too_deep (full m) ≡ false → 1 ≤ s.limits.depth
+      shallow f = ltb-false s.limits.depth 1 f
+
+      leaf_case : is_too_deep (full m) ≡ false → (t : Tag) → tag_here (full m) ≡ Ok t → t.empty ≡ true → Q (leaf (turn (full m) items) t)
       unfolding leaf
-      leaf_case t is n none =
+      leaf_case near t is n none =
           let w = started_here t is in
-          let spelled = leaf_spelled (scope_in s.scopes) whole w.0 t w.1 n in
+          let spelled = leaf_spelled s.limits (scope_in s.scopes) whole w.0 t w.1 w.2 n in
           record {
             kept = on;
             hand = (
               low,
               (
                 refl,
-                λ p. with_element now (bytes ++ b ∷ []) _ h.done whole items (element_from t) h.stream between (record { spelled = spelled; no_header = not_named t is other }) h.bytes_are
-                    (ap (λ x. items ++ item.Element x ∷ []) (spelled_stays (scope_in s.scopes) whole (element_from t) spelled)),
+                refl,
+                λ p. (
+                  with_element now (bytes ++ b ∷ []) _ h.done whole items (element_from t) h.stream.0 between (record { spelled = spelled.0; no_header = not_named t is other }) h.bytes_are
+                      (ap (λ x. items ++ item.Element x ∷ []) (spelled_stays (scope_in s.scopes) whole (element_from t) spelled.0)),
+                  λ few. (h.stream.1 few, record { short = short few; shallow = shallow near; tags = spelled.1 }),
+                ),
               ),
             );
           }
 
-      level_case : (t : Tag) → tag_here (full m) ≡ Ok t → t.empty ≡ false → Q (turn (level (full m) t) items)
+      level_case : is_too_deep (full m) ≡ false → (t : Tag) → tag_here (full m) ≡ Ok t → t.empty ≡ false → Q (turn (level (full m) t) items)
       unfolding level
-      level_case t is n none =
+      level_case near t is n none =
           let w = started_here t is in
           let o : OpenElement = record { spelled = t.spelled; element = element_from t } in
           record {
@@ -413,9 +454,11 @@ module _ (s : State) (items : List Item) (b : ℕ) (bytes : List ℕ) (k : Kept 
                 done = h.done;
                 outer = [];
                 level = whole;
-                stream = subst (λ p. StreamTo (in_force p s.scopes s.name) h.done items) between h.stream;
-                covered = subst (λ l. AreCovered s.scopes s.scopes l []) (sym low) (refl, refl);
-                open_level = level_begun (scope_in s.scopes) whole w.0 t w.1 n;
+                stream = subst (λ p. StreamIn s.limits (in_force p s.scopes s.name) h.done items) between h.stream;
+                count = h.count;
+                shallow = subst (AreShallow s.limits.depth o) (sym low) (shallow near);
+                covered = subst (λ l. AreCovered s.limits s.scopes s.scopes l []) (sym low) (refl, refl);
+                open_level = level_begun s.limits (scope_in s.scopes) whole w.0 t w.1 w.2 n;
                 bytes_are = h.bytes_are ∙ ap (λ l. h.done ++ l) (sym (append-nil whole));
               },
               (refl, record { whole = []; hand_is = sym (ascii_alone s.pending b (let l = eqb-true b 62 e in omega (arith, l)) c).1; judged = hand_behind e; seen = front_seen [] [] no_front }),
@@ -428,7 +471,7 @@ module _ (s : State) (items : List Item) (b : ℕ) (bytes : List ℕ) (k : Kept 
       starts_at (Ok t) is =
           cond_both (is_too_deep (full m)) (turn (token_fails (full m) why.TooDeep) items) (if t.empty then leaf (turn (full m) items) t else turn (level (full m) t) items) Q
           (λ f. failed (full m) items _ _)
-          (λ f. cond_both t.empty (leaf (turn (full m) items) t) (turn (level (full m) t) items) Q (λ n. leaf_case t is n) (λ n. level_case t is n))
+          (λ f. cond_both t.empty (leaf (turn (full m) items) t) (turn (level (full m) t) items) Q (λ n. leaf_case f t is n) (λ n. level_case f t is n))
 
     misplaced_case : Q (misplaced (turn (full m) items))
     unfolding misplaced
@@ -448,38 +491,48 @@ module _ (s : State) (items : List Item) (b : ℕ) (bytes : List ℕ) (k : Kept 
     unfolding tag_closes tag_outside
     closes_case e = at_phase e s.lexical.phase refl
 
-  tag_case : (m : Mode) → TokenIn now items bytes s.token s.places.token_at → After b bytes (in_tag (turn (outer s m) items) b)
+  tag_case : (m : Mode) → Room → HasToken → After given b bytes (in_tag (turn (outer s m) items) b)
   unfolding in_tag
-  tag_case m h =
-      let more = token_more now items bytes s.token s.places.token_at b h in
+  tag_case m room h =
+      let more = grows room h in
       cond_both (b == 62 && not (is_some s.lexical.quote)) (tag_closes (turn (full m) items)) (turn (tag_gathered (outer s m) b) items) Q
-      (λ e. closes_case m more (and_parts _ _ e).0) (λ e none. record { kept = on; hand = (low, more) })
+      (λ e. closes_case m more (whole_short room h) (and_parts _ _ e).0) (λ e none. record { kept = on; hand = (low, more) })
 
-  pub outside_tag : Outside mode.Tag (outer s mode.Tag) items bytes → After b bytes (in_tag (turn (outer s mode.Tag) items) b)
-  outside_tag h = tag_case mode.Tag h
+  outside_tag : Room → Outside mode.Tag (outer s mode.Tag) used items bytes → After given b bytes (in_tag (turn (outer s mode.Tag) items) b)
+  outside_tag room h = tag_case mode.Tag room h
 
-  pub outside_opening : Outside mode.Opening (outer s mode.Opening) items bytes → After b bytes (in_opening (turn (outer s mode.Opening) items) b)
+  -- the byte shows that a declaration begins, or a tag
+  asks : (b == 33) ≡ false → (b == 63) ≡ true → may_declare (outer s mode.Opening) ≡ true → shows_unlimited (outer s mode.Opening) b ≡ false
+  asks e f g = let no_slash : (b == 47) ≡ false = subst (λ d. (d == 47) ≡ false) (sym (eqb-true b 63 f)) refl in rw (no_slash, e, f, g) refl
+
+  begins_tag : (b == 33) ≡ false → (b == 63) ≡ false → (b == 47 && true) ≡ false → shows_unlimited (outer s mode.Opening) b ≡ false
+  begins_tag e f g = rw (slash (b == 47) g, e, f) refl
+    where
+      slash : (x : Bool) → (x && true) ≡ false → x ≡ false
+      slash true h = absurd (true≢false h)
+      slash false h = refl
+
+  outside_opening : (s.limits.bytes < 2 ^ 64 → 0 < used → shows_unlimited (outer s mode.Opening) b ≡ false → (used + 1 ≤ s.limits.bytes) × (s.places.used ≡ used + 1)) → Outside mode.Opening (outer s mode.Opening) used items bytes → After given b bytes (in_opening (turn (outer s mode.Opening) items) b)
   unfolding in_opening
-  outside_opening h =
+  outside_opening room h =
       let r = outer s mode.Opening in
-      let more = token_more now items bytes s.token s.places.token_at b h in
       let question = turn (if may_declare r then gathered_in r mode.Question b else token_fails r why.Restricted) items in
       let footer = turn (gathered_in (unlimited r) mode.Footer b) items in
       let last = (if b == 47 && true then footer else in_tag (turn r items) b) in
       cond_both (b == 33) (turn (gathered_in (unlimited r) mode.Bang b) items) (if b == 63 then question else last) Q
       (λ e none. record { kept = on; hand = (low, tt) })
       (λ e. cond_both (b == 63) question last Q
-      (λ f. cond_both (may_declare r) (gathered_in r mode.Question b) (token_fails r why.Restricted) P (λ g none. record { kept = on; hand = (low, (g, more)) }) (λ g. failed r items _ _))
-      (λ f. cond_both (b == 47 && true) footer (in_tag (turn r items) b) Q (λ g none. record { kept = on; hand = (low, λ n. outside_footer_begun h) }) (λ g. tag_case mode.Opening h)))
+      (λ f. cond_both (may_declare r) (gathered_in r mode.Question b) (token_fails r why.Restricted) P (λ g none. record { kept = on; hand = (low, (g, grows (λ few p. room few p (asks e f g)) h)) }) (λ g. failed r items _ _))
+      (λ f. cond_both (b == 47 && true) footer (in_tag (turn r items) b) Q (λ g none. record { kept = on; hand = (low, λ n. outside_footer_begun h) }) (λ g. tag_case mode.Opening (λ few p. room few p (begins_tag e f g)) h)))
 
   -- a byte outside elements
-  pub outside_byte : (m : Mode) → Outside m (outer s m) items bytes → After b bytes (taken_in m (turn (outer s m) items) b)
-  outside_byte mode.Text h = outside_text h
-  outside_byte mode.Reference h = absurd h
-  outside_byte mode.Opening h = outside_opening h
-  outside_byte mode.Bang h = outside_bang
-  outside_byte mode.Question h = outside_question h
-  outside_byte mode.Declaration h = outside_declaration h
-  outside_byte mode.Tag h = outside_tag h
-  outside_byte mode.Footer h = outside_footer h
-  outside_byte mode.Section h = absurd h
+  pub outside_byte : (m : Mode) → (s.limits.bytes < 2 ^ 64 → 0 < used → shows_unlimited (outer s m) b ≡ false → (used + 1 ≤ s.limits.bytes) × (s.places.used ≡ used + 1)) → Outside m (outer s m) used items bytes → After given b bytes (taken_in m (turn (outer s m) items) b)
+  outside_byte mode.Text room h = outside_text h
+  outside_byte mode.Reference room h = absurd h
+  outside_byte mode.Opening room h = outside_opening room h
+  outside_byte mode.Bang room h = outside_bang
+  outside_byte mode.Question room h = outside_question (λ few p. room few p refl) h
+  outside_byte mode.Declaration room h = outside_declaration (λ few p. room few p refl) h
+  outside_byte mode.Tag room h = outside_tag (λ few p. room few p refl) h
+  outside_byte mode.Footer room h = outside_footer h
+  outside_byte mode.Section room h = absurd h

@@ -8,7 +8,8 @@ use Rattle.xmpp_framing_laws.proofs.ReadCharacters.{Judged}
 use Rattle.xmpp_framing.specs.Machine.{behind_byte}
 use Rattle.xmpp_framing_laws.specs.Spells.{IsHeaderName}
 use Rattle.xmpp_framing.specs.States.{OpenElement, State, Turn, admits_declaration, next_place}
-use Rattle.xmpp_framing_laws.specs.Streams.{InForce, StreamTo, place_of}
+use Rattle.xmpp_framing_laws.proofs.WithinParts.{AreShallow, IsCounted, StreamIn}
+use Rattle.xmpp_framing_laws.specs.Streams.{InForce, place_of}
 use Rattle.xmpp_framing.specs.TagSteps.{scope_in}
 use Rattle.xmpp_tokens.specs.Lines.{line_ends}
 use Rattle.xmpp_framing.specs.TextSteps.{kept_back}
@@ -27,31 +28,32 @@ in_force p scopes name = record { phase = p; scope = scope_in scopes; name = nam
 -- ---- outside elements
 
 -- a token is in hand, behind the stream so far
-pub record TokenIn (now : InForce) (items : List Item) (bytes token : List ℕ) (place : ℕ) : Type 0 where
+pub record TokenIn (limits : Limits) (used : ℕ) (now : InForce) (items : List Item) (bytes token : List ℕ) (place : ℕ) : Type 0 where
   pub done : List ℕ
-  pub stream : StreamTo now done items
+  pub stream : StreamIn limits now done items
+  pub count : limits.bytes < 2 ^ 64 → IsCounted used done bytes
   pub bytes_are : bytes ≡ done ++ token
   pub place_is : place ≡ place_of (length done)
 
 -- an end tag is in hand, of which white space behind the name is not kept
-pub record FooterIn (now : InForce) (items : List Item) (bytes token : List ℕ) : Type 0 where
+pub record FooterIn (limits : Limits) (now : InForce) (items : List Item) (bytes token : List ℕ) : Type 0 where
   pub done : List ℕ
   pub white : List ℕ
-  pub stream : StreamTo now done items
+  pub stream : StreamIn limits now done items
   pub bytes_are : bytes ≡ done ++ (token ++ white)
   pub is_white : are_white white ≡ true
   pub whole : (white ≡ []) ⊎ (length now.name + 2 ≤ length token)
 
-abbrev pub Outside : Mode → State → List Item → List ℕ → Type 0
-Outside mode.Text s items bytes = (s.token ≡ []) × (s.pending ≡ [] → StreamTo (in_force s.lexical.phase s.scopes s.name) bytes items)
-Outside mode.Reference s items bytes = ⊥
-Outside mode.Opening s items bytes = TokenIn (in_force s.lexical.phase s.scopes s.name) items bytes s.token s.places.token_at
-Outside mode.Bang s items bytes = Unit {0}
-Outside mode.Question s items bytes = (admits_declaration s.lexical.phase ≡ true) × TokenIn (in_force s.lexical.phase s.scopes s.name) items bytes s.token s.places.token_at
-Outside mode.Declaration s items bytes = (admits_declaration s.lexical.phase ≡ true) × TokenIn (in_force s.lexical.phase s.scopes s.name) items bytes s.token s.places.token_at
-Outside mode.Tag s items bytes = TokenIn (in_force s.lexical.phase s.scopes s.name) items bytes s.token s.places.token_at
-Outside mode.Footer s items bytes = s.lexical.spoiled ≡ false → FooterIn (in_force s.lexical.phase s.scopes s.name) items bytes s.token
-Outside mode.Section s items bytes = ⊥
+abbrev pub Outside : Mode → State → ℕ → List Item → List ℕ → Type 0
+Outside mode.Text s used items bytes = (s.token ≡ []) × (used ≡ 0) × (s.pending ≡ [] → StreamIn s.limits (in_force s.lexical.phase s.scopes s.name) bytes items)
+Outside mode.Reference s used items bytes = ⊥
+Outside mode.Opening s used items bytes = TokenIn s.limits used (in_force s.lexical.phase s.scopes s.name) items bytes s.token s.places.token_at
+Outside mode.Bang s used items bytes = Unit {0}
+Outside mode.Question s used items bytes = (admits_declaration s.lexical.phase ≡ true) × TokenIn s.limits used (in_force s.lexical.phase s.scopes s.name) items bytes s.token s.places.token_at
+Outside mode.Declaration s used items bytes = (admits_declaration s.lexical.phase ≡ true) × TokenIn s.limits used (in_force s.lexical.phase s.scopes s.name) items bytes s.token s.places.token_at
+Outside mode.Tag s used items bytes = TokenIn s.limits used (in_force s.lexical.phase s.scopes s.name) items bytes s.token s.places.token_at
+Outside mode.Footer s used items bytes = s.lexical.spoiled ≡ false → FooterIn s.limits (in_force s.lexical.phase s.scopes s.name) items bytes s.token
+Outside mode.Section s used items bytes = ⊥
 
 -- ---- in an element
 
@@ -61,7 +63,7 @@ TopIsNoHeader o [] = ¬ (IsHeaderName (namespace_of o.element) (name_of o.elemen
 TopIsNoHeader o (p ∷ ps) = TopIsNoHeader p ps
 
 -- the stream so far, the open elements, and the bytes in hand behind the last tag
-pub record Around (p : Phase) (scopes : List Scope) (name : List ℕ) (below : List OpenElement) (o : OpenElement) (items : List Item) (bytes hand : List ℕ) : Type 0 where
+pub record Around (limits : Limits) (used : ℕ) (p : Phase) (scopes : List Scope) (name : List ℕ) (below : List OpenElement) (o : OpenElement) (items : List Item) (bytes hand : List ℕ) : Type 0 where
   pub between : p ≡ phase.Between
   pub base : List Scope
   pub own : Scope
@@ -71,9 +73,11 @@ pub record Around (p : Phase) (scopes : List Scope) (name : List ℕ) (below : L
   pub done : List ℕ
   pub outer : List ℕ
   pub level : List ℕ
-  pub stream : StreamTo (in_force phase.Between base name) done items
-  pub covered : AreCovered base rest below outer
-  pub open_level : OpenLevel (scope_in rest) own o level
+  pub stream : StreamIn limits (in_force phase.Between base name) done items
+  pub count : limits.bytes < 2 ^ 64 → IsCounted used done bytes
+  pub shallow : AreShallow limits.depth o below
+  pub covered : AreCovered limits base rest below outer
+  pub open_level : OpenLevel limits (scope_in rest) own o level
   pub bytes_are : bytes ≡ done ++ (outer ++ (level ++ hand))
 
 -- a text is in hand
@@ -131,35 +135,37 @@ Inside mode.Tag s o items bytes hand = MarkIn hand s.chars s.token
 Inside mode.Footer s o items bytes hand = ⊥
 Inside mode.Section s o items bytes hand = (s.token ≡ []) × SectionIn hand s.pending s.chars s.lexical.returned s.lexical.brackets
 
-abbrev pub Hand : Option OpenElement → Mode → State → List Item → List ℕ → Type 0
-Hand None m s items bytes = (s.below ≡ []) × Outside m s items bytes
-Hand (Some o) m s items bytes = (hand : List ℕ) × Around s.lexical.phase s.scopes s.name s.below o items bytes hand × Inside m s o items bytes hand
+abbrev pub Hand : Option OpenElement → Mode → State → ℕ → List Item → List ℕ → Type 0
+Hand None m s used items bytes = (s.below ≡ []) × Outside m s used items bytes
+Hand (Some o) m s used items bytes = (hand : List ℕ) × Around s.limits used s.lexical.phase s.scopes s.name s.below o items bytes hand × Inside m s o items bytes hand
 
 -- ---- a state
 
 -- the place of the next byte, and what no byte changes
-pub record Kept (at : ℕ) (spent : Bool) (limits : Limits) (bytes : List ℕ) : Type 0 where
+pub record Kept (given : Limits) (at : ℕ) (spent : Bool) (limits : Limits) (bytes : List ℕ) : Type 0 where
   pub at_is : at ≡ place_of (length bytes)
   pub not_spent : spent ≡ false
+  pub limits_are : limits ≡ given
   pub few_attributes : limits.attributes < 2 ^ 32
   pub short_namespaces : limits.namespace_bytes < 2 ^ 32
 
-pub record Read (t : Turn) (bytes : List ℕ) : Type 0 where
-  pub kept : Kept t.state.places.at t.state.lexical.spent t.state.limits bytes
-  pub hand : Hand t.state.here t.state.lexical.mode t.state t.items bytes
+pub record Read (given : Limits) (t : Turn) (bytes : List ℕ) : Type 0 where
+  pub kept : Kept given t.state.places.at t.state.lexical.spent t.state.limits bytes
+  pub hand : Hand t.state.here t.state.lexical.mode t.state t.state.places.used t.items bytes
 
 -- what is so behind bytes, unless there is a fault
-abbrev pub Explained : Turn → List ℕ → Type 0
-Explained t bytes = t.state.fault ≡ None → Read t bytes
+abbrev pub Explained : Limits → Turn → List ℕ → Type 0
+Explained given t bytes = t.state.fault ≡ None → Read given t bytes
 
 -- the same behind one byte more, which is still to be passed
-abbrev pub After : ℕ → List ℕ → Turn → Type 0
-After b bytes u = Explained (behind_byte u b) (bytes ++ b ∷ [])
+abbrev pub After : Limits → ℕ → List ℕ → Turn → Type 0
+After given b bytes u = Explained given (behind_byte u b) (bytes ++ b ∷ [])
 
-pub kept_on : (at : ℕ) (spent : Bool) (limits : Limits) (bytes : List ℕ) (b : ℕ) → Kept at spent limits bytes → Kept (next_place at) spent limits (bytes ++ b ∷ [])
-kept_on at spent limits bytes b k = record {
+pub kept_on : (given : Limits) (at : ℕ) (spent : Bool) (limits : Limits) (bytes : List ℕ) (b : ℕ) → Kept given at spent limits bytes → Kept given (next_place at) spent limits (bytes ++ b ∷ [])
+kept_on given at spent limits bytes b k = record {
   at_is = let h = k.at_is in let n = length-append bytes (b ∷ []) in (rw n (omega (arith, h)));
   not_spent = k.not_spent;
+  limits_are = k.limits_are;
   few_attributes = k.few_attributes;
   short_namespaces = k.short_namespaces;
 }

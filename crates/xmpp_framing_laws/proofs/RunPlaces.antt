@@ -224,7 +224,7 @@ opening_remains t b =
     (either t (moved t asked) third (b == 63) (one t.state (gathered_in t.state mode.Question b) (token_fails t.state why.Restricted) (may_declare t.state) refl refl)
     (either t slash (in_tag t b) (b == 47 && not (is_some t.state.here)) (unlimited_stays t.state) (tag_remains t b)))
 
-taken_remains : (m : Mode) (t : Turn) (b : ℕ) → Remains t (taken_in m t b)
+pub taken_remains : (m : Mode) (t : Turn) (b : ℕ) → Remains t (taken_in m t b)
 taken_remains mode.Text t b = text_stays t.state b
 taken_remains mode.Reference t b = reference_stays t.state b
 taken_remains mode.Opening t b = opening_remains t b

@@ -4,6 +4,8 @@ pub mod Spells
 pub mod Plain
 pub mod Streams
 pub mod PlainItems
+pub mod Prefixes
+pub mod Offsets
 -- machine: where a framer stands, and which byte decides which fault
 pub mod Standing
 pub mod FaultRows

@@ -5,6 +5,8 @@
 
 pub mod faults;
 pub mod grammar;
+pub mod offsets;
+pub mod prefixes;
 pub mod reading;
 pub mod round_trips;
 pub mod writing;

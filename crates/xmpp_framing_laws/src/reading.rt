@@ -53,3 +53,13 @@ pub fn what_is_read_is_spelled()
     ensures { (limits : Limits) (bytes : List ℕ) → limits.attributes < 2 ^ 32 → limits.namespace_bytes < 2 ^ 32
         → let end = run (turn (from_start limits) []) bytes in (end.state.fault ≡ None → part_of end.state ≡ None → IsStream bytes end.items) }
 {}
+
+/// A law: what is read is within the limits. Where a framer has read bytes without a fault and nothing is unfinished, they
+/// are a stream of exactly its items, and each header, element and declaration of it is within the limits: its bytes, its
+/// depth, and in each tag the attributes and the declared namespaces. So with `spelled_streams_are_read` exactly the
+/// streams within the limits are read. The premises on the limits are the ranges of a `Limits`'s fields.
+pub fn what_is_read_is_within_the_limits()
+    ensures { (limits : Limits) (bytes : List ℕ) → limits.bytes < 2 ^ 64 → limits.attributes < 2 ^ 32 → limits.namespace_bytes < 2 ^ 32
+        → let end = run (turn (from_start limits) []) bytes in (end.state.fault ≡ None → part_of end.state ≡ None
+        → (now : InForce) × (stream : StreamTo now bytes end.items) × IsStreamWithin limits now bytes end.items stream) }
+{}
