@@ -62,6 +62,8 @@ pub mod PrefixRuns
 -- where tokens begin
 pub mod OffsetSteps
 pub mod OffsetRuns
+-- what is given
+pub mod GivenItems
 -- definitions at values
 mod WorkedFits
 mod WorkedGrammar

@@ -123,3 +123,16 @@ pub fn what_is_read_fits()
         → length (canon e) ≤ s.limits.bytes → StandsOutside s phase.Between written_scope (codes "stream:stream")
         → Gives s items (canon e) (item.Element e) phase.Between written_scope (codes "stream:stream") }
 {}
+
+/// A law: what a framer gives can be written again, and passed on. Where there is no fault all items that were given are
+/// plain. Where nothing is unfinished besides, each element is a plain tree that fits into limits as deep and with names as
+/// long that admit twice as many attributes and one more, if its bytes are not too many: `written_items_are_read` then
+/// says that what is written for it is read as it. The premises on the limits are the ranges of a `Limits`'s fields.
+pub fn what_is_given_can_be_passed_on()
+    ensures plain { (limits : Limits) (bytes : List ℕ) → limits.attributes < 2 ^ 32 → limits.namespace_bytes < 2 ^ 32
+        → let end = run (turn (from_start limits) []) bytes in (end.state.fault ≡ None → All IsPlainItem end.items) }
+    ensures can_pass { (limits most : Limits) (bytes : List ℕ) → limits.bytes < 2 ^ 64 → limits.attributes < 2 ^ 32
+        → limits.namespace_bytes < 2 ^ 32 → 2 * limits.attributes + 1 ≤ most.attributes → limits.namespace_bytes ≤ most.namespace_bytes
+        → limits.depth ≤ most.depth
+        → let end = run (turn (from_start limits) []) bytes in (end.state.fault ≡ None → part_of end.state ≡ None → All (CanPass most) end.items) }
+{}
