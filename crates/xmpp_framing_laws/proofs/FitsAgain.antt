@@ -195,9 +195,9 @@ begun_fits : (most : TagLimits) (default : List ℕ) (t : Tag) (kids : Nodes) (e
     → NodesFit most (default_inside default t.ns) kids → TagsFit most default e
 begun_fits most default t kids e begun here inside = subst (TagsFit most default) (sym (begun_is t kids e begun)) (here, inside)
 
-alone_fits : (most : TagLimits) (default says : List ℕ) → NodesFit most default (text_node says)
-alone_fits most default [] = tt
-alone_fits most default (c ∷ cs) = tt
+only_text_fits : (most : TagLimits) (default says : List ℕ) → NodesFit most default (text_node says)
+only_text_fits most default [] = tt
+only_text_fits most default (c ∷ cs) = tt
 
 text_fits : (most : TagLimits) (default says : List ℕ) (more : Nodes) → NodesFit most default more → NodesFit most default (joined (text_node says) more)
 text_fits most default [] more h = h
@@ -213,7 +213,7 @@ mutual
 
   content_fits : (read most : TagLimits) (default : List ℕ) (scope : Scope) (bytes : List ℕ) (kids : Nodes) (h : SpellsContent scope bytes kids) → Wider read most
       → AllByRecursion (IsShort read.namespace_bytes) scope → AreTagsWithinContent read scope bytes kids h → NodesFit most default kids
-  content_fits read most default scope bytes kids (text_alone _ _ _ says is_text kids_are) w s within = subst (NodesFit most default) (sym kids_are) (alone_fits most default says)
+  content_fits read most default scope bytes kids (text_alone _ _ _ says is_text kids_are) w s within = subst (NodesFit most default) (sym kids_are) (only_text_fits most default says)
   content_fits read most default scope bytes kids (with_element _ _ _ front says middle rest e more is_text spelled content bytes_are kids_are) w s within =
       subst (NodesFit most default) (sym kids_are) (text_fits most default says (child e more)
       (element_fits read most default scope middle e spelled w s within.0, content_fits read most default scope rest more content w s within.1))

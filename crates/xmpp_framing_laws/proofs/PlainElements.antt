@@ -237,9 +237,9 @@ text_plain : (says : List ℕ) (more : Nodes) → IsCharacters says → ArePlain
 text_plain [] more h k = k
 text_plain (c ∷ cs) more h k = (h, k)
 
-alone_plain : (says : List ℕ) → IsCharacters says → ArePlainNodes (text_node says)
-alone_plain [] h = tt
-alone_plain (c ∷ cs) h = (h, tt)
+only_text_plain : (says : List ℕ) → IsCharacters says → ArePlainNodes (text_node says)
+only_text_plain [] h = tt
+only_text_plain (c ∷ cs) h = (h, tt)
 
 mutual
   pub element_is_plain : (scope : Scope) (bytes : List ℕ) (e : Elem) → IsPlainScope scope → Spells scope bytes e → IsPlainElement e
@@ -249,7 +249,7 @@ mutual
       begun_plain scope t kids e tag begun (content_is_plain (t.bindings ++ scope) inside kids tag.inner content)
 
   pub content_is_plain : (scope : Scope) (bytes : List ℕ) (kids : Nodes) → IsPlainScope scope → SpellsContent scope bytes kids → ArePlainNodes kids
-  content_is_plain scope bytes kids s (text_alone _ _ _ says is_text kids_are) = subst ArePlainNodes (sym kids_are) (alone_plain says (text_says_characters bytes says is_text))
+  content_is_plain scope bytes kids s (text_alone _ _ _ says is_text kids_are) = subst ArePlainNodes (sym kids_are) (only_text_plain says (text_says_characters bytes says is_text))
   content_is_plain scope bytes kids s (with_element _ _ _ front says middle rest e more is_text spelled content bytes_are kids_are) =
       subst ArePlainNodes (sym kids_are) (text_plain says (child e more) (text_says_characters front says is_text) (element_is_plain scope middle e s spelled, content_is_plain scope rest more s content))
 

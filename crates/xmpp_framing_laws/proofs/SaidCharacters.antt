@@ -54,9 +54,9 @@ forgotten a c (x ∷ xs) h =
     both_same (not (ends_forbidden a c x)) (not (ends_forbidden 0 0 x)) (are_characters_behind c x xs) (are_characters_behind 0 x xs)
     (ap not (quiet a c x h.no_second)) (first_forgotten c x xs h.no_first)
 
--- the same behind any two bytes that are forgotten
-same_behind : (a c u v : ℕ) (xs : List ℕ) → Forgets c → Forgets v → are_characters_behind a c xs ≡ are_characters_behind u v xs
-same_behind a c u v xs h k = forgotten a c xs h ∙ sym (forgotten u v xs k)
+-- the same after any two bytes that are forgotten
+same_after : (a c u v : ℕ) (xs : List ℕ) → Forgets c → Forgets v → are_characters_behind a c xs ≡ are_characters_behind u v xs
+same_after a c u v xs h k = forgotten a c xs h ∙ sym (forgotten u v xs k)
 
 -- ---- where a character begins
 
@@ -86,7 +86,7 @@ second_anew : (c u b : ℕ) (xs : List ℕ) → eqb b 191 ≡ false → are_char
 second_anew c u b [] k = refl
 second_anew c u b (x ∷ xs) k = ap (λ t. not t && are_characters_behind b x xs) (second_quiet c u b x k)
 
--- a whole text may stand behind anything
+-- a whole text may stand after anything
 anew : (a c : ℕ) (bs : List ℕ) → Runs [] bs → are_characters_behind a c bs ≡ are_characters_behind 0 0 bs
 anew a c [] h = refl
 anew a c (b ∷ bs) h =
@@ -115,13 +115,13 @@ append_characters a c (x ∷ xs) ys h k = let f = first_allowed a c x xs h in rw
 whole_append : (xs ys : List ℕ) → Whole xs → Whole ys → Whole (xs ++ ys)
 whole_append xs ys h k = record { runs = runs_append xs ys [] h.runs ∙ k.runs; characters = append_characters 0 0 xs ys h.characters k }
 
--- where a byte of ASCII stands, no character is in hand before it or behind it
+-- where a byte of ASCII stands, no character is in hand before it or after it
 record AtAscii (held bs : List ℕ) : Type 0 where
   nothing : held ≡ []
   goes : Runs [] bs
 
-ascii_alone : (b : ℕ) (held bs : List ℕ) → b < 128 → Runs held (b ∷ bs) → AtAscii held bs
-ascii_alone b held bs low h =
+ascii_stands : (b : ℕ) (held bs : List ℕ) → b < 128 → Runs held (b ∷ bs) → AtAscii held bs
+ascii_stands b held bs low h =
     let l = leads held b bs h in
     let nothing = begins_anew b held l.next (inl low) l.is in
     record { nothing = nothing; goes = sym (ascii_step b bs low) ∙ ap (λ x. utf8_run x (b ∷ bs)) (sym nothing) ∙ h }
@@ -131,7 +131,7 @@ record RunParts (held xs ys : List ℕ) : Type 0 where
   second : Runs [] ys
 
 run_parts : (b : ℕ) (xs ys held : List ℕ) → b < 128 → Runs held (xs ++ (b ∷ ys)) → RunParts held xs ys
-run_parts b [] ys held low h = let a = ascii_alone b held ys low h in record { first = ap Some a.nothing; second = a.goes }
+run_parts b [] ys held low h = let a = ascii_stands b held ys low h in record { first = ap Some a.nothing; second = a.goes }
 run_parts b (x ∷ xs) ys held low h =
     let l = leads held x (xs ++ (b ∷ ys)) h in
     let p = run_parts b xs ys l.next low l.goes in
@@ -160,14 +160,14 @@ lines_run (b ∷ bs) returned held h =
     ⊎_elim
     (λ (n13 : eqb b 13 ≡ true).
     let low : b < 128 = grind (arith, nat_tests) in
-    let a = ascii_alone b held bs low h in
+    let a = ascii_stands b held bs low h in
     rw (n13, a.nothing) (ascii_step 10 (line_ends_behind true bs) (omega arith) ∙ lines_run bs true [] a.goes))
     (λ (n13 : eqb b 13 ≡ false).
     ⊎_elim
     (λ (joins : (returned && eqb b 10) ≡ true).
     let feed = (and_parts returned (eqb b 10) joins).1 in
     let low : b < 128 = grind (arith, nat_tests) in
-    let a = ascii_alone b held bs low h in
+    let a = ascii_stands b held bs low h in
     rw (n13, joins, a.nothing) (lines_run bs false [] a.goes))
     (λ (unjoined : (returned && eqb b 10) ≡ false).
     let l = leads held b bs h in
@@ -187,7 +187,7 @@ lines_characters (b ∷ bs) returned a c low h =
     let is13 : b ≡ 13 = eqb-true b 13 n13 in
     let forgets = low_forgets b (omega (arith, is13)) in
     let ih = lines_characters bs true c b (λ t. forgets) f.1 in
-    rw (n13, feed_allowed a c) (same_behind c 10 c b (line_ends_behind true bs) (low_forgets 10 (omega arith)) forgets ∙ ih))
+    rw (n13, feed_allowed a c) (same_after c 10 c b (line_ends_behind true bs) (low_forgets 10 (omega arith)) forgets ∙ ih))
     (λ (n13 : eqb b 13 ≡ false).
     ⊎_elim
     (λ (joins : (returned && eqb b 10) ≡ true).
@@ -195,7 +195,7 @@ lines_characters (b ∷ bs) returned a c low h =
     let is10 : b ≡ 10 = eqb-true b 10 p.1 in
     let forgets = low_forgets b (omega (arith, is10)) in
     let ih = lines_characters bs false c b (λ t. forgets) f.1 in
-    rw (n13, joins) (same_behind a c c b (line_ends_behind false bs) (low p.0) forgets ∙ ih))
+    rw (n13, joins) (same_after a c c b (line_ends_behind false bs) (low p.0) forgets ∙ ih))
     (λ (unjoined : (returned && eqb b 10) ≡ false).
     rw (n13, unjoined, f.0) (lines_characters bs false c b (λ t. absurd cc) f.1))
     (cases_Bool (returned && eqb b 10)))
@@ -215,7 +215,7 @@ spaces_characters (b ∷ bs) a c h =
     ⊎_elim
     (λ (white : is_white b ≡ true).
     let low : b < 128 = grind (arith, nat_tests) in
-    rw (white, space_allowed a c) (same_behind c 32 c b (spaces bs) (low_forgets 32 (omega arith)) (low_forgets b low) ∙ ih))
+    rw (white, space_allowed a c) (same_after c 32 c b (spaces bs) (low_forgets 32 (omega arith)) (low_forgets b low) ∙ ih))
     (λ (other : is_white b ≡ false). rw (other, f.0) ih)
     (cases_Bool (is_white b))
 

@@ -22,7 +22,7 @@ use Rattle.xmpp_framing_laws.proofs.RunPlaces.{no_fault_before}
 use Rattle.xmpp_framing_laws.proofs.StreamRuns.{place_there}
 use Rattle.xmpp_framing_laws.proofs.WrittenFits.{written_element_is_read}
 use Rattle.xmpp_framing_laws.proofs.WrittenHeaders.{first_header_is_read, footer_is_read, next_header_is_read}
-use Rattle.xmpp_framing_laws.proofs.WrittenRuns.{AreLimits, IsBehindHeader, is_behind}
+use Rattle.xmpp_framing_laws.proofs.WrittenRuns.{AreLimits, IsAfterHeader, is_after}
 
 -- ---- one item
 
@@ -54,7 +54,7 @@ between s said (item.Header at h) limited stands fits = next_header_is_read s sa
 between s said (item.Element e) limited stands fits = written_element_is_read s said e fits.0 fits.1 fits.2 stands
 between s said item.Footer limited stands fits = footer_is_read s said written_scope stands
 
-next_item : (s : State) (said : List Item) (p : Phase) (i : Item) → AreLimits s.limits → IsBehindHeader p → StandsOutside s p written_scope (codes "stream:stream") → MayStand p i → ItemFits s.limits i → GivesItem s said i
+next_item : (s : State) (said : List Item) (p : Phase) (i : Item) → AreLimits s.limits → IsAfterHeader p → StandsOutside s p written_scope (codes "stream:stream") → MayStand p i → ItemFits s.limits i → GivesItem s said i
 next_item s said phase.First i limited after stands may fits = absurd after
 next_item s said phase.FirstDeclared i limited after stands may fits = absurd may
 next_item s said phase.Between i limited after stands may fits = between s said i limited stands fits
@@ -81,7 +81,7 @@ before_last s said bytes i p g n less =
       no_fault = no_fault_before (run (turn s said) (take n bytes)) (drop n bytes) (ap (λ (t : Turn). t.state.fault) whole ∙ g.stands.no_fault);
     }
 
--- an item, and then what the bytes behind it give
+-- an item, and then what the bytes after it give
 after_item : (s t : State) (said : List Item) (first rest : List ℕ) (i : Item) (more : List Item) → run (turn s said) first ≡ turn t (said ++ i ∷ []) → Gave t (said ++ i ∷ []) rest more → Gave s said (first ++ rest) (i ∷ more)
 after_item s t said first rest i more runs h =
     let whole : run (turn s said) (first ++ rest) ≡ run (turn t (said ++ i ∷ [])) rest = run_append (turn s said) first rest ∙ ap (λ u. run u rest) runs in
@@ -126,13 +126,13 @@ none_taken : (n : ℕ) → take {A = ℕ} n [] ≡ []
 none_taken zero = refl
 none_taken (suc n) = refl
 
-pieces_from : (limits : Limits) (p : Phase) (s : State) (said : List Item) (offset : ℕ) (items : List Item) (n : ℕ) → AreLimits limits → IsBehindHeader p → s.limits ≡ limits
+pieces_from : (limits : Limits) (p : Phase) (s : State) (said : List Item) (offset : ℕ) (items : List Item) (n : ℕ) → AreLimits limits → IsAfterHeader p → s.limits ≡ limits
     → StandsOutside s p written_scope (codes "stream:stream") → s.places.at ≡ place_of offset → MayFollow p items → AllByRecursion (ItemFits limits) items → Pieces s said offset items n
 pieces_from limits p s said offset [] n limited after same stands at may fits = subst (λ l. Gave s said l []) (sym (none_taken n)) (nothing_more s said stands.no_fault)
 pieces_from limits p s said offset (i ∷ more) n limited after same stands at may fits =
     one_more s said offset i more n at
     (next_item s said p i (subst AreLimits (sym same) limited) after stands may.0 (subst (λ l. ItemFits l i) (sym same) fits.0))
-    (λ t items k there limits_are at_place. pieces_from limits (phase_after i) t items (offset + length (written_item i)) more k limited (is_behind i) (limits_are ∙ same) there at_place may.1 fits.1)
+    (λ t items k there limits_are at_place. pieces_from limits (phase_after i) t items (offset + length (written_item i)) more k limited (is_after i) (limits_are ∙ same) there at_place may.1 fits.1)
 
 stands_first : (limits : Limits) → StandsOutside (from_start limits) phase.First [] []
 stands_first limits =
@@ -142,7 +142,7 @@ all_pieces : (limits : Limits) (items : List Item) (n : ℕ) → AreLimits limit
 all_pieces limits [] n limited may fits = subst (λ l. Gave (from_start limits) [] l []) (sym (none_taken n)) (nothing_more (from_start limits) [] refl)
 all_pieces limits (i ∷ more) n limited may fits =
     one_more (from_start limits) [] 0 i more n refl (first_item (from_start limits) [] i (stands_first limits) may.0 fits.0)
-    (λ t items k there limits_are at_place. pieces_from limits (phase_after i) t items (0 + length (written_item i)) more k limited (is_behind i) limits_are there at_place may.1 fits.1)
+    (λ t items k there limits_are at_place. pieces_from limits (phase_after i) t items (0 + length (written_item i)) more k limited (is_after i) limits_are there at_place may.1 fits.1)
 
 pub pieces_are_read : (limits : Limits) (items : List Item) (n : ℕ) → limits.attributes < 2 ^ 32 → limits.namespace_bytes < 2 ^ 32 → MayFollow phase.First items → All (ItemFits limits) items
     → ((run (turn (from_start limits) []) (take n (written_items items))).items ≡ read_items 0 (whole_items n items)) × ((run (turn (from_start limits) []) (take n (written_items items))).state.fault ≡ None)

@@ -66,14 +66,14 @@ between limits bytes said item.Footer limited s fits =
     }
 
 -- a first header was there
-abbrev pub IsBehindHeader : Phase → Type 0
-IsBehindHeader phase.First = ⊥
-IsBehindHeader phase.FirstDeclared = ⊥
-IsBehindHeader phase.Between = Unit {0}
-IsBehindHeader phase.Declared = Unit {0}
-IsBehindHeader phase.Ended = Unit {0}
+abbrev pub IsAfterHeader : Phase → Type 0
+IsAfterHeader phase.First = ⊥
+IsAfterHeader phase.FirstDeclared = ⊥
+IsAfterHeader phase.Between = Unit {0}
+IsAfterHeader phase.Declared = Unit {0}
+IsAfterHeader phase.Ended = Unit {0}
 
-next_item : (limits : Limits) (p : Phase) (bytes : List ℕ) (said : List Item) (i : Item) → AreLimits limits → IsBehindHeader p → SoFar limits (in_force p) bytes said → MayStand p i → ItemFits limits i
+next_item : (limits : Limits) (p : Phase) (bytes : List ℕ) (said : List Item) (i : Item) → AreLimits limits → IsAfterHeader p → SoFar limits (in_force p) bytes said → MayStand p i → ItemFits limits i
     → Grown limits i bytes said
 next_item limits phase.First bytes said i limited after s may fits = absurd after
 next_item limits phase.FirstDeclared bytes said i limited after s may fits = absurd may
@@ -81,10 +81,10 @@ next_item limits phase.Between bytes said i limited after s may fits = between l
 next_item limits phase.Declared bytes said i limited after s may fits = absurd may
 next_item limits phase.Ended bytes said i limited after s may fits = absurd may
 
-pub is_behind : (i : Item) → IsBehindHeader (phase_after i)
-is_behind (item.Header at h) = tt
-is_behind (item.Element e) = tt
-is_behind item.Footer = tt
+pub is_after : (i : Item) → IsAfterHeader (phase_after i)
+is_after (item.Header at h) = tt
+is_after (item.Element e) = tt
+is_after item.Footer = tt
 
 -- one item, and then the others
 more_items : (said : List Item) (bytes : List ℕ) (i : Item) (more : List Item) → (said ++ read_item (length bytes) i ∷ []) ++ read_items (length (bytes ++ written_item i)) more ≡ said ++ read_items (length bytes) (i ∷ more)
@@ -95,13 +95,13 @@ more_items said bytes i more =
 moved : (limits : Limits) (now : InForce) (bytes others : List ℕ) (said items : List Item) → bytes ≡ others → said ≡ items → SoFar limits now bytes said → SoFar limits now others items
 moved limits now bytes others said items same are s = subst (λ l. SoFar limits now l items) same (subst (SoFar limits now bytes) are s)
 
-items_from : (limits : Limits) (p : Phase) (bytes : List ℕ) (said items : List Item) → AreLimits limits → IsBehindHeader p → SoFar limits (in_force p) bytes said → MayFollow p items
+items_from : (limits : Limits) (p : Phase) (bytes : List ℕ) (said items : List Item) → AreLimits limits → IsAfterHeader p → SoFar limits (in_force p) bytes said → MayFollow p items
     → AllByRecursion (ItemFits limits) items → SoFar limits (now_after (in_force p) items) (bytes ++ written_items items) (said ++ read_items (length bytes) items)
 items_from limits p bytes said [] limited after s may fits = moved limits (in_force p) bytes (bytes ++ []) said (said ++ []) (sym (append-nil bytes)) (sym (append-nil said)) s
 items_from limits p bytes said (i ∷ more) limited after s may fits =
     let one = next_item limits p bytes said i limited after s may.0 fits.0 in
     let now = now_after (in_force (phase_after i)) more in
-    let rest = items_from limits (phase_after i) (bytes ++ written_item i) (said ++ read_item (length bytes) i ∷ []) more limited (is_behind i) one may.1 fits.1 in
+    let rest = items_from limits (phase_after i) (bytes ++ written_item i) (said ++ read_item (length bytes) i ∷ []) more limited (is_after i) one may.1 fits.1 in
     moved limits now ((bytes ++ written_item i) ++ written_items more) (bytes ++ written_items (i ∷ more))
     ((said ++ read_item (length bytes) i ∷ []) ++ read_items (length (bytes ++ written_item i)) more) (said ++ read_items (length bytes) (i ∷ more))
     (append_assoc bytes (written_item i) (written_items more)) (more_items said bytes i more) rest
@@ -112,7 +112,7 @@ whole_stream limits [] limited may fits = started limits
 whole_stream limits (i ∷ more) limited may fits =
     let one = first_item limits [] [] i (started limits) may.0 fits.0 in
     let now = now_after (in_force (phase_after i)) more in
-    let rest = items_from limits (phase_after i) (written_item i) (read_item 0 i ∷ []) more limited (is_behind i) one may.1 fits.1 in
+    let rest = items_from limits (phase_after i) (written_item i) (read_item 0 i ∷ []) more limited (is_after i) one may.1 fits.1 in
     moved limits now (written_item i ++ written_items more) (written_items (i ∷ more)) (read_item 0 i ∷ read_items (length (written_item i)) more) (read_items 0 (i ∷ more)) refl (more_items [] [] i more) rest
 
 pub items_are_spelled : (limits : Limits) (items : List Item) → limits.attributes < 2 ^ 32 → limits.namespace_bytes < 2 ^ 32 → MayFollow phase.First items → All (ItemFits limits) items

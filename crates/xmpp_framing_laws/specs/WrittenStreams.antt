@@ -36,7 +36,7 @@ CanPass limits (item.Header at h) = Unit {0}
 CanPass limits (item.Element e) = length (canon e) ≤ limits.bytes → ItemFits limits (item.Element e)
 CanPass limits item.Footer = Unit {0}
 
--- An item may be written there: first a header, then each, and behind the footer none.
+-- An item may be written there: first a header, then each, and after the footer none.
 abbrev pub MayStand : Phase → Item → Type 0
 MayStand phase.First (item.Header at h) = Unit {0}
 MayStand phase.First (item.Element e) = ⊥
@@ -58,7 +58,7 @@ MayFollow p (i ∷ more) = MayStand p i × MayFollow (phase_after i) more
 
 -- ---- what is read
 
--- The item that is read where one is written after so many bytes: a header has the place of its first byte, and says
+-- The item that is read where one is written after so many bytes: a header has the offset of its first byte, and says
 -- what a written one does.
 abbrev pub read_item : ℕ → Item → Item
 read_item offset (item.Header at h) = item.Header (place_of offset) (as_written h)
@@ -79,7 +79,7 @@ whole_items n (i ∷ more) = if nat_le (length (written_item i)) n then i ∷ wh
 abbrev pub at_start : InForce
 at_start = record { phase = phase.First; scope = []; name = [] }
 
--- behind a written header
+-- after a written header
 abbrev pub in_force : Phase → InForce
 in_force p = record { phase = p; scope = written_scope; name = codes "stream:stream" }
 

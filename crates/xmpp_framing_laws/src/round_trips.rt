@@ -43,11 +43,11 @@ pub fn what_is_read_is_plain()
     ensures again { (scope : Scope) (bytes : List ℕ) (e : Elem) → IsPlainScope scope → SpellsTop scope bytes e → SpellsTop written_scope (canon e) e }
 {}
 
-/// A law: what is written for an item that fits into the limits is read as that item. From a state behind a written
+/// A law: what is written for an item that fits into the limits is read as that item. From a state after a written
 /// header in which no element is open and no token is in hand, the bytes of a plain tree give exactly that element, at
-/// the last of them, and leave such a state again; and so behind each header that puts the same default namespace in
-/// force and binds `stream`. The bytes of a header give that header, with its place, wherever a header may stand, and
-/// those of the footer the footer behind a written header. Of a header behind another it is asked besides that the limits
+/// the last of them, and leave such a state again; and so after each header that puts the same default namespace in
+/// force and binds `stream`. The bytes of a header give that header, with its offset, wherever a header may stand, and
+/// those of the footer the footer after a written header. Of a header after another it is asked besides that the limits
 /// are numbers of 32 bits, as they are in `Limits`.
 pub fn written_items_are_read()
     ensures element { (s : State) (items : List Item) (e : Elem) → IsTree e → IsPlain e → Fits s.limits e
@@ -73,9 +73,9 @@ pub fn written_items_are_read()
 {}
 
 /// A law: a stream that is written is read as its items and no others. Of plain items that fit into the limits, first a
-/// header and behind a footer nothing, the bytes one after another are a stream in the grammar's words, and are read from
-/// the first byte on without a fault, with nothing unfinished behind them: each tree as that tree, and each header with
-/// the place of its first byte. Of so many first bytes of them the items are read of which all bytes are there, without a
+/// header and after a footer nothing, the bytes one after another are a stream in the grammar's words, and are read from
+/// the first byte on without a fault, with nothing unfinished after them: each tree as that tree, and each header with
+/// the offset of its first byte. Of so many first bytes of them the items are read of which all bytes are there, without a
 /// fault: those before the item in which the bytes end, and all where all bytes are there. The premises on the limits are
 /// the ranges of a `Limits`'s fields.
 pub fn written_streams_are_read()
