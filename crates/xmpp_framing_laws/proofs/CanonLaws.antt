@@ -118,7 +118,7 @@ declares_empty : declared_prefix (codes "xmlns") ≡ Some []
 unfolding declared_prefix
 declares_empty = refl
 
-default_is_declared : (ns : List ℕ) (xs : List tokens.Attribute) → bindings_of (spelled (codes "xmlns") ns ∷ xs) ≡ bind [] ns ∷ bindings_of xs
+pub default_is_declared : (ns : List ℕ) (xs : List tokens.Attribute) → bindings_of (spelled (codes "xmlns") ns ∷ xs) ≡ bind [] ns ∷ bindings_of xs
 default_is_declared ns xs = binds_one (spelled (codes "xmlns") ns) xs [] declares_empty
 
 default_is_no_other : (ns : List ℕ) (xs : List tokens.Attribute) → others_of (spelled (codes "xmlns") ns ∷ xs) ≡ others_of xs
@@ -178,7 +178,7 @@ expanded_differ (a ∷ more) h =
     AllPairs-cons (λ a b. a ≢ b) (name_of (expanded a)) (map name_of (map expanded more))
     (All-from_recursion (λ m. name_of (expanded a) ≢ m) (map name_of (map expanded more)) (expanded_above a more h.0)) (expanded_differ more h.1)
 
-abbrev tag : List ℕ → List ℕ → List ℕ → List Attribute → Bool → Tag
+abbrev pub tag : List ℕ → List ℕ → List ℕ → List Attribute → Bool → Tag
 tag d ns name attrs ends = record { spelled = spelled_name ns name; ns = ns; name = name; attributes = map expanded attrs; bindings = bindings_of (tag_attributes d ns attrs); empty = ends }
 
 -- the prefix of a name, and what it says
@@ -234,12 +234,12 @@ prefixed_name scope d ns name f h =
     (cases_Bool (bytes_eq ns xml_namespace)))
     (cases_Bool (bytes_eq ns streams_namespace))
 
-record Started (scope : Scope) (d ns name : List ℕ) (attrs : List Attribute) : Type 0 where
-  start : (ends : Bool) → IsStart scope (opened d ns name attrs ++ tag_end ends) (tag_attributes d ns attrs) (tag d ns name attrs ends)
-  inside : InForce (bindings_of (tag_attributes d ns attrs) ++ scope) (default_inside d ns)
-  close : IsTag (written_end_tag ns name) (end_tag (spelled_name ns name))
+pub record Started (scope : Scope) (d ns name : List ℕ) (attrs : List Attribute) : Type 0 where
+  pub start : (ends : Bool) → IsStart scope (opened d ns name attrs ++ tag_end ends) (tag_attributes d ns attrs) (tag d ns name attrs ends)
+  pub inside : InForce (bindings_of (tag_attributes d ns attrs) ++ scope) (default_inside d ns)
+  pub close : IsTag (written_end_tag ns name) (end_tag (spelled_name ns name))
 
-started : (scope : Scope) (d ns name : List ℕ) (attrs : List Attribute) → InForce scope d → HasPlainName ns name → ArePlain attrs → IsStrictlySortedBy name_order attrs → Started scope d ns name attrs
+pub started : (scope : Scope) (d ns name : List ℕ) (attrs : List Attribute) → InForce scope d → HasPlainName ns name → ArePlain attrs → IsStrictlySortedBy name_order attrs → Started scope d ns name attrs
 started scope d ns name attrs f h plain sorted =
     let xs = tag_attributes d ns attrs in
     let t = tagged scope d ns name attrs f h plain sorted in
@@ -273,7 +273,7 @@ same_attributes : (attrs : List Attribute) → map attribute_of (map expanded at
 same_attributes [] = refl
 same_attributes (a ∷ more) = ap (λ l. a ∷ l) (same_attributes more)
 
-begun : (d ns name : List ℕ) (attrs : List Attribute) (kids : Nodes) (ends : Bool) → IsStrictlySortedBy name_order attrs → IsBegun (tag d ns name attrs ends) kids (element ns name attrs kids)
+pub begun : (d ns name : List ℕ) (attrs : List Attribute) (kids : Nodes) (ends : Bool) → IsStrictlySortedBy name_order attrs → IsBegun (tag d ns name attrs ends) kids (element ns name attrs kids)
 begun d ns name attrs kids ends sorted =
     record { attributes = attrs; sorted = record { ascending = sorted; firsts = λ ms nom. ap (found ms nom) (sym (same_attributes attrs)) }; is = refl }
 
@@ -295,11 +295,11 @@ whole scope d ns name attrs no_nodes s sorted inside =
 whole scope d ns name attrs (child e rest) s sorted inside = with_tags scope d ns name attrs (child e rest) s sorted inside
 whole scope d ns name attrs (text t rest) s sorted inside = with_tags scope d ns name attrs (text t rest) s sorted inside
 
-one_text : (t : List ℕ) → t ≢ [] → text t no_nodes ≡ text_node t
+pub one_text : (t : List ℕ) → t ≢ [] → text t no_nodes ≡ text_node t
 one_text [] some = absurd (some refl)
 one_text (b ∷ bs) some = refl
 
-text_first : (t : List ℕ) (e : Elem) (more : Nodes) → t ≢ [] → text t (child e more) ≡ joined (text_node t) (child e more)
+pub text_first : (t : List ℕ) (e : Elem) (more : Nodes) → t ≢ [] → text t (child e more) ≡ joined (text_node t) (child e more)
 text_first [] e more some = absurd (some refl)
 text_first (b ∷ bs) e more some = refl
 
@@ -321,7 +321,7 @@ mutual
       (element_spelled scope d e f tidy.2.0 plain.1.0) (nodes_spelled scope d more f tidy.2.1 plain.1.1) refl (text_first t e more tidy.0)
   nodes_spelled scope d (text t (text u more)) f tidy plain = absurd tidy.1
 
-in_header : InForce written_scope client_namespace
+pub in_header : InForce written_scope client_namespace
 unfolding bound
 in_header = record { default = refl; stream = refl }
 

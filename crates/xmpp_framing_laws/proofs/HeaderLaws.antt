@@ -13,7 +13,7 @@ use Rattle.xmpp_tokens.specs.Tags as tokens
 use Rattle.xmpp_tokens.specs.Tags.{is_qualified, names_of, tag_end}
 use Rattle.xmpp_names.specs.Declarations.{MayDeclare, bindings_of, declared_prefix, others_of, unless_binding, with_binding}
 use Rattle.xmpp_names.specs.Expansion.{Name, name_of}
-use Rattle.xmpp_names.specs.Grammar.{IsExpanded}
+use Rattle.xmpp_names.specs.Grammar.{IsExpanded, IsStart}
 use Rattle.xmpp_names.specs.Headers.{header_of, value_in}
 use Rattle.xmpp_names.specs.Names.{local_of, no_colon, prefix_of}
 use Rattle.xmpp_names.specs.Scopes.{Scope, bound, xml_namespace, xmlns_namespace}
@@ -30,11 +30,11 @@ use Rattle.xmpp_framing_laws.proofs.SpelledNames.{differ}
 
 -- ---- an attribute that may be there
 
-abbrev given : List ℕ → Option (List ℕ) → List tokens.Attribute
+abbrev pub given : List ℕ → Option (List ℕ) → List tokens.Attribute
 given name None = []
 given name (Some value) = spelled name value ∷ []
 
-abbrev said : List ℕ → List ℕ → Option (List ℕ) → List ExpandedAttribute
+abbrev pub said : List ℕ → List ℕ → Option (List ℕ) → List ExpandedAttribute
 said ns name None = []
 said ns name (Some value) = record { ns = ns; name = name; value = value } ∷ []
 
@@ -105,37 +105,37 @@ value_here ns x (Some value) more t none = ap (λ b. cond b (Some value) (value_
 
 -- ---- the parts of a header
 
-abbrev declarations : List tokens.Attribute
+abbrev pub declarations : List tokens.Attribute
 declarations = spelled (codes "xmlns") client_namespace ∷ spelled (codes "xmlns:stream") streams_namespace ∷ []
 
-abbrev from_lang : Header → List tokens.Attribute
+abbrev pub from_lang : Header → List tokens.Attribute
 from_lang h = given (codes "xml:lang") h.lang ++ declarations
 
-abbrev from_version : Header → List tokens.Attribute
+abbrev pub from_version : Header → List tokens.Attribute
 from_version h = given (codes "version") h.version ++ from_lang h
 
-abbrev from_to : Header → List tokens.Attribute
+abbrev pub from_to : Header → List tokens.Attribute
 from_to h = given (codes "to") h.to ++ from_version h
 
-abbrev from_id : Header → List tokens.Attribute
+abbrev pub from_id : Header → List tokens.Attribute
 from_id h = given (codes "id") h.id ++ from_to h
 
-abbrev all : Header → List tokens.Attribute
+abbrev pub all : Header → List tokens.Attribute
 all h = given (codes "from") h.from ++ from_id h
 
-abbrev say_lang : Header → List ExpandedAttribute
+abbrev pub say_lang : Header → List ExpandedAttribute
 say_lang h = said xml_namespace (codes "lang") h.lang ++ []
 
-abbrev say_version : Header → List ExpandedAttribute
+abbrev pub say_version : Header → List ExpandedAttribute
 say_version h = said [] (codes "version") h.version ++ say_lang h
 
-abbrev say_to : Header → List ExpandedAttribute
+abbrev pub say_to : Header → List ExpandedAttribute
 say_to h = said [] (codes "to") h.to ++ say_version h
 
-abbrev say_id : Header → List ExpandedAttribute
+abbrev pub say_id : Header → List ExpandedAttribute
 say_id h = said [] (codes "id") h.id ++ say_to h
 
-abbrev say_all : Header → List ExpandedAttribute
+abbrev pub say_all : Header → List ExpandedAttribute
 say_all h = said [] (codes "from") h.from ++ say_id h
 
 declared_bytes : assignments declarations ++ tag_end false ≡ codes " xmlns='jabber:client' xmlns:stream='http://etherx.jabber.org/streams'>"
@@ -271,7 +271,7 @@ all_say scope h =
 
 -- ---- a header
 
-abbrev header_tag : Header → Tag
+abbrev pub header_tag : Header → Tag
 header_tag h = record { spelled = codes "stream:stream"; ns = streams_namespace; name = codes "stream"; attributes = say_all h; bindings = written_scope; empty = false }
 
 may_default : MayDeclare (bind [] client_namespace)
@@ -320,7 +320,7 @@ xml_lang_said h =
     ∙ value_other [] (codes "to") h.to (say_version h) xml_namespace (codes "lang") refl ∙ value_other [] (codes "version") h.version (say_lang h) xml_namespace (codes "lang") refl
     ∙ value_here xml_namespace (codes "lang") h.lang [] refl refl
 
-header_says : (h : Header) → as_written h ≡ header_of (header_tag h)
+pub header_says : (h : Header) → as_written h ≡ header_of (header_tag h)
 header_says h = λ i. record {
   ns = streams_namespace;
   name = codes "stream";
@@ -332,36 +332,43 @@ header_says h = λ i. record {
   lang = sym (xml_lang_said h) i;
 }
 
-pub header_spelled : (h : Header) → IsPlainHeader h → SpellsHeader (written_header h) (codes "stream:stream") written_scope (as_written h)
+-- the tag is read so in each scope
+pub header_start : (scope : Scope) (h : Header) → IsPlainHeader h → IsStart scope (written_header h) (all h) (header_tag h)
 unfolding bound
-header_spelled h p =
+header_start scope h p =
     let s = all_sound h p in
     record {
-      raw = all h;
-      tag = header_tag h;
-      start = record {
-        spelled = record {
-          inside = assignments (all h) ++ tag_end false;
-          space = [];
-          bytes_are = header_bytes h;
-          name_is = stream_qualified;
-          inside_is = attributes_spelled (all h) (tag_end false) s.fine;
-          space_white = refl;
-          distinct = s.apart;
-        };
-        declarations = sym (all_bindings h);
-        may_be_made = All-from_recursion MayDeclare written_scope (may_default, (may_stream, tt));
-        prefix = codes "stream";
-        name_is = inl (refl, refl);
-        element = inr (differ (codes "stream") [] refl, differ (codes "stream") (codes "xmlns") refl, refl);
-        others = all_say (written_scope ++ []) h;
-        distinct = (all_told h).apart;
+      spelled = record {
+        inside = assignments (all h) ++ tag_end false;
+        space = [];
+        bytes_are = header_bytes h;
+        name_is = stream_qualified;
+        inside_is = attributes_spelled (all h) (tag_end false) s.fine;
+        space_white = refl;
+        distinct = s.apart;
       };
-      not_empty = refl;
-      name_is = refl;
-      scope_is = refl;
-      says = header_says h;
+      declarations = sym (all_bindings h);
+      may_be_made = All-from_recursion MayDeclare written_scope (may_default, (may_stream, tt));
+      prefix = codes "stream";
+      name_is = inl (refl, refl);
+      element = inr (differ (codes "stream") [] refl, differ (codes "stream") (codes "xmlns") refl, refl);
+      others = all_say (written_scope ++ scope) h;
+      distinct = (all_told h).apart;
     }
+
+abbrev pub header_by : (h : Header) → IsPlainHeader h → SpellsHeader (written_header h) (codes "stream:stream") written_scope (as_written h)
+header_by h p = record {
+  raw = all h;
+  tag = header_tag h;
+  start = header_start [] h p;
+  not_empty = refl;
+  name_is = refl;
+  scope_is = refl;
+  says = header_says h;
+}
+
+pub header_spelled : (h : Header) → IsPlainHeader h → SpellsHeader (written_header h) (codes "stream:stream") written_scope (as_written h)
+header_spelled h p = header_by h p
 
 pub footer_spelled : SpellsFooter written_footer (codes "stream:stream")
 footer_spelled = record { space = []; bytes_are = refl; name_is = stream_qualified; space_white = refl }

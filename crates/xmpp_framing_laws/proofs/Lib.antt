@@ -46,6 +46,16 @@ pub mod ReadOutside
 pub mod TextHands
 pub mod ReadInside
 pub mod ReadStreams
+-- what is read is plain
+pub mod SaidCharacters
+pub mod PlainElements
+-- what is written is read
+pub mod WrittenFits
+pub mod WrittenHeaders
+pub mod WrittenRuns
+pub mod WrittenPieces
+pub mod FitsAgain
+pub mod PassedOn
 -- what is unfinished
 pub mod PrefixSteps
 pub mod PrefixRuns
@@ -53,7 +63,10 @@ pub mod PrefixRuns
 pub mod OffsetSteps
 pub mod OffsetTags
 pub mod OffsetRuns
+-- what is given
+pub mod GivenItems
 -- definitions at values
+mod WorkedFits
 mod WorkedGrammar
 mod WorkedReadings
 mod WorkedRuns

@@ -256,17 +256,17 @@ declared l =
     let g : bytes_eq (prefix_of x) (codes "xmlns") ≡ true = (bytes_eq-Decides (prefix_of x) (codes "xmlns")).1 parts.0 in
     cond-false (bytes_eq x (codes "xmlns")) (Some []) _ f ∙ cond-true (bytes_eq (prefix_of x) (codes "xmlns")) (Some (local_of x)) None g ∙ ap Some parts.1
 
-other_name : (a : Attribute) → IsPlainAttribute a → a.ns ≡ [] → declared_prefix a.name ≡ None
+pub other_name : (a : Attribute) → IsPlainAttribute a → a.ns ≡ [] → declared_prefix a.name ≡ None
 other_name a h e = undeclared a.name [] a.name (unprefixed a h) (h.no_declaration e) (differ [] (codes "xmlns") refl)
 
-other_xml : (l : List ℕ) → declared_prefix (codes "xml:" ++ l) ≡ None
+pub other_xml : (l : List ℕ) → declared_prefix (codes "xml:" ++ l) ≡ None
 other_xml l = undeclared (codes "xml:" ++ l) (codes "xml") l (xml_name l) (differ (codes "xml:" ++ l) (codes "xmlns") refl) (differ (codes "xml") (codes "xmlns") refl)
 
 other_numbered : (n : ℕ) (l : List ℕ) → declared_prefix (numbered_prefix n ++ (58 ∷ l)) ≡ None
 other_numbered n l =
     undeclared (numbered_prefix n ++ (58 ∷ l)) (numbered_prefix n) l (numbered_name n l) (differ (numbered_prefix n ++ (58 ∷ l)) (codes "xmlns") refl) (differ (numbered_prefix n) (codes "xmlns") refl)
 
-binds_nothing : (a : tokens.Attribute) (xs : List tokens.Attribute) → declared_prefix a.name ≡ None → bindings_of (a ∷ xs) ≡ bindings_of xs
+pub binds_nothing : (a : tokens.Attribute) (xs : List tokens.Attribute) → declared_prefix a.name ≡ None → bindings_of (a ∷ xs) ≡ bindings_of xs
 binds_nothing a xs e = ap (λ p. with_binding p a.value (bindings_of xs)) e
 
 is_other : (a : tokens.Attribute) (xs : List tokens.Attribute) → declared_prefix a.name ≡ None → others_of (a ∷ xs) ≡ a ∷ others_of xs
@@ -278,7 +278,7 @@ binds_one a xs p e = ap (λ p. with_binding p a.value (bindings_of xs)) e
 pub is_no_other : (a : tokens.Attribute) (xs : List tokens.Attribute) (p : List ℕ) → declared_prefix a.name ≡ Some p → others_of (a ∷ xs) ≡ others_of xs
 is_no_other a xs p e = ap (λ p. unless_binding p a (others_of xs)) e
 
-foreign_bindings : (n : ℕ) (a : Attribute) (xs : List tokens.Attribute) → bindings_of (declaration n a ∷ prefixed n a ∷ xs) ≡ bind (numbered_prefix n) a.ns ∷ bindings_of xs
+pub foreign_bindings : (n : ℕ) (a : Attribute) (xs : List tokens.Attribute) → bindings_of (declaration n a ∷ prefixed n a ∷ xs) ≡ bind (numbered_prefix n) a.ns ∷ bindings_of xs
 foreign_bindings n a xs =
     binds_one (declaration n a) (prefixed n a ∷ xs) (numbered_prefix n) (declared (numbered_prefix n)) ∙ ap (λ bs. bind (numbered_prefix n) a.ns ∷ bs) (binds_nothing (prefixed n a) xs (other_numbered n a.name))
 

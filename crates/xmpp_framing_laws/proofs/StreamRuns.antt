@@ -39,7 +39,7 @@ record IsBehind (s t : State) (before after : List Item) (bytes : List ℕ) (p :
   limits : t.limits ≡ s.limits
 
 -- the place behind bytes that led there without a fault
-place_there : (s t : State) (before after : List Item) (bytes : List ℕ) (offset : ℕ) → s.places.at ≡ place_of offset → run (turn s before) bytes ≡ turn t after → t.fault ≡ None
+pub place_there : (s t : State) (before after : List Item) (bytes : List ℕ) (offset : ℕ) → s.places.at ≡ place_of offset → run (turn s before) bytes ≡ turn t after → t.fault ≡ None
     → t.places.at ≡ place_of (offset + length bytes)
 place_there s t before after bytes offset at runs none =
     ap (λ (u : Turn). u.state.places.at) (sym runs) ∙ run_place bytes (turn s before) (ap (λ (u : Turn). u.state.fault) runs ∙ none)

@@ -3,6 +3,7 @@ pub mod Texts
 pub mod Spells
 pub mod Plain
 pub mod Streams
+pub mod PlainItems
 pub mod Offsets
 -- machine: where a framer stands, and which byte decides which fault
 pub mod Standing
@@ -11,3 +12,5 @@ pub mod FaultRows
 pub mod Within
 pub mod StreamLimits
 pub mod Prefixes
+pub mod Fitting
+pub mod WrittenStreams

@@ -8,4 +8,5 @@ pub mod grammar;
 pub mod offsets;
 pub mod prefixes;
 pub mod reading;
+pub mod round_trips;
 pub mod writing;
