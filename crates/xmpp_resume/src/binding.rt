@@ -83,6 +83,7 @@ impl Sessions {
         ensures ended { result.ended ≡ option_map ended_of (row_named account resource self.old.rows) }
         ensures rows { self.new.rows ≡ less (row_named account resource self.old.rows) self.old.rows ++ fresh_row self.old.next account resource conn queue ∷ [] }
         ensures next { self.new.next ≡ self.old.next + 1 }
+        ensures seat { self.new.seat ≡ account }
         ensures spare { self.old.spare ≤ self.new.spare + 1 }
         ensures pool { Drops (row_named account resource self.old.rows) pool.old pool.new }
         ensures made { pool.new.made ≡ pool.old.made }

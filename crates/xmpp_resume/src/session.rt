@@ -34,7 +34,8 @@ pub struct SessionView {
     pub counted: bool,
     /// Whether it can be resumed (XEP-0198 section 5).
     pub resumable: bool,
-    /// Whether it was asked for its count of handled stanzas, and has not answered (XEP-0198 section 4).
+    /// Whether it was asked for its count of handled stanzas, and has not answered (XEP-0198 section 4): what
+    /// `set_asked` wrote last.
     pub asked: bool,
 }
 

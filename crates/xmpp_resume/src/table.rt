@@ -106,7 +106,7 @@ impl Sessions {
     }
 
     /// Makes room for one session more of an account. The sessions stay on each outcome, and so does the room where it
-    /// refuses. No other call takes memory.
+    /// refuses, or was made for this account before. No other call takes memory.
     pub fn reserve(&mut self, account: u32) -> Result<(), NoMemory>
         ensures spare { OnOk result (1 ≤ self.new.spare) }
         ensures seat { OnOk result (self.new.seat ≡ account) }
@@ -114,6 +114,7 @@ impl Sessions {
         ensures next { self.new.next ≡ self.old.next }
         ensures stays { OnErr result (self.new.seat ≡ self.old.seat) }
         ensures kept { OnErr result (self.old.spare ≤ self.new.spare) }
+        ensures more { self.old.seat ≡ account → self.old.spare ≤ self.new.spare }
     {
         self.prune();
         self.make_room(account)
@@ -139,6 +140,7 @@ impl Sessions {
         ensures next { self.new.next ≡ self.old.next }
         ensures stays { OnErr result (self.new.seat ≡ self.old.seat) }
         ensures kept { OnErr result (self.old.spare ≤ self.new.spare) }
+        ensures more { self.old.seat ≡ account → self.old.spare ≤ self.new.spare }
     {
         self.numbers.reserve(1)?;
         self.rows.reserve(1)?;
@@ -305,6 +307,7 @@ impl Sessions {
         ensures number { result ≡ self.old.next }
         ensures rows { self.new.rows ≡ self.old.rows ++ fresh_row self.old.next account resource conn queue ∷ [] }
         ensures next { self.new.next ≡ self.old.next + 1 }
+        ensures seat { self.new.seat ≡ account }
         ensures spare { self.old.spare ≤ self.new.spare + 1 }
     {
         let number = self.next;
@@ -387,7 +390,8 @@ impl Sessions {
         self.change(number, Change::Carbons(on));
     }
 
-    /// Writes whether a session was asked for its count of handled stanzas and has not answered (XEP-0198 section 4).
+    /// Writes whether a session was asked for its count of handled stanzas and has not answered (XEP-0198 section 4). No
+    /// other call changes it: neither a count that comes nor a resumption does.
     pub fn set_asked(&mut self, number: u64, on: bool)
         requires { IsSome (row_of number self.old.rows) }
         ensures { ChangesRow number (asking on) self.old self.new }
