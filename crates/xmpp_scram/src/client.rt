@@ -141,8 +141,8 @@ impl ScramClient {
     /// Replies to the server's first message: `c=biws,r=` its nonce, `,p=` the base64 of the proof. `Malformed` comes
     /// exactly where the message leaves the grammar, else `BadNonce` exactly where its nonce does not begin with the
     /// client's, else `Iterations` exactly where the count is not within `LEAST_ITERATIONS` to `MOST_ITERATIONS`. A
-    /// refusal leaves the client as it was; after an Ok it expects a verifier. Memory is taken only where the answer is
-    /// Ok.
+    /// refusal leaves the client as it was; after an Ok it expects a verifier. Want of memory is answered only where the
+    /// answer would be Ok.
     pub fn reply(&mut self, alloc: Global, server_first: &[u8]) -> Result<Bytes, ScramFault>
         ensures answer { Judges (λ m. m.items) result (sent (λ r. r.message) (reply_of self.old server_first.now)) }
         ensures expects { OnOk result (self.new ≡ expecting self.old (reply_of self.old server_first.now)) }

@@ -132,7 +132,7 @@ fn first_parts(bytes: &[u8]) -> Result<FirstParts<'_>, Departure<'_>>
 
 /// What a client's first message says (RFC 5802, section 7). `Malformed` comes exactly where it leaves the grammar,
 /// with the place. Within the grammar, `Plus` comes exactly where its flag is `p`, and else `Authzid` exactly where it
-/// asks for an authorization identity. Memory is taken only where the answer is Ok.
+/// asks for an authorization identity. Want of memory is answered only where the answer would be Ok.
 pub fn read_first(alloc: Global, bytes: &[u8]) -> Result<ClientFirst, ScramFault>
     ensures exact { Judges (λ first. first) result (client_first_of bytes.now) }
 {

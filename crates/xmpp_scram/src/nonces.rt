@@ -37,7 +37,8 @@ pub fn nonce_of(drawn: &[u8; 18]) -> [u8; 24]
     }
 }
 
-/// The salt of an account: the first 16 bytes of the SHA-256 of its bare address. It takes no memory.
+/// The salt of an account: the first 16 bytes of the SHA-256 of its bare address. It is known to who knows the address,
+/// so that a server's run is decided by its inputs (RFC 5802 leaves salts to the server). It takes no memory.
 pub fn salt_of(bare: &str) -> [u8; 16]
     ensures { result ≡ salt_of bare.now }
 {

@@ -122,7 +122,8 @@ impl ScramServer {
     }
 
     /// Answers the client's final message as `last` does, and leaves the exchange, for a caller that may try again
-    /// where memory ran out.
+    /// where memory ran out. After any other refusal the caller drops the exchange: else one nonce would serve for many
+    /// guesses.
     pub fn judge(&self, alloc: Global, bytes: &[u8]) -> Result<Bytes, ScramFault>
         ensures { Judges (λ m. m.items) result (last_of self.now bytes.now) }
     {
