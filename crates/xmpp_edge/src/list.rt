@@ -87,6 +87,14 @@ impl<T: Drop> ListOf<T> {
     }
 }
 
+impl<T> From<Vec<T>> for ListOf<T> {
+    ghost from_gives = { λ items list. list.items ≡ items.items };
+
+    fn from(items: Vec<T>) -> ListOf<T> {
+        ListOf { items }
+    }
+}
+
 /// What can be copied into memory of its own.
 pub trait Copied: Sized {
     /// An equal value.

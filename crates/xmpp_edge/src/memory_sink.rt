@@ -1,9 +1,9 @@
 //! Sinks in memory.
-ghost use Rattle.std.specs.Prelude.{◌≡◌, ◌<◌, ◌≤◌, [], length, None, Some, IfOk, IsErr, Contains};
+ghost use Rattle.std.specs.Prelude.{◌≡◌, ◌<◌, ◌≤◌, [], length, min, None, Some, IfOk, IsErr, OnOk, OnErr, Contains};
 ghost use Rattle.std.specs.Io.{WritesAtMost};
 ghost use Rattle.std.specs.Io.KnownBytes.{WriteAppends};
-ghost use Rattle.xmpp_edge.specs.Counts.{HasCause, counted};
-ghost use Rattle.xmpp_edge.specs.InMemory.{not_called};
+ghost use Rattle.xmpp_edge.specs.Counts.{HasCause};
+ghost use Rattle.xmpp_edge.specs.InMemory.{not_called, called, failed};
 
 use crate::bytes::Bytes;
 use crate::failing_calls::FailingCalls;
@@ -66,10 +66,10 @@ impl Sink for MemorySink {
         ensures bytes { WriteAppends (Some self.old.written) (Some self.new.written) result bytes.now }
         ensures some { IfOk result (λ n. 0 < length bytes.now → 0 < n) }
         ensures cause { HasCause self.old.failing.faults self.new.failing.faults result }
-        ensures most { IfOk result (λ n. n ≤ self.old.step) }
-        ensures calls { self.new.failing.calls ≡ counted self.old.failing.calls }
+        ensures exact { IfOk result (λ n. n ≡ min (length bytes.now) self.old.step) }
+        ensures ok { OnOk result (self.new.failing ≡ called self.old.failing) }
+        ensures err { OnErr result (self.new.failing ≡ failed (called self.old.failing)) }
         ensures chosen { Contains self.old.failing.fails self.new.failing.calls → IsErr result }
-        ensures fails { self.new.failing.fails ≡ self.old.failing.fails }
         ensures step { self.new.step ≡ self.old.step }
     {
         if self.failing.next_fails() {

@@ -1,9 +1,9 @@
 //! Sources over bytes in memory.
-ghost use Rattle.std.specs.Prelude.{◌≡◌, ◌≤◌, ◌↔◌, Some, IfOk, IsErr, Contains};
+ghost use Rattle.std.specs.Prelude.{◌≡◌, ◌≤◌, ◌↔◌, Some, IfOk, IsErr, OnOk, OnErr, Contains};
 ghost use Rattle.std.specs.Io.{ReadsAtMost};
 ghost use Rattle.std.specs.Io.KnownBytes.{ReadConsumes};
-ghost use Rattle.xmpp_edge.specs.Counts.{HasCause, counted};
-ghost use Rattle.xmpp_edge.specs.InMemory.{not_called};
+ghost use Rattle.xmpp_edge.specs.Counts.{HasCause};
+ghost use Rattle.xmpp_edge.specs.InMemory.{not_called, called, failed};
 
 use crate::bytes::Bytes;
 use crate::failing_calls::FailingCalls;
@@ -58,9 +58,9 @@ impl Source for MemorySource {
         ensures bytes { ReadConsumes (Some self.old.left) (Some self.new.left) result buf.new }
         ensures cause { HasCause self.old.failing.faults self.new.failing.faults result }
         ensures most { IfOk result (λ n. n ≤ self.old.step) }
-        ensures calls { self.new.failing.calls ≡ counted self.old.failing.calls }
+        ensures ok { OnOk result (self.new.failing ≡ called self.old.failing) }
+        ensures err { OnErr result (self.new.failing ≡ failed (called self.old.failing)) }
         ensures chosen { IsErr result ↔ Contains self.old.failing.fails self.new.failing.calls }
-        ensures fails { self.new.failing.fails ≡ self.old.failing.fails }
         ensures step { self.new.step ≡ self.old.step }
     {
         if self.failing.next_fails() {
