@@ -10,4 +10,4 @@ mod laws;
 pub use address::Jid;
 pub use fault::JidFault;
 pub use forms::{domain_in_normal_form, local_in_normal_form, resource_in_normal_form};
-pub use laws::{normal_form_stays, parts_are_joined};
+pub use laws::{normal_form_stays, normal_parts_stay, parts_are_joined};
