@@ -1,0 +1,35 @@
+//! Laws of the table of faults: its rows decide their faults, and nothing else does (RFC 6120, sections 4.9, 11.1 and 11.6;
+//! XML 1.0; Namespaces in XML 1.0).
+ghost use Rattle.std.specs.Prelude.{◌≡◌, ◌↔◌, ℕ, List, [], ◌∷◌, ◌++◌, Some, None, codes, true, false};
+ghost use Rattle.xmpp_framing.specs.Readings.{fault_of, framed};
+ghost use Rattle.xmpp_framing.specs.States.{Turn, is_text};
+ghost use Rattle.xmpp_framing.specs.declared.fault.Why.{Why};
+ghost use Rattle.xmpp_framing.specs.declared.limits.Limits.{Limits};
+ghost use Rattle.xmpp_framing.specs.declared.states.Mode.TheVariants as mode;
+ghost use Rattle.xmpp_framing_laws.specs.FaultRows.{Decides};
+ghost use Rattle.xmpp_framing_laws.specs.Hands.{IsNoneHeld, IsRunHeld, IsTokenHeld};
+ghost use Rattle.xmpp_framing_laws.specs.Rows.{Row};
+
+/// A law: the table of faults is sound and complete. After bytes without a fault, one byte more decides a fault at an offset
+/// exactly where a row of the table says so of the state after them: each row decides its fault, and nothing else decides
+/// one. `tokens_in_hand_are_told` says of the bytes what the state has of the token in hand. The same holds of any state
+/// without a fault, if a token that a `<` has begun is that byte alone, as it is after bytes.
+pub fn faults_are_rows()
+    ensures bytes { (limits : Limits) (bytes : List ℕ) (b at : ℕ) (why : Why) → fault_of limits bytes ≡ None
+        → (fault_of limits (bytes ++ b ∷ []) ≡ Some (record { at = at; why = why })) ↔ Row (framed limits bytes).state b at why }
+    ensures state { (t : Turn) (b at : ℕ) (why : Why) → t.state.fault ≡ None
+        → (t.state.lexical.mode ≡ mode.Opening → (t.state.token ≡ codes "<") × (t.state.lexical.quote ≡ None)) → Decides t b at why ↔ Row t.state b at why }
+{}
+
+/// A law: what a state has of the token in hand is what the bytes say. After bytes without a fault they are whole tokens with
+/// texts between them, and then the token, the text or nothing that the state has in hand, from the offset on that it has
+/// for it: its bytes are the state's token, of a tag its quote is the state's, of a CDATA section the `]` that it ends in
+/// are, and of a text the first bytes of a character. `tokens_have_one_offset` says that bytes are so in one way.
+pub fn tokens_in_hand_are_told()
+    ensures token { (limits : Limits) (bytes : List ℕ) → fault_of limits bytes ≡ None → is_text (framed limits bytes).state.lexical.mode ≡ false
+        → IsTokenHeld (framed limits bytes).state bytes }
+    ensures text { (limits : Limits) (bytes : List ℕ) → fault_of limits bytes ≡ None → is_text (framed limits bytes).state.lexical.mode ≡ true
+        → (framed limits bytes).state.lexical.in_run ≡ true → IsRunHeld (framed limits bytes).state bytes }
+    ensures none { (limits : Limits) (bytes : List ℕ) → fault_of limits bytes ≡ None → is_text (framed limits bytes).state.lexical.mode ≡ true
+        → (framed limits bytes).state.lexical.in_run ≡ false → IsNoneHeld (framed limits bytes).state bytes }
+{}
