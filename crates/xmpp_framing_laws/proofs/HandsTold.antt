@@ -42,7 +42,7 @@ module _ (s : State) (bytes : List ℕ) (h : Known s bytes) where
   run_held : is_text s.lexical.mode ≡ true → s.lexical.in_run ≡ true → IsRunHeld s bytes
   run_held text is =
       let k = h.running text is in
-      record { before = k.before; text = k.token; bytes_are = k.bytes_are; at_is = place s true text is ∙ k.at_is; ahead = k.after; is_run = k.plain; held = k.left }
+      record { before = k.before; text = k.token; bytes_are = k.bytes_are; at_is = place s true text is ∙ k.at_is; ahead = k.after; is_run = k.plain; held = k.left; counts = λ inner none. k.counts inner none ∙ counted_is 0 k.token }
 
   none_held : is_text s.lexical.mode ≡ true → s.lexical.in_run ≡ false → IsNoneHeld s bytes
   none_held text is = let k = h.between text is in record { tokens = k.0; at_is = place s false text is ∙ h.at; none_held = k.1 }

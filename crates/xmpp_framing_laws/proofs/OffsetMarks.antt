@@ -397,7 +397,7 @@ no_ascii : (x : ℕ) (xs : List ℕ) (b n : ℕ) → n < 128 → continues (x �
 no_ascii x xs b n low c =
     ⊎_elim (λ (e : (b == n) ≡ true). let is = eqb-true b n e in absurd (some_none x xs (ascii_alone (x ∷ xs) b (omega (arith, is, low)) c).0)) (λ (e : (b == n) ≡ false). e) (cases_Bool (b == n))
 
-same_count : (held : List ℕ) (n m b : ℕ) → continues held b ≡ true → (held ≡ [] → n ≡ m) → brackets_behind n b ≡ brackets_behind m b
+pub same_count : (held : List ℕ) (n m b : ℕ) → continues held b ≡ true → (held ≡ [] → n ≡ m) → brackets_behind n b ≡ brackets_behind m b
 same_count [] n m b c h = ap (λ k. brackets_behind k b) (h refl)
 same_count (x ∷ xs) n m b c h = let other = no_ascii x xs b 93 (omega arith) c in rw other refl
 
@@ -541,6 +541,70 @@ module _ (s : State) (b : ℕ) (is : s.lexical.mode ≡ mode.Text) (no_token : s
       (λ i. state_by P (markup_begun s) (if b == 38 then fault else text_outside s b) (b == 60) (λ e. markup_begins)
       (λ e. state_by P fault (text_outside s b) (b == 38) (λ f. stays fault (refl, refl))
       (λ f. stays (text_outside s b) (alike s (judged_outside r b) (character_begun r) (ends_character s.pending b) said begun))))
+
+-- ---- the `]` that a text of an element ends in
+
+-- A text in an element goes on, and where the byte ends a character the `]` are counted.
+abbrev pub Counted : State → ℕ → State → Type 0
+Counted s b u =
+    u.fault ≡ None → is_text u.lexical.mode ≡ true → is_some u.here ≡ true
+    → (is_some s.here ≡ true) × (held_after s.pending b ≡ [] → u.lexical.brackets ≡ brackets_behind (if s.lexical.in_run then s.lexical.brackets else 0) b)
+
+held_on : (held : List ℕ) (b : ℕ) → held ++ b ∷ [] ≡ [] → ⊥
+held_on [] b h = some_none b [] h
+held_on (x ∷ xs) b h = some_none x (xs ++ b ∷ []) h
+
+run_brackets : (x : Bool) (s : State) → (if x then s else run_begun s).lexical.brackets ≡ (if x then s.lexical.brackets else 0)
+run_brackets true s = refl
+run_brackets false s = refl
+
+run_here : (x : Bool) (s : State) → (if x then s else run_begun s).here ≡ s.here
+run_here true s = refl
+run_here false s = refl
+
+module _ (s : State) (b : ℕ) (c : continues s.pending b ≡ true) where
+  outside_here : (text_outside s b).here ≡ s.here
+  unfolding text_outside
+  outside_here =
+      let r = in_run s in
+      let same = run_here s.lexical.in_run s in
+      let P = λ (v : State). v.here ≡ s.here in
+      state_by P (judged_outside r b) (character_begun r) (ends_character s.pending b) (λ e. state_by P r (token_fails r why.NotWellFormed) (is_white b) (λ f. same) (λ f. same))
+      (λ e. state_by P (record r { places = record r.places { item_at = r.places.at } }) r (is_empty r.pending) (λ f. same) (λ f. same))
+
+  markup_counted : Counted s b (markup_begun s)
+  markup_counted =
+      let t = token_begun s mode.Opening in
+      cond_both (is_some t.here) t (record t { places = record t.places { item_at = t.places.at; used = 1 } }) (λ v. Counted s b (gathered v 60)) (λ e n t h. absurd (false≢true t))
+      (λ e n t h. absurd (false≢true t))
+
+  text_counted : Counted s b (in_text s b)
+  unfolding in_text inside between text_inside
+  text_counted =
+      let P = Counted s b in
+      let r = in_run s in
+      let fault = fails s s.places.at why.NotWellFormed in
+      let reference = token_begun s mode.Reference in
+      state_by P (inside s b) (between s b) (is_some s.here)
+      (λ i. state_by P (markup_begun s) (if b == 38 then reference else text_inside s b) (b == 60) (λ e. markup_counted)
+      (λ e. state_by P reference (text_inside s b) (b == 38) (λ f n t h. absurd (false≢true t))
+      (λ f. state_by P (judged_text r b) r (ends_character s.pending b)
+      (λ g. state_by P (token_fails r why.NotWellFormed) (character_taken r b) (is_forbidden r b || ends_section r b) (λ j n t h. absurd (none_some _ n))
+      (λ j n t h. (i, λ none. ap (λ k. brackets_behind k b) (run_brackets s.lexical.in_run s))))
+      (λ g n t h. (i, λ none. absurd (held_on s.pending b (sym (grown_after s.pending b c g) ∙ none)))))))
+      (λ i. state_by P (markup_begun s) (if b == 38 then fault else text_outside s b) (b == 60) (λ e. markup_counted)
+      (λ e. state_by P fault (text_outside s b) (b == 38) (λ f n t h. absurd (none_some _ n)) (λ f n t h. absurd (false≢true (sym i ∙ (sym (ap is_some outside_here) ∙ h))))))
+
+pub counted_after : (m : Mode) (t : Turn) (b : ℕ) → is_text m ≡ true → continues t.state.pending b ≡ true → Counted t.state b (taken_in m t b).state
+counted_after mode.Text t b e c = text_counted t.state b c
+counted_after mode.Reference t b e c = absurd (false≢true e)
+counted_after mode.Opening t b e c = absurd (false≢true e)
+counted_after mode.Bang t b e c = absurd (false≢true e)
+counted_after mode.Question t b e c = absurd (false≢true e)
+counted_after mode.Declaration t b e c = absurd (false≢true e)
+counted_after mode.Tag t b e c = absurd (false≢true e)
+counted_after mode.Footer t b e c = absurd (false≢true e)
+counted_after mode.Section t b e c = absurd (false≢true e)
 
 pub begins_after : (m : Mode) (t : Turn) (b : ℕ) → t.state.lexical.mode ≡ m → is_text m ≡ true → t.state.token ≡ [] → Begins b (taken_in m t b).state
 begins_after mode.Text t b is e none = text_begins t.state b is none

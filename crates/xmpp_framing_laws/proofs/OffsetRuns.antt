@@ -2,16 +2,19 @@
 use Rattle.std.proofs.Common.{◌≡◌, ◌≢◌, ℕ, ◌<◌, ◌⊎◌, inl, inr, ⊎_elim, Bool, true, false, not, ◌&&◌, ◌==◌, if◌then◌else◌, List, [], ◌∷◌, ◌++◌, length, length-append, Some, None, refl, sym, ap, subst, ◌∙◌, append_assoc, append-nil, arith}
 use Rattle.std.proofs.lemmas.Bool.{and_from, cases_Bool, eqb-true, false≢true, true≢false}
 use Rattle.std.proofs.lemmas.List.Folds.{list_all-append}
+use Rattle.std.specs.Option.{is_some}
 use Rattle.xmpp_tokens.specs.Utf8.{continues, held_after}
 use Rattle.xmpp_framing_laws.proofs.CountLaws.{takes}
 use Rattle.xmpp_framing_laws.proofs.FaultLaws.{broken, goes, long}
-use Rattle.xmpp_framing_laws.proofs.OffsetMarks.{Mark, begins_after, is_open, mark_after}
+use Rattle.xmpp_framing_laws.proofs.OffsetMarks.{Mark, begins_after, counted_after, is_open, mark_after, same_count}
 use Rattle.xmpp_framing_laws.proofs.OffsetSteps.{text_goes, token_goes}
 use Rattle.xmpp_framing_laws.proofs.OffsetTags.{Spot, first_spot, named_there, quote_after_text, spot_after}
 use Rattle.xmpp_framing_laws.proofs.ReadCharacters.{ascii_alone, ascii_continues}
+use Rattle.xmpp_framing_laws.proofs.TextFronts.{counted-append, counted_behind}
 use Rattle.xmpp_framing_laws.proofs.RunPlaces.{no_fault_before, taken_at, taken_pending}
 use Rattle.xmpp_framing.specs.Machine.{is_too_long, passed, run, step, taken_in}
 use Rattle.xmpp_framing.specs.States.{State, Turn, counted, from_start, in_run, is_text, moved, next_place, run_begun, token_place, turn}
+use Rattle.xmpp_framing.specs.TextSteps.{brackets_behind}
 use Rattle.xmpp_framing_laws.specs.FaultRows as rows
 use Rattle.xmpp_framing_laws.specs.Offsets.{AreBefore, AreTokens, IsAtToken, IsRun, IsWhole, a_markup, a_reference, a_text, character_left, first_of, is_no_markup, is_reference, no_token, one_more}
 use Rattle.xmpp_framing_laws.specs.Streams.{place_of}
@@ -21,8 +24,8 @@ use Rattle.xmpp_framing.specs.declared.limits.Limits.{Limits}
 use Rattle.xmpp_framing.specs.declared.states.Mode.{Mode}
 use Rattle.xmpp_framing.specs.declared.states.Mode.TheVariants as mode
 
--- a text in hand, and the character that it leaves unfinished
-pub record InText (at : ℕ) (held bytes : List ℕ) : Type 0 where
+-- a text in hand, the character that it leaves unfinished and, in an element, the `]` that it ends in
+pub record InText (at : ℕ) (held : List ℕ) (inner : Bool) (brackets : ℕ) (bytes : List ℕ) : Type 0 where
   pub before : List ℕ
   pub token : List ℕ
   pub bytes_are : bytes ≡ before ++ token
@@ -30,6 +33,7 @@ pub record InText (at : ℕ) (held bytes : List ℕ) : Type 0 where
   pub after : AreTokens before
   pub plain : IsRun token
   pub left : held ≡ character_left [] token
+  pub counts : inner ≡ true → held ≡ [] → brackets ≡ counted_behind 0 token
 
 -- a token in hand, as a state has it
 pub record InToken (s : State) (bytes : List ℕ) : Type 0 where
@@ -44,7 +48,7 @@ pub record InToken (s : State) (bytes : List ℕ) : Type 0 where
 pub record Known (s : State) (bytes : List ℕ) : Type 0 where
   pub at : s.places.at ≡ place_of (length bytes)
   pub between : is_text s.lexical.mode ≡ true → s.lexical.in_run ≡ false → AreTokens bytes × (s.pending ≡ [])
-  pub running : is_text s.lexical.mode ≡ true → s.lexical.in_run ≡ true → InText s.places.token_at s.pending bytes
+  pub running : is_text s.lexical.mode ≡ true → s.lexical.in_run ≡ true → InText s.places.token_at s.pending (is_some s.here) s.lexical.brackets bytes
   pub token : is_text s.lexical.mode ≡ false → InToken s bytes
   pub quiet : is_text s.lexical.mode ≡ true → (s.lexical.quote ≡ None) × (s.token ≡ [])
 
@@ -55,8 +59,9 @@ left_more : (held xs : List ℕ) (b : ℕ) → character_left held (xs ++ b ∷ 
 left_more held [] b = refl
 left_more held (x ∷ xs) b = left_more (held_after held x) xs b
 
-text_more : (at : ℕ) (held bytes : List ℕ) (b : ℕ) → is_no_markup b ≡ true → InText at held bytes → InText at (held_after held b) (bytes ++ b ∷ [])
-text_more at held bytes b plain h = record {
+text_more : (at : ℕ) (held bytes : List ℕ) (inner more : Bool) (n m b : ℕ) → continues held b ≡ true → (more ≡ true → (inner ≡ true) × (held_after held b ≡ [] → m ≡ brackets_behind n b)) → is_no_markup b ≡ true → InText at held inner n bytes
+    → InText at (held_after held b) more m (bytes ++ b ∷ [])
+text_more at held bytes inner more n m b c grows plain h = record {
   before = h.before;
   token = h.token ++ b ∷ [];
   bytes_are = ap (λ l. l ++ b ∷ []) h.bytes_are ∙ append_assoc h.before h.token (b ∷ []);
@@ -64,6 +69,7 @@ text_more at held bytes b plain h = record {
   after = h.after;
   plain = list_all-append is_no_markup h.token (b ∷ []) ∙ and_from _ _ h.plain (and_from _ _ plain refl);
   left = ap (λ l. held_after l b) h.left ∙ sym (left_more [] h.token b);
+  counts = λ e none. let g = grows e in g.1 none ∙ (same_count held n (counted_behind 0 h.token) b c (h.counts g.0) ∙ sym (counted-append 0 h.token (b ∷ [])));
 }
 
 first_low : (m : Mode) → first_of m < 128
@@ -106,10 +112,11 @@ module _ (t : Turn) (b : ℕ) (bytes : List ℕ) (h : Known t.state bytes) where
   held = taken_pending s.lexical.mode (moved t (counted s)) b
 
   -- the text that the byte belongs to
-  in_text_now : (c : Bool) → s.lexical.in_run ≡ c → is_text s.lexical.mode ≡ true → is_no_markup b ≡ true
-      → InText (if c then counted s else run_begun (counted s)).places.token_at (held_after s.pending b) (bytes ++ b ∷ [])
-  in_text_now true is text plain = text_more s.places.token_at s.pending bytes b plain (h.running text is)
-  in_text_now false is text plain =
+  in_text_now : (x : Bool) → s.lexical.in_run ≡ x → is_text s.lexical.mode ≡ true → is_no_markup b ≡ true → continues s.pending b ≡ true
+      → (is_some u.here ≡ true → (is_some s.here ≡ true) × (held_after s.pending b ≡ [] → u.lexical.brackets ≡ brackets_behind (if x then s.lexical.brackets else 0) b))
+      → InText (if x then counted s else run_begun (counted s)).places.token_at (held_after s.pending b) (is_some u.here) u.lexical.brackets (bytes ++ b ∷ [])
+  in_text_now true is text plain c grows = text_more s.places.token_at s.pending bytes (is_some s.here) (is_some u.here) s.lexical.brackets u.lexical.brackets b c grows plain (h.running text is)
+  in_text_now false is text plain c grows =
       let k = h.between text is in
       record {
         before = bytes;
@@ -119,6 +126,7 @@ module _ (t : Turn) (b : ℕ) (bytes : List ℕ) (h : Known t.state bytes) where
         after = k.0;
         plain = and_from _ _ plain refl;
         left = ap (λ l. held_after l b) k.1;
+        counts = λ e none. (grows e).1 none;
       }
 
   -- what stands before a token that begins with the byte
@@ -140,8 +148,9 @@ module _ (t : Turn) (b : ℕ) (bytes : List ℕ) (h : Known t.state bytes) where
         between = λ e i. absurd (false≢true (sym i ∙ (taken.goes none e).1));
         running = λ e i.
             let g = taken.goes none e in
-            subst (λ n. InText n (held_after u.pending b) (bytes ++ b ∷ [])) (sym g.0)
-            (subst (λ l. InText run_at (held_after l b) (bytes ++ b ∷ [])) (sym held) (in_text_now s.lexical.in_run refl text g.2));
+            let grows = λ (inner : is_some u.here ≡ true). counted_after s.lexical.mode (moved t (counted s)) b text c none e inner in
+            subst (λ n. InText n (held_after u.pending b) (is_some u.here) u.lexical.brackets (bytes ++ b ∷ [])) (sym g.0)
+            (subst (λ l. InText run_at (held_after l b) (is_some u.here) u.lexical.brackets (bytes ++ b ∷ [])) (sym held) (in_text_now s.lexical.in_run refl text g.2 c grows));
         token = λ e.
             let g = taken.begins e in
             let low = first_low u.lexical.mode in

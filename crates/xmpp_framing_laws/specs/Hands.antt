@@ -2,6 +2,7 @@
 -- about bytes.
 use Rattle.std.specs.Prelude.{ℕ, ◌≡◌, true, false, List, [], ◌∷◌, ◌++◌, None, codes, length}
 use Rattle.std.specs.List.{list_all}
+use Rattle.std.specs.Option.{is_some}
 use Rattle.xmpp_tokens.specs.Characters.{is_white}
 use Rattle.xmpp_framing.specs.ManyBytes.{quote_after}
 use Rattle.xmpp_framing.specs.States.{State, token_place}
@@ -40,7 +41,7 @@ pub record IsTokenHeld (s : State) (bytes : List ℕ) : Type 0 where
   pub ahead : AreBefore before
   pub kept : AreKept s.lexical.mode s more
 
--- A text is in hand, which may end in the first bytes of a character.
+-- A text is in hand, which may end in the first bytes of a character. In an element the `]` that it ends in are counted.
 pub record IsRunHeld (s : State) (bytes : List ℕ) : Type 0 where
   pub before : List ℕ
   pub text : List ℕ
@@ -49,6 +50,7 @@ pub record IsRunHeld (s : State) (bytes : List ℕ) : Type 0 where
   pub ahead : AreTokens before
   pub is_run : IsRun text
   pub held : s.pending ≡ character_left [] text
+  pub counts : is_some s.here ≡ true → s.pending ≡ [] → s.lexical.brackets ≡ brackets_last 0 text
 
 -- No token is in hand, and no text.
 pub record IsNoneHeld (s : State) (bytes : List ℕ) : Type 0 where

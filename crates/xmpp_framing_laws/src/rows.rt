@@ -23,8 +23,9 @@ pub fn faults_are_rows()
 
 /// A law: what a state has of the token in hand is what the bytes say. After bytes without a fault they are whole tokens with
 /// texts between them, and then the token, the text or nothing that the state has in hand, from the offset on that it has
-/// for it: its bytes are the state's token, of a tag its quote is the state's, of a CDATA section the `]` that it ends in
-/// are, and of a text the first bytes of a character. `tokens_have_one_offset` says that bytes are so in one way.
+/// for it: its bytes are the state's token, of a tag its quote is the state's, of a CDATA section and of a text in an
+/// element the `]` that it ends in are, and of a text the first bytes of a character. `tokens_have_one_offset` says that
+/// bytes are so in one way. Of an end tag outside elements the state keeps not all bytes, and it isn't said which.
 pub fn tokens_in_hand_are_told()
     ensures token { (limits : Limits) (bytes : List ℕ) → fault_of limits bytes ≡ None → is_text (framed limits bytes).state.lexical.mode ≡ false
         → IsTokenHeld (framed limits bytes).state bytes }
