@@ -18,7 +18,7 @@ counted_is : (n : ℕ) (bs : List ℕ) → counted_behind n bs ≡ brackets_last
 counted_is n [] = refl
 counted_is n (b ∷ bs) = counted_is (brackets_behind n b) bs
 
-are_kept : (m : Mode) (s : State) (more : List ℕ) → is_text m ≡ false → Spot m s.lexical.quote more → Mark m s more → AreKept m s more
+pub are_kept : (m : Mode) (s : State) (more : List ℕ) → is_text m ≡ false → Spot m s.lexical.quote more → Mark m s more → AreKept m s more
 are_kept mode.Text s more e spot h = absurd (false≢true (sym e))
 are_kept mode.Reference s more e spot h = (h, spot)
 are_kept mode.Opening s more e spot h = (h.0 ∙ ap (λ l. 60 ∷ l) (sym spot.0), spot.0)
@@ -34,17 +34,17 @@ place s true text is = rw (text, is) refl
 place s false text is = rw (text, is) refl
 
 module _ (s : State) (bytes : List ℕ) (h : Known s bytes) where
-  token_held : is_text s.lexical.mode ≡ false → IsTokenHeld s bytes
+  pub token_held : is_text s.lexical.mode ≡ false → IsTokenHeld s bytes
   token_held no_text =
       let k = h.token no_text in
       record { before = k.before; more = k.more; bytes_are = k.bytes_are; at_is = k.at_is; ahead = k.ahead; kept = are_kept s.lexical.mode s k.more no_text k.spot k.mark }
 
-  run_held : is_text s.lexical.mode ≡ true → s.lexical.in_run ≡ true → IsRunHeld s bytes
+  pub run_held : is_text s.lexical.mode ≡ true → s.lexical.in_run ≡ true → IsRunHeld s bytes
   run_held text is =
       let k = h.running text is in
       record { before = k.before; text = k.token; bytes_are = k.bytes_are; at_is = place s true text is ∙ k.at_is; ahead = k.after; is_run = k.plain; held = k.left; counts = λ inner none. k.counts inner none ∙ counted_is 0 k.token }
 
-  none_held : is_text s.lexical.mode ≡ true → s.lexical.in_run ≡ false → IsNoneHeld s bytes
+  pub none_held : is_text s.lexical.mode ≡ true → s.lexical.in_run ≡ false → IsNoneHeld s bytes
   none_held text is = let k = h.between text is in record { tokens = k.0; at_is = place s false text is ∙ h.at; none_held = k.1 }
 
 pub token_told : (limits : Limits) (bytes : List ℕ) → fault_of limits bytes ≡ None → is_text (framed limits bytes).state.lexical.mode ≡ false → IsTokenHeld (framed limits bytes).state bytes

@@ -66,6 +66,7 @@ pub mod OffsetMarks
 pub mod OffsetRuns
 pub mod OneOffset
 pub mod HandsTold
+pub mod OneHand
 -- the table of faults is complete
 pub mod RowsTold
 pub mod RowsDecide

@@ -217,7 +217,7 @@ open_reference a x name (whole_declaration _ i space is white none) k e = apart 
 -- ---- texts run up to the first `<` or `&`
 
 -- nothing, or `<` or `&` first
-abbrev BeginsMarked : List ℕ → Type 0
+abbrev pub BeginsMarked : List ℕ → Type 0
 BeginsMarked [] = Unit {0}
 BeginsMarked (b ∷ bs) = is_no_markup b ≡ false
 
@@ -227,7 +227,7 @@ whole_marked a x (whole_reference _ n is named) = subst BeginsMarked (sym (refer
 whole_marked a x (whole_section _ i is none) = subst BeginsMarked (sym (section_then a i x is)) refl
 whole_marked a x (whole_declaration _ i space is white none) = subst BeginsMarked (sym (declaration_then a i x space is)) refl
 
-one_run : (t k x y : List ℕ) → IsRun t → IsRun k → BeginsMarked x → BeginsMarked y → t ++ x ≡ k ++ y → (t ≡ k) × (x ≡ y)
+pub one_run : (t k x y : List ℕ) → IsRun t → IsRun k → BeginsMarked x → BeginsMarked y → t ++ x ≡ k ++ y → (t ≡ k) × (x ≡ y)
 one_run [] [] x y h j p q e = (refl, e)
 one_run [] (d ∷ ds) x y h j p q e =
     let first : is_no_markup d ≡ false = subst BeginsMarked e p in absurd (true≢false (sym (and_parts (is_no_markup d) (list_all is_no_markup ds) j).0 ∙ first))
@@ -239,7 +239,7 @@ one_run (c ∷ cs) (d ∷ ds) x y h j p q e =
 
 -- ---- tokens from the first on
 
-data FromFirst : List ℕ → Type 0 where
+pub data FromFirst : List ℕ → Type 0 where
   none_left : (bytes : List ℕ) → bytes ≡ [] → FromFirst bytes
   first_then : (bytes text token rest : List ℕ) → IsRun text → IsWhole token → FromFirst rest → bytes ≡ text ++ (token ++ rest) → FromFirst bytes
 
@@ -250,17 +250,17 @@ with_last bytes text token (first_then _ t k rest t_run k_whole more is) run who
     first_then _ t k (rest ++ (text ++ token)) t_run k_whole (with_last rest text token more run whole)
     (ap (λ l. l ++ (text ++ token)) is ∙ append_assoc t (k ++ rest) (text ++ token) ∙ ap (λ l. t ++ l) (append_assoc k rest (text ++ token)))
 
-from_first : (bytes : List ℕ) → AreTokens bytes → FromFirst bytes
+pub from_first : (bytes : List ℕ) → AreTokens bytes → FromFirst bytes
 from_first bytes (no_token _ is) = none_left bytes is
 from_first bytes (one_more _ before text token tokens run whole is) = subst FromFirst (sym is) (with_last before text token (from_first before tokens) run whole)
 
 -- a token in hand, or nothing
-data Hand : List ℕ → Type 0 where
+pub data Hand : List ℕ → Type 0 where
   nothing_in_hand : (hand : List ℕ) → hand ≡ [] → Hand hand
   markup_in_hand : (hand more : List ℕ) → hand ≡ 60 ∷ more → IsOpen more → Hand hand
   reference_in_hand : (hand name : List ℕ) → hand ≡ 38 ∷ name → list_all is_no_end name ≡ true → Hand hand
 
-hand_marked : (hand : List ℕ) → Hand hand → BeginsMarked hand
+pub hand_marked : (hand : List ℕ) → Hand hand → BeginsMarked hand
 hand_marked hand (nothing_in_hand _ is) = subst BeginsMarked (sym is) tt
 hand_marked hand (markup_in_hand _ more is opens) = subst BeginsMarked (sym is) refl
 hand_marked hand (reference_in_hand _ name is named) = subst BeginsMarked (sym is) refl
@@ -277,12 +277,12 @@ no_whole a x hand whole (markup_in_hand _ more is opens) e = open_markup a x mor
 no_whole a x hand whole (reference_in_hand _ name is named) e = open_reference a x name whole named (e ∙ is)
 
 -- a text and a token in hand after whole tokens
-record Rest (bytes : List ℕ) : Type 0 where
-  text : List ℕ
-  hand : List ℕ
-  run : IsRun text
-  held : Hand hand
-  is : bytes ≡ text ++ hand
+pub record Rest (bytes : List ℕ) : Type 0 where
+  pub text : List ℕ
+  pub hand : List ℕ
+  pub run : IsRun text
+  pub held : Hand hand
+  pub is : bytes ≡ text ++ hand
 
 no_more : (t k rest z y : List ℕ) → IsRun t → IsWhole k → Rest z → z ≡ (t ++ (k ++ rest)) ++ y → ⊥
 no_more t k rest z y run whole r e =
@@ -290,7 +290,7 @@ no_more t k rest z y run whole r e =
     let split = one_run r.text t r.hand (k ++ (rest ++ y)) r.run run (hand_marked r.hand r.held) (whole_marked k (rest ++ y) whole) all in
     no_whole k (rest ++ y) r.hand whole r.held (sym split.1)
 
-one_front : (a c z y : List ℕ) → FromFirst a → FromFirst c → Rest z → Rest y → a ++ z ≡ c ++ y → (a ≡ c) × (z ≡ y)
+pub one_front : (a c z y : List ℕ) → FromFirst a → FromFirst c → Rest z → Rest y → a ++ z ≡ c ++ y → (a ≡ c) × (z ≡ y)
 one_front a c z y (none_left _ is) (none_left _ are) r s e = (is ∙ sym are, sym (ap (λ l. l ++ z) is) ∙ e ∙ ap (λ l. l ++ y) are)
 one_front a c z y (none_left _ is) (first_then _ t k rest run whole more are) r s e = absurd (no_more t k rest z y run whole r (sym (ap (λ l. l ++ z) is) ∙ e ∙ ap (λ l. l ++ y) are))
 one_front a c z y (first_then _ t k rest run whole more is) (none_left _ are) r s e = absurd (no_more t k rest y z run whole s (sym (ap (λ l. l ++ y) are) ∙ sym e ∙ ap (λ l. l ++ z) is))
@@ -325,14 +325,14 @@ belongs bytes b before (x ∷ xs) is (a_reference _ _ _ more h first named) =
     (reference_in_hand (x ∷ xs) xs (ap (λ d. d ∷ xs) amp) (and_parts (is_no_end x) (list_all is_no_end xs) named).1) refl (before_hand bytes before (x ∷ xs) h is) (ap length h.before_is)
 belongs bytes b before token is (a_text _ _ _ tokens run other) = to_text bytes b (length before) before token tokens run other is refl
 
-hand_rest : (text hand : List ℕ) → IsRun text → Hand hand → Rest (text ++ hand)
+pub hand_rest : (text hand : List ℕ) → IsRun text → Hand hand → Rest (text ++ hand)
 hand_rest text hand run held = record { text = text; hand = hand; run = run; held = held; is = refl }
 
-text_rest : (text : List ℕ) → IsRun text → Rest text
+pub text_rest : (text : List ℕ) → IsRun text → Rest text
 text_rest text run = record { text = text; hand = []; run = run; held = nothing_in_hand [] refl; is = sym (append-nil text) }
 
 -- a token in hand isn't none
-hand_no_text : (front other text hand run : List ℕ) (x : ℕ) (xs : List ℕ) → AreTokens front → AreTokens other → IsRun text → Hand hand → hand ≡ x ∷ xs → IsRun run → front ++ (text ++ hand) ≡ other ++ run → ⊥
+pub hand_no_text : (front other text hand run : List ℕ) (x : ℕ) (xs : List ℕ) → AreTokens front → AreTokens other → IsRun text → Hand hand → hand ≡ x ∷ xs → IsRun run → front ++ (text ++ hand) ≡ other ++ run → ⊥
 hand_no_text front other text hand run x xs tokens tokens_too is_run held some plain e =
     let r = one_front front other (text ++ hand) run (from_first front tokens) (from_first other tokens_too) (hand_rest text hand is_run held) (text_rest run plain) e in
     let split = one_run text run hand [] is_run plain (hand_marked hand held) tt (r.1 ∙ sym (append-nil run)) in

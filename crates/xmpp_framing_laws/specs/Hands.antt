@@ -5,7 +5,7 @@ use Rattle.std.specs.List.{list_all}
 use Rattle.std.specs.Option.{is_some}
 use Rattle.xmpp_tokens.specs.Characters.{is_white}
 use Rattle.xmpp_framing.specs.ManyBytes.{quote_after}
-use Rattle.xmpp_framing.specs.States.{State, token_place}
+use Rattle.xmpp_framing.specs.States.{State, is_text, token_place}
 use Rattle.xmpp_framing.specs.TextSteps.{brackets_behind}
 use Rattle.xmpp_framing_laws.specs.Offsets.{AreBefore, AreTokens, IsRun, character_left, first_of, has_declaration_end, is_no_end, is_open_tag, leads_tag}
 use Rattle.xmpp_framing_laws.specs.Streams.{place_of}
@@ -57,3 +57,16 @@ pub record IsNoneHeld (s : State) (bytes : List ℕ) : Type 0 where
   pub tokens : AreTokens bytes
   pub at_is : token_place s ≡ place_of (length bytes)
   pub none_held : s.pending ≡ []
+
+-- The state has in hand a token that begins with this byte after these bytes, and these after that byte.
+pub record IsHolding (s : State) (first : ℕ) (before more : List ℕ) : Type 0 where
+  pub no_text : is_text s.lexical.mode ≡ false
+  pub first_is : first_of s.lexical.mode ≡ first
+  pub at_is : s.places.token_at ≡ place_of (length before)
+  pub kept : AreKept s.lexical.mode s more
+
+-- The state has a text in hand, or nothing, after these bytes.
+pub record IsReading (s : State) (before text : List ℕ) : Type 0 where
+  pub text_mode : is_text s.lexical.mode ≡ true
+  pub at_is : token_place s ≡ place_of (length before)
+  pub held : s.pending ≡ character_left [] text

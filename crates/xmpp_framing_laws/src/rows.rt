@@ -1,13 +1,15 @@
 //! Laws of the table of faults: its rows decide their faults, and nothing else does (RFC 6120, sections 4.9, 11.1 and 11.6;
 //! XML 1.0; Namespaces in XML 1.0).
 ghost use Rattle.std.specs.Prelude.{◌≡◌, ◌↔◌, ℕ, List, [], ◌∷◌, ◌++◌, Some, None, codes, true, false};
+ghost use Rattle.std.specs.List.{list_all};
 ghost use Rattle.xmpp_framing.specs.Readings.{fault_of, framed};
 ghost use Rattle.xmpp_framing.specs.States.{Turn, is_text};
 ghost use Rattle.xmpp_framing.specs.declared.fault.Why.{Why};
 ghost use Rattle.xmpp_framing.specs.declared.limits.Limits.{Limits};
 ghost use Rattle.xmpp_framing.specs.declared.states.Mode.TheVariants as mode;
 ghost use Rattle.xmpp_framing_laws.specs.FaultRows.{Decides};
-ghost use Rattle.xmpp_framing_laws.specs.Hands.{IsNoneHeld, IsRunHeld, IsTokenHeld};
+ghost use Rattle.xmpp_framing_laws.specs.Hands.{IsHolding, IsNoneHeld, IsReading, IsRunHeld, IsTokenHeld};
+ghost use Rattle.xmpp_framing_laws.specs.Offsets.{AreBefore, AreTokens, IsOpen, IsRun, is_no_end};
 ghost use Rattle.xmpp_framing_laws.specs.Rows.{Row};
 
 /// A law: the table of faults is sound and complete. After bytes without a fault, one byte more decides a fault at an offset
@@ -33,4 +35,16 @@ pub fn tokens_in_hand_are_told()
         → (framed limits bytes).state.lexical.in_run ≡ true → IsRunHeld (framed limits bytes).state bytes }
     ensures none { (limits : Limits) (bytes : List ℕ) → fault_of limits bytes ≡ None → is_text (framed limits bytes).state.lexical.mode ≡ true
         → (framed limits bytes).state.lexical.in_run ≡ false → IsNoneHeld (framed limits bytes).state bytes }
+{}
+
+/// A law: the bytes tell what is in hand. Where bytes without a fault are whole tokens, a text, and then markup that hasn't
+/// ended or a reference without a `;`, the state after them has that token in hand, with its offset and its bytes; and where
+/// they are whole tokens and a text, which may be empty, it has that text in hand or nothing.
+pub fn bytes_tell_what_is_in_hand()
+    ensures markup { (limits : Limits) (bytes before more : List ℕ) → fault_of limits bytes ≡ None → AreBefore before → IsOpen more → bytes ≡ before ++ 60 ∷ more
+        → IsHolding (framed limits bytes).state 60 before more }
+    ensures reference { (limits : Limits) (bytes before more : List ℕ) → fault_of limits bytes ≡ None → AreBefore before → list_all is_no_end more ≡ true
+        → bytes ≡ before ++ 38 ∷ more → IsHolding (framed limits bytes).state 38 before more }
+    ensures text { (limits : Limits) (bytes before text : List ℕ) → fault_of limits bytes ≡ None → AreTokens before → IsRun text → bytes ≡ before ++ text
+        → IsReading (framed limits bytes).state before text }
 {}
