@@ -6,6 +6,7 @@ pub mod TextSteps
 pub mod MarkupSteps
 pub mod TagSteps
 pub mod Machine
+pub mod Readings
 -- views: the state that a declared framer stands for, and steps of many bytes at once
 pub mod StateCodes
 pub mod FramerView

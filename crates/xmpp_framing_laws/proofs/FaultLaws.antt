@@ -295,7 +295,7 @@ nothing_in_phase t phase.Between e = rw (e, nothing_read largest_limits (scope_i
 nothing_in_phase t phase.Declared e = rw (e, nothing_read largest_limits (scope_in t.state.scopes), nothing_read (tag_limits t.state.limits) (scope_in t.state.scopes)) refl
 nothing_in_phase t phase.Ended e = rw (e, nothing_read (tag_limits t.state.limits) (scope_in t.state.scopes)) refl
 
-nothing_closes : (t : Turn) (b : Bool) → is_some t.state.here ≡ b → t.state.token ≡ codes "<>" → (tag_closes t).state.fault ≡ Some (record { at = t.state.places.token_at; why = why.NotWellFormed })
+pub nothing_closes : (t : Turn) (b : Bool) → is_some t.state.here ≡ b → t.state.token ≡ codes "<>" → (tag_closes t).state.fault ≡ Some (record { at = t.state.places.token_at; why = why.NotWellFormed })
 unfolding tag_closes tag_inside tag_outside
 nothing_closes t true inner e = rw (inner, e, nothing_read (tag_limits t.state.limits) (scope_in t.state.scopes)) refl
 nothing_closes t false outer e = rw outer (nothing_in_phase t t.state.lexical.phase e)

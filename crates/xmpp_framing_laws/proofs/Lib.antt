@@ -62,12 +62,20 @@ pub mod PrefixRuns
 -- where tokens begin
 pub mod OffsetSteps
 pub mod OffsetTags
+pub mod OffsetMarks
 pub mod OffsetRuns
+pub mod OneOffset
+pub mod HandsTold
+pub mod OneHand
+-- the table of faults is complete
+pub mod RowsTold
+pub mod RowsDecide
 -- what is given
 pub mod GivenItems
 -- definitions at values
 mod WorkedFits
 mod WorkedGrammar
+mod WorkedOffsets
 mod WorkedReadings
 mod WorkedRuns
 mod WorkedSpellings

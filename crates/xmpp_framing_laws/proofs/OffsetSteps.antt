@@ -313,7 +313,7 @@ is_first m = false
 
 -- A byte of a text whose run begins at an offset: it begins markup or a reference, or it belongs to the run.
 pub record Takes (b at run : ℕ) (u : State) : Type 0 where
-  pub fault : (f : Fault) → u.fault ≡ Some f → (f.at ≡ run) ⊎ ((f.at ≡ at) × (b ≡ 38))
+  pub fault : (f : Fault) → u.fault ≡ Some f → ((f.at ≡ run) × (is_no_markup b ≡ true)) ⊎ ((f.at ≡ at) × (b ≡ 38))
   pub begins : is_text u.lexical.mode ≡ false → (u.places.token_at ≡ at) × (b ≡ (if is_reference u.lexical.mode then 38 else 60)) × (is_first u.lexical.mode ≡ true)
   pub goes : u.fault ≡ None → is_text u.lexical.mode ≡ true → (u.places.token_at ≡ run) × (u.lexical.in_run ≡ true) × (is_no_markup b ≡ true)
 
@@ -347,7 +347,7 @@ module _ (b at : ℕ) (v : State) (h : Running v) (plain : is_no_markup b ≡ tr
 
   run_fails : (w : Why) → Takes b at v.places.token_at (token_fails v w)
   run_fails w = record {
-    fault = λ f e. inl (one_fault v.places.token_at w f e);
+    fault = λ f e. inl (one_fault v.places.token_at w f e, plain);
     begins = λ e. absurd (false≢true (sym e ∙ h.text));
     goes = λ e t. absurd (none_some _ e);
   }

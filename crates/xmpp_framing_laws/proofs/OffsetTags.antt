@@ -34,8 +34,9 @@ use Rattle.xmpp_framing.specs.declared.states.Mode.TheVariants as mode
 use Rattle.xmpp_framing.specs.declared.states.Phase.{Phase}
 use Rattle.xmpp_framing.specs.declared.states.Phase.TheVariants as phase
 
-abbrev Closed : State → Type 0
-Closed u = u.fault ≡ None → is_text u.lexical.mode ≡ true
+-- a token has ended, unless there is a fault
+abbrev pub Closed : State → Type 0
+Closed u = u.fault ≡ None → (is_text u.lexical.mode ≡ true) × (u.token ≡ [])
 
 choose : (u v : Turn) (c : Bool) → (c ≡ true → Closed u.state) → (c ≡ false → Closed v.state) → Closed (if c then u else v).state
 choose u v true x y = x refl
@@ -45,8 +46,8 @@ none_some : (f : Fault) → Some f ≡ None → ⊥
 none_some f e = cc
 
 added_closes : (o : Option OpenElement) (t : Turn) (e : Elem) → Closed (added_to o t e).state
-added_closes None t e n = refl
-added_closes (Some o) t e n = refl
+added_closes None t e n = (refl, refl)
+added_closes (Some o) t e n = (refl, refl)
 
 leaf_closes : (t : Turn) (tag : Tag) → Closed (leaf t tag).state
 unfolding leaf
@@ -57,7 +58,7 @@ unfolding begun level
 begun_closes t tag =
     let deep = moved t (token_fails t.state why.TooDeep) in
     let inner = moved t (level t.state tag) in
-    choose deep (if tag.empty then leaf t tag else inner) (is_too_deep t.state) (λ e n. absurd (none_some _ n)) (λ e. choose (leaf t tag) inner tag.empty (λ f. leaf_closes t tag) (λ f n. refl))
+    choose deep (if tag.empty then leaf t tag else inner) (is_too_deep t.state) (λ e n. absurd (none_some _ n)) (λ e. choose (leaf t tag) inner tag.empty (λ f. leaf_closes t tag) (λ f n. (refl, refl)))
 
 starts_close : (t : Turn) (x : Result Tag StartWhy) → Closed (starts t x).state
 starts_close t (Ok tag) = begun_closes t tag
@@ -90,7 +91,7 @@ unfolding tag_inside
 inside_closes t = choose (ends t) (starts t (tag_here t.state)) (is_end t.state.token) (λ e. ends_close t) (λ e. starts_close t (tag_here t.state))
 
 heads_close : (t : Turn) (x : Result Tag StartWhy) → Closed (heads t x).state
-heads_close t (Ok tag) = λ n. refl
+heads_close t (Ok tag) = λ n. (refl, refl)
 heads_close t (Err fault) = λ n. absurd (none_some _ n)
 
 header_closes : (t : Turn) → Closed (header_tag t).state
@@ -108,15 +109,15 @@ phase_closes phase.Between t = choose (header_tag t) (starts t (tag_here t.state
 phase_closes phase.Declared t = choose (header_tag t) (misplaced t) (is_header t.state) (λ e. header_closes t) (λ e. misplaced_closes t)
 phase_closes phase.Ended t = misplaced_closes t
 
-closes_close : (t : Turn) → Closed (tag_closes t).state
+pub closes_close : (t : Turn) → Closed (tag_closes t).state
 unfolding tag_closes tag_outside
 closes_close t = choose (tag_inside t) (tag_outside t) (is_some t.state.here) (λ e. inside_closes t) (λ e. phase_closes t.state.lexical.phase t)
 
-footer_close : (t : Turn) → Closed (footer_closes t).state
+pub footer_close : (t : Turn) → Closed (footer_closes t).state
 unfolding footer_closes
 footer_close t =
     let given = gives (in_phase (item_ended t.state) phase.Ended) t.items item.Footer in
-    choose given (moved t (token_fails t.state why.NotWellFormed)) (ends_stream t.state) (λ e n. refl) (λ e n. absurd (none_some _ n))
+    choose given (moved t (token_fails t.state why.NotWellFormed)) (ends_stream t.state) (λ e n. (refl, refl)) (λ e n. absurd (none_some _ n))
 
 -- ---- a byte of a tag
 
@@ -126,7 +127,7 @@ TagOn m b s u =
     is_text u.lexical.mode ≡ false → u.fault ≡ None → (u.lexical.mode ≡ m) × ((b == 62 && not (is_some s.lexical.quote)) ≡ false) × (u.lexical.quote ≡ quote_behind s.lexical.quote b)
 
 ended_tag : (m : Mode) (b : ℕ) (s u : State) → Closed u → TagOn m b s u
-ended_tag m b s u h e n = absurd (false≢true (sym e ∙ h n))
+ended_tag m b s u h e n = absurd (false≢true (sym e ∙ (h n).0))
 
 tag_on : (t : Turn) (b : ℕ) → TagOn mode.Tag b t.state (in_tag t b).state
 unfolding in_tag
@@ -190,17 +191,6 @@ first_spot mode.Bang q e n = absurd (false≢true e)
 first_spot mode.Question q e n = absurd (false≢true e)
 first_spot mode.Declaration q e n = absurd (false≢true e)
 first_spot mode.Section q e n = absurd (false≢true e)
-
-pub open_there : (m : Mode) (q : Option ℕ) (more : List ℕ) → Spot m q more → is_text m ≡ false → is_reference m ≡ false → leads_tag more ≡ true → is_open_tag None more ≡ true
-open_there mode.Text q more h e f leads = absurd (false≢true (sym e))
-open_there mode.Reference q more h e f leads = absurd (false≢true (sym f))
-open_there mode.Opening q more h e f leads = ap (is_open_tag None) h.0
-open_there mode.Tag q more h e f leads = h.2
-open_there mode.Footer q more h e f leads = h.2
-open_there mode.Bang q more h e f leads = absurd (false≢true (sym h ∙ leads))
-open_there mode.Question q more h e f leads = absurd (false≢true (sym h ∙ leads))
-open_there mode.Declaration q more h e f leads = absurd (false≢true (sym h ∙ leads))
-open_there mode.Section q more h e f leads = absurd (false≢true (sym h ∙ leads))
 
 abbrev is_special : Mode → Bool
 is_special mode.Bang = true

@@ -38,7 +38,7 @@ no_early b (c ∷ d ∷ ds) x y h e =
     (subst (λ b. begins_section_end (b ∷ c ∷ d ∷ ds) ≡ false) (sym first) (or_parts (begins_section_end (b ∷ c ∷ d ∷ ds)) _ h).0)) in
     false≢true (sym here)
 
-one_section : (a b x y : List ℕ) → has_section_end a ≡ false → has_section_end b ≡ false → a ++ (93 ∷ 93 ∷ 62 ∷ x) ≡ b ++ (93 ∷ 93 ∷ 62 ∷ y) → (a ≡ b) × (x ≡ y)
+pub one_section : (a b x y : List ℕ) → has_section_end a ≡ false → has_section_end b ≡ false → a ++ (93 ∷ 93 ∷ 62 ∷ x) ≡ b ++ (93 ∷ 93 ∷ 62 ∷ y) → (a ≡ b) × (x ≡ y)
 one_section [] [] x y p q e = let rest : x ≡ y = cc in (refl, rest)
 one_section [] (d ∷ ds) x y p q e = absurd (no_early d ds x y q e)
 one_section (c ∷ cs) [] x y p q e = absurd (no_early c cs y x p (sym e))

@@ -1,5 +1,5 @@
 -- What is spelled is plain, so that it can be written.
-use Rattle.std.proofs.Common.{◌≡◌, ◌≢◌, ℕ, ◌<◌, ◌^◌, ◌⊎◌, inl, inr, Bool, true, false, cond, ◌&&◌, List, [], ◌∷◌, ◌++◌, map, codes, bytes_eq, Option, Some, None, Ordering, Less, Equal, Greater, unwrap_or, refl, sym, ap, subst, ◌∙◌, ⊎_elim}
+use Rattle.std.proofs.Common.{◌≡◌, ◌≢◌, ℕ, ◌⊎◌, inl, inr, Bool, true, false, cond, ◌&&◌, List, [], ◌∷◌, ◌++◌, map, codes, bytes_eq, Option, Some, None, Ordering, Less, Equal, Greater, unwrap_or, refl, sym, ap, subst, ◌∙◌, ⊎_elim}
 use Rattle.std.specs.Prelude.{IfSome}
 use Rattle.std.proofs.lemmas.Bool.{and_parts, false≢true}
 use Rattle.std.proofs.lemmas.List.Elements.{All-from_recursion, recursion_from_All}
@@ -29,9 +29,6 @@ use Rattle.xmpp_framing.specs.Expanded.{attribute_of}
 use Rattle.xmpp_framing.specs.declared.items.Item.{Item}
 use Rattle.xmpp_framing.specs.declared.states.Phase.{Phase}
 use Rattle.xmpp_framing.specs.declared.states.Phase.TheVariants as phase
-use Rattle.xmpp_framing.specs.Machine.{part_of, run}
-use Rattle.xmpp_framing.specs.States.{from_start, turn}
-use Rattle.xmpp_framing.specs.declared.limits.Limits.{Limits}
 use Rattle.xmpp_writer.specs.Canon.{canon, client_namespace, streams_namespace, written_header}
 use Rattle.xmpp_framing_laws.specs.Plain.{ArePlainNodes, HasPlainName, IsPlain, IsPlainAttribute, IsPlainElement, IsPlainHeader, IsPlainName}
 use Rattle.xmpp_framing_laws.specs.PlainItems.{IsPlainBinding, IsPlainItem, IsPlainScope}
@@ -40,7 +37,6 @@ use Rattle.xmpp_framing_laws.specs.Streams.{InForce, IsStream, SpellsEmptyHeader
 use Rattle.xmpp_framing_laws.specs.Streams as streams
 use Rattle.xmpp_framing_laws.proofs.CanonLaws.{canon_spelled}
 use Rattle.xmpp_framing_laws.proofs.HeaderLaws.{header_spelled}
-use Rattle.xmpp_framing_laws.proofs.ReadStreams.{what_is_read}
 use Rattle.xmpp_framing_laws.proofs.SaidCharacters.{local_is_plain, text_says_characters, value_says_characters}
 use Rattle.xmpp_framing_laws.proofs.SpelledAttributes.{Fine}
 use Rattle.xmpp_framing_laws.proofs.SpelledNames.{differ}
@@ -345,7 +341,7 @@ stream_is_plain bytes items h = All-from_recursion IsPlainItem items (stream_so_
 
 -- ---- what is read, written again
 
-written_same : (h : Header) → h.ns ≡ streams_namespace → h.name ≡ codes "stream" → h.content ≡ client_namespace → as_written h ≡ h
+pub written_same : (h : Header) → h.ns ≡ streams_namespace → h.name ≡ codes "stream" → h.content ≡ client_namespace → as_written h ≡ h
 written_same h ns_is name_is content_is = λ i. record {
   ns = sym ns_is i;
   name = sym name_is i;
@@ -357,11 +353,5 @@ written_same h ns_is name_is content_is = λ i. record {
   lang = h.lang;
 }
 
-pub header_again : (bytes name : List ℕ) (scope : Scope) (h : Header) → SpellsHeader bytes name scope h → h.ns ≡ streams_namespace → h.name ≡ codes "stream" → h.content ≡ client_namespace
-    → SpellsHeader (written_header h) (codes "stream:stream") written_scope h
-header_again bytes name scope h spelled ns_is name_is content_is =
-    subst (SpellsHeader (written_header h) (codes "stream:stream") written_scope) (written_same h ns_is name_is content_is) (header_spelled h (header_is_plain bytes name scope h spelled).0)
-
-pub given_is_plain : (limits : Limits) (bytes : List ℕ) → limits.attributes < 2 ^ 32 → limits.namespace_bytes < 2 ^ 32 → (run (turn (from_start limits) []) bytes).state.fault ≡ None
-    → part_of (run (turn (from_start limits) []) bytes).state ≡ None → All IsPlainItem (run (turn (from_start limits) []) bytes).items
-given_is_plain limits bytes few short none part = stream_is_plain bytes (run (turn (from_start limits) []) bytes).items (what_is_read limits bytes few short none part)
+pub header_again : (bytes name : List ℕ) (scope : Scope) (h : Header) → SpellsHeader bytes name scope h → SpellsHeader (written_header h) (codes "stream:stream") written_scope (as_written h)
+header_again bytes name scope h spelled = header_spelled h (header_is_plain bytes name scope h spelled).0

@@ -10,15 +10,16 @@ use Rattle.xmpp_framing_laws.proofs.CountLaws.{takes}
 use Rattle.xmpp_framing_laws.proofs.FaultLaws.{goes, long}
 use Rattle.xmpp_framing_laws.proofs.PrefixSteps.{IsFirst, Keeps, begins_from, first_from, has_part, keeps_on}
 use Rattle.xmpp_framing_laws.proofs.ReadSoFar.{Hand, Read}
-use Rattle.xmpp_framing_laws.proofs.ReadStreams.{begins, is_whole, stepped}
+use Rattle.xmpp_framing_laws.proofs.ReadStreams.{begins, is_within, stepped}
 use Rattle.xmpp_framing_laws.proofs.RunPlaces.{no_fault_before}
 use Rattle.xmpp_framing_laws.proofs.StreamRuns.{stream_read}
+use Rattle.xmpp_framing_laws.proofs.WithinParts.{StreamIn}
 use Rattle.xmpp_framing.specs.Machine.{is_too_long, part_of, run, step, taken_in}
 use Rattle.xmpp_framing.specs.States.{OpenElement, State, Turn, counted, from_start, is_text, moved, turn}
 use Rattle.xmpp_framing_laws.specs.FaultRows.{Decides, Takes, is_outer}
 use Rattle.xmpp_framing_laws.specs.Prefixes.{BeginsSo, IsPrefix}
 use Rattle.xmpp_framing_laws.specs.StreamLimits.{IsStreamWithin}
-use Rattle.xmpp_framing_laws.specs.Streams.{InForce, IsStream, StreamTo, place_of}
+use Rattle.xmpp_framing_laws.specs.Streams.{InForce, StreamTo, place_of}
 use Rattle.xmpp_framing.specs.declared.items.Item.{Item}
 use Rattle.xmpp_framing.specs.declared.fault.Why.TheVariants as why
 use Rattle.xmpp_framing.specs.declared.limits.Limits.{Limits}
@@ -45,6 +46,10 @@ IsWhole t = has_part t.state t.state.pending ≡ false
 abbrev pub behind : Limits → List ℕ → Turn
 behind limits bytes = run (turn (from_start limits) []) bytes
 
+-- a stream of the items within the limits
+abbrev pub Reads : Limits → List ℕ → List Item → Type 0
+Reads given bytes items = (now : InForce) × StreamIn given now bytes items
+
 -- a stream of the items, and what is unfinished after it
 pub record Part (given : Limits) (t : Turn) (bytes : List ℕ) : Type 0 where
   pub done : List ℕ
@@ -52,7 +57,7 @@ pub record Part (given : Limits) (t : Turn) (bytes : List ℕ) : Type 0 where
   pub bytes_are : bytes ≡ done ++ hand
   pub some : is_empty hand ≡ false
   pub begins_so : BeginsSo hand
-  pub stream : IsStream done t.items
+  pub stream : Reads given done t.items
   pub at : t.state.places.item_at ≡ place_of (length done)
   pub last : (n : ℕ) → n ≤ length bytes → IsWhole (behind given (take n bytes)) → n ≤ length done
 
@@ -74,9 +79,11 @@ stands_there (Some o) mode.Footer s items bytes used h = absurd h.2
 stands_there (Some o) mode.Section s items bytes used h = refl
 
 -- nothing is unfinished
-whole_there : (given : Limits) (t : Turn) (bytes : List ℕ) → t.state.fault ≡ None → has_part t.state t.state.pending ≡ false → Read given t bytes → IsStream bytes t.items
+whole_there : (given : Limits) (t : Turn) (bytes : List ℕ) → t.state.fault ≡ None → has_part t.state t.state.pending ≡ false → Read given t bytes → Reads given bytes t.items
 unfolding part_of
-whole_there given t bytes none whole read = is_whole given t.state t.items bytes none (no_part t.state none read.kept.not_spent whole) read
+whole_there given t bytes none whole read =
+    let w = is_within given t.state t.items bytes none (no_part t.state none read.kept.not_spent whole) read in
+    (w.0, subst (λ l. StreamIn l w.0 bytes t.items) read.kept.limits_are w.1)
   where
     no_part : (s : State) → s.fault ≡ None → s.lexical.spent ≡ false → has_part s s.pending ≡ false → part_of s ≡ None
     no_part s none spent whole = rw (none, spent, whole) refl
@@ -137,7 +144,7 @@ module _ (t : Turn) (b : ℕ) (bytes : List ℕ) (given : Limits) (h : Known giv
         bytes_are = ap (λ l. l ++ b ∷ []) was.bytes_are ∙ append_assoc was.done was.hand (b ∷ []);
         some = some_more was.hand b;
         begins_so = begins_more was.hand b was.some was.begins_so;
-        stream = subst (IsStream was.done) (sym there.0) was.stream;
+        stream = subst (Reads given was.done) (sym there.0) was.stream;
         at = there.1 ∙ was.at;
         last = λ n le w. let small = last_before part n le w in was.last n small (same_before n small w);
       })
@@ -149,7 +156,7 @@ module _ (t : Turn) (b : ℕ) (bytes : List ℕ) (given : Limits) (h : Known giv
         bytes_are = refl;
         some = refl;
         begins_so = first (first_from t.state.here t.state.lexical.mode t.state.pending (moved t (counted t.state)) b whole takes_it.is_text) part;
-        stream = subst (IsStream bytes) (sym there.0) (whole_there given t bytes before whole h.read);
+        stream = subst (Reads given bytes) (sym there.0) (whole_there given t bytes before whole h.read);
         at = there.1 ∙ h.read.kept.at_is;
         last = last_before part;
       })
@@ -188,20 +195,25 @@ is_prefix given t bytes none h =
     record {
       done = p.done;
       hand = p.hand;
+      now = p.stream.0;
       bytes_are = p.bytes_are;
-      stream = p.stream;
+      stream = p.stream.1.0;
+      within = p.stream.1.1;
       begins = p.begins_so;
-      longest = λ now front rest said more are within. let w = whole_front given bytes now front rest said more are within in p.last (length front) w.0 w.1;
+      longest = λ other front rest said more are within. let w = whole_front given bytes other front rest said more are within in p.last (length front) w.0 w.1;
       part_is = rw (none, h.read.kept.not_spent, part, p.some) (ap Some p.at);
     })
     (λ (whole : has_part s s.pending ≡ false).
+    let r = whole_there given t bytes none whole h.read in
     record {
       done = bytes;
       hand = [];
+      now = r.0;
       bytes_are = sym (append-nil bytes);
-      stream = whole_there given t bytes none whole h.read;
+      stream = r.1.0;
+      within = r.1.1;
       begins = tt;
-      longest = λ now front rest said more are within. (whole_front given bytes now front rest said more are within).0;
+      longest = λ other front rest said more are within. (whole_front given bytes other front rest said more are within).0;
       part_is = rw (none, h.read.kept.not_spent, whole) refl;
     })
     (cases_Bool (has_part s s.pending))

@@ -50,7 +50,7 @@ ascii_after : (b : ℕ) → b < 128 → held_after [] b ≡ []
 unfolding utf8_next
 ascii_after b low = rw (lt-ltb b 128 low) refl
 
-ascii_continues : (b : ℕ) → b < 128 → continues [] b ≡ true
+pub ascii_continues : (b : ℕ) → b < 128 → continues [] b ≡ true
 unfolding utf8_next
 ascii_continues b low = rw (lt-ltb b 128 low) refl
 

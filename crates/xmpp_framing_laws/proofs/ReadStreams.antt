@@ -147,7 +147,7 @@ nothing_left (x ∷ xs) e = absurd (true≢false e)
 some_place : (n : ℕ) → Some n ≡ None → ⊥
 some_place n e = cc
 
-is_within : (given : Limits) (s : State) (items : List Item) (bytes : List ℕ) → s.fault ≡ None → part_of s ≡ None → Read given (turn s items) bytes → (now : InForce) × StreamIn s.limits now bytes items
+pub is_within : (given : Limits) (s : State) (items : List Item) (bytes : List ℕ) → s.fault ≡ None → part_of s ≡ None → Read given (turn s items) bytes → (now : InForce) × StreamIn s.limits now bytes items
 unfolding part_of
 is_within given s items bytes none part h =
     let open_here = is_some s.here || (not (is_text s.lexical.mode) || not (is_empty s.pending)) in

@@ -31,8 +31,12 @@ use Rattle.xmpp_framing.specs.declared.states.Phase.TheVariants as phase
 
 -- ---- states
 
+-- the place of the next byte, and the character in hand
+abbrev passing : State → ℕ × List ℕ
+passing s = (s.places.at, s.pending)
+
 abbrev Stays : State → State → Type 0
-Stays s t = t.places.at ≡ s.places.at
+Stays s t = passing t ≡ passing s
 
 one : (s t u : State) (b : Bool) → Stays s t → Stays s u → Stays s (if b then t else u)
 one s t u true x y = x
@@ -124,7 +128,7 @@ declaration_stays s b =
 -- ---- turns
 
 abbrev Remains : Turn → Turn → Type 0
-Remains t u = u.state.places.at ≡ t.state.places.at
+Remains t u = passing u.state ≡ passing t.state
 
 either : (t u v : Turn) (b : Bool) → Remains t u → Remains t v → Remains t (if b then u else v)
 either t u v true x y = x
@@ -224,7 +228,7 @@ opening_remains t b =
     (either t (moved t asked) third (b == 63) (one t.state (gathered_in t.state mode.Question b) (token_fails t.state why.Restricted) (may_declare t.state) refl refl)
     (either t slash (in_tag t b) (b == 47 && not (is_some t.state.here)) (unlimited_stays t.state) (tag_remains t b)))
 
-pub taken_remains : (m : Mode) (t : Turn) (b : ℕ) → Remains t (taken_in m t b)
+taken_remains : (m : Mode) (t : Turn) (b : ℕ) → Remains t (taken_in m t b)
 taken_remains mode.Text t b = text_stays t.state b
 taken_remains mode.Reference t b = reference_stays t.state b
 taken_remains mode.Opening t b = opening_remains t b
@@ -234,6 +238,12 @@ taken_remains mode.Declaration t b = declaration_stays t.state b
 taken_remains mode.Tag t b = tag_remains t b
 taken_remains mode.Footer t b = footer_remains t b
 taken_remains mode.Section t b = section_stays t.state b
+
+pub taken_at : (m : Mode) (t : Turn) (b : ℕ) → (taken_in m t b).state.places.at ≡ t.state.places.at
+taken_at m t b = ap (λ p. p.0) (taken_remains m t b)
+
+pub taken_pending : (m : Mode) (t : Turn) (b : ℕ) → (taken_in m t b).state.pending ≡ t.state.pending
+taken_pending m t b = ap (λ p. p.1) (taken_remains m t b)
 
 -- ---- runs
 
@@ -253,7 +263,7 @@ step_place t b =
     let rest = if not (continues t.state.pending b) then broken else next in
     past_fault n (is_some t.state.fault) t (goes_on t b) (λ e. e)
     (past_fault n (is_too_long t.state b) long rest (λ e. refl)
-    (past_fault n (not (continues t.state.pending b)) broken next (λ e. refl) (λ e. ap next_place (taken_remains t.state.lexical.mode (moved t (counted t.state)) b))))
+    (past_fault n (not (continues t.state.pending b)) broken next (λ e. refl) (λ e. ap next_place (taken_at t.state.lexical.mode (moved t (counted t.state)) b))))
 
 pub no_fault_before : (t : Turn) (bs : List ℕ) → (run t bs).state.fault ≡ None → t.state.fault ≡ None
 no_fault_before t bs e = was t.state.fault refl

@@ -45,11 +45,11 @@ returned-append : (r : Bool) (xs ys : List ℕ) → returned_behind r (xs ++ ys)
 returned-append r [] ys = refl
 returned-append r (x ∷ xs) ys = returned-append (x == 13) xs ys
 
-counted-append : (n : ℕ) (xs ys : List ℕ) → counted_behind n (xs ++ ys) ≡ counted_behind (counted_behind n xs) ys
+pub counted-append : (n : ℕ) (xs ys : List ℕ) → counted_behind n (xs ++ ys) ≡ counted_behind (counted_behind n xs) ys
 counted-append n [] ys = refl
 counted-append n (x ∷ xs) ys = counted-append (brackets_behind n x) xs ys
 
-ends-append : (n : ℕ) (xs ys : List ℕ) → ends_behind n (xs ++ ys) ≡ (ends_behind n xs || ends_behind (counted_behind n xs) ys)
+pub ends-append : (n : ℕ) (xs ys : List ℕ) → ends_behind n (xs ++ ys) ≡ (ends_behind n xs || ends_behind (counted_behind n xs) ys)
 ends-append n [] ys = refl
 ends-append n (x ∷ xs) ys =
     ap (λ t. (n == 2 && x == 62) || t) (ends-append (brackets_behind n x) xs ys)
@@ -92,7 +92,7 @@ begins_one b (c ∷ cs) e = rw e refl
 
 -- the count in front stands for the `]` themselves
 mutual
-  section_end_0 : (bs : List ℕ) → has_section_end bs ≡ ends_behind 0 bs
+  pub section_end_0 : (bs : List ℕ) → has_section_end bs ≡ ends_behind 0 bs
   section_end_0 [] = refl
   section_end_0 (b ∷ bs) =
       by_test (b == 93)

@@ -8,6 +8,8 @@ pub mod Offsets
 -- machine: where a framer stands, and which byte decides which fault
 pub mod Standing
 pub mod FaultRows
+pub mod Rows
+pub mod Hands
 -- grammar and machine: spellings within the limits of a framer
 pub mod Within
 pub mod StreamLimits

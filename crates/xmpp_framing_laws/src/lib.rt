@@ -9,4 +9,5 @@ pub mod offsets;
 pub mod prefixes;
 pub mod reading;
 pub mod round_trips;
+pub mod rows;
 pub mod writing;

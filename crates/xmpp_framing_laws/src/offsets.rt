@@ -13,11 +13,17 @@ ghost use Rattle.xmpp_framing_laws.specs.Offsets.{IsAtToken, first_of};
 ghost use Rattle.xmpp_framing_laws.specs.Streams.{place_of};
 
 /// A law: the offset of a fault that a byte decides, other than `TooLong`, is that of the first byte of its token. A tag
-/// and other markup have that of their `<`, a reference that of its `&`, and a text that of its first byte, which stands
-/// after the last markup or reference.
+/// and other markup have that of their `<`, a reference that of its `&`, and a text that of its first byte. Before it stand
+/// whole tokens with texts between them, and in the bytes known the token has not ended.
 pub fn faults_have_the_offset_of_their_token()
     ensures { (limits : Limits) (bytes : List ℕ) (b : ℕ) (f : Fault) → (run (turn (from_start limits) []) bytes).state.fault ≡ None
         → (step (run (turn (from_start limits) []) bytes) b).state.fault ≡ Some f → f.why ≢ why.TooLong → IsAtToken bytes b f.at }
+{}
+
+/// A law: a byte belongs to one token. Where bytes are whole tokens and then one in hand, they are so in one way: so the
+/// offset of which `faults_have_the_offset_of_their_token` speaks is the only one, that of no byte before or after.
+pub fn tokens_have_one_offset()
+    ensures { (bytes : List ℕ) (b n m : ℕ) → IsAtToken bytes b n → IsAtToken bytes b m → n ≡ m }
 {}
 
 /// A law: the offset of a token is that of its first byte. After bytes without a fault the next byte's offset is the

@@ -27,19 +27,21 @@ ghost use Rattle.xmpp_names.specs.declared.headers.Header.{Header};
 
 /// A law: what is read can be written again. What spells an element spells a tree, and a plain one in each scope that a
 /// header and start tags put in force; a header's values are plain, and so is the scope that it puts in force. All items
-/// of a stream are plain, and so are those that a framer gives where nothing is unfinished. So what is written for an
-/// element that was read, in whatever scope, spells that element, and what is written for a header that was read, whose
-/// content is `jabber:client`, spells that header.
+/// of a stream are plain. So what is written for a top-level element that was read in such a scope spells that element, in
+/// the scope of a written header.
+///
+/// What is written for a header that was read spells a header with its values, `to`, `from`, `id`, `version` and `lang`. That
+/// is the header that was read where this is `stream` in the streams namespace and its content is `jabber:client`: the
+/// first tag of a stream is a header whatever its name and its namespaces, and these are not written.
 pub fn what_is_read_is_plain()
     ensures tree { (scope : Scope) (bytes : List ℕ) (e : Elem) → Spells scope bytes e → IsTree e }
     ensures element { (scope : Scope) (bytes : List ℕ) (e : Elem) → IsPlainScope scope → Spells scope bytes e → IsPlainElement e }
     ensures top { (scope : Scope) (bytes : List ℕ) (e : Elem) → IsPlainScope scope → SpellsTop scope bytes e → IsPlain e }
     ensures header { (bytes name : List ℕ) (scope : Scope) (h : Header) → SpellsHeader bytes name scope h → IsPlainHeader h × IsPlainScope scope }
     ensures stream { (bytes : List ℕ) (items : List Item) → IsStream bytes items → All IsPlainItem items }
-    ensures given { (limits : Limits) (bytes : List ℕ) → limits.attributes < 2 ^ 32 → limits.namespace_bytes < 2 ^ 32
-        → let end = run (turn (from_start limits) []) bytes in (end.state.fault ≡ None → part_of end.state ≡ None → All IsPlainItem end.items) }
-    ensures header_again { (bytes name : List ℕ) (scope : Scope) (h : Header) → SpellsHeader bytes name scope h → h.ns ≡ streams_namespace
-        → h.name ≡ codes "stream" → h.content ≡ client_namespace → SpellsHeader (written_header h) (codes "stream:stream") written_scope h }
+    ensures header_again { (bytes name : List ℕ) (scope : Scope) (h : Header) → SpellsHeader bytes name scope h
+        → SpellsHeader (written_header h) (codes "stream:stream") written_scope (as_written h) }
+    ensures same_header { (h : Header) → h.ns ≡ streams_namespace → h.name ≡ codes "stream" → h.content ≡ client_namespace → as_written h ≡ h }
     ensures again { (scope : Scope) (bytes : List ℕ) (e : Elem) → IsPlainScope scope → SpellsTop scope bytes e → SpellsTop written_scope (canon e) e }
 {}
 
@@ -124,8 +126,8 @@ pub fn what_is_read_fits()
         → Gives s items (canon e) (item.Element e) phase.Between written_scope (codes "stream:stream") }
 {}
 
-/// A law: what a framer gives can be written again, and passed on. Where there is no fault all items that were given are
-/// plain. Where nothing is unfinished besides, each element is a plain tree that fits into limits as deep and with names as
+/// A law: what a framer gives can be written again, and passed on, also where more is unfinished. As long as there is no
+/// fault all items that were given are plain, and each element is a tree that fits into limits as deep and with names as
 /// long that admit twice as many attributes and one more, if its bytes are not too many: `written_items_are_read` then
 /// says that what is written for it is read as it. The premises on the limits are the ranges of a `Limits`'s fields.
 pub fn what_is_given_can_be_passed_on()
@@ -134,5 +136,5 @@ pub fn what_is_given_can_be_passed_on()
     ensures can_pass { (limits most : Limits) (bytes : List ℕ) → limits.bytes < 2 ^ 64 → limits.attributes < 2 ^ 32
         → limits.namespace_bytes < 2 ^ 32 → 2 * limits.attributes + 1 ≤ most.attributes → limits.namespace_bytes ≤ most.namespace_bytes
         → limits.depth ≤ most.depth
-        → let end = run (turn (from_start limits) []) bytes in (end.state.fault ≡ None → part_of end.state ≡ None → All (CanPass most) end.items) }
+        → let end = run (turn (from_start limits) []) bytes in (end.state.fault ≡ None → All (CanPass most) end.items) }
 {}

@@ -1,4 +1,4 @@
-use Rattle.xmpp_framing_laws.proofs.PlainElements.{element_is_plain, given_is_plain, header_again, header_is_plain, stream_is_plain, top_is_plain, written_again}
+use Rattle.xmpp_framing_laws.proofs.PlainElements.{element_is_plain, header_again, header_is_plain, stream_is_plain, top_is_plain, written_again, written_same}
 use Rattle.xmpp_framing_laws.proofs.SpelledTrees.{spelled_tree}
 use Rattle.xmpp_framing_laws.proofs.round_trips.what_is_read_is_plain.Goals as goal
 
@@ -9,7 +9,7 @@ returns c = record {
   top = top_is_plain;
   header = header_is_plain;
   stream = stream_is_plain;
-  given = given_is_plain;
   again = written_again;
   header_again = header_again;
+  same_header = written_same;
 }
