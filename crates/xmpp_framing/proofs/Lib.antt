@@ -1,6 +1,7 @@
 -- runs
 pub mod ItemsBefore
 pub mod Pieces
+pub mod BytesSoFar
 -- steps of the code: what is open, and tags under other limits
 pub mod LargerLimits
 pub mod OpenText

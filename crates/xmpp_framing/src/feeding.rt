@@ -1,9 +1,11 @@
 //! A framer takes bytes.
-ghost use Rattle.std.specs.Prelude.{◌≡◌, ◌<◌, ◌≤◌, true, None, Some, Ok, Err, length, IfOk, IfErr, OnOk, OnErr, IsErrOf};
+ghost use Rattle.std.specs.Prelude.{◌≡◌, ◌<◌, ◌≤◌, ℕ, List, true, None, Some, Ok, Err, length, IfOk, IfErr, OnOk, OnErr, IsErrOf};
 ghost use Rattle.xmpp_framing.specs.Machine;
 ghost use Rattle.xmpp_framing.specs.Machine.{HasFault, IsFault, IsFrontOf, TakesFront, goes_on, part_of, run, step, taken};
+ghost use Rattle.xmpp_framing.specs.Readings.{IsReadBy, Stands, part_at};
 ghost use Rattle.xmpp_framing.specs.States;
 ghost use Rattle.xmpp_framing.specs.States.{turn};
+ghost use Rattle.xmpp_framing.specs.declared.limits.Limits.{Limits};
 
 use crate::fault::{FeedFault, Why};
 use crate::framer::Framer;
@@ -155,6 +157,9 @@ impl Framer {
     ///
     /// After `NoMemory` the items that were added are the first of those due, and each later call answers `NoMemory` and
     /// adds nothing.
+    ///
+    /// So a framer stands for the bytes that it took since it was new, and how they were cut into pieces doesn't matter:
+    /// what a piece adds are the items of all those bytes behind the items of the bytes before.
     pub fn feed(&mut self, piece: &[u8], items: &mut Items) -> Result<(), FeedFault>
         ensures ok { OnOk result ((turn self.new items.new.items ≡ run (turn self.old items.old.items) piece.now) × (self.new.fault ≡ None)) }
         ensures fault { IfErr result (λ e. HasFault e (turn self.old items.old.items) (turn self.new items.new.items) piece.now) }
@@ -162,6 +167,7 @@ impl Framer {
         ensures spent { self.old.lexical.spent ≡ true → (result ≡ Err FeedFault.NoMemory) × (items.new.items ≡ items.old.items) }
         ensures kept { IsFrontOf items.old.items items.new.items }
         ensures due { IsFrontOf items.new.items (run (turn self.old items.old.items) piece.now).items }
+        ensures read { (limits : Limits) (bytes : List ℕ) → Stands self.old limits bytes → IsReadBy result limits bytes piece.now items.old.items self.new items.new.items }
     {
         if self.lexical.spent {
             return Err(FeedFault::NoMemory);
@@ -191,7 +197,8 @@ impl Framer {
     /// fault or want of memory.
     #[tactic(auto, unfolding(crate::specs::Machine::part_of))]
     pub fn part(&self) -> Option<u64>
-        ensures { result ≡ part_of self.now }
+        ensures machine { result ≡ part_of self.now }
+        ensures at { (limits : Limits) (bytes : List ℕ) → Stands self.now limits bytes → result ≡ part_at limits bytes }
     {
         if self.fault.is_some() || self.lexical.spent {
             return None;

@@ -2,10 +2,12 @@
 //!
 //! A framer keeps the token in hand, the text after the last tag, and the open elements, the innermost beside the
 //! stack. Each private method has one equation as its contract: the machine's own definition for it.
-ghost use Rattle.std.specs.Prelude.{◌≡◌, ◌≤◌, Some, None, OnOk};
+ghost use Rattle.std.specs.Prelude.{◌≡◌, ◌≤◌, [], Some, None, OnOk};
 ghost use Rattle.std.specs.Option.{is_some};
 ghost use Rattle.xmpp_framing.specs.Machine.{passed};
+ghost use Rattle.xmpp_framing.specs.Readings.{Stands};
 ghost use Rattle.xmpp_framing.specs.States;
+ghost use Rattle.xmpp_framing.specs.declared.limits.TheConstants.{MOST_DEPTH};
 ghost use Rattle.xmpp_framing.specs.States.{counted, fails, from_start, gathered, gathered_in, item_begun, item_ended, token_begun, token_ended, token_fails};
 
 use crate::fault::{Fault, Why};
@@ -16,6 +18,10 @@ use std::marker::Model;
 use xmpp_edge::{NoMemory, Text};
 use xmpp_names::Binding;
 use xmpp_tokens::PartialCharacter;
+
+// The most bytes of room that are kept from one token to the next. Tags of chat are far shorter. A longer one takes its
+// room anew, and an idle stream doesn't hold it.
+const KEPT_ROOM: usize = 4_096;
 
 /// A stream parser: from bytes in whatever pieces to headers, elements and footers, or the first fault with its place
 /// (RFC 6120, sections 4 and 11; XML 1.0; Namespaces in XML 1.0). Contracts see it as the state of a machine that takes a
@@ -51,9 +57,14 @@ impl Model for Framer {
 
 impl Framer {
     /// A framer before the first byte of a stream. It takes no memory.
+    ///
+    /// Its limits bound how deep a tree is that it gives, and so the stack that the tree's drop takes.
+    #[tactic(auto, unfolding(crate::specs::Readings::framed))]
     pub fn new(alloc: Global, limits: Limits) -> Framer
-        requires { 1 ≤ limits.bytes }
-        ensures { result ≡ from_start limits }
+        requires bytes { 1 ≤ limits.bytes }
+        requires depth { limits.depth ≤ MOST_DEPTH }
+        ensures machine { result ≡ from_start limits }
+        ensures starts { Stands result limits [] }
     {
         Framer {
             alloc,
@@ -82,6 +93,25 @@ impl Framer {
             scopes: Vec::new(alloc),
             name: Text::new(alloc),
             fault: None,
+        }
+    }
+
+    /// Gives back the room of what is empty: the token in hand, the text in hand and the stack of open elements. It takes
+    /// no memory, and the framer goes on as before.
+    ///
+    /// A stream that may be idle for long holds little more than what is unfinished then. The next token takes its room
+    /// anew.
+    pub fn slim(&mut self)
+        ensures { self.new ≡ self.old }
+    {
+        if self.token.is_empty() {
+            self.token = Vec::new(self.alloc);
+        }
+        if self.chars.as_str().is_empty() {
+            self.chars = String::new(self.alloc);
+        }
+        if self.below.is_empty() {
+            self.below = Vec::new(self.alloc);
         }
     }
 
@@ -127,7 +157,11 @@ impl Framer {
     pub(crate) fn end_token(&mut self)
         ensures { self.new ≡ token_ended self.old }
     {
-        self.token.clear();
+        if self.token.capacity() <= KEPT_ROOM {
+            self.token.clear();
+        } else {
+            self.token = Vec::new(self.alloc);
+        }
         self.lexical.mode = Mode::Text;
         self.lexical.quote = None;
         self.lexical.in_run = false;

@@ -20,5 +20,5 @@ mod texts_in_hand;
 pub use fault::{Fault, FeedFault, Why};
 pub use framer::Framer;
 pub use items::{Item, Items};
-pub use laws::{a_fault_stays, any_pieces};
-pub use limits::Limits;
+pub use laws::{a_fault_stays, any_pieces, bytes_only_add};
+pub use limits::{Limits, MOST_DEPTH};

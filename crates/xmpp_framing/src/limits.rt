@@ -1,12 +1,18 @@
 ghost use Rattle.std.specs.Prelude.{◌≡◌};
 ghost use Rattle.xmpp_framing.specs.Limits.{client_limits, server_limits};
 
+/// The most depth that a framer can be given.
+///
+/// What goes through an element, its drop included, calls itself once for each level. A copy takes some 550 bytes of stack
+/// a level as built, so that a tree of this depth leaves most of the 2 MB of a thread's stack to what calls it.
+pub const MOST_DEPTH: u32 = 1_000;
+
 /// What a framer admits.
 #[derive(Clone, Copy, Debug, PartialEq, Eq)]
 pub struct Limits {
     /// The most bytes of a top-level element, of a header's tag and of a declaration, each counted from its `<`.
     pub bytes: u64,
-    /// How deep elements may lie in one another: a top-level element has depth 1.
+    /// How deep elements may lie in one another: a top-level element has depth 1. At most `MOST_DEPTH` for a framer.
     pub depth: u32,
     /// The most attributes of a tag, namespace declarations counted.
     pub attributes: u32,
