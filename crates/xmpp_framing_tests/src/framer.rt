@@ -1,5 +1,6 @@
 //! A framer over bytes: its fault, its unfinished part and its items.
 ghost use Rattle.std.specs.Prelude.{◌≤◌};
+ghost use Rattle.xmpp_framing.specs.declared.limits.TheConstants.{MOST_DEPTH};
 
 use std::alloc::Global;
 use std::test::Fail;
@@ -10,7 +11,7 @@ use xmpp_writer::{write, write_footer, write_header};
 /// What comes of bytes: the fault, the unfinished part, and how many items there are.
 type Told = (Option<Fault>, Option<u64>, usize);
 
-/// Feeds bytes in pieces of so many. Of several faults the last is answered.
+/// Feeds bytes in pieces of so many, and gives room back behind each. Of several faults the last is answered.
 fn feed_all(
     framer: &mut Framer,
     items: &mut Items,
@@ -24,6 +25,7 @@ fn feed_all(
             Err(FeedFault::Fault(fault)) => last = Some(fault),
             Err(FeedFault::NoMemory) => return Err(NoMemory),
         }
+        framer.slim();
     }
     Ok(last)
 }
@@ -36,7 +38,8 @@ fn told(
     others: (&[u8], usize),
     out: &mut Bytes,
 ) -> Result<Told, NoMemory>
-    requires { 1 ≤ limits.bytes }
+    requires bytes { 1 ≤ limits.bytes }
+    requires depth { limits.depth ≤ MOST_DEPTH }
 {
     let mut framer = Framer::new(alloc, limits);
     let mut items = Items::new(alloc);
@@ -69,7 +72,8 @@ fn fault_of(
     first: &[u8],
     others: &[u8],
 ) -> Result<Option<Fault>, NoMemory>
-    requires { 1 ≤ limits.bytes }
+    requires bytes { 1 ≤ limits.bytes }
+    requires depth { limits.depth ≤ MOST_DEPTH }
 {
     Ok(told(alloc, limits, first, (others, 1), &mut Bytes::new(alloc))?.0)
 }
