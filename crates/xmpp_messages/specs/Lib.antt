@@ -1,0 +1,3 @@
+-- what is made of a payload
+pub mod Bodies
+pub mod Ids
