@@ -3,7 +3,9 @@
 #![tactic(auto)]
 
 mod bodies;
+mod entries;
 mod ids;
 
 pub use bodies::bodies_of;
+pub use entries::message_entry;
 pub use ids::without_ids;
