@@ -1,6 +1,7 @@
 -- Entries and archives (XEP-0313, "Message Archive Management").
 use Rattle.std.specs.Prelude.{◌≡◌, ℕ, ◌+◌, ◌-◌, ◌≤◌, ◌==◌, Bool, List, Option, Some, find, slice_get, length, drop}
 use Rattle.xmpp_archive.specs.declared.archive.TheConstants.{GREATEST_NUMBER}
+use Rattle.xmpp_archive.specs.declared.entry.ArchivedMessage.{ArchivedMessage}
 use Rattle.xmpp_archive.specs.declared.entry.Body.{Body}
 
 -- one message of an account's history: its number, when it was taken (milliseconds since 1970), the addresses
@@ -14,6 +15,20 @@ pub record EntryView : Type 0 where
   pub id : List ℕ
   pub origin : List ℕ
   pub bodies : List Body
+
+-- the entry of a message under a number
+abbrev pub entry_with : ℕ → ArchivedMessage → EntryView
+entry_with number message =
+    record {
+      number = number;
+      stamp = message.stamp;
+      from = message.from;
+      to = message.to;
+      normal = message.normal;
+      id = message.id;
+      origin = message.origin;
+      bodies = message.bodies.items;
+    }
 
 -- an account's archive: its bare address, how many entries it keeps, the greatest number given (0 where none was),
 -- the entries that it keeps, and how many more are taken without further memory

@@ -277,7 +277,7 @@ impl Archive {
         ensures spare { self.old.spare ≤ self.new.spare + 1 }
     {
         let number = self.last + 1;
-        entry.number = number;
+        entry.renumber(number);
         make_place(
             self.owner.as_str(),
             &mut self.entries,

@@ -1,10 +1,12 @@
 //! A message in an archive (XEP-0313).
-ghost use Rattle.std.specs.Prelude.{◌≡◌};
+ghost use Rattle.std.specs.Prelude.{◌≡◌, IfOk};
+ghost use Rattle.xmpp_archive.specs.Entries.{entry_with};
 ghost use Rattle.xmpp_archive.specs.Peers.{peer_of};
 
 use crate::peers::bare_form;
 use std::alloc::Global;
 use std::marker::Model;
+use std::rc::Rc;
 use xmpp_edge::{Copied, ListOf, NoMemory, Text};
 
 /// A body of a message, in a language (RFC 6121, section 5.2.3). Without a language `lang` is empty.
@@ -26,11 +28,10 @@ impl Copied for Body {
     }
 }
 
-/// A message in an archive. `number` counts from 1, `stamp` is in milliseconds since 1970, and `normal` tells a
-/// message of type `normal` from one of type `chat`. Texts that are absent are empty.
+/// What archives keep of a message, whatever number it has in each. `stamp` is in milliseconds since 1970, and `normal`
+/// tells a message of type `normal` from one of type `chat`. Texts that are absent are empty.
 #[derive(Drop)]
-pub struct Entry {
-    pub number: u64,
+pub struct ArchivedMessage {
     pub stamp: u64,
     pub from: Text,
     pub to: Text,
@@ -40,26 +41,66 @@ pub struct Entry {
     pub bodies: Bodies,
 }
 
+/// A message in an archive, under its number, which counts from 1. Copies of an entry share the message: it is one block
+/// of memory, in however many archives, pages and logs it stands.
+#[derive(Drop)]
+pub struct Entry {
+    number: u64,
+    message: Rc<ArchivedMessage, Global>,
+}
+
 /// Entries, in order.
 pub type Entries = ListOf<Entry>;
 
 impl Model for Entry {
-    ghost use Rattle.xmpp_archive.specs.Entries.{EntryView};
+    ghost use Rattle.xmpp_archive.specs.Entries.{EntryView, entry_with};
 
     ghost Value = { EntryView };
 
-    ghost view = { λ e. record { number = e.number; stamp = e.stamp; from = e.from; to = e.to; normal = e.normal; id = e.id; origin = e.origin; bodies = e.bodies.items } };
+    ghost view = { λ e. entry_with e.number e.message.value };
 }
 
 impl Entry {
+    /// The entry of a message under a number. It takes one block of memory; where there is none, the message is dropped.
+    pub fn new(alloc: Global, number: u64, message: ArchivedMessage) -> Result<Entry, NoMemory>
+        ensures { IfOk result (λ e. e ≡ entry_with number message) }
+    {
+        Ok(Entry {
+            number,
+            message: Rc::new(alloc, message)?,
+        })
+    }
+
+    /// Its number in its archive.
+    pub fn number(&self) -> u64
+        ensures { result ≡ self.now.number }
+    {
+        self.number
+    }
+
+    /// Gives it another number.
+    pub(crate) fn renumber(&mut self, number: u64)
+        ensures { self.new ≡ record self.old { number = number } }
+    {
+        self.number = number;
+    }
+
+    /// The message, without a copy.
+    pub fn message(&self) -> &ArchivedMessage
+        ensures { self.now ≡ entry_with self.now.number result.now }
+    {
+        self.message.as_ref()
+    }
+
     /// The entry's peer in the archive of a bare address: the bare form of `to` where `from` has that bare address,
     /// else of `from`. It borrows.
     pub fn peer<'a>(&'a self, owner: &str) -> &'a str
         ensures { result.now ≡ peer_of owner.now self.now }
     {
-        let from = bare_form(self.from.as_str());
+        let message = self.message();
+        let from = bare_form(message.from.as_str());
         if from == owner {
-            bare_form(self.to.as_str())
+            bare_form(message.to.as_str())
         } else {
             from
         }
@@ -67,16 +108,10 @@ impl Entry {
 }
 
 impl Copied for Entry {
-    fn copied(&self, alloc: Global) -> Result<Entry, NoMemory> {
+    fn copied(&self, _alloc: Global) -> Result<Entry, NoMemory> {
         Ok(Entry {
             number: self.number,
-            stamp: self.stamp,
-            from: self.from.copied(alloc)?,
-            to: self.to.copied(alloc)?,
-            normal: self.normal,
-            id: self.id.copied(alloc)?,
-            origin: self.origin.copied(alloc)?,
-            bodies: self.bodies.copy(alloc)?,
+            message: self.message.clone()?,
         })
     }
 }

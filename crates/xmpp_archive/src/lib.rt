@@ -11,7 +11,7 @@ mod peers;
 
 pub use archive::{Archive, ArchiveFault, GREATEST_NUMBER};
 pub use chains::Chain;
-pub use entry::{Bodies, Body, Entries, Entry};
+pub use entry::{ArchivedMessage, Bodies, Body, Entries, Entry};
 pub use ids::{id_of_number, id_text, number_of};
 pub use laws::{chain_is_walked, entries_are_kept, id_is_text, ids_differ};
 pub use peers::bare_form;

@@ -1,21 +1,33 @@
 //! Archives and ids: what takes memory, and printed texts.
 use std::alloc::Global;
 use std::test::Fail;
-use xmpp_archive::{Archive, ArchiveFault, Body, Entry, id_of_number, number_of};
+use xmpp_archive::{
+    Archive, ArchiveFault, ArchivedMessage, Bodies, Body, Entry, id_of_number, number_of,
+};
 use xmpp_edge::{Copied, ListOf, NoMemory, Text};
 
-/// An entry with these parties, taken at this moment.
-pub(crate) fn entry(alloc: Global, stamp: u64, parties: (&str, &str)) -> Result<Entry, NoMemory> {
-    Ok(Entry {
-        number: 0,
+/// A message with these parties and bodies, taken at this moment.
+fn message(
+    alloc: Global,
+    stamp: u64,
+    parties: (&str, &str),
+    bodies: Bodies,
+) -> Result<ArchivedMessage, NoMemory> {
+    Ok(ArchivedMessage {
         stamp,
         from: Text::from_str(alloc, parties.0)?,
         to: Text::from_str(alloc, parties.1)?,
         normal: false,
         id: Text::new(alloc),
         origin: Text::new(alloc),
-        bodies: ListOf::new(alloc),
+        bodies,
     })
+}
+
+/// An entry with these parties, taken at this moment.
+pub(crate) fn entry(alloc: Global, stamp: u64, parties: (&str, &str)) -> Result<Entry, NoMemory> {
+    let message = message(alloc, stamp, parties, ListOf::new(alloc))?;
+    Entry::new(alloc, 0, message)
 }
 
 /// Adds an entry, and answers its number.
@@ -37,7 +49,7 @@ fn numbers_kept(alloc: Global) -> Result<[u64; 3], Fail> {
     for stamp in 1..4 {
         append(alloc, &mut archive, stamp, ("bob@a", "romeo@a"))?;
     }
-    let third = archive.get(3).map_or(0, |entry| entry.number);
+    let third = archive.get(3).map_or(0, |entry| entry.number());
     Ok([archive.first(), archive.last(), third])
 }
 
@@ -49,23 +61,25 @@ fn an_archive_keeps_its_newest_entries(rt: HostRuntime) -> Result<(), Fail> {
 
 /// An entry with a body.
 fn spoken(alloc: Global, text: &str) -> Result<Entry, NoMemory> {
-    let mut entry = entry(alloc, 7, ("romeo@a/r", "bob@a"))?;
-    entry.bodies.push(Body {
+    let mut bodies = ListOf::new(alloc);
+    bodies.push(Body {
         lang: Text::from_str(alloc, "en")?,
         text: Text::from_str(alloc, text)?,
     })?;
-    Ok(entry)
+    let message = message(alloc, 7, ("romeo@a/r", "bob@a"), bodies)?;
+    Entry::new(alloc, 0, message)
 }
 
 /// Whether a copy of an entry has this body, and is from the same sender.
 fn is_copied(alloc: Global, text: &str) -> Result<bool, NoMemory> {
     let copy = spoken(alloc, text)?.copied(alloc)?;
-    let spoken = copy
+    let message = copy.message();
+    let spoken = message
         .bodies
         .as_slice()
         .iter()
         .any(|body| body.text.as_str() == text);
-    Ok(spoken && copy.from.as_str() == "romeo@a/r")
+    Ok(spoken && message.from.as_str() == "romeo@a/r")
 }
 
 #[test]

@@ -22,10 +22,11 @@ fn is_other_party(entry: &Entry, party: &str, own: bool) -> bool
     ensures { (owner : List ℕ) → own ≡ is_own owner (Some party.now) → is_in_chain owner (Some party.now) entry.now ≡ true →
         (IsTrue result ↔ (other_party owner entry.now ≡ party.now)) }
 {
-    if !own && bare_form(entry.from.as_str()) == bare_form(party) {
-        entry.from.as_str() == party
+    let message = entry.message();
+    if !own && bare_form(message.from.as_str()) == bare_form(party) {
+        message.from.as_str() == party
     } else {
-        entry.to.as_str() == party
+        message.to.as_str() == party
     }
 }
 
@@ -44,12 +45,13 @@ fn with_asked(entry: &Entry, query: &PageQuery, own: bool) -> bool
 pub(crate) fn in_time(entry: &Entry, query: &PageQuery) -> bool
     ensures { result ≡ stamp_passes query.now entry.now }
 {
+    let stamp = entry.message().stamp;
     let begun = match query.start {
-        Some(start) => start <= entry.stamp,
+        Some(start) => start <= stamp,
         None => true,
     };
     let over = match query.end {
-        Some(end) => end < entry.stamp,
+        Some(end) => end < stamp,
         None => false,
     };
     begun && !over

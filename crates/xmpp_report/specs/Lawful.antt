@@ -13,7 +13,7 @@ use Rattle.xmpp_edge.specs.Names.{is_among}
 use Rattle.xmpp_report.specs.Worlds.{World}
 use Rattle.xmpp_report.specs.Reports.{AccountView, DeviceView, ReportView}
 use Rattle.xmpp_schedule.specs.Schedules.{ScheduleView, steps_of}
-use Rattle.xmpp_report.specs.declared.report.EntryLine.{EntryLine}
+use Rattle.xmpp_report.specs.EntryLines.{EntryLineView}
 use Rattle.xmpp_report.specs.declared.report.LoggedLine.{LoggedLine}
 use Rattle.xmpp_report.specs.declared.report.PageLine.{PageLine}
 use Rattle.xmpp_report.specs.declared.report.RefusedLine.{RefusedLine}
@@ -81,7 +81,7 @@ abbrev pub takes_in : ReportView → List Take
 takes_in report = map (λ line. take_named line (device_named line.device report.devices)) report.takes
 
 -- the entry, whenever it was taken
-abbrev pub at_any_time : EntryLine → EntryLine
+abbrev pub at_any_time : EntryLineView → EntryLineView
 at_any_time entry = record entry { stamp = 0 }
 
 -- there is the submission, and it is to this account
@@ -134,7 +134,7 @@ AreOutcomes device [] said refused = (said ≡ []) × (refused ≡ [])
 AreOutcomes device (line ∷ lines) said refused = IsOutcome device line.step line.number (AreOutcomes device lines) said refused
 
 -- entries of one take, in two archives or in one, have one stamp
-abbrev pub AgreeOnStamp : EntryLine → EntryLine → Type 0
+abbrev pub AgreeOnStamp : EntryLineView → EntryLineView → Type 0
 AgreeOnStamp a b = a.from ≡ b.from → a.origin ≡ b.origin → a.stamp ≡ b.stamp
 
 pub record IsTakenRight (schedule : ScheduleView) (report : ReportView) : Type 0 where
@@ -202,7 +202,7 @@ pub record IsAcknowledgedRight (schedule : ScheduleView) (report : ReportView) :
 -- Law 4: each log is a prefix of its account's archive.
 
 -- the device's log and its held messages, beside its account's archive
-pub record IsPrefixOf (archive : List EntryLine) (device : DeviceView) : Type 0 where
+pub record IsPrefixOf (archive : List EntryLineView) (device : DeviceView) : Type 0 where
   pub short : length device.logged ≤ length archive
   pub logged : map (λ l. l.entry) device.logged ≡ take (length device.logged) archive
   pub apart : EachPair (λ a b. a.id ≢ b.id) device.held

@@ -5,6 +5,7 @@ pub use Rattle.xmpp_log.specs.LogPages
 pub use Rattle.xmpp_schedule.specs.Schedules
 pub use Rattle.xmpp_schedule.specs.Contents
 -- What a report is, and its text.
+pub mod EntryLines
 pub mod Reports
 pub mod ReportText
 -- What was taken, and the lines of what is held.

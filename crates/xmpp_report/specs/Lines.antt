@@ -1,26 +1,20 @@
 -- The report's lines of what was taken, archived and logged.
-use Rattle.std.specs.Prelude.{ℕ, List, [], ◌∷◌, Some, None, length, if◌then◌else◌}
+use Rattle.std.specs.Prelude.{Some, None, length, if◌then◌else◌}
 use Rattle.xmpp_archive.specs.Entries.{EntryView}
 use Rattle.xmpp_archive.specs.Ids.{id_of}
-use Rattle.xmpp_archive.specs.declared.entry.Body.{Body}
 use Rattle.xmpp_log.specs.LogPages.{LogPage}
 use Rattle.xmpp_log.specs.declared.log_entry.LogEntry.{LogEntry}
-use Rattle.xmpp_report.specs.declared.report.EntryLine.{EntryLine}
+use Rattle.xmpp_report.specs.EntryLines.{EntryLineView, first_body}
 use Rattle.xmpp_report.specs.declared.report.LoggedLine.{LoggedLine}
 use Rattle.xmpp_report.specs.declared.report.PageLine.{PageLine}
 use Rattle.xmpp_report.specs.declared.report.TakeLine.{TakeLine}
 use Rattle.xmpp_log.specs.declared.tile.Tile.{Tile}
 use Rattle.xmpp_report.specs.Takes.{Take}
 
--- the first body, or nothing
-abbrev pub first_body : List Body → List ℕ
-first_body [] = []
-first_body (body ∷ bodies) = body.text
-
 abbrev pub take_line : Take → TakeLine
 take_line take = record { device = take.device; epoch = take.epoch; n = take.n; account = take.to }
 
-abbrev pub entry_line : EntryView → EntryLine
+abbrev pub entry_line : EntryView → EntryLineView
 entry_line e = record { id = id_of e.number; stamp = e.stamp; from = e.from; to = e.to; origin = e.origin; text = first_body e.bodies }
 
 abbrev pub logged_line : LogEntry → LoggedLine

@@ -6,7 +6,7 @@ use Rattle.xmpp_report.specs.Reports.{AccountView, DeviceView, ReportView}
 use Rattle.xmpp_report.specs.declared.report.ConnEnd.{ConnEnd}
 use Rattle.xmpp_report.specs.declared.report.ConnEnd.TheVariants.{Cut, Left, Shut, Open}
 use Rattle.xmpp_report.specs.declared.report.ConnLine.{ConnLine}
-use Rattle.xmpp_report.specs.declared.report.EntryLine.{EntryLine}
+use Rattle.xmpp_report.specs.EntryLines.{EntryLineView}
 use Rattle.xmpp_report.specs.declared.report.HeldLine.{HeldLine}
 use Rattle.xmpp_report.specs.declared.report.LoggedLine.{LoggedLine}
 use Rattle.xmpp_report.specs.declared.report.PageLine.{PageLine}
@@ -28,10 +28,10 @@ take_text line =
     codes "take " ++ line.device ++ 32 ∷ decimal line.epoch ++ 32 ∷ decimal line.n ++ 32 ∷ line.account ++ 10 ∷ []
 
 -- the fields of an entry, in an archive and in a log alike
-abbrev pub fields_text : EntryLine → List ℕ
+abbrev pub fields_text : EntryLineView → List ℕ
 fields_text e = e.id ++ 32 ∷ decimal e.stamp ++ 32 ∷ e.from ++ 32 ∷ e.to ++ 32 ∷ e.origin ++ 32 ∷ e.text ++ 10 ∷ []
 
-abbrev pub entry_text : EntryLine → List ℕ
+abbrev pub entry_text : EntryLineView → List ℕ
 entry_text line = codes "entry " ++ fields_text line
 
 abbrev pub account_text : AccountView → List ℕ

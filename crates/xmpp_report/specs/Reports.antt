@@ -1,7 +1,7 @@
 -- What clauses see of a report: plain lists of its lines.
 use Rattle.std.specs.Prelude.{ℕ, Bool, List}
 use Rattle.xmpp_report.specs.declared.report.ConnLine.{ConnLine}
-use Rattle.xmpp_report.specs.declared.report.EntryLine.{EntryLine}
+use Rattle.xmpp_report.specs.EntryLines.{EntryLineView}
 use Rattle.xmpp_report.specs.declared.report.HeldLine.{HeldLine}
 use Rattle.xmpp_report.specs.declared.report.LoggedLine.{LoggedLine}
 use Rattle.xmpp_report.specs.declared.report.PageLine.{PageLine}
@@ -14,7 +14,7 @@ use Rattle.xmpp_report.specs.declared.report.UnderwayLine.{UnderwayLine}
 pub record AccountView : Type 0 where
   pub name : List ℕ
   pub count : ℕ
-  pub entries : List EntryLine
+  pub entries : List EntryLineView
 
 -- a device, what it sent, refused and asked for, and its log
 pub record DeviceView : Type 0 where

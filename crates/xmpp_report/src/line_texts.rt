@@ -1,5 +1,6 @@
 //! The texts of a report's single lines.
 ghost use Rattle.std.specs.Prelude.{◌≡◌, [], ◌∷◌, ◌++◌, OnOk};
+ghost use Rattle.xmpp_report.specs.EntryLines.{first_body};
 ghost use Rattle.xmpp_report.specs.ReportText.{fields_text, conn_end_text, mark_text, refused_why_text, after_text, total_text};
 
 use crate::printed::{Printed, append_field, append_number, append_number_field};
@@ -7,6 +8,7 @@ use crate::report::{
     ConnEnd, ConnLine, EntryLine, HeldLine, LoggedLine, PageLine, RefusedLine, RefusedWhy,
     SaidLine, SaidMark, TakeLine, UnderwayLine,
 };
+use xmpp_archive::Bodies;
 use xmpp_edge::{Bytes, NoMemory, Text};
 
 impl Printed for TakeLine {
@@ -24,16 +26,27 @@ impl Printed for TakeLine {
     }
 }
 
+/// The first body's text, or an empty one. It borrows.
+fn first_text(bodies: &Bodies) -> &str
+    ensures { result.now ≡ first_body bodies.now.items }
+{
+    match bodies.as_slice() {
+        [] => "",
+        [first, ..] => first.text.as_str(),
+    }
+}
+
 /// The fields of an entry, in an archive and in a log alike.
 fn print_fields(out: &mut Bytes, entry: &EntryLine) -> Result<(), NoMemory>
     ensures { OnOk result (out.new.items ≡ out.old.items ++ fields_text entry.now) }
 {
-    out.append(entry.id.as_str().as_bytes())?;
-    append_number_field(out, entry.stamp)?;
-    append_field(out, entry.from.as_str())?;
-    append_field(out, entry.to.as_str())?;
-    append_field(out, entry.origin.as_str())?;
-    append_field(out, entry.text.as_str())?;
+    let message = entry.message();
+    out.append(entry.id().as_bytes())?;
+    append_number_field(out, message.stamp)?;
+    append_field(out, message.from.as_str())?;
+    append_field(out, message.to.as_str())?;
+    append_field(out, message.origin.as_str())?;
+    append_field(out, first_text(&message.bodies))?;
     out.append(b"\n")
 }
 

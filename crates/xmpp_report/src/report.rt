@@ -1,5 +1,9 @@
 //! What a run of a schedule came to: a line for each thing that it tells.
+ghost use Rattle.std.specs.Prelude.{◌≡◌};
+ghost use Rattle.xmpp_report.specs.EntryLines.{line_of, line_under};
+
 use std::marker::Model;
+use xmpp_archive::{ArchivedMessage, Entry};
 use xmpp_edge::{ListOf, Text};
 
 /// A message that the server took: of which device, in which epoch, its number there, and to which account.
@@ -14,16 +18,43 @@ pub struct TakeLine {
 /// Takes, in the server's order.
 pub type TakeLines = ListOf<TakeLine>;
 
-/// An entry of an archive: its id, its stamp in milliseconds since 1970, the addresses, the origin id and the first
-/// body.
+/// An entry of an archive under its id: contracts see its stamp in milliseconds since 1970, the addresses, the origin id
+/// and the first body. It shares the entry's message.
 #[derive(Drop)]
 pub struct EntryLine {
-    pub id: Text,
-    pub stamp: u64,
-    pub from: Text,
-    pub to: Text,
-    pub origin: Text,
-    pub text: Text,
+    id: Text,
+    entry: Entry,
+}
+
+impl Model for EntryLine {
+    ghost use Rattle.xmpp_report.specs.EntryLines.{EntryLineView, line_under};
+
+    ghost Value = { EntryLineView };
+
+    ghost view = { λ l. line_under l.id l.entry };
+}
+
+impl EntryLine {
+    /// The line of an entry under an id. It takes no memory.
+    pub fn new(id: Text, entry: Entry) -> EntryLine
+        ensures { result ≡ line_under id entry }
+    {
+        EntryLine { id, entry }
+    }
+
+    /// The id.
+    pub fn id(&self) -> &str
+        ensures { result.now ≡ self.now.id }
+    {
+        self.id.as_str()
+    }
+
+    /// The message, without a copy.
+    pub fn message(&self) -> &ArchivedMessage
+        ensures { self.now ≡ line_of self.now.id result.now }
+    {
+        self.entry.message()
+    }
 }
 
 /// Entries of an archive, in order.

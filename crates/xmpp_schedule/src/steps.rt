@@ -95,7 +95,7 @@ fn read_say(alloc: Global, above: &NamesAbove, fields: Option<&str>) -> Result<S
     wants(is_text(text), LineWhy::Text)?;
     let device = Text::from_str(alloc, device)?;
     let to = Text::from_str(alloc, to)?;
-    let text = Text::from_str(alloc, text)?;
+    let text = Text::from_str(alloc, text)?.shared()?;
     Ok(Step::Say(device, to, text))
 }
 

@@ -34,7 +34,8 @@ pub fn read_stanza_element(alloc: Global, element: &Element) -> Result<Stanza, S
     read_element(alloc, element)
 }
 
-/// The stanza that a tree is, with what the tree contains moved into it. It is judged as by `read_stanza`.
+/// The stanza that a tree is, with what the tree contains moved into it as it stands: no node is touched. It is judged as
+/// by `read_stanza`.
 pub fn stanza_of(alloc: Global, tree: Tree) -> Result<Stanza, StanzaFault>
     ensures ok { IfOk result (λ stanza. stanza_of tree ≡ Ok stanza) }
     ensures refused { IfErr result (λ fault. fault ≢ StanzaFault.NoMemory → stanza_of tree ≡ Err fault) }
@@ -47,12 +48,12 @@ fn take_element(alloc: Global, e: Element) -> Result<Stanza, StanzaFault>
 {
     if e.is(CLIENT, "message") {
         let head = message_head(alloc, &e)?;
-        Ok(head.with_payload(moved_nodes(alloc, e.children)?))
+        Ok(head.with_payload(Nodes::from(e.children)))
     } else if e.is(CLIENT, "presence") {
         read_presence(alloc, &e)
     } else if e.is(CLIENT, "iq") {
         let head = iq_head(alloc, &e)?;
-        Ok(head.with_payload(moved_nodes(alloc, e.children)?))
+        Ok(head.with_payload(Nodes::from(e.children)))
     } else {
         Err(StanzaFault::NotAStanza)
     }
@@ -72,18 +73,6 @@ fn read_element(alloc: Global, e: &Element) -> Result<Stanza, StanzaFault>
     } else {
         Err(StanzaFault::NotAStanza)
     }
-}
-
-// The nodes as a list. None is copied.
-fn moved_nodes(alloc: Global, nodes: Vec<Node>) -> Result<Nodes, NoMemory>
-    ensures { IfOk result (λ moved. moved.items ≡ nodes.items) }
-{
-    let mut moved = Nodes::new(alloc);
-    moved.reserve(nodes.len())?;
-    for node in nodes {
-        moved.push(node)?;
-    }
-    Ok(moved)
 }
 
 // A message but for what it contains.

@@ -1,3 +1,5 @@
 -- steps of the code
 pub mod WrittenNodes
 pub mod WrittenTags
+-- laws
+pub mod PartLaws

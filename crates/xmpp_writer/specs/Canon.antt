@@ -93,6 +93,10 @@ tag_attributes default ns attrs = declared_default default ns ++ spelled_attribu
 abbrev pub opened : List ℕ → List ℕ → List ℕ → List Attribute → List ℕ
 opened default ns name attrs = 60 ∷ (spelled_name ns name ++ assignments (tag_attributes default ns attrs))
 
+-- a start tag of an element that has something inside
+abbrev pub written_start_tag : List ℕ → List ℕ → List ℕ → List Attribute → List ℕ
+written_start_tag default ns name attrs = opened default ns name attrs ++ tag_end false
+
 abbrev pub written_end_tag : List ℕ → List ℕ → List ℕ
 written_end_tag ns name = 60 ∷ 47 ∷ (spelled_name ns name ++ (62 ∷ []))
 

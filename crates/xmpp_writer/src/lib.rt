@@ -2,8 +2,12 @@
 //! Namespaces in XML 1.0, sections 3 to 6): one spelling each, into memory that is reserved first.
 #![tactic(auto)]
 
+mod laws;
+mod parts;
 mod tag_lengths;
 mod tag_writing;
 mod writing;
 
+pub use laws::elements_are_written_in_parts;
+pub use parts::{write_end, write_nodes, write_start};
 pub use writing::{spelled_len, write, write_footer, write_header};

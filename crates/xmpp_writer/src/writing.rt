@@ -64,8 +64,9 @@ fn put_nodes(out: &mut Bytes, default: &str, nodes: &Vec<Node>)
     }
 }
 
+/// Adds a node, where a default namespace is in force.
 #[cycle(put)]
-fn put_node(out: &mut Bytes, default: &str, node: &Node)
+pub(crate) fn put_node(out: &mut Bytes, default: &str, node: &Node)
     requires { length (written_nodes default.now (node_view node.now)) ≤ out.old.spare }
     ensures items { out.new.items ≡ out.old.items ++ written_nodes default.now (node_view node.now) }
     ensures spare { out.old.spare ≤ out.new.spare + length (written_nodes default.now (node_view node.now)) }
@@ -109,8 +110,9 @@ fn nodes_len(default: &str, nodes: &Vec<Node>) -> usize
     len
 }
 
+/// The length of a node, where a default namespace is in force.
 #[cycle(len)]
-fn node_len(default: &str, node: &Node) -> usize
+pub(crate) fn node_len(default: &str, node: &Node) -> usize
     ensures { result ≡ min (length (written_nodes default.now (node_view node.now))) (2 ^ 64 - 1) }
 {
     match node {
@@ -119,8 +121,8 @@ fn node_len(default: &str, node: &Node) -> usize
     }
 }
 
-// Makes room for so many bytes. The greatest length stands for what no memory holds.
-fn make_room(out: &mut Bytes, len: usize) -> Result<(), NoMemory>
+/// Makes room for so many bytes. The greatest length stands for what no memory holds.
+pub(crate) fn make_room(out: &mut Bytes, len: usize) -> Result<(), NoMemory>
     ensures ok { OnOk result ((len ≤ out.new.spare) × (len < 2 ^ 64 - 1)) }
     ensures items { out.new.items ≡ out.old.items }
 {

@@ -1,0 +1,4 @@
+-- steps of the code
+pub mod KeptNodes
+-- worked values
+mod Worked
