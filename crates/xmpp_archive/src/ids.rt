@@ -1,6 +1,6 @@
 //! Archive ids: the numbers of entries in 16 hexadecimal digits. XEP-0313 leaves the form of an id to the server.
 ghost use Rattle.std.specs.Prelude.{◌≡◌, ◌≢◌, ℕ, ◌<◌, ◌≤◌, ◌^◌, IfOk, IfSome, IfNone};
-ghost use Rattle.xmpp_archive.specs.Ids.{id_of};
+ghost use Rattle.xmpp_archive.specs.Ids.{id_of, number_read};
 
 use std::alloc::Global;
 use xmpp_basis::{hex16, read_hex16};
@@ -27,6 +27,7 @@ pub fn id_of_number(alloc: Global, number: u64) -> Result<Text, NoMemory>
 /// no digit or is in upper case, or the number is 0.
 #[tactic(auto, using(xmpp_basis::proofs::HexDigits::hex16_of_same))]
 pub fn number_of(id: &str) -> Option<u64>
+    ensures value { result ≡ number_read id.now }
     ensures found { IfSome result (λ n. (1 ≤ n) × (id.now ≡ id_of n)) }
     ensures none { IfNone result ((n : ℕ) → 1 ≤ n → n < 2 ^ 64 → id.now ≢ id_of n) }
 {

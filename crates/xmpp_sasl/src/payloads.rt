@@ -56,7 +56,7 @@ fn payload_of(alloc: Global, text: &str) -> Result<Bytes, ExtFault>
         return Ok(Bytes::new(alloc));
     }
     match STANDARD.decode(alloc, text.as_bytes()) {
-        Ok(bytes) => Ok(Bytes::from_slice(alloc, bytes.as_slice())?),
+        Ok(bytes) => Ok(Bytes::from(bytes)),
         Err(DecodeAllocError::OutOfMemory) => Err(ExtFault::NoMemory),
         Err(DecodeAllocError::DecodeError(_)) => Err(ExtFault::Bad(Field::Payload)),
     }

@@ -1,0 +1,4 @@
+pub mod DiscoveryLaws
+pub mod FeatureLaws
+mod TextSteps
+mod Worked

@@ -1,0 +1,3 @@
+-- ---- what is offered and told, which public clauses cite
+pub mod Features
+pub mod Discovery
