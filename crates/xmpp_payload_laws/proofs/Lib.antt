@@ -1,0 +1,13 @@
+-- whatever the payload
+pub mod Judged
+-- what base64 decodes to
+pub mod DecodedBytes
+-- each payload
+pub mod IdReads
+pub mod ManagementReads
+pub mod ManagementWritten
+pub mod SaslReads
+pub mod RequestReads
+pub mod TreeReads
+pub mod ForwardReads
+pub mod FinReads

@@ -1,0 +1,46 @@
+//! Laws of messages that are forwarded: carbons, and what an archive answers (XEP-0280, XEP-0297, XEP-0313).
+ghost use Rattle.std.specs.Prelude.{◌≡◌, ◌<◌, ◌≤◌, ◌^◌, ℕ, None, Ok, Option, true};
+ghost use Rattle.xmpp_ext.specs.Carbons.{IsCarbon, WritesCarbon, carbon_checks, is_carbon};
+ghost use Rattle.xmpp_ext.specs.ForwardReadings.{carbon_read, forward_read, forwarded_read};
+ghost use Rattle.xmpp_ext.specs.Forwarding.{Forwards, IsForwarded, WritesForwarded, forward_checks, forwarded_checks, is_forwarded};
+ghost use Rattle.xmpp_ext.specs.declared.carbons.Carbon.{Carbon};
+ghost use Rattle.xmpp_ext.specs.declared.forwarding.Forwarded.{Forwarded};
+ghost use Rattle.xmpp_mam.specs.ArchiveAnswers.{IsFin, IsMamResult, WritesMamResult, fin_checks, fin_elem, is_fin, is_result, result_checks};
+ghost use Rattle.xmpp_mam.specs.Readings.{fin_read, result_read};
+ghost use Rattle.xmpp_mam.specs.declared.archive_answers.MamResult.{MamResult};
+ghost use Rattle.xmpp_pages.specs.declared.fin.Fin.{Fin};
+ghost use Rattle.xmpp_payload.specs.Checks.{IsFirstWrong};
+ghost use Rattle.xmpp_payload_laws.specs.Answers.{IsAnswer};
+ghost use Rattle.xmpp_payload_laws.specs.AsRead.{carbon_as_read, forwarded_as_read, last_moment, result_as_read};
+ghost use Rattle.xmpp_trees.specs.Trees.{AreTidy, Elem};
+
+/// A law: what is read of an element that forwards a message is what the grammar says that it stands for, and each
+/// refusal comes exactly where the grammar tells it. `inside` is what is forwarded in an element, whatever its name;
+/// `absent` is the moment where it has no delay.
+pub fn forwarding_is_read_as_stated()
+    ensures inside { (absent : Option ℕ) (e : Elem) → IsAnswer (forward_read absent e) true (IsFirstWrong (forward_checks absent e)) (Forwards absent e) }
+    ensures forwarded { (e : Elem) → IsAnswer (forwarded_read e) (is_forwarded e) (IsFirstWrong (forwarded_checks e)) (IsForwarded e) }
+    ensures carbon { (e : Elem) → IsAnswer (carbon_read e) (is_carbon e) (IsFirstWrong (carbon_checks e)) (IsCarbon e) }
+    ensures result { (e : Elem) → IsAnswer (result_read e) (is_result e) (IsFirstWrong (result_checks e)) (IsMamResult e) }
+{}
+
+/// A law: what is written of a value is read as that value, but for a moment past the last, which is read as the last,
+/// and a payload that isn't tidy, which is read tidied.
+pub fn written_forwarding_is_read_back()
+    ensures forwarded { (v : Forwarded) (e : Elem) → WritesForwarded v e → forwarded_read e ≡ Ok (forwarded_as_read v) }
+    ensures carbon { (v : Carbon) (e : Elem) → WritesCarbon v e → carbon_read e ≡ Ok (carbon_as_read v) }
+    ensures result { (v : MamResult) (e : Elem) → WritesMamResult v e → result_read e ≡ Ok (result_as_read v) }
+    ensures stays { (v : Forwarded) → v.stamp ≤ last_moment → AreTidy v.message.payload → forwarded_as_read v ≡ v }
+{}
+
+/// A law: what is read of the end of a page is what the grammar says that the element stands for, and each refusal
+/// comes exactly where the grammar tells it.
+pub fn ends_of_pages_are_read_as_stated()
+    ensures { (e : Elem) → IsAnswer (fin_read e) (is_fin e) (IsFirstWrong (fin_checks e)) (IsFin e) }
+{}
+
+/// A law: what is written of the end of a page is read as it. Its numbers have 64 bits, as they have in the type, and
+/// without a first item the place of it is 0.
+pub fn written_ends_of_pages_are_read_back()
+    ensures { (v : Fin) → v.first_index < 2 ^ 64 → v.count < 2 ^ 64 → (v.first ≡ None → v.first_index ≡ 0) → fin_read (fin_elem v) ≡ Ok v }
+{}
