@@ -32,7 +32,7 @@ use Rattle.xmpp_report.specs.declared.report.SaidLine.{SaidLine}
 use Rattle.xmpp_report.specs.declared.report.SaidMark.TheVariants.{Acknowledged}
 use Rattle.xmpp_report.specs.declared.report.TakeLine.{TakeLine}
 use Rattle.xmpp_replay.specs.declared.run.Run.{Run}
-use Rattle.xmpp_replay.specs.declared.run.devices.Device.{Device}
+use Rattle.xmpp_replay.specs.Devices.{DeviceState}
 use Rattle.xmpp_schedule.specs.declared.schedule.Step.{Step}
 use Rattle.xmpp_schedule.specs.declared.schedule.Step.TheVariants.{Account, Device as DeviceStep, Say, Catchup}
 use Rattle.xmpp_basis.proofs.Bytes.{bytes_eq-self, bytes_eq-from_other}
@@ -57,7 +57,7 @@ front_after account takes (t ∷ more) log front =
     }
 
 -- a device after one step more, by what the step does to it
-pub device_after : (all before : List Step) (step : Step) (old new : Device) → new.name ≡ old.name → new.account ≡ old.account → new.home ≡ old.home →
+pub device_after : (all before : List Step) (step : Step) (old new : DeviceState) → new.name ≡ old.name → new.account ≡ old.account → new.home ≡ old.home →
     home_of (before ++ step ∷ []) old.name ≡ home_of before old.name →
     new.said.items ≡ old.said.items ++ said_at old.name before step →
     IsLogOf (pages_after all old.name before (pages_of all old.name before) step) new.log →
@@ -91,11 +91,11 @@ said_count name before (step ∷ steps) =
     ∙ ap (λ n. cond (is_said_by name step) 1 0 + n) (said_count name (before ++ step ∷ []) steps)
     ∙ sym (sum_by-cons (λ s. cond (is_said_by name s) 1 0) step steps)
 
-device_sent : (all before : List Step) (device : Device) → IsDevice all before device → sent_of device ≡ sent_by device.name before
+device_sent : (all before : List Step) (device : DeviceState) → IsDevice all before device → sent_of device ≡ sent_by device.name before
 device_sent all before device is = ap length is.said ∙ said_count device.name [] before
 
 -- a device of another name, or one that the step does not name
-pub device_stays : (all before : List Step) (step : Step) (device : Device) →
+pub device_stays : (all before : List Step) (step : Step) (device : DeviceState) →
     home_of (before ++ step ∷ []) device.name ≡ home_of before device.name → said_at device.name before step ≡ [] →
     pages_after all device.name before (pages_of all device.name before) step ≡ pages_of all device.name before →
     IsDevice all before device → IsDevice all (before ++ step ∷ []) device
@@ -116,39 +116,39 @@ unused_stays all before step name said pages is = record {
 }
 
 -- the device at a place has a name that was declared
-pub name_known : (all before : List Step) (run : Run) (k : ℕ) (d : Device) → IsAfter all before run → k < length run.devices.items →
+pub name_known : (all before : List Step) (run : Run) (k : ℕ) (d : DeviceState) → IsAfter all before run → k < length run.devices.items →
     is_among (get_or run.devices.items k d).name (devices_of before) ≡ true
 name_known all before run k d is within =
     let same : get_or (devices_of before) k [] ≡ (get_or run.devices.items k d).name =
-    ap (λ ns. get_or ns k []) (sym is.names) ∙ get_or-map (λ (e : Device). e.name) run.devices.items k d [] within in
-    let size : length (devices_of before) ≡ length run.devices.items = ap length (sym is.names) ∙ length-map run.devices.items (λ (e : Device). e.name) in
+    ap (λ ns. get_or ns k []) (sym is.names) ∙ get_or-map (λ (e : DeviceState). e.name) run.devices.items k d [] within in
+    let size : length (devices_of before) ≡ length run.devices.items = ap length (sym is.names) ∙ length-map run.devices.items (λ (e : DeviceState). e.name) in
     ap (λ n. is_among n (devices_of before)) (sym same) ∙ once_among (devices_of before) k [] is.once (omega arith)
 
 -- the device at another place has another name
-pub name_elsewhere : (all before : List Step) (run : Run) (k i : ℕ) (d : Device) (name : List ℕ) → IsAfter all before run → k < length run.devices.items →
+pub name_elsewhere : (all before : List Step) (run : Run) (k i : ℕ) (d : DeviceState) (name : List ℕ) → IsAfter all before run → k < length run.devices.items →
     place_of name run.index ≡ Some i → k ≢ i → (get_or run.devices.items k d).name ≢ name
 name_elsewhere all before run k i d name is within at apart same =
     let here : get_or (devices_of before) k [] ≡ (get_or run.devices.items k d).name =
-    ap (λ ns. get_or ns k []) (sym is.names) ∙ get_or-map (λ (e : Device). e.name) run.devices.items k d [] within in
-    let size : length (devices_of before) ≡ length run.devices.items = ap length (sym is.names) ∙ length-map run.devices.items (λ (e : Device). e.name) in
+    ap (λ ns. get_or ns k []) (sym is.names) ∙ get_or-map (λ (e : DeviceState). e.name) run.devices.items k d [] within in
+    let size : length (devices_of before) ≡ length run.devices.items = ap length (sym is.names) ∙ length-map run.devices.items (λ (e : DeviceState). e.name) in
     names_apart (devices_of before) k i name [] is.once (omega arith) (ap (place_of name) (sym is.index) ∙ at) apart (here ∙ same)
 
 -- the device at a name's place has the name
-pub name_here : (all before : List Step) (run : Run) (i : ℕ) (device : Device) (name : List ℕ) → IsAfter all before run →
+pub name_here : (all before : List Step) (run : Run) (i : ℕ) (device : DeviceState) (name : List ℕ) → IsAfter all before run →
     place_of name run.index ≡ Some i → slice_get run.devices.items i ≡ Some device → device.name ≡ name
 name_here all before run i device name is at there =
     let within = slice_get_within run.devices.items i device there in
     let read : get_or run.devices.items i device ≡ device = get_or_from_slice_get run.devices.items i device device there in
     let stands = named_at name (devices_of before) i (ap (place_of name) (sym is.index) ∙ at) in
-    sym (ap (λ (d : Device). d.name) read)
-    ∙ sym (get_or-map (λ (e : Device). e.name) run.devices.items i device [] within)
+    sym (ap (λ (d : DeviceState). d.name) read)
+    ∙ sym (get_or-map (λ (e : DeviceState). e.name) run.devices.items i device [] within)
     ∙ ap (λ ns. get_or ns i []) is.names
     ∙ get_or_from_slice_get (devices_of before) i name [] stands.1
 
-pub device_here : (all before : List Step) (run : Run) (i : ℕ) (device : Device) → IsAfter all before run →
+pub device_here : (all before : List Step) (run : Run) (i : ℕ) (device : DeviceState) → IsAfter all before run →
     slice_get run.devices.items i ≡ Some device → IsDevice all before device
 device_here all before run i device is there =
-    subst (λ (d : Device). IsDevice all before d) (get_or_from_slice_get run.devices.items i device device there)
+    subst (λ (d : DeviceState). IsDevice all before d) (get_or_from_slice_get run.devices.items i device device there)
     (is.devices i device (slice_get_within run.devices.items i device there))
 
 -- the names of the accounts
@@ -160,7 +160,7 @@ pub run_names : (all before : List Step) (run : Run) → IsAfter all before run 
 run_names all before run is = ap names_of is.homes ∙ homes_named (takes_of all before) (accounts_of all)
 
 -- the account at a device's place
-pub home_entries : (all before : List Step) (run : Run) (device : Device) (d : Home) → IsAfter all before run → IsDevice all before device →
+pub home_entries : (all before : List Step) (run : Run) (device : DeviceState) (d : Home) → IsAfter all before run → IsDevice all before device →
     (get_or run.accounts.homes device.home d).entries ≡ archive_of device.account (takes_of all before)
 home_entries all before run device d is one =
     let stands = named_at device.account (accounts_of all) device.home one.place in
@@ -176,7 +176,7 @@ pub ready_after : (all before : List Step) (run : Run) → length before < 10000
 ready_after all before run few is = record { names = is.index ∙ sym is.names; devices = devices; few = small }
   where
     devices : All (IsReadyDevice run.accounts.homes) run.devices.items
-    devices = All-weaker (IsDevice all before) (IsReadyDevice run.accounts.homes) (λ (device : Device) one. record {
+    devices = All-weaker (IsDevice all before) (IsReadyDevice run.accounts.homes) (λ (device : DeviceState) one. record {
       sent = let count = device_sent all before device one in omega (arith, sent_few device.name before);
       home = let stands = named_at device.account (accounts_of all) device.home one.place in
           omega (arith, ap length is.homes, length-map (accounts_of all) (home_at (takes_of all before)));
@@ -229,9 +229,9 @@ after_device all before name account run next is fresh made = record {
   homes = made.homes ∙ is.homes ∙ ap (λ ts. map (home_at ts) (accounts_of all)) (sym (no_take all before step refl));
   takes = made.takes ∙ is.takes ∙ ap (map take_line) (sym (no_take all before step refl));
   index = made.index ∙ ap (λ t. t ++ name ∷ []) is.index ∙ sym (devices_push before step);
-  names = ap (map (λ (d : Device). d.name)) made.devices ∙ map_push (λ (d : Device). d.name) run.devices.items made.new
+  names = ap (map (λ (d : DeviceState). d.name)) made.devices ∙ map_push (λ (d : DeviceState). d.name) run.devices.items made.new
       ∙ ap (λ t. t ++ made.new.name ∷ []) is.names ∙ ap (λ n. devices_of before ++ n ∷ []) made.named ∙ sym (devices_push before step);
-  devices = subst (λ (ds : List Device). All (IsDevice all (before ++ step ∷ [])) ds) (sym made.devices)
+  devices = subst (λ (ds : List DeviceState). All (IsDevice all (before ++ step ∷ [])) ds) (sym made.devices)
       (All-push (IsDevice all (before ++ step ∷ [])) run.devices.items made.new others newest);
   once = subst AreOnce (sym (devices_push before step)) (once_push (devices_of before) name is.once fresh);
   unused = λ other absent. unused_stays all before step other refl refl
@@ -264,7 +264,7 @@ after_device all before name account run next is fresh made = record {
     }
 
 -- what a message does to the accounts and the takes is what the definitions say
-message_taken : (all before : List Step) (device : Device) (name to text : List ℕ) (homes : List Home) (lines : List TakeLine) →
+message_taken : (all before : List Step) (device : DeviceState) (name to text : List ℕ) (homes : List Home) (lines : List TakeLine) →
     AreOnce (accounts_of all) → IsDevice all before device → device.name ≡ name →
     homes ≡ map (home_at (takes_of all before)) (accounts_of all) → lines ≡ map take_line (takes_of all before) →
     (homes_after device to text homes ≡ map (home_at (takes_of all (before ++ Say name to text ∷ []))) (accounts_of all))
@@ -312,22 +312,22 @@ message_taken all before device name to text homes lines once is named held told
         )
 
 -- the devices after a step that names the one at a place
-pub devices_after : (all before : List Step) (step : Step) (run : Run) (place : ℕ) (old new : Device) → IsAfter all before run →
+pub devices_after : (all before : List Step) (step : Step) (run : Run) (place : ℕ) (old new : DeviceState) → IsAfter all before run →
     slice_get run.devices.items place ≡ Some old → IsDevice all (before ++ step ∷ []) new →
-    ((k : ℕ) (d : Device) → k < length run.devices.items → k ≢ place → IsDevice all (before ++ step ∷ []) (get_or run.devices.items k d)) →
+    ((k : ℕ) (d : DeviceState) → k < length run.devices.items → k ≢ place → IsDevice all (before ++ step ∷ []) (get_or run.devices.items k d)) →
     All (IsDevice all (before ++ step ∷ [])) (set run.devices.items place new)
 devices_after all before step run place old new is there one others k d within =
     let inside = slice_get_within run.devices.items place old there in
     let size = length-set run.devices.items place new in
     elim (cases_eq k place) [
-      | inl same ↦ subst (λ (v : Device). IsDevice all (before ++ step ∷ []) v) (sym (ap (λ j. get_or (set run.devices.items place new) j d) same ∙ get_or-set_same run.devices.items place new d inside)) one
-      | inr apart ↦ subst (λ (v : Device). IsDevice all (before ++ step ∷ []) v) (sym (get_or-set_other run.devices.items place k new d apart)) (others k d (omega arith) apart)
+      | inl same ↦ subst (λ (v : DeviceState). IsDevice all (before ++ step ∷ []) v) (sym (ap (λ j. get_or (set run.devices.items place new) j d) same ∙ get_or-set_same run.devices.items place new d inside)) one
+      | inr apart ↦ subst (λ (v : DeviceState). IsDevice all (before ++ step ∷ []) v) (sym (get_or-set_other run.devices.items place k new d apart)) (others k d (omega arith) apart)
     ]
 
-names_after : (run : Run) (place : ℕ) (old new : Device) → slice_get run.devices.items place ≡ Some old → new.name ≡ old.name →
-    map (λ (d : Device). d.name) (set run.devices.items place new) ≡ map (λ (d : Device). d.name) run.devices.items
+names_after : (run : Run) (place : ℕ) (old new : DeviceState) → slice_get run.devices.items place ≡ Some old → new.name ≡ old.name →
+    map (λ (d : DeviceState). d.name) (set run.devices.items place new) ≡ map (λ (d : DeviceState). d.name) run.devices.items
 names_after run place old new there named =
-    map-set_same (λ (d : Device). d.name) run.devices.items place new old (named ∙ ap (λ (d : Device). d.name) (sym (get_or_from_slice_get run.devices.items place old old there)))
+    map-set_same (λ (d : DeviceState). d.name) run.devices.items place new old (named ∙ ap (λ (d : DeviceState). d.name) (sym (get_or_from_slice_get run.devices.items place old old there)))
 
 after_say : (all before : List Step) (name to text : List ℕ) (run next : Run) → AreOnce (accounts_of all) → IsAfter all before run →
     is_among name (devices_of before) ≡ true → HasSent run next name to text → IsAfter all (before ++ Say name to text ∷ []) next
@@ -335,8 +335,8 @@ after_say all before name to text run next once is known sent = record {
   homes = sent.homes ∙ done.0;
   takes = sent.takes ∙ done.1;
   index = sent.index ∙ is.index ∙ sym (no_device before (Say name to text) refl);
-  names = ap (map (λ (d : Device). d.name)) sent.devices ∙ names_after run sent.place sent.old sent.new sent.there sent.said.name ∙ is.names ∙ sym (no_device before (Say name to text) refl);
-  devices = subst (λ (ds : List Device). All (IsDevice all (before ++ Say name to text ∷ [])) ds) (sym sent.devices)
+  names = ap (map (λ (d : DeviceState). d.name)) sent.devices ∙ names_after run sent.place sent.old sent.new sent.there sent.said.name ∙ is.names ∙ sym (no_device before (Say name to text) refl);
+  devices = subst (λ (ds : List DeviceState). All (IsDevice all (before ++ Say name to text ∷ [])) ds) (sym sent.devices)
       (devices_after all before (Say name to text) run sent.place sent.old sent.new is sent.there one others);
   once = subst AreOnce (sym (no_device before (Say name to text) refl)) is.once;
   unused = λ other absent.
@@ -374,7 +374,7 @@ after_say all before name to text run next once is known sent = record {
         (front_after sent.old.account (takes_of all before) (take_at all before (Say name to text)) sent.old.log was.front)))
         was
 
-    others : (k : ℕ) (d : Device) → k < length run.devices.items → k ≢ sent.place → IsDevice all (before ++ Say name to text ∷ []) (get_or run.devices.items k d)
+    others : (k : ℕ) (d : DeviceState) → k < length run.devices.items → k ≢ sent.place → IsDevice all (before ++ Say name to text ∷ []) (get_or run.devices.items k d)
     others k d within apart =
         let far : bytes_eq (get_or run.devices.items k d).name name ≡ false =
         bytes_eq-from_other (get_or run.devices.items k d).name name (name_elsewhere all before run k sent.place d name is within sent.named apart) in
@@ -388,8 +388,8 @@ after_catch_up all before name most run next few cap is known made = record {
   homes = made.homes ∙ is.homes ∙ ap (λ ts. map (home_at ts) (accounts_of all)) (sym (no_take all before (Catchup name most) refl));
   takes = made.takes ∙ is.takes ∙ ap (map take_line) (sym (no_take all before (Catchup name most) refl));
   index = made.index ∙ is.index ∙ sym (no_device before (Catchup name most) refl);
-  names = ap (map (λ (d : Device). d.name)) made.devices ∙ names_after run made.place made.old made.new made.there made.same.0 ∙ is.names ∙ sym (no_device before (Catchup name most) refl);
-  devices = subst (λ (ds : List Device). All (IsDevice all (before ++ Catchup name most ∷ [])) ds) (sym made.devices)
+  names = ap (map (λ (d : DeviceState). d.name)) made.devices ∙ names_after run made.place made.old made.new made.there made.same.0 ∙ is.names ∙ sym (no_device before (Catchup name most) refl);
+  devices = subst (λ (ds : List DeviceState). All (IsDevice all (before ++ Catchup name most ∷ [])) ds) (sym made.devices)
       (devices_after all before (Catchup name most) run made.place made.old made.new is made.there one others);
   once = subst AreOnce (sym (no_device before (Catchup name most) refl)) is.once;
   unused = λ other absent.
@@ -438,7 +438,7 @@ after_catch_up all before name most run next few cap is known made = record {
         (made.same.3 ∙ sym (append-nil made.old.said.items))
         logged fronts was
 
-    others : (k : ℕ) (d : Device) → k < length run.devices.items → k ≢ made.place → IsDevice all (before ++ Catchup name most ∷ []) (get_or run.devices.items k d)
+    others : (k : ℕ) (d : DeviceState) → k < length run.devices.items → k ≢ made.place → IsDevice all (before ++ Catchup name most ∷ []) (get_or run.devices.items k d)
     others k d within apart =
         let far : bytes_eq (get_or run.devices.items k d).name name ≡ false =
         bytes_eq-from_other (get_or run.devices.items k d).name name (name_elsewhere all before run k made.place d name is within made.named apart) in

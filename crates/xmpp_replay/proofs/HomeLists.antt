@@ -1,8 +1,8 @@
 -- What a change of one account does to the lists that clauses see.
-use Rattle.std.proofs.Common.{◌≡◌, ◌≢◌, ℕ, zero, suc, ◌+◌, ◌<◌, ◌≤◌, List, [], ◌∷◌, ◌++◌, length, get_or, set, map, refl, sym, ap, ◌∙◌, arith, subst}
+use Rattle.std.proofs.Common.{◌≡◌, ◌≢◌, ℕ, zero, suc, ◌+◌, ◌<◌, ◌≤◌, List, [], ◌∷◌, ◌++◌, Some, length, get_or, set, map, refl, sym, ap, ◌∙◌, arith, subst}
 use Rattle.std.proofs.lemmas.List.{length-append, length-map, length_push}
 use Rattle.std.proofs.lemmas.Option.{none-some}
-use Rattle.std.specs.List.{All}
+use Rattle.std.specs.List.{All, slice_get}
 use Rattle.xmpp_archive.proofs.Newest.{newest_few}
 use Rattle.xmpp_archive.proofs.NumberedEntries.{FollowFrom, follow_all, follow_push, numbered_following}
 use Rattle.xmpp_archive.specs.Entries.{ArchiveView, EntryView, newest, numbered}
@@ -87,6 +87,13 @@ place_in_view items view i is there =
     let same : length (map home_of_account items) ≡ length view.homes = ap (λ (v : HomesView). length v.homes) is in
     let size : length (map home_of_account items) ≡ length items = length-map items home_of_account in
     omega arith
+
+-- the name of the account that is read at a place
+pub name_there : (items : List Account) (i : ℕ) (x : Account) → x ≡ get_or items i x → i < length items →
+    slice_get (names_of (map home_of_account items)) i ≡ Some x.name
+name_there [] i x is there = absurd (omega arith)
+name_there (a ∷ items) zero x is there = ap (λ (v : Account). Some v.name) (sym is)
+name_there (a ∷ items) (suc i) x is there = name_there items i x is (omega arith)
 
 pub fewer : (homes : List Home) → All (λ (home : Home). length home.entries < 4294967294) homes → All (λ (home : Home). length home.entries < 4294967295) homes
 fewer homes few k d within = let here : length (get_or homes k d).entries < 4294967294 = few k d within in omega arith

@@ -27,7 +27,7 @@ use Rattle.xmpp_edge.specs.Names.{is_among}
 use Rattle.xmpp_report.specs.Lawful.{AgreeOnStamp, ArePages, AreOutcomes, AreSubmissions, EachPair, IsAcknowledgedFirst, IsAcknowledgedRight, IsLawful, IsLogged, IsOfSchedule, IsOnceInOrder, IsPaged, IsPrefixOfAccount, IsSettledRight, IsTakenFirst, IsTakenRight, IsUndisturbed, Precedes, account_named, at_any_time, is_taken}
 use Rattle.xmpp_report.specs.Reports.{AccountView, DeviceView}
 use Rattle.xmpp_schedule.specs.Schedules.{ScheduleView, steps_of}
-use Rattle.xmpp_report.specs.declared.report.EntryLine.{EntryLine}
+use Rattle.xmpp_report.specs.EntryLines.{EntryLineView}
 use Rattle.xmpp_report.specs.declared.report.LoggedLine.{LoggedLine}
 use Rattle.xmpp_report.specs.declared.report.SaidMark.TheVariants.{Acknowledged, Waiting}
 use Rattle.xmpp_schedule.specs.declared.schedule.Line.{Line}
@@ -71,7 +71,7 @@ archive_kept all known name =
     map-map entry_line at_any_time (archive_of name (takes_of all all))
     ∙ ap (λ takes. map (λ e. at_any_time (entry_line e)) (archive_of name takes)) (sym (takes_back all known))
 
-abbrev HasNoStamp : EntryLine → Type 0
+abbrev HasNoStamp : EntryLineView → Type 0
 HasNoStamp e = e.stamp ≡ 0
 
 stamps_of : (all : List Step) → AreStanding [] all → (name : List ℕ) → AllByRecursion HasNoStamp (map entry_line (archive_of name (takes_of all all)))
@@ -80,7 +80,7 @@ stamps_of all known name = all_map HasNoStamp entry_line (archive_of name (takes
 stamps_kept : (all : List Step) → AreStanding [] all → (name : List ℕ) → IsNonDecreasing (map (λ e. e.stamp) (map entry_line (archive_of name (takes_of all all))))
 stamps_kept all known name =
     zeros_not_falling (map (λ e. e.stamp) (map entry_line (archive_of name (takes_of all all))))
-    (all_map (λ x. x ≡ 0) (λ (e : EntryLine). e.stamp) (map entry_line (archive_of name (takes_of all all))) (stamps_of all known name))
+    (all_map (λ x. x ≡ 0) (λ (e : EntryLineView). e.stamp) (map entry_line (archive_of name (takes_of all all))) (stamps_of all known name))
 
 one_stamp : (all : List Step) → AreStanding [] all → EachPair AgreeOnStamp (flat_map (λ a. a.entries) (map (account_line all) (accounts_of all)))
 one_stamp all known =
@@ -168,7 +168,7 @@ log_front : (all : List Step) (name : List ℕ) → AreStanding [] all → lengt
 log_front all name stand few = paged_at all name all [] (append-nil all) stand few
 
 -- the entry of a log's line
-abbrev line_entry : LoggedLine → EntryLine
+abbrev line_entry : LoggedLine → EntryLineView
 line_entry line = line.entry
 
 prefix_kept : (archive : List EntryView) (log rest : List LogEntry) → map as_logged archive ≡ log ++ rest →
@@ -176,7 +176,7 @@ prefix_kept : (archive : List EntryView) (log rest : List LogEntry) → map as_l
     × (map line_entry (map logged_line log) ≡ take (length (map logged_line log)) (map entry_line archive))
 prefix_kept archive log rest front =
     let total : length archive ≡ length log + length rest = sym (length-map archive as_logged) ∙ ap length front ∙ length-append log rest in
-    let entry_of_line : LogEntry → EntryLine = λ l. line_entry (logged_line l) in
+    let entry_of_line : LogEntry → EntryLineView = λ l. line_entry (logged_line l) in
     let lines : map entry_line archive ≡ map entry_of_line log ++ map entry_of_line rest =
     sym (map-map as_logged entry_of_line archive) ∙ ap (map entry_of_line) front ∙ map-append entry_of_line log rest in (
       omega (arith, length-map log logged_line, length-map archive entry_line),

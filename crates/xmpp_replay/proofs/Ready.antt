@@ -8,7 +8,7 @@ use Rattle.xmpp_replay.specs.Homes.{Home, empty_home}
 use Rattle.xmpp_replay.specs.Runs.{IsReady, IsReadyDevice}
 use Rattle.xmpp_replay.specs.Turns.{IsFrontOf}
 use Rattle.xmpp_replay.specs.declared.run.Run.{Run}
-use Rattle.xmpp_replay.specs.declared.run.devices.Device.{Device}
+use Rattle.xmpp_replay.specs.Devices.{DeviceState}
 
 pub OnOk_then : {T E : Type 0} (r : Result T E) {P Q : Type 0} → OnOk r P → (P → Q) → OnOk r Q
 OnOk_then (Ok x) p f = f p
@@ -16,20 +16,20 @@ OnOk_then (Err e) p f = tt
 
 pub place_ready : (run : Run) (i : ℕ) → IsReady run → i < length run.index → i < length run.devices.items
 place_ready run i ready there =
-    let same : length run.index ≡ length (map (λ (d : Device). d.name) run.devices.items) = ap length ready.names in
-    let size : length (map (λ (d : Device). d.name) run.devices.items) ≡ length run.devices.items = length-map run.devices.items (λ (d : Device). d.name) in
+    let same : length run.index ≡ length (map (λ (d : DeviceState). d.name) run.devices.items) = ap length ready.names in
+    let size : length (map (λ (d : DeviceState). d.name) run.devices.items) ≡ length run.devices.items = length-map run.devices.items (λ (d : DeviceState). d.name) in
     omega arith
 
-pub device_ready : (run : Run) (i : ℕ) (device : Device) → IsReady run → i < length run.index → device ≡ get_or run.devices.items i device →
+pub device_ready : (run : Run) (i : ℕ) (device : DeviceState) → IsReady run → i < length run.index → device ≡ get_or run.devices.items i device →
     IsReadyDevice run.accounts.homes device
 device_ready run i device ready there is =
-    subst (λ (d : Device). IsReadyDevice run.accounts.homes d) (sym is) (ready.devices i device (place_ready run i ready there))
+    subst (λ (d : DeviceState). IsReadyDevice run.accounts.homes d) (sym is) (ready.devices i device (place_ready run i ready there))
 
-pub device_there : (run : Run) (i : ℕ) (device : Device) → IsReady run → i < length run.index → device ≡ get_or run.devices.items i device →
+pub device_there : (run : Run) (i : ℕ) (device : DeviceState) → IsReady run → i < length run.index → device ≡ get_or run.devices.items i device →
     slice_get run.devices.items i ≡ Some device
 device_there run i device ready there is = slice_get_read run.devices.items (length run.devices.items) i device refl (place_ready run i ready there) is
 
-pub front_ready : (run : Run) (i : ℕ) (device : Device) (entries : List EntryView) → IsReady run → i < length run.index → device ≡ get_or run.devices.items i device →
+pub front_ready : (run : Run) (i : ℕ) (device : DeviceState) (entries : List EntryView) → IsReady run → i < length run.index → device ≡ get_or run.devices.items i device →
     ((d : Home) → entries ≡ (get_or run.accounts.homes device.home d).entries) → IsFrontOf entries device.log.entries
 front_ready run i device entries ready there is same =
     subst (λ es. IsFrontOf es device.log.entries) (sym (same (empty_home []))) ((device_ready run i device ready there is).front (empty_home []))

@@ -24,7 +24,7 @@ use Rattle.xmpp_replay.specs.Runs.{HasFollowed, IsAfter, IsDevice, IsReady, MayF
 use Rattle.xmpp_schedule.specs.Schedules.{ScheduleView, steps_of}
 use Rattle.xmpp_schedule.specs.Standing.{AreOnce, AreRight}
 use Rattle.xmpp_replay.specs.declared.run.Run.{Run}
-use Rattle.xmpp_replay.specs.declared.run.devices.Device.{Device}
+use Rattle.xmpp_replay.specs.Devices.{DeviceState}
 use Rattle.xmpp_schedule.specs.declared.schedule.Line.{Line}
 use Rattle.xmpp_schedule.specs.declared.schedule.Step.{Step}
 use Rattle.xmpp_schedule.specs.declared.schedule.Step.TheVariants.{Account, Device as DeviceStep, Say, Catchup}
@@ -100,8 +100,8 @@ after_none all run homes takes index devices = record {
   homes = homes;
   takes = takes;
   index = index;
-  names = ap (map (λ (d : Device). d.name)) devices;
-  devices = subst (λ (ds : List Device). All (IsDevice all []) ds) (sym devices) (All-nil (IsDevice all []));
+  names = ap (map (λ (d : DeviceState). d.name)) devices;
+  devices = subst (λ (ds : List DeviceState). All (IsDevice all []) ds) (sym devices) (All-nil (IsDevice all []));
   once = none_once;
   unused = λ name absent. record { said = refl; pages = refl };
 }
@@ -111,11 +111,11 @@ page_lines_same [] = refl
 page_lines_same (p ∷ pages) = ap (λ t. page_line p ∷ t) (page_lines_same pages)
 
 -- a device at the end
-device_told : (all : List Step) (device : Device) → IsDevice all all device → state_line device ≡ device_line all device.name
+device_told : (all : List Step) (device : DeviceState) → IsDevice all all device → state_line device ≡ device_line all device.name
 device_told all device is =
     rw (is.account, is.said, is.log.entries, is.log.tiles, page_lines_same (pages_of all device.name all)) refl
 
-devices_told : (all : List Step) (devices : List Device) → All (IsDevice all all) devices → map state_line devices ≡ map (device_line all) (map (λ (d : Device). d.name) devices)
+devices_told : (all : List Step) (devices : List DeviceState) → All (IsDevice all all) devices → map state_line devices ≡ map (device_line all) (map (λ (d : DeviceState). d.name) devices)
 devices_told all [] each = refl
 devices_told all (device ∷ devices) each =
     let here : state_line device ≡ device_line all device.name = device_told all device (each zero device (omega arith)) in

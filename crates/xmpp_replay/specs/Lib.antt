@@ -13,6 +13,7 @@ pub mod Direct
 pub mod History
 -- What clauses of the code and lemmas cite.
 pub mod Homes
+pub mod Devices
 pub mod Messages
 pub mod ReportLines
 pub mod Runs

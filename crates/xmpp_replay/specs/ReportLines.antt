@@ -4,12 +4,12 @@ use Rattle.xmpp_report.specs.Lines.{entry_line, logged_line, tile_line}
 use Rattle.xmpp_replay.specs.Homes.{Home}
 use Rattle.xmpp_report.specs.Reports.{AccountView, DeviceView, ReportView}
 use Rattle.xmpp_replay.specs.declared.run.Run.{Run}
-use Rattle.xmpp_replay.specs.declared.run.devices.Device.{Device}
+use Rattle.xmpp_replay.specs.Devices.{DeviceState}
 
 abbrev pub home_line : Home → AccountView
 home_line home = record { name = home.name; count = length home.entries; entries = map entry_line home.entries }
 
-abbrev pub state_line : Device → DeviceView
+abbrev pub state_line : DeviceState → DeviceView
 state_line device = record {
   name = device.name;
   account = device.account;

@@ -11,12 +11,12 @@ use Rattle.xmpp_replay.specs.Messages.{HasSaid, homes_after, sent_of, takes_afte
 use Rattle.xmpp_schedule.specs.Standing.{AreOnce}
 use Rattle.xmpp_replay.specs.Turns.{IsFrontOf, IsLogOf, caught_up}
 use Rattle.xmpp_replay.specs.declared.run.Run.{Run}
-use Rattle.xmpp_replay.specs.declared.run.devices.Device.{Device}
+use Rattle.xmpp_replay.specs.Devices.{DeviceState}
 use Rattle.xmpp_schedule.specs.declared.schedule.Step.{Step}
 use Rattle.xmpp_schedule.specs.declared.schedule.Step.TheVariants.{Account, Device as DeviceStep, Say, Catchup}
 
 -- a device after the first steps
-pub record IsDevice (all before : List Step) (device : Device) : Type 0 where
+pub record IsDevice (all before : List Step) (device : DeviceState) : Type 0 where
   pub account : device.account ≡ home_of before device.name
   pub place : place_of device.account (accounts_of all) ≡ Some device.home
   pub said : device.said.items ≡ along (said_at device.name) [] before
@@ -33,13 +33,13 @@ pub record IsAfter (all before : List Step) (run : Run) : Type 0 where
   pub homes : run.accounts.homes ≡ map (home_at (takes_of all before)) (accounts_of all)
   pub takes : run.takes.items ≡ map take_line (takes_of all before)
   pub index : run.index ≡ devices_of before
-  pub names : map (λ (device : Device). device.name) run.devices.items ≡ devices_of before
+  pub names : map (λ (device : DeviceState). device.name) run.devices.items ≡ devices_of before
   pub devices : All (IsDevice all before) run.devices.items
   pub once : AreOnce (devices_of before)
   pub unused : (name : List ℕ) → is_among name (devices_of before) ≡ false → IsUnused all before name
 
 -- what a step asks of a device: its count can grow, its account is there, and its log is a front of the archive
-pub record IsReadyDevice (homes : List Home) (device : Device) : Type 0 where
+pub record IsReadyDevice (homes : List Home) (device : DeviceState) : Type 0 where
   pub sent : sent_of device < 100000
   pub home : device.home < length homes
   pub closed : device.log.page ≡ None
@@ -47,7 +47,7 @@ pub record IsReadyDevice (homes : List Home) (device : Device) : Type 0 where
 
 -- what a step asks of a run
 pub record IsReady (run : Run) : Type 0 where
-  pub names : run.index ≡ map (λ (device : Device). device.name) run.devices.items
+  pub names : run.index ≡ map (λ (device : DeviceState). device.name) run.devices.items
   pub devices : All (IsReadyDevice run.accounts.homes) run.devices.items
   pub few : All (λ (home : Home). length home.entries < 4294967294) run.accounts.homes
 
@@ -60,7 +60,7 @@ MayFollow run (Catchup device most) = (is_among device run.index ≡ true) × (1
 
 -- a device was declared
 pub record HasDeclared (before after : Run) (name account : List ℕ) : Type 0 where
-  pub new : Device
+  pub new : DeviceState
   pub devices : after.devices.items ≡ before.devices.items ++ new ∷ []
   pub index : after.index ≡ before.index ++ name ∷ []
   pub homes : after.accounts.homes ≡ before.accounts.homes
@@ -74,8 +74,8 @@ pub record HasDeclared (before after : Run) (name account : List ℕ) : Type 0 w
 -- a device said something
 pub record HasSent (before after : Run) (name to text : List ℕ) : Type 0 where
   pub place : ℕ
-  pub old : Device
-  pub new : Device
+  pub old : DeviceState
+  pub new : DeviceState
   pub named : place_of name before.index ≡ Some place
   pub there : slice_get before.devices.items place ≡ Some old
   pub devices : after.devices.items ≡ slice_set before.devices.items place new
@@ -85,14 +85,14 @@ pub record HasSent (before after : Run) (name to text : List ℕ) : Type 0 where
   pub takes : after.takes.items ≡ takes_after old to text before.accounts.homes before.takes.items
 
 -- the device with another log
-abbrev pub HasLog : Device → Device → Type 0
+abbrev pub HasLog : DeviceState → DeviceState → Type 0
 HasLog old new = (new.name ≡ old.name) × (new.account ≡ old.account) × (new.home ≡ old.home) × (new.said.items ≡ old.said.items)
 
 -- a device caught up on its account's archive
 pub record HasCaughtUp (before after : Run) (name : List ℕ) (most : ℕ) : Type 0 where
   pub place : ℕ
-  pub old : Device
-  pub new : Device
+  pub old : DeviceState
+  pub new : DeviceState
   pub named : place_of name before.index ≡ Some place
   pub there : slice_get before.devices.items place ≡ Some old
   pub devices : after.devices.items ≡ slice_set before.devices.items place new

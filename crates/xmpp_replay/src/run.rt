@@ -14,6 +14,7 @@ ghost use Rattle.xmpp_replay.specs.Runs.{HasCaughtUp, HasDeclared, HasFollowed, 
 ghost use Rattle.xmpp_schedule.specs.Schedules.{steps_of};
 ghost use Rattle.xmpp_schedule.specs.Standing.{AreRight};
 
+mod account_names;
 mod accounts;
 mod devices;
 mod messages;
@@ -23,7 +24,7 @@ mod summary;
 use crate::run::accounts::Accounts;
 use crate::run::devices::Device;
 use std::alloc::Global;
-use xmpp_edge::{ListOf, NameIndex, NoMemory};
+use xmpp_edge::{ListOf, NameIndex, NoMemory, Text};
 use xmpp_report::{Report, TakeLines};
 use xmpp_schedule::{Line, Schedule, Step};
 
@@ -57,7 +58,7 @@ impl Run {
     }
 
     /// Sends a message of a device that is there.
-    fn say(&mut self, alloc: Global, device: &str, to: &str, text: &str) -> Result<(), NoMemory>
+    fn say(&mut self, alloc: Global, device: &str, to: &str, text: &Text) -> Result<(), NoMemory>
         requires ready { IsReady self.old }
         requires known { is_among device.now self.old.index ≡ true }
         ensures { OnOk result (HasSent self.old self.new device.now to.now text.now) }
@@ -103,12 +104,7 @@ impl Run {
         match step {
             Step::Account(_) => Ok(()),
             Step::Device(name, account) => self.declare(alloc, name.as_str(), account.as_str()),
-            Step::Say(device, to, text) => self.say(
-                alloc,
-                device.as_str(),
-                to.as_str(),
-                text.as_str(),
-            ),
+            Step::Say(device, to, text) => self.say(alloc, device.as_str(), to.as_str(), text),
             Step::Catchup(device, most) => self.catch_up(alloc, device.as_str(), *most),
         }
     }

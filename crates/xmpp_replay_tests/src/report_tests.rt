@@ -1,7 +1,7 @@
 //! The text of a wire report with a line of each kind, and lines that are made by copying.
 use std::alloc::Global;
 use std::test::Fail;
-use xmpp_archive::{Bodies, Body, Entry};
+use xmpp_archive::{ArchivedMessage, Bodies, Body, Entry};
 use xmpp_edge::{NoMemory, Text};
 use xmpp_log::{LogEntry, Tile};
 use xmpp_report::{
@@ -45,8 +45,7 @@ fn entry(alloc: Global) -> Result<Entry, NoMemory> {
         lang: Text::new(alloc),
         text: text(alloc, "hi bob")?,
     })?;
-    Ok(Entry {
-        number: 1,
+    let message = ArchivedMessage {
         stamp: 1500,
         from: full_address(alloc, "alice", "phone")?,
         to: bare_address(alloc, "bob")?,
@@ -54,7 +53,8 @@ fn entry(alloc: Global) -> Result<Entry, NoMemory> {
         id: Text::new(alloc),
         origin: origin_of(alloc, "phone", 2, 1)?,
         bodies,
-    })
+    };
+    Entry::new(alloc, 1, message)
 }
 
 fn greeting(alloc: Global) -> Result<EntryLine, NoMemory> {

@@ -8,11 +8,11 @@ ghost use Rattle.xmpp_edge.specs.Names.{place_of};
 ghost use Rattle.xmpp_schedule.specs.Schedules.{steps_of};
 ghost use Rattle.xmpp_schedule.specs.Standing.{AreRight};
 
+use crate::run::account_names::AccountName;
 use std::alloc::Global;
 use std::marker::Model;
 use xmpp_archive::{Archive, ArchiveFault, Entry};
-use xmpp_edge::{Copied, NameIndex, NoMemory, Text};
-use xmpp_report::bare_address;
+use xmpp_edge::{Copied, NameIndex, NoMemory};
 use xmpp_schedule::{Line, Step};
 
 /// How many entries an archive keeps: all that can come.
@@ -21,7 +21,7 @@ const KEEP: u32 = 4_294_967_295;
 /// An account and its archive.
 #[derive(Drop)]
 pub(crate) struct Account {
-    pub(crate) name: Text,
+    pub(crate) name: AccountName,
     pub(crate) archive: Archive,
 }
 
@@ -61,9 +61,11 @@ impl Accounts {
         ensures ok { OnOk result (self.new.homes ≡ self.old.homes ++ empty_home name.now ∷ []) }
         ensures err { OnErr result (self.new.homes ≡ self.old.homes) }
     {
+        let named = AccountName::new(alloc, name)?;
+        let owner = named.address().copied(alloc)?;
         let account = Account {
-            name: Text::from_str(alloc, name)?,
-            archive: Archive::new(alloc, bare_address(alloc, name)?, KEEP),
+            name: named,
+            archive: Archive::new(alloc, owner, KEEP),
         };
         self.accounts.reserve(1)?;
         self.index.add(alloc, name)?;
@@ -103,6 +105,14 @@ impl Accounts {
         ensures nowhere { IfNone result (is_among name.now (names_of self.now.homes) ≡ false) }
     {
         self.index.find(name)
+    }
+
+    /// The name of the account at a place.
+    pub(crate) fn name(&self, place: usize) -> &AccountName
+        requires { place < length self.now.homes }
+        ensures { slice_get (names_of self.now.homes) place ≡ Some result.now }
+    {
+        &self.accounts[place].name
     }
 
     /// The archive of the account at a place.

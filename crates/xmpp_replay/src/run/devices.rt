@@ -1,19 +1,35 @@
 //! The devices of a run.
 ghost use Rattle.std.specs.Prelude.{◌≡◌, [], None, IfOk};
+ghost use Rattle.xmpp_report.specs.Addresses.{full_address};
 
 use std::alloc::Global;
+use std::marker::Model;
 use xmpp_edge::{ListOf, NoMemory, Text};
 use xmpp_log::Log;
-use xmpp_report::SaidLines;
+use xmpp_report::{SaidLines, full_address};
 
-/// A device: its account and that account's place, what it said, and its log.
+/// A device: its account and that account's place, what it said, and its log. Its full address is made once for all its
+/// messages; contracts see the other fields.
 #[derive(Drop)]
 pub(crate) struct Device {
     pub(crate) name: Text,
     pub(crate) account: Text,
+    address: Text,
     pub(crate) home: usize,
     pub(crate) said: SaidLines,
     pub(crate) log: Log,
+}
+
+impl Model for Device {
+    ghost use Rattle.std.specs.Prelude.{◌≡◌};
+    ghost use Rattle.xmpp_report.specs.Addresses.{full_address};
+    ghost use Rattle.xmpp_replay.specs.Devices.{DeviceState};
+
+    ghost Value = { DeviceState };
+
+    ghost view = { λ d. record { name = d.name; account = d.account; home = d.home; said = d.said; log = d.log } };
+
+    ghost invariant = { λ d. d.address ≡ full_address d.account d.name };
 }
 
 impl Device {
@@ -31,11 +47,19 @@ impl Device {
         ensures log { IfOk result (λ d. d.log ≡ record { entries = []; tiles = []; page = None }) }
     {
         Ok(Device {
-            name: Text::from_str(alloc, name)?,
+            name: Text::from_str(alloc, name)?.shared()?,
             account: Text::from_str(alloc, account)?,
+            address: full_address(alloc, account, name)?.shared()?,
             home,
             said: ListOf::new(alloc),
             log: Log::new(alloc),
         })
+    }
+
+    /// Its full address, whose copies share its characters.
+    pub(crate) fn address(&self) -> &Text
+        ensures { result.now ≡ full_address self.now.account self.now.name }
+    {
+        &self.address
     }
 }

@@ -1,29 +1,29 @@
 //! A device's message on its way into the archives.
-ghost use Rattle.std.specs.Prelude.{◌≡◌, ◌+◌, ◌<◌, ◌∷◌, ◌++◌, [], length, OnOk, OnErr, IfOk};
+ghost use Rattle.std.specs.Prelude.{◌≡◌, ◌+◌, ◌<◌, ◌∷◌, ◌++◌, [], length, slice_get, Some, OnOk, OnErr, IfOk};
 ghost use Rattle.std.specs.List.{All};
 ghost use Rattle.xmpp_report.specs.Takes.{entry_of};
-ghost use Rattle.xmpp_report.specs.Addresses.{full_address, origin_of};
+ghost use Rattle.xmpp_report.specs.Addresses.{bare_address, full_address, origin_of};
 ghost use Rattle.xmpp_report.specs.Lines.{take_line};
-ghost use Rattle.xmpp_replay.specs.Homes.{Home, delivered};
+ghost use Rattle.xmpp_replay.specs.Homes.{Home, delivered, names_of};
 ghost use Rattle.xmpp_replay.specs.Messages.{HasSaid, homes_after, said_by, sent_of, take_by, takes_after};
 
+use crate::run::account_names::AccountName;
 use crate::run::accounts::Accounts;
 use crate::run::devices::Device;
 use std::alloc::Global;
-use xmpp_archive::{Bodies, Body, Entry};
-use xmpp_edge::{ListOf, NoMemory, Text};
-use xmpp_report::{SaidLine, SaidMark, TakeLine, TakeLines, bare_address, full_address, origin_of};
+use xmpp_archive::{ArchivedMessage, Bodies, Body, Entry};
+use xmpp_edge::{Copied, ListOf, NoMemory, Text};
+use xmpp_report::{SaidLine, SaidMark, TakeLine, TakeLines, origin_of};
 
 /// The bodies of a message with a text in no language.
-fn bodies_of(alloc: Global, text: &str) -> Result<Bodies, NoMemory>
+fn bodies_of(alloc: Global, text: &Text) -> Result<Bodies, NoMemory>
     ensures { IfOk result (λ bodies. bodies.items ≡ record { lang = []; text = text.now } ∷ []) }
 {
-    let mut bodies = ListOf::new(alloc);
-    bodies.push(Body {
+    let body = Body {
         lang: Text::new(alloc),
-        text: Text::from_str(alloc, text)?,
-    })?;
-    Ok(bodies)
+        text: text.copied(alloc)?,
+    };
+    Ok(ListOf::from(Vec::from_array(alloc, [body])?))
 }
 
 /// The number of a device's next message.
@@ -35,47 +35,63 @@ fn next_number(device: &Device) -> u64
 }
 
 /// The archive entry of a device's next message, without a number.
-fn sent_entry(alloc: Global, device: &Device, to: &str, text: &str) -> Result<Entry, NoMemory>
+fn sent_entry(
+    alloc: Global,
+    device: &Device,
+    to: &AccountName,
+    text: &Text,
+) -> Result<Entry, NoMemory>
     requires { sent_of device.now < 100000 }
     ensures { IfOk result (λ e. e ≡ entry_of (take_by device.now to.now text.now)) }
 {
     let number = next_number(device);
-    Ok(Entry {
-        number: 0,
+    let origin = origin_of(alloc, device.name.as_str(), 1, number)?.shared()?;
+    let message = ArchivedMessage {
         stamp: 0,
-        from: full_address(alloc, device.account.as_str(), device.name.as_str())?,
-        to: bare_address(alloc, to)?,
+        from: device.address().copied(alloc)?,
+        to: to.address().copied(alloc)?,
         normal: false,
-        id: origin_of(alloc, device.name.as_str(), 1, number)?,
-        origin: origin_of(alloc, device.name.as_str(), 1, number)?,
+        id: origin.copied(alloc)?,
+        origin,
         bodies: bodies_of(alloc, text)?,
-    })
+    };
+    Entry::new(alloc, 0, message)
 }
 
 /// The report's line of the take of a device's next message.
-fn take_line(alloc: Global, device: &Device, to: &str) -> Result<TakeLine, NoMemory>
+fn take_line(alloc: Global, device: &Device, to: &AccountName) -> Result<TakeLine, NoMemory>
     requires { sent_of device.now < 100000 }
     ensures { IfOk result (λ line. line ≡ take_line (take_by device.now to.now [])) }
 {
     Ok(TakeLine {
-        device: Text::from_str(alloc, device.name.as_str())?,
+        device: device.name.copied(alloc)?,
         epoch: 1,
         n: next_number(device),
-        account: Text::from_str(alloc, to)?,
+        account: to.text().copied(alloc)?,
     })
 }
 
+/// The name of a message's recipient, shared with its account where it has one.
+fn recipient(alloc: Global, accounts: &Accounts, to: &str) -> Result<Text, NoMemory>
+    ensures { IfOk result (λ name. name ≡ to.now) }
+{
+    match accounts.find(to) {
+        Some(place) => accounts.name(place).text().copied(alloc),
+        None => Text::from_str(alloc, to),
+    }
+}
+
 /// The report's line of a device's next message.
-fn said_line(alloc: Global, device: &Device, to: &str, text: &str) -> Result<SaidLine, NoMemory>
+fn said_line(alloc: Global, device: &Device, to: Text, text: &Text) -> Result<SaidLine, NoMemory>
     requires { sent_of device.now < 100000 }
-    ensures { IfOk result (λ line. line ≡ said_by device.now to.now text.now) }
+    ensures { IfOk result (λ line. line ≡ said_by device.now to text.now) }
 {
     Ok(SaidLine {
         epoch: 1,
         n: next_number(device),
         state: SaidMark::Acknowledged,
-        to: Text::from_str(alloc, to)?,
-        text: Text::from_str(alloc, text)?,
+        to,
+        text: text.copied(alloc)?,
     })
 }
 
@@ -88,19 +104,20 @@ fn take_message(
     takes: &mut TakeLines,
     place: usize,
     to: &str,
-    text: &str,
+    text: &Text,
 ) -> Result<(), NoMemory>
     requires sent { sent_of device.now < 100000 }
     requires home { device.now.home < length accounts.old.homes }
     requires place { place < length accounts.old.homes }
+    requires named { slice_get (names_of accounts.old.homes) place ≡ Some to.now }
     requires few { All (λ (home : Home). length home.entries < 4294967294) accounts.old.homes }
     ensures homes { OnOk result (accounts.new.homes ≡ delivered device.now.home place (entry_of (take_by device.now to.now text.now)) accounts.old.homes) }
     ensures takes { OnOk result (takes.new.items ≡ takes.old.items ++ take_line (take_by device.now to.now text.now) ∷ []) }
     ensures refused_homes { OnErr result (accounts.new.homes ≡ accounts.old.homes) }
     ensures refused_takes { OnErr result (takes.new.items ≡ takes.old.items) }
 {
-    let line = take_line(alloc, device, to)?;
-    let entry = sent_entry(alloc, device, to, text)?;
+    let line = take_line(alloc, device, accounts.name(place))?;
+    let entry = sent_entry(alloc, device, accounts.name(place), text)?;
     takes.reserve(1)?;
     accounts.deliver(alloc, device.home, place, entry)?;
     takes.push_reserved(line);
@@ -115,7 +132,7 @@ fn take_if_known(
     accounts: &mut Accounts,
     takes: &mut TakeLines,
     to: &str,
-    text: &str,
+    text: &Text,
 ) -> Result<(), NoMemory>
     requires sent { sent_of device.now < 100000 }
     requires home { device.now.home < length accounts.old.homes }
@@ -139,7 +156,7 @@ pub(crate) fn say(
     accounts: &mut Accounts,
     takes: &mut TakeLines,
     to: &str,
-    text: &str,
+    text: &Text,
 ) -> Result<(), NoMemory>
     requires sent { sent_of device.old < 100000 }
     requires home { device.old.home < length accounts.old.homes }
@@ -151,7 +168,7 @@ pub(crate) fn say(
     ensures refused_takes { OnErr result (takes.new.items ≡ takes.old.items) }
     ensures refused_said { OnErr result (device.new.said.items ≡ device.old.said.items) }
 {
-    let line = said_line(alloc, device, to, text)?;
+    let line = said_line(alloc, device, recipient(alloc, accounts, to)?, text)?;
     device.said.reserve(1)?;
     take_if_known(alloc, device, accounts, takes, to, text)?;
     device.said.push_reserved(line);

@@ -82,7 +82,7 @@ fn copy_result(
         unreachable!()
     };
     let logged = LogEntry {
-        id: id_of_number(alloc, entry.number)?,
+        id: id_of_number(alloc, entry.number())?,
         entry: entry.copied(alloc)?,
     };
     match log.result(queryid, logged) {

@@ -17,7 +17,7 @@ fn account_line(alloc: Global, account: Account) -> Result<AccountLine, NoMemory
     let Account { name, archive } = account;
     let count = archive.len();
     Ok(AccountLine {
-        name,
+        name: name.into_text(),
         count,
         entries: entry_lines(alloc, archive.into_entries())?,
     })
@@ -28,6 +28,7 @@ pub(crate) fn account_lines(alloc: Global, accounts: Vec<Account>) -> Result<Acc
     ensures { IfOk result (λ lines. lines.items ≡ map home_line (map home_of_account accounts.items)) }
 {
     let mut lines = ListOf::new(alloc);
+    lines.reserve(accounts.len())?;
     for account in accounts {
         lines.push(account_line(alloc, account)?)?;
     }
@@ -64,6 +65,7 @@ pub(crate) fn device_lines(alloc: Global, devices: Vec<Device>) -> Result<Device
     ensures { IfOk result (λ lines. lines.items ≡ map state_line devices.items) }
 {
     let mut lines = ListOf::new(alloc);
+    lines.reserve(devices.len())?;
     for device in devices {
         lines.push(device_line(alloc, device)?)?;
     }

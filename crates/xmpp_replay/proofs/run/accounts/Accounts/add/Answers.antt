@@ -9,14 +9,14 @@ use Rattle.xmpp_replay.proofs.run.accounts.Accounts.add.Goals as goal
 pub invariant_of-self-2 : goal.invariant_of-self-2
 invariant_of-self-2 c =
     let items = c.self.inside.accounts.items in
-    let account : Account = record { name = c.in_ok-from_str.field-0; archive = c.new.result } in
+    let account : Account = record { name = c.in_ok-named.named; archive = c.new-2.result } in
     let all : c.push.new.self.items ≡ items ++ account ∷ [] = c.in-Ok.ensures.items ∙ ap (λ l. l ++ account ∷ []) c.reserve.ensures.items in
-    let whole : IsWhole c.new.result = whole_empty c.new.result c.new.ensures.keep c.new.ensures.last c.new.ensures.entries in
+    let whole : IsWhole c.new-2.result = whole_empty c.new-2.result c.new-2.ensures.keep c.new-2.ensures.last c.new-2.ensures.entries in
     let homes : map home_of_account (items ++ account ∷ []) ≡ map home_of_account items ++ home_of_account account ∷ [] = map-append home_of_account items (account ∷ []) in
     let names : names_of (map home_of_account items ++ home_of_account account ∷ []) ≡ names_of (map home_of_account items) ++ account.name ∷ [] =
     map-append (λ (h : Home). h.name) (map home_of_account items) (home_of_account account ∷ []) in
     rw all (
-      c.in_ok-add.ensures.ok ∙ ap (λ l. l ++ c.args.name.now ∷ []) c.self.invariant.0 ∙ ap (λ n. names_of (map home_of_account items) ++ n ∷ []) (sym c.in_ok-from_str.ensures)
+      c.in_ok-add.ensures.ok ∙ ap (λ l. l ++ c.args.name.now ∷ []) c.self.invariant.0 ∙ ap (λ n. names_of (map home_of_account items) ++ n ∷ []) (sym c.in_ok-named.ensures)
           ∙ sym (ap names_of homes ∙ names),
       whole_push items account c.self.invariant.1 whole,
     )

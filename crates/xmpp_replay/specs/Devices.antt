@@ -1,0 +1,13 @@
+-- What clauses see of a device in a run.
+use Rattle.std.specs.Prelude.{ℕ, List}
+use Rattle.xmpp_edge.specs.Listed.{Listed}
+use Rattle.xmpp_log.specs.Views.{LogView}
+use Rattle.xmpp_report.specs.declared.report.SaidLine.{SaidLine}
+
+-- its name, its account and that account's place, what it said, and its log
+pub record DeviceState : Type 0 where
+  pub name : List ℕ
+  pub account : List ℕ
+  pub home : ℕ
+  pub said : Listed SaidLine
+  pub log : LogView
