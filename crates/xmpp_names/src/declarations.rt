@@ -49,7 +49,7 @@ fn has_declaration(attributes: &[RawAttribute]) -> bool
     false
 }
 
-// Adds what a declaration binds.
+// Adds what a declaration binds. The namespace is shared from here on.
 fn declare(
     alloc: Global,
     bindings: &mut Vec<Binding>,
@@ -59,6 +59,7 @@ fn declare(
     ensures { OnOk result (bindings.new.items ≡ bindings.old.items ++ record { prefix = prefix.now; ns = ns } ∷ []) }
 {
     let prefix = Text::from_str(alloc, prefix)?;
+    let ns = ns.shared()?;
     bindings.push(Binding { prefix, ns })?;
     Ok(())
 }

@@ -9,7 +9,7 @@ ghost use Rattle.xmpp_tokens.specs.Tags.{names_of};
 
 use crate::index::indexed_names;
 use crate::names::split_name;
-use crate::scopes::{Binding, bound_in};
+use crate::scopes::{Binding, bound_copy, bound_in};
 use std::alloc::Global;
 use xmpp_edge::{NoMemory, Text};
 use xmpp_tokens::RawAttribute;
@@ -54,6 +54,28 @@ pub(crate) fn element_ns<'a>(
     bound_in(own, stack, prefix)
 }
 
+// The same as a text. The empty one takes no memory, nor does a copy of a declared one.
+#[tactic(auto, unfolding(crate::specs::Expansion::element_ns))]
+pub(crate) fn element_ns_copy(
+    alloc: Global,
+    own: &[Binding],
+    stack: &[Vec<Binding>],
+    prefix: &str,
+) -> Result<Option<Text>, NoMemory>
+    ensures { IfOk result (λ o. o ≡ Expansion.element_ns (own.now ++ scope_of stack.now) prefix.now) }
+{
+    if prefix.is_empty() {
+        return match bound_copy(alloc, own, stack, prefix)? {
+            Some(ns) => Ok(Some(ns)),
+            None => Ok(Some(Text::new(alloc))),
+        };
+    }
+    if prefix == "xmlns" {
+        return Ok(None);
+    }
+    bound_copy(alloc, own, stack, prefix)
+}
+
 // The namespace of an attribute whose name has this prefix.
 #[tactic(auto, unfolding(crate::specs::Expansion::attribute_ns))]
 pub(crate) fn attribute_ns<'a>(
@@ -67,6 +89,22 @@ pub(crate) fn attribute_ns<'a>(
         return Some("");
     }
     bound_in(own, stack, prefix)
+}
+
+// The same as a text. The empty one takes no memory, nor does a copy of a declared one.
+#[tactic(auto, unfolding(crate::specs::Expansion::attribute_ns))]
+fn attribute_ns_copy(
+    alloc: Global,
+    own: &[Binding],
+    stack: &[Vec<Binding>],
+    prefix: &str,
+) -> Result<Option<Text>, NoMemory>
+    ensures { IfOk result (λ o. o ≡ Expansion.attribute_ns (own.now ++ scope_of stack.now) prefix.now) }
+{
+    if prefix.is_empty() {
+        return Ok(Some(Text::new(alloc)));
+    }
+    bound_copy(alloc, own, stack, prefix)
 }
 
 // The expanded name of an attribute.
@@ -107,6 +145,7 @@ pub(crate) fn expanded_names<'a>(
 }
 
 // An attribute with its expanded name, if it has one.
+#[tactic(auto, unfolding(crate::specs::Expansion::expanded_name))]
 fn expanded_attribute(
     alloc: Global,
     own: &[Binding],
@@ -117,10 +156,11 @@ fn expanded_attribute(
         ≡ Expansion.expanded_attribute (own.now ++ scope_of stack.now) (attribute_of attribute.entry)) }
 {
     let RawAttribute { name, value } = attribute;
-    match expanded_name(own, stack, name) {
-        Some(expanded) => Ok(Some(ExpandedAttribute {
-            ns: Text::from_str(alloc, expanded.ns)?,
-            name: Text::from_str(alloc, expanded.local)?,
+    let (prefix, local) = split_name(name);
+    match attribute_ns_copy(alloc, own, stack, prefix)? {
+        Some(ns) => Ok(Some(ExpandedAttribute {
+            ns,
+            name: Text::from_str(alloc, local)?,
             value,
         })),
         None => Ok(None),

@@ -8,7 +8,7 @@ use crate::expansion::ExpandedAttribute;
 use crate::scopes::{Binding, XML_NAMESPACE, first_bound};
 use crate::starts::Tag;
 use std::alloc::Global;
-use xmpp_edge::{NoMemory, Text};
+use xmpp_edge::{Copied, NoMemory, Text};
 
 /// The namespace of a stream's header (RFC 6120, section 4.8.1).
 pub const STREAMS_NAMESPACE: &str = "http://etherx.jabber.org/streams";
@@ -110,10 +110,13 @@ fn values_of(attributes: Vec<ExpandedAttribute>) -> HeaderValues
 }
 
 // The default namespace that a tag declares, or the empty text.
-fn declared_default(tag: &Tag) -> &str
-    ensures { result.now ≡ Headers.content_of (tag_view tag.now) }
+fn declared_default(alloc: Global, tag: &Tag) -> Result<Text, NoMemory>
+    ensures { IfOk result (λ t. t ≡ Headers.content_of (tag_view tag.now)) }
 {
-    first_bound(tag.bindings.as_slice(), "").unwrap_or("")
+    match first_bound(tag.bindings.as_slice(), "") {
+        Some(ns) => Ok(ns.copied(alloc)?),
+        None => Ok(Text::new(alloc)),
+    }
 }
 
 /// Whether a tag is that of a stream's header: `stream` in the streams namespace (RFC 6120, section 4.8.1).
@@ -153,7 +156,7 @@ pub fn header_of(alloc: Global, tag: Tag) -> Result<HeaderTag, NoMemory>
     ensures empty { IfOk result (λ h. h.empty ≡ tag.empty) }
 {
     let spelled = spelled_name(alloc, &tag)?;
-    let content = Text::from_str(alloc, declared_default(&tag))?;
+    let content = declared_default(alloc, &tag)?;
     let Tag {
         ns,
         name,

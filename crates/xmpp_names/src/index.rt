@@ -15,7 +15,7 @@ ghost use Rattle.xmpp_tokens.specs.Tags.{names_of};
 
 use crate::expansion::ExpandedName;
 use crate::names::split_name;
-use crate::scopes::{Binding, XML_NAMESPACE, stack_bound};
+use crate::scopes::{Binding, XML_NAMESPACE, stack_name};
 use std::alloc::Global;
 use std::collections::BTreeMap;
 use xmpp_edge::NoMemory;
@@ -65,7 +65,7 @@ fn bound_by<'a>(index: &Index<'a>, stack: &'a [Vec<Binding>], prefix: &str) -> O
     }
     match index.first.get(prefix) {
         Some(ns) => Some(*ns),
-        None => stack_bound(stack, prefix),
+        None => stack_name(stack, prefix),
     }
 }
 

@@ -14,7 +14,9 @@ ghost use Rattle.xmpp_tokens.specs.Tags;
 ghost use Rattle.xmpp_tokens.specs.Tags.{names_of, tag_of};
 
 use crate::declarations::{PartedAttributes, all_may_declare, part};
-use crate::expansion::{ExpandedAttribute, element_ns, expanded_attributes, expanded_names};
+use crate::expansion::{
+    ExpandedAttribute, element_ns, element_ns_copy, expanded_attributes, expanded_names,
+};
 use crate::fault::{StartFault, StartWhy};
 use crate::limits::TagLimits;
 use crate::names::{is_prefixed, split_name, split_prefix};
@@ -151,10 +153,10 @@ fn finished(
 {
     let PartedAttributes { bindings, others } = parted;
     let (prefix, local) = split_prefix(spelled);
-    let Some(ns) = element_ns(bindings.as_slice(), stack, prefix.unwrap_or("")) else {
+    let found = element_ns_copy(alloc, bindings.as_slice(), stack, prefix.unwrap_or(""))?;
+    let Some(ns) = found else {
         return Ok(None);
     };
-    let ns = Text::from_str(alloc, ns)?;
     let name = Text::from_str(alloc, local)?;
     let prefix = copied(alloc, prefix)?;
     match expanded_attributes(alloc, bindings.as_slice(), stack, others)? {

@@ -13,5 +13,5 @@ returns-in-Some c =
 pub returns-in-None : goal.returns-in-None
 returns-in-None c =
     let p = c.args.prefix.now in
-    c.stack_bound.ensures ∙ sym (bound_own c.args.index.now.own.now (scope_of c.args.stack.now) p None (sym c.eq.ensures ∙ c.if-eq.false)
+    c.stack_name.ensures ∙ sym (bound_own c.args.index.now.own.now (scope_of c.args.stack.now) p None (sym c.eq.ensures ∙ c.if-eq.false)
     (ap (option_map (λ (s : Bor (List ℕ)). s.now)) c.in-None.ensures.value ∙ c.requires p))

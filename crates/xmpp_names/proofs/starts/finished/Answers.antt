@@ -17,16 +17,16 @@ returns-in-Some-2 c =
     let others = map attribute_of c.args.parted.others.items in
     ap (λ (s : List ℕ). Some (record {
       spelled = s;
-      ns = c.in_ok-ns.ns;
+      ns = c.in-Some.ns;
       name = c.in_ok-name.name;
       attributes = c.in-Some-2.attributes.items;
       bindings = own;
       empty = c.args.empty;
     })) (ap (λ p. with_prefix p c.in_ok-name.name) c.in_ok-prefix.ensures ∙ ap (with_prefix (option_map (λ p. p.now) c.split_prefix.result.0)) c.in_ok-name.ensures ∙ c.split_prefix.ensures.spelled)
-    ∙ finished_tag scope name own others c.args.empty c.requires c.in_ok-ns.ns c.in_ok-name.name c.in-Some-2.attributes.items
+    ∙ finished_tag scope name own others c.args.empty c.requires c.in-Some.ns c.in_ok-name.name c.in-Some-2.attributes.items
     (ap (λ s. element_ns (s ++ scope) (prefix_of name)) (sym c.as_slice.ensures.value)
     ∙ ap (element_ns (c.as_slice.result.now ++ scope)) (sym (ap (λ p. p.now) c.unwrap_or.ensures ∙ prefix_or_nothing c.split_prefix.result.0 _ refl ∙ c.split_prefix.ensures.prefix))
-    ∙ sym c.in-Some.ensures ∙ ap Some (sym c.in_ok-ns.ensures))
+    ∙ sym c.in_ok-found.ensures ∙ c.in-Some.is)
     (c.in_ok-name.ensures ∙ c.split_prefix.ensures.local)
     (ap (λ s. expanded_attributes (s ++ scope) others) (sym c.as_slice-2.ensures.value)
     ∙ sym c.in_ok-attributes.ensures ∙ ap (option_map (λ (v : Vec ExpandedAttribute Global). v.items)) c.in-Some-2.is)
