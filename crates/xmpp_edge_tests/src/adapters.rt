@@ -1,7 +1,6 @@
 //! Sources and sinks: whole reads and writes over short and failing calls, and the adapters over std.
 use std::alloc::Global;
 use std::io;
-use std::test::Fail;
 use xmpp_edge::{
     Bytes, Failed, MemorySink, MemorySource, NoMemory, Numbers, ReadAllFault, Source, StdSink,
     StdSource, SureSink, SureSource, WriteFault, read_all, write_all,
@@ -18,29 +17,28 @@ fn read_from<S: Source + Drop>(alloc: Global, mut source: S) -> Result<usize, Re
     Ok(read_all(alloc, &mut source)?.as_slice().len())
 }
 
+/// How many of 300 bytes are read in steps of so many, or from a source that never fails where that is 0.
 fn read_in_steps(alloc: Global, step: usize, call: u64) -> Result<usize, ReadAllFault> {
-    if step == 0 {
-        return Ok(0);
-    }
     let bytes = Bytes::from_slice(alloc, &[7; 300])?;
+    if step == 0 {
+        return read_from(alloc, SureSource::new(bytes));
+    }
     read_from(alloc, MemorySource::new(bytes, step, failing(alloc, call)?))
 }
 
 /// Bytes a call, the call that fails, and what comes of it.
-static READS: [(usize, u64, Result<usize, ReadAllFault>); 3] = [
+static READS: [(usize, u64, Result<usize, ReadAllFault>); 4] = [
+    (0, 0, Ok(300)),
     (1, 0, Ok(300)),
     (7, 0, Ok(300)),
     (64, 3, Err(ReadAllFault::ReadFault)),
 ];
 
 #[test]
-fn a_source_is_read_whole_whatever_its_steps(rt: HostRuntime) -> Result<(), Fail> {
+fn a_source_is_read_whole_whatever_its_steps(rt: HostRuntime) {
     for (step, call, read) in &READS {
         assert!(rt; read_in_steps(rt.alloc(), *step, *call) == *read);
     }
-    let bytes = Bytes::from_slice(rt.alloc(), &[7; 300])?;
-    assert!(rt; read_from(rt.alloc(), SureSource::new(bytes)) == Ok(300));
-    Ok(())
 }
 
 fn written_in_steps(alloc: Global, call: u64) -> Result<(bool, usize), NoMemory> {
@@ -50,11 +48,12 @@ fn written_in_steps(alloc: Global, call: u64) -> Result<(bool, usize), NoMemory>
 }
 
 #[test]
-fn a_write_that_fails_leaves_a_prefix(rt: HostRuntime) -> Result<(), Fail> {
-    assert!(rt; written_in_steps(rt.alloc(), 3)? == (false, 128));
-    assert!(rt; written_in_steps(rt.alloc(), 9)? == (true, 300));
-    assert!(rt; write_all(&mut SureSink::new(), &[7; 300]).is_ok());
-    Ok(())
+fn a_write_that_fails_leaves_a_prefix(rt: HostRuntime) {
+    assert!(rt;
+        written_in_steps(rt.alloc(), 3) == Ok((false, 128))
+            && written_in_steps(rt.alloc(), 9) == Ok((true, 300))
+            && write_all(&mut SureSink::new(), &[7; 300]).is_ok()
+    );
 }
 
 /// A reader that is interrupted, gives two bytes, and fails from then on.
@@ -84,13 +83,6 @@ fn broken_reads() -> [Result<usize, Failed>; 2] {
     [source.read(&mut buf), source.read(&mut buf)]
 }
 
-#[test]
-fn readers_of_std_are_sources(rt: HostRuntime) -> Result<(), Fail> {
-    assert!(rt; read_from(rt.alloc(), StdSource::new(b"from a reader".as_slice())) == Ok(13));
-    assert!(rt; broken_reads() == [Ok(2), Err(Failed)]);
-    Ok(())
-}
-
 fn is_kept(alloc: Global, bytes: &[u8]) -> bool {
     let mut kept: Vec<u8> = Vec::new(alloc);
     let whole = write_all(&mut StdSink::new(&mut kept), bytes).is_ok();
@@ -104,8 +96,11 @@ fn kept_of_four() -> (bool, [u8; 3]) {
 }
 
 #[test]
-fn writers_of_std_are_sinks(rt: HostRuntime) -> Result<(), Fail> {
-    assert!(rt; is_kept(rt.alloc(), b"to a writer"));
-    assert!(rt; kept_of_four() == (true, *b"abc"));
-    Ok(())
+fn readers_and_writers_of_std_are_sources_and_sinks(rt: HostRuntime) {
+    assert!(rt;
+        read_from(rt.alloc(), StdSource::new(b"from a reader".as_slice())) == Ok(13)
+            && broken_reads() == [Ok(2), Err(Failed)]
+            && is_kept(rt.alloc(), b"to a writer")
+            && kept_of_four() == (true, *b"abc")
+    );
 }

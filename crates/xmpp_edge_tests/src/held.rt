@@ -5,85 +5,119 @@ use xmpp_edge::{
     Bytes, Copied, Failed, NameIndex, Names, NoMemory, Numbers, ReadAllFault, Text, WriteFault,
 };
 
-/// A text, a copy of it as it is, and one of it shared.
-fn is_copied(alloc: Global, given: &str) -> Result<bool, NoMemory> {
-    let owned = Text::from_str(alloc, given)?;
-    let copy = owned.copied(alloc)?;
-    let shared = owned.shared()?;
-    let other = shared.copied(alloc)?;
-    Ok(copy.as_str() == given && shared.as_str() == given && other.as_str() == given)
+fn is_copy(alloc: Global, text: &Text, given: &str) -> bool {
+    match text.copied(alloc) {
+        Ok(copy) => copy.as_str() == given,
+        Err(_) => false,
+    }
 }
 
-fn is_printed(alloc: Global, given: &str, shown: &str) -> Result<bool, NoMemory> {
+fn is_shared(alloc: Global, text: Text, given: &str) -> bool {
+    match text.shared() {
+        Ok(shared) => shared.as_str() == given && is_copy(alloc, &shared, given),
+        Err(_) => false,
+    }
+}
+
+fn is_printed(alloc: Global, text: &Text, shown: &str) -> bool {
+    match format!(in alloc; "{text} {text:?}") {
+        Ok(printed) => printed.as_str() == shown,
+        Err(_) => false,
+    }
+}
+
+/// A text is copied and printed as it is, and copied when it is shared.
+fn is_held(alloc: Global, given: &str, shown: &str) -> Result<bool, NoMemory> {
     let text = Text::from_str(alloc, given)?;
-    Ok(format!(in alloc; "{text} {text:?}")?.as_str() == shown)
+    let owned = is_copy(alloc, &text, given) && is_printed(alloc, &text, shown);
+    Ok(is_shared(alloc, text, given) && owned)
 }
 
-fn is_gathered(alloc: Global, parts: [&[u8]; 3], whole: &[u8]) -> Result<bool, NoMemory> {
-    let mut bytes = Bytes::from_slice(alloc, parts[0])?;
-    bytes.append(parts[1])?;
-    bytes.reserve(parts[2].len())?;
-    bytes.append_reserved(parts[2]);
+/// Texts, and how they are printed, also for a reader.
+static TEXTS: [(&str, &str); 2] = [("", " \"\""), ("käse", "käse \"käse\"")];
+
+#[test]
+fn texts_are_copied_and_printed(rt: HostRuntime) -> Result<(), Fail> {
+    for (given, shown) in &TEXTS {
+        assert!(rt; is_held(rt.alloc(), given, shown)?);
+    }
+    Ok(())
+}
+
+fn gather(bytes: &mut Bytes, part: &[u8], last: &[u8]) -> Result<(), NoMemory> {
+    bytes.append(part)?;
+    bytes.reserve(last.len())?;
+    bytes.append_reserved(last);
+    Ok(())
+}
+
+fn is_gathered(alloc: Global, whole: &[u8]) -> Result<bool, NoMemory> {
+    let mut bytes = Bytes::from_slice(alloc, b"ab")?;
+    gather(&mut bytes, b"cd", b"ef")?;
     Ok(bytes.as_slice() == whole)
 }
 
-fn numbers(alloc: Global, items: [u64; 3]) -> Result<Numbers, NoMemory> {
-    let mut list = Numbers::new(alloc);
-    list.push(items[0])?;
-    list.push(items[1])?;
-    list.reserve(1)?;
-    list.push_reserved(items[2]);
-    Ok(list)
+fn list(numbers: &mut Numbers, first: u64, second: u64) -> Result<(), NoMemory> {
+    numbers.push(first)?;
+    numbers.reserve(1)?;
+    numbers.push_reserved(second);
+    Ok(())
 }
 
-fn are_listed(alloc: Global, items: [u64; 3]) -> Result<bool, NoMemory> {
-    let copy = numbers(alloc, items)?.copy(alloc)?;
-    Ok(copy.as_slice() == items.as_slice() && copy.into_items().len() == 3)
+fn are_listed(alloc: Global, numbers: &[u64]) -> Result<bool, NoMemory> {
+    let mut listed = Numbers::new(alloc);
+    list(&mut listed, 3, 1)?;
+    Ok(listed.as_slice() == numbers)
 }
 
-fn are_copied(alloc: Global, name: &str) -> Result<bool, NoMemory> {
+fn is_alone(names: &[Text], name: &str) -> bool {
+    names.len() == 1 && names[0].as_str() == name
+}
+
+fn are_copied(alloc: Global, names: &Names, name: &str) -> bool {
+    match names.copy(alloc) {
+        Ok(copy) => is_alone(copy.as_slice(), name),
+        Err(_) => false,
+    }
+}
+
+fn is_name_copied(alloc: Global, name: &str) -> Result<bool, NoMemory> {
     let mut names = Names::new(alloc);
     names.push(Text::from_str(alloc, name)?)?;
-    let copy = names.copy(alloc)?;
-    Ok(copy.as_slice().len() == 1 && copy.as_slice()[0].as_str() == name)
+    Ok(are_copied(alloc, &names, name))
 }
 
-#[test]
-fn what_is_held_is_copied(rt: HostRuntime) -> Result<(), Fail> {
-    for given in ["", "käse"] {
-        assert!(rt; is_copied(rt.alloc(), given)?);
+fn add(alloc: Global, index: &mut NameIndex, name: &str) -> Result<(), NoMemory> {
+    if index.contains(name) {
+        return Ok(());
     }
-    assert!(rt; is_printed(rt.alloc(), "käse", "käse \"käse\"")?);
-    Ok(())
+    index.add(alloc, name)
 }
 
-#[test]
-fn bytes_and_lists_are_gathered(rt: HostRuntime) -> Result<(), Fail> {
-    assert!(rt; is_gathered(rt.alloc(), [b"ab", b"cd", b"ef"], b"abcdef")?);
-    assert!(rt; are_listed(rt.alloc(), [3, 1, 2])?);
-    assert!(rt; are_copied(rt.alloc(), "phone")?);
-    Ok(())
-}
-
-/// The places of three names, of which the first two were added.
-fn places(alloc: Global, names: [&str; 3]) -> Result<[Option<usize>; 3], NoMemory> {
+/// The places of two names, of which the first was added behind another one.
+fn places(alloc: Global, name: &str, absent: &str) -> Result<[Option<usize>; 2], NoMemory> {
     let mut index = NameIndex::new(alloc);
-    for name in [names[0], names[1]] {
-        if !index.contains(name) {
-            index.add(alloc, name)?;
-        }
-    }
-    Ok([
-        index.find(names[0]),
-        index.find(names[1]),
-        index.find(names[2]),
-    ])
+    add(alloc, &mut index, "phone")?;
+    add(alloc, &mut index, name)?;
+    Ok([index.find(name), index.find(absent)])
 }
 
 #[test]
-fn names_have_places(rt: HostRuntime) -> Result<(), Fail> {
-    assert!(rt; places(rt.alloc(), ["phone", "desk", "watch"])? == [Some(0), Some(1), None]);
-    Ok(())
+fn bytes_lists_and_names_are_gathered(rt: HostRuntime) {
+    let alloc = rt.alloc();
+    assert!(rt;
+        is_gathered(alloc, b"abcdef") == Ok(true)
+            && are_listed(alloc, &[3, 1]) == Ok(true)
+            && is_name_copied(alloc, "phone") == Ok(true)
+            && places(alloc, "desk", "watch") == Ok([Some(1), None])
+    );
+}
+
+fn is_shown(alloc: Global, fault: ReadAllFault, shown: &str) -> bool {
+    match fault.to_string(alloc) {
+        Ok(text) => text.as_str() == shown,
+        Err(_) => false,
+    }
 }
 
 /// Faults and their printed texts.
@@ -93,12 +127,17 @@ static PRINTED: [(ReadAllFault, &str); 3] = [
     (ReadAllFault::NoMemory, "out of memory"),
 ];
 
-#[test]
-fn faults_say_what_they_are(rt: HostRuntime) -> Result<(), Fail> {
-    for (fault, shown) in &PRINTED {
-        assert!(rt; fault.to_string(rt.alloc())?.as_str() == *shown);
+fn are_others_shown(alloc: Global, shown: &str) -> bool {
+    match format!(in alloc; "{}, {}, {}", NoMemory, Failed, WriteFault) {
+        Ok(text) => text.as_str() == shown,
+        Err(_) => false,
     }
-    let others = format!(in rt.alloc(); "{}, {}, {}", NoMemory, Failed, WriteFault)?;
-    assert!(rt; others.as_str() == "out of memory, failed, a write failed");
-    Ok(())
+}
+
+#[test]
+fn faults_say_what_they_are(rt: HostRuntime) {
+    for (fault, shown) in &PRINTED {
+        assert!(rt; is_shown(rt.alloc(), *fault, shown));
+    }
+    assert!(rt; are_others_shown(rt.alloc(), "out of memory, failed, a write failed"));
 }

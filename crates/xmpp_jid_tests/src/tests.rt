@@ -1,7 +1,7 @@
 //! Addresses: vectors from outside, each call that takes memory, and printed texts.
 use std::alloc::Global;
 use std::test::Fail;
-use xmpp_edge::{Copied, Text};
+use xmpp_edge::{Copied, NoMemory, Text};
 use xmpp_jid::JidFault::{BadDomain, BadLocal, BadResource, Empty, TooLong};
 use xmpp_jid::{
     Jid, JidFault, domain_in_normal_form, local_in_normal_form, resource_in_normal_form,
@@ -72,7 +72,7 @@ static ACCEPTED: [(&str, &str); 50] = [
 ];
 
 // Texts that are no address.
-static REFUSED: [(&str, JidFault); 59] = [
+static REFUSED: [(&str, JidFault); 60] = [
     ("fu\u{DF}ball@example.com", BadLocal),
     ("\u{3C0}@example.com", BadLocal),
     ("\u{3A3}@example.com/foo", BadLocal),
@@ -127,6 +127,7 @@ static REFUSED: [(&str, JidFault); 59] = [
     ("b/\x1f", BadResource),
     ("b/\x7f", BadResource),
     ("b/\u{80}", BadResource),
+    ("b/a\u{85}", BadResource),
     ("b/\u{9F}e\u{301}", BadResource),
     ("a b@_/", BadLocal),
     ("@_/", Empty),
@@ -135,9 +136,11 @@ static REFUSED: [(&str, JidFault); 59] = [
 ];
 
 // Whether a text is an address whose normal form is `normal`.
-fn is_read(alloc: Global, text: &str, normal: &str) -> Result<bool, JidFault> {
-    let jid = Jid::parse(alloc, text)?;
-    Ok(jid.text() == normal)
+fn is_read(alloc: Global, text: &str, normal: &str) -> bool {
+    match Jid::parse(alloc, text) {
+        Ok(jid) => jid.text() == normal,
+        Err(_) => false,
+    }
 }
 
 // Why a text is no address, if it is none.
@@ -146,11 +149,10 @@ fn fault_of(alloc: Global, text: &str) -> Option<JidFault> {
 }
 
 #[test]
-fn reads_addresses(rt: HostRuntime) -> Result<(), Fail> {
+fn reads_addresses(rt: HostRuntime) {
     for (text, normal) in &ACCEPTED {
-        assert!(rt; is_read(rt.alloc(), text, normal)?);
+        assert!(rt; is_read(rt.alloc(), text, normal));
     }
-    Ok(())
 }
 
 #[test]
@@ -208,78 +210,133 @@ static LONG: [(&str, &str, usize, &str, JidFault); 12] = [
     ("b/", "a", 1024, "\n", BadResource),
 ];
 
+// Whether a text is `before`, a part so many times, and `after`.
+fn is_repeated(text: &str, before: &str, part: &str, times: usize, after: &str) -> bool {
+    let Some(mut rest) = text.strip_prefix(before) else {
+        return false;
+    };
+    for _ in 0..times {
+        match rest.strip_prefix(part) {
+            Some(behind) => rest = behind,
+            None => return false,
+        }
+    }
+    rest == after
+}
+
+fn is_form(alloc: Global, text: &str, row: &(&str, &str, usize, &str, &str)) -> bool {
+    match Jid::parse(alloc, text) {
+        Ok(jid) => is_repeated(jid.text(), row.0, row.4, row.2, row.3),
+        Err(_) => false,
+    }
+}
+
+fn is_limit(alloc: Global, row: &(&str, &str, usize, &str, &str)) -> Result<bool, JidFault> {
+    let text = repeated(alloc, row.0, row.1, row.2, row.3)?;
+    Ok(is_form(alloc, text.as_str(), row))
+}
+
 #[test]
 fn reads_the_longest_parts(rt: HostRuntime) -> Result<(), Fail> {
-    for (before, part, times, after, form) in &LIMITS {
-        let text = repeated(rt.alloc(), before, part, *times, after)?;
-        let normal = repeated(rt.alloc(), before, form, *times, after)?;
-        assert!(rt; is_read(rt.alloc(), text.as_str(), normal.as_str())?);
+    for row in &LIMITS {
+        assert!(rt; is_limit(rt.alloc(), row)?);
     }
     Ok(())
+}
+
+fn is_long(alloc: Global, row: &(&str, &str, usize, &str, JidFault)) -> Result<bool, JidFault> {
+    let text = repeated(alloc, row.0, row.1, row.2, row.3)?;
+    Ok(fault_of(alloc, text.as_str()) == Some(row.4))
 }
 
 #[test]
 fn refuses_longer_parts(rt: HostRuntime) -> Result<(), Fail> {
-    for (before, part, times, after, fault) in &LONG {
-        let text = repeated(rt.alloc(), before, part, *times, after)?;
-        assert!(rt; fault_of(rt.alloc(), text.as_str()) == Some(*fault));
+    for row in &LONG {
+        assert!(rt; is_long(rt.alloc(), row)?);
     }
     Ok(())
 }
 
-// An address, its bare address with another resource, and how that is printed for a reader.
-static PRINTED_ADDRESSES: [(&str, &str, &str, &str); 2] = [
+// An address, a resource for its bare address, and how that is printed, also for a reader.
+static PRINTED_ADDRESSES: [(&str, &str, &str); 2] = [
     (
         "Alice@Chat.Example/Pad",
         "e\u{301}/@",
-        "alice@chat.example/\u{E9}/@",
-        "\"alice@chat.example/\u{E9}/@\"",
+        "alice@chat.example/\u{E9}/@ \"alice@chat.example/\u{E9}/@\"",
     ),
     (
         "chat.example.",
         "\"",
-        "chat.example/\"",
-        "\"chat.example/\\\"\"",
+        "chat.example/\" \"chat.example/\\\"\"",
     ),
 ];
 
-// The bare address of a text with a resource, made of its text again.
-fn with_resource(alloc: Global, text: &str, resource: &str) -> Result<Jid, JidFault> {
-    let bare = Jid::parse(alloc, text)?.to_bare(alloc)?;
-    let jid = bare.with_resource(alloc, resource)?;
-    let text = Text::from_str(alloc, jid.text())?;
-    Ok(Jid::of_normal(text))
+fn bare(alloc: Global, text: &str) -> Result<Jid, JidFault> {
+    let jid = Jid::parse(alloc, text)?;
+    Ok(jid.to_bare(alloc)?)
 }
 
-fn is_printed(alloc: Global, jid: &Jid, text: &str, debug: &str) -> Result<bool, JidFault> {
-    let shown = format!(in alloc; "{jid}")?;
-    let quoted = format!(in alloc; "{jid:?}")?;
-    Ok(shown.as_str() == text && quoted.as_str() == debug)
+fn with_resource(alloc: Global, text: &str, resource: &str) -> Result<Jid, JidFault> {
+    let bare = bare(alloc, text)?;
+    bare.with_resource(alloc, resource)
+}
+
+// A copy of the address made of the text of another.
+fn made_again(alloc: Global, jid: &Jid) -> Result<Jid, NoMemory> {
+    let text = Text::from_str(alloc, jid.text())?;
+    Jid::of_normal(text).copied(alloc)
+}
+
+fn is_printed(alloc: Global, jid: &Jid, shown: &str) -> bool {
+    match format!(in alloc; "{jid} {jid:?}") {
+        Ok(text) => text.as_str() == shown,
+        Err(_) => false,
+    }
+}
+
+fn is_made(alloc: Global, text: &str, resource: &str, shown: &str) -> Result<bool, JidFault> {
+    let jid = with_resource(alloc, text, resource)?;
+    let again = made_again(alloc, &jid)?;
+    Ok(is_printed(alloc, &again, shown))
 }
 
 #[test]
 fn prints_addresses(rt: HostRuntime) -> Result<(), Fail> {
-    for (text, resource, printed, debug) in &PRINTED_ADDRESSES {
-        let jid = with_resource(rt.alloc(), text, resource)?.copied(rt.alloc())?;
-        assert!(rt; is_printed(rt.alloc(), &jid, printed, debug)?);
+    for (text, resource, shown) in &PRINTED_ADDRESSES {
+        assert!(rt; is_made(rt.alloc(), text, resource, shown)?);
     }
     Ok(())
 }
 
-// Whether each part of an address has the form that it should have.
-fn are_forms(alloc: Global, given: [&str; 3], forms: [&str; 3]) -> Result<bool, JidFault> {
-    let local = local_in_normal_form(alloc, given[0])?;
-    let domain = domain_in_normal_form(alloc, given[1])?;
-    let resource = resource_in_normal_form(alloc, given[2])?;
-    Ok([local.as_str(), domain.as_str(), resource.as_str()] == forms)
+fn is_local(alloc: Global, given: &str, form: &str) -> bool {
+    match local_in_normal_form(alloc, given) {
+        Ok(local) => local.as_str() == form,
+        Err(_) => false,
+    }
+}
+
+fn is_domain(alloc: Global, given: &str, form: &str) -> bool {
+    match domain_in_normal_form(alloc, given) {
+        Ok(domain) => domain.as_str() == form,
+        Err(_) => false,
+    }
+}
+
+fn is_resource(alloc: Global, given: &str, form: &str) -> bool {
+    match resource_in_normal_form(alloc, given) {
+        Ok(resource) => resource.as_str() == form,
+        Err(_) => false,
+    }
 }
 
 #[test]
-fn brings_parts_into_normal_form(rt: HostRuntime) -> Result<(), Fail> {
-    let given = ["Alice", "B\u{DC}CHER.example.", "e\u{301}/@"];
-    let forms = ["alice", "xn--bcher-kva.example", "\u{E9}/@"];
-    assert!(rt; are_forms(rt.alloc(), given, forms)?);
-    Ok(())
+fn brings_parts_into_normal_form(rt: HostRuntime) {
+    let alloc = rt.alloc();
+    assert!(rt;
+        is_local(alloc, "Alice", "alice")
+            && is_domain(alloc, "B\u{DC}CHER.example.", "xn--bcher-kva.example")
+            && is_resource(alloc, "e\u{301}/@", "\u{E9}/@")
+    );
 }
 
 static PRINTED: [(JidFault, &str); 6] = [
@@ -294,15 +351,16 @@ static PRINTED: [(JidFault, &str); 6] = [
     (JidFault::NoMemory, "out of memory"),
 ];
 
-fn is_shown(alloc: Global, fault: JidFault, text: &str) -> Result<bool, JidFault> {
-    let shown = format!(in alloc; "{fault}")?;
-    Ok(shown.as_str() == text)
+fn is_shown(alloc: Global, fault: JidFault, shown: &str) -> bool {
+    match format!(in alloc; "{fault}") {
+        Ok(text) => text.as_str() == shown,
+        Err(_) => false,
+    }
 }
 
 #[test]
-fn prints_faults(rt: HostRuntime) -> Result<(), Fail> {
+fn prints_faults(rt: HostRuntime) {
     for (fault, text) in &PRINTED {
-        assert!(rt; is_shown(rt.alloc(), *fault, text)?);
+        assert!(rt; is_shown(rt.alloc(), *fault, text));
     }
-    Ok(())
 }
