@@ -1,4 +1,5 @@
 pub mod ArchiveQueryLaws
 pub mod FinLaws
+mod QueryReads
 pub mod ResultLaws
 mod WorkedArchives

@@ -1,16 +1,21 @@
--- What the readers of an archive's answers answer, as functions of the element.
-use Rattle.std.specs.Prelude.{ℕ, List, Option, Some, None, Result, Ok, Err, codes}
+-- What the readers of an archive's payloads answer, as functions of the element.
+use Rattle.std.specs.Prelude.{ℕ, Bool, true, false, List, Option, Some, None, Result, Ok, Err, codes, is_none}
 use Rattle.xmpp_ext.specs.ForwardReadings.{forward_read}
 use Rattle.xmpp_ext.specs.Forwarding.{the_forwarded}
 use Rattle.xmpp_ext.specs.declared.forwarding.Forwarded.{Forwarded}
 use Rattle.xmpp_mam.specs.ArchiveAnswers.{index_in, is_fin, is_result, number_or_zero}
-use Rattle.xmpp_mam.specs.ResultSets.{set_text}
+use Rattle.xmpp_mam.specs.ArchiveQuery.{has_known_fields, is_for_archive, is_query, max_in, optional_address, optional_moment, place_in}
+use Rattle.xmpp_mam.specs.DataForms.{field_value, form_of}
+use Rattle.xmpp_mam.specs.ResultSets.{set_child, set_text}
 use Rattle.xmpp_mam.specs.declared.archive_answers.MamResult.{MamResult}
+use Rattle.xmpp_mam.specs.declared.archive_query.MamQuery.{MamQuery}
 use Rattle.xmpp_pages.specs.declared.fin.Fin.{Fin}
 use Rattle.xmpp_payload.specs.Readings.{where_this}
 use Rattle.xmpp_payload.specs.Shapes.{attr_or_empty, flag}
+use Rattle.xmpp_pages.specs.declared.query.Place.{Place}
 use Rattle.xmpp_payload.specs.declared.fault.ExtFault.{ExtFault}
 use Rattle.xmpp_payload.specs.declared.fault.ExtFault.TheVariants.{Bad}
+use Rattle.xmpp_payload.specs.declared.fault.Field.{Field}
 use Rattle.xmpp_payload.specs.declared.fault.Field.TheVariants as field
 use Rattle.xmpp_stanza.specs.Stanzas.{attr_named}
 use Rattle.xmpp_trees.specs.Trees.{Elem}
@@ -33,3 +38,31 @@ result_with queryid (Some id) (Ok forwarded) = Ok (record { queryid = queryid; i
 
 abbrev pub result_read : Elem → Result MamResult ExtFault
 result_read e = where_this (is_result e) (result_with (attr_or_empty (codes "queryid") e) (attr_named (codes "id") e) (forward_read None (the_forwarded e)))
+
+-- what is read where a test passes, and where a field has a value; else that field is wrong
+abbrev pub if_right : {V : Type 0} → Bool → Field → Result V ExtFault → Result V ExtFault
+if_right true field read = read
+if_right false field read = Err (Bad field)
+
+abbrev pub with_field : {A V : Type 0} → Option A → Field → (A → Result V ExtFault) → Result V ExtFault
+with_field None field read = Err (Bad field)
+with_field (Some x) field read = read x
+
+-- `query`: the form is judged before the set, and each field of theirs in the order in which it is told
+abbrev pub query_with : Elem → Option (List ℕ) → Option ℕ → Option ℕ → Place → Option ℕ → MamQuery
+query_with e peer start end place max = record { queryid = attr_or_empty (codes "queryid") e; query = record { peer = peer; start = start; end = end; place = place; max = max } }
+
+abbrev pub limits_read : Elem → Option (List ℕ) → Option ℕ → Option ℕ → Result MamQuery ExtFault
+limits_read e peer start end =
+    with_field (place_in e) field.Place (λ place. with_field (max_in e) field.Max (λ max.
+    if_right (is_none (set_child (codes "index") e)) field.UnknownField (Ok (query_with e peer start end place max))))
+
+abbrev pub filters_read : Elem → Result MamQuery ExtFault
+filters_read e =
+    if_right (is_for_archive (form_of e)) field.FormType (if_right (has_known_fields (form_of e)) field.UnknownField
+    (with_field (optional_address (field_value (codes "with") e)) field.Peer (λ peer.
+    with_field (optional_moment (field_value (codes "start") e)) field.Start (λ start.
+    with_field (optional_moment (field_value (codes "end") e)) field.End (λ end. limits_read e peer start end)))))
+
+abbrev pub mam_query_read : Elem → Result MamQuery ExtFault
+mam_query_read e = where_this (is_query e) (filters_read e)

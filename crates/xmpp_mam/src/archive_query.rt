@@ -13,6 +13,8 @@ ghost use Rattle.xmpp_trees.specs.Trees.{with_nodes};
 ghost use Rattle.xmpp_trees.specs.Views.{elem_view, nodes_view};
 ghost use Rattle.xmpp_stanza.specs.Errors.{trees_where};
 ghost use Rattle.xmpp_stanza.specs.Written.{IsNormal};
+ghost use Rattle.xmpp_mam.specs.Readings.{mam_query_read};
+ghost use Rattle.xmpp_payload.specs.Readings.{Reads};
 
 use crate::data_forms::{
     field_value, form_of, form_type_element, has_var, is_field, push_field, value_in,
@@ -28,7 +30,7 @@ use xmpp_payload::{
 };
 use xmpp_trees::{Element, Node, Tree};
 
-///! What an archive is asked for, and the id by which the answers name the query, which is empty where there is none
+/// What an archive is asked for, and the id by which the answers name the query, which is empty where there is none
 /// (XEP-0313, sections 4.1 and 4.3). The address of the query is in normal form.
 #[derive(Drop)]
 pub struct MamQuery {
@@ -188,6 +190,32 @@ fn limits_in(alloc: Global, element: &Element) -> Result<(Place, Option<u32>), E
     Ok((place, max))
 }
 
+// The query that an element stands for, field by field.
+fn query_in(alloc: Global, element: &Element) -> Result<MamQuery, ExtFault>
+    ensures ok { IfOk result (λ v. IsMamQuery (elem_view element.now) v) }
+    ensures err { IfErr result (IsFault (is_query (elem_view element.now)) (IsFirstWrong (query_checks (elem_view element.now)))) }
+{
+    if !element.is(ARCHIVE, "query") {
+        return Err(ExtFault::NotThis);
+    }
+    let filters = match filters_in(alloc, element) {
+        Ok(filters) => filters,
+        Err(fault) => return Err(fault),
+    };
+    let (place, max) = limits_in(alloc, element)?;
+    let query = PageQuery {
+        peer: filters.peer,
+        start: filters.start,
+        end: filters.end,
+        place,
+        max,
+    };
+    Ok(MamQuery {
+        queryid: attr_text(alloc, element, "queryid")?,
+        query,
+    })
+}
+
 // The stamp of a moment, where there is one.
 fn stamp_where(alloc: Global, moment: Option<u64>) -> Result<Option<Text>, NoMemory>
     ensures { IfOk result (λ text. IsStampWhere moment text) }
@@ -277,6 +305,7 @@ impl MamQuery {
     pub fn read(alloc: Global, tree: &Tree) -> Result<MamQuery, ExtFault>
         ensures ok { IfOk result (λ v. IsMamQuery tree.now v) }
         ensures err { IfErr result (IsFault (is_query tree.now) (IsFirstWrong (query_checks tree.now))) }
+        ensures reading { Reads result (mam_query_read tree.now) }
     {
         MamQuery::read_element(alloc, tree.element())
     }
@@ -285,26 +314,9 @@ impl MamQuery {
     pub fn read_element(alloc: Global, element: &Element) -> Result<MamQuery, ExtFault>
         ensures ok { IfOk result (λ v. IsMamQuery (elem_view element.now) v) }
         ensures err { IfErr result (IsFault (is_query (elem_view element.now)) (IsFirstWrong (query_checks (elem_view element.now)))) }
+        ensures reading { Reads result (mam_query_read (elem_view element.now)) }
     {
-        if !element.is(ARCHIVE, "query") {
-            return Err(ExtFault::NotThis);
-        }
-        let filters = match filters_in(alloc, element) {
-            Ok(filters) => filters,
-            Err(fault) => return Err(fault),
-        };
-        let (place, max) = limits_in(alloc, element)?;
-        let query = PageQuery {
-            peer: filters.peer,
-            start: filters.start,
-            end: filters.end,
-            place,
-            max,
-        };
-        Ok(MamQuery {
-            queryid: attr_text(alloc, element, "queryid")?,
-            query,
-        })
+        query_in(alloc, element)
     }
 
     /// The element as a tree, with a form and a set. `queryid` is left out where it is empty, in the form the fields that
