@@ -1,10 +1,10 @@
-//! Logs: a page that is taken over, refusals, and printed texts.
+//! Logs: a page that is taken over, and refusals; and the printed texts of archives, pages and logs.
 use crate::archives::entry;
 use std::alloc::Global;
-use std::test::Fail;
+use xmpp_archive::ArchiveFault;
 use xmpp_edge::{NoMemory, Text};
 use xmpp_log::{BeginFault, FinFault, Log, LogEntry, PageOutcome, ResultFault};
-use xmpp_pages::Fin;
+use xmpp_pages::{Fin, PageFault};
 
 fn logged(alloc: Global, id: &str) -> Result<LogEntry, NoMemory> {
     Ok(LogEntry {
@@ -24,23 +24,35 @@ fn fin(alloc: Global, last: &str) -> Result<Fin, NoMemory> {
     })
 }
 
-/// Begins a page of two, and adds results with these ids.
-fn begun(alloc: Global, log: &mut Log, ids: &[&str]) -> Result<(), Fail> {
-    log.begin(alloc, Text::from_str(alloc, "q")?, 2)?;
-    for id in ids {
-        log.result("q", logged(alloc, id)?)?;
-    }
-    Ok(())
+fn put(alloc: Global, log: &mut Log, id: &str) -> Option<()> {
+    let entry = logged(alloc, id).ok()?;
+    log.result("q", entry).ok()
 }
 
-/// A page with results of these ids, and its end. It answers whether the page is complete, or whether an id repeats.
-fn ended(alloc: Global, log: &mut Log, ids: &[&str], last: &str) -> Result<bool, Fail> {
-    begun(alloc, log, ids)?;
-    match log.fin(alloc, "q", &fin(alloc, last)?) {
-        Ok(outcome) => Ok(outcome == PageOutcome::Complete),
-        Err(FinFault::Repeats(_)) => Ok(false),
-        Err(fault) => Err(fault.into()),
+/// Begins a page of two, and adds results with these ids.
+fn begin(alloc: Global, log: &mut Log, ids: &[&str]) -> Option<()> {
+    let queryid = Text::from_str(alloc, "q").ok()?;
+    log.begin(alloc, queryid, 2).ok()?;
+    for id in ids {
+        put(alloc, log, id)?;
     }
+    Some(())
+}
+
+/// Whether the page is complete at its end, or an id repeats.
+fn end(alloc: Global, log: &mut Log, last: &str) -> Option<bool> {
+    let fin = fin(alloc, last).ok()?;
+    match log.fin(alloc, "q", &fin) {
+        Ok(outcome) => Some(outcome == PageOutcome::Complete),
+        Err(FinFault::Repeats(_)) => Some(false),
+        Err(_) => None,
+    }
+}
+
+/// The same of a page with results of these ids.
+fn take(alloc: Global, log: &mut Log, ids: &[&str]) -> Option<bool> {
+    begin(alloc, log, ids)?;
+    end(alloc, log, ids.last()?)
 }
 
 /// Pages after one with the entries b and d: whether each joins the log.
@@ -54,65 +66,75 @@ static PAGES: [(&[&str], bool); 7] = [
     (&["e", "e"], false),
 ];
 
-/// Whether a page is complete that comes after another, and how many entries the log has then.
-fn ended_after(alloc: Global, ids: &[&str]) -> Result<(bool, usize), Fail> {
+/// The same of a page that comes after another, and how many entries the log has then.
+fn take_after(alloc: Global, log: &mut Log, ids: &[&str]) -> Option<(bool, usize)> {
+    take(alloc, log, &["b", "d"])?;
+    let complete = take(alloc, log, ids)?;
+    Some((complete, log.entries().len()))
+}
+
+fn taken_after(alloc: Global, ids: &[&str]) -> Option<(bool, usize)> {
     let mut log = Log::new(alloc);
-    ended(alloc, &mut log, &["b", "d"], "d")?;
-    let last = ids.last().ok_or("no id")?;
-    let complete = ended(alloc, &mut log, ids, last)?;
-    Ok((complete, log.entries().len()))
+    take_after(alloc, &mut log, ids)
 }
 
 #[test]
-fn pages_join_where_no_id_repeats(rt: HostRuntime) -> Result<(), Fail> {
+fn pages_join_where_no_id_repeats(rt: HostRuntime) {
     for (ids, joins) in &PAGES {
         let grown = if *joins { ids.len() } else { 0 };
-        assert!(rt; ended_after(rt.alloc(), ids)? == (*joins, grown.saturating_add(2)));
+        assert!(rt; taken_after(rt.alloc(), ids) == Some((*joins, grown.saturating_add(2))));
     }
-    Ok(())
 }
 
-/// What a page of two with these results does to a call of each kind.
-fn refused(alloc: Global) -> Result<[bool; 3], Fail> {
+fn result_fault(alloc: Global, log: &mut Log, queryid: &str) -> Option<ResultFault> {
+    let entry = logged(alloc, "c").ok()?;
+    log.result(queryid, entry).err()
+}
+
+/// What a page of two with two results does to results of another query and of its own, and to another page.
+fn refuse(
+    alloc: Global,
+    log: &mut Log,
+) -> Option<(Option<ResultFault>, Option<ResultFault>, Option<BeginFault>)> {
+    begin(alloc, log, &["a", "b"])?;
+    Some((
+        result_fault(alloc, log, "p"),
+        result_fault(alloc, log, "q"),
+        log.begin(alloc, Text::new(alloc), 1).err(),
+    ))
+}
+
+fn refused(
+    alloc: Global,
+) -> Option<(Option<ResultFault>, Option<ResultFault>, Option<BeginFault>)> {
     let mut log = Log::new(alloc);
-    begun(alloc, &mut log, &["a", "b"])?;
-    Ok([
-        log.result("p", logged(alloc, "c")?) == Err(ResultFault::Stranger),
-        log.result("q", logged(alloc, "c")?) == Err(ResultFault::Overrun),
-        log.begin(alloc, Text::new(alloc), 1) == Err(BeginFault::Underway),
-    ])
+    refuse(alloc, &mut log)
 }
 
 #[test]
-fn an_open_page_refuses_calls(rt: HostRuntime) -> Result<(), Fail> {
-    assert!(rt; refused(rt.alloc())? == [true; 3]);
-    Ok(())
+fn an_open_page_refuses_calls(rt: HostRuntime) {
+    let stranger = Some(ResultFault::Stranger);
+    let overrun = Some(ResultFault::Overrun);
+    let underway = Some(BeginFault::Underway);
+    assert!(rt; refused(rt.alloc()) == Some((stranger, overrun, underway)));
 }
 
-/// How many entries and tiles a log hands out.
-fn parts(alloc: Global) -> Result<[usize; 2], Fail> {
-    let mut log = Log::new(alloc);
-    ended(alloc, &mut log, &["b", "d"], "d")?;
-    let (entries, tiles) = log.into_parts();
-    Ok([entries.as_slice().len(), tiles.as_slice().len()])
-}
+const TOLD: &str = "the archive is full, no entry has this id, an empty page is not the last one, \
+                    no open page has this query id, a page is open already";
 
-#[test]
-fn a_log_hands_out_its_parts(rt: HostRuntime) -> Result<(), Fail> {
-    assert!(rt; parts(rt.alloc())? == [2, 1]);
-    Ok(())
-}
-
-fn are_told(alloc: Global) -> Result<[bool; 3], NoMemory> {
-    Ok([
-        FinFault::NoAdvance.to_string(alloc)?.as_str() == "an empty page is not the last one",
-        ResultFault::Stranger.to_string(alloc)?.as_str() == "no open page has this query id",
-        BeginFault::Underway.to_string(alloc)?.as_str() == "a page is open already",
-    ])
+fn are_told(alloc: Global, shown: &str) -> bool {
+    let full = ArchiveFault::Full;
+    let absent = PageFault::NotFound;
+    let empty = FinFault::NoAdvance;
+    let stranger = ResultFault::Stranger;
+    let underway = BeginFault::Underway;
+    match format!(in alloc; "{full}, {absent}, {empty}, {stranger}, {underway}") {
+        Ok(text) => text.as_str() == shown,
+        Err(_) => false,
+    }
 }
 
 #[test]
-fn log_faults_are_printed(rt: HostRuntime) -> Result<(), Fail> {
-    assert!(rt; are_told(rt.alloc())? == [true; 3]);
-    Ok(())
+fn faults_are_printed(rt: HostRuntime) {
+    assert!(rt; are_told(rt.alloc(), TOLD));
 }

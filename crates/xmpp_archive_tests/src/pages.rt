@@ -3,10 +3,9 @@ ghost use Rattle.std.specs.Prelude.{◌≤◌};
 
 use crate::archives::append;
 use std::alloc::Global;
-use std::test::Fail;
-use xmpp_archive::{Archive, id_of_number};
+use xmpp_archive::{Archive, ArchiveFault, id_of_number, number_of};
 use xmpp_edge::{NoMemory, Text};
-use xmpp_pages::{ArchiveLook, PageCut, PageFault, PageQuery, Place, page};
+use xmpp_pages::{ArchiveLook, Fin, PageCut, PageFault, PageQuery, Place, page};
 
 /// The sender and the recipient of each entry. The first, third and fourth are with bob, of which the last two are with
 /// his session x.
@@ -25,6 +24,7 @@ enum At {
     After(u64),
     Before(u64),
     Last,
+    AfterId(&'static str),
 }
 
 /// A query: with whom, the earliest and the latest moment, the place, and the most entries.
@@ -104,16 +104,30 @@ static PAGES: [(u32, Asked, Found); 14] = [
     ),
 ];
 
-/// The newest of the entries, in an archive that keeps so many.
-fn archive(alloc: Global, keep: u32) -> Result<Archive, Fail>
-    requires { 1 ≤ keep }
-{
-    let mut archive = Archive::new(alloc, Text::from_str(alloc, "romeo@a")?, keep);
+/// Ids of no entry in an archive that keeps three. The second one is that of an entry that is kept no more.
+static UNKNOWN: [&str; 4] = [
+    "0000000000000006",
+    "0000000000000002",
+    "",
+    "000000000000000A",
+];
+
+fn fill(alloc: Global, archive: &mut Archive) -> Result<(), ArchiveFault> {
     let mut stamp: u64 = 0;
     for parties in &PARTIES {
         stamp = stamp.saturating_add(10);
-        append(alloc, &mut archive, stamp, *parties)?;
+        append(alloc, archive, stamp, *parties)?;
     }
+    Ok(())
+}
+
+/// The newest of the entries, in an archive that keeps so many.
+fn archive(alloc: Global, keep: u32) -> Result<Archive, ArchiveFault>
+    requires { 1 ≤ keep }
+{
+    let owner = Text::from_str(alloc, "romeo@a")?;
+    let mut archive = Archive::new(alloc, owner, keep);
+    fill(alloc, &mut archive)?;
     Ok(archive)
 }
 
@@ -123,6 +137,7 @@ fn place(alloc: Global, at: At) -> Result<Place, NoMemory> {
         At::After(number) => Place::After(id_of_number(alloc, number)?),
         At::Before(number) => Place::Before(id_of_number(alloc, number)?),
         At::Last => Place::Last,
+        At::AfterId(id) => Place::After(Text::from_str(alloc, id)?),
     })
 }
 
@@ -135,85 +150,75 @@ fn peer(alloc: Global, peer: &str) -> Result<Option<Text>, NoMemory> {
 
 fn query(alloc: Global, asked: Asked) -> Result<PageQuery, NoMemory> {
     let (with, start, end, at, max) = asked;
+    let peer = peer(alloc, with)?;
+    let place = place(alloc, at)?;
     Ok(PageQuery {
-        peer: peer(alloc, with)?,
+        peer,
         start,
         end,
-        place: place(alloc, at)?,
+        place,
         max,
     })
 }
 
-fn is_page(cut: &PageCut, found: Found) -> bool {
+fn number_in(id: &Option<Text>) -> Option<u64> {
+    match id {
+        Some(id) => number_of(id.as_str()),
+        None => None,
+    }
+}
+
+/// Whether the end of a page reports this page.
+fn is_reported(fin: &Fin, found: Found) -> bool {
     let (numbers, first_index, count, complete) = found;
-    cut.numbers.as_slice() == numbers
-        && (cut.first_index, cut.count, cut.complete) == (first_index, count, complete)
+    number_in(&fin.first) == numbers.first().copied()
+        && number_in(&fin.last) == numbers.last().copied()
+        && (fin.first_index, fin.count, fin.complete) == (first_index, count, complete)
 }
 
-/// Whether an archive that keeps so many entries has the page.
-fn is_found(alloc: Global, keep: u32, asked: Asked, found: Found) -> Result<bool, Fail> {
-    let archive = archive(alloc, keep.max(1))?;
+fn is_page(alloc: Global, cut: &PageCut, found: Found) -> bool {
+    match cut.fin(alloc) {
+        Ok(fin) => cut.numbers.as_slice() == found.0 && is_reported(&fin, found),
+        Err(_) => false,
+    }
+}
+
+fn answered(alloc: Global, archive: &Archive, asked: Asked) -> Result<PageCut, PageFault> {
     let query = query(alloc, asked)?;
-    let cut = page(alloc, &mut ArchiveLook::new(&archive), &query)?;
-    Ok(is_page(&cut, found))
+    page(alloc, &mut ArchiveLook::new(archive), &query)
+}
+
+/// What an archive that keeps so many entries answers.
+fn page_of(alloc: Global, keep: u32, asked: Asked) -> Option<PageCut> {
+    let archive = archive(alloc, keep.max(1)).ok()?;
+    answered(alloc, &archive, asked).ok()
+}
+
+fn is_found(alloc: Global, keep: u32, asked: Asked, found: Found) -> bool {
+    match page_of(alloc, keep, asked) {
+        Some(cut) => is_page(alloc, &cut, found),
+        None => false,
+    }
 }
 
 #[test]
-fn pages_are_cut_out(rt: HostRuntime) -> Result<(), Fail> {
+fn pages_are_cut_out(rt: HostRuntime) {
     for (keep, asked, found) in &PAGES {
-        assert!(rt; is_found(rt.alloc(), *keep, *asked, *found)?);
+        assert!(rt; is_found(rt.alloc(), *keep, *asked, *found));
     }
-    Ok(())
 }
 
-/// Whether an archive of the last three entries has no entry with this id.
-fn is_unknown(alloc: Global, id: &str) -> Result<bool, Fail> {
-    let archive = archive(alloc, 3)?;
-    let mut query = query(alloc, ("", None, None, At::First, None))?;
-    query.place = Place::After(Text::from_str(alloc, id)?);
-    let cut = page(alloc, &mut ArchiveLook::new(&archive), &query);
-    Ok(matches!(cut, Err(PageFault::NotFound)))
+fn is_unknown(alloc: Global, id: &'static str) -> bool {
+    let asked = ("", None, None, At::AfterId(id), None);
+    match archive(alloc, 3) {
+        Ok(archive) => matches!(answered(alloc, &archive, asked), Err(PageFault::NotFound)),
+        Err(_) => false,
+    }
 }
-
-/// The second one is that of an entry that is kept no more.
-static UNKNOWN: [&str; 4] = [
-    "0000000000000006",
-    "0000000000000002",
-    "",
-    "000000000000000A",
-];
 
 #[test]
-fn ids_of_no_entry_are_not_found(rt: HostRuntime) -> Result<(), Fail> {
+fn ids_of_no_entry_are_not_found(rt: HostRuntime) {
     for id in &UNKNOWN {
-        assert!(rt; is_unknown(rt.alloc(), id)?);
+        assert!(rt; is_unknown(rt.alloc(), *id));
     }
-    Ok(())
-}
-
-/// Whether the end of a page reports this first and this last id.
-fn is_ended(alloc: Global, first: &str, last: &str) -> Result<bool, Fail> {
-    let archive = archive(alloc, 9)?;
-    let query = query(alloc, ("bob@a", None, None, At::First, Some(2)))?;
-    let fin = page(alloc, &mut ArchiveLook::new(&archive), &query)?.fin(alloc)?;
-    Ok(
-        fin.first.map_or(false, |id| id.as_str() == first)
-            && fin.last.map_or(false, |id| id.as_str() == last),
-    )
-}
-
-#[test]
-fn the_end_of_a_page_has_its_ids(rt: HostRuntime) -> Result<(), Fail> {
-    assert!(rt; is_ended(rt.alloc(), "0000000000000001", "0000000000000003")?);
-    Ok(())
-}
-
-fn is_not_found_told(alloc: Global) -> Result<bool, NoMemory> {
-    Ok(PageFault::NotFound.to_string(alloc)?.as_str() == "no entry has this id")
-}
-
-#[test]
-fn page_faults_are_printed(rt: HostRuntime) -> Result<(), Fail> {
-    assert!(rt; is_not_found_told(rt.alloc())?);
-    Ok(())
 }

@@ -4,6 +4,4 @@
 #[cfg(test)]
 mod hashes;
 #[cfg(test)]
-mod places;
-#[cfg(test)]
 mod tests;

@@ -1,10 +1,10 @@
-//! The exchange of RFC 7677, section 3, refusals, and printed texts.
+//! The exchange of RFC 7677, section 3, refusals with their places (RFC 5802, section 7), and printed texts.
 use std::alloc::Global;
 use std::test::Fail;
 use xmpp_edge::Bytes;
 use xmpp_scram::{
-    Credentials, CredentialsFault, ScramClient, ScramFault, ScramServer, is_nonce, nonce_of,
-    read_first, salt_of,
+    ClientFirst, Credentials, CredentialsFault, ScramClient, ScramFault, ScramServer, is_nonce,
+    nonce_of, read_first, salt_of,
 };
 
 // RFC 7677, section 3: the salt, the nonces and the four messages of its example.
@@ -35,6 +35,18 @@ fn credentials(alloc: Global, iterations: u32) -> Result<Credentials, ScramFault
     }
 }
 
+fn begun(
+    alloc: Global,
+    first: ClientFirst,
+    credentials: &Credentials,
+    tail: &str,
+) -> Result<ScramServer, ScramFault> {
+    if !is_nonce(tail) || credentials.iterations == 0 {
+        return Err(ScramFault::BadNonce);
+    }
+    Ok(ScramServer::first(alloc, first, credentials, tail)?)
+}
+
 // The server's end after its first message.
 fn server(
     alloc: Global,
@@ -44,151 +56,195 @@ fn server(
 ) -> Result<ScramServer, ScramFault> {
     let credentials = credentials(alloc, iterations)?;
     let first = read_first(alloc, first)?;
-    if !is_nonce(tail) || credentials.iterations == 0 {
-        return Err(ScramFault::BadNonce);
-    }
-    Ok(ScramServer::first(alloc, first, &credentials, tail)?)
+    begun(alloc, first, &credentials, tail)
 }
 
-// The server's first message, and its answer to a final message.
-fn served(
-    alloc: Global,
-    first: &[u8],
-    tail: &str,
-    challenge: &str,
-    last: &[u8],
-) -> Result<Bytes, ScramFault> {
-    let server = server(alloc, 4096, first, tail)?;
-    if server.message() != challenge.as_bytes() {
+// The server's answer to a final message, where its first message is the challenge.
+fn served(alloc: Global, messages: &[&str; 4], last: &[u8]) -> Result<Bytes, ScramFault> {
+    let server = server(alloc, 4096, messages[0].as_bytes(), NONCES[1])?;
+    if server.message() != messages[1].as_bytes() {
         return Err(ScramFault::Malformed { at: 0 });
     }
     server.last(alloc, last)
 }
 
-// Whether the two ends say the four messages, and the client accepts the last.
-fn goes_through(
+// Whether a client replies to the challenge, and accepts the server's answer to that.
+fn goes_on(
     alloc: Global,
-    nonces: &[&str; 2],
+    client: &mut ScramClient,
     messages: &[&str; 4],
 ) -> Result<bool, ScramFault> {
-    let mut client = client(alloc, "user", nonces[0])?;
-    let begins = client.message() == messages[0].as_bytes();
     let reply = client.reply(alloc, messages[1].as_bytes())?;
-    let answer = served(
-        alloc,
-        messages[0].as_bytes(),
-        nonces[1],
-        messages[1],
-        reply.as_slice(),
-    )?;
-    let ends = answer.as_slice() == messages[3].as_bytes()
-        && client.check(answer.as_slice()).is_ok();
-    Ok(begins && ends && reply.as_slice() == messages[2].as_bytes())
+    let answer = served(alloc, messages, reply.as_slice())?;
+    let replied = reply.as_slice() == messages[2].as_bytes();
+    let ended = answer.as_slice() == messages[3].as_bytes();
+    Ok(replied && ended && client.check(answer.as_slice()).is_ok())
+}
+
+// Whether the two ends say the four messages, and the client accepts the last.
+fn goes_through(alloc: Global, messages: &[&str; 4]) -> Result<bool, ScramFault> {
+    let mut client = client(alloc, "user", NONCES[0])?;
+    let begins = client.message() == messages[0].as_bytes();
+    Ok(begins && goes_on(alloc, &mut client, messages)?)
 }
 
 #[test]
 fn goes_through_the_example(rt: HostRuntime) -> Result<(), Fail> {
-    assert!(rt; goes_through(rt.alloc(), &NONCES, &MESSAGES)?);
+    assert!(rt; goes_through(rt.alloc(), &MESSAGES)?);
     Ok(())
 }
 
 // Other final messages of the server, and why the client refuses them.
-static FINALS: [(&str, ScramFault); 4] = [
+static FINALS: [(&[u8], ScramFault); 10] = [
     (
-        "v=7rriTRBi23WpRR/wtup+mMhUZUn/dB5nLTJRsjl95G4=",
+        b"v=7rriTRBi23WpRR/wtup+mMhUZUn/dB5nLTJRsjl95G4=",
         ScramFault::BadVerifier,
     ),
     (
-        "v=6rriTRBi23WpRR/wtup+mMhUZUn/dB5nLTJRsjl9",
+        b"v=6rriTRBi23WpRR/wtup+mMhUZUn/dB5nLTJRsjl9",
         ScramFault::BadVerifier,
     ),
-    ("e=invalid-proof", ScramFault::BadVerifier),
+    (b"e=invalid-proof", ScramFault::BadVerifier),
     (
-        "w=6rriTRBi23WpRR/wtup+mMhUZUn/dB5nLTJRsjl95G4=",
+        b"w=6rriTRBi23WpRR/wtup+mMhUZUn/dB5nLTJRsjl95G4=",
         ScramFault::Malformed { at: 0 },
     ),
+    (b"", ScramFault::Malformed { at: 0 }),
+    (b"x=a", ScramFault::Malformed { at: 0 }),
+    (b"e=", ScramFault::Malformed { at: 2 }),
+    (b"e=a,b", ScramFault::Malformed { at: 5 }),
+    (b"v=QR==", ScramFault::Malformed { at: 4 }),
+    (b"v=QQ==,m=1", ScramFault::Malformed { at: 7 }),
 ];
 
-fn check_fault(alloc: Global, last: &str) -> Result<Option<ScramFault>, ScramFault> {
-    let mut client = client(alloc, "user", NONCES[0])?;
-    let _reply = client.reply(alloc, MESSAGES[1].as_bytes())?;
-    Ok(client.check(last.as_bytes()).err())
+fn check_fault(alloc: Global, last: &[u8]) -> Option<ScramFault> {
+    let mut client = client(alloc, "user", NONCES[0]).ok()?;
+    let _reply = client.reply(alloc, MESSAGES[1].as_bytes()).ok()?;
+    client.check(last).err()
 }
 
 #[test]
-fn refuses_other_answers(rt: HostRuntime) -> Result<(), Fail> {
+fn refuses_other_answers(rt: HostRuntime) {
     for (message, fault) in &FINALS {
-        assert!(rt; check_fault(rt.alloc(), message)? == Some(*fault));
+        assert!(rt; check_fault(rt.alloc(), message) == Some(*fault));
     }
-    Ok(())
 }
 
-static CHALLENGES: [(&str, ScramFault); 6] = [
-    ("r=rOprNGfwEbeRWgbNEkqP,s=,i=4096", ScramFault::BadNonce),
-    ("r=rOprNGfwEbeRWgbNEkq,s=,i=4095", ScramFault::BadNonce),
+// A nonce of a client, a challenge, and why the client refuses it.
+static CHALLENGES: [(&str, &[u8], ScramFault); 16] = [
     (
-        "r=rOprNGfwEbeRWgbNEkqOx,s=,i=4095",
+        "rOprNGfwEbeRWgbNEkqO",
+        b"r=rOprNGfwEbeRWgbNEkqP,s=,i=4096",
+        ScramFault::BadNonce,
+    ),
+    (
+        "rOprNGfwEbeRWgbNEkqO",
+        b"r=rOprNGfwEbeRWgbNEkq,s=,i=4095",
+        ScramFault::BadNonce,
+    ),
+    (
+        "rOprNGfwEbeRWgbNEkqO",
+        b"r=rOprNGfwEbeRWgbNEkqOx,s=,i=4095",
         ScramFault::Iterations { count: 4095 },
     ),
     (
-        "r=rOprNGfwEbeRWgbNEkqOx,s=,i=1000001",
+        "rOprNGfwEbeRWgbNEkqO",
+        b"r=rOprNGfwEbeRWgbNEkqOx,s=,i=1000001",
         ScramFault::Iterations { count: 1_000_001 },
     ),
     (
-        "r=rOprNGfwEbeRWgbNEkqOx,s=,i=4294967296",
+        "rOprNGfwEbeRWgbNEkqO",
+        b"r=rOprNGfwEbeRWgbNEkqOx,s=,i=4294967296",
         ScramFault::Iterations { count: u32::MAX },
     ),
     (
-        "r=rOprNGfwEbeRWgbNEkqOx,s=,i=04096",
+        "rOprNGfwEbeRWgbNEkqO",
+        b"r=rOprNGfwEbeRWgbNEkqOx,s=,i=04096",
         ScramFault::Malformed { at: 29 },
     ),
+    ("a", b"r=a", ScramFault::Malformed { at: 3 }),
+    ("a", b"r=,s=QQ==,i=1", ScramFault::Malformed { at: 2 }),
+    ("a", b"r=a,m=b,s=QQ==,i=1", ScramFault::Malformed { at: 4 }),
+    ("a", b"r=a,s=QR==,i=1", ScramFault::Malformed { at: 8 }),
+    ("a", b"r=a,s=QUJ=,i=1", ScramFault::Malformed { at: 9 }),
+    ("a", b"r=a,s=QQ,i=1", ScramFault::Malformed { at: 8 }),
+    ("a", b"r=a,s=QQ==QQ==,i=1", ScramFault::Malformed { at: 10 }),
+    ("a", b"r=a,s=QQ==,i=0", ScramFault::Malformed { at: 13 }),
+    ("a", b"r=a,s=QQ==,i=04096", ScramFault::Malformed { at: 13 }),
+    ("a", b"r=a,s=QQ==,i=1,m=x", ScramFault::Malformed { at: 15 }),
 ];
 
-fn reply_fault(alloc: Global, challenge: &str) -> Result<Option<ScramFault>, ScramFault> {
-    let mut client = client(alloc, "user", NONCES[0])?;
-    Ok(client.reply(alloc, challenge.as_bytes()).err())
+fn reply_fault(alloc: Global, nonce: &str, challenge: &[u8]) -> Option<ScramFault> {
+    let mut client = client(alloc, "user", nonce).ok()?;
+    client.reply(alloc, challenge).err()
 }
 
 #[test]
-fn refuses_challenges(rt: HostRuntime) -> Result<(), Fail> {
-    for (message, fault) in &CHALLENGES {
-        assert!(rt; reply_fault(rt.alloc(), message)? == Some(*fault));
+fn refuses_challenges(rt: HostRuntime) {
+    for (nonce, message, fault) in &CHALLENGES {
+        assert!(rt; reply_fault(rt.alloc(), nonce, message) == Some(*fault));
     }
-    Ok(())
 }
 
-static LASTS: [(&str, ScramFault); 4] = [
+// Final messages to a server with an exchange of the nonce `xyz`, and why it refuses them.
+static LASTS: [(&[u8], ScramFault); 10] = [
     (
-        "c=biws,r=xyz,p=dHzbZapWIk4jUhN+Ute9ytag9zjfMHgsqmmiz7AndVQ=",
+        b"c=biws,r=xyz,p=dHzbZapWIk4jUhN+Ute9ytag9zjfMHgsqmmiz7AndVQ=",
         ScramFault::BadProof,
     ),
-    ("c=biws,r=xyz,p=", ScramFault::BadProof),
-    ("c=biws,r=xy,p=", ScramFault::BadNonce),
-    ("c=eSws,r=xyz,p=", ScramFault::Malformed { at: 2 }),
+    (b"c=biws,r=xyz,p=", ScramFault::BadProof),
+    (b"c=biws,r=xy,p=", ScramFault::BadNonce),
+    (b"c=eSws,r=xyz,p=", ScramFault::Malformed { at: 2 }),
+    (b"c=biwS,r=a,p=QQ==", ScramFault::Malformed { at: 5 }),
+    (b"c=eSws,r=a,p=QQ==", ScramFault::Malformed { at: 2 }),
+    (b"c=biws,r=a", ScramFault::Malformed { at: 10 }),
+    (b"c=biws,r=a,m=1,p=QQ==", ScramFault::Malformed { at: 11 }),
+    (b"c=biws,r=a,p=QR==", ScramFault::Malformed { at: 15 }),
+    (b"c=biws,r=a,p=QQ==,x=1", ScramFault::Malformed { at: 17 }),
 ];
 
-fn last_fault(alloc: Global, last: &str) -> Result<Option<ScramFault>, ScramFault> {
-    let server = server(alloc, 1, b"n,,n=user,r=x", "yz")?;
-    Ok(server.judge(alloc, last.as_bytes()).err())
+fn last_fault(alloc: Global, last: &[u8]) -> Option<ScramFault> {
+    let server = server(alloc, 1, b"n,,n=user,r=x", "yz").ok()?;
+    server.judge(alloc, last).err()
 }
 
 #[test]
-fn refuses_final_messages(rt: HostRuntime) -> Result<(), Fail> {
+fn refuses_final_messages(rt: HostRuntime) {
     for (message, fault) in &LASTS {
-        assert!(rt; last_fault(rt.alloc(), message)? == Some(*fault));
+        assert!(rt; last_fault(rt.alloc(), message) == Some(*fault));
     }
-    Ok(())
 }
 
-static FIRSTS: [(&str, ScramFault); 4] = [
-    ("p=tls-unique,,n=user,r=x", ScramFault::Plus),
-    ("p=tls-unique,a=bob,n=a,r=b", ScramFault::Plus),
-    ("n,a=admin,n=user,r=x", ScramFault::Authzid),
-    ("n,,m=x,n=user,r=x", ScramFault::Malformed { at: 3 }),
+static FIRSTS: [(&[u8], ScramFault); 22] = [
+    (b"p=tls-unique,,n=user,r=x", ScramFault::Plus),
+    (b"p=tls-unique,a=bob,n=a,r=b", ScramFault::Plus),
+    (b"n,a=admin,n=user,r=x", ScramFault::Authzid),
+    (b"n,,m=x,n=user,r=x", ScramFault::Malformed { at: 3 }),
+    (b"", ScramFault::Malformed { at: 0 }),
+    (b"x,,n=a,r=b", ScramFault::Malformed { at: 0 }),
+    (b"N,,n=a,r=b", ScramFault::Malformed { at: 0 }),
+    (b"n", ScramFault::Malformed { at: 1 }),
+    (b"p=,,n=a,r=b", ScramFault::Malformed { at: 2 }),
+    (b"n,,m=x,n=a,r=b", ScramFault::Malformed { at: 3 }),
+    (b"n,,n=,r=b", ScramFault::Malformed { at: 5 }),
+    (b"n,,n=a=2c,r=b", ScramFault::Malformed { at: 8 }),
+    (b"n,,n=a,r=", ScramFault::Malformed { at: 9 }),
+    (b"n,,n=a,r=b,m=x", ScramFault::Malformed { at: 11 }),
+    (b"n,,n=a,r=b,x=", ScramFault::Malformed { at: 13 }),
+    (b"n,,n=a,r=b\x01", ScramFault::Malformed { at: 10 }),
+    (b"n,,n=\xFF,r=b", ScramFault::Malformed { at: 5 }),
+    (b"n,,n=\x00,r=b", ScramFault::Malformed { at: 5 }),
+    (b"n,,n=\xC3,r=b", ScramFault::Malformed { at: 6 }),
+    (b"n,,n=\xED\xA0\x80,r=b", ScramFault::Malformed { at: 6 }),
+    (b"n,a=bob,n=a,r=", ScramFault::Malformed { at: 14 }),
+    (
+        b"p=tls-unique,a=bob,n=a,r=",
+        ScramFault::Malformed { at: 25 },
+    ),
 ];
 
-fn first_fault(alloc: Global, message: &str) -> Option<ScramFault> {
-    read_first(alloc, message.as_bytes()).err()
+fn first_fault(alloc: Global, message: &[u8]) -> Option<ScramFault> {
+    read_first(alloc, message).err()
 }
 
 #[test]
@@ -198,17 +254,24 @@ fn refuses_first_messages(rt: HostRuntime) {
     }
 }
 
+fn is_name(alloc: Global, message: &[u8], name: &str) -> bool {
+    match read_first(alloc, message) {
+        Ok(read) => read.name.as_str() == name,
+        Err(_) => false,
+    }
+}
+
 // A name with a comma and an equals sign, as it is sent and as it is read.
-fn is_escaped(alloc: Global, name: &str, message: &str) -> Result<bool, ScramFault> {
-    let client = client(alloc, name, "x")?;
-    let read = read_first(alloc, client.message())?;
-    Ok(client.message() == message.as_bytes() && read.name.as_str() == name)
+fn is_escaped(alloc: Global, name: &str, message: &[u8]) -> bool {
+    match client(alloc, name, "x") {
+        Ok(client) => client.message() == message && is_name(alloc, message, name),
+        Err(_) => false,
+    }
 }
 
 #[test]
-fn escapes_names(rt: HostRuntime) -> Result<(), Fail> {
-    assert!(rt; is_escaped(rt.alloc(), "a=b,c", "n,,n=a=3Db=2Cc,r=x")?);
-    Ok(())
+fn escapes_names(rt: HostRuntime) {
+    assert!(rt; is_escaped(rt.alloc(), "a=b,c", b"n,,n=a=3Db=2Cc,r=x"));
 }
 
 static PASSWORDS: [&str; 2] = ["", "pen\u{e7}il"];
@@ -265,17 +328,16 @@ static PRINTED: [(ScramFault, &str); 9] = [
     (ScramFault::NoMemory, "out of memory"),
 ];
 
-fn is_printed(alloc: Global, fault: ScramFault, text: &str) -> Result<bool, ScramFault> {
-    let Ok(shown) = format!(in alloc; "{fault}") else {
-        return Err(ScramFault::NoMemory);
-    };
-    Ok(shown.as_str() == text)
+fn is_printed(alloc: Global, fault: ScramFault, text: &str) -> bool {
+    match format!(in alloc; "{fault}") {
+        Ok(shown) => shown.as_str() == text,
+        Err(_) => false,
+    }
 }
 
 #[test]
-fn prints_faults(rt: HostRuntime) -> Result<(), Fail> {
+fn prints_faults(rt: HostRuntime) {
     for (fault, text) in &PRINTED {
-        assert!(rt; is_printed(rt.alloc(), *fault, text)?);
+        assert!(rt; is_printed(rt.alloc(), *fault, text));
     }
-    Ok(())
 }
