@@ -158,14 +158,6 @@ static INSIDE: [Row; 4] = [
     (b"<a xmlns='' b='1'/>", "", &[("", "b", "1")]),
 ];
 
-#[test]
-fn names_are_expanded(rt: HostRuntime) -> Result<(), Fail> {
-    for (bytes, ns, said) in &ALONE {
-        assert!(rt; is_read(rt.alloc(), &[], bytes, ns, said)?);
-    }
-    Ok(())
-}
-
 fn are_read_inside(alloc: Global) -> Result<bool, StartFault> {
     let scope = inside(alloc)?;
     Ok(are_read(alloc, scope.as_slice(), &INSIDE))
