@@ -1,2 +1,3 @@
-pub mod Lists
+pub mod Arenas
+pub mod Paths
 mod Worked

@@ -1,17 +1,20 @@
 -- The definitions, evaluated at values that were worked out beforehand.
-use Rattle.std.proofs.Common.{◌≡◌, ℕ, [], ◌∷◌, List, Some, None, map, refl}
+use Rattle.std.proofs.Common.{◌≡◌, ℕ, [], ◌∷◌, List, Some, None, refl}
 use Rattle.std.specs.Prelude.{codes}
-use Rattle.xmpp_pool.proofs.Lists.{relabelled}
-use Rattle.xmpp_pool.specs.Queues.{list_among, list_of, PoolView, stanzas_of}
-use Rattle.xmpp_pool.specs.Rows.{queues_in, stanzas_in}
-use Rattle.xmpp_pool.specs.declared.rows.Row.{Row}
+use Rattle.xmpp_pool.specs.Arena.{Slots, queues_in, stanzas_at}
+use Rattle.xmpp_pool.specs.Queues.{PoolView, list_among, list_of, nodes_of, stanzas_of}
+use Rattle.xmpp_pool.specs.declared.nodes.Ends.{Ends}
+use Rattle.xmpp_pool.specs.declared.nodes.Node.{Node}
 
-abbrev row : ℕ → List ℕ → Row
-row q text = record { queue = q; bytes = record { items = text; spare = 0 } }
+abbrev node : ℕ → List ℕ → Node
+node next text = record { bytes = record { items = text; spare = 0 }; next = next }
 
--- queue 1 holds a and b, queue 2 holds c, which was put between them, and queue 3 is empty
-abbrev rows : List Row
-rows = row 1 (codes "a") ∷ row 2 (codes "c") ∷ row 1 (codes "b") ∷ []
+-- a and b stand at the places 0 and 3, c at 2, and nothing at 1
+abbrev slots : Slots
+slots = Some (node 3 (codes "a")) ∷ None ∷ Some (node 7 (codes "c")) ∷ Some (node 0 (codes "b")) ∷ []
+
+abbrev ends : ℕ → ℕ → ℕ → Ends
+ends first last len = record { first = first; last = last; len = len }
 
 abbrev pool : PoolView
 pool =
@@ -21,12 +24,17 @@ pool =
           ∷ record { id = 3; stanzas = [] }
           ∷ [];
       made = 4;
-      spare = 0;
+      spare = 1;
     }
 
-three_queues : queues_in (1 ∷ 2 ∷ 3 ∷ []) rows ≡ pool.queues
-unfolding queues_in stanzas_in
+three_queues : queues_in slots ((1, ends 0 3 2) ∷ (2, ends 2 2 1) ∷ (3, ends 9 9 0) ∷ []) ≡ pool.queues
+unfolding queues_in stanzas_at
 three_queues = refl
+
+-- the first queue behind the second: c, a, b
+handed_over : stanzas_at (Some (node 3 (codes "a")) ∷ None ∷ Some (node 0 (codes "c")) ∷ Some (node 0 (codes "b")) ∷ []) (ends 2 3 3) ≡ codes "c" ∷ codes "a" ∷ codes "b" ∷ []
+unfolding stanzas_at
+handed_over = refl
 
 second_queue : stanzas_of 2 pool ≡ Some (codes "c" ∷ [])
 unfolding list_among
@@ -44,6 +52,5 @@ first_list : list_of 1 pool ≡ codes "a" ∷ codes "b" ∷ []
 unfolding list_among
 first_list = refl
 
-given_to_third : stanzas_in 3 (map (relabelled 1 3) rows) ≡ codes "a" ∷ codes "b" ∷ []
-unfolding stanzas_in
-given_to_third = refl
+four_nodes : nodes_of pool ≡ 4
+four_nodes = refl

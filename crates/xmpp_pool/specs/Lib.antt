@@ -1,3 +1,3 @@
 pub use Rattle.xmpp_edge.specs.Listed
+pub mod Arena
 pub mod Queues
-pub mod Rows

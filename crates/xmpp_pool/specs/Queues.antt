@@ -1,5 +1,5 @@
 -- Queues of stanzas in one pool: what was put and is not yet acknowledged (XEP-0198 section 4).
-use Rattle.std.specs.Prelude.{ℕ, nat_eq, List, [], Option, IsSome, find, unwrap_or}
+use Rattle.std.specs.Prelude.{ℕ, ◌+◌, nat_eq, List, [], length, Option, IsSome, find, unwrap_or, sum_by}
 use Rattle.std.specs.Option.{option_map}
 
 -- a queue that lives: its number, and the stanzas in it, the oldest first, each a list of bytes
@@ -28,3 +28,7 @@ Lives q pool = IsSome (stanzas_of q pool)
 -- the stanzas of a queue that lives
 abbrev pub list_of : ℕ → PoolView → List (List ℕ)
 list_of q pool = unwrap_or (stanzas_of q pool) []
+
+-- how many stanzas wait in all, and how many more fit
+abbrev pub nodes_of : PoolView → ℕ
+nodes_of pool = sum_by (λ (queue : QueueView). length queue.stanzas) pool.queues + pool.spare

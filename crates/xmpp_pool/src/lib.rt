@@ -2,7 +2,7 @@
 //! a stanza can be made before anything is changed.
 #![tactic(auto)]
 
+mod nodes;
 mod pool;
-mod rows;
 
 pub use pool::{Pool, QueueId};

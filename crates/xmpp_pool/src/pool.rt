@@ -1,10 +1,14 @@
 //! The queues of stanzas, by their numbers.
-ghost use Rattle.std.specs.Prelude.{◌≡◌, ◌≢◌, ℕ, ◌+◌, ◌<◌, ◌≤◌, ◌^◌, ◌↔◌, [], ◌∷◌, ◌++◌, length, slice_get, IfOk, IfSome, IfNone, IsNone, OnOk, OnErr, OnSome, IsTrue};
-ghost use Rattle.xmpp_pool.specs.Queues.{Lives, list_of, stanzas_of};
+ghost use Rattle.std.specs.HashMap as hash;
+ghost use Rattle.std.specs.Prelude.{◌≡◌, ◌≢◌, ℕ, ◌+◌, ◌<◌, ◌≤◌, ◌^◌, ◌↔◌, [], ◌∷◌, ◌++◌, drop, length, nat_eq, slice_get, IfOk, IfSome, IfNone, IsNone, IsSome, None, OnOk, OnErr, OnSome, Some, IsTrue};
+ghost use Rattle.std.specs.List.{concat};
+ghost use Rattle.xmpp_pool.specs.Arena.{held_in};
+ghost use Rattle.xmpp_pool.specs.Queues.{Lives, list_of, nodes_of, stanzas_of};
 
-use crate::rows::{Row, add_row, count_rows, drop_rows, relabel, row_at, take_row};
+use crate::nodes::{Ends, Node, append_bytes, bytes_len, bytes_of};
+use slab::Slab;
 use std::alloc::Global;
-use std::collections::HashSet;
+use std::collections::HashMap;
 use std::marker::Model;
 use xmpp_edge::{Bytes, NoMemory};
 
@@ -13,26 +17,54 @@ pub type QueueId = u64;
 
 /// Queues of stanzas, in one pool. Contracts see it as the list of stanzas of each queue that lives, the number of
 /// queues that were made, and the number `spare` of further stanzas that fit without more memory.
+///
+/// All stanzas stand in one arena, each with the place of the next one of its queue. So a call costs what it touches,
+/// however many stanzas other queues have.
 #[derive(Drop)]
 pub struct Pool {
-    rows: Vec<Row>,
-    living: HashSet<QueueId>,
+    nodes: Slab<Node>,
+    ends: HashMap<QueueId, Ends>,
     made: u64,
 }
 
 impl Model for Pool {
-    ghost use Rattle.std.specs.Prelude.{◌-◌, vec_len, vec_capacity};
+    ghost use Rattle.std.specs.Prelude.{◌-◌};
+    ghost use Rattle.slab.specs.Slab.{slab_len};
     ghost use Rattle.xmpp_pool.specs.Queues.{PoolView};
-    ghost use Rattle.xmpp_pool.specs.Rows.{AreMade, queues_in};
+    ghost use Rattle.xmpp_pool.specs.Arena.{IsArena, queues_in};
 
     ghost Value = { PoolView };
 
-    ghost view = { λ p. record { queues = queues_in p.living.keys p.rows.items; made = p.made; spare = vec_capacity p.rows - vec_len p.rows } };
+    ghost view = { λ p. record { queues = queues_in p.nodes.slots p.ends.entries; made = p.made; spare = p.nodes.capacity - slab_len p.nodes } };
 
-    ghost invariant = { λ p. AreMade p.living.keys p.rows.items p.made };
+    ghost invariant = { λ p. IsArena p.nodes p.ends p.made };
 }
 
-#[tactic(auto, using(crate::proofs::Lists::among_queues, crate::proofs::Lists::stanzas_of_none))]
+// The ends of a queue that lives.
+fn ends_of(ends: &HashMap<QueueId, Ends>, queue: QueueId) -> Ends
+    requires { IsSome (hash.get nat_eq ends.now queue) }
+    ensures { hash.get nat_eq ends.now queue ≡ Some result }
+{
+    match ends.get(&queue) {
+        Some(found) => *found,
+        None => unreachable!(),
+    }
+}
+
+// Writes the ends of a queue that lives.
+fn set_ends(ends: &mut HashMap<QueueId, Ends>, queue: QueueId, new: Ends)
+    requires { IsSome (hash.get nat_eq ends.old queue) }
+    ensures queue { hash.get nat_eq ends.new queue ≡ Some new }
+    ensures others { (other : ℕ) → other ≢ queue → hash.get nat_eq ends.new other ≡ hash.get nat_eq ends.old other }
+    ensures held { IfSome (hash.get nat_eq ends.old queue) (λ old. held_in ends.new + old.len ≡ held_in ends.old + new.len) }
+{
+    match ends.get_mut(&queue) {
+        Some(found) => *found = new,
+        None => unreachable!(),
+    }
+}
+
+#[tactic(auto, using(crate::proofs::Arenas::among_queues))]
 impl Pool {
     /// A pool without queues. It takes no memory.
     pub fn new(alloc: Global) -> Pool
@@ -40,10 +72,18 @@ impl Pool {
         ensures made { result.made ≡ 0 }
     {
         Pool {
-            rows: Vec::new(alloc),
-            living: HashSet::new(alloc),
+            nodes: Slab::new(alloc),
+            ends: HashMap::new(alloc),
             made: 0,
         }
+    }
+
+    /// How many nodes the pool has: one for each stanza that waits, and one for each further stanza that fits without
+    /// more memory.
+    pub fn nodes(&self) -> u64
+        ensures { result ≡ nodes_of self.now }
+    {
+        self.nodes.capacity() as u64
     }
 
     /// Makes an empty queue and answers its number, which no queue had before. A refusal leaves the queues as they
@@ -58,9 +98,10 @@ impl Pool {
         ensures unchanged { OnErr result ((q : ℕ) → stanzas_of q self.new ≡ stanzas_of q self.old) }
         ensures unmade { OnErr result (self.new.made ≡ self.old.made) }
         ensures kept { self.old.spare ≤ self.new.spare }
+        ensures nodes { nodes_of self.new ≡ nodes_of self.old }
     {
         let queue = self.made + 1;
-        self.living.insert(queue)?;
+        self.ends.insert(queue, Ends::none())?;
         self.made = queue;
         Ok(queue)
     }
@@ -71,8 +112,9 @@ impl Pool {
         ensures queues { (q : ℕ) → stanzas_of q self.new ≡ stanzas_of q self.old }
         ensures made { self.new.made ≡ self.old.made }
         ensures kept { self.old.spare ≤ self.new.spare }
+        ensures nodes { nodes_of self.old ≤ nodes_of self.new }
     {
-        self.rows.reserve(n as usize)?;
+        self.nodes.reserve(n as usize)?;
         Ok(())
     }
 
@@ -84,8 +126,14 @@ impl Pool {
         ensures others { (other : ℕ) → other ≢ queue → stanzas_of other self.new ≡ stanzas_of other self.old }
         ensures made { self.new.made ≡ self.old.made }
         ensures spare { self.old.spare ≤ self.new.spare + 1 }
+        ensures nodes { nodes_of self.new ≡ nodes_of self.old }
     {
-        add_row(&mut self.rows, queue, bytes);
+        let mut ends = ends_of(&self.ends, queue);
+        let node = self.nodes.insert_reserved(Node { bytes, next: 0 });
+        // That the length of a queue is a number: there are no more nodes.
+        let _ = self.nodes.len();
+        ends.join(&mut self.nodes, Ends::one(node));
+        set_ends(&mut self.ends, queue, ends);
     }
 
     /// Takes the oldest stanza out of a queue. `None` where the queue is empty. It takes no memory, and a stanza that
@@ -100,33 +148,64 @@ impl Pool {
         ensures made { self.new.made ≡ self.old.made }
         ensures room { OnSome result (self.old.spare < self.new.spare) }
         ensures kept { self.old.spare ≤ self.new.spare }
+        ensures nodes { nodes_of self.new ≡ nodes_of self.old }
     {
-        take_row(&mut self.rows, queue)
+        let mut ends = ends_of(&self.ends, queue);
+        if ends.len == 0 {
+            return None;
+        }
+        let bytes = ends.take(&mut self.nodes);
+        set_ends(&mut self.ends, queue, ends);
+        Some(bytes)
     }
 
     /// How many stanzas wait in a queue.
-    #[tactic(auto, using(crate::proofs::Lists::among_queues, crate::proofs::Lists::stanzas_length))]
     pub fn len(&self, queue: QueueId) -> u64
         requires { Lives queue self.now }
         ensures { result ≡ length (list_of queue self.now) }
     {
-        count_rows(&self.rows, queue) as u64
+        ends_of(&self.ends, queue).len as u64
     }
 
-    /// The stanza at a place in a queue, counted from 0, the oldest first. `None` where there is no such place.
-    #[tactic(auto, using(crate::proofs::Lists::among_queues, crate::proofs::Lists::stanza_at, crate::proofs::Lists::no_stanza_at, crate::proofs::Lists::stanza_within))]
+    /// The stanza at a place in a queue, counted from 0, the oldest first. `None` where there is no such place. It goes
+    /// through the stanzas before it.
     pub fn nth(&self, queue: QueueId, i: u64) -> Option<&Bytes>
         requires { Lives queue self.now }
         ensures stanza { IfSome result (λ b. slice_get (list_of queue self.now) i ≡ Some b.now.items) }
         ensures none { IsNone result ↔ (length (list_of queue self.now) ≤ i) }
     {
-        let row = row_at(&self.rows, queue, i as usize)?;
-        Some(&row.bytes)
+        let ends = ends_of(&self.ends, queue);
+        if ends.len as u64 <= i {
+            return None;
+        }
+        let at = ends.place(&self.nodes, i as usize);
+        Some(bytes_of(&self.nodes, at))
+    }
+
+    /// Appends the bytes of all stanzas of a queue but the first `skip`, in order. It goes through the queue once to
+    /// count and once to append. A refusal appends nothing.
+    pub fn append_from(&self, queue: QueueId, skip: u64, out: &mut Bytes) -> Result<(), NoMemory>
+        requires { Lives queue self.now }
+        ensures ok { OnOk result (out.new.items ≡ out.old.items ++ concat (drop skip (list_of queue self.now))) }
+        ensures err { OnErr result (out.new.items ≡ out.old.items) }
+    {
+        let ends = ends_of(&self.ends, queue);
+        if ends.len as u64 <= skip {
+            return Ok(());
+        }
+        let first = ends.place(&self.nodes, skip as usize);
+        let count = ends.len - skip as usize;
+        let len = bytes_len(&self.nodes, first, count);
+        if len == usize::MAX {
+            return Err(NoMemory);
+        }
+        out.reserve(len)?;
+        append_bytes(&self.nodes, first, count, out);
+        Ok(())
     }
 
     /// Puts the stanzas of a queue behind those of another, in order, and leaves the first queue empty. It takes no
-    /// memory.
-    #[tactic(auto, using(crate::proofs::Lists::among_queues, crate::proofs::Lists::no_stanzas))]
+    /// memory, and no stanza moves: it costs the same however many there are.
     pub fn hand_over(&mut self, from: QueueId, to: QueueId)
         requires from { Lives from self.old }
         requires to { Lives to self.old }
@@ -136,21 +215,21 @@ impl Pool {
         ensures others { (other : ℕ) → other ≢ from → other ≢ to → stanzas_of other self.new ≡ stanzas_of other self.old }
         ensures made { self.new.made ≡ self.old.made }
         ensures kept { self.old.spare ≤ self.new.spare }
+        ensures nodes { nodes_of self.new ≡ nodes_of self.old }
     {
-        if count_rows(&self.rows, to) == 0 {
-            relabel(&mut self.rows, from, to);
-        } else {
-            while let Some(bytes) = self.pop_front(from) {
-                self.push_reserved(to, bytes);
-            }
-        }
+        let moved = ends_of(&self.ends, from);
+        let mut ends = ends_of(&self.ends, to);
+        let _ = self.nodes.len();
+        set_ends(&mut self.ends, from, Ends::none());
+        ends.join(&mut self.nodes, moved);
+        set_ends(&mut self.ends, to, ends);
     }
 
     /// Whether a queue with this number lives.
     pub fn lives(&self, queue: QueueId) -> bool
         ensures { IsTrue result ↔ Lives queue self.now }
     {
-        self.living.contains(&queue)
+        self.ends.contains_key(&queue)
     }
 
     /// Drops a queue and the stanzas in it, each of which makes room for one more. Its number is never given again. It
@@ -161,8 +240,23 @@ impl Pool {
         ensures others { (other : ℕ) → other ≢ queue → stanzas_of other self.new ≡ stanzas_of other self.old }
         ensures made { self.new.made ≡ self.old.made }
         ensures room { self.old.spare + length (list_of queue self.old) ≤ self.new.spare }
+        ensures nodes { nodes_of self.new ≡ nodes_of self.old }
     {
-        drop_rows(&mut self.rows, queue);
-        self.living.remove(&queue);
+        while self.len(queue) > 0 {
+            let _ = self.pop_front(queue);
+        }
+        self.forget(queue);
+    }
+
+    // Drops a queue in which no stanza waits.
+    fn forget(&mut self, queue: QueueId)
+        requires { stanzas_of queue self.old ≡ Some [] }
+        ensures queue { stanzas_of queue self.new ≡ None }
+        ensures others { (other : ℕ) → other ≢ queue → stanzas_of other self.new ≡ stanzas_of other self.old }
+        ensures made { self.new.made ≡ self.old.made }
+        ensures spare { self.new.spare ≡ self.old.spare }
+        ensures nodes { nodes_of self.new ≡ nodes_of self.old }
+    {
+        self.ends.remove(&queue);
     }
 }

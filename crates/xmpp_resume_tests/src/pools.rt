@@ -1,4 +1,4 @@
-//! Each call of the queues once.
+//! Each call of the queues once, and the nodes of long queues.
 ghost use Rattle.std.specs.Prelude.{◌≡◌};
 
 use std::alloc::Global;
@@ -76,5 +76,100 @@ fn queues_are_handed_over_and_dropped(rt: HostRuntime) -> Result<(), Fail> {
     assert!(rt;
         texts == [Some(b'c'), Some(b'a'), Some(b'b'), None] && left == (Some(b'b'), 1, false)
     );
+    Ok(())
+}
+
+// The bytes of the second queue but its first stanza's, after the first one was handed over to it.
+fn appended(alloc: Global) -> Result<Bytes, NoMemory> {
+    let mut pool = Pool::new(alloc);
+    fill(alloc, &mut pool)?;
+    let mut out = Bytes::new(alloc);
+    if pool.lives(1) && pool.lives(2) {
+        pool.hand_over(1, 2);
+    }
+    if pool.lives(2) {
+        pool.append_from(2, 1, &mut out)?;
+    }
+    Ok(out)
+}
+
+fn are_appended(alloc: Global) -> bool {
+    match appended(alloc) {
+        Ok(bytes) => bytes.as_slice() == b"ab".as_slice(),
+        Err(_) => false,
+    }
+}
+
+#[test]
+fn queues_are_read_in_order(rt: HostRuntime) {
+    assert!(rt; are_appended(rt.alloc()));
+}
+
+// How many stanzas a long queue has.
+const LONG: u32 = 10_000;
+
+fn lengthen(alloc: Global, pool: &mut Pool, queue: QueueId) -> Result<(), NoMemory> {
+    for _ in 0..LONG {
+        put(alloc, pool, queue, b'a')?;
+    }
+    Ok(())
+}
+
+// Three long queues.
+fn fill_three(alloc: Global, pool: &mut Pool) -> Result<(), NoMemory>
+    requires { pool.old.made ≡ 0 }
+{
+    pool.reserve(3 * LONG)?;
+    let _ = pool.make_queue()?;
+    let _ = pool.make_queue()?;
+    let _ = pool.make_queue()?;
+    for queue in [1, 2, 3] {
+        lengthen(alloc, pool, queue)?;
+    }
+    Ok(())
+}
+
+// How many nodes there are after a queue was handed over.
+fn nodes_handed(pool: &mut Pool, from: QueueId, to: QueueId) -> u64 {
+    if from != to && pool.lives(from) && pool.lives(to) {
+        pool.hand_over(from, to);
+    }
+    pool.nodes()
+}
+
+// How many nodes there are after a queue was dropped.
+fn nodes_left(pool: &mut Pool, queue: QueueId) -> u64 {
+    if pool.lives(queue) {
+        pool.drop_queue(queue);
+    }
+    pool.nodes()
+}
+
+// The nodes of three long queues, and after each of three hand-overs in a ring and of three drops.
+fn nodes_along(pool: &mut Pool) -> [u64; 7] {
+    [
+        pool.nodes(),
+        nodes_handed(pool, 1, 2),
+        nodes_handed(pool, 2, 3),
+        nodes_handed(pool, 3, 1),
+        nodes_left(pool, 1),
+        nodes_left(pool, 2),
+        nodes_left(pool, 3),
+    ]
+}
+
+fn nodes_of_three(alloc: Global) -> Result<[u64; 7], NoMemory> {
+    let mut pool = Pool::new(alloc);
+    fill_three(alloc, &mut pool)?;
+    Ok(nodes_along(&mut pool))
+}
+
+fn stay(nodes: [u64; 7]) -> bool {
+    nodes[0] >= 30_000 && nodes == [nodes[0]; 7]
+}
+
+#[test]
+fn nodes_stay_where_long_queues_move(rt: HostRuntime) -> Result<(), Fail> {
+    assert!(rt; stay(nodes_of_three(rt.alloc())?));
     Ok(())
 }
