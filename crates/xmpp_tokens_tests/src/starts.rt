@@ -141,21 +141,6 @@ static INSIDE: [Row; 4] = [
     (b"<a xmlns='' b='1'/>", "", &[("", "b", "1")]),
 ];
 
-static INSIDE: [Row; 4] = [
-    (b"<a b='1'/>", "d", &[("", "b", "1")]),
-    (
-        b"<p:a q:b='1' p:b='2'/>",
-        "v",
-        &[("u", "b", "1"), ("v", "b", "2")],
-    ),
-    (
-        b"<p:a xmlns:p='w' q:b='1' p:b='2'/>",
-        "w",
-        &[("u", "b", "1"), ("w", "b", "2")],
-    ),
-    (b"<a xmlns='' b='1'/>", "", &[("", "b", "1")]),
-];
-
 fn are_read_inside(alloc: Global) -> Result<bool, StartFault> {
     let scope = inside(alloc)?;
     Ok(are_read(alloc, &scope, &INSIDE))
@@ -163,7 +148,9 @@ fn are_read_inside(alloc: Global) -> Result<bool, StartFault> {
 
 #[test]
 fn names_are_expanded(rt: HostRuntime) -> Result<(), Fail> {
-    assert!(rt; are_read(rt.alloc(), &Scopes::new(rt.alloc()), &ALONE) && are_read_inside(rt.alloc())?);
+    assert!(rt;
+        are_read(rt.alloc(), &Scopes::new(rt.alloc()), &ALONE) && are_read_inside(rt.alloc())?
+    );
     Ok(())
 }
 
