@@ -1,11 +1,12 @@
 -- The stacks of a framer, outermost first, as the lists of the definitions, innermost first.
-use Rattle.std.proofs.Common.{◌≡◌, List, [], ◌∷◌, ◌++◌, Vec, map, reverse, refl, sym, ap, ◌∙◌, append_assoc}
+use Rattle.std.proofs.Common.{◌≡◌, ◌-◌, List, [], ◌∷◌, ◌++◌, Vec, map, reverse, length, take, refl, sym, ap, ◌∙◌, append_assoc}
 use Rattle.std.proofs.lemmas.List.{append-nil, map-append, reverse-append}
 use Rattle.std.specs.declared.alloc.Global.{Global}
+use Rattle.xmpp_names.proofs.BoundNames.{front_of_more}
 use Rattle.xmpp_names.specs.Scopes.{Scope, scope_of}
 use Rattle.xmpp_names.specs.declared.scopes.Binding.{Binding}
 use Rattle.xmpp_framing.specs.FramerView.{open_of, opens_of, own_of, scopes_of}
-use Rattle.xmpp_framing.specs.TagSteps.{scope_in}
+use Rattle.xmpp_framing.specs.TagSteps.{outer_scopes, scope_in}
 use Rattle.xmpp_framing.specs.declared.states.Open.{Open}
 
 pub opens_push : (os : List Open) (o : Open) → opens_of (os ++ o ∷ []) ≡ open_of o ∷ opens_of os
@@ -13,6 +14,19 @@ opens_push os o = ap (map open_of) (reverse-append os (o ∷ []))
 
 pub scopes_push : (vs : List (Vec Binding Global)) (v : Vec Binding Global) → scopes_of (vs ++ v ∷ []) ≡ v.items ∷ scopes_of vs
 scopes_push vs v = ap (map own_of) (reverse-append vs (v ∷ []))
+
+parted : (v : Vec Binding Global) (vs : List (Vec Binding Global)) → (front : List (Vec Binding Global)) × (last : Vec Binding Global) × (v ∷ vs ≡ front ++ last ∷ [])
+parted v [] = ([], v, refl)
+parted v (w ∷ ws) = let p = parted w ws in (v ∷ p.0, p.1, ap (λ l. v ∷ l) p.2)
+
+less_of : (all front : List (Vec Binding Global)) (last : Vec Binding Global) → all ≡ front ++ last ∷ [] → scopes_of (take (length all - 1) all) ≡ outer_scopes (scopes_of all)
+less_of all front last e =
+    ap (λ l. scopes_of (take (length l - 1) l)) e ∙ ap scopes_of (front_of_more front last) ∙ sym (ap outer_scopes (ap scopes_of e ∙ scopes_push front last))
+
+-- without the innermost
+pub scopes_less : (vs : List (Vec Binding Global)) → scopes_of (take (length vs - 1) vs) ≡ outer_scopes (scopes_of vs)
+scopes_less [] = refl
+scopes_less (v ∷ vs) = let p = parted v vs in less_of (v ∷ vs) p.0 p.1 p.2
 
 scope_append : (xs ys : List Scope) → scope_in (xs ++ ys) ≡ scope_in xs ++ scope_in ys
 scope_append [] ys = refl

@@ -34,7 +34,7 @@ state_of f = record {
   chars = string_bytes f.chars;
   here = option_map open_of f.here;
   below = opens_of f.below.items;
-  scopes = scopes_of f.scopes.items;
+  scopes = scopes_of f.scopes;
   name = f.name;
   fault = f.fault;
 }

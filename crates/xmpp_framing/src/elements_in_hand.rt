@@ -128,7 +128,7 @@ impl Framer {
             ..
         } = tag;
         let element = element_of(self.alloc, ns, name, attributes)?;
-        self.scopes.push(bindings)?;
+        self.scopes.open(self.alloc, bindings)?;
         match self.here.take() {
             Some(outer) => self.below.push(outer)?,
             None => {}
@@ -149,12 +149,12 @@ impl Framer {
     }
 
     // The innermost open element leaves.
-    #[tactic(auto, using(crate::proofs::Stacks::opens_push, crate::proofs::Stacks::scopes_push))]
+    #[tactic(auto, using(crate::proofs::Stacks::opens_push, crate::proofs::Stacks::scopes_less))]
     fn shallow(&mut self)
         ensures { self.new ≡ shallower self.old }
     {
         self.here = self.below.pop();
-        self.scopes.pop();
+        self.scopes.close();
     }
 
     // The innermost open element is whole.

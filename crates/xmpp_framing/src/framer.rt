@@ -16,7 +16,7 @@ use crate::states::{Lexical, Mode, Open, Phase, Places};
 use std::alloc::Global;
 use std::marker::Model;
 use xmpp_edge::{NoMemory, Text};
-use xmpp_names::Binding;
+use xmpp_names::Scopes;
 use xmpp_tokens::PartialCharacter;
 
 // The most bytes of room that are kept from one token to the next. Tags of chat are far shorter. A longer one takes its
@@ -37,7 +37,7 @@ pub struct Framer {
     pub(crate) chars: String,
     pub(crate) here: Option<Open>,
     pub(crate) below: Vec<Open>,
-    pub(crate) scopes: Vec<Vec<Binding>>,
+    pub(crate) scopes: Scopes,
     pub(crate) name: Text,
     pub(crate) fault: Option<Fault>,
 }
@@ -90,7 +90,7 @@ impl Framer {
             chars: String::new(alloc),
             here: None,
             below: Vec::new(alloc),
-            scopes: Vec::new(alloc),
+            scopes: Scopes::new(alloc),
             name: Text::new(alloc),
             fault: None,
         }

@@ -12,7 +12,7 @@ use crate::framer::Framer;
 use crate::items::{Item, Items};
 use crate::states::Phase;
 use xmpp_edge::NoMemory;
-use xmpp_names::{Header, HeaderTag, StartFault, StartWhy, Tag, header_of, opens_stream};
+use xmpp_names::{Header, HeaderTag, Scopes, StartFault, StartWhy, Tag, header_of, opens_stream};
 
 // What is wrong with a header's tag.
 fn header_why(why: StartWhy) -> Why
@@ -57,8 +57,8 @@ impl Framer {
             bindings,
             empty,
         } = header_of(self.alloc, tag)?;
-        let mut scopes = Vec::with_capacity(self.alloc, 1)?;
-        scopes.push(bindings)?;
+        let mut scopes = Scopes::new(self.alloc);
+        scopes.open(self.alloc, bindings)?;
         let at = self.places.token_at;
         self.scopes = scopes;
         self.name = spelled;

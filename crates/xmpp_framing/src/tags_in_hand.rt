@@ -14,7 +14,9 @@ use crate::items::Items;
 use crate::limits::Limits;
 use crate::states::Phase;
 use xmpp_edge::NoMemory;
-use xmpp_names::{StartFault, StartWhy, Tag, TagLimits, opens_stream, read_end, read_start};
+use xmpp_names::{
+    Scopes, StartFault, StartWhy, Tag, TagLimits, opens_stream, read_end, read_start,
+};
 use xmpp_tokens::is_end;
 
 // What a tag is read with.
@@ -53,7 +55,12 @@ impl Framer {
         ensures ok { IfOk result (λ t. tag_anew self.now ≡ Ok (tag_view t)) }
         ensures refused { IfErr result (λ e. IfRefused e (λ why. tag_anew self.now ≡ Err why)) }
     {
-        read_start(self.alloc, tag_limits(self.limits), &[], &self.token)
+        read_start(
+            self.alloc,
+            tag_limits(self.limits),
+            &Scopes::new(self.alloc),
+            &self.token,
+        )
     }
 
     // Whether the tag in hand is a header's, also where it is past the limits. It was refused under the limits in force, or

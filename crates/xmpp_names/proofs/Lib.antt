@@ -3,6 +3,7 @@ pub mod DeclarationRuns
 pub mod JoinedNames
 pub mod NameLaws
 pub mod ScopeRuns
+pub mod BoundNames
 -- ---- expanded names, and whether they are distinct
 pub mod Expanded
 pub mod NamePairs

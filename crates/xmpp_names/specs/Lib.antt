@@ -1,4 +1,5 @@
 pub mod Scopes
+pub mod Bound
 pub mod Faults
 pub mod Names
 pub mod Declarations

@@ -9,6 +9,7 @@ ghost use Rattle.xmpp_tokens.specs.Tags.{names_of};
 
 use crate::index::indexed_names;
 use crate::names::split_name;
+use crate::open_scopes::Scopes;
 use crate::scopes::{Binding, bound_copy, bound_in};
 use std::alloc::Global;
 use xmpp_edge::{NoMemory, Text};
@@ -38,11 +39,7 @@ pub(crate) struct ExpandedName<'a> {
 
 // The namespace of an element whose name has this prefix.
 #[tactic(auto, unfolding(crate::specs::Expansion::element_ns))]
-pub(crate) fn element_ns<'a>(
-    own: &'a [Binding],
-    stack: &'a [Vec<Binding>],
-    prefix: &str,
-) -> Option<&'a str>
+pub(crate) fn element_ns<'a>(own: &'a [Binding], stack: &'a Scopes, prefix: &str) -> Option<&'a str>
     ensures { option_map (λ s. s.now) result ≡ Expansion.element_ns (own.now ++ scope_of stack.now) prefix.now }
 {
     if prefix.is_empty() {
@@ -59,7 +56,7 @@ pub(crate) fn element_ns<'a>(
 pub(crate) fn element_ns_copy(
     alloc: Global,
     own: &[Binding],
-    stack: &[Vec<Binding>],
+    stack: &Scopes,
     prefix: &str,
 ) -> Result<Option<Text>, NoMemory>
     ensures { IfOk result (λ o. o ≡ Expansion.element_ns (own.now ++ scope_of stack.now) prefix.now) }
@@ -80,7 +77,7 @@ pub(crate) fn element_ns_copy(
 #[tactic(auto, unfolding(crate::specs::Expansion::attribute_ns))]
 pub(crate) fn attribute_ns<'a>(
     own: &'a [Binding],
-    stack: &'a [Vec<Binding>],
+    stack: &'a Scopes,
     prefix: &str,
 ) -> Option<&'a str>
     ensures { option_map (λ s. s.now) result ≡ Expansion.attribute_ns (own.now ++ scope_of stack.now) prefix.now }
@@ -96,7 +93,7 @@ pub(crate) fn attribute_ns<'a>(
 fn attribute_ns_copy(
     alloc: Global,
     own: &[Binding],
-    stack: &[Vec<Binding>],
+    stack: &Scopes,
     prefix: &str,
 ) -> Result<Option<Text>, NoMemory>
     ensures { IfOk result (λ o. o ≡ Expansion.attribute_ns (own.now ++ scope_of stack.now) prefix.now) }
@@ -111,7 +108,7 @@ fn attribute_ns_copy(
 #[tactic(auto, unfolding(crate::specs::Expansion::expanded_name))]
 pub(crate) fn expanded_name<'a>(
     own: &'a [Binding],
-    stack: &'a [Vec<Binding>],
+    stack: &'a Scopes,
     name: &'a str,
 ) -> Option<ExpandedName<'a>>
     ensures { option_map borrowed_name result ≡ Expansion.expanded_name (own.now ++ scope_of stack.now) name.now }
@@ -125,7 +122,7 @@ pub(crate) fn expanded_name<'a>(
 pub(crate) fn expanded_names<'a>(
     alloc: Global,
     own: &'a [Binding],
-    stack: &'a [Vec<Binding>],
+    stack: &'a Scopes,
     others: &[RawAttribute<'a>],
 ) -> Result<Option<Vec<ExpandedName<'a>>>, NoMemory>
     ensures { IfOk result (λ o. option_map (λ v. map borrowed_name v.items) o
@@ -149,7 +146,7 @@ pub(crate) fn expanded_names<'a>(
 fn expanded_attribute(
     alloc: Global,
     own: &[Binding],
-    stack: &[Vec<Binding>],
+    stack: &Scopes,
     attribute: RawAttribute<'_>,
 ) -> Result<Option<ExpandedAttribute>, NoMemory>
     ensures { IfOk result (λ o. o
@@ -171,7 +168,7 @@ fn expanded_attribute(
 pub(crate) fn expanded_attributes(
     alloc: Global,
     own: &[Binding],
-    stack: &[Vec<Binding>],
+    stack: &Scopes,
     others: Vec<RawAttribute<'_>>,
 ) -> Result<Option<Vec<ExpandedAttribute>>, NoMemory>
     ensures { IfOk result (λ o. option_map (λ v. v.items) o

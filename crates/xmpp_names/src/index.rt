@@ -8,13 +8,14 @@ ghost use Rattle.std.specs.Ordering.{nat_cmp};
 ghost use Rattle.std.specs.Str.{bytes_eq};
 ghost use Rattle.xmpp_names.specs.Expansion;
 ghost use Rattle.xmpp_names.specs.Expansion.{borrowed_name};
-ghost use Rattle.xmpp_names.specs.Scopes;
+ghost use Rattle.xmpp_names.specs.Scopes as scope;
 ghost use Rattle.xmpp_names.specs.Scopes.{bound, scope_of};
 ghost use Rattle.xmpp_tokens.specs.RawTags.{attribute_of};
 ghost use Rattle.xmpp_tokens.specs.Tags.{names_of};
 
 use crate::expansion::ExpandedName;
 use crate::names::split_name;
+use crate::open_scopes::Scopes;
 use crate::scopes::{Binding, XML_NAMESPACE, stack_name};
 use std::alloc::Global;
 use std::collections::BTreeMap;
@@ -44,7 +45,7 @@ fn put<'a>(
 
 // The declarations by prefix, the first of each.
 fn by_prefix<'a>(alloc: Global, own: &'a [Binding]) -> Result<Index<'a>, NoMemory>
-    ensures first { IfOk result (λ m. (q : List ℕ) → option_map (λ s. s.now) (tree.get_by (λ k. slice_cmp nat_cmp q k.now) m.first) ≡ Scopes.first_bound m.own.now q) }
+    ensures first { IfOk result (λ m. (q : List ℕ) → option_map (λ s. s.now) (tree.get_by (λ k. slice_cmp nat_cmp q k.now) m.first) ≡ scope.first_bound m.own.now q) }
     ensures own { IfOk result (λ m. m.own.now ≡ own.now) }
 {
     let mut first = BTreeMap::new(alloc);
@@ -56,8 +57,8 @@ fn by_prefix<'a>(alloc: Global, own: &'a [Binding]) -> Result<Index<'a>, NoMemor
 
 // The namespace that a prefix stands for in a tag with these declarations, inside a stack of others.
 #[tactic(auto, unfolding(crate::specs::Scopes::bound))]
-fn bound_by<'a>(index: &Index<'a>, stack: &'a [Vec<Binding>], prefix: &str) -> Option<&'a str>
-    requires { (q : List ℕ) → option_map (λ s. s.now) (tree.get_by (λ k. slice_cmp nat_cmp q k.now) index.now.first) ≡ Scopes.first_bound index.now.own.now q }
+fn bound_by<'a>(index: &Index<'a>, stack: &'a Scopes, prefix: &str) -> Option<&'a str>
+    requires { (q : List ℕ) → option_map (λ s. s.now) (tree.get_by (λ k. slice_cmp nat_cmp q k.now) index.now.first) ≡ scope.first_bound index.now.own.now q }
     ensures { option_map (λ s. s.now) result ≡ bound (index.now.own.now ++ scope_of stack.now) prefix.now }
 {
     if prefix == "xml" {
@@ -71,12 +72,8 @@ fn bound_by<'a>(index: &Index<'a>, stack: &'a [Vec<Binding>], prefix: &str) -> O
 
 // The expanded name of an attribute.
 #[tactic(auto, unfolding(crate::specs::Expansion::expanded_name, crate::specs::Expansion::attribute_ns))]
-fn expanded_by<'a>(
-    index: &Index<'a>,
-    stack: &'a [Vec<Binding>],
-    name: &'a str,
-) -> Option<ExpandedName<'a>>
-    requires { (q : List ℕ) → option_map (λ s. s.now) (tree.get_by (λ k. slice_cmp nat_cmp q k.now) index.now.first) ≡ Scopes.first_bound index.now.own.now q }
+fn expanded_by<'a>(index: &Index<'a>, stack: &'a Scopes, name: &'a str) -> Option<ExpandedName<'a>>
+    requires { (q : List ℕ) → option_map (λ s. s.now) (tree.get_by (λ k. slice_cmp nat_cmp q k.now) index.now.first) ≡ scope.first_bound index.now.own.now q }
     ensures { option_map borrowed_name result ≡ Expansion.expanded_name (index.now.own.now ++ scope_of stack.now) name.now }
 {
     let (prefix, local) = split_name(name);
@@ -91,10 +88,10 @@ fn expanded_by<'a>(
 fn names_by<'a>(
     alloc: Global,
     index: &Index<'a>,
-    stack: &'a [Vec<Binding>],
+    stack: &'a Scopes,
     others: &[RawAttribute<'a>],
 ) -> Result<Option<Vec<ExpandedName<'a>>>, NoMemory>
-    requires { (q : List ℕ) → option_map (λ s. s.now) (tree.get_by (λ k. slice_cmp nat_cmp q k.now) index.now.first) ≡ Scopes.first_bound index.now.own.now q }
+    requires { (q : List ℕ) → option_map (λ s. s.now) (tree.get_by (λ k. slice_cmp nat_cmp q k.now) index.now.first) ≡ scope.first_bound index.now.own.now q }
     ensures { IfOk result (λ o. option_map (λ v. map borrowed_name v.items) o
         ≡ Expansion.expanded_names (index.now.own.now ++ scope_of stack.now) (names_of (map attribute_of others.now))) }
 {
@@ -112,7 +109,7 @@ fn names_by<'a>(
 pub(crate) fn indexed_names<'a>(
     alloc: Global,
     own: &'a [Binding],
-    stack: &'a [Vec<Binding>],
+    stack: &'a Scopes,
     others: &[RawAttribute<'a>],
 ) -> Result<Option<Vec<ExpandedName<'a>>>, NoMemory>
     ensures { IfOk result (λ o. option_map (λ v. map borrowed_name v.items) o

@@ -11,6 +11,7 @@ mod index;
 mod laws;
 mod limits;
 mod names;
+mod open_scopes;
 mod pairs;
 mod scopes;
 mod starts;
@@ -25,5 +26,6 @@ pub use laws::{
 };
 pub use limits::TagLimits;
 pub use names::is_spelled;
+pub use open_scopes::Scopes;
 pub use scopes::Binding;
 pub use starts::{Tag, read_start};

@@ -10,6 +10,7 @@ ghost use Rattle.xmpp_tokens.specs.RawTags.{attribute_of};
 
 use crate::expansion::{ExpandedName, attribute_ns, expanded_name};
 use crate::names::split_name;
+use crate::open_scopes::Scopes;
 use crate::scopes::Binding;
 use xmpp_tokens::RawAttribute;
 
@@ -19,7 +20,7 @@ pub(crate) const FEW_NAMES: usize = 8;
 // Whether an attribute with this spelled name has an expanded name. Its namespace is asked for only where the local
 // names are equal.
 #[tactic(auto, unfolding(crate::specs::Expansion::expanded_name))]
-fn is_named(own: &[Binding], stack: &[Vec<Binding>], name: &ExpandedName<'_>, spelled: &str) -> bool
+fn is_named(own: &[Binding], stack: &Scopes, name: &ExpandedName<'_>, spelled: &str) -> bool
     ensures { result ≡ is_same_if (borrowed_name name.now) (Expansion.expanded_name (own.now ++ scope_of stack.now) spelled.now) }
 {
     let (prefix, local) = split_name(spelled);
@@ -35,7 +36,7 @@ fn is_named(own: &[Binding], stack: &[Vec<Binding>], name: &ExpandedName<'_>, sp
 // Whether some attribute has an expanded name.
 fn some_is_named(
     own: &[Binding],
-    stack: &[Vec<Binding>],
+    stack: &Scopes,
     name: &ExpandedName<'_>,
     others: &[RawAttribute<'_>],
 ) -> bool
@@ -52,7 +53,7 @@ fn some_is_named(
 // Whether each attribute has an expanded name, and no two have the same.
 pub(crate) fn have_names_in_pairs(
     own: &[Binding],
-    stack: &[Vec<Binding>],
+    stack: &Scopes,
     others: &[RawAttribute<'_>],
 ) -> bool
     ensures { result ≡ is_some (attributes_in (own.now ++ scope_of stack.now) (map attribute_of others.now)) }

@@ -1,9 +1,10 @@
 //! Which namespace a prefix is bound to.
 ghost use Rattle.std.specs.Prelude.{◌≡◌, ◌++◌, IfOk};
 ghost use Rattle.std.specs.Option.{option_map};
-ghost use Rattle.xmpp_names.specs.Scopes;
+ghost use Rattle.xmpp_names.specs.Scopes as scope;
 ghost use Rattle.xmpp_names.specs.Scopes.{bound, scope_of};
 
+use crate::open_scopes::Scopes;
 use std::alloc::Global;
 use xmpp_edge::{Copied, NoMemory, Text};
 
@@ -22,7 +23,7 @@ pub struct Binding {
 
 // What the first binding of a prefix says.
 pub(crate) fn first_bound<'a>(bindings: &'a [Binding], prefix: &str) -> Option<&'a Text>
-    ensures { option_map (λ t. t.now) result ≡ Scopes.first_bound bindings.now prefix.now }
+    ensures { option_map (λ t. t.now) result ≡ scope.first_bound bindings.now prefix.now }
 {
     for binding in bindings {
         if binding.prefix.as_str() == prefix {
@@ -32,47 +33,29 @@ pub(crate) fn first_bound<'a>(bindings: &'a [Binding], prefix: &str) -> Option<&
     None
 }
 
-// What the innermost binding of a prefix says, in a stack whose last list is the innermost.
-fn stack_bound<'a>(stack: &'a [Vec<Binding>], prefix: &str) -> Option<&'a Text>
-    ensures { option_map (λ t. t.now) result ≡ Scopes.first_bound (scope_of stack.now) prefix.now }
+// What the innermost declaration of a prefix says in open elements, as its characters.
+pub(crate) fn stack_name<'a>(stack: &'a Scopes, prefix: &str) -> Option<&'a str>
+    ensures { option_map (λ s. s.now) result ≡ scope.first_bound (scope_of stack.now) prefix.now }
 {
-    let mut rest = stack;
-    while let Some((inner, outer)) = rest.split_last() {
-        if let Some(ns) = first_bound(inner.as_slice(), prefix) {
-            return Some(ns);
-        }
-        rest = outer;
-    }
-    None
-}
-
-// The same, as its characters.
-pub(crate) fn stack_name<'a>(stack: &'a [Vec<Binding>], prefix: &str) -> Option<&'a str>
-    ensures { option_map (λ s. s.now) result ≡ Scopes.first_bound (scope_of stack.now) prefix.now }
-{
-    match stack_bound(stack, prefix) {
+    match stack.bound(prefix) {
         Some(ns) => Some(ns.as_str()),
         None => None,
     }
 }
 
 // What the innermost binding of a prefix says, in a tag with declarations of its own, inside a stack of others.
-fn declared_in<'a>(own: &'a [Binding], stack: &'a [Vec<Binding>], prefix: &str) -> Option<&'a Text>
-    ensures { option_map (λ t. t.now) result ≡ Scopes.first_bound (own.now ++ scope_of stack.now) prefix.now }
+fn declared_in<'a>(own: &'a [Binding], stack: &'a Scopes, prefix: &str) -> Option<&'a Text>
+    ensures { option_map (λ t. t.now) result ≡ scope.first_bound (own.now ++ scope_of stack.now) prefix.now }
 {
     match first_bound(own, prefix) {
         Some(ns) => Some(ns),
-        None => stack_bound(stack, prefix),
+        None => stack.bound(prefix),
     }
 }
 
 // The namespace that a prefix stands for in a tag with declarations of its own, inside a stack of others.
 #[tactic(auto, unfolding(crate::specs::Scopes::bound))]
-pub(crate) fn bound_in<'a>(
-    own: &'a [Binding],
-    stack: &'a [Vec<Binding>],
-    prefix: &str,
-) -> Option<&'a str>
+pub(crate) fn bound_in<'a>(own: &'a [Binding], stack: &'a Scopes, prefix: &str) -> Option<&'a str>
     ensures { option_map (λ s. s.now) result ≡ bound (own.now ++ scope_of stack.now) prefix.now }
 {
     if prefix == "xml" {
@@ -89,7 +72,7 @@ pub(crate) fn bound_in<'a>(
 pub(crate) fn bound_copy(
     alloc: Global,
     own: &[Binding],
-    stack: &[Vec<Binding>],
+    stack: &Scopes,
     prefix: &str,
 ) -> Result<Option<Text>, NoMemory>
     ensures { IfOk result (λ o. o ≡ bound (own.now ++ scope_of stack.now) prefix.now) }

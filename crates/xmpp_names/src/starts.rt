@@ -20,6 +20,7 @@ use crate::expansion::{
 use crate::fault::{StartFault, StartWhy};
 use crate::limits::TagLimits;
 use crate::names::{is_prefixed, split_name, split_prefix};
+use crate::open_scopes::Scopes;
 use crate::pairs::{FEW_NAMES, have_names_in_pairs};
 use crate::scopes::Binding;
 use std::alloc::Global;
@@ -94,7 +95,7 @@ fn has_prefixed(attributes: &[RawAttribute]) -> bool
 fn have_names(
     alloc: Global,
     own: &[Binding],
-    stack: &[Vec<Binding>],
+    stack: &Scopes,
     others: &[RawAttribute<'_>],
 ) -> Result<bool, NoMemory>
     requires { Tags.are_distinct (names_of (map attribute_of others.now)) ≡ true }
@@ -115,7 +116,7 @@ fn have_names(
 // Whether a name, declarations and other attributes say a tag.
 fn is_well_formed(
     alloc: Global,
-    stack: &[Vec<Binding>],
+    stack: &Scopes,
     name: &str,
     parted: &PartedAttributes<'_>,
 ) -> Result<bool, NoMemory>
@@ -142,7 +143,7 @@ fn copied(alloc: Global, text: Option<&str>) -> Result<Option<Text>, NoMemory>
 // The tag, its memory taken.
 fn finished(
     alloc: Global,
-    stack: &[Vec<Binding>],
+    stack: &Scopes,
     spelled: &str,
     parted: PartedAttributes<'_>,
     empty: bool,
@@ -176,7 +177,7 @@ fn finished(
 fn expand(
     alloc: Global,
     limits: TagLimits,
-    stack: &[Vec<Binding>],
+    stack: &Scopes,
     count: usize,
     spelled: &str,
     parted: PartedAttributes<'_>,
@@ -204,7 +205,7 @@ fn expand(
 fn expand_spelled(
     alloc: Global,
     limits: TagLimits,
-    stack: &[Vec<Binding>],
+    stack: &Scopes,
     tag: StartTag<'_>,
 ) -> Result<Tag, StartFault>
     requires { Tags.are_distinct (names_of (map attribute_of tag.attributes.items)) ≡ true }
@@ -243,8 +244,8 @@ fn read_spelled<'a>(alloc: Global, bytes: &'a [u8]) -> Result<StartTag<'a>, Star
 }
 
 /// Reads a start tag, or the tag of an empty element, off its whole bytes, from its `<` to its `>` (XML 1.0, section
-/// 3.1; Namespaces in XML 1.0). `scope` has the declarations of the elements that it stands in, the outermost first;
-/// its own come before them.
+/// 3.1; Namespaces in XML 1.0). `scope` has the declarations of the elements that it stands in; its own come before
+/// them.
 ///
 /// Of the refusals the first that fits is told. `Restricted` comes exactly where a reference inside quotes has an
 /// unknown name. `NotWellFormed` comes exactly where the bytes are no start tag, a declaration may not be made, a
@@ -256,7 +257,7 @@ fn read_spelled<'a>(alloc: Global, bytes: &'a [u8]) -> Result<StartTag<'a>, Star
 pub fn read_start(
     alloc: Global,
     limits: TagLimits,
-    scope: &[Vec<Binding>],
+    scope: &Scopes,
     bytes: &[u8],
 ) -> Result<Tag, StartFault>
     ensures ok { IfOk result (λ t. start_of limits (scope_of scope.now) bytes.now ≡ Ok (tag_view t)) }

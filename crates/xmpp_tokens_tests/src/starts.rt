@@ -3,7 +3,7 @@ use std::alloc::Global;
 use std::test::Fail;
 use xmpp_edge::Text;
 use xmpp_names::{
-    Binding, ExpandedAttribute, Header, StartFault, StartWhy, TagLimits, header_of, opens_stream,
+    ExpandedAttribute, Header, Scopes, StartFault, StartWhy, TagLimits, header_of, opens_stream,
     read_start,
 };
 
@@ -45,17 +45,15 @@ fn are_said(attributes: &[ExpandedAttribute], said: Said) -> bool {
 }
 
 /// Adds to a scope the bindings of a tag in it.
-fn enter(alloc: Global, scope: &mut Vec<Vec<Binding>>, bytes: &[u8]) -> Result<(), StartFault> {
-    let tag = read_start(alloc, WIDE, scope.as_slice(), bytes)?;
-    match scope.push(tag.bindings) {
-        Ok(()) => Ok(()),
-        Err(_) => Err(StartFault::NoMemory),
-    }
+fn enter(alloc: Global, scope: &mut Scopes, bytes: &[u8]) -> Result<(), StartFault> {
+    let tag = read_start(alloc, WIDE, scope, bytes)?;
+    scope.open(alloc, tag.bindings)?;
+    Ok(())
 }
 
 /// The scope inside `<r xmlns='d' xmlns:p='u' xmlns:q='u'><s xmlns:p='v'>`.
-fn inside(alloc: Global) -> Result<Vec<Vec<Binding>>, StartFault> {
-    let mut scope = Vec::new(alloc);
+fn inside(alloc: Global) -> Result<Scopes, StartFault> {
+    let mut scope = Scopes::new(alloc);
     enter(alloc, &mut scope, b"<r xmlns='d' xmlns:p='u' xmlns:q='u'>")?;
     enter(alloc, &mut scope, b"<s xmlns:p='v'>")?;
     Ok(scope)
@@ -64,14 +62,14 @@ fn inside(alloc: Global) -> Result<Vec<Vec<Binding>>, StartFault> {
 /// A tag, the namespace of its name, and its attributes.
 type Row = (&'static [u8], &'static str, Said);
 
-fn is_read(alloc: Global, scope: &[Vec<Binding>], row: &Row) -> bool {
+fn is_read(alloc: Global, scope: &Scopes, row: &Row) -> bool {
     match read_start(alloc, WIDE, scope, row.0) {
         Ok(tag) => tag.ns.as_str() == row.1 && are_said(tag.attributes.as_slice(), row.2),
         Err(_) => false,
     }
 }
 
-fn are_read(alloc: Global, scope: &[Vec<Binding>], rows: &[Row]) -> bool {
+fn are_read(alloc: Global, scope: &Scopes, rows: &[Row]) -> bool {
     for row in rows {
         if !is_read(alloc, scope, row) {
             return false;
@@ -145,17 +143,19 @@ static INSIDE: [Row; 4] = [
 
 fn are_read_inside(alloc: Global) -> Result<bool, StartFault> {
     let scope = inside(alloc)?;
-    Ok(are_read(alloc, scope.as_slice(), &INSIDE))
+    Ok(are_read(alloc, &scope, &INSIDE))
 }
 
 #[test]
 fn names_are_expanded(rt: HostRuntime) -> Result<(), Fail> {
-    assert!(rt; are_read(rt.alloc(), &[], &ALONE) && are_read_inside(rt.alloc())?);
+    assert!(rt;
+        are_read(rt.alloc(), &Scopes::new(rt.alloc()), &ALONE) && are_read_inside(rt.alloc())?
+    );
     Ok(())
 }
 
 fn refusal(alloc: Global, bytes: &[u8]) -> Option<StartWhy> {
-    match read_start(alloc, NARROW, &[], bytes) {
+    match read_start(alloc, NARROW, &Scopes::new(alloc), bytes) {
         Err(StartFault::Refused(why)) => Some(why),
         _ => None,
     }
@@ -215,7 +215,7 @@ fn start_tags_are_refused(rt: HostRuntime) {
 }
 
 fn header(alloc: Global, bytes: &[u8]) -> Result<Option<Header>, StartFault> {
-    let tag = read_start(alloc, WIDE, &[], bytes)?;
+    let tag = read_start(alloc, WIDE, &Scopes::new(alloc), bytes)?;
     if !opens_stream(&tag) {
         return Ok(None);
     }

@@ -13,4 +13,4 @@ pub returns-in-None : goal.returns-in-None
 returns-in-None c =
     let p = c.args.prefix.now in
     let outer = scope_of c.args.stack.now in
-    c.stack_bound.ensures ∙ sym (bound_append c.args.own.now outer p ∙ ap (λ o. or_behind o (first_bound outer p)) (sym c.in-None.ensures))
+    c.bound.ensures ∙ sym (bound_append c.args.own.now outer p ∙ ap (λ o. or_behind o (first_bound outer p)) (sym c.in-None.ensures))
