@@ -8,6 +8,9 @@ use crate::report::{AccountLine, DeviceLine, Report};
 use std::alloc::Global;
 use xmpp_edge::{Bytes, NoMemory};
 
+/// More bytes than most lines have. Memory that isn't written to costs nothing.
+const LIKELY_LINE: usize = 192;
+
 impl Printed for AccountLine {
     ghost use Rattle.xmpp_report.specs.ReportText.{account_text};
 
@@ -72,6 +75,32 @@ impl Printed for DeviceLine {
     }
 }
 
+// How many lines with addresses and texts a report has, at most 2^64 - 1.
+fn count_lines(report: &Report) -> usize {
+    let takes = report.takes.as_slice().len();
+    let archived = count_archived(report.accounts.as_slice());
+    let told = count_told(report.devices.as_slice());
+    takes.saturating_add(archived).saturating_add(told)
+}
+
+fn count_archived(accounts: &[AccountLine]) -> usize {
+    let mut count = 0usize;
+    for account in accounts {
+        count = count.saturating_add(account.entries.as_slice().len());
+    }
+    count
+}
+
+fn count_told(devices: &[DeviceLine]) -> usize {
+    let mut count = 0usize;
+    for device in devices {
+        let said = device.said.as_slice().len();
+        let logged = device.logged.as_slice().len();
+        count = count.saturating_add(said).saturating_add(logged);
+    }
+    count
+}
+
 /// The text of a report: a line for each thing that it tells, its fields separated by one space, each line ended by
 /// LF.
 #[tactic(auto, unfolding(crate::specs::ReportText::text_of))]
@@ -79,6 +108,8 @@ pub fn report_text(alloc: Global, report: &Report) -> Result<Bytes, NoMemory>
     ensures { IfOk result (λ bytes. bytes.items ≡ text_of report.now) }
 {
     let mut out = Bytes::new(alloc);
+    // Only so that the text needn't move as it grows: without that room it grows as it can.
+    let _ = out.reserve(count_lines(report).saturating_mul(LIKELY_LINE));
     out.append(b"xmpp-report 1 ")?;
     out.append(if report.wire { b"wire\n" } else { b"direct\n" })?;
     print_all(&mut out, &report.takes)?;
