@@ -70,6 +70,7 @@ pub mod OneHand
 -- the table of faults is complete
 pub mod RowsTold
 pub mod RowsDecide
+pub mod ByteRowLaws
 -- what is given
 pub mod GivenItems
 -- definitions at values

@@ -10,6 +10,7 @@ pub mod Standing
 pub mod FaultRows
 pub mod Rows
 pub mod Hands
+pub mod ByteRows
 -- grammar and machine: spellings within the limits of a framer
 pub mod Within
 pub mod StreamLimits

@@ -3,6 +3,7 @@
 //! and what is written.
 #![tactic(auto)]
 
+pub mod byte_rows;
 pub mod faults;
 pub mod grammar;
 pub mod offsets;
