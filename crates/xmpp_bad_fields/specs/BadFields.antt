@@ -1,0 +1,21 @@
+-- Elements of stream management that are refused for a field (XEP-0198, sections 3 to 5).
+use Rattle.std.specs.Prelude.{Bool, true, false, ◌||◌, Result, Err, codes}
+use Rattle.xmpp_ext.specs.Readings.{enabled_read, failed_read, resumption_read}
+use Rattle.xmpp_ext.specs.StreamManagement.{ack_read}
+use Rattle.xmpp_payload.specs.declared.fault.ExtFault.{ExtFault}
+use Rattle.xmpp_payload.specs.declared.fault.ExtFault.TheVariants.{Bad}
+use Rattle.xmpp_trees.specs.Trees.{Elem}
+
+-- the answer is that a field is bad
+abbrev pub is_bad : {V : Type 0} → Result V ExtFault → Bool
+is_bad (Err (Bad field)) = true
+is_bad _ = false
+
+-- one of the readers answers so; `enable` and `r` have no field that can be bad
+abbrev pub has_bad_management_field : Elem → Bool
+has_bad_management_field e =
+    is_bad (enabled_read e)
+    || (is_bad (ack_read e)
+    || (is_bad (resumption_read (codes "resume") e)
+    || (is_bad (resumption_read (codes "resumed") e)
+    || is_bad (failed_read e))))
