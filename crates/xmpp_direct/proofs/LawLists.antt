@@ -9,7 +9,7 @@ use Rattle.std.specs.Str.{bytes_eq}
 use Rattle.xmpp_edge.specs.Names.{is_among}
 use Rattle.xmpp_report.specs.Lawful.{account_named, device_named}
 use Rattle.xmpp_schedule.specs.declared.schedule.Step.{Step}
-use Rattle.xmpp_replay.specs.Direct.{account_line, device_line}
+use Rattle.xmpp_direct.specs.Direct.{account_line, device_line}
 
 -- the numbers of a list that are all 0 don't fall
 pub zeros_not_falling : (xs : List ℕ) → AllByRecursion (λ x. x ≡ 0) xs → IsNonDecreasing xs

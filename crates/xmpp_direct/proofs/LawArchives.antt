@@ -12,11 +12,11 @@ use Rattle.xmpp_archive.specs.Ids.{id_of}
 use Rattle.xmpp_log.specs.LogPages.{last_id}
 use Rattle.xmpp_log.specs.declared.log_entry.LogEntry.{LogEntry}
 use Rattle.xmpp_pages.specs.Kept.{kept_by}
-use Rattle.xmpp_replay.proofs.ArchivePages.{page_found}
+use Rattle.xmpp_direct.proofs.ArchivePages.{page_found}
 use Rattle.xmpp_schedule.proofs.Prefixes.{along-append}
 use Rattle.xmpp_report.specs.Takes.{archive_of, concerns, entry_of, numbered_from}
 use Rattle.xmpp_schedule.specs.Contents.{accounts_of, along, home_of, sent_by}
-use Rattle.xmpp_replay.specs.Direct.{as_logged, page_answered, take_at, takes_of}
+use Rattle.xmpp_direct.specs.Direct.{as_logged, page_answered, take_at, takes_of}
 use Rattle.xmpp_edge.specs.Names.{is_among}
 use Rattle.xmpp_report.specs.Lawful.{EachPair}
 use Rattle.xmpp_replay.specs.Turns.{page_behind}

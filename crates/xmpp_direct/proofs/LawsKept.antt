@@ -7,18 +7,18 @@ use Rattle.std.specs.Str.{bytes_eq}
 use Rattle.xmpp_archive.specs.Entries.{EntryView}
 use Rattle.xmpp_log.specs.LogPages.{log_of}
 use Rattle.xmpp_log.specs.declared.log_entry.LogEntry.{LogEntry}
-use Rattle.xmpp_replay.proofs.LawArchives.{archive_few, ids_apart}
+use Rattle.xmpp_direct.proofs.LawArchives.{archive_few, ids_apart}
 use Rattle.xmpp_report.proofs.TakenArchives.{archive_numbered}
-use Rattle.xmpp_replay.proofs.LawHistories.{ArePaged, paged_at}
+use Rattle.xmpp_direct.proofs.LawHistories.{ArePaged, paged_at}
 use Rattle.xmpp_schedule.proofs.Lists.{all_flat_map, all_map, all_of, map-map, map_nothing}
 use Rattle.xmpp_report.proofs.Pairs.{pairs_by_both, pairs_by_first, pairs_front, pairs_map}
-use Rattle.xmpp_replay.proofs.LawLists.{zeros_not_falling, account_found}
-use Rattle.xmpp_replay.proofs.LawPages.{tiles_are}
-use Rattle.xmpp_replay.proofs.LawTakes.{acknowledged, are_outcomes, are_submissions, first_epoch, named_in, stamps_known, taken_from, takes_back, takes_exist, takes_rise, takes_submitted}
-use Rattle.xmpp_replay.proofs.LawWorlds.{complete_lines, ends_with, is_fresh}
+use Rattle.xmpp_direct.proofs.LawLists.{zeros_not_falling, account_found}
+use Rattle.xmpp_direct.proofs.LawPages.{tiles_are}
+use Rattle.xmpp_direct.proofs.LawTakes.{acknowledged, are_outcomes, are_submissions, first_epoch, named_in, stamps_known, taken_from, takes_back, takes_exist, takes_rise, takes_submitted}
+use Rattle.xmpp_direct.proofs.LawWorlds.{complete_lines, ends_with, is_fresh}
 use Rattle.xmpp_schedule.proofs.StandingSteps.{AreStanding, few_lines, homes_are, homes_exist, steps_stand}
-use Rattle.xmpp_replay.specs.History.{direct_history}
-use Rattle.xmpp_replay.specs.Direct.{account_line, as_logged, device_line, direct_report, pages_of, said_at, takes_of}
+use Rattle.xmpp_direct.specs.History.{direct_history}
+use Rattle.xmpp_direct.specs.Direct.{account_line, as_logged, device_line, direct_report, pages_of, said_at, takes_of}
 use Rattle.xmpp_schedule.specs.Contents.{accounts_of, along, devices_of, home_of, Owned, is_account, is_catchup_of}
 use Rattle.xmpp_report.specs.Takes.{archive_of}
 use Rattle.xmpp_report.specs.Lines.{entry_line, logged_line, page_line, take_line}

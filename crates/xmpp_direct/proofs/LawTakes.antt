@@ -12,10 +12,10 @@ use Rattle.xmpp_archive.specs.Entries.{EntryView}
 use Rattle.xmpp_schedule.proofs.Lists.{all_append, all_filter, all_if, all_map, map-map, map_nothing}
 use Rattle.xmpp_schedule.proofs.Prefixes.{along-append}
 use Rattle.xmpp_schedule.proofs.StandingSteps.{AreStanding, Stands, all_along, device_kept, home_kept}
-use Rattle.xmpp_replay.proofs.LawLists.{device_found}
+use Rattle.xmpp_direct.proofs.LawLists.{device_found}
 use Rattle.xmpp_report.specs.Takes.{Take, archive_of, concerns, entry_of, numbered_from}
 use Rattle.xmpp_schedule.specs.Contents.{accounts_of, along, devices_of, home_of, is_said_by, sent_by}
-use Rattle.xmpp_replay.specs.Direct.{device_line, said_at, take_at, takes_of}
+use Rattle.xmpp_direct.specs.Direct.{device_line, said_at, take_at, takes_of}
 use Rattle.xmpp_report.specs.Lines.{take_line}
 use Rattle.xmpp_edge.specs.Names.{is_among}
 use Rattle.xmpp_report.specs.Lawful.{AreNumberedBehind, AreOutcomes, AreSubmissions, EachPair, IsOfSubmission, IsOutcome, Precedes, device_named, is_taken, submission, take_named}

@@ -10,11 +10,11 @@ use Rattle.std.specs.Str.{bytes_eq}
 use Rattle.xmpp_archive.specs.Entries.{EntryView}
 use Rattle.xmpp_log.specs.LogPages.{LogPage, log_of}
 use Rattle.xmpp_log.specs.declared.log_entry.LogEntry.{LogEntry}
-use Rattle.xmpp_replay.proofs.LawArchives.{archive_after, archive_few, archive_grows}
+use Rattle.xmpp_direct.proofs.LawArchives.{archive_after, archive_few, archive_grows}
 use Rattle.xmpp_report.proofs.TakenArchives.{archive_numbered}
-use Rattle.xmpp_replay.proofs.LawPages.{AreTilesBehind, CaughtUp, catch_up_is, log_of-append, tiles_append}
+use Rattle.xmpp_direct.proofs.LawPages.{AreTilesBehind, CaughtUp, catch_up_is, log_of-append, tiles_append}
 use Rattle.xmpp_schedule.proofs.StandingSteps.{AreStanding, Stands, home_kept, standing_front, standing_rest}
-use Rattle.xmpp_replay.specs.Direct.{as_logged, catch_up, kept_after, pages_after, pages_from, pages_of, takes_of}
+use Rattle.xmpp_direct.specs.Direct.{as_logged, catch_up, kept_after, pages_after, pages_from, pages_of, takes_of}
 use Rattle.xmpp_report.specs.Addresses.{bare_address}
 use Rattle.xmpp_schedule.specs.Contents.{devices_of, home_of, is_catchup_of}
 use Rattle.xmpp_edge.specs.Names.{is_among}

@@ -10,8 +10,8 @@ use Rattle.xmpp_archive.specs.Entries.{AreNumbered, EntryView}
 use Rattle.xmpp_log.specs.LogPages.{LogPage, last_id, log_of}
 use Rattle.xmpp_log.specs.declared.log_entry.LogEntry.{LogEntry}
 use Rattle.xmpp_pages.specs.Kept.{kept_by}
-use Rattle.xmpp_replay.proofs.LawArchives.{page_behind_log, rest_entries}
-use Rattle.xmpp_replay.specs.Direct.{as_logged, as_taken_over, catch_up, page_answered}
+use Rattle.xmpp_direct.proofs.LawArchives.{page_behind_log, rest_entries}
+use Rattle.xmpp_direct.specs.Direct.{as_logged, as_taken_over, catch_up, page_answered}
 use Rattle.xmpp_report.specs.Lines.{logged_line, page_line}
 use Rattle.xmpp_report.specs.Lawful.{AreTiles, last_logged}
 use Rattle.xmpp_replay.specs.Turns.{page_behind}

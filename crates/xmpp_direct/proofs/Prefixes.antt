@@ -5,7 +5,7 @@ use Rattle.std.proofs.lemmas.List.{append-nil, append_assoc}
 use Rattle.xmpp_log.specs.LogPages.{LogPage}
 use Rattle.xmpp_report.specs.Takes.{Take}
 use Rattle.xmpp_schedule.specs.Contents.{accounts_of}
-use Rattle.xmpp_replay.specs.Direct.{pages_after, pages_from, pages_of, take_at, takes_of}
+use Rattle.xmpp_direct.specs.Direct.{pages_after, pages_from, pages_of, take_at, takes_of}
 use Rattle.xmpp_edge.specs.Names.{is_among}
 use Rattle.xmpp_schedule.specs.declared.schedule.Step.{Step}
 use Rattle.xmpp_schedule.specs.declared.schedule.Step.TheVariants.{Account, Device, Say, Catchup}

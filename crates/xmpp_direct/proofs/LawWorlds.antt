@@ -5,14 +5,14 @@ use Rattle.std.proofs.lemmas.List.Sums.{sum_by-cons}
 use Rattle.std.proofs.lemmas.Option.{none-some, same_Some}
 use Rattle.std.specs.List.{count_by, slice_get}
 use Rattle.xmpp_log.specs.LogPages.{LogPage}
-use Rattle.xmpp_replay.proofs.LawArchives.{archive_after, archive_grows}
-use Rattle.xmpp_replay.proofs.LawHistories.{total_at}
+use Rattle.xmpp_direct.proofs.LawArchives.{archive_after, archive_grows}
+use Rattle.xmpp_direct.proofs.LawHistories.{total_at}
 use Rattle.xmpp_schedule.proofs.StandingSteps.{AreStanding}
-use Rattle.xmpp_replay.specs.Direct.{device_line, pages_of}
+use Rattle.xmpp_direct.specs.Direct.{device_line, pages_of}
 use Rattle.xmpp_schedule.specs.Contents.{home_of}
 use Rattle.xmpp_report.specs.Lines.{page_line}
 use Rattle.xmpp_report.specs.Worlds.{World}
-use Rattle.xmpp_replay.specs.History.{world_after, worlds_from}
+use Rattle.xmpp_direct.specs.History.{world_after, worlds_from}
 use Rattle.xmpp_report.specs.Lawful.{EndsWith, IsFresh}
 use Rattle.xmpp_report.specs.Reports.{DeviceView}
 use Rattle.xmpp_report.specs.declared.report.PageLine.{PageLine}

@@ -19,7 +19,7 @@ use Rattle.xmpp_pages.specs.Matches.{matching}
 use Rattle.xmpp_pages.specs.PageOf.{candidates, cut_out, entry_of_id, page_among, page_of, portion}
 use Rattle.xmpp_pages.specs.Spans.{numbers_of}
 use Rattle.xmpp_pages.specs.declared.query.Place.TheVariants.{After}
-use Rattle.xmpp_replay.specs.Direct.{as_logged, entries_numbered, page_answered, page_with, place_behind, query_behind}
+use Rattle.xmpp_direct.specs.Direct.{as_logged, entries_numbered, page_answered, page_with, place_behind, query_behind}
 use Rattle.xmpp_replay.specs.Turns.{IsFrontOf, page_behind}
 
 pub last_id_push : (es : List LogEntry) (e : LogEntry) → last_id (es ++ e ∷ []) ≡ Some e.id

@@ -1,0 +1,9 @@
+pub mod ArchivePages
+pub mod LawArchives
+pub mod LawHistories
+pub mod LawLists
+pub mod LawPages
+pub mod LawTakes
+pub mod LawWorlds
+pub mod LawsKept
+pub mod Prefixes
