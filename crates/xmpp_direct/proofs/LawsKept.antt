@@ -1,48 +1,55 @@
--- The direct run keeps each of the five laws.
-use Rattle.std.proofs.Common.{◌≡◌, ◌≢◌, ℕ, ◌+◌, ◌<◌, ◌≤◌, ◌^◌, true, List, [], ◌++◌, length, take, map, filter, IsTrue, refl, sym, ap, ◌∙◌, arith}
-use Rattle.std.proofs.lemmas.List.{append-nil, length-append, length-map, map-append, take_at as front_of_join}
-use Rattle.std.specs.List.{AllByRecursion, count_by, flat_map}
+-- The direct run keeps each of the five laws of its version.
+use Rattle.std.proofs.Common.{◌≡◌, ◌≢◌, ℕ, ◌+◌, ◌-◌, ◌<◌, ◌≤◌, ◌^◌, Bool, true, false, List, [], ◌∷◌, ◌++◌, Some, length, take, drop, map, IsTrue, refl, sym, ap, subst, ◌∙◌, arith}
+use Rattle.std.proofs.lemmas.Bool.{and_parts, leb-true, true≢false}
+use Rattle.std.proofs.lemmas.List.{length-map}
+use Rattle.std.specs.List.{AllByRecursion, filter, flat_map}
 use Rattle.std.specs.List.Sorted.{IsNonDecreasing}
+use Rattle.std.specs.Option.{is_some}
 use Rattle.std.specs.Str.{bytes_eq}
-use Rattle.xmpp_archive.specs.Entries.{EntryView}
-use Rattle.xmpp_log.specs.LogPages.{log_of}
-use Rattle.xmpp_log.specs.declared.log_entry.LogEntry.{LogEntry}
-use Rattle.xmpp_direct.proofs.LawArchives.{archive_few, ids_apart}
-use Rattle.xmpp_report.proofs.TakenArchives.{archive_numbered}
-use Rattle.xmpp_direct.proofs.LawHistories.{ArePaged, paged_at}
-use Rattle.xmpp_schedule.proofs.Lists.{all_flat_map, all_map, all_of, map-map, map_nothing}
-use Rattle.xmpp_report.proofs.Pairs.{pairs_by_both, pairs_by_first, pairs_front, pairs_map}
-use Rattle.xmpp_direct.proofs.LawLists.{zeros_not_falling, account_found}
-use Rattle.xmpp_direct.proofs.LawPages.{tiles_are}
-use Rattle.xmpp_direct.proofs.LawTakes.{acknowledged, are_outcomes, are_submissions, first_epoch, named_in, stamps_known, taken_from, takes_back, takes_exist, takes_rise, takes_submitted}
-use Rattle.xmpp_direct.proofs.LawWorlds.{complete_lines, ends_with, is_fresh}
-use Rattle.xmpp_schedule.proofs.StandingSteps.{AreStanding, few_lines, homes_are, homes_exist, steps_stand}
-use Rattle.xmpp_direct.specs.History.{direct_history}
-use Rattle.xmpp_direct.specs.Direct.{account_line, as_logged, device_line, direct_report, pages_of, said_at, takes_of}
-use Rattle.xmpp_schedule.specs.Contents.{accounts_of, along, devices_of, home_of, Owned, is_account, is_catchup_of}
-use Rattle.xmpp_report.specs.Takes.{archive_of}
-use Rattle.xmpp_report.specs.Lines.{entry_line, logged_line, page_line, take_line}
-use Rattle.xmpp_schedule.specs.Grammar.{IsSchedule, nothing_declared}
+use Rattle.xmpp_archive.specs.Entries.{EntryView, newest}
+use Rattle.xmpp_basis.proofs.Lists.{AllByRecursion-weaker}
 use Rattle.xmpp_edge.specs.Names.{is_among}
-use Rattle.xmpp_report.specs.Lawful.{AgreeOnStamp, ArePages, AreOutcomes, AreSubmissions, EachPair, IsAcknowledgedFirst, IsAcknowledgedRight, IsLawful, IsLogged, IsOfSchedule, IsOnceInOrder, IsPaged, IsPrefixOfAccount, IsSettledRight, IsTakenFirst, IsTakenRight, IsUndisturbed, Precedes, account_named, at_any_time, is_taken}
-use Rattle.xmpp_report.specs.Reports.{AccountView, DeviceView}
-use Rattle.xmpp_schedule.specs.Schedules.{ScheduleView, steps_of}
+use Rattle.xmpp_direct.proofs.LawLists.{account_found}
+use Rattle.xmpp_direct.proofs.LawMoments.{AreNamed, IsStamped, archive_stamped, are_named, stamps_agree, stamps_rise, timeless, told_rise}
+use Rattle.xmpp_direct.proofs.LawTakes.{acknowledged, are_outcomes, are_submissions, first_epoch, history_is, taken_from, takes_exist, takes_rise, takes_submitted, takes_untimed}
+use Rattle.xmpp_direct.proofs.LawUnbroken.{unbroken}
+use Rattle.xmpp_direct.proofs.Prefixes.{takes_few}
+use Rattle.xmpp_direct.specs.Direct.{account_line, device_line, direct_report, report_by, said_at, takes_of}
+use Rattle.xmpp_direct.specs.History.{direct_history, worlds_of}
+use Rattle.xmpp_report.proofs.Pairs.{pairs_by_both, pairs_by_first}
+use Rattle.xmpp_report.proofs.TakenArchives.{archive_few}
 use Rattle.xmpp_report.specs.EntryLines.{EntryLineView}
-use Rattle.xmpp_report.specs.declared.report.LoggedLine.{LoggedLine}
+use Rattle.xmpp_report.specs.Lawful.{AgreeOnStamp, ArePages, AreOutcomes, AreSubmissions, EachPair, IsAcknowledgedFirst, IsAcknowledgedRight, IsLawful, IsLogged, IsOfSchedule, IsOnceInOrder, IsPaged, IsPrefixOf, IsPrefixOfAccount, IsSettledRight, IsTakenFirst, IsTakenRight, IsUndisturbed, Precedes, account_named, at_any_time, is_taken, takes_in}
+use Rattle.xmpp_report.specs.LawfulRuns.{ArePagesOfRuns, IsInForm, IsLawfulKeeping, IsLoggedInRuns, IsNewestOf, IsPagedInRuns, IsRunsOf, IsTakenAndKept, KeepsLaws, KeepsLawsOf, history_of, tells_moments}
+use Rattle.xmpp_report.specs.Lines.{entry_line, take_line, told_moment}
+use Rattle.xmpp_report.specs.Reports.{AccountView, DeviceView}
+use Rattle.xmpp_report.specs.Takes.{archive_of}
 use Rattle.xmpp_report.specs.declared.report.SaidMark.TheVariants.{Acknowledged, Waiting}
+use Rattle.xmpp_report.specs.declared.report.TakeLine.{TakeLine}
+use Rattle.xmpp_schedule.proofs.Lists.{all_flat_map, all_map, all_of, map-map, map_nothing}
+use Rattle.xmpp_schedule.proofs.StandingSteps.{AreStanding, few_lines, homes_are, homes_exist, steps_stand}
+use Rattle.xmpp_schedule.specs.Contents.{Owned, accounts_of, along, devices_of, home_of, is_account}
+use Rattle.xmpp_schedule.specs.Grammar.{IsSchedule, may_keep, nothing_declared}
+use Rattle.xmpp_schedule.specs.Schedules.{ScheduleView, keep_of, steps_of}
 use Rattle.xmpp_schedule.specs.declared.schedule.Line.{Line}
 use Rattle.xmpp_schedule.specs.declared.schedule.Step.{Step}
-use Rattle.xmpp_basis.proofs.Lists.{AllByRecursion-weaker}
+use Rattle.xmpp_schedule.specs.declared.schedule.Version.{Version}
+use Rattle.xmpp_schedule.specs.declared.schedule.Version.TheVariants.{One, Two}
 
 known_steps : (s : ScheduleView) → IsSchedule s → AreStanding [] (steps_of s.lines)
 known_steps s known = steps_stand [] 2 s.lines known.lines
 
--- what holds of each device's line, whatever its name
-each_device : (P : DeviceView → Type 0) (all : List Step) → ((name : List ℕ) → P (device_line all name)) → AllByRecursion P (map (device_line all) (devices_of all))
-each_device P all each = all_map P (device_line all) (devices_of all) (all_of (λ name. P (device_line all name)) each (devices_of all))
+known_few : (s : ScheduleView) → IsSchedule s → length (steps_of s.lines) ≤ 100000
+known_few s known =
+    let lines : length s.lines + 2 ≤ 100001 = few_lines nothing_declared 2 s.lines (omega arith) known.lines in
+    omega (arith, length-map s.lines (λ (line : Line). line.step))
 
-each_account : (P : AccountView → Type 0) (all : List Step) → ((name : List ℕ) → P (account_line all name)) → AllByRecursion P (map (account_line all) (accounts_of all))
-each_account P all each = all_map P (account_line all) (accounts_of all) (all_of (λ name. P (account_line all name)) each (accounts_of all))
+-- what holds of each device's line, whatever its name
+each_device : (P : DeviceView → Type 0) (keep : ℕ) (all : List Step) → ((name : List ℕ) → P (device_line keep all name)) → AllByRecursion P (map (device_line keep all) (devices_of all))
+each_device P keep all each = all_map P (device_line keep all) (devices_of all) (all_of (λ name. P (device_line keep all name)) each (devices_of all))
+
+each_account : (P : AccountView → Type 0) (keep : ℕ) (all : List Step) → ((name : List ℕ) → P (account_line keep all name)) → AllByRecursion P (map (account_line keep all) (accounts_of all))
+each_account P keep all each = all_map P (account_line keep all) (accounts_of all) (all_of (λ name. P (account_line keep all name)) each (accounts_of all))
 
 abbrev home_line : DeviceView → Owned
 home_line d = record { device = d.name; account = d.account }
@@ -50,202 +57,271 @@ home_line d = record { device = d.name; account = d.account }
 abbrev account_name_of : AccountView → List ℕ
 account_name_of a = a.name
 
-of_schedule : (s : ScheduleView) → IsSchedule s → IsOfSchedule s (direct_report (steps_of s.lines))
-unfolding direct_report
-of_schedule s known =
+pub of_schedule : (version : Version) (s : ScheduleView) → IsSchedule s → IsOfSchedule s (report_by version (steps_of s.lines))
+of_schedule version s known =
     let all = steps_of s.lines in
+    let keep = keep_of version in
     record {
       mode = sym known.direct;
-      accounts = map-map (account_line all) account_name_of (accounts_of all) ∙ map_nothing (λ name. name) (accounts_of all) (all_of (λ name. name ≡ name) (λ name. refl) (accounts_of all));
-      devices = map-map (device_line all) home_line (devices_of all) ∙ homes_are all [] all refl (known_steps s known);
-      counts = each_account (λ a. a.count ≡ length a.entries) all (λ name. sym (length-map (archive_of name (takes_of all all)) entry_line));
+      accounts = map-map (account_line keep all) account_name_of (accounts_of all) ∙ map_nothing (λ name. name) (accounts_of all) (all_of (λ name. name ≡ name) (λ name. refl) (accounts_of all));
+      devices = map-map (device_line keep all) home_line (devices_of all) ∙ homes_are all [] all refl (known_steps s known);
+      counts = each_account (λ a. a.count ≡ length a.entries) keep all (λ name. sym (length-map (newest keep (archive_of name (takes_of all all))) entry_line));
       conns = λ direct. refl;
     }
 
+-- In version 1 an archive keeps all entries.
+
+whole_kept : (all : List Step) → length all ≤ 100000 → (name : List ℕ) → newest 4294967295 (archive_of name (takes_of all all)) ≡ archive_of name (takes_of all all)
+whole_kept all few name =
+    let history = archive_of name (takes_of all all) in
+    let none : length history - 4294967295 ≡ 0 = omega (arith, few, archive_few name (takes_of all all), takes_few all all) in
+    ap (λ purged. drop purged history) none
+
+-- The form.
+
+moment_told : (version : Version) (moment : ℕ) → is_some (told_moment version moment) ≡ tells_moments version
+moment_told One moment = refl
+moment_told (Two keep) moment = refl
+
+moments_told : (version : Version) (all : List Step) → AllByRecursion (λ line. is_some line.moment ≡ tells_moments version) (map (take_line version) (takes_of all all))
+moments_told version all =
+    all_map (λ line. is_some line.moment ≡ tells_moments version) (take_line version) (takes_of all all)
+    (all_of (λ take. is_some (take_line version take).moment ≡ tells_moments version) (λ take. moment_told version take.moment) (takes_of all all))
+
+-- what is known of each device's pages where no entry is purged
+abbrev pub ArePagesOfAll : ScheduleView → Type 0
+ArePagesOfAll s =
+    (name : List ℕ) → ArePages (worlds_of 4294967295 (steps_of s.lines)) s (device_line 4294967295 (steps_of s.lines) name)
+
+pub in_form_one : (s : ScheduleView) → IsSchedule s → ArePagesOfAll s → IsInForm One (report_by One (steps_of s.lines))
+in_form_one s known pages =
+    let all = steps_of s.lines in
+    record {
+      is = refl;
+      moments = moments_told One all;
+      lasts = λ untold. each_account (λ a. a.last ≡ a.count) 4294967295 all (λ name. sym (ap length (whole_kept all (known_few s known) name)));
+      unbroken = λ untold. each_device (λ d. AllByRecursion (λ l. l.broken ≡ false) d.logged) 4294967295 all
+          (λ name. let are = pages name in unbroken 4294967295 all name are.tiles);
+    }
+
+pub in_form_two : (keep : ℕ) (all : List Step) → IsInForm (Two keep) (report_by (Two keep) all)
+in_form_two keep all = record {
+  is = refl;
+  moments = moments_told (Two keep) all;
+  lasts = λ untold. absurd (true≢false untold);
+  unbroken = λ untold. absurd (true≢false untold);
+}
+
 -- Law 1.
 
-archive_kept : (all : List Step) → AreStanding [] all → (name : List ℕ) →
-    map at_any_time (map entry_line (archive_of name (takes_of all all)))
-    ≡ map (λ e. at_any_time (entry_line e)) (archive_of name (map (named_in all) (map take_line (takes_of all all))))
-archive_kept all known name =
-    map-map entry_line at_any_time (archive_of name (takes_of all all))
-    ∙ ap (λ takes. map (λ e. at_any_time (entry_line e)) (archive_of name takes)) (sym (takes_back all known))
+archive_taken : (all : List Step) → AreStanding [] all → length all ≤ 100000 → (name : List ℕ) →
+    map at_any_time (account_line 4294967295 all name).entries ≡ map (λ e. at_any_time (entry_line e)) (archive_of name (takes_in (report_by One all)))
+archive_taken all known few name =
+    ap (λ kept. map at_any_time (map entry_line kept)) (whole_kept all few name)
+    ∙ map-map entry_line at_any_time (archive_of name (takes_of all all))
+    ∙ timeless name (takes_of all all)
+    ∙ ap (λ takes. map (λ e. at_any_time (entry_line e)) (archive_of name takes)) (sym (takes_untimed One all known))
 
-abbrev HasNoStamp : EntryLineView → Type 0
-HasNoStamp e = e.stamp ≡ 0
+stamps_kept : (all : List Step) → length all ≤ 100000 → (name : List ℕ) → IsNonDecreasing (map (λ e. e.stamp) (account_line 4294967295 all name).entries)
+stamps_kept all few name =
+    subst (λ (kept : List EntryView). IsNonDecreasing (map (λ (e : EntryLineView). e.stamp) (map entry_line kept))) (sym (whole_kept all few name)) (stamps_rise all name)
 
-stamps_of : (all : List Step) → AreStanding [] all → (name : List ℕ) → AllByRecursion HasNoStamp (map entry_line (archive_of name (takes_of all all)))
-stamps_of all known name = all_map HasNoStamp entry_line (archive_of name (takes_of all all)) (stamps_known all name known)
+entries_stamped : (all : List Step) → AreStanding [] all → AreNamed all → length all ≤ 100000 → (name : List ℕ) → AllByRecursion (IsStamped all) (account_line 4294967295 all name).entries
+entries_stamped all known named few name =
+    subst (λ (kept : List EntryView). AllByRecursion (IsStamped all) (map entry_line kept)) (sym (whole_kept all few name))
+    (archive_stamped all known named (omega arith) name)
 
-stamps_kept : (all : List Step) → AreStanding [] all → (name : List ℕ) → IsNonDecreasing (map (λ e. e.stamp) (map entry_line (archive_of name (takes_of all all))))
-stamps_kept all known name =
-    zeros_not_falling (map (λ e. e.stamp) (map entry_line (archive_of name (takes_of all all))))
-    (all_map (λ x. x ≡ 0) (λ (e : EntryLineView). e.stamp) (map entry_line (archive_of name (takes_of all all))) (stamps_of all known name))
+one_stamp : (all : List Step) → AreStanding [] all → AreNamed all → length all ≤ 100000 → EachPair AgreeOnStamp (flat_map (λ a. a.entries) (map (account_line 4294967295 all) (accounts_of all)))
+one_stamp all known named few =
+    pairs_by_both (IsStamped all) AgreeOnStamp (stamps_agree all) (flat_map (λ (a : AccountView). a.entries) (map (account_line 4294967295 all) (accounts_of all)))
+    (all_flat_map (IsStamped all) (λ (a : AccountView). a.entries) (map (account_line 4294967295 all) (accounts_of all))
+    (each_account (λ a. AllByRecursion (IsStamped all) a.entries) 4294967295 all (entries_stamped all known named few)))
 
-one_stamp : (all : List Step) → AreStanding [] all → EachPair AgreeOnStamp (flat_map (λ a. a.entries) (map (account_line all) (accounts_of all)))
-one_stamp all known =
-    pairs_by_both HasNoStamp AgreeOnStamp (λ a b first second from origin. first ∙ sym second) (flat_map (λ (a : AccountView). a.entries) (map (account_line all) (accounts_of all)))
-    (all_flat_map HasNoStamp (λ (a : AccountView). a.entries) (map (account_line all) (accounts_of all))
-    (each_account (λ a. AllByRecursion HasNoStamp a.entries) all (stamps_of all known)))
-
-pub taken_right : (s : ScheduleView) → IsSchedule s → IsTakenRight s (direct_report (steps_of s.lines))
-unfolding direct_report of_schedule
+pub taken_right : (s : ScheduleView) → IsSchedule s → IsTakenRight s (report_by One (steps_of s.lines))
 taken_right s known =
+    let all = steps_of s.lines in
+    let keep = keep_of One in
+    let standing : AreStanding [] all = known_steps s known in
+    let few : length all ≤ 100000 = known_few s known in
+    record {
+      whole = of_schedule One s known;
+      archives = each_account (λ a. map at_any_time a.entries ≡ map (λ e. at_any_time (entry_line e)) (archive_of a.name (takes_in (report_by One all)))) keep all (archive_taken all standing few);
+      stamps = each_account (λ a. IsNonDecreasing (map (λ e. e.stamp) a.entries)) keep all (stamps_kept all few);
+      one_stamp = one_stamp all standing (are_named nothing_declared 2 s.lines known.lines) few;
+      submitted = takes_submitted One keep all standing;
+      exist = takes_exist One all standing;
+      numbered = each_device (λ d. AreSubmissions d.said) keep all (λ name. are_submissions name all);
+      epochs = each_device (λ d. AllByRecursion (λ said. (1 ≤ said.epoch) × (said.epoch ≤ d.epoch)) d.said) keep all (λ name. first_epoch name [] all);
+      said = each_device (λ d. AreOutcomes d.name s.lines d.said d.refused) keep all (λ name. are_outcomes name [] s.lines);
+    }
+
+newest_kept : (keep : ℕ) (all : List Step) → AreStanding [] all → (name : List ℕ) → IsNewestOf keep (history_of (report_by (Two keep) all) name) (account_line keep all name)
+newest_kept keep all known name =
+    subst (λ (history : List EntryView). IsNewestOf keep history (account_line keep all name)) (sym (history_is keep all known name)) (record { entries = refl; last = refl })
+
+pub taken_and_kept : (keep : ℕ) (s : ScheduleView) → IsSchedule s → IsTakenAndKept keep s (report_by (Two keep) (steps_of s.lines))
+taken_and_kept keep s known =
     let all = steps_of s.lines in
     let standing : AreStanding [] all = known_steps s known in
     record {
-      whole = of_schedule s known;
-      archives = each_account _ all (archive_kept all standing);
-      stamps = each_account (λ a. IsNonDecreasing (map (λ e. e.stamp) a.entries)) all (stamps_kept all standing);
-      one_stamp = one_stamp all standing;
-      submitted = takes_submitted all standing;
-      exist = takes_exist all standing;
-      numbered = each_device (λ d. AreSubmissions d.said) all (λ name. are_submissions name all);
-      epochs = each_device (λ d. AllByRecursion (λ said. (1 ≤ said.epoch) × (said.epoch ≤ d.epoch)) d.said) all (λ name. first_epoch name [] all);
-      said = each_device (λ d. AreOutcomes d.name s.lines d.said d.refused) all (λ name. are_outcomes name [] s.lines);
+      whole = of_schedule (Two keep) s known;
+      archives = each_account (λ a. IsNewestOf keep (history_of (report_by (Two keep) all) a.name) a) keep all (newest_kept keep all standing);
+      moments = told_rise keep all;
+      submitted = takes_submitted (Two keep) keep all standing;
+      exist = takes_exist (Two keep) all standing;
+      numbered = each_device (λ d. AreSubmissions d.said) keep all (λ name. are_submissions name all);
+      epochs = each_device (λ d. AllByRecursion (λ said. (1 ≤ said.epoch) × (said.epoch ≤ d.epoch)) d.said) keep all (λ name. first_epoch name [] all);
+      said = each_device (λ d. AreOutcomes d.name s.lines d.said d.refused) keep all (λ name. are_outcomes name [] s.lines);
     }
 
 -- Law 2.
 
-gapless : (s : ScheduleView) (name : List ℕ) → EachPair (IsTakenFirst s (map take_line (takes_of (steps_of s.lines) (steps_of s.lines))) name) (along (said_at name) [] (steps_of s.lines))
-gapless s name =
+gapless : (version : Version) (s : ScheduleView) (name : List ℕ) →
+    EachPair (IsTakenFirst s (map (take_line version) (takes_of (steps_of s.lines) (steps_of s.lines))) name) (along (said_at name) [] (steps_of s.lines))
+gapless version s name =
     let all = steps_of s.lines in
-    pairs_by_first (λ said. is_among said.to (accounts_of all) ≡ true → is_taken (map take_line (takes_of all all)) name said ≡ true)
-    (IsTakenFirst s (map take_line (takes_of all all)) name)
-    (λ first second taken same exists later. taken exists) (along (said_at name) [] all) (taken_from all name [] all)
+    pairs_by_first (λ said. is_among said.to (accounts_of all) ≡ true → is_taken (map (take_line version) (takes_of all all)) name said ≡ true)
+    (IsTakenFirst s (map (take_line version) (takes_of all all)) name)
+    (λ first second taken same exists later. taken exists) (along (said_at name) [] all) (taken_from version all name [] all)
 
-pub once_in_order : (s : ScheduleView) → IsSchedule s → IsOnceInOrder s (direct_report (steps_of s.lines))
-unfolding direct_report of_schedule
-once_in_order s known =
+pub once_in_order : (version : Version) (s : ScheduleView) → IsSchedule s → IsOnceInOrder s (report_by version (steps_of s.lines))
+once_in_order version s known =
     let all = steps_of s.lines in
+    let keep = keep_of version in
     record {
-      whole = of_schedule s known;
-      rise = each_device (λ d. EachPair Precedes (filter (λ t. bytes_eq d.name t.device) (map take_line (takes_of all all)))) all (takes_rise all);
-      gapless = each_device (λ d. EachPair (IsTakenFirst s (map take_line (takes_of all all)) d.name) d.said) all (gapless s);
+      whole = of_schedule version s known;
+      rise = each_device (λ d. EachPair Precedes (filter (λ t. bytes_eq d.name t.device) (map (take_line version) (takes_of all all)))) keep all (takes_rise version all);
+      gapless = each_device (λ d. EachPair (IsTakenFirst s (map (take_line version) (takes_of all all)) d.name) d.said) keep all (gapless version s);
     }
 
 -- Law 3.
 
-settled_right : (all : List Step) (name : List ℕ) → IsSettledRight (device_line all name)
-settled_right all name = record {
+settled_right : (keep : ℕ) (all : List Step) (name : List ℕ) → IsSettledRight (device_line keep all name)
+settled_right keep all name = record {
   nothing_waits = AllByRecursion-weaker (λ said. said.state ≡ Acknowledged) (λ said. said.state ≢ Waiting) (λ said is waits. cc) (along (said_at name) [] all) (acknowledged name [] all);
   nothing_underway = refl;
   present_epoch = AllByRecursion-weaker (λ said. said.state ≡ Acknowledged) (λ said. said.epoch ≡ 1 → said.state ≡ Acknowledged) (λ said is epoch. is) (along (said_at name) [] all) (acknowledged name [] all);
 }
 
-acknowledged_taken : (all : List Step) (name : List ℕ) →
-    AllByRecursion (λ said. said.state ≡ Acknowledged → IsTrue (is_among said.to (accounts_of all)) → IsTrue (is_taken (map take_line (takes_of all all)) name said)) (along (said_at name) [] all)
-acknowledged_taken all name =
-    AllByRecursion-weaker (λ said. is_among said.to (accounts_of all) ≡ true → is_taken (map take_line (takes_of all all)) name said ≡ true)
-    (λ said. said.state ≡ Acknowledged → IsTrue (is_among said.to (accounts_of all)) → IsTrue (is_taken (map take_line (takes_of all all)) name said))
-    (λ said taken is. taken) (along (said_at name) [] all) (taken_from all name [] all)
+acknowledged_taken : (version : Version) (all : List Step) (name : List ℕ) →
+    AllByRecursion (λ said. said.state ≡ Acknowledged → IsTrue (is_among said.to (accounts_of all)) → IsTrue (is_taken (map (take_line version) (takes_of all all)) name said)) (along (said_at name) [] all)
+acknowledged_taken version all name =
+    AllByRecursion-weaker (λ said. is_among said.to (accounts_of all) ≡ true → is_taken (map (take_line version) (takes_of all all)) name said ≡ true)
+    (λ said. said.state ≡ Acknowledged → IsTrue (is_among said.to (accounts_of all)) → IsTrue (is_taken (map (take_line version) (takes_of all all)) name said))
+    (λ said taken is. taken) (along (said_at name) [] all) (taken_from version all name [] all)
 
-pub acknowledged_right : (s : ScheduleView) → IsSchedule s → IsAcknowledgedRight s (direct_report (steps_of s.lines))
-unfolding direct_report of_schedule
-acknowledged_right s known =
+pub acknowledged_right : (version : Version) (s : ScheduleView) → IsSchedule s → IsAcknowledgedRight s (report_by version (steps_of s.lines))
+acknowledged_right version s known =
     let all = steps_of s.lines in
+    let keep = keep_of version in
     record {
-      whole = of_schedule s known;
+      whole = of_schedule version s known;
       taken = each_device
-          (λ d. AllByRecursion (λ said. said.state ≡ Acknowledged → IsTrue (is_account s said.to) → IsTrue (is_taken (map take_line (takes_of all all)) d.name said)) d.said)
-          all (acknowledged_taken all);
-      first = each_device (λ d. EachPair IsAcknowledgedFirst d.said) all
+          (λ d. AllByRecursion (λ said. said.state ≡ Acknowledged → IsTrue (is_account s said.to) → IsTrue (is_taken (map (take_line version) (takes_of all all)) d.name said)) d.said)
+          keep all (acknowledged_taken version all);
+      first = each_device (λ d. EachPair IsAcknowledgedFirst d.said) keep all
           (λ name. pairs_by_first (λ said. said.state ≡ Acknowledged) IsAcknowledgedFirst (λ a b is same later. is) (along (said_at name) [] all) (acknowledged name [] all));
-      settled = each_device (λ d. IsTrue d.settled → IsSettledRight d) all (λ name yes. settled_right all name);
-      direct = λ is. each_device IsUndisturbed all (λ name. record { settled = refl; epoch = refl; nothing_refused = refl; nothing_held = refl });
+      settled = each_device (λ d. IsTrue d.settled → IsSettledRight d) keep all (λ name yes. settled_right keep all name);
+      direct = λ is. each_device IsUndisturbed keep all (λ name. record { settled = refl; epoch = refl; nothing_refused = refl; nothing_held = refl });
     }
 
--- Law 4.
+-- Laws 4 and 5 of version 1.
 
-known_few : (s : ScheduleView) → IsSchedule s → length (steps_of s.lines) < 2 ^ 64
-known_few s known =
-    let lines : length s.lines + 2 ≤ 100001 = few_lines nothing_declared 2 s.lines (omega arith) known.lines in
-    omega (arith, length-map s.lines (λ (line : Line). line.step))
+-- what is known of each log where no entry is purged
+abbrev pub ArePrefixes : List Step → Type 0
+ArePrefixes all = (name : List ℕ) → IsPrefixOf (map entry_line (archive_of (home_of all name) (takes_of all all))) (device_line 4294967295 all name)
 
--- the log is the front of the archive
-log_front : (all : List Step) (name : List ℕ) → AreStanding [] all → length all < 2 ^ 64 →
-    ArePaged (archive_of (home_of all name) (takes_of all all)) (pages_of all name all) (count_by (is_catchup_of name) all)
-log_front all name stand few = paged_at all name all [] (append-nil all) stand few
+prefix_of_account : (all : List Step) (name : List ℕ) → length all ≤ 100000 → ArePrefixes all → is_among (home_of all name) (accounts_of all) ≡ true →
+    IsPrefixOfAccount (device_line 4294967295 all name) (account_named (home_of all name) (map (account_line 4294967295 all) (accounts_of all)))
+prefix_of_account all name few prefixes exists =
+    let prefix : IsPrefixOf (account_line 4294967295 all (home_of all name)).entries (device_line 4294967295 all name) =
+    subst (λ (kept : List EntryView). IsPrefixOf (map entry_line kept) (device_line 4294967295 all name)) (sym (whole_kept all few (home_of all name))) (prefixes name) in
+    rw (account_found 4294967295 all (home_of all name) (accounts_of all) exists) prefix
 
--- the entry of a log's line
-abbrev line_entry : LoggedLine → EntryLineView
-line_entry line = line.entry
-
-prefix_kept : (archive : List EntryView) (log rest : List LogEntry) → map as_logged archive ≡ log ++ rest →
-    (length (map logged_line log) ≤ length (map entry_line archive))
-    × (map line_entry (map logged_line log) ≡ take (length (map logged_line log)) (map entry_line archive))
-prefix_kept archive log rest front =
-    let total : length archive ≡ length log + length rest = sym (length-map archive as_logged) ∙ ap length front ∙ length-append log rest in
-    let entry_of_line : LogEntry → EntryLineView = λ l. line_entry (logged_line l) in
-    let lines : map entry_line archive ≡ map entry_of_line log ++ map entry_of_line rest =
-    sym (map-map as_logged entry_of_line archive) ∙ ap (map entry_of_line) front ∙ map-append entry_of_line log rest in (
-      omega (arith, length-map log logged_line, length-map archive entry_line),
-      map-map logged_line line_entry log
-          ∙ sym (front_of_join (map entry_of_line log) (map entry_of_line rest) (length (map logged_line log)) (length-map log entry_of_line ∙ sym (length-map log logged_line)))
-          ∙ ap (take (length (map logged_line log))) (sym lines),
-    )
-
-prefix_of_account : (all : List Step) (name : List ℕ) → AreStanding [] all → length all < 2 ^ 64 → is_among (home_of all name) (accounts_of all) ≡ true →
-    IsPrefixOfAccount (device_line all name) (account_named (home_of all name) (map (account_line all) (accounts_of all)))
-prefix_of_account all name stand few exists =
-    let archive = archive_of (home_of all name) (takes_of all all) in
-    let known = log_front all name stand few in
-    let kept = prefix_kept archive (log_of (pages_of all name all)) known.rest known.front in
-    rw (account_found all (home_of all name) (accounts_of all) exists) (record { short = kept.0; logged = kept.1; apart = tt; held = tt })
-
-pub logged_right : (s : ScheduleView) → IsSchedule s → IsLogged s (direct_report (steps_of s.lines))
-unfolding direct_report of_schedule
-logged_right s known =
+pub logged_right : (s : ScheduleView) → IsSchedule s → ArePrefixes (steps_of s.lines) → IsLogged s (report_by One (steps_of s.lines))
+logged_right s known prefixes =
     let all = steps_of s.lines in
-    let standing : AreStanding [] all = known_steps s known in
+    let keep = keep_of One in
     record {
-      whole = of_schedule s known;
-      prefix = all_map (λ d. IsPrefixOfAccount d (account_named d.account (map (account_line all) (accounts_of all)))) (device_line all) (devices_of all)
+      whole = of_schedule One s known;
+      prefix = all_map (λ d. IsPrefixOfAccount d (account_named d.account (map (account_line keep all) (accounts_of all)))) (device_line keep all) (devices_of all)
           (AllByRecursion-weaker (λ name. is_among (home_of all name) (accounts_of all) ≡ true)
-          (λ name. IsPrefixOfAccount (device_line all name) (account_named (home_of all name) (map (account_line all) (accounts_of all))))
-          (λ name exists. prefix_of_account all name standing (known_few s known) exists) (devices_of all) (homes_exist all [] all refl standing));
+          (λ name. IsPrefixOfAccount (device_line keep all name) (account_named (home_of all name) (map (account_line keep all) (accounts_of all))))
+          (λ name exists. prefix_of_account all name (known_few s known) prefixes exists) (devices_of all) (homes_exist all [] all refl (known_steps s known)));
     }
 
--- Law 5.
-
-ids_differ : (all : List Step) (name : List ℕ) → AreStanding [] all → length all < 2 ^ 64 → EachPair (λ a b. a.entry.id ≢ b.entry.id) (map logged_line (log_of (pages_of all name all)))
-ids_differ all name stand few =
-    let account = home_of all name in
-    let archive = archive_of account (takes_of all all) in
-    let log = log_of (pages_of all name all) in
-    let known = log_front all name stand few in
-    let short : length archive ≤ length all = archive_few all account all in
-    let apart : EachPair (λ a b. a.id ≢ b.id) (map as_logged archive) =
-    pairs_map (λ (a b : LogEntry). a.id ≢ b.id) as_logged archive (ids_apart archive (archive_numbered account (takes_of all all)) (omega arith)) in
-    pairs_map (λ (a b : LoggedLine). a.entry.id ≢ b.entry.id) logged_line log
-    (pairs_front (λ (a b : LogEntry). a.id ≢ b.id) log known.rest (rw known.front at apart))
-
-are_pages : (s : ScheduleView) → IsSchedule s → (name : List ℕ) → ArePages (direct_history (steps_of s.lines)) s (device_line (steps_of s.lines) name)
-are_pages s known name =
-    let all = steps_of s.lines in
-    let standing : AreStanding [] all = known_steps s known in
-    let paged = log_front all name standing (known_few s known) in
-    record {
-      tiles = tiles_are [] (pages_of all name all) paged.tiles;
-      distinct = ids_differ all name standing (known_few s known);
-      fresh = λ k total page at is. is_fresh all name standing (known_few s known) k total page at is;
-      last = ends_with all [] all (device_line all name) (sym (length-map (pages_of all name all) page_line));
-      answered = λ direct. complete_lines (pages_of all name all) ∙ paged.complete;
-    }
-
-pub paged_right : (s : ScheduleView) → IsSchedule s → IsPaged (direct_history (steps_of s.lines)) s (direct_report (steps_of s.lines))
-unfolding direct_report of_schedule
-paged_right s known =
-    record {
-      whole = of_schedule s known;
-      pages = each_device (ArePages (direct_history (steps_of s.lines)) s) (steps_of s.lines) (are_pages s known);
-    }
-
-pub lawful : (s : ScheduleView) → IsSchedule s → IsLawful (direct_history (steps_of s.lines)) s (direct_report (steps_of s.lines))
-lawful s known = record {
-  taken = taken_right s known;
-  in_order = once_in_order s known;
-  acknowledged = acknowledged_right s known;
-  logged = logged_right s known;
-  paged = paged_right s known;
+pub paged_right : (s : ScheduleView) → IsSchedule s → ArePagesOfAll s → IsPaged (worlds_of 4294967295 (steps_of s.lines)) s (report_by One (steps_of s.lines))
+paged_right s known pages = record {
+  whole = of_schedule One s known;
+  pages = each_device (ArePages (worlds_of 4294967295 (steps_of s.lines)) s) 4294967295 (steps_of s.lines) pages;
 }
+
+-- Laws 4 and 5 of version 2.
+
+-- what is known of each device's log and pages where the archives keep their newest entries
+abbrev pub AreLoggedInRuns : ℕ → List Step → Type 0
+AreLoggedInRuns keep all = (name : List ℕ) → IsRunsOf keep (archive_of (home_of all name) (takes_of all all)) (device_line keep all name)
+
+abbrev pub ArePagedInRuns : ℕ → ScheduleView → Type 0
+ArePagedInRuns keep s =
+    (name : List ℕ) → ArePagesOfRuns keep (worlds_of keep (steps_of s.lines)) s (archive_of (home_of (steps_of s.lines) name) (takes_of (steps_of s.lines) (steps_of s.lines))) (device_line keep (steps_of s.lines) name)
+
+pub logged_in_runs : (keep : ℕ) (s : ScheduleView) → IsSchedule s → AreLoggedInRuns keep (steps_of s.lines) → IsLoggedInRuns keep s (report_by (Two keep) (steps_of s.lines))
+logged_in_runs keep s known logged =
+    let all = steps_of s.lines in
+    record {
+      whole = of_schedule (Two keep) s known;
+      runs = each_device (λ d. IsRunsOf keep (history_of (report_by (Two keep) all) d.account) d) keep all
+          (λ name. subst (λ (history : List EntryView). IsRunsOf keep history (device_line keep all name)) (sym (history_is keep all (known_steps s known) (home_of all name))) (logged name));
+    }
+
+pub paged_in_runs : (keep : ℕ) (s : ScheduleView) → IsSchedule s → ArePagedInRuns keep s → IsPagedInRuns keep (worlds_of keep (steps_of s.lines)) s (report_by (Two keep) (steps_of s.lines))
+paged_in_runs keep s known paged =
+    let all = steps_of s.lines in
+    record {
+      whole = of_schedule (Two keep) s known;
+      pages = each_device (λ d. ArePagesOfRuns keep (worlds_of keep all) s (history_of (report_by (Two keep) all) d.account) d) keep all
+          (λ name. subst (λ (history : List EntryView). ArePagesOfRuns keep (worlds_of keep all) s history (device_line keep all name)) (sym (history_is keep all (known_steps s known) (home_of all name))) (paged name));
+    }
+
+-- The five laws.
+
+pub lawful_one : (s : ScheduleView) → IsSchedule s → ArePrefixes (steps_of s.lines) → ArePagesOfAll s → IsLawful (worlds_of 4294967295 (steps_of s.lines)) s (report_by One (steps_of s.lines))
+lawful_one s known prefixes pages = record {
+  taken = taken_right s known;
+  in_order = once_in_order One s known;
+  acknowledged = acknowledged_right One s known;
+  logged = logged_right s known prefixes;
+  paged = paged_right s known pages;
+}
+
+pub lawful_two : (keep : ℕ) (s : ScheduleView) → IsSchedule s → AreLoggedInRuns keep (steps_of s.lines) → ArePagedInRuns keep s →
+    IsLawfulKeeping keep (worlds_of keep (steps_of s.lines)) s (report_by (Two keep) (steps_of s.lines))
+lawful_two keep s known logged paged = record {
+  taken = taken_and_kept keep s known;
+  in_order = once_in_order (Two keep) s known;
+  acknowledged = acknowledged_right (Two keep) s known;
+  logged = logged_in_runs keep s known logged;
+  paged = paged_in_runs keep s known paged;
+}
+
+-- what is known of all devices' logs and pages, by the version
+abbrev pub AreRightlyPaged : Version → ScheduleView → Type 0
+AreRightlyPaged One s = ArePrefixes (steps_of s.lines) × ArePagesOfAll s
+AreRightlyPaged (Two keep) s = AreLoggedInRuns keep (steps_of s.lines) × ArePagedInRuns keep s
+
+form_by : (version : Version) (s : ScheduleView) → IsSchedule s → AreRightlyPaged version s → IsInForm version (report_by version (steps_of s.lines))
+form_by One s known paged = in_form_one s known paged.1
+form_by (Two keep) s known paged = in_form_two keep (steps_of s.lines)
+
+laws_by : (version : Version) (s : ScheduleView) → IsSchedule s → AreRightlyPaged version s →
+    KeepsLawsOf version (worlds_of (keep_of version) (steps_of s.lines)) s (report_by version (steps_of s.lines))
+laws_by One s known paged = lawful_one s known paged.0 paged.1
+laws_by (Two keep) s known paged = lawful_two keep s known paged.0 paged.1
+
+pub lawful_by : ((version : Version) (s : ScheduleView) → IsSchedule s → IsTrue (may_keep version) → AreRightlyPaged version s) →
+    (s : ScheduleView) → IsSchedule s → KeepsLaws (direct_history s) s (direct_report s)
+unfolding direct_report
+lawful_by paged s known =
+    let pages = paged s.version s known known.keeps in
+    record { form = form_by s.version s known pages; laws = laws_by s.version s known pages }
