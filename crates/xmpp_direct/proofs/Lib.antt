@@ -8,3 +8,4 @@ pub mod LawWorlds
 pub mod LawsKept
 pub mod NextPages
 pub mod Prefixes
+pub mod Turns
