@@ -8,4 +8,5 @@ pub mod LawWorlds
 pub mod LawsKept
 pub mod NextPages
 pub mod Prefixes
+pub mod TurnRuns
 pub mod Turns
