@@ -9,4 +9,5 @@ pub mod LawsKept
 pub mod NextPages
 pub mod Prefixes
 pub mod TurnRuns
+pub mod TurnTiles
 pub mod Turns

@@ -1,8 +1,8 @@
 -- The lines of a log by turns: they are runs of the history, and each entry that is still kept, up to the last one
 -- logged, is among them.
-use Rattle.std.proofs.Common.{◌≡◌, ◌≢◌, ℕ, zero, suc, ◌+◌, ◌-◌, ◌<◌, ◌≤◌, ◌^◌, max, Bool, true, false, cond, ◌||◌, ltb, leb, List, [], ◌∷◌, ◌++◌, Option, Some, None, length, take, drop, map, refl, sym, ap, ◌∙◌, arith, inl, inr}
+use Rattle.std.proofs.Common.{◌≡◌, ◌≢◌, ℕ, zero, suc, ◌+◌, ◌-◌, ◌<◌, ◌≤◌, ◌^◌, max, Bool, true, false, cond, ltb, leb, List, [], ◌∷◌, ◌++◌, Option, Some, None, length, take, drop, map, refl, sym, ap, ◌∙◌, arith, inl, inr}
 use Rattle.std.proofs.lemmas.Bool.{cases_Bool, cases_lt, leb-false, lt-ltb, or_right, true≢false}
-use Rattle.std.proofs.lemmas.List.{append_assoc, append-nil, drop-drop, length-append, length-map, map-append, take-append-drop}
+use Rattle.std.proofs.lemmas.List.{append_assoc, append-nil, drop-drop, length-map, map-append, take-append-drop}
 use Rattle.std.proofs.lemmas.List.Folds.{list_any-append}
 use Rattle.std.proofs.lemmas.Option.{slice_get_within}
 use Rattle.std.specs.List.{AllByRecursion, slice_get}
@@ -12,8 +12,8 @@ use Rattle.xmpp_archive.proofs.NumberedEntries.{FollowFrom, follow_at, follow_dr
 use Rattle.xmpp_archive.specs.Entries.{EntryView, entry_numbered}
 use Rattle.xmpp_archive.specs.Ids.{id_of}
 use Rattle.xmpp_basis.proofs.Lists.{AllByRecursion-weaker}
-use Rattle.xmpp_direct.proofs.NextPages.{entry_is, id_behind}
-use Rattle.xmpp_direct.proofs.Turns.{AreRising, Turn, end_of, ends_at, ends_bounds, follow_span, id_of_entry, last_of, length_span, log_by, page_by, pages_by, rising_bounds, run_by, span, span_join, start_of, turn_bounds, turn_empty}
+use Rattle.xmpp_direct.proofs.NextPages.{entry_is}
+use Rattle.xmpp_direct.proofs.Turns.{AreRising, Turn, end_of, ends_at, follow_span, id_of_entry, last_of, length_span, log_by, pages_by, rising_bounds, run_by, span, span_join, start_of, turn_bounds, turn_empty}
 use Rattle.xmpp_direct.specs.Direct.{as_logged}
 use Rattle.xmpp_edge.specs.Names.{is_among}
 use Rattle.xmpp_log.specs.LogPages.{LogPage, log_of}
