@@ -1,4 +1,5 @@
 pub mod ArchivePages
+pub mod CatchUps
 pub mod LawArchives
 pub mod LawHistories
 pub mod LawLists
@@ -7,7 +8,9 @@ pub mod LawTakes
 pub mod LawWorlds
 pub mod LawsKept
 pub mod NextPages
+pub mod PageRuns
 pub mod Prefixes
+pub mod RunLaws
 pub mod TurnRuns
 pub mod TurnTiles
 pub mod Turns

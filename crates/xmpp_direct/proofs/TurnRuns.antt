@@ -92,7 +92,7 @@ pub record Goes (keep n : ℕ) (history : List EntryView) (turn : Turn) : Type 0
 le_all : {a b c d : ℕ} → a ≤ b → b ≤ c → c ≤ d → a ≤ d
 le_all first second third = omega arith
 
-le_two : {a b c : ℕ} → a ≤ b → b ≤ c → a ≤ c
+pub le_two : {a b c : ℕ} → a ≤ b → b ≤ c → a ≤ c
 le_two first second = omega arith
 
 sum_back : {a s t : ℕ} → a ≡ t - s → s ≤ t → s + a ≡ t
@@ -238,7 +238,7 @@ numbers_within history follow =
 
 -- The last number.
 
-number_follow : (m s : ℕ) (es rest : List EntryView) → FollowFrom (suc s) es → (length es ≡ 0 → m ≡ s) → last_number_or m (es ++ rest) ≡ last_number_or (s + length es) rest
+pub number_follow : (m s : ℕ) (es rest : List EntryView) → FollowFrom (suc s) es → (length es ≡ 0 → m ≡ s) → last_number_or m (es ++ rest) ≡ last_number_or (s + length es) rest
 number_follow m s [] rest follow empty = let same : m ≡ s + 0 = omega (arith, empty refl) in ap (λ k. last_number_or k rest) same
 number_follow m s (e ∷ es) rest follow empty =
     let size : suc s + length es ≡ s + length (e ∷ es) = omega arith in
