@@ -9,6 +9,7 @@ pub mod LawWorlds
 pub mod LawsKept
 pub mod NextPages
 pub mod PageRuns
+pub mod PrefixLaws
 pub mod Prefixes
 pub mod RunLaws
 pub mod TurnRuns

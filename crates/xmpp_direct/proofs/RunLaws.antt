@@ -162,7 +162,7 @@ first_of_span keep last history some long follow =
     nothing_purged size last keep some is none = omega arith
 
 -- the archive of a world, as what is kept of the history
-kept_of_world : (keep : ℕ) (all : List Step) (name : List ℕ) (before rest : List Step) (world : World) → before ++ rest ≡ all → world_after keep all before ≡ world →
+pub kept_of_world : (keep : ℕ) (all : List Step) (name : List ℕ) (before rest : List Step) (world : World) → before ++ rest ≡ all → world_after keep all before ≡ world →
     world.archive (home_of all name) ≡ span (last_at all name before - keep) (last_at all name before) (history_at all name)
 kept_of_world keep all name before rest world whole is =
     let front = front_at all name before rest whole in
@@ -251,7 +251,7 @@ complete_turn keep all name k total t line some few at is =
 
 -- Law 5.
 
-place_of_line : (keep : ℕ) (all : List Step) (name : List ℕ) (k : ℕ) (line : PageLine) → slice_get (map page_line (pages_of keep all name all)) k ≡ Some line →
+pub place_of_line : (keep : ℕ) (all : List Step) (name : List ℕ) (k : ℕ) (line : PageLine) → slice_get (map page_line (pages_of keep all name all)) k ≡ Some line →
     k < length (pages_of keep all name all)
 place_of_line keep all name k line at =
     omega (arith, slice_get_within (map page_line (pages_of keep all name all)) k line at, length-map (pages_of keep all name all) page_line)
@@ -337,7 +337,7 @@ tiles_of_turns : (keep : ℕ) (all : List Step) (name : List ℕ) (turns : List 
 tiles_of_turns keep all name turns some rise =
     tiles_by keep 0 0 (length (history_at all name)) (history_at all name) turns [] some (omega arith) rise (omega arith) (history_follows all name) refl
 
-distinct_of_turns : (keep : ℕ) (all : List Step) (name : List ℕ) (turns : List Turn) → 1 ≤ keep → length all ≤ 100000 → AreRising 0 (length (history_at all name)) turns →
+pub distinct_of_turns : (keep : ℕ) (all : List Step) (name : List ℕ) (turns : List Turn) → 1 ≤ keep → length all ≤ 100000 → AreRising 0 (length (history_at all name)) turns →
     EachPair (λ a b. a.entry.id ≢ b.entry.id) (logged_from 0 (pages_at keep all name turns))
 distinct_of_turns keep all name turns some few rise =
     let history = history_at all name in
