@@ -15,3 +15,4 @@ pub mod RunLaws
 pub mod TurnRuns
 pub mod TurnTiles
 pub mod Turns
+pub mod Worked

@@ -275,20 +275,20 @@ ends_in keep n low high p history (turn ∷ turns) before some within rise long 
     let go = goes keep n low high history turn some within rise.0 rise.1 top long follow in
     let gone : turn.last - keep ≤ p = less_gone turn.last high keep p top old in
     let here : p ≤ t → EndsIn p t history (before ++ span s t history) = λ up.
-        elim (cases_lt n p) [
-          | inl beyond ↦ record {
-                front = before ++ span s p history;
-                joined = ap (λ es. before ++ es) (sym (span_join s p t history (max_below beyond gone) up)) ∙ sym (append_assoc before (span s p history) (span p t history));
-              }
-          | inr inside ↦
-              let end = known inside in
-              let same : s ≡ n = max_stays inside gone in
-              record {
-                front = end.front;
-                joined = ap (λ k. before ++ span k t history) same ∙ ap (λ es. es ++ span n t history) end.joined ∙ append_assoc end.front (span p n history) (span n t history)
-                    ∙ ap (λ es. end.front ++ es) (span_join p n t history inside (le_two go.on go.up));
-              }
-        ] in
+    elim (cases_lt n p) [
+      | inl beyond ↦ record {
+        front = before ++ span s p history;
+        joined = ap (λ es. before ++ es) (sym (span_join s p t history (max_below beyond gone) up)) ∙ sym (append_assoc before (span s p history) (span p t history));
+      }
+      | inr inside ↦
+          let end = known inside in
+          let same : s ≡ n = max_stays inside gone in
+          record {
+            front = end.front;
+            joined = ap (λ k. before ++ span k t history) same ∙ ap (λ es. es ++ span n t history) end.joined ∙ append_assoc end.front (span p n history) (span n t history)
+                ∙ ap (λ es. end.front ++ es) (span_join p n t history inside (le_two go.on go.up));
+          }
+    ] in
     let rest = ends_in keep t turn.last high p history turns (before ++ span s t history) some go.within rise.2 long follow old below here in
     record { front = rest.front; joined = sym (append_assoc before (span s t history) (run_by keep history t turns)) ∙ rest.joined }
   where
