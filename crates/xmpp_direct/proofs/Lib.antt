@@ -1,11 +1,6 @@
-pub mod ArchivePages
 pub mod CatchUps
-pub mod LawArchives
-pub mod LawHistories
 pub mod LawLists
-pub mod LawPages
 pub mod LawTakes
-pub mod LawWorlds
 pub mod LawsKept
 pub mod NextPages
 pub mod PageRuns
