@@ -1,5 +1,5 @@
 -- What is true of each pair of a list, and of what is found in it.
-use Rattle.std.proofs.Common.{◌≡◌, ◌≤◌, ℕ, zero, suc, Bool, true, false, ◌&&◌, ◌||◌, List, [], ◌∷◌, ◌++◌, get_or, length, map, refl, sym, ap, subst, arith, Some, inl, inr}
+use Rattle.std.proofs.Common.{◌≡◌, ◌≤◌, ℕ, zero, suc, Bool, true, ◌||◌, List, [], ◌∷◌, ◌++◌, map, refl, sym, ap, subst, arith, Some, inl, inr}
 use Rattle.std.proofs.lemmas.Bool.{and_from, and_parts, cases_Bool, cond_both, false≢true, or_left}
 use Rattle.std.proofs.lemmas.List.Elements.{All-from_recursion}
 use Rattle.std.proofs.lemmas.Slice.Eq.{bytes_eq-Decides}
@@ -8,7 +8,7 @@ use Rattle.std.specs.List.Sorted.{IsNonDecreasing}
 use Rattle.std.specs.Str.{bytes_eq}
 use Rattle.xmpp_edge.specs.Names.{is_among}
 use Rattle.xmpp_report.specs.Lawful.{EachPair, account_named, device_named}
-use Rattle.xmpp_schedule.proofs.Lists.{all_append, all_filter}
+use Rattle.xmpp_schedule.proofs.Lists.{all_filter}
 use Rattle.xmpp_schedule.specs.Grammar.{is_digit, is_lower, is_name}
 use Rattle.xmpp_schedule.specs.declared.schedule.Step.{Step}
 use Rattle.xmpp_direct.specs.Direct.{account_line, device_line}

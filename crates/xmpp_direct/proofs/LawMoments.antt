@@ -1,6 +1,6 @@
 -- The clock of the direct run: the moments of its takes don't fall, and entries of one message have one stamp. An origin
 -- id tells the message, for a device's name has no full stop.
-use Rattle.std.proofs.Common.{◌≡◌, ℕ, ◌+◌, ◌<◌, ◌≤◌, ◌==◌, ◌^◌, ◌&&◌, Bool, true, false, cond, List, [], ◌∷◌, ◌++◌, length, map, IsTrue, refl, sym, ap, subst, ◌∙◌, arith, inl, inr, eq-eqb, ne_eqb}
+use Rattle.std.proofs.Common.{◌≡◌, ℕ, ◌+◌, ◌<◌, ◌≤◌, ◌==◌, ◌^◌, ◌&&◌, true, false, cond, List, [], ◌∷◌, ◌++◌, length, map, IsTrue, refl, sym, ap, subst, ◌∙◌, arith, inl, inr, eq-eqb, ne_eqb}
 use Rattle.std.proofs.lemmas.Bool.{and_left, and_parts, and_right, cases_Bool}
 use Rattle.std.proofs.lemmas.Fmt.{decimal_injective}
 use Rattle.std.proofs.lemmas.List.{append_assoc, append-nil, append_cancel_left, length-append}
@@ -29,7 +29,7 @@ use Rattle.xmpp_schedule.specs.Grammar.{AreLines, Declared, declared_by, is_name
 use Rattle.xmpp_schedule.specs.Schedules.{steps_of}
 use Rattle.xmpp_schedule.specs.declared.schedule.Line.{Line}
 use Rattle.xmpp_schedule.specs.declared.schedule.Step.{Step}
-use Rattle.xmpp_schedule.specs.declared.schedule.Step.TheVariants.{Account, Device, Say, Private, Catchup, Tick}
+use Rattle.xmpp_schedule.specs.declared.schedule.Step.TheVariants.{Device, Say, Private}
 use Rattle.xmpp_schedule.specs.declared.schedule.Version.TheVariants.{Two}
 use Rattle.xmpp_direct.proofs.LawLists.{all_among, fronts_same, is_name_byte, name_bytes, pairs_filter, pairs_not_falling}
 use Rattle.xmpp_direct.proofs.LawTakes.{sent_no_less, sent_one, untimed}

@@ -127,17 +127,12 @@ untimed_back : (version : Version) (keep : ℕ) (all : List Step) (take : Take) 
     take_named (take_line version take) (device_named take.device (map (device_line keep all) (devices_of all))) ≡ untimed take
 untimed_back version keep all take known = rw (device_found keep all take.device (devices_of all) known.device, known.said, known.home)
 
-pub takes_untimed : (version : Version) (all : List Step) → AreStanding [] all → takes_in (report_by version all) ≡ map untimed (takes_of all all)
-takes_untimed One all known =
+pub takes_untimed : (all : List Step) → AreStanding [] all → takes_in (report_by One all) ≡ map untimed (takes_of all all)
+takes_untimed all known =
     map-map (take_line One) (λ line. take_named line (device_named line.device (report_by One all).devices)) (takes_of all all)
     ∙ map_same (λ take. take_named (take_line One take) (device_named take.device (report_by One all).devices)) untimed (takes_of all all)
     (AllByRecursion-weaker (IsTake all) (λ take. take_named (take_line One take) (device_named take.device (report_by One all).devices) ≡ untimed take)
     (untimed_back One 4294967295 all) (takes_of all all) (takes_known all known))
-takes_untimed (Two keep) all known =
-    map-map (take_line (Two keep)) (λ line. take_named line (device_named line.device (report_by (Two keep) all).devices)) (takes_of all all)
-    ∙ map_same (λ take. take_named (take_line (Two keep) take) (device_named take.device (report_by (Two keep) all).devices)) untimed (takes_of all all)
-    (AllByRecursion-weaker (IsTake all) (λ take. take_named (take_line (Two keep) take) (device_named take.device (report_by (Two keep) all).devices) ≡ untimed take)
-    (untimed_back (Two keep) keep all) (takes_of all all) (takes_known all known))
 
 timed_back : (keep : ℕ) (all : List Step) (take : Take) → IsTake all take → timed_take (report_by (Two keep) all) (take_line (Two keep) take) ≡ take
 timed_back keep all take known = ap (λ (t : Take). record t { moment = take.moment }) (untimed_back (Two keep) keep all take known)

@@ -1,31 +1,32 @@
 -- The direct run keeps each of the five laws of its version.
-use Rattle.std.proofs.Common.{◌≡◌, ◌≢◌, ℕ, ◌+◌, ◌-◌, ◌<◌, ◌≤◌, ◌^◌, Bool, true, false, List, [], ◌∷◌, ◌++◌, Some, length, take, drop, map, IsTrue, refl, sym, ap, subst, ◌∙◌, arith}
+use Rattle.std.proofs.Common.{◌≡◌, ◌≢◌, ℕ, ◌+◌, ◌≤◌, true, false, List, [], length, map, IsTrue, refl, sym, ap, subst, ◌∙◌, arith}
 use Rattle.std.proofs.lemmas.Bool.{and_parts, leb-true, true≢false}
 use Rattle.std.proofs.lemmas.List.{length-map}
 use Rattle.std.specs.List.{AllByRecursion, filter, flat_map}
 use Rattle.std.specs.List.Sorted.{IsNonDecreasing}
 use Rattle.std.specs.Option.{is_some}
 use Rattle.std.specs.Str.{bytes_eq}
+use Rattle.xmpp_archive.proofs.Newest.{newest_few}
 use Rattle.xmpp_archive.specs.Entries.{EntryView, newest}
 use Rattle.xmpp_basis.proofs.Lists.{AllByRecursion-weaker}
 use Rattle.xmpp_edge.specs.Names.{is_among}
 use Rattle.xmpp_direct.proofs.LawLists.{account_found}
 use Rattle.xmpp_direct.proofs.LawMoments.{AreNamed, IsStamped, archive_stamped, are_named, stamps_agree, stamps_rise, timeless, told_rise}
 use Rattle.xmpp_direct.proofs.LawTakes.{acknowledged, are_outcomes, are_submissions, first_epoch, history_is, taken_from, takes_exist, takes_rise, takes_submitted, takes_untimed}
-use Rattle.xmpp_direct.proofs.LawUnbroken.{unbroken}
+use Rattle.xmpp_direct.proofs.PrefixLaws.{account_whole, prefix_pages_right, prefix_right, unbroken_right}
 use Rattle.xmpp_direct.proofs.Prefixes.{takes_few}
+use Rattle.xmpp_direct.proofs.RunLaws.{pages_right, runs_right}
 use Rattle.xmpp_direct.specs.Direct.{account_line, device_line, direct_report, report_by, said_at, takes_of}
 use Rattle.xmpp_direct.specs.History.{direct_history, worlds_of}
 use Rattle.xmpp_report.proofs.Pairs.{pairs_by_both, pairs_by_first}
 use Rattle.xmpp_report.proofs.TakenArchives.{archive_few}
 use Rattle.xmpp_report.specs.EntryLines.{EntryLineView}
-use Rattle.xmpp_report.specs.Lawful.{AgreeOnStamp, ArePages, AreOutcomes, AreSubmissions, EachPair, IsAcknowledgedFirst, IsAcknowledgedRight, IsLawful, IsLogged, IsOfSchedule, IsOnceInOrder, IsPaged, IsPrefixOf, IsPrefixOfAccount, IsSettledRight, IsTakenFirst, IsTakenRight, IsUndisturbed, Precedes, account_named, at_any_time, is_taken, takes_in}
+use Rattle.xmpp_report.specs.Lawful.{AgreeOnStamp, ArePages, AreOutcomes, AreSubmissions, EachPair, IsAcknowledgedFirst, IsAcknowledgedRight, IsLawful, IsLogged, IsOfSchedule, IsOnceInOrder, IsPaged, IsPrefixOfAccount, IsSettledRight, IsTakenFirst, IsTakenRight, IsUndisturbed, Precedes, account_named, at_any_time, is_taken, takes_in}
 use Rattle.xmpp_report.specs.LawfulRuns.{ArePagesOfRuns, IsInForm, IsLawfulKeeping, IsLoggedInRuns, IsNewestOf, IsPagedInRuns, IsRunsOf, IsTakenAndKept, KeepsLaws, KeepsLawsOf, history_of, tells_moments}
 use Rattle.xmpp_report.specs.Lines.{entry_line, take_line, told_moment}
 use Rattle.xmpp_report.specs.Reports.{AccountView, DeviceView}
 use Rattle.xmpp_report.specs.Takes.{archive_of}
 use Rattle.xmpp_report.specs.declared.report.SaidMark.TheVariants.{Acknowledged, Waiting}
-use Rattle.xmpp_report.specs.declared.report.TakeLine.{TakeLine}
 use Rattle.xmpp_schedule.proofs.Lists.{all_flat_map, all_map, all_of, map-map, map_nothing}
 use Rattle.xmpp_schedule.proofs.StandingSteps.{AreStanding, few_lines, homes_are, homes_exist, steps_stand}
 use Rattle.xmpp_schedule.specs.Contents.{Owned, accounts_of, along, devices_of, home_of, is_account}
@@ -73,9 +74,7 @@ of_schedule version s known =
 
 whole_kept : (all : List Step) → length all ≤ 100000 → (name : List ℕ) → newest 4294967295 (archive_of name (takes_of all all)) ≡ archive_of name (takes_of all all)
 whole_kept all few name =
-    let history = archive_of name (takes_of all all) in
-    let none : length history - 4294967295 ≡ 0 = omega (arith, few, archive_few name (takes_of all all), takes_few all all) in
-    ap (λ purged. drop purged history) none
+    newest_few 4294967295 (archive_of name (takes_of all all)) (omega (arith, few, archive_few name (takes_of all all), takes_few all all))
 
 -- The form.
 
@@ -88,29 +87,30 @@ moments_told version all =
     all_map (λ line. is_some line.moment ≡ tells_moments version) (take_line version) (takes_of all all)
     (all_of (λ take. is_some (take_line version take).moment ≡ tells_moments version) (λ take. moment_told version take.moment) (takes_of all all))
 
--- what is known of each device's pages where no entry is purged
-abbrev pub ArePagesOfAll : ScheduleView → Type 0
-ArePagesOfAll s =
-    (name : List ℕ) → ArePages (worlds_of 4294967295 (steps_of s.lines)) s (device_line 4294967295 (steps_of s.lines) name)
-
-pub in_form_one : (s : ScheduleView) → IsSchedule s → ArePagesOfAll s → IsInForm One (report_by One (steps_of s.lines))
-in_form_one s known pages =
+form_one : (s : ScheduleView) → IsSchedule s → IsInForm One (report_by One (steps_of s.lines))
+form_one s known =
     let all = steps_of s.lines in
+    let keep = keep_of One in
+    let few : length all ≤ 100000 = known_few s known in
     record {
       is = refl;
       moments = moments_told One all;
-      lasts = λ untold. each_account (λ a. a.last ≡ a.count) 4294967295 all (λ name. sym (ap length (whole_kept all (known_few s known) name)));
-      unbroken = λ untold. each_device (λ d. AllByRecursion (λ l. l.broken ≡ false) d.logged) 4294967295 all
-          (λ name. let are = pages name in unbroken 4294967295 all name are.tiles);
+      lasts = λ untold. each_account (λ a. a.last ≡ a.count) keep all (λ name. account_whole keep all name (omega arith) few);
+      unbroken = λ untold. each_device (λ d. AllByRecursion (λ l. l.broken ≡ false) d.logged) keep all
+          (λ name. unbroken_right keep all name (omega arith) (known_steps s known) few);
     }
 
-pub in_form_two : (keep : ℕ) (all : List Step) → IsInForm (Two keep) (report_by (Two keep) all)
-in_form_two keep all = record {
+form_two : (keep : ℕ) (all : List Step) → IsInForm (Two keep) (report_by (Two keep) all)
+form_two keep all = record {
   is = refl;
   moments = moments_told (Two keep) all;
   lasts = λ untold. absurd (true≢false untold);
   unbroken = λ untold. absurd (true≢false untold);
 }
+
+pub in_form : (version : Version) (s : ScheduleView) → IsSchedule s → IsInForm version (report_by version (steps_of s.lines))
+in_form One s known = form_one s known
+in_form (Two keep) s known = form_two keep (steps_of s.lines)
 
 -- Law 1.
 
@@ -120,7 +120,7 @@ archive_taken all known few name =
     ap (λ kept. map at_any_time (map entry_line kept)) (whole_kept all few name)
     ∙ map-map entry_line at_any_time (archive_of name (takes_of all all))
     ∙ timeless name (takes_of all all)
-    ∙ ap (λ takes. map (λ e. at_any_time (entry_line e)) (archive_of name takes)) (sym (takes_untimed One all known))
+    ∙ ap (λ takes. map (λ e. at_any_time (entry_line e)) (archive_of name takes)) (sym (takes_untimed all known))
 
 stamps_kept : (all : List Step) → length all ≤ 100000 → (name : List ℕ) → IsNonDecreasing (map (λ e. e.stamp) (account_line 4294967295 all name).entries)
 stamps_kept all few name =
@@ -227,19 +227,13 @@ acknowledged_right version s known =
 
 -- Laws 4 and 5 of version 1.
 
--- what is known of each log where no entry is purged
-abbrev pub ArePrefixes : List Step → Type 0
-ArePrefixes all = (name : List ℕ) → IsPrefixOf (map entry_line (archive_of (home_of all name) (takes_of all all))) (device_line 4294967295 all name)
-
-prefix_of_account : (all : List Step) (name : List ℕ) → length all ≤ 100000 → ArePrefixes all → is_among (home_of all name) (accounts_of all) ≡ true →
+prefix_of_account : (all : List Step) (name : List ℕ) → AreStanding [] all → length all ≤ 100000 → is_among (home_of all name) (accounts_of all) ≡ true →
     IsPrefixOfAccount (device_line 4294967295 all name) (account_named (home_of all name) (map (account_line 4294967295 all) (accounts_of all)))
-prefix_of_account all name few prefixes exists =
-    let prefix : IsPrefixOf (account_line 4294967295 all (home_of all name)).entries (device_line 4294967295 all name) =
-    subst (λ (kept : List EntryView). IsPrefixOf (map entry_line kept) (device_line 4294967295 all name)) (sym (whole_kept all few (home_of all name))) (prefixes name) in
-    rw (account_found 4294967295 all (home_of all name) (accounts_of all) exists) prefix
+prefix_of_account all name known few exists =
+    rw (account_found 4294967295 all (home_of all name) (accounts_of all) exists) (prefix_right 4294967295 all name (omega arith) known few)
 
-pub logged_right : (s : ScheduleView) → IsSchedule s → ArePrefixes (steps_of s.lines) → IsLogged s (report_by One (steps_of s.lines))
-logged_right s known prefixes =
+pub logged_right : (s : ScheduleView) → IsSchedule s → IsLogged s (report_by One (steps_of s.lines))
+logged_right s known =
     let all = steps_of s.lines in
     let keep = keep_of One in
     record {
@@ -247,81 +241,67 @@ logged_right s known prefixes =
       prefix = all_map (λ d. IsPrefixOfAccount d (account_named d.account (map (account_line keep all) (accounts_of all)))) (device_line keep all) (devices_of all)
           (AllByRecursion-weaker (λ name. is_among (home_of all name) (accounts_of all) ≡ true)
           (λ name. IsPrefixOfAccount (device_line keep all name) (account_named (home_of all name) (map (account_line keep all) (accounts_of all))))
-          (λ name exists. prefix_of_account all name (known_few s known) prefixes exists) (devices_of all) (homes_exist all [] all refl (known_steps s known)));
+          (λ name exists. prefix_of_account all name (known_steps s known) (known_few s known) exists) (devices_of all) (homes_exist all [] all refl (known_steps s known)));
     }
 
-pub paged_right : (s : ScheduleView) → IsSchedule s → ArePagesOfAll s → IsPaged (worlds_of 4294967295 (steps_of s.lines)) s (report_by One (steps_of s.lines))
-paged_right s known pages = record {
-  whole = of_schedule One s known;
-  pages = each_device (ArePages (worlds_of 4294967295 (steps_of s.lines)) s) 4294967295 (steps_of s.lines) pages;
-}
+pub paged_right : (s : ScheduleView) → IsSchedule s → IsPaged (worlds_of 4294967295 (steps_of s.lines)) s (report_by One (steps_of s.lines))
+paged_right s known =
+    let all = steps_of s.lines in
+    record {
+      whole = of_schedule One s known;
+      pages = each_device (ArePages (worlds_of 4294967295 all) s) 4294967295 all
+          (λ name. prefix_pages_right 4294967295 s all name refl (omega arith) (known_steps s known) (known_few s known));
+    }
 
 -- Laws 4 and 5 of version 2.
 
--- what is known of each device's log and pages where the archives keep their newest entries
-abbrev pub AreLoggedInRuns : ℕ → List Step → Type 0
-AreLoggedInRuns keep all = (name : List ℕ) → IsRunsOf keep (archive_of (home_of all name) (takes_of all all)) (device_line keep all name)
-
-abbrev pub ArePagedInRuns : ℕ → ScheduleView → Type 0
-ArePagedInRuns keep s =
-    (name : List ℕ) → ArePagesOfRuns keep (worlds_of keep (steps_of s.lines)) s (archive_of (home_of (steps_of s.lines) name) (takes_of (steps_of s.lines) (steps_of s.lines))) (device_line keep (steps_of s.lines) name)
-
-pub logged_in_runs : (keep : ℕ) (s : ScheduleView) → IsSchedule s → AreLoggedInRuns keep (steps_of s.lines) → IsLoggedInRuns keep s (report_by (Two keep) (steps_of s.lines))
-logged_in_runs keep s known logged =
+pub logged_in_runs : (keep : ℕ) (s : ScheduleView) → IsSchedule s → 1 ≤ keep → IsLoggedInRuns keep s (report_by (Two keep) (steps_of s.lines))
+logged_in_runs keep s known some =
     let all = steps_of s.lines in
+    let standing : AreStanding [] all = known_steps s known in
     record {
       whole = of_schedule (Two keep) s known;
       runs = each_device (λ d. IsRunsOf keep (history_of (report_by (Two keep) all) d.account) d) keep all
-          (λ name. subst (λ (history : List EntryView). IsRunsOf keep history (device_line keep all name)) (sym (history_is keep all (known_steps s known) (home_of all name))) (logged name));
+          (λ name. subst (λ (history : List EntryView). IsRunsOf keep history (device_line keep all name)) (sym (history_is keep all standing (home_of all name)))
+          (runs_right keep all name some standing (known_few s known)));
     }
 
-pub paged_in_runs : (keep : ℕ) (s : ScheduleView) → IsSchedule s → ArePagedInRuns keep s → IsPagedInRuns keep (worlds_of keep (steps_of s.lines)) s (report_by (Two keep) (steps_of s.lines))
-paged_in_runs keep s known paged =
+pub paged_in_runs : (keep : ℕ) (s : ScheduleView) → IsSchedule s → 1 ≤ keep → IsPagedInRuns keep (worlds_of keep (steps_of s.lines)) s (report_by (Two keep) (steps_of s.lines))
+paged_in_runs keep s known some =
     let all = steps_of s.lines in
+    let standing : AreStanding [] all = known_steps s known in
     record {
       whole = of_schedule (Two keep) s known;
       pages = each_device (λ d. ArePagesOfRuns keep (worlds_of keep all) s (history_of (report_by (Two keep) all) d.account) d) keep all
-          (λ name. subst (λ (history : List EntryView). ArePagesOfRuns keep (worlds_of keep all) s history (device_line keep all name)) (sym (history_is keep all (known_steps s known) (home_of all name))) (paged name));
+          (λ name. subst (λ (history : List EntryView). ArePagesOfRuns keep (worlds_of keep all) s history (device_line keep all name)) (sym (history_is keep all standing (home_of all name)))
+          (pages_right keep s all name refl some standing (known_few s known)));
     }
 
 -- The five laws.
 
-pub lawful_one : (s : ScheduleView) → IsSchedule s → ArePrefixes (steps_of s.lines) → ArePagesOfAll s → IsLawful (worlds_of 4294967295 (steps_of s.lines)) s (report_by One (steps_of s.lines))
-lawful_one s known prefixes pages = record {
+lawful_one : (s : ScheduleView) → IsSchedule s → IsLawful (worlds_of 4294967295 (steps_of s.lines)) s (report_by One (steps_of s.lines))
+lawful_one s known = record {
   taken = taken_right s known;
   in_order = once_in_order One s known;
   acknowledged = acknowledged_right One s known;
-  logged = logged_right s known prefixes;
-  paged = paged_right s known pages;
+  logged = logged_right s known;
+  paged = paged_right s known;
 }
 
-pub lawful_two : (keep : ℕ) (s : ScheduleView) → IsSchedule s → AreLoggedInRuns keep (steps_of s.lines) → ArePagedInRuns keep s →
-    IsLawfulKeeping keep (worlds_of keep (steps_of s.lines)) s (report_by (Two keep) (steps_of s.lines))
-lawful_two keep s known logged paged = record {
+lawful_two : (keep : ℕ) (s : ScheduleView) → IsSchedule s → 1 ≤ keep → IsLawfulKeeping keep (worlds_of keep (steps_of s.lines)) s (report_by (Two keep) (steps_of s.lines))
+lawful_two keep s known some = record {
   taken = taken_and_kept keep s known;
   in_order = once_in_order (Two keep) s known;
   acknowledged = acknowledged_right (Two keep) s known;
-  logged = logged_in_runs keep s known logged;
-  paged = paged_in_runs keep s known paged;
+  logged = logged_in_runs keep s known some;
+  paged = paged_in_runs keep s known some;
 }
 
--- what is known of all devices' logs and pages, by the version
-abbrev pub AreRightlyPaged : Version → ScheduleView → Type 0
-AreRightlyPaged One s = ArePrefixes (steps_of s.lines) × ArePagesOfAll s
-AreRightlyPaged (Two keep) s = AreLoggedInRuns keep (steps_of s.lines) × ArePagedInRuns keep s
-
-form_by : (version : Version) (s : ScheduleView) → IsSchedule s → AreRightlyPaged version s → IsInForm version (report_by version (steps_of s.lines))
-form_by One s known paged = in_form_one s known paged.1
-form_by (Two keep) s known paged = in_form_two keep (steps_of s.lines)
-
-laws_by : (version : Version) (s : ScheduleView) → IsSchedule s → AreRightlyPaged version s →
+laws_of : (version : Version) (s : ScheduleView) → IsSchedule s → IsTrue (may_keep version) →
     KeepsLawsOf version (worlds_of (keep_of version) (steps_of s.lines)) s (report_by version (steps_of s.lines))
-laws_by One s known paged = lawful_one s known paged.0 paged.1
-laws_by (Two keep) s known paged = lawful_two keep s known paged.0 paged.1
+laws_of One s known may = lawful_one s known
+laws_of (Two keep) s known may = lawful_two keep s known (leb-true 1 keep (and_parts _ _ may).0)
 
-pub lawful_by : ((version : Version) (s : ScheduleView) → IsSchedule s → IsTrue (may_keep version) → AreRightlyPaged version s) →
-    (s : ScheduleView) → IsSchedule s → KeepsLaws (direct_history s) s (direct_report s)
+pub lawful : (s : ScheduleView) → IsSchedule s → KeepsLaws (direct_history s) s (direct_report s)
 unfolding direct_report
-lawful_by paged s known =
-    let pages = paged s.version s known known.keeps in
-    record { form = form_by s.version s known pages; laws = laws_by s.version s known pages }
+lawful s known = record { form = in_form s.version s known; laws = laws_of s.version s known known.keeps }

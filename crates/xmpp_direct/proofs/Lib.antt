@@ -1,5 +1,6 @@
 pub mod CatchUps
 pub mod LawLists
+pub mod LawMoments
 pub mod LawTakes
 pub mod LawsKept
 pub mod NextPages

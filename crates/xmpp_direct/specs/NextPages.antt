@@ -1,5 +1,5 @@
 -- The next page of a log by the number of its last entry: what asking an archive comes to, in one equation.
-use Rattle.std.specs.Prelude.{ℕ, ◌-◌, nat_le, List, Option, Some, None, length, map, take, drop, if◌then◌else◌}
+use Rattle.std.specs.Prelude.{ℕ, ◌-◌, nat_le, List, Some, None, length, map, take, drop, if◌then◌else◌}
 use Rattle.xmpp_archive.specs.Entries.{EntryView}
 use Rattle.xmpp_archive.specs.Ids.{id_of}
 use Rattle.xmpp_direct.specs.Direct.{as_logged}
