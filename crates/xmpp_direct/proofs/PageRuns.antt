@@ -256,11 +256,8 @@ pub record IsTurnOf (keep : ℕ) (all : List Step) (device : List ℕ) (k : ℕ)
   pub rise : AreRising 0 (length (history_at all device)) (front ++ turn ∷ rest)
   pub many : length front ≡ k
 
--- each page has one
-pub turn_of : (keep : ℕ) (all : List Step) (device : List ℕ) (k : ℕ) → AreStanding [] all → length all ≤ 100000 → 1 ≤ keep →
-    k < length (pages_of keep all device all) → IsTurnOf keep all device k
-turn_of keep all device k stand few some within =
-    let known = paged_at keep all device all [] (append-nil all) stand few some in
+turn_in : (keep : ℕ) (all : List Step) (device : List ℕ) (k : ℕ) (known : ArePaged keep all device all) → k < length (pages_of keep all device all) → IsTurnOf keep all device k
+turn_in keep all device k known within =
     let size : length (pages_of keep all device all) ≡ length known.turns = ap length known.are ∙ length-pages_by keep 0 (history_at all device) known.turns in
     let split = split_at known.turns k (omega arith) in
     record {
@@ -271,6 +268,11 @@ turn_of keep all device k stand few some within =
       rise = subst (λ ts. AreRising 0 (length (history_at all device)) ts) split.joined known.rise;
       many = split.many;
     }
+
+-- each page has one
+pub turn_of : (keep : ℕ) (all : List Step) (device : List ℕ) (k : ℕ) → AreStanding [] all → length all ≤ 100000 → 1 ≤ keep →
+    k < length (pages_of keep all device all) → IsTurnOf keep all device k
+turn_of keep all device k stand few some within = turn_in keep all device k (paged_at keep all device all [] (append-nil all) stand few some) within
 
 all_item : {A : Type 0} (P : A → Type 0) (xs ys : List A) (y : A) → AllByRecursion P (xs ++ y ∷ ys) → P y
 all_item P [] ys y all = all.0
@@ -303,18 +305,13 @@ placed keep all device before k turns more later low split are rise lasts =
           (subst (λ ts. AllByRecursion (λ turn. turn.last ≡ last_at all device before) ts) split.joined lasts);
     }
 
-pub page_of_step : (keep : ℕ) (all : List Step) (device : List ℕ) (before rest : List Step) (step : Step) (k : ℕ) → before ++ step ∷ rest ≡ all → AreStanding [] all →
-    length all ≤ 100000 → 1 ≤ keep → length (pages_of keep all device before) ≤ k → k < length (pages_of keep all device (before ++ step ∷ [])) →
+step_placed : (keep : ℕ) (all : List Step) (device : List ℕ) (before rest : List Step) (step : Step) (k : ℕ) (known : ArePaged keep all device before)
+    (one : IsStepOf keep all device before step known.turns) (later : IsRunOf keep all device (before ++ step ∷ []) rest (known.turns ++ one.more)) →
+    (before ++ step ∷ []) ++ rest ≡ all → length (pages_of keep all device before) ≤ k → k < length (pages_of keep all device (before ++ step ∷ [])) →
     IsPageOf keep all device before k
-page_of_step keep all device before rest step k whole stand few some low high =
+step_placed keep all device before rest step k known one later joined low high =
     let history = history_at all device in
-    let known = paged_at keep all device before (step ∷ rest) whole stand few some in
     let turns = known.turns in
-    let standing : AreStanding before (step ∷ rest) = standing_rest [] before (step ∷ rest) (subst (λ steps. AreStanding [] steps) (sym whole) stand) in
-    let one = step_is keep all device before rest step turns whole standing.0 few some known.rise in
-    let up = rising_to 0 (last_at all device before) (last_at all device (before ++ step ∷ [])) (turns ++ one.more) (last_grows all device before (step ∷ [])) one.rise in
-    let joined : (before ++ step ∷ []) ++ rest ≡ all = append_assoc before (step ∷ []) rest ∙ whole in
-    let later = run_is keep all device (before ++ step ∷ []) rest [] (turns ++ one.more) (ap (λ steps. (before ++ step ∷ []) ++ steps) (append-nil rest) ∙ joined) standing.1 few some up in
     let after : pages_of keep all device (before ++ step ∷ []) ≡ pages_at keep all device (turns ++ one.more) =
     pages_from-append keep all device [] before (step ∷ []) [] ∙ ap (λ pages. pages_after keep all device before pages step) known.are ∙ one.joined in
     let end : pages_of keep all device all ≡ pages_at keep all device ((turns ++ one.more) ++ later.more) =
@@ -325,3 +322,27 @@ page_of_step keep all device before rest step k whole stand few some low high =
     let second : length (pages_of keep all device (before ++ step ∷ [])) ≡ length turns + length one.more =
     ap length after ∙ length-pages_by keep 0 history (turns ++ one.more) ∙ length-append turns one.more in
     placed keep all device before k turns one.more later.more (omega arith) (split_at one.more (k - length turns) (omega arith)) end rise one.lasts
+
+step_known : (keep : ℕ) (all : List Step) (device : List ℕ) (before rest : List Step) (step : Step) (k : ℕ) (known : ArePaged keep all device before)
+    (one : IsStepOf keep all device before step known.turns) → (before ++ step ∷ []) ++ rest ≡ all → AreStanding (before ++ step ∷ []) rest → length all ≤ 100000 → 1 ≤ keep →
+    length (pages_of keep all device before) ≤ k → k < length (pages_of keep all device (before ++ step ∷ [])) → IsPageOf keep all device before k
+step_known keep all device before rest step k known one joined standing few some low high =
+    let up = rising_to 0 (last_at all device before) (last_at all device (before ++ step ∷ [])) (known.turns ++ one.more) (last_grows all device before (step ∷ [])) one.rise in
+    step_placed keep all device before rest step k known one
+    (run_is keep all device (before ++ step ∷ []) rest [] (known.turns ++ one.more) (ap (λ steps. (before ++ step ∷ []) ++ steps) (append-nil rest) ∙ joined) standing few some up)
+    joined low high
+
+pages_known : (keep : ℕ) (all : List Step) (device : List ℕ) (before rest : List Step) (step : Step) (k : ℕ) (known : ArePaged keep all device before) →
+    before ++ step ∷ rest ≡ all → AreStanding before (step ∷ rest) → length all ≤ 100000 → 1 ≤ keep →
+    length (pages_of keep all device before) ≤ k → k < length (pages_of keep all device (before ++ step ∷ [])) → IsPageOf keep all device before k
+pages_known keep all device before rest step k known whole standing few some low high =
+    step_known keep all device before rest step k known (step_is keep all device before rest step known.turns whole standing.0 few some known.rise)
+    (append_assoc before (step ∷ []) rest ∙ whole) standing.1 few some low high
+
+-- each page that a step brought has one
+pub page_of_step : (keep : ℕ) (all : List Step) (device : List ℕ) (before rest : List Step) (step : Step) (k : ℕ) → before ++ step ∷ rest ≡ all → AreStanding [] all →
+    length all ≤ 100000 → 1 ≤ keep → length (pages_of keep all device before) ≤ k → k < length (pages_of keep all device (before ++ step ∷ [])) →
+    IsPageOf keep all device before k
+page_of_step keep all device before rest step k whole stand few some low high =
+    let standing : AreStanding before (step ∷ rest) = standing_rest [] before (step ∷ rest) (subst (λ steps. AreStanding [] steps) (sym whole) stand) in
+    pages_known keep all device before rest step k (paged_at keep all device before (step ∷ rest) whole stand few some) whole standing few some low high

@@ -1,25 +1,25 @@
 -- Laws 4 and 5 of version 1: where an archive keeps as many entries as can come, nothing is purged, so that the log of
 -- each device is a prefix of its account's archive, and its pages are tiles of it.
-use Rattle.std.proofs.Common.{◌≡◌, ◌≢◌, ℕ, zero, suc, add-one, ◌+◌, ◌-◌, ◌<◌, ◌≤◌, min, Bool, true, false, cond, leb, List, [], ◌∷◌, ◌++◌, Some, None, IfSome, length, take, drop, map, refl, sym, ap, subst, ◌∙◌, arith}
+use Rattle.std.proofs.Common.{◌≡◌, ℕ, zero, suc, add-one, ◌+◌, ◌-◌, ◌<◌, ◌≤◌, min, Bool, true, false, cond, leb, List, [], ◌∷◌, ◌++◌, Some, None, IfSome, length, take, drop, map, refl, sym, ap, subst, ◌∙◌, arith}
 use Rattle.std.proofs.lemmas.Bool.{le-leb, lt-leb}
 use Rattle.std.proofs.lemmas.List.{append_assoc, append-nil, drop_at, length-append, length-map, take-map, take_at}
-use Rattle.std.specs.List.{AllByRecursion, count_by, slice_get}
+use Rattle.std.specs.List.{AllByRecursion, slice_get}
 use Rattle.xmpp_archive.proofs.Newest.{newest_few}
 use Rattle.xmpp_archive.proofs.NumberedEntries.{FollowFrom}
 use Rattle.xmpp_archive.specs.Entries.{EntryView, newest}
 use Rattle.xmpp_archive.specs.Ids.{id_of}
 use Rattle.xmpp_direct.proofs.NextPages.{id_behind}
-use Rattle.xmpp_direct.proofs.PageRuns.{IsPageOf, completed, front_at, history_at, history_few, history_follows, last_at, last_grows, paged_at, pages_at}
+use Rattle.xmpp_direct.proofs.PageRuns.{ArePaged, IsPageOf, front_at, history_at, history_few, history_follows, last_at, last_grows, paged_at, pages_at}
 use Rattle.xmpp_direct.proofs.Prefixes.{takes_few}
-use Rattle.xmpp_direct.proofs.RunLaws.{asked_as_taken, complete_turn, device_with, distinct_of_turns, ends_with, kept_of_world, move_at, page_of_move, reaches}
+use Rattle.xmpp_direct.proofs.RunLaws.{asked_as_taken, answered_right, complete_turn, device_with, distinct_right, ends_with, kept_of_world, move_at, page_of_move, reaches}
 use Rattle.xmpp_direct.proofs.TurnRuns.{goes, length_behind, line_entry, lines_by}
-use Rattle.xmpp_direct.proofs.TurnTiles.{complete_end, complete_lines, last_behind, partial_some, total_partial}
+use Rattle.xmpp_direct.proofs.TurnTiles.{complete_end, last_behind, partial_some, total_partial}
 use Rattle.xmpp_direct.proofs.Turns.{AreRising, Turn, end_of, ends_at, ends_bounds, length_span, page_by, pages_by, rising_bounds, run_by, span, span_join, start_of}
 use Rattle.xmpp_direct.specs.Direct.{account_line, as_logged, device_line, pages_of, takes_of}
 use Rattle.xmpp_direct.specs.History.{world_after, worlds_of}
 use Rattle.xmpp_log.specs.declared.log_entry.LogEntry.{LogEntry}
 use Rattle.xmpp_report.proofs.TakenArchives.{archive_few as taken_few}
-use Rattle.xmpp_report.specs.Lawful.{ArePages, AreTiles, EachPair, IsFresh, IsPrefixOf, last_logged}
+use Rattle.xmpp_report.specs.Lawful.{ArePages, AreTiles, IsFresh, IsPrefixOf, last_logged}
 use Rattle.xmpp_report.specs.Lines.{entry_line, is_break, logged_behind, logged_from, logged_line, page_line}
 use Rattle.xmpp_report.specs.Takes.{archive_of}
 use Rattle.xmpp_report.specs.Worlds.{World}
@@ -27,7 +27,7 @@ use Rattle.xmpp_report.specs.declared.report.LoggedLine.{LoggedLine}
 use Rattle.xmpp_report.specs.declared.report.PageLine.{PageLine}
 use Rattle.xmpp_schedule.proofs.Lists.{all_append, all_map, all_of}
 use Rattle.xmpp_schedule.proofs.StandingSteps.{AreStanding}
-use Rattle.xmpp_schedule.specs.Contents.{home_of, is_catchup_of}
+use Rattle.xmpp_schedule.specs.Contents.{home_of}
 use Rattle.xmpp_schedule.specs.Schedules.{ScheduleView, steps_of}
 use Rattle.xmpp_schedule.specs.declared.schedule.Step.{Step}
 
@@ -83,13 +83,16 @@ prefix_of_turns keep all name turns wide few rise =
       held = tt;
     }
 
+prefix_of_pages : (keep : ℕ) (all : List Step) (name : List ℕ) → 100000 ≤ keep → length all ≤ 100000 → ArePaged keep all name all →
+    IsPrefixOf (map entry_line (newest keep (history_at all name))) (device_line keep all name)
+prefix_of_pages keep all name wide few known =
+    subst (λ pages. IsPrefixOf (map entry_line (newest keep (history_at all name))) (device_with all name pages)) (sym known.are)
+    (prefix_of_turns keep all name known.turns wide few known.rise)
+
 -- each device's log is a prefix of its account's archive
 pub prefix_right : (keep : ℕ) (all : List Step) (name : List ℕ) → 100000 ≤ keep → AreStanding [] all → length all ≤ 100000 →
     IsPrefixOf (account_line keep all (home_of all name)).entries (device_line keep all name)
-prefix_right keep all name wide stand few =
-    let known = paged_at keep all name all [] (append-nil all) stand few (omega arith) in
-    subst (λ pages. IsPrefixOf (map entry_line (newest keep (history_at all name))) (device_with all name pages)) (sym known.are)
-    (prefix_of_turns keep all name known.turns wide few known.rise)
+prefix_right keep all name wide stand few = prefix_of_pages keep all name wide few (paged_at keep all name all [] (append-nil all) stand few (omega arith))
 
 -- an account's archive gave as many numbers as it keeps entries
 pub account_whole : (keep : ℕ) (all : List Step) (account : List ℕ) → 100000 ≤ keep → length all ≤ 100000 →
@@ -137,15 +140,17 @@ unbroken_turns keep n low high c history (turn ∷ turns) some wide within rise 
     ends_there : {c n s k m t : ℕ} → c ≡ n → s ≡ n → k ≡ m → s + m ≡ t → c + k ≡ t
     ends_there is same size whole = omega arith
 
-pub unbroken_right : (keep : ℕ) (all : List Step) (name : List ℕ) → 100000 ≤ keep → AreStanding [] all → length all ≤ 100000 →
+unbroken_pages : (keep : ℕ) (all : List Step) (name : List ℕ) → 100000 ≤ keep → length all ≤ 100000 → (known : ArePaged keep all name all) →
     AllByRecursion (λ l. l.broken ≡ false) (device_line keep all name).logged
-unbroken_right keep all name wide stand few =
-    let some : 1 ≤ keep = omega arith in
+unbroken_pages keep all name wide few known =
     let high = length (history_at all name) in
     let short : high ≤ 100000 = history_few all name few in
-    let known = paged_at keep all name all [] (append-nil all) stand few some in
     subst (λ pages. AllByRecursion (λ (l : LoggedLine). l.broken ≡ false) (logged_from 0 pages)) (sym known.are)
-    (unbroken_turns keep 0 0 high 0 (history_at all name) known.turns some (omega arith) (omega arith) known.rise (omega arith) (history_follows all name) refl)
+    (unbroken_turns keep 0 0 high 0 (history_at all name) known.turns (omega arith) (omega arith) (omega arith) known.rise (omega arith) (history_follows all name) refl)
+
+pub unbroken_right : (keep : ℕ) (all : List Step) (name : List ℕ) → 100000 ≤ keep → AreStanding [] all → length all ≤ 100000 →
+    AllByRecursion (λ l. l.broken ≡ false) (device_line keep all name).logged
+unbroken_right keep all name wide stand few = unbroken_pages keep all name wide few (paged_at keep all name all [] (append-nil all) stand few (omega arith))
 
 -- Law 5.
 
@@ -258,22 +263,24 @@ is_fresh keep all name wide stand few k total line at is i j asking asked taking
     up_to : {now next last there : ℕ} → now ≡ next → there ≡ last → there ≤ next → last ≤ now
     up_to is same grows = omega arith
 
+tiles_right : (keep : ℕ) (all : List Step) (name : List ℕ) → 100000 ≤ keep → length all ≤ 100000 → (known : ArePaged keep all name all) →
+    AreTiles [] (map page_line (pages_of keep all name all)) (logged_from 0 (pages_of keep all name all))
+tiles_right keep all name wide few known =
+    let high = length (history_at all name) in
+    let short : high ≤ 100000 = history_few all name few in
+    subst (λ pages. AreTiles [] (map page_line pages) (logged_from 0 pages)) (sym known.are)
+    (tiles_one keep 0 0 high (history_at all name) known.turns [] (omega arith) (omega arith) (omega arith) known.rise (omega arith) (history_follows all name) refl refl)
+
 -- each device's pages are tiles of its log, each as long as its account's archive
 pub prefix_pages_right : (keep : ℕ) (s : ScheduleView) (all : List Step) (name : List ℕ) → steps_of s.lines ≡ all → 100000 ≤ keep → AreStanding [] all → length all ≤ 100000 →
     ArePages (worlds_of keep all) s (device_line keep all name)
 prefix_pages_right keep s all name steps wide stand few =
     let some : 1 ≤ keep = omega arith in
-    let history = history_at all name in
-    let high = length history in
-    let short : high ≤ 100000 = history_few all name few in
     let known = paged_at keep all name all [] (append-nil all) stand few some in
-    let pages = pages_of keep all name all in
     record {
-      tiles = subst (λ ps. AreTiles [] (map page_line ps) (logged_from 0 ps)) (sym known.are)
-          (tiles_one keep 0 0 high history known.turns [] some (omega arith) (omega arith) known.rise (omega arith) (history_follows all name) refl refl);
-      distinct = subst (λ ps. EachPair (λ (a b : LoggedLine). a.entry.id ≢ b.entry.id) (logged_from 0 ps)) (sym known.are)
-          (distinct_of_turns keep all name known.turns some few known.rise);
+      tiles = tiles_right keep all name wide few known;
+      distinct = distinct_right keep all name some few known;
       fresh = λ k total line at is. is_fresh keep all name wide stand few k total line at is;
-      last = ends_with keep all [] all (device_line keep all name) (sym (length-map pages page_line));
-      answered = λ direct. complete_lines pages ∙ ap completed known.are ∙ known.count ∙ ap (count_by (is_catchup_of name)) (sym steps);
+      last = ends_with keep all [] all (device_line keep all name) (sym (length-map (pages_of keep all name all) page_line));
+      answered = λ direct. answered_right keep s all name steps known;
     }

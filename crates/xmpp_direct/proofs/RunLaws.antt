@@ -1,5 +1,5 @@
 -- Laws 4 and 5 of version 2: the log of each device is runs of its account's history, and its pages are tiles of it.
-use Rattle.std.proofs.Common.{◌≡◌, ◌≢◌, ℕ, zero, suc, add-one, ◌+◌, ◌-◌, ◌<◌, ◌≤◌, min, true, cond, leb, List, [], ◌∷◌, ◌++◌, Some, None, length, drop, map, refl, sym, ap, subst, ◌∙◌, arith, inl, inr}
+use Rattle.std.proofs.Common.{◌≡◌, ◌≢◌, ℕ, zero, suc, add-one, ◌+◌, ◌-◌, ◌<◌, ◌≤◌, min, true, cond, leb, List, [], ◌∷◌, ◌++◌, Some, None, is_some, length, drop, map, refl, sym, ap, subst, ◌∙◌, arith, inl, inr}
 use Rattle.std.proofs.lemmas.Bool.{cases_Bool, leb-true}
 use Rattle.std.proofs.lemmas.List.{append_assoc, append-nil, length-append, length-map}
 use Rattle.std.proofs.lemmas.Option.{none-some, same_Some, slice_get_within}
@@ -9,7 +9,7 @@ use Rattle.xmpp_archive.specs.Entries.{EntryView, entry_numbered, newest}
 use Rattle.xmpp_archive.specs.Ids.{id_of}
 use Rattle.xmpp_basis.proofs.Lists.{AllByRecursion-weaker}
 use Rattle.xmpp_direct.proofs.NextPages.{id_behind}
-use Rattle.xmpp_direct.proofs.PageRuns.{IsPageOf, IsTurnOf, completed, front_at, history_at, history_few, history_follows, last_at, last_grows, page_of_step, paged_at, pages_at, turn_of}
+use Rattle.xmpp_direct.proofs.PageRuns.{ArePaged, IsPageOf, IsTurnOf, completed, front_at, history_at, history_few, history_follows, last_at, last_grows, page_of_step, paged_at, pages_at, turn_of}
 use Rattle.xmpp_direct.proofs.TurnRuns.{IsIn, each_by, ids_differ, ids_from, in_history, kept_in, last_number_by, line_entry, line_id, lines_by, number_follow, numbers_within, pairs_unmap, runs_by}
 use Rattle.xmpp_direct.proofs.TurnTiles.{before_turns, complete_end, complete_lines, last_lines_by, last_number_is, page_at_turn, tiles_by, total_whole, whole_by}
 use Rattle.xmpp_direct.proofs.Turns.{AreRising, Turn, end_of, ends_at, ends_at-append, ends_bounds, follow_span, id_of_entry, length_span, newest_span, page_by, rising_append, rising_bounds, rising_split, run_by, span, start_of}
@@ -75,12 +75,14 @@ runs_of_turns keep all name turns some rise =
       held = tt;
     }
 
+runs_of_pages : (keep : ℕ) (all : List Step) (name : List ℕ) → 1 ≤ keep → ArePaged keep all name all → IsRunsOf keep (history_at all name) (device_line keep all name)
+runs_of_pages keep all name some known =
+    subst (λ pages. IsRunsOf keep (history_at all name) (device_with all name pages)) (sym known.are) (runs_of_turns keep all name known.turns some known.rise)
+
 -- each device's log is runs of its account's history
 pub runs_right : (keep : ℕ) (all : List Step) (name : List ℕ) → 1 ≤ keep → AreStanding [] all → length all ≤ 100000 →
     IsRunsOf keep (archive_of (home_of all name) (takes_of all all)) (device_line keep all name)
-runs_right keep all name some stand few =
-    let known = paged_at keep all name all [] (append-nil all) stand few some in
-    subst (λ pages. IsRunsOf keep (history_at all name) (device_with all name pages)) (sym known.are) (runs_of_turns keep all name known.turns some known.rise)
+runs_right keep all name some stand few = runs_of_pages keep all name some (paged_at keep all name all [] (append-nil all) stand few some)
 
 -- Moves.
 
@@ -251,23 +253,28 @@ complete_turn keep all name k total t line some few at is =
 
 -- Law 5.
 
-pub place_of_line : (keep : ℕ) (all : List Step) (name : List ℕ) (k : ℕ) (line : PageLine) → slice_get (map page_line (pages_of keep all name all)) k ≡ Some line →
+place_of_line : (keep : ℕ) (all : List Step) (name : List ℕ) (k : ℕ) (line : PageLine) → slice_get (map page_line (pages_of keep all name all)) k ≡ Some line →
     k < length (pages_of keep all name all)
 place_of_line keep all name k line at =
     omega (arith, slice_get_within (map page_line (pages_of keep all name all)) k line at, length-map (pages_of keep all name all) page_line)
 
-ends_whole : (keep : ℕ) (all : List Step) (name : List ℕ) → 1 ≤ keep → AreStanding [] all → length all ≤ 100000 → (k total : ℕ) (line : PageLine) →
+whole_at : (keep : ℕ) (all : List Step) (name : List ℕ) (k total : ℕ) (line : PageLine) (t : IsTurnOf keep all name k) → 1 ≤ keep → length all ≤ 100000 →
     slice_get (map page_line (pages_of keep all name all)) k ≡ Some line → line.total ≡ Some total →
     EndsWhole keep (history_at all name) (logged_before (k + 1) (device_line keep all name)) total
-ends_whole keep all name some stand few k total line at is =
+whole_at keep all name k total line t some few at is =
     let history = history_at all name in
-    let t = turn_of keep all name k stand few some (place_of_line keep all name k line at) in
     let known = reaches keep all name k t some few in
     let complete = complete_turn keep all name k total t line some few at is in
     let end : ends_at keep 0 (t.front ++ t.turn ∷ []) ≡ t.turn.last = ends_at-append keep 0 t.front (t.turn ∷ []) ∙ complete.0 in
     let whole = whole_by keep history (t.front ++ t.turn ∷ []) t.turn.last some known.rise known.long known.small (history_follows all name) end in
     subst (λ m. EndsWhole keep history (logged_before (k + 1) (device_line keep all name)) m) complete.1
     (subst (λ lines. EndsWhole keep history lines (min t.turn.last keep)) (sym (through_turn keep all name k t)) whole)
+
+ends_whole : (keep : ℕ) (all : List Step) (name : List ℕ) → 1 ≤ keep → AreStanding [] all → length all ≤ 100000 → (k total : ℕ) (line : PageLine) →
+    slice_get (map page_line (pages_of keep all name all)) k ≡ Some line → line.total ≡ Some total →
+    EndsWhole keep (history_at all name) (logged_before (k + 1) (device_line keep all name)) total
+ends_whole keep all name some stand few k total line at is =
+    whole_at keep all name k total line (turn_of keep all name k stand few some (place_of_line keep all name k line at)) some few at is
 
 -- the number of the last entry logged with a complete page is the archive's last number of the page's moment
 fresh_last : (keep : ℕ) (all : List Step) (name : List ℕ) (before : List Step) (k total last : ℕ) (line : PageLine) → 1 ≤ keep → length all ≤ 100000 →
@@ -310,34 +317,44 @@ asked_without n old none =
       | inr there ↦ absurd (let given : Some (id_of n) ≡ None = rw there at none in none-some (id_of n) (sym given))
     ]
 
+purged_number : (keep : ℕ) (all : List Step) (name : List ℕ) (before : List Step) (k last : ℕ) (line : PageLine) → 1 ≤ keep → length all ≤ 100000 →
+    IsPageOf keep all name before k → slice_get (map page_line (pages_of keep all name all)) k ≡ Some line → line.after ≡ None →
+    IsLastNumber (last_logged (logged_before k (device_line keep all name))) last → last ≤ last_at all name before - keep
+purged_number keep all name before k last line some few page at after number =
+    let t = page.turn_of in
+    let n = ends_at keep 0 t.front in
+    let known = reaches keep all name k t some few in
+    let gone : n ≤ t.turn.last - keep = asked_without n (t.turn.last - keep) (ap (λ (l : PageLine). l.after) (line_of_turn keep all name k t line at) ∙ after) in
+    let same : n ≡ last = last_number_is n last (le_small known.within known.small) (subst (λ id. IsLastNumber id last) known.before number) in
+    below keep page.last same gone
+  where
+    le_small : {a b : ℕ} → a ≤ b → b ≤ 4294967295 → a ≤ 4294967295
+    le_small low small = omega arith
+
+    below : (keep : ℕ) {n last given before : ℕ} → given ≡ before → n ≡ last → n ≤ given - keep → last ≤ before - keep
+    below keep at same gone = omega arith
+
 is_purged_by : (keep : ℕ) (all : List Step) (name : List ℕ) → 1 ≤ keep → AreStanding [] all → length all ≤ 100000 → (k last : ℕ) (line : PageLine) →
     slice_get (map page_line (pages_of keep all name all)) k ≡ Some line → line.after ≡ None → IsLastNumber (last_logged (logged_before k (device_line keep all name))) last →
     IsPurgedBy (worlds_of keep all) (device_line keep all name) k last
 is_purged_by keep all name some stand few k last line at after number j taking taken there further takes =
     let take = move_at keep all [] all j taking taken there (rw add-one at further) in
     let page = page_of_move keep all name taking taken take k some stand few takes.0 takes.1 in
-    let t = page.turn_of in
-    let n = ends_at keep 0 t.front in
-    let known = reaches keep all name k t some few in
-    let gone : n ≤ t.turn.last - keep = asked_without n (t.turn.last - keep) (ap (λ (l : PageLine). l.after) (line_of_turn keep all name k t line at) ∙ after) in
-    let same : n ≡ last = last_number_is n last (le_small known.within known.small) (subst (λ id. IsLastNumber id last) known.before number) in
+    let gone : last ≤ last_at all name take.before - keep = purged_number keep all name take.before k last line some few page at after number in
     let now : first_number (taken.archive (home_of all name)) ≡ suc (last_at all name (take.before ++ take.step ∷ []) - keep) =
     first_of_world keep all name (take.before ++ take.step ∷ []) take.rest taken some (append_assoc take.before (take.step ∷ []) take.rest ∙ take.joined) take.is in
     let grows : last_at all name take.before ≤ last_at all name (take.before ++ take.step ∷ []) = last_grows all name take.before (take.step ∷ []) in
-    below keep now same gone page.last grows
+    below keep now gone grows
   where
-    le_small : {a b : ℕ} → a ≤ b → b ≤ 4294967295 → a ≤ 4294967295
-    le_small low small = omega arith
-
-    below : (keep : ℕ) {first next n last given before : ℕ} → first ≡ suc (next - keep) → n ≡ last → n ≤ given - keep → given ≡ before → before ≤ next → last < first
-    below keep is same gone at grows = omega arith
+    below : (keep : ℕ) {first next last before : ℕ} → first ≡ suc (next - keep) → last ≤ before - keep → before ≤ next → last < first
+    below keep is gone grows = omega arith
 
 tiles_of_turns : (keep : ℕ) (all : List Step) (name : List ℕ) (turns : List Turn) → 1 ≤ keep → AreRising 0 (length (history_at all name)) turns →
     AreTilesOfRuns [] (map page_line (pages_at keep all name turns)) (logged_from 0 (pages_at keep all name turns))
 tiles_of_turns keep all name turns some rise =
     tiles_by keep 0 0 (length (history_at all name)) (history_at all name) turns [] some (omega arith) rise (omega arith) (history_follows all name) refl
 
-pub distinct_of_turns : (keep : ℕ) (all : List Step) (name : List ℕ) (turns : List Turn) → 1 ≤ keep → length all ≤ 100000 → AreRising 0 (length (history_at all name)) turns →
+distinct_of_turns : (keep : ℕ) (all : List Step) (name : List ℕ) (turns : List Turn) → 1 ≤ keep → length all ≤ 100000 → AreRising 0 (length (history_at all name)) turns →
     EachPair (λ a b. a.entry.id ≢ b.entry.id) (logged_from 0 (pages_at keep all name turns))
 distinct_of_turns keep all name turns some few rise =
     let history = history_at all name in
@@ -352,19 +369,32 @@ distinct_of_turns keep all name turns some few rise =
     pairs_unmap (λ (a b : EntryLineView). a.id ≢ b.id) line_entry lines
     (subst (λ es. EachPair (λ (a b : EntryLineView). a.id ≢ b.id) es) (sym (lines_by keep 0 0 history turns)) mapped)
 
+tiles_right : (keep : ℕ) (all : List Step) (name : List ℕ) → 1 ≤ keep → (known : ArePaged keep all name all) →
+    AreTilesOfRuns [] (map page_line (pages_of keep all name all)) (logged_from 0 (pages_of keep all name all))
+tiles_right keep all name some known =
+    subst (λ pages. AreTilesOfRuns [] (map page_line pages) (logged_from 0 pages)) (sym known.are) (tiles_of_turns keep all name known.turns some known.rise)
+
+pub distinct_right : (keep : ℕ) (all : List Step) (name : List ℕ) → 1 ≤ keep → length all ≤ 100000 → (known : ArePaged keep all name all) →
+    EachPair (λ a b. a.entry.id ≢ b.entry.id) (logged_from 0 (pages_of keep all name all))
+distinct_right keep all name some few known =
+    subst (λ pages. EachPair (λ (a b : LoggedLine). a.entry.id ≢ b.entry.id) (logged_from 0 pages)) (sym known.are) (distinct_of_turns keep all name known.turns some few known.rise)
+
+pub answered_right : (keep : ℕ) (s : ScheduleView) (all : List Step) (name : List ℕ) → steps_of s.lines ≡ all → (known : ArePaged keep all name all) →
+    count_by (λ (page : PageLine). is_some page.total) (device_line keep all name).pages ≡ count_by (is_catchup_of name) (steps_of s.lines)
+answered_right keep s all name steps known =
+    complete_lines (pages_of keep all name all) ∙ ap completed known.are ∙ known.count ∙ ap (count_by (is_catchup_of name)) (sym steps)
+
 -- each device's pages are tiles of its log, each as fresh as its account's archive
 pub pages_right : (keep : ℕ) (s : ScheduleView) (all : List Step) (name : List ℕ) → steps_of s.lines ≡ all → 1 ≤ keep → AreStanding [] all → length all ≤ 100000 →
     ArePagesOfRuns keep (worlds_of keep all) s (archive_of (home_of all name) (takes_of all all)) (device_line keep all name)
 pages_right keep s all name steps some stand few =
     let known = paged_at keep all name all [] (append-nil all) stand few some in
-    let pages = pages_of keep all name all in
     record {
-      tiles = subst (λ ps. AreTilesOfRuns [] (map page_line ps) (logged_from 0 ps)) (sym known.are) (tiles_of_turns keep all name known.turns some known.rise);
-      distinct = subst (λ ps. EachPair (λ (a b : LoggedLine). a.entry.id ≢ b.entry.id) (logged_from 0 ps)) (sym known.are)
-          (distinct_of_turns keep all name known.turns some few known.rise);
+      tiles = tiles_right keep all name some known;
+      distinct = distinct_right keep all name some few known;
       complete = λ k total line at is. ends_whole keep all name some stand few k total line at is;
       fresh = λ k total last line at is number. is_fresh_to keep all name some stand few k total last line at is number;
       purged = λ k last line at after count one number. is_purged_by keep all name some stand few k last line at after number;
-      last = ends_with keep all [] all (device_line keep all name) (sym (length-map pages page_line));
-      answered = λ direct. complete_lines pages ∙ ap completed known.are ∙ known.count ∙ ap (count_by (is_catchup_of name)) (sym steps);
+      last = ends_with keep all [] all (device_line keep all name) (sym (length-map (pages_of keep all name all) page_line));
+      answered = λ direct. answered_right keep s all name steps known;
     }
