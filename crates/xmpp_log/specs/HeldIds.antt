@@ -1,5 +1,5 @@
 -- The ids that a log keeps of the messages that it holds.
-use Rattle.std.specs.Prelude.{◌≡◌, ℕ, Bool, false, List, [], ◌∷◌, String, length}
+use Rattle.std.specs.Prelude.{◌≡◌, ℕ, false, List, [], ◌∷◌, String, length}
 use Rattle.std.specs.BTreeSet.{BTreeSet, btree_set_len, contains_text}
 use Rattle.xmpp_log.specs.LogPages.{ids_of}
 use Rattle.xmpp_log.specs.Views.{is_among}

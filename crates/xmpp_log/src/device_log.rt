@@ -2,7 +2,7 @@
 ghost use Rattle.std.specs.Prelude.{◌≡◌, ◌≢◌, ℕ, ◌≤◌, ◌⊎◌, List, [], ◌∷◌, ◌++◌, Ok, Err, Some, None, IsSome, IsErrOf, IfErr, IfOk, IfSome, AllPairs, OnOk, OnErr, IsSomeAnd, MatchOption, length, ◌↔◌};
 ghost use Rattle.std.specs.Option.{option_copied, option_map};
 ghost use Rattle.xmpp_log.specs.Breaks.{breaks_of};
-ghost use Rattle.xmpp_log.specs.LogCalls.{after_hold, may_hold, restart_answer, with_restart};
+ghost use Rattle.xmpp_log.specs.LogCalls.{after_hold, begun_again, may_hold, restart_answer, with_restart};
 ghost use Rattle.xmpp_log.specs.LogPages.{ids_of, last_id};
 ghost use Rattle.xmpp_log.specs.Tilings.{AreUnlogged, IsTiling};
 ghost use Rattle.xmpp_log.specs.Views.{after_fin, after_refusal, fin_answer, page_for, with_begun, with_result};
@@ -13,7 +13,7 @@ use crate::fin::{FinFault, PageOutcome};
 use crate::held::Held;
 use crate::id_order::has_id;
 use crate::log_entry::{LogEntries, LogEntry};
-use crate::open_page::{Page, copied, last_id, take_page};
+use crate::open_page::{Page, borrowed, copied, last_id, take_page};
 use crate::tile::{Tile, Tiles};
 use std::alloc::Global;
 use std::marker::Model;
@@ -192,6 +192,39 @@ impl Log {
         ensures { self.new ≡ record self.old { page = None } }
     {
         self.page = None;
+    }
+
+    /// Ends the page of a query as `fin` does, and behind a page that is not the last begins the next one under `next`, with
+    /// as many results at most. Each error is that of `fin`, and leaves what it leaves.
+    pub fn fin_then_begin(
+        &mut self,
+        alloc: Global,
+        queryid: &str,
+        fin: &Fin,
+        next: Text,
+    ) -> Result<PageOutcome, FinFault>
+        ensures exact { (result ≡ Err FinFault.NoMemory) ⊎ (result ≡ fin_answer self.old queryid.now fin.now) }
+        ensures complete { result ≡ Ok PageOutcome.Complete → self.new ≡ after_fin self.old fin.now }
+        ensures more { result ≡ Ok PageOutcome.More → self.new ≡ begun_again (after_fin self.old fin.now) next self.old.page }
+        ensures refused { IfErr result (λ fault. self.new ≡ after_refusal fault self.old) }
+    {
+        let max = match &self.page {
+            Some(page) => page.max,
+            None => return Err(FinFault::Stranger),
+        };
+        let after = copied(alloc, borrowed(&fin.last))?;
+        match self.fin(alloc, queryid, fin) {
+            Ok(PageOutcome::More) => {
+                self.page = Some(Page {
+                    queryid: next,
+                    max,
+                    after,
+                    results: ListOf::new(alloc),
+                });
+                Ok(PageOutcome::More)
+            }
+            other => other,
+        }
     }
 
     /// The entries that were taken over, in order.

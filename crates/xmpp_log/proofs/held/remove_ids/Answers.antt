@@ -1,4 +1,4 @@
-use Rattle.std.proofs.Common.{◌≡◌, ◌+◌, List, [], ◌∷◌, ◌++◌, take, arith, ap, subst, sym, ◌∙◌}
+use Rattle.std.proofs.Common.{◌≡◌, ◌+◌, List, [], ◌∷◌, ◌++◌, take, ap, subst, sym, ◌∙◌}
 use Rattle.std.proofs.Math.Seq.{take_all}
 use Rattle.std.proofs.lemmas.Map.Text.{btree_set_updates_text}
 use Rattle.xmpp_log.proofs.Repeats.{ids_more}

@@ -1,4 +1,4 @@
-use Rattle.std.proofs.Common.{◌≡◌, List, length, drop, ap, sym, subst, ◌∙◌}
+use Rattle.std.proofs.Common.{List, length, drop, ap, sym, subst, ◌∙◌}
 use Rattle.xmpp_log.proofs.Unheld.{found_unheld}
 use Rattle.xmpp_log.specs.HeldIds.{IsIndexOf}
 use Rattle.xmpp_log.specs.LogPages.{ids_of}
