@@ -1,9 +1,10 @@
 -- Laws 4 and 5 of version 2: the log of each device is runs of its account's history, and its pages are tiles of it.
-use Rattle.std.proofs.Common.{◌≡◌, ◌≢◌, ℕ, zero, suc, add-one, ◌+◌, ◌-◌, ◌<◌, ◌≤◌, min, true, cond, leb, List, [], ◌∷◌, ◌++◌, Some, None, is_some, length, drop, map, refl, sym, ap, subst, ◌∙◌, arith, inl, inr}
-use Rattle.std.proofs.lemmas.Bool.{cases_Bool, leb-true}
-use Rattle.std.proofs.lemmas.List.{append_assoc, append-nil, length-append, length-map}
+use Rattle.std.proofs.Common.{◌≡◌, ◌≢◌, ℕ, zero, suc, add-one, ◌+◌, ◌-◌, ◌<◌, ◌≤◌, min, max, true, cond, leb, List, [], ◌∷◌, ◌++◌, Some, None, is_some, length, drop, map, refl, sym, ap, subst, ◌∙◌, arith, inl, inr}
+use Rattle.std.proofs.lemmas.Bool.{cases_Bool, leb-false, leb-true}
+use Rattle.std.proofs.lemmas.List.{append_assoc, append-nil, drop-map, drop_at, length-append, length-map, map-append}
 use Rattle.std.proofs.lemmas.Option.{none-some, same_Some, slice_get_within}
 use Rattle.std.specs.List.{count_by, slice_get}
+use Rattle.xmpp_archive.proofs.IdDigits.{id_of_same}
 use Rattle.xmpp_archive.proofs.NumberedEntries.{FollowFrom}
 use Rattle.xmpp_archive.specs.Entries.{EntryView, entry_numbered, newest}
 use Rattle.xmpp_archive.specs.Ids.{id_of}
@@ -11,8 +12,8 @@ use Rattle.xmpp_basis.proofs.Lists.{AllByRecursion-weaker}
 use Rattle.xmpp_direct.proofs.NextPages.{id_behind}
 use Rattle.xmpp_direct.proofs.PageRuns.{ArePaged, IsPageOf, IsTurnOf, completed, front_at, history_at, history_few, history_follows, last_at, last_grows, page_of_step, paged_at, pages_at, turn_of}
 use Rattle.xmpp_direct.proofs.TurnRuns.{IsIn, each_by, ids_differ, ids_from, in_history, kept_in, last_number_by, line_entry, line_id, lines_by, number_follow, numbers_within, pairs_unmap, runs_by}
-use Rattle.xmpp_direct.proofs.TurnTiles.{before_turns, complete_end, complete_lines, last_lines_by, last_number_is, page_at_turn, tiles_by, total_whole, whole_by}
-use Rattle.xmpp_direct.proofs.Turns.{AreRising, Turn, end_of, ends_at, ends_at-append, ends_bounds, follow_span, id_of_entry, length_span, newest_span, page_by, rising_append, rising_bounds, rising_split, run_by, span, start_of}
+use Rattle.xmpp_direct.proofs.TurnTiles.{before_turns, complete_end, complete_lines, first_number_is, last_lines_by, last_number_is, page_at_turn, tiles_by, total_whole, whole_by}
+use Rattle.xmpp_direct.proofs.Turns.{AreRising, Turn, end_of, ends_at, ends_at-append, ends_bounds, follow_span, id_of_entry, length_span, newest_span, page_by, rising_append, rising_bounds, rising_split, run_by, run_by-append, span, start_of}
 use Rattle.xmpp_direct.specs.Direct.{device_line, pages_of, said_at, takes_of}
 use Rattle.xmpp_direct.specs.History.{world_after, worlds_from, worlds_of}
 use Rattle.xmpp_edge.specs.Names.{is_among}
@@ -21,7 +22,7 @@ use Rattle.xmpp_pages.specs.Kept.{first_number, last_number, last_number_or}
 use Rattle.xmpp_report.proofs.Pairs.{pairs_map}
 use Rattle.xmpp_report.specs.EntryLines.{EntryLineView}
 use Rattle.xmpp_report.specs.Lawful.{EachPair, EndsWith, last_logged}
-use Rattle.xmpp_report.specs.LawfulRuns.{ArePagesOfRuns, AreTilesOfRuns, EndsWhole, IsFreshTo, IsLastNumber, IsPurgedBy, IsRunsOf, ids_logged, logged_before}
+use Rattle.xmpp_report.specs.LawfulRuns.{ArePagesOfRuns, AreTilesOfRuns, EndsWhole, IsFirstNumber, IsFreshTo, IsGivenBy, IsKeptWhenAsked, IsLastNumber, IsOldestKept, IsPurgedBy, IsRunsOf, ids_logged, lines_of_page, logged_before}
 use Rattle.xmpp_report.specs.Lines.{entry_line, logged_from, page_line}
 use Rattle.xmpp_report.specs.Reports.{DeviceView}
 use Rattle.xmpp_report.specs.Takes.{archive_of}
@@ -349,6 +350,153 @@ is_purged_by keep all name some stand few k last line at after number j taking t
     below : (keep : ℕ) {first next last before : ℕ} → first ≡ suc (next - keep) → last ≤ before - keep → before ≤ next → last < first
     below keep is gone grows = omega arith
 
+-- the ids of a page's lines
+ids_of_page : (keep : ℕ) (all : List Step) (name : List ℕ) (k : ℕ) (t : IsTurnOf keep all name k) → map line_id (lines_of_page k (device_line keep all name))
+    ≡ map id_of_entry (span (start_of keep (ends_at keep 0 t.front) t.turn) (end_of keep (ends_at keep 0 t.front) t.turn) (history_at all name))
+ids_of_page keep all name k t =
+    let history = history_at all name in
+    let n = ends_at keep 0 t.front in
+    let front = run_by keep history 0 t.front in
+    let entries = span (start_of keep n t.turn) (end_of keep n t.turn) history in
+    let turns = t.front ++ t.turn ∷ [] in
+    let before = logged_from 0 (pages_at keep all name t.front) in
+    let lines = logged_from 0 (pages_at keep all name turns) in
+    let count = length (logged_before k (device_line keep all name)) in
+    let ids_before : map line_id before ≡ map id_of_entry front = ids_from before front (lines_by keep 0 0 history t.front) in
+    let ids : map line_id lines ≡ map id_of_entry (run_by keep history 0 turns) = ids_from lines (run_by keep history 0 turns) (lines_by keep 0 0 history turns) in
+    let joined : run_by keep history 0 turns ≡ front ++ entries = run_by-append keep 0 history t.front (t.turn ∷ []) ∙ ap (λ es. front ++ es) (append-nil entries) in
+    let size : count ≡ length (map id_of_entry front) =
+    ap length (before_of_turn keep all name k t) ∙ sym (length-map before line_id) ∙ ap length ids_before in
+    sym (drop-map line_id count (logged_before (k + 1) (device_line keep all name)))
+    ∙ ap (λ ls. drop count (map line_id ls)) (through_turn keep all name k t)
+    ∙ ap (λ c. drop c (map line_id lines)) size
+    ∙ ap (drop (length (map id_of_entry front))) (ids ∙ ap (map id_of_entry) joined ∙ map-append id_of_entry front entries)
+    ∙ drop_at (map id_of_entry front) (map id_of_entry entries) (length (map id_of_entry front)) refl
+
+-- a page that was asked for without an id begins behind what was purged
+oldest_number : (keep : ℕ) (all : List Step) (name : List ℕ) (before : List Step) (k first : ℕ) (line : PageLine) → 1 ≤ keep → length all ≤ 100000 →
+    IsPageOf keep all name before k → slice_get (map page_line (pages_of keep all name all)) k ≡ Some line → line.after ≡ None →
+    IsFirstNumber (lines_of_page k (device_line keep all name)) first → first ≡ suc (last_at all name before - keep)
+oldest_number keep all name before k first line some few page at after number =
+    let t = page.turn_of in
+    let n = ends_at keep 0 t.front in
+    let s = start_of keep n t.turn in
+    let known = reaches keep all name k t some few in
+    let gone : n ≤ t.turn.last - keep = asked_without n (t.turn.last - keep) (ap (λ (l : PageLine). l.after) (line_of_turn keep all name k t line at) ∙ after) in
+    let same : first ≡ suc s =
+    first_number_is s first (lines_of_page k (device_line keep all name)) (span s (end_of keep n t.turn) (history_at all name)) (start_small keep n t.turn.last known.within known.small)
+    (ids_of_page keep all name k t) (follow_span s (end_of keep n t.turn) (history_at all name) (history_follows all name)) number in
+    starts keep page.last same gone
+  where
+    start_small : (keep n last : ℕ) → n ≤ last → last ≤ 4294967295 → max n (last - keep) ≤ 4294967295
+    start_small keep n last within small = omega arith
+
+    starts : (keep : ℕ) {n first last before : ℕ} → last ≡ before → first ≡ suc (max n (last - keep)) → n ≤ last - keep → first ≡ suc (before - keep)
+    starts keep at same gone = omega arith
+
+is_oldest_kept : (keep : ℕ) (all : List Step) (name : List ℕ) → 1 ≤ keep → AreStanding [] all → length all ≤ 100000 → (k first : ℕ) (line : PageLine) →
+    slice_get (map page_line (pages_of keep all name all)) k ≡ Some line → line.after ≡ None → IsFirstNumber (lines_of_page k (device_line keep all name)) first →
+    IsOldestKept (worlds_of keep all) (device_line keep all name) k first
+is_oldest_kept keep all name some stand few k first line at after number i j asking asked taking taken here next asks there further takes =
+    let ask = move_at keep all [] all i asking asked here (rw add-one at next) in
+    let take = move_at keep all [] all j taking taken there (rw add-one at further) in
+    let counts = asked_as_taken keep all name asking asked ask in
+    let one = page_of_move keep all name asking asked ask k some stand few (omega (arith, counts.0, asks.0)) (omega (arith, counts.1, asks.1)) in
+    let two = page_of_move keep all name taking taken take k some stand few takes.0 takes.1 in
+    let low : first ≡ suc (last_at all name ask.before - keep) = oldest_number keep all name ask.before k first line some few one at after number in
+    let high : first ≡ suc (last_at all name take.before - keep) = oldest_number keep all name take.before k first line some few two at after number in
+    let was : first_number (asking.archive (home_of all name)) ≡ suc (last_at all name ask.before - keep) =
+    first_of_world keep all name ask.before (ask.step ∷ ask.rest) asking some ask.joined ask.was in
+    let now : first_number (taken.archive (home_of all name)) ≡ suc (last_at all name (take.before ++ take.step ∷ []) - keep) =
+    first_of_world keep all name (take.before ++ take.step ∷ []) take.rest taken some (append_assoc take.before (take.step ∷ []) take.rest ∙ take.joined) take.is in
+    let grows : last_at all name take.before ≤ last_at all name (take.before ++ take.step ∷ []) = last_grows all name take.before (take.step ∷ []) in
+    (same_low was low, up_to keep now high grows)
+  where
+    same_low : {a b c : ℕ} → a ≡ b → c ≡ b → a ≤ c
+    same_low first second = omega arith
+
+    up_to : (keep : ℕ) {now next first there : ℕ} → now ≡ suc (next - keep) → first ≡ suc (there - keep) → there ≤ next → first ≤ now
+    up_to keep is same grows = omega arith
+
+-- the number behind which a page was asked for
+asked_number : (n old last : ℕ) → n ≤ 4294967295 → 1 ≤ last → IsLastNumber (cond (leb n old) None (Some (id_of n))) last → (n ≡ last) × (old < n)
+asked_number n old last small one is =
+    elim (cases_Bool (leb n old)) [
+      | inl gone ↦ absurd (let none : last ≡ 0 = subst (λ b. IsLastNumber (cond b None (Some (id_of n))) last) gone is in omega arith)
+      | inr there ↦
+          let number : IsLastNumber (Some (id_of n)) last = subst (λ b. IsLastNumber (cond b None (Some (id_of n))) last) there is in
+          let newer : old < n = leb-false n old there in
+          let high : last ≤ 4294967295 = number.1 in
+          (id_of_same n last (omega arith) (omega arith) number.2, newer)
+    ]
+
+behind_number : (keep : ℕ) (all : List Step) (name : List ℕ) (before : List Step) (k last : ℕ) (line : PageLine) → 1 ≤ keep → length all ≤ 100000 →
+    IsPageOf keep all name before k → slice_get (map page_line (pages_of keep all name all)) k ≡ Some line → 1 ≤ last → IsLastNumber line.after last →
+    last_at all name before - keep < last
+behind_number keep all name before k last line some few page at one number =
+    let t = page.turn_of in
+    let n = ends_at keep 0 t.front in
+    let known = reaches keep all name k t some few in
+    let after = ap (λ (l : PageLine). l.after) (line_of_turn keep all name k t line at) in
+    let asked = asked_number n (t.turn.last - keep) last (le_small known.within known.small) one (subst (λ id. IsLastNumber id last) (sym after) number) in
+    above keep page.last asked.0 asked.1
+  where
+    le_small : {a b : ℕ} → a ≤ b → b ≤ 4294967295 → a ≤ 4294967295
+    le_small low small = omega arith
+
+    above : (keep : ℕ) {n last given before : ℕ} → given ≡ before → n ≡ last → given - keep < n → before - keep < last
+    above keep at same newer = omega arith
+
+is_kept_when_asked : (keep : ℕ) (all : List Step) (name : List ℕ) → 1 ≤ keep → AreStanding [] all → length all ≤ 100000 → (k last : ℕ) (line : PageLine) →
+    slice_get (map page_line (pages_of keep all name all)) k ≡ Some line → 1 ≤ last → IsLastNumber line.after last →
+    IsKeptWhenAsked (worlds_of keep all) (device_line keep all name) k last
+is_kept_when_asked keep all name some stand few k last line at one number i asking asked here next asks =
+    let ask = move_at keep all [] all i asking asked here (rw add-one at next) in
+    let counts = asked_as_taken keep all name asking asked ask in
+    let page = page_of_move keep all name asking asked ask k some stand few (omega (arith, counts.0, asks.0)) (omega (arith, counts.1, asks.1)) in
+    let newer : last_at all name ask.before - keep < last = behind_number keep all name ask.before k last line some few page at one number in
+    let was : first_number (asking.archive (home_of all name)) ≡ suc (last_at all name ask.before - keep) =
+    first_of_world keep all name ask.before (ask.step ∷ ask.rest) asking some ask.joined ask.was in
+    above was newer
+  where
+    above : {first purged last : ℕ} → first ≡ suc purged → purged < last → first ≤ last
+    above is newer = omega arith
+
+-- a page brings nothing behind the archive's last number
+given_number : (keep : ℕ) (all : List Step) (name : List ℕ) (before : List Step) (k last : ℕ) → 1 ≤ keep → length all ≤ 100000 → IsPageOf keep all name before k →
+    IsLastNumber (last_logged (logged_before (k + 1) (device_line keep all name))) last → last ≤ last_at all name before
+given_number keep all name before k last some few page number =
+    let t = page.turn_of in
+    let n = ends_at keep 0 t.front in
+    let known = reaches keep all name k t some few in
+    let within : end_of keep n t.turn ≤ t.turn.last = min_below (start_of keep n t.turn + t.turn.most) t.turn.last in
+    let same : end_of keep n t.turn ≡ last =
+    last_number_is (end_of keep n t.turn) last (le_small within known.small) (subst (λ id. IsLastNumber id last) known.through number) in
+    below page.last same within
+  where
+    min_below : (a b : ℕ) → min a b ≤ b
+    min_below a b = omega arith
+
+    le_small : {a b : ℕ} → a ≤ b → b ≤ 4294967295 → a ≤ 4294967295
+    le_small low small = omega arith
+
+    below : {end last given before : ℕ} → given ≡ before → end ≡ last → end ≤ given → last ≤ before
+    below at same within = omega arith
+
+is_given_by : (keep : ℕ) (all : List Step) (name : List ℕ) → 1 ≤ keep → AreStanding [] all → length all ≤ 100000 → (k last : ℕ) →
+    IsLastNumber (last_logged (logged_before (k + 1) (device_line keep all name))) last → IsGivenBy (worlds_of keep all) (device_line keep all name) k last
+is_given_by keep all name some stand few k last number j taking taken there further takes =
+    let take = move_at keep all [] all j taking taken there (rw add-one at further) in
+    let page = page_of_move keep all name taking taken take k some stand few takes.0 takes.1 in
+    let given : last ≤ last_at all name take.before = given_number keep all name take.before k last some few page number in
+    let now : last_number (taken.archive (home_of all name)) ≡ last_at all name (take.before ++ take.step ∷ []) =
+    last_of_world keep all name (take.before ++ take.step ∷ []) take.rest taken some (append_assoc take.before (take.step ∷ []) take.rest ∙ take.joined) take.is in
+    let grows : last_at all name take.before ≤ last_at all name (take.before ++ take.step ∷ []) = last_grows all name take.before (take.step ∷ []) in
+    up_to now given grows
+  where
+    up_to : {now next last there : ℕ} → now ≡ next → last ≤ there → there ≤ next → last ≤ now
+    up_to is given grows = omega arith
+
 tiles_of_turns : (keep : ℕ) (all : List Step) (name : List ℕ) (turns : List Turn) → 1 ≤ keep → AreRising 0 (length (history_at all name)) turns →
     AreTilesOfRuns [] (map page_line (pages_at keep all name turns)) (logged_from 0 (pages_at keep all name turns))
 tiles_of_turns keep all name turns some rise =
@@ -395,6 +543,9 @@ pages_right keep s all name steps some stand few =
       complete = λ k total line at is. ends_whole keep all name some stand few k total line at is;
       fresh = λ k total last line at is number. is_fresh_to keep all name some stand few k total last line at is number;
       purged = λ k last line at after count one number. is_purged_by keep all name some stand few k last line at after number;
+      oldest = λ k first line at after number. is_oldest_kept keep all name some stand few k first line at after number;
+      behind = λ k last line at one number. is_kept_when_asked keep all name some stand few k last line at one number;
+      known = λ k last line at number. is_given_by keep all name some stand few k last number;
       last = ends_with keep all [] all (device_line keep all name) (sym (length-map (pages_of keep all name all) page_line));
       answered = λ direct. answered_right keep s all name steps known;
     }

@@ -1,7 +1,7 @@
 -- The pages of a log by turns: they are tiles of it, and after a complete one the log ends with all that the archive
 -- kept.
-use Rattle.std.proofs.Common.{◌≡◌, ℕ, zero, suc, ◌+◌, ◌-◌, ◌<◌, ◌≤◌, min, Bool, true, false, cond, leb, List, [], ◌∷◌, ◌++◌, Option, Some, None, is_some, length, take, drop, map, refl, sym, ap, subst, ◌∙◌, ◌⊎◌, arith, inl, inr}
-use Rattle.std.proofs.lemmas.Bool.{cases_Bool, le-leb, leb-false, leb-true}
+use Rattle.std.proofs.Common.{◌≡◌, ℕ, zero, suc, ◌+◌, ◌-◌, ◌<◌, ◌≤◌, min, Bool, true, false, cond, leb, List, [], ◌∷◌, ◌++◌, Option, Some, None, is_some, length, get_or, take, drop, map, refl, sym, ap, subst, ◌∙◌, ◌⊎◌, arith, inl, inr}
+use Rattle.std.proofs.lemmas.Bool.{cases_Bool, false≢true, le-leb, leb-false, leb-true}
 use Rattle.std.proofs.lemmas.List.{append_assoc, drop-map, drop_at, length-append, length-map, map-append, take-map, take_at}
 use Rattle.std.proofs.lemmas.List.Concat.{length-flat_map}
 use Rattle.std.proofs.lemmas.List.Sums.{sum-map, sum_by-cons}
@@ -18,7 +18,7 @@ use Rattle.xmpp_direct.specs.Direct.{as_logged}
 use Rattle.xmpp_log.specs.LogPages.{LogPage, log_of}
 use Rattle.xmpp_log.specs.declared.log_entry.LogEntry.{LogEntry}
 use Rattle.xmpp_report.specs.Lawful.{last_logged}
-use Rattle.xmpp_report.specs.LawfulRuns.{AreTilesOfRuns, BeginsRun, EndsWhole, IsLastNumber}
+use Rattle.xmpp_report.specs.LawfulRuns.{AreTilesOfRuns, BeginsRun, EndsWhole, IsFirstNumber, IsLastNumber}
 use Rattle.xmpp_report.specs.Lines.{entry_line, is_break, logged_behind, logged_from, logged_line, page_line}
 use Rattle.xmpp_report.specs.declared.report.LoggedLine.{LoggedLine}
 use Rattle.xmpp_report.specs.declared.report.PageLine.{PageLine}
@@ -55,18 +55,38 @@ asked_behind (suc n) old last is =
       | inr there ↦ inr (rw there (sym is))
     ]
 
+none_logged : (lines : List LoggedLine) → last_logged lines ≡ None → length lines ≡ 0
+none_logged [] none = refl
+none_logged (l ∷ []) none = absurd (none-some l.entry.id (sym none))
+none_logged (l ∷ m ∷ lines) none = absurd (omega (arith, none_logged (m ∷ lines) none))
+
+gone_some : (keep n : ℕ) (turn : Turn) (before : List LoggedLine) → 1 ≤ keep → 1 ≤ turn.most → last_logged before ≡ id_behind n → n ≤ turn.last - keep →
+    is_break (length before) None ≡ true → 1 ≤ end_of keep n turn - start_of keep n turn
+gone_some keep zero turn before some asked known old broken =
+    absurd (let unbroken : is_break 0 None ≡ true = rw (none_logged before known) at broken in false≢true unbroken)
+gone_some keep (suc n) turn before some asked known old broken = omega arith
+
+-- a page that was asked for anew behind entries has one
+broken_some : (keep n : ℕ) (turn : Turn) (before : List LoggedLine) → 1 ≤ keep → 1 ≤ turn.most → last_logged before ≡ id_behind n →
+    is_break (length before) (cond (leb n (turn.last - keep)) None (Some (id_of n))) ≡ true → 1 ≤ end_of keep n turn - start_of keep n turn
+broken_some keep n turn before some asked known broken =
+    elim (cases_Bool (leb n (turn.last - keep))) [
+      | inl gone ↦ gone_some keep n turn before some asked known (leb-true n (turn.last - keep) gone) (rw gone at broken)
+      | inr there ↦ absurd (let unbroken : is_break (length before) (Some (id_of n)) ≡ true = rw there at broken in false≢true unbroken)
+    ]
+
 begins : (broken : Bool) (es : List LogEntry) → BeginsRun broken (logged_behind broken es)
 begins broken [] = tt
 begins broken (e ∷ es) = (refl, all_map (λ m. m.broken ≡ false) (logged_line false) es (all_of (λ l. false ≡ false) (λ l. refl) es))
 
 tile_step : (before lines more : List LoggedLine) (page : PageLine) (pages : List PageLine) → length lines ≡ page.count →
-    ((page.after ≡ None) ⊎ (page.after ≡ last_logged before)) → (page.total ≡ None → 0 < page.count) → BeginsRun (is_break (length before) page.after) lines →
-    AreTilesOfRuns (before ++ lines) pages more → AreTilesOfRuns before (page ∷ pages) (lines ++ more)
-tile_step before lines more page pages size after some run rest =
+    ((page.after ≡ None) ⊎ (page.after ≡ last_logged before)) → (page.total ≡ None → 0 < page.count) → (is_break (length before) page.after ≡ true → 0 < page.count) →
+    BeginsRun (is_break (length before) page.after) lines → AreTilesOfRuns (before ++ lines) pages more → AreTilesOfRuns before (page ∷ pages) (lines ++ more)
+tile_step before lines more page pages size after some anew run rest =
     let front : take page.count (lines ++ more) ≡ lines = take_at lines more page.count size in
     let behind : drop page.count (lines ++ more) ≡ more = drop_at lines more page.count size in
     let within : page.count ≤ length (lines ++ more) = omega (arith, length-append lines more) in
-    (after, within, some, rw front run, rw (front, behind) rest)
+    (after, within, some, anew, rw front run, rw (front, behind) rest)
 
 pub ids_behind : (broken : Bool) (es : List EntryView) → map line_id (logged_behind broken (map as_logged es)) ≡ map id_of_entry es
 ids_behind broken [] = refl
@@ -106,6 +126,7 @@ tiles_by keep n low high history (turn ∷ turns) before some within rise long f
     tile_step before lines (logged_from (length before + length (map as_logged entries)) pages) (page_line page) (map page_line pages) size
     (asked_behind n (turn.last - keep) (last_logged before) known)
     (λ partial. some_count count (partial_some keep n turn rise.1 (total_partial page.complete page.total partial)))
+    (λ anew. some_count count (broken_some keep n turn before some rise.1 known anew))
     (begins broken (map as_logged entries))
     (subst (λ c. AreTilesOfRuns (before ++ lines) (map page_line pages) (logged_from c pages)) whole later)
   where
@@ -186,6 +207,17 @@ last_number_is zero n few is = sym is
 last_number_is (suc m) n few is =
     let high : n ≤ 4294967295 = is.1 in
     id_of_same (suc m) n (omega arith) (omega arith) is.2
+
+-- the first of a page's lines, whose entries are those behind number s
+pub first_number_is : (s first : ℕ) (lines : List LoggedLine) (es : List EntryView) → s ≤ 4294967295 → map line_id lines ≡ map id_of_entry es → FollowFrom (suc s) es →
+    IsFirstNumber lines first → first ≡ suc s
+first_number_is s first [] es small same follow is = absurd is
+first_number_is s first (l ∷ lines) [] small same follow is = absurd (omega (arith, ap length same))
+first_number_is s first (l ∷ lines) (e ∷ es) small same follow is =
+    let high : first ≤ 4294967295 = is.1 in
+    let number : e.number ≡ suc s = follow.0 in
+    let id : l.entry.id ≡ id_of e.number = ap (λ ids. get_or ids 0 []) same in
+    id_of_same first (suc s) (omega arith) (omega arith) (sym is.2 ∙ id ∙ ap id_of number)
 
 pub last_lines_by : (keep high : ℕ) (history : List EntryView) (turns : List Turn) → 1 ≤ keep → AreRising 0 high turns → high ≤ length history → FollowFrom 1 history →
     last_logged (logged_from 0 (pages_by keep history 0 turns)) ≡ id_behind (ends_at keep 0 turns)

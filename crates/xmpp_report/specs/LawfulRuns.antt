@@ -108,14 +108,15 @@ BeginsRun broken [] = Unit {0}
 BeginsRun broken (l ∷ ls) = (l.broken ≡ broken) × AllByRecursion (λ m. m.broken ≡ false) ls
 
 -- Behind what was logged before, the pages cut what is left of the log: each was asked for behind the last entry
--- before it, or without an id, and one that isn't complete has an entry. A break stands before the first entry of a
--- page that was asked for without an id while something was logged, and nowhere else.
+-- before it, or without an id, and one that isn't complete has an entry. So has one that was asked for without an id
+-- while something was logged: before its first entry stands a break, and nowhere else.
 abbrev pub AreTilesOfRuns : List LoggedLine → List PageLine → List LoggedLine → Type 0
 AreTilesOfRuns before [] rest = rest ≡ []
 AreTilesOfRuns before (page ∷ pages) rest =
     ((page.after ≡ None) ⊎ (page.after ≡ last_logged before))
     × (page.count ≤ length rest)
     × (page.total ≡ None → 0 < page.count)
+    × (IsTrue (is_break (length before) page.after) → 0 < page.count)
     × BeginsRun (is_break (length before) page.after) (take page.count rest)
     × AreTilesOfRuns (before ++ take page.count rest) pages (drop page.count rest)
 
@@ -127,6 +128,15 @@ IsLastNumber (Some id) n = (1 ≤ n) × (n ≤ GREATEST_NUMBER) × (id ≡ id_of
 -- what was logged before page k
 abbrev pub logged_before : ℕ → DeviceView → List LoggedLine
 logged_before k device = take (sum (map (λ page. page.count) (take k device.pages))) device.logged
+
+-- the lines of page k
+abbrev pub lines_of_page : ℕ → DeviceView → List LoggedLine
+lines_of_page k device = drop (length (logged_before k device)) (logged_before (k + 1) device)
+
+-- the number of the first of these lines
+abbrev pub IsFirstNumber : List LoggedLine → ℕ → Type 0
+IsFirstNumber [] n = ⊥
+IsFirstNumber (l ∷ ls) n = (1 ≤ n) × (n ≤ GREATEST_NUMBER) × (l.entry.id ≡ id_of n)
 
 -- after a complete page the log ends with all that the archive kept: as many entries as TOTAL says, up to the last one
 pub record EndsWhole (keep : ℕ) (history : List EntryView) (logged : List LoggedLine) (total : ℕ) : Type 0 where
@@ -154,6 +164,33 @@ IsPurgedBy worlds device k last =
     → Passes k (length (taking.pages device.name)) (length (taken.pages device.name))
     → last < first_number (taken.archive device.account)
 
+-- Page k begins with the oldest entry that the archive kept: this number wasn't purged when the page was asked for, and
+-- all below it were when the page had been taken over.
+abbrev pub IsOldestKept : List World → DeviceView → ℕ → ℕ → Type 0
+IsOldestKept worlds device k first =
+    (i j : ℕ) (asking asked taking taken : World)
+    → slice_get worlds i ≡ Some asking → slice_get worlds (i + 1) ≡ Some asked
+    → Passes k (asking.asked device.name) (asked.asked device.name)
+    → slice_get worlds j ≡ Some taking → slice_get worlds (j + 1) ≡ Some taken
+    → Passes k (length (taking.pages device.name)) (length (taken.pages device.name))
+    → (first_number (asking.archive device.account) ≤ first) × (first ≤ first_number (taken.archive device.account))
+
+-- when page k was asked for, this number wasn't purged
+abbrev pub IsKeptWhenAsked : List World → DeviceView → ℕ → ℕ → Type 0
+IsKeptWhenAsked worlds device k last =
+    (i : ℕ) (asking asked : World)
+    → slice_get worlds i ≡ Some asking → slice_get worlds (i + 1) ≡ Some asked
+    → Passes k (asking.asked device.name) (asked.asked device.name)
+    → first_number (asking.archive device.account) ≤ last
+
+-- when page k had been taken over, the archive had given this number
+abbrev pub IsGivenBy : List World → DeviceView → ℕ → ℕ → Type 0
+IsGivenBy worlds device k last =
+    (j : ℕ) (taking taken : World)
+    → slice_get worlds j ≡ Some taking → slice_get worlds (j + 1) ≡ Some taken
+    → Passes k (length (taking.pages device.name)) (length (taken.pages device.name))
+    → last ≤ last_number (taken.archive device.account)
+
 pub record ArePagesOfRuns (keep : ℕ) (worlds : List World) (schedule : ScheduleView) (history : List EntryView) (device : DeviceView) : Type 0 where
   pub tiles : AreTilesOfRuns [] device.pages device.logged
   pub distinct : EachPair (λ a b. a.entry.id ≢ b.entry.id) device.logged
@@ -162,6 +199,15 @@ pub record ArePagesOfRuns (keep : ℕ) (worlds : List World) (schedule : Schedul
       IsLastNumber (last_logged (logged_before (k + 1) device)) last → IsFreshTo worlds device k last
   pub purged : (k last : ℕ) (page : PageLine) → slice_get device.pages k ≡ Some page → page.after ≡ None → 0 < page.count → 1 ≤ last →
       IsLastNumber (last_logged (logged_before k device)) last → IsPurgedBy worlds device k last
+  -- a page that was asked for without an id begins with the oldest entry kept
+  pub oldest : (k first : ℕ) (page : PageLine) → slice_get device.pages k ≡ Some page → page.after ≡ None →
+      IsFirstNumber (lines_of_page k device) first → IsOldestKept worlds device k first
+  -- the entry behind which a page was asked for was kept
+  pub behind : (k last : ℕ) (page : PageLine) → slice_get device.pages k ≡ Some page → 1 ≤ last →
+      IsLastNumber page.after last → IsKeptWhenAsked worlds device k last
+  -- no page, complete or not, brings an entry that wasn't taken yet
+  pub known : (k last : ℕ) (page : PageLine) → slice_get device.pages k ≡ Some page →
+      IsLastNumber (last_logged (logged_before (k + 1) device)) last → IsGivenBy worlds device k last
   pub last : EndsWith worlds device
   -- in a direct run each catch-up came to a complete page
   pub answered : schedule.wire ≡ false → count_by (λ page. is_some page.total) device.pages ≡ count_by (is_catchup_of device.name) (steps_of schedule.lines)
