@@ -2,4 +2,7 @@ pub mod LastIds
 pub mod Orders
 pub mod Repeats
 pub mod Tilings
+pub mod Turned
+pub mod Unheld
+pub mod Unlogged
 pub mod Worked

@@ -1,6 +1,9 @@
 -- The definitions of a log, evaluated at small logs.
 use Rattle.std.proofs.Common.{◌≡◌, ℕ, Bool, true, false, List, [], ◌∷◌, Option, Some, None, Ok, Err, refl}
-use Rattle.xmpp_log.specs.Views.{LogView, with_begun, with_result, fin_answer, after_fin, after_refusal}
+use Rattle.xmpp_log.specs.Breaks.{breaks_of}
+use Rattle.xmpp_log.specs.LogCalls.{after_hold, begun_again, may_hold, restart_answer, with_restart}
+use Rattle.xmpp_log.specs.Views.{LogView, with_begun, with_result, fin_answer, after_fin, after_refusal, page_for}
+use Rattle.xmpp_log.specs.declared.faults.RestartFault.TheVariants as restarts
 use Rattle.xmpp_pages.specs.declared.fin.Fin.{Fin}
 use Rattle.xmpp_log.specs.declared.fin.FinFault.TheVariants as faults
 use Rattle.xmpp_log.specs.declared.fin.PageOutcome.TheVariants.{More, Complete}
@@ -31,7 +34,7 @@ abbrev told : Bool → Option (List ℕ) → Fin
 told complete last = record { complete = complete; first = None; first_index = 0; last = last; count = 3 }
 
 abbrev empty : LogView
-empty = record { entries = []; tiles = []; page = None }
+empty = record { entries = []; tiles = []; page = None; held = [] }
 
 -- a page of two that is not complete
 abbrev two : LogView
@@ -41,7 +44,7 @@ abbrev tile_of_two : Tile
 tile_of_two = record { after = None; count = 2; complete = false; total = 3 }
 
 abbrev took_two : LogView
-took_two = record { entries = entry a ∷ entry b ∷ []; tiles = tile_of_two ∷ []; page = None }
+took_two = record { entries = entry a ∷ entry b ∷ []; tiles = tile_of_two ∷ []; page = None; held = [] }
 
 two_ends : fin_answer two q (told false (Some b)) ≡ Ok More
 two_ends = refl
@@ -56,7 +59,7 @@ third = with_result (with_begun took_two r 2) (entry c)
 third_ends : fin_answer third r (told true (Some c)) ≡ Ok Complete
 third_ends = refl
 
-third_joins : after_fin third (told true (Some c)) ≡ record { entries = entry a ∷ entry b ∷ entry c ∷ []; tiles = tile_of_two ∷ record { after = Some b; count = 1; complete = true; total = 3 } ∷ []; page = None }
+third_joins : after_fin third (told true (Some c)) ≡ record { entries = entry a ∷ entry b ∷ entry c ∷ []; tiles = tile_of_two ∷ record { after = Some b; count = 1; complete = true; total = 3 } ∷ []; page = None; held = [] }
 third_joins = refl
 
 -- another query's end
@@ -90,7 +93,7 @@ empty_page = refl
 empty_complete : fin_answer (with_begun took_two r 2) r (told true None) ≡ Ok Complete
 empty_complete = refl
 
-empty_joins : after_fin (with_begun took_two r 2) (told true None) ≡ record { entries = entry a ∷ entry b ∷ []; tiles = tile_of_two ∷ record { after = Some b; count = 0; complete = true; total = 3 } ∷ []; page = None }
+empty_joins : after_fin (with_begun took_two r 2) (told true None) ≡ record { entries = entry a ∷ entry b ∷ []; tiles = tile_of_two ∷ record { after = Some b; count = 0; complete = true; total = 3 } ∷ []; page = None; held = [] }
 empty_joins = refl
 
 -- a refusal ends the page; want of memory and a stranger's query don't
@@ -102,3 +105,47 @@ out_of_memory = refl
 
 of_another : after_refusal faults.Stranger third ≡ third
 of_another = refl
+
+-- the next page, begun with the end of one that is not the last
+goes_on : begun_again (after_fin two (told false (Some b))) r two.page ≡ record took_two { page = Some (record { queryid = r; max = 2; after = Some b; results = [] }) }
+goes_on = refl
+
+-- a page asked for anew: it has a place, and loses it with its results
+asked_anew : restart_answer (page_for r third.page) ≡ Ok tt
+asked_anew = refl
+
+anew : with_restart third q ≡ record took_two { page = Some (record { queryid = q; max = 2; after = None; results = [] }) }
+anew = refl
+
+placeless : restart_answer (page_for q two.page) ≡ Err restarts.NoPlace
+placeless = refl
+
+another_query : restart_answer (page_for r two.page) ≡ Err restarts.Stranger
+another_query = refl
+
+-- a page asked for anew breaks the log where it has an entry and stands behind entries
+abbrev page_of : ℕ → Tile
+page_of count = record { after = None; count = count; complete = true; total = 3 }
+
+breaks : breaks_of (tile_of_two ∷ page_of 1 ∷ page_of 1 ∷ []) ≡ 2 ∷ 3 ∷ []
+breaks = refl
+
+no_break : breaks_of (page_of 0 ∷ page_of 2 ∷ page_of 0 ∷ []) ≡ []
+no_break = refl
+
+-- a message is held behind the others; one that is in the log or held already isn't
+abbrev held_c : LogView
+held_c = after_hold took_two (entry c)
+
+holds : held_c ≡ record took_two { held = entry c ∷ [] }
+holds = refl
+
+is_logged : may_hold held_c b ≡ false
+is_logged = refl
+
+is_held : may_hold held_c c ≡ false
+is_held = refl
+
+-- until a page brings it
+brings : after_fin (with_result (with_begun held_c r 2) (entry c)) (told true (Some c)) ≡ after_fin third (told true (Some c))
+brings = refl

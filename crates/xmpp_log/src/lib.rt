@@ -5,6 +5,7 @@ mod closing;
 mod device_log;
 mod faults;
 mod fin;
+mod held;
 mod id_order;
 mod laws;
 mod log_entry;
@@ -12,8 +13,9 @@ mod open_page;
 mod tile;
 
 pub use device_log::Log;
-pub use faults::{BeginFault, ResultFault};
+pub use faults::{BeginFault, RestartFault, ResultFault};
 pub use fin::{FinFault, PageOutcome};
+pub use held::MOST_HELD;
 pub use laws::entries_are_tiled;
 pub use log_entry::{LogEntries, LogEntry};
 pub use tile::{Tile, Tiles};

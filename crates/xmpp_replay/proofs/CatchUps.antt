@@ -8,8 +8,8 @@ use Rattle.xmpp_log.specs.LogPages.{LogPage, last_id, log_of, tile_of}
 use Rattle.xmpp_log.specs.Views.{LogView}
 use Rattle.xmpp_log.specs.declared.log_entry.LogEntry.{LogEntry}
 use Rattle.xmpp_pages.specs.Kept.{kept_by}
-use Rattle.xmpp_replay.proofs.ArchivePages.{page_found}
-use Rattle.xmpp_replay.specs.Direct.{Page, as_logged, as_taken_over, catch_up, page_answered}
+use Rattle.xmpp_direct.proofs.ArchivePages.{page_found}
+use Rattle.xmpp_direct.specs.Direct.{Page, as_logged, as_taken_over, catch_up, page_answered}
 use Rattle.xmpp_replay.specs.Turns.{IsFrontOf, IsLogOf, caught_up, log_after, page_behind, with_turn}
 
 pub take_further : {X : Type 0} (k most : ℕ) (xs : List X) → take k xs ++ take most (drop k xs) ≡ take (k + most) xs

@@ -15,10 +15,10 @@ use Rattle.xmpp_replay.proofs.CatchUps.{catch_up_logged, log_after_front}
 use Rattle.xmpp_replay.proofs.Deliveries.{among_placed, delivered_takes, named_at, names_apart, not_placed, once_among, once_push}
 use Rattle.xmpp_schedule.proofs.Prefixes.{among_push, along_push, devices_push, home_push, sent_few}
 use Rattle.xmpp_report.proofs.TakenArchives.{archive_few, archive_numbered, archive_push}
-use Rattle.xmpp_replay.proofs.Prefixes.{pages_push, takes_few, takes_push}
+use Rattle.xmpp_direct.proofs.Prefixes.{pages_push, takes_few, takes_push}
 use Rattle.xmpp_report.specs.Takes.{Take, archive_of, concerns, entry_of}
 use Rattle.xmpp_schedule.specs.Contents.{accounts_of, along, device_name, devices_of, home_of, is_said_by, sent_by}
-use Rattle.xmpp_replay.specs.Direct.{as_logged, catch_up, kept_after, pages_after, pages_of, said_at, take_at, takes_of}
+use Rattle.xmpp_direct.specs.Direct.{as_logged, catch_up, kept_after, pages_after, pages_of, said_at, take_at, takes_of}
 use Rattle.xmpp_report.specs.Addresses.{bare_address}
 use Rattle.xmpp_report.specs.Lines.{take_line}
 use Rattle.xmpp_schedule.specs.Grammar.{is_name, is_text, may_stand}

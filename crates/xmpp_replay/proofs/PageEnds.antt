@@ -19,9 +19,9 @@ use Rattle.xmpp_pages.specs.Cuts.{CutView, fin_of}
 use Rattle.xmpp_pages.specs.Kept.{kept_by}
 use Rattle.xmpp_pages.specs.PageOf.{page_of}
 use Rattle.xmpp_pages.specs.Spans.{number_of_entry, numbers_of}
-use Rattle.xmpp_replay.proofs.ArchivePages.{cut_behind, cut_is, last_of_page, number_at}
+use Rattle.xmpp_direct.proofs.ArchivePages.{cut_behind, cut_is, last_of_page, number_at}
 use Rattle.xmpp_replay.proofs.CatchUps.{results_more, take_whole}
-use Rattle.xmpp_replay.specs.Direct.{as_logged, query_behind}
+use Rattle.xmpp_direct.specs.Direct.{as_logged, query_behind}
 use Rattle.xmpp_replay.specs.Turns.{IsFrontOf, open_page, opened, page_behind, with_turn}
 use Rattle.xmpp_basis.proofs.Bytes.{bytes_eq-self, bytes_eq-from_other}
 

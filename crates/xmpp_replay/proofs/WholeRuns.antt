@@ -12,7 +12,7 @@ use Rattle.xmpp_log.specs.LogPages.{LogPage, tile_of}
 use Rattle.xmpp_replay.proofs.Deliveries.{once_push}
 use Rattle.xmpp_schedule.proofs.Prefixes.{accounts_push, right_steps}
 use Rattle.xmpp_replay.proofs.FollowedSteps.{after_followed, may_follow, ready_after}
-use Rattle.xmpp_replay.specs.Direct.{account_line, device_line, direct_report, pages_of, takes_of}
+use Rattle.xmpp_direct.specs.Direct.{account_line, device_line, direct_report, pages_of, takes_of}
 use Rattle.xmpp_schedule.specs.Contents.{account_name, accounts_of}
 use Rattle.xmpp_report.specs.Lines.{page_line, tile_line}
 use Rattle.xmpp_schedule.specs.Grammar.{IsSchedule, is_name}

@@ -3,7 +3,7 @@ use Rattle.std.specs.Prelude.{◌≡◌, ℕ, ◌<◌, ◌≤◌, true, false, L
 use Rattle.std.specs.List.{All}
 use Rattle.xmpp_schedule.specs.Contents.{accounts_of, along, devices_of, home_of}
 use Rattle.xmpp_report.specs.Takes.{archive_of}
-use Rattle.xmpp_replay.specs.Direct.{pages_of, said_at, takes_of}
+use Rattle.xmpp_direct.specs.Direct.{pages_of, said_at, takes_of}
 use Rattle.xmpp_report.specs.Lines.{take_line}
 use Rattle.xmpp_edge.specs.Names.{is_among, place_of}
 use Rattle.xmpp_replay.specs.Homes.{Home, home_at, names_of}

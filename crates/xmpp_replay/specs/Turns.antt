@@ -4,7 +4,7 @@ use Rattle.xmpp_archive.specs.Entries.{EntryView}
 use Rattle.xmpp_log.specs.LogPages.{LogPage, log_of, last_id, tile_of}
 use Rattle.xmpp_log.specs.Views.{LogView, OpenPage}
 use Rattle.xmpp_log.specs.declared.log_entry.LogEntry.{LogEntry}
-use Rattle.xmpp_replay.specs.Direct.{Page, as_logged}
+use Rattle.xmpp_direct.specs.Direct.{Page, as_logged}
 
 -- the log's entries are the archive's first ones
 pub record IsFrontOf (archive : List EntryView) (logged : List LogEntry) : Type 0 where

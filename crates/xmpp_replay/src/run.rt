@@ -5,7 +5,7 @@
 //! last entry, copies the entries of the page's numbers out of the archive, and ends the page with the count that
 //! it was answered. Archives are reached by number, accounts and devices by name.
 ghost use Rattle.std.specs.Prelude.{◌≡◌, ◌≤◌, false, true, [], IfOk, OnOk};
-ghost use Rattle.xmpp_replay.specs.Direct.{direct_report};
+ghost use Rattle.xmpp_direct.specs.Direct.{direct_report};
 ghost use Rattle.xmpp_schedule.specs.Grammar.{IsSchedule};
 ghost use Rattle.xmpp_edge.specs.Names.{is_among};
 ghost use Rattle.xmpp_replay.specs.Homes.{names_of};

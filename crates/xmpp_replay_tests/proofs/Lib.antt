@@ -1,6 +1,11 @@
+mod RefusedForms
+mod RefusedRuns
 mod Worked
 mod WorkedLaws
 mod WorkedPages
 mod WorkedReports
+mod WorkedRuns
 mod WorkedWire
+pub mod EachOf
+pub mod RunReports
 pub mod WireReports

@@ -15,10 +15,12 @@ use Rattle.xmpp_report.specs.declared.report.SaidMark.TheVariants.{Acknowledged,
 use Rattle.xmpp_report.specs.declared.report.TakeLine.{TakeLine}
 use Rattle.xmpp_schedule.specs.Schedules.{ScheduleView}
 use Rattle.xmpp_schedule.specs.declared.schedule.Step.TheVariants.{Account, Device, Say, Catchup}
+use Rattle.xmpp_schedule.specs.declared.schedule.Version.TheVariants.{One}
 
 -- p of a sends four messages, of which its second session sends the last two; q of b sends one; both catch up
 abbrev pub wire_schedule : ScheduleView
 wire_schedule = record {
+  version = One;
   wire = true;
   lines =
       record { number = 2; step = Account (codes "a") } ∷
@@ -35,7 +37,7 @@ wire_schedule = record {
 }
 
 abbrev pub take : List ℕ → ℕ → ℕ → List ℕ → TakeLine
-take device epoch n account = record { device = device; epoch = epoch; n = n; account = account }
+take device epoch n account = record { device = device; epoch = epoch; n = n; account = account; moment = None }
 
 -- x, w and z were taken; y was lost, and u is on its way
 abbrev pub taken : List TakeLine
@@ -65,7 +67,7 @@ abbrev pub archived : List EntryLine
 archived = x 1 10 ∷ w 2 20 ∷ z 3 30 ∷ []
 
 abbrev pub account : List ℕ → List EntryLine → AccountView
-account name entries = record { name = name; count = length entries; entries = entries }
+account name entries = record { name = name; count = length entries; last = length entries; entries = entries }
 
 -- p has no session, and refused to catch up
 abbrev pub p_with : Bool → List SaidLine → DeviceView
@@ -83,7 +85,7 @@ p_with settled saids = record {
 }
 
 abbrev pub logged : EntryLine → LoggedLine
-logged e = record { entry = e }
+logged e = record { entry = e; broken = false }
 
 -- two pages of one entry each
 abbrev pub two_pages : List PageLine
@@ -115,6 +117,7 @@ conn k device = record { k = k; device = device; upput = 900; uptaken = 850; dow
 
 abbrev pub reported : List TakeLine → List EntryLine → List EntryLine → DeviceView → DeviceView → ReportView
 reported takes of_a of_b p q = record {
+  version = One;
   wire = true;
   takes = takes;
   accounts = account (codes "a") of_a ∷ account (codes "b") of_b ∷ [];

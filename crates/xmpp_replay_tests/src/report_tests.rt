@@ -1,16 +1,17 @@
-//! The text of a wire report with a line of each kind, and lines that are made by copying.
+//! The texts of wire reports of both versions with a line of each kind, and lines that are made by copying or moving.
 use std::alloc::Global;
 use std::test::Fail;
 use xmpp_archive::{ArchivedMessage, Bodies, Body, Entry};
 use xmpp_edge::{NoMemory, Text};
-use xmpp_log::{LogEntry, Tile};
+use xmpp_log::{LogEntries, LogEntry, Tile, Tiles};
 use xmpp_report::{
     AccountLine, AccountLines, ConnEnd, ConnLine, ConnLines, DeviceLine, DeviceLines, EntryLine,
     EntryLines, HeldLine, HeldLines, LoggedLine, LoggedLines, PageLine, PageLines, RefusedLine,
     RefusedLines, RefusedWhy, Report, SaidLine, SaidLines, SaidMark, TakeLine, TakeLines,
     UnderwayLine, UnderwayLines, bare_address, copied_entry_line, copied_logged_line,
-    copied_page_line, full_address, origin_of, report_text,
+    copied_page_line, full_address, logged_lines, origin_of, report_text,
 };
+use xmpp_schedule::Version;
 
 static REPORT: &str = "xmpp-report 1 wire
 take phone 2 1 bob
@@ -29,6 +30,30 @@ refused 4 OutboxFull
 refused 4 Underway
 page 0000000000000001 0 complete 1
 underway q3 12
+logged 0000000000000001 1500 alice@chat.example/phone bob@chat.example phone.2.1 hi bob
+held 0000000000000002
+end
+";
+
+static SECOND_REPORT: &str = "xmpp-report 2 wire 7
+take phone 2 1 bob 1500
+account alice 1 3
+entry 0000000000000001 1500 alice@chat.example/phone bob@chat.example phone.2.1 hi bob
+conn 1 phone 900 850 2400 2310 cut
+conn 2 phone 900 850 2400 2310 left
+conn 3 phone 900 850 2400 2310 shut
+conn 4 phone 900 850 2400 2310 open
+device phone alice 2 no
+said 2 1 acknowledged bob hi
+said 2 1 waiting bob hi
+said 2 1 undecided bob hi
+refused 4 NotBound
+refused 4 OutboxFull
+refused 4 Underway
+page 0000000000000001 0 complete 1
+underway q3 12
+logged 0000000000000001 1500 alice@chat.example/phone bob@chat.example phone.2.1 hi bob
+break
 logged 0000000000000001 1500 alice@chat.example/phone bob@chat.example phone.2.1 hi bob
 held 0000000000000002
 end
@@ -61,23 +86,51 @@ fn greeting(alloc: Global) -> Result<EntryLine, NoMemory> {
     copied_entry_line(alloc, &entry(alloc)?)
 }
 
-fn logged(alloc: Global) -> Result<LoggedLines, NoMemory> {
-    let mut lines = LoggedLines::new(alloc);
-    let held = LogEntry {
+fn known(alloc: Global) -> Result<LogEntry, NoMemory> {
+    Ok(LogEntry {
         id: text(alloc, "0000000000000001")?,
         entry: entry(alloc)?,
-    };
-    lines.push(copied_logged_line(alloc, &held)?)?;
-    Ok(lines)
+    })
 }
 
-fn takes(alloc: Global) -> Result<TakeLines, NoMemory> {
+// Of two pages, the second behind a break.
+fn logged_behind_break(alloc: Global) -> Result<LoggedLines, NoMemory> {
+    let mut tiles = Tiles::new(alloc);
+    let mut entries = LogEntries::new(alloc);
+    for _ in 0..2 {
+        tiles.push(Tile {
+            after: None,
+            count: 1,
+            complete: false,
+            total: 1,
+        })?;
+        entries.push(known(alloc)?)?;
+    }
+    logged_lines(alloc, &tiles, entries)
+}
+
+fn logged(alloc: Global, version: Version) -> Result<LoggedLines, NoMemory> {
+    match version {
+        Version::One => {
+            let mut lines = LoggedLines::new(alloc);
+            lines.push(copied_logged_line(alloc, &known(alloc)?, false)?)?;
+            Ok(lines)
+        }
+        Version::Two { .. } => logged_behind_break(alloc),
+    }
+}
+
+fn takes(alloc: Global, version: Version) -> Result<TakeLines, NoMemory> {
     let mut lines = TakeLines::new(alloc);
     lines.push(TakeLine {
         device: text(alloc, "phone")?,
         epoch: 2,
         n: 1,
         account: text(alloc, "bob")?,
+        moment: match version {
+            Version::One => None,
+            Version::Two { .. } => Some(1500),
+        },
     })?;
     Ok(lines)
 }
@@ -89,6 +142,7 @@ fn accounts(alloc: Global) -> Result<AccountLines, NoMemory> {
     lines.push(AccountLine {
         name: text(alloc, "alice")?,
         count: 1,
+        last: 3,
         entries,
     })?;
     Ok(lines)
@@ -174,7 +228,7 @@ fn held(alloc: Global) -> Result<HeldLines, NoMemory> {
     Ok(lines)
 }
 
-fn devices(alloc: Global) -> Result<DeviceLines, NoMemory> {
+fn devices(alloc: Global, version: Version) -> Result<DeviceLines, NoMemory> {
     let mut lines = DeviceLines::new(alloc);
     lines.push(DeviceLine {
         name: text(alloc, "phone")?,
@@ -185,26 +239,32 @@ fn devices(alloc: Global) -> Result<DeviceLines, NoMemory> {
         refused: refused(alloc)?,
         pages: pages(alloc)?,
         underway: underway(alloc)?,
-        logged: logged(alloc)?,
+        logged: logged(alloc, version)?,
         held: held(alloc)?,
     })?;
     Ok(lines)
 }
 
 // Whether a report with a line of each kind has this text.
-fn is_printed(alloc: Global, wanted: &str) -> Result<bool, NoMemory> {
+fn is_printed(alloc: Global, version: Version, wanted: &str) -> Result<bool, NoMemory> {
     let report = Report {
+        version,
         wire: true,
-        takes: takes(alloc)?,
+        takes: takes(alloc, version)?,
         accounts: accounts(alloc)?,
         conns: conns(alloc)?,
-        devices: devices(alloc)?,
+        devices: devices(alloc, version)?,
     };
     Ok(report_text(alloc, &report)?.as_slice() == wanted.as_bytes())
 }
 
 #[test]
 fn prints_a_line_of_each_kind(rt: HostRuntime) -> Result<(), Fail> {
-    assert!(rt; is_printed(rt.alloc(), REPORT)?);
+    for (version, wanted) in [
+        (Version::One, REPORT),
+        (Version::Two { keep: 7 }, SECOND_REPORT),
+    ] {
+        assert!(rt; is_printed(rt.alloc(), version, wanted)?);
+    }
     Ok(())
 }

@@ -1,5 +1,5 @@
--- The five laws that a report keeps, whatever came between the devices and the server. They speak of takes,
--- submissions, archives, logs and pages, and of no connection and no run. What the archives and logs were at each
+-- The five laws that a report of version 1 keeps, whatever came between the devices and the server. They speak of
+-- takes, submissions, archives, logs and pages, and of no connection and no run. What the archives and logs were at each
 -- moment is given to them as a list of worlds: the history of whichever run the report is of.
 use Rattle.std.specs.Prelude.{◌≡◌, ◌≢◌, ℕ, ◌+◌, ◌<◌, ◌≤◌, ◌==◌, Bool, false, ◌&&◌, ◌⊎◌, List, [], ◌∷◌, ◌++◌, Option, Some, None, IsTrue, IfSome, is_some, length, map, filter, take, drop, count_by, slice_get, if◌then◌else◌}
 use Rattle.std.specs.Bool.{MatchBool}
@@ -22,7 +22,7 @@ use Rattle.xmpp_report.specs.declared.report.SaidMark.TheVariants.{Acknowledged,
 use Rattle.xmpp_report.specs.declared.report.TakeLine.{TakeLine}
 use Rattle.xmpp_schedule.specs.declared.schedule.Line.{Line}
 use Rattle.xmpp_schedule.specs.declared.schedule.Step.{Step}
-use Rattle.xmpp_schedule.specs.declared.schedule.Step.TheVariants.{Say, Catchup}
+use Rattle.xmpp_schedule.specs.declared.schedule.Step.TheVariants.{Say, Private, Catchup}
 
 -- What a report says.
 
@@ -121,6 +121,10 @@ BeginsRefused number Others (refused ∷ others) = (refused.line ≡ number) × 
 -- submission or was refused, and a catch-up may be refused.
 abbrev pub IsOutcome : List ℕ → Step → ℕ → (List SaidLine → List RefusedLine → Type 0) → List SaidLine → List RefusedLine → Type 0
 IsOutcome device (Say name to text) number Behind said refused =
+    MatchBool (bytes_eq device name)
+    (BeginsSaid to text (λ others. Behind others refused) said ⊎ BeginsRefused number (Behind said) refused)
+    (Behind said refused)
+IsOutcome device (Private name to text) number Behind said refused =
     MatchBool (bytes_eq device name)
     (BeginsSaid to text (λ others. Behind others refused) said ⊎ BeginsRefused number (Behind said) refused)
     (Behind said refused)

@@ -3,6 +3,7 @@ pub use Rattle.xmpp_archive.specs.Entries
 pub use Rattle.xmpp_archive.specs.Ids
 pub use Rattle.xmpp_log.specs.LogPages
 pub use Rattle.xmpp_schedule.specs.Schedules
+pub use Rattle.xmpp_schedule.specs.Grammar
 pub use Rattle.xmpp_schedule.specs.Contents
 -- What a report is, and its text.
 pub mod EntryLines
@@ -15,3 +16,4 @@ pub mod Lines
 -- The laws.
 pub mod Worlds
 pub mod Lawful
+pub mod LawfulRuns

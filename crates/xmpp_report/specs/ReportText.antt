@@ -18,14 +18,23 @@ use Rattle.xmpp_report.specs.declared.report.SaidMark.{SaidMark}
 use Rattle.xmpp_report.specs.declared.report.SaidMark.TheVariants.{Acknowledged, Waiting, Undecided}
 use Rattle.xmpp_report.specs.declared.report.TakeLine.{TakeLine}
 use Rattle.xmpp_report.specs.declared.report.UnderwayLine.{UnderwayLine}
+use Rattle.xmpp_schedule.specs.Grammar.{mode_text}
+use Rattle.xmpp_schedule.specs.declared.schedule.Version.{Version}
+use Rattle.xmpp_schedule.specs.declared.schedule.Version.TheVariants.{One, Two}
 
-abbrev pub mode_text : Bool → List ℕ
-mode_text true = codes "wire"
-mode_text false = codes "direct"
+abbrev pub header_text : Version → Bool → List ℕ
+header_text One wire = codes "xmpp-report 1 " ++ mode_text wire
+header_text (Two keep) wire = codes "xmpp-report 2 " ++ mode_text wire ++ 32 ∷ decimal keep
+
+-- the moment, where it is told
+abbrev pub moment_text : Option ℕ → List ℕ
+moment_text None = []
+moment_text (Some moment) = 32 ∷ decimal moment
 
 abbrev pub take_text : TakeLine → List ℕ
 take_text line =
-    codes "take " ++ line.device ++ 32 ∷ decimal line.epoch ++ 32 ∷ decimal line.n ++ 32 ∷ line.account ++ 10 ∷ []
+    codes "take " ++ line.device ++ 32 ∷ decimal line.epoch ++ 32 ∷ decimal line.n ++ 32 ∷ line.account
+    ++ moment_text line.moment ++ 10 ∷ []
 
 -- the fields of an entry, in an archive and in a log alike
 abbrev pub fields_text : EntryLineView → List ℕ
@@ -34,9 +43,15 @@ fields_text e = e.id ++ 32 ∷ decimal e.stamp ++ 32 ∷ e.from ++ 32 ∷ e.to +
 abbrev pub entry_text : EntryLineView → List ℕ
 entry_text line = codes "entry " ++ fields_text line
 
-abbrev pub account_text : AccountView → List ℕ
-account_text line =
-    codes "account " ++ line.name ++ 32 ∷ decimal line.count ++ 10 ∷ flat_map entry_text line.entries
+-- the greatest number given, which version 1 doesn't tell: there it is the count
+abbrev pub last_text : Version → ℕ → List ℕ
+last_text One last = []
+last_text (Two keep) last = 32 ∷ decimal last
+
+abbrev pub account_text : Version → AccountView → List ℕ
+account_text version line =
+    codes "account " ++ line.name ++ 32 ∷ decimal line.count ++ last_text version line.last
+    ++ 10 ∷ flat_map entry_text line.entries
 
 abbrev pub conn_end_text : ConnEnd → List ℕ
 conn_end_text Cut = codes "cut"
@@ -83,8 +98,13 @@ page_text line =
 abbrev pub underway_text : UnderwayLine → List ℕ
 underway_text line = codes "underway " ++ line.queryid ++ 32 ∷ decimal line.got ++ 10 ∷ []
 
+-- the line before an entry with which a run begins after a break
+abbrev pub break_text : Bool → List ℕ
+break_text true = codes "break" ++ 10 ∷ []
+break_text false = []
+
 abbrev pub logged_text : LoggedLine → List ℕ
-logged_text line = codes "logged " ++ fields_text line.entry
+logged_text line = break_text line.broken ++ codes "logged " ++ fields_text line.entry
 
 abbrev pub held_text : HeldLine → List ℕ
 held_text line = codes "held " ++ line.id ++ 10 ∷ []
@@ -101,6 +121,6 @@ device_text line =
 
 unfoldable pub text_of : ReportView → List ℕ
 text_of report =
-    codes "xmpp-report 1 " ++ mode_text report.wire ++ 10 ∷ flat_map take_text report.takes
-    ++ flat_map account_text report.accounts ++ flat_map conn_text report.conns
+    header_text report.version report.wire ++ 10 ∷ flat_map take_text report.takes
+    ++ flat_map (account_text report.version) report.accounts ++ flat_map conn_text report.conns
     ++ flat_map device_text report.devices ++ codes "end" ++ 10 ∷ []

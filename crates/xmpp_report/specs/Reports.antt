@@ -9,11 +9,13 @@ use Rattle.xmpp_report.specs.declared.report.RefusedLine.{RefusedLine}
 use Rattle.xmpp_report.specs.declared.report.SaidLine.{SaidLine}
 use Rattle.xmpp_report.specs.declared.report.TakeLine.{TakeLine}
 use Rattle.xmpp_report.specs.declared.report.UnderwayLine.{UnderwayLine}
+use Rattle.xmpp_schedule.specs.declared.schedule.Version.{Version}
 
--- an account and its archive
+-- an account, how many entries its archive keeps, the greatest number that it gave, and the entries that it keeps
 pub record AccountView : Type 0 where
   pub name : List ℕ
   pub count : ℕ
+  pub last : ℕ
   pub entries : List EntryLineView
 
 -- a device, what it sent, refused and asked for, and its log
@@ -31,6 +33,7 @@ pub record DeviceView : Type 0 where
 
 -- what a run of a schedule came to
 pub record ReportView : Type 0 where
+  pub version : Version
   pub wire : Bool
   pub takes : List TakeLine
   pub accounts : List AccountView

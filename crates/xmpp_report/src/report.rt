@@ -5,14 +5,17 @@ ghost use Rattle.xmpp_report.specs.EntryLines.{line_of, line_under};
 use std::marker::Model;
 use xmpp_archive::{ArchivedMessage, Entry};
 use xmpp_edge::{ListOf, Text};
+use xmpp_schedule::Version;
 
-/// A message that the server took: of which device, in which epoch, its number there, and to which account.
+/// A message that the server took: of which device, in which epoch, its number there, to which account, and when
+/// (milliseconds since 1970). `moment` is `None` exactly in version 1, whose text doesn't tell it.
 #[derive(Drop)]
 pub struct TakeLine {
     pub device: Text,
     pub epoch: u64,
     pub n: u64,
     pub account: Text,
+    pub moment: Option<u64>,
 }
 
 /// Takes, in the server's order.
@@ -60,11 +63,13 @@ impl EntryLine {
 /// Entries of an archive, in order.
 pub type EntryLines = ListOf<EntryLine>;
 
-/// An account's archive, and how many entries it has.
+/// An account's archive: how many entries it keeps, the greatest number that it gave, and the entries that it keeps.
+/// In version 1 `last` is `count`.
 #[derive(Drop)]
 pub struct AccountLine {
     pub name: Text,
     pub count: u64,
+    pub last: u64,
     pub entries: EntryLines,
 }
 
@@ -73,7 +78,7 @@ impl Model for AccountLine {
 
     ghost Value = { AccountView };
 
-    ghost view = { λ a. record { name = a.name; count = a.count; entries = a.entries.items } };
+    ghost view = { λ a. record { name = a.name; count = a.count; last = a.last; entries = a.entries.items } };
 }
 
 /// Accounts, in declared order.
@@ -174,10 +179,12 @@ pub struct UnderwayLine {
 /// The page under way, where there is one.
 pub type UnderwayLines = ListOf<UnderwayLine>;
 
-/// An entry of a device's log.
+/// An entry of a device's log. `broken` where a run begins with it after a break: entries before it were purged before
+/// the device took them. In version 1 none is.
 #[derive(Drop)]
 pub struct LoggedLine {
     pub entry: EntryLine,
+    pub broken: bool,
 }
 
 /// Entries of a log, in order.
@@ -222,6 +229,7 @@ pub type DeviceLines = ListOf<DeviceLine>;
 /// What a run of a schedule came to.
 #[derive(Drop)]
 pub struct Report {
+    pub version: Version,
     pub wire: bool,
     pub takes: TakeLines,
     pub accounts: AccountLines,
@@ -234,5 +242,5 @@ impl Model for Report {
 
     ghost Value = { ReportView };
 
-    ghost view = { λ r. record { wire = r.wire; takes = r.takes.items; accounts = r.accounts.items; conns = r.conns.items; devices = r.devices.items } };
+    ghost view = { λ r. record { version = r.version; wire = r.wire; takes = r.takes.items; accounts = r.accounts.items; conns = r.conns.items; devices = r.devices.items } };
 }

@@ -1,8 +1,10 @@
 pub mod Again
 pub mod Answered
 pub mod Cuts
+pub mod DeclaredPlaces
 pub mod Found
 pub mod Lists
+pub mod Moments
 pub mod Numbers
 pub mod Prefixes
 pub mod ReadLines

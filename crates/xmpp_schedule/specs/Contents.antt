@@ -1,10 +1,10 @@
 -- What the steps of a schedule declare and say, whichever way it is run.
-use Rattle.std.specs.Prelude.{ℕ, Bool, false, List, [], ◌∷◌, ◌++◌, count_by, if◌then◌else◌}
+use Rattle.std.specs.Prelude.{ℕ, ◌+◌, Bool, false, List, [], ◌∷◌, ◌++◌, count_by, if◌then◌else◌}
 use Rattle.std.specs.List.{flat_map}
 use Rattle.std.specs.Str.{bytes_eq}
 use Rattle.xmpp_edge.specs.Names.{is_among}
 use Rattle.xmpp_schedule.specs.declared.schedule.Step.{Step}
-use Rattle.xmpp_schedule.specs.declared.schedule.Step.TheVariants.{Account, Device, Say, Catchup}
+use Rattle.xmpp_schedule.specs.declared.schedule.Step.TheVariants.{Account, Device, Say, Private, Catchup, Tick}
 use Rattle.xmpp_schedule.specs.Schedules.{ScheduleView, steps_of}
 
 -- what each step adds, below the steps before it
@@ -36,6 +36,7 @@ home_of (_ ∷ steps) device = home_of steps device
 
 abbrev pub is_said_by : List ℕ → Step → Bool
 is_said_by device (Say name to text) = bytes_eq device name
+is_said_by device (Private name to text) = bytes_eq device name
 is_said_by device _ = false
 
 -- how many messages the device sent
@@ -63,3 +64,13 @@ owned_in steps = flat_map owned_at steps
 abbrev pub is_catchup_of : List ℕ → Step → Bool
 is_catchup_of device (Catchup name most) = bytes_eq device name
 is_catchup_of device _ = false
+
+-- by how much the step moves the clock on (milliseconds)
+abbrev pub ticked : Step → ℕ
+ticked (Tick ms) = ms
+ticked _ = 0
+
+-- the moment after these steps: the clock begins at 0
+abbrev pub moment_after : List Step → ℕ
+moment_after [] = 0
+moment_after (step ∷ steps) = ticked step + moment_after steps

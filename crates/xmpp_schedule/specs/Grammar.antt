@@ -1,12 +1,15 @@
 -- The grammar of schedules, as a relation between a schedule and its text.
-use Rattle.std.specs.Prelude.{◌≡◌, ℕ, ◌+◌, ◌≤◌, nat_lt, nat_le, Bool, false, ◌&&◌, ◌||◌, not, List, [], ◌∷◌, ◌++◌, IsTrue, length, chars, codes}
+use Rattle.std.specs.Prelude.{◌≡◌, ℕ, ◌+◌, ◌≤◌, nat_lt, nat_le, Bool, true, false, ◌&&◌, ◌||◌, not, List, [], ◌∷◌, ◌++◌, IsTrue, length, chars, codes}
 use Rattle.std.specs.Fmt.{decimal}
 use Rattle.std.specs.List.{flat_map, list_all}
 use Rattle.std.specs.Str.{is_utf8}
 use Rattle.xmpp_schedule.specs.Schedules.{ScheduleView}
 use Rattle.xmpp_schedule.specs.declared.schedule.Line.{Line}
 use Rattle.xmpp_schedule.specs.declared.schedule.Step.{Step}
-use Rattle.xmpp_schedule.specs.declared.schedule.Step.TheVariants.{Account, Device, Say, Catchup}
+use Rattle.xmpp_schedule.specs.declared.schedule.Step.TheVariants.{Account, Device, Say, Private, Catchup, Tick}
+use Rattle.xmpp_schedule.specs.declared.schedule.TheConstants.{MOST_KEPT, MOST_TICK}
+use Rattle.xmpp_schedule.specs.declared.schedule.Version.{Version}
+use Rattle.xmpp_schedule.specs.declared.schedule.Version.TheVariants.{One, Two}
 use Rattle.xmpp_edge.specs.Names.{is_among}
 
 abbrev pub is_lower : ℕ → Bool
@@ -51,7 +54,9 @@ may_stand above (Account name) =
 may_stand above (Device name account) =
     nat_lt (length above.devices) 100 && is_name name && not (is_among name above.devices) && is_among account above.accounts
 may_stand above (Say device to text) = is_among device above.devices && is_name to && is_text text
+may_stand above (Private device to text) = is_among device above.devices && is_name to && is_text text
 may_stand above (Catchup device most) = is_among device above.devices && nat_le 1 most && nat_le most 100
+may_stand above (Tick ms) = nat_le ms MOST_TICK
 
 -- the lines are numbered from n, each may stand where it stands, and none is behind line 100,000
 abbrev pub AreLines : Declared → ℕ → List Line → Type 0
@@ -59,25 +64,36 @@ AreLines above n [] = Unit {0}
 AreLines above n (line ∷ lines) =
     (line.number ≡ n) × (n ≤ 100000) × IsTrue (may_stand above line.step) × AreLines (declared_by line.step above) (n + 1) lines
 
+-- in version 2 archives keep 1 to 4,294,967,295 entries
+abbrev pub may_keep : Version → Bool
+may_keep One = true
+may_keep (Two keep) = nat_le 1 keep && nat_le keep MOST_KEPT
+
 pub record IsSchedule (schedule : ScheduleView) : Type 0 where
   pub direct : schedule.wire ≡ false
+  pub keeps : IsTrue (may_keep schedule.version)
   pub lines : AreLines nothing_declared 2 schedule.lines
 
 abbrev pub step_text : Step → List ℕ
 step_text (Account name) = codes "account " ++ name
 step_text (Device name account) = codes "device " ++ name ++ 32 ∷ account
 step_text (Say device to text) = codes "say " ++ device ++ 32 ∷ to ++ 32 ∷ text
+step_text (Private device to text) = codes "private " ++ device ++ 32 ∷ to ++ 32 ∷ text
 step_text (Catchup device most) = codes "catchup " ++ device ++ 32 ∷ decimal most
+step_text (Tick ms) = codes "tick " ++ decimal ms
 
-abbrev pub direct_header : List ℕ
-direct_header = codes "xmpp-schedule 1 direct"
+abbrev pub mode_text : Bool → List ℕ
+mode_text true = codes "wire"
+mode_text false = codes "direct"
 
-abbrev pub wire_header : List ℕ
-wire_header = codes "xmpp-schedule 1 wire"
+-- line 1
+abbrev pub header_text : Version → Bool → List ℕ
+header_text One wire = codes "xmpp-schedule 1 " ++ mode_text wire
+header_text (Two keep) wire = codes "xmpp-schedule 2 " ++ mode_text wire ++ 32 ∷ decimal keep
 
 -- the text of a schedule: each line is ended by LF
 abbrev pub schedule_text : ScheduleView → List ℕ
-schedule_text schedule = direct_header ++ 10 ∷ flat_map (λ line. step_text line.step ++ 10 ∷ []) schedule.lines
+schedule_text schedule = header_text schedule.version schedule.wire ++ 10 ∷ flat_map (λ line. step_text line.step ++ 10 ∷ []) schedule.lines
 
 -- the input is the text of some schedule
 abbrev pub InGrammar : List ℕ → Type 0

@@ -6,7 +6,7 @@ ghost use Rattle.xmpp_log.specs.Views.{after_fin, fin_answer, outcome_of, page_f
 ghost use Rattle.xmpp_pages.specs.Kept.{kept_of};
 ghost use Rattle.xmpp_pages.specs.PageOf.{page_of};
 ghost use Rattle.xmpp_pages.specs.Spans.{numbers_of};
-ghost use Rattle.xmpp_replay.specs.Direct.{as_logged, place_behind, query_behind};
+ghost use Rattle.xmpp_direct.specs.Direct.{as_logged, place_behind, query_behind};
 ghost use Rattle.xmpp_replay.specs.Homes.{IsWhole};
 ghost use Rattle.xmpp_replay.specs.Turns.{IsFrontOf, caught_up, opened, open_page, page_behind, with_turn};
 

@@ -1,0 +1,14 @@
+pub mod CatchUps
+pub mod LawLists
+pub mod LawMoments
+pub mod LawTakes
+pub mod LawsKept
+pub mod NextPages
+pub mod PageRuns
+pub mod PrefixLaws
+pub mod Prefixes
+pub mod RunLaws
+pub mod TurnRuns
+pub mod TurnTiles
+pub mod Turns
+pub mod Worked
