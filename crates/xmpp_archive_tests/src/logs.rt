@@ -91,7 +91,9 @@ fn hold(alloc: Global, log: &mut Log, id: &str) -> Option<bool> {
     log.hold(alloc, live).ok()
 }
 
-/// Pages of a log that holds e, f and g: how many it holds then.
+static HELD: [&str; 3] = ["e", "f", "g"];
+
+/// Pages of a log that holds these: how many it holds then.
 static BROUGHT: [(&[&str], usize); 5] = [
     (&["d"], 3),
     (&["e"], 2),
@@ -101,7 +103,7 @@ static BROUGHT: [(&[&str], usize); 5] = [
 ];
 
 fn take_live(alloc: Global, log: &mut Log, ids: &[&str]) -> Option<usize> {
-    for id in ["e", "f", "g"] {
+    for id in &HELD {
         hold(alloc, log, id)?;
     }
     take(alloc, log, ids)?;
