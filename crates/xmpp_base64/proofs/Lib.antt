@@ -1,0 +1,4 @@
+pub mod DecodedBytes
+pub mod Judged
+pub mod Runs
+mod Worked
