@@ -1,1 +1,2 @@
 pub mod BadFields
+pub mod PayloadTexts

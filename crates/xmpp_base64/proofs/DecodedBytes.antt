@@ -9,10 +9,10 @@ use Rattle.base64.specs.GeneralPurpose.{IsBytes, decode_of, decoded_bytes_of}
 use Rattle.base64.specs.declared.decode.DecodeError.{DecodeError}
 use Rattle.base64.specs.declared.engine.general_purpose.GeneralPurpose.{GeneralPurpose}
 
-no_bytes : IsBytes []
+pub no_bytes : IsBytes []
 no_bytes i = omega arith
 
-bytes_behind : (a b : List ℕ) → IsBytes a → IsBytes b → IsBytes (a ++ b)
+pub bytes_behind : (a b : List ℕ) → IsBytes a → IsBytes b → IsBytes (a ++ b)
 bytes_behind [] b front behind i = behind i
 bytes_behind (x ∷ a) b front behind zero = front 0
 bytes_behind (x ∷ a) b front behind (suc i) = bytes_behind a b (λ k. front (suc k)) behind i
