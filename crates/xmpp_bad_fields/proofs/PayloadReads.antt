@@ -11,7 +11,7 @@ use Rattle.xmpp_bad_fields.specs.BadFields.{is_bad}
 use Rattle.xmpp_bad_fields.specs.PayloadTexts.{as_base64, payload_behind, payload_goes_on, payload_may_end}
 use Rattle.xmpp_bad_fields.specs.declared.payload.PayloadText.{PayloadText}
 use Rattle.xmpp_bad_fields.specs.declared.payload.PayloadText.TheVariants.{Empty, Equals, Neither}
-use Rattle.xmpp_base64.proofs.DecodedBytes.{bytes_behind}
+use Rattle.xmpp_base64.proofs.ByteLists.{IsBytes-append}
 use Rattle.xmpp_base64.proofs.Judged.{accepted_is_decoded}
 use Rattle.xmpp_base64.specs.Canonical.{is_base64}
 use Rattle.xmpp_base64.specs.Reading.{base64_behind, base64_goes_on, is_accepted, is_at_end}
@@ -96,15 +96,21 @@ node_texts nodes i node lt is =
     let ahead : drop i nodes ≡ node ∷ drop (i + 1) nodes = drop_more nodes i node lt ∙ ap (λ n. n ∷ drop (i + 1) nodes) (sym is) in
     ap (λ ns. text_of (nodes_view ns)) ahead ∙ text_of-joined (node_view node) (nodes_view (drop (i + 1) nodes))
 
-pub node_read : (p : PayloadText) (nodes : List Node) (i : ℕ) (node : Node) → i < length nodes → node ≡ get_or nodes i node
-    → payload_behind (payload_behind p (text_of (node_view node))) (text_of (nodes_view (drop (i + 1) nodes))) ≡ payload_behind p (text_of (nodes_view (drop i nodes)))
-node_read p nodes i node lt is =
-    sym (behind_append p (text_of (node_view node)) (text_of (nodes_view (drop (i + 1) nodes)))) ∙ sym (ap (payload_behind p) (node_texts nodes i node lt is))
+-- the texts ahead, behind those so far, where this is a node's text
+pub node_read : (p q : PayloadText) (t : List ℕ) (nodes : List Node) (i : ℕ) (node : Node) → i < length nodes → node ≡ get_or nodes i node → text_of (node_view node) ≡ t → q ≡ payload_behind p t
+    → payload_behind q (text_of (nodes_view (drop (i + 1) nodes))) ≡ payload_behind p (text_of (nodes_view (drop i nodes)))
+node_read p q t nodes i node lt is here next =
+    let ahead = text_of (nodes_view (drop (i + 1) nodes)) in
+    ap (λ s. payload_behind s ahead) next
+    ∙ sym (behind_append p t ahead)
+    ∙ ap (λ s. payload_behind p (s ++ ahead)) (sym here)
+    ∙ sym (ap (payload_behind p) (node_texts nodes i node lt is))
 
-pub node_bytes : (nodes : List Node) (i : ℕ) (node : Node) → i < length nodes → node ≡ get_or nodes i node
-    → IsBytes (text_of (node_view node)) → IsBytes (text_of (nodes_view (drop (i + 1) nodes))) → IsBytes (text_of (nodes_view (drop i nodes)))
-node_bytes nodes i node lt is here ahead =
-    subst IsBytes (sym (node_texts nodes i node lt is)) (bytes_behind (text_of (node_view node)) (text_of (nodes_view (drop (i + 1) nodes))) here ahead)
+pub node_bytes : (t : List ℕ) (nodes : List Node) (i : ℕ) (node : Node) → i < length nodes → node ≡ get_or nodes i node → text_of (node_view node) ≡ t → IsBytes t
+    → IsBytes (text_of (nodes_view (drop (i + 1) nodes))) → IsBytes (text_of (nodes_view (drop i nodes)))
+node_bytes t nodes i node lt is here fits ahead =
+    subst IsBytes (sym (node_texts nodes i node lt is))
+    (IsBytes-append (text_of (node_view node)) (text_of (nodes_view (drop (i + 1) nodes))) (subst IsBytes (sym here) fits) ahead)
 
 -- ---- auth
 

@@ -1,11 +1,10 @@
 //! The text of a payload of SASL's elements (RFC 6120, section 6.4), judged where it lies, in one piece or in many.
 ghost use Rattle.std.specs.Prelude.{◌≡◌};
-ghost use Rattle.base64.specs.GeneralPurpose.{IsBytes};
 ghost use Rattle.xmpp_bad_fields.specs.BadFields.{is_bad};
 ghost use Rattle.xmpp_bad_fields.specs.PayloadTexts.{payload_behind, payload_goes_on, payload_may_end};
 ghost use Rattle.xmpp_sasl.specs.Readings.{payload_read};
 ghost use Rattle.xmpp_trees.specs.Readers.{text_of};
-ghost use Rattle.xmpp_trees.specs.Views.{node_view, nodes_view};
+ghost use Rattle.xmpp_trees.specs.Views.{nodes_view};
 
 use xmpp_base64::Base64Text;
 use xmpp_trees::Node;
@@ -38,25 +37,13 @@ impl PayloadText {
 
     /// The text with these bytes more.
     fn followed_by_all(self, bytes: &[u8]) -> PayloadText
-        ensures text { result ≡ payload_behind self bytes.now }
-        ensures bytes { IsBytes bytes.now }
+        ensures { result ≡ payload_behind self bytes.now }
     {
         let mut payload = self;
         for byte in bytes {
             payload = payload.followed_by(*byte);
         }
         payload
-    }
-
-    /// The text with that of a node more, which an element has none of.
-    fn followed_by_node(self, node: &Node) -> PayloadText
-        ensures text { result ≡ payload_behind self (text_of (node_view node.now)) }
-        ensures bytes { IsBytes (text_of (node_view node.now)) }
-    {
-        match node {
-            Node::Text(text) => self.followed_by_all(text.as_str().as_bytes()),
-            Node::Child(_) => self,
-        }
     }
 
     /// Whether a payload may end here.
@@ -78,7 +65,9 @@ pub(crate) fn has_bad_text(nodes: &[Node]) -> bool
 {
     let mut payload = PayloadText::Empty;
     for node in nodes {
-        payload = payload.followed_by_node(node);
+        if let Node::Text(text) = node {
+            payload = payload.followed_by_all(text.as_str().as_bytes());
+        }
     }
     !payload.is_complete()
 }

@@ -1,4 +1,6 @@
+pub mod ByteLists
 pub mod DecodedBytes
 pub mod Judged
 pub mod Runs
+pub mod TextBytes
 mod Worked

@@ -6,6 +6,7 @@ use Rattle.base64.specs.Engines.{standard}
 use Rattle.base64.specs.GeneralPurpose.{IsBytes, encode_of}
 use Rattle.base64.specs.Rfc4648.{encode_symbols}
 use Rattle.base64.proofs.EngineFacts.{encode_of-append, encode_of-nil}
+use Rattle.xmpp_base64.proofs.ByteLists.{IsBytes-cons, IsBytes-nil}
 use Rattle.xmpp_base64.specs.Canonical.{IsBase64}
 use Rattle.xmpp_base64.specs.Reading.{base64_behind, base64_goes_on, base64_may_end, is_within, sextet}
 use Rattle.xmpp_base64.specs.declared.text.Base64Text.{Base64Text}
@@ -155,15 +156,6 @@ three_run v0 v1 v2 l0 l1 l2 zero_bits =
     ∙ step One (Two (v1 % 16 == 0)) (symbol v1) (symbol v2 ∷ 61 ∷ []) (one_on v1 l1)
     ∙ step (Two (v1 % 16 == 0)) (Three (v2 % 4 == 0)) (symbol v2) (61 ∷ []) (two_on (v1 % 16 == 0) v2 l2)
     ∙ three_pads (v2 % 4 == 0) (eq-eqb (v2 % 4) 0 zero_bits)
-
--- ---- bytes
-
-IsBytes-nil : IsBytes []
-IsBytes-nil i = omega arith
-
-IsBytes-cons : (x : ℕ) (bytes : List ℕ) → x < 256 → IsBytes bytes → IsBytes (x ∷ bytes)
-IsBytes-cons x bytes lt fits zero = lt
-IsBytes-cons x bytes lt fits (suc i) = fits i
 
 -- ---- texts of bytes
 
