@@ -4,7 +4,7 @@ use Rattle.base64.proofs.OnLiterals.{base64_on_literals}
 use Rattle.xmpp_bad_fields.specs.BadFields.{has_bad_field, has_bad_sasl_field}
 use Rattle.xmpp_payload.specs.Names.{management, sasl}
 use Rattle.xmpp_sasl.specs.Readings.{payload_read}
-use Rattle.xmpp_trees.specs.Attributes.{Attribute, attribute}
+use Rattle.xmpp_trees.specs.Attributes.{attribute}
 use Rattle.xmpp_trees.specs.Trees.{Elem, Nodes, child, element, no_nodes, text}
 
 abbrev named : List ℕ → Nodes → Elem
