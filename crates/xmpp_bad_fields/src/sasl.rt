@@ -23,7 +23,7 @@ pub fn has_bad_sasl_field(element: &Element) -> bool
 }
 
 // Whether it is an `auth` without a mechanism or with a bad payload.
-#[tactic(auto, using(crate::proofs::PayloadReads::auth_bad), unfolding(xmpp_payload::specs::Names::sasl))]
+#[tactic(auto, using(crate::proofs::PayloadRuns::auth_bad), unfolding(xmpp_payload::specs::Names::sasl))]
 fn has_bad_auth(element: &Element) -> bool
     ensures { result ≡ is_bad (auth_read (elem_view element.now)) }
 {

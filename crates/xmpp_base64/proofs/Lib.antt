@@ -1,6 +1,10 @@
-pub mod ByteLists
-pub mod DecodedBytes
-pub mod Judged
-pub mod Runs
-pub mod TextBytes
+-- laws
+pub mod AcceptedLaws
+-- inductions over a text
+pub mod DecodedRuns
+pub mod GroupRuns
+pub mod TextRuns
+-- steps
+pub mod ByteSteps
+-- worked values
 mod Worked

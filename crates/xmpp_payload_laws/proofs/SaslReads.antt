@@ -7,7 +7,7 @@ use Rattle.base64.proofs.OnLiterals.{base64_on_literals}
 use Rattle.base64.specs.Engines.{standard}
 use Rattle.base64.specs.GeneralPurpose.{IsBytes, decode_of}
 use Rattle.base64.specs.declared.decode.DecodeError.{DecodeError}
-use Rattle.xmpp_base64.proofs.DecodedBytes.{decoded_are_bytes}
+use Rattle.xmpp_base64.proofs.DecodedRuns.{decoded_are_bytes}
 use Rattle.xmpp_payload.proofs.FaultLemmas.{for_memory, one_field, same_inside, some_is_there}
 use Rattle.xmpp_payload.specs.Faults.{LacksNothing}
 use Rattle.xmpp_payload.specs.Names.{sasl}

@@ -7,7 +7,7 @@ use Rattle.xmpp_scram.specs.Classes.{is_printable}
 use Rattle.xmpp_scram.specs.Grammar.{is_nonce}
 use Rattle.xmpp_scram.proofs.Base64.{length_of}
 use Rattle.base64.proofs.EngineFacts.{encode_of-nil}
-use Rattle.xmpp_base64.proofs.Runs.{below, more_text, one_text, symbol, two_text}
+use Rattle.xmpp_base64.proofs.GroupRuns.{below, more_text, one_text, symbol, two_text}
 
 -- each byte of a base64 text may stand in a nonce
 

@@ -15,7 +15,7 @@ use Rattle.xmpp_scram.specs.declared.classes.Class.TheVariants.{Printable, Bindi
 use Rattle.xmpp_scram.specs.declared.classes.Count.{Count}
 use Rattle.xmpp_scram.specs.declared.classes.Count.TheVariants as count
 use Rattle.xmpp_scram.specs.declared.classes.OneOrMore.{OneOrMore}
-use Rattle.xmpp_base64.proofs.Runs.{encoded_whole, whole_encoded}
+use Rattle.xmpp_base64.proofs.GroupRuns.{encoded_whole, whole_encoded}
 use Rattle.xmpp_basis.proofs.Options.{option_cases}
 use Rattle.xmpp_scram.proofs.Runs.{Stops, behind, behind_first, behind_step}
 use Rattle.xmpp_scram.proofs.Sequences.{IsPart, run_part}

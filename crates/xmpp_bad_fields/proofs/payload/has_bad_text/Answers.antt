@@ -1,11 +1,11 @@
 use Rattle.std.proofs.Common.{◌≡◌, ◌∙◌, not, [], drop, sym, ap, subst, arith, rules}
 use Rattle.std.proofs.lemmas.List.{drop_all}
 use Rattle.base64.specs.GeneralPurpose.{IsBytes}
-use Rattle.xmpp_base64.proofs.ByteLists.{IsBytes-nil}
+use Rattle.xmpp_base64.proofs.ByteSteps.{IsBytes-nil}
 use Rattle.xmpp_bad_fields.specs.PayloadTexts.{payload_behind, payload_may_end}
 use Rattle.xmpp_bad_fields.specs.declared.payload.PayloadText.TheVariants.{Empty}
-use Rattle.xmpp_base64.proofs.TextBytes.{IsBytes-from_utf8}
-use Rattle.xmpp_bad_fields.proofs.PayloadReads.{node_bytes, node_read, text_bad}
+use Rattle.xmpp_base64.proofs.TextRuns.{IsBytes-from_utf8}
+use Rattle.xmpp_bad_fields.proofs.PayloadRuns.{node_bytes, node_read, text_bad}
 use Rattle.xmpp_bad_fields.proofs.payload.has_bad_text.Goals as goal
 use Rattle.xmpp_bad_fields.proofs.payload.has_bad_text.Goals.{in-Text, in_default}
 use Rattle.xmpp_trees.specs.declared.elements.Node.{the_lemmas}

@@ -1,4 +1,4 @@
-use Rattle.xmpp_base64.proofs.Judged.{accepted_is_base64, accepted_is_decoded, behind_append}
+use Rattle.xmpp_base64.proofs.AcceptedLaws.{accepted_is_base64, accepted_is_decoded, behind_append}
 use Rattle.xmpp_base64.proofs.laws.base64_is_read_exactly.Goals as goal
 
 pub returns-clause-canonical : goal.returns-clause-canonical

@@ -1,6 +1,6 @@
 use Rattle.std.proofs.Common.{◌≡◌, ◌∙◌, false, sym, arith, rules}
 use Rattle.xmpp_base64.specs.Reading.{is_accepted}
-use Rattle.xmpp_base64.proofs.Judged.{accepted_is_decoded}
+use Rattle.xmpp_base64.proofs.AcceptedLaws.{accepted_is_decoded}
 use Rattle.xmpp_base64.proofs.text.is_base64.Goals as goal
 
 pub returns-in-Some : goal.returns-in-Some

@@ -11,8 +11,8 @@ use Rattle.xmpp_bad_fields.specs.BadFields.{is_bad}
 use Rattle.xmpp_bad_fields.specs.PayloadTexts.{as_base64, payload_behind, payload_goes_on, payload_may_end}
 use Rattle.xmpp_bad_fields.specs.declared.payload.PayloadText.{PayloadText}
 use Rattle.xmpp_bad_fields.specs.declared.payload.PayloadText.TheVariants.{Empty, Equals, Neither}
-use Rattle.xmpp_base64.proofs.ByteLists.{IsBytes-append}
-use Rattle.xmpp_base64.proofs.Judged.{accepted_is_decoded}
+use Rattle.xmpp_base64.proofs.ByteSteps.{IsBytes-append}
+use Rattle.xmpp_base64.proofs.AcceptedLaws.{accepted_is_decoded}
 use Rattle.xmpp_base64.specs.Canonical.{is_base64}
 use Rattle.xmpp_base64.specs.Reading.{base64_behind, base64_goes_on, is_accepted, is_at_end}
 use Rattle.xmpp_base64.specs.declared.text.Base64Text.{Base64Text}

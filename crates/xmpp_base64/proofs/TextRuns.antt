@@ -3,7 +3,7 @@ use Rattle.std.proofs.Common.{◌≡◌, ℕ, ◌+◌, ◌/◌, ◌%◌, ◌<◌
 use Rattle.std.proofs.lemmas.Bool.{and_parts, cases_lt, ltb-true}
 use Rattle.std.specs.Str.{IsUtf8}
 use Rattle.base64.specs.GeneralPurpose.{IsBytes}
-use Rattle.xmpp_base64.proofs.ByteLists.{IsBytes-append, IsBytes-cons, IsBytes-nil}
+use Rattle.xmpp_base64.proofs.ByteSteps.{IsBytes-append, IsBytes-cons, IsBytes-nil}
 use Rattle.xmpp_basis.proofs.Conditions.{chosen}
 use lib.Utf8.{encode, encodes, next, scalar, scalars}
 

@@ -5,8 +5,8 @@ use Rattle.base64.proofs.EngineFacts.{decode_of-encode_of, decode_of_strict}
 use Rattle.base64.specs.Engines.{standard}
 use Rattle.base64.specs.GeneralPurpose.{IsBytes, decode_of, encode_of}
 use Rattle.base64.specs.declared.decode.DecodeError.{DecodeError}
-use Rattle.xmpp_base64.proofs.DecodedBytes.{decoded_are_bytes}
-use Rattle.xmpp_base64.proofs.Runs.{IsWhole, encoded_whole, whole_encoded}
+use Rattle.xmpp_base64.proofs.DecodedRuns.{decoded_are_bytes}
+use Rattle.xmpp_base64.proofs.GroupRuns.{IsWhole, encoded_whole, whole_encoded}
 use Rattle.xmpp_base64.specs.Canonical.{IsBase64, is_base64}
 use Rattle.xmpp_base64.specs.Reading.{base64_behind, base64_goes_on, base64_may_end, is_accepted, is_at_end}
 use Rattle.xmpp_base64.specs.declared.text.Base64Text.{Base64Text}

@@ -8,7 +8,7 @@ use Rattle.base64.specs.Decode.{IsDecodeTable, decode_error, decode_group, decod
 use Rattle.base64.specs.GeneralPurpose.{IsBytes, decode_of, decoded_bytes_of}
 use Rattle.base64.specs.declared.decode.DecodeError.{DecodeError}
 use Rattle.base64.specs.declared.engine.general_purpose.GeneralPurpose.{GeneralPurpose}
-use Rattle.xmpp_base64.proofs.ByteLists.{IsBytes-append, IsBytes-nil}
+use Rattle.xmpp_base64.proofs.ByteSteps.{IsBytes-append, IsBytes-nil}
 
 bytes_dropped : (n : ℕ) (s : List ℕ) → IsBytes s → IsBytes (drop n s)
 bytes_dropped n s bytes i = rw (get_or-drop n s i 0) (bytes (n + i))

@@ -6,7 +6,7 @@ use Rattle.base64.specs.Engines.{standard}
 use Rattle.base64.specs.GeneralPurpose.{IsBytes, encode_of}
 use Rattle.base64.specs.Rfc4648.{encode_symbols}
 use Rattle.base64.proofs.EngineFacts.{encode_of-append, encode_of-nil}
-use Rattle.xmpp_base64.proofs.ByteLists.{IsBytes-cons, IsBytes-nil}
+use Rattle.xmpp_base64.proofs.ByteSteps.{IsBytes-cons, IsBytes-nil}
 use Rattle.xmpp_base64.specs.Canonical.{IsBase64}
 use Rattle.xmpp_base64.specs.Reading.{base64_behind, base64_goes_on, base64_may_end, is_within, sextet}
 use Rattle.xmpp_base64.specs.declared.text.Base64Text.{Base64Text}
