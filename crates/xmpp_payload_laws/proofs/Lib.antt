@@ -1,7 +1,6 @@
 -- whatever the payload
 pub mod Judged
 -- what base64 decodes to
-pub mod DecodedBytes
 -- each payload
 pub mod IdReads
 pub mod ManagementReads

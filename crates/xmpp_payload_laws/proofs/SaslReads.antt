@@ -7,6 +7,7 @@ use Rattle.base64.proofs.OnLiterals.{base64_on_literals}
 use Rattle.base64.specs.Engines.{standard}
 use Rattle.base64.specs.GeneralPurpose.{IsBytes, decode_of}
 use Rattle.base64.specs.declared.decode.DecodeError.{DecodeError}
+use Rattle.xmpp_base64.proofs.DecodedRuns.{decoded_are_bytes}
 use Rattle.xmpp_payload.proofs.FaultLemmas.{for_memory, one_field, same_inside, some_is_there}
 use Rattle.xmpp_payload.specs.Faults.{LacksNothing}
 use Rattle.xmpp_payload.specs.Names.{sasl}
@@ -15,7 +16,6 @@ use Rattle.xmpp_payload.specs.declared.fault.ExtFault.{ExtFault}
 use Rattle.xmpp_payload.specs.declared.fault.ExtFault.TheVariants.{NotThis, Bad, NoMemory}
 use Rattle.xmpp_payload.specs.declared.fault.Field.{Field}
 use Rattle.xmpp_payload.specs.declared.fault.Field.TheVariants as field
-use Rattle.xmpp_payload_laws.proofs.DecodedBytes.{decoded_are_bytes}
 use Rattle.xmpp_payload_laws.proofs.Judged.{Fits, answers, there}
 use Rattle.xmpp_payload_laws.proofs.ManagementReads.{bare_answers}
 use Rattle.xmpp_payload_laws.proofs.ManagementWritten.{unlike_text}

@@ -12,7 +12,8 @@ use Rattle.base64.specs.declared.decode.DecodeSliceError.{DecodeSliceError}
 use Rattle.base64.specs.declared.decode.DecodeSliceError.TheVariants.{OutputSliceTooSmall as too_small}
 use Rattle.base64.proofs.EngineFacts.{decode_of-encode_of}
 use Rattle.base64.proofs.RoundTrip.{length-encode_symbols}
-use Rattle.xmpp_scram.specs.Values.{IsBase64, base64_bytes, hash_of}
+use Rattle.xmpp_base64.specs.Canonical.{IsBase64}
+use Rattle.xmpp_scram.specs.Values.{base64_bytes, hash_of}
 
 outcome_ok : (e : Option DecodeError) (b v : List ℕ) → decode_outcome e b ≡ Ok v → (e ≡ None) × (b ≡ v)
 outcome_ok None b v h = (refl, cc h)

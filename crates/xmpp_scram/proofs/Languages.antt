@@ -1,20 +1,22 @@
 -- What is read as a nonce, as the name of a channel binding, as a count and as a base64 text.
-use Rattle.std.proofs.Common.{◌≡◌, ℕ, Bool, true, false, List, [], ◌∷◌, Some, None, refl, ◌∙◌}
+use Rattle.std.proofs.Common.{◌≡◌, ℕ, Bool, true, false, List, [], ◌∷◌, Some, None, refl, sym, ap, ◌∙◌, inl, inr}
 use Rattle.std.proofs.lemmas.Bool.{and_parts}
 use Rattle.std.specs.List.{list_all}
 use Rattle.xmpp_scram.specs.Classes.{is_count_start, is_digit}
 use Rattle.xmpp_scram.specs.Grammar.{are_some, is_count}
 use Rattle.xmpp_scram.specs.Parts.{run}
-use Rattle.xmpp_scram.specs.States.{class_goes_on, class_may_end, count_goes_on, count_may_end, group_goes_on, group_may_end, is_of}
-use Rattle.xmpp_scram.specs.Values.{IsBase64}
-use Rattle.xmpp_scram.specs.declared.base64_text.Group.{Group}
-use Rattle.xmpp_scram.specs.declared.base64_text.Group.TheVariants.{Whole, One, Two, Three, Padding, Padded}
+use Rattle.xmpp_scram.specs.States.{class_goes_on, class_may_end, count_goes_on, count_may_end, is_of}
+use Rattle.xmpp_base64.specs.Canonical.{IsBase64}
+use Rattle.xmpp_base64.specs.Reading.{base64_behind, base64_goes_on, base64_may_end}
+use Rattle.xmpp_base64.specs.declared.text.Base64Text.{Base64Text}
+use Rattle.xmpp_base64.specs.declared.text.Base64Text.TheVariants.{Whole, One, Two, Three, Padding, Padded}
 use Rattle.xmpp_scram.specs.declared.classes.Class.{Class}
 use Rattle.xmpp_scram.specs.declared.classes.Class.TheVariants.{Printable, Binding}
 use Rattle.xmpp_scram.specs.declared.classes.Count.{Count}
 use Rattle.xmpp_scram.specs.declared.classes.Count.TheVariants as count
 use Rattle.xmpp_scram.specs.declared.classes.OneOrMore.{OneOrMore}
-use Rattle.xmpp_scram.proofs.Base64Runs.{encoded_whole, whole_encoded}
+use Rattle.xmpp_base64.proofs.GroupRuns.{encoded_whole, whole_encoded}
+use Rattle.xmpp_basis.proofs.Options.{option_cases}
 use Rattle.xmpp_scram.proofs.Runs.{Stops, behind, behind_first, behind_step}
 use Rattle.xmpp_scram.proofs.Sequences.{IsPart, run_part}
 use Rattle.xmpp_scram.proofs.PassedTests.{if_some}
@@ -125,27 +127,41 @@ count_part = run_part count_goes_on count_may_end count.Start (λ part. is_count
 
 -- ---- base64
 
-group_only : (part : List ℕ) → IsBase64 part → (t : Group) × (behind group_goes_on group_may_end Whole part ≡ Some t) × (group_may_end t ≡ true)
-group_only part b = rw b.2 (encoded_whole b.0 b.1)
+-- the state behind bytes, as `xmpp_base64` has it
+as_behind : (s : Base64Text) (bytes : List ℕ) → behind base64_goes_on base64_may_end s bytes ≡ base64_behind s bytes
+as_behind s [] = refl
+as_behind s (b ∷ bytes) =
+    elim (option_cases (base64_goes_on s b)) [
+      | inl none ↦ rw none refl
+      | inr some ↦ rw some.1 (as_behind some.0 bytes)
+    ]
 
-group_goes : (t : Group) → (more : List ℕ) × (u : Group) × (behind group_goes_on group_may_end t more ≡ Some u) × (group_may_end u ≡ true)
-group_goes Whole = ([], Whole, refl, refl)
-group_goes One = (65 ∷ 65 ∷ 65 ∷ [], Whole, refl, refl)
-group_goes (Two true) = (65 ∷ 65 ∷ [], Whole, refl, refl)
-group_goes (Two false) = (65 ∷ 65 ∷ [], Whole, refl, refl)
-group_goes (Three true) = (65 ∷ [], Whole, refl, refl)
-group_goes (Three false) = (65 ∷ [], Whole, refl, refl)
-group_goes Padding = (61 ∷ [], Padded, refl, refl)
-group_goes Padded = ([], Padded, refl, refl)
+base64_found : (part : List ℕ) (t : Base64Text) → behind base64_goes_on base64_may_end Whole part ≡ Some t → base64_may_end t ≡ true → IsBase64 part
+base64_found part t h e = whole_encoded part t (sym (as_behind Whole part) ∙ h) e
 
-group_stops : (t : Group) (rest : List ℕ) → group_may_end t ≡ true → Closed rest → Stops group_goes_on group_may_end t rest
-group_stops t [] e closed = tt
-group_stops Whole (b ∷ rest) e closed = rw closed refl
-group_stops Padded (b ∷ rest) e closed = refl
-group_stops One (b ∷ rest) e closed = cc e
-group_stops (Two z) (b ∷ rest) e closed = cc e
-group_stops (Three z) (b ∷ rest) e closed = cc e
-group_stops Padding (b ∷ rest) e closed = cc e
+base64_only : (part : List ℕ) → IsBase64 part → (t : Base64Text) × (behind base64_goes_on base64_may_end Whole part ≡ Some t) × (base64_may_end t ≡ true)
+base64_only part b =
+    let whole = encoded_whole b.0 b.1 in
+    (whole.0, as_behind Whole part ∙ ap (base64_behind Whole) b.2 ∙ whole.1, whole.2)
 
-pub group_part : IsPart (run group_goes_on group_may_end Whole) (λ text part. (text ≡ part) × IsBase64 part) Closed
-group_part = run_part group_goes_on group_may_end Whole IsBase64 Closed whole_encoded group_only group_goes group_stops
+base64_goes : (t : Base64Text) → (more : List ℕ) × (u : Base64Text) × (behind base64_goes_on base64_may_end t more ≡ Some u) × (base64_may_end u ≡ true)
+base64_goes Whole = ([], Whole, refl, refl)
+base64_goes One = (65 ∷ 65 ∷ 65 ∷ [], Whole, refl, refl)
+base64_goes (Two true) = (65 ∷ 65 ∷ [], Whole, refl, refl)
+base64_goes (Two false) = (65 ∷ 65 ∷ [], Whole, refl, refl)
+base64_goes (Three true) = (65 ∷ [], Whole, refl, refl)
+base64_goes (Three false) = (65 ∷ [], Whole, refl, refl)
+base64_goes Padding = (61 ∷ [], Padded, refl, refl)
+base64_goes Padded = ([], Padded, refl, refl)
+
+base64_stops : (t : Base64Text) (rest : List ℕ) → base64_may_end t ≡ true → Closed rest → Stops base64_goes_on base64_may_end t rest
+base64_stops t [] e closed = tt
+base64_stops Whole (b ∷ rest) e closed = rw closed refl
+base64_stops Padded (b ∷ rest) e closed = refl
+base64_stops One (b ∷ rest) e closed = cc e
+base64_stops (Two z) (b ∷ rest) e closed = cc e
+base64_stops (Three z) (b ∷ rest) e closed = cc e
+base64_stops Padding (b ∷ rest) e closed = cc e
+
+pub base64_part : IsPart (run base64_goes_on base64_may_end Whole) (λ text part. (text ≡ part) × IsBase64 part) Closed
+base64_part = run_part base64_goes_on base64_may_end Whole IsBase64 Closed base64_found base64_only base64_goes base64_stops

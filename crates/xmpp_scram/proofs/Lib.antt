@@ -1,5 +1,4 @@
 pub mod Base64
-pub mod Base64Runs
 pub mod Characters
 pub mod Choices
 pub mod Counts

@@ -12,7 +12,8 @@ use Rattle.base64.proofs.EngineFacts.{encode_of-nil}
 use Rattle.xmpp_scram.specs.Grammar.{IsClientFinal, IsServerFinal, IsServerFirst, IsValue, gs2_header, is_count}
 use Rattle.xmpp_scram.specs.Messages.{ClientFinalParts, ServerFirstParts, base64, before_proof, client_final_parts, count, error_part, extensions, gs2_base64, nonce, server_final_parts, server_first_parts, up_to_proof, value_and_extensions, verifier_part}
 use Rattle.xmpp_scram.specs.Parts.{◌>>=◌, ends_here, literal}
-use Rattle.xmpp_scram.specs.Values.{IsBase64, value_of}
+use Rattle.xmpp_base64.specs.Canonical.{IsBase64}
+use Rattle.xmpp_scram.specs.Values.{value_of}
 use Rattle.xmpp_scram.specs.declared.binding_flag.BindingFlag.{BindingFlag}
 use Rattle.xmpp_scram.specs.declared.binding_flag.BindingFlag.TheVariants.{Unsupported, NotOffered}
 use Rattle.xmpp_scram.specs.declared.classes.Class.TheVariants.{Printable}
@@ -21,7 +22,7 @@ use Rattle.xmpp_scram.proofs.Characters.{one_more}
 use Rattle.xmpp_scram.proofs.Choices.{Lacks, chosen_by, chosen_reads}
 use Rattle.xmpp_scram.proofs.ExtensionRuns.{Goal, Whole, proof_part, values_part}
 use Rattle.xmpp_scram.proofs.FirstMessages.{Nonce, Tail, some_tail, tail_closed, tail_reads}
-use Rattle.xmpp_scram.proofs.Languages.{Closed, class_part, count_part, group_part}
+use Rattle.xmpp_scram.proofs.Languages.{Closed, class_part, count_part, base64_part}
 use Rattle.xmpp_scram.proofs.Sequences.{After, IsEnd, Reads, Then, after_word, anything, at_end, same_reads, sequence}
 
 abbrev Based : List ℕ → List ℕ → Type 0
@@ -59,7 +60,7 @@ salt_reads : (random : List ℕ)
     → Reads (λ bytes. base64 bytes >>= λ salt. literal (codes ",i=") salt.1 >>= λ counts. count counts >>= λ c. extensions c.1 >>= λ x. ends_here x.1 >>= λ end. Ok (counted random salt.0 c.0)) (SaltTail random)
 salt_reads random =
     sequence base64 (λ salt bytes. literal (codes ",i=") bytes >>= λ counts. count counts >>= λ c. extensions c.1 >>= λ x. ends_here x.1 >>= λ end. Ok (counted random salt c.0)) Based
-    (λ salt. After (codes ",i=") (CountTail random salt)) Closed group_part
+    (λ salt. After (codes ",i=") (CountTail random salt)) Closed base64_part
     (λ salt. after_word (codes ",i=") (λ bytes. count bytes >>= λ c. extensions c.1 >>= λ x. ends_here x.1 >>= λ end. Ok (counted random salt c.0)) (CountTail random salt) (count_reads random salt) (some_count random salt))
     (λ salt v rest w. rw w.1 refl) (λ salt. some_counted random salt)
 
@@ -170,7 +171,7 @@ end_closed {V} v w rest is = rw is.1 tt
 
 proof_reads : (random : List ℕ) → Reads (λ bytes. base64 bytes >>= λ p. ends_here p.1 >>= λ end. Ok (proved random p.0)) (ProofTail random)
 proof_reads random =
-    sequence base64 (λ proof bytes. ends_here bytes >>= λ end. Ok (proved random proof)) Based (λ proof. IsEnd (proved random proof)) Closed group_part (λ proof. at_end (proved random proof))
+    sequence base64 (λ proof bytes. ends_here bytes >>= λ end. Ok (proved random proof)) Based (λ proof. IsEnd (proved random proof)) Closed base64_part (λ proof. at_end (proved random proof))
     (λ proof v rest is. end_closed (proved random proof) v rest is) (λ proof. (proved random proof, [], (refl, refl)))
 
 some_proof : (random : List ℕ) → (v : ClientFinalParts) × (rest : List ℕ) × ProofTail random v rest
@@ -339,7 +340,7 @@ verifier_rest bytes = base64 bytes >>= λ v. extensions v.1 >>= λ x. ends_here 
 
 verifier_rest_reads : Reads verifier_rest Verifier
 verifier_rest_reads =
-    sequence base64 (λ text bytes. extensions bytes >>= λ x. ends_here x.1 >>= λ end. Ok (Some text)) Based (λ text. Tail (Some text)) Closed group_part (λ text. tail_reads (Some text))
+    sequence base64 (λ text bytes. extensions bytes >>= λ x. ends_here x.1 >>= λ end. Ok (Some text)) Based (λ text. Tail (Some text)) Closed base64_part (λ text. tail_reads (Some text))
     (λ text v rest t. tail_closed (Some text) v rest t) (λ text. some_tail (Some text))
 
 some_verifier : (v : Option (List ℕ)) × (rest : List ℕ) × Verifier v rest

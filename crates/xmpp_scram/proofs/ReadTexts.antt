@@ -7,7 +7,8 @@ use Rattle.std.specs.Str.{IsUtf8}
 use Rattle.xmpp_scram.specs.Classes.{is_letter, is_printable, is_within}
 use Rattle.xmpp_scram.specs.Grammar.{AreExtensions, IsExtension, are_some, names_extension}
 use Rattle.xmpp_scram.specs.Messages.{ClientFinalParts, FirstParts, ServerFirstParts, client_final_parts, first_parts, server_final_parts, server_first_parts}
-use Rattle.xmpp_scram.specs.Values.{IsBase64, name_of}
+use Rattle.xmpp_base64.specs.Canonical.{IsBase64}
+use Rattle.xmpp_scram.specs.Values.{name_of}
 use Rattle.xmpp_scram.specs.declared.binding_flag.BindingFlag.{BindingFlag}
 use Rattle.xmpp_scram.specs.declared.values.Until.{Until}
 use Rattle.xmpp_scram.specs.declared.values.Until.TheVariants.{End, Proof}

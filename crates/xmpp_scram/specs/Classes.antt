@@ -1,5 +1,5 @@
--- Classes of bytes (RFC 5802, section 7; RFC 4648, section 4).
-use Rattle.std.specs.Prelude.{ℕ, ◌+◌, ◌-◌, ◌==◌, nat_le, Bool, ◌&&◌, ◌||◌, not, Option, Some, None, if◌then◌else◌}
+-- Classes of bytes (RFC 5802, section 7).
+use Rattle.std.specs.Prelude.{ℕ, ◌==◌, nat_le, Bool, ◌&&◌, ◌||◌, not}
 
 abbrev pub is_within : ℕ → ℕ → ℕ → Bool
 is_within low high b = nat_le low b && nat_le b high
@@ -25,13 +25,3 @@ is_binding b = is_letter b || is_digit b || b == 45 || b == 46
 -- the character of one byte that a value may have: any but 0 and the comma
 abbrev pub is_value_ascii : ℕ → Bool
 is_value_ascii b = is_within 1 127 b && not (b == 44)
-
--- the number of a base64 symbol
-abbrev pub sextet : ℕ → Option ℕ
-sextet b =
-    if is_within 65 90 b then Some (b - 65)
-    else (if is_within 97 122 b then Some (b - 71)
-    else (if is_within 48 57 b then Some (b + 4)
-    else (if b == 43 then Some 62
-    else (if b == 47 then Some 63
-    else None))))

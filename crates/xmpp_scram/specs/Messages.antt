@@ -2,14 +2,15 @@
 use Rattle.std.specs.Prelude.{ℕ, ◌-◌, ◌==◌, min, Bool, true, false, List, [], ◌∷◌, Option, Some, None, Result, Ok, Err, length, take, codes, if◌then◌else◌}
 use Rattle.xmpp_scram.specs.Places.{malformed}
 use Rattle.xmpp_scram.specs.Parts.{Cut, ◌>>=◌, run, literal, ends_here}
-use Rattle.xmpp_scram.specs.States.{class_goes_on, class_may_end, count_goes_on, count_may_end, name_goes_on, name_may_end, extensions_go_on, extensions_may_end, group_goes_on, group_may_end}
+use Rattle.xmpp_scram.specs.States.{class_goes_on, class_may_end, count_goes_on, count_may_end, name_goes_on, name_may_end, extensions_go_on, extensions_may_end}
 use Rattle.xmpp_scram.specs.Values.{name_of, value_of, most_told, base64_bytes, hash_of}
 use Rattle.xmpp_scram.specs.declared.classes.Class.TheVariants.{Printable, Binding}
 use Rattle.xmpp_scram.specs.declared.classes.Count.TheVariants as count_states
 use Rattle.xmpp_scram.specs.declared.names.Name.TheVariants as name_states
 use Rattle.xmpp_scram.specs.declared.values.Extensions.TheVariants.{Comma, First}
 use Rattle.xmpp_scram.specs.declared.values.Until.TheVariants.{End, Proof}
-use Rattle.xmpp_scram.specs.declared.base64_text.Group.TheVariants.{Whole}
+use Rattle.xmpp_base64.specs.Reading.{base64_goes_on, base64_may_end}
+use Rattle.xmpp_base64.specs.declared.text.Base64Text.TheVariants.{Whole}
 use Rattle.xmpp_scram.specs.declared.binding_flag.BindingFlag.{BindingFlag}
 use Rattle.xmpp_scram.specs.declared.binding_flag.BindingFlag.TheVariants.{Unsupported, NotOffered}
 use Rattle.xmpp_scram.specs.declared.client_first.ClientFirst.{ClientFirst}
@@ -28,7 +29,7 @@ abbrev pub saslname : List ℕ → Result Cut (List ℕ)
 saslname = run name_goes_on name_may_end name_states.Start
 
 abbrev pub base64 : List ℕ → Result Cut (List ℕ)
-base64 = run group_goes_on group_may_end Whole
+base64 = run base64_goes_on base64_may_end Whole
 
 abbrev pub count : List ℕ → Result Cut (List ℕ)
 count = run count_goes_on count_may_end count_states.Start

@@ -1,7 +1,7 @@
 -- What each part of a message may go on with, and where it may end.
-use Rattle.std.specs.Prelude.{ℕ, ◌%◌, ◌==◌, Bool, true, false, ◌&&◌, not, Option, Some, None, if◌then◌else◌}
+use Rattle.std.specs.Prelude.{ℕ, ◌==◌, Bool, true, false, ◌&&◌, not, Option, Some, None, if◌then◌else◌}
 use Rattle.std.specs.Option.{option_map}
-use Rattle.xmpp_scram.specs.Classes.{is_within, is_printable, is_letter, is_digit, is_count_start, is_binding, is_value_ascii, sextet}
+use Rattle.xmpp_scram.specs.Classes.{is_within, is_printable, is_letter, is_digit, is_count_start, is_binding, is_value_ascii}
 use Rattle.xmpp_scram.specs.declared.classes.OneOrMore.{OneOrMore}
 use Rattle.xmpp_scram.specs.declared.classes.Class.{Class}
 use Rattle.xmpp_scram.specs.declared.classes.Class.TheVariants.{Printable, Binding}
@@ -15,8 +15,6 @@ use Rattle.xmpp_scram.specs.declared.values.Extensions.{Extensions}
 use Rattle.xmpp_scram.specs.declared.values.Extensions.TheVariants as extensions
 use Rattle.xmpp_scram.specs.declared.names.Name.{Name}
 use Rattle.xmpp_scram.specs.declared.names.Name.TheVariants as name
-use Rattle.xmpp_scram.specs.declared.base64_text.Group.{Group}
-use Rattle.xmpp_scram.specs.declared.base64_text.Group.TheVariants as group
 
 -- a state, if the byte may stand there
 abbrev pub where_so : {S : Type 0} → Bool → S → Option S
@@ -118,19 +116,3 @@ extensions_may_end (extensions.Comma until) = is_end until
 extensions_may_end (extensions.Value until) = is_end until
 extensions_may_end extensions.ProofBegins = true
 extensions_may_end _ = false
-
--- canonical base64, in groups of four: before `=` the bits that are no byte's are 0
-abbrev pub group_goes_on : Group → ℕ → Option Group
-group_goes_on group.Whole b = option_map (λ v. group.One) (sextet b)
-group_goes_on group.One b = option_map (λ v. group.Two (v % 16 == 0)) (sextet b)
-group_goes_on (group.Two zero_bits) b =
-    if zero_bits && b == 61 then Some group.Padding else option_map (λ v. group.Three (v % 4 == 0)) (sextet b)
-group_goes_on (group.Three zero_bits) b =
-    if zero_bits && b == 61 then Some group.Padded else option_map (λ v. group.Whole) (sextet b)
-group_goes_on group.Padding b = where_so (b == 61) group.Padded
-group_goes_on group.Padded b = None
-
-abbrev pub group_may_end : Group → Bool
-group_may_end group.Whole = true
-group_may_end group.Padded = true
-group_may_end _ = false

@@ -1,7 +1,7 @@
 -- What the parts of a message stand for.
-use Rattle.std.specs.Prelude.{◌≡◌, ℕ, zero, suc, ◌+◌, ◌-◌, ◌*◌, ◌==◌, List, [], ◌∷◌, Option, Some, None, length, fold, if◌then◌else◌}
+use Rattle.std.specs.Prelude.{ℕ, zero, suc, ◌+◌, ◌-◌, ◌*◌, ◌==◌, List, [], ◌∷◌, Option, Some, None, length, fold, if◌then◌else◌}
 use Rattle.base64.specs.Engines.{standard}
-use Rattle.base64.specs.GeneralPurpose.{IsBytes, decoded_bytes_of, encode_of}
+use Rattle.base64.specs.GeneralPurpose.{decoded_bytes_of}
 
 -- a name as it is spelled, behind the first bytes of an escape of which so many are to come: `=2C` is a comma, `=3D`
 -- an equals sign
@@ -20,10 +20,6 @@ value_of digits = fold (λ value digit. value * 10 + (digit - 48)) 0 digits
 
 abbrev pub most_told : ℕ
 most_told = 4294967295
-
--- the text is the base64 of some bytes (RFC 4648, section 4)
-abbrev pub IsBase64 : List ℕ → Type 0
-IsBase64 text = (bytes : List ℕ) × IsBytes bytes × (text ≡ encode_of standard bytes)
 
 -- the bytes that a base64 text is the text of
 unfoldable pub base64_bytes : List ℕ → List ℕ

@@ -2,7 +2,8 @@
 ghost use Rattle.std.specs.Prelude.{◌≡◌, true, IfOk, IsSome, OnErr, OnOk};
 ghost use Rattle.xmpp_scram.specs.Exchange.{Judges, begun_client, check_of, expecting, replied, reply_of, reply_to, sent};
 ghost use Rattle.xmpp_scram.specs.Grammar.{is_nonce};
-ghost use Rattle.xmpp_scram.specs.Values.{IsBase64, base64_bytes};
+ghost use Rattle.xmpp_base64.specs.Canonical.{IsBase64};
+ghost use Rattle.xmpp_scram.specs.Values.{base64_bytes};
 ghost use Rattle.xmpp_hashes.specs.Hashes.{auth_message};
 
 use crate::contents::base64_bytes;

@@ -4,13 +4,13 @@ ghost use Rattle.xmpp_scram.specs.Messages.{before_proof, client_final_of, clien
 ghost use Rattle.xmpp_scram.specs.Parts.{Gives};
 ghost use Rattle.xmpp_scram.specs.Seen.{Refuses, client_final_seen, client_final_view};
 
-use crate::base64_text::Group;
 use crate::binding_flag::BindingFlag;
 use crate::classes::NONCE;
 use crate::contents::hash_of;
 use crate::fault::{ScramFault, malformed};
 use crate::parts::{Departure, end, literal, run};
 use crate::values::{Extensions, Until};
+use xmpp_base64::Base64Text;
 
 /// The client's final message (RFC 5802, section 7): all in front of `,p=`, the nonce, and the proof where it has 32
 /// bytes.
@@ -51,7 +51,7 @@ fn client_final_parts(
     let rest = literal(b",r=", rest)?;
     let (nonce, rest) = run(NONCE, rest)?;
     let (_, rest) = run(Extensions::Comma(Until::Proof), rest)?;
-    let (proof, rest) = run(Group::Whole, rest)?;
+    let (proof, rest) = run(Base64Text::new(), rest)?;
     end(rest)?;
     Ok(ClientFinalParts { nonce, proof })
 }

@@ -1,7 +1,8 @@
 //! What the parts of a message stand for.
 ghost use Rattle.std.specs.Prelude.{◌≡◌, min, IfOk};
 ghost use Rattle.std.specs.Str.{IsUtf8};
-ghost use Rattle.xmpp_scram.specs.Values.{base64_bytes, hash_of, most_told, name_of, value_of, IsBase64};
+ghost use Rattle.xmpp_base64.specs.Canonical.{IsBase64};
+ghost use Rattle.xmpp_scram.specs.Values.{base64_bytes, hash_of, most_told, name_of, value_of};
 
 use base64::DecodeAllocError;
 use base64::engine::general_purpose::STANDARD;

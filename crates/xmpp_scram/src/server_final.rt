@@ -4,11 +4,11 @@ ghost use Rattle.std.specs.Option.{option_map};
 ghost use Rattle.xmpp_scram.specs.Messages.{error_part, server_final_of, server_final_parts, verifier_part};
 ghost use Rattle.xmpp_scram.specs.Parts.{Gives};
 
-use crate::base64_text::Group;
 use crate::contents::hash_of;
 use crate::fault::{ScramFault, malformed};
 use crate::parts::{Departure, end, literal, run};
 use crate::values::{Extensions, Until};
+use xmpp_base64::Base64Text;
 
 /// The base64 of a verifier, behind `v`.
 #[tactic(auto, unfolding(crate::specs::Messages::verifier_part))]
@@ -16,7 +16,7 @@ fn verifier_part(bytes: &[u8]) -> Result<Option<&[u8]>, Departure<'_>>
     ensures { Gives (λ found. option_map (λ text. text.now) found) result (verifier_part bytes.now) }
 {
     let rest = literal(b"=", bytes)?;
-    let (verifier, rest) = run(Group::Whole, rest)?;
+    let (verifier, rest) = run(Base64Text::new(), rest)?;
     let (_, rest) = run(Extensions::Comma(Until::End), rest)?;
     end(rest)?;
     Ok(Some(verifier))

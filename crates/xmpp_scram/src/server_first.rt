@@ -3,14 +3,14 @@ ghost use Rattle.std.specs.Prelude.{◌≡◌, IfOk};
 ghost use Rattle.xmpp_scram.specs.Messages.{server_first_of, server_first_parts};
 ghost use Rattle.xmpp_scram.specs.Parts.{Gives};
 ghost use Rattle.xmpp_scram.specs.Seen.{Refuses, server_first_seen, server_first_view};
-ghost use Rattle.xmpp_scram.specs.Values.{IsBase64};
+ghost use Rattle.xmpp_base64.specs.Canonical.{IsBase64};
 
-use crate::base64_text::Group;
 use crate::classes::{Count, NONCE};
 use crate::contents::count_of;
 use crate::fault::{ScramFault, malformed};
 use crate::parts::{Departure, end, literal, run};
 use crate::values::{Extensions, Until};
+use xmpp_base64::Base64Text;
 
 /// The server's first message (RFC 5802, section 7): the nonce, the salt in base64, and the count; a count above
 /// 4,294,967,295 is given as that.
@@ -37,7 +37,7 @@ fn server_first_parts(bytes: &[u8]) -> Result<ServerFirstParts<'_>, Departure<'_
     let rest = literal(b"r=", bytes)?;
     let (nonce, rest) = run(NONCE, rest)?;
     let rest = literal(b",s=", rest)?;
-    let (salt, rest) = run(Group::Whole, rest)?;
+    let (salt, rest) = run(Base64Text::new(), rest)?;
     let rest = literal(b",i=", rest)?;
     let (count, rest) = run(Count::Start, rest)?;
     let (_, rest) = run(Extensions::Comma(Until::End), rest)?;

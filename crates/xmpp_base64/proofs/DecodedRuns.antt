@@ -1,5 +1,5 @@
 -- What base64 decodes to are bytes, where it was bytes.
-use Rattle.std.proofs.Common.{◌≡◌, ℕ, zero, suc, ◌+◌, ◌*◌, ◌<◌, List, [], ◌∷◌, ◌++◌, length, take, drop, slice_index, Option, Some, None, Result, Ok, Err, refl, sym, ap, ◌∙◌, subst, arith, inl, inr, ◌⊎◌}
+use Rattle.std.proofs.Common.{◌≡◌, ℕ, zero, suc, ◌+◌, ◌*◌, ◌<◌, List, [], ◌∷◌, length, take, drop, slice_index, Option, Some, None, Result, Ok, Err, refl, sym, ap, ◌∙◌, subst, arith, inl, inr, ◌⊎◌}
 use Rattle.std.proofs.lemmas.List.{get_or-drop, take-append-drop}
 use Rattle.base64.proofs.Decoding.{IsLeftover, IsLeftover_next, scan-cons_err, scan-cons_ok, scan-nil}
 use Rattle.base64.proofs.EngineFacts.{decode_of_bytes, front_bytes}
@@ -8,14 +8,7 @@ use Rattle.base64.specs.Decode.{IsDecodeTable, decode_error, decode_group, decod
 use Rattle.base64.specs.GeneralPurpose.{IsBytes, decode_of, decoded_bytes_of}
 use Rattle.base64.specs.declared.decode.DecodeError.{DecodeError}
 use Rattle.base64.specs.declared.engine.general_purpose.GeneralPurpose.{GeneralPurpose}
-
-no_bytes : IsBytes []
-no_bytes i = omega arith
-
-bytes_behind : (a b : List ℕ) → IsBytes a → IsBytes b → IsBytes (a ++ b)
-bytes_behind [] b front behind i = behind i
-bytes_behind (x ∷ a) b front behind zero = front 0
-bytes_behind (x ∷ a) b front behind (suc i) = bytes_behind a b (λ k. front (suc k)) behind i
+use Rattle.xmpp_base64.proofs.ByteSteps.{IsBytes-append, IsBytes-nil}
 
 bytes_dropped : (n : ℕ) (s : List ℕ) → IsBytes s → IsBytes (drop n s)
 bytes_dropped n s bytes i = rw (get_or-drop n s i 0) (bytes (n + i))
@@ -39,14 +32,14 @@ symbol_low dec s i table bytes none = elim (table (slice_index s i) (bytes i)) [
 
 groups_fit : (dec s : List ℕ) (q : ℕ) → IsDecodeTable dec → IsBytes s → groups_error dec s q ≡ None → IsBytes (groups_bytes dec s q)
 unfolding groups_error groups_bytes
-groups_fit dec s zero table bytes none = no_bytes
+groups_fit dec s zero table bytes none = IsBytes-nil
 groups_fit dec s (suc q) table bytes none =
     let i : ℕ = 4 * q in
     let both = no_error (groups_error dec s q) (group_error dec s i) none in
     let p = no_error (symbol_error dec s i) _ both.1 in
     let r = no_error (symbol_error dec s (i + 1)) _ p.1 in
     let t = no_error (symbol_error dec s (i + 2)) (symbol_error dec s (i + 3)) r.1 in
-    bytes_behind (groups_bytes dec s q) (group_bytes dec s i) (groups_fit dec s q table bytes both.0)
+    IsBytes-append (groups_bytes dec s q) (group_bytes dec s i) (groups_fit dec s q table bytes both.0)
     (group_fits _ _ _ _ (symbol_low dec s i table bytes p.0) (symbol_low dec s (i + 1) table bytes r.0) (symbol_low dec s (i + 2) table bytes t.0) (symbol_low dec s (i + 3) table bytes t.1))
 
 result_cases : {A E : Type 0} (r : Result A E) → ((x : A) × (r ≡ Ok x)) ⊎ ((e : E) × (r ≡ Err e))
@@ -80,7 +73,7 @@ suffix_fits dec pad at s table bytes =
           let low = kept.1.3 in
           let fits : IsBytes (leftover_bytes ok.0) = bytes_taken _ _ (group_fits _ _ _ _ (low 0) (low 1) (low 2) (low 3)) in
           subst IsBytes (sym (ap scan_bytes ok.1)) fits
-      | inr err ↦ subst IsBytes (sym (ap scan_bytes err.1)) no_bytes
+      | inr err ↦ subst IsBytes (sym (ap scan_bytes err.1)) IsBytes-nil
     ]
 
 outcome_none : (error : Option DecodeError) (bytes b : List ℕ) → decode_outcome error bytes ≡ Ok b → error ≡ None
@@ -95,4 +88,4 @@ decoded_are_bytes e s b bytes is =
     let none : decode_error dec e.padding.value e.config.decode_allow_trailing_bits e.config.decode_padding_mode s ≡ None = outcome_none _ (decoded_bytes_of e s) b is in
     let behind = no_error (lone_error dec e.padding.value s) _ none in
     let groups = no_error (groups_error dec s q) (suffix_error dec e.padding.value e.config.decode_allow_trailing_bits e.config.decode_padding_mode (4 * q) s) behind.1 in
-    decode_of_bytes e s b (bytes_behind (groups_bytes dec s q) (suffix_bytes dec e.padding.value (4 * q) s) (groups_fit dec s q table bytes groups.0) (suffix_fits dec e.padding.value (4 * q) s table bytes)) is
+    decode_of_bytes e s b (IsBytes-append (groups_bytes dec s q) (suffix_bytes dec e.padding.value (4 * q) s) (groups_fit dec s q table bytes groups.0) (suffix_fits dec e.padding.value (4 * q) s table bytes)) is

@@ -1,31 +1,38 @@
--- The base64 texts that are read are those of bytes.
+-- The texts that are read are the base64 of bytes.
 use Rattle.std.proofs.Common.{◌≡◌, ℕ, zero, suc, ◌+◌, ◌-◌, ◌*◌, ◌/◌, ◌%◌, ◌==◌, ◌<◌, ◌≤◌, ◌⊎◌, Bool, true, false, cond, ◌&&◌, List, [], ◌∷◌, ◌++◌, slice_index, Option, Some, None, refl, sym, ap, ◌∙◌, arith, inl, inr, eq-eqb, ne_eqb}
-use Rattle.std.proofs.lemmas.Bool.{and_parts, eqb-true, cases_lt}
-use Rattle.std.specs.List.{list_all}
+use Rattle.std.proofs.lemmas.Bool.{and_parts, eqb-true, leb-true, cases_lt}
 use Rattle.std.specs.Option.{option_map}
 use Rattle.base64.specs.Engines.{standard}
 use Rattle.base64.specs.GeneralPurpose.{IsBytes, encode_of}
 use Rattle.base64.specs.Rfc4648.{encode_symbols}
 use Rattle.base64.proofs.EngineFacts.{encode_of-append, encode_of-nil}
-use Rattle.xmpp_scram.specs.Classes.{is_printable, is_within, sextet}
-use Rattle.xmpp_scram.specs.States.{group_goes_on, group_may_end}
-use Rattle.xmpp_scram.specs.Values.{IsBase64}
-use Rattle.xmpp_scram.specs.declared.base64_text.Group.{Group}
-use Rattle.xmpp_scram.specs.declared.base64_text.Group.TheVariants.{Whole, One, Two, Three, Padding, Padded}
-use Rattle.xmpp_scram.proofs.PassedTests.{if_some, map_some, within}
-use Rattle.xmpp_basis.proofs.Conditions.{chosen}
-use Rattle.xmpp_scram.proofs.Runs.{behind, behind_first, behind_step}
+use Rattle.xmpp_base64.proofs.ByteSteps.{IsBytes-cons, IsBytes-nil}
+use Rattle.xmpp_base64.specs.Canonical.{IsBase64}
+use Rattle.xmpp_base64.specs.Reading.{base64_behind, base64_goes_on, base64_may_end, is_within, sextet}
+use Rattle.xmpp_base64.specs.declared.text.Base64Text.{Base64Text}
+use Rattle.xmpp_base64.specs.declared.text.Base64Text.TheVariants.{Whole, One, Two, Three, Padding, Padded}
+use Rattle.xmpp_basis.proofs.Conditions.{chosen, guard_tells}
+use Rattle.xmpp_basis.proofs.Options.{option_cases}
+
+-- ---- tests
+
+within : (low high b : ℕ) → is_within low high b ≡ true → (low ≤ b) × (b ≤ high)
+within low high b h = let parts = and_parts _ _ h in (leb-true low b parts.0, leb-true b high parts.1)
+
+map_some : {X A : Type 0} (f : X → A) (o : Option X) (u : A) → option_map f o ≡ Some u → (v : X) × (o ≡ Some v) × (u ≡ f v)
+map_some f None u h = cc h
+map_some f (Some v) u h = (v, refl, cc h)
 
 -- ---- symbols
 
-abbrev symbol : ℕ → ℕ
+abbrev pub symbol : ℕ → ℕ
 symbol v = slice_index standard.encode_table v
 
-abbrev all_below : ℕ → (ℕ → Bool) → Bool
+abbrev pub all_below : ℕ → (ℕ → Bool) → Bool
 all_below zero p = true
 all_below (suc n) p = all_below n p && p n
 
-below : (n : ℕ) (p : ℕ → Bool) → all_below n p ≡ true → (k : ℕ) → k < n → p k ≡ true
+pub below : (n : ℕ) (p : ℕ → Bool) → all_below n p ≡ true → (k : ℕ) → k < n → p k ≡ true
 below zero p h k lt = absurd (omega arith)
 below (suc n) p h k lt =
     let parts = and_parts (all_below n p) (p n) h in
@@ -98,83 +105,78 @@ and_false : (z : Bool) → (z && false) ≡ false
 and_false true = refl
 and_false false = refl
 
-whole_on : (v : ℕ) → v < 64 → group_goes_on Whole (symbol v) ≡ Some One
+whole_on : (v : ℕ) → v < 64 → base64_goes_on Whole (symbol v) ≡ Some One
 whole_on v lt = rw (sextet-symbol v lt) refl
 
-one_on : (v : ℕ) → v < 64 → group_goes_on One (symbol v) ≡ Some (Two (v % 16 == 0))
+one_on : (v : ℕ) → v < 64 → base64_goes_on One (symbol v) ≡ Some (Two (v % 16 == 0))
 one_on v lt = rw (sextet-symbol v lt) refl
 
-two_on : (z : Bool) (v : ℕ) → v < 64 → group_goes_on (Two z) (symbol v) ≡ Some (Three (v % 4 == 0))
+two_on : (z : Bool) (v : ℕ) → v < 64 → base64_goes_on (Two z) (symbol v) ≡ Some (Three (v % 4 == 0))
 two_on z v lt = rw (symbol-no_padding v lt, and_false z, sextet-symbol v lt) refl
 
-three_on : (z : Bool) (v : ℕ) → v < 64 → group_goes_on (Three z) (symbol v) ≡ Some Whole
+three_on : (z : Bool) (v : ℕ) → v < 64 → base64_goes_on (Three z) (symbol v) ≡ Some Whole
 three_on z v lt = rw (symbol-no_padding v lt, and_false z, sextet-symbol v lt) refl
 
-abbrev step : (s t : Group) (b : ℕ) (bs : List ℕ) → group_goes_on s b ≡ Some t → behind group_goes_on group_may_end s (b ∷ bs) ≡ behind group_goes_on group_may_end t bs
-step = behind_step group_goes_on group_may_end
+step : (s t : Base64Text) (b : ℕ) (bs : List ℕ) → base64_goes_on s b ≡ Some t → base64_behind s (b ∷ bs) ≡ base64_behind t bs
+step s t b bs h = rw h refl
+
+behind_first : (s t : Base64Text) (b : ℕ) (bs : List ℕ) → base64_behind s (b ∷ bs) ≡ Some t → (u : Base64Text) × (base64_goes_on s b ≡ Some u) × (base64_behind u bs ≡ Some t)
+behind_first s t b bs h =
+    elim (option_cases (base64_goes_on s b)) [
+      | inl none ↦ cc (rw none at h)
+      | inr some ↦ (some.0, some.1, rw some.1 at h)
+    ]
 
 -- four symbols of a group, and what follows
 group_run : (v0 v1 v2 v3 : ℕ) (rest : List ℕ) → v0 < 64 → v1 < 64 → v2 < 64 → v3 < 64
-    → behind group_goes_on group_may_end Whole (symbol v0 ∷ symbol v1 ∷ symbol v2 ∷ symbol v3 ∷ rest) ≡ behind group_goes_on group_may_end Whole rest
+    → base64_behind Whole (symbol v0 ∷ symbol v1 ∷ symbol v2 ∷ symbol v3 ∷ rest) ≡ base64_behind Whole rest
 group_run v0 v1 v2 v3 rest l0 l1 l2 l3 =
     step Whole One (symbol v0) (symbol v1 ∷ symbol v2 ∷ symbol v3 ∷ rest) (whole_on v0 l0)
     ∙ step One (Two (v1 % 16 == 0)) (symbol v1) (symbol v2 ∷ symbol v3 ∷ rest) (one_on v1 l1)
     ∙ step (Two (v1 % 16 == 0)) (Three (v2 % 4 == 0)) (symbol v2) (symbol v3 ∷ rest) (two_on (v1 % 16 == 0) v2 l2)
     ∙ step (Three (v2 % 4 == 0)) Whole (symbol v3) rest (three_on (v2 % 4 == 0) v3 l3)
 
-two_pads : (z : Bool) → z ≡ true → behind group_goes_on group_may_end (Two z) (61 ∷ 61 ∷ []) ≡ Some Padded
+two_pads : (z : Bool) → z ≡ true → base64_behind (Two z) (61 ∷ 61 ∷ []) ≡ Some Padded
 two_pads true h = refl
 two_pads false h = cc h
 
-three_pads : (z : Bool) → z ≡ true → behind group_goes_on group_may_end (Three z) (61 ∷ []) ≡ Some Padded
+three_pads : (z : Bool) → z ≡ true → base64_behind (Three z) (61 ∷ []) ≡ Some Padded
 three_pads true h = refl
 three_pads false h = cc h
 
-two_run : (v0 v1 : ℕ) → v0 < 64 → v1 < 64 → v1 % 16 ≡ 0 → behind group_goes_on group_may_end Whole (symbol v0 ∷ symbol v1 ∷ 61 ∷ 61 ∷ []) ≡ Some Padded
+two_run : (v0 v1 : ℕ) → v0 < 64 → v1 < 64 → v1 % 16 ≡ 0 → base64_behind Whole (symbol v0 ∷ symbol v1 ∷ 61 ∷ 61 ∷ []) ≡ Some Padded
 two_run v0 v1 l0 l1 zero_bits =
     step Whole One (symbol v0) (symbol v1 ∷ 61 ∷ 61 ∷ []) (whole_on v0 l0)
     ∙ step One (Two (v1 % 16 == 0)) (symbol v1) (61 ∷ 61 ∷ []) (one_on v1 l1)
     ∙ two_pads (v1 % 16 == 0) (eq-eqb (v1 % 16) 0 zero_bits)
 
-three_run : (v0 v1 v2 : ℕ) → v0 < 64 → v1 < 64 → v2 < 64 → v2 % 4 ≡ 0 → behind group_goes_on group_may_end Whole (symbol v0 ∷ symbol v1 ∷ symbol v2 ∷ 61 ∷ []) ≡ Some Padded
+three_run : (v0 v1 v2 : ℕ) → v0 < 64 → v1 < 64 → v2 < 64 → v2 % 4 ≡ 0 → base64_behind Whole (symbol v0 ∷ symbol v1 ∷ symbol v2 ∷ 61 ∷ []) ≡ Some Padded
 three_run v0 v1 v2 l0 l1 l2 zero_bits =
     step Whole One (symbol v0) (symbol v1 ∷ symbol v2 ∷ 61 ∷ []) (whole_on v0 l0)
     ∙ step One (Two (v1 % 16 == 0)) (symbol v1) (symbol v2 ∷ 61 ∷ []) (one_on v1 l1)
     ∙ step (Two (v1 % 16 == 0)) (Three (v2 % 4 == 0)) (symbol v2) (61 ∷ []) (two_on (v1 % 16 == 0) v2 l2)
     ∙ three_pads (v2 % 4 == 0) (eq-eqb (v2 % 4) 0 zero_bits)
 
--- ---- bytes
-
-IsBytes-nil : IsBytes []
-IsBytes-nil i = omega arith
-
-IsBytes-cons : (x : ℕ) (bytes : List ℕ) → x < 256 → IsBytes bytes → IsBytes (x ∷ bytes)
-IsBytes-cons x bytes lt fits zero = lt
-IsBytes-cons x bytes lt fits (suc i) = fits i
-
-IsBytes-tail : (x : ℕ) (bytes : List ℕ) → IsBytes (x ∷ bytes) → IsBytes bytes
-IsBytes-tail x bytes fits i = fits (suc i)
-
 -- ---- texts of bytes
 
 -- a text that may end where it ends
 abbrev pub IsWhole : List ℕ → Type 0
-IsWhole text = (t : Group) × (behind group_goes_on group_may_end Whole text ≡ Some t) × (group_may_end t ≡ true)
+IsWhole text = (t : Base64Text) × (base64_behind Whole text ≡ Some t) × (base64_may_end t ≡ true)
 
 group_text : (a b c : ℕ) → encode_of standard (a ∷ b ∷ c ∷ [])
     ≡ symbol (a / 4) ∷ symbol (a % 4 * 16 + b / 16) ∷ symbol (b % 16 * 4 + c / 64) ∷ symbol (c % 64) ∷ []
 unfolding encode_symbols
 group_text a b c = refl
 
-two_text : (a b : ℕ) → encode_of standard (a ∷ b ∷ []) ≡ symbol (a / 4) ∷ symbol (a % 4 * 16 + b / 16) ∷ symbol (b % 16 * 4) ∷ 61 ∷ []
+pub two_text : (a b : ℕ) → encode_of standard (a ∷ b ∷ []) ≡ symbol (a / 4) ∷ symbol (a % 4 * 16 + b / 16) ∷ symbol (b % 16 * 4) ∷ 61 ∷ []
 unfolding encode_symbols
 two_text a b = refl
 
-one_text : (a : ℕ) → encode_of standard (a ∷ []) ≡ symbol (a / 4) ∷ symbol (a % 4 * 16) ∷ 61 ∷ 61 ∷ []
+pub one_text : (a : ℕ) → encode_of standard (a ∷ []) ≡ symbol (a / 4) ∷ symbol (a % 4 * 16) ∷ 61 ∷ 61 ∷ []
 unfolding encode_symbols
 one_text a = refl
 
-more_text : (a b c : ℕ) (bytes : List ℕ) → encode_of standard (a ∷ b ∷ c ∷ bytes)
+pub more_text : (a b c : ℕ) (bytes : List ℕ) → encode_of standard (a ∷ b ∷ c ∷ bytes)
     ≡ symbol (a / 4) ∷ symbol (a % 4 * 16 + b / 16) ∷ symbol (b % 16 * 4 + c / 64) ∷ symbol (c % 64) ∷ encode_of standard bytes
 more_text a b c bytes = encode_of-append standard (a ∷ b ∷ c ∷ []) bytes refl ∙ ap (λ (x : List ℕ). x ++ encode_of standard bytes) (group_text a b c)
 
@@ -194,34 +196,31 @@ encoded_whole (a ∷ b ∷ c ∷ bytes) fits =
     let lc : c < 256 = fits 2 in
     let rest = encoded_whole bytes (λ i. fits (suc (suc (suc i)))) in (
       rest.0,
-      ap (behind group_goes_on group_may_end Whole) (more_text a b c bytes)
+      ap (base64_behind Whole) (more_text a b c bytes)
           ∙ group_run (a / 4) (a % 4 * 16 + b / 16) (b % 16 * 4 + c / 64) (c % 64) (encode_of standard bytes) (omega arith) (omega arith) (omega arith) (omega arith) ∙ rest.1,
       rest.2,
     )
 
 -- ---- what is read is the text of bytes
 
-abbrev goes : Group → List ℕ → Option Group
-goes = behind group_goes_on group_may_end
-
-some_first : (s t : Group) (o : Option ℕ) (f : ℕ → Group) (bs : List ℕ) (u : Group) → option_map f o ≡ Some u → goes u bs ≡ Some t → (v : ℕ) × (o ≡ Some v) × (goes (f v) bs ≡ Some t)
+some_first : (s t : Base64Text) (o : Option ℕ) (f : ℕ → Base64Text) (bs : List ℕ) (u : Base64Text) → option_map f o ≡ Some u → base64_behind u bs ≡ Some t → (v : ℕ) × (o ≡ Some v) × (base64_behind (f v) bs ≡ Some t)
 some_first s t o f bs u e h =
     let found = map_some f o u e in
     (found.0, found.1, rw found.2 at h)
 
-whole_first : (t : Group) (b : ℕ) (bs : List ℕ) → goes Whole (b ∷ bs) ≡ Some t → (v : ℕ) × (sextet b ≡ Some v) × (goes One bs ≡ Some t)
+whole_first : (t : Base64Text) (b : ℕ) (bs : List ℕ) → base64_behind Whole (b ∷ bs) ≡ Some t → (v : ℕ) × (sextet b ≡ Some v) × (base64_behind One bs ≡ Some t)
 whole_first t b bs h =
-    let first = behind_first group_goes_on group_may_end Whole t b bs h in
+    let first = behind_first Whole t b bs h in
     some_first Whole t (sextet b) (λ v. One) bs first.0 first.1 first.2
 
-one_first : (t : Group) (b : ℕ) (bs : List ℕ) → goes One (b ∷ bs) ≡ Some t → (v : ℕ) × (sextet b ≡ Some v) × (goes (Two (v % 16 == 0)) bs ≡ Some t)
+one_first : (t : Base64Text) (b : ℕ) (bs : List ℕ) → base64_behind One (b ∷ bs) ≡ Some t → (v : ℕ) × (sextet b ≡ Some v) × (base64_behind (Two (v % 16 == 0)) bs ≡ Some t)
 one_first t b bs h =
-    let first = behind_first group_goes_on group_may_end One t b bs h in
+    let first = behind_first One t b bs h in
     some_first One t (sextet b) (λ v. Two (v % 16 == 0)) bs first.0 first.1 first.2
 
 -- a `=` where it may stand, or a symbol
-padded_or : (z : Bool) (t s : Group) (b : ℕ) (bs : List ℕ) (f : ℕ → Group) (u : Group) → cond (z && b == 61) (Some s) (option_map f (sextet b)) ≡ Some u → goes u bs ≡ Some t
-    → ((z ≡ true) × (b ≡ 61) × (goes s bs ≡ Some t)) ⊎ ((v : ℕ) × (sextet b ≡ Some v) × (goes (f v) bs ≡ Some t))
+padded_or : (z : Bool) (t s : Base64Text) (b : ℕ) (bs : List ℕ) (f : ℕ → Base64Text) (u : Base64Text) → cond (z && b == 61) (Some s) (option_map f (sextet b)) ≡ Some u → base64_behind u bs ≡ Some t
+    → ((z ≡ true) × (b ≡ 61) × (base64_behind s bs ≡ Some t)) ⊎ ((v : ℕ) × (sextet b ≡ Some v) × (base64_behind (f v) bs ≡ Some t))
 padded_or z t s b bs f u e h =
     elim (chosen (z && b == 61) (Some s) (option_map f (sextet b)) (Some u) e) [
       | inl p ↦
@@ -231,29 +230,30 @@ padded_or z t s b bs f u e h =
       | inr q ↦ inr (some_first s t (sextet b) f bs u q.1 h)
     ]
 
-two_first : (z : Bool) (t : Group) (b : ℕ) (bs : List ℕ) → goes (Two z) (b ∷ bs) ≡ Some t
-    → ((z ≡ true) × (b ≡ 61) × (goes Padding bs ≡ Some t)) ⊎ ((v : ℕ) × (sextet b ≡ Some v) × (goes (Three (v % 4 == 0)) bs ≡ Some t))
+two_first : (z : Bool) (t : Base64Text) (b : ℕ) (bs : List ℕ) → base64_behind (Two z) (b ∷ bs) ≡ Some t
+    → ((z ≡ true) × (b ≡ 61) × (base64_behind Padding bs ≡ Some t)) ⊎ ((v : ℕ) × (sextet b ≡ Some v) × (base64_behind (Three (v % 4 == 0)) bs ≡ Some t))
 two_first z t b bs h =
-    let first = behind_first group_goes_on group_may_end (Two z) t b bs h in
+    let first = behind_first (Two z) t b bs h in
     padded_or z t Padding b bs (λ v. Three (v % 4 == 0)) first.0 first.1 first.2
 
-three_first : (z : Bool) (t : Group) (b : ℕ) (bs : List ℕ) → goes (Three z) (b ∷ bs) ≡ Some t
-    → ((z ≡ true) × (b ≡ 61) × (goes Padded bs ≡ Some t)) ⊎ ((v : ℕ) × (sextet b ≡ Some v) × (goes Whole bs ≡ Some t))
+three_first : (z : Bool) (t : Base64Text) (b : ℕ) (bs : List ℕ) → base64_behind (Three z) (b ∷ bs) ≡ Some t
+    → ((z ≡ true) × (b ≡ 61) × (base64_behind Padded bs ≡ Some t)) ⊎ ((v : ℕ) × (sextet b ≡ Some v) × (base64_behind Whole bs ≡ Some t))
 three_first z t b bs h =
-    let first = behind_first group_goes_on group_may_end (Three z) t b bs h in
+    let first = behind_first (Three z) t b bs h in
     padded_or z t Padded b bs (λ v. Whole) first.0 first.1 first.2
 
-padding_first : (t : Group) (b : ℕ) (bs : List ℕ) → goes Padding (b ∷ bs) ≡ Some t → (b ≡ 61) × (goes Padded bs ≡ Some t)
+padding_first : (t : Base64Text) (b : ℕ) (bs : List ℕ) → base64_behind Padding (b ∷ bs) ≡ Some t → (b ≡ 61) × (base64_behind Padded bs ≡ Some t)
 padding_first t b bs h =
-    let first = behind_first group_goes_on group_may_end Padding t b bs h in
-    let so = if_some (b == 61) Padded first.0 first.1 in
-    (eqb-true b 61 so.0, rw so.1 at first.2)
+    let first = behind_first Padding t b bs h in
+    let so = guard_tells (b == 61) (Some Padded) first.0 first.1 in
+    let same : first.0 ≡ Padded = cc so.1 in
+    (eqb-true b 61 so.0, rw same at first.2)
 
-padded_none : (t : Group) (bs : List ℕ) → goes Padded bs ≡ Some t → bs ≡ []
+padded_none : (t : Base64Text) (bs : List ℕ) → base64_behind Padded bs ≡ Some t → bs ≡ []
 padded_none t [] h = refl
 padded_none t (b ∷ bs) h = cc h
 
-unended : (s t : Group) → goes s [] ≡ Some t → group_may_end t ≡ true → group_may_end s ≡ true
+unended : (s t : Base64Text) → base64_behind s [] ≡ Some t → base64_may_end t ≡ true → base64_may_end s ≡ true
 unended s t h e = let same : s ≡ t = cc h in rw same e
 
 IsBytes-group : (x y z : ℕ) (bytes : List ℕ) → x < 256 → y < 256 → z < 256 → IsBytes bytes → IsBytes (x ∷ y ∷ z ∷ bytes)
@@ -304,7 +304,7 @@ two_symbols a b va vb ea eb zero_bits =
     (x ∷ [], IsBytes-cons x [] (omega arith) IsBytes-nil, sym (one_text x ∙ rw (e0, e1, sa.1, sb.1) refl))
 
 -- what is read is the text of bytes
-pub whole_encoded : (text : List ℕ) (t : Group) → goes Whole text ≡ Some t → group_may_end t ≡ true → IsBase64 text
+pub whole_encoded : (text : List ℕ) (t : Base64Text) → base64_behind Whole text ≡ Some t → base64_may_end t ≡ true → IsBase64 text
 whole_encoded [] t h e = ([], IsBytes-nil, sym (encode_of-nil standard))
 whole_encoded (a ∷ []) t h e =
     let fa = whole_first t a [] h in
@@ -335,34 +335,3 @@ whole_encoded (a ∷ b ∷ c ∷ d ∷ text) t h e =
         | inr fd ↦ whole_group a b c d fa.0 fb.0 fc.0 fd.0 text fa.1 fb.1 fc.1 fd.1 (whole_encoded text t fd.2 e)
       ]
     ]
-
--- ---- each byte of a base64 text may stand in a nonce
-
-symbol-printable : (v : ℕ) → v < 64 → is_printable (symbol v) ≡ true
-symbol-printable v lt = below 64 (λ k. is_printable (symbol k)) refl v lt
-
-pub encoded_printable : (bytes : List ℕ) → IsBytes bytes → list_all is_printable (encode_of standard bytes) ≡ true
-encoded_printable [] fits = rw (encode_of-nil standard) refl
-encoded_printable (a ∷ []) fits =
-    let la : a < 256 = fits 0 in
-    rw (one_text a, symbol-printable (a / 4) (omega arith), symbol-printable (a % 4 * 16) (omega arith)) refl
-encoded_printable (a ∷ b ∷ []) fits =
-    let la : a < 256 = fits 0 in
-    let lb : b < 256 = fits 1 in
-    rw (
-      two_text a b,
-      symbol-printable (a / 4) (omega arith),
-      symbol-printable (a % 4 * 16 + b / 16) (omega arith),
-      symbol-printable (b % 16 * 4) (omega arith),
-    ) refl
-encoded_printable (a ∷ b ∷ c ∷ bytes) fits =
-    let la : a < 256 = fits 0 in
-    let lb : b < 256 = fits 1 in
-    let lc : c < 256 = fits 2 in
-    rw (
-      more_text a b c bytes,
-      symbol-printable (a / 4) (omega arith),
-      symbol-printable (a % 4 * 16 + b / 16) (omega arith),
-      symbol-printable (b % 16 * 4 + c / 64) (omega arith),
-      symbol-printable (c % 64) (omega arith),
-    ) (encoded_printable bytes (λ i. fits (suc (suc (suc i)))))

@@ -1,0 +1,4 @@
+-- what is base64
+pub mod Canonical
+-- a step of the code
+pub mod Reading
