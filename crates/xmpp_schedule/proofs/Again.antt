@@ -1,5 +1,5 @@
 -- The text of a schedule is read as that schedule.
-use Rattle.std.proofs.Common.{◌≡◌, ℕ, zero, suc, ◌+◌, ◌≤◌, ◌<◌, Bool, true, false, eqb, leb, ltb, List, [], ◌∷◌, ◌++◌, length, Some, Result, Ok, refl, sym, ap, ◌∙◌, inl, inr, arith, codes, append_assoc}
+use Rattle.std.proofs.Common.{◌≡◌, ℕ, zero, suc, ◌+◌, ◌≤◌, ◌<◌, Bool, true, false, eqb, leb, ltb, List, [], ◌∷◌, ◌++◌, length, Some, Result, Ok, refl, sym, ap, subst, ◌∙◌, inl, inr, arith, codes, append_assoc}
 use Rattle.std.specs.Prelude.{not, ◌&&◌, ◌||◌, nat_lt, nat_le}
 use Rattle.std.specs.Fmt.{decimal}
 use Rattle.std.specs.List.{flat_map, list_all, AllByRecursion}
@@ -10,16 +10,19 @@ use Rattle.std.proofs.lemmas.List.Concat.{flat_map-cons}
 use Rattle.std.proofs.lemmas.Slice.Eq.{bytes_eq-Decides}
 use Rattle.std.proofs.lemmas.Str.{IsUtf8-append, IsUtf8-from_ascii, IsUtf8-from_is_utf8, is_utf8-from_IsUtf8, encodes-chars}
 use Rattle.std.proofs.lemmas.Str.Pattern.{NoCharPasses-char}
-use Rattle.xmpp_schedule.specs.Grammar.{is_lower, is_digit, is_name, is_text, is_text_character, Declared, nothing_declared, declared_by, may_stand, AreLines, IsSchedule, step_text, schedule_text}
+use Rattle.xmpp_schedule.specs.Grammar.{is_lower, is_digit, is_name, is_text, is_text_character, Declared, nothing_declared, declared_by, may_stand, may_keep, AreLines, IsSchedule, step_text, header_text, schedule_text}
 use Rattle.xmpp_edge.specs.Names.{is_among}
-use Rattle.xmpp_schedule.specs.Reading.{pieces_of, cut_of, not_empty, next_field, last_field, rest_field, is_number, read_account, read_device, read_say, read_catchup, read_words, read_line, read_lines, read_header, read_below, reading}
+use Rattle.xmpp_schedule.specs.Reading.{pieces_of, cut_of, not_empty, next_field, last_field, rest_field, is_number, read_account, read_device, read_message, read_say, read_private, read_catchup, read_tick, read_words, read_line, read_lines, read_mode, read_one, read_two, read_version, read_heading, reading}
 use Rattle.xmpp_schedule.specs.Schedules.{ScheduleView}
 use Rattle.xmpp_schedule.specs.declared.schedule.Line.{Line}
 use Rattle.xmpp_schedule.specs.declared.fault.ScheduleFault.{ScheduleFault}
 use Rattle.xmpp_schedule.specs.declared.schedule.Step.{Step}
-use Rattle.xmpp_schedule.specs.declared.schedule.Step.TheVariants.{Account, Device, Say, Catchup}
+use Rattle.xmpp_schedule.specs.declared.schedule.Step.TheVariants.{Account, Device, Say, Private, Catchup, Tick}
+use Rattle.xmpp_schedule.specs.declared.schedule.TheConstants.{MOST_KEPT, MOST_TICK}
+use Rattle.xmpp_schedule.specs.declared.schedule.Version.{Version}
+use Rattle.xmpp_schedule.specs.declared.schedule.Version.TheVariants.{One, Two}
 use Rattle.xmpp_schedule.proofs.Found.{line_text}
-use Rattle.xmpp_schedule.proofs.Numbers.{number_again, number_digits, within_is_number}
+use Rattle.xmpp_schedule.proofs.Numbers.{decimal_number, number_again, number_digits}
 use Rattle.xmpp_schedule.proofs.Words.{Lacks, cut_behind, piece_behind}
 use Rattle.xmpp_basis.proofs.Lists.{list_all-weaker}
 
@@ -199,19 +202,43 @@ device_again above name account known h =
       declared = record { accounts = known.accounts; devices = names_push above.devices name known.devices inner.1 };
     }
 
-say_again : (above : Declared) (device to text : List ℕ) → AreDeclared above → may_stand above (Say device to text) ≡ true → IsAgain above (Say device to text)
-unfolding read_words read_say
-say_again above device to text known h =
+-- a message that may be sent is read again
+record IsMessage (above : Declared) (device to text : List ℕ) : Type 0 where
+  read : read_message above (Some (device ++ 32 ∷ (to ++ 32 ∷ text))) ≡ Ok (device, to, text)
+  plain : IsPlain (device ++ 32 ∷ (to ++ 32 ∷ text))
+
+message_again : (above : Declared) (device to text : List ℕ) → AreDeclared above → (is_among device above.devices && is_name to && is_text text) ≡ true → IsMessage above device to text
+unfolding read_message
+message_again above device to text known h =
     let outer = and_parts _ (is_text text) h in
     let inner = and_parts (is_among device above.devices) (is_name to) outer.0 in
     let speaker = name_word device (among_is_name device above.devices known.devices inner.0) in
     let word = name_word to inner.1 in
+    record {
+      read = rw (next_again device (to ++ 32 ∷ text) speaker, next_again to text word, rest_again text (text_not_empty text outer.1), inner.0, inner.1, outer.1) refl;
+      plain = plain_append device (32 ∷ (to ++ 32 ∷ text)) speaker.plain (plain_append (32 ∷ []) (to ++ 32 ∷ text) (plain_from_all (32 ∷ []) refl)
+          (plain_append to (32 ∷ text) word.plain (plain_append (32 ∷ []) text (plain_from_all (32 ∷ []) refl) (text_plain text outer.1))));
+    }
+
+say_again : (above : Declared) (device to text : List ℕ) → AreDeclared above → may_stand above (Say device to text) ≡ true → IsAgain above (Say device to text)
+unfolding read_words read_say
+say_again above device to text known h =
+    let message = message_again above device to text known h in
     let regrouped : step_text (Say device to text) ≡ codes "say " ++ (device ++ 32 ∷ (to ++ 32 ∷ text)) = ap (λ (xs : List ℕ). codes "say " ++ xs) (append_assoc device (32 ∷ to) (32 ∷ text)) in
     record {
-      read = ap (λ (xs : List ℕ). read_words above (cut_of xs)) regrouped ∙ rw (next_again device (to ++ 32 ∷ text) speaker, next_again to text word, rest_again text (text_not_empty text outer.1), inner.0, inner.1, outer.1) refl;
-      plain = rw regrouped (plain_append (codes "say ") (device ++ 32 ∷ (to ++ 32 ∷ text)) (plain_from_all (codes "say ") refl)
-          (plain_append device (32 ∷ (to ++ 32 ∷ text)) speaker.plain (plain_append (32 ∷ []) (to ++ 32 ∷ text) (plain_from_all (32 ∷ []) refl)
-          (plain_append to (32 ∷ text) word.plain (plain_append (32 ∷ []) text (plain_from_all (32 ∷ []) refl) (text_plain text outer.1))))));
+      read = ap (λ (xs : List ℕ). read_words above (cut_of xs)) regrouped ∙ rw message.read refl;
+      plain = rw regrouped (plain_append (codes "say ") (device ++ 32 ∷ (to ++ 32 ∷ text)) (plain_from_all (codes "say ") refl) message.plain);
+      declared = known;
+    }
+
+private_again : (above : Declared) (device to text : List ℕ) → AreDeclared above → may_stand above (Private device to text) ≡ true → IsAgain above (Private device to text)
+unfolding read_words read_private
+private_again above device to text known h =
+    let message = message_again above device to text known h in
+    let regrouped : step_text (Private device to text) ≡ codes "private " ++ (device ++ 32 ∷ (to ++ 32 ∷ text)) = ap (λ (xs : List ℕ). codes "private " ++ xs) (append_assoc device (32 ∷ to) (32 ∷ text)) in
+    record {
+      read = ap (λ (xs : List ℕ). read_words above (cut_of xs)) regrouped ∙ rw message.read refl;
+      plain = rw regrouped (plain_append (codes "private ") (device ++ 32 ∷ (to ++ 32 ∷ text)) (plain_from_all (codes "private ") refl) message.plain);
       declared = known;
     }
 
@@ -221,11 +248,24 @@ catchup_again above device most known h =
     let outer = and_parts _ (nat_le most 100) h in
     let inner = and_parts (is_among device above.devices) (nat_le 1 most) outer.0 in
     let speaker = name_word device (among_is_name device above.devices known.devices inner.0) in
-    let number = number_again most (leb-true 1 most inner.1) (leb-true most 100 outer.1) in
-    let field = digits_word (decimal most) (within_is_number (decimal most) most number) in
+    let high : most ≤ 100 = leb-true most 100 outer.1 in
+    let number = number_again 1 100 most (leb-true 1 most inner.1) high (omega arith) in
+    let field = digits_word (decimal most) (decimal_number most (omega arith)) in
     record {
       read = rw (next_again device (decimal most) speaker, last_again (decimal most) field, inner.0, number) refl;
       plain = plain_append (codes "catchup " ++ device) (32 ∷ decimal most) (plain_append (codes "catchup ") device (plain_from_all (codes "catchup ") refl) speaker.plain) (plain_append (32 ∷ []) (decimal most) (plain_from_all (32 ∷ []) refl) field.plain);
+      declared = known;
+    }
+
+tick_again : (above : Declared) (ms : ℕ) → AreDeclared above → may_stand above (Tick ms) ≡ true → IsAgain above (Tick ms)
+unfolding read_words read_tick
+tick_again above ms known h =
+    let high : ms ≤ MOST_TICK = leb-true ms MOST_TICK h in
+    let number = number_again 0 MOST_TICK ms (omega arith) high (omega arith) in
+    let field = digits_word (decimal ms) (decimal_number ms (omega arith)) in
+    record {
+      read = rw (last_again (decimal ms) field, number) refl;
+      plain = plain_append (codes "tick ") (decimal ms) (plain_from_all (codes "tick ") refl) field.plain;
       declared = known;
     }
 
@@ -233,7 +273,9 @@ step_again : (above : Declared) (step : Step) → AreDeclared above → may_stan
 step_again above (Account name) known h = account_again above name known h
 step_again above (Device name account) known h = device_again above name account known h
 step_again above (Say device to text) known h = say_again above device to text known h
+step_again above (Private device to text) known h = private_again above device to text known h
 step_again above (Catchup device most) known h = catchup_again above device most known h
+step_again above (Tick ms) known h = tick_again above ms known h
 
 line_again : (above : Declared) (n : ℕ) (step : Step) → n ≤ 100000 → IsAgain above step → read_line above n (record { bytes = step_text step; ended = true }) ≡ Ok step
 unfolding read_line
@@ -259,10 +301,43 @@ lines_again above n (line ∷ lines) known h =
     let same : record { number = n; step = line.step } ≡ line = ap (λ (k : ℕ). record { number = k; step = line.step }) (sym h.0) in
     rw (parts, read, others) (ap (λ (l : Line). read_all (l ∷ lines)) same)
 
-pub reading_again : (s : ScheduleView) → IsSchedule s → reading (schedule_text s) ≡ Ok s
+-- ---- line 1
+
+-- line 1 of a direct schedule is read again
+record IsHeaded (version : Version) : Type 0 where
+  read : read_heading (header_text version false) ≡ Ok (record { version = version; wire = false })
+  lacks : Lacks 10 (header_text version false)
+
+heading_again : (version : Version) → may_keep version ≡ true → IsHeaded version
+unfolding read_heading read_version read_one read_two read_mode
+heading_again One h =
+    let plain = plain_from_all (codes "xmpp-schedule 1 direct") refl in
+    record { read = rw (is_utf8-from_IsUtf8 (codes "xmpp-schedule 1 direct") plain.spelled) refl; lacks = plain.lacks }
+heading_again (Two keep) h =
+    let parts = and_parts (nat_le 1 keep) (nat_le keep MOST_KEPT) h in
+    let high : keep ≤ MOST_KEPT = leb-true keep MOST_KEPT parts.1 in
+    let number = number_again 1 MOST_KEPT keep (leb-true 1 keep parts.0) high (omega arith) in
+    let field = digits_word (decimal keep) (decimal_number keep (omega arith)) in
+    let plain : IsPlain (codes "xmpp-schedule 2 direct " ++ decimal keep) =
+    plain_append (codes "xmpp-schedule 2 direct ") (decimal keep) (plain_from_all (codes "xmpp-schedule 2 direct ") refl) field.plain in
+    record {
+      read = rw (is_utf8-from_IsUtf8 (header_text (Two keep) false) plain.spelled, last_again (decimal keep) field, number) refl;
+      lacks = plain.lacks;
+    }
+
+direct_again : (version : Version) (lines : List Line) → may_keep version ≡ true → AreLines nothing_declared 2 lines →
+    reading (schedule_text (record { version = version; wire = false; lines = lines })) ≡ Ok (record { version = version; wire = false; lines = lines })
 unfolding reading
-reading_again s h =
+direct_again version lines keeps h =
     let none : AreDeclared nothing_declared = record { accounts = tt; devices = tt } in
-    let read = lines_again nothing_declared 2 s.lines none h.lines in
-    let made : read_below (read_header (pieces_of (schedule_text s))) ≡ Ok (record { wire = false; lines = s.lines }) = rw read refl in
-    made ∙ ap (λ (w : Bool). read_schedule (record { wire = w; lines = s.lines })) (sym h.direct)
+    let read = lines_again nothing_declared 2 lines none h in
+    let headed = heading_again version keeps in
+    let parts = piece_behind (header_text version false) (flat_map line_text lines) headed.lacks in
+    rw (parts, headed.read, read) refl
+
+abbrev with_mode : ScheduleView → Bool → ScheduleView
+with_mode s wire = record { version = s.version; wire = wire; lines = s.lines }
+
+pub reading_again : (s : ScheduleView) → IsSchedule s → reading (schedule_text s) ≡ Ok s
+reading_again s h =
+    subst (λ (w : Bool). reading (schedule_text (with_mode s w)) ≡ read_schedule (with_mode s w)) (sym h.direct) (direct_again s.version s.lines h.keeps h.lines)

@@ -1,22 +1,27 @@
 -- What is read is a schedule, and the text is its text.
-use Rattle.std.proofs.Common.{◌≡◌, ℕ, ◌+◌, ◌≤◌, Bool, true, false, cond, eqb, List, [], ◌∷◌, ◌++◌, length, Option, Some, None, Result, Ok, Err, refl, sym, ap, subst, ◌∙◌, inl, inr, codes, append_assoc}
+use Rattle.std.proofs.Common.{◌≡◌, ℕ, ◌+◌, ◌≤◌, Bool, true, false, cond, eqb, List, [], ◌∷◌, ◌++◌, length, Option, Some, None, Result, Ok, Err, refl, sym, ap, subst, ◌∙◌, inl, inr, codes, append_assoc, arith}
 use Rattle.std.specs.Prelude.{not, ◌&&◌, ◌⊎◌, IsTrue, nat_lt, nat_le}
 use Rattle.std.specs.Fmt.{decimal}
 use Rattle.std.specs.List.{flat_map, list_all}
 use Rattle.std.specs.Str.{bytes_eq, is_utf8}
-use Rattle.std.proofs.lemmas.Bool.{cases_Bool, and_parts, and_from, eqb-true, leb-true, le-leb}
+use Rattle.std.proofs.lemmas.Bool.{cases_Bool, and_parts, and_from, eqb-true, false≢true, leb-true, le-leb}
+use Rattle.std.proofs.lemmas.Option.{same_Some}
 use Rattle.std.proofs.lemmas.List.Concat.{flat_map-cons}
 use Rattle.std.proofs.lemmas.Slice.Eq.{bytes_eq-Decides}
-use Rattle.xmpp_schedule.specs.Grammar.{is_name, is_text, Declared, nothing_declared, declared_by, may_stand, AreLines, IsSchedule, step_text, direct_header, wire_header, schedule_text}
+use Rattle.xmpp_schedule.specs.Grammar.{is_name, is_text, Declared, nothing_declared, declared_by, may_stand, AreLines, IsSchedule, may_keep, step_text, mode_text, header_text, schedule_text}
 use Rattle.xmpp_edge.specs.Names.{is_among}
-use Rattle.xmpp_schedule.specs.Reading.{Piece, Cut, ◌>>=◌, wants, joined, pieces_of, cut_of, not_empty, next_field, last_field, rest_field, number_within, read_account, read_device, read_say, read_catchup, read_words, read_line, with_front, either, read_lines, read_header, as_schedule, read_below, reading}
+use Rattle.xmpp_schedule.specs.Reading.{Piece, Cut, ◌>>=◌, wants, joined, pieces_of, cut_of, not_empty, next_field, last_field, rest_field, number_within, read_account, read_device, read_message, read_say, read_private, read_catchup, read_tick, read_words, read_line, with_front, either, read_lines, read_mode, read_one, read_two, read_version, read_heading, as_heading, read_header, as_schedule, read_below, reading}
 use Rattle.xmpp_schedule.specs.Schedules.{ScheduleView}
 use Rattle.xmpp_schedule.specs.declared.schedule.Line.{Line}
 use Rattle.xmpp_schedule.specs.declared.fault.LineWhy.{LineWhy}
 use Rattle.xmpp_schedule.specs.declared.fault.ScheduleFault.{ScheduleFault}
 use Rattle.xmpp_schedule.specs.declared.fault.ScheduleFault.TheVariants.{BadLine}
 use Rattle.xmpp_schedule.specs.declared.schedule.Step.{Step}
-use Rattle.xmpp_schedule.specs.declared.schedule.Step.TheVariants.{Account, Device, Say, Catchup}
+use Rattle.xmpp_schedule.specs.declared.heading.Heading.{Heading}
+use Rattle.xmpp_schedule.specs.declared.schedule.Step.TheVariants.{Account, Device, Say, Private, Catchup, Tick}
+use Rattle.xmpp_schedule.specs.declared.schedule.TheConstants.{MOST_KEPT, MOST_TICK}
+use Rattle.xmpp_schedule.specs.declared.schedule.Version.{Version}
+use Rattle.xmpp_schedule.specs.declared.schedule.Version.TheVariants.{One, Two}
 use Rattle.xmpp_schedule.proofs.Numbers.{number_found}
 use Rattle.xmpp_schedule.specs.declared.fault.LineWhy.TheVariants as why
 
@@ -113,21 +118,46 @@ device_found above fields step e =
     subst (λ (s : Step). Says above (codes "device") fields s) (ok_is (Device b.0.front l.0) step k.1)
     (device_says above b.0.front l.0 fields b.0.rest a.0 c.0 d.0 k.0 (next_is fields b.0 b.1) (last_is b.0.rest l.0 l.1))
 
-say_says : (above : Declared) (device to text : List ℕ) (fields rest last : Option (List ℕ)) → is_among device above.devices ≡ true → is_name to ≡ true → is_text text ≡ true
-    → fields ≡ Some (with_rest device rest) → rest ≡ Some (with_rest to last) → last ≡ Some text → Says above (codes "say") fields (Say device to text)
-say_says above device to text fields rest last known named spelled is after then = (and_from _ _ (and_from _ _ known named) spelled, rw (is, after, then) (ap (λ (xs : List ℕ). codes "say " ++ xs) (append_assoc device (32 ∷ to) (32 ∷ text))))
+-- a message that may be sent, and the fields that are its text
+abbrev IsMessage : Declared → Option (List ℕ) → List ℕ × List ℕ × List ℕ → Type 0
+IsMessage above fields message =
+    IsTrue (is_among message.0 above.devices && is_name message.1 && is_text message.2) × (fields ≡ Some (message.0 ++ 32 ∷ (message.1 ++ 32 ∷ message.2)))
+
+message_says : (above : Declared) (device to text : List ℕ) (fields rest last : Option (List ℕ)) → is_among device above.devices ≡ true → is_name to ≡ true → is_text text ≡ true
+    → fields ≡ Some (with_rest device rest) → rest ≡ Some (with_rest to last) → last ≡ Some text → IsMessage above fields (device, to, text)
+message_says above device to text fields rest last known named spelled is after then = (and_from _ _ (and_from _ _ known named) spelled, rw (is, after, then) refl)
+
+message_found : (above : Declared) (fields : Option (List ℕ)) (message : List ℕ × List ℕ × List ℕ) → read_message above fields ≡ Ok message → IsMessage above fields message
+unfolding read_message
+message_found above fields message e =
+    let a = bind_ok (next_field fields) _ message e in
+    let b = bind_ok (next_field a.0.rest) _ message a.2 in
+    let l = bind_ok (rest_field b.0.rest) _ message b.2 in
+    let c = gate (is_among a.0.front above.devices) why.Unknown _ message l.2 in
+    let d = gate (is_name b.0.front) why.Name _ message c.1 in
+    let k = gate (is_text l.0) why.Text _ message d.1 in
+    subst (λ (m : List ℕ × List ℕ × List ℕ). IsMessage above fields m) (ok_is (a.0.front, b.0.front, l.0) message k.1)
+    (message_says above a.0.front b.0.front l.0 fields a.0.rest b.0.rest c.0 d.0 k.0 (next_is fields a.0 a.1) (next_is a.0.rest b.0 b.1) (rest_is b.0.rest l.0 l.1))
+
+say_says : (above : Declared) (device to text : List ℕ) (fields : Option (List ℕ)) → IsMessage above fields (device, to, text) → Says above (codes "say") fields (Say device to text)
+say_says above device to text fields is = (is.0, rw is.1 (ap (λ (xs : List ℕ). codes "say " ++ xs) (append_assoc device (32 ∷ to) (32 ∷ text))))
 
 say_found : (above : Declared) (fields : Option (List ℕ)) (step : Step) → read_say above fields ≡ Ok step → Says above (codes "say") fields step
 unfolding read_say
 say_found above fields step e =
-    let a = bind_ok (next_field fields) _ step e in
-    let b = bind_ok (next_field a.0.rest) _ step a.2 in
-    let l = bind_ok (rest_field b.0.rest) _ step b.2 in
-    let c = gate (is_among a.0.front above.devices) why.Unknown _ step l.2 in
-    let d = gate (is_name b.0.front) why.Name _ step c.1 in
-    let k = gate (is_text l.0) why.Text _ step d.1 in
-    subst (λ (s : Step). Says above (codes "say") fields s) (ok_is (Say a.0.front b.0.front l.0) step k.1)
-    (say_says above a.0.front b.0.front l.0 fields a.0.rest b.0.rest c.0 d.0 k.0 (next_is fields a.0 a.1) (next_is a.0.rest b.0 b.1) (rest_is b.0.rest l.0 l.1))
+    let a = bind_ok (read_message above fields) _ step e in
+    subst (λ (s : Step). Says above (codes "say") fields s) (ok_is (Say a.0.0 a.0.1 a.0.2) step a.2)
+    (say_says above a.0.0 a.0.1 a.0.2 fields (message_found above fields a.0 a.1))
+
+private_says : (above : Declared) (device to text : List ℕ) (fields : Option (List ℕ)) → IsMessage above fields (device, to, text) → Says above (codes "private") fields (Private device to text)
+private_says above device to text fields is = (is.0, rw is.1 (ap (λ (xs : List ℕ). codes "private " ++ xs) (append_assoc device (32 ∷ to) (32 ∷ text))))
+
+private_found : (above : Declared) (fields : Option (List ℕ)) (step : Step) → read_private above fields ≡ Ok step → Says above (codes "private") fields step
+unfolding read_private
+private_found above fields step e =
+    let a = bind_ok (read_message above fields) _ step e in
+    subst (λ (s : Step). Says above (codes "private") fields s) (ok_is (Private a.0.0 a.0.1 a.0.2) step a.2)
+    (private_says above a.0.0 a.0.1 a.0.2 fields (message_found above fields a.0 a.1))
 
 catchup_says : (above : Declared) (device field : List ℕ) (most : ℕ) (fields rest : Option (List ℕ)) → is_among device above.devices ≡ true → 1 ≤ most → most ≤ 100
     → fields ≡ Some (with_rest device rest) → rest ≡ Some field → field ≡ decimal most → Says above (codes "catchup") fields (Catchup device most)
@@ -140,9 +170,21 @@ catchup_found above fields step e =
     let l = bind_ok (last_field a.0.rest) _ step a.2 in
     let c = gate (is_among a.0.front above.devices) why.Unknown _ step l.2 in
     let m = bind_ok (number_within 1 100 l.0) _ step c.1 in
-    let n = number_found l.0 m.0 m.1 in
+    let n = number_found 1 100 l.0 m.0 (omega arith) m.1 in
     subst (λ (s : Step). Says above (codes "catchup") fields s) (ok_is (Catchup a.0.front m.0) step m.2)
     (catchup_says above a.0.front l.0 m.0 fields a.0.rest c.0 n.0 n.1 (next_is fields a.0 a.1) (last_is a.0.rest l.0 l.1) n.2)
+
+tick_says : (above : Declared) (field : List ℕ) (ms : ℕ) (fields : Option (List ℕ)) → ms ≤ MOST_TICK → fields ≡ Some field → field ≡ decimal ms → Says above (codes "tick") fields (Tick ms)
+tick_says above field ms fields high is number = (le-leb ms MOST_TICK high, rw (is, number) refl)
+
+tick_found : (above : Declared) (fields : Option (List ℕ)) (step : Step) → read_tick fields ≡ Ok step → Says above (codes "tick") fields step
+unfolding read_tick
+tick_found above fields step e =
+    let l = bind_ok (last_field fields) _ step e in
+    let m = bind_ok (number_within 0 MOST_TICK l.0) _ step l.2 in
+    let n = number_found 0 MOST_TICK l.0 m.0 (omega arith) m.1 in
+    subst (λ (s : Step). Says above (codes "tick") fields s) (ok_is (Tick m.0) step m.2)
+    (tick_says above l.0 m.0 fields n.1 (last_is fields l.0 l.1) n.2)
 
 -- the first word is the one that was compared
 at_word : (above : Declared) (word front : List ℕ) (rest : Option (List ℕ)) (step : Step) → bytes_eq front word ≡ true → Says above word rest step → Says above front rest step
@@ -157,9 +199,15 @@ words_found above words step e =
         | inl q ↦ at_word above (codes "device") words.front words.rest step q.0 (device_found above words.rest step q.1)
         | inr q ↦ elim (chosen (bytes_eq words.front (codes "say")) (read_say above words.rest) _ step q.1) [
           | inl r ↦ at_word above (codes "say") words.front words.rest step r.0 (say_found above words.rest step r.1)
-          | inr r ↦ elim (chosen (bytes_eq words.front (codes "catchup")) (read_catchup above words.rest) _ step r.1) [
-            | inl s ↦ at_word above (codes "catchup") words.front words.rest step s.0 (catchup_found above words.rest step s.1)
-            | inr s ↦ absurd cc
+          | inr r ↦ elim (chosen (bytes_eq words.front (codes "private")) (read_private above words.rest) _ step r.1) [
+            | inl t ↦ at_word above (codes "private") words.front words.rest step t.0 (private_found above words.rest step t.1)
+            | inr t ↦ elim (chosen (bytes_eq words.front (codes "catchup")) (read_catchup above words.rest) _ step t.1) [
+              | inl u ↦ at_word above (codes "catchup") words.front words.rest step u.0 (catchup_found above words.rest step u.1)
+              | inr u ↦ elim (chosen (bytes_eq words.front (codes "tick")) (read_tick words.rest) _ step u.1) [
+                | inl v ↦ at_word above (codes "tick") words.front words.rest step v.0 (tick_found above words.rest step v.1)
+                | inr v ↦ absurd cc
+              ]
+            ]
           ]
         ]
       ]
@@ -241,34 +289,131 @@ lines_found above n (piece ∷ pieces) lines e =
     subst (λ (ls : List Line). AreLines above n ls × (text_of_pieces (piece ∷ pieces) ≡ flat_map line_text ls)) b.2
     ((refl, line.few, line.stands, others.0), whole)
 
-header_found : (pieces rest : List Piece) → read_header pieces ≡ Ok rest → text_of_pieces pieces ≡ direct_header ++ 10 ∷ text_of_pieces rest
-header_found [] rest e = absurd cc
-header_found (piece ∷ pieces) rest e =
-    elim (chosen (bytes_eq piece.bytes wire_header) (Err why.NotBuilt) _ rest e) [
-      | inl p ↦ absurd cc
-      | inr p ↦ elim (chosen (bytes_eq piece.bytes direct_header) _ (Err why.Header) rest p.1) [
-        | inl q ↦
-            let k = kept piece.ended pieces rest why.Ending q.1 in
-            let same : piece.bytes ≡ direct_header = (bytes_eq-Decides piece.bytes direct_header).0 q.0 in
-            rw (k.0, same) (ap (λ (ps : List Piece). direct_header ++ 10 ∷ text_of_pieces ps) k.1)
+-- ---- line 1
+
+-- its archives may keep so many, and the line of this version and these fields is its text
+abbrev Begins : List ℕ → Option (List ℕ) → Heading → Type 0
+Begins version fields heading = IsTrue (may_keep heading.version) × (header_text heading.version heading.wire ≡ codes "xmpp-schedule " ++ with_rest version fields)
+
+mode_found : (word : List ℕ) (wire : Bool) → read_mode word ≡ Ok wire → word ≡ mode_text wire
+unfolding read_mode
+mode_found word wire e =
+    elim (chosen (bytes_eq word (codes "wire")) (done true) _ wire e) [
+      | inl p ↦ (bytes_eq-Decides word (codes "wire")).0 p.0 ∙ ap (λ (w : Bool). mode_text w) (ok_is true wire p.1)
+      | inr p ↦ elim (chosen (bytes_eq word (codes "direct")) (done false) (Err why.Header) wire p.1) [
+        | inl q ↦ (bytes_eq-Decides word (codes "direct")).0 q.0 ∙ ap (λ (w : Bool). mode_text w) (ok_is false wire q.1)
         | inr q ↦ absurd cc
       ]
     ]
 
-below_ok : (r : Result (List Piece) LineWhy) (s : ScheduleView) → read_below r ≡ Ok s → (pieces : List Piece) × (r ≡ Ok pieces) × (as_schedule (read_lines nothing_declared 2 pieces) ≡ Ok s)
-below_ok (Ok pieces) s e = (pieces, refl, e)
+abbrev headed : Version → Bool → Heading
+headed version wire = record { version = version; wire = wire }
+
+one_begins : (mode : List ℕ) (wire : Bool) (fields : Option (List ℕ)) → fields ≡ Some mode → mode ≡ mode_text wire → Begins (codes "1") fields (headed One wire)
+one_begins mode wire fields is said = (refl, rw (is, said) refl)
+
+one_found : (fields : Option (List ℕ)) (heading : Heading) → read_one fields ≡ Ok heading → Begins (codes "1") fields heading
+unfolding read_one
+one_found fields heading e =
+    let l = bind_ok (last_field fields) _ heading e in
+    let m = bind_ok (read_mode l.0) _ heading l.2 in
+    subst (λ (h : Heading). Begins (codes "1") fields h) (ok_is (headed One m.0) heading m.2)
+    (one_begins l.0 m.0 fields (last_is fields l.0 l.1) (mode_found l.0 m.0 m.1))
+
+two_begins : (mode field : List ℕ) (wire : Bool) (keep : ℕ) (fields rest : Option (List ℕ)) → 1 ≤ keep → keep ≤ MOST_KEPT
+    → fields ≡ Some (with_rest mode rest) → rest ≡ Some field → mode ≡ mode_text wire → field ≡ decimal keep → Begins (codes "2") fields (headed (Two keep) wire)
+two_begins mode field wire keep fields rest low high is after said number = (and_from _ _ (le-leb 1 keep low) (le-leb keep MOST_KEPT high), rw (is, after, said, number) refl)
+
+two_found : (fields : Option (List ℕ)) (heading : Heading) → read_two fields ≡ Ok heading → Begins (codes "2") fields heading
+unfolding read_two
+two_found fields heading e =
+    let a = bind_ok (next_field fields) _ heading e in
+    let l = bind_ok (last_field a.0.rest) _ heading a.2 in
+    let m = bind_ok (read_mode a.0.front) _ heading l.2 in
+    let k = bind_ok (number_within 1 MOST_KEPT l.0) _ heading m.2 in
+    let n = number_found 1 MOST_KEPT l.0 k.0 (omega arith) k.1 in
+    subst (λ (h : Heading). Begins (codes "2") fields h) (ok_is (headed (Two k.0) m.0) heading k.2)
+    (two_begins a.0.front l.0 m.0 k.0 fields a.0.rest n.0 n.1 (next_is fields a.0 a.1) (last_is a.0.rest l.0 l.1) (mode_found a.0.front m.0 m.1) n.2)
+
+at_version : (word front : List ℕ) (rest : Option (List ℕ)) (heading : Heading) → bytes_eq front word ≡ true → Begins word rest heading → Begins front rest heading
+at_version word front rest heading same begins = subst (λ (w : List ℕ). Begins w rest heading) (sym ((bytes_eq-Decides front word).0 same)) begins
+
+version_found : (words : Cut) (heading : Heading) → read_version words ≡ Ok heading → Begins words.front words.rest heading
+unfolding read_version
+version_found words heading e =
+    elim (chosen (bytes_eq words.front (codes "1")) (read_one words.rest) _ heading e) [
+      | inl p ↦ at_version (codes "1") words.front words.rest heading p.0 (one_found words.rest heading p.1)
+      | inr p ↦ elim (chosen (bytes_eq words.front (codes "2")) (read_two words.rest) (Err why.Header) heading p.1) [
+        | inl q ↦ at_version (codes "2") words.front words.rest heading q.0 (two_found words.rest heading q.1)
+        | inr q ↦ absurd cc
+      ]
+    ]
+
+-- a line that says this is its text
+record IsHeading (line : List ℕ) (heading : Heading) : Type 0 where
+  keeps : IsTrue (may_keep heading.version)
+  spelled : line ≡ header_text heading.version heading.wire
+
+behind_name : (name : List ℕ) (rest : Option (List ℕ)) (after : List ℕ) → name ≡ codes "xmpp-schedule" → rest ≡ Some after → with_rest name rest ≡ codes "xmpp-schedule " ++ after
+behind_name name rest after is then = rw (is, then) refl
+
+heading_found : (line : List ℕ) (heading : Heading) → read_heading line ≡ Ok heading → IsHeading line heading
+unfolding read_heading
+heading_found line heading e =
+    let a = gate (is_utf8 line) why.Ending _ heading e in
+    let b = bind_ok (next_field (Some line)) _ heading a.1 in
+    let c = gate (bytes_eq b.0.front (codes "xmpp-schedule")) why.Header _ heading b.2 in
+    let d = bind_ok (next_field b.0.rest) _ heading c.1 in
+    let v = version_found d.0 heading d.2 in
+    let name = (bytes_eq-Decides b.0.front (codes "xmpp-schedule")).0 c.0 in
+    let whole : line ≡ with_rest b.0.front b.0.rest = same_Some line (with_rest b.0.front b.0.rest) (next_is (Some line) b.0 b.1) in
+    record {
+      keeps = v.0;
+      spelled = whole ∙ behind_name b.0.front b.0.rest (with_rest d.0.front d.0.rest) name (next_is b.0.rest d.0 d.1) ∙ sym v.1;
+    }
+
+as_heading_ok : (r : Result Heading LineWhy) (heading : Heading) → as_heading r ≡ Ok heading → r ≡ Ok heading
+as_heading_ok (Ok other) heading e = e
+as_heading_ok (Err reason) heading e = absurd cc
+
+not_wire : (wire : Bool) → not wire ≡ true → wire ≡ false
+not_wire true e = absurd (false≢true e)
+not_wire false e = refl
+
+-- what line 1 begins, and the text of the lines
+record HasBegun (pieces : List Piece) (begun : Heading × List Piece) : Type 0 where
+  keeps : IsTrue (may_keep begun.0.version)
+  spelled : text_of_pieces pieces ≡ header_text begun.0.version false ++ 10 ∷ text_of_pieces begun.1
+
+header_found : (pieces : List Piece) (begun : Heading × List Piece) → read_header pieces ≡ Ok begun → HasBegun pieces begun
+header_found [] begun e = absurd cc
+header_found (piece ∷ pieces) begun e =
+    let a = bind_ok (as_heading (read_heading piece.bytes)) _ begun e in
+    let b = gate (not a.0.wire) why.NotBuilt _ begun a.2 in
+    let c = gate piece.ended why.Ending _ begun b.1 in
+    let h = heading_found piece.bytes a.0 (as_heading_ok (read_heading piece.bytes) a.0 a.1) in
+    let direct : header_text a.0.version a.0.wire ≡ header_text a.0.version false = ap (λ (w : Bool). header_text a.0.version w) (not_wire a.0.wire b.0) in
+    subst (λ (x : Heading × List Piece). HasBegun (piece ∷ pieces) x) (ok_is (a.0, pieces) begun c.1)
+    (record { keeps = h.keeps; spelled = ended_text piece (header_text a.0.version false) (text_of_pieces pieces) c.0 (h.spelled ∙ direct) })
+
+below_ok : (r : Result (Heading × List Piece) LineWhy) (s : ScheduleView) → read_below r ≡ Ok s
+    → (begun : Heading × List Piece) × (r ≡ Ok begun) × (as_schedule begun.0.version (read_lines nothing_declared 2 begun.1) ≡ Ok s)
+below_ok (Ok begun) s e = (begun, refl, e)
 below_ok (Err reason) s e = absurd cc
 
-schedule_ok : (r : Result (List Line) ScheduleFault) (s : ScheduleView) → as_schedule r ≡ Ok s → (lines : List Line) × (r ≡ Ok lines) × (record { wire = false; lines = lines } ≡ s)
-schedule_ok (Ok lines) s e = (lines, refl, cc)
-schedule_ok (Err d) s e = absurd cc
+schedule_ok : (version : Version) (r : Result (List Line) ScheduleFault) (s : ScheduleView) → as_schedule version r ≡ Ok s
+    → (lines : List Line) × (r ≡ Ok lines) × (record { version = version; wire = false; lines = lines } ≡ s)
+schedule_ok version (Ok lines) s e = (lines, refl, cc)
+schedule_ok version (Err d) s e = absurd cc
 
 pub reading_found : (text : List ℕ) (s : ScheduleView) → reading text ≡ Ok s → IsSchedule s × (text ≡ schedule_text s)
 unfolding reading
 reading_found text s e =
     let a = below_ok (read_header (pieces_of text)) s e in
-    let b = schedule_ok (read_lines nothing_declared 2 a.0) s a.2 in
-    let c = lines_found nothing_declared 2 a.0 b.0 b.1 in
-    let whole : text ≡ direct_header ++ 10 ∷ flat_map line_text b.0 =
-    sym (pieces_back text) ∙ header_found (pieces_of text) a.0 a.1 ∙ ap (λ (xs : List ℕ). direct_header ++ 10 ∷ xs) c.1 in
-    subst (λ (v : ScheduleView). IsSchedule v × (text ≡ schedule_text v)) b.2 (record { direct = refl; lines = c.0 }, whole)
+    let version = a.0.0.version in
+    let b = schedule_ok version (read_lines nothing_declared 2 a.0.1) s a.2 in
+    let c = lines_found nothing_declared 2 a.0.1 b.0 b.1 in
+    let h = header_found (pieces_of text) a.0 a.1 in
+    let whole : text ≡ header_text version false ++ 10 ∷ flat_map line_text b.0 =
+    sym (pieces_back text) ∙ h.spelled ∙ ap (λ (xs : List ℕ). header_text version false ++ 10 ∷ xs) c.1 in
+    subst (λ (v : ScheduleView). IsSchedule v × (text ≡ schedule_text v)) b.2 (record { direct = refl; keeps = h.keeps; lines = c.0 }, whole)

@@ -3,6 +3,7 @@ pub mod Answered
 pub mod Cuts
 pub mod Found
 pub mod Lists
+pub mod Moments
 pub mod Numbers
 pub mod Prefixes
 pub mod ReadLines

@@ -14,7 +14,7 @@ use Rattle.xmpp_schedule.specs.Schedules.{steps_of}
 use Rattle.xmpp_schedule.specs.Standing.{AreRight}
 use Rattle.xmpp_schedule.specs.declared.schedule.Line.{Line}
 use Rattle.xmpp_schedule.specs.declared.schedule.Step.{Step}
-use Rattle.xmpp_schedule.specs.declared.schedule.Step.TheVariants.{Account, Device, Say, Catchup}
+use Rattle.xmpp_schedule.specs.declared.schedule.Step.TheVariants.{Account, Device, Say, Private, Catchup, Tick}
 
 pub along_push : {A : Type 0} (f : List Step → Step → List A) (before steps : List Step) (step : Step) →
     along f before (steps ++ step ∷ []) ≡ along f before steps ++ f (before ++ steps) step
@@ -65,7 +65,9 @@ home_push (Device other account ∷ before) step name =
     (home_push before step name)
 home_push (Account other ∷ before) step name = home_push before step name
 home_push (Say other to text ∷ before) step name = home_push before step name
+home_push (Private other to text ∷ before) step name = home_push before step name
 home_push (Catchup other most ∷ before) step name = home_push before step name
+home_push (Tick ms ∷ before) step name = home_push before step name
 
 pub along_few : {A : Type 0} (f : List Step → Step → List A) → ((b : List Step) (s : Step) → length (f b s) ≤ 1) → (before steps : List Step) → length (along f before steps) ≤ length steps
 along_few f one before [] = omega arith
@@ -80,7 +82,9 @@ further_on : (above : Declared) (step : Step) (steps : List Step) → further (d
 further_on above (Account name) steps = ap (λ a. record { accounts = a; devices = above.devices ++ devices_of steps }) (append_assoc above.accounts (name ∷ []) (accounts_of steps))
 further_on above (Device name account) steps = ap (λ d. record { accounts = above.accounts ++ accounts_of steps; devices = d }) (append_assoc above.devices (name ∷ []) (devices_of steps))
 further_on above (Say device to text) steps = refl
+further_on above (Private device to text) steps = refl
 further_on above (Catchup device most) steps = refl
+further_on above (Tick ms) steps = refl
 
 further_none : (above : Declared) → above ≡ further above []
 further_none above =

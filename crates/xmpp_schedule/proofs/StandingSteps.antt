@@ -14,7 +14,8 @@ use Rattle.xmpp_edge.specs.Names.{is_among}
 use Rattle.xmpp_schedule.specs.Schedules.{steps_of}
 use Rattle.xmpp_schedule.specs.declared.schedule.Line.{Line}
 use Rattle.xmpp_schedule.specs.declared.schedule.Step.{Step}
-use Rattle.xmpp_schedule.specs.declared.schedule.Step.TheVariants.{Account, Device, Say, Catchup}
+use Rattle.xmpp_schedule.specs.declared.schedule.Step.TheVariants.{Account, Device, Say, Private, Catchup, Tick}
+use Rattle.xmpp_schedule.specs.declared.schedule.TheConstants.{MOST_TICK}
 use Rattle.xmpp_basis.proofs.Bytes.{bytes_eq-self}
 
 -- what a step says of the steps above it
@@ -22,7 +23,9 @@ abbrev pub Stands : List Step → Step → Type 0
 Stands before (Account name) = Unit {0}
 Stands before (Device name account) = (is_among name (devices_of before) ≡ false) × (is_among account (accounts_of before) ≡ true)
 Stands before (Say device to text) = is_among device (devices_of before) ≡ true
+Stands before (Private device to text) = is_among device (devices_of before) ≡ true
 Stands before (Catchup device most) = (is_among device (devices_of before) ≡ true) × (1 ≤ most) × (most ≤ 100)
+Stands before (Tick ms) = ms ≤ MOST_TICK
 
 abbrev pub AreStanding : List Step → List Step → Type 0
 AreStanding before [] = Unit {0}
@@ -44,9 +47,17 @@ declared_step before (Say device to text) =
     let accounts : accounts_of (before ++ Say device to text ∷ []) ≡ accounts_of before = flat_map-append account_name before (Say device to text ∷ []) ∙ append-nil (accounts_of before) in
     let devices : devices_of (before ++ Say device to text ∷ []) ≡ devices_of before = flat_map-append device_name before (Say device to text ∷ []) ∙ append-nil (devices_of before) in
     rw (accounts, devices)
+declared_step before (Private device to text) =
+    let accounts : accounts_of (before ++ Private device to text ∷ []) ≡ accounts_of before = flat_map-append account_name before (Private device to text ∷ []) ∙ append-nil (accounts_of before) in
+    let devices : devices_of (before ++ Private device to text ∷ []) ≡ devices_of before = flat_map-append device_name before (Private device to text ∷ []) ∙ append-nil (devices_of before) in
+    rw (accounts, devices)
 declared_step before (Catchup device most) =
     let accounts : accounts_of (before ++ Catchup device most ∷ []) ≡ accounts_of before = flat_map-append account_name before (Catchup device most ∷ []) ∙ append-nil (accounts_of before) in
     let devices : devices_of (before ++ Catchup device most ∷ []) ≡ devices_of before = flat_map-append device_name before (Catchup device most ∷ []) ∙ append-nil (devices_of before) in
+    rw (accounts, devices)
+declared_step before (Tick ms) =
+    let accounts : accounts_of (before ++ Tick ms ∷ []) ≡ accounts_of before = flat_map-append account_name before (Tick ms ∷ []) ∙ append-nil (accounts_of before) in
+    let devices : devices_of (before ++ Tick ms ∷ []) ≡ devices_of before = flat_map-append device_name before (Tick ms ∷ []) ∙ append-nil (devices_of before) in
     rw (accounts, devices)
 
 stands : (before : List Step) (step : Step) → IsTrue (may_stand (declared_of before) step) → Stands before step
@@ -56,10 +67,12 @@ stands before (Device name account) may =
     let inner = and_parts _ _ outer.0 in
     (not-true (is_among name (devices_of before)) inner.1, outer.1)
 stands before (Say device to text) may = (and_parts _ _ (and_parts _ _ may).0).0
+stands before (Private device to text) may = (and_parts _ _ (and_parts _ _ may).0).0
 stands before (Catchup device most) may =
     let outer = and_parts _ _ may in
     let inner = and_parts _ _ outer.0 in
     (inner.0, leb-true 1 most inner.1, leb-true most 100 outer.1)
+stands before (Tick ms) may = leb-true ms MOST_TICK may
 
 pub steps_stand : (before : List Step) (n : ℕ) (lines : List Line) → AreLines (declared_of before) n lines → AreStanding before (steps_of lines)
 steps_stand before n [] known = tt

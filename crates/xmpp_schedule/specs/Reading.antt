@@ -2,15 +2,19 @@
 use Rattle.std.specs.Prelude.{ℕ, ◌+◌, ◌*◌, ◌-◌, ◌==◌, nat_lt, nat_le, Bool, true, false, ◌&&◌, not, List, [], ◌∷◌, Option, Some, None, Result, Ok, Err, length, fold, codes, if◌then◌else◌}
 use Rattle.std.specs.List.{list_all}
 use Rattle.std.specs.Str.{bytes_eq, is_utf8}
-use Rattle.xmpp_schedule.specs.Grammar.{is_digit, is_name, is_text, Declared, nothing_declared, declared_by, direct_header, wire_header}
+use Rattle.xmpp_schedule.specs.Grammar.{is_digit, is_name, is_text, Declared, nothing_declared, declared_by}
 use Rattle.xmpp_edge.specs.Names.{is_among}
 use Rattle.xmpp_schedule.specs.Schedules.{ScheduleView}
 use Rattle.xmpp_schedule.specs.declared.schedule.Line.{Line}
 use Rattle.xmpp_schedule.specs.declared.fault.LineWhy.{LineWhy}
 use Rattle.xmpp_schedule.specs.declared.fault.ScheduleFault.{ScheduleFault}
 use Rattle.xmpp_schedule.specs.declared.fault.ScheduleFault.TheVariants.{BadLine}
+use Rattle.xmpp_schedule.specs.declared.heading.Heading.{Heading}
 use Rattle.xmpp_schedule.specs.declared.schedule.Step.{Step}
-use Rattle.xmpp_schedule.specs.declared.schedule.Step.TheVariants.{Account, Device, Say, Catchup}
+use Rattle.xmpp_schedule.specs.declared.schedule.Step.TheVariants.{Account, Device, Say, Private, Catchup, Tick}
+use Rattle.xmpp_schedule.specs.declared.schedule.TheConstants.{MOST_KEPT, MOST_TICK}
+use Rattle.xmpp_schedule.specs.declared.schedule.Version.{Version}
+use Rattle.xmpp_schedule.specs.declared.schedule.Version.TheVariants.{One, Two}
 use Rattle.xmpp_schedule.specs.declared.fault.LineWhy.TheVariants as why
 
 -- a line, and whether an LF ends it
@@ -114,15 +118,26 @@ read_device above fields = do
   known ← wants (is_among account above.accounts) why.Unknown
   Ok (Device name.front account)
 
-unfoldable pub read_say : Declared → Option (List ℕ) → Result Step LineWhy
-read_say above fields = do
+-- the device, the account and the text of a message
+unfoldable pub read_message : Declared → Option (List ℕ) → Result (List ℕ × List ℕ × List ℕ) LineWhy
+read_message above fields = do
   device ← next_field fields
   to ← next_field device.rest
   text ← rest_field to.rest
   known ← wants (is_among device.front above.devices) why.Unknown
   named ← wants (is_name to.front) why.Name
   spelled ← wants (is_text text) why.Text
-  Ok (Say device.front to.front text)
+  Ok (device.front, to.front, text)
+
+unfoldable pub read_say : Declared → Option (List ℕ) → Result Step LineWhy
+read_say above fields = do
+  message ← read_message above fields
+  Ok (Say message.0 message.1 message.2)
+
+unfoldable pub read_private : Declared → Option (List ℕ) → Result Step LineWhy
+read_private above fields = do
+  message ← read_message above fields
+  Ok (Private message.0 message.1 message.2)
 
 unfoldable pub read_catchup : Declared → Option (List ℕ) → Result Step LineWhy
 read_catchup above fields = do
@@ -132,14 +147,22 @@ read_catchup above fields = do
   most ← number_within 1 100 field
   Ok (Catchup device.front most)
 
+unfoldable pub read_tick : Option (List ℕ) → Result Step LineWhy
+read_tick fields = do
+  field ← last_field fields
+  ms ← number_within 0 MOST_TICK field
+  Ok (Tick ms)
+
 -- by the first word
 unfoldable pub read_words : Declared → Cut → Result Step LineWhy
 read_words above words =
     if bytes_eq words.front (codes "account") then read_account above words.rest
     else (if bytes_eq words.front (codes "device") then read_device above words.rest
     else (if bytes_eq words.front (codes "say") then read_say above words.rest
+    else (if bytes_eq words.front (codes "private") then read_private above words.rest
     else (if bytes_eq words.front (codes "catchup") then read_catchup above words.rest
-    else Err why.Word)))
+    else (if bytes_eq words.front (codes "tick") then read_tick words.rest
+    else Err why.Word)))))
 
 -- line n, below what is declared
 unfoldable pub read_line : Declared → ℕ → Piece → Result Step LineWhy
@@ -166,20 +189,64 @@ read_lines above n (piece ∷ pieces) =
     (λ reason. Err (BadLine n reason))
     (read_line above n piece)
 
--- line 1
-abbrev pub read_header : List Piece → Result (List Piece) LineWhy
+-- whether it is a wire schedule
+unfoldable pub read_mode : List ℕ → Result Bool LineWhy
+read_mode word =
+    if bytes_eq word (codes "wire") then Ok true
+    else (if bytes_eq word (codes "direct") then Ok false else Err why.Header)
+
+-- what follows the version in line 1 of version 1
+unfoldable pub read_one : Option (List ℕ) → Result Heading LineWhy
+read_one fields = do
+  mode ← last_field fields
+  wire ← read_mode mode
+  Ok (record { version = One; wire = wire })
+
+-- and of version 2
+unfoldable pub read_two : Option (List ℕ) → Result Heading LineWhy
+read_two fields = do
+  mode ← next_field fields
+  field ← last_field mode.rest
+  wire ← read_mode mode.front
+  keep ← number_within 1 MOST_KEPT field
+  Ok (record { version = Two keep; wire = wire })
+
+-- by the version
+unfoldable pub read_version : Cut → Result Heading LineWhy
+read_version words =
+    if bytes_eq words.front (codes "1") then read_one words.rest
+    else (if bytes_eq words.front (codes "2") then read_two words.rest else Err why.Header)
+
+-- what line 1 says
+unfoldable pub read_heading : List ℕ → Result Heading LineWhy
+read_heading line = do
+  spelled ← wants (is_utf8 line) why.Ending
+  name ← next_field (Some line)
+  named ← wants (bytes_eq name.front (codes "xmpp-schedule")) why.Header
+  version ← next_field name.rest
+  read_version version
+
+-- whatever is wrong, the line is no heading
+abbrev pub as_heading : Result Heading LineWhy → Result Heading LineWhy
+as_heading (Ok heading) = Ok heading
+as_heading (Err reason) = Err why.Header
+
+-- line 1, and the lines behind it
+abbrev pub read_header : List Piece → Result (Heading × List Piece) LineWhy
 read_header [] = Err why.Header
-read_header (piece ∷ pieces) =
-    if bytes_eq piece.bytes wire_header then Err why.NotBuilt
-    else (if bytes_eq piece.bytes direct_header then (if piece.ended then Ok pieces else Err why.Ending) else Err why.Header)
+read_header (piece ∷ pieces) = do
+  heading ← as_heading (read_heading piece.bytes)
+  direct ← wants (not heading.wire) why.NotBuilt
+  whole ← wants piece.ended why.Ending
+  Ok (heading, pieces)
 
-abbrev pub as_schedule : Result (List Line) ScheduleFault → Result ScheduleView ScheduleFault
-as_schedule (Ok lines) = Ok (record { wire = false; lines = lines })
-as_schedule (Err e) = Err e
+abbrev pub as_schedule : Version → Result (List Line) ScheduleFault → Result ScheduleView ScheduleFault
+as_schedule version (Ok lines) = Ok (record { version = version; wire = false; lines = lines })
+as_schedule version (Err e) = Err e
 
-abbrev pub read_below : Result (List Piece) LineWhy → Result ScheduleView ScheduleFault
+abbrev pub read_below : Result (Heading × List Piece) LineWhy → Result ScheduleView ScheduleFault
 read_below (Err reason) = Err (BadLine 1 reason)
-read_below (Ok pieces) = as_schedule (read_lines nothing_declared 2 pieces)
+read_below (Ok begun) = as_schedule begun.0.version (read_lines nothing_declared 2 begun.1)
 
 -- what reading a text answers, where memory doesn't run out
 unfoldable pub reading : List ℕ → Result ScheduleView ScheduleFault

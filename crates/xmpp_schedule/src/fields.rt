@@ -139,20 +139,20 @@ fn is_number(digits: &[u8]) -> bool
 }
 
 /// A number with a digit more, where it is no more than a bound.
-fn grown_within(most: u64, value: u64, digit: u8) -> Option<u64>
+fn grown_within(most: u32, value: u32, digit: u8) -> Option<u32>
     ensures { result ≡ at_most most (grown value digit) }
 {
     let next = value
         .checked_mul(10)?
-        .checked_add(u64::from(digit.saturating_sub(48)))?;
+        .checked_add(u32::from(digit.saturating_sub(48)))?;
     if next <= most { Some(next) } else { None }
 }
 
 /// The value of digits, where it is no more than a bound.
-fn value_within(most: u64, digits: &[u8]) -> Option<u64>
+fn value_within(most: u32, digits: &[u8]) -> Option<u32>
     ensures { result ≡ at_most most (value_of digits.now) }
 {
-    let mut value: u64 = 0;
+    let mut value: u32 = 0;
     for i in 0..digits.len() {
         match grown_within(most, value, digits[i]) {
             Some(next) => value = next,
@@ -164,7 +164,7 @@ fn value_within(most: u64, digits: &[u8]) -> Option<u64>
 
 /// A decimal number within bounds, without leading zeros.
 #[tactic(auto, using(crate::proofs::Numbers::judged_ok, crate::proofs::Numbers::judged_low, crate::proofs::Numbers::judged_high))]
-pub fn number_within(least: u64, most: u64, field: &str) -> Result<u64, LineFault>
+pub fn number_within(least: u32, most: u32, field: &str) -> Result<u32, LineFault>
     ensures { Gives (λ n. n) result (number_within least most field.now) }
 {
     let digits = field.as_bytes();
@@ -175,16 +175,5 @@ pub fn number_within(least: u64, most: u64, field: &str) -> Result<u64, LineFaul
             Ok(value)
         }
         None => Err(LineFault::Reason(LineWhy::Number)),
-    }
-}
-
-/// The most entries of a page, 1 to 100.
-#[tactic(auto, using(crate::proofs::Numbers::number_found))]
-pub fn page_limit(field: &str) -> Result<u32, LineFault>
-    ensures { Gives (λ n. n) result (number_within 1 100 field.now) }
-{
-    match number_within(1, 100, field) {
-        Ok(most) => Ok(most as u32),
-        Err(e) => Err(e),
     }
 }

@@ -3,6 +3,7 @@
 
 mod fault;
 mod fields;
+mod heading;
 mod lines;
 mod reading;
 mod schedule;
@@ -10,4 +11,4 @@ mod steps;
 
 pub use fault::{LineWhy, ScheduleFault};
 pub use reading::{read_schedule, reading_is_the_grammar};
-pub use schedule::{Line, Lines, Schedule, Step};
+pub use schedule::{Line, Lines, MOST_KEPT, MOST_TICK, Schedule, Step, Version};

@@ -1,8 +1,13 @@
 //! A text cut into lines.
-ghost use Rattle.std.specs.Prelude.{◌≡◌, ◌≢◌, ◌<◌, ◌∷◌, ◌++◌, length, All, MatchOption};
-ghost use Rattle.xmpp_schedule.specs.Reading.{pieces_of};
+ghost use Rattle.std.specs.Prelude.{◌≡◌, ◌≢◌, ◌<◌, ◌&&◌, ◌∷◌, ◌++◌, true, length, All, IfOk, MatchOption};
+ghost use Rattle.std.specs.Str.{is_utf8};
+ghost use Rattle.xmpp_schedule.specs.Gives.{Gives};
+ghost use Rattle.xmpp_schedule.specs.Reading.{pieces_of, wants};
+ghost use Rattle.xmpp_schedule.specs.declared.fault.LineWhy.TheVariants.{Ending};
 
+use crate::fault::{LineFault, LineWhy};
 use memchr::memchr;
+use std::str;
 
 /// The first line of a text, whether an LF ends it, and what follows that LF.
 pub fn first_line(text: &[u8]) -> (&[u8], bool, &[u8])
@@ -25,5 +30,19 @@ fn cut(bytes: &[u8], at: u8) -> Option<(&[u8], &[u8])>
     match memchr(at, bytes) {
         Some(i) => Some((&bytes[..i], &bytes[i + 1..])),
         None => None,
+    }
+}
+
+/// The characters of a line that an LF ends.
+pub fn spelled(line: &[u8], ended: bool) -> Result<&str, LineFault>
+    ensures exact { Gives (λ _. true) result (wants (ended && is_utf8 line.now) Ending) }
+    ensures same { IfOk result (λ text. text.now ≡ line.now) }
+{
+    if !ended {
+        return Err(LineFault::Reason(LineWhy::Ending));
+    }
+    match str::from_utf8(line) {
+        Ok(text) => Ok(text),
+        Err(_) => Err(LineFault::Reason(LineWhy::Ending)),
     }
 }

@@ -1,36 +1,34 @@
 //! A schedule is read from its text.
-ghost use Rattle.std.specs.Prelude.{◌≡◌, ◌⊎◌, ℕ, List, Ok, Err, IfOk, IfErr, MatchResult};
-ghost use Rattle.xmpp_schedule.specs.Gives.{ReadsAs};
+ghost use Rattle.std.specs.Prelude.{◌≡◌, ◌⊎◌, ℕ, List, Ok, Err, IfOk, IfErr};
+ghost use Rattle.xmpp_schedule.specs.Gives.{Gives, ReadsAs};
 ghost use Rattle.xmpp_schedule.specs.Grammar.{nothing_declared, IsSchedule, schedule_text, InGrammar};
 ghost use Rattle.xmpp_schedule.specs.Reading.{pieces_of, read_header, read_lines, reading};
 ghost use Rattle.xmpp_schedule.specs.Schedules.{ScheduleView};
 ghost use Rattle.xmpp_schedule.specs.declared.fault.ScheduleFault.TheVariants.{NoMemory as WantOfMemory};
 
-use crate::fault::{LineFault, LineWhy, ScheduleFault};
+use crate::fault::{LineFault, LineWhy, ScheduleFault, wants};
+use crate::heading::{Heading, read_heading};
 use crate::lines::first_line;
 use crate::schedule::{Line, Lines, Schedule};
 use crate::steps::{NamesAbove, read_line};
 use std::alloc::Global;
 
-/// What follows line 1, where that is the first line of a direct schedule.
-fn read_header(text: &[u8]) -> Result<&[u8], LineWhy>
-    ensures { MatchResult result (λ rest. read_header (pieces_of text.now) ≡ Ok (pieces_of rest.now))
-        (λ why. read_header (pieces_of text.now) ≡ Err why) }
+/// What line 1 says, and what follows it, where that is the first line of a direct schedule.
+fn read_header(text: &[u8]) -> Result<(Heading, &[u8]), LineFault>
+    ensures { Gives (λ begun. (begun.0, pieces_of begun.1.now)) result (read_header (pieces_of text.now)) }
 {
     if text.is_empty() {
-        return Err(LineWhy::Header);
+        return Err(LineFault::Reason(LineWhy::Header));
     }
     let (line, ended, rest) = first_line(text);
-    if line == b"xmpp-schedule 1 wire".as_slice() {
-        return Err(LineWhy::NotBuilt);
-    }
-    if line != b"xmpp-schedule 1 direct".as_slice() {
-        return Err(LineWhy::Header);
-    }
-    if !ended {
-        return Err(LineWhy::Ending);
-    }
-    Ok(rest)
+    let heading = match read_heading(line) {
+        Ok(heading) => heading,
+        Err(LineFault::Reason(_)) => return Err(LineFault::Reason(LineWhy::Header)),
+        Err(LineFault::NoMemory) => return Err(LineFault::NoMemory),
+    };
+    wants(!heading.wire, LineWhy::NotBuilt)?;
+    wants(ended, LineWhy::Ending)?;
+    Ok((heading, rest))
 }
 
 /// The lines from line 2 on.
@@ -62,12 +60,17 @@ fn read_lines(alloc: Global, text: &[u8]) -> Result<Lines, ScheduleFault>
 fn schedule_of(alloc: Global, bytes: &[u8]) -> Result<Schedule, ScheduleFault>
     ensures { (result ≡ Err WantOfMemory) ⊎ (result ≡ reading bytes.now) }
 {
-    let rest = match read_header(bytes) {
-        Ok(rest) => rest,
-        Err(why) => return Err(ScheduleFault::BadLine { line: 1, why }),
+    let (heading, rest) = match read_header(bytes) {
+        Ok(begun) => begun,
+        Err(LineFault::Reason(why)) => return Err(ScheduleFault::BadLine { line: 1, why }),
+        Err(LineFault::NoMemory) => return Err(ScheduleFault::NoMemory),
     };
     let lines = read_lines(alloc, rest)?;
-    Ok(Schedule { wire: false, lines })
+    Ok(Schedule {
+        version: heading.version,
+        wire: false,
+        lines,
+    })
 }
 
 /// The schedule that bytes are the text of. `BadLine` comes where they are the text of none: it names the first bad

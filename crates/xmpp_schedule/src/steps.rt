@@ -2,16 +2,18 @@
 ghost use Rattle.std.specs.Prelude.{◌≡◌, ◌≤◌, ◌&&◌, true, IfOk, OnOk, OnErr};
 ghost use Rattle.std.specs.Str.{is_utf8};
 ghost use Rattle.xmpp_schedule.specs.Gives.{Gives, left};
-ghost use Rattle.xmpp_schedule.specs.Grammar.{declared_by, nothing_declared};
-ghost use Rattle.xmpp_schedule.specs.Reading.{wants, cut_of, read_account, read_device, read_say, read_catchup, read_words, read_line};
+ghost use Rattle.xmpp_schedule.specs.Grammar.{Declared, declared_by, nothing_declared};
+ghost use Rattle.xmpp_schedule.specs.Reading.{wants, cut_of, read_account, read_device, read_message, read_say, read_private, read_catchup, read_tick, read_words, read_line};
 ghost use Rattle.xmpp_schedule.specs.declared.fault.LineWhy.TheVariants.{Ending};
 
 use crate::fault::{LineFault, LineWhy, wants};
-use crate::fields::{cut_word, is_name, is_text, last_field, next_field, page_limit, rest_field};
-use crate::schedule::Step;
+use crate::fields::{
+    cut_word, is_name, is_text, last_field, next_field, number_within, rest_field,
+};
+use crate::lines::spelled;
+use crate::schedule::{MOST_TICK, Step};
 use std::alloc::Global;
 use std::marker::Model;
-use std::str;
 use xmpp_edge::{NameIndex, Text};
 
 /// The names that are declared above a line.
@@ -82,10 +84,14 @@ fn read_device(
     Ok(Step::Device(kept, account))
 }
 
-#[tactic(auto, unfolding(crate::specs::Reading::read_say))]
-fn read_say(alloc: Global, above: &NamesAbove, fields: Option<&str>) -> Result<Step, LineFault>
-    ensures exact { Gives (λ step. step) result (read_say above.now (left fields.entry)) }
-    ensures declared { IfOk result (λ step. declared_by step above.now ≡ above.now) }
+/// The device, the account and the text of a message.
+#[tactic(auto, unfolding(crate::specs::Reading::read_message))]
+fn read_message(
+    alloc: Global,
+    above: &NamesAbove,
+    fields: Option<&str>,
+) -> Result<(Text, Text, Text), LineFault>
+    ensures { Gives (λ message. message) result (read_message above.now (left fields.entry)) }
 {
     let (device, rest) = next_field(fields)?;
     let (to, rest) = next_field(rest)?;
@@ -96,7 +102,25 @@ fn read_say(alloc: Global, above: &NamesAbove, fields: Option<&str>) -> Result<S
     let device = Text::from_str(alloc, device)?;
     let to = Text::from_str(alloc, to)?;
     let text = Text::from_str(alloc, text)?.shared()?;
+    Ok((device, to, text))
+}
+
+#[tactic(auto, unfolding(crate::specs::Reading::read_say))]
+fn read_say(alloc: Global, above: &NamesAbove, fields: Option<&str>) -> Result<Step, LineFault>
+    ensures exact { Gives (λ step. step) result (read_say above.now (left fields.entry)) }
+    ensures declared { IfOk result (λ step. declared_by step above.now ≡ above.now) }
+{
+    let (device, to, text) = read_message(alloc, above, fields)?;
     Ok(Step::Say(device, to, text))
+}
+
+#[tactic(auto, unfolding(crate::specs::Reading::read_private))]
+fn read_private(alloc: Global, above: &NamesAbove, fields: Option<&str>) -> Result<Step, LineFault>
+    ensures exact { Gives (λ step. step) result (read_private above.now (left fields.entry)) }
+    ensures declared { IfOk result (λ step. declared_by step above.now ≡ above.now) }
+{
+    let (device, to, text) = read_message(alloc, above, fields)?;
+    Ok(Step::Private(device, to, text))
 }
 
 #[tactic(auto, unfolding(crate::specs::Reading::read_catchup))]
@@ -107,8 +131,17 @@ fn read_catchup(alloc: Global, above: &NamesAbove, fields: Option<&str>) -> Resu
     let (device, rest) = next_field(fields)?;
     let field = last_field(rest)?;
     wants(above.devices.contains(device), LineWhy::Unknown)?;
-    let most = page_limit(field)?;
+    let most = number_within(1, 100, field)?;
     Ok(Step::Catchup(Text::from_str(alloc, device)?, most))
+}
+
+#[tactic(auto, unfolding(crate::specs::Reading::read_tick))]
+fn read_tick(fields: Option<&str>) -> Result<Step, LineFault>
+    ensures exact { Gives (λ step. step) result (read_tick (left fields.entry)) }
+    ensures declared { IfOk result (λ step. (above : Declared) → declared_by step above ≡ above) }
+{
+    let field = last_field(fields)?;
+    Ok(Step::Tick(number_within(0, MOST_TICK, field)?))
 }
 
 /// What a line says, by its first word. It adds to the names above what the line declares.
@@ -123,7 +156,9 @@ fn read_words(alloc: Global, above: &mut NamesAbove, line: &str) -> Result<Step,
         "account" => read_account(alloc, above, fields),
         "device" => read_device(alloc, above, fields),
         "say" => read_say(alloc, above, fields),
+        "private" => read_private(alloc, above, fields),
         "catchup" => read_catchup(alloc, above, fields),
+        "tick" => read_tick(fields),
         _ => Err(LineFault::Reason(LineWhy::Word)),
     }
 }
@@ -146,18 +181,4 @@ pub fn read_line(
     let line = spelled(line, ended)?;
     wants(number <= 100_000, LineWhy::Many)?;
     read_words(alloc, above, line)
-}
-
-/// The characters of a line that an LF ends.
-fn spelled(line: &[u8], ended: bool) -> Result<&str, LineFault>
-    ensures exact { Gives (λ _. true) result (wants (ended && is_utf8 line.now) Ending) }
-    ensures same { IfOk result (λ text. text.now ≡ line.now) }
-{
-    if !ended {
-        return Err(LineFault::Reason(LineWhy::Ending));
-    }
-    match str::from_utf8(line) {
-        Ok(text) => Ok(text),
-        Err(_) => Err(LineFault::Reason(LineWhy::Ending)),
-    }
 }

@@ -2,7 +2,7 @@ use Rattle.std.proofs.Common.{◌≡◌, true, false, arith}
 use Rattle.std.proofs.lemmas.Str.{is_utf8-from_IsUtf8}
 use Rattle.std.specs.Str.{is_utf8}
 use Rattle.xmpp_schedule.proofs.Words.{not_spelled}
-use Rattle.xmpp_schedule.proofs.steps.spelled.Goals as goal
+use Rattle.xmpp_schedule.proofs.lines.spelled.Goals as goal
 
 pub returns-in-Ok-clause-exact : goal.returns-in-Ok-clause-exact
 returns-in-Ok-clause-exact c =
