@@ -1,6 +1,7 @@
 -- A log as the pages that it is made of.
 use Rattle.std.specs.Prelude.{◌≡◌, ℕ, ◌≤◌, List, Option, length, map, IfSome}
-use Rattle.xmpp_log.specs.LogPages.{LogPage, IsTiled, ids_of, last_id, log_of, tile_of}
+use Rattle.xmpp_log.specs.Breaks.{breaks_of}
+use Rattle.xmpp_log.specs.LogPages.{LogPage, IsBehind, IsTiled, ids_of, log_of, tile_of}
 use Rattle.xmpp_log.specs.Orders.{IsOrderOf}
 use Rattle.xmpp_log.specs.Views.{OpenPage}
 use Rattle.xmpp_log.specs.declared.log_entry.LogEntry.{LogEntry}
@@ -15,9 +16,11 @@ pub record IsTiling (entries : List LogEntry) (tiles : List Tile) : Type 0 where
   pub kept : map tile_of pages ≡ tiles
 
 -- what is so of a log between any two calls: the order is that of its entries' ids, its entries and tiles are those of
--- pages, and the open page was asked for behind the last entry and has at most as many results as were asked for
-pub record IsSound (order : List ℕ) (entries : List LogEntry) (tiles : List Tile) (page : Option OpenPage) : Type 0 where
+-- pages, the breaks are those of the tiles, and the open page was asked for behind the last entry or anew and has at most as
+-- many results as were asked for
+pub record IsSound (order : List ℕ) (entries : List LogEntry) (tiles : List Tile) (breaks : List ℕ) (page : Option OpenPage) : Type 0 where
   pub ordered : IsOrderOf order (ids_of entries)
   pub tiling : IsTiling entries tiles
-  pub behind : IfSome page (λ p. p.after ≡ last_id entries)
+  pub broken : breaks ≡ breaks_of tiles
+  pub behind : IfSome page (λ p. IsBehind entries p.after)
   pub bound : IfSome page (λ p. (length p.results ≤ p.max) × (p.max ≤ MOST_RESULTS))

@@ -1,5 +1,6 @@
 //! The end of a page: whether it may join the log, and how it does.
 ghost use Rattle.std.specs.Prelude.{◌≡◌, ℕ, ◌-◌, ◌<◌, ◌≤◌, false, None, ◌⊎◌, if◌then◌else◌, List, [], ◌∷◌, ◌++◌, Ok, Err, Result, IfOk, IfErr, OnOk, OnErr, length, vec_len, vec_capacity};
+ghost use Rattle.xmpp_log.specs.Breaks.{break_at, is_break};
 ghost use Rattle.xmpp_log.specs.LogPages.{ids_of, last_id};
 ghost use Rattle.xmpp_log.specs.Orders.{IsOrderOf};
 ghost use Rattle.xmpp_log.specs.Views.{LogView, advance_of, end_of, outcome_of, first_repeat, repeat_of, same_id};
@@ -10,24 +11,27 @@ use crate::log_entry::{LogEntries, LogEntry};
 use crate::open_page::{Page, borrowed, copied, last_id, same_id};
 use crate::tile::{Tile, Tiles};
 use std::alloc::Global;
-use xmpp_edge::NoMemory;
+use xmpp_edge::{NoMemory, Numbers};
 use xmpp_pages::Fin;
 
-/// Makes room for further entries, their places and a further tile.
+/// Makes room for further entries, their places, a further tile and a further break.
 pub(crate) fn make_room(
     entries: &mut LogEntries,
     order: &mut Vec<usize>,
     tiles: &mut Tiles,
+    breaks: &mut Numbers,
     count: usize,
 ) -> Result<(), NoMemory>
     ensures entries { entries.new.items ≡ entries.old.items }
     ensures order { order.new.items ≡ order.old.items }
     ensures tiles { tiles.new.items ≡ tiles.old.items }
-    ensures room { OnOk result ((count ≤ entries.new.spare) × (count ≤ vec_capacity order.new - vec_len order.new) × (1 ≤ tiles.new.spare)) }
+    ensures breaks { breaks.new.items ≡ breaks.old.items }
+    ensures room { OnOk result ((count ≤ entries.new.spare) × (count ≤ vec_capacity order.new - vec_len order.new) × (1 ≤ tiles.new.spare) × (1 ≤ breaks.new.spare)) }
 {
     entries.reserve(count)?;
     order.reserve(count)?;
     tiles.reserve(1)?;
+    breaks.reserve(1)?;
     Ok(())
 }
 
@@ -96,29 +100,51 @@ fn join(entries: &mut LogEntries, order: &mut Vec<usize>, results: LogEntries)
     }
 }
 
+/// Whether a page that was asked for anew comes behind entries, and brings one.
+fn is_break(before: usize, tile: &Tile) -> bool
+    ensures { result ≡ is_break before tile.now }
+{
+    tile.after.is_none() && (before > 0 && tile.count > 0)
+}
+
+/// Notes where a log breaks, if it does so at this page.
+fn note_break(breaks: &mut Numbers, before: usize, tile: &Tile)
+    requires { 1 ≤ breaks.old.spare }
+    ensures { breaks.new.items ≡ breaks.old.items ++ break_at before tile.now }
+{
+    if is_break(before, tile) {
+        breaks.push_reserved(before as u64);
+    }
+}
+
 /// Moves a page's results to the end of the entries, and keeps the rest of it as a tile.
 pub(crate) fn take_over(
     entries: &mut LogEntries,
     order: &mut Vec<usize>,
     tiles: &mut Tiles,
+    breaks: &mut Numbers,
     page: Page,
     fin: &Fin,
 )
     requires entries { length page.results ≤ entries.old.spare }
     requires places { length page.results ≤ vec_capacity order.old - vec_len order.old }
     requires tiles { 1 ≤ tiles.old.spare }
+    requires breaks { 1 ≤ breaks.old.spare }
     requires order { IsOrderOf order.old.items (ids_of entries.old.items) }
     requires fresh { first_repeat (ids_of entries.old.items) (ids_of page.results) ≡ None }
     ensures entries { entries.new.items ≡ entries.old.items ++ page.results }
     ensures order { IsOrderOf order.new.items (ids_of entries.new.items) }
     ensures tiles { tiles.new.items ≡ tiles.old.items ++ record { after = page.after; count = length page.results; complete = fin.now.complete; total = fin.now.count } ∷ [] }
+    ensures breaks { breaks.new.items ≡ breaks.old.items ++ break_at (length entries.old.items) (record { after = page.after; count = length page.results; complete = fin.now.complete; total = fin.now.count }) }
 {
     let Page { after, results, .. } = page;
-    tiles.push_reserved(Tile {
+    let tile = Tile {
         after,
         count: results.as_slice().len() as u64,
         complete: fin.complete,
         total: fin.count,
-    });
+    };
+    note_break(breaks, entries.as_slice().len(), &tile);
+    tiles.push_reserved(tile);
     join(entries, order, results);
 }

@@ -1,19 +1,21 @@
 //! What a device keeps of its account's archive.
 ghost use Rattle.std.specs.Prelude.{◌≡◌, ℕ, ◌≤◌, ◌⊎◌, List, [], ◌∷◌, ◌++◌, Ok, Err, Some, None, IsSome, IsErrOf, IfErr, IfSome, OnOk, OnErr, IsSomeAnd, MatchOption, length, ◌↔◌};
 ghost use Rattle.std.specs.Option.{option_copied, option_map};
+ghost use Rattle.xmpp_log.specs.Breaks.{breaks_of};
+ghost use Rattle.xmpp_log.specs.LogCalls.{restart_answer, with_restart};
 ghost use Rattle.xmpp_log.specs.LogPages.{last_id};
 ghost use Rattle.xmpp_log.specs.Tilings.{IsTiling};
 ghost use Rattle.xmpp_log.specs.Views.{after_fin, after_refusal, fin_answer, page_for, with_begun, with_result};
 
 use crate::closing::{judge, make_room, take_over};
-use crate::faults::{BeginFault, ResultFault};
+use crate::faults::{BeginFault, RestartFault, ResultFault};
 use crate::fin::{FinFault, PageOutcome};
 use crate::log_entry::{LogEntries, LogEntry};
 use crate::open_page::{Page, copied, last_id, take_page};
 use crate::tile::{Tile, Tiles};
 use std::alloc::Global;
 use std::marker::Model;
-use xmpp_edge::{ListOf, Text};
+use xmpp_edge::{ListOf, Numbers, Text};
 use xmpp_pages::{Fin, MOST_RESULTS};
 
 /// A device's log: the entries that it took of its account's archive page by page, in order, what is kept of each
@@ -24,6 +26,7 @@ use xmpp_pages::{Fin, MOST_RESULTS};
 pub struct Log {
     entries: LogEntries,
     tiles: Tiles,
+    breaks: Numbers,
     page: Option<Page>,
     order: Vec<usize>,
 }
@@ -36,7 +39,7 @@ impl Model for Log {
 
     ghost view = { λ l. record { entries = l.entries.items; tiles = l.tiles.items; page = l.page } };
 
-    ghost invariant = { λ l. IsSound l.order.items l.entries.items l.tiles.items l.page };
+    ghost invariant = { λ l. IsSound l.order.items l.entries.items l.tiles.items l.breaks.items l.page };
 }
 
 impl Log {
@@ -47,6 +50,7 @@ impl Log {
         Log {
             entries: ListOf::new(alloc),
             tiles: ListOf::new(alloc),
+            breaks: ListOf::new(alloc),
             page: None,
             order: Vec::new(alloc),
         }
@@ -104,6 +108,7 @@ impl Log {
             &mut self.entries,
             &mut self.order,
             &mut self.tiles,
+            &mut self.breaks,
             page.results.as_slice().len(),
         )
         .is_err()
@@ -123,6 +128,7 @@ impl Log {
                     &mut self.entries,
                     &mut self.order,
                     &mut self.tiles,
+                    &mut self.breaks,
                     page,
                     fin,
                 );
@@ -134,6 +140,37 @@ impl Log {
             }
             Err(fault) => Err(fault),
         }
+    }
+
+    /// Asks anew for the page of a query, whose place the archive no longer has: its results are dropped, and it has a
+    /// fresh query id, no place, and as many results at most. `Stranger` comes where no open page has this query id, then
+    /// `NoPlace` where it has no place already; an error leaves the log as it was. It takes no memory.
+    pub fn restart(&mut self, alloc: Global, queryid: &str, fresh: Text) -> Result<(), RestartFault>
+        ensures answer { result ≡ restart_answer (page_for queryid.now self.old.page) }
+        ensures ok { OnOk result (self.new ≡ with_restart self.old fresh) }
+        ensures err { OnErr result (self.new ≡ self.old) }
+    {
+        let Some(page) = take_page(&mut self.page, queryid) else {
+            return Err(RestartFault::Stranger);
+        };
+        if page.after.is_none() {
+            self.page = Some(page);
+            return Err(RestartFault::NoPlace);
+        }
+        self.page = Some(Page {
+            queryid: fresh,
+            max: page.max,
+            after: None,
+            results: ListOf::new(alloc),
+        });
+        Ok(())
+    }
+
+    /// Discards the open page. It takes no memory.
+    pub fn break_off(&mut self)
+        ensures { self.new ≡ record self.old { page = None } }
+    {
+        self.page = None;
     }
 
     /// The entries that were taken over, in order.
@@ -150,6 +187,14 @@ impl Log {
         ensures tiling { IsTiling self.now.entries self.now.tiles }
     {
         self.tiles.as_slice()
+    }
+
+    /// Where the log breaks, ascending: how many entries stand before each page that was asked for anew and has an
+    /// entry, of those that stand behind entries. It takes no memory.
+    pub fn breaks(&self) -> &[u64]
+        ensures { result.now ≡ breaks_of self.now.tiles }
+    {
+        self.breaks.as_slice()
     }
 
     /// The open page's query id. It is `None` exactly where no page is open.

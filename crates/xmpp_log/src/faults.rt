@@ -1,4 +1,4 @@
-//! Why no page was begun, and why a result was not taken.
+//! Why no page was begun, why a result was not taken, and why a page was not asked for anew.
 use std::error::Error;
 use std::fmt;
 use xmpp_edge::NoMemory;
@@ -21,6 +21,15 @@ pub enum ResultFault {
     Overrun,
     /// Memory ran out.
     NoMemory,
+}
+
+/// Why a page was not asked for anew. The log is as it was.
+#[derive(Clone, Copy, Debug, PartialEq, Eq)]
+pub enum RestartFault {
+    /// No open page has this query id.
+    Stranger,
+    /// The page has no place: it was asked for from the first entry.
+    NoPlace,
 }
 
 impl From<NoMemory> for BeginFault {
@@ -64,6 +73,17 @@ impl fmt::Display for ResultFault {
     }
 }
 
+impl fmt::Display for RestartFault {
+    fn fmt<W: fmt::Write>(&self, f: &mut fmt::Formatter<W>) -> fmt::Result {
+        f.write_str(match self {
+            RestartFault::Stranger => "no open page has this query id",
+            RestartFault::NoPlace => "the page was asked for from the first entry",
+        })
+    }
+}
+
 impl Error for BeginFault {}
 
 impl Error for ResultFault {}
+
+impl Error for RestartFault {}

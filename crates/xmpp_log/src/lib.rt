@@ -12,7 +12,7 @@ mod open_page;
 mod tile;
 
 pub use device_log::Log;
-pub use faults::{BeginFault, ResultFault};
+pub use faults::{BeginFault, RestartFault, ResultFault};
 pub use fin::{FinFault, PageOutcome};
 pub use laws::entries_are_tiled;
 pub use log_entry::{LogEntries, LogEntry};
