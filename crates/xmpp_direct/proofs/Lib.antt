@@ -6,4 +6,5 @@ pub mod LawPages
 pub mod LawTakes
 pub mod LawWorlds
 pub mod LawsKept
+pub mod NextPages
 pub mod Prefixes
