@@ -1,6 +1,7 @@
 pub mod Again
 pub mod Answered
 pub mod Cuts
+pub mod DeclaredPlaces
 pub mod Found
 pub mod Lists
 pub mod Moments

@@ -5,6 +5,7 @@ mod fault;
 mod fields;
 mod heading;
 mod lines;
+mod names;
 mod reading;
 mod schedule;
 mod steps;

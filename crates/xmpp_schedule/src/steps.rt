@@ -11,16 +11,17 @@ use crate::fields::{
     cut_word, is_name, is_text, last_field, next_field, number_within, rest_field,
 };
 use crate::lines::spelled;
+use crate::names::DeclaredNames;
 use crate::schedule::{MOST_TICK, Step};
 use std::alloc::Global;
 use std::marker::Model;
-use xmpp_edge::{NameIndex, Text};
+use xmpp_edge::{Copied, Text};
 
 /// The names that are declared above a line.
 #[derive(Drop)]
 pub struct NamesAbove {
-    accounts: NameIndex,
-    devices: NameIndex,
+    accounts: DeclaredNames,
+    devices: DeclaredNames,
 }
 
 impl Model for NamesAbove {
@@ -37,8 +38,8 @@ impl NamesAbove {
         ensures { result ≡ nothing_declared }
     {
         NamesAbove {
-            accounts: NameIndex::new(alloc),
-            devices: NameIndex::new(alloc),
+            accounts: DeclaredNames::new(alloc),
+            devices: DeclaredNames::new(alloc),
         }
     }
 }
@@ -57,9 +58,7 @@ fn read_account(
     let name = last_field(fields)?;
     wants(is_name(name), LineWhy::Name)?;
     wants(!above.accounts.contains(name), LineWhy::Twice)?;
-    let kept = Text::from_str(alloc, name)?;
-    above.accounts.add(alloc, name)?;
-    Ok(Step::Account(kept))
+    Ok(Step::Account(above.accounts.add(alloc, name)?))
 }
 
 #[tactic(auto, unfolding(crate::specs::Reading::read_device))]
@@ -77,11 +76,8 @@ fn read_device(
     let account = last_field(rest)?;
     wants(is_name(name), LineWhy::Name)?;
     wants(!above.devices.contains(name), LineWhy::Twice)?;
-    wants(above.accounts.contains(account), LineWhy::Unknown)?;
-    let kept = Text::from_str(alloc, name)?;
-    let account = Text::from_str(alloc, account)?;
-    above.devices.add(alloc, name)?;
-    Ok(Step::Device(kept, account))
+    let account = above.accounts.known(account)?.copied(alloc)?;
+    Ok(Step::Device(above.devices.add(alloc, name)?, account))
 }
 
 /// The device, the account and the text of a message.
@@ -96,11 +92,11 @@ fn read_message(
     let (device, rest) = next_field(fields)?;
     let (to, rest) = next_field(rest)?;
     let text = rest_field(rest)?;
-    wants(above.devices.contains(device), LineWhy::Unknown)?;
+    let device = above.devices.known(device)?;
     wants(is_name(to), LineWhy::Name)?;
     wants(is_text(text), LineWhy::Text)?;
-    let device = Text::from_str(alloc, device)?;
-    let to = Text::from_str(alloc, to)?;
+    let device = device.copied(alloc)?;
+    let to = above.accounts.text_of(alloc, to)?;
     let text = Text::from_str(alloc, text)?.shared()?;
     Ok((device, to, text))
 }
@@ -130,9 +126,9 @@ fn read_catchup(alloc: Global, above: &NamesAbove, fields: Option<&str>) -> Resu
 {
     let (device, rest) = next_field(fields)?;
     let field = last_field(rest)?;
-    wants(above.devices.contains(device), LineWhy::Unknown)?;
+    let device = above.devices.known(device)?;
     let most = number_within(1, 100, field)?;
-    Ok(Step::Catchup(Text::from_str(alloc, device)?, most))
+    Ok(Step::Catchup(device.copied(alloc)?, most))
 }
 
 #[tactic(auto, unfolding(crate::specs::Reading::read_tick))]
