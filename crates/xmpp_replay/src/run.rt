@@ -167,6 +167,7 @@ impl Run {
     /// Follows the lines, each below the ones before it.
     fn follow_lines(&mut self, alloc: Global, lines: &[Line]) -> Result<(), NoMemory>
         requires right { AreRight (steps_of lines.now) }
+        requires some { 1 ≤ keep_of self.old.clock.version }
         requires start { IsAfter self.old.clock.version (steps_of lines.now) [] self.old }
         ensures { OnOk result (IsAfter self.old.clock.version (steps_of lines.now) (steps_of lines.now) self.new) }
     {
