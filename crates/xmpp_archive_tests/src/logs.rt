@@ -1,9 +1,9 @@
-//! Logs: a page that is taken over, and refusals; and the printed texts of archives, pages and logs.
+//! Logs: pages that are taken over, messages that are held, and refusals; and the printed texts of archives, pages and logs.
 use crate::archives::entry;
 use std::alloc::Global;
 use xmpp_archive::ArchiveFault;
 use xmpp_edge::{NoMemory, Text};
-use xmpp_log::{BeginFault, FinFault, Log, LogEntry, PageOutcome, ResultFault};
+use xmpp_log::{BeginFault, FinFault, Log, LogEntry, PageOutcome, RestartFault, ResultFault};
 use xmpp_pages::{Fin, PageFault};
 
 fn logged(alloc: Global, id: &str) -> Result<LogEntry, NoMemory> {
@@ -86,6 +86,90 @@ fn pages_join_where_no_id_repeats(rt: HostRuntime) {
     }
 }
 
+fn hold(alloc: Global, log: &mut Log, id: &str) -> Option<bool> {
+    let live = logged(alloc, id).ok()?;
+    log.hold(alloc, live).ok()
+}
+
+/// Pages of a log that holds e, f and g: how many it holds then.
+static BROUGHT: [(&[&str], usize); 5] = [
+    (&["d"], 3),
+    (&["e"], 2),
+    (&["f"], 2),
+    (&["e", "f"], 1),
+    (&["g", "e"], 1),
+];
+
+fn take_live(alloc: Global, log: &mut Log, ids: &[&str]) -> Option<usize> {
+    for id in ["e", "f", "g"] {
+        hold(alloc, log, id)?;
+    }
+    take(alloc, log, ids)?;
+    Some(log.held().len())
+}
+
+fn held_after(alloc: Global, ids: &[&str]) -> Option<usize> {
+    let mut log = Log::new(alloc);
+    take_live(alloc, &mut log, ids)
+}
+
+#[test]
+fn a_page_brings_what_is_held(rt: HostRuntime) {
+    for (ids, left) in &BROUGHT {
+        assert!(rt; held_after(rt.alloc(), ids) == Some(*left));
+    }
+}
+
+/// Messages that come live to a log with the entry b that holds e: whether each is held.
+static LIVE: [(&str, bool); 3] = [("b", false), ("e", false), ("c", true)];
+
+fn hold_after(alloc: Global, log: &mut Log, id: &str) -> Option<bool> {
+    take(alloc, log, &["b"])?;
+    hold(alloc, log, "e")?;
+    hold(alloc, log, id)
+}
+
+fn is_held(alloc: Global, id: &str) -> Option<bool> {
+    let mut log = Log::new(alloc);
+    hold_after(alloc, &mut log, id)
+}
+
+#[test]
+fn a_message_is_held_once(rt: HostRuntime) {
+    for (id, holds) in &LIVE {
+        assert!(rt; is_held(rt.alloc(), id) == Some(*holds));
+    }
+}
+
+/// Ends a page of b and d that is not the last, and begins the next one.
+fn turn(alloc: Global, log: &mut Log) -> Option<PageOutcome> {
+    begin(alloc, log, &["b", "d"])?;
+    let mut more = fin(alloc, "d").ok()?;
+    more.complete = false;
+    let next = Text::from_str(alloc, "r").ok()?;
+    log.fin_then_begin(alloc, "q", &more, next).ok()
+}
+
+/// Asks anew for the page that was begun, takes it over with f, and answers where the log breaks.
+fn ask_anew(alloc: Global, log: &mut Log) -> Option<u64> {
+    turn(alloc, log)?;
+    let fresh = Text::from_str(alloc, "q").ok()?;
+    log.restart(alloc, "r", fresh).ok()?;
+    put(alloc, log, "f")?;
+    end(alloc, log, "f")?;
+    log.breaks().first().copied()
+}
+
+fn asked_anew(alloc: Global) -> Option<u64> {
+    let mut log = Log::new(alloc);
+    ask_anew(alloc, &mut log)
+}
+
+#[test]
+fn a_page_asked_for_anew_breaks_the_log(rt: HostRuntime) {
+    assert!(rt; asked_anew(rt.alloc()) == Some(2));
+}
+
 fn result_fault(alloc: Global, log: &mut Log, queryid: &str) -> Option<ResultFault> {
     let entry = logged(alloc, "c").ok()?;
     log.result(queryid, entry).err()
@@ -120,7 +204,8 @@ fn an_open_page_refuses_calls(rt: HostRuntime) {
 }
 
 const TOLD: &str = "the archive is full, no entry has this id, an empty page is not the last one, \
-                    no open page has this query id, a page is open already";
+                    no open page has this query id, a page is open already, \
+                    the page was asked for from the first entry";
 
 fn are_told(alloc: Global, shown: &str) -> bool {
     let full = ArchiveFault::Full;
@@ -128,7 +213,8 @@ fn are_told(alloc: Global, shown: &str) -> bool {
     let empty = FinFault::NoAdvance;
     let stranger = ResultFault::Stranger;
     let underway = BeginFault::Underway;
-    match format!(in alloc; "{full}, {absent}, {empty}, {stranger}, {underway}") {
+    let placeless = RestartFault::NoPlace;
+    match format!(in alloc; "{full}, {absent}, {empty}, {stranger}, {underway}, {placeless}") {
         Ok(text) => text.as_str() == shown,
         Err(_) => false,
     }

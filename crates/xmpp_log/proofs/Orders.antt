@@ -16,7 +16,7 @@ use Rattle.xmpp_log.specs.Orders.{IsOrderOf, text_at, texts_at}
 
 -- ---- the two ways to ask for a text
 
-bytes_eq-sym : (a b : List ℕ) → bytes_eq a b ≡ bytes_eq b a
+pub bytes_eq-sym : (a b : List ℕ) → bytes_eq a b ≡ bytes_eq b a
 bytes_eq-sym a b =
     let there = bytes_eq-Decides a b in
     let back = bytes_eq-Decides b a in

@@ -9,11 +9,12 @@ use Rattle.std.proofs.lemmas.List.Folds.{list_any_at}
 use Rattle.std.proofs.lemmas.List.Quantifiers.{all_pairs_push}
 use Rattle.std.proofs.lemmas.Slice.Eq.{bytes_eq-Decides}
 use Rattle.xmpp_log.proofs.Repeats.{first_id}
+use Rattle.xmpp_log.proofs.Unlogged.{unlogged-joined}
 use Rattle.xmpp_log.specs.Breaks.{break_at, breaks_from, breaks_of}
 use Rattle.xmpp_log.specs.LogPages.{LogPage, FollowsOn, IsBehind, ids_of, log_of, tile_of}
 use Rattle.xmpp_log.specs.Orders.{IsOrderOf}
 use Rattle.xmpp_log.specs.Tilings.{IsTiling, IsSound}
-use Rattle.xmpp_log.specs.Views.{OpenPage, first_repeat, page_for}
+use Rattle.xmpp_log.specs.Views.{OpenPage, first_repeat, page_for, unheld}
 use Rattle.xmpp_log.specs.declared.log_entry.LogEntry.{LogEntry}
 use Rattle.xmpp_log.specs.declared.tile.Tile.{Tile}
 
@@ -24,7 +25,7 @@ FollowsOn-push before (p ∷ ps) page f e c =
     (f.0, f.1, FollowsOn-push (before ++ p.entries) ps page f.2 (subst (λ (es : List LogEntry). IsBehind es page.after) (sym (append_assoc before p.entries (log_of ps))) e) c)
 
 -- an id that is not among others differs from each of them
-differs : (ids : List (List ℕ)) (id : List ℕ) → list_any (λ other. bytes_eq id other) ids ≡ false → (k : ℕ) (d : List ℕ) → k < length ids → get_or ids k d ≢ id
+pub differs : (ids : List (List ℕ)) (id : List ℕ) → list_any (λ other. bytes_eq id other) ids ≡ false → (k : ℕ) (d : List ℕ) → k < length ids → get_or ids k d ≢ id
 differs ids id none k d below same =
     false≢true (sym none ∙ list_any_at (λ other. bytes_eq id other) ids k d below ((bytes_eq-Decides id (get_or ids k d)).1 (sym same)))
 
@@ -80,8 +81,8 @@ breaks-push entries tiles tile h =
     rw (← h.kept, ← h.joined) (breaks_from-push 0 h.pages tile ∙ ap (λ m. breaks_from 0 (map tile_of h.pages) ++ break_at m tile) count)
 
 -- a log that took over its open page
-pub IsSound-joined : (order new_order : List ℕ) (entries new_entries : List LogEntry) (tiles new_tiles : List Tile) (breaks new_breaks : List ℕ) (o left : Option OpenPage) (queryid : List ℕ) (page : OpenPage) (complete : Bool) (total : ℕ)
-    → IsSound order entries tiles breaks o
+pub IsSound-joined : (order new_order : List ℕ) (entries new_entries : List LogEntry) (tiles new_tiles : List Tile) (breaks new_breaks : List ℕ) (held new_held : List LogEntry) (o left : Option OpenPage) (queryid : List ℕ) (page : OpenPage) (complete : Bool) (total : ℕ)
+    → IsSound order entries tiles breaks o held
     → Some page ≡ page_for queryid o
     → left ≡ None
     → IsOrderOf new_order (ids_of new_entries)
@@ -90,14 +91,16 @@ pub IsSound-joined : (order new_order : List ℕ) (entries new_entries : List Lo
     → new_entries ≡ entries ++ page.results
     → new_tiles ≡ tiles ++ record { after = page.after; count = length page.results; complete = complete; total = total } ∷ []
     → new_breaks ≡ breaks ++ break_at (length entries) (record { after = page.after; count = length page.results; complete = complete; total = total })
-    → IsSound new_order new_entries new_tiles new_breaks left
-IsSound-joined order new_order entries new_entries tiles new_tiles breaks new_breaks o left queryid page complete total sound named none ordered fresh advances e f g =
+    → new_held ≡ unheld (ids_of page.results) held
+    → IsSound new_order new_entries new_tiles new_breaks left new_held
+IsSound-joined order new_order entries new_entries tiles new_tiles breaks new_breaks held new_held o left queryid page complete total sound named none ordered fresh advances e f g h =
     let taken : LogPage = record { after = page.after; entries = page.results; complete = complete; total = total } in
     let behind = page_for-if queryid o page (λ p. IsBehind entries p.after) named sound.behind in
-    rw (e, f, g, none) (record {
+    rw (e, f, g, h, none) (record {
       ordered = rw e at ordered;
       tiling = IsTiling-push entries tiles taken sound.tiling behind advances fresh;
       broken = rw sound.broken (sym (breaks-push entries tiles (tile_of taken) sound.tiling));
       behind = tt;
       bound = tt;
+      unlogged = unlogged-joined entries page.results held sound.unlogged;
     })

@@ -31,7 +31,7 @@ abbrev told : Bool → Option (List ℕ) → Fin
 told complete last = record { complete = complete; first = None; first_index = 0; last = last; count = 3 }
 
 abbrev empty : LogView
-empty = record { entries = []; tiles = []; page = None }
+empty = record { entries = []; tiles = []; page = None; held = [] }
 
 -- a page of two that is not complete
 abbrev two : LogView
@@ -41,7 +41,7 @@ abbrev tile_of_two : Tile
 tile_of_two = record { after = None; count = 2; complete = false; total = 3 }
 
 abbrev took_two : LogView
-took_two = record { entries = entry a ∷ entry b ∷ []; tiles = tile_of_two ∷ []; page = None }
+took_two = record { entries = entry a ∷ entry b ∷ []; tiles = tile_of_two ∷ []; page = None; held = [] }
 
 two_ends : fin_answer two q (told false (Some b)) ≡ Ok More
 two_ends = refl
@@ -56,7 +56,7 @@ third = with_result (with_begun took_two r 2) (entry c)
 third_ends : fin_answer third r (told true (Some c)) ≡ Ok Complete
 third_ends = refl
 
-third_joins : after_fin third (told true (Some c)) ≡ record { entries = entry a ∷ entry b ∷ entry c ∷ []; tiles = tile_of_two ∷ record { after = Some b; count = 1; complete = true; total = 3 } ∷ []; page = None }
+third_joins : after_fin third (told true (Some c)) ≡ record { entries = entry a ∷ entry b ∷ entry c ∷ []; tiles = tile_of_two ∷ record { after = Some b; count = 1; complete = true; total = 3 } ∷ []; page = None; held = [] }
 third_joins = refl
 
 -- another query's end
@@ -90,7 +90,7 @@ empty_page = refl
 empty_complete : fin_answer (with_begun took_two r 2) r (told true None) ≡ Ok Complete
 empty_complete = refl
 
-empty_joins : after_fin (with_begun took_two r 2) (told true None) ≡ record { entries = entry a ∷ entry b ∷ []; tiles = tile_of_two ∷ record { after = Some b; count = 0; complete = true; total = 3 } ∷ []; page = None }
+empty_joins : after_fin (with_begun took_two r 2) (told true None) ≡ record { entries = entry a ∷ entry b ∷ []; tiles = tile_of_two ∷ record { after = Some b; count = 0; complete = true; total = 3 } ∷ []; page = None; held = [] }
 empty_joins = refl
 
 -- a refusal ends the page; want of memory and a stranger's query don't

@@ -8,3 +8,4 @@ pub mod LogCalls
 pub mod Tilings
 -- ---- what the private code keeps beside the entries
 pub mod Orders
+pub mod HeldIds

@@ -1,9 +1,12 @@
--- The calls on a log that ask for a page anew.
-use Rattle.std.specs.Prelude.{ℕ, List, [], Option, Some, None, Result, Ok, Err, if◌then◌else◌, is_none}
+-- The calls on a log that ask for a page anew, and those that hold a message.
+use Rattle.std.specs.Prelude.{ℕ, nat_lt, Bool, not, ◌&&◌, List, [], ◌∷◌, ◌++◌, length, Option, Some, None, Result, Ok, Err, if◌then◌else◌, is_none}
 use Rattle.std.specs.Option.{option_map}
-use Rattle.xmpp_log.specs.Views.{LogView, OpenPage}
+use Rattle.xmpp_log.specs.LogPages.{ids_of}
+use Rattle.xmpp_log.specs.Views.{LogView, OpenPage, is_among}
 use Rattle.xmpp_log.specs.declared.faults.RestartFault.{RestartFault}
 use Rattle.xmpp_log.specs.declared.faults.RestartFault.TheVariants.{Stranger, NoPlace}
+use Rattle.xmpp_log.specs.declared.held.TheConstants.{MOST_HELD}
+use Rattle.xmpp_log.specs.declared.log_entry.LogEntry.{LogEntry}
 
 -- what asking anew for the page of a query answers
 abbrev pub restart_answer : Option OpenPage → Result (Unit {0}) RestartFault
@@ -16,3 +19,10 @@ restarted fresh page = record page { queryid = fresh; after = None; results = []
 
 abbrev pub with_restart : LogView → List ℕ → LogView
 with_restart log fresh = record log { page = option_map (restarted fresh) log.page }
+
+-- a message may be held: its id is neither in the log nor held, and there is place
+abbrev pub may_hold : LogView → List ℕ → Bool
+may_hold log id = not (is_among id (ids_of log.entries)) && (not (is_among id (ids_of log.held)) && nat_lt (length log.held) MOST_HELD)
+
+abbrev pub after_hold : LogView → LogEntry → LogView
+after_hold log live = if may_hold log live.id then record log { held = log.held ++ live ∷ [] } else log

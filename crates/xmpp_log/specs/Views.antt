@@ -1,5 +1,5 @@
 -- What clauses see of a log, and what ends a page.
-use Rattle.std.specs.Prelude.{ℕ, nat_lt, Bool, true, false, ◌&&◌, not, List, [], ◌∷◌, ◌++◌, Option, Some, None, Result, Ok, Err, length, if◌then◌else◌}
+use Rattle.std.specs.Prelude.{ℕ, nat_lt, Bool, true, false, ◌&&◌, not, List, [], ◌∷◌, ◌++◌, filter, Option, Some, None, Result, Ok, Err, length, if◌then◌else◌}
 use Rattle.std.specs.List.{list_any}
 use Rattle.std.specs.Option.{option_map}
 use Rattle.std.specs.Str.{bytes_eq}
@@ -20,11 +20,21 @@ pub record OpenPage : Type 0 where
   pub after : Option (List ℕ)
   pub results : List LogEntry
 
--- a device's log: the entries that were taken over, what is kept of their pages, and the open page
+-- a device's log: the entries that were taken over, what is kept of their pages, the open page, and the messages that came
+-- live and are held until a page brings them
 pub record LogView : Type 0 where
   pub entries : List LogEntry
   pub tiles : List Tile
   pub page : Option OpenPage
+  pub held : List LogEntry
+
+-- the id is one of these
+abbrev pub is_among : List ℕ → List (List ℕ) → Bool
+is_among id ids = list_any (λ other. bytes_eq id other) ids
+
+-- what is held without what a page has brought
+abbrev pub unheld : List (List ℕ) → List LogEntry → List LogEntry
+unheld ids held = filter (λ e. not (is_among e.id ids)) held
 
 -- the open page, where it has this query id
 abbrev pub page_for : List ℕ → Option OpenPage → Option OpenPage
@@ -75,12 +85,13 @@ fin_answer log queryid fin = answer_of log (page_for queryid log.page) fin
 abbrev pub without_page : LogView → LogView
 without_page log = record log { page = None }
 
--- the log with the page's results at its end
+-- the log with the page's results at its end; they are held no more
 abbrev pub with_page : LogView → OpenPage → Fin → LogView
 with_page log page fin = record {
   entries = log.entries ++ page.results;
   tiles = log.tiles ++ record { after = page.after; count = length page.results; complete = fin.complete; total = fin.count } ∷ [];
   page = None;
+  held = unheld (ids_of page.results) log.held;
 }
 
 -- the log after the page has ended well

@@ -1,21 +1,23 @@
 //! What a device keeps of its account's archive.
-ghost use Rattle.std.specs.Prelude.{◌≡◌, ℕ, ◌≤◌, ◌⊎◌, List, [], ◌∷◌, ◌++◌, Ok, Err, Some, None, IsSome, IsErrOf, IfErr, IfSome, OnOk, OnErr, IsSomeAnd, MatchOption, length, ◌↔◌};
+ghost use Rattle.std.specs.Prelude.{◌≡◌, ◌≢◌, ℕ, ◌≤◌, ◌⊎◌, List, [], ◌∷◌, ◌++◌, Ok, Err, Some, None, IsSome, IsErrOf, IfErr, IfOk, IfSome, AllPairs, OnOk, OnErr, IsSomeAnd, MatchOption, length, ◌↔◌};
 ghost use Rattle.std.specs.Option.{option_copied, option_map};
 ghost use Rattle.xmpp_log.specs.Breaks.{breaks_of};
-ghost use Rattle.xmpp_log.specs.LogCalls.{restart_answer, with_restart};
-ghost use Rattle.xmpp_log.specs.LogPages.{last_id};
-ghost use Rattle.xmpp_log.specs.Tilings.{IsTiling};
+ghost use Rattle.xmpp_log.specs.LogCalls.{after_hold, may_hold, restart_answer, with_restart};
+ghost use Rattle.xmpp_log.specs.LogPages.{ids_of, last_id};
+ghost use Rattle.xmpp_log.specs.Tilings.{AreUnlogged, IsTiling};
 ghost use Rattle.xmpp_log.specs.Views.{after_fin, after_refusal, fin_answer, page_for, with_begun, with_result};
 
 use crate::closing::{judge, make_room, take_over};
 use crate::faults::{BeginFault, RestartFault, ResultFault};
 use crate::fin::{FinFault, PageOutcome};
+use crate::held::Held;
+use crate::id_order::has_id;
 use crate::log_entry::{LogEntries, LogEntry};
 use crate::open_page::{Page, copied, last_id, take_page};
 use crate::tile::{Tile, Tiles};
 use std::alloc::Global;
 use std::marker::Model;
-use xmpp_edge::{ListOf, Numbers, Text};
+use xmpp_edge::{ListOf, NoMemory, Numbers, Text};
 use xmpp_pages::{Fin, MOST_RESULTS};
 
 /// A device's log: the entries that it took of its account's archive page by page, in order, what is kept of each
@@ -29,6 +31,7 @@ pub struct Log {
     breaks: Numbers,
     page: Option<Page>,
     order: Vec<usize>,
+    held: Held,
 }
 
 impl Model for Log {
@@ -37,15 +40,15 @@ impl Model for Log {
 
     ghost Value = { LogView };
 
-    ghost view = { λ l. record { entries = l.entries.items; tiles = l.tiles.items; page = l.page } };
+    ghost view = { λ l. record { entries = l.entries.items; tiles = l.tiles.items; page = l.page; held = l.held } };
 
-    ghost invariant = { λ l. IsSound l.order.items l.entries.items l.tiles.items l.breaks.items l.page };
+    ghost invariant = { λ l. IsSound l.order.items l.entries.items l.tiles.items l.breaks.items l.page l.held };
 }
 
 impl Log {
-    /// A log with no entry, and no page under way. It takes no memory.
+    /// A log with no entry, no page under way and no message held. It takes no memory.
     pub fn new(alloc: Global) -> Log
-        ensures { result ≡ record { entries = []; tiles = []; page = None } }
+        ensures { result ≡ record { entries = []; tiles = []; page = None; held = [] } }
     {
         Log {
             entries: ListOf::new(alloc),
@@ -53,6 +56,7 @@ impl Log {
             breaks: ListOf::new(alloc),
             page: None,
             order: Vec::new(alloc),
+            held: Held::new(alloc),
         }
     }
 
@@ -124,6 +128,7 @@ impl Log {
             fin,
         ) {
             Ok(outcome) => {
+                self.held.let_go(page.results.as_slice());
                 take_over(
                     &mut self.entries,
                     &mut self.order,
@@ -142,6 +147,27 @@ impl Log {
         }
     }
 
+    /// Whether a message with this id may be held.
+    fn may_hold(&self, id: &str) -> bool
+        ensures { result ≡ may_hold self.now id.now }
+    {
+        !has_id(self.order.as_slice(), self.entries.as_slice(), id) && self.held.has_place(id)
+    }
+
+    /// Holds a message that came live behind the others, until a page brings its id. `false` comes where the id is in the
+    /// log or held, or `MOST_HELD` messages are held; it drops the message and leaves the log as it was, as an error does.
+    pub fn hold(&mut self, alloc: Global, live: LogEntry) -> Result<bool, NoMemory>
+        ensures answer { IfOk result (λ is_held. is_held ≡ may_hold self.old live.id) }
+        ensures ok { OnOk result (self.new ≡ after_hold self.old live) }
+        ensures err { OnErr result (self.new ≡ self.old) }
+    {
+        if !self.may_hold(live.id.as_str()) {
+            return Ok(false);
+        }
+        self.held.push(alloc, live)?;
+        Ok(true)
+    }
+
     /// Asks anew for the page of a query, whose place the archive no longer has: its results are dropped, and it has a
     /// fresh query id, no place, and as many results at most. `Stranger` comes where no open page has this query id, then
     /// `NoPlace` where it has no place already; an error leaves the log as it was. It takes no memory.
@@ -157,12 +183,7 @@ impl Log {
             self.page = Some(page);
             return Err(RestartFault::NoPlace);
         }
-        self.page = Some(Page {
-            queryid: fresh,
-            max: page.max,
-            after: None,
-            results: ListOf::new(alloc),
-        });
+        self.page = Some(page.anew(alloc, fresh));
         Ok(())
     }
 
@@ -195,6 +216,15 @@ impl Log {
         ensures { result.now ≡ breaks_of self.now.tiles }
     {
         self.breaks.as_slice()
+    }
+
+    /// The messages that are held, in the order in which they came. Their ids differ, and none is in the log.
+    pub fn held(&self) -> &[LogEntry]
+        ensures value { result.now ≡ self.now.held }
+        ensures apart { AllPairs (λ a b. a ≢ b) (ids_of self.now.held) }
+        ensures unlogged { AreUnlogged self.now.entries self.now.held }
+    {
+        self.held.as_slice()
     }
 
     /// The open page's query id. It is `None` exactly where no page is open.

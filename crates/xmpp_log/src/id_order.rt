@@ -59,7 +59,7 @@ fn gap(places: &[usize], entries: &[LogEntry], id: &str) -> Option<usize>
 }
 
 /// Whether an entry has an id.
-fn has_id(places: &[usize], entries: &[LogEntry], id: &str) -> bool
+pub(crate) fn has_id(places: &[usize], entries: &[LogEntry], id: &str) -> bool
     requires order { IsOrderOf places.now (ids_of entries.now) }
     ensures { result ≡ list_any (λ other. bytes_eq id.now other) (ids_of entries.now) }
 {

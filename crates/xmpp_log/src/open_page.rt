@@ -2,6 +2,7 @@
 ghost use Rattle.std.specs.Prelude.{◌≡◌, ◌+◌, ◌≤◌, true, false, [], ◌∷◌, ◌++◌, Some, None, IfOk, OnOk, OnErr, IsErrOf, MatchOption, length, ◌↔◌};
 ghost use Rattle.std.specs.Option.{option_copied};
 ghost use Rattle.std.specs.Str.{bytes_eq};
+ghost use Rattle.xmpp_log.specs.LogCalls.{restarted};
 ghost use Rattle.xmpp_log.specs.LogPages.{last_id};
 ghost use Rattle.xmpp_log.specs.Views.{page_for, same_id};
 
@@ -9,7 +10,7 @@ use crate::faults::ResultFault;
 use crate::log_entry::{LogEntries, LogEntry};
 use std::alloc::Global;
 use std::marker::Model;
-use xmpp_edge::{NoMemory, Text};
+use xmpp_edge::{ListOf, NoMemory, Text};
 
 /// A page that was asked for: its query's id, how many results it may have, the id behind which it was asked
 /// for, and its results so far.
@@ -35,6 +36,18 @@ impl Page {
         ensures { result ≡ bytes_eq self.now.queryid queryid.now }
     {
         self.queryid.as_str() == queryid
+    }
+
+    /// The page asked for anew: under a fresh query id, and without a place or a result.
+    pub(crate) fn anew(self, alloc: Global, fresh: Text) -> Page
+        ensures { result ≡ restarted fresh self }
+    {
+        Page {
+            queryid: fresh,
+            max: self.max,
+            after: None,
+            results: ListOf::new(alloc),
+        }
     }
 
     /// Adds a result at the end. A refusal drops it and leaves the page as it was.
