@@ -1,3 +1,5 @@
 pub mod DeviceTexts
+pub mod Headers
+pub mod LoggedLines
 pub mod Pairs
 pub mod TakenArchives

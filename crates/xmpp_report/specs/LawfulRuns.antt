@@ -1,7 +1,7 @@
 -- The five laws that a report of version 2 keeps, whose archives keep their newest KEEP entries. They speak of each
 -- account's history: what its archive would hold if nothing were purged from it. Laws 2 and 3 are those of version 1.
-use Rattle.std.specs.Prelude.{◌≡◌, ◌≢◌, ℕ, ◌+◌, ◌<◌, ◌≤◌, min, Bool, true, false, ◌&&◌, not, ◌⊎◌, List, [], ◌∷◌, ◌++◌, Option, Some, None, IsTrue, is_some, is_none, length, map, take, drop, sum, count_by, slice_get}
-use Rattle.std.specs.Option.{option_or}
+use Rattle.std.specs.Prelude.{◌≡◌, ◌≢◌, ℕ, ◌+◌, ◌<◌, ◌≤◌, min, Bool, true, false, ◌&&◌, not, ◌⊎◌, List, [], ◌∷◌, ◌++◌, Option, Some, None, IsTrue, is_some, length, map, take, drop, sum, count_by, slice_get}
+use Rattle.std.specs.Option.{option_map_or}
 use Rattle.std.specs.List.{AllByRecursion}
 use Rattle.std.specs.List.Sorted.{IsNonDecreasing}
 use Rattle.xmpp_archive.specs.Entries.{EntryView, entry_numbered, newest}
@@ -9,7 +9,7 @@ use Rattle.xmpp_archive.specs.Ids.{id_of}
 use Rattle.xmpp_archive.specs.declared.archive.TheConstants.{GREATEST_NUMBER}
 use Rattle.xmpp_edge.specs.Names.{is_among}
 use Rattle.xmpp_pages.specs.Kept.{first_number, last_number}
-use Rattle.xmpp_report.specs.Lawful.{AreOutcomes, AreSubmissions, EachPair, EndsWith, IsAcknowledgedRight, IsLawful, IsOfSchedule, IsOfSubmission, IsOnceInOrder, Passes, account_named, device_named, last_logged, take_named}
+use Rattle.xmpp_report.specs.Lawful.{AreOutcomes, AreSubmissions, EachPair, EndsWith, IsAcknowledgedRight, IsLawful, IsOfSchedule, IsOfSubmission, IsOnceInOrder, Passes, device_named, last_logged, take_named}
 use Rattle.xmpp_report.specs.Lines.{entry_line, is_break}
 use Rattle.xmpp_report.specs.Reports.{AccountView, DeviceView, ReportView}
 use Rattle.xmpp_report.specs.Takes.{Take, archive_of}
@@ -25,7 +25,7 @@ use Rattle.xmpp_schedule.specs.declared.schedule.Version.TheVariants.{One, Two}
 -- What the lines say.
 
 abbrev pub moment_of : TakeLine → ℕ
-moment_of line = option_or line.moment 0
+moment_of line = option_map_or (λ moment. moment) line.moment 0
 
 -- the take that a line names, with its moment
 abbrev pub timed_take : ReportView → TakeLine → Take

@@ -1,5 +1,5 @@
 -- The report's lines of what was taken, archived and logged.
-use Rattle.std.specs.Prelude.{ℕ, nat_lt, ◌+◌, Bool, true, false, ◌&&◌, List, [], ◌∷◌, ◌++◌, Option, Some, None, is_none, length, map, take, drop, if◌then◌else◌}
+use Rattle.std.specs.Prelude.{ℕ, nat_lt, ◌+◌, Bool, false, ◌&&◌, List, [], ◌∷◌, ◌++◌, Option, Some, None, is_none, length, map, take, drop, if◌then◌else◌}
 use Rattle.xmpp_archive.specs.Entries.{EntryView}
 use Rattle.xmpp_archive.specs.Ids.{id_of}
 use Rattle.xmpp_log.specs.LogPages.{LogPage}

@@ -1,7 +1,7 @@
 //! The texts of a report's single lines.
 ghost use Rattle.std.specs.Prelude.{◌≡◌, [], ◌∷◌, ◌++◌, OnOk};
 ghost use Rattle.xmpp_report.specs.EntryLines.{first_body};
-ghost use Rattle.xmpp_report.specs.ReportText.{fields_text, conn_end_text, mark_text, refused_why_text, after_text, total_text};
+ghost use Rattle.xmpp_report.specs.ReportText.{moment_text, fields_text, break_text, conn_end_text, mark_text, refused_why_text, after_text, total_text};
 
 use crate::printed::{Printed, append_field, append_number, append_number_field};
 use crate::report::{
@@ -10,6 +10,15 @@ use crate::report::{
 };
 use xmpp_archive::Bodies;
 use xmpp_edge::{Bytes, NoMemory, Text};
+
+fn print_moment(out: &mut Bytes, moment: Option<u64>) -> Result<(), NoMemory>
+    ensures { OnOk result (out.new.items ≡ out.old.items ++ moment_text moment) }
+{
+    match moment {
+        None => Ok(()),
+        Some(moment) => append_number_field(out, moment),
+    }
+}
 
 impl Printed for TakeLine {
     ghost use Rattle.xmpp_report.specs.ReportText.{take_text};
@@ -22,6 +31,7 @@ impl Printed for TakeLine {
         append_number_field(out, self.epoch)?;
         append_number_field(out, self.n)?;
         append_field(out, self.account.as_str())?;
+        print_moment(out, self.moment)?;
         out.append(b"\n")
     }
 }
@@ -61,12 +71,19 @@ impl Printed for EntryLine {
     }
 }
 
+fn break_line(broken: bool) -> &'static str
+    ensures { result.now ≡ break_text broken }
+{
+    if broken { "break\n" } else { "" }
+}
+
 impl Printed for LoggedLine {
     ghost use Rattle.xmpp_report.specs.ReportText.{logged_text};
 
     ghost text = { logged_text };
 
     fn print(&self, out: &mut Bytes) -> Result<(), NoMemory> {
+        out.append(break_line(self.broken).as_bytes())?;
         out.append(b"logged ")?;
         print_fields(out, &self.entry)
     }

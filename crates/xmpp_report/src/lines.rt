@@ -1,11 +1,13 @@
 //! Lines of a report, made of what archives and logs hold: by moving it, or, under a name that begins with `copied`,
 //! by copying it.
-ghost use Rattle.std.specs.Prelude.{◌≡◌, map, IfOk};
+ghost use Rattle.std.specs.Prelude.{◌≡◌, ◌++◌, false, length, map, take, drop, IfOk, OnOk};
+ghost use Rattle.std.specs.Vec.Iter.{into_iter_items, into_iter_len};
 ghost use Rattle.xmpp_report.specs.EntryLines.{line_under};
-ghost use Rattle.xmpp_report.specs.Lines.{entry_line, logged_line, tile_line};
+ghost use Rattle.xmpp_report.specs.Lines.{entry_line, is_break, logged_behind, logged_by, logged_line, tile_line};
 
 use crate::report::{EntryLine, EntryLines, LoggedLine, LoggedLines, PageLine, PageLines};
 use std::alloc::Global;
+use std::vec::IntoIter;
 use xmpp_archive::{Entry, id_of_number};
 use xmpp_edge::{Copied, ListOf, NoMemory, Text};
 use xmpp_log::{LogEntries, LogEntry, Tile, Tiles};
@@ -58,24 +60,78 @@ pub fn page_lines(alloc: Global, tiles: Tiles) -> Result<PageLines, NoMemory>
     Ok(lines)
 }
 
-/// The line of a log's entry.
-pub fn logged_line(logged: LogEntry) -> LoggedLine
-    ensures { result ≡ logged_line logged }
+/// The line of a log's entry. `broken` where a run begins with it after a break.
+pub fn logged_line(logged: LogEntry, broken: bool) -> LoggedLine
+    ensures { result ≡ logged_line broken logged }
 {
     let LogEntry { id, entry } = logged;
     LoggedLine {
         entry: EntryLine::new(id, entry),
+        broken,
     }
 }
 
-/// The lines of a log's entries, in order.
-pub fn logged_lines(alloc: Global, entries: LogEntries) -> Result<LoggedLines, NoMemory>
-    ensures { IfOk result (λ lines. lines.items ≡ map logged_line entries.items) }
+fn push_page(
+    lines: &mut LoggedLines,
+    entries: &mut IntoIter<LogEntry, Global>,
+    count: u64,
+    broken: bool,
+) -> Result<(), NoMemory>
+    requires { into_iter_len entries.old ≡ length (into_iter_items entries.old) }
+    ensures counted { OnOk result (into_iter_len entries.new ≡ length (into_iter_items entries.new)) }
+    ensures lines { OnOk result (lines.new.items ≡ lines.old.items ++ logged_behind broken (take count (into_iter_items entries.old))) }
+    ensures rest { OnOk result (into_iter_items entries.new ≡ drop count (into_iter_items entries.old)) }
+{
+    let mut broken = broken;
+    for i in 0..count {
+        match entries.next() {
+            None => return Ok(()),
+            Some(logged) => lines.push(logged_line(logged, broken))?,
+        }
+        broken = false;
+    }
+    Ok(())
+}
+
+// Whether a page behind so many entries, which was asked for behind `after`, begins a run after a break.
+fn is_break(before: u64, after: &Option<Text>) -> bool
+    ensures { result ≡ is_break before after.now }
+{
+    after.is_none() && before > 0
+}
+
+/// Moves the entries of the pages into lines.
+fn push_pages(
+    lines: &mut LoggedLines,
+    entries: &mut IntoIter<LogEntry, Global>,
+    tiles: &Tiles,
+) -> Result<(), NoMemory>
+    requires { into_iter_len entries.old ≡ length (into_iter_items entries.old) }
+    ensures counted { OnOk result (into_iter_len entries.new ≡ length (into_iter_items entries.new)) }
+    ensures lines { OnOk result (lines.new.items ++ map (logged_line false) (into_iter_items entries.new) ≡ lines.old.items ++ logged_by 0 tiles.now.items (into_iter_items entries.old)) }
+{
+    let mut before = 0u64;
+    for tile in tiles.as_slice() {
+        push_page(lines, entries, tile.count, is_break(before, &tile.after))?;
+        before = before.saturating_add(tile.count);
+    }
+    Ok(())
+}
+
+/// The lines of a log's entries, in order. The tiles say where its pages begin, and so where a run begins after a break.
+pub fn logged_lines(
+    alloc: Global,
+    tiles: &Tiles,
+    entries: LogEntries,
+) -> Result<LoggedLines, NoMemory>
+    ensures { IfOk result (λ lines. lines.items ≡ logged_by 0 tiles.now.items entries.items) }
 {
     let mut lines = ListOf::new(alloc);
     lines.reserve(entries.as_slice().len())?;
-    for logged in entries.into_items() {
-        lines.push(logged_line(logged))?;
+    let mut rest = entries.into_items().into_iter();
+    push_pages(&mut lines, &mut rest, tiles)?;
+    for logged in rest {
+        lines.push(logged_line(logged, false))?;
     }
     Ok(lines)
 }
@@ -112,11 +168,16 @@ pub fn copied_page_line(alloc: Global, tile: &Tile) -> Result<PageLine, NoMemory
     })
 }
 
-/// The line of a log's entry.
-pub fn copied_logged_line(alloc: Global, logged: &LogEntry) -> Result<LoggedLine, NoMemory>
-    ensures { IfOk result (λ line. line ≡ logged_line logged.now) }
+/// The line of a log's entry. `broken` where a run begins with it after a break.
+pub fn copied_logged_line(
+    alloc: Global,
+    logged: &LogEntry,
+    broken: bool,
+) -> Result<LoggedLine, NoMemory>
+    ensures { IfOk result (λ line. line ≡ logged_line broken logged.now) }
 {
     Ok(LoggedLine {
         entry: copied_line(alloc, logged.id.copied(alloc)?, &logged.entry)?,
+        broken,
     })
 }

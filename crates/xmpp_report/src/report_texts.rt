@@ -1,28 +1,68 @@
 //! The text of a report.
 ghost use Rattle.std.specs.Prelude.{◌≡◌, [], ◌∷◌, ◌++◌, IfOk, OnOk, codes, decimal};
 ghost use Rattle.std.specs.List.{flat_map};
-ghost use Rattle.xmpp_report.specs.ReportText.{text_of, settled_text, said_text, refused_text, page_text, underway_text, logged_text, held_text};
+ghost use Rattle.xmpp_schedule.specs.Grammar.{mode_text};
+ghost use Rattle.xmpp_report.specs.ReportText.{text_of, header_text, last_text, account_text, settled_text, said_text, refused_text, page_text, underway_text, logged_text, held_text};
 
 use crate::printed::{Printed, append_field, append_number_field, print_all};
-use crate::report::{AccountLine, DeviceLine, Report};
+use crate::report::{AccountLine, AccountLines, DeviceLine, Report};
 use std::alloc::Global;
 use xmpp_edge::{Bytes, NoMemory};
+use xmpp_schedule::Version;
 
 /// More bytes than most lines have. Memory that isn't written to costs nothing.
 const LIKELY_LINE: usize = 192;
 
-impl Printed for AccountLine {
-    ghost use Rattle.xmpp_report.specs.ReportText.{account_text};
+fn mode_name(wire: bool) -> &'static str
+    ensures { result.now ≡ mode_text wire }
+{
+    if wire { "wire" } else { "direct" }
+}
 
-    ghost text = { account_text };
-
-    fn print(&self, out: &mut Bytes) -> Result<(), NoMemory> {
-        out.append(b"account ")?;
-        out.append(self.name.as_str().as_bytes())?;
-        append_number_field(out, self.count)?;
-        out.append(b"\n")?;
-        print_all(out, &self.entries)
+fn print_header(out: &mut Bytes, version: Version, wire: bool) -> Result<(), NoMemory>
+    ensures { OnOk result (out.new.items ≡ out.old.items ++ header_text version wire) }
+{
+    match version {
+        Version::One => {
+            out.append(b"xmpp-report 1 ")?;
+            out.append(mode_name(wire).as_bytes())
+        }
+        Version::Two { keep } => {
+            out.append(b"xmpp-report 2 ")?;
+            out.append(mode_name(wire).as_bytes())?;
+            append_number_field(out, u64::from(keep))
+        }
     }
+}
+
+/// Adds the greatest number given, where the version tells it.
+fn print_last(out: &mut Bytes, version: Version, last: u64) -> Result<(), NoMemory>
+    ensures { OnOk result (out.new.items ≡ out.old.items ++ last_text version last) }
+{
+    match version {
+        Version::One => Ok(()),
+        Version::Two { .. } => append_number_field(out, last),
+    }
+}
+
+fn print_account(out: &mut Bytes, version: Version, line: &AccountLine) -> Result<(), NoMemory>
+    ensures { OnOk result (out.new.items ≡ out.old.items ++ account_text version line.now) }
+{
+    out.append(b"account ")?;
+    out.append(line.name.as_str().as_bytes())?;
+    append_number_field(out, line.count)?;
+    print_last(out, version, line.last)?;
+    out.append(b"\n")?;
+    print_all(out, &line.entries)
+}
+
+fn print_accounts(out: &mut Bytes, version: Version, lines: &AccountLines) -> Result<(), NoMemory>
+    ensures { OnOk result (out.new.items ≡ out.old.items ++ flat_map (account_text version) lines.now.items) }
+{
+    for line in lines.as_slice() {
+        print_account(out, version, line)?;
+    }
+    Ok(())
 }
 
 fn settled_name(settled: bool) -> &'static str
@@ -110,10 +150,10 @@ pub fn report_text(alloc: Global, report: &Report) -> Result<Bytes, NoMemory>
     let mut out = Bytes::new(alloc);
     // Only so that the text needn't move as it grows: without that room it grows as it can.
     let _ = out.reserve(count_lines(report).saturating_mul(LIKELY_LINE));
-    out.append(b"xmpp-report 1 ")?;
-    out.append(if report.wire { b"wire\n" } else { b"direct\n" })?;
+    print_header(&mut out, report.version, report.wire)?;
+    out.append(b"\n")?;
     print_all(&mut out, &report.takes)?;
-    print_all(&mut out, &report.accounts)?;
+    print_accounts(&mut out, report.version, &report.accounts)?;
     print_all(&mut out, &report.conns)?;
     print_all(&mut out, &report.devices)?;
     out.append(b"end\n")?;
