@@ -1,5 +1,5 @@
 -- The next page of a log by the number of its last entry: what asking an archive comes to, in one equation.
-use Rattle.std.specs.Prelude.{ℕ, ◌-◌, nat_lt, nat_le, Bool, ◌&&◌, List, Option, Some, None, length, map, take, drop, if◌then◌else◌}
+use Rattle.std.specs.Prelude.{ℕ, zero, suc, ◌-◌, nat_le, Bool, false, List, Option, Some, None, length, map, take, drop, if◌then◌else◌}
 use Rattle.xmpp_archive.specs.Entries.{EntryView}
 use Rattle.xmpp_archive.specs.Ids.{id_of}
 use Rattle.xmpp_direct.specs.Direct.{as_logged}
@@ -32,7 +32,8 @@ page_at n most last kept = record {
 
 -- the log's last entry has number n, and was purged
 abbrev pub is_purged : ℕ → ℕ → List EntryView → Bool
-is_purged n last kept = nat_lt 0 n && nat_le n (purged last kept)
+is_purged zero last kept = false
+is_purged (suc n) last kept = nat_le (suc n) (purged last kept)
 
 -- what the archive answers to it, behind number n or, where n was purged, from its first entry on
 abbrev pub cut_at : ℕ → ℕ → ℕ → List EntryView → CutView

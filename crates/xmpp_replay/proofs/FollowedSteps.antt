@@ -304,7 +304,7 @@ module _ (version : Version) where
       spot : place_of to (names_of homes) ≡ place_of to (accounts_of all)
       spot = ap (λ hs. place_of to (names_of hs)) held ∙ ap (place_of to) (homes_named (takes_of all before) (accounts_of all))
 
-      abbrev take_with : List ℕ → List ℕ → ℕ → Take
+      take_with : List ℕ → List ℕ → ℕ → Take
       take_with sender account count =
           record { device = sender; account = account; epoch = 1; n = count + 1; to = to; text = text; moment = moment_after before }
 

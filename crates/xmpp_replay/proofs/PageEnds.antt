@@ -1,7 +1,7 @@
 -- The page that the archive answered to a log ends well: its ids are new, and it has an entry where entries remain.
 use Rattle.std.proofs.Common.{◌≡◌, ℕ, zero, suc, ◌+◌, ◌-◌, ◌<◌, ◌≤◌, min, Bool, true, false, cond, ◌&&◌, leb, ltb, List, [], ◌∷◌, ◌++◌, Option, Some, None, Ok, length, take, drop, get_or, map, refl, sym, ap, ◌∙◌, arith}
-use Rattle.std.proofs.lemmas.Bool.{le-ltb, leb-false}
-use Rattle.std.proofs.lemmas.List.{get_or-drop, get_or-map, get_or-take, length-drop, length-map, length-take, map_push, take_all, take_more}
+use Rattle.std.proofs.lemmas.Bool.{le-leb, le-ltb, leb-false}
+use Rattle.std.proofs.lemmas.List.{append-nil, append_assoc, get_or-drop, get_or-map, get_or-take, length-drop, length-map, length-take, map_push, take_all, take_more}
 use Rattle.std.proofs.lemmas.Option.{get_or_from_slice_get, none-some, same_Some}
 use Rattle.std.specs.List.{slice_get}
 use Rattle.std.specs.Option.{IsSomeAnd, option_map}
@@ -20,7 +20,7 @@ use Rattle.xmpp_pages.specs.Cuts.{CutView, fin_of}
 use Rattle.xmpp_pages.specs.Spans.{number_of_entry, numbers_of}
 use Rattle.xmpp_pages.specs.declared.fin.Fin.{Fin}
 use Rattle.xmpp_replay.proofs.InOrder.{behind_follows, last_id_is, last_within, page_is_new}
-use Rattle.xmpp_replay.specs.Turns.{IsInOrder, opened, turn_of, with_turn}
+use Rattle.xmpp_replay.specs.Turns.{IsInOrder, opened, turn_of, with_results, with_turn}
 
 same_id_itself : (id : Option (List ℕ)) → same_id id id ≡ true
 same_id_itself None = refl
@@ -79,7 +79,7 @@ page_ends_well keep last most kept queryid after log now fin known low order tol
 
 -- what a page was asked for behind: nothing where its archive has purged the log's last entry, or there is none
 asked_behind : (n last : ℕ) (kept : List EntryView) → cond (is_purged n last kept) None (id_behind n) ≡ cond (leb n (purged last kept)) None (Some (id_of n))
-asked_behind zero last kept = let low : leb zero (purged last kept) ≡ true = refl in refl
+asked_behind zero last kept = let low : leb zero (purged last kept) ≡ true = le-leb zero (purged last kept) (omega arith) in rw low refl
 asked_behind (suc n) last kept = refl
 
 -- and its entries and its tile join the log
@@ -101,15 +101,49 @@ page_taken_over keep last most kept queryid anew log now next fin known order to
 
 -- ---- one result after the other
 
+-- the page of this query, without results yet
+abbrev HasBegun : List ℕ → ℕ → Option OpenPage → Type 0
+HasBegun queryid most page = IsSomeAnd (page_for queryid page) (λ p. (p.max ≡ most) × (p.results ≡ []))
+
+abbrev more_results : List LogEntry → OpenPage → OpenPage
+more_results results page = record page { results = page.results ++ results }
+
+pub opened_begins : (queryid : List ℕ) (most : ℕ) (after : Option (List ℕ)) (log : LogView) → HasBegun queryid most (opened queryid most after log []).page
+opened_begins queryid most after log = let named : bytes_eq queryid queryid ≡ true = bytes_eq-self queryid in rw named (refl, refl)
+
+room_in : (queryid : List ℕ) (most : ℕ) (results : List LogEntry) (page : Option OpenPage) → length results < most → HasBegun queryid most page →
+    IsSomeAnd (page_for queryid (option_map (more_results results) page)) (λ p. length p.results < p.max)
+room_in queryid most results None few begun = begun
+room_in queryid most results (Some p) few begun = go (bytes_eq p.queryid queryid) begun
+  where
+    go : (hit : Bool) → IsSomeAnd (cond hit (Some p) None) (λ (q : OpenPage). (q.max ≡ most) × (q.results ≡ [])) →
+        IsSomeAnd (cond hit (Some (more_results results p)) None) (λ (q : OpenPage). length q.results < q.max)
+    go true known = rw (known.0, known.1) few
+    go false known = known
+
 -- the open page has room for a result more
-pub page_has_room : (queryid : List ℕ) (most at : ℕ) (after : Option (List ℕ)) (log now : LogView) (xs : List EntryView) → at < most →
-    now ≡ opened queryid most after log (map as_logged (take at xs)) →
-    IsSomeAnd (page_for queryid now.page) (λ page. length page.results < page.max)
-page_has_room queryid most at after log now xs few is =
-    let named : bytes_eq queryid queryid ≡ true = bytes_eq-self queryid in
+pub page_has_room : (queryid : List ℕ) (most at : ℕ) (log now : LogView) (xs : List EntryView) → at < most → HasBegun queryid most log.page →
+    now ≡ with_results log (map as_logged (take at xs)) → IsSomeAnd (page_for queryid now.page) (λ page. length page.results < page.max)
+page_has_room queryid most at log now xs few begun is =
     let size : length (map as_logged (take at xs)) ≡ length (take at xs) = length-map (take at xs) as_logged in
     let short : length (take at xs) ≡ min at (length xs) = length-take at xs in
-    rw (is, named) (omega arith)
+    rw is (room_in queryid most (map as_logged (take at xs)) log.page (omega arith) begun)
+
+one_more : (page : Option OpenPage) (results : List LogEntry) (e : LogEntry) →
+    option_map (λ (p : OpenPage). record p { results = p.results ++ e ∷ [] }) (option_map (more_results results) page) ≡ option_map (more_results (results ++ e ∷ [])) page
+one_more None results e = refl
+one_more (Some p) results e = ap (λ rs. let q : OpenPage = record p { results = rs } in Some q) (append_assoc p.results results (e ∷ []))
+
+result_added : (log : LogView) (results : List LogEntry) (e : LogEntry) → with_result (with_results log results) e ≡ with_results log (results ++ e ∷ [])
+result_added log results e = ap (λ (page : Option OpenPage). let l : LogView = record log { page = page } in l) (one_more log.page results e)
+
+none_more : (page : Option OpenPage) → page ≡ option_map (more_results []) page
+none_more None = refl
+none_more (Some p) = ap (λ rs. let q : OpenPage = record p { results = rs } in Some q) (sym (append-nil p.results))
+
+-- the page before its first result
+pub no_results : (log : LogView) → log ≡ with_results log []
+no_results log = ap (λ (page : Option OpenPage). let l : LogView = record log { page = page } in l) (none_more log.page)
 
 abbrev pub any_entry : EntryView
 any_entry = record { number = 0; stamp = 0; from = []; to = []; normal = false; id = []; origin = []; bodies = [] }
@@ -137,12 +171,12 @@ number_at keep n last most at kept numbers known are there =
     (read ∙ number, omega arith, omega arith)
 
 -- a result more in the open page
-pub result_taken : (keep n last most at : ℕ) (kept : List EntryView) (numbers queryid : List ℕ) (after : Option (List ℕ)) (log now next : LogView) →
+pub result_taken : (keep n last most at : ℕ) (kept : List EntryView) (numbers : List ℕ) (log now next : LogView) →
     AreKept keep last kept → numbers ≡ numbers_of (take most (kept_behind n last kept)) → at < length numbers →
-    now ≡ opened queryid most after log (map as_logged (take at (kept_behind n last kept))) →
+    now ≡ with_results log (map as_logged (take at (kept_behind n last kept))) →
     ((d : EntryView) → next ≡ with_result now (as_logged (get_or kept (get_or numbers at 0 + length kept - 1 - last) d))) →
-    next ≡ opened queryid most after log (map as_logged (take (at + 1) (kept_behind n last kept)))
-result_taken keep n last most at kept numbers queryid after log now next known are there is taken =
+    next ≡ with_results log (map as_logged (take (at + 1) (kept_behind n last kept)))
+result_taken keep n last most at kept numbers log now next known are there is taken =
     let place = number_at keep n last most at kept numbers known are there in
     let spot : get_or numbers at 0 + length kept - 1 - last ≡ n - purged last kept + at = omega (arith, place.0, known.within) in
     let rest : length (kept_behind n last kept) ≡ length kept - (n - purged last kept) = length-drop (n - purged last kept) kept in
@@ -151,20 +185,21 @@ result_taken keep n last most at kept numbers queryid after log now next known a
     ∙ ap (λ i. with_result now (as_logged (get_or kept i any_entry))) spot
     ∙ ap (λ e. with_result now (as_logged e)) entry
     ∙ ap (λ l. with_result l (as_logged (get_or (kept_behind n last kept) at any_entry))) is
-    ∙ ap (opened queryid most after log)
+    ∙ result_added log (map as_logged (take at (kept_behind n last kept))) (as_logged (get_or (kept_behind n last kept) at any_entry))
+    ∙ ap (with_results log)
     (sym (map_push as_logged (take at (kept_behind n last kept)) (get_or (kept_behind n last kept) at any_entry))
     ∙ ap (map as_logged) (sym (take_more (kept_behind n last kept) at any_entry (omega (arith, place.2)))))
 
 -- with all results of the page
-pub results_taken : (n last most at : ℕ) (kept : List EntryView) (numbers queryid : List ℕ) (after : Option (List ℕ)) (log now : LogView) →
+pub results_taken : (n last most at : ℕ) (kept : List EntryView) (numbers : List ℕ) (log now : LogView) →
     numbers ≡ numbers_of (take most (kept_behind n last kept)) → at ≡ length numbers →
-    now ≡ opened queryid most after log (map as_logged (take at (kept_behind n last kept))) →
-    now ≡ opened queryid most after log (map as_logged (take most (kept_behind n last kept)))
-results_taken n last most at kept numbers queryid after log now are end is =
+    now ≡ with_results log (map as_logged (take at (kept_behind n last kept))) →
+    now ≡ with_results log (map as_logged (take most (kept_behind n last kept)))
+results_taken n last most at kept numbers log now are end is =
     let size : at ≡ length (take most (kept_behind n last kept)) =
     end ∙ ap length are ∙ length-map (take most (kept_behind n last kept)) number_of_entry in
-    is ∙ ap (λ k. opened queryid most after log (map as_logged (take k (kept_behind n last kept)))) size
-    ∙ ap (λ es. opened queryid most after log (map as_logged es)) (take_whole most (kept_behind n last kept))
+    is ∙ ap (λ k. with_results log (map as_logged (take k (kept_behind n last kept)))) size
+    ∙ ap (λ es. with_results log (map as_logged es)) (take_whole most (kept_behind n last kept))
   where
     take_whole : (k : ℕ) (xs : List EntryView) → take (length (take k xs)) xs ≡ take k xs
     take_whole zero xs = refl

@@ -1,6 +1,7 @@
 -- A run from a schedule's first step to its last.
-use Rattle.std.proofs.Common.{◌≡◌, ℕ, zero, suc, add-one, ◌+◌, ◌<◌, ◌≤◌, true, false, List, [], ◌∷◌, ◌++◌, Some, not, ◌&&◌, IsTrue, nat_lt, nat_le, length, take, drop, get_or, map, refl, sym, ap, ◌∙◌, subst, arith}
+use Rattle.std.proofs.Common.{◌≡◌, ℕ, zero, suc, add-one, ◌+◌, ◌-◌, ◌<◌, ◌≤◌, true, false, List, [], ◌∷◌, ◌++◌, Some, not, ◌&&◌, IsTrue, nat_lt, nat_le, length, take, drop, get_or, map, refl, sym, ap, ◌∙◌, subst, arith}
 use Rattle.std.proofs.lemmas.Bool.{and_parts, leb-true, not-true, or_left}
+use Rattle.std.proofs.Math.Seq.{drop-nil}
 use Rattle.std.proofs.lemmas.List.{append-nil, get_or-map, length-map, length-take, map-append, take-append-drop, take_all, take_more}
 use Rattle.std.proofs.lemmas.List.Concat.{flat_map-append}
 use Rattle.std.proofs.lemmas.List.Elements.{All-nil}
@@ -8,11 +9,12 @@ use Rattle.std.proofs.lemmas.List.Folds.{list_any-append}
 use Rattle.std.proofs.lemmas.Option.{get_or_from_slice_get, none-some, slice_get-get_or, slice_get_within}
 use Rattle.std.specs.List.{All, slice_get}
 use Rattle.std.specs.Str.{bytes_eq}
+use Rattle.xmpp_archive.specs.Entries.{EntryView}
 use Rattle.xmpp_log.specs.LogPages.{LogPage, tile_of}
 use Rattle.xmpp_replay.proofs.Deliveries.{once_push}
 use Rattle.xmpp_schedule.proofs.Prefixes.{accounts_push, right_steps}
 use Rattle.xmpp_replay.proofs.FollowedSteps.{after_followed, may_follow, ready_after}
-use Rattle.xmpp_report.proofs.LoggedLines.{logged_lines_same}
+use Rattle.xmpp_report.proofs.LoggedLines.{logged_by-pages}
 use Rattle.xmpp_direct.specs.Direct.{account_line, device_line, direct_report, pages_of, takes_of}
 use Rattle.xmpp_schedule.proofs.Moments.{moment_few}
 use Rattle.xmpp_schedule.specs.Contents.{account_name, accounts_of, moment_after}
@@ -104,6 +106,12 @@ after_at version all i step run next some right there is did =
     subst (λ ss. IsAfter version all ss next) (sym (taken_push all i step there))
     (after_followed version all (take i all) run next step (few_before all i step right there) some (accounts_once all right) is (may_at version all i step run right there is) did)
 
+nothing_kept : (keep : ℕ) (names : List (List ℕ)) → map empty_home names ≡ map (home_at keep []) names
+nothing_kept keep [] = refl
+nothing_kept keep (name ∷ names) =
+    ap (λ (es : List EntryView). let home : Home = record { name = name; last = 0; entries = es } in home ∷ map empty_home names) (sym (drop-nil (0 - keep)))
+    ∙ ap (λ (homes : List Home). home_at keep [] name ∷ homes) (nothing_kept keep names)
+
 -- the run before the first step
 pub after_none : (version : Version) (all : List Step) (run : Run) → run.clock.version ≡ version → run.clock.moment ≡ 0 → run.accounts.keep ≡ keep_of version →
     run.accounts.homes ≡ map empty_home (accounts_of all) → run.takes.items ≡ [] → run.index ≡ [] → run.devices.items ≡ [] → IsAfter version all [] run
@@ -111,7 +119,7 @@ after_none version all run version_is moment keeps homes takes index devices = r
   version_is = version_is;
   keeps = keeps;
   moment = moment;
-  homes = homes;
+  homes = homes ∙ nothing_kept (keep_of version) (accounts_of all);
   takes = takes;
   index = index;
   names = ap (map (λ (d : DeviceState). d.name)) devices;
@@ -127,7 +135,7 @@ page_lines_same (p ∷ pages) = ap (λ t. page_line p ∷ t) (page_lines_same pa
 -- a device at the end
 device_told : (keep : ℕ) (all : List Step) (device : DeviceState) → IsDevice keep all all device → state_line device ≡ device_line keep all device.name
 device_told keep all device is =
-    rw (is.account, is.said, is.log.entries, is.log.tiles, page_lines_same (pages_of keep all device.name all), logged_lines_same (pages_of keep all device.name all)) refl
+    rw (is.account, is.said, is.log.entries, is.log.tiles, page_lines_same (pages_of keep all device.name all), logged_by-pages 0 (pages_of keep all device.name all)) refl
 
 devices_told : (keep : ℕ) (all : List Step) (devices : List DeviceState) → All (IsDevice keep all all) devices →
     map state_line devices ≡ map (device_line keep all) (map (λ (d : DeviceState). d.name) devices)

@@ -1,6 +1,7 @@
 -- A log whose entries are in the order of their numbers, and the pages that make it grow.
 use Rattle.std.specs.Prelude.{◌≡◌, ℕ, zero, suc, ◌+◌, List, [], ◌∷◌, ◌++◌, Option, Some, None, length, map, if◌then◌else◌}
 use Rattle.std.specs.List.{AllByRecursion}
+use Rattle.std.specs.Option.{option_map}
 use Rattle.xmpp_archive.specs.Entries.{EntryView}
 use Rattle.xmpp_archive.specs.Ids.{id_of}
 use Rattle.xmpp_direct.specs.NextPages.{last_logged, page_at}
@@ -49,3 +50,7 @@ caught_up most last kept log = log_after (length kept + 1) most last kept log
 abbrev pub opened : List ℕ → ℕ → Option (List ℕ) → LogView → List LogEntry → LogView
 opened queryid most after log results =
     record log { page = Some (record { queryid = queryid; max = most; after = after; results = results }) }
+
+-- the log with further results in its open page
+abbrev pub with_results : LogView → List LogEntry → LogView
+with_results log results = record log { page = option_map (λ (page : OpenPage). record page { results = page.results ++ results }) log.page }

@@ -1,14 +1,14 @@
 //! The pages that a device takes of its account's archive, one behind the other (XEP-0313 section 4.3, XEP-0059).
 ghost use Rattle.std.specs.Prelude.{◌≡◌, ◌-◌, ◌+◌, ◌<◌, ◌≤◌, true, nat_le, if◌then◌else◌, [], Some, None, Ok, length, map, take, slice_index_or, OnOk, IfOk, IsSome, IsSomeAnd};
 ghost use Rattle.xmpp_archive.specs.Entries.{AreKept, EntryView};
-ghost use Rattle.xmpp_direct.specs.Direct.{as_logged, place_behind, query_at};
+ghost use Rattle.xmpp_direct.specs.Direct.{as_logged, place_behind, query_at, query_behind};
 ghost use Rattle.xmpp_direct.specs.NextPages.{cut_at, is_purged, kept_behind, last_logged, purged};
 ghost use Rattle.xmpp_log.specs.LogPages.{last_id};
 ghost use Rattle.xmpp_log.specs.Views.{after_fin, fin_answer, outcome_of, page_for, with_result};
 ghost use Rattle.xmpp_pages.specs.Kept.{kept_of};
 ghost use Rattle.xmpp_pages.specs.PageOf.{page_of};
 ghost use Rattle.xmpp_pages.specs.Spans.{numbers_of};
-ghost use Rattle.xmpp_replay.specs.Turns.{IsInOrder, caught_up, opened, turn_of, with_turn};
+ghost use Rattle.xmpp_replay.specs.Turns.{IsInOrder, caught_up, opened, turn_of, with_results, with_turn};
 
 use std::alloc::Global;
 use xmpp_archive::{Archive, entries_are_kept, id_of_number};
@@ -50,6 +50,17 @@ fn ask_at(
     }
 }
 
+/// Asks the archive for the page from its first entry on, which there always is.
+fn ask_first(alloc: Global, archive: &Archive, most: u32) -> Result<PageCut, NoMemory>
+    requires { most ≤ 100 }
+    ensures { IfOk result (λ cut. page_of (kept_of archive.now) (query_behind None most) ≡ Some cut) }
+{
+    match ask_at(alloc, archive, Place::First, most)? {
+        Some(cut) => Ok(cut),
+        None => unreachable!(),
+    }
+}
+
 /// A page that the archive answered, and whether it was asked for anew, since the log's last entry was purged.
 #[derive(Drop)]
 struct Answered {
@@ -66,12 +77,12 @@ fn ask(alloc: Global, log: &Log, archive: &Archive, most: u32) -> Result<Answere
     ensures cut { IfOk result (λ answered. answered.cut ≡ cut_at (last_logged log.now.entries) most archive.now.last archive.now.entries) }
     ensures anew { IfOk result (λ answered. answered.anew ≡ is_purged (last_logged log.now.entries) archive.now.last archive.now.entries) }
 {
-    if let Some(cut) = ask_at(alloc, archive, place_behind(alloc, log)?, most)? {
-        return Ok(Answered { cut, anew: false });
-    }
-    match ask_at(alloc, archive, Place::First, most)? {
-        Some(cut) => Ok(Answered { cut, anew: true }),
-        None => unreachable!(),
+    match ask_at(alloc, archive, place_behind(alloc, log)?, most)? {
+        Some(cut) => Ok(Answered { cut, anew: false }),
+        None => Ok(Answered {
+            cut: ask_first(alloc, archive, most)?,
+            anew: true,
+        }),
     }
 }
 
@@ -164,10 +175,10 @@ fn add_results(
     numbers: &[u64],
 ) -> Result<(), NoMemory>
     requires kept { AreKept archive.now.keep archive.now.last archive.now.entries }
-    requires begun { IsSomeAnd log.old.page (λ page. (page.queryid ≡ queryid.now) × (page.max ≡ most) × (page.results ≡ [])) }
+    requires begun { IsSomeAnd (page_for queryid.now log.old.page) (λ page. (page.max ≡ most) × (page.results ≡ [])) }
     requires next { numbers.now ≡ numbers_of (take most (kept_behind (last_logged log.old.entries) archive.now.last archive.now.entries)) }
-    ensures { OnOk result (IsSomeAnd log.old.page (λ page. log.new ≡ opened queryid.now most page.after log.old
-        (map as_logged (take most (kept_behind (last_logged log.old.entries) archive.now.last archive.now.entries))))) }
+    ensures { OnOk result (log.new ≡ with_results log.old
+        (map as_logged (take most (kept_behind (last_logged log.old.entries) archive.now.last archive.now.entries)))) }
 {
     for number in numbers {
         add_result(alloc, log, queryid, archive, *number)?;

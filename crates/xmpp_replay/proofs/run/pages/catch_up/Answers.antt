@@ -15,3 +15,8 @@ loop-more-preserved c = record {
       (turn_in_order c.args.archive.now.keep c.args.most c.args.archive.now.last c.args.archive.now.entries c.loop-more.log c.entries_are_kept.ensures c.loop-more.invariant.in_order);
   closed = ap (λ (l : LogView). l.page) c.in_ok-more.ensures.page;
 }
+
+pub loop-more-smaller : goal.loop-more-smaller
+loop-more-smaller c =
+    rw c.loop-more-test.true (turn_smaller c.args.archive.now.keep c.args.most c.args.archive.now.last c.args.archive.now.entries c.loop-more.log c.take_page.new.log c.in_ok-more.field-0
+    c.entries_are_kept.ensures c.requires.most.0 c.in_ok-more.ensures.page c.in_ok-more.ensures.complete)
