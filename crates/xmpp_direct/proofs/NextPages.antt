@@ -11,7 +11,7 @@ use Rattle.xmpp_archive.proofs.NumberedEntries.{FollowFrom, at_place, entry_at, 
 use Rattle.xmpp_archive.specs.Entries.{AreKept, EntryView, entry_numbered}
 use Rattle.xmpp_archive.specs.Ids.{id_of}
 use Rattle.xmpp_direct.specs.Direct.{as_logged, entries_numbered, next_page, or_else, page_from, query_behind}
-use Rattle.xmpp_direct.specs.NextPages.{kept_behind, page_at, purged}
+use Rattle.xmpp_direct.specs.NextPages.{cut_at, kept_behind, page_at, purged}
 use Rattle.xmpp_log.specs.LogPages.{LogPage, last_id, log_of}
 use Rattle.xmpp_pages.specs.Cuts.{CutView}
 use Rattle.xmpp_pages.specs.Kept.{kept_by}
@@ -25,14 +25,6 @@ abbrev pub id_behind : ℕ → Option (List ℕ)
 id_behind zero = None
 id_behind (suc n) = Some (id_of (suc n))
 
--- the page of the kept entries behind number n, as the archive cuts it
-abbrev pub cut_at : ℕ → ℕ → ℕ → List EntryView → CutView
-cut_at n most last kept = record {
-  numbers = numbers_of (take most (kept_behind n last kept));
-  first_index = index_of_page kept (take most (kept_behind n last kept));
-  count = length kept;
-  complete = leb (length (kept_behind n last kept)) most;
-}
 
 -- the numbers of what is kept follow on one another from the first that wasn't purged
 pub kept_follow : (keep last : ℕ) (kept : List EntryView) → AreKept keep last kept → FollowFrom (purged last kept + 1) kept

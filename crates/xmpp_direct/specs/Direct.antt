@@ -74,8 +74,11 @@ place_behind (Some id) = After id
 
 -- asks for everybody's messages of all times, from the first one on or behind the entry with an id (XEP-0313 section
 -- 4.3, XEP-0059 section 2.2)
+abbrev pub query_at : Place → ℕ → PageQuery
+query_at place most = record { peer = None; start = None; end = None; place = place; max = Some most }
+
 abbrev pub query_behind : Option (List ℕ) → ℕ → PageQuery
-query_behind after most = record { peer = None; start = None; end = None; place = place_behind after; max = Some most }
+query_behind after most = query_at (place_behind after) most
 
 -- what an archive answers to that
 abbrev pub page_answered : Option (List ℕ) → ℕ → Kept → Option Page

@@ -1,11 +1,13 @@
 -- The next page of a log by the number of its last entry: what asking an archive comes to, in one equation.
-use Rattle.std.specs.Prelude.{ℕ, ◌-◌, nat_le, List, Some, None, length, map, take, drop, if◌then◌else◌}
+use Rattle.std.specs.Prelude.{ℕ, zero, suc, ◌-◌, nat_le, Bool, false, List, Some, None, length, map, take, drop, if◌then◌else◌}
 use Rattle.xmpp_archive.specs.Entries.{EntryView}
 use Rattle.xmpp_archive.specs.Ids.{id_of}
 use Rattle.xmpp_direct.specs.Direct.{as_logged}
 use Rattle.xmpp_log.specs.LogPages.{LogPage}
 use Rattle.xmpp_log.specs.declared.log_entry.LogEntry.{LogEntry}
+use Rattle.xmpp_pages.specs.Cuts.{CutView}
 use Rattle.xmpp_pages.specs.Kept.{last_number}
+use Rattle.xmpp_pages.specs.PageOf.{cut_out}
 
 -- the number of a log's last entry, or 0 where it has none
 abbrev pub last_logged : List LogEntry → ℕ
@@ -27,3 +29,12 @@ page_at n most last kept = record {
   complete = nat_le (length (kept_behind n last kept)) most;
   total = length kept;
 }
+
+-- the log's last entry has number n, and was purged
+abbrev pub is_purged : ℕ → ℕ → List EntryView → Bool
+is_purged zero last kept = false
+is_purged (suc n) last kept = nat_le (suc n) (purged last kept)
+
+-- what the archive answers to it, behind number n or, where n was purged, from its first entry on
+abbrev pub cut_at : ℕ → ℕ → ℕ → List EntryView → CutView
+cut_at n most last kept = cut_out kept most (kept_behind n last kept) (take most (kept_behind n last kept))

@@ -1,13 +1,14 @@
 -- A take adds an entry to the archives that it concerns, which stand at the places of two names.
-use Rattle.std.proofs.Common.{◌≡◌, ◌≢◌, ℕ, zero, suc, ◌+◌, ◌<◌, Bool, true, false, cond, eqb, ◌||◌, List, [], ◌∷◌, ◌++◌, Option, Some, None, is_some, length, get_or, map, refl, sym, ap, ◌∙◌, subst, arith, inl, inr}
+use Rattle.std.proofs.Common.{◌≡◌, ◌≢◌, ℕ, zero, suc, ◌+◌, ◌-◌, ◌<◌, ◌≤◌, Bool, true, false, cond, eqb, ◌||◌, List, [], ◌∷◌, ◌++◌, Option, Some, None, is_some, length, drop, get_or, map, refl, sym, ap, ◌∙◌, subst, arith, inl, inr}
 use Rattle.std.proofs.lemmas.Bool.{cases_eq, cases_lt, eq-eqb, eqb-true, false_from_ne_true, false≢true, ne_eqb}
-use Rattle.std.proofs.lemmas.List.{get_or-map, get_or_append_left, get_or_push, length-map, length_push, same_lists}
+use Rattle.std.proofs.lemmas.List.{drop-drop, get_or-map, get_or_append_left, get_or_push, length-drop, length-map, length_push, same_lists}
 use Rattle.std.proofs.lemmas.Option.{get_or_from_slice_get, same_Some, slice_get-get_or, slice_get_within}
 use Rattle.std.proofs.lemmas.Slice.Eq.{bytes_eq-Decides}
 use Rattle.std.specs.List.{slice_get}
 use Rattle.std.specs.Option.{IfSome}
 use Rattle.std.specs.Str.{bytes_eq}
-use Rattle.xmpp_archive.specs.Entries.{EntryView, numbered}
+use Rattle.xmpp_archive.proofs.Newest.{newest-push}
+use Rattle.xmpp_archive.specs.Entries.{EntryView, newest, numbered}
 use Rattle.xmpp_replay.proofs.HomeLists.{appended_length}
 use Rattle.xmpp_edge.proofs.NamePlaces.{is_some-place_of, place_of-push, stands_there}
 use Rattle.xmpp_report.proofs.TakenArchives.{archive_push}
@@ -74,15 +75,15 @@ once_push names name once new = record { first = first }
         ]
 
 -- what stands at a place after an entry was added at one
-pub appended_get : (homes : List Home) (i k : ℕ) (entry : EntryView) (d : Home) → k < length homes →
-    get_or (appended_at i entry homes) k d ≡ cond (eqb k i) (appended entry (get_or homes k d)) (get_or homes k d)
-appended_get [] i k entry d within = absurd (omega arith)
-appended_get (h ∷ homes) zero zero entry d within = refl
-appended_get (h ∷ homes) zero (suc k) entry d within = ap (λ b. cond b (appended entry (get_or homes k d)) (get_or homes k d)) (sym (ne_eqb (suc k) 0 (λ (e : suc k ≡ 0). omega arith)))
-appended_get (h ∷ homes) (suc i) zero entry d within = ap (λ b. cond b (appended entry h) h) (sym (ne_eqb 0 (suc i) (λ (e : 0 ≡ suc i). omega arith)))
-appended_get (h ∷ homes) (suc i) (suc k) entry d within =
-    appended_get homes i k entry d (omega arith)
-    ∙ ap (λ b. cond b (appended entry (get_or homes k d)) (get_or homes k d)) (shifted k i)
+pub appended_get : (keep : ℕ) (homes : List Home) (i k : ℕ) (entry : EntryView) (d : Home) → k < length homes →
+    get_or (appended_at keep i entry homes) k d ≡ cond (eqb k i) (appended keep entry (get_or homes k d)) (get_or homes k d)
+appended_get keep [] i k entry d within = absurd (omega arith)
+appended_get keep (h ∷ homes) zero zero entry d within = refl
+appended_get keep (h ∷ homes) zero (suc k) entry d within = ap (λ b. cond b (appended keep entry (get_or homes k d)) (get_or homes k d)) (sym (ne_eqb (suc k) 0 (λ (e : suc k ≡ 0). omega arith)))
+appended_get keep (h ∷ homes) (suc i) zero entry d within = ap (λ b. cond b (appended keep entry h) h) (sym (ne_eqb 0 (suc i) (λ (e : 0 ≡ suc i). omega arith)))
+appended_get keep (h ∷ homes) (suc i) (suc k) entry d within =
+    appended_get keep homes i k entry d (omega arith)
+    ∙ ap (λ b. cond b (appended keep entry (get_or homes k d)) (get_or homes k d)) (shifted k i)
   where
     shifted : (k i : ℕ) → eqb k i ≡ eqb (suc k) (suc i)
     shifted k i = elim (cases_eq k i) [
@@ -90,16 +91,43 @@ appended_get (h ∷ homes) (suc i) (suc k) entry d within =
       | inr apart ↦ ne_eqb k i apart ∙ sym (ne_eqb (suc k) (suc i) (λ (e : suc k ≡ suc i). apart (omega arith)))
     ]
 
-home_push : (name : List ℕ) (takes : List Take) (take : Take) →
-    home_at (takes ++ take ∷ []) name ≡ cond (concerns name take) (appended (entry_of take) (home_at takes name)) (home_at takes name)
-home_push name takes take =
-    ap (λ entries. let home : Home = record { name = name; entries = entries } in home) (archive_push name takes take)
+-- the newest of what was kept and one more
+newest_again : (keep : ℕ) (xs : List EntryView) (x : EntryView) → 1 ≤ keep → newest keep (newest keep xs ++ x ∷ []) ≡ newest keep (xs ++ x ∷ [])
+newest_again keep xs x some =
+    newest-push keep (newest keep xs) x some
+    ∙ ap (λ t. t ++ x ∷ []) fewer
+    ∙ sym (newest-push keep xs x some)
+  where
+    size : length (drop (length xs - keep) xs) ≡ length xs - (length xs - keep)
+    size = length-drop (length xs - keep) xs
+
+    fewer : newest (keep - 1) (newest keep xs) ≡ newest (keep - 1) xs
+    fewer = drop-drop (length (newest keep xs) - (keep - 1)) (length xs - keep) xs
+        ∙ ap (λ n. drop n xs) {x = length xs - keep + (length (newest keep xs) - (keep - 1))} {y = length xs - (keep - 1)} (omega (arith, size))
+
+abbrev home_with : List ℕ → ℕ → List EntryView → Home
+home_with name last entries = record { name = name; last = last; entries = entries }
+
+home_push : (keep : ℕ) (name : List ℕ) (takes : List Take) (take : Take) → 1 ≤ keep →
+    home_at keep (takes ++ take ∷ []) name ≡ cond (concerns name take) (appended keep (entry_of take) (home_at keep takes name)) (home_at keep takes name)
+home_push keep name takes take some =
+    ap (λ entries. home_with name (length entries) (newest keep entries)) (archive_push name takes take)
     ∙ go (concerns name take)
   where
+    history : List EntryView
+    history = archive_of name takes
+
+    more : EntryView
+    more = numbered (length (archive_of name takes) + 1) (entry_of take)
+
     go : (hit : Bool) →
-        record { name = name; entries = cond hit (archive_of name takes ++ numbered (length (archive_of name takes) + 1) (entry_of take) ∷ []) (archive_of name takes) }
-        ≡ cond hit (appended (entry_of take) (home_at takes name)) (home_at takes name)
-    go true = refl
+        home_with name (length (cond hit (archive_of name takes ++ numbered (length (archive_of name takes) + 1) (entry_of take) ∷ []) (archive_of name takes)))
+        (newest keep (cond hit (archive_of name takes ++ numbered (length (archive_of name takes) + 1) (entry_of take) ∷ []) (archive_of name takes)))
+        ≡ cond hit (appended keep (entry_of take) (home_at keep takes name)) (home_at keep takes name)
+    go true =
+        ap (λ n. home_with name n (newest keep (archive_of name takes ++ numbered (length (archive_of name takes) + 1) (entry_of take) ∷ [])))
+        (length_push (archive_of name takes) (numbered (length (archive_of name takes) + 1) (entry_of take)))
+        ∙ ap (home_with name (length (archive_of name takes) + 1)) (sym (newest_again keep (archive_of name takes) (numbered (length (archive_of name takes) + 1) (entry_of take)) some))
     go false = refl
 
 -- two tests that aren't both true, and one after the other
@@ -114,47 +142,47 @@ once_or true b x y same = refl
 once_or false b x y same = rw same refl
 
 -- the accounts after one take more
-pub delivered_takes : (accounts : List (List ℕ)) (takes : List Take) (take : Take) (from to : ℕ) → AreOnce accounts →
+pub delivered_takes : (keep : ℕ) (accounts : List (List ℕ)) (takes : List Take) (take : Take) (from to : ℕ) → 1 ≤ keep → AreOnce accounts →
     place_of take.account accounts ≡ Some from → place_of take.to accounts ≡ Some to →
-    delivered from to (entry_of take) (map (home_at takes) accounts) ≡ map (home_at (takes ++ take ∷ [])) accounts
-delivered_takes accounts takes take from to once sender recipient =
+    delivered keep from to (entry_of take) (map (home_at keep takes) accounts) ≡ map (home_at keep (takes ++ take ∷ [])) accounts
+delivered_takes keep accounts takes take from to some once sender recipient =
     elim (cases_eq from to) [
       | inl same ↦
-          ap (λ b. cond b (appended_at from (entry_of take) homes) (appended_at to (entry_of take) (appended_at from (entry_of take) homes))) (eq-eqb from to same)
-          ∙ same_lists (appended_at from (entry_of take) homes) (map (home_at (takes ++ take ∷ [])) accounts)
-          (appended_length homes from (entry_of take) ∙ length-map accounts (home_at takes) ∙ sym (length-map accounts (home_at (takes ++ take ∷ []))))
+          ap (λ b. cond b (appended_at keep from (entry_of take) homes) (appended_at keep to (entry_of take) (appended_at keep from (entry_of take) homes))) (eq-eqb from to same)
+          ∙ same_lists (appended_at keep from (entry_of take) homes) (map (home_at keep (takes ++ take ∷ [])) accounts)
+          (appended_length keep homes from (entry_of take) ∙ length-map accounts (home_at keep takes) ∙ sym (length-map accounts (home_at keep (takes ++ take ∷ []))))
           (λ k d within.
-          let inside : k < length accounts = omega (arith, appended_length homes from (entry_of take), length-map accounts (home_at takes)) in
-          appended_get homes from k (entry_of take) d (omega (arith, length-map accounts (home_at takes)))
-          ∙ ap (λ h. cond (eqb k from) (appended (entry_of take) h) h) (get_or-map (home_at takes) accounts k [] d inside)
-          ∙ once_or (eqb k from) (eqb k to) (appended (entry_of take) (home_at takes (get_or accounts k []))) (home_at takes (get_or accounts k [])) (ap (eqb k) (sym same))
+          let inside : k < length accounts = omega (arith, appended_length keep homes from (entry_of take), length-map accounts (home_at keep takes)) in
+          appended_get keep homes from k (entry_of take) d (omega (arith, length-map accounts (home_at keep takes)))
+          ∙ ap (λ h. cond (eqb k from) (appended keep (entry_of take) h) h) (get_or-map (home_at keep takes) accounts k [] d inside)
+          ∙ once_or (eqb k from) (eqb k to) (appended keep (entry_of take) (home_at keep takes (get_or accounts k []))) (home_at keep takes (get_or accounts k [])) (ap (eqb k) (sym same))
           ∙ ends k d inside)
       | inr apart ↦
-          ap (λ b. cond b (appended_at from (entry_of take) homes) (appended_at to (entry_of take) (appended_at from (entry_of take) homes))) (ne_eqb from to apart)
-          ∙ same_lists (appended_at to (entry_of take) (appended_at from (entry_of take) homes)) (map (home_at (takes ++ take ∷ [])) accounts)
-          (appended_length (appended_at from (entry_of take) homes) to (entry_of take) ∙ appended_length homes from (entry_of take) ∙ length-map accounts (home_at takes) ∙ sym (length-map accounts (home_at (takes ++ take ∷ []))))
+          ap (λ b. cond b (appended_at keep from (entry_of take) homes) (appended_at keep to (entry_of take) (appended_at keep from (entry_of take) homes))) (ne_eqb from to apart)
+          ∙ same_lists (appended_at keep to (entry_of take) (appended_at keep from (entry_of take) homes)) (map (home_at keep (takes ++ take ∷ [])) accounts)
+          (appended_length keep (appended_at keep from (entry_of take) homes) to (entry_of take) ∙ appended_length keep homes from (entry_of take) ∙ length-map accounts (home_at keep takes) ∙ sym (length-map accounts (home_at keep (takes ++ take ∷ []))))
           (λ k d within.
-          let inside : k < length accounts = omega (arith, appended_length (appended_at from (entry_of take) homes) to (entry_of take), appended_length homes from (entry_of take), length-map accounts (home_at takes)) in
-          let held : k < length homes = omega (arith, length-map accounts (home_at takes)) in
-          appended_get (appended_at from (entry_of take) homes) to k (entry_of take) d (omega (arith, appended_length homes from (entry_of take)))
-          ∙ ap (λ h. cond (eqb k to) (appended (entry_of take) h) h)
-          (appended_get homes from k (entry_of take) d held
-          ∙ ap (λ h. cond (eqb k from) (appended (entry_of take) h) h) (get_or-map (home_at takes) accounts k [] d inside))
-          ∙ either (appended (entry_of take)) (home_at takes (get_or accounts k [])) (eqb k from) (eqb k to)
+          let inside : k < length accounts = omega (arith, appended_length keep (appended_at keep from (entry_of take) homes) to (entry_of take), appended_length keep homes from (entry_of take), length-map accounts (home_at keep takes)) in
+          let held : k < length homes = omega (arith, length-map accounts (home_at keep takes)) in
+          appended_get keep (appended_at keep from (entry_of take) homes) to k (entry_of take) d (omega (arith, appended_length keep homes from (entry_of take)))
+          ∙ ap (λ h. cond (eqb k to) (appended keep (entry_of take) h) h)
+          (appended_get keep homes from k (entry_of take) d held
+          ∙ ap (λ h. cond (eqb k from) (appended keep (entry_of take) h) h) (get_or-map (home_at keep takes) accounts k [] d inside))
+          ∙ either (appended keep (entry_of take)) (home_at keep takes (get_or accounts k [])) (eqb k from) (eqb k to)
           (λ a b. absurd (apart (sym (eqb-true k from a) ∙ eqb-true k to b)))
           ∙ ends k d inside)
     ]
   where
     homes : List Home
-    homes = map (home_at takes) accounts
+    homes = map (home_at keep takes) accounts
 
     ends : (k : ℕ) (d : Home) → k < length accounts →
-        cond (eqb k from || eqb k to) (appended (entry_of take) (home_at takes (get_or accounts k []))) (home_at takes (get_or accounts k []))
-        ≡ get_or (map (home_at (takes ++ take ∷ [])) accounts) k d
+        cond (eqb k from || eqb k to) (appended keep (entry_of take) (home_at keep takes (get_or accounts k []))) (home_at keep takes (get_or accounts k []))
+        ≡ get_or (map (home_at keep (takes ++ take ∷ [])) accounts) k d
     ends k d inside =
-        ap (λ b. cond (b || eqb k to) (appended (entry_of take) (home_at takes (get_or accounts k []))) (home_at takes (get_or accounts k [])))
+        ap (λ b. cond (b || eqb k to) (appended keep (entry_of take) (home_at keep takes (get_or accounts k []))) (home_at keep takes (get_or accounts k [])))
         (sym (place_test accounts k from take.account [] once inside sender))
-        ∙ ap (λ b. cond (bytes_eq (get_or accounts k []) take.account || b) (appended (entry_of take) (home_at takes (get_or accounts k []))) (home_at takes (get_or accounts k [])))
+        ∙ ap (λ b. cond (bytes_eq (get_or accounts k []) take.account || b) (appended keep (entry_of take) (home_at keep takes (get_or accounts k []))) (home_at keep takes (get_or accounts k [])))
         (sym (place_test accounts k to take.to [] once inside recipient))
-        ∙ sym (home_push (get_or accounts k []) takes take)
-        ∙ sym (get_or-map (home_at (takes ++ take ∷ [])) accounts k [] d inside)
+        ∙ sym (home_push keep (get_or accounts k []) takes take some)
+        ∙ sym (get_or-map (home_at keep (takes ++ take ∷ [])) accounts k [] d inside)

@@ -3,10 +3,9 @@ use Rattle.std.proofs.Common.{◌≡◌, ℕ, ◌<◌, List, [], Some, length, g
 use Rattle.std.proofs.lemmas.List.{length-map}
 use Rattle.std.proofs.lemmas.Option.{slice_get_read}
 use Rattle.std.specs.List.{slice_get}
-use Rattle.xmpp_archive.specs.Entries.{EntryView}
 use Rattle.xmpp_replay.specs.Homes.{Home, empty_home}
 use Rattle.xmpp_replay.specs.Runs.{IsReady, IsReadyDevice}
-use Rattle.xmpp_replay.specs.Turns.{IsFrontOf}
+use Rattle.xmpp_replay.specs.Turns.{IsInOrder}
 use Rattle.xmpp_replay.specs.declared.run.Run.{Run}
 use Rattle.xmpp_replay.specs.Devices.{DeviceState}
 
@@ -29,7 +28,7 @@ pub device_there : (run : Run) (i : ℕ) (device : DeviceState) → IsReady run 
     slice_get run.devices.items i ≡ Some device
 device_there run i device ready there is = slice_get_read run.devices.items (length run.devices.items) i device refl (place_ready run i ready there) is
 
-pub front_ready : (run : Run) (i : ℕ) (device : DeviceState) (entries : List EntryView) → IsReady run → i < length run.index → device ≡ get_or run.devices.items i device →
-    ((d : Home) → entries ≡ (get_or run.accounts.homes device.home d).entries) → IsFrontOf entries device.log.entries
-front_ready run i device entries ready there is same =
-    subst (λ es. IsFrontOf es device.log.entries) (sym (same (empty_home []))) ((device_ready run i device ready there is).front (empty_home []))
+pub order_ready : (run : Run) (i : ℕ) (device : DeviceState) (last : ℕ) → IsReady run → i < length run.index → device ≡ get_or run.devices.items i device →
+    ((d : Home) → last ≡ (get_or run.accounts.homes device.home d).last) → IsInOrder last device.log.entries
+order_ready run i device last ready there is same =
+    subst (λ n. IsInOrder n device.log.entries) (sym (same (empty_home []))) ((device_ready run i device ready there is).in_order (empty_home []))

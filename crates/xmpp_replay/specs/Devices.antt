@@ -1,5 +1,5 @@
 -- What clauses see of a device in a run.
-use Rattle.std.specs.Prelude.{ℕ, List}
+use Rattle.std.specs.Prelude.{ℕ, List, [], None}
 use Rattle.xmpp_edge.specs.Listed.{Listed}
 use Rattle.xmpp_log.specs.Views.{LogView}
 use Rattle.xmpp_report.specs.declared.report.SaidLine.{SaidLine}
@@ -11,3 +11,7 @@ pub record DeviceState : Type 0 where
   pub home : ℕ
   pub said : Listed SaidLine
   pub log : LogView
+
+-- a log before its first page
+abbrev pub empty_log : LogView
+empty_log = record { entries = []; tiles = []; page = None; held = [] }

@@ -8,9 +8,7 @@ pub use Rattle.xmpp_schedule.specs.Schedules
 pub use Rattle.xmpp_schedule.specs.Contents
 pub use Rattle.xmpp_report.specs.Reports
 pub use Rattle.xmpp_report.specs.Lawful
--- The direct run, and the worlds that it passes.
-pub mod Direct
-pub mod History
+pub use Rattle.xmpp_direct.specs.Direct
 -- What clauses of the code and lemmas cite.
 pub mod Homes
 pub mod Devices

@@ -9,29 +9,30 @@ use Rattle.xmpp_report.specs.declared.report.SaidLine.{SaidLine}
 use Rattle.xmpp_report.specs.declared.report.SaidMark.TheVariants.{Acknowledged}
 use Rattle.xmpp_report.specs.declared.report.TakeLine.{TakeLine}
 use Rattle.xmpp_replay.specs.Devices.{DeviceState}
+use Rattle.xmpp_schedule.specs.declared.schedule.Version.{Version}
 
 -- how many messages the device sent
 abbrev pub sent_of : DeviceState → ℕ
 sent_of device = length device.said.items
 
--- the take of the device's next message
-abbrev pub take_by : DeviceState → List ℕ → List ℕ → Take
-take_by device to text =
-    record { device = device.name; account = device.account; epoch = 1; n = sent_of device + 1; to = to; text = text; moment = 0 }
+-- the take of the device's next message, at a moment
+abbrev pub take_by : ℕ → DeviceState → List ℕ → List ℕ → Take
+take_by moment device to text =
+    record { device = device.name; account = device.account; epoch = 1; n = sent_of device + 1; to = to; text = text; moment = moment }
 
 -- the line of the device's next message
 abbrev pub said_by : DeviceState → List ℕ → List ℕ → SaidLine
 said_by device to text = record { epoch = 1; n = sent_of device + 1; state = Acknowledged; to = to; text = text }
 
 -- the accounts after the device's next message, which goes nowhere where no account has the name
-abbrev pub homes_after : DeviceState → List ℕ → List ℕ → List Home → List Home
-homes_after device to text homes =
-    option_map_or (λ place. delivered device.home place (entry_of (take_by device to text)) homes) (place_of to (names_of homes)) homes
+abbrev pub homes_after : ℕ → ℕ → DeviceState → List ℕ → List ℕ → List Home → List Home
+homes_after keep moment device to text homes =
+    option_map_or (λ place. delivered keep device.home place (entry_of (take_by moment device to text)) homes) (place_of to (names_of homes)) homes
 
 -- the takes after it
-abbrev pub takes_after : DeviceState → List ℕ → List ℕ → List Home → List TakeLine → List TakeLine
-takes_after device to text homes lines =
-    option_map_or (λ place. lines ++ take_line (take_by device to text) ∷ []) (place_of to (names_of homes)) lines
+abbrev pub takes_after : Version → ℕ → DeviceState → List ℕ → List ℕ → List Home → List TakeLine → List TakeLine
+takes_after version moment device to text homes lines =
+    option_map_or (λ place. lines ++ take_line version (take_by moment device to text) ∷ []) (place_of to (names_of homes)) lines
 
 -- the device after it
 pub record HasSaid (before after : DeviceState) (to text : List ℕ) : Type 0 where

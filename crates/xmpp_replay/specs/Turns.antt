@@ -1,15 +1,19 @@
--- A log that is a front of its archive, and the pages that make it grow.
-use Rattle.std.specs.Prelude.{◌≡◌, ℕ, zero, suc, ◌+◌, ◌≤◌, nat_le, List, [], ◌∷◌, ◌++◌, Some, None, length, map, take, drop, if◌then◌else◌}
+-- A log whose entries are in the order of their numbers, and the pages that make it grow.
+use Rattle.std.specs.Prelude.{◌≡◌, ℕ, zero, suc, ◌+◌, List, [], ◌∷◌, ◌++◌, Option, Some, None, length, map, if◌then◌else◌}
+use Rattle.std.specs.List.{AllByRecursion}
+use Rattle.std.specs.Option.{option_map}
 use Rattle.xmpp_archive.specs.Entries.{EntryView}
-use Rattle.xmpp_log.specs.LogPages.{LogPage, log_of, last_id, tile_of}
-use Rattle.xmpp_log.specs.Views.{LogView, OpenPage}
+use Rattle.xmpp_archive.specs.Ids.{id_of}
+use Rattle.xmpp_direct.specs.NextPages.{last_logged, page_at}
+use Rattle.xmpp_log.specs.LogPages.{LogPage, ids_of, last_id, log_of, tile_of}
+use Rattle.xmpp_log.specs.Views.{LogView, OpenPage, unheld}
 use Rattle.xmpp_log.specs.declared.log_entry.LogEntry.{LogEntry}
-use Rattle.xmpp_direct.specs.Direct.{Page, as_logged}
+use Rattle.xmpp_pages.specs.Spans.{Rises}
 
--- the log's entries are the archive's first ones
-pub record IsFrontOf (archive : List EntryView) (logged : List LogEntry) : Type 0 where
-  pub within : length logged ≤ length archive
-  pub same : logged ≡ map as_logged (take (length logged) archive)
+-- each entry has its number's id, the numbers rise from 1 on, and none is above the archive's last
+pub record IsInOrder (last : ℕ) (logged : List LogEntry) : Type 0 where
+  pub ids : AllByRecursion (λ l. l.id ≡ id_of l.entry.number) logged
+  pub rise : Rises 0 last (map (λ l. l.entry.number) logged)
 
 -- the log is what these pages left
 pub record IsLogOf (pages : List LogPage) (log : LogView) : Type 0 where
@@ -17,38 +21,36 @@ pub record IsLogOf (pages : List LogPage) (log : LogView) : Type 0 where
   pub tiles : log.tiles ≡ map tile_of pages
   pub closed : log.page ≡ None
 
--- the page of the entries behind the first n, by its place in the list
-abbrev pub page_behind : ℕ → ℕ → List EntryView → Page
-page_behind n most entries =
-    record {
-      entries = take most (drop n entries);
-      complete = nat_le (length (drop n entries)) most;
-      count = length entries;
-    }
-
--- the log with an archive's page at its end
-abbrev pub with_turn : LogView → Page → LogView
+-- the log with a page at its end
+abbrev pub with_turn : LogView → LogPage → LogView
 with_turn log page = record {
-  entries = log.entries ++ map as_logged page.entries;
-  tiles = log.tiles ++ record { after = last_id log.entries; count = length page.entries; complete = page.complete; total = page.count } ∷ [];
+  entries = log.entries ++ page.entries;
+  tiles = log.tiles ++ tile_of page ∷ [];
   page = None;
+  held = unheld (ids_of page.entries) log.held;
 }
 
+-- the next page of a log, of an archive that gave numbers up to `last` and keeps these entries
+abbrev pub turn_of : ℕ → ℕ → List EntryView → LogView → LogPage
+turn_of most last kept log = page_at (last_logged log.entries) most last kept
+
 -- the log after pages until one is complete, in so many turns at most
-abbrev pub log_after : ℕ → ℕ → List EntryView → LogView → LogView
-log_after zero most archive log = log
-log_after (suc turns) most archive log =
-    if (page_behind (length log.entries) most archive).complete
-    then with_turn log (page_behind (length log.entries) most archive)
-    else log_after turns most archive (with_turn log (page_behind (length log.entries) most archive))
+abbrev pub log_after : ℕ → ℕ → ℕ → List EntryView → LogView → LogView
+log_after zero most last kept log = log
+log_after (suc turns) most last kept log =
+    if (turn_of most last kept log).complete
+    then with_turn log (turn_of most last kept log)
+    else log_after turns most last kept (with_turn log (turn_of most last kept log))
 
 -- the log after a catch-up
-abbrev pub caught_up : ℕ → List EntryView → LogView → LogView
-caught_up most archive log = log_after (length archive + 1) most archive log
+abbrev pub caught_up : ℕ → ℕ → List EntryView → LogView → LogView
+caught_up most last kept log = log_after (length kept + 1) most last kept log
 
--- a page that was asked for behind the log's end, with results
-abbrev pub open_page : List ℕ → ℕ → LogView → List LogEntry → OpenPage
-open_page queryid most log results = record { queryid = queryid; max = most; after = last_id log.entries; results = results }
+-- the log with an open page, which was asked for at a place and has results
+abbrev pub opened : List ℕ → ℕ → Option (List ℕ) → LogView → List LogEntry → LogView
+opened queryid most after log results =
+    record log { page = Some (record { queryid = queryid; max = most; after = after; results = results }) }
 
-abbrev pub opened : List ℕ → ℕ → LogView → List LogEntry → LogView
-opened queryid most log results = record log { page = Some (open_page queryid most log results) }
+-- the log with further results in its open page
+abbrev pub with_results : LogView → List LogEntry → LogView
+with_results log results = record log { page = option_map (λ (page : OpenPage). record page { results = page.results ++ results }) log.page }

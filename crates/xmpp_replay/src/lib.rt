@@ -1,8 +1,6 @@
-//! The direct run of a schedule, and the law that its report keeps.
+//! The direct run of a schedule, as its definition says.
 #![tactic(auto)]
 
-mod laws;
 mod run;
 
-pub use laws::direct_is_lawful;
 pub use run::direct;

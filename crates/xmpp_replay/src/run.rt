@@ -2,16 +2,17 @@
 //! is answered at once.
 //!
 //! A message is appended to its two archives once both have room. A catch-up asks for the page after the log's
-//! last entry, copies the entries of the page's numbers out of the archive, and ends the page with the count that
-//! it was answered. Archives are reached by number, accounts and devices by name.
-ghost use Rattle.std.specs.Prelude.{◌≡◌, ◌≤◌, false, true, [], IfOk, OnOk};
+//! last entry or, where the archive has purged that one, for the page from its first one on, shares the entries of
+//! the page's numbers with the archive, and ends the page with the count that it was answered. Archives are reached
+//! by number, accounts and devices by name.
+ghost use Rattle.std.specs.Prelude.{◌≡◌, ◌+◌, ◌≤◌, false, true, [], IfOk, OnOk};
 ghost use Rattle.xmpp_direct.specs.Direct.{direct_report};
 ghost use Rattle.xmpp_schedule.specs.Grammar.{IsSchedule};
 ghost use Rattle.xmpp_edge.specs.Names.{is_among};
 ghost use Rattle.xmpp_replay.specs.Homes.{names_of};
 ghost use Rattle.xmpp_replay.specs.ReportLines.{report_of};
-ghost use Rattle.xmpp_replay.specs.Runs.{HasCaughtUp, HasDeclared, HasFollowed, HasSent, IsAfter, IsReady, MayFollow};
-ghost use Rattle.xmpp_schedule.specs.Schedules.{steps_of};
+ghost use Rattle.xmpp_replay.specs.Runs.{HasCaughtUp, HasDeclared, HasFollowed, HasSent, HasTicked, IsAfter, IsReady, MayFollow};
+ghost use Rattle.xmpp_schedule.specs.Schedules.{keep_of, steps_of};
 ghost use Rattle.xmpp_schedule.specs.Standing.{AreRight};
 
 mod account_names;
@@ -23,15 +24,17 @@ mod summary;
 
 use crate::run::accounts::Accounts;
 use crate::run::devices::Device;
+use crate::run::messages::Clock;
 use std::alloc::Global;
 use xmpp_edge::{ListOf, NameIndex, NoMemory, Text};
 use xmpp_report::{Report, TakeLines};
-use xmpp_schedule::{Line, Schedule, Step};
+use xmpp_schedule::{Line, Schedule, Step, Version};
 
-/// The accounts that a schedule declares anywhere, the devices that were declared so far, each found by its name,
-/// and the messages that were taken so far.
+/// The clock, the accounts that a schedule declares anywhere, the devices that were declared so far, each found by its
+/// name, and the messages that were taken so far.
 #[derive(Drop)]
 pub(crate) struct Run {
+    clock: Clock,
     accounts: Accounts,
     index: NameIndex,
     devices: Vec<Device>,
@@ -68,6 +71,7 @@ impl Run {
         };
         messages::say(
             alloc,
+            self.clock,
             &mut self.devices[place],
             &mut self.accounts,
             &mut self.takes,
@@ -95,6 +99,14 @@ impl Run {
         )
     }
 
+    /// Moves the clock on by so many milliseconds.
+    fn tick(&mut self, milliseconds: u32)
+        requires early { self.old.clock.moment ≤ 100000000000000 }
+        ensures { HasTicked self.old self.new milliseconds }
+    {
+        self.clock.moment += u64::from(milliseconds);
+    }
+
     /// Follows a step of a schedule.
     fn follow(&mut self, alloc: Global, step: &Step) -> Result<(), NoMemory>
         requires ready { IsReady self.old }
@@ -104,8 +116,14 @@ impl Run {
         match step {
             Step::Account(_) => Ok(()),
             Step::Device(name, account) => self.declare(alloc, name.as_str(), account.as_str()),
-            Step::Say(device, to, text) => self.say(alloc, device.as_str(), to.as_str(), text),
+            Step::Say(device, to, text) | Step::Private(device, to, text) => {
+                self.say(alloc, device.as_str(), to.as_str(), text)
+            }
             Step::Catchup(device, most) => self.catch_up(alloc, device.as_str(), *most),
+            Step::Tick(milliseconds) => {
+                self.tick(*milliseconds);
+                Ok(())
+            }
         }
     }
 
@@ -114,12 +132,14 @@ impl Run {
         ensures { IfOk result (λ report. report ≡ report_of self) }
     {
         let Run {
+            clock,
             accounts,
             devices,
             takes,
             ..
         } = self;
         Ok(Report {
+            version: clock.version,
             wire: false,
             takes,
             accounts: summary::account_lines(alloc, accounts.into_accounts())?,
@@ -130,12 +150,14 @@ impl Run {
 
     /// The run before the first of some lines: their accounts are there, and nothing else.
     #[tactic(auto, using(crate::proofs::WholeRuns::after_none))]
-    fn of_lines(alloc: Global, lines: &[Line]) -> Result<Run, NoMemory>
-        requires { AreRight (steps_of lines.now) }
-        ensures { IfOk result (λ run. IsAfter (steps_of lines.now) [] run) }
+    fn of_lines(alloc: Global, version: Version, lines: &[Line]) -> Result<Run, NoMemory>
+        requires right { AreRight (steps_of lines.now) }
+        requires some { 1 ≤ keep_of version }
+        ensures { IfOk result (λ run. IsAfter version (steps_of lines.now) [] run) }
     {
         Ok(Run {
-            accounts: Accounts::of_lines(alloc, lines)?,
+            clock: Clock { version, moment: 0 },
+            accounts: Accounts::of_lines(alloc, version.keep(), lines)?,
             index: NameIndex::new(alloc),
             devices: Vec::new(alloc),
             takes: ListOf::new(alloc),
@@ -145,8 +167,9 @@ impl Run {
     /// Follows the lines, each below the ones before it.
     fn follow_lines(&mut self, alloc: Global, lines: &[Line]) -> Result<(), NoMemory>
         requires right { AreRight (steps_of lines.now) }
-        requires start { IsAfter (steps_of lines.now) [] self.old }
-        ensures { OnOk result (IsAfter (steps_of lines.now) (steps_of lines.now) self.new) }
+        requires some { 1 ≤ keep_of self.old.clock.version }
+        requires start { IsAfter self.old.clock.version (steps_of lines.now) [] self.old }
+        ensures { OnOk result (IsAfter self.old.clock.version (steps_of lines.now) (steps_of lines.now) self.new) }
     {
         for line in lines {
             self.follow(alloc, &line.step)?;
@@ -155,15 +178,26 @@ impl Run {
     }
 }
 
-/// The direct run of a schedule: each message is taken at once where its account exists, and each page that a
-/// catch-up asks for (XEP-0313) is answered at once. `NoMemory` comes only where memory runs out.
-#[tactic(auto, using(xmpp_schedule::proofs::Prefixes::right_steps, crate::proofs::WholeRuns::report_told))]
-pub fn direct(alloc: Global, schedule: &Schedule) -> Result<Report, NoMemory>
+/// The run of a schedule behind its last line.
+fn followed(alloc: Global, schedule: &Schedule) -> Result<Run, NoMemory>
     requires { IsSchedule schedule.now }
-    ensures { IfOk result (λ report. report ≡ direct_report (steps_of schedule.now.lines)) }
+    ensures { IfOk result (λ run. IsAfter schedule.now.version (steps_of schedule.now.lines) (steps_of schedule.now.lines) run) }
 {
     let lines = schedule.lines.as_slice();
-    let mut run = Run::of_lines(alloc, lines)?;
+    let mut run = Run::of_lines(alloc, schedule.version, lines)?;
     run.follow_lines(alloc, lines)?;
+    Ok(run)
+}
+
+/// The direct run of a schedule: each message is taken at once where its account exists, and each page that a
+/// catch-up asks for (XEP-0313) is answered at once. The schedule is dropped before the report is made. `NoMemory`
+/// comes only where memory runs out.
+#[tactic(auto, using(crate::proofs::WholeRuns::report_told))]
+pub fn direct(alloc: Global, schedule: Schedule) -> Result<Report, NoMemory>
+    requires { IsSchedule schedule }
+    ensures { IfOk result (λ report. report ≡ direct_report schedule) }
+{
+    let run = followed(alloc, &schedule)?;
+    drop(schedule);
     run.into_report(alloc)
 }

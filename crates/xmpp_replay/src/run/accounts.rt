@@ -3,7 +3,7 @@ ghost use Rattle.std.specs.Prelude.{◌≡◌, ◌≢◌, ℕ, ◌+◌, ◌<◌,
 ghost use Rattle.std.specs.List.{All};
 ghost use Rattle.xmpp_schedule.specs.Contents.{account_name, accounts_of};
 ghost use Rattle.xmpp_edge.specs.Names.{is_among};
-ghost use Rattle.xmpp_replay.specs.Homes.{Home, IsWhole, home_of_account, names_of, empty_home, appended_at, delivered};
+ghost use Rattle.xmpp_replay.specs.Homes.{Home, home_of_account, names_of, empty_home, appended_at, delivered};
 ghost use Rattle.xmpp_edge.specs.Names.{place_of};
 ghost use Rattle.xmpp_schedule.specs.Schedules.{steps_of};
 ghost use Rattle.xmpp_schedule.specs.Standing.{AreRight};
@@ -15,9 +15,6 @@ use xmpp_archive::{Archive, ArchiveFault, Entry};
 use xmpp_edge::{Copied, NameIndex, NoMemory};
 use xmpp_schedule::{Line, Step};
 
-/// How many entries an archive keeps: all that can come.
-const KEEP: u32 = 4_294_967_295;
-
 /// An account and its archive.
 #[derive(Drop)]
 pub(crate) struct Account {
@@ -25,31 +22,35 @@ pub(crate) struct Account {
     pub(crate) archive: Archive,
 }
 
-/// Accounts, found by their names.
+/// Accounts, found by their names. Each archive keeps its newest `keep` entries.
 #[derive(Drop)]
 pub(crate) struct Accounts {
+    keep: u32,
     index: NameIndex,
     accounts: Vec<Account>,
 }
 
 impl Model for Accounts {
-    ghost use Rattle.std.specs.Prelude.{◌≡◌, map};
+    ghost use Rattle.std.specs.Prelude.{◌≡◌, ◌≤◌, map};
     ghost use Rattle.std.specs.List.{All};
-    ghost use Rattle.xmpp_replay.specs.Homes.{HomesView, IsWholeAccount, home_of_account, room_of_account, names_of};
+    ghost use Rattle.xmpp_replay.specs.Homes.{HomesView, Keeps, home_of_account, room_of_account, names_of};
 
     ghost Value = { HomesView };
 
-    ghost view = { λ a. record { homes = map home_of_account a.accounts.items; rooms = map room_of_account a.accounts.items } };
+    ghost view = { λ a. record { keep = a.keep; homes = map home_of_account a.accounts.items; rooms = map room_of_account a.accounts.items } };
 
-    ghost invariant = { λ a. (a.index ≡ names_of (map home_of_account a.accounts.items)) × All IsWholeAccount a.accounts.items };
+    ghost invariant = { λ a. (a.index ≡ names_of (map home_of_account a.accounts.items)) × (1 ≤ a.keep) × All (Keeps a.keep) a.accounts.items };
 }
 
 impl Accounts {
-    /// No accounts. It takes no memory.
-    pub(crate) fn new(alloc: Global) -> Accounts
-        ensures { result.homes ≡ [] }
+    /// No accounts, whose archives are to keep so many entries. It takes no memory.
+    pub(crate) fn new(alloc: Global, keep: u32) -> Accounts
+        requires { 1 ≤ keep }
+        ensures homes { result.homes ≡ [] }
+        ensures keep { result.keep ≡ keep }
     {
         Accounts {
+            keep,
             index: NameIndex::new(alloc),
             accounts: Vec::new(alloc),
         }
@@ -60,12 +61,13 @@ impl Accounts {
         requires { is_among name.now (names_of self.old.homes) ≡ false }
         ensures ok { OnOk result (self.new.homes ≡ self.old.homes ++ empty_home name.now ∷ []) }
         ensures err { OnErr result (self.new.homes ≡ self.old.homes) }
+        ensures keep { self.new.keep ≡ self.old.keep }
     {
         let named = AccountName::new(alloc, name)?;
         let owner = named.address().copied(alloc)?;
         let account = Account {
             name: named,
-            archive: Archive::new(alloc, owner, KEEP),
+            archive: Archive::new(alloc, owner, self.keep),
         };
         self.accounts.reserve(1)?;
         self.index.add(alloc, name)?;
@@ -78,20 +80,23 @@ impl Accounts {
     /// Adds the account that a step declares, if it declares one.
     fn declare(&mut self, alloc: Global, step: &Step) -> Result<(), NoMemory>
         requires { (name : List ℕ) → step.now ≡ Step.Account name → is_among name (names_of self.old.homes) ≡ false }
-        ensures { OnOk result (self.new.homes ≡ self.old.homes ++ map empty_home (account_name step.now)) }
+        ensures homes { OnOk result (self.new.homes ≡ self.old.homes ++ map empty_home (account_name step.now)) }
+        ensures keep { self.new.keep ≡ self.old.keep }
     {
         match step {
             Step::Account(name) => self.add(alloc, name.as_str()),
-            Step::Device(_, _) | Step::Say(_, _, _) | Step::Catchup(_, _) => Ok(()),
+            _ => Ok(()),
         }
     }
 
     /// The accounts that lines declare anywhere, each with an empty archive.
-    pub(crate) fn of_lines(alloc: Global, lines: &[Line]) -> Result<Accounts, NoMemory>
-        requires { AreRight (steps_of lines.now) }
-        ensures { IfOk result (λ accounts. accounts.homes ≡ map empty_home (accounts_of (steps_of lines.now))) }
+    pub(crate) fn of_lines(alloc: Global, keep: u32, lines: &[Line]) -> Result<Accounts, NoMemory>
+        requires right { AreRight (steps_of lines.now) }
+        requires some { 1 ≤ keep }
+        ensures homes { IfOk result (λ accounts. accounts.homes ≡ map empty_home (accounts_of (steps_of lines.now))) }
+        ensures keep { IfOk result (λ accounts. accounts.keep ≡ keep) }
     {
-        let mut accounts = Accounts::new(alloc);
+        let mut accounts = Accounts::new(alloc, keep);
         for line in lines {
             accounts.declare(alloc, &line.step)?;
         }
@@ -119,7 +124,7 @@ impl Accounts {
     pub(crate) fn archive(&self, place: usize) -> &Archive
         requires { place < length self.now.homes }
         ensures entries { (d : Home) → result.now.entries ≡ (slice_index_or self.now.homes place d).entries }
-        ensures whole { IsWhole result.now }
+        ensures last { (d : Home) → result.now.last ≡ (slice_index_or self.now.homes place d).last }
     {
         &self.accounts[place].archive
     }
@@ -127,9 +132,10 @@ impl Accounts {
     /// Makes room for one entry more in the archive at a place, and changes nothing else.
     fn reserve(&mut self, place: usize) -> Result<(), NoMemory>
         requires there { place < length self.old.homes }
-        requires few { All (λ (home : Home). length home.entries < 4294967295) self.old.homes }
+        requires few { All (λ (home : Home). home.last < 4294967295) self.old.homes }
         ensures ok { OnOk result (1 ≤ slice_index self.new.rooms place) }
         ensures homes { self.new.homes ≡ self.old.homes }
+        ensures keep { self.new.keep ≡ self.old.keep }
         ensures others { (k : ℕ) → slice_index self.old.rooms k ≤ slice_index self.new.rooms k }
     {
         match self.accounts[place].archive.reserve() {
@@ -142,9 +148,10 @@ impl Accounts {
     /// Adds an entry at the end of the archive at a place. It takes no memory.
     fn append(&mut self, place: usize, entry: Entry)
         requires there { place < length self.old.homes }
-        requires few { All (λ (home : Home). length home.entries < 4294967295) self.old.homes }
+        requires few { All (λ (home : Home). home.last < 4294967295) self.old.homes }
         requires room { 1 ≤ slice_index self.old.rooms place }
-        ensures homes { self.new.homes ≡ appended_at place entry self.old.homes }
+        ensures homes { self.new.homes ≡ appended_at self.old.keep place entry self.old.homes }
+        ensures keep { self.new.keep ≡ self.old.keep }
         ensures others { (k : ℕ) → k ≢ place → slice_index self.old.rooms k ≤ slice_index self.new.rooms k }
     {
         self.accounts[place].archive.append_reserved(entry);
@@ -162,9 +169,10 @@ impl Accounts {
     ) -> Result<(), NoMemory>
         requires from { from < length self.old.homes }
         requires to { to < length self.old.homes }
-        requires few { All (λ (home : Home). length home.entries < 4294967294) self.old.homes }
-        ensures ok { OnOk result (self.new.homes ≡ delivered from to entry self.old.homes) }
+        requires few { All (λ (home : Home). home.last < 4294967294) self.old.homes }
+        ensures ok { OnOk result (self.new.homes ≡ delivered self.old.keep from to entry self.old.homes) }
         ensures err { OnErr result (self.new.homes ≡ self.old.homes) }
+        ensures keep { self.new.keep ≡ self.old.keep }
     {
         self.reserve(from)?;
         if from == to {

@@ -1,6 +1,7 @@
 //! The devices of a run.
-ghost use Rattle.std.specs.Prelude.{◌≡◌, [], None, IfOk};
+ghost use Rattle.std.specs.Prelude.{◌≡◌, [], IfOk};
 ghost use Rattle.xmpp_report.specs.Addresses.{full_address};
+ghost use Rattle.xmpp_replay.specs.Devices.{empty_log};
 
 use std::alloc::Global;
 use std::marker::Model;
@@ -44,7 +45,7 @@ impl Device {
         ensures account { IfOk result (λ d. d.account ≡ account.now) }
         ensures home { IfOk result (λ d. d.home ≡ home) }
         ensures said { IfOk result (λ d. d.said.items ≡ []) }
-        ensures log { IfOk result (λ d. d.log ≡ record { entries = []; tiles = []; page = None }) }
+        ensures log { IfOk result (λ d. d.log ≡ empty_log) }
     {
         Ok(Device {
             name: Text::from_str(alloc, name)?.shared()?,

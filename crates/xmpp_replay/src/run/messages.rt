@@ -3,7 +3,7 @@ ghost use Rattle.std.specs.Prelude.{◌≡◌, ◌+◌, ◌<◌, ◌∷◌, ◌+
 ghost use Rattle.std.specs.List.{All};
 ghost use Rattle.xmpp_report.specs.Takes.{entry_of};
 ghost use Rattle.xmpp_report.specs.Addresses.{bare_address, full_address, origin_of};
-ghost use Rattle.xmpp_report.specs.Lines.{take_line};
+ghost use Rattle.xmpp_report.specs.Lines.{take_line, told_moment};
 ghost use Rattle.xmpp_replay.specs.Homes.{Home, delivered, names_of};
 ghost use Rattle.xmpp_replay.specs.Messages.{HasSaid, homes_after, said_by, sent_of, take_by, takes_after};
 
@@ -14,6 +14,26 @@ use std::alloc::Global;
 use xmpp_archive::{ArchivedMessage, Bodies, Body, Entry};
 use xmpp_edge::{Copied, ListOf, NoMemory, Text};
 use xmpp_report::{SaidLine, SaidMark, TakeLine, TakeLines, origin_of};
+use xmpp_schedule::Version;
+
+/// When messages are taken, and in which version's report.
+#[derive(Clone, Copy)]
+pub(crate) struct Clock {
+    pub(crate) version: Version,
+    pub(crate) moment: u64,
+}
+
+impl Clock {
+    /// The moment, where the report tells it.
+    fn told(self) -> Option<u64>
+        ensures { result ≡ told_moment self.version self.moment }
+    {
+        match self.version {
+            Version::One => None,
+            Version::Two { .. } => Some(self.moment),
+        }
+    }
+}
 
 /// The bodies of a message with a text in no language.
 fn bodies_of(alloc: Global, text: &Text) -> Result<Bodies, NoMemory>
@@ -37,17 +57,18 @@ fn next_number(device: &Device) -> u64
 /// The archive entry of a device's next message, without a number.
 fn sent_entry(
     alloc: Global,
+    moment: u64,
     device: &Device,
     to: &AccountName,
     text: &Text,
 ) -> Result<Entry, NoMemory>
     requires { sent_of device.now < 100000 }
-    ensures { IfOk result (λ e. e ≡ entry_of (take_by device.now to.now text.now)) }
+    ensures { IfOk result (λ e. e ≡ entry_of (take_by moment device.now to.now text.now)) }
 {
     let number = next_number(device);
     let origin = origin_of(alloc, device.name.as_str(), 1, number)?.shared()?;
     let message = ArchivedMessage {
-        stamp: 0,
+        stamp: moment,
         from: device.address().copied(alloc)?,
         to: to.address().copied(alloc)?,
         normal: false,
@@ -59,15 +80,21 @@ fn sent_entry(
 }
 
 /// The report's line of the take of a device's next message.
-fn take_line(alloc: Global, device: &Device, to: &AccountName) -> Result<TakeLine, NoMemory>
+fn take_line(
+    alloc: Global,
+    clock: Clock,
+    device: &Device,
+    to: &AccountName,
+) -> Result<TakeLine, NoMemory>
     requires { sent_of device.now < 100000 }
-    ensures { IfOk result (λ line. line ≡ take_line (take_by device.now to.now [])) }
+    ensures { IfOk result (λ line. line ≡ take_line clock.version (take_by clock.moment device.now to.now [])) }
 {
     Ok(TakeLine {
         device: device.name.copied(alloc)?,
         epoch: 1,
         n: next_number(device),
         account: to.text().copied(alloc)?,
+        moment: clock.told(),
     })
 }
 
@@ -99,6 +126,7 @@ fn said_line(alloc: Global, device: &Device, to: Text, text: &Text) -> Result<Sa
 /// and the takes as they were.
 fn take_message(
     alloc: Global,
+    clock: Clock,
     device: &Device,
     accounts: &mut Accounts,
     takes: &mut TakeLines,
@@ -110,14 +138,15 @@ fn take_message(
     requires home { device.now.home < length accounts.old.homes }
     requires place { place < length accounts.old.homes }
     requires named { slice_get (names_of accounts.old.homes) place ≡ Some to.now }
-    requires few { All (λ (home : Home). length home.entries < 4294967294) accounts.old.homes }
-    ensures homes { OnOk result (accounts.new.homes ≡ delivered device.now.home place (entry_of (take_by device.now to.now text.now)) accounts.old.homes) }
-    ensures takes { OnOk result (takes.new.items ≡ takes.old.items ++ take_line (take_by device.now to.now text.now) ∷ []) }
+    requires few { All (λ (home : Home). home.last < 4294967294) accounts.old.homes }
+    ensures homes { OnOk result (accounts.new.homes ≡ delivered accounts.old.keep device.now.home place (entry_of (take_by clock.moment device.now to.now text.now)) accounts.old.homes) }
+    ensures takes { OnOk result (takes.new.items ≡ takes.old.items ++ take_line clock.version (take_by clock.moment device.now to.now text.now) ∷ []) }
     ensures refused_homes { OnErr result (accounts.new.homes ≡ accounts.old.homes) }
+    ensures keep { accounts.new.keep ≡ accounts.old.keep }
     ensures refused_takes { OnErr result (takes.new.items ≡ takes.old.items) }
 {
-    let line = take_line(alloc, device, accounts.name(place))?;
-    let entry = sent_entry(alloc, device, accounts.name(place), text)?;
+    let line = take_line(alloc, clock, device, accounts.name(place))?;
+    let entry = sent_entry(alloc, clock.moment, device, accounts.name(place), text)?;
     takes.reserve(1)?;
     accounts.deliver(alloc, device.home, place, entry)?;
     takes.push_reserved(line);
@@ -128,6 +157,7 @@ fn take_message(
 /// as they were.
 fn take_if_known(
     alloc: Global,
+    clock: Clock,
     device: &Device,
     accounts: &mut Accounts,
     takes: &mut TakeLines,
@@ -136,14 +166,15 @@ fn take_if_known(
 ) -> Result<(), NoMemory>
     requires sent { sent_of device.now < 100000 }
     requires home { device.now.home < length accounts.old.homes }
-    requires few { All (λ (home : Home). length home.entries < 4294967294) accounts.old.homes }
-    ensures homes { OnOk result (accounts.new.homes ≡ homes_after device.now to.now text.now accounts.old.homes) }
-    ensures takes { OnOk result (takes.new.items ≡ takes_after device.now to.now text.now accounts.old.homes takes.old.items) }
+    requires few { All (λ (home : Home). home.last < 4294967294) accounts.old.homes }
+    ensures homes { OnOk result (accounts.new.homes ≡ homes_after accounts.old.keep clock.moment device.now to.now text.now accounts.old.homes) }
+    ensures takes { OnOk result (takes.new.items ≡ takes_after clock.version clock.moment device.now to.now text.now accounts.old.homes takes.old.items) }
     ensures refused_homes { OnErr result (accounts.new.homes ≡ accounts.old.homes) }
+    ensures keep { accounts.new.keep ≡ accounts.old.keep }
     ensures refused_takes { OnErr result (takes.new.items ≡ takes.old.items) }
 {
     match accounts.find(to) {
-        Some(place) => take_message(alloc, device, accounts, takes, place, to, text),
+        Some(place) => take_message(alloc, clock, device, accounts, takes, place, to, text),
         None => Ok(()),
     }
 }
@@ -152,6 +183,7 @@ fn take_if_known(
 /// takes and what the device said as they were.
 pub(crate) fn say(
     alloc: Global,
+    clock: Clock,
     device: &mut Device,
     accounts: &mut Accounts,
     takes: &mut TakeLines,
@@ -160,17 +192,18 @@ pub(crate) fn say(
 ) -> Result<(), NoMemory>
     requires sent { sent_of device.old < 100000 }
     requires home { device.old.home < length accounts.old.homes }
-    requires few { All (λ (home : Home). length home.entries < 4294967294) accounts.old.homes }
-    ensures homes { OnOk result (accounts.new.homes ≡ homes_after device.old to.now text.now accounts.old.homes) }
-    ensures takes { OnOk result (takes.new.items ≡ takes_after device.old to.now text.now accounts.old.homes takes.old.items) }
+    requires few { All (λ (home : Home). home.last < 4294967294) accounts.old.homes }
+    ensures homes { OnOk result (accounts.new.homes ≡ homes_after accounts.old.keep clock.moment device.old to.now text.now accounts.old.homes) }
+    ensures takes { OnOk result (takes.new.items ≡ takes_after clock.version clock.moment device.old to.now text.now accounts.old.homes takes.old.items) }
     ensures said { OnOk result (HasSaid device.old device.new to.now text.now) }
     ensures refused_homes { OnErr result (accounts.new.homes ≡ accounts.old.homes) }
+    ensures keep { accounts.new.keep ≡ accounts.old.keep }
     ensures refused_takes { OnErr result (takes.new.items ≡ takes.old.items) }
     ensures refused_said { OnErr result (device.new.said.items ≡ device.old.said.items) }
 {
     let line = said_line(alloc, device, recipient(alloc, accounts, to)?, text)?;
     device.said.reserve(1)?;
-    take_if_known(alloc, device, accounts, takes, to, text)?;
+    take_if_known(alloc, clock, device, accounts, takes, to, text)?;
     device.said.push_reserved(line);
     Ok(())
 }

@@ -16,9 +16,11 @@ fn account_line(alloc: Global, account: Account) -> Result<AccountLine, NoMemory
 {
     let Account { name, archive } = account;
     let count = archive.len();
+    let last = archive.last();
     Ok(AccountLine {
         name: name.into_text(),
         count,
+        last,
         entries: entry_lines(alloc, archive.into_entries())?,
     })
 }
@@ -53,9 +55,9 @@ fn device_line(alloc: Global, device: Device) -> Result<DeviceLine, NoMemory>
         settled: true,
         said,
         refused: ListOf::new(alloc),
+        logged: logged_lines(alloc, &tiles, entries)?,
         pages: page_lines(alloc, tiles)?,
         underway: ListOf::new(alloc),
-        logged: logged_lines(alloc, entries)?,
         held: ListOf::new(alloc),
     })
 }

@@ -6,15 +6,15 @@ use Rattle.xmpp_replay.proofs.run.Run.follow_lines.Goals as goal
 
 pub follow-requires-clause-ready : goal.follow-requires-clause-ready
 follow-requires-clause-ready c =
-    ready_at (steps_of c.args.lines.now) c.loop-line.line-index c.line-item.result.step c.loop-line.self c.requires.right
+    ready_at c.args.self.now.clock.version (steps_of c.args.lines.now) c.loop-line.line-index c.line-item.result.step c.loop-line.self c.requires.right
     (step_there c.args.lines.now c.loop-line.line-index c.line-item.result (omega arith) c.line-item.is) c.loop-line.invariant
 
 pub follow-requires-clause-stands : goal.follow-requires-clause-stands
 follow-requires-clause-stands c =
-    may_at (steps_of c.args.lines.now) c.loop-line.line-index c.line-item.result.step c.loop-line.self c.requires.right
+    may_at c.args.self.now.clock.version (steps_of c.args.lines.now) c.loop-line.line-index c.line-item.result.step c.loop-line.self c.requires.right
     (step_there c.args.lines.now c.loop-line.line-index c.line-item.result (omega arith) c.line-item.is) c.loop-line.invariant
 
 pub loop-line-preserved : goal.loop-line-preserved
 loop-line-preserved c =
-    after_at (steps_of c.args.lines.now) c.loop-line.line-index c.line-item.result.step c.loop-line.self c.follow.new.self c.requires.right
+    after_at c.args.self.now.clock.version (steps_of c.args.lines.now) c.loop-line.line-index c.line-item.result.step c.loop-line.self c.follow.new.self c.requires.some c.requires.right
     (step_there c.args.lines.now c.loop-line.line-index c.line-item.result (omega arith) c.line-item.is) c.loop-line.invariant c.in_ok-follow.ensures

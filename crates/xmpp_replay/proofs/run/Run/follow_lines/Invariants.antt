@@ -5,4 +5,4 @@ use Rattle.xmpp_schedule.specs.Schedules.{steps_of}
 use Rattle.xmpp_replay.proofs.run.Run.follow_lines.Given as goal
 
 abbrev pub invariant-loop-line : goal.invariant-loop-line
-invariant-loop-line l = IsAfter (steps_of l.lines) (take l.line-index (steps_of l.lines)) l.self
+invariant-loop-line l = IsAfter l.fn.self.clock.version (steps_of l.lines) (take l.line-index (steps_of l.lines)) l.self

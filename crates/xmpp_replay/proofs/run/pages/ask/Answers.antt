@@ -1,17 +1,41 @@
--- The log's last entry is in the archive, so there is a page behind it.
-use Rattle.std.proofs.Common.{Err, None, Some, sym, ap, ◌∙◌, arith}
-use Rattle.xmpp_pages.specs.Kept.{Kept, kept_of}
+-- The page behind the log's last entry or, where that one was purged, the archive's first page.
+use Rattle.std.proofs.Common.{◌≡◌, Some, None, sym, ap, ◌∙◌}
+use Rattle.xmpp_direct.specs.Direct.{query_at, query_behind}
+use Rattle.xmpp_log.specs.LogPages.{last_id}
+use Rattle.xmpp_pages.specs.Kept.{kept_of}
 use Rattle.xmpp_pages.specs.PageOf.{page_of}
-use Rattle.xmpp_pages.specs.declared.query.PageQuery.{PageQuery}
 use Rattle.xmpp_pages.specs.declared.query.Place.{Place}
-use Rattle.xmpp_replay.proofs.ArchivePages.{cut_never_missing}
+use Rattle.xmpp_replay.proofs.Asking.{page_anew, page_found, place_purged}
+use Rattle.std.proofs.lemmas.Option.{same_Some}
 use Rattle.xmpp_replay.proofs.run.pages.ask.Goals as goal
 
-pub unreachable-requires : goal.unreachable-requires
-unreachable-requires c =
-    let query : Place → PageQuery = λ place. record { peer = None; start = None; end = None; place = place; max = Some c.args.most } in
-    cut_never_missing c.args.archive.now.owner c.args.most c.args.archive.now.entries c.args.log.now.entries
-    c.requires.most c.requires.whole.numbers (omega (arith, c.requires.whole.few)) c.requires.front
-    (ap (λ (place : Place). page_of (kept_of c.args.archive.now) (query place)) (sym c.in_ok-place_behind.ensures)
-    ∙ ap (λ (kept : Kept). page_of kept (query c.in_ok-place_behind.field-0)) (sym c.new.ensures.archive)
-    ∙ c.in-Err-NotFound.ensures.not_found.0 (ap Err c.in-Err-NotFound.field-0-is))
+pub returns-in-Some-clause-cut : goal.returns-in-Some-clause-cut
+returns-in-Some-clause-cut c =
+    let asked : page_of (kept_of c.args.archive.now) (query_behind (last_id c.args.log.now.entries) c.args.most) ≡ Some c.in-Some.cut =
+    ap (λ (place : Place). page_of (kept_of c.args.archive.now) (query_at place c.args.most)) (sym c.in_ok-place_behind.ensures) ∙ c.in_ok-cut.ensures ∙ c.in-Some.is in
+    (page_found c.args.archive.now.keep c.args.archive.now.last c.args.most c.args.archive.now.owner c.args.archive.now.entries c.args.log.now.entries c.in-Some.cut
+    c.requires.kept c.requires.most c.requires.in_order asked).0
+
+pub returns-in-Some-clause-anew : goal.returns-in-Some-clause-anew
+returns-in-Some-clause-anew c =
+    let asked : page_of (kept_of c.args.archive.now) (query_behind (last_id c.args.log.now.entries) c.args.most) ≡ Some c.in-Some.cut =
+    ap (λ (place : Place). page_of (kept_of c.args.archive.now) (query_at place c.args.most)) (sym c.in_ok-place_behind.ensures) ∙ c.in_ok-cut.ensures ∙ c.in-Some.is in
+    (page_found c.args.archive.now.keep c.args.archive.now.last c.args.most c.args.archive.now.owner c.args.archive.now.entries c.args.log.now.entries c.in-Some.cut
+    c.requires.kept c.requires.most c.requires.in_order asked).1
+
+pub returns-in_ok-ask_first-in-None-clause-cut : goal.returns-in_ok-ask_first-in-None-clause-cut
+returns-in_ok-ask_first-in-None-clause-cut c =
+    let asked : page_of (kept_of c.args.archive.now) (query_behind (last_id c.args.log.now.entries) c.args.most) ≡ None =
+    ap (λ (place : Place). page_of (kept_of c.args.archive.now) (query_at place c.args.most)) (sym c.in_ok-place_behind.ensures) ∙ c.in_ok-cut.ensures ∙ c.in-None.is in
+    let gone = place_purged c.args.archive.now.keep c.args.archive.now.last c.args.most c.args.archive.now.owner c.args.archive.now.entries c.args.log.now.entries
+    c.requires.kept c.requires.most c.requires.in_order asked in
+    let first = page_anew c.args.archive.now.keep c.args.archive.now.last c.args.most c.args.archive.now.owner c.args.archive.now.entries c.args.log.now.entries
+    c.requires.most gone in
+    sym (same_Some _ _ (sym first ∙ c.in_ok-ask_first-in-None.ensures))
+
+pub returns-in_ok-ask_first-in-None-clause-anew : goal.returns-in_ok-ask_first-in-None-clause-anew
+returns-in_ok-ask_first-in-None-clause-anew c =
+    let asked : page_of (kept_of c.args.archive.now) (query_behind (last_id c.args.log.now.entries) c.args.most) ≡ None =
+    ap (λ (place : Place). page_of (kept_of c.args.archive.now) (query_at place c.args.most)) (sym c.in_ok-place_behind.ensures) ∙ c.in_ok-cut.ensures ∙ c.in-None.is in
+    sym (place_purged c.args.archive.now.keep c.args.archive.now.last c.args.most c.args.archive.now.owner c.args.archive.now.entries c.args.log.now.entries
+    c.requires.kept c.requires.most c.requires.in_order asked)

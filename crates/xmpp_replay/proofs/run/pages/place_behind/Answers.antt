@@ -2,8 +2,8 @@
 use Rattle.std.proofs.Common.{sym, ap, ◌∙◌}
 use Rattle.xmpp_log.specs.LogPages.{last_id}
 use Rattle.xmpp_pages.specs.declared.query.Place.TheVariants.{After}
-use Rattle.xmpp_replay.proofs.ArchivePages.{last_read}
-use Rattle.xmpp_replay.specs.Direct.{place_behind}
+use Rattle.xmpp_replay.proofs.PageEnds.{last_read}
+use Rattle.xmpp_direct.specs.Direct.{place_behind}
 use Rattle.xmpp_replay.proofs.run.pages.place_behind.Goals as goal
 
 pub returns-in_ok-copied-in-Some : goal.returns-in_ok-copied-in-Some

@@ -1,41 +1,38 @@
 -- The page that the archive answers ends well.
-use Rattle.std.proofs.Common.{length, take, drop, sym, ap, ◌∙◌, arith}
+use Rattle.std.proofs.Common.{◌≡◌, cond, None, map, take, refl, sym, ap, ◌∙◌}
+use Rattle.xmpp_direct.specs.Direct.{as_logged}
+use Rattle.xmpp_direct.specs.NextPages.{kept_behind, last_logged}
+use Rattle.xmpp_log.specs.LogPages.{last_id}
 use Rattle.xmpp_log.specs.Views.{LogView}
-use Rattle.xmpp_pages.specs.Cuts.{CutView}
-use Rattle.xmpp_pages.specs.Spans.{numbers_of}
-use Rattle.xmpp_replay.proofs.ArchivePages.{cut_is}
-use Rattle.xmpp_replay.proofs.PageEnds.{answered_page_ends_well, answered_page_taken_over}
+use Rattle.xmpp_pages.specs.Cuts.{fin_of}
+use Rattle.xmpp_replay.proofs.Asking.{purged_named}
+use Rattle.xmpp_replay.proofs.PageEnds.{opened_begins, page_ends_well, page_taken_over}
+use Rattle.xmpp_replay.specs.Turns.{opened, with_results}
 use Rattle.xmpp_replay.proofs.run.pages.take_page.Goals as goal
+
+pub begin_page-requires-clause-behind : goal.begin_page-requires-clause-behind
+begin_page-requires-clause-behind c = λ is.
+    rw (purged_named c.args.archive.now.last c.args.archive.now.entries c.args.log.now.entries c.requires.in_order (sym c.in_ok-cut.ensures.anew ∙ is)) refl
 
 pub end_page-requires : goal.end_page-requires
 end_page-requires c =
-    answered_page_ends_well c.args.archive.now.owner c.as_str-2.result.now c.args.most c.args.archive.now.entries c.args.log.now c.begin_page.new.log c.copy_results.new.log
-    c.in_ok-cut.cut c.in_ok-fin.fin
-    c.requires.most.0 c.requires.most.1 c.requires.whole.numbers (omega (arith, c.requires.whole.few)) c.requires.front
-    c.in_ok-cut.ensures c.in_ok-fin.ensures
-    (cc (c.in_ok-queryid.ensures, c.as_str-2.ensures))
-    (cc (c.in_ok-copy_results.ensures, c.as_str.ensures, c.as_str-2.ensures))
+    let n = last_logged c.args.log.now.entries in
+    page_ends_well c.args.archive.now.keep c.args.archive.now.last c.args.most c.args.archive.now.entries c.as_str-2.result.now
+    (cond c.in_ok-cut.field-0.anew None (last_id c.args.log.now.entries)) c.args.log.now c.add_results.new.log c.in_ok-fin.fin
+    c.requires.kept c.requires.most.0 c.requires.in_order
+    (c.in_ok-fin.ensures ∙ ap fin_of c.in_ok-cut.ensures.cut)
+    (c.in_ok-add_results.ensures
+    ∙ ap (λ (l : LogView). with_results l (map as_logged (take c.args.most (kept_behind (last_logged l.entries) c.args.archive.now.last c.args.archive.now.entries)))) c.in_ok-queryid.ensures
+    ∙ ap (λ q. opened q c.args.most (cond c.in_ok-cut.field-0.anew None (last_id c.args.log.now.entries)) c.args.log.now
+    (map as_logged (take c.args.most (kept_behind (last_logged c.args.log.now.entries) c.args.archive.now.last c.args.archive.now.entries)))) (sym c.as_str-2.ensures))
 
 pub returns-clause-page : goal.returns-clause-page
 returns-clause-page c =
-    answered_page_taken_over c.args.archive.now.owner c.as_str-2.result.now c.args.most c.args.archive.now.entries c.args.log.now c.begin_page.new.log c.copy_results.new.log
-    c.end_page.new.log c.in_ok-cut.cut c.in_ok-fin.fin
-    c.requires.most.1 c.requires.whole.numbers (omega (arith, c.requires.whole.few)) c.requires.front
-    c.in_ok-cut.ensures c.in_ok-fin.ensures
-    (cc (c.in_ok-queryid.ensures, c.as_str-2.ensures))
-    (cc (c.in_ok-copy_results.ensures, c.as_str.ensures, c.as_str-2.ensures))
+    page_taken_over c.args.archive.now.keep c.args.archive.now.last c.args.most c.args.archive.now.entries c.in_ok-queryid.queryid
+    c.in_ok-cut.field-0.anew c.args.log.now c.add_results.new.log c.end_page.new.log c.in_ok-fin.fin
+    c.requires.kept c.requires.in_order
+    (c.in_ok-fin.ensures ∙ ap fin_of c.in_ok-cut.ensures.cut)
+    c.in_ok-cut.ensures.anew
+    (c.in_ok-add_results.ensures
+    ∙ ap (λ (l : LogView). with_results l (map as_logged (take c.args.most (kept_behind (last_logged l.entries) c.args.archive.now.last c.args.archive.now.entries)))) c.in_ok-queryid.ensures)
     c.in_ok-end_page.ensures
-
-pub returns-clause-complete : goal.returns-clause-complete
-returns-clause-complete c =
-    ap (λ (cut : CutView). cut.complete) (c.cut.view_is
-    ∙ cut_is c.args.archive.now.owner c.args.most c.args.archive.now.entries c.args.log.now.entries c.in_ok-cut.cut
-    c.requires.most.1 c.requires.whole.numbers (omega (arith, c.requires.whole.few)) c.requires.front c.in_ok-cut.ensures)
-
-pub copy_results-requires-clause-next : goal.copy_results-requires-clause-next
-copy_results-requires-clause-next c =
-    c.as_slice.ensures
-    ∙ ap (λ (cut : CutView). cut.numbers) (c.cut.view_is
-    ∙ cut_is c.args.archive.now.owner c.args.most c.args.archive.now.entries c.args.log.now.entries c.in_ok-cut.cut
-    c.requires.most.1 c.requires.whole.numbers (omega (arith, c.requires.whole.few)) c.requires.front c.in_ok-cut.ensures)
-    ∙ ap (λ (l : LogView). numbers_of (take c.args.most (drop (length l.entries) c.args.archive.now.entries))) (sym c.in_ok-queryid.ensures)

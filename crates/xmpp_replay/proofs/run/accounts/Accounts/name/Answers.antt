@@ -9,4 +9,4 @@ pub returns : goal.returns
 returns c =
     ap (λ (v : HomesView). slice_get (names_of v.homes) c.args.place) (sym c.self.view_is)
     ∙ name_there c.self.inside.accounts.items c.args.place c.index.result.now c.index.ensures
-    (place_in_view c.self.inside.accounts.items c.args.self.now c.args.place c.self.view_is c.requires)
+    (place_in_view c.self.inside.keep c.self.inside.accounts.items c.args.self.now c.args.place c.self.view_is c.requires)

@@ -6,4 +6,7 @@ use Rattle.xmpp_schedule.specs.Schedules.{steps_of}
 use Rattle.xmpp_replay.proofs.run.accounts.Accounts.of_lines.Given as goal
 
 abbrev pub invariant-loop-line : goal.invariant-loop-line
-invariant-loop-line l = l.accounts.homes ≡ map empty_home (accounts_of (take l.line-index (steps_of l.lines)))
+invariant-loop-line l = record {
+  homes : l.accounts.homes ≡ map empty_home (accounts_of (take l.line-index (steps_of l.lines)));
+  keep : l.accounts.keep ≡ l.keep;
+}
