@@ -1,9 +1,10 @@
 pub use Rattle.xmpp_check.specs.Checked
 pub use Rattle.xmpp_edge.specs.Counts
 pub use Rattle.xmpp_edge.specs.Prefixes
-pub use Rattle.xmpp_replay.specs.Direct
+pub use Rattle.xmpp_direct.specs.Direct
+pub use Rattle.xmpp_direct.specs.History
 pub use Rattle.xmpp_schedule.specs.Grammar
-pub use Rattle.xmpp_report.specs.Lawful
+pub use Rattle.xmpp_report.specs.LawfulRuns
 pub use Rattle.xmpp_schedule.specs.Reading
 pub use Rattle.xmpp_report.specs.ReportText
 pub use Rattle.xmpp_report.specs.Reports

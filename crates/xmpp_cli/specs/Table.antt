@@ -4,14 +4,14 @@ use Rattle.std.specs.Bool.{MatchBool}
 use Rattle.std.specs.Io.KnownBytes.{IsAtEnd}
 use Rattle.xmpp_check.specs.Checked.{told}
 use Rattle.xmpp_edge.specs.declared.whole_reads.TheConstants.{MOST_BYTES_READ}
-use Rattle.xmpp_replay.specs.Direct.{direct_report}
-use Rattle.xmpp_replay.specs.History.{direct_history}
+use Rattle.xmpp_direct.specs.Direct.{direct_report}
+use Rattle.xmpp_direct.specs.History.{direct_history}
 use Rattle.xmpp_schedule.specs.Grammar.{IsSchedule, InGrammar, schedule_text}
-use Rattle.xmpp_report.specs.Lawful.{IsLawful}
+use Rattle.xmpp_report.specs.LawfulRuns.{KeepsLaws}
 use Rattle.xmpp_schedule.specs.Reading.{reading}
 use Rattle.xmpp_report.specs.ReportText.{text_of}
 use Rattle.xmpp_report.specs.Reports.{ReportView}
-use Rattle.xmpp_schedule.specs.Schedules.{ScheduleView, steps_of}
+use Rattle.xmpp_schedule.specs.Schedules.{ScheduleView}
 use Rattle.xmpp_schedule.specs.declared.fault.LineWhy.{LineWhy}
 use Rattle.xmpp_schedule.specs.declared.fault.ScheduleFault.TheVariants.{BadLine}
 use Rattle.xmpp_cli.specs.Texts.{words_line, read_fault_line, too_long_line, bad_line}
@@ -34,10 +34,10 @@ code_of TooLong = 11
 abbrev pub is_status : ℕ → Bool
 is_status n = n == 0 || n == 2 || n == 3 || n == 4 || n == 5 || n == 6 || n == 11
 
--- the report is that of the schedule's direct run, and keeps the five laws
+-- the report is that of the schedule's direct run, and keeps the five laws of the schedule's version
 pub record IsReportOf (schedule : ScheduleView) (report : ReportView) : Type 0 where
-  pub direct : report ≡ direct_report (steps_of schedule.lines)
-  pub lawful : IsLawful (direct_history (steps_of schedule.lines)) schedule report
+  pub direct : report ≡ direct_report schedule
+  pub lawful : KeepsLaws (direct_history schedule) schedule report
 
 -- The text is the report of one schedule, and the input, where it is known, is that schedule's text.
 abbrev pub IsReplayed : Option (List ℕ) → List ℕ → Type 0

@@ -11,8 +11,9 @@ use crate::outcome::Outcome;
 use crate::texts::{HELP, READ_FAULT_LINE, TOO_LONG_LINE, VERSION, WORDS_LINE, refusal};
 use std::alloc::Global;
 use xmpp_check::check;
+use xmpp_direct::direct_is_lawful;
 use xmpp_edge::{Bytes, NoMemory, ReadAllFault, Source, read_all};
-use xmpp_replay::{direct, direct_is_lawful};
+use xmpp_replay::direct;
 use xmpp_report::report_text;
 use xmpp_schedule::{ScheduleFault, read_schedule};
 
@@ -34,14 +35,16 @@ fn said(alloc: Global, outcome: Outcome, text: &str) -> Result<Answer, NoMemory>
 }
 
 /// The report of the schedule whose text this is, or the refusal of the text. The law is called for its fact, that the
-/// report keeps the five laws: the answer's clause says so.
-fn replayed(alloc: Global, input: &[u8]) -> Result<Answer, NoMemory>
-    ensures { IfOk result (λ answer. IsAnswer Command.Replay (Some input.now) answer.outcome answer.text.items) }
+/// report keeps the five laws: the answer's clause says so. The input is dropped once it is read.
+fn replayed(alloc: Global, input: Bytes) -> Result<Answer, NoMemory>
+    ensures { IfOk result (λ answer. IsAnswer Command.Replay (Some input.items) answer.outcome answer.text.items) }
 {
-    match read_schedule(alloc, input) {
+    let read = read_schedule(alloc, input.as_slice());
+    drop(input);
+    match read {
         Ok(schedule) => {
             direct_is_lawful();
-            let report = direct(alloc, &schedule)?;
+            let report = direct(alloc, schedule)?;
             Ok(Answer {
                 outcome: Outcome::Done,
                 text: report_text(alloc, &report)?,
@@ -72,14 +75,14 @@ fn checked(alloc: Global, input: &[u8]) -> Result<Answer, NoMemory>
 }
 
 /// The answer of a command to an input, which it looks at only if it is one that reads.
-fn answer_to(alloc: Global, command: Command, input: &[u8]) -> Result<Answer, NoMemory>
-    ensures { IfOk result (λ answer. IsAnswer command (Some input.now) answer.outcome answer.text.items) }
+fn answer_to(alloc: Global, command: Command, input: Bytes) -> Result<Answer, NoMemory>
+    ensures { IfOk result (λ answer. IsAnswer command (Some input.items) answer.outcome answer.text.items) }
 {
     match command {
         Command::Help => said(alloc, Outcome::Done, HELP),
         Command::Version => said(alloc, Outcome::Done, VERSION),
         Command::Replay => replayed(alloc, input),
-        Command::Check => checked(alloc, input),
+        Command::Check => checked(alloc, input.as_slice()),
     }
 }
 
@@ -96,7 +99,7 @@ fn answer_read<S: Source>(
     ensures later { S.faults source.old ≤ S.faults source.new }
 {
     match read_all(alloc, source) {
-        Ok(input) => answer_to(alloc, command, input.as_slice()),
+        Ok(input) => answer_to(alloc, command, input),
         Err(ReadAllFault::ReadFault) => said(alloc, Outcome::ReadFault, READ_FAULT_LINE),
         Err(ReadAllFault::TooLong) => said(alloc, Outcome::TooLong, TOO_LONG_LINE),
         Err(ReadAllFault::NoMemory) => Err(NoMemory),
@@ -114,6 +117,6 @@ pub fn due<S: Source>(alloc: Global, words: &[String], source: &mut S) -> Result
     match Command::of_words(words) {
         None => said(alloc, Outcome::WrongWords, WORDS_LINE),
         Some(command) if command.reads() => answer_read(alloc, command, source),
-        Some(command) => answer_to(alloc, command, &[]),
+        Some(command) => answer_to(alloc, command, Bytes::new(alloc)),
     }
 }

@@ -1,11 +1,11 @@
 -- A catch-up goes on from the log's end, and each of its turns takes the next entries of the archive.
-use Rattle.std.proofs.Common.{◌≡◌, ℕ, zero, suc, add-one, ◌+◌, ◌-◌, ◌<◌, ◌≤◌, Bool, true, false, cond, not, leb, List, [], ◌∷◌, ◌++◌, Some, length, take, drop, map, refl, sym, ap, ◌∙◌, subst, arith}
+use Rattle.std.proofs.Common.{◌≡◌, ℕ, zero, suc, add-one, ◌+◌, ◌-◌, ◌<◌, ◌≤◌, Bool, true, false, cond, not, leb, List, [], ◌∷◌, ◌++◌, Some, length, refl, sym, ap, ◌∙◌, arith}
 use Rattle.std.proofs.lemmas.Bool.{cond_both, leb-false}
 use Rattle.std.proofs.lemmas.List.{append-nil, length-drop, map_push}
 use Rattle.std.proofs.lemmas.List.Concat.{flat_map-append}
 use Rattle.xmpp_archive.specs.Entries.{AreKept, EntryView}
 use Rattle.xmpp_direct.proofs.NextPages.{next_page_is}
-use Rattle.xmpp_direct.specs.Direct.{as_logged, catch_up, next_page}
+use Rattle.xmpp_direct.specs.Direct.{catch_up, next_page}
 use Rattle.xmpp_direct.specs.NextPages.{kept_behind, last_logged, purged}
 use Rattle.xmpp_log.specs.LogPages.{LogPage, last_id, log_of, tile_of}
 use Rattle.xmpp_log.specs.Views.{LogView}

@@ -1,7 +1,7 @@
 -- What a run is after one step more.
 use Rattle.std.proofs.Common.{◌≡◌, ◌≢◌, ℕ, ◌+◌, ◌<◌, ◌≤◌, Bool, true, false, cond, not, ◌&&◌, List, [], ◌∷◌, ◌++◌, Option, Some, None, IsTrue, nat_lt, nat_le, length, get_or, set, map, refl, sym, ap, ◌∙◌, subst, arith, inl, inr}
-use Rattle.std.proofs.lemmas.Bool.{and_parts, cases_eq, cond_both, false≢true, leb-true, not-true, or_parts}
-use Rattle.std.proofs.lemmas.List.{append-nil, append_assoc, get_or-map, get_or-set_other, get_or-set_same, length-append, length-map, length-set, map_push, take-append-le}
+use Rattle.std.proofs.lemmas.Bool.{and_parts, cases_eq, false≢true, leb-true, not-true, or_parts}
+use Rattle.std.proofs.lemmas.List.{append-nil, get_or-map, get_or-set_other, get_or-set_same, length-append, length-map, length-set, map_push}
 use Rattle.std.proofs.lemmas.List.Sums.{sum_by-cons}
 use Rattle.std.proofs.lemmas.List.Elements.{All-push, All-weaker, filter-append}
 use Rattle.std.specs.List.{filter}
@@ -39,7 +39,7 @@ use Rattle.xmpp_report.specs.declared.report.SaidLine.{SaidLine}
 use Rattle.xmpp_report.specs.declared.report.SaidMark.TheVariants.{Acknowledged}
 use Rattle.xmpp_report.specs.declared.report.TakeLine.{TakeLine}
 use Rattle.xmpp_replay.specs.declared.run.Run.{Run}
-use Rattle.xmpp_replay.specs.Devices.{DeviceState, empty_log}
+use Rattle.xmpp_replay.specs.Devices.{DeviceState}
 use Rattle.xmpp_schedule.specs.declared.schedule.Step.{Step}
 use Rattle.xmpp_schedule.specs.declared.schedule.Step.TheVariants.{Account, Device as DeviceStep, Say, Private, Catchup, Tick}
 use Rattle.xmpp_basis.proofs.Bytes.{bytes_eq-self, bytes_eq-from_other}

@@ -2,7 +2,7 @@
 use Rattle.std.proofs.Common.{◌≡◌, ℕ, ◌+◌, ◌-◌, ◌≤◌, List, length, drop, arith}
 use Rattle.std.proofs.lemmas.List.{length-drop}
 use Rattle.xmpp_archive.proofs.NumberedEntries.{FollowFrom, follow_all, follow_drop, numbered_following}
-use Rattle.xmpp_archive.specs.Entries.{AreKept, EntryView, newest}
+use Rattle.xmpp_archive.specs.Entries.{AreKept, newest}
 use Rattle.xmpp_report.proofs.TakenArchives.{archive_numbered}
 use Rattle.xmpp_report.specs.Takes.{Take, archive_of}
 

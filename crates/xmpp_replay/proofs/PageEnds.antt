@@ -1,7 +1,7 @@
 -- The page that the archive answered to a log ends well: its ids are new, and it has an entry where entries remain.
-use Rattle.std.proofs.Common.{◌≡◌, ℕ, zero, suc, ◌+◌, ◌-◌, ◌<◌, ◌≤◌, min, Bool, true, false, cond, ◌&&◌, leb, ltb, List, [], ◌∷◌, ◌++◌, Option, Some, None, Ok, length, take, drop, get_or, map, refl, sym, ap, ◌∙◌, arith}
+use Rattle.std.proofs.Common.{◌≡◌, ℕ, zero, suc, ◌+◌, ◌-◌, ◌<◌, ◌≤◌, min, Bool, true, false, cond, ◌&&◌, leb, ltb, List, [], ◌∷◌, ◌++◌, Option, Some, None, Ok, length, take, get_or, map, refl, sym, ap, ◌∙◌, arith}
 use Rattle.std.proofs.lemmas.Bool.{le-leb, le-ltb, leb-false}
-use Rattle.std.proofs.lemmas.List.{append-nil, append_assoc, get_or-drop, get_or-map, get_or-take, length-drop, length-map, length-take, map_push, take_all, take_more}
+use Rattle.std.proofs.lemmas.List.{append-nil, append_assoc, get_or-drop, get_or-map, get_or-take, length-drop, length-map, length-take, map_push, take_more}
 use Rattle.std.proofs.lemmas.Option.{get_or_from_slice_get, none-some, same_Some}
 use Rattle.std.specs.List.{slice_get}
 use Rattle.std.specs.Option.{IsSomeAnd, option_map}
@@ -12,14 +12,14 @@ use Rattle.xmpp_archive.specs.Ids.{id_of}
 use Rattle.xmpp_basis.proofs.Bytes.{bytes_eq-self}
 use Rattle.xmpp_direct.proofs.NextPages.{id_behind}
 use Rattle.xmpp_direct.specs.Direct.{as_logged}
-use Rattle.xmpp_direct.specs.NextPages.{cut_at, is_purged, kept_behind, last_logged, page_at, purged}
-use Rattle.xmpp_log.specs.LogPages.{ids_of, last_id}
-use Rattle.xmpp_log.specs.Views.{LogView, OpenPage, advance_of, after_fin, fin_answer, first_repeat, outcome_of, page_for, same_id, with_result}
+use Rattle.xmpp_direct.specs.NextPages.{cut_at, is_purged, kept_behind, last_logged, purged}
+use Rattle.xmpp_log.specs.LogPages.{last_id}
+use Rattle.xmpp_log.specs.Views.{LogView, OpenPage, advance_of, after_fin, fin_answer, outcome_of, page_for, same_id, with_result}
 use Rattle.xmpp_log.specs.declared.log_entry.LogEntry.{LogEntry}
-use Rattle.xmpp_pages.specs.Cuts.{CutView, fin_of}
+use Rattle.xmpp_pages.specs.Cuts.{fin_of}
 use Rattle.xmpp_pages.specs.Spans.{number_of_entry, numbers_of}
 use Rattle.xmpp_pages.specs.declared.fin.Fin.{Fin}
-use Rattle.xmpp_replay.proofs.InOrder.{behind_follows, last_id_is, last_within, page_is_new}
+use Rattle.xmpp_replay.proofs.InOrder.{behind_follows, last_id_is, page_is_new}
 use Rattle.xmpp_replay.specs.Turns.{IsInOrder, opened, turn_of, with_results, with_turn}
 
 same_id_itself : (id : Option (List ℕ)) → same_id id id ≡ true

@@ -1,7 +1,7 @@
 -- A run in the middle of a schedule: what its parts are after the first steps, and what one step does to them.
 use Rattle.std.specs.Prelude.{◌≡◌, ℕ, ◌+◌, ◌<◌, ◌≤◌, true, false, List, [], ◌∷◌, ◌++◌, Some, None, length, map, slice_set, slice_index_or, slice_get}
 use Rattle.std.specs.List.{All}
-use Rattle.xmpp_schedule.specs.Contents.{accounts_of, along, devices_of, home_of, moment_after, ticked}
+use Rattle.xmpp_schedule.specs.Contents.{accounts_of, along, devices_of, home_of, moment_after}
 use Rattle.xmpp_schedule.specs.Schedules.{keep_of}
 use Rattle.xmpp_schedule.specs.declared.schedule.Version.{Version}
 use Rattle.xmpp_report.specs.Takes.{archive_of}

@@ -5,7 +5,7 @@ use Rattle.std.specs.Option.{option_map}
 use Rattle.xmpp_archive.specs.Entries.{EntryView}
 use Rattle.xmpp_archive.specs.Ids.{id_of}
 use Rattle.xmpp_direct.specs.NextPages.{last_logged, page_at}
-use Rattle.xmpp_log.specs.LogPages.{LogPage, ids_of, last_id, log_of, tile_of}
+use Rattle.xmpp_log.specs.LogPages.{LogPage, ids_of, log_of, tile_of}
 use Rattle.xmpp_log.specs.Views.{LogView, OpenPage, unheld}
 use Rattle.xmpp_log.specs.declared.log_entry.LogEntry.{LogEntry}
 use Rattle.xmpp_pages.specs.Spans.{Rises}

@@ -1,12 +1,12 @@
 -- The page that the archive answers ends well.
-use Rattle.std.proofs.Common.{◌≡◌, cond, None, map, take, refl, sym, ap, ◌∙◌}
+use Rattle.std.proofs.Common.{cond, None, map, take, refl, sym, ap, ◌∙◌}
 use Rattle.xmpp_direct.specs.Direct.{as_logged}
 use Rattle.xmpp_direct.specs.NextPages.{kept_behind, last_logged}
 use Rattle.xmpp_log.specs.LogPages.{last_id}
 use Rattle.xmpp_log.specs.Views.{LogView}
 use Rattle.xmpp_pages.specs.Cuts.{fin_of}
 use Rattle.xmpp_replay.proofs.Asking.{purged_named}
-use Rattle.xmpp_replay.proofs.PageEnds.{opened_begins, page_ends_well, page_taken_over}
+use Rattle.xmpp_replay.proofs.PageEnds.{page_ends_well, page_taken_over}
 use Rattle.xmpp_replay.specs.Turns.{opened, with_results}
 use Rattle.xmpp_replay.proofs.run.pages.take_page.Goals as goal
 

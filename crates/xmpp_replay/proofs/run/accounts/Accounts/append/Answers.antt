@@ -1,5 +1,5 @@
 -- The account at the place has the entry at its archive's end.
-use Rattle.std.proofs.Common.{◌≡◌, ◌+◌, [], ◌∷◌, ◌++◌, map, set, sym, ap, ◌∙◌, arith}
+use Rattle.std.proofs.Common.{◌≡◌, [], ◌∷◌, ◌++◌, map, set, sym, ap, ◌∙◌}
 use Rattle.xmpp_archive.specs.Entries.{newest, numbered}
 use Rattle.xmpp_replay.proofs.HomeLists.{few_of_view, few_there, homes_appended, keeps_set, keeps_there, names_kept, place_in_view, rooms_elsewhere}
 use Rattle.xmpp_replay.specs.Homes.{HomesView, appended_at, home_of_account, names_of}

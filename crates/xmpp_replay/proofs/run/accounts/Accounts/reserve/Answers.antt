@@ -2,7 +2,7 @@
 use Rattle.std.proofs.Common.{sym, ap, ◌∙◌, arith}
 use Rattle.std.proofs.lemmas.Grind.{common_steps}
 use Rattle.xmpp_replay.proofs.HomeLists.{few_of_view, few_there, homes_kept, keeps_set, keeps_there, place_in_view, rooms_raised, room_there}
-use Rattle.xmpp_replay.specs.Homes.{HomesView, Keeps, names_of}
+use Rattle.xmpp_replay.specs.Homes.{HomesView, names_of}
 use Rattle.xmpp_replay.proofs.run.accounts.Accounts.reserve.Goals as goal
 use Rattle.xmpp_replay.proofs.run.accounts.Accounts.reserve.Goals.{in-Ok, in-Err-NoMemory}
 
