@@ -9,7 +9,7 @@ use Rattle.xmpp_report.specs.LawfulRuns.{IsInForm, IsTakenAndKept}
 use Rattle.xmpp_report.specs.EntryLines.{EntryLineView}
 use Rattle.xmpp_report.specs.declared.report.SaidMark.TheVariants.{Acknowledged, Waiting, Undecided}
 use Rattle.xmpp_schedule.specs.declared.schedule.Version.TheVariants.{One, Two}
-use Rattle.xmpp_replay_tests.proofs.RunReports.{a, account, b, kept_by_a, kept_by_b, p, p_right, p_with, q, q_logged, q_pages, q_right, q_with, reported, right, run_lines, run_schedule, s, said, said_by_p, scheduled, t, take, taken, w, x, z}
+use Rattle.xmpp_replay_tests.proofs.RunReports.{a, account, b, kept_by_a, kept_by_b, p, p_right, p_with, q, q_logged, q_pages, q_right, q_with, reported, right, run_lines, run_schedule, s, said, said_by_p, scheduled, t, take, taken, z}
 
 -- The form.
 

@@ -1,5 +1,5 @@
 -- Reports of version 2 that are wrong in one thing, each refused by the field that speaks of it: laws 4 and 5.
-use Rattle.std.proofs.Common.{◌≡◌, ◌≢◌, ℕ, ◌^◌, ◌≤◌, ◌<◌, ◌==◌, ◌⊎◌, Bool, true, false, cond, List, [], ◌∷◌, Some, None, length, get_or, map, refl, sym, ap, ◌∙◌, codes, arith, inl, inr}
+use Rattle.std.proofs.Common.{◌≡◌, ℕ, ◌^◌, ◌≤◌, ◌<◌, ◌==◌, ◌⊎◌, Bool, true, false, cond, List, [], ◌∷◌, Some, None, length, get_or, map, refl, sym, ap, ◌∙◌, codes, arith, inl, inr}
 use Rattle.std.proofs.lemmas.Bool.{false≢true}
 use Rattle.std.proofs.lemmas.Option.{none-some, same_Some}
 use Rattle.std.specs.Fmt.{digits}
@@ -145,17 +145,20 @@ more_counted_than_logged law = omega (arith, law.tiles.1)
 an_empty_page_that_is_not_complete : ArePagesOfRuns 2 worlds run_schedule of_b (q_paged_by (asked None 0 None ∷ []) []) → ⊥
 an_empty_page_that_is_not_complete law = omega (arith, law.tiles.2 refl)
 
+an_empty_page_without_an_id_behind_entries : ArePagesOfRuns 2 worlds run_schedule of_b (q_paged_by (asked None 1 None ∷ asked None 0 (Some 2) ∷ []) (logged false (x 1) ∷ [])) → ⊥
+an_empty_page_without_an_id_behind_entries law = omega (arith, law.tiles.5.3 refl)
+
 a_break_not_told : ArePagesOfRuns 2 worlds run_schedule of_b (q_paged_by q_pages (logged false (x 1) ∷ logged false (z 3) ∷ logged false (s 4) ∷ [])) → ⊥
-a_break_not_told law = false≢true law.tiles.4.3.0
+a_break_not_told law = false≢true law.tiles.5.4.0
 
 a_break_within_a_page : ArePagesOfRuns 2 worlds run_schedule of_b (q_paged_by (asked None 2 None ∷ []) (logged false (x 1) ∷ logged true (z 3) ∷ [])) → ⊥
-a_break_within_a_page law = false≢true (sym law.tiles.3.1.0)
+a_break_within_a_page law = false≢true (sym law.tiles.4.1.0)
 
 a_break_behind_the_last_id : ArePagesOfRuns 2 worlds run_schedule of_b (q_paged_by (asked None 1 None ∷ asked (Some (id_of 1)) 1 None ∷ []) (logged false (x 1) ∷ logged true (z 3) ∷ [])) → ⊥
-a_break_behind_the_last_id law = false≢true (sym law.tiles.4.3.0)
+a_break_behind_the_last_id law = false≢true (sym law.tiles.5.4.0)
 
 logged_and_in_no_page : ArePagesOfRuns 2 worlds run_schedule of_b (q_paged_by (asked None 1 None ∷ []) (logged false (x 1) ∷ logged false (w 2) ∷ [])) → ⊥
-logged_and_in_no_page law = omega (arith, ap length law.tiles.4)
+logged_and_in_no_page law = omega (arith, ap length law.tiles.5)
 
 logged_twice : ArePagesOfRuns 2 worlds run_schedule of_b (q_paged_by q_pages (logged false (x 1) ∷ logged true (x 1) ∷ logged false (s 4) ∷ [])) → ⊥
 logged_twice law = law.distinct.0.0 refl
@@ -223,6 +226,52 @@ a_break_and_nothing_purged : ArePagesOfRuns 2 worlds_unpurged run_schedule of_b 
 a_break_and_nothing_purged law =
     let purged = law.purged 1 1 (asked None 1 None) refl refl (omega arith) (omega arith) (omega arith, omega arith, refl) 0 _ _ refl refl (omega arith, omega arith) in
     omega (arith, purged)
+
+-- w was kept when the second page, which begins behind it, had been taken over, and was purged before the third
+abbrev worlds_skipping : List World
+worlds_skipping =
+    world [] (x 1 ∷ w 2 ∷ []) (p_page ∷ []) 1 (q_first ∷ []) 1
+    ∷ world [] (w 2 ∷ z 3 ∷ []) (p_page ∷ []) 1 (q_first ∷ []) 2
+    ∷ world [] (w 2 ∷ z 3 ∷ []) (p_page ∷ []) 1 (q_first ∷ q_second ∷ []) 2
+    ∷ world [] (z 3 ∷ s 4 ∷ []) (p_page ∷ []) 1 (q_first ∷ q_second ∷ []) 2
+    ∷ world [] (z 3 ∷ s 4 ∷ []) (p_page ∷ []) 1 (q_first ∷ q_second ∷ []) 3
+    ∷ world [] (z 3 ∷ s 4 ∷ []) (p_page ∷ []) 1 (q_first ∷ q_second ∷ q_third ∷ []) 3 ∷ []
+
+a_kept_entry_is_skipped : ArePagesOfRuns 2 worlds_skipping run_schedule of_b q_right → ⊥
+a_kept_entry_is_skipped law =
+    let oldest = law.oldest 1 3 (asked None 1 None) refl refl (omega arith, omega arith, refl) 0 1 _ _ _ _ refl refl (omega arith, omega arith) refl refl (omega arith, omega arith) in
+    omega (arith, oldest.1)
+
+-- z was purged when the second page, which begins with it, was asked for
+abbrev worlds_purged : List World
+worlds_purged =
+    world [] (s 4 ∷ t 5 ∷ []) (p_page ∷ []) 1 (q_first ∷ []) 1
+    ∷ world [] (s 4 ∷ t 5 ∷ []) (p_page ∷ []) 1 (q_first ∷ []) 2
+    ∷ world [] (s 4 ∷ t 5 ∷ []) (p_page ∷ []) 1 (q_first ∷ q_second ∷ []) 2 ∷ []
+
+a_purged_entry_is_brought : ArePagesOfRuns 2 worlds_purged run_schedule of_b (q_paged_by (asked None 1 None ∷ asked None 1 None ∷ []) (logged false (x 1) ∷ logged true (z 3) ∷ [])) → ⊥
+a_purged_entry_is_brought law =
+    let oldest = law.oldest 1 3 (asked None 1 None) refl refl (omega arith, omega arith, refl) 0 1 _ _ _ _ refl refl (omega arith, omega arith) refl refl (omega arith, omega arith) in
+    omega (arith, oldest.0)
+
+-- z was purged when the third page was asked for behind it
+asked_behind_a_purged_id : ArePagesOfRuns 2 worlds_ahead run_schedule of_b (q_paged_by (asked None 1 None ∷ asked None 1 None ∷ asked (Some (id_of 3)) 1 None ∷ []) q_logged) → ⊥
+asked_behind_a_purged_id law =
+    let behind = law.behind 2 3 (asked (Some (id_of 3)) 1 None) refl (omega arith) (omega arith, omega arith, refl) 0 _ _ refl refl (omega arith, omega arith) in
+    omega (arith, behind)
+
+-- x was taken after the first page had been taken over
+abbrev worlds_early : List World
+worlds_early =
+    world [] [] (p_page ∷ []) 1 [] 0
+    ∷ world [] [] (p_page ∷ []) 1 [] 1
+    ∷ world [] [] (p_page ∷ []) 1 (q_first ∷ []) 1
+    ∷ world [] (x 1 ∷ []) (p_page ∷ []) 1 (q_first ∷ []) 1 ∷ []
+
+brought_before_it_was_taken : ArePagesOfRuns 2 worlds_early run_schedule of_b (q_paged_by (asked None 1 None ∷ []) (logged false (x 1) ∷ [])) → ⊥
+brought_before_it_was_taken law =
+    let known = law.known 0 1 (asked None 1 None) refl (omega arith, omega arith, refl) 1 _ _ refl refl (omega arith, omega arith) in
+    omega (arith, known)
 
 fewer_pages_in_the_last_world : ArePagesOfRuns 2 worlds_unpurged run_schedule of_b q_right → ⊥
 fewer_pages_in_the_last_world law = omega (arith, law.last)

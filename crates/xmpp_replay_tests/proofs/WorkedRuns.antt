@@ -1,7 +1,7 @@
 -- The laws of version 2 hold of a right report of a wire schedule whose archives keep two entries: with two sessions of a
 -- device, a message of unknown fate, one that waits, a refused line, a page under way, held messages, and a break where
 -- entries were purged between two pages.
-use Rattle.std.proofs.Common.{◌≡◌, ◌≢◌, ℕ, zero, suc, ◌+◌, ◌^◌, ◌≤◌, ◌<◌, add-one, true, false, List, [], ◌∷◌, Some, None, length, refl, sym, codes, arith, inl, inr}
+use Rattle.std.proofs.Common.{◌≡◌, ◌≢◌, ℕ, zero, suc, ◌+◌, ◌^◌, ◌≤◌, ◌<◌, add-one, List, [], ◌∷◌, Some, None, length, refl, sym, codes, arith, inl, inr}
 use Rattle.std.proofs.lemmas.Bool.{false≢true}
 use Rattle.std.proofs.lemmas.List.Elements.{All-from_recursion}
 use Rattle.std.proofs.lemmas.Option.{none-some, same_Some}
@@ -13,7 +13,7 @@ use Rattle.xmpp_archive.specs.declared.archive.TheConstants.{GREATEST_NUMBER}
 use Rattle.xmpp_basis.specs.Hexadecimal.{hex16_of}
 use Rattle.xmpp_pages.specs.Kept.{first_number, last_number}
 use Rattle.xmpp_report.specs.Lawful.{AreOutcomes, EachPair, IsAcknowledgedRight, IsOfSchedule, IsOnceInOrder, Passes, last_logged}
-use Rattle.xmpp_report.specs.LawfulRuns.{ArePagesOfRuns, EndsWhole, IsFreshTo, IsInForm, IsLastNumber, IsLoggedInRuns, IsPagedInRuns, IsPurgedBy, IsRunsOf, IsTakenAndKept, KeepsLaws, logged_before}
+use Rattle.xmpp_report.specs.LawfulRuns.{ArePagesOfRuns, EndsWhole, IsFirstNumber, IsFreshTo, IsGivenBy, IsInForm, IsKeptWhenAsked, IsLastNumber, IsLoggedInRuns, IsOldestKept, IsPagedInRuns, IsPurgedBy, IsRunsOf, IsTakenAndKept, KeepsLaws, lines_of_page, logged_before}
 use Rattle.xmpp_report.specs.Reports.{DeviceView}
 use Rattle.xmpp_report.specs.Worlds.{World}
 use Rattle.xmpp_report.specs.declared.report.RefusedWhy.TheVariants.{NotBound}
@@ -183,6 +183,12 @@ Asks d k last before after = Passes k (before.asked d.name) (after.asked d.name)
 abbrev Takes : DeviceView → ℕ → ℕ → World → World → Type 0
 Takes d k last before after = Passes k (length (before.pages d.name)) (length (after.pages d.name)) → last ≤ last_number (after.archive d.account)
 
+abbrev AsksKept : DeviceView → ℕ → ℕ → World → World → Type 0
+AsksKept d k first before after = Passes k (before.asked d.name) (after.asked d.name) → first_number (before.archive d.account) ≤ first
+
+abbrev TakesOldest : DeviceView → ℕ → ℕ → World → World → Type 0
+TakesOldest d k first before after = Passes k (length (before.pages d.name)) (length (after.pages d.name)) → first ≤ first_number (after.archive d.account)
+
 abbrev Purges : DeviceView → ℕ → ℕ → World → World → Type 0
 Purges d k last before after = Passes k (length (before.pages d.name)) (length (after.pages d.name)) → last < first_number (after.archive d.account)
 
@@ -195,6 +201,20 @@ fresh_by_moves d k last asks takes i j asking asked taking taken at_asking at_as
 purged_by_moves : (d : DeviceView) (k last : ℕ) → EachMove (Purges d k last) worlds → IsPurgedBy worlds d k last
 purged_by_moves d k last moves j taking taken at_taking at_taken over =
     one_move (Purges d k last) worlds moves j taking taken at_taking (rw (add-one j) at at_taken) over
+
+oldest_by_moves : (d : DeviceView) (k first : ℕ) → EachMove (AsksKept d k first) worlds → EachMove (TakesOldest d k first) worlds → IsOldestKept worlds d k first
+oldest_by_moves d k first asks takes i j asking asked taking taken at_asking at_asked passes at_taking at_taken over = (
+  one_move (AsksKept d k first) worlds asks i asking asked at_asking (rw (add-one i) at at_asked) passes,
+  one_move (TakesOldest d k first) worlds takes j taking taken at_taking (rw (add-one j) at at_taken) over,
+)
+
+kept_by_moves : (d : DeviceView) (k last : ℕ) → EachMove (AsksKept d k last) worlds → IsKeptWhenAsked worlds d k last
+kept_by_moves d k last asks i asking asked at_asking at_asked passes =
+    one_move (AsksKept d k last) worlds asks i asking asked at_asking (rw (add-one i) at at_asked) passes
+
+given_by_moves : (d : DeviceView) (k last : ℕ) → EachMove (Takes d k last) worlds → IsGivenBy worlds d k last
+given_by_moves d k last takes j taking taken at_taking at_taken over =
+    one_move (Takes d k last) worlds takes j taking taken at_taking (rw (add-one j) at at_taken) over
 
 p_fresh : IsFreshTo worlds p_right 0 0
 p_fresh =
@@ -213,10 +233,42 @@ q_purged =
     purged_by_moves q_right 1 1
     (λ p. omega (arith, p.1), (λ p. omega (arith, p.1), (λ p. omega (arith, p.1), (λ p. omega (arith, p.1), (λ p. omega (arith, p.1), (λ p. omega (arith, p.1), (λ p. omega (arith, p.1), (λ p. omega arith, (λ p. omega arith, (λ p. omega arith, (λ p. omega arith, (λ p. omega arith, tt))))))))))))
 
+-- its first page begins with x, its second with z
+q_oldest_first : IsOldestKept worlds q_right 0 1
+q_oldest_first =
+    oldest_by_moves q_right 0 1
+    (λ p. omega arith, (λ p. omega arith, (λ p. omega arith, (λ p. omega arith, (λ p. omega arith, (λ p. omega (arith, p.0), (λ p. omega (arith, p.0), (λ p. omega (arith, p.0), (λ p. omega (arith, p.0), (λ p. omega (arith, p.0), (λ p. omega (arith, p.0), (λ p. omega (arith, p.0), tt))))))))))))
+    (λ p. omega arith, (λ p. omega arith, (λ p. omega arith, (λ p. omega arith, (λ p. omega arith, (λ p. omega arith, (λ p. omega arith, (λ p. omega arith, (λ p. omega arith, (λ p. omega arith, (λ p. omega arith, (λ p. omega arith, tt))))))))))))
+
+q_oldest_second : IsOldestKept worlds q_right 1 3
+q_oldest_second =
+    oldest_by_moves q_right 1 3
+    (λ p. omega arith, (λ p. omega arith, (λ p. omega arith, (λ p. omega arith, (λ p. omega arith, (λ p. omega arith, (λ p. omega arith, (λ p. omega arith, (λ p. omega arith, (λ p. omega arith, (λ p. omega arith, (λ p. omega (arith, p.0), tt))))))))))))
+    (λ p. omega (arith, p.1), (λ p. omega (arith, p.1), (λ p. omega (arith, p.1), (λ p. omega (arith, p.1), (λ p. omega (arith, p.1), (λ p. omega (arith, p.1), (λ p. omega (arith, p.1), (λ p. omega arith, (λ p. omega arith, (λ p. omega arith, (λ p. omega arith, (λ p. omega arith, tt))))))))))))
+
+-- its third was asked for behind z
+q_behind : IsKeptWhenAsked worlds q_right 2 3
+q_behind = kept_by_moves q_right 2 3 (λ p. omega arith, (λ p. omega arith, (λ p. omega arith, (λ p. omega arith, (λ p. omega arith, (λ p. omega arith, (λ p. omega arith, (λ p. omega arith, (λ p. omega arith, (λ p. omega arith, (λ p. omega arith, (λ p. omega (arith, p.0), tt))))))))))))
+
+p_given : IsGivenBy worlds p_right 0 0
+p_given = given_by_moves p_right 0 0 (λ p. omega arith, (λ p. omega arith, (λ p. omega arith, (λ p. omega arith, (λ p. omega arith, (λ p. omega arith, (λ p. omega arith, (λ p. omega arith, (λ p. omega arith, (λ p. omega arith, (λ p. omega arith, (λ p. omega arith, tt))))))))))))
+
+q_given_first : IsGivenBy worlds q_right 0 1
+q_given_first = given_by_moves q_right 0 1 (λ p. omega (arith, p.1), (λ p. omega (arith, p.1), (λ p. omega (arith, p.1), (λ p. omega (arith, p.1), (λ p. omega arith, (λ p. omega arith, (λ p. omega arith, (λ p. omega arith, (λ p. omega arith, (λ p. omega arith, (λ p. omega arith, (λ p. omega arith, tt))))))))))))
+
+q_given_second : IsGivenBy worlds q_right 1 3
+q_given_second = given_by_moves q_right 1 3 (λ p. omega (arith, p.1), (λ p. omega (arith, p.1), (λ p. omega (arith, p.1), (λ p. omega (arith, p.1), (λ p. omega (arith, p.1), (λ p. omega (arith, p.1), (λ p. omega (arith, p.1), (λ p. omega arith, (λ p. omega arith, (λ p. omega arith, (λ p. omega arith, (λ p. omega arith, tt))))))))))))
+
+q_given_third : IsGivenBy worlds q_right 2 4
+q_given_third = given_by_moves q_right 2 4 (λ p. omega (arith, p.1), (λ p. omega (arith, p.1), (λ p. omega (arith, p.1), (λ p. omega (arith, p.1), (λ p. omega (arith, p.1), (λ p. omega (arith, p.1), (λ p. omega (arith, p.1), (λ p. omega (arith, p.1), (λ p. omega (arith, p.1), (λ p. omega arith, (λ p. omega arith, (λ p. omega arith, tt))))))))))))
+
+first_of : (n first : ℕ) → n ≤ GREATEST_NUMBER → first ≤ GREATEST_NUMBER → id_of n ≡ id_of first → n ≡ first
+first_of n first low high same = id_of_same n first (omega (arith, low)) (omega (arith, high)) same
+
 p_paged : ArePagesOfRuns 2 worlds run_schedule of_a p_right
 unfolding digits hex16_of
 p_paged = record {
-  tiles = (inl refl, omega arith, λ none. absurd (none-some 0 (sym none)), tt, refl);
+  tiles = (inl refl, omega arith, λ none. absurd (none-some 0 (sym none)), λ anew. absurd (false≢true anew), tt, refl);
   distinct = tt;
   complete = λ k total page here told.
       one_at (λ k page. (total : ℕ) → page.total ≡ Some total → EndsWhole 2 of_a (logged_before (k + 1) p_right) total) 0 p_right.pages
@@ -230,6 +282,18 @@ p_paged = record {
       one_at (λ k page. (last : ℕ) → 0 < page.count → IsPurgedBy worlds p_right k last) 0 p_right.pages
       (λ last some. absurd (omega (arith, some)), tt)
       k k page here (omega arith) last some;
+  oldest = λ k first page here none is.
+      one_at (λ k page. (first : ℕ) → IsFirstNumber (lines_of_page k p_right) first → IsOldestKept worlds p_right k first) 0 p_right.pages
+      (λ first is. absurd is, tt)
+      k k page here (omega arith) first is;
+  behind = λ k last page here one is.
+      one_at (λ k page. (last : ℕ) → 1 ≤ last → IsLastNumber page.after last → IsKeptWhenAsked worlds p_right k last) 0 p_right.pages
+      (λ last one is. absurd (omega (arith, one, is)), tt)
+      k k page here (omega arith) last one is;
+  known = λ k last page here is.
+      one_at (λ k page. (last : ℕ) → IsLastNumber (last_logged (logged_before (k + 1) p_right)) last → IsGivenBy worlds p_right k last) 0 p_right.pages
+      (λ last is. rw (is) p_given, tt)
+      k k page here (omega arith) last is;
   last = refl;
   answered = λ direct. absurd (false≢true (sym direct));
 }
@@ -244,13 +308,15 @@ q_paged = record {
     inl refl,
     omega arith,
     λ none. omega arith,
+    λ anew. omega arith,
     (refl, tt),
     (
       inl refl,
       omega arith,
       λ none. omega arith,
+      λ anew. omega arith,
       (refl, tt),
-      (inr refl, omega arith, λ none. omega arith, (refl, tt), refl),
+      (inr refl, omega arith, λ none. omega arith, λ anew. omega arith, (refl, tt), refl),
     ),
   );
   distinct = (
@@ -284,6 +350,33 @@ q_paged = record {
         ),
       )
       k k page here (omega arith) last none one is;
+  oldest = λ k first page here none is.
+      one_at (λ k page. (first : ℕ) → page.after ≡ None → IsFirstNumber (lines_of_page k q_right) first → IsOldestKept worlds q_right k first) 0 q_right.pages (
+        λ first none is. rw (← first_of 1 first (omega arith) is.1 is.2) q_oldest_first,
+        (
+          λ first none is. rw (← first_of 3 first (omega arith) is.1 is.2) q_oldest_second,
+          (λ first none is. absurd (none-some (id_of 3) (sym none)), tt),
+        ),
+      )
+      k k page here (omega arith) first none is;
+  behind = λ k last page here one is.
+      one_at (λ k page. (last : ℕ) → 1 ≤ last → IsLastNumber page.after last → IsKeptWhenAsked worlds q_right k last) 0 q_right.pages (
+        λ last one is. absurd (omega (arith, one, is)),
+        (
+          λ last one is. absurd (omega (arith, one, is)),
+          (λ last one is. rw (← last_of 3 last (omega arith) is) q_behind, tt),
+        ),
+      )
+      k k page here (omega arith) last one is;
+  known = λ k last page here is.
+      one_at (λ k page. (last : ℕ) → IsLastNumber (last_logged (logged_before (k + 1) q_right)) last → IsGivenBy worlds q_right k last) 0 q_right.pages (
+        λ last is. rw (← last_of 1 last (omega arith) is) q_given_first,
+        (
+          λ last is. rw (← last_of 3 last (omega arith) is) q_given_second,
+          (λ last is. rw (← last_of 4 last (omega arith) is) q_given_third, tt),
+        ),
+      )
+      k k page here (omega arith) last is;
   last = refl;
   answered = λ direct. absurd (false≢true (sym direct));
 }
