@@ -1,5 +1,6 @@
 //! A session that is bound, written to, lost and resumed.
-ghost use Rattle.std.specs.Prelude.{◌≡◌};
+ghost use Rattle.std.specs.Prelude.{◌≡◌, None, OnOk, Some};
+ghost use Rattle.xmpp_live.specs.Sessions.{session_at};
 
 use std::alloc::Global;
 use std::test::Fail;
@@ -8,12 +9,15 @@ use xmpp_edge::{Bytes, Text};
 use xmpp_live::{Live, SeatFault};
 
 // Reserves a seat of account 7, for a connection that has no session.
-fn seat(live: &mut Live, conn: u64) -> Result<(), Fail> {
+fn seat(live: &mut Live, conn: u64) -> Result<(), Fail>
+    ensures seat { OnOk result (live.new.seat ≡ Some 7) }
+    ensures conn { OnOk result (session_at conn live.new.sessions ≡ None) }
+{
     live.reserve_seat(7)?;
-    match live.told_at(conn) {
-        Some(_) => Err(Fail::from("the connection has a session")),
-        None => Ok(()),
+    if live.told_at(conn).is_some() {
+        return Err(Fail::from("the connection has a session"));
     }
+    Ok(())
 }
 
 // Puts a stanza, where the session lives and fewer than the most wait.
