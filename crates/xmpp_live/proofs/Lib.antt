@@ -1,2 +1,3 @@
+pub mod Directions
 mod Seen
 mod Seats

@@ -5,3 +5,4 @@ pub use Rattle.xmpp_resume.specs.Rows
 pub mod Sessions
 pub mod Rule
 pub mod Kept
+pub mod Directions

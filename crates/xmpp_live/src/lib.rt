@@ -4,12 +4,14 @@
 
 mod binding;
 mod counts;
+mod laws;
 mod live;
 mod lookups;
 mod resuming;
 mod seat;
 mod told;
 
+pub use laws::{counts_are_moves, puts_are_moves, resumptions_are_moves};
 pub use live::Live;
 pub use seat::SeatFault;
 pub use told::Told;
