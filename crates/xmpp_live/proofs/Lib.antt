@@ -1,3 +1,4 @@
 pub mod Directions
 mod Seen
 mod Seats
+mod Worked
