@@ -1,0 +1,4 @@
+pub mod Directions
+mod Seen
+mod Seats
+mod Worked

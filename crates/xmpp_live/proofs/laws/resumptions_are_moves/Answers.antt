@@ -1,0 +1,8 @@
+use Rattle.xmpp_live.proofs.Directions.{late_resumption, resumption}
+use Rattle.xmpp_live.proofs.laws.resumptions_are_moves.Goals as goal
+
+pub returns-clause-resumes : goal.returns-clause-resumes
+returns-clause-resumes c h conn s d next few reached sends move is = resumption h conn s d next few reached sends move is
+
+pub returns-clause-late : goal.returns-clause-late
+returns-clause-late c h n conn s d next few reached sends move is = late_resumption h n conn s d next few reached sends move is
