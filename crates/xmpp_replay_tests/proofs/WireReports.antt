@@ -2,9 +2,9 @@
 use Rattle.std.specs.Prelude.{ℕ, Bool, true, false, List, [], ◌∷◌, Some, None, length, codes}
 use Rattle.xmpp_archive.specs.Ids.{id_of}
 use Rattle.xmpp_report.specs.Reports.{AccountView, DeviceView, ReportView}
-use Rattle.xmpp_report.specs.declared.report.ConnEnd.TheVariants.{Cut, Open}
+use Rattle.xmpp_report.specs.declared.report.ConnEnd.TheVariants.{Cut}
 use Rattle.xmpp_report.specs.declared.report.ConnLine.{ConnLine}
-use Rattle.xmpp_report.specs.declared.report.EntryLine.{EntryLine}
+use Rattle.xmpp_report.specs.EntryLines.{EntryLineView}
 use Rattle.xmpp_report.specs.declared.report.HeldLine.{HeldLine}
 use Rattle.xmpp_report.specs.declared.report.LoggedLine.{LoggedLine}
 use Rattle.xmpp_report.specs.declared.report.PageLine.{PageLine}
@@ -54,19 +54,19 @@ of_p =
 abbrev pub of_q : List SaidLine
 of_q = said 1 1 Acknowledged (codes "a") (codes "w") ∷ []
 
-abbrev pub x : ℕ → ℕ → EntryLine
+abbrev pub x : ℕ → ℕ → EntryLineView
 x n stamp = record { id = id_of n; stamp = stamp; from = codes "a@chat.example/p"; to = codes "b@chat.example"; origin = codes "p.1.1"; text = codes "x" }
 
-abbrev pub w : ℕ → ℕ → EntryLine
+abbrev pub w : ℕ → ℕ → EntryLineView
 w n stamp = record { id = id_of n; stamp = stamp; from = codes "b@chat.example/q"; to = codes "a@chat.example"; origin = codes "q.1.1"; text = codes "w" }
 
-abbrev pub z : ℕ → ℕ → EntryLine
+abbrev pub z : ℕ → ℕ → EntryLineView
 z n stamp = record { id = id_of n; stamp = stamp; from = codes "a@chat.example/p"; to = codes "b@chat.example"; origin = codes "p.2.1"; text = codes "z" }
 
-abbrev pub archived : List EntryLine
+abbrev pub archived : List EntryLineView
 archived = x 1 10 ∷ w 2 20 ∷ z 3 30 ∷ []
 
-abbrev pub account : List ℕ → List EntryLine → AccountView
+abbrev pub account : List ℕ → List EntryLineView → AccountView
 account name entries = record { name = name; count = length entries; last = length entries; entries = entries }
 
 -- p has no session, and refused to catch up
@@ -84,7 +84,7 @@ p_with settled saids = record {
   held = [];
 }
 
-abbrev pub logged : EntryLine → LoggedLine
+abbrev pub logged : EntryLineView → LoggedLine
 logged e = record { entry = e; broken = false }
 
 -- two pages of one entry each
@@ -115,7 +115,7 @@ q_right = q_with of_q two_pages (logged (x 1 10) ∷ logged (w 2 20) ∷ []) (ho
 abbrev pub conn : ℕ → List ℕ → ConnLine
 conn k device = record { k = k; device = device; upput = 900; uptaken = 850; downput = 2400; downtaken = 2310; end = Cut }
 
-abbrev pub reported : List TakeLine → List EntryLine → List EntryLine → DeviceView → DeviceView → ReportView
+abbrev pub reported : List TakeLine → List EntryLineView → List EntryLineView → DeviceView → DeviceView → ReportView
 reported takes of_a of_b p q = record {
   version = One;
   wire = true;

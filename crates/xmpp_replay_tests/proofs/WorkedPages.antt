@@ -2,9 +2,8 @@
 use Rattle.std.proofs.Common.{◌≡◌, ℕ, true, false, [], ◌∷◌, Some, None, refl, codes}
 use Rattle.xmpp_basis.specs.Hexadecimal.{hex16_of}
 use Rattle.xmpp_archive.specs.Entries.{EntryView}
-use Rattle.xmpp_archive.specs.Ids.{id_of}
 use Rattle.xmpp_pages.specs.Kept.{Kept, kept_by}
-use Rattle.xmpp_replay.specs.Direct.{page_answered}
+use Rattle.xmpp_direct.specs.Direct.{page_answered}
 
 abbrev entry : ℕ → EntryView
 entry n = record { number = n; stamp = 1000; from = []; to = []; normal = true; id = []; origin = []; bodies = [] }

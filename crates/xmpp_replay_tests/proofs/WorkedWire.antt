@@ -1,24 +1,22 @@
 -- Laws 1 to 4 hold of a right report of a wire schedule, with two sessions of a device, a message of unknown fate, one
 -- that waits, a refused line, a page under way and a held message. Reports that are wrong in one thing are refused by
 -- the law that speaks of it.
-use Rattle.std.proofs.Common.{◌≡◌, ◌≢◌, ℕ, zero, suc, ◌+◌, ◌≤◌, ◌<◌, true, false, List, [], ◌∷◌, Some, None, length, get_or, map, refl, sym, ap, ◌∙◌, codes, arith, inl, inr}
+use Rattle.std.proofs.Common.{◌≡◌, ◌≢◌, ℕ, zero, suc, ◌≤◌, true, false, List, [], ◌∷◌, Some, None, get_or, refl, sym, ap, ◌∙◌, codes, arith, inl, inr}
 use Rattle.std.proofs.lemmas.Bool.{false≢true}
 use Rattle.std.proofs.lemmas.List.Elements.{All-from_recursion}
-use Rattle.std.specs.Bool.{MatchBool}
 use Rattle.std.specs.Fmt.{digits}
-use Rattle.std.specs.List.{AllByRecursion, flat_map}
+use Rattle.std.specs.List.{flat_map}
 use Rattle.std.specs.List.Sorted.{IsNonDecreasing}
 use Rattle.std.specs.Prelude.{if◌then◌else◌}
 use Rattle.std.specs.Str.{bytes_eq}
 use Rattle.xmpp_report.specs.declared.report.RefusedWhy.TheVariants.{NotBound}
 use Rattle.xmpp_basis.specs.Hexadecimal.{hex16_of}
-use Rattle.xmpp_archive.specs.Ids.{id_of}
 use Rattle.xmpp_report.proofs.Pairs.{pairs_by_both}
-use Rattle.xmpp_report.specs.Lawful.{AgreeOnStamp, AreOutcomes, AreTiles, EachPair, IsAcknowledgedRight, IsLogged, IsOfSchedule, IsOnceInOrder, IsSettledRight, IsTakenRight}
-use Rattle.xmpp_report.specs.Reports.{AccountView, ReportView}
-use Rattle.xmpp_report.specs.declared.report.EntryLine.{EntryLine}
+use Rattle.xmpp_report.specs.Lawful.{AgreeOnStamp, AreOutcomes, AreTiles, EachPair, IsAcknowledgedRight, IsLogged, IsOfSchedule, IsOnceInOrder, IsTakenRight}
+use Rattle.xmpp_report.specs.Reports.{AccountView}
+use Rattle.xmpp_report.specs.EntryLines.{EntryLineView}
 use Rattle.xmpp_report.specs.declared.report.SaidMark.TheVariants.{Acknowledged, Waiting, Undecided}
-use Rattle.xmpp_replay_tests.proofs.WireReports.{wire_schedule, take, taken, said, of_p, of_q, x, w, z, archived, account, p_with, logged, two_pages, hold, q_with, q_right, reported, right}
+use Rattle.xmpp_replay_tests.proofs.WireReports.{wire_schedule, take, taken, said, of_p, of_q, x, w, z, archived, p_with, logged, two_pages, hold, q_with, q_right, reported, right}
 
 -- stamps of which none is above a later one don't fall
 not_falling : (stamps : List ℕ) → EachPair (λ a b. a ≤ b) stamps → IsNonDecreasing stamps
@@ -117,7 +115,7 @@ tiles_right : AreTiles [] q_right.pages q_right.logged
 tiles_right = (refl, omega arith, λ none. omega arith, tt, (refl, omega arith, λ none. omega arith, tt, refl))
 
 -- the first one's stamp
-abbrev first_stamp : List EntryLine → ℕ
+abbrev first_stamp : List EntryLineView → ℕ
 first_stamp [] = 0
 first_stamp (e ∷ es) = e.stamp
 

@@ -5,22 +5,28 @@ use xmpp_edge::NoMemory;
 use xmpp_schedule::{LineWhy, ScheduleFault, read_schedule};
 
 // Texts, and why line 1 is bad.
-static OF_LINE_ONE: [(&str, LineWhy); 7] = [
+static OF_LINE_ONE: [(&str, LineWhy); 13] = [
     ("", LineWhy::Header),
+    ("xmpp-schedule 3 direct\n", LineWhy::Header),
+    ("xmpp-schedule 1 direct 5\n", LineWhy::Header),
     ("xmpp-schedule 2 direct\n", LineWhy::Header),
+    ("xmpp-schedule 2 direct 0\n", LineWhy::Header),
+    ("xmpp-schedule 2 direct 05\n", LineWhy::Header),
+    ("xmpp-schedule 2 direct 4294967296\n", LineWhy::Header),
     ("xmpp-schedule 1 direct \n", LineWhy::Header),
     ("account bob", LineWhy::Header),
     ("xmpp-schedule 1 direct", LineWhy::Ending),
     ("xmpp-schedule 1 wire\n", LineWhy::NotBuilt),
     ("xmpp-schedule 1 wire", LineWhy::NotBuilt),
+    ("xmpp-schedule 2 wire 5\n", LineWhy::NotBuilt),
 ];
 
 // What stands from line 4 on, behind an account and a device, and why line 4 is bad.
-static BELOW_A_DEVICE: [(&str, LineWhy); 33] = [
+static BELOW_A_DEVICE: [(&str, LineWhy); 42] = [
     ("account carol", LineWhy::Ending),
     ("\n", LineWhy::Word),
-    ("private bob\n", LineWhy::Word),
-    ("tick\n", LineWhy::Word),
+    ("receipt bob\n", LineWhy::Word),
+    ("tick5\n", LineWhy::Word),
     ("Account carol\n", LineWhy::Word),
     ("account\n", LineWhy::Shape),
     ("account \n", LineWhy::Shape),
@@ -30,26 +36,35 @@ static BELOW_A_DEVICE: [(&str, LineWhy); 33] = [
     ("say phone bob\n", LineWhy::Shape),
     ("say phone bob \n", LineWhy::Shape),
     ("say  bob hi\n", LineWhy::Shape),
+    ("private phone bob\n", LineWhy::Shape),
     ("catchup phone 5 \n", LineWhy::Shape),
+    ("tick\n", LineWhy::Shape),
+    ("tick 5 5\n", LineWhy::Shape),
     ("account Carol\n", LineWhy::Name),
     ("account 1carol\n", LineWhy::Name),
     ("account aaaaaaaaaaaaaaaaaaaaaaaaaaaaaaaaa\n", LineWhy::Name),
     ("device Desk bob\n", LineWhy::Name),
     ("say phone Bob hi\n", LineWhy::Name),
+    ("private phone Bob hi\n", LineWhy::Name),
     ("account bob\n", LineWhy::Twice),
     ("device phone bob\n", LineWhy::Twice),
     ("device desk Carol\n", LineWhy::Unknown),
     ("say NoBody bob hi\n", LineWhy::Unknown),
+    ("private desk bob hi\n", LineWhy::Unknown),
     ("catchup desk 5\n", LineWhy::Unknown),
     ("catchup phone 0\n", LineWhy::Number),
     ("catchup phone 101\n", LineWhy::Number),
     ("catchup phone 05\n", LineWhy::Number),
     ("catchup phone +5\n", LineWhy::Number),
     ("catchup phone 18446744073709551617\n", LineWhy::Number),
+    ("tick 1000000001\n", LineWhy::Number),
+    ("tick 05\n", LineWhy::Number),
+    ("tick 18446744073709551617\n", LineWhy::Number),
     ("say phone bob a\tb\n", LineWhy::Text),
     ("say phone bob a\r\n", LineWhy::Text),
-    ("account Carol\nprivate\n", LineWhy::Name),
-    ("private\naccount Carol\n", LineWhy::Word),
+    ("private phone bob a\tb\n", LineWhy::Text),
+    ("account Carol\nreceipt\n", LineWhy::Name),
+    ("receipt\naccount Carol\n", LineWhy::Word),
 ];
 
 // Whether two texts, one behind the other, have this first bad line.
