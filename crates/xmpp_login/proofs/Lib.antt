@@ -1,0 +1,4 @@
+pub mod AccountFaults
+pub mod AccountLists
+pub mod LoginLaws
+pub mod Refusals
