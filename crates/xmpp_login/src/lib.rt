@@ -5,6 +5,7 @@
 mod account;
 mod accounts;
 mod accounts_fault;
+mod header_judgement;
 mod laws;
 mod login;
 mod negotiation;
@@ -13,6 +14,7 @@ mod sasl_condition;
 pub use account::{Account, AccountList, ITERATIONS};
 pub use accounts::{Accounts, Found};
 pub use accounts_fault::AccountsFault;
+pub use header_judgement::{HeaderAnswer, HeaderFault, judge_header};
 pub use laws::{accounts_are_right, only_the_right_proof_logs_in, the_right_password_logs_in};
 pub use login::{FinalAnswer, Login, final_answer};
 pub use negotiation::{AuthAnswer, Negotiation, auth_answer};

@@ -4,4 +4,6 @@
 #[cfg(test)]
 mod account_tests;
 #[cfg(test)]
+mod header_tests;
+#[cfg(test)]
 mod login_tests;
