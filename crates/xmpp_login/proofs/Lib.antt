@@ -1,0 +1,5 @@
+pub mod AccountFaults
+pub mod AccountLists
+pub mod LoginLaws
+pub mod MajorVersions
+pub mod Refusals

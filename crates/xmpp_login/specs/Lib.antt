@@ -1,0 +1,4 @@
+pub mod Accounts
+pub mod Headers
+pub mod Logins
+pub mod Negotiations
