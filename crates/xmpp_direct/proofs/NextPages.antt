@@ -25,7 +25,6 @@ abbrev pub id_behind : ℕ → Option (List ℕ)
 id_behind zero = None
 id_behind (suc n) = Some (id_of (suc n))
 
-
 -- the numbers of what is kept follow on one another from the first that wasn't purged
 pub kept_follow : (keep last : ℕ) (kept : List EntryView) → AreKept keep last kept → FollowFrom (purged last kept + 1) kept
 kept_follow keep last kept known =

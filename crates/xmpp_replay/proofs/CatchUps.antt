@@ -67,7 +67,7 @@ turn_leaves keep most last kept log known low more =
     let before : length (kept_behind (last_logged log.entries) last kept) ≡ length kept - (last_logged log.entries - purged last kept) =
     length-drop (last_logged log.entries - purged last kept) kept in
     let after : length (kept_behind (last_logged (with_turn log (turn_of most last kept log)).entries) last kept)
-        ≡ length kept - (last_logged (with_turn log (turn_of most last kept log)).entries - purged last kept) =
+    ≡ length kept - (last_logged (with_turn log (turn_of most last kept log)).entries - purged last kept) =
     length-drop (last_logged (with_turn log (turn_of most last kept log)).entries - purged last kept) kept in
     omega (arith, after, before, ends, many)
 

@@ -184,7 +184,7 @@ last_after keep last most kept logged known low some =
     let size : length (take most (kept_behind (last_logged logged) last kept)) ≡ min most (length (kept_behind (last_logged logged) last kept)) = length-take most (kept_behind (last_logged logged) last kept) in
     let follow = follow_take (purged last kept + 1 + (last_logged logged - purged last kept)) most (kept_behind (last_logged logged) last kept) (behind_follows keep (last_logged logged) last kept known) in
     let ends : last_number_or (last_logged logged) (take most (kept_behind (last_logged logged) last kept)) + 1
-        ≡ purged last kept + 1 + (last_logged logged - purged last kept) + length (take most (kept_behind (last_logged logged) last kept)) =
+    ≡ purged last kept + 1 + (last_logged logged - purged last kept) + length (take most (kept_behind (last_logged logged) last kept)) =
     last_follows (last_logged logged) (purged last kept + 1 + (last_logged logged - purged last kept)) (take most (kept_behind (last_logged logged) last kept)) (omega arith) follow in
     ap (λ es. last_number_or 0 es) (map-append logged_entry logged (map as_logged (take most (kept_behind (last_logged logged) last kept))))
     ∙ joined 0 (map logged_entry logged) (map logged_entry (map as_logged (take most (kept_behind (last_logged logged) last kept))))

@@ -12,6 +12,6 @@ declare-requires c =
 pub loop-line-preserved : goal.loop-line-preserved
 loop-line-preserved c = record {
   homes = homes_more (steps_of c.args.lines.now) c.loop-line.line-index c.line-item.result.step c.loop-line.accounts.homes c.declare.new.self.homes
-    (step_there c.args.lines.now c.loop-line.line-index c.line-item.result (omega arith) c.line-item.is) c.loop-line.invariant.homes c.in_ok-declare.ensures.homes;
+      (step_there c.args.lines.now c.loop-line.line-index c.line-item.result (omega arith) c.line-item.is) c.loop-line.invariant.homes c.in_ok-declare.ensures.homes;
   keep = c.in_ok-declare.ensures.keep ∙ c.loop-line.invariant.keep;
 }
