@@ -63,23 +63,30 @@ fn text(alloc: Global, characters: &str) -> Result<Text, NoMemory> {
     Text::from_str(alloc, characters)
 }
 
-// An archive's entry.
-fn entry(alloc: Global) -> Result<Entry, NoMemory> {
+fn bodies(alloc: Global) -> Result<Bodies, NoMemory> {
     let mut bodies = Bodies::new(alloc);
     bodies.push(Body {
-        lang: Text::new(alloc),
         text: text(alloc, "hi bob")?,
+        lang: Text::new(alloc),
     })?;
-    let message = ArchivedMessage {
+    Ok(bodies)
+}
+
+fn message(alloc: Global) -> Result<ArchivedMessage, NoMemory> {
+    Ok(ArchivedMessage {
         stamp: 1500,
         from: full_address(alloc, "alice", "phone")?,
         to: bare_address(alloc, "bob")?,
+        origin: origin_of(alloc, "phone", 2, 1)?,
+        bodies: bodies(alloc)?,
         normal: false,
         id: Text::new(alloc),
-        origin: origin_of(alloc, "phone", 2, 1)?,
-        bodies,
-    };
-    Entry::new(alloc, 1, message)
+    })
+}
+
+// An archive's entry.
+fn entry(alloc: Global) -> Result<Entry, NoMemory> {
+    Entry::new(alloc, 1, message(alloc)?)
 }
 
 fn greeting(alloc: Global) -> Result<EntryLine, NoMemory> {
@@ -93,10 +100,9 @@ fn known(alloc: Global) -> Result<LogEntry, NoMemory> {
     })
 }
 
-// Of two pages, the second behind a break.
-fn logged_behind_break(alloc: Global) -> Result<LoggedLines, NoMemory> {
+// Two pages of one entry each, both asked for from the start.
+fn tiles(alloc: Global) -> Result<Tiles, NoMemory> {
     let mut tiles = Tiles::new(alloc);
-    let mut entries = LogEntries::new(alloc);
     for _ in 0..2 {
         tiles.push(Tile {
             after: None,
@@ -104,18 +110,36 @@ fn logged_behind_break(alloc: Global) -> Result<LoggedLines, NoMemory> {
             complete: false,
             total: 1,
         })?;
+    }
+    Ok(tiles)
+}
+
+fn known_twice(alloc: Global) -> Result<LogEntries, NoMemory> {
+    let mut entries = LogEntries::new(alloc);
+    for _ in 0..2 {
         entries.push(known(alloc)?)?;
     }
-    logged_lines(alloc, &tiles, entries)
+    Ok(entries)
+}
+
+// Of two pages, the second behind a break.
+fn logged_behind_break(alloc: Global) -> Result<LoggedLines, NoMemory> {
+    logged_lines(alloc, &tiles(alloc)?, known_twice(alloc)?)
+}
+
+fn logged_line(alloc: Global) -> Result<LoggedLine, NoMemory> {
+    copied_logged_line(alloc, &known(alloc)?, false)
+}
+
+fn logged_once(alloc: Global) -> Result<LoggedLines, NoMemory> {
+    let mut lines = LoggedLines::new(alloc);
+    lines.push(logged_line(alloc)?)?;
+    Ok(lines)
 }
 
 fn logged(alloc: Global, version: Version) -> Result<LoggedLines, NoMemory> {
     match version {
-        Version::One => {
-            let mut lines = LoggedLines::new(alloc);
-            lines.push(copied_logged_line(alloc, &known(alloc)?, false)?)?;
-            Ok(lines)
-        }
+        Version::One => logged_once(alloc),
         Version::Two { .. } => logged_behind_break(alloc),
     }
 }
@@ -245,17 +269,26 @@ fn devices(alloc: Global, version: Version) -> Result<DeviceLines, NoMemory> {
     Ok(lines)
 }
 
-// Whether a report with a line of each kind has this text.
-fn is_printed(alloc: Global, version: Version, wanted: &str) -> Result<bool, NoMemory> {
-    let report = Report {
+// A report with a line of each kind.
+fn report(alloc: Global, version: Version) -> Result<Report, NoMemory> {
+    Ok(Report {
         version,
         wire: true,
         takes: takes(alloc, version)?,
         accounts: accounts(alloc)?,
         conns: conns(alloc)?,
         devices: devices(alloc, version)?,
-    };
-    Ok(report_text(alloc, &report)?.as_slice() == wanted.as_bytes())
+    })
+}
+
+// Whether a report has this text.
+pub(crate) fn has_text(alloc: Global, report: &Report, wanted: &str) -> Result<bool, NoMemory> {
+    Ok(report_text(alloc, report)?.as_slice() == wanted.as_bytes())
+}
+
+// Whether the report with a line of each kind has this text.
+fn is_printed(alloc: Global, version: Version, wanted: &str) -> Result<bool, NoMemory> {
+    has_text(alloc, &report(alloc, version)?, wanted)
 }
 
 #[test]

@@ -1,9 +1,9 @@
 //! Schedules of both versions are read, run and reported.
+use crate::report_tests::has_text;
 use std::alloc::Global;
 use std::test::Fail;
 use xmpp_edge::NoMemory;
 use xmpp_replay::direct;
-use xmpp_report::report_text;
 use xmpp_schedule::read_schedule;
 
 static FIRST: &str = "xmpp-schedule 1 direct
@@ -107,8 +107,7 @@ fn is_replayed(alloc: Global, text: &str, wanted: &str) -> Result<bool, NoMemory
     let Ok(schedule) = read_schedule(alloc, text.as_bytes()) else {
         return Ok(false);
     };
-    let report = direct(alloc, schedule)?;
-    Ok(report_text(alloc, &report)?.as_slice() == wanted.as_bytes())
+    has_text(alloc, &direct(alloc, schedule)?, wanted)
 }
 
 #[test]
