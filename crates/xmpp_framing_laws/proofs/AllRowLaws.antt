@@ -1,5 +1,5 @@
 -- The rows on bytes are all.
-use Rattle.std.proofs.Common.{◌≡◌, ℕ, ◌↔◌, ◌<◌, ◌^◌, ◌⊎◌, inl, inr, ⊎_elim, true, false, List, [], ◌∷◌, ◌++◌, Some, None, sym, ap, subst, ◌∙◌}
+use Rattle.std.proofs.Common.{◌≡◌, ℕ, ◌↔◌, ◌<◌, ◌^◌, ◌⊎◌, inl, inr, ⊎_elim, true, false, List, [], ◌∷◌, ◌++◌, Option, Some, None, sym, ap, subst, ◌∙◌}
 use Rattle.std.proofs.lemmas.Bool.{cases_Bool, false≢true}
 use Rattle.xmpp_framing.proofs.Pieces.{run_append}
 use Rattle.xmpp_framing.specs.Machine.{is_too_long, run}
@@ -14,6 +14,7 @@ use Rattle.xmpp_framing_laws.proofs.LongRowLaws.{long_decides, long_far, long_is
 use Rattle.xmpp_framing_laws.proofs.OpenRowLaws.{open_decides}
 use Rattle.xmpp_framing_laws.proofs.OpenRowsTold.{row_told}
 use Rattle.xmpp_framing_laws.proofs.PrefixRuns.{long_told}
+use Rattle.xmpp_framing_laws.proofs.RowsTold.{one_some}
 use Rattle.xmpp_framing_laws.specs.AllRows.{FaultRow, IsShortEnough, of_context, of_token, too_many}
 use Rattle.xmpp_framing_laws.specs.ByteRows.{ByteRow}
 use Rattle.xmpp_framing_laws.specs.FaultRows.{Decides}
@@ -34,8 +35,8 @@ module _ (limits : Limits) (few_bytes : limits.bytes < 2 ^ 64) (few : limits.att
       later : (n : ℕ) → Decides (run (turn (from_start limits) []) bytes) b n why.TooLong → fault_of limits (bytes ++ b ∷ []) ≡ Some (record { at = n; why = why.TooLong })
       later n d = ap (λ (u : Turn). u.state.fault) (run_append (turn (from_start limits) []) bytes (b ∷ [])) ∙ d
 
-      same : (n : ℕ) → Some (record { at = offset; why = w }) ≡ Some (record { at = n; why = why.TooLong }) → w ≡ why.TooLong
-      same n e = cc
+      same : (n : ℕ) → ◌≡◌ {A = Option Fault} (Some (record { at = offset; why = w })) (Some (record { at = n; why = why.TooLong })) → w ≡ why.TooLong
+      same n e = ap (λ (f : Fault). f.why) (one_some _ _ e)
 
   near_enough : is_too_long s b ≡ false → IsShortEnough limits bytes b
   near_enough near n l = false≢true (sym near ∙ long_far limits few_bytes few short bytes none b n l)

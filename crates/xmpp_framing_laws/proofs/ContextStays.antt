@@ -1,13 +1,12 @@
 -- The context stays what it was before the token in hand.
-use Rattle.std.proofs.Common.{◌≡◌, ℕ, ◌⊎◌, inl, inr, ⊎_elim, Bool, true, false, ◌&&◌, ◌||◌, List, [], ◌∷◌, ◌++◌, Option, None, codes, refl, sym, ap, subst, ◌∙◌, append_assoc, append-nil}
+use Rattle.std.proofs.Common.{◌≡◌, ℕ, ◌⊎◌, inl, inr, ⊎_elim, true, false, List, [], ◌∷◌, ◌++◌, Option, None, codes, refl, sym, ap, subst, ◌∙◌, append_assoc, append-nil}
 use Rattle.std.proofs.lemmas.Bool.{and_from, and_parts, or_from, or_parts}
 use Rattle.std.proofs.lemmas.List.Folds.{list_all-append}
-use Rattle.std.specs.List.{list_all}
 use Rattle.xmpp_tokens.specs.Tags.{quote_behind}
 use Rattle.xmpp_framing.proofs.Pieces.{run_append}
 use Rattle.xmpp_framing.specs.Machine.{run, step}
-use Rattle.xmpp_framing.specs.Readings.{fault_of, framed}
-use Rattle.xmpp_framing.specs.States.{State, Turn, from_start, is_text, turn}
+use Rattle.xmpp_framing.specs.Readings.{framed}
+use Rattle.xmpp_framing.specs.States.{Turn, from_start, is_text, turn}
 use Rattle.xmpp_framing.specs.declared.limits.Limits.{Limits}
 use Rattle.xmpp_framing_laws.proofs.ContextsTold.{context_of}
 use Rattle.xmpp_framing_laws.proofs.OneHand.{markup_held, text_read}

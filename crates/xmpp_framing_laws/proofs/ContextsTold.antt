@@ -1,20 +1,18 @@
 -- After bytes between tokens a state has the context that the bytes say.
-use Rattle.std.proofs.Common.{◌≡◌, ◌≢◌, ℕ, ◌+◌, ◌<◌, ◌≤◌, ◌^◌, inl, inr, List, [], ◌∷◌, ◌++◌, map, length, length-append, Option, Some, None, refl, sym, ap, subst, ◌∙◌, arith, append-nil}
+use Rattle.std.proofs.Common.{◌≡◌, ℕ, ◌+◌, ◌<◌, ◌≤◌, ◌^◌, inl, inr, Bool, List, [], ◌∷◌, ◌++◌, map, length, Option, Some, None, refl, sym, ap, subst, ◌∙◌, arith, append-nil}
 use Rattle.xmpp_names.specs.Scopes.{Scope}
 use Rattle.xmpp_trees.specs.Tidied.{text_node}
 use Rattle.xmpp_trees.specs.Trees.{depth, depth_below, name_of, namespace_of}
-use Rattle.xmpp_framing.specs.States.{OpenElement, State, Turn, with_text}
+use Rattle.xmpp_framing.specs.States.{OpenElement, State, with_text}
 use Rattle.xmpp_framing.specs.TagSteps.{scope_in}
 use Rattle.xmpp_framing.specs.declared.items.Item.{Item}
 use Rattle.xmpp_framing.specs.declared.limits.Limits.{Limits}
-use Rattle.xmpp_framing.specs.declared.states.Mode.{Mode}
 use Rattle.xmpp_framing.specs.declared.states.Mode.TheVariants as mode
-use Rattle.xmpp_framing.specs.declared.states.Phase.{Phase}
 use Rattle.xmpp_framing.specs.declared.states.Phase.TheVariants as phase
 use Rattle.xmpp_framing_laws.proofs.OpenLevels.{AreCovered, CoveredLevel, level_covered}
 use Rattle.xmpp_framing_laws.proofs.ReadCharacters.{Judged, judged_characters}
 use Rattle.xmpp_framing_laws.proofs.ReadInside.{top_more}
-use Rattle.xmpp_framing_laws.proofs.ReadSoFar.{Around, Hand, Read, TextIn, TopIsNoHeader, in_force}
+use Rattle.xmpp_framing_laws.proofs.ReadSoFar.{Hand, TextIn, TopIsNoHeader, in_force}
 use Rattle.xmpp_framing_laws.proofs.TextFronts.{seen_text}
 use Rattle.xmpp_framing_laws.proofs.WithinParts.{AreShallow, counted_length, depth_text, shallow_own, shallow_with}
 use Rattle.xmpp_framing_laws.specs.Contexts.{AreOpen, Context, HasContext, OpensElement}

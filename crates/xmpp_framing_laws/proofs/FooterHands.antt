@@ -9,8 +9,7 @@ use Rattle.xmpp_tokens.specs.Tags.{are_white, is_quote}
 use Rattle.xmpp_framing.specs.Machine.{step}
 use Rattle.xmpp_framing.specs.States.{State, Turn, counted, gathered, is_text, moved}
 use Rattle.xmpp_framing.specs.TagSteps.{footer_closes, footer_gathered, in_footer, in_opening, in_tag, unlimited}
-use Rattle.xmpp_framing.specs.States.{gathered_in, may_declare, token_fails}
-use Rattle.xmpp_framing.specs.declared.fault.Why.TheVariants as why
+use Rattle.xmpp_framing.specs.States.{gathered_in}
 use Rattle.xmpp_framing.specs.declared.states.Mode.TheVariants as mode
 use Rattle.xmpp_framing_laws.proofs.CountLaws.{takes}
 use Rattle.xmpp_framing_laws.proofs.FaultLaws.{goes}

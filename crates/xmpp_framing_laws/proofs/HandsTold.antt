@@ -1,5 +1,5 @@
 -- What a state has of the token in hand, from what is known behind bytes.
-use Rattle.std.proofs.Common.{◌≡◌, ℕ, Bool, true, false, if◌then◌else◌, List, [], ◌∷◌, None, codes, drop, length, refl, sym, ap, ◌∙◌, arith, ◌<◌}
+use Rattle.std.proofs.Common.{◌≡◌, ℕ, Bool, true, false, if◌then◌else◌, List, [], ◌∷◌, None, codes, drop, length, refl, sym, ap, ◌∙◌, arith}
 use Rattle.std.proofs.lemmas.Bool.{false≢true}
 use Rattle.xmpp_framing_laws.proofs.OffsetMarks.{Mark, fronts}
 use Rattle.xmpp_framing_laws.proofs.OffsetRuns.{Known, known_of}

@@ -1,5 +1,5 @@
 -- What is too long on bytes is what the state tells as too long.
-use Rattle.std.proofs.Common.{◌≡◌, ◌≢◌, ℕ, suc, ◌+◌, ◌<◌, ◌≤◌, ◌^◌, ◌⊎◌, inl, inr, ⊎_elim, Bool, true, false, not, ◌&&◌, ◌||◌, ◌==◌, if◌then◌else◌, List, [], ◌∷◌, ◌++◌, Option, Some, None, codes, length, length-append, refl, sym, ap, subst, ◌∙◌, arith, append_assoc, append-nil}
+use Rattle.std.proofs.Common.{◌≡◌, ◌≢◌, ℕ, ◌<◌, ◌≤◌, ◌^◌, ◌⊎◌, inl, inr, ⊎_elim, Bool, true, false, not, ◌&&◌, ◌||◌, ◌==◌, if◌then◌else◌, List, [], ◌∷◌, ◌++◌, Option, Some, None, codes, length, length-append, refl, sym, ap, subst, ◌∙◌, arith, append_assoc, append-nil}
 use Rattle.std.proofs.lemmas.Bool.{and_from, and_parts, cases_Bool, eqb-true, false≢true, ltb-true, not-true, or_from, or_parts, true≢false}
 use Rattle.std.proofs.lemmas.Bool.Decides.{nat_tests}
 use Rattle.std.proofs.lemmas.List.Folds.{list_all-append}
@@ -11,7 +11,7 @@ use Rattle.xmpp_tokens.specs.Characters.{is_name_start}
 use Rattle.xmpp_tokens.specs.Tags.{is_empty, is_end}
 use Rattle.xmpp_framing.proofs.Pieces.{run_append}
 use Rattle.xmpp_trees.specs.Trees.{Nodes}
-use Rattle.xmpp_framing.specs.Machine.{is_too_long, part_of, run, shows_unlimited, step}
+use Rattle.xmpp_framing.specs.Machine.{is_too_long, part_of, run, shows_unlimited}
 use Rattle.xmpp_framing.specs.Readings.{fault_of, framed}
 use Rattle.xmpp_framing.specs.States.{OpenElement, State, Turn, admits_declaration, from_start, is_opening, is_text, may_declare, turn}
 use Rattle.xmpp_framing.specs.TagSteps.{scope_in}
@@ -30,6 +30,7 @@ use Rattle.xmpp_framing_laws.proofs.OpenLevels.{AreCovered, IsContent, IsContent
 use Rattle.xmpp_framing_laws.proofs.OpenRowLaws.{markup_context, read_at, text_context}
 use Rattle.xmpp_framing_laws.proofs.PrefixRuns.{long_told, prefix_known}
 use Rattle.xmpp_framing_laws.proofs.ReadSoFar.{Around, Hand, TokenIn, in_force}
+use Rattle.xmpp_framing_laws.proofs.RowsTold.{one_some}
 use Rattle.xmpp_framing_laws.proofs.StreamRuns.{stream_read}
 use Rattle.xmpp_framing_laws.proofs.TagByteRows.{from_outside}
 use Rattle.xmpp_framing_laws.proofs.TagEnds.{BeginsStart, start_begins, start_no_exclamation, start_no_slash}
@@ -38,7 +39,7 @@ use Rattle.xmpp_framing_laws.specs.ByteRows.{EndInMarkup}
 use Rattle.xmpp_framing_laws.specs.Contexts.{AreOpen, HasContext}
 use Rattle.xmpp_framing_laws.specs.Hands.{AreKept, IsTokenHeld}
 use Rattle.xmpp_framing_laws.specs.LongRows.{HasLimit, IsLong}
-use Rattle.xmpp_framing_laws.specs.Offsets.{AreBefore, IsOpen, IsRun, first_of, is_no_markup, leads_tag, open_declaration, open_tag, opening_declaration, opening_section}
+use Rattle.xmpp_framing_laws.specs.Offsets.{IsOpen, IsRun, first_of, is_no_markup, leads_tag, open_declaration, open_tag, opening_declaration, opening_section}
 use Rattle.xmpp_framing_laws.specs.OpenRows.{EndInText}
 use Rattle.xmpp_framing_laws.specs.Prefixes.{IsPrefix}
 use Rattle.xmpp_framing_laws.specs.StreamLimits.{IsStreamWithin}
@@ -52,6 +53,9 @@ tails x y xs ys e = cc
 
 some_none : (x : ℕ) (xs : List ℕ) → x ∷ xs ≡ [] → ⊥
 some_none x xs e = cc
+
+same_offset : (m n : ℕ) → ◌≡◌ {A = Option Fault} (Some (record { at = m; why = why.TooLong })) (Some (record { at = n; why = why.TooLong })) → m ≡ n
+same_offset m n e = ap (λ (f : Fault). f.at) (one_some _ _ e)
 
 -- ---- two fronts of one list
 
@@ -421,6 +425,10 @@ module _ (limits : Limits) (few_bytes : limits.bytes < 2 ^ 64) (few : limits.att
           let t = token_is k.before k.more (markup_of k (ap first_of is)) (open_tag k.more kept.1 kept.2) outer in
           inl (tag k.more kept.0 kept.1 kept.4 h.1.0.1 t.hand_is (token_used (in_force s.lexical.phase s.scopes s.name) s.places.token_at k.more h.1.1 kept.0 t.hand_is))
         where
+          slash : (y : Bool) → (60 == 60 && y) ≡ false → y ≡ false
+          slash true h = absurd (true≢false h)
+          slash false h = refl
+
           tag : (more : List ℕ) → s.token ≡ 60 ∷ more → leads_tag more ≡ true → is_empty more ≡ false → is_end s.token ≡ false → 60 ∷ more ≡ p.hand → (s.places.used ≡ length p.hand) × (0 < length p.hand)
               → IsCountedHand s b p.now.phase p.hand
           tag [] token leads some no_end hand used = absurd (true≢false some)
@@ -428,10 +436,6 @@ module _ (limits : Limits) (few_bytes : limits.bytes < 2 ^ 64) (few : limits.att
               let q = or_parts (x == 33) (x == 63) (not-true (x == 33 || x == 63) leads) in
               let other : (60 == 60 && x == 47) ≡ false = ap is_end (sym token) ∙ no_end in
               limited_hand x xs hand used (ap is_opening is) (not_equal x 47 (slash (x == 47) other)) (not_equal x 33 q.0) (λ e. absurd (not_equal x 63 q.1 e))
-
-          slash : (y : Bool) → (60 == 60 && y) ≡ false → y ≡ false
-          slash true h = absurd (true≢false h)
-          slash false h = refl
 
     kind : (b : ℕ) (o : Option OpenElement) → s.here ≡ o → Hand o s.lexical.mode s s.places.used items bytes → IsCountedHand s b p.now.phase p.hand ⊎ IsFreeHand s b p.now.phase p.hand
     kind b None is h = none_kind b (ap is_some is) s.lexical.mode refl h
@@ -476,8 +480,8 @@ module _ (limits : Limits) (few_bytes : limits.bytes < 2 ^ 64) (few : limits.att
           let used = h.used_is in
           let told = long_told limits bytes b few short none far in
           let place = part_place told.0 told.1 h.some in
-          let both : Some (record { at = at_offset; why = why.TooLong }) ≡ Some (record { at = told.0; why = why.TooLong }) = sym is ∙ ap (λ (u : Turn). u.state.fault) (run_append (turn (from_start limits) []) bytes (b ∷ [])) ∙ told.2 in
-          let offset : at_offset ≡ told.0 = cc in
+          let both : ◌≡◌ {A = Option Fault} (Some (record { at = at_offset; why = why.TooLong })) (Some (record { at = told.0; why = why.TooLong })) = sym is ∙ ap (λ (u : Turn). u.state.fault) (run_append (turn (from_start limits) []) bytes (b ∷ [])) ∙ told.2 in
+          let offset : at_offset ≡ told.0 = same_offset at_offset told.0 both in
           record { items = items; part = part_of s; prefix = known; full = subst (λ (l : Limits). l.bytes ≤ length known.hand) same_limits (omega (arith, most, used)); limited = h.shows f.2; at_is = offset ∙ place }
 
   pub long_far : (b at_offset : ℕ) → IsLong limits bytes b at_offset → is_too_long s b ≡ true

@@ -1,8 +1,6 @@
 -- Rows that depend on what stands before a token: on bytes they are those of the state.
-use Rattle.std.proofs.Common.{◌≡◌, ◌≢◌, ℕ, zero, suc, ◌+◌, ◌<◌, ◌≤◌, ◌^◌, ◌⊎◌, inl, inr, ⊎_elim, Bool, true, false, not, ◌&&◌, ◌==◌, List, [], ◌∷◌, ◌++◌, Option, Some, None, codes, drop, length, length-append, take, refl, sym, ap, subst, ◌∙◌, arith, append_assoc, append-nil}
-use Rattle.std.proofs.Math.Seq.{take-append_seam}
+use Rattle.std.proofs.Common.{◌≡◌, ℕ, ◌+◌, ◌<◌, ◌^◌, ◌⊎◌, inl, inr, ⊎_elim, true, false, ◌==◌, List, [], ◌∷◌, ◌++◌, Option, Some, None, codes, length, length-append, refl, sym, ap, subst, ◌∙◌, arith, append_assoc, append-nil}
 use Rattle.std.proofs.lemmas.Bool.{and_parts, cases_Bool, eqb-true, false≢true, not-true, true≢false}
-use Rattle.std.proofs.lemmas.List.{append_cancel_left}
 use Rattle.std.proofs.lemmas.Slice.Eq.{bytes_eq-Decides}
 use Rattle.std.specs.Option.{is_some}
 use Rattle.std.specs.Prelude.{slice_index}
@@ -10,15 +8,12 @@ use Rattle.xmpp_tokens.specs.Tags.{IsEndTag, is_empty, is_end}
 use Rattle.xmpp_tokens.specs.Utf8.{continues, ends_character, ends_forbidden_character}
 use Rattle.xmpp_names.proofs.EndLaws.{end_tags_are_read}
 use Rattle.xmpp_names.specs.Ends.{end_of}
-use Rattle.xmpp_framing.proofs.Pieces.{run_append}
-use Rattle.xmpp_framing.specs.Machine.{is_too_long, run, step}
+use Rattle.xmpp_framing.specs.Machine.{is_too_long, step}
 use Rattle.xmpp_framing.specs.Readings.{fault_of, framed}
-use Rattle.xmpp_framing.specs.States.{OpenElement, State, Turn, from_start, gathered, is_text, turn}
+use Rattle.xmpp_framing.specs.States.{OpenElement, State, Turn, gathered, is_text}
 use Rattle.xmpp_framing.specs.TagSteps.{ends_stream, is_between, is_name_of}
 use Rattle.xmpp_framing.specs.declared.fault.Why.{Why}
-use Rattle.xmpp_framing.specs.declared.fault.Why.TheVariants as why
 use Rattle.xmpp_framing.specs.declared.items.Item.{Item}
-use Rattle.xmpp_framing.specs.declared.items.Item.TheVariants as item
 use Rattle.xmpp_framing.specs.declared.limits.Limits.{Limits}
 use Rattle.xmpp_framing.specs.declared.states.Mode.{Mode}
 use Rattle.xmpp_framing.specs.declared.states.Mode.TheVariants as mode
@@ -28,19 +23,19 @@ use Rattle.xmpp_framing_laws.proofs.ByteRowLaws.{pending_is, unbroken}
 use Rattle.xmpp_framing_laws.proofs.ContextRuns.{context_is}
 use Rattle.xmpp_framing_laws.proofs.ContextStays.{at, at_more, markup_along, markup_same, none_before, text_same}
 use Rattle.xmpp_framing_laws.proofs.ContextsTold.{context_in, context_of}
-use Rattle.xmpp_framing_laws.proofs.FooterHands.{FooterHand, IsFooter, footer_begins, footer_more}
+use Rattle.xmpp_framing_laws.proofs.FooterHands.{IsFooter, footer_begins, footer_more}
 use Rattle.xmpp_framing_laws.proofs.OneHand.{markup_held, text_read}
 use Rattle.xmpp_framing_laws.proofs.PrefixRuns.{known_first}
 use Rattle.xmpp_framing_laws.proofs.ReadCharacters.{ascii_alone}
 use Rattle.xmpp_framing_laws.proofs.ReadOutside.{footer_tag}
 use Rattle.xmpp_framing_laws.proofs.ReadSoFar.{BeginsNoEnd, Hand, Read}
 use Rattle.xmpp_framing_laws.proofs.RowsDecide.{rows_of_bytes}
-use Rattle.xmpp_framing_laws.proofs.TagByteRows.{admits_is, from_outside, inside, of_whole, outside, to_whole}
+use Rattle.xmpp_framing_laws.proofs.TagByteRows.{admits_is, from_outside, inside, outside, to_whole}
 use Rattle.xmpp_framing_laws.specs.ByteRows.{EndInMarkup}
 use Rattle.xmpp_framing_laws.specs.Contexts.{Context, HasContext}
 use Rattle.xmpp_framing_laws.specs.Hands.{AreKept, IsHolding, IsReading, brackets_last}
-use Rattle.xmpp_framing_laws.specs.Offsets.{AreBefore, AreTokens, IsOpen, IsRun, character_left, first_of, leads_tag, open_section, open_tag, opening_section}
-use Rattle.xmpp_framing_laws.specs.OpenRows.{EndInSection, EndInTag, EndInText, OpenRow, OpeningByteRow, TagByteRow, TextByteRow, admits, after_end, after_less, after_tag, after_text, forbidden_character, in_section, nameless, stray_character, stray_question, stray_reference, stray_section, stray_section_end}
+use Rattle.xmpp_framing_laws.specs.Offsets.{AreBefore, AreTokens, IsOpen, character_left, first_of, leads_tag, open_section, open_tag, opening_section}
+use Rattle.xmpp_framing_laws.specs.OpenRows.{EndInTag, EndInText, OpenRow, OpeningByteRow, TagByteRow, TextByteRow, admits, after_end, after_less, after_tag, after_text, forbidden_character, in_section, nameless, stray_character, stray_question, stray_reference, stray_section, stray_section_end}
 use Rattle.xmpp_framing_laws.specs.Rows.{Row, TextRow, TokenRow, bad_footer, forbidden_in_section, forbidden_in_text, in_text_row, in_token_row, no_declaration, no_name, reference_outside, section_end_in_text, section_outside, text_outside, whole_tag_row}
 use Rattle.xmpp_framing_laws.specs.Streams.{place_of}
 
@@ -332,7 +327,7 @@ module _ (limits : Limits) (few_bytes : limits.bytes < 2 ^ 64) (few : limits.att
           in_token mode.Opening before [] brief good hold kind place (opening row)
         where
           opening : OpeningByteRow c b w → TokenRow mode.Opening s b w
-          opening (stray_question _ _ _ is no w_is) = no_declaration s b w is (sym (admits_is s) ∙ ap admits (in_markup c before [] e (open_tag [] refl refl) h) ∙ no) w_is
+          opening (stray_question _ _ _ is none_due w_is) = no_declaration s b w is (sym (admits_is s) ∙ ap admits (in_markup c before [] e (open_tag [] refl refl) h) ∙ none_due) w_is
           opening (nameless _ _ _ is w_is) = no_name s b w is w_is
       open_decides brief (stray_section _ _ _ _ _ c before good e h opens is place w_is) =
           let part = opening_section (codes "![CDATA") (codes "[") refl in

@@ -1,16 +1,14 @@
 -- Each fault but `TooLong` has a row on bytes.
-use Rattle.std.proofs.Common.{◌≡◌, ◌≢◌, ℕ, ◌+◌, ◌<◌, ◌≤◌, ◌^◌, ◌⊎◌, inl, inr, ⊎_elim, Bool, true, false, if◌then◌else◌, List, [], ◌∷◌, ◌++◌, Option, Some, None, codes, length, length-append, take, refl, sym, ap, subst, ◌∙◌, arith, append_assoc, append-nil}
+use Rattle.std.proofs.Common.{◌≡◌, ◌≢◌, ℕ, ◌<◌, ◌^◌, ◌⊎◌, inl, inr, ⊎_elim, true, false, List, [], ◌∷◌, ◌++◌, Some, None, codes, length, length-append, take, refl, sym, ap, subst, ◌∙◌, arith, append_assoc, append-nil}
 use Rattle.std.proofs.Math.Seq.{take-append_seam}
 use Rattle.std.proofs.lemmas.Bool.{cases_Bool, false≢true, true≢false}
 use Rattle.std.specs.Option.{is_some}
 use Rattle.std.specs.Prelude.{slice_index}
 use Rattle.xmpp_tokens.specs.Tags.{IsEndTag, is_empty, is_end}
 use Rattle.xmpp_tokens.specs.Utf8.{continues, ends_character, ends_forbidden_character}
-use Rattle.xmpp_framing.proofs.Pieces.{run_append}
 use Rattle.xmpp_framing.specs.Machine.{is_too_long, run}
 use Rattle.xmpp_framing.specs.Readings.{fault_of, framed}
-use Rattle.xmpp_framing.specs.States.{State, Turn, from_start, gathered, is_text, token_place, turn}
-use Rattle.xmpp_framing.specs.TagSteps.{ends_stream}
+use Rattle.xmpp_framing.specs.States.{State, Turn, from_start, is_text, turn}
 use Rattle.xmpp_framing.specs.declared.fault.Fault.{Fault}
 use Rattle.xmpp_framing.specs.declared.fault.Why.{Why}
 use Rattle.xmpp_framing.specs.declared.fault.Why.TheVariants as why
@@ -30,10 +28,10 @@ use Rattle.xmpp_framing_laws.proofs.ReadCharacters.{ascii_alone}
 use Rattle.xmpp_framing_laws.proofs.RowsDecide.{rows_of_bytes}
 use Rattle.xmpp_framing_laws.proofs.TagByteRows.{admits_is, from_inside, from_outside, of_whole, outside}
 use Rattle.xmpp_framing_laws.specs.ByteRows.{ByteRow, EndInMarkup, OpensDeclaration, OpensSection, after_bang, no_section}
-use Rattle.xmpp_framing_laws.specs.Contexts.{Context, HasContext}
+use Rattle.xmpp_framing_laws.specs.Contexts.{HasContext}
 use Rattle.xmpp_framing_laws.specs.FaultRows.{Takes}
 use Rattle.xmpp_framing_laws.specs.Hands.{AreKept}
-use Rattle.xmpp_framing_laws.specs.Offsets.{AreBefore, IsOpen, character_left, first_of, is_open_tag, leads_tag, open_section, open_tag, opening_section}
+use Rattle.xmpp_framing_laws.specs.Offsets.{AreBefore, character_left, first_of, is_open_tag, leads_tag, open_tag, opening_section}
 use Rattle.xmpp_framing_laws.specs.OpenRows.{EndInTag, EndInText, OpenRow, TagByteRow, after_end, after_less, after_tag, after_text, forbidden_character, in_section, nameless, stray_character, stray_question, stray_reference, stray_section, stray_section_end}
 use Rattle.xmpp_framing_laws.specs.Rows.{DeclarationRow, FooterRow, QuestionRow, ReferenceRow, Row, TagRow, TextRow, TokenRow, bad_declaration, bad_footer, bad_reference, departing_declaration, departing_reference, departing_section, forbidden_in_section, forbidden_in_text, in_text_row, in_token_row, no_declaration, no_name, no_utf8, other_encoding, reference_outside, section_end_in_text, section_outside, text_outside, too_long, unknown_reference, unspaced_declaration, whole_tag_row}
 use Rattle.xmpp_framing_laws.specs.Standing.{StandsOutside}
@@ -193,7 +191,7 @@ module _ (limits : Limits) (few_bytes : limits.bytes < 2 ^ 64) (few : limits.att
         c = tag_context before [] alone refl refl
 
         opening : TokenRow mode.Opening s b w → OpenRow limits bytes b offset w
-        opening (no_declaration _ _ _ last no w_is) = after_less limits bytes b offset w (context_of s) before h.good alone c h.place (stray_question (context_of s) b w last (admits_is s ∙ no) w_is)
+        opening (no_declaration _ _ _ last none_due w_is) = after_less limits bytes b offset w (context_of s) before h.good alone c h.place (stray_question (context_of s) b w last (admits_is s ∙ none_due) w_is)
         opening (no_name _ _ _ last w_is) = after_less limits bytes b offset w (context_of s) before h.good alone c h.place (nameless (context_of s) b w last w_is)
     in_hand_told is mode.Bang no_text before more h row = by_row row
       where

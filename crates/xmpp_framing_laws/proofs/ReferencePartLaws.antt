@@ -1,12 +1,12 @@
 -- A byte goes on a reference exactly where what is there then is a part of one.
-use Rattle.std.proofs.Common.{◌≡◌, ◌≢◌, ℕ, ◌↔◌, ◌⊎◌, inl, inr, ⊎_elim, Bool, true, false, not, ◌&&◌, ◌||◌, ◌==◌, if◌then◌else◌, List, [], ◌∷◌, ◌++◌, codes, refl, sym, ap, subst, ◌∙◌, append_assoc, append-nil, arith, get_or}
-use Rattle.std.proofs.lemmas.Bool.{and_from, and_parts, cases_Bool, eqb-true, false≢true, or_left, or_right, true≢false}
+use Rattle.std.proofs.Common.{◌≡◌, ◌≢◌, ℕ, ◌↔◌, inl, inr, ⊎_elim, Bool, true, false, not, ◌&&◌, ◌||◌, ◌==◌, if◌then◌else◌, List, [], ◌∷◌, ◌++◌, codes, refl, sym, ap, subst, ◌∙◌, append_assoc, append-nil, arith, get_or}
+use Rattle.std.proofs.lemmas.Bool.{and_from, and_parts, cases_Bool, eqb-true, false≢true, or_right}
 use Rattle.std.proofs.lemmas.Bool.Decides.{nat_tests}
 use Rattle.std.specs.List.{list_all}
 use Rattle.std.specs.Str.{bytes_eq}
 use Rattle.xmpp_tokens.proofs.Going.{references_go_on}
 use Rattle.xmpp_tokens.specs.Characters.{are_characters, are_characters_behind, ends_forbidden, go_on, is_digit, is_name, is_name_byte, is_name_start}
-use Rattle.xmpp_tokens.specs.References.{are_digits, each_goes_on, ends_forbidden_behind, entity_reference, is_hex_digit, last_two, reference_goes_on, referred}
+use Rattle.xmpp_tokens.specs.References.{are_digits, each_goes_on, ends_forbidden_behind, entity_reference, is_hex_digit, last_two, number_goes_on, reference_goes_on, referred}
 use Rattle.xmpp_tokens.specs.declared.references.Reference.{Reference}
 use Rattle.xmpp_tokens.specs.declared.references.Reference.TheVariants as reference
 use Rattle.xmpp_framing_laws.specs.ReferenceParts.{IsNumberPart, IsReferencePart, decimal, hexadecimal, sharp, sharp_x}
@@ -33,10 +33,10 @@ each_more so (x ∷ xs) b h e =
     let p = and_parts _ _ h in and_from _ _ p.0 (each_more (so ++ x ∷ []) xs b p.1 (subst (λ l. reference_goes_on l b ≡ true) (sym (append_assoc so (x ∷ []) xs)) e))
 
 pub departs : (name rest : List ℕ) (b : ℕ) → reference_goes_on name b ≡ false → referred (name ++ b ∷ rest) ≡ reference.Malformed
-departs name rest b no = by (referred (name ++ b ∷ rest)) refl
+departs name rest b ends = by (referred (name ++ b ∷ rest)) refl
   where
     refuse : referred (name ++ b ∷ rest) ≢ reference.Malformed → ⊥
-    refuse well = false≢true (sym no ∙ along [] name b rest (references_go_on (name ++ b ∷ rest) well))
+    refuse well = false≢true (sym ends ∙ along [] name b rest (references_go_on (name ++ b ∷ rest) well))
 
     by : (r : Reference) → referred (name ++ b ∷ rest) ≡ r → r ≡ reference.Malformed
     by reference.Malformed e = refl
@@ -67,7 +67,7 @@ unfolding reference_goes_on
 decimal_all d so [] other h = refl
 decimal_all d so (b ∷ bs) other h =
     let p = and_parts _ _ h in
-    let first = p.0 in
+    let first : (if d == 120 then is_hex_digit b else is_digit b) ≡ true = p.0 in
     let here : is_digit b ≡ true = rw other at first in and_from _ _ here (decimal_all d (so ++ b ∷ []) bs other p.1)
 
 digit_no_x : (d : ℕ) → is_digit d ≡ true → (d == 120) ≡ false
@@ -120,7 +120,7 @@ unfolding reference_goes_on
 names_go x so [] other h = (refl, refl)
 names_go x so (b ∷ bs) other h =
     let p = and_parts _ _ h in
-    let first = p.0 in
+    let first : (if x == 35 then number_goes_on so b else (is_name_byte b && not (ends_forbidden_behind (x ∷ so) b))) ≡ true = p.0 in
     let both : (is_name_byte b && not (ends_forbidden_behind (x ∷ so) b)) ≡ true = rw other at first in
     let here = and_parts _ _ both in
     let rest = names_go x (so ++ b ∷ []) bs other p.1 in
@@ -150,7 +150,7 @@ whole_form (x ∷ xs) h =
     let p = and_parts _ _ h in
     ⊎_elim (λ (number : (x == 35) ≡ true). let is = eqb-true x 35 number in inr (inl (subst (λ y. IsNumberPart (y ∷ xs)) (sym is) (number_form xs (subst (λ y. each_goes_on (y ∷ []) xs ≡ true) is p.1)))))
     (λ (other : (x == 35) ≡ false).
-    let first = p.0 in
+    let first : (x == 35 || is_name_start x) ≡ true = p.0 in
     let starts : is_name_start x ≡ true = rw other at first in
     let q = names_go x [] xs other p.1 in
     let named : is_name (x ∷ xs) ≡ true = and_from _ _ (and_from _ _ starts q.0) (and_from _ _ (start_character x starts) q.1) in

@@ -1,17 +1,17 @@
 -- The rows of whole tags on bytes are those of the state, where the context is the state's.
-use Rattle.std.proofs.Common.{◌≡◌, ◌≢◌, ℕ, ◌+◌, ⊎_elim, Bool, true, false, not, ◌&&◌, if◌then◌else◌, List, [], ◌∷◌, ◌++◌, Option, Some, None, Ok, Err, length, refl, sym, ap, subst, ◌∙◌}
+use Rattle.std.proofs.Common.{◌≡◌, ◌≢◌, ℕ, ◌+◌, ⊎_elim, true, false, not, ◌&&◌, List, [], ◌∷◌, ◌++◌, Option, Some, None, refl, sym, ap, subst, ◌∙◌}
 use Rattle.std.proofs.lemmas.Bool.{cases_Bool, false≢true, true≢false}
 use Rattle.std.proofs.lemmas.Slice.Eq.{bytes_eq-Decides}
 use Rattle.std.specs.Option.{is_some}
 use Rattle.std.specs.Prelude.{nat_lt}
 use Rattle.std.specs.Str.{bytes_eq}
-use Rattle.xmpp_tokens.specs.Tags.{IsEndTag, is_end}
+use Rattle.xmpp_tokens.specs.Tags.{IsEndTag}
 use Rattle.xmpp_names.proofs.EndLaws.{end_tags_are_read}
 use Rattle.xmpp_names.specs.Ends.{end_of}
 use Rattle.xmpp_names.specs.Starts.{start_of}
 use Rattle.xmpp_names.specs.declared.fault.StartWhy.{StartWhy}
 use Rattle.xmpp_names.specs.declared.fault.StartWhy.TheVariants as start
-use Rattle.xmpp_framing.specs.States.{OpenElement, State, admits_declaration, gathered, may_declare, open_count}
+use Rattle.xmpp_framing.specs.States.{OpenElement, State, admits_declaration, gathered, may_declare}
 use Rattle.xmpp_framing.specs.TagSteps.{is_header, is_spelled, is_too_deep, largest_limits, says_stream, scope_in, start_why}
 use Rattle.xmpp_framing.specs.declared.fault.Why.{Why}
 use Rattle.xmpp_framing_laws.proofs.ContextRuns.{count_opens, none_open}

@@ -1,12 +1,12 @@
 -- No byte of a token or a text changes the context but the one that ends a tag, a declaration or the footer.
-use Rattle.std.proofs.Common.{◌≡◌, ℕ, ◌+◌, Bool, true, false, not, ◌&&◌, ◌||◌, ◌==◌, if◌then◌else◌, List, [], ◌∷◌, ◌++◌, None, codes, length, refl, sym, ap, ◌∙◌}
+use Rattle.std.proofs.Common.{◌≡◌, ℕ, ◌+◌, Bool, true, false, not, ◌&&◌, ◌||◌, ◌==◌, if◌then◌else◌, [], ◌∷◌, ◌++◌, None, codes, length, refl, sym, ap, ◌∙◌}
 use Rattle.std.proofs.lemmas.Bool.{false≢true}
 use Rattle.std.specs.Option.{is_some}
 use Rattle.std.specs.Prelude.{nat_lt, slice_index}
 use Rattle.xmpp_tokens.specs.Characters.{is_white}
 use Rattle.xmpp_tokens.specs.Declarations.{declaration_of}
 use Rattle.xmpp_tokens.specs.References.{reference_goes_on, referred}
-use Rattle.xmpp_tokens.specs.Tags.{is_empty, is_quote, quote_behind}
+use Rattle.xmpp_tokens.specs.Tags.{is_empty, is_quote}
 use Rattle.xmpp_tokens.specs.Utf8.{ends_character}
 use Rattle.xmpp_tokens.specs.declared.declarations.Declaration.{Declaration}
 use Rattle.xmpp_tokens.specs.declared.declarations.Declaration.TheVariants as declaration

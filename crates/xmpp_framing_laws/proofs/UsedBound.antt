@@ -1,12 +1,12 @@
 -- A byte counts for one at most of what is compared with the limit on bytes.
-use Rattle.std.proofs.Common.{◌≡◌, ℕ, ◌+◌, ◌≤◌, ◌-◌, ◌^◌, min, arith, subst, Bool, true, false, true≢false, ◌==◌, ◌&&◌, ◌||◌, not, if◌then◌else◌, List, [], ◌∷◌, ◌++◌, Option, Some, None, Result, Ok, Err, codes, length, refl, sym, ap, ◌∙◌}
+use Rattle.std.proofs.Common.{◌≡◌, ℕ, ◌+◌, ◌≤◌, arith, subst, Bool, true, false, ◌==◌, ◌&&◌, ◌||◌, not, if◌then◌else◌, List, [], ◌∷◌, ◌++◌, Option, Some, None, Result, Ok, Err, codes, length, sym}
 use Rattle.std.specs.Option.{is_some}
 use Rattle.std.specs.Prelude.{nat_lt, slice_index}
 use Rattle.xmpp_tokens.specs.Characters.{is_white}
 use Rattle.xmpp_tokens.specs.Declarations.{declaration_of}
 use Rattle.xmpp_tokens.specs.References.{reference_goes_on, referred}
 use Rattle.xmpp_tokens.specs.Tags.{is_empty, is_end, is_quote}
-use Rattle.xmpp_tokens.specs.Utf8.{continues, ends_character}
+use Rattle.xmpp_tokens.specs.Utf8.{ends_character}
 use Rattle.xmpp_tokens.specs.declared.declarations.Declaration.{Declaration}
 use Rattle.xmpp_tokens.specs.declared.declarations.Declaration.TheVariants as declaration
 use Rattle.xmpp_tokens.specs.declared.references.Reference.{Reference}
@@ -14,13 +14,12 @@ use Rattle.xmpp_tokens.specs.declared.references.Reference.TheVariants as refere
 use Rattle.xmpp_names.specs.Ends.{end_of}
 use Rattle.xmpp_names.specs.Starts.{Tag}
 use Rattle.xmpp_names.specs.declared.fault.StartWhy.{StartWhy}
-use Rattle.xmpp_framing.specs.Machine.{behind_byte, goes_on, is_too_long, run, step, taken, taken_in}
+use Rattle.xmpp_framing.specs.Machine.{run, step, taken_in}
 use Rattle.xmpp_framing.specs.MarkupSteps.{declares, ends_in_question, in_bang, in_declaration, in_question, section_opened}
-use Rattle.xmpp_framing.specs.States.{OpenElement, State, Turn, counted, fails, gathered, gathered_in, in_mode, in_run, may_declare, moved, next_place, run_begun, token_begun, token_ended, token_fails, token_place}
+use Rattle.xmpp_framing.specs.States.{OpenElement, State, Turn, counted, fails, gathered, gathered_in, in_mode, in_run, may_declare, moved, next_place, run_begun, token_begun, token_ended, token_fails}
 use Rattle.xmpp_framing.specs.TagSteps.{added_to, begun, closed, closed_open, element_from, ends, ends_stream, footer_closes, footer_gathered, header_tag, heads, in_footer, in_opening, in_tag, is_header, is_spelled, is_too_deep, joined_text, leaf, level, misplaced, shallower, starts, tag_anew, tag_closes, tag_gathered, tag_here, tag_in, tag_inside, tag_outside, unlimited}
 use Rattle.xmpp_framing.specs.TextSteps.{between, bracket_taken, character_begun, character_taken, ends_section, in_reference, in_section, in_text, inside, is_forbidden, judged_outside, judged_section, judged_text, markup_begun, other_taken, refers, section_taken, text_inside, text_outside}
 use Rattle.xmpp_trees.specs.Trees.{Elem}
-use Rattle.xmpp_framing.specs.declared.fault.Fault.{Fault}
 use Rattle.xmpp_framing.specs.declared.fault.Why.TheVariants as why
 use Rattle.xmpp_framing.specs.declared.states.Mode.{Mode}
 use Rattle.xmpp_framing.specs.declared.states.Mode.TheVariants as mode

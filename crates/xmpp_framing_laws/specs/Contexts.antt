@@ -1,6 +1,6 @@
 -- What stands before a token: whole items, and then the start tags of elements that are open, each with content behind it
 -- (XML 1.0, sections 3 and 3.1; RFC 6120, sections 4.2 to 4.4 and 4.9.3.14).
-use Rattle.std.specs.Prelude.{ℕ, ◌≡◌, ◌+◌, ◌≤◌, ◌⊎◌, true, false, List, [], ◌∷◌, ◌++◌, length}
+use Rattle.std.specs.Prelude.{ℕ, ◌≡◌, ◌+◌, ◌≤◌, ◌⊎◌, false, List, [], ◌∷◌, ◌++◌, length}
 use Rattle.xmpp_tokens.specs.Tags as tokens
 use Rattle.xmpp_names.specs.Grammar.{IsStart, IsWithin}
 use Rattle.xmpp_names.specs.Scopes.{Scope}

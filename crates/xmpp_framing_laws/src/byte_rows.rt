@@ -40,7 +40,7 @@ pub fn faults_of_tokens_are_rows_of_bytes()
 /// A law: the table of faults on bytes is sound and complete. After bytes without a fault, one byte more decides a fault at an
 /// offset exactly where a row on bytes says so: no row names a field of a state. What a row needs beside the bytes of
 /// the token it takes from the bytes before the token, which are whole items and then start tags of open elements with
-/// content between them. The premises on the limits are the ranges of a `Limits`'s fields.
+/// content behind each. The premises on the limits are the ranges of a `Limits`'s fields.
 pub fn faults_are_rows_of_bytes()
     ensures { (limits : Limits) (bytes : List ℕ) (b at : ℕ) (w : Why) → limits.bytes < 2 ^ 64 → limits.attributes < 2 ^ 32 → limits.namespace_bytes < 2 ^ 32 → fault_of limits bytes ≡ None
         → (fault_of limits (bytes ++ b ∷ []) ≡ Some (record { at = at; why = w })) ↔ FaultRow limits bytes b at w }
