@@ -4,9 +4,10 @@ use Rattle.std.proofs.lemmas.Bool.{true≢false}
 use Rattle.std.specs.Option.{is_some}
 use Rattle.xmpp_names.specs.Grammar.{IsStart, IsWithin}
 use Rattle.xmpp_names.specs.Scopes.{Scope}
+use Rattle.xmpp_names.specs.Starts.{Tag}
 use Rattle.xmpp_trees.proofs.AttributeOrder.{sorted_attributes_IsAttrsOf}
 use Rattle.xmpp_trees.specs.Attributes.{sorted_attributes}
-use Rattle.xmpp_trees.specs.Trees.{Elem, depth, element, name_of, namespace_of}
+use Rattle.xmpp_trees.specs.Trees.{Elem, Nodes, depth, element, name_of, namespace_of}
 use Rattle.xmpp_framing.specs.Expanded.{attribute_of}
 use Rattle.xmpp_framing.specs.Machine.{run}
 use Rattle.xmpp_framing.specs.States.{OpenElement, State, Turn, from_start, open_count, turn}
@@ -77,50 +78,75 @@ may_stand s [] ns name e covered between other =
     let outside = none_open s.here s.below e in inr (record { outside = outside; none_open = none_below s.here s.below outside covered; phase_is = between }, other refl)
 may_stand s (x ∷ xs) ns name e covered between other = inl (is_open s.here s.below x xs e)
 
+abbrev element_of : Tag → Nodes → Elem
+element_of tag kids = element tag.ns tag.name (sorted_attributes (map attribute_of tag.attributes)) kids
+
+is_begun : (tag : Tag) (kids : Nodes) → IsBegun tag kids (element_of tag kids)
+is_begun tag kids = record { attributes = sorted_attributes (map attribute_of tag.attributes); sorted = sorted_attributes_IsAttrsOf (map attribute_of tag.attributes); is = refl }
+
 module _ (limits : Limits) (from : State) (items : List Item) (same : from.limits ≡ limits) (unused : from.places.used ≡ 0) (between : from.lexical.phase ≡ phase.Between) where
-  level_reached : (outer : List (List ℕ)) (around scope : Scope) (name front level bytes : List ℕ) → Reached from items outer around front → OpensElement limits outer around scope name level → bytes ≡ front ++ level
-      → length bytes ≤ limits.bytes → Reached from items (name ∷ outer) scope bytes
-  level_reached outer around scope name front level bytes r e are short =
-      let s = r.there in
-      let there : s.limits ≡ limits = r.limits ∙ same in
-      let elem : Elem = element e.tag.ns e.tag.name (sorted_attributes (map attribute_of e.tag.attributes)) e.kids in
-      let begun : IsBegun e.tag e.kids elem = record { attributes = sorted_attributes (map attribute_of e.tag.attributes); sorted = sorted_attributes_IsAttrsOf (map attribute_of e.tag.attributes); is = refl } in
-      let start = subst (λ c. IsStart c e.start e.raw e.tag) (sym r.scope_is) e.is_start in
-      let used = r.used in
-      let all : HasRoom s (e.start ++ e.inside) =
-      subst (HasRoom s) e.bytes_are (inl (rw there (omega (arith, used, unused, short, ap length are, length-append front level)))) in
-      let within : IsWithin (tag_limits s.limits) e.raw e.tag = subst (λ l. IsWithin (tag_limits l) e.raw e.tag) (sym there) e.tag_within in
-      let count : open_count s ≡ length outer = count_opens s ∙ ap length r.names_are in
-      let shallow = e.shallow in
-      let deep : open_count s + depth elem ≤ s.limits.depth = rw (there, count) (omega (arith, shallow)) in
-      let may = may_stand s outer (namespace_of elem) (name_of elem) r.names_are r.may_cover (r.phase_is ∙ between) e.no_header in
-      let first = level_read s items e.start e.raw e.tag e.kids elem start e.not_empty begun r.quiet (room_front s e.start e.inside all) within deep may in
-      let u = first.0 in
-      let has : HasBegun s u e.start e.tag = first.2 in
-      let left = room_rest s u e.start e.inside has.limits has.used all in
-      let scope_there : scope_in u.scopes ≡ e.tag.bindings ++ around = ap scope_in has.scopes ∙ ap (λ c. e.tag.bindings ++ c) r.scope_is in
-      let tags : AreTagsWithinContent (tag_limits u.limits) (e.tag.bindings ++ around) e.inside e.kids e.content =
-      subst (λ l. AreTagsWithinContent (tag_limits l) (e.tag.bindings ++ around) e.inside e.kids e.content) (sym (has.limits ∙ there)) e.tags_within in
-      let second =
-      content_read (e.tag.bindings ++ around) e.inside e.kids e.content u items (opened e.tag) has.fresh has.here has.no_chars scope_there left tags (deeper_in s u e.start e.tag e.kids elem r.may_cover begun has deep) in
-      let t = second.0 in
-      let read : HasRead u t (opened e.tag) e.inside e.kids = second.2 in
-      let name_there : read.inner.spelled ≡ name = ap (λ (o : OpenElement). o.spelled) read.holds ∙ e.name_is in
-      let below_there : names_of t.below ≡ outer = ap names_of (read.below ∙ has.below) ∙ covered_names s.here s.chars s.below r.may_cover ∙ r.names_are in
-      let more = has.used in
-      let most = read.used in
-      record {
-        there = t;
-        run_is = split_run (turn from items) (turn s items) (turn t items) bytes front level are r.run_is (split_run (turn s items) (turn u items) (turn t items) level e.start e.inside e.bytes_are first.1 second.1);
-        quiet = read.quiet;
-        limits = read.limits ∙ has.limits ∙ r.limits;
-        names_are = ap (λ o. opens_of o t.below) read.here ∙ (λ i. name_there i ∷ below_there i);
-        scope_is = ap scope_in read.scopes ∙ scope_there ∙ sym e.scope_is;
-        phase_is = read.phase ∙ has.phase ∙ r.phase_is;
-        name_is = read.name ∙ has.name ∙ r.name_is;
-        may_cover = inl (ap is_some read.here);
-        used = omega (arith, used, more, most, ap length are, length-append front level, ap length e.bytes_are, length-append e.start e.inside);
-      }
+  -- one element more
+  module _ (outer : List (List ℕ)) (around scope : Scope) (name front level bytes : List ℕ) (r : Reached from items outer around front) (e : OpensElement limits outer around scope name level) (are : bytes ≡ front ++ level) where
+    abbrev s : State
+    s = r.there
+
+    there : s.limits ≡ limits
+    there = r.limits ∙ same
+
+    has_room : length bytes ≤ limits.bytes → HasRoom s (e.start ++ e.inside)
+    has_room short =
+        let used = r.used in
+        let fits : s.places.used + length level ≤ limits.bytes = omega (arith, used, unused, short, ap length are, length-append front level) in
+        subst (HasRoom s) e.bytes_are (inl (subst (λ (l : Limits). s.places.used + length level ≤ l.bytes) (sym there) fits))
+
+    is_shallow : open_count s + depth (element_of e.tag e.kids) ≤ s.limits.depth
+    is_shallow =
+        let count : open_count s ≡ length outer = count_opens s ∙ ap length r.names_are in
+        let shallow = e.shallow in
+        let fits : length outer + depth (element_of e.tag e.kids) ≤ limits.depth = omega (arith, shallow) in
+        subst (λ (l : Limits). open_count s + depth (element_of e.tag e.kids) ≤ l.depth) (sym there) (subst (λ n. n + depth (element_of e.tag e.kids) ≤ limits.depth) (sym count) fits)
+
+    scope_inside : (u : State) → HasBegun s u e.start e.tag → scope_in u.scopes ≡ e.tag.bindings ++ around
+    scope_inside u has = ap scope_in has.scopes ∙ ap (λ c. e.tag.bindings ++ c) r.scope_is
+
+    behind_content : (u t : State) → HasBegun s u e.start e.tag → HasRead u t (opened e.tag) e.inside e.kids → run (turn s items) e.start ≡ turn u items → run (turn u items) e.inside ≡ turn t items
+        → Reached from items (name ∷ outer) scope bytes
+    behind_content u t has read start_run inside_run =
+        let name_there : read.inner.spelled ≡ name = ap (λ (o : OpenElement). o.spelled) read.holds ∙ e.name_is in
+        let below_there : names_of t.below ≡ outer = ap names_of (read.below ∙ has.below) ∙ covered_names s.here s.chars s.below r.may_cover ∙ r.names_are in
+        let used = r.used in
+        let more = has.used in
+        let most = read.used in
+        record {
+          there = t;
+          run_is = split_run (turn from items) (turn s items) (turn t items) bytes front level are r.run_is (split_run (turn s items) (turn u items) (turn t items) level e.start e.inside e.bytes_are start_run inside_run);
+          quiet = read.quiet;
+          limits = read.limits ∙ has.limits ∙ r.limits;
+          names_are = ap (λ o. opens_of o t.below) read.here ∙ (λ i. name_there i ∷ below_there i);
+          scope_is = ap scope_in read.scopes ∙ scope_inside u has ∙ sym e.scope_is;
+          phase_is = read.phase ∙ has.phase ∙ r.phase_is;
+          name_is = read.name ∙ has.name ∙ r.name_is;
+          may_cover = inl (ap is_some read.here);
+          used = omega (arith, used, more, most, ap length are, length-append front level, ap length e.bytes_are, length-append e.start e.inside);
+        }
+
+    behind_start : (u : State) → HasBegun s u e.start e.tag → run (turn s items) e.start ≡ turn u items → length bytes ≤ limits.bytes → Reached from items (name ∷ outer) scope bytes
+    behind_start u has start_run short =
+        let left = room_rest s u e.start e.inside has.limits has.used (has_room short) in
+        let tags : AreTagsWithinContent (tag_limits u.limits) (e.tag.bindings ++ around) e.inside e.kids e.content =
+        subst (λ l. AreTagsWithinContent (tag_limits l) (e.tag.bindings ++ around) e.inside e.kids e.content) (sym (has.limits ∙ there)) e.tags_within in
+        let deep = deeper_in s u e.start e.tag e.kids (element_of e.tag e.kids) r.may_cover (is_begun e.tag e.kids) has is_shallow in
+        let more = content_read (e.tag.bindings ++ around) e.inside e.kids e.content u items (opened e.tag) has.fresh has.here has.no_chars (scope_inside u has) left tags deep in
+        behind_content u more.0 has more.2 start_run more.1
+
+    level_reached : length bytes ≤ limits.bytes → Reached from items (name ∷ outer) scope bytes
+    level_reached short =
+        let elem = element_of e.tag e.kids in
+        let start = subst (λ c. IsStart c e.start e.raw e.tag) (sym r.scope_is) e.is_start in
+        let within : IsWithin (tag_limits s.limits) e.raw e.tag = subst (λ l. IsWithin (tag_limits l) e.raw e.tag) (sym there) e.tag_within in
+        let may = may_stand s outer (namespace_of elem) (name_of elem) r.names_are r.may_cover (r.phase_is ∙ between) e.no_header in
+        let first = level_read s items e.start e.raw e.tag e.kids elem start e.not_empty (is_begun e.tag e.kids) r.quiet (room_front s e.start e.inside (has_room short)) within is_shallow may in
+        behind_start first.0 first.2 first.1 short
 
 first_reached : (from : State) (items : List Item) (base scope : Scope) (name bytes : List ℕ) → StandsOutside from phase.Between base name → scope ≡ base → bytes ≡ [] → Reached from items [] scope bytes
 first_reached from items base scope name bytes stands same none = record {
