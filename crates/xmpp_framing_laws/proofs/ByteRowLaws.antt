@@ -60,11 +60,11 @@ run_left : (bs : List ℕ) (t : Turn) → (run t bs).state.fault ≡ None → (r
 run_left [] t none = refl
 run_left (b ∷ bs) t none = run_left bs (step t b) none ∙ ap (λ l. character_left l bs) (step_left t b (no_fault_before (step t b) bs none))
 
-pending_is : (limits : Limits) (bytes : List ℕ) → fault_of limits bytes ≡ None → (framed limits bytes).state.pending ≡ character_left [] bytes
+pub pending_is : (limits : Limits) (bytes : List ℕ) → fault_of limits bytes ≡ None → (framed limits bytes).state.pending ≡ character_left [] bytes
 unfolding framed
 pending_is limits bytes none = run_left bytes (turn (from_start limits) []) none
 
-token_there : (limits : Limits) (bytes : List ℕ) (b at : ℕ) (w : Why) → fault_of limits bytes ≡ None → fault_of limits (bytes ++ b ∷ []) ≡ Some (record { at = at; why = w }) → w ≢ why.TooLong → IsAtToken bytes b at
+pub token_there : (limits : Limits) (bytes : List ℕ) (b at : ℕ) (w : Why) → fault_of limits bytes ≡ None → fault_of limits (bytes ++ b ∷ []) ≡ Some (record { at = at; why = w }) → w ≢ why.TooLong → IsAtToken bytes b at
 unfolding framed
 token_there limits bytes b at w none is other =
     let start = turn (from_start limits) [] in
@@ -118,7 +118,7 @@ declaration_kind mode.Footer s more o no_text e k = absurd (false≢true (subst 
 declaration_kind mode.Section s more o no_text e k = absurd (bang_question (codes "[CDATA[" ++ k.0) (codes "xml" ++ o.space ∷ o.inside) (sym k.1 ∙ o.more_is))
 
 -- a token of this kind is in hand
-record Held (s : State) (m : Mode) (before more : List ℕ) : Type 0 where
+pub record Held (s : State) (m : Mode) (before more : List ℕ) : Type 0 where
   is : s.lexical.mode ≡ m
   no_text : is_text m ≡ false
   at_is : s.places.token_at ≡ place_of (length before)
@@ -131,7 +131,7 @@ module _ (limits : Limits) (bytes before more : List ℕ) (none : fault_of limit
   held : (m : Mode) (first : ℕ) (h : IsHolding s first before more) → s.lexical.mode ≡ m → Held s m before more
   held m first h is = record { is = is; no_text = ap is_text (sym is) ∙ h.no_text; at_is = h.at_is; kept = subst (λ k. AreKept k s more) is h.kept }
 
-  reference_in : EndInReference bytes before more → Held s mode.Reference before more
+  pub reference_in : EndInReference bytes before more → Held s mode.Reference before more
   reference_in e =
       let h = reference_held limits bytes before more none e.ahead e.named e.bytes_are in
       held mode.Reference 38 h (reference_kind s.lexical.mode h.no_text h.first_is)
@@ -202,19 +202,19 @@ module _ (limits : Limits) (bytes : List ℕ) (b at : ℕ) (w : Why) (none : fau
   abbrev Decided : Type 0
   Decided = fault_of limits (bytes ++ b ∷ []) ≡ Some (record { at = at; why = w })
 
-  near : IsNotTooLong limits bytes b → is_too_long here b ≡ false
+  pub near : IsNotTooLong limits bytes b → is_too_long here b ≡ false
   near short =
       ⊎_elim
       (λ (far : is_too_long here b ≡ true). absurd (short here.places.item_at ((rows_of_bytes limits bytes b here.places.item_at why.TooLong none).1 (too_long here b here.places.item_at why.TooLong none far refl refl))))
       (λ (e : is_too_long here b ≡ false). e) (cases_Bool (is_too_long here b))
 
-  unbroken : continues (character_left [] bytes) b ≡ true → continues here.pending b ≡ true
+  pub unbroken : continues (character_left [] bytes) b ≡ true → continues here.pending b ≡ true
   unbroken good = ap (λ l. continues l b) (pending_is limits bytes none) ∙ good
 
-  decides : (m : Mode) (before more : List ℕ) → IsNotTooLong limits bytes b → continues (character_left [] bytes) b ≡ true → Held here m before more → at ≡ place_of (length before) → TokenRow m here b w → Decided
+  decides : (m : Mode) (before more : List ℕ) → is_too_long here b ≡ false → continues (character_left [] bytes) b ≡ true → Held here m before more → at ≡ place_of (length before) → TokenRow m here b w → Decided
   decides m before more short good h place row =
       (rows_of_bytes limits bytes b at w none).1
-      (in_token_row here b at w m (record { no_fault = none; mode_is = h.is; short = near short; is_text = unbroken good }) h.no_text (place ∙ sym h.at_is) row)
+      (in_token_row here b at w m (record { no_fault = none; mode_is = h.is; short = short; is_text = unbroken good }) h.no_text (place ∙ sym h.at_is) row)
 
   -- a fault of a token in hand: the byte breaks a character, or a row of the token's kind says so
   told : (m : Mode) (before more : List ℕ) (C : Type 0) → Held here m before more → Decided → w ≢ why.TooLong → (continues (character_left [] bytes) b ≡ false → w ≡ why.Encoding → C)
@@ -228,25 +228,28 @@ module _ (limits : Limits) (bytes : List ℕ) (b at : ℕ) (w : Why) (none : fau
       by_row (in_token_row _ _ _ _ n k no_text at_is row) =
           taken (ap (λ l. continues l b) (sym (pending_is limits bytes none)) ∙ k.is_text) (at_is ∙ h.at_is) (subst (λ j. TokenRow j here b w) (sym k.mode_is ∙ h.is) row)
 
-  broken_decides : IsNotTooLong limits bytes b → continues (character_left [] bytes) b ≡ false → IsAtToken bytes b at → w ≡ why.Encoding → Decided
+  broken_decides : is_too_long here b ≡ false → continues (character_left [] bytes) b ≡ false → IsAtToken bytes b at → w ≡ why.Encoding → Decided
   broken_decides short bad place w_is =
       let n = token_place here in
       let breaks = ap (λ l. continues l b) (pending_is limits bytes none) ∙ bad in
-      let there = (rows_of_bytes limits bytes b n why.Encoding none).1 (no_utf8 here b n why.Encoding none (near short) breaks refl refl) in
+      let there = (rows_of_bytes limits bytes b n why.Encoding none).1 (no_utf8 here b n why.Encoding none short breaks refl refl) in
       let same = one_offset bytes b at n place (token_there limits bytes b n why.Encoding none there not_long) in
-      (rows_of_bytes limits bytes b at w none).1 (no_utf8 here b at w none (near short) breaks same w_is)
+      (rows_of_bytes limits bytes b at w none).1 (no_utf8 here b at w none short breaks same w_is)
 
-  pub row_decides : IsNotTooLong limits bytes b → ByteRow bytes b at w → Decided
-  row_decides short (broken_character _ _ _ _ bad place w_is) = broken_decides short bad place w_is
-  row_decides short (after_reference _ _ _ _ before name good e place row) =
+  pub near_decides : is_too_long here b ≡ false → ByteRow bytes b at w → Decided
+  near_decides short (broken_character _ _ _ _ bad place w_is) = broken_decides short bad place w_is
+  near_decides short (after_reference _ _ _ _ before name good e place row) =
       let h = reference_in limits bytes before name none e in
       decides mode.Reference before name short good h place (to_reference here name b w h.kept.0 row)
-  row_decides short (after_bang _ _ _ _ before more good e o place row) =
+  near_decides short (after_bang _ _ _ _ before more good e o place row) =
       let h = bang_in limits bytes before more none e o in decides mode.Bang before more short good h place (to_bang here (60 ∷ more) b w h.kept.0 row)
-  row_decides short (after_question _ _ _ _ before more good e o place row) =
+  near_decides short (after_question _ _ _ _ before more good e o place row) =
       let h = question_in limits bytes before more none e o in decides mode.Question before more short good h place (to_question here (60 ∷ more) b w h.kept.0 row)
-  row_decides short (after_declaration _ _ _ _ before more good e o place row) =
+  near_decides short (after_declaration _ _ _ _ before more good e o place row) =
       let h = declaration_in limits bytes before more none e o in decides mode.Declaration before more short good h place (to_declaration here (60 ∷ more) b w h.kept.0 row)
+
+  pub row_decides : IsNotTooLong limits bytes b → ByteRow bytes b at w → Decided
+  row_decides brief row = near_decides (near brief) row
 
   module _ (is : Decided) (other : w ≢ why.TooLong) where
     broken_row : continues (character_left [] bytes) b ≡ false → w ≡ why.Encoding → ByteRow bytes b at w

@@ -25,7 +25,7 @@ use Rattle.xmpp_trees.specs.Trees.{Elem, Nodes, child, depth, depth_below, joine
 use Rattle.xmpp_framing_laws.specs.Within.{AreTagsWithin, AreTagsWithinContent}
 use Rattle.xmpp_framing.specs.declared.items.Item.{Item}
 
-depth_begun : (t : Tag) (kids : Nodes) (e : Elem) → IsBegun t kids e → depth e ≡ depth_below kids + 1
+pub depth_begun : (t : Tag) (kids : Nodes) (e : Elem) → IsBegun t kids e → depth e ≡ depth_below kids + 1
 depth_begun t kids e h = ap depth h.is
 
 may_begin : (s : State) (t : Tag) (kids : Nodes) (e : Elem) → IsBegun t kids e → MayBegin s (namespace_of e) (name_of e) → MayBegin s t.ns t.name
@@ -60,7 +60,7 @@ leaf_read s items bytes raw t e start is_empty begun quiet room within deep may 
 
 -- ---- a start tag with content behind it
 
-level_read : (s : State) (items : List Item) (bytes : List ℕ) (raw : List tokens.Attribute) (t : Tag) (kids : Nodes) (e : Elem) → IsStart (scope_in s.scopes) bytes raw t → t.empty ≡ false → IsBegun t kids e
+pub level_read : (s : State) (items : List Item) (bytes : List ℕ) (raw : List tokens.Attribute) (t : Tag) (kids : Nodes) (e : Elem) → IsStart (scope_in s.scopes) bytes raw t → t.empty ≡ false → IsBegun t kids e
     → IsQuiet s → HasRoom s bytes → IsWithin (tag_limits s.limits) raw t → open_count s + depth e ≤ s.limits.depth → MayBegin s (namespace_of e) (name_of e)
     → (u : State) × (run (turn s items) bytes ≡ turn u items) × HasBegun s u bytes t
 level_read s items bytes raw t kids e start not_empty begun quiet room within deep may =
@@ -76,18 +76,18 @@ level_read s items bytes raw t kids e start not_empty begun quiet room within de
 -- ---- content
 
 -- Behind the content of an element: what is open and the text in hand are what was open with these nodes more.
-record HasRead (s t : State) (o : OpenElement) (bytes : List ℕ) (kids : Nodes) : Type 0 where
-  quiet : IsQuiet t
-  inner : OpenElement
-  here : t.here ≡ Some inner
-  holds : with_text inner t.chars ≡ with_more o kids
-  limits : t.limits ≡ s.limits
-  below : t.below ≡ s.below
-  scopes : t.scopes ≡ s.scopes
-  name : t.name ≡ s.name
-  phase : t.lexical.phase ≡ s.lexical.phase
-  spent : t.lexical.spent ≡ s.lexical.spent
-  used : t.places.used ≤ s.places.used + length bytes
+pub record HasRead (s t : State) (o : OpenElement) (bytes : List ℕ) (kids : Nodes) : Type 0 where
+  pub quiet : IsQuiet t
+  pub inner : OpenElement
+  pub here : t.here ≡ Some inner
+  pub holds : with_text inner t.chars ≡ with_more o kids
+  pub limits : t.limits ≡ s.limits
+  pub below : t.below ≡ s.below
+  pub scopes : t.scopes ≡ s.scopes
+  pub name : t.name ≡ s.name
+  pub phase : t.lexical.phase ≡ s.lexical.phase
+  pub spent : t.lexical.spent ≡ s.lexical.spent
+  pub used : t.places.used ≤ s.places.used + length bytes
 
 text_has_read : (s t : State) (o : OpenElement) (bytes says : List ℕ) (kids : Nodes) → s.here ≡ Some o → s.chars ≡ [] → kids ≡ text_node says → HasSaid s t bytes says → HasRead s t o bytes kids
 text_has_read s t o bytes says kids here none are said =
@@ -174,7 +174,7 @@ end_read s t u items bytes front inside close tag kids e covered bytes_are room 
 
 -- ---- elements and content
 
-deeper_in : (s t : State) (bytes : List ℕ) (tag : Tag) (kids : Nodes) (e : Elem) → IsCovered s.here s.below → IsBegun tag kids e → HasBegun s t bytes tag → open_count s + depth e ≤ s.limits.depth
+pub deeper_in : (s t : State) (bytes : List ℕ) (tag : Tag) (kids : Nodes) (e : Elem) → IsCovered s.here s.below → IsBegun tag kids e → HasBegun s t bytes tag → open_count s + depth e ≤ s.limits.depth
     → open_count t + depth_below kids ≤ t.limits.depth
 deeper_in s t bytes tag kids e covered begun first deep =
     rw (first.limits, begun_count s t bytes tag covered first) (omega (arith, deep, depth_begun tag kids e begun))
@@ -237,7 +237,7 @@ mutual
       (same_within_content s u (t.bindings ++ scope) inside kids content has.limits within.1) (deeper_in s u front t kids e covered starts has deep) in
       end_read s u second.0 items bytes front inside close t kids e covered bytes_are room end starts first.1 has second.1 second.2
 
-  content_read : (scope : Scope) (bytes : List ℕ) (kids : Nodes) (h : SpellsContent scope bytes kids) (s : State) (items : List Item) (o : OpenElement) → IsFresh s → s.here ≡ Some o → s.chars ≡ []
+  pub content_read : (scope : Scope) (bytes : List ℕ) (kids : Nodes) (h : SpellsContent scope bytes kids) (s : State) (items : List Item) (o : OpenElement) → IsFresh s → s.here ≡ Some o → s.chars ≡ []
       → scope_in s.scopes ≡ scope → HasRoom s bytes → AreTagsWithinContent (tag_limits s.limits) scope bytes kids h → open_count s + depth_below kids ≤ s.limits.depth
       → (t : State) × (run (turn s items) bytes ≡ turn t items) × HasRead s t o bytes kids
   content_read scope bytes kids (text_alone _ _ _ says is_text kids_are) s items o fresh here none at room within deep =

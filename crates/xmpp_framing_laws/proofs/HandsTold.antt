@@ -1,5 +1,5 @@
 -- What a state has of the token in hand, from what is known behind bytes.
-use Rattle.std.proofs.Common.{◌≡◌, ℕ, Bool, true, false, if◌then◌else◌, List, [], ◌∷◌, None, codes, drop, length, refl, sym, ap, ◌∙◌}
+use Rattle.std.proofs.Common.{◌≡◌, ℕ, Bool, true, false, if◌then◌else◌, List, [], ◌∷◌, None, codes, drop, length, refl, sym, ap, ◌∙◌, arith}
 use Rattle.std.proofs.lemmas.Bool.{false≢true}
 use Rattle.xmpp_framing_laws.proofs.OffsetMarks.{Mark, fronts}
 use Rattle.xmpp_framing_laws.proofs.OffsetRuns.{Known, known_of}
@@ -22,11 +22,12 @@ pub are_kept : (m : Mode) (s : State) (more : List ℕ) → is_text m ≡ false 
 are_kept mode.Text s more e spot h = absurd (false≢true (sym e))
 are_kept mode.Reference s more e spot h = (h, spot)
 are_kept mode.Opening s more e spot h = (h.0 ∙ ap (λ l. 60 ∷ l) (sym spot.0), spot.0)
-are_kept mode.Bang s more e spot h = (h.0, drop (length s.token) (codes "<![CDATA["), fronts s.token more (codes "![CDATA[") h.0 h.1.0)
-are_kept mode.Question s more e spot h = (h.0, drop (length s.token) (codes "<?xml"), fronts s.token more (codes "?xml") h.0 h.1.0)
+are_kept mode.Bang s more e spot h =
+    let most = h.1.1 in (h.0, drop (length s.token) (codes "<![CDATA["), fronts s.token more (codes "![CDATA[") h.0 h.1.0, spot, omega (arith, ap length h.0, most))
+are_kept mode.Question s more e spot h = (h.0, drop (length s.token) (codes "<?xml"), fronts s.token more (codes "?xml") h.0 h.1.0, spot)
 are_kept mode.Declaration s more e spot h = let d = h.1 in (h.0, d.space, d.inside, d.is, d.is_space, d.no_end)
-are_kept mode.Tag s more e spot h = (h, spot.1, spot.2, spot.3)
-are_kept mode.Footer s more e spot h = (spot.1, spot.2, spot.3)
+are_kept mode.Tag s more e spot h = (h, spot.1, spot.2, spot.3, spot.0)
+are_kept mode.Footer s more e spot h = (spot.1, spot.2, spot.3, spot.4)
 are_kept mode.Section s more e spot h = (h.inside, h.is, h.no_end, λ none. h.counts none ∙ counted_is 0 h.inside)
 
 place : (s : State) (run : Bool) → is_text s.lexical.mode ≡ true → s.lexical.in_run ≡ run → token_place s ≡ (if run then s.places.token_at else s.places.at)

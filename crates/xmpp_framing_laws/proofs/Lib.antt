@@ -71,6 +71,18 @@ pub mod OneHand
 pub mod RowsTold
 pub mod RowsDecide
 pub mod ByteRowLaws
+pub mod ContextsTold
+pub mod ContextRuns
+pub mod TokenStays
+pub mod ContextStays
+pub mod FooterHands
+pub mod TagByteRows
+pub mod OpenRowLaws
+pub mod OpenRowsTold
+pub mod UsedBound
+pub mod LongRowLaws
+pub mod AllRowLaws
+pub mod ReferencePartLaws
 -- what is given
 pub mod GivenItems
 -- definitions at values

@@ -175,7 +175,7 @@ Spot mode.Text q more = Unit {0}
 Spot mode.Reference q more = list_all is_no_end more ≡ true
 Spot mode.Opening q more = (more ≡ []) × (q ≡ None)
 Spot mode.Tag q more = (is_empty more ≡ false) × (leads_tag more ≡ true) × (is_open_tag None more ≡ true) × (q ≡ quote_after None more)
-Spot mode.Footer q more = (is_empty more ≡ false) × (leads_tag more ≡ true) × (is_open_tag None more ≡ true) × (q ≡ quote_after None more)
+Spot mode.Footer q more = (is_empty more ≡ false) × (leads_tag more ≡ true) × (is_open_tag None more ≡ true) × (q ≡ quote_after None more) × (is_end (60 ∷ more) ≡ true)
 Spot mode.Bang q more = leads_tag more ≡ false
 Spot mode.Question q more = leads_tag more ≡ false
 Spot mode.Declaration q more = leads_tag more ≡ false
@@ -214,6 +214,10 @@ leads_more : (more : List ℕ) (b : ℕ) → leads_tag more ≡ false → leads_
 leads_more [] b h = absurd (false≢true (sym h))
 leads_more (x ∷ xs) b h = h
 
+end_on : (more : List ℕ) (b : ℕ) → is_end (60 ∷ more) ≡ true → is_end (60 ∷ (more ++ b ∷ [])) ≡ true
+end_on [] b h = absurd (false≢true h)
+end_on (x ∷ xs) b h = h
+
 leads_on : (more : List ℕ) (b : ℕ) → is_empty more ≡ false → leads_tag more ≡ true → leads_tag (more ++ b ∷ []) ≡ true
 leads_on [] b some h = absurd (false≢true (sym some))
 leads_on (x ∷ xs) b some h = h
@@ -247,7 +251,7 @@ abbrev SpotOn : ℕ → State → Type 0
 SpotOn b u = is_text u.lexical.mode ≡ false → u.fault ≡ None → Spot u.lexical.mode u.lexical.quote (b ∷ [])
 
 slash_spot : (b : ℕ) (q : Option ℕ) → b ≡ 47 → q ≡ None → Spot mode.Footer q (b ∷ [])
-slash_spot b q is n = subst (λ d. Spot mode.Footer q (d ∷ [])) (sym is) (refl, refl, refl, n)
+slash_spot b q is n = subst (λ d. Spot mode.Footer q (d ∷ [])) (sym is) (refl, refl, refl, n, refl)
 
 turn_by : (P : Turn → Type 0) (u v : Turn) (c : Bool) → (c ≡ true → P u) → (c ≡ false → P v) → P (if c then u else v)
 turn_by P u v true x y = x refl
@@ -368,7 +372,9 @@ spot_after mode.Opening t b more is none no_text h e n =
 spot_after mode.Tag t b more is none no_text h e n =
     let on = tag_on t b e n in subst (λ m. Spot m (in_tag t b).state.lexical.quote (more ++ b ∷ [])) (sym on.0) (grown (in_tag t b).state t.state.lexical.quote b more mode.Tag h on)
 spot_after mode.Footer t b more is none no_text h e n =
-    let on = footer_on t b is e n in subst (λ m. Spot m (in_footer t b).state.lexical.quote (more ++ b ∷ [])) (sym on.0) (grown (in_footer t b).state t.state.lexical.quote b more mode.Footer h on)
+    let on = footer_on t b is e n in
+    let tag = grown (in_footer t b).state t.state.lexical.quote b more mode.Footer (h.0, h.1, h.2, h.3) on in
+    subst (λ m. Spot m (in_footer t b).state.lexical.quote (more ++ b ∷ [])) (sym on.0) (tag.0, tag.1, tag.2, tag.3, end_on more b h.4)
 spot_after mode.Bang t b more is none no_text h e n = special_spot (in_bang t.state b).lexical.mode _ (more ++ b ∷ []) (bang_special t.state b (ap is_special is) e) (leads_more more b h)
 spot_after mode.Question t b more is none no_text h e n = special_spot (in_question t.state b).lexical.mode _ (more ++ b ∷ []) (question_special t.state b (ap is_special is) e) (leads_more more b h)
 spot_after mode.Declaration t b more is none no_text h e n = special_spot (in_declaration t.state b).lexical.mode _ (more ++ b ∷ []) (declaration_special t.state b (ap is_special is) e) (leads_more more b h)

@@ -1,13 +1,13 @@
 -- The bytes tell what a state has in hand.
 use Rattle.std.proofs.Common.{◌≡◌, ℕ, ⊎_elim, Bool, true, false, if◌then◌else◌, List, [], ◌∷◌, ◌++◌, None, length, refl, sym, ap, subst, ◌∙◌, append_assoc, append-nil}
-use Rattle.std.proofs.lemmas.Bool.{cases_Bool}
+use Rattle.std.proofs.lemmas.Bool.{cases_Bool, false≢true}
 use Rattle.std.specs.List.{list_all}
 use Rattle.xmpp_framing_laws.proofs.HandsTold.{are_kept, none_held, run_held}
 use Rattle.xmpp_framing_laws.proofs.OffsetMarks.{is_open}
 use Rattle.xmpp_framing_laws.proofs.OffsetRuns.{Known, known_of}
 use Rattle.xmpp_framing_laws.proofs.OffsetTags.{named_there}
 use Rattle.xmpp_framing_laws.proofs.OneOffset.{Hand, from_first, hand_marked, hand_no_text, hand_rest, markup_in_hand, one_front, one_run, reference_in_hand, text_rest}
-use Rattle.xmpp_framing_laws.specs.Hands.{AreKept, IsHolding, IsReading}
+use Rattle.xmpp_framing_laws.specs.Hands.{AreKept, IsHolding, IsReading, brackets_last}
 use Rattle.xmpp_framing_laws.specs.Offsets.{AreBefore, AreTokens, IsOpen, IsRun, character_left, first_of, is_no_end, is_reference}
 use Rattle.xmpp_framing_laws.specs.Streams.{place_of}
 use Rattle.xmpp_framing.specs.Machine.{run}
@@ -83,11 +83,23 @@ module _ (s : State) (bytes : List ℕ) (h : Known s bytes) where
       (λ (on : s.lexical.in_run ≡ true).
       let k = run_held s bytes h mode_text on in
       let fronts = one_front k.before before k.text text (from_first k.before k.ahead) (from_first before tokens) (text_rest k.text k.is_run) (text_rest text plain) (sym k.bytes_are ∙ are) in
-      record { text_mode = mode_text; at_is = k.at_is ∙ ap (λ l. place_of (length l)) fronts.0; held = k.held ∙ ap (character_left []) fronts.1 })
+      record {
+        text_mode = mode_text;
+        at_is = k.at_is ∙ ap (λ l. place_of (length l)) fronts.0;
+        held = k.held ∙ ap (character_left []) fronts.1;
+        counts = λ inner none begun. k.counts inner none ∙ ap (brackets_last 0) fronts.1;
+        none_begun = λ off. absurd (false≢true (sym off ∙ on));
+      })
       (λ (off : s.lexical.in_run ≡ false).
       let k = none_held s bytes h mode_text off in
       let fronts = one_front bytes before [] text (from_first bytes k.tokens) (from_first before tokens) (text_rest [] refl) (text_rest text plain) (append-nil bytes ∙ are) in
-      record { text_mode = mode_text; at_is = k.at_is ∙ ap (λ l. place_of (length l)) fronts.0; held = k.none_held ∙ ap (character_left []) fronts.1 })
+      record {
+        text_mode = mode_text;
+        at_is = k.at_is ∙ ap (λ l. place_of (length l)) fronts.0;
+        held = k.none_held ∙ ap (character_left []) fronts.1;
+        counts = λ inner none begun. absurd (false≢true (sym off ∙ begun));
+        none_begun = λ same. sym fronts.1;
+      })
       (cases_Bool s.lexical.in_run))
       (λ (no_text : is_text s.lexical.mode ≡ false). absurd (no_token_here before text tokens plain are no_text))
       (cases_Bool (is_text s.lexical.mode))

@@ -26,27 +26,31 @@ IsContent limits scope bytes kids = (rest : List ℕ) (more : Nodes) → Content
 -- content up to an element that has begun
 abbrev pub IsContentBefore : Limits → Scope → List ℕ → Nodes → Type 0
 IsContentBefore limits scope bytes kids =
-    (middle rest : List ℕ) (e : Elem) (more : Nodes) → SpellsIn limits scope middle e → ContentIn limits scope rest more → ContentIn limits scope (bytes ++ (middle ++ rest)) (joined kids (child e more))
+    ((middle rest : List ℕ) (e : Elem) (more : Nodes) → SpellsIn limits scope middle e → ContentIn limits scope rest more → ContentIn limits scope (bytes ++ (middle ++ rest)) (joined kids (child e more)))
+    × ContentIn limits scope bytes kids
 
 content_as : (limits : Limits) (scope : Scope) (a b : List ℕ) (k l : Nodes) → a ≡ b → k ≡ l → ContentIn limits scope a k → ContentIn limits scope b l
 content_as limits scope a b k l e f h = subst (ContentIn limits scope b) f (subst (λ x. ContentIn limits scope x k) e h)
 
 module _ (limits : Limits) (scope : Scope) (bytes : List ℕ) (kids : Nodes) where
+  pub text_ends : (front says : List ℕ) → IsContent limits scope bytes kids → IsText front says → ContentIn limits scope (bytes ++ front) (joined kids (text_node says))
+  text_ends front says h t = h front (text_node says) (text_in limits scope front (text_node says) says t refl)
+
   pub text_before : (front says : List ℕ) → IsContent limits scope bytes kids → IsText front says → IsContentBefore limits scope (bytes ++ front) (joined kids (text_node says))
-  text_before front says h t middle rest e more inner outer =
-      content_as limits scope (bytes ++ (front ++ (middle ++ rest))) _ (joined kids (joined (text_node says) (child e more))) _
-      (sym (append_assoc bytes front (middle ++ rest))) (sym (joined_assoc kids (text_node says) (child e more)))
-      (h (front ++ (middle ++ rest)) (joined (text_node says) (child e more))
-      (element_in limits scope _ _ front says middle rest e more t inner outer refl refl))
+  text_before front says h t = (
+    λ middle rest e more inner outer.
+        content_as limits scope (bytes ++ (front ++ (middle ++ rest))) _ (joined kids (joined (text_node says) (child e more))) _
+        (sym (append_assoc bytes front (middle ++ rest))) (sym (joined_assoc kids (text_node says) (child e more)))
+        (h (front ++ (middle ++ rest)) (joined (text_node says) (child e more))
+        (element_in limits scope _ _ front says middle rest e more t inner outer refl refl)),
+    text_ends front says h t,
+  )
 
   pub element_behind : (middle : List ℕ) (e : Elem) → IsContentBefore limits scope bytes kids → SpellsIn limits scope middle e → IsContent limits scope (bytes ++ middle) (joined kids (child e no_nodes))
   element_behind middle e h inner rest more outer =
       content_as limits scope (bytes ++ (middle ++ rest)) _ (joined kids (child e more)) _
       (sym (append_assoc bytes middle rest)) (sym (joined_assoc kids (child e no_nodes) more))
-      (h middle rest e more inner outer)
-
-  pub text_ends : (front says : List ℕ) → IsContent limits scope bytes kids → IsText front says → ContentIn limits scope (bytes ++ front) (joined kids (text_node says))
-  text_ends front says h t = h front (text_node says) (text_in limits scope front (text_node says) says t refl)
+      (h.0 middle rest e more inner outer)
 
 -- ---- an open element
 

@@ -50,8 +50,8 @@ no_fault f e = absurd cc
 abbrev pub inner : State → OpenElement → Mode → State
 inner s o m = record s { here = Some o; lexical = record s.lexical { mode = m } }
 
-around_more : (limits : Limits) (used next : ℕ) (p : Phase) (scopes : List Scope) (name : List ℕ) (below : List OpenElement) (o : OpenElement) (items : List Item) (bytes hand : List ℕ) (b : ℕ) → (limits.bytes < 2 ^ 64 → next ≡ used + 1) → Around limits used p scopes name below o items bytes hand → Around limits next p scopes name below o items (bytes ++ b ∷ []) (hand ++ b ∷ [])
-around_more limits used next p scopes name below o items bytes hand b is h = record {
+around_more : (limits : Limits) (used next : ℕ) (p : Phase) (scopes : List Scope) (name : List ℕ) (below : List OpenElement) (o : OpenElement) (items : List Item) (bytes hand : List ℕ) (b : ℕ) → (limits.bytes < 2 ^ 64 → next ≡ used + 1) → (limits.bytes < 2 ^ 64 → next ≤ limits.bytes) → Around limits used p scopes name below o items bytes hand → Around limits next p scopes name below o items (bytes ++ b ∷ []) (hand ++ b ∷ [])
+around_more limits used next p scopes name below o items bytes hand b is fits h = record {
   between = h.between;
   base = h.base;
   own = h.own;
@@ -63,6 +63,7 @@ around_more limits used next p scopes name below o items bytes hand b is h = rec
   level = h.level;
   stream = h.stream;
   count = λ few. counted_more used next h.done bytes b (is few) (h.count few);
+  fits = fits;
   shallow = h.shallow;
   covered = h.covered;
   open_level = h.open_level;
@@ -73,7 +74,7 @@ around_more limits used next p scopes name below o items bytes hand b is h = rec
 same_name : (e : Elem) (more : Nodes) → (namespace_of (with_nodes e more) ≡ namespace_of e) × (name_of (with_nodes e more) ≡ name_of e)
 same_name (element ns name attrs kids) more = (refl, refl)
 
-top_more : (o : OpenElement) (more : Nodes) (below : List OpenElement) → TopIsNoHeader o below → TopIsNoHeader (with_more o more) below
+pub top_more : (o : OpenElement) (more : Nodes) (below : List OpenElement) → TopIsNoHeader o below → TopIsNoHeader (with_more o more) below
 top_more o more [] h = λ n. let same = same_name o.element more in h (sym same.0 ∙ n.0, sym same.1 ∙ n.1)
 top_more o more (p ∷ ps) h = h
 
@@ -92,8 +93,11 @@ module _ (given : Limits) (s : State) (o : OpenElement) (items : List Item) (b :
   counts : s.limits.bytes < 2 ^ 64 → s.places.used ≡ used + 1
   counts few = (room few (a.count few).0).1
 
+  fits : s.limits.bytes < 2 ^ 64 → s.places.used ≤ s.limits.bytes
+  fits few = let r = room few (a.count few).0 in let most = r.0 in let is = r.1 in omega (arith, most, is)
+
   around : Around s.limits s.places.used s.lexical.phase s.scopes s.name s.below o items (bytes ++ b ∷ []) (hand ++ b ∷ [])
-  around = around_more s.limits used s.places.used s.lexical.phase s.scopes s.name s.below o items bytes hand b counts a
+  around = around_more s.limits used s.places.used s.lexical.phase s.scopes s.name s.below o items bytes hand b counts fits a
 
   failed : (r : State) (at : ℕ) (w : Why) → P (fails r at w)
   failed r at w none = absurd (no_fault (record { at = at; why = w }) none)
@@ -273,6 +277,7 @@ module _ (given : Limits) (s : State) (o : OpenElement) (items : List Item) (b :
               level = (a.level ++ h.text) ++ whole;
               stream = a.stream;
               count = count_on;
+              fits = fits;
               shallow = leaf_shallow t near;
               covered = a.covered;
               open_level = level_resumed s.limits (scope_in a.rest) a.own texted (a.level ++ h.text) whole (element_from t) covered spelled;
@@ -302,6 +307,7 @@ module _ (given : Limits) (s : State) (o : OpenElement) (items : List Item) (b :
               level = whole;
               stream = a.stream;
               count = count_on;
+              fits = fits;
               shallow = (let room_for = next_level near in omega (arith, room_for), texted_shallow);
               covered = subst (λ l. AreCovered s.limits a.base l (texted ∷ s.below) (a.outer ++ (a.level ++ h.text))) (sym a.scopes_are) (a.outer, a.level ++ h.text, a.covered, covered, refl);
               open_level = level_begun s.limits (scope_in s.scopes) whole w.0 t w.1 w.2 n;
@@ -377,6 +383,7 @@ module _ (given : Limits) (s : State) (o : OpenElement) (items : List Item) (b :
           level = down.1 ++ last;
           stream = a.stream;
           count = count_on;
+          fits = fits;
           shallow = closing_shallow p ps low;
           covered = down.2;
           open_level = level_resumed s.limits (scope_in rest) own p down.1 last closing down.3 spelled;

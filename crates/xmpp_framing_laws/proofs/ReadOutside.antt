@@ -24,7 +24,7 @@ use Rattle.xmpp_names.specs.declared.fault.StartWhy.{StartWhy}
 use Rattle.xmpp_framing.proofs.LargerLimits.{in_largest}
 use Rattle.xmpp_framing_laws.proofs.OpenLevels.{AreCovered, leaf_spelled, level_begun}
 use Rattle.xmpp_framing_laws.proofs.SpelledTrees.{spelled_stays}
-use Rattle.xmpp_framing_laws.proofs.ReadSoFar.{After, FooterIn, Kept, Outside, TokenIn, TopIsNoHeader, in_force, kept_on}
+use Rattle.xmpp_framing_laws.proofs.ReadSoFar.{After, BeginsNoEnd, FooterIn, Kept, Outside, TokenIn, TopIsNoHeader, in_force, kept_on}
 use Rattle.xmpp_framing_laws.proofs.TextFronts.{front_seen, no_front}
 use Rattle.xmpp_framing_laws.proofs.ReadCharacters.{ascii_alone, grown_after, nothing_judged, Judged}
 use Rattle.xmpp_writer.specs.Canon.{streams_namespace}
@@ -95,7 +95,7 @@ init-append (x ∷ []) b = refl
 init-append (x ∷ y ∷ ys) b = ap (λ l. x ∷ l) (init-append (y ∷ ys) b)
 
 -- white space in front of the `>` of an end tag
-footer_tag : (token white name : List ℕ) (b : ℕ) → b ≡ 62 → are_white white ≡ true → IsEndTag (token ++ b ∷ []) name → IsEndTag (token ++ (white ++ b ∷ [])) name
+pub footer_tag : (token white name : List ℕ) (b : ℕ) → b ≡ 62 → are_white white ≡ true → IsEndTag (token ++ b ∷ []) name → IsEndTag (token ++ (white ++ b ∷ [])) name
 footer_tag token white name b is w h =
     let front : token ≡ 60 ∷ 47 ∷ (name ++ h.space) =
     sym (init-append token 62) ∙ ap init (ap (λ d. token ++ d ∷ []) (sym is) ∙ h.bytes_are ∙ ap (λ l. 60 ∷ 47 ∷ l) (sym (append_assoc name h.space (62 ∷ []))))
@@ -124,6 +124,18 @@ named_by scope bytes (Ok t) is e =
 named_header : (s : State) → is_header s ≡ true → Named (scope_in s.scopes) s.token
 unfolding is_header
 named_header s e = named_by (scope_in s.scopes) s.token (start_of largest_limits (scope_in s.scopes) s.token) refl e
+
+begins_more : (token : List ℕ) (b : ℕ) → BeginsNoEnd token → BeginsNoEnd (token ++ b ∷ [])
+begins_more [] b h = absurd (omega (arith, h.0))
+begins_more (x ∷ []) b h = absurd (omega (arith, h.0))
+begins_more (x ∷ y ∷ rest) b h = (omega arith, h.1)
+
+begins_with : (token : List ℕ) (b : ℕ) → token ≡ 60 ∷ [] → (b == 47 && true) ≡ false → BeginsNoEnd (token ++ b ∷ [])
+begins_with token b is other = subst (λ t. BeginsNoEnd (t ++ b ∷ [])) (sym is) (omega arith, slash (b == 47) other)
+  where
+    slash : (x : Bool) → (x && true) ≡ false → x ≡ false
+    slash true h = absurd (true≢false h)
+    slash false h = refl
 
 -- a state outside elements
 abbrev pub outer : State → Mode → State
@@ -189,13 +201,16 @@ module _ (given : Limits) (s : State) (items : List Item) (b : ℕ) (bytes : Lis
         kept = on;
         hand = (
           low,
-          record {
-            done = bytes;
-            stream = h.2 (ascii_alone s.pending b (omega (arith, is)) c).0;
-            count = λ few. (omega arith, let n = length-append bytes (b ∷ []) in omega (arith, n));
-            bytes_are = ap (λ l. bytes ++ l) (ap (λ d. d ∷ []) is ∙ ap (λ t. t ++ 60 ∷ []) (sym h.0));
-            place_is = k.at_is;
-          },
+          (
+            ap (λ t. t ++ 60 ∷ []) h.0,
+            record {
+              done = bytes;
+              stream = h.2 (ascii_alone s.pending b (omega (arith, is)) c).0;
+              count = λ few. (omega arith, let n = length-append bytes (b ∷ []) in omega (arith, n));
+              bytes_are = ap (λ l. bytes ++ l) (ap (λ d. d ∷ []) is ∙ ap (λ t. t ++ 60 ∷ []) (sym h.0));
+              place_is = k.at_is;
+            },
+          ),
         );
       }
 
@@ -208,12 +223,12 @@ module _ (given : Limits) (s : State) (items : List Item) (b : ℕ) (bytes : Lis
 
   -- ---- declarations
 
-  pub outside_bang : P (in_bang (outer s mode.Bang) b)
+  pub outside_bang : used ≡ 0 → P (in_bang (outer s mode.Bang) b)
   unfolding in_bang
-  outside_bang =
+  outside_bang none_used =
       let r = outer s mode.Bang in
       cond_both _ (if length r.token == 8 then section_opened r else gathered r b) (token_fails r why.Restricted) P
-      (λ e. cond_both (length r.token == 8) (section_opened r) (gathered r b) P (λ f. failed r items _ _) (λ f none. record { kept = on; hand = (low, tt) }))
+      (λ e. cond_both (length r.token == 8) (section_opened r) (gathered r b) P (λ f. failed r items _ _) (λ f none. record { kept = on; hand = (low, idle none_used) }))
       (λ e. failed r items _ _)
 
   outside_question : Room → Outside mode.Question (outer s mode.Question) used items bytes → P (in_question (outer s mode.Question) b)
@@ -283,12 +298,12 @@ module _ (given : Limits) (s : State) (items : List Item) (b : ℕ) (bytes : Lis
   footer_gathers h =
       let r = outer s mode.Footer in
       cond_both (is_some s.lexical.quote || is_quote b) _ (if _ then gathered r b else (if is_white b then r else record r { lexical = record r.lexical { spoiled = true } })) P
-      (λ e none. record { kept = on; hand = (low, λ f. absurd (true≢false f)) })
+      (λ e none. record { kept = on; hand = (low, (idle h.0, λ f. absurd (true≢false f))) })
       (λ e. cond_both _ (gathered r b) (if is_white b then r else record r { lexical = record r.lexical { spoiled = true } }) P
-      (λ f none. record { kept = on; hand = (low, λ g. footer_more (h g) (ltb-true (length s.token) (length s.name + 2) f)) })
+      (λ f none. record { kept = on; hand = (low, (idle h.0, λ g. footer_more (h.1 g) (ltb-true (length s.token) (length s.name + 2) f))) })
       (λ f. cond_both (is_white b) r (record r { lexical = record r.lexical { spoiled = true } }) P
-      (λ w none. record { kept = on; hand = (low, λ g. footer_white (h g) (ltb-false (length s.token) (length s.name + 2) f) w) })
-      (λ w none. record { kept = on; hand = (low, λ g. absurd (true≢false g)) })))
+      (λ w none. record { kept = on; hand = (low, (idle h.0, λ g. footer_white (h.1 g) (ltb-false (length s.token) (length s.name + 2) f) w)) })
+      (λ w none. record { kept = on; hand = (low, (idle h.0, λ g. absurd (true≢false g))) })))
 
   footer_ends : FooterIn s.limits now items bytes s.token → (b == 62) ≡ true → is_between s.lexical.phase ≡ true → is_name_of (end_of (s.token ++ b ∷ [])) s.name ≡ true
       → StreamIn s.limits (in_force phase.Ended s.scopes s.name) (bytes ++ b ∷ []) (items ++ item.Footer ∷ [])
@@ -312,7 +327,7 @@ module _ (given : Limits) (s : State) (items : List Item) (b : ℕ) (bytes : Lis
       (λ f none.
       let p = and_parts _ _ f in
       let q = and_parts _ _ p.1 in
-      record { kept = on; hand = (low, (refl, refl, λ n. footer_ends (h (not-true s.lexical.spoiled p.0)) e q.0 q.1)) })
+      record { kept = on; hand = (low, (refl, refl, λ n. footer_ends (h.1 (not-true s.lexical.spoiled p.0)) e q.0 q.1)) })
       (λ f. failed r items _ _)
 
   pub outside_footer : Outside mode.Footer (outer s mode.Footer) used items bytes → After given b bytes (in_footer (turn (outer s mode.Footer) items) b)
@@ -456,6 +471,7 @@ module _ (given : Limits) (s : State) (items : List Item) (b : ℕ) (bytes : Lis
                 level = whole;
                 stream = subst (λ p. StreamIn s.limits (in_force p s.scopes s.name) h.done items) between h.stream;
                 count = h.count;
+                fits = λ few. let n = counted_length s.places.used h.done (bytes ++ b ∷ []) (s.token ++ b ∷ []) (h.count few) h.bytes_are in let most = short few in omega (arith, n, most);
                 shallow = subst (AreShallow s.limits.depth o) (sym low) (shallow near);
                 covered = subst (λ l. AreCovered s.limits s.scopes s.scopes l []) (sym low) (refl, refl);
                 open_level = level_begun s.limits (scope_in s.scopes) whole w.0 t w.1 w.2 n;
@@ -491,15 +507,15 @@ module _ (given : Limits) (s : State) (items : List Item) (b : ℕ) (bytes : Lis
     unfolding tag_closes tag_outside
     closes_case e = at_phase e s.lexical.phase refl
 
-  tag_case : (m : Mode) → Room → HasToken → After given b bytes (in_tag (turn (outer s m) items) b)
+  tag_case : (m : Mode) → Room → BeginsNoEnd (s.token ++ b ∷ []) → HasToken → After given b bytes (in_tag (turn (outer s m) items) b)
   unfolding in_tag
-  tag_case m room h =
+  tag_case m room begins h =
       let more = grows room h in
       cond_both (b == 62 && not (is_some s.lexical.quote)) (tag_closes (turn (full m) items)) (turn (tag_gathered (outer s m) b) items) Q
-      (λ e. closes_case m more (whole_short room h) (and_parts _ _ e).0) (λ e none. record { kept = on; hand = (low, more) })
+      (λ e. closes_case m more (whole_short room h) (and_parts _ _ e).0) (λ e none. record { kept = on; hand = (low, (begins, more)) })
 
   outside_tag : Room → Outside mode.Tag (outer s mode.Tag) used items bytes → After given b bytes (in_tag (turn (outer s mode.Tag) items) b)
-  outside_tag room h = tag_case mode.Tag room h
+  outside_tag room h = tag_case mode.Tag room (begins_more s.token b h.0) h.1
 
   -- the byte shows that a declaration begins, or a tag
   asks : (b == 33) ≡ false → (b == 63) ≡ true → may_declare (outer s mode.Opening) ≡ true → shows_unlimited (outer s mode.Opening) b ≡ false
@@ -514,23 +530,23 @@ module _ (given : Limits) (s : State) (items : List Item) (b : ℕ) (bytes : Lis
 
   outside_opening : (s.limits.bytes < 2 ^ 64 → 0 < used → shows_unlimited (outer s mode.Opening) b ≡ false → (used + 1 ≤ s.limits.bytes) × (s.places.used ≡ used + 1)) → Outside mode.Opening (outer s mode.Opening) used items bytes → After given b bytes (in_opening (turn (outer s mode.Opening) items) b)
   unfolding in_opening
-  outside_opening room h =
+  outside_opening room (alone, h) =
       let r = outer s mode.Opening in
       let question = turn (if may_declare r then gathered_in r mode.Question b else token_fails r why.Restricted) items in
       let footer = turn (gathered_in (unlimited r) mode.Footer b) items in
       let last = (if b == 47 && true then footer else in_tag (turn r items) b) in
       cond_both (b == 33) (turn (gathered_in (unlimited r) mode.Bang b) items) (if b == 63 then question else last) Q
-      (λ e none. record { kept = on; hand = (low, tt) })
+      (λ e none. record { kept = on; hand = (low, refl) })
       (λ e. cond_both (b == 63) question last Q
       (λ f. cond_both (may_declare r) (gathered_in r mode.Question b) (token_fails r why.Restricted) P (λ g none. record { kept = on; hand = (low, (g, grows (λ few p. room few p (asks e f g)) h)) }) (λ g. failed r items _ _))
-      (λ f. cond_both (b == 47 && true) footer (in_tag (turn r items) b) Q (λ g none. record { kept = on; hand = (low, λ n. outside_footer_begun h) }) (λ g. tag_case mode.Opening (λ few p. room few p (begins_tag e f g)) h)))
+      (λ f. cond_both (b == 47 && true) footer (in_tag (turn r items) b) Q (λ g none. record { kept = on; hand = (low, (refl, λ n. outside_footer_begun h)) }) (λ g. tag_case mode.Opening (λ few p. room few p (begins_tag e f g)) (begins_with s.token b alone g) h)))
 
   -- a byte outside elements
   pub outside_byte : (m : Mode) → (s.limits.bytes < 2 ^ 64 → 0 < used → shows_unlimited (outer s m) b ≡ false → (used + 1 ≤ s.limits.bytes) × (s.places.used ≡ used + 1)) → Outside m (outer s m) used items bytes → After given b bytes (taken_in m (turn (outer s m) items) b)
   outside_byte mode.Text room h = outside_text h
   outside_byte mode.Reference room h = absurd h
   outside_byte mode.Opening room h = outside_opening room h
-  outside_byte mode.Bang room h = outside_bang
+  outside_byte mode.Bang room h = outside_bang h
   outside_byte mode.Question room h = outside_question (λ few p. room few p refl) h
   outside_byte mode.Declaration room h = outside_declaration (λ few p. room few p refl) h
   outside_byte mode.Tag room h = outside_tag (λ few p. room few p refl) h

@@ -1,6 +1,6 @@
 -- What a state knows of the bytes behind it: the stream of the items so far, and the bytes in hand.
 use Rattle.std.proofs.Common.{◌≡◌, ℕ, ◌+◌, ◌^◌, ◌<◌, ◌≤◌, ◌⊎◌, Bool, true, false, if◌then◌else◌, List, [], ◌∷◌, ◌++◌, codes, length, take, Option, Some, None, arith, length-append}
-use Rattle.xmpp_tokens.specs.Tags.{are_white}
+use Rattle.xmpp_tokens.specs.Tags.{are_white, is_end}
 use Rattle.xmpp_names.specs.Scopes.{Scope}
 use Rattle.xmpp_framing_laws.proofs.OpenLevels.{AreCovered, OpenLevel}
 use Rattle.xmpp_framing_laws.proofs.TextFronts.{Gathered, Seen}
@@ -44,15 +44,19 @@ pub record FooterIn (limits : Limits) (now : InForce) (items : List Item) (bytes
   pub is_white : are_white white ≡ true
   pub whole : (white ≡ []) ⊎ (length now.name + 2 ≤ length token)
 
+-- the tag in hand is no end tag
+abbrev pub BeginsNoEnd : List ℕ → Type 0
+BeginsNoEnd token = (2 ≤ length token) × (is_end token ≡ false)
+
 abbrev pub Outside : Mode → State → ℕ → List Item → List ℕ → Type 0
 Outside mode.Text s used items bytes = (s.token ≡ []) × (used ≡ 0) × (s.pending ≡ [] → StreamIn s.limits (in_force s.lexical.phase s.scopes s.name) bytes items)
 Outside mode.Reference s used items bytes = ⊥
-Outside mode.Opening s used items bytes = TokenIn s.limits used (in_force s.lexical.phase s.scopes s.name) items bytes s.token s.places.token_at
-Outside mode.Bang s used items bytes = Unit {0}
+Outside mode.Opening s used items bytes = (s.token ≡ 60 ∷ []) × TokenIn s.limits used (in_force s.lexical.phase s.scopes s.name) items bytes s.token s.places.token_at
+Outside mode.Bang s used items bytes = used ≡ 0
 Outside mode.Question s used items bytes = (admits_declaration s.lexical.phase ≡ true) × TokenIn s.limits used (in_force s.lexical.phase s.scopes s.name) items bytes s.token s.places.token_at
 Outside mode.Declaration s used items bytes = (admits_declaration s.lexical.phase ≡ true) × TokenIn s.limits used (in_force s.lexical.phase s.scopes s.name) items bytes s.token s.places.token_at
-Outside mode.Tag s used items bytes = TokenIn s.limits used (in_force s.lexical.phase s.scopes s.name) items bytes s.token s.places.token_at
-Outside mode.Footer s used items bytes = s.lexical.spoiled ≡ false → FooterIn s.limits (in_force s.lexical.phase s.scopes s.name) items bytes s.token
+Outside mode.Tag s used items bytes = BeginsNoEnd s.token × TokenIn s.limits used (in_force s.lexical.phase s.scopes s.name) items bytes s.token s.places.token_at
+Outside mode.Footer s used items bytes = (used ≡ 0) × (s.lexical.spoiled ≡ false → FooterIn s.limits (in_force s.lexical.phase s.scopes s.name) items bytes s.token)
 Outside mode.Section s used items bytes = ⊥
 
 -- ---- in an element
@@ -75,6 +79,7 @@ pub record Around (limits : Limits) (used : ℕ) (p : Phase) (scopes : List Scop
   pub level : List ℕ
   pub stream : StreamIn limits (in_force phase.Between base name) done items
   pub count : limits.bytes < 2 ^ 64 → IsCounted used done bytes
+  pub fits : limits.bytes < 2 ^ 64 → used ≤ limits.bytes
   pub shallow : AreShallow limits.depth o below
   pub covered : AreCovered limits base rest below outer
   pub open_level : OpenLevel limits (scope_in rest) own o level

@@ -43,7 +43,7 @@ fault_at at w = Some (record { at = at; why = w })
 none_some : (f : Fault) → Some f ≡ None → ⊥
 none_some f e = cc
 
-one_some : (f g : Fault) → Some f ≡ Some g → f ≡ g
+pub one_some : (f g : Fault) → Some f ≡ Some g → f ≡ g
 one_some f g e = cc
 
 told : (n : ℕ) (y : Why) (at : ℕ) (w : Why) → fault_at n y ≡ fault_at at w → (at ≡ n) × (w ≡ y)

@@ -33,10 +33,10 @@ use Rattle.xmpp_framing.specs.declared.states.Phase.TheVariants as phase
 -- ---- white space
 
 -- behind bytes that gave these items the framer stands outside elements
-record IsBehind (s t : State) (before after : List Item) (bytes : List ℕ) (p : Phase) (scope : Scope) (name : List ℕ) : Type 0 where
-  run_is : run (turn s before) bytes ≡ turn t after
-  stands : StandsOutside t p scope name
-  limits : t.limits ≡ s.limits
+pub record IsBehind (s t : State) (before after : List Item) (bytes : List ℕ) (p : Phase) (scope : Scope) (name : List ℕ) : Type 0 where
+  pub run_is : run (turn s before) bytes ≡ turn t after
+  pub stands : StandsOutside t p scope name
+  pub limits : t.limits ≡ s.limits
 
 -- the place behind bytes that led there without a fault
 pub place_there : (s t : State) (before after : List Item) (bytes : List ℕ) (offset : ℕ) → s.places.at ≡ place_of offset → run (turn s before) bytes ≡ turn t after → t.fault ≡ None
@@ -242,7 +242,7 @@ element_within s t scope bytes e spelled same within = subst (λ l. IsElementWit
 header_at : (at place : ℕ) (h : Header) (ends : Bool) (given items : List Item) → at ≡ place → items ≡ given ++ header_items place h ends → items ≡ given ++ header_items at h ends
 header_at at place h ends given items same are = are ∙ ap (λ n. given ++ header_items n h ends) (sym same)
 
-abbrev Reads : Limits → InForce → List ℕ → List Item → Type 0
+abbrev pub Reads : Limits → InForce → List ℕ → List Item → Type 0
 Reads limits now bytes items = (t : State) × IsBehind (from_start limits) t [] items bytes now.phase now.scope now.name
 
 from_first : (limits : Limits) (front : List ℕ) (t : State) (items : List Item) (p : Phase) (scope : Scope) (name : List ℕ) → IsBehind (from_start limits) t [] items front p scope name
@@ -250,7 +250,7 @@ from_first : (limits : Limits) (front : List ℕ) (t : State) (items : List Item
 from_first limits front t items p scope name h =
     place_there (from_start limits) t [] items front 0 refl h.run_is h.stands.no_fault ∙ ap place_of (zero-add (length front))
 
-stream_reads : (limits : Limits) (now : InForce) (bytes : List ℕ) (items : List Item) (stream : StreamTo now bytes items) → IsStreamWithin limits now bytes items stream → Reads limits now bytes items
+pub stream_reads : (limits : Limits) (now : InForce) (bytes : List ℕ) (items : List Item) (stream : StreamTo now bytes items) → IsStreamWithin limits now bytes items stream → Reads limits now bytes items
 stream_reads limits now bytes items (nothing _ _ _ is_first no_scope no_name no_bytes no_items) within = (
   from_start limits,
   record {

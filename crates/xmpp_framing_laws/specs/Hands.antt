@@ -1,9 +1,10 @@
 -- What a state has of the token in hand, said of the bytes: so the rows of the table of faults, which name a state, are
 -- about bytes.
-use Rattle.std.specs.Prelude.{ℕ, ◌≡◌, true, false, List, [], ◌∷◌, ◌++◌, None, codes, length}
+use Rattle.std.specs.Prelude.{ℕ, ◌≡◌, ◌<◌, true, false, List, [], ◌∷◌, ◌++◌, None, codes, length}
 use Rattle.std.specs.List.{list_all}
 use Rattle.std.specs.Option.{is_some}
 use Rattle.xmpp_tokens.specs.Characters.{is_white}
+use Rattle.xmpp_tokens.specs.Tags.{is_empty, is_end}
 use Rattle.xmpp_framing.specs.ManyBytes.{quote_after}
 use Rattle.xmpp_framing.specs.States.{State, is_text, token_place}
 use Rattle.xmpp_framing.specs.TextSteps.{brackets_behind}
@@ -24,12 +25,12 @@ abbrev pub AreKept : Mode → State → List ℕ → Type 0
 AreKept mode.Text s more = ⊥
 AreKept mode.Reference s more = (s.token ≡ more) × (list_all is_no_end more ≡ true)
 AreKept mode.Opening s more = (s.token ≡ 60 ∷ more) × (more ≡ [])
-AreKept mode.Bang s more = (s.token ≡ 60 ∷ more) × (rest : List ℕ) × (codes "![CDATA[" ≡ more ++ rest)
-AreKept mode.Question s more = (s.token ≡ 60 ∷ more) × (rest : List ℕ) × (codes "?xml" ≡ more ++ rest)
+AreKept mode.Bang s more = (s.token ≡ 60 ∷ more) × (rest : List ℕ) × (codes "![CDATA[" ≡ more ++ rest) × (leads_tag more ≡ false) × (length more < 8)
+AreKept mode.Question s more = (s.token ≡ 60 ∷ more) × (rest : List ℕ) × (codes "?xml" ≡ more ++ rest) × (leads_tag more ≡ false)
 AreKept mode.Declaration s more =
     (s.token ≡ 60 ∷ more) × (space : ℕ) × (inside : List ℕ) × (more ≡ codes "?xml" ++ space ∷ inside) × (is_white space ≡ true) × (has_declaration_end inside ≡ false)
-AreKept mode.Tag s more = (s.token ≡ 60 ∷ more) × (leads_tag more ≡ true) × (is_open_tag None more ≡ true) × (s.lexical.quote ≡ quote_after None more)
-AreKept mode.Footer s more = (leads_tag more ≡ true) × (is_open_tag None more ≡ true) × (s.lexical.quote ≡ quote_after None more)
+AreKept mode.Tag s more = (s.token ≡ 60 ∷ more) × (leads_tag more ≡ true) × (is_open_tag None more ≡ true) × (s.lexical.quote ≡ quote_after None more) × (is_empty more ≡ false)
+AreKept mode.Footer s more = (leads_tag more ≡ true) × (is_open_tag None more ≡ true) × (s.lexical.quote ≡ quote_after None more) × (is_end (60 ∷ more) ≡ true)
 AreKept mode.Section s more = (inside : List ℕ) × (more ≡ codes "![CDATA[" ++ inside) × (has_section_end inside ≡ false) × (s.pending ≡ [] → s.lexical.brackets ≡ brackets_last 0 inside)
 
 -- A token is in hand: markup, or a reference.
@@ -70,3 +71,5 @@ pub record IsReading (s : State) (before text : List ℕ) : Type 0 where
   pub text_mode : is_text s.lexical.mode ≡ true
   pub at_is : token_place s ≡ place_of (length before)
   pub held : s.pending ≡ character_left [] text
+  pub counts : is_some s.here ≡ true → s.pending ≡ [] → s.lexical.in_run ≡ true → s.lexical.brackets ≡ brackets_last 0 text
+  pub none_begun : s.lexical.in_run ≡ false → text ≡ []

@@ -15,5 +15,10 @@ pub mod ByteRows
 pub mod Within
 pub mod StreamLimits
 pub mod Prefixes
+pub mod Contexts
+pub mod ReferenceParts
+pub mod OpenRows
+pub mod LongRows
+pub mod AllRows
 pub mod Fitting
 pub mod WrittenStreams
