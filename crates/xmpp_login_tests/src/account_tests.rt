@@ -65,7 +65,8 @@ fn are_found(accounts: &Accounts, given: &[(&'static str, u32)]) -> bool {
         let Some(found) = accounts.find(row.0) else {
             return false;
         };
-        if found.place != place || found.credentials.iterations != row.1 {
+        let credentials = found.credentials;
+        if found.place != place || credentials.iterations != row.1 {
             return false;
         }
         place = place.saturating_add(1);
