@@ -1,5 +1,5 @@
 -- What an exchange is before and behind its reply.
-use Rattle.std.proofs.Common.{◌≡◌, ℕ, Bool, true, false, cond, ◌&&◌, List, None, Result, Ok, Err, refl, ap}
+use Rattle.std.proofs.Common.{◌≡◌, ℕ, Bool, true, false, cond, ◌&&◌, List, None, Result, Ok, Err, refl}
 use Rattle.xmpp_client_login.specs.LoginRows.{unanswered}
 use Rattle.xmpp_scram.specs.Exchange.{ClientView, ReplyView, begun_client, client_first_message, expecting, is_plain}
 use Rattle.xmpp_scram.specs.declared.fault.ScramFault.{ScramFault}

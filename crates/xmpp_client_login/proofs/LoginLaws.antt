@@ -1,11 +1,10 @@
 -- A client logs in only where the verifier is right, and wherever its password is the right one.
-use Rattle.std.proofs.Common.{◌≡◌, ◌≢◌, ℕ, Bool, true, false, cond, List, Option, Some, None, Result, Ok, Err, codes, refl, sym, ap, ◌∙◌}
+use Rattle.std.proofs.Common.{◌≡◌, ◌≢◌, ℕ, true, List, Option, Some, Result, Ok, Err, codes, refl, sym, ap, ◌∙◌}
 use Rattle.std.specs.Prelude.{MatchResult}
-use Rattle.xmpp_client_login.specs.LoginRows.{authing_row, begun, challenged, checked, client_header, features1_row, offered, replied, responding_row, sends, succeeded}
-use Rattle.xmpp_client_login.specs.Logins.{HasVerifier, IsJudged, LogsIn, PasswordsLogIn, VerifiersLogIn}
-use Rattle.xmpp_client_login.specs.Puts.{Opening, Row, Whole}
+use Rattle.xmpp_client_login.specs.LoginRows.{begun, challenged, checked, features1_row, offered, replied, responding_row, sends, succeeded}
+use Rattle.xmpp_client_login.specs.Logins.{HasVerifier, PasswordsLogIn, VerifiersLogIn}
+use Rattle.xmpp_client_login.specs.Puts.{Row, Whole}
 use Rattle.xmpp_client_login.specs.declared.account.ClientAccount.{ClientAccount}
-use Rattle.xmpp_client_login.specs.declared.answers.Next.{Next}
 use Rattle.xmpp_client_login.specs.declared.answers.Next.TheVariants as next
 use Rattle.xmpp_client_login.specs.declared.login_fault.LoginFault.TheVariants as fault
 use Rattle.xmpp_client_login.specs.declared.login_state.LoginState.TheVariants as state
@@ -13,13 +12,10 @@ use Rattle.xmpp_features.specs.Features.{features_read}
 use Rattle.xmpp_features.specs.declared.features.Features.{Features}
 use Rattle.xmpp_payload.specs.declared.fault.ExtFault.{ExtFault}
 use Rattle.xmpp_sasl.specs.Readings.{carrier_read}
-use Rattle.xmpp_sasl.specs.Sasl.{auth_of, carrier}
-use Rattle.xmpp_scram.proofs.Judging.{all_exact}
-use Rattle.xmpp_scram.proofs.ReadBack.{goes_through}
-use Rattle.xmpp_scram.proofs.ReadWritten.{read_back}
-use Rattle.xmpp_scram.specs.Agreement.{Given, server_given}
-use Rattle.xmpp_scram.specs.Exchange.{ClientView, ReplyView, begun_client, check_of, expecting, reply_of, server_final_message}
-use Rattle.xmpp_scram.specs.Judgements.{IsCheck}
+use Rattle.xmpp_sasl.specs.Sasl.{auth_of}
+use Rattle.xmpp_scram.specs.Agreement.{EndsAgree}
+use Rattle.xmpp_scram.specs.Exchange.{ClientView, begun_client, check_of, expecting, server_final_message}
+use Rattle.xmpp_scram.specs.Judgements.{IsCheck, JudgementsAreExact}
 use Rattle.xmpp_scram.specs.Messages.{server_final_of}
 use Rattle.xmpp_scram.specs.declared.fault.ScramFault.{ScramFault}
 use Rattle.xmpp_scram.specs.declared.fault.ScramFault.TheVariants.{BadVerifier}
@@ -58,37 +54,37 @@ row_is : (domain : List ℕ) (exchange : ClientView) (e : Elem) (payload : List 
     → carrier_read (codes "success") e ≡ Ok payload → check_of exchange payload ≡ judged → responding_row domain exchange e ≡ checked domain judged
 row_is domain exchange e payload judged carried is = ap (succeeded domain exchange e) carried ∙ ap (checked domain) is
 
-is_right : (domain : List ℕ) (exchange : ClientView) (expected : List ℕ) (e : Elem) → exchange.expected ≡ Some expected
+is_right : JudgementsAreExact → (domain : List ℕ) (exchange : ClientView) (expected : List ℕ) (e : Elem) → exchange.expected ≡ Some expected
     → (responding_row domain exchange e).next ≡ next.Goes state.Header2 → HasVerifier e (Some expected)
-is_right domain exchange expected e expects goes =
+is_right exact domain exchange expected e expects goes =
     let by = accepted domain exchange e (carrier_read (codes "success") e) goes in
     record {
       payload = by.payload;
       carried = by.carried;
-      is_read = verifier_by exchange expected by.payload (server_final_of by.payload) (all_exact.check exchange expected by.payload expects) by.accepts;
+      is_read = verifier_by exchange expected by.payload (server_final_of by.payload) (exact.check exchange expected by.payload expects) by.accepts;
     }
 
-check_exact : (exchange : ClientView) (expected : List ℕ) (e : Elem) (verifier : Option (List ℕ)) (has : HasVerifier e verifier) → exchange.expected ≡ Some expected
+check_exact : JudgementsAreExact → (exchange : ClientView) (expected : List ℕ) (e : Elem) (verifier : Option (List ℕ)) (has : HasVerifier e verifier) → exchange.expected ≡ Some expected
     → IsCheck expected verifier (check_of exchange has.payload)
-check_exact exchange expected e verifier has expects =
-    exact_of exchange expected has.payload (server_final_of has.payload) verifier has.is_read (all_exact.check exchange expected has.payload expects)
+check_exact exact exchange expected e verifier has expects =
+    exact_of exchange expected has.payload (server_final_of has.payload) verifier has.is_read (exact.check exchange expected has.payload expects)
 
-goes_by : (domain : List ℕ) (exchange : ClientView) (expected : List ℕ) (e : Elem) → exchange.expected ≡ Some expected
+goes_by : JudgementsAreExact → (domain : List ℕ) (exchange : ClientView) (expected : List ℕ) (e : Elem) → exchange.expected ≡ Some expected
     → HasVerifier e (Some expected) → (responding_row domain exchange e).next ≡ next.Goes state.Header2
-goes_by domain exchange expected e expects has =
-    let exact = check_exact exchange expected e (Some expected) has expects in
+goes_by judgements domain exchange expected e expects has =
+    let exact = check_exact judgements exchange expected e (Some expected) has expects in
     ap (λ (row : Row). row.next) (row_is domain exchange e has.payload (Ok tt) has.carried (exact.accepted.1 refl))
 
-ends_by : (domain : List ℕ) (exchange : ClientView) (expected : List ℕ) (e : Elem) → exchange.expected ≡ Some expected
+ends_by : JudgementsAreExact → (domain : List ℕ) (exchange : ClientView) (expected : List ℕ) (e : Elem) → exchange.expected ≡ Some expected
     → (verifier : Option (List ℕ)) → HasVerifier e verifier → verifier ≢ Some expected → (responding_row domain exchange e).next ≡ next.Ends fault.BadVerifier
-ends_by domain exchange expected e expects verifier has other =
-    let exact = check_exact exchange expected e verifier has expects in
+ends_by judgements domain exchange expected e expects verifier has other =
+    let exact = check_exact judgements exchange expected e verifier has expects in
     ap (λ (row : Row). row.next) (row_is domain exchange e has.payload (Err BadVerifier) has.carried (exact.bad_verifier.1 other))
 
-pub verifiers_log_in : VerifiersLogIn
-verifiers_log_in domain exchange expected e expects = record {
-  goes_on = (is_right domain exchange expected e expects, goes_by domain exchange expected e expects);
-  bad_verifier = ends_by domain exchange expected e expects;
+pub verifiers_log_in : JudgementsAreExact → VerifiersLogIn
+verifiers_log_in exact domain exchange expected e expects = record {
+  goes_on = (is_right exact domain exchange expected e expects, goes_by exact domain exchange expected e expects);
+  bad_verifier = ends_by exact domain exchange expected e expects;
 }
 
 -- ---- the password
@@ -99,9 +95,9 @@ offered_by : (account : ClientAccount) (nonce : List ℕ) (e : Elem) (features :
 offered_by account nonce e features exchange is_read offers begins =
     ap (offered account nonce e) is_read ∙ (rw (offers) (ap begun begins))
 
-pub passwords_log_in : PasswordsLogIn
-passwords_log_in account given allowed same_name same_password =
-    let through = goes_through read_back given allowed in
+pub passwords_log_in : EndsAgree → PasswordsLogIn
+passwords_log_in agree account given allowed same_name same_password =
+    let through = agree given allowed in
     let begins : begun_client account.name account.password given.nonce ≡ Ok through.client = rw (same_name, same_password) through.begins in
     record {
       client = through.client;

@@ -1,6 +1,6 @@
 -- A client's login: from the first header of a stream to the second one (RFC 6120, sections 4.3, 4.7 and 6; RFC 5802,
 -- section 5). One definition for each state.
-use Rattle.std.specs.Prelude.{ℕ, List, Option, Some, None, Result, Ok, Err, codes, take, if◌then◌else◌}
+use Rattle.std.specs.Prelude.{ℕ, List, Some, None, Result, Ok, Err, codes, take, if◌then◌else◌}
 use Rattle.xmpp_client_login.specs.Puts.{ItemOut, Opening, Row, Whole}
 use Rattle.xmpp_client_login.specs.declared.account.ClientAccount.{ClientAccount}
 use Rattle.xmpp_client_login.specs.declared.answers.Next.TheVariants as next
