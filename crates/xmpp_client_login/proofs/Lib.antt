@@ -1,0 +1,4 @@
+pub mod Exchanges
+pub mod LoginLaws
+pub mod Refusals
+mod Worked

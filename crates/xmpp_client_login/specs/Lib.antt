@@ -1,0 +1,3 @@
+pub mod LoginRows
+pub mod Logins
+pub mod Puts
