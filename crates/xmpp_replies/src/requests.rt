@@ -39,7 +39,11 @@ fn result(alloc: Global, envelope: &Envelope<'_>, payload: Nodes) -> Result<Byte
 }
 
 /// An answer whose payload is one element.
-pub(crate) fn result_of(alloc: Global, envelope: &Envelope<'_>, payload: Element) -> Result<Bytes, NoMemory>
+pub(crate) fn result_of(
+    alloc: Global,
+    envelope: &Envelope<'_>,
+    payload: Element,
+) -> Result<Bytes, NoMemory>
     ensures { IfOk result (λ b. b.items ≡ spelling (result_item (envelope_view envelope.now) (child (elem_view payload) no_nodes))) }
 {
     let mut nodes = Nodes::new(alloc);
@@ -116,12 +120,7 @@ pub fn refusal(
 /// A message that comes back: `from` is where it was to go, which may be no address, and `id` its id (RFC 6120, section
 /// 8.3.1). The id is left out where it is empty.
 #[tactic(auto, using(crate::proofs::AnswerLaws::bounce_stays))]
-pub fn bounced(
-    alloc: Global,
-    from: &str,
-    id: &str,
-    error: &StanzaError,
-) -> Result<Bytes, NoMemory>
+pub fn bounced(alloc: Global, from: &str, id: &str, error: &StanzaError) -> Result<Bytes, NoMemory>
     ensures { IfOk result (λ b. b.items ≡ bounce_text from.now id.now error.now) }
 {
     let tree = bounce(alloc, from, id, error)?;

@@ -1,5 +1,6 @@
 //! How a server begins and ends its stream (RFC 6120, sections 4.3 to 4.9).
 ghost use Rattle.std.specs.Prelude.{◌≡◌, ◌++◌, IfOk, OnOk};
+ghost use Rattle.xmpp_basis.specs.Hexadecimal.{hex_digits};
 ghost use Rattle.xmpp_replies.specs.Said.{declaration};
 ghost use Rattle.xmpp_replies.specs.Streams.{error_text, footer_text, header_text, hex_of, login_features_text, server_header, session_features_text, stream_id, too_high_text};
 ghost use Rattle.xmpp_writer.specs.Canon.{written_header};
@@ -22,24 +23,40 @@ const DECLARATION: &[u8] = b"<?xml version='1.0'?>";
 /// the login.
 const ID_AT: usize = 18;
 
+// Adds a byte in two hexadecimal digits.
+#[tactic(auto, using(crate::proofs::StreamIds::two_digits))]
+fn push_digits(out: &mut Bytes, byte: u8) -> Result<(), NoMemory>
+    ensures { OnOk result (out.new.items ≡ out.old.items ++ hex_digits 2 byte) }
+{
+    out.append(&hex16(u64::from(byte))[14..])
+}
+
 // Adds bytes in hexadecimal.
 fn push_hexadecimal(out: &mut Bytes, bytes: &[u8]) -> Result<(), NoMemory>
     ensures { OnOk result (out.new.items ≡ out.old.items ++ hex_of bytes.now) }
 {
     for byte in bytes {
-        out.append(&hex16(u64::from(*byte))[14..])?;
+        push_digits(out, *byte)?;
     }
     Ok(())
+}
+
+// The bytes of the id of a stream.
+fn id_bytes(alloc: Global, connection: u64, entropy: &[u8; 24]) -> Result<Bytes, NoMemory>
+    ensures { IfOk result (λ b. b.items ≡ stream_id connection entropy.now) }
+{
+    let mut bytes = Bytes::new(alloc);
+    push_hexadecimal(&mut bytes, &entropy[ID_AT..])?;
+    bytes.append(&hex16(connection))?;
+    Ok(bytes)
 }
 
 // The id of a stream.
 fn stream_id(alloc: Global, connection: u64, entropy: &[u8; 24]) -> Result<Text, NoMemory>
     ensures { IfOk result (λ id. id ≡ stream_id connection entropy.now) }
 {
-    let mut id = Bytes::new(alloc);
-    push_hexadecimal(&mut id, &entropy[ID_AT..])?;
-    id.append(&hex16(connection))?;
-    match str::from_utf8(id.as_slice()) {
+    let bytes = id_bytes(alloc, connection, entropy)?;
+    match str::from_utf8(bytes.as_slice()) {
         Ok(id) => Text::from_str(alloc, id),
         Err(_) => unreachable!(),
     }
