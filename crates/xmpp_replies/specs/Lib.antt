@@ -1,0 +1,6 @@
+-- ---- what a server says, which public clauses cite
+pub mod Said
+pub mod Streams
+pub mod Sasl
+pub mod Management
+pub mod Requests
