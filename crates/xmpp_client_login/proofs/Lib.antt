@@ -1,4 +1,3 @@
 pub mod Exchanges
 pub mod LoginLaws
-pub mod Refusals
 mod Worked

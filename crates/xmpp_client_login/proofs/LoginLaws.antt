@@ -3,7 +3,8 @@ use Rattle.std.proofs.Common.{◌≡◌, ◌≢◌, ℕ, true, List, Option, Som
 use Rattle.std.specs.Prelude.{MatchResult}
 use Rattle.xmpp_client_login.specs.LoginRows.{begun, challenged, checked, features1_row, offered, replied, responding_row, sends, succeeded}
 use Rattle.xmpp_client_login.specs.Logins.{HasVerifier, PasswordsLogIn, VerifiersLogIn}
-use Rattle.xmpp_client_login.specs.Puts.{Row, Whole}
+use Rattle.xmpp_client_login.specs.Puts.{Row}
+use Rattle.xmpp_writer.specs.Items.{Whole}
 use Rattle.xmpp_client_login.specs.declared.account.ClientAccount.{ClientAccount}
 use Rattle.xmpp_client_login.specs.declared.answers.Next.TheVariants as next
 use Rattle.xmpp_client_login.specs.declared.login_fault.LoginFault.TheVariants as fault

@@ -1,7 +1,7 @@
 -- What a client puts to log in, as it is written.
 use Rattle.std.proofs.Common.{◌≡◌, ℕ, List, refl, codes}
 use Rattle.xmpp_client_login.specs.LoginRows.{client_header}
-use Rattle.xmpp_client_login.specs.Puts.{Opening, Whole, written_item}
+use Rattle.xmpp_writer.specs.Items.{Opening, Whole, written_item}
 use Rattle.xmpp_payload.specs.Names.{sasl}
 use Rattle.xmpp_sasl.specs.Payloads.{base64_of}
 use Rattle.xmpp_sasl.specs.Sasl.{auth_of, carrier}

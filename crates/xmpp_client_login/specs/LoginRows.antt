@@ -1,7 +1,8 @@
 -- A client's login: from the first header of a stream to the second one (RFC 6120, sections 4.3, 4.7 and 6; RFC 5802,
 -- section 5). One definition for each state.
-use Rattle.std.specs.Prelude.{ℕ, List, Some, None, Result, Ok, Err, codes, take, if◌then◌else◌}
-use Rattle.xmpp_client_login.specs.Puts.{ItemOut, Opening, Row, Whole}
+use Rattle.std.specs.Prelude.{ℕ, List, Some, None, Result, Ok, Err, codes, if◌then◌else◌}
+use Rattle.xmpp_client_login.specs.Puts.{Row}
+use Rattle.xmpp_writer.specs.Items.{ItemOut, Opening, Whole}
 use Rattle.xmpp_client_login.specs.declared.account.ClientAccount.{ClientAccount}
 use Rattle.xmpp_client_login.specs.declared.answers.Next.TheVariants as next
 use Rattle.xmpp_client_login.specs.declared.login_fault.LoginFault.{LoginFault}
@@ -14,7 +15,7 @@ use Rattle.xmpp_names.specs.declared.headers.Header.{Header}
 use Rattle.xmpp_payload.specs.declared.fault.ExtFault.{ExtFault}
 use Rattle.xmpp_sasl.specs.Readings.{carrier_read, failure_read}
 use Rattle.xmpp_sasl.specs.Sasl.{auth_of, carrier}
-use Rattle.xmpp_scram.specs.Exchange.{ClientView, ReplyView, begun_client, check_of, expecting, nonce_of, reply_of}
+use Rattle.xmpp_scram.specs.Exchange.{ClientView, ReplyView, added_nonce, begun_client, check_of, expecting, reply_of}
 use Rattle.xmpp_scram.specs.declared.fault.ScramFault.{ScramFault}
 use Rattle.xmpp_scram.specs.declared.fault.ScramFault.TheVariants as scram
 use Rattle.xmpp_stanza.specs.Names.{client_ns, streams_ns}
@@ -55,10 +56,7 @@ client_header domain = record {
   lang = None;
 }
 
--- the client's nonce, of the first 18 bytes that were drawn for the connection (RFC 5802, section 5.1)
-abbrev pub added_nonce : List ℕ → List ℕ
-added_nonce entropy = nonce_of (take 18 entropy)
-
+-- the client's nonce is made of the first bytes that were drawn for the connection (RFC 5802, section 5.1)
 abbrev pub begin_row : List ℕ → List ℕ → Row
 begin_row domain entropy = sends (Opening (client_header domain)) (state.Header1 (added_nonce entropy))
 

@@ -1,7 +1,7 @@
 -- Which servers a client logs in at: only one that knows the password's keys, and each that does.
 use Rattle.std.specs.Prelude.{◌≡◌, ◌≢◌, ◌↔◌, ℕ, true, List, Option, Some, Ok, codes}
 use Rattle.xmpp_client_login.specs.LoginRows.{authing_row, client_header, features1_row, responding_row, sends}
-use Rattle.xmpp_client_login.specs.Puts.{Opening, Whole}
+use Rattle.xmpp_writer.specs.Items.{Opening, Whole}
 use Rattle.xmpp_client_login.specs.declared.account.ClientAccount.{ClientAccount}
 use Rattle.xmpp_client_login.specs.declared.answers.Next.TheVariants as next
 use Rattle.xmpp_client_login.specs.declared.login_fault.LoginFault.TheVariants as fault

@@ -1,27 +1,10 @@
--- What an end puts into a stream (RFC 6120, section 4): items, and the bytes that they are written as.
-use Rattle.std.specs.Prelude.{ℕ, List, [], ◌++◌, Option, Some, None, codes}
+-- What comes of an item while a client logs in: an item that is put (RFC 6120, section 4.4), and how the login goes on.
+use Rattle.std.specs.Prelude.{ℕ, List, [], Option, Some, None}
 use Rattle.xmpp_client_login.specs.declared.answers.Answer.{Answer}
 use Rattle.xmpp_client_login.specs.declared.answers.Next.{Next}
-use Rattle.xmpp_names.specs.declared.headers.Header.{Header}
-use Rattle.xmpp_trees.specs.Trees.{Elem}
-use Rattle.xmpp_writer.specs.Canon.{canon, written_footer, written_header}
+use Rattle.xmpp_writer.specs.Items.{ItemOut, written_item}
 
--- a header, a whole element at the top level, or a footer
-pub data ItemOut : Type 0 where
-  Opening : Header → ItemOut
-  Whole : Elem → ItemOut
-  Closing : ItemOut
-
--- the declaration that stands before a header (XML 1.0, section 2.8)
-abbrev pub declaration : List ℕ
-declaration = codes "<?xml version='1.0'?>"
-
-abbrev pub written_item : ItemOut → List ℕ
-written_item (Opening h) = declaration ++ written_header h
-written_item (Whole e) = canon e
-written_item Closing = written_footer
-
--- What comes of an item in a state of the login: the item that is put, if one is, and how it goes on.
+-- the item that is put, if one is, and what comes next
 pub record Row : Type 0 where
   pub put : Option ItemOut
   pub next : Next

@@ -31,12 +31,13 @@ impl BegunExchange {
     ghost use Rattle.std.specs.Prelude.{◌≡◌, IfErr, IfOk, IsSome, codes};
     ghost use Rattle.xmpp_client_login.specs.LoginRows;
     ghost use Rattle.xmpp_client_login.specs.LoginRows.{begun, replied, unanswered};
-    ghost use Rattle.xmpp_client_login.specs.Puts.{Whole, seen, spelled};
+    ghost use Rattle.xmpp_client_login.specs.Puts.{seen, spelled};
+    ghost use Rattle.xmpp_writer.specs.Items.{Whole};
     ghost use Rattle.xmpp_sasl.specs.Sasl.{carrier};
     ghost use Rattle.xmpp_scram.specs.Exchange.{begun_client, reply_of};
 
     // Begins an exchange under a nonce.
-    #[tactic(auto, using(crate::proofs::Refusals::refused_as, crate::proofs::Exchanges::begins_unanswered))]
+    #[tactic(auto, using(xmpp_scram::proofs::Refusals::refused_as, crate::proofs::Exchanges::begins_unanswered))]
     pub(crate) fn begin(
         alloc: Global,
         account: &ClientAccount,
@@ -83,7 +84,7 @@ impl BegunExchange {
     }
 
     // Replies to the server's first message.
-    #[tactic(auto, using(crate::proofs::Refusals::refused_as, crate::proofs::Exchanges::expecting_unanswered))]
+    #[tactic(auto, using(xmpp_scram::proofs::Refusals::refused_as, crate::proofs::Exchanges::expecting_unanswered))]
     pub(crate) fn reply(self, alloc: Global, server_first: &[u8]) -> Result<Answer, NotTaken>
         ensures ok { IfOk result (λ a. seen a ≡ spelled (replied self (reply_of self server_first.now))) }
         ensures err { IfErr result (λ e. e.state ≡ LoginState.Authing self) }

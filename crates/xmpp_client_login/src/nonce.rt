@@ -1,6 +1,6 @@
 //! The nonce of a client (RFC 5802, section 5.1).
 use std::marker::Model;
-use xmpp_scram::nonce_of;
+use xmpp_scram::added_nonce;
 
 /// The nonce of a client's exchange. Contracts see its bytes.
 #[derive(Drop)]
@@ -22,17 +22,15 @@ impl Model for Nonce {
 
 impl Nonce {
     ghost use Rattle.std.specs.Prelude.{◌≡◌, true};
-    ghost use Rattle.xmpp_client_login.specs.LoginRows.{added_nonce};
+    ghost use Rattle.xmpp_scram.specs.Exchange.{added_nonce};
     ghost use Rattle.xmpp_scram.specs.Grammar.{is_nonce};
 
     // The nonce of the first 18 bytes that were drawn for a connection.
     pub(crate) fn of_entropy(entropy: &[u8; 24]) -> Nonce
         ensures { result ≡ added_nonce entropy.now }
     {
-        let mut drawn = [0u8; 18];
-        drawn.copy_from_slice(&entropy[..18]);
         Nonce {
-            text: nonce_of(&drawn),
+            text: added_nonce(entropy),
         }
     }
 

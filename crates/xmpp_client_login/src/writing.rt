@@ -1,7 +1,7 @@
 //! What a client puts to log in.
 ghost use Rattle.std.specs.Prelude.{◌≡◌, IfOk, codes};
 ghost use Rattle.xmpp_client_login.specs.LoginRows.{client_header};
-ghost use Rattle.xmpp_client_login.specs.Puts.{Opening, Whole, written_item};
+ghost use Rattle.xmpp_writer.specs.Items.{Opening, Whole, written_item};
 ghost use Rattle.xmpp_sasl.specs.Sasl.{auth_of, carrier};
 ghost use Rattle.xmpp_writer.specs.Canon.{canon};
 

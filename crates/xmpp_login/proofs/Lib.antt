@@ -2,4 +2,3 @@ pub mod AccountFaults
 pub mod AccountLists
 pub mod LoginLaws
 pub mod MajorVersions
-pub mod Refusals

@@ -4,7 +4,7 @@ use Rattle.std.specs.Prelude.{MatchResult}
 use Rattle.xmpp_hashes.specs.Hashes.{verifier_of}
 use Rattle.xmpp_login.specs.Accounts.{FoundView, account_named}
 use Rattle.xmpp_login.specs.Logins.{HasRightProof, PasswordsLogIn, ProofsLogIn}
-use Rattle.xmpp_login.specs.Negotiations.{LoginView, added_nonce, begun_by, begun_of, begun_with, ended_of, ended_with, final_answer, is_scram}
+use Rattle.xmpp_login.specs.Negotiations.{LoginView, begun_by, begun_of, begun_with, ended_of, ended_with, final_answer, is_scram}
 use Rattle.xmpp_login.specs.declared.account.Account.{Account}
 use Rattle.xmpp_login.specs.declared.negotiation.AuthAnswer.{AuthAnswer}
 use Rattle.xmpp_login.specs.declared.negotiation.AuthAnswer.TheVariants.{Begins}
@@ -17,7 +17,7 @@ use Rattle.xmpp_scram.proofs.Judging.{all_exact}
 use Rattle.xmpp_scram.proofs.ReadBack.{goes_through}
 use Rattle.xmpp_scram.proofs.ReadWritten.{read_back}
 use Rattle.xmpp_scram.specs.Agreement.{server_given}
-use Rattle.xmpp_scram.specs.Exchange.{begun_server, credentials_of, last_of, server_auth, server_final_message}
+use Rattle.xmpp_scram.specs.Exchange.{added_nonce, begun_server, credentials_of, last_of, server_auth, server_final_message}
 use Rattle.xmpp_scram.specs.Judgements.{IsLastAnswer}
 use Rattle.xmpp_scram.specs.Messages.{ClientFinalView, client_final_of, client_first_of}
 use Rattle.xmpp_scram.specs.declared.client_first.ClientFirst.{ClientFirst}

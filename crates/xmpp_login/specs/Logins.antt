@@ -2,13 +2,13 @@
 use Rattle.std.specs.Prelude.{◌≡◌, ◌↔◌, ℕ, List, Some, Ok, codes}
 use Rattle.xmpp_hashes.specs.Hashes.{verifier_of}
 use Rattle.xmpp_login.specs.Accounts.{account_named}
-use Rattle.xmpp_login.specs.Negotiations.{LoginView, added_nonce, auth_answer, final_answer}
+use Rattle.xmpp_login.specs.Negotiations.{LoginView, auth_answer, final_answer}
 use Rattle.xmpp_login.specs.declared.account.Account.{Account}
 use Rattle.xmpp_login.specs.declared.negotiation.AuthAnswer.TheVariants.{Begins}
 use Rattle.xmpp_login.specs.declared.negotiation.Negotiation.{Negotiation}
 use Rattle.xmpp_sasl.specs.Readings.{auth_read, carrier_read}
 use Rattle.xmpp_scram.specs.Agreement.{Given, IsAllowed}
-use Rattle.xmpp_scram.specs.Exchange.{ClientView, ReplyView, begun_client, check_of, credentials_of, expecting, reply_of, server_auth, server_final_message}
+use Rattle.xmpp_scram.specs.Exchange.{ClientView, ReplyView, added_nonce, begun_client, check_of, credentials_of, expecting, reply_of, server_auth, server_final_message}
 use Rattle.xmpp_scram.specs.Judgements.{IsRightProof}
 use Rattle.xmpp_scram.specs.Messages.{ClientFinalView, client_final_of}
 use Rattle.xmpp_trees.specs.Trees.{Elem}

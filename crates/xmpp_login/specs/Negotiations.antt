@@ -1,5 +1,5 @@
 -- How a client logs in by SCRAM-SHA-256 (RFC 6120, section 6; RFC 5802, sections 3 and 5).
-use Rattle.std.specs.Prelude.{ℕ, Bool, false, List, Option, Some, None, Result, Ok, Err, codes, take, if◌then◌else◌}
+use Rattle.std.specs.Prelude.{ℕ, Bool, false, List, Option, Some, None, Result, Ok, Err, codes, if◌then◌else◌}
 use Rattle.std.specs.Str.{bytes_eq}
 use Rattle.xmpp_login.specs.Accounts.{FoundView, account_named}
 use Rattle.xmpp_login.specs.declared.account.Account.{Account}
@@ -13,7 +13,7 @@ use Rattle.xmpp_login.specs.declared.sasl_condition.SaslCondition.TheVariants as
 use Rattle.xmpp_payload.specs.declared.fault.ExtFault.{ExtFault}
 use Rattle.xmpp_sasl.specs.Readings.{auth_read, carrier_read}
 use Rattle.xmpp_sasl.specs.Sasl.{auth_mechanism}
-use Rattle.xmpp_scram.specs.Exchange.{begun_server, last_of, nonce_of}
+use Rattle.xmpp_scram.specs.Exchange.{added_nonce, begun_server, last_of}
 use Rattle.xmpp_scram.specs.Messages.{client_first_of}
 use Rattle.xmpp_scram.specs.declared.client_first.ClientFirst.{ClientFirst}
 use Rattle.xmpp_scram.specs.declared.fault.ScramFault.{ScramFault}
@@ -30,10 +30,6 @@ condition_name condition.MalformedRequest = codes "malformed-request"
 condition_name condition.NotAuthorized = codes "not-authorized"
 
 -- ---- `auth` (RFC 6120, section 6.4.2): the client's first message
-
--- the nonce that the server adds, of the first 18 bytes that were drawn for the connection
-abbrev pub added_nonce : List ℕ → List ℕ
-added_nonce entropy = nonce_of (take 18 entropy)
 
 abbrev pub is_scram : Option (List ℕ) → Bool
 is_scram None = false

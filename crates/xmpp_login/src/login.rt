@@ -40,7 +40,7 @@ fn last_condition(fault: ScramFault) -> SaslCondition
 }
 
 // Answers a client's final message.
-#[tactic(auto, using(crate::proofs::Refusals::refused_as))]
+#[tactic(auto, using(xmpp_scram::proofs::Refusals::refused_as))]
 fn answer_last(
     alloc: Global,
     message: &[u8],

@@ -1,10 +1,9 @@
 //! The answer to `auth` (RFC 6120, section 6.4.2; RFC 5802, section 5).
-ghost use Rattle.std.specs.Prelude.{◌≡◌, true, IfOk, OnErr};
-ghost use Rattle.std.specs.Str.{IsUtf8};
+ghost use Rattle.std.specs.Prelude.{◌≡◌, IfOk, OnErr};
 ghost use Rattle.xmpp_login.specs.Accounts.{account_named};
-ghost use Rattle.xmpp_login.specs.Negotiations.{added_nonce, auth_answer, begun_by, begun_with, first_condition, is_scram};
+ghost use Rattle.xmpp_login.specs.Negotiations.{auth_answer, begun_by, begun_with, first_condition, is_scram};
 ghost use Rattle.xmpp_sasl.specs.Sasl.{auth_mechanism};
-ghost use Rattle.xmpp_scram.specs.Grammar.{is_nonce};
+ghost use Rattle.xmpp_scram.specs.Exchange.{added_nonce};
 ghost use Rattle.xmpp_scram.specs.Messages.{client_first_of};
 ghost use Rattle.xmpp_trees.specs.Views.{elem_view};
 
@@ -14,7 +13,7 @@ use std::alloc::Global;
 use xmpp_edge::NoMemory;
 use xmpp_payload::ExtFault;
 use xmpp_sasl::Auth;
-use xmpp_scram::{ClientFirst, ScramFault, ScramServer, nonce_of, read_first};
+use xmpp_scram::{ClientFirst, ScramFault, ScramServer, added_nonce, read_first};
 use xmpp_trees::Element;
 
 /// A login whose challenge was made: the place of the account, and the server's end of the exchange, whose `message` is
@@ -42,17 +41,6 @@ fn names_scram(element: &Element) -> bool
         Some(mechanism) => mechanism == "SCRAM-SHA-256",
         None => false,
     }
-}
-
-// The nonce that a server adds, of what was drawn for the connection.
-fn added_nonce(entropy: &[u8; 24]) -> [u8; 24]
-    ensures nonce { result ≡ added_nonce entropy.now }
-    ensures within { is_nonce result ≡ true }
-    ensures text { IsUtf8 result }
-{
-    let mut drawn = [0u8; 18];
-    drawn.copy_from_slice(&entropy[..18]);
-    nonce_of(&drawn)
 }
 
 // Why a first message begins no exchange.
@@ -91,7 +79,7 @@ fn begin(
 }
 
 // Answers a client's first message.
-#[tactic(auto, using(crate::proofs::Refusals::refused_as))]
+#[tactic(auto, using(xmpp_scram::proofs::Refusals::refused_as))]
 fn answer_first(
     alloc: Global,
     message: &[u8],

@@ -1,5 +1,4 @@
 -- ---- what a server says, which public clauses cite
-pub mod Said
 pub mod Streams
 pub mod Sasl
 pub mod Management

@@ -4,47 +4,47 @@ use Rattle.xmpp_basis.specs.Hexadecimal.{hex16_of}
 use Rattle.xmpp_ext.specs.StreamManagement.{ack_elem, enabled_elem, resumed_elem, sm_failed_elem}
 use Rattle.xmpp_payload.specs.Bare.{bare}
 use Rattle.xmpp_payload.specs.Names.{management}
-use Rattle.xmpp_replies.specs.Said.{Said, Saying, spelling}
+use Rattle.xmpp_writer.specs.Items.{ItemOut, Whole, written_item}
 use Rattle.xmpp_stanza.specs.declared.conditions.Condition.{Condition}
 
 -- a wish for a count of the stanzas handled (section 4)
-abbrev pub request_item : Said
-request_item = Saying (bare management (codes "r"))
+abbrev pub request_item : ItemOut
+request_item = Whole (bare management (codes "r"))
 
 abbrev pub request_text : List ℕ
-request_text = spelling request_item
+request_text = written_item request_item
 
 -- the count (section 4)
-abbrev pub ack_item : ℕ → Said
-ack_item h = Saying (ack_elem (record { h = h }))
+abbrev pub ack_item : ℕ → ItemOut
+ack_item h = Whole (ack_elem (record { h = h }))
 
 abbrev pub ack_text : ℕ → List ℕ
-ack_text h = spelling (ack_item h)
+ack_text h = written_item (ack_item h)
 
 -- stanzas are acknowledged from now on (section 3), and the stream can't be resumed
-abbrev pub enabled_item : Said
-enabled_item = Saying (enabled_elem (record { id = []; resume = false; max = None }))
+abbrev pub enabled_item : ItemOut
+enabled_item = Whole (enabled_elem (record { id = []; resume = false; max = None }))
 
 abbrev pub enabled_text : List ℕ
-enabled_text = spelling enabled_item
+enabled_text = written_item enabled_item
 
 -- the same where the stream can be resumed, for so many seconds, by the number of its session in 16 hexadecimal digits
-abbrev pub resumable_item : ℕ → ℕ → Said
-resumable_item session seconds = Saying (enabled_elem (record { id = hex16_of session; resume = true; max = Some seconds }))
+abbrev pub resumable_item : ℕ → ℕ → ItemOut
+resumable_item session seconds = Whole (enabled_elem (record { id = hex16_of session; resume = true; max = Some seconds }))
 
 abbrev pub resumable_text : ℕ → ℕ → List ℕ
-resumable_text session seconds = spelling (resumable_item session seconds)
+resumable_text session seconds = written_item (resumable_item session seconds)
 
 -- a session goes on, and how many of its stanzas were handled (section 5)
-abbrev pub resumed_item : ℕ → ℕ → Said
-resumed_item session h = Saying (resumed_elem (record { previd = hex16_of session; h = h }))
+abbrev pub resumed_item : ℕ → ℕ → ItemOut
+resumed_item session h = Whole (resumed_elem (record { previd = hex16_of session; h = h }))
 
 abbrev pub resumed_text : ℕ → ℕ → List ℕ
-resumed_text session h = spelling (resumed_item session h)
+resumed_text session h = written_item (resumed_item session h)
 
 -- what was asked of stream management is refused (sections 3 and 5)
-abbrev pub refused_item : Condition → Said
-refused_item condition = Saying (sm_failed_elem (record { condition = condition }))
+abbrev pub refused_item : Condition → ItemOut
+refused_item condition = Whole (sm_failed_elem (record { condition = condition }))
 
 abbrev pub refused_text : Condition → List ℕ
-refused_text condition = spelling (refused_item condition)
+refused_text condition = written_item (refused_item condition)

@@ -4,7 +4,7 @@ use Rattle.xmpp_basis.specs.Hexadecimal.{hex_digits, hex16_of}
 use Rattle.xmpp_ext.specs.Counts.{too_high_elem}
 use Rattle.xmpp_features.specs.Features.{features_elem}
 use Rattle.xmpp_names.specs.declared.headers.Header.{Header}
-use Rattle.xmpp_replies.specs.Said.{Closing, Opening, Said, Saying, spelling}
+use Rattle.xmpp_writer.specs.Items.{Closing, ItemOut, Opening, Whole, written_item}
 use Rattle.xmpp_replies.specs.declared.conditions.StreamCondition.{StreamCondition}
 use Rattle.xmpp_replies.specs.declared.conditions.StreamCondition.TheVariants as stream
 use Rattle.xmpp_stanza.specs.Errors.{stream_error_elem}
@@ -34,28 +34,28 @@ server_header domain id = record {
   lang = Some (codes "en");
 }
 
-abbrev pub header_item : List ℕ → ℕ → List ℕ → Said
+abbrev pub header_item : List ℕ → ℕ → List ℕ → ItemOut
 header_item domain connection entropy = Opening (server_header domain (stream_id connection entropy))
 
 abbrev pub header_text : List ℕ → ℕ → List ℕ → List ℕ
-header_text domain connection entropy = spelling (header_item domain connection entropy)
+header_text domain connection entropy = written_item (header_item domain connection entropy)
 
 abbrev pub footer_text : List ℕ
-footer_text = spelling Closing
+footer_text = written_item Closing
 
 -- ---- features (section 4.3.2): the mechanism before a login, and behind it binding and stream management
 
-abbrev pub login_features_item : Said
-login_features_item = Saying (features_elem (record { scram_sha_256 = true; bind = false; stream_management = false }))
+abbrev pub login_features_item : ItemOut
+login_features_item = Whole (features_elem (record { scram_sha_256 = true; bind = false; stream_management = false }))
 
 abbrev pub login_features_text : List ℕ
-login_features_text = spelling login_features_item
+login_features_text = written_item login_features_item
 
-abbrev pub session_features_item : Said
-session_features_item = Saying (features_elem (record { scram_sha_256 = false; bind = true; stream_management = true }))
+abbrev pub session_features_item : ItemOut
+session_features_item = Whole (features_elem (record { scram_sha_256 = false; bind = true; stream_management = true }))
 
 abbrev pub session_features_text : List ℕ
-session_features_text = spelling session_features_item
+session_features_text = written_item session_features_item
 
 -- ---- stream errors (section 4.9)
 
@@ -75,15 +75,15 @@ stream_condition_name stream.UnsupportedEncoding = codes "unsupported-encoding"
 stream_condition_name stream.UnsupportedStanzaType = codes "unsupported-stanza-type"
 stream_condition_name stream.UnsupportedVersion = codes "unsupported-version"
 
-abbrev pub error_item : StreamCondition → Said
-error_item condition = Saying (stream_error_elem (stream_condition_name condition) None)
+abbrev pub error_item : StreamCondition → ItemOut
+error_item condition = Whole (stream_error_elem (stream_condition_name condition) None)
 
 abbrev pub error_text : StreamCondition → List ℕ
-error_text condition = spelling (error_item condition)
+error_text condition = written_item (error_item condition)
 
 -- more stanzas are counted as handled than were sent (XEP-0198, section 4)
-abbrev pub too_high_item : ℕ → ℕ → Said
-too_high_item h send_count = Saying (stream_error_elem (codes "undefined-condition") (Some (too_high_elem h send_count)))
+abbrev pub too_high_item : ℕ → ℕ → ItemOut
+too_high_item h send_count = Whole (stream_error_elem (codes "undefined-condition") (Some (too_high_elem h send_count)))
 
 abbrev pub too_high_text : ℕ → ℕ → List ℕ
-too_high_text h send_count = spelling (too_high_item h send_count)
+too_high_text h send_count = written_item (too_high_item h send_count)

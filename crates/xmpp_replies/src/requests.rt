@@ -2,7 +2,7 @@
 ghost use Rattle.std.specs.Prelude.{◌≡◌, IfOk};
 ghost use Rattle.xmpp_ext.specs.Bind.{bind_result_elem};
 ghost use Rattle.xmpp_replies.specs.Requests.{account_info_text, bounce_text, bound_text, empty_result_text, envelope_view, iq_error_text, result_item, roster_text, server_info_text};
-ghost use Rattle.xmpp_replies.specs.Said.{spelling};
+ghost use Rattle.xmpp_writer.specs.Items.{written_item};
 ghost use Rattle.xmpp_trees.specs.Trees.{child, no_nodes};
 ghost use Rattle.xmpp_trees.specs.Views.{elem_view, nodes_view};
 
@@ -25,7 +25,7 @@ pub struct Envelope<'a> {
 
 // An answer with this payload.
 fn result(alloc: Global, envelope: &Envelope<'_>, payload: Nodes) -> Result<Bytes, NoMemory>
-    ensures { IfOk result (λ b. b.items ≡ spelling (result_item (envelope_view envelope.now) (nodes_view payload.items))) }
+    ensures { IfOk result (λ b. b.items ≡ written_item (result_item (envelope_view envelope.now) (nodes_view payload.items))) }
 {
     let attrs = StanzaAttrs {
         from: envelope.from,
@@ -44,7 +44,7 @@ pub(crate) fn result_of(
     envelope: &Envelope<'_>,
     payload: Element,
 ) -> Result<Bytes, NoMemory>
-    ensures { IfOk result (λ b. b.items ≡ spelling (result_item (envelope_view envelope.now) (child (elem_view payload) no_nodes))) }
+    ensures { IfOk result (λ b. b.items ≡ written_item (result_item (envelope_view envelope.now) (child (elem_view payload) no_nodes))) }
 {
     let mut nodes = Nodes::new(alloc);
     nodes.push(Node::Child(payload))?;

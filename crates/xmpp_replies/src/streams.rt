@@ -1,7 +1,7 @@
 //! How a server begins and ends its stream (RFC 6120, sections 4.3 to 4.9).
 ghost use Rattle.std.specs.Prelude.{◌≡◌, ◌++◌, IfOk, OnOk};
 ghost use Rattle.xmpp_basis.specs.Hexadecimal.{hex_digits};
-ghost use Rattle.xmpp_replies.specs.Said.{declaration};
+ghost use Rattle.xmpp_writer.specs.Items.{declaration};
 ghost use Rattle.xmpp_replies.specs.Streams.{error_text, footer_text, header_text, hex_of, login_features_text, server_header, session_features_text, stream_id, too_high_text};
 ghost use Rattle.xmpp_writer.specs.Canon.{written_header};
 

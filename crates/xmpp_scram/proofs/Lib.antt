@@ -18,6 +18,7 @@ pub mod PassedTests
 pub mod ReadBack
 pub mod ReadTexts
 pub mod ReadWritten
+pub mod Refusals
 pub mod Runs
 pub mod SentMessages
 pub mod Sequences

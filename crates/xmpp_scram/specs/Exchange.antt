@@ -49,6 +49,10 @@ base64_of bytes = encode_of standard bytes
 abbrev pub nonce_of : List ℕ → List ℕ
 nonce_of drawn = base64_of drawn
 
+-- the nonce that an end adds, of the first 18 bytes that were drawn for its connection
+abbrev pub added_nonce : List ℕ → List ℕ
+added_nonce entropy = nonce_of (take 18 entropy)
+
 -- the salt of an account, by its bare address
 abbrev pub salt_of : List ℕ → List ℕ
 salt_of bare = take 16 (sha256 bare)

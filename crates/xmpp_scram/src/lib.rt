@@ -31,5 +31,5 @@ pub use fault::ScramFault;
 pub use laws::{
     reading_is_the_grammar, sent_messages_are_within_the_grammar, written_messages_are_read,
 };
-pub use nonces::{is_nonce, nonce_of, salt_of};
+pub use nonces::{added_nonce, is_nonce, nonce_of, salt_of};
 pub use server::ScramServer;

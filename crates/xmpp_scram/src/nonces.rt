@@ -3,7 +3,7 @@ ghost use Rattle.std.specs.Prelude.{◌≡◌, true};
 ghost use Rattle.std.specs.List.{list_all};
 ghost use Rattle.std.specs.Str.{IsUtf8};
 ghost use Rattle.xmpp_scram.specs.Classes.{is_printable};
-ghost use Rattle.xmpp_scram.specs.Exchange.{nonce_of, salt_of};
+ghost use Rattle.xmpp_scram.specs.Exchange.{added_nonce, nonce_of, salt_of};
 ghost use Rattle.xmpp_scram.specs.Grammar.{is_nonce};
 
 use crate::classes::is_printable;
@@ -35,6 +35,18 @@ pub fn nonce_of(drawn: &[u8; 18]) -> [u8; 24]
         Ok(_) => text,
         Err(_) => unreachable!(),
     }
+}
+
+/// The nonce that an end adds on a connection: that of the first 18 of the bytes which were drawn for it. It takes no
+/// memory.
+pub fn added_nonce(entropy: &[u8; 24]) -> [u8; 24]
+    ensures nonce { result ≡ added_nonce entropy.now }
+    ensures within { is_nonce result ≡ true }
+    ensures text { IsUtf8 result }
+{
+    let mut drawn = [0u8; 18];
+    drawn.copy_from_slice(&entropy[..18]);
+    nonce_of(&drawn)
 }
 
 /// The salt of an account: the first 16 bytes of the SHA-256 of its bare address. It is known to who knows the address,

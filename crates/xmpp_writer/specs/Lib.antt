@@ -1,2 +1,3 @@
 -- what is written
 pub mod Canon
+pub mod Items

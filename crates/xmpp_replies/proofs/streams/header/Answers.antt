@@ -1,6 +1,6 @@
 use Rattle.std.proofs.Common.{◌++◌, ap, ◌∙◌}
 use Rattle.std.proofs.lemmas.Result.{IfOk-weaker}
-use Rattle.xmpp_replies.specs.Said.{declaration}
+use Rattle.xmpp_writer.specs.Items.{declaration}
 use Rattle.xmpp_replies.specs.Streams.{server_header}
 use Rattle.xmpp_writer.specs.Canon.{written_header}
 use Rattle.xmpp_replies.proofs.streams.header.Goals as goal
