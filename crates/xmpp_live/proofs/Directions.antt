@@ -1,5 +1,5 @@
 -- What happens to a session as moves of directions.
-use Rattle.std.proofs.Common.{◌≡◌, ℕ, ◌+◌, ◌-◌, ◌%◌, ◌^◌, ◌≤◌, false, [], ◌∷◌, ◌++◌, Some, Ok, length, drop, refl, sym, ap, ◌∙◌, arith, length-append, length-drop}
+use Rattle.std.proofs.Common.{◌≡◌, ℕ, ◌+◌, ◌-◌, ◌%◌, ◌^◌, ◌≤◌, ◌<◌, ◌↔◌, ◌⊎◌, Bool, true, false, [], ◌∷◌, ◌++◌, Some, Ok, Err, IsErr, if◌then◌else◌, length, drop, refl, sym, ap, ◌∙◌, arith, length-append, length-drop}
 use Rattle.std.proofs.lemmas.Bool.Decides.{nat_tests}
 use Rattle.std.proofs.lemmas.List.{drop-append-le, drop-drop, length_push}
 use Rattle.std.specs.Prelude.{nat_lt}
@@ -7,8 +7,9 @@ use Rattle.xmpp_acks.proofs.Directions.{got_prefix, kept_reached}
 use Rattle.xmpp_acks.proofs.Senders.{ahead_exact, counted_more}
 use Rattle.xmpp_acks.specs.Counters.{ahead}
 use Rattle.xmpp_acks.specs.Delivery.{Acknowledge, Direction, Handle, Moves, Put, Reached, Resume}
+use Rattle.xmpp_resume.specs.declared.answers.ResumeFault.TheVariants.{TooHigh}
 use Rattle.xmpp_live.specs.Directions.{Receives, Sends}
-use Rattle.xmpp_live.specs.Sessions.{Session, ack_answer, acknowledged, handles, is_too_high, resume_answer, resume_ok, resumes, waits}
+use Rattle.xmpp_live.specs.Sessions.{Session, ack_answer, acknowledged, handles, is_too_high, resume_answer, resume_ok, resumes, send_count, waits}
 
 -- a stanza that is put
 pub puts : {A : Type 0} (z : A) (s : Session A) (d next : Direction A) → Sends s d → Moves (Put z) d next → Sends (waits z s) next
@@ -94,3 +95,23 @@ pub late_resumption : {A : Type 0} (h n conn : ℕ) (s : Session A) (d next : Di
 late_resumption {A = A} h n conn s d next few reached sends move is =
     let facts : Acks s d n h = acks s d n h reached sends ((kept_reached d reached).stated n move.0) move.1 is few in
     resumed_at h n conn s d next facts is (ap (λ (e : Direction A). e.put) move.2) (ap (λ (e : Direction A). e.acked) move.2)
+
+-- how far a count is ahead of what is acknowledged, where neither wrapped
+far_ahead : (h a p : ℕ) → a ≤ p → p < 2 ^ 32 → h < 2 ^ 32 → (nat_lt (p - a) (ahead h a) ≡ true) ↔ ((h < a) ⊎ (p < h))
+far_ahead h a p within few low = (λ high. grind (arith, nat_tests), λ old. grind (arith, nat_tests))
+
+by_test : {T E : Type 0} (b : Bool) (e : E) (v : T) → IsErr (if b then Err e else Ok v) ↔ (b ≡ true)
+by_test true e v = (λ is. is, λ is. is)
+by_test false e v = (λ is. is, λ is. is)
+
+-- a count at a resumption, where fewer than 2 ^ 32 stanzas were put
+pub old_counts : {A : Type 0} (h : ℕ) (s : Session A) (d : Direction A) → Sends s d → length d.put < 2 ^ 32 → h < 2 ^ 32 → IsErr (resume_answer h (Some s)) ↔ ((h < d.acked) ⊎ (length d.put < h))
+old_counts h s d sends few low =
+    let size : length s.waiting ≡ length d.put - d.acked = ap length sends.waiting ∙ length-drop d.acked d.put in
+    let within : d.acked ≤ length d.put = sends.within in
+    let small : d.acked % 2 ^ 32 ≡ d.acked = omega arith in
+    let count : s.acked ≡ d.acked = sends.count ∙ small in
+    let far = far_ahead h d.acked (length d.put) within few low in
+    let same : is_too_high h s ≡ nat_lt (length d.put - d.acked) (ahead h d.acked) = rw (size, count) refl in
+    let test = by_test (is_too_high h s) (TooHigh h (send_count s) s.shown.conn) (resume_ok s) in
+    (λ err. far.0 (sym same ∙ test.0 err), λ old. test.1 (same ∙ far.1 old))

@@ -1,5 +1,5 @@
 //! Laws: what happens to a session is a move of acknowledged delivery (XEP-0198, sections 4 and 5).
-ghost use Rattle.std.specs.Prelude.{◌≡◌, ◌-◌, ◌%◌, ◌^◌, ◌≤◌, ℕ, List, Ok, Some, length};
+ghost use Rattle.std.specs.Prelude.{◌≡◌, ◌-◌, ◌%◌, ◌^◌, ◌<◌, ◌≤◌, ◌↔◌, ◌⊎◌, ℕ, List, IsErr, Ok, Some, length};
 ghost use Rattle.xmpp_acks.specs.Delivery.{Acknowledge, Direction, Handle, Moves, Put, Reached, Resume, beginning};
 ghost use Rattle.xmpp_live.specs.Directions.{Receives, Sends};
 ghost use Rattle.xmpp_live.specs.Sessions.{Session, ack_answer, acknowledged, fresh, handles, resume_answer, resume_ok, resumes, waits};
@@ -21,10 +21,12 @@ pub fn counts_are_moves()
 {}
 
 /// A law: a resumption with the count of what was handled is that move. One that comes late, with a count that was stated
-/// before, acknowledges that count.
+/// before, acknowledges that count. Where fewer than 2^32 stanzas were put, a count is too high exactly where it is below
+/// the last one that was acknowledged, or above the number of those that were put.
 pub fn resumptions_are_moves()
     ensures resumes { (h conn : ℕ) (s : Session (List ℕ)) (d next : Direction (List ℕ)) → length s.waiting ≤ MOST_UNACKNOWLEDGED → Reached d → Sends s d → Moves Resume d next → h ≡ length d.got % 2 ^ 32 →
         (resume_answer h (Some s) ≡ Ok (resume_ok s)) × Sends (resumes h conn s) next }
     ensures late { (h n conn : ℕ) (s : Session (List ℕ)) (d next : Direction (List ℕ)) → length s.waiting ≤ MOST_UNACKNOWLEDGED → Reached d → Sends s d → Moves (Acknowledge n) d next → h ≡ n % 2 ^ 32 →
         (resume_answer h (Some s) ≡ Ok (resume_ok s)) × Sends (resumes h conn s) next }
+    ensures exact { (h : ℕ) (s : Session (List ℕ)) (d : Direction (List ℕ)) → Sends s d → length d.put < 2 ^ 32 → h < 2 ^ 32 → IsErr (resume_answer h (Some s)) ↔ ((h < d.acked) ⊎ (length d.put < h)) }
 {}

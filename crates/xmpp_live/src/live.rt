@@ -1,5 +1,5 @@
 //! The sessions, the room for more of them, and what is true of all.
-ghost use Rattle.std.specs.Prelude.{◌≡◌, ◌+◌, ◌-◌, ◌≤◌, ◌^◌, ◌↔◌, ◌⊎◌, [], None, Some, IsErrOf, OnErr, OnOk};
+ghost use Rattle.std.specs.Prelude.{◌≡◌, ◌+◌, ◌-◌, ◌≤◌, ◌^◌, ◌↔◌, ◌⊎◌, [], None, Some, IsErrOf, IsSome, OnErr, OnOk};
 ghost use Rattle.xmpp_live.specs.Rule.{IsRule};
 
 use crate::seat::{Seat, SeatFault};
@@ -68,7 +68,7 @@ impl Live {
     }
 
     /// Reserves all memory that a session of an account needs to be bound or resumed. One seat is kept: a seat for another
-    /// account takes its place. The sessions stay on each outcome, and the seat that there was on a refusal.
+    /// account takes its place, and its queue. The sessions stay on each outcome, and the seat that there was on a refusal.
     ///
     /// `NumbersUsedUp` comes exactly where 2^64 - 1 is the number of the next session, or where no seat was there and as
     /// many queues were made. It comes before `NoMemory`.
@@ -79,7 +79,8 @@ impl Live {
         ensures sessions { self.new.sessions ≡ self.old.sessions }
         ensures next { self.new.next ≡ self.old.next }
         ensures room { self.old.room ≤ self.new.room }
-        ensures queues { self.new.queues ≤ self.old.queues + 1 }
+        ensures queues { (self.old.queues ≤ self.new.queues) × (self.new.queues ≤ self.old.queues + 1) }
+        ensures reused { IsSome self.old.seat → self.new.queues ≡ self.old.queues }
     {
         self.table.keeps_rule();
         if self.table.next_number() == u64::MAX || self.seat.is_none() && self.queues == u64::MAX {

@@ -23,7 +23,7 @@ pub enum SeatFault {
 impl fmt::Display for SeatFault {
     fn fmt<W: fmt::Write>(&self, f: &mut fmt::Formatter<W>) -> fmt::Result {
         f.write_str(match self {
-            SeatFault::NumbersUsedUp => "all numbers of sessions were given",
+            SeatFault::NumbersUsedUp => "no number is left for a session or its queue",
             SeatFault::NoMemory => "out of memory",
         })
     }

@@ -106,6 +106,6 @@ fn refusals_are_printed(rt: HostRuntime) -> Result<(), Fail> {
     let used_up = SeatFault::NumbersUsedUp;
     let memory = SeatFault::NoMemory;
     let text = format!(in rt.alloc(); "{used_up}, {memory}")?;
-    assert!(rt; text.as_str() == "all numbers of sessions were given, out of memory");
+    assert!(rt; text.as_str() == "no number is left for a session or its queue, out of memory");
     Ok(())
 }

@@ -1,5 +1,5 @@
 //! Sessions that are resumed (XEP-0198, section 5).
-ghost use Rattle.std.specs.Prelude.{◌≡◌, ◌≢◌, ℕ, ◌%◌, ◌<◌, ◌≤◌, ◌^◌, length, Ok, None, Some, IsSome, IfSome, IfNone, List, true};
+ghost use Rattle.std.specs.Prelude.{◌≡◌, ◌≢◌, ℕ, ◌%◌, ◌<◌, ◌≤◌, ◌^◌, ◌↔◌, ◌⊎◌, length, Ok, None, Some, IsErr, IsSome, IfSome, IfNone, List, true};
 ghost use Rattle.std.specs.Option.{option_map};
 ghost use Rattle.xmpp_resume.specs.Housed.{IsFree, IsHoused};
 ghost use Rattle.xmpp_resume.specs.Moves.{PoolResumed, number_of, resume_answer, resume_ok, resumed, row_resumed, rows_resumed, too_high_of};
@@ -116,6 +116,9 @@ impl Sessions {
             Moves Resume d next → h ≡ length d.got % 2 ^ 32 → (result ≡ Ok (resume_ok r)) × IsSender (resumed h conn queue r).end pool.new next) }
         ensures late { IfSome (row_resumed previd.now account self.old.rows) (λ r. (n : ℕ) (d next : Direction (List ℕ)) → Reached d → IsSender r.end pool.old d →
             Moves (Acknowledge n) d next → h ≡ n % 2 ^ 32 → (result ≡ Ok (resume_ok r)) × IsSender (resumed h conn queue r).end pool.new next) }
+        // Where fewer than 2^32 stanzas were put, a count is too high exactly where it is below the last one that was
+        // acknowledged, or above the number of those that were put.
+        ensures exact { IfSome (row_resumed previd.now account self.old.rows) (λ r. (d : Direction (List ℕ)) → IsSender r.end pool.old d → length d.put < 2 ^ 32 → IsErr result ↔ ((h < d.acked) ⊎ (length d.put < h))) }
         ensures others { OthersStand (row_resumed previd.now account self.old.rows) self.old.rows self.new.rows pool.old pool.new }
     {
         match self.resumable(previd, account) {
@@ -146,6 +149,7 @@ impl Sessions {
         ensures pool { PoolResumed h queue (row_of told.number self.old.rows) pool.old pool.new }
         ensures made { pool.new.made ≡ pool.old.made }
         ensures room { pool.old.spare ≤ pool.new.spare }
+        ensures exact { IfSome (row_of told.number self.old.rows) (λ r. (d : Direction (List ℕ)) → IsSender r.end pool.old d → length d.put < 2 ^ 32 → IsErr result ↔ ((h < d.acked) ⊎ (length d.put < h))) }
         ensures housed { IsHoused self.new.rows pool.new }
     {
         match self.ack(pool, told.number, h) {

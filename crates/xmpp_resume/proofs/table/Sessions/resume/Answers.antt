@@ -32,6 +32,12 @@ returns-in-Some-clause-pool c =
     same_row c.args.self.now.next 1 c.in-Some.told.number (is_resumed_by c.args.previd.now c.args.account) c.args.self.now.rows c.in-Some.ensures.table.ascending (told_number c.in-Some.told (row_resumed c.args.previd.now c.args.account c.args.self.now.rows) c.in-Some.ensures.told) in
     rw (← same) c.resume_told.ensures.pool
 
+pub returns-in-Some-clause-exact : goal.returns-in-Some-clause-exact
+returns-in-Some-clause-exact c =
+    let same : row_of c.in-Some.told.number c.args.self.now.rows ≡ row_resumed c.args.previd.now c.args.account c.args.self.now.rows =
+    same_row c.args.self.now.next 1 c.in-Some.told.number (is_resumed_by c.args.previd.now c.args.account) c.args.self.now.rows c.in-Some.ensures.table.ascending (told_number c.in-Some.told (row_resumed c.args.previd.now c.args.account c.args.self.now.rows) c.in-Some.ensures.told) in
+    rw (← same) c.resume_told.ensures.exact
+
 pub resume_told-requires-clause-told : goal.resume_told-requires-clause-told
 resume_told-requires-clause-told c =
     let number = told_number c.in-Some.told (row_resumed c.args.previd.now c.args.account c.args.self.now.rows) c.in-Some.ensures.told in
