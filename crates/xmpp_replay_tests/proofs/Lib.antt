@@ -1,5 +1,6 @@
 mod RefusedForms
 mod RefusedRuns
+mod RefusedWire
 mod Worked
 mod WorkedLaws
 mod WorkedPages
@@ -7,5 +8,6 @@ mod WorkedReports
 mod WorkedRuns
 mod WorkedWire
 pub mod EachOf
+pub mod FirstLines
 pub mod RunReports
 pub mod WireReports

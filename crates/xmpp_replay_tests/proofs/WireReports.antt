@@ -1,7 +1,11 @@
--- A wire schedule of two devices, and the parts of its reports: what a report of it looks like where connections broke.
+-- A wire schedule of two devices, the moments of a run of it, and the parts of its reports: what a report of it looks like
+-- where connections broke.
 use Rattle.std.specs.Prelude.{ℕ, Bool, true, false, List, [], ◌∷◌, Some, None, length, codes}
+use Rattle.xmpp_archive.specs.Entries.{EntryView}
 use Rattle.xmpp_archive.specs.Ids.{id_of}
+use Rattle.xmpp_log.specs.LogPages.{LogPage}
 use Rattle.xmpp_report.specs.Reports.{AccountView, DeviceView, ReportView}
+use Rattle.xmpp_report.specs.Worlds.{World}
 use Rattle.xmpp_report.specs.declared.report.ConnEnd.TheVariants.{Cut}
 use Rattle.xmpp_report.specs.declared.report.ConnLine.{ConnLine}
 use Rattle.xmpp_report.specs.EntryLines.{EntryLineView}
@@ -16,6 +20,7 @@ use Rattle.xmpp_report.specs.declared.report.TakeLine.{TakeLine}
 use Rattle.xmpp_schedule.specs.Schedules.{ScheduleView}
 use Rattle.xmpp_schedule.specs.declared.schedule.Step.TheVariants.{Account, Device, Say, Catchup}
 use Rattle.xmpp_schedule.specs.declared.schedule.Version.TheVariants.{One}
+use Rattle.xmpp_replay_tests.proofs.RunReports.{page, world, x as x_kept, w as w_kept, z as z_kept}
 
 -- p of a sends four messages, of which its second session sends the last two; q of b sends one; both catch up
 abbrev pub wire_schedule : ScheduleView
@@ -63,6 +68,9 @@ w n stamp = record { id = id_of n; stamp = stamp; from = codes "b@chat.example/q
 abbrev pub z : ℕ → ℕ → EntryLineView
 z n stamp = record { id = id_of n; stamp = stamp; from = codes "a@chat.example/p"; to = codes "b@chat.example"; origin = codes "p.2.1"; text = codes "z" }
 
+abbrev pub u : ℕ → ℕ → EntryLineView
+u n stamp = record { id = id_of n; stamp = stamp; from = codes "a@chat.example/p"; to = codes "a@chat.example"; origin = codes "p.2.2"; text = codes "u" }
+
 abbrev pub archived : List EntryLineView
 archived = x 1 10 ∷ w 2 20 ∷ z 3 30 ∷ []
 
@@ -84,12 +92,18 @@ p_with settled saids = record {
   held = [];
 }
 
+abbrev pub p_right : DeviceView
+p_right = p_with false of_p
+
 abbrev pub logged : EntryLineView → LoggedLine
 logged e = record { entry = e; broken = false }
 
 -- two pages of one entry each
 abbrev pub two_pages : List PageLine
 two_pages = record { after = None; count = 1; total = None } ∷ record { after = Some (id_of 1); count = 1; total = None } ∷ []
+
+abbrev pub two_logged : List LoggedLine
+two_logged = logged (x 1 10) ∷ logged (w 2 20) ∷ []
 
 abbrev pub hold : ℕ → HeldLine
 hold n = record { id = id_of n }
@@ -110,7 +124,7 @@ q_with saids pages log holds = record {
 }
 
 abbrev pub q_right : DeviceView
-q_right = q_with of_q two_pages (logged (x 1 10) ∷ logged (w 2 20) ∷ []) (hold 3 ∷ [])
+q_right = q_with of_q two_pages two_logged (hold 3 ∷ [])
 
 abbrev pub conn : ℕ → List ℕ → ConnLine
 conn k device = record { k = k; device = device; upput = 900; uptaken = 850; downput = 2400; downtaken = 2310; end = Cut }
@@ -126,4 +140,41 @@ reported takes of_a of_b p q = record {
 }
 
 abbrev pub right : ReportView
-right = reported taken archived archived (p_with false of_p) q_right
+right = reported taken archived archived p_right q_right
+
+-- The run, move by move.
+
+-- the pages of q
+abbrev pub first_page : LogPage
+first_page = page None (x_kept 1 ∷ []) false 2
+
+abbrev pub second_page : LogPage
+second_page = page (Some (id_of 1)) (w_kept 2 ∷ []) false 2
+
+-- a world, by the one content of both archives, the pages of q and how many it asked for
+abbrev pub moment : List EntryView → List LogPage → ℕ → World
+moment kept pages asked = world kept kept [] 0 pages asked
+
+abbrev pub one_kept : List EntryView
+one_kept = x_kept 1 ∷ []
+
+abbrev pub two_kept : List EntryView
+two_kept = x_kept 1 ∷ w_kept 2 ∷ []
+
+abbrev pub three_kept : List EntryView
+three_kept = x_kept 1 ∷ w_kept 2 ∷ z_kept 3 ∷ []
+
+-- up to the first page of q
+abbrev pub worlds_once : List World
+worlds_once = moment [] [] 0 ∷ moment two_kept [] 0 ∷ moment two_kept [] 1 ∷ moment two_kept (first_page ∷ []) 1 ∷ []
+
+abbrev pub worlds : List World
+worlds =
+    moment [] [] 0
+    ∷ moment two_kept [] 0
+    ∷ moment two_kept [] 1
+    ∷ moment two_kept (first_page ∷ []) 1
+    ∷ moment two_kept (first_page ∷ []) 2
+    ∷ moment two_kept (first_page ∷ second_page ∷ []) 2
+    ∷ moment two_kept (first_page ∷ second_page ∷ []) 3
+    ∷ moment three_kept (first_page ∷ second_page ∷ []) 3 ∷ []

@@ -1,9 +1,8 @@
 -- The laws of version 2 hold of a right report of a wire schedule whose archives keep two entries: with two sessions of a
 -- device, a message of unknown fate, one that waits, a refused line, a page under way, held messages, and a break where
 -- entries were purged between two pages.
-use Rattle.std.proofs.Common.{◌≡◌, ◌≢◌, ℕ, zero, suc, ◌+◌, ◌^◌, ◌≤◌, ◌<◌, add-one, List, [], ◌∷◌, Some, None, length, refl, sym, codes, arith, inl, inr}
+use Rattle.std.proofs.Common.{◌≡◌, ◌≢◌, ℕ, ◌+◌, ◌^◌, ◌≤◌, ◌<◌, add-one, [], ◌∷◌, Some, None, length, refl, sym, codes, arith, inl, inr}
 use Rattle.std.proofs.lemmas.Bool.{false≢true}
-use Rattle.std.proofs.lemmas.List.Elements.{All-from_recursion}
 use Rattle.std.proofs.lemmas.Option.{none-some, same_Some}
 use Rattle.std.specs.Fmt.{digits}
 use Rattle.std.specs.List.Sorted.{IsNonDecreasing}
@@ -12,13 +11,13 @@ use Rattle.xmpp_archive.specs.Ids.{id_of}
 use Rattle.xmpp_archive.specs.declared.archive.TheConstants.{GREATEST_NUMBER}
 use Rattle.xmpp_basis.specs.Hexadecimal.{hex16_of}
 use Rattle.xmpp_pages.specs.Kept.{first_number, last_number}
-use Rattle.xmpp_report.specs.Lawful.{AreOutcomes, EachPair, IsAcknowledgedRight, IsOfSchedule, IsOnceInOrder, Passes, last_logged}
+use Rattle.xmpp_report.specs.Lawful.{AreOutcomes, IsAcknowledgedRight, IsOfSchedule, IsOnceInOrder, Passes, last_logged}
 use Rattle.xmpp_report.specs.LawfulRuns.{ArePagesOfRuns, EndsWhole, IsFirstNumber, IsFreshTo, IsGivenBy, IsInForm, IsKeptWhenAsked, IsLastNumber, IsLoggedInRuns, IsOldestKept, IsPagedInRuns, IsPurgedBy, IsRunsOf, IsTakenAndKept, KeepsLaws, lines_of_page, logged_before}
 use Rattle.xmpp_report.specs.Reports.{DeviceView}
 use Rattle.xmpp_report.specs.Worlds.{World}
 use Rattle.xmpp_report.specs.declared.report.RefusedWhy.TheVariants.{NotBound}
 use Rattle.xmpp_schedule.specs.declared.schedule.Version.TheVariants.{Two}
-use Rattle.xmpp_replay_tests.proofs.EachOf.{EachMove, one_at, one_move}
+use Rattle.xmpp_replay_tests.proofs.EachOf.{EachMove, not_falling, one_at, one_move}
 use Rattle.xmpp_replay_tests.proofs.RunReports.{of_a, of_b, p_right, q_right, right, run_lines, run_schedule, s, said_by_p, said_by_q, worlds, x, z}
 
 form : IsInForm (Two 2) right
@@ -39,14 +38,6 @@ of_schedule = record {
 }
 
 -- Law 1.
-
--- moments of which none is above a later one don't fall
-not_falling : (moments : List ℕ) → EachPair (λ a b. a ≤ b) moments → IsNonDecreasing moments
-not_falling [] pairs i j d before within = absurd (omega arith)
-not_falling (first ∷ moments) pairs zero zero d before within = omega arith
-not_falling (first ∷ moments) pairs zero (suc j) d before within = All-from_recursion (λ b. first ≤ b) moments pairs.0 j d (omega arith)
-not_falling (first ∷ moments) pairs (suc i) zero d before within = absurd (omega arith)
-not_falling (first ∷ moments) pairs (suc i) (suc j) d before within = not_falling moments pairs.1 i j d (omega arith) (omega arith)
 
 moments_right : IsNonDecreasing (10 ∷ 20 ∷ 30 ∷ 30 ∷ 40 ∷ 50 ∷ [])
 moments_right =

@@ -1,30 +1,24 @@
--- Laws 1 to 4 hold of a right report of a wire schedule, with two sessions of a device, a message of unknown fate, one
--- that waits, a refused line, a page under way and a held message. Reports that are wrong in one thing are refused by
--- the law that speaks of it.
-use Rattle.std.proofs.Common.{◌≡◌, ◌≢◌, ℕ, zero, suc, ◌≤◌, true, false, List, [], ◌∷◌, Some, None, get_or, refl, sym, ap, ◌∙◌, codes, arith, inl, inr}
+-- The laws of version 1 hold of a right report of a wire schedule, with two sessions of a device, a message of unknown
+-- fate, one that waits, a refused line, a page under way and a held message.
+use Rattle.std.proofs.Common.{◌≡◌, ◌≢◌, ℕ, List, [], ◌∷◌, Some, refl, sym, ap, ◌∙◌, codes, arith, inl, inr}
 use Rattle.std.proofs.lemmas.Bool.{false≢true}
-use Rattle.std.proofs.lemmas.List.Elements.{All-from_recursion}
+use Rattle.std.proofs.lemmas.Option.{none-some}
 use Rattle.std.specs.Fmt.{digits}
 use Rattle.std.specs.List.{flat_map}
 use Rattle.std.specs.List.Sorted.{IsNonDecreasing}
 use Rattle.std.specs.Prelude.{if◌then◌else◌}
 use Rattle.std.specs.Str.{bytes_eq}
-use Rattle.xmpp_report.specs.declared.report.RefusedWhy.TheVariants.{NotBound}
+use Rattle.xmpp_archive.proofs.IdDigits.{id_of_same}
+use Rattle.xmpp_archive.specs.Ids.{id_of}
 use Rattle.xmpp_basis.specs.Hexadecimal.{hex16_of}
 use Rattle.xmpp_report.proofs.Pairs.{pairs_by_both}
-use Rattle.xmpp_report.specs.Lawful.{AgreeOnStamp, AreOutcomes, AreTiles, EachPair, IsAcknowledgedRight, IsLogged, IsOfSchedule, IsOnceInOrder, IsTakenRight}
+use Rattle.xmpp_report.specs.Lawful.{AgreeOnStamp, AreOutcomes, ArePages, AreTiles, IsAcknowledgedRight, IsFresh, IsLogged, IsOfSchedule, IsOnceInOrder, IsPaged, IsTakenRight}
+use Rattle.xmpp_report.specs.LawfulRuns.{IsInForm, KeepsLaws}
 use Rattle.xmpp_report.specs.Reports.{AccountView}
-use Rattle.xmpp_report.specs.EntryLines.{EntryLineView}
-use Rattle.xmpp_report.specs.declared.report.SaidMark.TheVariants.{Acknowledged, Waiting, Undecided}
-use Rattle.xmpp_replay_tests.proofs.WireReports.{wire_schedule, take, taken, said, of_p, of_q, x, w, z, archived, p_with, logged, two_pages, hold, q_with, q_right, reported, right}
-
--- stamps of which none is above a later one don't fall
-not_falling : (stamps : List ℕ) → EachPair (λ a b. a ≤ b) stamps → IsNonDecreasing stamps
-not_falling [] pairs i j d before within = absurd (omega arith)
-not_falling (first ∷ stamps) pairs zero zero d before within = omega arith
-not_falling (first ∷ stamps) pairs zero (suc j) d before within = All-from_recursion (λ b. first ≤ b) stamps pairs.0 j d (omega arith)
-not_falling (first ∷ stamps) pairs (suc i) zero d before within = absurd (omega arith)
-not_falling (first ∷ stamps) pairs (suc i) (suc j) d before within = not_falling stamps pairs.1 i j d (omega arith) (omega arith)
+use Rattle.xmpp_report.specs.declared.report.RefusedWhy.TheVariants.{NotBound}
+use Rattle.xmpp_schedule.specs.declared.schedule.Version.TheVariants.{One}
+use Rattle.xmpp_replay_tests.proofs.EachOf.{not_falling, one_at}
+use Rattle.xmpp_replay_tests.proofs.WireReports.{of_p, of_q, p_right, q_right, right, wire_schedule, worlds}
 
 stamps_right : IsNonDecreasing (10 ∷ 20 ∷ 30 ∷ [])
 stamps_right = not_falling (10 ∷ 20 ∷ 30 ∷ []) ((omega arith, (omega arith, tt)), ((omega arith, tt), (tt, tt)))
@@ -32,6 +26,14 @@ stamps_right = not_falling (10 ∷ 20 ∷ 30 ∷ []) ((omega arith, (omega arith
 -- the stamp of the message with an origin id
 abbrev stamp_of : List ℕ → ℕ
 stamp_of origin = if bytes_eq origin (codes "p.1.1") then 10 else (if bytes_eq origin (codes "q.1.1") then 20 else 30)
+
+form : IsInForm One right
+form = record {
+  is = refl;
+  moments = (refl, (refl, (refl, tt)));
+  lasts = λ told. (refl, (refl, tt));
+  unbroken = λ told. (tt, ((refl, (refl, tt)), tt));
+}
 
 of_schedule : IsOfSchedule wire_schedule right
 of_schedule = record {
@@ -114,70 +116,33 @@ law_4 = record {
 tiles_right : AreTiles [] q_right.pages q_right.logged
 tiles_right = (refl, omega arith, λ none. omega arith, tt, (refl, omega arith, λ none. omega arith, tt, refl))
 
--- the first one's stamp
-abbrev first_stamp : List EntryLineView → ℕ
-first_stamp [] = 0
-first_stamp (e ∷ es) = e.stamp
+differ : id_of 1 ≢ id_of 2
+differ same = omega (arith, id_of_same 1 2 (omega arith) (omega arith) same)
 
--- Wrong reports.
+p_paged : ArePages worlds wire_schedule p_right
+p_paged = record {
+  tiles = refl;
+  distinct = tt;
+  fresh = λ k total page here told. absurd (none-some page here);
+  last = refl;
+  answered = λ direct. absurd (false≢true (sym direct));
+}
 
--- the recipient's archive lacks what the sender's has
-recipients_archive_lacks_one : IsTakenRight wire_schedule (reported taken archived (x 1 10 ∷ w 2 20 ∷ []) (p_with false of_p) q_right) → ⊥
-recipients_archive_lacks_one law = absurd (cc law.archives.1.0)
+q_paged : ArePages worlds wire_schedule q_right
+q_paged = record {
+  tiles = tiles_right;
+  distinct = ((differ, tt), (tt, tt));
+  -- none of its pages is complete
+  fresh = λ k total page here told.
+      one_at (λ k page. (total : ℕ) → page.total ≡ Some total → IsFresh worlds q_right k total) 0 q_right.pages
+      (λ total told. absurd (none-some total told), (λ total told. absurd (none-some total told), tt))
+      k k page here (omega arith) total told;
+  last = refl;
+  answered = λ direct. absurd (false≢true (sym direct));
+}
 
-stamps_fall : IsTakenRight wire_schedule (reported taken (x 1 10 ∷ w 2 20 ∷ z 3 15 ∷ []) archived (p_with false of_p) q_right) → ⊥
-stamps_fall law = omega (arith, law.stamps.0 1 2 0 (omega arith) (omega arith))
+law_5 : IsPaged worlds wire_schedule right
+law_5 = record { whole = of_schedule; pages = (p_paged, (q_paged, tt)) }
 
-two_stamps_of_one_message : IsTakenRight wire_schedule (reported taken archived (x 1 11 ∷ w 2 20 ∷ z 3 30 ∷ []) (p_with false of_p) q_right) → ⊥
-two_stamps_of_one_message law = omega (arith, law.one_stamp.0.1.1.0 refl refl)
-
-taken_for_another_account : IsTakenRight wire_schedule (reported (take (codes "p") 1 1 (codes "a") ∷ []) [] [] (p_with false of_p) q_right) → ⊥
-taken_for_another_account law =
-    let same : codes "b" ≡ codes "a" = law.submitted.0 in
-    omega (arith, ap (λ (s : List ℕ). get_or s 0 0) same)
-
-taken_and_never_said : IsTakenRight wire_schedule (reported (take (codes "q") 1 2 (codes "a") ∷ []) [] [] (p_with false of_p) q_right) → ⊥
-taken_and_never_said law = law.submitted.0
-
-taken_for_nobody : IsTakenRight wire_schedule (reported (take (codes "p") 1 1 (codes "c") ∷ []) [] [] (p_with false of_p) q_right) → ⊥
-taken_for_nobody law = absurd (false≢true law.exist.0)
-
-of_an_epoch_to_come : IsTakenRight wire_schedule (reported taken archived archived (p_with false of_p) (q_with (said 2 1 Acknowledged (codes "a") (codes "w") ∷ []) [] [] [])) → ⊥
-of_an_epoch_to_come law = omega (arith, law.epochs.1.0.0.1)
-
-taken_without_the_one_before : IsOnceInOrder wire_schedule (reported (take (codes "p") 1 2 (codes "b") ∷ []) [] [] (p_with false of_p) q_right) → ⊥
-taken_without_the_one_before law = absurd (false≢true (law.gapless.0.0.0 refl refl refl))
-
-acknowledged_after_one_that_waits :
-    IsAcknowledgedRight wire_schedule (reported taken [] [] (p_with false (said 1 1 Waiting (codes "b") (codes "x") ∷ said 1 2 Acknowledged (codes "b") (codes "y") ∷ [])) q_right) → ⊥
-acknowledged_after_one_that_waits law = absurd (cc (law.first.0.0.0 refl refl))
-
-settled_and_one_waits : IsAcknowledgedRight wire_schedule (reported taken archived archived (p_with true of_p) q_right) → ⊥
-settled_and_one_waits law = (law.settled.0 refl).nothing_waits.1.1.1.0 refl
-
-settled_with_an_unknown_fate :
-    IsAcknowledgedRight wire_schedule (reported taken archived archived (p_with true (said 2 1 Undecided (codes "b") (codes "x") ∷ [])) q_right) → ⊥
-settled_with_an_unknown_fate law = absurd (cc ((law.settled.0 refl).present_epoch.0 refl))
-
-held_and_logged : IsLogged wire_schedule (reported taken archived archived (p_with false of_p) (q_with of_q two_pages (logged (x 1 10) ∷ logged (w 2 20) ∷ []) (hold 2 ∷ []))) → ⊥
-unfolding digits hex16_of
-held_and_logged law = absurd (false≢true law.prefix.1.0.held.0)
-
-held_twice : IsLogged wire_schedule (reported taken archived archived (p_with false of_p) (q_with of_q two_pages (logged (x 1 10) ∷ logged (w 2 20) ∷ []) (hold 3 ∷ hold 3 ∷ []))) → ⊥
-held_twice law = law.prefix.1.0.apart.0.0 refl
-
-logged_out_of_order : IsLogged wire_schedule (reported taken archived archived (p_with false of_p) (q_with of_q two_pages (logged (w 2 20) ∷ logged (x 1 10) ∷ []) [])) → ⊥
-logged_out_of_order law = omega (arith, ap first_stamp law.prefix.1.0.logged)
-
-asked_for_from_the_start_again : AreTiles [] (record { after = None; count = 1; total = None } ∷ record { after = None; count = 1; total = None } ∷ []) (logged (x 1 10) ∷ logged (w 2 20) ∷ []) → ⊥
-asked_for_from_the_start_again tiles = absurd (cc tiles.4.0)
-
-an_empty_page_that_is_not_complete : AreTiles [] (record { after = None; count = 0; total = None } ∷ []) [] → ⊥
-an_empty_page_that_is_not_complete tiles = omega (arith, tiles.2 refl)
-
-a_total_ahead_of_the_log : AreTiles [] (record { after = None; count = 1; total = Some 2 } ∷ []) (logged (x 1 10) ∷ []) → ⊥
-a_total_ahead_of_the_log tiles = omega (arith, tiles.3)
-
--- one entry twice in a log
-logged_twice : EachPair (λ a b. a.entry.id ≢ b.entry.id) (logged (x 1 10) ∷ logged (x 1 10) ∷ []) → ⊥
-logged_twice distinct = distinct.0.0 refl
+lawful : KeepsLaws worlds wire_schedule right
+lawful = record { form = form; laws = record { taken = law_1; in_order = law_2; acknowledged = law_3; logged = law_4; paged = law_5 } }
