@@ -9,4 +9,5 @@ pub mod SaslReads
 pub mod RequestReads
 pub mod TreeReads
 pub mod ForwardReads
+pub mod ArchivedReads
 pub mod FinReads

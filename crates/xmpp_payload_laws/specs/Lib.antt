@@ -2,3 +2,5 @@
 pub mod Answers
 -- law: what is read of what was written
 pub mod AsRead
+-- law: what an archived message is sent in
+pub mod Archived

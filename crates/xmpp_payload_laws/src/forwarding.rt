@@ -1,18 +1,25 @@
 //! Laws of messages that are forwarded: carbons, and what an archive answers (XEP-0280, XEP-0297, XEP-0313).
-ghost use Rattle.std.specs.Prelude.{◌≡◌, ◌<◌, ◌≤◌, ◌^◌, ℕ, None, Ok, Option, true};
+ghost use Rattle.std.specs.Prelude.{◌≡◌, ◌<◌, ◌≤◌, ◌^◌, ℕ, List, [], None, Ok, Option, Some, codes, true};
 ghost use Rattle.xmpp_ext.specs.Carbons.{IsCarbon, WritesCarbon, carbon_checks, is_carbon};
 ghost use Rattle.xmpp_ext.specs.ForwardReadings.{carbon_read, forward_read, forwarded_read};
 ghost use Rattle.xmpp_ext.specs.Forwarding.{Forwards, IsForwarded, WritesForwarded, forward_checks, forwarded_checks, is_forwarded};
 ghost use Rattle.xmpp_ext.specs.declared.carbons.Carbon.{Carbon};
 ghost use Rattle.xmpp_ext.specs.declared.forwarding.Forwarded.{Forwarded};
+ghost use Rattle.xmpp_jid.specs.Normal.{normal};
 ghost use Rattle.xmpp_mam.specs.ArchiveAnswers.{IsFin, IsMamResult, WritesMamResult, fin_checks, fin_elem, is_fin, is_result, result_checks};
 ghost use Rattle.xmpp_mam.specs.Readings.{fin_read, result_read};
 ghost use Rattle.xmpp_mam.specs.declared.archive_answers.MamResult.{MamResult};
 ghost use Rattle.xmpp_pages.specs.declared.fin.Fin.{Fin};
 ghost use Rattle.xmpp_payload.specs.Checks.{IsFirstWrong};
 ghost use Rattle.xmpp_payload_laws.specs.Answers.{IsAnswer};
+ghost use Rattle.xmpp_payload_laws.specs.Archived.{archived_elem};
 ghost use Rattle.xmpp_payload_laws.specs.AsRead.{carbon_as_read, forwarded_as_read, last_moment, result_as_read};
-ghost use Rattle.xmpp_trees.specs.Trees.{AreTidy, Elem};
+ghost use Rattle.xmpp_stanza.specs.Readings.{stanza_of};
+ghost use Rattle.xmpp_stanza.specs.Stanzas.{attr_named};
+ghost use Rattle.xmpp_stanza.specs.declared.kinds.MessageKind.TheVariants as kind;
+ghost use Rattle.xmpp_stanza.specs.declared.stanzas.Stanza.TheVariants as stanza;
+ghost use Rattle.xmpp_trees.specs.Tidied.{tidied};
+ghost use Rattle.xmpp_trees.specs.Trees.{AreTidy, Elem, child, no_nodes};
 
 /// A law: what is read of an element that forwards a message is what the grammar says that it stands for, and each
 /// refusal comes exactly where the grammar tells it. `inside` is what is forwarded in an element, whatever its name;
@@ -31,6 +38,16 @@ pub fn written_forwarding_is_read_back()
     ensures carbon { (v : Carbon) (e : Elem) → WritesCarbon v e → carbon_read e ≡ Ok (carbon_as_read v) }
     ensures result { (v : MamResult) (e : Elem) → WritesMamResult v e → result_read e ≡ Ok (result_as_read v) }
     ensures stays { (v : Forwarded) → v.stamp ≤ last_moment → AreTidy v.message.payload → forwarded_as_read v ≡ v }
+{}
+
+/// A law: the message in which an archive sends an archived one has no `type`. It is read as a message of the type `normal`
+/// between the normal forms of its addresses, without an id and a language, and what it contains, alone, is read as what
+/// was written (XEP-0313, section 4.2).
+pub fn archived_messages_are_read_back()
+    ensures untyped { (from to : List ℕ) (e : Elem) → attr_named (codes "type") (tidied (archived_elem from to e)) ≡ None }
+    ensures message { (from to : List ℕ) (e : Elem) (sender recipient : List ℕ) → normal from ≡ Ok sender → normal to ≡ Ok recipient
+        → stanza_of (tidied (archived_elem from to e)) ≡ Ok (stanza.Message (record { from = Some sender; to = Some recipient; id = []; kind = kind.Normal; lang = []; payload = child (tidied e) no_nodes })) }
+    ensures result { (v : MamResult) (e : Elem) → WritesMamResult v e → result_read (tidied e) ≡ Ok (result_as_read v) }
 {}
 
 /// A law: what is read of the end of a page is what the grammar says that the element stands for, and each refusal
