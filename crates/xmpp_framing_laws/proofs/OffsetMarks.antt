@@ -17,7 +17,7 @@ use Rattle.xmpp_tokens.specs.declared.declarations.Declaration.{Declaration}
 use Rattle.xmpp_tokens.specs.declared.declarations.Declaration.TheVariants as declaration
 use Rattle.xmpp_tokens.specs.declared.references.Reference.{Reference}
 use Rattle.xmpp_tokens.specs.declared.references.Reference.TheVariants as reference
-use Rattle.xmpp_framing_laws.proofs.OffsetTags.{Spot, closes_close, footer_close}
+use Rattle.xmpp_framing_laws.proofs.OffsetTags.{Spot, closes_close, footer_close, state_by, turn_by}
 use Rattle.xmpp_framing_laws.proofs.ReadCharacters.{ascii_alone, ascii_ends, grown_after}
 use Rattle.xmpp_framing_laws.proofs.ReadSoFar.{OpensSection}
 use Rattle.xmpp_framing_laws.proofs.TextFronts.{counted-append, counted_behind, ends-append, ends_behind, ends_parted, section_end_0}
@@ -97,14 +97,6 @@ is_open mode.Section s more e f spot h = open_section more h.inside h.is h.no_en
 pub record Marks (first b : ℕ) (more : List ℕ) (u : State) : Type 0 where
   pub goes : is_text u.lexical.mode ≡ false → u.fault ≡ None → Mark u.lexical.mode (passed u b) (more ++ b ∷ [])
   pub ends : is_text u.lexical.mode ≡ true → u.fault ≡ None → IsWhole (first ∷ (more ++ b ∷ [])) × (u.token ≡ [])
-
-turn_by : (P : Turn → Type 0) (u v : Turn) (c : Bool) → (c ≡ true → P u) → (c ≡ false → P v) → P (if c then u else v)
-turn_by P u v true x y = x refl
-turn_by P u v false x y = y refl
-
-state_by : (P : State → Type 0) (u v : State) (c : Bool) → (c ≡ true → P u) → (c ≡ false → P v) → P (if c then u else v)
-state_by P u v true x y = x refl
-state_by P u v false x y = y refl
 
 module _ (first b : ℕ) (more : List ℕ) where
   broken : (u : State) (f : Fault) → u.fault ≡ Some f → Marks first b more u

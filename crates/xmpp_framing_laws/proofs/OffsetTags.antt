@@ -253,11 +253,12 @@ SpotOn b u = is_text u.lexical.mode ≡ false → u.fault ≡ None → Spot u.le
 slash_spot : (b : ℕ) (q : Option ℕ) → b ≡ 47 → q ≡ None → Spot mode.Footer q (b ∷ [])
 slash_spot b q is n = subst (λ d. Spot mode.Footer q (d ∷ [])) (sym is) (refl, refl, refl, n, refl)
 
-turn_by : (P : Turn → Type 0) (u v : Turn) (c : Bool) → (c ≡ true → P u) → (c ≡ false → P v) → P (if c then u else v)
+-- what holds of either branch holds of the choice
+pub turn_by : (P : Turn → Type 0) (u v : Turn) (c : Bool) → (c ≡ true → P u) → (c ≡ false → P v) → P (if c then u else v)
 turn_by P u v true x y = x refl
 turn_by P u v false x y = y refl
 
-state_by : (P : State → Type 0) (u v : State) (c : Bool) → (c ≡ true → P u) → (c ≡ false → P v) → P (if c then u else v)
+pub state_by : (P : State → Type 0) (u v : State) (c : Bool) → (c ≡ true → P u) → (c ≡ false → P v) → P (if c then u else v)
 state_by P u v true x y = x refl
 state_by P u v false x y = y refl
 

@@ -1,5 +1,6 @@
--- The place of the next byte rises by one with each byte, and by nothing else.
-use Rattle.std.proofs.Common.{◌≡◌, ℕ, ◌+◌, Bool, true, false, true≢false, ◌==◌, ◌&&◌, ◌||◌, not, if◌then◌else◌, List, [], ◌∷◌, ◌++◌, Option, Some, None, Result, Ok, Err, codes, length, refl, sym, ap, ◌∙◌}
+-- What a byte does to a token leaves the place of the next byte and the character in hand, and counts no more bytes than
+-- before, or the first. So the place rises by one with each byte, and by nothing else.
+use Rattle.std.proofs.Common.{◌≡◌, ℕ, ◌+◌, ◌≤◌, arith, Bool, true, false, true≢false, ◌==◌, ◌&&◌, ◌||◌, not, if◌then◌else◌, List, [], ◌∷◌, ◌++◌, Option, Some, None, Result, Ok, Err, codes, length, refl, sym, ap, ◌∙◌}
 use Rattle.std.specs.Option.{is_some}
 use Rattle.std.specs.Prelude.{nat_lt, slice_index}
 use Rattle.xmpp_tokens.specs.Characters.{is_white}
@@ -35,20 +36,24 @@ use Rattle.xmpp_framing.specs.declared.states.Phase.TheVariants as phase
 abbrev passing : State → ℕ × List ℕ
 passing s = (s.places.at, s.pending)
 
+-- as many are counted as before, or 1, or none
+abbrev Counted : State → State → Type 0
+Counted s t = (n : ℕ) → 1 ≤ n → s.places.used ≤ n → t.places.used ≤ n
+
 abbrev Stays : State → State → Type 0
-Stays s t = passing t ≡ passing s
+Stays s t = (passing t ≡ passing s) × Counted s t
 
 one : (s t u : State) (b : Bool) → Stays s t → Stays s u → Stays s (if b then t else u)
 one s t u true x y = x
 one s t u false x y = y
 
 run_stays : (s : State) → Stays s (in_run s)
-run_stays s = one s s (run_begun s) s.lexical.in_run refl refl
+run_stays s = one s s (run_begun s) s.lexical.in_run (refl, λ n p h. h) (refl, λ n p h. h)
 
 markup_stays : (s : State) → Stays s (markup_begun s)
 markup_stays s =
     let t = token_begun s mode.Opening in
-    one s t (record t { places = record t.places { item_at = t.places.at; used = 1 } }) (is_some t.here) refl refl
+    one s t (record t { places = record t.places { item_at = t.places.at; used = 1 } }) (is_some t.here) (refl, λ n p h. h) (refl, λ n p h. p)
 
 outside_stays : (s : State) (b : ℕ) → Stays s (text_outside s b)
 unfolding text_outside
@@ -62,7 +67,7 @@ between_stays : (s : State) (b : ℕ) → Stays s (between s b)
 unfolding between
 between_stays s b =
     let fault = fails s s.places.at why.NotWellFormed in
-    one s (markup_begun s) (if b == 38 then fault else text_outside s b) (b == 60) (markup_stays s) (one s fault (text_outside s b) (b == 38) refl (outside_stays s b))
+    one s (markup_begun s) (if b == 38 then fault else text_outside s b) (b == 60) (markup_stays s) (one s fault (text_outside s b) (b == 38) (refl, λ n p h. h) (outside_stays s b))
 
 inside_stays : (s : State) (b : ℕ) → Stays s (inside s b)
 unfolding inside text_inside
@@ -70,7 +75,7 @@ inside_stays s b =
     let t = in_run s in
     let judged : Stays s (judged_text t b) = one s (token_fails t why.NotWellFormed) (character_taken t b) (is_forbidden t b || ends_section t b) (run_stays s) (run_stays s) in
     let text : Stays s (text_inside s b) = one s (judged_text t b) t (ends_character s.pending b) judged (run_stays s) in
-    one s (markup_begun s) (if b == 38 then token_begun s mode.Reference else text_inside s b) (b == 60) (markup_stays s) (one s (token_begun s mode.Reference) (text_inside s b) (b == 38) refl text)
+    one s (markup_begun s) (if b == 38 then token_begun s mode.Reference else text_inside s b) (b == 60) (markup_stays s) (one s (token_begun s mode.Reference) (text_inside s b) (b == 38) (refl, λ n p h. h) text)
 
 text_stays : (s : State) (b : ℕ) → Stays s (in_text s b)
 unfolding in_text
@@ -79,33 +84,33 @@ text_stays s b = one s (inside s b) (between s b) (is_some s.here) (inside_stays
 bracket_stays : (s : State) → Stays s (bracket_taken s)
 bracket_stays s =
     one s (record s { chars = s.chars ++ 93 ∷ []; lexical = record s.lexical { returned = false } })
-    (record s { lexical = record s.lexical { returned = false; brackets = if s.lexical.brackets == 0 then 1 else 2 } }) (s.lexical.brackets == 2) refl refl
+    (record s { lexical = record s.lexical { returned = false; brackets = if s.lexical.brackets == 0 then 1 else 2 } }) (s.lexical.brackets == 2) (refl, λ n p h. h) (refl, λ n p h. h)
 
 section_stays : (s : State) (b : ℕ) → Stays s (in_section s b)
 unfolding in_section judged_section
 section_stays s b =
-    let taken_is : Stays s (section_taken s b) = one s (bracket_taken s) (other_taken s b) (b == 93) (bracket_stays s) refl in
-    let rest : Stays s (if ends_section s b then token_ended s else section_taken s b) = one s (token_ended s) (section_taken s b) (ends_section s b) refl taken_is in
-    let judged : Stays s (judged_section s b) = one s (token_fails s why.NotWellFormed) (if ends_section s b then token_ended s else section_taken s b) (is_forbidden s b) refl rest in
-    one s (judged_section s b) s (ends_character s.pending b) judged refl
+    let taken_is : Stays s (section_taken s b) = one s (bracket_taken s) (other_taken s b) (b == 93) (bracket_stays s) (refl, λ n p h. h) in
+    let rest : Stays s (if ends_section s b then token_ended s else section_taken s b) = one s (token_ended s) (section_taken s b) (ends_section s b) (refl, λ n p h. h) taken_is in
+    let judged : Stays s (judged_section s b) = one s (token_fails s why.NotWellFormed) (if ends_section s b then token_ended s else section_taken s b) (is_forbidden s b) (refl, λ n p h. h) rest in
+    one s (judged_section s b) s (ends_character s.pending b) judged (refl, λ n p h. h)
 
 refers_stays : (s : State) (r : Reference) → Stays s (refers s r)
-refers_stays s (reference.Character c) = refl
-refers_stays s reference.Unknown = refl
-refers_stays s reference.Malformed = refl
+refers_stays s (reference.Character c) = (refl, λ n p h. h)
+refers_stays s reference.Unknown = (refl, λ n p h. h)
+refers_stays s reference.Malformed = (refl, λ n p h. h)
 
 reference_stays : (s : State) (b : ℕ) → Stays s (in_reference s b)
 unfolding in_reference
 reference_stays s b =
     let fault = token_fails s why.NotWellFormed in
-    one s (refers s (referred s.token)) (if reference_goes_on s.token b then gathered s b else fault) (b == 59) (refers_stays s (referred s.token)) (one s (gathered s b) fault (reference_goes_on s.token b) refl refl)
+    one s (refers s (referred s.token)) (if reference_goes_on s.token b then gathered s b else fault) (b == 59) (refers_stays s (referred s.token)) (one s (gathered s b) fault (reference_goes_on s.token b) (refl, λ n p h. h) (refl, λ n p h. h))
 
 bang_stays : (s : State) (b : ℕ) → Stays s (in_bang s b)
 unfolding in_bang
 bang_stays s b =
-    let opened : Stays s (section_opened s) = one s (in_mode (record s { token = [] }) mode.Section) (token_fails s why.NotWellFormed) (is_some s.here) refl refl in
+    let opened : Stays s (section_opened s) = one s (in_mode (record s { token = [] }) mode.Section) (token_fails s why.NotWellFormed) (is_some s.here) (refl, λ n p h. h) (refl, λ n p h. h) in
     let next = if length s.token == 8 then section_opened s else gathered s b in
-    one s next (token_fails s why.Restricted) (b == slice_index (codes "<![CDATA[") (length s.token)) (one s (section_opened s) (gathered s b) (length s.token == 8) opened refl) refl
+    one s next (token_fails s why.Restricted) (b == slice_index (codes "<![CDATA[") (length s.token)) (one s (section_opened s) (gathered s b) (length s.token == 8) opened (refl, λ n p h. h)) (refl, λ n p h. h)
 
 question_stays : (s : State) (b : ℕ) → Stays s (in_question s b)
 unfolding in_question
@@ -113,30 +118,30 @@ question_stays s b =
     let fault = token_fails s why.Restricted in
     let begun = if b == slice_index (codes "<?xml") (length s.token) then gathered s b else fault in
     let spaced = if is_white b then gathered_in s mode.Declaration b else fault in
-    one s begun spaced (nat_lt (length s.token) 5) (one s (gathered s b) fault (b == slice_index (codes "<?xml") (length s.token)) refl refl) (one s (gathered_in s mode.Declaration b) fault (is_white b) refl refl)
+    one s begun spaced (nat_lt (length s.token) 5) (one s (gathered s b) fault (b == slice_index (codes "<?xml") (length s.token)) (refl, λ n p h. h) (refl, λ n p h. h)) (one s (gathered_in s mode.Declaration b) fault (is_white b) (refl, λ n p h. h) (refl, λ n p h. h))
 
 declares_stays : (s : State) (d : Declaration) → Stays s (declares s d)
-declares_stays s declaration.Good = refl
-declares_stays s declaration.Encoding = refl
-declares_stays s declaration.NotWellFormed = refl
+declares_stays s declaration.Good = (refl, λ n p h. omega arith)
+declares_stays s declaration.Encoding = (refl, λ n p h. h)
+declares_stays s declaration.NotWellFormed = (refl, λ n p h. h)
 
 declaration_stays : (s : State) (b : ℕ) → Stays s (in_declaration s b)
 unfolding in_declaration
 declaration_stays s b =
-    one s (declares (gathered s b) (declaration_of (s.token ++ b ∷ []))) (gathered s b) (b == 62 && ends_in_question s.token) (declares_stays (gathered s b) (declaration_of (s.token ++ b ∷ []))) refl
+    one s (declares (gathered s b) (declaration_of (s.token ++ b ∷ []))) (gathered s b) (b == 62 && ends_in_question s.token) (declares_stays (gathered s b) (declaration_of (s.token ++ b ∷ []))) (refl, λ n p h. h)
 
 -- ---- turns
 
 abbrev Remains : Turn → Turn → Type 0
-Remains t u = passing u.state ≡ passing t.state
+Remains t u = Stays t.state u.state
 
 either : (t u v : Turn) (b : Bool) → Remains t u → Remains t v → Remains t (if b then u else v)
 either t u v true x y = x
 either t u v false x y = y
 
 added_remains : (o : Option OpenElement) (t : Turn) (e : Elem) → Remains t (added_to o t e)
-added_remains None t e = refl
-added_remains (Some o) t e = refl
+added_remains None t e = (refl, λ n p h. omega arith)
+added_remains (Some o) t e = (refl, λ n p h. h)
 
 leaf_remains : (t : Turn) (tag : Tag) → Remains t (leaf t tag)
 unfolding leaf
@@ -147,14 +152,14 @@ unfolding begun level
 begun_remains t tag =
     let deep = moved t (token_fails t.state why.TooDeep) in
     let inner = moved t (level t.state tag) in
-    either t deep (if tag.empty then leaf t tag else inner) (is_too_deep t.state) refl (either t (leaf t tag) inner tag.empty (leaf_remains t tag) refl)
+    either t deep (if tag.empty then leaf t tag else inner) (is_too_deep t.state) (refl, λ n p h. h) (either t (leaf t tag) inner tag.empty (leaf_remains t tag) (refl, λ n p h. h))
 
 starts_remains : (t : Turn) (r : Result Tag StartWhy) → Remains t (starts t r)
 starts_remains t (Ok tag) = begun_remains t tag
-starts_remains t (Err fault) = refl
+starts_remains t (Err fault) = (refl, λ n p h. h)
 
 open_remains : (o : Option OpenElement) (t : Turn) → Remains t (closed_open o t)
-open_remains None t = refl
+open_remains None t = (refl, λ n p h. h)
 open_remains (Some o) t = added_remains (shallower t.state).here (moved t (shallower t.state)) o.element
 
 closed_remains : (t : Turn) → Remains t (closed t)
@@ -163,15 +168,15 @@ closed_remains t = open_remains (joined_text t.state).here (moved t (joined_text
 
 ends_remain : (t : Turn) → Remains t (ends t)
 unfolding ends
-ends_remain t = either t (closed t) (moved t (token_fails t.state why.NotWellFormed)) (is_spelled t.state.here (end_of t.state.token)) (closed_remains t) refl
+ends_remain t = either t (closed t) (moved t (token_fails t.state why.NotWellFormed)) (is_spelled t.state.here (end_of t.state.token)) (closed_remains t) (refl, λ n p h. h)
 
 inside_remains : (t : Turn) → Remains t (tag_inside t)
 unfolding tag_inside
 inside_remains t = either t (ends t) (starts t (tag_here t.state)) (is_end t.state.token) (ends_remain t) (starts_remains t (tag_here t.state))
 
 heads_remain : (t : Turn) (r : Result Tag StartWhy) → Remains t (heads t r)
-heads_remain t (Ok tag) = refl
-heads_remain t (Err fault) = refl
+heads_remain t (Ok tag) = (refl, λ n p h. omega arith)
+heads_remain t (Err fault) = (refl, λ n p h. h)
 
 header_remains : (t : Turn) → Remains t (header_tag t)
 unfolding header_tag
@@ -179,7 +184,7 @@ header_remains t = heads_remain t (tag_anew t.state)
 
 misplaced_remains : (t : Turn) → Remains t (misplaced t)
 unfolding misplaced
-misplaced_remains t = refl
+misplaced_remains t = (refl, λ n p h. h)
 
 tag_in_remains : (p : Phase) (t : Turn) → Remains t (tag_in p t)
 tag_in_remains phase.First t = header_remains t
@@ -195,18 +200,18 @@ closes_remains t = either t (tag_inside t) (tag_outside t) (is_some t.state.here
 tag_remains : (t : Turn) (b : ℕ) → Remains t (in_tag t b)
 unfolding in_tag
 tag_remains t b =
-    either t (tag_closes (moved t (gathered t.state b))) (moved t (tag_gathered t.state b)) (b == 62 && not (is_some t.state.lexical.quote)) (closes_remains (moved t (gathered t.state b))) refl
+    either t (tag_closes (moved t (gathered t.state b))) (moved t (tag_gathered t.state b)) (b == 62 && not (is_some t.state.lexical.quote)) (closes_remains (moved t (gathered t.state b))) (refl, λ n p h. h)
 
 footer_closes_remains : (t : Turn) → Remains t (footer_closes t)
 unfolding footer_closes
-footer_closes_remains t = either t _ (moved t (token_fails t.state why.NotWellFormed)) (ends_stream t.state) refl refl
+footer_closes_remains t = either t _ (moved t (token_fails t.state why.NotWellFormed)) (ends_stream t.state) (refl, λ n p h. omega arith) (refl, λ n p h. h)
 
 footer_stays : (s : State) (b : ℕ) → Stays s (footer_gathered s b)
 footer_stays s b =
     let spoiled = record s { lexical = record s.lexical { spoiled = true } } in
     let behind = if is_white b then s else spoiled in
-    one s _ (if nat_lt (length s.token) (length s.name + 2) then gathered s b else behind) (is_some s.lexical.quote || is_quote b) refl
-    (one s (gathered s b) behind (nat_lt (length s.token) (length s.name + 2)) refl (one s s spoiled (is_white b) refl refl))
+    one s _ (if nat_lt (length s.token) (length s.name + 2) then gathered s b else behind) (is_some s.lexical.quote || is_quote b) (refl, λ n p h. h)
+    (one s (gathered s b) behind (nat_lt (length s.token) (length s.name + 2)) (refl, λ n p h. h) (one s s spoiled (is_white b) (refl, λ n p h. h) (refl, λ n p h. h)))
 
 footer_remains : (t : Turn) (b : ℕ) → Remains t (in_footer t b)
 unfolding in_footer
@@ -215,7 +220,7 @@ footer_remains t b =
     (footer_stays t.state b)
 
 unlimited_stays : (s : State) → Stays s (unlimited s)
-unlimited_stays s = one s s (record s { places = record s.places { used = 0 } }) (is_some s.here) refl refl
+unlimited_stays s = one s s (record s { places = record s.places { used = 0 } }) (is_some s.here) (refl, λ n p h. h) (refl, λ n p h. omega arith)
 
 opening_remains : (t : Turn) (b : ℕ) → Remains t (in_opening t b)
 unfolding in_opening
@@ -225,7 +230,7 @@ opening_remains t b =
     let slash = moved t (gathered_in (unlimited t.state) mode.Footer b) in
     let third = if b == 47 && not (is_some t.state.here) then slash else in_tag t b in
     either t bang (if b == 63 then moved t asked else third) (b == 33) (unlimited_stays t.state)
-    (either t (moved t asked) third (b == 63) (one t.state (gathered_in t.state mode.Question b) (token_fails t.state why.Restricted) (may_declare t.state) refl refl)
+    (either t (moved t asked) third (b == 63) (one t.state (gathered_in t.state mode.Question b) (token_fails t.state why.Restricted) (may_declare t.state) (refl, λ n p h. h) (refl, λ n p h. h))
     (either t slash (in_tag t b) (b == 47 && not (is_some t.state.here)) (unlimited_stays t.state) (tag_remains t b)))
 
 taken_remains : (m : Mode) (t : Turn) (b : ℕ) → Remains t (taken_in m t b)
@@ -240,10 +245,13 @@ taken_remains mode.Footer t b = footer_remains t b
 taken_remains mode.Section t b = section_stays t.state b
 
 pub taken_at : (m : Mode) (t : Turn) (b : ℕ) → (taken_in m t b).state.places.at ≡ t.state.places.at
-taken_at m t b = ap (λ p. p.0) (taken_remains m t b)
+taken_at m t b = ap (λ p. p.0) (taken_remains m t b).0
 
 pub taken_pending : (m : Mode) (t : Turn) (b : ℕ) → (taken_in m t b).state.pending ≡ t.state.pending
-taken_pending m t b = ap (λ p. p.1) (taken_remains m t b)
+taken_pending m t b = ap (λ p. p.1) (taken_remains m t b).0
+
+pub taken_used : (m : Mode) (t : Turn) (b n : ℕ) → 1 ≤ n → t.state.places.used ≤ n → (taken_in m t b).state.places.used ≤ n
+taken_used m t b = (taken_remains m t b).1
 
 -- ---- runs
 

@@ -1,5 +1,5 @@
 -- The rows of whole tags on bytes are those of the state, where the context is the state's.
-use Rattle.std.proofs.Common.{◌≡◌, ◌≢◌, ℕ, ◌+◌, ⊎_elim, true, false, not, ◌&&◌, List, [], ◌∷◌, ◌++◌, Option, Some, None, refl, sym, ap, subst, ◌∙◌}
+use Rattle.std.proofs.Common.{◌≡◌, ◌≢◌, ℕ, ◌+◌, ⊎_elim, true, false, not, ◌&&◌, List, [], ◌∷◌, ◌++◌, Option, Some, None, Result, Ok, Err, refl, sym, ap, subst, ◌∙◌}
 use Rattle.std.proofs.lemmas.Bool.{cases_Bool, false≢true, true≢false}
 use Rattle.std.proofs.lemmas.Slice.Eq.{bytes_eq-Decides}
 use Rattle.std.specs.Option.{is_some}
@@ -8,15 +8,15 @@ use Rattle.std.specs.Str.{bytes_eq}
 use Rattle.xmpp_tokens.specs.Tags.{IsEndTag}
 use Rattle.xmpp_names.proofs.EndLaws.{end_tags_are_read}
 use Rattle.xmpp_names.specs.Ends.{end_of}
-use Rattle.xmpp_names.specs.Starts.{start_of}
+use Rattle.xmpp_names.specs.Starts.{Tag, start_of}
 use Rattle.xmpp_names.specs.declared.fault.StartWhy.{StartWhy}
 use Rattle.xmpp_names.specs.declared.fault.StartWhy.TheVariants as start
 use Rattle.xmpp_framing.specs.States.{OpenElement, State, admits_declaration, gathered, may_declare}
-use Rattle.xmpp_framing.specs.TagSteps.{is_header, is_spelled, is_too_deep, largest_limits, says_stream, scope_in, start_why}
+use Rattle.xmpp_framing.specs.TagSteps.{header_why, is_header, is_spelled, is_too_deep, largest_limits, misplaced_why, says_stream, scope_in, start_why, tag_here}
 use Rattle.xmpp_framing.specs.declared.fault.Why.{Why}
 use Rattle.xmpp_framing_laws.proofs.ContextRuns.{count_opens, none_open}
 use Rattle.xmpp_framing_laws.proofs.ContextsTold.{context_of, names_of, opens_of}
-use Rattle.xmpp_framing_laws.specs.OpenRows.{TagByteRow, admits, are_none, behind_footer, header_due, is_past_depth, start_past_depth, top_past_depth, why_at, wrong_end, wrong_first_header, wrong_next_header, wrong_start, wrong_top}
+use Rattle.xmpp_framing_laws.specs.OpenRows.{TagByteRow, admits, are_none, behind_footer, header_due, is_past_depth, start_past_depth, top_past_depth, why_at, why_misplaced, why_of_header, wrong_end, wrong_first_header, wrong_next_header, wrong_start, wrong_top}
 use Rattle.xmpp_framing_laws.specs.Rows.{WholeTagRow, after_footer, bad_first_header, bad_next_header, bad_start, bad_top, deep_start, deep_top, no_header_declared, other_end}
 
 some_none : (x : List ℕ) (xs : List (List ℕ)) → x ∷ xs ≡ [] → ⊥
@@ -111,6 +111,19 @@ why_is s start.NotWellFormed = refl
 why_is s start.TooManyAttributes = refl
 why_is s start.LongNamespace = refl
 
+header_why_is : (e : StartWhy) → header_why e ≡ why_of_header e
+header_why_is start.Restricted = refl
+header_why_is start.NotWellFormed = refl
+header_why_is start.TooManyAttributes = refl
+header_why_is start.LongNamespace = refl
+
+misplaced_is : (r : Result Tag StartWhy) → misplaced_why r ≡ why_misplaced r
+misplaced_is (Ok tag) = refl
+misplaced_is (Err start.Restricted) = refl
+misplaced_is (Err start.NotWellFormed) = refl
+misplaced_is (Err start.TooManyAttributes) = refl
+misplaced_is (Err start.LongNamespace) = refl
+
 module _ (s : State) (b : ℕ) where
   abbrev whole : State
   whole = gathered s b
@@ -126,24 +139,24 @@ module _ (s : State) (b : ℕ) where
       other_end whole w (inside s (not_none (context_of s).opens name outer opens)) end (not_spelled (s.token ++ b ∷ []) s.here s.below name outer opens other) w_is
   to_whole w (wrong_start _ _ _ _ e opens begins told w_is) = bad_start whole w e (inside s opens) begins told (w_is ∙ sym (why_there e))
   to_whole w (start_past_depth _ _ _ _ tag opens begins told deep w_is) = deep_start whole w tag (inside s opens) begins told (deep_is ∙ deep) w_is
-  to_whole w (wrong_first_header _ _ _ _ e opens phases told w_is) = bad_first_header whole w e (outside s opens) phases told w_is
-  to_whole w (wrong_next_header _ _ _ _ e opens phases heads_it told w_is) = bad_next_header whole w e (outside s opens) phases (header_is whole ∙ heads_it) told w_is
+  to_whole w (wrong_first_header _ _ _ _ e opens phases told w_is) = bad_first_header whole w e (outside s opens) phases told (w_is ∙ sym (header_why_is e))
+  to_whole w (wrong_next_header _ _ _ _ e opens phases heads_it told w_is) = bad_next_header whole w e (outside s opens) phases (header_is whole ∙ heads_it) told (w_is ∙ sym (header_why_is e))
   to_whole w (wrong_top _ _ _ _ e opens between other told w_is) = bad_top whole w e (outside s opens) between (header_is whole ∙ other) told (w_is ∙ sym (why_there e))
   to_whole w (top_past_depth _ _ _ _ tag opens between other told deep w_is) = deep_top whole w tag (outside s opens) between (header_is whole ∙ other) told (deep_is ∙ deep) w_is
-  to_whole w (header_due _ _ _ _ opens declared other w_is) = no_header_declared whole w (outside s opens) declared (header_is whole ∙ other) w_is
-  to_whole w (behind_footer _ _ _ _ opens ended w_is) = after_footer whole w (outside s opens) ended w_is
+  to_whole w (header_due _ _ _ _ opens declared other w_is) = no_header_declared whole w (outside s opens) declared (header_is whole ∙ other) (w_is ∙ sym (misplaced_is (tag_here whole)))
+  to_whole w (behind_footer _ _ _ _ opens ended w_is) = after_footer whole w (outside s opens) ended (w_is ∙ sym (misplaced_is (tag_here whole)))
 
   pub of_whole : (w : Why) → WholeTagRow whole w → TagByteRow s.limits (context_of s) (s.token ++ b ∷ []) w
   of_whole w (other_end _ _ inner end other w_is) =
       let o = other_name (s.token ++ b ∷ []) s.here s.below inner other in wrong_end s.limits (context_of s) (s.token ++ b ∷ []) w o.name o.outer o.opens_are end o.other w_is
   of_whole w (bad_start _ _ e inner begins told w_is) = wrong_start s.limits (context_of s) (s.token ++ b ∷ []) w e (from_inside s inner) begins told (w_is ∙ why_there e)
   of_whole w (deep_start _ _ tag inner begins told deep w_is) = start_past_depth s.limits (context_of s) (s.token ++ b ∷ []) w tag (from_inside s inner) begins told (sym deep_is ∙ deep) w_is
-  of_whole w (bad_first_header _ _ e outer phases told w_is) = wrong_first_header s.limits (context_of s) (s.token ++ b ∷ []) w e (from_outside s outer) phases told w_is
+  of_whole w (bad_first_header _ _ e outer phases told w_is) = wrong_first_header s.limits (context_of s) (s.token ++ b ∷ []) w e (from_outside s outer) phases told (w_is ∙ header_why_is e)
   of_whole w (bad_next_header _ _ e outer phases heads_it told w_is) =
-      wrong_next_header s.limits (context_of s) (s.token ++ b ∷ []) w e (from_outside s outer) phases (sym (header_is whole) ∙ heads_it) told w_is
+      wrong_next_header s.limits (context_of s) (s.token ++ b ∷ []) w e (from_outside s outer) phases (sym (header_is whole) ∙ heads_it) told (w_is ∙ header_why_is e)
   of_whole w (bad_top _ _ e outer between other told w_is) =
       wrong_top s.limits (context_of s) (s.token ++ b ∷ []) w e (from_outside s outer) between (sym (header_is whole) ∙ other) told (w_is ∙ why_there e)
   of_whole w (deep_top _ _ tag outer between other told deep w_is) =
       top_past_depth s.limits (context_of s) (s.token ++ b ∷ []) w tag (from_outside s outer) between (sym (header_is whole) ∙ other) told (sym deep_is ∙ deep) w_is
-  of_whole w (no_header_declared _ _ outer declared other w_is) = header_due s.limits (context_of s) (s.token ++ b ∷ []) w (from_outside s outer) declared (sym (header_is whole) ∙ other) w_is
-  of_whole w (after_footer _ _ outer ended w_is) = behind_footer s.limits (context_of s) (s.token ++ b ∷ []) w (from_outside s outer) ended w_is
+  of_whole w (no_header_declared _ _ outer declared other w_is) = header_due s.limits (context_of s) (s.token ++ b ∷ []) w (from_outside s outer) declared (sym (header_is whole) ∙ other) (w_is ∙ misplaced_is (tag_here whole))
+  of_whole w (after_footer _ _ outer ended w_is) = behind_footer s.limits (context_of s) (s.token ++ b ∷ []) w (from_outside s outer) ended (w_is ∙ misplaced_is (tag_here whole))

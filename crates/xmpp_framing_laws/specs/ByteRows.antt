@@ -1,6 +1,6 @@
 -- Rows of the table of faults that the bytes of a token decide, stated on bytes: no field of a state stands in them (XML
 -- 1.0, sections 2.7, 2.8 and 4.1; RFC 6120, sections 11.1 and 11.6; RFC 3629, section 4).
-use Rattle.std.specs.Prelude.{ℕ, ◌≡◌, ◌≢◌, ◌<◌, ◌≤◌, true, false, List, [], ◌∷◌, ◌++◌, Some, codes, length, slice_index}
+use Rattle.std.specs.Prelude.{ℕ, ◌≡◌, ◌≢◌, ◌-◌, ◌<◌, ◌≤◌, ◌==◌, Bool, true, false, List, [], ◌∷◌, ◌++◌, Some, codes, length, slice_index}
 use Rattle.std.specs.List.{list_all}
 use Rattle.xmpp_tokens.specs.Characters.{is_white}
 use Rattle.xmpp_tokens.specs.Declarations.{declaration_of}
@@ -8,7 +8,6 @@ use Rattle.xmpp_tokens.specs.References.{reference_goes_on, referred}
 use Rattle.xmpp_tokens.specs.Utf8.{continues}
 use Rattle.xmpp_tokens.specs.declared.declarations.Declaration.TheVariants as declaration
 use Rattle.xmpp_tokens.specs.declared.references.Reference.TheVariants as reference
-use Rattle.xmpp_framing.specs.MarkupSteps.{ends_in_question}
 use Rattle.xmpp_framing.specs.Readings.{fault_of}
 use Rattle.xmpp_framing.specs.declared.fault.Why.{Why}
 use Rattle.xmpp_framing.specs.declared.fault.Why.TheVariants as why
@@ -56,6 +55,10 @@ pub record InDeclaration (more : List ℕ) : Type 0 where
   pub is_space : is_white space ≡ true
   pub no_end : has_declaration_end inside ≡ false
 
+-- the last byte is a `?`
+abbrev pub ends_in_question_mark : List ℕ → Bool
+ends_in_question_mark token = slice_index token (length token - 1) == 63
+
 -- ---- rows, on the bytes of the token
 
 -- after the bytes of a reference's name
@@ -75,9 +78,9 @@ pub data QuestionByteRow : List ℕ → ℕ → Why → Type 0 where
 
 -- after a `?` in a declaration
 pub data DeclarationByteRow : List ℕ → ℕ → Why → Type 0 where
-  names_encoding : (token : List ℕ) (b : ℕ) (w : Why) → b ≡ 62 → ends_in_question token ≡ true → declaration_of (token ++ b ∷ []) ≡ declaration.Encoding
+  names_encoding : (token : List ℕ) (b : ℕ) (w : Why) → b ≡ 62 → ends_in_question_mark token ≡ true → declaration_of (token ++ b ∷ []) ≡ declaration.Encoding
       → w ≡ why.Encoding → DeclarationByteRow token b w
-  is_malformed : (token : List ℕ) (b : ℕ) (w : Why) → b ≡ 62 → ends_in_question token ≡ true → declaration_of (token ++ b ∷ []) ≡ declaration.NotWellFormed
+  is_malformed : (token : List ℕ) (b : ℕ) (w : Why) → b ≡ 62 → ends_in_question_mark token ≡ true → declaration_of (token ++ b ∷ []) ≡ declaration.NotWellFormed
       → w ≡ why.NotWellFormed → DeclarationByteRow token b w
 
 -- A byte after these decides this fault at this offset, if it isn't told as `TooLong`. A byte that breaks a character is

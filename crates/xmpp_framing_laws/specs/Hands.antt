@@ -1,13 +1,12 @@
 -- What a state has of the token in hand, said of the bytes: so the rows of the table of faults, which name a state, are
 -- about bytes.
-use Rattle.std.specs.Prelude.{ℕ, ◌≡◌, ◌<◌, true, false, List, [], ◌∷◌, ◌++◌, None, codes, length}
+use Rattle.std.specs.Prelude.{ℕ, ◌≡◌, ◌<◌, ◌==◌, true, false, if◌then◌else◌, List, [], ◌∷◌, ◌++◌, None, codes, length}
 use Rattle.std.specs.List.{list_all}
 use Rattle.std.specs.Option.{is_some}
 use Rattle.xmpp_tokens.specs.Characters.{is_white}
 use Rattle.xmpp_tokens.specs.Tags.{is_empty, is_end}
 use Rattle.xmpp_framing.specs.ManyBytes.{quote_after}
 use Rattle.xmpp_framing.specs.States.{State, is_text, token_place}
-use Rattle.xmpp_framing.specs.TextSteps.{brackets_behind}
 use Rattle.xmpp_framing_laws.specs.Offsets.{AreBefore, AreTokens, IsRun, character_left, first_of, has_declaration_end, is_no_end, is_open_tag, leads_tag}
 use Rattle.xmpp_framing_laws.specs.Streams.{place_of}
 use Rattle.xmpp_framing_laws.specs.Texts.{has_section_end}
@@ -17,7 +16,7 @@ use Rattle.xmpp_framing.specs.declared.states.Mode.TheVariants as mode
 -- how many `]` stand last, up to 2
 abbrev pub brackets_last : ℕ → List ℕ → ℕ
 brackets_last n [] = n
-brackets_last n (b ∷ bs) = brackets_last (brackets_behind n b) bs
+brackets_last n (b ∷ bs) = brackets_last (if b == 93 then (if n == 0 then 1 else 2) else 0) bs
 
 -- The bytes after the first one of a token of this kind, as the state has them. Of an end tag outside elements it doesn't
 -- have them all.

@@ -1,7 +1,7 @@
 -- Rows of the table of faults that depend on what stands before a token, stated on bytes: the elements that are open, the
 -- scope inside them, and what may follow (XML 1.0, sections 2.2, 2.4, 2.7, 3 and 3.1; Namespaces in XML 1.0; RFC 6120,
 -- sections 4.2 to 4.9 and 11.1). No field of a state stands in them.
-use Rattle.std.specs.Prelude.{ℕ, ◌≡◌, ◌≢◌, ◌+◌, ◌⊎◌, nat_lt, Bool, true, false, ◌&&◌, if◌then◌else◌, List, [], ◌∷◌, ◌++◌, None, Ok, Err, codes, length}
+use Rattle.std.specs.Prelude.{ℕ, ◌≡◌, ◌≢◌, ◌+◌, ◌⊎◌, nat_lt, Bool, true, false, ◌&&◌, if◌then◌else◌, List, [], ◌∷◌, ◌++◌, None, Result, Ok, Err, codes, length}
 use Rattle.xmpp_names.specs.Starts.{Tag, start_of}
 use Rattle.xmpp_names.specs.declared.fault.StartWhy.{StartWhy}
 use Rattle.xmpp_names.specs.declared.fault.StartWhy.TheVariants as start
@@ -10,7 +10,7 @@ use Rattle.xmpp_tokens.specs.Tags.{IsEndTag, is_empty, is_end}
 use Rattle.xmpp_tokens.specs.Utf8.{continues, ends_character, ends_forbidden_character}
 use Rattle.xmpp_framing.specs.ManyBytes.{quote_after}
 use Rattle.xmpp_framing.specs.States.{admits_declaration}
-use Rattle.xmpp_framing.specs.TagSteps.{header_why, largest_limits, misplaced_why, says_stream, tag_limits}
+use Rattle.xmpp_framing.specs.TagSteps.{largest_limits, says_stream, tag_limits}
 use Rattle.xmpp_framing.specs.declared.fault.Why.{Why}
 use Rattle.xmpp_framing.specs.declared.fault.Why.TheVariants as why
 use Rattle.xmpp_framing.specs.declared.limits.Limits.{Limits}
@@ -68,6 +68,18 @@ why_at deep start.NotWellFormed = why.NotWellFormed
 why_at deep start.TooManyAttributes = if deep then why.TooDeep else why.TooManyAttributes
 why_at deep start.LongNamespace = if deep then why.TooDeep else why.LongNamespace
 
+-- what is wrong with the tag of a header
+abbrev pub why_of_header : StartWhy → Why
+why_of_header start.Restricted = why.Restricted
+why_of_header start.NotWellFormed = why.NotWellFormed
+why_of_header start.TooManyAttributes = why.TooManyAttributes
+why_of_header start.LongNamespace = why.LongNamespace
+
+-- what is wrong with a tag that may not stand there
+abbrev pub why_misplaced : Result Tag StartWhy → Why
+why_misplaced (Err start.Restricted) = why.Restricted
+why_misplaced r = why.NotWellFormed
+
 -- ---- rows
 
 -- A byte of a text, behind the first bytes of a character or none.
@@ -95,16 +107,16 @@ pub data TagByteRow : Limits → Context → List ℕ → Why → Type 0 where
       → TagByteRow limits c token w
   -- outside elements
   wrong_first_header : (limits : Limits) (c : Context) (token : List ℕ) (w : Why) (e : StartWhy) → c.opens ≡ [] → (c.phase ≡ phase.First) ⊎ (c.phase ≡ phase.FirstDeclared)
-      → start_of (tag_limits limits) [] token ≡ Err e → w ≡ header_why e → TagByteRow limits c token w
+      → start_of (tag_limits limits) [] token ≡ Err e → w ≡ why_of_header e → TagByteRow limits c token w
   wrong_next_header : (limits : Limits) (c : Context) (token : List ℕ) (w : Why) (e : StartWhy) → c.opens ≡ [] → (c.phase ≡ phase.Between) ⊎ (c.phase ≡ phase.Declared) → is_header_in c token ≡ true
-      → start_of (tag_limits limits) [] token ≡ Err e → w ≡ header_why e → TagByteRow limits c token w
+      → start_of (tag_limits limits) [] token ≡ Err e → w ≡ why_of_header e → TagByteRow limits c token w
   wrong_top : (limits : Limits) (c : Context) (token : List ℕ) (w : Why) (e : StartWhy) → c.opens ≡ [] → c.phase ≡ phase.Between → is_header_in c token ≡ false → start_of (tag_limits limits) c.scope token ≡ Err e
       → w ≡ why_at (is_past_depth limits c) e → TagByteRow limits c token w
   top_past_depth : (limits : Limits) (c : Context) (token : List ℕ) (w : Why) (tag : Tag) → c.opens ≡ [] → c.phase ≡ phase.Between → is_header_in c token ≡ false → start_of (tag_limits limits) c.scope token ≡ Ok tag
       → is_past_depth limits c ≡ true → w ≡ why.TooDeep → TagByteRow limits c token w
-  header_due : (limits : Limits) (c : Context) (token : List ℕ) (w : Why) → c.opens ≡ [] → c.phase ≡ phase.Declared → is_header_in c token ≡ false → w ≡ misplaced_why (start_of (tag_limits limits) c.scope token)
+  header_due : (limits : Limits) (c : Context) (token : List ℕ) (w : Why) → c.opens ≡ [] → c.phase ≡ phase.Declared → is_header_in c token ≡ false → w ≡ why_misplaced (start_of (tag_limits limits) c.scope token)
       → TagByteRow limits c token w
-  behind_footer : (limits : Limits) (c : Context) (token : List ℕ) (w : Why) → c.opens ≡ [] → c.phase ≡ phase.Ended → w ≡ misplaced_why (start_of (tag_limits limits) c.scope token) → TagByteRow limits c token w
+  behind_footer : (limits : Limits) (c : Context) (token : List ℕ) (w : Why) → c.opens ≡ [] → c.phase ≡ phase.Ended → w ≡ why_misplaced (start_of (tag_limits limits) c.scope token) → TagByteRow limits c token w
 
 -- A byte after these decides this fault at this offset, if it isn't told as `TooLong`.
 pub data OpenRow : Limits → List ℕ → ℕ → ℕ → Why → Type 0 where
