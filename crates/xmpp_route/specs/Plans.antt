@@ -1,8 +1,9 @@
 -- What becomes of a message (RFC 6121, section 8; XEP-0313, section 5; XEP-0280, sections 6 to 8).
-use Rattle.std.specs.Prelude.{ℕ, ◌==◌, int_le, pos, Bool, not, ◌&&◌, if◌then◌else◌, List, [], ◌∷◌, Option, Some, None, filter}
+use Rattle.std.specs.Prelude.{ℕ, ◌==◌, int_le, pos, Bool, not, ◌&&◌, if◌then◌else◌, List, [], ◌∷◌, Option, Some, None, filter, map}
 use Rattle.std.specs.List.{list_any}
 use Rattle.xmpp_live.specs.Sessions.{Session, number_of, session_named, sessions_of}
 use Rattle.xmpp_live.specs.declared.told.Told.{Told}
+use Rattle.xmpp_resume.specs.declared.session.SessionView.{SessionView}
 use Rattle.xmpp_login.specs.declared.account.Account.{Account}
 use Rattle.xmpp_route.specs.Destinations.{Destination, RemoteDomain, NoUser, Bare, Full, destination_of}
 use Rattle.xmpp_route.specs.Messages.{is_archived, is_chat, is_copied, is_for_users}
@@ -25,42 +26,44 @@ archiving_of m sender account =
 
 -- ---- copies (XEP-0280, sections 6 to 8)
 
-abbrev pub is_among : {A : Type 0} → List (Session A) → Session A → Bool
-is_among sessions t = list_any (λ u. number_of u == number_of t) sessions
+-- a session that asked for copies, but for those that have the message by themselves
+abbrev pub wants_copy : List ℕ → SessionView → Bool
+wants_copy having v = v.carbons && not (list_any (λ n. n == v.number) having)
 
--- a session that asked for copies, and neither sent the message nor is delivered it
-abbrev pub wants_copy : {A : Type 0} → ℕ → List (Session A) → Session A → Bool
-wants_copy sender deliver t = t.shown.carbons && (not (number_of t == sender) && not (is_among deliver t))
+abbrev pub copied_of : {A : Type 0} → ℕ → List ℕ → List (Session A) → List (Session A)
+copied_of account having sessions = filter (λ t. wants_copy having t.shown) (sessions_of account sessions)
 
-abbrev pub copied_of : {A : Type 0} → ℕ → ℕ → List (Session A) → List (Session A) → List (Session A)
-copied_of account sender deliver sessions = filter (wants_copy sender deliver) (sessions_of account sessions)
+-- the session that sent the message, and those that it is delivered to
+abbrev pub having_it : Told → List ℕ → List ℕ
+having_it sender deliver = sender.number ∷ deliver
 
 -- copies as sent, to the sender's account
-abbrev pub sent_copies : {A : Type 0} → MessageView → Told → List (Session A) → List (Session A) → List (Session A)
-sent_copies m sender deliver sessions = if is_copied m then copied_of sender.account sender.number deliver sessions else []
+abbrev pub sent_copies : {A : Type 0} → MessageView → Told → List ℕ → List (Session A) → List (Session A)
+sent_copies m sender deliver sessions =
+    if is_copied m then copied_of sender.account (having_it sender deliver) sessions else []
 
 -- copies as received, to the recipient's account; a message to oneself is copied as sent only
-abbrev pub received_copies : {A : Type 0} → MessageView → Told → ℕ → List (Session A) → List (Session A) → List (Session A)
+abbrev pub received_copies : {A : Type 0} → MessageView → Told → ℕ → List ℕ → List (Session A) → List (Session A)
 received_copies m sender account deliver sessions =
-    if is_copied m && not (sender.account == account) then copied_of account sender.number deliver sessions else []
+    if is_copied m && not (sender.account == account) then copied_of account (having_it sender deliver) sessions else []
 
 -- ---- deliveries (RFC 6121, section 8.5)
 
 -- a session that gets what is sent to the bare address of its account: it is available, with a priority that is not
 -- negative (section 8.5.2.1)
-abbrev pub is_ready : {A : Type 0} → Session A → Bool
-is_ready t = t.shown.available && int_le (pos 0) t.shown.priority
+abbrev pub is_ready : SessionView → Bool
+is_ready v = v.available && int_le (pos 0) v.priority
 
 abbrev pub ready_of : {A : Type 0} → ℕ → List (Session A) → List (Session A)
-ready_of account sessions = filter is_ready (sessions_of account sessions)
+ready_of account sessions = filter (λ t. is_ready t.shown) (sessions_of account sessions)
 
 -- a message of a sender to these sessions of an account
 abbrev pub routed : {A : Type 0} → MessageView → Told → ℕ → List (Session A) → List (Session A) → PlanOf (Session A)
 routed m sender account deliver sessions = Routed (record {
   archiving = archiving_of m sender.account account;
   deliver = deliver;
-  sent = sent_copies m sender deliver sessions;
-  received = received_copies m sender account deliver sessions;
+  sent = sent_copies m sender (map number_of deliver) sessions;
+  received = received_copies m sender account (map number_of deliver) sessions;
 })
 
 -- a message that goes nowhere
