@@ -1,8 +1,8 @@
--- ---- what is asked of a message
-pub mod Messages
 -- ---- law: what becomes of a message
+pub mod Messages
 pub mod Destinations
 pub mod Routes
 pub mod Plans
--- ---- view
+-- ---- view: the code's sessions by their numbers
 pub mod Numbered
+pub mod Choices

@@ -3,7 +3,11 @@
 #![tactic(auto)]
 
 mod archiving;
-mod plan;
+mod messages;
+mod planning;
+mod recipients;
+mod routes;
 
 pub use archiving::Archiving;
-pub use plan::{Plan, Route};
+pub use planning::plan;
+pub use routes::{Plan, Route};

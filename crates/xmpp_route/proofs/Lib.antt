@@ -1,0 +1,4 @@
+-- ---- sessions by their numbers
+mod Chosen
+mod Rising
+mod UserPlans
