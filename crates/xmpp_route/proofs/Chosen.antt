@@ -1,12 +1,11 @@
 -- What is chosen by numbers are the sessions that pass the test.
 use Rattle.std.proofs.Common.{◌≡◌, ◌≢◌, ℕ, ◌+◌, ◌≤◌, ◌<◌, ◌==◌, Bool, true, false, List, [], ◌∷◌, Option, Some, None, map, ap, sym, refl, ◌∙◌, inl, inr, arith}
-use Rattle.std.proofs.lemmas.Bool.{cases_Bool, false≢true}
+use Rattle.std.proofs.lemmas.Bool.{cases_Bool, eq-eqb, false≢true, ne_eqb}
 use Rattle.std.proofs.lemmas.Option.{none-some, same_Some}
 use Rattle.std.specs.List.{filter, find}
 use Rattle.std.specs.Option.{option_map}
 use Rattle.xmpp_live.specs.Rule.{RisesTo}
 use Rattle.xmpp_live.specs.Sessions.{Session, is_of, number_of, session_of, sessions_of}
-use Rattle.xmpp_resume.proofs.RowFacts.{eqb_other, eqb_same, same_from_eqb}
 use Rattle.xmpp_resume.specs.declared.session.SessionView.{SessionView}
 use Rattle.xmpp_route.specs.Choices.{chosen, passes}
 
@@ -27,14 +26,14 @@ AreFound sessions (t ∷ ts) = (session_of t.shown.number sessions ≡ Some t) �
 found_behind : {A : Type 0} (next low : ℕ) (s : Session A) (sessions ts : List (Session A)) → RisesTo next low ts → s.shown.number < low → AreFound sessions ts → AreFound (s ∷ sessions) ts
 found_behind next low s sessions [] rise below found = tt
 found_behind next low s sessions (t ∷ ts) rise below found = (
-  rw (eqb_other s.shown.number t.shown.number (λ e. omega (arith, e, rise.0))) found.0,
+  rw (ne_eqb s.shown.number t.shown.number (λ e. omega (arith, e, rise.0))) found.0,
   found_behind next (t.shown.number + 1) s sessions ts rise.1 (omega (arith, rise.0)) found.1,
 )
 
 pub all_found : {A : Type 0} (next low : ℕ) (sessions : List (Session A)) → RisesTo next low sessions → AreFound sessions sessions
 all_found next low [] rise = tt
 all_found next low (s ∷ sessions) rise = (
-  rw (eqb_same s.shown.number) refl,
+  rw (eq-eqb s.shown.number s.shown.number refl) refl,
   found_behind next (s.shown.number + 1) s sessions sessions rise.1 (omega arith) (all_found next (s.shown.number + 1) sessions rise.1),
 )
 

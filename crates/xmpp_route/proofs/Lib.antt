@@ -2,3 +2,10 @@
 mod Chosen
 mod Rising
 mod UserPlans
+-- ---- laws
+pub mod PlanShapes
+mod PlanLaws
+mod CopyLaws
+mod GivenOnce
+mod OwnAddress
+pub mod ShownAlone

@@ -3,7 +3,7 @@ use Rattle.std.proofs.Common.{◌≡◌, ◌≢◌, ℕ, zero, suc, ◌+◌, ◌
 use Rattle.std.specs.List.{AllByRecursion}
 use Rattle.std.specs.List.Sorted.{IsBinarySearchResult, IsStrictlySortedBy}
 use Rattle.std.specs.declared.cmp.Ordering.TheVariants.{Less}
-use Rattle.std.proofs.lemmas.Bool.{cases_Bool, cases_lt}
+use Rattle.std.proofs.lemmas.Bool.{cases_Bool, cases_lt, eq-eqb, ne_eqb}
 use Rattle.std.proofs.lemmas.List.Sorted.{searched}
 use Rattle.std.proofs.lemmas.Map.Keys.{non_decreasing_from_sorted}
 use Rattle.std.specs.Cmp.{nat_cmp_is}
@@ -11,13 +11,12 @@ use Rattle.std.specs.List.{list_any}
 use Rattle.std.specs.Ordering.{nat_cmp}
 use Rattle.xmpp_live.specs.Rule.{RisesTo}
 use Rattle.xmpp_live.specs.Sessions.{Session, is_of, number_of, sessions_of}
-use Rattle.xmpp_resume.proofs.RowFacts.{eqb_other, eqb_same}
 
 -- ---- a search answers whether the number is there
 
 at_place : (x i : ℕ) (xs : List ℕ) → i < length xs → get_or xs i 0 ≡ x → list_any (λ n. n == x) xs ≡ true
 at_place x i [] within is = absurd (omega (arith, within))
-at_place x zero (n ∷ xs) within is = rw (subst (λ m. (m == x) ≡ true) (sym is) (eqb_same x)) refl
+at_place x zero (n ∷ xs) within is = rw (subst (λ m. (m == x) ≡ true) (sym is) (eq-eqb x x refl)) refl
 at_place x (suc i) (n ∷ xs) within is =
     elim (cases_Bool (n == x)) [
       | inl here ↦ rw here refl
@@ -26,7 +25,7 @@ at_place x (suc i) (n ∷ xs) within is =
 
 at_no_place : (x : ℕ) (xs : List ℕ) → ((k : ℕ) → k < length xs → get_or xs k 0 ≢ x) → list_any (λ n. n == x) xs ≡ false
 at_no_place x [] differs = refl
-at_no_place x (n ∷ xs) differs = rw (eqb_other n x (differs 0 (omega arith))) (at_no_place x xs (λ k within. differs (suc k) (omega (arith, within))))
+at_no_place x (n ∷ xs) differs = rw (ne_eqb n x (differs 0 (omega arith))) (at_no_place x xs (λ k within. differs (suc k) (omega (arith, within))))
 
 -- below or above the number
 off_place : (x i : ℕ) (xs : List ℕ) → (i ≤ length xs) × ((k : ℕ) → k < i → get_or xs k 0 < x) × ((k : ℕ) → i ≤ k → k < length xs → x < get_or xs k 0) → (k : ℕ) → k < length xs → get_or xs k 0 ≢ x

@@ -1,5 +1,5 @@
 -- What becomes of a message, for any way in which sessions are named.
-use Rattle.std.specs.Prelude.{ℕ, List, [], ◌∷◌, map}
+use Rattle.std.specs.Prelude.{ℕ, Bool, true, false, List, [], ◌∷◌, map}
 use Rattle.xmpp_route.specs.declared.archiving.Archiving.{Archiving}
 use Rattle.xmpp_route.specs.declared.archiving.Archiving.TheVariants.{Nowhere, Once, Both}
 use Rattle.xmpp_stanza.specs.declared.errors.StanzaError.{StanzaError}
@@ -47,3 +47,7 @@ sent_in (Routed r) = r.sent
 abbrev pub received_in : {S : Type 0} → PlanOf S → List S
 received_in (Bounced e) = []
 received_in (Routed r) = r.received
+
+abbrev pub is_bounced : {S : Type 0} → PlanOf S → Bool
+is_bounced (Bounced e) = true
+is_bounced (Routed r) = false
