@@ -5,12 +5,13 @@ use Rattle.std.proofs.lemmas.Bool.{cases_lt, false_from_ne_true, le-leb, lt-leb}
 use Rattle.std.proofs.lemmas.Option.{none-some}
 use Rattle.std.proofs.lemmas.Slice.Eq.{bytes_eq-Decides}
 use Rattle.std.specs.List.{filter, slice_get}
+use Rattle.std.specs.Option.{option_or}
 use Rattle.std.specs.Str.{bytes_eq}
 use Rattle.xmpp_archive.proofs.IdDigits.{id_of_same}
 use Rattle.xmpp_archive.proofs.NumberedEntries.{FollowFrom, at_place, entry_at, filter_above, find_none, find_one, follow_at, follow_numbered}
 use Rattle.xmpp_archive.specs.Entries.{AreKept, EntryView, entry_numbered}
 use Rattle.xmpp_archive.specs.Ids.{id_of}
-use Rattle.xmpp_direct.specs.Direct.{as_logged, entries_numbered, next_page, or_else, page_from, query_behind}
+use Rattle.xmpp_direct.specs.Direct.{as_logged, entries_numbered, next_page, page_from, query_behind}
 use Rattle.xmpp_direct.specs.NextPages.{cut_at, kept_behind, page_at, purged}
 use Rattle.xmpp_log.specs.LogPages.{LogPage, last_id, log_of}
 use Rattle.xmpp_pages.specs.Cuts.{CutView}
@@ -151,7 +152,7 @@ page_from_none after most owner kept is = rw is refl
 
 -- the page that a log gets, whatever was purged
 next_is : (keep n last most : ℕ) (owner : List ℕ) (kept : List EntryView) → AreKept keep last kept → most ≤ 100 → n ≤ last →
-    or_else (page_from (id_behind n) most (kept_by owner kept)) (page_from None most (kept_by owner kept)) ≡ Some (page_at n most last kept)
+    option_or (page_from (id_behind n) most (kept_by owner kept)) (page_from None most (kept_by owner kept)) ≡ Some (page_at n most last kept)
 next_is keep zero last most owner kept known cap within =
     let test : leb zero (purged last kept) ≡ true = le-leb zero (purged last kept) (omega arith) in
     rw (page_from_cut None keep zero last most owner kept known (page_of_first zero last most owner kept cap (omega arith)), test) refl
@@ -171,5 +172,5 @@ next_is keep (suc n) last most owner kept known cap within =
 pub next_page_is : (keep n last most : ℕ) (owner : List ℕ) (kept : List EntryView) (pages : List LogPage) → AreKept keep last kept → most ≤ 100 → n ≤ last →
     last_id (log_of pages) ≡ id_behind n → next_page most (kept_by owner kept) pages ≡ Some (page_at n most last kept)
 next_page_is keep n last most owner kept pages known cap within behind =
-    ap (λ id. or_else (page_from id most (kept_by owner kept)) (page_from None most (kept_by owner kept))) behind
+    ap (λ id. option_or (page_from id most (kept_by owner kept)) (page_from None most (kept_by owner kept))) behind
     ∙ next_is keep n last most owner kept known cap within

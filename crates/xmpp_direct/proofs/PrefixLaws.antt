@@ -11,11 +11,11 @@ use Rattle.xmpp_archive.specs.Ids.{id_of}
 use Rattle.xmpp_direct.proofs.NextPages.{id_behind}
 use Rattle.xmpp_direct.proofs.PageRuns.{ArePaged, IsPageOf, front_at, history_at, history_few, history_follows, last_at, last_grows, paged_at, pages_at}
 use Rattle.xmpp_direct.proofs.Prefixes.{takes_few}
-use Rattle.xmpp_direct.proofs.RunLaws.{asked_as_taken, answered_right, complete_turn, device_with, distinct_right, ends_with, kept_of_world, move_at, page_of_move, reaches}
-use Rattle.xmpp_direct.proofs.TurnRuns.{goes, length_behind, line_entry, lines_by}
-use Rattle.xmpp_direct.proofs.TurnTiles.{complete_end, last_behind, partial_some, total_partial}
+use Rattle.xmpp_direct.proofs.RunLaws.{asked_as_taken, answered_right, complete_turn, distinct_right, ends_with, kept_of_world, move_at, no_earlier, no_later, page_of_move, reaches}
+use Rattle.xmpp_direct.proofs.TurnRuns.{goes, le_two, length_behind, line_entry, lines_by}
+use Rattle.xmpp_direct.proofs.TurnTiles.{complete_end, last_behind, partial_some, some_count, total_partial}
 use Rattle.xmpp_direct.proofs.Turns.{AreRising, Turn, end_of, ends_at, ends_bounds, length_span, page_by, pages_by, rising_bounds, run_by, span, span_join, start_of}
-use Rattle.xmpp_direct.specs.Direct.{account_line, as_logged, device_line, pages_of, takes_of}
+use Rattle.xmpp_direct.specs.Direct.{account_line, as_logged, device_line, device_with, pages_of, takes_of}
 use Rattle.xmpp_direct.specs.History.{world_after, worlds_of}
 use Rattle.xmpp_log.specs.declared.log_entry.LogEntry.{LogEntry}
 use Rattle.xmpp_report.proofs.TakenArchives.{archive_few as taken_few}
@@ -37,6 +37,10 @@ use Rattle.xmpp_schedule.specs.declared.schedule.Step.{Step}
 start_is : (keep n : ℕ) (turn : Turn) → turn.last ≤ keep → start_of keep n turn ≡ n
 start_is keep n turn wide = omega arith
 
+-- the log ends where the turn does
+ends_there : {c n s k m t : ℕ} → c ≡ n → s ≡ n → k ≡ m → s + m ≡ t → c + k ≡ t
+ends_there is same size whole = omega arith
+
 top_within : {last high keep : ℕ} → last ≤ high → high ≤ keep → last ≤ keep
 top_within top wide = omega arith
 
@@ -52,9 +56,6 @@ prefix_run keep n low high history (turn ∷ turns) some wide within rise long f
     ap (λ k. span k t history ++ run_by keep history t turns) same
     ∙ ap (λ es. span n t history ++ es) (prefix_run keep t turn.last high history turns some wide go.within rise.2 long follow)
     ∙ span_join n t (ends_at keep t turns) history (le_two go.on go.up) bounds.0
-  where
-    le_two : {a b c : ℕ} → a ≤ b → b ≤ c → a ≤ c
-    le_two first second = omega arith
 
 prefix_of_turns : (keep : ℕ) (all : List Step) (name : List ℕ) (turns : List Turn) → 100000 ≤ keep → length all ≤ 100000 → AreRising 0 (length (history_at all name)) turns →
     IsPrefixOf (map entry_line (newest keep (history_at all name))) (device_with all name (pages_at keep all name turns))
@@ -136,9 +137,6 @@ unbroken_turns keep n low high c history (turn ∷ turns) some wide within rise 
     all_append (λ l. l.broken ≡ false) (logged_behind (is_break c after) (map as_logged entries)) (logged_from (c + length (map as_logged entries)) (pages_by keep history t turns))
     (unbroken_behind (is_break c after) (map as_logged entries) joined)
     (unbroken_turns keep t turn.last high (c + length (map as_logged entries)) history turns some wide go.within rise.2 long follow next)
-  where
-    ends_there : {c n s k m t : ℕ} → c ≡ n → s ≡ n → k ≡ m → s + m ≡ t → c + k ≡ t
-    ends_there is same size whole = omega arith
 
 unbroken_pages : (keep : ℕ) (all : List Step) (name : List ℕ) → 100000 ≤ keep → length all ≤ 100000 → (known : ArePaged keep all name all) →
     AllByRecursion (λ l. l.broken ≡ false) (device_line keep all name).logged
@@ -206,12 +204,6 @@ tiles_one keep n low high history (turn ∷ turns) before some wide within rise 
     (total_if page.complete page.total (λ total. total ≡ length before + length (map as_logged entries))
     (λ complete. whole_total keep n turn (length (map as_logged entries)) (length before) some go.inside (top_within top wide) many (mapped ∙ go.size) complete))
     (subst (λ c. AreTiles (before ++ lines) (map page_line pages) (logged_from c pages)) whole later)
-  where
-    some_count : {a b : ℕ} → a ≡ b → 1 ≤ b → 0 < a
-    some_count same some = omega arith
-
-    ends_there : {c n s k m t : ℕ} → c ≡ n → s ≡ n → k ≡ m → s + m ≡ t → c + k ≡ t
-    ends_there is same size whole = omega arith
 
 -- the archive of a world is as long as its last number says
 long_world : (keep : ℕ) (all : List Step) (name : List ℕ) (before rest : List Step) (world : World) → 100000 ≤ keep → length all ≤ 100000 →
@@ -255,13 +247,7 @@ is_fresh keep all name wide stand few k total line at is i j asking asked taking
     let now : length (taken.archive (home_of all name)) ≡ last_at all name (take.before ++ take.step ∷ []) =
     long_world keep all name (take.before ++ take.step ∷ []) take.rest taken wide few (front_at all name (take.before ++ take.step ∷ []) take.rest joined).within joined take.is in
     let grows : last_at all name take.before ≤ last_at all name (take.before ++ take.step ∷ []) = last_grows all name take.before (take.step ∷ []) in
-    (same_low was low, up_to now high grows)
-  where
-    same_low : {a b c : ℕ} → a ≡ b → b ≡ c → a ≤ c
-    same_low first second = omega arith
-
-    up_to : {now next last there : ℕ} → now ≡ next → there ≡ last → there ≤ next → last ≤ now
-    up_to is same grows = omega arith
+    (no_later was low, no_earlier now high grows)
 
 tiles_right : (keep : ℕ) (all : List Step) (name : List ℕ) → 100000 ≤ keep → length all ≤ 100000 → (known : ArePaged keep all name all) →
     AreTiles [] (map page_line (pages_of keep all name all)) (logged_from 0 (pages_of keep all name all))

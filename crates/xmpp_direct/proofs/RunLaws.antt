@@ -14,10 +14,9 @@ use Rattle.xmpp_direct.proofs.PageRuns.{ArePaged, IsPageOf, IsTurnOf, completed,
 use Rattle.xmpp_direct.proofs.TurnRuns.{IsIn, each_by, ids_differ, ids_from, in_history, kept_in, last_number_by, line_entry, line_id, lines_by, number_follow, numbers_within, pairs_unmap, runs_by}
 use Rattle.xmpp_direct.proofs.TurnTiles.{before_turns, complete_end, complete_lines, first_number_is, last_lines_by, last_number_is, page_at_turn, tiles_by, total_whole, whole_by}
 use Rattle.xmpp_direct.proofs.Turns.{AreRising, Turn, end_of, ends_at, ends_at-append, ends_bounds, follow_span, id_of_entry, length_span, newest_span, page_by, rising_append, rising_bounds, rising_split, run_by, run_by-append, span, start_of}
-use Rattle.xmpp_direct.specs.Direct.{device_line, pages_of, said_at, takes_of}
+use Rattle.xmpp_direct.specs.Direct.{device_line, device_with, pages_of, takes_of}
 use Rattle.xmpp_direct.specs.History.{world_after, worlds_from, worlds_of}
 use Rattle.xmpp_edge.specs.Names.{is_among}
-use Rattle.xmpp_log.specs.LogPages.{LogPage}
 use Rattle.xmpp_pages.specs.Kept.{first_number, last_number, last_number_or}
 use Rattle.xmpp_report.proofs.Pairs.{pairs_map}
 use Rattle.xmpp_report.specs.EntryLines.{EntryLineView}
@@ -30,24 +29,9 @@ use Rattle.xmpp_report.specs.Worlds.{World}
 use Rattle.xmpp_report.specs.declared.report.LoggedLine.{LoggedLine}
 use Rattle.xmpp_report.specs.declared.report.PageLine.{PageLine}
 use Rattle.xmpp_schedule.proofs.StandingSteps.{AreStanding}
-use Rattle.xmpp_schedule.specs.Contents.{along, home_of, is_catchup_of}
+use Rattle.xmpp_schedule.specs.Contents.{home_of, is_catchup_of}
 use Rattle.xmpp_schedule.specs.Schedules.{ScheduleView, steps_of}
 use Rattle.xmpp_schedule.specs.declared.schedule.Step.{Step}
-
--- a device's line with these pages
-abbrev pub device_with : List Step → List ℕ → List LogPage → DeviceView
-device_with all name pages = record {
-  name = name;
-  account = home_of all name;
-  epoch = 1;
-  settled = true;
-  said = along (said_at name) [] all;
-  refused = [];
-  pages = map page_line pages;
-  underway = [];
-  logged = logged_from 0 pages;
-  held = [];
-}
 
 -- Law 4.
 
@@ -136,6 +120,18 @@ page_of_move keep all name world next move k some stand few low high =
     let was : length (pages_of keep all name move.before) ≡ length (world.pages name) = ap (λ (w : World). length (w.pages name)) move.was in
     let is_now : length (pages_of keep all name (move.before ++ move.step ∷ [])) ≡ length (next.pages name) = ap (λ (w : World). length (w.pages name)) move.is in
     page_of_step keep all name move.before move.rest move.step k move.joined stand few some (omega arith) (omega arith)
+
+-- what an archive had before the move that brought a page is no later than what it had for the page
+pub no_later : {was before last : ℕ} → was ≡ before → before ≡ last → was ≤ last
+no_later is same = omega arith
+
+-- and what it had behind that move is no earlier
+pub no_earlier : {now after before last : ℕ} → now ≡ after → before ≡ last → before ≤ after → last ≤ now
+no_earlier is same grows = omega arith
+
+-- what is no greater than a small number is small
+le_small : {a b : ℕ} → a ≤ b → b ≤ 4294967295 → a ≤ 4294967295
+le_small low small = omega arith
 
 -- The numbers that an archive keeps.
 
@@ -303,13 +299,7 @@ is_fresh_to keep all name some stand few k total last line at is number i j aski
     let now : last_number (taken.archive (home_of all name)) ≡ last_at all name (take.before ++ take.step ∷ []) =
     last_of_world keep all name (take.before ++ take.step ∷ []) take.rest taken some (append_assoc take.before (take.step ∷ []) take.rest ∙ take.joined) take.is in
     let grows : last_at all name take.before ≤ last_at all name (take.before ++ take.step ∷ []) = last_grows all name take.before (take.step ∷ []) in
-    (same_low was low, up_to now high grows)
-  where
-    same_low : {a b c : ℕ} → a ≡ b → b ≡ c → a ≤ c
-    same_low first second = omega arith
-
-    up_to : {now next last there : ℕ} → now ≡ next → there ≡ last → there ≤ next → last ≤ now
-    up_to is same grows = omega arith
+    (no_later was low, no_earlier now high grows)
 
 asked_without : (n old : ℕ) → cond (leb n old) None (Some (id_of n)) ≡ None → n ≤ old
 asked_without n old none =
@@ -329,9 +319,6 @@ purged_number keep all name before k last line some few page at after number =
     let same : n ≡ last = last_number_is n last (le_small known.within known.small) (subst (λ id. IsLastNumber id last) known.before number) in
     below keep page.last same gone
   where
-    le_small : {a b : ℕ} → a ≤ b → b ≤ 4294967295 → a ≤ 4294967295
-    le_small low small = omega arith
-
     below : (keep : ℕ) {n last given before : ℕ} → given ≡ before → n ≡ last → n ≤ given - keep → last ≤ before - keep
     below keep at same gone = omega arith
 
@@ -410,11 +397,8 @@ is_oldest_kept keep all name some stand few k first line at after number i j ask
     let now : first_number (taken.archive (home_of all name)) ≡ suc (last_at all name (take.before ++ take.step ∷ []) - keep) =
     first_of_world keep all name (take.before ++ take.step ∷ []) take.rest taken some (append_assoc take.before (take.step ∷ []) take.rest ∙ take.joined) take.is in
     let grows : last_at all name take.before ≤ last_at all name (take.before ++ take.step ∷ []) = last_grows all name take.before (take.step ∷ []) in
-    (same_low was low, up_to keep now high grows)
+    (no_later was (sym low), up_to keep now high grows)
   where
-    same_low : {a b c : ℕ} → a ≡ b → c ≡ b → a ≤ c
-    same_low first second = omega arith
-
     up_to : (keep : ℕ) {now next first there : ℕ} → now ≡ suc (next - keep) → first ≡ suc (there - keep) → there ≤ next → first ≤ now
     up_to keep is same grows = omega arith
 
@@ -441,9 +425,6 @@ behind_number keep all name before k last line some few page at one number =
     let asked = asked_number n (t.turn.last - keep) last (le_small known.within known.small) one (subst (λ id. IsLastNumber id last) (sym after) number) in
     above keep page.last asked.0 asked.1
   where
-    le_small : {a b : ℕ} → a ≤ b → b ≤ 4294967295 → a ≤ 4294967295
-    le_small low small = omega arith
-
     above : (keep : ℕ) {n last given before : ℕ} → given ≡ before → n ≡ last → given - keep < n → before - keep < last
     above keep at same newer = omega arith
 
@@ -476,9 +457,6 @@ given_number keep all name before k last some few page number =
   where
     min_below : (a b : ℕ) → min a b ≤ b
     min_below a b = omega arith
-
-    le_small : {a b : ℕ} → a ≤ b → b ≤ 4294967295 → a ≤ 4294967295
-    le_small low small = omega arith
 
     below : {end last given before : ℕ} → given ≡ before → end ≡ last → end ≤ given → last ≤ before
     below at same within = omega arith

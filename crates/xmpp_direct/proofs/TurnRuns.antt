@@ -92,7 +92,7 @@ pub record Goes (keep n : ℕ) (history : List EntryView) (turn : Turn) : Type 0
 le_all : {a b c d : ℕ} → a ≤ b → b ≤ c → c ≤ d → a ≤ d
 le_all first second third = omega arith
 
-le_two : {a b c : ℕ} → a ≤ b → b ≤ c → a ≤ c
+pub le_two : {a b c : ℕ} → a ≤ b → b ≤ c → a ≤ c
 le_two first second = omega arith
 
 sum_back : {a s t : ℕ} → a ≡ t - s → s ≤ t → s + a ≡ t

@@ -105,6 +105,10 @@ last_behind keep n history turn broken before go known =
     ∙ follow_ids (map line_id before) n (start_of keep n turn) entries go.follow (sym (last_logged_of before) ∙ known) go.empty
     ∙ ap id_behind go.whole
 
+-- a page with an entry counts one
+pub some_count : {a b : ℕ} → a ≡ b → 1 ≤ b → 0 < a
+some_count same some = omega arith
+
 pub tiles_by : (keep n low high : ℕ) (history : List EntryView) (turns : List Turn) (before : List LoggedLine) → 1 ≤ keep → n ≤ low → AreRising low high turns →
     high ≤ length history → FollowFrom 1 history → last_logged before ≡ id_behind n →
     AreTilesOfRuns before (map page_line (pages_by keep history n turns)) (logged_from (length before) (pages_by keep history n turns))
@@ -129,9 +133,6 @@ tiles_by keep n low high history (turn ∷ turns) before some within rise long f
     (λ anew. some_count count (broken_some keep n turn before some rise.1 known anew))
     (begins broken (map as_logged entries))
     (subst (λ c. AreTilesOfRuns (before ++ lines) (map page_line pages) (logged_from c pages)) whole later)
-  where
-    some_count : {a b : ℕ} → a ≡ b → 1 ≤ b → 0 < a
-    some_count same some = omega arith
 
 -- What was logged before a page.
 

@@ -1,7 +1,7 @@
 -- The direct run of a schedule: every message is taken at once and acknowledged, and every page that is asked for is
 -- answered at once. No session, counter, queue or connection occurs here.
 use Rattle.std.specs.Prelude.{ℕ, ◌+◌, Bool, true, false, List, [], ◌∷◌, ◌++◌, Option, Some, None, length, map, filter_map, zero, suc, if◌then◌else◌}
-use Rattle.std.specs.Option.{option_map, option_map_or}
+use Rattle.std.specs.Option.{option_map, option_map_or, option_or}
 use Rattle.std.specs.Str.{bytes_eq}
 use Rattle.xmpp_archive.specs.Entries.{EntryView, entry_numbered, newest}
 use Rattle.xmpp_archive.specs.Ids.{id_of}
@@ -91,14 +91,10 @@ as_taken_over after page = record { after = after; entries = map as_logged page.
 abbrev pub page_from : Option (List ℕ) → ℕ → Kept → Option LogPage
 page_from after most kept = option_map (as_taken_over after) (page_answered after most kept)
 
-abbrev pub or_else : {A : Type 0} → Option A → Option A → Option A
-or_else (Some x) other = Some x
-or_else None other = other
-
 -- the page behind the log's last entry or, where the archive has no entry with its id any more, the page from the first
 -- entry that it keeps on
 abbrev pub next_page : ℕ → Kept → List LogPage → Option LogPage
-next_page most kept pages = or_else (page_from (last_id (log_of pages)) most kept) (page_from None most kept)
+next_page most kept pages = option_or (page_from (last_id (log_of pages)) most kept) (page_from None most kept)
 
 -- A catch-up asks for pages until one is complete, in so many turns at most.
 abbrev pub catch_up : ℕ → ℕ → Kept → List LogPage → List LogPage
@@ -153,19 +149,23 @@ account_line keep all name =
       entries = map entry_line (newest keep history);
     }
 
-abbrev pub device_line : ℕ → List Step → List ℕ → DeviceView
-device_line keep all name = record {
+-- the line of a device that took these pages
+abbrev pub device_with : List Step → List ℕ → List LogPage → DeviceView
+device_with all name pages = record {
   name = name;
   account = home_of all name;
   epoch = 1;
   settled = true;
   said = along (said_at name) [] all;
   refused = [];
-  pages = map page_line (pages_of keep all name all);
+  pages = map page_line pages;
   underway = [];
-  logged = logged_from 0 (pages_of keep all name all);
+  logged = logged_from 0 pages;
   held = [];
 }
+
+abbrev pub device_line : ℕ → List Step → List ℕ → DeviceView
+device_line keep all name = device_with all name (pages_of keep all name all)
 
 -- the report of these steps, run directly
 abbrev pub report_by : Version → List Step → ReportView

@@ -1,6 +1,6 @@
 //! What a device keeps of its account's archive.
 ghost use Rattle.std.specs.Prelude.{◌≡◌, ◌≢◌, ℕ, ◌≤◌, ◌⊎◌, List, [], ◌∷◌, ◌++◌, Ok, Err, Some, None, IsSome, IsErrOf, IfErr, IfOk, IfSome, AllPairs, OnOk, OnErr, IsSomeAnd, MatchOption, length, ◌↔◌};
-ghost use Rattle.std.specs.Option.{option_copied, option_map};
+ghost use Rattle.std.specs.Option.{option_and_then, option_copied, option_map};
 ghost use Rattle.xmpp_log.specs.Breaks.{breaks_of};
 ghost use Rattle.xmpp_log.specs.LogCalls.{after_hold, begun_again, may_hold, restart_answer, with_restart};
 ghost use Rattle.xmpp_log.specs.LogPages.{ids_of, last_id};
@@ -266,6 +266,26 @@ impl Log {
     {
         match &self.page {
             Some(page) => Some(page.queryid.as_str()),
+            None => None,
+        }
+    }
+
+    /// How many results the open page may have. It is `None` exactly where no page is open.
+    pub fn most(&self) -> Option<u32>
+        ensures { result ≡ option_map (λ page. page.max) self.now.page }
+    {
+        match &self.page {
+            Some(page) => Some(page.max),
+            None => None,
+        }
+    }
+
+    /// The id behind which the open page was asked for. It is `None` where that is the first page, and where none is open.
+    pub fn place(&self) -> Option<&str>
+        ensures { option_copied result ≡ option_and_then (λ page. page.after) self.now.page }
+    {
+        match &self.page {
+            Some(page) => borrowed(&page.after),
             None => None,
         }
     }

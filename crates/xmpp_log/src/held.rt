@@ -15,8 +15,8 @@ use xmpp_edge::NoMemory;
 pub const MOST_HELD: usize = 10_000;
 
 /// Messages, each under an id of its own, in the order in which they came. Those before `start` have left. They are
-/// dropped once they are half of the list, so that a message that leaves from the front, as each does that an archive
-/// brings in order, moves no other.
+/// dropped once they are more than half of the list, so that a message that leaves from the front, as each does that an
+/// archive brings in order, moves no other.
 #[derive(Drop)]
 pub(crate) struct Held {
     items: Vec<LogEntry>,

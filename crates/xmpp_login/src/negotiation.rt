@@ -1,5 +1,5 @@
 //! The answer to `auth` (RFC 6120, section 6.4.2; RFC 5802, section 5).
-ghost use Rattle.std.specs.Prelude.{◌≡◌, IfOk, OnErr};
+ghost use Rattle.std.specs.Prelude.{◌≡◌, true, IfOk, OnErr};
 ghost use Rattle.xmpp_login.specs.Accounts.{account_named};
 ghost use Rattle.xmpp_login.specs.Negotiations.{auth_answer, begun_by, begun_with, first_condition, is_scram};
 ghost use Rattle.xmpp_sasl.specs.Sasl.{auth_mechanism};

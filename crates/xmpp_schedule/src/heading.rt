@@ -15,7 +15,7 @@ pub struct Heading {
     pub wire: bool,
 }
 
-/// What line 1 says. Where it says nothing of this, any reason is given.
+/// What line 1 says, or the first thing that is wrong in it. Whoever reads a schedule answers `Header` for each.
 #[tactic(auto, unfolding(crate::specs::Reading::read_heading))]
 pub fn read_heading(line: &[u8]) -> Result<Heading, LineFault>
     ensures { Gives (λ heading. heading) result (read_heading line.now) }
