@@ -7,9 +7,10 @@ use Rattle.xmpp_ext.specs.Given.{is_private}
 use Rattle.xmpp_live.specs.Sessions.{Session, is_of, number_of, sessions_of}
 use Rattle.xmpp_live.specs.declared.told.Told.{Told}
 use Rattle.xmpp_resume.specs.declared.session.SessionView.{SessionView}
-use Rattle.xmpp_route.proofs.PlanShapes.{Goes, Refuses, Shape}
+use Rattle.xmpp_route.proofs.PlanCases.{planned_has_all}
+use Rattle.xmpp_route.specs.Destinations.{Destination}
 use Rattle.xmpp_route.specs.Messages.{is_archived, is_copied}
-use Rattle.xmpp_route.specs.Plans.{copied_of, having_it, received_copies, refused, sent_copies, wants_copy}
+use Rattle.xmpp_route.specs.Plans.{copied_of, having_it, planned, received_copies, refused, sent_copies, wants_copy}
 use Rattle.xmpp_route.specs.Routes.{PlanOf, received_in, sent_in}
 use Rattle.xmpp_stanza.specs.Kinds.{answers_message}
 use Rattle.xmpp_stanza.specs.Views.{MessageView}
@@ -66,36 +67,40 @@ refused_received condition kind =
 
 -- ---- the laws
 
-pub senders_left_out : {A : Type 0} (m : MessageView) (sender : Told) (sessions : List (Session A)) (p : PlanOf (Session A)) → Shape m sender sessions p → All (λ t. number_of t ≢ sender.number) (sent_in p ++ received_in p)
-senders_left_out {A = A} m sender sessions _ (Refuses condition) =
-    rw (refused_sent {A = A} condition m.kind, refused_received {A = A} condition m.kind) (All-nil (λ t. number_of t ≢ sender.number))
-senders_left_out m sender sessions _ (Goes account deliver d) =
+pub senders_left_out : {A : Type 0} (d : Destination) (m : MessageView) (sender : Told) (sessions : List (Session A)) → All (λ t. number_of t ≢ sender.number) (sent_in (planned d m sender sessions) ++ received_in (planned d m sender sessions))
+senders_left_out {A = A} d m sender sessions =
+    let Other : Session A → Type 0 = λ t. number_of t ≢ sender.number in
+    planned_has_all m sender sessions (λ p. All Other (sent_in p ++ received_in p))
+    (λ condition. rw (refused_sent {A = A} condition m.kind, refused_received {A = A} condition m.kind) (All-nil Other))
+    (λ account deliver.
     let numbers = map number_of deliver in
-    All-append (λ t. number_of t ≢ sender.number) (sent_copies m sender numbers sessions) (received_copies m sender account numbers sessions)
-    (sent_all (λ t. number_of t ≢ sender.number) m sender numbers sessions (λ t wants mine. (wanted sender numbers t.shown wants).1))
-    (received_all (λ t. number_of t ≢ sender.number) m sender account numbers sessions (λ t wants mine differ. (wanted sender numbers t.shown wants).1))
+    All-append Other (sent_copies m sender numbers sessions) (received_copies m sender account numbers sessions)
+    (sent_all Other m sender numbers sessions (λ t wants mine. (wanted sender numbers t.shown wants).1))
+    (received_all Other m sender account numbers sessions (λ t wants mine differ. (wanted sender numbers t.shown wants).1))) d
 
-pub sent_as_asked : {A : Type 0} (m : MessageView) (sender : Told) (sessions : List (Session A)) (p : PlanOf (Session A)) → Shape m sender sessions p →
-    All (λ t. (t.shown.carbons ≡ true) × (t.shown.account ≡ sender.account)) (sent_in p)
-sent_as_asked {A = A} m sender sessions _ (Refuses condition) =
-    rw (refused_sent {A = A} condition m.kind) (All-nil (λ t. (t.shown.carbons ≡ true) × (t.shown.account ≡ sender.account)))
-sent_as_asked m sender sessions _ (Goes account deliver d) =
+pub sent_as_asked : {A : Type 0} (d : Destination) (m : MessageView) (sender : Told) (sessions : List (Session A)) →
+    All (λ t. (t.shown.carbons ≡ true) × (t.shown.account ≡ sender.account)) (sent_in (planned d m sender sessions))
+sent_as_asked {A = A} d m sender sessions =
+    let Asked : Session A → Type 0 = λ t. (t.shown.carbons ≡ true) × (t.shown.account ≡ sender.account) in
+    planned_has_all m sender sessions (λ p. All Asked (sent_in p)) (λ condition. rw (refused_sent {A = A} condition m.kind) (All-nil Asked))
+    (λ account deliver.
     let numbers = map number_of deliver in
-    sent_all (λ t. (t.shown.carbons ≡ true) × (t.shown.account ≡ sender.account)) m sender numbers sessions
-    (λ t wants mine. ((wanted sender numbers t.shown wants).0, eqb-true t.shown.account sender.account mine))
+    sent_all Asked m sender numbers sessions (λ t wants mine. ((wanted sender numbers t.shown wants).0, eqb-true t.shown.account sender.account mine))) d
 
-pub received_as_asked : {A : Type 0} (m : MessageView) (sender : Told) (sessions : List (Session A)) (p : PlanOf (Session A)) → Shape m sender sessions p →
-    All (λ t. (t.shown.carbons ≡ true) × (t.shown.account ≢ sender.account)) (received_in p)
-received_as_asked {A = A} m sender sessions _ (Refuses condition) =
-    rw (refused_received {A = A} condition m.kind) (All-nil (λ t. (t.shown.carbons ≡ true) × (t.shown.account ≢ sender.account)))
-received_as_asked m sender sessions _ (Goes account deliver d) =
+pub received_as_asked : {A : Type 0} (d : Destination) (m : MessageView) (sender : Told) (sessions : List (Session A)) →
+    All (λ t. (t.shown.carbons ≡ true) × (t.shown.account ≢ sender.account)) (received_in (planned d m sender sessions))
+received_as_asked {A = A} d m sender sessions =
+    let Asked : Session A → Type 0 = λ t. (t.shown.carbons ≡ true) × (t.shown.account ≢ sender.account) in
+    planned_has_all m sender sessions (λ p. All Asked (received_in p)) (λ condition. rw (refused_received {A = A} condition m.kind) (All-nil Asked))
+    (λ account deliver.
     let numbers = map number_of deliver in
-    received_all (λ t. (t.shown.carbons ≡ true) × (t.shown.account ≢ sender.account)) m sender account numbers sessions
-    (λ t wants mine differ. ((wanted sender numbers t.shown wants).0, λ e. eqb-false sender.account account differ (sym e ∙ eqb-true t.shown.account account mine)))
+    received_all Asked m sender account numbers sessions
+    (λ t wants mine differ. ((wanted sender numbers t.shown wants).0, λ e. eqb-false sender.account account differ (sym e ∙ eqb-true t.shown.account account mine)))) d
 
-pub not_copied : {A : Type 0} (m : MessageView) (sender : Told) (sessions : List (Session A)) (p : PlanOf (Session A)) → is_copied m ≡ false → Shape m sender sessions p → (sent_in p ≡ []) × (received_in p ≡ [])
-not_copied {A = A} m sender sessions _ is (Refuses condition) = (refused_sent {A = A} condition m.kind, refused_received {A = A} condition m.kind)
-not_copied m sender sessions _ is (Goes account deliver d) = (rw is refl, rw is refl)
+pub not_copied : {A : Type 0} (d : Destination) (m : MessageView) (sender : Told) (sessions : List (Session A)) → is_copied m ≡ false → (sent_in (planned d m sender sessions) ≡ []) × (received_in (planned d m sender sessions) ≡ [])
+not_copied {A = A} d m sender sessions is =
+    planned_has_all m sender sessions (λ p. (sent_in p ≡ []) × (received_in p ≡ [])) (λ condition. (refused_sent {A = A} condition m.kind, refused_received {A = A} condition m.kind))
+    (λ account deliver. (rw is refl, rw is refl)) d
 
 private_in : (archived private : Bool) → private ≡ true → (archived && not private) ≡ false
 private_in true true is = refl

@@ -6,13 +6,14 @@ use Rattle.std.proofs.lemmas.List.Recursion.{is_count_by}
 use Rattle.std.proofs.lemmas.Option.{none-some, same_Some}
 use Rattle.std.specs.List.{list_any}
 use Rattle.xmpp_live.specs.Rule.{RisesTo}
-use Rattle.xmpp_live.specs.Sessions.{Session, is_named, is_numbered, is_of, number_of, session_of, sessions_of}
+use Rattle.xmpp_live.specs.Sessions.{Session, is_named, is_numbered, is_of, number_of, session_named, session_of, sessions_of}
 use Rattle.xmpp_live.specs.declared.told.Told.{Told}
 use Rattle.xmpp_route.proofs.Chosen.{AreFound, all_found}
 use Rattle.xmpp_route.proofs.CopyLaws.{refused_received, refused_sent}
-use Rattle.xmpp_route.proofs.PlanShapes.{Goes, IsDelivery, Nobody, One, Ready, Refuses, Shape}
+use Rattle.xmpp_route.proofs.PlanCases.{planned_has}
+use Rattle.xmpp_route.specs.Destinations.{Destination}
 use Rattle.xmpp_route.specs.Messages.{is_copied}
-use Rattle.xmpp_route.specs.Plans.{copied_of, having_it, is_ready, received_copies, refused, sent_copies, wants_copy}
+use Rattle.xmpp_route.specs.Plans.{copied_of, having_it, is_ready, planned, ready_of, received_copies, refused, sent_copies, wants_copy}
 use Rattle.xmpp_route.specs.Routes.{PlanOf, delivered_in, received_in, sent_in}
 use Rattle.xmpp_stanza.specs.Kinds.{answers_message}
 use Rattle.xmpp_stanza.specs.Views.{MessageView}
@@ -20,12 +21,12 @@ use Rattle.xmpp_stanza.specs.declared.conditions.Condition.{Condition}
 use Rattle.xmpp_stanza.specs.declared.kinds.MessageKind.{MessageKind}
 
 -- how often a number stands in a list
-times : {A : Type 0} → ℕ → List (Session A) → ℕ
+abbrev times : {A : Type 0} → ℕ → List (Session A) → ℕ
 times n [] = 0
 times n (t ∷ ts) = cond (t.shown.number == n) (1 + times n ts) (times n ts)
 
 times_is : {A : Type 0} (n : ℕ) (ts : List (Session A)) → times n ts ≡ count_by (is_numbered n) ts
-times_is n ts = is_count_by (is_numbered n) refl (λ t more. refl) ts
+times_is n ts = is_count_by (times n) (is_numbered n) refl (λ t more. refl) ts
 
 times_append : {A : Type 0} (n : ℕ) (ts us : List (Session A)) → times n (ts ++ us) ≡ times n ts + times n us
 times_append n [] us = omega arith
@@ -178,24 +179,24 @@ copies_few next n m sender account deliver sessions rise =
       | inr some ↦ omega (arith, some.1, sent, times_two n sender.account account sessions some.0, all)
     ]
 
-delivered_few : {A : Type 0} (next n account : ℕ) (deliver sessions : List (Session A)) → RisesTo next 1 sessions → IsDelivery account sessions deliver → times n deliver ≤ 1
-delivered_few next n account _ sessions rise Ready =
+ready_few : {A : Type 0} (next n account : ℕ) (sessions : List (Session A)) → RisesTo next 1 sessions → times n (ready_of account sessions) ≤ 1
+ready_few next n account sessions rise =
     omega (arith, times_filter (λ t. is_ready t.shown) n (sessions_of account sessions), times_filter (is_of account) n sessions, times_rise next 1 n sessions rise)
-delivered_few next n account _ sessions rise Nobody = omega arith
-delivered_few next n account _ sessions rise (One resource t is) =
+
+one_few : {A : Type 0} (n : ℕ) (t : Session A) → times n (t ∷ []) ≤ 1
+one_few n t =
     elim (cases_Bool (t.shown.number == n)) [
       | inl here ↦ rw here (omega arith)
       | inr other ↦ rw other (omega arith)
     ]
 
-all_few : {A : Type 0} (next n account : ℕ) (m : MessageView) (sender : Told) (deliver sessions : List (Session A)) → RisesTo next 1 sessions → IsDelivery account sessions deliver →
+all_few : {A : Type 0} (next n account : ℕ) (m : MessageView) (sender : Told) (deliver sessions : List (Session A)) → RisesTo next 1 sessions → times n deliver ≤ 1 →
     times n deliver + (times n (sent_copies m sender (map number_of deliver) sessions) + times n (received_copies m sender account (map number_of deliver) sessions)) ≤ 1
-all_few next n account m sender deliver sessions rise d =
+all_few next n account m sender deliver sessions rise few =
     let numbers = map number_of deliver in
     elim (among n deliver) [
       | inl none ↦ omega (arith, none, copies_few next n m sender account numbers sessions rise)
-      | inr there ↦
-          omega (arith, delivered_few next n account deliver sessions rise d, sent_none n m sender numbers sessions there, received_none n m sender account numbers sessions there)
+      | inr there ↦ omega (arith, few, sent_none n m sender numbers sessions there, received_none n m sender account numbers sessions there)
     ]
 
 refused_delivered : {A : Type 0} (condition : Condition) (kind : MessageKind) → delivered_in (refused {A = A} condition kind) ≡ []
@@ -205,16 +206,23 @@ refused_delivered condition kind =
       | inr unanswered ↦ rw unanswered refl
     ]
 
-pub given_once : {A : Type 0} (next n : ℕ) (m : MessageView) (sender : Told) (sessions : List (Session A)) (p : PlanOf (Session A)) → RisesTo next 1 sessions → Shape m sender sessions p →
-    count_by (is_numbered n) (delivered_in p ++ (sent_in p ++ received_in p)) ≤ 1
-given_once {A = A} next n m sender sessions _ rise (Refuses condition) =
-    rw (refused_delivered {A = A} condition m.kind, refused_sent {A = A} condition m.kind, refused_received {A = A} condition m.kind) (omega arith)
-given_once next n m sender sessions _ rise (Goes account deliver d) =
+route_few : {A : Type 0} (next n account : ℕ) (m : MessageView) (sender : Told) (deliver sessions : List (Session A)) → RisesTo next 1 sessions → times n deliver ≤ 1 →
+    count_by (is_numbered n) (deliver ++ (sent_copies m sender (map number_of deliver) sessions ++ received_copies m sender account (map number_of deliver) sessions)) ≤ 1
+route_few next n account m sender deliver sessions rise few =
     let numbers = map number_of deliver in
     let sent = sent_copies m sender numbers sessions in
     let received = received_copies m sender account numbers sessions in
     subst (λ k. k ≤ 1) (times_is n (deliver ++ (sent ++ received)))
-    (omega (arith, times_append n deliver (sent ++ received), times_append n sent received, all_few next n account m sender deliver sessions rise d))
+    (omega (arith, times_append n deliver (sent ++ received), times_append n sent received, all_few next n account m sender deliver sessions rise few))
+
+pub given_once : {A : Type 0} (next n : ℕ) (d : Destination) (m : MessageView) (sender : Told) (sessions : List (Session A)) → RisesTo next 1 sessions →
+    count_by (is_numbered n) (delivered_in (planned d m sender sessions) ++ (sent_in (planned d m sender sessions) ++ received_in (planned d m sender sessions))) ≤ 1
+given_once {A = A} next n d m sender sessions rise =
+    planned_has m sender sessions (λ p. count_by (is_numbered n) (delivered_in p ++ (sent_in p ++ received_in p)) ≤ 1)
+    (λ condition. rw (refused_delivered {A = A} condition m.kind, refused_sent {A = A} condition m.kind, refused_received {A = A} condition m.kind) (omega arith))
+    (λ account. route_few next n account m sender (ready_of account sessions) sessions rise (ready_few next n account sessions rise))
+    (λ account. route_few next n account m sender [] sessions rise (omega arith))
+    (λ account resource t is. route_few next n account m sender (t ∷ []) sessions rise (one_few n t)) d
 
 -- ---- they live
 
@@ -254,19 +262,24 @@ received_live next m sender account deliver sessions rise =
       | inr uncopied ↦ rw uncopied (All-nil (Live sessions))
     ]
 
-delivered_live : {A : Type 0} (next account : ℕ) (deliver sessions : List (Session A)) → RisesTo next 1 sessions → IsDelivery account sessions deliver → All (Live sessions) deliver
-delivered_live next account _ sessions rise Ready = some_live next account (λ t. is_ready t.shown) sessions rise
-delivered_live next account _ sessions rise Nobody = All-nil (Live sessions)
-delivered_live next account _ sessions rise (One resource t is) =
+one_live : {A : Type 0} (next account : ℕ) (resource : List ℕ) (t : Session A) (sessions : List (Session A)) → RisesTo next 1 sessions → session_named account resource sessions ≡ Some t → All (Live sessions) (t ∷ [])
+one_live next account resource t sessions rise is =
     All-cons (Live sessions) t [] (found_by (is_named account resource) t sessions sessions (all_found next 1 sessions rise) is) (All-nil (Live sessions))
 
-pub given_live : {A : Type 0} (next : ℕ) (m : MessageView) (sender : Told) (sessions : List (Session A)) (p : PlanOf (Session A)) → RisesTo next 1 sessions → Shape m sender sessions p →
-    All (λ t. session_of (number_of t) sessions ≡ Some t) (delivered_in p ++ (sent_in p ++ received_in p))
-given_live {A = A} next m sender sessions _ rise (Refuses condition) =
-    rw (refused_delivered {A = A} condition m.kind, refused_sent {A = A} condition m.kind, refused_received {A = A} condition m.kind) (All-nil (Live sessions))
-given_live next m sender sessions _ rise (Goes account deliver d) =
+route_live : {A : Type 0} (next account : ℕ) (m : MessageView) (sender : Told) (deliver sessions : List (Session A)) → RisesTo next 1 sessions → All (Live sessions) deliver →
+    All (Live sessions) (deliver ++ (sent_copies m sender (map number_of deliver) sessions ++ received_copies m sender account (map number_of deliver) sessions))
+route_live next account m sender deliver sessions rise live =
     let numbers = map number_of deliver in
     let sent = sent_copies m sender numbers sessions in
     let received = received_copies m sender account numbers sessions in
-    All-append (Live sessions) deliver (sent ++ received) (delivered_live next account deliver sessions rise d)
+    All-append (Live sessions) deliver (sent ++ received) live
     (All-append (Live sessions) sent received (sent_live next m sender numbers sessions rise) (received_live next m sender account numbers sessions rise))
+
+pub given_live : {A : Type 0} (next : ℕ) (d : Destination) (m : MessageView) (sender : Told) (sessions : List (Session A)) → RisesTo next 1 sessions →
+    All (λ t. session_of (number_of t) sessions ≡ Some t) (delivered_in (planned d m sender sessions) ++ (sent_in (planned d m sender sessions) ++ received_in (planned d m sender sessions)))
+given_live {A = A} next d m sender sessions rise =
+    planned_has m sender sessions (λ p. All (Live sessions) (delivered_in p ++ (sent_in p ++ received_in p)))
+    (λ condition. rw (refused_delivered {A = A} condition m.kind, refused_sent {A = A} condition m.kind, refused_received {A = A} condition m.kind) (All-nil (Live sessions)))
+    (λ account. route_live next account m sender (ready_of account sessions) sessions rise (some_live next account (λ t. is_ready t.shown) sessions rise))
+    (λ account. route_live next account m sender [] sessions rise (All-nil (Live sessions)))
+    (λ account resource t is. route_live next account m sender (t ∷ []) sessions rise (one_live next account resource t sessions rise is)) d

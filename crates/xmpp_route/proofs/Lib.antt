@@ -3,7 +3,7 @@ mod Chosen
 mod Rising
 mod UserPlans
 -- ---- laws
-pub mod PlanShapes
+pub mod PlanCases
 mod PlanLaws
 mod CopyLaws
 mod GivenOnce

@@ -30,7 +30,7 @@ own_place (x ∷ accounts) (suc i) a differ there =
     ]
 
 own_text : (name domain : List ℕ) → address_text (Some name) domain None ≡ bare_text name domain
-own_text name domain = append-nil (name ++ 64 ∷ [] ++ domain) ∙ append_assoc name (64 ∷ []) domain
+own_text name domain = append-nil ((name ++ 64 ∷ []) ++ domain) ∙ append_assoc name (64 ∷ []) domain
 
 pub own_address : (domain : List ℕ) (accounts : List Account) (a : Account) (i : ℕ) → domain_form domain ≡ Ok domain → accounts_fault accounts ≡ None → slice_get accounts i ≡ Some a →
     destination_at domain accounts (bare_text a.name domain) ≡ Bare i

@@ -1,17 +1,19 @@
 -- What a plan answers, delivers and archives.
-use Rattle.std.proofs.Common.{◌≡◌, ℕ, Bool, true, false, not, ◌&&◌, ◌==◌, nat_eq, List, [], ◌∷◌, Option, Some, None, refl, sym, ap, ◌∙◌, inl, inr}
+use Rattle.std.proofs.Common.{◌≡◌, ℕ, Bool, true, false, not, ◌&&◌, ◌==◌, nat_eq, List, [], ◌∷◌, Option, Some, None, refl, sym, ap, ◌∙◌, inl, inr, if◌then◌else◌}
 use Rattle.std.proofs.lemmas.Bool.{cases_Bool, eq-eqb, eqb-true, true≢false}
 use Rattle.xmpp_basis.specs.Distinct.{are_distinct_by}
 use Rattle.xmpp_live.specs.Sessions.{Session, session_named}
 use Rattle.xmpp_live.specs.declared.told.Told.{Told}
-use Rattle.xmpp_route.proofs.PlanShapes.{Goes, IsDelivery, Refuses, Shape}
+use Rattle.xmpp_route.proofs.PlanCases.{planned_has_all}
 use Rattle.xmpp_route.specs.Destinations.{Destination, RemoteDomain, NoUser, Bare, Full}
 use Rattle.xmpp_route.specs.Messages.{is_archived, is_chat, is_for_users, is_kept_kind, has_body}
 use Rattle.xmpp_route.specs.Plans.{archiving_of, dropped, planned, ready_of, refused, routed, to_bare, to_full, to_user}
 use Rattle.xmpp_route.specs.Routes.{PlanOf, archives_in, archives_of, delivered_in, is_bounced}
 use Rattle.xmpp_stanza.specs.Kinds.{answers_message}
 use Rattle.xmpp_stanza.specs.Views.{MessageView}
+use Rattle.xmpp_route.specs.declared.archiving.Archiving.TheVariants.{Nowhere, Once, Both}
 use Rattle.xmpp_stanza.specs.declared.conditions.Condition.{Condition}
+use Rattle.xmpp_stanza.specs.declared.conditions.Condition.TheVariants.{ServiceUnavailable}
 use Rattle.xmpp_stanza.specs.declared.kinds.MessageKind.{MessageKind}
 use Rattle.xmpp_stanza.specs.declared.kinds.MessageKind.TheVariants.{Chat, Normal, Headline, Groupchat, Error}
 
@@ -48,18 +50,18 @@ headline_is_dropped d m sender account resource sessions there none is =
 
 -- ---- errors
 
-error_refused : {A : Type 0} (condition : Condition) (kind : MessageKind) → kind ≡ Error → is_bounced (refused {A = A} condition kind) ≡ false
-error_refused condition kind is = rw is refl
+error_refused : (A : Type 0) (condition : Condition) (kind : MessageKind) → kind ≡ Error → is_bounced (refused {A = A} condition kind) ≡ false
+error_refused A condition kind is = rw is refl
 
-pub error_not_answered : {A : Type 0} (m : MessageView) (sender : Told) (sessions : List (Session A)) (p : PlanOf (Session A)) → m.kind ≡ Error → Shape m sender sessions p → is_bounced p ≡ false
-error_not_answered {A = A} m sender sessions _ is (Refuses condition) = error_refused {A = A} condition m.kind is
-error_not_answered m sender sessions _ is (Goes account deliver d) = refl
+pub error_not_answered : {A : Type 0} (d : Destination) (m : MessageView) (sender : Told) (sessions : List (Session A)) → m.kind ≡ Error → is_bounced (planned d m sender sessions) ≡ false
+error_not_answered {A = A} d m sender sessions is =
+    planned_has_all m sender sessions (λ p. is_bounced p ≡ false) (λ condition. error_refused A condition m.kind is) (λ account deliver. refl) d
 
 -- ---- archives
 
 -- a refusal goes into none
-refused_nowhere : {A : Type 0} (condition : Condition) (kind : MessageKind) → archives_in (refused {A = A} condition kind) ≡ []
-refused_nowhere condition kind =
+refused_nowhere : (A : Type 0) (condition : Condition) (kind : MessageKind) → archives_in (refused {A = A} condition kind) ≡ []
+refused_nowhere A condition kind =
     elim (cases_Bool (answers_message kind)) [
       | inl right ↦ rw right refl
       | inr wrong ↦ rw wrong refl
@@ -79,7 +81,7 @@ user_archives : {A : Type 0} (m : MessageView) (sender : Told) (account : ℕ) (
 user_archives {A = A} m sender account deliver sessions =
     elim (cases_Bool (is_for_users m.kind)) [
       | inl right ↦ rw right refl
-      | inr wrong ↦ rw wrong (refused_nowhere {A = A} _ m.kind ∙ sym (unarchived m sender.account account wrong))
+      | inr wrong ↦ rw wrong (refused_nowhere A ServiceUnavailable m.kind ∙ sym (unarchived m sender.account account wrong))
     ]
 
 full_archives : {A : Type 0} (m : MessageView) (sender : Told) (account : ℕ) (o : Option (Session A)) (sessions : List (Session A)) → archives_in (to_full m sender account o sessions) ≡ archives_of (archiving_of m sender.account account)
@@ -109,20 +111,15 @@ same_archives (Full account resource) m sender sessions others =
 two_archives : (sender account : ℕ) → (sender == account) ≡ false → are_distinct_by nat_eq (sender ∷ account ∷ []) ≡ true
 two_archives sender account differ = rw differ refl
 
-distinct_archives : (m : MessageView) (sender account : ℕ) → are_distinct_by nat_eq (archives_of (archiving_of m sender account)) ≡ true
-distinct_archives m sender account =
-    elim (cases_Bool (is_archived m)) [
-      | inl kept ↦
-          elim (cases_Bool (sender == account)) [
-            | inl same ↦ rw (kept, same) refl
-            | inr differ ↦ rw (kept, differ) (two_archives sender account differ)
-          ]
-      | inr dropped' ↦ rw dropped' refl
-    ]
+distinct_by : (kept same : Bool) (sender account : ℕ) → (sender == account) ≡ same → are_distinct_by nat_eq (archives_of (if kept then (if same then Once account else Both sender account) else Nowhere)) ≡ true
+distinct_by true true sender account is = refl
+distinct_by true false sender account is = two_archives sender account is
+distinct_by false same sender account is = refl
 
-pub archived_once : {A : Type 0} (m : MessageView) (sender : Told) (sessions : List (Session A)) (p : PlanOf (Session A)) → Shape m sender sessions p → are_distinct_by nat_eq (archives_in p) ≡ true
-archived_once {A = A} m sender sessions _ (Refuses condition) = ap (are_distinct_by nat_eq) (refused_nowhere {A = A} condition m.kind)
-archived_once m sender sessions _ (Goes account deliver d) = distinct_archives m sender.account account
+pub archived_once : {A : Type 0} (d : Destination) (m : MessageView) (sender : Told) (sessions : List (Session A)) → are_distinct_by nat_eq (archives_in (planned d m sender sessions)) ≡ true
+archived_once {A = A} d m sender sessions =
+    planned_has_all m sender sessions (λ p. are_distinct_by nat_eq (archives_in p) ≡ true) (λ condition. ap (are_distinct_by nat_eq) (refused_nowhere A condition m.kind))
+    (λ account deliver. distinct_by (is_archived m) (sender.account == account) sender.account account refl) d
 
 pub own_archive : {A : Type 0} (d : Destination) (m : MessageView) (sender : Told) (sessions : List (Session A)) → d ≡ Bare sender.account → is_archived m ≡ true → archives_in (planned d m sender sessions) ≡ sender.account ∷ []
 own_archive d m sender sessions there kept = bare_archives d m sender sender.account sessions there ∙ rw (kept, eq-eqb sender.account sender.account refl) refl

@@ -18,22 +18,24 @@ module _ {A B : Type 0} (g : Session A → Session B) (keeps : (s : Session A) �
   filtered : (p : SessionView → Bool) (ss : List (Session A)) → filter (λ (s : Session B). p s.shown) (map g ss) ≡ map g (filter (λ (s : Session A). p s.shown) ss)
   filtered p [] = refl
   filtered p (s ∷ ss) =
+      let same : p (g s).shown ≡ p s.shown = ap p (keeps s) in
       elim (cases_Bool (p s.shown)) [
-        | inl passed ↦ rw (keeps s, passed) (ap (λ l. g s ∷ l) (filtered p ss))
-        | inr failed ↦ rw (keeps s, failed) (filtered p ss)
+        | inl passed ↦ rw (same ∙ passed, passed) (ap (λ l. g s ∷ l) (filtered p ss))
+        | inr failed ↦ rw (same ∙ failed, failed) (filtered p ss)
       ]
 
   found_same : (p : SessionView → Bool) (ss : List (Session A)) → find (λ (s : Session B). p s.shown) (map g ss) ≡ option_map g (find (λ (s : Session A). p s.shown) ss)
   found_same p [] = refl
   found_same p (s ∷ ss) =
+      let same : p (g s).shown ≡ p s.shown = ap p (keeps s) in
       elim (cases_Bool (p s.shown)) [
-        | inl passed ↦ rw (keeps s, passed) refl
-        | inr failed ↦ rw (keeps s, failed) (found_same p ss)
+        | inl passed ↦ rw (same ∙ passed, passed) refl
+        | inr failed ↦ rw (same ∙ failed, failed) (found_same p ss)
       ]
 
   numbers_same : (ss : List (Session A)) → map number_of (map g ss) ≡ map number_of ss
   numbers_same [] = refl
-  numbers_same (s ∷ ss) = rw (keeps s, numbers_same ss) refl
+  numbers_same (s ∷ ss) = rw (ap (λ (v : SessionView). v.number) (keeps s), numbers_same ss) refl
 
   of_same : (account : ℕ) (ss : List (Session A)) → sessions_of account (map g ss) ≡ map g (sessions_of account ss)
   of_same account ss = filtered (λ v. v.account == account) ss
