@@ -1,5 +1,5 @@
 -- Who gets copies.
-use Rattle.std.proofs.Common.{◌≡◌, ◌≢◌, ℕ, Bool, true, false, not, ◌&&◌, ◌||◌, ◌==◌, List, [], ◌∷◌, ◌++◌, All, filter, get_or, map, refl, sym, ap, ◌∙◌, inl, inr}
+use Rattle.std.proofs.Common.{◌≡◌, ◌≢◌, ℕ, Bool, true, false, not, ◌&&◌, ◌==◌, List, [], ◌++◌, All, get_or, map, refl, sym, ◌∙◌, inl, inr}
 use Rattle.std.proofs.lemmas.Bool.{and_parts, cases_Bool, eqb-false, eqb-true, false≢true, not-true, or_parts}
 use Rattle.std.proofs.lemmas.List.Elements.{All-append, All-filter, All-nil, filter_passes}
 use Rattle.std.specs.List.{list_any}
@@ -11,7 +11,7 @@ use Rattle.xmpp_route.proofs.PlanCases.{planned_has_all}
 use Rattle.xmpp_route.specs.Destinations.{Destination}
 use Rattle.xmpp_route.specs.Messages.{is_archived, is_copied}
 use Rattle.xmpp_route.specs.Plans.{copied_of, having_it, planned, received_copies, refused, sent_copies, wants_copy}
-use Rattle.xmpp_route.specs.Routes.{PlanOf, received_in, sent_in}
+use Rattle.xmpp_route.specs.Routes.{received_in, sent_in}
 use Rattle.xmpp_stanza.specs.Kinds.{answers_message}
 use Rattle.xmpp_stanza.specs.Views.{MessageView}
 use Rattle.xmpp_stanza.specs.declared.conditions.Condition.{Condition}

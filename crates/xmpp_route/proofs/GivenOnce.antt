@@ -1,5 +1,5 @@
 -- Nobody is given a message twice, and who is given one lives.
-use Rattle.std.proofs.Common.{◌≡◌, ◌≢◌, ℕ, ◌+◌, ◌≤◌, ◌<◌, Bool, true, false, cond, not, ◌&&◌, ◌||◌, ◌==◌, List, [], ◌∷◌, ◌++◌, Some, None, All, count_by, filter, find, length, map, refl, sym, ap, subst, ◌∙◌, inl, inr, ◌⊎◌, arith}
+use Rattle.std.proofs.Common.{◌≡◌, ◌≢◌, ℕ, ◌+◌, ◌≤◌, ◌<◌, Bool, true, false, cond, not, ◌&&◌, ◌==◌, List, [], ◌∷◌, ◌++◌, Some, All, count_by, filter, find, map, refl, sym, ap, subst, ◌∙◌, inl, inr, ◌⊎◌, arith}
 use Rattle.std.proofs.lemmas.Bool.{and_parts, cases_Bool, eqb-false, eqb-true, ne_eqb, not-true}
 use Rattle.std.proofs.lemmas.List.Elements.{All-append, All-cons, All-filter, All-nil}
 use Rattle.std.proofs.lemmas.List.Recursion.{is_count_by}
@@ -13,8 +13,8 @@ use Rattle.xmpp_route.proofs.CopyLaws.{refused_received, refused_sent}
 use Rattle.xmpp_route.proofs.PlanCases.{planned_has}
 use Rattle.xmpp_route.specs.Destinations.{Destination}
 use Rattle.xmpp_route.specs.Messages.{is_copied}
-use Rattle.xmpp_route.specs.Plans.{copied_of, having_it, is_ready, planned, ready_of, received_copies, refused, sent_copies, wants_copy}
-use Rattle.xmpp_route.specs.Routes.{PlanOf, delivered_in, received_in, sent_in}
+use Rattle.xmpp_route.specs.Plans.{having_it, is_ready, planned, ready_of, received_copies, refused, sent_copies, wants_copy}
+use Rattle.xmpp_route.specs.Routes.{delivered_in, received_in, sent_in}
 use Rattle.xmpp_stanza.specs.Kinds.{answers_message}
 use Rattle.xmpp_stanza.specs.Views.{MessageView}
 use Rattle.xmpp_stanza.specs.declared.conditions.Condition.{Condition}
@@ -199,7 +199,7 @@ all_few next n account m sender deliver sessions rise few =
       | inr there ↦ omega (arith, few, sent_none n m sender numbers sessions there, received_none n m sender account numbers sessions there)
     ]
 
-refused_delivered : {A : Type 0} (condition : Condition) (kind : MessageKind) → delivered_in (refused {A = A} condition kind) ≡ []
+pub refused_delivered : {A : Type 0} (condition : Condition) (kind : MessageKind) → delivered_in (refused {A = A} condition kind) ≡ []
 refused_delivered condition kind =
     elim (cases_Bool (answers_message kind)) [
       | inl answered ↦ rw answered refl

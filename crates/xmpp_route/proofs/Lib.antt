@@ -1,11 +1,12 @@
 -- ---- sessions by their numbers
-mod Chosen
-mod Rising
+pub mod Chosen
+pub mod Rising
 mod UserPlans
 -- ---- laws
 pub mod PlanCases
-mod PlanLaws
-mod CopyLaws
-mod GivenOnce
-mod OwnAddress
+pub mod PlanLaws
+pub mod CopyLaws
+pub mod GivenOnce
+pub mod Ascending
+pub mod OwnAddress
 pub mod ShownAlone

@@ -1,5 +1,5 @@
 -- The bare address of an account leads to it.
-use Rattle.std.proofs.Common.{◌≡◌, ℕ, zero, suc, Bool, true, false, List, [], ◌∷◌, ◌++◌, Option, Some, None, Ok, slice_get, bytes_eq, option_map, refl, sym, ap, subst, ◌∙◌, inl, inr, arith}
+use Rattle.std.proofs.Common.{◌≡◌, ℕ, zero, suc, List, [], ◌∷◌, ◌++◌, Some, None, Ok, slice_get, bytes_eq, refl, sym, ap, subst, ◌∙◌, inl, inr, arith}
 use Rattle.std.proofs.lemmas.Bool.{cases_Bool}
 use Rattle.std.proofs.lemmas.List.{append-nil, append_assoc}
 use Rattle.std.proofs.lemmas.Option.{none-some, same_Some}
@@ -8,7 +8,7 @@ use Rattle.xmpp_edge.specs.Names.{place_of}
 use Rattle.xmpp_jid.proofs.NormalAgain.{are_joined}
 use Rattle.xmpp_jid.specs.Cuts.{domain_of, local_of, resource_of}
 use Rattle.xmpp_jid.specs.Forms.{domain_form}
-use Rattle.xmpp_jid.specs.Normal.{IsJoined, address_text}
+use Rattle.xmpp_jid.specs.Normal.{address_text}
 use Rattle.xmpp_login.proofs.AccountLists.{accounts_right}
 use Rattle.xmpp_login.specs.Accounts.{accounts_fault, bare_text, names_of}
 use Rattle.xmpp_login.specs.declared.account.Account.{Account}

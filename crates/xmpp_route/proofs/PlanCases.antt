@@ -1,5 +1,5 @@
 -- A plan is a refusal, or leads to some sessions of one account: what is true of all these is true of it.
-use Rattle.std.proofs.Common.{◌≡◌, ℕ, Bool, true, false, List, [], ◌∷◌, Option, Some, None, refl, inl, inr}
+use Rattle.std.proofs.Common.{◌≡◌, ℕ, List, [], ◌∷◌, Option, Some, None, refl, inl, inr}
 use Rattle.std.proofs.lemmas.Bool.{cases_Bool}
 use Rattle.xmpp_live.specs.Sessions.{Session, session_named}
 use Rattle.xmpp_live.specs.declared.told.Told.{Told}

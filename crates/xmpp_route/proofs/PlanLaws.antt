@@ -1,13 +1,13 @@
 -- What a plan answers, delivers and archives.
-use Rattle.std.proofs.Common.{◌≡◌, ℕ, Bool, true, false, not, ◌&&◌, ◌==◌, nat_eq, List, [], ◌∷◌, Option, Some, None, refl, sym, ap, ◌∙◌, inl, inr, if◌then◌else◌}
-use Rattle.std.proofs.lemmas.Bool.{cases_Bool, eq-eqb, eqb-true, true≢false}
+use Rattle.std.proofs.Common.{◌≡◌, ℕ, Bool, true, false, ◌==◌, nat_eq, List, [], ◌∷◌, Option, Some, None, refl, sym, ap, ◌∙◌, inl, inr, if◌then◌else◌}
+use Rattle.std.proofs.lemmas.Bool.{cases_Bool, eq-eqb}
 use Rattle.xmpp_basis.specs.Distinct.{are_distinct_by}
 use Rattle.xmpp_live.specs.Sessions.{Session, session_named}
 use Rattle.xmpp_live.specs.declared.told.Told.{Told}
 use Rattle.xmpp_route.proofs.PlanCases.{planned_has_all}
 use Rattle.xmpp_route.specs.Destinations.{Destination, RemoteDomain, NoUser, Bare, Full}
-use Rattle.xmpp_route.specs.Messages.{is_archived, is_chat, is_for_users, is_kept_kind, has_body}
-use Rattle.xmpp_route.specs.Plans.{archiving_of, dropped, planned, ready_of, refused, routed, to_bare, to_full, to_user}
+use Rattle.xmpp_route.specs.Messages.{is_archived, is_chat, is_for_users, is_kept_kind}
+use Rattle.xmpp_route.specs.Plans.{archiving_of, dropped, planned, ready_of, refused, to_bare, to_full, to_user}
 use Rattle.xmpp_route.specs.Routes.{PlanOf, archives_in, archives_of, delivered_in, is_bounced}
 use Rattle.xmpp_stanza.specs.Kinds.{answers_message}
 use Rattle.xmpp_stanza.specs.Views.{MessageView}

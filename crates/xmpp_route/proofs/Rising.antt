@@ -1,5 +1,5 @@
 -- The numbers of sessions ascend, so that a search by halves tells whether one is among them.
-use Rattle.std.proofs.Common.{◌≡◌, ◌≢◌, ℕ, zero, suc, ◌+◌, ◌≤◌, ◌<◌, ◌==◌, Bool, true, false, List, [], ◌∷◌, Result, Ok, Err, MatchResult, get_or, length, map, ap, sym, refl, subst, ◌∙◌, inl, inr, filter, is_ok, arith}
+use Rattle.std.proofs.Common.{◌≡◌, ◌≢◌, ℕ, zero, suc, ◌+◌, ◌≤◌, ◌<◌, ◌==◌, Bool, true, false, List, [], ◌∷◌, Result, Ok, Err, get_or, length, map, sym, refl, subst, inl, inr, filter, is_ok, arith}
 use Rattle.std.specs.List.{AllByRecursion}
 use Rattle.std.specs.List.Sorted.{IsBinarySearchResult, IsStrictlySortedBy}
 use Rattle.std.specs.declared.cmp.Ordering.TheVariants.{Less}

@@ -1,13 +1,13 @@
 -- A plan asks for nothing of sessions but what is shown of them.
-use Rattle.std.proofs.Common.{◌≡◌, ℕ, Bool, true, false, not, ◌&&◌, ◌==◌, List, [], ◌∷◌, Option, Some, None, filter, find, map, option_map, bytes_eq, refl, ap, ◌∙◌, inl, inr}
+use Rattle.std.proofs.Common.{◌≡◌, ℕ, Bool, not, ◌&&◌, ◌==◌, List, [], ◌∷◌, Option, Some, None, filter, find, map, option_map, bytes_eq, refl, ap, ◌∙◌, inl, inr}
 use Rattle.std.proofs.lemmas.Bool.{cases_Bool}
-use Rattle.xmpp_live.specs.Sessions.{Session, is_named, is_of, number_of, session_named, sessions_of}
+use Rattle.xmpp_live.specs.Sessions.{Session, number_of, session_named, sessions_of}
 use Rattle.xmpp_live.specs.declared.told.Told.{Told}
 use Rattle.xmpp_resume.specs.declared.session.SessionView.{SessionView}
 use Rattle.xmpp_route.specs.Destinations.{Destination, RemoteDomain, NoUser, Bare, Full}
 use Rattle.xmpp_route.specs.Messages.{is_chat, is_copied, is_for_users}
-use Rattle.xmpp_route.specs.Plans.{copied_of, having_it, is_ready, planned, ready_of, received_copies, refused, routed, sent_copies, to_bare, to_full, to_user, wants_copy}
-use Rattle.xmpp_route.specs.Routes.{PlanOf, plan_renamed}
+use Rattle.xmpp_route.specs.Plans.{having_it, is_ready, planned, ready_of, received_copies, refused, routed, sent_copies, to_bare, to_full, to_user, wants_copy}
+use Rattle.xmpp_route.specs.Routes.{plan_renamed}
 use Rattle.xmpp_stanza.specs.Kinds.{answers_message}
 use Rattle.xmpp_stanza.specs.Views.{MessageView}
 use Rattle.xmpp_stanza.specs.declared.conditions.Condition.{Condition}

@@ -8,7 +8,6 @@ use Rattle.xmpp_route.specs.Choices.{route_to, user_plan}
 use Rattle.xmpp_route.specs.Messages.{is_for_users}
 use Rattle.xmpp_route.specs.Numbered.{numbered}
 use Rattle.xmpp_route.specs.Plans.{to_full, to_user}
-use Rattle.xmpp_route.specs.declared.routes.Plan.{Plan}
 use Rattle.xmpp_route.specs.declared.routes.Plan.TheVariants as plan
 use Rattle.xmpp_stanza.specs.Views.{MessageView}
 

@@ -12,14 +12,14 @@ abbrev pub is_chat : MessageKind → Bool
 is_chat Chat = true
 is_chat _ = false
 
--- what a user is sent: neither an error nor a message of a chat room
+-- what may go to a bare address: no error, and no message of a chat room (RFC 6121, section 8.5.2.1.1)
 abbrev pub is_for_users : MessageKind → Bool
 is_for_users Chat = true
 is_for_users Normal = true
 is_for_users Headline = true
 is_for_users _ = false
 
--- what of this is kept
+-- what an archive keeps
 abbrev pub is_kept_kind : MessageKind → Bool
 is_kept_kind Chat = true
 is_kept_kind Normal = true

@@ -1,5 +1,7 @@
 //! Laws: what becomes of messages, whatever the accounts, the sessions and the message.
 ghost use Rattle.std.specs.Prelude.{◌≡◌, ◌≢◌, ◌≤◌, ℕ, [], ◌∷◌, ◌++◌, All, List, None, Ok, Some, count_by, false, map, nat_eq, slice_get, true};
+ghost use Rattle.std.specs.List.Sorted.{IsStrictlySortedBy};
+ghost use Rattle.std.specs.Ordering.{nat_cmp};
 ghost use Rattle.xmpp_basis.specs.Distinct.{are_distinct_by};
 ghost use Rattle.xmpp_ext.specs.Given.{is_private};
 ghost use Rattle.xmpp_jid.specs.Forms.{domain_form};
@@ -76,6 +78,13 @@ pub fn nobody_gets_it_twice()
 pub fn recipients_live()
     ensures { (domain : List ℕ) (accounts : List Account) (sessions : List (Session (List ℕ))) (m : MessageView) (sender : Told) (next : ℕ) → RisesTo next 1 sessions
         → All (λ t. session_of (number_of t) sessions ≡ Some t) (delivered_in (plan_of domain accounts sessions m sender) ++ (sent_in (plan_of domain accounts sessions m sender) ++ received_in (plan_of domain accounts sessions m sender))) }
+{}
+
+/// A law: of those that get a message, of those that get a copy of it as sent, and of those that get one as received, the
+/// numbers ascend.
+pub fn numbers_ascend()
+    ensures { (domain : List ℕ) (accounts : List Account) (sessions : List (Session (List ℕ))) (m : MessageView) (sender : Told) (next : ℕ) → RisesTo next 1 sessions → IsStrictlySortedBy nat_cmp (map number_of (delivered_in (plan_of domain accounts sessions m sender)))
+        × IsStrictlySortedBy nat_cmp (map number_of (sent_in (plan_of domain accounts sessions m sender))) × IsStrictlySortedBy nat_cmp (map number_of (received_in (plan_of domain accounts sessions m sender))) }
 {}
 
 /// A law: a message without an address is in every respect one to the sender's bare address (RFC 6121, section 8.2). The

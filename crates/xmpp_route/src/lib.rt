@@ -12,9 +12,9 @@ mod routes;
 pub use archiving::Archiving;
 pub use laws::{
     archives_ask_for_no_session, archives_have_it_once, copies_are_asked_for,
-    errors_are_not_answered, no_address_is_ones_own, nobody_gets_it_twice, only_chats_fall_back,
-    plans_ask_for_what_is_shown, private_messages_are_not_copied, recipients_live,
-    senders_get_no_copy,
+    errors_are_not_answered, no_address_is_ones_own, nobody_gets_it_twice, numbers_ascend,
+    only_chats_fall_back, plans_ask_for_what_is_shown, private_messages_are_not_copied,
+    recipients_live, senders_get_no_copy,
 };
 pub use planning::plan;
 pub use routes::{Plan, Route};

@@ -122,7 +122,7 @@ fn to_bare(
 
 // To an address with a resource that no session has (RFC 6121, section 8.5.3.2).
 #[tactic(auto, using(crate::proofs::UserPlans::user_plan_is))]
-fn to_nobody(
+fn to_absent(
     alloc: Global,
     live: &Live,
     message: &Message,
@@ -157,13 +157,13 @@ fn to_full(
             let route = route_to(alloc, live, message, sender, account, deliver)?;
             Ok(Plan::Routed(route))
         }
-        None => to_nobody(alloc, live, message, sender, account),
+        None => to_absent(alloc, live, message, sender, account),
     }
 }
 
 /// What becomes of a message that a session sends, at the server of a domain (RFC 6121, section 8). `domain` is in normal
-/// form, and the message is as the sender wrote it. It looks at the sessions of the sender's and of the recipient's account
-/// alone.
+/// form, and the message is as the sender wrote it. It looks at the sessions of the sender's and of the recipient's
+/// account alone, changes nothing, and answers `NoMemory` only where memory ran out.
 ///
 /// Of these rules the first that fits decides:
 ///

@@ -33,13 +33,16 @@ enum Outcome {
     Goes(Archiving, &'static [u64], &'static [u64], &'static [u64]),
 }
 
-// A message of session 1: its type, its address, the names of its children, and what becomes of it.
-type Row = (
-    MessageKind,
-    Option<&'static str>,
-    &'static [(&'static str, &'static str)],
-    Outcome,
-);
+// What is in a message: something that is said, openly or in private, or that someone types.
+#[derive(Clone, Copy)]
+enum Inside {
+    Said,
+    Private,
+    Typing,
+}
+
+// A message of session 1: its type, its address, what is in it, and what becomes of it.
+type Row = (MessageKind, Option<&'static str>, Inside, Outcome);
 
 static SAID: [(&str, &str); 1] = [(CLIENT, "body")];
 
@@ -51,103 +54,103 @@ static ROWS: [Row; 17] = [
     (
         MessageKind::Chat,
         None,
-        &SAID,
+        Inside::Said,
         Outcome::Goes(Archiving::Once(0), &[1, 2], &[3], &[]),
     ),
     (
         MessageKind::Chat,
         Some("alice@chat.example/laptop"),
-        &SAID,
+        Inside::Said,
         Outcome::Goes(Archiving::Once(0), &[2], &[3], &[]),
     ),
     (
         MessageKind::Chat,
         Some("bob@chat.example"),
-        &SAID,
+        Inside::Said,
         Outcome::Goes(Archiving::Both(0, 1), &[4], &[2, 3], &[5]),
     ),
     (
         MessageKind::Chat,
         Some("bob@chat.example"),
-        &PRIVATE,
+        Inside::Private,
         Outcome::Goes(Archiving::Both(0, 1), &[4], &[], &[]),
     ),
     (
         MessageKind::Chat,
         Some("bob@chat.example"),
-        &TYPING,
+        Inside::Typing,
         Outcome::Goes(Archiving::Nowhere, &[4], &[], &[]),
     ),
     (
         MessageKind::Chat,
         Some("bob@chat.example/hall"),
-        &SAID,
+        Inside::Said,
         Outcome::Goes(Archiving::Both(0, 1), &[5], &[2, 3], &[]),
     ),
     (
         MessageKind::Chat,
         Some("bob@chat.example/garden"),
-        &SAID,
+        Inside::Said,
         Outcome::Goes(Archiving::Both(0, 1), &[4], &[2, 3], &[5]),
     ),
     (
         MessageKind::Normal,
         Some("bob@chat.example/garden"),
-        &SAID,
+        Inside::Said,
         Outcome::Goes(Archiving::Both(0, 1), &[], &[2, 3], &[5]),
     ),
     (
         MessageKind::Headline,
         Some("bob@chat.example/garden"),
-        &SAID,
+        Inside::Said,
         Outcome::Goes(Archiving::Nowhere, &[], &[], &[]),
     ),
     (
         MessageKind::Headline,
         Some("bob@chat.example"),
-        &SAID,
+        Inside::Said,
         Outcome::Goes(Archiving::Nowhere, &[4], &[], &[]),
     ),
     (
         MessageKind::Groupchat,
         Some("bob@chat.example/hall"),
-        &SAID,
+        Inside::Said,
         Outcome::Goes(Archiving::Nowhere, &[5], &[], &[]),
     ),
     (
         MessageKind::Groupchat,
         Some("bob@chat.example"),
-        &SAID,
+        Inside::Said,
         Outcome::Error("service-unavailable"),
     ),
     (
         MessageKind::Chat,
         Some("carol@chat.example"),
-        &SAID,
+        Inside::Said,
         Outcome::Error("service-unavailable"),
     ),
     (
         MessageKind::Chat,
         Some("chat.example"),
-        &SAID,
+        Inside::Said,
         Outcome::Error("service-unavailable"),
     ),
     (
         MessageKind::Chat,
         Some("bob@other.example/hall"),
-        &SAID,
+        Inside::Said,
         Outcome::Error("remote-server-not-found"),
     ),
     (
         MessageKind::Error,
         Some("bob@other.example"),
-        &SAID,
+        Inside::Said,
         Outcome::Goes(Archiving::Nowhere, &[], &[], &[]),
     ),
     (
         MessageKind::Error,
         Some("bob@chat.example"),
-        &SAID,
+        Inside::Said,
         Outcome::Goes(Archiving::Nowhere, &[], &[], &[]),
     ),
 ];
@@ -214,9 +217,17 @@ fn accounts(alloc: Global) -> Result<Accounts, Fail> {
     Ok(Accounts::new(alloc, list)?)
 }
 
-fn payload(alloc: Global, names: &[(&'static str, &'static str)]) -> Result<Nodes, NoMemory> {
+fn names(inside: Inside) -> &'static [(&'static str, &'static str)] {
+    match inside {
+        Inside::Said => &SAID,
+        Inside::Private => &PRIVATE,
+        Inside::Typing => &TYPING,
+    }
+}
+
+fn payload(alloc: Global, inside: Inside) -> Result<Nodes, NoMemory> {
     let mut nodes = Nodes::new(alloc);
-    for (ns, name) in names {
+    for (ns, name) in names(inside) {
         nodes.push(Node::Child(Element::from_strs(alloc, ns, name)?))?;
     }
     Ok(nodes)
