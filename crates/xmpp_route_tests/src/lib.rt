@@ -1,0 +1,5 @@
+//! Tests of what becomes of messages, over the public calls.
+#![tactic(auto)]
+
+#[cfg(test)]
+mod plans;
