@@ -2,7 +2,7 @@
 use Rattle.std.specs.Prelude.{◌≡◌, ◌≤◌, ◌%◌, ◌^◌, Bool, true, false, List, [], ◌∷◌, length, map}
 use Rattle.xmpp_acks.specs.Delivery.{Direction, queue_of}
 use Rattle.xmpp_outbox.specs.Submissions.{SaidView}
-use Rattle.xmpp_outbox.specs.Waiting.{Waiting, count_true}
+use Rattle.xmpp_outbox.specs.Waiting.{Waiting}
 use Rattle.xmpp_outbox.specs.declared.said.Said.{Said}
 
 -- the sending end: the count of the acknowledged stanzas, modulo 2 ^ 32, and the stanzas that are not acknowledged

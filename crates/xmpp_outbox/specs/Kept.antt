@@ -1,12 +1,12 @@
 -- What clauses see of the types, with the room for more, and how each is kept.
-use Rattle.std.specs.Prelude.{◌≡◌, ℕ, ◌-◌, ◌^◌, ◌≤◌, ◌<◌, min, Bool, List, All, length, map}
-use Rattle.std.specs.List.Sorted.{IsNonDecreasing}
+use Rattle.std.specs.Prelude.{◌≡◌, ℕ, ◌-◌, ◌^◌, ◌≤◌, ◌<◌, min, Bool, List, All, length}
+use Rattle.std.specs.List.Sorted.{IsNonDecreasingBy}
 use Rattle.std.specs.VecDeque.{deque_len, deque_capacity}
 use Rattle.std.specs.declared.collections.VecDeque.{VecDeque}
 use Rattle.xmpp_acks.specs.Counters.{AckView}
 use Rattle.xmpp_acks.specs.declared.end.TheConstants.{MOST_UNACKNOWLEDGED}
 use Rattle.xmpp_outbox.specs.Sessions.{SessionView}
-use Rattle.xmpp_outbox.specs.Submissions.{SaidView, place, place_of}
+use Rattle.xmpp_outbox.specs.Submissions.{SaidView, place}
 use Rattle.xmpp_outbox.specs.Waiting.{Waiting}
 use Rattle.xmpp_outbox.specs.declared.said.Said.{Said}
 use Rattle.xmpp_pool.specs.Queues.{Lives, PoolView, list_of}
@@ -37,12 +37,15 @@ pub record IsHoused {A : Type 0} (end : AckView) (pool : PoolView) (kinds : VecD
   pub few : length (list_of end.queue pool) ≤ MOST_UNACKNOWLEDGED
   pub both : length (list_of end.queue pool) ≡ length kinds.items
 
--- The places ascend, and none is above the last.
-pub record Ascend (places : List ℕ) (last : ℕ) : Type 0 where
-  pub rise : IsNonDecreasing places
-  pub low : All (λ place. place ≤ last) places
+-- its epoch, and its number in it
+abbrev pub numbers_of : Said → ℕ × ℕ
+numbers_of said = (said.epoch, said.n)
 
--- epochs and numbers fit 64 bits, and the submissions ascend up to the last; but behind the last epoch numbers come again
-pub record IsNumbered (items : List Said) (epoch n : ℕ) : Type 0 where
-  pub fit : All (λ said. (said.epoch < 2 ^ 64) × (said.n < 2 ^ 64)) items
-  pub ascend : epoch < 2 ^ 64 - 1 → Ascend (map place_of items) (place epoch n)
+abbrev pub place_at : ℕ × ℕ → ℕ
+place_at of = place of.0 of.1
+
+-- epochs and numbers fit 64 bits; and before the last epoch, behind which numbers come again, they ascend up to the last
+pub record IsNumbered (numbers : List (ℕ × ℕ)) (epoch n : ℕ) : Type 0 where
+  pub fit : All (λ of. (of.0 < 2 ^ 64) × (of.1 < 2 ^ 64)) numbers
+  pub rise : epoch < 2 ^ 64 - 1 → IsNonDecreasingBy place_at numbers
+  pub low : epoch < 2 ^ 64 - 1 → All (λ of. place_at of ≤ place epoch n) numbers

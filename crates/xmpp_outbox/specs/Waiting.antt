@@ -1,5 +1,5 @@
 -- What waits to be acknowledged in a client's session (XEP-0198, sections 4 and 5), over any type of what is put.
-use Rattle.std.specs.Prelude.{ℕ, ◌+◌, ◌%◌, ◌^◌, ◌==◌, nat_lt, Bool, true, false, List, [], ◌∷◌, ◌++◌, length, take, drop, if◌then◌else◌}
+use Rattle.std.specs.Prelude.{ℕ, ◌+◌, ◌%◌, ◌^◌, ◌==◌, nat_lt, Bool, true, false, List, [], ◌∷◌, ◌++◌, Option, Some, None, length, take, drop, if◌then◌else◌}
 use Rattle.xmpp_acks.specs.Counters.{ahead}
 use Rattle.xmpp_acks.specs.declared.end.TheConstants.{MOST_UNACKNOWLEDGED}
 use Rattle.xmpp_acks.specs.declared.end.TooHigh.{TooHigh}
@@ -51,6 +51,12 @@ abbrev pub count_true : List Bool → ℕ
 count_true [] = 0
 count_true (true ∷ rest) = count_true rest + 1
 count_true (false ∷ rest) = count_true rest
+
+-- 1 for a submission
+abbrev pub counted : Option Bool → ℕ
+counted (Some true) = 1
+counted (Some false) = 0
+counted None = 0
 
 -- how many submissions are among the stanzas up to a count
 abbrev pub submissions_to : {A : Type 0} → Waiting A → ℕ → ℕ

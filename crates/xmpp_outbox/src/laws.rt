@@ -1,6 +1,6 @@
 //! Laws, over any type of what is put: what happens to what waits is a move of acknowledged delivery (XEP-0198, sections 4
 //! and 5), and the submissions that wait are in it.
-ghost use Rattle.std.specs.Prelude.{◌≡◌, ◌-◌, ◌%◌, ◌^◌, ◌<◌, ◌≤◌, ◌↔◌, ◌⊎◌, ℕ, Bool, false, List, [], length, map, take, true};
+ghost use Rattle.std.specs.Prelude.{◌≡◌, ◌-◌, ◌%◌, ◌^◌, ◌<◌, ◌≤◌, ◌↔◌, ◌⊎◌, ℕ, Bool, false, [], length, map, take, true};
 ghost use Rattle.xmpp_acks.specs.Counters.{ahead};
 ghost use Rattle.xmpp_acks.specs.Delivery.{Acknowledge, Direction, Handle, Moves, Put, Reached, Resume, beginning};
 ghost use Rattle.xmpp_outbox.specs.Directions.{AreQueued, Receives, Sends, chosen};

@@ -1,5 +1,6 @@
 //! The ids of submissions (XEP-0359, section 3.2).
-ghost use Rattle.std.specs.Prelude.{◌≡◌, ◌≢◌, ℕ, ◌<◌, ◌^◌, ◌∷◌, ◌++◌, decimal, string_bytes, IfNone, IfOk, IfSome, OnOk};
+ghost use Rattle.std.specs.Prelude.{◌≡◌, ◌≢◌, ℕ, ◌<◌, ◌^◌, List, ◌∷◌, ◌++◌, decimal, string_bytes, IfNone, IfOk, IfSome, OnOk};
+ghost use Rattle.std.specs.Option.{MatchOption};
 ghost use Rattle.xmpp_outbox.specs.Submissions.{origin_of};
 
 use itoa::Buffer;
@@ -47,12 +48,40 @@ fn number_in(digits: &str) -> Option<u64>
     }
 }
 
+// What stands in a text behind its front. `None` where it doesn't begin with that.
+fn behind<'a>(text: &'a str, front: &str) -> Option<&'a str>
+    ensures { MatchOption result ((rest : List ℕ) → text.now ≢ front.now ++ rest) (λ rest. text.now ≡ front.now ++ rest.now) }
+{
+    text.strip_prefix(front)
+}
+
+// Two numbers with a dot between.
+fn numbers_in(text: &str) -> Option<(u64, u64)>
+    ensures some { IfSome result (λ of. text.now ≡ decimal of.0 ++ 46 ∷ decimal of.1) }
+    ensures none { IfNone result ((epoch n : ℕ) → epoch < 2 ^ 64 → n < 2 ^ 64 → text.now ≢ decimal epoch ++ 46 ∷ decimal n) }
+{
+    let Some((epoch, n)) = text.split_once('.') else {
+        return None;
+    };
+    let Some(epoch) = number_in(epoch) else {
+        return None;
+    };
+    let Some(n) = number_in(n) else {
+        return None;
+    };
+    Some((epoch, n))
+}
+
 /// The epoch and the number of which an id is the origin id, for the resource.
 pub(crate) fn read_origin(resource: &str, id: &str) -> Option<(u64, u64)>
     ensures some { IfSome result (λ of. id.now ≡ origin_of resource.now of.0 of.1) }
     ensures none { IfNone result ((epoch n : ℕ) → epoch < 2 ^ 64 → n < 2 ^ 64 → id.now ≢ origin_of resource.now epoch n) }
 {
-    let numbers = id.strip_prefix(resource)?.strip_prefix('.')?;
-    let (epoch, n) = numbers.split_once('.')?;
-    Some((number_in(epoch)?, number_in(n)?))
+    let Some(dotted) = behind(id, resource) else {
+        return None;
+    };
+    let Some(numbers) = behind(dotted, ".") else {
+        return None;
+    };
+    numbers_in(numbers)
 }

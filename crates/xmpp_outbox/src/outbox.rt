@@ -1,8 +1,8 @@
 //! The stanzas of a session that the server has not acknowledged (XEP-0198, section 4).
-ghost use Rattle.std.specs.Prelude.{◌≡◌, ◌+◌, ◌<◌, ◌≤◌, ◌++◌, Bool, List, drop, false, length, take, true, IfErr, IfNone, IfOk, IfSome, OnErr, OnOk};
+ghost use Rattle.std.specs.Prelude.{◌≡◌, ◌+◌, ◌<◌, ◌≤◌, ◌++◌, drop, false, length, take, true, IfErr, IfNone, IfOk, IfSome, OnErr, OnOk};
 ghost use Rattle.std.specs.List.{concat};
 ghost use Rattle.xmpp_acks.specs.Counters.{ahead};
-ghost use Rattle.xmpp_outbox.specs.Waiting.{acked, count_true, counted_in, is_full, is_too_high, nothing_waits, queued, resent, submissions_to, too_high};
+ghost use Rattle.xmpp_outbox.specs.Waiting.{acked, count_true, counted, counted_in, is_full, is_too_high, nothing_waits, queued, resent, submissions_to, too_high};
 
 use std::alloc::Global;
 use std::collections::VecDeque;

@@ -123,8 +123,8 @@ impl Session {
     {
         self.outbox.reserve(1)?;
         out.reserve(bytes.as_slice().len())?;
-        self.outbox.count_handled();
-        if self.outbox.is_full() {
+        self.count_handled();
+        if self.is_full() {
             return Ok(false);
         }
         self.put_reserved(bytes, false, out);

@@ -1,7 +1,8 @@
 //! The submissions of a client, and what is known of them.
-ghost use Rattle.std.specs.Prelude.{◌≡◌, ◌≤◌, ◌==◌, map, OnOk};
+ghost use Rattle.std.specs.Prelude.{◌≡◌, ◌-◌, ◌<◌, ◌≤◌, ◌^◌, ◌==◌, ◌++◌, drop, length, map, take, vec_capacity, vec_len, OnOk};
 ghost use Rattle.std.specs.List.{list_any};
-ghost use Rattle.std.specs.List.Sorted.{IsNonDecreasing};
+ghost use Rattle.std.specs.List.Sorted.{IsNonDecreasingBy};
+ghost use Rattle.xmpp_outbox.specs.Kept.{numbers_of, place_at};
 ghost use Rattle.xmpp_outbox.specs.Submissions.{acknowledged, all_said, in_state, is_submission, next_number, nothing_said, place, place_of, said_of, undecided, with_said};
 
 use crate::origins::read_origin;
@@ -24,8 +25,8 @@ pub struct Submissions {
 }
 
 impl Model for Submissions {
-    ghost use Rattle.std.specs.Prelude.{◌≤◌, ◌-◌, take, drop, length, vec_len, vec_capacity};
-    ghost use Rattle.xmpp_outbox.specs.Kept.{IsNumbered, SubmissionsView};
+    ghost use Rattle.std.specs.Prelude.{◌≤◌, ◌-◌, take, drop, length, map, vec_len, vec_capacity};
+    ghost use Rattle.xmpp_outbox.specs.Kept.{IsNumbered, SubmissionsView, numbers_of};
 
     ghost Value = { SubmissionsView };
 
@@ -36,7 +37,7 @@ impl Model for Submissions {
       spare = vec_capacity s.items - vec_len s.items;
     } };
 
-    ghost invariant = { λ s. (s.settled ≤ length s.items.items) × IsNumbered s.items.items s.epoch s.n };
+    ghost invariant = { λ s. (s.settled ≤ length s.items.items) × IsNumbered (map numbers_of s.items.items) s.epoch s.n };
 }
 
 // Sets the state of the submissions in a stretch.
@@ -48,6 +49,17 @@ fn settle(items: &mut [Said], state: SaidState)
     }
 }
 
+// Sets the state of the submissions from one place to another. It touches these alone.
+fn settle_part(items: &mut Vec<Said>, from: usize, to: usize, state: SaidState)
+    requires { (from ≤ to) × (to ≤ length items.old.items) }
+    ensures items { items.new.items ≡ take from items.old.items ++ map (in_state state) (take (to - from) (drop from items.old.items)) ++ drop to items.old.items }
+    ensures within { (from ≤ to) × (to ≤ length items.new.items) }
+    ensures len { vec_len items.new ≡ vec_len items.old }
+    ensures capacity { vec_capacity items.new ≡ vec_capacity items.old }
+{
+    settle(&mut items[from..to], state);
+}
+
 // The number behind another: they stay at 2^64 - 1 once there.
 fn number_behind(n: u64) -> u64
     ensures { result ≡ next_number n }
@@ -57,14 +69,15 @@ fn number_behind(n: u64) -> u64
 
 // Where a number of an epoch stands among all.
 fn place(epoch: u64, n: u64) -> u128
-    ensures { result ≡ place epoch n }
+    ensures value { result ≡ place epoch n }
+    ensures fits { (epoch < 2 ^ 64) × (n < 2 ^ 64) }
 {
     u128::from(epoch) * 18_446_744_073_709_551_616 + u128::from(n)
 }
 
-// Whether a submission stands at a place, where they ascend.
+// Whether one of the submissions stands at a place, where they ascend.
 fn is_among(items: &[Said], at: u128) -> bool
-    requires { IsNonDecreasing (map place_of items.now) }
+    requires { IsNonDecreasingBy place_at (map numbers_of items.now) }
     ensures { result ≡ list_any (λ said. place_of said == at) items.now }
 {
     let first = items.partition_point(|said| place(said.epoch, said.n) < at);
@@ -72,6 +85,13 @@ fn is_among(items: &[Said], at: u128) -> bool
         Some(said) => place(said.epoch, said.n) == at,
         None => false,
     }
+}
+
+// The same of submissions in any order.
+fn is_anywhere(items: &[Said], at: u128) -> bool
+    ensures { result ≡ list_any (λ said. place_of said == at) items.now }
+{
+    items.iter().any(|said| place(said.epoch, said.n) == at)
 }
 
 impl Submissions {
@@ -156,7 +176,7 @@ impl Submissions {
         ensures spare { self.new.spare ≡ self.old.spare }
     {
         let end = self.settled + count.min(self.items.len() - self.settled);
-        settle(&mut self.items[self.settled..end], SaidState::Acknowledged);
+        settle_part(&mut self.items, self.settled, end, SaidState::Acknowledged);
         self.settled = end;
     }
 
@@ -167,8 +187,9 @@ impl Submissions {
         ensures n { self.new.n ≡ self.old.n }
         ensures spare { self.new.spare ≡ self.old.spare }
     {
-        settle(&mut self.items[self.settled..], SaidState::Undecided);
-        self.settled = self.items.len();
+        let end = self.items.len();
+        settle_part(&mut self.items, self.settled, end, SaidState::Undecided);
+        self.settled = end;
     }
 
     /// All submissions in the order of their numbers, the settled ones first.
@@ -183,22 +204,15 @@ impl Submissions {
     pub fn is_submission(&self, resource: &str, id: &str) -> bool
         ensures { result ≡ is_submission resource.now id.now self.now.said }
     {
-        match read_origin(resource, id) {
-            Some((epoch, n)) => self.has(place(epoch, n)),
-            None => false,
-        }
-    }
-
-    // Whether a submission stands at a place. Behind the last epoch, 2^64 - 1, numbers come again, and it looks at all.
-    fn has(&self, at: u128) -> bool
-        ensures { result ≡ list_any (λ said. place_of said == at) (all_said self.now.said) }
-    {
+        let items = self.items.as_slice();
+        let Some((epoch, n)) = read_origin(resource, id) else {
+            return false;
+        };
+        let at = place(epoch, n);
+        // Behind the last epoch numbers come again, in any order.
         if self.epoch == u64::MAX {
-            return self
-                .items
-                .iter()
-                .any(|said| place(said.epoch, said.n) == at);
+            return is_anywhere(items, at);
         }
-        is_among(&self.items, at)
+        is_among(items, at)
     }
 }
