@@ -61,7 +61,7 @@ pub fn copies_are_asked_for()
     ensures received { (domain : List ℕ) (accounts : List Account) (sessions : List (Session (List ℕ))) (m : MessageView) (sender : Told) → All (λ t. (t.shown.carbons ≡ true) × (t.shown.account ≢ sender.account)) (received_in (plan_of domain accounts sessions m sender)) }
 {}
 
-/// A law: a message that is private, or isn't archived, is copied to nobody (XEP-0280, section 6).
+/// A law: a message that is private, or isn't archived, is copied to nobody (XEP-0280, sections 6 and 9).
 pub fn private_messages_are_not_copied()
     ensures none { (domain : List ℕ) (accounts : List Account) (sessions : List (Session (List ℕ))) (m : MessageView) (sender : Told) → is_copied m ≡ false → (sent_in (plan_of domain accounts sessions m sender) ≡ []) × (received_in (plan_of domain accounts sessions m sender) ≡ []) }
     ensures marked { (m : MessageView) → is_private m.payload ≡ true → is_copied m ≡ false }
@@ -87,7 +87,7 @@ pub fn numbers_ascend()
         × IsStrictlySortedBy nat_cmp (map number_of (sent_in (plan_of domain accounts sessions m sender))) × IsStrictlySortedBy nat_cmp (map number_of (received_in (plan_of domain accounts sessions m sender))) }
 {}
 
-/// A law: a message without an address is in every respect one to the sender's bare address (RFC 6121, section 8.2). The
+/// A law: a message without an address has the destination of one to the sender's bare address (RFC 6121, section 8.2). The
 /// domain is in normal form, the accounts are those of a server, and the sender's is one of them.
 pub fn no_address_is_ones_own()
     ensures { (domain : List ℕ) (accounts : List Account) (account : Account) (sender : ℕ) → domain_form domain ≡ Ok domain → accounts_fault accounts ≡ None → slice_get accounts sender ≡ Some account

@@ -43,7 +43,7 @@ pub(crate) fn is_archived(message: &Message) -> bool
     is_kept_kind(message.kind) && has_body(message.payload.as_slice())
 }
 
-/// Whether copies of a message are made (XEP-0280, section 6).
+/// Whether copies of a message are made (XEP-0280, sections 6 and 9).
 pub(crate) fn is_copied(message: &Message) -> bool
     ensures { result ≡ is_copied message.now }
 {
