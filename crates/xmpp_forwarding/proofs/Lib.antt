@@ -1,0 +1,2 @@
+-- steps of the code
+pub mod PartSteps
