@@ -1,2 +1,7 @@
 -- steps of the code
 pub mod PartSteps
+pub mod KeptNodes
+-- laws
+pub mod TreeLaws
+pub mod IdLaws
+pub mod EntryLaws

@@ -3,6 +3,7 @@
 #![tactic(auto)]
 
 mod copies;
+mod laws;
 mod passed;
 mod queries;
 mod query_fault;
@@ -10,6 +11,9 @@ mod results;
 mod writing;
 
 pub use copies::CarbonCopy;
+pub use laws::{
+    only_the_archive_gives_ids, results_are_their_entries, what_is_passed_on_is_a_tree,
+};
 pub use passed::{Addressed, Filed, passed};
 pub use queries::{no_such_place, query_asked};
 pub use query_fault::QueryFault;
