@@ -35,12 +35,12 @@ unfolding spoken
 bodies_again [] origin = no_body origin
 bodies_again (b ∷ bs) origin = λ i. body_again b.lang b.text i ∷ bodies_again bs origin i
 
-origin_alone : (origin : List ℕ) → unwrap_or (origin_of (origin_node origin)) [] ≡ origin
-origin_alone [] = refl
-origin_alone (c ∷ cs) = refl
+origin_only : (origin : List ℕ) → unwrap_or (origin_of (origin_node origin)) [] ≡ origin
+origin_only [] = refl
+origin_only (c ∷ cs) = refl
 
 origin_again : (bodies : List Body) (origin : List ℕ) → unwrap_or (origin_of (entry_nodes bodies origin)) [] ≡ origin
-origin_again [] origin = origin_alone origin
+origin_again [] origin = origin_only origin
 origin_again (b ∷ bs) origin = origin_again bs origin
 
 pub entry_again : (e : EntryView) → entry_of e.number e.stamp (archived_message e) ≡ e

@@ -19,12 +19,12 @@ elements_of_text : (run : List ℕ) (more : Nodes) → elements_of (joined (text
 elements_of_text [] more = refl
 elements_of_text (c ∷ cs) more = refl
 
-alone : (run : List ℕ) → elements_of (text_node run) ≡ []
-alone [] = refl
-alone (c ∷ cs) = refl
+no_elements : (run : List ℕ) → elements_of (text_node run) ≡ []
+no_elements [] = refl
+no_elements (c ∷ cs) = refl
 
 elements_stay : (run : List ℕ) (ks : Nodes) → elements_of (texts_joined run ks) ≡ elements_of ks
-elements_stay run no_nodes = alone run
+elements_stay run no_nodes = no_elements run
 elements_stay run (child e rest) = elements_of_text run (child e (texts_joined [] rest)) ∙ ap (λ es. e ∷ es) (elements_stay [] rest)
 elements_stay run (text t rest) = elements_stay (run ++ t) rest
 

@@ -13,7 +13,7 @@ use Rattle.xmpp_trees.specs.Trees.{Elem, Nodes, no_nodes, child, text, joined}
 use Rattle.xmpp_writer.proofs.PartLaws.{nodes_in_parts}
 use Rattle.xmpp_writer.specs.Canon.{has_nothing, written, written_nodes}
 
--- ---- nodes of two lists, one behind the other
+-- ---- nodes of two lists, one after the other
 
 child_kept : (by : List ℕ) (e : Elem) (given : Bool) (rest more : Nodes) → cond given (joined rest more) (child e (joined rest more)) ≡ joined (cond given rest (child e rest)) more
 child_kept by e true rest more = refl
@@ -66,9 +66,9 @@ empty_both : (run t : List ℕ) → (length (run ++ t) == 0) ≡ (length run == 
 empty_both [] t = refl
 empty_both (c ∷ cs) t = refl
 
-nothing_behind : (run : List ℕ) (e : Elem) (rest : Nodes) → has_nothing (joined (text_node run) (child e rest)) ≡ (length run == 0) && false
-nothing_behind [] e rest = refl
-nothing_behind (c ∷ cs) e rest = refl
+nothing_after : (run : List ℕ) (e : Elem) (rest : Nodes) → has_nothing (joined (text_node run) (child e rest)) ≡ (length run == 0) && false
+nothing_after [] e rest = refl
+nothing_after (c ∷ cs) e rest = refl
 
 nothing_in_text : (run : List ℕ) → has_nothing (text_node run) ≡ (length run == 0) && true
 nothing_in_text [] = refl
@@ -76,7 +76,7 @@ nothing_in_text (c ∷ cs) = refl
 
 nothing_joined : (run : List ℕ) (ks : Nodes) → has_nothing (texts_joined run ks) ≡ (length run == 0) && says_nothing ks
 nothing_joined run no_nodes = nothing_in_text run
-nothing_joined run (child e rest) = nothing_behind run e (texts_joined [] rest)
+nothing_joined run (child e rest) = nothing_after run e (texts_joined [] rest)
 nothing_joined run (text t rest) =
     nothing_joined (run ++ t) rest ∙ ap (λ b. b && says_nothing rest) (empty_both run t) ∙ and_assoc (length run == 0) (length t == 0) (says_nothing rest)
 

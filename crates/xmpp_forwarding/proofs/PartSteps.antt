@@ -13,7 +13,7 @@ use Rattle.xmpp_writer.specs.Canon.{canon, default_inside, has_nothing, written,
 pub one_written : (default : List ℕ) (e : Elem) → written_nodes default (child e no_nodes) ≡ written default e
 one_written default e = append-nil (written default e)
 
--- ---- parts one behind the other
+-- ---- parts one after the other
 
 pub two_parts : (o0 o1 o2 a b : List ℕ) → o1 ≡ o0 ++ a → o2 ≡ o1 ++ b → o2 ≡ o0 ++ (a ++ b)
 two_parts o0 o1 o2 a b first second = rw (second, first) (append_assoc o0 a b)
@@ -77,7 +77,7 @@ forwarded_in_parts default stamp message =
     ∙ ap (λ l. start ++ l) (append_assoc delay (written forwarding message) end)
     ∙ sym (append_assoc start delay (written forwarding message ++ end))
 
--- a `forwarded` in an element of one of these two namespaces: all parts one behind the other
+-- a `forwarded` in an element of one of these two namespaces: all parts one after the other
 pub forwards_in : (ns name stamp : List ℕ) (attrs : List Attribute) (message : Elem) → default_inside client_ns ns ≡ ns
     → written client_ns (element ns name attrs (child (forwarded_elem stamp message) no_nodes))
     ≡ written_start_tag client_ns ns name attrs

@@ -51,25 +51,25 @@ kept_AreTidy : (by : List ℕ) (ks : Nodes) → AreTidy ks → AreTidy (texts_jo
 kept_AreTidy by ks tidy =
     subst AreTidy (sym (two_steps [] (without_ids by ks)) ∙ ap (texts_joined []) (kept_stay by ks tidy)) (tidied_behind_AreTidy [] (without_ids by ks))
 
-no_text_behind : (ks : Nodes) (e : Elem) → NoTextFirst ks → NoTextFirst (joined ks (child e no_nodes))
-no_text_behind no_nodes e first = tt
-no_text_behind (child f rest) e first = tt
-no_text_behind (text t rest) e first = first
+no_text_after : (ks : Nodes) (e : Elem) → NoTextFirst ks → NoTextFirst (joined ks (child e no_nodes))
+no_text_after no_nodes e first = tt
+no_text_after (child f rest) e first = tt
+no_text_after (text t rest) e first = first
 
 with_child : (ks : Nodes) (e : Elem) → AreTidy ks → IsTree e → AreTidy (joined ks (child e no_nodes))
 with_child no_nodes e tidy tree = (tree, tt)
 with_child (child f rest) e tidy tree = (tidy.0, with_child rest e tidy.1 tree)
-with_child (text t rest) e tidy tree = (tidy.0, no_text_behind rest e tidy.2.0, with_child rest e tidy.2.1 tree)
+with_child (text t rest) e tidy tree = (tidy.0, no_text_after rest e tidy.2.0, with_child rest e tidy.2.1 tree)
 
 with_none : (ks : Nodes) → AreTidy ks → AreTidy (joined ks no_nodes)
 with_none no_nodes tidy = tt
 with_none (child f rest) tidy = (tidy.0, with_none rest tidy.1)
-with_none (text t rest) tidy = (tidy.0, alone rest tidy.2.0, with_none rest tidy.2.1)
+with_none (text t rest) tidy = (tidy.0, only_them rest tidy.2.0, with_none rest tidy.2.1)
   where
-    alone : (ks : Nodes) → NoTextFirst ks → NoTextFirst (joined ks no_nodes)
-    alone no_nodes first = tt
-    alone (child e more) first = tt
-    alone (text u more) first = first
+    only_them : (ks : Nodes) → NoTextFirst ks → NoTextFirst (joined ks no_nodes)
+    only_them no_nodes first = tt
+    only_them (child e more) first = tt
+    only_them (text u more) first = first
 
 passed_AreTidy : (by : List ℕ) (number : Option ℕ) (payload : Nodes) → AreTidy payload → AreTidy (passed_nodes by number payload)
 passed_AreTidy by None payload tidy = with_none (texts_joined [] (without_ids by payload)) (kept_AreTidy by payload tidy)

@@ -24,7 +24,7 @@ id_node by None = no_nodes
 id_node by (Some number) = child (stanza_id_elem (record { id = id_of number; by = by })) no_nodes
 
 -- What the message contains for the sessions of an account: no id that somebody else gave in the account's name, and the
--- id of its archive behind all else. A text before an id that is left out and one behind it are one text.
+-- id of its archive after all else. A text before an id that is left out and one after it are one text.
 abbrev pub passed_nodes : List ℕ → Option ℕ → Nodes → Nodes
 passed_nodes by number payload = joined (texts_joined [] (without_ids by payload)) (id_node by number)
 

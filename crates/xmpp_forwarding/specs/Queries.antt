@@ -32,7 +32,7 @@ query_judged (Err fault) = Err (query_error fault)
 abbrev pub query_asked : Elem → Result MamQuery StanzaError
 query_asked e = query_judged (mam_query_read e)
 
--- the place of the page is behind or before an entry that the archive hasn't (XEP-0313, section 4.3; XEP-0059, section 2.2)
+-- the place of the page is after or before an entry that the archive hasn't (XEP-0313, section 4.3; XEP-0059, section 2.2)
 abbrev pub no_such_place : StanzaError
 no_such_place = record { kind = Cancel; condition = ItemNotFound }
 

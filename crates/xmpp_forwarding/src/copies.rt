@@ -13,7 +13,7 @@ use xmpp_writer::write_end;
 
 /// What a copy of a message tells the sessions of an account that asked for copies: whether the account sent the message
 /// or received it, when, in milliseconds since 1970, and the message as the account's sessions get it (XEP-0280, sections
-/// 7 and 8). Copies for several sessions differ in the address alone that they are to.
+/// 7 and 8). Copies for several sessions differ only in the address that they are to.
 #[derive(Drop)]
 pub struct CarbonCopy<'a> {
     pub sent: bool,

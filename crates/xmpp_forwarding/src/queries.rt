@@ -55,7 +55,7 @@ pub fn query_asked(alloc: Global, element: &Element) -> Result<MamQuery, QueryFa
     }
 }
 
-/// The error at a page whose place is behind or before an entry that the archive hasn't: `item-not-found` (XEP-0313,
+/// The error at a page whose place is after or before an entry that the archive hasn't: `item-not-found` (XEP-0313,
 /// section 4.3; XEP-0059, section 2.2).
 pub fn no_such_place() -> StanzaError
     ensures { result ≡ no_such_place }

@@ -1,4 +1,4 @@
-//! Parts of messages as they are written, behind what is there. A refusal leaves bytes of which a part may be written.
+//! Parts of messages are written after what is there. A refusal leaves bytes of which a part may be written.
 ghost use Rattle.std.specs.Prelude.{◌≡◌, [], ◌++◌, codes, OnOk};
 ghost use Rattle.std.specs.Option.{option_copied};
 ghost use Rattle.xmpp_ext.specs.Forwarding.{delay_elem};
