@@ -2,7 +2,7 @@
 use Rattle.std.specs.Prelude.{ℕ, List, [], Option, Some, None}
 use Rattle.xmpp_archive.specs.Ids.{id_of}
 use Rattle.xmpp_ext.specs.Ids.{stanza_id_elem}
-use Rattle.xmpp_forwarding.specs.declared.passed.Addressed.{Addressed}
+use Rattle.xmpp_forwarding.specs.declared.passing.Addressed.{Addressed}
 use Rattle.xmpp_messages.specs.Ids.{without_ids}
 use Rattle.xmpp_stanza.specs.Views.{MessageView}
 use Rattle.xmpp_stanza.specs.Written.{message_elem}

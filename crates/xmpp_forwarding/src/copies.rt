@@ -3,7 +3,7 @@ ghost use Rattle.std.specs.Prelude.{◌≡◌, IfOk};
 ghost use Rattle.xmpp_ext.specs.Carbons.{carbon_name};
 ghost use Rattle.xmpp_forwarding.specs.Copies.{copied_text, copy_text, copy_view};
 
-use crate::passed::{Addressed, Filed, write_passed};
+use crate::passing::{Addressed, Filed, write_passed};
 use crate::writing::{close_forwarded, close_message, open_bare, open_forwarded, open_message};
 use std::alloc::Global;
 use xmpp_edge::{Bytes, NoMemory};
@@ -32,6 +32,7 @@ fn carbon_name(sent: bool) -> &'static str
 impl CarbonCopy<'_> {
     /// What is inside each copy, for whichever session: `sent` or `received` around the message and its moment. It is
     /// written once for all of them, and nothing of the message is copied. A moment past `LAST_MOMENT` is written as that.
+    #[tactic(auto, using(crate::proofs::PartSteps::carbon_in_parts, crate::proofs::PartSteps::five_parts))]
     pub fn inside(&self, alloc: Global) -> Result<Bytes, NoMemory>
         ensures { IfOk result (λ b. b.items ≡ copied_text (copy_view self.now)) }
     {
@@ -47,6 +48,7 @@ impl CarbonCopy<'_> {
 
     /// The copy for the session with this full address, around what is inside: it is from the account's bare address, and
     /// of the type of the message.
+    #[tactic(auto, using(crate::proofs::PartSteps::around_in_message, crate::proofs::PartSteps::three_parts))]
     pub fn to(&self, alloc: Global, full: &str, inside: &Bytes) -> Result<Bytes, NoMemory>
         requires { inside.now.items ≡ copied_text (copy_view self.now) }
         ensures { IfOk result (λ b. b.items ≡ copy_text (copy_view self.now) full.now) }

@@ -4,7 +4,7 @@
 
 mod copies;
 mod laws;
-mod passed;
+mod passing;
 mod queries;
 mod query_fault;
 mod results;
@@ -14,7 +14,7 @@ pub use copies::CarbonCopy;
 pub use laws::{
     only_the_archive_gives_ids, results_are_their_entries, what_is_passed_on_is_a_tree,
 };
-pub use passed::{Addressed, Filed, passed};
+pub use passing::{Addressed, Filed, passed};
 pub use queries::{no_such_place, query_asked};
 pub use query_fault::QueryFault;
 pub use results::{Asker, archived, page_end};

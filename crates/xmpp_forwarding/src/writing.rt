@@ -87,6 +87,7 @@ pub(crate) fn close_message(out: &mut Bytes) -> Result<(), NoMemory>
 
 /// Writes the start tag of a `forwarded` and the delay that is first in it: what follows was sent at this moment
 /// (XEP-0297, section 3; XEP-0203).
+#[tactic(auto, using(crate::proofs::PartSteps::two_parts))]
 pub(crate) fn open_forwarded(
     alloc: Global,
     out: &mut Bytes,

@@ -2,7 +2,7 @@ use Rattle.std.proofs.Common.{◌≡◌, drop}
 use Rattle.xmpp_forwarding.specs.Parts.{says_nothing}
 use Rattle.xmpp_messages.specs.Ids.{without_ids}
 use Rattle.xmpp_trees.specs.Views.{nodes_view}
-use Rattle.xmpp_forwarding.proofs.passed.says_nothing.Given as goal
+use Rattle.xmpp_forwarding.proofs.passing.says_nothing.Given as goal
 
 -- what is ahead decides
 abbrev pub invariant-loop-node : goal.invariant-loop-node

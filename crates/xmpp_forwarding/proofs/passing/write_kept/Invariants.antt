@@ -1,7 +1,7 @@
 use Rattle.std.proofs.Common.{◌≡◌, ◌++◌, drop}
 use Rattle.xmpp_forwarding.specs.Parts.{kept_text}
 use Rattle.xmpp_trees.specs.Views.{nodes_view}
-use Rattle.xmpp_forwarding.proofs.passed.write_kept.Given as goal
+use Rattle.xmpp_forwarding.proofs.passing.write_kept.Given as goal
 
 -- what was written and what is ahead are the whole
 abbrev pub invariant-loop-node : goal.invariant-loop-node

@@ -47,6 +47,7 @@ fn says_something(node: &Node, by: &str) -> bool
 }
 
 // Whether nothing is written of nodes.
+#[tactic(auto, using(crate::proofs::KeptNodes::kept_says))]
 fn says_nothing(nodes: &[Node], by: &str) -> bool
     ensures { result ≡ says_nothing (without_ids by.now (nodes_view nodes.now)) }
 {
@@ -59,6 +60,7 @@ fn says_nothing(nodes: &[Node], by: &str) -> bool
 }
 
 // Whether a message with this payload has nothing inside.
+#[tactic(auto, using(crate::proofs::KeptNodes::no_number, crate::proofs::KeptNodes::with_number))]
 fn has_nothing(payload: &[Node], filed: &Filed<'_>) -> bool
     ensures { result ≡ has_nothing (passed_nodes filed.now.by.now filed.now.number (nodes_view payload.now)) }
 {
@@ -78,6 +80,7 @@ fn write_kept_node(out: &mut Bytes, node: &Node, by: &str) -> Result<(), NoMemor
 }
 
 // Writes the nodes of a payload that are no ids by an address. None of them is copied.
+#[tactic(auto, using(crate::proofs::KeptNodes::kept_text_joined))]
 fn write_kept(out: &mut Bytes, payload: &[Node], by: &str) -> Result<(), NoMemory>
     ensures { OnOk result (out.new.items ≡ out.old.items ++ kept_text by.now (nodes_view payload.now)) }
 {
@@ -118,6 +121,7 @@ fn head(alloc: Global, message: &Addressed<'_>) -> Result<Element, NoMemory>
 
 /// Writes a message as it is passed on, where a default namespace is in force. A refusal leaves bytes of which a part may
 /// be written.
+#[tactic(auto, using(crate::proofs::KeptNodes::nothing_is, crate::proofs::KeptNodes::passed_written, crate::proofs::PartSteps::message_in_parts, crate::proofs::PartSteps::four_parts))]
 pub(crate) fn write_passed(
     alloc: Global,
     out: &mut Bytes,
