@@ -1,17 +1,23 @@
 -- What is kept of a payload, as it is written.
-use Rattle.std.proofs.Common.{◌≡◌, ℕ, Bool, true, false, ◌&&◌, List, [], ◌∷◌, ◌++◌, Option, Some, None, length, refl, sym, ap, ◌∙◌, append_assoc, append-nil}
-use Rattle.std.specs.Prelude.{◌==◌, cond}
+use Rattle.std.proofs.Common.{◌≡◌, true≢false, ℕ, Bool, true, false, ◌&&◌, eqb, List, [], ◌∷◌, ◌++◌, Option, Some, None, length, ⊎_elim, refl, sym, ap, ◌∙◌, append_assoc, append-nil, arith, codes}
+use Rattle.std.proofs.lemmas.Bool.{cases_Bool, eqb-true}
+use Rattle.std.specs.Prelude.{◌==◌, cond, is_some}
 use Rattle.std.proofs.lemmas.Grind.{flat_map-append}
 use Rattle.xmpp_ext.specs.Given.{is_given_by}
 use Rattle.xmpp_forwarding.specs.Parts.{kept_text, says_nothing}
-use Rattle.xmpp_forwarding.specs.Passed.{id_node, passed_nodes}
+use Rattle.xmpp_forwarding.proofs.PartSteps.{message_in_parts}
+use Rattle.xmpp_forwarding.specs.Passed.{id_node, passed_elem, passed_nodes}
 use Rattle.xmpp_messages.specs.Ids.{without_ids}
+use Rattle.xmpp_stanza.specs.Kinds.{message_type}
 use Rattle.xmpp_stanza.specs.Names.{client_ns}
+use Rattle.xmpp_stanza.specs.Views.{MessageView}
+use Rattle.xmpp_stanza.specs.Written.{attrs_written, message_elem, unless_empty}
 use Rattle.xmpp_tokens.specs.Spelling.{spelled_text, text_byte}
+use Rattle.xmpp_trees.specs.Attributes.{Attribute}
 use Rattle.xmpp_trees.specs.Tidied.{text_node, texts_joined}
 use Rattle.xmpp_trees.specs.Trees.{Elem, Nodes, no_nodes, child, text, joined}
 use Rattle.xmpp_writer.proofs.PartLaws.{nodes_in_parts}
-use Rattle.xmpp_writer.specs.Canon.{has_nothing, written, written_nodes}
+use Rattle.xmpp_writer.specs.Canon.{has_nothing, written, written_end_tag, written_nodes, written_start_tag}
 
 -- ---- nodes of two lists, one after the other
 
@@ -62,17 +68,23 @@ passed_written by number payload =
 
 -- ---- where nothing is inside
 
+pub some_length : {A : Type 0} (x : A) (xs : List A) → (length (x ∷ xs) == 0) ≡ false
+some_length x xs =
+    ⊎_elim (λ (none : eqb (length (x ∷ xs)) 0 ≡ true). absurd (let zero_is : length (x ∷ xs) ≡ 0 = eqb-true (length (x ∷ xs)) 0 none in omega (arith, zero_is)))
+    (λ (some : eqb (length (x ∷ xs)) 0 ≡ false). some)
+    (cases_Bool (eqb (length (x ∷ xs)) 0))
+
 empty_both : (run t : List ℕ) → (length (run ++ t) == 0) ≡ (length run == 0) && (length t == 0)
 empty_both [] t = refl
-empty_both (c ∷ cs) t = refl
+empty_both (c ∷ cs) t = some_length c (cs ++ t) ∙ sym (ap (λ b. b && (length t == 0)) (some_length c cs))
 
 nothing_after : (run : List ℕ) (e : Elem) (rest : Nodes) → has_nothing (joined (text_node run) (child e rest)) ≡ (length run == 0) && false
 nothing_after [] e rest = refl
-nothing_after (c ∷ cs) e rest = refl
+nothing_after (c ∷ cs) e rest = sym (ap (λ b. b && false) (some_length c cs))
 
 nothing_in_text : (run : List ℕ) → has_nothing (text_node run) ≡ (length run == 0) && true
 nothing_in_text [] = refl
-nothing_in_text (c ∷ cs) = refl
+nothing_in_text (c ∷ cs) = sym (ap (λ b. b && true) (some_length c cs))
 
 nothing_joined : (run : List ℕ) (ks : Nodes) → has_nothing (texts_joined run ks) ≡ (length run == 0) && says_nothing ks
 nothing_joined run no_nodes = nothing_in_text run
@@ -103,3 +115,32 @@ pub nothing_is : (ks : Nodes) → has_nothing ks ≡ true → ks ≡ no_nodes
 nothing_is no_nodes none = refl
 nothing_is (child e rest) none = absurd (let p = none in cc)
 nothing_is (text t rest) none = absurd (let p = none in cc)
+
+-- a message is written as one with nothing inside exactly where no number is given and nothing is kept
+pub none_given : (by : List ℕ) (number : Option ℕ) (payload : Nodes) → is_some number ≡ false → says_nothing (without_ids by payload) ≡ has_nothing (passed_nodes by number payload)
+none_given by None payload none = sym (no_number by payload)
+none_given by (Some number) payload none = absurd (true≢false none)
+
+pub some_given : (by : List ℕ) (number : Option ℕ) (payload : Nodes) → is_some number ≡ true → false ≡ has_nothing (passed_nodes by number payload)
+some_given by None payload some = absurd (true≢false (sym some))
+some_given by (Some number) payload some = sym (with_number by number payload)
+
+-- ---- a message that is passed on
+
+pub nothing_passed : (by : List ℕ) (number : Option ℕ) (m : MessageView) → has_nothing (passed_nodes by number m.payload) ≡ true → passed_elem by number m ≡ message_elem (record m { payload = no_nodes })
+nothing_passed by number m none = ap (λ (ks : Nodes). message_elem (record m { payload = ks })) (nothing_is (passed_nodes by number m.payload) none)
+
+-- the attributes of a message
+abbrev pub attrs_of : MessageView → List Attribute
+attrs_of m = attrs_written m.from (unless_empty m.id) m.to (Some (message_type m.kind)) (unless_empty m.lang)
+
+pub passed_in_parts : (default by : List ℕ) (number : Option ℕ) (m : MessageView) → has_nothing (passed_nodes by number m.payload) ≡ false
+    → written default (passed_elem by number m)
+    ≡ written_start_tag default client_ns (codes "message") (attrs_of m)
+    ++ (kept_text by m.payload ++ (written_nodes client_ns (id_node by number) ++ written_end_tag client_ns (codes "message")))
+passed_in_parts default by number m some =
+    let start = written_start_tag default client_ns (codes "message") (attrs_of m) in
+    let end = written_end_tag client_ns (codes "message") in
+    message_in_parts default (attrs_of m) (passed_nodes by number m.payload) some
+    ∙ ap (λ l. start ++ (l ++ end)) (passed_written by number m.payload)
+    ∙ ap (λ l. start ++ l) (append_assoc (kept_text by m.payload) (written_nodes client_ns (id_node by number)) end)

@@ -1,6 +1,7 @@
 -- steps of the code
 pub mod PartSteps
 pub mod KeptNodes
+pub mod EntryParts
 -- laws
 pub mod TreeLaws
 pub mod IdLaws

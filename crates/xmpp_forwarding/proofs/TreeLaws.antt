@@ -45,7 +45,7 @@ kept_child false e was kept tree rest = λ i. child (tree i) (rest i)
 kept_stay : (by : List ℕ) (ks : Nodes) → AreTidy ks → inner_tidied (without_ids by ks) ≡ without_ids by ks
 kept_stay by no_nodes tidy = refl
 kept_stay by (child e rest) tidy = kept_child (is_given_by by e) e rest (without_ids by rest) (tidied_stays e tidy.0) (kept_stay by rest tidy.1)
-kept_stay by (text t rest) tidy = ap (text t) (kept_stay by rest tidy.2.1)
+kept_stay by (text t rest) tidy = ap (text t) (kept_stay by rest tidy.2)
 
 kept_AreTidy : (by : List ℕ) (ks : Nodes) → AreTidy ks → AreTidy (texts_joined [] (without_ids by ks))
 kept_AreTidy by ks tidy =
@@ -59,12 +59,12 @@ no_text_after (text t rest) e first = first
 with_child : (ks : Nodes) (e : Elem) → AreTidy ks → IsTree e → AreTidy (joined ks (child e no_nodes))
 with_child no_nodes e tidy tree = (tree, tt)
 with_child (child f rest) e tidy tree = (tidy.0, with_child rest e tidy.1 tree)
-with_child (text t rest) e tidy tree = (tidy.0, no_text_after rest e tidy.2.0, with_child rest e tidy.2.1 tree)
+with_child (text t rest) e tidy tree = (tidy.0, no_text_after rest e tidy.1, with_child rest e tidy.2 tree)
 
 with_none : (ks : Nodes) → AreTidy ks → AreTidy (joined ks no_nodes)
 with_none no_nodes tidy = tt
 with_none (child f rest) tidy = (tidy.0, with_none rest tidy.1)
-with_none (text t rest) tidy = (tidy.0, only_them rest tidy.2.0, with_none rest tidy.2.1)
+with_none (text t rest) tidy = (tidy.0, only_them rest tidy.1, with_none rest tidy.2)
   where
     only_them : (ks : Nodes) → NoTextFirst ks → NoTextFirst (joined ks no_nodes)
     only_them no_nodes first = tt

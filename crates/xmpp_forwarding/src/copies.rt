@@ -3,12 +3,12 @@ ghost use Rattle.std.specs.Prelude.{◌≡◌, IfOk};
 ghost use Rattle.xmpp_ext.specs.Carbons.{carbon_name};
 ghost use Rattle.xmpp_forwarding.specs.Copies.{copied_text, copy_text, copy_view};
 
-use crate::passing::{Addressed, Filed, write_passed};
+use crate::passing::{Addressed, Filed, type_of, write_passed};
 use crate::writing::{close_forwarded, close_message, open_bare, open_forwarded, open_message};
 use std::alloc::Global;
 use xmpp_edge::{Bytes, NoMemory};
 use xmpp_payload::{CARBONS, FORWARDING};
-use xmpp_stanza::{CLIENT, StanzaAttrs};
+use xmpp_stanza::CLIENT;
 use xmpp_writer::write_end;
 
 /// What a copy of a message tells the sessions of an account that asked for copies: whether the account sent the message
@@ -32,7 +32,6 @@ fn carbon_name(sent: bool) -> &'static str
 impl CarbonCopy<'_> {
     /// What is inside each copy, for whichever session: `sent` or `received` around the message and its moment. It is
     /// written once for all of them, and nothing of the message is copied. A moment past `LAST_MOMENT` is written as that.
-    #[tactic(auto, using(crate::proofs::PartSteps::carbon_in_parts, crate::proofs::PartSteps::five_parts))]
     pub fn inside(&self, alloc: Global) -> Result<Bytes, NoMemory>
         ensures { IfOk result (λ b. b.items ≡ copied_text (copy_view self.now)) }
     {
@@ -48,20 +47,13 @@ impl CarbonCopy<'_> {
 
     /// The copy for the session with this full address, around what is inside: it is from the account's bare address, and
     /// of the type of the message.
-    #[tactic(auto, using(crate::proofs::PartSteps::around_in_message, crate::proofs::PartSteps::three_parts))]
     pub fn to(&self, alloc: Global, full: &str, inside: &Bytes) -> Result<Bytes, NoMemory>
         requires { inside.now.items ≡ copied_text (copy_view self.now) }
         ensures { IfOk result (λ b. b.items ≡ copy_text (copy_view self.now) full.now) }
     {
-        let given = StanzaAttrs {
-            from: Some(self.filed.by),
-            id: None,
-            to: Some(full),
-            kind: Some(self.message.message.kind.text()),
-            lang: None,
-        };
+        let kind = type_of(self.message.message);
         let mut out = Bytes::new(alloc);
-        open_message(alloc, &mut out, &given)?;
+        open_message(alloc, &mut out, self.filed.by, full, Some(kind))?;
         out.append(inside.as_slice())?;
         close_message(&mut out)?;
         Ok(out)

@@ -3,6 +3,7 @@ ghost use Rattle.std.specs.Prelude.{◌≡◌, not, ◌++◌, IfOk, OnOk};
 ghost use Rattle.xmpp_forwarding.specs.Parts.{kept_text, says_nothing};
 ghost use Rattle.xmpp_forwarding.specs.Passed.{addressed_view, id_node, passed_elem, passed_nodes, passed_text};
 ghost use Rattle.xmpp_messages.specs.Ids.{without_ids};
+ghost use Rattle.xmpp_stanza.specs.Kinds.{message_type};
 ghost use Rattle.xmpp_stanza.specs.Names.{client_ns};
 ghost use Rattle.xmpp_stanza.specs.Written.{message_elem};
 ghost use Rattle.xmpp_trees.specs.Trees.{no_nodes};
@@ -60,7 +61,6 @@ fn says_nothing(nodes: &[Node], by: &str) -> bool
 }
 
 // Whether a message with this payload has nothing inside.
-#[tactic(auto, using(crate::proofs::KeptNodes::no_number, crate::proofs::KeptNodes::with_number))]
 fn has_nothing(payload: &[Node], filed: &Filed<'_>) -> bool
     ensures { result ≡ has_nothing (passed_nodes filed.now.by.now filed.now.number (nodes_view payload.now)) }
 {
@@ -105,23 +105,37 @@ fn write_id(alloc: Global, out: &mut Bytes, filed: &Filed<'_>) -> Result<(), NoM
     write_element(alloc, out, CLIENT, tree.into_element())
 }
 
+// What a message contains.
+fn payload_of(message: &Message) -> &[Node]
+    ensures { nodes_view result.now ≡ message.now.payload }
+{
+    message.payload.as_slice()
+}
+
+/// The type that a message is written with.
+pub(crate) fn type_of(message: &Message) -> &'static str
+    ensures { result.now ≡ message_type message.now.kind }
+{
+    message.kind.text()
+}
+
 // The message without what it contains.
-fn head(alloc: Global, message: &Addressed<'_>) -> Result<Element, NoMemory>
+fn passed_head(alloc: Global, message: &Addressed<'_>) -> Result<Element, NoMemory>
     ensures { IfOk result (λ e. elem_view e ≡ message_elem (record (addressed_view message.now) { payload = no_nodes })) }
 {
+    let m = message.message;
     let given = StanzaAttrs {
         from: Some(message.from),
-        id: unless_empty(message.message.id.as_str()),
+        id: unless_empty(m.id.as_str()),
         to: Some(message.to),
-        kind: Some(message.message.kind.text()),
-        lang: unless_empty(message.message.lang.as_str()),
+        kind: Some(m.kind.text()),
+        lang: unless_empty(m.lang.as_str()),
     };
     stanza_element(alloc, "message", &given, Nodes::new(alloc))
 }
 
 /// Writes a message as it is passed on, where a default namespace is in force. A refusal leaves bytes of which a part may
 /// be written.
-#[tactic(auto, using(crate::proofs::KeptNodes::nothing_is, crate::proofs::KeptNodes::passed_written, crate::proofs::PartSteps::message_in_parts, crate::proofs::PartSteps::four_parts))]
 pub(crate) fn write_passed(
     alloc: Global,
     out: &mut Bytes,
@@ -131,8 +145,8 @@ pub(crate) fn write_passed(
 ) -> Result<(), NoMemory>
     ensures { OnOk result (out.new.items ≡ out.old.items ++ written default.now (passed_elem filed.now.by.now filed.now.number (addressed_view message.now))) }
 {
-    let head = head(alloc, message)?;
-    let payload = message.message.payload.as_slice();
+    let head = passed_head(alloc, message)?;
+    let payload = payload_of(message.message);
     if has_nothing(payload, filed) {
         return write_element(alloc, out, default, head);
     }

@@ -10,7 +10,7 @@ ghost use Rattle.xmpp_stanza.specs.Written.{attr_where, message_elem, unless_emp
 ghost use Rattle.xmpp_trees.specs.Attributes.{attribute};
 ghost use Rattle.xmpp_trees.specs.Trees.{element, no_nodes};
 ghost use Rattle.xmpp_trees.specs.Views.{elem_view};
-ghost use Rattle.xmpp_writer.specs.Canon.{written, written_nodes};
+ghost use Rattle.xmpp_writer.specs.Canon.{has_nothing, written, written_nodes};
 
 use crate::writing::{
     close_forwarded, close_message, open_element, open_forwarded, open_message, unless_empty,
@@ -101,12 +101,20 @@ fn write_bodies(alloc: Global, out: &mut Bytes, bodies: &[Body]) -> Result<(), N
 fn write_origin(alloc: Global, out: &mut Bytes, origin: &str) -> Result<(), NoMemory>
     ensures { OnOk result (out.new.items ≡ out.old.items ++ written_nodes client_ns (origin_node origin.now)) }
 {
-    let Some(id) = unless_empty(origin) else {
+    if origin.is_empty() {
         return Ok(());
-    };
+    }
     let mut element = Element::from_strs(alloc, STANZA_IDS, "origin-id")?;
-    push_value(alloc, &mut element, "id", id)?;
+    push_value(alloc, &mut element, "id", origin)?;
     write_element(alloc, out, CLIENT, element)
+}
+
+// Whether an archived message has nothing inside.
+#[tactic(auto, using(crate::proofs::EntryParts::nothing_in_entry))]
+fn has_nothing(bodies: &[Body], origin: &str) -> bool
+    ensures { result ≡ has_nothing (entry_nodes bodies.now origin.now) }
+{
+    bodies.is_empty() && origin.is_empty()
 }
 
 // Writes an archived message, where a default namespace is in force.
@@ -121,7 +129,7 @@ fn write_archived(
     let head = archived_head(alloc, message)?;
     let bodies = message.bodies.as_slice();
     let origin = message.origin.as_str();
-    if bodies.is_empty() && origin.is_empty() {
+    if has_nothing(bodies, origin) {
         return write_element(alloc, out, default, head);
     }
     open_element(out, default, &head)?;
@@ -165,15 +173,8 @@ fn write_result(
 pub fn archived(alloc: Global, asker: &Asker<'_>, entry: &Entry) -> Result<Bytes, NoMemory>
     ensures { IfOk result (λ b. b.items ≡ entry_text (asker_view asker.now) entry.now) }
 {
-    let given = StanzaAttrs {
-        from: Some(asker.by),
-        id: None,
-        to: Some(asker.full),
-        kind: None,
-        lang: None,
-    };
     let mut out = Bytes::new(alloc);
-    open_message(alloc, &mut out, &given)?;
+    open_message(alloc, &mut out, asker.by, asker.full, None)?;
     write_result(alloc, &mut out, asker.queryid, entry)?;
     close_message(&mut out)?;
     Ok(out)

@@ -1,5 +1,5 @@
 //! Parts of messages are written after what is there. A refusal leaves bytes of which a part may be written.
-ghost use Rattle.std.specs.Prelude.{◌≡◌, [], ◌++◌, codes, OnOk};
+ghost use Rattle.std.specs.Prelude.{◌≡◌, [], ◌++◌, None, Some, codes, OnOk};
 ghost use Rattle.std.specs.Option.{option_copied};
 ghost use Rattle.xmpp_ext.specs.Forwarding.{delay_elem};
 ghost use Rattle.xmpp_payload.specs.Names.{forwarding};
@@ -66,15 +66,25 @@ pub(crate) fn open_bare(
     write_start(out, default, ns, name, attrs.as_slice())
 }
 
-/// Writes the start tag of a message at the top that has something inside.
-pub(crate) fn open_message(
+/// Writes the start tag of a message at the top that has something inside: from and to these addresses, of this type where
+/// there is one.
+pub(crate) fn open_message<'a>(
     alloc: Global,
     out: &mut Bytes,
-    given: &StanzaAttrs,
+    from: &'a str,
+    to: &'a str,
+    kind: Option<&'a str>,
 ) -> Result<(), NoMemory>
-    ensures { OnOk result (out.new.items ≡ out.old.items ++ written_start_tag client_ns client_ns (codes "message") (attrs_written (option_copied given.now.from) (option_copied given.now.id) (option_copied given.now.to) (option_copied given.now.kind) (option_copied given.now.lang))) }
+    ensures { OnOk result (out.new.items ≡ out.old.items ++ written_start_tag client_ns client_ns (codes "message") (attrs_written (Some from.now) None (Some to.now) (option_copied kind.entry) None)) }
 {
-    let element = stanza_element(alloc, "message", given, Nodes::new(alloc))?;
+    let given = StanzaAttrs {
+        from: Some(from),
+        id: None,
+        to: Some(to),
+        kind,
+        lang: None,
+    };
+    let element = stanza_element(alloc, "message", &given, Nodes::new(alloc))?;
     open_element(out, CLIENT, &element)
 }
 
@@ -87,7 +97,6 @@ pub(crate) fn close_message(out: &mut Bytes) -> Result<(), NoMemory>
 
 /// Writes the start tag of a `forwarded` and the delay that is first in it: what follows was sent at this moment
 /// (XEP-0297, section 3; XEP-0203).
-#[tactic(auto, using(crate::proofs::PartSteps::two_parts))]
 pub(crate) fn open_forwarded(
     alloc: Global,
     out: &mut Bytes,
