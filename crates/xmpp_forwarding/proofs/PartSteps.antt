@@ -34,7 +34,7 @@ around_one default ns name attrs e inside =
     ∙ ap (λ d. written_start_tag default ns name attrs ++ (written_nodes d (child e no_nodes) ++ written_end_tag ns name)) inside
     ∙ ap (λ l. written_start_tag default ns name attrs ++ (l ++ written_end_tag ns name)) (one_written ns e)
 
-client_inside : (default : List ℕ) → default_inside default client_ns ≡ client_ns
+pub client_inside : (default : List ℕ) → default_inside default client_ns ≡ client_ns
 unfolding default_inside
 client_inside default = refl
 
