@@ -39,7 +39,7 @@ fn result(alloc: Global, envelope: &Envelope<'_>, payload: Nodes) -> Result<Byte
 }
 
 /// An answer whose payload is one element.
-pub(crate) fn result_of(
+pub fn result_of(
     alloc: Global,
     envelope: &Envelope<'_>,
     payload: Element,
