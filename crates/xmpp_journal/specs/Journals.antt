@@ -1,5 +1,5 @@
 -- Journals: what happens to a server, and its text; and what a run is done again from.
-use Rattle.std.specs.Prelude.{◌≡◌, ◌⊎◌, ◌≢◌, ℕ, ◌==◌, nat_le, nat_lt, Bool, ◌&&◌, ◌||◌, List, [], ◌∷◌, ◌++◌, All, IsTrue, length, codes}
+use Rattle.std.specs.Prelude.{◌≡◌, ◌⊎◌, ℕ, ◌==◌, nat_le, nat_lt, Bool, not, ◌&&◌, ◌||◌, List, [], ◌∷◌, ◌++◌, IsTrue, length, codes}
 use Rattle.std.specs.Fmt.{decimal}
 use Rattle.std.specs.List.{flat_map, list_all}
 use Rattle.std.specs.Str.{bytes_eq, is_utf8}
@@ -78,7 +78,7 @@ pub record IsBehindEvents (text : List ℕ) : Type 0 where
   pub line : List ℕ
   pub rest : List ℕ
   pub whole : text ≡ line ++ 10 ∷ rest
-  pub one_line : All (λ b. b ≢ 10) line
+  pub one_line : IsTrue (list_all (λ b. not (b == 10)) line)
   pub spelled : IsTrue (is_utf8 line)
   pub ends : IsTrue (ends_events (cut_of line).front)
 

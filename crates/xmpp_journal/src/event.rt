@@ -1,7 +1,4 @@
 //! What happens to a server, as its journal says it.
-ghost use Rattle.std.specs.Prelude.{map};
-ghost use Rattle.xmpp_journal.specs.Journals.{event_view};
-
 use crate::accounts_file::AccountsFile;
 use std::marker::Model;
 use xmpp_edge::{Bytes, ListOf};
@@ -42,7 +39,8 @@ pub struct RerunInput {
 }
 
 impl Model for RerunInput {
-    ghost use Rattle.xmpp_journal.specs.Journals.{InputView};
+    ghost use Rattle.std.specs.Prelude.{map};
+    ghost use Rattle.xmpp_journal.specs.Journals.{InputView, event_view};
 
     ghost Value = { InputView };
 

@@ -1,5 +1,5 @@
 //! The events of a journal are read from their lines.
-ghost use Rattle.std.specs.Prelude.{◌≡◌, ◌+◌, ◌^◌, ◌<◌, length, map};
+ghost use Rattle.std.specs.Prelude.{◌≡◌, ◌+◌, ◌^◌, ◌<◌, true, length, map, IfOk};
 ghost use Rattle.std.specs.Option.{option_map};
 ghost use Rattle.xmpp_journal.specs.Gives.{Gives, ReadsAs, left};
 ghost use Rattle.xmpp_journal.specs.Journals.{begun_last, ends_events, event_view, journal_header};

@@ -5,11 +5,11 @@ use Rattle.xmpp_journal.proofs.AccountLists.{with_accounts}
 use Rattle.xmpp_schedule.specs.Reading.{pieces_of}
 use Rattle.xmpp_journal.proofs.accounts_reading.read_registrations.Given as goal
 
-abbrev pub invariant-loop-rest : goal.invariant-loop-rest
-invariant-loop-rest l = record {
+abbrev pub invariant-loop-alloc : goal.invariant-loop-alloc
+invariant-loop-alloc l = record {
   told : with_accounts l.accounts.items (read_registrations l.behind l.above l.next (pieces_of l.rest)) ≡ read_registrations l.behind [] l.number (pieces_of l.text);
   counted : l.next + length l.rest ≤ l.number + length l.text;
 }
 
-abbrev pub decreases-loop-rest : goal.decreases-loop-rest
-decreases-loop-rest l = length l.rest
+abbrev pub decreases-loop-alloc : goal.decreases-loop-alloc
+decreases-loop-alloc l = length l.rest
