@@ -7,6 +7,7 @@ mod event;
 mod event_reading;
 mod fault;
 mod fields;
+mod laws;
 mod lines;
 mod names;
 mod reading;
@@ -14,4 +15,7 @@ mod reading;
 pub use accounts_file::{AccountsFile, Registration, Registrations};
 pub use event::{Event, Events, LAST_CONNECTION, RerunInput};
 pub use fault::InputFault;
+pub use laws::{
+    accounts_reading_is_the_grammar, events_are_read_back, rerun_reading_is_the_grammar,
+};
 pub use reading::{read_accounts, read_rerun};
