@@ -1,10 +1,9 @@
 -- What is written is read as what it says.
-use Rattle.std.proofs.Common.{◌≡◌, ℕ, ◌+◌, ◌≤◌, ◌<◌, Bool, true, false, cond, eqb, List, [], ◌∷◌, ◌++◌, length, Some, None, Option, Result, Ok, Err, refl, sym, ap, subst, ◌∙◌, inl, inr, arith, codes, append_assoc}
-use Rattle.std.specs.Prelude.{not, ◌&&◌, ◌||◌, ◌⊎◌, nat_lt, nat_le, IsTrue, ◌==◌}
+use Rattle.std.proofs.Common.{◌≡◌, ℕ, ◌+◌, ◌≤◌, true, false, List, [], ◌∷◌, ◌++◌, length, Some, None, Result, Ok, refl, ap, ◌∙◌, inl, inr, arith, codes, append_assoc}
+use Rattle.std.specs.Prelude.{not, nat_lt, nat_le, ◌==◌}
 use Rattle.std.specs.Fmt.{decimal}
-use Rattle.std.specs.List.{list_all}
-use Rattle.std.specs.Str.{bytes_eq, is_utf8}
-use Rattle.std.proofs.lemmas.Bool.{and_parts, and_from, cases_Bool, eqb-true, leb-true, ltb-true, or_from}
+use Rattle.std.specs.Str.{is_utf8}
+use Rattle.std.proofs.lemmas.Bool.{and_parts, eqb-true, leb-true}
 use Rattle.std.proofs.lemmas.List.{append-nil}
 use Rattle.std.proofs.lemmas.List.Concat.{flat_map-cons}
 use Rattle.std.proofs.lemmas.Str.{is_utf8-from_IsUtf8}
@@ -13,9 +12,9 @@ use Rattle.xmpp_edge.specs.Names.{is_among}
 use Rattle.xmpp_journal.proofs.HexFields.{bytes_again, entropy_again}
 use Rattle.xmpp_journal.proofs.Words.{IsPlain, IsWord, domain_word, hex_word, lacks_from_all, last_again, name_word, next_again, number_word, password_word, plain_append, plain_behind, plain_from_all}
 use Rattle.xmpp_journal.specs.AccountsFiles.{AccountsView, AreRegistered, IsAccountsFile, accounts_text, domain_text, is_account_name, is_domain, is_password, may_register, preamble_text, registration_text, registrations_text}
-use Rattle.xmpp_journal.specs.Journals.{EventView, Connect, Piece, Gone, AreEvents, InputView, IsBehindEvents, IsInput, MayFollow, Says, are_bytes, begun_last, ends_events, event_text, events_text, input_text, is_connection, is_moment, journal_header, mark, may_happen}
+use Rattle.xmpp_journal.specs.Journals.{EventView, Connect, Piece, Gone, AreEvents, InputView, MayFollow, Says, are_bytes, begun_last, ends_events, event_text, events_text, is_connection, is_moment, journal_header, mark, may_happen}
 use Rattle.xmpp_journal.specs.LineReading.{connection_in, fields_behind, moment_in, read_connect, read_domain, read_event, read_first, read_gone, read_journal_header, read_keep, read_piece, read_registration, read_words}
-use Rattle.xmpp_journal.specs.Reading.{Accounts, BegunView, PreambleView, accounts_reading, is_mark, read_events, read_file, read_preamble, read_registrations, read_version, rerun_reading}
+use Rattle.xmpp_journal.specs.Reading.{PreambleView, accounts_reading, is_mark, read_events, read_file, read_preamble, read_registrations, read_version, rerun_reading}
 use Rattle.xmpp_journal.specs.declared.accounts_file.Registration.{Registration}
 use Rattle.xmpp_journal.specs.declared.accounts_reading.Behind.{Behind}
 use Rattle.xmpp_journal.specs.declared.accounts_reading.Behind.TheVariants.{Nothing, Journal}
@@ -25,7 +24,6 @@ use Rattle.xmpp_schedule.proofs.Numbers.{number_again}
 use Rattle.xmpp_schedule.proofs.Words.{Lacks, piece_behind}
 use Rattle.xmpp_schedule.specs.Grammar.{may_keep}
 use Rattle.xmpp_schedule.specs.Reading.{cut_of, not_empty, pieces_of}
-use Rattle.xmpp_schedule.specs.declared.fault.LineWhy.{LineWhy}
 use Rattle.xmpp_schedule.specs.declared.schedule.TheConstants.{MOST_KEPT}
 use Rattle.xmpp_schedule.specs.declared.schedule.Version.{Version}
 use Rattle.xmpp_schedule.specs.declared.schedule.Version.TheVariants.{One, Two}

@@ -1,10 +1,10 @@
 -- What is read is right, and the text is its text.
 use Rattle.std.proofs.Common.{◌≡◌, ℕ, ◌+◌, Bool, true, false, cond, eqb, List, [], ◌∷◌, ◌++◌, length, Option, Some, None, Result, Ok, Err, refl, sym, ap, subst, ◌∙◌, inl, inr, codes, append_assoc, arith}
-use Rattle.std.specs.Prelude.{not, ◌&&◌, ◌||◌, ◌⊎◌, IsTrue, nat_lt, nat_le, ◌==◌}
+use Rattle.std.specs.Prelude.{not, ◌&&◌, ◌||◌, ◌⊎◌, IsTrue, nat_lt, ◌==◌}
 use Rattle.std.specs.Fmt.{decimal}
 use Rattle.std.specs.List.{AllByRecursion, list_all}
 use Rattle.std.specs.Str.{bytes_eq, is_utf8}
-use Rattle.std.proofs.lemmas.Bool.{and_parts, and_from, cases_Bool, eqb-true, eq-eqb, le-leb, or_cases}
+use Rattle.std.proofs.lemmas.Bool.{and_parts, and_from, cases_Bool, eqb-true, eq-eqb, le-leb}
 use Rattle.std.proofs.lemmas.List.{append-nil}
 use Rattle.std.proofs.lemmas.List.Concat.{flat_map-cons}
 use Rattle.std.proofs.lemmas.Slice.Eq.{bytes_eq-Decides}
@@ -13,7 +13,7 @@ use Rattle.xmpp_edge.specs.Names.{is_among}
 use Rattle.xmpp_journal.proofs.ReadFields.{bind_ok, gate, done, ok_is, chosen, with_rest, cut_back, next_is, last_is, last_some, line_is}
 use Rattle.xmpp_journal.proofs.HexFields.{bytes_found, entropy_found, some_bytes}
 use Rattle.xmpp_journal.specs.AccountsFiles.{AccountsView, AreRegistered, IsAccountsFile, accounts_text, domain_text, is_account_name, is_domain, is_password, may_register, preamble_text, registration_text, registrations_text}
-use Rattle.xmpp_journal.specs.Journals.{EventView, Connect, Piece, Gone, AreEvents, InputView, IsBehindEvents, IsInput, MayFollow, Says, are_bytes, begun_last, ends_events, event_text, events_text, input_text, is_connection, is_moment, journal_header, mark, may_happen}
+use Rattle.xmpp_journal.specs.Journals.{EventView, Connect, Piece, Gone, AreEvents, InputView, MayFollow, Says, begun_last, ends_events, event_text, events_text, input_text, is_connection, is_moment, journal_header, mark, may_happen}
 use Rattle.xmpp_journal.specs.LineReading.{as_some, bytes_in, connection_in, entropy_in, fields_behind, moment_in, read_connect, read_domain, read_event, read_first, read_gone, read_journal_header, read_keep, read_piece, read_registration, read_words}
 use Rattle.xmpp_journal.specs.Reading.{Accounts, BegunView, PreambleView, accounts_reading, at_end, at_line, if_event, is_mark, missing_line, read_events, read_file, read_preamble, read_registrations, read_version, rerun_reading, with_account, with_event, with_next, ◌>>=◌}
 use Rattle.xmpp_journal.specs.declared.accounts_file.Registration.{Registration}
@@ -24,7 +24,7 @@ use Rattle.xmpp_journal.specs.declared.fault.InputFault.{InputFault}
 use Rattle.xmpp_journal.specs.declared.fault.InputFault.TheVariants.{BadLine}
 use Rattle.xmpp_schedule.proofs.Numbers.{number_found}
 use Rattle.xmpp_schedule.specs.Grammar.{may_keep}
-use Rattle.xmpp_schedule.specs.Reading.{Cut, cut_of, either, joined, last_field, next_field, not_empty, number_within, pieces_of}
+use Rattle.xmpp_schedule.specs.Reading.{Cut, cut_of, either, joined, last_field, next_field, not_empty, pieces_of}
 use Rattle.xmpp_schedule.specs.declared.fault.LineWhy.{LineWhy}
 use Rattle.xmpp_schedule.specs.declared.schedule.TheConstants.{MOST_KEPT}
 use Rattle.xmpp_schedule.specs.declared.schedule.Version.{Version}

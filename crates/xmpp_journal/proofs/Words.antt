@@ -1,10 +1,10 @@
 -- Fields and lines as they are written: words without a space, and lines without an LF, in UTF-8.
 use Rattle.std.proofs.Common.{◌≡◌, ℕ, zero, suc, ◌≤◌, ◌<◌, ◌^◌, Bool, true, false, eqb, leb, ltb, List, [], ◌∷◌, ◌++◌, length, Some, Result, Ok, Err, refl, sym, ap, ◌∙◌, arith}
-use Rattle.std.specs.Prelude.{not, ◌&&◌, ◌||◌, nat_le}
+use Rattle.std.specs.Prelude.{not, ◌&&◌, nat_le}
 use Rattle.std.specs.Fmt.{decimal}
 use Rattle.std.specs.List.{list_all}
-use Rattle.std.specs.Str.{bytes_eq, IsUtf8, IsAscii}
-use Rattle.std.proofs.lemmas.Bool.{and_parts, eqb-false, false≢true, leb-true}
+use Rattle.std.specs.Str.{IsUtf8, IsAscii}
+use Rattle.std.proofs.lemmas.Bool.{and_parts, false≢true, leb-true}
 use Rattle.std.proofs.lemmas.Bool.Decides.{nat_tests}
 use Rattle.std.proofs.lemmas.List.Sums.{list_all-from_AllPass}
 use Rattle.std.proofs.lemmas.Slice.Eq.{bytes_eq-Decides}
@@ -23,7 +23,7 @@ use Rattle.xmpp_journal.specs.Journals.{are_bytes}
 use Rattle.xmpp_journal.specs.LineReading.{is_digit}
 use Rattle.xmpp_schedule.proofs.Numbers.{decimal_number, number_digits}
 use Rattle.xmpp_schedule.proofs.Words.{Lacks, cut_behind}
-use Rattle.xmpp_schedule.specs.Reading.{cut_of, is_number, last_field, next_field, not_empty}
+use Rattle.xmpp_schedule.specs.Reading.{last_field, next_field, not_empty}
 use Rattle.xmpp_schedule.specs.Grammar as schedules
 
 -- ---- bytes that pass a test

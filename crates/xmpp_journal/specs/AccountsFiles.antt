@@ -1,5 +1,5 @@
 -- Accounts files: what one says, and its text.
-use Rattle.std.specs.Prelude.{◌≡◌, ℕ, nat_le, Bool, ◌&&◌, false, not, List, [], ◌∷◌, ◌++◌, IsTrue, length, codes, Result, Ok, Err}
+use Rattle.std.specs.Prelude.{ℕ, nat_le, Bool, ◌&&◌, false, not, List, [], ◌∷◌, ◌++◌, IsTrue, length, codes, Result, Ok, Err}
 use Rattle.std.specs.Fmt.{decimal}
 use Rattle.std.specs.List.{flat_map, list_all}
 use Rattle.std.specs.Str.{bytes_eq}
