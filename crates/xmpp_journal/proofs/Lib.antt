@@ -1,0 +1,10 @@
+-- What a reader's loop has read.
+pub mod AccountLists
+pub mod EventLists
+-- ---- what is read is in the grammar, and back
+pub mod Again
+mod Answered
+pub mod Found
+mod ReadFields
+mod HexFields
+mod Words
