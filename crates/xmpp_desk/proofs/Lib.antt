@@ -1,0 +1,3 @@
+-- ---- steps of the code
+pub mod Outputs
+pub mod Lengths

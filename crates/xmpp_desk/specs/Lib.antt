@@ -1,0 +1,12 @@
+pub use Rattle.xmpp_edge.specs.Listed
+-- ---- what a server is, the small steps that its rows are made of, and what an element says
+pub mod State
+pub mod Steps
+pub mod Words
+-- ---- rows
+pub mod Streams
+pub mod Logins
+-- ---- moments
+pub mod Moments
+-- ---- view
+pub mod Seen

@@ -1,0 +1,162 @@
+//! What the server holds, and the small changes of it.
+ghost use Rattle.std.specs.Prelude.{◌≡◌, ◌+◌, ◌≤◌, OnErr, OnOk};
+ghost use Rattle.xmpp_replies.specs.Streams.{footer_text};
+ghost use Rattle.xmpp_desk.specs.Moments.{at_moment, gone_at, with_fresh};
+ghost use Rattle.xmpp_desk.specs.Seen.{hall_of, step_of};
+ghost use Rattle.xmpp_desk.specs.State.{with_conn};
+ghost use Rattle.xmpp_desk.specs.Steps;
+ghost use Rattle.xmpp_desk.specs.Steps.{after_failure, in_hall, in_phase};
+ghost use Rattle.xmpp_desk.specs.Streams.{stage_of, standing_at};
+ghost use Rattle.xmpp_writer.specs.Items.{written_item};
+
+use crate::connection::{Connection, Phase, Stage, Standing, Tries};
+use crate::output::{Output, Outputs};
+use std::alloc::Global;
+use std::collections::BTreeMap;
+use xmpp_archive::Archive;
+use xmpp_edge::{Bytes, NoMemory, Text};
+use xmpp_live::Live;
+use xmpp_login::Accounts;
+
+/// What the server holds, and the outputs of the event in hand. Each row takes all memory first; then calls follow that
+/// can't fail.
+#[derive(Drop)]
+pub struct Desk {
+    pub alloc: Global,
+    pub domain: Text,
+    pub accounts: Accounts,
+    pub archives: Vec<Archive>,
+    pub live: Live,
+    pub conns: BTreeMap<u64, Connection>,
+    pub moment: u64,
+    pub out: Outputs,
+}
+
+impl Phase {
+    // The phase without the exchange.
+    fn stage(&self) -> Stage
+        ensures { result ≡ stage_of self.now }
+    {
+        match self {
+            Phase::Start => Stage::Start,
+            Phase::Login => Stage::Login,
+            Phase::Challenge(_) => Stage::Challenge,
+            Phase::Restart { account } => Stage::Restart { account: *account },
+            Phase::Ready { account } => Stage::Ready { account: *account },
+        }
+    }
+}
+
+impl Desk {
+    // Where a connection stands. `None` where it isn't open.
+    pub fn standing(&self, conn: u64) -> Option<Standing>
+        ensures { result ≡ standing_at conn (hall_of self.now) }
+    {
+        match self.conns.get(&conn) {
+            Some(connection) => Some(Standing {
+                stage: connection.phase.stage(),
+                tries: connection.tries,
+                entropy: connection.entropy,
+            }),
+            None => None,
+        }
+    }
+
+    // Puts bytes out for a connection.
+    #[tactic(auto, using(crate::proofs::Outputs::outs_push))]
+    pub fn put(&mut self, conn: u64, bytes: Bytes)
+        requires { 1 ≤ self.old.out.spare }
+        ensures step { step_of self.new ≡ Steps.put conn bytes.items (step_of self.old) }
+        ensures live { self.new.live ≡ self.old.live }
+        ensures room { self.old.out.spare ≤ self.new.out.spare + 1 }
+    {
+        self.out.push_reserved(Output::Put { conn, bytes });
+    }
+
+    // Shuts a connection, whose session ends.
+    #[tactic(auto, using(crate::proofs::Outputs::outs_push))]
+    pub fn shut(&mut self, conn: u64)
+        requires { 1 ≤ self.old.out.spare }
+        ensures step { step_of self.new ≡ Steps.shut conn (step_of self.old) }
+        ensures live { self.old.live.room ≤ self.new.live.room }
+        ensures seat { self.new.live.seat ≡ self.old.live.seat }
+        ensures room { self.old.out.spare ≤ self.new.out.spare + 1 }
+    {
+        let _ = self.conns.remove(&conn);
+        let _ = self.live.end_at(conn);
+        self.out.push_reserved(Output::Shut { conn });
+    }
+
+    // Ends the stream of a connection that got its header, with these words.
+    pub fn part(&mut self, conn: u64, error: Bytes, footer: Bytes)
+        requires room { 3 ≤ self.old.out.spare }
+        requires footer { footer.items ≡ footer_text }
+        ensures step { step_of self.new ≡ Steps.part written_item conn error.items (step_of self.old) }
+        ensures live { self.old.live.room ≤ self.new.live.room }
+        ensures seat { self.new.live.seat ≡ self.old.live.seat }
+        ensures room { self.old.out.spare ≤ self.new.out.spare + 3 }
+    {
+        self.put(conn, error);
+        self.put(conn, footer);
+        self.shut(conn);
+    }
+
+    // A connection stands in another phase.
+    pub fn enter(&mut self, conn: u64, phase: Phase)
+        ensures step { step_of self.new ≡ in_hall (with_conn conn (in_phase phase)) (step_of self.old) }
+        ensures live { self.new.live ≡ self.old.live }
+        ensures room { self.new.out ≡ self.old.out }
+    {
+        match self.conns.get_mut(&conn) {
+            Some(connection) => connection.phase = phase,
+            None => {}
+        }
+    }
+
+    // A login failed, and so many tries are left.
+    pub fn fail(&mut self, conn: u64, left: Tries)
+        ensures step { step_of self.new ≡ in_hall (with_conn conn (after_failure left)) (step_of self.old) }
+        ensures live { self.new.live ≡ self.old.live }
+        ensures room { self.new.out ≡ self.old.out }
+    {
+        match self.conns.get_mut(&conn) {
+            Some(connection) => {
+                connection.phase = Phase::Login;
+                connection.tries = left;
+            }
+            None => {}
+        }
+    }
+
+    // A connection comes.
+    pub fn admit(&mut self, conn: u64, entropy: &[u8; 24]) -> Result<(), NoMemory>
+        ensures ok { OnOk result (hall_of self.new ≡ with_fresh conn entropy.now (hall_of self.old)) }
+        ensures err { OnErr result (hall_of self.new ≡ hall_of self.old) }
+    {
+        let connection = Connection {
+            entropy: *entropy,
+            phase: Phase::Start,
+            tries: Tries::Three,
+        };
+        let _ = self.conns.insert(conn, connection)?;
+        Ok(())
+    }
+
+    // The moment moves on, and sessions that were parked for too long end.
+    pub fn begin(&mut self, now: u64)
+        ensures hall { hall_of self.new ≡ at_moment now (hall_of self.old) }
+        ensures out { self.new.out ≡ self.old.out }
+    {
+        self.moment = self.moment.max(now);
+        self.live.expire(self.moment);
+    }
+
+    // A connection is gone.
+    pub fn lose(&mut self, conn: u64)
+        ensures hall { hall_of self.new ≡ gone_at conn (hall_of self.old) }
+        ensures out { self.new.out ≡ self.old.out }
+    {
+        let _ = self.conns.remove(&conn);
+        let _ = self.live.park(conn, self.moment);
+    }
+}

@@ -1,0 +1,19 @@
+//! What a server holds, the small steps that the rows of its table are made of, and the rows of a stream up to its login
+//! (RFC 6120, sections 4 and 6). Each row takes all memory first; then calls follow that can't fail.
+#![tactic(auto)]
+
+mod connection;
+mod desk;
+mod limits;
+mod logins;
+mod output;
+mod reading;
+mod streams;
+mod word;
+
+pub use connection::{Connection, Phase, Stage, Standing, Tries};
+pub use desk::Desk;
+pub use limits::{ASKS_AT, MOST_STANZA_BYTES, RESUMABLE_SECONDS};
+pub use output::{Output, Outputs};
+pub use reading::word_of;
+pub use word::Word;

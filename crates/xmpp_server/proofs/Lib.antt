@@ -1,0 +1,10 @@
+-- ---- steps of the code
+pub mod Entries
+pub mod Archives
+pub mod ItemRuns
+pub mod Feeding
+-- ---- values
+pub mod Worked
+-- ---- laws
+pub mod Tells
+pub mod Kept

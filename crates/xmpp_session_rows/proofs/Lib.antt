@@ -1,0 +1,2 @@
+pub mod AddressTexts
+pub mod ToldFacts

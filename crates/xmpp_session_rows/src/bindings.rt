@@ -1,0 +1,136 @@
+//! The binding of a resource (RFC 6120, section 7).
+ghost use Rattle.std.specs.Prelude.{◌≡◌, [], ◌∷◌, None, Some, IfOk, OnErr, OnOk};
+ghost use Rattle.std.specs.Result.{result_ok};
+ghost use Rattle.xmpp_basis.specs.Hexadecimal.{hex16_of};
+ghost use Rattle.xmpp_jid.specs.Forms.{resource_form};
+ghost use Rattle.xmpp_live.specs.Sessions.{session_at};
+ghost use Rattle.xmpp_session_rows.specs.Bindings;
+ghost use Rattle.xmpp_session_rows.specs.Bindings.{asked_resource, at_bind, binding_as, chosen};
+ghost use Rattle.xmpp_desk.specs.Seen.{hall_of, step_of};
+ghost use Rattle.xmpp_desk.specs.Steps.{Say, acted};
+ghost use Rattle.xmpp_replies.specs.Requests.{iq_error_item};
+ghost use Rattle.xmpp_trees.specs.Views.{elem_view};
+ghost use Rattle.xmpp_writer.specs.Items.{written_item};
+
+use crate::addresses::full_address;
+use crate::room::{part_where, reserve_seat};
+use std::alloc::Global;
+use xmpp_basis::hex16;
+use xmpp_desk::Desk;
+use xmpp_edge::{NoMemory, Text};
+use xmpp_jid::{JidFault, resource_in_normal_form};
+use xmpp_payload::{BINDING, child_text_or_empty};
+use xmpp_replies::{Envelope, StreamCondition, bound, footer, refusal, stream_error};
+use xmpp_resume::Ended;
+use xmpp_stanza::{Condition, ErrorKind, StanzaError};
+use xmpp_trees::Element;
+
+// The resource that the server chooses for a session.
+fn own_resource(alloc: Global, number: u64) -> Result<Text, NoMemory>
+    ensures { IfOk result (λ text. text ≡ 114 ∷ hex16_of number) }
+{
+    match str::from_utf8(&hex16(number)) {
+        Ok(digits) => Ok(Text::from(format!(in alloc; "r{digits}")?)),
+        Err(_) => unreachable!(),
+    }
+}
+
+// A resource in normal form. `None` where it has none.
+fn normal_resource(alloc: Global, given: &str) -> Result<Option<Text>, NoMemory>
+    ensures { IfOk result (λ resource. resource ≡ result_ok (resource_form given.now)) }
+{
+    match resource_in_normal_form(alloc, given) {
+        Ok(form) => Ok(Some(form)),
+        Err(JidFault::NoMemory) => Err(NoMemory),
+        Err(_) => Ok(None),
+    }
+}
+
+// The resource of a session with a number. `None` where what is asked for is none.
+fn chosen_resource(alloc: Global, number: u64, asked: &str) -> Result<Option<Text>, NoMemory>
+    ensures { IfOk result (λ resource. resource ≡ result_ok (chosen number asked.now)) }
+{
+    if asked.is_empty() {
+        Ok(Some(own_resource(alloc, number)?))
+    } else {
+        normal_resource(alloc, asked)
+    }
+}
+
+fn bad_request() -> StanzaError
+    ensures { result ≡ Bindings.bad_request }
+{
+    StanzaError {
+        kind: ErrorKind::Modify,
+        condition: Condition::BadRequest,
+    }
+}
+
+// The connection of a session that ended.
+fn former_of(ended: Option<Ended>) -> Option<u64>
+    ensures { result ≡ Bindings.former_of ended }
+{
+    match ended {
+        Some(ended) => ended.conn,
+        None => None,
+    }
+}
+
+// A resource that is none.
+fn refuse_bind(desk: &mut Desk, conn: u64, id: &str) -> Result<(), NoMemory>
+    ensures ok { OnOk result (step_of desk.new ≡ acted written_item (Say conn (written_item (iq_error_item (record { from = None; to = None; id = id.now }) Bindings.bad_request)) ∷ []) (step_of desk.old)) }
+    ensures err { OnErr result (step_of desk.new ≡ step_of desk.old) }
+{
+    desk.out.reserve(1)?;
+    let envelope = Envelope {
+        from: None,
+        to: None,
+        id,
+    };
+    let answer = refusal(desk.alloc, &envelope, &bad_request())?;
+    desk.put(conn, answer);
+    Ok(())
+}
+
+// A session is bound, and the older one with its name ends.
+fn bind_session(
+    desk: &mut Desk,
+    conn: u64,
+    account: u32,
+    id: &str,
+    resource: Text,
+) -> Result<(), NoMemory>
+    requires { session_at conn (hall_of desk.old).sessions ≡ None }
+    ensures ok { OnOk result (step_of desk.new ≡ acted written_item (binding_as written_item conn account id.now (Some resource) (hall_of desk.old)) (step_of desk.old)) }
+    ensures err { OnErr result (step_of desk.new ≡ step_of desk.old) }
+{
+    desk.out.reserve(4)?;
+    reserve_seat(desk, account)?;
+    let error = stream_error(desk.alloc, StreamCondition::Conflict)?;
+    let footer = footer(desk.alloc)?;
+    let jid = full_address(desk, account, resource.as_str())?;
+    let answer = bound(desk.alloc, id, jid.as_str())?;
+    let session = desk.live.bind(account, resource, conn);
+    part_where(desk, former_of(session.ended), error, footer);
+    desk.put(conn, answer);
+    Ok(())
+}
+
+// Ready: an `iq` of type `set` with a child `bind`.
+pub(crate) fn on_bind(
+    desk: &mut Desk,
+    conn: u64,
+    account: u32,
+    id: &str,
+    bind: &Element,
+) -> Result<(), NoMemory>
+    requires { session_at conn (hall_of desk.old).sessions ≡ None }
+    ensures ok { OnOk result (step_of desk.new ≡ acted written_item (at_bind written_item conn account id.now (elem_view bind.now) (hall_of desk.old)) (step_of desk.old)) }
+    ensures err { OnErr result (step_of desk.new ≡ step_of desk.old) }
+{
+    let asked = child_text_or_empty(desk.alloc, bind, BINDING, "resource")?;
+    match chosen_resource(desk.alloc, desk.live.next_number(), asked.as_str())? {
+        Some(resource) => bind_session(desk, conn, account, id, resource),
+        None => refuse_bind(desk, conn, id),
+    }
+}
