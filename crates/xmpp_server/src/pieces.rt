@@ -1,5 +1,5 @@
 //! The bytes of a connection: a framer makes items of them, which are handled in order (RFC 6120, section 4).
-ghost use Rattle.std.specs.Prelude.{◌≡◌, [], drop, IfSome, IsSome, OnErr, OnOk};
+ghost use Rattle.std.specs.Prelude.{◌≡◌, [], None, drop, IfSome, IsOk, IsSome, OnErr, OnOk};
 ghost use Rattle.xmpp_framing.specs.Machine.{run};
 ghost use Rattle.xmpp_framing.specs.States.{Turn, turn};
 ghost use Rattle.xmpp_server.specs.Events.{Framers, IsAfterBytes, Stops, at_fault, begun, dropped, fault_condition, framer_at, turn_of, whole};
@@ -159,7 +159,7 @@ fn drop_news(framers: &mut BTreeMap<u64, Framer>, outputs: &[Output], from: usiz
 }
 
 /// The bytes of an event, and then the framers of connections that were shut are dropped.
-#[tactic(auto, using(crate::proofs::Feeding::event_done, crate::proofs::Feeding::event_stopped, crate::proofs::Feeding::outs_length))]
+#[tactic(auto, using(crate::proofs::Feeding::event_done, crate::proofs::Feeding::event_stopped, crate::proofs::Feeding::outs_length, crate::proofs::Kept::unknown_is_ok))]
 pub(crate) fn on_event(
     desk: &mut Desk,
     framers: &mut BTreeMap<u64, Framer>,
@@ -168,6 +168,7 @@ pub(crate) fn on_event(
     now: u64,
 ) -> Result<(), NoMemory>
     ensures ok { OnOk result (IsAfterBytes written_item conn piece.now now (whole (hall_of desk.old) framers.old.entries) (outs_of desk.old.out.items) (whole (hall_of desk.new) framers.new.entries) (outs_of desk.new.out.items)) }
+    ensures unknown { framer_at conn framers.old.entries ≡ None → IsOk result }
     ensures err { OnErr result (Stops written_item conn piece.now now (framer_at conn framers.old.entries) (whole (hall_of desk.old) framers.old.entries) (outs_of desk.old.out.items) (whole (hall_of desk.new) framers.new.entries) (outs_of desk.new.out.items)) }
 {
     let from = desk.out.as_slice().len();

@@ -1,5 +1,5 @@
 //! The server.
-ghost use Rattle.std.specs.Prelude.{◌≡◌, ◌≢◌, ◌<◌, ◌≤◌, ◌^◌, None, Some, length, IfErr, IfOk, OnErr, OnOk};
+ghost use Rattle.std.specs.Prelude.{◌≡◌, ◌≢◌, ◌<◌, ◌≤◌, ◌^◌, None, Some, length, IfErr, IfOk, IsOk, OnErr, OnOk};
 ghost use Rattle.std.specs.Option.{option_copied, option_map};
 ghost use Rattle.xmpp_server.specs.Configs.{at_start, config_fault};
 ghost use Rattle.xmpp_server.specs.Events.{IsAfterBytes, Stops, after_connect, after_gone, framer_at, holds_part};
@@ -115,6 +115,7 @@ impl Server {
         ensures ok { OnOk result (IsAfterBytes written_item conn piece.now now self.old (outs_of outputs.old.items) self.new (outs_of outputs.new.items)) }
         ensures err { OnErr result (Stops written_item conn piece.now now (framer_at conn self.old.framers) self.old (outs_of outputs.old.items) self.new (outs_of outputs.new.items)) }
         ensures kept { IsFront (outs_of outputs.old.items) (outs_of outputs.new.items) }
+        ensures unknown { framer_at conn self.old.framers ≡ None → IsOk result }
     {
         mem::swap(&mut self.desk.out, outputs);
         let result = on_event(&mut self.desk, &mut self.framers, conn, piece, now);

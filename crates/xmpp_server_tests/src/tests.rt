@@ -1,0 +1,43 @@
+// What a server puts out, and what it tells of itself (RFC 6120, section 4).
+use std::alloc::Global;
+use xmpp_edge::{NoMemory, Text};
+use xmpp_login::AccountList;
+use xmpp_server::{Config, Outputs, Server};
+
+const HEADER: &[u8] =
+    b"<stream:stream to='chat.example' version='1.0' xmlns='jabber:client' xmlns:stream='http://etherx.jabber.org/streams'>";
+
+// A server without accounts.
+fn server(alloc: Global) -> Result<Option<Server>, NoMemory> {
+    let config = Config {
+        domain: Text::from_str(alloc, "chat.example")?,
+        accounts: AccountList::new(alloc),
+        keep: 10,
+    };
+    Ok(Server::new(alloc, config).ok())
+}
+
+// How many outputs there are behind a header and the beginning of an element, and whether that is told of.
+fn begun(server: &mut Server, outputs: &mut Outputs) -> Result<(usize, bool), NoMemory> {
+    server.bytes(1, HEADER, 6, outputs)?;
+    server.bytes(1, b"<au", 7, outputs)?;
+    Ok((outputs.as_slice().len(), server.part(1)))
+}
+
+// The same of a server with one connection, which then goes.
+fn answers(alloc: Global) -> Result<Option<(usize, bool)>, NoMemory> {
+    let Some(mut server) = server(alloc)? else {
+        return Ok(None);
+    };
+    server.connect(1, &[7; 24], 5)?;
+    let mut outputs = Outputs::new(alloc);
+    let told = begun(&mut server, &mut outputs)?;
+    server.gone(1, 8);
+    Ok(Some(told))
+}
+
+#[test]
+fn a_header_is_answered(rt: HostRuntime) -> Result<(), NoMemory> {
+    assert!(rt; answers(rt.alloc())? == Some((2, true)));
+    Ok(())
+}
