@@ -7,16 +7,6 @@ use xmpp_server::{Config, Outputs, Server};
 const HEADER: &[u8] =
     b"<stream:stream to='chat.example' version='1.0' xmlns='jabber:client' xmlns:stream='http://etherx.jabber.org/streams'>";
 
-// A server without accounts.
-fn server(alloc: Global) -> Result<Option<Server>, NoMemory> {
-    let config = Config {
-        domain: Text::from_str(alloc, "chat.example")?,
-        accounts: AccountList::new(alloc),
-        keep: 10,
-    };
-    Ok(Server::new(alloc, config).ok())
-}
-
 // How many outputs there are behind a header and the beginning of an element, and whether that is told of.
 fn begun(server: &mut Server, outputs: &mut Outputs) -> Result<(usize, bool), NoMemory> {
     server.bytes(1, HEADER, 6, outputs)?;
@@ -24,10 +14,16 @@ fn begun(server: &mut Server, outputs: &mut Outputs) -> Result<(usize, bool), No
     Ok((outputs.as_slice().len(), server.part(1)))
 }
 
-// The same of a server with one connection, which then goes.
+// The same of a server without accounts, with one connection, which then goes.
 fn answers(alloc: Global) -> Result<Option<(usize, bool)>, NoMemory> {
-    let Some(mut server) = server(alloc)? else {
-        return Ok(None);
+    let config = Config {
+        domain: Text::from_str(alloc, "chat.example")?,
+        accounts: AccountList::new(alloc),
+        keep: 10,
+    };
+    let mut server = match Server::new(alloc, config) {
+        Ok(server) => server,
+        Err(_) => return Ok(None),
     };
     server.connect(1, &[7; 24], 5)?;
     let mut outputs = Outputs::new(alloc);
