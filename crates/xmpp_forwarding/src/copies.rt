@@ -31,7 +31,7 @@ fn carbon_name(sent: bool) -> &'static str
 
 impl CarbonCopy<'_> {
     /// What is inside each copy, for whichever session: `sent` or `received` around the message and its moment. It is
-    /// written once for all of them, and nothing of the message is copied. A moment past `LAST_MOMENT` is written as that.
+    /// written once for all of them, and no text of the payload is copied. A moment past `LAST_MOMENT` is written as that.
     pub fn inside(&self, alloc: Global) -> Result<Bytes, NoMemory>
         ensures { IfOk result (λ b. b.items ≡ copied_text (copy_view self.now)) }
     {

@@ -158,7 +158,7 @@ pub(crate) fn write_passed(
 
 /// A message as all sessions of an account get it: from and to the addresses that it goes on with; without any
 /// `stanza-id` that somebody else gave in the account's name (XEP-0359, section 5); and, where the account's archive has
-/// it, with the id of its entry after all else (XEP-0359, section 3.1). Nothing of the message is copied.
+/// it, with the id of its entry after all else (XEP-0359, section 3.1). No tree and no text of the payload is copied.
 pub fn passed(alloc: Global, message: &Addressed<'_>, filed: &Filed<'_>) -> Result<Bytes, NoMemory>
     ensures { IfOk result (λ b. b.items ≡ passed_text filed.now.by.now filed.now.number (addressed_view message.now)) }
 {
