@@ -1,0 +1,31 @@
+-- What a row of the login answers as bytes is what it puts and how it goes on.
+use Rattle.std.proofs.Common.{◌≡◌, ℕ, List, Option, Some, None, ap, refl, ◌∙◌}
+use Rattle.xmpp_client.specs.Clients.{Turn}
+use Rattle.xmpp_client.specs.Feeds.{Fed}
+use Rattle.xmpp_client.specs.LoginSteps.{follows, goes_on}
+use Rattle.xmpp_client.specs.Speech.{in_bytes, uttered_where}
+use Rattle.xmpp_client.specs.Turns.{puts}
+use Rattle.xmpp_client.specs.UserCalls.{dials}
+use Rattle.xmpp_client_login.specs.LoginRows.{begin_row}
+use Rattle.xmpp_client_login.specs.Puts.{Row, SpelledRow, put_bytes, seen, spelled}
+use Rattle.xmpp_client_login.specs.declared.answers.Answer.{Answer}
+use Rattle.xmpp_framing.specs.Limits.{client_limits}
+use Rattle.xmpp_framing.specs.States.{from_start}
+use Rattle.xmpp_writer.specs.Items.{ItemOut}
+
+uttered_bytes : (put : Option ItemOut) → put_bytes put ≡ uttered_where in_bytes put
+uttered_bytes None = refl
+uttered_bytes (Some item) = refl
+
+pub followed : (t now : Turn (List ℕ) ℕ) (a : Answer) (row : Row) → now ≡ goes_on (puts t a.bytes.items) a.next → seen a ≡ spelled row → now ≡ follows in_bytes t row
+followed t now a row is same =
+    is ∙ ap (λ (s : SpelledRow). goes_on (puts t s.bytes) s.next) same ∙ ap (λ bytes. goes_on (puts t bytes) row.next) (uttered_bytes row.put)
+
+-- what a login begins with goes out on the new connection
+pub dialed : (f new : Fed (List ℕ) ℕ) (now : Turn (List ℕ) ℕ) (entropy : List ℕ) → now ≡ follows in_bytes f.turn (begin_row f.turn.client.account.login.domain entropy)
+    → new ≡ record { framer = Some (from_start client_limits); turn = now } → new ≡ dials in_bytes entropy f
+dialed f new now entropy same is = is ∙ ap (λ (t : Turn (List ℕ) ℕ). record { framer = Some (from_start client_limits); turn = t }) same
+
+pub begun_as : (t now : Turn (List ℕ) ℕ) (a : Answer) (domain given entropy : List ℕ) → now ≡ goes_on (puts t a.bytes.items) a.next → given ≡ domain → seen a ≡ spelled (begin_row given entropy)
+    → now ≡ follows in_bytes t (begin_row domain entropy)
+begun_as t now a domain given entropy is same read = followed t now a (begin_row domain entropy) is (read ∙ ap (λ d. spelled (begin_row d entropy)) same)

@@ -1,0 +1,2 @@
+pub mod PageQueries
+mod Worked

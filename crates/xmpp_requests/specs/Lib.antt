@@ -1,0 +1,3 @@
+-- ---- what a client says, which public clauses cite
+pub mod Sessions
+pub mod Messages
