@@ -45,13 +45,18 @@ impl<T> ListOf<T> {
         self.items.as_slice()
     }
 
-    /// Makes `spare` at least `n`, and never lowers it.
+    /// Makes `spare` at least `n`, and never lowers it. A list that has no room takes just so much: most lists get all
+    /// their items at once.
     pub fn reserve(&mut self, n: usize) -> Result<(), NoMemory>
         ensures ok { OnOk result (n ≤ self.new.spare) }
         ensures items { self.new.items ≡ self.old.items }
         ensures kept { self.old.spare ≤ self.new.spare }
     {
-        self.items.reserve(n)?;
+        if self.items.capacity() == 0 {
+            self.items.reserve_exact(n)?;
+        } else {
+            self.items.reserve(n)?;
+        }
         Ok(())
     }
 
@@ -114,6 +119,7 @@ impl<T: Copied + Drop> ListOf<T> {
         ensures { IfOk result (λ copy. copy.items ≡ self.now.items) }
     {
         let mut copy = ListOf::new(alloc);
+        copy.reserve(self.items.len())?;
         for item in self.items.as_slice() {
             copy.push(item.copied(alloc)?)?;
         }

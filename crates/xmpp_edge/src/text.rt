@@ -3,6 +3,7 @@ ghost use Rattle.std.specs.Prelude.{◌≡◌, [], IfOk};
 
 use crate::fault::NoMemory;
 use crate::list::Copied;
+use arrayvec::ArrayString;
 use std::alloc::Global;
 use std::fmt;
 use std::marker::Model;
@@ -11,6 +12,8 @@ use std::rc::RcStr;
 /// How a text holds its characters.
 #[derive(Drop)]
 enum Characters {
+    /// They are few, and stand in the text itself.
+    Short(ArrayString<16>),
     /// It alone has them.
     Owned(String),
     /// Copies of it have them too.
@@ -46,9 +49,11 @@ impl Text {
     pub fn from_str(alloc: Global, s: &str) -> Result<Text, NoMemory>
         ensures { IfOk result (λ t. t ≡ s.now) }
     {
-        Ok(Text {
-            characters: Characters::Owned(String::from_str(alloc, s)?),
-        })
+        let characters = match ArrayString::from(s) {
+            Ok(short) => Characters::Short(short),
+            Err(_) => Characters::Owned(String::from_str(alloc, s)?),
+        };
+        Ok(Text { characters })
     }
 
     /// The same text, so held that its copies share its characters and take no memory for them. The characters
@@ -60,9 +65,7 @@ impl Text {
             Characters::Owned(characters) => Ok(Text {
                 characters: Characters::Shared(RcStr::from_string(characters)?),
             }),
-            Characters::Shared(characters) => Ok(Text {
-                characters: Characters::Shared(characters),
-            }),
+            characters => Ok(Text { characters }),
         }
     }
 
@@ -71,6 +74,7 @@ impl Text {
         ensures { result.now ≡ self.now }
     {
         match &self.characters {
+            Characters::Short(characters) => characters.as_str(),
             Characters::Owned(characters) => characters.as_str(),
             Characters::Shared(characters) => characters.as_str(),
         }
@@ -92,6 +96,9 @@ impl From<String> for Text {
 impl Copied for Text {
     fn copied(&self, alloc: Global) -> Result<Text, NoMemory> {
         match &self.characters {
+            Characters::Short(characters) => Ok(Text {
+                characters: Characters::Short(*characters),
+            }),
             Characters::Owned(characters) => Text::from_str(alloc, characters.as_str()),
             Characters::Shared(characters) => Ok(Text {
                 characters: Characters::Shared(characters.clone()?),

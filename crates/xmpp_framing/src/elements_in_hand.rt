@@ -29,7 +29,7 @@ fn attrs_of(alloc: Global, attributes: Vec<ExpandedAttribute>) -> Result<Attrs, 
         let ExpandedAttribute { ns, name, value } = attribute;
         attrs.push(Attr { ns, name, value })?;
     }
-    tidy_attrs(alloc, attrs)
+    tidy_attrs(attrs)
 }
 
 // An element that contains nothing yet.

@@ -96,7 +96,7 @@ fn drop_repeats(attrs: &mut Vec<Attr>)
 }
 
 /// The attributes in the order of their names, of several with one name the first, moved.
-pub fn tidy_attrs(alloc: Global, attrs: Attrs) -> Result<Attrs, NoMemory>
+pub fn tidy_attrs(attrs: Attrs) -> Result<Attrs, NoMemory>
     ensures { IfOk result (λ kept. kept.items ≡ sorted_attributes attrs.items) }
 {
     if are_in_order(attrs.as_slice()) {
@@ -105,10 +105,5 @@ pub fn tidy_attrs(alloc: Global, attrs: Attrs) -> Result<Attrs, NoMemory>
     let mut given = attrs.into_items();
     sort_by_name(&mut given)?;
     drop_repeats(&mut given);
-    let mut kept = Attrs::new(alloc);
-    kept.reserve(given.len())?;
-    for attr in given {
-        kept.push(attr)?;
-    }
-    Ok(kept)
+    Ok(Attrs::from(given))
 }

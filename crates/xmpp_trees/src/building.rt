@@ -1,4 +1,4 @@
-ghost use Rattle.std.specs.Prelude.{◌≡◌, [], IfOk, OnOk, OnErr};
+ghost use Rattle.std.specs.Prelude.{◌≡◌, [], ◌∷◌, ◌++◌, IfOk, OnOk, OnErr};
 ghost use Rattle.xmpp_trees.specs.Trees.{element, no_nodes, child, text, with_attribute, with_nodes};
 ghost use Rattle.xmpp_trees.specs.Views.{elem_view, node_view, nodes_view};
 
@@ -6,6 +6,18 @@ use crate::attributes::{Attr, Attrs};
 use crate::elements::{Element, Node, Nodes};
 use std::alloc::Global;
 use xmpp_edge::{NoMemory, Text};
+
+// Adds a node. Most elements that contain something contain one node: the first takes room for itself alone.
+fn push_to(children: &mut Vec<Node>, node: Node) -> Result<(), NoMemory>
+    ensures ok { OnOk result (children.new.items ≡ children.old.items ++ node ∷ []) }
+    ensures err { OnErr result (children.new.items ≡ children.old.items) }
+{
+    if children.capacity() == 0 {
+        children.reserve_exact(1)?;
+    }
+    children.push(node)?;
+    Ok(())
+}
 
 impl Element {
     /// An element without attributes that contains nothing. It takes no memory.
@@ -43,7 +55,7 @@ impl Element {
         ensures ok { OnOk result (elem_view self.new ≡ with_nodes (elem_view self.old) (node_view node)) }
         ensures err { OnErr result (elem_view self.new ≡ elem_view self.old) }
     {
-        self.children.push(node)?;
+        push_to(&mut self.children, node)?;
         Ok(())
     }
 

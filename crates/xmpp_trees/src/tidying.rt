@@ -52,7 +52,7 @@ pub(crate) fn tidy(alloc: Global, element: &mut Element) -> Result<(), NoMemory>
         tidy_node(alloc, &mut element.children[i])?;
     }
     let attrs = mem::replace(&mut element.attrs, Attrs::new(alloc));
-    element.attrs = tidy_attrs(alloc, attrs)?;
+    element.attrs = tidy_attrs(attrs)?;
     let children = mem::replace(&mut element.children, Vec::new(alloc));
     element.children = join_texts(alloc, children)?;
     Ok(())
