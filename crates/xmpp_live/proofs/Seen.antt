@@ -1,8 +1,8 @@
 -- Sessions as lists, and the rows and queues that stand for them.
-use Rattle.std.proofs.Common.{◌≡◌, ◌≢◌, ℕ, ◌+◌, ◌≤◌, ◌==◌, Bool, true, false, not, List, [], ◌∷◌, ◌++◌, Option, Some, None, Result, Ok, Err, length, map, drop, refl, sym, ap, subst, ◌∙◌, inl, inr, if◌then◌else◌, IsSome, IfSome, OnOk, OnErr}
+use Rattle.std.proofs.Common.{◌≡◌, ◌≢◌, ℕ, ◌+◌, ◌≤◌, ◌==◌, Bool, true, false, not, List, [], ◌∷◌, ◌++◌, Option, Some, None, Result, Ok, Err, length, map, drop, refl, sym, ap, subst, ◌∙◌, inl, inr, if◌then◌else◌, IsSome, IfSome, IfOk, OnOk, OnErr}
 use Rattle.std.proofs.lemmas.Bool.{cases_Bool, cases_eq, false≢true}
 use Rattle.std.proofs.lemmas.Option.{none-some, same_Some}
-use Rattle.std.specs.List.{concat, filter, find}
+use Rattle.std.specs.List.{filter, find}
 use Rattle.std.specs.Option.{option_map, unwrap_or}
 use Rattle.xmpp_acks.specs.Counters.{AckView, ahead}
 use Rattle.xmpp_acks.specs.declared.end.TooHigh.{TooHigh as TooHighCount}
@@ -10,7 +10,8 @@ use Rattle.xmpp_live.specs.Kept.{all_seen, seen_in}
 use Rattle.xmpp_live.specs.Rule.{IsRule, RisesTo}
 use Rattle.xmpp_live.specs.Sessions.{Session, acknowledged, after_resume, bound, fresh, is_at, is_expired, is_named, is_numbered, is_resumed_by, less, lost, number_of, parked, resent, resume_answer, resumes, session_at, session_of, session_resumed, told, told_of, unexpired, waits, with_session, without, without_at}
 use Rattle.xmpp_live.specs.declared.told.Told.{Told}
-use Rattle.xmpp_pool.specs.Queues.{PoolView, list_of, stanzas_of}
+use Rattle.xmpp_edge.specs.Listed.{Listed}
+use Rattle.xmpp_pool.specs.Queues.{PoolView, list_of, stanzas_in, stanzas_of}
 use Rattle.xmpp_resume.proofs.BindFacts.{parks}
 use Rattle.xmpp_resume.proofs.ResumeFacts.{ack_err, ack_ok, leaves_of}
 use Rattle.xmpp_resume.proofs.RowFacts.{eqb_other, eqb_same, find_passes, found_by_number, number_is, option_map_some, row_of_first, row_of_rest, same_from_eqb, same_row, with_row_id}
@@ -459,14 +460,14 @@ bound_seen next account conn queue resource rows old new table housed drops empt
     ∙ ap (λ ss. ss ++ fresh next account resource conn ∷ []) (less_seen next (is_named account resource) rows old new table housed drops)
 
 -- what is sent again
-pub resent_seen : {T E : Type 0} (t : Result T E) (h n k q : ℕ) (e : AckView) (before after : List ℕ) (pool : PoolView) (rows : List Row) (sessions : List (Session (List ℕ))) → all_seen pool rows ≡ sessions → Some e ≡ option_map (λ r. r.end) (row_of n rows) →
-    q ≡ e.queue → k ≡ ahead h e.acked → OnOk t (after ≡ before ++ concat (drop k (list_of q pool))) → OnOk t (IfSome (session_of n sessions) (λ s. after ≡ before ++ concat (resent h s)))
-resent_seen (Err x) h n k q e before after pool rows sessions seen end queue count ok = tt
-resent_seen (Ok x) h n k q e before after pool rows sessions seen end queue count ok =
+pub resent_seen : {E : Type 0} (t : Result (Listed (Listed ℕ)) E) (h n k q : ℕ) (e : AckView) (pool : PoolView) (rows : List Row) (sessions : List (Session (List ℕ))) → all_seen pool rows ≡ sessions → Some e ≡ option_map (λ r. r.end) (row_of n rows) →
+    q ≡ e.queue → k ≡ ahead h e.acked → IfOk t (λ list. stanzas_in list.items ≡ drop k (list_of q pool)) → IfOk t (λ list. IfSome (session_of n sessions) (λ s. stanzas_in list.items ≡ resent h s))
+resent_seen (Err x) h n k q e pool rows sessions seen end queue count ok = tt
+resent_seen (Ok list) h n k q e pool rows sessions seen end queue count ok =
     let (r, found, is) = option_map_some (λ (r : Row). r.end) (row_of n rows) e (sym end) in
     let rest : drop k (list_of q pool) ≡ drop (ahead h r.end.acked) (list_of r.end.queue pool) = rw (count, queue, is) refl in
-    let all : after ≡ before ++ concat (resent h (seen_in pool r)) = ok ∙ ap (λ w. before ++ concat w) rest in
-    if_session (λ s. after ≡ before ++ concat (resent h s)) n pool rows sessions seen (subst (λ o. IfSome o (λ r. after ≡ before ++ concat (resent h (seen_in pool r)))) (sym found) all)
+    let all : stanzas_in list.items ≡ resent h (seen_in pool r) = ok ∙ rest in
+    if_session (λ s. stanzas_in list.items ≡ resent h s) n pool rows sessions seen (subst (λ o. IfSome o (λ r. stanzas_in list.items ≡ resent h (seen_in pool r))) (sym found) all)
 
 -- ---- the rule
 

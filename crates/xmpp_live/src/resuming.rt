@@ -1,11 +1,12 @@
 //! Sessions that are resumed (XEP-0198, section 5).
-ghost use Rattle.std.specs.Prelude.{◌≡◌, ◌≤◌, ◌++◌, None, Some, IfSome, IsSome, OnErr, OnOk};
-ghost use Rattle.std.specs.List.{concat};
+ghost use Rattle.std.specs.Prelude.{◌≡◌, ◌≤◌, None, Some, IfOk, IfSome, IsSome, OnErr, OnOk};
 ghost use Rattle.xmpp_acks.specs.Counters.{ahead};
+ghost use Rattle.xmpp_pool.specs.Queues.{stanzas_in};
 ghost use Rattle.xmpp_live.specs.Sessions.{after_resume, resent, resume_answer, session_at, session_of, session_resumed};
 
 use crate::live::Live;
-use xmpp_edge::{Bytes, NoMemory};
+use std::alloc::Global;
+use xmpp_edge::{Bytes, ListOf, NoMemory};
 use xmpp_resume::{ResumeFault, ResumeOk};
 
 // How many stanzas more are handled where the count `h` is stated than were acknowledged before, modulo 2^32.
@@ -62,18 +63,17 @@ impl Live {
         answer
     }
 
-    /// Appends the bytes of what a resumption with the count `h` sends again: of a session's stanzas that wait but those up
-    /// to that count, in order. It goes through the stanzas once to count and once to append. A refusal appends nothing.
-    pub fn append_resent(&self, number: u64, h: u32, out: &mut Bytes) -> Result<(), NoMemory>
+    /// Copies of what a resumption with the count `h` sends again: of a session's stanzas that wait but those up to that
+    /// count, in order. It goes through the stanzas once.
+    pub fn resent(&self, alloc: Global, number: u64, h: u32) -> Result<ListOf<Bytes>, NoMemory>
         requires lives { IsSome (session_of number self.now.sessions) }
-        ensures ok { OnOk result (IfSome (session_of number self.now.sessions) (λ s. out.new.items ≡ out.old.items ++ concat (resent h s))) }
-        ensures err { OnErr result (out.new.items ≡ out.old.items) }
+        ensures { IfOk result (λ stanzas. IfSome (session_of number self.now.sessions) (λ s. stanzas_in stanzas.items ≡ resent h s)) }
     {
         let end = match self.table.ack_end(number) {
             Some(end) => end,
             None => unreachable!(),
         };
         let handled = handled_more(h, end.acked());
-        self.pool.append_from(end.queue(), handled, out)
+        self.pool.stanzas_from(alloc, end.queue(), handled)
     }
 }

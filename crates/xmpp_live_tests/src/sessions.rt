@@ -58,10 +58,13 @@ fn lost(alloc: Global) -> Result<Live, Fail> {
 
 // What a resumption with a count sends again.
 fn resent(alloc: Global, live: &Live, h: u32) -> Result<Bytes, Fail> {
-    let mut out = Bytes::new(alloc);
-    match live.told(1) {
-        Some(_) => live.append_resent(1, h, &mut out)?,
+    let stanzas = match live.told(1) {
+        Some(_) => live.resent(alloc, 1, h)?,
         None => return Err(Fail::from("no session")),
+    };
+    let mut out = Bytes::new(alloc);
+    for stanza in stanzas.as_slice() {
+        out.append(stanza.as_slice())?;
     }
     Ok(out)
 }

@@ -7,6 +7,8 @@ use Rattle.std.specs.List.{concat, slice_get}
 use Rattle.slab.specs.Slab.{Slab, ContainsKey, with_value}
 use Rattle.slab.proofs.SlabLemmas.{Updates-with_value}
 use Rattle.xmpp_pool.specs.Arena.{Slots, node_at, next_in, bytes_in, path, path_of, bytes_along, stanzas_at, Lacks, AreOnce, AreApart, AreHeld, EndsIn, IsLinked, LeavesOthers}
+use Rattle.xmpp_edge.specs.Listed.{Listed}
+use Rattle.xmpp_pool.specs.Queues.{stanzas_in}
 use Rattle.xmpp_pool.specs.declared.nodes.Ends.{Ends}
 use Rattle.xmpp_pool.specs.declared.nodes.Node.{Node}
 
@@ -365,6 +367,9 @@ front_held s n at some held = rw (path_step s n at some) at held
 pub front_bytes : (s : Slots) (n at : ℕ) → 0 < n → concat (bytes_along s (path s n at)) ≡ bytes_in (node_at s at) ++ concat (bytes_along s (path s (n - 1) (next_in (node_at s at))))
 front_bytes s n at some = ap (λ places. concat (bytes_along s places)) (path_step s n at some)
 
+pub front_stanzas : (s : Slots) (n at : ℕ) → 0 < n → bytes_along s (path s n at) ≡ bytes_in (node_at s at) ∷ bytes_along s (path s (n - 1) (next_in (node_at s at)))
+front_stanzas s n at some = ap (bytes_along s) (path_step s n at some)
+
 -- ---- bytes on their way out: some now, and the rest later
 
 pub left_room : (all now first rest : List ℕ) (spare : ℕ) → all ≡ first ++ rest → now ≡ first → length all ≤ spare → length now ≤ spare
@@ -383,3 +388,9 @@ left_sum all now first rest len new most due whole is was put =
   where
     arithmetic : (a b c : ℕ) → min (min (a + b) most + c) most ≡ min (a + (b + c)) most
     arithmetic a b c = omega arith
+
+-- the same of whole stanzas
+pub left_stanzas : (out new : List (Listed ℕ)) (copy : Listed ℕ) (first : List ℕ) (all rest due : List (List ℕ)) → all ≡ first ∷ rest → copy.items ≡ first → stanzas_in out ++ all ≡ due → new ≡ out ++ copy ∷ [] → stanzas_in new ++ rest ≡ due
+left_stanzas out new copy first all rest due whole is was put =
+    let added : stanzas_in new ≡ stanzas_in out ++ first ∷ [] = rw (put, map-append (λ (b : Listed ℕ). b.items) out (copy ∷ []), is) refl in
+    rw added (append_assoc (stanzas_in out) (first ∷ []) rest ∙ ap (λ l. stanzas_in out ++ l) (sym whole) ∙ was)

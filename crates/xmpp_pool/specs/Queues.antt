@@ -1,6 +1,7 @@
 -- Queues of stanzas in one pool: what was put and is not yet acknowledged (XEP-0198 section 4).
-use Rattle.std.specs.Prelude.{ℕ, ◌+◌, nat_eq, List, [], length, Option, IsSome, find, unwrap_or, sum_by}
+use Rattle.std.specs.Prelude.{ℕ, ◌+◌, nat_eq, List, [], length, map, Option, IsSome, find, unwrap_or, sum_by}
 use Rattle.std.specs.Option.{option_map}
+use Rattle.xmpp_edge.specs.Listed.{Listed}
 
 -- a queue that lives: its number, and the stanzas in it, the oldest first, each a list of bytes
 pub record QueueView : Type 0 where
@@ -28,6 +29,10 @@ Lives q pool = IsSome (stanzas_of q pool)
 -- the stanzas of a queue that lives
 abbrev pub list_of : ℕ → PoolView → List (List ℕ)
 list_of q pool = unwrap_or (stanzas_of q pool) []
+
+-- the stanzas that so many bytes are
+abbrev pub stanzas_in : List (Listed ℕ) → List (List ℕ)
+stanzas_in list = map (λ bytes. bytes.items) list
 
 -- how many stanzas wait in all, and how many more fit
 abbrev pub nodes_of : PoolView → ℕ

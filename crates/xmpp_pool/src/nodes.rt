@@ -1,11 +1,13 @@
 //! Queues of nodes in one arena.
 ghost use Rattle.std.specs.List.{concat};
-ghost use Rattle.std.specs.Prelude.{◌≡◌, ◌≢◌, ◌+◌, ◌-◌, ◌<◌, ◌≤◌, ◌^◌, ◌++◌, ◌∷◌, ℕ, IfSome, drop, length, min};
+ghost use Rattle.std.specs.Prelude.{◌≡◌, ◌≢◌, ◌+◌, ◌-◌, ◌<◌, ◌≤◌, ◌^◌, ◌++◌, ◌∷◌, ℕ, IfSome, drop, length, min, OnOk};
 ghost use Rattle.slab.specs.Slab.{ContainsKey, slab_len, with_value};
 ghost use Rattle.xmpp_pool.specs.Arena.{AreApart, AreHeld, IsLinked, LeavesOthers, bytes_along, bytes_in, next_in, node_at, path, path_of, stanzas_at};
+ghost use Rattle.xmpp_pool.specs.Queues.{stanzas_in};
 
 use slab::Slab;
-use xmpp_edge::Bytes;
+use std::alloc::Global;
+use xmpp_edge::{Bytes, ListOf, NoMemory};
 
 /// A stanza, and the place of the node behind it in its queue. The last node of a queue has any place there.
 #[derive(Drop)]
@@ -167,4 +169,25 @@ pub(crate) fn append_bytes(nodes: &Slab<Node>, first: usize, count: usize, out: 
         at = next_of(nodes, at);
         left -= 1;
     }
+}
+
+/// Adds copies of the stanzas of so many nodes, from this one on. A refusal leaves a part of them added.
+pub(crate) fn copy_stanzas(
+    alloc: Global,
+    nodes: &Slab<Node>,
+    first: usize,
+    count: usize,
+    out: &mut ListOf<Bytes>,
+) -> Result<(), NoMemory>
+    requires { AreHeld nodes.now.slots (path nodes.now.slots count first) }
+    ensures { OnOk result (stanzas_in out.new.items ≡ stanzas_in out.old.items ++ bytes_along nodes.now.slots (path nodes.now.slots count first)) }
+{
+    let mut at = first;
+    let mut left = count;
+    while left > 0 {
+        out.push(Bytes::from_slice(alloc, bytes_of(nodes, at).as_slice())?)?;
+        at = next_of(nodes, at);
+        left -= 1;
+    }
+    Ok(())
 }

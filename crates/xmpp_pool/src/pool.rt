@@ -3,14 +3,14 @@ ghost use Rattle.std.specs.HashMap as hash;
 ghost use Rattle.std.specs.Prelude.{◌≡◌, ◌≢◌, ℕ, ◌+◌, ◌<◌, ◌≤◌, ◌^◌, ◌↔◌, [], ◌∷◌, ◌++◌, drop, length, nat_eq, slice_get, IfOk, IfSome, IfNone, IsNone, IsSome, None, OnOk, OnErr, OnSome, Some, IsTrue};
 ghost use Rattle.std.specs.List.{concat};
 ghost use Rattle.xmpp_pool.specs.Arena.{held_in};
-ghost use Rattle.xmpp_pool.specs.Queues.{Lives, list_of, nodes_of, stanzas_of};
+ghost use Rattle.xmpp_pool.specs.Queues.{Lives, list_of, nodes_of, stanzas_in, stanzas_of};
 
-use crate::nodes::{Ends, Node, append_bytes, bytes_len, bytes_of};
+use crate::nodes::{Ends, Node, append_bytes, bytes_len, bytes_of, copy_stanzas};
 use slab::Slab;
 use std::alloc::Global;
 use std::collections::HashMap;
 use std::marker::Model;
-use xmpp_edge::{Bytes, NoMemory};
+use xmpp_edge::{Bytes, ListOf, NoMemory};
 
 /// The number of a queue. A pool gives them from 1 upward, each once.
 pub type QueueId = u64;
@@ -202,6 +202,28 @@ impl Pool {
         out.reserve(len)?;
         append_bytes(&self.nodes, first, count, out);
         Ok(())
+    }
+
+    /// Copies of all stanzas of a queue but the first `skip`, in order. It goes through the queue once.
+    pub fn stanzas_from(
+        &self,
+        alloc: Global,
+        queue: QueueId,
+        skip: u64,
+    ) -> Result<ListOf<Bytes>, NoMemory>
+        requires { Lives queue self.now }
+        ensures { IfOk result (λ stanzas. stanzas_in stanzas.items ≡ drop skip (list_of queue self.now)) }
+    {
+        let mut stanzas = ListOf::new(alloc);
+        let ends = ends_of(&self.ends, queue);
+        if ends.len as u64 <= skip {
+            return Ok(stanzas);
+        }
+        let first = ends.place(&self.nodes, skip as usize);
+        let count = ends.len - skip as usize;
+        stanzas.reserve(count)?;
+        copy_stanzas(alloc, &self.nodes, first, count, &mut stanzas)?;
+        Ok(stanzas)
     }
 
     /// Puts the stanzas of a queue behind those of another, in order, and leaves the first queue empty. It takes no
