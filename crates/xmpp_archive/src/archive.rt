@@ -1,14 +1,14 @@
 //! An account's archive (XEP-0313).
-ghost use Rattle.std.specs.Prelude.{◌≡◌, ◌+◌, ◌-◌, ◌<◌, ◌≤◌, ◌↔◌, ◌⊎◌, ◌∷◌, [], ◌++◌, length, map, drop, slice_get, IfSome, IfNone, IsNone, IsErrOf, OnOk, IsTrue};
+ghost use Rattle.std.specs.Prelude.{◌≡◌, ◌+◌, ◌-◌, ◌<◌, ◌≤◌, ◌↔◌, ◌⊎◌, ◌∷◌, [], ◌++◌, length, map, drop, slice_get, IfSome, IfNone, IsNone, IfOk, IsErrOf, OnOk, IsTrue};
 ghost use Rattle.std.specs.Option.{option_copied};
 ghost use Rattle.std.specs.VecDeque.{deque_len, deque_capacity};
 ghost use Rattle.xmpp_archive.specs.Chained.{IsChained};
-ghost use Rattle.xmpp_archive.specs.Entries.{AreKept, entry_numbered, newest, numbered};
+ghost use Rattle.xmpp_archive.specs.Entries.{AreKept, AreNumbered, entry_numbered, newest, numbered};
 ghost use Rattle.xmpp_archive.specs.Peers.{chain_ends, first_of, index_of, next_of, peer_of, previous_of};
 ghost use Rattle.xmpp_archive.specs.Rooms.{room_of};
 
 use crate::chains::{Chain, Links};
-use crate::entry::Entry;
+use crate::entry::{Entries, Entry};
 use std::alloc::Global;
 use std::collections::VecDeque;
 use std::error::Error;
@@ -121,7 +121,73 @@ fn make_room(entries: &mut VecDeque<Entry>, links: &mut Links) -> Result<(), NoM
     links.reserve()
 }
 
+/// Drops the oldest entries where more than `keep` stand.
+fn drop_past(entries: &mut VecDeque<Entry>, keep: u32)
+    ensures { entries.new.items ≡ newest keep entries.old.items }
+{
+    while entries.len() > keep as usize {
+        let _oldest = entries.pop_front();
+    }
+}
+
+/// Entries in order, the first of which has this number, and their links.
+#[derive(Drop)]
+struct Linked {
+    entries: VecDeque<Entry>,
+    links: Links,
+}
+
+/// Links entries in order, the first of which has this number.
+fn link_all(alloc: Global, owner: &str, first: u64, items: Vec<Entry>) -> Result<Linked, NoMemory>
+    requires positive { 1 ≤ first }
+    requires few { first + length items.items ≤ GREATEST_NUMBER + 1 }
+    ensures entries { IfOk result (λ l. l.entries.items ≡ items.items) }
+    ensures linked { IfOk result (λ l. IsChained first (map (peer_of owner.now) items.items) l.links.links.items l.links.chains.items) }
+{
+    let mut entries = VecDeque::new(alloc);
+    let mut links = Links::new(alloc);
+    for entry in items {
+        make_room(&mut entries, &mut links)?;
+        let number = first + entries.len() as u64;
+        links.link(owner, &entries, first, entry.peer(owner), number);
+        entries.push_back_reserved(entry);
+    }
+    Ok(Linked { entries, links })
+}
+
 impl Archive {
+    /// The archive of an account from entries that were kept, the last of which has the number `last`: of these the
+    /// newest `keep`.
+    pub fn restore(
+        alloc: Global,
+        owner: Text,
+        keep: u32,
+        last: u64,
+        entries: Entries,
+    ) -> Result<Archive, NoMemory>
+        requires keep { 1 ≤ keep }
+        requires numbers { AreNumbered last entries.items }
+        requires within { length entries.items ≤ last }
+        requires most { last ≤ GREATEST_NUMBER }
+        requires none { length entries.items ≡ 0 → last ≡ 0 }
+        ensures owner { IfOk result (λ a. a.owner ≡ owner) }
+        ensures keep { IfOk result (λ a. a.keep ≡ keep) }
+        ensures last { IfOk result (λ a. a.last ≡ last) }
+        ensures entries { IfOk result (λ a. a.entries ≡ newest keep entries.items) }
+    {
+        let mut kept = VecDeque::from_vec(entries.into_items());
+        drop_past(&mut kept, keep);
+        let first = last + 1 - kept.len() as u64;
+        let Linked { entries, links } = link_all(alloc, owner.as_str(), first, kept.into_vec())?;
+        Ok(Archive {
+            owner,
+            keep,
+            last,
+            entries,
+            links,
+        })
+    }
+
     /// An archive without entries, which keeps its newest `keep`. It takes no memory.
     pub fn new(alloc: Global, owner: Text, keep: u32) -> Archive
         requires keep { 1 ≤ keep }
