@@ -1,3 +1,6 @@
 -- ---- steps of the code
 pub mod Outputs
 pub mod Lengths
+pub mod AddressTexts
+-- ---- what is told of a session
+pub mod ToldFacts

@@ -6,7 +6,10 @@ pub mod Words
 -- ---- rows
 pub mod Streams
 pub mod Logins
+-- ---- handled stanzas
+pub mod Handling
 -- ---- moments
 pub mod Moments
 -- ---- view
 pub mod Seen
+pub mod Parcels

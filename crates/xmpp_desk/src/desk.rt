@@ -1,5 +1,5 @@
 //! What the server holds, and the small changes of it.
-ghost use Rattle.std.specs.Prelude.{◌≡◌, ◌+◌, ◌≤◌, OnErr, OnOk};
+ghost use Rattle.std.specs.Prelude.{◌≡◌, ◌+◌, ◌≤◌, Some, OnErr, OnOk};
 ghost use Rattle.xmpp_replies.specs.Streams.{footer_text};
 ghost use Rattle.xmpp_desk.specs.Moments.{at_moment, gone_at, with_fresh};
 ghost use Rattle.xmpp_desk.specs.Seen.{hall_of, step_of};
@@ -11,6 +11,7 @@ ghost use Rattle.xmpp_writer.specs.Items.{written_item};
 
 use crate::connection::{Connection, Phase, Stage, Standing, Tries};
 use crate::output::{Output, Outputs};
+use crate::stock::Stock;
 use std::alloc::Global;
 use std::collections::BTreeMap;
 use xmpp_archive::Archive;
@@ -30,10 +31,11 @@ pub struct Desk {
     pub conns: BTreeMap<u64, Connection>,
     pub moment: u64,
     pub out: Outputs,
+    pub stock: Stock,
 }
 
 impl Phase {
-    // The phase without the exchange.
+    /// The phase without the exchange.
     fn stage(&self) -> Stage
         ensures { result ≡ stage_of self.now }
     {
@@ -48,7 +50,7 @@ impl Phase {
 }
 
 impl Desk {
-    // Where a connection stands. `None` where it isn't open.
+    /// Where a connection stands (RFC 6120, sections 4 to 7). `None` exactly where it isn't open.
     pub fn standing(&self, conn: u64) -> Option<Standing>
         ensures { result ≡ standing_at conn (hall_of self.now) }
     {
@@ -62,24 +64,28 @@ impl Desk {
         }
     }
 
-    // Puts bytes out for a connection.
+    /// Puts bytes out for a connection: the last of the outputs. It takes no memory, and lowers the room for outputs by at
+    /// most 1.
     #[tactic(auto, using(crate::proofs::Outputs::outs_push))]
     pub fn put(&mut self, conn: u64, bytes: Bytes)
         requires { 1 ≤ self.old.out.spare }
         ensures step { step_of self.new ≡ Steps.put conn bytes.items (step_of self.old) }
         ensures live { self.new.live ≡ self.old.live }
+        ensures stock { self.new.stock ≡ self.old.stock }
         ensures room { self.old.out.spare ≤ self.new.out.spare + 1 }
     {
         self.out.push_reserved(Output::Put { conn, bytes });
     }
 
-    // Shuts a connection, whose session ends.
+    /// Shuts a connection: it is no longer known, the session on it ends, and that is put out. It takes no memory, and
+    /// lowers the room for outputs by at most 1.
     #[tactic(auto, using(crate::proofs::Outputs::outs_push))]
     pub fn shut(&mut self, conn: u64)
         requires { 1 ≤ self.old.out.spare }
         ensures step { step_of self.new ≡ Steps.shut conn (step_of self.old) }
         ensures live { self.old.live.room ≤ self.new.live.room }
         ensures seat { self.new.live.seat ≡ self.old.live.seat }
+        ensures stock { self.new.stock ≡ self.old.stock }
         ensures room { self.old.out.spare ≤ self.new.out.spare + 1 }
     {
         let _ = self.conns.remove(&conn);
@@ -87,13 +93,15 @@ impl Desk {
         self.out.push_reserved(Output::Shut { conn });
     }
 
-    // Ends the stream of a connection that got its header, with these words.
+    /// Ends the stream of a connection that got its header (RFC 6120, section 4.9.1): the stream error, the footer, and the
+    /// connection is shut. It takes no memory, and lowers the room for outputs by at most 3.
     pub fn part(&mut self, conn: u64, error: Bytes, footer: Bytes)
         requires room { 3 ≤ self.old.out.spare }
         requires footer { footer.items ≡ footer_text }
         ensures step { step_of self.new ≡ Steps.part written_item conn error.items (step_of self.old) }
         ensures live { self.old.live.room ≤ self.new.live.room }
         ensures seat { self.new.live.seat ≡ self.old.live.seat }
+        ensures stock { self.new.stock ≡ self.old.stock }
         ensures room { self.old.out.spare ≤ self.new.out.spare + 3 }
     {
         self.put(conn, error);
@@ -101,10 +109,11 @@ impl Desk {
         self.shut(conn);
     }
 
-    // A connection stands in another phase.
+    /// A connection stands in another phase. Nothing changes where it isn't open.
     pub fn enter(&mut self, conn: u64, phase: Phase)
         ensures step { step_of self.new ≡ in_hall (with_conn conn (in_phase phase)) (step_of self.old) }
         ensures live { self.new.live ≡ self.old.live }
+        ensures stock { self.new.stock ≡ self.old.stock }
         ensures room { self.new.out ≡ self.old.out }
     {
         match self.conns.get_mut(&conn) {
@@ -113,10 +122,11 @@ impl Desk {
         }
     }
 
-    // A login failed, and so many tries are left.
+    /// A login failed, and so many tries are left (RFC 6120, section 6.4.5). Nothing changes where the connection isn't open.
     pub fn fail(&mut self, conn: u64, left: Tries)
         ensures step { step_of self.new ≡ in_hall (with_conn conn (after_failure left)) (step_of self.old) }
         ensures live { self.new.live ≡ self.old.live }
+        ensures stock { self.new.stock ≡ self.old.stock }
         ensures room { self.new.out ≡ self.old.out }
     {
         match self.conns.get_mut(&conn) {
@@ -128,7 +138,20 @@ impl Desk {
         }
     }
 
-    // A connection comes.
+    /// Memory for one session of an account, and a number for it. `NoMemory` also where each number was given. On each
+    /// outcome the state and the outputs stay as they were.
+    pub fn reserve_seat(&mut self, account: u32) -> Result<(), NoMemory>
+        ensures ok { OnOk result (self.new.live.seat ≡ Some account) }
+        ensures step { step_of self.new ≡ step_of self.old }
+        ensures out { self.new.out ≡ self.old.out }
+    {
+        match self.live.reserve_seat(account) {
+            Ok(()) => Ok(()),
+            Err(_) => Err(NoMemory),
+        }
+    }
+
+    /// A connection comes, with the bytes that were drawn for it. A refusal leaves the state as it was.
     pub fn admit(&mut self, conn: u64, entropy: &[u8; 24]) -> Result<(), NoMemory>
         ensures ok { OnOk result (hall_of self.new ≡ with_fresh conn entropy.now (hall_of self.old)) }
         ensures err { OnErr result (hall_of self.new ≡ hall_of self.old) }
@@ -142,7 +165,8 @@ impl Desk {
         Ok(())
     }
 
-    // The moment moves on, and sessions that were parked for too long end.
+    /// The moment moves on, to `now` in milliseconds since 1970 where that is later, and the sessions that were parked for
+    /// too long end (XEP-0198, section 5). It takes no memory.
     pub fn begin(&mut self, now: u64)
         ensures hall { hall_of self.new ≡ at_moment now (hall_of self.old) }
         ensures out { self.new.out ≡ self.old.out }
@@ -151,7 +175,8 @@ impl Desk {
         self.live.expire(self.moment);
     }
 
-    // A connection is gone.
+    /// A connection is gone: its session is parked where it can be resumed (XEP-0198, section 5), and else ends. It takes no
+    /// memory.
     pub fn lose(&mut self, conn: u64)
         ensures hall { hall_of self.new ≡ gone_at conn (hall_of self.old) }
         ensures out { self.new.out ≡ self.old.out }

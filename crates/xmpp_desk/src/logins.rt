@@ -188,7 +188,8 @@ impl Desk {
         }
     }
 
-    // Login: an element.
+    /// An element where a login is awaited (RFC 6120, section 6.4.2): `auth` gets its challenge or a failure, `abort` a
+    /// failure, a stanza ends the stream, and all else goes as by `on_any`. A refusal leaves all as it was.
     pub fn on_login(&mut self, conn: u64, word: &Word, standing: &Standing) -> Result<(), NoMemory>
         ensures ok { OnOk result (step_of self.new ≡ acted written_item (at_login written_item conn word.now standing.now (hall_of self.old)) (step_of self.old)) }
         ensures err { OnErr result (step_of self.new ≡ step_of self.old) }
@@ -199,7 +200,8 @@ impl Desk {
         }
     }
 
-    // Challenge: an element.
+    /// An element where the answer to a challenge is awaited (RFC 6120, section 6.4.3): `response` gets the success or a
+    /// failure, and all else goes as by `on_login`. A refusal leaves all as it was.
     pub fn on_challenge(
         &mut self,
         conn: u64,

@@ -79,7 +79,8 @@ impl Desk {
         Ok(())
     }
 
-    // Ends a stream with an error.
+    /// Ends a stream with an error (RFC 6120, section 4.9.1), behind the header where that was not put yet. A refusal leaves
+    /// all as it was.
     pub fn end_with(
         &mut self,
         conn: u64,
@@ -95,7 +96,7 @@ impl Desk {
         }
     }
 
-    // The footer, and the connection is shut.
+    /// Closes a stream: the footer, and the connection is shut (RFC 6120, section 4.4). A refusal leaves all as it was.
     pub fn close(&mut self, conn: u64) -> Result<(), NoMemory>
         ensures ok { OnOk result (step_of self.new ≡ acted written_item (closing written_item conn) (step_of self.old)) }
         ensures err { OnErr result (step_of self.new ≡ step_of self.old) }
@@ -162,7 +163,7 @@ impl Desk {
         }
     }
 
-    // A header.
+    /// A header (RFC 6120, section 4.3): the stream opens, or ends with why it can't. A refusal leaves all as it was.
     pub fn on_header(
         &mut self,
         conn: u64,
@@ -179,7 +180,8 @@ impl Desk {
         }
     }
 
-    // An element that its phase doesn't await.
+    /// An element that its phase doesn't await (RFC 6120, section 4.9.3): it ends the stream. A refusal leaves all as it
+    /// was.
     pub fn on_any(&mut self, conn: u64, word: &Word, standing: &Standing) -> Result<(), NoMemory>
         ensures ok { OnOk result (step_of self.new ≡ acted written_item (at_any written_item conn word.now standing.now (hall_of self.old)) (step_of self.old)) }
         ensures err { OnErr result (step_of self.new ≡ step_of self.old) }
