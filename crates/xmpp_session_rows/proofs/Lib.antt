@@ -1,2 +1,4 @@
-pub mod AddressTexts
-pub mod ToldFacts
+-- ---- sessions that are resumed
+pub mod Resumed
+-- ---- steps, one behind the other
+pub mod Sayings

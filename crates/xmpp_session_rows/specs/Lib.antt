@@ -1,4 +1,4 @@
--- ---- rows of the phase behind a login
+-- ---- rows of a session
 pub mod Bindings
 pub mod Managements
-pub mod Ready
+pub mod Resumptions

@@ -12,8 +12,6 @@ ghost use Rattle.xmpp_replies.specs.Requests.{iq_error_item};
 ghost use Rattle.xmpp_trees.specs.Views.{elem_view};
 ghost use Rattle.xmpp_writer.specs.Items.{written_item};
 
-use crate::addresses::full_address;
-use crate::room::{part_where, reserve_seat};
 use std::alloc::Global;
 use xmpp_basis::hex16;
 use xmpp_desk::Desk;
@@ -105,19 +103,25 @@ fn bind_session(
     ensures err { OnErr result (step_of desk.new ≡ step_of desk.old) }
 {
     desk.out.reserve(4)?;
-    reserve_seat(desk, account)?;
+    desk.reserve_seat(account)?;
     let error = stream_error(desk.alloc, StreamCondition::Conflict)?;
     let footer = footer(desk.alloc)?;
-    let jid = full_address(desk, account, resource.as_str())?;
+    let jid = desk.full_address(account, resource.as_str())?;
     let answer = bound(desk.alloc, id, jid.as_str())?;
     let session = desk.live.bind(account, resource, conn);
-    part_where(desk, former_of(session.ended), error, footer);
+    desk.part_where(former_of(session.ended), error, footer);
     desk.put(conn, answer);
     Ok(())
 }
 
-// Ready: an `iq` of type `set` with a child `bind`.
-pub(crate) fn on_bind(
+/// Ready: an `iq` of type `set` with a child `bind` (RFC 6120, section 7), on a connection that has no session. A session of
+/// the account with the resource that `bind` asks for is on the connection from then on, and the answer tells its address.
+/// Where none is asked for the resource is `r` and the 16 digits of the session's number (section 7.6). An older session with
+/// that resource ends before, and its connection is told `conflict` and shut (section 7.7.2.2). A resource that has no normal
+/// form is answered `bad-request` (section 7.7.2.1), and another one can be asked for.
+///
+/// `NoMemory` also where each number of a session or of a queue was given. A refusal leaves all as it was.
+pub fn on_bind(
     desk: &mut Desk,
     conn: u64,
     account: u32,

@@ -1,11 +1,11 @@
-//! The rows of a stream behind its login: a resource is bound (RFC 6120, section 7), and stanzas are acknowledged (XEP-0198,
-//! sections 3 and 4). Each row takes all memory first; then calls follow that can't fail.
+//! The rows of a stream behind its login: a resource is bound (RFC 6120, section 7), stanzas are acknowledged, and a session
+//! is resumed (XEP-0198, sections 3 to 5). Each row takes all memory first; then calls follow that can't fail.
 #![tactic(auto)]
 
-mod addresses;
 mod bindings;
 mod managements;
-mod ready;
-mod room;
+mod resuming;
 
-pub use ready::on_ready_or_bound;
+pub use bindings::on_bind;
+pub use managements::{on_ack, on_enable, on_request, refuse};
+pub use resuming::on_resume;

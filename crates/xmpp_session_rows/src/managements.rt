@@ -29,8 +29,10 @@ fn enabled_as(alloc: Global, number: u64, resume: bool) -> Result<Bytes, NoMemor
     }
 }
 
-// What was asked of stream management is refused.
-pub(crate) fn refuse(desk: &mut Desk, conn: u64, condition: Condition) -> Result<(), NoMemory>
+/// What was asked of stream management is refused (XEP-0198, sections 3 to 5): the answer is `failed` with the condition, and
+/// the stream goes on. Such are an `enable`, `r` or `a` out of place, and a `resume` on a connection that has a session
+/// (`unexpected-request`). A refusal for want of memory leaves all as it was.
+pub fn refuse(desk: &mut Desk, conn: u64, condition: Condition) -> Result<(), NoMemory>
     ensures ok { OnOk result (step_of desk.new ≡ acted written_item (refusing written_item conn condition) (step_of desk.old)) }
     ensures err { OnErr result (step_of desk.new ≡ step_of desk.old) }
 {
@@ -41,7 +43,7 @@ pub(crate) fn refuse(desk: &mut Desk, conn: u64, condition: Condition) -> Result
 }
 
 // `enable`, for a session whose stanzas aren't counted.
-#[tactic(auto, using(crate::proofs::ToldFacts::lives_told, crate::proofs::ToldFacts::enables_once))]
+#[tactic(auto, using(xmpp_desk::proofs::ToldFacts::lives_told, xmpp_desk::proofs::ToldFacts::enables_once))]
 fn enable(desk: &mut Desk, conn: u64, told: &Told, resume: bool) -> Result<(), NoMemory>
     requires told { Some told.now ≡ told_of told.now.number (hall_of desk.old).sessions }
     requires counted { told.now.counted ≡ false }
@@ -57,13 +59,11 @@ fn enable(desk: &mut Desk, conn: u64, told: &Told, resume: bool) -> Result<(), N
     Ok(())
 }
 
-// Bound: `enable`.
-pub(crate) fn on_enable(
-    desk: &mut Desk,
-    conn: u64,
-    told: &Told,
-    resume: bool,
-) -> Result<(), NoMemory>
+/// Bound: `enable` (XEP-0198, section 3), for the session `told` on the connection. Its stanzas are counted from then on, in
+/// both directions from 0, and where `resume` is set it can be resumed: then `enabled` tells its id and 300 seconds. Where
+/// they are counted already the answer is `failed` with `unexpected-request`. A refusal for want of memory leaves all as it
+/// was.
+pub fn on_enable(desk: &mut Desk, conn: u64, told: &Told, resume: bool) -> Result<(), NoMemory>
     requires told { Some told.now ≡ told_of told.now.number (hall_of desk.old).sessions }
     ensures ok { OnOk result (step_of desk.new ≡ acted written_item (at_enable written_item conn resume told.now) (step_of desk.old)) }
     ensures err { OnErr result (step_of desk.new ≡ step_of desk.old) }
@@ -86,8 +86,10 @@ fn answer_request(desk: &mut Desk, conn: u64, handled: u32) -> Result<(), NoMemo
     Ok(())
 }
 
-// Bound: `r`.
-pub(crate) fn on_request(desk: &mut Desk, conn: u64, told: &Told) -> Result<(), NoMemory>
+/// Bound: `r` (XEP-0198, section 4), for the session `told` on the connection: `a` tells how many of its stanzas were handled,
+/// modulo 2^32. Where they aren't counted the answer is `failed` with `unexpected-request`. A refusal for want of memory
+/// leaves all as it was.
+pub fn on_request(desk: &mut Desk, conn: u64, told: &Told) -> Result<(), NoMemory>
     ensures ok { OnOk result (step_of desk.new ≡ acted written_item (at_request written_item conn told.now) (step_of desk.old)) }
     ensures err { OnErr result (step_of desk.new ≡ step_of desk.old) }
 {
@@ -111,7 +113,7 @@ fn end_too_high(desk: &mut Desk, conn: u64, why: TooHigh) -> Result<(), NoMemory
 }
 
 // `a`, for a session that lives.
-#[tactic(auto, using(crate::proofs::ToldFacts::answers_count, crate::proofs::ToldFacts::lives_acknowledged))]
+#[tactic(auto, using(xmpp_desk::proofs::ToldFacts::answers_count, xmpp_desk::proofs::ToldFacts::lives_acknowledged))]
 fn take_count(desk: &mut Desk, conn: u64, number: u64, h: u32) -> Result<(), NoMemory>
     requires lives { IsSome (session_of number (hall_of desk.old).sessions) }
     ensures ok { OnOk result (step_of desk.new ≡ acted written_item (acknowledging written_item conn number h (option_map (ack_answer h) (session_of number (hall_of desk.old).sessions))) (step_of desk.old)) }
@@ -126,9 +128,12 @@ fn take_count(desk: &mut Desk, conn: u64, number: u64, h: u32) -> Result<(), NoM
     }
 }
 
-// Bound: `a`.
-#[tactic(auto, using(crate::proofs::ToldFacts::lives_told))]
-pub(crate) fn on_ack(desk: &mut Desk, conn: u64, told: &Told, h: u32) -> Result<(), NoMemory>
+/// Bound: `a` (XEP-0198, section 4), for the session `told` on the connection, whose client states that it handled `h`
+/// stanzas, modulo 2^32. Those up to that count wait no more, and an `r` before it counts as answered. A count above what was
+/// sent ends the stream with `handled-count-too-high`, and the session with it. Where stanzas aren't counted the answer is
+/// `failed` with `unexpected-request`. A refusal for want of memory leaves all as it was.
+#[tactic(auto, using(xmpp_desk::proofs::ToldFacts::lives_told))]
+pub fn on_ack(desk: &mut Desk, conn: u64, told: &Told, h: u32) -> Result<(), NoMemory>
     requires told { Some told.now ≡ told_of told.now.number (hall_of desk.old).sessions }
     ensures ok { OnOk result (step_of desk.new ≡ acted written_item (at_ack written_item conn h told.now (hall_of desk.old)) (step_of desk.old)) }
     ensures err { OnErr result (step_of desk.new ≡ step_of desk.old) }

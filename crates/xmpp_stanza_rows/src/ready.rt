@@ -3,19 +3,19 @@ ghost use Rattle.std.specs.Prelude.{◌≡◌, None, Some, codes, OnErr, OnOk};
 ghost use Rattle.std.specs.Option.{option_map};
 ghost use Rattle.xmpp_live.specs.Sessions.{session_at, told as told_by, told_of};
 ghost use Rattle.xmpp_payload.specs.Names.{binding};
-ghost use Rattle.xmpp_session_rows.specs.Ready.{at_bound, at_ready, at_ready_or_bound, ready_iq, ready_stanza};
+ghost use Rattle.xmpp_stanza_rows.specs.Ready.{at_bound, at_ready, at_ready_or_bound, ready_iq, ready_stanza};
 ghost use Rattle.xmpp_desk.specs.Seen.{hall_of, step_of};
 ghost use Rattle.xmpp_desk.specs.Steps.{acted};
 ghost use Rattle.xmpp_trees.specs.Readers.{first_named};
 ghost use Rattle.xmpp_writer.specs.Items.{written_item};
 
-use crate::bindings::on_bind;
-use crate::managements::{on_ack, on_enable, on_request, refuse};
+use crate::stanzas::on_stanza;
 use xmpp_desk::{Desk, Standing, Word};
 use xmpp_edge::NoMemory;
 use xmpp_live::Told;
 use xmpp_payload::BINDING;
 use xmpp_replies::StreamCondition;
+use xmpp_session_rows::{on_ack, on_bind, on_enable, on_request, on_resume, refuse};
 use xmpp_stanza::{Condition, Iq, IqKind, Stanza, StanzaFault};
 use xmpp_trees::find_child;
 
@@ -72,6 +72,7 @@ fn on_ready(
 {
     match word {
         Word::Stanza { read, .. } => on_ready_stanza(desk, conn, account, read, standing),
+        Word::Resume { previd, h } => on_resume(desk, conn, account, previd.as_str(), *h),
         Word::Enable { .. } | Word::Request | Word::Ack { .. } => {
             refuse(desk, conn, Condition::UnexpectedRequest)
         }
@@ -92,6 +93,7 @@ fn on_bound(
     ensures err { OnErr result (step_of desk.new ≡ step_of desk.old) }
 {
     match word {
+        Word::Stanza { long, read } => on_stanza(desk, conn, *long, read, told, standing),
         Word::Enable { resume } => on_enable(desk, conn, told, *resume),
         Word::Request => on_request(desk, conn, told),
         Word::Ack { h } => on_ack(desk, conn, told, *h),
@@ -100,8 +102,17 @@ fn on_bound(
     }
 }
 
-/// Ready: an element, by whether a session is on the connection.
-#[tactic(auto, using(crate::proofs::ToldFacts::untold))]
+/// An element on a connection behind its login, to an account; `conn` is the connection's number, and `standing` where it
+/// stands. What happens is put out, and all of it goes by whether a session is on the connection.
+///
+/// Where none is (RFC 6120, section 7), an `iq` of type `set` with a `bind` binds one, and `resume` resumes one (XEP-0198,
+/// section 5); any other stanza ends the stream with `not-authorized`. Where one is, its stanzas are judged, counted and
+/// handled (RFC 6120, section 8), and stanzas are acknowledged (XEP-0198, section 4). What is left of stream management is
+/// refused, and all else goes as by `Desk::on_any`.
+///
+/// `NoMemory` comes only where memory runs out, where no number is left for a session or its queue, or where one message
+/// would go out more than 4,294,967,295 times. It leaves the state and the outputs as they were.
+#[tactic(auto, using(xmpp_desk::proofs::ToldFacts::untold))]
 pub fn on_ready_or_bound(
     desk: &mut Desk,
     conn: u64,

@@ -1,11 +1,12 @@
--- The rows of the phase behind a login: before and behind a binding. Those on resumption and on what a session says are not
--- there yet: such an element is one that the phase doesn't await.
-use Rattle.std.specs.Prelude.{ℕ, List, Option, Some, None, Result, Ok, Err, codes}
+-- The rows of the phase behind a login: before and behind a binding.
+use Rattle.std.specs.Prelude.{ℕ, List, Option, Some, None, Result, Ok, codes}
 use Rattle.xmpp_live.specs.declared.told.Told.{Told}
 use Rattle.xmpp_payload.specs.Names.{binding}
 use Rattle.xmpp_replies.specs.declared.conditions.StreamCondition.TheVariants.{NotAuthorized}
 use Rattle.xmpp_session_rows.specs.Bindings.{at_bind}
 use Rattle.xmpp_session_rows.specs.Managements.{at_ack, at_enable, at_request, refusing}
+use Rattle.xmpp_session_rows.specs.Resumptions.{at_resume}
+use Rattle.xmpp_stanza_rows.specs.Stanzas.{at_stanza}
 use Rattle.xmpp_desk.specs.State.{Hall}
 use Rattle.xmpp_desk.specs.Steps.{Act}
 use Rattle.xmpp_desk.specs.Streams.{at_any, ending}
@@ -35,6 +36,7 @@ ready_stanza say k account read st h = ending say k NotAuthorized st h
 
 abbrev pub at_ready : {A : Type 0} → (ItemOut → A) → ℕ → ℕ → Word → Standing → Hall A → List (Act A)
 at_ready say k account (word.Stanza long read) st h = ready_stanza say k account read st h
+at_ready say k account (word.Resume previd handled) st h = at_resume say k account previd handled h
 at_ready say k account (word.Enable resume) st h = refusing say k UnexpectedRequest
 at_ready say k account word.Request st h = refusing say k UnexpectedRequest
 at_ready say k account (word.Ack handled) st h = refusing say k UnexpectedRequest
@@ -43,6 +45,7 @@ at_ready say k account w st h = at_any say k w st h
 -- ---- Bound, where one is
 
 abbrev pub at_bound : {A : Type 0} → (ItemOut → A) → ℕ → Word → Told → Standing → Hall A → List (Act A)
+at_bound say k (word.Stanza long read) t st h = at_stanza say k long read t st h
 at_bound say k (word.Enable resume) t st h = at_enable say k resume t
 at_bound say k word.Request t st h = at_request say k t
 at_bound say k (word.Ack handled) t st h = at_ack say k handled t h

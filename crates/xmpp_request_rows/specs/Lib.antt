@@ -1,0 +1,3 @@
+-- ---- the row on requests
+pub mod Requests
+pub mod Pages

@@ -1,0 +1,2 @@
+-- ---- a stanza that counts
+pub mod Counted

@@ -1,0 +1,3 @@
+-- ---- what a session says, and the phase behind a login
+pub mod Stanzas
+pub mod Ready
