@@ -5,7 +5,7 @@ use Rattle.xmpp_framing.specs.declared.items.Item.{Item}
 use Rattle.xmpp_framing.specs.declared.items.Item.TheVariants as item
 use Rattle.xmpp_live.specs.Sessions.{session_at, told}
 use Rattle.xmpp_desk.specs.Logins.{at_challenge, at_login}
-use Rattle.xmpp_session_rows.specs.Ready.{at_ready_or_bound}
+use Rattle.xmpp_stanza_rows.specs.Ready.{at_ready_or_bound}
 use Rattle.xmpp_desk.specs.State.{Hall, Step}
 use Rattle.xmpp_desk.specs.Steps.{Act, acted}
 use Rattle.xmpp_desk.specs.Streams.{at_any, at_header, closing, standing_at}

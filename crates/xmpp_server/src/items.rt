@@ -12,7 +12,7 @@ ghost use Rattle.xmpp_writer.specs.Items.{written_item};
 use xmpp_desk::{Desk, Stage, Standing, Word, word_of};
 use xmpp_edge::NoMemory;
 use xmpp_framing::{Item, Items};
-use xmpp_session_rows::on_ready_or_bound;
+use xmpp_stanza_rows::on_ready_or_bound;
 use xmpp_trees::Tree;
 
 // An element, by where the connection stands.

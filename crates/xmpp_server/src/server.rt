@@ -6,6 +6,7 @@ ghost use Rattle.xmpp_server.specs.Events.{IsAfterBytes, Stops, after_connect, a
 ghost use Rattle.xmpp_desk.specs.Moments.{at_moment};
 ghost use Rattle.xmpp_desk.specs.Seen.{kept_of, outs_of};
 ghost use Rattle.xmpp_desk.specs.State.{archive_at, conn_at};
+ghost use Rattle.xmpp_live.specs.Rule.{IsRule};
 ghost use Rattle.xmpp_server.specs.Telling.{IsFront};
 ghost use Rattle.xmpp_writer.specs.Items.{written_item};
 
@@ -16,7 +17,7 @@ use std::collections::BTreeMap;
 use std::marker::Model;
 use std::mem;
 use xmpp_archive::Archive;
-use xmpp_desk::{Desk, Outputs};
+use xmpp_desk::{Desk, Outputs, Stock};
 use xmpp_edge::NoMemory;
 use xmpp_framing::{Framer, Limits};
 use xmpp_live::Live;
@@ -74,6 +75,7 @@ impl Server {
                 conns: BTreeMap::new(alloc),
                 moment: 0,
                 out: Outputs::new(alloc),
+                stock: Stock::new(alloc),
             },
             framers: BTreeMap::new(alloc),
         })
@@ -100,10 +102,10 @@ impl Server {
 
     /// Bytes came on a connection (RFC 6120, section 4). What they spell takes effect item by item, in order, and behind
     /// the items the first fault of the stream, by which the stream ends. What comes of it stands behind the outputs that
-    /// were there. How the bytes are cut into pieces doesn't matter. A connection that isn't open is not looked at.
+    /// were there. A connection whose stream is not framed is not looked at.
     ///
     /// Where memory runs out, some first items of the piece took effect, with their outputs, what is behind them did not,
-    /// and the connection is gone as by `gone`. No memory is wanted for a connection that isn't open.
+    /// and the connection is gone as by `gone`. No memory is wanted where the connection's stream is not framed.
     #[tactic(auto, using(crate::proofs::Kept::outputs_kept))]
     pub fn bytes(
         &mut self,
@@ -149,7 +151,7 @@ impl Server {
         self.desk.archives.get(account as usize)
     }
 
-    /// Whether the stream of a connection stopped in the middle of an item. It is false where the connection isn't open.
+    /// Whether the stream of a connection stopped in the middle of an item. It is false where it is not framed.
     pub fn part(&self, conn: u64) -> bool
         ensures { result ≡ holds_part (framer_at conn self.now.framers) }
     {
@@ -157,6 +159,15 @@ impl Server {
             Some(framer) => framer.part().is_some(),
             None => false,
         }
+    }
+
+    /// What holds of the sessions at all times: their numbers ascend, a connection has one session at most, and so has a
+    /// resource of an account (RFC 6120, section 7.7.2.2), and in each at most 10,000 stanzas wait (XEP-0198, section 4). It
+    /// does nothing.
+    pub fn keeps_rule(&self)
+        ensures { IsRule self.now.hall.sessions self.now.hall.next }
+    {
+        self.desk.live.keeps_rule();
     }
 
     /// The number that the next session gets.

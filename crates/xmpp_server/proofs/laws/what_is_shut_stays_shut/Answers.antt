@@ -2,4 +2,4 @@ use Rattle.xmpp_server.proofs.ItemRuns.{shut_stays}
 use Rattle.xmpp_server.proofs.laws.what_is_shut_stays_shut.Goals as goal
 
 pub returns : goal.returns
-returns c = shut_stays
+returns g c = shut_stays
