@@ -3,10 +3,10 @@ use Rattle.std.proofs.Common.{◌≡◌, ℕ, Bool, true, false, ◌≤◌, List
 use Rattle.std.specs.Io.KnownBytes.{IsAtEnd}
 use Rattle.xmpp_edge.specs.declared.whole_reads.TheConstants.{MOST_BYTES_READ}
 use Rattle.xmpp_cli.specs.Words.{reads}
-use Rattle.xmpp_cli.specs.Table.{IsReplayed, IsRefusal, IsRefused, IsChecked, IsReadWhole, IsDone, IsAnswer, IsDueOf, Due}
+use Rattle.xmpp_cli.specs.Table.{IsReplayed, IsRefusal, IsRefused, IsChecked, IsReadWhole, IsRerun, IsRerunRefusal, IsDone, IsAnswer, IsDueOf, Due}
 use Rattle.xmpp_cli.specs.declared.answering.Answer.{Answer}
 use Rattle.xmpp_cli.specs.declared.command.Command.{Command}
-use Rattle.xmpp_cli.specs.declared.command.Command.TheVariants.{Help, Version, Replay, Check}
+use Rattle.xmpp_cli.specs.declared.command.Command.TheVariants.{Help, Version, Replay, Check, Rerun}
 use Rattle.xmpp_cli.specs.declared.outcome.Outcome.{Outcome}
 use Rattle.xmpp_cli.specs.declared.outcome.Outcome.TheVariants.{Done, WrongWords, Refused, ReadFault, TooLong}
 
@@ -23,17 +23,27 @@ checked_of_known : (sound : Bool) (input : List ℕ) (known : Option (List ℕ))
 checked_of_known sound input None text same (stream, is, whether, due) = (stream, tt, whether, due)
 checked_of_known sound input (Some all) text same checked = subst (λ bytes. IsChecked sound (Some bytes) text) same checked
 
+rerun_of_known : (input : List ℕ) (known : Option (List ℕ)) (text : List ℕ) → IfSome known (λ all. input ≡ all) → IsRerun (Some input) text → IsRerun known text
+rerun_of_known input None text same (run, says, due) = (run, tt, due)
+rerun_of_known input (Some all) text same rerun = subst (λ bytes. IsRerun (Some bytes) text) same rerun
+
+rerun_refusal_of_known : (input : List ℕ) (known : Option (List ℕ)) (text : List ℕ) → IfSome known (λ all. input ≡ all) → IsRerunRefusal (Some input) text → IsRerunRefusal known text
+rerun_refusal_of_known input None text same (line, reason, why, due) = (line, reason, tt, due)
+rerun_refusal_of_known input (Some all) text same refusal = subst (λ bytes. IsRerunRefusal (Some bytes) text) same refusal
+
 done_of_known : (command : Command) (input : List ℕ) (known : Option (List ℕ)) (text : List ℕ) → IfSome known (λ all. input ≡ all) → IsDone command (Some input) text → IsDone command known text
 done_of_known Help input known text same done = done
 done_of_known Version input known text same done = done
 done_of_known Replay input known text same done = replayed_of_known input known text same done
 done_of_known Check input known text same done = checked_of_known true input known text same done
+done_of_known Rerun input known text same done = rerun_of_known input known text same done
 
 refused_of_known : (command : Command) (input : List ℕ) (known : Option (List ℕ)) (text : List ℕ) → IfSome known (λ all. input ≡ all) → IsRefused command (Some input) text → IsRefused command known text
 refused_of_known Help input known text same refused = refused
 refused_of_known Version input known text same refused = refused
 refused_of_known Replay input known text same refused = refusal_of_known input known text same refused
 refused_of_known Check input known text same refused = checked_of_known false input known text same refused
+refused_of_known Rerun input known text same refused = rerun_refusal_of_known input known text same refused
 
 -- what was seen is what was read, and so what the source tells
 known_as_seen : (seen input : List ℕ) (known : Option (List ℕ)) → seen ≡ input → IfSome known (λ all. input ≡ all) → IfSome known (λ all. seen ≡ all)
@@ -69,12 +79,14 @@ unread_done Help seen known text e done = done
 unread_done Version seen known text e done = done
 unread_done Replay seen known text e done = absurd (cc)
 unread_done Check seen known text e done = absurd (cc)
+unread_done Rerun seen known text e done = absurd (cc)
 
 unread_refused : (command : Command) (seen : List ℕ) (known : Option (List ℕ)) (text : List ℕ) → reads (Some command) ≡ false → IsRefused command (Some seen) text → IsRefused command known text
 unread_refused Help seen known text e refused = refused
 unread_refused Version seen known text e refused = refused
 unread_refused Replay seen known text e refused = absurd (cc)
 unread_refused Check seen known text e refused = absurd (cc)
+unread_refused Rerun seen known text e refused = absurd (cc)
 
 unread_whole : {P : Type 0} (command : Command) → reads (Some command) ≡ false → reads (Some command) ≡ true → P
 unread_whole command e is = let both : false ≡ true = sym e ∙ is in absurd (cc)

@@ -4,6 +4,10 @@ use Rattle.std.proofs.lemmas.Bool.Decides.{eqb_tells, nat_tests}
 use Rattle.std.specs.Io.KnownBytes.{IsAtEnd}
 use Rattle.xmpp_edge.specs.declared.whole_reads.TheConstants.{MOST_BYTES_READ}
 use Rattle.xmpp_check.specs.Checked.{told}
+use Rattle.xmpp_journal.specs.Journals.{InputView, Says}
+use Rattle.xmpp_journal.specs.Reading.{rerun_reading}
+use Rattle.xmpp_journal.specs.declared.fault.InputFault.TheVariants as inputs
+use Rattle.xmpp_rerun.specs.Reruns.{SaysRun, rerun_of}
 use Rattle.xmpp_schedule.specs.Grammar.{InGrammar}
 use Rattle.xmpp_schedule.specs.Reading.{reading}
 use Rattle.xmpp_schedule.specs.declared.fault.LineWhy.{LineWhy}
@@ -12,7 +16,7 @@ use Rattle.xmpp_cli.specs.Texts.{words_line, read_fault_line, too_long_line, bad
 use Rattle.xmpp_cli.specs.Words.{reads}
 use Rattle.xmpp_cli.specs.Table.{code_of, is_status, Due, MustAnswer}
 use Rattle.xmpp_cli.specs.declared.command.Command.{Command}
-use Rattle.xmpp_cli.specs.declared.command.Command.TheVariants.{Help, Version, Replay, Check}
+use Rattle.xmpp_cli.specs.declared.command.Command.TheVariants.{Help, Version, Replay, Check, Rerun}
 use Rattle.xmpp_cli.specs.declared.outcome.Outcome.{Outcome}
 use Rattle.xmpp_cli.specs.declared.outcome.Outcome.TheVariants.{Done, WrongWords, Refused, ReadFault, TooLong}
 use Rattle.xmpp_cli.specs.declared.texts.TheConstants.{HELP, VERSION}
@@ -55,12 +59,27 @@ module _ (known left : Option (List ℕ)) (rose calm still : Type 0) (Written : 
       let ((line, reason, why, text_is), whole) = subst (λ c. Due c known left rose Refused text) e due in
       ((whole refl).ended, (line, reason, why, subst Written text_is out))
 
+  done_rerun : (command : Option Command) → Answered command → result ≡ 0 → command ≡ Some Rerun →
+      (run : InputView) × IfSome known (λ input. Says input run) × IsAtEnd left × Written (rerun_of run)
+  done_rerun command answer zero e =
+      let (text, due, out) = answer Done zero in
+      let ((run, says, text_is), whole) = subst (λ c. Due c known left rose Done text) e due in
+      (run, says, (whole refl).ended, subst Written text_is out)
+
+  refused_rerun : (command : Option Command) → Answered command → result ≡ 3 → command ≡ Some Rerun → IsAtEnd left
+      × ((line : ℕ) × (reason : LineWhy) × IfSome known (λ input. (rerun_reading input ≡ Err (inputs.BadLine line reason)) × ¬ (SaysRun input)) × Written (bad_line line reason))
+  refused_rerun command answer three e =
+      let (text, due, out) = answer Refused three in
+      let ((line, reason, why, text_is), whole) = subst (λ c. Due c known left rose Refused text) e due in
+      ((whole refl).ended, (line, reason, why, subst Written text_is out))
+
   refused_command : (command : Option Command) → Answered command → result ≡ 3 → reads command ≡ true
   refused_command None answer three = let (text, due, out) = answer Refused three in absurd due
   refused_command (Some Help) answer three = let (text, due, out) = answer Refused three in absurd due.0
   refused_command (Some Version) answer three = let (text, due, out) = answer Refused three in absurd due.0
   refused_command (Some Replay) answer three = refl
   refused_command (Some Check) answer three = refl
+  refused_command (Some Rerun) answer three = refl
 
   words : (command : Option Command) → Answered command → result ≡ 2 → (command ≡ None) × Written words_line
   words None answer two = let (text, due, out) = answer WrongWords two in (refl, subst Written due out)
@@ -119,11 +138,22 @@ module _ (rose calm still : Type 0) (result : ℕ) where
   refused_check_only (Some input) command exactly e read quiet = λ short bad.
       exactly Refused (subst (λ c. MustAnswer c (Some input) calm Refused) (sym e) (read, (short, λ good. let both : true ≡ false = sym good ∙ bad in cc))) quiet
 
+  complete_rerun : (known : Option (List ℕ)) (command : Option Command) → Exactly known None rose calm still (λ text. Unit {0}) result command → command ≡ Some Rerun → calm → still →
+      IfSome known (λ input. length input ≤ MOST_BYTES_READ → SaysRun input → (result ≡ 0) ⊎ (result ≡ 6))
+  complete_rerun None command exactly e read quiet = tt
+  complete_rerun (Some input) command exactly e read quiet = λ short good. exactly Done (subst (λ c. MustAnswer c (Some input) calm Done) (sym e) (read, (short, good))) quiet
+
+  refused_rerun_only : (known : Option (List ℕ)) (command : Option Command) → Exactly known None rose calm still (λ text. Unit {0}) result command → command ≡ Some Rerun → calm → still →
+      IfSome known (λ input. length input ≤ MOST_BYTES_READ → ¬ (SaysRun input) → (result ≡ 3) ⊎ (result ≡ 6))
+  refused_rerun_only None command exactly e read quiet = tt
+  refused_rerun_only (Some input) command exactly e read quiet = λ short bad. exactly Refused (subst (λ c. MustAnswer c (Some input) calm Refused) (sym e) (read, (short, bad))) quiet
+
   too_long_only : (known : Option (List ℕ)) (command : Option Command) → Exactly known None rose calm still (λ text. Unit {0}) result command → reads command ≡ true → calm → still →
       IfSome known (λ input. MOST_BYTES_READ < length input → (result ≡ 11) ⊎ (result ≡ 6))
   too_long_only None command exactly e read quiet = tt
   too_long_only (Some input) (Some Replay) exactly e read quiet = λ long. exactly TooLong (read, long) quiet
   too_long_only (Some input) (Some Check) exactly e read quiet = λ long. exactly TooLong (read, long) quiet
+  too_long_only (Some input) (Some Rerun) exactly e read quiet = λ long. exactly TooLong (read, long) quiet
   too_long_only (Some input) (Some Help) exactly e read quiet = absurd cc
   too_long_only (Some input) (Some Version) exactly e read quiet = absurd cc
   too_long_only (Some input) None exactly e read quiet = absurd cc

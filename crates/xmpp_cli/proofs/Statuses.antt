@@ -14,7 +14,7 @@ use Rattle.xmpp_schedule.specs.Schedules.{ScheduleView}
 use Rattle.xmpp_cli.specs.Words.{reads}
 use Rattle.xmpp_cli.specs.Table.{code_of, Accepts, IsDone, IsRefused, IsReportOf, Due, IsDueOf, MustAnswer, MustEnd}
 use Rattle.xmpp_cli.specs.declared.command.Command.{Command}
-use Rattle.xmpp_cli.specs.declared.command.Command.TheVariants.{Help, Version, Replay, Check}
+use Rattle.xmpp_cli.specs.declared.command.Command.TheVariants.{Help, Version, Replay, Check, Rerun}
 use Rattle.xmpp_cli.specs.declared.outcome.Outcome.{Outcome}
 use Rattle.xmpp_cli.specs.declared.outcome.Outcome.TheVariants.{Done, WrongWords, Refused, ReadFault, TooLong}
 
@@ -85,6 +85,7 @@ done_accepted Help input text done = tt
 done_accepted Version input text done = tt
 done_accepted Replay input text (schedule, report, is, spelled, of, due) = (schedule, is, spelled)
 done_accepted Check input text (stream, is, sound, due) = ap (λ bytes. (told bytes).sound) is ∙ sound
+done_accepted Rerun input text (run, says, due) = (run, says)
 
 refused_not_accepted : (command : Command) (input text : List ℕ) → IsRefused command (Some input) text → ¬ (Accepts command input)
 refused_not_accepted Help input text refused accepts = refused
@@ -92,6 +93,7 @@ refused_not_accepted Version input text refused accepts = refused
 refused_not_accepted Replay input text (line, reason, why, due) accepts = why.1 accepts
 refused_not_accepted Check input text (stream, is, unsound, due) accepts =
     let both : true ≡ false = sym accepts ∙ ap (λ bytes. (told bytes).sound) is ∙ unsound in cc
+refused_not_accepted Rerun input text (line, reason, why, due) accepts = why.1 accepts
 
 -- a command that does not read is done
 unread_done : (command : Command) (known left : Option (List ℕ)) (rose : Type 0) (outcome : Outcome) (text : List ℕ)
@@ -101,6 +103,7 @@ unread_done Help known left rose Refused text e due = absurd due.0
 unread_done Version known left rose Refused text e due = absurd due.0
 unread_done Replay known left rose Refused text e due = absurd (cc)
 unread_done Check known left rose Refused text e due = absurd (cc)
+unread_done Rerun known left rose Refused text e due = absurd (cc)
 unread_done command known left rose WrongWords text e due = absurd due.0
 unread_done command known left rose ReadFault text e due = let both : false ≡ true = sym e ∙ due.0 in absurd (cc)
 unread_done command known left rose TooLong text e due = let both : false ≡ true = sym e ∙ due.0 in absurd (cc)

@@ -12,12 +12,16 @@ use Rattle.xmpp_schedule.specs.Reading.{reading}
 use Rattle.xmpp_report.specs.ReportText.{text_of}
 use Rattle.xmpp_report.specs.Reports.{ReportView}
 use Rattle.xmpp_schedule.specs.Schedules.{ScheduleView}
+use Rattle.xmpp_journal.specs.Journals.{InputView, Says}
+use Rattle.xmpp_journal.specs.Reading.{rerun_reading}
+use Rattle.xmpp_journal.specs.declared.fault.InputFault.TheVariants as inputs
+use Rattle.xmpp_rerun.specs.Reruns.{SaysRun, rerun_of}
 use Rattle.xmpp_schedule.specs.declared.fault.LineWhy.{LineWhy}
 use Rattle.xmpp_schedule.specs.declared.fault.ScheduleFault.TheVariants.{BadLine}
 use Rattle.xmpp_cli.specs.Texts.{words_line, read_fault_line, too_long_line, bad_line}
 use Rattle.xmpp_cli.specs.Words.{reads}
 use Rattle.xmpp_cli.specs.declared.command.Command.{Command}
-use Rattle.xmpp_cli.specs.declared.command.Command.TheVariants.{Help, Version, Replay, Check}
+use Rattle.xmpp_cli.specs.declared.command.Command.TheVariants.{Help, Version, Replay, Check, Rerun}
 use Rattle.xmpp_cli.specs.declared.outcome.Outcome.{Outcome}
 use Rattle.xmpp_cli.specs.declared.outcome.Outcome.TheVariants.{Done, WrongWords, Refused, ReadFault, TooLong}
 use Rattle.xmpp_cli.specs.declared.texts.TheConstants.{HELP, VERSION}
@@ -57,23 +61,36 @@ abbrev pub IsChecked : Bool → Option (List ℕ) → List ℕ → Type 0
 IsChecked sound known text =
     (stream : List ℕ) × IfSome known (λ input. input ≡ stream) × ((told stream).sound ≡ sound) × (text ≡ (told stream).text)
 
+-- The text is what comes of one run that is done again, and the input, where it is known, says that run.
+abbrev pub IsRerun : Option (List ℕ) → List ℕ → Type 0
+IsRerun known text = (run : InputView) × IfSome known (λ input. Says input run) × (text ≡ rerun_of run)
+
+-- The text names the first bad line of the input and its reason, and the input, where it is known, says no run.
+abbrev pub IsRerunRefusal : Option (List ℕ) → List ℕ → Type 0
+IsRerunRefusal known text =
+    (line : ℕ) × (reason : LineWhy) × IfSome known (λ input. (rerun_reading input ≡ Err (inputs.BadLine line reason)) × ¬ (SaysRun input))
+    × (text ≡ bad_line line reason)
+
 -- A case for each command: the text where it was done. `known` is the input where it is known.
 abbrev pub IsDone : Command → Option (List ℕ) → List ℕ → Type 0
 IsDone Help known text = text ≡ HELP.now
 IsDone Version known text = text ≡ VERSION.now
 IsDone Replay known text = IsReplayed known text
 IsDone Check known text = IsChecked true known text
+IsDone Rerun known text = IsRerun known text
 
 -- A case for each command that can refuse its input: the text where it does.
 abbrev pub IsRefused : Command → Option (List ℕ) → List ℕ → Type 0
 IsRefused Replay known text = IsRefusal known text
 IsRefused Check known text = IsChecked false known text
+IsRefused Rerun known text = IsRerunRefusal known text
 IsRefused command known text = ⊥
 
 -- A case for each command that can refuse its input: which inputs it doesn't refuse.
 abbrev pub Accepts : Command → List ℕ → Type 0
 Accepts Replay input = InGrammar input
 Accepts Check input = (told input).sound ≡ true
+Accepts Rerun input = SaysRun input
 Accepts command input = Unit {0}
 
 -- what a command makes of its input

@@ -13,8 +13,10 @@ use std::alloc::Global;
 use xmpp_check::check;
 use xmpp_direct::direct_is_lawful;
 use xmpp_edge::{Bytes, NoMemory, ReadAllFault, Source, read_all};
+use xmpp_journal::InputFault;
 use xmpp_replay::direct;
 use xmpp_report::report_text;
+use xmpp_rerun::rerun_bytes;
 use xmpp_schedule::{ScheduleFault, read_schedule};
 
 /// What a call comes to, and the text that is due.
@@ -74,6 +76,23 @@ fn checked(alloc: Global, input: &[u8]) -> Result<Answer, NoMemory>
     })
 }
 
+/// What comes of the run whose text this is, done again, or the refusal of the text.
+fn reran(alloc: Global, input: Bytes) -> Result<Answer, NoMemory>
+    ensures { IfOk result (λ answer. IsAnswer Command.Rerun (Some input.items) answer.outcome answer.text.items) }
+{
+    match rerun_bytes(alloc, input) {
+        Ok(text) => Ok(Answer {
+            outcome: Outcome::Done,
+            text,
+        }),
+        Err(InputFault::BadLine { line, why }) => Ok(Answer {
+            outcome: Outcome::Refused,
+            text: refusal(alloc, line, why)?,
+        }),
+        Err(InputFault::NoMemory) => Err(NoMemory),
+    }
+}
+
 /// The answer of a command to an input, which it looks at only if it is one that reads.
 fn answer_to(alloc: Global, command: Command, input: Bytes) -> Result<Answer, NoMemory>
     ensures { IfOk result (λ answer. IsAnswer command (Some input.items) answer.outcome answer.text.items) }
@@ -83,6 +102,7 @@ fn answer_to(alloc: Global, command: Command, input: Bytes) -> Result<Answer, No
         Command::Version => said(alloc, Outcome::Done, VERSION),
         Command::Replay => replayed(alloc, input),
         Command::Check => checked(alloc, input.as_slice()),
+        Command::Rerun => reran(alloc, input),
     }
 }
 

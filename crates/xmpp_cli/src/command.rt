@@ -13,6 +13,8 @@ pub enum Command {
     Replay,
     /// The items of the stream that is read.
     Check,
+    /// What the server of a journal that is read puts out, done again.
+    Rerun,
 }
 
 impl Command {
@@ -26,6 +28,7 @@ impl Command {
             [word] if word.as_str() == "--version" => Some(Command::Version),
             [word] if word.as_str() == "replay" => Some(Command::Replay),
             [word] if word.as_str() == "check" => Some(Command::Check),
+            [word] if word.as_str() == "rerun" => Some(Command::Rerun),
             _ => None,
         }
     }
@@ -36,7 +39,7 @@ impl Command {
     {
         match self {
             Command::Help | Command::Version => false,
-            Command::Replay | Command::Check => true,
+            Command::Replay | Command::Check | Command::Rerun => true,
         }
     }
 }

@@ -1,4 +1,5 @@
-//! The program `xmpp`: it replays a schedule of messages and writes what came of it, or checks a stream.
+//! The program `xmpp`: it replays a schedule of messages and writes what came of it, checks a stream, or does again what a
+//! server did.
 #![tactic(auto)]
 
 mod answering;

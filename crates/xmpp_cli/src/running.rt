@@ -51,7 +51,7 @@ fn write_due<S: Source, K: Sink>(
 /// |---|---|---|
 /// | 0 | where it was done | the text asked for |
 /// | 2 | exactly where the words are not in the table | `words` |
-/// | 3 | exactly where the input, read to its end, is no schedule's text, or of `check` something is wrong with the stream | its first bad line, and the reason; of `check` what is told of the stream |
+/// | 3 | exactly where the input, read to its end, is not the text of a schedule, of `rerun` of accounts and a journal, or of `check` something is wrong with the stream | its first bad line, and the reason; of `check` what is told of the stream |
 /// | 4 | only where a read failed | `read fault` |
 /// | 5 | exactly where a write failed | a prefix of what was due |
 /// | 6 | where memory ran out | nothing |

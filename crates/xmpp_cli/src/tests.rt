@@ -48,9 +48,41 @@ const STREAM: &str =
 const ITEMS: &str =
     "<stream:stream to='chat.example' version='1.0' xmlns='jabber:client' xmlns:stream='http://etherx.jabber.org/streams'>\n<a/>\nend\n";
 
+// A connection on which a byte comes that no character has.
+const RUN: &str = "\
+xmpp-accounts 1
+domain chat.example
+account alice pw-alice
+account bob pw-bob
+account o!d ~!\"
+%%
+xmpp-journal 1
+connect 1 1000 000000000000000000000000000000000000000000000000
+piece 1 300999 3c73747265616d3a73747265616d20746f3d27636861742e6578616d706c65272076657273696f6e3d273\
+12e302720786d6c6e733d276a61626265723a636c69656eff742720786d6c6e733a73747265616d3d27687474703a2f2f657\
+46865
+gone 1 300999
+";
+
+const RUN_AGAIN: &str = "\
+xmpp-rerun 1
+out 1 3c3f786d6c2076657273696f6e3d27312e30273f3e3c73747265616d3a73747265616d2066726f6d3d27636861742e\
+6578616d706c65272069643d2730303030303030303030303030303030303030303030303030303031272076657273696f6e\
+3d27312e302720786d6c3a6c616e673d27656e2720786d6c6e733d276a61626265723a636c69656e742720786d6c6e733a73\
+747265616d3d27687474703a2f2f6574686572782e6a61626265722e6f72672f73747265616d73273e
+out 1 3c73747265616d3a6572726f723e3c756e737570706f727465642d656e636f64696e6720786d6c6e733d2775726e3a\
+696574663a706172616d733a786d6c3a6e733a786d70702d73747265616d73272f3e3c2f73747265616d3a6572726f723e
+out 1 3c2f73747265616d3a73747265616d3e
+shut 1
+account alice 0
+account bob 0
+account o!d 0
+end
+";
+
 // A word, the input, the reading that fails and the writing that fails, from 1 or 0 for none, the status, and what is
 // written.
-static CALLS: [(&str, &str, u64, u64, u8, &str); 8] = [
+static CALLS: [(&str, &str, u64, u64, u8, &str); 9] = [
     ("replay", SCHEDULE, 0, 0, 0, REPORT),
     (
         "replay",
@@ -62,6 +94,7 @@ static CALLS: [(&str, &str, u64, u64, u8, &str); 8] = [
     ),
     ("replay", SCHEDULE, 2, 0, 4, "read fault\n"),
     ("check", STREAM, 0, 0, 0, ITEMS),
+    ("rerun", RUN, 0, 0, 0, RUN_AGAIN),
     ("check", "<a", 0, 1, 5, ""),
     ("--help", "", 1, 0, 0, HELP),
     ("--version", "", 1, 0, 0, VERSION),

@@ -19,7 +19,7 @@ pub const TOO_LONG_LINE: &str = "too long\n";
 pub const VERSION: &str = "xmpp 1\n";
 
 /// How the program is called, in one line.
-pub const USAGE: &str = "usage: xmpp --help | --version | replay | check";
+pub const USAGE: &str = "usage: xmpp --help | --version | replay | check | rerun";
 
 /// How the program is called, and what it answers.
 pub const HELP: &str = "\
@@ -27,10 +27,11 @@ xmpp --help     writes this text
 xmpp --version  writes the name and the version
 xmpp replay     reads a schedule from standard input and writes its report
 xmpp check      reads one direction of a stream from standard input and writes its items
+xmpp rerun      reads accounts and a server's journal from standard input, does again what the server did, and writes it
 The exit status is
  0  where it was done
  2  where the words are none of these
- 3  where the input is no schedule, or the stream has a fault or ends in an item; what is wrong is written
+ 3  where the input is no schedule or no journal, or the stream has a fault or ends in an item; what is wrong is written
  4  where a read failed
  5  where a write failed
  6  where memory ran out; nothing is written
