@@ -2,11 +2,11 @@
 use Rattle.std.proofs.Common.{◌≡◌, ℕ, zero, suc, ◌+◌, ◌<◌, ◌≤◌, List, [], ◌∷◌, ◌++◌, length, take, drop, refl, ap, sym, ◌∙◌, arith, add-one}
 use Rattle.xmpp_framing.specs.declared.items.Item.{Item}
 use Rattle.xmpp_framing.specs.Machine.{IsFrontOf}
-use Rattle.xmpp_client.specs.Clients as clients
+use Rattle.xmpp_client_rows.specs.Clients as clients
 use Rattle.xmpp_client.specs.Feeds as feeds
-use Rattle.xmpp_client.specs.Speech.{in_bytes}
+use Rattle.xmpp_client_rows.specs.Speech.{in_bytes}
 use Rattle.xmpp_client.specs.Steps as steps
-use Rattle.xmpp_client.specs.Turns.{left}
+use Rattle.xmpp_client_rows.specs.Turns.{left}
 
 abbrev Turn : Type 0
 Turn = clients.Turn (List ℕ) ℕ

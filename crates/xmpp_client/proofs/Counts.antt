@@ -1,19 +1,19 @@
 -- A stanza may be counted behind what it does: no rule looks at the count.
 use Rattle.std.proofs.Common.{◌≡◌, ℕ, Bool, true, false, List, Option, Some, None, Result, Ok, Err, IsSome, ap, refl, sym, ◌∙◌, if◌then◌else◌, nat_le, length, codes, ◌&&◌, is_some}
 use Rattle.std.specs.Option.{option_map}
-use Rattle.xmpp_client.specs.AckRows.{request_row}
-use Rattle.xmpp_client.specs.Clients.{Turn}
+use Rattle.xmpp_client_rows.specs.AckRows.{request_row}
+use Rattle.xmpp_client_rows.specs.Clients.{Turn}
 use Rattle.xmpp_client.specs.Counting.{counted, counted_session, management_in}
-use Rattle.xmpp_client.specs.MessageRows.{bounce_of, held_by, held_row, is_own_or_absent, live_in, logged, message_with, other_message, own_id, refuses, result_row, result_to, tells_where}
+use Rattle.xmpp_client_rows.specs.MessageRows.{bounce_of, error_within, held_by, held_row, is_own_or_absent, live_in, logged, message_with, other_message, own_id, refuses, result_row, result_to, tells_where}
 use Rattle.xmpp_client.specs.PageRows.{answer_to, answered_page, begins_page, error_of_page, goes_on, iq_by, is_not_found, is_ping, next_queryid, numbered, only_fin, page_answered, page_done, page_ended, page_stanza, requests, restarts, result_of_page}
-use Rattle.xmpp_client.specs.SessionRows.{is_read_stanza}
-use Rattle.xmpp_client.specs.Speech.{in_bytes}
+use Rattle.xmpp_client_rows.specs.SessionRows.{is_stanza}
+use Rattle.xmpp_client_rows.specs.Speech.{in_bytes}
 use Rattle.xmpp_client.specs.Steps.{handles, online_in, stanza_row, told_row}
-use Rattle.xmpp_client.specs.Turns.{ends, has_to_put, put_in, tells, with_log}
-use Rattle.xmpp_client.specs.declared.events.CatchUpFault.TheVariants.{Overrun, Refused}
-use Rattle.xmpp_client.specs.declared.events.Event.{Event}
-use Rattle.xmpp_client.specs.declared.events.Event.TheVariants.{PageDone}
-use Rattle.xmpp_client.specs.declared.events.PeerFault.TheVariants.{Unacknowledged}
+use Rattle.xmpp_client_rows.specs.Turns.{ends, has_to_put, put_in, tells, with_log}
+use Rattle.xmpp_client_rows.specs.declared.events.CatchUpFault.TheVariants.{Overrun, Refused}
+use Rattle.xmpp_client_rows.specs.declared.events.Event.{Event}
+use Rattle.xmpp_client_rows.specs.declared.events.Event.TheVariants.{PageDone}
+use Rattle.xmpp_client_rows.specs.declared.events.PeerFault.TheVariants.{Unacknowledged}
 use Rattle.xmpp_ext.specs.StreamManagement.{ack_read, is_management}
 use Rattle.xmpp_ext.specs.declared.forwarding.Forwarded.{Forwarded}
 use Rattle.xmpp_log.specs.LogCalls.{with_restart}
@@ -29,13 +29,11 @@ use Rattle.xmpp_outbox.specs.Waiting.{is_full}
 use Rattle.xmpp_pages.specs.declared.fin.Fin.{Fin}
 use Rattle.xmpp_payload.specs.Names.{archive}
 use Rattle.xmpp_payload.specs.declared.fault.ExtFault.{ExtFault}
-use Rattle.xmpp_stanza.specs.Errors.{stanza_error_of}
 use Rattle.xmpp_stanza.specs.Readings.{stanza_of}
 use Rattle.xmpp_stanza.specs.Views.{IqView, MessageView}
 use Rattle.xmpp_stanza.specs.declared.errors.StanzaError.{StanzaError}
 use Rattle.xmpp_stanza.specs.declared.fault.StanzaErrorFault.{StanzaErrorFault}
 use Rattle.xmpp_stanza.specs.declared.fault.StanzaFault.{StanzaFault}
-use Rattle.xmpp_stanza.specs.declared.fault.StanzaFault.TheVariants.{NotAStanza}
 use Rattle.xmpp_stanza.specs.declared.kinds.IqKind.{IqKind}
 use Rattle.xmpp_stanza.specs.declared.kinds.IqKind.TheVariants as iq
 use Rattle.xmpp_stanza.specs.declared.stanzas.Stanza.{Stanza}
@@ -73,17 +71,17 @@ tells_counted : (t : T) (event : Option Event) → tells_where (counted t) event
 tells_counted t None = refl
 tells_counted t (Some event) = refl
 
-other_counted : (t : T) (e : Elem) (m : MessageView) → other_message (counted t) e m ≡ counted (other_message t e m)
-other_counted t e m =
+other_counted : (t : T) (m : MessageView) → other_message (counted t) m ≡ counted (other_message t m)
+other_counted t m =
     let live = live_in t.client.account.bare m in
-    let bounce = bounce_of t.client e m in
+    let bounce = bounce_of t.client m in
     ap (λ u. tells_where u bounce) (held_counted t live (own_id t.client.account.bare (elements_of live.message.payload))) ∙ tells_counted (held_row t live) bounce
 
-message_with_counted : (t : T) (e : Elem) (m : MessageView) (result : Option Elem) → message_with (counted t) e m result ≡ counted (message_with t e m result)
-message_with_counted t e m None = other_counted t e m
-message_with_counted t e m (Some result) =
-    either (is_own_or_absent t.client.account.bare m.from) (result_row (counted t) (result_read result)) (other_message (counted t) e m) (result_row t (result_read result)) (other_message t e m)
-    (result_row_counted t (result_read result)) (other_counted t e m)
+message_with_counted : (t : T) (m : MessageView) (result : Option Elem) → message_with (counted t) m result ≡ counted (message_with t m result)
+message_with_counted t m None = other_counted t m
+message_with_counted t m (Some result) =
+    either (is_own_or_absent t.client.account.bare m.from) (result_row (counted t) (result_read result)) (other_message (counted t) m) (result_row t (result_read result)) (other_message t m)
+    (result_row_counted t (result_read result)) (other_counted t m)
 
 -- ---- what is put
 
@@ -125,56 +123,57 @@ error_of_page_counted t page (Ok error) =
     (restarts_counted t t.client.session page.max) refl
 error_of_page_counted t page (Err why) = refl
 
-answered_counted : (t : T) (e : Elem) (q : IqView) (page : OpenPage) (kind : IqKind) → answered_page in_bytes (counted t) e q page kind ≡ counted (answered_page in_bytes t e q page kind)
-answered_counted t e q page iq.Result = result_of_page_counted t page (only_fin (elements_of q.payload))
-answered_counted t e q page iq.Error = error_of_page_counted t page (stanza_error_of e)
-answered_counted t e q page iq.Get = refl
-answered_counted t e q page iq.Set = refl
+answered_counted : (t : T) (q : IqView) (page : OpenPage) (kind : IqKind) → answered_page in_bytes (counted t) q page kind ≡ counted (answered_page in_bytes t q page kind)
+answered_counted t q page iq.Result = result_of_page_counted t page (only_fin (elements_of q.payload))
+answered_counted t q page iq.Error = error_of_page_counted t page (error_within q.payload)
+answered_counted t q page iq.Get = refl
+answered_counted t q page iq.Set = refl
 
-page_answered_counted : (t : T) (e : Elem) (q : IqView) (page : Option OpenPage) → page_answered in_bytes (counted t) e q page ≡ counted (page_answered in_bytes t e q page)
-page_answered_counted t e q None = refl
-page_answered_counted t e q (Some page) =
-    either (is_own_or_absent t.client.account.bare q.from) (answered_page in_bytes (counted t) e q page q.kind) (counted t) (answered_page in_bytes t e q page q.kind) t
-    (answered_counted t e q page q.kind) refl
+page_answered_counted : (t : T) (q : IqView) (page : Option OpenPage) → page_answered in_bytes (counted t) q page ≡ counted (page_answered in_bytes t q page)
+page_answered_counted t q None = refl
+page_answered_counted t q (Some page) =
+    either (is_own_or_absent t.client.account.bare q.from) (answered_page in_bytes (counted t) q page q.kind) (counted t) (answered_page in_bytes t q page q.kind) t
+    (answered_counted t q page q.kind) refl
 
-iq_counted : (t : T) (e : Elem) (q : IqView) (kind : IqKind) → iq_by in_bytes (counted t) e q kind ≡ counted (iq_by in_bytes t e q kind)
-iq_counted t e q iq.Get = put_counted t t.client.session (written_item (answer_to q (is_ping (elements_of q.payload))))
-iq_counted t e q iq.Set = put_counted t t.client.session (written_item (answer_to q false))
-iq_counted t e q iq.Result = page_answered_counted t e q (page_for q.id t.client.log.page)
-iq_counted t e q iq.Error = page_answered_counted t e q (page_for q.id t.client.log.page)
+iq_counted : (t : T) (q : IqView) (kind : IqKind) → iq_by in_bytes (counted t) q kind ≡ counted (iq_by in_bytes t q kind)
+iq_counted t q iq.Get = put_counted t t.client.session (written_item (answer_to q (is_ping (elements_of q.payload))))
+iq_counted t q iq.Set = put_counted t t.client.session (written_item (answer_to q false))
+iq_counted t q iq.Result = page_answered_counted t q (page_for q.id t.client.log.page)
+iq_counted t q iq.Error = page_answered_counted t q (page_for q.id t.client.log.page)
 
 -- ---- stanzas
 
-pub stanza_counted : (t : T) (e : Elem) (read : Result Stanza StanzaFault) → stanza_row in_bytes (counted t) e read ≡ counted (stanza_row in_bytes t e read)
-stanza_counted t e (Ok (Message m)) = message_with_counted t e m (first_named archive (codes "result") m.payload)
-stanza_counted t e (Ok (Iq q)) = iq_counted t e q q.kind
-stanza_counted t e (Ok (Presence p)) = refl
-stanza_counted t e (Err why) = refl
+stanza_counted : (t : T) (read : Result Stanza StanzaFault) → stanza_row in_bytes (counted t) read ≡ counted (stanza_row in_bytes t read)
+stanza_counted t (Ok (Message m)) = message_with_counted t m (first_named archive (codes "result") m.payload)
+stanza_counted t (Ok (Iq q)) = iq_counted t q q.kind
+stanza_counted t (Ok (Presence p)) = refl
+stanza_counted t (Err why) = refl
 
 handled_is : (t : T) (s : S) (e : Elem) → t.client.session ≡ Some s → handles in_bytes t s e ≡ counted t
 handled_is t s e there = ap (λ (o : Option S). record t { client = record t.client { session = option_map counted_session o } }) (sym there)
 
--- what an element does, by the stanza that it is read as
-abbrev row_of : T → S → Elem → Result Stanza StanzaFault → T
-row_of t s e read =
-    if is_read_stanza read then stanza_row in_bytes (handles in_bytes t s e) e read
-    else (if is_management (codes "r") e then request_row in_bytes t s else told_row in_bytes t s (ack_read e))
+-- what an element does that is no stanza
+abbrev other_row : T → S → Elem → T
+other_row t s e = if is_management (codes "r") e then request_row in_bytes t s else told_row in_bytes t s (ack_read e)
 
 chosen : (c : Bool) (a b now : T) → c ≡ true → now ≡ a → now ≡ (if c then a else b)
 chosen true a b now is done = done
 chosen false a b now is done = absurd (cc is)
 
+passed : (c : Bool) (a b now : T) → c ≡ false → now ≡ b → now ≡ (if c then a else b)
+passed true a b now is done = absurd (cc is)
+passed false a b now is done = done
+
 -- a stanza, whose count comes last
-pub online_stanza : (t now : T) (o : Option S) (e : Elem) (read : Result Stanza StanzaFault) → IsSome o → t.client.session ≡ o → stanza_of e ≡ read → is_read_stanza read ≡ true
-    → now ≡ counted (stanza_row in_bytes t e read) → now ≡ online_in in_bytes t o e
-online_stanza t now None e read some there is stanza done = absurd (cc some)
-online_stanza t now (Some s) e read some there is stanza done =
-    let counts : now ≡ stanza_row in_bytes (handles in_bytes t s e) e read = done ∙ sym (stanza_counted t e read) ∙ ap (λ u. stanza_row in_bytes u e read) (sym (handled_is t s e there)) in
-    let row : now ≡ row_of t s e read =
-    chosen (is_read_stanza read) (stanza_row in_bytes (handles in_bytes t s e) e read) (if is_management (codes "r") e then request_row in_bytes t s else told_row in_bytes t s (ack_read e)) now stanza counts in
-    row ∙ ap (row_of t s e) (sym is)
+pub online_stanza : (t now : T) (o : Option S) (e : Elem) (read : Result Stanza StanzaFault) → IsSome o → t.client.session ≡ o → is_stanza e ≡ true → stanza_of e ≡ read
+    → now ≡ counted (stanza_row in_bytes t read) → now ≡ online_in in_bytes t o e
+online_stanza t now None e read some there stanza is done = absurd (cc some)
+online_stanza t now (Some s) e read some there stanza is done =
+    let counts : now ≡ stanza_row in_bytes (handles in_bytes t s e) (stanza_of e) =
+    done ∙ sym (stanza_counted t read) ∙ ap (λ u. stanza_row in_bytes u read) (sym (handled_is t s e there)) ∙ ap (stanza_row in_bytes (handles in_bytes t s e)) (sym is) in
+    chosen (is_stanza e) (stanza_row in_bytes (handles in_bytes t s e) (stanza_of e)) (other_row t s e) now stanza counts
 
 -- an element that is none
-pub online_other : (t now : T) (o : Option S) (e : Elem) → stanza_of e ≡ Err NotAStanza → now ≡ management_in in_bytes t o e → now ≡ online_in in_bytes t o e
-online_other t now None e is done = done
-online_other t now (Some s) e is done = rw is done
+pub online_other : (t now : T) (o : Option S) (e : Elem) → is_stanza e ≡ false → now ≡ management_in in_bytes t o e → now ≡ online_in in_bytes t o e
+online_other t now None e other done = done
+online_other t now (Some s) e other done = passed (is_stanza e) (stanza_row in_bytes (handles in_bytes t s e) (stanza_of e)) (other_row t s e) now other done

@@ -1,13 +1,7 @@
 -- Items, one by one.
 pub mod Alongs
--- Rows of the login, and what waits again at a resumption.
-pub mod Followed
-pub mod Resending
-pub mod AckSteps
--- Stanzas: their count, ids that the account gave, and results.
+-- Stanzas: their count, and payloads of one element.
 pub mod Counts
-pub mod OwnIds
-pub mod Results
 pub mod Payloads
 -- Pages.
 pub mod OpenPages

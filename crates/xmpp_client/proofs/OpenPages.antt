@@ -2,17 +2,16 @@
 use Rattle.std.proofs.Common.{◌≡◌, ℕ, Bool, true, false, List, Option, Some, None, Result, Ok, IfSome, IsSome, is_some, ◌&&◌, refl, ap, sym, if◌then◌else◌, ◌∙◌}
 use Rattle.std.specs.Option.{option_and_then, option_map}
 use Rattle.std.specs.Str.{bytes_eq}
-use Rattle.xmpp_client.specs.Clients.{Turn}
-use Rattle.xmpp_client.specs.MessageRows.{is_own_or_absent, refuses}
+use Rattle.xmpp_client_rows.specs.Clients.{Turn}
+use Rattle.xmpp_client_rows.specs.MessageRows.{is_own_or_absent, refuses}
 use Rattle.xmpp_client.specs.PageRows.{answered_page, error_of_page, is_not_found, page_answered, restarts}
-use Rattle.xmpp_client.specs.Speech.{in_bytes}
-use Rattle.xmpp_client.specs.declared.events.CatchUpFault.TheVariants.{Refused}
+use Rattle.xmpp_client_rows.specs.Speech.{in_bytes}
+use Rattle.xmpp_client_rows.specs.declared.events.CatchUpFault.TheVariants.{Refused}
 use Rattle.xmpp_log.specs.Views.{OpenPage, page_for}
 use Rattle.xmpp_requests.specs.Messages.{page_text}
 use Rattle.xmpp_stanza.specs.Views.{IqView}
 use Rattle.xmpp_stanza.specs.declared.errors.StanzaError.{StanzaError}
 use Rattle.xmpp_stanza.specs.declared.fault.StanzaErrorFault.{StanzaErrorFault}
-use Rattle.xmpp_trees.specs.Trees.{Elem}
 
 abbrev T : Type 0
 T = Turn (List ℕ) ℕ
@@ -43,23 +42,23 @@ asked_most (Some page) queryid stanza after max is text = let same : max ≡ pag
 
 -- ---- an answer
 
-pub other_id : (t : T) (e : Elem) (q : IqView) (o : Option OpenPage) → is_some o ≡ false → t ≡ page_answered in_bytes t e q o
-other_id t e q None none = refl
-other_id t e q (Some page) none = absurd (cc none)
+pub other_id : (t : T) (q : IqView) (o : Option OpenPage) → is_some o ≡ false → t ≡ page_answered in_bytes t q o
+other_id t q None none = refl
+other_id t q (Some page) none = absurd (cc none)
 
-pub other_sender : (t : T) (e : Elem) (q : IqView) (o : Option OpenPage) → is_own_or_absent t.client.account.bare q.from ≡ false → t ≡ page_answered in_bytes t e q o
-other_sender t e q None other = refl
-other_sender t e q (Some page) other = rw other refl
+pub other_sender : (t : T) (q : IqView) (o : Option OpenPage) → is_own_or_absent t.client.account.bare q.from ≡ false → t ≡ page_answered in_bytes t q o
+other_sender t q None other = refl
+other_sender t q (Some page) other = rw other refl
 
 own_answer : (own : Bool) (t now answered : T) → own ≡ true → now ≡ answered → now ≡ (if own then answered else t)
 own_answer true t now answered is done = done
 own_answer false t now answered is done = absurd (cc is)
 
-pub answer_taken : (t now : T) (e : Elem) (q : IqView) (o : Option OpenPage) → is_some o ≡ true → is_own_or_absent t.client.account.bare q.from ≡ true
-    → ((page : OpenPage) → o ≡ Some page → now ≡ answered_page in_bytes t e q page q.kind) → now ≡ page_answered in_bytes t e q o
-answer_taken t now e q None some own by = absurd (cc some)
-answer_taken t now e q (Some page) some own by =
-    own_answer (is_own_or_absent t.client.account.bare q.from) t now (answered_page in_bytes t e q page q.kind) own (by page refl)
+pub answer_taken : (t now : T) (q : IqView) (o : Option OpenPage) → is_some o ≡ true → is_own_or_absent t.client.account.bare q.from ≡ true
+    → ((page : OpenPage) → o ≡ Some page → now ≡ answered_page in_bytes t q page q.kind) → now ≡ page_answered in_bytes t q o
+answer_taken t now q None some own by = absurd (cc some)
+answer_taken t now q (Some page) some own by =
+    own_answer (is_own_or_absent t.client.account.bare q.from) t now (answered_page in_bytes t q page q.kind) own (by page refl)
 
 -- ---- an error
 

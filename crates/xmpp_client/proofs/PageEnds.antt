@@ -1,13 +1,13 @@
 -- What the log answers to the end of a page is what comes of it.
-use Rattle.std.proofs.Common.{◌≡◌, ◌≢◌, ◌⊎◌, ⊎_elim, ℕ, Bool, true, false, not, ◌&&◌, List, Option, Some, None, Result, Ok, Err, IfSome, IsSome, is_none, length, refl, ap, subst, sym, ◌∙◌, if◌then◌else◌}
+use Rattle.std.proofs.Common.{◌≡◌, ◌≢◌, ◌⊎◌, ⊎_elim, ℕ, Bool, true, false, not, ◌&&◌, ◌||◌, List, Option, Some, None, Result, Ok, Err, IfSome, IsSome, is_none, length, refl, ap, subst, sym, ◌∙◌, if◌then◌else◌}
 use Rattle.std.specs.Prelude.{nat_lt}
 use Rattle.xmpp_client.specs.Asking.{asks_in}
-use Rattle.xmpp_client.specs.Clients.{Turn}
+use Rattle.xmpp_client_rows.specs.Clients.{Turn}
 use Rattle.xmpp_client.specs.PageRows.{begins_page, catch_up_fault, goes_on, has_place, leaves_full, next_queryid, numbered, page_ended, page_stanza, requests, restarts}
-use Rattle.xmpp_client.specs.Speech.{in_bytes}
-use Rattle.xmpp_client.specs.Turns.{ends, tells, with_log}
-use Rattle.xmpp_client.specs.declared.events.Event.TheVariants.{CatchUpRefused, PageDone}
-use Rattle.xmpp_client.specs.declared.events.PeerFault.TheVariants.{Unacknowledged}
+use Rattle.xmpp_client_rows.specs.Speech.{in_bytes}
+use Rattle.xmpp_client_rows.specs.Turns.{ends, tells, with_log}
+use Rattle.xmpp_client_rows.specs.declared.events.Event.TheVariants.{CatchUpRefused, PageDone}
+use Rattle.xmpp_client_rows.specs.declared.events.PeerFault.TheVariants.{Unacknowledged}
 use Rattle.xmpp_log.proofs.Turned.{told_behind}
 use Rattle.xmpp_log.specs.LogCalls.{begun_again, restart_answer, with_restart}
 use Rattle.xmpp_log.specs.LogPages.{ids_of, last_id}
@@ -57,6 +57,36 @@ page_end log page fin =
     by_last (same_id fin.last (last_id page.results)) fin.last (last_id page.results) (repeat_of (first_repeat (ids_of log.entries) (ids_of page.results)) (advance_of fin.complete page))
     (by_repeat (first_repeat (ids_of log.entries) (ids_of page.results)) (advance_of fin.complete page) (by_advance (nat_lt (length page.results) 1 && not fin.complete) fin.complete))
 
+-- ---- where none is asked for behind it
+
+abbrev IsNotLast : Bool → R → Type 0
+IsNotLast complete (Ok More) = complete ≡ false
+IsNotLast complete _ = Unit {0}
+
+last_by_advance : (empty complete : Bool) → IsNotLast complete (if empty then Err fault.NoAdvance else Ok (outcome_of complete))
+last_by_advance true complete = tt
+last_by_advance false true = tt
+last_by_advance false false = refl
+
+last_by_repeat : (complete : Bool) (o : Option (List ℕ)) (r : R) → IsNotLast complete r → IsNotLast complete (repeat_of o r)
+last_by_repeat complete None r is = is
+last_by_repeat complete (Some id) r is = tt
+
+last_by_last : (complete same : Bool) (last got : Option (List ℕ)) (r : R) → IsNotLast complete r → IsNotLast complete (if same then r else Err (fault.Mismatch last got))
+last_by_last complete true last got r is = is
+last_by_last complete false last got r is = tt
+
+-- behind a page that is the last one there is none
+not_last : (log : LogView) (page : OpenPage) (fin : Fin) → IsNotLast fin.complete (end_of log page fin)
+not_last log page fin =
+    last_by_last fin.complete (same_id fin.last (last_id page.results)) fin.last (last_id page.results) (repeat_of (first_repeat (ids_of log.entries) (ids_of page.results)) (advance_of fin.complete page))
+    (last_by_repeat fin.complete (first_repeat (ids_of log.entries) (ids_of page.results)) (advance_of fin.complete page) (last_by_advance (nat_lt (length page.results) 1 && not fin.complete) fin.complete))
+
+no_place_where : (complete place : Bool) → (complete || not place) ≡ true → complete ≡ false → place ≡ false
+no_place_where true place either none = absurd (cc none)
+no_place_where false true either none = absurd (cc either)
+no_place_where false false either none = refl
+
 breaks_off : (log : LogView) (why : FinFault) → IsPageEnd (Err why) → after_refusal why log ≡ without_page log
 breaks_off log fault.Stranger is = absurd is
 breaks_off log (fault.Mismatch last got) is = refl
@@ -97,9 +127,11 @@ full_leaves t (Some s) max full = by (is_full s.waiting) full
     by true is = refl
     by false is = absurd (cc is)
 
-pub more_full : (t now : T) (queryid : List ℕ) (fin : Fin) (page : OpenPage) → has_place t.client.session ≡ false → page_for queryid t.client.log.page ≡ Some page → IsDue (Ok More) (fin_answer t.client.log queryid fin)
+pub more_full : (t now : T) (queryid : List ℕ) (fin : Fin) (page : OpenPage) → (fin.complete || not (has_place t.client.session)) ≡ true → page_for queryid t.client.log.page ≡ Some page → IsDue (Ok More) (fin_answer t.client.log queryid fin)
     → now ≡ leaves_full (tells (with_log t (after_fin t.client.log fin)) (PageDone More)) t.client.session → now ≡ page_ended in_bytes t page fin (end_of t.client.log page fin)
-more_full t now queryid fin page full found due is =
+more_full t now queryid fin page last found due is =
+    let answer : end_of t.client.log page fin ≡ Ok More = due_is t.client.log queryid fin page (Ok More) found due (λ e. cc e) in
+    let full : has_place t.client.session ≡ false = no_place_where fin.complete (has_place t.client.session) last (subst (IsNotLast fin.complete) answer (not_last t.client.log page fin)) in
     is ∙ full_leaves (tells (with_log t (after_fin t.client.log fin)) (PageDone More)) t.client.session page.max full ∙ ended_as t queryid fin page (Ok More) found due (λ e. cc e)
 
 pub refused : (t now : T) (queryid : List ℕ) (fin : Fin) (page : OpenPage) (why : FinFault) → page_for queryid t.client.log.page ≡ Some page → IsDue (Err why) (fin_answer t.client.log queryid fin) → why ≢ fault.NoMemory

@@ -1,13 +1,17 @@
 -- Submissions and page requests of the user, where a session stands.
 use Rattle.std.proofs.Common.{◌≡◌, ℕ, List, Option, Some, None, IsSome, ap, refl, subst, sym, ◌∙◌, arith}
 use Rattle.xmpp_acks.specs.declared.end.TheConstants.{MOST_UNACKNOWLEDGED}
-use Rattle.xmpp_client.specs.Acks.{HasFewer}
+use Rattle.xmpp_client_rows.specs.Acks.{HasFewer}
 use Rattle.xmpp_client.specs.Asking.{asks_in, queues_in}
-use Rattle.xmpp_client.specs.Clients.{Turn}
-use Rattle.xmpp_client.specs.Speech.{in_bytes}
+use Rattle.xmpp_client_rows.specs.Clients.{Turn}
+use Rattle.xmpp_client_rows.specs.Speech.{in_bytes}
 use Rattle.xmpp_client.specs.Feeds.{Fed}
-use Rattle.xmpp_client.specs.Turns.{drops, left, with_log}
-use Rattle.xmpp_client.specs.UserCalls.{catches_up, catches_up_in, closes, closes_turn, submits}
+use Rattle.xmpp_client_rows.specs.Turns.{drops, left, puts_footer, with_log}
+use Rattle.xmpp_client.specs.UserCalls.{catches_up, catches_up_in, closes, dials, submits}
+use Rattle.xmpp_client_rows.specs.LoginSteps.{follows}
+use Rattle.xmpp_client_login.specs.LoginRows.{begin_row}
+use Rattle.xmpp_framing.specs.Limits.{client_limits}
+use Rattle.xmpp_framing.specs.States.{from_start}
 use Rattle.xmpp_log.specs.LogPages.{last_id}
 use Rattle.xmpp_log.specs.Views.{LogView, with_begun}
 use Rattle.xmpp_outbox.specs.Sessions.{SessionView}
@@ -61,6 +65,13 @@ caught_up t now log queryid max number stanza some is_number is_id is_stanza is_
     ∙ ap (λ z. asks_in in_bytes (with_log t (with_begun t.client.log (queryid_text (next_number t.client.pages)) max)) t.client.session (next_number t.client.pages) z) is_stanza
     ∙ caught_in t t.client.session max some
 
+-- ---- connections
+
+-- what a login begins with goes out on the new connection
+pub dialed : (f new : Fed (List ℕ) ℕ) (now : Turn (List ℕ) ℕ) (entropy : List ℕ) → now ≡ follows in_bytes f.turn (begin_row f.turn.client.account.login.domain entropy)
+    → new ≡ record { framer = Some (from_start client_limits); turn = now } → new ≡ dials in_bytes entropy f
+dialed f new now entropy same is = is ∙ ap (λ (t : Turn (List ℕ) ℕ). record { framer = Some (from_start client_limits); turn = t }) same
+
 -- the footer goes out, and the session ends
-pub closed : (f new : Fed (List ℕ) ℕ) (u : T) → u ≡ closes_turn in_bytes f.turn → new ≡ record { framer = None; turn = drops in_bytes (left u) } → new ≡ closes in_bytes f
+pub closed : (f new : Fed (List ℕ) ℕ) (u : T) → u ≡ puts_footer in_bytes f.turn → new ≡ record { framer = None; turn = drops in_bytes (left u) } → new ≡ closes in_bytes f
 closed f new u is done = done ∙ ap (λ (v : T). record { framer = None; turn = drops in_bytes (left v) }) is

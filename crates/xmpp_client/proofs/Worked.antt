@@ -1,18 +1,18 @@
 -- The rows of a client, evaluated at small clients whose items are told as they are.
 use Rattle.std.proofs.Common.{◌≡◌, ℕ, true, false, List, [], ◌∷◌, Some, None, Err, refl, codes}
 use Rattle.std.specs.Option.{option_map}
-use Rattle.xmpp_client.specs.AckRows.{ack_row}
-use Rattle.xmpp_client.specs.Clients.{ClientView, Turn}
+use Rattle.xmpp_client_rows.specs.AckRows.{ack_row}
+use Rattle.xmpp_client_rows.specs.Clients.{ClientView, Turn}
 use Rattle.xmpp_client.specs.PageRows.{restarts}
-use Rattle.xmpp_client.specs.SessionRows.{begins, begins_epoch, failed_row, resumed_row, resumes_or_binds}
-use Rattle.xmpp_client.specs.Speech.{in_items, Acknowledged as AcknowledgedNote, Ended as EndedNote}
-use Rattle.xmpp_client.specs.Turns.{left}
+use Rattle.xmpp_client_rows.specs.SessionRows.{begins, begins_epoch, failed_row, resumed_row, resumes_or_binds}
+use Rattle.xmpp_client_rows.specs.Speech.{in_items, Acknowledged as AcknowledgedNote, Ended as EndedNote}
+use Rattle.xmpp_client_rows.specs.Turns.{left}
 use Rattle.xmpp_client.specs.UserCalls.{catch_up_answer, catches_up}
-use Rattle.xmpp_client.specs.declared.account.Account.{Account}
-use Rattle.xmpp_client.specs.declared.events.Event.TheVariants.{Acked, Ended, ResumeFailed, Resumed}
-use Rattle.xmpp_client.specs.declared.events.PeerFault.TheVariants.{TooHigh}
+use Rattle.xmpp_client_rows.specs.declared.account.Account.{Account}
+use Rattle.xmpp_client_rows.specs.declared.events.Event.TheVariants.{Acked, Ended, ResumeFailed, Resumed}
+use Rattle.xmpp_client_rows.specs.declared.events.PeerFault.TheVariants.{TooHigh}
 use Rattle.xmpp_client.specs.declared.faults.CatchUpStart.TheVariants.{Underway}
-use Rattle.xmpp_client.specs.declared.phase.Phase.TheVariants as phase
+use Rattle.xmpp_client_rows.specs.declared.phase.Phase.TheVariants as phase
 use Rattle.xmpp_log.specs.Views.{LogView}
 use Rattle.xmpp_outbox.specs.Sessions.{SessionView}
 use Rattle.xmpp_outbox.specs.Waiting.{Waiting}

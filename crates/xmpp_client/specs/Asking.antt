@@ -1,8 +1,8 @@
 -- A page request and a submission that are put where a session may stand; without one nothing is done.
 use Rattle.std.specs.Prelude.{ℕ, true, false, Option, Some, None}
-use Rattle.xmpp_client.specs.Clients.{Turn}
+use Rattle.xmpp_client_rows.specs.Clients.{Turn}
 use Rattle.xmpp_client.specs.PageRows.{requests}
-use Rattle.xmpp_client.specs.Speech.{Speech}
+use Rattle.xmpp_client_rows.specs.Speech.{Speech}
 use Rattle.xmpp_outbox.specs.Sessions.{SessionView}
 
 abbrev pub asks_in : {A X : Type 0} → Speech A X → Turn A X → Option (SessionView A) → ℕ → A → Turn A X

@@ -1,9 +1,9 @@
 -- Where the client is online, what a stanza does and that it is counted are told apart.
 use Rattle.std.specs.Prelude.{Option, Some, None, codes, if◌then◌else◌}
 use Rattle.std.specs.Option.{option_map}
-use Rattle.xmpp_client.specs.AckRows.{request_row}
-use Rattle.xmpp_client.specs.Clients.{ClientView, Turn}
-use Rattle.xmpp_client.specs.Speech.{Speech}
+use Rattle.xmpp_client_rows.specs.AckRows.{request_row}
+use Rattle.xmpp_client_rows.specs.Clients.{ClientView, Turn}
+use Rattle.xmpp_client_rows.specs.Speech.{Speech}
 use Rattle.xmpp_client.specs.Steps.{told_row}
 use Rattle.xmpp_ext.specs.StreamManagement.{ack_read, is_management}
 use Rattle.xmpp_outbox.specs.Sessions.{SessionView, with_waiting}

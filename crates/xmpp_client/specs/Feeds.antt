@@ -1,10 +1,10 @@
 -- The client's step over bytes.
 use Rattle.std.specs.Prelude.{◌≡◌, ℕ, ◌≤◌, List, [], Option, Some, None, length, take, drop, if◌then◌else◌}
-use Rattle.xmpp_client.specs.Clients.{Turn}
-use Rattle.xmpp_client.specs.Speech.{Speech}
+use Rattle.xmpp_client_rows.specs.Clients.{Turn}
+use Rattle.xmpp_client_rows.specs.Speech.{Speech}
 use Rattle.xmpp_client.specs.Steps.{items_run}
-use Rattle.xmpp_client.specs.Turns.{ends, is_apart, left}
-use Rattle.xmpp_client.specs.declared.events.PeerFault.TheVariants.{Framing}
+use Rattle.xmpp_client_rows.specs.Turns.{ends, is_apart, left}
+use Rattle.xmpp_client_rows.specs.declared.events.PeerFault.TheVariants.{Framing}
 use Rattle.xmpp_framing.specs.Machine as machine
 use Rattle.xmpp_framing.specs.States as framer
 use Rattle.xmpp_framing.specs.declared.fault.Fault.{Fault}

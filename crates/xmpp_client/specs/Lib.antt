@@ -7,22 +7,15 @@ pub use Rattle.xmpp_stanza.specs.Views as StanzaViews
 pub use Rattle.xmpp_scram.specs.Exchange
 pub use Rattle.xmpp_log.specs.Views as LogViews
 pub use Rattle.xmpp_outbox.specs.Kept
--- Machine: the rows of the client's table, over any speech.
-pub mod Speech
-pub mod Clients
-pub mod Turns
-pub mod LoginSteps
-pub mod AckRows
-pub mod SessionRows
-pub mod MessageRows
+pub use Rattle.xmpp_client_rows.specs.Views
+-- Machine: the rows of pages and requests, and the table, over any speech.
 pub mod PageRows
 pub mod Steps
 pub mod Feeds
 pub mod UserCalls
 -- Steps of the code that no row is: where a session may stand, and without the count of a stanza.
-pub mod Acks
 pub mod Counting
 pub mod Asking
 -- View: what clauses see of a client.
-pub mod Views
+pub mod Values
 pub mod Making

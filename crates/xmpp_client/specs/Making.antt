@@ -1,10 +1,10 @@
 -- What a client is made of, or why none is made.
 use Rattle.std.specs.Prelude.{ℕ, List, [], Option, Some, None, Result, Ok, Err, if◌then◌else◌}
-use Rattle.xmpp_client.specs.Views.{ClientValue}
-use Rattle.xmpp_client.specs.declared.account.Account.{Account}
+use Rattle.xmpp_client.specs.Values.{ClientValue}
+use Rattle.xmpp_client_rows.specs.declared.account.Account.{Account}
 use Rattle.xmpp_client.specs.declared.faults.ClientFault.{ClientFault}
 use Rattle.xmpp_client.specs.declared.faults.ClientFault.TheVariants.{BadAccount, BadPassword, BadResource}
-use Rattle.xmpp_client.specs.declared.phase.Phase.TheVariants.{Apart}
+use Rattle.xmpp_client_rows.specs.declared.phase.Phase.TheVariants.{Apart}
 use Rattle.xmpp_jid.specs.Cuts.{domain_of, local_of, resource_of}
 use Rattle.xmpp_jid.specs.Forms.{resource_form}
 use Rattle.xmpp_jid.specs.declared.fault.JidFault.{JidFault}

@@ -1,14 +1,14 @@
 -- What an `iq` does where the client is online: the end of a page (XEP-0313, sections 4.2 and 4.3), and requests of the peer.
 use Rattle.std.specs.Prelude.{ℕ, Bool, true, false, not, ◌&&◌, List, [], ◌∷◌, ◌++◌, Option, Some, None, Result, Ok, Err, codes, if◌then◌else◌, is_some}
 use Rattle.std.specs.Result.{result_ok}
-use Rattle.xmpp_client.specs.Clients.{Turn}
-use Rattle.xmpp_client.specs.MessageRows.{is_own_or_absent, refuses}
-use Rattle.xmpp_client.specs.Speech.{Speech, uttered}
-use Rattle.xmpp_client.specs.Turns.{ends, has_put, has_to_put, is_online, queues, tells, with_log}
-use Rattle.xmpp_client.specs.declared.events.CatchUpFault.{CatchUpFault}
-use Rattle.xmpp_client.specs.declared.events.CatchUpFault.TheVariants.{Mismatch, NoAdvance, Refused, Repeats}
-use Rattle.xmpp_client.specs.declared.events.Event.TheVariants.{PageDone}
-use Rattle.xmpp_client.specs.declared.events.PeerFault.TheVariants.{Unacknowledged}
+use Rattle.xmpp_client_rows.specs.Clients.{Turn}
+use Rattle.xmpp_client_rows.specs.MessageRows.{error_within, is_own_or_absent, refuses}
+use Rattle.xmpp_client_rows.specs.Speech.{Speech, uttered}
+use Rattle.xmpp_client_rows.specs.Turns.{ends, has_put, has_to_put, is_online, queues, tells, with_log}
+use Rattle.xmpp_client_rows.specs.declared.events.CatchUpFault.{CatchUpFault}
+use Rattle.xmpp_client_rows.specs.declared.events.CatchUpFault.TheVariants.{Mismatch, NoAdvance, Refused, Repeats}
+use Rattle.xmpp_client_rows.specs.declared.events.Event.TheVariants.{PageDone}
+use Rattle.xmpp_client_rows.specs.declared.events.PeerFault.TheVariants.{Unacknowledged}
 use Rattle.xmpp_log.specs.LogCalls.{with_restart}
 use Rattle.xmpp_log.specs.LogPages.{last_id}
 use Rattle.xmpp_log.specs.Views.{OpenPage, after_fin, end_of, page_for, with_begun, without_page}
@@ -25,7 +25,6 @@ use Rattle.xmpp_payload.specs.Names.{pings}
 use Rattle.xmpp_replies.specs.Management.{request_item}
 use Rattle.xmpp_replies.specs.Requests.{EnvelopeView, iq_error_item, result_item}
 use Rattle.xmpp_requests.specs.Messages.{page_item, queryid_text}
-use Rattle.xmpp_stanza.specs.Errors.{stanza_error_of}
 use Rattle.xmpp_stanza.specs.Views.{IqView}
 use Rattle.xmpp_stanza.specs.declared.conditions.Condition.{Condition}
 use Rattle.xmpp_stanza.specs.declared.conditions.Condition.TheVariants.{ItemNotFound, Other, ServiceUnavailable}
@@ -142,21 +141,21 @@ answer_to q false = iq_error_item (answer_envelope q) unavailable
 
 -- ---- the rules of an `iq`, whose stanza is counted
 
-abbrev pub answered_page : {A X : Type 0} → Speech A X → Turn A X → Elem → IqView → OpenPage → IqKind → Turn A X
-answered_page speech t e q page iq.Result = result_of_page speech t page (only_fin (elements_of q.payload))
-answered_page speech t e q page iq.Error = error_of_page speech t page (stanza_error_of e)
-answered_page speech t e q page iq.Get = t
-answered_page speech t e q page iq.Set = t
+abbrev pub answered_page : {A X : Type 0} → Speech A X → Turn A X → IqView → OpenPage → IqKind → Turn A X
+answered_page speech t q page iq.Result = result_of_page speech t page (only_fin (elements_of q.payload))
+answered_page speech t q page iq.Error = error_of_page speech t page (error_within q.payload)
+answered_page speech t q page iq.Get = t
+answered_page speech t q page iq.Set = t
 
-abbrev pub page_answered : {A X : Type 0} → Speech A X → Turn A X → Elem → IqView → Option OpenPage → Turn A X
-page_answered speech t e q None = t
-page_answered speech t e q (Some page) = if is_own_or_absent t.client.account.bare q.from then answered_page speech t e q page q.kind else t
+abbrev pub page_answered : {A X : Type 0} → Speech A X → Turn A X → IqView → Option OpenPage → Turn A X
+page_answered speech t q None = t
+page_answered speech t q (Some page) = if is_own_or_absent t.client.account.bare q.from then answered_page speech t q page q.kind else t
 
-abbrev pub iq_by : {A X : Type 0} → Speech A X → Turn A X → Elem → IqView → IqKind → Turn A X
-iq_by speech t e q iq.Get = has_to_put speech t t.client.session (speech.say (answer_to q (is_ping (elements_of q.payload))))
-iq_by speech t e q iq.Set = has_to_put speech t t.client.session (speech.say (answer_to q false))
-iq_by speech t e q iq.Result = page_answered speech t e q (page_for q.id t.client.log.page)
-iq_by speech t e q iq.Error = page_answered speech t e q (page_for q.id t.client.log.page)
+abbrev pub iq_by : {A X : Type 0} → Speech A X → Turn A X → IqView → IqKind → Turn A X
+iq_by speech t q iq.Get = has_to_put speech t t.client.session (speech.say (answer_to q (is_ping (elements_of q.payload))))
+iq_by speech t q iq.Set = has_to_put speech t t.client.session (speech.say (answer_to q false))
+iq_by speech t q iq.Result = page_answered speech t q (page_for q.id t.client.log.page)
+iq_by speech t q iq.Error = page_answered speech t q (page_for q.id t.client.log.page)
 
-abbrev pub iq_row : {A X : Type 0} → Speech A X → Turn A X → Elem → IqView → Turn A X
-iq_row speech t e q = iq_by speech t e q q.kind
+abbrev pub iq_row : {A X : Type 0} → Speech A X → Turn A X → IqView → Turn A X
+iq_row speech t q = iq_by speech t q q.kind

@@ -1,16 +1,16 @@
 -- The client's step over whole items: the rows of its states.
 use Rattle.std.specs.Prelude.{ℕ, List, [], ◌∷◌, Option, Some, None, Result, Ok, Err, codes, if◌then◌else◌, unwrap_or}
-use Rattle.xmpp_client.specs.AckRows.{ack_row, request_row}
-use Rattle.xmpp_client.specs.Clients.{Turn}
-use Rattle.xmpp_client.specs.LoginSteps.{header_row, login_row}
-use Rattle.xmpp_client.specs.MessageRows.{message_row}
+use Rattle.xmpp_client_rows.specs.AckRows.{ack_row, request_row}
+use Rattle.xmpp_client_rows.specs.Clients.{Turn}
+use Rattle.xmpp_client_rows.specs.LoginSteps.{header_row, login_row}
+use Rattle.xmpp_client_rows.specs.MessageRows.{message_row}
 use Rattle.xmpp_client.specs.PageRows.{iq_row}
-use Rattle.xmpp_client.specs.SessionRows.{binding_row, enabling_row, features2_row, is_stanza, resuming_row}
-use Rattle.xmpp_client.specs.Speech.{Speech, Handled}
-use Rattle.xmpp_client.specs.Turns.{ends, is_apart, notes, with_session}
-use Rattle.xmpp_client.specs.declared.events.PeerFault.TheVariants.{Closed, Stream}
-use Rattle.xmpp_client.specs.declared.phase.Phase.{Phase}
-use Rattle.xmpp_client.specs.declared.phase.Phase.TheVariants as phase
+use Rattle.xmpp_client_rows.specs.SessionRows.{binding_row, enabling_row, features2_row, is_stanza, resuming_row}
+use Rattle.xmpp_client_rows.specs.Speech.{Speech, Handled}
+use Rattle.xmpp_client_rows.specs.Turns.{ends, is_apart, notes, with_session}
+use Rattle.xmpp_client_rows.specs.declared.events.PeerFault.TheVariants.{Closed, Stream}
+use Rattle.xmpp_client_rows.specs.declared.phase.Phase.{Phase}
+use Rattle.xmpp_client_rows.specs.declared.phase.Phase.TheVariants as phase
 use Rattle.xmpp_ext.specs.StreamManagement.{ack_read, is_management}
 use Rattle.xmpp_ext.specs.declared.stream_management.Ack.{Ack}
 use Rattle.xmpp_framing.specs.declared.items.Item.{Item}
@@ -34,11 +34,11 @@ abbrev pub handles : {A X : Type 0} → Speech A X → Turn A X → SessionView 
 handles speech t s e = notes speech (with_session t s (counted_in s.waiting)) (Handled e)
 
 -- One that can't be read is counted, and dropped.
-abbrev pub stanza_row : {A X : Type 0} → Speech A X → Turn A X → Elem → Result Stanza StanzaFault → Turn A X
-stanza_row speech t e (Ok (Message m)) = message_row t e m
-stanza_row speech t e (Ok (Iq q)) = iq_row speech t e q
-stanza_row speech t e (Ok (Presence p)) = t
-stanza_row speech t e (Err fault) = t
+abbrev pub stanza_row : {A X : Type 0} → Speech A X → Turn A X → Result Stanza StanzaFault → Turn A X
+stanza_row speech t (Ok (Message m)) = message_row t m
+stanza_row speech t (Ok (Iq q)) = iq_row speech t q
+stanza_row speech t (Ok (Presence p)) = t
+stanza_row speech t (Err fault) = t
 
 abbrev pub told_row : {A X : Type 0} → Speech A X → Turn A X → SessionView A → Result Ack ExtFault → Turn A X
 told_row speech t s (Ok ack) = ack_row speech t s ack.h
@@ -47,7 +47,7 @@ told_row speech t s (Err why) = t
 abbrev pub online_in : {A X : Type 0} → Speech A X → Turn A X → Option (SessionView A) → Elem → Turn A X
 online_in speech t None e = t
 online_in speech t (Some s) e =
-    if is_stanza e then stanza_row speech (handles speech t s e) e (stanza_of e)
+    if is_stanza e then stanza_row speech (handles speech t s e) (stanza_of e)
     else (if is_management (codes "r") e then request_row speech t s else told_row speech t s (ack_read e))
 
 -- ---- elements

@@ -1,11 +1,11 @@
 -- What the user calls: dial, gone, forget, close, say, catch_up.
 use Rattle.std.specs.Prelude.{ℕ, nat_lt, nat_le, Bool, true, ◌||◌, not, List, Option, Some, None, Result, Ok, Err, length, if◌then◌else◌, is_some}
-use Rattle.xmpp_client.specs.Clients.{ClientView, Turn}
+use Rattle.xmpp_client_rows.specs.Clients.{ClientView, Turn}
 use Rattle.xmpp_client.specs.Feeds.{Fed}
-use Rattle.xmpp_client.specs.LoginSteps.{follows}
+use Rattle.xmpp_client_rows.specs.LoginSteps.{follows}
 use Rattle.xmpp_client.specs.PageRows.{begins_page, requests}
-use Rattle.xmpp_client.specs.Speech.{Speech, uttered}
-use Rattle.xmpp_client.specs.Turns.{drops, is_apart, left, puts}
+use Rattle.xmpp_client_rows.specs.Speech.{Speech}
+use Rattle.xmpp_client_rows.specs.Turns.{drops, left, puts_footer}
 use Rattle.xmpp_client.specs.declared.faults.CatchUpStart.{CatchUpStart}
 use Rattle.xmpp_client.specs.declared.faults.CatchUpStart.TheVariants as start
 use Rattle.xmpp_client.specs.declared.faults.SayFault.{SayFault}
@@ -18,7 +18,7 @@ use Rattle.xmpp_outbox.specs.Submissions.{next_number, origin_of, said_of, with_
 use Rattle.xmpp_outbox.specs.declared.said.Said.{Said}
 use Rattle.xmpp_requests.specs.Messages.{submission_item}
 use Rattle.xmpp_tokens.specs.Characters.{are_characters}
-use Rattle.xmpp_writer.specs.Items.{Closing, ItemOut}
+use Rattle.xmpp_writer.specs.Items.{ItemOut}
 
 -- ---- connections
 
@@ -36,12 +36,9 @@ leaves f = record { framer = None; turn = left f.turn }
 abbrev pub forgets : {A X : Type 0} → Speech A X → Fed A X → Fed A X
 forgets speech f = record { framer = None; turn = drops speech (left f.turn) }
 
-abbrev pub closes_turn : {A X : Type 0} → Speech A X → Turn A X → Turn A X
-closes_turn speech t = if is_apart t.client.phase then t else puts t (uttered speech Closing)
-
--- the footer goes out where a connection stands (RFC 6120, section 4.4)
+-- the footer goes out where a connection stands (RFC 6120, section 4.4), and the session ends
 abbrev pub closes : {A X : Type 0} → Speech A X → Fed A X → Fed A X
-closes speech f = forgets speech (record f { turn = closes_turn speech f.turn })
+closes speech f = forgets speech (record f { turn = puts_footer speech f.turn })
 
 -- ---- submissions
 

@@ -3,22 +3,23 @@ ghost use Rattle.std.specs.Prelude.{◌≡◌, ◌≤◌, ◌⊎◌, List, None,
 ghost use Rattle.std.specs.Option.{option_and_then};
 ghost use Rattle.xmpp_client.specs.Feeds.{IsMemoryLost, IsStopped, bytes_step, fed, kept_while, read};
 ghost use Rattle.xmpp_client.specs.Making.{fresh};
-ghost use Rattle.xmpp_client.specs.Speech.{in_bytes};
-ghost use Rattle.xmpp_client.specs.Turns.{dropped, is_apart};
-ghost use Rattle.xmpp_client.specs.UserCalls.{catch_up_answer, catches_up, closes, dials, say_answer, says};
-ghost use Rattle.xmpp_client.specs.Views.{fed_of, turn_in, turn_of};
-ghost use Rattle.xmpp_client.specs.declared.phase.Phase.TheVariants as phase;
+ghost use Rattle.xmpp_client_rows.specs.Speech.{in_bytes};
+ghost use Rattle.xmpp_client_rows.specs.Turns.{is_apart};
+ghost use Rattle.xmpp_client.specs.UserCalls.{catch_up_answer, catches_up, closes, dials, forgets, leaves, say_answer, says};
+ghost use Rattle.xmpp_client.specs.Values.{fed_of, forgotten, turn_in};
+ghost use Rattle.xmpp_client_rows.specs.Views.{turn_of};
+ghost use Rattle.xmpp_client_rows.specs.declared.events.ClientOut.{ClientOut};
 ghost use Rattle.xmpp_framing.specs.Machine.{IsFrontOf, part_of};
 ghost use Rattle.xmpp_framing.specs.declared.items.Item.{Item};
 ghost use Rattle.xmpp_outbox.specs.Submissions.{all_said};
 
-use crate::account::Account;
-use crate::client_state::ClientState;
-use crate::events::ClientOut;
 use crate::faults::{CatchUpStart, SayFault};
-use crate::phase::Phase;
+use crate::page_requests::catch_up;
+use crate::steps::{take_fault, take_items};
+use crate::user::say;
 use std::alloc::Global;
 use std::marker::Model;
+use xmpp_client_rows::{Account, ClientOut, ClientState, Phase};
 use xmpp_edge::{ListOf, NoMemory};
 use xmpp_framing::{FeedFault, Framer, Items, Limits};
 use xmpp_jid::Jid;
@@ -35,7 +36,8 @@ pub struct Client {
 
 impl Model for Client {
     ghost use Rattle.std.specs.Coded.{codes};
-    ghost use Rattle.xmpp_client.specs.Views.{ClientValue, client_of};
+    ghost use Rattle.xmpp_client.specs.Values.{ClientValue};
+    ghost use Rattle.xmpp_client_rows.specs.Views.{client_of};
     ghost use Rattle.xmpp_framing.specs.StateCodes.{state_coded};
 
     ghost Value = { ClientValue };
@@ -50,7 +52,7 @@ impl Model for Client {
 fn take_first(state: &mut ClientState, alloc: Global, items: Items, out: &mut ClientOut)
     ensures { (due : List Item) → IsFrontOf items.items due → IsStopped in_bytes (turn_of state.old out.old) due (turn_of state.new out.new) }
 {
-    match state.take_items(alloc, items, out) {
+    match take_items(state, alloc, items, out) {
         Ok(()) => state.phase = Phase::Apart,
         Err(NoMemory) => {}
     }
@@ -70,10 +72,10 @@ fn take_piece(
 {
     let mut items = ListOf::new(alloc);
     match framer.feed(piece, &mut items) {
-        Ok(()) => state.take_items(alloc, items, out),
+        Ok(()) => take_items(state, alloc, items, out),
         Err(FeedFault::Fault(fault)) => {
-            state.take_items(alloc, items, out)?;
-            state.take_fault(fault, out)
+            take_items(state, alloc, items, out)?;
+            take_fault(state, fault, out)
         }
         Err(FeedFault::NoMemory) => {
             take_first(state, alloc, items, out);
@@ -109,7 +111,7 @@ impl Client {
 
     /// Begins a connection: an earlier one is left as `gone` leaves it, and the declaration and the header go out (RFC 6120,
     /// section 4.7). `entropy` is what was drawn for this connection alone. A refusal leaves all as it was.
-    #[tactic(auto, using(crate::proofs::Followed::dialed))]
+    #[tactic(auto, using(crate::proofs::UserSteps::dialed))]
     pub fn dial(
         &mut self,
         alloc: Global,
@@ -150,7 +152,7 @@ impl Client {
 
     /// The connection is lost. A session stays, for a resumption (XEP-0198, section 5). It takes no memory.
     pub fn gone(&mut self)
-        ensures { self.new ≡ record { framer = None; client = record self.old.client { phase = phase.Apart } } }
+        ensures { (out : ClientOut) → fed_of self.new out ≡ leaves (fed_of self.old out) }
     {
         self.framer = None;
         self.state.phase = Phase::Apart;
@@ -159,7 +161,8 @@ impl Client {
     /// The connection is lost, and the session ends too: of the submissions that wait it isn't known what became of them, and
     /// an open page is broken off. It takes no memory.
     pub fn forget(&mut self)
-        ensures { self.new ≡ record { framer = None; client = dropped (record self.old.client { phase = phase.Apart }) } }
+        ensures table { (out : ClientOut) → fed_of self.new out ≡ forgets in_bytes (fed_of self.old out) }
+        ensures value { self.new ≡ forgotten self.old }
     {
         self.framer = None;
         self.state.phase = Phase::Apart;
@@ -195,7 +198,7 @@ impl Client {
         ensures err { OnErr result (turn_in self.new out.new ≡ turn_in self.old out.old) }
         ensures framer { self.new.framer ≡ self.old.framer }
     {
-        self.state.say(alloc, to.text(), text, private, out)
+        say(&mut self.state, alloc, to.text(), text, private, out)
     }
 
     /// Asks the archive for a page behind the log's last entry, of so many results at most, and for those behind it until one
@@ -213,7 +216,7 @@ impl Client {
         ensures err { OnErr result (turn_in self.new out.new ≡ turn_in self.old out.old) }
         ensures framer { self.new.framer ≡ self.old.framer }
     {
-        self.state.catch_up(alloc, max, out)
+        catch_up(&mut self.state, alloc, max, out)
     }
 
     /// Whether a connection stands, as far as the client knows: a fault of the peer is a leaving.

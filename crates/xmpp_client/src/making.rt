@@ -4,11 +4,11 @@ ghost use Rattle.std.specs.List.{list_all};
 ghost use Rattle.xmpp_client.specs.Making.{account_of, made};
 ghost use Rattle.xmpp_scram.specs.Exchange;
 
-use crate::account::Account;
 use crate::client::Client;
 use crate::faults::ClientFault;
 use std::alloc::Global;
 use xmpp_client_login::ClientAccount;
+use xmpp_client_rows::Account;
 use xmpp_edge::{NoMemory, Text};
 use xmpp_jid::{Jid, JidFault, resource_in_normal_form};
 

@@ -2,11 +2,11 @@
 ghost use Rattle.std.specs.Prelude.{◌≡◌, ◌⊎◌, ◌≤◌, ◌<◌, ◌+◌, ◌++◌, Err, None, Ok, false, length, if◌then◌else◌, IfOk, IfSome, IsSome, OnErr, OnOk};
 ghost use Rattle.std.specs.Option.{option_copied};
 ghost use Rattle.xmpp_acks.specs.declared.end.TheConstants.{MOST_UNACKNOWLEDGED};
-ghost use Rattle.xmpp_client.specs.Acks.{HasFewer};
+ghost use Rattle.xmpp_client_rows.specs.Acks.{HasFewer};
 ghost use Rattle.xmpp_client.specs.Asking.{asks_in};
-ghost use Rattle.xmpp_client.specs.Speech.{in_bytes};
+ghost use Rattle.xmpp_client_rows.specs.Speech.{in_bytes};
 ghost use Rattle.xmpp_client.specs.UserCalls.{catch_up_answer, catches_up};
-ghost use Rattle.xmpp_client.specs.Views.{client_of, turn_of};
+ghost use Rattle.xmpp_client_rows.specs.Views.{client_of, turn_of};
 ghost use Rattle.xmpp_log.specs.LogPages.{last_id};
 ghost use Rattle.xmpp_outbox.specs.Sessions.{with_waiting};
 ghost use Rattle.xmpp_outbox.specs.Submissions.{next_number};
@@ -14,12 +14,10 @@ ghost use Rattle.xmpp_outbox.specs.Waiting.{queued};
 ghost use Rattle.xmpp_replies.specs.Management.{request_text};
 ghost use Rattle.xmpp_requests.specs.Messages.{page_text, queryid_text};
 
-use crate::answers::make_room;
-use crate::client_state::ClientState;
-use crate::events::ClientOut;
 use crate::faults::CatchUpStart;
 use crate::user::OUTBOX_BOUND;
 use std::alloc::Global;
+use xmpp_client_rows::{ClientOut, ClientState, make_room};
 use xmpp_edge::{Bytes, NoMemory, Text};
 use xmpp_log::{BeginFault, LogEntry};
 use xmpp_outbox::Session;
@@ -70,163 +68,161 @@ fn put_with_request(
     }
 }
 
-impl ClientState {
-    /// The request for a page behind an id, or for the first page. Nothing changes.
-    pub(crate) fn asking(
-        &self,
-        alloc: Global,
-        after: Option<&str>,
-        max: u32,
-    ) -> Result<Asking, NoMemory>
-        ensures number { IfOk result (λ asking. asking.number ≡ next_number self.now.pages) }
-        ensures queryid { IfOk result (λ asking. asking.queryid ≡ queryid_text (next_number self.now.pages)) }
-        ensures stanza { IfOk result (λ asking. asking.stanza.items ≡ page_text (queryid_text (next_number self.now.pages)) (option_copied after.entry) max) }
-        ensures request { IfOk result (λ asking. asking.request.items ≡ request_text) }
-    {
-        let number = self.pages.saturating_add(1);
-        let queryid = queryid(alloc, number)?;
-        let asked = PageRequest {
-            queryid: queryid.as_str(),
-            after,
-            max,
-        };
-        let stanza = page(alloc, &asked)?;
-        let request = request(alloc)?;
-        Ok(Asking {
-            number,
-            queryid,
-            stanza,
-            request,
-        })
-    }
+/// The request for a page behind an id, or for the first page. Nothing changes.
+pub(crate) fn asking_for(
+    state: &ClientState,
+    alloc: Global,
+    after: Option<&str>,
+    max: u32,
+) -> Result<Asking, NoMemory>
+    ensures number { IfOk result (λ asking. asking.number ≡ next_number state.now.pages) }
+    ensures queryid { IfOk result (λ asking. asking.queryid ≡ queryid_text (next_number state.now.pages)) }
+    ensures stanza { IfOk result (λ asking. asking.stanza.items ≡ page_text (queryid_text (next_number state.now.pages)) (option_copied after.entry) max) }
+    ensures request { IfOk result (λ asking. asking.request.items ≡ request_text) }
+{
+    let number = state.pages.saturating_add(1);
+    let queryid = queryid(alloc, number)?;
+    let asked = PageRequest {
+        queryid: queryid.as_str(),
+        after,
+        max,
+    };
+    let stanza = page(alloc, &asked)?;
+    let request = request(alloc)?;
+    Ok(Asking {
+        number,
+        queryid,
+        stanza,
+        request,
+    })
+}
 
-    /// The request for the page behind the log's last entry. Nothing changes.
-    fn asking_behind(&self, alloc: Global, max: u32) -> Result<Asking, NoMemory>
-        ensures number { IfOk result (λ asking. asking.number ≡ next_number self.now.pages) }
-        ensures queryid { IfOk result (λ asking. asking.queryid ≡ queryid_text (next_number self.now.pages)) }
-        ensures stanza { IfOk result (λ asking. asking.stanza.items ≡ page_text (queryid_text (next_number self.now.pages)) (last_id self.now.log.entries) max) }
-        ensures request { IfOk result (λ asking. asking.request.items ≡ request_text) }
-    {
-        self.asking(alloc, last_id(self.log.entries()), max)
-    }
+/// The request for the page behind the log's last entry. Nothing changes.
+fn asking_behind(state: &ClientState, alloc: Global, max: u32) -> Result<Asking, NoMemory>
+    ensures number { IfOk result (λ asking. asking.number ≡ next_number state.now.pages) }
+    ensures queryid { IfOk result (λ asking. asking.queryid ≡ queryid_text (next_number state.now.pages)) }
+    ensures stanza { IfOk result (λ asking. asking.stanza.items ≡ page_text (queryid_text (next_number state.now.pages)) (last_id state.now.log.entries) max) }
+    ensures request { IfOk result (λ asking. asking.request.items ≡ request_text) }
+{
+    asking_for(state, alloc, last_id(state.log.entries()), max)
+}
 
-    /// Makes room for a page request and for so many events. Nothing is put.
-    pub(crate) fn make_place(
-        &mut self,
-        asking: &Asking,
-        events: usize,
-        out: &mut ClientOut,
-    ) -> Result<(), NoMemory>
-        ensures turn { turn_of self.new out.new ≡ turn_of self.old out.old }
-        ensures place { OnOk result (IfSome self.new.session (λ s. 1 ≤ s.spare)) }
-        ensures room_bytes { OnOk result (length asking.now.stanza.items + length asking.now.request.items ≤ out.new.bytes.spare) }
-        ensures room_events { OnOk result (events ≤ out.new.events.spare) }
-    {
-        let stanza = asking.stanza.as_slice().len();
-        let request = asking.request.as_slice().len();
-        make_room(out, stanza.saturating_add(request), events)?;
-        let Some(mut session) = self.session.take() else {
-            return Ok(());
-        };
-        let made = session.reserve(1);
-        self.session = Some(session);
-        made
-    }
+/// Makes room for a page request and for so many events. Nothing is put.
+pub(crate) fn make_place(
+    state: &mut ClientState,
+    asking: &Asking,
+    events: usize,
+    out: &mut ClientOut,
+) -> Result<(), NoMemory>
+    ensures turn { turn_of state.new out.new ≡ turn_of state.old out.old }
+    ensures place { OnOk result (IfSome state.new.session (λ s. 1 ≤ s.spare)) }
+    ensures room_bytes { OnOk result (length asking.now.stanza.items + length asking.now.request.items ≤ out.new.bytes.spare) }
+    ensures room_events { OnOk result (events ≤ out.new.events.spare) }
+{
+    let stanza = asking.stanza.as_slice().len();
+    let request = asking.request.as_slice().len();
+    make_room(out, stanza.saturating_add(request), events)?;
+    let Some(mut session) = state.session.take() else {
+        return Ok(());
+    };
+    let made = session.reserve(1);
+    state.session = Some(session);
+    made
+}
 
-    /// Puts a page request, whose room is made, where a session stands, whose queue has place. It takes no memory.
-    pub(crate) fn put_page(
-        &mut self,
-        number: u64,
-        stanza: Bytes,
-        request: &[u8],
-        out: &mut ClientOut,
-    )
-        requires few { HasFewer MOST_UNACKNOWLEDGED (client_of self.old).session }
-        requires place { IfSome self.old.session (λ s. 1 ≤ s.spare) }
-        requires room { length stanza.items + length request.now ≤ out.old.bytes.spare }
-        requires request { request.now ≡ request_text }
-        ensures turn { turn_of self.new out.new ≡ asks_in in_bytes (turn_of self.old out.old) (client_of self.old).session number stanza.items }
-        ensures events { out.new.events ≡ out.old.events }
-    {
-        let is_attached = self.is_online();
-        let Some(mut session) = self.session.take() else {
-            return;
-        };
-        put_with_request(&mut session, stanza, request, is_attached, &mut out.bytes);
-        self.session = Some(session);
-        self.pages = number;
-    }
+/// Puts a page request, whose room is made, where a session stands, whose queue has place. It takes no memory.
+pub(crate) fn put_page(
+    state: &mut ClientState,
+    number: u64,
+    stanza: Bytes,
+    request: &[u8],
+    out: &mut ClientOut,
+)
+    requires few { HasFewer MOST_UNACKNOWLEDGED (client_of state.old).session }
+    requires place { IfSome state.old.session (λ s. 1 ≤ s.spare) }
+    requires room { length stanza.items + length request.now ≤ out.old.bytes.spare }
+    requires request { request.now ≡ request_text }
+    ensures turn { turn_of state.new out.new ≡ asks_in in_bytes (turn_of state.old out.old) (client_of state.old).session number stanza.items }
+    ensures events { out.new.events ≡ out.old.events }
+{
+    let is_attached = state.is_online();
+    let Some(mut session) = state.session.take() else {
+        return;
+    };
+    put_with_request(&mut session, stanza, request, is_attached, &mut out.bytes);
+    state.session = Some(session);
+    state.pages = number;
+}
 
-    // Why no page is asked for.
-    fn may_catch_up(&self) -> Result<(), CatchUpStart>
-        ensures value { result ≡ catch_up_answer (client_of self.now) }
-        ensures bound { OnOk result (IsSome (client_of self.now).session) }
-        ensures few { OnOk result (HasFewer 1000 (client_of self.now).session) }
-        ensures closed { OnOk result (self.now.log.page ≡ None) }
-    {
-        let Some(session) = &self.session else {
-            return Err(CatchUpStart::NotBound);
-        };
-        if session.len() >= OUTBOX_BOUND {
-            return Err(CatchUpStart::OutboxFull);
-        }
-        if self.log.underway().is_some() {
-            return Err(CatchUpStart::Underway);
-        }
-        Ok(())
+// Why no page is asked for.
+fn may_catch_up(state: &ClientState) -> Result<(), CatchUpStart>
+    ensures value { result ≡ catch_up_answer (client_of state.now) }
+    ensures bound { OnOk result (IsSome (client_of state.now).session) }
+    ensures few { OnOk result (HasFewer 1000 (client_of state.now).session) }
+    ensures closed { OnOk result (state.now.log.page ≡ None) }
+{
+    let Some(session) = &state.session else {
+        return Err(CatchUpStart::NotBound);
+    };
+    if session.len() >= OUTBOX_BOUND {
+        return Err(CatchUpStart::OutboxFull);
     }
+    if state.log.underway().is_some() {
+        return Err(CatchUpStart::Underway);
+    }
+    Ok(())
+}
 
-    // Begins a page, where none is open, and puts the request for it in the session, whose queue has place.
-    #[tactic(auto, using(crate::proofs::UserSteps::caught_up, crate::proofs::UserSteps::fewer_still, crate::proofs::UserSteps::some_still))]
-    fn begin_page(
-        &mut self,
-        alloc: Global,
-        asking: Asking,
-        max: u32,
-        out: &mut ClientOut,
-    ) -> Result<(), NoMemory>
-        requires max { (1 ≤ max) × (max ≤ MOST_RESULTS) }
-        requires bound { IsSome (client_of self.old).session }
-        requires few { HasFewer 1000 (client_of self.old).session }
-        requires closed { self.old.log.page ≡ None }
-        requires number { asking.number ≡ next_number self.old.pages }
-        requires queryid { asking.queryid ≡ queryid_text (next_number self.old.pages) }
-        requires stanza { asking.stanza.items ≡ page_text (queryid_text (next_number self.old.pages)) (last_id self.old.log.entries) max }
-        requires request { asking.request.items ≡ request_text }
-        ensures ok { OnOk result (turn_of self.new out.new ≡ catches_up in_bytes (turn_of self.old out.old) max) }
-        ensures err { OnErr result (turn_of self.new out.new ≡ turn_of self.old out.old) }
-    {
-        self.make_place(&asking, 0, out)?;
-        let Asking {
-            number,
-            queryid,
-            stanza,
-            request,
-        } = asking;
-        match self.log.begin(alloc, queryid, max) {
-            Ok(()) => {}
-            Err(BeginFault::NoMemory) => return Err(NoMemory),
-            Err(BeginFault::Underway) => unreachable!(),
-        }
-        self.put_page(number, stanza, request.as_slice(), out);
-        Ok(())
+// Begins a page, where none is open, and puts the request for it in the session, whose queue has place.
+#[tactic(auto, using(crate::proofs::UserSteps::caught_up, crate::proofs::UserSteps::fewer_still, crate::proofs::UserSteps::some_still))]
+fn begin_page(
+    state: &mut ClientState,
+    alloc: Global,
+    asking: Asking,
+    max: u32,
+    out: &mut ClientOut,
+) -> Result<(), NoMemory>
+    requires max { (1 ≤ max) × (max ≤ MOST_RESULTS) }
+    requires bound { IsSome (client_of state.old).session }
+    requires few { HasFewer 1000 (client_of state.old).session }
+    requires closed { state.old.log.page ≡ None }
+    requires number { asking.number ≡ next_number state.old.pages }
+    requires queryid { asking.queryid ≡ queryid_text (next_number state.old.pages) }
+    requires stanza { asking.stanza.items ≡ page_text (queryid_text (next_number state.old.pages)) (last_id state.old.log.entries) max }
+    requires request { asking.request.items ≡ request_text }
+    ensures ok { OnOk result (turn_of state.new out.new ≡ catches_up in_bytes (turn_of state.old out.old) max) }
+    ensures err { OnErr result (turn_of state.new out.new ≡ turn_of state.old out.old) }
+{
+    make_place(state, &asking, 0, out)?;
+    let Asking {
+        number,
+        queryid,
+        stanza,
+        request,
+    } = asking;
+    match state.log.begin(alloc, queryid, max) {
+        Ok(()) => {}
+        Err(BeginFault::NoMemory) => return Err(NoMemory),
+        Err(BeginFault::Underway) => unreachable!(),
     }
+    put_page(state, number, stanza, request.as_slice(), out);
+    Ok(())
+}
 
-    /// Asks for a page behind the log's last entry, of so many results at most. A refusal leaves all as it was.
-    pub(crate) fn catch_up(
-        &mut self,
-        alloc: Global,
-        max: u32,
-        out: &mut ClientOut,
-    ) -> Result<(), CatchUpStart>
-        requires { (1 ≤ max) × (max ≤ MOST_RESULTS) }
-        ensures exact { (result ≡ Err CatchUpStart.NoMemory) ⊎ (result ≡ catch_up_answer (client_of self.old)) }
-        ensures ok { OnOk result (turn_of self.new out.new ≡ catches_up in_bytes (turn_of self.old out.old) max) }
-        ensures err { OnErr result (turn_of self.new out.new ≡ turn_of self.old out.old) }
-    {
-        self.may_catch_up()?;
-        let asking = self.asking_behind(alloc, max)?;
-        self.begin_page(alloc, asking, max, out)?;
-        Ok(())
-    }
+/// Asks for a page behind the log's last entry, of so many results at most. A refusal leaves all as it was.
+pub(crate) fn catch_up(
+    state: &mut ClientState,
+    alloc: Global,
+    max: u32,
+    out: &mut ClientOut,
+) -> Result<(), CatchUpStart>
+    requires { (1 ≤ max) × (max ≤ MOST_RESULTS) }
+    ensures exact { (result ≡ Err CatchUpStart.NoMemory) ⊎ (result ≡ catch_up_answer (client_of state.old)) }
+    ensures ok { OnOk result (turn_of state.new out.new ≡ catches_up in_bytes (turn_of state.old out.old) max) }
+    ensures err { OnErr result (turn_of state.new out.new ≡ turn_of state.old out.old) }
+{
+    may_catch_up(state)?;
+    let asking = asking_behind(state, alloc, max)?;
+    begin_page(state, alloc, asking, max, out)?;
+    Ok(())
 }

@@ -1,26 +1,24 @@
 //! Requests of the peer, and what a client has to put of itself.
 ghost use Rattle.std.specs.Prelude.{◌≡◌, ◌≤◌, ◌++◌, false, not, if◌then◌else◌, IfOk, OnErr, OnOk};
 ghost use Rattle.xmpp_client.specs.PageRows.{answer_to, iq_row, is_ping};
-ghost use Rattle.xmpp_client.specs.Speech.{in_bytes};
-ghost use Rattle.xmpp_client.specs.Turns.{has_to_put, left};
-ghost use Rattle.xmpp_client.specs.Views.{client_of, turn_of};
+ghost use Rattle.xmpp_client_rows.specs.Speech.{in_bytes};
+ghost use Rattle.xmpp_client_rows.specs.Turns.{has_to_put, left};
+ghost use Rattle.xmpp_client_rows.specs.Views.{client_of, turn_of};
 ghost use Rattle.xmpp_outbox.specs.Sessions.{with_waiting};
 ghost use Rattle.xmpp_outbox.specs.Waiting.{is_full, queued};
 ghost use Rattle.xmpp_trees.specs.Readers.{elements_of};
 ghost use Rattle.xmpp_trees.specs.Views.{nodes_view};
 ghost use Rattle.xmpp_writer.specs.Items.{written_item};
 
-use crate::answers::make_room;
-use crate::client_state::ClientState;
-use crate::events::{ClientOut, Event, PeerFault};
-use crate::phase::Phase;
+use crate::pages::answered;
 use std::alloc::Global;
+use xmpp_client_rows::{ClientOut, ClientState, Event, PeerFault, Phase, make_room};
 use xmpp_edge::{Bytes, NoMemory};
 use xmpp_ext::Ping;
 use xmpp_outbox::Session;
 use xmpp_replies::{Envelope, empty_result, refusal};
 use xmpp_stanza::{Condition, ErrorKind, Iq, IqKind, StanzaError};
-use xmpp_trees::{Node, Tree, next_element};
+use xmpp_trees::{Node, next_element};
 
 // Whether a payload is one `ping`.
 #[tactic(auto, using(crate::proofs::Payloads::ping_alone, crate::proofs::Payloads::ping_more, crate::proofs::Payloads::ping_none))]
@@ -88,48 +86,49 @@ fn put_or_full(
     Ok(true)
 }
 
-impl ClientState {
-    /// Puts a stanza that the client has to put of itself. Where as many wait as may, the connection is left.
-    pub(crate) fn put(&mut self, stanza: Bytes, out: &mut ClientOut) -> Result<(), NoMemory>
-        ensures ok { OnOk result (turn_of self.new out.new ≡ has_to_put in_bytes (turn_of self.old out.old) (client_of self.old).session stanza.items) }
-        ensures err { OnErr result (turn_of self.new out.new ≡ turn_of self.old out.old) }
-    {
-        let is_attached = self.is_online();
-        let Some(mut session) = self.session.take() else {
-            return Ok(());
-        };
-        let put = put_or_full(&mut session, stanza, is_attached, out);
-        self.session = Some(session);
-        if put? {
-            return Ok(());
-        }
-        self.phase = Phase::Apart;
-        out.events
-            .push_reserved(Event::Ended(PeerFault::Unacknowledged));
-        Ok(())
+/// Puts a stanza that the client has to put of itself. Where as many wait as may, the connection is left.
+pub(crate) fn put(
+    state: &mut ClientState,
+    stanza: Bytes,
+    out: &mut ClientOut,
+) -> Result<(), NoMemory>
+    ensures ok { OnOk result (turn_of state.new out.new ≡ has_to_put in_bytes (turn_of state.old out.old) (client_of state.old).session stanza.items) }
+    ensures err { OnErr result (turn_of state.new out.new ≡ turn_of state.old out.old) }
+{
+    let is_attached = state.is_online();
+    let Some(mut session) = state.session.take() else {
+        return Ok(());
+    };
+    let put = put_or_full(&mut session, stanza, is_attached, out);
+    state.session = Some(session);
+    if put? {
+        return Ok(());
     }
+    state.phase = Phase::Apart;
+    out.events
+        .push_reserved(Event::Ended(PeerFault::Unacknowledged));
+    Ok(())
+}
 
-    /// What an `iq` does, but for its count.
-    pub(crate) fn iq(
-        &mut self,
-        alloc: Global,
-        tree: &Tree,
-        iq: &Iq,
-        out: &mut ClientOut,
-    ) -> Result<(), NoMemory>
-        ensures ok { OnOk result (turn_of self.new out.new ≡ iq_row in_bytes (turn_of self.old out.old) tree.now iq.now) }
-        ensures err { OnErr result (left (turn_of self.new out.new) ≡ left (turn_of self.old out.old)) }
-    {
-        match iq.kind {
-            IqKind::Get => {
-                let bytes = answer(alloc, iq, is_ping(iq.payload.as_slice()))?;
-                self.put(bytes, out)
-            }
-            IqKind::Set => {
-                let bytes = answer(alloc, iq, false)?;
-                self.put(bytes, out)
-            }
-            IqKind::Result | IqKind::Error => self.answered(alloc, tree, iq, out),
+/// What an `iq` does, but for its count.
+pub(crate) fn take_iq(
+    state: &mut ClientState,
+    alloc: Global,
+    iq: &Iq,
+    out: &mut ClientOut,
+) -> Result<(), NoMemory>
+    ensures ok { OnOk result (turn_of state.new out.new ≡ iq_row in_bytes (turn_of state.old out.old) iq.now) }
+    ensures err { OnErr result (left (turn_of state.new out.new) ≡ left (turn_of state.old out.old)) }
+{
+    match iq.kind {
+        IqKind::Get => {
+            let bytes = answer(alloc, iq, is_ping(iq.payload.as_slice()))?;
+            put(state, bytes, out)
         }
+        IqKind::Set => {
+            let bytes = answer(alloc, iq, false)?;
+            put(state, bytes, out)
+        }
+        IqKind::Result | IqKind::Error => answered(state, alloc, iq, out),
     }
 }

@@ -1,16 +1,15 @@
 //! Items, one by one.
 ghost use Rattle.std.specs.Prelude.{◌≡◌, Some, IfOk, OnErr, OnOk};
 ghost use Rattle.xmpp_client.specs.Feeds.{IsStopped, with_fault};
-ghost use Rattle.xmpp_client.specs.Speech.{in_bytes};
+ghost use Rattle.xmpp_client_rows.specs.Speech.{in_bytes};
 ghost use Rattle.xmpp_client.specs.Steps.{element_row, element_step, item_step, items_run, stream_condition};
-ghost use Rattle.xmpp_client.specs.Turns.{left};
-ghost use Rattle.xmpp_client.specs.Views.{turn_of};
+ghost use Rattle.xmpp_client_rows.specs.Turns.{left};
+ghost use Rattle.xmpp_client_rows.specs.Views.{turn_of};
 
-use crate::client_state::ClientState;
-use crate::events::{ClientOut, PeerFault};
-use crate::phase::Phase;
+use crate::online::online;
 use std::alloc::Global;
 use std::mem;
+use xmpp_client_rows::{ClientOut, ClientState, PeerFault, Phase};
 use xmpp_edge::{NoMemory, Text};
 use xmpp_framing::{Fault, Item, Items};
 use xmpp_stanza::{STREAMS, stream_condition};
@@ -26,95 +25,112 @@ fn condition_of(alloc: Global, tree: &Tree) -> Result<Text, NoMemory>
     }
 }
 
-impl ClientState {
-    // An element, by the phase.
-    fn by_phase(&mut self, alloc: Global, tree: &Tree, out: &mut ClientOut) -> Result<(), NoMemory>
-        ensures ok { OnOk result (turn_of self.new out.new ≡ element_row in_bytes (turn_of self.old out.old) self.old.phase tree.now) }
-        ensures err { OnErr result (left (turn_of self.new out.new) ≡ left (turn_of self.old out.old)) }
-    {
-        let phase = mem::replace(&mut self.phase, Phase::Apart);
-        match phase {
-            Phase::Apart => Ok(()),
-            Phase::Login(state) => self.login(alloc, state, tree, out),
-            Phase::Features2 => {
-                self.phase = Phase::Features2;
-                self.features2(alloc, tree, out)
-            }
-            Phase::Resuming => {
-                self.phase = Phase::Resuming;
-                self.resuming(alloc, tree, out)
-            }
-            Phase::Binding => {
-                self.phase = Phase::Binding;
-                self.binding(alloc, tree, out)
-            }
-            Phase::Enabling => {
-                self.phase = Phase::Enabling;
-                self.enabling(alloc, tree, out)
-            }
-            Phase::Online => {
-                self.phase = Phase::Online;
-                self.online(alloc, tree, out)
-            }
+// An element, by the phase.
+fn by_phase(
+    state: &mut ClientState,
+    alloc: Global,
+    tree: Tree,
+    out: &mut ClientOut,
+) -> Result<(), NoMemory>
+    ensures ok { OnOk result (turn_of state.new out.new ≡ element_row in_bytes (turn_of state.old out.old) state.old.phase tree) }
+    ensures err { OnErr result (left (turn_of state.new out.new) ≡ left (turn_of state.old out.old)) }
+{
+    let phase = mem::replace(&mut state.phase, Phase::Apart);
+    match phase {
+        Phase::Apart => Ok(()),
+        Phase::Login(login) => state.login(alloc, login, &tree, out),
+        Phase::Features2 => {
+            state.phase = Phase::Features2;
+            state.features2(alloc, &tree, out)
+        }
+        Phase::Resuming => {
+            state.phase = Phase::Resuming;
+            state.resuming(alloc, &tree, out)
+        }
+        Phase::Binding => {
+            state.phase = Phase::Binding;
+            state.binding(alloc, &tree, out)
+        }
+        Phase::Enabling => {
+            state.phase = Phase::Enabling;
+            state.enabling(alloc, &tree, out)
+        }
+        Phase::Online => {
+            state.phase = Phase::Online;
+            online(state, alloc, tree, out)
         }
     }
+}
 
-    // An element.
-    fn element(&mut self, alloc: Global, tree: &Tree, out: &mut ClientOut) -> Result<(), NoMemory>
-        ensures ok { OnOk result (turn_of self.new out.new ≡ element_step in_bytes (turn_of self.old out.old) tree.now) }
-        ensures err { OnErr result (left (turn_of self.new out.new) ≡ left (turn_of self.old out.old)) }
-    {
-        if tree.element().is(STREAMS, "error") {
-            let condition = condition_of(alloc, tree)?;
-            return self.end(PeerFault::Stream(condition), out);
-        }
-        self.by_phase(alloc, tree, out)
+// An element.
+fn take_element(
+    state: &mut ClientState,
+    alloc: Global,
+    tree: Tree,
+    out: &mut ClientOut,
+) -> Result<(), NoMemory>
+    ensures ok { OnOk result (turn_of state.new out.new ≡ element_step in_bytes (turn_of state.old out.old) tree) }
+    ensures err { OnErr result (left (turn_of state.new out.new) ≡ left (turn_of state.old out.old)) }
+{
+    if tree.element().is(STREAMS, "error") {
+        let condition = condition_of(alloc, &tree)?;
+        return state.end(PeerFault::Stream(condition), out);
     }
+    by_phase(state, alloc, tree, out)
+}
 
-    // The next item.
-    fn item(&mut self, alloc: Global, item: Item, out: &mut ClientOut) -> Result<(), NoMemory>
-        ensures ok { OnOk result (turn_of self.new out.new ≡ item_step in_bytes (turn_of self.old out.old) item) }
-        ensures err { OnErr result (left (turn_of self.new out.new) ≡ left (turn_of self.old out.old)) }
-    {
-        if self.is_apart() {
-            return Ok(());
-        }
-        match item {
-            Item::Header { .. } => self.header(alloc, out),
-            Item::Element(tree) => self.element(alloc, &tree, out),
-            Item::Footer => self.end(PeerFault::Closed, out),
-        }
+// The next item.
+fn take_item(
+    state: &mut ClientState,
+    alloc: Global,
+    item: Item,
+    out: &mut ClientOut,
+) -> Result<(), NoMemory>
+    ensures ok { OnOk result (turn_of state.new out.new ≡ item_step in_bytes (turn_of state.old out.old) item) }
+    ensures err { OnErr result (left (turn_of state.new out.new) ≡ left (turn_of state.old out.old)) }
+{
+    if state.is_apart() {
+        return Ok(());
     }
+    match item {
+        Item::Header { .. } => state.header(alloc, out),
+        Item::Element(tree) => take_element(state, alloc, tree, out),
+        Item::Footer => state.end(PeerFault::Closed, out),
+    }
+}
 
-    /// The items of a piece, one by one. Want of memory leaves the connection; the items before the one in hand had their
-    /// effect, and that one had none.
-    #[tactic(auto, using(crate::proofs::Alongs::along_begin, crate::proofs::Alongs::along_step, crate::proofs::Alongs::along_end, crate::proofs::Alongs::along_stop))]
-    pub(crate) fn take_items(
-        &mut self,
-        alloc: Global,
-        items: Items,
-        out: &mut ClientOut,
-    ) -> Result<(), NoMemory>
-        ensures ok { OnOk result (turn_of self.new out.new ≡ items_run in_bytes (turn_of self.old out.old) items.items) }
-        ensures memory { OnErr result (IsStopped in_bytes (turn_of self.old out.old) items.items (turn_of self.new out.new)) }
-    {
-        for item in items.into_items() {
-            if let Err(NoMemory) = self.item(alloc, item, out) {
-                self.phase = Phase::Apart;
-                return Err(NoMemory);
-            }
+/// The items of a piece, one by one. Want of memory leaves the connection; the items before the one in hand had their
+/// effect, and that one had none.
+#[tactic(auto, using(crate::proofs::Alongs::along_begin, crate::proofs::Alongs::along_step, crate::proofs::Alongs::along_end, crate::proofs::Alongs::along_stop))]
+pub(crate) fn take_items(
+    state: &mut ClientState,
+    alloc: Global,
+    items: Items,
+    out: &mut ClientOut,
+) -> Result<(), NoMemory>
+    ensures ok { OnOk result (turn_of state.new out.new ≡ items_run in_bytes (turn_of state.old out.old) items.items) }
+    ensures memory { OnErr result (IsStopped in_bytes (turn_of state.old out.old) items.items (turn_of state.new out.new)) }
+{
+    for item in items.into_items() {
+        if let Err(NoMemory) = take_item(state, alloc, item, out) {
+            state.phase = Phase::Apart;
+            return Err(NoMemory);
         }
-        Ok(())
     }
+    Ok(())
+}
 
-    /// The fault of the bytes, where the connection stands still.
-    pub(crate) fn take_fault(&mut self, fault: Fault, out: &mut ClientOut) -> Result<(), NoMemory>
-        ensures ok { OnOk result (turn_of self.new out.new ≡ with_fault (turn_of self.old out.old) (Some fault)) }
-        ensures err { OnErr result (turn_of self.new out.new ≡ left (turn_of self.old out.old)) }
-    {
-        if self.is_apart() {
-            return Ok(());
-        }
-        self.end(PeerFault::Framing(fault), out)
+/// The fault of the bytes, where the connection stands still.
+pub(crate) fn take_fault(
+    state: &mut ClientState,
+    fault: Fault,
+    out: &mut ClientOut,
+) -> Result<(), NoMemory>
+    ensures ok { OnOk result (turn_of state.new out.new ≡ with_fault (turn_of state.old out.old) (Some fault)) }
+    ensures err { OnErr result (turn_of state.new out.new ≡ left (turn_of state.old out.old)) }
+{
+    if state.is_apart() {
+        return Ok(());
     }
+    state.end(PeerFault::Framing(fault), out)
 }
