@@ -1,0 +1,2 @@
+-- ---- what a test commits may be committed
+pub mod Rising
