@@ -15,3 +15,5 @@ pub mod LastAnswers
 pub mod OwnAnswers
 -- ---- pieces of bytes
 pub mod PiecesJoined
+-- ---- what steps leave
+pub mod Frames

@@ -1,11 +1,11 @@
 //! The laws.
-ghost use Rattle.std.specs.Prelude.{◌≡◌, ℕ, ◌++◌, true, false, [], All, List, None, Some, IfSome, IsSome};
+ghost use Rattle.std.specs.Prelude.{◌≡◌, ◌==◌, ℕ, ◌++◌, true, false, [], All, List, None, Some, IfSome, IsSome};
 ghost use Rattle.xmpp_framing.specs.States.{State};
 ghost use Rattle.xmpp_framing.specs.declared.fault.Fault.{Fault};
 ghost use Rattle.xmpp_framing.specs.declared.items.Item.{Item};
-ghost use Rattle.xmpp_desk.specs.State.{Hall, Step, archive_at};
+ghost use Rattle.xmpp_desk.specs.State.{Hall, Step, archive_at, conn_at, is_number};
 ghost use Rattle.xmpp_desk.specs.Steps.{acted, part, shut};
-ghost use Rattle.xmpp_live.specs.Sessions.{Session, is_at, is_too_high, send_count, session_of, session_resumed};
+ghost use Rattle.xmpp_live.specs.Sessions.{Session, is_at, is_too_high, send_count, session_of, session_resumed, with_session};
 ghost use Rattle.xmpp_live.specs.declared.told.Told.{Told};
 ghost use Rattle.xmpp_replies.specs.Streams.{too_high_item};
 ghost use Rattle.xmpp_request_rows.specs.Requests.{at_iq, envelope_of};
@@ -67,4 +67,12 @@ pub fn pieces_join<A>()
     ensures sound { (say : ItemOut → A) (k : ℕ) (a b : List ℕ) (f : State) (s : Step A) → (turn_of a f).state.fault ≡ None
         → at_piece say k (a ++ b) (Some f) s ≡ at_piece say k b (left_open k (turn_of a f).state (at_piece say k a (Some f) s)) (at_piece say k a (Some f) s) }
     ensures fault { (say : ItemOut → A) (k : ℕ) (a b : List ℕ) (f : State) (e : Fault) (s : Step A) → (turn_of a f).state.fault ≡ Some e → at_piece say k (a ++ b) (Some f) s ≡ at_piece say k a (Some f) s }
+{}
+
+/// A law: what the small steps leave as it was. The end of a connection changes no other connection, and no session that is not on
+/// it; and a step that changes one session changes no other.
+pub fn steps_leave_others<A>()
+    ensures connections { (k j : ℕ) (s : Step A) → is_number k j ≡ false → conn_at k (shut j s).hall ≡ conn_at k s.hall }
+    ensures sessions { (n j : ℕ) (t : Session A) (s : Step A) → session_of n s.hall.sessions ≡ Some t → is_at j t ≡ false → session_of n (shut j s).hall.sessions ≡ Some t }
+    ensures others { (m n : ℕ) (f : Session A → Session A) (ss : List (Session A)) → ((s : Session A) → (f s).shown.number ≡ s.shown.number) → (m == n) ≡ false → session_of m (with_session n f ss) ≡ session_of m ss }
 {}
