@@ -1,5 +1,5 @@
 //! Links in memory.
-ghost use Rattle.std.specs.Prelude.{◌≡◌, ◌<◌, ◌≤◌, ◌↔◌, length, min, Some, IfOk, IsErr, Contains};
+ghost use Rattle.std.specs.Prelude.{◌≡◌, ◌<◌, ◌≤◌, ◌↔◌, length, min, Some, None, IfOk, IsErr, Contains};
 ghost use Rattle.std.specs.Io.{ReadsAtMost, WritesAtMost};
 ghost use Rattle.std.specs.Io.KnownBytes.{ReadConsumes, WriteAppends};
 ghost use Rattle.xmpp_edge.specs.Counts.{HasCause};
@@ -77,6 +77,7 @@ impl Link for MemoryLink {
         ensures bound { ReadsAtMost result buf.new }
         ensures left { ReadConsumes (Some self.old.left) (Some self.new.left) result buf.new }
         ensures read { WriteAppends self.old.told.read self.new.told.read result buf.new }
+        ensures silent { self.old.told.read ≡ None → self.new.told.read ≡ None }
         ensures cause { HasCause self.old.told.read_faults self.new.told.read_faults result }
         ensures ends { self.new.told.ends ≡ counted_if (is_end result buf.new) self.old.told.ends }
         ensures writes { WritesStay self.old.told self.new.told }
@@ -91,6 +92,7 @@ impl Link for MemoryLink {
     fn write(&mut self, bytes: &[u8]) -> Result<usize, Failed>
         ensures bound { WritesAtMost result bytes.now }
         ensures written { WriteAppends self.old.told.written self.new.told.written result bytes.now }
+        ensures silent { self.old.told.written ≡ None → self.new.told.written ≡ None }
         ensures some { IfOk result (λ n. 0 < length bytes.now → 0 < n) }
         ensures cause { HasCause self.old.told.write_faults self.new.told.write_faults result }
         ensures reads { ReadsStay self.old.told self.new.told }

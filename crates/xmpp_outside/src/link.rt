@@ -1,5 +1,5 @@
 //! Links: bytes that go both ways.
-ghost use Rattle.std.specs.Prelude.{Option, List, ℕ, ◌≡◌, ◌<◌, length, IfOk, OnOk};
+ghost use Rattle.std.specs.Prelude.{Option, List, ℕ, ◌≡◌, ◌<◌, length, None, IfOk, OnOk};
 ghost use Rattle.std.specs.Io.{ReadsAtMost, WritesAtMost};
 ghost use Rattle.std.specs.Io.KnownBytes.{Appends, ReadConsumes, WriteAppends};
 ghost use Rattle.xmpp_edge.specs.Counts.{HasCause};
@@ -10,7 +10,8 @@ use xmpp_edge::{Failed, WriteFault};
 
 /// A connection: bytes come from the other end and go to it. Contracts alone see two things of it. `told` has the bytes
 /// that were read from it and written to it so far, where it tells them, and three counts, of reads that failed, of writes
-/// that failed and of reads that found the end; each stays at 2^64 - 1 once there. `left` has the bytes that are still to
+/// that failed and of reads that found the end; each stays at 2^64 - 1 once there. A
+/// link that doesn't tell its bytes never tells any. `left` has the bytes that are still to
 /// be read, where it tells them.
 pub trait Link {
     ghost told: { Self → LinkView };
@@ -24,6 +25,7 @@ pub trait Link {
         ensures bound { ReadsAtMost result buf.new }
         ensures left { ReadConsumes (left self.old) (left self.new) result buf.new }
         ensures read { WriteAppends (told self.old).read (told self.new).read result buf.new }
+        ensures silent { (told self.old).read ≡ None → (told self.new).read ≡ None }
         ensures cause { HasCause (told self.old).read_faults (told self.new).read_faults result }
         ensures ends { (told self.new).ends ≡ counted_if (is_end result buf.new) (told self.old).ends }
         ensures writes { WritesStay (told self.old) (told self.new) };
@@ -33,6 +35,7 @@ pub trait Link {
     fn write(&mut self, bytes: &[u8]) -> Result<usize, Failed>
         ensures bound { WritesAtMost result bytes.now }
         ensures written { WriteAppends (told self.old).written (told self.new).written result bytes.now }
+        ensures silent { (told self.old).written ≡ None → (told self.new).written ≡ None }
         ensures some { IfOk result (λ n. 0 < length bytes.now → 0 < n) }
         ensures cause { HasCause (told self.old).write_faults (told self.new).write_faults result }
         ensures reads { ReadsStay (told self.old) (told self.new) };
@@ -48,6 +51,7 @@ pub trait Link {
 pub fn send_whole<L: Link>(link: &mut L, bytes: &[u8]) -> Result<(), WriteFault>
     ensures all { OnOk result (Appends (L.told link.old).written (L.told link.new).written bytes.now) }
     ensures prefix { AppendsPrefix (L.told link.old).written (L.told link.new).written bytes.now }
+    ensures silent { (L.told link.old).written ≡ None → (L.told link.new).written ≡ None }
     ensures cause { HasCause (L.told link.old).write_faults (L.told link.new).write_faults result }
     ensures reads { ReadsStay (L.told link.old) (L.told link.new) }
 {

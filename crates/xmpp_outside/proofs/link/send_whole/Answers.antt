@@ -11,7 +11,8 @@ loop-rest-preserved g c =
       split_at _ before.0 c.loop-rest.rest.now c.in-Ok.n before.1,
       Appends-trans _ _ _ before.0 _ before.2 c.in-Ok.ensures.written,
       c.in-Ok.ensures.cause.quiet ∙ before.3,
-      reads_stay before.4 c.in-Ok.ensures.reads,
+      (λ none. c.in-Ok.ensures.silent (before.4 none)),
+      reads_stay before.5 c.in-Ok.ensures.reads,
     )
 
 pub returns-in-Err-clause-prefix : goal.returns-in-Err-clause-prefix
