@@ -1,5 +1,5 @@
 -- The links that were given back, of which the counts are kept.
-use Rattle.std.specs.Prelude.{ℕ, List, [], ◌∷◌, ◌++◌, Option, Some, None}
+use Rattle.std.specs.Prelude.{List, [], ◌∷◌, ◌++◌, Option, Some, None}
 use Rattle.xmpp_outside.specs.Links.{LinkView}
 use Rattle.xmpp_sockets.specs.declared.returns.Counts.{Counts}
 use Rattle.xmpp_sockets.specs.declared.returns.Returns.{Returns, Returns', Held-Returns-before, None', Some'}

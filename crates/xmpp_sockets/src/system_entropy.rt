@@ -1,5 +1,5 @@
 //! The system's random bytes.
-ghost use Rattle.std.specs.Prelude.{None};
+ghost use Rattle.std.specs.Prelude.{◌≡◌, None};
 
 use std::random::RandomSource;
 use xmpp_edge::Failed;
@@ -14,7 +14,9 @@ pub struct SystemEntropy<'a, R> {
 
 impl<'a, R: RandomSource> SystemEntropy<'a, R> {
     /// What draws from the system.
-    pub fn new(source: &'a R) -> SystemEntropy<'a, R> {
+    pub fn new(source: &'a R) -> SystemEntropy<'a, R>
+        ensures { ⟦<SystemEntropy<'a, R> as Entropy>⟧.faults result ≡ 0 }
+    {
         SystemEntropy { source, faults: 0 }
     }
 }

@@ -1,5 +1,5 @@
 //! Dialers over TCP.
-ghost use Rattle.std.specs.Prelude.{IfOk};
+ghost use Rattle.std.specs.Prelude.{◌≡◌, [], IfOk};
 ghost use Rattle.xmpp_outside.specs.Links.{IsUnused};
 ghost use Rattle.xmpp_sockets.specs.Returns.{returned, silent_link};
 
@@ -25,7 +25,12 @@ pub struct TcpDialer<'a, R> {
 
 impl<'a, R: Net> TcpDialer<'a, R> {
     /// A dialer that made no connection yet.
-    pub fn new(net: &'a R, alloc: Global) -> TcpDialer<'a, R> {
+    pub fn new(net: &'a R, alloc: Global) -> TcpDialer<'a, R>
+        ensures given { ⟦<TcpDialer<'a, R> as Dialer>⟧.given result ≡ [] }
+        ensures faults { ⟦<TcpDialer<'a, R> as Dialer>⟧.faults result ≡ 0 }
+        ensures ends { ⟦<TcpDialer<'a, R> as Dialer>⟧.ends result ≡ 0 }
+        ensures handed { ⟦<TcpDialer<'a, R> as Dialer>⟧.handed result ≡ 0 }
+    {
         TcpDialer {
             net,
             alloc,

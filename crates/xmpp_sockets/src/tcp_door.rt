@@ -1,5 +1,5 @@
 //! Doors over TCP.
-ghost use Rattle.std.specs.Prelude.{IfOk};
+ghost use Rattle.std.specs.Prelude.{◌≡◌, [], IfOk};
 ghost use Rattle.xmpp_outside.specs.Links.{IsUnused};
 ghost use Rattle.xmpp_sockets.specs.Returns.{returned, silent_link};
 
@@ -30,7 +30,11 @@ pub(crate) fn loopback(port: u16) -> SocketAddr {
 
 impl<'a, R: Net> TcpDoor<'a, R> {
     /// A door that isn't open yet.
-    pub fn new(net: &'a R, alloc: Global) -> TcpDoor<'a, R> {
+    pub fn new(net: &'a R, alloc: Global) -> TcpDoor<'a, R>
+        ensures given { ⟦<TcpDoor<'a, R> as Door>⟧.given result ≡ [] }
+        ensures faults { ⟦<TcpDoor<'a, R> as Door>⟧.faults result ≡ 0 }
+        ensures handed { ⟦<TcpDoor<'a, R> as Door>⟧.handed result ≡ 0 }
+    {
         TcpDoor {
             net,
             alloc,
