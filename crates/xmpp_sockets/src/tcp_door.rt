@@ -14,6 +14,7 @@ use xmpp_outside::Door;
 /// A door at a port of the loopback address of this machine (RFC 1122, section 3.2.1.3), over the system's sockets. Each
 /// error of the system is a fault, and so is an `accept` where nothing listens, or for which memory runs out. A call that
 /// was interrupted is tried again.
+#[derive(Drop)]
 pub struct TcpDoor<'a, R: Net> {
     net: &'a R,
     alloc: Global,
