@@ -1,0 +1,3 @@
+pub use Rattle.xmpp_edge.specs.Counts
+pub use Rattle.xmpp_edge.specs.Prefixes
+pub mod Links

@@ -1,0 +1,2 @@
+pub use Rattle.xmpp_outside.specs.Links
+pub mod Returns
