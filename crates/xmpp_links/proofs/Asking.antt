@@ -4,7 +4,7 @@ use Rattle.std.specs.List.{Contains}
 use Rattle.xmpp_links.proofs.Entries.{same_number, Entry, New, Old, entry, was, altered, has_is, is_has}
 use Rattle.xmpp_links.proofs.Tables.{left_down_whole, NextDown}
 use Rattle.std.proofs.lemmas.List.Elements.{Contains-push}
-use Rattle.xmpp_links.proofs.CutLinks.{some_one, there_cut}
+use Rattle.xmpp_links.proofs.CutLinks.{some_one, there_cut, not_true}
 use Rattle.xmpp_links.proofs.Hands.{no_entry, piped_down, at_down, row_other, plain_on, plain_carries}
 use Rattle.xmpp_links.proofs.Heard.{told_kept, told_contains, told_goes, same_session}
 use Rattle.xmpp_links.proofs.Detached.{IsStill, still_asked, still_fits, carries_at, carried_of}
@@ -14,7 +14,7 @@ use Rattle.xmpp_links.specs.Stages.{Stage, Reoffered, AsksResume, Refused, Resum
 use Rattle.xmpp_links.specs.Views.{with_at, alter, has, Session, Row, Own, View, on_phase, session_on, carries}
 use Rattle.xmpp_links.specs.LinkMoves.{told_if}
 use Rattle.xmpp_links.specs.SessionMoves.{IsAskResume, IsAskBind, IsRefused}
-use Rattle.xmpp_links.specs.Links.{ArePiped, IsAsked, FitsOwn, ConnKept, IsQuiet, IsPlaced, OwnKept, SessionKept, IsCarried, LinkKept}
+use Rattle.xmpp_links.specs.Links.{ArePiped, IsAsked, FitsOwn, is_yet, ConnKept, IsQuiet, IsPlaced, OwnKept, SessionKept, IsCarried, LinkKept}
 
 -- the client states its count, and nothing else changes
 
@@ -28,6 +28,7 @@ told_keeps {A = A} v p s is counted kept = record {
     asked = still_asked f v.sessions before.stage gentle before.asked;
     fits = λ e. still_fits v.own v.epoch f v.sessions before.stage gentle (before.fits e);
     attached = before.attached;
+    uncounted = before.uncounted;
   };
   row = λ r found. let before = kept.row r found in record {
     session = f r.number before.session;
@@ -72,9 +73,9 @@ told_keeps {A = A} v p s is counted kept = record {
 -- a connection that has and carries no session comes to another row of this kind
 
 pub unheld_keeps : {A : Type 0} (v : View A) (k : ℕ) (old new : Conn A) (s : Stage A) (own : Option (Own A)) → v.here ≡ Some k → v.conns k ≡ Some old → session_on old ≡ None → carries old ≡ None →
-    IsAt s new → session_on new ≡ None → carried_of s ≡ None → ArePiped true new → IsAsked v.sessions s → FitsOwn own v.epoch v.sessions s → ((o : Own A) → own ≡ Some o → OwnKept v.epoch v.sessions o) →
+    IsAt s new → session_on new ≡ None → carried_of s ≡ None → is_yet s ≡ false → ArePiped true new → IsAsked v.sessions s → FitsOwn own v.epoch v.sessions s → ((o : Own A) → own ≡ Some o → OwnKept v.epoch v.sessions o) →
     LinkKept v → LinkKept (record v { conns = with_at k new v.conns; own = own })
-unheld_keeps {A = A} v k old new s own here is off bare at off' bare' piped asked fits own_kept kept = record {
+unheld_keeps {A = A} v k old new s own here is off bare at off' bare' yet piped asked fits own_kept kept = record {
   there = λ n e. there_cut v kept k new n e;
   conns = λ n c found. conn n c (entry k new v.conns n c found);
   row = λ r row. row_other k new v.conns v.sessions r (λ d found e. no_entry r.number (sym off ∙ subst (λ x. session_on x ≡ Some r.number) (some_one (v.conns k) d old found is) e)) (kept.row r row);
@@ -113,11 +114,12 @@ unheld_keeps {A = A} v k old new s own here is off bare at off' bare' piped aske
           asked = asked;
           fits = λ e. fits;
           attached = λ p e. no_entry p (sym off' ∙ e);
+          uncounted = λ r f on e. absurd (not_true yet e);
         } in
         subst (λ x. ConnKept (record v { conns = with_at k new v.conns; own = own }) x c) one (subst (λ x. ConnKept (record v { conns = with_at k new v.conns; own = own }) k x) this now)
     conn n c (Old ne there) =
         let was_kept = kept.conns n c there in
-        record { piped = was_kept.piped; stage = was_kept.stage; at = was_kept.at; asked = was_kept.asked; fits = λ e. absurd (ne (same n (has_is v.here n e))); attached = was_kept.attached }
+        record { piped = was_kept.piped; stage = was_kept.stage; at = was_kept.at; asked = was_kept.asked; fits = λ e. absurd (ne (same n (has_is v.here n e))); attached = was_kept.attached; uncounted = was_kept.uncounted }
 
 -- the row of a client that has the features, and of one that asked for its session and was refused
 
@@ -161,7 +163,7 @@ ask_bind_keeps {A = A} k v next m kept =
     let s : old.stage ≡ Reoffered = at_features old.stage (sym old.at.client ∙ m.client) in
     let at : IsAt Reoffered m.conn = subst (λ x. IsAt x m.conn) s old.at in
     let at' : IsAt AsksBind (steps m.conn InBind (Bind ∷ []) m.rest) = steps_at Reoffered AsksBind m.conn Feat m.rest InBind (Bind ∷ []) at (old.piped.unfooted works) m.first refl refl refl refl (λ e. absurd e) in
-    subst LinkKept (sym m.gives) (unheld_keeps v k m.conn (steps m.conn InBind (Bind ∷ []) m.rest) AsksBind v.own m.here m.is (plain_on Reoffered m.conn at tt) (plain_carries Reoffered m.conn at tt) at' (off_ready (steps m.conn InBind (Bind ∷ []) m.rest) at.phase) refl
+    subst LinkKept (sym m.gives) (unheld_keeps v k m.conn (steps m.conn InBind (Bind ∷ []) m.rest) AsksBind v.own m.here m.is (plain_on Reoffered m.conn at tt) (plain_carries Reoffered m.conn at tt) at' (off_ready (steps m.conn InBind (Bind ∷ []) m.rest) at.phase) refl refl
     (piped_down m.conn m.rest InBind (Bind ∷ []) (subst (λ b. ArePiped b m.conn) works old.piped)) tt m.none kept.own kept)
 
 pub refused_keeps : {A : Type 0} (k : ℕ) (v next : View A) → IsRefused k v next → LinkKept v → LinkKept next
@@ -171,7 +173,7 @@ refused_keeps {A = A} k v next m kept =
     let s : old.stage ≡ Refused m.p = at_refused old.stage m.conn.ending m.p (down_whole (left_down m.rest m.conn.wires)) (sym old.at.client ∙ m.client) (sym old.at.down ∙ left_down_whole Failed m.rest m.conn.wires m.first) in
     let at : IsAt (Refused m.p) m.conn = subst (λ x. IsAt x m.conn) s old.at in
     let at' : IsAt AsksBind (steps m.conn InBind (Bind ∷ []) m.rest) = steps_at (Refused m.p) AsksBind m.conn Failed m.rest InBind (Bind ∷ []) at (old.piped.unfooted works) m.first refl refl refl refl (λ e. absurd e) in
-    subst LinkKept (sym m.gives) (unheld_keeps v k m.conn (steps m.conn InBind (Bind ∷ []) m.rest) AsksBind None m.here m.is (off_ready m.conn at.phase) (carries_at (Refused m.p) m.conn at) at' (off_ready (steps m.conn InBind (Bind ∷ []) m.rest) at.phase) refl
+    subst LinkKept (sym m.gives) (unheld_keeps v k m.conn (steps m.conn InBind (Bind ∷ []) m.rest) AsksBind None m.here m.is (off_ready m.conn at.phase) (carries_at (Refused m.p) m.conn at) at' (off_ready (steps m.conn InBind (Bind ∷ []) m.rest) at.phase) refl refl
     (piped_down m.conn m.rest InBind (Bind ∷ []) (subst (λ b. ArePiped b m.conn) works old.piped)) tt refl (λ o e. no_entry o e) kept)
 
 pub ask_resume_keeps : {A : Type 0} (k : ℕ) (v next : View A) → IsAskResume k v next → LinkKept v → LinkKept next
@@ -190,7 +192,7 @@ ask_resume_keeps {A = A} k v next m kept =
     rw same_number (subst (λ (n : ℕ). Contains (own.session.down.stated ++ length own.session.down.got ∷ []) n) (sym own.handled) (Contains-push own.session.down.stated (length own.session.down.got)))
     in
     subst LinkKept (sym m.gives) (unheld_keeps (record v { sessions = alter f v.sessions }) k m.conn (steps m.conn (InResume m.own.number) (ResumeAt m.own.number m.own.handled ∷ []) m.rest) (AsksResume m.own.number m.own.handled) v.own m.here m.is
-    (plain_on Reoffered m.conn at tt) (plain_carries Reoffered m.conn at tt) at' (off_ready (steps m.conn (InResume m.own.number) (ResumeAt m.own.number m.own.handled ∷ []) m.rest) at.phase) refl
+    (plain_on Reoffered m.conn at tt) (plain_carries Reoffered m.conn at tt) at' (off_ready (steps m.conn (InResume m.own.number) (ResumeAt m.own.number m.own.handled ∷ []) m.rest) at.phase) refl refl
     (piped_down m.conn m.rest (InResume m.own.number) (ResumeAt m.own.number m.own.handled ∷ []) (subst (λ b. ArePiped b m.conn) works old.piped))
     (f m.own.number own.session, altered f v.sessions m.own.number own.session own.is, own.read, now) (m.own, m.is_own, refl, refl) told.own told)
   where

@@ -4,7 +4,7 @@ use Rattle.std.proofs.lemmas.Bool.{cases_Bool, cases_eq}
 use Rattle.std.specs.List.{Contains}
 use Rattle.xmpp_links.proofs.Entries.{at_same, at_other, Entry, New, Old, entry}
 use Rattle.xmpp_links.proofs.Tables.{send_down_whole, send_down_whole_up, left_up_whole, left_up_whole_down}
-use Rattle.xmpp_links.proofs.CutLinks.{not_true, some_one, there_cut}
+use Rattle.xmpp_links.proofs.CutLinks.{not_true, some_one, there_cut, on_other, some_same}
 use Rattle.xmpp_links.proofs.Hands.{no_entry, piped_up, taken_stands}
 use Rattle.xmpp_links.proofs.ReadResumed.{phase_session}
 use Rattle.xmpp_links.specs.Words.{UpWord, Bind, Bound, InBind, AtSession}
@@ -49,7 +49,7 @@ more m t p s fresh is = at_other m unread t p (λ e. no_entry s (sym (subst (λ 
 
 more_asked : {A : Type 0} (m : ℕ) (t : Table (Session A)) (s : Stage A) → t m ≡ None → IsAsked t s → IsAsked (with_at m unread t) s
 more_asked m t (AsksResume p h) fresh (s, is, read, stated) = (s, more m t p s fresh is, read, stated)
-more_asked m t (AsksEnable p) fresh (s, e, is, epoch, counted, read) = (s, e, more m t p s fresh is, epoch, counted, read)
+more_asked m t (AsksEnable p) fresh (s, e, is, epoch) = (s, e, more m t p s fresh is, epoch)
 more_asked m t _ fresh a = tt
 
 more_fits : {A : Type 0} (own : Option (Own A)) (epoch m : ℕ) (t : Table (Session A)) (s : Stage A) → t m ≡ None → ((o : Own A) → own ≡ Some o → OwnKept epoch t o) → FitsOwn own epoch t s → FitsOwn own epoch (with_at m unread t) s
@@ -167,6 +167,7 @@ bound_keeps {A = A} k number v next m kept = subst LinkKept (sym m.gives) (recor
           asked = tt;
           fits = λ e. (subst (λ s. FitsOwn v.own v.epoch v.sessions s) b.is (old.fits e), (unread, at_same number unread v.sessions, refl, refl));
           attached = λ q e. (new, refl, phase_session number q m.conn.ending m.conn.gone e, refl);
+          uncounted = λ r f on e. subst (λ (x : Row A). x.counted ≡ false) (some_same new r f) refl;
         } in
         subst (λ x. ConnKept (record v { conns = with_at k this v.conns; row = Some new; sessions = with_at number unread v.sessions }) x d) same (subst (λ x. ConnKept (record v { conns = with_at k this v.conns; row = Some new; sessions = with_at number unread v.sessions }) k x) is here)
     conn n d (Old ne there) =
@@ -178,6 +179,7 @@ bound_keeps {A = A} k number v next m kept = subst LinkKept (sym m.gives) (recor
           asked = more_asked number v.sessions before.stage m.fresh before.asked;
           fits = λ e. more_fits v.own v.epoch number v.sessions before.stage m.fresh kept.own (before.fits e);
           attached = λ q e. absurd (no_row (before.attached q e).0 (before.attached q e).1);
+          uncounted = λ r f on e. on_other k n new r f refl ne on;
         }
 
     session : (q : ℕ) (s : Session A) → Entry number unread v.sessions q s → SessionKept s

@@ -26,6 +26,20 @@ not_true f t = let no_way : ⊥ = cc in no_way
 pub some_one : {B : Type 0} (o : Option B) (a b : B) → o ≡ Some a → o ≡ Some b → a ≡ b
 some_one o a b e f = cc
 
+-- the row is on no connection, or on one alone
+pub some_same : {B : Type 0} (a b : B) → Some a ≡ Some b → a ≡ b
+some_same a b e = cc
+
+pub off_row : {A C : Type 0} (k : ℕ) (new r : Row A) → Some new ≡ Some r → new.on ≡ None → r.on ≡ Some k → C
+off_row {A = A} k new r same off on =
+    let one : r.on ≡ None = subst (λ (x : Row A). x.on ≡ None) (some_same new r same) off in
+    absurd (let no_way : ⊥ = cc in no_way)
+
+pub on_other : {A C : Type 0} (k n : ℕ) (new r : Row A) → Some new ≡ Some r → new.on ≡ Some k → k ≢ n → r.on ≡ Some n → C
+on_other {A = A} k n new r same on ne also =
+    let one : r.on ≡ Some k = subst (λ (x : Row A). x.on ≡ Some k) (some_same new r same) on in
+    absurd (ne (some_same k n (sym one ∙ also)))
+
 -- the row of the table stays, since the pipes with what was lost stay
 pub rewired : {A : Type 0} (s : Stage A) (c : Conn A) (x : Wires A) → IsAt s c → up_whole x ≡ up_whole c.wires → down_whole x ≡ down_whole c.wires → IsAt s (record c { wires = x })
 rewired s c x at up down = record { client = at.client; phase = at.phase; up = up ∙ at.up; down = down ∙ at.down }
@@ -34,6 +48,7 @@ piped_cut : {A : Type 0} (works : Bool) (c : Conn A) (i j : ℕ) → ArePiped wo
 piped_cut works c i j p = record {
   flowing = λ e. absurd (not_true (cut_stops i j c.wires) e);
   unfooted = p.unfooted;
+  fair = p.fair;
   left = λ e. cut_down_words i j c.wires ∙ take_none j (down_words c.wires) (p.left e);
   ended = elim p.ended [ inl e ↦ inl e | inr e ↦ inr (cut_up_words i j c.wires ∙ take_none i (up_words c.wires) e) ];
   gone = λ e. cut_up_words i j c.wires ∙ take_none i (up_words c.wires) (p.gone e);
@@ -42,7 +57,7 @@ piped_cut works c i j p = record {
 -- sessions whose ways alone changed
 asked_cut : {A : Type 0} (works : Bool) (c : Conn A) (i j : ℕ) (sessions : Table (Session A)) (s : Stage A) → IsAsked sessions s → IsAsked (alter (ways_cut works c i j) sessions) s
 asked_cut works c i j sessions (AsksResume p h) (s, is, read, stated) = (ways_cut works c i j p s, altered (ways_cut works c i j) sessions p s is, read, stated)
-asked_cut works c i j sessions (AsksEnable m) (s, e, is, epoch, counted, read) = (ways_cut works c i j m s, e, altered (ways_cut works c i j) sessions m s is, epoch, counted, read)
+asked_cut works c i j sessions (AsksEnable m) (s, e, is, epoch) = (ways_cut works c i j m s, e, altered (ways_cut works c i j) sessions m s is, epoch)
 asked_cut works c i j sessions _ a = tt
 
 fits_cut : {A : Type 0} (own : Option (Own A)) (epoch : ℕ) (works : Bool) (c : Conn A) (i j : ℕ) (sessions : Table (Session A)) (s : Stage A) → FitsOwn own epoch sessions s → FitsOwn own epoch (alter (ways_cut works c i j) sessions) s
@@ -221,6 +236,7 @@ conn_cut {A = A} v kept k i j c is n d at = by (entry k (cut_conn i j c) v.conns
           asked = asked_cut (has v.here k) c i j v.sessions old.stage old.asked;
           fits = λ e. fits_cut v.own v.epoch (has v.here k) c i j v.sessions old.stage (old.fits e);
           attached = old.attached;
+          uncounted = old.uncounted;
         } in
         subst (λ x. ConnKept (after_cut v k i j c) x d) same (subst (λ x. ConnKept (after_cut v k i j c) k x) this here)
     by (Old ne there) =
@@ -232,6 +248,7 @@ conn_cut {A = A} v kept k i j c is n d at = by (entry k (cut_conn i j c) v.conns
           asked = asked_cut (has v.here k) c i j v.sessions old.stage old.asked;
           fits = λ e. fits_cut v.own v.epoch (has v.here k) c i j v.sessions old.stage (old.fits e);
           attached = old.attached;
+          uncounted = old.uncounted;
         }
 
 goes_down_after : {A : Type 0} (v : View A) (kept : LinkKept v) (k i j : ℕ) (c : Conn A) → v.conns k ≡ Some c →

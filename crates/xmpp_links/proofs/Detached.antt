@@ -7,15 +7,15 @@ use Rattle.xmpp_links.proofs.Entries.{same_number, at_same, at_other, Entry, New
 use Rattle.xmpp_links.proofs.Cuts.{reached_more, reached_cut_if}
 use Rattle.xmpp_links.proofs.Tables.{send_down_whole, send_down_whole_up, halt_whole_up, halt_whole_down}
 use Rattle.std.proofs.lemmas.List.{append-nil, take_all}
-use Rattle.xmpp_links.proofs.CutLinks.{not_true, some_one, here_or_not, there_cut, quiet_cut}
+use Rattle.xmpp_links.proofs.CutLinks.{not_true, some_one, here_or_not, there_cut, quiet_cut, off_row}
 use Rattle.xmpp_links.proofs.Counting.{down_counts_with, down_stanzas_with}
 use Rattle.xmpp_links.proofs.Hands.{no_entry, stopped_away}
-use Rattle.xmpp_links.specs.Words.{down_stanzas, DownWord, Err, End, Cause, Phase, Start, Sasl, Challenge, Restart, Ready, AtSession}
-use Rattle.xmpp_links.specs.Wires.{Wires, Flow, Stop, is_flowing, up_words, down_words, down_whole, send_down, halt}
-use Rattle.xmpp_links.specs.Stages.{Stage, Greets, Greeted, Offered, Proves, Challenged, Answers, Succeeded, Regreets, Regreeted, Reoffered, AsksResume, Refused, Resumes, AsksBind, Binds, AsksEnable, Enables, Runs, client_of, down_of, Ending, Stands, Errs, Closes, tail_of, Conn, IsAt}
+use Rattle.xmpp_links.specs.Words.{UpWord, Foot, Conflict, Constraint, TooHigh, down_stanzas, DownWord, Err, End, Cause, Phase, Start, Sasl, Challenge, Restart, Ready, AtSession}
+use Rattle.xmpp_links.specs.Wires.{Wires, Flow, Stop, is_flowing, up_words, down_words, up_whole, down_whole, send_down, halt}
+use Rattle.xmpp_links.specs.Stages.{Stage, Greets, Greeted, Offered, Proves, Challenged, Answers, Succeeded, Regreets, Regreeted, Reoffered, AsksResume, Refused, Resumes, AsksBind, Binds, AsksEnable, Enables, Runs, client_of, up_of, down_of, Ending, Stands, Errs, Closes, tail_of, foot_of, Conn, IsAt}
 use Rattle.xmpp_links.specs.Views.{Table, with_at, alter, has, Session, Row, Own, View, on_phase, session_on, carried_by, carries, cut_if}
-use Rattle.xmpp_links.specs.SessionMoves.{shut, lost_if, IsDetached, IsRowEnded}
-use Rattle.xmpp_links.specs.Links.{DownCounts, IsAsked, FitsOwn, ConnKept, GoesDown, IsQuiet, IsPlaced, RowKept, SessionKept, IsCarried, LinkKept}
+use Rattle.xmpp_links.specs.SessionMoves.{shut, IsReason, lost_if, IsDetached, IsRowEnded}
+use Rattle.xmpp_links.specs.Links.{IsFair, ArePiped, DownCounts, IsAsked, FitsOwn, ConnKept, GoesDown, IsQuiet, IsPlaced, RowKept, SessionKept, IsCarried, LinkKept}
 
 -- which session a row of the table carries on its way down
 abbrev pub carried_of : {A : Type 0} → Stage A → Option ℕ
@@ -47,6 +47,52 @@ ended_off Restart cause gone = refl
 ended_off Ready cause gone = refl
 ended_off (AtSession p) cause gone = refl
 
+-- the streams that the server ended
+abbrev pub IsEnd : Ending → Type 0
+IsEnd Stands = ⊥
+IsEnd (Errs cause) = Unit {0}
+IsEnd Closes = Unit {0}
+
+pub end_off : (ph : Phase) (end : Ending) (gone : Bool) → IsEnd end → on_phase ph end gone ≡ None
+end_off ph Stands gone e = absurd e
+end_off ph (Errs cause) gone e = ended_off ph cause gone
+end_off Start Closes gone e = refl
+end_off Sasl Closes gone e = refl
+end_off Challenge Closes gone e = refl
+end_off Restart Closes gone e = refl
+end_off Ready Closes gone e = refl
+end_off (AtSession q) Closes gone e = refl
+
+pub reason_ends : {A : Type 0} (end : Ending) (ws : List (UpWord A)) → IsReason end ws → IsEnd end
+reason_ends Stands ws r = absurd r
+reason_ends (Errs cause) ws r = tt
+reason_ends Closes ws r = tt
+
+-- no row of the table has a footer
+up_foot : {A C : Type 0} (s : Stage A) (rest : List (UpWord A)) → up_of s ≡ Foot ∷ rest → C
+up_foot (Runs p (u ∷ ups) downs) rest e = absurd (let no_way : ⊥ = cc in no_way)
+up_foot (Runs p [] downs) rest e = absurd (let no_way : ⊥ = cc in no_way)
+up_foot (AsksResume p h) rest e = absurd (let no_way : ⊥ = cc in no_way)
+up_foot (AsksEnable m) rest e = absurd (let no_way : ⊥ = cc in no_way)
+up_foot _ rest e = absurd (let no_way : ⊥ = cc in no_way)
+
+first_whole : {A : Type 0} (w : UpWord A) (rest : List (UpWord A)) (x : Wires A) → up_words x ≡ w ∷ rest → (more : List (UpWord A)) × (up_whole x ≡ w ∷ more)
+first_whole w rest (Flow us ds) e = (rest, e)
+first_whole w rest (Stop us ds lu ld) e = (rest ++ lu, ap (λ l. l ++ lu) e)
+
+-- where the client works, no footer comes
+pub no_foot_here : {A C : Type 0} (s : Stage A) (c : Conn A) (works : Bool) (rest : List (UpWord A)) → ArePiped works c → IsAt s c → up_words c.wires ≡ Foot ∷ rest → works ≡ true → C
+no_foot_here s c works rest piped at first e =
+    let whole = first_whole Foot rest c.wires first in
+    up_foot s whole.0 (sym (append-nil (up_of s)) ∙ ap (λ x. up_of s ++ foot_of x) (sym (piped.unfooted e)) ∙ sym at.up ∙ whole.1)
+
+pub fair_reason : {A : Type 0} (s : Stage A) (c : Conn A) (works : Bool) → ArePiped works c → IsAt s c → (end : Ending) → IsReason end (up_words c.wires) → works ≡ true → IsFair end
+fair_reason s c works piped at Stands r e = absurd r
+fair_reason s c works piped at (Errs Conflict) r e = tt
+fair_reason s c works piped at (Errs Constraint) r e = tt
+fair_reason s c works piped at (Errs TooHigh) r e = absurd r
+fair_reason s c works piped at Closes r e = no_foot_here s c works r.0 piped at r.1 e
+
 pub on_stands : (ph : Phase) (end : Ending) (gone : Bool) (p : ℕ) → on_phase ph end gone ≡ Some p → end ≡ Stands
 on_stands ph Stands gone p e = refl
 on_stands ph (Errs x) gone p e = no_entry p (sym (ended_off ph x gone) ∙ e)
@@ -68,7 +114,7 @@ pub record IsStill {A : Type 0} (f : ℕ → Session A → Session A) : Type 0 w
 
 pub still_asked : {A : Type 0} (f : ℕ → Session A → Session A) (sessions : Table (Session A)) (s : Stage A) → IsStill f → IsAsked sessions s → IsAsked (alter f sessions) s
 still_asked f sessions (AsksResume q h) g (s, is, read, stated) = (f q s, altered f sessions q s is, g.read q s ∙ read, g.told q s h stated)
-still_asked f sessions (AsksEnable m) g (s, e, is, epoch, counted, read) = (f m s, e, altered f sessions m s is, g.epoch m s ∙ epoch, g.counted m s ∙ counted, g.read m s ∙ read)
+still_asked f sessions (AsksEnable m) g (s, e, is, epoch) = (f m s, e, altered f sessions m s is, g.epoch m s ∙ epoch)
 still_asked f sessions _ g a = tt
 
 pub still_fits : {A : Type 0} (own : Option (Own A)) (epoch : ℕ) (f : ℕ → Session A → Session A) (sessions : Table (Session A)) (s : Stage A) → IsStill f → FitsOwn own epoch sessions s → FitsOwn own epoch (alter f sessions) s
@@ -109,13 +155,17 @@ halted_down : {A : Type 0} (ws : List (DownWord A)) (x : Wires A) → is_flowing
 halted_down ws (Flow us ds) e = absurd (not_true e refl)
 halted_down ws (Stop us ds lu ld) e = refl
 
-halted_stanzas : {A : Type 0} (cause : Cause) (x : Wires A) → down_stanzas (down_words (halt (send_down (Err cause ∷ End ∷ []) x))) ≡ down_stanzas (down_words x)
-halted_stanzas cause (Flow us ds) = down_stanzas_with ds (Err cause ∷ End ∷ []) ∙ append-nil (down_stanzas ds)
-halted_stanzas cause (Stop us ds lu ld) = refl
+halted_stanzas : {A : Type 0} (end : Ending) (x : Wires A) → down_stanzas (down_words (halt (send_down (tail_of end) x))) ≡ down_stanzas (down_words x)
+halted_stanzas Stands (Flow us ds) = ap down_stanzas (append-nil ds)
+halted_stanzas (Errs cause) (Flow us ds) = down_stanzas_with ds (Err cause ∷ End ∷ []) ∙ append-nil (down_stanzas ds)
+halted_stanzas Closes (Flow us ds) = down_stanzas_with ds (End ∷ []) ∙ append-nil (down_stanzas ds)
+halted_stanzas end (Stop us ds lu ld) = refl
 
-halted_counts : {A : Type 0} (cause : Cause) (low : ℕ) (stated : List ℕ) (x : Wires A) → DownCounts low stated (down_words x) → DownCounts low stated (down_words (halt (send_down (Err cause ∷ End ∷ []) x)))
-halted_counts cause low stated (Flow us ds) u = subst (λ l. DownCounts low stated l) (append_assoc ds (Err cause ∷ []) (End ∷ [])) (down_counts_with low stated (ds ++ Err cause ∷ []) End (λ n. tt) (down_counts_with low stated ds (Err cause) (λ n. tt) u))
-halted_counts cause low stated (Stop us ds lu ld) u = u
+halted_counts : {A : Type 0} (end : Ending) (low : ℕ) (stated : List ℕ) (x : Wires A) → DownCounts low stated (down_words x) → DownCounts low stated (down_words (halt (send_down (tail_of end) x)))
+halted_counts Stands low stated (Flow us ds) u = subst (λ l. DownCounts low stated l) (sym (append-nil ds)) u
+halted_counts Closes low stated (Flow us ds) u = down_counts_with low stated ds End (λ n. tt) u
+halted_counts (Errs cause) low stated (Flow us ds) u = subst (λ l. DownCounts low stated l) (append_assoc ds (Err cause ∷ []) (End ∷ [])) (down_counts_with low stated (ds ++ Err cause ∷ []) End (λ n. tt) (down_counts_with low stated ds (Err cause) (λ n. tt) u))
+halted_counts end low stated (Stop us ds lu ld) u = u
 
 quiet_lost : {A : Type 0} (b c : Bool) (s : Session A) → IsQuiet s.down → IsQuiet (lost_if b c s).down
 quiet_lost b false s q = record { way = q.way; is_open = q.is_open }
@@ -140,8 +190,8 @@ lost_kept {A = A} b c s counted kept = record {
     down false = kept.down
     down true = reached_more (Cut (length s.down.way)) s.down (record s.down { is_open = false }) kept.down (ap (λ l. record s.down { way = l; is_open = false }) (sym (take_all (length s.down.way) s.down.way (omega arith))))
 
-pub detached_keeps : {A : Type 0} (k : ℕ) (cause : Cause) (v next : View A) → IsDetached k cause v next → LinkKept v → LinkKept next
-detached_keeps {A = A} k cause v next m kept = subst LinkKept (sym m.gives) (record {
+pub detached_keeps : {A : Type 0} (k : ℕ) (ending : Ending) (v next : View A) → IsDetached k ending v next → LinkKept v → LinkKept next
+detached_keeps {A = A} k ending v next m kept = subst LinkKept (sym m.gives) (record {
   there = λ n here. there_cut v kept k this n here;
   conns = λ n d found. conn n d (entry k this v.conns n d found);
   row = λ r e. subst (λ x. RowKept (with_at k this v.conns) (alter f v.sessions) x) (let out : new ≡ r = cc in out) row_kept;
@@ -171,7 +221,7 @@ detached_keeps {A = A} k cause v next m kept = subst LinkKept (sym m.gives) (rec
 })
   where
     this : Conn A
-    this = shut cause m.conn
+    this = shut ending m.conn
 
     new : Row A
     new = record m.row { on = None }
@@ -202,18 +252,18 @@ detached_keeps {A = A} k cause v next m kept = subst LinkKept (sym m.gives) (rec
     mine : (q : ℕ) (t : Session A) → has (Some m.row.number) q ≡ true → v.sessions q ≡ Some t → row.session ≡ t
     mine q t e found = let same : Some m.row.number ≡ Some q = has_is (Some m.row.number) q e in let n : m.row.number ≡ q = cc in some_one (v.sessions q) row.session t (subst (λ x. v.sessions x ≡ Some row.session) n row.is) found
 
-    at : IsAt old.stage (shut cause m.conn)
+    at : IsAt old.stage (shut ending m.conn)
     at = record {
       client = old.at.client;
       phase = old.at.phase;
-      up = halt_whole_up (send_down (Err cause ∷ End ∷ []) m.conn.wires) ∙ send_down_whole_up (Err cause ∷ End ∷ []) m.conn.wires ∙ old.at.up;
+      up = halt_whole_up (send_down (tail_of ending) m.conn.wires) ∙ send_down_whole_up (tail_of ending) m.conn.wires ∙ old.at.up;
       down =
           let bare : down_whole m.conn.wires ≡ down_of old.stage = old.at.down ∙ ap (λ x. down_of old.stage ++ tail_of x) stands ∙ append-nil (down_of old.stage) in
-          halt_whole_down (send_down (Err cause ∷ End ∷ []) m.conn.wires) ∙ send_down_whole (Err cause ∷ End ∷ []) m.conn.wires ∙ ap (λ l. l ++ Err cause ∷ End ∷ []) bare;
+          halt_whole_down (send_down (tail_of ending) m.conn.wires) ∙ send_down_whole (tail_of ending) m.conn.wires ∙ ap (λ l. l ++ tail_of ending) bare;
     }
 
-    same_carried : carries (shut cause m.conn) ≡ carries m.conn
-    same_carried = carries_at old.stage (shut cause m.conn) at ∙ sym (carries_at old.stage m.conn old.at)
+    same_carried : carries (shut ending m.conn) ≡ carries m.conn
+    same_carried = carries_at old.stage (shut ending m.conn) at ∙ sym (carries_at old.stage m.conn old.at)
 
     no_other : (n : ℕ) (d : Conn A) (q : ℕ) → k ≢ n → v.conns n ≡ Some d → session_on d ≡ Some q → ⊥
     no_other n d q ne there on =
@@ -223,8 +273,8 @@ detached_keeps {A = A} k cause v next m kept = subst LinkKept (sym m.gives) (rec
         let on_k = m.on in
         ne (let out : k ≡ n = cc in out)
 
-    off : (q : ℕ) → session_on (shut cause m.conn) ≡ Some q → ⊥
-    off q e = no_entry q (sym (ended_off m.conn.phase cause m.conn.gone) ∙ e)
+    off : (q : ℕ) → session_on (shut ending m.conn) ≡ Some q → ⊥
+    off q e = no_entry q (sym (end_off m.conn.phase ending m.conn.gone (reason_ends ending (up_words m.conn.wires) m.reason)) ∙ e)
 
     nowhere : (n : ℕ) (d : Conn A) (q : ℕ) → session_on d ≡ Some q → Entry k this v.conns n d → ⊥
     nowhere n d q on (New same is) = off q (subst (λ x. session_on x ≡ Some q) (sym is) on)
@@ -245,17 +295,19 @@ detached_keeps {A = A} k cause v next m kept = subst LinkKept (sym m.gives) (rec
     conn n d (New same is) =
         let here : ConnKept (record v { conns = with_at k this v.conns; row = Some new; sessions = alter f v.sessions }) k this = record {
           piped = record {
-            flowing = λ e. absurd (not_true (halted (Err cause ∷ End ∷ []) m.conn.wires) e);
+            flowing = λ e. absurd (not_true (halted (tail_of ending) m.conn.wires) e);
             unfooted = old.piped.unfooted;
-            left = λ e. halted_down (Err cause ∷ End ∷ []) m.conn.wires (stopped_away (has v.here k) m.conn old.piped e) ∙ old.piped.left e;
-            ended = inr (halted_up (Err cause ∷ End ∷ []) m.conn.wires);
-            gone = λ e. halted_up (Err cause ∷ End ∷ []) m.conn.wires;
+            fair = λ e. fair_reason old.stage m.conn (has v.here k) old.piped old.at ending m.reason e;
+            left = λ e. halted_down (tail_of ending) m.conn.wires (stopped_away (has v.here k) m.conn old.piped e) ∙ old.piped.left e;
+            ended = inr (halted_up (tail_of ending) m.conn.wires);
+            gone = λ e. halted_up (tail_of ending) m.conn.wires;
           };
           stage = old.stage;
           at = at;
           asked = still_asked f v.sessions old.stage still old.asked;
           fits = λ e. still_fits v.own v.epoch f v.sessions old.stage still (old.fits e);
           attached = λ q e. absurd (off q e);
+          uncounted = λ r f on e. off_row k new r f refl on;
         } in
         subst (λ x. ConnKept (record v { conns = with_at k this v.conns; row = Some new; sessions = alter f v.sessions }) x d) same (subst (λ x. ConnKept (record v { conns = with_at k this v.conns; row = Some new; sessions = alter f v.sessions }) k x) is here)
     conn n d (Old ne there) =
@@ -267,6 +319,7 @@ detached_keeps {A = A} k cause v next m kept = subst LinkKept (sym m.gives) (rec
           asked = still_asked f v.sessions before.stage still before.asked;
           fits = λ e. still_fits v.own v.epoch f v.sessions before.stage still (before.fits e);
           attached = λ q e. absurd (no_other n d q ne there e);
+          uncounted = λ r f on e. off_row n new r f refl on;
         }
 
     down : (n : ℕ) (d : Conn A) (q : ℕ) → v.here ≡ Some n → carries d ≡ Some q → Entry k this v.conns n d → (t : Session A) × (alter f v.sessions q ≡ Some t) × GoesDown d t
@@ -276,9 +329,9 @@ detached_keeps {A = A} k cause v next m kept = subst LinkKept (sym m.gives) (rec
         let before = kept.goes_down k m.conn q here_k m.is carried_k in
         let after : GoesDown this (f q before.0) = record {
           counted = before.2.counted;
-          way = before.2.way ∙ sym (halted_stanzas cause m.conn.wires);
-          is_open = rw (before.2.counted, is_has v.here k here_k, is_has (carries m.conn) q carried_k) (sym (halted (Err cause ∷ End ∷ []) m.conn.wires));
-          counts = halted_counts cause before.0.up.acked before.0.up.stated m.conn.wires before.2.counts;
+          way = before.2.way ∙ sym (halted_stanzas ending m.conn.wires);
+          is_open = rw (before.2.counted, is_has v.here k here_k, is_has (carries m.conn) q carried_k) (sym (halted (tail_of ending) m.conn.wires));
+          counts = halted_counts ending before.0.up.acked before.0.up.stated m.conn.wires before.2.counts;
         } in
         (f q before.0, altered f v.sessions q before.0 before.1, subst (λ x. GoesDown x (f q before.0)) is after)
     down n d q here carried (Old ne there) =
@@ -315,6 +368,7 @@ row_ended_keeps {A = A} v next m kept = subst LinkKept (sym m.gives) (record {
     asked = before.asked;
     fits = before.fits;
     attached = λ q e. absurd (none n (before.attached q e).0 (before.attached q e).1 (before.attached q e).3);
+    uncounted = λ r f on e. no_entry r f;
   };
   row = λ r e. no_entry r e;
   own = kept.own;

@@ -10,7 +10,7 @@ use Rattle.xmpp_links.specs.Wires.{Wires, Flow, Stop, is_flowing, up_words, down
 use Rattle.xmpp_links.specs.Stages.{Stage, Greets, AsksResume, Refused, Resumes, AsksBind, Binds, AsksEnable, Enables, Runs, client_of, phase_of, up_of, down_of, Goes, server_hand, client_hand, Ending, Stands, tail_of, foot_of, Conn, IsAt, IsPlain, IsEarly}
 use Rattle.xmpp_links.specs.Views.{Table, with_at, has, Session, Row, Own, View, on_phase, session_on, carried_by, carries}
 use Rattle.xmpp_links.specs.LinkMoves.{IsLetGo, dialled, IsDialled, IsUpHand, IsDownHand}
-use Rattle.xmpp_links.specs.Links.{ArePiped, IsAsked, FitsOwn, ConnKept, GoesDown, IsQuiet, IsPlaced, RowKept, IsCarried, IsBare, LinkKept}
+use Rattle.xmpp_links.specs.Links.{ArePiped, IsAsked, FitsOwn, is_yet, ConnKept, GoesDown, IsQuiet, IsPlaced, RowKept, IsCarried, IsBare, LinkKept}
 
 -- a device at the beginning
 abbrev pub nothing_yet : {A : Type 0} → View A
@@ -73,6 +73,7 @@ let_go_keeps {A = A} k v next m kept = subst LinkKept (sym m.gives) (record {
           piped = record {
             flowing = λ e. absurd (stopped n c at old.piped e);
             unfooted = λ e. absurd (let no_way : ⊥ = cc in no_way);
+            fair = λ e. absurd (let no_way : ⊥ = cc in no_way);
             left = λ e. emptied n c at old.piped;
             ended = old.piped.ended;
             gone = old.piped.gone;
@@ -82,6 +83,7 @@ let_go_keeps {A = A} k v next m kept = subst LinkKept (sym m.gives) (record {
           asked = old.asked;
           fits = λ e. absurd (let no_way : ⊥ = cc in no_way);
           attached = old.attached;
+          uncounted = old.uncounted;
         }
 
     carried_quiet : (p : ℕ) (s : Session A) → v.sessions p ≡ Some s → IsCarried v p → IsQuiet s.down
@@ -139,6 +141,7 @@ dial_keeps {A = A} k v next m kept = subst LinkKept (sym m.gives) (record {
           piped = record {
             flowing = λ e. (same_number k, refl, refl);
             unfooted = λ e. refl;
+            fair = λ e. tt;
             left = λ e. refl;
             ended = inl refl;
             gone = λ e. absurd (let no_way : ⊥ = cc in no_way);
@@ -148,6 +151,7 @@ dial_keeps {A = A} k v next m kept = subst LinkKept (sym m.gives) (record {
           asked = tt;
           fits = λ e. tt;
           attached = λ p e. no_entry p e;
+          uncounted = λ r f on e. absurd (not_true refl e);
         } in
         subst (λ x. ConnKept (record v { here = Some k; conns = with_at k dialled v.conns }) x c) same (subst (λ x. ConnKept (record v { here = Some k; conns = with_at k dialled v.conns }) k x) this here)
     conn n c (Old ne there) =
@@ -161,6 +165,7 @@ dial_keeps {A = A} k v next m kept = subst LinkKept (sym m.gives) (record {
           asked = old.asked;
           fits = λ e. absurd (not_true now e);
           attached = old.attached;
+          uncounted = old.uncounted;
         }
 
     silent : (n : ℕ) (c : Conn A) (p : ℕ) → Some k ≡ Some n → Entry k dialled v.conns n c → carries c ≡ Some p → (s : Session A) × (v.sessions p ≡ Some s) × GoesDown c s
@@ -191,6 +196,11 @@ plain_fits own epoch sessions (AsksEnable m) e = absurd e
 plain_fits own epoch sessions (Enables m downs) e = absurd e
 plain_fits own epoch sessions (Runs p ups downs) e = absurd e
 plain_fits own epoch sessions _ e = tt
+
+plain_yet : {A : Type 0} (s : Stage A) → IsPlain s → is_yet s ≡ false
+plain_yet (Binds m) e = absurd e
+plain_yet (AsksEnable m) e = absurd e
+plain_yet _ e = refl
 
 plain_phase : {A : Type 0} (s : Stage A) (end : Ending) (gone : Bool) → IsPlain s → on_phase (phase_of s) end gone ≡ None
 plain_phase (AsksResume p h) end gone e = absurd e
@@ -251,11 +261,12 @@ plain_keeps {A = A} v k old new s s' is at plain at' plain' piped kept = record 
           asked = plain_asked v.sessions s' plain';
           fits = λ e. plain_fits v.own v.epoch v.sessions s' plain';
           attached = λ p e. no_entry p (sym (plain_on s' new at' plain') ∙ e);
+          uncounted = λ r f on e. absurd (not_true (plain_yet s' plain') e);
         } in
         subst (λ x. ConnKept (record v { conns = with_at k new v.conns }) x c) same (subst (λ x. ConnKept (record v { conns = with_at k new v.conns }) k x) this here)
     conn n c (Old ne there) =
         let was_kept = kept.conns n c there in
-        record { piped = was_kept.piped; stage = was_kept.stage; at = was_kept.at; asked = was_kept.asked; fits = was_kept.fits; attached = was_kept.attached }
+        record { piped = was_kept.piped; stage = was_kept.stage; at = was_kept.at; asked = was_kept.asked; fits = was_kept.fits; attached = was_kept.attached; uncounted = was_kept.uncounted }
 
     down : (n : ℕ) (c : Conn A) (p : ℕ) → v.here ≡ Some n → carries c ≡ Some p → Entry k new v.conns n c → (t : Session A) × (v.sessions p ≡ Some t) × GoesDown c t
     down n c p here carried (New same this) = absurd (silent p (subst (λ x. carries x ≡ Some p) (sym this) carried))
@@ -315,6 +326,7 @@ pub piped_up : {A : Type 0} (works : Bool) (c : Conn A) (w : UpWord A) (rest : L
 piped_up works c w rest phase puts first p = record {
   flowing = λ e. p.flowing (sym (flow_down puts rest c.wires) ∙ e);
   unfooted = p.unfooted;
+  fair = p.fair;
   left = λ e. down_words_stopped puts rest c.wires (stopped_away works c p e) ∙ p.left e;
   ended = inl (taken_stands works c w rest p first);
   gone = λ e. absurd (let none = p.gone e in let no_way : ⊥ = cc in no_way);
@@ -353,6 +365,7 @@ pub piped_down : {A : Type 0} (c : Conn A) (rest : List (DownWord A)) (client : 
 piped_down {A = A} c rest client puts p = record {
   flowing = λ e. p.flowing (sym (flow_up puts rest c.wires) ∙ e);
   unfooted = p.unfooted;
+  fair = p.fair;
   left = λ e. absurd (let no_way : ⊥ = cc in no_way);
   ended = by (cases_Bool (is_flowing c.wires));
   gone = λ e. elim (cases_Bool (is_flowing c.wires)) [ inl f ↦ absurd (not_true (p.flowing f).2 e) | inr f ↦ up_words_stopped puts rest c.wires f ∙ p.gone e ];

@@ -64,7 +64,7 @@ pub record IsMild {A : Type 0} (p : ℕ) (f : ℕ → Session A → Session A) :
 
 mild_asked : {A : Type 0} (p : ℕ) (f : ℕ → Session A → Session A) (sessions : Table (Session A)) (s : Stage A) → IsMild p f → IsAsked sessions s → IsAsked (alter f sessions) s
 mild_asked p f sessions (AsksResume q h) g (s, is, read, stated) = (f q s, altered f sessions q s is, g.read q s ∙ read, g.stated q s h stated)
-mild_asked p f sessions (AsksEnable m) g (s, e, is, epoch, counted, read) = (f m s, e, altered f sessions m s is, g.epoch m s ∙ epoch, g.counted m s ∙ counted, g.read m s ∙ read)
+mild_asked p f sessions (AsksEnable m) g (s, e, is, epoch) = (f m s, e, altered f sessions m s is, g.epoch m s ∙ epoch)
 mild_asked p f sessions _ g a = tt
 
 pub record IsHeard {A : Type 0} (v : View A) (k : ℕ) (c : Conn A) (o new : Own A) (rest : List (DownWord A)) (puts : List (Traffic A)) (f : ℕ → Session A → Session A) : Type 0 where
@@ -148,6 +148,7 @@ heard_keeps {A = A} v k c o new rest puts f m kept = record {
           asked = tt;
           fits = λ e. (new, refl, m.number);
           attached = old.attached;
+          uncounted = λ r f on e. absurd (not_true refl e);
         } in
         subst (λ x. ConnKept (record v { conns = with_at k (answered c rest puts) v.conns; own = Some new; sessions = alter f v.sessions }) x d) same (subst (λ x. ConnKept (record v { conns = with_at k (answered c rest puts) v.conns; own = Some new; sessions = alter f v.sessions }) k x) is this)
     conn n d (Old ne there) =
@@ -159,6 +160,7 @@ heard_keeps {A = A} v k c o new rest puts f m kept = record {
           asked = mild_asked o.number f v.sessions before.stage m.mild before.asked;
           fits = λ e. absurd (ne (let h : v.here ≡ Some n = has_is v.here n e in let here = m.here in let same : k ≡ n = cc in same));
           attached = before.attached;
+          uncounted = before.uncounted;
         }
 
     placed : (r : Row A) (s : Session A) → v.row ≡ Some r → v.sessions r.number ≡ Some s → (x : Option ℕ) → IsPlaced v.conns r s x → IsPlaced (with_at k (answered c rest puts) v.conns) r (f r.number s) x

@@ -8,7 +8,6 @@ pub mod Served
 pub mod ServedCounts
 pub mod Heard
 pub mod Resumption
-pub mod Worked
 pub mod ReadResumed
 pub mod Detached
 pub mod Late

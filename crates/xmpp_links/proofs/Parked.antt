@@ -2,7 +2,7 @@
 use Rattle.std.proofs.Common.{◌≡◌, ◌≢◌, ℕ, true, ◌&&◌, refl, sym, ap, ◌∙◌, subst, ◌⊎◌, inl, inr, None, Some}
 use Rattle.std.proofs.lemmas.Bool.{cases_eq}
 use Rattle.xmpp_links.proofs.Entries.{at_same, at_other, Entry, New, Old, entry}
-use Rattle.xmpp_links.proofs.CutLinks.{not_true, some_one, there_cut}
+use Rattle.xmpp_links.proofs.CutLinks.{not_true, some_one, there_cut, off_row}
 use Rattle.xmpp_links.proofs.Hands.{no_entry}
 use Rattle.xmpp_links.specs.Words.{up_stanzas, Phase, Start, Sasl, Challenge, Restart, Ready, AtSession}
 use Rattle.xmpp_links.specs.Stages.{Ending, Stands, Errs, Closes, Conn}
@@ -85,6 +85,7 @@ parked_keeps {A = A} k v next m kept = subst LinkKept (sym m.gives) (record {
           piped = record {
             flowing = λ e. absurd (not_true m.ended e);
             unfooted = old.piped.unfooted;
+            fair = old.piped.fair;
             left = old.piped.left;
             ended = old.piped.ended;
             gone = λ e. m.empty;
@@ -94,11 +95,12 @@ parked_keeps {A = A} k v next m kept = subst LinkKept (sym m.gives) (record {
           asked = old.asked;
           fits = old.fits;
           attached = λ q e. absurd (off q e);
+          uncounted = λ r f on e. off_row k new r f refl on;
         } in
         subst (λ x. ConnKept (record v { conns = with_at k this v.conns; row = Some new }) x d) same (subst (λ x. ConnKept (record v { conns = with_at k this v.conns; row = Some new }) k x) is here)
     conn n d (Old ne there) =
         let before = kept.conns n d there in
-        record { piped = before.piped; stage = before.stage; at = before.at; asked = before.asked; fits = before.fits; attached = λ q e. absurd (no_other n d q ne there e) }
+        record { piped = before.piped; stage = before.stage; at = before.at; asked = before.asked; fits = before.fits; attached = λ q e. absurd (no_other n d q ne there e); uncounted = λ r f on e. off_row n new r f refl on }
 
     down : (n : ℕ) (d : Conn A) (q : ℕ) → v.here ≡ Some n → carries d ≡ Some q → Entry k this v.conns n d → (t : Session A) × (v.sessions q ≡ Some t) × GoesDown d t
     down n d q here carried (New same is) =

@@ -127,7 +127,7 @@ resent_other {A = A} p flows q s ne = none (nat_eq p q) (other_number p q ne)
 
 resent_asked : {A : Type 0} (p : ℕ) (flows : Bool) (sessions : Table (Session A)) (s : Stage A) → IsAsked sessions s → IsAsked (alter (λ q t. resent_if (has (Some p) q) flows t) sessions) s
 resent_asked p flows sessions (AsksResume q h) (s, is, read, stated) = (resent_if (has (Some p) q) flows s, altered (λ q t. resent_if (has (Some p) q) flows t) sessions q s is, read, stated)
-resent_asked p flows sessions (AsksEnable m) (s, e, is, epoch, counted, read) = (resent_if (has (Some p) m) flows s, e, altered (λ q t. resent_if (has (Some p) q) flows t) sessions m s is, epoch, counted, read)
+resent_asked p flows sessions (AsksEnable m) (s, e, is, epoch) = (resent_if (has (Some p) m) flows s, e, altered (λ q t. resent_if (has (Some p) q) flows t) sessions m s is, epoch)
 resent_asked p flows sessions _ a = tt
 
 pub phase_session : (p q : ℕ) (end : Ending) (gone : Bool) → on_phase (AtSession p) end gone ≡ Some q → p ≡ q
@@ -248,6 +248,7 @@ read_resumed_keeps {A = A} k v next m kept = subst LinkKept (sym m.gives) (recor
           asked = tt;
           fits = λ e. (new, refl, refl);
           attached = old.attached;
+          uncounted = λ r f on e. absurd (not_true refl e);
         } in
         subst (λ x. ConnKept (record v { conns = with_at k this v.conns; own = Some new; sessions = alter f v.sessions }) x d) same (subst (λ x. ConnKept (record v { conns = with_at k this v.conns; own = Some new; sessions = alter f v.sessions }) k x) is here)
     conn n d (Old ne there) =
@@ -259,6 +260,7 @@ read_resumed_keeps {A = A} k v next m kept = subst LinkKept (sym m.gives) (recor
           asked = resent_asked m.own.number (is_flowing m.conn.wires) v.sessions before.stage before.asked;
           fits = λ e. absurd (ne (let h : v.here ≡ Some n = has_is v.here n e in let here = m.here in let same : k ≡ n = cc in same));
           attached = before.attached;
+          uncounted = before.uncounted;
         }
 
     goes_up : GoesUp this (f m.own.number g.0)

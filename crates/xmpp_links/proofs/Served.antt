@@ -7,7 +7,7 @@ use Rattle.xmpp_links.proofs.Entries.{same_number, other_number, at_same, at_oth
 use Rattle.xmpp_links.proofs.Cuts.{reached_more}
 use Rattle.xmpp_links.proofs.Tables.{send_down_whole, send_down_whole_up, left_up_whole, left_up_whole_down}
 use Rattle.std.proofs.lemmas.List.{append-nil, map-append, length_push}
-use Rattle.xmpp_links.proofs.CutLinks.{not_true, some_one, here_or_not, there_cut}
+use Rattle.xmpp_links.proofs.CutLinks.{not_true, some_one, here_or_not, there_cut, on_other}
 use Rattle.xmpp_links.proofs.Hands.{piped_up, taken_stands, up_words_down, flow_down}
 use Rattle.xmpp_links.specs.Words.{Traffic, St, up_stanzas, down_stanzas, UpWord, Up, Down, InOnline, AtSession}
 use Rattle.xmpp_links.specs.Wires.{Wires, Flow, Stop, up_words, down_words, up_whole, down_whole, send_down, left_up}
@@ -67,7 +67,7 @@ pub record IsGentle {A : Type 0} (p : ℕ) (f : ℕ → Session A → Session A)
 
 gentle_asked : {A : Type 0} (p : ℕ) (f : ℕ → Session A → Session A) (sessions : Table (Session A)) (s : Stage A) → IsGentle p f → IsAsked sessions s → IsAsked (alter f sessions) s
 gentle_asked p f sessions (AsksResume q h) g (s, is, read, stated) = (f q s, altered f sessions q s is, g.read q s ∙ read, subst (λ l. Contains l h) (sym (g.stated q s)) stated)
-gentle_asked p f sessions (AsksEnable m) g (s, e, is, epoch, counted, read) = (f m s, e, altered f sessions m s is, g.epoch m s ∙ epoch, g.counted m s ∙ counted, g.read m s ∙ read)
+gentle_asked p f sessions (AsksEnable m) g (s, e, is, epoch) = (f m s, e, altered f sessions m s is, g.epoch m s ∙ epoch)
 gentle_asked p f sessions _ g a = tt
 
 -- the row that resumes the very session says what it has handled: there the change has to be none
@@ -201,6 +201,7 @@ served_keeps {A = A} v k c r new t rest puts f m kept = record {
           asked = tt;
           fits = λ e. subst (λ s. FitsOwn v.own v.epoch v.sessions s) runs.is (old.fits e);
           attached = λ q e. attached q k c old.attached e;
+          uncounted = λ r f on e. absurd (not_true refl e);
         } in
         subst (λ x. ConnKept (record v { conns = with_at k (served c rest puts) v.conns; row = Some new; sessions = alter f v.sessions }) x d) same (subst (λ x. ConnKept (record v { conns = with_at k (served c rest puts) v.conns; row = Some new; sessions = alter f v.sessions }) k x) is here)
     conn n d (Old ne there) =
@@ -212,6 +213,7 @@ served_keeps {A = A} v k c r new t rest puts f m kept = record {
           asked = gentle_asked r.number f v.sessions before.stage m.gentle before.asked;
           fits = λ e. gentle_fits v.own v.epoch r.number f v.sessions before.stage m.gentle (not_resumed e before) (before.fits e);
           attached = λ q e. attached q n d before.attached e;
+          uncounted = λ r f on e. on_other k n new r f (m.new_on ∙ m.on) ne on;
         }
       where
         bare_not : IsBare (up_words c.wires) → ⊥

@@ -1,9 +1,9 @@
 -- What all moves of a device keep.
 use Rattle.std.specs.Prelude.{◌≡◌, ℕ, ◌≤◌, ◌⊎◌, ◌&&◌, Bool, true, false, List, [], ◌∷◌, length, Contains, Option, None, Some}
 use Rattle.xmpp_acks.specs.Delivery.{beginning, Direction, queue_of, Reached}
-use Rattle.xmpp_links.specs.Words.{Ack, UpWord, Up, Foot, DownWord, Resumed, Down, up_stanzas, down_stanzas}
+use Rattle.xmpp_links.specs.Words.{Ack, UpWord, Up, Foot, DownWord, Resumed, Down, Conflict, Constraint, TooHigh, up_stanzas, down_stanzas}
 use Rattle.xmpp_links.specs.Wires.{is_flowing, up_words, down_words}
-use Rattle.xmpp_links.specs.Stages.{Stage, AsksResume, Refused, Resumes, AsksBind, Binds, AsksEnable, Enables, Runs, Conn, IsAt, Stands}
+use Rattle.xmpp_links.specs.Stages.{Stage, AsksResume, Refused, Resumes, AsksBind, Binds, AsksEnable, Enables, Runs, Conn, IsAt, Ending, Stands, Errs, Closes}
 use Rattle.xmpp_links.specs.Views.{View, Table, has, Session, Row, Own, session_on, carries, sends}
 
 -- the counts among words going up rise from the lowest on, and each of them was stated
@@ -18,11 +18,20 @@ DownCounts low stated (Down (Ack h) ∷ ws) = (low ≤ h) × Contains stated h �
 DownCounts low stated (Resumed p h ∷ ws) = (low ≤ h) × Contains stated h × DownCounts h stated ws
 DownCounts low stated (_ ∷ ws) = DownCounts low stated ws
 
+-- how the server ends the stream on a connection that the client works on: by a conflict, or since a queue was full
+abbrev pub IsFair : Ending → Type 0
+IsFair Stands = Unit {0}
+IsFair (Errs Conflict) = Unit {0}
+IsFair (Errs Constraint) = Unit {0}
+IsFair (Errs TooHigh) = ⊥
+IsFair Closes = ⊥
+
 -- L1: a connection whose pipes flow is the one that the client works on, and the server neither ended it nor heard of
 -- its end; what a client left has nothing on its way down, and what the server ended has nothing on its way up
 pub record ArePiped {A : Type 0} (works : Bool) (c : Conn A) : Type 0 where
   pub flowing : is_flowing c.wires ≡ true → (works ≡ true) × (c.ending ≡ Stands) × (c.gone ≡ false)
   pub unfooted : works ≡ true → c.footed ≡ false
+  pub fair : works ≡ true → IsFair c.ending
   pub left : works ≡ false → down_words c.wires ≡ []
   pub ended : (c.ending ≡ Stands) ⊎ (up_words c.wires ≡ [])
   pub gone : c.gone ≡ true → up_words c.wires ≡ []
@@ -31,7 +40,7 @@ pub record ArePiped {A : Type 0} (works : Bool) (c : Conn A) : Type 0 where
 -- the server is to count has an epoch
 abbrev pub IsAsked : {A : Type 0} → Table (Session A) → Stage A → Type 0
 IsAsked {A = A} sessions (AsksResume p h) = (s : Session A) × (sessions p ≡ Some s) × (s.read ≡ true) × Contains s.down.stated h
-IsAsked {A = A} sessions (AsksEnable m) = (s : Session A) × (e : ℕ) × (sessions m ≡ Some s) × (s.epoch ≡ Some e) × (s.counted ≡ false) × (s.read ≡ false)
+IsAsked {A = A} sessions (AsksEnable m) = (s : Session A) × (e : ℕ) × (sessions m ≡ Some s) × (s.epoch ≡ Some e)
 IsAsked sessions _ = Unit {0}
 
 -- L3, what the rows of the table say of the client's session, on the connection that the client works on
@@ -49,6 +58,12 @@ FitsOwn {A = A} own epoch sessions (Enables m downs) = (own ≡ None) × ((s : S
 FitsOwn own epoch sessions (Runs p ups downs) = IsOwn own p
 FitsOwn own epoch sessions _ = Unit {0}
 
+-- at these rows the server doesn't count the session yet
+abbrev pub is_yet : {A : Type 0} → Stage A → Bool
+is_yet (Binds m) = true
+is_yet (AsksEnable m) = true
+is_yet _ = false
+
 -- each connection: its pipes (L1), its row of the table (L3, L4), and the server's row of the session on it (L2)
 pub record ConnKept {A : Type 0} (v : View A) (k : ℕ) (c : Conn A) : Type 0 where
   pub piped : ArePiped (has v.here k) c
@@ -57,6 +72,7 @@ pub record ConnKept {A : Type 0} (v : View A) (k : ℕ) (c : Conn A) : Type 0 wh
   pub asked : IsAsked v.sessions stage
   pub fits : has v.here k ≡ true → FitsOwn v.own v.epoch v.sessions stage
   pub attached : (p : ℕ) → session_on c ≡ Some p → (r : Row A) × (v.row ≡ Some r) × (r.number ≡ p) × (r.on ≡ Some k)
+  pub uncounted : (r : Row A) → v.row ≡ Some r → r.on ≡ Some k → is_yet stage ≡ true → r.counted ≡ false
 
 -- L9 and L10, up: what is under way in the session is what goes up on the connection that the server has it on
 pub record GoesUp {A : Type 0} (c : Conn A) (s : Session A) : Type 0 where

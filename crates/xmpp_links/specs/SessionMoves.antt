@@ -1,9 +1,9 @@
 -- How a session begins, is resumed, and ends, each as a few small moves.
 use Rattle.std.specs.Prelude.{◌≡◌, ℕ, ◌&&◌, ◌+◌, ◌-◌, ◌≤◌, Bool, true, false, List, [], ◌∷◌, ◌++◌, length, drop, map, None, Some, if◌then◌else◌}
 use Rattle.xmpp_acks.specs.Delivery.{beginning, Direction}
-use Rattle.xmpp_links.specs.Words.{St, Req, UpWord, ResumeAt, Bind, Enable, Up, DownWord, Feat, Failed, Resumed, Bound, Enabled, Down, Err, End, Cause, InFeatures2, InResume, InBind, InEnable, InOnline, Ready, AtSession}
+use Rattle.xmpp_links.specs.Words.{St, Req, UpWord, ResumeAt, Bind, Enable, Up, DownWord, Feat, Failed, Resumed, Bound, Enabled, Down, Foot, Conflict, Constraint, TooHigh, InFeatures2, InResume, InBind, InEnable, InOnline, Ready, AtSession}
 use Rattle.xmpp_links.specs.Wires.{is_flowing, up_words, down_words, send_up, send_down, left_up, left_down, halt}
-use Rattle.xmpp_links.specs.Stages.{Conn, Errs}
+use Rattle.xmpp_links.specs.Stages.{Conn, Ending, Stands, Errs, Closes, tail_of}
 use Rattle.xmpp_links.specs.Views.{View, with_at, alter, has, Session, Row, Own, carries, cut_if}
 use Rattle.xmpp_links.specs.LinkMoves.{told_if}
 
@@ -44,22 +44,34 @@ pub record IsRefused {A : Type 0} (k : ℕ) (v next : View A) : Type 0 where
   pub client : conn.client ≡ InResume p
   pub gives : next ≡ record v { conns = with_at k (record conn { client = InBind; wires = send_up (Bind ∷ []) (left_down rest conn.wires) }) v.conns; own = None }
 
+-- the server ends the stream on a connection, and shuts it
+abbrev pub shut : {A : Type 0} → Ending → Conn A → Conn A
+shut ending c = record c { ending = ending; wires = halt (send_down (tail_of ending) c.wires) }
+
+-- why it does so where a session is on the connection: the session goes elsewhere or ends, its queue is full, or the
+-- client's footer comes
+abbrev pub IsReason : {A : Type 0} → Ending → List (UpWord A) → Type 0
+IsReason Stands ws = ⊥
+IsReason (Errs Conflict) ws = Unit {0}
+IsReason (Errs Constraint) ws = Unit {0}
+IsReason (Errs TooHigh) ws = ⊥
+IsReason {A = A} Closes ws = (rest : List (UpWord A)) × (ws ≡ Foot ∷ rest)
+
 -- the server takes the session from its connection, which it shuts
-abbrev pub shut : {A : Type 0} → Cause → Conn A → Conn A
-shut cause c = record c { ending = Errs cause; wires = halt (send_down (Err cause ∷ End ∷ []) c.wires) }
 
 abbrev pub lost_if : {A : Type 0} → Bool → Bool → Session A → Session A
 lost_if b c s = record s { up = cut_if b 0 s.up; down = record s.down { is_open = if c then false else s.down.is_open } }
 
-pub record IsDetached {A : Type 0} (k : ℕ) (cause : Cause) (v next : View A) : Type 0 where
+pub record IsDetached {A : Type 0} (k : ℕ) (ending : Ending) (v next : View A) : Type 0 where
   pub conn : Conn A
   pub is : v.conns k ≡ Some conn
   pub row : Row A
   pub is_row : v.row ≡ Some row
   pub on : row.on ≡ Some k
   pub counted : row.counted ≡ true
+  pub reason : IsReason ending (up_words conn.wires)
   pub gives : next ≡ record v {
-    conns = with_at k (shut cause conn) v.conns;
+    conns = with_at k (shut ending conn) v.conns;
     row = Some (record row { on = None });
     sessions = alter (λ q s. lost_if (has (Some row.number) q) (s.counted && (has v.here k && has (carries conn) q)) s) v.sessions;
   }
