@@ -123,7 +123,7 @@ unheld_keeps {A = A} v k old new s own here is off bare at off' bare' yet piped 
 
 -- the row of a client that has the features, and of one that asked for its session and was refused
 
-at_features : {A : Type 0} (s : Stage A) → client_of s ≡ InFeatures2 → s ≡ Reoffered
+pub at_features : {A : Type 0} (s : Stage A) → client_of s ≡ InFeatures2 → s ≡ Reoffered
 at_features Reoffered e = refl
 at_features (AsksResume p h) e = absurd (let no_way : ⊥ = cc in no_way)
 at_features (Refused p) e = absurd (let no_way : ⊥ = cc in no_way)
@@ -135,20 +135,20 @@ no_tail Stands rest e = absurd (let no_way : ⊥ = cc in no_way)
 no_tail (Errs x) rest e = absurd (let no_way : ⊥ = cc in no_way)
 no_tail Closes rest e = absurd (let no_way : ⊥ = cc in no_way)
 
-at_refused : {A : Type 0} (s : Stage A) (end : Ending) (p : ℕ) (rest : List (DownWord A)) → client_of s ≡ InResume p → down_of s ++ tail_of end ≡ Failed ∷ rest → s ≡ Refused p
+pub at_refused : {A : Type 0} (s : Stage A) (end : Ending) (p : ℕ) (rest : List (DownWord A)) → client_of s ≡ InResume p → down_of s ++ tail_of end ≡ Failed ∷ rest → s ≡ Refused p
 at_refused (Refused q) end p rest e f = let one : q ≡ p = cc in ap (λ x. Refused x) one
 at_refused (AsksResume q h) end p rest e f = no_tail end rest f
 at_refused (Resumes q h downs) end p rest e f = absurd (let no_way : ⊥ = cc in no_way)
 at_refused _ end p rest e f = absurd (let no_way : ⊥ = cc in no_way)
 
-off_ready : {A : Type 0} (c : Conn A) → c.phase ≡ Ready → session_on c ≡ None
+pub off_ready : {A : Type 0} (c : Conn A) → c.phase ≡ Ready → session_on c ≡ None
 off_ready c e = ap (λ x. on_phase x c.ending c.gone) e
 
 -- one word down, and these up
 abbrev pub steps : {A : Type 0} → Conn A → Client → List (UpWord A) → List (DownWord A) → Conn A
 steps c client puts rest = record c { client = client; wires = send_up puts (left_down rest c.wires) }
 
-steps_at : {A : Type 0} (s s' : Stage A) (c : Conn A) (w : DownWord A) (rest : List (DownWord A)) (client : Client) (puts : List (UpWord A)) → IsAt s c → c.footed ≡ false → down_words c.wires ≡ w ∷ rest →
+pub steps_at : {A : Type 0} (s s' : Stage A) (c : Conn A) (w : DownWord A) (rest : List (DownWord A)) (client : Client) (puts : List (UpWord A)) → IsAt s c → c.footed ≡ false → down_words c.wires ≡ w ∷ rest →
     client_of s' ≡ client → phase_of s' ≡ phase_of s → up_of s' ≡ up_of s ++ puts → down_of s ++ tail_of c.ending ≡ w ∷ (down_of s' ++ tail_of c.ending) → (IsEarly (client_of s) → IsPlain s') → IsAt s' (steps c client puts rest)
 steps_at {A = A} s s' c w rest client puts at unfooted first state phase up down plain =
     let split : down_of s ++ tail_of c.ending ≡ w ∷ down_whole (left_down rest c.wires) = sym at.down ∙ left_down_whole w rest c.wires first in

@@ -69,7 +69,7 @@ reason_ends (Errs cause) ws r = tt
 reason_ends Closes ws r = tt
 
 -- no row of the table has a footer
-up_foot : {A C : Type 0} (s : Stage A) (rest : List (UpWord A)) → up_of s ≡ Foot ∷ rest → C
+pub up_foot : {A C : Type 0} (s : Stage A) (rest : List (UpWord A)) → up_of s ≡ Foot ∷ rest → C
 up_foot (Runs p (u ∷ ups) downs) rest e = absurd (let no_way : ⊥ = cc in no_way)
 up_foot (Runs p [] downs) rest e = absurd (let no_way : ⊥ = cc in no_way)
 up_foot (AsksResume p h) rest e = absurd (let no_way : ⊥ = cc in no_way)
@@ -143,15 +143,15 @@ still_fits own epoch f sessions Regreets g a = a
 still_fits own epoch f sessions Regreeted g a = a
 still_fits own epoch f sessions Reoffered g a = a
 
-halted : {A : Type 0} (ws : List (DownWord A)) (x : Wires A) → is_flowing (halt (send_down ws x)) ≡ false
+pub halted : {A : Type 0} (ws : List (DownWord A)) (x : Wires A) → is_flowing (halt (send_down ws x)) ≡ false
 halted ws (Flow us ds) = refl
 halted ws (Stop us ds lu ld) = refl
 
-halted_up : {A : Type 0} (ws : List (DownWord A)) (x : Wires A) → up_words (halt (send_down ws x)) ≡ []
+pub halted_up : {A : Type 0} (ws : List (DownWord A)) (x : Wires A) → up_words (halt (send_down ws x)) ≡ []
 halted_up ws (Flow us ds) = refl
 halted_up ws (Stop us ds lu ld) = refl
 
-halted_down : {A : Type 0} (ws : List (DownWord A)) (x : Wires A) → is_flowing x ≡ false → down_words (halt (send_down ws x)) ≡ down_words x
+pub halted_down : {A : Type 0} (ws : List (DownWord A)) (x : Wires A) → is_flowing x ≡ false → down_words (halt (send_down ws x)) ≡ down_words x
 halted_down ws (Flow us ds) e = absurd (not_true e refl)
 halted_down ws (Stop us ds lu ld) e = refl
 

@@ -15,3 +15,6 @@ pub mod Asking
 pub mod Puts
 pub mod Parked
 pub mod Binding
+pub mod Ends
+pub mod UncountedEnds
+pub mod Refusals

@@ -10,7 +10,7 @@ use Rattle.xmpp_links.specs.Views.{with_at, Session, Row, View, on_phase, sessio
 use Rattle.xmpp_links.specs.SessionMoves.{IsParked}
 use Rattle.xmpp_links.specs.Links.{ConnKept, GoesUp, GoesDown, IsPlaced, RowKept, IsCarried, LinkKept}
 
-gone_off : (ph : Phase) (end : Ending) → on_phase ph end true ≡ None
+pub gone_off : (ph : Phase) (end : Ending) → on_phase ph end true ≡ None
 gone_off Start end = refl
 gone_off Sasl end = refl
 gone_off Challenge end = refl
