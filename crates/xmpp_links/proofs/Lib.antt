@@ -18,3 +18,4 @@ pub mod Binding
 pub mod Ends
 pub mod UncountedEnds
 pub mod Refusals
+pub mod Serving

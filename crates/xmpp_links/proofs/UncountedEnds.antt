@@ -30,6 +30,21 @@ carried_is_held {A = A} s c p q at carried held = row s (sym (carries_at s c at)
     row (AsksEnable n) e f = no_entry p e
     row _ e f = no_entry p e
 
+-- and where the stream stands, the server has what it carries on it
+pub carried_holds : {A : Type 0} (s : Stage A) (c : Conn A) (p : ℕ) → IsAt s c → carries c ≡ Some p → c.ending ≡ Stands → c.gone ≡ false → session_on c ≡ Some p
+carried_holds {A = A} s c p at carried stands untold =
+    ap (λ x. on_phase x c.ending c.gone) at.phase ∙ ap (λ x. on_phase (phase_of s) x c.gone) stands ∙ ap (λ x. on_phase (phase_of s) Stands x) untold ∙ row s (sym (carries_at s c at) ∙ carried)
+  where
+    row : (t : Stage A) → carried_of t ≡ Some p → on_phase (phase_of t) Stands false ≡ Some p
+    row (Resumes n h downs) e = e
+    row (Enables n downs) e = e
+    row (Runs n ups downs) e = e
+    row (AsksResume n h) e = no_entry p e
+    row (Refused n) e = no_entry p e
+    row (Binds n) e = no_entry p e
+    row (AsksEnable n) e = no_entry p e
+    row _ e = no_entry p e
+
 pub uncounted_keeps : {A : Type 0} (v : View A) (k : ℕ) (old new : Conn A) (r : Row A) (is : v.conns k ≡ Some old) → v.row ≡ Some r → r.on ≡ Some k → r.counted ≡ false → (kept : LinkKept v) →
     IsAt (kept.conns k old is).stage new → session_on new ≡ None → ArePiped (has v.here k) new → LinkKept (record v { conns = with_at k new v.conns; row = None })
 uncounted_keeps {A = A} v k old new r is is_row on yet kept at' off piped = record {
