@@ -19,3 +19,4 @@ pub mod Ends
 pub mod UncountedEnds
 pub mod Refusals
 pub mod Serving
+pub mod Putting

@@ -45,7 +45,7 @@ put_mild {A = A} p z = record {
     none : (b : Bool) (s : Session A) → b ≡ false → putting b z s ≡ s
     none b s e = subst (λ x. putting x z s ≡ s) (sym e) refl
 
-put_quiet : {A : Type 0} (b : Bool) (z : A) (d : Direction A) → d.is_open ≡ false → (put_if b z d).way ≡ d.way
+pub put_quiet : {A : Type 0} (b : Bool) (z : A) (d : Direction A) → d.is_open ≡ false → (put_if b z d).way ≡ d.way
 put_quiet false z d e = refl
 put_quiet true z d e = rw e refl
 
