@@ -20,3 +20,4 @@ pub mod UncountedEnds
 pub mod Refusals
 pub mod Serving
 pub mod Putting
+pub mod Queueing

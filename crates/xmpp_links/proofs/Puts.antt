@@ -18,7 +18,7 @@ use Rattle.xmpp_links.specs.Links.{UpCounts, DownCounts, GoesUp, GoesDown, Sessi
 abbrev pub putting : {A : Type 0} → Bool → A → Session A → Session A
 putting b z s = record s { up = put_if b z s.up }
 
-put_kept : {A : Type 0} (b : Bool) (z : A) (s : Session A) → (b ≡ true → (s.counted ≡ true) × (s.read ≡ true)) → SessionKept s → SessionKept (putting b z s)
+pub put_kept : {A : Type 0} (b : Bool) (z : A) (s : Session A) → (b ≡ true → (s.counted ≡ true) × (s.read ≡ true)) → SessionKept s → SessionKept (putting b z s)
 put_kept false z s good kept = kept
 put_kept true z s good kept = record {
   up = reached_more (Put z) s.up (put_if true z s.up) kept.up refl;
@@ -49,7 +49,7 @@ pub put_quiet : {A : Type 0} (b : Bool) (z : A) (d : Direction A) → d.is_open 
 put_quiet false z d e = refl
 put_quiet true z d e = rw e refl
 
-same_wires : {A : Type 0} (x : Wires A) → left_down (down_words x) x ≡ x
+pub same_wires : {A : Type 0} (x : Wires A) → left_down (down_words x) x ≡ x
 same_wires (Flow us ds) = refl
 same_wires (Stop us ds lu ld) = refl
 

@@ -24,7 +24,7 @@ use Rattle.xmpp_links.specs.PutMoves.{IsServerPut, IsServerQueued, IsServerReque
 use Rattle.xmpp_links.specs.Links.{UpCounts, DownCounts, ConnKept, GoesUp, GoesDown, IsQuiet, IsPlaced, RowKept, OwnKept, SessionKept, IsCarried, LinkKept}
 
 -- a table in which nothing changes is the same
-unchanged : {B : Type 0} (t : Table B) → alter (λ q b. b) t ≡ t
+pub unchanged : {B : Type 0} (t : Table B) → alter (λ q b. b) t ≡ t
 unchanged {B = B} t = λ i. λ n. at (t n) i
   where
     at : (o : Option B) → changed (λ b. b) o ≡ o
@@ -51,7 +51,7 @@ serving_kept true z s good kept = record {
   unheard = kept.unheard;
 }
 
-within : {A : Type 0} (d : Direction A) → Reached d → d.acked ≤ length d.put
+pub within : {A : Type 0} (d : Direction A) → Reached d → d.acked ≤ length d.put
 within d reached =
     let k = kept_reached d reached in
     let low = k.acked in
