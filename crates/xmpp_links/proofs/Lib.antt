@@ -21,3 +21,4 @@ pub mod Refusals
 pub mod Serving
 pub mod Putting
 pub mod Queueing
+pub mod ReadBound

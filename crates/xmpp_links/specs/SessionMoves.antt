@@ -144,7 +144,7 @@ pub record IsReadEnabled {A : Type 0} (k m : ℕ) (v next : View A) : Type 0 whe
   pub first : down_words conn.wires ≡ Enabled m ∷ rest
   pub client : conn.client ≡ InEnable
   pub gives : next ≡ record v {
-    conns = with_at k (record conn { client = InOnline m; wires = left_down rest conn.wires }) v.conns;
+    conns = with_at k (record conn { client = InOnline m; wires = send_up [] (left_down rest conn.wires) }) v.conns;
     own = Some (record { number = m; acked = 0; handled = 0; queue = [] });
     sessions = alter (λ q s. record s { read = if has (Some m) q then true else s.read }) v.sessions;
   }
