@@ -53,11 +53,11 @@ foot_front false (x ∷ xs) ys e = absurd (let no_way : ⊥ = cc in no_way)
 foot_front true (x ∷ []) ys e = inr (let one : x ≡ Foot = cc in ap (λ w. w ∷ []) one)
 foot_front true (x ∷ y ∷ xs) ys e = absurd (let no_way : ⊥ = cc in no_way)
 
-bare_left : {A : Type 0} (foot : Bool) (rest : List (UpWord A)) (x : Wires A) → up_whole (left_up rest x) ≡ foot_of foot → IsBare rest
+pub bare_left : {A : Type 0} (foot : Bool) (rest : List (UpWord A)) (x : Wires A) → up_whole (left_up rest x) ≡ foot_of foot → IsBare rest
 bare_left foot rest (Flow us ds) e = foot_front foot rest [] (append-nil rest ∙ e)
 bare_left foot rest (Stop us ds lu ld) e = foot_front foot rest lu e
 
-bare_counts : {A : Type 0} (low : ℕ) (stated : List ℕ) (ws : List (UpWord A)) → IsBare ws → UpCounts low stated ws
+pub bare_counts : {A : Type 0} (low : ℕ) (stated : List ℕ) (ws : List (UpWord A)) → IsBare ws → UpCounts low stated ws
 bare_counts low stated ws (inl e) = subst (λ l. UpCounts low stated l) (sym e) tt
 bare_counts low stated ws (inr e) = subst (λ l. UpCounts low stated l) (sym e) tt
 

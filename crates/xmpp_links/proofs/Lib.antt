@@ -22,3 +22,4 @@ pub mod Serving
 pub mod Putting
 pub mod Queueing
 pub mod ReadBound
+pub mod Enabling
