@@ -260,11 +260,11 @@ in_own v k c o is here is_own client kept =
 pub same_session : {A : Type 0} (v : View A) (p q : ℕ) (s t : Session A) → v.sessions p ≡ Some s → has (Some p) q ≡ true → v.sessions q ≡ Some t → s ≡ t
 same_session {A = A} v p q s t is e found = let same : Some p ≡ Some q = has_is (Some p) q e in let n : p ≡ q = cc in some_one (v.sessions q) s t (subst (λ x. v.sessions x ≡ Some s) n is) found
 
-same_up : {A : Type 0} (rest : List (DownWord A)) (x : Wires A) → up_words (send_up [] (left_down rest x)) ≡ up_words x
+pub same_up : {A : Type 0} (rest : List (DownWord A)) (x : Wires A) → up_words (send_up [] (left_down rest x)) ≡ up_words x
 same_up rest (Flow us ds) = append-nil us
 same_up rest (Stop us ds lu ld) = refl
 
-down_words_up : {A : Type 0} (puts : List (UpWord A)) (rest : List (DownWord A)) (x : Wires A) → down_words (send_up puts (left_down rest x)) ≡ rest
+pub down_words_up : {A : Type 0} (puts : List (UpWord A)) (rest : List (DownWord A)) (x : Wires A) → down_words (send_up puts (left_down rest x)) ≡ rest
 down_words_up puts rest (Flow us ds) = refl
 down_words_up puts rest (Stop us ds lu ld) = refl
 

@@ -23,3 +23,4 @@ pub mod Putting
 pub mod Queueing
 pub mod ReadBound
 pub mod Enabling
+pub mod ReadEnabled
