@@ -10,11 +10,8 @@ use Rattle.xmpp_links.specs.Wires.{Wires, Flow, Stop, is_flowing, up_words, down
 use Rattle.xmpp_links.specs.Stages.{Stage, Greets, AsksResume, Refused, Resumes, AsksBind, Binds, AsksEnable, Enables, Runs, client_of, phase_of, up_of, down_of, Goes, server_hand, client_hand, Ending, Stands, tail_of, foot_of, Conn, IsAt, IsPlain, IsEarly}
 use Rattle.xmpp_links.specs.Views.{Table, with_at, has, Session, Row, Own, View, on_phase, session_on, carried_by, carries}
 use Rattle.xmpp_links.specs.LinkMoves.{IsLetGo, dialled, IsDialled, IsUpHand, IsDownHand}
+use Rattle.xmpp_links.specs.Machine.{nothing_yet}
 use Rattle.xmpp_links.specs.Links.{ArePiped, IsAsked, FitsOwn, is_yet, ConnKept, GoesDown, IsQuiet, IsPlaced, RowKept, IsCarried, IsBare, LinkKept}
-
--- a device at the beginning
-abbrev pub nothing_yet : {A : Type 0} → View A
-nothing_yet = record { here = None; conns = λ k. None; row = None; own = None; epoch = 0; sessions = λ p. None }
 
 pub no_entry : {B C : Type 0} (b : B) → None ≡ Some b → C
 no_entry b e = absurd (let no_way : ⊥ = cc in no_way)

@@ -24,3 +24,4 @@ pub mod Queueing
 pub mod ReadBound
 pub mod Enabling
 pub mod ReadEnabled
+pub mod Reached
