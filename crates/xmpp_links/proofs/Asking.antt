@@ -7,14 +7,14 @@ use Rattle.std.proofs.lemmas.List.Elements.{Contains-push}
 use Rattle.xmpp_links.proofs.CutLinks.{some_one, there_cut, not_true}
 use Rattle.xmpp_links.proofs.Hands.{no_entry, piped_down, at_down, row_other, plain_on, plain_carries}
 use Rattle.xmpp_links.proofs.Heard.{told_kept, told_contains, told_goes, same_session}
-use Rattle.xmpp_links.proofs.Detached.{IsStill, still_asked, still_fits, carries_at, carried_of}
+use Rattle.xmpp_links.proofs.Detached.{IsStill, still_asked, still_fits, carries_at}
 use Rattle.xmpp_links.specs.Words.{UpWord, ResumeAt, Bind, DownWord, Feat, Failed, Client, InFeatures2, InResume, InBind, Ready}
 use Rattle.xmpp_links.specs.Wires.{down_words, down_whole, send_up, left_down}
 use Rattle.xmpp_links.specs.Stages.{Stage, Reoffered, AsksResume, Refused, Resumes, AsksBind, client_of, phase_of, up_of, down_of, Ending, Stands, Errs, Closes, tail_of, Conn, IsAt, IsPlain, IsEarly}
 use Rattle.xmpp_links.specs.Views.{with_at, alter, has, Session, Row, Own, View, on_phase, session_on, carries}
 use Rattle.xmpp_links.specs.LinkMoves.{told_if}
 use Rattle.xmpp_links.specs.SessionMoves.{IsAskResume, IsAskBind, IsRefused}
-use Rattle.xmpp_links.specs.Links.{ArePiped, IsAsked, FitsOwn, is_yet, ConnKept, IsQuiet, IsPlaced, OwnKept, SessionKept, IsCarried, LinkKept}
+use Rattle.xmpp_links.specs.Links.{carried_of, ArePiped, IsAsked, FitsOwn, is_yet, ConnKept, IsQuiet, IsPlaced, OwnKept, SessionKept, IsCarried, LinkKept}
 
 -- the client states its count, and nothing else changes
 
@@ -29,6 +29,7 @@ told_keeps {A = A} v p s is counted kept = record {
     fits = λ e. still_fits v.own v.epoch f v.sessions before.stage gentle (before.fits e);
     attached = before.attached;
     uncounted = before.uncounted;
+    counting = before.counting;
   };
   row = λ r found. let before = kept.row r found in record {
     session = f r.number before.session;
@@ -115,11 +116,12 @@ unheld_keeps {A = A} v k old new s own here is off bare at off' bare' yet piped 
           fits = λ e. fits;
           attached = λ p e. no_entry p (sym off' ∙ e);
           uncounted = λ r f on e. absurd (not_true yet e);
+          counting = λ r f on p e. no_entry p (sym bare' ∙ e);
         } in
         subst (λ x. ConnKept (record v { conns = with_at k new v.conns; own = own }) x c) one (subst (λ x. ConnKept (record v { conns = with_at k new v.conns; own = own }) k x) this now)
     conn n c (Old ne there) =
         let was_kept = kept.conns n c there in
-        record { piped = was_kept.piped; stage = was_kept.stage; at = was_kept.at; asked = was_kept.asked; fits = λ e. absurd (ne (same n (has_is v.here n e))); attached = was_kept.attached; uncounted = was_kept.uncounted }
+        record { piped = was_kept.piped; stage = was_kept.stage; at = was_kept.at; asked = was_kept.asked; fits = λ e. absurd (ne (same n (has_is v.here n e))); attached = was_kept.attached; uncounted = was_kept.uncounted; counting = was_kept.counting }
 
 -- the row of a client that has the features, and of one that asked for its session and was refused
 

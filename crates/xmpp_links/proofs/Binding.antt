@@ -168,6 +168,7 @@ bound_keeps {A = A} k number v next m kept = subst LinkKept (sym m.gives) (recor
           fits = λ e. (subst (λ s. FitsOwn v.own v.epoch v.sessions s) b.is (old.fits e), (unread, at_same number unread v.sessions, refl, refl));
           attached = λ q e. (new, refl, phase_session number q m.conn.ending m.conn.gone e, refl);
           uncounted = λ r f on e. subst (λ (x : Row A). x.counted ≡ false) (some_same new r f) refl;
+          counting = λ r f on p e. no_entry p e;
         } in
         subst (λ x. ConnKept (record v { conns = with_at k this v.conns; row = Some new; sessions = with_at number unread v.sessions }) x d) same (subst (λ x. ConnKept (record v { conns = with_at k this v.conns; row = Some new; sessions = with_at number unread v.sessions }) k x) is here)
     conn n d (Old ne there) =
@@ -180,6 +181,7 @@ bound_keeps {A = A} k number v next m kept = subst LinkKept (sym m.gives) (recor
           fits = λ e. more_fits v.own v.epoch number v.sessions before.stage m.fresh kept.own (before.fits e);
           attached = λ q e. absurd (no_row (before.attached q e).0 (before.attached q e).1);
           uncounted = λ r f on e. on_other k n new r f refl ne on;
+          counting = λ r f on p e. on_other k n new r f refl ne on;
         }
 
     session : (q : ℕ) (s : Session A) → Entry number unread v.sessions q s → SessionKept s

@@ -237,6 +237,7 @@ conn_cut {A = A} v kept k i j c is n d at = by (entry k (cut_conn i j c) v.conns
           fits = λ e. fits_cut v.own v.epoch (has v.here k) c i j v.sessions old.stage (old.fits e);
           attached = old.attached;
           uncounted = old.uncounted;
+          counting = old.counting;
         } in
         subst (λ x. ConnKept (after_cut v k i j c) x d) same (subst (λ x. ConnKept (after_cut v k i j c) k x) this here)
     by (Old ne there) =
@@ -249,6 +250,7 @@ conn_cut {A = A} v kept k i j c is n d at = by (entry k (cut_conn i j c) v.conns
           fits = λ e. fits_cut v.own v.epoch (has v.here k) c i j v.sessions old.stage (old.fits e);
           attached = old.attached;
           uncounted = old.uncounted;
+          counting = old.counting;
         }
 
 goes_down_after : {A : Type 0} (v : View A) (kept : LinkKept v) (k i j : ℕ) (c : Conn A) → v.conns k ≡ Some c →

@@ -15,14 +15,7 @@ use Rattle.xmpp_links.specs.Wires.{Wires, Flow, Stop, is_flowing, up_words, down
 use Rattle.xmpp_links.specs.Stages.{Stage, Greets, Greeted, Offered, Proves, Challenged, Answers, Succeeded, Regreets, Regreeted, Reoffered, AsksResume, Refused, Resumes, AsksBind, Binds, AsksEnable, Enables, Runs, client_of, up_of, down_of, Ending, Stands, Errs, Closes, tail_of, foot_of, Conn, IsAt}
 use Rattle.xmpp_links.specs.Views.{Table, with_at, alter, has, Session, Row, Own, View, on_phase, session_on, carried_by, carries, cut_if}
 use Rattle.xmpp_links.specs.SessionMoves.{shut, IsReason, lost_if, IsDetached, IsRowEnded}
-use Rattle.xmpp_links.specs.Links.{IsFair, ArePiped, DownCounts, IsAsked, FitsOwn, ConnKept, GoesDown, IsQuiet, IsPlaced, RowKept, SessionKept, IsCarried, LinkKept}
-
--- which session a row of the table carries on its way down
-abbrev pub carried_of : {A : Type 0} → Stage A → Option ℕ
-carried_of (Resumes p h downs) = Some p
-carried_of (Enables m downs) = Some m
-carried_of (Runs p ups downs) = Some p
-carried_of _ = None
+use Rattle.xmpp_links.specs.Links.{carried_of, IsFair, ArePiped, DownCounts, IsAsked, FitsOwn, ConnKept, GoesDown, IsQuiet, IsPlaced, RowKept, SessionKept, IsCarried, LinkKept}
 
 carried_row : {A : Type 0} (s : Stage A) (end : Ending) → carried_by (client_of s) (down_of s ++ tail_of end) ≡ carried_of s
 carried_row (Resumes p h downs) end = refl
@@ -308,6 +301,7 @@ detached_keeps {A = A} k ending v next m kept = subst LinkKept (sym m.gives) (re
           fits = λ e. still_fits v.own v.epoch f v.sessions old.stage still (old.fits e);
           attached = λ q e. absurd (off q e);
           uncounted = λ r f on e. off_row k new r f refl on;
+          counting = λ r f on p e. off_row k new r f refl on;
         } in
         subst (λ x. ConnKept (record v { conns = with_at k this v.conns; row = Some new; sessions = alter f v.sessions }) x d) same (subst (λ x. ConnKept (record v { conns = with_at k this v.conns; row = Some new; sessions = alter f v.sessions }) k x) is here)
     conn n d (Old ne there) =
@@ -320,6 +314,7 @@ detached_keeps {A = A} k ending v next m kept = subst LinkKept (sym m.gives) (re
           fits = λ e. still_fits v.own v.epoch f v.sessions before.stage still (before.fits e);
           attached = λ q e. absurd (no_other n d q ne there e);
           uncounted = λ r f on e. off_row n new r f refl on;
+          counting = λ r f on p e. off_row n new r f refl on;
         }
 
     down : (n : ℕ) (d : Conn A) (q : ℕ) → v.here ≡ Some n → carries d ≡ Some q → Entry k this v.conns n d → (t : Session A) × (alter f v.sessions q ≡ Some t) × GoesDown d t
@@ -369,6 +364,7 @@ row_ended_keeps {A = A} v next m kept = subst LinkKept (sym m.gives) (record {
     fits = before.fits;
     attached = λ q e. absurd (none n (before.attached q e).0 (before.attached q e).1 (before.attached q e).3);
     uncounted = λ r f on e. no_entry r f;
+    counting = λ r f on p e. no_entry r f;
   };
   row = λ r e. no_entry r e;
   own = kept.own;

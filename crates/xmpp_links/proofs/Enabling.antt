@@ -12,7 +12,7 @@ use Rattle.xmpp_links.proofs.Hands.{no_entry, piped_up, taken_stands, stopped_aw
 use Rattle.xmpp_links.proofs.ReadResumed.{phase_session, bare_stanzas}
 use Rattle.xmpp_links.proofs.Resumption.{down_none}
 use Rattle.xmpp_links.proofs.Late.{bare_left, bare_counts}
-use Rattle.xmpp_links.proofs.Detached.{carried_of, carries_at}
+use Rattle.xmpp_links.proofs.Detached.{carries_at}
 use Rattle.xmpp_links.specs.Words.{up_stanzas, down_stanzas, UpWord, Enable, DownWord, Enabled, Down, InEnable, AtSession}
 use Rattle.xmpp_links.specs.Wires.{Wires, Flow, Stop, is_flowing, up_words, down_words, up_whole, down_whole, send_down, left_up}
 use Rattle.xmpp_links.specs.Stages.{Stage, Greets, Greeted, Offered, Proves, Challenged, Answers, Succeeded, Regreets, Regreeted, Reoffered, AsksResume, Refused, Resumes, AsksBind, Binds, AsksEnable, Enables, Runs, client_of, phase_of, up_of, down_of, Ending, Stands, tail_of, foot_of, Conn, IsAt}
@@ -288,6 +288,7 @@ enabled_keeps {A = A} k v next m kept = subst LinkKept (sym m.gives) (record {
           fits = λ e. fits (subst (λ s. FitsOwn v.own v.epoch v.sessions s) is_asks (old.fits e));
           attached = attached k m.conn old.attached;
           uncounted = λ r g on e. absurd (not_true refl e);
+          counting = λ r g on p e. subst (λ (x : Row A). x.counted ≡ true) (some_same new r g) refl;
         } in
         subst (λ x. ConnKept (record v { conns = with_at k this v.conns; row = Some new; sessions = alter f v.sessions }) x d) same (subst (λ x. ConnKept (record v { conns = with_at k this v.conns; row = Some new; sessions = alter f v.sessions }) k x) is here)
     conn n d (Old ne there) =
@@ -301,6 +302,7 @@ enabled_keeps {A = A} k v next m kept = subst LinkKept (sym m.gives) (record {
               (λ t is none. no_entry named.0 (sym none ∙ subst (λ (x : Session A). x.epoch ≡ Some named.0) (some_one (v.sessions m.row.number) row.session t row.is is) named.1)) (before.fits e);
           attached = attached n d before.attached;
           uncounted = λ r g on e. on_other k n new r g m.on ne on;
+          counting = λ r g on p e. on_other k n new r g m.on ne on;
         }
 
     down : (n : ℕ) (d : Conn A) (q : ℕ) → v.here ≡ Some n → carries d ≡ Some q → Entry k this v.conns n d → (t : Session A) × (alter f v.sessions q ≡ Some t) × GoesDown d t

@@ -15,13 +15,13 @@ use Rattle.xmpp_links.specs.Stages.{Stage, client_of, phase_of, up_of, down_of, 
 use Rattle.xmpp_links.specs.Views.{Table, with_at, has, Session, Row, Own, View, on_phase, session_on, carries}
 use Rattle.xmpp_links.specs.SessionMoves.{shut, IsReason}
 use Rattle.xmpp_links.specs.EndMoves.{IsFootTaken, IsGone}
-use Rattle.xmpp_links.specs.Links.{IsFair, ArePiped, IsAsked, FitsOwn, ConnKept, is_yet, GoesDown, IsQuiet, RowKept, IsCarried, IsBare, LinkKept}
+use Rattle.xmpp_links.specs.Links.{carried_of, IsFair, ArePiped, IsAsked, FitsOwn, ConnKept, is_yet, GoesDown, IsQuiet, RowKept, IsCarried, IsBare, LinkKept}
 
 -- a connection changes that the client left, and on which no session is
 
 pub left_keeps : {A : Type 0} (v : View A) (k : ℕ) (old new : Conn A) (s : Stage A) → has v.here k ≡ false → v.conns k ≡ Some old → session_on old ≡ None → session_on new ≡ None →
-    IsAt s new → ((r : Row A) → v.row ≡ Some r → r.on ≡ Some k → is_yet s ≡ true → r.counted ≡ false) → ArePiped false new → IsAsked v.sessions s → LinkKept v → LinkKept (record v { conns = with_at k new v.conns })
-left_keeps {A = A} v k old new s away is off off' at yet piped asked kept = record {
+    IsAt s new → ((r : Row A) → v.row ≡ Some r → r.on ≡ Some k → is_yet s ≡ true → r.counted ≡ false) → ((r : Row A) → v.row ≡ Some r → r.on ≡ Some k → (p : ℕ) → carried_of s ≡ Some p → r.counted ≡ true) → ArePiped false new → IsAsked v.sessions s → LinkKept v → LinkKept (record v { conns = with_at k new v.conns })
+left_keeps {A = A} v k old new s away is off off' at yet counts piped asked kept = record {
   there = λ n here. there_cut v kept k new n here;
   conns = λ n c found. conn n c (entry k new v.conns n c found);
   row = λ r row. row_other k new v.conns v.sessions r (λ d found e. no_entry r.number (sym off ∙ subst (λ x. session_on x ≡ Some r.number) (some_one (v.conns k) d old found is) e)) (kept.row r row);
@@ -46,11 +46,12 @@ left_keeps {A = A} v k old new s away is off off' at yet piped asked kept = reco
           fits = λ e. absurd (not_true away e);
           attached = λ p e. no_entry p (sym off' ∙ e);
           uncounted = yet;
+          counting = counts;
         } in
         subst (λ x. ConnKept (record v { conns = with_at k new v.conns }) x c) same (subst (λ x. ConnKept (record v { conns = with_at k new v.conns }) k x) this here)
     conn n c (Old ne there) =
         let before = kept.conns n c there in
-        record { piped = before.piped; stage = before.stage; at = before.at; asked = before.asked; fits = before.fits; attached = before.attached; uncounted = before.uncounted }
+        record { piped = before.piped; stage = before.stage; at = before.at; asked = before.asked; fits = before.fits; attached = before.attached; uncounted = before.uncounted; counting = before.counting }
 
     down : (n : ℕ) (c : Conn A) (p : ℕ) → v.here ≡ Some n → carries c ≡ Some p → Entry k new v.conns n c → (t : Session A) × (v.sessions p ≡ Some t) × GoesDown c t
     down n c p here carried (New same this) = absurd (apart n here same)
@@ -99,7 +100,7 @@ first_untold works c w rest p first = elim (cases_Bool c.gone) [ inr e ↦ e | i
 
 pub foot_taken_keeps : {A : Type 0} (k : ℕ) (v next : View A) → IsFootTaken k v next → LinkKept v → LinkKept next
 foot_taken_keeps {A = A} k v next m kept = subst LinkKept (sym m.gives) (left_keeps v k m.conn (shut Closes m.conn) old.stage left m.is m.off (shut_off m.conn Closes tt)
-    (shut_at old.stage m.conn Closes old.at stands) old.uncounted
+    (shut_at old.stage m.conn Closes old.at stands) old.uncounted old.counting
     (subst (λ b. ArePiped b (shut Closes m.conn)) left (shut_piped (has v.here k) m.conn Closes (λ e. absurd (not_true left e)) old.piped)) old.asked kept)
   where
     old : ConnKept v k m.conn
@@ -152,11 +153,12 @@ gone_keeps {A = A} k v next m kept = subst LinkKept (sym m.gives) (record {
           fits = old.fits;
           attached = λ q e. absurd (off q e);
           uncounted = old.uncounted;
+          counting = old.counting;
         } in
         subst (λ x. ConnKept (record v { conns = with_at k this v.conns }) x d) same (subst (λ x. ConnKept (record v { conns = with_at k this v.conns }) k x) is here)
     conn n d (Old ne there) =
         let before = kept.conns n d there in
-        record { piped = before.piped; stage = before.stage; at = before.at; asked = before.asked; fits = before.fits; attached = before.attached; uncounted = before.uncounted }
+        record { piped = before.piped; stage = before.stage; at = before.at; asked = before.asked; fits = before.fits; attached = before.attached; uncounted = before.uncounted; counting = before.counting }
 
     down : (n : ℕ) (d : Conn A) (q : ℕ) → v.here ≡ Some n → carries d ≡ Some q → Entry k this v.conns n d → (t : Session A) × (v.sessions q ≡ Some t) × GoesDown d t
     down n d q here carried (New same is) =

@@ -11,7 +11,7 @@ use Rattle.xmpp_links.specs.Stages.{Stage, Greets, AsksResume, Refused, Resumes,
 use Rattle.xmpp_links.specs.Views.{Table, with_at, has, Session, Row, Own, View, on_phase, session_on, carried_by, carries}
 use Rattle.xmpp_links.specs.LinkMoves.{IsLetGo, dialled, IsDialled, IsUpHand, IsDownHand}
 use Rattle.xmpp_links.specs.Machine.{nothing_yet}
-use Rattle.xmpp_links.specs.Links.{ArePiped, IsAsked, FitsOwn, is_yet, ConnKept, GoesDown, IsQuiet, IsPlaced, RowKept, IsCarried, IsBare, LinkKept}
+use Rattle.xmpp_links.specs.Links.{carried_of, ArePiped, IsAsked, FitsOwn, is_yet, ConnKept, GoesDown, IsQuiet, IsPlaced, RowKept, IsCarried, IsBare, LinkKept}
 
 pub no_entry : {B C : Type 0} (b : B) → None ≡ Some b → C
 no_entry b e = absurd (let no_way : ⊥ = cc in no_way)
@@ -81,6 +81,7 @@ let_go_keeps {A = A} k v next m kept = subst LinkKept (sym m.gives) (record {
           fits = λ e. absurd (let no_way : ⊥ = cc in no_way);
           attached = old.attached;
           uncounted = old.uncounted;
+          counting = old.counting;
         }
 
     carried_quiet : (p : ℕ) (s : Session A) → v.sessions p ≡ Some s → IsCarried v p → IsQuiet s.down
@@ -149,6 +150,7 @@ dial_keeps {A = A} k v next m kept = subst LinkKept (sym m.gives) (record {
           fits = λ e. tt;
           attached = λ p e. no_entry p e;
           uncounted = λ r f on e. absurd (not_true refl e);
+          counting = λ r f on p e. no_entry p e;
         } in
         subst (λ x. ConnKept (record v { here = Some k; conns = with_at k dialled v.conns }) x c) same (subst (λ x. ConnKept (record v { here = Some k; conns = with_at k dialled v.conns }) k x) this here)
     conn n c (Old ne there) =
@@ -163,6 +165,7 @@ dial_keeps {A = A} k v next m kept = subst LinkKept (sym m.gives) (record {
           fits = λ e. absurd (not_true now e);
           attached = old.attached;
           uncounted = old.uncounted;
+          counting = old.counting;
         }
 
     silent : (n : ℕ) (c : Conn A) (p : ℕ) → Some k ≡ Some n → Entry k dialled v.conns n c → carries c ≡ Some p → (s : Session A) × (v.sessions p ≡ Some s) × GoesDown c s
@@ -198,6 +201,12 @@ plain_yet : {A : Type 0} (s : Stage A) → IsPlain s → is_yet s ≡ false
 plain_yet (Binds m) e = absurd e
 plain_yet (AsksEnable m) e = absurd e
 plain_yet _ e = refl
+
+plain_carried_of : {A : Type 0} (s : Stage A) → IsPlain s → carried_of s ≡ None
+plain_carried_of (Resumes p h downs) e = absurd e
+plain_carried_of (Enables m downs) e = absurd e
+plain_carried_of (Runs p ups downs) e = absurd e
+plain_carried_of _ e = refl
 
 plain_phase : {A : Type 0} (s : Stage A) (end : Ending) (gone : Bool) → IsPlain s → on_phase (phase_of s) end gone ≡ None
 plain_phase (AsksResume p h) end gone e = absurd e
@@ -259,11 +268,12 @@ plain_keeps {A = A} v k old new s s' is at plain at' plain' piped kept = record 
           fits = λ e. plain_fits v.own v.epoch v.sessions s' plain';
           attached = λ p e. no_entry p (sym (plain_on s' new at' plain') ∙ e);
           uncounted = λ r f on e. absurd (not_true (plain_yet s' plain') e);
+          counting = λ r f on p e. no_entry p (sym (plain_carried_of s' plain') ∙ e);
         } in
         subst (λ x. ConnKept (record v { conns = with_at k new v.conns }) x c) same (subst (λ x. ConnKept (record v { conns = with_at k new v.conns }) k x) this here)
     conn n c (Old ne there) =
         let was_kept = kept.conns n c there in
-        record { piped = was_kept.piped; stage = was_kept.stage; at = was_kept.at; asked = was_kept.asked; fits = was_kept.fits; attached = was_kept.attached; uncounted = was_kept.uncounted }
+        record { piped = was_kept.piped; stage = was_kept.stage; at = was_kept.at; asked = was_kept.asked; fits = was_kept.fits; attached = was_kept.attached; uncounted = was_kept.uncounted; counting = was_kept.counting }
 
     down : (n : ℕ) (c : Conn A) (p : ℕ) → v.here ≡ Some n → carries c ≡ Some p → Entry k new v.conns n c → (t : Session A) × (v.sessions p ≡ Some t) × GoesDown c t
     down n c p here carried (New same this) = absurd (silent p (subst (λ x. carries x ≡ Some p) (sym this) carried))

@@ -17,7 +17,7 @@ use Rattle.xmpp_links.specs.Wires.{Wires, Flow, Stop, is_flowing, up_words, down
 use Rattle.xmpp_links.specs.Stages.{Stage, AsksResume, Resumes, AsksEnable, Runs, client_of, phase_of, up_of, down_of, Ending, Stands, Errs, Closes, tail_of, foot_of, Conn, IsAt}
 use Rattle.xmpp_links.specs.Views.{Table, with_at, alter, has, Session, Row, Own, View, on_phase, session_on, carried_by, carries, sends}
 use Rattle.xmpp_links.specs.LinkMoves.{read_if, IsDownStanza, told_if, IsDownRequest, heard_if, IsDownCount}
-use Rattle.xmpp_links.specs.Links.{UpCounts, DownCounts, ArePiped, IsAsked, ConnKept, GoesUp, GoesDown, IsQuiet, IsPlaced, RowKept, OwnKept, SessionKept, IsCarried, IsBare, LinkKept}
+use Rattle.xmpp_links.specs.Links.{carried_of, UpCounts, DownCounts, ArePiped, IsAsked, ConnKept, GoesUp, GoesDown, IsQuiet, IsPlaced, RowKept, OwnKept, SessionKept, IsCarried, IsBare, LinkKept}
 
 pub record RunsDown {A : Type 0} (s : Stage A) (p : ℕ) : Type 0 where
   pub ups : List (Traffic A)
@@ -149,6 +149,7 @@ heard_keeps {A = A} v k c o new rest puts f m kept = record {
           fits = λ e. (new, refl, m.number);
           attached = old.attached;
           uncounted = λ r f on e. absurd (not_true refl e);
+          counting = λ r f on p e. old.counting r f on p (ap carried_of runs.is ∙ e);
         } in
         subst (λ x. ConnKept (record v { conns = with_at k (answered c rest puts) v.conns; own = Some new; sessions = alter f v.sessions }) x d) same (subst (λ x. ConnKept (record v { conns = with_at k (answered c rest puts) v.conns; own = Some new; sessions = alter f v.sessions }) k x) is this)
     conn n d (Old ne there) =
@@ -161,6 +162,7 @@ heard_keeps {A = A} v k c o new rest puts f m kept = record {
           fits = λ e. absurd (ne (let h : v.here ≡ Some n = has_is v.here n e in let here = m.here in let same : k ≡ n = cc in same));
           attached = before.attached;
           uncounted = before.uncounted;
+          counting = before.counting;
         }
 
     placed : (r : Row A) (s : Session A) → v.row ≡ Some r → v.sessions r.number ≡ Some s → (x : Option ℕ) → IsPlaced v.conns r s x → IsPlaced (with_at k (answered c rest puts) v.conns) r (f r.number s) x

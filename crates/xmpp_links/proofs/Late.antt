@@ -8,7 +8,7 @@ use Rattle.xmpp_links.proofs.Cuts.{reached_more}
 use Rattle.xmpp_links.proofs.Tables.{send_down_whole, send_down_whole_up, left_up_whole, left_up_whole_down}
 use Rattle.std.proofs.lemmas.List.{drop-drop, append-nil}
 use Rattle.std.proofs.lemmas.List.Elements.{Contains-append_left}
-use Rattle.xmpp_links.proofs.CutLinks.{not_true, some_one, there_cut, on_other}
+use Rattle.xmpp_links.proofs.CutLinks.{not_true, some_one, there_cut, on_other, some_same}
 use Rattle.xmpp_links.proofs.Counting.{down_counts_more}
 use Rattle.xmpp_links.proofs.Hands.{no_entry, piped_up, taken_stands, up_words_down, flow_down, stopped_away}
 use Rattle.xmpp_links.proofs.Detached.{IsStill, still_asked, still_fits}
@@ -203,6 +203,7 @@ resumed_late_keeps {A = A} k v next m kept = subst LinkKept (sym m.gives) (recor
           fits = λ e. absurd (not_true m.left e);
           attached = λ q e. (new, refl, phase_session m.row.number q m.conn.ending m.conn.gone e, refl);
           uncounted = λ r f on e. absurd (not_true refl e);
+          counting = λ r f on p e. subst (λ (x : Row A). x.counted ≡ true) (some_same new r f) m.counted;
         } in
         subst (λ x. ConnKept (record v { conns = with_at k this v.conns; row = Some new; sessions = alter f v.sessions }) x d) same (subst (λ x. ConnKept (record v { conns = with_at k this v.conns; row = Some new; sessions = alter f v.sessions }) k x) is here)
     conn n d (Old ne there) =
@@ -215,6 +216,7 @@ resumed_late_keeps {A = A} k v next m kept = subst LinkKept (sym m.gives) (recor
           fits = λ e. still_fits v.own v.epoch f v.sessions before.stage gentle (before.fits e);
           attached = λ q e. absurd (no_other n d q there e);
           uncounted = λ r f on e. on_other k n new r f refl ne on;
+          counting = λ r f on p e. on_other k n new r f refl ne on;
         }
 
     down : (n : ℕ) (d : Conn A) (q : ℕ) → v.here ≡ Some n → carries d ≡ Some q → Entry k this v.conns n d → (t : Session A) × (alter f v.sessions q ≡ Some t) × GoesDown d t

@@ -96,11 +96,12 @@ parked_keeps {A = A} k v next m kept = subst LinkKept (sym m.gives) (record {
           fits = old.fits;
           attached = λ q e. absurd (off q e);
           uncounted = λ r f on e. off_row k new r f refl on;
+          counting = λ r f on p e. off_row k new r f refl on;
         } in
         subst (λ x. ConnKept (record v { conns = with_at k this v.conns; row = Some new }) x d) same (subst (λ x. ConnKept (record v { conns = with_at k this v.conns; row = Some new }) k x) is here)
     conn n d (Old ne there) =
         let before = kept.conns n d there in
-        record { piped = before.piped; stage = before.stage; at = before.at; asked = before.asked; fits = before.fits; attached = λ q e. absurd (no_other n d q ne there e); uncounted = λ r f on e. off_row n new r f refl on }
+        record { piped = before.piped; stage = before.stage; at = before.at; asked = before.asked; fits = before.fits; attached = λ q e. absurd (no_other n d q ne there e); uncounted = λ r f on e. off_row n new r f refl on; counting = λ r f on p e. off_row n new r f refl on }
 
     down : (n : ℕ) (d : Conn A) (q : ℕ) → v.here ≡ Some n → carries d ≡ Some q → Entry k this v.conns n d → (t : Session A) × (v.sessions q ≡ Some t) × GoesDown d t
     down n d q here carried (New same is) =

@@ -184,6 +184,7 @@ server_queued_keeps {A = A} z v next m kept = subst LinkKept (sym m.gives) (reco
     fits = λ e. still_fits v.own v.epoch f v.sessions before.stage (serving_still m.row.number z) (before.fits e);
     attached = λ q e. absurd (nowhere n d q found e);
     uncounted = λ x g on e. let one : x ≡ new = cc in no_entry n (sym m.off ∙ subst (λ (y : Row A). y.on ≡ Some n) one on);
+    counting = λ x g on p e. let one : x ≡ new = cc in no_entry n (sym m.off ∙ subst (λ (y : Row A). y.on ≡ Some n) one on);
   };
   row = λ r e. subst (λ x. RowKept v.conns (alter f v.sessions) x) (let out : new ≡ r = cc in out) row_kept;
   own = λ o found. serving_own m.row.number v.epoch z v.sessions o (kept.own o found);

@@ -44,6 +44,7 @@ client_queued_keeps {A = A} z v next m kept = subst LinkKept (sym m.gives) (reco
     fits = λ e. moved before.stage (before.fits e);
     attached = before.attached;
     uncounted = before.uncounted;
+    counting = before.counting;
   };
   row = λ r found. row r found (kept.row r found);
   own = λ o e. subst (λ x. OwnKept v.epoch (alter f v.sessions) x) (let out : new ≡ o = cc in out) own_kept;

@@ -7,7 +7,7 @@ use Rattle.xmpp_links.proofs.CutLinks.{not_true, some_one, there_cut}
 use Rattle.xmpp_links.proofs.Hands.{no_entry, piped_down}
 use Rattle.xmpp_links.proofs.Asking.{steps, steps_at}
 use Rattle.xmpp_links.proofs.ReadResumed.{phase_session}
-use Rattle.xmpp_links.proofs.Detached.{carried_of, carries_at}
+use Rattle.xmpp_links.proofs.Detached.{carries_at}
 use Rattle.xmpp_links.specs.Words.{UpWord, Enable, DownWord, Resumed, Enabled, Bound, InBind, InEnable, InResume, AtSession}
 use Rattle.xmpp_links.specs.Wires.{down_words, down_whole, send_up, left_down}
 use Rattle.xmpp_links.specs.Stages.{Stage, Greets, Greeted, Offered, Proves, Challenged, Answers, Succeeded, Regreets, Regreeted, Reoffered, AsksResume, Refused, Resumes, AsksBind, Binds, AsksEnable, Enables, Runs, client_of, phase_of, up_of, down_of, Ending, Stands, Errs, Closes, tail_of, Conn, IsAt}
@@ -122,6 +122,7 @@ read_bound_keeps {A = A} k number v next m kept = subst LinkKept (sym m.gives) (
           fits = λ e. (fits.0, (f number session, altered f v.sessions number session fits.1.1, rw same_number refl));
           attached = old.attached;
           uncounted = λ r found on e. old.uncounted r found on (ap is_yet is_binds);
+          counting = λ r found on p e. no_entry p e;
         } in
         subst (λ x. ConnKept (record v { conns = with_at k this v.conns; epoch = v.epoch + 1; sessions = alter f v.sessions }) x d) same (subst (λ x. ConnKept (record v { conns = with_at k this v.conns; epoch = v.epoch + 1; sessions = alter f v.sessions }) k x) is here)
     conn n d (Old ne there) =
@@ -134,6 +135,7 @@ read_bound_keeps {A = A} k number v next m kept = subst LinkKept (sym m.gives) (
           fits = λ e. absurd (ne (same_here n (has_is v.here n e)));
           attached = before.attached;
           uncounted = before.uncounted;
+          counting = before.counting;
         }
 
     placed : (r : Row A) (s : Session A) → v.sessions r.number ≡ Some s → (o : Option ℕ) → IsPlaced v.conns r s o → IsPlaced (with_at k this v.conns) r (f r.number s) o

@@ -10,13 +10,13 @@ use Rattle.xmpp_links.proofs.Tables.{send_up_whole, send_up_whole_down, left_dow
 use Rattle.xmpp_links.proofs.CutLinks.{not_true, some_one, some_same, there_cut}
 use Rattle.xmpp_links.proofs.Hands.{no_entry, piped_down, flow_up}
 use Rattle.xmpp_links.proofs.Heard.{same_up, down_words_up}
-use Rattle.xmpp_links.proofs.Detached.{carried_of, carries_at}
+use Rattle.xmpp_links.proofs.Detached.{carries_at}
 use Rattle.xmpp_links.specs.Words.{Traffic, up_stanzas, down_stanzas, UpWord, DownWord, Enabled, Down, InEnable, InOnline}
 use Rattle.xmpp_links.specs.Wires.{Wires, Flow, Stop, is_flowing, up_words, down_words, up_whole, down_whole, send_up, left_down}
 use Rattle.xmpp_links.specs.Stages.{Stage, AsksResume, Resumes, AsksEnable, Enables, Runs, client_of, phase_of, up_of, down_of, Ending, Stands, Errs, Closes, tail_of, foot_of, Conn, IsAt}
 use Rattle.xmpp_links.specs.Views.{Table, with_at, alter, has, Session, Row, Own, View, session_on, carries, sends}
 use Rattle.xmpp_links.specs.SessionMoves.{IsReadEnabled}
-use Rattle.xmpp_links.specs.Links.{UpCounts, DownCounts, ArePiped, IsAsked, FitsOwn, ConnKept, GoesUp, GoesDown, IsQuiet, IsPlaced, RowKept, OwnKept, SessionKept, IsCarried, IsBare, LinkKept}
+use Rattle.xmpp_links.specs.Links.{carried_of, UpCounts, DownCounts, ArePiped, IsAsked, FitsOwn, ConnKept, GoesUp, GoesDown, IsQuiet, IsPlaced, RowKept, OwnKept, SessionKept, IsCarried, IsBare, LinkKept}
 
 pub record ReadsEnabled {A : Type 0} (s : Stage A) (m : ℕ) (tail rest : List (DownWord A)) : Type 0 where
   pub downs : List (Traffic A)
@@ -170,6 +170,7 @@ read_enabled_keeps {A = A} k number v next m kept = subst LinkKept (sym m.gives)
           fits = λ e. (new, refl, refl);
           attached = old.attached;
           uncounted = λ x g on e. absurd (not_true refl e);
+          counting = λ x g on p e. old.counting x g on p (ap carried_of r.is ∙ e);
         } in
         subst (λ x. ConnKept (record v { conns = with_at k this v.conns; own = Some new; sessions = alter f v.sessions }) x d) same (subst (λ x. ConnKept (record v { conns = with_at k this v.conns; own = Some new; sessions = alter f v.sessions }) k x) is here)
     conn n d (Old ne there) =
@@ -182,6 +183,7 @@ read_enabled_keeps {A = A} k number v next m kept = subst LinkKept (sym m.gives)
           fits = λ e. absurd (ne (same_here n (has_is v.here n e)));
           attached = before.attached;
           uncounted = before.uncounted;
+          counting = before.counting;
         }
 
     goes_up : (s : Session A) → GoesUp m.conn s → GoesUp this s

@@ -14,7 +14,7 @@ use Rattle.xmpp_links.specs.Wires.{Wires, Flow, Stop, is_flowing, up_words, down
 use Rattle.xmpp_links.specs.Stages.{Stage, Greets, Greeted, Offered, Proves, Challenged, Answers, Succeeded, Regreets, Regreeted, Reoffered, AsksResume, Refused, Resumes, AsksBind, Binds, AsksEnable, Enables, Runs, phase_of, up_of, down_of, Ending, Stands, Errs, Closes, tail_of, foot_of, Conn}
 use Rattle.xmpp_links.specs.Views.{Table, with_at, alter, has, Session, Row, Own, View, on_phase, session_on, carried_by, carries, sends}
 use Rattle.xmpp_links.specs.SessionMoves.{again, IsReadResumed}
-use Rattle.xmpp_links.specs.Links.{UpCounts, DownCounts, ArePiped, IsAsked, FitsOwn, ConnKept, GoesUp, GoesDown, IsQuiet, IsPlaced, RowKept, OwnKept, SessionKept, IsCarried, IsBare, LinkKept}
+use Rattle.xmpp_links.specs.Links.{carried_of, UpCounts, DownCounts, ArePiped, IsAsked, FitsOwn, ConnKept, GoesUp, GoesDown, IsQuiet, IsPlaced, RowKept, OwnKept, SessionKept, IsCarried, IsBare, LinkKept}
 
 record Reads {A : Type 0} (s : Stage A) (p h : ℕ) (tail rest : List (DownWord A)) : Type 0 where
   pub downs : List (Traffic A)
@@ -249,6 +249,7 @@ read_resumed_keeps {A = A} k v next m kept = subst LinkKept (sym m.gives) (recor
           fits = λ e. (new, refl, refl);
           attached = old.attached;
           uncounted = λ r f on e. absurd (not_true refl e);
+          counting = λ x f on p e. old.counting x f on p (ap carried_of r.is ∙ e);
         } in
         subst (λ x. ConnKept (record v { conns = with_at k this v.conns; own = Some new; sessions = alter f v.sessions }) x d) same (subst (λ x. ConnKept (record v { conns = with_at k this v.conns; own = Some new; sessions = alter f v.sessions }) k x) is here)
     conn n d (Old ne there) =
@@ -261,6 +262,7 @@ read_resumed_keeps {A = A} k v next m kept = subst LinkKept (sym m.gives) (recor
           fits = λ e. absurd (ne (let h : v.here ≡ Some n = has_is v.here n e in let here = m.here in let same : k ≡ n = cc in same));
           attached = before.attached;
           uncounted = before.uncounted;
+          counting = before.counting;
         }
 
     goes_up : GoesUp this (f m.own.number g.0)

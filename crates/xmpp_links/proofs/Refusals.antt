@@ -60,7 +60,7 @@ failed_keeps {A = A} k v next m kept = subst LinkKept (sym m.gives) (by (cases_B
         unheld_keeps v k m.conn this (Refused m.p) v.own (has_is v.here k works) m.is (off_ready m.conn before.phase) (carries_at (AsksResume m.p m.h) m.conn before) at (off_ready this before.phase) refl refl
         (subst (λ b. ArePiped b this) works piped) tt (fits.0, fits.1, fits.2) kept.own kept
     by (inr away) =
-        left_keeps v k m.conn this (Refused m.p) away m.is (off_ready m.conn before.phase) (off_ready this before.phase) at (λ r f on e. absurd (not_true refl e))
+        left_keeps v k m.conn this (Refused m.p) away m.is (off_ready m.conn before.phase) (off_ready this before.phase) at (λ r f on e. absurd (not_true refl e)) (λ r f on p e. no_entry p e)
         (subst (λ b. ArePiped b this) away piped) tt kept
 
 -- a count is too high only on a connection that the client left
@@ -95,7 +95,7 @@ too_high_left {A = A} k v next m kept = elim (cases_Bool (has v.here k)) [ inr e
 pub too_high_keeps : {A : Type 0} (k : ℕ) (v next : View A) → IsTooHigh k v next → LinkKept v → LinkKept next
 too_high_keeps {A = A} k v next m kept = subst LinkKept (sym m.gives) (row_ended_keeps mid (record mid { row = None }) (record { row = m.row; is_row = m.is_row; off = m.off; gives = refl })
     (left_keeps v k m.conn (shut (Errs TooHigh) m.conn) old.stage left m.is (off_ready m.conn ready) (shut_off m.conn (Errs TooHigh) tt)
-    (shut_at old.stage m.conn (Errs TooHigh) old.at (taken_stands (has v.here k) m.conn (ResumeAt m.row.number m.h) m.rest old.piped m.first)) old.uncounted
+    (shut_at old.stage m.conn (Errs TooHigh) old.at (taken_stands (has v.here k) m.conn (ResumeAt m.row.number m.h) m.rest old.piped m.first)) old.uncounted old.counting
     (subst (λ b. ArePiped b (shut (Errs TooHigh) m.conn)) left (shut_piped (has v.here k) m.conn (Errs TooHigh) (λ e. absurd (not_true left e)) old.piped)) old.asked kept))
   where
     old : ConnKept v k m.conn
@@ -123,6 +123,7 @@ forgotten_keeps {A = A} v next m kept = subst LinkKept (sym m.gives) (record {
     fits = λ e. no_entry n (sym m.idle ∙ has_is v.here n e);
     attached = before.attached;
     uncounted = before.uncounted;
+    counting = before.counting;
   };
   row = kept.row;
   own = λ o e. no_entry o e;
@@ -206,11 +207,12 @@ footed_keeps {A = A} k v next m kept = subst LinkKept (sym m.gives) (record {
           fits = λ e. absurd (not_true m.left e);
           attached = old.attached;
           uncounted = old.uncounted;
+          counting = old.counting;
         } in
         subst (λ x. ConnKept (record v { conns = with_at k this v.conns }) x d) same (subst (λ x. ConnKept (record v { conns = with_at k this v.conns }) k x) is here)
     conn n d (Old ne there) =
         let before = kept.conns n d there in
-        record { piped = before.piped; stage = before.stage; at = before.at; asked = before.asked; fits = before.fits; attached = before.attached; uncounted = before.uncounted }
+        record { piped = before.piped; stage = before.stage; at = before.at; asked = before.asked; fits = before.fits; attached = before.attached; uncounted = before.uncounted; counting = before.counting }
 
     goes_up : (s : Session A) → GoesUp m.conn s → GoesUp this s
     goes_up s g = record {

@@ -9,7 +9,7 @@ use Rattle.xmpp_links.proofs.Tables.{send_down_whole, send_down_whole_up, left_u
 use Rattle.std.proofs.lemmas.List.{drop-drop, append-nil}
 use Rattle.std.proofs.lemmas.List.Elements.{Contains-push}
 use Rattle.xmpp_acks.proofs.Directions.{kept_reached}
-use Rattle.xmpp_links.proofs.CutLinks.{not_true, some_one, there_cut, on_other}
+use Rattle.xmpp_links.proofs.CutLinks.{not_true, some_one, there_cut, on_other, some_same}
 use Rattle.xmpp_links.proofs.Hands.{no_entry, piped_up, taken_stands, up_words_down, flow_down}
 use Rattle.xmpp_links.specs.Words.{St, up_stanzas, down_stanzas, UpWord, ResumeAt, DownWord, Resumed, Down, InResume, AtSession}
 use Rattle.xmpp_links.specs.Wires.{Wires, Flow, Stop, is_flowing, up_words, down_words, up_whole, down_whole, send_down, left_up}
@@ -272,6 +272,7 @@ resumed_here_keeps {A = A} k v next m kept = subst LinkKept (sym m.gives) (recor
           fits = λ e. ((fits.0, fits.1, fits.2), λ t is. said t (was f v.sessions m.row.number t is));
           attached = λ q e. (new, refl, number q e, refl);
           uncounted = λ r f on e. absurd (not_true refl e);
+          counting = λ r f on p e. subst (λ (x : Row A). x.counted ≡ true) (some_same new r f) m.counted;
         } in
         subst (λ x. ConnKept (record v { conns = with_at k this v.conns; row = Some new; sessions = alter f v.sessions }) x d) same (subst (λ x. ConnKept (record v { conns = with_at k this v.conns; row = Some new; sessions = alter f v.sessions }) k x) is here)
       where
@@ -301,6 +302,7 @@ resumed_here_keeps {A = A} k v next m kept = subst LinkKept (sym m.gives) (recor
           fits = λ e. absurd (ne (let h : v.here ≡ Some n = has_is v.here n e in let here = m.here in let same : k ≡ n = cc in same));
           attached = λ q e. absurd (no_other n d q there e);
           uncounted = λ r f on e. on_other k n new r f refl ne on;
+          counting = λ r f on p e. on_other k n new r f refl ne on;
         }
 
     carries_this : carries this ≡ Some m.row.number

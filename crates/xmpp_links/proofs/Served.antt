@@ -7,14 +7,14 @@ use Rattle.xmpp_links.proofs.Entries.{same_number, other_number, at_same, at_oth
 use Rattle.xmpp_links.proofs.Cuts.{reached_more}
 use Rattle.xmpp_links.proofs.Tables.{send_down_whole, send_down_whole_up, left_up_whole, left_up_whole_down}
 use Rattle.std.proofs.lemmas.List.{append-nil, map-append, length_push}
-use Rattle.xmpp_links.proofs.CutLinks.{not_true, some_one, here_or_not, there_cut, on_other}
+use Rattle.xmpp_links.proofs.CutLinks.{not_true, some_one, here_or_not, there_cut, on_other, some_same}
 use Rattle.xmpp_links.proofs.Hands.{piped_up, taken_stands, up_words_down, flow_down}
 use Rattle.xmpp_links.specs.Words.{Traffic, St, up_stanzas, down_stanzas, UpWord, Up, Down, InOnline, AtSession}
 use Rattle.xmpp_links.specs.Wires.{Wires, Flow, Stop, up_words, down_words, up_whole, down_whole, send_down, left_up}
 use Rattle.xmpp_links.specs.Stages.{Stage, Greets, Greeted, Offered, Proves, Challenged, Answers, Succeeded, Regreets, Regreeted, Reoffered, AsksResume, Refused, Resumes, AsksBind, Binds, AsksEnable, Enables, Runs, client_of, phase_of, up_of, down_of, Ending, Stands, Errs, Closes, tail_of, foot_of, Conn, IsAt}
 use Rattle.xmpp_links.specs.Views.{Table, with_at, alter, has, Session, Row, Own, View, on_phase, session_on, carried_by, carries, sends}
 use Rattle.xmpp_links.specs.LinkMoves.{handled_if, IsUpStanza}
-use Rattle.xmpp_links.specs.Links.{UpCounts, DownCounts, IsAsked, FitsOwn, ConnKept, GoesUp, GoesDown, IsQuiet, IsPlaced, RowKept, OwnKept, SessionKept, IsCarried, IsBare, LinkKept}
+use Rattle.xmpp_links.specs.Links.{carried_of, UpCounts, DownCounts, IsAsked, FitsOwn, ConnKept, GoesUp, GoesDown, IsQuiet, IsPlaced, RowKept, OwnKept, SessionKept, IsCarried, IsBare, LinkKept}
 
 -- a word of traffic is first on the way up in the last row alone
 
@@ -114,6 +114,7 @@ pub record IsServed {A : Type 0} (v : View A) (k : ℕ) (c : Conn A) (r new : Ro
   pub first : up_words c.wires ≡ Up t ∷ rest
   pub number : new.number ≡ r.number
   pub new_on : new.on ≡ r.on
+  pub new_counted : new.counted ≡ r.counted
   pub gentle : IsGentle r.number f
   pub sessions : (q : ℕ) (s : Session A) → v.sessions q ≡ Some s → SessionKept (f q s)
   pub row : RowKept (with_at k (served c rest puts) v.conns) (alter f v.sessions) new
@@ -202,6 +203,7 @@ served_keeps {A = A} v k c r new t rest puts f m kept = record {
           fits = λ e. subst (λ s. FitsOwn v.own v.epoch v.sessions s) runs.is (old.fits e);
           attached = λ q e. attached q k c old.attached e;
           uncounted = λ r f on e. absurd (not_true refl e);
+          counting = λ x g on p e. subst (λ (y : Row A). y.counted ≡ true) (some_same new x g) (m.new_counted ∙ old.counting r m.is_row m.on runs.p (ap carried_of runs.is));
         } in
         subst (λ x. ConnKept (record v { conns = with_at k (served c rest puts) v.conns; row = Some new; sessions = alter f v.sessions }) x d) same (subst (λ x. ConnKept (record v { conns = with_at k (served c rest puts) v.conns; row = Some new; sessions = alter f v.sessions }) k x) is here)
     conn n d (Old ne there) =
@@ -214,6 +216,7 @@ served_keeps {A = A} v k c r new t rest puts f m kept = record {
           fits = λ e. gentle_fits v.own v.epoch r.number f v.sessions before.stage m.gentle (not_resumed e before) (before.fits e);
           attached = λ q e. attached q n d before.attached e;
           uncounted = λ r f on e. on_other k n new r f (m.new_on ∙ m.on) ne on;
+          counting = λ r f on p e. on_other k n new r f (m.new_on ∙ m.on) ne on;
         }
       where
         bare_not : IsBare (up_words c.wires) → ⊥
@@ -336,6 +339,7 @@ up_stanza_keeps {A = A} k z v next m kept = subst LinkKept (sym m.gives) (served
   first = m.first;
   number = refl;
   new_on = refl;
+  new_counted = refl;
   gentle = handled_gentle m.row.number z (up_stanzas m.rest);
   sessions = λ q s found. handled_kept (has (Some m.row.number) q) z (up_stanzas m.rest) s
       (λ e. subst (λ x. x.up.way ≡ z ∷ up_stanzas m.rest) (mine q s e found) split)

@@ -66,6 +66,7 @@ up_request_keeps {A = A} k v next m kept = subst LinkKept (sym m.gives) (subst (
   first = m.first;
   number = refl;
   new_on = refl;
+  new_counted = refl;
   gentle = stated_gentle m.row.number;
   sessions = λ q s found. stated_kept (has (Some m.row.number) q) s (λ e. subst (λ x. x.counted ≡ true) (mine q s e found) on.1.counted) (kept.sessions q s found);
   row = record {
@@ -163,6 +164,7 @@ up_count_keeps {A = A} k h v next m kept = subst LinkKept (sym m.gives) (served_
   first = m.first;
   number = refl;
   new_on = refl;
+  new_counted = refl;
   gentle = acked_gentle m.row.number h;
   sessions = λ q s found. acked_kept (has (Some m.row.number) q) h s (λ e. subst (λ (x : Session A). (x.counted ≡ true) × Contains x.down.stated h × (x.down.acked ≤ h)) (mine q s e found) (on.1.counted, counts.1, counts.0)) (kept.sessions q s found);
   row = record {

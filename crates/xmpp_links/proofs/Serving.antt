@@ -11,7 +11,7 @@ use Rattle.xmpp_links.proofs.CutLinks.{not_true, some_one, some_same, here_or_no
 use Rattle.xmpp_links.proofs.Counting.{down_counts_with, down_stanzas_with}
 use Rattle.xmpp_links.proofs.Hands.{no_entry, stopped_away}
 use Rattle.xmpp_links.proofs.Heard.{same_session}
-use Rattle.xmpp_links.proofs.Detached.{IsStill, still_asked, still_fits, carried_of, carries_at, on_stands}
+use Rattle.xmpp_links.proofs.Detached.{IsStill, still_asked, still_fits, carries_at, on_stands}
 use Rattle.xmpp_links.proofs.UncountedEnds.{carried_is_held, carried_holds}
 use Rattle.xmpp_links.specs.Words.{Traffic, St, Req, up_stanzas, down_stanzas, DownWord, Resumed, Enabled, Down, Phase, AtSession}
 use Rattle.xmpp_links.specs.Wires.{Wires, Flow, Stop, is_flowing, up_words, down_words, up_whole, down_whole, send_down}
@@ -19,7 +19,7 @@ use Rattle.xmpp_links.specs.Stages.{Stage, Greets, Greeted, Offered, Proves, Cha
 use Rattle.xmpp_links.specs.Views.{Table, with_at, alter, has, Session, Row, Own, View, on_phase, session_on, carries, sends}
 use Rattle.xmpp_links.specs.SessionMoves.{put_if}
 use Rattle.xmpp_links.specs.PutMoves.{IsServerPut}
-use Rattle.xmpp_links.specs.Links.{UpCounts, DownCounts, ArePiped, IsAsked, FitsOwn, is_yet, ConnKept, GoesUp, GoesDown, IsQuiet, IsPlaced, RowKept, OwnKept, SessionKept, IsCarried, IsBare, LinkKept}
+use Rattle.xmpp_links.specs.Links.{carried_of, UpCounts, DownCounts, ArePiped, IsAsked, FitsOwn, is_yet, ConnKept, GoesUp, GoesDown, IsQuiet, IsPlaced, RowKept, OwnKept, SessionKept, IsCarried, IsBare, LinkKept}
 
 -- a row of the table at which the server counts the session takes more traffic down
 
@@ -192,6 +192,7 @@ sent_keeps {A = A} v k c r new t f m kept = record {
           fits = λ e. more.fits v.own v.epoch (alter f v.sessions) (still_fits v.own v.epoch f v.sessions old.stage m.still (old.fits e));
           attached = attached k c old.attached;
           uncounted = λ x g on e. absurd (not_true more.yet e);
+          counting = λ x g on p e. subst (λ (y : Row A). y.counted ≡ true) (some_same new x g) (m.new_counted ∙ m.counted);
         } in
         subst (λ x. ConnKept (record v { conns = with_at k (sent_down c t) v.conns; row = Some new; sessions = alter f v.sessions }) x d) same (subst (λ x. ConnKept (record v { conns = with_at k (sent_down c t) v.conns; row = Some new; sessions = alter f v.sessions }) k x) is here)
     conn n d (Old ne there) =
@@ -204,6 +205,7 @@ sent_keeps {A = A} v k c r new t f m kept = record {
           fits = λ e. still_fits v.own v.epoch f v.sessions before.stage m.still (before.fits e);
           attached = attached n d before.attached;
           uncounted = λ x g on e. on_other k n new x g (m.new_on ∙ m.on) ne on;
+          counting = λ x g on p e. on_other k n new x g (m.new_on ∙ m.on) ne on;
         }
 
     down : (n : ℕ) (d : Conn A) (q : ℕ) → v.here ≡ Some n → carries d ≡ Some q → Entry k this v.conns n d → (s : Session A) × (alter f v.sessions q ≡ Some s) × GoesDown d s

@@ -5,7 +5,7 @@ use Rattle.xmpp_links.proofs.Entries.{at_same, at_other, Entry, New, Old, entry,
 use Rattle.xmpp_links.proofs.CutLinks.{not_true, some_one, there_cut}
 use Rattle.xmpp_links.proofs.Hands.{no_entry}
 use Rattle.xmpp_links.proofs.ReadResumed.{phase_session}
-use Rattle.xmpp_links.proofs.Detached.{carried_of, carries_at, on_stands, reason_ends, fair_reason}
+use Rattle.xmpp_links.proofs.Detached.{carries_at, on_stands, reason_ends, fair_reason}
 use Rattle.xmpp_links.proofs.Parked.{gone_off}
 use Rattle.xmpp_links.proofs.Ends.{shut_at, shut_piped, shut_off}
 use Rattle.xmpp_links.specs.Words.{AtSession}
@@ -14,7 +14,7 @@ use Rattle.xmpp_links.specs.Stages.{Stage, Greets, Greeted, Offered, Proves, Cha
 use Rattle.xmpp_links.specs.Views.{with_at, has, Session, Row, View, on_phase, session_on, carries}
 use Rattle.xmpp_links.specs.SessionMoves.{shut}
 use Rattle.xmpp_links.specs.EndMoves.{IsUncountedShut, IsUncountedGone}
-use Rattle.xmpp_links.specs.Links.{ArePiped, ConnKept, GoesDown, IsQuiet, IsPlaced, RowKept, IsCarried, LinkKept}
+use Rattle.xmpp_links.specs.Links.{carried_of, ArePiped, ConnKept, GoesDown, IsQuiet, IsPlaced, RowKept, IsCarried, LinkKept}
 
 -- what the way down of a connection carries is the session that the server has on it, where it has one
 pub carried_is_held : {A : Type 0} (s : Stage A) (c : Conn A) (p q : ℕ) → IsAt s c → carries c ≡ Some p → session_on c ≡ Some q → p ≡ q
@@ -107,11 +107,12 @@ uncounted_keeps {A = A} v k old new r is is_row on yet kept at' off piped = reco
           fits = was_kept.fits;
           attached = λ p e. no_entry p (sym off ∙ e);
           uncounted = λ x f on e. no_entry x f;
+          counting = λ x f on p e. no_entry x f;
         } in
         subst (λ x. ConnKept (record v { conns = with_at k new v.conns; row = None }) x c) same (subst (λ x. ConnKept (record v { conns = with_at k new v.conns; row = None }) k x) this here)
     conn n c (Old ne there) =
         let before = kept.conns n c there in
-        record { piped = before.piped; stage = before.stage; at = before.at; asked = before.asked; fits = before.fits; attached = λ p e. absurd (no_other n c p ne there e); uncounted = λ x f on e. no_entry x f }
+        record { piped = before.piped; stage = before.stage; at = before.at; asked = before.asked; fits = before.fits; attached = λ p e. absurd (no_other n c p ne there e); uncounted = λ x f on e. no_entry x f; counting = λ x f on p e. no_entry x f }
 
     down : (n : ℕ) (c : Conn A) (p : ℕ) → v.here ≡ Some n → carries c ≡ Some p → Entry k new v.conns n c → (t : Session A) × (v.sessions p ≡ Some t) × GoesDown c t
     down n c p here carried (New same this) = absurd (silent old p (here ∙ ap Some (sym same)) refl (sym same_carried ∙ subst (λ x. carries x ≡ Some p) (sym this) carried))

@@ -64,6 +64,13 @@ is_yet (Binds m) = true
 is_yet (AsksEnable m) = true
 is_yet _ = false
 
+-- the session whose stanzas such a row of the table has on its way down
+abbrev pub carried_of : {A : Type 0} → Stage A → Option ℕ
+carried_of (Resumes p h downs) = Some p
+carried_of (Enables m downs) = Some m
+carried_of (Runs p ups downs) = Some p
+carried_of _ = None
+
 -- each connection: its pipes (L1), its row of the table (L3, L4), and the server's row of the session on it (L2)
 pub record ConnKept {A : Type 0} (v : View A) (k : ℕ) (c : Conn A) : Type 0 where
   pub piped : ArePiped (has v.here k) c
@@ -73,6 +80,7 @@ pub record ConnKept {A : Type 0} (v : View A) (k : ℕ) (c : Conn A) : Type 0 wh
   pub fits : has v.here k ≡ true → FitsOwn v.own v.epoch v.sessions stage
   pub attached : (p : ℕ) → session_on c ≡ Some p → (r : Row A) × (v.row ≡ Some r) × (r.number ≡ p) × (r.on ≡ Some k)
   pub uncounted : (r : Row A) → v.row ≡ Some r → r.on ≡ Some k → is_yet stage ≡ true → r.counted ≡ false
+  pub counting : (r : Row A) → v.row ≡ Some r → r.on ≡ Some k → (p : ℕ) → carried_of stage ≡ Some p → r.counted ≡ true
 
 -- L9 and L10, up: what is under way in the session is what goes up on the connection that the server has it on
 pub record GoesUp {A : Type 0} (c : Conn A) (s : Session A) : Type 0 where
