@@ -69,7 +69,7 @@ up_foot (AsksResume p h) rest e = absurd (let no_way : ⊥ = cc in no_way)
 up_foot (AsksEnable m) rest e = absurd (let no_way : ⊥ = cc in no_way)
 up_foot _ rest e = absurd (let no_way : ⊥ = cc in no_way)
 
-first_whole : {A : Type 0} (w : UpWord A) (rest : List (UpWord A)) (x : Wires A) → up_words x ≡ w ∷ rest → (more : List (UpWord A)) × (up_whole x ≡ w ∷ more)
+pub first_whole : {A : Type 0} (w : UpWord A) (rest : List (UpWord A)) (x : Wires A) → up_words x ≡ w ∷ rest → (more : List (UpWord A)) × (up_whole x ≡ w ∷ more)
 first_whole w rest (Flow us ds) e = (rest, e)
 first_whole w rest (Stop us ds lu ld) e = (rest ++ lu, ap (λ l. l ++ lu) e)
 

@@ -25,3 +25,4 @@ pub mod ReadBound
 pub mod Enabling
 pub mod ReadEnabled
 pub mod Reached
+pub mod Expected
