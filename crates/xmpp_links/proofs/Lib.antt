@@ -26,3 +26,4 @@ pub mod Enabling
 pub mod ReadEnabled
 pub mod Reached
 pub mod Expected
+pub mod Promised

@@ -1,10 +1,10 @@
-//! The links of one device: connections, pipes, handshake, counts and queues, with stanzas opaque.
+//! The links of one device and its server: connections, pipes of words, the handshake, cuts, resumptions early and late,
+//! counts and queues, with stanzas as values of any type (XEP-0198, sections 4 and 5).
 #![tactic(auto)]
 
-ghost use Rattle.std.specs.Prelude.{◌≡◌};
-ghost use Rattle.xmpp_links.specs.Stages.{client_of, Stage};
+mod laws;
 
-/// A law alone.
-pub fn links<A>()
-    ensures { (s : Stage A) → client_of s ≡ client_of s }
-{}
+pub use laws::{
+    counts_are_too_high_only_where_the_client_left, sessions_are_acknowledged_delivery,
+    what_is_under_way_is_in_the_pipes, words_come_where_they_are_expected,
+};
