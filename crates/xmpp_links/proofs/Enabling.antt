@@ -1,24 +1,23 @@
 -- The server counts a session from here on.
-use Rattle.std.proofs.Common.{◌≡◌, ◌≢◌, ℕ, zero, Bool, true, false, ◌&&◌, if◌then◌else◌, List, [], ◌∷◌, ◌++◌, length, drop, take, refl, sym, ap, ◌∙◌, subst, ◌⊎◌, inl, inr, Option, None, Some, nat_eq}
+use Rattle.std.proofs.Common.{◌≡◌, ◌≢◌, ℕ, Bool, true, false, ◌&&◌, if◌then◌else◌, List, [], ◌∷◌, ◌++◌, length, take, refl, sym, ap, ◌∙◌, subst, ◌⊎◌, inl, inr, Option, None, Some, nat_eq}
 use Rattle.std.proofs.lemmas.Bool.{cases_Bool, cases_eq}
 use Rattle.std.specs.List.{Contains}
-use Rattle.xmpp_acks.specs.Delivery.{beginning, Direction, Reached, Cut, queue_of}
+use Rattle.xmpp_acks.specs.Delivery.{beginning, Direction, Reached, Cut}
 use Rattle.xmpp_links.proofs.Entries.{same_number, other_number, at_same, at_other, Entry, New, Old, entry, was, altered, has_is, is_has}
 use Rattle.xmpp_links.proofs.Cuts.{reached_more}
 use Rattle.xmpp_links.proofs.Tables.{send_down_whole, send_down_whole_up, left_up_whole, left_up_whole_down}
-use Rattle.std.proofs.lemmas.List.{append-nil}
-use Rattle.xmpp_links.proofs.CutLinks.{not_true, some_one, some_same, here_or_not, there_cut, on_other}
+use Rattle.xmpp_links.proofs.CutLinks.{not_true, some_one, some_same, there_cut, on_other}
 use Rattle.xmpp_links.proofs.Hands.{no_entry, piped_up, taken_stands, stopped_away, up_words_down, flow_down}
 use Rattle.xmpp_links.proofs.ReadResumed.{phase_session, bare_stanzas}
 use Rattle.xmpp_links.proofs.Resumption.{down_none}
 use Rattle.xmpp_links.proofs.Late.{bare_left, bare_counts}
 use Rattle.xmpp_links.proofs.Detached.{carries_at}
-use Rattle.xmpp_links.specs.Words.{up_stanzas, down_stanzas, UpWord, Enable, DownWord, Enabled, Down, InEnable, AtSession}
+use Rattle.xmpp_links.specs.Words.{up_stanzas, down_stanzas, UpWord, Enable, Enabled, InEnable}
 use Rattle.xmpp_links.specs.Wires.{Wires, Flow, Stop, is_flowing, up_words, down_words, up_whole, down_whole, send_down, left_up}
-use Rattle.xmpp_links.specs.Stages.{Stage, Greets, Greeted, Offered, Proves, Challenged, Answers, Succeeded, Regreets, Regreeted, Reoffered, AsksResume, Refused, Resumes, AsksBind, Binds, AsksEnable, Enables, Runs, client_of, phase_of, up_of, down_of, Ending, Stands, tail_of, foot_of, Conn, IsAt}
+use Rattle.xmpp_links.specs.Stages.{Stage, Greets, Greeted, Offered, Proves, Challenged, Answers, Succeeded, Regreets, Regreeted, Reoffered, AsksResume, Refused, Resumes, AsksBind, Binds, AsksEnable, Enables, Runs, client_of, phase_of, up_of, down_of, Stands, tail_of, foot_of, Conn, IsAt}
 use Rattle.xmpp_links.specs.Views.{Table, with_at, alter, has, Session, Row, Own, View, on_phase, session_on, carries, sends}
 use Rattle.xmpp_links.specs.SessionMoves.{IsEnabled}
-use Rattle.xmpp_links.specs.Links.{UpCounts, DownCounts, ArePiped, IsAsked, FitsOwn, is_yet, ConnKept, GoesUp, GoesDown, IsQuiet, IsPlaced, RowKept, OwnKept, SessionKept, IsCarried, IsBare, LinkKept}
+use Rattle.xmpp_links.specs.Links.{UpCounts, DownCounts, IsAsked, FitsOwn, ConnKept, GoesUp, GoesDown, IsQuiet, IsPlaced, RowKept, SessionKept, IsCarried, IsBare, LinkKept}
 
 pub record AsksEnabled {A : Type 0} (s : Stage A) (tail rest : List (UpWord A)) : Type 0 where
   pub m : ℕ

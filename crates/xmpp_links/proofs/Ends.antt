@@ -1,21 +1,20 @@
 -- How streams, connections and rows end.
-use Rattle.std.proofs.Common.{◌≡◌, ◌≢◌, ℕ, ◌+◌, ◌≤◌, ◌&&◌, Bool, true, false, List, [], ◌∷◌, ◌++◌, length, refl, sym, ap, ◌∙◌, subst, arith, append_assoc, ◌⊎◌, inl, inr, Option, None, Some}
+use Rattle.std.proofs.Common.{◌≡◌, ◌≢◌, ℕ, Bool, true, false, List, ◌∷◌, ◌++◌, sym, ap, ◌∙◌, subst, ◌⊎◌, inl, inr, None, Some}
 use Rattle.std.proofs.lemmas.Bool.{cases_Bool, cases_eq}
 use Rattle.std.proofs.lemmas.List.{append-nil}
-use Rattle.xmpp_acks.specs.Delivery.{Direction}
-use Rattle.xmpp_links.proofs.Entries.{at_same, at_other, Entry, New, Old, entry, has_is, is_has}
+use Rattle.xmpp_links.proofs.Entries.{at_same, at_other, Entry, New, Old, entry, is_has}
 use Rattle.xmpp_links.proofs.Tables.{send_down_whole, send_down_whole_up, halt_whole_up, halt_whole_down}
-use Rattle.xmpp_links.proofs.CutLinks.{not_true, some_one, here_or_not, there_cut}
+use Rattle.xmpp_links.proofs.CutLinks.{not_true, some_one, there_cut}
 use Rattle.xmpp_links.proofs.Hands.{no_entry, row_other, stopped_away, taken_stands}
-use Rattle.xmpp_links.proofs.Detached.{carries_at, end_off, reason_ends, fair_reason, no_foot_here, IsEnd, halted, halted_up, halted_down}
+use Rattle.xmpp_links.proofs.Detached.{end_off, no_foot_here, IsEnd, halted, halted_up, halted_down}
 use Rattle.xmpp_links.proofs.Parked.{gone_off}
-use Rattle.xmpp_links.specs.Words.{UpWord, Foot, DownWord, Phase, Start, Sasl, Challenge, Restart, Ready, AtSession}
-use Rattle.xmpp_links.specs.Wires.{Wires, Flow, Stop, is_flowing, up_words, down_words, up_whole, down_whole, send_down, halt}
-use Rattle.xmpp_links.specs.Stages.{Stage, client_of, phase_of, up_of, down_of, Ending, Stands, Errs, Closes, tail_of, foot_of, Conn, IsAt}
-use Rattle.xmpp_links.specs.Views.{Table, with_at, has, Session, Row, Own, View, on_phase, session_on, carries}
-use Rattle.xmpp_links.specs.SessionMoves.{shut, IsReason}
+use Rattle.xmpp_links.specs.Words.{UpWord, Foot}
+use Rattle.xmpp_links.specs.Wires.{up_words, down_whole, send_down}
+use Rattle.xmpp_links.specs.Stages.{Stage, down_of, Ending, Stands, Closes, tail_of, Conn, IsAt}
+use Rattle.xmpp_links.specs.Views.{with_at, has, Session, Row, View, session_on, carries}
+use Rattle.xmpp_links.specs.SessionMoves.{shut}
 use Rattle.xmpp_links.specs.EndMoves.{IsFootTaken, IsGone}
-use Rattle.xmpp_links.specs.Links.{carried_of, IsFair, ArePiped, IsAsked, FitsOwn, ConnKept, is_yet, GoesDown, IsQuiet, RowKept, IsCarried, IsBare, LinkKept}
+use Rattle.xmpp_links.specs.Links.{carried_of, IsFair, ArePiped, IsAsked, ConnKept, is_yet, GoesDown, IsCarried, IsBare, LinkKept}
 
 -- a connection changes that the client left, and on which no session is
 

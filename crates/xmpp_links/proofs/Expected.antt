@@ -1,17 +1,15 @@
 -- Each word comes where it is expected.
-use Rattle.std.proofs.Common.{◌≡◌, ℕ, Bool, true, false, List, [], ◌∷◌, ◌++◌, refl, sym, ap, ◌∙◌, subst, ◌⊎◌, inl, inr, Option, None, Some}
+use Rattle.std.proofs.Common.{◌≡◌, ℕ, Bool, true, false, List, [], ◌∷◌, ◌++◌, refl, sym, ap, ◌∙◌, subst, ◌⊎◌, inl, inr, Some}
 use Rattle.std.proofs.lemmas.Bool.{cases_Bool}
-use Rattle.std.proofs.lemmas.List.{append-nil}
 use Rattle.xmpp_links.proofs.Entries.{is_has}
-use Rattle.xmpp_links.proofs.CutLinks.{not_true, some_one}
 use Rattle.xmpp_links.proofs.Hands.{taken_stands}
 use Rattle.xmpp_links.proofs.Detached.{no_foot_here, first_whole}
-use Rattle.xmpp_links.specs.Words.{InResume, InOnline, Traffic, UpWord, Hdr, Auth, Resp, ResumeAt, Bind, Enable, Up, Foot, DownWord, Head, Feat, Chal, Succ, Failed, Resumed, Bound, Enabled, Down, Err, End, Cause, Conflict, Constraint, TooHigh, Client, InHeader1, InFeatures1, InAuth, InResponse, InHeader2, InFeatures2, InBind, InEnable, Phase, Start, Sasl, Challenge, Restart, Ready, AtSession}
+use Rattle.xmpp_links.specs.Words.{InResume, InOnline, UpWord, Hdr, Auth, Resp, ResumeAt, Bind, Enable, Up, Foot, DownWord, Head, Feat, Chal, Succ, Failed, Resumed, Bound, Enabled, Down, Err, Conflict, Constraint, TooHigh, Client, InHeader1, InFeatures1, InAuth, InResponse, InHeader2, InFeatures2, InBind, InEnable, Start, Sasl, Challenge, Restart, Ready, AtSession}
 use Rattle.xmpp_links.specs.Wires.{Wires, Flow, Stop, up_words, down_words, up_whole, down_whole}
-use Rattle.xmpp_links.specs.Stages.{Stage, Greets, Greeted, Offered, Proves, Challenged, Answers, Succeeded, Regreets, Regreeted, Reoffered, AsksResume, Refused, Resumes, AsksBind, Binds, AsksEnable, Enables, Runs, client_of, phase_of, up_of, down_of, Ending, Stands, Errs, Closes, tail_of, foot_of, Conn, IsAt}
-use Rattle.xmpp_links.specs.Views.{has, Session, Row, Own, View, on_phase, session_on}
+use Rattle.xmpp_links.specs.Stages.{Stage, Greets, Greeted, Offered, Proves, Challenged, Answers, Succeeded, Regreets, Regreeted, Reoffered, AsksResume, Refused, Resumes, AsksBind, Binds, AsksEnable, Enables, Runs, client_of, phase_of, up_of, down_of, Ending, Stands, Errs, Closes, tail_of, foot_of, Conn}
+use Rattle.xmpp_links.specs.Views.{has, Row, View, on_phase}
 use Rattle.xmpp_links.specs.Links.{IsFair, FitsOwn, is_yet, carried_of, ConnKept, LinkKept}
-use Rattle.xmpp_links.specs.Promises.{HasThere, IsExpectedUp, IsExpectedDown}
+use Rattle.xmpp_links.specs.Promises.{IsExpectedUp, IsExpectedDown}
 
 -- what a row of the table says of the first word up
 abbrev pub FirstUp : {A : Type 0} → Stage A → Bool → UpWord A → Type 0

@@ -1,22 +1,22 @@
 -- What holds wherever the moves lead, from what each move keeps.
-use Rattle.std.proofs.Common.{◌≡◌, ℕ, ◌+◌, ◌-◌, ◌≤◌, Bool, true, false, List, [], ◌∷◌, ◌++◌, length, refl, sym, ap, ◌∙◌, subst, arith, ◌⊎◌, inl, inr, Option, None, Some}
+use Rattle.std.proofs.Common.{◌≡◌, ℕ, ◌-◌, ◌≤◌, true, List, ◌∷◌, ◌++◌, length, sym, ap, ◌∙◌, subst, arith, Some}
 use Rattle.std.proofs.lemmas.List.{length-append, length-drop}
 use Rattle.std.specs.List.{Contains}
 use Rattle.xmpp_acks.specs.Delivery.{Direction, Reached, queue_of}
 use Rattle.xmpp_acks.proofs.Directions.{kept_reached}
-use Rattle.xmpp_links.proofs.CutLinks.{not_true, some_one}
+use Rattle.xmpp_links.proofs.CutLinks.{some_one}
 use Rattle.xmpp_links.proofs.Entries.{is_has}
-use Rattle.xmpp_links.proofs.Tables.{left_up_whole, left_down_whole}
+use Rattle.xmpp_links.proofs.Tables.{left_down_whole}
 use Rattle.xmpp_links.proofs.Detached.{first_whole}
 use Rattle.xmpp_links.proofs.Expected.{expected_down}
 use Rattle.xmpp_links.proofs.Resumption.{Asks, asks}
-use Rattle.xmpp_links.proofs.Served.{IsOn, on_row}
-use Rattle.xmpp_links.proofs.Heard.{IsIn, in_own}
+use Rattle.xmpp_links.proofs.Served.{on_row}
+use Rattle.xmpp_links.proofs.Heard.{in_own}
 use Rattle.xmpp_links.specs.Words.{Ack, UpWord, ResumeAt, Up, DownWord, Resumed, Down, InResume, InOnline, up_stanzas, down_stanzas}
-use Rattle.xmpp_links.specs.Wires.{up_words, down_words, up_whole, down_whole}
-use Rattle.xmpp_links.specs.Stages.{Stage, AsksResume, foot_of, Conn}
-use Rattle.xmpp_links.specs.Views.{has, Session, Row, Own, View, carried_by, carries}
-use Rattle.xmpp_links.specs.Links.{UpCounts, DownCounts, FitsOwn, ConnKept, GoesUp, GoesDown, RowKept, OwnKept, LinkKept}
+use Rattle.xmpp_links.specs.Wires.{up_words, down_words, down_whole}
+use Rattle.xmpp_links.specs.Stages.{AsksResume, foot_of, Conn}
+use Rattle.xmpp_links.specs.Views.{Session, Row, Own, View, carried_by, carries}
+use Rattle.xmpp_links.specs.Links.{UpCounts, DownCounts, FitsOwn, LinkKept}
 use Rattle.xmpp_links.specs.Promises.{IsServerEnd, IsClientEnd, IsWithin}
 
 -- both ends of a session

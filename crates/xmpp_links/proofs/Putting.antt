@@ -1,27 +1,26 @@
 -- Stanzas and requests that both ends put at any time.
-use Rattle.std.proofs.Common.{◌≡◌, ◌≢◌, ℕ, ◌+◌, ◌≤◌, Bool, true, false, ◌&&◌, List, [], ◌∷◌, ◌++◌, length, drop, refl, sym, ap, ◌∙◌, subst, arith, ◌⊎◌, inl, inr, Option, None, Some, nat_eq}
-use Rattle.std.proofs.lemmas.Bool.{cases_Bool, cases_eq}
+use Rattle.std.proofs.Common.{◌≡◌, ◌≢◌, ℕ, ◌≤◌, Bool, true, false, [], ◌∷◌, ◌++◌, length, refl, sym, ap, ◌∙◌, subst, arith, ◌⊎◌, inl, inr, Option, None, Some, nat_eq}
+use Rattle.std.proofs.lemmas.Bool.{cases_Bool}
 use Rattle.std.proofs.lemmas.List.{append-nil, drop-append-le, length-append}
-use Rattle.std.specs.List.{Contains}
-use Rattle.xmpp_acks.specs.Delivery.{Direction, Reached, Put, queue_of}
+use Rattle.xmpp_acks.specs.Delivery.{Direction, Reached, Put}
 use Rattle.xmpp_acks.proofs.Directions.{kept_reached}
-use Rattle.xmpp_links.proofs.Entries.{same_number, other_number, at_same, was, altered, has_is, is_has}
+use Rattle.xmpp_links.proofs.Entries.{same_number, other_number, was, altered}
 use Rattle.xmpp_links.proofs.Cuts.{reached_more}
 use Rattle.xmpp_links.proofs.CutLinks.{not_true, some_one}
-use Rattle.xmpp_links.proofs.Counting.{down_counts_with, down_stanzas_with, up_counts_with, up_stanzas_with}
-use Rattle.xmpp_links.proofs.Hands.{no_entry, stopped_away}
+use Rattle.xmpp_links.proofs.Counting.{down_counts_with, down_stanzas_with}
+use Rattle.xmpp_links.proofs.Hands.{no_entry}
 use Rattle.xmpp_links.proofs.Heard.{same_session}
 use Rattle.xmpp_links.proofs.Puts.{put_quiet}
 use Rattle.xmpp_links.proofs.Detached.{IsStill, still_asked, still_fits}
 use Rattle.xmpp_links.proofs.UncountedEnds.{carried_holds}
-use Rattle.xmpp_links.proofs.Serving.{sent_down, IsSent, sent_keeps}
-use Rattle.xmpp_links.specs.Words.{Traffic, St, Req, up_stanzas, down_stanzas, Down}
-use Rattle.xmpp_links.specs.Wires.{Wires, Flow, Stop, is_flowing, up_words, down_words, send_down}
+use Rattle.xmpp_links.proofs.Serving.{sent_down, sent_keeps}
+use Rattle.xmpp_links.specs.Words.{St, Req, down_stanzas, Down}
+use Rattle.xmpp_links.specs.Wires.{Wires, Flow, Stop, is_flowing, down_words, send_down}
 use Rattle.xmpp_links.specs.Stages.{Conn}
 use Rattle.xmpp_links.specs.Views.{Table, with_at, alter, changed, has, Session, Row, Own, View, session_on, carries}
 use Rattle.xmpp_links.specs.SessionMoves.{put_if}
 use Rattle.xmpp_links.specs.PutMoves.{IsServerPut, IsServerQueued, IsServerRequest}
-use Rattle.xmpp_links.specs.Links.{UpCounts, DownCounts, ConnKept, GoesUp, GoesDown, IsQuiet, IsPlaced, RowKept, OwnKept, SessionKept, IsCarried, LinkKept}
+use Rattle.xmpp_links.specs.Links.{DownCounts, GoesDown, IsQuiet, IsPlaced, RowKept, OwnKept, SessionKept, LinkKept}
 
 -- a table in which nothing changes is the same
 pub unchanged : {B : Type 0} (t : Table B) → alter (λ q b. b) t ≡ t

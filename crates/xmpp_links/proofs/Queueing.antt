@@ -1,23 +1,21 @@
 -- What the client puts without a connection, and its requests.
-use Rattle.std.proofs.Common.{◌≡◌, ◌≢◌, ℕ, ◌+◌, ◌≤◌, Bool, true, false, ◌&&◌, List, [], ◌∷◌, ◌++◌, length, drop, refl, sym, ap, ◌∙◌, subst, arith, ◌⊎◌, inl, inr, Option, None, Some, nat_eq}
-use Rattle.std.proofs.lemmas.Bool.{cases_Bool, cases_eq}
+use Rattle.std.proofs.Common.{◌≡◌, ℕ, Bool, true, false, ◌&&◌, List, [], ◌∷◌, ◌++◌, refl, sym, ap, ◌∙◌, subst, ◌⊎◌, inl, inr, Option, None, Some}
+use Rattle.std.proofs.lemmas.Bool.{cases_Bool}
 use Rattle.std.proofs.lemmas.List.{append-nil, drop-append-le}
-use Rattle.std.specs.List.{Contains}
-use Rattle.xmpp_acks.specs.Delivery.{queue_of}
-use Rattle.xmpp_links.proofs.Entries.{same_number, other_number, was, altered, has_is, is_has}
-use Rattle.xmpp_links.proofs.CutLinks.{not_true, some_one}
+use Rattle.xmpp_links.proofs.Entries.{same_number, was, altered, has_is}
+use Rattle.xmpp_links.proofs.CutLinks.{some_one}
 use Rattle.xmpp_links.proofs.Counting.{up_counts_with, up_stanzas_with}
 use Rattle.xmpp_links.proofs.Hands.{no_entry}
 use Rattle.xmpp_links.proofs.Heard.{answered, heard_keeps, same_session}
 use Rattle.xmpp_links.proofs.Puts.{putting, put_kept, put_quiet, same_wires}
 use Rattle.xmpp_links.proofs.Putting.{unchanged, within}
 use Rattle.xmpp_links.proofs.Detached.{IsStill, still_asked, still_fits}
-use Rattle.xmpp_links.specs.Words.{Traffic, St, Req, up_stanzas, down_stanzas, Up, Client, InHeader1, InEnable, InOnline}
+use Rattle.xmpp_links.specs.Words.{Req, up_stanzas, down_stanzas, Up}
 use Rattle.xmpp_links.specs.Wires.{Wires, Flow, Stop, is_flowing, up_words, down_words, down_whole, send_up, left_down}
 use Rattle.xmpp_links.specs.Stages.{Stage, Greets, Greeted, Offered, Proves, Challenged, Answers, Succeeded, Regreets, Regreeted, Reoffered, AsksResume, Refused, Resumes, AsksBind, Binds, AsksEnable, Enables, Runs, client_of, Conn}
-use Rattle.xmpp_links.specs.Views.{Table, with_at, alter, has, Session, Row, Own, View, carries, sends}
+use Rattle.xmpp_links.specs.Views.{Table, with_at, alter, has, Session, Row, Own, View, sends}
 use Rattle.xmpp_links.specs.PutMoves.{is_online, IsClientQueued, IsClientRequest}
-use Rattle.xmpp_links.specs.Links.{UpCounts, DownCounts, FitsOwn, ConnKept, GoesUp, GoesDown, IsQuiet, IsPlaced, RowKept, OwnKept, SessionKept, IsCarried, LinkKept}
+use Rattle.xmpp_links.specs.Links.{UpCounts, DownCounts, FitsOwn, GoesUp, IsQuiet, IsPlaced, RowKept, OwnKept, SessionKept, LinkKept}
 
 -- a client with a session that is not online sends nothing
 sends_nothing : {A : Type 0} (own : Option (Own A)) (epoch : ℕ) (sessions : Table (Session A)) (o : Own A) (s : Stage A) → own ≡ Some o → FitsOwn own epoch sessions s → is_online (client_of s) ≡ false → sends (client_of s) ≡ false
@@ -49,10 +47,10 @@ client_queued_keeps {A = A} z v next m kept = subst LinkKept (sym m.gives) (reco
   row = λ r found. row r found (kept.row r found);
   own = λ o e. subst (λ x. OwnKept v.epoch (alter f v.sessions) x) (let out : new ≡ o = cc in out) own_kept;
   sessions = λ q s found. let w = was f v.sessions q s found in subst SessionKept w.2 (put_kept (has (Some p) q) z w.0
-    (λ e. let one = same_session v p q own.session w.0 own.is e w.1 in (sym (ap (λ (x : Session A). x.counted) one) ∙ (kept.sessions p own.session own.is).read own.read, sym (ap (λ (x : Session A). x.read) one) ∙ own.read))
-    (kept.sessions q w.0 w.1));
+      (λ e. let one = same_session v p q own.session w.0 own.is e w.1 in (sym (ap (λ (x : Session A). x.counted) one) ∙ (kept.sessions p own.session own.is).read own.read, sym (ap (λ (x : Session A). x.read) one) ∙ own.read))
+      (kept.sessions q w.0 w.1));
   goes_down = λ n d q here found carried. let before = kept.goes_down n d q here found carried in
-    (f q before.0, altered f v.sessions q before.0 before.1, record { counted = before.2.counted; way = before.2.way; is_open = before.2.is_open; counts = before.2.counts });
+      (f q before.0, altered f v.sessions q before.0 before.1, record { counted = before.2.counted; way = before.2.way; is_open = before.2.is_open; counts = before.2.counts });
   quiet_up = λ q s found counted.
       let w = was f v.sessions q s found in
       let before : w.0.counted ≡ true = ap (λ (x : Session A). x.counted) w.2 ∙ counted in

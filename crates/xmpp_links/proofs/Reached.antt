@@ -1,5 +1,5 @@
 -- What each move keeps holds wherever moves lead.
-use Rattle.std.proofs.Common.{◌≡◌, List, [], ◌∷◌, sym, subst}
+use Rattle.std.proofs.Common.{List, [], ◌∷◌, sym, subst}
 use Rattle.xmpp_links.proofs.CutLinks.{cut_keeps}
 use Rattle.xmpp_links.proofs.Hands.{beginning_keeps, dial_keeps, let_go_keeps, up_hand_keeps, down_hand_keeps}
 use Rattle.xmpp_links.proofs.Refusals.{failed_keeps, too_high_keeps, forgotten_keeps, footed_keeps}

@@ -1,6 +1,6 @@
 -- The client reads that a session was bound for it, and begins an epoch.
-use Rattle.std.proofs.Common.{◌≡◌, ◌≢◌, ℕ, ◌+◌, Bool, true, false, if◌then◌else◌, List, [], ◌∷◌, ◌++◌, refl, sym, ap, ◌∙◌, subst, ◌⊎◌, inl, inr, Option, None, Some}
-use Rattle.std.proofs.lemmas.Bool.{cases_Bool, cases_eq}
+use Rattle.std.proofs.Common.{◌≡◌, ℕ, ◌+◌, Bool, true, false, if◌then◌else◌, List, [], ◌∷◌, ◌++◌, refl, sym, ap, ◌∙◌, subst, ◌⊎◌, inl, inr, Option, None, Some}
+use Rattle.std.proofs.lemmas.Bool.{cases_eq}
 use Rattle.xmpp_links.proofs.Entries.{same_number, at_same, at_other, Entry, New, Old, entry, was, altered, has_is, is_has}
 use Rattle.xmpp_links.proofs.Tables.{left_down_whole}
 use Rattle.xmpp_links.proofs.CutLinks.{not_true, some_one, there_cut}
@@ -8,12 +8,12 @@ use Rattle.xmpp_links.proofs.Hands.{no_entry, piped_down}
 use Rattle.xmpp_links.proofs.Asking.{steps, steps_at}
 use Rattle.xmpp_links.proofs.ReadResumed.{phase_session}
 use Rattle.xmpp_links.proofs.Detached.{carries_at}
-use Rattle.xmpp_links.specs.Words.{UpWord, Enable, DownWord, Resumed, Enabled, Bound, InBind, InEnable, InResume, AtSession}
-use Rattle.xmpp_links.specs.Wires.{down_words, down_whole, send_up, left_down}
-use Rattle.xmpp_links.specs.Stages.{Stage, Greets, Greeted, Offered, Proves, Challenged, Answers, Succeeded, Regreets, Regreeted, Reoffered, AsksResume, Refused, Resumes, AsksBind, Binds, AsksEnable, Enables, Runs, client_of, phase_of, up_of, down_of, Ending, Stands, Errs, Closes, tail_of, Conn, IsAt}
-use Rattle.xmpp_links.specs.Views.{Table, with_at, alter, has, Session, Row, Own, View, on_phase, session_on, carries}
+use Rattle.xmpp_links.specs.Words.{Enable, DownWord, Bound, InBind, InEnable}
+use Rattle.xmpp_links.specs.Wires.{down_whole, left_down}
+use Rattle.xmpp_links.specs.Stages.{Stage, AsksResume, Resumes, AsksBind, Binds, AsksEnable, Runs, client_of, down_of, Ending, Stands, Errs, Closes, tail_of, Conn, IsAt}
+use Rattle.xmpp_links.specs.Views.{Table, with_at, alter, has, Session, Row, View, on_phase, session_on, carries}
 use Rattle.xmpp_links.specs.SessionMoves.{IsReadBound}
-use Rattle.xmpp_links.specs.Links.{ArePiped, IsAsked, FitsOwn, is_yet, ConnKept, GoesUp, GoesDown, IsQuiet, IsPlaced, RowKept, OwnKept, SessionKept, IsCarried, LinkKept}
+use Rattle.xmpp_links.specs.Links.{ArePiped, IsAsked, FitsOwn, is_yet, ConnKept, IsQuiet, IsPlaced, RowKept, SessionKept, IsCarried, LinkKept}
 
 no_tail : {A C : Type 0} (end : Ending) (m : ℕ) (rest : List (DownWord A)) → tail_of end ≡ Bound m ∷ rest → C
 no_tail Stands m rest e = absurd (let no_way : ⊥ = cc in no_way)

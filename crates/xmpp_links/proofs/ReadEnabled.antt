@@ -1,18 +1,17 @@
 -- The client reads that the server counts its session, and has it.
-use Rattle.std.proofs.Common.{◌≡◌, ◌≢◌, ℕ, zero, suc, ◌≤◌, Bool, true, false, ◌&&◌, if◌then◌else◌, List, [], ◌∷◌, ◌++◌, length, drop, map, refl, sym, ap, ◌∙◌, subst, arith, ◌⊎◌, inl, inr, Option, None, Some, nat_eq}
-use Rattle.std.proofs.lemmas.Bool.{cases_Bool, cases_eq}
+use Rattle.std.proofs.Common.{◌≡◌, ℕ, zero, suc, Bool, true, false, ◌&&◌, if◌then◌else◌, List, [], ◌∷◌, ◌++◌, length, drop, map, refl, sym, ap, ◌∙◌, subst, arith, ◌⊎◌, inl, inr, Option, None, Some}
+use Rattle.std.proofs.lemmas.Bool.{cases_eq}
 use Rattle.std.proofs.lemmas.List.{append-nil, length-append}
-use Rattle.std.specs.List.{Contains}
-use Rattle.xmpp_acks.specs.Delivery.{Direction, Reached, queue_of}
+use Rattle.xmpp_acks.specs.Delivery.{Direction, Reached}
 use Rattle.xmpp_acks.proofs.Directions.{kept_reached}
-use Rattle.xmpp_links.proofs.Entries.{same_number, other_number, at_same, at_other, Entry, New, Old, entry, was, altered, has_is, is_has}
+use Rattle.xmpp_links.proofs.Entries.{same_number, at_same, at_other, Entry, New, Old, entry, was, altered, has_is, is_has}
 use Rattle.xmpp_links.proofs.Tables.{send_up_whole, send_up_whole_down, left_down_whole, left_down_whole_up}
 use Rattle.xmpp_links.proofs.CutLinks.{not_true, some_one, some_same, there_cut}
-use Rattle.xmpp_links.proofs.Hands.{no_entry, piped_down, flow_up}
+use Rattle.xmpp_links.proofs.Hands.{piped_down, flow_up}
 use Rattle.xmpp_links.proofs.Heard.{same_up, down_words_up}
 use Rattle.xmpp_links.proofs.Detached.{carries_at}
-use Rattle.xmpp_links.specs.Words.{Traffic, up_stanzas, down_stanzas, UpWord, DownWord, Enabled, Down, InEnable, InOnline}
-use Rattle.xmpp_links.specs.Wires.{Wires, Flow, Stop, is_flowing, up_words, down_words, up_whole, down_whole, send_up, left_down}
+use Rattle.xmpp_links.specs.Words.{Traffic, up_stanzas, down_stanzas, DownWord, Enabled, Down, InEnable, InOnline}
+use Rattle.xmpp_links.specs.Wires.{is_flowing, up_words, up_whole, down_whole, send_up, left_down}
 use Rattle.xmpp_links.specs.Stages.{Stage, AsksResume, Resumes, AsksEnable, Enables, Runs, client_of, phase_of, up_of, down_of, Ending, Stands, Errs, Closes, tail_of, foot_of, Conn, IsAt}
 use Rattle.xmpp_links.specs.Views.{Table, with_at, alter, has, Session, Row, Own, View, session_on, carries, sends}
 use Rattle.xmpp_links.specs.SessionMoves.{IsReadEnabled}
@@ -199,9 +198,12 @@ read_enabled_keeps {A = A} k number v next m kept = subst LinkKept (sym m.gives)
       where
         by : (k ≡ n) ⊎ (k ≡ n → ⊥) → IsPlaced (with_at k this v.conns) x (f x.number s) (Some n)
         by (inl same) =
-            let one : d ≡ m.conn = some_one (v.conns k) d m.conn (subst (λ y. v.conns y ≡ Some d) (sym same) found) m.is in
-            (this, subst (λ y. with_at k this v.conns y ≡ Some this) same (at_same k this v.conns), subst (λ y. session_on y ≡ Some x.number) one held,
-              λ e. let g = goes_up s (subst (λ y. GoesUp y s) one (goes e)) in record { way = g.way; is_open = g.is_open; counts = g.counts })
+            let one : d ≡ m.conn = some_one (v.conns k) d m.conn (subst (λ y. v.conns y ≡ Some d) (sym same) found) m.is in (
+              this,
+              subst (λ y. with_at k this v.conns y ≡ Some this) same (at_same k this v.conns),
+              subst (λ y. session_on y ≡ Some x.number) one held,
+              λ e. let g = goes_up s (subst (λ y. GoesUp y s) one (goes e)) in record { way = g.way; is_open = g.is_open; counts = g.counts },
+            )
         by (inr ne) = (d, at_other k this v.conns n ne ∙ found, held, λ e. let g = goes e in record { way = g.way; is_open = g.is_open; counts = g.counts })
 
     row : (x : Row A) → RowKept v.conns v.sessions x → RowKept (with_at k this v.conns) (alter f v.sessions) x

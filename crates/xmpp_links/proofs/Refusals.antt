@@ -1,25 +1,25 @@
 -- The server refuses a resumption; a client's footer; a client that gives its session up.
-use Rattle.std.proofs.Common.{◌≡◌, ◌≢◌, ℕ, ◌+◌, ◌-◌, ◌≤◌, Bool, true, false, ◌&&◌, List, [], ◌∷◌, ◌++◌, length, drop, refl, sym, ap, ◌∙◌, subst, arith, append_assoc, ◌⊎◌, inl, inr, Option, None, Some}
+use Rattle.std.proofs.Common.{◌≡◌, ◌≢◌, ℕ, ◌-◌, true, false, ◌&&◌, [], ◌∷◌, ◌++◌, length, refl, sym, ap, ◌∙◌, subst, arith, ◌⊎◌, inl, inr, Option, None, Some}
 use Rattle.std.proofs.lemmas.Bool.{cases_Bool, cases_eq}
 use Rattle.std.proofs.lemmas.List.{append-nil, length-append, length-drop}
 use Rattle.xmpp_acks.proofs.Directions.{kept_reached}
 use Rattle.xmpp_links.proofs.Entries.{at_same, at_other, Entry, New, Old, entry, has_is, is_has}
 use Rattle.xmpp_links.proofs.Tables.{send_down_whole, send_down_whole_up, left_up_whole, left_up_whole_down}
-use Rattle.xmpp_links.proofs.CutLinks.{not_true, some_one, here_or_not, there_cut}
+use Rattle.xmpp_links.proofs.CutLinks.{not_true, some_one, there_cut}
 use Rattle.xmpp_links.proofs.Counting.{up_counts_with, up_stanzas_with}
-use Rattle.xmpp_links.proofs.Hands.{no_entry, piped_up, taken_stands, stopped_away}
+use Rattle.xmpp_links.proofs.Hands.{no_entry, piped_up, taken_stands}
 use Rattle.xmpp_links.proofs.Asking.{unheld_keeps, off_ready}
 use Rattle.xmpp_links.proofs.Detached.{carries_at, up_foot}
 use Rattle.xmpp_links.proofs.Resumption.{Asks, asks}
 use Rattle.xmpp_links.proofs.Ends.{left_keeps, shut_at, shut_piped, shut_off}
 use Rattle.xmpp_links.proofs.Detached.{row_ended_keeps}
-use Rattle.xmpp_links.specs.Words.{UpWord, ResumeAt, Foot, Failed, TooHigh, DownWord, Ready, up_stanzas}
+use Rattle.xmpp_links.specs.Words.{ResumeAt, Foot, Failed, TooHigh, Ready, up_stanzas}
 use Rattle.xmpp_links.specs.Wires.{Wires, Flow, Stop, is_flowing, up_words, down_words, up_whole, down_whole, send_down, left_up}
-use Rattle.xmpp_links.specs.Stages.{Stage, AsksResume, Refused, client_of, phase_of, up_of, down_of, Ending, Stands, Errs, tail_of, foot_of, Conn, IsAt}
-use Rattle.xmpp_links.specs.Views.{with_at, has, Session, Row, Own, View, session_on, carries, sends}
-use Rattle.xmpp_links.specs.SessionMoves.{shut, IsRowEnded}
+use Rattle.xmpp_links.specs.Stages.{AsksResume, Refused, phase_of, up_of, Stands, Errs, tail_of, foot_of, Conn, IsAt}
+use Rattle.xmpp_links.specs.Views.{with_at, has, Session, Row, View, session_on, carries, sends}
+use Rattle.xmpp_links.specs.SessionMoves.{shut}
 use Rattle.xmpp_links.specs.EndMoves.{IsFailed, IsHigh, IsTooHigh, with_foot, up_lost, IsFooted, IsForgotten}
-use Rattle.xmpp_links.specs.Links.{UpCounts, ArePiped, IsAsked, FitsOwn, IsOwn, ConnKept, GoesUp, GoesDown, IsQuiet, IsPlaced, RowKept, IsCarried, IsBare, LinkKept}
+use Rattle.xmpp_links.specs.Links.{UpCounts, ArePiped, FitsOwn, ConnKept, GoesUp, GoesDown, IsPlaced, RowKept, IsCarried, IsBare, LinkKept}
 
 -- the server says that it doesn't have the session
 

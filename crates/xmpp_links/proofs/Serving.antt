@@ -1,25 +1,19 @@
 -- What the server puts on the connection of a session.
-use Rattle.std.proofs.Common.{◌≡◌, ◌≢◌, ℕ, ◌+◌, ◌≤◌, Bool, true, false, ◌&&◌, List, [], ◌∷◌, ◌++◌, length, drop, map, refl, sym, ap, ◌∙◌, subst, arith, ◌⊎◌, inl, inr, Option, None, Some, nat_eq}
+use Rattle.std.proofs.Common.{◌≡◌, ◌≢◌, ℕ, Bool, true, false, ◌&&◌, List, [], ◌∷◌, ◌++◌, length, refl, sym, ap, ◌∙◌, subst, ◌⊎◌, inl, inr, Option, Some}
 use Rattle.std.proofs.lemmas.Bool.{cases_Bool, cases_eq}
-use Rattle.std.proofs.lemmas.List.{append-nil, map-append, drop-append-le, length-append}
-use Rattle.xmpp_acks.specs.Delivery.{Direction, Put, queue_of}
-use Rattle.xmpp_acks.proofs.Directions.{kept_reached}
-use Rattle.xmpp_links.proofs.Entries.{same_number, other_number, at_same, at_other, Entry, New, Old, entry, was, altered, has_is, is_has}
-use Rattle.xmpp_links.proofs.Cuts.{reached_more}
+use Rattle.std.proofs.lemmas.List.{append-nil, map-append}
+use Rattle.xmpp_acks.specs.Delivery.{queue_of}
+use Rattle.xmpp_links.proofs.Entries.{at_same, at_other, Entry, New, Old, entry, was, altered}
 use Rattle.xmpp_links.proofs.Tables.{send_down_whole, send_down_whole_up}
-use Rattle.xmpp_links.proofs.CutLinks.{not_true, some_one, some_same, here_or_not, there_cut, on_other}
-use Rattle.xmpp_links.proofs.Counting.{down_counts_with, down_stanzas_with}
+use Rattle.xmpp_links.proofs.CutLinks.{not_true, some_one, some_same, there_cut, on_other}
 use Rattle.xmpp_links.proofs.Hands.{no_entry, stopped_away}
-use Rattle.xmpp_links.proofs.Heard.{same_session}
 use Rattle.xmpp_links.proofs.Detached.{IsStill, still_asked, still_fits, carries_at, on_stands}
 use Rattle.xmpp_links.proofs.UncountedEnds.{carried_is_held, carried_holds}
-use Rattle.xmpp_links.specs.Words.{Traffic, St, Req, up_stanzas, down_stanzas, DownWord, Resumed, Enabled, Down, Phase, AtSession}
-use Rattle.xmpp_links.specs.Wires.{Wires, Flow, Stop, is_flowing, up_words, down_words, up_whole, down_whole, send_down}
-use Rattle.xmpp_links.specs.Stages.{Stage, Greets, Greeted, Offered, Proves, Challenged, Answers, Succeeded, Regreets, Regreeted, Reoffered, AsksResume, Refused, Resumes, AsksBind, Binds, AsksEnable, Enables, Runs, client_of, phase_of, up_of, down_of, Ending, Stands, tail_of, foot_of, Conn, IsAt}
+use Rattle.xmpp_links.specs.Words.{Traffic, up_stanzas, DownWord, Resumed, Enabled, Down}
+use Rattle.xmpp_links.specs.Wires.{Wires, Flow, Stop, is_flowing, up_words, down_words, down_whole, send_down}
+use Rattle.xmpp_links.specs.Stages.{Stage, AsksResume, Refused, Resumes, Binds, AsksEnable, Enables, Runs, client_of, phase_of, up_of, down_of, Ending, Stands, tail_of, foot_of, Conn, IsAt}
 use Rattle.xmpp_links.specs.Views.{Table, with_at, alter, has, Session, Row, Own, View, on_phase, session_on, carries, sends}
-use Rattle.xmpp_links.specs.SessionMoves.{put_if}
-use Rattle.xmpp_links.specs.PutMoves.{IsServerPut}
-use Rattle.xmpp_links.specs.Links.{carried_of, UpCounts, DownCounts, ArePiped, IsAsked, FitsOwn, is_yet, ConnKept, GoesUp, GoesDown, IsQuiet, IsPlaced, RowKept, OwnKept, SessionKept, IsCarried, IsBare, LinkKept}
+use Rattle.xmpp_links.specs.Links.{carried_of, UpCounts, ArePiped, IsAsked, FitsOwn, is_yet, ConnKept, GoesUp, GoesDown, IsQuiet, IsPlaced, RowKept, OwnKept, SessionKept, IsCarried, IsBare, LinkKept}
 
 -- a row of the table at which the server counts the session takes more traffic down
 

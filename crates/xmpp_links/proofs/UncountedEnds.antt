@@ -1,20 +1,19 @@
 -- A session ends that the server doesn't count yet, with its connection.
-use Rattle.std.proofs.Common.{◌≡◌, ◌≢◌, ℕ, Bool, true, false, List, [], ◌∷◌, refl, sym, ap, ◌∙◌, subst, ◌⊎◌, inl, inr, Option, None, Some}
-use Rattle.std.proofs.lemmas.Bool.{cases_Bool, cases_eq}
-use Rattle.xmpp_links.proofs.Entries.{at_same, at_other, Entry, New, Old, entry, has_is, is_has}
+use Rattle.std.proofs.Common.{◌≡◌, ◌≢◌, ℕ, true, false, refl, sym, ap, ◌∙◌, subst, ◌⊎◌, inl, inr, None, Some}
+use Rattle.std.proofs.lemmas.Bool.{cases_eq}
+use Rattle.xmpp_links.proofs.Entries.{at_other, Entry, New, Old, entry}
 use Rattle.xmpp_links.proofs.CutLinks.{not_true, some_one, there_cut}
 use Rattle.xmpp_links.proofs.Hands.{no_entry}
 use Rattle.xmpp_links.proofs.ReadResumed.{phase_session}
 use Rattle.xmpp_links.proofs.Detached.{carries_at, on_stands, reason_ends, fair_reason}
 use Rattle.xmpp_links.proofs.Parked.{gone_off}
 use Rattle.xmpp_links.proofs.Ends.{shut_at, shut_piped, shut_off}
-use Rattle.xmpp_links.specs.Words.{AtSession}
 use Rattle.xmpp_links.specs.Wires.{up_words}
-use Rattle.xmpp_links.specs.Stages.{Stage, Greets, Greeted, Offered, Proves, Challenged, Answers, Succeeded, Regreets, Regreeted, Reoffered, AsksResume, Refused, Resumes, AsksBind, Binds, AsksEnable, Enables, Runs, phase_of, Ending, Stands, Conn, IsAt}
+use Rattle.xmpp_links.specs.Stages.{Stage, AsksResume, Refused, Resumes, Binds, AsksEnable, Enables, Runs, phase_of, Ending, Stands, Conn, IsAt}
 use Rattle.xmpp_links.specs.Views.{with_at, has, Session, Row, View, on_phase, session_on, carries}
 use Rattle.xmpp_links.specs.SessionMoves.{shut}
 use Rattle.xmpp_links.specs.EndMoves.{IsUncountedShut, IsUncountedGone}
-use Rattle.xmpp_links.specs.Links.{carried_of, ArePiped, ConnKept, GoesDown, IsQuiet, IsPlaced, RowKept, IsCarried, LinkKept}
+use Rattle.xmpp_links.specs.Links.{carried_of, ArePiped, ConnKept, GoesDown, IsPlaced, RowKept, IsCarried, LinkKept}
 
 -- what the way down of a connection carries is the session that the server has on it, where it has one
 pub carried_is_held : {A : Type 0} (s : Stage A) (c : Conn A) (p q : ℕ) → IsAt s c → carries c ≡ Some p → session_on c ≡ Some q → p ≡ q

@@ -1,5 +1,5 @@
 -- How streams, connections and rows end, and what a server does on a connection without a session.
-use Rattle.std.specs.Prelude.{◌≡◌, ℕ, ◌+◌, ◌≤◌, ◌⊎◌, Bool, true, false, List, [], ◌∷◌, ◌++◌, length, None, Some}
+use Rattle.std.specs.Prelude.{◌≡◌, ℕ, ◌+◌, ◌≤◌, ◌⊎◌, true, false, List, [], ◌∷◌, ◌++◌, length, None, Some}
 use Rattle.xmpp_links.specs.Words.{UpWord, ResumeAt, Foot, Failed, TooHigh}
 use Rattle.xmpp_links.specs.Wires.{Wires, Flow, Stop, is_flowing, up_words, send_down, left_up}
 use Rattle.xmpp_links.specs.Stages.{Conn, Ending, Stands, Errs, Closes}

@@ -1,7 +1,7 @@
 -- What holds wherever the moves lead.
-use Rattle.std.specs.Prelude.{◌≡◌, ℕ, ◌+◌, ◌≤◌, ◌⊎◌, Bool, true, false, List, [], ◌∷◌, length, Option, None, Some}
+use Rattle.std.specs.Prelude.{◌≡◌, ℕ, ◌+◌, ◌≤◌, ◌⊎◌, Bool, true, false, List, length, None, Some}
 use Rattle.xmpp_acks.specs.Delivery.{queue_of}
-use Rattle.xmpp_links.specs.Words.{Traffic, UpWord, Hdr, Auth, Resp, ResumeAt, Bind, Enable, Up, Foot, DownWord, Head, Feat, Chal, Succ, Failed, Resumed, Bound, Enabled, Down, Err, End, Cause, Conflict, Constraint, Client, InHeader1, InFeatures1, InAuth, InResponse, InHeader2, InFeatures2, InResume, InBind, InEnable, InOnline, Phase, Start, Sasl, Challenge, Restart, Ready, AtSession}
+use Rattle.xmpp_links.specs.Words.{UpWord, Hdr, Auth, Resp, ResumeAt, Bind, Enable, Up, Foot, DownWord, Head, Feat, Chal, Succ, Failed, Resumed, Bound, Enabled, Down, Err, End, Conflict, Constraint, Client, InHeader1, InFeatures1, InAuth, InResponse, InHeader2, InFeatures2, InResume, InBind, InEnable, InOnline, Phase, Start, Sasl, Challenge, Restart, Ready, AtSession}
 use Rattle.xmpp_links.specs.Views.{View, has, Session, Row, Own}
 
 -- the server's row has the counts and the queue of its ends of both directions

@@ -1,9 +1,9 @@
 -- What both ends put at any time: stanzas of a session, wherever it is, and requests for a count.
-use Rattle.std.specs.Prelude.{◌≡◌, ℕ, Bool, true, false, List, [], ◌∷◌, ◌++◌, None, Some}
+use Rattle.std.specs.Prelude.{◌≡◌, ℕ, Bool, true, false, [], ◌∷◌, ◌++◌, None, Some}
 use Rattle.xmpp_links.specs.Words.{St, Req, Up, Down, Client, InOnline}
 use Rattle.xmpp_links.specs.Wires.{send_up, send_down}
 use Rattle.xmpp_links.specs.Stages.{Conn}
-use Rattle.xmpp_links.specs.Views.{View, with_at, alter, has, Session, Row, Own}
+use Rattle.xmpp_links.specs.Views.{View, with_at, alter, has, Row, Own}
 use Rattle.xmpp_links.specs.SessionMoves.{put_if}
 
 abbrev pub is_online : Client → Bool

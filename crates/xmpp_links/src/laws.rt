@@ -24,14 +24,10 @@ pub fn sessions_are_acknowledged_delivery<A>()
 /// What is under way in a session is what stands in the pipes: up on the connection on which the server counts it, down
 /// on the connection that the client works on, where it carries the session.
 pub fn what_is_under_way_is_in_the_pipes<A>()
-    ensures up {
-        (v : View A) (k : ℕ) (c : Conn A) (r : Row A) → LinkReached v → v.conns k ≡ Some c → v.row ≡ Some r → r.on ≡ Some k → r.counted ≡ true →
-        (s : Session A) × (v.sessions r.number ≡ Some s) × (s.up.way ≡ up_stanzas (up_words c.wires))
-    }
-    ensures down {
-        (v : View A) (k p : ℕ) (c : Conn A) → LinkReached v → v.here ≡ Some k → v.conns k ≡ Some c → carries c ≡ Some p →
-        (s : Session A) × (v.sessions p ≡ Some s) × (s.down.way ≡ down_stanzas (down_words c.wires))
-    }
+    ensures up { (v : View A) (k : ℕ) (c : Conn A) (r : Row A) → LinkReached v → v.conns k ≡ Some c → v.row ≡ Some r → r.on ≡ Some k → r.counted ≡ true →
+        (s : Session A) × (v.sessions r.number ≡ Some s) × (s.up.way ≡ up_stanzas (up_words c.wires)) }
+    ensures down { (v : View A) (k p : ℕ) (c : Conn A) → LinkReached v → v.here ≡ Some k → v.conns k ≡ Some c → carries c ≡ Some p →
+        (s : Session A) × (v.sessions p ≡ Some s) × (s.down.way ≡ down_stanzas (down_words c.wires)) }
 {}
 
 /// A count that comes names a place in its reader's queue, on each connection that the client works on and in each `a`
@@ -39,34 +35,22 @@ pub fn what_is_under_way_is_in_the_pipes<A>()
 /// the session ends.
 pub fn counts_are_too_high_only_where_the_client_left<A>()
     ensures too_high { (v next : View A) (k : ℕ) → LinkReached v → IsTooHigh k v next → (has v.here k ≡ false) × (next.row ≡ None) }
-    ensures resumption {
-        (v : View A) (k h : ℕ) (c : Conn A) (r : Row A) (rest : List (UpWord A)) → LinkReached v → v.here ≡ Some k → v.conns k ≡ Some c → v.row ≡ Some r →
-        up_words c.wires ≡ ResumeAt r.number h ∷ rest → (s : Session A) × (v.sessions r.number ≡ Some s) × (h ≡ length s.down.got) × IsWithin r.acked r.queue h
-    }
-    ensures server {
-        (v : View A) (k h : ℕ) (c : Conn A) (r : Row A) (rest : List (UpWord A)) → LinkReached v → v.conns k ≡ Some c → v.row ≡ Some r → r.on ≡ Some k → r.counted ≡ true →
-        up_words c.wires ≡ Up (Ack h) ∷ rest → IsWithin r.acked r.queue h
-    }
-    ensures client {
-        (v : View A) (k h : ℕ) (c : Conn A) (o : Own A) (rest : List (DownWord A)) → LinkReached v → v.here ≡ Some k → v.conns k ≡ Some c → v.own ≡ Some o →
-        down_words c.wires ≡ Down (Ack h) ∷ rest → IsWithin o.acked o.queue h
-    }
-    ensures resumed {
-        (v : View A) (k p h : ℕ) (c : Conn A) (o : Own A) (rest : List (DownWord A)) → LinkReached v → v.here ≡ Some k → v.conns k ≡ Some c → v.own ≡ Some o →
-        down_words c.wires ≡ Resumed p h ∷ rest → IsWithin o.acked o.queue h
-    }
+    ensures resumption { (v : View A) (k h : ℕ) (c : Conn A) (r : Row A) (rest : List (UpWord A)) → LinkReached v → v.here ≡ Some k → v.conns k ≡ Some c → v.row ≡ Some r →
+        up_words c.wires ≡ ResumeAt r.number h ∷ rest → (s : Session A) × (v.sessions r.number ≡ Some s) × (h ≡ length s.down.got) × IsWithin r.acked r.queue h }
+    ensures server { (v : View A) (k h : ℕ) (c : Conn A) (r : Row A) (rest : List (UpWord A)) → LinkReached v → v.conns k ≡ Some c → v.row ≡ Some r → r.on ≡ Some k → r.counted ≡ true →
+        up_words c.wires ≡ Up (Ack h) ∷ rest → IsWithin r.acked r.queue h }
+    ensures client { (v : View A) (k h : ℕ) (c : Conn A) (o : Own A) (rest : List (DownWord A)) → LinkReached v → v.here ≡ Some k → v.conns k ≡ Some c → v.own ≡ Some o →
+        down_words c.wires ≡ Down (Ack h) ∷ rest → IsWithin o.acked o.queue h }
+    ensures resumed { (v : View A) (k p h : ℕ) (c : Conn A) (o : Own A) (rest : List (DownWord A)) → LinkReached v → v.here ≡ Some k → v.conns k ≡ Some c → v.own ≡ Some o →
+        down_words c.wires ≡ Resumed p h ∷ rest → IsWithin o.acked o.queue h }
 {}
 
 /// Each word comes where its reader expects it, so that neither end answers one by ending the stream. The server's
 /// stream errors that the client reads are `conflict` and `resource-constraint` (RFC 6120, section 4.9.3), and a footer
 /// never comes to it alone.
 pub fn words_come_where_they_are_expected<A>()
-    ensures up {
-        (v : View A) (k : ℕ) (c : Conn A) (w : UpWord A) (rest : List (UpWord A)) → LinkReached v → v.conns k ≡ Some c →
-        up_words c.wires ≡ w ∷ rest → IsExpectedUp v k c.phase w
-    }
-    ensures down {
-        (v : View A) (k : ℕ) (c : Conn A) (w : DownWord A) (rest : List (DownWord A)) → LinkReached v → v.here ≡ Some k → v.conns k ≡ Some c →
-        down_words c.wires ≡ w ∷ rest → IsExpectedDown v c.client w
-    }
+    ensures up { (v : View A) (k : ℕ) (c : Conn A) (w : UpWord A) (rest : List (UpWord A)) → LinkReached v → v.conns k ≡ Some c →
+        up_words c.wires ≡ w ∷ rest → IsExpectedUp v k c.phase w }
+    ensures down { (v : View A) (k : ℕ) (c : Conn A) (w : DownWord A) (rest : List (DownWord A)) → LinkReached v → v.here ≡ Some k → v.conns k ≡ Some c →
+        down_words c.wires ≡ w ∷ rest → IsExpectedDown v c.client w }
 {}

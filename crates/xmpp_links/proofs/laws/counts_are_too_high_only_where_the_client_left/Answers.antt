@@ -1,4 +1,4 @@
-use Rattle.std.proofs.Common.{ap, None}
+use Rattle.std.proofs.Common.{ap}
 use Rattle.xmpp_links.proofs.Reached.{link_kept}
 use Rattle.xmpp_links.proofs.Refusals.{too_high_left}
 use Rattle.xmpp_links.proofs.Promised.{up_count_within, down_count_within, resumed_within, resume_is_present}
