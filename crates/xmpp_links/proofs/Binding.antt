@@ -22,7 +22,7 @@ no_bind : {A C : Type 0} (foot : Bool) (rest : List (UpWord A)) → foot_of foot
 no_bind false rest e = absurd (let no_way : ⊥ = cc in no_way)
 no_bind true rest e = absurd (let no_way : ⊥ = cc in no_way)
 
-binding : {A : Type 0} (s : Stage A) (foot : Bool) (rest : List (UpWord A)) → up_of s ++ foot_of foot ≡ Bind ∷ rest → Binding s (foot_of foot) rest
+pub binding : {A : Type 0} (s : Stage A) (foot : Bool) (rest : List (UpWord A)) → up_of s ++ foot_of foot ≡ Bind ∷ rest → Binding s (foot_of foot) rest
 binding AsksBind foot rest e = record { is = refl; left = (let left : foot_of foot ≡ rest = cc in left) }
 binding (Runs q (u ∷ ups) downs) foot rest e = absurd (let no_way : ⊥ = cc in no_way)
 binding (Runs q [] downs) foot rest e = no_bind foot rest e

@@ -27,3 +27,9 @@ pub mod ReadEnabled
 pub mod Reached
 pub mod Expected
 pub mod Promised
+pub mod ToCome
+pub mod Covering
+pub mod Prompt
+pub mod PromptWords
+pub mod PromptSessions
+pub mod Settled

@@ -16,7 +16,7 @@ use Rattle.xmpp_links.specs.Views.{Table, with_at, alter, has, Session, Row, Own
 use Rattle.xmpp_links.specs.SessionMoves.{again, IsReadResumed}
 use Rattle.xmpp_links.specs.Links.{carried_of, UpCounts, DownCounts, ArePiped, IsAsked, FitsOwn, ConnKept, GoesUp, GoesDown, IsQuiet, IsPlaced, RowKept, OwnKept, SessionKept, IsCarried, IsBare, LinkKept}
 
-record Reads {A : Type 0} (s : Stage A) (p h : ℕ) (tail rest : List (DownWord A)) : Type 0 where
+pub record Reads {A : Type 0} (s : Stage A) (p h : ℕ) (tail rest : List (DownWord A)) : Type 0 where
   pub downs : List (Traffic A)
   pub is : s ≡ Resumes p h downs
   pub left : map Down downs ++ tail ≡ rest
@@ -26,7 +26,7 @@ no_tail Stands p h rest e = absurd (let no_way : ⊥ = cc in no_way)
 no_tail (Errs x) p h rest e = absurd (let no_way : ⊥ = cc in no_way)
 no_tail Closes p h rest e = absurd (let no_way : ⊥ = cc in no_way)
 
-reads : {A : Type 0} (s : Stage A) (end : Ending) (p h : ℕ) (rest : List (DownWord A)) → down_of s ++ tail_of end ≡ Resumed p h ∷ rest → Reads s p h (tail_of end) rest
+pub reads : {A : Type 0} (s : Stage A) (end : Ending) (p h : ℕ) (rest : List (DownWord A)) → down_of s ++ tail_of end ≡ Resumed p h ∷ rest → Reads s p h (tail_of end) rest
 reads (Resumes q i downs) end p h rest e =
     let one : q ≡ p = cc in
     let two : i ≡ h = cc in
@@ -76,7 +76,7 @@ again_counts : {A : Type 0} (low : ℕ) (stated : List ℕ) (zs : List A) → Up
 again_counts low stated [] = tt
 again_counts low stated (z ∷ zs) = sent_counts low stated (z ∷ zs)
 
-up_none : {A : Type 0} (x : Wires A) → up_whole x ≡ [] → up_words x ≡ []
+pub up_none : {A : Type 0} (x : Wires A) → up_whole x ≡ [] → up_words x ≡ []
 up_none (Flow us ds) e = e
 up_none (Stop [] ds lu ld) e = refl
 up_none (Stop (u ∷ us) ds lu ld) e = absurd (let no_way : ⊥ = cc in no_way)

@@ -1,12 +1,13 @@
 //! What holds wherever the moves of one device and its server lead.
-ghost use Rattle.std.specs.Prelude.{◌≡◌, ℕ, ◌≤◌, [], ◌∷◌, List, None, Some, length, true, false};
+ghost use Rattle.std.specs.Prelude.{Bool, ◌≡◌, ℕ, ◌≤◌, [], ◌∷◌, List, None, Some, length, true, false};
 ghost use Rattle.xmpp_acks.specs.Delivery.{IsPrefix, Reached};
 ghost use Rattle.xmpp_links.specs.Words.{Ack, Down, down_stanzas, DownWord, ResumeAt, Resumed, Up, up_stanzas, UpWord};
-ghost use Rattle.xmpp_links.specs.Wires.{down_words, up_words};
+ghost use Rattle.xmpp_links.specs.Wires.{down_words, is_flowing, up_words};
 ghost use Rattle.xmpp_links.specs.Stages.{Conn};
 ghost use Rattle.xmpp_links.specs.Views.{carries, has, Own, Row, Session, View};
 ghost use Rattle.xmpp_links.specs.EndMoves.{IsTooHigh};
 ghost use Rattle.xmpp_links.specs.Machine.{LinkReached};
+ghost use Rattle.xmpp_links.specs.Covers.{IsSettled, PromptReached};
 ghost use Rattle.xmpp_links.specs.Promises.{IsClientEnd, IsExpectedDown, IsExpectedUp, IsServerEnd, IsWithin};
 
 /// Of each session that a device ever had, both directions are those of acknowledged delivery: what the one end handled
@@ -53,4 +54,14 @@ pub fn words_come_where_they_are_expected<A>()
         up_words c.wires ≡ w ∷ rest → IsExpectedUp v k c.phase w }
     ensures down { (v : View A) (k : ℕ) (c : Conn A) (w : DownWord A) (rest : List (DownWord A)) → LinkReached v → v.here ≡ Some k → v.conns k ≡ Some c →
         down_words c.wires ≡ w ∷ rest → IsExpectedDown v c.client w }
+{}
+
+/// Where a connection that the client works on has not ended and nothing stands in its pipes, nothing is outstanding:
+/// the client is online, the server has its session there, each end handled all that the other put, and no stanza behind
+/// which the client put a request at once waits to be acknowledged.
+pub fn empty_pipes_leave_nothing_outstanding<A>()
+    ensures {
+        (asks : A → Bool) (v : View A) (k : ℕ) (c : Conn A) → PromptReached asks v → v.here ≡ Some k → v.conns k ≡ Some c → is_flowing c.wires ≡ true →
+        up_words c.wires ≡ [] → down_words c.wires ≡ [] → IsSettled asks v k c
+    }
 {}
