@@ -1,0 +1,9 @@
+use Rattle.xmpp_links.proofs.Reached.{link_kept}
+use Rattle.xmpp_links.proofs.Expected.{expected_up, expected_down}
+use Rattle.xmpp_links.proofs.laws.words_come_where_they_are_expected.Goals as goal
+
+pub returns-clause-up : goal.returns-clause-up
+returns-clause-up g c = λ v k conn w rest reached is first. expected_up v k conn w rest (link_kept v reached) is first
+
+pub returns-clause-down : goal.returns-clause-down
+returns-clause-down g c = λ v k conn w rest reached here is first. expected_down v k conn w rest (link_kept v reached) here is first

@@ -1,0 +1,67 @@
+//! What holds wherever the moves of one device and its server lead.
+ghost use Rattle.std.specs.Prelude.{Bool, ◌≡◌, ℕ, ◌≤◌, [], ◌∷◌, List, None, Some, length, true, false};
+ghost use Rattle.xmpp_acks.specs.Delivery.{IsPrefix, Reached};
+ghost use Rattle.xmpp_links.specs.Words.{Ack, Down, down_stanzas, DownWord, ResumeAt, Resumed, Up, up_stanzas, UpWord};
+ghost use Rattle.xmpp_links.specs.Wires.{down_words, is_flowing, up_words};
+ghost use Rattle.xmpp_links.specs.Stages.{Conn};
+ghost use Rattle.xmpp_links.specs.Views.{carries, has, Own, Row, Session, View};
+ghost use Rattle.xmpp_links.specs.EndMoves.{IsTooHigh};
+ghost use Rattle.xmpp_links.specs.Machine.{LinkReached};
+ghost use Rattle.xmpp_links.specs.Covers.{IsSettled, PromptReached};
+ghost use Rattle.xmpp_links.specs.Promises.{IsClientEnd, IsExpectedDown, IsExpectedUp, IsServerEnd, IsWithin};
+
+/// Of each session that a device ever had, both directions are those of acknowledged delivery: what the one end handled
+/// is a prefix of what the other end put, and no more is acknowledged than was handled. The server's row and the
+/// client's session have the counts and the queues of their ends of it.
+pub fn sessions_are_acknowledged_delivery<A>()
+    ensures up { (v : View A) → LinkReached v → (p : ℕ) (s : Session A) → v.sessions p ≡ Some s → Reached s.up }
+    ensures down { (v : View A) → LinkReached v → (p : ℕ) (s : Session A) → v.sessions p ≡ Some s → Reached s.down }
+    ensures handled { (v : View A) → LinkReached v → (p : ℕ) (s : Session A) → v.sessions p ≡ Some s → IsPrefix s.up.got s.up.put × IsPrefix s.down.got s.down.put }
+    ensures acked { (v : View A) → LinkReached v → (p : ℕ) (s : Session A) → v.sessions p ≡ Some s → (s.up.acked ≤ length s.up.got) × (s.down.acked ≤ length s.down.got) }
+    ensures server { (v : View A) → LinkReached v → (r : Row A) → v.row ≡ Some r → (s : Session A) × (v.sessions r.number ≡ Some s) × IsServerEnd r s }
+    ensures client { (v : View A) → LinkReached v → (o : Own A) → v.own ≡ Some o → (s : Session A) × (v.sessions o.number ≡ Some s) × IsClientEnd o s }
+{}
+
+/// What is under way in a session is what stands in the pipes: up on the connection on which the server counts it, down
+/// on the connection that the client works on, where it carries the session.
+pub fn what_is_under_way_is_in_the_pipes<A>()
+    ensures up { (v : View A) (k : ℕ) (c : Conn A) (r : Row A) → LinkReached v → v.conns k ≡ Some c → v.row ≡ Some r → r.on ≡ Some k → r.counted ≡ true →
+        (s : Session A) × (v.sessions r.number ≡ Some s) × (s.up.way ≡ up_stanzas (up_words c.wires)) }
+    ensures down { (v : View A) (k p : ℕ) (c : Conn A) → LinkReached v → v.here ≡ Some k → v.conns k ≡ Some c → carries c ≡ Some p →
+        (s : Session A) × (v.sessions p ≡ Some s) × (s.down.way ≡ down_stanzas (down_words c.wires)) }
+{}
+
+/// A count that comes names a place in its reader's queue, on each connection that the client works on and in each `a`
+/// that the server takes. Only a resumption on a connection that the client left can state one that is too high; then
+/// the session ends.
+pub fn counts_are_too_high_only_where_the_client_left<A>()
+    ensures too_high { (v next : View A) (k : ℕ) → LinkReached v → IsTooHigh k v next → (has v.here k ≡ false) × (next.row ≡ None) }
+    ensures resumption { (v : View A) (k h : ℕ) (c : Conn A) (r : Row A) (rest : List (UpWord A)) → LinkReached v → v.here ≡ Some k → v.conns k ≡ Some c → v.row ≡ Some r →
+        up_words c.wires ≡ ResumeAt r.number h ∷ rest → (s : Session A) × (v.sessions r.number ≡ Some s) × (h ≡ length s.down.got) × IsWithin r.acked r.queue h }
+    ensures server { (v : View A) (k h : ℕ) (c : Conn A) (r : Row A) (rest : List (UpWord A)) → LinkReached v → v.conns k ≡ Some c → v.row ≡ Some r → r.on ≡ Some k → r.counted ≡ true →
+        up_words c.wires ≡ Up (Ack h) ∷ rest → IsWithin r.acked r.queue h }
+    ensures client { (v : View A) (k h : ℕ) (c : Conn A) (o : Own A) (rest : List (DownWord A)) → LinkReached v → v.here ≡ Some k → v.conns k ≡ Some c → v.own ≡ Some o →
+        down_words c.wires ≡ Down (Ack h) ∷ rest → IsWithin o.acked o.queue h }
+    ensures resumed { (v : View A) (k p h : ℕ) (c : Conn A) (o : Own A) (rest : List (DownWord A)) → LinkReached v → v.here ≡ Some k → v.conns k ≡ Some c → v.own ≡ Some o →
+        down_words c.wires ≡ Resumed p h ∷ rest → IsWithin o.acked o.queue h }
+{}
+
+/// Each word comes where its reader expects it, so that neither end answers one by ending the stream. The server's
+/// stream errors that the client reads are `conflict` and `resource-constraint` (RFC 6120, section 4.9.3), and a footer
+/// never comes to it alone.
+pub fn words_come_where_they_are_expected<A>()
+    ensures up { (v : View A) (k : ℕ) (c : Conn A) (w : UpWord A) (rest : List (UpWord A)) → LinkReached v → v.conns k ≡ Some c →
+        up_words c.wires ≡ w ∷ rest → IsExpectedUp v k c.phase w }
+    ensures down { (v : View A) (k : ℕ) (c : Conn A) (w : DownWord A) (rest : List (DownWord A)) → LinkReached v → v.here ≡ Some k → v.conns k ≡ Some c →
+        down_words c.wires ≡ w ∷ rest → IsExpectedDown v c.client w }
+{}
+
+/// Where a connection that the client works on has not ended and nothing stands in its pipes, nothing is outstanding:
+/// the client is online, the server has its session there, each end handled all that the other put, and no stanza behind
+/// which the client put a request at once waits to be acknowledged.
+pub fn empty_pipes_leave_nothing_outstanding<A>()
+    ensures {
+        (asks : A → Bool) (v : View A) (k : ℕ) (c : Conn A) → PromptReached asks v → v.here ≡ Some k → v.conns k ≡ Some c → is_flowing c.wires ≡ true →
+        up_words c.wires ≡ [] → down_words c.wires ≡ [] → IsSettled asks v k c
+    }
+{}

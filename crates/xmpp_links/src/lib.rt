@@ -1,0 +1,11 @@
+//! The links of one device and its server: connections, pipes of words, the handshake, cuts, resumptions early and late,
+//! counts and queues, with stanzas as values of any type (XEP-0198, sections 4 and 5).
+#![tactic(auto)]
+
+mod laws;
+
+pub use laws::{
+    counts_are_too_high_only_where_the_client_left, empty_pipes_leave_nothing_outstanding,
+    sessions_are_acknowledged_delivery, what_is_under_way_is_in_the_pipes,
+    words_come_where_they_are_expected,
+};
