@@ -1,0 +1,209 @@
+-- A8 along every run.
+use Rattle.std.proofs.Common.{◌≡◌, ℕ, ◌+◌, ◌-◌, ◌<◌, ◌≤◌, ◌≢◌, ◌==◌, Bool, true, false, List, [], ◌∷◌, ◌++◌, Some, None, length, map, refl, sym, ap, ◌∙◌, subst, arith}
+use Rattle.std.specs.List.{slice_get, flat_map}
+use Rattle.std.specs.Prelude.{nat_le}
+use Rattle.std.proofs.lemmas.List.{length-append}
+use Rattle.xmpp_sessions.specs.Stanzas.{Up, Down, answers}
+use Rattle.xmpp_sessions.specs.Stanzas.Up.{Carbons, Presence, Message, Query}
+use Rattle.xmpp_sessions.specs.Stanzas.Down.{Accepted, Bounced, Live, Res, Fin, NotFound}
+use Rattle.xmpp_sessions.specs.Devices.{Reading, Device, Take, World, OpenPage, Answer, first_of, last_of, log_of}
+use Rattle.xmpp_sessions.specs.Answers.{is_place, edge, size}
+use Rattle.xmpp_sessions.specs.Events as events
+use Rattle.xmpp_sessions.specs.Events.Event.{At, Tick}
+use Rattle.xmpp_sessions.specs.Kept.{AreTiles, IsTile, Taken, Read}
+use Rattle.xmpp_sessions.proofs.Intervals.{length_behind}
+use Rattle.xmpp_sessions.proofs.Logs.{IsTaken, broken_after, run_after}
+use Rattle.xmpp_sessions.proofs.Answered.{IsNext, Next, next_answer, Kind, AResult, AnEnd, NoPlace, kind_of, numbers_of, end_of, reads_result, lost_place, reads_restart, ended, TakenThen, taken_then, end_is_read}
+use Rattle.xmpp_sessions.proofs.Handled.{ReadKept, log_grown}
+use Rattle.xmpp_sessions.proofs.Tiles.{tiles_grow, tiles_push, tile_end}
+use Rattle.xmpp_sessions.proofs.Archives.{last_grows}
+use Rattle.xmpp_sessions.proofs.Takes.{account_hear_all, account_own}
+use Rattle.xmpp_sessions.proofs.ReadRuns.{PagesKept, ReadAt, pages_moves, pages_reached, pages_beginning}
+use Rattle.xmpp_sessions.proofs.Runs.{taken_moves, taken_beginning, one_of}
+use Rattle.xmpp_sessions.proofs.Worlds.{same_place, at_place, was_device}
+
+abbrev pub Tiled : ℕ → ℕ → ℕ → Reading → Type 0
+Tiled keep first last b = AreTiles keep first last [] b.tiles (log_of b)
+
+-- no page is over
+pub record SameLog (b c : Reading) : Type 0 where
+  pub tiles : c.tiles ≡ b.tiles
+  pub broken : c.broken ≡ b.broken
+  pub run : c.run ≡ b.run
+
+tiled_same : (keep first last : ℕ) (b c : Reading) → SameLog b c → Tiled keep first last b → Tiled keep first last c
+tiled_same keep first last b c same kept =
+    subst (λ ts. AreTiles keep first last [] ts (log_of c)) (sym same.tiles)
+    (subst (AreTiles keep first last [] b.tiles) (ap (λ bs. flat_map (λ r. r) bs ++ b.run) (sym same.broken) ∙ ap (λ r. flat_map (λ l. l) c.broken ++ r) (sym same.run)) kept)
+
+itself : (b : Reading) → SameLog b b
+itself b = record { tiles = refl; broken = refl; run = refl }
+
+same_served : (a : events.Around) (z : Up) (b : Reading) → SameLog b (events.reading_served a z b)
+same_served a Carbons b = itself b
+same_served a Presence b = itself b
+same_served a (Message m) b = itself b
+same_served a (Query r) b = record { tiles = refl; broken = refl; run = refl }
+
+same_server : (a : events.Around) (fits : ℕ) (zs : List Up) (d : Device) → SameLog d.reading (events.served a fits zs d).reading
+same_server a fits [] d = itself d.reading
+same_server a fits (z ∷ rest) d = same_served a z d.reading
+
+same_own : (a : events.Around) (act : events.Act) (d : Device) → act ≢ events.Act.ClientHandles → SameLog d.reading (events.own a act d).reading
+same_own a events.Act.Bind d other = itself d.reading
+same_own a (events.Act.ReadBound live) d other = itself d.reading
+same_own a events.Act.Enable d other = itself d.reading
+same_own a events.Act.ReadEnabled d other = itself d.reading
+same_own a events.Act.End d other = itself d.reading
+same_own a events.Act.Drop d other = record { tiles = refl; broken = refl; run = refl }
+same_own a (events.Act.Acknowledge n) d other = itself d.reading
+same_own a (events.Act.Say to text private) d other = itself d.reading
+same_own a (events.Act.CatchUp max) d other = record { tiles = refl; broken = refl; run = refl }
+same_own a (events.Act.ServerHandles fits full) d other = same_server a fits d.sessions.now.up_rest d
+same_own a events.Act.ClientHandles d other = absurd (other refl)
+
+pub same_hear_all : (takes : List Take) (full : List ℕ) (ts : List Take) (j : ℕ) (d : Device) → (events.hear_all takes full ts j d).reading ≡ d.reading
+same_hear_all takes full [] j d = refl
+same_hear_all takes full (t ∷ ts) j d = same_hear_all takes full ts j (events.hear takes full t j d)
+
+-- the end of a page
+tiled_end : (keep : ℕ) (x : events.Around) (d : Device) (page : OpenPage) (a : Answer) (rest tail : List Down) → 1 ≤ keep →
+    IsNext keep x.first x.last d page a (end_of a page) rest tail → is_place a.first a.last page.after ≡ true → page.results ≡ numbers_of a page →
+    ReadKept keep x.first x.last d → Tiled keep x.first x.last d.reading → Tiled keep x.first x.last (events.reads x (end_of a page) d.reading).reading
+tiled_end keep x d page a rest tail some next placed results kept tiled =
+    subst (λ reaction. Tiled keep x.first x.last reaction.reading) (sym (end_is_read keep x d page a rest tail next results then))
+    (chosen (nat_le (a.last - edge a.first page.after) page.max) refl)
+  where
+    count : ℕ
+    count = a.last + 1 - a.first
+
+    then : TakenThen d.reading page a
+    then = taken_then keep x.first x.last d page a (end_of a page) rest tail some next placed kept.log.runs
+
+    grown : log_of (events.logged page d.reading) ≡ log_of d.reading ++ page.results
+    grown = log_grown (events.is_broken page.after d.reading.run page.results) d.reading.broken d.reading.run page.results
+
+    laid : (complete : Bool) → nat_le (a.last - edge a.first page.after) page.max ≡ complete → Tiled keep x.first x.last (events.over x complete count page d.reading)
+    laid complete is =
+        subst (AreTiles keep x.first x.last [] (d.reading.tiles ++ events.tile x complete (a.last + 1 - a.first) page (events.logged page d.reading) ∷ [])) (sym grown)
+        (tiles_push keep x.first x.last [] d.reading.tiles (log_of d.reading) page.results (events.tile x complete (a.last + 1 - a.first) page (events.logged page d.reading)) refl
+        (subst (IsTile keep x.first x.last (log_of d.reading) (events.tile x complete (a.last + 1 - a.first) page (events.logged page d.reading))) grown
+        (tile_end keep x complete d.reading page a some next.opened.some next.answered.kept kept.log.runs next.answered.place placed next.answered.began next.answered.first_rises next.answered.last_rises is results
+        (subst (λ ns. IsTaken a.first a.last (edge a.first page.after) (size (edge a.first page.after) a.last page.max) d.reading.broken d.reading.run
+        (broken_after page.after d.reading.broken d.reading.run ns) (run_after page.after d.reading.run ns)) (sym results) then)))
+        tiled)
+
+    chosen : (complete : Bool) → nat_le (a.last - edge a.first page.after) page.max ≡ complete → Tiled keep x.first x.last (ended x complete count page d.reading).reading
+    chosen true is = laid true is
+    chosen false is = tiled_same keep x.first x.last (events.over x false count page d.reading) (ended x false count page d.reading).reading (record { tiles = refl; broken = refl; run = refl }) (laid false is)
+
+tiled_answer : (keep : ℕ) (x : events.Around) (z : Down) (rest : List Down) (d : Device) → 1 ≤ keep → d.sessions.now.down_rest ≡ z ∷ rest → answers (z ∷ []) ≡ z ∷ [] →
+    d.sessions.online ≡ true → ReadKept keep x.first x.last d → Tiled keep x.first x.last d.reading → Tiled keep x.first x.last (events.reads x z d.reading).reading
+tiled_answer keep x z rest d some split is on kept tiled = of_next (next_answer keep x.first x.last d z rest on split is kept.page)
+  where
+    of_kind : (page : OpenPage) (a : Answer) (tail : List Down) → IsNext keep x.first x.last d page a z rest tail → Kind page a z tail → Tiled keep x.first x.last (events.reads x z d.reading).reading
+    of_kind page a tail next (AResult n more z_is numbers tail_is) =
+        let size_is = length_behind (edge a.first page.after) (size (edge a.first page.after) a.last page.max) in
+        let both = length-append page.results (n ∷ more) in
+        let whole = ap length numbers in
+        let short : length page.results < page.max = omega arith in
+        subst (λ y. Tiled keep x.first x.last (events.reads x y d.reading).reading) (sym z_is)
+        (subst (λ reaction. Tiled keep x.first x.last reaction.reading) (sym (reads_result x d.reading page a n tail next.page_is next.answer_is (next.split ∙ ap (λ y. y ∷ tail) z_is) short))
+        (tiled_same keep x.first x.last d.reading (record d.reading { page = Some (record page { results = page.results ++ n ∷ []; answer = Some (record a { rest = tail }) }) })
+        (record { tiles = refl; broken = refl; run = refl }) tiled))
+    of_kind page a tail next (AnEnd placed z_is results over) =
+        subst (λ y. Tiled keep x.first x.last (events.reads x y d.reading).reading) (sym z_is)
+        (tiled_end keep x d page a rest tail some (subst (λ y. IsNext keep x.first x.last d page a y rest tail) z_is next) placed results kept tiled)
+    of_kind page a tail next (NoPlace lost z_is results over) =
+        let place = lost_place a.first a.last d.reading.run page.after lost next.answered.place next.answered.logged in
+        subst (λ y. Tiled keep x.first x.last (events.reads x y d.reading).reading) (sym z_is)
+        (subst (λ reaction. Tiled keep x.first x.last reaction.reading) (sym (reads_restart x d.reading page place.0 next.page_is place.1))
+        (tiled_same keep x.first x.last d.reading (events.asking None page.max page.began d.reading).reading (record { tiles = refl; broken = refl; run = refl }) tiled))
+
+    of_next : Next keep x.first x.last d z rest → Tiled keep x.first x.last (events.reads x z d.reading).reading
+    of_next n = of_kind n.page n.a n.tail n.is (kind_of n.page n.a z n.tail (ap (λ l. map (Res n.page.number) n.page.results ++ l) (sym n.is.split) ∙ n.is.answered.answer))
+
+tiled_read : (keep : ℕ) (x : events.Around) (zs : List Down) (d : Device) → 1 ≤ keep → d.sessions.now.down_rest ≡ zs → d.sessions.online ≡ true → ReadKept keep x.first x.last d →
+    Tiled keep x.first x.last d.reading → Tiled keep x.first x.last (events.read x zs d).reading
+tiled_read keep x [] d some split on kept tiled = tiled
+tiled_read keep x (Accepted ∷ rest) d some split on kept tiled = tiled
+tiled_read keep x (Bounced e n ∷ rest) d some split on kept tiled = tiled
+tiled_read keep x (Live n ∷ rest) d some split on kept tiled = tiled_same keep x.first x.last d.reading (events.hold n d.reading) (record { tiles = refl; broken = refl; run = refl }) tiled
+tiled_read keep x (Res q n ∷ rest) d some split on kept tiled = tiled_answer keep x (Res q n) rest d some split refl on kept tiled
+tiled_read keep x (Fin q c l t ∷ rest) d some split on kept tiled = tiled_answer keep x (Fin q c l t) rest d some split refl on kept tiled
+tiled_read keep x (NotFound q ∷ rest) d some split on kept tiled = tiled_answer keep x (NotFound q) rest d some split refl on kept tiled
+
+tiled_own : (keep : ℕ) (a : events.Around) (act : events.Act) (d : Device) → 1 ≤ keep → events.May act d → ReadKept keep a.first a.last d → Tiled keep a.first a.last d.reading →
+    Tiled keep a.first a.last (events.own a act d).reading
+tiled_own keep a act d some may kept tiled = by_act act may
+  where
+    others : (x : events.Act) → x ≢ events.Act.ClientHandles → Tiled keep a.first a.last (events.own a x d).reading
+    others x other = tiled_same keep a.first a.last d.reading (events.own a x d).reading (same_own a x d other) tiled
+
+    by_act : (x : events.Act) → events.May x d → Tiled keep a.first a.last (events.own a x d).reading
+    by_act events.Act.ClientHandles m = tiled_read keep a d.sessions.now.down_rest d some refl m.0 kept tiled
+    by_act events.Act.Bind m = others events.Act.Bind (λ e. let bad : ⊥ = cc in bad)
+    by_act (events.Act.ReadBound live) m = others (events.Act.ReadBound live) (λ e. let bad : ⊥ = cc in bad)
+    by_act events.Act.Enable m = others events.Act.Enable (λ e. let bad : ⊥ = cc in bad)
+    by_act events.Act.ReadEnabled m = others events.Act.ReadEnabled (λ e. let bad : ⊥ = cc in bad)
+    by_act events.Act.End m = others events.Act.End (λ e. let bad : ⊥ = cc in bad)
+    by_act events.Act.Drop m = others events.Act.Drop (λ e. let bad : ⊥ = cc in bad)
+    by_act (events.Act.Acknowledge n) m = others (events.Act.Acknowledge n) (λ e. let bad : ⊥ = cc in bad)
+    by_act (events.Act.Say to text private) m = others (events.Act.Say to text private) (λ e. let bad : ⊥ = cc in bad)
+    by_act (events.Act.CatchUp max) m = others (events.Act.CatchUp max) (λ e. let bad : ⊥ = cc in bad)
+    by_act (events.Act.ServerHandles fits full) m = others (events.Act.ServerHandles fits full) (λ e. let bad : ⊥ = cc in bad)
+
+abbrev pub TiledAt : ℕ → List Take → Device → Type 0
+TiledAt keep takes d = Tiled keep (first_of keep (last_of takes d.account)) (last_of takes d.account) d.reading
+
+tiled_becomes : (w : World) (new : List Take) (i : ℕ) (act : events.Act) (own : Device) (j : ℕ) (d : Device) → 1 ≤ w.keep →
+    slice_get w.devices i ≡ Some own → events.May act own → slice_get w.devices j ≡ Some d → ReadAt w.keep w.takes d → TiledAt w.keep w.takes d →
+    TiledAt w.keep (w.takes ++ new) (events.becomes w new i act j d)
+tiled_becomes w new i act own j d some at may here kept tiled =
+    at_place (j == i) _ _ (λ e. TiledAt w.keep (w.takes ++ new) (events.hear_all (w.takes ++ new) (events.full_of act) new j e))
+    (λ is.
+    let j_is_i = same_place j i is in
+    let same : own ≡ d = (let g : slice_get w.devices j ≡ slice_get w.devices i = ap (slice_get w.devices) j_is_i in cc) in
+    let acted = events.own (events.around w d) act d in
+    heard acted (subst (λ a. Tiled w.keep (first_of w.keep (last_of w.takes a)) (last_of w.takes a) acted.reading) (sym (account_own (events.around w d) act d))
+    (tiled_own w.keep (events.around w d) act d some (subst (events.May act) same may) kept tiled)))
+    (λ _. heard d tiled)
+  where
+    heard : (e : Device) → TiledAt w.keep w.takes e → TiledAt w.keep (w.takes ++ new) (events.hear_all (w.takes ++ new) (events.full_of act) new j e)
+    heard e was =
+        let grows = last_grows w.takes new e.account in
+        let last = last_of (w.takes ++ new) e.account in
+        subst (λ a. Tiled w.keep (first_of w.keep (last_of (w.takes ++ new) a)) (last_of (w.takes ++ new) a) (events.hear_all (w.takes ++ new) (events.full_of act) new j e).reading)
+        (sym (account_hear_all (w.takes ++ new) (events.full_of act) new j e))
+        (subst (Tiled w.keep (first_of w.keep last) last) (sym (same_hear_all (w.takes ++ new) (events.full_of act) new j e))
+        (tiles_grow w.keep _ _ (first_of w.keep last) last [] e.reading.tiles (log_of e.reading) (omega arith) (omega arith) was))
+
+AllTiled : World → Type 0
+AllTiled w = (i : ℕ) (d : Device) → slice_get w.devices i ≡ Some d → TiledAt w.keep w.takes d
+
+tiled_moves : (event : events.Event) (w next : World) → events.Moves event w next → PagesKept w → AllTiled w → AllTiled next
+unfolding AllTiled
+tiled_moves (Tick ms) w next is kept tiled = subst AllTiled (sym is) (λ i d at. tiled i d at)
+tiled_moves (At i act) w next is kept tiled = subst AllTiled (sym is.3) (λ j e here.
+    let new = events.taken_by w.accounts w.clock i is.0 act in
+    let before = was_device (events.becomes w new i act) w.devices j e here in
+    subst (TiledAt w.keep (w.takes ++ new)) (sym before.2)
+    (tiled_becomes w new i act is.0 j before.0 kept.some is.1 is.2 before.1 (kept.devices j before.0 before.1) (tiled j before.0 before.1)))
+
+tiled_along : (all : List events.Event) (w last : World) → events.Reaches all w last → Taken w → PagesKept w → AllTiled w → AllTiled last
+tiled_along [] w last is taken kept tiled = subst AllTiled (sym is) tiled
+tiled_along (event ∷ all) w last reaches taken kept tiled =
+    tiled_along all reaches.0 last reaches.2 (taken_moves event w reaches.0 reaches.1 taken) (pages_moves event w reaches.0 reaches.1 taken kept) (tiled_moves event w reaches.0 reaches.1 kept tiled)
+
+-- A6 to A9 hold in each world that is reached
+pub read_reached : (w : World) → events.Reached w → Read w
+unfolding AllTiled
+read_reached w reached =
+    let begins = events.beginning reached.keep reached.accounts reached.homes in
+    let pages = pages_reached w reached in
+    let tiled = tiled_along reached.events begins w reached.reaches (taken_beginning reached.keep reached.accounts reached.homes) (pages_beginning reached.keep reached.some reached.accounts reached.homes)
+    (λ i d at. one_of (λ j e. TiledAt reached.keep [] e) reached.homes i d (λ account. refl) at) in
+    record {
+      keep = pages.some;
+      devices = λ i d at. let p = pages.devices i d at in record { page = p.page; log = p.log; tiles = tiled i d at };
+    }
