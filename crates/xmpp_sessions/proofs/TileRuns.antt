@@ -88,7 +88,7 @@ tiled_end keep x d page a rest tail some next placed results kept tiled =
         subst (AreTiles keep x.first x.last [] (d.reading.tiles ++ events.tile x complete (a.last + 1 - a.first) page (events.logged page d.reading) ∷ [])) (sym grown)
         (tiles_push keep x.first x.last [] d.reading.tiles (log_of d.reading) page.results (events.tile x complete (a.last + 1 - a.first) page (events.logged page d.reading)) refl
         (subst (IsTile keep x.first x.last (log_of d.reading) (events.tile x complete (a.last + 1 - a.first) page (events.logged page d.reading))) grown
-        (tile_end keep x complete d.reading page a some next.opened.some next.answered.kept kept.log.runs next.answered.place placed next.answered.began next.answered.first_rises next.answered.last_rises is results
+        (tile_end keep x complete d.reading page a some next.opened.some next.answered.kept next.answer_is grown kept.log.runs next.answered.place placed next.answered.began next.answered.first_rises next.answered.last_rises is results
         (subst (λ ns. IsTaken a.first a.last (edge a.first page.after) (size (edge a.first page.after) a.last page.max) d.reading.broken d.reading.run
         (broken_after page.after d.reading.broken d.reading.run ns) (run_after page.after d.reading.run ns)) (sym results) then)))
         tiled)

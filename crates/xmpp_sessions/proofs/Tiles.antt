@@ -1,7 +1,8 @@
 -- A8: the pages cut the log.
-use Rattle.std.proofs.Common.{◌≡◌, ℕ, suc, zero, ◌+◌, ◌-◌, ◌≤◌, Bool, true, false, cond, List, [], ◌∷◌, ◌++◌, Some, None, length, take, drop, refl, sym, ap, ◌∙◌, subst, arith, append_assoc, inl, inr, ◌⊎◌, take_all, take-append-drop}
+use Rattle.std.proofs.Common.{◌≡◌, ℕ, suc, zero, ◌+◌, ◌-◌, ◌<◌, ◌≤◌, Bool, true, false, cond, List, [], ◌∷◌, ◌++◌, Option, Some, None, length, take, drop, refl, sym, ap, ◌∙◌, subst, arith, append_assoc, inl, inr, ◌⊎◌, take_all, take-append-drop}
 use Rattle.std.specs.List.{slice_get, flat_map}
-use Rattle.std.specs.Prelude.{nat_le}
+use Rattle.std.specs.Option.{option_map_or}
+use Rattle.std.specs.Prelude.{◌&&◌, nat_le}
 use Rattle.std.proofs.lemmas.Bool.{leb-true, leb-false}
 use Rattle.std.proofs.lemmas.List.{append-nil, length-append, drop-append-le, take-append-le}
 use Rattle.xmpp_sessions.specs.Devices.{Reading, OpenPage, Answer, Tile, first_of, log_of}
@@ -10,13 +11,19 @@ use Rattle.xmpp_sessions.specs.Events.{number_or_none}
 use Rattle.xmpp_sessions.specs.Events as events
 use Rattle.xmpp_sessions.specs.Kept.{IsTile, IsTotal, AreTiles, AreLogged, IsPlace}
 use Rattle.xmpp_sessions.proofs.Intervals.{length_behind, behind_append}
-use Rattle.xmpp_sessions.proofs.Logs.{IsTaken, broken_after, run_after, last_of_run}
+use Rattle.xmpp_sessions.proofs.Logs.{IsTaken, broken_after, run_after, last_of_run, number_of_run}
 
 -- bounds rise
 tile_grows : (keep first last first2 last2 : ℕ) (before : List ℕ) (t : Tile) (log : List ℕ) → first ≤ first2 → last ≤ last2 → IsTile keep first last before t log → IsTile keep first2 last2 before t log
 tile_grows keep first last first2 last2 before t log low high kept = record {
   place = kept.place;
+  behind_kept = kept.behind_kept;
+  numbers = kept.numbers;
+  logged = kept.logged;
   total = kept.total;
+  began = kept.began;
+  kept = kept.kept;
+  to = kept.to;
   first_rises = let b = kept.first_rises in omega arith;
   last_rises = let b = kept.last_rises in omega arith;
 }
@@ -107,19 +114,44 @@ row_of afirst alast broken (n ∷ run) total known number some sum =
       omega arith,
     )
 
+-- where the log isn't empty and its last number was purged, a page from the first entry on has one
+some_results : (keep afirst alast most : ℕ) (broken : List (List ℕ)) (run : List ℕ) (after : Option ℕ) (first last : ℕ) → 1 ≤ keep → 1 ≤ most → afirst ≡ first_of keep alast →
+    AreLogged first last broken run → after ≡ None → number_or_none (last_in run) < afirst →
+    (after ≡ last_in (flat_map (λ r. r) broken ++ run)) ⊎ (1 ≤ size (edge afirst after) alast most)
+some_results keep afirst alast most broken [] after first last some many begun known none low =
+    inl (none ∙ sym (last_of_log first last broken [] known))
+some_results keep afirst alast most broken (n ∷ run) after first last some many begun known none low =
+    let top = ap number_or_none (last_of_run known.from n run known.is_run) in
+    let at : edge afirst after ≡ afirst - 1 = ap (edge afirst) none in
+    inr (omega arith)
+
+first_true : (b c : Bool) → (b && c) ≡ true → b ≡ true
+first_true true c e = refl
+first_true false c e = absurd (let bad : ⊥ = cc in bad)
+
 -- A8: the tile that the end of a page lays
 pub tile_end : (keep : ℕ) (x : events.Around) (complete : Bool) (b : Reading) (page : OpenPage) (a : Answer) → 1 ≤ keep → 1 ≤ page.max → a.first ≡ first_of keep a.last →
+    page.answer ≡ Some a → log_of (events.logged page b) ≡ log_of b ++ page.results →
     AreLogged x.first x.last b.broken b.run → IsPlace a.first b.run page.after → is_place a.first a.last page.after ≡ true → page.began ≤ a.last → a.first ≤ x.first → a.last ≤ x.last →
     nat_le (a.last - edge a.first page.after) page.max ≡ complete → page.results ≡ behind (edge a.first page.after) (size (edge a.first page.after) a.last page.max) →
     IsTaken a.first a.last (edge a.first page.after) (size (edge a.first page.after) a.last page.max) b.broken b.run
     (broken_after page.after b.broken b.run page.results) (run_after page.after b.run page.results) →
     IsTile keep x.first x.last (log_of b) (events.tile x complete (a.last + 1 - a.first) page (events.logged page b)) (log_of (events.logged page b))
-tile_end keep x complete b page a some most begun known place placed began first last is results then = record {
+tile_end keep x complete b page a some most begun answer grown known place placed began first last is results then = record {
   place = elim place.behind [
     | inl e ↦ inl (e ∙ sym (last_of_log x.first x.last b.broken b.run known))
-    | inr e ↦ inr (e.0, λ _. let log = ap number_or_none (last_of_log x.first x.last b.broken b.run known) in let low = e.1 in omega arith)
+    | inr e ↦ elim (some_results keep a.first a.last page.max b.broken b.run page.after x.first x.last some most begun known e.0 e.1) [
+      | inl same ↦ inl same
+      | inr many ↦ inr (e.0, let c = count_is in omega arith, let log = ap number_or_none (last_of_log x.first x.last b.broken b.run known) in let low = e.1 in let k = kept_is in omega arith)
+    ]
   ];
+  behind_kept = λ n e. let k = kept_is in let low = placed_kept n e in omega arith;
+  numbers = grown ∙ ap (λ l. log_of b ++ l) (results ∙ ap (behind (edge a.first page.after)) (sym count_is) ∙ ap (λ f. behind (edge f page.after) (length page.results)) (sym kept_is));
+  logged = logged_number a.first a.last broken2 run2 then.logged;
   total = totals complete is;
+  began = let k = kept_is in omega arith;
+  kept = let k = kept_is in omega arith;
+  to = let top = number_of_run then.logged.from run2 then.logged.is_run in let through = then.logged.through in omega arith;
   first_rises = omega arith;
   last_rises = omega arith;
 }
@@ -129,6 +161,15 @@ tile_end keep x complete b page a some most begun known place placed began first
 
     run2 : List ℕ
     run2 = run_after page.after b.run page.results
+
+    kept_is : option_map_or (λ (y : Answer). y.first) page.answer x.first ≡ a.first
+    kept_is = ap (λ o. option_map_or (λ (y : Answer). y.first) o x.first) answer
+
+    count_is : length page.results ≡ size (edge a.first page.after) a.last page.max
+    count_is = ap length results ∙ length_behind (edge a.first page.after) (size (edge a.first page.after) a.last page.max)
+
+    placed_kept : (n : ℕ) → page.after ≡ Some n → a.first ≤ n
+    placed_kept n e = leb-true a.first n (first_true (nat_le a.first n) (nat_le n a.last) (ap (is_place a.first a.last) (sym e) ∙ placed))
 
     low : ℕ
     low = edge a.first page.after
@@ -149,9 +190,7 @@ tile_end keep x complete b page a some most begun known place placed began first
         let is_last : number_or_none (last_in (run_after page.after b.run page.results)) ≡ a.last = number (omega arith) in
         let row = row_of a.first a.last (broken_after page.after b.broken b.run page.results) (run_after page.after b.run page.results) (a.last + 1 - a.first) then.logged is_last (omega arith) (omega arith) in
         record {
-          logged = logged_number a.first a.last (broken_after page.after b.broken b.run page.results) (run_after page.after b.run page.results) then.logged;
           from = omega arith;
-          to = omega arith;
           count = omega arith;
           consecutive = (row.0, row.1, row.2, row.3 ∙ sym is_last);
         }

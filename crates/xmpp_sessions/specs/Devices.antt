@@ -52,13 +52,14 @@ pub record OpenPage : Type 0 where
   pub began : ℕ
   pub answer : Option Answer
 
--- a page that was taken over, with the archive's last number when it was asked for, the archive's first and last when
--- it was over, and the log's last number behind it
+-- a page that was taken over, with the archive's last number when it was asked for, its first when it was answered, its
+-- first and last when the page was over, and the log's last number behind it
 pub record Tile : Type 0 where
   pub after : Option ℕ
   pub count : ℕ
   pub total : Option ℕ
   pub began : ℕ
+  pub kept : ℕ
   pub first : ℕ
   pub last : ℕ
   pub logged : ℕ

@@ -205,6 +205,7 @@ tile a complete count page b = record {
   count = length page.results;
   total = if complete then Some count else None;
   began = page.began;
+  kept = option_map_or (λ answer. answer.first) page.answer a.first;
   first = a.first;
   last = a.last;
   logged = number_or_none (last_in b.run);

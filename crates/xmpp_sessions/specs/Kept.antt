@@ -6,7 +6,7 @@ use Rattle.xmpp_sessions.specs.Stanzas.Down.{Res}
 use Rattle.xmpp_sessions.specs.Devices.{Session, Sessions, up_put, Device, OpenPage, Answer, Tile, Made, Take, World, epoch_of, log_of, last_of, first_of}
 use Rattle.xmpp_sessions.specs.Devices.Stage.{Named, Known}
 use Rattle.xmpp_sessions.specs.Devices.Row.{Present}
-use Rattle.xmpp_sessions.specs.Answers.{behind, last_in, answer_of}
+use Rattle.xmpp_sessions.specs.Answers.{behind, last_in, answer_of, edge}
 use Rattle.xmpp_sessions.specs.Events.{is_among, is_number_among, number_or_none}
 
 -- A1. No more is acknowledged than was handled. Nothing comes down before the server counts, nothing goes up before
@@ -165,10 +165,9 @@ pub record LogKept (first last : ℕ) (d : Device) : Type 0 where
 
 -- A8. The pages cut the log.
 
+-- the last so many numbers of the log are consecutive, as many as the archive kept up to the last one
 pub record IsComplete (keep : ℕ) (t : Tile) (log : List ℕ) (total : ℕ) : Type 0 where
-  pub logged : last_in log ≡ Some t.logged ⊎ ((log ≡ []) × (t.logged ≡ 0))
   pub from : t.began ≤ t.logged
-  pub to : t.logged ≤ t.last
   pub count : total ≡ min t.logged keep
   pub consecutive : (older : List ℕ) × (low : ℕ) × (log ≡ older ++ behind low total) × (low + total ≡ t.logged)
 
@@ -176,9 +175,17 @@ abbrev pub IsTotal : ℕ → Tile → List ℕ → Option ℕ → Type 0
 IsTotal keep t log None = 1 ≤ t.count
 IsTotal keep t log (Some total) = IsComplete keep t log total
 
+-- A page was asked for behind the log's last number, which was kept when it was answered; or from the archive's first
+-- entry on, and then that number was purged. It brought the numbers from there on.
 pub record IsTile (keep first last : ℕ) (before : List ℕ) (t : Tile) (log : List ℕ) : Type 0 where
-  pub place : (t.after ≡ last_in before) ⊎ ((t.after ≡ None) × (1 ≤ t.count → number_or_none (last_in before) < t.first))
+  pub place : (t.after ≡ last_in before) ⊎ ((t.after ≡ None) × (1 ≤ t.count) × (number_or_none (last_in before) < t.kept))
+  pub behind_kept : (n : ℕ) → t.after ≡ Some n → t.kept ≤ n
+  pub numbers : log ≡ before ++ behind (edge t.kept t.after) t.count
+  pub logged : (last_in log ≡ Some t.logged) ⊎ ((log ≡ []) × (t.logged ≡ 0))
   pub total : IsTotal keep t log t.total
+  pub began : first_of keep t.began ≤ t.kept
+  pub kept : t.kept ≤ t.first
+  pub to : t.logged ≤ t.last
   pub first_rises : t.first ≤ first
   pub last_rises : t.last ≤ last
 
