@@ -64,7 +64,7 @@ pushed (x ∷ ts) t u (suc k) at = elim (pushed ts t u k at) [ inl was ↦ inl w
 laid : (l n last : ℕ) (x : events.Around) (complete : Bool) (count : ℕ) (b : Reading) (p : OpenPage) → b.page ≡ Some p → Seen l n last b → Seen l n last (events.over x complete count p b)
 laid l n last x complete count b p is seen = record {
   low = seen.low;
-  tiles = λ k t at late. elim (pushed b.tiles (events.tile x complete count p (events.logged p b)) t k at) [
+  tiles = λ k t at late. elim (pushed b.tiles (events.tile x complete count p) t k at) [
     | inl was ↦ seen.tiles k t was late
     | inr new ↦ let began : p.began ≡ t.began = ap (λ u. u.began) new.0 in let place = new.1 in let old = seen.page p is (omega arith) in omega arith
   ];

@@ -52,17 +52,17 @@ pub record OpenPage : Type 0 where
   pub began : ℕ
   pub answer : Option Answer
 
--- a page that was taken over, with the archive's last number when it was asked for, its first when it was answered, its
--- first and last when the page was over, and the log's last number behind it
+-- a page that was taken over: its place, how many entries were asked for and how many came, and of the last page of a
+-- catch-up how many the archive kept then; and the archive's last number when the page was asked for, when it was
+-- answered and when it was over
 pub record Tile : Type 0 where
   pub after : Option ℕ
+  pub most : ℕ
   pub count : ℕ
   pub total : Option ℕ
   pub began : ℕ
-  pub kept : ℕ
-  pub first : ℕ
+  pub given : ℕ
   pub last : ℕ
-  pub logged : ℕ
 
 -- an answer that was given: in which epoch, to which request, and how many takes there were then
 pub record Made : Type 0 where

@@ -199,20 +199,19 @@ logged page b = record b {
   held = filter (λ h. not (is_number_among h page.results)) b.held;
 }
 
-abbrev pub tile : Around → Bool → ℕ → OpenPage → Reading → Tile
-tile a complete count page b = record {
+abbrev pub tile : Around → Bool → ℕ → OpenPage → Tile
+tile a complete count page = record {
   after = page.after;
+  most = page.max;
   count = length page.results;
   total = if complete then Some count else None;
   began = page.began;
-  kept = option_map_or (λ answer. answer.first) page.answer a.first;
-  first = a.first;
+  given = option_map_or (λ answer. answer.last) page.answer a.last;
   last = a.last;
-  logged = number_or_none (last_in b.run);
 }
 
 abbrev pub over : Around → Bool → ℕ → OpenPage → Reading → Reading
-over a complete count page b = record (logged page b) { tiles = b.tiles ++ tile a complete count page (logged page b) ∷ [] }
+over a complete count page b = record (logged page b) { tiles = b.tiles ++ tile a complete count page ∷ [] }
 
 abbrev pub fin : Around → ℕ → Bool → Option ℕ → ℕ → OpenPage → Reading → Reaction
 fin a q complete last count page b =

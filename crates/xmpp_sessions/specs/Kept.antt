@@ -1,12 +1,12 @@
 -- What every event keeps.
-use Rattle.std.specs.Prelude.{◌≡◌, ℕ, suc, ◌+◌, ◌<◌, ◌≤◌, ◌≢◌, ◌⊎◌, ◌==◌, min, Bool, true, false, List, [], ◌∷◌, ◌++◌, Option, Some, None, length, take, drop, map, filter, slice_get}
+use Rattle.std.specs.Prelude.{◌≡◌, ℕ, suc, ◌+◌, ◌<◌, ◌≤◌, ◌≢◌, ◌⊎◌, ◌==◌, ◌-◌, min, max, nat_le, if◌then◌else◌, Bool, true, false, List, [], ◌∷◌, ◌++◌, Option, Some, None, length, drop, map, filter, slice_get}
 use Rattle.std.specs.List.{AllByRecursion, flat_map}
 use Rattle.xmpp_sessions.specs.Stanzas.{Submission, Request, messages, requests, answers, lives}
 use Rattle.xmpp_sessions.specs.Stanzas.Down.{Res}
-use Rattle.xmpp_sessions.specs.Devices.{Session, Sessions, up_put, Device, OpenPage, Answer, Tile, Made, Take, World, epoch_of, log_of, last_of, first_of}
+use Rattle.xmpp_sessions.specs.Devices.{Session, Sessions, up_put, Reading, Device, OpenPage, Answer, Tile, Made, Take, World, epoch_of, log_of, last_of, first_of}
 use Rattle.xmpp_sessions.specs.Devices.Stage.{Named, Known}
 use Rattle.xmpp_sessions.specs.Devices.Row.{Present}
-use Rattle.xmpp_sessions.specs.Answers.{behind, last_in, answer_of, edge}
+use Rattle.xmpp_sessions.specs.Answers.{behind, last_in, answer_of}
 use Rattle.xmpp_sessions.specs.Events.{is_among, is_number_among, number_or_none}
 
 -- A1. No more is acknowledged than was handled. Nothing comes down before the server counts, nothing goes up before
@@ -165,36 +165,51 @@ pub record LogKept (first last : ℕ) (d : Device) : Type 0 where
 
 -- A8. The pages cut the log.
 
--- the last so many numbers of the log are consecutive, as many as the archive kept up to the last one
-pub record IsComplete (keep : ℕ) (t : Tile) (log : List ℕ) (total : ℕ) : Type 0 where
-  pub from : t.began ≤ t.logged
-  pub count : total ≡ min t.logged keep
-  pub consecutive : (older : List ℕ) × (low : ℕ) × (log ≡ older ++ behind low total) × (low + total ≡ t.logged)
+-- behind a log whose last number is n, a page has the numbers behind this one: the archive had given so many numbers
+-- and kept the newest of them
+abbrev pub start_of : ℕ → ℕ → Tile → ℕ
+start_of keep n t = max n (t.given - keep)
 
-abbrev pub IsTotal : ℕ → Tile → List ℕ → Option ℕ → Type 0
-IsTotal keep t log None = 1 ≤ t.count
-IsTotal keep t log (Some total) = IsComplete keep t log total
+-- to this one
+abbrev pub end_of : ℕ → ℕ → Tile → ℕ
+end_of keep n t = min (start_of keep n t + t.most) t.given
 
--- A page was asked for behind the log's last number, which was kept when it was answered; or from the archive's first
--- entry on, and then that number was purged. It brought the numbers from there on.
-pub record IsTile (keep first last : ℕ) (before : List ℕ) (t : Tile) (log : List ℕ) : Type 0 where
-  pub place : (t.after ≡ last_in before) ⊎ ((t.after ≡ None) × (1 ≤ t.count) × (number_or_none (last_in before) < t.kept))
-  pub behind_kept : (n : ℕ) → t.after ≡ Some n → t.kept ≤ n
-  pub numbers : log ≡ before ++ behind (edge t.kept t.after) t.count
-  pub logged : (last_in log ≡ Some t.logged) ⊎ ((log ≡ []) × (t.logged ≡ 0))
-  pub total : IsTotal keep t log t.total
-  pub began : first_of keep t.began ≤ t.kept
-  pub kept : t.kept ≤ t.first
-  pub to : t.logged ≤ t.last
-  pub first_rises : t.first ≤ first
-  pub last_rises : t.last ≤ last
+-- the numbers that the pages have
+abbrev pub numbers_by : ℕ → ℕ → List Tile → List ℕ
+numbers_by keep n [] = []
+numbers_by keep n (t ∷ ts) =
+    behind (start_of keep n t) (end_of keep n t - start_of keep n t) ++ numbers_by keep (end_of keep n t) ts
 
-abbrev pub AreTiles : ℕ → ℕ → ℕ → List ℕ → List Tile → List ℕ → Type 0
-AreTiles keep first last before [] rest = rest ≡ []
-AreTiles keep first last before (t ∷ ts) rest =
-    (t.count ≤ length rest)
-    × IsTile keep first last before t (before ++ take t.count rest)
-    × AreTiles keep first last (before ++ take t.count rest) ts (drop t.count rest)
+-- the last number behind them
+abbrev pub ends_at : ℕ → ℕ → List Tile → ℕ
+ends_at keep n [] = n
+ends_at keep n (t ∷ ts) = ends_at keep (end_of keep n t) ts
+
+-- The page behind number n, of an archive that had given a number when it was asked for: without a place where n was
+-- purged when it was answered, and complete where it reached the archive's last number.
+pub record IsTile (keep n low : ℕ) (t : Tile) : Type 0 where
+  pub after : t.after ≡ (if nat_le n (t.given - keep) then None else Some n)
+  pub count : t.count ≡ end_of keep n t - start_of keep n t
+  pub total : t.total ≡ (if nat_le (t.given - start_of keep n t) t.most then Some (min t.given keep) else None)
+  pub some : 1 ≤ t.most
+  pub asked : low ≤ t.began
+  pub answered : t.began ≤ t.given
+  pub over : t.given ≤ t.last
+
+-- one page after the other
+abbrev pub AreTiles : ℕ → ℕ → ℕ → ℕ → List Tile → Type 0
+AreTiles keep n low high [] = low ≤ high
+AreTiles keep n low high (t ∷ ts) = IsTile keep n low t × AreTiles keep (end_of keep n t) t.last high ts
+
+-- the archive's last number when the last of the pages was over
+abbrev pub top_of : ℕ → List Tile → ℕ
+top_of low [] = low
+top_of low (t ∷ ts) = top_of t.last ts
+
+pub record TilesKept (keep last : ℕ) (b : Reading) : Type 0 where
+  pub tiles : AreTiles keep 0 0 last b.tiles
+  pub numbers : log_of b ≡ numbers_by keep 0 b.tiles
+  pub page : (p : OpenPage) → b.page ≡ Some p → top_of 0 b.tiles ≤ p.began
 
 -- A1 to A5 and A10, which are kept alone: of a device, and of the world.
 pub record DeviceTaken (w : World) (i : ℕ) (d : Device) : Type 0 where
@@ -210,7 +225,7 @@ pub record Taken (w : World) : Type 0 where
 pub record DeviceRead (keep first last : ℕ) (d : Device) : Type 0 where
   pub page : PageKept keep first last d
   pub log : LogKept first last d
-  pub tiles : AreTiles keep first last [] d.reading.tiles (log_of d.reading)
+  pub tiles : TilesKept keep last d.reading
 
 pub record Read (w : World) : Type 0 where
   pub keep : 1 ≤ w.keep
