@@ -1,20 +1,20 @@
 -- A1 to A5 and A10 along every run.
-use Rattle.std.proofs.Common.{◌≡◌, ℕ, suc, zero, ◌≤◌, ◌==◌, Bool, true, false, cond, List, [], ◌∷◌, ◌++◌, Some, length, refl, sym, ap, subst, arith}
+use Rattle.std.proofs.Common.{◌≡◌, ℕ, suc, zero, ◌<◌, ◌≤◌, ◌==◌, Bool, true, false, cond, List, [], ◌∷◌, ◌++◌, Some, length, refl, sym, ap, subst, arith}
 use Rattle.std.proofs.lemmas.List.{length-append, length_push}
 use Rattle.std.proofs.Math.Seq.{drop-append_seam}
-use Rattle.std.proofs.lemmas.Option.{same_Some}
+use Rattle.std.proofs.lemmas.Option.{same_Some, slice_get_within}
 use Rattle.std.specs.List.{filter, AllByRecursion, slice_get}
 use Rattle.xmpp_sessions.specs.Stanzas.{Up}
 use Rattle.xmpp_sessions.specs.Stanzas.Up.{Carbons, Presence, Message, Query}
 use Rattle.xmpp_sessions.specs.Devices.{Device, Take, Made, World, epoch_of, new_device}
 use Rattle.xmpp_sessions.specs.Events as events
 use Rattle.xmpp_sessions.specs.Events.Event.{At, Tick}
-use Rattle.xmpp_sessions.specs.Kept.{is_of, SessionsKept, IsSettledAt, MadeKept, DeviceTaken, Taken}
+use Rattle.xmpp_sessions.specs.Kept.{IsOfDevice, is_of, SessionsKept, IsSettledAt, MadeKept, DeviceTaken, Taken}
 use Rattle.xmpp_sessions.proofs.Lists.{all_append, all_weaker}
 use Rattle.xmpp_sessions.proofs.Takes.{is_of_taken}
 use Rattle.xmpp_sessions.proofs.Archives.{taken_epoch, takes_becomes, moments_more, moments_tick, taken_now, settled_all}
 use Rattle.xmpp_sessions.proofs.SessionSteps.{fresh_session}
-use Rattle.xmpp_sessions.proofs.Worlds.{same_place, at_place, was_device, sessions_becomes}
+use Rattle.xmpp_sessions.proofs.Worlds.{length_each, same_place, at_place, was_device, sessions_becomes}
 
 -- A10 where the device acts, and where it hears
 
@@ -114,10 +114,38 @@ made_becomes w i act own j d at here sessions kept =
         subst (λ e. AllByRecursion (λ t. epoch_of d.sessions ≤ t.said.epoch) (events.taken_by w.accounts w.clock i e act)) same
         (all_weaker (λ t. t.said.epoch ≡ epoch_of d.sessions) (λ t. epoch_of d.sessions ≤ t.said.epoch) _ (λ t is. omega arith) (taken_epoch w.accounts w.clock i act d sessions))
 
+-- Each take is of a device, and of a message to an account that exists.
+
+placed_taking : (accounts : List (List ℕ)) (many moment i : ℕ) (account : List ℕ) (zs : List Up) → i < many → AllByRecursion (IsOfDevice accounts many) (events.taking accounts moment i account zs)
+placed_taking accounts many moment i account [] within = tt
+placed_taking accounts many moment i account (Carbons ∷ zs) within = tt
+placed_taking accounts many moment i account (Presence ∷ zs) within = tt
+placed_taking accounts many moment i account (Query r ∷ zs) within = tt
+placed_taking accounts many moment i account (Message m ∷ zs) within = chosen (events.is_among m.to accounts) refl
+  where
+    chosen : (b : Bool) → events.is_among m.to accounts ≡ b →
+        AllByRecursion (IsOfDevice accounts many) (cond b (record { device = i; account = account; said = m; moment = moment } ∷ []) [])
+    chosen true exists = (record { device = within; exists = exists }, tt)
+    chosen false exists = tt
+
+placed_by : (accounts : List (List ℕ)) (many moment i : ℕ) (act : events.Act) (d : Device) → i < many → AllByRecursion (IsOfDevice accounts many) (events.taken_by accounts moment i d act)
+placed_by accounts many moment i events.Act.Bind d within = tt
+placed_by accounts many moment i (events.Act.ReadBound live) d within = tt
+placed_by accounts many moment i events.Act.Enable d within = tt
+placed_by accounts many moment i events.Act.ReadEnabled d within = tt
+placed_by accounts many moment i events.Act.End d within = tt
+placed_by accounts many moment i events.Act.Drop d within = tt
+placed_by accounts many moment i (events.Act.Acknowledge n) d within = tt
+placed_by accounts many moment i (events.Act.Say to text private) d within = tt
+placed_by accounts many moment i (events.Act.CatchUp max) d within = tt
+placed_by accounts many moment i (events.Act.ServerHandles fits full) d within = placed_taking accounts many moment i d.account d.sessions.now.up_rest within
+placed_by accounts many moment i events.Act.ClientHandles d within = tt
+
 -- One event.
 
 taken_tick : (w : World) (ms : ℕ) → Taken w → Taken (events.after w (Tick ms))
 taken_tick w ms kept = record {
+  placed = kept.placed;
   moments = moments_tick 0 w.clock ms w.takes kept.moments;
   devices = λ i d at. let was = kept.devices i d at in record { sessions = was.sessions; takes = was.takes; made = was.made };
 }
@@ -126,6 +154,9 @@ taken_acted : (w : World) (i : ℕ) (act : events.Act) (own : Device) → slice_
 taken_acted w i act own at may kept =
     let new = events.taken_by w.accounts w.clock i own act in
     record {
+      placed = subst (λ many. AllByRecursion (IsOfDevice w.accounts many) (w.takes ++ new)) (sym (length_each 0 (events.becomes w new i act) w.devices))
+          (all_append (IsOfDevice w.accounts (length w.devices)) w.takes new kept.placed
+          (placed_by w.accounts (length w.devices) w.clock i act own (slice_get_within w.devices i own at)));
       moments = moments_more 0 w.clock w.takes new (taken_now w.accounts w.clock i act own) kept.moments;
       devices = λ j e here.
           let before = was_device (events.becomes w new i act) w.devices j e here in
@@ -166,6 +197,7 @@ one_of P (home ∷ homes) (suc i) d new at = one_of (λ j e. P (suc j) e) homes 
 
 pub taken_beginning : (keep : ℕ) (accounts homes : List (List ℕ)) → Taken (events.beginning keep accounts homes)
 taken_beginning keep accounts homes = record {
+  placed = tt;
   moments = omega arith;
   devices = λ i d at. one_of (DeviceTaken (events.beginning keep accounts homes)) homes i d (λ account. new_taken keep accounts homes i account) at;
 }

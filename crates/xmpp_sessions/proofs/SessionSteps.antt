@@ -37,6 +37,7 @@ fresh_session e = record {
     up_got = λ _. refl;
     up_rest = λ _. refl;
   };
+  zero = λ _. refl;
   numbers = tt;
 }
 
@@ -84,13 +85,14 @@ kept_acknowledged n s high kept =
           up_got = was.up_got;
           up_rest = was.up_rest;
         };
+        zero = kept.now.zero;
         numbers = kept.now.numbers;
       };
       n = kept.n;
     }
 
-kept_counts : (s : Sessions) → s.now.stage ≡ Named → SessionsKept s → SessionsKept (events.counts s)
-kept_counts s named kept =
+kept_counts : (s : Sessions) → s.row ≡ Present → s.now.stage ≡ Named → SessionsKept s → SessionsKept (events.counts s)
+kept_counts s row named kept =
     let was = kept.now.is_session in
     let unknown : s.now.stage ≢ Known = λ e. let no : ⊥ = cc in no in
     record {
@@ -106,6 +108,7 @@ kept_counts s named kept =
           up_got = λ _. was.up_got unknown;
           up_rest = λ _. was.up_rest unknown;
         };
+        zero = λ none. absurd (let above = kept.epochs.present row in omega arith);
         numbers = kept.now.numbers;
       };
       n = kept.n;
@@ -140,6 +143,7 @@ put_session e zs s known numbers one =
         up_got = was.up_got;
         up_rest = λ unknown. absurd (unknown known);
       };
+      zero = one.zero;
       numbers = numbers;
     }
 
@@ -186,6 +190,7 @@ kept_goes_online s counted kept =
           up_got = λ unknown. absurd (unknown refl);
           up_rest = λ unknown. absurd (unknown refl);
         };
+        zero = λ none. absurd (let named = kept.now.zero none in let no : ⊥ = cc in no);
         numbers = kept.now.numbers;
       };
       n = kept.n;
@@ -210,6 +215,7 @@ kept_moved_up z rest s split kept =
         up_got = λ unknown. absurd (let e = known unknown in let no : ⊥ = cc in no);
         up_rest = λ unknown. absurd (let e = known unknown in let no : ⊥ = cc in no);
       };
+      zero = kept.now.zero;
       numbers = subst (λ zs. AreNumbered (epoch_of s) 0 (messages zs)) (sym same) kept.now.numbers;
     })
     (ap messages same) kept
@@ -230,6 +236,7 @@ kept_counted row available carbons got rest s was_row counted kept =
         up_got = was.up_got;
         up_rest = was.up_rest;
       };
+      zero = kept.now.zero;
       numbers = kept.now.numbers;
     })
     refl kept
@@ -274,7 +281,7 @@ pub sessions_own : (a : events.Around) (act : events.Act) (d : Device) → event
 sessions_own a events.Act.Bind d may kept = kept_binds d.sessions kept
 sessions_own a (events.Act.ReadBound true) d may kept = kept_reads_bound true d.sessions (λ (e : true ≡ false). absurd (let no : ⊥ = cc in no)) may.0 kept
 sessions_own a (events.Act.ReadBound false) d may kept = kept_reads_bound false d.sessions (λ _. may.1) may.0 kept
-sessions_own a events.Act.Enable d may kept = kept_counts d.sessions may.1 kept
+sessions_own a events.Act.Enable d may kept = kept_counts d.sessions may.0 may.1 kept
 sessions_own a events.Act.ReadEnabled d may kept = kept_goes_online d.sessions may.1 kept
 sessions_own a events.Act.End d may kept = kept_end_row d.sessions kept
 sessions_own a events.Act.Drop d may kept = kept_goes_offline d.sessions kept

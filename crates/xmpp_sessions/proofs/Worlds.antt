@@ -1,5 +1,5 @@
 -- From one device's steps to the world's: what holds of each device, and of what the takes are.
-use Rattle.std.proofs.Common.{◌≡◌, ℕ, suc, zero, ◌+◌, Bool, true, false, cond, List, [], ◌∷◌, ◌++◌, Option, Some, None, refl, sym, ap, ◌∙◌, subst, arith}
+use Rattle.std.proofs.Common.{◌≡◌, ℕ, suc, zero, ◌+◌, Bool, true, false, cond, List, [], ◌∷◌, ◌++◌, Option, Some, None, length, refl, sym, ap, ◌∙◌, subst, arith}
 use Rattle.std.proofs.lemmas.Bool.{eqb-true}
 use Rattle.std.specs.List.{slice_get}
 use Rattle.std.specs.Prelude.{◌&&◌, ◌||◌, not, ◌==◌}
@@ -15,6 +15,10 @@ get_each k f [] j = refl
 get_each k f (d ∷ ds) zero = ap (λ n. Some (f n d)) (let same : k ≡ k + 0 = omega arith in same)
 get_each k f (d ∷ ds) (suc j) =
     get_each (suc k) f ds j ∙ ap (λ n. option_map (f n) (slice_get ds j)) (let same : suc k + j ≡ k + suc j = omega arith in same)
+
+pub length_each : (k : ℕ) (f : ℕ → Device → Device) (ds : List Device) → length (events.each_from k f ds) ≡ length ds
+length_each k f [] = refl
+length_each k f (d ∷ ds) = ap suc (length_each (suc k) f ds)
 
 -- a device of the next world, and the device that it was
 pub was_device : (f : ℕ → Device → Device) (ds : List Device) (j : ℕ) (e : Device) → slice_get (events.each_from 0 f ds) j ≡ Some e →

@@ -31,9 +31,11 @@ abbrev pub AreNumbered : ℕ → ℕ → List Submission → Type 0
 AreNumbered epoch n [] = Unit {0}
 AreNumbered epoch n (m ∷ ms) = (m.epoch ≡ epoch) × (m.n ≡ suc n) × AreNumbered epoch (suc n) ms
 
--- A3. The messages of each session are those of its epoch, with the numbers 1, 2, 3 and so on.
+-- A3. The messages of each session are those of its epoch, with the numbers 1, 2, 3 and so on. Before epoch 1 there are
+-- none.
 pub record IsNumbered (epoch : ℕ) (s : Session) : Type 0 where
   pub is_session : IsSession s
+  pub zero : epoch ≡ 0 → s.stage ≡ Named
   pub numbers : AreNumbered epoch 0 (messages (up_put s))
 
 abbrev pub ArePast : ℕ → List Session → Type 0
@@ -64,6 +66,11 @@ said_in t = t.said
 pub record TakesKept (accounts : List (List ℕ)) (takes : List Take) (i : ℕ) (d : Device) : Type 0 where
   pub are : map said_in (filter (is_of i) takes) ≡ handled accounts d.sessions
   pub home : AllByRecursion (λ t. t.account ≡ d.account) (filter (is_of i) takes)
+
+-- each take is of a device, and of a message to an account that exists
+pub record IsOfDevice (accounts : List (List ℕ)) (many : ℕ) (t : Take) : Type 0 where
+  pub device : t.device < many
+  pub exists : is_among t.said.to accounts ≡ true
 
 -- A5. Moments don't fall, and none is to come.
 abbrev pub AreMoments : ℕ → ℕ → List Take → Type 0
@@ -218,6 +225,7 @@ pub record DeviceTaken (w : World) (i : ℕ) (d : Device) : Type 0 where
   pub made : MadeKept w.takes i d
 
 pub record Taken (w : World) : Type 0 where
+  pub placed : AllByRecursion (IsOfDevice w.accounts (length w.devices)) w.takes
   pub moments : AreMoments 0 w.clock w.takes
   pub devices : (i : ℕ) (d : Device) → slice_get w.devices i ≡ Some d → DeviceTaken w i d
 
