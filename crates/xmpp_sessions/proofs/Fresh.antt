@@ -11,6 +11,7 @@ use Rattle.xmpp_sessions.specs.Stanzas.Up.{Carbons, Presence, Message, Query}
 use Rattle.xmpp_sessions.specs.Stanzas.Down.{Accepted, Bounced, Live, Res, Fin, NotFound}
 use Rattle.xmpp_sessions.specs.Devices.{Reading, Device, OpenPage, Tile}
 use Rattle.xmpp_sessions.specs.Events as events
+use Rattle.xmpp_sessions.specs.Histories.{asked_of, asked_with}
 
 pub record Seen (l n last : ℕ) (b : Reading) : Type 0 where
   pub low : l ≤ last
@@ -153,19 +154,14 @@ seen_own l n x (events.Act.CatchUp max) d seen =
 seen_own l n x (events.Act.ServerHandles fits full) d seen = seen_server l n x fits d.sessions.now.up_rest d seen
 seen_own l n x events.Act.ClientHandles d seen = seen_client l n x d.sessions.now.down_rest d seen
 
--- how many pages were asked for
-abbrev pub asked_of : Reading → Option OpenPage → ℕ
-asked_of b None = length b.tiles
-asked_of b (Some p) = length b.tiles + 1
-
 -- a world sees itself
-pub seen_now : (last : ℕ) (b : Reading) → Seen last (asked_of b b.page) last b
+pub seen_now : (last : ℕ) (b : Reading) → Seen last (asked_of b) last b
 seen_now last b = record {
   low = omega arith;
   tiles = λ k t at late. let within = slice_get_within b.tiles k t at in absurd (few b.page k within late);
-  page = λ p at late. absurd (let opened : asked_of b b.page ≡ length b.tiles + 1 = ap (asked_of b) at in omega arith);
+  page = λ p at late. absurd (let opened : asked_of b ≡ length b.tiles + 1 = ap (asked_with b) at in omega arith);
 }
   where
-    few : (o : Option OpenPage) (k : ℕ) → k < length b.tiles → asked_of b o ≤ k → ⊥
+    few : (o : Option OpenPage) (k : ℕ) → k < length b.tiles → asked_with b o ≤ k → ⊥
     few None k within late = omega arith
     few (Some p) k within late = omega arith

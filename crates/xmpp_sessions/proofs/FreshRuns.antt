@@ -4,12 +4,13 @@ use Rattle.std.specs.List.{slice_get}
 use Rattle.std.specs.Option.{option_map}
 use Rattle.xmpp_sessions.specs.Devices.{Device, Take, World, last_of}
 use Rattle.xmpp_sessions.specs.Events as events
+use Rattle.xmpp_sessions.specs.Histories.{asked_of}
 use Rattle.xmpp_sessions.specs.Events.Event.{At, Tick}
 use Rattle.xmpp_sessions.proofs.Archives.{last_grows}
 use Rattle.xmpp_sessions.proofs.Takes.{account_hear_all, account_own}
 use Rattle.xmpp_sessions.proofs.TileRuns.{same_hear_all}
 use Rattle.xmpp_sessions.proofs.Worlds.{at_place, get_each}
-use Rattle.xmpp_sessions.proofs.Fresh.{Seen, seen_grows, seen_own, seen_now, asked_of}
+use Rattle.xmpp_sessions.proofs.Fresh.{Seen, seen_grows, seen_own, seen_now}
 
 abbrev pub SeenAt : ℕ → ℕ → List Take → Device → Type 0
 SeenAt l n takes d = Seen l n (last_of takes d.account) d.reading
@@ -54,5 +55,5 @@ seen_along l n (event ∷ all) w last i d reaches at seen =
 
 -- What an earlier world had of the archive, each page that wasn't asked for there began at no less.
 pub fresh : (all : List events.Event) (v w : World) (i : ℕ) (d : Device) → events.Reaches all v w → slice_get v.devices i ≡ Some d →
-    Then (last_of v.takes d.account) (asked_of d.reading d.reading.page) w i
-fresh all v w i d reaches at = seen_along (last_of v.takes d.account) (asked_of d.reading d.reading.page) all v w i d reaches at (seen_now (last_of v.takes d.account) d.reading)
+    Then (last_of v.takes d.account) (asked_of d.reading) w i
+fresh all v w i d reaches at = seen_along (last_of v.takes d.account) (asked_of d.reading) all v w i d reaches at (seen_now (last_of v.takes d.account) d.reading)
