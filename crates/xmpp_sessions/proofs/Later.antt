@@ -1,12 +1,12 @@
 -- Along a run takes are only added, and so are the pages that were taken over.
-use Rattle.std.proofs.Common.{◌≡◌, ℕ, ◌+◌, ◌==◌, Bool, true, false, cond, List, [], ◌∷◌, ◌++◌, Option, Some, None, length, refl, sym, ap, ◌∙◌, subst, arith, append_assoc}
+use Rattle.std.proofs.Common.{◌≡◌, ℕ, ◌+◌, ◌==◌, Bool, true, false, cond, List, [], ◌∷◌, ◌++◌, Option, Some, None, length, refl, sym, ap, ◌∙◌, subst, append_assoc}
 use Rattle.std.proofs.lemmas.List.{append-nil}
 use Rattle.std.specs.List.{slice_get}
 use Rattle.std.specs.Option.{option_map, option_map_or}
 use Rattle.xmpp_sessions.specs.Stanzas.{Up, Down}
 use Rattle.xmpp_sessions.specs.Stanzas.Up.{Carbons, Presence, Message, Query}
 use Rattle.xmpp_sessions.specs.Stanzas.Down.{Accepted, Bounced, Live, Res, Fin, NotFound}
-use Rattle.xmpp_sessions.specs.Devices.{Device, OpenPage, Reading, Take, Tile, World}
+use Rattle.xmpp_sessions.specs.Devices.{Device, OpenPage, Reading, Take, World}
 use Rattle.xmpp_sessions.specs.Answers.{last_in}
 use Rattle.xmpp_sessions.specs.Events as events
 use Rattle.xmpp_sessions.specs.Events.Event.{At, Tick}

@@ -1,5 +1,5 @@
 -- What a device's client put of messages is what its user said, in order.
-use Rattle.std.proofs.Common.{◌≡◌, ℕ, suc, zero, ◌+◌, ◌==◌, Bool, true, false, cond, List, [], ◌∷◌, ◌++◌, Option, Some, None, map, refl, sym, ap, ◌∙◌, subst, arith, append_assoc}
+use Rattle.std.proofs.Common.{◌≡◌, ℕ, ◌+◌, ◌==◌, Bool, true, false, cond, List, [], ◌∷◌, ◌++◌, Option, Some, None, map, refl, sym, ap, ◌∙◌, subst, arith, append_assoc}
 use Rattle.std.proofs.lemmas.Bool.{eq-eqb, eqb-true, false_from_ne_true, false≢true}
 use Rattle.std.proofs.lemmas.List.{append-nil, map-append}
 use Rattle.std.proofs.lemmas.List.Concat.{flat_map-append}
@@ -139,9 +139,9 @@ spoken_becomes w new j act i d =
     at_place (i == j) (events.own (events.around w d) act d) d
     (λ e. IsGrown i (all_spoken i d.sessions) (filter (is_by i) (said_by j act)) (events.hear_all (w.takes ++ new) (events.full_of act) new i e))
     (λ is. ap (map (as_spoken i)) (submitted_hears (w.takes ++ new) (events.full_of act) new i (events.own (events.around w d) act d))
-      ∙ spoken_own i (events.around w d) act d ∙ ap (λ l. all_spoken i d.sessions ++ l) (sym (by_itself i j act is)))
+    ∙ spoken_own i (events.around w d) act d ∙ ap (λ l. all_spoken i d.sessions ++ l) (sym (by_itself i j act is)))
     (λ other. ap (map (as_spoken i)) (submitted_hears (w.takes ++ new) (events.full_of act) new i d)
-      ∙ sym (append-nil (all_spoken i d.sessions)) ∙ ap (λ l. all_spoken i d.sessions ++ l) (sym (by_another i j act other)))
+    ∙ sym (append-nil (all_spoken i d.sessions)) ∙ ap (λ l. all_spoken i d.sessions ++ l) (sym (by_another i j act other)))
 
 pub record SaidAt (w : World) (i : ℕ) (said : List Spoken) : Type 0 where
   pub device : Device

@@ -7,7 +7,7 @@ use Rattle.std.proofs.lemmas.List.{length-append}
 use Rattle.xmpp_sessions.specs.Stanzas.{Up, Down, answers}
 use Rattle.xmpp_sessions.specs.Stanzas.Up.{Carbons, Presence, Message, Query}
 use Rattle.xmpp_sessions.specs.Stanzas.Down.{Accepted, Bounced, Live, Res, Fin, NotFound}
-use Rattle.xmpp_sessions.specs.Devices.{Reading, Device, Take, World, OpenPage, Answer, last_of, log_of}
+use Rattle.xmpp_sessions.specs.Devices.{Reading, Device, Take, World, OpenPage, Answer, last_of, log_of, new_device}
 use Rattle.xmpp_sessions.specs.Answers.{answer_of, is_place, edge, last_in, size}
 use Rattle.xmpp_sessions.specs.Events.{number_or_none}
 use Rattle.xmpp_sessions.specs.Events as events
@@ -20,7 +20,7 @@ use Rattle.xmpp_sessions.proofs.Handled.{ReadKept, log_grown}
 use Rattle.xmpp_sessions.proofs.Tiles.{IsEnded, last_of_log, log_last, numbers_end, numbers_push, page_ended, tile_end, tiles_grow, tiles_push, top_push, top_within}
 use Rattle.xmpp_sessions.proofs.Archives.{last_grows}
 use Rattle.xmpp_sessions.proofs.Takes.{account_hear_all, account_own}
-use Rattle.xmpp_sessions.proofs.ReadRuns.{PagesKept, ReadAt, pages_moves, pages_reached, pages_beginning}
+use Rattle.xmpp_sessions.proofs.ReadRuns.{PagesKept, ReadAt, pages_moves, pages_beginning}
 use Rattle.xmpp_sessions.proofs.Runs.{taken_moves, taken_beginning, one_of}
 use Rattle.xmpp_sessions.proofs.Worlds.{same_place, at_place, was_device}
 
@@ -257,11 +257,6 @@ tiled_moves (At i act) w next is kept tiled = subst AllTiled (sym is.3) (λ j e 
     subst (TiledAt w.keep (w.takes ++ new)) (sym before.2)
     (tiled_becomes w new i act is.0 j before.0 kept.some is.1 is.2 before.1 (kept.devices j before.0 before.1) (tiled j before.0 before.1)))
 
-tiled_along : (all : List events.Event) (w last : World) → events.Reaches all w last → Taken w → PagesKept w → AllTiled w → AllTiled last
-tiled_along [] w last is taken kept tiled = subst AllTiled (sym is) tiled
-tiled_along (event ∷ all) w last reaches taken kept tiled =
-    tiled_along all reaches.0 last reaches.2 (taken_moves event w reaches.0 reaches.1 taken) (pages_moves event w reaches.0 reaches.1 taken kept) (tiled_moves event w reaches.0 reaches.1 kept tiled)
-
 -- both together
 both_kept : (w : World) → PagesKept w → AllTiled w → Read w
 unfolding AllTiled
@@ -277,12 +272,27 @@ read_moves event w next is taken kept =
     let pages : PagesKept w = record { some = kept.keep; devices = λ i d at. let k = kept.devices i d at in record { page = k.page; log = k.log } } in
     both_kept next (pages_moves event w next is taken pages) (tiled_moves event w next is pages (λ i d at. (kept.devices i d at).tiles))
 
--- A6 to A9 hold in each world that is reached
-pub read_reached : (w : World) → events.Reached w → Read w
+new_tiles : (keep : ℕ) (account : List ℕ) → TiledAt keep [] (new_device account)
+new_tiles keep account = record {
+  tiles = (let z : 0 ≤ last_of [] account = omega arith in z);
+  numbers = refl;
+  page = λ p none. absurd (let bad : ⊥ = cc in bad);
+}
+
+-- they hold at the beginning
+pub read_beginning : (keep : ℕ) → 1 ≤ keep → (accounts homes : List (List ℕ)) → Read (events.beginning keep accounts homes)
 unfolding AllTiled
+read_beginning keep some accounts homes =
+    both_kept (events.beginning keep accounts homes) (pages_beginning keep some accounts homes)
+    (λ i d at. one_of (λ j e. TiledAt keep [] e) homes i d (new_tiles keep) at)
+
+read_along : (all : List events.Event) (w last : World) → events.Reaches all w last → Taken w → Read w → Read last
+read_along [] w last is taken kept = subst Read (sym is) kept
+read_along (event ∷ all) w last reaches taken kept =
+    read_along all reaches.0 last reaches.2 (taken_moves event w reaches.0 reaches.1 taken) (read_moves event w reaches.0 reaches.1 taken kept)
+
+-- and in each world that is reached
+pub read_reached : (w : World) → events.Reached w → Read w
 read_reached w reached =
-    let begins = events.beginning reached.keep reached.accounts reached.homes in
-    let pages = pages_reached w reached in
-    let tiled = tiled_along reached.events begins w reached.reaches (taken_beginning reached.keep reached.accounts reached.homes) (pages_beginning reached.keep reached.some reached.accounts reached.homes)
-    (λ i d at. one_of (λ j e. TiledAt reached.keep [] e) reached.homes i d (λ account. record { tiles = (let z : 0 ≤ last_of [] account = omega arith in z); numbers = refl; page = λ p none. absurd (let bad : ⊥ = cc in bad) }) at) in
-    both_kept w pages tiled
+    read_along reached.events (events.beginning reached.keep reached.accounts reached.homes) w reached.reaches
+    (taken_beginning reached.keep reached.accounts reached.homes) (read_beginning reached.keep reached.some reached.accounts reached.homes)

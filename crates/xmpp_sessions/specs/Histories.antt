@@ -2,9 +2,9 @@
 use Rattle.std.specs.Prelude.{ℕ, ◌+◌, Bool, List, [], ◌∷◌, Option, Some, None, length}
 use Rattle.std.specs.List.{flat_map}
 use Rattle.xmpp_sessions.specs.Devices.{OpenPage, Reading, World}
-use Rattle.xmpp_sessions.specs.Events.{Act, Event, after}
+use Rattle.xmpp_sessions.specs.Events.{Event, after}
 use Rattle.xmpp_sessions.specs.Events.Act.{Say}
-use Rattle.xmpp_sessions.specs.Events.Event.{At, Tick}
+use Rattle.xmpp_sessions.specs.Events.Event.{At}
 
 -- the state behind events
 abbrev pub state_after : World → List Event → World

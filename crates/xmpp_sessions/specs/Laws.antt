@@ -20,6 +20,10 @@ Precedes a b = (a.epoch < b.epoch) ⊎ ((a.epoch ≡ b.epoch) × (a.n < b.n))
 pub record IsOnceInOrder (takes : List Take) (i : ℕ) : Type 0 where
   pub rise : EachPair Precedes (map said_in (filter (is_of i) takes))
 
+-- the takes of a device among these are of epochs above this one
+abbrev pub AreAbove : ℕ → ℕ → List Take → Type 0
+AreAbove epoch i takes = AllByRecursion (λ t. epoch < t.said.epoch) (filter (is_of i) takes)
+
 -- of a session a front of the submissions to accounts that exist was taken, and what was acknowledged is within it
 pub record IsFrontTaken (accounts : List (List ℕ)) (s : Session) : Type 0 where
   pub gapless : filter (λ m. is_among m.to accounts) (messages (up_put s)) ≡ accepted accounts s ++ filter (λ m. is_among m.to accounts) (messages s.up_rest)
