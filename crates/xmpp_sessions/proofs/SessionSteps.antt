@@ -41,7 +41,7 @@ fresh_session e = record {
   numbers = tt;
 }
 
-past_push : (e : ℕ) (ss : List Session) (s : Session) → ArePast e ss → IsNumbered (e + length ss) s → ArePast e (ss ++ s ∷ [])
+pub past_push : (e : ℕ) (ss : List Session) (s : Session) → ArePast e ss → IsNumbered (e + length ss) s → ArePast e (ss ++ s ∷ [])
 past_push e [] s known one = (subst (λ k. IsNumbered k s) (let same : e + 0 ≡ e = omega arith in same) one, tt)
 past_push e (a ∷ ss) s known one =
     (known.0, past_push (suc e) ss s known.1 (subst (λ k. IsNumbered k s) (let same : e + suc (length ss) ≡ suc e + length ss = omega arith in same) one))
