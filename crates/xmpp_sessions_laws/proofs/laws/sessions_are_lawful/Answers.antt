@@ -1,0 +1,6 @@
+use Rattle.xmpp_sessions_laws.proofs.Owners.{names_differ}
+use Rattle.xmpp_sessions_laws.proofs.SaidLines.{said_found}
+use Rattle.xmpp_sessions_laws.proofs.laws.sessions_are_lawful.Goals as goal
+
+pub returns : goal.returns
+returns c = ?
