@@ -1,6 +1,6 @@
 -- The lines of submissions, session after session.
 use Rattle.std.proofs.Common.{◌≡◌, ◌≢◌, ℕ, zero, suc, ◌+◌, ◌-◌, ◌<◌, ◌≤◌, ◌==◌, ◌⊎◌, Bool, true, false, cond, ltb, List, [], ◌∷◌, ◌++◌, Option, Some, length, drop, refl, sym, ap, ◌∙◌, subst, arith, append_assoc, inl, inr}
-use Rattle.std.proofs.lemmas.Bool.{and_left, and_right, eq-eqb, eqb-true, ne_eqb}
+use Rattle.std.proofs.lemmas.Bool.{and_left, and_right, eq-eqb, eqb-true, lt-ltb, ne_eqb}
 use Rattle.std.proofs.lemmas.List.{append-nil}
 use Rattle.std.specs.List.{AllByRecursion, flat_map}
 use Rattle.std.specs.Prelude.{◌&&◌, nat_lt}
@@ -9,7 +9,7 @@ use Rattle.xmpp_report.specs.Lawful.{AreNumberedBehind, AreSubmissions, EachPair
 use Rattle.xmpp_report.specs.declared.report.SaidLine.{SaidLine}
 use Rattle.xmpp_report.specs.declared.report.SaidMark.{SaidMark}
 use Rattle.xmpp_report.specs.declared.report.SaidMark.TheVariants.{Acknowledged, Undecided, Waiting}
-use Rattle.xmpp_schedule.proofs.Lists.{all_append, all_front}
+use Rattle.xmpp_schedule.proofs.Lists.{all_append, all_front, all_of}
 use Rattle.xmpp_sessions.specs.Devices.{Session, Sessions, epoch_of, up_put}
 use Rattle.xmpp_sessions.specs.Devices.Stage.{Known, Named}
 use Rattle.xmpp_sessions.specs.Kept.{AreNumbered, ArePast, IsNumbered, SessionsKept}
@@ -96,7 +96,7 @@ abbrev pub Each : (ℕ → Session → Type 0) → ℕ → List Session → Type
 Each P e [] = Unit {0}
 Each P e (s ∷ ss) = P e s × Each P (suc e) ss
 
-pairs_append : (R : SaidLine → SaidLine → Type 0) (xs ys : List SaidLine) → EachPair R xs → EachPair R ys → AllByRecursion (λ x. AllByRecursion (R x) ys) xs → EachPair R (xs ++ ys)
+pub pairs_append : (R : SaidLine → SaidLine → Type 0) (xs ys : List SaidLine) → EachPair R xs → EachPair R ys → AllByRecursion (λ x. AllByRecursion (R x) ys) xs → EachPair R (xs ++ ys)
 pairs_append R [] ys first second between = second
 pairs_append R (x ∷ xs) ys first second between = (all_append (R x) xs ys first.0 between.0, pairs_append R xs ys first.1 second between.1)
 
@@ -133,17 +133,21 @@ pub said_pairs : (P : ℕ → Session → Type 0) (R : SaidLine → SaidLine →
 said_pairs P R each s kept first last =
     pairs_from P R each 0 s.past s.now (mark_of s.online) kept.past (now_numbered s kept) first (subst (λ k. P k s.now) (let same : length s.past ≡ 0 + length s.past = omega arith in same) last)
 
+not_acknowledged : (online : Bool) → mark_of online ≢ Acknowledged
+not_acknowledged true is = let bad : ⊥ = cc in bad
+not_acknowledged false is = let bad : ⊥ = cc in bad
+
 -- the lines of each session have what its messages have
-all_from : (P : ℕ → Session → Type 0) (Q : SaidLine → Type 0) → ((e : ℕ) (mark : SaidMark) (s : Session) → IsNumbered e s → P e s → AllByRecursion Q (said_in mark s)) → (e : ℕ) (past : List Session) →
+all_from : (P : ℕ → Session → Type 0) (Q : SaidLine → Type 0) → ((e : ℕ) (mark : SaidMark) (s : Session) → mark ≢ Acknowledged → IsNumbered e s → P e s → AllByRecursion Q (said_in mark s)) → (e : ℕ) (past : List Session) →
     ArePast e past → Each P e past → AllByRecursion Q (flat_map (said_in Undecided) past)
 all_from P Q each e [] known first = tt
 all_from P Q each e (s ∷ past) known first =
-    all_append Q (said_in Undecided s) (flat_map (said_in Undecided) past) (each e Undecided s known.0 first.0) (all_from P Q each (suc e) past known.1 first.1)
+    all_append Q (said_in Undecided s) (flat_map (said_in Undecided) past) (each e Undecided s (λ is. let bad : ⊥ = cc in bad) known.0 first.0) (all_from P Q each (suc e) past known.1 first.1)
 
-pub said_all : (P : ℕ → Session → Type 0) (Q : SaidLine → Type 0) → ((e : ℕ) (mark : SaidMark) (s : Session) → IsNumbered e s → P e s → AllByRecursion Q (said_in mark s)) → (s : Sessions) → SessionsKept s →
+pub said_all : (P : ℕ → Session → Type 0) (Q : SaidLine → Type 0) → ((e : ℕ) (mark : SaidMark) (s : Session) → mark ≢ Acknowledged → IsNumbered e s → P e s → AllByRecursion Q (said_in mark s)) → (s : Sessions) → SessionsKept s →
     Each P 0 s.past → P (epoch_of s) s.now → AllByRecursion Q (said_of s)
 said_all P Q each s kept first last =
-    all_append Q (flat_map (said_in Undecided) s.past) (said_in (mark_of s.online) s.now) (all_from P Q each 0 s.past kept.past first) (each (epoch_of s) (mark_of s.online) s.now kept.now last)
+    all_append Q (flat_map (said_in Undecided) s.past) (said_in (mark_of s.online) s.now) (all_from P Q each 0 s.past kept.past first) (each (epoch_of s) (mark_of s.online) s.now (not_acknowledged s.online) kept.now last)
 
 -- epochs
 pub said_epochs : (s : Sessions) → SessionsKept s → AllByRecursion (λ l. (1 ≤ l.epoch) × (l.epoch ≤ epoch_of s)) (said_of s)
@@ -229,10 +233,10 @@ numbered_pairs e n acked mark (Message m ∷ zs) known =
     (AllByRecursion-weaker (λ l. (l.epoch ≡ e) × (suc n < l.n)) (Apart (said_line (mark_at acked mark) m)) (λ l is same. let low = is.1 in omega arith) (said_among (acked - 1) mark zs) (lines_all e (suc n) (acked - 1) mark zs known.2),
     numbered_pairs e (suc n) (acked - 1) mark zs known.2)
 
-abbrev Nothing : ℕ → Session → Type 0
+abbrev pub Nothing : ℕ → Session → Type 0
 Nothing e s = Unit {0}
 
-each_nothing : (e : ℕ) (ss : List Session) → Each Nothing e ss
+pub each_nothing : (e : ℕ) (ss : List Session) → Each Nothing e ss
 each_nothing e [] = tt
 each_nothing e (s ∷ ss) = (tt, each_nothing (suc e) ss)
 
@@ -262,3 +266,60 @@ said_found s kept =
     let parts = found_from (said_of s) s.past (said_in (mark_of s.online) s.now) (found_all (said_of s) (said_apart s kept)) in
     all_append (λ t. AllByRecursion (IsFound (said_of s)) (messages (up_put t))) s.past (s.now ∷ []) parts.0
     (each_said (λ l. submission l.epoch l.n (said_of s) ≡ Some l) s.now.acked (mark_of s.online) (up_put s.now) parts.1, tt)
+
+-- each session has it, and the last one
+pub each_of : (Q : Session → Type 0) (e : ℕ) (past : List Session) (now : Session) → AllByRecursion Q (past ++ now ∷ []) → Each (λ n s. Q s) e past × Q now
+each_of Q e [] now all = (tt, all.0)
+each_of Q e (s ∷ past) now all = let rest = each_of Q (suc e) past now all.1 in ((all.0, rest.0), rest.1)
+
+-- the lines of past sessions are of earlier epochs
+pub past_below : (e : ℕ) (past : List Session) → ArePast e past → AllByRecursion (λ l. (l.epoch < e + length past) × (l.state ≢ Waiting)) (flat_map (said_in Undecided) past)
+past_below e [] known = tt
+past_below e (s ∷ past) known =
+    all_append (λ l. (l.epoch < e + suc (length past)) × (l.state ≢ Waiting)) (said_in Undecided s) (flat_map (said_in Undecided) past)
+    (all_both (λ l. (l.epoch ≡ e) × (1 ≤ e)) (λ l. l.state ≢ Waiting) (λ l. (l.epoch < e + suc (length past)) × (l.state ≢ Waiting)) (λ l is not. (let same = is.0 in omega arith, not))
+      (said_in Undecided s) (session_lines e Undecided s known.0) (never_waits s.acked (up_put s)))
+    (AllByRecursion-weaker (λ l. (l.epoch < suc e + length past) × (l.state ≢ Waiting)) (λ l. (l.epoch < e + suc (length past)) × (l.state ≢ Waiting)) (λ l is. (let low = is.0 in omega arith, is.1))
+      (flat_map (said_in Undecided) past) (past_below (suc e) past known.1))
+  where
+    not_waiting : (b : Bool) → cond b Acknowledged Undecided ≢ Waiting
+    not_waiting true is = let bad : ⊥ = cc in bad
+    not_waiting false is = let bad : ⊥ = cc in bad
+    never_waits : (acked : ℕ) (zs : List Up) → AllByRecursion (λ l. l.state ≢ Waiting) (said_among acked Undecided zs)
+    never_waits acked [] = tt
+    never_waits acked (Carbons ∷ zs) = never_waits (acked - 1) zs
+    never_waits acked (Presence ∷ zs) = never_waits (acked - 1) zs
+    never_waits acked (Query r ∷ zs) = never_waits (acked - 1) zs
+    never_waits acked (Message m ∷ zs) = (not_waiting (nat_lt 0 acked), never_waits (acked - 1) zs)
+
+-- where no message is behind what is acknowledged, all are
+pub all_acknowledged : (acked : ℕ) (mark : SaidMark) (zs : List Up) → messages (drop acked zs) ≡ [] → AllByRecursion (λ l. l.state ≡ Acknowledged) (said_among acked mark zs)
+all_acknowledged acked mark [] none = tt
+all_acknowledged zero mark (Carbons ∷ zs) none = all_acknowledged 0 mark zs none
+all_acknowledged zero mark (Presence ∷ zs) none = all_acknowledged 0 mark zs none
+all_acknowledged zero mark (Query r ∷ zs) none = all_acknowledged 0 mark zs none
+all_acknowledged zero mark (Message m ∷ zs) none = absurd (let bad : ⊥ = cc in bad)
+all_acknowledged (suc k) mark (Carbons ∷ zs) none = subst (λ a. AllByRecursion (λ l. l.state ≡ Acknowledged) (said_among a mark zs)) (let e : k ≡ suc k - 1 = omega arith in e) (all_acknowledged k mark zs none)
+all_acknowledged (suc k) mark (Presence ∷ zs) none = subst (λ a. AllByRecursion (λ l. l.state ≡ Acknowledged) (said_among a mark zs)) (let e : k ≡ suc k - 1 = omega arith in e) (all_acknowledged k mark zs none)
+all_acknowledged (suc k) mark (Query r ∷ zs) none = subst (λ a. AllByRecursion (λ l. l.state ≡ Acknowledged) (said_among a mark zs)) (let e : k ≡ suc k - 1 = omega arith in e) (all_acknowledged k mark zs none)
+all_acknowledged (suc k) mark (Message m ∷ zs) none =
+    (ap (λ b. cond b Acknowledged mark) (let e : nat_lt 0 (suc k) ≡ true = lt-ltb 0 (suc k) (omega arith) in e),
+    subst (λ a. AllByRecursion (λ l. l.state ≡ Acknowledged) (said_among a mark zs)) (let e : k ≡ suc k - 1 = omega arith in e) (all_acknowledged k mark zs none))
+
+-- what is acknowledged comes first
+pub acknowledged_first : (acked : ℕ) (mark : SaidMark) (zs : List Up) → EachPair (λ a b. b.state ≡ Acknowledged → a.state ≡ Acknowledged) (said_among acked mark zs)
+acknowledged_first acked mark [] = tt
+acknowledged_first acked mark (Carbons ∷ zs) = acknowledged_first (acked - 1) mark zs
+acknowledged_first acked mark (Presence ∷ zs) = acknowledged_first (acked - 1) mark zs
+acknowledged_first acked mark (Query r ∷ zs) = acknowledged_first (acked - 1) mark zs
+acknowledged_first zero mark (Message m ∷ zs) = (all_marked mark zs, acknowledged_first 0 mark zs)
+  where
+    all_marked : (other : SaidMark) (ys : List Up) → AllByRecursion (λ l. l.state ≡ Acknowledged → other ≡ Acknowledged) (said_among 0 other ys)
+    all_marked other [] = tt
+    all_marked other (Carbons ∷ ys) = all_marked other ys
+    all_marked other (Presence ∷ ys) = all_marked other ys
+    all_marked other (Query r ∷ ys) = all_marked other ys
+    all_marked other (Message k ∷ ys) = (λ is. is, all_marked other ys)
+acknowledged_first (suc k) mark (Message m ∷ zs) =
+    let hit : cond (nat_lt 0 (suc k)) Acknowledged mark ≡ Acknowledged = ap (λ b. cond b Acknowledged mark) (lt-ltb 0 (suc k) (omega arith)) in
+    (all_of (λ l. l.state ≡ Acknowledged → cond (nat_lt 0 (suc k)) Acknowledged mark ≡ Acknowledged) (λ l is. hit) (said_among (suc k - 1) mark zs), acknowledged_first (suc k - 1) mark zs)

@@ -1,3 +1,4 @@
+use Rattle.xmpp_sessions_laws.proofs.Ground.{Ground}
 use Rattle.xmpp_sessions_laws.proofs.Owners.{names_differ}
 use Rattle.xmpp_sessions_laws.proofs.SaidLines.{said_found}
 use Rattle.xmpp_sessions_laws.proofs.laws.sessions_are_lawful.Goals as goal
