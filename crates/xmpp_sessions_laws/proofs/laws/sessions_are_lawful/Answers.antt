@@ -1,3 +1,6 @@
+use Rattle.xmpp_sessions_laws.proofs.LogLaws.{runs_right}
+use Rattle.xmpp_sessions_laws.proofs.Outcomes.{outcomes}
+use Rattle.xmpp_sessions_laws.proofs.TakenLaws.{device_settled}
 use Rattle.xmpp_sessions_laws.proofs.Ground.{Ground}
 use Rattle.xmpp_sessions_laws.proofs.Owners.{names_differ}
 use Rattle.xmpp_sessions_laws.proofs.SaidLines.{said_found}
