@@ -202,7 +202,7 @@ taken_beginning keep accounts homes = record {
   devices = λ i d at. one_of (DeviceTaken (events.beginning keep accounts homes)) homes i d (λ account. new_taken keep accounts homes i account) at;
 }
 
-taken_along : (all : List events.Event) (w last : World) → events.Reaches all w last → Taken w → Taken last
+pub taken_along : (all : List events.Event) (w last : World) → events.Reaches all w last → Taken w → Taken last
 taken_along [] w last is kept = subst Taken (sym is) kept
 taken_along (event ∷ all) w last reaches kept = taken_along all reaches.0 last reaches.2 (taken_moves event w reaches.0 reaches.1 kept)
 

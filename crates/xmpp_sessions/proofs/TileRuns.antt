@@ -286,7 +286,7 @@ read_beginning keep some accounts homes =
     both_kept (events.beginning keep accounts homes) (pages_beginning keep some accounts homes)
     (λ i d at. one_of (λ j e. TiledAt keep [] e) homes i d (new_tiles keep) at)
 
-read_along : (all : List events.Event) (w last : World) → events.Reaches all w last → Taken w → Read w → Read last
+pub read_along : (all : List events.Event) (w last : World) → events.Reaches all w last → Taken w → Read w → Read last
 read_along [] w last is taken kept = subst Read (sym is) kept
 read_along (event ∷ all) w last reaches taken kept =
     read_along all reaches.0 last reaches.2 (taken_moves event w reaches.0 reaches.1 taken) (read_moves event w reaches.0 reaches.1 taken kept)

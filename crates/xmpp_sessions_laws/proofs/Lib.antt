@@ -5,3 +5,7 @@ pub mod TakenLaws
 pub mod Turned
 pub mod LogLaws
 pub mod Outcomes
+pub mod Moments
+pub mod PageLaws
+pub mod Shown
+pub mod LawsKept
