@@ -9,6 +9,7 @@ use Rattle.xmpp_sessions.specs.Devices.Stage.{Named, Counted, Known}
 use Rattle.xmpp_sessions.specs.Devices.Row.{NoRow, Unread, Present}
 use Rattle.xmpp_sessions.specs.Events.{Event, Act, May, Moves, Reaches, after, acted, is_present}
 use Rattle.xmpp_sessions.specs.Events.Event.{At, Tick}
+use Rattle.xmpp_sessions.specs.Histories.{state_after}
 use Rattle.xmpp_sessions.specs.Events.Act.{Bind, ReadBound, Enable, ReadEnabled, End, Drop, Acknowledge, Say, CatchUp, ServerHandles, ClientHandles}
 
 abbrev is_unread : Row → Bool
@@ -101,10 +102,6 @@ abbrev pub happens : Event → World → Bool
 happens (Tick ms) w = true
 happens (At i act) w = option_map_or (may act) (slice_get w.devices i) false
 
-abbrev pub run_of : List Event → World → World
-run_of [] w = w
-run_of (event ∷ all) w = run_of all (after w event)
-
 abbrev pub is_run : List Event → World → Bool
 is_run [] w = true
 is_run (event ∷ all) w = happens event w && is_run all (after w event)
@@ -119,6 +116,6 @@ moves (At i act) w e = found (slice_get w.devices i) refl e
     found (Some d) at e2 = (d, at, may_is act d e2, ap (λ o. option_map_or (acted w i act) o w) at)
 
 -- what passes the test is a run
-pub runs : (all : List Event) (w : World) → is_run all w ≡ true → Reaches all w (run_of all w)
+pub runs : (all : List Event) (w : World) → is_run all w ≡ true → Reaches all w (state_after w all)
 runs [] w e = refl
 runs (event ∷ all) w e = let p = both _ _ e in (after w event, moves event w p.0, runs all (after w event) p.1)

@@ -210,7 +210,7 @@ at_world s worlds r run i line at j shown found =
     let v = shown_at (owned_of s) _ worlds j shown run.shown found in
     let passed = passed_at (moves_of run.runs) (begins s) run.last j v.state run.reaches (taken_beginning (keep_of s.version) accounts homes)
     (read_beginning (keep_of s.version) (keeps_some s.version run.keeps) accounts homes) v.at in
-    let later = later_along passed.events v.state run.last passed.reaches in
+    let later = later_along passed.onward v.state run.last passed.reaches in
     let was = was_device v.state run.last i at.d passed g.read at.device in
     let home : was.was.account ≡ at.o.account = was.account ∙ g.homes i at.o at.d at.owner at.device in
     let keeps : v.state.keep ≡ keep_of s.version = sym later.keep ∙ g.keeps in

@@ -19,8 +19,8 @@ use Rattle.xmpp_sessions.specs.Kept.{AreTiles, Read, Taken, end_of}
 pub record Passed (v last : World) : Type 0 where
   pub taken : Taken v
   pub read : Read v
-  pub events : List events.Event
-  pub reaches : events.Reaches events v last
+  pub onward : List events.Event
+  pub reaches : events.Reaches onward v last
 
 moves_is : (event : events.Event) (w next : World) → events.Moves event w next → next ≡ events.after w event
 moves_is (Tick ms) w next is = is
@@ -43,10 +43,10 @@ split_run (x ∷ xs) ys w last reaches =
 
 pub passed_at : (moves : List (List events.Event)) (w last : World) (j : ℕ) (v : World) → events.Reaches (flat_map (λ move. move) moves) w last → Taken w → Read w → slice_get (states_of w moves) j ≡ Some v → Passed v last
 passed_at [] w last zero v reaches taken read at =
-    subst (λ u. Passed u last) (same_Some w v at) (record { taken = taken; read = read; events = []; reaches = reaches })
+    subst (λ u. Passed u last) (same_Some w v at) (record { taken = taken; read = read; onward = []; reaches = reaches })
 passed_at [] w last (suc j) v reaches taken read at = absurd (none-some v at)
 passed_at (move ∷ moves) w last zero v reaches taken read at =
-    subst (λ u. Passed u last) (same_Some w v at) (record { taken = taken; read = read; events = flat_map (λ m. m) (move ∷ moves); reaches = reaches })
+    subst (λ u. Passed u last) (same_Some w v at) (record { taken = taken; read = read; onward = flat_map (λ m. m) (move ∷ moves); reaches = reaches })
 passed_at (move ∷ moves) w last (suc j) v reaches taken read at =
     let parts = split_run move (flat_map (λ m. m) moves) w last reaches in
     let same : parts.mid ≡ state_after w move = reaches_is move w parts.mid parts.first in
@@ -100,14 +100,14 @@ place_there v i within = found v.devices i within
 
 pub was_device : (v last : World) (i : ℕ) (d : Device) → Passed v last → Read last → slice_get last.devices i ≡ Some d → WasDevice v last i d
 was_device v last i d passed read at =
-    let later = later_along passed.events v last passed.reaches in
+    let later = later_along passed.onward v last passed.reaches in
     let many = later.many in
     let within = slice_get_within last.devices i d at in
     let there = place_there v i (omega arith) in
     let behind = later.devices i there.0 there.1 in
     let same : behind.device ≡ d = same_Some behind.device d (sym behind.at ∙ at) in
     let tiles = subst (λ (e : Device). (more : List Tile) × (e.reading.tiles ≡ there.0.reading.tiles ++ more)) same behind.later.tiles in
-    let seen = fresh passed.events v last i there.0 passed.reaches there.1 in
+    let seen = fresh passed.onward v last i there.0 passed.reaches there.1 in
     let seen_same : seen.d ≡ d = same_Some seen.d d (sym seen.at ∙ at) in
     let known = (read.devices i d at).tiles.tiles in
     record {
