@@ -1,13 +1,13 @@
 -- Which submissions of a session were taken: of what was handled those to accounts that exist, and of the rest none.
-use Rattle.std.proofs.Common.{◌≡◌, ℕ, suc, zero, ◌+◌, ◌<◌, ◌≤◌, ◌==◌, Bool, true, false, cond, List, [], ◌∷◌, ◌++◌, length, map, refl, sym, ap, ◌∙◌, subst, arith, append_assoc}
+use Rattle.std.proofs.Common.{◌≡◌, ℕ, suc, ◌+◌, ◌<◌, ◌≤◌, ◌==◌, Bool, true, false, cond, List, [], ◌∷◌, ◌++◌, length, map, refl, sym, ap, ◌∙◌, subst, arith, append_assoc}
 use Rattle.std.proofs.lemmas.Bool.{and_left, and_right, eq-eqb, eqb-true, ne_eqb, or_right}
 use Rattle.std.proofs.lemmas.List.{append-nil}
 use Rattle.std.proofs.lemmas.List.Concat.{flat_map-append}
 use Rattle.std.specs.List.{AllByRecursion, filter, flat_map, list_any}
 use Rattle.std.specs.Prelude.{◌&&◌, ◌||◌}
-use Rattle.xmpp_sessions.specs.Devices.{Session, Sessions, Take, up_put}
+use Rattle.xmpp_sessions.specs.Devices.{Session, Sessions, Take}
 use Rattle.xmpp_sessions.specs.Events.{is_among}
-use Rattle.xmpp_sessions.specs.Kept.{AreNumbered, ArePast, IsNumbered, SessionsKept, TakesKept, accepted, handled, is_of, said_in}
+use Rattle.xmpp_sessions.specs.Kept.{AreNumbered, ArePast, IsNumbered, SessionsKept, accepted, handled, is_of, said_in}
 use Rattle.xmpp_sessions.specs.Stanzas.{Submission, messages}
 use Rattle.xmpp_sessions.proofs.Lists.{all_append, all_weaker}
 use Rattle.xmpp_sessions.proofs.Numbered.{messages_append, numbered_front, numbered_rest}
@@ -54,9 +54,10 @@ itself m = let e = eq-eqb m.epoch m.epoch refl in let n = eq-eqb m.n m.n refl in
 -- each that passes is among those that pass
 in_filtered : (p : Submission → Bool) (ms : List Submission) → AllByRecursion (λ m. p m ≡ true → is_in m (filter p ms) ≡ true) ms
 in_filtered p [] = tt
-in_filtered p (m ∷ ms) =
-    (λ passes. ap (λ b. is_in m (cond b (m ∷ filter p ms) (filter p ms))) passes ∙ ap (λ b. b || is_in m (filter p ms)) (itself m),
-    all_weaker (λ k. p k ≡ true → is_in k (filter p ms) ≡ true) (λ k. p k ≡ true → is_in k (filter p (m ∷ ms)) ≡ true) ms (λ k known passes. more k (p m) (known passes)) (in_filtered p ms))
+in_filtered p (m ∷ ms) = (
+  λ passes. ap (λ b. is_in m (cond b (m ∷ filter p ms) (filter p ms))) passes ∙ ap (λ b. b || is_in m (filter p ms)) (itself m),
+  all_weaker (λ k. p k ≡ true → is_in k (filter p ms) ≡ true) (λ k. p k ≡ true → is_in k (filter p (m ∷ ms)) ≡ true) ms (λ k known passes. more k (p m) (known passes)) (in_filtered p ms),
+)
   where
     more : (k : Submission) (b : Bool) → is_in k (filter p ms) ≡ true → is_in k (cond b (m ∷ filter p ms) (filter p ms)) ≡ true
     more k true known = or_right (has_key k m) (is_in k (filter p ms)) known
@@ -83,10 +84,11 @@ all_filtered P p (m ∷ ms) all = chosen (p m) (all_filtered P p ms all.1)
 numbers_within : (e n : ℕ) (ms : List Submission) → AreNumbered e n ms → AllByRecursion (λ m. (m.epoch ≡ e) × (n < m.n) × (m.n ≤ n + length ms)) ms
 numbers_within e n [] known = tt
 numbers_within e n (m ∷ ms) known =
-    let is = known.1 in
-    ((known.0, omega arith, omega arith),
-    all_weaker (λ k. (k.epoch ≡ e) × (suc n < k.n) × (k.n ≤ suc n + length ms)) (λ k. (k.epoch ≡ e) × (n < k.n) × (k.n ≤ n + suc (length ms))) ms
-      (λ k a. (a.0, let low = a.1 in omega arith, let high = a.2 in omega arith)) (numbers_within e (suc n) ms known.2))
+    let is = known.1 in (
+      (known.0, omega arith, omega arith),
+      all_weaker (λ k. (k.epoch ≡ e) × (suc n < k.n) × (k.n ≤ suc n + length ms)) (λ k. (k.epoch ≡ e) × (n < k.n) × (k.n ≤ n + suc (length ms))) ms
+          (λ k a. (a.0, let low = a.1 in omega arith, let high = a.2 in omega arith)) (numbers_within e (suc n) ms known.2),
+    )
 
 -- of a session: what was handled and what wasn't, beside all that was taken of the device
 pub record IsKnown (accounts : List (List ℕ)) (all : List Submission) (s : Session) : Type 0 where
@@ -100,20 +102,22 @@ session_known accounts e before after s known low high = record {
       (λ m is exists. in_second m before (accepted accounts s ++ after) (in_first m (accepted accounts s) after (is exists))) (in_filtered (λ m. is_among m.to accounts) (messages s.up_got));
   rest = all_weaker (λ m. (m.epoch ≡ e) × (length (messages s.up_got) < m.n) × (m.n ≤ length (messages s.up_got) + length (messages s.up_rest))) (λ m. is_in m (before ++ (accepted accounts s ++ after)) ≡ false) (messages s.up_rest)
       (λ m is. not_in m (before ++ (accepted accounts s ++ after))
-        (all_append (λ k. k.epoch ≡ m.epoch → k.n < m.n) before (accepted accounts s ++ after)
-          (all_weaker (λ k. k.epoch < e) (λ k. k.epoch ≡ m.epoch → k.n < m.n) before (λ k below same. absurd (let mine = is.0 in omega arith)) low)
-          (all_append (λ k. k.epoch ≡ m.epoch → k.n < m.n) (accepted accounts s) after
-            (all_filtered (λ k. k.epoch ≡ m.epoch → k.n < m.n) (λ k. is_among k.to accounts) (messages s.up_got)
-              (all_weaker (λ k. (k.epoch ≡ e) × (0 < k.n) × (k.n ≤ 0 + length (messages s.up_got))) (λ k. k.epoch ≡ m.epoch → k.n < m.n) (messages s.up_got)
-                (λ k few same. let above = is.1 in let top = few.2 in omega arith) (numbers_within e 0 (messages s.up_got) front)))
-            (all_weaker (λ k. e < k.epoch) (λ k. k.epoch ≡ m.epoch → k.n < m.n) after (λ k above same. absurd (let mine = is.0 in omega arith)) high))))
+      (all_append (λ k. k.epoch ≡ m.epoch → k.n < m.n) before (accepted accounts s ++ after)
+      (all_weaker (λ k. k.epoch < e) (λ k. k.epoch ≡ m.epoch → k.n < m.n) before (λ k below same. absurd (let mine = is.0 in omega arith)) low)
+      (all_append (λ k. k.epoch ≡ m.epoch → k.n < m.n) (accepted accounts s) after
+      (all_filtered (λ k. k.epoch ≡ m.epoch → k.n < m.n) (λ k. is_among k.to accounts) (messages s.up_got)
+      (all_weaker (λ k. (k.epoch ≡ e) × (0 < k.n) × (k.n ≤ 0 + length (messages s.up_got))) (λ k. k.epoch ≡ m.epoch → k.n < m.n) (messages s.up_got)
+      (λ k few same. let above = is.1 in let top = few.2 in omega arith) (numbers_within e 0 (messages s.up_got) front)))
+      (all_weaker (λ k. e < k.epoch) (λ k. k.epoch ≡ m.epoch → k.n < m.n) after (λ k above same. absurd (let mine = is.0 in omega arith)) high))))
       (numbers_within e (length (messages s.up_got)) (messages s.up_rest) back);
 }
   where
     whole : AreNumbered e 0 (messages s.up_got ++ messages s.up_rest)
     whole = subst (AreNumbered e 0) (messages_append s.up_got s.up_rest) known.numbers
+
     front : AreNumbered e 0 (messages s.up_got)
     front = numbered_front e 0 (messages s.up_got) (messages s.up_rest) whole
+
     back : AreNumbered e (length (messages s.up_got)) (messages s.up_rest)
     back = subst (λ n. AreNumbered e n (messages s.up_rest)) (let z : 0 + length (messages s.up_got) ≡ length (messages s.up_got) = omega arith in z) (numbered_rest e 0 (messages s.up_got) (messages s.up_rest) whole)
 
@@ -141,11 +145,12 @@ sessions_known : (accounts : List (List ℕ)) (e : ℕ) (before : List Submissio
 sessions_known accounts e before [] known low = tt
 sessions_known accounts e before (s ∷ ss) known low =
     let mine = accepted accounts s in
-    let later = flat_map (accepted accounts) ss in
-    (session_known accounts e before later s known.0 low (all_weaker (λ k. suc e ≤ k.epoch) (λ k. e < k.epoch) later (λ k is. omega arith) (accepted_from accounts (suc e) ss known.1)),
-    subst (λ all. AllByRecursion (IsKnown accounts all) ss) (append_assoc before mine later)
-    (sessions_known accounts (suc e) (before ++ mine) ss known.1
-    (all_append (λ k. k.epoch < suc e) before mine (all_weaker (λ k. k.epoch < e) (λ k. k.epoch < suc e) before (λ k is. omega arith) low) (accepted_one accounts e s known.0))))
+    let later = flat_map (accepted accounts) ss in (
+      session_known accounts e before later s known.0 low (all_weaker (λ k. suc e ≤ k.epoch) (λ k. e < k.epoch) later (λ k is. omega arith) (accepted_from accounts (suc e) ss known.1)),
+      subst (λ all. AllByRecursion (IsKnown accounts all) ss) (append_assoc before mine later)
+          (sessions_known accounts (suc e) (before ++ mine) ss known.1
+          (all_append (λ k. k.epoch < suc e) before mine (all_weaker (λ k. k.epoch < e) (λ k. k.epoch < suc e) before (λ k is. omega arith) low) (accepted_one accounts e s known.0))),
+    )
 
 -- all sessions of a device, the present one behind the others
 abbrev pub all_sessions : Sessions → List Session
@@ -173,5 +178,6 @@ sessions_sorted accounts takes i s kept are =
   where
     whole : handled accounts s ≡ flat_map (accepted accounts) (all_sessions s)
     whole = ap (λ ms. flat_map (accepted accounts) s.past ++ ms) (sym (append-nil (accepted accounts s.now))) ∙ sym (flat_map-append (accepted accounts) s.past (s.now ∷ []))
+
     same : (m : Submission) → is_taken_of i m takes ≡ is_in m (flat_map (accepted accounts) (all_sessions s))
     same m = taken_in i m takes ∙ ap (is_in m) (are ∙ whole)
