@@ -1,0 +1,11 @@
+pub mod Owners
+pub mod SaidLines
+pub mod Ground
+pub mod TakenLaws
+pub mod Turned
+pub mod LogLaws
+pub mod Outcomes
+pub mod Moments
+pub mod PageLaws
+pub mod Shown
+pub mod LawsKept

@@ -1,0 +1,6 @@
+//! Laws of the reports that runs of the two applications make.
+#![tactic(auto)]
+
+mod laws;
+
+pub use laws::sessions_are_lawful;
