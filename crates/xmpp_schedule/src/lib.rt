@@ -9,7 +9,11 @@ mod names;
 mod reading;
 mod schedule;
 mod steps;
+mod wire_steps;
 
 pub use fault::{LineWhy, ScheduleFault};
 pub use reading::{read_schedule, reading_is_the_grammar};
-pub use schedule::{Line, Lines, MOST_KEPT, MOST_TICK, Schedule, Step, Version};
+pub use schedule::{
+    Count, DirectSchedule, Line, Lines, MOST_DIALS, MOST_KEPT, MOST_NUMBER, MOST_TICK, MOST_TIMES,
+    MOST_TIMES_TOGETHER, Schedule, Step, Version, WireLine, WireLines, WireSchedule, WireStep,
+};
