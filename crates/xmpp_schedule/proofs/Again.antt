@@ -1,5 +1,5 @@
 -- The text of a line of a direct schedule is read as that line.
-use Rattle.std.proofs.Common.{◌≡◌, ℕ, zero, suc, ◌+◌, ◌≤◌, ◌<◌, Bool, true, false, eqb, leb, ltb, List, [], ◌∷◌, ◌++◌, length, Some, Result, Ok, refl, sym, ap, subst, ◌∙◌, inl, inr, arith, codes, append_assoc}
+use Rattle.std.proofs.Common.{◌≡◌, ℕ, zero, suc, ◌+◌, ◌≤◌, ◌<◌, Bool, true, false, eqb, leb, ltb, List, [], ◌∷◌, ◌++◌, length, Some, Result, Ok, refl, sym, ap, ◌∙◌, inl, inr, arith, codes, append_assoc}
 use Rattle.std.specs.Prelude.{not, ◌&&◌, ◌||◌, nat_lt, nat_le}
 use Rattle.std.specs.Fmt.{decimal}
 use Rattle.std.specs.List.{flat_map, list_all, AllByRecursion}
@@ -10,7 +10,7 @@ use Rattle.std.proofs.lemmas.List.Concat.{flat_map-cons}
 use Rattle.std.proofs.lemmas.Slice.Eq.{bytes_eq-Decides}
 use Rattle.std.proofs.lemmas.Str.{IsUtf8-append, IsUtf8-from_ascii, IsUtf8-from_is_utf8, is_utf8-from_IsUtf8, encodes-chars}
 use Rattle.std.proofs.lemmas.Str.Pattern.{NoCharPasses-char}
-use Rattle.xmpp_schedule.specs.Grammar.{is_lower, is_digit, is_name, is_text, is_text_character, Declared, nothing_declared, declared_by, may_stand, AreLines, step_text}
+use Rattle.xmpp_schedule.specs.Grammar.{is_lower, is_digit, is_name, is_text, is_text_character, Declared, declared_by, may_stand, AreLines, step_text}
 use Rattle.xmpp_edge.specs.Names.{is_among}
 use Rattle.xmpp_schedule.specs.Reading.{pieces_of, cut_of, not_empty, next_field, last_field, rest_field, is_number, read_account, read_device, read_message, read_say, read_private, read_catchup, read_tick, read_words, read_line, read_lines}
 use Rattle.xmpp_schedule.specs.declared.schedule.Line.{Line}

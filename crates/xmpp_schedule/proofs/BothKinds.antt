@@ -1,11 +1,11 @@
 -- What is read is a schedule, and the text is its text; and the text of each schedule is read as that schedule.
 use Rattle.std.proofs.Common.{◌≡◌, ℕ, true, false, Bool, List, ◌∷◌, ◌++◌, Result, Ok, Err, refl, sym, ap, subst, ◌∙◌, arith}
 use Rattle.std.specs.List.{flat_map}
-use Rattle.xmpp_schedule.specs.Grammar.{AreLines, IsDirectSchedule, direct_text, header_text, may_keep, nothing_declared}
+use Rattle.xmpp_schedule.specs.Grammar.{AreLines, direct_text, header_text, may_keep, nothing_declared}
 use Rattle.xmpp_schedule.specs.Kinds.{IsSchedule, schedule_text}
 use Rattle.xmpp_schedule.specs.Reading.{Piece, pieces_of, read_header, read_lines}
 use Rattle.xmpp_schedule.specs.Schedules.{ScheduleView, WireView}
-use Rattle.xmpp_schedule.specs.WireGrammar.{AreWireLines, IsWireSchedule, nothing_above, wire_text}
+use Rattle.xmpp_schedule.specs.WireGrammar.{AreWireLines, nothing_above, wire_text}
 use Rattle.xmpp_schedule.specs.WireReading.{as_direct, as_wire, read_below, read_kind, read_wire_lines, reading}
 use Rattle.xmpp_schedule.specs.declared.fault.LineWhy.{LineWhy}
 use Rattle.xmpp_schedule.specs.declared.fault.ScheduleFault.{ScheduleFault}
@@ -17,7 +17,7 @@ use Rattle.xmpp_schedule.specs.declared.schedule.Version.{Version}
 use Rattle.xmpp_schedule.specs.declared.schedule.WireLine.{WireLine}
 use Rattle.xmpp_schedule.proofs.Again.{AreDeclared, lines_again}
 use Rattle.xmpp_schedule.proofs.Found.{line_text, lines_found, pieces_back, text_of_pieces}
-use Rattle.xmpp_schedule.proofs.Headings.{HasBegun, header_found, heading_again}
+use Rattle.xmpp_schedule.proofs.Headings.{header_found, heading_again}
 use Rattle.xmpp_schedule.proofs.WireAgain.{wire_lines_again}
 use Rattle.xmpp_schedule.proofs.WireFound.{wire_line_text, wire_lines_found}
 use Rattle.xmpp_schedule.proofs.Words.{piece_behind}

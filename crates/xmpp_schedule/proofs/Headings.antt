@@ -1,6 +1,6 @@
 -- Line 1 is read as what it says, and what it may say is read again.
 use Rattle.std.proofs.Common.{◌≡◌, ℕ, ◌≤◌, Bool, true, false, List, [], ◌∷◌, ◌++◌, Option, Some, Result, Ok, Err, refl, sym, ap, subst, ◌∙◌, inl, inr, codes, arith}
-use Rattle.std.specs.Prelude.{IsTrue, nat_le, ◌&&◌}
+use Rattle.std.specs.Prelude.{IsTrue, nat_le}
 use Rattle.std.specs.Fmt.{decimal}
 use Rattle.std.specs.Str.{bytes_eq, is_utf8}
 use Rattle.std.proofs.lemmas.Bool.{and_from, and_parts, leb-true, le-leb}
@@ -8,13 +8,13 @@ use Rattle.std.proofs.lemmas.Option.{same_Some}
 use Rattle.std.proofs.lemmas.Slice.Eq.{bytes_eq-Decides}
 use Rattle.std.proofs.lemmas.Str.{is_utf8-from_IsUtf8}
 use Rattle.xmpp_schedule.specs.Grammar.{header_text, may_keep, mode_text}
-use Rattle.xmpp_schedule.specs.Reading.{Cut, Piece, ◌>>=◌, as_heading, last_field, next_field, number_within, read_header, read_heading, read_mode, read_one, read_two, read_version}
+use Rattle.xmpp_schedule.specs.Reading.{Cut, Piece, as_heading, last_field, next_field, number_within, read_header, read_heading, read_mode, read_one, read_two, read_version}
 use Rattle.xmpp_schedule.specs.declared.fault.LineWhy.{LineWhy}
 use Rattle.xmpp_schedule.specs.declared.heading.Heading.{Heading}
 use Rattle.xmpp_schedule.specs.declared.schedule.TheConstants.{MOST_KEPT}
 use Rattle.xmpp_schedule.specs.declared.schedule.Version.{Version}
 use Rattle.xmpp_schedule.specs.declared.schedule.Version.TheVariants.{One, Two}
-use Rattle.xmpp_schedule.proofs.Again.{IsPlain, digits_word, last_again, next_again, plain_append, plain_from_all}
+use Rattle.xmpp_schedule.proofs.Again.{IsPlain, digits_word, last_again, plain_append, plain_from_all}
 use Rattle.xmpp_schedule.proofs.Found.{bind_ok, chosen, done, ended_text, gate, last_is, next_is, ok_is, text_of_pieces, with_rest}
 use Rattle.xmpp_schedule.proofs.Numbers.{decimal_number, number_again, number_found}
 use Rattle.xmpp_schedule.proofs.Words.{Lacks}

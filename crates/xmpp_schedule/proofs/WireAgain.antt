@@ -1,20 +1,19 @@
 -- The text of a line of a wire schedule is read as that line.
-use Rattle.std.proofs.Common.{◌≡◌, ℕ, ◌+◌, ◌≤◌, ◌<◌, true, false, inl, inr, List, [], ◌∷◌, ◌++◌, Option, Some, Ok, Err, Result, refl, sym, ap, ◌∙◌, codes, append_assoc, arith}
+use Rattle.std.proofs.Common.{◌≡◌, ℕ, ◌+◌, ◌≤◌, ◌<◌, true, false, inl, inr, List, [], ◌∷◌, ◌++◌, Some, Ok, Result, refl, sym, ap, ◌∙◌, codes, append_assoc, arith}
 use Rattle.std.specs.Prelude.{◌&&◌, nat_lt, nat_le}
 use Rattle.std.specs.Fmt.{decimal}
 use Rattle.std.specs.List.{flat_map}
-use Rattle.std.proofs.lemmas.Bool.{and_from, and_parts, cases_Bool, false≢true, le-leb, leb-true}
+use Rattle.std.proofs.lemmas.Bool.{and_parts, cases_Bool, false≢true, le-leb, leb-true}
 use Rattle.std.proofs.lemmas.Bool.Decides.{nat_tests}
 use Rattle.std.proofs.lemmas.Slice.Eq.{bytes_eq-Decides}
 use Rattle.std.specs.Str.{bytes_eq}
 use Rattle.std.proofs.lemmas.List.Concat.{flat_map-cons}
 use Rattle.std.proofs.lemmas.Str.{is_utf8-from_IsUtf8}
 use Rattle.xmpp_edge.specs.Names.{is_among}
-use Rattle.xmpp_schedule.specs.Grammar.{Declared, declared_by, is_lower, may_stand}
-use Rattle.xmpp_schedule.specs.Reading.{cut_of, last_field, next_field, is_number, number_within, pieces_of, read_words}
+use Rattle.xmpp_schedule.specs.Grammar.{is_lower, may_stand}
+use Rattle.xmpp_schedule.specs.Reading.{cut_of, is_number, pieces_of, read_words}
 use Rattle.xmpp_schedule.specs.WireGrammar.{WireAbove, AreWireLines, above_by, are_few, are_times, count_text, is_count, is_made, may_run, wire_step_text}
-use Rattle.xmpp_schedule.specs.WireReading.{conn_of, count_of, fit_with, read_close, read_common, read_cut, read_device_name, read_dial, read_down, read_forget, read_moved, read_moves, read_pass, read_run, read_up, read_wire_line, read_wire_lines, read_wire_words, times_of}
-use Rattle.xmpp_schedule.specs.declared.fault.LineWhy.{LineWhy}
+use Rattle.xmpp_schedule.specs.WireReading.{conn_of, count_of, read_close, read_common, read_cut, read_device_name, read_dial, read_down, read_forget, read_moved, read_moves, read_pass, read_run, read_up, read_wire_line, read_wire_lines, read_wire_words, times_of}
 use Rattle.xmpp_schedule.specs.declared.fault.ScheduleFault.{ScheduleFault}
 use Rattle.xmpp_schedule.specs.declared.schedule.Count.{Count}
 use Rattle.xmpp_schedule.specs.declared.schedule.Count.TheVariants.{Number, All}
@@ -24,7 +23,7 @@ use Rattle.xmpp_schedule.specs.declared.schedule.TheConstants.{MOST_DIALS, MOST_
 use Rattle.xmpp_schedule.specs.declared.schedule.WireLine.{WireLine}
 use Rattle.xmpp_schedule.specs.declared.schedule.WireStep.{WireStep}
 use Rattle.xmpp_schedule.specs.declared.schedule.WireStep.TheVariants.{Common, Dial, Forget, Close, Up, Down, Cut, Pass, Run}
-use Rattle.xmpp_schedule.proofs.Again.{AreDeclared, IsAgain, IsPlain, IsWord, among_is_name, word_from_all, digits_word, last_again, name_word, next_again, plain_append, plain_from_all, step_again}
+use Rattle.xmpp_schedule.proofs.Again.{AreDeclared, IsPlain, IsWord, among_is_name, word_from_all, digits_word, last_again, name_word, next_again, plain_append, plain_from_all, step_again}
 use Rattle.xmpp_schedule.proofs.Numbers.{decimal_number, number_again}
 use Rattle.xmpp_schedule.proofs.WireFound.{AreCountable, countable_on, wire_line_text}
 use Rattle.xmpp_schedule.proofs.Words.{piece_behind}

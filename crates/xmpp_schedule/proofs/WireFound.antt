@@ -1,5 +1,5 @@
 -- What the lines of a wire schedule are read as may stand there, and is what they say.
-use Rattle.std.proofs.Common.{◌≡◌, ℕ, ◌+◌, ◌≤◌, Bool, true, false, List, [], ◌∷◌, ◌++◌, Option, Some, None, Result, Ok, Err, refl, sym, ap, subst, ◌∙◌, inl, inr, codes, append_assoc, arith}
+use Rattle.std.proofs.Common.{◌≡◌, ℕ, ◌+◌, ◌≤◌, true, List, [], ◌∷◌, ◌++◌, Option, Some, Result, Ok, Err, refl, sym, ap, subst, ◌∙◌, inl, inr, codes, append_assoc, arith}
 use Rattle.std.specs.Prelude.{◌&&◌, IsTrue, nat_lt, nat_le}
 use Rattle.std.specs.Fmt.{decimal}
 use Rattle.std.specs.List.{flat_map}
@@ -9,7 +9,7 @@ use Rattle.std.proofs.lemmas.Bool.Decides.{nat_tests}
 use Rattle.std.proofs.lemmas.List.Concat.{flat_map-cons}
 use Rattle.std.proofs.lemmas.Slice.Eq.{bytes_eq-Decides}
 use Rattle.xmpp_edge.specs.Names.{is_among}
-use Rattle.xmpp_schedule.specs.Reading.{Cut, Piece, ◌>>=◌, cut_of, either, last_field, next_field, number_within, read_words, wants}
+use Rattle.xmpp_schedule.specs.Reading.{Cut, Piece, cut_of, either, last_field, next_field, number_within, read_words}
 use Rattle.xmpp_schedule.specs.WireGrammar.{WireAbove, AreWireLines, above_by, are_few, are_times, count_text, is_count, is_made, may_run, wire_step_text}
 use Rattle.xmpp_schedule.specs.WireReading.{conn_of, count_of, fit_with, or_unknown, read_close, read_common, read_cut, read_device_name, read_dial, read_down, read_forget, read_moved, read_moves, read_pass, read_run, read_up, read_wire_line, read_wire_lines, read_wire_words, times_of, as_count, with_wire_front}
 use Rattle.xmpp_schedule.specs.declared.fault.LineWhy.{LineWhy}
@@ -17,7 +17,6 @@ use Rattle.xmpp_schedule.specs.declared.fault.ScheduleFault.{ScheduleFault}
 use Rattle.xmpp_schedule.specs.declared.fault.ScheduleFault.TheVariants.{BadLine}
 use Rattle.xmpp_schedule.specs.declared.schedule.Count.{Count}
 use Rattle.xmpp_schedule.specs.declared.schedule.Count.TheVariants.{Number, All}
-use Rattle.xmpp_schedule.specs.declared.schedule.Step.{Step}
 use Rattle.xmpp_schedule.specs.declared.schedule.TheConstants.{MOST_DIALS, MOST_NUMBER, MOST_TIMES, MOST_TIMES_TOGETHER}
 use Rattle.xmpp_schedule.specs.declared.schedule.WireLine.{WireLine}
 use Rattle.xmpp_schedule.specs.declared.schedule.WireStep.{WireStep}
@@ -162,9 +161,11 @@ down_found above fields step bound e =
 
 cut_says : (above : WireAbove) (first second third : List ℕ) (conn up down : ℕ) (fields rest last : Option (List ℕ)) → IsConn above first conn → up ≤ MOST_NUMBER → down ≤ MOST_NUMBER
     → fields ≡ Some (with_rest first rest) → rest ≡ Some (with_rest second last) → last ≡ Some third → second ≡ decimal up → third ≡ decimal down → Says above (codes "cut") fields (CutOff conn up down)
-cut_says above first second third conn up down fields rest last made first_low second_low is after then up_is down_is =
-    (and_from _ _ (and_from _ _ made.0 (le-leb up MOST_NUMBER first_low)) (le-leb down MOST_NUMBER second_low), refl,
-    ap (λ (xs : List ℕ). codes "cut " ++ xs) (append_assoc (decimal conn) (32 ∷ decimal up) (32 ∷ decimal down)) ∙ rw (is, after, then, made.1, up_is, down_is) refl)
+cut_says above first second third conn up down fields rest last made first_low second_low is after then up_is down_is = (
+  and_from _ _ (and_from _ _ made.0 (le-leb up MOST_NUMBER first_low)) (le-leb down MOST_NUMBER second_low),
+  refl,
+  ap (λ (xs : List ℕ). codes "cut " ++ xs) (append_assoc (decimal conn) (32 ∷ decimal up) (32 ∷ decimal down)) ∙ rw (is, after, then, made.1, up_is, down_is) refl,
+)
 
 cut_found : (above : WireAbove) (fields : Option (List ℕ)) (step : WireStep) → AreCountable above → read_cut above fields ≡ Ok step → Says above (codes "cut") fields step
 unfolding read_cut

@@ -2,7 +2,7 @@
 use Rattle.std.specs.Prelude.{ℕ, ◌+◌, ◌*◌, ◌-◌, ◌==◌, nat_lt, nat_le, Bool, true, false, ◌&&◌, not, List, [], ◌∷◌, Option, Some, None, Result, Ok, Err, length, fold, codes, if◌then◌else◌}
 use Rattle.std.specs.List.{list_all}
 use Rattle.std.specs.Str.{bytes_eq, is_utf8}
-use Rattle.xmpp_schedule.specs.Grammar.{is_digit, is_name, is_text, Declared, nothing_declared, declared_by}
+use Rattle.xmpp_schedule.specs.Grammar.{is_digit, is_name, is_text, Declared, declared_by}
 use Rattle.xmpp_edge.specs.Names.{is_among}
 use Rattle.xmpp_schedule.specs.declared.schedule.Line.{Line}
 use Rattle.xmpp_schedule.specs.declared.fault.LineWhy.{LineWhy}
@@ -12,7 +12,6 @@ use Rattle.xmpp_schedule.specs.declared.heading.Heading.{Heading}
 use Rattle.xmpp_schedule.specs.declared.schedule.Step.{Step}
 use Rattle.xmpp_schedule.specs.declared.schedule.Step.TheVariants.{Account, Device, Say, Private, Catchup, Tick}
 use Rattle.xmpp_schedule.specs.declared.schedule.TheConstants.{MOST_KEPT, MOST_TICK}
-use Rattle.xmpp_schedule.specs.declared.schedule.Version.{Version}
 use Rattle.xmpp_schedule.specs.declared.schedule.Version.TheVariants.{One, Two}
 use Rattle.xmpp_schedule.specs.declared.fault.LineWhy.TheVariants as why
 

@@ -12,9 +12,7 @@ ghost use Rattle.xmpp_schedule.specs.declared.schedule.Schedule.{Schedule};
 use crate::fault::{LineFault, LineWhy, ScheduleFault, wants};
 use crate::heading::{Heading, read_heading};
 use crate::lines::first_line;
-use crate::schedule::{
-    DirectSchedule, Line, Lines, Schedule, WireLine, WireLines, WireSchedule,
-};
+use crate::schedule::{DirectSchedule, Line, Lines, Schedule, WireLine, WireLines, WireSchedule};
 use crate::steps::{NamesAbove, read_line};
 use crate::wire_steps::{WireAbove, read_wire_line};
 use std::alloc::Global;

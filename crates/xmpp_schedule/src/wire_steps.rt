@@ -1,16 +1,15 @@
 //! What a line of a wire schedule says, by its first word, below what stands above it.
 ghost use Rattle.std.specs.Prelude.{◌≡◌, ◌≤◌, true, IfOk, OnOk, OnErr};
 ghost use Rattle.xmpp_schedule.specs.Gives.{Gives, left};
-ghost use Rattle.xmpp_schedule.specs.Reading.{cut_of};
+ghost use Rattle.xmpp_schedule.specs.Reading.{cut_of, wants};
 ghost use Rattle.xmpp_schedule.specs.WireGrammar.{above_by, nothing_above};
 ghost use Rattle.xmpp_schedule.specs.WireReading.{conn_of, count_of, fit_with, times_of, read_device_name, read_dial, read_forget, read_close, read_moved, read_up, read_down, read_cut, read_pass, read_run, read_common, read_moves, read_wire_words, read_wire_line};
+ghost use Rattle.xmpp_schedule.specs.declared.fault.LineWhy.TheVariants.{Many};
 
 use crate::fault::{LineFault, LineWhy, wants};
 use crate::fields::{cut_word, last_field, next_field, number_within};
 use crate::lines::spelled;
-use crate::schedule::{
-    Count, MOST_DIALS, MOST_NUMBER, MOST_TIMES, MOST_TIMES_TOGETHER, WireStep,
-};
+use crate::schedule::{Count, MOST_DIALS, MOST_NUMBER, MOST_TIMES, MOST_TIMES_TOGETHER, WireStep};
 use crate::steps::{NamesAbove, read_words};
 use std::alloc::Global;
 use std::marker::Model;
@@ -88,11 +87,7 @@ fn read_forget(
 }
 
 #[tactic(auto, unfolding(crate::specs::WireReading::read_close))]
-fn read_close(
-    alloc: Global,
-    above: &WireAbove,
-    fields: Option<&str>,
-) -> Result<WireStep, LineFault>
+fn read_close(alloc: Global, above: &WireAbove, fields: Option<&str>) -> Result<WireStep, LineFault>
     ensures exact { Gives (λ step. step) result (read_close above.now (left fields.entry)) }
     ensures above { IfOk result (λ step. above_by step above.now ≡ above.now) }
 {
@@ -163,13 +158,18 @@ fn read_cut(above: &WireAbove, fields: Option<&str>) -> Result<WireStep, LineFau
     Ok(WireStep::Cut(conn, up, down))
 }
 
-/// Whether the times of a line, where they are a number that it may have, fit with those of the lines above.
-fn fits(before: u32, field: &str) -> bool
-    ensures { result ≡ fit_with before (times_of field.now) }
+/// A test that the times of a line fit with those of the lines above, which they do where they are no number that a
+/// line may have.
+fn wants_few(before: u32, field: &str) -> Result<(), LineFault>
+    ensures { Gives (λ _. true) result (wants (fit_with before (times_of field.now)) Many) }
 {
     match number_within(1, MOST_TIMES, field) {
-        Ok(times) => u64::from(before) + u64::from(times) <= u64::from(MOST_TIMES_TOGETHER),
-        Err(_) => true,
+        Ok(times) => {
+            let together = u64::from(before) + u64::from(times);
+            wants(together <= u64::from(MOST_TIMES_TOGETHER), LineWhy::Many)
+        }
+        Err(LineFault::Reason(_)) => Ok(()),
+        Err(LineFault::NoMemory) => Err(LineFault::NoMemory),
     }
 }
 
@@ -181,7 +181,7 @@ fn read_pass(above: &mut WireAbove, fields: Option<&str>) -> Result<WireStep, Li
 {
     let (conn, rest) = next_field(fields)?;
     let field = last_field(rest)?;
-    wants(fits(above.times, field), LineWhy::Many)?;
+    wants_few(above.times, field)?;
     let conn = conn_of(above.dials, conn)?;
     let times = number_within(1, MOST_TIMES, field)?;
     above.times += times;
@@ -195,7 +195,7 @@ fn read_run(above: &mut WireAbove, fields: Option<&str>) -> Result<WireStep, Lin
     ensures err { OnErr result (above.new ≡ above.old) }
 {
     let field = last_field(fields)?;
-    wants(fits(above.times, field), LineWhy::Many)?;
+    wants_few(above.times, field)?;
     let times = number_within(1, MOST_TIMES, field)?;
     above.times += times;
     Ok(WireStep::Run(times))
