@@ -33,3 +33,4 @@ pub mod Prompt
 pub mod PromptWords
 pub mod PromptSessions
 pub mod Settled
+pub mod Seen

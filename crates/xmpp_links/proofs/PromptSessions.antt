@@ -8,7 +8,7 @@ use Rattle.xmpp_links.proofs.CutLinks.{not_true, some_one, some_same}
 use Rattle.xmpp_links.proofs.Counting.{up_stanzas_with}
 use Rattle.xmpp_links.proofs.Hands.{flow_up}
 use Rattle.xmpp_links.proofs.ReadResumed.{Reads, reads, up_none, resent_if, read_resumed_keeps}
-use Rattle.xmpp_links.proofs.ReadEnabled.{ReadsEnabled, reads_enabled, known_if}
+use Rattle.xmpp_links.proofs.ReadEnabled.{EnabledFirst, reads_enabled, known_if}
 use Rattle.xmpp_links.proofs.ToCome.{drop_whole, to_come_last}
 use Rattle.xmpp_links.proofs.Covering.{client_covered, IsTogether, together}
 use Rattle.xmpp_links.proofs.Prompt.{flowing_up_left}
@@ -110,7 +110,7 @@ read_enabled_covered {A = A} test k number v next m kept = subst (IsCovered test
     old : ConnKept v k m.conn
     old = kept.conns k m.conn m.is
 
-    r : ReadsEnabled old.stage number (tail_of m.conn.ending) (down_whole (left_down m.rest m.conn.wires))
+    r : EnabledFirst old.stage number (tail_of m.conn.ending) (down_whole (left_down m.rest m.conn.wires))
     r = reads_enabled old.stage m.conn.ending number (down_whole (left_down m.rest m.conn.wires)) (sym old.at.client ∙ m.client) (sym old.at.down ∙ left_down_whole (Enabled number) m.rest m.conn.wires m.first)
 
     fits : FitsOwn v.own v.epoch v.sessions (Enables number r.downs)
