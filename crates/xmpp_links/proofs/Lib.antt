@@ -34,3 +34,6 @@ pub mod PromptWords
 pub mod PromptSessions
 pub mod Settled
 pub mod Seen
+pub mod Worked
+pub mod WorkedEnds
+pub mod Refused

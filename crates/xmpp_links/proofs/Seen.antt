@@ -8,7 +8,8 @@ use Rattle.xmpp_acks.proofs.Directions.{kept_reached}
 use Rattle.xmpp_links.proofs.Entries.{same_number, other_number, at_other, is_has, has_is}
 use Rattle.xmpp_links.proofs.Tables.{left_up_whole, left_down_whole}
 use Rattle.xmpp_links.proofs.CutLinks.{not_true, some_one, some_same}
-use Rattle.xmpp_links.proofs.Hands.{no_entry}
+use Rattle.xmpp_links.proofs.Hands.{no_entry, beginning_keeps}
+use Rattle.xmpp_links.proofs.Reached.{move_keeps}
 use Rattle.xmpp_links.proofs.Served.{IsOn, on_row}
 use Rattle.xmpp_links.proofs.Heard.{IsIn, in_own}
 use Rattle.xmpp_links.proofs.Puts.{putting}
@@ -29,8 +30,8 @@ use Rattle.xmpp_links.specs.SessionMoves.{lost_if, unread, resumed_if, IsAskResu
 use Rattle.xmpp_links.specs.EndMoves.{IsFailed, IsTooHigh, IsFootTaken, IsUncountedShut, IsUncountedGone, IsGone, IsFooted, IsForgotten}
 use Rattle.xmpp_links.specs.PutMoves.{IsClientQueued, IsClientRequest, IsServerPut, IsServerQueued, IsServerRequest}
 use Rattle.xmpp_links.specs.Links.{DownCounts, FitsOwn, IsAsked, ConnKept, GoesUp, GoesDown, IsPlaced, RowKept, OwnKept, LinkKept}
-use Rattle.xmpp_links.specs.Machine.{LinkMove, Cuts, Dials, LetsGo, Foots, Forgets, Puts, Queues, Requests, ReadsHand, AsksToResume, AsksToBind, ReadsFailed, ReadsResumed, ReadsBound, ReadsEnabled, ReadsStanza, ReadsRequest, ReadsCount, TakesHand, TakesResume, TakesLateResume, TakesStrangeResume, TakesHighResume, TakesBind, TakesEnable, TakesStanza, TakesRequest, TakesCount, TakesFoot, Parks, Hears, HearsEarly, Detaches, Shuts, EndsRow, Serves, Keeps, Demands, LinkMoves}
-use Rattle.xmpp_links.specs.Events.{SeenSession, seen_session, Seen, row_number, own_number, seen_as, seen, Event, Named, Counted, Known, Ended, Dropped, Said, Handled, Served, Heard, Learned, May, new_session, after, IsSeenAs}
+use Rattle.xmpp_links.specs.Machine.{LinkMove, Cuts, Dials, LetsGo, Foots, Forgets, Puts, Queues, Requests, ReadsHand, AsksToResume, AsksToBind, ReadsFailed, ReadsResumed, ReadsBound, ReadsEnabled, ReadsStanza, ReadsRequest, ReadsCount, TakesHand, TakesResume, TakesLateResume, TakesStrangeResume, TakesHighResume, TakesBind, TakesEnable, TakesStanza, TakesRequest, TakesCount, TakesFoot, Parks, Hears, HearsEarly, Detaches, Shuts, EndsRow, Serves, Keeps, Demands, LinkMoves, nothing_yet, LinkReaches, LinkReached}
+use Rattle.xmpp_links.specs.Events.{SeenSession, seen_session, Seen, row_number, own_number, seen_as, seen, Event, Named, Counted, Known, Ended, Dropped, Said, Handled, Served, Heard, Learned, May, new_session, after, IsSeenAs, Follows}
 use Rattle.xmpp_links.specs.Events as events
 
 same_seen : {A : Type 0} (a b : Seen A) → a.live ≡ b.live → a.own ≡ b.own → a.epoch ≡ b.epoch → ((q : ℕ) → a.sessions q ≡ b.sessions q) → a ≡ b
@@ -270,3 +271,17 @@ move_seen EndsRow v next m kept = row_ended_seen v next m
 move_seen (Serves k z) v next m kept = server_put_seen k z v next m kept
 move_seen (Keeps z) v next m kept = server_queued_seen z v next m kept
 move_seen (Demands k) v next m kept = unseen v next _ m.gives refl refl refl (λ q. refl)
+
+with_event : {A : Type 0} (e : Option (Event A)) (s t last : Seen A) (es : List (Event A)) → IsSeenAs e s t → Follows es t last → (all : List (Event A)) × Follows all s last
+with_event None s t last es same follows = (es, subst (λ x. Follows es x last) same follows)
+with_event (Some e) s t last es (may, same) follows = (e ∷ es, (may, subst (λ x. Follows es x last) same follows))
+
+seen_along : {A : Type 0} (moves : List (LinkMove A)) (v last : View A) → LinkKept v → LinkReaches moves v last → (es : List (Event A)) × Follows es (seen v) (seen last)
+seen_along [] v last kept same = ([], ap seen same)
+seen_along (move ∷ moves) v last kept (next, by, along) =
+    let one = move_seen move v next by kept in
+    let more = seen_along moves next last (move_keeps move v next by kept) along in
+    with_event one.0 (seen v) (seen next) (seen last) more.0 one.1 more.1
+
+pub run_seen : {A : Type 0} (v : View A) → LinkReached v → (es : List (Event A)) × Follows es (seen nothing_yet) (seen v)
+run_seen v reached = seen_along reached.moves nothing_yet v beginning_keeps reached.reaches

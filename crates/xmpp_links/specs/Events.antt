@@ -100,3 +100,8 @@ after (Learned p n) s = record s { sessions = alter (λ q t. record t { acked = 
 abbrev pub IsSeenAs : {A : Type 0} → Option (Event A) → Seen A → Seen A → Type 0
 IsSeenAs None s t = t ≡ s
 IsSeenAs (Some e) s t = May e s × (t ≡ after e s)
+
+-- the events come, one after the other, and lead from the one to the other
+abbrev pub Follows : {A : Type 0} → List (Event A) → Seen A → Seen A → Type 0
+Follows [] s last = last ≡ s
+Follows (e ∷ es) s last = May e s × Follows es (after e s) last
