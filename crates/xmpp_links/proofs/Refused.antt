@@ -1,16 +1,15 @@
 -- No moves lead where wrong ends would come.
-use Rattle.std.proofs.Common.{◌≡◌, ℕ, true, false, List, [], ◌∷◌, ◌++◌, length, refl, sym, ap, ◌∙◌, subst, None, Some, nat_eq}
-use Rattle.std.proofs.lemmas.List.{append-nil}
+use Rattle.std.proofs.Common.{◌≡◌, ℕ, true, false, [], ◌∷◌, length, refl, sym, ap, ◌∙◌, subst, Some, nat_eq}
 use Rattle.xmpp_acks.specs.Delivery.{Direction, beginning}
 use Rattle.xmpp_links.proofs.Entries.{same_number}
 use Rattle.xmpp_links.proofs.CutLinks.{not_true, some_one, some_same}
 use Rattle.xmpp_links.proofs.ReadResumed.{Reads, reads}
 use Rattle.xmpp_links.proofs.Promised.{server_end}
-use Rattle.xmpp_links.proofs.Served.{IsOn, on_row}
-use Rattle.xmpp_links.specs.Words.{St, Req, Up, Down, Resumed, InOnline, InResume, up_stanzas}
-use Rattle.xmpp_links.specs.Wires.{Flow, Stop, up_words}
-use Rattle.xmpp_links.specs.Stages.{Resumes, tail_of, Stands, Conn}
-use Rattle.xmpp_links.specs.Views.{View, Session, Row}
+use Rattle.xmpp_links.proofs.Served.{on_row}
+use Rattle.xmpp_links.specs.Words.{St, Req, Up, Resumed, InOnline, InResume}
+use Rattle.xmpp_links.specs.Wires.{Flow}
+use Rattle.xmpp_links.specs.Stages.{Resumes, tail_of, Stands}
+use Rattle.xmpp_links.specs.Views.{Session, Row}
 use Rattle.xmpp_links.specs.Links.{FitsOwn, ConnKept, LinkKept}
 use Rattle.xmpp_links.specs.Wrong.{with_one, known, sends_all_again, states_acknowledged, resumes_late, binds_beside}
 

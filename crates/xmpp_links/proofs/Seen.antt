@@ -1,17 +1,15 @@
 -- Each move is nothing, or one event, to the applications.
-use Rattle.std.proofs.Common.{◌≡◌, ◌≢◌, ℕ, ◌+◌, ◌-◌, ◌≤◌, Bool, true, false, ◌&&◌, if◌then◌else◌, List, [], ◌∷◌, ◌++◌, length, drop, refl, sym, ap, ◌∙◌, subst, arith, append_assoc, ◌⊎◌, inl, inr, Option, None, Some, nat_eq}
-use Rattle.std.proofs.lemmas.Bool.{cases_Bool, cases_eq}
-use Rattle.std.proofs.lemmas.List.{append-nil}
+use Rattle.std.proofs.Common.{◌≡◌, ℕ, ◌+◌, ◌≤◌, Bool, true, false, ◌&&◌, if◌then◌else◌, List, [], ◌∷◌, ◌++◌, length, refl, sym, ap, ◌∙◌, subst, arith, append_assoc, Option, None, Some, nat_eq}
 use Rattle.std.specs.List.{Contains}
-use Rattle.xmpp_acks.specs.Delivery.{Direction, Reached, IsPrefix}
+use Rattle.xmpp_acks.specs.Delivery.{Direction, Reached}
 use Rattle.xmpp_acks.proofs.Directions.{kept_reached}
-use Rattle.xmpp_links.proofs.Entries.{same_number, other_number, at_other, is_has, has_is}
+use Rattle.xmpp_links.proofs.Entries.{is_has, has_is}
 use Rattle.xmpp_links.proofs.Tables.{left_up_whole, left_down_whole}
-use Rattle.xmpp_links.proofs.CutLinks.{not_true, some_one, some_same}
-use Rattle.xmpp_links.proofs.Hands.{no_entry, beginning_keeps}
+use Rattle.xmpp_links.proofs.CutLinks.{some_one, some_same}
+use Rattle.xmpp_links.proofs.Hands.{beginning_keeps}
 use Rattle.xmpp_links.proofs.Reached.{move_keeps}
-use Rattle.xmpp_links.proofs.Served.{IsOn, on_row}
-use Rattle.xmpp_links.proofs.Heard.{IsIn, in_own}
+use Rattle.xmpp_links.proofs.Served.{on_row}
+use Rattle.xmpp_links.proofs.Heard.{in_own}
 use Rattle.xmpp_links.proofs.Puts.{putting}
 use Rattle.xmpp_links.proofs.Putting.{serving}
 use Rattle.xmpp_links.proofs.Late.{late_if}
@@ -20,16 +18,15 @@ use Rattle.xmpp_links.proofs.ReadBound.{at_bound, named_if}
 use Rattle.xmpp_links.proofs.ReadEnabled.{EnabledFirst, reads_enabled, known_if}
 use Rattle.xmpp_links.proofs.ReadResumed.{Reads, reads, resent_if, phase_session}
 use Rattle.xmpp_links.proofs.Asking.{at_refused}
-use Rattle.xmpp_links.proofs.Promised.{down_count_within}
-use Rattle.xmpp_links.specs.Words.{Ack, UpWord, Enable, DownWord, Failed, Resumed, Bound, Enabled, Down, InResume, AtSession, up_stanzas, down_stanzas}
-use Rattle.xmpp_links.specs.Wires.{is_flowing, up_words, down_words, up_whole, down_whole, left_up, left_down}
-use Rattle.xmpp_links.specs.Stages.{Stage, Refused, Resumes, Binds, AsksEnable, Enables, phase_of, up_of, down_of, Ending, tail_of, foot_of, Conn}
-use Rattle.xmpp_links.specs.Views.{Table, with_at, alter, changed, has, Session, Row, Own, View, on_phase, session_on, carries}
-use Rattle.xmpp_links.specs.LinkMoves.{ways_cut, handled_if, stated_if, acked_if, read_if, told_if, heard_if, IsCut, IsLetGo, IsDialled, IsUpHand, IsDownHand, IsUpStanza, IsUpRequest, IsUpCount, IsDownStanza, IsDownRequest, IsDownCount}
-use Rattle.xmpp_links.specs.SessionMoves.{lost_if, unread, resumed_if, IsAskResume, IsAskBind, IsRefused, IsDetached, IsRowEnded, IsBound, IsReadBound, IsEnabled, IsReadEnabled, IsClientPut, IsResumedHere, IsResumedLate, IsReadResumed, IsParked}
-use Rattle.xmpp_links.specs.EndMoves.{IsFailed, IsTooHigh, IsFootTaken, IsUncountedShut, IsUncountedGone, IsGone, IsFooted, IsForgotten}
-use Rattle.xmpp_links.specs.PutMoves.{IsClientQueued, IsClientRequest, IsServerPut, IsServerQueued, IsServerRequest}
-use Rattle.xmpp_links.specs.Links.{DownCounts, FitsOwn, IsAsked, ConnKept, GoesUp, GoesDown, IsPlaced, RowKept, OwnKept, LinkKept}
+use Rattle.xmpp_links.specs.Words.{Enable, Failed, Resumed, Bound, Enabled, up_stanzas, down_stanzas}
+use Rattle.xmpp_links.specs.Wires.{is_flowing, up_whole, down_whole, left_up, left_down}
+use Rattle.xmpp_links.specs.Stages.{Refused, Resumes, Binds, AsksEnable, Enables, phase_of, Ending, tail_of, foot_of, Conn}
+use Rattle.xmpp_links.specs.Views.{changed, has, Session, Row, Own, View, on_phase, session_on, carries}
+use Rattle.xmpp_links.specs.LinkMoves.{ways_cut, handled_if, stated_if, acked_if, read_if, told_if, heard_if, IsCut, IsLetGo, IsDialled, IsUpStanza, IsUpRequest, IsUpCount, IsDownStanza, IsDownRequest, IsDownCount}
+use Rattle.xmpp_links.specs.SessionMoves.{lost_if, unread, resumed_if, IsAskResume, IsRefused, IsDetached, IsRowEnded, IsBound, IsReadBound, IsEnabled, IsReadEnabled, IsClientPut, IsResumedHere, IsResumedLate, IsReadResumed, IsParked}
+use Rattle.xmpp_links.specs.EndMoves.{IsTooHigh, IsUncountedShut, IsUncountedGone, IsForgotten}
+use Rattle.xmpp_links.specs.PutMoves.{IsClientQueued, IsServerPut, IsServerQueued}
+use Rattle.xmpp_links.specs.Links.{DownCounts, FitsOwn, IsAsked, GoesUp, IsPlaced, LinkKept}
 use Rattle.xmpp_links.specs.Machine.{LinkMove, Cuts, Dials, LetsGo, Foots, Forgets, Puts, Queues, Requests, ReadsHand, AsksToResume, AsksToBind, ReadsFailed, ReadsResumed, ReadsBound, ReadsEnabled, ReadsStanza, ReadsRequest, ReadsCount, TakesHand, TakesResume, TakesLateResume, TakesStrangeResume, TakesHighResume, TakesBind, TakesEnable, TakesStanza, TakesRequest, TakesCount, TakesFoot, Parks, Hears, HearsEarly, Detaches, Shuts, EndsRow, Serves, Keeps, Demands, LinkMoves, nothing_yet, LinkReaches, LinkReached}
 use Rattle.xmpp_links.specs.Events.{SeenSession, seen_session, Seen, row_number, own_number, seen_as, seen, Event, Named, Counted, Known, Ended, Dropped, Said, Handled, Served, Heard, Learned, May, new_session, after, IsSeenAs, Follows}
 use Rattle.xmpp_links.specs.Events as events
@@ -157,9 +154,9 @@ read_resumed_seen {A = A} k v next m kept =
     let low = (kept_reached own.session.up (kept.sessions m.own.number own.session own.is).up).acked in
     event_at v next _ (Learned m.own.number m.h) m.gives (owned v m.own m.is_own, (seen_session own.session, ap seen_as own.is, (let l : own.session.up.acked ≤ m.h = omega arith in l), (let l : m.h ≤ length own.session.up.got = omega arith in l)))
     (same_seen _ _ refl (sym (owned v m.own m.is_own)) refl (λ q. seen_changed_at (λ s. resent_if (has (Some m.own.number) q) (is_flowing m.conn.wires) s) _ (v.sessions q)
-      (λ s is. resent_seen (has (Some m.own.number) q) (is_flowing m.conn.wires) m.h s (λ e.
-        let one : own.session ≡ s = some_one (v.sessions q) own.session s (subst (λ n. v.sessions n ≡ Some own.session) (some_same m.own.number q (has_is (Some m.own.number) q e)) own.is) is in
-        ap (λ (x : Session A). length x.up.got) (sym one) ∙ sym present))))
+    (λ s is. resent_seen (has (Some m.own.number) q) (is_flowing m.conn.wires) m.h s (λ e.
+    let one : own.session ≡ s = some_one (v.sessions q) own.session s (subst (λ n. v.sessions n ≡ Some own.session) (some_same m.own.number q (has_is (Some m.own.number) q e)) own.is) is in
+    ap (λ (x : Session A). length x.up.got) (sym one) ∙ sym present))))
 
 -- the server's moves
 

@@ -1,5 +1,5 @@
 -- Where wrong ends would come: views to which no moves lead.
-use Rattle.std.specs.Prelude.{ℕ, true, false, List, [], ◌∷◌, None, Some}
+use Rattle.std.specs.Prelude.{ℕ, true, false, [], ◌∷◌, None, Some}
 use Rattle.xmpp_acks.specs.Delivery.{Direction, beginning}
 use Rattle.xmpp_links.specs.Words.{St, Req, Up, Down, Resumed, Bound, Client, InBind, InResume, InOnline, AtSession}
 use Rattle.xmpp_links.specs.Wires.{Wires, Flow, Stop}

@@ -62,10 +62,8 @@ pub fn words_come_where_they_are_expected<A>()
 /// the client is online, the server has its session there, each end handled all that the other put, and no stanza behind
 /// which the client put a request at once waits to be acknowledged.
 pub fn empty_pipes_leave_nothing_outstanding<A>()
-    ensures {
-        (asks : A → Bool) (v : View A) (k : ℕ) (c : Conn A) → PromptReached asks v → v.here ≡ Some k → v.conns k ≡ Some c → is_flowing c.wires ≡ true →
-        up_words c.wires ≡ [] → down_words c.wires ≡ [] → IsSettled asks v k c
-    }
+    ensures { (asks : A → Bool) (v : View A) (k : ℕ) (c : Conn A) → PromptReached asks v → v.here ≡ Some k → v.conns k ≡ Some c → is_flowing c.wires ≡ true →
+        up_words c.wires ≡ [] → down_words c.wires ≡ [] → IsSettled asks v k c }
 {}
 
 /// To the applications each move is nothing, or one event of a session: bound, named, counted, known, ended, dropped,
