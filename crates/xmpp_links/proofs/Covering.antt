@@ -1,20 +1,16 @@
 -- Where the client is online on a connection that flows, the count that covers what it asked for is still to come.
-use Rattle.std.proofs.Common.{◌≡◌, ◌≢◌, ℕ, ◌+◌, ◌-◌, ◌≤◌, Bool, true, false, ◌&&◌, List, [], ◌∷◌, ◌++◌, length, drop, refl, sym, ap, ◌∙◌, subst, arith, ◌⊎◌, inl, inr, Option, None, Some, nat_eq}
-use Rattle.std.proofs.lemmas.Bool.{cases_Bool, cases_eq}
-use Rattle.std.proofs.lemmas.List.{append-nil, length-append}
+use Rattle.std.proofs.Common.{◌≡◌, ◌≢◌, ℕ, Bool, true, false, ◌&&◌, ◌++◌, length, drop, refl, sym, ap, ◌∙◌, subst, inl, inr, Option, Some}
 use Rattle.xmpp_acks.proofs.Directions.{kept_reached}
-use Rattle.xmpp_links.proofs.Entries.{same_number, at_same, at_other, Entry, New, Old, entry, was, altered, has_is, is_has}
-use Rattle.xmpp_links.proofs.CutLinks.{not_true, some_one, some_same}
-use Rattle.xmpp_links.proofs.Hands.{no_entry, flow_down, flow_up, up_words_down}
-use Rattle.xmpp_links.proofs.Heard.{RunsDown, runs_down}
+use Rattle.xmpp_links.proofs.Entries.{Entry, New, Old, entry, was}
+use Rattle.xmpp_links.proofs.CutLinks.{some_one, some_same}
 use Rattle.xmpp_links.proofs.UncountedEnds.{carried_holds}
-use Rattle.xmpp_links.specs.Words.{St, Req, Ack, up_stanzas, UpWord, Up, DownWord, Down, Client, InOnline}
-use Rattle.xmpp_links.specs.Wires.{Wires, Flow, Stop, is_flowing, up_words, down_words, down_whole, send_up, send_down, left_up, left_down}
-use Rattle.xmpp_links.specs.Stages.{Stage, Runs, Stands, Conn}
-use Rattle.xmpp_links.specs.Views.{Table, with_at, alter, has, Session, Row, Own, View, session_on, carried_by, carries, sends}
+use Rattle.xmpp_links.specs.Words.{up_stanzas, InOnline}
+use Rattle.xmpp_links.specs.Wires.{is_flowing, up_words, down_whole}
+use Rattle.xmpp_links.specs.Stages.{Stands, Conn}
+use Rattle.xmpp_links.specs.Views.{Table, with_at, alter, has, Session, Row, Own, View, session_on, carried_by, sends}
 use Rattle.xmpp_links.specs.PutMoves.{is_online}
 use Rattle.xmpp_links.specs.Links.{ConnKept, GoesUp, IsPlaced, RowKept, OwnKept, LinkKept}
-use Rattle.xmpp_links.specs.Covers.{NoneAsks, IsOnWay, IsToCome, IsCoveredBy, IsCovered}
+use Rattle.xmpp_links.specs.Covers.{NoneAsks, IsToCome, IsCoveredBy, IsCovered}
 
 -- what a move does to the sessions leaves put and got of the client's session as they were
 abbrev pub IsUnseen : {A : Type 0} → View A → Table (Session A) → Type 0
@@ -55,9 +51,9 @@ silent_covered asks v row sessions unseen covered n c o t here found own online 
 -- the server's connection changes, which may be the client's
 pub server_covered : {A : Type 0} (asks : A → Bool) (v : View A) (k : ℕ) (old new : Conn A) (row : Option (Row A)) (sessions : Table (Session A)) → v.conns k ≡ Some old → new.client ≡ old.client → is_flowing new.wires ≡ is_flowing old.wires →
     ((n : ℕ) (c : Conn A) (o : Own A) (t : Session A) → v.here ≡ Some n → k ≢ n → v.conns n ≡ Some c → v.own ≡ Some o → c.client ≡ InOnline o.number → is_flowing c.wires ≡ true → sessions o.number ≡ Some t →
-      (s : Session A) × (v.sessions o.number ≡ Some s) × (t.up.put ≡ s.up.put) × (t.up.got ≡ s.up.got)) →
+    (s : Session A) × (v.sessions o.number ≡ Some s) × (t.up.put ≡ s.up.put) × (t.up.got ≡ s.up.got)) →
     ((o : Own A) (t : Session A) → v.here ≡ Some k → v.own ≡ Some o → old.client ≡ InOnline o.number → is_flowing old.wires ≡ true → sessions o.number ≡ Some t →
-      (s : Session A) × (v.sessions o.number ≡ Some s) × (IsCoveredBy asks old o s → IsCoveredBy asks new o t)) →
+    (s : Session A) × (v.sessions o.number ≡ Some s) × (IsCoveredBy asks old o s → IsCoveredBy asks new o t)) →
     IsCovered asks v → IsCovered asks (record v { conns = with_at k new v.conns; row = row; sessions = sessions })
 server_covered {A = A} asks v k old new row sessions is_old client flow other this covered n c o t here found own online flows is = by (entry k new v.conns n c found)
   where
@@ -96,17 +92,20 @@ pub record IsTogether {A : Type 0} (v : View A) (k : ℕ) (c : Conn A) (o : Own 
   pub all : s.up.put ≡ s.up.got ++ up_stanzas (up_words c.wires)
 
 pub together : {A : Type 0} (v : View A) (k : ℕ) (c : Conn A) (o : Own A) → LinkKept v → v.here ≡ Some k → v.conns k ≡ Some c → v.own ≡ Some o → c.client ≡ InOnline o.number → is_flowing c.wires ≡ true → (s : Session A) × IsTogether v k c o s
-together {A = A} v k c o kept here is own online flows = (row.session, record {
-  row = a.0;
-  is_row = a.1;
-  number = a.2;
-  on = a.3;
-  counted = row.counted ∙ counted;
-  session = subst (λ n. v.sessions n ≡ Some row.session) a.2 row.is;
-  handled = row.handled;
-  acked = mine.acked ∙ ap (λ (x : Session A). x.up.acked) same;
-  all = (kept_reached row.session.up (kept.sessions a.0.number row.session row.is).up).whole is_open ∙ ap (λ l. row.session.up.got ++ l) goes.way;
-})
+together {A = A} v k c o kept here is own online flows = (
+  row.session,
+  record {
+    row = a.0;
+    is_row = a.1;
+    number = a.2;
+    on = a.3;
+    counted = row.counted ∙ counted;
+    session = subst (λ n. v.sessions n ≡ Some row.session) a.2 row.is;
+    handled = row.handled;
+    acked = mine.acked ∙ ap (λ (x : Session A). x.up.acked) same;
+    all = (kept_reached row.session.up (kept.sessions a.0.number row.session row.is).up).whole is_open ∙ ap (λ l. row.session.up.got ++ l) goes.way;
+  },
+)
   where
     old : ConnKept v k c
     old = kept.conns k c is

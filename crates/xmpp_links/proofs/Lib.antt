@@ -33,3 +33,7 @@ pub mod Prompt
 pub mod PromptWords
 pub mod PromptSessions
 pub mod Settled
+pub mod Seen
+pub mod Worked
+pub mod WorkedEnds
+pub mod Refused

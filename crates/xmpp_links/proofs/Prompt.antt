@@ -1,15 +1,10 @@
 -- Each prompt move keeps that the count is still to come.
-use Rattle.std.proofs.Common.{◌≡◌, ◌≢◌, ℕ, ◌+◌, ◌-◌, ◌≤◌, Bool, true, false, ◌&&◌, List, [], ◌∷◌, ◌++◌, length, drop, map, refl, sym, ap, ◌∙◌, subst, arith, ◌⊎◌, inl, inr, Option, None, Some, nat_eq}
-use Rattle.std.proofs.lemmas.List.{append-nil, length-append, length_push}
-use Rattle.xmpp_links.proofs.Entries.{same_number, at_same, Entry, New, Old, entry, was, altered, has_is, is_has}
-use Rattle.xmpp_links.proofs.Tables.{cut_stops, left_up_whole, left_down_whole, NextDown, LeadsDown, client_leads, early_plain, NextUp, LeadsUp, server_leads}
-use Rattle.xmpp_links.proofs.CutLinks.{not_true, some_one, some_same, cut_conn}
-use Rattle.xmpp_links.proofs.Hands.{no_entry, flow_down, flow_up, up_words_down}
-use Rattle.xmpp_links.proofs.Heard.{down_words_up}
-use Rattle.xmpp_links.proofs.Served.{served}
-use Rattle.xmpp_links.proofs.Puts.{putting}
+use Rattle.std.proofs.Common.{◌≡◌, ℕ, ◌+◌, ◌-◌, Bool, true, false, ◌&&◌, List, [], ◌∷◌, ◌++◌, length, drop, map, refl, sym, ap, ◌∙◌, subst, ◌⊎◌, inl, inr, None, Some}
+use Rattle.xmpp_links.proofs.Entries.{Entry, New, Old, entry, is_has}
+use Rattle.xmpp_links.proofs.Tables.{cut_stops, left_up_whole, left_down_whole, NextDown, LeadsDown, client_leads, NextUp, LeadsUp, server_leads}
+use Rattle.xmpp_links.proofs.CutLinks.{not_true, some_same, cut_conn}
+use Rattle.xmpp_links.proofs.Hands.{no_entry}
 use Rattle.xmpp_links.proofs.Putting.{serving}
-use Rattle.xmpp_links.proofs.Serving.{sent_down}
 use Rattle.xmpp_links.proofs.Resumption.{asks}
 use Rattle.xmpp_links.proofs.Late.{late_if}
 use Rattle.xmpp_links.proofs.Binding.{binding}
@@ -17,17 +12,15 @@ use Rattle.xmpp_links.proofs.Enabling.{enabled_if, asks_enabled}
 use Rattle.xmpp_links.proofs.Detached.{halted, first_whole}
 use Rattle.xmpp_links.proofs.ReadBound.{named_if}
 use Rattle.xmpp_links.proofs.Asking.{steps}
-use Rattle.xmpp_links.proofs.Promised.{down_count_within}
-use Rattle.xmpp_links.proofs.ToCome.{none_behind, none_push, on_way_more, on_way_last, to_come_more, to_come_last}
-use Rattle.xmpp_links.proofs.Covering.{IsUnseen, unseen_by, unseen_same, elsewhere_covered, silent_covered, server_covered, client_covered, IsTogether, together}
-use Rattle.xmpp_links.specs.Words.{Traffic, St, Req, Ack, up_stanzas, UpWord, ResumeAt, Bind, Enable, Up, DownWord, Feat, Failed, Bound, Resumed, Enabled, Down, Err, End, Client, InHeader1, InResume, InBind, InEnable, InOnline, AtSession, TooHigh}
-use Rattle.xmpp_links.specs.Wires.{Wires, Flow, Stop, is_flowing, up_words, down_words, up_whole, down_whole, send_up, send_down, left_up, left_down, halt}
-use Rattle.xmpp_links.specs.Stages.{Stage, Greets, AsksResume, Refused, Resumes, AsksBind, Binds, AsksEnable, Enables, Runs, client_of, phase_of, up_of, down_of, Hand, Goes, server_hand, client_hand, Ending, Errs, Closes, tail_of, foot_of, Conn, IsPlain, IsEarly}
-use Rattle.xmpp_links.specs.Views.{Table, with_at, alter, has, Session, Row, Own, View, carries}
-use Rattle.xmpp_links.specs.LinkMoves.{ways_cut, IsCut, IsLetGo, dialled, IsDialled, IsUpHand, IsDownHand, handled_if, IsUpStanza, stated_if, IsUpRequest, acked_if, IsUpCount, read_if, IsDownStanza, told_if, IsDownRequest, heard_if, IsDownCount}
-use Rattle.xmpp_links.specs.SessionMoves.{IsAskResume, IsAskBind, IsRefused, shut, lost_if, IsDetached, IsRowEnded, unread, IsBound, IsReadBound, IsEnabled, IsClientPut, resumed_if, IsResumedHere, IsResumedLate, IsParked}
+use Rattle.xmpp_links.proofs.Covering.{unseen_by, unseen_same, elsewhere_covered, silent_covered}
+use Rattle.xmpp_links.specs.Words.{St, UpWord, ResumeAt, Bind, Enable, DownWord, Failed, Bound, Resumed, Enabled, Down, InHeader1, InResume, InBind, InEnable, InOnline, AtSession, TooHigh}
+use Rattle.xmpp_links.specs.Wires.{Wires, Flow, Stop, is_flowing, up_words, down_words, up_whole, down_whole, send_up, send_down, left_up, left_down}
+use Rattle.xmpp_links.specs.Stages.{Stage, AsksResume, Refused, Resumes, AsksBind, Binds, AsksEnable, Enables, Runs, client_of, phase_of, up_of, down_of, Goes, server_hand, client_hand, Ending, Errs, Closes, tail_of, foot_of, Conn, IsPlain, IsEarly}
+use Rattle.xmpp_links.specs.Views.{with_at, alter, has, Session, Own, View, carries}
+use Rattle.xmpp_links.specs.LinkMoves.{ways_cut, IsCut, IsLetGo, dialled, IsDialled, IsUpHand, IsDownHand, told_if}
+use Rattle.xmpp_links.specs.SessionMoves.{IsAskResume, IsAskBind, IsRefused, shut, lost_if, IsDetached, IsRowEnded, unread, IsBound, IsReadBound, IsEnabled, resumed_if, IsResumedHere, IsResumedLate, IsParked}
 use Rattle.xmpp_links.specs.EndMoves.{IsFailed, IsTooHigh, IsFootTaken, IsUncountedShut, IsUncountedGone, IsGone, with_foot, IsFooted, IsForgotten}
-use Rattle.xmpp_links.specs.PutMoves.{is_online, IsClientQueued, IsClientRequest, IsServerPut, IsServerQueued, IsServerRequest}
+use Rattle.xmpp_links.specs.PutMoves.{is_online, IsClientQueued, IsServerQueued}
 use Rattle.xmpp_links.specs.Links.{ConnKept, LinkKept}
 use Rattle.xmpp_links.specs.Covers.{NoneAsks, IsOnWay, IsToCome, IsCoveredBy, IsCovered}
 

@@ -1,19 +1,18 @@
 -- A session that the client reads of keeps that the count is still to come; and what is settled.
-use Rattle.std.proofs.Common.{◌≡◌, ℕ, ◌+◌, ◌-◌, Bool, true, false, ◌&&◌, List, [], ◌∷◌, ◌++◌, length, drop, map, refl, sym, ap, ◌∙◌, subst, arith, ◌⊎◌, inl, inr, Option, None, Some}
+use Rattle.std.proofs.Common.{◌≡◌, ℕ, ◌+◌, ◌-◌, Bool, true, List, [], ◌∷◌, ◌++◌, length, drop, map, refl, sym, ap, ◌∙◌, subst, arith, ◌⊎◌, inl, inr, Some}
 use Rattle.std.proofs.lemmas.List.{append-nil, length-append}
-use Rattle.xmpp_acks.proofs.Directions.{kept_reached}
-use Rattle.xmpp_links.proofs.Entries.{same_number, at_same, was, has_is, is_has}
+use Rattle.xmpp_links.proofs.Entries.{same_number, at_same, was, is_has}
 use Rattle.xmpp_links.proofs.Tables.{left_down_whole}
-use Rattle.xmpp_links.proofs.CutLinks.{not_true, some_one, some_same}
+use Rattle.xmpp_links.proofs.CutLinks.{some_one, some_same}
 use Rattle.xmpp_links.proofs.Counting.{up_stanzas_with}
 use Rattle.xmpp_links.proofs.Hands.{flow_up}
 use Rattle.xmpp_links.proofs.ReadResumed.{Reads, reads, up_none, resent_if, read_resumed_keeps}
-use Rattle.xmpp_links.proofs.ReadEnabled.{ReadsEnabled, reads_enabled, known_if}
+use Rattle.xmpp_links.proofs.ReadEnabled.{EnabledFirst, reads_enabled, known_if}
 use Rattle.xmpp_links.proofs.ToCome.{drop_whole, to_come_last}
-use Rattle.xmpp_links.proofs.Covering.{client_covered, IsTogether, together}
+use Rattle.xmpp_links.proofs.Covering.{client_covered, together}
 use Rattle.xmpp_links.proofs.Prompt.{flowing_up_left}
-use Rattle.xmpp_links.specs.Words.{St, Req, up_stanzas, UpWord, Up, Resumed, Enabled, InOnline}
-use Rattle.xmpp_links.specs.Wires.{is_flowing, up_words, down_words, up_whole, down_whole, send_up, left_down}
+use Rattle.xmpp_links.specs.Words.{St, Req, up_stanzas, Up, Resumed, Enabled, InOnline}
+use Rattle.xmpp_links.specs.Wires.{is_flowing, up_words, down_whole, send_up, left_down}
 use Rattle.xmpp_links.specs.Stages.{Enables, up_of, tail_of, foot_of, Conn}
 use Rattle.xmpp_links.specs.Views.{with_at, alter, has, Session, Own, View}
 use Rattle.xmpp_links.specs.SessionMoves.{again, IsReadResumed, IsReadEnabled}
@@ -36,8 +35,8 @@ again_is (z ∷ zs) = up_stanzas_with (map Up (map St (z ∷ zs))) (Up Req ∷ [
 pub read_resumed_covered : {A : Type 0} (test : A → Bool) (k : ℕ) (v next : View A) → IsReadResumed k v next → LinkKept v → IsCovered test next
 read_resumed_covered {A = A} test k v next m kept = subst (IsCovered test) (sym m.gives) (client_covered test v k this (Some new) (alter f v.sessions) m.here
     (λ o t own online flows is.
-      let same : new ≡ o = some_same new o own in
-      subst (λ x. IsCoveredBy test this x t) same (mine t flows (subst (λ (x : Own A). alter f v.sessions x.number ≡ Some t) (sym same) is))))
+    let same : new ≡ o = some_same new o own in
+    subst (λ x. IsCoveredBy test this x t) same (mine t flows (subst (λ (x : Own A). alter f v.sessions x.number ≡ Some t) (sym same) is))))
   where
     queue : List A
     queue = drop (m.h - m.own.acked) m.own.queue
@@ -83,10 +82,10 @@ read_resumed_covered {A = A} test k v next m kept = subst (IsCovered test) (sym 
               let nothing : drop m.h t.up.put ≡ [] = ap (λ (n : ℕ). drop n t.up.put) (acked ∙ got ∙ sym (ap length put)) ∙ drop_whole t.up.put in
               record { count = m.h; comes = inl refl; none = subst (λ (l : List A). NoneAsks test l) (sym nothing) tt }
           | inr come ↦ record {
-              count = length t.up.put;
-              comes = inr (inr (subst (λ ws. IsToCome (length t.up.put) (length t.up.got) ws) (sym up) come));
-              none = subst (λ (l : List A). NoneAsks test l) (sym (drop_whole t.up.put)) tt;
-            }
+            count = length t.up.put;
+            comes = inr (inr (subst (λ ws. IsToCome (length t.up.put) (length t.up.got) ws) (sym up) come));
+            none = subst (λ (l : List A). NoneAsks test l) (sym (drop_whole t.up.put)) tt;
+          }
         ]
       where
         count : (s : Session A) → (f m.own.number s).up.acked ≡ length (f m.own.number s).up.got
@@ -95,8 +94,8 @@ read_resumed_covered {A = A} test k v next m kept = subst (IsCovered test) (sym 
 pub read_enabled_covered : {A : Type 0} (test : A → Bool) (k number : ℕ) (v next : View A) → IsReadEnabled k number v next → LinkKept v → IsCovered test next
 read_enabled_covered {A = A} test k number v next m kept = subst (IsCovered test) (sym m.gives) (client_covered test v k this (Some new) (alter f v.sessions) m.here
     (λ o t own online flows is.
-      let same : new ≡ o = some_same new o own in
-      subst (λ x. IsCoveredBy test this x t) same (mine t (subst (λ (x : Own A). alter f v.sessions x.number ≡ Some t) (sym same) is))))
+    let same : new ≡ o = some_same new o own in
+    subst (λ x. IsCoveredBy test this x t) same (mine t (subst (λ (x : Own A). alter f v.sessions x.number ≡ Some t) (sym same) is))))
   where
     this : Conn A
     this = record m.conn { client = InOnline number; wires = send_up [] (left_down m.rest m.conn.wires) }
@@ -110,7 +109,7 @@ read_enabled_covered {A = A} test k number v next m kept = subst (IsCovered test
     old : ConnKept v k m.conn
     old = kept.conns k m.conn m.is
 
-    r : ReadsEnabled old.stage number (tail_of m.conn.ending) (down_whole (left_down m.rest m.conn.wires))
+    r : EnabledFirst old.stage number (tail_of m.conn.ending) (down_whole (left_down m.rest m.conn.wires))
     r = reads_enabled old.stage m.conn.ending number (down_whole (left_down m.rest m.conn.wires)) (sym old.at.client ∙ m.client) (sym old.at.down ∙ left_down_whole (Enabled number) m.rest m.conn.wires m.first)
 
     fits : FitsOwn v.own v.epoch v.sessions (Enables number r.downs)

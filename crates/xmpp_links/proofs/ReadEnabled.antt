@@ -17,7 +17,7 @@ use Rattle.xmpp_links.specs.Views.{Table, with_at, alter, has, Session, Row, Own
 use Rattle.xmpp_links.specs.SessionMoves.{IsReadEnabled}
 use Rattle.xmpp_links.specs.Links.{carried_of, UpCounts, DownCounts, ArePiped, IsAsked, FitsOwn, ConnKept, GoesUp, GoesDown, IsQuiet, IsPlaced, RowKept, OwnKept, SessionKept, IsCarried, IsBare, LinkKept}
 
-pub record ReadsEnabled {A : Type 0} (s : Stage A) (m : ℕ) (tail rest : List (DownWord A)) : Type 0 where
+pub record EnabledFirst {A : Type 0} (s : Stage A) (m : ℕ) (tail rest : List (DownWord A)) : Type 0 where
   pub downs : List (Traffic A)
   pub is : s ≡ Enables m downs
   pub left : map Down downs ++ tail ≡ rest
@@ -27,7 +27,7 @@ no_tail Stands m rest e = absurd (let no_way : ⊥ = cc in no_way)
 no_tail (Errs x) m rest e = absurd (let no_way : ⊥ = cc in no_way)
 no_tail Closes m rest e = absurd (let no_way : ⊥ = cc in no_way)
 
-pub reads_enabled : {A : Type 0} (s : Stage A) (end : Ending) (m : ℕ) (rest : List (DownWord A)) → client_of s ≡ InEnable → down_of s ++ tail_of end ≡ Enabled m ∷ rest → ReadsEnabled s m (tail_of end) rest
+pub reads_enabled : {A : Type 0} (s : Stage A) (end : Ending) (m : ℕ) (rest : List (DownWord A)) → client_of s ≡ InEnable → down_of s ++ tail_of end ≡ Enabled m ∷ rest → EnabledFirst s m (tail_of end) rest
 reads_enabled (Enables q downs) end m rest e f =
     let one : q ≡ m = cc in
     let left : map Down downs ++ tail_of end ≡ rest = cc in
@@ -113,7 +113,7 @@ read_enabled_keeps {A = A} k number v next m kept = subst LinkKept (sym m.gives)
     works : has v.here k ≡ true
     works = is_has v.here k m.here
 
-    r : ReadsEnabled old.stage number (tail_of m.conn.ending) (down_whole (left_down m.rest m.conn.wires))
+    r : EnabledFirst old.stage number (tail_of m.conn.ending) (down_whole (left_down m.rest m.conn.wires))
     r = reads_enabled old.stage m.conn.ending number (down_whole (left_down m.rest m.conn.wires)) (sym old.at.client ∙ m.client) (sym old.at.down ∙ left_down_whole (Enabled number) m.rest m.conn.wires m.first)
 
     unfooted : m.conn.footed ≡ false

@@ -1,10 +1,10 @@
 -- Where both pipes of a connection that flows are empty, nothing is outstanding.
-use Rattle.std.proofs.Common.{◌≡◌, ℕ, Bool, true, false, ◌&&◌, List, [], ◌∷◌, ◌++◌, length, drop, map, refl, sym, ap, ◌∙◌, subst, ◌⊎◌, inl, inr, Option, None, Some}
+use Rattle.std.proofs.Common.{◌≡◌, ℕ, Bool, true, false, List, [], ◌∷◌, ◌++◌, length, drop, refl, sym, ap, ◌∙◌, subst, inl, inr, Some}
 use Rattle.std.proofs.lemmas.List.{append-nil}
 use Rattle.xmpp_acks.specs.Delivery.{queue_of}
 use Rattle.xmpp_acks.proofs.Directions.{kept_reached}
 use Rattle.xmpp_links.proofs.Entries.{is_has}
-use Rattle.xmpp_links.proofs.CutLinks.{not_true, some_one, some_same}
+use Rattle.xmpp_links.proofs.CutLinks.{some_one}
 use Rattle.xmpp_links.proofs.Hands.{no_entry, beginning_keeps}
 use Rattle.xmpp_links.proofs.Reached.{move_keeps}
 use Rattle.xmpp_links.proofs.Puts.{client_put_keeps}
@@ -13,10 +13,10 @@ use Rattle.xmpp_links.proofs.Covering.{IsTogether, together}
 use Rattle.xmpp_links.proofs.Prompt.{cut_covered, dial_covered, let_go_covered, footed_covered, forgotten_covered, client_queued_covered, down_hand_covered, ask_resume_covered, ask_bind_covered, refused_covered, read_bound_covered, up_hand_covered, resumed_here_covered, resumed_late_covered, failed_covered, too_high_covered, bound_covered, enabled_covered, foot_taken_covered, parked_covered, gone_covered, uncounted_gone_covered, detached_covered, uncounted_shut_covered, row_ended_covered, server_queued_covered}
 use Rattle.xmpp_links.proofs.PromptWords.{server_put_covered, server_request_covered, up_stanza_covered, up_request_covered, up_count_covered, client_put_covered, client_request_covered, down_stanza_covered, down_request_covered, down_count_covered}
 use Rattle.xmpp_links.proofs.PromptSessions.{read_resumed_covered, read_enabled_covered}
-use Rattle.xmpp_links.specs.Words.{up_stanzas, down_stanzas, UpWord, DownWord, InOnline}
+use Rattle.xmpp_links.specs.Words.{up_stanzas, down_stanzas, InOnline}
 use Rattle.xmpp_links.specs.Wires.{Wires, Flow, Stop, is_flowing, up_words, down_words, up_whole, down_whole}
-use Rattle.xmpp_links.specs.Stages.{Stage, Greets, Greeted, Offered, Proves, Challenged, Answers, Succeeded, Regreets, Regreeted, Reoffered, AsksResume, Refused, Resumes, AsksBind, Binds, AsksEnable, Enables, Runs, client_of, up_of, down_of, tail_of, foot_of, Stands, Conn}
-use Rattle.xmpp_links.specs.Views.{has, Session, Row, Own, View, carried_by, carries}
+use Rattle.xmpp_links.specs.Stages.{Stage, AsksResume, Refused, Resumes, Binds, AsksEnable, Enables, Runs, client_of, up_of, down_of, tail_of, foot_of, Stands, Conn}
+use Rattle.xmpp_links.specs.Views.{has, Session, Own, View, carried_by}
 use Rattle.xmpp_links.specs.Links.{FitsOwn, IsOwn, ConnKept, GoesDown, OwnKept, LinkKept}
 use Rattle.xmpp_links.specs.Machine.{LinkMove, Cuts, Dials, LetsGo, Foots, Forgets, Puts, Queues, Requests, ReadsHand, AsksToResume, AsksToBind, ReadsFailed, ReadsResumed, ReadsBound, ReadsEnabled, ReadsStanza, ReadsRequest, ReadsCount, TakesHand, TakesResume, TakesLateResume, TakesStrangeResume, TakesHighResume, TakesBind, TakesEnable, TakesStanza, TakesRequest, TakesCount, TakesFoot, Parks, Hears, HearsEarly, Detaches, Shuts, EndsRow, Serves, Keeps, Demands, LinkMoves, nothing_yet}
 use Rattle.xmpp_links.specs.Covers.{NoneAsks, IsOnWay, IsToCome, IsCoveredBy, IsCovered, PromptMove, Does, Says, IsPrompt, PromptMoves, PromptReaches, PromptReached, IsSettled}

@@ -1,13 +1,15 @@
 //! What holds wherever the moves of one device and its server lead.
-ghost use Rattle.std.specs.Prelude.{Bool, ◌≡◌, ℕ, ◌≤◌, [], ◌∷◌, List, None, Some, length, true, false};
+ghost use Rattle.std.specs.Prelude.{Bool, ◌≡◌, ℕ, ◌≤◌, [], ◌∷◌, List, None, Some, Option, length, true, false};
 ghost use Rattle.xmpp_acks.specs.Delivery.{IsPrefix, Reached};
 ghost use Rattle.xmpp_links.specs.Words.{Ack, Down, down_stanzas, DownWord, ResumeAt, Resumed, Up, up_stanzas, UpWord};
 ghost use Rattle.xmpp_links.specs.Wires.{down_words, is_flowing, up_words};
 ghost use Rattle.xmpp_links.specs.Stages.{Conn};
 ghost use Rattle.xmpp_links.specs.Views.{carries, has, Own, Row, Session, View};
 ghost use Rattle.xmpp_links.specs.EndMoves.{IsTooHigh};
-ghost use Rattle.xmpp_links.specs.Machine.{LinkReached};
+ghost use Rattle.xmpp_links.specs.Events.{Event, Follows, IsSeenAs, seen};
+ghost use Rattle.xmpp_links.specs.Machine.{LinkMove, LinkMoves, LinkReached, nothing_yet};
 ghost use Rattle.xmpp_links.specs.Covers.{IsSettled, PromptReached};
+ghost use Rattle.xmpp_links.specs.Wrong.{binds_beside, resumes_late, sends_all_again, states_acknowledged};
 ghost use Rattle.xmpp_links.specs.Promises.{IsClientEnd, IsExpectedDown, IsExpectedUp, IsServerEnd, IsWithin};
 
 /// Of each session that a device ever had, both directions are those of acknowledged delivery: what the one end handled
@@ -60,8 +62,25 @@ pub fn words_come_where_they_are_expected<A>()
 /// the client is online, the server has its session there, each end handled all that the other put, and no stanza behind
 /// which the client put a request at once waits to be acknowledged.
 pub fn empty_pipes_leave_nothing_outstanding<A>()
-    ensures {
-        (asks : A → Bool) (v : View A) (k : ℕ) (c : Conn A) → PromptReached asks v → v.here ≡ Some k → v.conns k ≡ Some c → is_flowing c.wires ≡ true →
-        up_words c.wires ≡ [] → down_words c.wires ≡ [] → IsSettled asks v k c
-    }
+    ensures { (asks : A → Bool) (v : View A) (k : ℕ) (c : Conn A) → PromptReached asks v → v.here ≡ Some k → v.conns k ≡ Some c → is_flowing c.wires ≡ true →
+        up_words c.wires ≡ [] → down_words c.wires ≡ [] → IsSettled asks v k c }
+{}
+
+/// To the applications each move is nothing, or one event of a session: bound, named, counted, known, ended, dropped,
+/// or a stanza put or handled by one end, or a count that the client learned; and it comes with what an application may
+/// rest on, as that a stanza which is handled is the next one that was put. So what is seen of a session is what the
+/// events of its run make of it.
+pub fn moves_are_events_of_sessions<A>()
+    ensures moves { (move : LinkMove A) (v next : View A) → LinkReached v → LinkMoves move v next → (e : Option (Event A)) × IsSeenAs e (seen v) (seen next) }
+    ensures runs { (v : View A) → LinkReached v → (es : List (Event A)) × Follows es (seen nothing_yet) (seen v) }
+{}
+
+/// Wrong ends come to where no moves lead: a client that sends its whole queue again without regard to the count that it
+/// read; a server that states the acknowledged count where the handled one is due, that resumes a session on a connection
+/// which the client left, or that binds a session and leaves the older one on its connection.
+pub fn wrong_ends_are_refused()
+    ensures all_again { LinkReached sends_all_again → ⊥ }
+    ensures acknowledged { LinkReached states_acknowledged → ⊥ }
+    ensures late { LinkReached resumes_late → ⊥ }
+    ensures beside { LinkReached binds_beside → ⊥ }
 {}
