@@ -1,5 +1,5 @@
 -- What is said of the bytes that were read, said of the bytes that the source tells.
-use Rattle.std.proofs.Common.{◌≡◌, ℕ, Bool, true, false, ◌≤◌, List, length, Option, Some, None, Result, Ok, Err, IfOk, IfSome, sym, ◌∙◌, subst}
+use Rattle.std.proofs.Common.{◌≡◌, ℕ, Bool, true, false, ◌≤◌, List, length, Option, Some, None, Result, Ok, Err, IfOk, IfSome, inl, inr, sym, ◌∙◌, subst}
 use Rattle.std.specs.Io.KnownBytes.{IsAtEnd}
 use Rattle.xmpp_edge.specs.declared.whole_reads.TheConstants.{MOST_BYTES_READ}
 use Rattle.xmpp_cli.specs.Words.{reads}
@@ -16,7 +16,8 @@ replayed_of_known input (Some all) text same (schedule, report, is, spelled, of,
     (schedule, report, is, sym same ∙ spelled, of, due)
 
 refusal_of_known : (input : List ℕ) (known : Option (List ℕ)) (text : List ℕ) → IfSome known (λ all. input ≡ all) → IsRefusal (Some input) text → IsRefusal known text
-refusal_of_known input None text same (line, reason, why, due) = (line, reason, tt, due)
+refusal_of_known input None text same (inl (line, reason, why, due)) = inl (line, reason, tt, due)
+refusal_of_known input None text same (inr (schedule, is, spelled, due)) = inr (schedule, is, tt, due)
 refusal_of_known input (Some all) text same refusal = subst (λ bytes. IsRefusal (Some bytes) text) same refusal
 
 checked_of_known : (sound : Bool) (input : List ℕ) (known : Option (List ℕ)) (text : List ℕ) → IfSome known (λ all. input ≡ all) → IsChecked sound (Some input) text → IsChecked sound known text
@@ -28,7 +29,8 @@ rerun_of_known input None text same (run, says, due) = (run, tt, due)
 rerun_of_known input (Some all) text same rerun = subst (λ bytes. IsRerun (Some bytes) text) same rerun
 
 rerun_refusal_of_known : (input : List ℕ) (known : Option (List ℕ)) (text : List ℕ) → IfSome known (λ all. input ≡ all) → IsRerunRefusal (Some input) text → IsRerunRefusal known text
-rerun_refusal_of_known input None text same (line, reason, why, due) = (line, reason, tt, due)
+rerun_refusal_of_known input None text same (inl (line, reason, why, due)) = inl (line, reason, tt, due)
+refusal_of_known input None text same (inr (schedule, is, spelled, due)) = inr (schedule, is, tt, due)
 rerun_refusal_of_known input (Some all) text same refusal = subst (λ bytes. IsRerunRefusal (Some bytes) text) same refusal
 
 done_of_known : (command : Command) (input : List ℕ) (known : Option (List ℕ)) (text : List ℕ) → IfSome known (λ all. input ≡ all) → IsDone command (Some input) text → IsDone command known text

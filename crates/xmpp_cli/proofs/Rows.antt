@@ -8,13 +8,11 @@ use Rattle.xmpp_journal.specs.Journals.{InputView, Says}
 use Rattle.xmpp_journal.specs.Reading.{rerun_reading}
 use Rattle.xmpp_journal.specs.declared.fault.InputFault.TheVariants as inputs
 use Rattle.xmpp_rerun.specs.Reruns.{SaysRun, rerun_of}
-use Rattle.xmpp_schedule.specs.Grammar.{InGrammar}
-use Rattle.xmpp_schedule.specs.Reading.{reading}
+use Rattle.xmpp_schedule.specs.Grammar.{InDirectGrammar}
 use Rattle.xmpp_schedule.specs.declared.fault.LineWhy.{LineWhy}
-use Rattle.xmpp_schedule.specs.declared.fault.ScheduleFault.TheVariants.{BadLine}
 use Rattle.xmpp_cli.specs.Texts.{words_line, read_fault_line, too_long_line, bad_line}
 use Rattle.xmpp_cli.specs.Words.{reads}
-use Rattle.xmpp_cli.specs.Table.{code_of, is_status, Due, MustAnswer}
+use Rattle.xmpp_cli.specs.Table.{code_of, is_status, Due, IsRefusal, MustAnswer}
 use Rattle.xmpp_cli.specs.declared.command.Command.{Command}
 use Rattle.xmpp_cli.specs.declared.command.Command.TheVariants.{Help, Version, Replay, Check, Rerun}
 use Rattle.xmpp_cli.specs.declared.outcome.Outcome.{Outcome}
@@ -53,11 +51,11 @@ module _ (known left : Option (List ℕ)) (rose calm still : Type 0) (Written : 
       (stream, is, (whole refl).ended, sound, subst Written text_is out)
 
   refused : (command : Option Command) → Answered command → result ≡ 3 → command ≡ Some Replay → IsAtEnd left
-      × ((line : ℕ) × (reason : LineWhy) × IfSome known (λ input. (reading input ≡ Err (BadLine line reason)) × ¬ (InGrammar input)) × Written (bad_line line reason))
+      × (text : List ℕ) × IsRefusal known text × Written text
   refused command answer three e =
       let (text, due, out) = answer Refused three in
-      let ((line, reason, why, text_is), whole) = subst (λ c. Due c known left rose Refused text) e due in
-      ((whole refl).ended, (line, reason, why, subst Written text_is out))
+      let (refusal, whole) = subst (λ c. Due c known left rose Refused text) e due in
+      ((whole refl).ended, (text, refusal, out))
 
   done_rerun : (command : Option Command) → Answered command → result ≡ 0 → command ≡ Some Rerun →
       (run : InputView) × IfSome known (λ input. Says input run) × IsAtEnd left × Written (rerun_of run)
@@ -123,12 +121,12 @@ module _ (rose calm still : Type 0) (result : ℕ) where
   complete_help known command exactly e quiet = exactly Done (subst (λ c. MustAnswer c known calm Done) (sym e) refl) quiet
 
   complete : (known : Option (List ℕ)) (command : Option Command) → Exactly known None rose calm still (λ text. Unit {0}) result command → command ≡ Some Replay → calm → still →
-      IfSome known (λ input. length input ≤ MOST_BYTES_READ → InGrammar input → (result ≡ 0) ⊎ (result ≡ 6))
+      IfSome known (λ input. length input ≤ MOST_BYTES_READ → InDirectGrammar input → (result ≡ 0) ⊎ (result ≡ 6))
   complete None command exactly e read quiet = tt
   complete (Some input) command exactly e read quiet = λ short good. exactly Done (subst (λ c. MustAnswer c (Some input) calm Done) (sym e) (read, (short, good))) quiet
 
   refused_only : (known : Option (List ℕ)) (command : Option Command) → Exactly known None rose calm still (λ text. Unit {0}) result command → command ≡ Some Replay → calm → still →
-      IfSome known (λ input. length input ≤ MOST_BYTES_READ → ¬ (InGrammar input) → (result ≡ 3) ⊎ (result ≡ 6))
+      IfSome known (λ input. length input ≤ MOST_BYTES_READ → ¬ (InDirectGrammar input) → (result ≡ 3) ⊎ (result ≡ 6))
   refused_only None command exactly e read quiet = tt
   refused_only (Some input) command exactly e read quiet = λ short bad. exactly Refused (subst (λ c. MustAnswer c (Some input) calm Refused) (sym e) (read, (short, bad))) quiet
 

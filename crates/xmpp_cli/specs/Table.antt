@@ -1,24 +1,26 @@
 -- When each answer comes, and the text that is due with it.
-use Rattle.std.specs.Prelude.{◌≡◌, ℕ, ◌<◌, ◌≤◌, ◌==◌, Bool, true, false, ◌||◌, List, length, Option, Some, None, Err, IfSome, IsSomeAnd}
+use Rattle.std.specs.Prelude.{◌≡◌, ◌⊎◌, ℕ, ◌<◌, ◌≤◌, ◌==◌, Bool, true, false, ◌||◌, List, length, Option, Some, None, Err, IfSome, IsSomeAnd}
 use Rattle.std.specs.Bool.{MatchBool}
 use Rattle.std.specs.Io.KnownBytes.{IsAtEnd}
 use Rattle.xmpp_check.specs.Checked.{told}
 use Rattle.xmpp_edge.specs.declared.whole_reads.TheConstants.{MOST_BYTES_READ}
 use Rattle.xmpp_direct.specs.Direct.{direct_report}
 use Rattle.xmpp_direct.specs.History.{direct_history}
-use Rattle.xmpp_schedule.specs.Grammar.{IsSchedule, InGrammar, schedule_text}
+use Rattle.xmpp_schedule.specs.Grammar.{IsDirectSchedule, InDirectGrammar, direct_text}
+use Rattle.xmpp_schedule.specs.Kinds.{InGrammar}
 use Rattle.xmpp_report.specs.LawfulRuns.{KeepsLaws}
-use Rattle.xmpp_schedule.specs.Reading.{reading}
+use Rattle.xmpp_schedule.specs.WireGrammar.{IsWireSchedule, wire_text}
+use Rattle.xmpp_schedule.specs.WireReading.{reading}
 use Rattle.xmpp_report.specs.ReportText.{text_of}
 use Rattle.xmpp_report.specs.Reports.{ReportView}
-use Rattle.xmpp_schedule.specs.Schedules.{ScheduleView}
+use Rattle.xmpp_schedule.specs.Schedules.{ScheduleView, WireView}
 use Rattle.xmpp_journal.specs.Journals.{InputView, Says}
 use Rattle.xmpp_journal.specs.Reading.{rerun_reading}
 use Rattle.xmpp_journal.specs.declared.fault.InputFault.TheVariants as inputs
 use Rattle.xmpp_rerun.specs.Reruns.{SaysRun, rerun_of}
 use Rattle.xmpp_schedule.specs.declared.fault.LineWhy.{LineWhy}
 use Rattle.xmpp_schedule.specs.declared.fault.ScheduleFault.TheVariants.{BadLine}
-use Rattle.xmpp_cli.specs.Texts.{words_line, read_fault_line, too_long_line, bad_line}
+use Rattle.xmpp_cli.specs.Texts.{words_line, read_fault_line, too_long_line, bad_line, not_run_line}
 use Rattle.xmpp_cli.specs.Words.{reads}
 use Rattle.xmpp_cli.specs.declared.command.Command.{Command}
 use Rattle.xmpp_cli.specs.declared.command.Command.TheVariants.{Help, Version, Replay, Check, Rerun}
@@ -43,18 +45,25 @@ pub record IsReportOf (schedule : ScheduleView) (report : ReportView) : Type 0 w
   pub direct : report ≡ direct_report schedule
   pub lawful : KeepsLaws (direct_history schedule) schedule report
 
--- The text is the report of one schedule, and the input, where it is known, is that schedule's text.
+-- The text is the report of one direct schedule, and the input, where it is known, is that schedule's text.
 abbrev pub IsReplayed : Option (List ℕ) → List ℕ → Type 0
 IsReplayed known text =
-    (schedule : ScheduleView) × (report : ReportView) × IsSchedule schedule × IfSome known (λ input. input ≡ schedule_text schedule)
+    (schedule : ScheduleView) × (report : ReportView) × IsDirectSchedule schedule × IfSome known (λ input. input ≡ direct_text schedule)
     × IsReportOf schedule report × (text ≡ text_of report)
 
 -- The text names the first bad line of the input and its reason, and the input, where it is known, is no schedule's
 -- text.
-abbrev pub IsRefusal : Option (List ℕ) → List ℕ → Type 0
-IsRefusal known text =
+abbrev pub IsBad : Option (List ℕ) → List ℕ → Type 0
+IsBad known text =
     (line : ℕ) × (reason : LineWhy) × IfSome known (λ input. (reading input ≡ Err (BadLine line reason)) × ¬ (InGrammar input))
     × (text ≡ bad_line line reason)
+
+-- The text says that wire schedules are not run yet, and the input, where it is known, is the text of one.
+abbrev pub IsNotRun : Option (List ℕ) → List ℕ → Type 0
+IsNotRun known text = (schedule : WireView) × IsWireSchedule schedule × IfSome known (λ input. input ≡ wire_text schedule) × (text ≡ not_run_line)
+
+abbrev pub IsRefusal : Option (List ℕ) → List ℕ → Type 0
+IsRefusal known text = IsBad known text ⊎ IsNotRun known text
 
 -- The text is what is told of a stream's bytes, sound or not, and they are the input where it is known.
 abbrev pub IsChecked : Bool → Option (List ℕ) → List ℕ → Type 0
@@ -88,7 +97,7 @@ IsRefused command known text = ⊥
 
 -- A case for each command that can refuse its input: which inputs it doesn't refuse.
 abbrev pub Accepts : Command → List ℕ → Type 0
-Accepts Replay input = InGrammar input
+Accepts Replay input = InDirectGrammar input
 Accepts Check input = (told input).sound ≡ true
 Accepts Rerun input = SaysRun input
 Accepts command input = Unit {0}

@@ -13,10 +13,13 @@ read_fault_line = codes "read fault" ++ 10 ∷ []
 abbrev pub too_long_line : List ℕ
 too_long_line = codes "too long" ++ 10 ∷ []
 
+-- what is written of a wire schedule
+abbrev pub not_run_line : List ℕ
+not_run_line = codes "line 1 NotBuilt" ++ 10 ∷ []
+
 -- the reason's name
 abbrev pub why_name : LineWhy → List ℕ
 why_name why.Header = codes "Header"
-why_name why.NotBuilt = codes "NotBuilt"
 why_name why.Ending = codes "Ending"
 why_name why.Many = codes "Many"
 why_name why.Word = codes "Word"

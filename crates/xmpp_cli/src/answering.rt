@@ -8,7 +8,7 @@ ghost use Rattle.xmpp_cli.specs.Table.{IsAnswer, Due};
 
 use crate::command::Command;
 use crate::outcome::Outcome;
-use crate::texts::{HELP, READ_FAULT_LINE, TOO_LONG_LINE, VERSION, WORDS_LINE, refusal};
+use crate::texts::{HELP, NOT_RUN_LINE, READ_FAULT_LINE, TOO_LONG_LINE, VERSION, WORDS_LINE, refusal};
 use std::alloc::Global;
 use xmpp_check::check;
 use xmpp_direct::direct_is_lawful;
@@ -17,7 +17,7 @@ use xmpp_journal::InputFault;
 use xmpp_replay::direct;
 use xmpp_report::report_text;
 use xmpp_rerun::rerun_bytes;
-use xmpp_schedule::{ScheduleFault, read_schedule};
+use xmpp_schedule::{Schedule, ScheduleFault, read_schedule};
 
 /// What a call comes to, and the text that is due.
 #[derive(Drop)]
@@ -36,7 +36,7 @@ fn said(alloc: Global, outcome: Outcome, text: &str) -> Result<Answer, NoMemory>
     })
 }
 
-/// The report of the schedule whose text this is, or the refusal of the text. The law is called for its fact, that the
+/// The report of the direct schedule whose text this is, or the refusal of the text. The law is called for its fact, that the
 /// report keeps the five laws: the answer's clause says so. The input is dropped once it is read.
 fn replayed(alloc: Global, input: Bytes) -> Result<Answer, NoMemory>
     ensures { IfOk result (λ answer. IsAnswer Command.Replay (Some input.items) answer.outcome answer.text.items) }
@@ -44,7 +44,7 @@ fn replayed(alloc: Global, input: Bytes) -> Result<Answer, NoMemory>
     let read = read_schedule(alloc, input.as_slice());
     drop(input);
     match read {
-        Ok(schedule) => {
+        Ok(Schedule::Direct(schedule)) => {
             direct_is_lawful();
             let report = direct(alloc, schedule)?;
             Ok(Answer {
@@ -52,6 +52,7 @@ fn replayed(alloc: Global, input: Bytes) -> Result<Answer, NoMemory>
                 text: report_text(alloc, &report)?,
             })
         }
+        Ok(Schedule::Wire(_)) => said(alloc, Outcome::Refused, NOT_RUN_LINE),
         Err(ScheduleFault::BadLine { line, why }) => Ok(Answer {
             outcome: Outcome::Refused,
             text: refusal(alloc, line, why)?,

@@ -15,6 +15,9 @@ pub const READ_FAULT_LINE: &str = "read fault\n";
 /// What is written where the source gave more than `MOST_BYTES_READ` bytes.
 pub const TOO_LONG_LINE: &str = "too long\n";
 
+/// What is written of a wire schedule, which is not run yet.
+pub const NOT_RUN_LINE: &str = "line 1 NotBuilt\n";
+
 /// The program's name and version.
 pub const VERSION: &str = "xmpp 1\n";
 
@@ -43,7 +46,6 @@ fn reason_name(why: LineWhy) -> &'static str
 {
     match why {
         LineWhy::Header => "Header",
-        LineWhy::NotBuilt => "NotBuilt",
         LineWhy::Ending => "Ending",
         LineWhy::Many => "Many",
         LineWhy::Word => "Word",

@@ -30,17 +30,17 @@ use Rattle.xmpp_report.specs.declared.report.SaidMark.TheVariants.{Acknowledged,
 use Rattle.xmpp_schedule.proofs.Lists.{all_flat_map, all_map, all_of, map-map, map_nothing}
 use Rattle.xmpp_schedule.proofs.StandingSteps.{AreStanding, few_lines, homes_are, homes_exist, steps_stand}
 use Rattle.xmpp_schedule.specs.Contents.{Owned, accounts_of, along, devices_of, home_of, is_account}
-use Rattle.xmpp_schedule.specs.Grammar.{IsSchedule, may_keep, nothing_declared}
+use Rattle.xmpp_schedule.specs.Grammar.{IsDirectSchedule, may_keep, nothing_declared}
 use Rattle.xmpp_schedule.specs.Schedules.{ScheduleView, keep_of, steps_of}
 use Rattle.xmpp_schedule.specs.declared.schedule.Line.{Line}
 use Rattle.xmpp_schedule.specs.declared.schedule.Step.{Step}
 use Rattle.xmpp_schedule.specs.declared.schedule.Version.{Version}
 use Rattle.xmpp_schedule.specs.declared.schedule.Version.TheVariants.{One, Two}
 
-known_steps : (s : ScheduleView) → IsSchedule s → AreStanding [] (steps_of s.lines)
+known_steps : (s : ScheduleView) → IsDirectSchedule s → AreStanding [] (steps_of s.lines)
 known_steps s known = steps_stand [] 2 s.lines known.lines
 
-known_few : (s : ScheduleView) → IsSchedule s → length (steps_of s.lines) ≤ 100000
+known_few : (s : ScheduleView) → IsDirectSchedule s → length (steps_of s.lines) ≤ 100000
 known_few s known =
     let lines : length s.lines + 2 ≤ 100001 = few_lines nothing_declared 2 s.lines (omega arith) known.lines in
     omega (arith, length-map s.lines (λ (line : Line). line.step))
@@ -58,7 +58,7 @@ home_line d = record { device = d.name; account = d.account }
 abbrev account_name_of : AccountView → List ℕ
 account_name_of a = a.name
 
-pub of_schedule : (version : Version) (s : ScheduleView) → IsSchedule s → IsOfSchedule s (report_by version (steps_of s.lines))
+pub of_schedule : (version : Version) (s : ScheduleView) → IsDirectSchedule s → IsOfSchedule s (report_by version (steps_of s.lines))
 of_schedule version s known =
     let all = steps_of s.lines in
     let keep = keep_of version in
@@ -87,7 +87,7 @@ moments_told version all =
     all_map (λ line. is_some line.moment ≡ tells_moments version) (take_line version) (takes_of all all)
     (all_of (λ take. is_some (take_line version take).moment ≡ tells_moments version) (λ take. moment_told version take.moment) (takes_of all all))
 
-form_one : (s : ScheduleView) → IsSchedule s → IsInForm One (report_by One (steps_of s.lines))
+form_one : (s : ScheduleView) → IsDirectSchedule s → IsInForm One (report_by One (steps_of s.lines))
 form_one s known =
     let all = steps_of s.lines in
     let keep = keep_of One in
@@ -108,7 +108,7 @@ form_two keep all = record {
   unbroken = λ untold. absurd (true≢false untold);
 }
 
-pub in_form : (version : Version) (s : ScheduleView) → IsSchedule s → IsInForm version (report_by version (steps_of s.lines))
+pub in_form : (version : Version) (s : ScheduleView) → IsDirectSchedule s → IsInForm version (report_by version (steps_of s.lines))
 in_form One s known = form_one s known
 in_form (Two keep) s known = form_two keep (steps_of s.lines)
 
@@ -137,7 +137,7 @@ one_stamp all known named few =
     (all_flat_map (IsStamped all) (λ (a : AccountView). a.entries) (map (account_line 4294967295 all) (accounts_of all))
     (each_account (λ a. AllByRecursion (IsStamped all) a.entries) 4294967295 all (entries_stamped all known named few)))
 
-pub taken_right : (s : ScheduleView) → IsSchedule s → IsTakenRight s (report_by One (steps_of s.lines))
+pub taken_right : (s : ScheduleView) → IsDirectSchedule s → IsTakenRight s (report_by One (steps_of s.lines))
 taken_right s known =
     let all = steps_of s.lines in
     let keep = keep_of One in
@@ -159,7 +159,7 @@ newest_kept : (keep : ℕ) (all : List Step) → AreStanding [] all → (name : 
 newest_kept keep all known name =
     subst (λ (history : List EntryView). IsNewestOf keep history (account_line keep all name)) (sym (history_is keep all known name)) (record { entries = refl; last = refl })
 
-pub taken_and_kept : (keep : ℕ) (s : ScheduleView) → IsSchedule s → IsTakenAndKept keep s (report_by (Two keep) (steps_of s.lines))
+pub taken_and_kept : (keep : ℕ) (s : ScheduleView) → IsDirectSchedule s → IsTakenAndKept keep s (report_by (Two keep) (steps_of s.lines))
 taken_and_kept keep s known =
     let all = steps_of s.lines in
     let standing : AreStanding [] all = known_steps s known in
@@ -184,7 +184,7 @@ gapless version s name =
     (IsTakenFirst s (map (take_line version) (takes_of all all)) name)
     (λ first second taken same exists later. taken exists) (along (said_at name) [] all) (taken_from version all name [] all)
 
-pub once_in_order : (version : Version) (s : ScheduleView) → IsSchedule s → IsOnceInOrder s (report_by version (steps_of s.lines))
+pub once_in_order : (version : Version) (s : ScheduleView) → IsDirectSchedule s → IsOnceInOrder s (report_by version (steps_of s.lines))
 once_in_order version s known =
     let all = steps_of s.lines in
     let keep = keep_of version in
@@ -210,7 +210,7 @@ acknowledged_taken version all name =
     (λ said. said.state ≡ Acknowledged → IsTrue (is_among said.to (accounts_of all)) → IsTrue (is_taken (map (take_line version) (takes_of all all)) name said))
     (λ said taken is. taken) (along (said_at name) [] all) (taken_from version all name [] all)
 
-pub acknowledged_right : (version : Version) (s : ScheduleView) → IsSchedule s → IsAcknowledgedRight s (report_by version (steps_of s.lines))
+pub acknowledged_right : (version : Version) (s : ScheduleView) → IsDirectSchedule s → IsAcknowledgedRight s (report_by version (steps_of s.lines))
 acknowledged_right version s known =
     let all = steps_of s.lines in
     let keep = keep_of version in
@@ -232,7 +232,7 @@ prefix_of_account : (all : List Step) (name : List ℕ) → AreStanding [] all �
 prefix_of_account all name known few exists =
     rw (account_found 4294967295 all (home_of all name) (accounts_of all) exists) (prefix_right 4294967295 all name (omega arith) known few)
 
-pub logged_right : (s : ScheduleView) → IsSchedule s → IsLogged s (report_by One (steps_of s.lines))
+pub logged_right : (s : ScheduleView) → IsDirectSchedule s → IsLogged s (report_by One (steps_of s.lines))
 logged_right s known =
     let all = steps_of s.lines in
     let keep = keep_of One in
@@ -244,7 +244,7 @@ logged_right s known =
           (λ name exists. prefix_of_account all name (known_steps s known) (known_few s known) exists) (devices_of all) (homes_exist all [] all refl (known_steps s known)));
     }
 
-pub paged_right : (s : ScheduleView) → IsSchedule s → IsPaged (worlds_of 4294967295 (steps_of s.lines)) s (report_by One (steps_of s.lines))
+pub paged_right : (s : ScheduleView) → IsDirectSchedule s → IsPaged (worlds_of 4294967295 (steps_of s.lines)) s (report_by One (steps_of s.lines))
 paged_right s known =
     let all = steps_of s.lines in
     record {
@@ -255,7 +255,7 @@ paged_right s known =
 
 -- Laws 4 and 5 of version 2.
 
-pub logged_in_runs : (keep : ℕ) (s : ScheduleView) → IsSchedule s → 1 ≤ keep → IsLoggedInRuns keep s (report_by (Two keep) (steps_of s.lines))
+pub logged_in_runs : (keep : ℕ) (s : ScheduleView) → IsDirectSchedule s → 1 ≤ keep → IsLoggedInRuns keep s (report_by (Two keep) (steps_of s.lines))
 logged_in_runs keep s known some =
     let all = steps_of s.lines in
     let standing : AreStanding [] all = known_steps s known in
@@ -266,7 +266,7 @@ logged_in_runs keep s known some =
           (runs_right keep all name some standing (known_few s known)));
     }
 
-pub paged_in_runs : (keep : ℕ) (s : ScheduleView) → IsSchedule s → 1 ≤ keep → IsPagedInRuns keep (worlds_of keep (steps_of s.lines)) s (report_by (Two keep) (steps_of s.lines))
+pub paged_in_runs : (keep : ℕ) (s : ScheduleView) → IsDirectSchedule s → 1 ≤ keep → IsPagedInRuns keep (worlds_of keep (steps_of s.lines)) s (report_by (Two keep) (steps_of s.lines))
 paged_in_runs keep s known some =
     let all = steps_of s.lines in
     let standing : AreStanding [] all = known_steps s known in
@@ -279,7 +279,7 @@ paged_in_runs keep s known some =
 
 -- The five laws.
 
-lawful_one : (s : ScheduleView) → IsSchedule s → IsLawful (worlds_of 4294967295 (steps_of s.lines)) s (report_by One (steps_of s.lines))
+lawful_one : (s : ScheduleView) → IsDirectSchedule s → IsLawful (worlds_of 4294967295 (steps_of s.lines)) s (report_by One (steps_of s.lines))
 lawful_one s known = record {
   taken = taken_right s known;
   in_order = once_in_order One s known;
@@ -288,7 +288,7 @@ lawful_one s known = record {
   paged = paged_right s known;
 }
 
-lawful_two : (keep : ℕ) (s : ScheduleView) → IsSchedule s → 1 ≤ keep → IsLawfulKeeping keep (worlds_of keep (steps_of s.lines)) s (report_by (Two keep) (steps_of s.lines))
+lawful_two : (keep : ℕ) (s : ScheduleView) → IsDirectSchedule s → 1 ≤ keep → IsLawfulKeeping keep (worlds_of keep (steps_of s.lines)) s (report_by (Two keep) (steps_of s.lines))
 lawful_two keep s known some = record {
   taken = taken_and_kept keep s known;
   in_order = once_in_order (Two keep) s known;
@@ -297,11 +297,11 @@ lawful_two keep s known some = record {
   paged = paged_in_runs keep s known some;
 }
 
-laws_of : (version : Version) (s : ScheduleView) → IsSchedule s → IsTrue (may_keep version) →
+laws_of : (version : Version) (s : ScheduleView) → IsDirectSchedule s → IsTrue (may_keep version) →
     KeepsLawsOf version (worlds_of (keep_of version) (steps_of s.lines)) s (report_by version (steps_of s.lines))
 laws_of One s known may = lawful_one s known
 laws_of (Two keep) s known may = lawful_two keep s known (leb-true 1 keep (and_parts _ _ may).0)
 
-pub lawful : (s : ScheduleView) → IsSchedule s → KeepsLaws (direct_history s) s (direct_report s)
+pub lawful : (s : ScheduleView) → IsDirectSchedule s → KeepsLaws (direct_history s) s (direct_report s)
 unfolding direct_report
 lawful s known = record { form = in_form s.version s known; laws = laws_of s.version s known known.keeps }

@@ -2,7 +2,7 @@
 ghost use Rattle.xmpp_direct.specs.Direct.{direct_report};
 ghost use Rattle.xmpp_direct.specs.History.{direct_history};
 ghost use Rattle.xmpp_report.specs.LawfulRuns.{KeepsLaws};
-ghost use Rattle.xmpp_schedule.specs.Grammar.{IsSchedule};
+ghost use Rattle.xmpp_schedule.specs.Grammar.{IsDirectSchedule};
 ghost use Rattle.xmpp_schedule.specs.Schedules.{ScheduleView};
 
 /// A law: the report of a direct run keeps the five laws of its version. What the archives hold is what was taken, or
@@ -10,5 +10,5 @@ ghost use Rattle.xmpp_schedule.specs.Schedules.{ScheduleView};
 /// was acknowledged; each log is a prefix of its account's archive, or runs of its history that are broken only where
 /// entries were purged; and the pages of a log are tiles of it, each as fresh as its archive.
 pub fn direct_is_lawful()
-    ensures { (s : ScheduleView) → IsSchedule s → KeepsLaws (direct_history s) s (direct_report s) }
+    ensures { (s : ScheduleView) → IsDirectSchedule s → KeepsLaws (direct_history s) s (direct_report s) }
 {}

@@ -19,7 +19,7 @@ use Rattle.xmpp_direct.specs.Direct.{account_line, device_line, direct_report, p
 use Rattle.xmpp_schedule.proofs.Moments.{moment_few}
 use Rattle.xmpp_schedule.specs.Contents.{account_name, accounts_of, moment_after}
 use Rattle.xmpp_report.specs.Lines.{page_line, tile_line}
-use Rattle.xmpp_schedule.specs.Grammar.{IsSchedule, is_name, may_keep}
+use Rattle.xmpp_schedule.specs.Grammar.{IsDirectSchedule, is_name, may_keep}
 use Rattle.xmpp_edge.specs.Names.{is_among}
 use Rattle.xmpp_replay.specs.Homes.{Home, empty_home, home_at, names_of}
 use Rattle.xmpp_replay.specs.ReportLines.{home_line, report_of, state_line}
@@ -195,7 +195,7 @@ pub after_all : (version : Version) (all : List Step) (i : ℕ) (run : Run) → 
 after_all version all i run past is = subst (λ ss. IsAfter version all ss run) (take_all i all past) is
 
 -- each archive keeps an entry at least
-pub keep_some : (schedule : ScheduleView) → IsSchedule schedule → 1 ≤ keep_of schedule.version
+pub keep_some : (schedule : ScheduleView) → IsDirectSchedule schedule → 1 ≤ keep_of schedule.version
 keep_some schedule is = some schedule.version is.keeps
   where
     some : (version : Version) → IsTrue (may_keep version) → 1 ≤ keep_of version
@@ -203,5 +203,5 @@ keep_some schedule is = some schedule.version is.keeps
     some (Two keep) may = leb-true 1 keep (and_parts (nat_le 1 keep) (nat_le keep 4294967295) may).0
 
 -- a schedule's lines are in their places
-pub lines_of_schedule : (lines : List Line) (schedule : ScheduleView) → lines ≡ schedule.lines → IsSchedule schedule → AreRight (steps_of lines)
+pub lines_of_schedule : (lines : List Line) (schedule : ScheduleView) → lines ≡ schedule.lines → IsDirectSchedule schedule → AreRight (steps_of lines)
 lines_of_schedule lines schedule same is = subst (λ ls. AreRight (steps_of ls)) (sym same) (right_steps schedule.lines is.lines)

@@ -7,7 +7,7 @@
 //! by number, accounts and devices by name.
 ghost use Rattle.std.specs.Prelude.{◌≡◌, ◌+◌, ◌≤◌, false, true, [], IfOk, OnOk};
 ghost use Rattle.xmpp_direct.specs.Direct.{direct_report};
-ghost use Rattle.xmpp_schedule.specs.Grammar.{IsSchedule};
+ghost use Rattle.xmpp_schedule.specs.Grammar.{IsDirectSchedule};
 ghost use Rattle.xmpp_edge.specs.Names.{is_among};
 ghost use Rattle.xmpp_replay.specs.Homes.{names_of};
 ghost use Rattle.xmpp_replay.specs.ReportLines.{report_of};
@@ -28,7 +28,7 @@ use crate::run::messages::Clock;
 use std::alloc::Global;
 use xmpp_edge::{ListOf, NameIndex, NoMemory, Text};
 use xmpp_report::{Report, TakeLines};
-use xmpp_schedule::{Line, Schedule, Step, Version};
+use xmpp_schedule::{DirectSchedule, Line, Step, Version};
 
 /// The clock, the accounts that a schedule declares anywhere, the devices that were declared so far, each found by its
 /// name, and the messages that were taken so far.
@@ -179,8 +179,8 @@ impl Run {
 }
 
 /// The run of a schedule behind its last line.
-fn followed(alloc: Global, schedule: &Schedule) -> Result<Run, NoMemory>
-    requires { IsSchedule schedule.now }
+fn followed(alloc: Global, schedule: &DirectSchedule) -> Result<Run, NoMemory>
+    requires { IsDirectSchedule schedule.now }
     ensures { IfOk result (λ run. IsAfter schedule.now.version (steps_of schedule.now.lines) (steps_of schedule.now.lines) run) }
 {
     let lines = schedule.lines.as_slice();
@@ -193,8 +193,8 @@ fn followed(alloc: Global, schedule: &Schedule) -> Result<Run, NoMemory>
 /// catch-up asks for (XEP-0313) is answered at once. The schedule is dropped before the report is made. `NoMemory`
 /// comes only where memory runs out.
 #[tactic(auto, using(crate::proofs::WholeRuns::report_told))]
-pub fn direct(alloc: Global, schedule: Schedule) -> Result<Report, NoMemory>
-    requires { IsSchedule schedule }
+pub fn direct(alloc: Global, schedule: DirectSchedule) -> Result<Report, NoMemory>
+    requires { IsDirectSchedule schedule }
     ensures { IfOk result (λ report. report ≡ direct_report schedule) }
 {
     let run = followed(alloc, &schedule)?;

@@ -5,10 +5,12 @@ use Rattle.std.specs.List.{flat_map}
 use Rattle.std.specs.Str.{is_utf8, chars}
 use Rattle.xmpp_basis.specs.Hexadecimal.{hex16_of}
 use Rattle.xmpp_direct.specs.Direct.{direct_report}
-use Rattle.xmpp_schedule.specs.Reading.{reading, read_heading, read_version, read_one, read_two, read_mode, read_line, read_words, read_account, read_device, read_message, read_say, read_private, read_catchup, read_tick}
+use Rattle.xmpp_schedule.specs.Reading.{read_heading, read_version, read_one, read_two, read_mode, read_line, read_words, read_account, read_device, read_message, read_say, read_private, read_catchup, read_tick}
 use Rattle.xmpp_report.specs.ReportText.{text_of}
-use Rattle.xmpp_schedule.specs.Schedules.{ScheduleView}
+use Rattle.xmpp_schedule.specs.WireReading.{reading}
 use Rattle.xmpp_schedule.specs.declared.fault.ScheduleFault.{ScheduleFault}
+use Rattle.xmpp_schedule.specs.declared.schedule.Schedule.{Schedule}
+use Rattle.xmpp_schedule.specs.declared.schedule.Schedule.TheVariants.{Direct, Wire}
 use Rattle.xmpp_schedule.specs.declared.fault.ScheduleFault.TheVariants.{BadLine}
 use Rattle.xmpp_schedule.specs.declared.fault.LineWhy.TheVariants as why
 
@@ -17,8 +19,9 @@ abbrev ended : List (List ℕ) → List ℕ
 ended lines = flat_map (λ line. line ++ 10 ∷ []) lines
 
 -- the report of a text, and nothing where it is refused
-abbrev replayed : Result ScheduleView ScheduleFault → List ℕ
-replayed (Ok schedule) = text_of (direct_report schedule)
+abbrev replayed : Result Schedule ScheduleFault → List ℕ
+replayed (Ok (Direct schedule)) = text_of (direct_report schedule)
+replayed (Ok (Wire schedule)) = []
 replayed (Err e) = []
 
 abbrev first_schedule : List ℕ

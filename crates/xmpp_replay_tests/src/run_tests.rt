@@ -4,7 +4,7 @@ use std::alloc::Global;
 use std::test::Fail;
 use xmpp_edge::NoMemory;
 use xmpp_replay::direct;
-use xmpp_schedule::read_schedule;
+use xmpp_schedule::{Schedule, read_schedule};
 
 static FIRST: &str = "xmpp-schedule 1 direct
 account alice
@@ -104,7 +104,7 @@ end
 
 // Whether a text is a schedule, and this the text of its report.
 fn is_replayed(alloc: Global, text: &str, wanted: &str) -> Result<bool, NoMemory> {
-    let Ok(schedule) = read_schedule(alloc, text.as_bytes()) else {
+    let Ok(Schedule::Direct(schedule)) = read_schedule(alloc, text.as_bytes()) else {
         return Ok(false);
     };
     has_text(alloc, &direct(alloc, schedule)?, wanted)

@@ -16,9 +16,9 @@ static OF_LINE_ONE: [(&str, LineWhy); 13] = [
     ("xmpp-schedule 1 direct \n", LineWhy::Header),
     ("account bob", LineWhy::Header),
     ("xmpp-schedule 1 direct", LineWhy::Ending),
-    ("xmpp-schedule 1 wire\n", LineWhy::NotBuilt),
-    ("xmpp-schedule 1 wire", LineWhy::NotBuilt),
-    ("xmpp-schedule 2 wire 5\n", LineWhy::NotBuilt),
+    ("xmpp-schedule 2 wire\n", LineWhy::Header),
+    ("xmpp-schedule 1 wire 5\n", LineWhy::Header),
+    ("xmpp-schedule 1 wire", LineWhy::Ending),
 ];
 
 // What stands from line 4 on, behind an account and a device, and why line 4 is bad.
@@ -67,6 +67,40 @@ static BELOW_A_DEVICE: [(&str, LineWhy); 42] = [
     ("receipt\naccount Carol\n", LineWhy::Word),
 ];
 
+// What stands from line 5 on of a wire schedule, behind an account, a device and its `dial`, and why line 5 is bad.
+static BELOW_A_DIAL: [(&str, LineWhy); 30] = [
+    ("cut 1 0 0", LineWhy::Ending),
+    ("restart\n", LineWhy::Word),
+    ("dial\n", LineWhy::Shape),
+    ("close phone \n", LineWhy::Shape),
+    ("up 1\n", LineWhy::Shape),
+    ("down 1 5 \n", LineWhy::Shape),
+    ("cut 1 5\n", LineWhy::Shape),
+    ("cut 1 5 5 5\n", LineWhy::Shape),
+    ("pass 1\n", LineWhy::Shape),
+    ("run\n", LineWhy::Shape),
+    ("run 8 8\n", LineWhy::Shape),
+    ("account Bob\n", LineWhy::Name),
+    ("device phone bob\n", LineWhy::Twice),
+    ("dial desk\n", LineWhy::Unknown),
+    ("forget Phone\n", LineWhy::Unknown),
+    ("up 2 5\n", LineWhy::Unknown),
+    ("up 0 all\n", LineWhy::Unknown),
+    ("down 01 5\n", LineWhy::Unknown),
+    ("down x x\n", LineWhy::Unknown),
+    ("cut 2 x x\n", LineWhy::Unknown),
+    ("pass 2 0\n", LineWhy::Unknown),
+    ("up 1 All\n", LineWhy::Number),
+    ("up 1 05\n", LineWhy::Number),
+    ("down 1 4294967296\n", LineWhy::Number),
+    ("cut 1 all 0\n", LineWhy::Number),
+    ("cut 1 0 4294967296\n", LineWhy::Number),
+    ("pass 1 0\n", LineWhy::Number),
+    ("run 1001\n", LineWhy::Number),
+    ("private phone bob a\tb\n", LineWhy::Text),
+    ("dial desk\nup 0 0\n", LineWhy::Unknown),
+];
+
 // Whether two texts, one behind the other, have this first bad line.
 fn is_bad(
     alloc: Global,
@@ -96,6 +130,15 @@ fn bad_lines_below_a_device(rt: HostRuntime) -> Result<(), Fail> {
     let above = "xmpp-schedule 1 direct\naccount bob\ndevice phone bob\n";
     for (below, why) in &BELOW_A_DEVICE {
         assert!(rt; is_bad(rt.alloc(), above, below, 4, *why)?);
+    }
+    Ok(())
+}
+
+#[test]
+fn bad_lines_below_a_dial(rt: HostRuntime) -> Result<(), Fail> {
+    let above = "xmpp-schedule 2 wire 7\naccount bob\ndevice phone bob\ndial phone\n";
+    for (below, why) in &BELOW_A_DIAL {
+        assert!(rt; is_bad(rt.alloc(), above, below, 5, *why)?);
     }
     Ok(())
 }

@@ -1,5 +1,5 @@
--- The text of a schedule is read as that schedule.
-use Rattle.std.proofs.Common.{◌≡◌, ℕ, zero, suc, ◌+◌, ◌≤◌, ◌<◌, Bool, true, false, eqb, leb, ltb, List, [], ◌∷◌, ◌++◌, length, Some, Result, Ok, refl, sym, ap, subst, ◌∙◌, inl, inr, arith, codes, append_assoc}
+-- The text of a line of a direct schedule is read as that line.
+use Rattle.std.proofs.Common.{◌≡◌, ℕ, zero, suc, ◌+◌, ◌≤◌, ◌<◌, Bool, true, false, eqb, leb, ltb, List, [], ◌∷◌, ◌++◌, length, Some, Result, Ok, refl, sym, ap, ◌∙◌, inl, inr, arith, codes, append_assoc}
 use Rattle.std.specs.Prelude.{not, ◌&&◌, ◌||◌, nat_lt, nat_le}
 use Rattle.std.specs.Fmt.{decimal}
 use Rattle.std.specs.List.{flat_map, list_all, AllByRecursion}
@@ -10,17 +10,14 @@ use Rattle.std.proofs.lemmas.List.Concat.{flat_map-cons}
 use Rattle.std.proofs.lemmas.Slice.Eq.{bytes_eq-Decides}
 use Rattle.std.proofs.lemmas.Str.{IsUtf8-append, IsUtf8-from_ascii, IsUtf8-from_is_utf8, is_utf8-from_IsUtf8, encodes-chars}
 use Rattle.std.proofs.lemmas.Str.Pattern.{NoCharPasses-char}
-use Rattle.xmpp_schedule.specs.Grammar.{is_lower, is_digit, is_name, is_text, is_text_character, Declared, nothing_declared, declared_by, may_stand, may_keep, AreLines, IsSchedule, step_text, header_text, schedule_text}
+use Rattle.xmpp_schedule.specs.Grammar.{is_lower, is_digit, is_name, is_text, is_text_character, Declared, declared_by, may_stand, AreLines, step_text}
 use Rattle.xmpp_edge.specs.Names.{is_among}
-use Rattle.xmpp_schedule.specs.Reading.{pieces_of, cut_of, not_empty, next_field, last_field, rest_field, is_number, read_account, read_device, read_message, read_say, read_private, read_catchup, read_tick, read_words, read_line, read_lines, read_mode, read_one, read_two, read_version, read_heading, reading}
-use Rattle.xmpp_schedule.specs.Schedules.{ScheduleView}
+use Rattle.xmpp_schedule.specs.Reading.{pieces_of, cut_of, not_empty, next_field, last_field, rest_field, is_number, read_account, read_device, read_message, read_say, read_private, read_catchup, read_tick, read_words, read_line, read_lines}
 use Rattle.xmpp_schedule.specs.declared.schedule.Line.{Line}
 use Rattle.xmpp_schedule.specs.declared.fault.ScheduleFault.{ScheduleFault}
 use Rattle.xmpp_schedule.specs.declared.schedule.Step.{Step}
 use Rattle.xmpp_schedule.specs.declared.schedule.Step.TheVariants.{Account, Device, Say, Private, Catchup, Tick}
-use Rattle.xmpp_schedule.specs.declared.schedule.TheConstants.{MOST_KEPT, MOST_TICK}
-use Rattle.xmpp_schedule.specs.declared.schedule.Version.{Version}
-use Rattle.xmpp_schedule.specs.declared.schedule.Version.TheVariants.{One, Two}
+use Rattle.xmpp_schedule.specs.declared.schedule.TheConstants.{MOST_TICK}
 use Rattle.xmpp_schedule.proofs.Found.{line_text}
 use Rattle.xmpp_schedule.proofs.Numbers.{decimal_number, number_again, number_digits}
 use Rattle.xmpp_schedule.proofs.Words.{Lacks, cut_behind, piece_behind}
@@ -41,7 +38,7 @@ ascii_from_all p low [] h i = omega arith
 ascii_from_all p low (b ∷ bytes) h zero = low b (and_parts (p b) (list_all p bytes) h).0
 ascii_from_all p low (b ∷ bytes) h (suc i) = ascii_from_all p low bytes (and_parts (p b) (list_all p bytes) h).1 i
 
-lacks_append : (c : ℕ) (xs ys : List ℕ) → Lacks c xs → Lacks c ys → Lacks c (xs ++ ys)
+pub lacks_append : (c : ℕ) (xs ys : List ℕ) → Lacks c xs → Lacks c ys → Lacks c (xs ++ ys)
 lacks_append c [] ys hx hy i lt = hy i lt
 lacks_append c (x ∷ xs) ys hx hy zero lt = hx 0 (omega arith)
 lacks_append c (x ∷ xs) ys hx hy (suc i) lt = lacks_append c xs ys (λ j l. hx (suc j) (omega arith)) hy i (omega arith)
@@ -51,18 +48,18 @@ lacks_cons c x xs other h zero lt = eqb-false x c other
 lacks_cons c x xs other h (suc i) lt = h i (omega arith)
 
 -- what a line may be written with: no LF, and UTF-8
-record IsPlain (bytes : List ℕ) : Type 0 where
-  lacks : Lacks 10 bytes
-  spelled : IsUtf8 bytes
+pub record IsPlain (bytes : List ℕ) : Type 0 where
+  pub lacks : Lacks 10 bytes
+  pub spelled : IsUtf8 bytes
 
-plain_append : (xs ys : List ℕ) → IsPlain xs → IsPlain ys → IsPlain (xs ++ ys)
+pub plain_append : (xs ys : List ℕ) → IsPlain xs → IsPlain ys → IsPlain (xs ++ ys)
 plain_append xs ys hx hy = record { lacks = lacks_append 10 xs ys hx.lacks hy.lacks; spelled = IsUtf8-append xs ys hx.spelled hy.spelled }
 
 -- a printable ASCII character
 abbrev is_plain_ascii : ℕ → Bool
 is_plain_ascii c = leb 32 c && ltb c 128
 
-plain_from_all : (bytes : List ℕ) → list_all is_plain_ascii bytes ≡ true → IsPlain bytes
+pub plain_from_all : (bytes : List ℕ) → list_all is_plain_ascii bytes ≡ true → IsPlain bytes
 plain_from_all bytes h = record {
   lacks = lacks_from_all is_plain_ascii 10 bytes refl h;
   spelled = IsUtf8-from_ascii bytes (ascii_from_all is_plain_ascii (λ c e. grind (arith, nat_tests)) bytes h);
@@ -74,13 +71,13 @@ abbrev is_name_byte : ℕ → Bool
 is_name_byte d = is_lower d || is_digit d
 
 -- a field without spaces
-record IsWord (bytes : List ℕ) : Type 0 where
-  some : not_empty bytes ≡ true
-  lacks : Lacks 32 bytes
-  whole : list_all (λ b. not (eqb b 32)) bytes ≡ true
-  plain : IsPlain bytes
+pub record IsWord (bytes : List ℕ) : Type 0 where
+  pub some : not_empty bytes ≡ true
+  pub lacks : Lacks 32 bytes
+  pub whole : list_all (λ b. not (eqb b 32)) bytes ≡ true
+  pub plain : IsPlain bytes
 
-word_from_all : (p : ℕ → Bool) → ((c : ℕ) → p c ≡ true → (33 ≤ c) × (c < 128)) → (bytes : List ℕ) → not_empty bytes ≡ true → list_all p bytes ≡ true → IsWord bytes
+pub word_from_all : (p : ℕ → Bool) → ((c : ℕ) → p c ≡ true → (33 ≤ c) × (c < 128)) → (bytes : List ℕ) → not_empty bytes ≡ true → list_all p bytes ≡ true → IsWord bytes
 word_from_all p range bytes some h = record {
   some = some;
   lacks = lacks_from_all (λ b. not (eqb b 32)) 32 bytes refl (list_all-weaker p (λ b. not (eqb b 32)) (λ c e. let r = range c e in grind (arith, nat_tests)) bytes h);
@@ -108,10 +105,10 @@ name_not_empty : (name : List ℕ) → is_name name ≡ true → not_empty name 
 name_not_empty [] h = absurd (false≢true h)
 name_not_empty (c ∷ cs) h = refl
 
-name_word : (name : List ℕ) → is_name name ≡ true → IsWord name
+pub name_word : (name : List ℕ) → is_name name ≡ true → IsWord name
 name_word name h = word_from_all is_name_byte name_range name (name_not_empty name h) (name_bytes name h)
 
-digits_word : (bytes : List ℕ) → is_number bytes ≡ true → IsWord bytes
+pub digits_word : (bytes : List ℕ) → is_number bytes ≡ true → IsWord bytes
 digits_word bytes h = word_from_all is_digit digit_range bytes (number_digits bytes h).0 (number_digits bytes h).1
 
 text_byte : (c : ℕ) → is_text_character c ≡ true → eqb c 10 ≡ false
@@ -139,18 +136,18 @@ text_not_empty (b ∷ bytes) h = refl
 
 -- ---- what is declared
 
-abbrev AreNames : List (List ℕ) → Type 0
+abbrev pub AreNames : List (List ℕ) → Type 0
 AreNames names = AllByRecursion (λ name. is_name name ≡ true) names
 
-record AreDeclared (above : Declared) : Type 0 where
-  accounts : AreNames above.accounts
-  devices : AreNames above.devices
+pub record AreDeclared (above : Declared) : Type 0 where
+  pub accounts : AreNames above.accounts
+  pub devices : AreNames above.devices
 
 names_push : (names : List (List ℕ)) (name : List ℕ) → AreNames names → is_name name ≡ true → AreNames (names ++ name ∷ [])
 names_push [] name h is = (is, tt)
 names_push (other ∷ names) name h is = (h.0, names_push names name h.1 is)
 
-among_is_name : (name : List ℕ) (names : List (List ℕ)) → AreNames names → is_among name names ≡ true → is_name name ≡ true
+pub among_is_name : (name : List ℕ) (names : List (List ℕ)) → AreNames names → is_among name names ≡ true → is_name name ≡ true
 among_is_name name [] h e = absurd (false≢true e)
 among_is_name name (other ∷ names) h e =
     elim (or_cases (bytes_eq name other) (is_among name names) e) [
@@ -160,10 +157,10 @@ among_is_name name (other ∷ names) h e =
 
 -- ---- fields
 
-next_again : (word rest : List ℕ) → IsWord word → next_field (Some (word ++ 32 ∷ rest)) ≡ Ok (record { front = word; rest = Some rest })
+pub next_again : (word rest : List ℕ) → IsWord word → next_field (Some (word ++ 32 ∷ rest)) ≡ Ok (record { front = word; rest = Some rest })
 next_again word rest h = rw (cut_behind word rest h.lacks, h.some) refl
 
-last_again : (word : List ℕ) → IsWord word → last_field (Some word) ≡ Ok word
+pub last_again : (word : List ℕ) → IsWord word → last_field (Some word) ≡ Ok word
 last_again word h = rw (h.some, h.whole) refl
 
 rest_again : (text : List ℕ) → not_empty text ≡ true → rest_field (Some text) ≡ Ok text
@@ -171,10 +168,10 @@ rest_again text h = rw h refl
 
 -- ---- what a line says
 
-record IsAgain (above : Declared) (step : Step) : Type 0 where
-  read : read_words above (cut_of (step_text step)) ≡ Ok step
-  plain : IsPlain (step_text step)
-  declared : AreDeclared (declared_by step above)
+pub record IsAgain (above : Declared) (step : Step) : Type 0 where
+  pub read : read_words above (cut_of (step_text step)) ≡ Ok step
+  pub plain : IsPlain (step_text step)
+  pub declared : AreDeclared (declared_by step above)
 
 account_again : (above : Declared) (name : List ℕ) → AreDeclared above → may_stand above (Account name) ≡ true → IsAgain above (Account name)
 unfolding read_words read_account
@@ -269,7 +266,7 @@ tick_again above ms known h =
       declared = known;
     }
 
-step_again : (above : Declared) (step : Step) → AreDeclared above → may_stand above step ≡ true → IsAgain above step
+pub step_again : (above : Declared) (step : Step) → AreDeclared above → may_stand above step ≡ true → IsAgain above step
 step_again above (Account name) known h = account_again above name known h
 step_again above (Device name account) known h = device_again above name account known h
 step_again above (Say device to text) known h = say_again above device to text known h
@@ -286,10 +283,7 @@ line_again above n step few h = rw (is_utf8-from_IsUtf8 (step_text step) h.plain
 abbrev read_all : List Line → Result (List Line) ScheduleFault
 read_all lines = Ok lines
 
-abbrev read_schedule : ScheduleView → Result ScheduleView ScheduleFault
-read_schedule s = Ok s
-
-lines_again : (above : Declared) (n : ℕ) (lines : List Line) → AreDeclared above → AreLines above n lines → read_lines above n (pieces_of (flat_map line_text lines)) ≡ Ok lines
+pub lines_again : (above : Declared) (n : ℕ) (lines : List Line) → AreDeclared above → AreLines above n lines → read_lines above n (pieces_of (flat_map line_text lines)) ≡ Ok lines
 lines_again above n [] known h = refl
 lines_again above n (line ∷ lines) known h =
     let again = step_again above line.step known h.2 in
@@ -300,44 +294,3 @@ lines_again above n (line ∷ lines) known h =
     let others = lines_again (declared_by line.step above) (n + 1) lines again.declared h.3 in
     let same : record { number = n; step = line.step } ≡ line = ap (λ (k : ℕ). record { number = k; step = line.step }) (sym h.0) in
     rw (parts, read, others) (ap (λ (l : Line). read_all (l ∷ lines)) same)
-
--- ---- line 1
-
--- line 1 of a direct schedule is read again
-record IsHeaded (version : Version) : Type 0 where
-  read : read_heading (header_text version false) ≡ Ok (record { version = version; wire = false })
-  lacks : Lacks 10 (header_text version false)
-
-heading_again : (version : Version) → may_keep version ≡ true → IsHeaded version
-unfolding read_heading read_version read_one read_two read_mode
-heading_again One h =
-    let plain = plain_from_all (codes "xmpp-schedule 1 direct") refl in
-    record { read = rw (is_utf8-from_IsUtf8 (codes "xmpp-schedule 1 direct") plain.spelled) refl; lacks = plain.lacks }
-heading_again (Two keep) h =
-    let parts = and_parts (nat_le 1 keep) (nat_le keep MOST_KEPT) h in
-    let high : keep ≤ MOST_KEPT = leb-true keep MOST_KEPT parts.1 in
-    let number = number_again 1 MOST_KEPT keep (leb-true 1 keep parts.0) high (omega arith) in
-    let field = digits_word (decimal keep) (decimal_number keep (omega arith)) in
-    let plain : IsPlain (codes "xmpp-schedule 2 direct " ++ decimal keep) =
-    plain_append (codes "xmpp-schedule 2 direct ") (decimal keep) (plain_from_all (codes "xmpp-schedule 2 direct ") refl) field.plain in
-    record {
-      read = rw (is_utf8-from_IsUtf8 (header_text (Two keep) false) plain.spelled, last_again (decimal keep) field, number) refl;
-      lacks = plain.lacks;
-    }
-
-direct_again : (version : Version) (lines : List Line) → may_keep version ≡ true → AreLines nothing_declared 2 lines →
-    reading (schedule_text (record { version = version; wire = false; lines = lines })) ≡ Ok (record { version = version; wire = false; lines = lines })
-unfolding reading
-direct_again version lines keeps h =
-    let none : AreDeclared nothing_declared = record { accounts = tt; devices = tt } in
-    let read = lines_again nothing_declared 2 lines none h in
-    let headed = heading_again version keeps in
-    let parts = piece_behind (header_text version false) (flat_map line_text lines) headed.lacks in
-    rw (parts, headed.read, read) refl
-
-abbrev with_mode : ScheduleView → Bool → ScheduleView
-with_mode s wire = record { version = s.version; wire = wire; lines = s.lines }
-
-pub reading_again : (s : ScheduleView) → IsSchedule s → reading (schedule_text s) ≡ Ok s
-reading_again s h =
-    subst (λ (w : Bool). reading (schedule_text (with_mode s w)) ≡ read_schedule (with_mode s w)) (sym h.direct) (direct_again s.version s.lines h.keeps h.lines)

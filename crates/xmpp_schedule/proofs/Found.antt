@@ -1,51 +1,46 @@
--- What is read is a schedule, and the text is its text.
+-- What the lines of a direct schedule are read as may stand there, and is what they say.
 use Rattle.std.proofs.Common.{◌≡◌, ℕ, ◌+◌, ◌≤◌, Bool, true, false, cond, eqb, List, [], ◌∷◌, ◌++◌, length, Option, Some, None, Result, Ok, Err, refl, sym, ap, subst, ◌∙◌, inl, inr, codes, append_assoc, arith}
 use Rattle.std.specs.Prelude.{not, ◌&&◌, ◌⊎◌, IsTrue, nat_lt, nat_le}
 use Rattle.std.specs.Fmt.{decimal}
 use Rattle.std.specs.List.{flat_map, list_all}
 use Rattle.std.specs.Str.{bytes_eq, is_utf8}
-use Rattle.std.proofs.lemmas.Bool.{cases_Bool, and_parts, and_from, eqb-true, false≢true, leb-true, le-leb}
-use Rattle.std.proofs.lemmas.Option.{same_Some}
+use Rattle.std.proofs.lemmas.Bool.{cases_Bool, and_parts, and_from, eqb-true, leb-true, le-leb}
 use Rattle.std.proofs.lemmas.List.Concat.{flat_map-cons}
 use Rattle.std.proofs.lemmas.Slice.Eq.{bytes_eq-Decides}
-use Rattle.xmpp_schedule.specs.Grammar.{is_name, is_text, Declared, nothing_declared, declared_by, may_stand, AreLines, IsSchedule, may_keep, step_text, mode_text, header_text, schedule_text}
+use Rattle.xmpp_schedule.specs.Grammar.{is_name, is_text, Declared, declared_by, may_stand, AreLines, step_text}
 use Rattle.xmpp_edge.specs.Names.{is_among}
-use Rattle.xmpp_schedule.specs.Reading.{Piece, Cut, ◌>>=◌, wants, joined, pieces_of, cut_of, not_empty, next_field, last_field, rest_field, number_within, read_account, read_device, read_message, read_say, read_private, read_catchup, read_tick, read_words, read_line, with_front, either, read_lines, read_mode, read_one, read_two, read_version, read_heading, as_heading, read_header, as_schedule, read_below, reading}
-use Rattle.xmpp_schedule.specs.Schedules.{ScheduleView}
+use Rattle.xmpp_schedule.specs.Reading.{Piece, Cut, ◌>>=◌, wants, joined, pieces_of, cut_of, not_empty, next_field, last_field, rest_field, number_within, read_account, read_device, read_message, read_say, read_private, read_catchup, read_tick, read_words, read_line, with_front, either, read_lines}
 use Rattle.xmpp_schedule.specs.declared.schedule.Line.{Line}
 use Rattle.xmpp_schedule.specs.declared.fault.LineWhy.{LineWhy}
 use Rattle.xmpp_schedule.specs.declared.fault.ScheduleFault.{ScheduleFault}
 use Rattle.xmpp_schedule.specs.declared.fault.ScheduleFault.TheVariants.{BadLine}
 use Rattle.xmpp_schedule.specs.declared.schedule.Step.{Step}
-use Rattle.xmpp_schedule.specs.declared.heading.Heading.{Heading}
 use Rattle.xmpp_schedule.specs.declared.schedule.Step.TheVariants.{Account, Device, Say, Private, Catchup, Tick}
-use Rattle.xmpp_schedule.specs.declared.schedule.TheConstants.{MOST_KEPT, MOST_TICK}
-use Rattle.xmpp_schedule.specs.declared.schedule.Version.{Version}
-use Rattle.xmpp_schedule.specs.declared.schedule.Version.TheVariants.{One, Two}
+use Rattle.xmpp_schedule.specs.declared.schedule.TheConstants.{MOST_TICK}
 use Rattle.xmpp_schedule.proofs.Numbers.{number_found}
 use Rattle.xmpp_schedule.specs.declared.fault.LineWhy.TheVariants as why
 
 -- ---- steps that did not fail
 
-bind_ok : {A B : Type 0} (r : Result A LineWhy) (f : A → Result B LineWhy) (y : B) → (r >>= f) ≡ Ok y → (x : A) × (r ≡ Ok x) × (f x ≡ Ok y)
+pub bind_ok : {A B : Type 0} (r : Result A LineWhy) (f : A → Result B LineWhy) (y : B) → (r >>= f) ≡ Ok y → (x : A) × (r ≡ Ok x) × (f x ≡ Ok y)
 bind_ok (Ok x) f y e = (x, refl, e)
 bind_ok (Err d) f y e = absurd cc
 
-gate : {B : Type 0} (holds : Bool) (reason : LineWhy) (r : Result B LineWhy) (y : B) → (wants holds reason >>= λ _. r) ≡ Ok y → (holds ≡ true) × (r ≡ Ok y)
+pub gate : {B : Type 0} (holds : Bool) (reason : LineWhy) (r : Result B LineWhy) (y : B) → (wants holds reason >>= λ _. r) ≡ Ok y → (holds ≡ true) × (r ≡ Ok y)
 gate true reason r y e = (refl, e)
 gate false reason r y e = absurd cc
 
-abbrev done : {A : Type 0} → A → Result A LineWhy
+abbrev pub done : {A : Type 0} → A → Result A LineWhy
 done x = Ok x
 
-ok_is : {A : Type 0} (x y : A) → done x ≡ done y → x ≡ y
+pub ok_is : {A : Type 0} (x y : A) → done x ≡ done y → x ≡ y
 ok_is x y e = cc
 
-kept : {A : Type 0} (b : Bool) (x y : A) (reason : LineWhy) → cond b (done x) (Err reason) ≡ Ok y → (b ≡ true) × (x ≡ y)
+pub kept : {A : Type 0} (b : Bool) (x y : A) (reason : LineWhy) → cond b (done x) (Err reason) ≡ Ok y → (b ≡ true) × (x ≡ y)
 kept true x y reason e = (refl, cc)
 kept false x y reason e = absurd cc
 
-chosen : {A : Type 0} (b : Bool) (x y : Result A LineWhy) (z : A) → cond b x y ≡ Ok z → ((b ≡ true) × (x ≡ Ok z)) ⊎ ((b ≡ false) × (y ≡ Ok z))
+pub chosen : {A : Type 0} (b : Bool) (x y : Result A LineWhy) (z : A) → cond b x y ≡ Ok z → ((b ≡ true) × (x ≡ Ok z)) ⊎ ((b ≡ false) × (y ≡ Ok z))
 chosen true x y z e = inl (refl, e)
 chosen false x y z e = inr (refl, e)
 
@@ -60,7 +55,7 @@ at_rest : (b : ℕ) (front : List ℕ) (rest : Option (List ℕ)) → with_rest 
 at_rest b front None = refl
 at_rest b front (Some rest) = refl
 
-cut_back : (bytes : List ℕ) → with_rest (cut_of bytes).front (cut_of bytes).rest ≡ bytes
+pub cut_back : (bytes : List ℕ) → with_rest (cut_of bytes).front (cut_of bytes).rest ≡ bytes
 cut_back [] = refl
 cut_back (b ∷ bytes) =
     elim (cases_Bool (eqb b 32)) [
@@ -68,13 +63,13 @@ cut_back (b ∷ bytes) =
       | inr e ↦ rw e (at_rest b (cut_of bytes).front (cut_of bytes).rest ∙ ap (λ (xs : List ℕ). b ∷ xs) (cut_back bytes))
     ]
 
-next_is : (fields : Option (List ℕ)) (cut : Cut) → next_field fields ≡ Ok cut → fields ≡ Some (with_rest cut.front cut.rest)
+pub next_is : (fields : Option (List ℕ)) (cut : Cut) → next_field fields ≡ Ok cut → fields ≡ Some (with_rest cut.front cut.rest)
 next_is None cut e = absurd cc
 next_is (Some bytes) cut e =
     let k = kept (not_empty (cut_of bytes).front) (cut_of bytes) cut why.Shape e in
     ap (λ (xs : List ℕ). Some xs) (sym (ap (λ (c : Cut). with_rest c.front c.rest) (sym k.1) ∙ cut_back bytes))
 
-last_is : (fields : Option (List ℕ)) (field : List ℕ) → last_field fields ≡ Ok field → fields ≡ Some field
+pub last_is : (fields : Option (List ℕ)) (field : List ℕ) → last_field fields ≡ Ok field → fields ≡ Some field
 last_is None field e = absurd cc
 last_is (Some bytes) field e = ap (λ (xs : List ℕ). Some xs) (kept (not_empty bytes && list_all (λ b. not (eqb b 32)) bytes) bytes field why.Shape e).1
 
@@ -85,7 +80,7 @@ rest_is (Some bytes) field e = ap (λ (xs : List ℕ). Some xs) (kept (not_empty
 -- ---- what a line says
 
 -- the step may stand, and the line of this first word and these fields is its text
-abbrev Says : Declared → List ℕ → Option (List ℕ) → Step → Type 0
+abbrev pub Says : Declared → List ℕ → Option (List ℕ) → Step → Type 0
 Says above word fields step = IsTrue (may_stand above step) × (step_text step ≡ with_rest word fields)
 
 account_says : (above : Declared) (name : List ℕ) (fields : Option (List ℕ)) → nat_lt (length above.accounts) 100 ≡ true → is_name name ≡ true → not (is_among name above.accounts) ≡ true
@@ -190,7 +185,7 @@ tick_found above fields step e =
 at_word : (above : Declared) (word front : List ℕ) (rest : Option (List ℕ)) (step : Step) → bytes_eq front word ≡ true → Says above word rest step → Says above front rest step
 at_word above word front rest step same says = subst (λ (w : List ℕ). Says above w rest step) (sym ((bytes_eq-Decides front word).0 same)) says
 
-words_found : (above : Declared) (words : Cut) (step : Step) → read_words above words ≡ Ok step → Says above words.front words.rest step
+pub words_found : (above : Declared) (words : Cut) (step : Step) → read_words above words ≡ Ok step → Says above words.front words.rest step
 unfolding read_words
 words_found above words step e =
     elim (chosen (bytes_eq words.front (codes "account")) (read_account above words.rest) _ step e) [
@@ -235,10 +230,10 @@ line_found above n piece step e =
 
 -- ---- lines
 
-abbrev text_of_piece : Piece → List ℕ → List ℕ
+abbrev pub text_of_piece : Piece → List ℕ → List ℕ
 text_of_piece piece rest = piece.bytes ++ cond piece.ended (10 ∷ rest) rest
 
-abbrev text_of_pieces : List Piece → List ℕ
+abbrev pub text_of_pieces : List Piece → List ℕ
 text_of_pieces [] = []
 text_of_pieces (piece ∷ pieces) = text_of_piece piece (text_of_pieces pieces)
 
@@ -246,7 +241,7 @@ joined_back : (b : ℕ) (pieces : List Piece) → text_of_pieces (joined b piece
 joined_back b [] = refl
 joined_back b (piece ∷ pieces) = refl
 
-pieces_back : (text : List ℕ) → text_of_pieces (pieces_of text) ≡ text
+pub pieces_back : (text : List ℕ) → text_of_pieces (pieces_of text) ≡ text
 pieces_back [] = refl
 pieces_back (b ∷ bs) =
     elim (cases_Bool (eqb b 10)) [
@@ -257,7 +252,7 @@ pieces_back (b ∷ bs) =
 abbrev pub line_text : Line → List ℕ
 line_text line = step_text line.step ++ 10 ∷ []
 
-abbrev read_all : {A : Type 0} → A → Result A ScheduleFault
+abbrev pub read_all : {A : Type 0} → A → Result A ScheduleFault
 read_all x = Ok x
 
 front_ok : (line : Line) (r : Result (List Line) ScheduleFault) (lines : List Line) → with_front line r ≡ Ok lines → (rest : List Line) × (r ≡ Ok rest) × (line ∷ rest ≡ lines)
@@ -268,13 +263,13 @@ either_ok : (r : Result Step LineWhy) (f : Step → Result (List Line) ScheduleF
 either_ok (Ok step) f n lines e = (step, refl, e)
 either_ok (Err reason) f n lines e = absurd cc
 
-all_is : (x y : List Line) → read_all x ≡ read_all y → x ≡ y
+pub all_is : (x y : List Line) → read_all x ≡ read_all y → x ≡ y
 all_is x y e = cc
 
-ended_text : (piece : Piece) (text rest : List ℕ) → piece.ended ≡ true → piece.bytes ≡ text → text_of_piece piece rest ≡ text ++ 10 ∷ rest
+pub ended_text : (piece : Piece) (text rest : List ℕ) → piece.ended ≡ true → piece.bytes ≡ text → text_of_piece piece rest ≡ text ++ 10 ∷ rest
 ended_text piece text rest e is = rw (e, is) refl
 
-lines_found : (above : Declared) (n : ℕ) (pieces : List Piece) (lines : List Line) → read_lines above n pieces ≡ Ok lines → AreLines above n lines × (text_of_pieces pieces ≡ flat_map line_text lines)
+pub lines_found : (above : Declared) (n : ℕ) (pieces : List Piece) (lines : List Line) → read_lines above n pieces ≡ Ok lines → AreLines above n lines × (text_of_pieces pieces ≡ flat_map line_text lines)
 lines_found above n [] lines e =
     subst (λ (ls : List Line). AreLines above n ls × ([] ≡ flat_map line_text ls)) (all_is [] lines e) (tt, refl)
 lines_found above n (piece ∷ pieces) lines e =
@@ -288,132 +283,3 @@ lines_found above n (piece ∷ pieces) lines e =
     first ∙ ap (λ (xs : List ℕ). step_text step ++ 10 ∷ xs) others.1 ∙ sym (append_assoc (step_text step) (10 ∷ []) (flat_map line_text b.0)) ∙ sym (flat_map-cons line_text (record { number = n; step = step }) b.0) in
     subst (λ (ls : List Line). AreLines above n ls × (text_of_pieces (piece ∷ pieces) ≡ flat_map line_text ls)) b.2
     ((refl, line.few, line.stands, others.0), whole)
-
--- ---- line 1
-
--- its archives may keep so many, and the line of this version and these fields is its text
-abbrev Begins : List ℕ → Option (List ℕ) → Heading → Type 0
-Begins version fields heading = IsTrue (may_keep heading.version) × (header_text heading.version heading.wire ≡ codes "xmpp-schedule " ++ with_rest version fields)
-
-mode_found : (word : List ℕ) (wire : Bool) → read_mode word ≡ Ok wire → word ≡ mode_text wire
-unfolding read_mode
-mode_found word wire e =
-    elim (chosen (bytes_eq word (codes "wire")) (done true) _ wire e) [
-      | inl p ↦ (bytes_eq-Decides word (codes "wire")).0 p.0 ∙ ap (λ (w : Bool). mode_text w) (ok_is true wire p.1)
-      | inr p ↦ elim (chosen (bytes_eq word (codes "direct")) (done false) (Err why.Header) wire p.1) [
-        | inl q ↦ (bytes_eq-Decides word (codes "direct")).0 q.0 ∙ ap (λ (w : Bool). mode_text w) (ok_is false wire q.1)
-        | inr q ↦ absurd cc
-      ]
-    ]
-
-abbrev headed : Version → Bool → Heading
-headed version wire = record { version = version; wire = wire }
-
-one_begins : (mode : List ℕ) (wire : Bool) (fields : Option (List ℕ)) → fields ≡ Some mode → mode ≡ mode_text wire → Begins (codes "1") fields (headed One wire)
-one_begins mode wire fields is said = (refl, rw (is, said) refl)
-
-one_found : (fields : Option (List ℕ)) (heading : Heading) → read_one fields ≡ Ok heading → Begins (codes "1") fields heading
-unfolding read_one
-one_found fields heading e =
-    let l = bind_ok (last_field fields) _ heading e in
-    let m = bind_ok (read_mode l.0) _ heading l.2 in
-    subst (λ (h : Heading). Begins (codes "1") fields h) (ok_is (headed One m.0) heading m.2)
-    (one_begins l.0 m.0 fields (last_is fields l.0 l.1) (mode_found l.0 m.0 m.1))
-
-two_begins : (mode field : List ℕ) (wire : Bool) (keep : ℕ) (fields rest : Option (List ℕ)) → 1 ≤ keep → keep ≤ MOST_KEPT
-    → fields ≡ Some (with_rest mode rest) → rest ≡ Some field → mode ≡ mode_text wire → field ≡ decimal keep → Begins (codes "2") fields (headed (Two keep) wire)
-two_begins mode field wire keep fields rest low high is after said number = (and_from _ _ (le-leb 1 keep low) (le-leb keep MOST_KEPT high), rw (is, after, said, number) refl)
-
-two_found : (fields : Option (List ℕ)) (heading : Heading) → read_two fields ≡ Ok heading → Begins (codes "2") fields heading
-unfolding read_two
-two_found fields heading e =
-    let a = bind_ok (next_field fields) _ heading e in
-    let l = bind_ok (last_field a.0.rest) _ heading a.2 in
-    let m = bind_ok (read_mode a.0.front) _ heading l.2 in
-    let k = bind_ok (number_within 1 MOST_KEPT l.0) _ heading m.2 in
-    let n = number_found 1 MOST_KEPT l.0 k.0 (omega arith) k.1 in
-    subst (λ (h : Heading). Begins (codes "2") fields h) (ok_is (headed (Two k.0) m.0) heading k.2)
-    (two_begins a.0.front l.0 m.0 k.0 fields a.0.rest n.0 n.1 (next_is fields a.0 a.1) (last_is a.0.rest l.0 l.1) (mode_found a.0.front m.0 m.1) n.2)
-
-at_version : (word front : List ℕ) (rest : Option (List ℕ)) (heading : Heading) → bytes_eq front word ≡ true → Begins word rest heading → Begins front rest heading
-at_version word front rest heading same begins = subst (λ (w : List ℕ). Begins w rest heading) (sym ((bytes_eq-Decides front word).0 same)) begins
-
-version_found : (words : Cut) (heading : Heading) → read_version words ≡ Ok heading → Begins words.front words.rest heading
-unfolding read_version
-version_found words heading e =
-    elim (chosen (bytes_eq words.front (codes "1")) (read_one words.rest) _ heading e) [
-      | inl p ↦ at_version (codes "1") words.front words.rest heading p.0 (one_found words.rest heading p.1)
-      | inr p ↦ elim (chosen (bytes_eq words.front (codes "2")) (read_two words.rest) (Err why.Header) heading p.1) [
-        | inl q ↦ at_version (codes "2") words.front words.rest heading q.0 (two_found words.rest heading q.1)
-        | inr q ↦ absurd cc
-      ]
-    ]
-
--- a line that says this is its text
-record IsHeading (line : List ℕ) (heading : Heading) : Type 0 where
-  keeps : IsTrue (may_keep heading.version)
-  spelled : line ≡ header_text heading.version heading.wire
-
-behind_name : (name : List ℕ) (rest : Option (List ℕ)) (after : List ℕ) → name ≡ codes "xmpp-schedule" → rest ≡ Some after → with_rest name rest ≡ codes "xmpp-schedule " ++ after
-behind_name name rest after is then = rw (is, then) refl
-
-heading_found : (line : List ℕ) (heading : Heading) → read_heading line ≡ Ok heading → IsHeading line heading
-unfolding read_heading
-heading_found line heading e =
-    let a = gate (is_utf8 line) why.Ending _ heading e in
-    let b = bind_ok (next_field (Some line)) _ heading a.1 in
-    let c = gate (bytes_eq b.0.front (codes "xmpp-schedule")) why.Header _ heading b.2 in
-    let d = bind_ok (next_field b.0.rest) _ heading c.1 in
-    let v = version_found d.0 heading d.2 in
-    let name = (bytes_eq-Decides b.0.front (codes "xmpp-schedule")).0 c.0 in
-    let whole : line ≡ with_rest b.0.front b.0.rest = same_Some line (with_rest b.0.front b.0.rest) (next_is (Some line) b.0 b.1) in
-    record {
-      keeps = v.0;
-      spelled = whole ∙ behind_name b.0.front b.0.rest (with_rest d.0.front d.0.rest) name (next_is b.0.rest d.0 d.1) ∙ sym v.1;
-    }
-
-as_heading_ok : (r : Result Heading LineWhy) (heading : Heading) → as_heading r ≡ Ok heading → r ≡ Ok heading
-as_heading_ok (Ok other) heading e = e
-as_heading_ok (Err reason) heading e = absurd cc
-
-not_wire : (wire : Bool) → not wire ≡ true → wire ≡ false
-not_wire true e = absurd (false≢true e)
-not_wire false e = refl
-
--- what line 1 begins, and the text of the lines
-record HasBegun (pieces : List Piece) (begun : Heading × List Piece) : Type 0 where
-  keeps : IsTrue (may_keep begun.0.version)
-  spelled : text_of_pieces pieces ≡ header_text begun.0.version false ++ 10 ∷ text_of_pieces begun.1
-
-header_found : (pieces : List Piece) (begun : Heading × List Piece) → read_header pieces ≡ Ok begun → HasBegun pieces begun
-header_found [] begun e = absurd cc
-header_found (piece ∷ pieces) begun e =
-    let a = bind_ok (as_heading (read_heading piece.bytes)) _ begun e in
-    let b = gate (not a.0.wire) why.NotBuilt _ begun a.2 in
-    let c = gate piece.ended why.Ending _ begun b.1 in
-    let h = heading_found piece.bytes a.0 (as_heading_ok (read_heading piece.bytes) a.0 a.1) in
-    let direct : header_text a.0.version a.0.wire ≡ header_text a.0.version false = ap (λ (w : Bool). header_text a.0.version w) (not_wire a.0.wire b.0) in
-    subst (λ (x : Heading × List Piece). HasBegun (piece ∷ pieces) x) (ok_is (a.0, pieces) begun c.1)
-    (record { keeps = h.keeps; spelled = ended_text piece (header_text a.0.version false) (text_of_pieces pieces) c.0 (h.spelled ∙ direct) })
-
-below_ok : (r : Result (Heading × List Piece) LineWhy) (s : ScheduleView) → read_below r ≡ Ok s
-    → (begun : Heading × List Piece) × (r ≡ Ok begun) × (as_schedule begun.0.version (read_lines nothing_declared 2 begun.1) ≡ Ok s)
-below_ok (Ok begun) s e = (begun, refl, e)
-below_ok (Err reason) s e = absurd cc
-
-schedule_ok : (version : Version) (r : Result (List Line) ScheduleFault) (s : ScheduleView) → as_schedule version r ≡ Ok s
-    → (lines : List Line) × (r ≡ Ok lines) × (record { version = version; wire = false; lines = lines } ≡ s)
-schedule_ok version (Ok lines) s e = (lines, refl, cc)
-schedule_ok version (Err d) s e = absurd cc
-
-pub reading_found : (text : List ℕ) (s : ScheduleView) → reading text ≡ Ok s → IsSchedule s × (text ≡ schedule_text s)
-unfolding reading
-reading_found text s e =
-    let a = below_ok (read_header (pieces_of text)) s e in
-    let version = a.0.0.version in
-    let b = schedule_ok version (read_lines nothing_declared 2 a.0.1) s a.2 in
-    let c = lines_found nothing_declared 2 a.0.1 b.0 b.1 in
-    let h = header_found (pieces_of text) a.0 a.1 in
-    let whole : text ≡ header_text version false ++ 10 ∷ flat_map line_text b.0 =
-    sym (pieces_back text) ∙ h.spelled ∙ ap (λ (xs : List ℕ). header_text version false ++ 10 ∷ xs) c.1 in
-    subst (λ (v : ScheduleView). IsSchedule v × (text ≡ schedule_text v)) b.2 (record { direct = refl; keeps = h.keeps; lines = c.0 }, whole)

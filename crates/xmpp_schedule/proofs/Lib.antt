@@ -1,12 +1,17 @@
 pub mod Again
 pub mod Answered
+pub mod BothKinds
 pub mod Cuts
 pub mod DeclaredPlaces
 pub mod Found
+pub mod Headings
 pub mod Lists
 pub mod Moments
 pub mod Numbers
 pub mod Prefixes
 pub mod ReadLines
 pub mod StandingSteps
+pub mod WireAgain
+pub mod WireFound
+pub mod WireReadLines
 pub mod Words

@@ -1,4 +1,4 @@
--- The grammar of schedules, as a relation between a schedule and its text.
+-- The grammar of direct schedules, as a relation between a schedule and its text.
 use Rattle.std.specs.Prelude.{◌≡◌, ℕ, ◌+◌, ◌≤◌, nat_lt, nat_le, Bool, true, false, ◌&&◌, ◌||◌, not, List, [], ◌∷◌, ◌++◌, IsTrue, length, chars, codes}
 use Rattle.std.specs.Fmt.{decimal}
 use Rattle.std.specs.List.{flat_map, list_all}
@@ -69,7 +69,7 @@ abbrev pub may_keep : Version → Bool
 may_keep One = true
 may_keep (Two keep) = nat_le 1 keep && nat_le keep MOST_KEPT
 
-pub record IsSchedule (schedule : ScheduleView) : Type 0 where
+pub record IsDirectSchedule (schedule : ScheduleView) : Type 0 where
   pub direct : schedule.wire ≡ false
   pub keeps : IsTrue (may_keep schedule.version)
   pub lines : AreLines nothing_declared 2 schedule.lines
@@ -91,10 +91,10 @@ abbrev pub header_text : Version → Bool → List ℕ
 header_text One wire = codes "xmpp-schedule 1 " ++ mode_text wire
 header_text (Two keep) wire = codes "xmpp-schedule 2 " ++ mode_text wire ++ 32 ∷ decimal keep
 
--- the text of a schedule: each line is ended by LF
-abbrev pub schedule_text : ScheduleView → List ℕ
-schedule_text schedule = header_text schedule.version schedule.wire ++ 10 ∷ flat_map (λ line. step_text line.step ++ 10 ∷ []) schedule.lines
+-- the text of a direct schedule: each line is ended by LF
+abbrev pub direct_text : ScheduleView → List ℕ
+direct_text schedule = header_text schedule.version false ++ 10 ∷ flat_map (λ line. step_text line.step ++ 10 ∷ []) schedule.lines
 
--- the input is the text of some schedule
-abbrev pub InGrammar : List ℕ → Type 0
-InGrammar input = (schedule : ScheduleView) × IsSchedule schedule × (input ≡ schedule_text schedule)
+-- the input is the text of some direct schedule
+abbrev pub InDirectGrammar : List ℕ → Type 0
+InDirectGrammar input = (schedule : ScheduleView) × IsDirectSchedule schedule × (input ≡ direct_text schedule)

@@ -1,10 +1,9 @@
--- What reading a text answers: its schedule, or the first bad line with its first reason.
+-- What reading line 1 and the lines of a direct schedule answers, or the first reason against them.
 use Rattle.std.specs.Prelude.{ℕ, ◌+◌, ◌*◌, ◌-◌, ◌==◌, nat_lt, nat_le, Bool, true, false, ◌&&◌, not, List, [], ◌∷◌, Option, Some, None, Result, Ok, Err, length, fold, codes, if◌then◌else◌}
 use Rattle.std.specs.List.{list_all}
 use Rattle.std.specs.Str.{bytes_eq, is_utf8}
-use Rattle.xmpp_schedule.specs.Grammar.{is_digit, is_name, is_text, Declared, nothing_declared, declared_by}
+use Rattle.xmpp_schedule.specs.Grammar.{is_digit, is_name, is_text, Declared, declared_by}
 use Rattle.xmpp_edge.specs.Names.{is_among}
-use Rattle.xmpp_schedule.specs.Schedules.{ScheduleView}
 use Rattle.xmpp_schedule.specs.declared.schedule.Line.{Line}
 use Rattle.xmpp_schedule.specs.declared.fault.LineWhy.{LineWhy}
 use Rattle.xmpp_schedule.specs.declared.fault.ScheduleFault.{ScheduleFault}
@@ -13,7 +12,6 @@ use Rattle.xmpp_schedule.specs.declared.heading.Heading.{Heading}
 use Rattle.xmpp_schedule.specs.declared.schedule.Step.{Step}
 use Rattle.xmpp_schedule.specs.declared.schedule.Step.TheVariants.{Account, Device, Say, Private, Catchup, Tick}
 use Rattle.xmpp_schedule.specs.declared.schedule.TheConstants.{MOST_KEPT, MOST_TICK}
-use Rattle.xmpp_schedule.specs.declared.schedule.Version.{Version}
 use Rattle.xmpp_schedule.specs.declared.schedule.Version.TheVariants.{One, Two}
 use Rattle.xmpp_schedule.specs.declared.fault.LineWhy.TheVariants as why
 
@@ -236,18 +234,5 @@ abbrev pub read_header : List Piece → Result (Heading × List Piece) LineWhy
 read_header [] = Err why.Header
 read_header (piece ∷ pieces) = do
   heading ← as_heading (read_heading piece.bytes)
-  direct ← wants (not heading.wire) why.NotBuilt
   whole ← wants piece.ended why.Ending
   Ok (heading, pieces)
-
-abbrev pub as_schedule : Version → Result (List Line) ScheduleFault → Result ScheduleView ScheduleFault
-as_schedule version (Ok lines) = Ok (record { version = version; wire = false; lines = lines })
-as_schedule version (Err e) = Err e
-
-abbrev pub read_below : Result (Heading × List Piece) LineWhy → Result ScheduleView ScheduleFault
-read_below (Err reason) = Err (BadLine 1 reason)
-read_below (Ok begun) = as_schedule begun.0.version (read_lines nothing_declared 2 begun.1)
-
--- what reading a text answers, where memory doesn't run out
-unfoldable pub reading : List ℕ → Result ScheduleView ScheduleFault
-reading text = read_below (read_header (pieces_of text))

@@ -13,8 +13,6 @@ use xmpp_edge::NoMemory;
 pub enum LineWhy {
     /// Line 1 is no schedule's first line.
     Header,
-    /// Line 1 is that of a wire schedule, which is not read yet.
-    NotBuilt,
     /// The line is not ended by LF, or is not UTF-8.
     Ending,
     /// The line is past a bound on how many there may be.
@@ -27,7 +25,7 @@ pub enum LineWhy {
     Name,
     /// A name is declared above.
     Twice,
-    /// A device or an account is not declared above.
+    /// A device or an account is not declared above, or a connection is not made above.
     Unknown,
     /// A number is no decimal number without leading zeros, or is out of bounds.
     Number,

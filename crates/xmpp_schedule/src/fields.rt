@@ -17,7 +17,7 @@ pub fn cut_word(text: &str) -> (&str, Option<&str>)
     }
 }
 
-/// A field that others follow, and what follows the space behind it.
+/// A field that others follow, and what follows the space behind it. `Shape` comes where there is none, or an empty one.
 pub fn next_field(fields: Option<&str>) -> Result<(&str, Option<&str>), LineFault>
     ensures { Gives cut_seen result (next_field (left fields.entry)) }
 {
@@ -33,7 +33,7 @@ pub fn next_field(fields: Option<&str>) -> Result<(&str, Option<&str>), LineFaul
     }
 }
 
-/// The last field: all that is left, which has bytes and no space.
+/// The last field: all that is left, which has bytes and no space. `Shape` comes for anything else.
 pub fn last_field(fields: Option<&str>) -> Result<&str, LineFault>
     ensures { Gives (λ x. x.now) result (last_field (left fields.entry)) }
 {
@@ -60,7 +60,7 @@ fn lacks_spaces(text: &str) -> bool
     text.bytes().all(|b| b != b' ')
 }
 
-/// The rest of the line as it is, which has bytes.
+/// The rest of the line as it is, which has bytes. `Shape` comes where nothing is left.
 pub fn rest_field(fields: Option<&str>) -> Result<&str, LineFault>
     ensures { Gives (λ x. x.now) result (rest_field (left fields.entry)) }
 {
@@ -162,7 +162,7 @@ fn value_within(most: u32, digits: &[u8]) -> Option<u32>
     Some(value)
 }
 
-/// A decimal number within bounds, without leading zeros.
+/// A decimal number within bounds, without leading zeros. `Number` comes for any other field.
 #[tactic(auto, using(crate::proofs::Numbers::judged_ok, crate::proofs::Numbers::judged_low, crate::proofs::Numbers::judged_high))]
 pub fn number_within(least: u32, most: u32, field: &str) -> Result<u32, LineFault>
     ensures { Gives (λ n. n) result (number_within least most field.now) }

@@ -1,4 +1,5 @@
-//! Schedules: their lines, their grammar, and the reading of their text.
+//! Schedules: their lines, their grammar, and the reading of their text. The readers of lines and fields serve other texts
+//! of lines too.
 #![tactic(auto)]
 
 mod fault;
@@ -9,7 +10,13 @@ mod names;
 mod reading;
 mod schedule;
 mod steps;
+mod wire_steps;
 
-pub use fault::{LineWhy, ScheduleFault};
+pub use fault::{LineFault, LineWhy, ScheduleFault, wants};
+pub use fields::{cut_word, is_name, is_text, last_field, next_field, number_within, rest_field};
+pub use lines::{first_line, spelled};
 pub use reading::{read_schedule, reading_is_the_grammar};
-pub use schedule::{Line, Lines, MOST_KEPT, MOST_TICK, Schedule, Step, Version};
+pub use schedule::{
+    Count, DirectSchedule, Line, Lines, MOST_DIALS, MOST_KEPT, MOST_NUMBER, MOST_TICK, MOST_TIMES,
+    MOST_TIMES_TOGETHER, Schedule, Step, Version, WireLine, WireLines, WireSchedule, WireStep,
+};

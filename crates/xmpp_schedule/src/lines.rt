@@ -33,7 +33,7 @@ fn cut(bytes: &[u8], at: u8) -> Option<(&[u8], &[u8])>
     }
 }
 
-/// The characters of a line that an LF ends.
+/// The characters of a line that an LF ends. `Ending` comes where none does, and where the line is not UTF-8.
 pub fn spelled(line: &[u8], ended: bool) -> Result<&str, LineFault>
     ensures exact { Gives (λ _. true) result (wants (ended && is_utf8 line.now) Ending) }
     ensures same { IfOk result (λ text. text.now ≡ line.now) }

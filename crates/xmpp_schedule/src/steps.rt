@@ -20,8 +20,8 @@ use xmpp_edge::{Copied, Text};
 /// The names that are declared above a line.
 #[derive(Drop)]
 pub struct NamesAbove {
-    accounts: DeclaredNames,
-    devices: DeclaredNames,
+    pub accounts: DeclaredNames,
+    pub devices: DeclaredNames,
 }
 
 impl Model for NamesAbove {
@@ -142,7 +142,7 @@ fn read_tick(fields: Option<&str>) -> Result<Step, LineFault>
 
 /// What a line says, by its first word. It adds to the names above what the line declares.
 #[tactic(auto, unfolding(crate::specs::Reading::read_words))]
-fn read_words(alloc: Global, above: &mut NamesAbove, line: &str) -> Result<Step, LineFault>
+pub fn read_words(alloc: Global, above: &mut NamesAbove, line: &str) -> Result<Step, LineFault>
     ensures exact { Gives (λ step. step) result (read_words above.old (cut_of line.now)) }
     ensures declared { IfOk result (λ step. above.new ≡ declared_by step above.old) }
     ensures err { OnErr result (above.new ≡ above.old) }

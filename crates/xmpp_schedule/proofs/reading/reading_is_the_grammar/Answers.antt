@@ -1,5 +1,4 @@
-use Rattle.xmpp_schedule.proofs.Again.{reading_again}
-use Rattle.xmpp_schedule.proofs.Found.{reading_found}
+use Rattle.xmpp_schedule.proofs.BothKinds.{reading_again, reading_found}
 use Rattle.xmpp_schedule.proofs.reading.reading_is_the_grammar.Goals as goal
 
 pub returns-clause-found : goal.returns-clause-found
