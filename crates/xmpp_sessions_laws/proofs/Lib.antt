@@ -1,3 +1,4 @@
+pub mod WireSteps
 pub mod Owners
 pub mod SaidLines
 pub mod Ground
