@@ -61,7 +61,7 @@ home_at [] i o at = absurd (none-some o at)
 home_at (p ∷ owned) zero o at = ap (λ (q : Owned). Some (new_device q.account)) (same_Some p o at)
 home_at (p ∷ owned) (suc i) o at = home_at owned i o at
 
-many_homes : (owned : List Owned) → length (new_devices (map (λ (p : Owned). p.account) owned)) ≡ length owned
+pub many_homes : (owned : List Owned) → length (new_devices (map (λ (p : Owned). p.account) owned)) ≡ length owned
 many_homes [] = refl
 many_homes (p ∷ owned) = ap suc (many_homes owned)
 

@@ -10,3 +10,5 @@ pub mod Moments
 pub mod PageLaws
 pub mod Shown
 pub mod LawsKept
+pub mod AsPages
+pub mod Existing

@@ -159,10 +159,10 @@ device_turned keep last history b some tiles long follow =
 
 -- Numbers and ids.
 
-abbrev number_of : EntryView → ℕ
+abbrev pub number_of : EntryView → ℕ
 number_of e = e.number
 
-numbers_follow : (s : ℕ) (es : List EntryView) → FollowFrom (suc s) es → map number_of es ≡ behind s (length es)
+pub numbers_follow : (s : ℕ) (es : List EntryView) → FollowFrom (suc s) es → map number_of es ≡ behind s (length es)
 numbers_follow s [] follow = refl
 numbers_follow s (e ∷ es) follow = ap (λ n. n ∷ map number_of es) follow.0 ∙ ap (λ ns. suc s ∷ ns) (numbers_follow (suc s) es follow.1)
 
