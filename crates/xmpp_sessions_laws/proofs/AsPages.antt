@@ -1,5 +1,5 @@
 -- What the server of the machine answers is the page of the archive.
-use Rattle.std.proofs.Common.{◌≡◌, ℕ, zero, suc, ◌+◌, ◌-◌, ◌<◌, ◌≤◌, min, Bool, true, false, cond, leb, List, [], ◌∷◌, ◌++◌, Option, Some, None, length, drop, take, map, refl, sym, ap, ◌∙◌, subst, arith, inl, inr}
+use Rattle.std.proofs.Common.{◌≡◌, ℕ, suc, ◌+◌, ◌-◌, ◌≤◌, min, Bool, true, false, cond, List, [], ◌∷◌, ◌++◌, Option, Some, None, length, take, map, sym, ap, ◌∙◌, subst, arith, inl, inr}
 use Rattle.std.proofs.lemmas.Bool.{and_from, and_left, cases_lt, le-leb, lt-leb}
 use Rattle.std.proofs.lemmas.List.{length-drop}
 use Rattle.std.specs.Option.{option_map}
@@ -15,7 +15,6 @@ use Rattle.xmpp_pages.specs.PageOf.{page_of}
 use Rattle.xmpp_sessions.proofs.ByNumbers.{take_numbers}
 use Rattle.xmpp_sessions.specs.Answers.{answer_of, behind, edge, is_place, last_in, page_from, size}
 use Rattle.xmpp_sessions.specs.Devices.{first_of}
-use Rattle.xmpp_sessions.specs.Stanzas.{Down, Request}
 use Rattle.xmpp_sessions.specs.Stanzas.Down.{Res, Fin, NotFound}
 use Rattle.xmpp_sessions_laws.proofs.Turned.{numbers_follow}
 use Rattle.xmpp_sessions_laws.specs.Pages.{IsGiven, stanzas_of}

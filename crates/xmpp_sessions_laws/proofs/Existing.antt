@@ -1,5 +1,5 @@
 -- Each run of the two applications has worlds and a report.
-use Rattle.std.proofs.Common.{◌≡◌, ℕ, zero, suc, ◌<◌, ◌≤◌, Bool, true, false, cond, List, [], ◌∷◌, ◌++◌, Option, Some, None, length, drop, map, refl, sym, ap, ◌∙◌, subst, arith}
+use Rattle.std.proofs.Common.{◌≡◌, ℕ, zero, suc, ◌≤◌, true, false, cond, List, [], ◌∷◌, Option, Some, None, length, drop, map, refl, ap, ◌∙◌, arith}
 use Rattle.std.proofs.lemmas.Bool.{false≢true}
 use Rattle.std.proofs.lemmas.Option.{none-some, same_Some}
 use Rattle.std.specs.List.{AllByRecursion, flat_map, slice_get}
@@ -17,12 +17,12 @@ use Rattle.xmpp_schedule.specs.WireGrammar.{IsWireSchedule, nothing_above}
 use Rattle.xmpp_sessions.proofs.Later.{later_along}
 use Rattle.xmpp_sessions.specs.Devices as sessions
 use Rattle.xmpp_sessions.specs.Devices.{Device, Tile, epoch_of}
-use Rattle.xmpp_sessions.specs.Events.{Event, Reaches, devices_of as new_devices}
+use Rattle.xmpp_sessions.specs.Events.{Event, Reaches}
 use Rattle.xmpp_sessions.specs.Histories.{asked_of, states_of}
 use Rattle.xmpp_sessions_laws.proofs.LawsKept.{many_homes}
 use Rattle.xmpp_sessions_laws.proofs.Owners.{Differ, name_other, names_differ, names_of}
 use Rattle.xmpp_sessions_laws.proofs.WireSteps.{wire_stand}
-use Rattle.xmpp_sessions_laws.specs.Reported.{AreDeviceLines, AreShown, IsDeviceLine, IsShown, account_line, held_line, history_at, pages_of, pages_with, said_of, take_of, underway_of}
+use Rattle.xmpp_sessions_laws.specs.Reported.{AreDeviceLines, AreShown, IsShown, account_line, held_line, history_at, pages_of, pages_with, said_of, take_of, underway_of}
 use Rattle.xmpp_sessions_laws.specs.Runs.{IsLineDone, IsRunOf, LineRun, begins, moves_of, owned_of, refused_by, steps_in}
 
 -- Worlds.
@@ -97,9 +97,10 @@ are_lines : (keep : ℕ) (history : List ℕ → List EntryView) (refused : List
 are_lines keep history refused [] [] size = tt
 are_lines keep history refused [] (d ∷ ds) size = absurd (omega arith)
 are_lines keep history refused (o ∷ owned) [] size = absurd (omega arith)
-are_lines keep history refused (o ∷ owned) (d ∷ ds) size =
-    (record { name = refl; account = refl; epoch = refl; settled = λ never. absurd (false≢true never); said = refl; pages = refl; underway = refl; logged = refl; held = refl },
-    are_lines keep history refused owned ds (omega arith))
+are_lines keep history refused (o ∷ owned) (d ∷ ds) size = (
+  record { name = refl; account = refl; epoch = refl; settled = λ never. absurd (false≢true never); said = refl; pages = refl; underway = refl; logged = refl; held = refl },
+  are_lines keep history refused owned ds (omega arith),
+)
 
 all_refused : (keep : ℕ) (history : List ℕ → List EntryView) (refused : List ℕ → List RefusedLine) (owned : List Owned) (ds : List Device) → AllByRecursion (λ d. d.refused ≡ refused d.name) (lines_by keep history refused owned ds)
 all_refused keep history refused [] ds = tt

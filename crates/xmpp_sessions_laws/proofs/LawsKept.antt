@@ -1,28 +1,25 @@
 -- The report of each run keeps the five laws of version 2.
-use Rattle.std.proofs.Common.{◌≡◌, ◌≢◌, ℕ, zero, suc, ◌+◌, ◌-◌, ◌<◌, ◌≤◌, true, false, List, [], ◌∷◌, ◌++◌, Some, IsTrue, length, drop, map, refl, sym, ap, ◌∙◌, subst, arith}
+use Rattle.std.proofs.Common.{◌≡◌, ℕ, zero, suc, ◌-◌, ◌<◌, ◌≤◌, true, List, [], ◌∷◌, ◌++◌, Some, IsTrue, length, drop, map, refl, sym, ap, ◌∙◌, subst, arith}
 use Rattle.std.proofs.lemmas.Bool.{and_parts, false≢true, leb-true}
 use Rattle.std.proofs.lemmas.List.{length-map}
 use Rattle.std.proofs.lemmas.List.Concat.{flat_map-append}
 use Rattle.std.proofs.lemmas.Option.{none-some, same_Some}
 use Rattle.std.specs.List.{AllByRecursion, flat_map, slice_get}
 use Rattle.xmpp_archive.specs.Entries.{EntryView, newest}
-use Rattle.xmpp_basis.proofs.Lists.{AllByRecursion-weaker}
 use Rattle.xmpp_edge.specs.Names.{is_among}
 use Rattle.xmpp_pages.specs.Kept.{first_number, last_number}
-use Rattle.xmpp_report.specs.Lawful.{AreOutcomes, EndsWith, IsAcknowledgedRight, IsOfSchedule, IsOnceInOrder}
-use Rattle.xmpp_report.specs.LawfulRuns.{ArePagesOfRuns, IsLawfulKeeping, IsLoggedInRuns, IsNewestOf, IsPagedInRuns, IsRunsOf, IsTakenAndKept, history_of, timed_take}
+use Rattle.xmpp_report.specs.Lawful.{AreOutcomes, IsAcknowledgedRight, IsOfSchedule, IsOnceInOrder}
+use Rattle.xmpp_report.specs.LawfulRuns.{ArePagesOfRuns, IsLawfulKeeping, IsNewestOf, IsRunsOf, history_of}
 use Rattle.xmpp_report.specs.Lines.{entry_line, page_line}
 use Rattle.xmpp_report.specs.Reports.{AccountView, DeviceView, ReportView}
 use Rattle.xmpp_report.specs.Takes.{archive_of}
 use Rattle.xmpp_report.specs.Worlds.{World}
-use Rattle.xmpp_report.specs.declared.report.RefusedLine.{RefusedLine}
 use Rattle.xmpp_schedule.proofs.Lists.{all_map, all_of, map-map, map_nothing}
 use Rattle.xmpp_schedule.proofs.StandingSteps.{AreStanding, home_in, homes_are, homes_exist}
-use Rattle.xmpp_schedule.specs.Contents.{Owned, accounts_of, devices_of, owned_in}
+use Rattle.xmpp_schedule.specs.Contents.{Owned, accounts_of, devices_of}
 use Rattle.xmpp_schedule.specs.Grammar.{may_keep}
 use Rattle.xmpp_schedule.specs.Schedules.{WireView, keep_of, seen_of}
 use Rattle.xmpp_schedule.specs.WireGrammar.{nothing_above}
-use Rattle.xmpp_schedule.specs.declared.schedule.Step.{Step}
 use Rattle.xmpp_schedule.specs.declared.schedule.Version.{Version}
 use Rattle.xmpp_schedule.specs.declared.schedule.Version.TheVariants.{One, Two}
 use Rattle.xmpp_sessions.proofs.Later.{later_along}
@@ -36,14 +33,14 @@ use Rattle.xmpp_sessions.specs.Histories.{asked_of, state_after}
 use Rattle.xmpp_sessions.specs.Kept.{LogKept, Read, Taken, TilesKept}
 use Rattle.xmpp_sessions_laws.proofs.Ground.{Ground}
 use Rattle.xmpp_sessions_laws.proofs.LogLaws.{Logged, runs_right}
-use Rattle.xmpp_sessions_laws.proofs.Moments.{Passed, passed_at, reaches_is, was_device}
+use Rattle.xmpp_sessions_laws.proofs.Moments.{passed_at, reaches_is, was_device}
 use Rattle.xmpp_sessions_laws.proofs.Outcomes.{AreTexts, common_lines, events_of, outcomes, said_texts}
 use Rattle.xmpp_sessions_laws.proofs.Owners.{LineAt, names_differ}
 use Rattle.xmpp_sessions_laws.proofs.PageLaws.{Paged, pages_right}
 use Rattle.xmpp_sessions_laws.proofs.Shown.{ends_with, shown_at, shown_numbers}
 use Rattle.xmpp_sessions_laws.proofs.TakenLaws.{device_acknowledged, device_epochs, device_first, device_gapless, device_numbered, device_settled, each_device, history_is, moments_rise, takes_exist, takes_rise, takes_submitted}
 use Rattle.xmpp_sessions_laws.proofs.Turned.{history_few, history_follows, history_long}
-use Rattle.xmpp_sessions_laws.specs.Reported.{AreDeviceLines, IsShown, account_line, history_at, pages_of, pages_with}
+use Rattle.xmpp_sessions_laws.specs.Reported.{AreDeviceLines, IsShown, account_line, history_at, pages_with}
 use Rattle.xmpp_sessions_laws.proofs.WireSteps.{wire_stand}
 use Rattle.xmpp_sessions_laws.specs.Runs.{IsRunOf, LineRun, begins, events_in, moves_of, owned_of, refused_by, steps_in}
 
@@ -245,9 +242,9 @@ device_paged s worlds r run i line at =
           (omega arith, omega arith);
       ends = ends_with (owned_of s) (moves_of run.runs) (begins s) worlds line run.shown
           (λ shown is.
-            let last : run.last ≡ state_after (begins s) (flat_map (λ (move : List Event). move) (moves_of run.runs)) = reaches_is (flat_map (λ (move : List Event). move) (moves_of run.runs)) (begins s) run.last run.reaches in
-            let here : IsShown (owned_of s) run.last shown = subst (λ v. IsShown (owned_of s) v shown) (sym last) is in
-            ap (λ name. length (shown.pages name)) at.is.name ∙ here.pages i at.o at.d at.owner at.device ∙ sym (tiles_many (keep_of s.version) (history_at (owned_of s) run.last.takes at.o.account) at.d.reading.tiles _) ∙ sym (ap length at.is.pages));
+          let last : run.last ≡ state_after (begins s) (flat_map (λ (move : List Event). move) (moves_of run.runs)) = reaches_is (flat_map (λ (move : List Event). move) (moves_of run.runs)) (begins s) run.last run.reaches in
+          let here : IsShown (owned_of s) run.last shown = subst (λ v. IsShown (owned_of s) v shown) (sym last) is in
+          ap (λ name. length (shown.pages name)) at.is.name ∙ here.pages i at.o at.d at.owner at.device ∙ sym (tiles_many (keep_of s.version) (history_at (owned_of s) run.last.takes at.o.account) at.d.reading.tiles _) ∙ sym (ap length at.is.pages));
     }
   where
     tiles_many : (keep : ℕ) (history : List EntryView) (ts : List Tile) (numbers : List ℕ) → length (map page_line (pages_with keep history ts numbers)) ≡ length ts
@@ -313,13 +310,13 @@ lawful_two keep s worlds r version run =
         whole = whole;
         runs = each_device (λ d. IsRunsOf (keep_of s.version) (history_of r d.account) d) (keep_of s.version) s.version (owned_of s) accounts run.last r g
             (λ i line at. subst (λ history. IsRunsOf (keep_of s.version) history line) (sym (ap (history_of r) at.is.account ∙ history_same keep s worlds r run version at.o.account))
-              (runs_right (keep_of s.version) (history_at (owned_of s) run.last.takes at.o.account) at.d line (device_logged s worlds r run i line at) at.is.logged at.is.held));
+            (runs_right (keep_of s.version) (history_at (owned_of s) run.last.takes at.o.account) at.d line (device_logged s worlds r run i line at) at.is.logged at.is.held));
       };
       paged = record {
         whole = whole;
         pages = each_device (λ d. ArePagesOfRuns (keep_of s.version) worlds (seen_of s) (history_of r d.account) d) (keep_of s.version) s.version (owned_of s) accounts run.last r g
             (λ i line at. subst (λ history. ArePagesOfRuns (keep_of s.version) worlds (seen_of s) history line) (sym (ap (history_of r) at.is.account ∙ history_same keep s worlds r run version at.o.account))
-              (pages_right (keep_of s.version) worlds (seen_of s) (history_at (owned_of s) run.last.takes at.o.account) at.d line refl (device_paged s worlds r run i line at)));
+            (pages_right (keep_of s.version) worlds (seen_of s) (history_at (owned_of s) run.last.takes at.o.account) at.d line refl (device_paged s worlds r run i line at)));
       };
     }
 

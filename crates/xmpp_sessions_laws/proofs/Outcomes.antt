@@ -1,8 +1,8 @@
 -- What became of the lines that ask a device to send a message.
-use Rattle.std.proofs.Common.{◌≡◌, ℕ, zero, suc, ◌<◌, ◌==◌, ◌-◌, ◌⊎◌, Bool, true, false, cond, List, [], ◌∷◌, ◌++◌, Option, Some, length, map, refl, sym, ap, ◌∙◌, subst, arith, append_assoc, inl, inr}
-use Rattle.std.proofs.lemmas.Bool.{cases_Bool, eq-eqb, false≢true}
+use Rattle.std.proofs.Common.{◌≡◌, ℕ, ◌-◌, ◌⊎◌, Bool, true, false, cond, List, [], ◌∷◌, ◌++◌, Some, map, refl, sym, ap, ◌∙◌, subst, inl, inr}
+use Rattle.std.proofs.lemmas.Bool.{cases_Bool}
 use Rattle.std.proofs.lemmas.Bool.Decides.{eqb_tells}
-use Rattle.std.proofs.lemmas.List.{append-nil, map-append}
+use Rattle.std.proofs.lemmas.List.{map-append}
 use Rattle.std.proofs.lemmas.List.Concat.{flat_map-append}
 use Rattle.std.proofs.lemmas.List.Elements.{filter-append}
 use Rattle.std.proofs.lemmas.Option.{same_Some, slice_get_within}
@@ -23,11 +23,11 @@ use Rattle.xmpp_schedule.specs.declared.schedule.Step.TheVariants.{Say, Private,
 use Rattle.xmpp_schedule.specs.declared.schedule.WireLine.{WireLine}
 use Rattle.xmpp_schedule.specs.declared.schedule.WireStep.{WireStep}
 use Rattle.xmpp_schedule.specs.declared.schedule.WireStep.TheVariants.{Common}
-use Rattle.xmpp_sessions.proofs.Spoken.{all_spoken, as_spoken, is_by, put_of, spoken_at, submitted}
+use Rattle.xmpp_sessions.proofs.Spoken.{all_spoken, as_spoken, is_by, put_of, spoken_at}
 use Rattle.xmpp_sessions.specs.Devices.{Session, Sessions, up_put}
 use Rattle.xmpp_sessions.specs.Events.{Event}
 use Rattle.xmpp_sessions.specs.Histories.{Spoken, spoken_by, spoken_in}
-use Rattle.xmpp_sessions.specs.Stanzas.{Submission, Up, messages}
+use Rattle.xmpp_sessions.specs.Stanzas.{Up, messages}
 use Rattle.xmpp_sessions.specs.Stanzas.Up.{Carbons, Presence, Message, Query}
 use Rattle.xmpp_sessions_laws.proofs.Owners.{Differ, name_is, name_other, names_of}
 use Rattle.xmpp_sessions_laws.specs.Reported.{mark_of, said_among, said_in, said_of}
@@ -125,7 +125,7 @@ message_done owned i o name to text private number spoken rest refusals Behind s
           let first : filter (is_by i) spoken ≡ x ∷ [] = ap (filter (is_by i)) is.4 ∙ ap (λ b. cond b (x ∷ []) []) same.0 in
           let texts : AreTexts (x ∷ rest) said = subst (λ xs. AreTexts (xs ++ rest) said) first further.texts in
           rw hit (inl (subst (λ rs. BeginsSaid to text (λ others. Behind others (lines_by o.device rs ++ refused)) said) (sym is.5)
-            (begins_said to text x rest Behind said refused refl refl texts further.behind)))
+          (begins_said to text x rest Behind said refused refl refl texts further.behind)))
       | inr other ↦
           let within = slice_get_within owned is.0 is.1 is.2 in
           let miss : bytes_eq o.device name ≡ false = ap (bytes_eq o.device) (sym is.3 ∙ sym (name_is owned is.0 is.1 is.2)) ∙ name_other owned i is.0 o differ owner within other.1 in

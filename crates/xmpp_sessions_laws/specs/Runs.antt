@@ -40,7 +40,7 @@ IsRefused name number refused =
 abbrev pub IsSaid : List Owned → List ℕ → List ℕ → List ℕ → Bool → ℕ → List Spoken → List Refusal → Type 0
 IsSaid owned name to text private number spoken refused =
     ((i : ℕ) × (o : Owned) × (slice_get owned i ≡ Some o) × (o.device ≡ name)
-      × (spoken ≡ record { device = i; to = to; text = text; private = private } ∷ []) × (refused ≡ []))
+    × (spoken ≡ record { device = i; to = to; text = text; private = private } ∷ []) × (refused ≡ []))
     ⊎ ((spoken ≡ []) × IsRefused name number refused)
 
 -- what a step leads to: no device sends a message but the one that the step asks to
