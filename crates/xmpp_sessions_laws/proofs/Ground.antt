@@ -1,30 +1,27 @@
 -- What is known of a run's last state, beside its report.
-use Rattle.std.proofs.Common.{◌≡◌, ℕ, zero, suc, ◌<◌, ◌≤◌, ◌==◌, Bool, true, false, cond, List, [], ◌∷◌, ◌++◌, Some, length, map, refl, sym, ap, ◌∙◌, subst, arith, append_assoc}
+use Rattle.std.proofs.Common.{◌≡◌, ℕ, ◌<◌, ◌≤◌, ◌==◌, Bool, true, false, cond, List, [], ◌∷◌, ◌++◌, Some, length, map, refl, sym, ap, ◌∙◌, subst, arith, append_assoc}
 use Rattle.std.proofs.lemmas.Bool.{eq-eqb}
-use Rattle.std.proofs.lemmas.List.{map_push}
-use Rattle.std.specs.List.{AllByRecursion, filter, flat_map, list_any, slice_get}
+use Rattle.std.specs.List.{AllByRecursion, filter, flat_map, slice_get}
 use Rattle.std.specs.Prelude.{◌&&◌, ◌||◌}
 use Rattle.std.specs.Str.{bytes_eq}
 use Rattle.xmpp_archive.proofs.NumberedEntries.{at_place}
-use Rattle.xmpp_archive.specs.Entries.{EntryView}
 use Rattle.xmpp_basis.proofs.Lists.{AllByRecursion-weaker}
 use Rattle.xmpp_report.specs.Lawful.{device_named, is_taken}
 use Rattle.xmpp_report.specs.Lines.{take_line}
 use Rattle.xmpp_report.specs.Reports.{DeviceView, ReportView}
-use Rattle.xmpp_report.specs.Takes.{Take}
 use Rattle.xmpp_report.specs.declared.report.SaidMark.{SaidMark}
 use Rattle.xmpp_report.specs.declared.report.TakeLine.{TakeLine}
-use Rattle.xmpp_schedule.proofs.Lists.{all_flat_map, all_append, all_filter, all_front, all_map}
+use Rattle.xmpp_schedule.proofs.Lists.{all_append, all_filter, all_front}
 use Rattle.xmpp_schedule.specs.Contents.{Owned}
 use Rattle.xmpp_schedule.specs.declared.schedule.Version.{Version}
 use Rattle.xmpp_sessions.proofs.Numbered.{messages_append}
 use Rattle.xmpp_sessions.proofs.TakenOnes.{is_taken_of}
 use Rattle.xmpp_sessions.specs.Devices as sessions
 use Rattle.xmpp_sessions.specs.Devices.{Session, Sessions, up_put}
-use Rattle.xmpp_sessions.specs.Kept.{Read, Taken, TakesKept, accepted, handled, is_of, said_in}
+use Rattle.xmpp_sessions.specs.Kept.{Read, Taken, accepted, handled, is_of, said_in}
 use Rattle.xmpp_sessions.specs.Events.{is_among}
 use Rattle.xmpp_sessions.specs.Stanzas.{Submission, messages}
-use Rattle.xmpp_sessions_laws.proofs.Owners.{Differ, LineOf, line_of, name_is, name_tells, names_of}
+use Rattle.xmpp_sessions_laws.proofs.Owners.{Differ, line_of, name_is, name_tells, names_of}
 use Rattle.xmpp_sessions_laws.proofs.SaidLines.{IsFound, said_found}
 use Rattle.xmpp_sessions_laws.specs.Reported.{AreDeviceLines, history_at, name_at, said_line, said_of, take_of}
 

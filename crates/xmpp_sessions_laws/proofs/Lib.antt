@@ -1,3 +1,4 @@
+pub mod WireSteps
 pub mod Owners
 pub mod SaidLines
 pub mod Ground
@@ -9,3 +10,5 @@ pub mod Moments
 pub mod PageLaws
 pub mod Shown
 pub mod LawsKept
+pub mod AsPages
+pub mod Existing

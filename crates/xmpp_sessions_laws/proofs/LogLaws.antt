@@ -1,6 +1,6 @@
 -- Law 4 of reports of version 2: each log is runs of its account's history.
-use Rattle.std.proofs.Common.{◌≡◌, ◌≢◌, ℕ, zero, suc, ◌+◌, ◌-◌, ◌<◌, ◌≤◌, ◌==◌, ◌&&◌, ◌^◌, not, Bool, true, false, List, [], ◌∷◌, ◌++◌, Some, IsTrue, length, drop, map, refl, sym, ap, ◌∙◌, subst, arith, inl, inr}
-use Rattle.std.proofs.lemmas.Bool.{and_from, cases_Bool, eq-eqb, false≢true, or_parts}
+use Rattle.std.proofs.Common.{◌≡◌, ◌≢◌, ℕ, ◌-◌, ◌<◌, ◌≤◌, ◌==◌, ◌&&◌, ◌^◌, not, false, List, [], ◌∷◌, Some, IsTrue, length, drop, map, refl, sym, ap, ◌∙◌, subst, arith}
+use Rattle.std.proofs.lemmas.Bool.{and_from, eq-eqb, false≢true, or_parts}
 use Rattle.std.specs.List.{AllByRecursion}
 use Rattle.xmpp_archive.proofs.IdDigits.{id_of_same}
 use Rattle.xmpp_archive.proofs.NumberedEntries.{FollowFrom}
@@ -8,7 +8,7 @@ use Rattle.xmpp_archive.specs.Entries.{EntryView, entry_numbered}
 use Rattle.xmpp_archive.specs.Ids.{id_of}
 use Rattle.xmpp_basis.proofs.Lists.{AllByRecursion-weaker}
 use Rattle.xmpp_direct.proofs.TurnRuns.{IsIn, each_by, ids_from, in_history, kept_in, last_number_by, line_entry, line_id, lines_by, numbers_within, runs_by}
-use Rattle.xmpp_direct.proofs.Turns.{AreRising, Turn, ends_at, id_of_entry, pages_by, run_by}
+use Rattle.xmpp_direct.proofs.Turns.{AreRising, ends_at, id_of_entry, pages_by, run_by}
 use Rattle.xmpp_edge.specs.Names.{is_among}
 use Rattle.xmpp_pages.specs.Kept.{last_number}
 use Rattle.xmpp_report.proofs.Pairs.{pairs_map}
@@ -71,10 +71,10 @@ held_known keep history d lines g ids =
     AllByRecursion-weaker (λ h. (is_number_among h (log_of d.reading) ≡ false) × (1 ≤ h) × (h ≤ length history))
     (λ h. IsTrue (is_among (id_of h) (map (λ e. id_of e.number) history) && not (is_among (id_of h) (ids_logged lines))))
     (λ h is.
-      let low = is.1 in
-      let high = is.2 in
-      and_from _ _ (id_in_history h history g.follow low high)
-      (ap not (ap (is_among (id_of h)) ids ∙ id_not_among h run (omega arith) small (ap (is_number_among h) (log_numbers keep history d g) ∙ is.0))))
+    let low = is.1 in
+    let high = is.2 in
+    and_from _ _ (id_in_history h history g.follow low high)
+    (ap not (ap (is_among (id_of h)) ids ∙ id_not_among h run (omega arith) small (ap (is_number_among h) (log_numbers keep history d g) ∙ is.0))))
     d.reading.held g.log.held
 
 -- the device's line

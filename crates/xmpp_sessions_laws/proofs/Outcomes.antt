@@ -1,8 +1,8 @@
 -- What became of the lines that ask a device to send a message.
-use Rattle.std.proofs.Common.{◌≡◌, ℕ, zero, suc, ◌<◌, ◌==◌, ◌-◌, ◌⊎◌, Bool, true, false, cond, List, [], ◌∷◌, ◌++◌, Option, Some, length, map, refl, sym, ap, ◌∙◌, subst, arith, append_assoc, inl, inr}
-use Rattle.std.proofs.lemmas.Bool.{cases_Bool, eq-eqb, false≢true}
+use Rattle.std.proofs.Common.{◌≡◌, ℕ, ◌-◌, ◌⊎◌, Bool, true, false, cond, List, [], ◌∷◌, ◌++◌, Some, map, refl, sym, ap, ◌∙◌, subst, inl, inr}
+use Rattle.std.proofs.lemmas.Bool.{cases_Bool}
 use Rattle.std.proofs.lemmas.Bool.Decides.{eqb_tells}
-use Rattle.std.proofs.lemmas.List.{append-nil, map-append}
+use Rattle.std.proofs.lemmas.List.{map-append}
 use Rattle.std.proofs.lemmas.List.Concat.{flat_map-append}
 use Rattle.std.proofs.lemmas.List.Elements.{filter-append}
 use Rattle.std.proofs.lemmas.Option.{same_Some, slice_get_within}
@@ -16,17 +16,22 @@ use Rattle.xmpp_report.specs.declared.report.SaidLine.{SaidLine}
 use Rattle.xmpp_report.specs.declared.report.SaidMark.{SaidMark}
 use Rattle.xmpp_report.specs.declared.report.SaidMark.TheVariants.{Undecided}
 use Rattle.xmpp_schedule.specs.Contents.{Owned}
+use Rattle.xmpp_schedule.specs.Schedules.{common_at}
+use Rattle.xmpp_schedule.specs.declared.schedule.Line.{Line}
 use Rattle.xmpp_schedule.specs.declared.schedule.Step.{Step}
 use Rattle.xmpp_schedule.specs.declared.schedule.Step.TheVariants.{Say, Private, Catchup}
-use Rattle.xmpp_sessions.proofs.Spoken.{all_spoken, as_spoken, is_by, put_of, spoken_at, submitted}
+use Rattle.xmpp_schedule.specs.declared.schedule.WireLine.{WireLine}
+use Rattle.xmpp_schedule.specs.declared.schedule.WireStep.{WireStep}
+use Rattle.xmpp_schedule.specs.declared.schedule.WireStep.TheVariants.{Common}
+use Rattle.xmpp_sessions.proofs.Spoken.{all_spoken, as_spoken, is_by, put_of, spoken_at}
 use Rattle.xmpp_sessions.specs.Devices.{Session, Sessions, up_put}
 use Rattle.xmpp_sessions.specs.Events.{Event}
 use Rattle.xmpp_sessions.specs.Histories.{Spoken, spoken_by, spoken_in}
-use Rattle.xmpp_sessions.specs.Stanzas.{Submission, Up, messages}
+use Rattle.xmpp_sessions.specs.Stanzas.{Up, messages}
 use Rattle.xmpp_sessions.specs.Stanzas.Up.{Carbons, Presence, Message, Query}
 use Rattle.xmpp_sessions_laws.proofs.Owners.{Differ, name_is, name_other, names_of}
 use Rattle.xmpp_sessions_laws.specs.Reported.{mark_of, said_among, said_in, said_of}
-use Rattle.xmpp_sessions_laws.specs.Runs.{IsDone, IsLineDone, IsRefused, IsSaid, LineRun, Refusal, events_in, refused_by}
+use Rattle.xmpp_sessions_laws.specs.Runs.{IsDone, IsLineDone, IsRefused, IsSaid, IsStepDone, LineRun, Refusal, events_in, refused_by}
 
 -- lines with what the user said, one by one
 abbrev pub AreTexts : List Spoken → List SaidLine → Type 0
@@ -120,7 +125,7 @@ message_done owned i o name to text private number spoken rest refusals Behind s
           let first : filter (is_by i) spoken ≡ x ∷ [] = ap (filter (is_by i)) is.4 ∙ ap (λ b. cond b (x ∷ []) []) same.0 in
           let texts : AreTexts (x ∷ rest) said = subst (λ xs. AreTexts (xs ++ rest) said) first further.texts in
           rw hit (inl (subst (λ rs. BeginsSaid to text (λ others. Behind others (lines_by o.device rs ++ refused)) said) (sym is.5)
-            (begins_said to text x rest Behind said refused refl refl texts further.behind)))
+          (begins_said to text x rest Behind said refused refl refl texts further.behind)))
       | inr other ↦
           let within = slice_get_within owned is.0 is.1 is.2 in
           let miss : bytes_eq o.device name ≡ false = ap (bytes_eq o.device) (sym is.3 ∙ sym (name_is owned is.0 is.1 is.2)) ∙ name_other owned i is.0 o differ owner within other.1 in
@@ -129,7 +134,7 @@ message_done owned i o name to text private number spoken rest refusals Behind s
     ]
 
 outcome_is : (owned : List Owned) (i : ℕ) (o : Owned) (step : Step) (number : ℕ) (spoken rest : List Spoken) (refusals : List Refusal) (Behind : List SaidLine → List RefusedLine → Type 0) (said : List SaidLine)
-    (refused : List RefusedLine) → Differ (names_of owned) → slice_get owned i ≡ Some o → IsDone owned step number spoken refusals → Further i spoken rest Behind said refused →
+    (refused : List RefusedLine) → Differ (names_of owned) → slice_get owned i ≡ Some o → IsStepDone owned step number spoken refusals → Further i spoken rest Behind said refused →
     IsOutcome o.device step number Behind said (lines_by o.device refusals ++ refused)
 outcome_is owned i o (Say name to text) number spoken rest refusals Behind said refused differ owner done further =
     message_done owned i o name to text false number spoken rest refusals Behind said refused differ owner done further
@@ -152,20 +157,32 @@ outcome_is owned i o step number spoken rest refusals Behind said refused differ
 abbrev pub events_of : List LineRun → List Event
 events_of runs = flat_map events_in runs
 
+-- the lines that direct schedules have too
+abbrev pub common_lines : List WireLine → List Line
+common_lines lines = flat_map (λ (line : WireLine). common_at line.number line.step) lines
+
+wire_outcome : (owned : List Owned) (i : ℕ) (o : Owned) (step : WireStep) (number : ℕ) (lines : List Line) (spoken rest : List Spoken) (refusals : List Refusal) (said : List SaidLine) (refused : List RefusedLine) →
+    Differ (names_of owned) → slice_get owned i ≡ Some o → IsDone owned step number spoken refusals → Further i spoken rest (AreOutcomes o.device lines) said refused →
+    AreOutcomes o.device (common_at number step ++ lines) said (lines_by o.device refusals ++ refused)
+wire_outcome owned i o (Common step) number lines spoken rest refusals said refused differ owner done further =
+    outcome_is owned i o step number spoken rest refusals (AreOutcomes o.device lines) said refused differ owner done further
+wire_outcome owned i o step number lines spoken rest refusals said refused differ owner done further =
+    nothing i o.device spoken rest refusals (AreOutcomes o.device lines) said refused done.0 done.1 further
+
 pub outcomes : (owned : List Owned) (i : ℕ) (o : Owned) (runs : List LineRun) (said : List SaidLine) → Differ (names_of owned) → slice_get owned i ≡ Some o → AllByRecursion (IsLineDone owned) runs →
-    AreTexts (spoken_at i (events_of runs)) said → AreOutcomes o.device (map (λ (r : LineRun). r.line) runs) said (refused_by o.device runs)
+    AreTexts (spoken_at i (events_of runs)) said → AreOutcomes o.device (common_lines (map (λ (r : LineRun). r.line) runs)) said (refused_by o.device runs)
 outcomes owned i o [] [] differ owner done texts = (refl, refl)
 outcomes owned i o [] (l ∷ said) differ owner done texts = absurd texts
 outcomes owned i o (r ∷ runs) said differ owner done texts =
-    let lines = map (λ (q : LineRun). q.line) runs in
+    let lines = common_lines (map (λ (q : LineRun). q.line) runs) in
     let later = flat_map (λ (q : LineRun). q.refused) runs in
     let parts : refused_by o.device (r ∷ runs) ≡ lines_by o.device r.refused ++ refused_by o.device runs =
     ap (map (λ (q : Refusal). q.line)) (filter-append (λ q. bytes_eq o.device q.device) r.refused later)
     ∙ map-append (λ (q : Refusal). q.line) (filter (λ q. bytes_eq o.device q.device) r.refused) (filter (λ q. bytes_eq o.device q.device) later) in
     let spoken : spoken_at i (events_of (r ∷ runs)) ≡ filter (is_by i) (spoken_in (events_in r)) ++ spoken_at i (events_of runs) =
     ap (filter (is_by i)) (flat_map-append spoken_by (events_in r) (events_of runs)) ∙ filter-append (is_by i) (spoken_in (events_in r)) (spoken_in (events_of runs)) in
-    subst (IsOutcome o.device r.line.step r.line.number (AreOutcomes o.device lines) said) (sym parts)
-    (outcome_is owned i o r.line.step r.line.number (spoken_in (events_in r)) (spoken_at i (events_of runs)) r.refused (AreOutcomes o.device lines) said (refused_by o.device runs) differ owner done.0
+    subst (AreOutcomes o.device (common_at r.line.number r.line.step ++ lines) said) (sym parts)
+    (wire_outcome owned i o r.line.step r.line.number lines (spoken_in (events_in r)) (spoken_at i (events_of runs)) r.refused said (refused_by o.device runs) differ owner done.0
     (record {
       texts = subst (λ xs. AreTexts xs said) spoken texts;
       behind = λ ls is. outcomes owned i o runs ls differ owner done.1 is;

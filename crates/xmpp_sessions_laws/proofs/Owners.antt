@@ -1,5 +1,5 @@
 -- Devices by their places and by their names, which differ.
-use Rattle.std.proofs.Common.{◌≡◌, ◌≢◌, ℕ, zero, suc, ◌<◌, ◌==◌, Bool, true, false, List, [], ◌∷◌, ◌++◌, Some, length, map, refl, sym, ap, ◌∙◌, subst, arith, inl, inr}
+use Rattle.std.proofs.Common.{◌≡◌, ◌≢◌, ℕ, zero, suc, ◌<◌, ◌==◌, true, false, List, [], ◌∷◌, ◌++◌, Some, length, map, refl, sym, ap, ◌∙◌, subst, arith, inl, inr}
 use Rattle.std.proofs.lemmas.Bool.{cases_Bool, false≢true, or_parts}
 use Rattle.std.proofs.lemmas.Bool.Decides.{eqb_tells}
 use Rattle.std.proofs.lemmas.List.Folds.{list_any-append}
@@ -43,18 +43,24 @@ differ_from : (before steps : List Step) → AreStanding before steps →
     AllByRecursion (λ name. is_among name (devices_of before) ≡ false) (devices_of steps) × Differ (devices_of steps)
 differ_from before [] known = (tt, tt)
 differ_from before (Device name account ∷ steps) known =
-    let rest = differ_from (before ++ Device name account ∷ []) steps known.1 in
-    ((known.0.0,
-      AllByRecursion-weaker (λ m. is_among m (devices_of (before ++ Device name account ∷ [])) ≡ false) (λ m. is_among m (devices_of before) ≡ false)
-      (λ m none. (among_parts m before (Device name account) none).0) (devices_of steps) rest.0),
-    (AllByRecursion-weaker (λ m. is_among m (devices_of (before ++ Device name account ∷ [])) ≡ false) (λ m. bytes_eq m name ≡ false)
-      (λ m none. (or_parts (bytes_eq m name) false (among_parts m before (Device name account) none).1).0) (devices_of steps) rest.0,
-    rest.1))
+    let rest = differ_from (before ++ Device name account ∷ []) steps known.1 in (
+      (
+        known.0.0,
+        AllByRecursion-weaker (λ m. is_among m (devices_of (before ++ Device name account ∷ [])) ≡ false) (λ m. is_among m (devices_of before) ≡ false)
+            (λ m none. (among_parts m before (Device name account) none).0) (devices_of steps) rest.0,
+      ),
+      (
+        AllByRecursion-weaker (λ m. is_among m (devices_of (before ++ Device name account ∷ [])) ≡ false) (λ m. bytes_eq m name ≡ false)
+            (λ m none. (or_parts (bytes_eq m name) false (among_parts m before (Device name account) none).1).0) (devices_of steps) rest.0,
+        rest.1,
+      ),
+    )
 differ_from before (step ∷ steps) known =
-    let rest = differ_from (before ++ step ∷ []) steps known.1 in
-    (AllByRecursion-weaker (λ m. is_among m (devices_of (before ++ step ∷ [])) ≡ false) (λ m. is_among m (devices_of before) ≡ false)
-      (λ m none. (among_parts m before step none).0) (devices_of steps) rest.0,
-    rest.1)
+    let rest = differ_from (before ++ step ∷ []) steps known.1 in (
+      AllByRecursion-weaker (λ m. is_among m (devices_of (before ++ step ∷ [])) ≡ false) (λ m. is_among m (devices_of before) ≡ false)
+          (λ m none. (among_parts m before step none).0) (devices_of steps) rest.0,
+      rest.1,
+    )
 
 pub names_differ : (steps : List Step) → AreStanding [] steps → Differ (names_of (owned_in steps))
 names_differ steps known = subst Differ (sym (names_are steps)) (differ_from [] steps known).1

@@ -1,9 +1,9 @@
 -- Law 5 of reports of version 2: the pages of a device are tiles of its log, each as fresh as its archive.
-use Rattle.std.proofs.Common.{◌≡◌, ◌≢◌, ℕ, zero, suc, ◌+◌, ◌-◌, ◌<◌, ◌≤◌, ◌^◌, max, min, Bool, true, false, cond, leb, List, [], ◌∷◌, ◌++◌, Option, Some, None, length, drop, take, map, refl, sym, ap, ◌∙◌, subst, arith, inl, inr}
+use Rattle.std.proofs.Common.{◌≡◌, ◌≢◌, ℕ, suc, ◌+◌, ◌-◌, ◌<◌, ◌≤◌, max, min, true, cond, leb, List, [], ◌∷◌, ◌++◌, Some, None, length, drop, take, map, refl, sym, ap, ◌∙◌, subst, arith, inl, inr}
 use Rattle.std.proofs.lemmas.Bool.{cases_Bool, false≢true, leb-false, leb-true}
 use Rattle.std.proofs.lemmas.List.{append_assoc, append-nil, drop-map, drop_at, length-append, length-map, map-append}
 use Rattle.std.proofs.lemmas.Option.{none-some, same_Some, slice_get_within}
-use Rattle.std.specs.List.{AllByRecursion, slice_get, sum}
+use Rattle.std.specs.List.{slice_get, sum}
 use Rattle.xmpp_archive.proofs.IdDigits.{id_of_same}
 use Rattle.xmpp_archive.proofs.NumberedEntries.{FollowFrom}
 use Rattle.xmpp_archive.specs.Entries.{EntryView}
@@ -16,7 +16,7 @@ use Rattle.xmpp_pages.specs.Kept.{first_number, last_number}
 use Rattle.xmpp_report.proofs.Pairs.{pairs_map}
 use Rattle.xmpp_report.specs.EntryLines.{EntryLineView}
 use Rattle.xmpp_report.specs.Lawful.{EachPair, EndsWith, last_logged}
-use Rattle.xmpp_report.specs.LawfulRuns.{ArePagesOfRuns, AreTilesOfRuns, EndsWhole, IsFirstNumber, IsFreshTo, IsGivenBy, IsKeptWhenAsked, IsLastNumber, IsOldestKept, IsPurgedBy, lines_of_page, logged_before}
+use Rattle.xmpp_report.specs.LawfulRuns.{ArePagesOfRuns, AreTilesOfRuns, EndsWhole, IsFirstNumber, IsLastNumber, lines_of_page, logged_before}
 use Rattle.xmpp_report.specs.Lines.{entry_line, logged_from, page_line}
 use Rattle.xmpp_report.specs.Reports.{DeviceView}
 use Rattle.xmpp_report.specs.Worlds.{World}
@@ -114,7 +114,7 @@ tile_at keep worlds history d line g k p at =
       within = bounds.1;
       page = λ q found. same_Some _ q
           (sym (page_at_turn keep 0 history front rest (turn_of t)) ∙ ap (slice_get (map page_line (pages_by keep history 0 (front ++ turn_of t ∷ rest)))) size
-            ∙ ap (λ ts. slice_get (map page_line (pages_by keep history 0 ts)) k) (sym joined) ∙ ap (λ ps. slice_get ps k) (sym (pages_line keep worlds history d line g)) ∙ found);
+          ∙ ap (λ ts. slice_get (map page_line (pages_by keep history 0 ts)) k) (sym joined) ∙ ap (λ ps. slice_get ps k) (sym (pages_line keep worlds history d line g)) ∙ found);
       before_is = before;
       through_is = through;
       before = ap last_logged before ∙ last_lines_by keep t.given history front log.some parts.0 long log.follow;

@@ -1,5 +1,5 @@
 -- The lines of submissions, session after session.
-use Rattle.std.proofs.Common.{◌≡◌, ◌≢◌, ℕ, zero, suc, ◌+◌, ◌-◌, ◌<◌, ◌≤◌, ◌==◌, ◌⊎◌, Bool, true, false, cond, ltb, List, [], ◌∷◌, ◌++◌, Option, Some, length, drop, refl, sym, ap, ◌∙◌, subst, arith, append_assoc, inl, inr}
+use Rattle.std.proofs.Common.{◌≡◌, ◌≢◌, ℕ, zero, suc, ◌+◌, ◌-◌, ◌<◌, ◌≤◌, ◌==◌, Bool, true, false, cond, List, [], ◌∷◌, ◌++◌, Some, length, drop, refl, sym, ap, ◌∙◌, subst, arith, append_assoc, inl, inr}
 use Rattle.std.proofs.lemmas.Bool.{and_left, and_right, eq-eqb, eqb-true, lt-ltb, ne_eqb}
 use Rattle.std.proofs.lemmas.List.{append-nil}
 use Rattle.std.specs.List.{AllByRecursion, flat_map}
@@ -64,9 +64,10 @@ said_parts mark s low =
 -- numbers in a row
 numbered_all : (e n : ℕ) (ms : List Submission) → AreNumbered e n ms → AllByRecursion (λ m. (m.epoch ≡ e) × (n < m.n)) ms
 numbered_all e n [] known = tt
-numbered_all e n (m ∷ ms) known =
-    ((known.0, let is = known.1 in omega arith),
-    AllByRecursion-weaker (λ k. (k.epoch ≡ e) × (suc n < k.n)) (λ k. (k.epoch ≡ e) × (n < k.n)) (λ k a. (a.0, let b = a.1 in omega arith)) ms (numbered_all e (suc n) ms known.2))
+numbered_all e n (m ∷ ms) known = (
+  (known.0, let is = known.1 in omega arith),
+  AllByRecursion-weaker (λ k. (k.epoch ≡ e) × (suc n < k.n)) (λ k. (k.epoch ≡ e) × (n < k.n)) (λ k a. (a.0, let b = a.1 in omega arith)) ms (numbered_all e (suc n) ms known.2),
+)
 
 -- the lines of a session are of its epoch, above a number
 pub lines_all : (e n acked : ℕ) (mark : SaidMark) (zs : List Up) → AreNumbered e n (messages zs) → AllByRecursion (λ l. (l.epoch ≡ e) × (n < l.n)) (said_among acked mark zs)
@@ -110,8 +111,8 @@ lines_from e (s ∷ past) now mark known one =
     (all_append (λ l. (e ≤ l.epoch) × (1 ≤ l.epoch) × (l.epoch ≤ e + suc (length past))) (said_in Undecided s) (flat_map (said_in Undecided) past ++ said_in mark now)
     (AllByRecursion-weaker (λ l. (l.epoch ≡ e) × (1 ≤ e)) (λ l. (e ≤ l.epoch) × (1 ≤ l.epoch) × (l.epoch ≤ e + suc (length past))) (λ l is. let same = is.0 in let some = is.1 in (omega arith, omega arith, omega arith)) (said_in Undecided s) (session_lines e Undecided s known.0))
     (AllByRecursion-weaker (λ l. (suc e ≤ l.epoch) × (1 ≤ l.epoch) × (l.epoch ≤ suc e + length past)) (λ l. (e ≤ l.epoch) × (1 ≤ l.epoch) × (l.epoch ≤ e + suc (length past)))
-      (λ l is. let low = is.0 in let high = is.2 in (omega arith, is.1, omega arith)) (flat_map (said_in Undecided) past ++ said_in mark now)
-      (lines_from (suc e) past now mark known.1 (subst (λ k. IsNumbered k now) (let same : e + suc (length past) ≡ suc e + length past = omega arith in same) one))))
+    (λ l is. let low = is.0 in let high = is.2 in (omega arith, is.1, omega arith)) (flat_map (said_in Undecided) past ++ said_in mark now)
+    (lines_from (suc e) past now mark known.1 (subst (λ k. IsNumbered k now) (let same : e + suc (length past) ≡ suc e + length past = omega arith in same) one))))
 
 pairs_from : (P : ℕ → Session → Type 0) (R : SaidLine → SaidLine → Type 0) → Sessional P R → (e : ℕ) (past : List Session) (now : Session) (mark : SaidMark) → ArePast e past → IsNumbered (e + length past) now →
     Each P e past → P (e + length past) now → EachPair R (flat_map (said_in Undecided) past ++ said_in mark now)
@@ -123,8 +124,8 @@ pairs_from P R each e (s ∷ past) now mark known one first last =
     (pairs_append R (said_in Undecided s) rest (each.within e Undecided s known.0 first.0)
     (pairs_from P R each (suc e) past now mark known.1 (subst (λ k. IsNumbered k now) same one) first.1 (subst (λ k. P k now) same last))
     (AllByRecursion-weaker (λ l. (l.epoch ≡ e) × (1 ≤ e)) (λ a. AllByRecursion (R a) rest)
-      (λ a is. AllByRecursion-weaker (λ l. (suc e ≤ l.epoch) × (1 ≤ l.epoch) × (l.epoch ≤ suc e + length past)) (R a) (λ b high. each.across a b (let mine = is.0 in let low = high.0 in omega arith)) rest
-        (lines_from (suc e) past now mark known.1 (subst (λ k. IsNumbered k now) same one))) (said_in Undecided s) (session_lines e Undecided s known.0)))
+    (λ a is. AllByRecursion-weaker (λ l. (suc e ≤ l.epoch) × (1 ≤ l.epoch) × (l.epoch ≤ suc e + length past)) (R a) (λ b high. each.across a b (let mine = is.0 in let low = high.0 in omega arith)) rest
+    (lines_from (suc e) past now mark known.1 (subst (λ k. IsNumbered k now) same one))) (said_in Undecided s) (session_lines e Undecided s known.0)))
 
 now_numbered : (s : Sessions) → SessionsKept s → IsNumbered (0 + length s.past) s.now
 now_numbered s kept = subst (λ k. IsNumbered k s.now) (let same : length s.past ≡ 0 + length s.past = omega arith in same) kept.now
@@ -163,9 +164,10 @@ behind_among e n acked mark [] rest last known epoch number more = more last epo
 behind_among e n acked mark (Carbons ∷ zs) rest last known epoch number more = behind_among e n (acked - 1) mark zs rest last known epoch number more
 behind_among e n acked mark (Presence ∷ zs) rest last known epoch number more = behind_among e n (acked - 1) mark zs rest last known epoch number more
 behind_among e n acked mark (Query r ∷ zs) rest last known epoch number more = behind_among e n (acked - 1) mark zs rest last known epoch number more
-behind_among e n acked mark (Message m ∷ zs) rest last known epoch number more =
-    (inl (known.0 ∙ sym epoch, known.1 ∙ (let s : suc n ≡ last.n + 1 = omega arith in s)),
-    behind_among e (suc n) (acked - 1) mark zs rest (said_line (mark_at acked mark) m) known.2 known.0 known.1 more)
+behind_among e n acked mark (Message m ∷ zs) rest last known epoch number more = (
+  inl (known.0 ∙ sym epoch, known.1 ∙ (let s : suc n ≡ last.n + 1 = omega arith in s)),
+  behind_among e (suc n) (acked - 1) mark zs rest (said_line (mark_at acked mark) m) known.2 known.0 known.1 more,
+)
 
 behind_session : (e acked : ℕ) (mark : SaidMark) (zs : List Up) (rest : List SaidLine) (last : SaidLine) → AreNumbered e 0 (messages zs) → last.epoch < e →
     ((l : SaidLine) → l.epoch < suc e → AreNumberedBehind l rest) → AreNumberedBehind last (said_among acked mark zs ++ rest)
@@ -173,9 +175,10 @@ behind_session e acked mark [] rest last known low more = more last (omega arith
 behind_session e acked mark (Carbons ∷ zs) rest last known low more = behind_session e (acked - 1) mark zs rest last known low more
 behind_session e acked mark (Presence ∷ zs) rest last known low more = behind_session e (acked - 1) mark zs rest last known low more
 behind_session e acked mark (Query r ∷ zs) rest last known low more = behind_session e (acked - 1) mark zs rest last known low more
-behind_session e acked mark (Message m ∷ zs) rest last known low more =
-    (inr (let same = known.0 in let up : last.epoch < m.epoch = omega arith in up, known.1),
-    behind_among e 1 (acked - 1) mark zs rest (said_line (mark_at acked mark) m) known.2 known.0 known.1 (λ l is. more l (omega arith)))
+behind_session e acked mark (Message m ∷ zs) rest last known low more = (
+  inr (let same = known.0 in let up : last.epoch < m.epoch = omega arith in up, known.1),
+  behind_among e 1 (acked - 1) mark zs rest (said_line (mark_at acked mark) m) known.2 known.0 known.1 (λ l is. more l (omega arith)),
+)
 
 first_session : (e acked : ℕ) (mark : SaidMark) (zs : List Up) (rest : List SaidLine) → AreNumbered e 0 (messages zs) → ((l : SaidLine) → l.epoch < suc e → AreNumberedBehind l rest) → AreSubmissions rest →
     AreSubmissions (said_among acked mark zs ++ rest)
@@ -218,10 +221,11 @@ all_both P Q S each (x ∷ xs) first second = (each x first.0 second.0, all_both
 
 found_all : (lines : List SaidLine) → EachPair Apart lines → AllByRecursion (λ l. submission l.epoch l.n lines ≡ Some l) lines
 found_all [] pairs = tt
-found_all (x ∷ lines) pairs =
-    (let e = eq-eqb x.epoch x.epoch refl in let n = eq-eqb x.n x.n refl in ap (λ b. cond (b && x.n == x.n) (Some x) (submission x.epoch x.n lines)) e ∙ ap (λ b. cond b (Some x) (submission x.epoch x.n lines)) n,
-    all_both (Apart x) (λ l. submission l.epoch l.n lines ≡ Some l) (λ l. submission l.epoch l.n (x ∷ lines) ≡ Some l)
-    (λ l apart known. ap (λ b. cond b (Some x) (submission l.epoch l.n lines)) (not_first x l apart) ∙ known) lines pairs.0 (found_all lines pairs.1))
+found_all (x ∷ lines) pairs = (
+  let e = eq-eqb x.epoch x.epoch refl in let n = eq-eqb x.n x.n refl in ap (λ b. cond (b && x.n == x.n) (Some x) (submission x.epoch x.n lines)) e ∙ ap (λ b. cond b (Some x) (submission x.epoch x.n lines)) n,
+  all_both (Apart x) (λ l. submission l.epoch l.n lines ≡ Some l) (λ l. submission l.epoch l.n (x ∷ lines) ≡ Some l)
+      (λ l apart known. ap (λ b. cond b (Some x) (submission l.epoch l.n lines)) (not_first x l apart) ∙ known) lines pairs.0 (found_all lines pairs.1),
+)
 
 numbered_pairs : (e n acked : ℕ) (mark : SaidMark) (zs : List Up) → AreNumbered e n (messages zs) → EachPair Apart (said_among acked mark zs)
 numbered_pairs e n acked mark [] known = tt
@@ -229,9 +233,10 @@ numbered_pairs e n acked mark (Carbons ∷ zs) known = numbered_pairs e n (acked
 numbered_pairs e n acked mark (Presence ∷ zs) known = numbered_pairs e n (acked - 1) mark zs known
 numbered_pairs e n acked mark (Query r ∷ zs) known = numbered_pairs e n (acked - 1) mark zs known
 numbered_pairs e n acked mark (Message m ∷ zs) known =
-    let number = known.1 in
-    (AllByRecursion-weaker (λ l. (l.epoch ≡ e) × (suc n < l.n)) (Apart (said_line (mark_at acked mark) m)) (λ l is same. let low = is.1 in omega arith) (said_among (acked - 1) mark zs) (lines_all e (suc n) (acked - 1) mark zs known.2),
-    numbered_pairs e (suc n) (acked - 1) mark zs known.2)
+    let number = known.1 in (
+      AllByRecursion-weaker (λ l. (l.epoch ≡ e) × (suc n < l.n)) (Apart (said_line (mark_at acked mark) m)) (λ l is same. let low = is.1 in omega arith) (said_among (acked - 1) mark zs) (lines_all e (suc n) (acked - 1) mark zs known.2),
+      numbered_pairs e (suc n) (acked - 1) mark zs known.2,
+    )
 
 abbrev pub Nothing : ℕ → Session → Type 0
 Nothing e s = Unit {0}
@@ -278,13 +283,14 @@ past_below e [] known = tt
 past_below e (s ∷ past) known =
     all_append (λ l. (l.epoch < e + suc (length past)) × (l.state ≢ Waiting)) (said_in Undecided s) (flat_map (said_in Undecided) past)
     (all_both (λ l. (l.epoch ≡ e) × (1 ≤ e)) (λ l. l.state ≢ Waiting) (λ l. (l.epoch < e + suc (length past)) × (l.state ≢ Waiting)) (λ l is not. (let same = is.0 in omega arith, not))
-      (said_in Undecided s) (session_lines e Undecided s known.0) (never_waits s.acked (up_put s)))
+    (said_in Undecided s) (session_lines e Undecided s known.0) (never_waits s.acked (up_put s)))
     (AllByRecursion-weaker (λ l. (l.epoch < suc e + length past) × (l.state ≢ Waiting)) (λ l. (l.epoch < e + suc (length past)) × (l.state ≢ Waiting)) (λ l is. (let low = is.0 in omega arith, is.1))
-      (flat_map (said_in Undecided) past) (past_below (suc e) past known.1))
+    (flat_map (said_in Undecided) past) (past_below (suc e) past known.1))
   where
     not_waiting : (b : Bool) → cond b Acknowledged Undecided ≢ Waiting
     not_waiting true is = let bad : ⊥ = cc in bad
     not_waiting false is = let bad : ⊥ = cc in bad
+
     never_waits : (acked : ℕ) (zs : List Up) → AllByRecursion (λ l. l.state ≢ Waiting) (said_among acked Undecided zs)
     never_waits acked [] = tt
     never_waits acked (Carbons ∷ zs) = never_waits (acked - 1) zs
@@ -302,9 +308,10 @@ all_acknowledged zero mark (Message m ∷ zs) none = absurd (let bad : ⊥ = cc 
 all_acknowledged (suc k) mark (Carbons ∷ zs) none = subst (λ a. AllByRecursion (λ l. l.state ≡ Acknowledged) (said_among a mark zs)) (let e : k ≡ suc k - 1 = omega arith in e) (all_acknowledged k mark zs none)
 all_acknowledged (suc k) mark (Presence ∷ zs) none = subst (λ a. AllByRecursion (λ l. l.state ≡ Acknowledged) (said_among a mark zs)) (let e : k ≡ suc k - 1 = omega arith in e) (all_acknowledged k mark zs none)
 all_acknowledged (suc k) mark (Query r ∷ zs) none = subst (λ a. AllByRecursion (λ l. l.state ≡ Acknowledged) (said_among a mark zs)) (let e : k ≡ suc k - 1 = omega arith in e) (all_acknowledged k mark zs none)
-all_acknowledged (suc k) mark (Message m ∷ zs) none =
-    (ap (λ b. cond b Acknowledged mark) (let e : nat_lt 0 (suc k) ≡ true = lt-ltb 0 (suc k) (omega arith) in e),
-    subst (λ a. AllByRecursion (λ l. l.state ≡ Acknowledged) (said_among a mark zs)) (let e : k ≡ suc k - 1 = omega arith in e) (all_acknowledged k mark zs none))
+all_acknowledged (suc k) mark (Message m ∷ zs) none = (
+  ap (λ b. cond b Acknowledged mark) (let e : nat_lt 0 (suc k) ≡ true = lt-ltb 0 (suc k) (omega arith) in e),
+  subst (λ a. AllByRecursion (λ l. l.state ≡ Acknowledged) (said_among a mark zs)) (let e : k ≡ suc k - 1 = omega arith in e) (all_acknowledged k mark zs none),
+)
 
 -- what is acknowledged comes first
 pub acknowledged_first : (acked : ℕ) (mark : SaidMark) (zs : List Up) → EachPair (λ a b. b.state ≡ Acknowledged → a.state ≡ Acknowledged) (said_among acked mark zs)

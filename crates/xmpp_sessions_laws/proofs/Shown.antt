@@ -1,8 +1,8 @@
 -- What the worlds of a run show of its states.
-use Rattle.std.proofs.Common.{◌≡◌, ℕ, zero, suc, ◌+◌, ◌-◌, ◌<◌, ◌≤◌, true, List, [], ◌∷◌, ◌++◌, Some, length, drop, map, refl, sym, ap, ◌∙◌, subst, arith}
+use Rattle.std.proofs.Common.{◌≡◌, ℕ, zero, suc, ◌+◌, ◌-◌, ◌≤◌, true, List, [], ◌∷◌, ◌++◌, Some, length, drop, refl, sym, ap, ◌∙◌, subst, arith}
 use Rattle.std.proofs.lemmas.List.{append-nil, length-drop}
 use Rattle.std.proofs.lemmas.Option.{none-some, same_Some}
-use Rattle.std.specs.List.{AllByRecursion, flat_map, slice_get}
+use Rattle.std.specs.List.{flat_map, slice_get}
 use Rattle.xmpp_archive.proofs.NumberedEntries.{FollowFrom, follow_drop}
 use Rattle.xmpp_archive.specs.Entries.{EntryView, newest}
 use Rattle.xmpp_direct.proofs.TurnRuns.{number_follow}

@@ -1,10 +1,9 @@
 -- Laws 1 to 3 of reports of version 2.
-use Rattle.std.proofs.Common.{◌≡◌, ◌≢◌, ℕ, zero, suc, ◌+◌, ◌<◌, ◌≤◌, ◌==◌, ◌⊎◌, Bool, true, false, List, [], ◌∷◌, ◌++◌, Some, IsTrue, length, map, refl, sym, ap, ◌∙◌, subst, arith, inl, inr}
+use Rattle.std.proofs.Common.{◌≡◌, ◌≢◌, ℕ, ◌+◌, ◌<◌, ◌≤◌, true, false, List, [], ◌∷◌, ◌++◌, Some, IsTrue, length, map, refl, sym, ap, ◌∙◌, subst, arith}
 use Rattle.std.proofs.lemmas.Bool.{false≢true}
 use Rattle.std.specs.List.{AllByRecursion, filter, flat_map, slice_get}
 use Rattle.std.specs.List.Sorted.{IsNonDecreasing}
 use Rattle.std.specs.Str.{bytes_eq}
-use Rattle.xmpp_archive.specs.Entries.{EntryView}
 use Rattle.xmpp_basis.proofs.Lists.{AllByRecursion-weaker}
 use Rattle.xmpp_direct.proofs.LawLists.{pairs_not_falling}
 use Rattle.xmpp_direct.proofs.TurnRuns.{all_places}
@@ -31,10 +30,10 @@ use Rattle.xmpp_sessions.specs.Devices as sessions
 use Rattle.xmpp_sessions.specs.Devices.{Session, Sessions, epoch_of, first_of, last_of, up_put}
 use Rattle.xmpp_sessions.specs.Kept.{AreMoments, IsNumbered, SessionsKept, is_of, said_in}
 use Rattle.xmpp_sessions.specs.Laws as machine
-use Rattle.xmpp_sessions.specs.Stanzas.{Submission, messages}
+use Rattle.xmpp_sessions.specs.Stanzas.{messages}
 use Rattle.xmpp_sessions_laws.proofs.Ground.{Ground, IsTakeLine, lines_of_device, line_by, take_lines, takes_within, taken_same}
 use Rattle.xmpp_sessions_laws.proofs.Owners.{Differ, LineAt, line_at, names_of}
-use Rattle.xmpp_sessions_laws.proofs.SaidLines.{Each, Nothing, Sessional, acknowledged_first, all_acknowledged, all_said, all_unsaid, each_nothing, each_of, past_below, pairs_append, said_all, said_epochs, said_numbered, said_pairs, said_parts}
+use Rattle.xmpp_sessions_laws.proofs.SaidLines.{Nothing, acknowledged_first, all_acknowledged, all_said, all_unsaid, each_nothing, each_of, past_below, pairs_append, said_all, said_epochs, said_numbered, said_pairs, said_parts}
 use Rattle.xmpp_sessions_laws.specs.Reported.{IsAtRest, history_at, mark_of, name_at, said_among, said_in as lines_in, said_line, said_of, take_of, underway_of}
 
 -- what holds of each device's line, with its place
@@ -85,7 +84,7 @@ history_is keep owned accounts w report g =
     ∙ map-map (take_line (Two keep)) (timed_take report) (map (take_of owned) w.takes)
     ∙ map-map (take_of owned) (λ t. timed_take report (take_line (Two keep) t)) w.takes
     ∙ map_same (λ t. timed_take report (line_by (Two keep) owned t)) (take_of owned) w.takes
-      (AllByRecursion-weaker (λ t. IsTakeLine owned report t.device t) (λ t. timed_take report (line_by (Two keep) owned t) ≡ take_of owned t) (timed_back keep owned report) w.takes (take_lines keep (Two keep) owned accounts w report g))
+    (AllByRecursion-weaker (λ t. IsTakeLine owned report t.device t) (λ t. timed_take report (line_by (Two keep) owned t) ≡ take_of owned t) (timed_back keep owned report) w.takes (take_lines keep (Two keep) owned accounts w report g))
 
 -- moments
 moments_from : (low now : ℕ) (ts : List sessions.Take) → AreMoments low now ts → AllByRecursion (λ t. low ≤ t.moment) ts × EachPair (λ (a b : sessions.Take). a.moment ≤ b.moment) ts
@@ -114,7 +113,7 @@ pub device_epochs : (keep : ℕ) (version : Version) (owned : List Owned) (accou
 device_epochs keep version owned accounts w report g =
     each_device (λ d. AllByRecursion (λ said. (1 ≤ said.epoch) × (said.epoch ≤ d.epoch)) d.said) keep version owned accounts w report g
     (λ i line at. subst (λ lines. AllByRecursion (λ said. (1 ≤ said.epoch) × (said.epoch ≤ line.epoch)) lines) (sym at.is.said)
-      (subst (λ e. AllByRecursion (λ said. (1 ≤ said.epoch) × (said.epoch ≤ e)) (said_of at.d.sessions)) (sym at.is.epoch) (said_epochs at.d.sessions (g.taken.devices i at.d at.device).sessions)))
+    (subst (λ e. AllByRecursion (λ said. (1 ≤ said.epoch) × (said.epoch ≤ e)) (said_of at.d.sessions)) (sym at.is.epoch) (said_epochs at.d.sessions (g.taken.devices i at.d at.device).sessions)))
 
 -- Law 2.
 
@@ -132,9 +131,9 @@ pub takes_rise : (keep : ℕ) (version : Version) (owned : List Owned) (accounts
 takes_rise keep version owned accounts w report g =
     each_device (λ d. EachPair Precedes (filter (λ t. bytes_eq d.name t.device) report.takes)) keep version owned accounts w report g
     (λ i line at. subst (λ name. EachPair Precedes (filter (λ t. bytes_eq name t.device) report.takes)) (sym at.is.name)
-      (subst (λ takes. EachPair Precedes (filter (λ t. bytes_eq at.o.device t.device) takes)) (sym g.takes)
-      (subst (EachPair Precedes) (sym (lines_of_device version owned i at.o w.takes g.differ at.owner (takes_within keep version owned accounts w report g)))
-      (rise_all version owned (filter (is_of i) w.takes) (once_in_order w g.taken i at.d at.device).rise))))
+    (subst (λ takes. EachPair Precedes (filter (λ t. bytes_eq at.o.device t.device) takes)) (sym g.takes)
+    (subst (EachPair Precedes) (sym (lines_of_device version owned i at.o w.takes g.differ at.owner (takes_within keep version owned accounts w report g)))
+    (rise_all version owned (filter (is_of i) w.takes) (once_in_order w g.taken i at.d at.device).rise))))
 
 -- of a session, what the report says of what was handled and of what wasn't
 abbrev IsReported : List (List ℕ) → List TakeLine → List ℕ → SaidLine → Type 0
@@ -177,10 +176,10 @@ gapless_session schedule takes device mark s h =
     let rest = said_among 0 mark s.up_rest in
     subst (EachPair (IsTakenFirst schedule takes device)) (sym h.parts)
     (pairs_append (IsTakenFirst schedule takes device) got rest
-      (pairs_by_first (IsReported accounts takes device) (IsTakenFirst schedule takes device) first got h.got)
-      (pairs_by_second (IsUnreported takes device) (IsTakenFirst schedule takes device) second rest h.rest)
-      (AllByRecursion-weaker (IsReported accounts takes device) (λ x. AllByRecursion (IsTakenFirst schedule takes device x) rest)
-      (λ x is. AllByRecursion-weaker (IsUnreported takes device) (IsTakenFirst schedule takes device x) (λ y none. first x y is) rest h.rest) got h.got))
+    (pairs_by_first (IsReported accounts takes device) (IsTakenFirst schedule takes device) first got h.got)
+    (pairs_by_second (IsUnreported takes device) (IsTakenFirst schedule takes device) second rest h.rest)
+    (AllByRecursion-weaker (IsReported accounts takes device) (λ x. AllByRecursion (IsTakenFirst schedule takes device x) rest)
+    (λ x is. AllByRecursion-weaker (IsUnreported takes device) (IsTakenFirst schedule takes device x) (λ y none. first x y is) rest h.rest) got h.got))
 
 abbrev Sorted : List (List ℕ) → List sessions.Take → ℕ → ℕ → Session → Type 0
 Sorted accounts takes i e s = IsSorted accounts takes i s
@@ -192,19 +191,19 @@ device_gapless keep version schedule owned w report g =
     let within = takes_within keep version owned accounts w report g in
     each_device (λ d. EachPair (IsTakenFirst schedule report.takes d.name) d.said) keep version owned accounts w report g
     (λ i line at.
-      let lines = map (take_line version) (map (take_of owned) w.takes) in
-      let known = g.taken.devices i at.d at.device in
-      let sorted = subst (λ a. AllByRecursion (IsSorted a w.takes i) (at.d.sessions.past ++ at.d.sessions.now ∷ [])) g.exist (sessions_sorted w.accounts w.takes i at.d.sessions known.sessions known.takes.are) in
-      let parts = each_of (IsSorted accounts w.takes i) 0 at.d.sessions.past at.d.sessions.now sorted in
-      subst (λ said. EachPair (IsTakenFirst schedule report.takes line.name) said) (sym at.is.said)
-      (subst (λ name. EachPair (IsTakenFirst schedule report.takes name) (said_of at.d.sessions)) (sym at.is.name)
-      (subst (λ takes. EachPair (IsTakenFirst schedule takes at.o.device) (said_of at.d.sessions)) (sym g.takes)
-      (said_pairs (Sorted accounts w.takes i) (IsTakenFirst schedule lines at.o.device)
-        (record {
-          within = λ e mark s one is. gapless_session schedule lines at.o.device mark s (halves version owned accounts w.takes i at.o g.differ at.owner within e mark s one is);
-          across = λ a b low same. absurd (omega arith);
-        })
-        at.d.sessions known.sessions parts.0 parts.1))))
+    let lines = map (take_line version) (map (take_of owned) w.takes) in
+    let known = g.taken.devices i at.d at.device in
+    let sorted = subst (λ a. AllByRecursion (IsSorted a w.takes i) (at.d.sessions.past ++ at.d.sessions.now ∷ [])) g.exist (sessions_sorted w.accounts w.takes i at.d.sessions known.sessions known.takes.are) in
+    let parts = each_of (IsSorted accounts w.takes i) 0 at.d.sessions.past at.d.sessions.now sorted in
+    subst (λ said. EachPair (IsTakenFirst schedule report.takes line.name) said) (sym at.is.said)
+    (subst (λ name. EachPair (IsTakenFirst schedule report.takes name) (said_of at.d.sessions)) (sym at.is.name)
+    (subst (λ takes. EachPair (IsTakenFirst schedule takes at.o.device) (said_of at.d.sessions)) (sym g.takes)
+    (said_pairs (Sorted accounts w.takes i) (IsTakenFirst schedule lines at.o.device)
+    (record {
+      within = λ e mark s one is. gapless_session schedule lines at.o.device mark s (halves version owned accounts w.takes i at.o g.differ at.owner within e mark s one is);
+      across = λ a b low same. absurd (omega arith);
+    })
+    at.d.sessions known.sessions parts.0 parts.1))))
 
 -- Law 3.
 
@@ -226,25 +225,25 @@ device_acknowledged keep version schedule owned w report g =
     let within = takes_within keep version owned accounts w report g in
     each_device (λ d. AllByRecursion (λ said. said.state ≡ Acknowledged → IsTrue (is_account schedule said.to) → IsTrue (is_taken report.takes d.name said)) d.said) keep version owned accounts w report g
     (λ i line at.
-      let lines = map (take_line version) (map (take_of owned) w.takes) in
-      let known = g.taken.devices i at.d at.device in
-      let sorted = subst (λ a. AllByRecursion (IsSorted a w.takes i) (at.d.sessions.past ++ at.d.sessions.now ∷ [])) g.exist (sessions_sorted w.accounts w.takes i at.d.sessions known.sessions known.takes.are) in
-      let parts = each_of (IsSorted accounts w.takes i) 0 at.d.sessions.past at.d.sessions.now sorted in
-      subst (λ said. AllByRecursion (IsKnown schedule line.name report.takes) said) (sym at.is.said)
-      (subst (λ name. AllByRecursion (IsKnown schedule name report.takes) (said_of at.d.sessions)) (sym at.is.name)
-      (subst (λ takes. AllByRecursion (IsKnown schedule at.o.device takes) (said_of at.d.sessions)) (sym g.takes)
-      (said_all (Sorted accounts w.takes i) (IsKnown schedule at.o.device lines)
-        (λ e mark s not one is. known_session schedule lines at.o.device mark s not (halves version owned accounts w.takes i at.o g.differ at.owner within e mark s one is))
-        at.d.sessions known.sessions parts.0 parts.1))))
+    let lines = map (take_line version) (map (take_of owned) w.takes) in
+    let known = g.taken.devices i at.d at.device in
+    let sorted = subst (λ a. AllByRecursion (IsSorted a w.takes i) (at.d.sessions.past ++ at.d.sessions.now ∷ [])) g.exist (sessions_sorted w.accounts w.takes i at.d.sessions known.sessions known.takes.are) in
+    let parts = each_of (IsSorted accounts w.takes i) 0 at.d.sessions.past at.d.sessions.now sorted in
+    subst (λ said. AllByRecursion (IsKnown schedule line.name report.takes) said) (sym at.is.said)
+    (subst (λ name. AllByRecursion (IsKnown schedule name report.takes) (said_of at.d.sessions)) (sym at.is.name)
+    (subst (λ takes. AllByRecursion (IsKnown schedule at.o.device takes) (said_of at.d.sessions)) (sym g.takes)
+    (said_all (Sorted accounts w.takes i) (IsKnown schedule at.o.device lines)
+    (λ e mark s not one is. known_session schedule lines at.o.device mark s not (halves version owned accounts w.takes i at.o g.differ at.owner within e mark s one is))
+    at.d.sessions known.sessions parts.0 parts.1))))
 
 pub device_first : (keep : ℕ) (version : Version) (owned : List Owned) (accounts : List (List ℕ)) (w : sessions.World) (report : ReportView) → Ground keep version owned accounts w report →
     AllByRecursion (λ d. EachPair IsAcknowledgedFirst d.said) report.devices
 device_first keep version owned accounts w report g =
     each_device (λ d. EachPair IsAcknowledgedFirst d.said) keep version owned accounts w report g
     (λ i line at. subst (EachPair IsAcknowledgedFirst) (sym at.is.said)
-      (said_pairs Nothing IsAcknowledgedFirst
-      (record { within = λ e mark s one is. weaker (lines_in mark s) (acknowledged_first s.acked mark (up_put s)); across = λ a b low same. absurd (omega arith) })
-      at.d.sessions (g.taken.devices i at.d at.device).sessions (each_nothing 0 at.d.sessions.past) tt))
+    (said_pairs Nothing IsAcknowledgedFirst
+    (record { within = λ e mark s one is. weaker (lines_in mark s) (acknowledged_first s.acked mark (up_put s)); across = λ a b low same. absurd (omega arith) })
+    at.d.sessions (g.taken.devices i at.d at.device).sessions (each_nothing 0 at.d.sessions.past) tt))
   where
     weaker : (xs : List SaidLine) → EachPair (λ a b. b.state ≡ Acknowledged → a.state ≡ Acknowledged) xs → EachPair IsAcknowledgedFirst xs
     weaker [] pairs = tt
@@ -255,24 +254,24 @@ rest_lines : (s : Sessions) (kept : SessionsKept s) → IsAtRest s → AllByRecu
 rest_lines s kept rest =
     all_append (λ l. (l.state ≢ Waiting) × (l.epoch ≡ epoch_of s → l.state ≡ Acknowledged)) (flat_map (lines_in Undecided) s.past) (lines_in (mark_of s.online) s.now)
     (AllByRecursion-weaker (λ l. (l.epoch < 0 + length s.past) × (l.state ≢ Waiting)) (λ l. (l.state ≢ Waiting) × (l.epoch ≡ epoch_of s → l.state ≡ Acknowledged))
-      (λ l is. (is.1, λ same. absurd (let low = is.0 in omega arith))) (flat_map (lines_in Undecided) s.past) (past_below 0 s.past kept.past))
+    (λ l is. (is.1, λ same. absurd (let low = is.0 in omega arith))) (flat_map (lines_in Undecided) s.past) (past_below 0 s.past kept.past))
     (AllByRecursion-weaker (λ l. l.state ≡ Acknowledged) (λ l. (l.state ≢ Waiting) × (l.epoch ≡ epoch_of s → l.state ≡ Acknowledged))
-      (λ l is. (λ waits. let bad : ⊥ = cc in bad, λ same. is)) (lines_in (mark_of s.online) s.now) (all_acknowledged s.now.acked (mark_of s.online) (up_put s.now) rest.acknowledged))
+    (λ l is. (λ waits. let bad : ⊥ = cc in bad, λ same. is)) (lines_in (mark_of s.online) s.now) (all_acknowledged s.now.acked (mark_of s.online) (up_put s.now) rest.acknowledged))
 
 pub device_settled : (keep : ℕ) (version : Version) (owned : List Owned) (accounts : List (List ℕ)) (w : sessions.World) (report : ReportView) → Ground keep version owned accounts w report →
     AllByRecursion (λ d. IsTrue d.settled → IsSettledRight d) report.devices
 device_settled keep version owned accounts w report g =
     each_device (λ d. IsTrue d.settled → IsSettledRight d) keep version owned accounts w report g
     (λ i line at is.
-      let rest = at.is.settled is in
-      let page = (g.read.devices i at.d at.device).page in
-      let lines = rest_lines at.d.sessions (g.taken.devices i at.d at.device).sessions rest in
-      record {
-        nothing_waits = subst (AllByRecursion (λ said. said.state ≢ Waiting)) (sym at.is.said)
-            (AllByRecursion-weaker (λ l. (l.state ≢ Waiting) × (l.epoch ≡ epoch_of at.d.sessions → l.state ≡ Acknowledged)) (λ said. said.state ≢ Waiting) (λ l known. known.0) (said_of at.d.sessions) lines);
-        nothing_underway = at.is.underway
-            ∙ ap underway_of (settled w.keep (first_of w.keep (last_of w.takes at.d.account)) (last_of w.takes at.d.account) at.d page rest.online rest.row rest.up rest.down);
-        present_epoch = subst (AllByRecursion (λ said. said.epoch ≡ line.epoch → said.state ≡ Acknowledged)) (sym at.is.said)
-            (AllByRecursion-weaker (λ l. (l.state ≢ Waiting) × (l.epoch ≡ epoch_of at.d.sessions → l.state ≡ Acknowledged)) (λ said. said.epoch ≡ line.epoch → said.state ≡ Acknowledged)
-            (λ l known same. known.1 (same ∙ at.is.epoch)) (said_of at.d.sessions) lines);
-      })
+    let rest = at.is.settled is in
+    let page = (g.read.devices i at.d at.device).page in
+    let lines = rest_lines at.d.sessions (g.taken.devices i at.d at.device).sessions rest in
+    record {
+      nothing_waits = subst (AllByRecursion (λ said. said.state ≢ Waiting)) (sym at.is.said)
+          (AllByRecursion-weaker (λ l. (l.state ≢ Waiting) × (l.epoch ≡ epoch_of at.d.sessions → l.state ≡ Acknowledged)) (λ said. said.state ≢ Waiting) (λ l known. known.0) (said_of at.d.sessions) lines);
+      nothing_underway = at.is.underway
+          ∙ ap underway_of (settled w.keep (first_of w.keep (last_of w.takes at.d.account)) (last_of w.takes at.d.account) at.d page rest.online rest.row rest.up rest.down);
+      present_epoch = subst (AllByRecursion (λ said. said.epoch ≡ line.epoch → said.state ≡ Acknowledged)) (sym at.is.said)
+          (AllByRecursion-weaker (λ l. (l.state ≢ Waiting) × (l.epoch ≡ epoch_of at.d.sessions → l.state ≡ Acknowledged)) (λ said. said.epoch ≡ line.epoch → said.state ≡ Acknowledged)
+          (λ l known same. known.1 (same ∙ at.is.epoch)) (said_of at.d.sessions) lines);
+    })

@@ -1,7 +1,7 @@
 -- The pages that a device took over, by turns: each is one page of an archive that had given a last number.
-use Rattle.std.proofs.Common.{◌≡◌, ◌≢◌, ℕ, zero, suc, ◌+◌, ◌-◌, ◌<◌, ◌≤◌, ◌==◌, ◌^◌, max, min, Bool, true, false, cond, leb, List, [], ◌∷◌, ◌++◌, Option, Some, None, is_some, length, take, drop, map, refl, sym, ap, ◌∙◌, subst, arith, inl, inr}
-use Rattle.std.proofs.lemmas.Bool.{cases_Bool, eqb-true, eq-eqb, false_from_ne_true, false≢true, or_parts}
-use Rattle.std.proofs.lemmas.List.{append-nil, drop_at, length-append, length-drop, length-map, length-take, map-append, take_at}
+use Rattle.std.proofs.Common.{◌≡◌, ◌≢◌, ℕ, zero, suc, ◌+◌, ◌-◌, ◌<◌, ◌≤◌, ◌==◌, ◌^◌, min, Bool, true, false, cond, leb, List, [], ◌∷◌, ◌++◌, Option, Some, None, is_some, length, take, drop, map, refl, sym, ap, ◌∙◌, arith, inl, inr}
+use Rattle.std.proofs.lemmas.Bool.{cases_Bool, eq-eqb, false_from_ne_true, false≢true, or_parts}
+use Rattle.std.proofs.lemmas.List.{drop_at, length-map, map-append, take_at}
 use Rattle.std.proofs.lemmas.Option.{none-some, same_Some}
 use Rattle.std.proofs.lemmas.Slice.Eq.{bytes_eq-Decides}
 use Rattle.std.specs.List.{AllByRecursion, filter, filter_map, slice_get}
@@ -9,15 +9,14 @@ use Rattle.std.specs.Option.{option_map}
 use Rattle.std.specs.Prelude.{◌||◌}
 use Rattle.std.specs.Str.{bytes_eq}
 use Rattle.xmpp_archive.proofs.IdDigits.{id_of_same}
-use Rattle.xmpp_archive.proofs.NumberedEntries.{FollowFrom, at_place, entry_at, follow_all, follow_at}
+use Rattle.xmpp_archive.proofs.NumberedEntries.{FollowFrom, at_place, entry_at, follow_all}
 use Rattle.xmpp_archive.specs.Entries.{EntryView, entry_numbered}
 use Rattle.xmpp_archive.specs.Ids.{id_of}
-use Rattle.xmpp_direct.proofs.Turns.{AreRising, Turn, end_of, ends_at, id_of_entry, page_by, pages_by, rising_from, run_by, span, start_of, follow_span, length_span, rising_bounds, turn_bounds}
+use Rattle.xmpp_direct.proofs.Turns.{AreRising, Turn, end_of, id_of_entry, page_by, pages_by, rising_from, run_by, span, start_of, follow_span, length_span, turn_bounds}
 use Rattle.xmpp_direct.specs.Direct.{as_logged}
 use Rattle.xmpp_edge.specs.Names.{is_among}
-use Rattle.xmpp_log.specs.LogPages.{LogPage}
 use Rattle.xmpp_report.proofs.TakenArchives.{archive_few, archive_numbered, length-numbered_from}
-use Rattle.xmpp_report.specs.Takes.{Take, archive_of, concerns, entry_of}
+use Rattle.xmpp_report.specs.Takes.{concerns, entry_of}
 use Rattle.xmpp_schedule.specs.Contents.{Owned}
 use Rattle.xmpp_sessions.proofs.Intervals.{length_behind}
 use Rattle.xmpp_sessions.specs.Answers.{behind}
@@ -159,10 +158,10 @@ device_turned keep last history b some tiles long follow =
 
 -- Numbers and ids.
 
-abbrev number_of : EntryView → ℕ
+abbrev pub number_of : EntryView → ℕ
 number_of e = e.number
 
-numbers_follow : (s : ℕ) (es : List EntryView) → FollowFrom (suc s) es → map number_of es ≡ behind s (length es)
+pub numbers_follow : (s : ℕ) (es : List EntryView) → FollowFrom (suc s) es → map number_of es ≡ behind s (length es)
 numbers_follow s [] follow = refl
 numbers_follow s (e ∷ es) follow = ap (λ n. n ∷ map number_of es) follow.0 ∙ ap (λ ns. suc s ∷ ns) (numbers_follow (suc s) es follow.1)
 
