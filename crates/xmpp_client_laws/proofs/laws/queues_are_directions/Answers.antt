@@ -1,0 +1,12 @@
+use Rattle.xmpp_client_laws.proofs.Directing.{acknowledged_directed, begun_directed, handled_directed, put_directed, requested_directed, resumed_directed}
+use Rattle.xmpp_client_laws.proofs.laws.queues_are_directions.Goals as goal
+
+pub returns : goal.returns
+returns g c = record {
+  begins = begun_directed;
+  puts = put_directed;
+  requests = requested_directed;
+  handles = handled_directed;
+  acknowledges = acknowledged_directed;
+  resumes = resumed_directed;
+}
