@@ -29,8 +29,7 @@ rerun_of_known input None text same (run, says, due) = (run, tt, due)
 rerun_of_known input (Some all) text same rerun = subst (λ bytes. IsRerun (Some bytes) text) same rerun
 
 rerun_refusal_of_known : (input : List ℕ) (known : Option (List ℕ)) (text : List ℕ) → IfSome known (λ all. input ≡ all) → IsRerunRefusal (Some input) text → IsRerunRefusal known text
-rerun_refusal_of_known input None text same (inl (line, reason, why, due)) = inl (line, reason, tt, due)
-refusal_of_known input None text same (inr (schedule, is, spelled, due)) = inr (schedule, is, tt, due)
+rerun_refusal_of_known input None text same (line, reason, why, due) = (line, reason, tt, due)
 rerun_refusal_of_known input (Some all) text same refusal = subst (λ bytes. IsRerunRefusal (Some bytes) text) same refusal
 
 done_of_known : (command : Command) (input : List ℕ) (known : Option (List ℕ)) (text : List ℕ) → IfSome known (λ all. input ≡ all) → IsDone command (Some input) text → IsDone command known text

@@ -55,7 +55,7 @@ module _ (known left : Option (List ℕ)) (rose calm still : Type 0) (Written : 
   refused command answer three e =
       let (text, due, out) = answer Refused three in
       let (refusal, whole) = subst (λ c. Due c known left rose Refused text) e due in
-      ((whole refl).ended, (text, refusal, out))
+      ((whole refl).ended, text, refusal, out)
 
   done_rerun : (command : Option Command) → Answered command → result ≡ 0 → command ≡ Some Rerun →
       (run : InputView) × IfSome known (λ input. Says input run) × IsAtEnd left × Written (rerun_of run)
