@@ -1,7 +1,7 @@
 -- The report of each run has the form of its version, and keeps its laws.
-use Rattle.std.proofs.Common.{◌≡◌, ◌≢◌, ℕ, zero, suc, ◌+◌, ◌-◌, ◌<◌, ◌≤◌, ◌==◌, ◌^◌, min, Bool, true, false, cond, List, [], ◌∷◌, ◌++◌, Option, Some, None, IsTrue, is_some, length, map, refl, sym, ap, ◌∙◌, subst, arith, inl, inr}
+use Rattle.std.proofs.Common.{◌≡◌, ℕ, zero, suc, ◌+◌, ◌<◌, ◌≤◌, ◌^◌, true, false, List, [], ◌∷◌, ◌++◌, Option, Some, None, IsTrue, is_some, length, map, refl, sym, ap, ◌∙◌, subst, arith, inl, inr}
 use Rattle.std.proofs.lemmas.Bool.{and_parts, cases_Bool, eqb-true, false≢true, true≢false}
-use Rattle.std.proofs.lemmas.List.{append-nil, length-append, length-map}
+use Rattle.std.proofs.lemmas.List.{length-append}
 use Rattle.std.proofs.lemmas.Option.{none-some, same_Some}
 use Rattle.std.proofs.lemmas.Slice.Eq.{bytes_eq-Decides}
 use Rattle.std.specs.List.{AllByRecursion, filter, flat_map, list_all, slice_get}
@@ -20,23 +20,22 @@ use Rattle.xmpp_pages.specs.Kept.{last_number}
 use Rattle.xmpp_report.proofs.Pairs.{pairs_by_both, pairs_map}
 use Rattle.xmpp_report.specs.Addresses.{origin_of}
 use Rattle.xmpp_report.specs.EntryLines.{EntryLineView}
-use Rattle.xmpp_report.specs.Lawful.{AgreeOnStamp, ArePages, EachPair, IsFresh, IsLawful, IsPrefixOfAccount, account_named, at_any_time, device_named, submission, take_named, takes_in, text_named}
-use Rattle.xmpp_report.specs.LawfulRuns.{ArePagesOfRuns, IsInForm, IsLastNumber, KeepsLaws, KeepsLawsOf, tells_moments}
+use Rattle.xmpp_report.specs.Lawful.{AgreeOnStamp, ArePages, EachPair, IsLawful, IsPrefixOfAccount, account_named, at_any_time, device_named, submission, take_named, takes_in, text_named}
+use Rattle.xmpp_report.specs.LawfulRuns.{IsInForm, IsLastNumber, KeepsLaws, KeepsLawsOf, tells_moments}
 use Rattle.xmpp_report.specs.Lines.{entry_line, take_line, told_moment}
 use Rattle.xmpp_report.specs.Reports.{AccountView, DeviceView, ReportView}
 use Rattle.xmpp_report.specs.Takes.{Take, archive_of, concerns, entry_of, numbered_from}
 use Rattle.xmpp_report.specs.Worlds.{World}
-use Rattle.xmpp_report.specs.declared.report.PageLine.{PageLine}
 use Rattle.xmpp_report.specs.declared.report.TakeLine.{TakeLine}
 use Rattle.xmpp_schedule.proofs.Lists.{all_append, all_filter, all_flat_map, all_map, all_of, map-map, map_same}
-use Rattle.xmpp_schedule.proofs.StandingSteps.{AreStanding, home_in, homes_are, homes_exist}
-use Rattle.xmpp_schedule.specs.Contents.{Owned, accounts_of, device_name, devices_of, owned_in}
+use Rattle.xmpp_schedule.proofs.StandingSteps.{home_in, homes_are, homes_exist}
+use Rattle.xmpp_schedule.specs.Contents.{Owned, accounts_of, device_name, devices_of}
 use Rattle.xmpp_schedule.specs.Grammar.{is_name, may_stand}
 use Rattle.xmpp_schedule.specs.Schedules.{WireView, common_at, keep_of, seen_of, steps_of}
 use Rattle.xmpp_schedule.specs.WireGrammar.{AreWireLines, WireAbove, above_by, may_run, nothing_above}
 use Rattle.xmpp_schedule.specs.declared.schedule.Line.{Line}
 use Rattle.xmpp_schedule.specs.declared.schedule.Step.{Step}
-use Rattle.xmpp_schedule.specs.declared.schedule.Step.TheVariants.{Account, Device, Say, Private, Catchup, Tick}
+use Rattle.xmpp_schedule.specs.declared.schedule.Step.TheVariants.{Device}
 use Rattle.xmpp_schedule.specs.declared.schedule.Version.{Version}
 use Rattle.xmpp_schedule.specs.declared.schedule.Version.TheVariants.{One, Two}
 use Rattle.xmpp_schedule.specs.declared.schedule.WireLine.{WireLine}
@@ -48,7 +47,7 @@ use Rattle.xmpp_sessions.proofs.Runs.{taken_beginning}
 use Rattle.xmpp_sessions.proofs.TileRuns.{read_beginning}
 use Rattle.xmpp_sessions.specs.Devices as sessions
 use Rattle.xmpp_sessions.specs.Kept.{AreMoments}
-use Rattle.xmpp_sessions_laws.proofs.Ground.{Ground, IsTakeLine, line_by, take_lines, takes_within}
+use Rattle.xmpp_sessions_laws.proofs.Ground.{IsTakeLine, line_by, take_lines, takes_within}
 use Rattle.xmpp_sessions_laws.proofs.LawsKept.{acknowledged_right, device_logged, device_paged, ground_of, lawful_keeping, of_schedule, once_in_order as in_order, said_right, standing}
 use Rattle.xmpp_sessions_laws.proofs.Moments.{passed_at}
 use Rattle.xmpp_sessions_laws.proofs.Owners.{Differ, LineAt, name_is, name_tells, names_are, names_of}
@@ -58,7 +57,7 @@ use Rattle.xmpp_sessions_laws.proofs.TakenLaws.{device_epochs, device_numbered, 
 use Rattle.xmpp_sessions_laws.proofs.Turned.{history_few, history_follows}
 use Rattle.xmpp_sessions_laws.specs.Reported.{account_line, history_at, name_at, take_of}
 use Rattle.xmpp_sessions_laws.specs.Runs.{IsRunOf, begins, moves_of, owned_of, steps_in}
-use Rattle.xmpp_sessions_prefix.proofs.Stamps.{AreApart, IsStamped, moment_in, moments_found, stamps_agree, takes_apart}
+use Rattle.xmpp_sessions_prefix.proofs.Stamps.{IsStamped, moment_in, moments_found, stamps_agree, takes_apart}
 use Rattle.xmpp_sessions_prefix.proofs.WholeLogs.{prefix_right, tiles_right, unbroken_right}
 use Rattle.xmpp_sessions_prefix.specs.Counted.{AreCounted}
 
@@ -131,7 +130,7 @@ form_of s worlds r run =
       lasts = λ untold. each_account (λ a. a.last ≡ a.count) s worlds r run (λ name. sym (ap length (whole_of s worlds r run (keep_of s.version) (keeps_all s.version untold) name)));
       unbroken = λ untold. each_device (λ d. AllByRecursion (λ l. l.broken ≡ false) d.logged) (keep_of s.version) s.version (owned_of s) (accounts_of (steps_in s)) run.last r g
           (λ i line at. unbroken_right (keep_of s.version) (history_at (owned_of s) run.last.takes at.o.account) at.d line (device_logged s worlds r run i line at)
-            (let few = few_of s worlds r run at.o.account in let wide = keeps_all s.version untold in omega arith) at.is.logged);
+          (let few = few_of s worlds r run at.o.account in let wide = keeps_all s.version untold in omega arith) at.is.logged);
     }
 
 -- Law 1.
@@ -151,8 +150,8 @@ takes_untimed s worlds r run =
     ∙ map-map (take_line s.version) named (map (take_of owned) run.last.takes)
     ∙ map-map (take_of owned) (λ t. named (take_line s.version t)) run.last.takes
     ∙ map_same (λ t. named (line_by s.version owned t)) (λ t. untimed (take_of owned t)) run.last.takes
-      (AllByRecursion-weaker (λ t. IsTakeLine owned r t.device t) (λ t. named (line_by s.version owned t) ≡ untimed (take_of owned t)) (λ t is. named_back owned r s.version t is) run.last.takes
-      (take_lines (keep_of s.version) s.version owned (accounts_of (steps_in s)) run.last r (ground_of s worlds r run)))
+    (AllByRecursion-weaker (λ t. IsTakeLine owned r t.device t) (λ t. named (line_by s.version owned t) ≡ untimed (take_of owned t)) (λ t is. named_back owned r s.version t is) run.last.takes
+    (take_lines (keep_of s.version) s.version owned (accounts_of (steps_in s)) run.last r (ground_of s worlds r run)))
     ∙ sym (map-map (take_of owned) untimed run.last.takes)
 
 abbrev stamp_of : EntryLineView → ℕ
@@ -194,17 +193,18 @@ record OfTake (owned : List Owned) (all : List sessions.Take) (take : Take) : Ty
 numbered_stamped : (owned : List Owned) (all : List sessions.Take) (n : ℕ) (takes : List Take) → AllByRecursion (OfTake owned all) takes → AllByRecursion (IsStamped owned all) (map entry_line (numbered_from n (map entry_of takes)))
 numbered_stamped owned all n [] known = tt
 numbered_stamped owned all n (take ∷ takes) known =
-    let k = known.0 in
-    (record {
-      t = k.t;
-      device = k.device;
-      plain = k.plain;
-      epoch = k.epoch;
-      n = k.n;
-      origin = ap (λ (u : Take). origin_of u.device u.epoch u.n) k.is;
-      stamp = ap (λ (u : Take). u.moment) k.is ∙ k.moment;
-    },
-    numbered_stamped owned all (n + 1) takes known.1)
+    let k = known.0 in (
+      record {
+        t = k.t;
+        device = k.device;
+        plain = k.plain;
+        epoch = k.epoch;
+        n = k.n;
+        origin = ap (λ (u : Take). origin_of u.device u.epoch u.n) k.is;
+        stamp = ap (λ (u : Take). u.moment) k.is ∙ k.moment;
+      },
+      numbered_stamped owned all (n + 1) takes known.1,
+    )
 
 all_four : (P Q R S : sessions.Take → Type 0) → ((x : sessions.Take) → P x → Q x → R x → S x) → (xs : List sessions.Take) → AllByRecursion P xs → AllByRecursion Q xs → AllByRecursion R xs → AllByRecursion S xs
 all_four P Q R S each [] first second third = tt
@@ -220,7 +220,7 @@ takes_known s worlds r run counted =
     (AllByRecursion-weaker (λ name. is_name name ≡ true) (λ name. list_all is_name_byte name ≡ true) (λ name is. name_bytes name is) (devices_of (steps_in s)) (wire_named nothing_above 2 s.lines run.right.lines)) in
     let many = g.many in
     let apart = takes_apart (length owned) run.last.takes within (λ i low.
-      let d = at_place i run.last.devices (omega arith) in (once_in_order run.last g.taken i d.0 d.1).rise) in
+    let d = at_place i run.last.devices (omega arith) in (once_in_order run.last g.taken i d.0 d.1).rise) in
     all_four (λ t. t.device < length owned) (λ t. (t.said.epoch < 2 ^ 64) × (t.said.n < 2 ^ 64)) (λ t. t.moment ≡ moment_in t.device t.said.epoch t.said.n run.last.takes)
     (λ t. OfTake owned run.last.takes (take_of owned t))
     (λ t low counts moment. record {
@@ -344,9 +344,9 @@ lawful_one s worlds r run counted wide =
         whole = whole;
         archives = each_account (λ a. map at_any_time a.entries ≡ map (λ e. at_any_time (entry_line e)) (archive_of a.name (takes_in r))) s worlds r run
             (λ name. ap (λ kept. map at_any_time (map entry_line kept)) (whole_of s worlds r run (keep_of s.version) wide name)
-              ∙ map-map entry_line at_any_time (history_at owned run.last.takes name)
-              ∙ timeless name (map (take_of owned) run.last.takes)
-              ∙ ap (λ takes. map (λ e. at_any_time (entry_line e)) (archive_of name takes)) (sym (takes_untimed s worlds r run)));
+            ∙ map-map entry_line at_any_time (history_at owned run.last.takes name)
+            ∙ timeless name (map (take_of owned) run.last.takes)
+            ∙ ap (λ takes. map (λ e. at_any_time (entry_line e)) (archive_of name takes)) (sym (takes_untimed s worlds r run)));
         stamps = each_account (λ a. IsNonDecreasing (map (λ e. e.stamp) a.entries)) s worlds r run
             (λ name. subst (λ (kept : List EntryView). IsNonDecreasing (map stamp_of (map entry_line kept))) (sym (whole_of s worlds r run (keep_of s.version) wide name)) (stamps_rise s worlds r run name));
         one_stamp = pairs_by_both (IsStamped owned run.last.takes) AgreeOnStamp (stamps_agree owned run.last.takes (names_tell owned g.differ)) (flat_map (λ a. a.entries) r.accounts)

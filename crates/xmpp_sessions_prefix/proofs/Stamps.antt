@@ -1,26 +1,22 @@
 -- Entries of one take, in two archives or in one, have one stamp.
-use Rattle.std.proofs.Common.{◌≡◌, ◌≢◌, ℕ, zero, suc, ◌+◌, ◌<◌, ◌≤◌, ◌==◌, ◌^◌, Bool, true, false, cond, List, [], ◌∷◌, ◌++◌, Option, Some, None, length, get_or, map, decimal, refl, sym, ap, ap₂, ◌∙◌, subst, arith, inl, inr}
-use Rattle.std.proofs.lemmas.Bool.{and_from, and_left, and_parts, and_right, cases_Bool, eq-eqb, eqb-true, false≢true, ne_eqb}
+use Rattle.std.proofs.Common.{◌≡◌, ◌≢◌, ℕ, zero, suc, ◌<◌, ◌==◌, ◌^◌, Bool, true, false, cond, List, [], ◌∷◌, ◌++◌, length, get_or, map, decimal, refl, sym, ap, ap₂, ◌∙◌, subst, arith, inl, inr}
+use Rattle.std.proofs.lemmas.Bool.{and_from, and_left, and_right, cases_Bool, eq-eqb, eqb-true, false≢true, ne_eqb}
 use Rattle.std.proofs.lemmas.Fmt.{decimal_injective, decimal_is_IsNumeral}
 use Rattle.std.proofs.lemmas.List.{append_assoc}
 use Rattle.std.specs.Char.{digit_value}
 use Rattle.std.specs.List.{AllByRecursion, filter}
 use Rattle.std.specs.Prelude.{◌&&◌}
 use Rattle.std.specs.Str.Parse.{AllDigits}
-use Rattle.std.specs.Str.{bytes_eq}
-use Rattle.xmpp_basis.proofs.Lists.{AllByRecursion-weaker}
 use Rattle.xmpp_direct.proofs.LawLists.{fronts_same, is_name_byte}
 use Rattle.std.specs.List.{list_all}
 use Rattle.xmpp_report.specs.Addresses.{origin_of}
 use Rattle.xmpp_report.specs.EntryLines.{EntryLineView}
 use Rattle.xmpp_report.specs.Lawful.{AgreeOnStamp}
-use Rattle.xmpp_report.specs.Lines.{entry_line}
-use Rattle.xmpp_report.specs.Takes.{Take, entry_of, numbered_from}
 use Rattle.xmpp_schedule.specs.Contents.{Owned}
 use Rattle.xmpp_sessions.specs.Devices as sessions
 use Rattle.xmpp_sessions.specs.Kept.{is_of, said_in}
 use Rattle.xmpp_sessions.specs.Laws as machine
-use Rattle.xmpp_sessions_laws.specs.Reported.{name_at, take_of}
+use Rattle.xmpp_sessions_laws.specs.Reported.{name_at}
 
 -- Keys of takes differ.
 
@@ -82,10 +78,11 @@ all_both P Q R each (x ∷ xs) first second = (each x first.0 second.0, all_both
 pub moments_found : (ts : List sessions.Take) → AreApart ts → AllByRecursion (λ t. t.moment ≡ moment_in t.device t.said.epoch t.said.n ts) ts
 moments_found [] apart = tt
 moments_found (t ∷ ts) apart =
-    let hit : has_key t.device t.said.epoch t.said.n t ≡ true = and_from _ _ (eq-eqb t.device t.device refl) (and_from _ _ (eq-eqb t.said.epoch t.said.epoch refl) (eq-eqb t.said.n t.said.n refl)) in
-    (sym (ap (λ b. cond b t.moment (moment_in t.device t.said.epoch t.said.n ts)) hit),
-    all_both (Apart t) (λ u. u.moment ≡ moment_in u.device u.said.epoch u.said.n ts) (λ u. u.moment ≡ moment_in u.device u.said.epoch u.said.n (t ∷ ts))
-    (λ u differs found. found ∙ sym (ap (λ b. cond b t.moment (moment_in u.device u.said.epoch u.said.n ts)) (other_key t u differs))) ts apart.0 (moments_found ts apart.1))
+    let hit : has_key t.device t.said.epoch t.said.n t ≡ true = and_from _ _ (eq-eqb t.device t.device refl) (and_from _ _ (eq-eqb t.said.epoch t.said.epoch refl) (eq-eqb t.said.n t.said.n refl)) in (
+      sym (ap (λ b. cond b t.moment (moment_in t.device t.said.epoch t.said.n ts)) hit),
+      all_both (Apart t) (λ u. u.moment ≡ moment_in u.device u.said.epoch u.said.n ts) (λ u. u.moment ≡ moment_in u.device u.said.epoch u.said.n (t ∷ ts))
+          (λ u differs found. found ∙ sym (ap (λ b. cond b t.moment (moment_in u.device u.said.epoch u.said.n ts)) (other_key t u differs))) ts apart.0 (moments_found ts apart.1),
+    )
 
 -- Origin ids.
 

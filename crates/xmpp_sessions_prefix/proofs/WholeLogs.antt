@@ -1,5 +1,5 @@
 -- Where an archive keeps all, each log is a prefix of it, and the pages are tiles of the log.
-use Rattle.std.proofs.Common.{◌≡◌, ◌≢◌, ℕ, zero, suc, ◌+◌, ◌-◌, ◌<◌, ◌≤◌, ◌==◌, ◌||◌, ◌^◌, min, Bool, true, false, List, [], ◌∷◌, ◌++◌, Option, Some, None, IsTrue, length, drop, take, map, refl, sym, ap, ◌∙◌, subst, arith, inl, inr}
+use Rattle.std.proofs.Common.{◌≡◌, ◌≢◌, ℕ, zero, suc, ◌+◌, ◌-◌, ◌<◌, ◌≤◌, ◌==◌, ◌||◌, true, false, List, [], ◌∷◌, IsTrue, length, drop, take, map, refl, sym, ap, ◌∙◌, subst, arith, inl, inr}
 use Rattle.std.proofs.lemmas.Bool.{cases_Bool, eq-eqb, false≢true}
 use Rattle.std.proofs.lemmas.List.{drop-map, length-drop, length-map, take-map}
 use Rattle.std.proofs.lemmas.Slice.Eq.{bytes_eq-Decides}
@@ -13,14 +13,12 @@ use Rattle.xmpp_direct.proofs.TurnRuns.{line_entry, lines_by}
 use Rattle.xmpp_direct.proofs.Turns.{ends_at, ends_bounds, id_of_entry, length_span, pages_by, run_by}
 use Rattle.xmpp_edge.specs.Names.{is_among}
 use Rattle.xmpp_report.specs.EntryLines.{EntryLineView}
-use Rattle.xmpp_report.specs.Lawful.{AreTiles, EachPair, IsPrefixOf}
-use Rattle.xmpp_report.specs.LawfulRuns.{IsRunsOf}
+use Rattle.xmpp_report.specs.Lawful.{AreTiles, IsPrefixOf}
 use Rattle.xmpp_report.specs.Lines.{entry_line, logged_from, page_line}
 use Rattle.xmpp_report.specs.Reports.{DeviceView}
 use Rattle.xmpp_report.specs.declared.report.HeldLine.{HeldLine}
 use Rattle.xmpp_report.specs.declared.report.LoggedLine.{LoggedLine}
 use Rattle.xmpp_schedule.proofs.Lists.{all_map, map-map}
-use Rattle.xmpp_sessions.proofs.Intervals.{length_behind}
 use Rattle.xmpp_sessions.specs.Answers.{behind}
 use Rattle.xmpp_sessions.specs.Devices as sessions
 use Rattle.xmpp_sessions.specs.Devices.{log_of}
@@ -122,10 +120,10 @@ prefix_right keep history d line entries g wide logged held all =
           (all_map (λ (h : HeldLine). IsTrue (is_among h.id (map (λ e. e.id) (drop (length line.logged) entries)))) held_line d.reading.held
           (AllByRecursion-weaker (λ h. (is_number_among h (log_of d.reading) ≡ false) × (1 ≤ h) × (h ≤ length history)) (λ h. is_among (id_of h) (map line_of_id (drop (length line.logged) entries)) ≡ true)
           (λ h known.
-            let above : 0 + front.end < h = not_among h 0 front.end (ap (is_number_among h) (sym front.numbers) ∙ known.0) known.1 in
-            let top = known.2 in
-            let rest = length-drop front.end history in
-            ap (is_among (id_of h)) behind_ids ∙ id_from (1 + front.end) h (drop front.end history) follow (omega arith) (omega arith))
+          let above : 0 + front.end < h = not_among h 0 front.end (ap (is_number_among h) (sym front.numbers) ∙ known.0) known.1 in
+          let top = known.2 in
+          let rest = length-drop front.end history in
+          ap (is_among (id_of h)) behind_ids ∙ id_from (1 + front.end) h (drop front.end history) follow (omega arith) (omega arith))
           d.reading.held g.log.held));
     }
 

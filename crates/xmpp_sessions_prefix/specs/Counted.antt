@@ -1,5 +1,5 @@
 -- Counts that the programs have in 64 bits.
-use Rattle.std.specs.Prelude.{ℕ, ◌<◌, ◌^◌}
+use Rattle.std.specs.Prelude.{◌<◌, ◌^◌}
 use Rattle.std.specs.List.{AllByRecursion}
 use Rattle.xmpp_sessions.specs.Devices.{Take, World}
 
