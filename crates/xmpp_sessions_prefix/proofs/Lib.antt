@@ -1,0 +1,4 @@
+pub mod Prefixes
+pub mod Stamps
+pub mod WholeLogs
+pub mod LawsOfBoth

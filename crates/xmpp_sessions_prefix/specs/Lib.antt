@@ -1,0 +1,3 @@
+pub use Rattle.xmpp_report.specs.LawfulRuns
+-- Counts of 64 bits.
+pub mod Counted
