@@ -37,3 +37,4 @@ pub mod Seen
 pub mod Worked
 pub mod WorkedEnds
 pub mod Refused
+pub mod Numbers

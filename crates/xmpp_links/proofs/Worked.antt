@@ -1,13 +1,15 @@
 -- Worked runs, by computation: a session is bound, cut, resumed, and lost to a late resumption.
 use Rattle.std.proofs.Common.{◌≡◌, ℕ, true, false, ◌&&◌, if◌then◌else◌, [], ◌∷◌, ◌++◌, length, drop, refl, arith, None, Some}
 use Rattle.xmpp_acks.specs.Delivery.{beginning}
-use Rattle.xmpp_links.specs.Words.{St, Req, up_stanzas, Hdr, Auth, Resp, ResumeAt, Bind, Enable, Up, Head, Feat, Chal, Succ, Resumed, Bound, Enabled, Err, End, Conflict, InHeader1, InFeatures1, InAuth, InResponse, InHeader2, InFeatures2, InResume, InBind, InEnable, InOnline, Start, Sasl, Challenge, Restart, Ready, AtSession}
+use Rattle.xmpp_links.specs.Words.{St, Req, up_stanzas, Hdr, Auth, Resp, ResumeAt, Bind, Enable, Up, Foot, Head, Feat, Chal, Succ, Resumed, Bound, Enabled, Down, Err, End, Conflict, Constraint, InHeader1, InFeatures1, InAuth, InResponse, InHeader2, InFeatures2, InResume, InBind, InEnable, InOnline, Start, Sasl, Challenge, Restart, Ready, AtSession}
 use Rattle.xmpp_links.specs.Wires.{Flow, Stop}
-use Rattle.xmpp_links.specs.Stages.{Stands, Errs}
+use Rattle.xmpp_links.specs.Stages.{Stands, Errs, Closes}
 use Rattle.xmpp_links.specs.Views.{with_at, alter, has, View, carries}
 use Rattle.xmpp_links.specs.LinkMoves.{ways_cut, IsCut, IsLetGo, IsDialled, IsUpHand, IsDownHand, handled_if, IsUpStanza, told_if}
-use Rattle.xmpp_links.specs.SessionMoves.{IsAskResume, IsAskBind, lost_if, IsDetached, unread, IsBound, IsReadBound, IsEnabled, IsReadEnabled, put_if, IsClientPut, resumed_if, IsResumedHere, IsResumedLate, IsReadResumed}
-use Rattle.xmpp_links.specs.Machine.{Cuts, Dials, LetsGo, Puts, ReadsHand, AsksToResume, AsksToBind, ReadsResumed, ReadsBound, ReadsEnabled, TakesHand, TakesResume, TakesLateResume, TakesBind, TakesEnable, TakesStanza, Detaches, nothing_yet, LinkReached}
+use Rattle.xmpp_links.specs.SessionMoves.{IsAskResume, IsAskBind, lost_if, IsDetached, IsRowEnded, unread, IsBound, IsReadBound, IsEnabled, IsReadEnabled, put_if, IsClientPut, resumed_if, IsResumedHere, IsResumedLate, IsReadResumed, IsParked}
+use Rattle.xmpp_links.specs.EndMoves.{IsFootTaken, IsUncountedShut, IsUncountedGone, IsFooted}
+use Rattle.xmpp_links.specs.PutMoves.{IsServerPut}
+use Rattle.xmpp_links.specs.Machine.{Cuts, Dials, LetsGo, Foots, Puts, ReadsHand, AsksToResume, AsksToBind, ReadsResumed, ReadsBound, ReadsEnabled, TakesHand, TakesResume, TakesLateResume, TakesBind, TakesEnable, TakesStanza, TakesFoot, Parks, HearsEarly, Detaches, Shuts, EndsRow, Serves, nothing_yet, LinkReached}
 
 -- a plain dial to Online, and a first stanza
 abbrev pub plain-0 : View ℕ
@@ -80,10 +82,10 @@ pub plain-11-is : IsAskBind 1 plain-10 plain-11
 plain-11-is = record { conn = record { client = InFeatures2; phase = Ready; wires = Flow ([]) (Feat ∷ []); ending = Stands; footed = false; gone = false }; is = refl; here = refl; rest = []; first = refl; client = refl; none = refl; gives = refl }
 
 abbrev pub plain-12 : View ℕ
-plain-12 = record plain-11 { conns = with_at 1 (record { client = InBind; phase = (AtSession 1); wires = Flow ([]) (Bound 1 ∷ []); ending = Stands; footed = false; gone = false }) plain-11.conns; row = Some (record { number = 1; on = Some 1; counted = false; acked = 0; handled = 0; queue = [] }); sessions = with_at 1 unread plain-11.sessions }
+plain-12 = record plain-11 { conns = with_at 1 (record { client = InBind; phase = (AtSession 1); wires = Flow ([]) (Bound 1 ∷ []); ending = Stands; footed = false; gone = false }) plain-11.conns; row = Some (record { number = 1; on = Some 1; counted = false; acked = 0; handled = 0; queue = [] }); sessions = with_at 1 unread plain-11.sessions; free = 2 }
 
 pub plain-12-is : IsBound 1 1 plain-11 plain-12
-plain-12-is = record { conn = record { client = InBind; phase = Ready; wires = Flow (Bind ∷ []) ([]); ending = Stands; footed = false; gone = false }; is = refl; rest = []; first = refl; phase = refl; none = refl; fresh = refl; gives = refl }
+plain-12-is = record { conn = record { client = InBind; phase = Ready; wires = Flow (Bind ∷ []) ([]); ending = Stands; footed = false; gone = false }; is = refl; rest = []; first = refl; phase = refl; none = refl; fresh = refl; rises = omega arith; gives = refl }
 
 abbrev pub plain-13 : View ℕ
 plain-13 = record plain-12 { conns = with_at 1 (record { client = InEnable; phase = (AtSession 1); wires = Flow (Enable ∷ []) ([]); ending = Stands; footed = false; gone = false }) plain-12.conns; epoch = 1; sessions = alter (λ q s. record s { epoch = if has (Some 1) q then Some 1 else s.epoch }) plain-12.sessions }

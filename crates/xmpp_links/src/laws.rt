@@ -8,6 +8,7 @@ ghost use Rattle.xmpp_links.specs.Views.{carries, has, Own, Row, Session, View};
 ghost use Rattle.xmpp_links.specs.EndMoves.{IsTooHigh};
 ghost use Rattle.xmpp_links.specs.Events.{Event, Follows, IsSeenAs, seen};
 ghost use Rattle.xmpp_links.specs.Machine.{LinkMove, LinkMoves, LinkReached, nothing_yet};
+ghost use Rattle.xmpp_links.specs.Numbers.{IsRising};
 ghost use Rattle.xmpp_links.specs.Covers.{IsSettled, PromptReached};
 ghost use Rattle.xmpp_links.specs.Wrong.{binds_beside, resumes_late, sends_all_again, states_acknowledged};
 ghost use Rattle.xmpp_links.specs.Promises.{IsClientEnd, IsExpectedDown, IsExpectedUp, IsServerEnd, IsWithin};
@@ -73,6 +74,13 @@ pub fn empty_pipes_leave_nothing_outstanding<A>()
 pub fn moves_are_events_of_sessions<A>()
     ensures moves { (move : LinkMove A) (v next : View A) → LinkReached v → LinkMoves move v next → (e : Option (Event A)) × IsSeenAs e (seen v) (seen next) }
     ensures runs { (v : View A) → LinkReached v → (es : List (Event A)) × Follows es (seen nothing_yet) (seen v) }
+{}
+
+/// The numbers of sessions rise with their epochs: the session that the server has is the newest, whichever connection
+/// bound it; one of which the client will read first that it was bound is above all that have an epoch; and where the
+/// server's session has an epoch, that is the client's present one.
+pub fn numbers_rise_with_epochs<A>()
+    ensures { (v : View A) → LinkReached v → IsRising v }
 {}
 
 /// Wrong ends come to where no moves lead: a client that sends its whole queue again without regard to the count that it
