@@ -38,3 +38,4 @@ pub mod Worked
 pub mod WorkedEnds
 pub mod Refused
 pub mod Numbers
+pub mod Sums

@@ -7,8 +7,9 @@ ghost use Rattle.xmpp_links.specs.Stages.{Conn};
 ghost use Rattle.xmpp_links.specs.Views.{carries, has, Own, Row, Session, View};
 ghost use Rattle.xmpp_links.specs.EndMoves.{IsTooHigh};
 ghost use Rattle.xmpp_links.specs.Events.{Event, Follows, IsSeenAs, seen};
-ghost use Rattle.xmpp_links.specs.Machine.{LinkMove, LinkMoves, LinkReached, nothing_yet};
+ghost use Rattle.xmpp_links.specs.Machine.{LinkMove, LinkMoves, LinkReached, LinkReaches, nothing_yet};
 ghost use Rattle.xmpp_links.specs.Numbers.{IsRising};
+ghost use Rattle.xmpp_links.specs.Sums.{said_in, served_in};
 ghost use Rattle.xmpp_links.specs.Covers.{IsSettled, PromptReached};
 ghost use Rattle.xmpp_links.specs.Wrong.{binds_beside, resumes_late, sends_all_again, states_acknowledged};
 ghost use Rattle.xmpp_links.specs.Promises.{IsClientEnd, IsExpectedDown, IsExpectedUp, IsServerEnd, IsWithin};
@@ -81,6 +82,13 @@ pub fn moves_are_events_of_sessions<A>()
 /// server's session has an epoch, that is the client's present one.
 pub fn numbers_rise_with_epochs<A>()
     ensures { (v : View A) → LinkReached v → IsRising v }
+{}
+
+/// In no session more stanzas are put than the moves say, by the client and by the server. So where these are fewer than
+/// 2 ^ 32, no count comes to its modulus, since none is above what was put.
+pub fn counts_are_at_most_the_puts<A>()
+    ensures { (moves : List (LinkMove A)) (v : View A) → LinkReaches moves nothing_yet v → (p : ℕ) (s : Session A) → v.sessions p ≡ Some s →
+        (length s.up.put ≤ said_in moves) × (length s.down.put ≤ served_in moves) }
 {}
 
 /// Wrong ends come to where no moves lead: a client that sends its whole queue again without regard to the count that it
