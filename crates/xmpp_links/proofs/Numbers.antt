@@ -1,9 +1,9 @@
 -- Each move keeps that the numbers of sessions rise with their epochs.
-use Rattle.std.proofs.Common.{◌≡◌, ◌≢◌, ℕ, ◌+◌, ◌-◌, ◌≤◌, Bool, true, false, ◌&&◌, List, [], ◌∷◌, ◌++◌, length, drop, map, refl, sym, ap, ◌∙◌, subst, arith, ◌⊎◌, inl, inr, Option, None, Some, nat_eq}
-use Rattle.std.proofs.lemmas.Bool.{cases_Bool, cases_eq}
-use Rattle.xmpp_links.proofs.Entries.{same_number, other_number, at_same, Entry, New, Old, entry, was, altered, has_is, is_has}
-use Rattle.xmpp_links.proofs.Tables.{left_up_whole, left_down_whole, NextDown, LeadsDown, client_leads, early_plain, NextUp, LeadsUp, server_leads}
-use Rattle.xmpp_links.proofs.CutLinks.{not_true, some_one, some_same}
+use Rattle.std.proofs.Common.{◌≡◌, ℕ, ◌+◌, ◌≤◌, false, ◌&&◌, List, [], ◌∷◌, ◌++◌, refl, sym, ap, ◌∙◌, subst, arith, ◌⊎◌, inl, inr, None, Some}
+use Rattle.std.proofs.lemmas.Bool.{cases_eq}
+use Rattle.xmpp_links.proofs.Entries.{other_number, at_same, Entry, New, Old, entry, was, is_has}
+use Rattle.xmpp_links.proofs.Tables.{left_up_whole, left_down_whole, NextDown, LeadsDown, client_leads, NextUp, LeadsUp, server_leads}
+use Rattle.xmpp_links.proofs.CutLinks.{some_same}
 use Rattle.xmpp_links.proofs.Hands.{no_entry, beginning_keeps}
 use Rattle.xmpp_links.proofs.Detached.{first_whole}
 use Rattle.xmpp_links.proofs.Resumption.{asks}
@@ -17,10 +17,10 @@ use Rattle.xmpp_links.proofs.ReadEnabled.{known_if}
 use Rattle.xmpp_links.proofs.ReadResumed.{resent_if}
 use Rattle.xmpp_links.proofs.Asking.{at_features, at_refused}
 use Rattle.xmpp_links.proofs.Reached.{move_keeps}
-use Rattle.xmpp_links.specs.Words.{UpWord, ResumeAt, Bind, DownWord, Feat, Failed, Bound, Client, Enable, InHeader1, InFeatures2, InBind, InEnable, InResume, InOnline, Ready, AtSession, up_stanzas, down_stanzas}
+use Rattle.xmpp_links.specs.Words.{UpWord, ResumeAt, DownWord, Failed, Bound, Enable, InFeatures2, InBind, InEnable, InResume, Ready, AtSession, up_stanzas, down_stanzas}
 use Rattle.xmpp_links.specs.Wires.{is_flowing, up_words, down_words, up_whole, down_whole, send_up, send_down, left_up, left_down}
-use Rattle.xmpp_links.specs.Stages.{Stage, Greets, Greeted, Offered, Proves, Challenged, Answers, Succeeded, Regreets, Regreeted, Reoffered, AsksResume, Refused, Resumes, AsksBind, Binds, AsksEnable, Enables, Runs, client_of, phase_of, up_of, down_of, Hand, Goes, server_hand, client_hand, Ending, Stands, Errs, Closes, tail_of, foot_of, Conn, IsAt, IsPlain, IsEarly}
-use Rattle.xmpp_links.specs.Views.{Table, with_at, alter, has, Session, Row, Own, View, carries}
+use Rattle.xmpp_links.specs.Stages.{Stage, AsksResume, Refused, Resumes, AsksBind, Binds, AsksEnable, Enables, Runs, client_of, phase_of, up_of, down_of, Goes, server_hand, client_hand, Ending, Stands, Errs, Closes, tail_of, foot_of, Conn, IsAt, IsPlain, IsEarly}
+use Rattle.xmpp_links.specs.Views.{with_at, alter, has, Session, Row, View, carries}
 use Rattle.xmpp_links.specs.LinkMoves.{ways_cut, handled_if, stated_if, acked_if, read_if, told_if, heard_if, dialled, IsUpHand, IsDownHand}
 use Rattle.xmpp_links.specs.SessionMoves.{lost_if, unread, resumed_if, IsBound, IsReadBound}
 use Rattle.xmpp_links.specs.Links.{FitsOwn, ConnKept, LinkKept}

@@ -1,5 +1,5 @@
 -- No more stanzas are put in a session than moves put them.
-use Rattle.std.proofs.Common.{◌≡◌, ℕ, ◌+◌, ◌≤◌, Bool, true, false, ◌&&◌, if◌then◌else◌, List, [], ◌∷◌, ◌++◌, length, refl, sym, ap, ◌∙◌, subst, arith, Option, None, Some, nat_eq}
+use Rattle.std.proofs.Common.{◌≡◌, ℕ, ◌+◌, ◌≤◌, Bool, true, false, ◌&&◌, if◌then◌else◌, List, [], ◌∷◌, ◌++◌, length, refl, sym, ap, ◌∙◌, subst, arith, Some}
 use Rattle.std.proofs.lemmas.List.{length_push}
 use Rattle.xmpp_links.proofs.Entries.{Entry, New, Old, entry, was}
 use Rattle.xmpp_links.proofs.Hands.{no_entry}
@@ -14,7 +14,7 @@ use Rattle.xmpp_links.specs.Words.{up_stanzas, down_stanzas}
 use Rattle.xmpp_links.specs.Wires.{is_flowing}
 use Rattle.xmpp_links.specs.Views.{Table, with_at, alter, has, Session, View, carries}
 use Rattle.xmpp_links.specs.LinkMoves.{ways_cut, handled_if, stated_if, acked_if, read_if, told_if, heard_if}
-use Rattle.xmpp_links.specs.SessionMoves.{lost_if, unread, resumed_if, put_if}
+use Rattle.xmpp_links.specs.SessionMoves.{lost_if, unread, resumed_if}
 use Rattle.xmpp_links.specs.Machine.{LinkMove, Cuts, Dials, LetsGo, Foots, Forgets, Puts, Queues, Requests, ReadsHand, AsksToResume, AsksToBind, ReadsFailed, ReadsResumed, ReadsBound, ReadsEnabled, ReadsStanza, ReadsRequest, ReadsCount, TakesHand, TakesResume, TakesLateResume, TakesStrangeResume, TakesHighResume, TakesBind, TakesEnable, TakesStanza, TakesRequest, TakesCount, TakesFoot, Parks, Hears, HearsEarly, Detaches, Shuts, EndsRow, Serves, Keeps, Demands, LinkMoves, nothing_yet, LinkReaches}
 use Rattle.xmpp_links.specs.Sums.{says, serves, said_in, served_in}
 

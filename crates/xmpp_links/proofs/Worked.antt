@@ -1,15 +1,13 @@
 -- Worked runs, by computation: a session is bound, cut, resumed, and lost to a late resumption.
 use Rattle.std.proofs.Common.{◌≡◌, ℕ, true, false, ◌&&◌, if◌then◌else◌, [], ◌∷◌, ◌++◌, length, drop, refl, arith, None, Some}
 use Rattle.xmpp_acks.specs.Delivery.{beginning}
-use Rattle.xmpp_links.specs.Words.{St, Req, up_stanzas, Hdr, Auth, Resp, ResumeAt, Bind, Enable, Up, Foot, Head, Feat, Chal, Succ, Resumed, Bound, Enabled, Down, Err, End, Conflict, Constraint, InHeader1, InFeatures1, InAuth, InResponse, InHeader2, InFeatures2, InResume, InBind, InEnable, InOnline, Start, Sasl, Challenge, Restart, Ready, AtSession}
+use Rattle.xmpp_links.specs.Words.{St, Req, up_stanzas, Hdr, Auth, Resp, ResumeAt, Bind, Enable, Up, Head, Feat, Chal, Succ, Resumed, Bound, Enabled, Err, End, Conflict, InHeader1, InFeatures1, InAuth, InResponse, InHeader2, InFeatures2, InResume, InBind, InEnable, InOnline, Start, Sasl, Challenge, Restart, Ready, AtSession}
 use Rattle.xmpp_links.specs.Wires.{Flow, Stop}
-use Rattle.xmpp_links.specs.Stages.{Stands, Errs, Closes}
+use Rattle.xmpp_links.specs.Stages.{Stands, Errs}
 use Rattle.xmpp_links.specs.Views.{with_at, alter, has, View, carries}
 use Rattle.xmpp_links.specs.LinkMoves.{ways_cut, IsCut, IsLetGo, IsDialled, IsUpHand, IsDownHand, handled_if, IsUpStanza, told_if}
-use Rattle.xmpp_links.specs.SessionMoves.{IsAskResume, IsAskBind, lost_if, IsDetached, IsRowEnded, unread, IsBound, IsReadBound, IsEnabled, IsReadEnabled, put_if, IsClientPut, resumed_if, IsResumedHere, IsResumedLate, IsReadResumed, IsParked}
-use Rattle.xmpp_links.specs.EndMoves.{IsFootTaken, IsUncountedShut, IsUncountedGone, IsFooted}
-use Rattle.xmpp_links.specs.PutMoves.{IsServerPut}
-use Rattle.xmpp_links.specs.Machine.{Cuts, Dials, LetsGo, Foots, Puts, ReadsHand, AsksToResume, AsksToBind, ReadsResumed, ReadsBound, ReadsEnabled, TakesHand, TakesResume, TakesLateResume, TakesBind, TakesEnable, TakesStanza, TakesFoot, Parks, HearsEarly, Detaches, Shuts, EndsRow, Serves, nothing_yet, LinkReached}
+use Rattle.xmpp_links.specs.SessionMoves.{IsAskResume, IsAskBind, lost_if, IsDetached, unread, IsBound, IsReadBound, IsEnabled, IsReadEnabled, put_if, IsClientPut, resumed_if, IsResumedHere, IsResumedLate, IsReadResumed}
+use Rattle.xmpp_links.specs.Machine.{Cuts, Dials, LetsGo, Puts, ReadsHand, AsksToResume, AsksToBind, ReadsResumed, ReadsBound, ReadsEnabled, TakesHand, TakesResume, TakesLateResume, TakesBind, TakesEnable, TakesStanza, Detaches, nothing_yet, LinkReached}
 
 -- a plain dial to Online, and a first stanza
 abbrev pub plain-0 : View ℕ

@@ -1,15 +1,15 @@
 -- Worked runs, by computation: late binds and late words, footers, and a full queue.
-use Rattle.std.proofs.Common.{◌≡◌, ℕ, true, false, ◌&&◌, if◌then◌else◌, [], ◌∷◌, ◌++◌, length, drop, refl, arith, None, Some}
+use Rattle.std.proofs.Common.{◌≡◌, ℕ, true, false, ◌&&◌, if◌then◌else◌, [], ◌∷◌, refl, arith, None, Some}
 use Rattle.xmpp_acks.specs.Delivery.{beginning}
-use Rattle.xmpp_links.specs.Words.{St, Req, up_stanzas, Hdr, Auth, Resp, ResumeAt, Bind, Enable, Up, Foot, Head, Feat, Chal, Succ, Resumed, Bound, Enabled, Down, Err, End, Conflict, Constraint, InHeader1, InFeatures1, InAuth, InResponse, InHeader2, InFeatures2, InResume, InBind, InEnable, InOnline, Start, Sasl, Challenge, Restart, Ready, AtSession}
+use Rattle.xmpp_links.specs.Words.{St, Hdr, Auth, Resp, Bind, Enable, Foot, Head, Feat, Chal, Succ, Bound, Enabled, Down, Err, End, Conflict, Constraint, InHeader1, InFeatures1, InAuth, InResponse, InHeader2, InFeatures2, InBind, InEnable, InOnline, Start, Sasl, Challenge, Restart, Ready, AtSession}
 use Rattle.xmpp_links.specs.Wires.{Flow, Stop}
 use Rattle.xmpp_links.specs.Stages.{Stands, Errs, Closes}
 use Rattle.xmpp_links.specs.Views.{with_at, alter, has, View, carries}
-use Rattle.xmpp_links.specs.LinkMoves.{ways_cut, IsCut, IsLetGo, IsDialled, IsUpHand, IsDownHand, handled_if, IsUpStanza, told_if}
-use Rattle.xmpp_links.specs.SessionMoves.{IsAskResume, IsAskBind, lost_if, IsDetached, IsRowEnded, unread, IsBound, IsReadBound, IsEnabled, IsReadEnabled, put_if, IsClientPut, resumed_if, IsResumedHere, IsResumedLate, IsReadResumed, IsParked}
+use Rattle.xmpp_links.specs.LinkMoves.{ways_cut, IsCut, IsLetGo, IsDialled, IsUpHand, IsDownHand}
+use Rattle.xmpp_links.specs.SessionMoves.{IsAskBind, lost_if, IsDetached, IsRowEnded, unread, IsBound, IsReadBound, IsEnabled, IsReadEnabled, put_if, IsParked}
 use Rattle.xmpp_links.specs.EndMoves.{IsFootTaken, IsUncountedShut, IsUncountedGone, IsFooted}
 use Rattle.xmpp_links.specs.PutMoves.{IsServerPut}
-use Rattle.xmpp_links.specs.Machine.{Cuts, Dials, LetsGo, Foots, Puts, ReadsHand, AsksToResume, AsksToBind, ReadsResumed, ReadsBound, ReadsEnabled, TakesHand, TakesResume, TakesLateResume, TakesBind, TakesEnable, TakesStanza, TakesFoot, Parks, HearsEarly, Detaches, Shuts, EndsRow, Serves, nothing_yet, LinkReached}
+use Rattle.xmpp_links.specs.Machine.{Cuts, Dials, LetsGo, Foots, ReadsHand, AsksToBind, ReadsBound, ReadsEnabled, TakesHand, TakesBind, TakesEnable, TakesFoot, Parks, HearsEarly, Detaches, Shuts, EndsRow, Serves, nothing_yet, LinkReached}
 
 -- a late bind makes a session without an epoch, and the client reads an older bind result afterwards
 abbrev pub binds-0 : View ℕ

@@ -1,5 +1,5 @@
 -- The numbers of sessions rise with their epochs.
-use Rattle.std.specs.Prelude.{◌≡◌, ℕ, ◌+◌, ◌≤◌, List, [], ◌∷◌, Option, None, Some}
+use Rattle.std.specs.Prelude.{◌≡◌, ℕ, ◌+◌, ◌≤◌, List, ◌∷◌, Option, None, Some}
 use Rattle.xmpp_links.specs.Words.{DownWord, Bound, Client, InBind}
 use Rattle.xmpp_links.specs.Wires.{down_whole}
 use Rattle.xmpp_links.specs.Stages.{Conn}
