@@ -48,7 +48,7 @@ brought_row _ end m e = no_entry m e
 is_binds : {A : Type 0} (s : Stage A) (c : Conn A) (m : ℕ) → IsAt s c → brings c ≡ Some m → s ≡ Binds m
 is_binds s c m at e = brought_row s c.ending m (sym (ap (λ x. brought_by x (down_whole c.wires)) at.client ∙ ap (brought_by (client_of s)) at.down) ∙ e)
 
-binds_brings : {A : Type 0} (s : Stage A) (c : Conn A) (m : ℕ) → IsAt s c → s ≡ Binds m → brings c ≡ Some m
+pub binds_brings : {A : Type 0} (s : Stage A) (c : Conn A) (m : ℕ) → IsAt s c → s ≡ Binds m → brings c ≡ Some m
 binds_brings s c m at is =
     let row : IsAt (Binds m) c = subst (λ x. IsAt x c) is at in
     ap (λ x. brought_by x (down_whole c.wires)) row.client ∙ ap (brought_by InBind) row.down
@@ -323,7 +323,7 @@ move_rises (ReadsBound k number) v next m kept rising = read_bound_rises k numbe
 move_rises (TakesHand k) v next m kept rising = taken_hand_rises k v next m kept rising
 move_rises (TakesBind k number) v next m kept rising = bound_rises k number v next m kept rising
 
-beginning_rises : {A : Type 0} → IsRising {A = A} nothing_yet
+pub beginning_rises : {A : Type 0} → IsRising {A = A} nothing_yet
 beginning_rises = record { given = λ q s is. no_entry s is; newest = λ r is q s found. no_entry r is; above = λ k m c here is e q n s found named. no_entry c is; present = λ r is s e found named. no_entry r is }
 
 rises_along : {A : Type 0} (moves : List (LinkMove A)) (v last : View A) → LinkKept v → IsRising v → LinkReaches moves v last → IsRising last
