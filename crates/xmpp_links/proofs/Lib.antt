@@ -39,3 +39,4 @@ pub mod WorkedEnds
 pub mod Refused
 pub mod Numbers
 pub mod Sums
+pub mod Taking
