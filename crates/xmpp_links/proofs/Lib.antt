@@ -40,3 +40,4 @@ pub mod Refused
 pub mod Numbers
 pub mod Sums
 pub mod Taking
+pub mod Reading

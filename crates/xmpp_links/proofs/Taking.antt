@@ -1,24 +1,24 @@
 -- The server can take each word that comes.
-use Rattle.std.proofs.Common.{◌≡◌, ◌≢◌, ℕ, ◌+◌, ◌-◌, ◌≤◌, Bool, true, false, ◌&&◌, List, [], ◌∷◌, ◌++◌, length, drop, map, refl, sym, ap, ◌∙◌, subst, arith, ◌⊎◌, inl, inr, Option, None, Some}
+use Rattle.std.proofs.Common.{◌≡◌, ◌≢◌, ℕ, ◌+◌, ◌-◌, ◌≤◌, true, false, ◌&&◌, List, [], ◌∷◌, drop, map, refl, sym, ap, ◌∙◌, subst, arith, ◌⊎◌, inl, inr, Option, None, Some}
 use Rattle.std.proofs.lemmas.Bool.{cases_Bool, cases_eq, leb-true, leb-false}
 use Rattle.std.proofs.Math.Dec.{leb}
 use Rattle.xmpp_links.proofs.Entries.{at_same, at_other, was, has_is}
-use Rattle.xmpp_links.proofs.CutLinks.{not_true, some_one, some_same}
+use Rattle.xmpp_links.proofs.CutLinks.{some_one, some_same}
 use Rattle.xmpp_links.proofs.Hands.{no_entry, up_words_down}
 use Rattle.xmpp_links.proofs.Detached.{halted_up, first_whole}
 use Rattle.xmpp_links.proofs.Resumption.{asks}
 use Rattle.xmpp_links.proofs.Late.{late_if}
 use Rattle.xmpp_links.proofs.Enabling.{enabled_if}
 use Rattle.xmpp_links.proofs.Expected.{expected_up}
-use Rattle.xmpp_links.specs.Words.{Traffic, St, Req, Ack, UpWord, Hdr, Auth, Resp, ResumeAt, Bind, Enable, Up, Foot, DownWord, Head, Feat, Chal, Succ, Failed, Resumed, Bound, Enabled, Down, Conflict, TooHigh, up_stanzas, Phase, Start, Sasl, Challenge, Restart, Ready, AtSession}
+use Rattle.xmpp_links.specs.Words.{Traffic, St, Req, Ack, UpWord, Hdr, Auth, Resp, ResumeAt, Bind, Enable, Up, Foot, DownWord, Head, Feat, Chal, Succ, Failed, Resumed, Bound, Enabled, Down, Conflict, TooHigh, up_stanzas, Phase, Sasl, Challenge, Restart, Ready, AtSession}
 use Rattle.xmpp_links.specs.Wires.{is_flowing, up_words, send_down, left_up}
-use Rattle.xmpp_links.specs.Stages.{Stage, AsksResume, Goes, server_hand, Ending, Errs, Closes, tail_of, foot_of, Conn}
+use Rattle.xmpp_links.specs.Stages.{AsksResume, Goes, server_hand, Errs, Closes, tail_of, Conn}
 use Rattle.xmpp_links.specs.Views.{with_at, alter, has, Session, Row, View, on_phase, session_on, carries}
 use Rattle.xmpp_links.specs.SessionMoves.{shut, lost_if, unread, resumed_if}
 use Rattle.xmpp_links.specs.LinkMoves.{handled_if, stated_if, acked_if}
 use Rattle.xmpp_links.specs.Links.{IsAsked, IsPlaced, ConnKept, GoesUp, RowKept, LinkKept}
 use Rattle.xmpp_links.specs.Numbers.{IsRising}
-use Rattle.xmpp_links.specs.Machine.{LinkMove, TakesHand, TakesResume, TakesLateResume, TakesStrangeResume, TakesHighResume, TakesBind, TakesEnable, TakesStanza, TakesRequest, TakesCount, TakesFoot, Detaches, Shuts, EndsRow, LinkMoves, LinkReaches}
+use Rattle.xmpp_links.specs.Machine.{LinkMove, TakesHand, TakesResume, TakesLateResume, TakesStrangeResume, TakesHighResume, TakesBind, TakesEnable, TakesStanza, TakesRequest, TakesCount, TakesFoot, Detaches, Shuts, EndsRow, LinkMoves}
 use Rattle.xmpp_links.specs.Promises.{IsExpectedUp, IsTaken}
 
 -- one move more before
@@ -40,11 +40,14 @@ by_hand v k c w rest phase puts is first hand =
 other_conn : {A : Type 0} (v : View A) (k j : ℕ) (c : Conn A) (r : Row A) → LinkKept v → v.conns k ≡ Some c → c.phase ≡ Ready → v.row ≡ Some r → r.on ≡ Some j → (d : Conn A) × (v.conns j ≡ Some d) × (j ≢ k)
 other_conn {A = A} v k j c r kept is ready is_row on =
     let row = kept.row r is_row in
-    let placed : (d : Conn A) × (v.conns j ≡ Some d) × (session_on d ≡ Some r.number) × (row.session.counted ≡ true → GoesUp d row.session) = subst (λ o. IsPlaced v.conns r row.session o) on row.placed in
-    (placed.0, placed.1, λ same.
-      let one : placed.0 ≡ c = some_one (v.conns k) placed.0 c (subst (λ n. v.conns n ≡ Some placed.0) same placed.1) is in
-      let held : session_on c ≡ Some r.number = subst (λ x. session_on x ≡ Some r.number) one placed.2 in
-      no_entry r.number (sym (ap (λ x. on_phase x c.ending c.gone) ready) ∙ held))
+    let placed : (d : Conn A) × (v.conns j ≡ Some d) × (session_on d ≡ Some r.number) × (row.session.counted ≡ true → GoesUp d row.session) = subst (λ o. IsPlaced v.conns r row.session o) on row.placed in (
+      placed.0,
+      placed.1,
+      λ same.
+          let one : placed.0 ≡ c = some_one (v.conns k) placed.0 c (subst (λ n. v.conns n ≡ Some placed.0) same placed.1) is in
+          let held : session_on c ≡ Some r.number = subst (λ x. session_on x ≡ Some r.number) one placed.2 in
+          no_entry r.number (sym (ap (λ x. on_phase x c.ending c.gone) ready) ∙ held),
+    )
 
 -- a bind
 

@@ -12,7 +12,7 @@ ghost use Rattle.xmpp_links.specs.Numbers.{IsRising};
 ghost use Rattle.xmpp_links.specs.Sums.{said_in, served_in};
 ghost use Rattle.xmpp_links.specs.Covers.{IsSettled, PromptReached};
 ghost use Rattle.xmpp_links.specs.Wrong.{binds_beside, resumes_late, sends_all_again, states_acknowledged};
-ghost use Rattle.xmpp_links.specs.Promises.{IsClientEnd, IsExpectedDown, IsExpectedUp, IsServerEnd, IsWithin};
+ghost use Rattle.xmpp_links.specs.Promises.{IsClientEnd, IsExpectedDown, IsExpectedUp, IsRead, IsServerEnd, IsTaken, IsWithin};
 
 /// Of each session that a device ever had, both directions are those of acknowledged delivery: what the one end handled
 /// is a prefix of what the other end put, and no more is acknowledged than was handled. The server's row and the
@@ -52,12 +52,16 @@ pub fn counts_are_too_high_only_where_the_client_left<A>()
 
 /// Each word comes where its reader expects it, so that neither end answers one by ending the stream. The server's
 /// stream errors that the client reads are `conflict` and `resource-constraint` (RFC 6120, section 4.9.3), and a footer
-/// never comes to it alone.
+/// never comes to it alone. There are moves by which each word is taken from its pipe (`taken`, `read`).
 pub fn words_come_where_they_are_expected<A>()
     ensures up { (v : View A) (k : ℕ) (c : Conn A) (w : UpWord A) (rest : List (UpWord A)) → LinkReached v → v.conns k ≡ Some c →
         up_words c.wires ≡ w ∷ rest → IsExpectedUp v k c.phase w }
     ensures down { (v : View A) (k : ℕ) (c : Conn A) (w : DownWord A) (rest : List (DownWord A)) → LinkReached v → v.here ≡ Some k → v.conns k ≡ Some c →
         down_words c.wires ≡ w ∷ rest → IsExpectedDown v c.client w }
+    ensures taken { (v : View A) (k : ℕ) (c : Conn A) (w : UpWord A) (rest : List (UpWord A)) → LinkReached v → v.conns k ≡ Some c →
+        up_words c.wires ≡ w ∷ rest → IsTaken v k rest }
+    ensures read { (v : View A) (k : ℕ) (c : Conn A) (w : DownWord A) (rest : List (DownWord A)) → LinkReached v → v.here ≡ Some k → v.conns k ≡ Some c →
+        down_words c.wires ≡ w ∷ rest → IsRead v k rest }
 {}
 
 /// Where a connection that the client works on has not ended and nothing stands in its pipes, nothing is outstanding:
