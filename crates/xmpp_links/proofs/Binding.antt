@@ -1,5 +1,5 @@
 -- The server binds a new session, early or late.
-use Rattle.std.proofs.Common.{◌≡◌, ℕ, Bool, true, false, List, [], ◌∷◌, ◌++◌, length, refl, sym, ap, ◌∙◌, subst, ◌⊎◌, inl, inr, Option, None, Some}
+use Rattle.std.proofs.Common.{◌≡◌, ℕ, ◌+◌, Bool, true, false, List, [], ◌∷◌, ◌++◌, length, refl, sym, ap, ◌∙◌, subst, ◌⊎◌, inl, inr, Option, None, Some}
 use Rattle.std.proofs.lemmas.Bool.{cases_Bool, cases_eq}
 use Rattle.std.specs.List.{Contains}
 use Rattle.xmpp_links.proofs.Entries.{at_same, at_other, Entry, New, Old, entry}
@@ -153,9 +153,9 @@ bound_keeps {A = A} k number v next m kept = subst LinkKept (sym m.gives) (recor
       placed = (this, at_same k this v.conns, ap (λ x. on_phase (AtSession number) x m.conn.gone) stands ∙ ap (λ x. on_phase (AtSession number) Stands x) told, λ e. absurd (let no_way : ⊥ = cc in no_way));
     }
 
-    conn : (n : ℕ) (d : Conn A) → Entry k this v.conns n d → ConnKept (record v { conns = with_at k this v.conns; row = Some new; sessions = with_at number unread v.sessions }) n d
+    conn : (n : ℕ) (d : Conn A) → Entry k this v.conns n d → ConnKept (record v { conns = with_at k this v.conns; row = Some new; sessions = with_at number unread v.sessions; free = number + 1 }) n d
     conn n d (New same is) =
-        let here : ConnKept (record v { conns = with_at k this v.conns; row = Some new; sessions = with_at number unread v.sessions }) k this = record {
+        let here : ConnKept (record v { conns = with_at k this v.conns; row = Some new; sessions = with_at number unread v.sessions; free = number + 1 }) k this = record {
           piped = piped_up (has v.here k) m.conn Bind m.rest (AtSession number) (Bound number ∷ []) m.first old.piped;
           stage = Binds number;
           at = record {
@@ -170,7 +170,7 @@ bound_keeps {A = A} k number v next m kept = subst LinkKept (sym m.gives) (recor
           uncounted = λ r f on e. subst (λ (x : Row A). x.counted ≡ false) (some_same new r f) refl;
           counting = λ r f on p e. no_entry p e;
         } in
-        subst (λ x. ConnKept (record v { conns = with_at k this v.conns; row = Some new; sessions = with_at number unread v.sessions }) x d) same (subst (λ x. ConnKept (record v { conns = with_at k this v.conns; row = Some new; sessions = with_at number unread v.sessions }) k x) is here)
+        subst (λ x. ConnKept (record v { conns = with_at k this v.conns; row = Some new; sessions = with_at number unread v.sessions; free = number + 1 }) x d) same (subst (λ x. ConnKept (record v { conns = with_at k this v.conns; row = Some new; sessions = with_at number unread v.sessions; free = number + 1 }) k x) is here)
     conn n d (Old ne there) =
         let before = kept.conns n d there in
         record {
@@ -192,16 +192,16 @@ bound_keeps {A = A} k number v next m kept = subst LinkKept (sym m.gives) (recor
     down n d q here carried (New same is) = absurd (silent (send_down (Bound number ∷ []) (left_up m.rest m.conn.wires)) q (subst (λ x. carries x ≡ Some q) (sym is) carried))
     down n d q here carried (Old ne there) = let before = kept.goes_down n d q here there carried in (before.0, more number v.sessions q before.0 m.fresh before.1, before.2)
 
-    carried_on : (q : ℕ) → IsCarried v q → IsCarried (record v { conns = with_at k this v.conns; row = Some new; sessions = with_at number unread v.sessions }) q
+    carried_on : (q : ℕ) → IsCarried v q → IsCarried (record v { conns = with_at k this v.conns; row = Some new; sessions = with_at number unread v.sessions; free = number + 1 }) q
     carried_on q (n, d, here, found, carried) = by (cases_eq k n)
       where
-        by : (k ≡ n) ⊎ (k ≡ n → ⊥) → IsCarried (record v { conns = with_at k this v.conns; row = Some new; sessions = with_at number unread v.sessions }) q
+        by : (k ≡ n) ⊎ (k ≡ n → ⊥) → IsCarried (record v { conns = with_at k this v.conns; row = Some new; sessions = with_at number unread v.sessions; free = number + 1 }) q
         by (inl same) =
             let one : d ≡ m.conn = some_one (v.conns k) d m.conn (subst (λ x. v.conns x ≡ Some d) (sym same) found) m.is in
             absurd (silent m.conn.wires q (subst (λ x. carries x ≡ Some q) one carried))
         by (inr ne) = (n, d, here, at_other k this v.conns n ne ∙ found, carried)
 
-    back : (q : ℕ) → IsCarried (record v { conns = with_at k this v.conns; row = Some new; sessions = with_at number unread v.sessions }) q → IsCarried v q
+    back : (q : ℕ) → IsCarried (record v { conns = with_at k this v.conns; row = Some new; sessions = with_at number unread v.sessions; free = number + 1 }) q → IsCarried v q
     back q (n, d, here, found, carried) = by (entry k this v.conns n d found)
       where
         by : Entry k this v.conns n d → IsCarried v q
@@ -212,7 +212,7 @@ bound_keeps {A = A} k number v next m kept = subst LinkKept (sym m.gives) (recor
     quiet_up q s counted (New same this) = absurd (not_true {b = s.counted} (ap (λ (x : Session A). x.counted) (sym this)) counted)
     quiet_up q s counted (Old ne there) = elim (kept.quiet_up q s there counted) [ inl quiet ↦ inl quiet | inr x ↦ absurd (no_row x.0 x.1) ]
 
-    quiet_down : (q : ℕ) (s : Session A) → s.counted ≡ true → Entry number unread v.sessions q s → IsQuiet s.down ⊎ IsCarried (record v { conns = with_at k this v.conns; row = Some new; sessions = with_at number unread v.sessions }) q
+    quiet_down : (q : ℕ) (s : Session A) → s.counted ≡ true → Entry number unread v.sessions q s → IsQuiet s.down ⊎ IsCarried (record v { conns = with_at k this v.conns; row = Some new; sessions = with_at number unread v.sessions; free = number + 1 }) q
     quiet_down q s counted (New same this) = absurd (not_true {b = s.counted} (ap (λ (x : Session A). x.counted) (sym this)) counted)
     quiet_down q s counted (Old ne there) = elim (kept.quiet_down q s there counted) [ inl quiet ↦ inl quiet | inr x ↦ inr (carried_on q x) ]
 

@@ -1,16 +1,9 @@
 -- Ways that are cut.
-use Rattle.std.proofs.Common.{◌≡◌, ℕ, zero, suc, Bool, true, false, List, [], ◌∷◌, ◌++◌, length, take, refl, ap, subst}
-use Rattle.xmpp_acks.specs.Delivery.{beginning, Direction, Move, Moves, Reaches, Reached, Cut}
+use Rattle.std.proofs.Common.{◌≡◌, ℕ, zero, suc, Bool, true, false, List, [], ◌∷◌, length, take, refl, ap}
+use Rattle.xmpp_acks.specs.Delivery.{Direction, Reached, Cut}
+use Rattle.xmpp_delivery.proofs.Runs.{reached_more}
 use Rattle.xmpp_links.specs.Words.{St, Req, Ack, UpWord, Hdr, Auth, Resp, ResumeAt, Bind, Enable, Up, Foot, DownWord, Head, Feat, Chal, Succ, Failed, Resumed, Bound, Enabled, Down, Err, End, up_stanzas, down_stanzas}
 use Rattle.xmpp_links.specs.Views.{cut_if}
-
--- one move more
-reaches_more : {A : Type 0} (moves : List (Move A)) (move : Move A) (d last next : Direction A) → Reaches moves d last → Moves move last next → Reaches (moves ++ move ∷ []) d next
-reaches_more [] move d last next along by = (next, subst (λ x. Moves move x next) along by, refl)
-reaches_more (m ∷ moves) move d last next along by = (along.0, along.1, reaches_more moves move along.0 last next along.2 by)
-
-pub reached_more : {A : Type 0} (move : Move A) (d next : Direction A) → Reached d → Moves move d next → Reached next
-reached_more move d next reached by = record { moves = reached.moves ++ move ∷ []; reaches = reaches_more reached.moves move beginning d next reached.reaches by }
 
 pub reached_cut_if : {A : Type 0} (b : Bool) (n : ℕ) (d : Direction A) → Reached d → Reached (cut_if b n d)
 reached_cut_if false n d reached = reached

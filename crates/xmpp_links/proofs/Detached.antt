@@ -4,7 +4,8 @@ use Rattle.std.proofs.lemmas.Bool.{cases_eq}
 use Rattle.std.specs.List.{Contains}
 use Rattle.xmpp_acks.specs.Delivery.{Reached, Cut}
 use Rattle.xmpp_links.proofs.Entries.{same_number, at_same, at_other, Entry, New, Old, entry, was, altered, has_is, is_has}
-use Rattle.xmpp_links.proofs.Cuts.{reached_more, reached_cut_if}
+use Rattle.xmpp_delivery.proofs.Runs.{reached_more}
+use Rattle.xmpp_links.proofs.Cuts.{reached_cut_if}
 use Rattle.xmpp_links.proofs.Tables.{send_down_whole, send_down_whole_up, halt_whole_up, halt_whole_down}
 use Rattle.std.proofs.lemmas.List.{append-nil, take_all}
 use Rattle.xmpp_links.proofs.CutLinks.{not_true, some_one, here_or_not, there_cut, quiet_cut, off_row}

@@ -4,7 +4,7 @@ use Rattle.std.proofs.lemmas.Bool.{cases_Bool, cases_eq}
 use Rattle.std.specs.List.{Contains}
 use Rattle.xmpp_acks.specs.Delivery.{beginning, Direction, Reached, Cut}
 use Rattle.xmpp_links.proofs.Entries.{same_number, other_number, at_same, at_other, Entry, New, Old, entry, was, altered, has_is, is_has}
-use Rattle.xmpp_links.proofs.Cuts.{reached_more}
+use Rattle.xmpp_delivery.proofs.Runs.{reached_more}
 use Rattle.xmpp_links.proofs.Tables.{send_down_whole, send_down_whole_up, left_up_whole, left_up_whole_down}
 use Rattle.xmpp_links.proofs.CutLinks.{not_true, some_one, some_same, there_cut, on_other}
 use Rattle.xmpp_links.proofs.Hands.{no_entry, piped_up, taken_stands, stopped_away, up_words_down, flow_down}

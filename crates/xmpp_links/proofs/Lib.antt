@@ -37,3 +37,7 @@ pub mod Seen
 pub mod Worked
 pub mod WorkedEnds
 pub mod Refused
+pub mod Numbers
+pub mod Sums
+pub mod Taking
+pub mod Reading

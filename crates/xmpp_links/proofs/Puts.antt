@@ -2,7 +2,7 @@
 use Rattle.std.proofs.Common.{◌≡◌, ℕ, ◌≤◌, Bool, true, false, ◌&&◌, [], ◌∷◌, ◌++◌, length, refl, sym, ap, ◌∙◌, subst, arith, Some, nat_eq}
 use Rattle.xmpp_acks.specs.Delivery.{Direction, Put}
 use Rattle.xmpp_links.proofs.Entries.{same_number, other_number, altered}
-use Rattle.xmpp_links.proofs.Cuts.{reached_more}
+use Rattle.xmpp_delivery.proofs.Runs.{reached_more}
 use Rattle.std.proofs.lemmas.List.{drop-append-le, length-append}
 use Rattle.xmpp_acks.proofs.Directions.{kept_reached}
 use Rattle.xmpp_links.proofs.CutLinks.{not_true}

@@ -5,7 +5,7 @@ use Rattle.std.proofs.lemmas.List.{append-nil, drop-append-le, length-append}
 use Rattle.xmpp_acks.specs.Delivery.{Direction, Reached, Put}
 use Rattle.xmpp_acks.proofs.Directions.{kept_reached}
 use Rattle.xmpp_links.proofs.Entries.{same_number, other_number, was, altered}
-use Rattle.xmpp_links.proofs.Cuts.{reached_more}
+use Rattle.xmpp_delivery.proofs.Runs.{reached_more}
 use Rattle.xmpp_links.proofs.CutLinks.{not_true, some_one}
 use Rattle.xmpp_links.proofs.Counting.{down_counts_with, down_stanzas_with}
 use Rattle.xmpp_links.proofs.Hands.{no_entry}

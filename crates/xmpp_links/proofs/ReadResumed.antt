@@ -4,7 +4,7 @@ use Rattle.std.proofs.lemmas.Bool.{cases_Bool, cases_eq}
 use Rattle.std.specs.List.{Contains}
 use Rattle.xmpp_acks.specs.Delivery.{Reached, Cut, Resume, queue_of}
 use Rattle.xmpp_links.proofs.Entries.{same_number, other_number, at_same, at_other, Entry, New, Old, entry, was, altered, has_is, is_has}
-use Rattle.xmpp_links.proofs.Cuts.{reached_more}
+use Rattle.xmpp_delivery.proofs.Runs.{reached_more}
 use Rattle.xmpp_links.proofs.Tables.{send_up_whole, send_up_whole_down, left_down_whole, left_down_whole_up}
 use Rattle.std.proofs.lemmas.List.{drop-drop, append-nil, map-append}
 use Rattle.xmpp_links.proofs.CutLinks.{not_true, some_one, here_or_not, there_cut}

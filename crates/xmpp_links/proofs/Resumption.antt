@@ -4,7 +4,7 @@ use Rattle.std.proofs.lemmas.Bool.{cases_Bool, cases_eq}
 use Rattle.std.specs.List.{Contains}
 use Rattle.xmpp_acks.specs.Delivery.{Direction, Reached, Cut, State, Resume}
 use Rattle.xmpp_links.proofs.Entries.{same_number, other_number, at_same, Entry, New, Old, entry, was, altered, has_is, is_has}
-use Rattle.xmpp_links.proofs.Cuts.{reached_more}
+use Rattle.xmpp_delivery.proofs.Runs.{reached_more}
 use Rattle.xmpp_links.proofs.Tables.{send_down_whole, send_down_whole_up, left_up_whole, left_up_whole_down}
 use Rattle.std.proofs.lemmas.List.{drop-drop, append-nil}
 use Rattle.std.proofs.lemmas.List.Elements.{Contains-push}

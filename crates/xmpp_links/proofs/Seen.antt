@@ -6,8 +6,9 @@ use Rattle.xmpp_acks.proofs.Directions.{kept_reached}
 use Rattle.xmpp_links.proofs.Entries.{is_has, has_is}
 use Rattle.xmpp_links.proofs.Tables.{left_up_whole, left_down_whole}
 use Rattle.xmpp_links.proofs.CutLinks.{some_one, some_same}
-use Rattle.xmpp_links.proofs.Hands.{beginning_keeps}
+use Rattle.xmpp_links.proofs.Hands.{no_entry, beginning_keeps}
 use Rattle.xmpp_links.proofs.Reached.{move_keeps}
+use Rattle.xmpp_links.proofs.Numbers.{binds_brings, move_rises, beginning_rises}
 use Rattle.xmpp_links.proofs.Served.{on_row}
 use Rattle.xmpp_links.proofs.Heard.{in_own}
 use Rattle.xmpp_links.proofs.Puts.{putting}
@@ -28,6 +29,7 @@ use Rattle.xmpp_links.specs.EndMoves.{IsTooHigh, IsUncountedShut, IsUncountedGon
 use Rattle.xmpp_links.specs.PutMoves.{IsClientQueued, IsServerPut, IsServerQueued}
 use Rattle.xmpp_links.specs.Links.{DownCounts, FitsOwn, IsAsked, GoesUp, IsPlaced, LinkKept}
 use Rattle.xmpp_links.specs.Machine.{LinkMove, Cuts, Dials, LetsGo, Foots, Forgets, Puts, Queues, Requests, ReadsHand, AsksToResume, AsksToBind, ReadsFailed, ReadsResumed, ReadsBound, ReadsEnabled, ReadsStanza, ReadsRequest, ReadsCount, TakesHand, TakesResume, TakesLateResume, TakesStrangeResume, TakesHighResume, TakesBind, TakesEnable, TakesStanza, TakesRequest, TakesCount, TakesFoot, Parks, Hears, HearsEarly, Detaches, Shuts, EndsRow, Serves, Keeps, Demands, LinkMoves, nothing_yet, LinkReaches, LinkReached}
+use Rattle.xmpp_links.specs.Numbers.{IsRising}
 use Rattle.xmpp_links.specs.Events.{SeenSession, seen_session, Seen, row_number, own_number, seen_as, seen, Event, Named, Counted, Known, Ended, Dropped, Said, Handled, Served, Heard, Learned, May, new_session, after, IsSeenAs, Follows}
 use Rattle.xmpp_links.specs.Events as events
 
@@ -73,6 +75,17 @@ unseen {A = A} v next w is row own epoch sessions = subst (λ x. (e : Option (Ev
 event_at : {A : Type 0} (v next w : View A) (e : Event A) → next ≡ w → May e (seen v) → seen w ≡ after e (seen v) → (e : Option (Event A)) × IsSeenAs e (seen v) (seen next)
 event_at {A = A} v next w e is may same = subst (λ x. (e : Option (Event A)) × IsSeenAs e (seen v) (seen x)) (sym is) (Some e, (may, same))
 
+-- what is seen is there
+seen_was : {A : Type 0} (o : Option (Session A)) (t : SeenSession A) → seen_as o ≡ Some t → (s : Session A) × (o ≡ Some s) × (seen_session s ≡ t)
+seen_was None t e = no_entry t e
+seen_was (Some s) t e = (s, refl, some_same (seen_session s) t e)
+
+-- a session that the server counts is of the client's present epoch
+of_present : {A : Type 0} (v : View A) (r : Row A) (s : Session A) → v.row ≡ Some r → v.sessions r.number ≡ Some s → s.counted ≡ true → LinkKept v → IsRising v → s.epoch ≡ Some v.epoch
+of_present v r s is_row is counted kept rising =
+    let e = (kept.sessions r.number s is).epoch counted in
+    e.1 ∙ ap Some (rising.present r is_row s e.0 is e.1)
+
 dial_seen : {A : Type 0} (k : ℕ) (v next : View A) → IsDialled k v next → (e : Option (Event A)) × IsSeenAs e (seen v) (seen next)
 dial_seen k v next m = unseen v next _ m.gives refl refl refl (λ q. refl)
 
@@ -107,12 +120,12 @@ refused_seen {A = A} k v next m kept =
     let fits : FitsOwn v.own v.epoch v.sessions (Refused m.p) = subst (λ x. FitsOwn v.own v.epoch v.sessions x) s (old.fits (is_has v.here k m.here)) in
     event_at v next _ (Dropped m.p) m.gives (owned v fits.0 fits.1 ∙ ap Some fits.2) refl
 
-named_seen : {A : Type 0} (k number : ℕ) (v next : View A) → IsReadBound k number v next → LinkKept v → (e : Option (Event A)) × IsSeenAs e (seen v) (seen next)
-named_seen {A = A} k number v next m kept =
+named_seen : {A : Type 0} (k number : ℕ) (v next : View A) → IsReadBound k number v next → LinkKept v → IsRising v → (e : Option (Event A)) × IsSeenAs e (seen v) (seen next)
+named_seen {A = A} k number v next m kept rising =
     let old = kept.conns k m.conn m.is in
     let s : old.stage ≡ Binds number = at_bound old.stage m.conn.ending number (down_whole (left_down m.rest m.conn.wires)) (sym old.at.client ∙ m.client) (sym old.at.down ∙ left_down_whole (Bound number) m.rest m.conn.wires m.first) in
     let fits : FitsOwn v.own v.epoch v.sessions (Binds number) = subst (λ x. FitsOwn v.own v.epoch v.sessions x) s (old.fits (is_has v.here k m.here)) in
-    event_at v next _ (Named number) m.gives (ap own_number fits.0, (seen_session fits.1.0, ap seen_as fits.1.1, fits.1.2, fits.1.3))
+    event_at v next _ (Named number) m.gives (ap own_number fits.0, (seen_session fits.1.0, ap seen_as fits.1.1, fits.1.2, fits.1.3), λ q e t is named. let w = seen_was (v.sessions q) t is in rising.above k number m.conn m.here m.is (binds_brings old.stage m.conn number old.at s) q e w.0 w.1 (ap (λ (x : SeenSession A). x.epoch) w.2 ∙ named))
     (same_seen _ _ refl refl refl (λ q. seen_changed (λ s. named_if (has (Some number) q) (v.epoch + 1) s) _ (λ s. refl) (v.sessions q)))
 
 known_seen : {A : Type 0} (k number : ℕ) (v next : View A) → IsReadEnabled k number v next → LinkKept v → (e : Option (Event A)) × IsSeenAs e (seen v) (seen next)
@@ -173,11 +186,11 @@ one_more : {A : Type 0} (b : Bool) (o : Option (Session A)) → seen_as (if b th
 one_more false o = refl
 one_more true o = refl
 
-bound_seen : {A : Type 0} (k number : ℕ) (v next : View A) → IsBound k number v next → (e : Option (Event A)) × IsSeenAs e (seen v) (seen next)
-bound_seen k number v next m = event_at v next _ (events.Bound number) m.gives (ap row_number m.none, ap seen_as m.fresh) (same_seen _ _ refl refl refl (λ q. one_more (nat_eq number q) (v.sessions q)))
+bound_seen : {A : Type 0} (k number : ℕ) (v next : View A) → IsBound k number v next → IsRising v → (e : Option (Event A)) × IsSeenAs e (seen v) (seen next)
+bound_seen {A = A} k number v next m rising = event_at v next _ (events.Bound number) m.gives (ap row_number m.none, λ q t is. let w = seen_was (v.sessions q) t is in let g = rising.given q w.0 w.1 in let l = m.rises in omega arith) (same_seen _ _ refl refl refl (λ q. one_more (nat_eq number q) (v.sessions q)))
 
-enabled_seen : {A : Type 0} (k : ℕ) (v next : View A) → IsEnabled k v next → LinkKept v → (e : Option (Event A)) × IsSeenAs e (seen v) (seen next)
-enabled_seen {A = A} k v next m kept =
+enabled_seen : {A : Type 0} (k : ℕ) (v next : View A) → IsEnabled k v next → LinkKept v → IsRising v → (e : Option (Event A)) × IsSeenAs e (seen v) (seen next)
+enabled_seen {A = A} k v next m kept rising =
     let old = kept.conns k m.conn m.is in
     let row = kept.row m.row m.is_row in
     let a : AsksEnabled old.stage (foot_of m.conn.footed) (up_whole (left_up m.rest m.conn.wires)) = asks_enabled old.stage m.conn.footed (up_whole (left_up m.rest m.conn.wires)) (sym old.at.up ∙ left_up_whole Enable m.rest m.conn.wires m.first) in
@@ -186,14 +199,15 @@ enabled_seen {A = A} k v next m kept =
     let number : a.m ≡ m.row.number = phase_session a.m m.row.number m.conn.ending m.conn.gone (ap (λ x. on_phase x m.conn.ending m.conn.gone) (sym (old.at.phase ∙ ap phase_of a.is)) ∙ held) in
     let asked : IsAsked v.sessions (AsksEnable m.row.number) = subst (λ s. IsAsked v.sessions s) (a.is ∙ ap (λ x. AsksEnable x) number) old.asked in
     let one : asked.0 ≡ row.session = some_one (v.sessions m.row.number) asked.0 row.session asked.2 row.is in
-    event_at v next _ (Counted m.row.number) m.gives (numbered v m.row m.is_row, (seen_session row.session, asked.1, ap seen_as row.is, sym row.counted ∙ m.uncounted, subst (λ (x : Session A). x.epoch ≡ Some asked.1) one asked.3))
+    let named : row.session.epoch ≡ Some asked.1 = subst (λ (x : Session A). x.epoch ≡ Some asked.1) one asked.3 in
+    event_at v next _ (Counted m.row.number) m.gives (numbered v m.row m.is_row, (seen_session row.session, ap seen_as row.is, sym row.counted ∙ m.uncounted, named ∙ ap Some (rising.present m.row m.is_row row.session asked.1 row.is named)))
     (same_seen _ _ (sym (numbered v m.row m.is_row)) refl refl (λ q. seen_changed (λ s. enabled_if (has (Some m.row.number) q) (is_flowing m.conn.wires) s) _ (λ s. refl) (v.sessions q)))
 
-handled_seen : {A : Type 0} (k : ℕ) (z : A) (v next : View A) → IsUpStanza k z v next → LinkKept v → (e : Option (Event A)) × IsSeenAs e (seen v) (seen next)
-handled_seen {A = A} k z v next m kept =
+handled_seen : {A : Type 0} (k : ℕ) (z : A) (v next : View A) → IsUpStanza k z v next → LinkKept v → IsRising v → (e : Option (Event A)) × IsSeenAs e (seen v) (seen next)
+handled_seen {A = A} k z v next m kept rising =
     let o = on_row v k m.conn m.row m.is m.is_row m.on m.counted kept in
     let follows = next_of o.0.up z (up_stanzas m.rest) (kept.sessions m.row.number o.0 o.1.is).up (o.1.goes.way ∙ ap up_stanzas m.first) in
-    event_at v next _ (Handled m.row.number z) m.gives (numbered v m.row m.is_row, (seen_session o.0, follows.0, ap seen_as o.1.is, o.1.counted, follows.1))
+    event_at v next _ (Handled m.row.number z) m.gives (numbered v m.row m.is_row, (seen_session o.0, follows.0, ap seen_as o.1.is, o.1.counted, of_present v m.row o.0 m.is_row o.1.is o.1.counted kept rising, follows.1))
     (same_seen _ _ (sym (numbered v m.row m.is_row)) refl refl (λ q. seen_changed (λ s. handled_if (has (Some m.row.number) q) z (up_stanzas m.rest) s) _ (λ s. refl) (v.sessions q)))
 
 up_request_seen : {A : Type 0} (k : ℕ) (v next : View A) → IsUpRequest k v next → (e : Option (Event A)) × IsSeenAs e (seen v) (seen next)
@@ -217,68 +231,68 @@ uncounted_shut_seen k ending v next m = event_at v next _ (Ended m.row.number) m
 row_ended_seen : {A : Type 0} (v next : View A) → IsRowEnded v next → (e : Option (Event A)) × IsSeenAs e (seen v) (seen next)
 row_ended_seen v next m = event_at v next _ (Ended m.row.number) m.gives (numbered v m.row m.is_row) refl
 
-server_put_seen : {A : Type 0} (k : ℕ) (z : A) (v next : View A) → IsServerPut k z v next → LinkKept v → (e : Option (Event A)) × IsSeenAs e (seen v) (seen next)
-server_put_seen k z v next m kept =
+server_put_seen : {A : Type 0} (k : ℕ) (z : A) (v next : View A) → IsServerPut k z v next → LinkKept v → IsRising v → (e : Option (Event A)) × IsSeenAs e (seen v) (seen next)
+server_put_seen k z v next m kept rising =
     let row = kept.row m.row m.is_row in
-    event_at v next _ (Served m.row.number z) m.gives (numbered v m.row m.is_row, (seen_session row.session, ap seen_as row.is, sym row.counted ∙ m.counted))
+    event_at v next _ (Served m.row.number z) m.gives (numbered v m.row m.is_row, (seen_session row.session, ap seen_as row.is, sym row.counted ∙ m.counted, of_present v m.row row.session m.is_row row.is (sym row.counted ∙ m.counted) kept rising))
     (same_seen _ _ (sym (numbered v m.row m.is_row)) refl refl (λ q. seen_changed (λ s. serving (has (Some m.row.number) q) z s) _ (λ s. refl) (v.sessions q)))
 
-server_queued_seen : {A : Type 0} (z : A) (v next : View A) → IsServerQueued z v next → LinkKept v → (e : Option (Event A)) × IsSeenAs e (seen v) (seen next)
-server_queued_seen z v next m kept =
+server_queued_seen : {A : Type 0} (z : A) (v next : View A) → IsServerQueued z v next → LinkKept v → IsRising v → (e : Option (Event A)) × IsSeenAs e (seen v) (seen next)
+server_queued_seen z v next m kept rising =
     let row = kept.row m.row m.is_row in
-    event_at v next _ (Served m.row.number z) m.gives (numbered v m.row m.is_row, (seen_session row.session, ap seen_as row.is, sym row.counted ∙ m.counted))
+    event_at v next _ (Served m.row.number z) m.gives (numbered v m.row m.is_row, (seen_session row.session, ap seen_as row.is, sym row.counted ∙ m.counted, of_present v m.row row.session m.is_row row.is (sym row.counted ∙ m.counted) kept rising))
     (same_seen _ _ (sym (numbered v m.row m.is_row)) refl refl (λ q. seen_changed (λ s. serving (has (Some m.row.number) q) z s) _ (λ s. refl) (v.sessions q)))
 
-pub move_seen : {A : Type 0} (move : LinkMove A) (v next : View A) → LinkMoves move v next → LinkKept v → (e : Option (Event A)) × IsSeenAs e (seen v) (seen next)
-move_seen (Cuts k i j) v next m kept = cut_seen k i j v next m
-move_seen (Dials k) v next m kept = dial_seen k v next m
-move_seen (LetsGo k) v next m kept = let_go_seen k v next m
-move_seen (Foots k) v next m kept = unseen v next _ m.gives refl refl refl (λ q. refl)
-move_seen Forgets v next m kept = forgotten_seen v next m
-move_seen (Puts k z) v next m kept = client_put_seen k z v next m
-move_seen (Queues z) v next m kept = client_queued_seen z v next m
-move_seen (Requests k) v next m kept = unseen v next _ m.gives refl refl refl (λ q. refl)
-move_seen (ReadsHand k) v next m kept = unseen v next _ m.gives refl refl refl (λ q. refl)
-move_seen (AsksToResume k) v next m kept = ask_resume_seen k v next m
-move_seen (AsksToBind k) v next m kept = unseen v next _ m.gives refl refl refl (λ q. refl)
-move_seen (ReadsFailed k) v next m kept = refused_seen k v next m kept
-move_seen (ReadsResumed k) v next m kept = read_resumed_seen k v next m kept
-move_seen (ReadsBound k n) v next m kept = named_seen k n v next m kept
-move_seen (ReadsEnabled k n) v next m kept = known_seen k n v next m kept
-move_seen (ReadsStanza k z) v next m kept = heard_seen k z v next m kept
-move_seen (ReadsRequest k) v next m kept = down_request_seen k v next m
-move_seen (ReadsCount k h) v next m kept = learned_seen k h v next m kept
-move_seen (TakesHand k) v next m kept = unseen v next _ m.gives refl refl refl (λ q. refl)
-move_seen (TakesResume k) v next m kept = resumed_here_seen k v next m
-move_seen (TakesLateResume k) v next m kept = resumed_late_seen k v next m
-move_seen (TakesStrangeResume k) v next m kept = unseen v next _ m.gives refl refl refl (λ q. refl)
-move_seen (TakesHighResume k) v next m kept = too_high_seen k v next m
-move_seen (TakesBind k n) v next m kept = bound_seen k n v next m
-move_seen (TakesEnable k) v next m kept = enabled_seen k v next m kept
-move_seen (TakesStanza k z) v next m kept = handled_seen k z v next m kept
-move_seen (TakesRequest k) v next m kept = up_request_seen k v next m
-move_seen (TakesCount k h) v next m kept = up_count_seen k h v next m
-move_seen (TakesFoot k) v next m kept = unseen v next _ m.gives refl refl refl (λ q. refl)
-move_seen (Parks k) v next m kept = parked_seen k v next m
-move_seen (Hears k) v next m kept = unseen v next _ m.gives refl refl refl (λ q. refl)
-move_seen (HearsEarly k) v next m kept = uncounted_gone_seen k v next m
-move_seen (Detaches k ending) v next m kept = detached_seen k ending v next m
-move_seen (Shuts k ending) v next m kept = uncounted_shut_seen k ending v next m
-move_seen EndsRow v next m kept = row_ended_seen v next m
-move_seen (Serves k z) v next m kept = server_put_seen k z v next m kept
-move_seen (Keeps z) v next m kept = server_queued_seen z v next m kept
-move_seen (Demands k) v next m kept = unseen v next _ m.gives refl refl refl (λ q. refl)
+pub move_seen : {A : Type 0} (move : LinkMove A) (v next : View A) → LinkMoves move v next → LinkKept v → IsRising v → (e : Option (Event A)) × IsSeenAs e (seen v) (seen next)
+move_seen (Cuts k i j) v next m kept rising = cut_seen k i j v next m
+move_seen (Dials k) v next m kept rising = dial_seen k v next m
+move_seen (LetsGo k) v next m kept rising = let_go_seen k v next m
+move_seen (Foots k) v next m kept rising = unseen v next _ m.gives refl refl refl (λ q. refl)
+move_seen Forgets v next m kept rising = forgotten_seen v next m
+move_seen (Puts k z) v next m kept rising = client_put_seen k z v next m
+move_seen (Queues z) v next m kept rising = client_queued_seen z v next m
+move_seen (Requests k) v next m kept rising = unseen v next _ m.gives refl refl refl (λ q. refl)
+move_seen (ReadsHand k) v next m kept rising = unseen v next _ m.gives refl refl refl (λ q. refl)
+move_seen (AsksToResume k) v next m kept rising = ask_resume_seen k v next m
+move_seen (AsksToBind k) v next m kept rising = unseen v next _ m.gives refl refl refl (λ q. refl)
+move_seen (ReadsFailed k) v next m kept rising = refused_seen k v next m kept
+move_seen (ReadsResumed k) v next m kept rising = read_resumed_seen k v next m kept
+move_seen (ReadsBound k n) v next m kept rising = named_seen k n v next m kept rising
+move_seen (ReadsEnabled k n) v next m kept rising = known_seen k n v next m kept
+move_seen (ReadsStanza k z) v next m kept rising = heard_seen k z v next m kept
+move_seen (ReadsRequest k) v next m kept rising = down_request_seen k v next m
+move_seen (ReadsCount k h) v next m kept rising = learned_seen k h v next m kept
+move_seen (TakesHand k) v next m kept rising = unseen v next _ m.gives refl refl refl (λ q. refl)
+move_seen (TakesResume k) v next m kept rising = resumed_here_seen k v next m
+move_seen (TakesLateResume k) v next m kept rising = resumed_late_seen k v next m
+move_seen (TakesStrangeResume k) v next m kept rising = unseen v next _ m.gives refl refl refl (λ q. refl)
+move_seen (TakesHighResume k) v next m kept rising = too_high_seen k v next m
+move_seen (TakesBind k n) v next m kept rising = bound_seen k n v next m rising
+move_seen (TakesEnable k) v next m kept rising = enabled_seen k v next m kept rising
+move_seen (TakesStanza k z) v next m kept rising = handled_seen k z v next m kept rising
+move_seen (TakesRequest k) v next m kept rising = up_request_seen k v next m
+move_seen (TakesCount k h) v next m kept rising = up_count_seen k h v next m
+move_seen (TakesFoot k) v next m kept rising = unseen v next _ m.gives refl refl refl (λ q. refl)
+move_seen (Parks k) v next m kept rising = parked_seen k v next m
+move_seen (Hears k) v next m kept rising = unseen v next _ m.gives refl refl refl (λ q. refl)
+move_seen (HearsEarly k) v next m kept rising = uncounted_gone_seen k v next m
+move_seen (Detaches k ending) v next m kept rising = detached_seen k ending v next m
+move_seen (Shuts k ending) v next m kept rising = uncounted_shut_seen k ending v next m
+move_seen EndsRow v next m kept rising = row_ended_seen v next m
+move_seen (Serves k z) v next m kept rising = server_put_seen k z v next m kept rising
+move_seen (Keeps z) v next m kept rising = server_queued_seen z v next m kept rising
+move_seen (Demands k) v next m kept rising = unseen v next _ m.gives refl refl refl (λ q. refl)
 
 with_event : {A : Type 0} (e : Option (Event A)) (s t last : Seen A) (es : List (Event A)) → IsSeenAs e s t → Follows es t last → (all : List (Event A)) × Follows all s last
 with_event None s t last es same follows = (es, subst (λ x. Follows es x last) same follows)
 with_event (Some e) s t last es (may, same) follows = (e ∷ es, (may, subst (λ x. Follows es x last) same follows))
 
-seen_along : {A : Type 0} (moves : List (LinkMove A)) (v last : View A) → LinkKept v → LinkReaches moves v last → (es : List (Event A)) × Follows es (seen v) (seen last)
-seen_along [] v last kept same = ([], ap seen same)
-seen_along (move ∷ moves) v last kept (next, by, along) =
-    let one = move_seen move v next by kept in
-    let more = seen_along moves next last (move_keeps move v next by kept) along in
+seen_along : {A : Type 0} (moves : List (LinkMove A)) (v last : View A) → LinkKept v → IsRising v → LinkReaches moves v last → (es : List (Event A)) × Follows es (seen v) (seen last)
+seen_along [] v last kept rising same = ([], ap seen same)
+seen_along (move ∷ moves) v last kept rising (next, by, along) =
+    let one = move_seen move v next by kept rising in
+    let more = seen_along moves next last (move_keeps move v next by kept) (move_rises move v next by kept rising) along in
     with_event one.0 (seen v) (seen next) (seen last) more.0 one.1 more.1
 
 pub run_seen : {A : Type 0} (v : View A) → LinkReached v → (es : List (Event A)) × Follows es (seen nothing_yet) (seen v)
-run_seen v reached = seen_along reached.moves nothing_yet v beginning_keeps reached.reaches
+run_seen v reached = seen_along reached.moves nothing_yet v beginning_keeps beginning_rises reached.reaches

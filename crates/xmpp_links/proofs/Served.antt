@@ -4,7 +4,7 @@ use Rattle.std.proofs.lemmas.Bool.{cases_eq}
 use Rattle.std.specs.List.{Contains}
 use Rattle.xmpp_acks.specs.Delivery.{Handle, queue_of}
 use Rattle.xmpp_links.proofs.Entries.{same_number, other_number, at_same, at_other, Entry, New, Old, entry, was, altered, has_is}
-use Rattle.xmpp_links.proofs.Cuts.{reached_more}
+use Rattle.xmpp_delivery.proofs.Runs.{reached_more}
 use Rattle.xmpp_links.proofs.Tables.{send_down_whole, send_down_whole_up, left_up_whole, left_up_whole_down}
 use Rattle.std.proofs.lemmas.List.{append-nil, map-append, length_push}
 use Rattle.xmpp_links.proofs.CutLinks.{not_true, some_one, here_or_not, there_cut, on_other, some_same}

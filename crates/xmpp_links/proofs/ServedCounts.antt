@@ -3,7 +3,7 @@ use Rattle.std.proofs.Common.{◌≡◌, ℕ, ◌+◌, ◌-◌, ◌≤◌, Bool,
 use Rattle.std.specs.List.{Contains}
 use Rattle.xmpp_acks.specs.Delivery.{State, Acknowledge}
 use Rattle.xmpp_links.proofs.Entries.{same_number, other_number, at_same, altered, has_is}
-use Rattle.xmpp_links.proofs.Cuts.{reached_more}
+use Rattle.xmpp_delivery.proofs.Runs.{reached_more}
 use Rattle.std.proofs.lemmas.List.{drop-drop, append-nil}
 use Rattle.xmpp_acks.proofs.Directions.{kept_reached}
 use Rattle.xmpp_links.proofs.CutLinks.{not_true, some_one}

@@ -80,10 +80,10 @@ pub plain-11-is : IsAskBind 1 plain-10 plain-11
 plain-11-is = record { conn = record { client = InFeatures2; phase = Ready; wires = Flow ([]) (Feat ∷ []); ending = Stands; footed = false; gone = false }; is = refl; here = refl; rest = []; first = refl; client = refl; none = refl; gives = refl }
 
 abbrev pub plain-12 : View ℕ
-plain-12 = record plain-11 { conns = with_at 1 (record { client = InBind; phase = (AtSession 1); wires = Flow ([]) (Bound 1 ∷ []); ending = Stands; footed = false; gone = false }) plain-11.conns; row = Some (record { number = 1; on = Some 1; counted = false; acked = 0; handled = 0; queue = [] }); sessions = with_at 1 unread plain-11.sessions }
+plain-12 = record plain-11 { conns = with_at 1 (record { client = InBind; phase = (AtSession 1); wires = Flow ([]) (Bound 1 ∷ []); ending = Stands; footed = false; gone = false }) plain-11.conns; row = Some (record { number = 1; on = Some 1; counted = false; acked = 0; handled = 0; queue = [] }); sessions = with_at 1 unread plain-11.sessions; free = 2 }
 
 pub plain-12-is : IsBound 1 1 plain-11 plain-12
-plain-12-is = record { conn = record { client = InBind; phase = Ready; wires = Flow (Bind ∷ []) ([]); ending = Stands; footed = false; gone = false }; is = refl; rest = []; first = refl; phase = refl; none = refl; fresh = refl; gives = refl }
+plain-12-is = record { conn = record { client = InBind; phase = Ready; wires = Flow (Bind ∷ []) ([]); ending = Stands; footed = false; gone = false }; is = refl; rest = []; first = refl; phase = refl; none = refl; fresh = refl; rises = omega arith; gives = refl }
 
 abbrev pub plain-13 : View ℕ
 plain-13 = record plain-12 { conns = with_at 1 (record { client = InEnable; phase = (AtSession 1); wires = Flow (Enable ∷ []) ([]); ending = Stands; footed = false; gone = false }) plain-12.conns; epoch = 1; sessions = alter (λ q s. record s { epoch = if has (Some 1) q then Some 1 else s.epoch }) plain-12.sessions }

@@ -1,5 +1,5 @@
 -- Worked runs, by computation: late binds and late words, footers, and a full queue.
-use Rattle.std.proofs.Common.{◌≡◌, ℕ, true, false, ◌&&◌, if◌then◌else◌, [], ◌∷◌, refl, None, Some}
+use Rattle.std.proofs.Common.{◌≡◌, ℕ, true, false, ◌&&◌, if◌then◌else◌, [], ◌∷◌, refl, arith, None, Some}
 use Rattle.xmpp_acks.specs.Delivery.{beginning}
 use Rattle.xmpp_links.specs.Words.{St, Hdr, Auth, Resp, Bind, Enable, Foot, Head, Feat, Chal, Succ, Bound, Enabled, Down, Err, End, Conflict, Constraint, InHeader1, InFeatures1, InAuth, InResponse, InHeader2, InFeatures2, InBind, InEnable, InOnline, Start, Sasl, Challenge, Restart, Ready, AtSession}
 use Rattle.xmpp_links.specs.Wires.{Flow, Stop}
@@ -160,10 +160,10 @@ pub binds-24-is : IsAskBind 2 binds-23 binds-24
 binds-24-is = record { conn = record { client = InFeatures2; phase = Ready; wires = Flow ([]) (Feat ∷ []); ending = Stands; footed = false; gone = false }; is = refl; here = refl; rest = []; first = refl; client = refl; none = refl; gives = refl }
 
 abbrev pub binds-25 : View ℕ
-binds-25 = record binds-24 { conns = with_at 2 (record { client = InBind; phase = (AtSession 1); wires = Flow ([]) (Bound 1 ∷ []); ending = Stands; footed = false; gone = false }) binds-24.conns; row = Some (record { number = 1; on = Some 2; counted = false; acked = 0; handled = 0; queue = [] }); sessions = with_at 1 unread binds-24.sessions }
+binds-25 = record binds-24 { conns = with_at 2 (record { client = InBind; phase = (AtSession 1); wires = Flow ([]) (Bound 1 ∷ []); ending = Stands; footed = false; gone = false }) binds-24.conns; row = Some (record { number = 1; on = Some 2; counted = false; acked = 0; handled = 0; queue = [] }); sessions = with_at 1 unread binds-24.sessions; free = 2 }
 
 pub binds-25-is : IsBound 2 1 binds-24 binds-25
-binds-25-is = record { conn = record { client = InBind; phase = Ready; wires = Flow (Bind ∷ []) ([]); ending = Stands; footed = false; gone = false }; is = refl; rest = []; first = refl; phase = refl; none = refl; fresh = refl; gives = refl }
+binds-25-is = record { conn = record { client = InBind; phase = Ready; wires = Flow (Bind ∷ []) ([]); ending = Stands; footed = false; gone = false }; is = refl; rest = []; first = refl; phase = refl; none = refl; fresh = refl; rises = omega arith; gives = refl }
 
 pub binds-25-reached : LinkReached binds-25
 binds-25-reached = record { moves = Dials 1 ∷ TakesHand 1 ∷ ReadsHand 1 ∷ ReadsHand 1 ∷ TakesHand 1 ∷ ReadsHand 1 ∷ TakesHand 1 ∷ ReadsHand 1 ∷ TakesHand 1 ∷ ReadsHand 1 ∷ AsksToBind 1 ∷ Cuts 1 1 0 ∷ LetsGo 1 ∷ Dials 2 ∷ TakesHand 2 ∷ ReadsHand 2 ∷ ReadsHand 2 ∷ TakesHand 2 ∷ ReadsHand 2 ∷ TakesHand 2 ∷ ReadsHand 2 ∷ TakesHand 2 ∷ ReadsHand 2 ∷ AsksToBind 2 ∷ TakesBind 2 1 ∷ []; reaches = (binds-1, binds-1-is, (binds-2, binds-2-is, (binds-3, binds-3-is, (binds-4, binds-4-is, (binds-5, binds-5-is, (binds-6, binds-6-is, (binds-7, binds-7-is, (binds-8, binds-8-is, (binds-9, binds-9-is, (binds-10, binds-10-is, (binds-11, binds-11-is, (binds-12, binds-12-is, (binds-13, binds-13-is, (binds-14, binds-14-is, (binds-15, binds-15-is, (binds-16, binds-16-is, (binds-17, binds-17-is, (binds-18, binds-18-is, (binds-19, binds-19-is, (binds-20, binds-20-is, (binds-21, binds-21-is, (binds-22, binds-22-is, (binds-23, binds-23-is, (binds-24, binds-24-is, (binds-25, binds-25-is, refl))))))))))))))))))))))))) }
@@ -175,10 +175,10 @@ pub binds-26-is : IsUncountedShut 2 (Errs Conflict) binds-25 binds-26
 binds-26-is = record { conn = record { client = InBind; phase = (AtSession 1); wires = Flow ([]) (Bound 1 ∷ []); ending = Stands; footed = false; gone = false }; is = refl; row = record { number = 1; on = Some 2; counted = false; acked = 0; handled = 0; queue = [] }; is_row = refl; on = refl; uncounted = refl; reason = tt; gives = refl }
 
 abbrev pub binds-27 : View ℕ
-binds-27 = record binds-26 { conns = with_at 1 (record { client = InBind; phase = (AtSession 2); wires = Stop ([]) ([]) ([]) (Bound 2 ∷ []); ending = Stands; footed = false; gone = false }) binds-26.conns; row = Some (record { number = 2; on = Some 1; counted = false; acked = 0; handled = 0; queue = [] }); sessions = with_at 2 unread binds-26.sessions }
+binds-27 = record binds-26 { conns = with_at 1 (record { client = InBind; phase = (AtSession 2); wires = Stop ([]) ([]) ([]) (Bound 2 ∷ []); ending = Stands; footed = false; gone = false }) binds-26.conns; row = Some (record { number = 2; on = Some 1; counted = false; acked = 0; handled = 0; queue = [] }); sessions = with_at 2 unread binds-26.sessions; free = 3 }
 
 pub binds-27-is : IsBound 1 2 binds-26 binds-27
-binds-27-is = record { conn = record { client = InBind; phase = Ready; wires = Stop (Bind ∷ []) ([]) ([]) ([]); ending = Stands; footed = false; gone = false }; is = refl; rest = []; first = refl; phase = refl; none = refl; fresh = refl; gives = refl }
+binds-27-is = record { conn = record { client = InBind; phase = Ready; wires = Stop (Bind ∷ []) ([]) ([]) ([]); ending = Stands; footed = false; gone = false }; is = refl; rest = []; first = refl; phase = refl; none = refl; fresh = refl; rises = omega arith; gives = refl }
 
 abbrev pub binds-28 : View ℕ
 binds-28 = record binds-27 { conns = with_at 2 (record { client = InEnable; phase = (AtSession 1); wires = Stop ([]) (Err Conflict ∷ End ∷ []) (Enable ∷ []) ([]); ending = Errs Conflict; footed = false; gone = false }) binds-27.conns; epoch = 1; sessions = alter (λ q s. record s { epoch = if has (Some 1) q then Some 1 else s.epoch }) binds-27.sessions }
@@ -269,10 +269,10 @@ pub enables-11-is : IsAskBind 1 enables-10 enables-11
 enables-11-is = record { conn = record { client = InFeatures2; phase = Ready; wires = Flow ([]) (Feat ∷ []); ending = Stands; footed = false; gone = false }; is = refl; here = refl; rest = []; first = refl; client = refl; none = refl; gives = refl }
 
 abbrev pub enables-12 : View ℕ
-enables-12 = record enables-11 { conns = with_at 1 (record { client = InBind; phase = (AtSession 1); wires = Flow ([]) (Bound 1 ∷ []); ending = Stands; footed = false; gone = false }) enables-11.conns; row = Some (record { number = 1; on = Some 1; counted = false; acked = 0; handled = 0; queue = [] }); sessions = with_at 1 unread enables-11.sessions }
+enables-12 = record enables-11 { conns = with_at 1 (record { client = InBind; phase = (AtSession 1); wires = Flow ([]) (Bound 1 ∷ []); ending = Stands; footed = false; gone = false }) enables-11.conns; row = Some (record { number = 1; on = Some 1; counted = false; acked = 0; handled = 0; queue = [] }); sessions = with_at 1 unread enables-11.sessions; free = 2 }
 
 pub enables-12-is : IsBound 1 1 enables-11 enables-12
-enables-12-is = record { conn = record { client = InBind; phase = Ready; wires = Flow (Bind ∷ []) ([]); ending = Stands; footed = false; gone = false }; is = refl; rest = []; first = refl; phase = refl; none = refl; fresh = refl; gives = refl }
+enables-12-is = record { conn = record { client = InBind; phase = Ready; wires = Flow (Bind ∷ []) ([]); ending = Stands; footed = false; gone = false }; is = refl; rest = []; first = refl; phase = refl; none = refl; fresh = refl; rises = omega arith; gives = refl }
 
 abbrev pub enables-13 : View ℕ
 enables-13 = record enables-12 { conns = with_at 1 (record { client = InEnable; phase = (AtSession 1); wires = Flow (Enable ∷ []) ([]); ending = Stands; footed = false; gone = false }) enables-12.conns; epoch = 1; sessions = alter (λ q s. record s { epoch = if has (Some 1) q then Some 1 else s.epoch }) enables-12.sessions }
@@ -377,10 +377,10 @@ pub enables-29-is : IsRowEnded enables-28 enables-29
 enables-29-is = record { row = record { number = 1; on = None; counted = true; acked = 0; handled = 0; queue = [] }; is_row = refl; off = refl; gives = refl }
 
 abbrev pub enables-30 : View ℕ
-enables-30 = record enables-29 { conns = with_at 2 (record { client = InBind; phase = (AtSession 2); wires = Flow ([]) (Bound 2 ∷ []); ending = Stands; footed = false; gone = false }) enables-29.conns; row = Some (record { number = 2; on = Some 2; counted = false; acked = 0; handled = 0; queue = [] }); sessions = with_at 2 unread enables-29.sessions }
+enables-30 = record enables-29 { conns = with_at 2 (record { client = InBind; phase = (AtSession 2); wires = Flow ([]) (Bound 2 ∷ []); ending = Stands; footed = false; gone = false }) enables-29.conns; row = Some (record { number = 2; on = Some 2; counted = false; acked = 0; handled = 0; queue = [] }); sessions = with_at 2 unread enables-29.sessions; free = 3 }
 
 pub enables-30-is : IsBound 2 2 enables-29 enables-30
-enables-30-is = record { conn = record { client = InBind; phase = Ready; wires = Flow (Bind ∷ []) ([]); ending = Stands; footed = false; gone = false }; is = refl; rest = []; first = refl; phase = refl; none = refl; fresh = refl; gives = refl }
+enables-30-is = record { conn = record { client = InBind; phase = Ready; wires = Flow (Bind ∷ []) ([]); ending = Stands; footed = false; gone = false }; is = refl; rest = []; first = refl; phase = refl; none = refl; fresh = refl; rises = omega arith; gives = refl }
 
 pub enables-30-reached : LinkReached enables-30
 enables-30-reached = record { moves = Dials 1 ∷ TakesHand 1 ∷ ReadsHand 1 ∷ ReadsHand 1 ∷ TakesHand 1 ∷ ReadsHand 1 ∷ TakesHand 1 ∷ ReadsHand 1 ∷ TakesHand 1 ∷ ReadsHand 1 ∷ AsksToBind 1 ∷ TakesBind 1 1 ∷ ReadsBound 1 1 ∷ Cuts 1 1 0 ∷ LetsGo 1 ∷ TakesEnable 1 ∷ Parks 1 ∷ Dials 2 ∷ TakesHand 2 ∷ ReadsHand 2 ∷ ReadsHand 2 ∷ TakesHand 2 ∷ ReadsHand 2 ∷ TakesHand 2 ∷ ReadsHand 2 ∷ TakesHand 2 ∷ ReadsHand 2 ∷ AsksToBind 2 ∷ EndsRow ∷ TakesBind 2 2 ∷ []; reaches = (enables-1, enables-1-is, (enables-2, enables-2-is, (enables-3, enables-3-is, (enables-4, enables-4-is, (enables-5, enables-5-is, (enables-6, enables-6-is, (enables-7, enables-7-is, (enables-8, enables-8-is, (enables-9, enables-9-is, (enables-10, enables-10-is, (enables-11, enables-11-is, (enables-12, enables-12-is, (enables-13, enables-13-is, (enables-14, enables-14-is, (enables-15, enables-15-is, (enables-16, enables-16-is, (enables-17, enables-17-is, (enables-18, enables-18-is, (enables-19, enables-19-is, (enables-20, enables-20-is, (enables-21, enables-21-is, (enables-22, enables-22-is, (enables-23, enables-23-is, (enables-24, enables-24-is, (enables-25, enables-25-is, (enables-26, enables-26-is, (enables-27, enables-27-is, (enables-28, enables-28-is, (enables-29, enables-29-is, (enables-30, enables-30-is, refl)))))))))))))))))))))))))))))) }
@@ -502,10 +502,10 @@ pub fills-11-is : IsAskBind 1 fills-10 fills-11
 fills-11-is = record { conn = record { client = InFeatures2; phase = Ready; wires = Flow ([]) (Feat ∷ []); ending = Stands; footed = false; gone = false }; is = refl; here = refl; rest = []; first = refl; client = refl; none = refl; gives = refl }
 
 abbrev pub fills-12 : View ℕ
-fills-12 = record fills-11 { conns = with_at 1 (record { client = InBind; phase = (AtSession 1); wires = Flow ([]) (Bound 1 ∷ []); ending = Stands; footed = false; gone = false }) fills-11.conns; row = Some (record { number = 1; on = Some 1; counted = false; acked = 0; handled = 0; queue = [] }); sessions = with_at 1 unread fills-11.sessions }
+fills-12 = record fills-11 { conns = with_at 1 (record { client = InBind; phase = (AtSession 1); wires = Flow ([]) (Bound 1 ∷ []); ending = Stands; footed = false; gone = false }) fills-11.conns; row = Some (record { number = 1; on = Some 1; counted = false; acked = 0; handled = 0; queue = [] }); sessions = with_at 1 unread fills-11.sessions; free = 2 }
 
 pub fills-12-is : IsBound 1 1 fills-11 fills-12
-fills-12-is = record { conn = record { client = InBind; phase = Ready; wires = Flow (Bind ∷ []) ([]); ending = Stands; footed = false; gone = false }; is = refl; rest = []; first = refl; phase = refl; none = refl; fresh = refl; gives = refl }
+fills-12-is = record { conn = record { client = InBind; phase = Ready; wires = Flow (Bind ∷ []) ([]); ending = Stands; footed = false; gone = false }; is = refl; rest = []; first = refl; phase = refl; none = refl; fresh = refl; rises = omega arith; gives = refl }
 
 abbrev pub fills-13 : View ℕ
 fills-13 = record fills-12 { conns = with_at 1 (record { client = InEnable; phase = (AtSession 1); wires = Flow (Enable ∷ []) ([]); ending = Stands; footed = false; gone = false }) fills-12.conns; epoch = 1; sessions = alter (λ q s. record s { epoch = if has (Some 1) q then Some 1 else s.epoch }) fills-12.sessions }

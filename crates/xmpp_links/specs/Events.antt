@@ -65,17 +65,18 @@ pub data Event (A : Type 0) : Type 0 where
   -- the client learns how many of its stanzas were handled
   Learned : ℕ → ℕ → Event A
 
--- when an event comes
+-- When an event comes. A session that is bound is newer than all others; one of which the client reads so is newer than
+-- all that have an epoch; one that the server counts, or whose stanzas it handles or puts, is of the present epoch.
 abbrev pub May : {A : Type 0} → Event A → Seen A → Type 0
-May (Bound m) s = (s.live ≡ None) × (s.sessions m ≡ None)
-May {A = A} (Named m) s = (s.own ≡ None) × ((t : SeenSession A) × (s.sessions m ≡ Some t) × (t.epoch ≡ None) × (t.counted ≡ false))
-May {A = A} (Counted p) s = (s.live ≡ Some p) × ((t : SeenSession A) × (e : ℕ) × (s.sessions p ≡ Some t) × (t.counted ≡ false) × (t.epoch ≡ Some e))
+May {A = A} (Bound m) s = (s.live ≡ None) × ((q : ℕ) (t : SeenSession A) → s.sessions q ≡ Some t → q + 1 ≤ m)
+May {A = A} (Named m) s = (s.own ≡ None) × ((t : SeenSession A) × (s.sessions m ≡ Some t) × (t.epoch ≡ None) × (t.counted ≡ false)) × ((q e : ℕ) (t : SeenSession A) → s.sessions q ≡ Some t → t.epoch ≡ Some e → q + 1 ≤ m)
+May {A = A} (Counted p) s = (s.live ≡ Some p) × ((t : SeenSession A) × (s.sessions p ≡ Some t) × (t.counted ≡ false) × (t.epoch ≡ Some s.epoch))
 May {A = A} (Known p) s = (s.own ≡ None) × ((t : SeenSession A) × (s.sessions p ≡ Some t) × (t.counted ≡ true) × (t.known ≡ false) × (t.epoch ≡ Some s.epoch))
 May (Ended p) s = s.live ≡ Some p
 May (Dropped p) s = s.own ≡ Some p
 May (Said p z) s = s.own ≡ Some p
-May {A = A} (Handled p z) s = (s.live ≡ Some p) × ((t : SeenSession A) × (rest : List A) × (s.sessions p ≡ Some t) × (t.counted ≡ true) × (t.up_put ≡ t.up_got ++ z ∷ rest))
-May {A = A} (Served p z) s = (s.live ≡ Some p) × ((t : SeenSession A) × (s.sessions p ≡ Some t) × (t.counted ≡ true))
+May {A = A} (Handled p z) s = (s.live ≡ Some p) × ((t : SeenSession A) × (rest : List A) × (s.sessions p ≡ Some t) × (t.counted ≡ true) × (t.epoch ≡ Some s.epoch) × (t.up_put ≡ t.up_got ++ z ∷ rest))
+May {A = A} (Served p z) s = (s.live ≡ Some p) × ((t : SeenSession A) × (s.sessions p ≡ Some t) × (t.counted ≡ true) × (t.epoch ≡ Some s.epoch))
 May {A = A} (Heard p z) s = (s.own ≡ Some p) × ((t : SeenSession A) × (rest : List A) × (s.sessions p ≡ Some t) × (t.down_put ≡ t.down_got ++ z ∷ rest))
 May {A = A} (Learned p n) s = (s.own ≡ Some p) × ((t : SeenSession A) × (s.sessions p ≡ Some t) × (t.acked ≤ n) × (n ≤ length t.up_got))
 

@@ -26,7 +26,7 @@ IsFair (Errs Constraint) = Unit {0}
 IsFair (Errs TooHigh) = ⊥
 IsFair Closes = ⊥
 
--- L1: a connection whose pipes flow is the one that the client works on, and the server neither ended it nor heard of
+-- A connection whose pipes flow is the one that the client works on, and the server neither ended it nor heard of
 -- its end; what a client left has nothing on its way down, and what the server ended has nothing on its way up
 pub record ArePiped {A : Type 0} (works : Bool) (c : Conn A) : Type 0 where
   pub flowing : is_flowing c.wires ≡ true → (works ≡ true) × (c.ending ≡ Stands) × (c.gone ≡ false)
@@ -36,14 +36,14 @@ pub record ArePiped {A : Type 0} (works : Bool) (c : Conn A) : Type 0 where
   pub ended : (c.ending ≡ Stands) ⊎ (up_words c.wires ≡ [])
   pub gone : c.gone ≡ true → up_words c.wires ≡ []
 
--- L5, and the one word of a connection that was left (L4): who resumes has read its session and stated its count; whom
--- the server is to count has an epoch
+-- what the words that ask for a session say, also on a connection that was left: who resumes has read its session and
+-- stated its count; whom the server is to count has an epoch
 abbrev pub IsAsked : {A : Type 0} → Table (Session A) → Stage A → Type 0
 IsAsked {A = A} sessions (AsksResume p h) = (s : Session A) × (sessions p ≡ Some s) × (s.read ≡ true) × Contains s.down.stated h
 IsAsked {A = A} sessions (AsksEnable m) = (s : Session A) × (e : ℕ) × (sessions m ≡ Some s) × (s.epoch ≡ Some e)
 IsAsked sessions _ = Unit {0}
 
--- L3, what the rows of the table say of the client's session, on the connection that the client works on
+-- what the rows of the table say of the client's session, on the connection that the client works on
 abbrev pub IsOwn : {A : Type 0} → Option (Own A) → ℕ → Type 0
 IsOwn {A = A} own p = (o : Own A) × (own ≡ Some o) × (o.number ≡ p)
 
@@ -71,7 +71,7 @@ carried_of (Enables m downs) = Some m
 carried_of (Runs p ups downs) = Some p
 carried_of _ = None
 
--- each connection: its pipes (L1), its row of the table (L3, L4), and the server's row of the session on it (L2)
+-- each connection: its pipes, its row of the table, and the server's row of the session on it
 pub record ConnKept {A : Type 0} (v : View A) (k : ℕ) (c : Conn A) : Type 0 where
   pub piped : ArePiped (has v.here k) c
   pub stage : Stage A
@@ -82,13 +82,13 @@ pub record ConnKept {A : Type 0} (v : View A) (k : ℕ) (c : Conn A) : Type 0 wh
   pub uncounted : (r : Row A) → v.row ≡ Some r → r.on ≡ Some k → is_yet stage ≡ true → r.counted ≡ false
   pub counting : (r : Row A) → v.row ≡ Some r → r.on ≡ Some k → (p : ℕ) → carried_of stage ≡ Some p → r.counted ≡ true
 
--- L9 and L10, up: what is under way in the session is what goes up on the connection that the server has it on
+-- what is under way in the session is what goes up on the connection that the server has it on
 pub record GoesUp {A : Type 0} (c : Conn A) (s : Session A) : Type 0 where
   pub way : s.up.way ≡ up_stanzas (up_words c.wires)
   pub is_open : s.up.is_open ≡ is_flowing c.wires && sends c.client
   pub counts : UpCounts s.down.acked s.down.stated (up_words c.wires)
 
--- L9 and L10, down, on the connection that the client works on
+-- and down, on the connection that the client works on
 pub record GoesDown {A : Type 0} (c : Conn A) (s : Session A) : Type 0 where
   pub counted : s.counted ≡ true
   pub way : s.down.way ≡ down_stanzas (down_words c.wires)
@@ -100,12 +100,12 @@ pub record IsQuiet {A : Type 0} (d : Direction A) : Type 0 where
   pub way : d.way ≡ []
   pub is_open : d.is_open ≡ false
 
--- L2, where the server's row is: parked, or on a connection that has it
+-- where the server's row is: parked, or on a connection that has it
 abbrev pub IsPlaced : {A : Type 0} → Table (Conn A) → Row A → Session A → Option ℕ → Type 0
 IsPlaced conns r s None = (r.counted ≡ true) × IsQuiet s.up
 IsPlaced {A = A} conns r s (Some k) = (c : Conn A) × (conns k ≡ Some c) × (session_on c ≡ Some r.number) × (s.counted ≡ true → GoesUp c s)
 
--- L2 and L7: the server's row and its session
+-- the server's row and its session: its counts and its queue are its ends of both directions
 pub record RowKept {A : Type 0} (conns : Table (Conn A)) (sessions : Table (Session A)) (r : Row A) : Type 0 where
   pub session : Session A
   pub is : sessions r.number ≡ Some session
@@ -115,7 +115,7 @@ pub record RowKept {A : Type 0} (conns : Table (Conn A)) (sessions : Table (Sess
   pub queue : r.queue ≡ queue_of session.down
   pub placed : IsPlaced conns r session r.on
 
--- L8: the client's session
+-- the client's session: likewise
 pub record OwnKept {A : Type 0} (epoch : ℕ) (sessions : Table (Session A)) (o : Own A) : Type 0 where
   pub session : Session A
   pub is : sessions o.number ≡ Some session
@@ -125,7 +125,7 @@ pub record OwnKept {A : Type 0} (epoch : ℕ) (sessions : Table (Session A)) (o 
   pub acked : o.acked ≡ session.up.acked
   pub queue : o.queue ≡ queue_of session.up
 
--- L6: each session: its directions come by moves of delivery; one that isn't counted has not begun
+-- each session: its directions come by moves of delivery; one that isn't counted has not begun
 pub record SessionKept {A : Type 0} (s : Session A) : Type 0 where
   pub up : Reached s.up
   pub down : Reached s.down
@@ -143,8 +143,9 @@ IsCarried {A = A} v p = (k : ℕ) × (c : Conn A) × (v.here ≡ Some k) × (v.c
 abbrev pub IsBare : {A : Type 0} → List (UpWord A) → Type 0
 IsBare ws = (ws ≡ []) ⊎ (ws ≡ Foot ∷ [])
 
--- L1 to L10 of one device; the last one is L5's second half: while the way down of the client's connection carries a
--- session that a late resumption took to another one, nothing goes up on that one
+-- All that moves of one device keep: of its connections, the server's row, the client's session, all sessions, and what
+-- is under way. The last is of late resumptions: while the way down of the client's connection carries a session that
+-- one took to another connection, nothing goes up on that one.
 pub record LinkKept {A : Type 0} (v : View A) : Type 0 where
   pub there : (k : ℕ) → v.here ≡ Some k → (c : Conn A) × (v.conns k ≡ Some c)
   pub conns : (k : ℕ) (c : Conn A) → v.conns k ≡ Some c → ConnKept v k c

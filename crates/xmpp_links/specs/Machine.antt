@@ -97,7 +97,7 @@ LinkMoves (Demands k) v next = IsServerRequest k v next
 
 -- a device at the beginning
 abbrev pub nothing_yet : {A : Type 0} → View A
-nothing_yet = record { here = None; conns = λ k. None; row = None; own = None; epoch = 0; sessions = λ p. None }
+nothing_yet = record { here = None; conns = λ k. None; row = None; own = None; epoch = 0; sessions = λ p. None; free = 0 }
 
 -- the moves lead, one after the other, from the one view to the other
 abbrev pub LinkReaches : {A : Type 0} → List (LinkMove A) → View A → View A → Type 0

@@ -1,8 +1,11 @@
 -- What holds wherever the moves lead.
-use Rattle.std.specs.Prelude.{◌≡◌, ℕ, ◌+◌, ◌≤◌, ◌⊎◌, Bool, true, false, List, length, None, Some}
+use Rattle.std.specs.Prelude.{◌≡◌, ℕ, ◌+◌, ◌≤◌, ◌⊎◌, Bool, true, false, List, [], length, None, Some}
 use Rattle.xmpp_acks.specs.Delivery.{queue_of}
 use Rattle.xmpp_links.specs.Words.{UpWord, Hdr, Auth, Resp, ResumeAt, Bind, Enable, Up, Foot, DownWord, Head, Feat, Chal, Succ, Failed, Resumed, Bound, Enabled, Down, Err, End, Conflict, Constraint, Client, InHeader1, InFeatures1, InAuth, InResponse, InHeader2, InFeatures2, InResume, InBind, InEnable, InOnline, Phase, Start, Sasl, Challenge, Restart, Ready, AtSession}
+use Rattle.xmpp_links.specs.Wires.{up_words, down_words}
+use Rattle.xmpp_links.specs.Stages.{Conn}
 use Rattle.xmpp_links.specs.Views.{View, has, Session, Row, Own}
+use Rattle.xmpp_links.specs.Machine.{LinkMove, LinkReaches}
 
 -- the server's row has the counts and the queue of its ends of both directions
 pub record IsServerEnd {A : Type 0} (r : Row A) (s : Session A) : Type 0 where
@@ -51,3 +54,21 @@ IsExpectedDown v client (Enabled m) = (v.own ≡ None) × (client ≡ InEnable)
 IsExpectedDown {A = A} v client (Down t) = (o : Own A) × (v.own ≡ Some o) × (client ≡ InOnline o.number)
 IsExpectedDown v client (Err cause) = (cause ≡ Conflict) ⊎ (cause ≡ Constraint)
 IsExpectedDown v client End = ⊥
+
+-- the server takes the first word up: some moves lead to where it was taken from the pipe, or the stream was ended
+pub record IsTaken {A : Type 0} (v : View A) (k : ℕ) (rest : List (UpWord A)) : Type 0 where
+  pub moves : List (LinkMove A)
+  pub next : View A
+  pub reaches : LinkReaches moves v next
+  pub conn : Conn A
+  pub is : next.conns k ≡ Some conn
+  pub taken : (up_words conn.wires ≡ rest) ⊎ (up_words conn.wires ≡ [])
+
+-- and the client the first word down; at an error it leaves
+pub record IsRead {A : Type 0} (v : View A) (k : ℕ) (rest : List (DownWord A)) : Type 0 where
+  pub moves : List (LinkMove A)
+  pub next : View A
+  pub reaches : LinkReaches moves v next
+  pub conn : Conn A
+  pub is : next.conns k ≡ Some conn
+  pub taken : (down_words conn.wires ≡ rest) ⊎ (next.here ≡ None)

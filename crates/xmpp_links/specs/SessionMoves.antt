@@ -95,10 +95,12 @@ pub record IsBound {A : Type 0} (k m : ℕ) (v next : View A) : Type 0 where
   pub phase : conn.phase ≡ Ready
   pub none : v.row ≡ None
   pub fresh : v.sessions m ≡ None
+  pub rises : v.free ≤ m
   pub gives : next ≡ record v {
     conns = with_at k (record conn { phase = AtSession m; wires = send_down (Bound m ∷ []) (left_up rest conn.wires) }) v.conns;
     row = Some (record { number = m; on = Some k; counted = false; acked = 0; handled = 0; queue = [] });
     sessions = with_at m unread v.sessions;
+    free = m + 1;
   }
 
 -- the client reads that a session was bound for it, and begins an epoch

@@ -53,7 +53,7 @@ pub record Own (A : Type 0) : Type 0 where
   pub queue : List A
 
 -- the device: the connection that its client works on, all of its connections, the server's row and the client's
--- session, the client's epoch, and all sessions
+-- session, the client's epoch, all sessions, and a number below which theirs are
 pub record View (A : Type 0) : Type 0 where
   pub here : Option ℕ
   pub conns : Table (Conn A)
@@ -61,6 +61,7 @@ pub record View (A : Type 0) : Type 0 where
   pub own : Option (Own A)
   pub epoch : ℕ
   pub sessions : Table (Session A)
+  pub free : ℕ
 
 -- the session that the server has on a connection, while it neither ended the stream nor heard of the end
 abbrev pub on_phase : Phase → Ending → Bool → Option ℕ

@@ -27,6 +27,7 @@ sends_all_again = record {
   own = Some (record { number = 1; acked = 1; handled = 0; queue = 11 ∷ [] });
   epoch = 1;
   sessions = with_at 1 (known (record { put = 10 ∷ 11 ∷ []; acked = 1; got = 10 ∷ []; way = 11 ∷ []; is_open = true; stated = 1 ∷ [] }) (record beginning { stated = 0 ∷ [] })) nothing;
+  free = 2;
 }
 
 -- The server handled 10, and none of its own stanzas is acknowledged. In `resumed` it states the acknowledged count.
@@ -38,6 +39,7 @@ states_acknowledged = record {
   own = Some (record { number = 1; acked = 0; handled = 0; queue = 10 ∷ 11 ∷ [] });
   epoch = 1;
   sessions = with_at 1 (known (record { put = 10 ∷ 11 ∷ []; acked = 0; got = 10 ∷ []; way = []; is_open = false; stated = 0 ∷ [] }) (record beginning { stated = 0 ∷ [] })) nothing;
+  free = 2;
 }
 
 -- The client handled 20 behind an old `resume` that states none. The server takes that word late, on a connection that
@@ -50,6 +52,7 @@ resumes_late = record {
   own = Some (record { number = 1; acked = 0; handled = 1; queue = [] });
   epoch = 1;
   sessions = with_at 1 (known (record beginning { is_open = false; stated = 0 ∷ [] }) (record { put = 20 ∷ []; acked = 1; got = 20 ∷ []; way = []; is_open = false; stated = 0 ∷ 1 ∷ [] })) nothing;
+  free = 2;
 }
 
 -- A bind on connection 2 makes session 2, and leaves session 1 on connection 1, where the client is online with it.
@@ -61,4 +64,5 @@ binds_beside = record {
   own = Some (record { number = 1; acked = 0; handled = 0; queue = [] });
   epoch = 1;
   sessions = with_at 2 (record { epoch = None; counted = false; read = false; up = beginning; down = beginning }) (with_at 1 (known beginning beginning) nothing);
+  free = 3;
 }

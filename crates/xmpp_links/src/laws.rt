@@ -7,10 +7,12 @@ ghost use Rattle.xmpp_links.specs.Stages.{Conn};
 ghost use Rattle.xmpp_links.specs.Views.{carries, has, Own, Row, Session, View};
 ghost use Rattle.xmpp_links.specs.EndMoves.{IsTooHigh};
 ghost use Rattle.xmpp_links.specs.Events.{Event, Follows, IsSeenAs, seen};
-ghost use Rattle.xmpp_links.specs.Machine.{LinkMove, LinkMoves, LinkReached, nothing_yet};
+ghost use Rattle.xmpp_links.specs.Machine.{LinkMove, LinkMoves, LinkReached, LinkReaches, nothing_yet};
+ghost use Rattle.xmpp_links.specs.Numbers.{IsRising};
+ghost use Rattle.xmpp_links.specs.Sums.{said_in, served_in};
 ghost use Rattle.xmpp_links.specs.Covers.{IsSettled, PromptReached};
 ghost use Rattle.xmpp_links.specs.Wrong.{binds_beside, resumes_late, sends_all_again, states_acknowledged};
-ghost use Rattle.xmpp_links.specs.Promises.{IsClientEnd, IsExpectedDown, IsExpectedUp, IsServerEnd, IsWithin};
+ghost use Rattle.xmpp_links.specs.Promises.{IsClientEnd, IsExpectedDown, IsExpectedUp, IsRead, IsServerEnd, IsTaken, IsWithin};
 
 /// Of each session that a device ever had, both directions are those of acknowledged delivery: what the one end handled
 /// is a prefix of what the other end put, and no more is acknowledged than was handled. The server's row and the
@@ -50,12 +52,16 @@ pub fn counts_are_too_high_only_where_the_client_left<A>()
 
 /// Each word comes where its reader expects it, so that neither end answers one by ending the stream. The server's
 /// stream errors that the client reads are `conflict` and `resource-constraint` (RFC 6120, section 4.9.3), and a footer
-/// never comes to it alone.
+/// never comes to it alone. There are moves by which each word is taken from its pipe (`taken`, `read`).
 pub fn words_come_where_they_are_expected<A>()
     ensures up { (v : View A) (k : ℕ) (c : Conn A) (w : UpWord A) (rest : List (UpWord A)) → LinkReached v → v.conns k ≡ Some c →
         up_words c.wires ≡ w ∷ rest → IsExpectedUp v k c.phase w }
     ensures down { (v : View A) (k : ℕ) (c : Conn A) (w : DownWord A) (rest : List (DownWord A)) → LinkReached v → v.here ≡ Some k → v.conns k ≡ Some c →
         down_words c.wires ≡ w ∷ rest → IsExpectedDown v c.client w }
+    ensures taken { (v : View A) (k : ℕ) (c : Conn A) (w : UpWord A) (rest : List (UpWord A)) → LinkReached v → v.conns k ≡ Some c →
+        up_words c.wires ≡ w ∷ rest → IsTaken v k rest }
+    ensures read { (v : View A) (k : ℕ) (c : Conn A) (w : DownWord A) (rest : List (DownWord A)) → LinkReached v → v.here ≡ Some k → v.conns k ≡ Some c →
+        down_words c.wires ≡ w ∷ rest → IsRead v k rest }
 {}
 
 /// Where a connection that the client works on has not ended and nothing stands in its pipes, nothing is outstanding:
@@ -73,6 +79,20 @@ pub fn empty_pipes_leave_nothing_outstanding<A>()
 pub fn moves_are_events_of_sessions<A>()
     ensures moves { (move : LinkMove A) (v next : View A) → LinkReached v → LinkMoves move v next → (e : Option (Event A)) × IsSeenAs e (seen v) (seen next) }
     ensures runs { (v : View A) → LinkReached v → (es : List (Event A)) × Follows es (seen nothing_yet) (seen v) }
+{}
+
+/// The numbers of sessions rise with their epochs: the session that the server has is the newest, whichever connection
+/// bound it; one of which the client will read first that it was bound is above all that have an epoch; and where the
+/// server's session has an epoch, that is the client's present one.
+pub fn numbers_rise_with_epochs<A>()
+    ensures { (v : View A) → LinkReached v → IsRising v }
+{}
+
+/// In no session more stanzas are put than the moves say, by the client and by the server. So where these are fewer than
+/// 2 ^ 32, no count comes to its modulus, since none is above what was put.
+pub fn counts_are_at_most_the_puts<A>()
+    ensures { (moves : List (LinkMove A)) (v : View A) → LinkReaches moves nothing_yet v → (p : ℕ) (s : Session A) → v.sessions p ≡ Some s →
+        (length s.up.put ≤ said_in moves) × (length s.down.put ≤ served_in moves) }
 {}
 
 /// Wrong ends come to where no moves lead: a client that sends its whole queue again without regard to the count that it

@@ -1,4 +1,7 @@
 use Rattle.xmpp_links.proofs.Reached.{link_kept}
+use Rattle.xmpp_links.proofs.Numbers.{reached_rises}
+use Rattle.xmpp_links.proofs.Taking.{up_taken}
+use Rattle.xmpp_links.proofs.Reading.{down_read}
 use Rattle.xmpp_links.proofs.Expected.{expected_up, expected_down}
 use Rattle.xmpp_links.proofs.laws.words_come_where_they_are_expected.Goals as goal
 
@@ -7,3 +10,9 @@ returns-clause-up g c = λ v k conn w rest reached is first. expected_up v k con
 
 pub returns-clause-down : goal.returns-clause-down
 returns-clause-down g c = λ v k conn w rest reached here is first. expected_down v k conn w rest (link_kept v reached) here is first
+
+pub returns-clause-taken : goal.returns-clause-taken
+returns-clause-taken g c = λ v k conn w rest reached is first. up_taken v k conn w rest (link_kept v reached) (reached_rises v reached) is first
+
+pub returns-clause-read : goal.returns-clause-read
+returns-clause-read g c = λ v k conn w rest reached here is first. down_read v k conn w rest (link_kept v reached) here is first
