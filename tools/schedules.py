@@ -3,6 +3,7 @@ import random
 
 TEXTS = ["hi", "<&>'\"", "]]>", " two  blanks ", "zwei Wörter é😀", "x" * 40, "a", "&amp;"]
 KEEPS = [None, None, None, 1, 2, 3, 5, 20, 4_294_967_295]
+HEADERS = ["xmpp-schedule 1 wire", "xmpp-schedule 2 wire 0", "xmpp-schedule 2 wire", "xmpp-schedule 2 direct 3"]
 NUMBERS = ["", "-1", "01", "1.5", "x", "4294967296", "99999999999999999999"]
 
 
@@ -107,7 +108,8 @@ def loses(made):
         return made.dial(device)
     for _ in range(made.draw.randrange(4)):
         says(made, device)
-    made.add(*made.draw.sample([f"catchup {device} 3", f"pass {conn} 1", f"up {conn} all", f"down {conn} 200"], made.draw.randrange(4)))
+    moves = [f"catchup {device} 3", f"pass {conn} 1", f"up {conn} all", f"down {conn} 200"]
+    made.add(*made.draw.sample(moves, made.draw.randrange(4)))
     made.add(f"cut {conn} {made.count(1200)} {made.count(3000)}")
     made.add(*made.draw.choice([[f"up {conn} all", f"down {conn} all"], [f"up {conn} all"], [f"down {conn} all"], []]))
     if made.draw.random() < 0.4:
@@ -194,10 +196,10 @@ def spoilt(draw, lines):
     elif how == 6:
         words = draw.choice(lines[1:]).split(" ")
     elif how == 7:
-        return lines[:at] + draw.choice([["run 1000"] * 101, ["dial d0"] * 10_001, [f"account b{i}" for i in range(100)]]) + lines[at:]
+        many = draw.choice([["run 1000"] * 101, ["dial d0"] * 10_001, [f"account b{i}" for i in range(100)]])
+        return lines[:at] + many + lines[at:]
     else:
-        words = draw.choice(["xmpp-schedule 1 wire", "xmpp-schedule 2 wire 0", "xmpp-schedule 2 wire", "xmpp-schedule 2 direct 3"]).split(" ")
-        at = 0
+        at, words = 0, draw.choice(HEADERS).split(" ")
     return lines[:at] + [" ".join(words)] + lines[at + 1:]
 
 
