@@ -27,20 +27,24 @@ def b64(data):
     return base64.b64encode(data).decode()
 
 
-def login(name, password, entropy, nonce="abcdef", changed=0):
-    """The bytes of a stream up to the header behind its login, for the entropy that is drawn for the connection. `changed` is
-    what the proof's first byte is changed by."""
+def answer(name, password, nonce, both, changed=0):
+    """What a client answers to a challenge with the nonce of both. `changed` is what the proof's first byte is changed by."""
     key, salt = client_key(name, password)
-    bare = f"n={name},r={nonce}"
-    both = nonce + b64(entropy[:18])
     first = f"r={both},s={b64(salt)},i={ITERATIONS}"
     final = f"c=biws,r={both}"
-    stored = hashlib.sha256(key).digest()
-    signature = mac(stored, ",".join([bare, first, final]).encode())
+    signature = mac(hashlib.sha256(key).digest(), ",".join([f"n={name},r={nonce}", first, final]).encode())
     proof = bytearray(a ^ b for a, b in zip(key, signature))
     proof[0] ^= changed
-    return (f"{STREAM}<auth xmlns='{SASL}' mechanism='SCRAM-SHA-256'>{b64(('n,,' + bare).encode())}</auth>"
-            f"<response xmlns='{SASL}'>{b64((final + ',p=' + b64(proof)).encode())}</response>{STREAM}")
+    return f"<response xmlns='{SASL}'>{b64((final + ',p=' + b64(proof)).encode())}</response>"
+
+
+def auth(name, nonce):
+    return f"<auth xmlns='{SASL}' mechanism='SCRAM-SHA-256'>{b64(f'n,,n={name},r={nonce}'.encode())}</auth>"
+
+
+def login(name, password, entropy, nonce="abcdef", changed=0):
+    """The bytes of a stream up to the header behind its login, for the entropy that is drawn for the connection."""
+    return STREAM + auth(name, nonce) + answer(name, password, nonce, nonce + b64(entropy[:18]), changed) + STREAM
 
 
 def bind(resource):
