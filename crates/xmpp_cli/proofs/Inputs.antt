@@ -1,14 +1,16 @@
 -- What is said of the bytes that were read, said of the bytes that the source tells.
 use Rattle.std.proofs.Common.{◌≡◌, ℕ, Bool, true, false, ◌≤◌, List, length, Option, Some, None, Result, Ok, Err, IfOk, IfSome, inl, inr, sym, ◌∙◌, subst}
 use Rattle.std.specs.Io.KnownBytes.{IsAtEnd}
+use Rattle.xmpp_syncing.specs.declared.fault.SyncFault.{SyncFault}
 use Rattle.xmpp_edge.specs.declared.whole_reads.TheConstants.{MOST_BYTES_READ}
+use Rattle.xmpp_cli.specs.Dealings.{Dealings}
 use Rattle.xmpp_cli.specs.Words.{reads}
-use Rattle.xmpp_cli.specs.Table.{IsReplayed, IsRefusal, IsRefused, IsChecked, IsReadWhole, IsRerun, IsRerunRefusal, IsDone, IsAnswer, IsDueOf, Due}
-use Rattle.xmpp_cli.specs.declared.answering.Answer.{Answer}
+use Rattle.xmpp_cli.specs.Table.{IsReplayed, IsRefusal, IsRefused, IsChecked, IsReadWhole, IsRerun, IsRerunRefusal, IsServed, IsAccountsRefusal, HasSynced, IsScriptRefusal, IsStopped, HasLinkFailed, HasPeerFailed, HasEntropyFailed, IsDone, IsAnswer, IsDueOf, Due}
+use Rattle.xmpp_cli.specs.declared.answer.Answer.{Answer}
 use Rattle.xmpp_cli.specs.declared.command.Command.{Command}
-use Rattle.xmpp_cli.specs.declared.command.Command.TheVariants.{Help, Version, Replay, Check, Rerun}
+use Rattle.xmpp_cli.specs.declared.command.Command.TheVariants.{Help, Version, Replay, Check, Rerun, Serve, Sync}
 use Rattle.xmpp_cli.specs.declared.outcome.Outcome.{Outcome}
-use Rattle.xmpp_cli.specs.declared.outcome.Outcome.TheVariants.{Done, WrongWords, Refused, ReadFault, TooLong}
+use Rattle.xmpp_cli.specs.declared.outcome.Outcome.TheVariants.{Done, WrongWords, Refused, ReadFault, LinkFault, PeerFault, EntropyFault, TooLong}
 
 replayed_of_known : (input : List ℕ) (known : Option (List ℕ)) (text : List ℕ) → IfSome known (λ all. input ≡ all) → IsReplayed (Some input) text → IsReplayed known text
 replayed_of_known input None text same (schedule, report, is, spelled, of, due) = (schedule, report, is, tt, of, due)
@@ -32,12 +34,52 @@ rerun_refusal_of_known : (input : List ℕ) (known : Option (List ℕ)) (text : 
 rerun_refusal_of_known input None text same (line, reason, why, due) = (line, reason, tt, due)
 rerun_refusal_of_known input (Some all) text same refusal = subst (λ bytes. IsRerunRefusal (Some bytes) text) same refusal
 
-done_of_known : (command : Command) (input : List ℕ) (known : Option (List ℕ)) (text : List ℕ) → IfSome known (λ all. input ≡ all) → IsDone command (Some input) text → IsDone command known text
-done_of_known Help input known text same done = done
-done_of_known Version input known text same done = done
-done_of_known Replay input known text same done = replayed_of_known input known text same done
-done_of_known Check input known text same done = checked_of_known true input known text same done
-done_of_known Rerun input known text same done = rerun_of_known input known text same done
+served_of_known : (connections : ℕ) (input : List ℕ) (known : Option (List ℕ)) (dealt : Dealings) (text : List ℕ) → IfSome known (λ all. input ≡ all) → IsServed (Some input) connections dealt text → IsServed known connections dealt text
+served_of_known connections input None dealt text same (accounts, is, served) = (accounts, tt, served)
+served_of_known connections input (Some all) dealt text same served = subst (λ bytes. IsServed (Some bytes) connections dealt text) same served
+
+accounts_refusal_of_known : (input : List ℕ) (known : Option (List ℕ)) (text : List ℕ) → IfSome known (λ all. input ≡ all) → IsAccountsRefusal (Some input) text → IsAccountsRefusal known text
+accounts_refusal_of_known input None text same (line, reason, why, due) = (line, reason, tt, due)
+accounts_refusal_of_known input (Some all) text same refusal = subst (λ bytes. IsAccountsRefusal (Some bytes) text) same refusal
+
+synced_of_known : (input : List ℕ) (known : Option (List ℕ)) (dealt : Dealings) (text : List ℕ) → IfSome known (λ all. input ≡ all) → HasSynced (Some input) dealt text → HasSynced known dealt text
+synced_of_known input None dealt text same (script, is, synced) = (script, tt, synced)
+synced_of_known input (Some all) dealt text same synced = subst (λ bytes. HasSynced (Some bytes) dealt text) same synced
+
+script_refusal_of_known : (input : List ℕ) (known : Option (List ℕ)) (text : List ℕ) → IfSome known (λ all. input ≡ all) → IsScriptRefusal (Some input) text → IsScriptRefusal known text
+script_refusal_of_known input None text same (line, reason, why, due) = (line, reason, tt, due)
+script_refusal_of_known input (Some all) text same refusal = subst (λ bytes. IsScriptRefusal (Some bytes) text) same refusal
+
+stopped_of_known : (input : List ℕ) (known : Option (List ℕ)) (dealt : Dealings) (fault : SyncFault) → IfSome known (λ all. input ≡ all) → IsStopped (Some input) dealt fault → IsStopped known dealt fault
+stopped_of_known input None dealt fault same (script, is, stopped) = (script, tt, stopped)
+stopped_of_known input (Some all) dealt fault same stopped = subst (λ bytes. IsStopped (Some bytes) dealt fault) same stopped
+
+link_of_known : (command : Command) (input : List ℕ) (known : Option (List ℕ)) (dealt : Dealings) → IfSome known (λ all. input ≡ all) → HasLinkFailed command (Some input) dealt → HasLinkFailed command known dealt
+link_of_known Help input known dealt same failed = absurd failed
+link_of_known Version input known dealt same failed = absurd failed
+link_of_known Replay input known dealt same failed = absurd failed
+link_of_known Check input known dealt same failed = absurd failed
+link_of_known Rerun input known dealt same failed = absurd failed
+link_of_known (Serve port connections) input known dealt same failed = failed
+link_of_known (Sync port) input known dealt same failed = stopped_of_known input known dealt _ same failed
+
+peer_of_known : (command : Command) (input : List ℕ) (known : Option (List ℕ)) (dealt : Dealings) (text : List ℕ) → IfSome known (λ all. input ≡ all) → HasPeerFailed command (Some input) dealt text → HasPeerFailed command known dealt text
+peer_of_known Help input known dealt text same failed = absurd failed
+peer_of_known Version input known dealt text same failed = absurd failed
+peer_of_known Replay input known dealt text same failed = absurd failed
+peer_of_known Check input known dealt text same failed = absurd failed
+peer_of_known Rerun input known dealt text same failed = absurd failed
+peer_of_known (Serve port connections) input known dealt text same failed = absurd failed
+peer_of_known (Sync port) input known dealt text same (failure, stopped, due) = (failure, stopped_of_known input known dealt _ same stopped, due)
+
+done_of_known : (command : Command) (input : List ℕ) (known : Option (List ℕ)) (dealt : Dealings) (text : List ℕ) → IfSome known (λ all. input ≡ all) → IsDone command (Some input) dealt text → IsDone command known dealt text
+done_of_known Help input known dealt text same done = done
+done_of_known Version input known dealt text same done = done
+done_of_known Replay input known dealt text same done = replayed_of_known input known text same done
+done_of_known Check input known dealt text same done = checked_of_known true input known text same done
+done_of_known Rerun input known dealt text same done = rerun_of_known input known text same done
+done_of_known (Serve port connections) input known dealt text same done = served_of_known connections input known dealt text same done
+done_of_known (Sync port) input known dealt text same done = synced_of_known input known dealt text same done
 
 refused_of_known : (command : Command) (input : List ℕ) (known : Option (List ℕ)) (text : List ℕ) → IfSome known (λ all. input ≡ all) → IsRefused command (Some input) text → IsRefused command known text
 refused_of_known Help input known text same refused = refused
@@ -45,6 +87,8 @@ refused_of_known Version input known text same refused = refused
 refused_of_known Replay input known text same refused = refusal_of_known input known text same refused
 refused_of_known Check input known text same refused = checked_of_known false input known text same refused
 refused_of_known Rerun input known text same refused = rerun_refusal_of_known input known text same refused
+refused_of_known (Serve port connections) input known text same refused = accounts_refusal_of_known input known text same refused
+refused_of_known (Sync port) input known text same refused = script_refusal_of_known input known text same refused
 
 -- what was seen is what was read, and so what the source tells
 known_as_seen : (seen input : List ℕ) (known : Option (List ℕ)) → seen ≡ input → IfSome known (λ all. input ≡ all) → IfSome known (λ all. seen ≡ all)
@@ -56,31 +100,36 @@ short_as_read input None same short = tt
 short_as_read input (Some all) same short = subst (λ bytes. length bytes ≤ MOST_BYTES_READ) same short
 
 -- an answer to what was seen is due of what the source tells
-due_of_answer : (command : Command) (seen : List ℕ) (known left : Option (List ℕ)) (rose : Type 0) (outcome : Outcome) (text : List ℕ)
-    → IfSome known (λ all. seen ≡ all) → IsReadWhole known left → IsAnswer command (Some seen) outcome text → IsDueOf command known left rose outcome text
-due_of_answer command seen known left rose Done text same whole answer = (done_of_known command seen known text same answer, λ e. whole)
-due_of_answer command seen known left rose Refused text same whole answer = (refused_of_known command seen known text same answer, λ e. whole)
-due_of_answer command seen known left rose WrongWords text same whole answer = absurd answer
-due_of_answer command seen known left rose ReadFault text same whole answer = absurd answer
-due_of_answer command seen known left rose TooLong text same whole answer = absurd answer
+due_of_answer : (command : Command) (seen : List ℕ) (known left : Option (List ℕ)) (rose : Type 0) (dealt : Dealings) (outcome : Outcome) (text : List ℕ)
+    → IfSome known (λ all. seen ≡ all) → IsReadWhole known left → IsAnswer command (Some seen) dealt outcome text → IsDueOf command known left rose dealt outcome text
+due_of_answer command seen known left rose dealt Done text same whole answer = (done_of_known command seen known dealt text same answer, λ e. whole)
+due_of_answer command seen known left rose dealt Refused text same whole answer = (refused_of_known command seen known text same answer, λ e. whole)
+due_of_answer command seen known left rose dealt WrongWords text same whole answer = absurd answer
+due_of_answer command seen known left rose dealt ReadFault text same whole answer = absurd answer
+due_of_answer command seen known left rose dealt LinkFault text same whole answer = ((link_of_known command seen known dealt same answer.0, answer.1), λ e. whole)
+due_of_answer command seen known left rose dealt PeerFault text same whole answer = (peer_of_known command seen known dealt text same answer, λ e. whole)
+due_of_answer command seen known left rose dealt EntropyFault text same whole answer = (answer, λ e. whole)
+due_of_answer command seen known left rose dealt TooLong text same whole answer = absurd answer
 
 -- the answer to what was read whole is due
-pub due_of_read : {E : Type 0} (result : Result Answer E) (command : Command) (seen input : List ℕ) (known left : Option (List ℕ)) (rose : Type 0)
+pub due_of_read : {E : Type 0} (result : Result Answer E) (command : Command) (seen input : List ℕ) (known left : Option (List ℕ)) (rose : Type 0) (dealt : Dealings)
     → seen ≡ input → IfSome known (λ all. input ≡ all) → length input ≤ MOST_BYTES_READ → IsAtEnd left
-    → IfOk result (λ answer. IsAnswer command (Some seen) answer.outcome answer.text.items)
-    → IfOk result (λ answer. Due (Some command) known left rose answer.outcome answer.text.items)
-due_of_read (Ok answer) command seen input known left rose e same short ended is =
-    due_of_answer command seen known left rose answer.outcome answer.text.items (known_as_seen seen input known e same)
+    → IfOk result (λ answer. IsAnswer command (Some seen) dealt answer.outcome answer.text.items)
+    → IfOk result (λ answer. Due (Some command) known left rose dealt answer.outcome answer.text.items)
+due_of_read (Ok answer) command seen input known left rose dealt e same short ended is =
+    due_of_answer command seen known left rose dealt answer.outcome answer.text.items (known_as_seen seen input known e same)
     (record { ended = ended; short = short_as_read input known same short }) is
-due_of_read (Err _) command seen input known left rose e same short ended is = tt
+due_of_read (Err _) command seen input known left rose dealt e same short ended is = tt
 
 -- a command that does not read has the same answer whatever the input is
-unread_done : (command : Command) (seen : List ℕ) (known : Option (List ℕ)) (text : List ℕ) → reads (Some command) ≡ false → IsDone command (Some seen) text → IsDone command known text
-unread_done Help seen known text e done = done
-unread_done Version seen known text e done = done
-unread_done Replay seen known text e done = absurd (cc)
-unread_done Check seen known text e done = absurd (cc)
-unread_done Rerun seen known text e done = absurd (cc)
+unread_done : (command : Command) (seen : List ℕ) (known : Option (List ℕ)) (dealt : Dealings) (text : List ℕ) → reads (Some command) ≡ false → IsDone command (Some seen) dealt text → IsDone command known dealt text
+unread_done Help seen known dealt text e done = done
+unread_done Version seen known dealt text e done = done
+unread_done Replay seen known dealt text e done = absurd (cc)
+unread_done Check seen known dealt text e done = absurd (cc)
+unread_done Rerun seen known dealt text e done = absurd (cc)
+unread_done (Serve port connections) seen known dealt text e done = absurd (cc)
+unread_done (Sync port) seen known dealt text e done = absurd (cc)
 
 unread_refused : (command : Command) (seen : List ℕ) (known : Option (List ℕ)) (text : List ℕ) → reads (Some command) ≡ false → IsRefused command (Some seen) text → IsRefused command known text
 unread_refused Help seen known text e refused = refused
@@ -88,21 +137,53 @@ unread_refused Version seen known text e refused = refused
 unread_refused Replay seen known text e refused = absurd (cc)
 unread_refused Check seen known text e refused = absurd (cc)
 unread_refused Rerun seen known text e refused = absurd (cc)
+unread_refused (Serve port connections) seen known text e refused = absurd (cc)
+unread_refused (Sync port) seen known text e refused = absurd (cc)
+
+unread_link : (command : Command) (seen : List ℕ) (dealt : Dealings) → reads (Some command) ≡ false → ¬ (HasLinkFailed command (Some seen) dealt)
+unread_link Help seen dealt e failed = failed
+unread_link Version seen dealt e failed = failed
+unread_link Replay seen dealt e failed = failed
+unread_link Check seen dealt e failed = failed
+unread_link Rerun seen dealt e failed = failed
+unread_link (Serve port connections) seen dealt e failed = cc
+unread_link (Sync port) seen dealt e failed = cc
+
+unread_peer : (command : Command) (seen : List ℕ) (dealt : Dealings) (text : List ℕ) → reads (Some command) ≡ false → ¬ (HasPeerFailed command (Some seen) dealt text)
+unread_peer Help seen dealt text e failed = failed
+unread_peer Version seen dealt text e failed = failed
+unread_peer Replay seen dealt text e failed = failed
+unread_peer Check seen dealt text e failed = failed
+unread_peer Rerun seen dealt text e failed = failed
+unread_peer (Serve port connections) seen dealt text e failed = failed
+unread_peer (Sync port) seen dealt text e failed = cc
+
+unread_entropy : (command : Command) (dealt : Dealings) → reads (Some command) ≡ false → ¬ (HasEntropyFailed command dealt)
+unread_entropy Help dealt e failed = failed
+unread_entropy Version dealt e failed = failed
+unread_entropy Replay dealt e failed = failed
+unread_entropy Check dealt e failed = failed
+unread_entropy Rerun dealt e failed = failed
+unread_entropy (Serve port connections) dealt e failed = cc
+unread_entropy (Sync port) dealt e failed = cc
 
 unread_whole : {P : Type 0} (command : Command) → reads (Some command) ≡ false → reads (Some command) ≡ true → P
 unread_whole command e is = let both : false ≡ true = sym e ∙ is in absurd (cc)
 
-unread_due : (command : Command) (seen : List ℕ) (known left : Option (List ℕ)) (rose : Type 0) (outcome : Outcome) (text : List ℕ)
-    → reads (Some command) ≡ false → IsAnswer command (Some seen) outcome text → IsDueOf command known left rose outcome text
-unread_due command seen known left rose Done text e answer = (unread_done command seen known text e answer, unread_whole command e)
-unread_due command seen known left rose Refused text e answer = (unread_refused command seen known text e answer, unread_whole command e)
-unread_due command seen known left rose WrongWords text e answer = absurd answer
-unread_due command seen known left rose ReadFault text e answer = absurd answer
-unread_due command seen known left rose TooLong text e answer = absurd answer
+unread_due : (command : Command) (seen : List ℕ) (known left : Option (List ℕ)) (rose : Type 0) (dealt : Dealings) (outcome : Outcome) (text : List ℕ)
+    → reads (Some command) ≡ false → IsAnswer command (Some seen) dealt outcome text → IsDueOf command known left rose dealt outcome text
+unread_due command seen known left rose dealt Done text e answer = (unread_done command seen known dealt text e answer, unread_whole command e)
+unread_due command seen known left rose dealt Refused text e answer = (unread_refused command seen known text e answer, unread_whole command e)
+unread_due command seen known left rose dealt WrongWords text e answer = absurd answer
+unread_due command seen known left rose dealt ReadFault text e answer = absurd answer
+unread_due command seen known left rose dealt LinkFault text e answer = absurd (unread_link command seen dealt e answer.0)
+unread_due command seen known left rose dealt PeerFault text e answer = absurd (unread_peer command seen dealt text e answer)
+unread_due command seen known left rose dealt EntropyFault text e answer = absurd (unread_entropy command dealt e answer.0)
+unread_due command seen known left rose dealt TooLong text e answer = absurd answer
 
 -- the answer of a command that does not read is due
-pub due_unread : {E : Type 0} (result : Result Answer E) (command : Command) (seen : List ℕ) (known left : Option (List ℕ)) (rose : Type 0)
-    → reads (Some command) ≡ false → IfOk result (λ answer. IsAnswer command (Some seen) answer.outcome answer.text.items)
-    → IfOk result (λ answer. Due (Some command) known left rose answer.outcome answer.text.items)
-due_unread (Ok answer) command seen known left rose e is = unread_due command seen known left rose answer.outcome answer.text.items e is
-due_unread (Err _) command seen known left rose e is = tt
+pub due_unread : {E : Type 0} (result : Result Answer E) (command : Command) (seen : List ℕ) (known left : Option (List ℕ)) (rose : Type 0) (dealt : Dealings)
+    → reads (Some command) ≡ false → IfOk result (λ answer. IsAnswer command (Some seen) dealt answer.outcome answer.text.items)
+    → IfOk result (λ answer. Due (Some command) known left rose dealt answer.outcome answer.text.items)
+due_unread (Ok answer) command seen known left rose dealt e is = unread_due command seen known left rose dealt answer.outcome answer.text.items e is
+due_unread (Err _) command seen known left rose dealt e is = tt

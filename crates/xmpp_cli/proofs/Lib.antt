@@ -1,3 +1,4 @@
+pub mod Dialers
 pub mod Inputs
 mod Rows
 pub mod Statuses

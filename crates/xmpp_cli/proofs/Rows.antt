@@ -1,75 +1,143 @@
 -- What the clauses `answered` and `exactly` of `run` say of each status and command, one by one.
-use Rattle.std.proofs.Common.{◌≡◌, ◌≢◌, true, false, ℕ, ◌<◌, ◌≤◌, subst, List, length, Option, Some, None, Err, IfSome, IsTrue, ◌⊎◌, inl, inr, refl, ◌∙◌, sym, arith}
+use Rattle.std.proofs.Common.{◌≡◌, ◌≢◌, true, false, ℕ, ◌<◌, ◌≤◌, subst, List, length, Option, Some, None, Err, IfSome, IsOk, IsTrue, ◌⊎◌, inl, inr, refl, ◌∙◌, sym, arith}
 use Rattle.std.proofs.lemmas.Bool.Decides.{eqb_tells, nat_tests}
 use Rattle.std.specs.Io.KnownBytes.{IsAtEnd}
 use Rattle.xmpp_edge.specs.declared.whole_reads.TheConstants.{MOST_BYTES_READ}
 use Rattle.xmpp_check.specs.Checked.{told}
 use Rattle.xmpp_journal.specs.Journals.{InputView, Says}
-use Rattle.xmpp_journal.specs.Reading.{rerun_reading}
 use Rattle.xmpp_journal.specs.declared.fault.InputFault.TheVariants as inputs
 use Rattle.xmpp_rerun.specs.Reruns.{SaysRun, rerun_of}
 use Rattle.xmpp_schedule.specs.Grammar.{InDirectGrammar}
 use Rattle.xmpp_schedule.specs.declared.fault.LineWhy.{LineWhy}
-use Rattle.xmpp_cli.specs.Texts.{words_line, read_fault_line, too_long_line, bad_line}
-use Rattle.xmpp_cli.specs.Words.{reads}
-use Rattle.xmpp_cli.specs.Table.{code_of, is_status, Due, IsRefusal, MustAnswer}
+use Rattle.xmpp_cli.specs.Texts.{words_line, read_fault_line, too_long_line, bad_line, link_fault_line, entropy_fault_line, peer_line}
+use Rattle.xmpp_journal.specs.Reading.{rerun_reading}
+use Rattle.xmpp_script.specs.Reading.{script_reading}
+use Rattle.xmpp_syncing.specs.declared.failure.PeerFailure.{PeerFailure}
+use Rattle.xmpp_syncing.specs.declared.fault.SyncFault.TheVariants as syncs
+use Rattle.xmpp_edge.specs.Counts.{Rose, Quiet}
+use Rattle.xmpp_cli.specs.Dealings.{Dealings, IsQuietDialer, IsQuietDoor}
+use Rattle.xmpp_cli.specs.Words.{goes_out, reads}
+use Rattle.xmpp_cli.specs.Table.{code_of, is_status, Due, HasDoorFailed, HasSynced, IsAccountsRefusal, IsRefusal, IsScriptRefusal, IsServed, IsStopped, MustAnswer, SaysAccounts}
 use Rattle.xmpp_cli.specs.declared.command.Command.{Command}
-use Rattle.xmpp_cli.specs.declared.command.Command.TheVariants.{Help, Version, Replay, Check, Rerun}
+use Rattle.xmpp_cli.specs.declared.command.Command.TheVariants.{Help, Version, Replay, Check, Rerun, Serve, Sync}
 use Rattle.xmpp_cli.specs.declared.outcome.Outcome.{Outcome}
-use Rattle.xmpp_cli.specs.declared.outcome.Outcome.TheVariants.{Done, WrongWords, Refused, ReadFault, TooLong}
+use Rattle.xmpp_cli.specs.declared.outcome.Outcome.TheVariants.{Done, WrongWords, Refused, ReadFault, LinkFault, PeerFault, EntropyFault, TooLong}
 use Rattle.xmpp_cli.specs.declared.texts.TheConstants.{HELP, VERSION}
 
-module _ (known left : Option (List ℕ)) (rose calm still : Type 0) (Written : List ℕ → Type 0) (result : ℕ) where
+module _ (known left : Option (List ℕ)) (rose calm still : Type 0) (dealt : Dealings) (Written : List ℕ → Type 0) (result : ℕ) where
   abbrev Answered : Option Command → Type 0
-  Answered command = (outcome : Outcome) → result ≡ code_of outcome → (text : List ℕ) × Due command known left rose outcome text × Written text
+  Answered command = (outcome : Outcome) → result ≡ code_of outcome → (text : List ℕ) × Due command known left rose dealt outcome text × Written text
 
   abbrev Exactly : Option Command → Type 0
-  Exactly command = (outcome : Outcome) → MustAnswer command known calm outcome → still → (result ≡ code_of outcome) ⊎ (result ≡ 6)
+  Exactly command = (outcome : Outcome) → MustAnswer command known calm dealt outcome → still → (result ≡ code_of outcome) ⊎ (result ≡ 6)
 
   done_help : (command : Option Command) → Answered command → result ≡ 0 → command ≡ Some Help → Written HELP.now
   done_help command answer zero e =
       let (text, due, out) = answer Done zero in
-      subst Written (subst (λ c. Due c known left rose Done text) e due).0 out
+      subst Written (subst (λ c. Due c known left rose dealt Done text) e due).0 out
 
   done_version : (command : Option Command) → Answered command → result ≡ 0 → command ≡ Some Version → Written VERSION.now
   done_version command answer zero e =
       let (text, due, out) = answer Done zero in
-      subst Written (subst (λ c. Due c known left rose Done text) e due).0 out
+      subst Written (subst (λ c. Due c known left rose dealt Done text) e due).0 out
 
   done_check : (command : Option Command) → Answered command → result ≡ 0 → command ≡ Some Check →
       (stream : List ℕ) × IfSome known (λ input. input ≡ stream) × IsAtEnd left × ((told stream).sound ≡ true) × Written (told stream).text
   done_check command answer zero e =
       let (text, due, out) = answer Done zero in
-      let ((stream, is, sound, text_is), whole) = subst (λ c. Due c known left rose Done text) e due in
+      let ((stream, is, sound, text_is), whole) = subst (λ c. Due c known left rose dealt Done text) e due in
       (stream, is, (whole refl).ended, sound, subst Written text_is out)
 
   refused_check : (command : Option Command) → Answered command → result ≡ 3 → command ≡ Some Check →
       (stream : List ℕ) × IfSome known (λ input. input ≡ stream) × IsAtEnd left × ((told stream).sound ≡ false) × Written (told stream).text
   refused_check command answer three e =
       let (text, due, out) = answer Refused three in
-      let ((stream, is, sound, text_is), whole) = subst (λ c. Due c known left rose Refused text) e due in
+      let ((stream, is, sound, text_is), whole) = subst (λ c. Due c known left rose dealt Refused text) e due in
       (stream, is, (whole refl).ended, sound, subst Written text_is out)
 
   refused : (command : Option Command) → Answered command → result ≡ 3 → command ≡ Some Replay → IsAtEnd left
       × (text : List ℕ) × IsRefusal known text × Written text
   refused command answer three e =
       let (text, due, out) = answer Refused three in
-      let (refusal, whole) = subst (λ c. Due c known left rose Refused text) e due in
+      let (refusal, whole) = subst (λ c. Due c known left rose dealt Refused text) e due in
       ((whole refl).ended, text, refusal, out)
 
   done_rerun : (command : Option Command) → Answered command → result ≡ 0 → command ≡ Some Rerun →
       (run : InputView) × IfSome known (λ input. Says input run) × IsAtEnd left × Written (rerun_of run)
   done_rerun command answer zero e =
       let (text, due, out) = answer Done zero in
-      let ((run, says, text_is), whole) = subst (λ c. Due c known left rose Done text) e due in
+      let ((run, says, text_is), whole) = subst (λ c. Due c known left rose dealt Done text) e due in
       (run, says, (whole refl).ended, subst Written text_is out)
 
   refused_rerun : (command : Option Command) → Answered command → result ≡ 3 → command ≡ Some Rerun → IsAtEnd left
       × ((line : ℕ) × (reason : LineWhy) × IfSome known (λ input. (rerun_reading input ≡ Err (inputs.BadLine line reason)) × ¬ (SaysRun input)) × Written (bad_line line reason))
   refused_rerun command answer three e =
       let (text, due, out) = answer Refused three in
-      let ((line, reason, why, text_is), whole) = subst (λ c. Due c known left rose Refused text) e due in
+      let ((line, reason, why, text_is), whole) = subst (λ c. Due c known left rose dealt Refused text) e due in
       ((whole refl).ended, (line, reason, why, subst Written text_is out))
+
+  done_serve : (port connections : ℕ) (command : Option Command) → Answered command → result ≡ 0 → command ≡ Some (Serve port connections)
+      → IsAtEnd left × ((text : List ℕ) × IsServed known connections dealt text × Written text)
+  done_serve port connections command answer zero e =
+      let (text, due, out) = answer Done zero in
+      let (served, whole) = subst (λ c. Due c known left rose dealt Done text) e due in
+      ((whole refl).ended, (text, served, out))
+
+  done_sync : (port : ℕ) (command : Option Command) → Answered command → result ≡ 0 → command ≡ Some (Sync port)
+      → IsAtEnd left × ((text : List ℕ) × HasSynced known dealt text × Written text)
+  done_sync port command answer zero e =
+      let (text, due, out) = answer Done zero in
+      let (synced, whole) = subst (λ c. Due c known left rose dealt Done text) e due in
+      ((whole refl).ended, (text, synced, out))
+
+  refused_serve : (port connections : ℕ) (command : Option Command) → Answered command → result ≡ 3 → command ≡ Some (Serve port connections)
+      → (text : List ℕ) × IsAccountsRefusal known text × Written text
+  refused_serve port connections command answer three e =
+      let (text, due, out) = answer Refused three in
+      (text, (subst (λ c. Due c known left rose dealt Refused text) e due).0, out)
+
+  refused_sync : (port : ℕ) (command : Option Command) → Answered command → result ≡ 3 → command ≡ Some (Sync port)
+      → (text : List ℕ) × IsScriptRefusal known text × Written text
+  refused_sync port command answer three e =
+      let (text, due, out) = answer Refused three in
+      (text, (subst (λ c. Due c known left rose dealt Refused text) e due).0, out)
+
+  -- 7 is of `serve` and `sync` alone
+  link_serve : (port connections : ℕ) (command : Option Command) → Answered command → result ≡ 7 → command ≡ Some (Serve port connections)
+      → HasDoorFailed connections dealt × Written link_fault_line
+  link_serve port connections command answer seven e =
+      let (text, due, out) = answer LinkFault seven in
+      let (failed, text_is) = (subst (λ c. Due c known left rose dealt LinkFault text) e due).0 in
+      (failed, subst Written text_is out)
+
+  link_sync : (port : ℕ) (command : Option Command) → Answered command → result ≡ 7 → command ≡ Some (Sync port)
+      → IsStopped known dealt syncs.Link × Written link_fault_line
+  link_sync port command answer seven e =
+      let (text, due, out) = answer LinkFault seven in
+      let (failed, text_is) = (subst (λ c. Due c known left rose dealt LinkFault text) e due).0 in
+      (failed, subst Written text_is out)
+
+  -- 8 is of `sync` alone
+  peer_sync : (port : ℕ) (command : Option Command) → Answered command → result ≡ 8 → command ≡ Some (Sync port)
+      → (failure : PeerFailure) × IsStopped known dealt (syncs.Peer failure) × Written (peer_line failure)
+  peer_sync port command answer eight e =
+      let (text, due, out) = answer PeerFault eight in
+      let (failure, stopped, text_is) = (subst (λ c. Due c known left rose dealt PeerFault text) e due).0 in
+      (failure, stopped, subst Written text_is out)
+
+  entropy_serve : (port connections : ℕ) (command : Option Command) → Answered command → result ≡ 10 → command ≡ Some (Serve port connections)
+      → Rose dealt.before.draws dealt.behind.draws × Written entropy_fault_line
+  entropy_serve port connections command answer ten e =
+      let (text, due, out) = answer EntropyFault ten in
+      let (failed, text_is) = (subst (λ c. Due c known left rose dealt EntropyFault text) e due).0 in
+      (failed, subst Written text_is out)
+
+  entropy_sync : (port : ℕ) (command : Option Command) → Answered command → result ≡ 10 → command ≡ Some (Sync port)
+      → Rose dealt.before.draws dealt.behind.draws × Written entropy_fault_line
+  entropy_sync port command answer ten e =
+      let (text, due, out) = answer EntropyFault ten in
+      let (failed, text_is) = (subst (λ c. Due c known left rose dealt EntropyFault text) e due).0 in
+      (failed, subst Written text_is out)
 
   refused_command : (command : Option Command) → Answered command → result ≡ 3 → reads command ≡ true
   refused_command None answer three = let (text, due, out) = answer Refused three in absurd due
@@ -78,6 +146,8 @@ module _ (known left : Option (List ℕ)) (rose calm still : Type 0) (Written : 
   refused_command (Some Replay) answer three = refl
   refused_command (Some Check) answer three = refl
   refused_command (Some Rerun) answer three = refl
+  refused_command (Some (Serve port connections)) answer three = refl
+  refused_command (Some (Sync port)) answer three = refl
 
   words : (command : Option Command) → Answered command → result ≡ 2 → (command ≡ None) × Written words_line
   words None answer two = let (text, due, out) = answer WrongWords two in (refl, subst Written due out)
@@ -100,7 +170,7 @@ module _ (known left : Option (List ℕ)) (rose calm still : Type 0) (Written : 
           | inl five ↦ inr (inl five.1)
           | inr b ↦ elim (eqb_tells result 6) [
             | inl six ↦ inr (inr six.1)
-            | inr c ↦ absurd (left_over status a.1 b.1 c.1 (none Done (λ s. cc)) (none Refused (λ s. cc)) (none ReadFault (λ s. cc)) (none TooLong (λ s. cc)))
+            | inr c ↦ absurd (left_over status a.1 b.1 c.1 (none Done (λ s. cc)) (none Refused (λ s. cc)) (none ReadFault (λ s. cc)) (none LinkFault (λ s. cc)) (none PeerFault (λ s. cc)) (none EntropyFault (λ s. cc)) (none TooLong (λ s. cc)))
           ]
         ]
       ]
@@ -110,48 +180,68 @@ module _ (known left : Option (List ℕ)) (rose calm still : Type 0) (Written : 
       never None answer e WrongWords other is = other refl
       never None answer e Refused other is = let (text, due, out) = answer Refused is in due
       never None answer e ReadFault other is = let (text, due, out) = answer ReadFault is in due
+      never None answer e LinkFault other is = let (text, due, out) = answer LinkFault is in due
+      never None answer e PeerFault other is = let (text, due, out) = answer PeerFault is in due
+      never None answer e EntropyFault other is = let (text, due, out) = answer EntropyFault is in due
       never None answer e TooLong other is = let (text, due, out) = answer TooLong is in due
       never (Some c) answer e outcome other is = cc
 
-      left_over : IsTrue (is_status result) → result ≢ 2 → result ≢ 5 → result ≢ 6 → result ≢ 0 → result ≢ 3 → result ≢ 4 → result ≢ 11 → ⊥
-      left_over status a b c d e f g = grind (arith, nat_tests)
+      left_over : IsTrue (is_status result) → result ≢ 2 → result ≢ 5 → result ≢ 6 → result ≢ 0 → result ≢ 3 → result ≢ 4 → result ≢ 7 → result ≢ 8 → result ≢ 10 → result ≢ 11 → ⊥
+      left_over status a b c d e f g h i j = grind (arith, nat_tests)
 
-module _ (rose calm still : Type 0) (result : ℕ) where
-  complete_help : (known : Option (List ℕ)) (command : Option Command) → Exactly known None rose calm still (λ text. Unit {0}) result command → command ≡ Some Help → still → (result ≡ 0) ⊎ (result ≡ 6)
-  complete_help known command exactly e quiet = exactly Done (subst (λ c. MustAnswer c known calm Done) (sym e) refl) quiet
+module _ (rose calm still : Type 0) (dealt : Dealings) (result : ℕ) where
+  complete_help : (known : Option (List ℕ)) (command : Option Command) → Exactly known None rose calm still dealt (λ text. Unit {0}) result command → command ≡ Some Help → still → (result ≡ 0) ⊎ (result ≡ 6)
+  complete_help known command exactly e quiet = exactly Done (subst (λ c. MustAnswer c known calm dealt Done) (sym e) refl) quiet
 
-  complete : (known : Option (List ℕ)) (command : Option Command) → Exactly known None rose calm still (λ text. Unit {0}) result command → command ≡ Some Replay → calm → still →
+  complete : (known : Option (List ℕ)) (command : Option Command) → Exactly known None rose calm still dealt (λ text. Unit {0}) result command → command ≡ Some Replay → calm → still →
       IfSome known (λ input. length input ≤ MOST_BYTES_READ → InDirectGrammar input → (result ≡ 0) ⊎ (result ≡ 6))
   complete None command exactly e read quiet = tt
-  complete (Some input) command exactly e read quiet = λ short good. exactly Done (subst (λ c. MustAnswer c (Some input) calm Done) (sym e) (read, (short, good))) quiet
+  complete (Some input) command exactly e read quiet = λ short good. exactly Done (subst (λ c. MustAnswer c (Some input) calm dealt Done) (sym e) (read, tt, (short, good, tt))) quiet
 
-  refused_only : (known : Option (List ℕ)) (command : Option Command) → Exactly known None rose calm still (λ text. Unit {0}) result command → command ≡ Some Replay → calm → still →
+  refused_only : (known : Option (List ℕ)) (command : Option Command) → Exactly known None rose calm still dealt (λ text. Unit {0}) result command → command ≡ Some Replay → calm → still →
       IfSome known (λ input. length input ≤ MOST_BYTES_READ → ¬ (InDirectGrammar input) → (result ≡ 3) ⊎ (result ≡ 6))
   refused_only None command exactly e read quiet = tt
-  refused_only (Some input) command exactly e read quiet = λ short bad. exactly Refused (subst (λ c. MustAnswer c (Some input) calm Refused) (sym e) (read, (short, bad))) quiet
+  refused_only (Some input) command exactly e read quiet = λ short bad. exactly Refused (subst (λ c. MustAnswer c (Some input) calm dealt Refused) (sym e) (read, tt, (short, bad))) quiet
 
-  refused_check_only : (known : Option (List ℕ)) (command : Option Command) → Exactly known None rose calm still (λ text. Unit {0}) result command → command ≡ Some Check → calm → still →
+  refused_check_only : (known : Option (List ℕ)) (command : Option Command) → Exactly known None rose calm still dealt (λ text. Unit {0}) result command → command ≡ Some Check → calm → still →
       IfSome known (λ input. length input ≤ MOST_BYTES_READ → (told input).sound ≡ false → (result ≡ 3) ⊎ (result ≡ 6))
   refused_check_only None command exactly e read quiet = tt
   refused_check_only (Some input) command exactly e read quiet = λ short bad.
-      exactly Refused (subst (λ c. MustAnswer c (Some input) calm Refused) (sym e) (read, (short, λ good. let both : true ≡ false = sym good ∙ bad in cc))) quiet
+      exactly Refused (subst (λ c. MustAnswer c (Some input) calm dealt Refused) (sym e) (read, tt, (short, λ good. let both : true ≡ false = sym good ∙ bad in cc))) quiet
 
-  complete_rerun : (known : Option (List ℕ)) (command : Option Command) → Exactly known None rose calm still (λ text. Unit {0}) result command → command ≡ Some Rerun → calm → still →
+  complete_rerun : (known : Option (List ℕ)) (command : Option Command) → Exactly known None rose calm still dealt (λ text. Unit {0}) result command → command ≡ Some Rerun → calm → still →
       IfSome known (λ input. length input ≤ MOST_BYTES_READ → SaysRun input → (result ≡ 0) ⊎ (result ≡ 6))
   complete_rerun None command exactly e read quiet = tt
-  complete_rerun (Some input) command exactly e read quiet = λ short good. exactly Done (subst (λ c. MustAnswer c (Some input) calm Done) (sym e) (read, (short, good))) quiet
+  complete_rerun (Some input) command exactly e read quiet = λ short good. exactly Done (subst (λ c. MustAnswer c (Some input) calm dealt Done) (sym e) (read, tt, (short, good, tt))) quiet
 
-  refused_rerun_only : (known : Option (List ℕ)) (command : Option Command) → Exactly known None rose calm still (λ text. Unit {0}) result command → command ≡ Some Rerun → calm → still →
+  refused_rerun_only : (known : Option (List ℕ)) (command : Option Command) → Exactly known None rose calm still dealt (λ text. Unit {0}) result command → command ≡ Some Rerun → calm → still →
       IfSome known (λ input. length input ≤ MOST_BYTES_READ → ¬ (SaysRun input) → (result ≡ 3) ⊎ (result ≡ 6))
   refused_rerun_only None command exactly e read quiet = tt
-  refused_rerun_only (Some input) command exactly e read quiet = λ short bad. exactly Refused (subst (λ c. MustAnswer c (Some input) calm Refused) (sym e) (read, (short, bad))) quiet
+  refused_rerun_only (Some input) command exactly e read quiet = λ short bad. exactly Refused (subst (λ c. MustAnswer c (Some input) calm dealt Refused) (sym e) (read, tt, (short, bad))) quiet
 
-  too_long_only : (known : Option (List ℕ)) (command : Option Command) → Exactly known None rose calm still (λ text. Unit {0}) result command → reads command ≡ true → calm → still →
+  too_long_only : (known : Option (List ℕ)) (command : Option Command) → Exactly known None rose calm still dealt (λ text. Unit {0}) result command → reads command ≡ true → goes_out command ≡ false → calm → still →
       IfSome known (λ input. MOST_BYTES_READ < length input → (result ≡ 11) ⊎ (result ≡ 6))
-  too_long_only None command exactly e read quiet = tt
-  too_long_only (Some input) (Some Replay) exactly e read quiet = λ long. exactly TooLong (read, long) quiet
-  too_long_only (Some input) (Some Check) exactly e read quiet = λ long. exactly TooLong (read, long) quiet
-  too_long_only (Some input) (Some Rerun) exactly e read quiet = λ long. exactly TooLong (read, long) quiet
-  too_long_only (Some input) (Some Help) exactly e read quiet = absurd cc
-  too_long_only (Some input) (Some Version) exactly e read quiet = absurd cc
-  too_long_only (Some input) None exactly e read quiet = absurd cc
+  too_long_only None command exactly e apart read quiet = tt
+  too_long_only (Some input) (Some Replay) exactly e apart read quiet = λ long. exactly TooLong (read, tt, long) quiet
+  too_long_only (Some input) (Some Check) exactly e apart read quiet = λ long. exactly TooLong (read, tt, long) quiet
+  too_long_only (Some input) (Some Rerun) exactly e apart read quiet = λ long. exactly TooLong (read, tt, long) quiet
+  too_long_only (Some input) (Some Help) exactly e apart read quiet = absurd cc
+  too_long_only (Some input) (Some Version) exactly e apart read quiet = absurd cc
+  too_long_only (Some input) None exactly e apart read quiet = absurd cc
+  too_long_only (Some input) (Some (Serve port connections)) exactly e apart read quiet = absurd cc
+  too_long_only (Some input) (Some (Sync port)) exactly e apart read quiet = absurd cc
+
+  complete_serve : (port connections : ℕ) (known : Option (List ℕ)) (command : Option Command) → Exactly known None rose calm still dealt (λ text. Unit {0}) result command
+      → command ≡ Some (Serve port connections) → calm → IsQuietDoor dealt → Quiet dealt.before.draws dealt.behind.draws → still →
+      IfSome known (λ input. length input ≤ MOST_BYTES_READ → SaysAccounts input → (result ≡ 0) ⊎ (result ≡ 6))
+  complete_serve port connections None command exactly e read door draws quiet = tt
+  complete_serve port connections (Some input) command exactly e read door draws quiet = λ short good.
+      exactly Done (subst (λ c. MustAnswer c (Some input) calm dealt Done) (sym e) (read, (door, draws), (short, good, tt))) quiet
+
+  complete_sync : (port : ℕ) (known : Option (List ℕ)) (command : Option Command) → Exactly known None rose calm still dealt (λ text. Unit {0}) result command
+      → command ≡ Some (Sync port) → calm → IsQuietDialer dealt → Quiet dealt.before.draws dealt.behind.draws → still →
+      IfSome known (λ input. length input ≤ MOST_BYTES_READ → IsOk (script_reading input)
+      → ((failure : PeerFailure) → ¬ (IsStopped (Some input) dealt (syncs.Peer failure))) → (result ≡ 0) ⊎ (result ≡ 6))
+  complete_sync port None command exactly e read dialer draws quiet = tt
+  complete_sync port (Some input) command exactly e read dialer draws quiet = λ short good blameless.
+      exactly Done (subst (λ c. MustAnswer c (Some input) calm dealt Done) (sym e) (read, (dialer, draws), (short, good, blameless))) quiet

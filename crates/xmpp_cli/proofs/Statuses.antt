@@ -1,9 +1,8 @@
 -- What is due with a status, and which status there must be.
-use Rattle.std.proofs.Common.{◌≡◌, ◌≢◌, Bool, true, false, ap, ℕ, ◌+◌, ◌-◌, ◌^◌, ◌≤◌, min, subst, List, Option, Some, None, Result, Ok, IfSome, IsSomeAnd, ◌⊎◌, inl, inr, refl, ◌∙◌, sym, arith}
+use Rattle.std.proofs.Common.{◌≡◌, ◌≢◌, Bool, true, false, ap, ℕ, subst, List, Option, Some, None, Result, Ok, IfSome, IsSomeAnd, ◌⊎◌, inl, inr, refl, ◌∙◌, sym, arith}
 use Rattle.std.proofs.lemmas.Bool.Decides.{eqb_tells}
-use Rattle.std.proofs.Math.Nat.{min-eq_left}
 use Rattle.std.specs.Bool.{MatchBool}
-use Rattle.std.specs.Prelude.{◌==◌, if◌then◌else◌}
+use Rattle.std.specs.Prelude.{◌==◌, if◌then◌else◌, IsOk, is_ok}
 use Rattle.std.specs.Io.KnownBytes.{IsAtEnd}
 use Rattle.xmpp_edge.specs.Counts.{Rose, Quiet}
 use Rattle.xmpp_check.specs.Checked.{told}
@@ -17,24 +16,22 @@ use Rattle.xmpp_schedule.specs.WireReading.{reading}
 use Rattle.xmpp_schedule.specs.declared.fault.ScheduleFault.{ScheduleFault}
 use Rattle.xmpp_schedule.specs.declared.schedule.Schedule.{Schedule}
 use Rattle.xmpp_schedule.specs.declared.schedule.Schedule.TheVariants.{Direct, Wire}
+use Rattle.xmpp_script.specs.Reading.{script_reading}
+use Rattle.xmpp_script.specs.Scripts.{ScriptView}
+use Rattle.xmpp_serving.specs.Journaling.{AreFewer, HasServed}
+use Rattle.xmpp_cli.proofs.Dialers.{link_not_quiet, not_risen}
+use Rattle.xmpp_cli.specs.Dealings.{Dealings, DoorView}
 use Rattle.xmpp_cli.specs.Words.{reads}
-use Rattle.xmpp_cli.specs.Table.{code_of, Accepts, IsDone, IsRefused, IsReportOf, Due, IsDueOf, MustAnswer, MustEnd}
+use Rattle.xmpp_cli.specs.Table.{code_of, Accepts, HasLinkFailed, HasPeerFailed, HasEntropyFailed, IsBlameless, IsQuiet, SaysAccounts, IsServed, IsDone, IsRefused, IsReportOf, Due, IsDueOf, MustAnswer, MustEnd}
 use Rattle.xmpp_cli.specs.declared.command.Command.{Command}
-use Rattle.xmpp_cli.specs.declared.command.Command.TheVariants.{Help, Version, Replay, Check, Rerun}
+use Rattle.xmpp_cli.specs.declared.command.Command.TheVariants.{Help, Version, Replay, Check, Rerun, Serve, Sync}
 use Rattle.xmpp_cli.specs.declared.outcome.Outcome.{Outcome}
-use Rattle.xmpp_cli.specs.declared.outcome.Outcome.TheVariants.{Done, WrongWords, Refused, ReadFault, TooLong}
-
--- a quiet count did not rise
-pub not_risen : (before now : ℕ) → Quiet before now → ¬ (Rose before now)
-not_risen before now quiet rose =
-    let room : before + 1 ≤ 2 ^ 64 - 1 = omega (arith, quiet.room) in
-    let least : min (before + 1) (2 ^ 64 - 1) ≡ before + 1 = min-eq_left room in
-    omega (arith, subst (λ n. n ≤ now) least rose, quiet.same)
+use Rattle.xmpp_cli.specs.declared.outcome.Outcome.TheVariants.{Done, WrongWords, Refused, ReadFault, LinkFault, PeerFault, EntropyFault, TooLong}
 
 -- What is known of a call whose status is neither 5 nor 6.
-abbrev pub Told : Option Command → Option (List ℕ) → Option (List ℕ) → Type 0 → (List ℕ → Type 0) → ℕ → Type 0
-Told command known left rose Written result =
-    result ≢ 5 → result ≢ 6 → (outcome : Outcome) × (text : List ℕ) × (result ≡ code_of outcome) × Due command known left rose outcome text × Written text
+abbrev pub Told : Option Command → Option (List ℕ) → Option (List ℕ) → Type 0 → Dealings → (List ℕ → Type 0) → ℕ → Type 0
+Told command known left rose dealt Written result =
+    result ≢ 5 → result ≢ 6 → (outcome : Outcome) × (text : List ℕ) × (result ≡ code_of outcome) × Due command known left rose dealt outcome text × Written text
 
 -- outcomes have codes of their own, and these are neither 5 nor 6
 code_not_5 : (outcome : Outcome) → code_of outcome ≢ 5
@@ -42,6 +39,9 @@ code_not_5 Done e = omega arith
 code_not_5 WrongWords e = omega arith
 code_not_5 Refused e = omega arith
 code_not_5 ReadFault e = omega arith
+code_not_5 LinkFault e = omega arith
+code_not_5 PeerFault e = omega arith
+code_not_5 EntropyFault e = omega arith
 code_not_5 TooLong e = omega arith
 
 code_not_6 : (outcome : Outcome) → code_of outcome ≢ 6
@@ -49,6 +49,9 @@ code_not_6 Done e = omega arith
 code_not_6 WrongWords e = omega arith
 code_not_6 Refused e = omega arith
 code_not_6 ReadFault e = omega arith
+code_not_6 LinkFault e = omega arith
+code_not_6 PeerFault e = omega arith
+code_not_6 EntropyFault e = omega arith
 code_not_6 TooLong e = omega arith
 
 abbrev outcome_with : ℕ → Outcome
@@ -57,41 +60,63 @@ outcome_with n =
     else (if n == 2 then WrongWords
     else (if n == 3 then Refused
     else (if n == 4 then ReadFault
-    else TooLong)))
+    else (if n == 7 then LinkFault
+    else (if n == 8 then PeerFault
+    else (if n == 10 then EntropyFault
+    else TooLong))))))
 
 outcome_back : (outcome : Outcome) → outcome_with (code_of outcome) ≡ outcome
 outcome_back Done = refl
 outcome_back WrongWords = refl
 outcome_back Refused = refl
 outcome_back ReadFault = refl
+outcome_back LinkFault = refl
+outcome_back PeerFault = refl
+outcome_back EntropyFault = refl
 outcome_back TooLong = refl
 
 same_outcome : (a b : Outcome) → code_of a ≡ code_of b → a ≡ b
 same_outcome a b e = sym (outcome_back a) ∙ ap outcome_with e ∙ outcome_back b
 
-pub answered : (command : Option Command) (known left : Option (List ℕ)) (rose : Type 0) (Written : List ℕ → Type 0) (result : ℕ)
-    → Told command known left rose Written result
-    → (outcome : Outcome) → result ≡ code_of outcome → (text : List ℕ) × Due command known left rose outcome text × Written text
-answered command known left rose Written result answer outcome e =
+pub answered : (command : Option Command) (known left : Option (List ℕ)) (rose : Type 0) (dealt : Dealings) (Written : List ℕ → Type 0) (result : ℕ)
+    → Told command known left rose dealt Written result
+    → (outcome : Outcome) → result ≡ code_of outcome → (text : List ℕ) × Due command known left rose dealt outcome text × Written text
+answered command known left rose dealt Written result answer outcome e =
     let (other, text, same, due, out) = answer (λ five. code_not_5 outcome (sym e ∙ five)) (λ six. code_not_6 outcome (sym e ∙ six)) in
-    (text, subst (λ o. Due command known left rose o text) (same_outcome other outcome (sym same ∙ e)) due, out)
+    (text, subst (λ o. Due command known left rose dealt o text) (same_outcome other outcome (sym same ∙ e)) due, out)
 
 -- the headline: a report was written
-pub replayed : (command : Option Command) (known left : Option (List ℕ)) (rose : Type 0) (Written : List ℕ → Type 0) (result : ℕ)
-    → Told command known left rose Written result → result ≡ 0 → command ≡ Some Replay
+pub replayed : (command : Option Command) (known left : Option (List ℕ)) (rose : Type 0) (dealt : Dealings) (Written : List ℕ → Type 0) (result : ℕ)
+    → Told command known left rose dealt Written result → result ≡ 0 → command ≡ Some Replay
     → (schedule : ScheduleView) × (report : ReportView) × IsDirectSchedule schedule × IfSome known (λ input. input ≡ direct_text schedule)
     × IsAtEnd left × IsReportOf schedule report × Written (text_of report)
-replayed command known left rose Written result answer zero e =
-    let (text, due, out) = answered command known left rose Written result answer Done zero in
-    let ((schedule, report, is, spelled, of, text_is), whole) = subst (λ c. Due c known left rose Done text) e due in
+replayed command known left rose dealt Written result answer zero e =
+    let (text, due, out) = answered command known left rose dealt Written result answer Done zero in
+    let ((schedule, report, is, spelled, of, text_is), whole) = subst (λ c. Due c known left rose dealt Done text) e due in
     (schedule, report, is, spelled, (whole refl).ended, of, subst Written text_is out)
 
-done_accepted : (command : Command) (input text : List ℕ) → IsDone command (Some input) text → Accepts command input
-done_accepted Help input text done = tt
-done_accepted Version input text done = tt
-done_accepted Replay input text (schedule, report, is, spelled, of, due) = (schedule, is, spelled)
-done_accepted Check input text (stream, is, sound, due) = ap (λ bytes. (told bytes).sound) is ∙ sound
-done_accepted Rerun input text (run, says, due) = (run, says)
+served_accounts : (connections : ℕ) (accounts : List ℕ) (dealt : Dealings) (old new : Option DoorView) (text : List ℕ)
+    → IsSomeAnd old (λ o. IsSomeAnd new (λ n. HasServed accounts connections dealt.before.moment dealt.before.drawn o.given n.given text)) → SaysAccounts accounts
+served_accounts connections accounts dealt None new text served = absurd served
+served_accounts connections accounts dealt (Some o) None text served = absurd served
+served_accounts connections accounts dealt (Some o) (Some n) text served = (served.file, served.right, served.whole)
+
+served_accepted : (connections : ℕ) (input : List ℕ) (dealt : Dealings) (text : List ℕ) → IsServed (Some input) connections dealt text → SaysAccounts input
+served_accepted connections input dealt text (accounts, is, served) =
+    let (file, right, whole) = served_accounts connections accounts dealt dealt.before.door dealt.behind.door text served in
+    (file, right, is ∙ whole)
+
+begun_accepted : (input script : List ℕ) (x : ScriptView) → input ≡ script → script_reading script ≡ Ok x → IsOk (script_reading input)
+begun_accepted input script x is said = rw (is, said) refl
+
+done_accepted : (command : Command) (input : List ℕ) (dealt : Dealings) (text : List ℕ) → IsDone command (Some input) dealt text → Accepts command input
+done_accepted Help input dealt text done = tt
+done_accepted Version input dealt text done = tt
+done_accepted Replay input dealt text (schedule, report, is, spelled, of, due) = (schedule, is, spelled)
+done_accepted Check input dealt text (stream, is, sound, due) = ap (λ bytes. (told bytes).sound) is ∙ sound
+done_accepted Rerun input dealt text (run, says, due) = (run, says)
+done_accepted (Serve port connections) input dealt text served = served_accepted connections input dealt text served
+done_accepted (Sync port) input dealt text (script, is, synced) = begun_accepted input script synced.begins.script is synced.begins.said
 
 abbrev as_read : Schedule → Result Schedule ScheduleFault
 as_read schedule = Ok schedule
@@ -109,67 +134,157 @@ refused_not_accepted Replay input text (inr (wire, is, spelled, due)) (direct, a
 refused_not_accepted Check input text (stream, is, unsound, due) accepts =
     let both : true ≡ false = sym accepts ∙ ap (λ bytes. (told bytes).sound) is ∙ unsound in cc
 refused_not_accepted Rerun input text (line, reason, why, due) accepts = why.1 accepts
+refused_not_accepted (Serve port connections) input text (line, reason, why, due) accepts = why.1 accepts
+refused_not_accepted (Sync port) input text (line, reason, why, due) accepts = let both : false ≡ true = sym (ap (λ r. is_ok r) why) ∙ accepts in cc
+
+unread_link : (command : Command) (known : Option (List ℕ)) (dealt : Dealings) → reads (Some command) ≡ false → ¬ (HasLinkFailed command known dealt)
+unread_link Help known dealt e failed = failed
+unread_link Version known dealt e failed = failed
+unread_link Replay known dealt e failed = failed
+unread_link Check known dealt e failed = failed
+unread_link Rerun known dealt e failed = failed
+unread_link (Serve port connections) known dealt e failed = cc
+unread_link (Sync port) known dealt e failed = cc
+
+unread_peer : (command : Command) (known : Option (List ℕ)) (dealt : Dealings) (text : List ℕ) → reads (Some command) ≡ false → ¬ (HasPeerFailed command known dealt text)
+unread_peer Help known dealt text e failed = failed
+unread_peer Version known dealt text e failed = failed
+unread_peer Replay known dealt text e failed = failed
+unread_peer Check known dealt text e failed = failed
+unread_peer Rerun known dealt text e failed = failed
+unread_peer (Serve port connections) known dealt text e failed = failed
+unread_peer (Sync port) known dealt text e failed = cc
+
+unread_entropy : (command : Command) (dealt : Dealings) → reads (Some command) ≡ false → ¬ (HasEntropyFailed command dealt)
+unread_entropy Help dealt e failed = failed
+unread_entropy Version dealt e failed = failed
+unread_entropy Replay dealt e failed = failed
+unread_entropy Check dealt e failed = failed
+unread_entropy Rerun dealt e failed = failed
+unread_entropy (Serve port connections) dealt e failed = cc
+unread_entropy (Sync port) dealt e failed = cc
+
+-- a door that is quiet did not fail
+door_not_quiet : (connections : ℕ) (dealt : Dealings) (old new : Option DoorView)
+    → IfSome old (λ o. IfSome new (λ n. Quiet o.faults n.faults)) → IsSomeAnd old (λ o. IsSomeAnd new (λ n. Rose o.faults n.faults × (connections ≢ 0 → AreFewer connections o.given n.given))) → ⊥
+door_not_quiet connections dealt None new quiet failed = failed
+door_not_quiet connections dealt (Some o) None quiet failed = failed
+door_not_quiet connections dealt (Some o) (Some n) quiet failed = not_risen o.faults n.faults quiet failed.0
+
+quiet_link : (command : Command) (known : Option (List ℕ)) (dealt : Dealings) → IsQuiet command dealt → ¬ (HasLinkFailed command known dealt)
+quiet_link Help known dealt quiet failed = failed
+quiet_link Version known dealt quiet failed = failed
+quiet_link Replay known dealt quiet failed = failed
+quiet_link Check known dealt quiet failed = failed
+quiet_link Rerun known dealt quiet failed = failed
+quiet_link (Serve port connections) known dealt quiet failed = door_not_quiet connections dealt dealt.before.door dealt.behind.door quiet.0 failed
+quiet_link (Sync port) known dealt quiet (script, is, stopped) = link_not_quiet stopped.start dealt.before.dialer dealt.behind.dialer quiet.0.faults quiet.0.ends stopped.untold
+
+quiet_entropy : (command : Command) (dealt : Dealings) → IsQuiet command dealt → ¬ (HasEntropyFailed command dealt)
+quiet_entropy Help dealt quiet failed = failed
+quiet_entropy Version dealt quiet failed = failed
+quiet_entropy Replay dealt quiet failed = failed
+quiet_entropy Check dealt quiet failed = failed
+quiet_entropy Rerun dealt quiet failed = failed
+quiet_entropy (Serve port connections) dealt quiet failed = not_risen _ _ quiet.1 failed
+quiet_entropy (Sync port) dealt quiet failed = not_risen _ _ quiet.1 failed
+
+-- where no server has to answer for anything, none did
+no_peer : (command : Command) (input : List ℕ) (dealt : Dealings) (text : List ℕ) → IsBlameless command input dealt → ¬ (HasPeerFailed command (Some input) dealt text)
+no_peer Help input dealt text blameless failed = failed
+no_peer Version input dealt text blameless failed = failed
+no_peer Replay input dealt text blameless failed = failed
+no_peer Check input dealt text blameless failed = failed
+no_peer Rerun input dealt text blameless failed = failed
+no_peer (Serve port connections) input dealt text blameless failed = failed
+no_peer (Sync port) input dealt text blameless (failure, stopped, due) = blameless failure stopped
+
+-- a script that began is one
+peer_accepted : (command : Command) (input : List ℕ) (dealt : Dealings) (text : List ℕ) → HasPeerFailed command (Some input) dealt text → Accepts command input
+peer_accepted Help input dealt text failed = absurd failed
+peer_accepted Version input dealt text failed = absurd failed
+peer_accepted Replay input dealt text failed = absurd failed
+peer_accepted Check input dealt text failed = absurd failed
+peer_accepted Rerun input dealt text failed = absurd failed
+peer_accepted (Serve port connections) input dealt text failed = absurd failed
+peer_accepted (Sync port) input dealt text (failure, (script, is, stopped), due) = begun_accepted input script stopped.begins.script is stopped.begins.said
 
 -- a command that does not read is done
-unread_done : (command : Command) (known left : Option (List ℕ)) (rose : Type 0) (outcome : Outcome) (text : List ℕ)
-    → reads (Some command) ≡ false → IsDueOf command known left rose outcome text → outcome ≡ Done
-unread_done command known left rose Done text e due = refl
-unread_done Help known left rose Refused text e due = absurd due.0
-unread_done Version known left rose Refused text e due = absurd due.0
-unread_done Replay known left rose Refused text e due = absurd (cc)
-unread_done Check known left rose Refused text e due = absurd (cc)
-unread_done Rerun known left rose Refused text e due = absurd (cc)
-unread_done command known left rose WrongWords text e due = absurd due.0
-unread_done command known left rose ReadFault text e due = let both : false ≡ true = sym e ∙ due.0 in absurd (cc)
-unread_done command known left rose TooLong text e due = let both : false ≡ true = sym e ∙ due.0 in absurd (cc)
+unread_done : (command : Command) (known left : Option (List ℕ)) (rose : Type 0) (dealt : Dealings) (outcome : Outcome) (text : List ℕ)
+    → reads (Some command) ≡ false → IsDueOf command known left rose dealt outcome text → outcome ≡ Done
+unread_done command known left rose dealt Done text e due = refl
+unread_done Help known left rose dealt Refused text e due = absurd due.0
+unread_done Version known left rose dealt Refused text e due = absurd due.0
+unread_done Replay known left rose dealt Refused text e due = absurd (cc)
+unread_done Check known left rose dealt Refused text e due = absurd (cc)
+unread_done Rerun known left rose dealt Refused text e due = absurd (cc)
+unread_done (Serve port connections) known left rose dealt Refused text e due = absurd (cc)
+unread_done (Sync port) known left rose dealt Refused text e due = absurd (cc)
+unread_done command known left rose dealt LinkFault text e due = absurd (unread_link command known dealt e due.0.0)
+unread_done command known left rose dealt PeerFault text e due = absurd (unread_peer command known dealt text e due.0)
+unread_done command known left rose dealt EntropyFault text e due = absurd (unread_entropy command dealt e due.0.0)
+unread_done command known left rose dealt WrongWords text e due = absurd due.0
+unread_done command known left rose dealt ReadFault text e due = let both : false ≡ true = sym e ∙ due.0 in absurd (cc)
+unread_done command known left rose dealt TooLong text e due = let both : false ≡ true = sym e ∙ due.0 in absurd (cc)
 
 -- a command that reads ends as its input wants it
-read_ends : (command : Command) (input : List ℕ) (left : Option (List ℕ)) (rose : Type 0) (outcome wanted : Outcome) (text : List ℕ)
-    → reads (Some command) ≡ true → ¬ rose → MustEnd command input wanted → IsDueOf command (Some input) left rose outcome text → outcome ≡ wanted
-read_ends command input left rose Done Done text e calm must due = refl
-read_ends command input left rose Done Refused text e calm must due = absurd (must.1 (done_accepted command input text due.0))
-read_ends command input left rose Done TooLong text e calm must due = absurd (omega (arith, must, (due.1 e).short))
-read_ends command input left rose Refused Done text e calm must due = absurd (refused_not_accepted command input text due.0 must.1)
-read_ends command input left rose Refused Refused text e calm must due = refl
-read_ends command input left rose Refused TooLong text e calm must due = absurd (omega (arith, must, (due.1 e).short))
-read_ends command input left rose TooLong Done text e calm must due = absurd (omega (arith, must.0, due.1))
-read_ends command input left rose TooLong Refused text e calm must due = absurd (omega (arith, must.0, due.1))
-read_ends command input left rose TooLong TooLong text e calm must due = refl
-read_ends command input left rose ReadFault wanted text e calm must due = absurd (calm due.1)
-read_ends command input left rose WrongWords wanted text e calm must due = absurd due.0
-read_ends command input left rose outcome WrongWords text e calm must due = absurd must
-read_ends command input left rose outcome ReadFault text e calm must due = absurd must
+read_ends : (command : Command) (input : List ℕ) (left : Option (List ℕ)) (rose : Type 0) (dealt : Dealings) (outcome wanted : Outcome) (text : List ℕ)
+    → reads (Some command) ≡ true → ¬ rose → IsQuiet command dealt → MustEnd command input dealt wanted → IsDueOf command (Some input) left rose dealt outcome text → outcome ≡ wanted
+read_ends command input left rose dealt Done Done text e calm quiet must due = refl
+read_ends command input left rose dealt Done Refused text e calm quiet must due = absurd (must.1 (done_accepted command input dealt text due.0))
+read_ends command input left rose dealt Done TooLong text e calm quiet must due = absurd (omega (arith, must, (due.1 e).short))
+read_ends command input left rose dealt Refused Done text e calm quiet must due = absurd (refused_not_accepted command input text due.0 must.1)
+read_ends command input left rose dealt Refused Refused text e calm quiet must due = refl
+read_ends command input left rose dealt Refused TooLong text e calm quiet must due = absurd (omega (arith, must, (due.1 e).short))
+read_ends command input left rose dealt PeerFault Done text e calm quiet must due = absurd (no_peer command input dealt text must.2 due.0)
+read_ends command input left rose dealt PeerFault Refused text e calm quiet must due = absurd (must.1 (peer_accepted command input dealt text due.0))
+read_ends command input left rose dealt PeerFault TooLong text e calm quiet must due = absurd (omega (arith, must, (due.1 e).short))
+read_ends command input left rose dealt TooLong Done text e calm quiet must due = absurd (omega (arith, must.0, due.1))
+read_ends command input left rose dealt TooLong Refused text e calm quiet must due = absurd (omega (arith, must.0, due.1))
+read_ends command input left rose dealt TooLong TooLong text e calm quiet must due = refl
+read_ends command input left rose dealt ReadFault wanted text e calm quiet must due = absurd (calm due.1)
+read_ends command input left rose dealt LinkFault wanted text e calm quiet must due = absurd (quiet_link command (Some input) dealt quiet due.0.0)
+read_ends command input left rose dealt EntropyFault wanted text e calm quiet must due = absurd (quiet_entropy command dealt quiet due.0.0)
+read_ends command input left rose dealt WrongWords wanted text e calm quiet must due = absurd due.0
+read_ends command input left rose dealt outcome WrongWords text e calm quiet must due = absurd must
+read_ends command input left rose dealt outcome ReadFault text e calm quiet must due = absurd must
+read_ends command input left rose dealt outcome LinkFault text e calm quiet must due = absurd must
+read_ends command input left rose dealt outcome PeerFault text e calm quiet must due = absurd must
+read_ends command input left rose dealt outcome EntropyFault text e calm quiet must due = absurd must
 
-read_must : (command : Command) (known left : Option (List ℕ)) (rose : Type 0) (outcome wanted : Outcome) (text : List ℕ)
-    → reads (Some command) ≡ true → ¬ rose → IsSomeAnd known (λ input. MustEnd command input wanted) → IsDueOf command known left rose outcome text → outcome ≡ wanted
-read_must command None left rose outcome wanted text e calm must due = absurd must
-read_must command (Some input) left rose outcome wanted text e calm must due = read_ends command input left rose outcome wanted text e calm must due
+read_must : (command : Command) (known left : Option (List ℕ)) (rose : Type 0) (dealt : Dealings) (outcome wanted : Outcome) (text : List ℕ)
+    → reads (Some command) ≡ true → ¬ rose → IsQuiet command dealt → IsSomeAnd known (λ input. MustEnd command input dealt wanted) → IsDueOf command known left rose dealt outcome text → outcome ≡ wanted
+read_must command None left rose dealt outcome wanted text e calm quiet must due = absurd must
+read_must command (Some input) left rose dealt outcome wanted text e calm quiet must due = read_ends command input left rose dealt outcome wanted text e calm quiet must due
 
-known_must : (command : Command) (known left : Option (List ℕ)) (rose calm : Type 0) (outcome wanted : Outcome) (text : List ℕ) → (calm → ¬ rose)
+known_must : (command : Command) (known left : Option (List ℕ)) (rose calm : Type 0) (dealt : Dealings) (outcome wanted : Outcome) (text : List ℕ) → (calm → ¬ rose)
     → (test : Bool) → reads (Some command) ≡ test
-    → MatchBool test (calm × IsSomeAnd known (λ input. MustEnd command input wanted)) (wanted ≡ Done)
-    → IsDueOf command known left rose outcome text → outcome ≡ wanted
-known_must command known left rose calm outcome wanted text still true e must due = read_must command known left rose outcome wanted text e (still must.0) must.1 due
-known_must command known left rose calm outcome wanted text still false e must due = unread_done command known left rose outcome text e due ∙ sym must
+    → MatchBool test (calm × IsQuiet command dealt × IsSomeAnd known (λ input. MustEnd command input dealt wanted)) (wanted ≡ Done)
+    → IsDueOf command known left rose dealt outcome text → outcome ≡ wanted
+known_must command known left rose calm dealt outcome wanted text still true e must due = read_must command known left rose dealt outcome wanted text e (still must.0) must.1 must.2 due
+known_must command known left rose calm dealt outcome wanted text still false e must due = unread_done command known left rose dealt outcome text e due ∙ sym must
 
 -- what is due is what must be
-must_be : (command : Option Command) (known left : Option (List ℕ)) (rose calm : Type 0) (outcome wanted : Outcome) (text : List ℕ) → (calm → ¬ rose)
-    → MustAnswer command known calm wanted → Due command known left rose outcome text → outcome ≡ wanted
-must_be (Some command) known left rose calm outcome wanted text still must due =
-    known_must command known left rose calm outcome wanted text still (reads (Some command)) refl must due
-must_be None known left rose calm WrongWords wanted text still must due = sym must
-must_be None known left rose calm Done wanted text still must due = absurd due
-must_be None known left rose calm Refused wanted text still must due = absurd due
-must_be None known left rose calm ReadFault wanted text still must due = absurd due
-must_be None known left rose calm TooLong wanted text still must due = absurd due
+must_be : (command : Option Command) (known left : Option (List ℕ)) (rose calm : Type 0) (dealt : Dealings) (outcome wanted : Outcome) (text : List ℕ) → (calm → ¬ rose)
+    → MustAnswer command known calm dealt wanted → Due command known left rose dealt outcome text → outcome ≡ wanted
+must_be (Some command) known left rose calm dealt outcome wanted text still must due =
+    known_must command known left rose calm dealt outcome wanted text still (reads (Some command)) refl must due
+must_be None known left rose calm dealt WrongWords wanted text still must due = sym must
+must_be None known left rose calm dealt Done wanted text still must due = absurd due
+must_be None known left rose calm dealt Refused wanted text still must due = absurd due
+must_be None known left rose calm dealt ReadFault wanted text still must due = absurd due
+must_be None known left rose calm dealt LinkFault wanted text still must due = absurd due
+must_be None known left rose calm dealt PeerFault wanted text still must due = absurd due
+must_be None known left rose calm dealt EntropyFault wanted text still must due = absurd due
+must_be None known left rose calm dealt TooLong wanted text still must due = absurd due
 
-pub exactly : (command : Option Command) (known left : Option (List ℕ)) (rose calm : Type 0) (Written : List ℕ → Type 0) (result : ℕ) (wanted : Outcome)
-    → (calm → ¬ rose) → result ≢ 5 → MustAnswer command known calm wanted → Told command known left rose Written result
+pub exactly : (command : Option Command) (known left : Option (List ℕ)) (rose calm : Type 0) (dealt : Dealings) (Written : List ℕ → Type 0) (result : ℕ) (wanted : Outcome)
+    → (calm → ¬ rose) → result ≢ 5 → MustAnswer command known calm dealt wanted → Told command known left rose dealt Written result
     → (result ≡ code_of wanted) ⊎ (result ≡ 6)
-exactly command known left rose calm Written result wanted still written must answer =
+exactly command known left rose calm dealt Written result wanted still written must answer =
     elim (eqb_tells result 6) [
       | inl six ↦ inr six.1
       | inr other ↦ (
           let (outcome, text, same, due, out) = answer written other.1 in
-          inl (same ∙ ap code_of (must_be command known left rose calm outcome wanted text still must due)))
+          inl (same ∙ ap code_of (must_be command known left rose calm dealt outcome wanted text still must due)))
     ]

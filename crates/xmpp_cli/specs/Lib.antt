@@ -11,6 +11,11 @@ pub use Rattle.xmpp_schedule.specs.Reading
 pub use Rattle.xmpp_report.specs.ReportText
 pub use Rattle.xmpp_report.specs.Reports
 pub use Rattle.xmpp_schedule.specs.Schedules
+pub use Rattle.xmpp_outside.specs.Links
+pub use Rattle.xmpp_script.specs.Scripts
+pub use Rattle.xmpp_serving.specs.Journaling
+pub use Rattle.xmpp_syncing.specs.Syncs
 pub mod Words
+pub mod Dealings
 pub mod Texts
 pub mod Table

@@ -1,6 +1,8 @@
 -- The lines that say why there is no report.
 use Rattle.std.specs.Prelude.{ℕ, List, [], ◌∷◌, ◌++◌, codes}
 use Rattle.std.specs.Fmt.{decimal}
+use Rattle.xmpp_syncing.specs.Failures.{failure_name}
+use Rattle.xmpp_syncing.specs.declared.failure.PeerFailure.{PeerFailure}
 use Rattle.xmpp_schedule.specs.declared.fault.LineWhy.{LineWhy}
 use Rattle.xmpp_schedule.specs.declared.fault.LineWhy.TheVariants as why
 
@@ -12,6 +14,16 @@ read_fault_line = codes "read fault" ++ 10 ∷ []
 
 abbrev pub too_long_line : List ℕ
 too_long_line = codes "too long" ++ 10 ∷ []
+
+abbrev pub link_fault_line : List ℕ
+link_fault_line = codes "link fault" ++ 10 ∷ []
+
+abbrev pub entropy_fault_line : List ℕ
+entropy_fault_line = codes "entropy fault" ++ 10 ∷ []
+
+-- what the server has to answer for
+abbrev pub peer_line : PeerFailure → List ℕ
+peer_line failure = codes "peer " ++ failure_name failure ++ 10 ∷ []
 
 -- what is written of a wire schedule
 abbrev pub not_run_line : List ℕ

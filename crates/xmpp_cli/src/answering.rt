@@ -1,14 +1,19 @@
 //! What is answered to the words and the input of a call.
 //!
 //! All text is made before a byte of it is written; want of memory is an answer of its own.
-ghost use Rattle.std.specs.Prelude.{◌≡◌, false, true, ◌<◌, ◌≤◌, Some, IfOk};
+ghost use Rattle.std.specs.Prelude.{◌≡◌, false, true, ◌<◌, ◌≤◌, Some, IfOk, IsSome};
 ghost use Rattle.xmpp_edge.specs.Counts.{Rose};
-ghost use Rattle.xmpp_cli.specs.Words.{asked, reads};
+ghost use Rattle.xmpp_cli.specs.Dealings.{AreBack, Dealings, IsBack};
+ghost use Rattle.xmpp_cli.specs.Words.{asked, goes_out, reads};
 ghost use Rattle.xmpp_cli.specs.Table.{IsAnswer, Due};
 
+use crate::answer::{Answer, said};
 use crate::command::Command;
 use crate::outcome::Outcome;
-use crate::texts::{HELP, NOT_RUN_LINE, READ_FAULT_LINE, TOO_LONG_LINE, VERSION, WORDS_LINE, refusal};
+use crate::surroundings::Surroundings;
+use crate::texts::{
+    HELP, NOT_RUN_LINE, READ_FAULT_LINE, TOO_LONG_LINE, VERSION, WORDS_LINE, refusal,
+};
 use std::alloc::Global;
 use xmpp_check::check;
 use xmpp_direct::direct_is_lawful;
@@ -19,27 +24,10 @@ use xmpp_report::report_text;
 use xmpp_rerun::rerun_bytes;
 use xmpp_schedule::{Schedule, ScheduleFault, read_schedule};
 
-/// What a call comes to, and the text that is due.
-#[derive(Drop)]
-pub struct Answer {
-    pub outcome: Outcome,
-    pub text: Bytes,
-}
-
-fn said(alloc: Global, outcome: Outcome, text: &str) -> Result<Answer, NoMemory>
-    ensures outcome { IfOk result (λ answer. answer.outcome ≡ outcome) }
-    ensures text { IfOk result (λ answer. answer.text.items ≡ text.now) }
-{
-    Ok(Answer {
-        outcome,
-        text: Bytes::from_slice(alloc, text.as_bytes())?,
-    })
-}
-
 /// The report of the direct schedule whose text this is, or the refusal of the text. The law is called for its fact, that the
 /// report keeps the five laws: the answer's clause says so. The input is dropped once it is read.
 fn replayed(alloc: Global, input: Bytes) -> Result<Answer, NoMemory>
-    ensures { IfOk result (λ answer. IsAnswer Command.Replay (Some input.items) answer.outcome answer.text.items) }
+    ensures { IfOk result (λ answer. (dealt : Dealings) → IsAnswer Command.Replay (Some input.items) dealt answer.outcome answer.text.items) }
 {
     let read = read_schedule(alloc, input.as_slice());
     drop(input);
@@ -63,7 +51,7 @@ fn replayed(alloc: Global, input: Bytes) -> Result<Answer, NoMemory>
 
 /// What is told of the stream with these bytes.
 fn checked(alloc: Global, input: &[u8]) -> Result<Answer, NoMemory>
-    ensures { IfOk result (λ answer. IsAnswer Command.Check (Some input.now) answer.outcome answer.text.items) }
+    ensures { IfOk result (λ answer. (dealt : Dealings) → IsAnswer Command.Check (Some input.now) dealt answer.outcome answer.text.items) }
 {
     let checked = check(alloc, input)?;
     let outcome = if checked.sound {
@@ -79,7 +67,7 @@ fn checked(alloc: Global, input: &[u8]) -> Result<Answer, NoMemory>
 
 /// What comes of the run whose text this is, done again, or the refusal of the text.
 fn reran(alloc: Global, input: Bytes) -> Result<Answer, NoMemory>
-    ensures { IfOk result (λ answer. IsAnswer Command.Rerun (Some input.items) answer.outcome answer.text.items) }
+    ensures { IfOk result (λ answer. (dealt : Dealings) → IsAnswer Command.Rerun (Some input.items) dealt answer.outcome answer.text.items) }
 {
     match rerun_bytes(alloc, input) {
         Ok(text) => Ok(Answer {
@@ -94,9 +82,21 @@ fn reran(alloc: Global, input: Bytes) -> Result<Answer, NoMemory>
     }
 }
 
-/// The answer of a command to an input, which it looks at only if it is one that reads.
-fn answer_to(alloc: Global, command: Command, input: Bytes) -> Result<Answer, NoMemory>
-    ensures { IfOk result (λ answer. IsAnswer command (Some input.items) answer.outcome answer.text.items) }
+/// The answer of a command to an input, which it looks at only if it is one that reads. The outside is as it was where the
+/// command doesn't go out.
+fn answer_to<O: Surroundings>(
+    alloc: Global,
+    command: Command,
+    input: Bytes,
+    outside: &mut O,
+) -> Result<Answer, NoMemory>
+    requires { IsSome (O.view outside.old).door }
+    ensures answer { IfOk result (λ answer. IsAnswer command (Some input.items)
+        (record { before = O.view outside.old; behind = O.view outside.new }) answer.outcome answer.text.items) }
+    ensures door { IsSome (O.view outside.new).door }
+    ensures back { AreBack (record { before = O.view outside.old; behind = O.view outside.new }) }
+    ensures returned { IsBack (record { before = O.view outside.old; behind = O.view outside.new }) }
+    ensures apart { goes_out (Some command) ≡ false → outside.new ≡ outside.old }
 {
     match command {
         Command::Help => said(alloc, Outcome::Done, HELP),
@@ -104,23 +104,34 @@ fn answer_to(alloc: Global, command: Command, input: Bytes) -> Result<Answer, No
         Command::Replay => replayed(alloc, input),
         Command::Check => checked(alloc, input.as_slice()),
         Command::Rerun => reran(alloc, input),
+        Command::Serve { port, connections } => {
+            outside.serve(alloc, port, connections, input.as_slice())
+        }
+        Command::Sync { port } => outside.synchronise(alloc, port, input.as_slice()),
     }
 }
 
 /// The answer of a command that reads, whose input is all that the source gives.
-fn answer_read<S: Source>(
+fn answer_read<S: Source, O: Surroundings>(
     alloc: Global,
     command: Command,
     source: &mut S,
+    outside: &mut O,
 ) -> Result<Answer, NoMemory>
-    requires { reads (Some command) ≡ true }
+    requires there { IsSome (O.view outside.old).door }
+    requires reading { reads (Some command) ≡ true }
     ensures due { IfOk result (λ answer. Due (Some command) (S.left source.old) (S.left source.new)
-        (Rose (S.faults source.old) (S.faults source.new)) answer.outcome answer.text.items) }
+        (Rose (S.faults source.old) (S.faults source.new))
+        (record { before = O.view outside.old; behind = O.view outside.new }) answer.outcome answer.text.items) }
     ensures read_fault { S.faults source.old < S.faults source.new → IfOk result (λ answer. answer.outcome ≡ Outcome.ReadFault) }
     ensures later { S.faults source.old ≤ S.faults source.new }
+    ensures door { IsSome (O.view outside.new).door }
+    ensures back { AreBack (record { before = O.view outside.old; behind = O.view outside.new }) }
+    ensures returned { IsBack (record { before = O.view outside.old; behind = O.view outside.new }) }
+    ensures apart { goes_out (Some command) ≡ false → outside.new ≡ outside.old }
 {
     match read_all(alloc, source) {
-        Ok(input) => answer_to(alloc, command, input),
+        Ok(input) => answer_to(alloc, command, input, outside),
         Err(ReadAllFault::ReadFault) => said(alloc, Outcome::ReadFault, READ_FAULT_LINE),
         Err(ReadAllFault::TooLong) => said(alloc, Outcome::TooLong, TOO_LONG_LINE),
         Err(ReadAllFault::NoMemory) => Err(NoMemory),
@@ -128,16 +139,27 @@ fn answer_read<S: Source>(
 }
 
 /// The answer to these words. The source is read where they ask for a command that reads, and otherwise left as it is.
-pub fn due<S: Source>(alloc: Global, words: &[String], source: &mut S) -> Result<Answer, NoMemory>
+pub fn due<S: Source, O: Surroundings>(
+    alloc: Global,
+    words: &[String],
+    source: &mut S,
+    outside: &mut O,
+) -> Result<Answer, NoMemory>
+    requires { IsSome (O.view outside.old).door }
     ensures due { IfOk result (λ answer. Due (asked words.now) (S.left source.old) (S.left source.new)
-        (Rose (S.faults source.old) (S.faults source.new)) answer.outcome answer.text.items) }
+        (Rose (S.faults source.old) (S.faults source.new))
+        (record { before = O.view outside.old; behind = O.view outside.new }) answer.outcome answer.text.items) }
     ensures read_fault { S.faults source.old < S.faults source.new → IfOk result (λ answer. answer.outcome ≡ Outcome.ReadFault) }
     ensures later { S.faults source.old ≤ S.faults source.new }
     ensures unread { reads (asked words.now) ≡ false → source.new ≡ source.old }
+    ensures door { IsSome (O.view outside.new).door }
+    ensures back { AreBack (record { before = O.view outside.old; behind = O.view outside.new }) }
+    ensures returned { IsBack (record { before = O.view outside.old; behind = O.view outside.new }) }
+    ensures apart { goes_out (asked words.now) ≡ false → outside.new ≡ outside.old }
 {
-    match Command::of_words(words) {
+    match Command::of_words(words)? {
         None => said(alloc, Outcome::WrongWords, WORDS_LINE),
-        Some(command) if command.reads() => answer_read(alloc, command, source),
-        Some(command) => answer_to(alloc, command, Bytes::new(alloc)),
+        Some(command) if command.reads() => answer_read(alloc, command, source, outside),
+        Some(command) => answer_to(alloc, command, Bytes::new(alloc), outside),
     }
 }

@@ -1,11 +1,13 @@
-//! The program `xmpp`: it replays a schedule of messages and writes what came of it, checks a stream, or does again what a
-//! server did.
+//! The program `xmpp`: it replays a schedule of messages and writes what came of it, checks a stream, does again what a
+//! server did, serves connections, or does a script as a client.
 #![tactic(auto)]
 
+mod answer;
 mod answering;
 mod command;
 mod outcome;
 mod running;
+mod surroundings;
 mod texts;
 
 use crate::running::run;
@@ -15,6 +17,8 @@ use std::process::ExitCode;
 use std::rt::Env;
 use std::{env, io};
 use xmpp_edge::{NoMemory, StdSink, StdSource};
+use xmpp_outside::Outside;
+use xmpp_sockets::{SystemClock, SystemEntropy, TcpDialer, TcpDoor};
 
 /// The words behind the program's name. There are none where one is not UTF-8.
 fn words_of<R: Env + AllocGlobal>(rt: &R) -> Result<Vec<String>, NoMemory> {
@@ -37,7 +41,27 @@ fn main(rt: HostRuntime) -> ExitCode {
     };
     let mut source = StdSource::new(rt.reader());
     let mut sink = StdSink::new(io::writer(&rt));
-    let status = run(rt.alloc(), words.as_slice(), &mut source, &mut sink);
+    let mut outside = Outside {
+        door: Some(TcpDoor::new(&rt, rt.alloc())),
+        dialer: TcpDialer::new(&rt, rt.alloc()),
+        clock: SystemClock::new(&rt),
+        entropy: SystemEntropy::new(&rt),
+    };
+    let status = run(
+        rt.alloc(),
+        words.as_slice(),
+        &mut source,
+        &mut sink,
+        &mut outside,
+    );
+    // A value of several parts that isn't dropped as a whole: its parts are.
+    let Outside {
+        door,
+        dialer,
+        clock,
+        entropy,
+    } = outside;
+    drop((door, dialer, clock, entropy));
     if status == 2 {
         // The status alone tells it where this can't be written either.
         let _ = eprintln!(rt; "{USAGE}");

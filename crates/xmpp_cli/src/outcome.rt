@@ -13,6 +13,12 @@ pub enum Outcome {
     Refused,
     /// A read failed.
     ReadFault,
+    /// The door failed, or the one connection that was needed.
+    LinkFault,
+    /// The server has to answer for it.
+    PeerFault,
+    /// No random bytes were drawn.
+    EntropyFault,
     /// The source gave more than `MOST_BYTES_READ` bytes.
     TooLong,
 }
@@ -27,6 +33,9 @@ impl Outcome {
             Outcome::WrongWords => 2,
             Outcome::Refused => 3,
             Outcome::ReadFault => 4,
+            Outcome::LinkFault => 7,
+            Outcome::PeerFault => 8,
+            Outcome::EntropyFault => 10,
             Outcome::TooLong => 11,
         }
     }

@@ -1,5 +1,5 @@
 //! A call of the program: its words, its input, what it writes and its exit status.
-ghost use Rattle.std.specs.Prelude.{◌≡◌, ◌≢◌, false, ◌<◌, ◌≤◌, ◌⊎◌, List, ℕ, IfSome, IsTrue};
+ghost use Rattle.std.specs.Prelude.{◌≡◌, ◌≢◌, false, ◌<◌, ◌≤◌, ◌⊎◌, List, ℕ, IfSome, IsSome, IsTrue};
 ghost use Rattle.std.specs.Io.KnownBytes.{Appends, Keeps, IsAtEnd};
 ghost use Rattle.xmpp_edge.specs.Counts.{Rose, Quiet};
 ghost use Rattle.xmpp_edge.specs.Prefixes.{AppendsPrefix};
@@ -7,36 +7,47 @@ ghost use Rattle.xmpp_report.specs.ReportText.{text_of};
 ghost use Rattle.xmpp_report.specs.Reports.{ReportView};
 ghost use Rattle.xmpp_schedule.specs.Grammar.{IsDirectSchedule, direct_text};
 ghost use Rattle.xmpp_schedule.specs.Schedules.{ScheduleView};
-ghost use Rattle.xmpp_cli.specs.Words.{asked, reads};
+ghost use Rattle.xmpp_cli.specs.Dealings.{AreBack, IsBack};
+ghost use Rattle.xmpp_cli.specs.Words.{asked, goes_out, reads};
 ghost use Rattle.xmpp_cli.specs.Table.{code_of, is_status, IsReportOf, Due, MustAnswer};
 
 use crate::answering::due;
 use crate::command::Command;
 use crate::outcome::Outcome;
+use crate::surroundings::Surroundings;
 use std::alloc::Global;
 use xmpp_edge::{Sink, Source, write_all};
+use xmpp_outside::{Clock, Dialer, Door, Entropy, Outside};
 
 /// Writes what is due, and answers the exit status.
-fn write_due<S: Source, K: Sink>(
+fn write_due<S: Source, K: Sink, O: Surroundings>(
     alloc: Global,
     words: &[String],
     source: &mut S,
     sink: &mut K,
+    outside: &mut O,
 ) -> u8
+    requires { IsSome (O.view outside.old).door }
     ensures told { result ≢ 5 → result ≢ 6 → (outcome : Outcome) × (text : List ℕ) × (result ≡ code_of outcome)
-        × Due (asked words.now) (S.left source.old) (S.left source.new) (Rose (S.faults source.old) (S.faults source.new)) outcome text
+        × Due (asked words.now) (S.left source.old) (S.left source.new) (Rose (S.faults source.old) (S.faults source.new))
+        (record { before = O.view outside.old; behind = O.view outside.new }) outcome text
         × Appends (K.written sink.old) (K.written sink.new) text }
     ensures prefix { result ≡ 5 → Rose (K.faults sink.old) (K.faults sink.new) × ((outcome : Outcome) × (text : List ℕ)
-        × Due (asked words.now) (S.left source.old) (S.left source.new) (Rose (S.faults source.old) (S.faults source.new)) outcome text
+        × Due (asked words.now) (S.left source.old) (S.left source.new) (Rose (S.faults source.old) (S.faults source.new))
+        (record { before = O.view outside.old; behind = O.view outside.new }) outcome text
         × AppendsPrefix (K.written sink.old) (K.written sink.new) text) }
     ensures no_memory { result ≡ 6 → Keeps (K.written sink.old) (K.written sink.new) }
     ensures write_fault_only { K.faults sink.old < K.faults sink.new → result ≡ 5 }
     ensures read_fault_only { S.faults source.old < S.faults source.new → (result ≡ 4) ⊎ (result ≡ 5) ⊎ (result ≡ 6) }
     ensures unread { reads (asked words.now) ≡ false → source.new ≡ source.old }
+    ensures door { IsSome (O.view outside.new).door }
+    ensures back { AreBack (record { before = O.view outside.old; behind = O.view outside.new }) }
+    ensures returned { IsBack (record { before = O.view outside.old; behind = O.view outside.new }) }
+    ensures apart { goes_out (asked words.now) ≡ false → outside.new ≡ outside.old }
     ensures source_later { S.faults source.old ≤ S.faults source.new }
     ensures sink_later { K.faults sink.old ≤ K.faults sink.new }
 {
-    match due(alloc, words, source) {
+    match due(alloc, words, source, outside) {
         Ok(answer) => match write_all(sink, answer.text.as_slice()) {
             Ok(()) => answer.outcome.code(),
             Err(_) => 5,
@@ -51,15 +62,25 @@ fn write_due<S: Source, K: Sink>(
 /// |---|---|---|
 /// | 0 | where it was done | the text asked for |
 /// | 2 | exactly where the words are not in the table | `words` |
-/// | 3 | exactly where the input, read to its end, is not the text of a direct schedule, of `rerun` of accounts and a journal, or of `check` something is wrong with the stream | its first bad line, and the reason; of a wire schedule, which is not run yet, `line 1 NotBuilt`; of `check` what is told of the stream |
+/// | 3 | exactly where the input, read to its end, is not the text of a direct schedule, of `rerun` of accounts and a journal, of `serve` of accounts, of `sync` of a script, or of `check` something is wrong with the stream | its first bad line, and the reason; of a wire schedule, which is not run yet, `line 1 NotBuilt`; of `check` what is told of the stream |
 /// | 4 | only where a read failed | `read fault` |
 /// | 5 | exactly where a write failed | a prefix of what was due |
 /// | 6 | where memory ran out | nothing |
+/// | 7 | of `serve` only where the door failed before its connections were over; of `sync` only where the dialer or its link failed, or the link ended, before the script was done | `link fault` |
+/// | 8 | of `sync` only where the server has to answer for it that the script was not done | `peer`, and what it did |
+/// | 10 | of `serve` and `sync` only where no random bytes were drawn | `entropy fault` |
 /// | 11 | exactly where the source gave more than `MOST_BYTES_READ` bytes | `too long` |
 ///
 /// Each "exactly" yields to want of memory, and to what comes before it in the order words, read, length, grammar,
 /// write. Clauses speak of bytes where the source and the sink tell them.
-pub fn run<S: Source, K: Sink>(alloc: Global, words: &[String], source: &mut S, sink: &mut K) -> u8
+pub fn run<S: Source, K: Sink, D: Door, L: Dialer, C: Clock, E: Entropy>(
+    alloc: Global,
+    words: &[String],
+    source: &mut S,
+    sink: &mut K,
+    outside: &mut Outside<D, L, C, E>,
+) -> u8
+    requires { IsSome outside.old.door }
     // What was read is the text of one direct schedule, and what was written is the text of its report and nothing else.
     ensures done_replay { result ≡ 0 → asked words.now ≡ Some Command.Replay → (schedule : ScheduleView) × (report : ReportView)
         × IsDirectSchedule schedule
@@ -69,23 +90,31 @@ pub fn run<S: Source, K: Sink>(alloc: Global, words: &[String], source: &mut S, 
         × Appends (K.written sink.old) (K.written sink.new) (text_of report) }
     // Whatever outcome the status is the code of, its text is due, and was written and nothing else.
     ensures answered { (outcome : Outcome) → result ≡ code_of outcome → (text : List ℕ)
-        × Due (asked words.now) (S.left source.old) (S.left source.new) (Rose (S.faults source.old) (S.faults source.new)) outcome text
+        × Due (asked words.now) (S.left source.old) (S.left source.new) (Rose (S.faults source.old) (S.faults source.new))
+        (record { before = ⟦<Outside<D, L, C, E> as Surroundings>⟧.view outside.old; behind = ⟦<Outside<D, L, C, E> as Surroundings>⟧.view outside.new }) outcome text
         × Appends (K.written sink.old) (K.written sink.new) text }
     // The converse: where nothing failed, the outcome that there must be is the one that there is.
     ensures exactly { (outcome : Outcome)
-        → MustAnswer (asked words.now) (S.left source.old) (Quiet (S.faults source.old) (S.faults source.new)) outcome
+        → MustAnswer (asked words.now) (S.left source.old) (Quiet (S.faults source.old) (S.faults source.new))
+        (record { before = ⟦<Outside<D, L, C, E> as Surroundings>⟧.view outside.old; behind = ⟦<Outside<D, L, C, E> as Surroundings>⟧.view outside.new }) outcome
         → Quiet (K.faults sink.old) (K.faults sink.new) → (result ≡ code_of outcome) ⊎ (result ≡ 6) }
     ensures read_fault_only { S.faults source.old < S.faults source.new → (result ≡ 4) ⊎ (result ≡ 5) ⊎ (result ≡ 6) }
     // What went out is a prefix of the text that was due.
     ensures write_fault { result ≡ 5 → Rose (K.faults sink.old) (K.faults sink.new) × ((outcome : Outcome) × (text : List ℕ)
-        × Due (asked words.now) (S.left source.old) (S.left source.new) (Rose (S.faults source.old) (S.faults source.new)) outcome text
+        × Due (asked words.now) (S.left source.old) (S.left source.new) (Rose (S.faults source.old) (S.faults source.new))
+        (record { before = ⟦<Outside<D, L, C, E> as Surroundings>⟧.view outside.old; behind = ⟦<Outside<D, L, C, E> as Surroundings>⟧.view outside.new }) outcome text
         × AppendsPrefix (K.written sink.old) (K.written sink.new) text) }
     ensures write_fault_only { K.faults sink.old < K.faults sink.new → result ≡ 5 }
     ensures no_memory { result ≡ 6 → Keeps (K.written sink.old) (K.written sink.new) }
+    ensures door { IsSome outside.new.door }
+    // Each link that the door handed out was given back to it, in order, and so was the one that the dialer handed out.
+    ensures given_back { AreBack (record { before = ⟦<Outside<D, L, C, E> as Surroundings>⟧.view outside.old; behind = ⟦<Outside<D, L, C, E> as Surroundings>⟧.view outside.new }) }
+    ensures returned { IsBack (record { before = ⟦<Outside<D, L, C, E> as Surroundings>⟧.view outside.old; behind = ⟦<Outside<D, L, C, E> as Surroundings>⟧.view outside.new }) }
+    ensures apart { goes_out (asked words.now) ≡ false → outside.new ≡ outside.old }
     ensures known { IsTrue (is_status result) }
     ensures unread { reads (asked words.now) ≡ false → source.new ≡ source.old }
     ensures source_later { S.faults source.old ≤ S.faults source.new }
     ensures sink_later { K.faults sink.old ≤ K.faults sink.new }
 {
-    write_due(alloc, words, source, sink)
+    write_due(alloc, words, source, sink, outside)
 }

@@ -1,9 +1,13 @@
-//! Calls over a source and a sink in memory, whose reads and writes fail where a row says so.
+//! Calls over a source, a sink and an outside in memory, whose calls fail where a row says so.
 use crate::running::run;
 use crate::texts::{HELP, VERSION};
 use std::alloc::Global;
 use std::test::Fail;
 use xmpp_edge::{Bytes, MemorySink, MemorySource, NoMemory, Numbers};
+use xmpp_memory_outside::{
+    Links, MemoryClock, MemoryDialer, MemoryDoor, MemoryEntropy, MemoryLink,
+};
+use xmpp_outside::Outside;
 
 const SCHEDULE: &str = "\
 xmpp-schedule 1 direct
@@ -80,9 +84,28 @@ account o!d 0
 end
 ";
 
-// A word, the input, the reading that fails and the writing that fails, from 1 or 0 for none, the status, and what is
+const ACCOUNTS: &str = "\
+xmpp-accounts 1
+domain chat.example
+account alice pw-alice
+";
+
+const JOURNAL: &str = "\
+xmpp-journal 1
+connect 1 5 000000000000000000000000000000000000000000000000
+gone 1 5
+account alice 0
+end
+";
+
+const SCRIPT: &str = "\
+xmpp-sync 1
+account alice@chat.example pw-alice phone
+";
+
+// The words, the input, the reading that fails and the writing that fails, from 1 or 0 for none, the status, and what is
 // written.
-static CALLS: [(&str, &str, u64, u64, u8, &str); 9] = [
+static CALLS: [(&str, &str, u64, u64, u8, &str); 14] = [
     ("replay", SCHEDULE, 0, 0, 0, REPORT),
     (
         "replay",
@@ -99,6 +122,28 @@ static CALLS: [(&str, &str, u64, u64, u8, &str); 9] = [
     ("--help", "", 1, 0, 0, HELP),
     ("--version", "", 1, 0, 0, VERSION),
     ("reply", "", 1, 0, 2, "words\n"),
+    ("serve 5222 1", ACCOUNTS, 0, 0, 0, JOURNAL),
+    ("serve 05222 1", ACCOUNTS, 1, 0, 2, "words\n"),
+    (
+        "serve 5222 1",
+        "xmpp-accounts 1\n",
+        0,
+        0,
+        3,
+        "line 2 Word\n",
+    ),
+    ("sync 5222", SCRIPT, 0, 0, 7, "link fault\n"),
+    ("sync 65536", SCRIPT, 1, 0, 2, "words\n"),
+];
+
+// The words, the input, the calls of door and dialer and of the random bytes that fail, from 1 or 0 for none, the status, and
+// what is written.
+static FAILING: [(&str, &str, u64, u64, u8, &str); 5] = [
+    ("serve 5222 1", ACCOUNTS, 1, 0, 7, "link fault\n"),
+    ("serve 5222 1", ACCOUNTS, 2, 0, 7, "link fault\n"),
+    ("serve 5222 1", ACCOUNTS, 0, 1, 10, "entropy fault\n"),
+    ("sync 5222", SCRIPT, 1, 0, 7, "link fault\n"),
+    ("sync 5222", SCRIPT, 0, 1, 10, "entropy fault\n"),
 ];
 
 fn number(alloc: Global, n: u64) -> Result<Numbers, NoMemory> {
@@ -107,9 +152,11 @@ fn number(alloc: Global, n: u64) -> Result<Numbers, NoMemory> {
     Ok(list)
 }
 
-fn words(alloc: Global, word: &str) -> Result<Vec<String>, NoMemory> {
+fn words(alloc: Global, text: &str) -> Result<Vec<String>, NoMemory> {
     let mut list = Vec::new(alloc);
-    list.push(String::from_str(alloc, word)?)?;
+    for word in text.split(' ') {
+        list.push(String::from_str(alloc, word)?)?;
+    }
     Ok(list)
 }
 
@@ -118,26 +165,74 @@ fn source(alloc: Global, input: &str, fails: u64) -> Result<MemorySource, NoMemo
     Ok(MemorySource::new(bytes, 7, number(alloc, fails)?))
 }
 
-// Whether a call of one word ends so, and writes this.
+// A door with one link, which ends at once, and a dialer with another.
+fn door(alloc: Global, fails: u64) -> Result<MemoryDoor, NoMemory> {
+    let mut links = Links::new(alloc);
+    links.push(MemoryLink::new(alloc, Bytes::new(alloc), 1, number(alloc, 0)?)?)?;
+    Ok(MemoryDoor::new(links, number(alloc, fails)?))
+}
+
+fn dialer(alloc: Global, fails: u64) -> Result<MemoryDialer, NoMemory> {
+    let mut links = Links::new(alloc);
+    links.push(MemoryLink::new(alloc, Bytes::new(alloc), 1, number(alloc, 0)?)?)?;
+    Ok(MemoryDialer::new(links, number(alloc, fails)?))
+}
+
+// Whether a call with these words ends so, and writes this.
 fn is_answered(
     alloc: Global,
-    word: &str,
+    text: &str,
     source: &mut MemorySource,
-    write_fails: u64,
+    fails: (u64, u64, u64),
     status: u8,
     written: &str,
 ) -> Result<bool, NoMemory> {
-    let words = words(alloc, word)?;
-    let mut sink = MemorySink::new(alloc, 64, number(alloc, write_fails)?);
-    let ended = run(alloc, words.as_slice(), source, &mut sink);
+    let words = words(alloc, text)?;
+    let mut sink = MemorySink::new(alloc, 64, number(alloc, fails.0)?);
+    let mut outside = Outside {
+        door: Some(door(alloc, fails.1)?),
+        dialer: dialer(alloc, fails.1)?,
+        clock: MemoryClock::new(5),
+        entropy: MemoryEntropy::new([0; 24], number(alloc, fails.2)?),
+    };
+    let ended = run(alloc, words.as_slice(), source, &mut sink, &mut outside);
+    let Outside { door, dialer, clock, entropy } = outside;
+    drop((door, dialer, clock, entropy));
     Ok(ended == status && sink.written() == written.as_bytes())
 }
 
 #[test]
 fn calls_are_answered(rt: HostRuntime) -> Result<(), Fail> {
-    for (word, input, read_fails, write_fails, status, written) in CALLS {
+    for (words, input, read_fails, write_fails, status, written) in CALLS {
         let mut source = source(rt.alloc(), input, read_fails)?;
-        assert!(rt; is_answered(rt.alloc(), word, &mut source, write_fails, status, written)?);
+        assert!(rt;
+            is_answered(
+                rt.alloc(),
+                words,
+                &mut source,
+                (write_fails, 0, 0),
+                status,
+                written
+            )?
+        );
+    }
+    Ok(())
+}
+
+#[test]
+fn failing_calls_are_answered(rt: HostRuntime) -> Result<(), Fail> {
+    for (words, input, fails, draw_fails, status, written) in FAILING {
+        let mut source = source(rt.alloc(), input, 0)?;
+        assert!(rt;
+            is_answered(
+                rt.alloc(),
+                words,
+                &mut source,
+                (0, fails, draw_fails),
+                status,
+                written
+            )?
+        );
     }
     Ok(())
 }

@@ -1,12 +1,13 @@
-use Rattle.xmpp_cli.proofs.Statuses.{answered, exactly, not_risen, replayed}
+use Rattle.xmpp_cli.proofs.Dialers.{not_risen}
+use Rattle.xmpp_cli.proofs.Statuses.{answered, exactly, replayed}
 use Rattle.xmpp_cli.proofs.running.run.Goals as goal
 
 pub returns-clause-done_replay : goal.returns-clause-done_replay
-returns-clause-done_replay g c = λ zero words. replayed _ _ _ _ _ _ c.write_due.ensures.told zero words
+returns-clause-done_replay g c = λ zero words. replayed _ _ _ _ _ _ _ c.write_due.ensures.told zero words
 
 pub returns-clause-answered : goal.returns-clause-answered
-returns-clause-answered g c = answered _ _ _ _ _ _ c.write_due.ensures.told
+returns-clause-answered g c = answered _ _ _ _ _ _ _ c.write_due.ensures.told
 
 pub returns-clause-exactly : goal.returns-clause-exactly
 returns-clause-exactly g c = λ outcome must still.
-    exactly _ _ _ _ _ _ _ outcome (not_risen _ _) (λ five. not_risen _ _ still (c.write_due.ensures.prefix five).0) must c.write_due.ensures.told
+    exactly _ _ _ _ _ _ _ _ outcome (not_risen _ _) (λ five. not_risen _ _ still (c.write_due.ensures.prefix five).0) must c.write_due.ensures.told
