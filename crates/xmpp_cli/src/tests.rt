@@ -196,7 +196,12 @@ fn is_answered(
         entropy: MemoryEntropy::new([0; 24], number(alloc, fails.2)?),
     };
     let ended = run(alloc, words.as_slice(), source, &mut sink, &mut outside);
-    let Outside { door, dialer, clock, entropy } = outside;
+    let Outside {
+        door,
+        dialer,
+        clock,
+        entropy,
+    } = outside;
     drop((door, dialer, clock, entropy));
     Ok(ended == status && sink.written() == written.as_bytes())
 }
