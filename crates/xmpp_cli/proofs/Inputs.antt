@@ -3,6 +3,7 @@ use Rattle.std.proofs.Common.{◌≡◌, ℕ, Bool, true, false, ◌≤◌, List
 use Rattle.std.specs.Io.KnownBytes.{IsAtEnd}
 use Rattle.xmpp_syncing.specs.declared.fault.SyncFault.{SyncFault}
 use Rattle.xmpp_edge.specs.declared.whole_reads.TheConstants.{MOST_BYTES_READ}
+use Rattle.xmpp_cli.proofs.Unread.{unread_entropy, unread_link, unread_peer}
 use Rattle.xmpp_cli.specs.Dealings.{Dealings}
 use Rattle.xmpp_cli.specs.Words.{reads}
 use Rattle.xmpp_cli.specs.Table.{IsReplayed, IsRefusal, IsRefused, IsChecked, IsReadWhole, IsRerun, IsRerunRefusal, IsServed, IsAccountsRefusal, HasSynced, IsScriptRefusal, IsStopped, HasLinkFailed, HasPeerFailed, HasEntropyFailed, IsDone, IsAnswer, IsDueOf, Due}
@@ -139,33 +140,6 @@ unread_refused Check seen known text e refused = absurd (cc)
 unread_refused Rerun seen known text e refused = absurd (cc)
 unread_refused (Serve port connections) seen known text e refused = absurd (cc)
 unread_refused (Sync port) seen known text e refused = absurd (cc)
-
-unread_link : (command : Command) (seen : List ℕ) (dealt : Dealings) → reads (Some command) ≡ false → ¬ (HasLinkFailed command (Some seen) dealt)
-unread_link Help seen dealt e failed = failed
-unread_link Version seen dealt e failed = failed
-unread_link Replay seen dealt e failed = failed
-unread_link Check seen dealt e failed = failed
-unread_link Rerun seen dealt e failed = failed
-unread_link (Serve port connections) seen dealt e failed = cc
-unread_link (Sync port) seen dealt e failed = cc
-
-unread_peer : (command : Command) (seen : List ℕ) (dealt : Dealings) (text : List ℕ) → reads (Some command) ≡ false → ¬ (HasPeerFailed command (Some seen) dealt text)
-unread_peer Help seen dealt text e failed = failed
-unread_peer Version seen dealt text e failed = failed
-unread_peer Replay seen dealt text e failed = failed
-unread_peer Check seen dealt text e failed = failed
-unread_peer Rerun seen dealt text e failed = failed
-unread_peer (Serve port connections) seen dealt text e failed = failed
-unread_peer (Sync port) seen dealt text e failed = cc
-
-unread_entropy : (command : Command) (dealt : Dealings) → reads (Some command) ≡ false → ¬ (HasEntropyFailed command dealt)
-unread_entropy Help dealt e failed = failed
-unread_entropy Version dealt e failed = failed
-unread_entropy Replay dealt e failed = failed
-unread_entropy Check dealt e failed = failed
-unread_entropy Rerun dealt e failed = failed
-unread_entropy (Serve port connections) dealt e failed = cc
-unread_entropy (Sync port) dealt e failed = cc
 
 unread_whole : {P : Type 0} (command : Command) → reads (Some command) ≡ false → reads (Some command) ≡ true → P
 unread_whole command e is = let both : false ≡ true = sym e ∙ is in absurd (cc)

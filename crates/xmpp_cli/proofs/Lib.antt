@@ -2,3 +2,4 @@ pub mod Dialers
 pub mod Inputs
 mod Rows
 pub mod Statuses
+mod Unread

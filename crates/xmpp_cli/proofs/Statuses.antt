@@ -20,6 +20,7 @@ use Rattle.xmpp_script.specs.Reading.{script_reading}
 use Rattle.xmpp_script.specs.Scripts.{ScriptView}
 use Rattle.xmpp_serving.specs.Journaling.{AreFewer, HasServed}
 use Rattle.xmpp_cli.proofs.Dialers.{link_not_quiet, not_risen}
+use Rattle.xmpp_cli.proofs.Unread.{unread_entropy, unread_link, unread_peer}
 use Rattle.xmpp_cli.specs.Dealings.{Dealings, DoorView}
 use Rattle.xmpp_cli.specs.Words.{reads}
 use Rattle.xmpp_cli.specs.Table.{code_of, Accepts, HasLinkFailed, HasPeerFailed, HasEntropyFailed, IsBlameless, IsQuiet, SaysAccounts, IsServed, IsDone, IsRefused, IsReportOf, Due, IsDueOf, MustAnswer, MustEnd}
@@ -136,33 +137,6 @@ refused_not_accepted Check input text (stream, is, unsound, due) accepts =
 refused_not_accepted Rerun input text (line, reason, why, due) accepts = why.1 accepts
 refused_not_accepted (Serve port connections) input text (line, reason, why, due) accepts = why.1 accepts
 refused_not_accepted (Sync port) input text (line, reason, why, due) accepts = let both : false ≡ true = sym (ap (λ r. is_ok r) why) ∙ accepts in cc
-
-unread_link : (command : Command) (known : Option (List ℕ)) (dealt : Dealings) → reads (Some command) ≡ false → ¬ (HasLinkFailed command known dealt)
-unread_link Help known dealt e failed = failed
-unread_link Version known dealt e failed = failed
-unread_link Replay known dealt e failed = failed
-unread_link Check known dealt e failed = failed
-unread_link Rerun known dealt e failed = failed
-unread_link (Serve port connections) known dealt e failed = cc
-unread_link (Sync port) known dealt e failed = cc
-
-unread_peer : (command : Command) (known : Option (List ℕ)) (dealt : Dealings) (text : List ℕ) → reads (Some command) ≡ false → ¬ (HasPeerFailed command known dealt text)
-unread_peer Help known dealt text e failed = failed
-unread_peer Version known dealt text e failed = failed
-unread_peer Replay known dealt text e failed = failed
-unread_peer Check known dealt text e failed = failed
-unread_peer Rerun known dealt text e failed = failed
-unread_peer (Serve port connections) known dealt text e failed = failed
-unread_peer (Sync port) known dealt text e failed = cc
-
-unread_entropy : (command : Command) (dealt : Dealings) → reads (Some command) ≡ false → ¬ (HasEntropyFailed command dealt)
-unread_entropy Help dealt e failed = failed
-unread_entropy Version dealt e failed = failed
-unread_entropy Replay dealt e failed = failed
-unread_entropy Check dealt e failed = failed
-unread_entropy Rerun dealt e failed = failed
-unread_entropy (Serve port connections) dealt e failed = cc
-unread_entropy (Sync port) dealt e failed = cc
 
 -- a door that is quiet did not fail
 door_not_quiet : (connections : ℕ) (dealt : Dealings) (old new : Option DoorView)

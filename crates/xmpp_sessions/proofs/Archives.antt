@@ -50,7 +50,7 @@ taken_epoch accounts moment i act d kept = taken_all (λ t. t.said.epoch ≡ epo
     messages_append d.sessions.now.up_got d.sessions.now.up_rest ∙ ap (λ zs. messages d.sessions.now.up_got ++ messages zs) split in
     (numbered_rest (epoch_of d.sessions) 0 (messages d.sessions.now.up_got) (m ∷ messages rest) (subst (AreNumbered (epoch_of d.sessions) 0) all kept.now.numbers)).0)
 
--- T4.1: a take is of an epoch above the one that was reached at the last bind
+-- a take is of an epoch above the one that was reached at the last bind
 pub taken_is_new : (accounts : List (List ℕ)) (moment i : ℕ) (act : events.Act) (d : Device) → events.May act d → SessionsKept d.sessions →
     AllByRecursion (λ t. d.sessions.bound < t.said.epoch) (events.taken_by accounts moment i d act)
 taken_is_new accounts moment i (events.Act.ServerHandles fits full) d may kept =
