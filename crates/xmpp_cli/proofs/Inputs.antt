@@ -19,8 +19,7 @@ replayed_of_known input (Some all) text same (schedule, report, is, spelled, of,
     (schedule, report, is, sym same ∙ spelled, of, due)
 
 refusal_of_known : (input : List ℕ) (known : Option (List ℕ)) (text : List ℕ) → IfSome known (λ all. input ≡ all) → IsRefusal (Some input) text → IsRefusal known text
-refusal_of_known input None text same (inl (line, reason, why, due)) = inl (line, reason, tt, due)
-refusal_of_known input None text same (inr (schedule, is, spelled, due)) = inr (schedule, is, tt, due)
+refusal_of_known input None text same (line, reason, why, due) = (line, reason, tt, due)
 refusal_of_known input (Some all) text same refusal = subst (λ bytes. IsRefusal (Some bytes) text) same refusal
 
 checked_of_known : (sound : Bool) (input : List ℕ) (known : Option (List ℕ)) (text : List ℕ) → IfSome known (λ all. input ≡ all) → IsChecked sound (Some input) text → IsChecked sound known text

@@ -8,14 +8,8 @@ use Rattle.xmpp_edge.specs.Counts.{Rose, Quiet}
 use Rattle.xmpp_check.specs.Checked.{told}
 use Rattle.xmpp_report.specs.ReportText.{text_of}
 use Rattle.xmpp_report.specs.Reports.{ReportView}
-use Rattle.xmpp_schedule.proofs.BothKinds.{reading_again}
-use Rattle.xmpp_schedule.specs.Grammar.{IsDirectSchedule, direct_text}
-use Rattle.xmpp_schedule.specs.Schedules.{ScheduleView, WireView}
-use Rattle.xmpp_schedule.specs.WireGrammar.{IsWireSchedule, wire_text}
-use Rattle.xmpp_schedule.specs.WireReading.{reading}
-use Rattle.xmpp_schedule.specs.declared.fault.ScheduleFault.{ScheduleFault}
+use Rattle.xmpp_schedule.specs.Kinds.{IsSchedule, schedule_text}
 use Rattle.xmpp_schedule.specs.declared.schedule.Schedule.{Schedule}
-use Rattle.xmpp_schedule.specs.declared.schedule.Schedule.TheVariants.{Direct, Wire}
 use Rattle.xmpp_script.specs.Reading.{script_reading}
 use Rattle.xmpp_script.specs.Scripts.{ScriptView}
 use Rattle.xmpp_serving.specs.Journaling.{AreFewer, HasServed}
@@ -89,7 +83,7 @@ answered command known left rose dealt Written result answer outcome e =
 -- the headline: a report was written
 pub replayed : (command : Option Command) (known left : Option (List ℕ)) (rose : Type 0) (dealt : Dealings) (Written : List ℕ → Type 0) (result : ℕ)
     → Told command known left rose dealt Written result → result ≡ 0 → command ≡ Some Replay
-    → (schedule : ScheduleView) × (report : ReportView) × IsDirectSchedule schedule × IfSome known (λ input. input ≡ direct_text schedule)
+    → (schedule : Schedule) × (report : ReportView) × IsSchedule schedule × IfSome known (λ input. input ≡ schedule_text schedule)
     × IsAtEnd left × IsReportOf schedule report × Written (text_of report)
 replayed command known left rose dealt Written result answer zero e =
     let (text, due, out) = answered command known left rose dealt Written result answer Done zero in
@@ -119,19 +113,10 @@ done_accepted Rerun input dealt text (run, says, due) = (run, says)
 done_accepted (Serve port connections) input dealt text served = served_accepted connections input dealt text served
 done_accepted (Sync port) input dealt text (script, is, synced) = begun_accepted input script synced.begins.script is synced.begins.said
 
-abbrev as_read : Schedule → Result Schedule ScheduleFault
-as_read schedule = Ok schedule
-
--- no text is that of a wire schedule and of a direct one
-not_both : (wire : WireView) (direct : ScheduleView) → IsWireSchedule wire → IsDirectSchedule direct → wire_text wire ≡ direct_text direct → ⊥
-not_both wire direct is also same =
-    let read : as_read (Wire wire) ≡ as_read (Direct direct) = sym (reading_again (Wire wire) is) ∙ ap (λ (text : List ℕ). reading text) same ∙ reading_again (Direct direct) also in cc
-
 refused_not_accepted : (command : Command) (input text : List ℕ) → IsRefused command (Some input) text → ¬ (Accepts command input)
 refused_not_accepted Help input text refused accepts = refused
 refused_not_accepted Version input text refused accepts = refused
-refused_not_accepted Replay input text (inl (line, reason, why, due)) (schedule, is, spelled) = why.1 (Direct schedule, is, spelled)
-refused_not_accepted Replay input text (inr (wire, is, spelled, due)) (direct, also, too) = not_both wire direct is also (sym spelled ∙ too)
+refused_not_accepted Replay input text (line, reason, why, due) accepts = why.1 accepts
 refused_not_accepted Check input text (stream, is, unsound, due) accepts =
     let both : true ≡ false = sym accepts ∙ ap (λ bytes. (told bytes).sound) is ∙ unsound in cc
 refused_not_accepted Rerun input text (line, reason, why, due) accepts = why.1 accepts

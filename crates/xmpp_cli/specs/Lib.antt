@@ -5,7 +5,7 @@ pub use Rattle.xmpp_journal.specs.Journals
 pub use Rattle.xmpp_rerun.specs.Reruns
 pub use Rattle.xmpp_direct.specs.Direct
 pub use Rattle.xmpp_direct.specs.History
-pub use Rattle.xmpp_schedule.specs.Grammar
+pub use Rattle.xmpp_schedule.specs.Kinds
 pub use Rattle.xmpp_report.specs.LawfulRuns
 pub use Rattle.xmpp_schedule.specs.Reading
 pub use Rattle.xmpp_report.specs.ReportText
@@ -15,6 +15,8 @@ pub use Rattle.xmpp_outside.specs.Links
 pub use Rattle.xmpp_script.specs.Scripts
 pub use Rattle.xmpp_serving.specs.Journaling
 pub use Rattle.xmpp_syncing.specs.Syncs
+pub use Rattle.xmpp_world.specs.Histories
+pub use Rattle.xmpp_world.specs.WorldReports
 pub mod Words
 pub mod Dealings
 pub mod Texts

@@ -7,14 +7,12 @@ use Rattle.xmpp_edge.specs.Counts.{Quiet, Rose}
 use Rattle.xmpp_edge.specs.declared.whole_reads.TheConstants.{MOST_BYTES_READ}
 use Rattle.xmpp_direct.specs.Direct.{direct_report}
 use Rattle.xmpp_direct.specs.History.{direct_history}
-use Rattle.xmpp_schedule.specs.Grammar.{IsDirectSchedule, InDirectGrammar, direct_text}
-use Rattle.xmpp_schedule.specs.Kinds.{InGrammar}
+use Rattle.xmpp_schedule.specs.Kinds.{InGrammar, IsSchedule, schedule_text}
 use Rattle.xmpp_report.specs.LawfulRuns.{KeepsLaws}
-use Rattle.xmpp_schedule.specs.WireGrammar.{IsWireSchedule, wire_text}
 use Rattle.xmpp_schedule.specs.WireReading.{reading}
 use Rattle.xmpp_report.specs.ReportText.{text_of}
 use Rattle.xmpp_report.specs.Reports.{ReportView}
-use Rattle.xmpp_schedule.specs.Schedules.{ScheduleView, WireView}
+use Rattle.xmpp_schedule.specs.Schedules.{ScheduleView}
 use Rattle.xmpp_journal.specs.AccountsFiles.{AccountsView, IsAccountsFile, accounts_text}
 use Rattle.xmpp_journal.specs.Journals.{InputView, Says}
 use Rattle.xmpp_journal.specs.Reading.{accounts_reading, rerun_reading}
@@ -29,8 +27,12 @@ use Rattle.xmpp_syncing.specs.declared.fault.SyncFault.{SyncFault}
 use Rattle.xmpp_syncing.specs.declared.fault.SyncFault.TheVariants as syncs
 use Rattle.xmpp_schedule.specs.declared.fault.LineWhy.{LineWhy}
 use Rattle.xmpp_schedule.specs.declared.fault.ScheduleFault.TheVariants.{BadLine}
+use Rattle.xmpp_schedule.specs.declared.schedule.Schedule.{Schedule}
+use Rattle.xmpp_schedule.specs.declared.schedule.Schedule.TheVariants.{Direct, Wire}
+use Rattle.xmpp_world.specs.Histories.{world_of}
+use Rattle.xmpp_world.specs.WorldReports.{report_of}
 use Rattle.xmpp_cli.specs.Dealings.{Dealings, IsQuietDialer, IsQuietDoor}
-use Rattle.xmpp_cli.specs.Texts.{words_line, read_fault_line, too_long_line, bad_line, not_run_line, link_fault_line, entropy_fault_line, peer_line}
+use Rattle.xmpp_cli.specs.Texts.{words_line, read_fault_line, too_long_line, bad_line, link_fault_line, entropy_fault_line, peer_line}
 use Rattle.xmpp_cli.specs.Words.{reads}
 use Rattle.xmpp_cli.specs.declared.command.Command.{Command}
 use Rattle.xmpp_cli.specs.declared.command.Command.TheVariants.{Help, Version, Replay, Check, Rerun, Serve, Sync}
@@ -54,29 +56,27 @@ abbrev pub is_status : ℕ → Bool
 is_status n = n == 0 || n == 2 || n == 3 || n == 4 || n == 5 || n == 6 || n == 7 || n == 8 || n == 10 || n == 11
 
 -- the report is that of the schedule's direct run, and keeps the five laws of the schedule's version
-pub record IsReportOf (schedule : ScheduleView) (report : ReportView) : Type 0 where
+pub record IsDirectReport (schedule : ScheduleView) (report : ReportView) : Type 0 where
   pub direct : report ≡ direct_report schedule
   pub lawful : KeepsLaws (direct_history schedule) schedule report
 
--- The text is the report of one direct schedule, and the input, where it is known, is that schedule's text.
+-- A case for each kind of schedule. The report of a wire schedule is that of the world to which its lines lead, byte by byte.
+abbrev pub IsReportOf : Schedule → ReportView → Type 0
+IsReportOf (Direct schedule) report = IsDirectReport schedule report
+IsReportOf (Wire schedule) report = report ≡ report_of (world_of schedule)
+
+-- The text is the report of one schedule, and the input, where it is known, is that schedule's text.
 abbrev pub IsReplayed : Option (List ℕ) → List ℕ → Type 0
 IsReplayed known text =
-    (schedule : ScheduleView) × (report : ReportView) × IsDirectSchedule schedule × IfSome known (λ input. input ≡ direct_text schedule)
+    (schedule : Schedule) × (report : ReportView) × IsSchedule schedule × IfSome known (λ input. input ≡ schedule_text schedule)
     × IsReportOf schedule report × (text ≡ text_of report)
 
 -- The text names the first bad line of the input and its reason, and the input, where it is known, is no schedule's
 -- text.
-abbrev pub IsBad : Option (List ℕ) → List ℕ → Type 0
-IsBad known text =
+abbrev pub IsRefusal : Option (List ℕ) → List ℕ → Type 0
+IsRefusal known text =
     (line : ℕ) × (reason : LineWhy) × IfSome known (λ input. (reading input ≡ Err (BadLine line reason)) × ¬ (InGrammar input))
     × (text ≡ bad_line line reason)
-
--- The text says that wire schedules are not run yet, and the input, where it is known, is the text of one.
-abbrev pub IsNotRun : Option (List ℕ) → List ℕ → Type 0
-IsNotRun known text = (schedule : WireView) × IsWireSchedule schedule × IfSome known (λ input. input ≡ wire_text schedule) × (text ≡ not_run_line)
-
-abbrev pub IsRefusal : Option (List ℕ) → List ℕ → Type 0
-IsRefusal known text = IsBad known text ⊎ IsNotRun known text
 
 -- The text is what is told of a stream's bytes, sound or not, and they are the input where it is known.
 abbrev pub IsChecked : Bool → Option (List ℕ) → List ℕ → Type 0
@@ -150,7 +150,7 @@ IsRefused command known text = ⊥
 
 -- A case for each command that can refuse its input: which inputs it doesn't refuse.
 abbrev pub Accepts : Command → List ℕ → Type 0
-Accepts Replay input = InDirectGrammar input
+Accepts Replay input = InGrammar input
 Accepts Check input = (told input).sound ≡ true
 Accepts Rerun input = SaysRun input
 Accepts (Serve port connections) input = SaysAccounts input

@@ -25,10 +25,6 @@ entropy_fault_line = codes "entropy fault" ++ 10 ∷ []
 abbrev pub peer_line : PeerFailure → List ℕ
 peer_line failure = codes "peer " ++ failure_name failure ++ 10 ∷ []
 
--- what is written of a wire schedule
-abbrev pub not_run_line : List ℕ
-not_run_line = codes "line 1 NotBuilt" ++ 10 ∷ []
-
 -- the reason's name
 abbrev pub why_name : LineWhy → List ℕ
 why_name why.Header = codes "Header"

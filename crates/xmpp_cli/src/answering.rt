@@ -5,14 +5,15 @@ ghost use Rattle.std.specs.Prelude.{◌≡◌, false, true, ◌<◌, ◌≤◌, 
 ghost use Rattle.xmpp_edge.specs.Counts.{Rose};
 ghost use Rattle.xmpp_cli.specs.Dealings.{AreBack, Dealings, IsBack};
 ghost use Rattle.xmpp_cli.specs.Words.{asked, goes_out, reads};
-ghost use Rattle.xmpp_cli.specs.Table.{IsAnswer, Due};
+ghost use Rattle.xmpp_cli.specs.Table.{IsAnswer, IsReportOf, Due};
+ghost use Rattle.xmpp_schedule.specs.Kinds.{IsSchedule};
 
 use crate::answer::{Answer, said};
 use crate::command::Command;
 use crate::outcome::Outcome;
 use crate::surroundings::Surroundings;
 use crate::texts::{
-    HELP, NOT_RUN_LINE, READ_FAULT_LINE, TOO_LONG_LINE, VERSION, WORDS_LINE, refusal,
+    HELP, READ_FAULT_LINE, TOO_LONG_LINE, VERSION, WORDS_LINE, refusal,
 };
 use std::alloc::Global;
 use xmpp_check::check;
@@ -20,27 +21,39 @@ use xmpp_direct::direct_is_lawful;
 use xmpp_edge::{Bytes, NoMemory, ReadAllFault, Source, read_all};
 use xmpp_journal::InputFault;
 use xmpp_replay::direct;
-use xmpp_report::report_text;
+use xmpp_report::{Report, report_text};
 use xmpp_rerun::rerun_bytes;
 use xmpp_schedule::{Schedule, ScheduleFault, read_schedule};
+use xmpp_world::wire_report;
 
-/// The report of the direct schedule whose text this is, or the refusal of the text. The law is called for its fact, that the
-/// report keeps the five laws: the answer's clause says so. The input is dropped once it is read.
+/// The report of a schedule. The law is called for its fact, that the report of a direct one keeps the five laws.
+fn reported(alloc: Global, schedule: Schedule) -> Result<Report, NoMemory>
+    requires { IsSchedule schedule }
+    ensures { IfOk result (λ report. IsReportOf schedule report) }
+{
+    match schedule {
+        Schedule::Direct(schedule) => {
+            direct_is_lawful();
+            direct(alloc, schedule)
+        }
+        Schedule::Wire(schedule) => wire_report(alloc, &schedule),
+    }
+}
+
+/// The report of the schedule whose text this is, or the refusal of the text. The input is dropped once it is read.
 fn replayed(alloc: Global, input: Bytes) -> Result<Answer, NoMemory>
     ensures { IfOk result (λ answer. (dealt : Dealings) → IsAnswer Command.Replay (Some input.items) dealt answer.outcome answer.text.items) }
 {
     let read = read_schedule(alloc, input.as_slice());
     drop(input);
     match read {
-        Ok(Schedule::Direct(schedule)) => {
-            direct_is_lawful();
-            let report = direct(alloc, schedule)?;
+        Ok(schedule) => {
+            let report = reported(alloc, schedule)?;
             Ok(Answer {
                 outcome: Outcome::Done,
                 text: report_text(alloc, &report)?,
             })
         }
-        Ok(Schedule::Wire(_)) => said(alloc, Outcome::Refused, NOT_RUN_LINE),
         Err(ScheduleFault::BadLine { line, why }) => Ok(Answer {
             outcome: Outcome::Refused,
             text: refusal(alloc, line, why)?,

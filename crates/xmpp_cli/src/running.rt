@@ -5,8 +5,8 @@ ghost use Rattle.xmpp_edge.specs.Counts.{Rose, Quiet};
 ghost use Rattle.xmpp_edge.specs.Prefixes.{AppendsPrefix};
 ghost use Rattle.xmpp_report.specs.ReportText.{text_of};
 ghost use Rattle.xmpp_report.specs.Reports.{ReportView};
-ghost use Rattle.xmpp_schedule.specs.Grammar.{IsDirectSchedule, direct_text};
-ghost use Rattle.xmpp_schedule.specs.Schedules.{ScheduleView};
+ghost use Rattle.xmpp_schedule.specs.Kinds.{IsSchedule, schedule_text};
+ghost use Rattle.xmpp_schedule.specs.declared.schedule.Schedule.{Schedule};
 ghost use Rattle.xmpp_cli.specs.Dealings.{AreBack, IsBack};
 ghost use Rattle.xmpp_cli.specs.Words.{asked, goes_out, reads};
 ghost use Rattle.xmpp_cli.specs.Table.{code_of, is_status, IsReportOf, Due, MustAnswer};
@@ -62,7 +62,7 @@ fn write_due<S: Source, K: Sink, O: Surroundings>(
 /// |---|---|---|
 /// | 0 | where it was done | the text asked for |
 /// | 2 | exactly where the words are not in the table | `words` |
-/// | 3 | exactly where the input, read to its end, is not the text of a direct schedule, of `rerun` of accounts and a journal, of `serve` of accounts, of `sync` of a script, or of `check` something is wrong with the stream | its first bad line, and the reason; of a wire schedule, which is not run yet, `line 1 NotBuilt`; of `check` what is told of the stream |
+/// | 3 | exactly where the input, read to its end, is not the text of a schedule, of `rerun` of accounts and a journal, of `serve` of accounts, of `sync` of a script, or of `check` something is wrong with the stream | its first bad line, and the reason; of `check` what is told of the stream |
 /// | 4 | only where a read failed | `read fault` |
 /// | 5 | exactly where a write failed | a prefix of what was due |
 /// | 6 | where memory ran out | nothing |
@@ -81,10 +81,10 @@ pub fn run<S: Source, K: Sink, D: Door, L: Dialer, C: Clock, E: Entropy>(
     outside: &mut Outside<D, L, C, E>,
 ) -> u8
     requires { IsSome outside.old.door }
-    // What was read is the text of one direct schedule, and what was written is the text of its report and nothing else.
-    ensures done_replay { result ≡ 0 → asked words.now ≡ Some Command.Replay → (schedule : ScheduleView) × (report : ReportView)
-        × IsDirectSchedule schedule
-        × IfSome (S.left source.old) (λ input. input ≡ direct_text schedule)
+    // What was read is the text of one schedule, and what was written is the text of its report and nothing else.
+    ensures done_replay { result ≡ 0 → asked words.now ≡ Some Command.Replay → (schedule : Schedule) × (report : ReportView)
+        × IsSchedule schedule
+        × IfSome (S.left source.old) (λ input. input ≡ schedule_text schedule)
         × IsAtEnd (S.left source.new)
         × IsReportOf schedule report
         × Appends (K.written sink.old) (K.written sink.new) (text_of report) }

@@ -22,9 +22,6 @@ pub const LINK_FAULT_LINE: &str = "link fault\n";
 /// What is written where no random bytes were drawn.
 pub const ENTROPY_FAULT_LINE: &str = "entropy fault\n";
 
-/// What is written of a wire schedule, which is not run yet.
-pub const NOT_RUN_LINE: &str = "line 1 NotBuilt\n";
-
 /// The program's name and version.
 pub const VERSION: &str = "xmpp 1\n";
 
