@@ -105,7 +105,7 @@ account alice@chat.example pw-alice phone
 
 // The words, the input, the reading that fails and the writing that fails, from 1 or 0 for none, the status, and what is
 // written.
-static CALLS: [(&str, &str, u64, u64, u8, &str); 14] = [
+static CALLS: [(&str, &str, u64, u64, u8, &str); 16] = [
     ("replay", SCHEDULE, 0, 0, 0, REPORT),
     (
         "replay",
@@ -117,6 +117,15 @@ static CALLS: [(&str, &str, u64, u64, u8, &str); 14] = [
     ),
     ("replay", SCHEDULE, 2, 0, 4, "read fault\n"),
     ("check", STREAM, 0, 0, 0, ITEMS),
+    ("check", STREAM, 2, 0, 4, "read fault\n"),
+    (
+        "replay",
+        SCHEDULE,
+        0,
+        3,
+        5,
+        "xmpp-report 1 direct\ntake phone 1 1 bob\ntake desk 1 1 alice\ntake phone 1 2 alice\naccount alice 3\nentry 0000000000000001 0 alice@",
+    ),
     ("rerun", RUN, 0, 0, 0, RUN_AGAIN),
     ("check", "<a", 0, 1, 5, ""),
     ("--help", "", 1, 0, 0, HELP),
