@@ -1,104 +1,259 @@
-// Scripts over links in memory (RFC 6120, sections 4 to 7; XEP-0198; XEP-0313). The messages of the login are from another
-// program, for the password `pw-alice`, a salt of 16 bytes, 4,096 iterations, and nonces of zero bytes and of a one and zero
-// bytes.
+// Scripts over links in memory (RFC 6120, sections 4 to 7; XEP-0198; XEP-0313).
+use crate::texts::{
+    ASKED, AUTH, BIND, BOUND, CHALLENGE, CLOSING, EMPTY_PAGE, ENABLE, ENABLED, HANDLED, HEADER,
+    MESSAGE, NO_PAGE, OFFERS, ONLINE, OPENED, PAGE, REOPENED, RESPONSE, SAID, SCRIPT, SUCCESS,
+    SYNCED, SYNCED_WITHOUT, TOO_HIGH, TOO_HIGH_PUT, WRONG_SUCCESS,
+};
 use std::alloc::Global;
 use std::test::Fail;
 use xmpp_edge::{Bytes, NoMemory, Numbers};
-use xmpp_memory_outside::{Links, MemoryDialer, MemoryEntropy, MemoryLink};
+use xmpp_memory_outside::{Links, MemoryDialer, MemoryEntropy, MemoryLink, Shelf};
+use xmpp_schedule::LineWhy;
 use xmpp_syncing::{PeerFailure, SyncFault, sync};
 
-static SCRIPT: &str =
-    "xmpp-sync 1\naccount alice@chat.example pw-alice phone\nsay bob@chat.example hi\ncatchup 10\n";
+type Texts = &'static [&'static str];
 
-// What the server sends in a whole session.
-static SERVER: &str =
-    "<?xml version='1.0'?><stream:stream from='chat.example' id='1' version='1.0' xml:lang='en' xmlns='jabber:client' xmlns:stream='http://etherx.jabber.org/streams'><stream:features><mechanisms xmlns='urn:ietf:params:xml:ns:xmpp-sasl'><mechanism>SCRAM-SHA-256</mechanism></mechanisms></stream:features><challenge xmlns='urn:ietf:params:xml:ns:xmpp-sasl'>cj1BQUFBQUFBQUFBQUFBQUFBQUFBQUFBQUFBUUFBQUFBQUFBQUFBQUFBQUFBQUFBQUEscz10aFQveXVDV0Z5SkhVYU5XUHMyZy9BPT0saT00MDk2</challenge><success xmlns='urn:ietf:params:xml:ns:xmpp-sasl'>dj14ZEwxWVRDZVhKU2VpTmY2aEh1OHFtQWZib05RQnloT3lKUUYvY0o1cGxzPQ==</success><?xml version='1.0'?><stream:stream from='chat.example' id='2' version='1.0' xml:lang='en' xmlns='jabber:client' xmlns:stream='http://etherx.jabber.org/streams'><stream:features><bind xmlns='urn:ietf:params:xml:ns:xmpp-bind'/><sm xmlns='urn:xmpp:sm:3'/></stream:features><iq id='bind' type='result'><bind xmlns='urn:ietf:params:xml:ns:xmpp-bind'><jid>alice@chat.example/phone</jid></bind></iq><enabled xmlns='urn:xmpp:sm:3' id='0000000000000001' max='300' resume='true'/><a xmlns='urn:xmpp:sm:3' h='3'/><message to='alice@chat.example/phone'><result xmlns='urn:xmpp:mam:2' id='0000000000000001' queryid='q1'><forwarded xmlns='urn:xmpp:forward:0'><delay xmlns='urn:xmpp:delay' stamp='1970-01-01T00:00:00.000Z'/><message xmlns='jabber:client' from='alice@chat.example/phone' id='phone.1.1' to='bob@chat.example' type='chat'><body>hi&#xA;you</body></message></forwarded></result></message><iq id='q1' to='alice@chat.example/phone' type='result'><fin xmlns='urn:xmpp:mam:2' complete='true'><set xmlns='http://jabber.org/protocol/rsm'><first index='0'>0000000000000001</first><last>0000000000000001</last><count>1</count></set></fin></iq>";
-
-// What the client puts then.
-static PUT: &str =
-    "<?xml version='1.0'?><stream:stream to='chat.example' version='1.0' xmlns='jabber:client' xmlns:stream='http://etherx.jabber.org/streams'><auth xmlns='urn:ietf:params:xml:ns:xmpp-sasl' mechanism='SCRAM-SHA-256'>biwsbj1hbGljZSxyPUFBQUFBQUFBQUFBQUFBQUFBQUFBQUFBQQ==</auth><response xmlns='urn:ietf:params:xml:ns:xmpp-sasl'>Yz1iaXdzLHI9QUFBQUFBQUFBQUFBQUFBQUFBQUFBQUFBQVFBQUFBQUFBQUFBQUFBQUFBQUFBQUFBLHA9SVVQckk4eFFSRDF6c3ByV0hzcDhaVTB0bHZJZjFlanc2VHdIbHZmUXJOaz0=</response><?xml version='1.0'?><stream:stream to='chat.example' version='1.0' xmlns='jabber:client' xmlns:stream='http://etherx.jabber.org/streams'><iq id='bind' type='set'><bind xmlns='urn:ietf:params:xml:ns:xmpp-bind'><resource>phone</resource></bind></iq><enable xmlns='urn:xmpp:sm:3' resume='true'/><iq id='carbons' type='set'><enable xmlns='urn:xmpp:carbons:2'/></iq><presence/><message id='phone.1.1' to='bob@chat.example' type='chat'><body>hi</body><origin-id xmlns='urn:xmpp:sid:0' id='phone.1.1'/></message><r xmlns='urn:xmpp:sm:3'/><iq id='q1' type='set'><query xmlns='urn:xmpp:mam:2' queryid='q1'><x xmlns='jabber:x:data' type='submit'><field type='hidden' var='FORM_TYPE'><value>urn:xmpp:mam:2</value></field></x><set xmlns='http://jabber.org/protocol/rsm'><max>10</max></set></query></iq><r xmlns='urn:xmpp:sm:3'/></stream:stream>";
-
-// What is written then.
-static SYNCED: &str =
-    "xmpp-synced 2\npage - 1 complete 1\nlogged 0000000000000001 0 alice@chat.example/phone bob@chat.example  hi you\nend\n";
-
-// What a server that ends the stream at once sends.
-static CLOSED: &str =
-    "<?xml version='1.0'?><stream:stream from='chat.example' id='1' version='1.0' xml:lang='en' xmlns='jabber:client' xmlns:stream='http://etherx.jabber.org/streams'></stream:stream>";
-
-// What the server sends.
-#[derive(Clone, Copy)]
-enum Sent {
-    Whole,
-    Closed,
-}
-
-// Runs: what the server sends, how many bytes come at a time, the number of the call of the link that fails, and the refusal
-// that is wanted, where one is.
-static RUNS: [(Sent, usize, u64, Option<SyncFault>); 4] = [
-    (Sent::Whole, 7, 0, None),
-    (Sent::Whole, 1, 0, None),
-    (Sent::Whole, 7, 40, Some(SyncFault::Link)),
-    (
-        Sent::Closed,
-        7,
-        0,
-        Some(SyncFault::Peer(PeerFailure::Closed)),
-    ),
-];
-
-// A dialer with one link.
-fn dialer_of(
-    alloc: Global,
-    server: &str,
+// How a script is done, over a dialer with one link.
+struct Run {
+    script: &'static str,
+    // what the server sends, how many bytes the link gives and takes at a time, and which of its calls fails, from 1
+    came: Texts,
     step: usize,
     fails: u64,
-) -> Result<MemoryDialer, NoMemory> {
-    let bytes = Bytes::from_slice(alloc, server.as_bytes())?;
+    // what was written on the link, where it was given back
+    put: Option<Texts>,
+    // what is written of the script, or why it is not done
+    answer: Result<&'static str, SyncFault>,
+}
+
+static DONE: [Run; 3] = [
+    // a message and a page
+    Run {
+        script: SCRIPT,
+        came: &[
+            OPENED, OFFERS, CHALLENGE, SUCCESS, REOPENED, BOUND, ENABLED, HANDLED, PAGE,
+        ],
+        step: 7,
+        fails: 0,
+        put: Some(&[
+            HEADER, AUTH, RESPONSE, HEADER, BIND, ENABLE, ONLINE, SAID, ASKED, CLOSING,
+        ]),
+        answer: Ok(SYNCED),
+    },
+    // the same, byte by byte
+    Run {
+        script: SCRIPT,
+        came: &[
+            OPENED, OFFERS, CHALLENGE, SUCCESS, REOPENED, BOUND, ENABLED, HANDLED, PAGE,
+        ],
+        step: 1,
+        fails: 0,
+        put: Some(&[
+            HEADER, AUTH, RESPONSE, HEADER, BIND, ENABLE, ONLINE, SAID, ASKED, CLOSING,
+        ]),
+        answer: Ok(SYNCED),
+    },
+    // the last piece of all brings what can't be read behind the count
+    Run {
+        script: MESSAGE,
+        came: &[
+            OPENED, OFFERS, CHALLENGE, SUCCESS, REOPENED, BOUND, ENABLED, HANDLED, "x",
+        ],
+        step: 7,
+        fails: 0,
+        put: Some(&[HEADER, AUTH, RESPONSE, HEADER, BIND, ENABLE, ONLINE, SAID]),
+        answer: Ok(SYNCED_WITHOUT),
+    },
+];
+
+static NOT_DONE: [Run; 9] = [
+    // the same, and a catch-up is still to be done
+    Run {
+        script: SCRIPT,
+        came: &[
+            OPENED, OFFERS, CHALLENGE, SUCCESS, REOPENED, BOUND, ENABLED, HANDLED, "x",
+        ],
+        step: 7,
+        fails: 0,
+        put: Some(&[HEADER, AUTH, RESPONSE, HEADER, BIND, ENABLE, ONLINE, SAID]),
+        answer: Err(SyncFault::Peer(PeerFailure::Framing)),
+    },
+    // a read fails in the server's header
+    Run {
+        script: SCRIPT,
+        came: &[OPENED, OFFERS, CHALLENGE, SUCCESS, REOPENED, BOUND, ENABLED],
+        step: 7,
+        fails: 40,
+        put: Some(&[HEADER]),
+        answer: Err(SyncFault::Link),
+    },
+    // the write of the end of the stream fails
+    Run {
+        script: SCRIPT,
+        came: &[
+            OPENED, OFFERS, CHALLENGE, SUCCESS, REOPENED, BOUND, ENABLED, HANDLED, PAGE,
+        ],
+        step: 7,
+        fails: 436,
+        put: Some(&[
+            HEADER, AUTH, RESPONSE, HEADER, BIND, ENABLE, ONLINE, SAID, ASKED,
+        ]),
+        answer: Err(SyncFault::Link),
+    },
+    // the server ends the stream
+    Run {
+        script: SCRIPT,
+        came: &[OPENED, CLOSING],
+        step: 7,
+        fails: 0,
+        put: Some(&[HEADER]),
+        answer: Err(SyncFault::Peer(PeerFailure::Closed)),
+    },
+    // the server has another password
+    Run {
+        script: SCRIPT,
+        came: &[OPENED, OFFERS, CHALLENGE, WRONG_SUCCESS],
+        step: 7,
+        fails: 0,
+        put: Some(&[HEADER, AUTH, RESPONSE]),
+        answer: Err(SyncFault::Peer(PeerFailure::BadVerifier)),
+    },
+    // the server handled more than was put
+    Run {
+        script: SCRIPT,
+        came: &[
+            OPENED, OFFERS, CHALLENGE, SUCCESS, REOPENED, BOUND, ENABLED, TOO_HIGH,
+        ],
+        step: 7,
+        fails: 0,
+        put: Some(&[
+            HEADER,
+            AUTH,
+            RESPONSE,
+            HEADER,
+            BIND,
+            ENABLE,
+            ONLINE,
+            SAID,
+            TOO_HIGH_PUT,
+        ]),
+        answer: Err(SyncFault::Peer(PeerFailure::TooHigh)),
+    },
+    // the page is refused
+    Run {
+        script: SCRIPT,
+        came: &[
+            OPENED, OFFERS, CHALLENGE, SUCCESS, REOPENED, BOUND, ENABLED, HANDLED, NO_PAGE,
+        ],
+        step: 7,
+        fails: 0,
+        put: Some(&[
+            HEADER, AUTH, RESPONSE, HEADER, BIND, ENABLE, ONLINE, SAID, ASKED,
+        ]),
+        answer: Err(SyncFault::Peer(PeerFailure::Refused)),
+    },
+    // an empty page is not the last one
+    Run {
+        script: SCRIPT,
+        came: &[
+            OPENED, OFFERS, CHALLENGE, SUCCESS, REOPENED, BOUND, ENABLED, HANDLED, EMPTY_PAGE,
+        ],
+        step: 7,
+        fails: 0,
+        put: Some(&[
+            HEADER, AUTH, RESPONSE, HEADER, BIND, ENABLE, ONLINE, SAID, ASKED,
+        ]),
+        answer: Err(SyncFault::Peer(PeerFailure::NoAdvance)),
+    },
+    // a line of the script is wrong
+    Run {
+        script: "xmpp-sync 1\naccount alice@chat.example pw-alice phone\ncatchup 0\n",
+        came: &[OPENED, OFFERS, CHALLENGE, SUCCESS, REOPENED, BOUND, ENABLED],
+        step: 7,
+        fails: 0,
+        put: None,
+        answer: Err(SyncFault::BadLine {
+            line: 3,
+            why: LineWhy::Number,
+        }),
+    },
+];
+
+// Texts, joined.
+fn joined(alloc: Global, texts: &[&str]) -> Result<Bytes, NoMemory> {
+    let mut bytes = Bytes::new(alloc);
+    for text in texts {
+        bytes.append(text.as_bytes())?;
+    }
+    Ok(bytes)
+}
+
+fn are_joined(texts: &[&str], bytes: &[u8]) -> bool {
+    let mut rest = bytes;
+    for text in texts {
+        match rest.strip_prefix(text.as_bytes()) {
+            Some(more) => rest = more,
+            None => return false,
+        }
+    }
+    rest.is_empty()
+}
+
+// A dialer with one link.
+fn dialer(alloc: Global, came: Bytes, step: usize, fails: u64) -> Result<MemoryDialer, NoMemory> {
     let mut chosen = Numbers::new(alloc);
     chosen.push(fails)?;
-    let link = MemoryLink::new(alloc, bytes, step.max(1), chosen)?;
+    let link = MemoryLink::new(alloc, came, step.max(1), chosen)?;
     let mut links = Links::new(alloc);
     links.push(link)?;
     Ok(MemoryDialer::new(links, Numbers::new(alloc)))
 }
 
-// Whether a link was given back, and this was put on it. Any bytes will do where none are wanted.
-fn has_put(dialer: &MemoryDialer, put: &str) -> bool {
-    match dialer.given().link() {
-        Some(link) => put.is_empty() || link.written() == put.as_bytes(),
-        None => false,
+// Whether a script came to what is wanted.
+fn is_answer(run: &Run, given: &Result<Bytes, SyncFault>) -> bool {
+    match (given, run.answer) {
+        (Ok(given), Ok(wanted)) => given.as_slice() == wanted.as_bytes(),
+        (Err(given), Err(wanted)) => *given == wanted,
+        _ => false,
     }
 }
 
-// Whether a run came to what is wanted.
-fn goes_as_wanted(
-    alloc: Global,
-    server: &str,
-    step: usize,
-    fails: u64,
-    refusal: Option<SyncFault>,
-) -> bool {
-    let Ok(mut dialer) = dialer_of(alloc, server, step, fails) else {
-        return false;
-    };
-    let mut entropy = MemoryEntropy::new([0; 24], Numbers::new(alloc));
-    match sync(alloc, SCRIPT.as_bytes(), 5222, &mut dialer, &mut entropy) {
-        Ok(text) => {
-            refusal.is_none() && text.as_slice() == SYNCED.as_bytes() && has_put(&dialer, PUT)
-        }
-        Err(fault) => refusal == Some(fault) && has_put(&dialer, ""),
+// Whether a link was given back with this written on it.
+fn has_put(given: &Shelf, put: Option<Texts>) -> bool {
+    match (given.link(), put) {
+        (Some(link), Some(put)) => are_joined(put, link.written()),
+        (None, None) => true,
+        _ => false,
     }
+}
+
+// Whether a run goes as it should.
+fn goes_well(alloc: Global, run: &Run) -> Result<bool, NoMemory> {
+    let came = joined(alloc, run.came)?;
+    let mut dialer = dialer(alloc, came, run.step, run.fails)?;
+    let mut entropy = MemoryEntropy::new([0; 24], Numbers::new(alloc));
+    let given = sync(
+        alloc,
+        run.script.as_bytes(),
+        5222,
+        &mut dialer,
+        &mut entropy,
+    );
+    Ok(is_answer(run, &given) && has_put(dialer.given(), run.put))
 }
 
 #[test]
-fn scripts_are_done_or_not_as_they_should(rt: HostRuntime) -> Result<(), Fail> {
-    for (sent, step, fails, refusal) in RUNS {
-        let server = match sent {
-            Sent::Whole => SERVER,
-            Sent::Closed => CLOSED,
-        };
-        assert!(rt; goes_as_wanted(rt.alloc(), server, step, fails, refusal));
+fn scripts_are_done(rt: HostRuntime) -> Result<(), Fail> {
+    for run in &DONE {
+        assert!(rt; goes_well(rt.alloc(), run)?);
+    }
+    Ok(())
+}
+
+#[test]
+fn scripts_are_not_done_for_a_cause(rt: HostRuntime) -> Result<(), Fail> {
+    for run in &NOT_DONE {
+        assert!(rt; goes_well(rt.alloc(), run)?);
     }
     Ok(())
 }
