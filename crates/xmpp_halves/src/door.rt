@@ -12,9 +12,9 @@ use xmpp_outside::Door;
 
 /// A door that also hands out links in halves, so that a link can be read in one thread and written in another.
 pub trait Halves: Door {
-    type Incoming: Incoming + Drop + Send + 'static;
+    type Incoming: Incoming + Drop;
 
-    type Outgoing: Outgoing + Drop + Send + 'static;
+    type Outgoing: Outgoing + Drop;
 
     /// The next connection that comes in, in halves. They have the number of the links that were handed out so far, with
     /// this one. `Failed` comes only where `faults` rose in this call, and then none is handed out.

@@ -1,14 +1,12 @@
 -- Each step keeps the rule of the queue.
-use Rattle.std.proofs.Common.{◌≡◌, ◌≢◌, ℕ, zero, suc, ◌+◌, ◌<◌, ◌≤◌, ◌⊎◌, inl, inr, Bool, true, false, true≢false, List, [], ◌∷◌, ◌++◌, length, set, sym, refl, ap, ◌∙◌, subst, ⊎_elim, append_assoc, append-nil, arith, cond, eqb, eq-eqb, ne_eqb, lt_of_not-le}
+use Rattle.std.proofs.Common.{◌≡◌, ◌≢◌, ℕ, zero, suc, ◌<◌, ◌⊎◌, inl, inr, true, false, true≢false, List, [], ◌∷◌, ◌++◌, length, set, sym, refl, ap, ◌∙◌, subst, ⊎_elim, append_assoc, arith, cond, eqb, eq-eqb, ne_eqb, lt_of_not-le}
 use mathlib.Core.Option.{Option, some, none, some-ne-none, some-injective}
-use mathlib.Core.Logic.{dite}
-use native.Mathlib.Decide.{ℕ_discrete, dec_le}
 use lib.ListN.{get_elem?}
 use Rattle.crossbeam_channel.specs.Fifo.{Pushes, Pops, Forks, Merges, Learns}
-use Rattle.atomic_table.proofs.Lists.{at_set, at_snoc}
+use Rattle.atomic_table.proofs.Lists.{at_set}
 use Rattle.xmpp_queue.specs.declared.rule.Known.{Known}
 use Rattle.xmpp_queue.specs.Merge.{items_of}
-use Rattle.xmpp_queue.proofs.ItemsOf.{items_of-append, items_of-next, items_of-another}
+use Rattle.xmpp_queue.proofs.ItemsOf.{items_of-next, items_of-another}
 use Rattle.xmpp_queue.specs.Rule.{nobody, owner, sender, with_put, with_got, with_more, with_told, IsTold, FitsSender, FitsOwner, Carries}
 
 module _ {T : Type 0} (from : T → ℕ) where
