@@ -3,12 +3,14 @@
 #![tactic(auto)]
 
 mod door;
+mod given_back;
 mod incoming;
 mod joined;
 mod outgoing;
 mod pair;
 
 pub use door::Halves;
+pub use given_back::{GivenBack, put_back};
 pub use incoming::Incoming;
 pub use joined::JoinedLink;
 pub use outgoing::{Outgoing, write_whole};
