@@ -1,0 +1,2 @@
+-- ---- what is done again from a journal
+pub mod Again
