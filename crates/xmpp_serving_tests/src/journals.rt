@@ -1,5 +1,5 @@
-// Connections that are served over links in memory, at a moment and with random bytes that are known (RFC 6120, RFC 6121). A
-// journal that is written is done again: it leads to the archives that it ends with.
+//! Connections that are served over links in memory, at a moment and with random bytes that are known (RFC 6120; RFC
+//! 6121). A journal that is written is done again: it leads to the archives that it ends with.
 use crate::texts::{
     ALICE, ANSWERS, BAD_PIECE, BEGUN, BEGUN_KEEPING, BOTH, BOUND, GONE, HEADER, HEADER_PIECES,
     LOGGED_IN, LOGIN, LOGIN_PIECE, NOTHING_KEPT, ONE_KEPT, OPENED, REFUSED, SESSION,
@@ -22,11 +22,11 @@ type Texts = &'static [&'static str];
 struct Run {
     accounts: &'static str,
     connections: u32,
-    // what the link has to give, how many bytes it gives and takes at a time, and which of its calls fails, from 1
+    // what the link has to give, how many bytes it gives and takes at a time, and which call fails, from 1, or 0
     came: Texts,
     step: usize,
     fails: u64,
-    // which draw of random bytes fails
+    // which draw of random bytes fails, from 1, or 0
     draw_fails: u64,
     // what was written on the link, where it was given back
     put: Option<Texts>,

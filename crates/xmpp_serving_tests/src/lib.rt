@@ -1,4 +1,4 @@
-//! Tests of connections that are served over links in memory: journals byte for byte, what goes out, and links that fail.
+//! Tests of connections that are served over links in memory: journals, what goes out, and links that fail.
 #![tactic(auto)]
 
 #[cfg(test)]

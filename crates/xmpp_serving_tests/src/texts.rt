@@ -1,5 +1,6 @@
-// What goes over links, and what journals have of it. The login is made by another program (RFC 5802), for the password `pw-alice`
-// and random bytes that are zero; what the server puts, and the archives, are those of a server by others.
+//! What goes over links, and what journals have of it. The login is made by another program (RFC 5802), for the
+//! password `pw-alice` and random bytes that are zero; what the server puts, and the archives, are those of a server by
+//! others.
 
 // The header of a client (RFC 6120, section 4).
 pub(crate) const HEADER: &str =

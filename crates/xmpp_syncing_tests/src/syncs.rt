@@ -1,4 +1,4 @@
-// Scripts over links in memory (RFC 6120, sections 4 to 7; XEP-0198; XEP-0313).
+//! Scripts over links in memory (RFC 6120, sections 4 to 7; XEP-0198; XEP-0313).
 use crate::texts::{
     ASKED, AUTH, BIND, BOUND, CHALLENGE, CLOSING, EMPTY_PAGE, ENABLE, ENABLED, HANDLED, HEADER,
     MESSAGE, NO_PAGE, OFFERS, ONLINE, OPENED, PAGE, REOPENED, RESPONSE, SAID, SCRIPT, SUCCESS,
@@ -16,7 +16,7 @@ type Texts = &'static [&'static str];
 // How a script is done, over a dialer with one link.
 struct Run {
     script: &'static str,
-    // what the server sends, how many bytes the link gives and takes at a time, and which of its calls fails, from 1
+    // what the server sends, how many bytes the link gives and takes at a time, and which call fails, from 1, or 0
     came: Texts,
     step: usize,
     fails: u64,
@@ -53,7 +53,7 @@ static DONE: [Run; 3] = [
         ]),
         answer: Ok(SYNCED),
     },
-    // the last piece of all brings what can't be read behind the count
+    // behind the count that does the last line, the same piece brings what can't be read
     Run {
         script: MESSAGE,
         came: &[
@@ -67,7 +67,7 @@ static DONE: [Run; 3] = [
 ];
 
 static NOT_DONE: [Run; 9] = [
-    // the same, and a catch-up is still to be done
+    // the same, where a catch-up is still to be done
     Run {
         script: SCRIPT,
         came: &[

@@ -1,5 +1,5 @@
-// What goes over the link of a script. The messages of the login are from another program (RFC 5802), for the password
-// `pw-alice`, a salt of 16 bytes, 4,096 iterations, and nonces of zero bytes and of a one and zero bytes.
+//! What goes over the link of a script. The messages of the login are from another program (RFC 5802), for the password
+//! `pw-alice`, a salt of 16 bytes, 4,096 iterations, and nonces of zero bytes and of a one and zero bytes.
 
 // A script with a message and a catch-up.
 pub(crate) const SCRIPT: &str =
