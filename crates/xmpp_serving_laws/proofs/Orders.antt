@@ -1,16 +1,16 @@
 -- A connection that is not open is told nothing until it comes.
-use Rattle.std.proofs.Common.{◌≡◌, ◌==◌, ℕ, ◌<◌, ◌≤◌, true, false, List, [], ◌∷◌, ◌++◌, None, length, ap, refl, subst, sym, ◌∙◌, arith}
+use Rattle.std.proofs.Common.{◌≡◌, ◌==◌, ℕ, ◌<◌, true, false, List, [], ◌∷◌, ◌++◌, None, length, ap, subst, sym, ◌∙◌, arith}
 use Rattle.std.proofs.lemmas.Bool.{and_parts, ltb-true}
 use Rattle.std.specs.List.{AllByRecursion}
 use Rattle.std.specs.Prelude.{IsTrue, ◌&&◌, nat_lt}
-use Rattle.xmpp_desk.specs.State.{Out, conn_at, is_number}
+use Rattle.xmpp_desk.specs.State.{conn_at}
 use Rattle.xmpp_journal.specs.AccountsFiles.{AccountsView}
 use Rattle.xmpp_journal.specs.Journals.{AreEvents, Connect, EventView, Gone, Piece, are_bytes, begun_last, is_connection, is_moment, may_happen}
 use Rattle.xmpp_rerun.specs.Reruns.{Run, after_event, after_events, run_at_start}
 use Rattle.xmpp_server.specs.Telling.{is_told}
-use Rattle.xmpp_serving.proofs.Adding.{adds, events_add, events_then}
+use Rattle.xmpp_serving.proofs.Adding.{events_add, events_then}
 use Rattle.xmpp_serving.specs.Visits.{still}
-use Rattle.xmpp_serving_laws.proofs.Entries.{Absent, absent_found, apart_from, found_absent, same_is}
+use Rattle.xmpp_serving_laws.proofs.Entries.{absent_found, apart_from, found_absent, same_is}
 use Rattle.xmpp_serving_laws.proofs.Events.{comes_sound, event_gone, events_gone, gone_closed, later_sound, step_of}
 use Rattle.xmpp_serving_laws.proofs.Recorded.{quiet_untold}
 use Rattle.xmpp_serving_laws.proofs.Silence.{IsGone}

@@ -1,10 +1,9 @@
 -- What events and outputs say of one connection, among those of others.
-use Rattle.std.proofs.Common.{◌≡◌, ◌⊎◌, ◌||◌, ℕ, ◌+◌, ◌<◌, ◌≤◌, Bool, true, false, not, List, [], ◌∷◌, ◌++◌, length, Option, Some, None, append-nil, ap, refl, sym, ◌∙◌, inl, inr, arith}
-use Rattle.std.proofs.lemmas.Bool.{false≢true}
+use Rattle.std.proofs.Common.{◌≡◌, ◌⊎◌, ◌||◌, ℕ, ◌+◌, ◌<◌, ◌≤◌, false, not, List, [], ◌∷◌, ◌++◌, length, Option, Some, None, append-nil, ap, refl, sym, ◌∙◌, inl, inr, arith}
+use Rattle.std.proofs.lemmas.Bool.{cases_lt, false≢true}
 use Rattle.std.proofs.lemmas.Grind.{flat_map-append}
 use Rattle.std.proofs.lemmas.List.Concat.{flat_map-cons}
-use Rattle.std.proofs.lemmas.Nat.{cases_lt}
-use Rattle.std.specs.List.{AllByRecursion, list_any}
+use Rattle.std.specs.List.{AllByRecursion}
 use Rattle.std.specs.Prelude.{is_none, if◌then◌else◌}
 use Rattle.xmpp_desk.specs.State.{Out, Put, Shut, Took, is_number}
 use Rattle.xmpp_journal.specs.Journals.{Connect, EventView, Gone, Piece}
@@ -15,7 +14,7 @@ use Rattle.xmpp_schedule.proofs.Lists.{all_flat_map}
 use Rattle.xmpp_server.specs.Telling.{is_shut, is_told}
 use Rattle.xmpp_serving.specs.Visits.{PieceRead, Visit, bytes_put, joined, piece_bytes, put_for, reading_events, visit_events, visits_events}
 use Rattle.xmpp_serving_laws.proofs.Entries.{apart_from, same_itself}
-use Rattle.xmpp_serving_laws.specs.Again.{IsWithin, bytes_in, bytes_out, in_bytes, is_gone, is_shut_line, leaves, out_bytes, shuts}
+use Rattle.xmpp_serving_laws.specs.Again.{IsWithin, bytes_in, bytes_out, in_bytes, is_gone, leaves, out_bytes, shuts}
 use Rattle.xmpp_serving_laws.specs.Silence.{IsApart, Quiet}
 
 -- ---- events of other connections
