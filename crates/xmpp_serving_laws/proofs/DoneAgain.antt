@@ -10,7 +10,7 @@ use Rattle.xmpp_rerun.specs.Reruns.{after_events, archives_after, lines_of, reru
 use Rattle.xmpp_serving.specs.Journaling.{HasServed, ending_text, journal_text}
 use Rattle.xmpp_serving.specs.Visits.{visits_events}
 use Rattle.xmpp_serving_laws.proofs.Journals.{ending_behind, input_is}
-use Rattle.xmpp_serving_laws.proofs.VisitRuns.{sent_from_start}
+use Rattle.xmpp_serving_laws.proofs.VisitRuns.{done_from_start, within_from_start}
 use Rattle.xmpp_serving_laws.specs.Again.{EndsAlike, IsPutAgain, IsRerunOf, rerun_input}
 
 module _ (accounts : List ℕ) (n : ℕ) (told : Option ℕ) (drawn : Option (List ℕ)) (old new : List LinkView) (journal : List ℕ) (served : HasServed accounts n told drawn old new journal) where
@@ -49,9 +49,6 @@ module _ (accounts : List ℕ) (n : ℕ) (told : Option ℕ) (drawn : Option (Li
       regroup : (h l a e : List ℕ) → (h ++ 10 ∷ l ++ a ++ e ++ 10 ∷ []) ≡ h ++ 10 ∷ (l ++ (a ++ e ++ 10 ∷ []))
       regroup h l a e = simp append_assoc
 
-  journal_is : journal ≡ journal_text served.file input.events
-  journal_is = served.is.journal
-
   pub ends_alike : (again : List ℕ) → IsRerunOf (rerun_input accounts journal) again → EndsAlike journal again
   unfolding journal_text
   ends_alike again is = record {
@@ -63,13 +60,17 @@ module _ (accounts : List ℕ) (n : ℕ) (told : Option ℕ) (drawn : Option (Li
     again_is = answer_is again is ∙ text_is;
   }
 
-  pub put_again : (again : List ℕ) → IsRerunOf (rerun_input accounts journal) again → IsPutAgain old new again
+  pub put_again : (again : List ℕ) → IsRerunOf (rerun_input accounts journal) again → IsPutAgain old new journal again
+  unfolding journal_text
   put_again again is = record {
     version = served.file.version;
+    events = input.events;
     lines = lines;
     archives = archives;
-    again_is = answer_is again is ∙ text_is;
     links = served.is.links;
+    journal_is = served.is.journal;
+    again_is = answer_is again is ∙ text_is;
     given = served.is.given;
-    sent = sent_from_start served.file served.is.visits served.is.links served.is.served;
+    within = within_from_start served.file served.is.visits served.is.links served.is.served;
+    done = done_from_start served.file served.is.visits served.is.links served.is.served;
   }

@@ -1,6 +1,6 @@
 -- Entries under numbers: a number has none, or one alone.
 use Rattle.std.proofs.Common.{◌≡◌, ◌==◌, ℕ, Bool, true, false, List, [], ◌∷◌, Some, None, Option, ap, cond, refl, subst, sym, ◌∙◌, inl, inr}
-use Rattle.std.proofs.lemmas.Bool.{cases_Bool, eq-eqb, eqb-true, false≢true}
+use Rattle.std.proofs.lemmas.Bool.{cases_Bool, eq-eqb, eqb-true, false≢true, ne_eqb}
 use Rattle.std.specs.BTreeMap.{insert_entry, is_at}
 use Rattle.std.specs.Cmp.{unsigned_ties}
 use Rattle.std.specs.Map.{lookup, remove_entry, set_value}
@@ -31,6 +31,9 @@ apart_eqb k j h = unsigned_ties j k ∙ apart_back k j h
 
 pub eqb_apart : (k j : ℕ) → (j == k) ≡ false → is_same k j ≡ false
 eqb_apart k j h = apart_back j k (sym (unsigned_ties j k) ∙ h)
+
+pub apart_from : (m k : ℕ) → ¬ (k ≡ m) → is_same m k ≡ false
+apart_from m k other = eqb_apart m k (ne_eqb k m other)
 
 -- ---- no entry, one entry
 

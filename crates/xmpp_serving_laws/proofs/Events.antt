@@ -1,5 +1,5 @@
 -- What events leave of a connection.
-use Rattle.std.proofs.Common.{◌≡◌, ℕ, false, not, List, [], ◌∷◌, Option, Some, None, max, ap, refl, subst, sym, ◌∙◌, inl, inr}
+use Rattle.std.proofs.Common.{◌≡◌, ℕ, true, false, not, List, [], ◌∷◌, Option, Some, None, max, ap, refl, subst, sym, ◌∙◌, inl, inr}
 use Rattle.std.proofs.lemmas.Bool.{cases_Bool, false≢true}
 use Rattle.std.specs.List.{AllByRecursion}
 use Rattle.std.specs.Option.{option_map}
@@ -22,6 +22,7 @@ use Rattle.xmpp_serving_laws.proofs.Sessions.{IsAway, IsOne, each_filter, each_l
 use Rattle.xmpp_serving_laws.proofs.Silence.{IsGone, allowed_gone, gone_by, items_gone}
 use Rattle.xmpp_serving_laws.proofs.Soundness.{IsSound, allowed_sound, goes_sound, items_sound}
 use Rattle.xmpp_serving_laws.proofs.Steps.{Goes}
+use Rattle.xmpp_serving_laws.specs.Silence.{IsOther}
 use Rattle.xmpp_writer.specs.Items.{ItemOut, written_item}
 
 abbrev pub step_of : Run → Step (List ℕ)
@@ -87,11 +88,6 @@ module _ {A : Type 0} (say : ItemOut → A) (k : ℕ) where
 
 -- ---- an event
 
--- a connection that comes has another number
-abbrev pub IsOther : ℕ → EventView → Type 0
-IsOther k (Connect j now entropy) = is_number k j ≡ false
-IsOther k event = Unit {0}
-
 -- no connection comes
 abbrev pub IsLater : EventView → Type 0
 IsLater (Connect j now entropy) = ⊥
@@ -131,7 +127,7 @@ goes_gone k j now r gone =
       quiet = gone.quiet;
     }
 
-event_gone : (k : ℕ) (event : EventView) (r : Run) → IsOther k event → IsGone k (step_of r) → IsGone k (step_of (after_event event r))
+pub event_gone : (k : ℕ) (event : EventView) (r : Run) → IsOther k event → IsGone k (step_of r) → IsGone k (step_of (after_event event r))
 event_gone k (Connect j now entropy) r other gone = comes_gone k j now entropy r other gone
 event_gone k (Piece j now bytes) r other gone = bytes_gone k j now bytes r gone
 event_gone k (Gone j now) r other gone = goes_gone k j now r gone
@@ -174,7 +170,7 @@ goes_off_sound k j now r sound = elim (cases_Bool (is_number k j)) [
   | inr apart ↦ apart_sound k j now r apart sound
 ]
 
-later_sound : (k : ℕ) (event : EventView) (r : Run) → IsLater event → IsSound k (step_of r) → IsSound k (step_of (after_event event r))
+pub later_sound : (k : ℕ) (event : EventView) (r : Run) → IsLater event → IsSound k (step_of r) → IsSound k (step_of (after_event event r))
 later_sound k (Connect j now entropy) r later sound = absurd later
 later_sound k (Piece j now bytes) r later sound = bytes_sound k j now bytes r sound
 later_sound k (Gone j now) r later sound = goes_off_sound k j now r sound
@@ -184,7 +180,7 @@ events_sound k [] r all sound = sound
 events_sound k (event ∷ events) r all sound = events_sound k events (after_event event r) all.1 (later_sound k event r all.0 sound)
 
 -- a connection comes, of which nothing was told
-pub comes_sound : (k j now : ℕ) (entropy : List ℕ) (r : Run) → Absent j r.server.hall.conns → is_told k r.outs ≡ false → IsSound k (step_of r)
+pub comes_sound : (k j now : ℕ) (entropy : List ℕ) (r : Run) → Absent j r.server.hall.conns → (is_number k j ≡ true → is_told k r.outs ≡ false) → IsSound k (step_of r)
     → IsSound k (step_of (after_event (Connect j now entropy) r))
 comes_sound k j now entropy r absent untold sound =
     let passed = passed_sound k now r sound in
@@ -192,5 +188,8 @@ comes_sound k j now entropy r absent untold sound =
       sole = sole_inserted k j (fresh_conn entropy) r.server.hall.conns (λ same. subst (λ n. Absent n r.server.hall.conns) (sym (same_is k j same)) absent) sound.sole;
       lone = passed.lone;
       left = λ gone. passed.left (inserted_absent k j (fresh_conn entropy) r.server.hall.conns gone);
-      honest = λ told. absurd (false≢true (sym untold ∙ told));
+      honest = λ told. elim (cases_Bool (is_number k j)) [
+        | inl same ↦ absurd (false≢true (sym (untold same) ∙ told))
+        | inr apart ↦ absent_inserted k j (fresh_conn entropy) r.server.hall.conns apart (sound.honest told)
+      ];
     }

@@ -8,6 +8,8 @@ pub mod Silence
 pub mod Soundness
 -- ---- events, and connections one after another
 pub mod Events
+pub mod Recorded
+pub mod Orders
 pub mod VisitRuns
 -- ---- journals, as the input of a rerun
 pub mod Journals

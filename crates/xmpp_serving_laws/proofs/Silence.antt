@@ -17,18 +17,10 @@ use Rattle.xmpp_serving_laws.proofs.Entries.{Absent, eqb_apart, same_is}
 use Rattle.xmpp_serving_laws.proofs.Rows.{Allowed, AreAllowed, Enters, Fine, IsEntry, Known, open_fine}
 use Rattle.xmpp_serving_laws.proofs.Sessions.{IsAway, NoneAt, bound_none, each_told, resumed_none}
 use Rattle.xmpp_serving_laws.proofs.Steps.{Goes, MovesNone, act_goes}
+use Rattle.xmpp_serving_laws.specs.Silence.{IsApart, Quiet}
 use Rattle.xmpp_writer.specs.Items.{ItemOut}
 
 -- ---- what is put out
-
-abbrev pub IsApart : {A : Type 0} → ℕ → Out A → Type 0
-IsApart k (Put j a) = is_number k j ≡ false
-IsApart k (Shut j) = is_number k j ≡ false
-IsApart k (Took from to origin) = Unit {0}
-
--- nothing of the connection
-abbrev pub Quiet : {A : Type 0} → ℕ → List (Out A) → Type 0
-Quiet k outs = AllByRecursion (IsApart k) outs
 
 pub quiet_both : {A : Type 0} (k : ℕ) (a b : List (Out A)) → Quiet k a → Quiet k b → Quiet k (a ++ b)
 quiet_both k [] b p q = q

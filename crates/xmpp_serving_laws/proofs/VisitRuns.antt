@@ -1,26 +1,23 @@
 -- What is put for a connection is put while it is served.
-use Rattle.std.proofs.Common.{◌≡◌, ℕ, ◌+◌, ◌<◌, ◌≤◌, Bool, true, false, List, [], ◌∷◌, ◌++◌, Option, Some, None, IfSome, append_assoc, append-nil, ap, refl, subst, sym, ◌∙◌, arith}
-use Rattle.std.proofs.lemmas.Bool.{ne_eqb}
-use Rattle.std.proofs.lemmas.Grind.{flat_map-append}
-use Rattle.std.proofs.lemmas.List.Concat.{flat_map-cons}
+use Rattle.std.proofs.Common.{◌≡◌, ℕ, ◌+◌, ◌≤◌, Bool, true, false, not, List, [], ◌∷◌, ◌++◌, length, Option, Some, None, IfSome, append_assoc, ap, refl, subst, sym, ◌∙◌, inl, arith}
 use Rattle.std.specs.List.{AllByRecursion}
-use Rattle.std.specs.Prelude.{is_none, if◌then◌else◌}
-use Rattle.xmpp_desk.specs.State.{Out, Put, Shut, Took, is_number}
+use Rattle.std.specs.Prelude.{is_none}
+use Rattle.xmpp_desk.specs.State.{Out, is_number}
 use Rattle.xmpp_journal.specs.AccountsFiles.{AccountsView}
-use Rattle.xmpp_journal.specs.Journals.{Connect, Gone}
-use Rattle.xmpp_journal_text.specs.Texts as texts
-use Rattle.xmpp_journal_text.specs.Texts.{OutputView}
+use Rattle.xmpp_journal.specs.Journals.{Connect, EventView, Gone}
 use Rattle.xmpp_outside.specs.Links.{LinkView}
-use Rattle.xmpp_rerun.specs.Reruns.{Run, after_event, after_events, line_of, lines_of, run_at_start}
+use Rattle.xmpp_rerun.specs.Reruns.{Run, after_event, after_events, lines_of, run_at_start}
 use Rattle.xmpp_server.specs.Events.{Whole}
 use Rattle.xmpp_server.specs.Telling.{IsFront, is_told}
 use Rattle.xmpp_serving.proofs.Adding.{events_then, happens_both}
-use Rattle.xmpp_serving.specs.Visits.{AreServed, IsServed, PieceRead, Visit, bytes_put, happens, piece_events, put_for, reading_events, still, visit_events, visited, visits_events}
-use Rattle.xmpp_serving_laws.proofs.Entries.{Absent, eqb_apart}
-use Rattle.xmpp_serving_laws.proofs.Events.{IsLater, IsOther, comes_sound, events_gone, events_sound, gone_closed, step_of}
-use Rattle.xmpp_serving_laws.proofs.Silence.{IsApart, IsGone, Quiet, quiet_both}
+use Rattle.xmpp_serving.specs.Visits.{AreServed, IsServed, PieceRead, Visit, happens, piece_events, put_for, reading_events, still, visit_events, visited, visits_events}
+use Rattle.xmpp_serving_laws.proofs.Entries.{Absent, apart_from}
+use Rattle.xmpp_serving_laws.proofs.Events.{IsLater, comes_sound, events_gone, events_sound, gone_closed, step_of}
+use Rattle.xmpp_serving_laws.proofs.Recorded.{AreForeign, IsOutside, foreign_both, foreign_visit, foreign_visits, lines_bytes, lines_shut, lines_within, outside_both, put_between, told_between, visit_bytes, visit_leaves}
+use Rattle.xmpp_serving_laws.proofs.Silence.{IsGone, quiet_both}
 use Rattle.xmpp_serving_laws.proofs.Soundness.{IsSound}
-use Rattle.xmpp_serving_laws.specs.Again.{AreSent, IsSent, bytes_out, out_bytes}
+use Rattle.xmpp_serving_laws.specs.Again.{AreDoneAgain, IsDoneAgain, IsWithin, bytes_out, leaves, shuts}
+use Rattle.xmpp_serving_laws.specs.Silence.{IsOther, Quiet}
 
 -- ---- the events of a visit
 
@@ -53,7 +50,7 @@ abbrev begun_run : ℕ → Visit → Whole (List ℕ) → Run
 begun_run k v w = after_event (Connect k v.moment v.entropy) (still w)
 
 begun_sound : (k : ℕ) (v : Visit) (w : Whole (List ℕ)) → Absent k w.hall.conns → AreSound w → (n : ℕ) → IsSound n (step_of (begun_run k v w))
-begun_sound k v w absent sound n = comes_sound n k v.moment v.entropy (still w) absent refl (sound n)
+begun_sound k v w absent sound n = comes_sound n k v.moment v.entropy (still w) absent (λ same. refl) (sound n)
 
 visit_sound : (k : ℕ) (v : Visit) (w : Whole (List ℕ)) → Absent k w.hall.conns → AreSound w → (n : ℕ) → IsSound n (step_of (visited k v w))
 unfolding happens
@@ -86,9 +83,6 @@ visit_closed k v w absent sound shut = reading_closed k v.pieces v.gone (begun_r
 pub still_gone : (m : ℕ) (r : Run) → IsGone m (step_of r) → IsGone m (step_of (still r.server))
 still_gone m r gone = record { absent = gone.absent; none = gone.none; quiet = tt }
 
-apart_from : (m k : ℕ) → ¬ (k ≡ m) → is_number m k ≡ false
-apart_from m k other = eqb_apart m k (ne_eqb k m other)
-
 nothing_put : (w : Whole (List ℕ)) → (happens [] w).outs ≡ []
 unfolding happens
 nothing_put w = refl
@@ -96,73 +90,95 @@ nothing_put w = refl
 outs_both : (k : ℕ) (v : Visit) (visits : List Visit) (w : Whole (List ℕ)) → (happens (visits_events k (v ∷ visits)) w).outs ≡ (visited k v w).outs ++ (happens (visits_events (k + 1) visits) (visited k v w).server).outs
 outs_both k v visits w = ap (λ (r : Run). r.outs) (happens_both (visit_events k v) (visits_events (k + 1) visits) w)
 
--- later visits tell nothing of it
-later_quiet : (m k : ℕ) (visits : List Visit) (w : Whole (List ℕ)) → m < k → IsGone m (step_of (still w)) → Quiet m (happens (visits_events k visits) w).outs
-later_quiet m k [] w below gone = subst (Quiet m) (sym (nothing_put w)) tt
-later_quiet m k (v ∷ visits) w below gone =
-    let apart = apart_from m k (λ same. absurd (omega (arith, below, same))) in
-    let behind = visit_gone m k v w apart gone in
+-- visits of other numbers tell nothing of it
+outside_quiet : (m k : ℕ) (visits : List Visit) (w : Whole (List ℕ)) → IsOutside m k (length visits) → IsGone m (step_of (still w)) → Quiet m (happens (visits_events k visits) w).outs
+outside_quiet m k [] w outside gone = subst (Quiet m) (sym (nothing_put w)) tt
+outside_quiet m k (v ∷ visits) w outside gone =
+    let parts = outside_both v visits m k outside in
+    let behind = visit_gone m k v w parts.0 gone in
     subst (Quiet m) (sym (outs_both k v visits w)) (quiet_both m (visited k v w).outs _ behind.quiet
-    (later_quiet m (k + 1) visits (visited k v w).server (omega (arith, below)) (still_gone m (visited k v w) behind)))
+    (outside_quiet m (k + 1) visits (visited k v w).server parts.1 (still_gone m (visited k v w) behind)))
 
--- ---- the bytes
+-- ---- a connection's link
 
-quiet_bytes : (k : ℕ) (o : Out (List ℕ)) → IsApart k o → bytes_put k o ≡ []
-quiet_bytes k (Put j bytes) apart = ap (λ b. if b then bytes else []) apart
-quiet_bytes k (Shut j) apart = refl
-quiet_bytes k (Took from to origin) apart = refl
+-- one of the visits, with the events and the outputs before and behind it
+module _ (k : ℕ) (w : Whole (List ℕ)) (v : Visit) (link : LinkView) (events_before events_behind : List EventView) (before behind : List (Out (List ℕ)))
+    (foreign_before : AreForeign k events_before) (foreign_behind : AreForeign k events_behind) (quiet_before : Quiet k before) (quiet_behind : Quiet k behind) where
+  abbrev during : List (Out (List ℕ))
+  during = (visited k v w).outs
 
-quiet_puts : (k : ℕ) (outs : List (Out (List ℕ))) → Quiet k outs → put_for k outs ≡ []
-quiet_puts k [] quiet = refl
-quiet_puts k (o ∷ outs) quiet =
-    flat_map-cons (bytes_put k) o outs ∙ ap (λ b. b ++ put_for k outs) (quiet_bytes k o quiet.0) ∙ quiet_puts k outs quiet.1
+  abbrev events : List EventView
+  events = events_before ++ (visit_events k v ++ events_behind)
 
-put_between : (k : ℕ) (before during after : List (Out (List ℕ))) → Quiet k before → Quiet k after → put_for k (before ++ (during ++ after)) ≡ put_for k during
-put_between k before during after p q =
-    flat_map-append (bytes_put k) before (during ++ after) ∙ ap (λ b. b ++ put_for k (during ++ after)) (quiet_puts k before p)
-    ∙ flat_map-append (bytes_put k) during after ∙ ap (λ b. put_for k during ++ b) (quiet_puts k after q) ∙ append-nil (put_for k during)
+  abbrev outs : List (Out (List ℕ))
+  outs = before ++ (during ++ behind)
 
-line_bytes : (k : ℕ) (o : Out (List ℕ)) → bytes_out k (line_of o) ≡ bytes_put k o
-line_bytes k (Put j bytes) = append-nil (out_bytes k (texts.Put j bytes))
-line_bytes k (Shut j) = refl
-line_bytes k (Took from to origin) = refl
+  bytes_are : put_for k during ≡ bytes_out k (lines_of outs)
+  bytes_are = sym (lines_bytes k outs ∙ put_between k before during behind quiet_before quiet_behind)
 
-lines_bytes : (k : ℕ) (outs : List (Out (List ℕ))) → bytes_out k (lines_of outs) ≡ put_for k outs
-lines_bytes k [] = refl
-lines_bytes k (o ∷ outs) =
-    ap (bytes_out k) (flat_map-cons line_of o outs) ∙ flat_map-append (out_bytes k) (line_of o) (lines_of outs)
-    ∙ ap (λ b. b ++ bytes_out k (lines_of outs)) (line_bytes k o) ∙ ap (λ b. bytes_put k o ++ b) (lines_bytes k outs) ∙ sym (flat_map-cons (bytes_put k) o outs)
+  over_is : is_told k during ≡ is_none v.gone → leaves k events ≡ not (shuts k (lines_of outs))
+  over_is shut =
+      visit_leaves k v events_before events_behind foreign_before foreign_behind
+      ∙ ap not (sym (lines_shut k outs ∙ told_between k before during behind quiet_before quiet_behind ∙ shut))
 
-sent_by : (k : ℕ) (w : Whole (List ℕ)) (v : Visit) (link : LinkView) (lines : List OutputView) → put_for k (visited k v w).outs ≡ bytes_out k lines → IsServed k w v link → IsSent k lines link
-sent_by k w v link lines same served = record {
-  written = subst (λ all. IfSome link.written (λ bytes. IsFront bytes all)) same served.written;
-  all_written = λ quiet. subst (λ all. IfSome link.written (λ bytes. bytes ≡ all)) same (served.all_written quiet);
-}
+  done_again : IsServed k w v link → IsDoneAgain k events (lines_of outs) link
+  done_again served = record {
+    read = subst (λ all. IfSome link.read (λ bytes. bytes ≡ all)) (sym (visit_bytes k v events_before events_behind foreign_before foreign_behind)) served.read;
+    written = subst (λ all. IfSome link.written (λ bytes. IsFront bytes all)) bytes_are served.written;
+    all_written = λ quiet. subst (λ all. IfSome link.written (λ bytes. bytes ≡ all)) bytes_are (served.all_written quiet);
+    over = over_is served.shut;
+  }
 
--- all was put before the visits, or is put in them
-pub sent_again : (k : ℕ) (visits : List Visit) (links : List LinkView) (w : Whole (List ℕ)) (before all : List (Out (List ℕ)))
-    → all ≡ before ++ (happens (visits_events k visits) w).outs → AreSound w → ((m : ℕ) → k ≤ m → IsGone m (step_of (still w))) → ((m : ℕ) → k ≤ m → Quiet m before)
-    → AreServed k w visits links → AreSent k (lines_of all) links
-sent_again k [] [] w before all whole sound ahead quiet are = tt
-sent_again k [] (link ∷ links) w before all whole sound ahead quiet are = absurd are
-sent_again k (v ∷ visits) [] w before all whole sound ahead quiet are = absurd are
-sent_again k (v ∷ visits) (link ∷ links) w before all whole sound ahead quiet are =
-    let behind = visited k v w in
-    let rest = (happens (visits_events (k + 1) visits) behind.server).outs in
-    let here = ahead k (omega arith) in
-    let now_sound = visit_sound k v w here.absent sound in
-    let closed = visit_closed k v w here.absent sound are.0.shut in
-    let over : IsGone k (step_of (still behind.server)) = record { absent = closed; none = (now_sound k).left closed; quiet = tt } in
-    let parts : all ≡ before ++ (behind.outs ++ rest) = whole ∙ ap (λ outs. before ++ outs) (outs_both k v visits w) in
-    let still_quiet = later_quiet k (k + 1) visits behind.server (omega arith) over in
-    let bytes : put_for k behind.outs ≡ bytes_out k (lines_of all) =
-    sym (lines_bytes k all ∙ ap (put_for k) parts ∙ put_between k before behind.outs rest (quiet k (omega arith)) still_quiet) in
-    let others : (m : ℕ) → k + 1 ≤ m → IsGone m (step_of behind) = λ m above.
-    visit_gone m k v w (apart_from m k (λ same. absurd (omega (arith, above, same)))) (ahead m (omega (arith, above))) in (
-      sent_by k w v link (lines_of all) bytes are.0,
-      sent_again (k + 1) visits links behind.server (before ++ behind.outs) all (parts ∙ sym (append_assoc before behind.outs rest)) (λ n. forgets n behind (now_sound n))
-          (λ m above. still_gone m behind (others m above)) (λ m above. quiet_both m before behind.outs (quiet m (omega (arith, above))) (others m above).quiet) are.1,
+-- All events are before the visits or of them, and so is all that was put.
+pub record AreAhead (k : ℕ) (w : Whole (List ℕ)) (events : List EventView) (outs : List (Out (List ℕ))) : Type 0 where
+  pub sound : AreSound w
+  pub ahead : (m : ℕ) → k ≤ m → IsGone m (step_of (still w))
+  pub foreign : (m : ℕ) → k ≤ m → AreForeign m events
+  pub quiet : (m : ℕ) → k ≤ m → Quiet m outs
+
+ahead_more : (k : ℕ) (v : Visit) (w : Whole (List ℕ)) (events : List EventView) (outs : List (Out (List ℕ))) → AreAhead k w events outs
+    → AreAhead (k + 1) (visited k v w).server (events ++ visit_events k v) (outs ++ (visited k v w).outs)
+ahead_more k v w events outs are =
+    let apart : (m : ℕ) → k + 1 ≤ m → is_number m k ≡ false = λ m above. apart_from m k (λ same. absurd (omega (arith, above, same))) in
+    let others : (m : ℕ) → k + 1 ≤ m → IsGone m (step_of (visited k v w)) = λ m above. visit_gone m k v w (apart m above) (are.ahead m (omega (arith, above))) in
+    record {
+      sound = λ n. forgets n (visited k v w) (visit_sound k v w (are.ahead k (omega arith)).absent are.sound n);
+      ahead = λ m above. still_gone m (visited k v w) (others m above);
+      foreign = λ m above. foreign_both m events (visit_events k v) (are.foreign m (omega (arith, above))) (foreign_visit m k v (apart m above));
+      quiet = λ m above. quiet_both m outs (visited k v w).outs (are.quiet m (omega (arith, above))) (others m above).quiet;
+    }
+
+-- nothing is put for the first of them behind its visit
+over_quiet : (k : ℕ) (v : Visit) (visits : List Visit) (w : Whole (List ℕ)) (events : List EventView) (outs : List (Out (List ℕ))) → AreAhead k w events outs
+    → is_told k (visited k v w).outs ≡ is_none v.gone → Quiet k (happens (visits_events (k + 1) visits) (visited k v w).server).outs
+over_quiet k v visits w events outs are shut =
+    let here = (are.ahead k (omega arith)).absent in
+    let closed = visit_closed k v w here are.sound shut in
+    outside_quiet k (k + 1) visits (visited k v w).server (inl (omega arith)) (record { absent = closed; none = (visit_sound k v w here are.sound k).left closed; quiet = tt })
+
+pub all_done_again : (k : ℕ) (visits : List Visit) (links : List LinkView) (w : Whole (List ℕ)) (events all : List EventView) (outs every : List (Out (List ℕ)))
+    → all ≡ events ++ visits_events k visits → every ≡ outs ++ (happens (visits_events k visits) w).outs → AreAhead k w events outs → AreServed k w visits links → AreDoneAgain k all (lines_of every) links
+all_done_again k [] [] w events all outs every are_all is_every ahead served = tt
+all_done_again k [] (link ∷ links) w events all outs every are_all is_every ahead served = absurd served
+all_done_again k (v ∷ visits) [] w events all outs every are_all is_every ahead served = absurd served
+all_done_again k (v ∷ visits) (link ∷ links) w events all outs every are_all is_every ahead served =
+    let behind = (happens (visits_events (k + 1) visits) (visited k v w).server).outs in
+    let this = visit_events k v in
+    let later = visits_events (k + 1) visits in
+    let parts : every ≡ outs ++ ((visited k v w).outs ++ behind) = is_every ∙ ap (λ l. outs ++ l) (outs_both k v visits w) in
+    let foreign = foreign_visits k (k + 1) visits (inl (omega arith)) in
+    let one = done_again k w v link events later outs behind (ahead.foreign k (omega arith)) foreign (ahead.quiet k (omega arith)) (over_quiet k v visits w events outs ahead served.0.shut) served.0 in (
+      subst (λ (e : List EventView). IsDoneAgain k e (lines_of every) link) (sym are_all)
+          (subst (λ (o : List (Out (List ℕ))). IsDoneAgain k (events ++ (this ++ later)) (lines_of o) link) (sym parts) one),
+      all_done_again (k + 1) visits links (visited k v w).server (events ++ this) all (outs ++ (visited k v w).outs) every
+          (are_all ∙ sym (append_assoc events this later)) (parts ∙ sym (append_assoc outs (visited k v w).outs behind)) (ahead_more k v w events outs ahead) served.1,
     )
+
+as_many : (k : ℕ) (w : Whole (List ℕ)) (visits : List Visit) (links : List LinkView) → AreServed k w visits links → length visits ≡ length links
+as_many k w [] [] served = refl
+as_many k w [] (link ∷ links) served = absurd served
+as_many k w (v ∷ visits) [] served = absurd served
+as_many k w (v ∷ visits) (link ∷ links) served = omega (arith, as_many (k + 1) (visited k v w).server visits links served.1)
 
 -- ---- from the start
 
@@ -172,8 +188,15 @@ start_sound file n = record { sole = tt; lone = (0, tt); left = λ absent. tt; h
 start_gone : (file : AccountsView) (m : ℕ) → IsGone m (step_of (still (run_at_start file).server))
 start_gone file m = record { absent = tt; none = tt; quiet = tt }
 
-pub sent_from_start : (file : AccountsView) (visits : List Visit) (links : List LinkView) → AreServed 1 (run_at_start file).server visits links
-    → AreSent 1 (lines_of (after_events (visits_events 1 visits) (run_at_start file)).outs) links
-unfolding happens
-sent_from_start file visits links are =
-    sent_again 1 visits links (run_at_start file).server [] (after_events (visits_events 1 visits) (run_at_start file)).outs refl (start_sound file) (λ m above. start_gone file m) (λ m above. tt) are
+module _ (file : AccountsView) (visits : List Visit) (links : List LinkView) (served : AreServed 1 (run_at_start file).server visits links) where
+  pub done_from_start : AreDoneAgain 1 (visits_events 1 visits) (lines_of (after_events (visits_events 1 visits) (run_at_start file)).outs) links
+  unfolding happens
+  done_from_start =
+      all_done_again 1 visits links (run_at_start file).server [] (visits_events 1 visits) [] (after_events (visits_events 1 visits) (run_at_start file)).outs refl refl
+      (record { sound = start_sound file; ahead = λ m above. start_gone file m; foreign = λ m above. tt; quiet = λ m above. tt }) served
+
+  pub within_from_start : AllByRecursion (IsWithin (length links)) (lines_of (after_events (visits_events 1 visits) (run_at_start file)).outs)
+  unfolding happens
+  within_from_start =
+      subst (λ n. AllByRecursion (IsWithin n) (lines_of (after_events (visits_events 1 visits) (run_at_start file)).outs)) (as_many 1 (run_at_start file).server visits links served)
+      (lines_within (length visits) (after_events (visits_events 1 visits) (run_at_start file)).outs (λ m outside. outside_quiet m 1 visits (run_at_start file).server outside (start_gone file m)))

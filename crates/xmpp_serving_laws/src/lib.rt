@@ -3,4 +3,4 @@
 
 mod laws;
 
-pub use laws::{journal_is_rerun, rerun_puts_the_same};
+pub use laws::{journal_is_rerun, rerun_puts_the_same, who_is_not_open_is_told_nothing};
