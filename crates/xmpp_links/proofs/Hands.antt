@@ -219,7 +219,7 @@ plain_phase (Enables m downs) end gone e = absurd e
 plain_phase (Runs p ups downs) end gone e = absurd e
 plain_phase _ end gone e = refl
 
-plain_carried : {A : Type 0} (s : Stage A) (ws : List (DownWord A)) → IsPlain s → carried_by (client_of s) ws ≡ None
+pub plain_carried : {A : Type 0} (s : Stage A) (ws : List (DownWord A)) → IsPlain s → carried_by (client_of s) ws ≡ None
 plain_carried (AsksResume p h) ws e = absurd e
 plain_carried (Refused p) ws e = absurd e
 plain_carried (Resumes p h downs) ws e = absurd e

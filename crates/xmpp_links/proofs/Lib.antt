@@ -41,3 +41,13 @@ pub mod Numbers
 pub mod Sums
 pub mod Taking
 pub mod Reading
+pub mod Many
+pub mod Paged
+pub mod PagedWires
+pub mod PagedMoves
+pub mod PagedTraffic
+pub mod PagedSessions
+pub mod Short
+pub mod Runs
+pub mod WorkedLate
+pub mod WorkedPages

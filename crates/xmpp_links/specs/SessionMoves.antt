@@ -168,6 +168,10 @@ pub record IsClientPut {A : Type 0} (k : ℕ) (z : A) (v next : View A) : Type 0
     sessions = alter (λ q s. record s { up = put_if (has (Some own.number) q) z s.up }) v.sessions;
   }
 
+-- the server's answer to a resumption: the count that it has handled, and its queue behind the client's count
+abbrev pub resumed_words : {A : Type 0} → Row A → ℕ → List (DownWord A)
+resumed_words row h = Resumed row.number row.handled ∷ map Down (map St (drop (h - row.acked) row.queue))
+
 -- the server resumes a session, on the connection that the client works on; the row is on no connection any more
 abbrev pub resumed_if : {A : Type 0} → Bool → Bool → Session A → Session A
 resumed_if b flows s = record s {
@@ -191,7 +195,7 @@ pub record IsResumedHere {A : Type 0} (k : ℕ) (v next : View A) : Type 0 where
   pub rest : List (UpWord A)
   pub first : up_words conn.wires ≡ ResumeAt row.number h ∷ rest
   pub gives : next ≡ record v {
-    conns = with_at k (record conn { phase = AtSession row.number; wires = send_down (Resumed row.number row.handled ∷ map Down (map St (drop (h - row.acked) row.queue))) (left_up rest conn.wires) }) v.conns;
+    conns = with_at k (record conn { phase = AtSession row.number; wires = send_down (resumed_words row h) (left_up rest conn.wires) }) v.conns;
     row = Some (record row { on = Some k; acked = h; queue = drop (h - row.acked) row.queue });
     sessions = alter (λ q s. resumed_if (has (Some row.number) q) (is_flowing conn.wires) s) v.sessions;
   }
@@ -211,7 +215,7 @@ pub record IsResumedLate {A : Type 0} (k : ℕ) (v next : View A) : Type 0 where
   pub rest : List (UpWord A)
   pub first : up_words conn.wires ≡ ResumeAt row.number h ∷ rest
   pub gives : next ≡ record v {
-    conns = with_at k (record conn { phase = AtSession row.number; wires = send_down (Resumed row.number row.handled ∷ map Down (map St (drop (h - row.acked) row.queue))) (left_up rest conn.wires) }) v.conns;
+    conns = with_at k (record conn { phase = AtSession row.number; wires = send_down (resumed_words row h) (left_up rest conn.wires) }) v.conns;
     row = Some (record row { on = Some k; acked = h; queue = drop (h - row.acked) row.queue });
     sessions = alter (λ q s. record s {
       up = record s.up { stated = if has (Some row.number) q then s.up.stated ++ length s.up.got ∷ [] else s.up.stated };

@@ -1,7 +1,7 @@
 //! What holds wherever the moves of one device and its server lead.
-ghost use Rattle.std.specs.Prelude.{Bool, ◌≡◌, ℕ, ◌≤◌, [], ◌∷◌, List, None, Some, Option, length, true, false};
+ghost use Rattle.std.specs.Prelude.{Bool, ◌≡◌, ℕ, ◌+◌, ◌≤◌, [], ◌∷◌, List, None, Some, Option, length, true, false};
 ghost use Rattle.xmpp_acks.specs.Delivery.{IsPrefix, Reached};
-ghost use Rattle.xmpp_links.specs.Words.{Ack, Down, down_stanzas, DownWord, ResumeAt, Resumed, Up, up_stanzas, UpWord};
+ghost use Rattle.xmpp_links.specs.Words.{Ack, Down, InOnline, down_stanzas, DownWord, ResumeAt, Resumed, Up, up_stanzas, UpWord};
 ghost use Rattle.xmpp_links.specs.Wires.{down_words, is_flowing, up_words};
 ghost use Rattle.xmpp_links.specs.Stages.{Conn};
 ghost use Rattle.xmpp_links.specs.Views.{carries, has, Own, Row, Session, View};
@@ -11,6 +11,7 @@ ghost use Rattle.xmpp_links.specs.Machine.{LinkMove, LinkMoves, LinkReached, Lin
 ghost use Rattle.xmpp_links.specs.Numbers.{IsRising};
 ghost use Rattle.xmpp_links.specs.Sums.{said_in, served_in};
 ghost use Rattle.xmpp_links.specs.Covers.{IsSettled, PromptReached};
+ghost use Rattle.xmpp_links.specs.Paging.{course_of, IsInTime, IsShort, Paging, PagingReached};
 ghost use Rattle.xmpp_links.specs.Wrong.{binds_beside, resumes_late, sends_all_again, states_acknowledged};
 ghost use Rattle.xmpp_links.specs.Promises.{IsClientEnd, IsExpectedDown, IsExpectedUp, IsRead, IsServerEnd, IsTaken, IsWithin};
 
@@ -70,6 +71,19 @@ pub fn words_come_where_they_are_expected<A>()
 pub fn empty_pipes_leave_nothing_outstanding<A>()
     ensures { (asks : A → Bool) (v : View A) (k : ℕ) (c : Conn A) → PromptReached asks v → v.here ≡ Some k → v.conns k ≡ Some c → is_flowing c.wires ≡ true →
         up_words c.wires ≡ [] → down_words c.wires ≡ [] → IsSettled asks v k c }
+{}
+
+/// The client's queue stays short. Where the client puts a stanza of its user only while fewer than `most` wait, and asks
+/// for a page of its history only where the pages before have come to their ends, and where the server ends a page only
+/// that was asked for (XEP-0313, section 4), the queue has at most `most` stanzas and two: those beyond are requests for
+/// pages, at most two, of which at most one is of a page that ended (`queue`), and they can be two (`reached`). For what
+/// is still to come is in time: the end of a page comes behind the count that acknowledges the requests of all pages
+/// before (`comes`).
+pub fn the_clients_queue_stays_short<A>()
+    ensures queue { (p : Paging A) (v : View A) → PagingReached p v → (o : Own A) → v.own ≡ Some o → (s : Session A) × (v.sessions o.number ≡ Some s) × IsShort p o s }
+    ensures comes { (p : Paging A) (v : View A) (k : ℕ) (c : Conn A) (o : Own A) → PagingReached p v → v.here ≡ Some k → v.conns k ≡ Some c → v.own ≡ Some o → c.client ≡ InOnline o.number →
+        (s : Session A) × (v.sessions o.number ≡ Some s) × IsInTime p c.wires (course_of s) }
+    ensures reached { (p : Paging ℕ) × (v : View ℕ) × (o : Own ℕ) × PagingReached p v × (v.own ≡ Some o) × (length o.queue ≡ p.most + 2) }
 {}
 
 /// To the applications each move is nothing, or one event of a session: bound, named, counted, known, ended, dropped,

@@ -1,0 +1,5 @@
+pub mod Lists
+pub mod Sessions
+pub mod Changes
+pub mod Events
+pub mod Acts

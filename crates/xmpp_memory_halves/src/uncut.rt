@@ -1,0 +1,21 @@
+//! What the halves of a link are made of.
+ghost use Rattle.std.specs.Prelude.{◌≡◌, IfOk};
+
+use std::alloc::Global;
+use xmpp_edge::NoMemory;
+use xmpp_halves::{Incoming, Outgoing, Pair};
+
+/// What the two halves of a link are made of once it is handed out.
+pub trait Uncut {
+    type Incoming: Incoming + Drop;
+
+    type Outgoing: Outgoing + Drop;
+
+    /// The halves, with this number.
+    fn cut(
+        self,
+        alloc: Global,
+        number: u64,
+    ) -> Result<Pair<Self::Incoming, Self::Outgoing>, NoMemory>
+        ensures { IfOk result (λ pair. (Self.Incoming.told pair.incoming).number ≡ number) };
+}

@@ -1,0 +1,4 @@
+-- law
+pub mod Merge
+-- machine
+pub mod Rule

@@ -1,0 +1,49 @@
+-- What the acceptor's answer has to do with its job.
+use Rattle.std.specs.Prelude.{◌≡◌, ℕ, zero, suc, ◌≤◌, Bool, true, false, ◌&&◌, List, [], ◌∷◌, ◌++◌, length}
+use Rattle.crossbeam_channel.specs.Claims.{view, IsSeatAt}
+use Rattle.crossbeam_channel.specs.Ends.{sends_on}
+use Rattle.xmpp_edge.specs.Counts.{Rose, counted}
+use Rattle.xmpp_outside.specs.Links.{LinkView}
+use Rattle.xmpp_readers.specs.Feeds.{has_sent}
+use Rattle.xmpp_readers.specs.declared.acceptor.AcceptorAnswer.{AcceptorAnswer}
+use Rattle.xmpp_readers.specs.declared.acceptor.AcceptorJob.{AcceptorJob}
+use Rattle.xmpp_readers.specs.declared.item.Item.{Item}
+use Rattle.xmpp_readers.specs.declared.item.What.{What}
+use Rattle.xmpp_readers.specs.declared.item.What.TheVariants.{Came, Gave, Ended, Closed, Wanted}
+
+-- a count that was raised so many times
+unfoldable pub counted_times : ℕ → ℕ → ℕ
+counted_times zero count = count
+counted_times (suc n) count = counted (counted_times n count)
+
+module _ {P : Type 0} where
+  abbrev pub is_arrival : What P → Bool
+  is_arrival (Came _) = true
+  is_arrival (Gave _) = false
+  is_arrival Ended = false
+  is_arrival (Closed _) = false
+  is_arrival Wanted = false
+
+  -- connections that came in, and nothing else
+  unfoldable pub are_arrivals : List (Item P) → Bool
+  are_arrivals [] = true
+  are_arrivals (x ∷ xs) = is_arrival x.what && are_arrivals xs
+
+  abbrev pub closed_item : Bool → Item P
+  closed_item failed = record { from = 0; what = Closed failed }
+
+  -- The acceptor sent the connections that came in, and then that no more are taken in: since it has as many as it was to
+  -- take in, or since the door failed, and then the door's count of faults rose.
+  pub record HasAccepted {R D : Type 0} (faults handed : D → ℕ) (given : D → List LinkView) (job : AcceptorJob R D P) (answer : AcceptorAnswer D P) : Type 0 where
+    pub seat : IsSeatAt (sends_on job.to) answer.pass
+    pub shape : view answer.pass ≡ has_sent 0 (view answer.pass).put
+    pub body : List (Item P)
+    pub failed : Bool
+    pub whole : (view answer.pass).put ≡ body ++ closed_item failed ∷ []
+    pub arrivals : are_arrivals body ≡ true
+    pub most : length body ≤ job.count
+    pub all : failed ≡ false → length body ≡ job.count
+    pub cause : failed ≡ true → Rose (faults job.door) (faults answer.door)
+    pub quiet : failed ≡ false → faults answer.door ≡ faults job.door
+    pub handed_is : handed answer.door ≡ counted_times (length body) (handed job.door)
+    pub given_is : given answer.door ≡ given job.door

@@ -1,0 +1,4 @@
+-- ---- what is done again from a journal
+pub mod Again
+-- ---- what a connection is told
+pub mod Silence

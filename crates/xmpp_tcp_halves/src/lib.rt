@@ -1,0 +1,10 @@
+//! Links in halves over the system's sockets, and the door that hands them out.
+#![tactic(auto)]
+
+mod door;
+mod incoming;
+mod outgoing;
+
+pub use door::TcpHalvesDoor;
+pub use incoming::TcpIncoming;
+pub use outgoing::TcpOutgoing;

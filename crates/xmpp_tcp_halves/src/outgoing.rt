@@ -1,0 +1,49 @@
+//! The half of a TCP connection that takes bytes.
+ghost use Rattle.std.specs.Prelude.{◌≡◌, ◌<◌, None, length, IfOk};
+ghost use Rattle.std.specs.Io.{WritesAtMost};
+
+use std::io::{ErrorKind, Write};
+use std::net::{OpenStream, Shutdown};
+use xmpp_edge::Failed;
+use xmpp_halves::Outgoing;
+
+/// The half of a stream of the system to which bytes are written. It doesn't tell what was written. A call that was
+/// interrupted is tried again, each other error is a fault, and so is a write that takes none of the bytes it is given.
+#[derive(Drop)]
+pub struct TcpOutgoing<S> {
+    pub(crate) stream: S,
+    pub(crate) number: u64,
+    pub(crate) faults: u64,
+}
+
+// Writes, and tries again where it was interrupted. A write that takes none of the bytes that there are fails.
+fn write_to<S: Write>(stream: &mut S, bytes: &[u8]) -> Result<usize, Failed>
+    ensures bound { WritesAtMost result bytes.now }
+    ensures some { IfOk result (λ n. 0 < length bytes.now → 0 < n) }
+{
+    for _ in 0..u64::MAX {
+        match stream.write(bytes) {
+            Ok(n) if n > 0 || bytes.is_empty() => return Ok(n),
+            Err(e) if e.kind() == ErrorKind::Interrupted => {}
+            _ => break,
+        }
+    }
+    Err(Failed)
+}
+
+impl<S: Write + OpenStream> Outgoing for TcpOutgoing<S> {
+    ghost told = { λ s. record { number = s.number; written = None; faults = s.faults } };
+
+    fn write(&mut self, bytes: &[u8]) -> Result<usize, Failed> {
+        let written = write_to(&mut self.stream, bytes);
+        if written.is_err() {
+            self.faults = self.faults.saturating_add(1);
+        }
+        written
+    }
+
+    fn close(&mut self) {
+        // What was written still goes out. An error tells that the other end is gone.
+        let _ = self.stream.shutdown(Shutdown::Both);
+    }
+}

@@ -1,0 +1,3 @@
+pub use Rattle.xmpp_edge.specs.Counts
+-- view
+pub mod Starts

@@ -1,0 +1,40 @@
+//! Spawners over the system's threads.
+ghost use Rattle.std.specs.Prelude.{◌≡◌};
+
+use crate::spawner::Spawner;
+use std::thread::Threads;
+use xmpp_edge::Failed;
+
+/// Starts a thread of the system for each job. Each refusal of the system is a fault.
+#[derive(Drop)]
+pub struct StdSpawner<R> {
+    rt: R,
+    faults: u64,
+}
+
+impl<R: Threads> StdSpawner<R> {
+    /// What starts threads by `rt`.
+    pub fn new(rt: R) -> StdSpawner<R>
+        ensures { ⟦<StdSpawner<R> as Spawner>⟧.faults result ≡ 0 }
+    {
+        StdSpawner { rt, faults: 0 }
+    }
+}
+
+impl<R: Threads> Spawner for StdSpawner<R> {
+    type Runtime = R;
+
+    ghost faults = { λ s. s.faults };
+
+    fn runtime(&self) -> &R {
+        &self.rt
+    }
+
+    fn ask(&mut self) -> Result<(), Failed> {
+        Ok(())
+    }
+
+    fn count(&mut self) {
+        self.faults = self.faults.saturating_add(1);
+    }
+}
