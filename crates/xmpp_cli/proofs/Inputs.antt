@@ -149,8 +149,8 @@ unread_due command seen known left rose dealt Done text e answer = (unread_done 
 unread_due command seen known left rose dealt Refused text e answer = (unread_refused command seen known text e answer, unread_whole command e)
 unread_due command seen known left rose dealt WrongWords text e answer = absurd answer
 unread_due command seen known left rose dealt ReadFault text e answer = absurd answer
-unread_due command seen known left rose dealt LinkFault text e answer = absurd (unread_link command seen dealt e answer.0)
-unread_due command seen known left rose dealt PeerFault text e answer = absurd (unread_peer command seen dealt text e answer)
+unread_due command seen known left rose dealt LinkFault text e answer = absurd (unread_link command (Some seen) dealt e answer.0)
+unread_due command seen known left rose dealt PeerFault text e answer = absurd (unread_peer command (Some seen) dealt text e answer)
 unread_due command seen known left rose dealt EntropyFault text e answer = absurd (unread_entropy command dealt e answer.0)
 unread_due command seen known left rose dealt TooLong text e answer = absurd answer
 
