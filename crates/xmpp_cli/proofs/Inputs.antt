@@ -1,12 +1,12 @@
 -- What is said of the bytes that were read, said of the bytes that the source tells.
-use Rattle.std.proofs.Common.{◌≡◌, ℕ, Bool, true, false, ◌≤◌, List, length, Option, Some, None, Result, Ok, Err, IfOk, IfSome, inl, inr, sym, ◌∙◌, subst}
+use Rattle.std.proofs.Common.{◌≡◌, ℕ, Bool, true, false, ◌≤◌, List, length, Option, Some, None, Result, Ok, Err, IfOk, IfSome, sym, ◌∙◌, subst}
 use Rattle.std.specs.Io.KnownBytes.{IsAtEnd}
 use Rattle.xmpp_syncing.specs.declared.fault.SyncFault.{SyncFault}
 use Rattle.xmpp_edge.specs.declared.whole_reads.TheConstants.{MOST_BYTES_READ}
 use Rattle.xmpp_cli.proofs.Unread.{unread_entropy, unread_link, unread_peer}
 use Rattle.xmpp_cli.specs.Dealings.{Dealings}
 use Rattle.xmpp_cli.specs.Words.{reads}
-use Rattle.xmpp_cli.specs.Table.{IsReplayed, IsRefusal, IsRefused, IsChecked, IsReadWhole, IsRerun, IsRerunRefusal, IsServed, IsAccountsRefusal, HasSynced, IsScriptRefusal, IsStopped, HasLinkFailed, HasPeerFailed, HasEntropyFailed, IsDone, IsAnswer, IsDueOf, Due}
+use Rattle.xmpp_cli.specs.Table.{IsReplayed, IsRefusal, IsRefused, IsChecked, IsReadWhole, IsRerun, IsRerunRefusal, IsServed, IsAccountsRefusal, HasSynced, IsScriptRefusal, IsStopped, HasLinkFailed, HasPeerFailed, IsDone, IsAnswer, IsDueOf, Due}
 use Rattle.xmpp_cli.specs.declared.answer.Answer.{Answer}
 use Rattle.xmpp_cli.specs.declared.command.Command.{Command}
 use Rattle.xmpp_cli.specs.declared.command.Command.TheVariants.{Help, Version, Replay, Check, Rerun, Serve, Sync}

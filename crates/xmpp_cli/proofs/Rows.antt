@@ -7,7 +7,7 @@ use Rattle.xmpp_check.specs.Checked.{told}
 use Rattle.xmpp_journal.specs.Journals.{InputView, Says}
 use Rattle.xmpp_journal.specs.declared.fault.InputFault.TheVariants as inputs
 use Rattle.xmpp_rerun.specs.Reruns.{SaysRun, rerun_of}
-use Rattle.xmpp_schedule.specs.Grammar.{InDirectGrammar}
+use Rattle.xmpp_schedule.specs.Kinds.{InGrammar}
 use Rattle.xmpp_schedule.specs.declared.fault.LineWhy.{LineWhy}
 use Rattle.xmpp_cli.specs.Texts.{words_line, read_fault_line, too_long_line, bad_line, link_fault_line, entropy_fault_line, peer_line}
 use Rattle.xmpp_journal.specs.Reading.{rerun_reading}
@@ -194,12 +194,12 @@ module _ (rose calm still : Type 0) (dealt : Dealings) (result : ℕ) where
   complete_help known command exactly e quiet = exactly Done (subst (λ c. MustAnswer c known calm dealt Done) (sym e) refl) quiet
 
   complete : (known : Option (List ℕ)) (command : Option Command) → Exactly known None rose calm still dealt (λ text. Unit {0}) result command → command ≡ Some Replay → calm → still →
-      IfSome known (λ input. length input ≤ MOST_BYTES_READ → InDirectGrammar input → (result ≡ 0) ⊎ (result ≡ 6))
+      IfSome known (λ input. length input ≤ MOST_BYTES_READ → InGrammar input → (result ≡ 0) ⊎ (result ≡ 6))
   complete None command exactly e read quiet = tt
   complete (Some input) command exactly e read quiet = λ short good. exactly Done (subst (λ c. MustAnswer c (Some input) calm dealt Done) (sym e) (read, tt, (short, good, tt))) quiet
 
   refused_only : (known : Option (List ℕ)) (command : Option Command) → Exactly known None rose calm still dealt (λ text. Unit {0}) result command → command ≡ Some Replay → calm → still →
-      IfSome known (λ input. length input ≤ MOST_BYTES_READ → ¬ (InDirectGrammar input) → (result ≡ 3) ⊎ (result ≡ 6))
+      IfSome known (λ input. length input ≤ MOST_BYTES_READ → ¬ (InGrammar input) → (result ≡ 3) ⊎ (result ≡ 6))
   refused_only None command exactly e read quiet = tt
   refused_only (Some input) command exactly e read quiet = λ short bad. exactly Refused (subst (λ c. MustAnswer c (Some input) calm dealt Refused) (sym e) (read, tt, (short, bad))) quiet
 

@@ -1,5 +1,5 @@
 -- What is due with a status, and which status there must be.
-use Rattle.std.proofs.Common.{◌≡◌, ◌≢◌, Bool, true, false, ap, ℕ, subst, List, Option, Some, None, Result, Ok, IfSome, IsSomeAnd, ◌⊎◌, inl, inr, refl, ◌∙◌, sym, arith}
+use Rattle.std.proofs.Common.{◌≡◌, ◌≢◌, Bool, true, false, ap, ℕ, subst, List, Option, Some, None, Ok, IfSome, IsSomeAnd, ◌⊎◌, inl, inr, refl, ◌∙◌, sym, arith}
 use Rattle.std.proofs.lemmas.Bool.Decides.{eqb_tells}
 use Rattle.std.specs.Bool.{MatchBool}
 use Rattle.std.specs.Prelude.{◌==◌, if◌then◌else◌, IsOk, is_ok}

@@ -1,5 +1,5 @@
 -- When each answer comes, and the text that is due with it.
-use Rattle.std.specs.Prelude.{◌≡◌, ◌≢◌, ◌⊎◌, ℕ, ◌<◌, ◌≤◌, ◌==◌, Bool, true, false, ◌||◌, List, length, Option, Some, None, Err, IfSome, IsOk, IsSomeAnd}
+use Rattle.std.specs.Prelude.{◌≡◌, ◌≢◌, ℕ, ◌<◌, ◌≤◌, ◌==◌, Bool, true, false, ◌||◌, List, length, Option, Some, None, Err, IfSome, IsOk, IsSomeAnd}
 use Rattle.std.specs.Bool.{MatchBool}
 use Rattle.std.specs.Io.KnownBytes.{IsAtEnd}
 use Rattle.xmpp_check.specs.Checked.{told}
