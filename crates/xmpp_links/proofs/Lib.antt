@@ -52,5 +52,6 @@ pub mod Runs
 pub mod Newest
 pub mod NewestMoves
 pub mod Dialled
+pub mod WithPremises
 pub mod WorkedLate
 pub mod WorkedPages

@@ -95,6 +95,12 @@ pub fn the_clients_queue_stays_short<A>()
     ensures reached { (p : Paging ℕ) × (v : View ℕ) × (o : Own ℕ) × PagingReached p v × (v.own ≡ Some o) × (length o.queue ≡ p.most + 2) }
 {}
 
+/// Runs in which stanzas are put with premises are runs of the moves, of which all laws speak.
+pub fn runs_with_premises_are_runs<A>()
+    ensures prompt { (asks : A → Bool) (v : View A) → PromptReached asks v → LinkReached v }
+    ensures paging { (p : Paging A) (v : View A) → PagingReached p v → PromptReached p.asks v }
+{}
+
 /// To the applications each move is nothing, or one event of a session: bound, named, counted, known, ended, dropped,
 /// or a stanza put or handled by one end, or a count that the client learned; and it comes with what an application may
 /// rest on, as that a stanza which is handled is the next one that was put. So what is seen of a session is what the
