@@ -49,5 +49,9 @@ pub mod PagedTraffic
 pub mod PagedSessions
 pub mod Short
 pub mod Runs
+pub mod Newest
+pub mod NewestMoves
+pub mod Dialled
+pub mod WithPremises
 pub mod WorkedLate
 pub mod WorkedPages

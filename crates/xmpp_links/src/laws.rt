@@ -8,6 +8,7 @@ ghost use Rattle.xmpp_links.specs.Views.{carries, has, Own, Row, Session, View};
 ghost use Rattle.xmpp_links.specs.EndMoves.{IsTooHigh};
 ghost use Rattle.xmpp_links.specs.Events.{Event, Follows, IsSeenAs, seen};
 ghost use Rattle.xmpp_links.specs.Machine.{LinkMove, LinkMoves, LinkReached, LinkReaches, nothing_yet};
+ghost use Rattle.xmpp_links.specs.Newest.{newest};
 ghost use Rattle.xmpp_links.specs.Numbers.{IsRising};
 ghost use Rattle.xmpp_links.specs.Sums.{said_in, served_in};
 ghost use Rattle.xmpp_links.specs.Covers.{IsSettled, PromptReached};
@@ -51,6 +52,14 @@ pub fn counts_are_too_high_only_where_the_client_left<A>()
         down_words c.wires ≡ Resumed p h ∷ rest → IsWithin o.acked o.queue h }
 {}
 
+/// On the connection that the client dialled last, a resumption states exactly what the client has handled: also where it
+/// was told the connection's end, or left it and dialled no other. So a count is too high only behind a newer connection.
+pub fn counts_are_too_high_only_behind_a_newer_connection<A>()
+    ensures stated { (moves : List (LinkMove A)) (v : View A) (k h : ℕ) (c : Conn A) (r : Row A) (rest : List (UpWord A)) → LinkReaches moves nothing_yet v → newest moves None ≡ Some k → v.conns k ≡ Some c → v.row ≡ Some r →
+        up_words c.wires ≡ ResumeAt r.number h ∷ rest → (s : Session A) × (v.sessions r.number ≡ Some s) × (h ≡ length s.down.got) × IsWithin r.acked r.queue h }
+    ensures too_high { (moves : List (LinkMove A)) (v next : View A) (k : ℕ) → LinkReaches moves nothing_yet v → newest moves None ≡ Some k → IsTooHigh k v next → ⊥ }
+{}
+
 /// Each word comes where its reader expects it, so that neither end answers one by ending the stream. The server's
 /// stream errors that the client reads are `conflict` and `resource-constraint` (RFC 6120, section 4.9.3), and a footer
 /// never comes to it alone. There are moves by which each word is taken from its pipe (`taken`, `read`).
@@ -84,6 +93,12 @@ pub fn the_clients_queue_stays_short<A>()
     ensures comes { (p : Paging A) (v : View A) (k : ℕ) (c : Conn A) (o : Own A) → PagingReached p v → v.here ≡ Some k → v.conns k ≡ Some c → v.own ≡ Some o → c.client ≡ InOnline o.number →
         (s : Session A) × (v.sessions o.number ≡ Some s) × IsInTime p c.wires (course_of s) }
     ensures reached { (p : Paging ℕ) × (v : View ℕ) × (o : Own ℕ) × PagingReached p v × (v.own ≡ Some o) × (length o.queue ≡ p.most + 2) }
+{}
+
+/// Runs in which stanzas are put with premises are runs of the moves, of which all laws speak.
+pub fn runs_with_premises_are_runs<A>()
+    ensures prompt { (asks : A → Bool) (v : View A) → PromptReached asks v → LinkReached v }
+    ensures paging { (p : Paging A) (v : View A) → PagingReached p v → PromptReached p.asks v }
 {}
 
 /// To the applications each move is nothing, or one event of a session: bound, named, counted, known, ended, dropped,

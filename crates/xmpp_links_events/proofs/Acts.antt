@@ -14,7 +14,7 @@ use Rattle.xmpp_sessions.specs.Devices.{Sessions}
 use Rattle.xmpp_sessions.specs.Events.{goes_online, put_up, put_down, give, end_row, flagged}
 use Rattle.xmpp_links_events.proofs.Events.{Leads, bound_leads, named_leads, counted_leads, known_leads, ended_leads, dropped_leads, said_leads, handled_leads, served_leads, heard_leads, learned_leads}
 use Rattle.xmpp_links_events.specs.Lists.{Stanzas, IsDevice, no_sessions, knows}
-use Rattle.xmpp_links_events.specs.Acts.{AreActs}
+use Rattle.xmpp_links_events.specs.Acts.{AreActs, ActsLead}
 
 event_leads : {A : Type 0} (r : Stanzas A) (e : Event A) (v : Seen A) (d : Sessions) → links.May e v → IsDevice r v d → Leads r e v d
 event_leads r (Bound m) v d may a = bound_leads r v d m may a
@@ -50,12 +50,15 @@ pub move_leads : {A : Type 0} (r : Stanzas A) (move : LinkMove A) (v next : View
     (e : Option (Event A)) × IsSeenAs e (seen v) (seen next) × ((after : Sessions) × AreActs r e (seen v) d after × IsDevice r (seen next) after)
 move_leads r move v next d reached by a = let s = move_seen move v next by (link_kept v reached) (reached_rises v reached) in (s.0, s.1, seen_leads r s.0 (seen v) (seen next) d s.1 a)
 
-follow : {A : Type 0} (r : Stanzas A) (es : List (Event A)) (v last : Seen A) (d : Sessions) → Follows es v last → IsDevice r v d → (after : Sessions) × IsDevice r last after
-follow r [] v last d same a = (d, subst (λ s. IsDevice r s d) (sym same) a)
-follow r (e ∷ es) v last d (may, along) a = let l = event_leads r e v d may a in follow r es (links.after e v) last l.0 along l.2
+follow : {A : Type 0} (r : Stanzas A) (es : List (Event A)) (v last : Seen A) (d : Sessions) → Follows es v last → IsDevice r v d → (after : Sessions) × ActsLead r es v d after × IsDevice r last after
+follow r [] v last d same a = (d, refl, subst (λ s. IsDevice r s d) (sym same) a)
+follow r (e ∷ es) v last d (may, along) a =
+    let l = event_leads r e v d may a in
+    let f = follow r es (links.after e v) last l.0 along l.2 in
+    (f.0, (l.0, l.1, f.1), f.2)
 
-pub reached_leads : {A : Type 0} (r : Stanzas A) (v : View A) → LinkReached v → (d : Sessions) × IsDevice r (seen v) d
-reached_leads r v reached = let s = run_seen v reached in follow r s.0 (seen nothing_yet) (seen v) no_sessions s.1 (begins r)
+pub reached_leads : {A : Type 0} (r : Stanzas A) (v : View A) → LinkReached v → (es : List (Event A)) × Follows es (seen nothing_yet) (seen v) × ((d : Sessions) × ActsLead r es (seen nothing_yet) no_sessions d × IsDevice r (seen v) d)
+reached_leads r v reached = let s = run_seen v reached in (s.0, s.1, follow r s.0 (seen nothing_yet) (seen v) no_sessions s.1 (begins r))
 
 -- what acts are made of
 

@@ -1,7 +1,7 @@
 -- Each event that the links tell, as an act of the two applications with its premise, and as what it does to the lists.
 use Rattle.std.specs.Prelude.{◌≡◌, ℕ, true, List, [], ◌∷◌, Option, None, Some}
 use Rattle.xmpp_links.specs.Views.{has}
-use Rattle.xmpp_links.specs.Events.{Seen, Event, Bound, Named, Counted, Known, Ended, Dropped, Said, Handled, Served, Heard, Learned}
+use Rattle.xmpp_links.specs.Events.{Seen, Event, Bound, Named, Counted, Known, Ended, Dropped, Said, Handled, Served, Heard, Learned, after}
 use Rattle.xmpp_sessions.specs.Stanzas.{Up, Down}
 use Rattle.xmpp_sessions.specs.Devices.{Sessions, Device}
 use Rattle.xmpp_sessions.specs.Events.{Act, May, binds, reads_bound, counts, end_row, goes_offline, put_up, put_down, moved_up, moved_down, acknowledged}
@@ -32,3 +32,8 @@ IsAct r (Learned p n) v d next = MayAct (Acknowledge n) d × (next ≡ acknowled
 abbrev pub AreActs : {A : Type 0} → Stanzas A → Option (Event A) → Seen A → Sessions → Sessions → Type 0
 AreActs r None v d next = next ≡ d
 AreActs r (Some e) v d next = IsAct r e v d next
+
+-- the acts of these events come, one after the other, and lead from the one to the other
+abbrev pub ActsLead : {A : Type 0} → Stanzas A → List (Event A) → Seen A → Sessions → Sessions → Type 0
+ActsLead r [] v d last = last ≡ d
+ActsLead r (e ∷ es) v d last = (next : Sessions) × IsAct r e v d next × ActsLead r es (after e v) next last

@@ -1,23 +1,23 @@
 //! The moves of the links as acts of the two applications.
 ghost use Rattle.std.specs.Prelude.{◌≡◌, ℕ, true, false, [], ◌∷◌, List, Option, length, take, nat_lt};
 ghost use Rattle.xmpp_links.specs.Views.{View};
-ghost use Rattle.xmpp_links.specs.Events.{Event, IsSeenAs, Seen, seen};
+ghost use Rattle.xmpp_links.specs.Events.{Event, Follows, IsSeenAs, Seen, seen};
 ghost use Rattle.xmpp_links.specs.Machine.{LinkMove, LinkMoves, LinkReached, nothing_yet};
 ghost use Rattle.xmpp_sessions.specs.Stanzas.{Down, Up};
 ghost use Rattle.xmpp_sessions.specs.Stanzas.Up.{Carbons, Presence};
 ghost use Rattle.xmpp_sessions.specs.Devices.{Device, Sessions};
 ghost use Rattle.xmpp_sessions.specs.Events.{Around, end_row, flagged, give, goes_online, moved_up, put_down, put_up, reply, served};
 ghost use Rattle.xmpp_links_events.specs.Lists.{IsDevice, knows, no_sessions, Stanzas};
-ghost use Rattle.xmpp_links_events.specs.Acts.{AreActs};
+ghost use Rattle.xmpp_links_events.specs.Acts.{ActsLead, AreActs};
 
 /// Each move of the links of a device is nothing to its two applications, or the act of one event, which may happen: its
 /// premise is met, whatever the stanzas are to the server and to the client. What is seen of the device's sessions stays
-/// what the lists are.
+/// what the lists are: so each run of moves is one of acts.
 pub fn moves_are_acts_of_sessions<A>()
     ensures begins { (r : Stanzas A) → IsDevice r (seen nothing_yet) no_sessions }
     ensures moves { (r : Stanzas A) (move : LinkMove A) (v next : View A) (d : Sessions) → LinkReached v → LinkMoves move v next → IsDevice r (seen v) d →
         (e : Option (Event A)) × IsSeenAs e (seen v) (seen next) × ((after : Sessions) × AreActs r e (seen v) d after × IsDevice r (seen next) after) }
-    ensures reached { (r : Stanzas A) (v : View A) → LinkReached v → (d : Sessions) × IsDevice r (seen v) d }
+    ensures runs { (r : Stanzas A) (v : View A) → LinkReached v → (es : List (Event A)) × Follows es (seen nothing_yet) (seen v) × ((d : Sessions) × ActsLead r es (seen nothing_yet) no_sessions d × IsDevice r (seen v) d) }
 {}
 
 /// An act with more than one stanza is its event and those of the stanzas behind it: the client puts two as it hears that

@@ -7,5 +7,5 @@ returns-clause-begins g c = λ r. begins r
 pub returns-clause-moves : goal.returns-clause-moves
 returns-clause-moves g c = λ r move v next d reached by a. move_leads r move v next d reached by a
 
-pub returns-clause-reached : goal.returns-clause-reached
-returns-clause-reached g c = λ r v reached. reached_leads r v reached
+pub returns-clause-runs : goal.returns-clause-runs
+returns-clause-runs g c = λ r v reached. reached_leads r v reached
