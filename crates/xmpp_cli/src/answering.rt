@@ -12,9 +12,7 @@ use crate::answer::{Answer, said};
 use crate::command::Command;
 use crate::outcome::Outcome;
 use crate::surroundings::Surroundings;
-use crate::texts::{
-    HELP, READ_FAULT_LINE, TOO_LONG_LINE, VERSION, WORDS_LINE, refusal,
-};
+use crate::texts::{HELP, READ_FAULT_LINE, TOO_LONG_LINE, VERSION, WORDS_LINE, refusal};
 use std::alloc::Global;
 use xmpp_check::check;
 use xmpp_direct::direct_is_lawful;
