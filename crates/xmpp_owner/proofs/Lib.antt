@@ -6,3 +6,5 @@ pub mod WholeFeeds
 pub mod OwnerSteps
 -- a reader that was joined
 pub mod Settled
+-- the events are a merge
+pub mod MergedFeeds

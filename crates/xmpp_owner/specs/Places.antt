@@ -1,6 +1,7 @@
 -- What the places of connections have to do with what was taken from the queue, and with the events.
-use Rattle.std.specs.Prelude.{◌≡◌, ℕ, ◌+◌, ◌<◌, ◌⊎◌, Bool, true, false, List, [], ◌∷◌, length, if◌then◌else◌, Option, Some, None, IfSome, is_some}
-use mathlib.Core.Option.{some}
+use Rattle.std.specs.Prelude.{◌≡◌, ℕ, zero, suc, ◌+◌, ◌<◌, ◌⊎◌, Bool, true, false, List, [], ◌∷◌, length, if◌then◌else◌, Option, Some, None, IfSome, is_some}
+use mathlib.Core.Option.{none, some}
+use mathlib.Core.Option as maybe
 use lib.ListN.{get_elem?}
 use Rattle.xmpp_owner.specs.Events.{Connect, Event, Gone, Told, shown, told_of}
 use Rattle.xmpp_owner.specs.declared.place.Place.{Place}
@@ -43,3 +44,12 @@ module _ {R I P : Type 0} where
   unfoldable pub are_over : List (Place R I P) → Bool
   are_over [] = true
   are_over (p ∷ ps) = if is_over p then are_over ps else false
+
+  abbrev pub feed_of : maybe.Option (Place R I P) → ℕ → List (Item P) → List Told
+  feed_of none k got = []
+  feed_of (some p) k got = Connect ∷ feed_from p.worker (items_of number k got)
+
+  -- the feed of each connection: its connect, and then what was taken of its reader
+  abbrev pub feeds : List (Place R I P) → List (Item P) → ℕ → List Told
+  feeds places got zero = []
+  feeds places got (suc i) = feed_of (get_elem? places i) (suc i) got

@@ -2,8 +2,9 @@
 ghost use Rattle.std.specs.Prelude.{◌≡◌, ◌+◌, ◌++◌, ◌∷◌, [], true, false, Bool, IfOk, MatchOption, OnOk};
 ghost use Rattle.crossbeam_channel.specs.Claims.{IsSeatAt, view};
 ghost use Rattle.crossbeam_channel.specs.Ends.{sends_on};
+ghost use Rattle.xmpp_owner.specs.Events.{AreMerged};
 ghost use Rattle.xmpp_owner.specs.Owners.{HasGiven, IsGoing, IsOpen, IsPending};
-ghost use Rattle.xmpp_owner.specs.Places.{HasNoReader, IsStarted, are_over, is_over};
+ghost use Rattle.xmpp_owner.specs.Places.{HasNoReader, IsStarted, are_over, feeds, is_over};
 ghost use Rattle.xmpp_queue.specs.Merge.{items_of};
 ghost use Rattle.xmpp_queue.specs.Rule.{sender};
 ghost use Rattle.xmpp_readers.specs.Feeds.{has_end, number as number_of};
@@ -250,11 +251,13 @@ impl<
         half
     }
 
-    /// Goes on until no more connections are taken in, and each reader that was started has ended.
+    /// Goes on until no more connections are taken in, and each reader that was started has ended. The events are a merge of
+    /// what was taken of each reader.
     pub fn run<S: Spawner>(&mut self, spawner: &mut S) -> Result<(), NoMemory>
         requires { IsGoing T.events self.old }
         ensures going { OnOk result (IsGoing T.events self.new) }
         ensures over { OnOk result (are_over self.new.places.items ≡ true) }
+        ensures merged { OnOk result (AreMerged (T.events self.new.taker) (feeds self.new.places.items (view self.new.pass).got)) }
     {
         let rt = self.rt;
         for _ in rt.forever() {
