@@ -1,0 +1,10 @@
+-- what happens to one connection, where one event more happened; each place after each kind of item
+pub mod KeptPlaces
+-- nothing is left behind the end of a reader
+pub mod WholeFeeds
+-- the owner after each kind of item
+pub mod OwnerSteps
+-- a reader that was joined
+pub mod Settled
+-- the events are a merge
+pub mod MergedFeeds

@@ -1,0 +1,9 @@
+pub use Rattle.xmpp_readers.specs.Feeds
+pub use Rattle.xmpp_readers.specs.Readers
+pub use Rattle.xmpp_queue.specs.Merge
+pub use Rattle.xmpp_queue.specs.Rule
+-- law
+pub mod Events
+pub mod Places
+-- view
+pub mod Owners

@@ -1,0 +1,12 @@
+//! The owner of a queue takes what an acceptor and readers send, and hands it on as events of connections, one after another:
+//! these are a merge of what happened to each connection.
+#![tactic(auto)]
+
+mod owner;
+mod place;
+mod stepping;
+mod taker;
+
+pub use owner::Owner;
+pub use place::Place;
+pub use taker::Taker;

@@ -1,0 +1,20 @@
+//! The owner of the queue.
+use crate::place::Place;
+use std::alloc::Global;
+use std::sync::Wait;
+use xmpp_halves::Incoming;
+use xmpp_queue::{Receipt, Receiving, Sending};
+use xmpp_readers::Item;
+
+/// What the owner works with: the queue, its pass, the places of the connections, and what takes their events.
+#[derive(Drop)]
+pub struct Owner<R: Wait + Drop, I: Incoming + Drop, P: Drop, T: Drop> {
+    pub rt: R,
+    pub alloc: Global,
+    pub to: Sending<Item<P>>,
+    pub at: Receiving<Item<P>>,
+    pub pass: Receipt<Item<P>>,
+    pub places: Vec<Place<R, I, P>>,
+    pub taker: T,
+    pub closed: bool,
+}
