@@ -1,0 +1,4 @@
+mod Rests
+mod Splits
+mod Entering
+mod Handing

@@ -1,0 +1,62 @@
+-- What a rest gives: nothing, and no fault.
+use Rattle.std.proofs.Common.{◌≡◌, ℕ, zero, suc, ◌+◌, ◌<◌, ⊎_elim, inl, inr, Bool, true, false, true≢false, List, [], ◌∷◌, ◌++◌, Option, Some, None, length, take, drop, refl, sym, ap, subst, ◌∙◌, arith, append_assoc, length-append}
+use Rattle.std.proofs.Math.Seq.{take-append_seam}
+use Rattle.std.proofs.lemmas.List.{take-append-drop}
+use Rattle.std.specs.Option.{is_some}
+use Rattle.xmpp_framing.proofs.Pieces.{run_append, stays}
+use Rattle.xmpp_framing.specs.Machine.{run}
+use Rattle.xmpp_framing.specs.States.{State, Turn, turn}
+use Rattle.xmpp_framing.specs.declared.fault.Fault.{Fault}
+use Rattle.xmpp_framing.specs.declared.items.Item.{Item}
+use Rattle.xmpp_carries.specs.Words.{GivesOne, IsFront, IsRest}
+
+-- a fault would stay
+no_fault_before : (t : Turn) (bs : List ℕ) → (run t bs).state.fault ≡ None → t.state.fault ≡ None
+no_fault_before t bs e = was t.state.fault refl
+  where
+    was : (o : Option Fault) → t.state.fault ≡ o → o ≡ None
+    was None is = refl
+    was (Some f) is = absurd (true≢false (sym (ap is_some (ap (λ (u : Turn). u.state.fault) (stays t bs f is) ∙ is)) ∙ ap is_some e))
+
+pub as_rest : (lost : Bool) (s : State) (bytes : List ℕ) → IsRest lost s bytes → IsRest true s bytes
+as_rest false s bytes r = inl r
+as_rest true s bytes r = r
+
+-- the first bytes of an item are a front of it
+pub front_of : (s : State) (bytes more : List ℕ) (i : Item) (behind : State) → GivesOne s (bytes ++ more) i behind → 0 < length more → IsFront s bytes
+front_of s bytes more i behind g some = record { more = more; given = i; behind = behind; gives = g; some_more = some }
+
+longer : (a b : List ℕ) → 0 < length b → 0 < length (a ++ b)
+longer a b some = omega (arith, length-append a b, some)
+
+shorter : (a b : List ℕ) → 0 < length b → length a < length (a ++ b)
+shorter a b some = omega (arith, length-append a b, some)
+
+front_of_front : (s : State) (bytes : List ℕ) (n : ℕ) → IsFront s bytes → IsFront s (take n bytes)
+front_of_front s bytes n f =
+    let same : bytes ++ f.more ≡ take n bytes ++ (drop n bytes ++ f.more) = ap (λ l. l ++ f.more) (sym (take-append-drop n bytes)) ∙ append_assoc (take n bytes) (drop n bytes) f.more in
+    front_of s (take n bytes) (drop n bytes ++ f.more) f.given f.behind (subst (λ l. GivesOne s l f.given f.behind) same f.gives) (longer (drop n bytes) f.more f.some_more)
+
+none_of_none : (n : ℕ) → take {A = ℕ} n [] ≡ []
+none_of_none zero = refl
+none_of_none (suc n) = refl
+
+pub rest_of_rest : (s : State) (bytes : List ℕ) (n : ℕ) → IsRest true s bytes → IsRest true s (take n bytes)
+rest_of_rest s bytes n r =
+    ⊎_elim (λ (none : bytes ≡ []). inl (ap (take n) none ∙ none_of_none n)) (λ (f : IsFront s bytes). inr (front_of_front s bytes n f)) r
+
+front_gives_none : (s : State) (bytes : List ℕ) → IsFront s bytes → (run (turn s []) bytes).items ≡ []
+front_gives_none s bytes f =
+    ap (λ l. (run (turn s []) l).items) (sym (take-append_seam bytes f.more)) ∙ f.gives.none_before (length bytes) (shorter bytes f.more f.some_more)
+
+front_no_fault : (s : State) (bytes : List ℕ) → IsFront s bytes → (run (turn s []) bytes).state.fault ≡ None
+front_no_fault s bytes f =
+    no_fault_before (run (turn s []) bytes) f.more (ap (λ (t : Turn). t.state.fault) (sym (run_append (turn s []) bytes f.more) ∙ f.gives.run_is) ∙ f.gives.no_fault)
+
+pub rest_gives_none : (s : State) (bytes : List ℕ) → IsRest true s bytes → (run (turn s []) bytes).items ≡ []
+rest_gives_none s bytes r =
+    ⊎_elim (λ (none : bytes ≡ []). ap (λ l. (run (turn s []) l).items) none) (λ (f : IsFront s bytes). front_gives_none s bytes f) r
+
+pub rest_no_fault : (s : State) (bytes : List ℕ) → s.fault ≡ None → IsRest true s bytes → (run (turn s []) bytes).state.fault ≡ None
+rest_no_fault s bytes none_there r =
+    ⊎_elim (λ (none : bytes ≡ []). ap (λ l. (run (turn s []) l).state.fault) none ∙ none_there) (λ (f : IsFront s bytes). front_no_fault s bytes f) r
