@@ -1,5 +1,5 @@
 -- Items behind items, and bytes that give nothing.
-use Rattle.std.proofs.Common.{◌≡◌, ℕ, ◌<◌, Bool, true, false, List, [], ◌∷◌, ◌++◌, None, length, refl, sym, ap, subst, ◌∙◌, append_assoc}
+use Rattle.std.proofs.Common.{◌≡◌, ℕ, Bool, true, List, [], ◌∷◌, ◌++◌, sym, ap, subst, ◌∙◌, append_assoc}
 use Rattle.xmpp_framing.proofs.ItemsBefore.{given_before}
 use Rattle.xmpp_framing.proofs.Pieces.{run_append}
 use Rattle.xmpp_framing.specs.Machine.{run}

@@ -1,6 +1,6 @@
 -- What each operation on a pipe makes of the items that it carries.
-use Rattle.std.proofs.Common.{◌≡◌, ℕ, ◌+◌, ◌==◌, ◌&&◌, not, Bool, true, false, List, [], ◌∷◌, ◌++◌, None, length, take, drop, refl, sym, ap, subst, ◌∙◌, append_assoc, append-nil, arith}
-use Rattle.std.proofs.Math.Seq.{drop-append-add, take-append-add}
+use Rattle.std.proofs.Common.{◌≡◌, ℕ, ◌+◌, ◌==◌, ◌&&◌, not, Bool, true, false, List, [], ◌++◌, None, length, take, drop, refl, sym, ap, subst, ◌∙◌, append_assoc, append-nil, arith}
+use Rattle.std.proofs.Math.Seq.{drop-append-add, drop-length, take-append-add, take-length}
 use Rattle.std.proofs.lemmas.Bool.{and_parts, cond-false, cond-true}
 use Rattle.std.proofs.lemmas.Bool.Decides.{nat_tests}
 use Rattle.std.proofs.lemmas.List.{nil_from_length}
@@ -9,8 +9,8 @@ use Rattle.xmpp_framing.proofs.Pieces.{run_append}
 use Rattle.xmpp_framing.specs.Machine.{run}
 use Rattle.xmpp_framing.specs.States.{State, Turn, turn}
 use Rattle.xmpp_framing.specs.declared.items.Item.{Item}
-use Rattle.xmpp_pipes.specs.Pipes.{Pipe, closed, cut_to, emptied, empty_pipe, entered, handed, is_end_due, with_end_told}
-use Rattle.xmpp_carries.specs.Carries.{Carries, GivesFirst, KeepsFirst, held}
+use Rattle.xmpp_pipes.specs.Pipes.{Pipe, closed, emptied, empty_pipe, entered, handed, is_end_due, with_end_told}
+use Rattle.xmpp_carries.specs.Carries.{Carries, GivesAll, GivesFirst, KeepsFirst, held}
 use Rattle.xmpp_carries.specs.Words.{AreItems, AreWhole, IsRest, no_more}
 use Rattle.xmpp_carries.proofs.Entering.{NoItems, items_join, may_be_lost, no_items}
 use Rattle.xmpp_carries.proofs.Rests.{rest_gives_none, rest_no_fault}
@@ -131,3 +131,18 @@ no_bytes_due bytes ended told e =
 
 pub due_means_none : (s : State) (part : List ℕ) (p : Pipe) (items : List Item) (t : State) → Carries s part p items t → is_end_due p ≡ true → items ≡ []
 due_means_none s part p items t c due = (without_bytes s part p items t c (no_bytes_due p.bytes p.ended p.told due)).0
+
+-- ---- all bytes
+
+pub gives_all : (s : State) (part : List ℕ) (p : Pipe) (items : List Item) (t : State) → Carries s part p items t → GivesAll s part p items t
+gives_all s part p items t c =
+    let n = length p.bytes in
+    let h = hands s part p items t n c in
+    let left = without_bytes h.now h.kept (handed n p) h.others t h.left (drop-length p.bytes) in
+    let all : h.first ≡ items = sym (h.items_are ∙ ap (λ l. h.first ++ l) left.0 ∙ append-nil h.first) in
+    record {
+      kept = h.kept;
+      run_is = λ said.
+          ap (run (turn (held s part) said)) (sym (take-length p.bytes)) ∙ h.run_is said ∙ ap (λ x. turn (held x h.kept) (said ++ h.first)) (sym left.1) ∙ ap (λ l. turn (held t h.kept) (said ++ l)) all;
+      rest = subst (λ x. IsRest p.ended x h.kept) (sym left.1) left.2;
+    }

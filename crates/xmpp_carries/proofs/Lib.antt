@@ -2,3 +2,4 @@ mod Rests
 mod Splits
 mod Entering
 mod Handing
+mod Worked

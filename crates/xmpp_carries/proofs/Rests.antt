@@ -1,8 +1,9 @@
 -- What a rest gives: nothing, and no fault.
-use Rattle.std.proofs.Common.{◌≡◌, ℕ, zero, suc, ◌+◌, ◌<◌, ⊎_elim, inl, inr, Bool, true, false, true≢false, List, [], ◌∷◌, ◌++◌, Option, Some, None, length, take, drop, refl, sym, ap, subst, ◌∙◌, arith, append_assoc, length-append}
+use Rattle.std.proofs.Common.{◌≡◌, ℕ, zero, suc, ◌+◌, ◌<◌, ◌≤◌, ⊎_elim, inl, inr, Bool, true, false, true≢false, List, [], ◌∷◌, ◌++◌, Option, Some, None, length, take, drop, refl, sym, ap, subst, ◌∙◌, arith, append_assoc, length-append}
 use Rattle.std.proofs.Math.Seq.{take-append_seam}
-use Rattle.std.proofs.lemmas.List.{take-append-drop}
+use Rattle.std.proofs.lemmas.List.{take-append-drop, take-append-le}
 use Rattle.std.specs.Option.{is_some}
+use Rattle.xmpp_framing.proofs.ItemsBefore.{run_grows}
 use Rattle.xmpp_framing.proofs.Pieces.{run_append, stays}
 use Rattle.xmpp_framing.specs.Machine.{run}
 use Rattle.xmpp_framing.specs.States.{State, Turn, turn}
@@ -60,3 +61,30 @@ rest_gives_none s bytes r =
 pub rest_no_fault : (s : State) (bytes : List ℕ) → s.fault ≡ None → IsRest true s bytes → (run (turn s []) bytes).state.fault ≡ None
 rest_no_fault s bytes none_there r =
     ⊎_elim (λ (none : bytes ≡ []). ap (λ l. (run (turn s []) l).state.fault) none ∙ none_there) (λ (f : IsFront s bytes). front_no_fault s bytes f) r
+
+-- ---- an item by its last byte
+
+last_or_before : (n a : ℕ) → n < a + 1 → n ≤ a
+last_or_before n a less = omega (arith, less)
+
+nothing_before : (l more : List Item) → l ++ more ≡ [] → l ≡ []
+nothing_before [] more e = refl
+nothing_before (i ∷ l) more e = cc
+
+fewer_give_none : (s : State) (bytes : List ℕ) (n : ℕ) → (run (turn s []) bytes).items ≡ [] → (run (turn s []) (take n bytes)).items ≡ []
+fewer_give_none s bytes n none =
+    let grows = run_grows (run (turn s []) (take n bytes)) (drop n bytes) in
+    let whole : run (run (turn s []) (take n bytes)) (drop n bytes) ≡ run (turn s []) bytes = sym (run_append (turn s []) (take n bytes) (drop n bytes)) ∙ ap (run (turn s [])) (take-append-drop n bytes) in
+    nothing_before (run (turn s []) (take n bytes)).items grows.0 (sym grows.1 ∙ ap (λ (t : Turn). t.items) whole ∙ none)
+
+-- where nothing was given before the last byte, nothing was before an earlier one
+pub by_last_byte : (s : State) (front : List ℕ) (last : ℕ) (i : Item) (behind : State) → run (turn s []) (front ++ last ∷ []) ≡ turn behind (i ∷ []) → (run (turn s []) front).items ≡ [] → behind.fault ≡ None
+    → GivesOne s (front ++ last ∷ []) i behind
+by_last_byte s front last i behind runs none no_fault =
+    record {
+      run_is = runs;
+      none_before = λ n less.
+          let le : n ≤ length front = last_or_before n (length front) (subst (λ m. n < m) (length-append front (last ∷ [])) less) in
+          ap (λ l. (run (turn s []) l).items) (take-append-le n front (last ∷ []) le) ∙ fewer_give_none s front n none;
+      no_fault = no_fault;
+    }

@@ -1,5 +1,5 @@
 -- Where the first bytes of items end: behind some first items, with nothing or a front of the next in hand.
-use Rattle.std.proofs.Common.{◌≡◌, ℕ, ◌+◌, ◌-◌, ◌<◌, leb, ⊎_elim, inl, inr, Bool, true, false, List, [], ◌∷◌, ◌++◌, None, length, take, drop, refl, sym, ap, subst, ◌∙◌, arith, append_assoc, length-drop}
+use Rattle.std.proofs.Common.{◌≡◌, ℕ, ◌+◌, ◌-◌, ◌<◌, leb, ⊎_elim, inr, Bool, true, false, List, [], ◌∷◌, ◌++◌, None, length, take, drop, refl, sym, ap, subst, ◌∙◌, arith, append_assoc, length-drop}
 use Rattle.std.proofs.Math.Seq.{drop-append-add, take-append-add}
 use Rattle.std.proofs.lemmas.Bool.{cases_Bool}
 use Rattle.std.proofs.lemmas.Bool.Decides.{nat_tests}
@@ -9,7 +9,7 @@ use Rattle.xmpp_framing.proofs.Pieces.{run_append}
 use Rattle.xmpp_framing.specs.Machine.{run}
 use Rattle.xmpp_framing.specs.States.{State, Turn, turn}
 use Rattle.xmpp_framing.specs.declared.items.Item.{Item}
-use Rattle.xmpp_carries.specs.Words.{AreItems, GivesOne, IsFront, IsRest, no_more, one_more}
+use Rattle.xmpp_carries.specs.Words.{AreItems, GivesOne, IsRest, no_more, one_more}
 use Rattle.xmpp_carries.proofs.Rests.{as_rest, front_of, rest_of_rest}
 
 pub record Split (lost : Bool) (s : State) (bytes : List ℕ) (items : List Item) (t : State) (n : ℕ) : Type 0 where

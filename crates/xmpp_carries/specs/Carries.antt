@@ -4,7 +4,7 @@ use Rattle.xmpp_framing.specs.Machine.{run}
 use Rattle.xmpp_framing.specs.States.{State, turn}
 use Rattle.xmpp_framing.specs.declared.items.Item.{Item}
 use Rattle.xmpp_pipes.specs.Pipes.{Pipe, cut_to, handed}
-use Rattle.xmpp_carries.specs.Words.{AreItems}
+use Rattle.xmpp_carries.specs.Words.{AreItems, IsRest}
 
 -- the framer behind the bytes that it took since it last gave an item
 abbrev pub held : State → List ℕ → State
@@ -36,3 +36,9 @@ pub record KeepsFirst (s : State) (part : List ℕ) (p : Pipe) (items : List Ite
   pub now : State
   pub items_are : items ≡ first ++ others
   pub left : Carries s part (cut_to n p) first now
+
+-- All bytes are handed over: the framer gives all items and no more, and has in hand what is no whole item.
+pub record GivesAll (s : State) (part : List ℕ) (p : Pipe) (items : List Item) (t : State) : Type 0 where
+  pub kept : List ℕ
+  pub run_is : (said : List Item) → run (turn (held s part) said) p.bytes ≡ turn (held t kept) (said ++ items)
+  pub rest : IsRest p.ended t kept

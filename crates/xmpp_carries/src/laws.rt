@@ -1,6 +1,6 @@
 //! What each operation on a pipe makes of the items that its bytes stand for.
 ghost use Rattle.std.specs.Prelude.{◌≡◌, ℕ, List, [], ◌++◌, None, false, true};
-ghost use Rattle.xmpp_carries.specs.Carries.{Carries, GivesFirst, KeepsFirst, held};
+ghost use Rattle.xmpp_carries.specs.Carries.{Carries, GivesAll, GivesFirst, KeepsFirst, held};
 ghost use Rattle.xmpp_carries.specs.Words.{AreItems, AreWhole, IsRest};
 ghost use Rattle.xmpp_framing.specs.States.{State};
 ghost use Rattle.xmpp_framing.specs.declared.items.Item.{Item};
@@ -20,9 +20,12 @@ pub fn whole_items_enter()
 {}
 
 /// A law: of the first bytes, which are handed over, the framer gives the first items, those of which the last byte is
-/// among them, and what is left carries the others. The framer has no fault.
+/// among them, and what is left carries the others. The framer has no fault. Of all bytes it gives all items and no more,
+/// so that a pipe carries no other items than these; what is left in hand is nothing, or where the pipe has ended perhaps
+/// the first bytes of one more.
 pub fn first_bytes_give_first_items()
-    ensures { (s : State) (part : List ℕ) (p : Pipe) (items : List Item) (t : State) (n : ℕ) → Carries s part p items t → GivesFirst s part p items t n }
+    ensures first { (s : State) (part : List ℕ) (p : Pipe) (items : List Item) (t : State) (n : ℕ) → Carries s part p items t → GivesFirst s part p items t n }
+    ensures all { (s : State) (part : List ℕ) (p : Pipe) (items : List Item) (t : State) → Carries s part p items t → GivesAll s part p items t }
 {}
 
 /// A law: a cut keeps some first items, and perhaps the first bytes of one more.
