@@ -1,6 +1,8 @@
 -- What a rest gives: nothing, and no fault.
-use Rattle.std.proofs.Common.{◌≡◌, ℕ, zero, suc, ◌+◌, ◌<◌, ◌≤◌, ⊎_elim, inl, inr, Bool, true, false, true≢false, List, [], ◌∷◌, ◌++◌, Option, Some, None, length, take, drop, refl, sym, ap, subst, ◌∙◌, arith, append_assoc, length-append}
-use Rattle.std.proofs.Math.Seq.{take-append_seam}
+use Rattle.std.proofs.Common.{◌≡◌, ℕ, zero, suc, ◌+◌, ◌<◌, ◌≤◌, ⊎_elim, inl, inr, Bool, true, false, true≢false, List, [], ◌∷◌, ◌++◌, Option, Some, None, length, take, drop, refl, sym, ap, subst, ◌∙◌, arith, append_assoc, length-append, ◌-◌, leb}
+use Rattle.std.proofs.Math.Seq.{take-append-add, take-append_seam}
+use Rattle.std.proofs.lemmas.Bool.{cases_Bool}
+use Rattle.std.proofs.lemmas.Bool.Decides.{nat_tests}
 use Rattle.std.proofs.lemmas.List.{take-append-drop, take-append-le}
 use Rattle.std.specs.Option.{is_some}
 use Rattle.xmpp_framing.proofs.ItemsBefore.{run_grows}
@@ -88,3 +90,27 @@ by_last_byte s front last i behind runs none no_fault =
           ap (λ l. (run (turn s []) l).items) (take-append-le n front (last ∷ []) le) ∙ fewer_give_none s front n none;
       no_fault = no_fault;
     }
+
+-- ---- bytes that give nothing before an item
+
+behind_front : (s t : State) (front bytes : List ℕ) → run (turn s []) front ≡ turn t [] → run (turn s []) (front ++ bytes) ≡ run (turn t []) bytes
+behind_front s t front bytes e = run_append (turn s []) front bytes ∙ ap (λ u. run u bytes) e
+
+none_given_before : (s t u : State) (front bytes : List ℕ) (i : Item) → run (turn s []) front ≡ turn t [] → GivesOne t bytes i u → (n : ℕ) → n < length (front ++ bytes)
+    → (run (turn s []) (take n (front ++ bytes))).items ≡ []
+none_given_before s t u front bytes i e g n less =
+    ⊎_elim
+    (λ (within : leb n (length front) ≡ true).
+    let le : n ≤ length front = grind (arith, nat_tests) in
+    ap (λ l. (run (turn s []) l).items) (take-append-le n front bytes le) ∙ fewer_give_none s front n (ap (λ (v : Turn). v.items) e))
+    (λ (past : leb n (length front) ≡ false).
+    let k = n - length front in
+    let sum : n ≡ length front + (n - length front) = grind (arith, nat_tests) in
+    let fewer : n - length front < length bytes = omega (arith, length-append front bytes, sum, less) in
+    let taken : take n (front ++ bytes) ≡ front ++ take k bytes = ap (λ m. take m (front ++ bytes)) sum ∙ take-append-add front bytes k in
+    ap (λ l. (run (turn s []) l).items) taken ∙ ap (λ (v : Turn). v.items) (behind_front s t front (take k bytes) e) ∙ g.none_before k fewer)
+    (cases_Bool (leb n (length front)))
+
+pub with_declaration : (s t u : State) (front bytes : List ℕ) (i : Item) → run (turn s []) front ≡ turn t [] → GivesOne t bytes i u → GivesOne s (front ++ bytes) i u
+with_declaration s t u front bytes i e g =
+    record { run_is = behind_front s t front bytes e ∙ g.run_is; none_before = none_given_before s t u front bytes i e g; no_fault = g.no_fault }

@@ -1,8 +1,9 @@
 //! What each operation on a pipe makes of the items that its bytes stand for.
 ghost use Rattle.std.specs.Prelude.{◌≡◌, ℕ, List, [], ◌++◌, None, false, true};
 ghost use Rattle.xmpp_carries.specs.Carries.{Carries, GivesAll, GivesFirst, KeepsFirst, held};
-ghost use Rattle.xmpp_carries.specs.Words.{AreItems, AreWhole, IsRest};
-ghost use Rattle.xmpp_framing.specs.States.{State};
+ghost use Rattle.xmpp_carries.specs.Words.{AreWhole, GivesOne, IsRest};
+ghost use Rattle.xmpp_framing.specs.Machine.{run};
+ghost use Rattle.xmpp_framing.specs.States.{State, turn};
 ghost use Rattle.xmpp_framing.specs.declared.items.Item.{Item};
 ghost use Rattle.xmpp_pipes.specs.Pipes.{Pipe, closed, cut_to, emptied, empty_pipe, entered, handed, is_end_due, with_end_told};
 
@@ -17,6 +18,13 @@ pub fn whole_items_enter()
         → p.ended ≡ false → AreWhole t bytes more u → Carries s part (entered bytes p) (items ++ more) u }
     ensures lost { (s : State) (part : List ℕ) (p : Pipe) (items : List Item) (t : State) (bytes : List ℕ) → Carries s part p items t → p.ended ≡ true
         → Carries s part (entered bytes p) items t }
+{}
+
+/// A law: bytes that give nothing may stand before those of an item, as an XML declaration does before a header; together
+/// they give that one item.
+pub fn an_item_may_have_a_declaration()
+    ensures { (s t u : State) (declaration bytes : List ℕ) (i : Item) → run (turn s []) declaration ≡ turn t [] → GivesOne t bytes i u
+        → GivesOne s (declaration ++ bytes) i u }
 {}
 
 /// A law: of the first bytes, which are handed over, the framer gives the first items, those of which the last byte is

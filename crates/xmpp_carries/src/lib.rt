@@ -6,5 +6,5 @@ mod laws;
 
 pub use laws::{
     a_cut_keeps_first_items, an_emptied_pipe_carries_nothing, an_ended_pipe_carries_the_same,
-    first_bytes_give_first_items, whole_items_enter,
+    an_item_may_have_a_declaration, first_bytes_give_first_items, whole_items_enter,
 };
