@@ -1,5 +1,5 @@
-mod Rests
-mod Splits
-mod Entering
-mod Handing
+pub mod Rests
+pub mod Splits
+pub mod Entering
+pub mod Handing
 mod Worked
