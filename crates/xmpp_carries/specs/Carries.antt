@@ -4,21 +4,22 @@ use Rattle.xmpp_framing.specs.Machine.{run}
 use Rattle.xmpp_framing.specs.States.{State, turn}
 use Rattle.xmpp_framing.specs.declared.items.Item.{Item}
 use Rattle.xmpp_pipes.specs.Pipes.{Pipe, cut_to, handed}
-use Rattle.xmpp_carries.specs.Words.{AreItems, IsRest}
+use Rattle.xmpp_carries.specs.Items.{AreItems, IsRest}
 
 -- the framer behind the bytes that it took since it last gave an item
 abbrev pub held : State → List ℕ → State
 held s part = (run (turn s []) part).state
 
--- A framer gave its last item in a state, and took a part since that gave nothing. The part and the bytes of the pipe are
--- these items, and where the pipe has ended perhaps the first bytes of one more. What enters next comes to the last state.
+-- A framer gave its last item in a state, and took a part since that gave nothing. The part and the bytes of the pipe
+-- are these items, and where the pipe has ended perhaps the first bytes of one more. What enters next comes to the last
+-- state.
 pub record Carries (s : State) (part : List ℕ) (p : Pipe) (items : List Item) (t : State) : Type 0 where
   pub no_fault : s.fault ≡ None
   pub none_given : (run (turn s []) part).items ≡ []
   pub are_items : AreItems p.ended s (part ++ p.bytes) items t
 
--- The first n bytes are handed to the framer. It gives some first items, whatever it gave before, and has no fault; what is
--- left in the pipe carries the others.
+-- The first n bytes are handed to the framer. It gives some first items, whatever it gave before, and has no fault;
+-- what is left in the pipe carries the others.
 pub record GivesFirst (s : State) (part : List ℕ) (p : Pipe) (items : List Item) (t : State) (n : ℕ) : Type 0 where
   pub first : List Item
   pub others : List Item

@@ -1,5 +1,5 @@
-//! From bytes to items: what the bytes of a pipe stand for at the framer that reads them, and what each operation on the
-//! pipe makes of it (RFC 6120, section 4).
+//! From bytes to items: what the bytes of a pipe stand for at the framer that reads them, and what each operation on
+//! the pipe makes of it (RFC 6120, section 4).
 #![tactic(auto)]
 
 mod laws;

@@ -1,4 +1,4 @@
-use Rattle.xmpp_carries.proofs.Handing.{cuts}
+use Rattle.xmpp_carries.proofs.PipeLaws.{cuts}
 use Rattle.xmpp_carries.proofs.laws.a_cut_keeps_first_items.Goals as goal
 
 pub returns : goal.returns

@@ -1,4 +1,4 @@
-use Rattle.xmpp_carries.proofs.Handing.{empties, part_is_rest}
+use Rattle.xmpp_carries.proofs.PipeLaws.{empties, part_is_rest}
 use Rattle.xmpp_carries.proofs.laws.an_emptied_pipe_carries_nothing.Goals as goal
 
 pub returns : goal.returns

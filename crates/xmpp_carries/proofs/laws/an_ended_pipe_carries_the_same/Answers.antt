@@ -1,4 +1,4 @@
-use Rattle.xmpp_carries.proofs.Handing.{closes, due_means_none, end_told, open_without_bytes, without_bytes}
+use Rattle.xmpp_carries.proofs.PipeLaws.{closes, due_means_none, end_told, open_without_bytes, without_bytes}
 use Rattle.xmpp_carries.proofs.laws.an_ended_pipe_carries_the_same.Goals as goal
 
 pub returns : goal.returns

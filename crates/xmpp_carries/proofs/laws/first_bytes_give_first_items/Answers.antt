@@ -1,4 +1,4 @@
-use Rattle.xmpp_carries.proofs.Handing.{gives_all, hands}
+use Rattle.xmpp_carries.proofs.PipeLaws.{gives_all, hands}
 use Rattle.xmpp_carries.proofs.laws.first_bytes_give_first_items.Goals as goal
 
 pub returns : goal.returns

@@ -1,4 +1,4 @@
-use Rattle.xmpp_carries.proofs.Handing.{enters, enters_not, fresh}
+use Rattle.xmpp_carries.proofs.PipeLaws.{enters, enters_not, fresh}
 use Rattle.xmpp_carries.proofs.laws.whole_items_enter.Goals as goal
 
 pub returns : goal.returns

@@ -11,10 +11,10 @@ use Rattle.xmpp_framing.specs.States.{State, Turn, turn}
 use Rattle.xmpp_framing.specs.declared.items.Item.{Item}
 use Rattle.xmpp_pipes.specs.Pipes.{Pipe, closed, emptied, empty_pipe, entered, handed, is_end_due, with_end_told}
 use Rattle.xmpp_carries.specs.Carries.{Carries, GivesAll, GivesFirst, KeepsFirst, held}
-use Rattle.xmpp_carries.specs.Words.{AreItems, AreWhole, IsRest, no_more}
-use Rattle.xmpp_carries.proofs.Entering.{NoItems, items_join, may_be_lost, no_items}
-use Rattle.xmpp_carries.proofs.Rests.{rest_gives_none, rest_no_fault}
-use Rattle.xmpp_carries.proofs.Splits.{split}
+use Rattle.xmpp_carries.specs.Items.{AreItems, AreWhole, IsRest, no_more}
+use Rattle.xmpp_carries.proofs.JoinedRuns.{NoItems, items_join, may_be_lost, no_items}
+use Rattle.xmpp_carries.proofs.RestRuns.{rest_gives_none, rest_no_fault}
+use Rattle.xmpp_carries.proofs.SplitRuns.{split}
 
 -- ---- what enters
 

@@ -9,8 +9,8 @@ use Rattle.xmpp_framing.proofs.Pieces.{run_append}
 use Rattle.xmpp_framing.specs.Machine.{run}
 use Rattle.xmpp_framing.specs.States.{State, Turn, turn}
 use Rattle.xmpp_framing.specs.declared.items.Item.{Item}
-use Rattle.xmpp_carries.specs.Words.{AreItems, GivesOne, IsRest, no_more, one_more}
-use Rattle.xmpp_carries.proofs.Rests.{as_rest, front_of, rest_of_rest}
+use Rattle.xmpp_carries.specs.Items.{AreItems, GivesOne, IsRest, no_more, one_more}
+use Rattle.xmpp_carries.proofs.RestRuns.{as_rest, front_of, rest_of_rest}
 
 pub record Split (lost : Bool) (s : State) (bytes : List ℕ) (items : List Item) (t : State) (n : ℕ) : Type 0 where
   pub first : List Item

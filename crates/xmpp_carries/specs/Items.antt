@@ -5,7 +5,8 @@ use Rattle.xmpp_framing.specs.States.{State, turn}
 use Rattle.xmpp_framing.specs.declared.items.Item.{Item}
 
 -- In a state of the framer these bytes give exactly this item, at the last of them, without a fault, and leave that
--- state. They may be the bytes of a declaration and of the header behind it: nothing is said of what is in hand between.
+-- state. They may be the bytes of a declaration and of the header behind it: nothing is said of what is in hand
+-- between.
 pub record GivesOne (s : State) (bytes : List ℕ) (i : Item) (behind : State) : Type 0 where
   pub run_is : run (turn s []) bytes ≡ turn behind (i ∷ [])
   pub none_before : (n : ℕ) → n < length bytes → (run (turn s []) (take n bytes)).items ≡ []

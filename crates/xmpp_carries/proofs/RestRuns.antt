@@ -11,7 +11,7 @@ use Rattle.xmpp_framing.specs.Machine.{run}
 use Rattle.xmpp_framing.specs.States.{State, Turn, turn}
 use Rattle.xmpp_framing.specs.declared.fault.Fault.{Fault}
 use Rattle.xmpp_framing.specs.declared.items.Item.{Item}
-use Rattle.xmpp_carries.specs.Words.{GivesOne, IsFront, IsRest}
+use Rattle.xmpp_carries.specs.Items.{GivesOne, IsFront, IsRest}
 
 -- a fault would stay
 no_fault_before : (t : Turn) (bs : List ℕ) → (run t bs).state.fault ≡ None → t.state.fault ≡ None

@@ -1,13 +1,16 @@
--- Bytes cut inside each kind of token, worked out beforehand: a header, a start tag, a text, a reference, an end tag.
-use Rattle.std.proofs.Common.{◌≡◌, ℕ, ◌<◌, true, false, arith, inr, length, take, List, [], ◌∷◌, ◌++◌, None, Ok, Some, codes, refl, sym, ap, subst, ◌∙◌}
+-- Bytes cut inside each kind of token, worked out beforehand: a declaration, a header, a start tag, a text, a
+-- reference, an end tag.
+use Rattle.std.proofs.Common.{◌≡◌, ℕ, ◌<◌, true, false, arith, inr, length, take, List, [], ◌∷◌, ◌++◌, None, Ok, Some, codes, length-append, refl, sym, ap, subst, ◌∙◌}
 use Rattle.std.specs.Str.{is_utf8, chars}
 use lib.Utf8.{encode}
 use Rattle.xmpp_tokens.specs.Characters.{are_characters}
+use Rattle.xmpp_tokens.specs.Declarations.{declaration_of, has_other, is_good, is_utf8_label}
 use Rattle.xmpp_tokens.specs.References.{reference_goes_on, referred}
 use Rattle.xmpp_tokens.specs.Spelling.{text_byte, value_byte}
 use Rattle.xmpp_tokens.specs.Tags.{end_at, inside_of, is_qualified, spelled_at, start_at, tag_of}
 use Rattle.xmpp_tokens.specs.Utf8.{utf8_next}
 use Rattle.xmpp_tokens.specs.Values.{value_of}
+use Rattle.xmpp_tokens.specs.declared.declarations.Declaration.TheVariants as good
 use Rattle.xmpp_names.specs.Declarations.{declared_prefix, may_declare}
 use Rattle.xmpp_names.specs.Ends.{end_of}
 use Rattle.xmpp_names.specs.Expansion.{attribute_ns, element_ns, expanded_name}
@@ -19,6 +22,7 @@ use Rattle.xmpp_names.specs.declared.limits.TagLimits.{TagLimits}
 use Rattle.xmpp_names.specs.declared.scopes.Binding.{Binding}
 use Rattle.xmpp_framing.proofs.Pieces.{run_append}
 use Rattle.xmpp_framing.specs.Machine.{goes_on, is_too_long, run, taken}
+use Rattle.xmpp_framing.specs.MarkupSteps.{in_declaration, in_question}
 use Rattle.xmpp_framing.specs.States.{State, Turn, from_start, turn}
 use Rattle.xmpp_framing.specs.TagSteps.{begun, closed, ends, header_tag, in_opening, in_tag, is_header, largest_limits, level, tag_closes, tag_inside, tag_limits, tag_outside}
 use Rattle.xmpp_framing.specs.TextSteps.{between, in_reference, in_text, inside, text_inside}
@@ -30,9 +34,9 @@ use Rattle.xmpp_framing.specs.declared.states.Phase.TheVariants as phase
 use Rattle.xmpp_trees.specs.Trees.{element, no_nodes, text}
 use Rattle.xmpp_pipes.specs.Pipes.{Pipe, cut_to, empty_pipe, entered}
 use Rattle.xmpp_carries.specs.Carries.{Carries}
-use Rattle.xmpp_carries.specs.Words.{GivesOne, no_more, one_more}
-use Rattle.xmpp_carries.proofs.Handing.{gives_all}
-use Rattle.xmpp_carries.proofs.Rests.{by_last_byte, front_of}
+use Rattle.xmpp_carries.specs.Items.{GivesOne, IsFront, no_more, one_more}
+use Rattle.xmpp_carries.proofs.PipeLaws.{gives_all}
+use Rattle.xmpp_carries.proofs.RestRuns.{by_last_byte, front_of, with_declaration}
 
 abbrev limits : Limits
 limits = record { bytes = 99; depth = 1; attributes = 2; namespace_bytes = 9 }
@@ -80,6 +84,38 @@ header_gives =
     by_last_byte first (codes "<s xmlns='a'") 62 (item.Header 0 header) headed
     (run_append (turn first []) (codes "<s xmlns='a'") (codes ">") ∙ ap (λ t. run t (codes ">")) header_cut ∙ header_ends)
     (ap (λ (t : Turn). t.items) header_cut) refl
+
+-- ---- a declaration before it
+
+abbrev in_declaration_bytes : State
+in_declaration_bytes = record first { places = record { at = 14; item_at = 0; token_at = 0; used = 14 }; lexical = record first.lexical { mode = mode.Declaration }; token = codes "<?xml version=" }
+
+-- cut in the declaration nothing is given
+declaration_cut : run (turn first []) (codes "<?xml version=") ≡ turn in_declaration_bytes []
+unfolding goes_on taken is_too_long utf8_next in_text between in_opening in_question in_declaration
+declaration_cut = refl
+
+abbrev declared : State
+declared = record first { places = record { at = 21; item_at = 0; token_at = 0; used = 0 }; lexical = record first.lexical { phase = phase.FirstDeclared } }
+
+declaration_is : declaration_of (codes "<?xml version='1.0'?>") ≡ good.Good
+unfolding declaration_of has_other is_good is_utf8_label spelled_at is_qualified are_characters is_utf8 chars encode
+declaration_is = refl
+
+declaration_last : run (turn in_declaration_bytes []) (codes "'1.0'?>") ≡ turn declared []
+unfolding goes_on taken is_too_long utf8_next in_declaration
+declaration_last = rw declaration_is refl
+
+declaration_gives_none : run (turn first []) (codes "<?xml version='1.0'?>") ≡ turn declared []
+declaration_gives_none = run_append (turn first []) (codes "<?xml version=") (codes "'1.0'?>") ∙ ap (λ t. run t (codes "'1.0'?>")) declaration_cut ∙ declaration_last
+
+-- whatever item the bytes behind it are, the declaration and these are that one item
+with_it : (bytes : List ℕ) (i : Item) (t : State) → GivesOne declared bytes i t → GivesOne first (codes "<?xml version='1.0'?>" ++ bytes) i t
+with_it bytes i t g = with_declaration first declared t (codes "<?xml version='1.0'?>") bytes i declaration_gives_none g
+
+-- so what is cut in the declaration is a front of that item
+in_the_declaration : (bytes : List ℕ) (i : Item) (t : State) → GivesOne declared bytes i t → IsFront first (codes "<?xml version=")
+in_the_declaration bytes i t g = front_of first (codes "<?xml version=") (codes "'1.0'?>" ++ bytes) i t (with_it bytes i t g) (omega (arith, length-append (codes "'1.0'?>") bytes))
 
 -- ---- an element
 

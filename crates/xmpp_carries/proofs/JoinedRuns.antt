@@ -5,8 +5,8 @@ use Rattle.xmpp_framing.proofs.Pieces.{run_append}
 use Rattle.xmpp_framing.specs.Machine.{run}
 use Rattle.xmpp_framing.specs.States.{State, Turn, turn}
 use Rattle.xmpp_framing.specs.declared.items.Item.{Item}
-use Rattle.xmpp_carries.specs.Words.{AreItems, AreWhole, GivesOne, IsRest, no_more, one_more}
-use Rattle.xmpp_carries.proofs.Rests.{as_rest}
+use Rattle.xmpp_carries.specs.Items.{AreItems, AreWhole, GivesOne, IsRest, no_more, one_more}
+use Rattle.xmpp_carries.proofs.RestRuns.{as_rest}
 
 pub items_join : (lost : Bool) (s : State) (a : List ℕ) (items : List Item) (t : State) (b : List ℕ) (more : List Item) (u : State) → AreWhole s a items t → AreItems lost t b more u
     → AreItems lost s (a ++ b) (items ++ more) u
