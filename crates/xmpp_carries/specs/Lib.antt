@@ -1,0 +1,4 @@
+-- machine: which bytes give which items
+pub mod Items
+-- law: what a pipe carries
+pub mod Carries
