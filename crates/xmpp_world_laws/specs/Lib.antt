@@ -1,0 +1,2 @@
+-- ---- worlds that follow one another
+pub mod Following
