@@ -1,0 +1,3 @@
+-- laws
+pub mod ReadLaws
+pub mod PutLaws
