@@ -164,10 +164,12 @@ def double_blank(draw, lines):
     return lines[:at] + [lines[at].replace(" ", "  ", 1) if " " in lines[at] else lines[at] + " "] + lines[at + 1:], at
 
 
-KINDS = {f"field {field} of {word}, {number}": changed(word, field, change) for number, (word, field, change) in enumerate(FIELDS)}
+KINDS = {f"field {field} of {word}, {number}": changed(word, field, change)
+         for number, (word, field, change) in enumerate(FIELDS)}
 KINDS |= {f"swap two of {word}": swapped(word) for word in ("take", "entry", "conn", "said", "refused", "page", "logged")}
 KINDS |= {f"drop {word}": repeated(word, 0) for word in ("take", "entry", "conn", "said", "refused", "page", "logged", "break")}
-KINDS |= {f"double {word}": repeated(word, 2) for word in ("take", "entry", "conn", "said", "refused", "page", "logged", "held", "break")}
+KINDS |= {f"double {word}": repeated(word, 2)
+          for word in ("take", "entry", "conn", "said", "refused", "page", "logged", "held", "break")}
 KINDS |= {"an entry with its count": entry_with_count, "a break alone": break_alone, "asked anew without a purge": asked_anew,
           "a page is complete": whole_page, "a page goes on": page_goes_on, "a logged one is held": logged_is_held,
           "no end": unended, "two blanks": double_blank}
@@ -179,16 +181,26 @@ def device_at(r, lines, at):
     return r.devices[len(places(lines[:at + 1], "device")) - 1]
 
 
+def is_seen(r, take, accounts):
+    """An archive or a log of these accounts still has the entry of the take."""
+    origin = f"{take.device}.{take.epoch}.{take.n}"
+    kept = [e.origin for a in r.accounts if a.name in accounts for e in a.entries]
+    return origin in kept or origin in [e.origin for d in r.devices if d.account in accounts for e in d.logged]
+
+
 def lawful_take(kind, s, r, lines, at):
-    take = r.takes[at - 1]
+    take, owner = r.takes[at - 1], dict(s.devices)
+    both = {owner[take.device], take.account}
     if kind == "swap two of take":
-        behind, owner = r.takes[at], dict(s.devices)
-        apart = not {owner[take.device], take.account} & {owner[behind.device], behind.account}
-        return "no archive has both" if s.wire and apart and take.device != behind.device else None
-    # the moment, with which the entries of version 2 have to agree
-    kept = {(e.origin, e.sender) for a in r.accounts for e in a.entries}
-    gone = f"{take.device}.{take.epoch}.{take.n}" not in {origin for origin, _ in kept}
-    return "its entries were purged" if s.wire and kind.startswith("field 5 of take") and gone else None
+        behind = r.takes[at]
+        both &= {owner[behind.device], behind.account}
+        if not s.wire or take.device == behind.device or s.keep and take.moment != behind.moment:
+            return None
+        if not both:
+            return "no archive has both"
+        return None if is_seen(r, take, both) or is_seen(r, behind, both) else "both were purged, and no log has them"
+    moment = kind.startswith("field 5 of take") and s.wire
+    return "it was purged, and no log has it" if moment and not is_seen(r, take, both) else None
 
 
 def lawful_said(kind, s, r, lines, at):
@@ -218,7 +230,7 @@ def lawful_device(kind, s, r, lines, at):
         return "no law says that a device is settled" if s.wire else None
     if kind.startswith("field 4"):
         newest = [c for c in r.conns if c.device == device.name][-1:]
-        still = newest and newest[0].end == "open" and newest[0].upput == newest[0].uptaken and newest[0].downput == newest[0].downtaken
+        still = [c.end == "open" and c.upput == c.uptaken and c.downput == c.downtaken for c in newest] == [True]
         fits = still and not device.underway and all(m.state == "acknowledged" for m in present)
         return "nothing is outstanding but part of an item" if fits else None
     return None
@@ -231,7 +243,8 @@ def lawful_refused(kind, s, r, lines, at):
     behind = asked.get(number + 1)
     if text is None and kind == "drop refused":
         return "a catch-up may come to no page"
-    if kind.startswith("field 1") and behind and (text is None) == (behind[1] is None) and (text is None or (what, text) == behind):
+    same = behind and (text is None and behind[1] is None or (what, text) == behind)
+    if kind.startswith("field 1") and same:
         return "the next line asks the same"
     return None
 

@@ -73,8 +73,8 @@ def check_takes(s, r):
         own = devices[t.device].account
         t.line = m.line
         for account in {own, t.account}:
-            entry = (f"{len(r.history[account]) + 1:016x}", f"{own}@chat.example/{t.device}", f"{t.account}@chat.example", name, m.text)
-            r.history[account].append((t, entry))
+            sender, to = f"{own}@chat.example/{t.device}", f"{t.account}@chat.example"
+            r.history[account].append((t, (f"{len(r.history[account]) + 1:016x}", sender, to, name, m.text)))
 
 
 def plain(e):
@@ -110,7 +110,8 @@ def check_order(s, r, d):
     had, gaps = set(taken), set()
     for m in d.said:
         m.taken = (m.epoch, m.n) in had
-        need(not m.taken or m.epoch not in gaps, "once and in order", f"{d.name} {m.epoch} {m.n} was taken without an earlier one")
+        skips = m.taken and m.epoch in gaps
+        need(not skips, "once and in order", f"{d.name} {m.epoch} {m.n} was taken without an earlier one")
         if not m.taken and m.to in s.accounts:
             gaps.add(m.epoch)
 
