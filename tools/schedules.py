@@ -203,9 +203,8 @@ def spoilt(draw, lines):
     return lines[:at] + [" ".join(words)] + lines[at + 1:]
 
 
-def schedule(number):
-    """The bytes of the schedule of that number: one in eight has something in it that may not be."""
-    draw = random.Random(number)
+def good_lines(draw):
+    """The lines of a schedule without anything that may not be."""
     made = Schedule(draw)
     if draw.random() < 0.85:
         for device in made.devices:
@@ -219,7 +218,26 @@ def schedule(number):
         for device in made.devices:
             made.dial(device)
         made.add("run 12", *[f"catchup {device} 100" for device in made.devices], "run 100")
-    lines = spoilt(draw, made.lines) if draw.random() < 0.125 else made.lines
+    return made.lines
+
+
+def good_schedule(number):
+    """The bytes of the schedule of that number, with nothing in it that may not be."""
+    return ("\n".join(good_lines(random.Random(number))) + "\n").encode()
+
+
+def direct_schedule(number):
+    """The same without its lines of connections."""
+    lines = good_lines(random.Random(number))
+    both = [line for line in lines[1:] if line.split(" ")[0] in ("account", "device", "say", "private", "catchup", "tick")]
+    return ("\n".join([lines[0].replace("wire", "direct"), *both]) + "\n").encode()
+
+
+def schedule(number):
+    """The bytes of the schedule of that number: one in eight has something in it that may not be."""
+    draw = random.Random(number)
+    good = good_lines(draw)
+    lines = spoilt(draw, good) if draw.random() < 0.125 else good
     whole = ("\n".join(lines) + "\n").encode()
     if draw.random() < 0.02:
         return draw.choice([whole[:-1], whole.replace(b"say", b"s\xffy", 1), whole.replace(b"\n", b"\r\n", 1)])
