@@ -1,4 +1,8 @@
 """The five laws of docs/claims.md, as far as a schedule and the report of its run decide them."""
+import bisect
+import itertools
+from types import SimpleNamespace
+
 from reports import Wrong
 
 LARGEST = 4_294_967_295
@@ -163,28 +167,26 @@ def check_log(s, r, d):
 
 # Law 5
 
-def window(s, r, d, k):
-    """What the account's archive had given, at least when page k was asked for and at most when it had been taken over, and
-    the MAX of the catch-ups that page k can be of. A catch-up has at most one complete page, and it is its last one."""
-    complete = [page.total is not None for page in d.page]
-    before, behind = sum(complete[:k]), sum(complete[k:])
+def window(s, d, history, before, behind):
+    """Of a page with so many complete ones before it, and so many from it on: what the account's archive had given, at least
+    when the page was asked for and at most when it had been taken over, and the MAX of the catch-ups that it can be of. A
+    catch-up has at most one complete page, and it is its last one."""
     ended = len(d.catchups) - len(d.underway)
     first, last = before, (ended - behind if behind else len(d.catchups) - 1)
     need(first <= last < len(d.catchups), "pages", f"{d.name} has more pages than it can have asked for")
     line = d.catchups[first][0]
     until = d.catchups[last + 1][0] if last + 1 < len(d.catchups) else s.lines + 1
-    history = [take for take, _ in r.history[d.account]]
     if s.wire:
-        least = sum(take.moment < s.clock[line] for take in history)
-        clear = [n for n, take in enumerate(history) if take.line > until or take.moment > s.clock[until]]
-        most = clear[0] if clear else len(history)
+        least = bisect.bisect_left(history.moments, s.clock[line])
+        most = min(bisect.bisect_right(history.moments, s.clock[until]), bisect.bisect_right(history.lines, until))
     else:
-        least = most = sum(take.line < line for take in history)
+        least = most = bisect.bisect_left(history.lines, line)
     return least, most, max(most_asked for _, most_asked in d.catchups[first:last + 1])
 
 
-def check_page(s, d, page, log, lines, least, most):
-    """A page behind what was logged before: its tile, and what archives between `least` and `most` can have kept."""
+def check_page(s, d, page, at, least, most):
+    """A page behind so many logged lines: its tile, and what archives between `least` and `most` can have kept."""
+    log, lines = d.logged[max(0, at - 1):at], d.logged[at:at + page.count]
     law, keep, name = "pages", s.keep or LARGEST, f"the page of {d.name} after {page.after} with {page.count}"
     before = number_of(log[-1].id) if log else 0
     again = page.after == "-" and bool(log)
@@ -204,20 +206,24 @@ def check_page(s, d, page, log, lines, least, most):
     if page.total is not None:
         need(least <= last, law, f"{name} is complete with {last}, where {least} were taken before")
         need(page.total == min(last, keep), law, f"{name} says TOTAL {page.total}, and its last entry is {last}")
-        newest = [number_of(e.id) for e in (log + lines)[-page.total:]] if page.total else []
+        end = at + page.count
+        newest = [number_of(e.id) for e in d.logged[max(0, end - page.total):end]]
         need(newest == list(range(last - page.total + 1, last + 1)), law, f"{name} leaves out what was kept")
 
 
 def check_pages(s, r, d):
-    at = 0
-    for k, page in enumerate(d.page):
-        least, most, asked = window(s, r, d, k)
+    takes = [take for take, _ in r.history[d.account]]
+    # what was sent from the first take up to each one, at the latest
+    lines = list(itertools.accumulate((take.line for take in takes), max))
+    history = SimpleNamespace(moments=[take.moment for take in takes], lines=lines)
+    at, before, complete = 0, 0, sum(page.total is not None for page in d.page)
+    for page in d.page:
+        least, most, asked = window(s, d, history, before, complete - before)
         need(page.count <= asked, "pages", f"{d.name} has a page of {page.count}, and asked for {asked}")
-        check_page(s, d, page, d.logged[:at], d.logged[at:at + page.count], least, most)
-        at += page.count
+        check_page(s, d, page, at, least, most)
+        at, before = at + page.count, before + (page.total is not None)
     need(at == len(d.logged), "pages", f"the pages of {d.name} have {at} of {len(d.logged)} entries")
     need(not d.underway or d.catchups, "pages", f"{d.name} has a page under way that it didn't ask for")
-    complete = sum(page.total is not None for page in d.page)
     need(complete <= len(d.catchups) - len(d.underway), "pages", f"{d.name} has more complete pages than catch-ups")
     need(s.wire or complete == len(d.catchups), "pages", f"{d.name} has {complete} complete pages of {len(d.catchups)} catch-ups")
 
