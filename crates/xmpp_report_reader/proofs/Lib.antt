@@ -1,0 +1,10 @@
+pub mod Added
+pub mod Again
+pub mod Answered
+pub mod FieldWords
+pub mod Found
+pub mod Headings
+pub mod Joined
+pub mod Lines
+pub mod LinesFound
+pub mod Parts
