@@ -9,11 +9,11 @@ ghost use Rattle.xmpp_schedule.specs.declared.fault.LineWhy.TheVariants.{Header}
 use crate::accounts_file::{AccountsFile, Registration, Registrations};
 use crate::fault::{InputFault, LineFault, wants};
 use crate::fields::{is_password, last_field, next_field, number_within};
-use crate::lines::{fields_behind, first_line};
+use crate::lines::fields_behind;
 use crate::names::{is_account_name, is_domain};
 use std::alloc::Global;
 use xmpp_edge::{NameIndex, Text};
-use xmpp_schedule::{LineWhy, MOST_KEPT, Version};
+use xmpp_schedule::{LineWhy, MOST_KEPT, Version, first_line};
 
 /// What follows an accounts file.
 #[derive(Clone, Copy, PartialEq, Eq)]

@@ -10,12 +10,10 @@ ghost use Rattle.xmpp_schedule.specs.declared.fault.LineWhy.TheVariants.{Header}
 
 use crate::event::{Event, Events};
 use crate::fault::{InputFault, LineFault, wants};
-use crate::fields::{
-    bytes_in, connection_in, cut_word, entropy_in, last_field, moment_in, next_field,
-};
-use crate::lines::{first_line, spelled};
+use crate::fields::{bytes_in, connection_in, entropy_in, last_field, moment_in, next_field};
+use crate::lines::spelled;
 use std::alloc::Global;
-use xmpp_schedule::{LineWhy, Version};
+use xmpp_schedule::{LineWhy, Version, cut_word, first_line};
 
 fn journal_header(version: Version) -> &'static [u8]
     ensures { result.now ≡ journal_header version }

@@ -9,6 +9,8 @@ use xmpp_report::{
 };
 use xmpp_schedule::{LineFault, LineWhy};
 
+/// Whether no message that a device holds was read of it yet. Their lines come last, so until then an entry that it logged,
+/// or a break, may follow.
 pub fn no_held(device: &DeviceLine) -> bool
     ensures { result ≡ no_held device.now }
 {

@@ -3,7 +3,7 @@ ghost use Rattle.std.specs.Prelude.{◌≡◌, ◌==◌, ◌&&◌, ◌||◌, not
 ghost use Rattle.std.specs.List.{list_all};
 ghost use Rattle.xmpp_schedule.specs.Gives.{Gives, left, cut_seen};
 ghost use Rattle.xmpp_schedule.specs.Grammar.{is_name, is_text, is_lower, is_digit, is_text_character};
-ghost use Rattle.xmpp_schedule.specs.Reading.{at_most, cut_of, grown, is_number, not_empty, next_field, last_field, rest_field, number_within, value_of};
+ghost use Rattle.xmpp_schedule.specs.Reading.{cut_of, not_empty, next_field, last_field, rest_field};
 
 use crate::fault::{LineFault, LineWhy, wants};
 
@@ -81,7 +81,7 @@ fn is_lower(c: u8) -> bool
     b'a' <= c && c <= b'z'
 }
 
-fn is_digit(c: u8) -> bool
+pub fn is_digit(c: u8) -> bool
     ensures { result ≡ is_digit c }
 {
     b'0' <= c && c <= b'9'
@@ -120,60 +120,4 @@ fn are_text_characters(text: &str) -> bool
     ensures { result ≡ list_all is_text_character (chars text.now) }
 {
     text.chars().all(is_text_character)
-}
-
-fn are_digits(bytes: &[u8]) -> bool
-    ensures { result ≡ list_all is_digit bytes.now }
-{
-    bytes.iter().all(|c| is_digit(*c))
-}
-
-fn is_number(digits: &[u8]) -> bool
-    ensures { result ≡ is_number digits.now }
-{
-    match digits {
-        [] => false,
-        [digit] => is_digit(*digit),
-        [first, rest @ ..] => is_digit(*first) && *first != b'0' && are_digits(rest),
-    }
-}
-
-/// A number with a digit more, where it is no more than a bound.
-fn grown_within(most: u32, value: u32, digit: u8) -> Option<u32>
-    ensures { result ≡ at_most most (grown value digit) }
-{
-    let next = value
-        .checked_mul(10)?
-        .checked_add(u32::from(digit.saturating_sub(48)))?;
-    if next <= most { Some(next) } else { None }
-}
-
-/// The value of digits, where it is no more than a bound.
-fn value_within(most: u32, digits: &[u8]) -> Option<u32>
-    ensures { result ≡ at_most most (value_of digits.now) }
-{
-    let mut value: u32 = 0;
-    for i in 0..digits.len() {
-        match grown_within(most, value, digits[i]) {
-            Some(next) => value = next,
-            None => return None,
-        }
-    }
-    Some(value)
-}
-
-/// A decimal number within bounds, without leading zeros. `Number` comes for any other field.
-#[tactic(auto, using(crate::proofs::Numbers::judged_ok, crate::proofs::Numbers::judged_low, crate::proofs::Numbers::judged_high))]
-pub fn number_within(least: u32, most: u32, field: &str) -> Result<u32, LineFault>
-    ensures { Gives (λ n. n) result (number_within least most field.now) }
-{
-    let digits = field.as_bytes();
-    wants(is_number(digits), LineWhy::Number)?;
-    match value_within(most, digits) {
-        Some(value) => {
-            wants(least <= value, LineWhy::Number)?;
-            Ok(value)
-        }
-        None => Err(LineFault::Reason(LineWhy::Number)),
-    }
 }

@@ -3,8 +3,9 @@ ghost use Rattle.std.specs.Prelude.{◌≡◌};
 ghost use Rattle.xmpp_schedule.specs.Gives.{Gives, left};
 ghost use Rattle.xmpp_schedule.specs.Reading.{read_heading, read_mode, read_one, read_two, read_version};
 
+use crate::decimals::number_within;
 use crate::fault::{LineFault, LineWhy, wants};
-use crate::fields::{last_field, next_field, number_within};
+use crate::fields::{last_field, next_field};
 use crate::lines::spelled;
 use crate::schedule::{MOST_KEPT, Version};
 

@@ -2,6 +2,7 @@
 //! of lines too.
 #![tactic(auto)]
 
+mod decimals;
 mod fault;
 mod fields;
 mod heading;
@@ -12,8 +13,9 @@ mod schedule;
 mod steps;
 mod wire_steps;
 
+pub use decimals::{number_within, read_number};
 pub use fault::{LineFault, LineWhy, ScheduleFault, wants};
-pub use fields::{cut_word, is_name, is_text, last_field, next_field, number_within, rest_field};
+pub use fields::{cut_word, is_name, is_text, last_field, next_field, rest_field};
 pub use lines::{first_line, spelled};
 pub use reading::{read_schedule, reading_is_the_grammar};
 pub use schedule::{

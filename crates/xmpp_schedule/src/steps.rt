@@ -6,10 +6,9 @@ ghost use Rattle.xmpp_schedule.specs.Grammar.{Declared, declared_by, nothing_dec
 ghost use Rattle.xmpp_schedule.specs.Reading.{wants, cut_of, read_account, read_device, read_message, read_say, read_private, read_catchup, read_tick, read_words, read_line};
 ghost use Rattle.xmpp_schedule.specs.declared.fault.LineWhy.TheVariants.{Ending};
 
+use crate::decimals::number_within;
 use crate::fault::{LineFault, LineWhy, wants};
-use crate::fields::{
-    cut_word, is_name, is_text, last_field, next_field, number_within, rest_field,
-};
+use crate::fields::{cut_word, is_name, is_text, last_field, next_field, rest_field};
 use crate::lines::spelled;
 use crate::names::DeclaredNames;
 use crate::schedule::{MOST_TICK, Step};

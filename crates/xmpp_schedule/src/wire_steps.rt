@@ -6,8 +6,9 @@ ghost use Rattle.xmpp_schedule.specs.WireGrammar.{above_by, nothing_above};
 ghost use Rattle.xmpp_schedule.specs.WireReading.{conn_of, count_of, fit_with, times_of, read_device_name, read_dial, read_forget, read_close, read_moved, read_up, read_down, read_cut, read_pass, read_run, read_common, read_moves, read_wire_words, read_wire_line};
 ghost use Rattle.xmpp_schedule.specs.declared.fault.LineWhy.TheVariants.{Many};
 
+use crate::decimals::number_within;
 use crate::fault::{LineFault, LineWhy, wants};
-use crate::fields::{cut_word, last_field, next_field, number_within};
+use crate::fields::{cut_word, last_field, next_field};
 use crate::lines::spelled;
 use crate::schedule::{Count, MOST_DIALS, MOST_NUMBER, MOST_TIMES, MOST_TIMES_TOGETHER, WireStep};
 use crate::steps::{NamesAbove, read_words};

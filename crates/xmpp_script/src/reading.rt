@@ -8,11 +8,10 @@ ghost use Rattle.xmpp_script.specs.Scripts.{Says, ScriptView};
 ghost use Rattle.xmpp_script.specs.declared.fault.ScriptFault.TheVariants.{NoMemory as WantOfMemory};
 
 use crate::fault::{LineFault, ScriptFault, wants};
-use crate::lines::first_line;
 use crate::script::{Script, Steps, User};
 use crate::steps::{read_step, read_user};
 use std::alloc::Global;
-use xmpp_schedule::LineWhy;
+use xmpp_schedule::{LineWhy, first_line};
 
 /// What follows the first line of a script.
 #[tactic(auto, unfolding(crate::specs::Reading::read_first))]

@@ -5,14 +5,14 @@ ghost use Rattle.xmpp_script.specs.Reading.{read_catch_up, read_say, read_step, 
 
 use crate::fault::{LineFault, wants};
 use crate::fields::{
-    address_in, cut_word, is_account, is_password, is_resource, is_text, last_field, next_field,
-    number_within, rest_field,
+    address_in, is_account, is_password, is_resource, last_field, next_field, number_within,
+    rest_field,
 };
 use crate::lines::{fields_behind, spelled};
 use crate::script::{Step, User};
 use std::alloc::Global;
 use xmpp_edge::Text;
-use xmpp_schedule::LineWhy;
+use xmpp_schedule::{LineWhy, cut_word, is_text};
 
 /// Who logs in.
 #[tactic(auto, unfolding(crate::specs::Reading::read_user))]
