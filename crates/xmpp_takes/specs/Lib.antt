@@ -1,0 +1,4 @@
+-- ---- messages that were taken, and what archives get
+pub mod Taken
+-- ---- sessions
+pub mod Numbers

@@ -1,0 +1,37 @@
+//! The laws.
+ghost use Rattle.std.specs.Prelude.{◌≡◌, ℕ, List, Option, IfSome};
+ghost use Rattle.xmpp_desk.specs.Moments.{at_moment, gone_at, with_fresh};
+ghost use Rattle.xmpp_desk.specs.State.{Hall, Out, Step};
+ghost use Rattle.xmpp_framing.specs.declared.items.Item.{Item};
+ghost use Rattle.xmpp_login.specs.declared.account.Account.{Account};
+ghost use Rattle.xmpp_server.specs.Configs.{at_start};
+ghost use Rattle.xmpp_server.specs.Events.{Whole, after_bytes, after_connect, after_gone, begun};
+ghost use Rattle.xmpp_server.specs.Table.{after_item, after_items};
+ghost use Rattle.xmpp_takes.specs.Numbers.{HaveNumbers};
+ghost use Rattle.xmpp_takes.specs.Taken.{HasTaken, IsTakenFrom, Taken, at_most_one};
+ghost use Rattle.xmpp_writer.specs.Items.{ItemOut};
+
+/// A law: the archives get the entries of the messages that the server tells of, and are else as they were. An entry goes
+/// to the archive of its sender's account and to that of the account that the message is to, once where these are one, and
+/// has the addresses, the moment and the origin id that are told of it. So what is told and what is archived is the same,
+/// told twice, and the two archives of one message have one entry, but for its number.
+///
+/// An item takes one message or none: the message that it is, of the session on its connection. Items, and the bytes of an
+/// event, take messages one after another. No other event takes one.
+pub fn archives_get_what_is_told<A>()
+    ensures item { (say : ItemOut → A) (k : ℕ) (i : Item) (s : Step A) → (taken : Option Taken) × HasTaken (at_most_one taken) s (after_item say k i s) × IfSome taken (IsTakenFrom k i s.hall) }
+    ensures items { (say : ItemOut → A) (k : ℕ) (items : List Item) (s : Step A) → (takes : List Taken) × HasTaken takes s (after_items say k items s) }
+    ensures bytes { (say : ItemOut → A) (k : ℕ) (piece : List ℕ) (now : ℕ) (w : Whole A) (outs : List (Out A)) → (takes : List Taken) × HasTaken takes (begun now w.hall outs) (after_bytes say k piece now w outs) }
+    ensures connect { (k : ℕ) (entropy : List ℕ) (now : ℕ) (w : Whole A) → (after_connect k entropy now w).hall.archives ≡ w.hall.archives }
+    ensures gone { (k now : ℕ) (w : Whole A) → (after_gone k now w).hall.archives ≡ w.hall.archives }
+    ensures moment { (now : ℕ) (h : Hall A) → (at_moment now h).archives ≡ h.archives }
+{}
+
+/// A law: sessions have numbers of their own. They rise along the sessions and are below the next one: so it is at the
+/// start, and stays so at each event. (Items keep them too: `HasTaken`.)
+pub fn sessions_keep_their_numbers<A>()
+    ensures start { (domain : List ℕ) (accounts : List Account) (keep : ℕ) → HaveNumbers (at_start {A = A} domain accounts keep).hall }
+    ensures connect { (k : ℕ) (entropy : List ℕ) (now : ℕ) (w : Whole A) → HaveNumbers w.hall → HaveNumbers (after_connect k entropy now w).hall }
+    ensures gone { (k now : ℕ) (w : Whole A) → HaveNumbers w.hall → HaveNumbers (after_gone k now w).hall }
+    ensures moment { (now : ℕ) (h : Hall A) → HaveNumbers h → HaveNumbers (at_moment now h) }
+{}

@@ -1,0 +1,154 @@
+-- The report of such a world: its archives are those of its takes.
+use Rattle.std.proofs.Common.{◌≡◌, ◌≤◌, ◌<◌, ℕ, suc, zero-add, ◌+◌, Bool, true, false, not, cond, List, [], ◌∷◌, ◌++◌, length, Option, Some, None, map, refl, sym, ap, subst, ◌∙◌, arith}
+use Rattle.std.proofs.lemmas.Bool.{and_from}
+use Rattle.std.proofs.lemmas.List.Folds.{list_all-append}
+use Rattle.std.proofs.lemmas.Option.{none-some, same_Some, slice_get-map}
+use Rattle.std.specs.Prelude.{IfSome}
+use Rattle.std.specs.List.{AllByRecursion, after_first, before_first, filter, list_all, slice_get}
+use Rattle.std.specs.Option.{option_and_then, option_map, unwrap_or}
+use Rattle.std.specs.Str.{bytes_eq}
+use Rattle.xmpp_archive.specs.Entries.{EntryView, newest}
+use Rattle.xmpp_desk.specs.State.{Hall, Kept, archive_at, bare_address}
+use Rattle.xmpp_devices.specs.Starting.{account_at_start, accounts_at_start}
+use Rattle.xmpp_edge.proofs.NamePlaces.{stands_there}
+use Rattle.xmpp_edge.specs.Names.{place_of}
+use Rattle.xmpp_jid.specs.Cuts.{domain_of, is_at, is_slash, local_of, resource_of}
+use Rattle.xmpp_login.specs.Accounts.{bare_text, names_of}
+use Rattle.xmpp_login.specs.declared.account.Account.{Account}
+use Rattle.xmpp_report.proofs.TakenArchives.{length-numbered_from}
+use Rattle.xmpp_report.specs.Addresses as report
+use Rattle.xmpp_report.specs.Addresses.{domain}
+use Rattle.xmpp_report.specs.LawfulRuns.{IsNewestOf}
+use Rattle.xmpp_report.specs.Lines.{entry_line}
+use Rattle.xmpp_report.specs.Reports.{AccountView}
+use Rattle.xmpp_report.specs.Takes.{numbered_from}
+use Rattle.xmpp_route.specs.Destinations.{RemoteDomain, account_in, at_user, destination_of}
+use Rattle.xmpp_schedule.proofs.Lists.{map-map}
+use Rattle.xmpp_schedule.specs.declared.schedule.Version.{Version}
+use Rattle.xmpp_server.specs.Configs.{empty_kept, hall_at_start}
+use Rattle.xmpp_takes.specs.Taken as server
+use Rattle.xmpp_takes.specs.Taken.{IsFromSender, IsTo, account_of, all_appended, entries_for}
+use Rattle.xmpp_world.specs.Declaring.{AreAccounts, AreNames}
+use Rattle.xmpp_world.specs.WorldReports.{account_line, account_lines, account_where, report_of}
+use Rattle.xmpp_world.specs.Worlds.{World}
+use Rattle.xmpp_world_takes.proofs.AccountNames.{entries_same, name_at, name_there, named, plain_at, with_names}
+use Rattle.xmpp_world_takes.proofs.AddressParts.{after_first-joined, before_first-joined, local_is}
+use Rattle.xmpp_world_takes.proofs.AppendedEntries.{all_kept}
+use Rattle.xmpp_world_takes.proofs.Booked.{IsBooked}
+use Rattle.xmpp_world_takes.specs.ReportTakes.{HasArchivesOfTakes, IsOfLine, Taken, concerns, history_of, line_of}
+
+-- the server of a schedule with these accounts, before the first move
+abbrev pub first_hall : List (List ℕ) → ℕ → Hall (List ℕ)
+first_hall names keep = hall_at_start domain (accounts_at_start names) keep
+
+-- ---- addresses
+
+bare_is : (names : List (List ℕ)) (keep place : ℕ) → bare_address place (first_hall names keep) ≡ report.bare_address (name_at names place)
+bare_is names keep place = ap (λ name. bare_text name domain) (name_there names place)
+
+no_slash : (name : List ℕ) → list_all (λ b. not (is_slash b)) name ≡ true → list_all (λ b. not (is_slash b)) (report.bare_address name) ≡ true
+no_slash name plain = list_all-append (λ b. not (is_slash b)) name (64 ∷ domain) ∙ and_from (list_all (λ b. not (is_slash b)) name) (list_all (λ b. not (is_slash b)) (64 ∷ domain)) plain refl
+
+from_is : (names : List (List ℕ)) (keep : ℕ) (t : server.Taken) → AreNames names → IsFromSender (first_hall names keep) t
+    → t.entry.from ≡ report.full_address (name_at names t.sender) (after_first is_slash t.entry.from)
+from_is names keep t are is =
+    let sender = name_at names t.sender in
+    let whole : t.entry.from ≡ report.full_address sender is.0 = is.1 ∙ ap (λ bare. bare ++ 47 ∷ is.0) (bare_is names keep t.sender) in
+    let device : after_first is_slash t.entry.from ≡ is.0 =
+    ap (after_first is_slash) whole ∙ after_first-joined is_slash (report.bare_address sender) 47 is.0 (no_slash sender (plain_at names t.sender are).slash) refl in
+    whole ∙ ap (report.full_address sender) (sym device)
+
+names_same : (names : List (List ℕ)) → names_of (accounts_at_start names) ≡ names
+names_same [] = refl
+names_same (name ∷ names) = ap (λ ns. name ∷ ns) (names_same names)
+
+name_found : (names : List (List ℕ)) (name : List ℕ) (place : ℕ) → place_of name names ≡ Some place → name_at names place ≡ name
+name_found names name place is =
+    let there : IfSome (Some place) (λ i. (i < length names) × (slice_get names i ≡ Some name)) =
+    subst (λ (o : Option ℕ). IfSome o (λ i. (i < length names) × (slice_get names i ≡ Some name))) is (stands_there name names) in
+    ap (λ (o : Option (List ℕ)). unwrap_or o []) there.1
+
+user_is : (o : Option ℕ) (resource : Option (List ℕ)) (account : ℕ) → account_of (at_user o resource) ≡ Some account → o ≡ Some account
+user_is None resource account is = absurd (none-some account is)
+user_is (Some place) None account is = is
+user_is (Some place) (Some resource) account is = is
+
+local_named : (names : List (List ℕ)) (to : List ℕ) (o : Option (List ℕ)) (account : ℕ) → local_of to ≡ o → option_and_then (λ name. place_of name (names_of (accounts_at_start names))) o ≡ Some account → before_first is_at to ≡ name_at names account
+local_named names to None account local is = absurd (none-some account is)
+local_named names to (Some name) account local is =
+    local_is to name local ∙ sym (name_found names name account (subst (λ ns. place_of name ns ≡ Some account) (names_same names) is))
+
+here_named : (names : List (List ℕ)) (to : List ℕ) (b : Bool) (account : ℕ) → account_of (cond b (at_user (account_in to (accounts_at_start names)) (resource_of to)) RemoteDomain) ≡ Some account → before_first is_at to ≡ name_at names account
+here_named names to true account is = local_named names to (local_of to) account refl (user_is (account_in to (accounts_at_start names)) (resource_of to) account is)
+here_named names to false account is = absurd (none-some account is)
+
+given_named : (names : List (List ℕ)) (keep : ℕ) (t : server.Taken) (given : Option (List ℕ)) → AreNames names → t.entry.to ≡ unwrap_or given (bare_address t.sender (first_hall names keep))
+    → account_of (destination_of domain (accounts_at_start names) t.sender given) ≡ Some t.addressee → before_first is_at t.entry.to ≡ name_at names t.addressee
+given_named names keep t None are to names_it =
+    let sender = name_at names t.sender in
+    ap (before_first is_at) (to ∙ bare_is names keep t.sender) ∙ before_first-joined is_at sender 64 domain (plain_at names t.sender are).at refl
+    ∙ ap (name_at names) (same_Some t.sender t.addressee names_it)
+given_named names keep t (Some address) are to names_it =
+    ap (before_first is_at) to ∙ here_named names address (bytes_eq (domain_of address) domain) t.addressee names_it
+
+of_line : (version : Version) (names : List (List ℕ)) (keep : ℕ) (t : server.Taken) → AreNames names → IsTo (first_hall names keep) t → IsFromSender (first_hall names keep) t
+    → IsOfLine (line_of version (with_names names t)) (with_names names t)
+of_line version names keep t are to from = record { from = from_is names keep t are from; account = given_named names keep t to.given are to.to to.addressee }
+
+all_of_lines : (version : Version) (names : List (List ℕ)) (keep : ℕ) (takes : List server.Taken) → AreNames names → AllByRecursion (IsTo (first_hall names keep)) takes → AllByRecursion (IsFromSender (first_hall names keep)) takes
+    → AllByRecursion (λ (t : Taken). IsOfLine (line_of version t) t) (map (with_names names) takes)
+all_of_lines version names keep [] are to from = tt
+all_of_lines version names keep (t ∷ takes) are to from = (of_line version names keep t are to.0 from.0, all_of_lines version names keep takes are to.1 from.1)
+
+-- ---- archives
+
+archive_first : (names : List (List ℕ)) (keep place : ℕ) (name : List ℕ) → slice_get names place ≡ Some name → archive_at place (first_hall names keep) ≡ Some (empty_kept domain keep name)
+archive_first names keep place name is =
+    slice_get-map (λ (a : Account). empty_kept domain keep a.name) (accounts_at_start names) place
+    ∙ ap (option_map (λ (a : Account). empty_kept domain keep a.name)) (slice_get-map account_at_start names place ∙ ap (option_map account_at_start) is)
+
+is_newest : (keep : ℕ) (name : List ℕ) (es : List EntryView) (takes : List Taken) → es ≡ map (λ (t : Taken). t.entry) (filter (concerns name) takes)
+    → IsNewestOf keep (history_of name takes) (account_line name (all_appended es (empty_kept domain keep name)))
+is_newest keep name es takes same =
+    let none : length (empty_kept domain keep name).entries ≤ keep = omega arith in
+    let kept = all_kept es (empty_kept domain keep name) none in
+    let history : numbered_from 1 es ≡ history_of name takes = ap (numbered_from 1) same in
+    record {
+      entries = ap (λ (k : Kept). map entry_line k.entries) kept ∙ ap (λ (h : List EntryView). map entry_line (newest keep h)) history;
+      last = ap (λ (k : Kept). k.last) kept ∙ zero-add (length es) ∙ sym (length-numbered_from 1 es) ∙ ap length history;
+    }
+
+where_kept : (P : AccountView → Type 0) (name : List ℕ) (o : Option Kept) (kept : Kept) (more : List AccountView) → o ≡ Some kept → P (account_line name kept) → AllByRecursion P more → AllByRecursion P (account_where name o ++ more)
+where_kept P name None kept more is here rest = absurd (none-some kept is)
+where_kept P name (Some k) kept more is here rest = (subst (λ (x : Kept). P (account_line name x)) (sym (same_Some k kept is)) here, rest)
+
+lines_newest : (names : List (List ℕ)) (keep : ℕ) (archives : List Kept) (takes : List server.Taken) → AreAccounts [] names → AreNames names
+    → ((place : ℕ) → slice_get archives place ≡ option_map (all_appended (entries_for place takes)) (archive_at place (first_hall names keep)))
+    → (place : ℕ) (rest : List (List ℕ)) → ((i : ℕ) (name : List ℕ) → slice_get rest i ≡ Some name → slice_get names (place + i) ≡ Some name)
+    → AllByRecursion (λ a. IsNewestOf keep (history_of a.name (map (with_names names) takes)) a) (account_lines place rest archives)
+lines_newest names keep archives takes accounts are got place [] behind = tt
+lines_newest names keep archives takes accounts are got place (name ∷ rest) behind =
+    let same : place + 0 ≡ place = omega arith in
+    let here : slice_get names place ≡ Some name = ap (slice_get names) (sym same) ∙ behind 0 name refl in
+    let es = entries_for place takes in
+    let kept : slice_get archives place ≡ Some (all_appended es (empty_kept domain keep name)) = got place ∙ ap (option_map (all_appended es)) (archive_first names keep place name here) in
+    where_kept (λ a. IsNewestOf keep (history_of a.name (map (with_names names) takes)) a) name (slice_get archives place) (all_appended es (empty_kept domain keep name))
+    (account_lines (place + 1) rest archives) kept
+    (is_newest keep name es (map (with_names names) takes) (entries_same names place name accounts (named names place name are here) here takes))
+    (lines_newest names keep archives takes accounts are got (place + 1) rest (λ i other is. ap (slice_get names) (one_more place i) ∙ behind (suc i) other is))
+  where
+    one_more : (p i : ℕ) → p + 1 + i ≡ p + suc i
+    one_more p i = omega arith
+
+-- ---- the report
+
+pub reported : (start : Version) (names : List (List ℕ)) (keep : ℕ) (w : World) → AreAccounts [] names → AreNames names → IsBooked start names (first_hall names keep) w → HasArchivesOfTakes keep (report_of w)
+reported start names keep w accounts are is = (
+  map (with_names names) is.takes,
+  record {
+    lines = is.lines_are ∙ sym (map-map (with_names names) (line_of w.version) is.takes);
+    each = all_of_lines w.version names keep is.takes are is.addressees is.senders;
+    archives = subst (λ (ns : List (List ℕ)). AllByRecursion (λ a. IsNewestOf keep (history_of a.name (map (with_names names) is.takes)) a) (account_lines 0 ns w.server.hall.archives)) (sym is.names_are)
+        (lines_newest names keep w.server.hall.archives is.takes accounts are is.archives 0 names (λ i name there. ap (slice_get names) (zero-add i) ∙ there));
+  },
+)

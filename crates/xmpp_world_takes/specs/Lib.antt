@@ -1,0 +1,2 @@
+-- ---- the takes of a report, and its archives
+pub mod ReportTakes

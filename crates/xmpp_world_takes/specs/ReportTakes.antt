@@ -1,0 +1,53 @@
+-- The takes of a wire schedule's report, and the archives that they make.
+use Rattle.std.specs.Prelude.{◌≡◌, ℕ, ◌||◌, Bool, List, filter, map}
+use Rattle.std.specs.List.{AllByRecursion}
+use Rattle.std.specs.Str.{bytes_eq}
+use Rattle.xmpp_archive.specs.Entries.{EntryView}
+use Rattle.xmpp_report.specs.Addresses.{full_address}
+use Rattle.xmpp_report.specs.LawfulRuns.{IsNewestOf}
+use Rattle.xmpp_report.specs.Reports.{ReportView}
+use Rattle.xmpp_report.specs.Takes.{numbered_from}
+use Rattle.xmpp_report.specs.declared.report.TakeLine.{TakeLine}
+use Rattle.xmpp_schedule.specs.declared.schedule.Version.{Version}
+use Rattle.xmpp_wires.specs.Takes.{take_told}
+
+-- a message that was taken: the names of the account that sent it and of the account that it is to, and its entry, but for
+-- the number
+pub record Taken : Type 0 where
+  pub sender : List ℕ
+  pub addressee : List ℕ
+  pub entry : EntryView
+
+-- ---- its line
+
+-- the line tells the entry's moment, addresses and origin id
+abbrev pub line_of : Version → Taken → TakeLine
+line_of version t = take_told version t.entry.stamp t.entry.from t.entry.to t.entry.origin
+
+-- the message is from the line's device at its sender's address, and to the line's account
+pub record IsOfLine (line : TakeLine) (t : Taken) : Type 0 where
+  pub from : t.entry.from ≡ full_address t.sender line.device
+  pub account : line.account ≡ t.addressee
+
+-- ---- archives
+
+-- the account sent the message, or it is to the account
+abbrev pub concerns : List ℕ → Taken → Bool
+concerns account t = bytes_eq account t.sender || bytes_eq account t.addressee
+
+-- what an account's archive would hold if nothing were purged: an entry of each message that concerns it, in their order,
+-- numbered 1, 2, 3 and so on
+abbrev pub history_of : List ℕ → List Taken → List EntryView
+history_of account takes = numbered_from 1 (map (λ (t : Taken). t.entry) (filter (concerns account) takes))
+
+-- ---- a report
+
+-- the take lines are those of these messages, in their order, and each archive keeps the newest of its account's history
+pub record AreOfTakes (keep : ℕ) (takes : List Taken) (report : ReportView) : Type 0 where
+  pub lines : report.takes ≡ map (line_of report.version) takes
+  pub each : AllByRecursion (λ (t : Taken). IsOfLine (line_of report.version t) t) takes
+  pub archives : AllByRecursion (λ a. IsNewestOf keep (history_of a.name takes) a) report.accounts
+
+-- the archives are those of the takes: the two archives of one take have one entry, but for its number
+abbrev pub HasArchivesOfTakes : ℕ → ReportView → Type 0
+HasArchivesOfTakes keep report = (takes : List Taken) × AreOfTakes keep takes report
