@@ -1,5 +1,5 @@
 //! Doors in memory that hand out links in halves.
-ghost use Rattle.std.specs.Prelude.{◌≡◌, [], IfOk, is_ok};
+ghost use Rattle.std.specs.Prelude.{◌≡◌, [], IfNone, IfOk, IfSome, is_ok};
 ghost use Rattle.xmpp_edge.specs.Counts.{HasCause};
 ghost use Rattle.xmpp_memory_halves.specs.Backs.{links_back};
 ghost use Rattle.xmpp_outside.specs.Links.{counted_if};
@@ -77,8 +77,9 @@ impl<U: Uncut + Drop> MemoryHalvesDoor<U> {
     fn next(
         &mut self,
         number: u64,
-    ) -> Result<Pair<RoomedHalf<U::Incoming, U::Outgoing>, U::Outgoing>, NoMemory>
-        ensures number { IfOk result (λ pair. (U.Incoming.told pair.incoming.half).number ≡ number) }
+    ) -> Result<Option<Pair<RoomedHalf<U::Incoming, U::Outgoing>, U::Outgoing>>, NoMemory>
+        ensures number { IfOk result (λ next. IfSome next (λ pair. (U.Incoming.told pair.incoming.half).number ≡ number)) }
+        ensures last { IfOk result (λ next. IfNone next (self.old.uncut.items ≡ [])) }
         ensures given { self.new.given ≡ self.old.given }
         ensures faults { self.new.faults ≡ self.old.faults }
         ensures handed { self.new.handed ≡ self.old.handed }
@@ -88,9 +89,9 @@ impl<U: Uncut + Drop> MemoryHalvesDoor<U> {
             Some(uncut) => {
                 let (half, outgoing) = uncut.cut(self.alloc, number)?.apart();
                 let incoming = RoomedHalf { half, room };
-                Ok(Pair::new(incoming, outgoing))
+                Ok(Some(Pair::new(incoming, outgoing)))
             }
-            None => Err(NoMemory),
+            None => Ok(None),
         }
     }
 
@@ -109,11 +110,11 @@ impl<U: Uncut + Drop> MemoryHalvesDoor<U> {
         }
         let number = self.handed.saturating_add(1);
         match self.next(number) {
-            Ok(pair) => {
+            Ok(Some(pair)) => {
                 self.handed = number;
                 Ok(pair)
             }
-            Err(_) => {
+            Ok(None) | Err(NoMemory) => {
                 self.faults = self.faults.saturating_add(1);
                 Err(Failed)
             }

@@ -3,11 +3,11 @@ mod Beginnings
 pub mod Adding
 pub mod EventLists
 -- ---- a connection
-mod Told
+pub mod Told
 mod Noted
 mod Taking
 mod ReadPieces
-mod Readings
+pub mod Readings
 mod WholeVisits
 mod Served
 mod Endings

@@ -13,7 +13,7 @@ use xmpp_schedule::Version;
 use xmpp_server::{Outputs, Server};
 
 /// The first line of a journal.
-pub(crate) fn begin(alloc: Global, version: Version) -> Result<Bytes, NoMemory>
+pub fn begin(alloc: Global, version: Version) -> Result<Bytes, NoMemory>
     ensures { IfOk result (λ journal. journal.items ≡ journal_header version ++ 10 ∷ []) }
 {
     let mut journal = Bytes::new(alloc);
@@ -21,8 +21,9 @@ pub(crate) fn begin(alloc: Global, version: Version) -> Result<Bytes, NoMemory>
     Ok(journal)
 }
 
-/// A connection begins.
-pub(crate) fn on_connect(
+/// A connection begins. After want of memory an event may stand in the journal that did not happen, here and in the calls
+/// below.
+pub fn on_connect(
     alloc: Global,
     server: &mut Server,
     journal: &mut Bytes,
@@ -45,7 +46,7 @@ pub(crate) fn on_connect(
 }
 
 /// A piece came on a connection. What it leads to is answered.
-pub(crate) fn on_piece(
+pub fn on_piece(
     alloc: Global,
     server: &mut Server,
     journal: &mut Bytes,
@@ -67,7 +68,7 @@ pub(crate) fn on_piece(
 }
 
 /// A connection is gone.
-pub(crate) fn on_gone(
+pub fn on_gone(
     alloc: Global,
     server: &mut Server,
     journal: &mut Bytes,

@@ -60,7 +60,7 @@ fn begun(alloc: Global, config: Config) -> Result<Server, NoMemory>
 
 /// A server of the accounts of a file, without connections.
 #[tactic(auto, using(crate::proofs::Beginnings::some_kept))]
-pub(crate) fn server_of(alloc: Global, file: &AccountsFile) -> Result<Server, NoMemory>
+pub fn server_of(alloc: Global, file: &AccountsFile) -> Result<Server, NoMemory>
     requires right { IsAccountsFile file.now }
     requires few { length file.now.accounts < 2 ^ 32 }
     ensures { IfOk result (λ server. server ≡ (run_at_start file.now).server) }

@@ -48,11 +48,7 @@ fn append_archives(
 }
 
 /// Ends a journal.
-pub(crate) fn finish(
-    server: Server,
-    mut journal: Bytes,
-    file: &AccountsFile,
-) -> Result<Bytes, NoMemory>
+pub fn finish(server: Server, mut journal: Bytes, file: &AccountsFile) -> Result<Bytes, NoMemory>
     requires { length file.now.accounts < 2 ^ 32 }
     ensures { IfOk result (λ text. text.items ≡ journal.items ++ ending_text file.now.version (named_archives file.now.accounts server.hall.archives)) }
 {

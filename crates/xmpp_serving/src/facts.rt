@@ -3,7 +3,7 @@ ghost use Rattle.std.specs.Prelude.{IsTrue};
 ghost use Rattle.xmpp_journal.specs.Journals;
 
 /// Bytes are numbers below 256. It does nothing.
-pub(crate) fn are_bytes(bytes: &[u8])
+pub fn are_bytes(bytes: &[u8])
     ensures { IsTrue (Journals.are_bytes bytes.now) }
 {
     let _ = bytes;
