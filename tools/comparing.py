@@ -13,10 +13,10 @@ SECONDS = 120
 SHOWN = 10
 
 
-def answer(program, word, text):
-    """The lines that a program writes, and its status as the last one."""
+def answer(program, words, text):
+    """The lines that a program writes, asked by words with spaces between them, and its status as the last one."""
     try:
-        done = subprocess.run([program, word], input=text, capture_output=True, timeout=SECONDS)
+        done = subprocess.run([program, *words.split(" ")], input=text, capture_output=True, timeout=SECONDS)
     except subprocess.TimeoutExpired:
         return [b"", b"no answer in time"]
     return done.stdout.split(b"\n") + [b"status %d" % done.returncode]
@@ -40,9 +40,9 @@ def programs(what, words):
     return program
 
 
-def difference(program, word, text):
+def difference(program, words, text):
     """The first line that differs between a program and the baseline, or nothing."""
-    return first_difference(answer(program, word, text), answer(BASELINE, word, text))
+    return first_difference(answer(program, words, text), answer(BASELINE, words, text))
 
 
 def tell(what, numbers, differs):

@@ -9,7 +9,7 @@ use Rattle.xmpp_cli.specs.Words.{reads}
 use Rattle.xmpp_cli.specs.Table.{IsReplayed, IsRefusal, IsRefused, IsChecked, IsReadWhole, IsRerun, IsRerunRefusal, IsServed, IsAccountsRefusal, HasSynced, IsScriptRefusal, IsStopped, HasLinkFailed, HasPeerFailed, IsDone, IsAnswer, IsDueOf, Due}
 use Rattle.xmpp_cli.specs.declared.answer.Answer.{Answer}
 use Rattle.xmpp_cli.specs.declared.command.Command.{Command}
-use Rattle.xmpp_cli.specs.declared.command.Command.TheVariants.{Help, Version, Replay, Check, Rerun, Serve, Sync}
+use Rattle.xmpp_cli.specs.declared.command.Command.TheVariants.{Help, Version, Replay, Check, Rerun, Generate, Serve, Sync}
 use Rattle.xmpp_cli.specs.declared.outcome.Outcome.{Outcome}
 use Rattle.xmpp_cli.specs.declared.outcome.Outcome.TheVariants.{Done, WrongWords, Refused, ReadFault, LinkFault, PeerFault, EntropyFault, TooLong}
 
@@ -60,6 +60,7 @@ link_of_known Version input known dealt same failed = absurd failed
 link_of_known Replay input known dealt same failed = absurd failed
 link_of_known Check input known dealt same failed = absurd failed
 link_of_known Rerun input known dealt same failed = absurd failed
+link_of_known (Generate number size) input known dealt same failed = absurd failed
 link_of_known (Serve port connections) input known dealt same failed = failed
 link_of_known (Sync port) input known dealt same failed = stopped_of_known input known dealt _ same failed
 
@@ -69,6 +70,7 @@ peer_of_known Version input known dealt text same failed = absurd failed
 peer_of_known Replay input known dealt text same failed = absurd failed
 peer_of_known Check input known dealt text same failed = absurd failed
 peer_of_known Rerun input known dealt text same failed = absurd failed
+peer_of_known (Generate number size) input known dealt text same failed = absurd failed
 peer_of_known (Serve port connections) input known dealt text same failed = absurd failed
 peer_of_known (Sync port) input known dealt text same (failure, stopped, due) = (failure, stopped_of_known input known dealt _ same stopped, due)
 
@@ -78,6 +80,7 @@ done_of_known Version input known dealt text same done = done
 done_of_known Replay input known dealt text same done = replayed_of_known input known text same done
 done_of_known Check input known dealt text same done = checked_of_known true input known text same done
 done_of_known Rerun input known dealt text same done = rerun_of_known input known text same done
+done_of_known (Generate number size) input known dealt text same done = done
 done_of_known (Serve port connections) input known dealt text same done = served_of_known connections input known dealt text same done
 done_of_known (Sync port) input known dealt text same done = synced_of_known input known dealt text same done
 
@@ -87,6 +90,7 @@ refused_of_known Version input known text same refused = refused
 refused_of_known Replay input known text same refused = refusal_of_known input known text same refused
 refused_of_known Check input known text same refused = checked_of_known false input known text same refused
 refused_of_known Rerun input known text same refused = rerun_refusal_of_known input known text same refused
+refused_of_known (Generate number size) input known text same refused = refused
 refused_of_known (Serve port connections) input known text same refused = accounts_refusal_of_known input known text same refused
 refused_of_known (Sync port) input known text same refused = script_refusal_of_known input known text same refused
 
@@ -128,6 +132,7 @@ unread_done Version seen known dealt text e done = done
 unread_done Replay seen known dealt text e done = absurd (cc)
 unread_done Check seen known dealt text e done = absurd (cc)
 unread_done Rerun seen known dealt text e done = absurd (cc)
+unread_done (Generate number size) seen known dealt text e done = done
 unread_done (Serve port connections) seen known dealt text e done = absurd (cc)
 unread_done (Sync port) seen known dealt text e done = absurd (cc)
 
@@ -137,6 +142,7 @@ unread_refused Version seen known text e refused = refused
 unread_refused Replay seen known text e refused = absurd (cc)
 unread_refused Check seen known text e refused = absurd (cc)
 unread_refused Rerun seen known text e refused = absurd (cc)
+unread_refused (Generate number size) seen known text e refused = refused
 unread_refused (Serve port connections) seen known text e refused = absurd (cc)
 unread_refused (Sync port) seen known text e refused = absurd (cc)
 

@@ -19,7 +19,7 @@ use Rattle.xmpp_cli.specs.Dealings.{Dealings, IsQuietDialer, IsQuietDoor}
 use Rattle.xmpp_cli.specs.Words.{goes_out, reads}
 use Rattle.xmpp_cli.specs.Table.{code_of, is_status, Due, HasDoorFailed, HasSynced, IsAccountsRefusal, IsRefusal, IsScriptRefusal, IsServed, IsStopped, MustAnswer, SaysAccounts}
 use Rattle.xmpp_cli.specs.declared.command.Command.{Command}
-use Rattle.xmpp_cli.specs.declared.command.Command.TheVariants.{Help, Version, Replay, Check, Rerun, Serve, Sync}
+use Rattle.xmpp_cli.specs.declared.command.Command.TheVariants.{Help, Version, Replay, Check, Rerun, Generate, Serve, Sync}
 use Rattle.xmpp_cli.specs.declared.outcome.Outcome.{Outcome}
 use Rattle.xmpp_cli.specs.declared.outcome.Outcome.TheVariants.{Done, WrongWords, Refused, ReadFault, LinkFault, PeerFault, EntropyFault, TooLong}
 use Rattle.xmpp_cli.specs.declared.texts.TheConstants.{HELP, VERSION}
@@ -146,6 +146,7 @@ module _ (known left : Option (List ℕ)) (rose calm still : Type 0) (dealt : De
   refused_command (Some Replay) answer three = refl
   refused_command (Some Check) answer three = refl
   refused_command (Some Rerun) answer three = refl
+  refused_command (Some (Generate number size)) answer three = let (text, due, out) = answer Refused three in absurd due.0
   refused_command (Some (Serve port connections)) answer three = refl
   refused_command (Some (Sync port)) answer three = refl
 
@@ -225,6 +226,7 @@ module _ (rose calm still : Type 0) (dealt : Dealings) (result : ℕ) where
   too_long_only (Some input) (Some Replay) exactly e apart read quiet = λ long. exactly TooLong (read, tt, long) quiet
   too_long_only (Some input) (Some Check) exactly e apart read quiet = λ long. exactly TooLong (read, tt, long) quiet
   too_long_only (Some input) (Some Rerun) exactly e apart read quiet = λ long. exactly TooLong (read, tt, long) quiet
+  too_long_only (Some input) (Some (Generate number size)) exactly e apart read quiet = absurd cc
   too_long_only (Some input) (Some Help) exactly e apart read quiet = absurd cc
   too_long_only (Some input) (Some Version) exactly e apart read quiet = absurd cc
   too_long_only (Some input) None exactly e apart read quiet = absurd cc

@@ -17,9 +17,9 @@ use Rattle.xmpp_cli.proofs.Dialers.{link_not_quiet, not_risen}
 use Rattle.xmpp_cli.proofs.Unread.{unread_entropy, unread_link, unread_peer}
 use Rattle.xmpp_cli.specs.Dealings.{Dealings, DoorView}
 use Rattle.xmpp_cli.specs.Words.{reads}
-use Rattle.xmpp_cli.specs.Table.{code_of, Accepts, HasLinkFailed, HasPeerFailed, HasEntropyFailed, IsBlameless, IsQuiet, SaysAccounts, IsServed, IsDone, IsRefused, IsReportOf, Due, IsDueOf, MustAnswer, MustEnd}
+use Rattle.xmpp_cli.specs.Table.{code_of, Accepts, HasLinkFailed, HasPeerFailed, HasEntropyFailed, IsBlameless, IsQuiet, SaysAccounts, IsServed, IsDone, IsRefused, IsReportOf, Due, IsDueOf, MustAnswer, MustEnd, generated_summary}
 use Rattle.xmpp_cli.specs.declared.command.Command.{Command}
-use Rattle.xmpp_cli.specs.declared.command.Command.TheVariants.{Help, Version, Replay, Check, Rerun, Serve, Sync}
+use Rattle.xmpp_cli.specs.declared.command.Command.TheVariants.{Help, Version, Replay, Check, Rerun, Generate, Serve, Sync}
 use Rattle.xmpp_cli.specs.declared.outcome.Outcome.{Outcome}
 use Rattle.xmpp_cli.specs.declared.outcome.Outcome.TheVariants.{Done, WrongWords, Refused, ReadFault, LinkFault, PeerFault, EntropyFault, TooLong}
 
@@ -90,6 +90,13 @@ replayed command known left rose dealt Written result answer zero e =
     let ((schedule, report, is, spelled, of, text_is), whole) = subst (λ c. Due c known left rose dealt Done text) e due in
     (schedule, report, is, spelled, (whole refl).ended, of, subst Written text_is out)
 
+-- a summary was written
+pub summed_up : (command : Option Command) (known left : Option (List ℕ)) (rose : Type 0) (dealt : Dealings) (Written : List ℕ → Type 0) (result number size : ℕ)
+    → Told command known left rose dealt Written result → result ≡ 0 → command ≡ Some (Generate number size) → Written (generated_summary number size)
+summed_up command known left rose dealt Written result number size answer zero e =
+    let (text, due, out) = answered command known left rose dealt Written result answer Done zero in
+    subst Written (subst (λ c. Due c known left rose dealt Done text) e due).0 out
+
 served_accounts : (connections : ℕ) (accounts : List ℕ) (dealt : Dealings) (old new : Option DoorView) (text : List ℕ)
     → IsSomeAnd old (λ o. IsSomeAnd new (λ n. HasServed accounts connections dealt.before.moment dealt.before.drawn o.given n.given text)) → SaysAccounts accounts
 served_accounts connections accounts dealt None new text served = absurd served
@@ -110,6 +117,7 @@ done_accepted Version input dealt text done = tt
 done_accepted Replay input dealt text (schedule, report, is, spelled, of, due) = (schedule, is, spelled)
 done_accepted Check input dealt text (stream, is, sound, due) = ap (λ bytes. (told bytes).sound) is ∙ sound
 done_accepted Rerun input dealt text (run, says, due) = (run, says)
+done_accepted (Generate number size) input dealt text done = tt
 done_accepted (Serve port connections) input dealt text served = served_accepted connections input dealt text served
 done_accepted (Sync port) input dealt text (script, is, synced) = begun_accepted input script synced.begins.script is synced.begins.said
 
@@ -120,6 +128,7 @@ refused_not_accepted Replay input text (line, reason, why, due) accepts = why.1 
 refused_not_accepted Check input text (stream, is, unsound, due) accepts =
     let both : true ≡ false = sym accepts ∙ ap (λ bytes. (told bytes).sound) is ∙ unsound in cc
 refused_not_accepted Rerun input text (line, reason, why, due) accepts = why.1 accepts
+refused_not_accepted (Generate number size) input text refused accepts = refused
 refused_not_accepted (Serve port connections) input text (line, reason, why, due) accepts = why.1 accepts
 refused_not_accepted (Sync port) input text (line, reason, why, due) accepts = let both : false ≡ true = sym (ap (λ r. is_ok r) why) ∙ accepts in cc
 
@@ -136,6 +145,7 @@ quiet_link Version known dealt quiet failed = failed
 quiet_link Replay known dealt quiet failed = failed
 quiet_link Check known dealt quiet failed = failed
 quiet_link Rerun known dealt quiet failed = failed
+quiet_link (Generate number size) known dealt quiet failed = failed
 quiet_link (Serve port connections) known dealt quiet failed = door_not_quiet connections dealt dealt.before.door dealt.behind.door quiet.0 failed
 quiet_link (Sync port) known dealt quiet (script, is, stopped) = link_not_quiet stopped.start dealt.before.dialer dealt.behind.dialer quiet.0.faults quiet.0.ends stopped.untold
 
@@ -145,6 +155,7 @@ quiet_entropy Version dealt quiet failed = failed
 quiet_entropy Replay dealt quiet failed = failed
 quiet_entropy Check dealt quiet failed = failed
 quiet_entropy Rerun dealt quiet failed = failed
+quiet_entropy (Generate number size) dealt quiet failed = failed
 quiet_entropy (Serve port connections) dealt quiet failed = not_risen _ _ quiet.1 failed
 quiet_entropy (Sync port) dealt quiet failed = not_risen _ _ quiet.1 failed
 
@@ -155,6 +166,7 @@ no_peer Version input dealt text blameless failed = failed
 no_peer Replay input dealt text blameless failed = failed
 no_peer Check input dealt text blameless failed = failed
 no_peer Rerun input dealt text blameless failed = failed
+no_peer (Generate number size) input dealt text blameless failed = failed
 no_peer (Serve port connections) input dealt text blameless failed = failed
 no_peer (Sync port) input dealt text blameless (failure, stopped, due) = blameless failure stopped
 
@@ -165,6 +177,7 @@ peer_accepted Version input dealt text failed = absurd failed
 peer_accepted Replay input dealt text failed = absurd failed
 peer_accepted Check input dealt text failed = absurd failed
 peer_accepted Rerun input dealt text failed = absurd failed
+peer_accepted (Generate number size) input dealt text failed = absurd failed
 peer_accepted (Serve port connections) input dealt text failed = absurd failed
 peer_accepted (Sync port) input dealt text (failure, (script, is, stopped), due) = begun_accepted input script stopped.begins.script is stopped.begins.said
 
@@ -177,6 +190,7 @@ unread_done Version known left rose dealt Refused text e due = absurd due.0
 unread_done Replay known left rose dealt Refused text e due = absurd (cc)
 unread_done Check known left rose dealt Refused text e due = absurd (cc)
 unread_done Rerun known left rose dealt Refused text e due = absurd (cc)
+unread_done (Generate number size) known left rose dealt Refused text e due = absurd due.0
 unread_done (Serve port connections) known left rose dealt Refused text e due = absurd (cc)
 unread_done (Sync port) known left rose dealt Refused text e due = absurd (cc)
 unread_done command known left rose dealt LinkFault text e due = absurd (unread_link command known dealt e due.0.0)

@@ -4,7 +4,7 @@ use Rattle.xmpp_cli.specs.Dealings.{Dealings}
 use Rattle.xmpp_cli.specs.Words.{reads}
 use Rattle.xmpp_cli.specs.Table.{HasLinkFailed, HasPeerFailed, HasEntropyFailed}
 use Rattle.xmpp_cli.specs.declared.command.Command.{Command}
-use Rattle.xmpp_cli.specs.declared.command.Command.TheVariants.{Help, Version, Replay, Check, Rerun, Serve, Sync}
+use Rattle.xmpp_cli.specs.declared.command.Command.TheVariants.{Help, Version, Replay, Check, Rerun, Generate, Serve, Sync}
 
 pub unread_link : (command : Command) (known : Option (List ℕ)) (dealt : Dealings) → reads (Some command) ≡ false → ¬ (HasLinkFailed command known dealt)
 unread_link Help known dealt e failed = failed
@@ -12,6 +12,7 @@ unread_link Version known dealt e failed = failed
 unread_link Replay known dealt e failed = failed
 unread_link Check known dealt e failed = failed
 unread_link Rerun known dealt e failed = failed
+unread_link (Generate number size) known dealt e failed = failed
 unread_link (Serve port connections) known dealt e failed = cc
 unread_link (Sync port) known dealt e failed = cc
 
@@ -21,6 +22,7 @@ unread_peer Version known dealt text e failed = failed
 unread_peer Replay known dealt text e failed = failed
 unread_peer Check known dealt text e failed = failed
 unread_peer Rerun known dealt text e failed = failed
+unread_peer (Generate number size) known dealt text e failed = failed
 unread_peer (Serve port connections) known dealt text e failed = failed
 unread_peer (Sync port) known dealt text e failed = cc
 
@@ -30,5 +32,6 @@ unread_entropy Version dealt e failed = failed
 unread_entropy Replay dealt e failed = failed
 unread_entropy Check dealt e failed = failed
 unread_entropy Rerun dealt e failed = failed
+unread_entropy (Generate number size) dealt e failed = failed
 unread_entropy (Serve port connections) dealt e failed = cc
 unread_entropy (Sync port) dealt e failed = cc

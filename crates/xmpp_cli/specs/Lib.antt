@@ -3,6 +3,8 @@ pub use Rattle.xmpp_edge.specs.Counts
 pub use Rattle.xmpp_edge.specs.Prefixes
 pub use Rattle.xmpp_journal.specs.Journals
 pub use Rattle.xmpp_rerun.specs.Reruns
+pub use Rattle.xmpp_generator.specs.Generated
+pub use Rattle.xmpp_generator.specs.Summary
 pub use Rattle.xmpp_direct.specs.Direct
 pub use Rattle.xmpp_direct.specs.History
 pub use Rattle.xmpp_schedule.specs.Kinds

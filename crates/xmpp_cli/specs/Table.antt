@@ -5,6 +5,8 @@ use Rattle.std.specs.Io.KnownBytes.{IsAtEnd}
 use Rattle.xmpp_check.specs.Checked.{told}
 use Rattle.xmpp_edge.specs.Counts.{Quiet, Rose}
 use Rattle.xmpp_edge.specs.declared.whole_reads.TheConstants.{MOST_BYTES_READ}
+use Rattle.xmpp_generator.specs.Generated.{generated}
+use Rattle.xmpp_generator.specs.Summary.{summary_of}
 use Rattle.xmpp_direct.specs.Direct.{direct_report}
 use Rattle.xmpp_direct.specs.History.{direct_history}
 use Rattle.xmpp_schedule.specs.Kinds.{InGrammar, IsSchedule, schedule_text}
@@ -35,7 +37,7 @@ use Rattle.xmpp_cli.specs.Dealings.{Dealings, IsQuietDialer, IsQuietDoor}
 use Rattle.xmpp_cli.specs.Texts.{words_line, read_fault_line, too_long_line, bad_line, link_fault_line, entropy_fault_line, peer_line}
 use Rattle.xmpp_cli.specs.Words.{reads}
 use Rattle.xmpp_cli.specs.declared.command.Command.{Command}
-use Rattle.xmpp_cli.specs.declared.command.Command.TheVariants.{Help, Version, Replay, Check, Rerun, Serve, Sync}
+use Rattle.xmpp_cli.specs.declared.command.Command.TheVariants.{Help, Version, Replay, Check, Rerun, Generate, Serve, Sync}
 use Rattle.xmpp_cli.specs.declared.outcome.Outcome.{Outcome}
 use Rattle.xmpp_cli.specs.declared.outcome.Outcome.TheVariants.{Done, WrongWords, Refused, ReadFault, LinkFault, PeerFault, EntropyFault, TooLong}
 use Rattle.xmpp_cli.specs.declared.texts.TheConstants.{HELP, VERSION}
@@ -93,6 +95,10 @@ IsRerunRefusal known text =
     (line : ℕ) × (reason : LineWhy) × IfSome known (λ input. (rerun_reading input ≡ Err (inputs.BadLine line reason)) × ¬ (SaysRun input))
     × (text ≡ bad_line line reason)
 
+-- the summary of the report of the schedule that a number makes, with so many drawn lines
+abbrev pub generated_summary : ℕ → ℕ → List ℕ
+generated_summary number size = let schedule = generated number size in summary_of schedule (report_of (world_of schedule))
+
 -- The text is the journal of a server that served so many connections, and the input, where it is known, is the text of its
 -- accounts.
 abbrev pub IsServed : Option (List ℕ) → ℕ → Dealings → List ℕ → Type 0
@@ -136,6 +142,7 @@ IsDone Version known dealt text = text ≡ VERSION.now
 IsDone Replay known dealt text = IsReplayed known text
 IsDone Check known dealt text = IsChecked true known text
 IsDone Rerun known dealt text = IsRerun known text
+IsDone (Generate number size) known dealt text = text ≡ generated_summary number size
 IsDone (Serve port connections) known dealt text = IsServed known connections dealt text
 IsDone (Sync port) known dealt text = HasSynced known dealt text
 

@@ -1,10 +1,11 @@
 -- Which words ask for which command.
-use Rattle.std.specs.Prelude.{ℕ, Bool, true, false, List, [], ◌∷◌, Option, Some, None, Result, Ok, Err, codes, map, if◌then◌else◌, String, string_bytes}
+use Rattle.std.specs.Prelude.{ℕ, ◌≤◌, Bool, true, false, List, [], ◌∷◌, Option, Some, None, Result, Ok, Err, codes, map, if◌then◌else◌, String, string_bytes}
 use Rattle.std.specs.Str.{bytes_eq}
+use Rattle.xmpp_generator.specs.declared.generated.TheConstants.{MOST_SIZE}
 use Rattle.xmpp_schedule.specs.Reading.{number_within}
 use Rattle.xmpp_schedule.specs.declared.fault.LineWhy.{LineWhy}
 use Rattle.xmpp_cli.specs.declared.command.Command.{Command}
-use Rattle.xmpp_cli.specs.declared.command.Command.TheVariants.{Help, Version, Replay, Check, Rerun, Serve, Sync}
+use Rattle.xmpp_cli.specs.declared.command.Command.TheVariants.{Help, Version, Replay, Check, Rerun, Generate, Serve, Sync}
 
 abbrev pub number_of : Result ℕ LineWhy → Option ℕ
 number_of (Ok n) = Some n
@@ -21,6 +22,14 @@ port_in word = spelled 1 65535 word
 -- so many connections can be served: 1 to 1000
 abbrev pub connections_in : List ℕ → Option ℕ
 connections_in word = spelled 1 1000 word
+
+-- schedules are made of any number of 64 bits
+abbrev pub seed_in : List ℕ → Option ℕ
+seed_in word = spelled 0 18446744073709551615 word
+
+-- so many lines of them can be drawn: 0 to 10000
+abbrev pub size_in : List ℕ → Option ℕ
+size_in word = spelled 0 MOST_SIZE word
 
 -- a command of one word
 abbrev pub of_one : List ℕ → Option Command
@@ -44,12 +53,22 @@ abbrev pub serving : Option ℕ → Option ℕ → Option Command
 serving (Some port) connections = serving_many port connections
 serving None connections = None
 
+abbrev pub generating_many : ℕ → Option ℕ → Option Command
+generating_many number (Some size) = Some (Generate number size)
+generating_many number None = None
+
+abbrev pub generating : Option ℕ → Option ℕ → Option Command
+generating (Some number) size = generating_many number size
+generating None size = None
+
 -- each command is asked for by its words; other words are not in the table
 abbrev pub command_of : List (List ℕ) → Option Command
 command_of (word ∷ []) = of_one word
 command_of (word ∷ port ∷ []) = if bytes_eq word (codes "sync") then syncing (port_in port) else None
-command_of (word ∷ port ∷ connections ∷ []) =
-    if bytes_eq word (codes "serve") then serving (port_in port) (connections_in connections) else None
+command_of (word ∷ first ∷ second ∷ []) =
+    if bytes_eq word (codes "serve") then serving (port_in first) (connections_in second)
+    else (if bytes_eq word (codes "generate") then generating (seed_in first) (size_in second)
+    else None)
 command_of _ = None
 
 -- whether the command's input is read
@@ -70,3 +89,8 @@ goes_out command = false
 -- the command that these words ask for
 abbrev pub asked : {A : Type 0} → List (String A) → Option Command
 asked words = command_of (map string_bytes words)
+
+-- what each command that words ask for keeps
+abbrev pub IsAskable : Command → Type 0
+IsAskable (Generate number size) = size ≤ MOST_SIZE
+IsAskable command = Unit {0}

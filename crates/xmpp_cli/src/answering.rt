@@ -4,9 +4,14 @@
 ghost use Rattle.std.specs.Prelude.{◌≡◌, false, true, ◌<◌, ◌≤◌, Some, IfOk, IsSome};
 ghost use Rattle.xmpp_edge.specs.Counts.{Rose};
 ghost use Rattle.xmpp_cli.specs.Dealings.{AreBack, Dealings, IsBack};
-ghost use Rattle.xmpp_cli.specs.Words.{asked, goes_out, reads};
-ghost use Rattle.xmpp_cli.specs.Table.{IsAnswer, IsReportOf, Due};
+ghost use Rattle.xmpp_cli.specs.Words.{IsAskable, asked, goes_out, reads};
+ghost use Rattle.xmpp_cli.specs.Table.{IsAnswer, IsReportOf, Due, generated_summary};
+ghost use Rattle.xmpp_generator.specs.Summary.{summary_of};
+ghost use Rattle.xmpp_generator.specs.declared.generated.TheConstants.{MOST_SIZE};
 ghost use Rattle.xmpp_schedule.specs.Kinds.{IsSchedule};
+ghost use Rattle.xmpp_schedule.specs.WireGrammar.{IsWireSchedule};
+ghost use Rattle.xmpp_world.specs.Histories.{world_of};
+ghost use Rattle.xmpp_world.specs.WorldReports.{report_of};
 
 use crate::answer::{Answer, said};
 use crate::command::Command;
@@ -17,11 +22,12 @@ use std::alloc::Global;
 use xmpp_check::check;
 use xmpp_direct::direct_is_lawful;
 use xmpp_edge::{Bytes, NoMemory, ReadAllFault, Source, read_all};
+use xmpp_generator::{generate, summary_text};
 use xmpp_journal::InputFault;
 use xmpp_replay::direct;
 use xmpp_report::{Report, report_text};
 use xmpp_rerun::rerun_bytes;
-use xmpp_schedule::{Schedule, ScheduleFault, read_schedule};
+use xmpp_schedule::{Schedule, ScheduleFault, WireSchedule, read_schedule};
 use xmpp_world::wire_report;
 
 /// The report of a schedule. The law is called for its fact, that the report of a direct one keeps the five laws.
@@ -93,6 +99,28 @@ fn reran(alloc: Global, input: Bytes) -> Result<Answer, NoMemory>
     }
 }
 
+/// The summary of the report of a schedule.
+fn summary(alloc: Global, schedule: &WireSchedule) -> Result<Bytes, NoMemory>
+    requires { IsWireSchedule schedule.now }
+    ensures { IfOk result (λ text. text.items ≡ summary_of schedule.now (report_of (world_of schedule.now))) }
+{
+    let report = wire_report(alloc, schedule)?;
+    summary_text(alloc, schedule, &report)
+}
+
+/// The summary of the report of the schedule that a number makes, with so many drawn lines.
+fn summed_up(alloc: Global, number: u64, size: u32) -> Result<Answer, NoMemory>
+    requires { size ≤ MOST_SIZE }
+    ensures outcome { IfOk result (λ answer. answer.outcome ≡ Outcome.Done) }
+    ensures text { IfOk result (λ answer. answer.text.items ≡ generated_summary number size) }
+{
+    let schedule = generate(alloc, number, size)?;
+    Ok(Answer {
+        outcome: Outcome::Done,
+        text: summary(alloc, &schedule)?,
+    })
+}
+
 /// The answer of a command to an input, which it looks at only if it is one that reads. The outside is as it was where the
 /// command doesn't go out.
 fn answer_to<O: Surroundings>(
@@ -101,7 +129,8 @@ fn answer_to<O: Surroundings>(
     input: Bytes,
     outside: &mut O,
 ) -> Result<Answer, NoMemory>
-    requires { IsSome (O.view outside.old).door }
+    requires there { IsSome (O.view outside.old).door }
+    requires askable { IsAskable command }
     ensures answer { IfOk result (λ answer. IsAnswer command (Some input.items)
         (record { before = O.view outside.old; behind = O.view outside.new }) answer.outcome answer.text.items) }
     ensures door { IsSome (O.view outside.new).door }
@@ -115,6 +144,7 @@ fn answer_to<O: Surroundings>(
         Command::Replay => replayed(alloc, input),
         Command::Check => checked(alloc, input.as_slice()),
         Command::Rerun => reran(alloc, input),
+        Command::Generate { number, size } => summed_up(alloc, number, size),
         Command::Serve { port, connections } => {
             outside.serve(alloc, port, connections, input.as_slice())
         }
@@ -130,6 +160,7 @@ fn answer_read<S: Source, O: Surroundings>(
     outside: &mut O,
 ) -> Result<Answer, NoMemory>
     requires there { IsSome (O.view outside.old).door }
+    requires askable { IsAskable command }
     requires reading { reads (Some command) ≡ true }
     ensures due { IfOk result (λ answer. Due (Some command) (S.left source.old) (S.left source.new)
         (Rose (S.faults source.old) (S.faults source.new))
@@ -168,7 +199,7 @@ pub fn due<S: Source, O: Surroundings>(
     ensures returned { IsBack (record { before = O.view outside.old; behind = O.view outside.new }) }
     ensures apart { goes_out (asked words.now) ≡ false → outside.new ≡ outside.old }
 {
-    match Command::of_words(words)? {
+    match Command::of_words(words) {
         None => said(alloc, Outcome::WrongWords, WORDS_LINE),
         Some(command) if command.reads() => answer_read(alloc, command, source, outside),
         Some(command) => answer_to(alloc, command, Bytes::new(alloc), outside),

@@ -1,5 +1,5 @@
 //! The program `xmpp`: it replays a schedule of messages and writes what came of it, checks a stream, does again what a
-//! server did, serves connections, or does a script as a client.
+//! server did, runs a schedule made of two numbers, serves connections, or does a script as a client.
 #![tactic(auto)]
 
 mod answer;
@@ -17,7 +17,7 @@ use std::process::ExitCode;
 use std::rt::Env;
 use std::{env, io};
 use xmpp_edge::{NoMemory, StdSink, StdSource};
-use xmpp_outside::Outside;
+use xmpp_outside::{Clock, Dialer, Door, Entropy, Outside};
 use xmpp_sockets::{SystemClock, SystemEntropy, TcpDialer, TcpDoor};
 
 /// The words behind the program's name. There are none where one is not UTF-8.
@@ -33,6 +33,19 @@ fn words_of<R: Env + AllocGlobal>(rt: &R) -> Result<Vec<String>, NoMemory> {
         Err(_) => {}
     }
     Ok(words)
+}
+
+/// Drops an outside, which isn't dropped as a whole: its parts are.
+fn drop_outside<D: Door + Drop, L: Dialer + Drop, C: Clock + Drop, E: Entropy + Drop>(
+    outside: Outside<D, L, C, E>,
+) {
+    let Outside {
+        door,
+        dialer,
+        clock,
+        entropy,
+    } = outside;
+    drop((door, dialer, clock, entropy));
 }
 
 fn main(rt: HostRuntime) -> ExitCode {
@@ -54,14 +67,7 @@ fn main(rt: HostRuntime) -> ExitCode {
         &mut sink,
         &mut outside,
     );
-    // A value of several parts that isn't dropped as a whole: its parts are.
-    let Outside {
-        door,
-        dialer,
-        clock,
-        entropy,
-    } = outside;
-    drop((door, dialer, clock, entropy));
+    drop_outside(outside);
     if status == 2 {
         // The status alone tells it where this can't be written either.
         let _ = eprintln!(rt; "{USAGE}");

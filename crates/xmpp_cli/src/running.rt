@@ -9,7 +9,7 @@ ghost use Rattle.xmpp_schedule.specs.Kinds.{IsSchedule, schedule_text};
 ghost use Rattle.xmpp_schedule.specs.declared.schedule.Schedule.{Schedule};
 ghost use Rattle.xmpp_cli.specs.Dealings.{AreBack, IsBack};
 ghost use Rattle.xmpp_cli.specs.Words.{asked, goes_out, reads};
-ghost use Rattle.xmpp_cli.specs.Table.{code_of, is_status, IsReportOf, Due, MustAnswer};
+ghost use Rattle.xmpp_cli.specs.Table.{code_of, is_status, IsReportOf, Due, MustAnswer, generated_summary};
 
 use crate::answering::due;
 use crate::command::Command;
@@ -88,6 +88,9 @@ pub fn run<S: Source, K: Sink, D: Door, L: Dialer, C: Clock, E: Entropy>(
         × IsAtEnd (S.left source.new)
         × IsReportOf schedule report
         × Appends (K.written sink.old) (K.written sink.new) (text_of report) }
+    // What was written is the summary of the report of the schedule that the two numbers make, and nothing else.
+    ensures done_generate { (number size : ℕ) → result ≡ 0 → asked words.now ≡ Some (Command.Generate number size)
+        → Appends (K.written sink.old) (K.written sink.new) (generated_summary number size) }
     // Whatever outcome the status is the code of, its text is due, and was written and nothing else.
     ensures answered { (outcome : Outcome) → result ≡ code_of outcome → (text : List ℕ)
         × Due (asked words.now) (S.left source.old) (S.left source.new) (Rose (S.faults source.old) (S.faults source.new))

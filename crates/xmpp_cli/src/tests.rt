@@ -1,4 +1,5 @@
 //! Calls over a source, a sink and an outside in memory, whose calls fail where a row says so.
+use crate::drop_outside;
 use crate::running::run;
 use crate::texts::{HELP, VERSION};
 use std::alloc::Global;
@@ -48,6 +49,9 @@ end
 
 const STREAM: &str =
     "<stream:stream to='chat.example' version='1.0' xmlns='jabber:client' xmlns:stream='http://etherx.jabber.org/streams'><a></a>";
+
+const SUMMARY: &str =
+    "xmpp-summary 1\nlines 31\ntakes 0\naccount a0 0\naccount a1 0\naccount a2 0\ndevice d0 1 0 yes\ndevice d1 1 0 yes\ndevice d2 1 0 yes\ndevice d3 1 0 yes\ndevice d4 1 0 yes\ndevice d5 1 0 yes\nend\n";
 
 const ITEMS: &str =
     "<stream:stream to='chat.example' version='1.0' xmlns='jabber:client' xmlns:stream='http://etherx.jabber.org/streams'>\n<a/>\nend\n";
@@ -105,7 +109,7 @@ account alice@chat.example pw-alice phone
 
 // The words, the input, the reading that fails and the writing that fails, from 1 or 0 for none, the status, and what is
 // written.
-static CALLS: [(&str, &str, u64, u64, u8, &str); 16] = [
+static CALLS: [(&str, &str, u64, u64, u8, &str); 18] = [
     ("replay", SCHEDULE, 0, 0, 0, REPORT),
     (
         "replay",
@@ -128,6 +132,8 @@ static CALLS: [(&str, &str, u64, u64, u8, &str); 16] = [
     ),
     ("rerun", RUN, 0, 0, 0, RUN_AGAIN),
     ("check", "<a", 0, 1, 5, ""),
+    ("generate 7 0", "", 1, 0, 0, SUMMARY),
+    ("generate 7 10001", "", 1, 0, 2, "words\n"),
     ("--help", "", 1, 0, 0, HELP),
     ("--version", "", 1, 0, 0, VERSION),
     ("reply", "", 1, 0, 2, "words\n"),
@@ -205,13 +211,7 @@ fn is_answered(
         entropy: MemoryEntropy::new([0; 24], number(alloc, fails.2)?),
     };
     let ended = run(alloc, words.as_slice(), source, &mut sink, &mut outside);
-    let Outside {
-        door,
-        dialer,
-        clock,
-        entropy,
-    } = outside;
-    drop((door, dialer, clock, entropy));
+    drop_outside(outside);
     Ok(ended == status && sink.written() == written.as_bytes())
 }
 

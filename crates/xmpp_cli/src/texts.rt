@@ -27,7 +27,7 @@ pub const VERSION: &str = "xmpp 1\n";
 
 /// How the program is called, in one line.
 pub const USAGE: &str =
-    "usage: xmpp --help | --version | replay | check | rerun | serve PORT N | sync PORT";
+    "usage: xmpp --help | --version | replay | check | rerun | generate NUMBER SIZE | serve PORT N | sync PORT";
 
 /// How the program is called, and what it answers.
 pub const HELP: &str = "\
@@ -36,6 +36,9 @@ xmpp --version  writes the name and the version
 xmpp replay     reads a schedule from standard input and writes its report
 xmpp check      reads one direction of a stream from standard input and writes its items
 xmpp rerun      reads accounts and a server's journal from standard input, does again what the server did, and writes it
+xmpp generate NUMBER SIZE
+                makes a schedule of NUMBER (0 to 18446744073709551615) with SIZE drawn lines (0 to 10000), runs it, and
+                writes the summary of its report
 xmpp serve PORT N
                 reads accounts from standard input, serves N connections (1 to 1000) to a port of this machine, one after
                 another, and writes the journal and the archives

@@ -1,9 +1,12 @@
 use Rattle.xmpp_cli.proofs.Dialers.{not_risen}
-use Rattle.xmpp_cli.proofs.Statuses.{answered, exactly, replayed}
+use Rattle.xmpp_cli.proofs.Statuses.{answered, exactly, replayed, summed_up}
 use Rattle.xmpp_cli.proofs.running.run.Goals as goal
 
 pub returns-clause-done_replay : goal.returns-clause-done_replay
 returns-clause-done_replay g c = λ zero words. replayed _ _ _ _ _ _ _ c.write_due.ensures.told zero words
+
+pub returns-clause-done_generate : goal.returns-clause-done_generate
+returns-clause-done_generate g c = λ number size zero words. summed_up _ _ _ _ _ _ _ number size c.write_due.ensures.told zero words
 
 pub returns-clause-answered : goal.returns-clause-answered
 returns-clause-answered g c = answered _ _ _ _ _ _ _ c.write_due.ensures.told

@@ -1,0 +1,4 @@
+pub mod Archived
+pub mod Declared
+pub mod DirectReports
+pub mod Fields
