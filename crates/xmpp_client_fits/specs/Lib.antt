@@ -1,0 +1,4 @@
+-- law: what a client keeps to
+pub mod Within
+-- what comes, and what is called
+pub mod Answerable
