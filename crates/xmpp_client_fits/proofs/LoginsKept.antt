@@ -1,15 +1,12 @@
 -- The rows of a login keep to the bounds.
-use Rattle.std.proofs.Common.{◌≡◌, ℕ, ◌<◌, ◌≤◌, ◌&&◌, Bool, true, false, List, [], ◌∷◌, ◌++◌, take, length, codes, Option, Some, None, IfSome, Result, Ok, Err, refl, arith, if◌then◌else◌, length-take}
+use Rattle.std.proofs.Common.{◌≡◌, ℕ, ◌≤◌, ◌&&◌, Bool, true, false, List, [], take, length, codes, Option, Some, None, IfSome, Result, Ok, Err, refl, arith, if◌then◌else◌, length-take}
 use Rattle.std.proofs.lemmas.Bool.{and_parts}
 use Rattle.std.specs.List.{list_all, starts_with}
 use Rattle.std.specs.Prelude.{nat_eq, nat_lt}
-use Rattle.base64.specs.Engines.{standard}
-use Rattle.base64.specs.GeneralPurpose.{IsBytes, encode_of}
-use Rattle.xmpp_base64.proofs.GroupRuns.{symbol}
-use Rattle.xmpp_client_fits.proofs.Messages.{IsShortMessage, drawn_bytes, drawn_short, first_short, reply_short}
+use Rattle.xmpp_client_fits.proofs.Messages.{drawn_bytes, drawn_short, first_short, reply_short}
 use Rattle.xmpp_client_fits.proofs.TurnsKept.{ends_within, goes_within, put_within, puts_within}
 use Rattle.xmpp_client_fits.specs.Answerable.{IsAnswerable}
-use Rattle.xmpp_client_fits.specs.Within.{IsAccountWithin, IsLoginWithin, IsNonceWithin, IsPhaseWithin, IsTurnWithin}
+use Rattle.xmpp_client_fits.specs.Within.{IsLoginWithin, IsNonceWithin, IsPhaseWithin, IsTurnWithin}
 use Rattle.xmpp_client_login.specs.LoginRows as rows
 use Rattle.xmpp_client_login.specs.Puts.{Row}
 use Rattle.xmpp_client_login.specs.declared.account.ClientAccount.{ClientAccount}
@@ -30,10 +27,10 @@ use Rattle.xmpp_payload.specs.declared.fault.ExtFault.{ExtFault}
 use Rattle.xmpp_requests_fit.proofs.Fitted as fitted
 use Rattle.xmpp_requests_fit.specs.Bounds.{IsTextWithin, most_id, most_part}
 use Rattle.xmpp_sasl.specs.Readings.{carrier_read}
-use Rattle.xmpp_scram.specs.Exchange.{ClientView, ReplyView, added_nonce, base64_of, begun_client, check_of, client_auth, client_final_without_proof, client_first_message, is_count_taken, is_plain, is_printable_ascii, replied, reply_of, reply_to, then_judge}
+use Rattle.xmpp_scram.specs.Exchange.{ClientView, ReplyView, base64_of, begun_client, check_of, client_auth, client_final_without_proof, client_first_message, is_count_taken, is_plain, is_printable_ascii, replied, reply_to, then_judge}
 use Rattle.xmpp_scram.specs.Messages.{ServerFirstView, server_first_of}
 use Rattle.xmpp_scram.specs.declared.fault.ScramFault.{ScramFault}
-use Rattle.xmpp_scram.specs.declared.fault.ScramFault.TheVariants.{BadName, BadNonce, Iterations}
+use Rattle.xmpp_scram.specs.declared.fault.ScramFault.TheVariants.{BadName, Iterations}
 use Rattle.xmpp_hashes.specs.Hashes.{client_key, salted_password, stored_key}
 use Rattle.xmpp_trees.specs.Trees.{Elem}
 use Rattle.xmpp_writer.specs.Items.{ItemOut}

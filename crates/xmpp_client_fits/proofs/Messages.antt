@@ -1,5 +1,5 @@
 -- The messages of a login are short (RFC 5802, section 5).
-use Rattle.std.proofs.Common.{◌≡◌, ℕ, ◌+◌, ◌*◌, ◌/◌, ◌%◌, ◌==◌, ◌<◌, ◌≤◌, Bool, true, false, List, [], ◌∷◌, ◌++◌, length, codes, Result, Ok, Err, refl, sym, ap, ◌∙◌, ⊎_elim, arith, length-append, if◌then◌else◌}
+use Rattle.std.proofs.Common.{◌≡◌, ℕ, ◌+◌, ◌*◌, ◌/◌, ◌%◌, ◌==◌, ◌<◌, ◌≤◌, Bool, true, false, List, [], ◌∷◌, ◌++◌, length, codes, Ok, refl, ap, ⊎_elim, arith, length-append, if◌then◌else◌}
 use Rattle.std.proofs.lemmas.Bool.{and_parts, cases_lt, ltb-true}
 use Rattle.std.proofs.lemmas.Bool.Decides.{nat_tests}
 use Rattle.std.proofs.lemmas.List.{get_or_past}
@@ -10,7 +10,7 @@ use Rattle.base64.specs.Engines.{standard}
 use Rattle.base64.specs.GeneralPurpose.{IsBytes, encode_of}
 use Rattle.xmpp_base64.proofs.ByteSteps.{IsBytes-append, IsBytes-cons, IsBytes-nil}
 use Rattle.xmpp_base64.proofs.GroupRuns.{below, more_text, one_text, symbol, two_text}
-use Rattle.xmpp_hashes.specs.Hashes.{client_key, client_signature, hmac_of, proof_of, xor_bytes}
+use Rattle.xmpp_hashes.specs.Hashes.{client_key, client_signature, proof_of}
 use Rattle.xmpp_requests_fit.proofs.Ascii.{is_printable}
 use Rattle.xmpp_requests_fit.proofs.Base64.{encoded_printable, encoded_short}
 use Rattle.xmpp_scram.proofs.Digests.{IsBytes-hmac_of, IsBytes-xor_bytes, length-hmac_of, length-xor_bytes}
@@ -19,7 +19,6 @@ use Rattle.xmpp_scram.specs.Classes as class
 use Rattle.xmpp_scram.specs.Exchange.{base64_of, client_first_message, client_final_without_proof, is_printable_ascii, with_proof}
 use Rattle.xmpp_scram.specs.Grammar.{escaped, escaped_byte, is_nonce}
 use Rattle.xmpp_scram.specs.Messages.{ServerFirstView, server_first_of}
-use Rattle.xmpp_scram.specs.declared.binding_flag.BindingFlag.TheVariants.{Unsupported}
 
 -- ---- texts of bytes
 

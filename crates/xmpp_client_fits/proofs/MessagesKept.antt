@@ -1,12 +1,11 @@
 -- The rows of messages keep to the bounds.
-use Rattle.std.proofs.Common.{◌≡◌, ℕ, ◌^◌, ◌<◌, Bool, true, false, List, [], ◌∷◌, ◌++◌, codes, length, Option, Some, None, IfSome, Result, Ok, Err, refl, if◌then◌else◌}
+use Rattle.std.proofs.Common.{◌≡◌, ℕ, Bool, true, false, List, [], ◌∷◌, ◌++◌, codes, length, Option, Some, None, IfSome, Result, Ok, Err, refl, if◌then◌else◌}
 use Rattle.std.specs.Option.{option_map}
 use Rattle.std.specs.Prelude.{nat_le}
 use Rattle.xmpp_client_fits.proofs.TurnsKept.{All-append, logs_within, tells_within, within_either}
-use Rattle.xmpp_client_fits.specs.Answerable.{IsAnswerable}
 use Rattle.xmpp_client_fits.specs.Within.{IsClientWithin, IsEntryWithin, IsLogWithin, IsPageWithin, IsTurnWithin}
 use Rattle.xmpp_client_rows.specs.Clients.{ClientView, Turn}
-use Rattle.xmpp_client_rows.specs.MessageRows.{bounce_of, held_by, held_in, held_row, is_own_or_absent, live_in, logged, message_row, message_with, other_message, own_id, refuses, result_row, result_to, tells_where}
+use Rattle.xmpp_client_rows.specs.MessageRows.{bounce_of, held_by, held_row, is_own_or_absent, live_in, logged, message_row, message_with, other_message, own_id, refuses, result_row, result_to, tells_where}
 use Rattle.xmpp_client_rows.specs.declared.events.CatchUpFault.{CatchUpFault}
 use Rattle.xmpp_client_rows.specs.declared.events.Event.{Event}
 use Rattle.xmpp_ext.specs.declared.forwarding.Forwarded.{Forwarded}

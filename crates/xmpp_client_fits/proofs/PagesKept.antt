@@ -1,12 +1,12 @@
 -- The rows of pages and requests keep to the bounds.
-use Rattle.std.proofs.Common.{◌≡◌, ℕ, ◌+◌, ◌^◌, ◌<◌, ◌≤◌, min, ◌&&◌, Bool, true, false, List, [], ◌∷◌, ◌++◌, codes, length, is_some, Option, Some, None, IfSome, Result, Ok, Err, refl, sym, ap, ◌∙◌, subst, arith, if◌then◌else◌}
+use Rattle.std.proofs.Common.{◌≡◌, ℕ, ◌^◌, ◌<◌, ◌&&◌, Bool, true, false, List, [], ◌∷◌, ◌++◌, is_some, Option, Some, None, IfSome, Result, Ok, Err, refl, arith, if◌then◌else◌}
 use Rattle.std.specs.List.{AllByRecursion}
 use Rattle.std.specs.Option.{option_map}
 use Rattle.std.specs.Str.{bytes_eq}
 use Rattle.xmpp_client.specs.PageRows.{answer_to, answered_page, begins_page, error_of_page, goes_on, iq_by, iq_row, is_not_found, is_ping, next_queryid, numbered, only_fin, page_answered, page_done, page_ended, requests, restarts, result_of_page}
 use Rattle.xmpp_client_fits.proofs.MessagesKept.{refused_within}
 use Rattle.xmpp_client_fits.proofs.TurnsKept.{All-append, all_put_within, ends_within, fit_either, has_to_put_within, logs_within, queues_within, tells_within, within_either}
-use Rattle.xmpp_client_fits.specs.Within.{AllFit, IsEntryWithin, IsLogWithin, IsPageWithin, IsSessionWithin, IsTurnWithin}
+use Rattle.xmpp_client_fits.specs.Within.{IsEntryWithin, IsLogWithin, IsPageWithin, IsSessionWithin, IsTurnWithin}
 use Rattle.xmpp_client_rows.specs.Clients.{Turn}
 use Rattle.xmpp_client_rows.specs.MessageRows.{error_within, is_own_or_absent}
 use Rattle.xmpp_client_rows.specs.Speech.{in_items}

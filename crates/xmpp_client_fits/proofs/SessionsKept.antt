@@ -1,7 +1,6 @@
 -- The rows from the second features to the session keep to the bounds, and those of acknowledgements.
-use Rattle.std.proofs.Common.{◌≡◌, ℕ, ◌+◌, ◌%◌, ◌^◌, ◌<◌, ◌≤◌, min, Bool, true, false, ◌&&◌, List, [], ◌∷◌, ◌++◌, drop, codes, Option, Some, None, IfSome, Result, Ok, Err, refl, sym, ap, ◌∙◌, arith, if◌then◌else◌}
+use Rattle.std.proofs.Common.{◌≡◌, ℕ, ◌^◌, ◌<◌, Bool, true, false, ◌&&◌, List, [], ◌∷◌, ◌++◌, codes, Option, Some, None, IfSome, Result, Ok, Err, refl, arith, if◌then◌else◌}
 use Rattle.std.proofs.lemmas.Bool.{and_parts, ltb-true}
-use Rattle.std.specs.List.{AllByRecursion}
 use Rattle.std.specs.Prelude.{nat_lt, length}
 use Rattle.std.specs.Str.{all_ascii_digits}
 use Rattle.std.specs.Str.Parse.{digits_value}
@@ -15,7 +14,7 @@ use Rattle.xmpp_client_rows.specs.AckRows.{ack_row, acknowledges, counts_too_hig
 use Rattle.xmpp_client_rows.specs.Clients.{Turn}
 use Rattle.xmpp_client_rows.specs.SessionRows.{asks, attaches, begins, begins_epoch, binding_row, binds, can_resume, enabling_row, enabling_with, failed_row, features2_row, features2_with, is_stanza, queue_in, resent, resumed_in, resumed_row, resumes_or_binds, resuming_row, resuming_with, tells_bound}
 use Rattle.xmpp_client_rows.specs.Speech.{in_items, spread_all}
-use Rattle.xmpp_client_rows.specs.Turns.{drops, goes, notes, puts, tells}
+use Rattle.xmpp_client_rows.specs.Turns.{goes, notes, puts}
 use Rattle.xmpp_client_rows.specs.declared.phase.Phase.{Phase}
 use Rattle.xmpp_client_rows.specs.declared.phase.Phase.TheVariants as phase
 use Rattle.xmpp_ext.specs.Readings.{enabled_read, resumption_read, resumption_with}

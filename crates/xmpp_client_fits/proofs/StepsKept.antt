@@ -1,8 +1,7 @@
 -- Items, pieces of bytes and calls keep to the bounds.
-use Rattle.std.proofs.Common.{◌≡◌, ℕ, ◌+◌, ◌%◌, ◌^◌, ◌<◌, Bool, true, false, List, [], ◌∷◌, ◌++◌, codes, take, zero, suc, Option, Some, None, IfSome, Result, Ok, Err, refl, arith, if◌then◌else◌}
-use Rattle.std.specs.List.{AllByRecursion}
-use Rattle.xmpp_client.specs.Feeds.{Fed, IsCutShort, IsLostIn, IsMemoryLost, bytes_in, bytes_step, read, with_fault}
-use Rattle.xmpp_client.specs.Steps.{connected_step, element_row, element_step, handles, item_step, items_run, online_in, stanza_row, told_row}
+use Rattle.std.proofs.Common.{◌≡◌, ℕ, ◌^◌, ◌<◌, Bool, true, List, [], ◌∷◌, codes, Option, Some, None, IfSome, Result, Ok, Err, refl, arith}
+use Rattle.xmpp_client.specs.Feeds.{Fed, bytes_in, bytes_step, read, with_fault}
+use Rattle.xmpp_client.specs.Steps.{connected_step, element_row, handles, item_step, items_run, online_in, stanza_row, told_row}
 use Rattle.xmpp_client.specs.UserCalls.{catches_up, catches_up_in, closes, dials, forgets, leaves, says, submission_of, submits}
 use Rattle.xmpp_client_fits.proofs.LoginsKept.{dialed_within, header_within, login_within}
 use Rattle.xmpp_client_fits.proofs.MessagesKept.{message_within}
@@ -121,7 +120,7 @@ submitted_within t None item said h within fit = h
 submitted_within t (Some s) item said h within fit =
     let c = h.client in
     let kept : IsTurnWithin (record t { client = record t.client { n = said.n; said = with_said t.client.said said } }) =
-        record { client = record { account = c.account; log = c.log; epoch = c.epoch; session = c.session; phase = c.phase }; put = h.put } in
+    record { client = record { account = c.account; log = c.log; epoch = c.epoch; session = c.session; phase = c.phase }; put = h.put } in
     requested_within _ s item true kept within fit
 
 next_low : (n : ℕ) → next_number n < 2 ^ 64

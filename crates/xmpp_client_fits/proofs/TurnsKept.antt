@@ -1,7 +1,7 @@
 -- What the steps of a client have in common keeps to the bounds.
-use Rattle.std.proofs.Common.{◌≡◌, ℕ, ◌+◌, ◌%◌, ◌^◌, ◌<◌, ◌≤◌, Bool, true, false, List, [], ◌∷◌, ◌++◌, drop, suc, zero, Option, Some, None, IfSome, refl, arith, if◌then◌else◌}
+use Rattle.std.proofs.Common.{ℕ, Bool, true, false, List, [], ◌∷◌, ◌++◌, drop, suc, zero, Option, Some, None, IfSome, if◌then◌else◌}
 use Rattle.std.specs.List.{AllByRecursion}
-use Rattle.xmpp_client_fits.specs.Within.{AllFit, IsClientWithin, IsLogWithin, IsPhaseWithin, IsSessionWithin, IsTurnWithin}
+use Rattle.xmpp_client_fits.specs.Within.{AllFit, IsLogWithin, IsPhaseWithin, IsSessionWithin, IsTurnWithin}
 use Rattle.xmpp_client_rows.specs.Clients.{Turn}
 use Rattle.xmpp_client_rows.specs.Speech.{Note, in_items}
 use Rattle.xmpp_client_rows.specs.Turns.{drops, ends, goes, has_put, has_to_put, is_apart, is_online, left, notes, put_in, puts, puts_footer, queues, tells, with_log, with_session}
