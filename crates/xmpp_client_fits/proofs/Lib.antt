@@ -8,3 +8,5 @@ pub mod MessagesKept
 pub mod PagesKept
 -- ---- items and calls
 pub mod StepsKept
+-- ---- what can be answered
+pub mod ShortReads

@@ -1,4 +1,5 @@
 -- law: what a client keeps to
 pub mod Within
--- what comes, and what is called
+-- what comes that a client can answer
 pub mod Answerable
+pub mod Short

@@ -3,4 +3,4 @@
 
 mod laws;
 
-pub use laws::what_a_client_puts_fits;
+pub use laws::{what_a_client_puts_fits, what_is_short_can_be_answered};
