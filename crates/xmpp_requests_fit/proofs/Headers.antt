@@ -1,0 +1,33 @@
+-- The header of a client's stream.
+use Rattle.std.proofs.Common.{◌≡◌, ℕ, ◌+◌, ◌≤◌, List, [], ◌∷◌, ◌++◌, length, codes, refl, arith, length-append}
+use Rattle.xmpp_client_login.specs.LoginRows.{client_header}
+use Rattle.xmpp_framing.specs.Limits.{server_limits}
+use Rattle.xmpp_framing_laws.specs.Fitting.{HeaderFits}
+use Rattle.xmpp_framing_laws.specs.Plain.{IsPlainHeader}
+use Rattle.xmpp_requests_fit.specs.Bounds.{IsTextWithin, most_part}
+use Rattle.xmpp_requests_fit.proofs.Ascii.{printable_IsCharacters}
+use Rattle.xmpp_requests_fit.proofs.Spelled.{spelled_value_short}
+use Rattle.xmpp_tokens.specs.Spelling.{spelled_value, text_byte, value_byte}
+use Rattle.xmpp_writer.specs.Canon.{assignment, spelled, written_header}
+
+pub header_plain : (domain : List ℕ) → IsTextWithin most_part domain → IsPlainHeader (client_header domain)
+header_plain domain h = record { to = h.characters; from = tt; id = tt; version = printable_IsCharacters (codes "1.0") refl; lang = tt }
+
+given_long : (value behind : List ℕ) → length (assignment (spelled (codes "to") value) ++ behind) ≡ 6 + length (spelled_value value) + length behind
+unfolding assignment
+given_long value behind =
+    omega (arith, length-append (spelled_value value ++ (39 ∷ [])) behind, length-append (spelled_value value) (39 ∷ []))
+
+behind_long : length (assignment (spelled (codes "version") (codes "1.0")) ++ codes " xmlns='jabber:client' xmlns:stream='http://etherx.jabber.org/streams'>") ≡ 85
+unfolding assignment value_byte text_byte
+behind_long = refl
+
+pub header_short : (domain : List ℕ) → IsTextWithin most_part domain → length (written_header (client_header domain)) ≤ 65536
+header_short domain h =
+    let behind = assignment (spelled (codes "version") (codes "1.0")) ++ codes " xmlns='jabber:client' xmlns:stream='http://etherx.jabber.org/streams'>" in
+    let short = h.short in
+    omega (arith, given_long domain behind, behind_long, spelled_value_short domain, short)
+
+pub header_fits : (domain : List ℕ) → IsTextWithin most_part domain → HeaderFits server_limits (client_header domain)
+unfolding text_byte value_byte
+header_fits domain h = record { short = header_short domain h; attributes = omega arith; declared = (omega arith, (omega arith, tt)) }
