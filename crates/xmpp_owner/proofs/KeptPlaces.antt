@@ -140,7 +140,7 @@ module _ {R I P : Type 0} where
     others = λ k out. h.others k (⊎_elim (λ (e : k ≡ 0). inl e) (λ (e : length (set places i q) < k). inr (let n = length-set places i q in omega arith)) out);
   }
 
-  at_end : (l : List (Place R I P)) (a b : Place R I P) (j : ℕ) → get_elem? (l ++ a ∷ []) j ≡ some b → (get_elem? l j ≡ some b) ⊎ ((j ≡ length l) × (a ≡ b))
+  pub at_end : (l : List (Place R I P)) (a b : Place R I P) (j : ℕ) → get_elem? (l ++ a ∷ []) j ≡ some b → (get_elem? l j ≡ some b) ⊎ ((j ≡ length l) × (a ≡ b))
   at_end [] a b zero e = inr (refl, some-injective a b e)
   at_end [] a b (suc j) e = absurd (some-ne-none b (sym e))
   at_end (x ∷ xs) a b zero e = inl e

@@ -8,3 +8,6 @@ pub mod OwnerSteps
 pub mod Settled
 -- the events are a merge
 pub mod MergedFeeds
+-- the half of each reader is of the link that stands at its place; what was met first
+pub mod HeldHalves
+pub mod FirstTroubles

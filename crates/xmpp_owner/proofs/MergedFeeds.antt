@@ -1,5 +1,5 @@
 -- The events are a merge of what was taken of each reader.
-use Rattle.std.proofs.Common.{◌≡◌, ℕ, zero, suc, ◌+◌, ◌≤◌, ◌<◌, inl, inr, List, [], ◌∷◌, length, refl, subst, sym, ap, ◌∙◌, arith}
+use Rattle.std.proofs.Common.{◌≡◌, ℕ, zero, suc, ◌+◌, ◌≤◌, inl, inr, List, [], ◌∷◌, length, refl, subst, sym, ap, ◌∙◌, arith}
 use lib.ListN.{get_elem?}
 use mathlib.Core.Option as maybe
 use mathlib.Core.Option.{none, some, some-ne-none}

@@ -9,6 +9,7 @@ use Rattle.crossbeam_channel.specs.Ends.{receives_on, sends_on}
 use Rattle.xmpp_readers.specs.declared.item.Item.{Item}
 use Rattle.xmpp_owner.specs.declared.place.Place.{Place}
 use Rattle.xmpp_owner.specs.declared.owner.Owner.{Owner}
+use Rattle.xmpp_owner.specs.declared.trouble.Trouble.{Trouble}
 use Rattle.xmpp_queue.specs.declared.rule.Known.{Known}
 use Rattle.xmpp_queue.specs.Merge.{items_of}
 use Rattle.xmpp_queue.specs.Rule.{owner, with_more}
@@ -53,6 +54,11 @@ come P old new k None r = let a = r.1 in let b = r.2 in (
 pub connected : (came : Bool) (old new : List Event) (e : Event) → came ≡ true → new ≡ cond came (old ++ e ∷ []) old → new ≡ old ++ e ∷ []
 connected true old new e came is = is
 connected false old new e came is = absurd (true≢false (sym came))
+
+-- what an `if` chose
+pub chosen : {A : Type 0} (b : Bool) (x y z : A) → b ≡ true → z ≡ cond b x y → z ≡ x
+chosen true x y z is e = e
+chosen false x y z is e = absurd (true≢false (sym is))
 
 if_both : {A : Type 0} (P Q : A → Type 0) (o : Option A) → IfSome o (λ a. P a × Q a) → IfSome o P × IfSome o Q
 if_both P Q None h = (tt, tt)
@@ -115,18 +121,18 @@ module _ {R I P T : Type 0} (events : T → List Event) where
         kept = subst (λ l. AreKept (events taker) (view h.pass).got l) (sym places_are) (marked (events taker) (view h.pass).got h.places.items i s.place q s.there same over before.kept);
       }
 
-  pub shut_door : (h : Owner R I P T) (x : Item P) → IsPending events h x → (HasNoReader h.places.items x.from) ⊎ (told_in x.what ≡ []) → IsGoing events (record h { closed = true })
-  shut_door h x w why = let g = pass_over h x w why in record {
+  pub shut_door : (h : Owner R I P T) (x : Item P) (met : Option Trouble) → IsPending events h x → (HasNoReader h.places.items x.from) ⊎ (told_in x.what ≡ []) → IsGoing events (record h { closed = true; met = met })
+  shut_door h x met w why = let g = pass_over h x w why in record {
     still = record { ends = g.still.ends; seat = g.still.seat; takes = g.still.takes; mute = g.still.mute; made = g.still.made; same = g.still.same };
     kept = g.kept;
   }
 
-  pub came : (h : Owner R I P T) (pass : Pass (Item P) (Known (Item P))) (places : Vec (Place R I P) Global) (taker : T) (p : Place R I P) → IsGoing events h
+  pub came : (h : Owner R I P T) (pass : Pass (Item P) (Known (Item P))) (places : Vec (Place R I P) Global) (taker : T) (met : Option Trouble) (p : Place R I P) → IsGoing events h
       → IsSeatAt (sends_on h.to) pass → view pass ≡ with_more (view h.pass) → items_of number (view h.pass).made (view h.pass).got ≡ []
       → places.items ≡ h.places.items ++ p ∷ [] → IfSome p.worker (λ job. (job.from ≡ length h.places.items + 1) × (sends_on job.to ≡ sends_on h.to)) → p.ended ≡ false
       → HasCome (events h.taker) (events taker) (length h.places.items + 1) p.worker
-      → IsGoing events (record h { pass = pass; places = places; taker = taker })
-  came h pass places taker p g seat more none grown job open_yet wrote =
+      → IsGoing events (record h { pass = pass; places = places; taker = taker; met = met })
+  came h pass places taker met p g seat more none grown job open_yet wrote =
       let k = length h.places.items + 1 in let w = come P (events h.taker) (events taker) k p.worker wrote in let both = if_both (λ job. job.from ≡ k) (λ job. sends_on job.to ≡ sends_on h.to) p.worker job in
       let got : (view pass).got ≡ (view h.pass).got = ap (λ (v : Known (Item P)). v.got) more in record {
         still = record {
@@ -161,8 +167,8 @@ module _ {R I P T : Type 0} (events : T → List Event) where
   none_yet h g j later = g.kept.others j (inr (omega arith))
 
   -- the event of a connection that was refused is none
-  pub refused : (h : Owner R I P T) (taker : T) → IsGoing events h → events taker ≡ events h.taker → IsGoing events (record h { taker = taker })
-  refused h taker g same = record {
+  pub refused : (h : Owner R I P T) (taker : T) (met : Option Trouble) → IsGoing events h → events taker ≡ events h.taker → IsGoing events (record h { taker = taker; met = met })
+  refused h taker met g same = record {
     still = record { ends = g.still.ends; seat = g.still.seat; takes = g.still.takes; mute = g.still.mute; made = g.still.made; same = g.still.same };
     kept = subst (λ (es : List Event). AreKept es (view h.pass).got h.places.items) (sym same) g.kept;
   }

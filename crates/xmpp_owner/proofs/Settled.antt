@@ -1,18 +1,15 @@
 -- A reader that was joined.
 use Rattle.std.proofs.Common.{◌≡◌, true, List, ◌++◌, sym, ap, ◌∙◌, subst}
-use Rattle.crossbeam_channel.specs.Claims.{Pass, view, IsSeatAt}
-use Rattle.crossbeam_channel.specs.Ends.{sends_on}
+use Rattle.crossbeam_channel.specs.Claims.{view}
 use Rattle.xmpp_queue.specs.declared.rule.Known.{Known}
 use Rattle.xmpp_readers.specs.declared.item.Item.{Item}
-use Rattle.xmpp_owner.specs.declared.owner.Owner.{Owner}
 use Rattle.xmpp_readers.specs.declared.reader.ReaderJob.{ReaderJob}
 use Rattle.xmpp_readers.specs.declared.reader.ReaderAnswer.{ReaderAnswer}
 use Rattle.xmpp_halves.specs.Halves.{IncomingView}
 use Rattle.xmpp_queue.specs.Merge.{items_of}
-use Rattle.xmpp_queue.specs.Rule.{with_told}
 use Rattle.xmpp_readers.specs.Feeds.{number, has_end}
 use Rattle.xmpp_readers.specs.Readers.{HasRead}
-use Rattle.xmpp_owner.specs.Owners.{IsOpen, HasGiven}
+use Rattle.xmpp_owner.specs.Owners.{HasGiven}
 use Rattle.xmpp_owner.proofs.WholeFeeds.{whole, end_is_last}
 use Rattle.xmpp_readers.proofs.LongerFeeds.{ended_is}
 
@@ -23,17 +20,7 @@ module _ {R I P : Type 0} where
       let from : (view answer.pass).from ≡ job.from = ap (λ (v : Known (Item P)). v.from) fed.shape in
       let is : (view answer.pass).put ≡ items_of number job.from got = sym (whole job.from got rest (view answer.pass).put (ap (λ k. items_of number k (got ++ rest)) (sym from) ∙ all) fed.feed ended) in
       let last = ended_is fed.feed.last.what (end_is_last fed.feed.body fed.feed.last fed.feed.pieces (subst (λ l. has_end l ≡ true) (sym is ∙ fed.feed.whole) ended)) in
-      shifted told job (view answer.pass).put (items_of number job.from got) answer.half is (record { feed = fed.feed; ended = last; number = fed.number; read = fed.read last; stopped = fed.stopped last })
+      shifted told job (view answer.pass).put (items_of number job.from got) answer.half is (record { feed = fed.feed; ended = last; number = fed.number; read = fed.read last; silent = fed.silent last; stopped = fed.stopped last })
     where
       shifted : (told : I → IncomingView) (job : ReaderJob R I P) (put taken : List (Item P)) (half : I) → put ≡ taken → HasGiven told job put half → HasGiven told job taken half
       shifted told job put taken half is h = subst (λ l. HasGiven told job l half) is h
-
-  pub still_open : {T : Type 0} (h : Owner R I P T) (pass : Pass (Item P) (Known (Item P))) (w : Known (Item P)) → IsOpen h → IsSeatAt (sends_on h.to) pass → view pass ≡ with_told (view h.pass) w → IsOpen (record h { pass = pass })
-  still_open h pass w o seat is = record {
-    ends = o.ends;
-    seat = seat;
-    takes = ap (λ (v : Known (Item P)). v.takes) is ∙ o.takes;
-    mute = ap (λ (v : Known (Item P)). v.sends) is ∙ o.mute;
-    made = ap (λ (v : Known (Item P)). v.made) is ∙ o.made;
-    same = o.same;
-  }

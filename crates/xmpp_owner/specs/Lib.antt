@@ -1,3 +1,4 @@
+pub use Rattle.xmpp_edge.specs.Counts
 pub use Rattle.xmpp_readers.specs.Feeds
 pub use Rattle.xmpp_readers.specs.Readers
 pub use Rattle.xmpp_queue.specs.Merge
@@ -7,3 +8,5 @@ pub mod Events
 pub mod Places
 -- view
 pub mod Owners
+pub mod Halves
+pub mod Troubles

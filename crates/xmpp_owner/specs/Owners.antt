@@ -1,5 +1,5 @@
 -- What is so of the owner between two items.
-use Rattle.std.specs.Prelude.{◌≡◌, ℕ, ◌+◌, true, false, List, [], ◌∷◌, ◌++◌, length, IfSome}
+use Rattle.std.specs.Prelude.{◌≡◌, ℕ, ◌+◌, true, false, List, [], ◌∷◌, ◌++◌, length, None, IfSome}
 use mathlib.Core.Option.{some}
 use lib.ListN.{get_elem?}
 use Rattle.crossbeam_channel.specs.Claims.{view, IsSeatAt}
@@ -46,4 +46,5 @@ module _ {R I P : Type 0} where
     pub number : (told half).number ≡ (told job.half).number
     pub ended : feed.last.what ≡ Ended
     pub read : Appends (told job.half).read (told half).read (bytes_of taken)
+    pub silent : (told job.half).read ≡ None → (told half).read ≡ None
     pub stopped : HasStopped (told half) (length (bytes_of taken))

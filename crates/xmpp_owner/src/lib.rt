@@ -4,9 +4,13 @@
 
 mod owner;
 mod place;
+mod settling;
 mod stepping;
 mod taker;
+mod trouble;
 
 pub use owner::Owner;
 pub use place::Place;
+pub use settling::settle;
 pub use taker::Taker;
+pub use trouble::Trouble;

@@ -1,12 +1,14 @@
 //! The owner of the queue.
 use crate::place::Place;
+use crate::trouble::Trouble;
 use std::alloc::Global;
 use std::sync::Wait;
 use xmpp_halves::Incoming;
 use xmpp_queue::{Receipt, Receiving, Sending};
 use xmpp_readers::Item;
 
-/// What the owner works with: the queue, its pass, the places of the connections, and what takes their events.
+/// What the owner works with: the queue, its pass, the places of the connections, what takes their events, whether no more
+/// connections are taken in, and what went wrong first.
 #[derive(Drop)]
 pub struct Owner<R: Wait + Drop, I: Incoming + Drop, P: Drop, T: Drop> {
     pub rt: R,
@@ -17,4 +19,5 @@ pub struct Owner<R: Wait + Drop, I: Incoming + Drop, P: Drop, T: Drop> {
     pub places: Vec<Place<R, I, P>>,
     pub taker: T,
     pub closed: bool,
+    pub met: Option<Trouble>,
 }

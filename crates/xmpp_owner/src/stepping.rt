@@ -1,32 +1,32 @@
 //! How the owner goes on from item to item.
-ghost use Rattle.std.specs.Prelude.{◌≡◌, ◌+◌, ◌++◌, ◌∷◌, [], true, false, Bool, IfOk, MatchOption, OnOk};
+ghost use Rattle.std.specs.Prelude.{◌≡◌, ◌≤◌, ◌<◌, ◌+◌, ◌++◌, ◌∷◌, [], true, false, length, vec_len, ℕ, Bool, List, None, Option, IfOk, MatchOption, OnOk};
+ghost use Rattle.std.specs.Vec.{vec_capacity};
 ghost use Rattle.crossbeam_channel.specs.Claims.{IsSeatAt, view};
 ghost use Rattle.crossbeam_channel.specs.Ends.{sends_on};
+ghost use Rattle.xmpp_halves.specs.Halves.{IsUnusedPair};
 ghost use Rattle.xmpp_owner.specs.Events.{AreMerged};
-ghost use Rattle.xmpp_owner.specs.Owners.{HasGiven, IsGoing, IsOpen, IsPending};
+ghost use Rattle.xmpp_owner.specs.Halves.{IsHeld};
+ghost use Rattle.xmpp_owner.specs.Owners.{IsGoing, IsPending};
 ghost use Rattle.xmpp_owner.specs.Places.{HasNoReader, IsStarted, are_over, feeds, is_over};
-ghost use Rattle.xmpp_queue.specs.Merge.{items_of};
+ghost use Rattle.xmpp_owner.specs.Troubles.{HasMet};
 ghost use Rattle.xmpp_queue.specs.Rule.{sender};
-ghost use Rattle.xmpp_readers.specs.Feeds.{has_end, number as number_of};
 ghost use Rattle.xmpp_readers.specs.declared.item.What.TheVariants.{Closed, Ended, Gave};
 
 use crate::owner::Owner;
 use crate::place::Place;
 use crate::taker::Taker;
+use crate::trouble::{Trouble, first};
 use std::alloc::Global;
 use std::sync::Wait;
-use std::thread::Threads;
 use xmpp_edge::NoMemory;
 use xmpp_halves::{Incoming, Outgoing, Pair};
-use xmpp_queue::{Receipt, Sending, hire, open, retire, take};
-use xmpp_readers::{Item, Piece, ReaderAnswer, ReaderJob, What};
-use xmpp_workers::{Spawner, Worker};
+use xmpp_outside::{Clock, Entropy};
+use xmpp_queue::{Receipt, Sending, hire, open, take};
+use xmpp_readers::{Item, Piece, ReaderJob, What};
+use xmpp_workers::Spawner;
 
 /// How many items the queue has room for.
 const ROOM: usize = 64;
-
-/// How many connections an owner takes in at most.
-const MOST_CONNECTIONS: usize = 1000;
 
 // The index of the place of a reader that was started.
 fn started<R: Wait + Drop, I: Incoming + Drop, P: Drop>(
@@ -44,20 +44,6 @@ fn started<R: Wait + Drop, I: Incoming + Drop, P: Drop>(
     } else {
         None
     }
-}
-
-// Gives a connection its place.
-fn seat<R: Wait + Drop, I: Incoming + Drop, P: Drop>(
-    places: &mut Vec<Place<R, I, P>>,
-    worker: Option<Worker<ReaderJob<R, I, P>>>,
-) -> Result<(), NoMemory>
-    ensures { OnOk result (places.new.items ≡ places.old.items ++ record { worker = worker; ended = false } ∷ []) }
-{
-    places.push(Place {
-        worker,
-        ended: false,
-    })?;
-    Ok(())
 }
 
 // Whether a connection has no reader that goes on.
@@ -104,6 +90,9 @@ impl<
     >
         requires { T.events taker ≡ [] }
         ensures going { IfOk result (λ r. IsGoing T.events r.0) }
+        ensures held { IfOk result (λ r. IsHeld I.told T.numbers r.0) }
+        ensures places { IfOk result (λ r. r.0.places.items ≡ []) }
+        ensures met { IfOk result (λ r. r.0.met ≡ None) }
         ensures taker { IfOk result (λ r. r.0.taker ≡ taker) }
         ensures acceptor { IfOk result (λ r. IsSeatAt (sends_on r.1) r.2 × (view r.2 ≡ sender 0)) }
         ensures queue { IfOk result (λ r. sends_on r.1 ≡ sends_on r.0.to) }
@@ -120,151 +109,297 @@ impl<
             places: Vec::new(alloc),
             taker,
             closed: false,
+            met: None,
         };
         Ok((owner, end, acceptor))
     }
 
-    /// Takes the next item, and does what it asks for. It waits until there is one.
-    pub fn step<S: Spawner>(&mut self, spawner: &mut S) -> Result<(), NoMemory>
-        requires { IsGoing T.events self.old }
-        ensures { OnOk result (IsGoing T.events self.new) }
+    // Takes the next item, and does what it asks for. It waits until there is one.
+    fn step<S: Spawner, C: Clock, E: Entropy>(
+        &mut self,
+        spawner: &mut S,
+        clock: &mut C,
+        entropy: &mut E,
+    ) -> Result<(), NoMemory>
+        requires going { IsGoing T.events self.old }
+        requires held { IsHeld I.told T.numbers self.old }
+        requires many { length (T.numbers self.old.taker) ≡ length self.old.places.items }
+        requires right { T.keeps self.old.taker (C.moment clock.old) (E.bytes entropy.old) }
+        ensures going { OnOk result (IsGoing T.events self.new) }
+        ensures held { IsHeld I.told T.numbers self.new }
+        ensures many { OnOk result (length (T.numbers self.new.taker) ≡ length self.new.places.items) }
+        ensures right { OnOk result (T.keeps self.new.taker (C.moment clock.old) (E.bytes entropy.old)) }
+        ensures met { (s e : ℕ) → HasMet self.old.met s e (S.faults spawner.old) (E.faults entropy.old) → OnOk result (HasMet self.new.met s e (S.faults spawner.new) (E.faults entropy.new)) }
+        ensures fixed { T.fixed self.new.taker ≡ T.fixed self.old.taker }
+        ensures moment { C.moment clock.new ≡ C.moment clock.old }
+        ensures bytes { E.bytes entropy.new ≡ E.bytes entropy.old }
     {
         let item = take(&self.rt, &self.at, &mut self.pass);
-        self.hear(spawner, item)
+        self.hear(spawner, clock, entropy, item)
     }
 
     // Does what an item asks for.
-    fn hear<S: Spawner>(&mut self, spawner: &mut S, item: Item<Pair<I, O>>) -> Result<(), NoMemory>
-        requires { IsPending T.events self.old item }
-        ensures { OnOk result (IsGoing T.events self.new) }
+    fn hear<S: Spawner, C: Clock, E: Entropy>(
+        &mut self,
+        spawner: &mut S,
+        clock: &mut C,
+        entropy: &mut E,
+        item: Item<Pair<I, O>>,
+    ) -> Result<(), NoMemory>
+        requires going { IsPending T.events self.old item }
+        requires held { IsHeld I.told T.numbers self.old }
+        requires many { length (T.numbers self.old.taker) ≡ length self.old.places.items }
+        requires right { T.keeps self.old.taker (C.moment clock.old) (E.bytes entropy.old) }
+        ensures going { OnOk result (IsGoing T.events self.new) }
+        ensures held { IsHeld I.told T.numbers self.new }
+        ensures many { OnOk result (length (T.numbers self.new.taker) ≡ length self.new.places.items) }
+        ensures right { OnOk result (T.keeps self.new.taker (C.moment clock.old) (E.bytes entropy.old)) }
+        ensures met { (s e : ℕ) → HasMet self.old.met s e (S.faults spawner.old) (E.faults entropy.old) → OnOk result (HasMet self.new.met s e (S.faults spawner.new) (E.faults entropy.new)) }
+        ensures fixed { T.fixed self.new.taker ≡ T.fixed self.old.taker }
+        ensures moment { C.moment clock.new ≡ C.moment clock.old }
+        ensures bytes { E.bytes entropy.new ≡ E.bytes entropy.old }
     {
         let Item { from, what } = item;
         match what {
-            What::Gave(piece) => self.gave(from, piece),
-            What::Ended => self.ended(from),
-            What::Closed(_) => self.closed(from),
-            What::Came(pair) => self.admit(spawner, pair),
-            What::Wanted => Err(NoMemory),
-        }
-    }
-
-    // A piece came.
-    fn gave(&mut self, from: u64, piece: Piece) -> Result<(), NoMemory>
-        requires { IsPending T.events self.old (record { from = from; what = Gave piece }) }
-        ensures { OnOk result (IsGoing T.events self.new) }
-    {
-        match started(self.places.as_slice(), from) {
-            None => Ok(()),
-            Some(_) => self.taker.piece(from, piece),
-        }
-    }
-
-    // A reader has ended.
-    fn ended(&mut self, from: u64) -> Result<(), NoMemory>
-        requires { IsPending T.events self.old (record { from = from; what = Ended }) }
-        ensures { OnOk result (IsGoing T.events self.new) }
-    {
-        match started(self.places.as_slice(), from) {
-            None => Ok(()),
-            Some(index) => {
-                self.taker.gone(from)?;
-                self.places[index].ended = true;
+            What::Gave(piece) => self.gave(clock, from, piece),
+            What::Ended => self.ended(clock, from),
+            What::Closed(failed) => {
+                self.closed(from, failed);
                 Ok(())
+            }
+            What::Came(pair) => self.admit(spawner, clock, entropy, pair),
+            What::Wanted => {
+                self.mark(from);
+                Err(NoMemory)
             }
         }
     }
 
+    // A piece came.
+    fn gave<C: Clock>(&mut self, clock: &mut C, from: u64, piece: Piece) -> Result<(), NoMemory>
+        requires going { IsPending T.events self.old (record { from = from; what = Gave piece }) }
+        requires held { IsHeld I.told T.numbers self.old }
+        requires many { length (T.numbers self.old.taker) ≡ length self.old.places.items }
+        ensures going { OnOk result (IsGoing T.events self.new) }
+        ensures held { IsHeld I.told T.numbers self.new }
+        ensures many { length (T.numbers self.new.taker) ≡ length self.new.places.items }
+        ensures right { (drawn : Option (List ℕ)) → T.keeps self.old.taker (C.moment clock.old) drawn → OnOk result (T.keeps self.new.taker (C.moment clock.old) drawn) }
+        ensures met { self.new.met ≡ self.old.met }
+        ensures fixed { T.fixed self.new.taker ≡ T.fixed self.old.taker }
+        ensures moment { C.moment clock.new ≡ C.moment clock.old }
+    {
+        match started(self.places.as_slice(), from) {
+            None => Ok(()),
+            Some(_) => self.taker.piece(clock, from, piece),
+        }
+    }
+
+    // A reader has ended.
+    fn ended<C: Clock>(&mut self, clock: &mut C, from: u64) -> Result<(), NoMemory>
+        requires going { IsPending T.events self.old (record { from = from; what = Ended }) }
+        requires held { IsHeld I.told T.numbers self.old }
+        requires many { length (T.numbers self.old.taker) ≡ length self.old.places.items }
+        ensures going { OnOk result (IsGoing T.events self.new) }
+        ensures held { IsHeld I.told T.numbers self.new }
+        ensures many { length (T.numbers self.new.taker) ≡ length self.new.places.items }
+        ensures right { (drawn : Option (List ℕ)) → T.keeps self.old.taker (C.moment clock.old) drawn → OnOk result (T.keeps self.new.taker (C.moment clock.old) drawn) }
+        ensures met { self.new.met ≡ self.old.met }
+        ensures fixed { T.fixed self.new.taker ≡ T.fixed self.old.taker }
+        ensures moment { C.moment clock.new ≡ C.moment clock.old }
+    {
+        match started(self.places.as_slice(), from) {
+            None => Ok(()),
+            Some(index) => {
+                self.places[index].ended = true;
+                self.taker.gone(clock, from)
+            }
+        }
+    }
+
+    // A reader sends nothing more.
+    fn mark(&mut self, from: u64)
+        requires held { IsHeld I.told T.numbers self.old }
+        ensures held { IsHeld I.told T.numbers self.new }
+        ensures taker { self.new.taker ≡ self.old.taker }
+    {
+        match started(self.places.as_slice(), from) {
+            None => {}
+            Some(index) => self.places[index].ended = true,
+        }
+    }
+
     // No more connections are taken in.
-    fn closed(&mut self, from: u64) -> Result<(), NoMemory>
-        requires { (failed : Bool) × IsPending T.events self.old (record { from = from; what = Closed failed }) }
-        ensures { OnOk result (IsGoing T.events self.new) }
+    fn closed(&mut self, from: u64, failed: bool)
+        requires going { IsPending T.events self.old (record { from = from; what = Closed failed }) }
+        requires held { IsHeld I.told T.numbers self.old }
+        ensures going { IsGoing T.events self.new }
+        ensures held { IsHeld I.told T.numbers self.new }
+        ensures same { (self.new.taker ≡ self.old.taker) × (self.new.places ≡ self.old.places) }
+        ensures met { (s e t f : ℕ) → HasMet self.old.met s e t f → HasMet self.new.met s e t f }
     {
         self.closed = true;
-        Ok(())
+        if failed {
+            self.met = first(self.met, Trouble::Door);
+        }
     }
 
     // A connection came.
-    fn admit<S: Spawner>(&mut self, spawner: &mut S, pair: Pair<I, O>) -> Result<(), NoMemory>
-        requires { IsGoing T.events self.old }
-        ensures { OnOk result (IsGoing T.events self.new) }
+    fn admit<S: Spawner, C: Clock, E: Entropy>(
+        &mut self,
+        spawner: &mut S,
+        clock: &mut C,
+        entropy: &mut E,
+        pair: Pair<I, O>,
+    ) -> Result<(), NoMemory>
+        requires going { IsGoing T.events self.old }
+        requires held { IsHeld I.told T.numbers self.old }
+        requires many { length (T.numbers self.old.taker) ≡ length self.old.places.items }
+        requires right { T.keeps self.old.taker (C.moment clock.old) (E.bytes entropy.old) }
+        ensures going { OnOk result (IsGoing T.events self.new) }
+        ensures held { IsHeld I.told T.numbers self.new }
+        ensures many { OnOk result (length (T.numbers self.new.taker) ≡ length self.new.places.items) }
+        ensures right { OnOk result (T.keeps self.new.taker (C.moment clock.old) (E.bytes entropy.old)) }
+        ensures met { (s e : ℕ) → HasMet self.old.met s e (S.faults spawner.old) (E.faults entropy.old) → OnOk result (HasMet self.new.met s e (S.faults spawner.new) (E.faults entropy.new)) }
+        ensures fixed { T.fixed self.new.taker ≡ T.fixed self.old.taker }
+        ensures moment { C.moment clock.new ≡ C.moment clock.old }
+        ensures bytes { E.bytes entropy.new ≡ E.bytes entropy.old }
     {
         self.make_room()?;
         let (incoming, outgoing) = pair.apart();
-        self.come_in(spawner, incoming, outgoing)
+        self.come_in(spawner, clock, entropy, incoming, outgoing)
     }
 
     // A worker that finds no place would not be joined, so that there is one before it is started.
     fn make_room(&mut self) -> Result<(), NoMemory>
-        requires { IsGoing T.events self.old }
-        ensures { OnOk result (IsGoing T.events self.new) }
+        requires going { IsGoing T.events self.old }
+        requires held { IsHeld I.told T.numbers self.old }
+        ensures going { IsGoing T.events self.new }
+        ensures held { IsHeld I.told T.numbers self.new }
+        ensures places { self.new.places.items ≡ self.old.places.items }
+        ensures same { (self.new.taker ≡ self.old.taker) × (self.new.met ≡ self.old.met) }
+        ensures room { OnOk result (vec_len self.new.places < vec_capacity self.new.places) }
     {
         self.places.reserve(1)?;
         Ok(())
     }
 
     // Makes a place for a connection, and starts its reader.
-    fn come_in<S: Spawner>(
+    fn come_in<S: Spawner, C: Clock, E: Entropy>(
         &mut self,
         spawner: &mut S,
+        clock: &mut C,
+        entropy: &mut E,
         incoming: I,
         outgoing: O,
     ) -> Result<(), NoMemory>
-        requires { IsGoing T.events self.old }
-        ensures { OnOk result (IsGoing T.events self.new) }
+        requires going { IsGoing T.events self.old }
+        requires held { IsHeld I.told T.numbers self.old }
+        requires many { length (T.numbers self.old.taker) ≡ length self.old.places.items }
+        requires right { T.keeps self.old.taker (C.moment clock.old) (E.bytes entropy.old) }
+        requires room { vec_len self.old.places < vec_capacity self.old.places }
+        requires pair { IsUnusedPair (I.told incoming) (O.told outgoing) }
+        ensures going { OnOk result (IsGoing T.events self.new) }
+        ensures held { IsHeld I.told T.numbers self.new }
+        ensures many { OnOk result (length (T.numbers self.new.taker) ≡ length self.new.places.items) }
+        ensures right { OnOk result (T.keeps self.new.taker (C.moment clock.old) (E.bytes entropy.old)) }
+        ensures met { (s e : ℕ) → HasMet self.old.met s e (S.faults spawner.old) (E.faults entropy.old) → OnOk result (HasMet self.new.met s e (S.faults spawner.new) (E.faults entropy.new)) }
+        ensures fixed { T.fixed self.new.taker ≡ T.fixed self.old.taker }
+        ensures moment { C.moment clock.new ≡ C.moment clock.old }
+        ensures bytes { E.bytes entropy.new ≡ E.bytes entropy.old }
     {
-        let count = self.places.as_slice().len();
-        if count >= MOST_CONNECTIONS {
-            return Err(NoMemory);
-        }
-        let number = count as u64 + 1;
+        let number = self.places.as_slice().len() as u64 + 1;
         let to = self.to.try_clone()?;
-        if !self.taker.connect(number, outgoing)? {
+        if !self.taker.connect(clock, entropy, number, outgoing)? {
+            self.met = first(self.met, Trouble::Entropy);
             return Ok(());
         }
         let pass = hire(&self.to, &mut self.pass);
         let job = ReaderJob::new(self.rt, self.alloc, incoming, to, pass, number);
         match spawner.start(job) {
-            Ok(worker) => seat(&mut self.places, Some(worker)),
+            Ok(worker) => {
+                self.places.push_reserved(Place {
+                    worker: Some(worker),
+                    ended: false,
+                });
+                Ok(())
+            }
             Err(_) => {
-                self.taker.gone(number)?;
-                seat(&mut self.places, None)
+                self.met = first(self.met, Trouble::Worker);
+                self.taker.gone(clock, number)?;
+                self.places.push_reserved(Place {
+                    worker: None,
+                    ended: false,
+                });
+                Ok(())
             }
         }
     }
 
-    /// Joins the reader of a connection whose end was taken, and takes in its pass: what was taken of it is all that its half
-    /// gave.
-    pub fn settle(&mut self, number: u64, worker: Worker<ReaderJob<R, I, Pair<I, O>>>) -> I
-    where
-        R: Threads,
-        requires still { IsOpen self.old }
-        requires job { (sends_on worker.to ≡ sends_on self.old.to) × (worker.from ≡ number) }
-        requires ended { has_end (items_of number_of number (view self.old.pass).got) ≡ true }
-        ensures still { IsOpen self.new }
-        ensures got { (view self.new.pass).got ≡ (view self.old.pass).got }
-        ensures taker { self.new.taker ≡ self.old.taker }
-        ensures places { self.new.places ≡ self.old.places }
-        ensures feed { HasGiven I.told worker (items_of number_of number (view self.old.pass).got) result }
-    {
-        let ReaderAnswer { half, pass } = worker.join(&self.rt);
-        retire(&self.to, &mut self.pass, pass);
-        half
-    }
-
     /// Goes on until no more connections are taken in, and each reader that was started has ended. The events are a merge of
-    /// what was taken of each reader.
-    pub fn run<S: Spawner>(&mut self, spawner: &mut S) -> Result<(), NoMemory>
-        requires { IsGoing T.events self.old }
+    /// what was taken of each reader. What went wrong outside is kept in `met`, and the run goes on.
+    pub fn run<S: Spawner, C: Clock, E: Entropy>(
+        &mut self,
+        spawner: &mut S,
+        clock: &mut C,
+        entropy: &mut E,
+    ) -> Result<(), NoMemory>
+        requires going { IsGoing T.events self.old }
+        requires held { IsHeld I.told T.numbers self.old }
+        requires many { length (T.numbers self.old.taker) ≡ length self.old.places.items }
+        requires right { T.keeps self.old.taker (C.moment clock.old) (E.bytes entropy.old) }
+        requires met { self.old.met ≡ None }
         ensures going { OnOk result (IsGoing T.events self.new) }
         ensures over { OnOk result (are_over self.new.places.items ≡ true) }
         ensures merged { OnOk result (AreMerged (T.events self.new.taker) (feeds self.new.places.items (view self.new.pass).got)) }
+        ensures held { IsHeld I.told T.numbers self.new }
+        ensures many { OnOk result (length (T.numbers self.new.taker) ≡ length self.new.places.items) }
+        ensures right { OnOk result (T.keeps self.new.taker (C.moment clock.old) (E.bytes entropy.old)) }
+        ensures met { OnOk result (HasMet self.new.met (S.faults spawner.old) (E.faults entropy.old) (S.faults spawner.new) (E.faults entropy.new)) }
+        ensures fixed { T.fixed self.new.taker ≡ T.fixed self.old.taker }
+        ensures moment { C.moment clock.new ≡ C.moment clock.old }
+        ensures bytes { E.bytes entropy.new ≡ E.bytes entropy.old }
     {
         let rt = self.rt;
         for _ in rt.forever() {
             if self.closed && all_ended(self.places.as_slice()) {
                 return Ok(());
             }
-            self.step(spawner)?;
+            self.step(spawner, clock, entropy)?;
+        }
+        unreachable!()
+    }
+
+    // An item that is no event any more.
+    fn pass_by(&mut self, item: Item<Pair<I, O>>)
+        requires held { IsHeld I.told T.numbers self.old }
+        ensures held { IsHeld I.told T.numbers self.new }
+    {
+        let Item { from, what } = item;
+        match what {
+            What::Gave(_) => {}
+            What::Ended | What::Wanted => self.mark(from),
+            What::Closed(_) => self.closed = true,
+            What::Came(pair) => {
+                let (_incoming, mut outgoing) = pair.apart();
+                outgoing.close();
+            }
+        }
+    }
+
+    /// After want of memory: closes all halves, and takes items until no more connections are taken in, and each reader that
+    /// was started has sent its last. So no worker waits for room in the queue, and all can be joined.
+    pub fn drain(&mut self)
+        requires held { IsHeld I.told T.numbers self.old }
+        ensures held { IsHeld I.told T.numbers self.new }
+    {
+        self.taker.close_all();
+        let rt = self.rt;
+        for _ in rt.forever() {
+            if self.closed && all_ended(self.places.as_slice()) {
+                return;
+            }
+            let item = take(&self.rt, &self.at, &mut self.pass);
+            self.pass_by(item);
         }
         unreachable!()
     }

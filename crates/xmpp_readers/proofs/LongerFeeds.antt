@@ -1,5 +1,5 @@
 -- What a reader has sent, one item longer.
-use Rattle.std.proofs.Common.{◌≡◌, ℕ, ◌+◌, true, false, true≢false, ◌&&◌, List, [], ◌∷◌, ◌++◌, length, sym, refl, ap, ◌∙◌, subst, append_assoc, append-nil, length-append}
+use Rattle.std.proofs.Common.{◌≡◌, ℕ, ◌+◌, true, false, true≢false, ◌&&◌, List, [], ◌∷◌, ◌++◌, length, sym, refl, ap, ◌∙◌, subst, append_assoc, append-nil, length-append, None}
 use Rattle.std.specs.Io.KnownBytes.{Appends}
 use Rattle.std.proofs.KnownBytes.{Appends-trans, Appends-nil}
 use Rattle.xmpp_queue.specs.declared.rule.Known.{Known}
@@ -27,18 +27,19 @@ module _ {P : Type 0} where
 
   -- one more piece was read and sent
   pub reads_on : (k : ℕ) (v w : Known (Item P)) (x : Item P) (start was now : IncomingView) → IsReading k v start was → w ≡ with_put v x → is_piece x.what ≡ true
-      → Appends was.read now.read (bytes_in x.what) → now.number ≡ was.number → IsReading k w start now
-  reads_on k v w x start was now r is one more number = subst (λ w. IsReading k w start now) (sym is) (record {
+      → Appends was.read now.read (bytes_in x.what) → (was.read ≡ None → now.read ≡ None) → now.number ≡ was.number → IsReading k w start now
+  reads_on k v w x start was now r is one more silent number = subst (λ w. IsReading k w start now) (sym is) (record {
     shape = ap (λ u. with_put u x) r.shape;
     pieces = pieces_more v.put x r.pieces one;
     read = subst (λ l. Appends start.read now.read l) (sym (bytes_more v.put x)) (Appends-trans start.read was.read now.read (bytes_of v.put) (bytes_in x.what) r.read more);
+    silent = λ e. silent (r.silent e);
     number = number ∙ r.number;
   })
 
   pub starts : (k : ℕ) (v : Known (Item P)) (t : IncomingView) → v ≡ sender k → IsReading k v t t × (length (bytes_of v.put) ≡ 0)
   unfolding are_pieces bytes_of
   starts k v t is = subst (λ v. IsReading k v t t × (length (bytes_of v.put) ≡ 0)) (sym is)
-      (record { shape = refl; pieces = refl; read = Appends-nil t.read; number = refl }, refl)
+      (record { shape = refl; pieces = refl; read = Appends-nil t.read; silent = λ e. e; number = refl }, refl)
 
   pub counts_on : (v w : Known (Item P)) (x : Item P) (n : ℕ) → w ≡ with_put v x → length (bytes_of v.put) ≡ n → length (bytes_of w.put) ≡ n + length (bytes_in x.what)
   counts_on v w x n is was = ap (λ (u : Known (Item P)). length (bytes_of u.put)) is ∙ ap length (bytes_more v.put x) ∙ length-append (bytes_of v.put) (bytes_in x.what) ∙ ap (λ m. m + length (bytes_in x.what)) was
@@ -55,9 +56,10 @@ module _ {P : Type 0} where
       → IsSeatAt (sends_on job.to) pass → view pass ≡ with_put v x → v ≡ has_sent job.from v.put → are_pieces v.put ≡ true → is_last x.what ≡ true
       → (told half).number ≡ (told job.half).number
       → (x.what ≡ Ended → Appends (told job.half).read (told half).read (bytes_of v.put))
+      → (x.what ≡ Ended → (told job.half).read ≡ None → (told half).read ≡ None)
       → (x.what ≡ Ended → HasStopped (told half) (length (bytes_of v.put)))
       → HasRead told job (record { half = half; pass = pass })
-  has_read told job half pass v x seat is shape pieces ends number read stopped =
+  has_read told job half pass v x seat is shape pieces ends number read silent stopped =
       let put : (view pass).put ≡ v.put ++ x ∷ [] = ap (λ (u : Known (Item P)). u.put) is in
       let bytes : bytes_of (view pass).put ≡ bytes_of v.put = ap bytes_of put ∙ bytes_more v.put x ∙ ap (λ l. bytes_of v.put ++ l) (no_bytes x.what ends) ∙ append-nil (bytes_of v.put) in
       record {
@@ -66,6 +68,7 @@ module _ {P : Type 0} where
         feed = record { body = v.put; last = x; whole = put; pieces = pieces; ends = ends };
         number = number;
         read = λ e. subst (λ l. Appends (told job.half).read (told half).read l) (sym bytes) (read e);
+        silent = silent;
         stopped = λ e. subst (λ l. HasStopped (told half) (length l)) (sym bytes) (stopped e);
       }
 

@@ -38,12 +38,11 @@ module _ {P : Type 0} where
     pub seat : IsSeatAt (sends_on job.to) answer.pass
     pub shape : view answer.pass ≡ has_sent 0 (view answer.pass).put
     pub body : List (Item P)
-    pub failed : Bool
-    pub whole : (view answer.pass).put ≡ body ++ closed_item failed ∷ []
+    pub whole : (view answer.pass).put ≡ body ++ closed_item answer.failed ∷ []
     pub arrivals : are_arrivals body ≡ true
     pub most : length body ≤ job.count
-    pub all : failed ≡ false → length body ≡ job.count
-    pub cause : failed ≡ true → Rose (faults job.door) (faults answer.door)
-    pub quiet : failed ≡ false → faults answer.door ≡ faults job.door
+    pub all : answer.failed ≡ false → length body ≡ job.count
+    pub cause : answer.failed ≡ true → Rose (faults job.door) (faults answer.door)
+    pub quiet : answer.failed ≡ false → faults answer.door ≡ faults job.door
     pub handed_is : handed answer.door ≡ counted_times (length body) (handed job.door)
     pub given_is : given answer.door ≡ given job.door

@@ -1,5 +1,5 @@
 -- What a reader's answer has to do with its job.
-use Rattle.std.specs.Prelude.{◌≡◌, ℕ, ◌<◌, ◌≤◌, ◌⊎◌, true, length}
+use Rattle.std.specs.Prelude.{◌≡◌, ℕ, ◌<◌, ◌≤◌, ◌⊎◌, true, length, None}
 use Rattle.std.specs.Io.KnownBytes.{Appends}
 use Rattle.crossbeam_channel.specs.Claims.{view, IsSeatAt}
 use Rattle.crossbeam_channel.specs.Ends.{sends_on}
@@ -22,6 +22,7 @@ module _ {P : Type 0} where
     pub shape : v ≡ has_sent k v.put
     pub pieces : are_pieces v.put ≡ true
     pub read : Appends start.read now.read (bytes_of v.put)
+    pub silent : start.read ≡ None → now.read ≡ None
     pub number : now.number ≡ start.number
 
   -- The reader sent pieces, and then its last item. Where that is the end of all that it read, the pieces are what its half
@@ -32,4 +33,5 @@ module _ {P : Type 0} where
     pub feed : IsFeed (view answer.pass).put
     pub number : (told answer.half).number ≡ (told job.half).number
     pub read : feed.last.what ≡ Ended → Appends (told job.half).read (told answer.half).read (bytes_of (view answer.pass).put)
+    pub silent : feed.last.what ≡ Ended → (told job.half).read ≡ None → (told answer.half).read ≡ None
     pub stopped : feed.last.what ≡ Ended → HasStopped (told answer.half) (length (bytes_of (view answer.pass).put))

@@ -64,6 +64,6 @@ impl<R: Wait + Drop, D: Halves + Drop> Job for AcceptorJob<R, D, Pair<D::Incomin
         let failed = accept_all(&rt, &mut door, &to, &mut pass, count);
         let what = What::Closed(failed);
         post(&rt, &to, &mut pass, Item { from: 0, what });
-        AcceptorAnswer { door, pass }
+        AcceptorAnswer { door, pass, failed }
     }
 }

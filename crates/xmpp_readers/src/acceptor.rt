@@ -20,11 +20,12 @@ pub struct AcceptorJob<R: Drop, D: Drop, P: Drop> {
     ghost unused: { view pass ≡ sender 0 },
 }
 
-/// What the acceptor gives back in the end.
+/// What the acceptor gives back in the end, and whether the door failed.
 #[derive(Drop)]
 pub struct AcceptorAnswer<D: Drop, P: Drop> {
     pub door: D,
     pub pass: Receipt<Item<P>>,
+    pub failed: bool,
 }
 
 impl<R: Drop, D: Drop, P: Drop> AcceptorJob<R, D, P> {

@@ -1,3 +1,4 @@
+//! What a server does in threads of its own: an acceptor takes connections in, and the
 //! reader of each connection reads its bytes. All send what they have to one queue, whose owner takes it.
 #![tactic(auto)]
 

@@ -1,5 +1,5 @@
 //! How a reader works.
-ghost use Rattle.std.specs.Prelude.{◌≡◌, ◌<◌, ◌≤◌, ◌⊎◌, length, IfNone, IfOk, IfSome, OnOk, true};
+ghost use Rattle.std.specs.Prelude.{◌≡◌, ◌<◌, ◌≤◌, ◌⊎◌, length, None, IfNone, IfOk, IfSome, OnOk, true};
 ghost use Rattle.std.specs.Io.KnownBytes.{Appends, Keeps};
 ghost use Rattle.crossbeam_channel.specs.Claims.{IsSeatAt, view};
 ghost use Rattle.crossbeam_channel.specs.Ends.{sends_on};
@@ -25,6 +25,7 @@ pub const MOST_BYTES_GIVEN: u64 = 67_108_864;
 // The next piece, or none where the read failed or found the end.
 fn next_piece<I: Incoming>(alloc: Global, half: &mut I) -> Result<Option<Piece>, NoMemory>
     ensures number { (I.told half.new).number ≡ (I.told half.old).number }
+    ensures silent { (I.told half.old).read ≡ None → (I.told half.new).read ≡ None }
     ensures some { IfOk result (λ o. IfSome o (λ piece. Appends (I.told half.old).read (I.told half.new).read piece.bytes.items)) }
     ensures bound { IfOk result (λ o. IfSome o (λ piece. length piece.bytes.items ≤ MOST_BYTES_ASKED)) }
     ensures none { IfOk result (λ o. IfNone o (Keeps (I.told half.old).read (I.told half.new).read)) }

@@ -14,6 +14,6 @@ loop-preserved g c =
     let told = g.I.Incoming.told in
     let more = rw c.in-Some-2.is at c.in_ok-next_piece.ensures.some in (
       c.post.ensures.channel,
-      reads_on c.args.from (view c.loop.pass) (view c.post.new.pass) item (told c.args.half.now) (told c.loop.half) (told c.next_piece.new.half) c.loop.invariant.1 c.post.ensures.put refl more c.next_piece.ensures.number,
+      reads_on c.args.from (view c.loop.pass) (view c.post.new.pass) item (told c.args.half.now) (told c.loop.half) (told c.next_piece.new.half) c.loop.invariant.1 c.post.ensures.put refl more c.next_piece.ensures.silent c.next_piece.ensures.number,
       counts_on (view c.loop.pass) (view c.post.new.pass) item c.loop.total c.post.ensures.put c.loop.invariant.2 ∙ ap (λ (l : List ℕ). c.loop.total + length l) (sym c.as_slice.ensures),
     )

@@ -2,4 +2,4 @@ use Rattle.xmpp_owner.proofs.MergedFeeds.{merged}
 use Rattle.xmpp_owner.proofs.stepping.Owner+R+I+Pair+I+O+T.run.Goals as goal
 
 pub returns-then-all_ended-clause-merged : goal.returns-then-all_ended-clause-merged
-returns-then-all_ended-clause-merged g c = merged _ _ _ c.loop.invariant.kept
+returns-then-all_ended-clause-merged g c = merged _ _ _ c.loop.invariant.going.kept

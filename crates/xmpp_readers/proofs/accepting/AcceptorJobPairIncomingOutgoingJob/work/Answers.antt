@@ -15,7 +15,6 @@ returns g c =
       seat = c.post.ensures.channel;
       shape = c.post.ensures.put ∙ ap (λ v. with_put v (closed_item c.accept_all-failed.result)) took.shape ∙ ap (has_sent 0) (sym put);
       body = before.put;
-      failed = c.accept_all-failed.result;
       whole = put;
       arrivals = took.arrivals;
       most = took.most;

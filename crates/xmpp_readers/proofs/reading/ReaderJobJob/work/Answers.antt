@@ -12,7 +12,7 @@ returns g c =
     let item : Item g.row.P.Denot = record { from = job.from; what = c.match-read_on.what } in
     elim c.match-read_on.branch [
       | in-Ok w ↦ let r = rw w.in-Ok.is at read.ok in let s = rw w.in-Ok.is at read.stopped in
-          has_read told job c.read_on.new.half c.post.new.pass (view c.read_on.new.pass) item c.post.ensures.channel c.post.ensures.put read.shape read.pieces (ap is_last w.what-is) read.number (λ _. r.read) (λ _. s)
+          has_read told job c.read_on.new.half c.post.new.pass (view c.read_on.new.pass) item c.post.ensures.channel c.post.ensures.put read.shape read.pieces (ap is_last w.what-is) read.number (λ _. r.read) (λ _. r.silent) (λ _. s)
       | in-Err w ↦
-          has_read told job c.read_on.new.half c.post.new.pass (view c.read_on.new.pass) item c.post.ensures.channel c.post.ensures.put read.shape read.pieces (ap is_last w.what-is) read.number (not_ended c.match-read_on.what w.what-is) (not_ended c.match-read_on.what w.what-is)
+          has_read told job c.read_on.new.half c.post.new.pass (view c.read_on.new.pass) item c.post.ensures.channel c.post.ensures.put read.shape read.pieces (ap is_last w.what-is) read.number (not_ended c.match-read_on.what w.what-is) (not_ended c.match-read_on.what w.what-is) (not_ended c.match-read_on.what w.what-is)
     ]

@@ -1,0 +1,23 @@
+-- What went out on the halves of connections.
+use Rattle.std.specs.Prelude.{◌≡◌, ℕ, ◌+◌, ◌≤◌, true, false, Bool, List, map, IfSome}
+use mathlib.Core.Option.{some}
+use lib.ListN.{get_elem?}
+use Rattle.xmpp_halves.specs.Halves.{OutgoingView}
+use Rattle.xmpp_senders.specs.Puts.{IsFront}
+use Rattle.xmpp_senders.specs.declared.sender.Sender.{Sender}
+
+-- The front of these bytes went out on a half, and all of them where no write of it failed. `broken` tells whether one did.
+pub record HasSent (bytes : List ℕ) (broken : Bool) (half : OutgoingView) : Type 0 where
+  pub front : IfSome half.written (λ written. IsFront written bytes)
+  pub all : broken ≡ false → IfSome half.written (λ written. written ≡ bytes)
+  pub whole : broken ≡ false → half.faults ≡ 0
+  pub broke : broken ≡ true → 1 ≤ half.faults
+
+module _ {O : Type 0} (told : O → OutgoingView) where
+  -- so did those of each connection. The half of connection k stands at index k - 1
+  abbrev pub HaveSent : (ℕ → List ℕ) → List (Sender O) → Type 0
+  HaveSent bytes senders = (i : ℕ) (s : Sender O) → get_elem? senders i ≡ some s → HasSent (bytes (i + 1)) s.broken (told s.half)
+
+  -- the numbers of the links of which these are the halves
+  abbrev pub numbers_of : List (Sender O) → List ℕ
+  numbers_of senders = map (λ s. (told s.half).number) senders
