@@ -1,0 +1,4 @@
+-- ---- moments, and connections that come and go
+pub mod MomentsTurned
+-- ---- bytes
+pub mod EventsTurned

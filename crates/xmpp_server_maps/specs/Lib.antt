@@ -1,0 +1,2 @@
+-- a server of bytes as the image of one of items
+pub mod Images

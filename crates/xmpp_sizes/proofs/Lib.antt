@@ -1,0 +1,6 @@
+-- ---- texts
+pub mod TextSizes
+pub mod Characters
+pub mod Numerals
+-- ---- elements
+pub mod ElementSizes
