@@ -3,4 +3,4 @@
 
 mod laws;
 
-pub use laws::texts_are_put_together;
+pub use laws::{elements_are_put_together, texts_are_put_together};
