@@ -1,10 +1,13 @@
 //! The laws.
-ghost use Rattle.std.specs.Prelude.{◌≡◌, ◌≤◌, ◌<◌, ◌+◌, ◌*◌, ◌^◌, ℕ, List, ◌++◌, true, Some, length};
+ghost use Rattle.std.specs.Prelude.{◌≡◌, ◌≤◌, ◌<◌, ◌+◌, ◌*◌, ◌^◌, ℕ, List, ◌++◌, true, Some, Ok, length};
 ghost use Rattle.std.specs.Fmt.{decimal};
 ghost use Rattle.std.specs.List.{list_all};
 ghost use Rattle.xmpp_basis.specs.Hexadecimal.{hex16_of};
+ghost use Rattle.xmpp_jid.specs.Forms.{domain_form, local_form, resource_form};
+ghost use Rattle.xmpp_jid.specs.Normal.{normal};
 ghost use Rattle.xmpp_sizes.specs.Elements.{are_local, attributes_size, element_size, nodes_size};
 ghost use Rattle.xmpp_sizes.specs.Texts.{Said, is_printable, value_size, text_size};
+ghost use Rattle.xmpp_tokens.specs.Lines.{IsCharacters};
 ghost use Rattle.xmpp_trees.specs.Attributes.{Attribute};
 ghost use Rattle.xmpp_trees.specs.Readers.{attr_of, text_of};
 ghost use Rattle.xmpp_trees.specs.Trees.{Elem, Nodes, child, element, joined, namespace_of, nodes_of};
@@ -31,4 +34,14 @@ pub fn elements_are_put_together()
     ensures child { (default : List ℕ) (e : Elem) (rest : Nodes) → nodes_size default (child e rest) ≡ element_size default e + nodes_size default rest }
     ensures joined { (default : List ℕ) (ks more : Nodes) → nodes_size default (joined ks more) ≡ nodes_size default ks + nodes_size default more }
     ensures text { (default : List ℕ) (ks : Nodes) → text_size (text_of ks) ≤ nodes_size default ks }
+{}
+
+/// A law: an address in normal form, and each part of one, is a text of XML's characters where the text that it is made
+/// of is one. A part has at most 1,023 bytes, and so takes at most 6,138 as a value is written. (The rule of a resource
+/// alone would allow U+FFFE and U+FFFF, which are no characters of XML's: no normal form C has them where the text has not.)
+pub fn addresses_are_short()
+    ensures local { (given part : List ℕ) → local_form given ≡ Ok part → Said 6138 part }
+    ensures domain { (given part : List ℕ) → domain_form given ≡ Ok part → Said 6138 part }
+    ensures resource { (given part : List ℕ) → IsCharacters given → resource_form given ≡ Ok part → Said 6138 part }
+    ensures whole { (text out : List ℕ) → IsCharacters text → normal text ≡ Ok out → Said 18426 out }
 {}

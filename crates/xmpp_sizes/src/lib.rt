@@ -3,4 +3,4 @@
 
 mod laws;
 
-pub use laws::{elements_are_put_together, texts_are_put_together};
+pub use laws::{addresses_are_short, elements_are_put_together, texts_are_put_together};
