@@ -1,0 +1,2 @@
+-- elements that a client reads as they are written
+pub mod Fine
