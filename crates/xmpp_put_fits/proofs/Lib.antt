@@ -2,3 +2,7 @@
 pub mod Parts
 -- ---- what a server says by itself
 pub mod Replies
+pub mod Requests
+-- ---- what it passes on
+pub mod Passing
+pub mod Forwarding

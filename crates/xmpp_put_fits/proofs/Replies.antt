@@ -57,11 +57,11 @@ stream_word stream.UnsupportedVersion = word (codes "unsupported-version") refl
 
 -- ---- elements with at most two attributes and nothing inside
 
-with_none : (default ns name : List ℕ) (attrs : List Attribute) (many m : ℕ) → IsSpace ns → IsWord name → FineAttributes many m attrs → many ≤ 100 → IsFine default 1 (m + 400) (element ns name attrs no_nodes)
+pub with_none : (default ns name : List ℕ) (attrs : List Attribute) (many m : ℕ) → IsSpace ns → IsWord name → FineAttributes many m attrs → many ≤ 100 → IsFine default 1 (m + 400) (element ns name attrs no_nodes)
 with_none default ns name attrs many m h k l few =
     fine_more default 1 1 (m + 0 + 400) (m + 400) (element ns name attrs no_nodes) (fine_element default ns name attrs no_nodes many m 0 0 h k l few (no_nodes_fine (default_inside default ns))) (omega arith) (omega arith)
 
-two_attributes : (m n : ℕ) (a v b w : List ℕ) → IsWord a → Said m v → IsWord b → Said n w → FineAttributes 2 (m + 48 + (n + 48)) (attribute [] a v ∷ attribute [] b w ∷ [])
+pub two_attributes : (m n : ℕ) (a v b w : List ℕ) → IsWord a → Said m v → IsWord b → Said n w → FineAttributes 2 (m + 48 + (n + 48)) (attribute [] a v ∷ attribute [] b w ∷ [])
 two_attributes m n a v b w h k l o = attributes_joined 1 1 (m + 48) (n + 48) (attribute [] a v ∷ []) (attribute [] b w ∷ []) (one_attribute m a v h k) (one_attribute n b w l o)
 
 -- ---- stream management (XEP-0198)
