@@ -4,5 +4,6 @@ pub mod Parts
 pub mod Replies
 pub mod Requests
 -- ---- what it passes on
+pub mod StampSizes
 pub mod Passing
 pub mod Forwarding
