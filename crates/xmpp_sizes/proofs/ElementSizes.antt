@@ -1,14 +1,16 @@
 -- How long elements are as they are written.
-use Rattle.std.proofs.Common.{◌≡◌, ℕ, ◌+◌, ◌*◌, ◌≤◌, Bool, true, false, not, ◌&&◌, ◌||◌, List, [], ◌∷◌, ◌++◌, bytes_eq, codes, cond, Option, Some, None, length, refl, sym, ap, ◌∙◌, inl, inr, arith, length-append}
+use Rattle.std.proofs.Common.{◌≡◌, ℕ, ◌+◌, ◌*◌, ◌≤◌, Bool, true, false, not, ◌&&◌, ◌||◌, List, [], ◌∷◌, ◌++◌, bytes_eq, codes, cond, Option, Some, None, length, unwrap_or, refl, sym, ap, subst, ◌∙◌, inl, inr, arith, length-append}
 use Rattle.std.proofs.lemmas.Bool.{and_parts, cases_Bool, false≢true}
 use Rattle.std.proofs.lemmas.Grind.{flat_map-append}
 use Rattle.std.proofs.lemmas.Option.{same_Some}
+use Rattle.std.proofs.lemmas.Slice.Eq.{bytes_eq-Decides}
 use Rattle.std.specs.List.{find}
 use Rattle.std.specs.Option.{option_map}
 use Rattle.xmpp_names.specs.Scopes.{xml_namespace}
 use Rattle.xmpp_sizes.proofs.TextSizes.{text_append, text_nothing}
 use Rattle.xmpp_sizes.specs.Elements.{are_local, attributes_size, element_size, nodes_size}
 use Rattle.xmpp_sizes.specs.Texts.{text_size, value_size}
+use Rattle.xmpp_stanza.specs.Written.{attr_where, unless_empty}
 use Rattle.xmpp_tokens.specs.Spelling.{spelled_value}
 use Rattle.xmpp_tokens.specs.Tags as tokens
 use Rattle.xmpp_tokens.specs.Tags.{is_empty}
@@ -198,3 +200,84 @@ pub text_of_size : (default : List ℕ) (ks : Nodes) → text_size (text_of ks) 
 text_of_size default no_nodes = let none = text_nothing in omega (arith, none)
 text_of_size default (child e rest) = let after = text_of_size default rest in omega (arith, after, child_size default e rest)
 text_of_size default (text t rest) = let after = text_of_size default rest in omega (arith, after, text_append t (text_of rest), texts_size default t rest)
+
+-- ---- less of an element
+
+-- the language, if it is there, as it is spelled
+same_bytes : (s t : List ℕ) → bytes_eq s t ≡ true → s ≡ t
+same_bytes s t e = (bytes_eq-Decides s t).0 e
+
+language_spelled : (n : ℕ) (a : Attribute) → has_name xml_namespace (codes "lang") a ≡ true → 12 + value_size a.value ≤ length (assignments (spelled_attribute n a))
+unfolding spelled_attribute
+language_spelled n a h =
+    let parts = and_parts (bytes_eq a.ns xml_namespace) (bytes_eq a.name (codes "lang")) h in
+    let some : is_empty a.ns ≡ false = ap is_empty (same_bytes a.ns xml_namespace parts.0) in
+    let four : length a.name ≡ 4 = ap length (same_bytes a.name (codes "lang") parts.1) in
+    rw (some, parts.0) (let one = one_assignment (codes "xml:" ++ a.name) a.value in omega (arith, one, four, length-append (codes "xml:") a.name))
+
+language_written : (n : ℕ) (attrs : List Attribute) (v : List ℕ) → option_map (λ (a : Attribute). a.value) (found xml_namespace (codes "lang") attrs) ≡ Some v → 12 + value_size v ≤ length (assignments (spelled_attributes n attrs))
+language_written n [] v is = absurd cc
+language_written n (a ∷ more) v is =
+    let both = assignments_add (spelled_attribute n a) (spelled_attributes (next_number n a) more) in
+    elim (cases_Bool (has_name xml_namespace (codes "lang") a)) [
+      | inl here ↦
+          let same : a.value ≡ v = same_Some a.value v (rw here at is) in
+          let long = language_spelled n a here in
+          rw (← same) (omega (arith, long, both))
+      | inr other ↦
+          let rest = language_written (next_number n a) more v (rw other at is) in
+          omega (arith, rest, both)
+    ]
+
+one_language : (v : List ℕ) → length (assignments (spelled_attributes 0 (record { ns = xml_namespace; name = codes "lang"; value = v } ∷ []))) ≡ 12 + value_size v
+unfolding spelled_attribute
+one_language v = one_assignment (codes "xml:lang") v
+
+nodes_written : (default : List ℕ) (ks : Nodes) → length (written_nodes default ks) ≡ nodes_size default ks
+unfolding nodes_size
+nodes_written default ks = refl
+
+longer : (ns name inside whole : List ℕ) → length inside ≤ length whole → length (behind_attributes false ns name inside) ≤ length (behind_attributes false ns name whole)
+longer ns name inside whole h =
+    omega (arith, h, length-append inside (60 ∷ 47 ∷ (spelled_name ns name ++ (62 ∷ []))), length-append whole (60 ∷ 47 ∷ (spelled_name ns name ++ (62 ∷ []))))
+
+less : (default ns name : List ℕ) (fewer attrs : List Attribute) (inner kids : Nodes) → length (assignments (spelled_attributes 0 fewer)) ≤ length (assignments (spelled_attributes 0 attrs))
+    → length (behind_attributes (has_nothing inner) ns name (written_nodes (default_inside default ns) inner)) ≤ length (behind_attributes (has_nothing kids) ns name (written_nodes (default_inside default ns) kids))
+    → element_size default (element ns name fewer inner) ≤ element_size default (element ns name attrs kids)
+unfolding element_size
+less default ns name fewer attrs inner kids h k =
+    omega (
+      arith, h, k, assignments_add (declared_default default ns) (spelled_attributes 0 fewer), assignments_add (declared_default default ns) (spelled_attributes 0 attrs),
+      length-append (spelled_name ns name) (assignments (tag_attributes default ns fewer)), length-append (spelled_name ns name) (assignments (tag_attributes default ns attrs)),
+      length-append (opened default ns name fewer) (behind_attributes (has_nothing inner) ns name (written_nodes (default_inside default ns) inner)),
+      length-append (opened default ns name attrs) (behind_attributes (has_nothing kids) ns name (written_nodes (default_inside default ns) kids)),
+    )
+
+text_behind : (ns name default t : List ℕ) (kids : Nodes) → text_of kids ≡ t
+    → length (behind_attributes (has_nothing (text_node t)) ns name (written_nodes default (text_node t))) ≤ length (behind_attributes (has_nothing kids) ns name (written_nodes default kids))
+text_behind ns name default [] no_nodes is = omega arith
+text_behind ns name default (c ∷ cs) no_nodes is = absurd cc
+text_behind ns name default [] (child e rest) is =
+    let inside = written_nodes default (child e rest) in omega (arith, length-append inside (60 ∷ 47 ∷ (spelled_name ns name ++ (62 ∷ []))))
+text_behind ns name default [] (text t rest) is =
+    let inside = written_nodes default (text t rest) in omega (arith, length-append inside (60 ∷ 47 ∷ (spelled_name ns name ++ (62 ∷ []))))
+text_behind ns name default (c ∷ cs) (child e rest) is =
+    let size = subst (λ x. text_size x ≤ nodes_size default (child e rest)) is (text_of_size default (child e rest)) in
+    longer ns name (written_nodes default (text_node (c ∷ cs))) (written_nodes default (child e rest))
+    (let same = text_node_size default (c ∷ cs) in omega (arith, size, same, nodes_written default (text_node (c ∷ cs)), nodes_written default (child e rest)))
+text_behind ns name default (c ∷ cs) (text t rest) is =
+    let size = subst (λ x. text_size x ≤ nodes_size default (text t rest)) is (text_of_size default (text t rest)) in
+    longer ns name (written_nodes default (text_node (c ∷ cs))) (written_nodes default (text t rest))
+    (let same = text_node_size default (c ∷ cs) in omega (arith, size, same, nodes_written default (text_node (c ∷ cs)), nodes_written default (text t rest)))
+
+-- an element with the language and the texts of another alone
+pub only_text : (ns name : List ℕ) (lang : Option (List ℕ)) (attrs : List Attribute) (kids : Nodes) → lang ≡ option_map (λ (a : Attribute). a.value) (found xml_namespace (codes "lang") attrs)
+    → (default : List ℕ) → element_size default (element ns name (attr_where xml_namespace (codes "lang") (unless_empty (unwrap_or lang []))) (text_node (text_of kids))) ≤ element_size default (element ns name attrs kids)
+unfolding element_size
+only_text ns name None attrs kids is default = less default ns name [] attrs (text_node (text_of kids)) kids (omega arith) (text_behind ns name (default_inside default ns) (text_of kids) kids refl)
+only_text ns name (Some []) attrs kids is default = less default ns name [] attrs (text_node (text_of kids)) kids (omega arith) (text_behind ns name (default_inside default ns) (text_of kids) kids refl)
+only_text ns name (Some (c ∷ cs)) attrs kids is default =
+    let one = one_language (c ∷ cs) in
+    let there = language_written 0 attrs (c ∷ cs) (sym is) in
+    less default ns name (record { ns = xml_namespace; name = codes "lang"; value = c ∷ cs } ∷ []) attrs (text_node (text_of kids)) kids (omega (arith, one, there))
+    (text_behind ns name (default_inside default ns) (text_of kids) kids refl)
