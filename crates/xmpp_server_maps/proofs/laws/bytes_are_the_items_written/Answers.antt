@@ -6,7 +6,7 @@ use Rattle.xmpp_server_maps.specs.Images.{itself}
 use Rattle.xmpp_writer.specs.Items.{written_item}
 
 pub returns : goal.returns
-returns g c = record {
+returns c = record {
   item = item_turned written_item itself;
   items = items_turned written_item itself;
   fault = fault_turned written_item itself;
