@@ -22,7 +22,7 @@ use Rattle.xmpp_writer.specs.Canon.{assignment, assignments, behind_attributes, 
 
 -- ---- attributes as they are spelled
 
-assignment_is : (name value : List ℕ) → length (assignment (spelled name value)) ≡ 4 + length name + value_size value
+pub assignment_is : (name value : List ℕ) → length (assignment (spelled name value)) ≡ 4 + length name + value_size value
 unfolding assignment value_size
 assignment_is name value = omega (arith, length-append name (61 ∷ 39 ∷ (spelled_value value ++ (39 ∷ []))), length-append (spelled_value value) (39 ∷ []))
 

@@ -1,0 +1,4 @@
+-- ---- lists
+pub mod Lists
+-- ---- small steps
+pub mod StepsKept

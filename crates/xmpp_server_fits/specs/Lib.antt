@@ -1,0 +1,2 @@
+-- what a server of items keeps to
+pub mod Keeps

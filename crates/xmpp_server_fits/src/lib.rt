@@ -1,0 +1,6 @@
+//! Each thing that a server puts is plain and within the limits of a client, so that a client reads it as it is.
+#![tactic(auto)]
+
+mod laws;
+
+pub use laws::rows_keep_what_is_read;
