@@ -1,17 +1,22 @@
 -- What a server answers to requests, and to messages that it can't pass on (RFC 6120, sections 7 and 8).
 use Rattle.std.proofs.Common.{◌≡◌, ℕ, ◌+◌, ◌<◌, ◌≤◌, ◌^◌, true, false, List, [], ◌∷◌, ◌++◌, Option, Some, None, IfSome, bytes_eq, codes, refl, ap, arith, subst, sym}
+use Rattle.std.specs.Fmt.{decimal}
+use Rattle.xmpp_basis.specs.Hexadecimal.{hex16_of}
 use Rattle.xmpp_ext.proofs.BindLaws.{bind_result_stays}
+use Rattle.xmpp_ext.proofs.StreamManagementLaws.{enabled_stays}
 use Rattle.xmpp_ext.specs.Bind.{bind_result_elem}
+use Rattle.xmpp_ext.specs.StreamManagement.{enabled_elem}
 use Rattle.xmpp_features.proofs.DiscoveryLaws.{told_stays}
 use Rattle.xmpp_features.specs.Discovery.{Told, account, disco_info_elem, feature_elem, feature_elems, identity_elem, server, server_features}
 use Rattle.xmpp_payload.specs.Bare.{bare}
-use Rattle.xmpp_payload.specs.Names.{archive, binding, carbons, disco_info, pings, roster, stanza_ids}
+use Rattle.xmpp_payload.specs.Names.{archive, binding, carbons, disco_info, management, pings, roster, stanza_ids}
 use Rattle.xmpp_payload.specs.Writing.{text_child}
 use Rattle.xmpp_put_fits.proofs.Parts.{attributes_joined, attributes_more, child_fine, fine_bare, fine_element, fine_more, no_attributes, no_nodes_fine, nodes_more, one_attribute, only_child, other_name, other_space, reads, said_fine, space, stanza_attributes, where_given, word}
 use Rattle.xmpp_put_fits.proofs.Replies.{fine_around, known_word, two_attributes, with_none}
 use Rattle.xmpp_put_fits.specs.Fine.{AreFine, ClientReads, FineAttributes, IsFine, IsSpace, IsWord}
 use Rattle.xmpp_replies.specs.Requests.{EnvelopeView}
 use Rattle.xmpp_sizes.proofs.Characters.{said_more, said_word}
+use Rattle.xmpp_sizes.proofs.Numerals.{said_decimal, said_hex}
 use Rattle.xmpp_sizes.specs.Texts.{Said}
 use Rattle.xmpp_stanza.proofs.WrittenAttrs.{attrs_stay}
 use Rattle.xmpp_stanza.specs.Answering.{bounce_elem, iq_error_elem}
@@ -20,7 +25,7 @@ use Rattle.xmpp_stanza.specs.Errors.{error_elem, error_type}
 use Rattle.xmpp_stanza.specs.Kinds.{iq_type, message_type}
 use Rattle.xmpp_stanza.specs.Names.{client_ns, stanza_errors_ns}
 use Rattle.xmpp_stanza.specs.Views.{IqView}
-use Rattle.xmpp_stanza.specs.Written.{attrs_written, iq_elem, unless_empty}
+use Rattle.xmpp_stanza.specs.Written.{attr_where, attrs_written, iq_elem, unless_empty}
 use Rattle.xmpp_stanza.specs.declared.errors.ErrorKind.{ErrorKind}
 use Rattle.xmpp_stanza.specs.declared.errors.ErrorKind.TheVariants as error
 use Rattle.xmpp_stanza.specs.declared.errors.StanzaError.{StanzaError}
@@ -168,3 +173,19 @@ info_stays told = ap (λ e. child e no_nodes) (told_stays (told ∷ []) server_f
 
 pub bound_stays : (jid : List ℕ) → tidied_nodes (child (bind_result_elem (record { jid = jid })) no_nodes) ≡ child (bind_result_elem (record { jid = jid })) no_nodes
 bound_stays jid = ap (λ e. child e no_nodes) (bind_result_stays (record { jid = jid }))
+
+-- ---- a stream that can be resumed (XEP-0198, section 3)
+
+pub resumable_read : (n seconds : ℕ) → seconds < 2 ^ 64 → ClientReads (enabled_elem (record { id = hex16_of n; resume = true; max = Some seconds }))
+resumable_read n seconds small =
+    let given = attr_where [] (codes "id") (unless_empty (hex16_of n)) in
+    let most = attr_where [] (codes "max") (Some (decimal seconds)) in
+    let flag = attr_where [] (codes "resume") (Some (codes "true")) in
+    let a = where_given 96 (codes "id") (unless_empty (hex16_of n)) (word (codes "id") refl) (unless_said 96 (hex16_of n) (said_hex n)) in
+    let b = where_given 120 (codes "max") (Some (decimal seconds)) (word (codes "max") refl) (said_decimal seconds small) in
+    let c = where_given 24 (codes "resume") (Some (codes "true")) (word (codes "resume") refl) (said_word 24 (codes "true") refl refl) in
+    let two = attributes_joined 1 1 144 168 given most a b in
+    let three = attributes_joined 2 1 312 72 (given ++ most) flag two c in
+    reads (enabled_elem (record { id = hex16_of n; resume = true; max = Some seconds })) 1 (312 + 72 + 400)
+    (stays_tree (enabled_elem (record { id = hex16_of n; resume = true; max = Some seconds })) (enabled_stays (record { id = hex16_of n; resume = true; max = Some seconds })))
+    (with_none client_ns management (codes "enabled") (given ++ most ++ flag) 3 (312 + 72) (space management refl) (word (codes "enabled") refl) three (omega arith)) (other_space management (codes "enabled") refl) (omega arith) (omega arith)

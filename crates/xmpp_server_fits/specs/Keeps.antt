@@ -70,9 +70,13 @@ pub record SessionKeeps (s : Session ItemOut) : Type 0 where
   pub handled : s.handled < 2 ^ 32
   pub waiting : AllByRecursion IsRead s.waiting
 
--- what was drawn for it
+-- what was drawn for a connection
+pub record IsDrawn (entropy : List ℕ) : Type 0 where
+  pub short : length entropy ≤ 1000
+  pub bytes : list_all (λ b. nat_lt b 256) entropy ≡ true
+
 abbrev pub ConnectionKeeps : Connection → Type 0
-ConnectionKeeps c = length c.entropy ≤ 1000
+ConnectionKeeps c = IsDrawn c.entropy
 
 pub record HallKeeps (h : Hall ItemOut) : Type 0 where
   pub domain : Said 6138 h.domain
