@@ -1,6 +1,7 @@
 -- ---- lists
 pub mod Lists
 -- ---- what comes
+pub mod GivenShort
 pub mod Readings
 -- ---- small steps
 pub mod StepsKept
@@ -12,3 +13,5 @@ pub mod MessagesKept
 pub mod RequestsKept
 -- ---- items
 pub mod TableKept
+-- ---- events
+pub mod MomentsKept

@@ -1,9 +1,8 @@
 -- What a server says of logins is read.
-use Rattle.std.proofs.Common.{◌≡◌, ℕ, zero, suc, ◌+◌, ◌*◌, ◌/◌, ◌%◌, ◌<◌, ◌≤◌, ◌^◌, nat_lt, nat_le, Bool, true, false, ◌&&◌, ◌||◌, List, [], ◌∷◌, ◌++◌, Option, Some, None, IfSome, Result, Ok, Err, IsUtf8, IsTrue, bytes_eq, cond, codes, length, take, encode_utf8_all, refl, ap, subst, sym, ◌∙◌, arith, inl, inr, length-append}
+use Rattle.std.proofs.Common.{◌≡◌, ℕ, zero, suc, ◌+◌, ◌*◌, ◌/◌, ◌%◌, ◌<◌, ◌≤◌, ◌^◌, nat_lt, nat_le, Bool, true, false, ◌&&◌, ◌||◌, List, [], ◌∷◌, ◌++◌, Option, Some, None, IfSome, Result, Ok, Err, IsUtf8, IsTrue, bytes_eq, cond, codes, length, take, encode_utf8_all, refl, ap, subst, sym, ◌∙◌, arith, inl, inr, length-append, ltb-true}
 use Rattle.std.proofs.lemmas.Bool.{and_from, and_parts, cases_Bool}
 use Rattle.std.proofs.lemmas.Bool.Decides.{nat_tests}
 use Rattle.std.proofs.lemmas.Fmt.{length-decimal-le}
-use Rattle.std.proofs.lemmas.List.{length-take-le}
 use Rattle.std.proofs.lemmas.List.Folds.{list_all-append}
 use Rattle.std.specs.Fmt.{decimal}
 use Rattle.std.specs.List.{AllByRecursion, list_all}
@@ -66,20 +65,25 @@ failure_item_read c = whole_read _ (failure_read (condition_name c) (condition_w
 
 -- ---- bytes
 
+small_byte : (b : ℕ) → b < 256 → is_byte b ≡ true
+small_byte b h = grind (arith, nat_tests)
+
 scalar_bytes : (c : ℕ) → scalar c ≡ true → list_all is_byte (encode c) ≡ true
 unfolding encode
 scalar_bytes c h =
     let small : c < 1114112 = elim (scalar_cases c h) [ inl low ↦ omega (arith, low) | inr high ↦ high.1 ] in
+    let last = small_byte (128 + c % 64) (omega arith) in
+    let third = small_byte (128 + c / 64 % 64) (omega arith) in
+    let second = small_byte (128 + c / 4096 % 64) (omega arith) in
     elim (cases_Bool (nat_lt c 128)) [
-      | inl a ↦ rw a (and_from _ _ (grind (arith, nat_tests)) refl)
+      | inl a ↦ let low = ltb-true c 128 a in rw a (and_from _ _ (small_byte c (omega (arith, low))) refl)
       | inr a ↦
           elim (cases_Bool (nat_lt c 2048)) [
-            | inl b ↦ rw (a, b) (and_from _ _ (grind (arith, nat_tests)) (and_from _ _ (grind (arith, nat_tests)) refl))
+            | inl b ↦ let low = ltb-true c 2048 b in rw (a, b) (and_from _ _ (small_byte (192 + c / 64) (omega (arith, low))) (and_from _ _ last refl))
             | inr b ↦
                 elim (cases_Bool (nat_lt c 65536)) [
-                  | inl d ↦ rw (a, b, d) (and_from _ _ (grind (arith, nat_tests)) (and_from _ _ (grind (arith, nat_tests)) (and_from _ _ (grind (arith, nat_tests)) refl)))
-                  | inr d ↦
-                      rw (a, b, d) (and_from _ _ (grind (arith, nat_tests)) (and_from _ _ (grind (arith, nat_tests)) (and_from _ _ (grind (arith, nat_tests)) (and_from _ _ (grind (arith, nat_tests)) refl))))
+                  | inl d ↦ let low = ltb-true c 65536 d in rw (a, b, d) (and_from _ _ (small_byte (224 + c / 4096) (omega (arith, low))) (and_from _ _ third (and_from _ _ last refl)))
+                  | inr d ↦ rw (a, b, d) (and_from _ _ (small_byte (240 + c / 262144) (omega (arith, small))) (and_from _ _ second (and_from _ _ third (and_from _ _ last refl))))
                 ]
           ]
     ]
@@ -101,9 +105,6 @@ bytes_of [] h i = omega arith
 bytes_of (b ∷ t) h zero = byte_small b (and_parts (is_byte b) (list_all is_byte t) h).0
 bytes_of (b ∷ t) h (suc i) = bytes_of t (and_parts (is_byte b) (list_all is_byte t) h).1 i
 
-small_byte : (b : ℕ) → b < 256 → is_byte b ≡ true
-small_byte b h = grind (arith, nat_tests)
-
 all_bytes : (t : List ℕ) → IsBytes t → list_all is_byte t ≡ true
 all_bytes [] h = refl
 all_bytes (b ∷ t) h = and_from _ _ (small_byte b (h 0)) (all_bytes t (λ i. h (suc i)))
@@ -118,8 +119,13 @@ first_bytes (suc n) (b ∷ t) h = let parts = and_parts (is_byte b) (list_all is
 encoded_longer : (bytes : List ℕ) → length bytes ≤ length (encode_of standard bytes)
 encoded_longer bytes = let long = length_of bytes in omega (arith, long)
 
+take_shorter : (n : ℕ) (xs : List ℕ) → length (take n xs) ≤ length xs
+take_shorter zero xs = omega arith
+take_shorter (suc n) [] = omega arith
+take_shorter (suc n) (x ∷ xs) = let ih = take_shorter n xs in omega (arith, ih)
+
 taken_short : (entropy : List ℕ) → length entropy ≤ 1000 → length (take 18 entropy) ≤ 1000
-taken_short entropy h = omega (arith, h, length-take-le 18 entropy)
+taken_short entropy h = let less = take_shorter 18 entropy in omega (arith, h, less)
 
 nonce_within : (bytes : List ℕ) (first : ClientFirst) (found : IsClientFirst (Some first.flag) false first.name first.nonce first.bare bytes) → length bytes ≤ 65536 → length first.nonce ≤ 65536
 nonce_within bytes first found short =
@@ -227,7 +233,7 @@ found_keeps : (place : ℕ) (name : List ℕ) (accounts : List Account) → AllB
 found_keeps place name [] h = tt
 found_keeps place name (a ∷ more) h =
     elim (cases_Bool (bytes_eq name a.name)) [
-      | inl here ↦ rw here (h.0.salt, (h.0.short, h.0.count))
+      | inl here ↦ rw here (h.0.salt, h.0.short, h.0.count)
       | inr other ↦ rw other (found_keeps (place + 1) name more h.1)
     ]
 
@@ -237,7 +243,7 @@ begun_keeps first tail (Some f) h k o =
     let whole = small_append 65536 2400 first.nonce tail h k in
     let long = whole.short in
     challenge_read (server_first_message (first.nonce ++ tail) f.credentials.salt f.credentials.iterations)
-    (first_small (first.nonce ++ tail) f.credentials.salt f.credentials.iterations (record { printable = whole.printable; short = omega (arith, long) }) o.0 o.1.0 o.1.1)
+    (first_small (first.nonce ++ tail) f.credentials.salt f.credentials.iterations (record { printable = whole.printable; short = omega (arith, long) }) o.0 o.1 o.2)
 
 with_keeps : (tail bytes : List ℕ) (accounts : List Account) (r : Result ClientFirst ScramFault) → client_first_of bytes ≡ r → length bytes ≤ 65536 → IsSmall 2400 tail → AllByRecursion AccountKeeps accounts → AnswerKeeps (begun_with tail accounts r)
 with_keeps tail bytes accounts (Ok first) is short k h = begun_keeps first tail (account_named first.name accounts) (nonce_small bytes first is short) k (found_keeps 0 first.name accounts h)
@@ -268,7 +274,7 @@ verifier_read key message =
     let told = encoded_small 32 100 (verifier_of key message) (all_bytes (hmac_of key message) (IsBytes-hmac_of key message)) (omega (arith, long)) (omega arith) in
     let whole = small_append 2 100 (codes "v=") (base64_of (verifier_of key message)) (record { printable = refl; short = omega arith }) told in
     let short = whole.short in
-    whole_read _ (carrier_read (codes "success") (server_final_message (verifier_of key message)) (word (codes "success") refl) (printable_bytes _ whole.printable) (omega (arith, short)))
+    whole_read _ (carrier_read (codes "success") (server_final_message (verifier_of key message)) (word (codes "success") refl) (printable_bytes (server_final_message (verifier_of key message)) whole.printable) (omega (arith, short)))
 
 -- what is sent where a login succeeds
 abbrev pub LoginKeeps : Result LoginView SaslCondition → Type 0

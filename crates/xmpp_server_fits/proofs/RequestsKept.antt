@@ -1,5 +1,5 @@
 -- What the row on requests says is read.
-use Rattle.std.proofs.Common.{◌≡◌, ℕ, ◌+◌, ◌-◌, ◌<◌, ◌≤◌, ◌^◌, nat_lt, Bool, true, false, not, ◌&&◌, List, [], ◌∷◌, Option, Some, None, IfSome, Result, Ok, Err, cond, codes, filter, length, refl, subst, sym, ap, arith, inl, inr}
+use Rattle.std.proofs.Common.{◌≡◌, ℕ, ◌+◌, ◌-◌, ◌<◌, ◌≤◌, ◌^◌, nat_lt, Bool, true, false, not, ◌&&◌, List, [], ◌∷◌, Option, Some, None, IfSome, Result, Ok, Err, cond, codes, filter, is_none, length, refl, subst, sym, ap, arith, inl, inr}
 use Rattle.std.proofs.lemmas.Bool.{cases_Bool}
 use Rattle.std.specs.List.{AllByRecursion}
 use Rattle.std.specs.Option.{option_map}
@@ -13,6 +13,7 @@ use Rattle.xmpp_forwarding.specs.Results.{AskerView}
 use Rattle.xmpp_live.specs.declared.told.Told.{Told}
 use Rattle.xmpp_mam.specs.ArchiveQuery.{has_known_fields, is_for_archive, is_query, max_in, optional_address, optional_moment, place_in}
 use Rattle.xmpp_mam.specs.DataForms.{field_value, form_of}
+use Rattle.xmpp_mam.specs.ResultSets.{set_child}
 use Rattle.xmpp_mam.specs.Readings.{filters_read, if_right, limits_read, mam_query_read, query_with, with_field}
 use Rattle.xmpp_mam.specs.declared.archive_query.MamQuery.{MamQuery}
 use Rattle.xmpp_pages.specs.Cuts.{CutView, fin_of}
@@ -136,14 +137,18 @@ field_keeps e None f read h = tt
 field_keeps e (Some x) f read h = h x
 
 limits_keep : (e : Elem) (peer : Option (List ℕ)) (start end : Option ℕ) → QueryKeeps e (limits_read e peer start end)
-limits_keep e peer start end = field_keeps e (place_in e) field.Place _ (λ place. field_keeps e (max_in e) field.Max _ (λ max. right_keeps e _ field.UnknownField _ refl))
+limits_keep e peer start end = field_keeps e (place_in e) field.Place _ (λ place. field_keeps e (max_in e) field.Max _ (λ max. right_keeps e (is_none (set_child (codes "index") e)) field.UnknownField (Ok (query_with e peer start end place max)) refl))
 
 filters_keep : (e : Elem) → QueryKeeps e (filters_read e)
 filters_keep e =
-    right_keeps e (is_for_archive (form_of e)) field.FormType _ (right_keeps e (has_known_fields (form_of e)) field.UnknownField _
-    (field_keeps e (optional_address (field_value (codes "with") e)) field.Peer _ (λ peer.
-    field_keeps e (optional_moment (field_value (codes "start") e)) field.Start _ (λ start.
-    field_keeps e (optional_moment (field_value (codes "end") e)) field.End _ (λ end. limits_keep e peer start end)))))
+    let ends = λ (peer : Option (List ℕ)) (start : Option ℕ). with_field (optional_moment (field_value (codes "end") e)) field.End (λ end. limits_read e peer start end) in
+    let starts = λ (peer : Option (List ℕ)). with_field (optional_moment (field_value (codes "start") e)) field.Start (λ start. ends peer start) in
+    let whole = with_field (optional_address (field_value (codes "with") e)) field.Peer (λ peer. starts peer) in
+    right_keeps e (is_for_archive (form_of e)) field.FormType (if_right (has_known_fields (form_of e)) field.UnknownField whole)
+    (right_keeps e (has_known_fields (form_of e)) field.UnknownField whole
+    (field_keeps e (optional_address (field_value (codes "with") e)) field.Peer (λ peer. starts peer) (λ peer.
+    field_keeps e (optional_moment (field_value (codes "start") e)) field.Start (λ start. ends peer start) (λ start.
+    field_keeps e (optional_moment (field_value (codes "end") e)) field.End (λ end. limits_read e peer start end) (λ end. limits_keep e peer start end)))))
 
 this_keeps : (e : Elem) (b : Bool) (r : Result MamQuery ExtFault) → QueryKeeps e r → QueryKeeps e (where_this b r)
 this_keeps e true r h = h

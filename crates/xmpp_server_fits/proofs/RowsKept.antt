@@ -73,7 +73,7 @@ header_item_read : (h : Hall ItemOut) (k : ℕ) (entropy : List ℕ) → HallKee
 header_item_read h k entropy keeps drawn =
     let few = drawn.short in
     let id = stream_id_said k entropy (omega (arith, few, length-drop 18 entropy)) in
-    (header_plain h.domain (stream_id k entropy) 6138 12096 keeps.domain id, (header_fits h.domain (stream_id k entropy) keeps.domain id, omega arith))
+    (header_plain h.domain (stream_id k entropy) 6138 12096 keeps.domain id, header_fits h.domain (stream_id k entropy) keeps.domain id, omega arith)
 
 pub closing_kept : (k : ℕ) → ActsKeep (closing itself k)
 closing_kept k = (closing_read, (tt, tt))
