@@ -3,4 +3,7 @@
 
 mod laws;
 
-pub use laws::replies_are_read;
+pub use laws::{
+    answers_are_read, entries_fit, forwarded_messages_are_read, logins_are_read,
+    management_is_read, streams_are_read,
+};

@@ -15,3 +15,5 @@ pub mod RequestsKept
 pub mod TableKept
 -- ---- events
 pub mod MomentsKept
+-- ---- the beginning
+pub mod StartKept

@@ -105,11 +105,11 @@ bytes_of [] h i = omega arith
 bytes_of (b ∷ t) h zero = byte_small b (and_parts (is_byte b) (list_all is_byte t) h).0
 bytes_of (b ∷ t) h (suc i) = bytes_of t (and_parts (is_byte b) (list_all is_byte t) h).1 i
 
-all_bytes : (t : List ℕ) → IsBytes t → list_all is_byte t ≡ true
+pub all_bytes : (t : List ℕ) → IsBytes t → list_all is_byte t ≡ true
 all_bytes [] h = refl
 all_bytes (b ∷ t) h = and_from _ _ (small_byte b (h 0)) (all_bytes t (λ i. h (suc i)))
 
-first_bytes : (n : ℕ) (t : List ℕ) → list_all is_byte t ≡ true → list_all is_byte (take n t) ≡ true
+pub first_bytes : (n : ℕ) (t : List ℕ) → list_all is_byte t ≡ true → list_all is_byte (take n t) ≡ true
 first_bytes zero t h = refl
 first_bytes (suc n) [] h = refl
 first_bytes (suc n) (b ∷ t) h = let parts = and_parts (is_byte b) (list_all is_byte t) h in and_from _ _ parts.0 (first_bytes n t parts.1)
@@ -119,7 +119,7 @@ first_bytes (suc n) (b ∷ t) h = let parts = and_parts (is_byte b) (list_all is
 encoded_longer : (bytes : List ℕ) → length bytes ≤ length (encode_of standard bytes)
 encoded_longer bytes = let long = length_of bytes in omega (arith, long)
 
-take_shorter : (n : ℕ) (xs : List ℕ) → length (take n xs) ≤ length xs
+pub take_shorter : (n : ℕ) (xs : List ℕ) → length (take n xs) ≤ length xs
 take_shorter zero xs = omega arith
 take_shorter (suc n) [] = omega arith
 take_shorter (suc n) (x ∷ xs) = let ih = take_shorter n xs in omega (arith, ih)

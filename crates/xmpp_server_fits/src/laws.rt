@@ -1,5 +1,5 @@
 //! The laws.
-ghost use Rattle.std.specs.Prelude.{◌≡◌, ℕ, List, [], Option, None, IfSome};
+ghost use Rattle.std.specs.Prelude.{◌≡◌, ◌<◌, ◌^◌, ℕ, List, [], Option, None, IfSome, true};
 ghost use Rattle.std.specs.List.{AllByRecursion};
 ghost use Rattle.xmpp_desk.specs.Moments.{at_moment, gone_at, with_fresh};
 ghost use Rattle.xmpp_desk.specs.State.{Hall, Out, Step};
@@ -8,9 +8,12 @@ ghost use Rattle.xmpp_framing.specs.Machine.{run};
 ghost use Rattle.xmpp_framing.specs.States.{Turn, from_start, turn};
 ghost use Rattle.xmpp_framing.specs.declared.fault.Fault.{Fault};
 ghost use Rattle.xmpp_framing.specs.declared.items.Item.{Item};
+ghost use Rattle.xmpp_login.specs.Accounts.{account_of, is_normal_local};
+ghost use Rattle.xmpp_login.specs.declared.account.Account.{Account};
+ghost use Rattle.xmpp_server.specs.Configs.{hall_at_start, is_normal_domain};
 ghost use Rattle.xmpp_server.specs.Events.{Whole, after_bytes, after_fault, after_turn, framer_at, turn_of};
 ghost use Rattle.xmpp_server.specs.Table.{after_item, after_items};
-ghost use Rattle.xmpp_server_fits.specs.Keeps.{Comes, HallKeeps, IsDrawn, OutIsRead, StepKeeps};
+ghost use Rattle.xmpp_server_fits.specs.Keeps.{AccountKeeps, Comes, HallKeeps, IsDrawn, OutIsRead, StepKeeps};
 ghost use Rattle.xmpp_server_maps.specs.Images.{itself};
 ghost use Rattle.xmpp_writer.specs.Items.{ItemOut};
 
@@ -39,4 +42,12 @@ pub fn moments_keep_what_is_read()
 /// written within the limits of a stanza if its bytes are not too many, and no text of its own is longer than its bytes.
 pub fn what_a_framer_gives_comes()
     ensures { (bytes : List ℕ) → (run (turn (from_start server_limits) []) bytes).state.fault ≡ None → AllByRecursion Comes (run (turn (from_start server_limits) []) bytes).items }
+{}
+
+/// A law: what a server begins with keeps to it. Its domain is in normal form, and its accounts are such as are made of a
+/// name in normal form and a password.
+pub fn a_server_begins_so()
+    ensures start { (domain : List ℕ) (accounts : List Account) (keep : ℕ) → is_normal_domain domain ≡ true → AllByRecursion AccountKeeps accounts → keep < 2 ^ 64
+        → HallKeeps (hall_at_start domain accounts keep) }
+    ensures account { (name domain password : List ℕ) → is_normal_local name ≡ true → AccountKeeps (account_of name domain password) }
 {}

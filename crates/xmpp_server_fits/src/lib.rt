@@ -3,4 +3,7 @@
 
 mod laws;
 
-pub use laws::{moments_keep_what_is_read, what_a_framer_gives_comes, what_a_server_puts_is_read};
+pub use laws::{
+    a_server_begins_so, moments_keep_what_is_read, what_a_framer_gives_comes,
+    what_a_server_puts_is_read,
+};
