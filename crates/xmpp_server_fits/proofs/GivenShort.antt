@@ -67,11 +67,10 @@ no_entity b c is =
     let amp = other_length (b ∷ []) (codes "amp") (λ e. omega (arith, e)) in
     let lt = other_length (b ∷ []) (codes "lt") (λ e. omega (arith, e)) in
     let gt = other_length (b ∷ []) (codes "gt") (λ e. omega (arith, e)) in
-    let apos = other_length (b ∷ []) (codes "apos") (λ e. omega (arith, e)) in
     let quot = other_length (b ∷ []) (codes "quot") (λ e. omega (arith, e)) in
     elim (cases_Bool (is_name (b ∷ []))) [
-      | inl e ↦ let never : Unknown ≡ Character c = rw (amp, lt, gt, apos, quot, e) at is in cc
-      | inr e ↦ let never : Malformed ≡ Character c = rw (amp, lt, gt, apos, quot, e) at is in cc
+      | inl e ↦ let never : Unknown ≡ Character c = rw (amp, lt, gt, quot, e) at is in cc
+      | inr e ↦ let never : Malformed ≡ Character c = rw (amp, lt, gt, quot, e) at is in cc
     ]
 
 referred_long : (name : List ℕ) (c : ℕ) → referred name ≡ Character c → 2 ≤ length name
@@ -131,9 +130,9 @@ attributes_short : (xs : List tokens.Attribute) (bytes rest : List ℕ) → AreA
 attributes_short [] bytes rest h = tt
 attributes_short (a ∷ more) bytes rest h =
     let next = h.0 in
-    let raw = h.1.0.0 in
-    let spelled = h.1.0.1.0 in
-    let value = value_shorter raw a.value h.1.0.1.1.spelled in
+    let raw = h.1.0 in
+    let spelled = h.1.1 in
+    let value = value_shorter raw a.value h.1.2.spelled in
     let behind = spelled.after ++ (spelled.quote ∷ (raw ++ (spelled.quote ∷ next))) in
     let whole = ap length spelled.bytes_are in
     let a1 = length-append spelled.space (a.name ++ (spelled.before ++ (61 ∷ behind))) in
@@ -141,7 +140,7 @@ attributes_short (a ∷ more) bytes rest h =
     let a3 = length-append spelled.before (61 ∷ behind) in
     let a4 = length-append spelled.after (spelled.quote ∷ (raw ++ (spelled.quote ∷ next))) in
     let a5 = length-append raw (spelled.quote ∷ next) in
-    (omega (arith, value, whole, a1, a2, a3, a4, a5), each_wider (length next) (length bytes) more (omega (arith, whole, a1, a2, a3, a4, a5)) (attributes_short more next rest h.1.1))
+    (omega (arith, value, whole, a1, a2, a3, a4, a5), each_wider (length next) (length bytes) more (omega (arith, whole, a1, a2, a3, a4, a5)) (attributes_short more next rest h.2))
 
 one_other : (n : ℕ) (o : Option (List ℕ)) (a : tokens.Attribute) (more : List tokens.Attribute) → length a.value ≤ n → AllByRecursion (λ (x : tokens.Attribute). length x.value ≤ n) more → AllByRecursion (λ (x : tokens.Attribute). length x.value ≤ n) (unless_binding o a more)
 one_other n None a more h k = (h, k)
@@ -156,7 +155,7 @@ expanded_short : (n : ℕ) (scope : Scope) (xs : List tokens.Attribute) (es : Li
 expanded_short n scope [] [] z h = tt
 expanded_short n scope [] (e ∷ es) z h = absurd z
 expanded_short n scope (x ∷ xs) [] z h = absurd z
-expanded_short n scope (x ∷ xs) (e ∷ es) z h = (let first = h.0 in let same = ap length z.0.1.1.1 in omega (arith, first, same), expanded_short n scope xs es z.1 h.1)
+expanded_short n scope (x ∷ xs) (e ∷ es) z h = (let first = h.0 in let same = ap length z.0.3 in omega (arith, first, same), expanded_short n scope xs es z.1 h.1)
 
 found_short : (n : ℕ) (ns name : List ℕ) (es : List ExpandedAttribute) (v : List ℕ) → AllByRecursion (λ (x : ExpandedAttribute). length x.value ≤ n) es
     → option_map (λ (a : Attribute). a.value) (found ns name (map attribute_of es)) ≡ Some v → length v ≤ n

@@ -25,14 +25,15 @@ moment_kept now h k = record { domain = k.domain; accounts = k.accounts; archive
 
 -- ---- connections
 
+inserted_by : (k : ℕ) (c : Connection) (e : ℕ × Connection) (es rest : List (ℕ × Connection)) (o : Ordering) → ConnectionKeeps c → Values ConnectionKeeps (e ∷ es) → Values ConnectionKeeps rest
+    → Values ConnectionKeeps (match_ordering o ((k, c) ∷ e ∷ es) ((e.0, c) ∷ es) (e ∷ rest))
+inserted_by k c e es rest Less h each more = (h, each)
+inserted_by k c e es rest Equal h each more = (h, each.1)
+inserted_by k c e es rest Greater h each more = (each.0, more)
+
 inserted : (k : ℕ) (c : Connection) (es : List (ℕ × Connection)) → ConnectionKeeps c → Values ConnectionKeeps es → Values ConnectionKeeps (insert_entry nat_cmp es k c)
 inserted k c [] h each = (h, tt)
-inserted k c (e ∷ es) h each = by (nat_cmp k e.0)
-  where
-    by : (o : Ordering) → Values ConnectionKeeps (match_ordering o ((k, c) ∷ e ∷ es) ((e.0, c) ∷ es) (e ∷ insert_entry nat_cmp es k c))
-    by Less = (h, each)
-    by Equal = (h, each.1)
-    by Greater = (each.0, inserted k c es h each.1)
+inserted k c (e ∷ es) h each = inserted_by k c e es (insert_entry nat_cmp es k c) (nat_cmp k e.0) h each (inserted k c es h each.1)
 
 pub fresh_kept : (k : ℕ) (entropy : List ℕ) (h : Hall ItemOut) → IsDrawn entropy → HallKeeps h → HallKeeps (with_fresh k entropy h)
 fresh_kept k entropy h drawn keeps =
