@@ -1,0 +1,256 @@
+-- No text of an element that a framer gave is longer than the element's bytes.
+use Rattle.std.proofs.Common.{◌≡◌, ◌≢◌, ℕ, suc, ◌+◌, ◌≤◌, ◌<◌, ◌^◌, ◌==◌, Bool, true, false, not, ◌&&◌, List, [], ◌∷◌, ◌++◌, map, codes, bytes_eq, Option, Some, None, length, encode_utf8, refl, sym, ap, subst, ◌∙◌, inl, inr, arith, length-append}
+use Rattle.std.proofs.lemmas.Bool.{cases_Bool}
+use Rattle.std.proofs.lemmas.List.{length-map}
+use Rattle.std.proofs.lemmas.List.Elements.{All-from_recursion, recursion_from_All}
+use Rattle.std.proofs.lemmas.Option.{same_Some}
+use Rattle.std.proofs.lemmas.Slice.Eq.{bytes_eq-Decides}
+use Rattle.std.proofs.lemmas.Str.{len_utf8_bounds, length-encode}
+use Rattle.std.specs.List.{All, AllByRecursion, AllZip}
+use Rattle.std.specs.Option.{option_map}
+use Rattle.xmpp_framing.specs.Expanded.{attribute_of}
+use Rattle.xmpp_framing.specs.Limits.{server_limits}
+use Rattle.xmpp_framing.specs.Machine.{run}
+use Rattle.xmpp_framing.specs.States.{from_start, turn}
+use Rattle.xmpp_framing.specs.declared.items.Item.{Item}
+use Rattle.xmpp_framing.specs.declared.items.Item.TheVariants as item
+use Rattle.xmpp_framing.specs.declared.limits.Limits.{Limits}
+use Rattle.xmpp_framing_laws.proofs.GivenItems.{given_can_pass, given_plain}
+use Rattle.xmpp_framing_laws.proofs.PlainElements.{append_each}
+use Rattle.xmpp_framing_laws.proofs.PrefixRuns.{prefix_known}
+use Rattle.xmpp_framing_laws.specs.PlainItems.{IsPlainItem}
+use Rattle.xmpp_framing_laws.specs.Spells.{IsBegun, Spells, SpellsContent, empty, filled, text_alone, with_element}
+use Rattle.xmpp_framing_laws.specs.StreamLimits.{IsStreamWithin}
+use Rattle.xmpp_framing_laws.specs.Streams as streams
+use Rattle.xmpp_framing_laws.specs.Streams.{InForce, StreamTo, declared, ended, headed, headed_and_ended, nothing, white_space}
+use Rattle.xmpp_framing_laws.specs.Texts as texts
+use Rattle.xmpp_framing_laws.specs.Texts.{SpellsText}
+use Rattle.xmpp_framing_laws.specs.WrittenStreams.{CanPass}
+use Rattle.xmpp_names.specs.Declarations.{declared_prefix, others_of, unless_binding}
+use Rattle.xmpp_names.specs.Grammar.{IsExpanded, IsStart}
+use Rattle.xmpp_names.specs.Scopes.{Scope}
+use Rattle.xmpp_names.specs.Starts.{Tag}
+use Rattle.xmpp_names.specs.declared.expansion.ExpandedAttribute.{ExpandedAttribute}
+use Rattle.xmpp_server_fits.specs.Keeps.{Comes, IsShort, stanza_limits}
+use Rattle.xmpp_stanza.specs.Stanzas.{attr_named}
+use Rattle.xmpp_tokens.specs.Characters.{is_name}
+use Rattle.xmpp_tokens.specs.Lines.{line_ends, line_ends_behind}
+use Rattle.xmpp_tokens.specs.References.{character_reference, entity_reference, referred}
+use Rattle.xmpp_tokens.specs.Tags as tokens
+use Rattle.xmpp_tokens.specs.Tags.{AreAttributes, IsAttribute}
+use Rattle.xmpp_tokens.specs.ValueGrammar as values
+use Rattle.xmpp_tokens.specs.ValueGrammar.{SpellsValue, space_of, spaces}
+use Rattle.xmpp_tokens.specs.declared.references.Reference.{Reference}
+use Rattle.xmpp_tokens.specs.declared.references.Reference.TheVariants.{Character, Malformed, Unknown}
+use Rattle.xmpp_trees.specs.Attributes.{Attribute, found, has_name}
+use Rattle.xmpp_trees.specs.Readers.{text_of}
+use Rattle.xmpp_trees.specs.Tidied.{text_node}
+use Rattle.xmpp_trees.specs.Trees.{Elem, Nodes, attributes_of, child, element, joined, no_nodes, nodes_of, text}
+
+-- ---- what bytes say is no longer than they are
+
+lines_shorter : (r : Bool) (bs : List ℕ) → length (line_ends_behind r bs) ≤ length bs
+lines_shorter r [] = omega arith
+lines_shorter r (b ∷ bs) =
+    let after = lines_shorter true bs in
+    let before = lines_shorter false bs in
+    elim (cases_Bool (b == 13)) [
+      | inl e ↦ rw e (omega (arith, after))
+      | inr e ↦ elim (cases_Bool (r && b == 10)) [ inl x ↦ rw (e, x) (omega (arith, before)) | inr x ↦ rw (e, x) (omega (arith, before)) ]
+    ]
+
+other_length : (s t : List ℕ) → (length s ≡ length t → ⊥) → bytes_eq s t ≡ false
+other_length s t apart = elim (cases_Bool (bytes_eq s t)) [ inl e ↦ absurd (apart (ap length ((bytes_eq-Decides s t).0 e))) | inr e ↦ e ]
+
+no_entity : (b c : ℕ) → entity_reference (b ∷ []) ≡ Character c → ⊥
+no_entity b c is =
+    let amp = other_length (b ∷ []) (codes "amp") (λ e. omega (arith, e)) in
+    let lt = other_length (b ∷ []) (codes "lt") (λ e. omega (arith, e)) in
+    let gt = other_length (b ∷ []) (codes "gt") (λ e. omega (arith, e)) in
+    let quot = other_length (b ∷ []) (codes "quot") (λ e. omega (arith, e)) in
+    elim (cases_Bool (is_name (b ∷ []))) [
+      | inl e ↦ let never : Unknown ≡ Character c = rw (amp, lt, gt, quot, e) at is in cc
+      | inr e ↦ let never : Malformed ≡ Character c = rw (amp, lt, gt, quot, e) at is in cc
+    ]
+
+referred_long : (name : List ℕ) (c : ℕ) → referred name ≡ Character c → 2 ≤ length name
+unfolding referred
+referred_long [] c is = absurd cc
+referred_long (b ∷ []) c is =
+    elim (cases_Bool (b == 35)) [
+      | inl e ↦ let never : Malformed ≡ Character c = rw e at is in absurd cc
+      | inr e ↦ absurd (no_entity b c (rw e at is))
+    ]
+referred_long (b ∷ d ∷ more) c is = omega arith
+
+character_short : (name : List ℕ) (c : ℕ) → referred name ≡ Character c → length (encode_utf8 c) ≤ length name + 2
+character_short name c is =
+    let two = referred_long name c is in
+    let four = (len_utf8_bounds c).1 in
+    let long = length-encode c in
+    omega (arith, two, four, long)
+
+value_shorter : (raw says : List ℕ) → SpellsValue raw says → length says ≤ length raw
+value_shorter raw says (values.data_alone _ _ d is) = let lines = lines_shorter false raw in omega (arith, lines, ap length is, length-map (line_ends raw) space_of)
+value_shorter raw says (values.with_reference _ _ plain name rest more c d ref spelled bytes_are says_is) =
+    let ih = value_shorter rest more spelled in
+    let one = character_short name c ref in
+    let lines = lines_shorter false plain in
+    omega (
+      arith, ih, one, lines, ap length bytes_are, ap length says_is, length-map (line_ends plain) space_of, length-append plain (38 ∷ (name ++ (59 ∷ rest))), length-append name (59 ∷ rest),
+      length-append (spaces (line_ends plain)) (encode_utf8 c ++ more), length-append (encode_utf8 c) more,
+    )
+
+text_shorter : (raw says : List ℕ) → SpellsText raw says → length says ≤ length raw
+text_shorter raw says (texts.data_alone _ _ d is) = let lines = lines_shorter false raw in omega (arith, lines, ap length is)
+text_shorter raw says (texts.with_reference _ _ plain name rest more c d ref spelled bytes_are says_is) =
+    let ih = text_shorter rest more spelled in
+    let one = character_short name c ref in
+    let lines = lines_shorter false plain in
+    omega (
+      arith, ih, one, lines, ap length bytes_are, ap length says_is, length-append plain (38 ∷ (name ++ (59 ∷ rest))), length-append name (59 ∷ rest),
+      length-append (line_ends plain) (encode_utf8 c ++ more), length-append (encode_utf8 c) more,
+    )
+text_shorter raw says (texts.with_section _ _ plain inside rest more d none spelled bytes_are says_is) =
+    let ih = text_shorter rest more spelled in
+    let lines = lines_shorter false plain in
+    let held = lines_shorter false inside in
+    omega (
+      arith, ih, lines, held, ap length bytes_are, ap length says_is, length-append plain (codes "<![CDATA[" ++ (inside ++ (codes "]]>" ++ rest))), length-append (codes "<![CDATA[") (inside ++ (codes "]]>" ++ rest)),
+      length-append inside (codes "]]>" ++ rest), length-append (codes "]]>") rest, length-append (line_ends plain) (line_ends inside ++ more), length-append (line_ends inside) more,
+    )
+
+-- ---- attributes
+
+each_wider : (m n : ℕ) (xs : List tokens.Attribute) → m ≤ n → AllByRecursion (λ (a : tokens.Attribute). length a.value ≤ m) xs → AllByRecursion (λ (a : tokens.Attribute). length a.value ≤ n) xs
+each_wider m n [] wide h = tt
+each_wider m n (a ∷ more) wide h = (let first = h.0 in omega (arith, first, wide), each_wider m n more wide h.1)
+
+attributes_short : (xs : List tokens.Attribute) (bytes rest : List ℕ) → AreAttributes bytes xs rest → AllByRecursion (λ (a : tokens.Attribute). length a.value ≤ length bytes) xs
+attributes_short [] bytes rest h = tt
+attributes_short (a ∷ more) bytes rest h =
+    let next = h.0 in
+    let raw = h.1.0 in
+    let spelled = h.1.1 in
+    let value = value_shorter raw a.value h.1.2.spelled in
+    let behind = spelled.after ++ (spelled.quote ∷ (raw ++ (spelled.quote ∷ next))) in
+    let whole = ap length spelled.bytes_are in
+    let a1 = length-append spelled.space (a.name ++ (spelled.before ++ (61 ∷ behind))) in
+    let a2 = length-append a.name (spelled.before ++ (61 ∷ behind)) in
+    let a3 = length-append spelled.before (61 ∷ behind) in
+    let a4 = length-append spelled.after (spelled.quote ∷ (raw ++ (spelled.quote ∷ next))) in
+    let a5 = length-append raw (spelled.quote ∷ next) in
+    (omega (arith, value, whole, a1, a2, a3, a4, a5), each_wider (length next) (length bytes) more (omega (arith, whole, a1, a2, a3, a4, a5)) (attributes_short more next rest h.2))
+
+one_other : (n : ℕ) (o : Option (List ℕ)) (a : tokens.Attribute) (more : List tokens.Attribute) → length a.value ≤ n → AllByRecursion (λ (x : tokens.Attribute). length x.value ≤ n) more → AllByRecursion (λ (x : tokens.Attribute). length x.value ≤ n) (unless_binding o a more)
+one_other n None a more h k = (h, k)
+one_other n (Some p) a more h k = k
+
+others_short : (n : ℕ) (xs : List tokens.Attribute) → AllByRecursion (λ (x : tokens.Attribute). length x.value ≤ n) xs → AllByRecursion (λ (x : tokens.Attribute). length x.value ≤ n) (others_of xs)
+others_short n [] h = tt
+others_short n (a ∷ more) h = one_other n (declared_prefix a.name) a (others_of more) h.0 (others_short n more h.1)
+
+expanded_short : (n : ℕ) (scope : Scope) (xs : List tokens.Attribute) (es : List ExpandedAttribute) → AllZip (IsExpanded scope) xs es → AllByRecursion (λ (x : tokens.Attribute). length x.value ≤ n) xs
+    → AllByRecursion (λ (x : ExpandedAttribute). length x.value ≤ n) es
+expanded_short n scope [] [] z h = tt
+expanded_short n scope [] (e ∷ es) z h = absurd z
+expanded_short n scope (x ∷ xs) [] z h = absurd z
+expanded_short n scope (x ∷ xs) (e ∷ es) z h = (let first = h.0 in let same = ap length z.0.3 in omega (arith, first, same), expanded_short n scope xs es z.1 h.1)
+
+found_short : (n : ℕ) (ns name : List ℕ) (es : List ExpandedAttribute) (v : List ℕ) → AllByRecursion (λ (x : ExpandedAttribute). length x.value ≤ n) es
+    → option_map (λ (a : Attribute). a.value) (found ns name (map attribute_of es)) ≡ Some v → length v ≤ n
+found_short n ns name [] v h is = absurd cc
+found_short n ns name (e ∷ es) v h is =
+    elim (cases_Bool (has_name ns name (attribute_of e))) [
+      | inl here ↦ let same = same_Some e.value v (rw here at is) in subst (λ x. length x ≤ n) same h.0
+      | inr other ↦ found_short n ns name es v h.1 (rw other at is)
+    ]
+
+start_short : (scope : Scope) (bytes : List ℕ) (raw : List tokens.Attribute) (t : Tag) → IsStart scope bytes raw t → (ns name v : List ℕ) → option_map (λ (a : Attribute). a.value) (found ns name (map attribute_of t.attributes)) ≡ Some v
+    → length v ≤ length bytes
+start_short scope bytes raw t start ns name v is =
+    let spelled = start.spelled in
+    let each = attributes_short raw spelled.inside _ spelled.inside_is in
+    let few =
+    found_short (length spelled.inside) ns name t.attributes v (expanded_short (length spelled.inside) (t.bindings ++ scope) (others_of raw) t.attributes start.others (others_short (length spelled.inside) raw each)) is in
+    omega (arith, few, ap length spelled.bytes_are, length-append t.spelled spelled.inside)
+
+-- ---- elements
+
+said_text : (says : List ℕ) → text_of (text_node says) ≡ says
+said_text [] = refl
+said_text (c ∷ cs) = append_nil (c ∷ cs)
+  where
+    append_nil : (xs : List ℕ) → xs ++ [] ≡ xs
+    append_nil [] = refl
+    append_nil (x ∷ xs) = ap (λ l. x ∷ l) (append_nil xs)
+
+text_before : (says : List ℕ) (e : Elem) (more : Nodes) → text_of (joined (text_node says) (child e more)) ≡ says ++ text_of more
+text_before [] e more = refl
+text_before (c ∷ cs) e more = refl
+
+content_short : (scope : Scope) (bytes : List ℕ) (kids : Nodes) → SpellsContent scope bytes kids → length (text_of kids) ≤ length bytes
+content_short scope bytes kids (text_alone _ _ _ says is_text kids_are) =
+    let one = text_shorter bytes says is_text.spelled in
+    omega (arith, one, ap (λ ks. length (text_of ks)) kids_are, ap length (said_text says))
+content_short scope bytes kids (with_element _ _ _ front says middle rest e more is_text spelled content bytes_are kids_are) =
+    let one = text_shorter front says is_text.spelled in
+    let ih = content_short scope rest more content in
+    omega (
+      arith, one, ih, ap (λ ks. length (text_of ks)) kids_are, ap length (text_before says e more), length-append says (text_of more), ap length bytes_are, length-append front (middle ++ rest), length-append middle rest,
+    )
+
+begun_short : (n : ℕ) (t : Tag) (kids : Nodes) (e : Elem) → IsBegun t kids e → ((ns name v : List ℕ) → option_map (λ (a : Attribute). a.value) (found ns name (map attribute_of t.attributes)) ≡ Some v → length v ≤ n) → n ≤ 65536
+    → length (text_of kids) ≤ 65536 → IsShort e
+begun_short n t kids e begun each few content =
+    subst IsShort (sym begun.is)
+    (record {
+      attribute = λ name v is. let short = each [] name v (ap (option_map (λ (a : Attribute). a.value)) (sym (begun.sorted.firsts [] name)) ∙ is) in omega (arith, short, few);
+      content = content;
+    })
+
+top_short : (scope : Scope) (bytes : List ℕ) (e : Elem) → Spells scope bytes e → length bytes ≤ 65536 → IsShort e
+top_short scope bytes e (empty _ _ _ raw t start is_empty begun) few = begun_short (length bytes) t no_nodes e begun (start_short scope bytes raw t start) few (omega arith)
+top_short scope bytes e (filled _ _ _ raw t front inside close kids start not_empty content end bytes_are begun) few =
+    let whole = ap length bytes_are in
+    let a1 = length-append front (inside ++ close) in
+    let a2 = length-append inside close in
+    let said = content_short (t.bindings ++ scope) inside kids content in
+    begun_short (length front) t kids e begun (start_short scope front raw t start) (omega (arith, whole, a1, few)) (omega (arith, whole, a1, a2, few, said))
+
+-- ---- streams
+
+abbrev ShortItem : Item → Type 0
+ShortItem (item.Header at h) = Unit {0}
+ShortItem (item.Element e) = IsShort e
+ShortItem item.Footer = Unit {0}
+
+more_items : (items given more : List Item) → items ≡ given ++ more → AllByRecursion ShortItem given → AllByRecursion ShortItem more → AllByRecursion ShortItem items
+more_items items given more are h k = subst (AllByRecursion ShortItem) (sym are) (append_each ShortItem given more h k)
+
+short_so_far : (now : InForce) (bytes : List ℕ) (items : List Item) (s : StreamTo now bytes items) → IsStreamWithin server_limits now bytes items s → AllByRecursion ShortItem items
+short_so_far now bytes items (nothing _ _ _ is_first no_scope no_name no_bytes no_items) within = subst (AllByRecursion ShortItem) (sym no_items) tt
+short_so_far now bytes items (white_space _ _ _ front space so_far white bytes_are) within = short_so_far now front items so_far within
+short_so_far now bytes items (declared _ _ _ before front tag so_far phases scope_is name_is good bytes_are) within = short_so_far before front items so_far within.0
+short_so_far now bytes items (headed _ _ _ before front tag given h so_far spelled phase_is bytes_are items_are) within = more_items items given _ items_are (short_so_far before front given so_far within.0) (tt, tt)
+short_so_far now bytes items (headed_and_ended _ _ _ before front tag given h so_far spelled phase_is bytes_are items_are) within =
+    more_items items given _ items_are (short_so_far before front given so_far within.0) (tt, (tt, tt))
+short_so_far now bytes items (streams.with_element _ _ _ front inside given e so_far phase_is spelled bytes_are items_are) within =
+    more_items items given _ items_are (short_so_far now front given so_far within.0) (top_short now.scope inside e spelled.spelled within.1.short, tt)
+short_so_far now bytes items (ended _ _ _ before front tag given so_far was_between spelled phase_is scope_is name_is bytes_are items_are) within =
+    more_items items given _ items_are (short_so_far before front given so_far within) (tt, tt)
+
+all_come : (items : List Item) → AllByRecursion IsPlainItem items → AllByRecursion (CanPass stanza_limits) items → AllByRecursion ShortItem items → AllByRecursion Comes items
+all_come [] h k l = tt
+all_come (item.Header at x ∷ more) h k l = (tt, all_come more h.1 k.1 l.1)
+all_come (item.Element e ∷ more) h k l = ((h.0, k.0, l.0), all_come more h.1 k.1 l.1)
+all_come (item.Footer ∷ more) h k l = (tt, all_come more h.1 k.1 l.1)
+
+-- what a framer with a server's limits gave, as long as there is no fault
+pub given_come : (bytes : List ℕ) → (run (turn (from_start server_limits) []) bytes).state.fault ≡ None → AllByRecursion Comes (run (turn (from_start server_limits) []) bytes).items
+given_come bytes none =
+    let end = run (turn (from_start server_limits) []) bytes in
+    let known = prefix_known server_limits bytes (omega arith) (omega arith) none in
+    all_come end.items (recursion_from_All IsPlainItem end.items (given_plain server_limits bytes (omega arith) (omega arith) none))
+    (recursion_from_All (CanPass stanza_limits) end.items (given_can_pass server_limits stanza_limits bytes (omega arith) (omega arith) (omega arith) (omega arith) (omega arith) (omega arith) none))
+    (short_so_far known.now known.done end.items known.stream (known.within (omega arith)))
