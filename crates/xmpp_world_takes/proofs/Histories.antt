@@ -5,7 +5,10 @@ use Rattle.xmpp_basis.proofs.Lists.{AllByRecursion-weaker}
 use Rattle.xmpp_schedule.specs.Contents.{accounts_of}
 use Rattle.xmpp_schedule.specs.Schedules.{WireView, keep_of}
 use Rattle.xmpp_schedule.specs.WireGrammar.{IsWireSchedule}
+use Rattle.xmpp_devices.specs.Starting.{accounts_at_start}
+use Rattle.xmpp_report.specs.Addresses.{domain}
 use Rattle.xmpp_takes.proofs.ArchiveEntries.{gets_nothing}
+use Rattle.xmpp_takes.proofs.SoundEvents.{sound_at_start}
 use Rattle.xmpp_desk.specs.State.{archive_at}
 use Rattle.xmpp_world.proofs.Declares.{are_accounts, are_names}
 use Rattle.xmpp_world.proofs.Traces.{may_run_all}
@@ -32,7 +35,9 @@ at_first schedule = record {
   archives = λ place. sym (gets_nothing (archive_at place (first_hall (names_in schedule) (keep_of schedule.version))));
   addressees = tt;
   senders = tt;
-  numbers = omega arith;
+  sound = sound_at_start domain (accounts_at_start (names_in schedule)) (keep_of schedule.version);
+  past = tt;
+  order = tt;
   domain = refl;
   accounts_are = refl;
   early = omega arith;

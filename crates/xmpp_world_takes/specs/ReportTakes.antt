@@ -1,11 +1,13 @@
 -- The takes of a wire schedule's report, and the archives that they make.
-use Rattle.std.specs.Prelude.{◌≡◌, ℕ, ◌||◌, Bool, List, filter, map}
+use Rattle.std.specs.Prelude.{◌≡◌, ℕ, ◌≤◌, ◌||◌, Bool, true, List, filter, map}
 use Rattle.std.specs.List.{AllByRecursion}
 use Rattle.std.specs.Str.{bytes_eq}
 use Rattle.xmpp_archive.specs.Entries.{EntryView}
+use Rattle.xmpp_edge.specs.Names.{is_among}
 use Rattle.xmpp_report.specs.Addresses.{full_address}
+use Rattle.xmpp_report.specs.Lawful.{EachPair}
 use Rattle.xmpp_report.specs.LawfulRuns.{IsNewestOf}
-use Rattle.xmpp_report.specs.Reports.{ReportView}
+use Rattle.xmpp_report.specs.Reports.{AccountView, ReportView}
 use Rattle.xmpp_report.specs.Takes.{numbered_from}
 use Rattle.xmpp_report.specs.declared.report.TakeLine.{TakeLine}
 use Rattle.xmpp_schedule.specs.declared.schedule.Version.{Version}
@@ -29,6 +31,15 @@ pub record IsOfLine (line : TakeLine) (t : Taken) : Type 0 where
   pub from : t.entry.from ≡ full_address t.sender line.device
   pub account : line.account ≡ t.addressee
 
+-- it is from and to an account of the report
+pub record IsOfAccounts (accounts : List AccountView) (t : Taken) : Type 0 where
+  pub sender : is_among t.sender (map (λ (a : AccountView). a.name) accounts) ≡ true
+  pub addressee : is_among t.addressee (map (λ (a : AccountView). a.name) accounts) ≡ true
+
+-- it was taken no later than another
+abbrev pub IsNoLater : Taken → Taken → Type 0
+IsNoLater t other = t.entry.stamp ≤ other.entry.stamp
+
 -- ---- archives
 
 -- the account sent the message, or it is to the account
@@ -46,6 +57,8 @@ history_of account takes = numbered_from 1 (map (λ (t : Taken). t.entry) (filte
 pub record AreOfTakes (keep : ℕ) (takes : List Taken) (report : ReportView) : Type 0 where
   pub lines : report.takes ≡ map (line_of report.version) takes
   pub each : AllByRecursion (λ (t : Taken). IsOfLine (line_of report.version t) t) takes
+  pub accounts : AllByRecursion (IsOfAccounts report.accounts) takes
+  pub moments : EachPair IsNoLater takes
   pub archives : AllByRecursion (λ a. IsNewestOf keep (history_of a.name takes) a) report.accounts
 
 -- the archives are those of the takes: the two archives of one take have one entry, but for its number
