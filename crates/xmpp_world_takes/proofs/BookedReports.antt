@@ -2,11 +2,13 @@
 use Rattle.std.proofs.Common.{◌≡◌, ◌≤◌, ◌<◌, ℕ, zero, suc, zero-add, ◌+◌, Bool, true, false, not, ◌||◌, cond, List, [], ◌∷◌, ◌++◌, length, Option, Some, None, map, refl, sym, ap, subst, ◌∙◌, arith}
 use Rattle.std.proofs.lemmas.List.{length-map}
 use Rattle.xmpp_basis.proofs.Bytes.{bytes_eq-self}
-use Rattle.std.proofs.lemmas.Bool.{and_from}
+use Rattle.xmpp_basis.proofs.Lists.{AllByRecursion-weaker}
+use Rattle.std.proofs.lemmas.Bool.{and_from, false≢true}
 use Rattle.std.proofs.lemmas.List.Folds.{list_all-append}
 use Rattle.std.proofs.lemmas.Option.{none-some, same_Some, slice_get-map}
 use Rattle.std.specs.Prelude.{IfSome}
 use Rattle.std.specs.List.{AllByRecursion, after_first, before_first, filter, list_all, slice_get}
+use Rattle.std.specs.List.Sorted.{IsNonDecreasing}
 use Rattle.std.specs.Option.{option_and_then, option_map, unwrap_or}
 use Rattle.std.specs.Str.{bytes_eq}
 use Rattle.xmpp_archive.specs.Entries.{EntryView, newest}
@@ -20,29 +22,39 @@ use Rattle.xmpp_login.specs.declared.account.Account.{Account}
 use Rattle.xmpp_report.proofs.TakenArchives.{length-numbered_from}
 use Rattle.xmpp_report.specs.Addresses as report
 use Rattle.xmpp_report.specs.Addresses.{domain}
-use Rattle.xmpp_report.specs.Lawful.{EachPair}
+use Rattle.xmpp_report.specs.Lawful.{EachPair, IsOfSchedule}
 use Rattle.xmpp_report.specs.LawfulRuns.{IsNewestOf}
+use Rattle.xmpp_report.specs.EntryLines.{EntryLineView}
 use Rattle.xmpp_report.specs.Lines.{entry_line}
-use Rattle.xmpp_report.specs.Reports.{AccountView}
+use Rattle.xmpp_report.specs.Reports.{AccountView, DeviceView}
 use Rattle.xmpp_report.specs.Takes.{numbered_from}
 use Rattle.xmpp_route.specs.Destinations.{RemoteDomain, account_in, at_user, destination_of}
+use Rattle.xmpp_schedule.specs.Contents.{accounts_of, owned_in}
+use Rattle.xmpp_schedule.specs.Schedules.{WireView, keep_of, seen_of}
 use Rattle.xmpp_schedule.proofs.Lists.{all_map, map-map}
 use Rattle.xmpp_schedule.specs.declared.schedule.Version.{Version}
 use Rattle.xmpp_server.specs.Configs.{empty_kept, hall_at_start}
 use Rattle.xmpp_takes.specs.Taken as server
 use Rattle.xmpp_takes.specs.Taken.{IsFromSender, IsTo, account_of, all_appended, entries_for}
 use Rattle.xmpp_world.specs.Declaring.{AreAccounts, AreNames}
-use Rattle.xmpp_world.specs.WorldReports.{account_line, account_lines, account_where, report_of}
+use Rattle.xmpp_world.specs.Histories.{common_steps}
+use Rattle.xmpp_world.specs.WorldReports.{account_line, account_lines, account_where, device_line_of, report_of}
 use Rattle.xmpp_world.specs.Worlds.{World}
 use Rattle.xmpp_world_takes.proofs.AccountNames.{entries_same, name_at, name_there, named, plain_at, with_names}
 use Rattle.xmpp_world_takes.proofs.AddressParts.{after_first-joined, before_first-joined, local_is}
 use Rattle.xmpp_world_takes.proofs.AppendedEntries.{all_kept}
-use Rattle.xmpp_world_takes.proofs.Booked.{IsBooked}
+use Rattle.xmpp_world_takes.proofs.ArchiveStamps.{stamps_rise}
+use Rattle.xmpp_world_takes.proofs.OwnersKept.{owners_of}
+use Rattle.xmpp_world_takes.proofs.Booked.{IsBooked, line_at}
 use Rattle.xmpp_world_takes.specs.ReportTakes.{HasArchivesOfTakes, IsNoLater, IsOfAccounts, IsOfLine, Taken, concerns, history_of, line_of}
 
 -- the server of a schedule with these accounts, before the first move
 abbrev pub first_hall : List (List ℕ) → ℕ → Hall (List ℕ)
 first_hall names keep = hall_at_start domain (accounts_at_start names) keep
+
+-- the names of a schedule's accounts
+abbrev pub names_in : WireView → List (List ℕ)
+names_in schedule = accounts_of (common_steps schedule)
 
 -- ---- addresses
 
@@ -128,16 +140,18 @@ among_names (name ∷ names) (suc place) there = or_there (bytes_eq (name_at nam
     or_there true y h = refl
     or_there false y h = h
 
-all_of_accounts : (names : List (List ℕ)) (keep : ℕ) (accounts : List AccountView) (takes : List server.Taken) → names ≡ map (λ (a : AccountView). a.name) accounts → AreNames names
-    → AllByRecursion (IsTo (first_hall names keep)) takes → AllByRecursion (IsFromSender (first_hall names keep)) takes → AllByRecursion (IsOfAccounts accounts) (map (with_names names) takes)
-all_of_accounts names keep accounts [] same are to from = tt
-all_of_accounts names keep accounts (t ∷ takes) same are to from = (
-  record {
-    sender = subst (λ ns. is_among (name_at names t.sender) ns ≡ true) same (among_names names t.sender (sender_there names keep t from.0));
-    addressee = subst (λ ns. is_among (name_at names t.addressee) ns ≡ true) same (among_names names t.addressee (is_named names keep t are to.0 from.0).there);
-  },
-  all_of_accounts names keep accounts takes same are to.1 from.1,
-)
+all_of_accounts : (schedule : WireView) (takes : List server.Taken) → AreNames (names_in schedule) → AllByRecursion (IsTo (first_hall (names_in schedule) (keep_of schedule.version))) takes
+    → AllByRecursion (IsFromSender (first_hall (names_in schedule) (keep_of schedule.version))) takes → AllByRecursion (IsOfAccounts (seen_of schedule)) (map (with_names (names_in schedule)) takes)
+all_of_accounts schedule [] are to from = tt
+all_of_accounts schedule (t ∷ takes) are to from =
+    let names = names_in schedule in
+    let keep = keep_of schedule.version in (
+      record {
+        sender = among_names names t.sender (sender_there names keep t from.0);
+        addressee = among_names names t.addressee (is_named names keep t are to.0 from.0).there;
+      },
+      all_of_accounts schedule takes are to.1 from.1,
+    )
 
 -- ---- moments
 
@@ -209,19 +223,64 @@ names_told names keep archives takes got place (name ∷ rest) behind =
     one_more : (p i : ℕ) → p + 1 + i ≡ p + suc i
     one_more p i = omega arith
 
+counted_where : (name : List ℕ) (o : Option Kept) (more : List AccountView) → AllByRecursion (λ (a : AccountView). a.count ≡ length a.entries) more → AllByRecursion (λ (a : AccountView). a.count ≡ length a.entries) (account_where name o ++ more)
+counted_where name None more rest = rest
+counted_where name (Some kept) more rest = (sym (length-map kept.entries entry_line), rest)
+
+counted : (place : ℕ) (names : List (List ℕ)) (archives : List Kept) → AllByRecursion (λ (a : AccountView). a.count ≡ length a.entries) (account_lines place names archives)
+counted place [] archives = tt
+counted place (name ∷ names) archives = counted_where name (slice_get archives place) (account_lines (place + 1) names archives) (counted (place + 1) names archives)
+
 -- ---- the report
 
-pub reported : (start : Version) (names : List (List ℕ)) (keep : ℕ) (w : World) → AreAccounts [] names → AreNames names → IsBooked start names (first_hall names keep) w → HasArchivesOfTakes keep (report_of w)
-reported start names keep w accounts are is = (
-  map (with_names names) is.takes,
-  record {
-    lines = is.lines_are ∙ sym (map-map (with_names names) (line_of w.version) is.takes);
-    each = all_of_lines w.version names keep is.takes are is.addressees is.senders;
-    accounts = subst (λ (ns : List (List ℕ)). AllByRecursion (IsOfAccounts (account_lines 0 ns w.server.hall.archives)) (map (with_names names) is.takes)) (sym is.names_are)
-        (all_of_accounts names keep (account_lines 0 names w.server.hall.archives) is.takes
-        (sym (names_told names keep w.server.hall.archives is.takes is.archives 0 names (λ i name there. ap (slice_get names) (zero-add i) ∙ there))) are is.addressees is.senders);
-    moments = in_order names is.takes is.order;
-    archives = subst (λ (ns : List (List ℕ)). AllByRecursion (λ a. IsNewestOf keep (history_of a.name (map (with_names names) is.takes)) a) (account_lines 0 ns w.server.hall.archives)) (sym is.names_are)
-        (lines_newest names keep w.server.hall.archives is.takes accounts are is.archives 0 names (λ i name there. ap (slice_get names) (zero-add i) ∙ there));
-  },
-)
+rising : (keep : ℕ) (takes : List Taken) → EachPair IsNoLater takes → (a : AccountView) → IsNewestOf keep (history_of a.name takes) a → IsNonDecreasing (map (λ (e : EntryLineView). e.stamp) a.entries)
+rising keep takes order a is = subst (λ (es : List EntryLineView). IsNonDecreasing (map (λ (e : EntryLineView). e.stamp) es)) (sym is.entries) (stamps_rise keep a.name takes order)
+
+-- the lines of accounts are those of the schedule's, with the newest of their histories
+record AreRight (schedule : WireView) (takes : List Taken) (accounts : List AccountView) : Type 0 where
+  names : map (λ (a : AccountView). a.name) accounts ≡ names_in schedule
+  counts : AllByRecursion (λ (a : AccountView). a.count ≡ length a.entries) accounts
+  archives : AllByRecursion (λ a. IsNewestOf (keep_of schedule.version) (history_of a.name takes) a) accounts
+
+are_right : (schedule : WireView) (w : World) → AreAccounts [] (names_in schedule) → AreNames (names_in schedule)
+    → (is : IsBooked schedule.version (names_in schedule) (first_hall (names_in schedule) (keep_of schedule.version)) w) → AreRight schedule (map (with_names (names_in schedule)) is.takes) (account_lines 0 w.accounts w.server.hall.archives)
+are_right schedule w accounts are is =
+    let names = names_in schedule in
+    let keep = keep_of schedule.version in
+    let archives = w.server.hall.archives in
+    let right : AreRight schedule (map (with_names names) is.takes) (account_lines 0 names archives) = record {
+      names = names_told names keep archives is.takes is.archives 0 names (λ i name there. ap (slice_get names) (zero-add i) ∙ there);
+      counts = counted 0 names archives;
+      archives = lines_newest names keep archives is.takes accounts are is.archives 0 names (λ i name there. ap (slice_get names) (zero-add i) ∙ there);
+    } in
+    subst (λ (ns : List (List ℕ)). AreRight schedule (map (with_names names) is.takes) (account_lines 0 ns archives)) (sym is.names_are) right
+
+of_schedule : (schedule : WireView) (w : World) (takes : List Taken) → AreRight schedule takes (account_lines 0 w.accounts w.server.hall.archives) → owners_of w ≡ owned_in (common_steps schedule) → IsOfSchedule (seen_of schedule) (report_of w)
+of_schedule schedule w takes right owners = record {
+  mode = refl;
+  accounts = right.names;
+  devices = map-map (device_line_of w) (λ (d : DeviceView). record { device = d.name; account = d.account }) w.devices ∙ owners;
+  counts = right.counts;
+  conns = λ direct. absurd (false≢true (sym direct));
+}
+
+pub reported : (schedule : WireView) (w : World) → AreAccounts [] (names_in schedule) → AreNames (names_in schedule)
+    → IsBooked schedule.version (names_in schedule) (first_hall (names_in schedule) (keep_of schedule.version)) w → owners_of w ≡ owned_in (common_steps schedule) → HasArchivesOfTakes schedule (report_of w)
+reported schedule w accounts are is owners =
+    let names = names_in schedule in
+    let keep = keep_of schedule.version in
+    let takes = map (with_names names) is.takes in
+    let right = are_right schedule w accounts are is in
+    let moments = in_order names is.takes is.order in (
+      takes,
+      record {
+        whole = of_schedule schedule w takes right owners;
+        lines = is.lines_are ∙ ap (λ version. map (line_at version) is.takes) is.version_is ∙ sym (map-map (with_names names) (line_of schedule.version) is.takes);
+        each = all_of_lines schedule.version names keep is.takes are is.addressees is.senders;
+        exist = all_of_accounts schedule is.takes are is.addressees is.senders;
+        moments = moments;
+        archives = right.archives;
+        stamps = AllByRecursion-weaker (λ a. IsNewestOf keep (history_of a.name takes) a) (λ (a : AccountView). IsNonDecreasing (map (λ (e : EntryLineView). e.stamp) a.entries)) (rising keep takes moments)
+            (account_lines 0 w.accounts w.server.hall.archives) right.archives;
+      },
+    )
