@@ -5,6 +5,10 @@ pub mod MessageMarks
 pub mod ItemTakes
 -- ---- sessions
 pub mod NumbersKept
+pub mod AccountsKept
+pub mod FittingRows
+pub mod ItemFits
+pub mod SoundEvents
 -- ---- what is taken
 pub mod ArchiveEntries
 pub mod PieceTakes

@@ -111,7 +111,7 @@ archive_books : {A : Type 0} (e : EntryView) (account : ℕ) (o : Option Kept) (
 archive_books e account None s = refl
 archive_books e account (Some kept) s = refl
 
-act_books : {A : Type 0} (say : ItemOut → A) (a : Act A) (s : Step A) → books_of (act say a s) ≡ all_marking (marked a []) (books_of s)
+pub act_books : {A : Type 0} (say : ItemOut → A) (a : Act A) (s : Step A) → books_of (act say a s) ≡ all_marking (marked a []) (books_of s)
 act_books say (steps.Say k a) s = put_books k a s
 act_books say (steps.Close k) s = shut_books k s
 act_books say (steps.Enter k phase) s = refl

@@ -1,5 +1,5 @@
 -- What items, pieces of bytes and other events archive.
-use Rattle.std.proofs.Common.{◌≡◌, ℕ, List, [], ◌∷◌, ◌++◌, Option, Some, None, append-nil, append_assoc, map, refl, sym, ap, ap₂, ◌∙◌}
+use Rattle.std.proofs.Common.{◌≡◌, ℕ, List, [], ◌∷◌, ◌++◌, Option, Some, None, append-nil, append_assoc, map, refl, sym, ap, ap₂, subst, ◌∙◌}
 use Rattle.std.proofs.lemmas.List.{map-append}
 use Rattle.std.specs.List.{AllByRecursion, slice_get}
 use Rattle.std.specs.Option.{IfSome, option_map, unwrap_or}
@@ -16,13 +16,18 @@ use Rattle.xmpp_login.specs.Accounts.{bare_text}
 use Rattle.xmpp_route.specs.Destinations.{destination_of}
 use Rattle.xmpp_server.specs.Events.{Whole, after_bytes, after_fault, after_turn, at_fault, at_piece, begun, fault_condition, framer_at, turn_of}
 use Rattle.xmpp_server.specs.Table.{after_item, after_items, at_open}
+use Rattle.xmpp_login.specs.declared.account.Account.{Account}
+use Rattle.xmpp_takes.proofs.AccountsKept.{Fit, accounts_acted, owner_at}
+use Rattle.xmpp_takes.proofs.FittingRows.{fit_ending}
+use Rattle.xmpp_takes.proofs.ItemFits.{fit_open}
 use Rattle.xmpp_takes.proofs.ArchiveEntries.{archives_get, gets_both, gets_nothing, stays, takes_are_told}
 use Rattle.xmpp_takes.proofs.ItemTakes.{open_marks}
 use Rattle.xmpp_takes.proofs.Marks.{Books, Entry, Mark, Notice, acted_books, all_marking, books_of, marks}
 use Rattle.xmpp_takes.proofs.MessageMarks.{marks_of}
 use Rattle.xmpp_takes.proofs.NumbersKept.{address_is, numbers_acted}
 use Rattle.xmpp_takes.proofs.QuietRows.{quiet_ending}
-use Rattle.xmpp_takes.specs.Numbers.{HaveNumbers}
+use Rattle.xmpp_takes.specs.Accounts.{Exists, HaveAccounts}
+use Rattle.xmpp_takes.specs.Sound.{IsSound}
 use Rattle.xmpp_takes.specs.Taken.{HasTaken, IsFromSender, IsTakenFrom, IsTo, Taken, account_of, all_appended, at_most_one, entries_for, takes_told, told}
 use Rattle.xmpp_writer.specs.Items.{ItemOut}
 
@@ -35,11 +40,14 @@ is_to k i h t is = record {
   addressee = ap (λ n. account_of (destination_of h.domain h.accounts n is.message.to)) is.sender ∙ is.addressee;
 }
 
-is_from_sender : {A : Type 0} (k : ℕ) (i : Item) (h : Hall A) (t : Taken) → HaveNumbers h → IsTakenFrom k i h t → IsFromSender h t
-is_from_sender k i h t have is = (
-  is.session.shown.resource,
-  ap (λ (e : EntryView). e.from) is.entry ∙ address_is k h is.session have is.is_on ∙ ap (λ n. full_address n is.session.shown.resource h) (sym is.sender),
-)
+is_from_sender : {A : Type 0} (k : ℕ) (i : Item) (h : Hall A) (t : Taken) → IsSound h → IsTakenFrom k i h t → IsFromSender h t
+is_from_sender k i h t sound is = record {
+  exists = subst (Exists h.accounts) (sym is.sender) (owner_at k h is.session sound.accounts is.is_on);
+  resource = is.session.shown.resource;
+  from =
+      ap (λ (e : EntryView). e.from) is.entry ∙ address_is k h is.session sound.numbers is.is_on
+      ∙ ap (λ n. full_address n is.session.shown.resource h) (sym is.sender);
+}
 
 all_of_one : {P Q : Taken → Type 0} (o : Option Taken) → ((t : Taken) → P t → Q t) → IfSome o P → AllByRecursion Q (at_most_one o)
 all_of_one None f is = tt
@@ -59,8 +67,8 @@ moment_stays (Notice from to origin) b = refl
 
 -- these are the acts of a row
 by_acts : {A : Type 0} (say : ItemOut → A) (acts : List (Act A)) (s : Step A) (o : Option Taken) → marks acts ≡ marks_of o → AllByRecursion (λ (t : Taken). t.entry.stamp ≡ s.hall.moment) (at_most_one o) → AllByRecursion (IsTo s.hall) (at_most_one o)
-    → (HaveNumbers s.hall → AllByRecursion (IsFromSender s.hall) (at_most_one o)) → HasTaken (at_most_one o) s (acted say acts s)
-by_acts say acts s o marked stamps addressees senders =
+    → (IsSound s.hall → AllByRecursion (IsFromSender s.hall) (at_most_one o)) → (HaveAccounts s.hall → Fit s.hall.accounts acts) → HasTaken (at_most_one o) s (acted say acts s)
+by_acts say acts s o marked stamps addressees senders fit =
     let b = books_of s in
     let books : books_of (acted say acts s) ≡ all_marking (marks_of o) b = acted_books say acts s ∙ ap (λ ms. all_marking ms b) marked in
     record {
@@ -69,7 +77,7 @@ by_acts say acts s o marked stamps addressees senders =
       stamps = stamps;
       addressees = addressees;
       senders = senders;
-      numbers = λ have. numbers_acted say acts s have;
+      sound = λ is. record { numbers = numbers_acted say acts s is.numbers; accounts = accounts_acted say acts s (fit is.accounts) is.accounts };
       domain = ap (λ (x : Books _). x.domain) books ∙ stays (λ (x : Books _). x.domain) domain_stays (marks_of o) b;
       accounts = ap (λ (x : Books _). x.accounts) books ∙ stays (λ (x : Books _). x.accounts) accounts_stay (marks_of o) b;
       moment = ap (λ (x : Books _). x.moment) books ∙ stays (λ (x : Books _). x.moment) moment_stays (marks_of o) b;
@@ -81,7 +89,7 @@ item_takes say k i s =
     let m = open_marks say k i standing s.hall in (
       m.0,
       by_acts say (at_open say k i standing s.hall) s m.0 m.1 (all_of_one m.0 (λ t is. ap (λ (e : EntryView). e.stamp) is.entry) m.2) (all_of_one m.0 (λ t is. is_to k i s.hall t is) m.2)
-          (λ have. all_of_one m.0 (λ t is. is_from_sender k i s.hall t have is) m.2),
+          (λ sound. all_of_one m.0 (λ t is. is_from_sender k i s.hall t sound is) m.2) (fit_open say k i s.hall),
       m.2,
     )
 
@@ -98,7 +106,11 @@ to_before g h domain accounts t is = record {
 }
 
 pub from_before : {A : Type 0} (g h : Hall A) → g.domain ≡ h.domain → g.accounts ≡ h.accounts → (t : Taken) → IsFromSender g t → IsFromSender h t
-from_before g h domain accounts t is = (is.0, is.1 ∙ ap (λ bare. bare ++ 47 ∷ is.0) (address_same t.sender g h domain accounts))
+from_before g h domain accounts t is = record {
+  exists = subst (λ these. Exists these t.sender) accounts is.exists;
+  resource = is.resource;
+  from = is.from ∙ ap (λ bare. bare ++ 47 ∷ is.resource) (address_same t.sender g h domain accounts);
+}
 
 pub all_both : (P : Taken → Type 0) (ts us : List Taken) → AllByRecursion P ts → AllByRecursion P us → AllByRecursion P (ts ++ us)
 all_both P [] us a b = b
@@ -110,8 +122,8 @@ takes_nothing s = record {
   archives = λ p. sym (gets_nothing (archive_at p s.hall));
   stamps = tt;
   addressees = tt;
-  senders = λ have. tt;
-  numbers = λ have. have;
+  senders = λ sound. tt;
+  sound = λ sound. sound;
   domain = refl;
   accounts = refl;
   moment = refl;
@@ -126,9 +138,9 @@ takes_both ts us s t u a b = record {
   stamps = all_both (λ (x : Taken). x.entry.stamp ≡ s.hall.moment) ts us a.stamps
       (AllByRecursion-weaker (λ (x : Taken). x.entry.stamp ≡ t.hall.moment) (λ (x : Taken). x.entry.stamp ≡ s.hall.moment) (λ x is. is ∙ a.moment) us b.stamps);
   addressees = all_both (IsTo s.hall) ts us a.addressees (AllByRecursion-weaker (IsTo t.hall) (IsTo s.hall) (to_before t.hall s.hall a.domain a.accounts) us b.addressees);
-  senders = λ have. all_both (IsFromSender s.hall) ts us (a.senders have)
-      (AllByRecursion-weaker (IsFromSender t.hall) (IsFromSender s.hall) (from_before t.hall s.hall a.domain a.accounts) us (b.senders (a.numbers have)));
-  numbers = λ have. b.numbers (a.numbers have);
+  senders = λ sound. all_both (IsFromSender s.hall) ts us (a.senders sound)
+      (AllByRecursion-weaker (IsFromSender t.hall) (IsFromSender s.hall) (from_before t.hall s.hall a.domain a.accounts) us (b.senders (a.sound sound)));
+  sound = λ sound. b.sound (a.sound sound);
   domain = b.domain ∙ a.domain;
   accounts = b.accounts ∙ a.accounts;
   moment = b.moment ∙ a.moment;
@@ -150,9 +162,13 @@ quiet_fault : {A : Type 0} (say : ItemOut → A) (k : ℕ) (f : Fault) (o : Opti
 quiet_fault say k f None h = refl
 quiet_fault say k f (Some st) h = quiet_ending say k (fault_condition f.why) st h
 
+fault_fits : {A : Type 0} (accounts : List Account) (say : ItemOut → A) (k : ℕ) (f : Fault) (o : Option Standing) (h : Hall A) → Fit accounts (at_fault say k f o h)
+fault_fits accounts say k f None h = tt
+fault_fits accounts say k f (Some st) h = fit_ending accounts say k (fault_condition f.why) st h
+
 fault_takes : {A : Type 0} (say : ItemOut → A) (k : ℕ) (o : Option Fault) (s : Step A) → HasTaken [] s (after_fault say k o s)
 fault_takes say k None s = takes_nothing s
-fault_takes say k (Some f) s = by_acts say (at_fault say k f (standing_at k s.hall) s.hall) s None (quiet_fault say k f (standing_at k s.hall) s.hall) tt tt (λ have. tt)
+fault_takes say k (Some f) s = by_acts say (at_fault say k f (standing_at k s.hall) s.hall) s None (quiet_fault say k f (standing_at k s.hall) s.hall) tt tt (λ sound. tt) (λ have. fault_fits s.hall.accounts say k f (standing_at k s.hall) s.hall)
 
 turn_takes : {A : Type 0} (say : ItemOut → A) (k : ℕ) (t : Turn) (s : Step A) → Takes s (after_turn say k t s)
 turn_takes say k t s =

@@ -1,4 +1,6 @@
 -- ---- messages that were taken, and what archives get
 pub mod Taken
--- ---- sessions
+-- ---- sessions and logins
+pub mod Sound
 pub mod Numbers
+pub mod Accounts

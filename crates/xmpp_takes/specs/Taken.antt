@@ -15,7 +15,8 @@ use Rattle.xmpp_messages.specs.Entries.{entry_of}
 use Rattle.xmpp_route.specs.Destinations.{Bare, Destination, Full, NoUser, RemoteDomain, destination_of}
 use Rattle.xmpp_stanza.specs.Views.{MessageView}
 use Rattle.xmpp_stanza.specs.declared.stanzas.Stanza.TheVariants as stanza
-use Rattle.xmpp_takes.specs.Numbers.{HaveNumbers}
+use Rattle.xmpp_takes.specs.Accounts.{Exists}
+use Rattle.xmpp_takes.specs.Sound.{IsSound}
 
 -- a message that was taken: the account that sent it, the account that it is to, and its entry, but for the number
 pub record Taken : Type 0 where
@@ -68,9 +69,11 @@ pub record IsTo {A : Type 0} (h : Hall A) (t : Taken) : Type 0 where
   pub to : t.entry.to ≡ unwrap_or given (bare_address t.sender h)
   pub addressee : account_of (destination_of h.domain h.accounts t.sender given) ≡ Some t.addressee
 
--- it is from an address of its sender
-abbrev pub IsFromSender : {A : Type 0} → Hall A → Taken → Type 0
-IsFromSender h t = (resource : List ℕ) × (t.entry.from ≡ full_address t.sender resource h)
+-- it is from an address of its sender, and that is an account that exists
+pub record IsFromSender {A : Type 0} (h : Hall A) (t : Taken) : Type 0 where
+  pub exists : Exists h.accounts t.sender
+  pub resource : List ℕ
+  pub from : t.entry.from ≡ full_address t.sender resource h
 
 -- ---- what a server took between two states
 
@@ -82,9 +85,9 @@ pub record HasTaken {A : Type 0} (takes : List Taken) (old new : Step A) : Type 
   -- they have the moment as their stamp
   pub stamps : AllByRecursion (λ (t : Taken). t.entry.stamp ≡ old.hall.moment) takes
   pub addressees : AllByRecursion (IsTo old.hall) takes
-  -- where sessions have numbers of their own they keep them, and each message is from an address of its sender
-  pub senders : HaveNumbers old.hall → AllByRecursion (IsFromSender old.hall) takes
-  pub numbers : HaveNumbers old.hall → HaveNumbers new.hall
+  -- where sessions and logins are sound they stay so, and each message is from its sender
+  pub senders : IsSound old.hall → AllByRecursion (IsFromSender old.hall) takes
+  pub sound : IsSound old.hall → IsSound new.hall
   pub domain : new.hall.domain ≡ old.hall.domain
   pub accounts : new.hall.accounts ≡ old.hall.accounts
   pub moment : new.hall.moment ≡ old.hall.moment

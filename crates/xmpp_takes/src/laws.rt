@@ -1,13 +1,13 @@
 //! The laws.
 ghost use Rattle.std.specs.Prelude.{◌≡◌, ℕ, List, Option, IfSome};
-ghost use Rattle.xmpp_desk.specs.Moments.{at_moment, gone_at, with_fresh};
+ghost use Rattle.xmpp_desk.specs.Moments.{at_moment};
 ghost use Rattle.xmpp_desk.specs.State.{Hall, Out, Step};
 ghost use Rattle.xmpp_framing.specs.declared.items.Item.{Item};
 ghost use Rattle.xmpp_login.specs.declared.account.Account.{Account};
 ghost use Rattle.xmpp_server.specs.Configs.{at_start};
 ghost use Rattle.xmpp_server.specs.Events.{Whole, after_bytes, after_connect, after_gone, begun};
 ghost use Rattle.xmpp_server.specs.Table.{after_item, after_items};
-ghost use Rattle.xmpp_takes.specs.Numbers.{HaveNumbers};
+ghost use Rattle.xmpp_takes.specs.Sound.{IsSound};
 ghost use Rattle.xmpp_takes.specs.Taken.{HasTaken, IsTakenFrom, Taken, at_most_one};
 ghost use Rattle.xmpp_writer.specs.Items.{ItemOut};
 
@@ -27,11 +27,11 @@ pub fn archives_get_what_is_told<A>()
     ensures moment { (now : ℕ) (h : Hall A) → (at_moment now h).archives ≡ h.archives }
 {}
 
-/// A law: sessions have numbers of their own. They rise along the sessions and are below the next one: so it is at the
-/// start, and stays so at each event. (Items keep them too: `HasTaken`.)
-pub fn sessions_keep_their_numbers<A>()
-    ensures start { (domain : List ℕ) (accounts : List Account) (keep : ℕ) → HaveNumbers (at_start {A = A} domain accounts keep).hall }
-    ensures connect { (k : ℕ) (entropy : List ℕ) (now : ℕ) (w : Whole A) → HaveNumbers w.hall → HaveNumbers (after_connect k entropy now w).hall }
-    ensures gone { (k now : ℕ) (w : Whole A) → HaveNumbers w.hall → HaveNumbers (after_gone k now w).hall }
-    ensures moment { (now : ℕ) (h : Hall A) → HaveNumbers h → HaveNumbers (at_moment now h) }
+/// A law: servers are sound. The numbers of sessions rise and are below the next one, and sessions and logins are of
+/// accounts that exist: so it is at the start, and stays so at each event (at items and bytes: `HasTaken`).
+pub fn servers_stay_sound<A>()
+    ensures start { (domain : List ℕ) (accounts : List Account) (keep : ℕ) → IsSound (at_start {A = A} domain accounts keep).hall }
+    ensures connect { (k : ℕ) (entropy : List ℕ) (now : ℕ) (w : Whole A) → IsSound w.hall → IsSound (after_connect k entropy now w).hall }
+    ensures gone { (k now : ℕ) (w : Whole A) → IsSound w.hall → IsSound (after_gone k now w).hall }
+    ensures moment { (now : ℕ) (h : Hall A) → IsSound h → IsSound (at_moment now h) }
 {}

@@ -3,4 +3,4 @@
 
 mod laws;
 
-pub use laws::{archives_get_what_is_told, sessions_keep_their_numbers};
+pub use laws::{archives_get_what_is_told, servers_stay_sound};

@@ -7,13 +7,14 @@ use Rattle.std.specs.Option.{option_map}
 use Rattle.xmpp_basis.proofs.Lists.{AllByRecursion-weaker}
 use Rattle.xmpp_desk.specs.Moments.{at_moment, gone_at, with_fresh}
 use Rattle.xmpp_desk.specs.State.{Hall, Out, Put, Shut, Step, Took, archive_at}
+use Rattle.xmpp_report.specs.Lawful.{EachPair}
 use Rattle.xmpp_report.specs.declared.report.TakeLine.{TakeLine}
 use Rattle.xmpp_schedule.specs.declared.schedule.Version.{Version}
 use Rattle.xmpp_server.specs.Events.{begun}
 use Rattle.xmpp_takes.proofs.ArchiveEntries.{gets_both}
-use Rattle.xmpp_takes.proofs.NumbersKept.{numbers_at_moment, numbers_gone}
 use Rattle.xmpp_takes.proofs.PieceTakes.{all_both, from_before, to_before}
-use Rattle.xmpp_takes.specs.Numbers.{HaveNumbers}
+use Rattle.xmpp_takes.proofs.SoundEvents.{sound_at_moment, sound_fresh, sound_gone}
+use Rattle.xmpp_takes.specs.Sound.{IsSound}
 use Rattle.xmpp_takes.specs.Taken.{HasTaken, IsFromSender, IsTo, Taken, all_appended, entries_for, takes_told, told}
 use Rattle.xmpp_wires.specs.Takes.{take_told}
 use Rattle.xmpp_world.specs.Effects.{Effects, all_emitted, emitted}
@@ -60,7 +61,9 @@ pub record Booked (start : Version) (names : List (List ℕ)) (first : Hall (Lis
   pub archives : (place : ℕ) → archive_at place hall ≡ option_map (all_appended (entries_for place takes)) (archive_at place first)
   pub addressees : AllByRecursion (IsTo first) takes
   pub senders : AllByRecursion (IsFromSender first) takes
-  pub numbers : HaveNumbers hall
+  pub sound : IsSound hall
+  pub past : AllByRecursion (λ (t : Taken). t.entry.stamp ≤ moment) takes
+  pub order : EachPair (λ (t u : Taken). t.entry.stamp ≤ u.entry.stamp) takes
   pub domain : hall.domain ≡ first.domain
   pub accounts_are : hall.accounts ≡ first.accounts
   pub early : hall.moment ≤ moment
@@ -82,7 +85,9 @@ booked_later start names first version accounts moment now hall lines later is =
   archives = is.archives;
   addressees = is.addressees;
   senders = is.senders;
-  numbers = numbers_at_moment now hall is.numbers;
+  sound = sound_at_moment now hall is.sound;
+  past = AllByRecursion-weaker (λ (t : Taken). t.entry.stamp ≤ moment) (λ (t : Taken). t.entry.stamp ≤ now) (λ t early. omega (arith, early, later)) is.takes is.past;
+  order = is.order;
   domain = is.domain;
   accounts_are = is.accounts_are;
   early = (let same = later_is hall.moment now (omega (arith, later, is.early)) in omega (arith, same));
@@ -99,7 +104,9 @@ booked_fresh start names first version accounts moment k entropy hall lines is =
   archives = is.archives;
   addressees = is.addressees;
   senders = is.senders;
-  numbers = is.numbers;
+  sound = sound_fresh k entropy hall is.sound;
+  past = is.past;
+  order = is.order;
   domain = is.domain;
   accounts_are = is.accounts_are;
   early = is.early;
@@ -116,13 +123,27 @@ booked_gone start names first version accounts moment k hall lines is = record {
   archives = is.archives;
   addressees = is.addressees;
   senders = is.senders;
-  numbers = numbers_gone k hall is.numbers;
+  sound = sound_gone k hall is.sound;
+  past = is.past;
+  order = is.order;
   domain = is.domain;
   accounts_are = is.accounts_are;
   early = is.early;
   version_is = is.version_is;
   names_are = is.names_are;
 }
+
+-- messages that were taken at this moment, behind others
+no_later_than : (moment : ℕ) (t : Taken) (us : List Taken) → t.entry.stamp ≤ moment → AllByRecursion (λ (u : Taken). u.entry.stamp ≡ moment) us → AllByRecursion (λ (u : Taken). t.entry.stamp ≤ u.entry.stamp) us
+no_later_than moment t us early stamps =
+    AllByRecursion-weaker (λ (u : Taken). u.entry.stamp ≡ moment) (λ (u : Taken). t.entry.stamp ≤ u.entry.stamp) (λ u stamp. omega (arith, early, stamp)) us stamps
+
+in_order : (moment : ℕ) (ts us : List Taken) → AllByRecursion (λ (t : Taken). t.entry.stamp ≤ moment) ts → EachPair (λ (t u : Taken). t.entry.stamp ≤ u.entry.stamp) ts → AllByRecursion (λ (t : Taken). t.entry.stamp ≡ moment) us
+    → EachPair (λ (t u : Taken). t.entry.stamp ≤ u.entry.stamp) (ts ++ us)
+in_order moment [] [] past order stamps = tt
+in_order moment [] (u ∷ us) past order stamps = (let now = stamps.0 in no_later_than moment u us (omega (arith, now)) stamps.1, in_order moment [] us tt tt stamps.1)
+in_order moment (t ∷ ts) us past order stamps =
+    (all_both (λ (u : Taken). t.entry.stamp ≤ u.entry.stamp) ts us order.0 (no_later_than moment t us past.0 stamps), in_order moment ts us past.1 order.1 stamps)
 
 -- it brings bytes
 pub booked_more : (start : Version) (names : List (List ℕ)) (first : Hall (List ℕ)) (version : Version) (accounts : List (List ℕ)) (moment : ℕ) (hall : Hall (List ℕ)) (lines : List TakeLine) (done : Step (List ℕ)) (more : List Taken)
@@ -140,8 +161,10 @@ booked_more start names first version accounts moment hall lines done more is ha
       archives = λ place. has.archives place ∙ ap (option_map (all_appended (entries_for place more))) (is.archives place) ∙ gets_both place is.takes more (archive_at place first);
       addressees = all_both (IsTo first) is.takes more is.addressees (AllByRecursion-weaker (IsTo now) (IsTo first) (to_before now first is.domain is.accounts_are) more has.addressees);
       senders = all_both (IsFromSender first) is.takes more is.senders
-          (AllByRecursion-weaker (IsFromSender now) (IsFromSender first) (from_before now first is.domain is.accounts_are) more (has.senders (numbers_at_moment moment hall is.numbers)));
-      numbers = has.numbers (numbers_at_moment moment hall is.numbers);
+          (AllByRecursion-weaker (IsFromSender now) (IsFromSender first) (from_before now first is.domain is.accounts_are) more (has.senders (sound_at_moment moment hall is.sound)));
+      sound = has.sound (sound_at_moment moment hall is.sound);
+      past = all_both (λ (t : Taken). t.entry.stamp ≤ moment) is.takes more is.past (AllByRecursion-weaker (λ (t : Taken). t.entry.stamp ≡ moment) (λ (t : Taken). t.entry.stamp ≤ moment) (λ t stamp. omega (arith, stamp)) more stamps);
+      order = in_order moment is.takes more is.past is.order stamps;
       domain = has.domain ∙ is.domain;
       accounts_are = has.accounts ∙ is.accounts_are;
       early = (let all = has.moment in omega (arith, all, same));

@@ -1,38 +1,41 @@
 -- Each world of a schedule's history is so.
-use Rattle.std.proofs.Common.{ℕ, List, [], refl, sym, arith}
+use Rattle.std.proofs.Common.{◌≡◌, List, [], ◌∷◌, map, refl, sym, ap, ◌∙◌, arith}
 use Rattle.std.specs.List.{AllByRecursion}
 use Rattle.xmpp_basis.proofs.Lists.{AllByRecursion-weaker}
-use Rattle.xmpp_schedule.specs.Contents.{accounts_of}
+use Rattle.xmpp_schedule.specs.Contents.{Owned, owned_in}
 use Rattle.xmpp_schedule.specs.Schedules.{WireView, keep_of}
 use Rattle.xmpp_schedule.specs.WireGrammar.{IsWireSchedule}
+use Rattle.xmpp_devices.specs.Starting.{accounts_at_start}
+use Rattle.xmpp_report.specs.Addresses.{domain}
 use Rattle.xmpp_takes.proofs.ArchiveEntries.{gets_nothing}
+use Rattle.xmpp_takes.proofs.SoundEvents.{sound_at_start}
 use Rattle.xmpp_desk.specs.State.{archive_at}
 use Rattle.xmpp_world.proofs.Declares.{are_accounts, are_names}
 use Rattle.xmpp_world.proofs.Traces.{may_run_all}
 use Rattle.xmpp_world.specs.Declaring.{AreAccounts}
-use Rattle.xmpp_world.specs.Histories.{common_steps, history_of, world_at_start, world_of}
+use Rattle.xmpp_world.specs.Histories.{common_steps, history_of, owned_at_start, world_at_start, world_of}
 use Rattle.xmpp_world.specs.Moves.{Move, moved}
 use Rattle.xmpp_world.specs.WorldReports.{report_of}
 use Rattle.xmpp_world.specs.Worlds.{World}
 use Rattle.xmpp_world_takes.proofs.Booked.{IsBooked}
 use Rattle.xmpp_world_takes.proofs.BookedMoves.{by_move, each_world, last_world}
-use Rattle.xmpp_world_takes.proofs.BookedReports.{first_hall, reported}
+use Rattle.xmpp_world_takes.proofs.BookedReports.{first_hall, names_in, reported}
+use Rattle.xmpp_world_takes.proofs.OwnersKept.{owned_by, owners_kept, owners_of}
 use Rattle.xmpp_world_takes.specs.ReportTakes.{HasArchivesOfTakes}
 
-abbrev names_in : WireView → List (List ℕ)
-names_in schedule = accounts_of (common_steps schedule)
-
 abbrev IsSo : WireView → World → Type 0
-IsSo schedule w = IsBooked schedule.version (names_in schedule) (first_hall (names_in schedule) (keep_of schedule.version)) w
+IsSo schedule w = IsBooked schedule.version (names_in schedule) (first_hall (names_in schedule) (keep_of schedule.version)) w × (owners_of w ≡ owned_in (common_steps schedule))
 
-at_first : (schedule : WireView) → IsSo schedule (world_at_start schedule)
-at_first schedule = record {
+booked_first : (schedule : WireView) → IsBooked schedule.version (names_in schedule) (first_hall (names_in schedule) (keep_of schedule.version)) (world_at_start schedule)
+booked_first schedule = record {
   takes = [];
   lines_are = refl;
   archives = λ place. sym (gets_nothing (archive_at place (first_hall (names_in schedule) (keep_of schedule.version))));
   addressees = tt;
   senders = tt;
-  numbers = omega arith;
+  sound = sound_at_start domain (accounts_at_start (names_in schedule)) (keep_of schedule.version);
+  past = tt;
+  order = tt;
   domain = refl;
   accounts_are = refl;
   early = omega arith;
@@ -40,18 +43,25 @@ at_first schedule = record {
   names_are = refl;
 }
 
-moved_so : (schedule : WireView) (m : Move) (w : World) → IsSo schedule w → IsSo schedule (moved m w)
-moved_so schedule m w is = by_move schedule.version (names_in schedule) (first_hall (names_in schedule) (keep_of schedule.version)) m w is
+owners_first : (owned : List Owned) → map owned_by (map owned_at_start owned) ≡ owned
+owners_first [] = refl
+owners_first (o ∷ owned) = ap (λ (os : List Owned). o ∷ os) (owners_first owned)
 
-told_so : (schedule : WireView) → IsWireSchedule schedule → (w : World) → IsSo schedule w → HasArchivesOfTakes (keep_of schedule.version) (report_of w)
+at_first : (schedule : WireView) → IsSo schedule (world_at_start schedule)
+at_first schedule = (booked_first schedule, owners_first (owned_in (common_steps schedule)))
+
+moved_so : (schedule : WireView) (m : Move) (w : World) → IsSo schedule w → IsSo schedule (moved m w)
+moved_so schedule m w is = (by_move schedule.version (names_in schedule) (first_hall (names_in schedule) (keep_of schedule.version)) m w is.0, owners_kept m w ∙ is.1)
+
+told_so : (schedule : WireView) → IsWireSchedule schedule → (w : World) → IsSo schedule w → HasArchivesOfTakes schedule (report_of w)
 told_so schedule right w is =
     let accounts : AreAccounts [] (names_in schedule) = are_accounts schedule (may_run_all schedule right) in
-    reported schedule.version (names_in schedule) (keep_of schedule.version) w accounts (are_names (names_in schedule) accounts) is
+    reported schedule w accounts (are_names (names_in schedule) accounts) is.0 is.1
 
-pub in_the_end : (schedule : WireView) → IsWireSchedule schedule → HasArchivesOfTakes (keep_of schedule.version) (report_of (world_of schedule))
+pub in_the_end : (schedule : WireView) → IsWireSchedule schedule → HasArchivesOfTakes schedule (report_of (world_of schedule))
 in_the_end schedule right = told_so schedule right (world_of schedule) (last_world (IsSo schedule) (moved_so schedule) schedule (at_first schedule))
 
-pub at_each : (schedule : WireView) → IsWireSchedule schedule → AllByRecursion (λ w. HasArchivesOfTakes (keep_of schedule.version) (report_of w)) (history_of schedule)
+pub at_each : (schedule : WireView) → IsWireSchedule schedule → AllByRecursion (λ w. HasArchivesOfTakes schedule (report_of w)) (history_of schedule)
 at_each schedule right =
-    AllByRecursion-weaker (IsSo schedule) (λ w. HasArchivesOfTakes (keep_of schedule.version) (report_of w)) (told_so schedule right) (history_of schedule)
+    AllByRecursion-weaker (IsSo schedule) (λ w. HasArchivesOfTakes schedule (report_of w)) (told_so schedule right) (history_of schedule)
     (each_world (IsSo schedule) (moved_so schedule) schedule (at_first schedule))

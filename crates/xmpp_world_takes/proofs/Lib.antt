@@ -5,6 +5,8 @@ pub mod AccountNames
 -- ---- the world
 pub mod Booked
 pub mod BookedMoves
+pub mod OwnersKept
 -- ---- the report
+pub mod ArchiveStamps
 pub mod BookedReports
 pub mod Histories

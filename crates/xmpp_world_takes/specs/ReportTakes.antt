@@ -1,13 +1,17 @@
 -- The takes of a wire schedule's report, and the archives that they make.
-use Rattle.std.specs.Prelude.{◌≡◌, ℕ, ◌||◌, Bool, List, filter, map}
+use Rattle.std.specs.Prelude.{◌≡◌, ℕ, ◌≤◌, ◌||◌, Bool, List, IsTrue, filter, map}
 use Rattle.std.specs.List.{AllByRecursion}
+use Rattle.std.specs.List.Sorted.{IsNonDecreasing}
 use Rattle.std.specs.Str.{bytes_eq}
 use Rattle.xmpp_archive.specs.Entries.{EntryView}
 use Rattle.xmpp_report.specs.Addresses.{full_address}
+use Rattle.xmpp_report.specs.Lawful.{EachPair, IsOfSchedule}
 use Rattle.xmpp_report.specs.LawfulRuns.{IsNewestOf}
 use Rattle.xmpp_report.specs.Reports.{ReportView}
 use Rattle.xmpp_report.specs.Takes.{numbered_from}
 use Rattle.xmpp_report.specs.declared.report.TakeLine.{TakeLine}
+use Rattle.xmpp_schedule.specs.Contents.{is_account}
+use Rattle.xmpp_schedule.specs.Schedules.{ScheduleView, WireView, keep_of, seen_of}
 use Rattle.xmpp_schedule.specs.declared.schedule.Version.{Version}
 use Rattle.xmpp_wires.specs.Takes.{take_told}
 
@@ -29,6 +33,15 @@ pub record IsOfLine (line : TakeLine) (t : Taken) : Type 0 where
   pub from : t.entry.from ≡ full_address t.sender line.device
   pub account : line.account ≡ t.addressee
 
+-- it is from and to an account of the schedule
+pub record IsOfAccounts (schedule : ScheduleView) (t : Taken) : Type 0 where
+  pub sender : IsTrue (is_account schedule t.sender)
+  pub addressee : IsTrue (is_account schedule t.addressee)
+
+-- it was taken no later than another
+abbrev pub IsNoLater : Taken → Taken → Type 0
+IsNoLater t other = t.entry.stamp ≤ other.entry.stamp
+
 -- ---- archives
 
 -- the account sent the message, or it is to the account
@@ -42,12 +55,17 @@ history_of account takes = numbered_from 1 (map (λ (t : Taken). t.entry) (filte
 
 -- ---- a report
 
--- the take lines are those of these messages, in their order, and each archive keeps the newest of its account's history
-pub record AreOfTakes (keep : ℕ) (takes : List Taken) (report : ReportView) : Type 0 where
-  pub lines : report.takes ≡ map (line_of report.version) takes
-  pub each : AllByRecursion (λ (t : Taken). IsOfLine (line_of report.version t) t) takes
-  pub archives : AllByRecursion (λ a. IsNewestOf keep (history_of a.name takes) a) report.accounts
+-- The take lines are those of these messages, in their order, and each archive keeps the newest of its account's history.
+pub record AreOfTakes (schedule : WireView) (takes : List Taken) (report : ReportView) : Type 0 where
+  pub whole : IsOfSchedule (seen_of schedule) report
+  pub lines : report.takes ≡ map (line_of schedule.version) takes
+  pub each : AllByRecursion (λ (t : Taken). IsOfLine (line_of schedule.version t) t) takes
+  pub exist : AllByRecursion (IsOfAccounts (seen_of schedule)) takes
+  pub moments : EachPair IsNoLater takes
+  pub archives : AllByRecursion (λ a. IsNewestOf (keep_of schedule.version) (history_of a.name takes) a) report.accounts
+  -- along an archive the stamps don't fall
+  pub stamps : AllByRecursion (λ a. IsNonDecreasing (map (λ e. e.stamp) a.entries)) report.accounts
 
 -- the archives are those of the takes: the two archives of one take have one entry, but for its number
-abbrev pub HasArchivesOfTakes : ℕ → ReportView → Type 0
-HasArchivesOfTakes keep report = (takes : List Taken) × AreOfTakes keep takes report
+abbrev pub HasArchivesOfTakes : WireView → ReportView → Type 0
+HasArchivesOfTakes schedule report = (takes : List Taken) × AreOfTakes schedule takes report
