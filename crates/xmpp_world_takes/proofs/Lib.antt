@@ -10,3 +10,5 @@ pub mod OwnersKept
 pub mod ArchiveStamps
 pub mod BookedReports
 pub mod Histories
+-- ---- submissions
+pub mod SubmittedArchives

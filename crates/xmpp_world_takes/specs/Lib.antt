@@ -1,2 +1,4 @@
 -- ---- the takes of a report, and its archives
 pub mod ReportTakes
+-- ---- submissions
+pub mod Submitted

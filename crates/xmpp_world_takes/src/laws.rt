@@ -1,10 +1,21 @@
-//! The law.
+//! The laws.
+ghost use Rattle.std.specs.Prelude.{◌≡◌, ℕ, List, map};
 ghost use Rattle.std.specs.List.{AllByRecursion};
+ghost use Rattle.xmpp_archive.specs.Entries.{newest};
+ghost use Rattle.xmpp_report.specs.Lawful.{at_any_time, takes_in};
+ghost use Rattle.xmpp_report.specs.LawfulRuns.{IsNewestOf, history_of as history_in};
+ghost use Rattle.xmpp_report.specs.Lines.{entry_line};
+ghost use Rattle.xmpp_report.specs.Reports.{ReportView};
+ghost use Rattle.xmpp_report.specs.Takes.{archive_of};
 ghost use Rattle.xmpp_schedule.specs.Schedules.{WireView};
 ghost use Rattle.xmpp_schedule.specs.WireGrammar.{IsWireSchedule};
+ghost use Rattle.xmpp_schedule.specs.declared.schedule.TheConstants.{MOST_KEPT};
+ghost use Rattle.xmpp_schedule.specs.declared.schedule.Version.TheVariants.{One, Two};
+ghost use Rattle.xmpp_schedule.specs.declared.schedule.WireLine.{WireLine};
 ghost use Rattle.xmpp_world.specs.Histories.{history_of, world_of};
 ghost use Rattle.xmpp_world.specs.WorldReports.{report_of};
-ghost use Rattle.xmpp_world_takes.specs.ReportTakes.{HasArchivesOfTakes};
+ghost use Rattle.xmpp_world_takes.specs.ReportTakes.{AreOfTakes, HasArchivesOfTakes, Taken};
+ghost use Rattle.xmpp_world_takes.specs.Submitted.{AreAsSubmitted};
 
 /// A law: of each wire schedule, whichever its version, the archives of the report are those of its takes. An archive keeps
 /// the newest KEEP entries of its account's history, and LAST is the history's length. The history has an entry of each
@@ -13,4 +24,13 @@ ghost use Rattle.xmpp_world_takes.specs.ReportTakes.{HasArchivesOfTakes};
 pub fn archives_are_those_of_the_takes()
     ensures end { (schedule : WireView) → IsWireSchedule schedule → HasArchivesOfTakes schedule (report_of (world_of schedule)) }
     ensures history { (schedule : WireView) → IsWireSchedule schedule → AllByRecursion (λ w. HasArchivesOfTakes schedule (report_of w)) (history_of schedule) }
+{}
+
+/// A law: where each message that was taken is a submission of its device, the archives are those of the submissions that
+/// the `take` lines name, in the words of the first law of reports.
+pub fn archives_are_those_of_submissions()
+    ensures kept { (keep : ℕ) (lines : List WireLine) (report : ReportView) (takes : List Taken) → AreOfTakes (record { version = Two keep; lines = lines }) takes report → AreAsSubmitted (Two keep) report takes
+        → AllByRecursion (λ a. IsNewestOf keep (history_in report a.name) a) report.accounts }
+    ensures all { (lines : List WireLine) (report : ReportView) (takes : List Taken) → AreOfTakes (record { version = One; lines = lines }) takes report → AreAsSubmitted One report takes
+        → AllByRecursion (λ a. map at_any_time a.entries ≡ map (λ e. at_any_time (entry_line e)) (newest MOST_KEPT (archive_of a.name (takes_in report)))) report.accounts }
 {}

@@ -3,4 +3,4 @@
 
 mod laws;
 
-pub use laws::archives_are_those_of_the_takes;
+pub use laws::{archives_are_those_of_submissions, archives_are_those_of_the_takes};

@@ -1,0 +1,112 @@
+-- Where what was taken is what devices submitted, the archives are those of the submissions.
+use Rattle.std.proofs.Common.{◌≡◌, ℕ, ◌+◌, ◌-◌, ◌||◌, Bool, true, false, cond, List, [], ◌∷◌, Option, Some, None, length, drop, map, refl, sym, ap, ap₂, subst, ◌∙◌}
+use Rattle.std.proofs.lemmas.List.{drop-map, length-map}
+use Rattle.std.specs.List.{AllByRecursion, filter}
+use Rattle.std.specs.Str.{bytes_eq}
+use Rattle.xmpp_archive.specs.Entries.{EntryView, newest}
+use Rattle.xmpp_basis.proofs.Lists.{AllByRecursion-weaker}
+use Rattle.xmpp_report.specs.Lawful.{at_any_time, device_named, take_named, takes_in}
+use Rattle.xmpp_report.specs.LawfulRuns as runs
+use Rattle.xmpp_report.specs.LawfulRuns.{IsNewestOf, timed_take}
+use Rattle.xmpp_report.specs.Lines.{entry_line}
+use Rattle.xmpp_report.specs.Reports.{AccountView, DeviceView, ReportView}
+use Rattle.xmpp_report.specs.Takes as report
+use Rattle.xmpp_report.specs.Takes.{Take, archive_of, entry_of, numbered_from}
+use Rattle.xmpp_report.specs.declared.report.TakeLine.{TakeLine}
+use Rattle.xmpp_schedule.proofs.Lists.{map-map}
+use Rattle.xmpp_schedule.specs.declared.schedule.TheConstants.{MOST_KEPT}
+use Rattle.xmpp_schedule.specs.declared.schedule.Version.{Version}
+use Rattle.xmpp_schedule.specs.declared.schedule.Version.TheVariants.{One, Two}
+use Rattle.xmpp_schedule.specs.declared.schedule.WireLine.{WireLine}
+use Rattle.xmpp_world_takes.specs.ReportTakes.{AreOfTakes, IsOfLine, Taken, concerns, history_of, line_of}
+use Rattle.xmpp_world_takes.specs.Submitted.{AreAsSubmitted, IsAsSubmitted, submission_named, unstamped}
+
+-- ---- one message
+
+concerns_same : (account : List ℕ) (t : Taken) (take : Take) → t.sender ≡ take.account → take.to ≡ t.addressee → concerns account t ≡ report.concerns account take
+concerns_same account t take sender to = ap₂ (λ (x y : List ℕ). bytes_eq account x || bytes_eq account y) sender (sym to)
+
+to_named : (line : TakeLine) (o : Option DeviceView) → (take_named line o).to ≡ line.account
+to_named line None = refl
+to_named line (Some device) = refl
+
+to_submitted : (r : ReportView) (line : TakeLine) → (submission_named r line).to ≡ line.account
+to_submitted r line = to_named line (device_named line.device r.devices)
+
+-- ---- messages, each with the entry of its submission
+
+entries_by : (account : List ℕ) (version : Version) (r : ReportView) (f : EntryView → EntryView) (g : Taken → Take) → ((t : Taken) → IsOfLine (line_of version t) t → IsAsSubmitted r (line_of version t) t → f t.entry ≡ entry_of (g t))
+    → ((t : Taken) → IsOfLine (line_of version t) t → IsAsSubmitted r (line_of version t) t → concerns account t ≡ report.concerns account (g t))
+    → (takes : List Taken) → AllByRecursion (λ (t : Taken). IsOfLine (line_of version t) t) takes → AreAsSubmitted version r takes
+    → map f (map (λ (t : Taken). t.entry) (filter (concerns account) takes)) ≡ map entry_of (filter (report.concerns account) (map g takes))
+entries_by account version r f g entry here [] each as_said = refl
+entries_by account version r f g entry here (t ∷ takes) each as_said =
+    ap (λ c. map f (map (λ (x : Taken). x.entry) (cond c (t ∷ filter (concerns account) takes) (filter (concerns account) takes)))) (here t each.0 as_said.0)
+    ∙ one (report.concerns account (g t)) (entry t each.0 as_said.0) (entries_by account version r f g entry here takes each.1 as_said.1)
+  where
+    one : (c : Bool) → f t.entry ≡ entry_of (g t) → map f (map (λ (x : Taken). x.entry) (filter (concerns account) takes)) ≡ map entry_of (filter (report.concerns account) (map g takes))
+        → map f (map (λ (x : Taken). x.entry) (cond c (t ∷ filter (concerns account) takes) (filter (concerns account) takes))) ≡ map entry_of (cond c (g t ∷ filter (report.concerns account) (map g takes)) (filter (report.concerns account) (map g takes)))
+    one true first rest = ap₂ (λ (e : EntryView) (es : List EntryView). e ∷ es) first rest
+    one false first rest = rest
+
+-- ---- version 2
+
+nothing_changed : (es : List EntryView) → map (λ (e : EntryView). e) es ≡ es
+nothing_changed [] = refl
+nothing_changed (e ∷ es) = ap (λ (l : List EntryView). e ∷ l) (nothing_changed es)
+
+timed_entry : (keep : ℕ) (r : ReportView) (t : Taken) → IsAsSubmitted r (line_of (Two keep) t) t → t.entry ≡ entry_of (timed_take r (line_of (Two keep) t))
+timed_entry keep r t is = ap (λ (e : EntryView). record e { stamp = t.entry.stamp }) is.entry
+
+history_same : (keep : ℕ) (lines : List WireLine) (r : ReportView) (takes : List Taken) (account : List ℕ) → AreOfTakes (record { version = Two keep; lines = lines }) takes r → AreAsSubmitted (Two keep) r takes
+    → history_of account takes ≡ runs.history_of r account
+history_same keep lines r takes account is as_said =
+    let g = λ (t : Taken). timed_take r (line_of (Two keep) t) in
+    let named : map g takes ≡ map (timed_take r) r.takes = sym (ap (map (timed_take r)) is.lines ∙ map-map (line_of (Two keep)) (timed_take r) takes) in
+    let entries = entries_by account (Two keep) r (λ (e : EntryView). e) g (λ t line said. timed_entry keep r t said) (λ t line said. concerns_same account t (g t) said.sender (to_submitted r (line_of (Two keep) t) ∙ line.account)) takes is.each as_said in
+    ap (numbered_from 1) (sym (nothing_changed (map (λ (t : Taken). t.entry) (filter (concerns account) takes))) ∙ entries) ∙ ap (archive_of account) named
+
+pub kept_submissions : (keep : ℕ) (lines : List WireLine) (r : ReportView) (takes : List Taken) → AreOfTakes (record { version = Two keep; lines = lines }) takes r → AreAsSubmitted (Two keep) r takes
+    → AllByRecursion (λ a. IsNewestOf keep (runs.history_of r a.name) a) r.accounts
+kept_submissions keep lines r takes is as_said =
+    AllByRecursion-weaker (λ a. IsNewestOf keep (history_of a.name takes) a) (λ a. IsNewestOf keep (runs.history_of r a.name) a)
+    (λ (a : AccountView) newest_is. subst (λ (h : List EntryView). IsNewestOf keep h a) (history_same keep lines r takes a.name is as_said) newest_is) r.accounts is.archives
+
+-- ---- version 1, which tells no moments
+
+numbered_unstamped : (n : ℕ) (es : List EntryView) → map unstamped (numbered_from n es) ≡ numbered_from n (map unstamped es)
+numbered_unstamped n [] = refl
+numbered_unstamped n (e ∷ es) = ap (λ (l : List EntryView). record e { stamp = 0; number = n } ∷ l) (numbered_unstamped (n + 1) es)
+
+unstamped_history : (lines : List WireLine) (r : ReportView) (takes : List Taken) (account : List ℕ) → AreOfTakes (record { version = One; lines = lines }) takes r → AreAsSubmitted One r takes
+    → map unstamped (history_of account takes) ≡ archive_of account (takes_in r)
+unstamped_history lines r takes account is as_said =
+    let g = λ (t : Taken). submission_named r (line_of One t) in
+    let named : map g takes ≡ takes_in r = sym (ap (map (submission_named r)) is.lines ∙ map-map (line_of One) (submission_named r) takes) in
+    let entries = entries_by account One r unstamped g (λ t line said. said.entry) (λ t line said. concerns_same account t (g t) said.sender (to_submitted r (line_of One t) ∙ line.account)) takes is.each as_said in
+    numbered_unstamped 1 (map (λ (t : Taken). t.entry) (filter (concerns account) takes)) ∙ ap (numbered_from 1) entries ∙ ap (archive_of account) named
+
+-- lines of entries without their stamps
+lines_unstamped : (es : List EntryView) → map (λ e. at_any_time (entry_line e)) es ≡ map entry_line (map unstamped es)
+lines_unstamped es = sym (map-map unstamped entry_line es)
+
+newest_unstamped : (keep : ℕ) (es fs : List EntryView) → map unstamped es ≡ fs → map unstamped (newest keep es) ≡ newest keep fs
+newest_unstamped keep es fs same =
+    sym (drop-map unstamped (length es - keep) es) ∙ ap (drop (length es - keep)) same ∙ ap (λ (n : ℕ). drop (n - keep) fs) (sym (length-map es unstamped) ∙ ap length same)
+
+unstamped_again : (es fs : List EntryView) → map unstamped es ≡ fs → map unstamped fs ≡ fs
+unstamped_again es fs same = ap (map unstamped) (sym same) ∙ map-map unstamped unstamped es ∙ same
+
+pub all_submissions : (lines : List WireLine) (r : ReportView) (takes : List Taken) → AreOfTakes (record { version = One; lines = lines }) takes r → AreAsSubmitted One r takes
+    → AllByRecursion (λ a. map at_any_time a.entries ≡ map (λ e. at_any_time (entry_line e)) (newest MOST_KEPT (archive_of a.name (takes_in r)))) r.accounts
+all_submissions lines r takes is as_said =
+    AllByRecursion-weaker (λ a. IsNewestOf MOST_KEPT (history_of a.name takes) a) (λ a. map at_any_time a.entries ≡ map (λ e. at_any_time (entry_line e)) (newest MOST_KEPT (archive_of a.name (takes_in r)))) each r.accounts is.archives
+  where
+    each : (a : AccountView) → IsNewestOf MOST_KEPT (history_of a.name takes) a → map at_any_time a.entries ≡ map (λ e. at_any_time (entry_line e)) (newest MOST_KEPT (archive_of a.name (takes_in r)))
+    each a newest_is =
+        let history = history_of a.name takes in
+        let submitted = archive_of a.name (takes_in r) in
+        let same : map unstamped history ≡ submitted = unstamped_history lines r takes a.name is as_said in
+        ap (map at_any_time) newest_is.entries ∙ map-map entry_line at_any_time (newest MOST_KEPT history) ∙ lines_unstamped (newest MOST_KEPT history)
+        ∙ ap (map entry_line) (newest_unstamped MOST_KEPT history submitted same ∙ sym (newest_unstamped MOST_KEPT submitted submitted (unstamped_again history submitted same)))
+        ∙ sym (lines_unstamped (newest MOST_KEPT submitted))
