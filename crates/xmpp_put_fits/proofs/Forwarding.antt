@@ -1,19 +1,18 @@
 -- What a server answers from an archive (XEP-0313), and what an archive keeps.
-use Rattle.std.proofs.Common.{◌≡◌, ℕ, ◌+◌, ◌<◌, ◌≤◌, ◌^◌, max, Bool, true, false, ◌&&◌, List, [], ◌∷◌, ◌++◌, Option, Some, None, IfSome, bytes_eq, codes, cond, filter, map, refl, ap, arith, subst, sym, inl, inr, unwrap_or, ◌∙◌}
+use Rattle.std.proofs.Common.{◌≡◌, ℕ, ◌+◌, ◌<◌, ◌≤◌, ◌^◌, Bool, true, false, List, [], ◌∷◌, Option, Some, None, IfSome, bytes_eq, codes, cond, map, refl, ap, arith, subst, sym, inl, inr, unwrap_or}
 use Rattle.std.proofs.lemmas.Bool.{and_parts, cases_Bool}
 use Rattle.std.proofs.lemmas.Option.{same_Some}
 use Rattle.std.proofs.lemmas.Slice.Eq.{bytes_eq-Decides}
 use Rattle.std.specs.Fmt.{decimal}
-use Rattle.std.specs.List.{AllByRecursion, find}
+use Rattle.std.specs.List.{AllByRecursion}
 use Rattle.std.specs.Option.{option_and_then, option_map}
 use Rattle.xmpp_archive.specs.Entries.{EntryView, numbered}
 use Rattle.xmpp_archive.specs.Ids.{id_of}
-use Rattle.xmpp_archive.specs.declared.entry.Body.{Body}
 use Rattle.xmpp_ext.specs.Given.{origin_of}
 use Rattle.xmpp_ext.specs.Ids.{origin_id_elem}
 use Rattle.xmpp_ext.specs.Forwarding.{forwarded_elem}
 use Rattle.xmpp_forwarding.proofs.TreeLaws.{entry_IsTree}
-use Rattle.xmpp_forwarding.specs.Results.{AskerView, archived_elem, archived_kind, archived_message, archived_result, body_elem, entry_elem, entry_nodes, origin_node}
+use Rattle.xmpp_forwarding.specs.Results.{AskerView, archived_elem, archived_kind, archived_result, body_elem, entry_elem, entry_nodes, origin_node}
 use Rattle.xmpp_framing_laws.specs.Plain.{ArePlainNodes, IsPlainAttribute, IsPlainElement}
 use Rattle.xmpp_mam.proofs.FinLaws.{fin_stays}
 use Rattle.xmpp_mam.specs.ArchiveAnswers.{fin_elem, first_item, first_item_where, page_elem, page_items}
@@ -23,14 +22,14 @@ use Rattle.xmpp_messages.specs.Entries.{entry_of}
 use Rattle.xmpp_pages.specs.declared.fin.Fin.{Fin}
 use Rattle.xmpp_payload.specs.Names.{archive, result_sets, stanza_ids}
 use Rattle.xmpp_payload.specs.Writing.{flag_text}
-use Rattle.xmpp_put_fits.proofs.Parts.{attributes_joined, attributes_more, child_fine, fine_bare, fine_element, fine_more, joined_fine, language, no_attributes, no_nodes_fine, nodes_more, one_attribute, only_child, other_space, reads, said_fine, space, text_fine, where_given, word}
+use Rattle.xmpp_put_fits.proofs.Parts.{attributes_joined, attributes_more, child_fine, fine_element, fine_more, joined_fine, language, no_attributes, no_nodes_fine, nodes_more, one_attribute, only_child, other_space, reads, said_fine, space, text_fine, where_given, word}
 use Rattle.xmpp_put_fits.proofs.Passing.{forwarded_fine}
-use Rattle.xmpp_put_fits.proofs.Replies.{fine_around, with_none}
+use Rattle.xmpp_put_fits.proofs.Replies.{with_none}
 use Rattle.xmpp_put_fits.proofs.Requests.{message_kind_said, stanza_fine, unless_said}
 use Rattle.xmpp_put_fits.specs.Fine.{AreFine, ClientReads, FineAttributes, IsFine}
 use Rattle.xmpp_put_fits.specs.Messages.{EntryFits, MessageFits}
 use Rattle.xmpp_sizes.proofs.Characters.{characters_append, printable_characters, said_more, said_word}
-use Rattle.xmpp_sizes.proofs.ElementSizes.{child_size, nothing_size, only_text, texts_size, value_and_nodes}
+use Rattle.xmpp_sizes.proofs.ElementSizes.{child_size, only_text, texts_size, value_and_nodes}
 use Rattle.xmpp_sizes.proofs.Numerals.{said_decimal, said_hex}
 use Rattle.xmpp_sizes.specs.Elements.{element_size, nodes_size}
 use Rattle.xmpp_sizes.specs.Texts.{Said, text_size, value_size}
@@ -43,9 +42,9 @@ use Rattle.xmpp_stanza.specs.Views.{MessageView}
 use Rattle.xmpp_stanza.specs.Written.{attr_where, unless_empty}
 use Rattle.xmpp_tokens.specs.Lines.{IsCharacters}
 use Rattle.xmpp_trees.specs.Attributes.{Attribute, attribute, found, has_name}
-use Rattle.xmpp_trees.specs.Readers.{attr_of, elements_of, first_named, is_named, text_of}
+use Rattle.xmpp_trees.specs.Readers.{attr_of, first_named, is_named, text_of}
 use Rattle.xmpp_trees.specs.Tidied.{text_node, tidied_nodes}
-use Rattle.xmpp_trees.specs.Trees.{Elem, Nodes, child, element, joined, no_nodes, nodes_of, text}
+use Rattle.xmpp_trees.specs.Trees.{Elem, Nodes, child, element, joined, no_nodes, text}
 use Rattle.xmpp_writer.specs.Canon.{default_inside}
 
 -- ---- texts of plain elements

@@ -1,5 +1,5 @@
 -- What a server says of a login, and its header (RFC 6120, sections 4.7 and 6.4).
-use Rattle.std.proofs.Common.{◌≡◌, ℕ, zero, suc, ◌+◌, ◌*◌, ◌/◌, ◌%◌, ◌<◌, ◌≤◌, nat_le, nat_lt, Bool, true, false, ◌&&◌, List, [], ◌∷◌, ◌++◌, Some, None, codes, drop, length, replicate, refl, ap, arith, ltb-true, length-append}
+use Rattle.std.proofs.Common.{◌≡◌, ℕ, zero, suc, ◌+◌, ◌*◌, ◌/◌, ◌%◌, ◌<◌, ◌≤◌, nat_lt, Bool, true, ◌&&◌, List, [], ◌∷◌, ◌++◌, Some, codes, drop, length, replicate, refl, arith, ltb-true, length-append}
 use Rattle.std.proofs.lemmas.Bool.{and_from, and_parts}
 use Rattle.std.proofs.lemmas.Bool.Decides.{nat_tests}
 use Rattle.std.proofs.lemmas.List.Sums.{AllPass-from_list_all}
@@ -10,13 +10,12 @@ use Rattle.base64.specs.GeneralPurpose.{encode_of}
 use Rattle.base64.specs.Rfc4648.{encode_symbols, padding_len}
 use Rattle.xmpp_basis.specs.Hexadecimal.{hex16_of, hex_digits}
 use Rattle.xmpp_framing.specs.Limits.{client_limits}
-use Rattle.xmpp_framing_laws.specs.Fitting.{HeaderFits, given_count, header_count}
+use Rattle.xmpp_framing_laws.specs.Fitting.{HeaderFits}
 use Rattle.xmpp_framing_laws.specs.Plain.{IsPlainHeader}
 use Rattle.xmpp_framing_laws.specs.Spells.{written_scope}
 use Rattle.xmpp_names.specs.Grammar.{IsShort}
-use Rattle.xmpp_names.specs.declared.headers.Header.{Header}
 use Rattle.xmpp_payload.specs.Names.{sasl}
-use Rattle.xmpp_put_fits.proofs.Parts.{fine_bare, fine_element, fine_more, no_attributes, other_space, reads, said_fine, space, word}
+use Rattle.xmpp_put_fits.proofs.Parts.{fine_bare, fine_element, no_attributes, other_space, reads, said_fine, space, word}
 use Rattle.xmpp_put_fits.proofs.Replies.{fine_around}
 use Rattle.xmpp_put_fits.proofs.Requests.{stays_tree}
 use Rattle.xmpp_put_fits.specs.Fine.{ClientReads, IsWord}
@@ -34,8 +33,7 @@ use Rattle.xmpp_tokens.specs.Spelling.{text_byte, value_byte}
 use Rattle.xmpp_trees.proofs.TidyLaws.{tidied_IsTree}
 use Rattle.xmpp_trees.specs.Tidied.{text_node}
 use Rattle.xmpp_trees.specs.Trees.{element, no_nodes}
-use Rattle.xmpp_writer.specs.Canon.{assignment, spelled, written_given, written_header}
-use Rattle.xmpp_writer.specs.Items.{declaration}
+use Rattle.xmpp_writer.specs.Canon.{written_given, written_header}
 
 -- ---- base64
 
@@ -141,8 +139,20 @@ header_short domain id a b =
     let g = (said_word 60 (codes "1.0") refl refl).short in
     let h = (said_word 60 (codes "en") refl refl).short in
     omega (
-      arith, a, b, c, d, e, f, g, h, length-append (codes "<stream:stream") (from ++ (own ++ ([] ++ (version ++ (lang ++ end))))), length-append from (own ++ ([] ++ (version ++ (lang ++ end)))), length-append own (version ++ (lang ++ end)),
-      length-append version (lang ++ end), length-append lang end,
+      arith,
+      a,
+      b,
+      c,
+      d,
+      e,
+      f,
+      g,
+      h,
+      length-append (codes "<stream:stream") (from ++ (own ++ ([] ++ (version ++ (lang ++ end))))),
+      length-append from (own ++ ([] ++ (version ++ (lang ++ end)))),
+      length-append own (version ++ (lang ++ end)),
+      length-append version (lang ++ end),
+      length-append lang end,
     )
 
 declared_short : AllByRecursion (IsShort 255) written_scope

@@ -1,18 +1,17 @@
 -- Elements that a client reads, put together.
-use Rattle.std.proofs.Common.{◌≡◌, ◌≢◌, ℕ, ◌+◌, ◌*◌, ◌≤◌, max, nat_le, Bool, true, false, not, ◌&&◌, ◌||◌, List, [], ◌∷◌, ◌++◌, bytes_eq, codes, Option, Some, None, IfSome, length, refl, sym, ap, subst, ◌∙◌, inl, inr, arith, leb-true, length-append}
+use Rattle.std.proofs.Common.{◌≡◌, ◌≢◌, ℕ, ◌+◌, ◌*◌, ◌≤◌, nat_le, true, false, not, List, [], ◌∷◌, ◌++◌, bytes_eq, codes, Option, Some, None, IfSome, length, refl, sym, ◌∙◌, inl, inr, arith, leb-true, length-append}
 use Rattle.std.proofs.lemmas.Bool.{and_from, and_parts, cases_Bool, false≢true, not-true}
 use Rattle.std.proofs.lemmas.Slice.Eq.{bytes_eq-Decides}
 use Rattle.std.specs.List.{AllByRecursion, list_all}
-use Rattle.xmpp_framing.specs.Limits.{client_limits}
-use Rattle.xmpp_framing_laws.specs.Fitting.{Fits, IsShortAttribute, NodesFit, TagFits, TagsFit}
-use Rattle.xmpp_framing_laws.specs.Plain.{ArePlainNodes, HasPlainName, IsPlain, IsPlainAttribute, IsPlainElement, IsPlainName}
+use Rattle.xmpp_framing_laws.specs.Fitting.{IsShortAttribute, NodesFit, TagFits}
+use Rattle.xmpp_framing_laws.specs.Plain.{ArePlainNodes, IsPlainAttribute}
 use Rattle.xmpp_framing_laws.specs.Spells.{IsHeaderName}
 use Rattle.xmpp_names.specs.Scopes.{xml_namespace, xmlns_namespace}
 use Rattle.xmpp_put_fits.specs.Fine.{AreFine, ClientReads, FineAttributes, IsFine, IsSpace, IsWord, client_tags, is_space, is_word}
 use Rattle.xmpp_sizes.proofs.Characters.{printable_characters}
-use Rattle.xmpp_sizes.proofs.ElementSizes.{child_size, element_up, joined_size, nothing_size, text_node_size, texts_size}
+use Rattle.xmpp_sizes.proofs.ElementSizes.{child_size, element_up, joined_size, nothing_size, text_node_size}
 use Rattle.xmpp_sizes.proofs.TextSizes.{text_no_longer, value_short}
-use Rattle.xmpp_sizes.specs.Elements.{are_local, attributes_size, element_size, nodes_size}
+use Rattle.xmpp_sizes.specs.Elements.{are_local, attributes_size, element_size}
 use Rattle.xmpp_sizes.specs.Texts.{Said, is_printable, text_size, value_size}
 use Rattle.xmpp_stanza.specs.Names.{client_ns, xml_ns}
 use Rattle.xmpp_stanza.specs.Written.{attr_where, attrs_written}
@@ -21,8 +20,8 @@ use Rattle.xmpp_tokens.specs.Lines.{IsCharacters}
 use Rattle.xmpp_tokens.specs.Tags.{is_empty}
 use Rattle.xmpp_trees.specs.Attributes.{Attribute, attribute}
 use Rattle.xmpp_trees.specs.Tidied.{text_node}
-use Rattle.xmpp_trees.specs.Trees.{Elem, IsTree, Nodes, child, depth, depth_below, element, joined, name_of, namespace_of, no_nodes, text}
-use Rattle.xmpp_writer.specs.Canon.{client_namespace, declared_default, declares_default, default_inside, is_foreign, next_number, spelled_attribute, spelled_attributes, streams_namespace, tag_attributes}
+use Rattle.xmpp_trees.specs.Trees.{Elem, IsTree, Nodes, child, depth_below, element, joined, name_of, namespace_of, no_nodes, text}
+use Rattle.xmpp_writer.specs.Canon.{declared_default, declares_default, default_inside, is_foreign, next_number, spelled_attribute, spelled_attributes, streams_namespace}
 
 -- ---- words that are written out
 

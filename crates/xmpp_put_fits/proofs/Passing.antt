@@ -1,8 +1,8 @@
 -- What a server passes on: a message as it goes to sessions, and copies of it (XEP-0359, XEP-0280, XEP-0297).
-use Rattle.std.proofs.Common.{◌≡◌, ℕ, ◌+◌, ◌≤◌, max, Bool, true, false, List, [], ◌∷◌, ◌++◌, Option, Some, None, IfSome, codes, cond, refl, ap, arith, subst, sym, inl, inr}
+use Rattle.std.proofs.Common.{◌≡◌, ℕ, ◌+◌, ◌≤◌, Bool, true, false, List, [], ◌∷◌, ◌++◌, Option, Some, None, codes, refl, arith, inl, inr}
 use Rattle.std.proofs.lemmas.Bool.{cases_Bool}
 use Rattle.xmpp_archive.specs.Ids.{id_of}
-use Rattle.xmpp_ext.specs.Carbons.{carbon_elem, carbon_name}
+use Rattle.xmpp_ext.specs.Carbons.{carbon_elem}
 use Rattle.xmpp_ext.specs.Forwarding.{delay_elem, forwarded_elem}
 use Rattle.xmpp_ext.specs.Given.{is_given_by}
 use Rattle.xmpp_ext.specs.Ids.{stanza_id_elem}
@@ -20,20 +20,20 @@ use Rattle.xmpp_put_fits.proofs.StampSizes.{stamp_said}
 use Rattle.xmpp_put_fits.specs.Fine.{AreFine, ClientReads, IsFine, client_tags}
 use Rattle.xmpp_put_fits.specs.Messages.{MessageFits}
 use Rattle.xmpp_sizes.proofs.Characters.{characters_append, printable_characters}
-use Rattle.xmpp_sizes.proofs.ElementSizes.{child_size, nothing_size, text_node_size, texts_joined_size, texts_size}
+use Rattle.xmpp_sizes.proofs.ElementSizes.{child_size, texts_joined_size, texts_size}
 use Rattle.xmpp_sizes.proofs.Numerals.{said_hex}
 use Rattle.xmpp_sizes.proofs.TextSizes.{text_nothing}
 use Rattle.xmpp_sizes.specs.Elements.{nodes_size}
-use Rattle.xmpp_sizes.specs.Texts.{Said, text_size}
+use Rattle.xmpp_sizes.specs.Texts.{Said}
 use Rattle.xmpp_stamp.specs.Dates.{stamp_at}
 use Rattle.xmpp_stanza.specs.Kinds.{message_type}
 use Rattle.xmpp_stanza.specs.Names.{client_ns}
 use Rattle.xmpp_stanza.specs.Views.{MessageView}
-use Rattle.xmpp_stanza.specs.Written.{attrs_written, message_elem, unless_empty}
+use Rattle.xmpp_stanza.specs.Written.{unless_empty}
 use Rattle.xmpp_tokens.specs.Lines.{IsCharacters}
 use Rattle.xmpp_trees.specs.Attributes.{attribute}
 use Rattle.xmpp_trees.specs.Tidied.{text_node, texts_joined}
-use Rattle.xmpp_trees.specs.Trees.{AreTidy, Elem, Nodes, child, depth, depth_below, element, joined, no_nodes, text}
+use Rattle.xmpp_trees.specs.Trees.{Elem, Nodes, child, depth_below, joined, no_nodes, text}
 use Rattle.xmpp_writer.specs.Canon.{default_inside}
 
 -- ---- a payload without the ids that an address gave

@@ -1,5 +1,5 @@
 -- What a server says of a stream, of stream management and of requests.
-use Rattle.std.proofs.Common.{◌≡◌, ℕ, ◌+◌, ◌<◌, ◌≤◌, ◌^◌, true, false, List, [], ◌∷◌, ◌++◌, Option, Some, None, IfSome, bytes_eq, codes, refl, ap, arith}
+use Rattle.std.proofs.Common.{ℕ, ◌+◌, ◌<◌, ◌≤◌, ◌^◌, true, false, List, [], ◌∷◌, Some, None, codes, refl, arith}
 use Rattle.std.specs.Fmt.{decimal}
 use Rattle.xmpp_basis.specs.Hexadecimal.{hex16_of}
 use Rattle.xmpp_ext.specs.Counts.{too_high_elem}
@@ -7,12 +7,11 @@ use Rattle.xmpp_ext.specs.StreamManagement.{ack_elem, enabled_elem, resumed_elem
 use Rattle.xmpp_features.specs.Features.{features_elem, mechanisms_elem}
 use Rattle.xmpp_payload.specs.Bare.{bare}
 use Rattle.xmpp_payload.specs.Names.{binding, management, sasl}
-use Rattle.xmpp_put_fits.proofs.Parts.{attributes_joined, child_fine, fine_bare, fine_element, fine_more, no_attributes, no_nodes_fine, nodes_more, one_attribute, only_child, other_name, other_space, reads, said_fine, space, where_given, word}
-use Rattle.xmpp_put_fits.specs.Fine.{AreFine, ClientReads, FineAttributes, IsFine, IsSpace, IsWord}
+use Rattle.xmpp_put_fits.proofs.Parts.{attributes_joined, child_fine, fine_bare, fine_element, fine_more, no_attributes, no_nodes_fine, one_attribute, only_child, other_name, other_space, reads, said_fine, space, word}
+use Rattle.xmpp_put_fits.specs.Fine.{ClientReads, FineAttributes, IsFine, IsSpace, IsWord}
 use Rattle.xmpp_replies.specs.Streams.{stream_condition_name}
 use Rattle.xmpp_replies.specs.declared.conditions.StreamCondition.{StreamCondition}
 use Rattle.xmpp_replies.specs.declared.conditions.StreamCondition.TheVariants as stream
-use Rattle.xmpp_sasl.specs.Sasl.{failure_of}
 use Rattle.xmpp_sizes.proofs.Characters.{said_word}
 use Rattle.xmpp_sizes.proofs.Numerals.{said_decimal, said_hex}
 use Rattle.xmpp_sizes.specs.Texts.{Said}

@@ -1,5 +1,5 @@
 -- What a server answers to requests, and to messages that it can't pass on (RFC 6120, sections 7 and 8).
-use Rattle.std.proofs.Common.{◌≡◌, ℕ, ◌+◌, ◌<◌, ◌≤◌, ◌^◌, true, false, List, [], ◌∷◌, ◌++◌, Option, Some, None, IfSome, bytes_eq, codes, refl, ap, arith, subst, sym}
+use Rattle.std.proofs.Common.{◌≡◌, ℕ, ◌+◌, ◌<◌, ◌≤◌, ◌^◌, true, List, [], ◌∷◌, ◌++◌, Option, Some, None, IfSome, codes, refl, ap, arith, subst, sym}
 use Rattle.std.specs.Fmt.{decimal}
 use Rattle.xmpp_basis.specs.Hexadecimal.{hex16_of}
 use Rattle.xmpp_ext.proofs.BindLaws.{bind_result_stays}
@@ -10,12 +10,11 @@ use Rattle.xmpp_features.proofs.DiscoveryLaws.{told_stays}
 use Rattle.xmpp_features.specs.Discovery.{Told, account, disco_info_elem, feature_elem, feature_elems, identity_elem, server, server_features}
 use Rattle.xmpp_payload.specs.Bare.{bare}
 use Rattle.xmpp_payload.specs.Names.{archive, binding, carbons, disco_info, management, pings, roster, stanza_ids}
-use Rattle.xmpp_payload.specs.Writing.{text_child}
-use Rattle.xmpp_put_fits.proofs.Parts.{attributes_joined, attributes_more, child_fine, fine_bare, fine_element, fine_more, no_attributes, no_nodes_fine, nodes_more, one_attribute, only_child, other_name, other_space, reads, said_fine, space, stanza_attributes, where_given, word}
+use Rattle.xmpp_put_fits.proofs.Parts.{attributes_joined, child_fine, fine_bare, fine_element, fine_more, no_attributes, no_nodes_fine, nodes_more, one_attribute, only_child, other_space, reads, said_fine, space, stanza_attributes, where_given, word}
 use Rattle.xmpp_put_fits.proofs.Replies.{fine_around, known_word, two_attributes, with_none}
-use Rattle.xmpp_put_fits.specs.Fine.{AreFine, ClientReads, FineAttributes, IsFine, IsSpace, IsWord}
+use Rattle.xmpp_put_fits.specs.Fine.{AreFine, ClientReads, IsFine, IsWord}
 use Rattle.xmpp_replies.specs.Requests.{EnvelopeView}
-use Rattle.xmpp_sizes.proofs.Characters.{said_more, said_word}
+use Rattle.xmpp_sizes.proofs.Characters.{said_word}
 use Rattle.xmpp_sizes.proofs.Numerals.{said_decimal, said_hex}
 use Rattle.xmpp_sizes.specs.Texts.{Said}
 use Rattle.xmpp_stanza.proofs.WrittenAttrs.{attrs_stay}
@@ -24,7 +23,6 @@ use Rattle.xmpp_stanza.specs.Conditions.{IsKnown, condition_name}
 use Rattle.xmpp_stanza.specs.Errors.{error_elem, error_type}
 use Rattle.xmpp_stanza.specs.Kinds.{iq_type, message_type}
 use Rattle.xmpp_stanza.specs.Names.{client_ns, stanza_errors_ns}
-use Rattle.xmpp_stanza.specs.Views.{IqView}
 use Rattle.xmpp_stanza.specs.Written.{attr_where, attrs_written, iq_elem, unless_empty}
 use Rattle.xmpp_stanza.specs.declared.errors.ErrorKind.{ErrorKind}
 use Rattle.xmpp_stanza.specs.declared.errors.ErrorKind.TheVariants as error
@@ -34,7 +32,7 @@ use Rattle.xmpp_stanza.specs.declared.kinds.IqKind.TheVariants as iq
 use Rattle.xmpp_stanza.specs.declared.kinds.MessageKind.{MessageKind}
 use Rattle.xmpp_stanza.specs.declared.kinds.MessageKind.TheVariants as message
 use Rattle.xmpp_trees.proofs.TidyLaws.{tidied_IsTree}
-use Rattle.xmpp_trees.specs.Attributes.{Attribute, attribute}
+use Rattle.xmpp_trees.specs.Attributes.{attribute}
 use Rattle.xmpp_trees.specs.Tidied.{text_node, tidied, tidied_nodes}
 use Rattle.xmpp_trees.specs.Trees.{Elem, IsTree, Nodes, element, no_nodes, child}
 use Rattle.xmpp_writer.specs.Canon.{default_inside}

@@ -1,6 +1,6 @@
 -- Elements that a client reads as they are written: plain ones, whose start tags are within its limits, of so many bytes
 -- and so deep (RFC 6120, section 4.9.3.14).
-use Rattle.std.specs.Prelude.{ℕ, ◌≡◌, ◌≢◌, ◌≤◌, ◌&&◌, nat_le, not, Bool, true, List, [], codes, length}
+use Rattle.std.specs.Prelude.{ℕ, ◌≡◌, ◌≢◌, ◌≤◌, ◌&&◌, nat_le, not, Bool, true, List, codes, length}
 use Rattle.std.specs.List.{AllByRecursion, list_all}
 use Rattle.std.specs.Str.{bytes_eq}
 use Rattle.xmpp_framing.specs.Limits.{client_limits}

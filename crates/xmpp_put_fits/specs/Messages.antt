@@ -1,5 +1,5 @@
 -- What messages and archived entries keep to, so that a client reads what a server makes of them.
-use Rattle.std.specs.Prelude.{ℕ, ◌+◌, ◌≤◌, List, IfSome}
+use Rattle.std.specs.Prelude.{ℕ, ◌+◌, ◌≤◌, IfSome}
 use Rattle.xmpp_archive.specs.Entries.{EntryView}
 use Rattle.xmpp_forwarding.specs.Results.{entry_nodes}
 use Rattle.xmpp_put_fits.specs.Fine.{AreFine}

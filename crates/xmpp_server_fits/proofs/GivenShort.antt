@@ -1,20 +1,21 @@
 -- No text of an element that a framer gave is longer than the element's bytes.
-use Rattle.std.proofs.Common.{◌≡◌, ◌≢◌, ℕ, suc, ◌+◌, ◌≤◌, ◌<◌, ◌^◌, ◌==◌, Bool, true, false, not, ◌&&◌, List, [], ◌∷◌, ◌++◌, map, codes, bytes_eq, Option, Some, None, length, encode_utf8, refl, sym, ap, subst, ◌∙◌, inl, inr, arith, length-append}
+use Rattle.std.proofs.Common.{◌≡◌, ℕ, ◌+◌, ◌≤◌, ◌==◌, Bool, true, false, ◌&&◌, List, [], ◌∷◌, ◌++◌, map, codes, bytes_eq, Option, Some, None, length, encode_utf8, refl, sym, ap, subst, ◌∙◌, inl, inr, arith, length-append}
 use Rattle.std.proofs.lemmas.Bool.{cases_Bool}
 use Rattle.std.proofs.lemmas.List.{length-map}
-use Rattle.std.proofs.lemmas.List.Elements.{All-from_recursion, recursion_from_All}
+use Rattle.std.proofs.lemmas.List.Elements.{recursion_from_All}
 use Rattle.std.proofs.lemmas.Option.{same_Some}
 use Rattle.std.proofs.lemmas.Slice.Eq.{bytes_eq-Decides}
 use Rattle.std.proofs.lemmas.Str.{len_utf8_bounds, length-encode}
-use Rattle.std.specs.List.{All, AllByRecursion, AllZip}
+use Rattle.std.specs.List.{AllByRecursion, AllZip}
 use Rattle.std.specs.Option.{option_map}
+use Rattle.xmpp_framing.proofs.ItemsBefore.{given_before}
+use Rattle.xmpp_framing.proofs.Pieces.{run_append}
 use Rattle.xmpp_framing.specs.Expanded.{attribute_of}
 use Rattle.xmpp_framing.specs.Limits.{server_limits}
 use Rattle.xmpp_framing.specs.Machine.{run}
-use Rattle.xmpp_framing.specs.States.{from_start, turn}
+use Rattle.xmpp_framing.specs.States.{Turn, from_start, turn}
 use Rattle.xmpp_framing.specs.declared.items.Item.{Item}
 use Rattle.xmpp_framing.specs.declared.items.Item.TheVariants as item
-use Rattle.xmpp_framing.specs.declared.limits.Limits.{Limits}
 use Rattle.xmpp_framing_laws.proofs.GivenItems.{given_can_pass, given_plain}
 use Rattle.xmpp_framing_laws.proofs.PlainElements.{append_each}
 use Rattle.xmpp_framing_laws.proofs.PrefixRuns.{prefix_known}
@@ -31,21 +32,20 @@ use Rattle.xmpp_names.specs.Grammar.{IsExpanded, IsStart}
 use Rattle.xmpp_names.specs.Scopes.{Scope}
 use Rattle.xmpp_names.specs.Starts.{Tag}
 use Rattle.xmpp_names.specs.declared.expansion.ExpandedAttribute.{ExpandedAttribute}
+use Rattle.xmpp_server.specs.Events.{turn_of}
 use Rattle.xmpp_server_fits.specs.Keeps.{Comes, IsShort, stanza_limits}
-use Rattle.xmpp_stanza.specs.Stanzas.{attr_named}
 use Rattle.xmpp_tokens.specs.Characters.{is_name}
 use Rattle.xmpp_tokens.specs.Lines.{line_ends, line_ends_behind}
-use Rattle.xmpp_tokens.specs.References.{character_reference, entity_reference, referred}
+use Rattle.xmpp_tokens.specs.References.{entity_reference, referred}
 use Rattle.xmpp_tokens.specs.Tags as tokens
 use Rattle.xmpp_tokens.specs.Tags.{AreAttributes, IsAttribute}
 use Rattle.xmpp_tokens.specs.ValueGrammar as values
 use Rattle.xmpp_tokens.specs.ValueGrammar.{SpellsValue, space_of, spaces}
-use Rattle.xmpp_tokens.specs.declared.references.Reference.{Reference}
 use Rattle.xmpp_tokens.specs.declared.references.Reference.TheVariants.{Character, Malformed, Unknown}
 use Rattle.xmpp_trees.specs.Attributes.{Attribute, found, has_name}
 use Rattle.xmpp_trees.specs.Readers.{text_of}
 use Rattle.xmpp_trees.specs.Tidied.{text_node}
-use Rattle.xmpp_trees.specs.Trees.{Elem, Nodes, attributes_of, child, element, joined, no_nodes, nodes_of, text}
+use Rattle.xmpp_trees.specs.Trees.{Elem, Nodes, child, joined, no_nodes}
 
 -- ---- what bytes say is no longer than they are
 
@@ -97,8 +97,17 @@ value_shorter raw says (values.with_reference _ _ plain name rest more c d ref s
     let one = character_short name c ref in
     let lines = lines_shorter false plain in
     omega (
-      arith, ih, one, lines, ap length bytes_are, ap length says_is, length-map (line_ends plain) space_of, length-append plain (38 ∷ (name ++ (59 ∷ rest))), length-append name (59 ∷ rest),
-      length-append (spaces (line_ends plain)) (encode_utf8 c ++ more), length-append (encode_utf8 c) more,
+      arith,
+      ih,
+      one,
+      lines,
+      ap length bytes_are,
+      ap length says_is,
+      length-map (line_ends plain) space_of,
+      length-append plain (38 ∷ (name ++ (59 ∷ rest))),
+      length-append name (59 ∷ rest),
+      length-append (spaces (line_ends plain)) (encode_utf8 c ++ more),
+      length-append (encode_utf8 c) more,
     )
 
 text_shorter : (raw says : List ℕ) → SpellsText raw says → length says ≤ length raw
@@ -108,16 +117,34 @@ text_shorter raw says (texts.with_reference _ _ plain name rest more c d ref spe
     let one = character_short name c ref in
     let lines = lines_shorter false plain in
     omega (
-      arith, ih, one, lines, ap length bytes_are, ap length says_is, length-append plain (38 ∷ (name ++ (59 ∷ rest))), length-append name (59 ∷ rest),
-      length-append (line_ends plain) (encode_utf8 c ++ more), length-append (encode_utf8 c) more,
+      arith,
+      ih,
+      one,
+      lines,
+      ap length bytes_are,
+      ap length says_is,
+      length-append plain (38 ∷ (name ++ (59 ∷ rest))),
+      length-append name (59 ∷ rest),
+      length-append (line_ends plain) (encode_utf8 c ++ more),
+      length-append (encode_utf8 c) more,
     )
 text_shorter raw says (texts.with_section _ _ plain inside rest more d none spelled bytes_are says_is) =
     let ih = text_shorter rest more spelled in
     let lines = lines_shorter false plain in
     let held = lines_shorter false inside in
     omega (
-      arith, ih, lines, held, ap length bytes_are, ap length says_is, length-append plain (codes "<![CDATA[" ++ (inside ++ (codes "]]>" ++ rest))), length-append (codes "<![CDATA[") (inside ++ (codes "]]>" ++ rest)),
-      length-append inside (codes "]]>" ++ rest), length-append (codes "]]>") rest, length-append (line_ends plain) (line_ends inside ++ more), length-append (line_ends inside) more,
+      arith,
+      ih,
+      lines,
+      held,
+      ap length bytes_are,
+      ap length says_is,
+      length-append plain (codes "<![CDATA[" ++ (inside ++ (codes "]]>" ++ rest))),
+      length-append (codes "<![CDATA[") (inside ++ (codes "]]>" ++ rest)),
+      length-append inside (codes "]]>" ++ rest),
+      length-append (codes "]]>") rest,
+      length-append (line_ends plain) (line_ends inside ++ more),
+      length-append (line_ends inside) more,
     )
 
 -- ---- attributes
@@ -197,7 +224,15 @@ content_short scope bytes kids (with_element _ _ _ front says middle rest e more
     let one = text_shorter front says is_text.spelled in
     let ih = content_short scope rest more content in
     omega (
-      arith, one, ih, ap (λ ks. length (text_of ks)) kids_are, ap length (text_before says e more), length-append says (text_of more), ap length bytes_are, length-append front (middle ++ rest), length-append middle rest,
+      arith,
+      one,
+      ih,
+      ap (λ ks. length (text_of ks)) kids_are,
+      ap length (text_before says e more),
+      length-append says (text_of more),
+      ap length bytes_are,
+      length-append front (middle ++ rest),
+      length-append middle rest,
     )
 
 begun_short : (n : ℕ) (t : Tag) (kids : Nodes) (e : Elem) → IsBegun t kids e → ((ns name v : List ℕ) → option_map (λ (a : Attribute). a.value) (found ns name (map attribute_of t.attributes)) ≡ Some v → length v ≤ n) → n ≤ 65536
@@ -254,3 +289,18 @@ given_come bytes none =
     all_come end.items (recursion_from_All IsPlainItem end.items (given_plain server_limits bytes (omega arith) (omega arith) none))
     (recursion_from_All (CanPass stanza_limits) end.items (given_can_pass server_limits stanza_limits bytes (omega arith) (omega arith) (omega arith) (omega arith) (omega arith) (omega arith) none))
     (short_so_far known.now known.done end.items known.stream (known.within (omega arith)))
+
+-- ---- pieces
+
+each_behind : (xs ys : List Item) → AllByRecursion Comes (xs ++ ys) → AllByRecursion Comes ys
+each_behind [] ys h = h
+each_behind (x ∷ xs) ys h = each_behind xs ys h.1
+
+-- the same of a piece behind bytes before it
+pub piece_comes : (before piece : List ℕ) → (run (turn (from_start server_limits) []) (before ++ piece)).state.fault ≡ None → AllByRecursion Comes (turn_of piece (run (turn (from_start server_limits) []) before).state).items
+piece_comes before piece none =
+    let first = run (turn (from_start server_limits) []) before in
+    let whole = run (turn (from_start server_limits) []) (before ++ piece) in
+    let joined : whole ≡ turn (turn_of piece first.state).state (first.items ++ (turn_of piece first.state).items) =
+    run_append (turn (from_start server_limits) []) before piece ∙ given_before first.state first.items piece in
+    each_behind first.items (turn_of piece first.state).items (subst (AllByRecursion Comes) (ap (λ (t : Turn). t.items) joined) (given_come (before ++ piece) none))

@@ -1,5 +1,5 @@
 -- What a server says of logins is read.
-use Rattle.std.proofs.Common.{◌≡◌, ℕ, zero, suc, ◌+◌, ◌*◌, ◌/◌, ◌%◌, ◌<◌, ◌≤◌, ◌^◌, nat_lt, nat_le, Bool, true, false, ◌&&◌, ◌||◌, List, [], ◌∷◌, ◌++◌, Option, Some, None, IfSome, Result, Ok, Err, IsUtf8, IsTrue, bytes_eq, cond, codes, length, take, encode_utf8_all, refl, ap, subst, sym, ◌∙◌, arith, inl, inr, length-append, ltb-true}
+use Rattle.std.proofs.Common.{◌≡◌, ℕ, zero, suc, ◌+◌, ◌*◌, ◌/◌, ◌%◌, ◌<◌, ◌≤◌, ◌^◌, nat_lt, Bool, true, false, List, [], ◌∷◌, ◌++◌, Option, Some, None, IfSome, Result, Ok, Err, IsUtf8, bytes_eq, cond, codes, length, take, encode_utf8_all, refl, ap, subst, sym, ◌∙◌, arith, inl, inr, length-append, ltb-true}
 use Rattle.std.proofs.lemmas.Bool.{and_from, and_parts, cases_Bool}
 use Rattle.std.proofs.lemmas.Bool.Decides.{nat_tests}
 use Rattle.std.proofs.lemmas.Fmt.{length-decimal-le}
@@ -35,8 +35,8 @@ use Rattle.xmpp_scram.proofs.Base64.{length_of}
 use Rattle.xmpp_scram.proofs.Digests.{IsBytes-hmac_of, length-hmac_of}
 use Rattle.xmpp_scram.proofs.MessageLaws.{first_found}
 use Rattle.xmpp_scram.specs.Classes as classes
-use Rattle.xmpp_scram.specs.Exchange.{CredentialsView, ServerView, added_nonce, base64_of, begun_server, is_proof, last_of, sent, server_auth, server_final_message, server_first_message, then_judge, verifier_for}
-use Rattle.xmpp_scram.specs.Grammar.{IsBare, IsClientFirst, IsNonce, are_some, is_nonce}
+use Rattle.xmpp_scram.specs.Exchange.{ServerView, added_nonce, base64_of, is_proof, last_of, sent, server_auth, server_final_message, server_first_message, then_judge, verifier_for}
+use Rattle.xmpp_scram.specs.Grammar.{IsClientFirst, is_nonce}
 use Rattle.xmpp_scram.specs.Messages.{ClientFinalView, client_final_of, client_first_of}
 use Rattle.xmpp_scram.specs.declared.client_first.ClientFirst.{ClientFirst}
 use Rattle.xmpp_scram.specs.declared.fault.ScramFault.{ScramFault}
@@ -46,7 +46,6 @@ use Rattle.xmpp_server_fits.specs.Keeps.{AccountKeeps, IsDrawn, IsRead, IsShort}
 use Rattle.xmpp_sizes.proofs.Characters.{printable_append}
 use Rattle.xmpp_sizes.proofs.Numerals.{decimal_printable}
 use Rattle.xmpp_sizes.specs.Texts.{is_printable}
-use Rattle.xmpp_tokens.specs.Lines.{IsCharacters}
 use Rattle.xmpp_trees.specs.Readers.{text_of}
 use Rattle.xmpp_trees.specs.Trees.{Elem, nodes_of}
 
@@ -135,7 +134,13 @@ nonce_within bytes first found short =
     let front = found.flag_text ++ codes "," ++ found.authzid_text ++ codes "," in
     let before = codes "n=" ++ said.name_text ++ codes ",r=" in
     omega (
-      arith, short, whole, bare, length-append front first.bare, length-append (before ++ first.nonce) said.extensions, length-append before first.nonce,
+      arith,
+      short,
+      whole,
+      bare,
+      length-append front first.bare,
+      length-append (before ++ first.nonce) said.extensions,
+      length-append before first.nonce,
     )
 
 decoded_short : (text : List ℕ) (r : Result (List ℕ) DecodeError) (b : List ℕ) → list_all is_byte text ≡ true → decode_of standard text ≡ r → decoded r ≡ Ok b → length b ≤ length text

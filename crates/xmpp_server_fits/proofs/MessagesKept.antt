@@ -1,6 +1,5 @@
 -- What the row on messages says is read, and what it archives fits.
-use Rattle.std.proofs.Common.{◌≡◌, ℕ, ◌+◌, ◌≤◌, ◌==◌, Bool, true, false, not, ◌&&◌, List, [], ◌∷◌, Option, Some, None, IfSome, cond, refl, subst, sym, arith, unwrap_or}
-use Rattle.std.specs.List.{AllByRecursion}
+use Rattle.std.proofs.Common.{ℕ, Bool, true, false, List, [], ◌∷◌, Option, Some, None, IfSome, cond, arith, unwrap_or}
 use Rattle.xmpp_archive.specs.Entries.{EntryView}
 use Rattle.xmpp_desk.specs.State.{Hall, bare_address, session_address}
 use Rattle.xmpp_desk.specs.Steps.{Act}
@@ -15,11 +14,11 @@ use Rattle.xmpp_put_fits.proofs.Requests.{bounce_read}
 use Rattle.xmpp_put_fits.specs.Messages.{EntryFits, MessageFits}
 use Rattle.xmpp_route.specs.Destinations.{Bare, Destination, Full, NoUser, RemoteDomain, destination_of}
 use Rattle.xmpp_route.specs.Messages.{is_chat, is_for_users}
-use Rattle.xmpp_route.specs.Plans.{plan_of, planned, ready_of, refused, routed, to_bare, to_full, to_user}
+use Rattle.xmpp_route.specs.Plans.{plan_of, planned, ready_of, refused, to_full, to_user}
 use Rattle.xmpp_route.specs.Routes.{Bounced, PlanOf, RouteOf, Routed, archives_of, plan_renamed}
 use Rattle.xmpp_server_fits.proofs.Addresses.{bare_said, session_said}
 use Rattle.xmpp_server_fits.proofs.StepsKept.{whole_read}
-use Rattle.xmpp_server_fits.specs.Keeps.{ActKeeps, ActsKeep, HallKeeps, IsRead}
+use Rattle.xmpp_server_fits.specs.Keeps.{ActsKeep, HallKeeps}
 use Rattle.xmpp_server_maps.specs.Images.{itself}
 use Rattle.xmpp_sizes.proofs.Characters.{said_more}
 use Rattle.xmpp_sizes.specs.Texts.{Said}

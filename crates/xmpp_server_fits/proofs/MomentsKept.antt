@@ -1,15 +1,14 @@
 -- Moments, connections that come and go, and pieces of bytes keep what a server keeps to.
-use Rattle.std.proofs.Common.{◌≡◌, ℕ, ◌≤◌, max, Bool, true, false, List, [], ◌∷◌, Option, Some, None, IfSome, cond, Ordering, Less, Equal, Greater, refl}
+use Rattle.std.proofs.Common.{ℕ, Bool, true, false, List, [], ◌∷◌, Option, Some, None, IfSome, cond, Ordering, Less, Equal, Greater, refl}
 use Rattle.std.specs.BTreeMap.{insert_entry}
 use Rattle.std.specs.List.{AllByRecursion}
 use Rattle.std.specs.Ordering.{match_ordering, nat_cmp}
 use Rattle.xmpp_desk.specs.Moments.{at_moment, fresh_conn, gone_at, with_fresh}
-use Rattle.xmpp_desk.specs.State.{Hall, Out, Step, is_number, with_sessions, without_conn}
+use Rattle.xmpp_desk.specs.State.{Hall, Out, Step, is_number}
 use Rattle.xmpp_desk.specs.declared.connection.Connection.{Connection}
 use Rattle.xmpp_framing.specs.States as framing
 use Rattle.xmpp_framing.specs.States.{Turn}
-use Rattle.xmpp_framing.specs.declared.items.Item.{Item}
-use Rattle.xmpp_live.specs.Sessions.{Session, is_expired, lost, parked, session_at, unexpired, with_session, without}
+use Rattle.xmpp_live.specs.Sessions.{Session, lost, parked, session_at, with_session, without}
 use Rattle.xmpp_server.specs.Events.{Whole, after_bytes, after_turn, at_piece, begun, framer_at, turn_of}
 use Rattle.xmpp_server_fits.proofs.Lists.{Values, each_filter, values_left}
 use Rattle.xmpp_server_fits.proofs.StepsKept.{session_changed, shown_kept}

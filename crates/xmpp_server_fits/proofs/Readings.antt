@@ -1,8 +1,8 @@
 -- What is read of an element that a framer gave.
-use Rattle.std.proofs.Common.{◌≡◌, ℕ, ◌+◌, ◌*◌, ◌<◌, ◌≤◌, ◌^◌, nat_lt, nat_le, Bool, true, false, ◌&&◌, ◌||◌, List, [], ◌∷◌, Option, Some, None, IfSome, Result, Ok, Err, cond, codes, length, unwrap_or, refl, ap, subst, sym, ◌∙◌, arith, inl, inr, ltb-true}
+use Rattle.std.proofs.Common.{◌≡◌, ℕ, ◌+◌, ◌<◌, ◌≤◌, ◌^◌, nat_lt, Bool, true, false, ◌&&◌, List, [], ◌∷◌, Option, Some, None, IfSome, Result, Ok, Err, cond, codes, length, unwrap_or, refl, ap, subst, sym, ◌∙◌, arith, inl, inr, ltb-true}
 use Rattle.std.proofs.lemmas.Bool.{and_parts, cases_Bool, ltb-false}
 use Rattle.std.proofs.lemmas.Option.{same_Some}
-use Rattle.std.specs.Option.{option_and_then, option_map}
+use Rattle.std.specs.Option.{option_map}
 use Rattle.std.specs.Str.{all_ascii_digits}
 use Rattle.std.specs.Str.Parse.{digits_value}
 use Rattle.xmpp_desk.specs.Words.{if_read, is_bad_management, is_bad_sasl, is_long, is_stanza, is_stream_error, management_word, other_word, resume_word, sasl_word, word_of}
@@ -12,26 +12,22 @@ use Rattle.xmpp_desk.specs.declared.word.Word.TheVariants as word
 use Rattle.xmpp_ext.specs.Readings.{resumption_read, resumption_with}
 use Rattle.xmpp_ext.specs.StreamManagement.{ack_read, ack_with, count_of, enable_read, is_management}
 use Rattle.xmpp_ext.specs.declared.stream_management.Ack.{Ack}
-use Rattle.xmpp_framing.specs.TagSteps.{tag_limits}
-use Rattle.xmpp_framing.specs.declared.items.Item.{Item}
 use Rattle.xmpp_framing.specs.declared.items.Item.TheVariants as item
-use Rattle.xmpp_framing_laws.specs.Fitting.{Fits, NodesFit, TagsFit}
+use Rattle.xmpp_framing_laws.specs.Fitting.{NodesFit, TagsFit}
 use Rattle.xmpp_framing_laws.specs.Plain.{ArePlainNodes, IsPlain, IsPlainElement}
-use Rattle.xmpp_jid.specs.Normal.{normal}
 use Rattle.xmpp_payload.specs.Names.{binding}
 use Rattle.xmpp_payload.specs.Readings.{where_this}
-use Rattle.xmpp_payload.specs.Shapes.{attr_or_empty, child_text_or_empty, is_number, number_below, required_number}
+use Rattle.xmpp_payload.specs.Shapes.{is_number, number_below, required_number}
 use Rattle.xmpp_payload.specs.declared.fault.ExtFault.{ExtFault}
 use Rattle.xmpp_put_fits.proofs.Forwarding.{attribute_characters, text_characters}
 use Rattle.xmpp_put_fits.proofs.Requests.{inside_client}
-use Rattle.xmpp_put_fits.specs.Fine.{AreFine, client_tags}
+use Rattle.xmpp_put_fits.specs.Fine.{client_tags}
 use Rattle.xmpp_put_fits.specs.Messages.{MessageFits}
 use Rattle.xmpp_sasl.specs.Sasl.{is_sasl}
-use Rattle.xmpp_server_fits.specs.Keeps.{Comes, IsShort, stanza_limits}
+use Rattle.xmpp_server_fits.specs.Keeps.{Comes, IsShort}
 use Rattle.xmpp_server_fits.specs.Words.{BadToFits, BindFits, BindsFit, IqFits, ReadFits, WordComes}
-use Rattle.xmpp_session_rows.specs.Bindings.{asked_resource}
 use Rattle.xmpp_sizes.proofs.Addresses.{normal_said}
-use Rattle.xmpp_sizes.proofs.Characters.{printable_characters, said_more, said_word}
+use Rattle.xmpp_sizes.proofs.Characters.{printable_characters, said_word}
 use Rattle.xmpp_sizes.proofs.ElementSizes.{child_size, nodes_within, texts_size, value_and_nodes}
 use Rattle.xmpp_sizes.proofs.TextSizes.{value_nothing, value_short}
 use Rattle.xmpp_sizes.specs.Elements.{element_size, nodes_size}
@@ -39,7 +35,7 @@ use Rattle.xmpp_sizes.specs.Texts.{Said, value_size}
 use Rattle.xmpp_stanza.proofs.ReadingLaws.{bad_to_law, iq_law, message_law}
 use Rattle.xmpp_stanza.specs.Names.{client_ns, xml_ns}
 use Rattle.xmpp_stanza.specs.Readings.{stanza_of}
-use Rattle.xmpp_stanza.specs.Stanzas.{IsAddressOf, IsBadTo, IsIq, IsMessage, attr_named, id_or_empty}
+use Rattle.xmpp_stanza.specs.Stanzas.{IsAddressOf, IsBadTo, IsIq, IsMessage, attr_named}
 use Rattle.xmpp_stanza.specs.Views.{IqView, MessageView}
 use Rattle.xmpp_stanza.specs.declared.fault.StanzaFault.{StanzaFault}
 use Rattle.xmpp_stanza.specs.declared.fault.StanzaFault.TheVariants as fault

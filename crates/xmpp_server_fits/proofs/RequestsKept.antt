@@ -1,5 +1,5 @@
 -- What the row on requests says is read.
-use Rattle.std.proofs.Common.{◌≡◌, ℕ, ◌+◌, ◌-◌, ◌<◌, ◌≤◌, ◌^◌, nat_lt, Bool, true, false, not, ◌&&◌, List, [], ◌∷◌, Option, Some, None, IfSome, Result, Ok, Err, cond, codes, filter, is_none, length, refl, subst, sym, ap, arith, inl, inr}
+use Rattle.std.proofs.Common.{◌≡◌, ℕ, ◌-◌, ◌<◌, ◌≤◌, ◌^◌, nat_lt, Bool, true, false, not, ◌&&◌, List, [], ◌∷◌, Option, Some, None, IfSome, Result, Ok, Err, cond, codes, filter, is_none, length, refl, subst, sym, arith, inl, inr}
 use Rattle.std.proofs.lemmas.Bool.{cases_Bool}
 use Rattle.std.specs.List.{AllByRecursion}
 use Rattle.std.specs.Option.{option_map}
@@ -19,7 +19,7 @@ use Rattle.xmpp_mam.specs.declared.archive_query.MamQuery.{MamQuery}
 use Rattle.xmpp_pages.specs.Cuts.{CutView, fin_of}
 use Rattle.xmpp_pages.specs.Kept.{kept_by}
 use Rattle.xmpp_pages.specs.Matches.{is_wanted, matching}
-use Rattle.xmpp_pages.specs.PageOf.{candidates, cut_out, index_of_page, most_of, page_among, page_of, portion}
+use Rattle.xmpp_pages.specs.PageOf.{candidates, cut_out, index_of_page, most_of, page_of, portion}
 use Rattle.xmpp_pages.specs.declared.query.PageQuery.{PageQuery}
 use Rattle.xmpp_payload.specs.Names.{archive, carbons, disco_info, pings, roster, sessions as sessions_ns}
 use Rattle.xmpp_payload.specs.Readings.{where_this}
@@ -31,14 +31,14 @@ use Rattle.xmpp_payload.specs.declared.fault.Field.TheVariants as field
 use Rattle.xmpp_put_fits.proofs.Forwarding.{entry_read, fin_fine, fin_payload_stays}
 use Rattle.xmpp_put_fits.proofs.Requests.{account_info_fine, info_stays, iq_error_read, nothing_fine, result_read, roster_fine, server_info_fine}
 use Rattle.xmpp_put_fits.specs.Messages.{EntryFits}
-use Rattle.xmpp_replies.specs.Requests.{EnvelopeView, iq_error_item, result_item}
-use Rattle.xmpp_request_rows.specs.Requests.{answering_iq, asked_of, asker_of, at_iq, bad_request, empty_answer, envelope_of, get_request, info_item, is_at_domain, is_served_at, not_served, paging, query_request, querying_in, refusing_iq, request_for, request_in, request_of, sending_entries, sending_entry, serving, set_request}
+use Rattle.xmpp_replies.specs.Requests.{result_item}
+use Rattle.xmpp_request_rows.specs.Requests.{asked_of, asker_of, at_iq, empty_answer, envelope_of, get_request, info_item, is_at_domain, is_served_at, not_served, paging, query_request, querying_in, refusing_iq, request_for, request_in, request_of, sending_entries, sending_entry, serving, set_request}
 use Rattle.xmpp_request_rows.specs.declared.request.Request.{Request}
 use Rattle.xmpp_request_rows.specs.declared.request.Request.TheVariants as request
 use Rattle.xmpp_server_fits.proofs.Addresses.{bare_said, session_said}
 use Rattle.xmpp_server_fits.proofs.Lists.{each_found, each_got}
 use Rattle.xmpp_server_fits.proofs.StepsKept.{whole_read}
-use Rattle.xmpp_server_fits.specs.Keeps.{ActKeeps, ActsKeep, ArchiveKeeps, HallKeeps, IsRead}
+use Rattle.xmpp_server_fits.specs.Keeps.{ActsKeep, ArchiveKeeps, HallKeeps, IsRead}
 use Rattle.xmpp_server_fits.specs.Words.{IqFits}
 use Rattle.xmpp_server_maps.specs.Images.{itself}
 use Rattle.xmpp_sizes.proofs.Characters.{said_more}

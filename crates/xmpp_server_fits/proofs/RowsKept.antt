@@ -1,16 +1,15 @@
 -- What the rows of a stream and of a session say is read.
-use Rattle.std.proofs.Common.{◌≡◌, ℕ, zero, suc, ◌+◌, ◌*◌, ◌%◌, ◌^◌, ◌<◌, ◌≤◌, nat_le, Bool, true, false, List, [], ◌∷◌, ◌++◌, Option, Some, None, IfSome, Result, Ok, Err, cond, codes, drop, length, refl, subst, sym, arith, length-drop}
+use Rattle.std.proofs.Common.{◌≡◌, ℕ, ◌^◌, ◌<◌, nat_le, Bool, true, false, List, [], ◌∷◌, Option, Some, None, IfSome, Result, Ok, Err, cond, length, refl, arith, length-drop}
 use Rattle.std.specs.List.{AllByRecursion}
-use Rattle.std.specs.Option.{option_and_then, option_map}
+use Rattle.std.specs.Option.{option_map}
 use Rattle.std.specs.Result.{result_ok}
 use Rattle.xmpp_acks.specs.Counters.{ahead}
 use Rattle.xmpp_acks.specs.declared.end.TooHigh.{TooHigh}
 use Rattle.xmpp_basis.specs.Hexadecimal.{hex16_of}
-use Rattle.xmpp_desk.specs.Logins.{answering, at_auth, at_challenge, at_login, at_login_other, at_response, beginning, failing, finishing, negotiation_at}
-use Rattle.xmpp_desk.specs.State.{Hall, conn_at, is_number}
-use Rattle.xmpp_desk.specs.Steps.{Act, Close, Say}
-use Rattle.xmpp_desk.specs.Streams.{answering_header, at_any, at_header, awaits_header, closing, ending, ending_in, field_condition, header_condition, header_in, opening, parting, parting_where, standing_at, standing_of}
-use Rattle.xmpp_desk.specs.declared.connection.Connection.{Connection}
+use Rattle.xmpp_desk.specs.Logins.{answering, at_challenge, at_login, at_login_other, beginning, failing, finishing, negotiation_at}
+use Rattle.xmpp_desk.specs.State.{Hall}
+use Rattle.xmpp_desk.specs.Steps.{Act}
+use Rattle.xmpp_desk.specs.Streams.{answering_header, at_any, at_header, awaits_header, closing, ending, ending_in, field_condition, header_condition, header_in, opening, parting, parting_where}
 use Rattle.xmpp_desk.specs.declared.connection.Stage.{Stage}
 use Rattle.xmpp_desk.specs.declared.connection.Stage.TheVariants as stage
 use Rattle.xmpp_desk.specs.declared.connection.Standing.{Standing}
@@ -19,10 +18,9 @@ use Rattle.xmpp_desk.specs.declared.connection.Tries.TheVariants as tries
 use Rattle.xmpp_desk.specs.declared.limits.TheConstants.{ASKS_AT, RESUMABLE_SECONDS}
 use Rattle.xmpp_desk.specs.declared.word.Word.{Word}
 use Rattle.xmpp_desk.specs.declared.word.Word.TheVariants as word
-use Rattle.xmpp_framing.specs.Limits.{client_limits}
 use Rattle.xmpp_jid.specs.Forms.{resource_form}
 use Rattle.xmpp_jid.specs.declared.fault.JidFault.{JidFault}
-use Rattle.xmpp_live.specs.Sessions.{Session, ack_answer, ended_of, is_too_high, resent, resume_answer, resume_ok, send_count, session_at, session_named, session_of, session_resumed, told}
+use Rattle.xmpp_live.specs.Sessions.{Session, ack_answer, ended_of, is_too_high, resume_answer, resume_ok, send_count, session_named, session_of, session_resumed}
 use Rattle.xmpp_live.specs.declared.told.Told.{Told}
 use Rattle.xmpp_login.specs.Headers.{header_answer}
 use Rattle.xmpp_login.specs.Negotiations.{LoginView, auth_answer, final_answer}
@@ -37,20 +35,17 @@ use Rattle.xmpp_names.specs.declared.headers.Header.{Header}
 use Rattle.xmpp_put_fits.proofs.Logins.{header_fits, header_plain, stream_id_said}
 use Rattle.xmpp_put_fits.proofs.Replies.{ack_read, enabled_read, login_features_read, refused_read, resumed_read, session_features_read, too_high_read}
 use Rattle.xmpp_put_fits.proofs.Requests.{bound_fine, bound_stays, iq_error_read, result_read, resumable_read}
-use Rattle.xmpp_replies.specs.Management.{ack_item, enabled_item, refused_item, request_item, resumable_item, resumed_item}
-use Rattle.xmpp_replies.specs.Requests.{bound_item, iq_error_item}
-use Rattle.xmpp_replies.specs.Streams.{error_item, header_item, login_features_item, session_features_item, stream_id, too_high_item}
+use Rattle.xmpp_replies.specs.Streams.{error_item, header_item, stream_id, too_high_item}
 use Rattle.xmpp_replies.specs.declared.conditions.StreamCondition.{StreamCondition}
 use Rattle.xmpp_replies.specs.declared.conditions.StreamCondition.TheVariants as stream
-use Rattle.xmpp_resume.specs.declared.answers.Ended.{Ended}
 use Rattle.xmpp_resume.specs.declared.answers.ResumeFault.{ResumeFault}
 use Rattle.xmpp_resume.specs.declared.answers.ResumeFault.TheVariants.{TooHigh as TooHighFault, UnknownPrevid}
 use Rattle.xmpp_resume.specs.declared.answers.ResumeOk.{ResumeOk}
 use Rattle.xmpp_server_fits.proofs.Addresses.{full_said}
-use Rattle.xmpp_server_fits.proofs.Lists.{Values, each_drop, each_found, value_found}
+use Rattle.xmpp_server_fits.proofs.Lists.{each_drop, each_found}
 use Rattle.xmpp_server_fits.proofs.LoginsKept.{AnswerKeeps, LoginKeeps, auth_keeps, failure_item_read, final_keeps}
 use Rattle.xmpp_server_fits.proofs.StepsKept.{closing_read, error_item_read, request_item_read, whole_read}
-use Rattle.xmpp_server_fits.specs.Keeps.{ActKeeps, ActsKeep, ConnectionKeeps, HallKeeps, IsDrawn, IsRead, SessionKeeps}
+use Rattle.xmpp_server_fits.specs.Keeps.{ActsKeep, HallKeeps, IsDrawn, IsRead, SessionKeeps}
 use Rattle.xmpp_server_fits.specs.Words.{WordComes}
 use Rattle.xmpp_server_maps.specs.Images.{itself}
 use Rattle.xmpp_session_rows.specs.Bindings.{asked_resource, at_bind, bad_request, binding_as, chosen, former_of}
@@ -65,7 +60,7 @@ use Rattle.xmpp_stanza.specs.declared.conditions.Condition.{Condition}
 use Rattle.xmpp_stanza.specs.declared.conditions.Condition.TheVariants.{ItemNotFound, UnexpectedRequest}
 use Rattle.xmpp_tokens.specs.Lines.{IsCharacters}
 use Rattle.xmpp_trees.specs.Trees.{Elem}
-use Rattle.xmpp_writer.specs.Items.{Closing, ItemOut}
+use Rattle.xmpp_writer.specs.Items.{ItemOut}
 
 -- ---- how streams begin and end
 
@@ -199,7 +194,7 @@ bound_as k account id None h keeps said o = (whole_read _ (iq_error_read 0 39321
 bound_as k account id (Some resource) h keeps said o = (
   o,
   parting_where_kept (former_of (option_map ended_of (session_named account resource h.sessions))) (error_item stream.Conflict) _ (error_item_read stream.Conflict)
-  (whole_read _ (result_read 0 393216 0 2 19226 (record { from = None; to = None; id = id }) _ tt said tt (bound_stays _) (bound_fine 18426 _ (full_said account resource h keeps o)) (omega arith) (omega arith)), tt),
+      (whole_read _ (result_read 0 393216 0 2 19226 (record { from = None; to = None; id = id }) _ tt said tt (bound_stays _) (bound_fine 18426 _ (full_said account resource h keeps o)) (omega arith) (omega arith)), tt),
 )
 
 pub bind_kept : (k account : ℕ) (id : List ℕ) (bind : Elem) (h : Hall ItemOut) → HallKeeps h → Said 393216 id → IsCharacters (asked_resource bind) → ActsKeep (at_bind itself k account id bind h)
@@ -290,7 +285,7 @@ resuming_kept k account previd m (Ok r) waiting small h w = (
   (
     tt,
     parting_where_kept r.former (error_item stream.Conflict) _ (error_item_read stream.Conflict)
-    (whole_read _ (resumed_read r.number r.handled (wider r.handled h)), saying_kept k waiting (asking itself k r.number (nat_le ASKS_AT (length waiting))) w (asking_kept k r.number (nat_le ASKS_AT (length waiting)))),
+        (whole_read _ (resumed_read r.number r.handled (wider r.handled h)), saying_kept k waiting (asking itself k r.number (nat_le ASKS_AT (length waiting))) w (asking_kept k r.number (nat_le ASKS_AT (length waiting)))),
   ),
 )
 

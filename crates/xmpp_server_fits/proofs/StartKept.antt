@@ -1,25 +1,22 @@
 -- What a server begins with keeps to it.
-use Rattle.std.proofs.Common.{◌≡◌, ℕ, zero, suc, ◌+◌, ◌*◌, ◌<◌, ◌≤◌, ◌^◌, ◌/◌, Bool, true, false, not, List, [], ◌∷◌, ◌++◌, Option, Some, None, Result, Ok, Err, bytes_eq, length, map, take, refl, subst, arith, lit<}
+use Rattle.std.proofs.Common.{◌≡◌, ℕ, zero, suc, ◌<◌, ◌^◌, ◌/◌, true, List, [], ◌∷◌, ◌++◌, Result, Ok, Err, refl, subst, arith, lit<}
 use Rattle.std.proofs.Math.Nat.{mod-lt}
 use Rattle.std.proofs.lemmas.Slice.Eq.{bytes_eq-Decides}
 use Rattle.std.specs.Int.{byte_at, bytes_high_first, to_be_bytes, w32}
-use Rattle.std.specs.List.{AllByRecursion, list_all}
+use Rattle.std.specs.List.{AllByRecursion}
 use Rattle.std.specs.Prelude.{slice_index}
 use Rattle.base64.specs.GeneralPurpose.{IsBytes}
 use Rattle.sha2.proofs.Facts256.{length-sha256}
 use Rattle.sha2.specs.Sha256.{digest_bytes, sha256}
-use Rattle.xmpp_desk.specs.State.{Kept}
 use Rattle.xmpp_jid.specs.Forms.{domain_form, local_form}
 use Rattle.xmpp_jid.specs.declared.fault.JidFault.{JidFault}
 use Rattle.xmpp_login.specs.Accounts.{account_of, bare_text, is_form, is_normal_local}
 use Rattle.xmpp_login.specs.declared.account.Account.{Account}
-use Rattle.xmpp_scram.specs.Exchange.{salt_of}
-use Rattle.xmpp_server.specs.Configs.{archives_of, empty_kept, hall_at_start, is_normal_domain}
+use Rattle.xmpp_server.specs.Configs.{archives_of, hall_at_start, is_normal_domain}
 use Rattle.xmpp_server_fits.proofs.LoginsKept.{all_bytes, first_bytes, take_shorter}
 use Rattle.xmpp_server_fits.specs.Keeps.{AccountKeeps, ArchiveKeeps, HallKeeps}
 use Rattle.xmpp_sizes.proofs.Addresses.{domain_said, local_said}
 use Rattle.xmpp_sizes.specs.Texts.{Said}
-use Rattle.xmpp_writer.specs.Items.{ItemOut}
 
 -- ---- digests are bytes
 

@@ -1,24 +1,24 @@
 -- Each small step keeps what a server keeps to.
-use Rattle.std.proofs.Common.{◌≡◌, ℕ, ◌+◌, ◌-◌, ◌%◌, ◌^◌, ◌<◌, ◌≤◌, ◌==◌, Bool, true, false, not, List, [], ◌∷◌, ◌++◌, Option, Some, None, IfSome, cond, drop, length, refl, arith, length-append, length-drop}
+use Rattle.std.proofs.Common.{◌≡◌, ℕ, ◌+◌, ◌-◌, ◌^◌, ◌<◌, ◌==◌, Bool, true, false, not, List, [], ◌∷◌, ◌++◌, Option, Some, None, IfSome, cond, length, refl, arith, length-drop}
 use Rattle.std.specs.List.{AllByRecursion}
 use Rattle.xmpp_acks.specs.Counters.{ahead}
 use Rattle.xmpp_acks.specs.declared.end.TheConstants.{MOST_UNACKNOWLEDGED}
-use Rattle.xmpp_archive.specs.Entries.{EntryView, newest, numbered}
-use Rattle.xmpp_desk.specs.State.{Hall, Kept, Out, Put, Shut, Step, Took, archive_at, changed, conn_at, is_number, with_conn, with_sessions, without_conn}
+use Rattle.xmpp_archive.specs.Entries.{EntryView, numbered}
+use Rattle.xmpp_desk.specs.State.{Hall, Kept, Put, Shut, Step, Took, archive_at, changed, conn_at, is_number, with_conn, with_sessions}
 use Rattle.xmpp_desk.specs.Steps as steps
 use Rattle.xmpp_desk.specs.Steps.{Act, act, acted, after_failure, appended, archived_in, ask_where, binds, in_hall, in_phase, in_sessions, is_due, overflow, part, part_where, put, put_where, queue, send, send_told, shut, told_out}
 use Rattle.xmpp_desk.specs.declared.connection.Connection.{Connection}
-use Rattle.xmpp_live.specs.Sessions.{Session, acknowledged, after_resume, asks, bound, copies, enables, fresh, handles, is_too_high, less, presents, resumes, session_named, session_resumed, told_of, waits, with_session, without, without_at}
+use Rattle.xmpp_live.specs.Sessions.{Session, acknowledged, after_resume, asks, bound, copies, enables, fresh, handles, is_too_high, less, presents, resumes, session_named, session_resumed, told_of, waits, with_session, without}
 use Rattle.xmpp_live.specs.declared.told.Told.{Told}
 use Rattle.xmpp_put_fits.proofs.Forwarding.{numbered_fits}
 use Rattle.xmpp_put_fits.proofs.Replies.{error_read, request_read}
 use Rattle.xmpp_put_fits.specs.Fine.{ClientReads}
 use Rattle.xmpp_put_fits.specs.Messages.{EntryFits}
 use Rattle.xmpp_replies.specs.Management.{request_item}
-use Rattle.xmpp_replies.specs.Streams.{error_item, stream_condition_name}
+use Rattle.xmpp_replies.specs.Streams.{error_item}
 use Rattle.xmpp_replies.specs.declared.conditions.StreamCondition.{StreamCondition}
 use Rattle.xmpp_replies.specs.declared.conditions.StreamCondition.TheVariants.{ResourceConstraint}
-use Rattle.xmpp_server_fits.proofs.Lists.{Values, each_append, each_changed, each_drop, each_filter, each_found, each_got, each_set, value_found, values_left, values_set}
+use Rattle.xmpp_server_fits.proofs.Lists.{Values, each_append, each_changed, each_drop, each_filter, each_got, each_set, value_found, values_left, values_set}
 use Rattle.xmpp_server_fits.specs.Keeps.{ActKeeps, ActsKeep, ArchiveKeeps, ConnectionKeeps, HallKeeps, IsRead, OutIsRead, SessionKeeps, StepKeeps}
 use Rattle.xmpp_server_maps.specs.Images.{itself}
 use Rattle.xmpp_sizes.specs.Texts.{Said}

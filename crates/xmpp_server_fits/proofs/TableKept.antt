@@ -1,12 +1,10 @@
 -- What comes of an item is read.
-use Rattle.std.proofs.Common.{◌≡◌, ℕ, ◌+◌, ◌-◌, ◌≤◌, ◌<◌, ◌^◌, max, Bool, true, false, not, List, [], ◌∷◌, ◌++◌, Option, Some, None, IfSome, Result, Ok, Err, cond, codes, refl, subst, sym, ap, arith, inl, inr}
-use Rattle.std.specs.BTreeMap.{insert_entry}
+use Rattle.std.proofs.Common.{◌≡◌, ℕ, Bool, true, false, List, [], ◌∷◌, Option, Some, None, IfSome, Result, Ok, Err, cond, codes, refl, arith}
 use Rattle.std.specs.List.{AllByRecursion}
 use Rattle.std.specs.Option.{option_map}
-use Rattle.std.specs.Ordering.{nat_cmp}
 use Rattle.xmpp_desk.specs.Handling.{counting}
 use Rattle.xmpp_desk.specs.State.{Hall, Step, conn_at, is_number, session_address}
-use Rattle.xmpp_desk.specs.Steps.{Act, acted}
+use Rattle.xmpp_desk.specs.Steps.{Act}
 use Rattle.xmpp_desk.specs.Streams.{standing_at, standing_of}
 use Rattle.xmpp_desk.specs.Words.{word_of}
 use Rattle.xmpp_desk.specs.declared.connection.Connection.{Connection}
@@ -27,13 +25,13 @@ use Rattle.xmpp_replies.specs.declared.conditions.StreamCondition.TheVariants.{N
 use Rattle.xmpp_server.specs.Events.{after_fault, at_fault, fault_condition}
 use Rattle.xmpp_server.specs.Table.{after_item, after_items, at_item, at_open, at_word}
 use Rattle.xmpp_server_fits.proofs.Addresses.{session_said}
-use Rattle.xmpp_server_fits.proofs.Lists.{each_found, there, value_found}
+use Rattle.xmpp_server_fits.proofs.Lists.{each_found, value_found}
 use Rattle.xmpp_server_fits.proofs.MessagesKept.{message_kept}
 use Rattle.xmpp_server_fits.proofs.Readings.{word_comes}
 use Rattle.xmpp_server_fits.proofs.RequestsKept.{iq_kept}
 use Rattle.xmpp_server_fits.proofs.RowsKept.{ToldKeeps, ack_kept, any_kept, bind_kept, challenge_kept, closing_kept, enable_kept, ending_kept, header_kept, login_kept, refusing_kept, request_kept, resume_kept}
 use Rattle.xmpp_server_fits.proofs.StepsKept.{acts_kept, whole_read}
-use Rattle.xmpp_server_fits.specs.Keeps.{ActKeeps, ActsKeep, Comes, ConnectionKeeps, HallKeeps, IsDrawn, IsRead, SessionKeeps, StepKeeps}
+use Rattle.xmpp_server_fits.specs.Keeps.{ActsKeep, Comes, ConnectionKeeps, HallKeeps, IsDrawn, IsRead, SessionKeeps, StepKeeps}
 use Rattle.xmpp_server_fits.specs.Words.{BindsFit, ReadFits, WordComes}
 use Rattle.xmpp_server_maps.specs.Images.{itself}
 use Rattle.xmpp_stanza.specs.Views.{IqView}

@@ -1,5 +1,5 @@
 -- What is known of the words that an element is read as, and of stanzas.
-use Rattle.std.specs.Prelude.{ℕ, ◌≡◌, ◌<◌, ◌^◌, Bool, false, List, ◌∷◌, Option, Some, IfSome, Result, Ok, Err, codes}
+use Rattle.std.specs.Prelude.{ℕ, ◌≡◌, ◌<◌, ◌^◌, false, List, ◌∷◌, Some, IfSome, Result, Ok, Err, codes}
 use Rattle.xmpp_desk.specs.declared.word.Word.{Word}
 use Rattle.xmpp_desk.specs.declared.word.Word.TheVariants as word
 use Rattle.xmpp_framing_laws.specs.Plain.{IsPlain}

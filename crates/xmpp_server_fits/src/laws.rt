@@ -1,5 +1,5 @@
 //! The laws.
-ghost use Rattle.std.specs.Prelude.{◌≡◌, ◌<◌, ◌^◌, ℕ, List, [], Option, None, IfSome, true};
+ghost use Rattle.std.specs.Prelude.{◌≡◌, ◌<◌, ◌^◌, ℕ, List, [], ◌++◌, Option, None, IfSome, true};
 ghost use Rattle.std.specs.List.{AllByRecursion};
 ghost use Rattle.xmpp_desk.specs.Moments.{at_moment, gone_at, with_fresh};
 ghost use Rattle.xmpp_desk.specs.State.{Hall, Out, Step};
@@ -40,8 +40,11 @@ pub fn moments_keep_what_is_read()
 
 /// A law: what a framer with a server's limits gives comes so. As long as there is no fault each element is plain, can be
 /// written within the limits of a stanza if its bytes are not too many, and no text of its own is longer than its bytes.
+/// So do the items of a piece behind bytes before it.
 pub fn what_a_framer_gives_comes()
-    ensures { (bytes : List ℕ) → (run (turn (from_start server_limits) []) bytes).state.fault ≡ None → AllByRecursion Comes (run (turn (from_start server_limits) []) bytes).items }
+    ensures whole { (bytes : List ℕ) → (run (turn (from_start server_limits) []) bytes).state.fault ≡ None → AllByRecursion Comes (run (turn (from_start server_limits) []) bytes).items }
+    ensures piece { (before piece : List ℕ) → (run (turn (from_start server_limits) []) (before ++ piece)).state.fault ≡ None
+        → AllByRecursion Comes (turn_of piece (run (turn (from_start server_limits) []) before).state).items }
 {}
 
 /// A law: what a server begins with keeps to it. Its domain is in normal form, and its accounts are such as are made of a

@@ -1,5 +1,5 @@
 -- Events of bytes go through, and so do the relations of a server's clauses.
-use Rattle.std.proofs.Common.{◌≡◌, ℕ, List, [], ◌∷◌, Option, Some, None, length, drop, map, refl, sym, ap, ◌∙◌}
+use Rattle.std.proofs.Common.{◌≡◌, ℕ, List, [], ◌∷◌, Option, Some, None, length, drop, refl, sym, ap, ◌∙◌}
 use Rattle.std.proofs.lemmas.List.{drop-map, length-map}
 use Rattle.xmpp_desk.specs.Moments.{gone_at}
 use Rattle.xmpp_desk.specs.State.{Hall, Out, Put, Shut, Step, Took, is_number}
@@ -11,7 +11,7 @@ use Rattle.xmpp_framing.specs.States.{Turn}
 use Rattle.xmpp_framing.specs.declared.fault.Fault.{Fault}
 use Rattle.xmpp_framing.specs.declared.items.Item.{Item}
 use Rattle.std.specs.Map.{remove_entry}
-use Rattle.xmpp_server.specs.Events.{Framers, IsAfterBytes, StopsAt, Whole, after_bytes, after_fault, after_turn, at_fault, at_piece, begun, dropped, dropped_at, fault_condition, fed, framer_at, news, turn_of}
+use Rattle.xmpp_server.specs.Events.{Framers, IsAfterBytes, StopsAt, Whole, after_bytes, after_fault, after_turn, at_fault, at_piece, begun, dropped, fault_condition, fed, framer_at, news, turn_of}
 use Rattle.xmpp_server.specs.Table.{after_item, after_items}
 use Rattle.xmpp_server_laws.proofs.StepsTurned.{steps_by}
 use Rattle.xmpp_server_laws.proofs.StreamsTurned.{ending_turned}

@@ -1,5 +1,5 @@
 -- Addresses in normal form are texts of XML's characters, and short (RFC 7622, sections 3.1 to 3.4).
-use Rattle.std.proofs.Common.{◌≡◌, ℕ, ◌+◌, ◌*◌, ◌≤◌, ◌<◌, nat_lt, get_or, Bool, true, false, not, ◌&&◌, ◌==◌, List, [], ◌∷◌, ◌++◌, Option, Some, None, Result, Ok, Err, IfSome, IsUtf8, chars, drop, take, length, encode_utf8_all, refl, sym, subst, ap, ◌∙◌, inl, inr, arith, ltb-true, eqb-true}
+use Rattle.std.proofs.Common.{◌≡◌, ℕ, ◌+◌, ◌<◌, nat_lt, get_or, true, ◌&&◌, ◌==◌, List, [], ◌∷◌, ◌++◌, Option, Some, None, Result, Ok, Err, IfSome, IsUtf8, chars, drop, take, length, encode_utf8_all, refl, sym, subst, ap, ◌∙◌, inl, inr, arith, ltb-true, eqb-true}
 use Rattle.std.proofs.lemmas.Bool.{and_from, and_parts, cases_Bool}
 use Rattle.std.proofs.lemmas.Bool.Decides.{nat_tests}
 use Rattle.std.proofs.lemmas.List.{take-append-drop}
@@ -18,10 +18,10 @@ use Rattle.xmpp_jid.specs.Forms.{domain_form, fits_resource, is_local_byte, is_r
 use Rattle.xmpp_jid.specs.Normal.{behind_slash, followed_by_at, joined, local_front, normal, resource_back}
 use Rattle.xmpp_jid.specs.declared.fault.JidFault.{JidFault}
 use Rattle.xmpp_jid.specs.declared.fault.JidFault.TheVariants.{BadResource, Empty}
-use Rattle.xmpp_sizes.proofs.Characters.{from_those, said_append, said_more, said_printable, said_word, those_of}
+use Rattle.xmpp_sizes.proofs.Characters.{from_those, said_append, said_printable, said_word, those_of}
 use Rattle.xmpp_sizes.proofs.NormalForms.{is_sound, nfc_sound}
 use Rattle.xmpp_sizes.proofs.TextSizes.{value_short}
-use Rattle.xmpp_sizes.specs.Texts.{Said, is_printable, value_size}
+use Rattle.xmpp_sizes.specs.Texts.{Said, is_printable}
 use Rattle.xmpp_tokens.specs.Characters.{is_character}
 use Rattle.xmpp_tokens.specs.Lines.{IsCharacters}
 

@@ -1,5 +1,5 @@
 -- Texts of XML's characters, put together.
-use Rattle.std.proofs.Common.{◌≡◌, ℕ, ◌+◌, ◌*◌, ◌≤◌, ◌<◌, nat_le, Bool, true, false, ◌&&◌, List, [], ◌∷◌, ◌++◌, length, IsAscii, IsUtf8, chars, refl, sym, ap, ◌∙◌, arith, leb-true}
+use Rattle.std.proofs.Common.{◌≡◌, ℕ, ◌+◌, ◌*◌, ◌≤◌, ◌<◌, nat_le, true, List, [], ◌∷◌, ◌++◌, length, IsAscii, IsUtf8, chars, refl, sym, ap, ◌∙◌, arith, leb-true}
 use Rattle.std.proofs.lemmas.Bool.{and_from, and_parts}
 use Rattle.std.proofs.lemmas.Bool.Decides.{nat_tests}
 use Rattle.std.proofs.lemmas.List.Folds.{list_all-append}
@@ -8,9 +8,9 @@ use Rattle.std.proofs.lemmas.Str.{IsUtf8-append, IsUtf8-from_ascii, chars-IsAsci
 use Rattle.std.proofs.lemmas.Str.Ascii.{IsAscii-from_all}
 use Rattle.std.specs.List.{list_all}
 use Rattle.xmpp_sizes.proofs.TextSizes.{value_append, value_short}
-use Rattle.xmpp_sizes.specs.Texts.{Said, is_printable, value_size}
+use Rattle.xmpp_sizes.specs.Texts.{Said, is_printable}
 use Rattle.xmpp_tokens.proofs.CharacterLaws.{characters_are_those}
-use Rattle.xmpp_tokens.specs.Characters.{are_characters, is_character}
+use Rattle.xmpp_tokens.specs.Characters.{is_character}
 use Rattle.xmpp_tokens.specs.Lines.{IsCharacters}
 
 pub from_those : (t : List ℕ) → IsUtf8 t → list_all is_character (chars t) ≡ true → IsCharacters t

@@ -1,10 +1,9 @@
 -- How long elements are as they are written.
-use Rattle.std.proofs.Common.{◌≡◌, ℕ, ◌+◌, ◌*◌, ◌≤◌, Bool, true, false, not, ◌&&◌, ◌||◌, List, [], ◌∷◌, ◌++◌, bytes_eq, codes, cond, Option, Some, None, length, unwrap_or, refl, sym, ap, subst, ◌∙◌, inl, inr, arith, length-append}
+use Rattle.std.proofs.Common.{◌≡◌, ℕ, ◌+◌, ◌*◌, ◌≤◌, Bool, true, false, not, List, [], ◌∷◌, ◌++◌, bytes_eq, codes, cond, Option, Some, None, length, unwrap_or, refl, sym, ap, subst, ◌∙◌, inl, inr, arith, length-append}
 use Rattle.std.proofs.lemmas.Bool.{and_parts, cases_Bool, false≢true}
 use Rattle.std.proofs.lemmas.Grind.{flat_map-append}
 use Rattle.std.proofs.lemmas.Option.{same_Some}
 use Rattle.std.proofs.lemmas.Slice.Eq.{bytes_eq-Decides}
-use Rattle.std.specs.List.{find}
 use Rattle.std.specs.Option.{option_map}
 use Rattle.xmpp_names.specs.Scopes.{xml_namespace}
 use Rattle.xmpp_sizes.proofs.TextSizes.{text_append, text_nothing}
@@ -18,7 +17,7 @@ use Rattle.xmpp_trees.specs.Attributes.{Attribute, found, has_name}
 use Rattle.xmpp_trees.specs.Readers.{attr_of, text_of}
 use Rattle.xmpp_trees.specs.Tidied.{text_node, texts_joined}
 use Rattle.xmpp_trees.specs.Trees.{Elem, Nodes, child, element, joined, namespace_of, no_nodes, nodes_of, text}
-use Rattle.xmpp_writer.specs.Canon.{assignment, assignments, behind_attributes, declared_default, declares_default, default_inside, foreign, has_nothing, is_foreign, next_number, number_text, opened, spelled, spelled_attribute, spelled_attributes, spelled_name, streams_namespace, tag_attributes, written, written_nodes}
+use Rattle.xmpp_writer.specs.Canon.{assignment, assignments, behind_attributes, declared_default, declares_default, default_inside, has_nothing, is_foreign, next_number, number_text, opened, spelled, spelled_attribute, spelled_attributes, spelled_name, streams_namespace, tag_attributes, written, written_nodes}
 
 -- ---- attributes as they are spelled
 
@@ -110,7 +109,12 @@ element_up default ns name attrs kids local =
     let inside = written_nodes (default_inside default ns) kids in
     let behind = behind_written (has_nothing kids) ns name inside in
     omega (
-      arith, tag, declared, given, behind, assignments_add (declared_default default ns) (spelled_attributes 0 attrs),
+      arith,
+      tag,
+      declared,
+      given,
+      behind,
+      assignments_add (declared_default default ns) (spelled_attributes 0 attrs),
       length-append (spelled_name ns name) (assignments (tag_attributes default ns attrs)),
       length-append (opened default ns name attrs) (behind_attributes (has_nothing kids) ns name inside),
     )
@@ -145,7 +149,10 @@ value_and_nodes default ns name (element own called attrs kids) v is =
     let inside = written_nodes (default_inside default own) kids in
     let behind = inside_written (default_inside default own) own called kids in
     omega (
-      arith, value, behind, assignments_add (declared_default default own) (spelled_attributes 0 attrs),
+      arith,
+      value,
+      behind,
+      assignments_add (declared_default default own) (spelled_attributes 0 attrs),
       length-append (spelled_name own called) (assignments (tag_attributes default own attrs)),
       length-append (opened default own called attrs) (behind_attributes (has_nothing kids) own called inside),
     )
@@ -190,7 +197,12 @@ texts_joined_size default run (child e rest) =
     let after = texts_joined_size default [] rest in
     let none = text_nothing in
     omega (
-      arith, after, none, text_node_size default run, joined_size default (text_node run) (child e (texts_joined [] rest)), child_size default e (texts_joined [] rest),
+      arith,
+      after,
+      none,
+      text_node_size default run,
+      joined_size default (text_node run) (child e (texts_joined [] rest)),
+      child_size default e (texts_joined [] rest),
       child_size default e rest,
     )
 texts_joined_size default run (text t rest) = let after = texts_joined_size default (run ++ t) rest in omega (arith, after, text_append run t, texts_size default t rest)
@@ -247,8 +259,13 @@ less : (default ns name : List ℕ) (fewer attrs : List Attribute) (inner kids :
 unfolding element_size
 less default ns name fewer attrs inner kids h k =
     omega (
-      arith, h, k, assignments_add (declared_default default ns) (spelled_attributes 0 fewer), assignments_add (declared_default default ns) (spelled_attributes 0 attrs),
-      length-append (spelled_name ns name) (assignments (tag_attributes default ns fewer)), length-append (spelled_name ns name) (assignments (tag_attributes default ns attrs)),
+      arith,
+      h,
+      k,
+      assignments_add (declared_default default ns) (spelled_attributes 0 fewer),
+      assignments_add (declared_default default ns) (spelled_attributes 0 attrs),
+      length-append (spelled_name ns name) (assignments (tag_attributes default ns fewer)),
+      length-append (spelled_name ns name) (assignments (tag_attributes default ns attrs)),
       length-append (opened default ns name fewer) (behind_attributes (has_nothing inner) ns name (written_nodes (default_inside default ns) inner)),
       length-append (opened default ns name attrs) (behind_attributes (has_nothing kids) ns name (written_nodes (default_inside default ns) kids)),
     )
