@@ -1,0 +1,11 @@
+pub use Rattle.xmpp_edge.specs.Counts
+pub use Rattle.xmpp_halves.specs.Halves
+pub use Rattle.xmpp_journal.specs.Journals
+pub use Rattle.xmpp_owner.specs.Events
+pub use Rattle.xmpp_owner.specs.Halves as TakersHalves
+pub use Rattle.xmpp_rerun.specs.Reruns
+pub use Rattle.xmpp_senders.specs.Sendings
+pub use Rattle.xmpp_serving.specs.Journaling
+pub use Rattle.xmpp_serving.specs.Visits
+-- view
+pub mod Records

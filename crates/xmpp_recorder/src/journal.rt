@@ -1,0 +1,38 @@
+//! The journal of a server's events.
+ghost use Rattle.std.specs.Prelude.{◌≡◌, ◌++◌, ◌<◌, ◌^◌, IfOk, OnOk, length};
+ghost use Rattle.xmpp_journal.specs.Journals.{event_view, events_text};
+ghost use Rattle.xmpp_recorder.specs.Records.{run_of_file, views_of};
+ghost use Rattle.xmpp_serving.specs.Journaling.{journal_text};
+
+use std::alloc::Global;
+use xmpp_edge::{Bytes, NoMemory};
+use xmpp_journal::{AccountsFile, Event};
+use xmpp_journal_text::append_event;
+use xmpp_server::Server;
+use xmpp_serving::{begin, finish};
+
+// Adds the lines of events.
+fn append_events(alloc: Global, out: &mut Bytes, events: &[Event]) -> Result<(), NoMemory>
+    ensures { OnOk result (out.new.items ≡ out.old.items ++ events_text (views_of events.now)) }
+{
+    for event in events {
+        append_event(alloc, out, event)?;
+    }
+    Ok(())
+}
+
+/// The journal of a server of an accounts file: a line for each event that it took, and its archives.
+pub fn journal_of(
+    alloc: Global,
+    file: &AccountsFile,
+    server: Server,
+    events: &[Event],
+) -> Result<Bytes, NoMemory>
+    requires few { length file.now.accounts < 2 ^ 32 }
+    requires server { server ≡ (run_of_file file.now (views_of events.now)).server }
+    ensures { IfOk result (λ text. text.items ≡ journal_text file.now (views_of events.now)) }
+{
+    let mut journal = begin(alloc, file.version)?;
+    append_events(alloc, &mut journal, events)?;
+    finish(server, journal, file)
+}
