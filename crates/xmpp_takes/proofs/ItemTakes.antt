@@ -1,8 +1,9 @@
 -- What one item archives: a message of the session on its connection, or nothing.
-use Rattle.std.proofs.Common.{◌≡◌, ℕ, Bool, true, false, List, Option, Some, None, Result, Ok, Err, refl}
+use Rattle.std.proofs.Common.{◌≡◌, ℕ, Bool, true, false, List, Option, Some, None, Result, Ok, Err, refl, ap, ◌∙◌}
 use Rattle.std.specs.Option.{IfSome, option_map}
 use Rattle.xmpp_desk.specs.Handling.{counting}
-use Rattle.xmpp_desk.specs.State.{Hall}
+use Rattle.xmpp_message_rows.specs.Messages.{is_full_at}
+use Rattle.xmpp_desk.specs.State.{archive_at, Hall}
 use Rattle.xmpp_desk.specs.Steps.{Act}
 use Rattle.xmpp_desk.specs.Words.{word_of}
 use Rattle.xmpp_desk.specs.declared.connection.Stage.{Stage}
@@ -36,7 +37,7 @@ record IsBound {A : Type 0} (k : ℕ) (e : Elem) (w : Word) (t : Session A) (h :
 
 taken_from : {A : Type 0} (k : ℕ) (e : Elem) (m : _) (t : Session A) (h : Hall A) → IsBound k e (word.Stanza false (Ok (stanza.Message m))) t h → (o : Option Taken) → IfSome o (IsTakenOf m (told t) h) → IfSome o (IsTakenFrom k (item.Element e) h)
 taken_from k e m t h is None of = tt
-taken_from k e m t h is (Some taken) of = record { session = t; is_on = is.on; message = m; reads = is.read; sender = of.sender; addressee = of.addressee; entry = of.entry }
+taken_from k e m t h is (Some taken) of = record { session = t; is_on = is.on; message = m; reads = is.read; sender = of.sender; addressee = of.addressee; sender_room = ap (λ place. is_full_at (archive_at place h)) of.sender ∙ of.sender_room; addressee_room = of.addressee_room; entry = of.entry }
 
 handled : {A : Type 0} (say : ItemOut → A) (k : ℕ) (e : Elem) (read : Result Stanza StanzaFault) (t : Session A) (h : Hall A) → IsBound k e (word.Stanza false read) t h
     → Marks (IsTakenFrom k (item.Element e) h) (handling say read (told t) h)

@@ -11,4 +11,5 @@ pub mod ItemFits
 pub mod SoundEvents
 -- ---- what is taken
 pub mod ArchiveEntries
+pub mod NumbersWithin
 pub mod PieceTakes

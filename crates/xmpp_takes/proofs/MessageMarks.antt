@@ -1,12 +1,15 @@
 -- The row on messages archives one message or none, in the archives of its sender and of the account that it is to.
-use Rattle.std.proofs.Common.{◌≡◌, ℕ, ◌==◌, Bool, true, false, cond, List, [], ◌∷◌, Option, Some, None, refl, sym, ap, subst, ◌∙◌, ◌⊎◌, inl, inr}
+use Rattle.std.proofs.Common.{◌≡◌, ℕ, ◌==◌, ◌||◌, Bool, true, false, cond, List, [], ◌∷◌, Option, Some, None, refl, sym, ap, subst, ◌∙◌, ◌⊎◌, inl, inr}
+use Rattle.std.proofs.lemmas.Bool.{false≢true}
+use Rattle.std.specs.List.{list_any}
 use Rattle.std.specs.Option.{IfSome, unwrap_or}
-use Rattle.xmpp_desk.specs.State.{Hall, bare_address, session_address}
+use Rattle.xmpp_resume.proofs.RowFacts.{same_from_eqb}
+use Rattle.xmpp_desk.specs.State.{Hall, archive_at, bare_address, session_address}
 use Rattle.xmpp_desk.specs.Steps.{Act}
 use Rattle.xmpp_forwarding.specs.Passed.{addressed}
 use Rattle.xmpp_live.specs.Sessions.{Session, number_of, session_named, told_of}
 use Rattle.xmpp_live.specs.declared.told.Told.{Told}
-use Rattle.xmpp_message_rows.specs.Messages.{archiving, at_message, carrying, copying, copying_to, delivering, delivering_to, is_full_in, messaging, telling}
+use Rattle.xmpp_message_rows.specs.Messages.{archiving, at_message, bouncing, carrying, copying, copying_to, delivering, delivering_to, is_full_at, is_full_in, messaging, no_room, telling}
 use Rattle.xmpp_messages.specs.Entries.{entry_of}
 use Rattle.xmpp_route.specs.Destinations.{Bare, Destination, Full, NoUser, RemoteDomain, destination_of}
 use Rattle.xmpp_route.specs.Messages.{is_archived, is_chat, is_for_users}
@@ -134,6 +137,8 @@ marks_carried moment sender account m false sent quiet =
 pub record IsTakenOf {A : Type 0} (m : MessageView) (t : Told) (h : Hall A) (taken : Taken) : Type 0 where
   pub sender : taken.sender ≡ t.account
   pub addressee : account_of (destination_of h.domain h.accounts t.account m.to) ≡ Some taken.addressee
+  pub sender_room : is_full_at (archive_at t.account h) ≡ false
+  pub addressee_room : is_full_at (archive_at taken.addressee h) ≡ false
   pub entry : taken.entry ≡ entry_of 0 h.moment (addressed (session_address t.number h) (unwrap_or m.to (bare_address t.account h)) m)
 
 abbrev pub Marks : {A : Type 0} → (Taken → Type 0) → List (Act A) → Type 0
@@ -143,30 +148,48 @@ pub some_either : {A : Type 0} (P : Taken → Type 0) (b : Bool) (x y : List (Ac
 some_either P true x y here there = here
 some_either P false x y here there = there
 
+neither : (x y : Bool) → (x || y) ≡ false → (x ≡ false) × (y ≡ false)
+neither true y is = absurd (false≢true (sym is))
+neither false y is = (refl, is)
+
+-- neither archive is full
+room_either : (f : ℕ → Bool) (s a : ℕ) (b : Bool) → (s == a) ≡ b → list_any f (archives_of (cond b (Once a) (Both s a))) ≡ false → (f s ≡ false) × (f a ≡ false)
+room_either f s a true same none = (let here = neither (f a) false none in (subst (λ n. f n ≡ false) (sym (same_from_eqb s a same)) here.0, here.0))
+room_either f s a false same none = (let first = neither (f s) (f a || false) none in (first.0, (neither (f a) false first.1).0))
+
+room_both : (f : ℕ → Bool) (s a : ℕ) → list_any f (archives_of (once_or_both s a)) ≡ false → (f s ≡ false) × (f a ≡ false)
+room_both f s a none = room_either f s a (s == a) refl none
+
 carried : {A : Type 0} (say : ItemOut → A) (m : MessageView) (t : Told) (r : RouteOf ℕ) (h : Hall A)
     → IsPlanned (destination_of h.domain h.accounts t.account m.to) t.account (Routed r)
-    → Marks (IsTakenOf m t h) (carrying say (addressed (session_address t.number h) (unwrap_or m.to (bare_address t.account h)) m) (archives_of r.archiving) r h)
-carried say m t r h is =
+    → is_full_in (archives_of r.archiving) h ≡ false → Marks (IsTakenOf m t h) (carrying say (addressed (session_address t.number h) (unwrap_or m.to (bare_address t.account h)) m) (archives_of r.archiving) r h)
+carried say m t r h is room =
     let full = addressed (session_address t.number h) (unwrap_or m.to (bare_address t.account h)) m in
     let accounts = archives_of r.archiving in
     let received = copying say false full accounts r.received h [] in
     let copies = copying say true full accounts r.sent h received in
     let sent = delivering say full accounts r.deliver h copies in
     let quiet : marks sent ≡ [] = quiet_delivering say full accounts r.deliver h copies ∙ quiet_copying say true full accounts r.sent h received ∙ quiet_copying say false full accounts r.received h [] in
+    let rooms : (account : ℕ) → r.archiving ≡ once_or_both t.account account → (is_full_at (archive_at t.account h) ≡ false) × (is_full_at (archive_at account h) ≡ false) =
+    λ account planned_so. room_both (λ place. is_full_at (archive_at place h)) t.account account (subst (λ (x : Archiving). is_full_in (archives_of x) h ≡ false) planned_so room) in
     elim is [
       | inl nowhere ↦ (None, marks_once h.moment full r.archiving sent quiet nowhere, tt)
       | inr there ↦ (
         Some (record { sender = t.account; addressee = there.0; entry = entry_of 0 h.moment full }),
         ap (λ (a : Archiving). marks (archiving (entry_of 0 h.moment full) (archives_of a) (telling full (archives_of a) sent))) there.2
             ∙ marks_carried h.moment t.account there.0 full (t.account == there.0) sent quiet,
-        record { sender = refl; addressee = there.1; entry = refl },
+        record { sender = refl; addressee = there.1; sender_room = (rooms there.0 there.2).0; addressee_room = (rooms there.0 there.2).1; entry = refl },
       )
     ]
 
 message_marks : {A : Type 0} (say : ItemOut → A) (m : MessageView) (t : Told) (p : PlanOf ℕ) (h : Hall A)
     → IsPlanned (destination_of h.domain h.accounts t.account m.to) t.account p → Marks (IsTakenOf m t h) (messaging say m (unwrap_or m.to (bare_address t.account h)) t p h)
 message_marks say m t (Bounced e) h is = (None, refl, tt)
-message_marks say m t (Routed r) h is = some_either (IsTakenOf m t h) (is_full_in (archives_of r.archiving) h) _ _ (None, refl, tt) (carried say m t r h is)
+message_marks say m t (Routed r) h is = unless_full (is_full_in (archives_of r.archiving) h) refl
+  where
+    unless_full : (full : Bool) → is_full_in (archives_of r.archiving) h ≡ full → Marks (IsTakenOf m t h) (cond full (bouncing say m (unwrap_or m.to (bare_address t.account h)) no_room t) (carrying say (addressed (session_address t.number h) (unwrap_or m.to (bare_address t.account h)) m) (archives_of r.archiving) r h))
+    unless_full true is_full = (None, refl, tt)
+    unless_full false room = carried say m t r h is room
 
 pub at_message_marks : {A : Type 0} (say : ItemOut → A) (m : MessageView) (t : Told) (h : Hall A) → Marks (IsTakenOf m t h) (at_message say m t h)
 at_message_marks say m t h =

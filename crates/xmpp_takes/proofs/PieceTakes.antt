@@ -24,6 +24,7 @@ use Rattle.xmpp_takes.proofs.ArchiveEntries.{archives_get, gets_both, gets_nothi
 use Rattle.xmpp_takes.proofs.ItemTakes.{open_marks}
 use Rattle.xmpp_takes.proofs.Marks.{Books, Entry, Mark, Notice, acted_books, all_marking, books_of, marks}
 use Rattle.xmpp_takes.proofs.MessageMarks.{marks_of}
+use Rattle.xmpp_takes.proofs.NumbersWithin.{IsWithin, Rooms, within_taken}
 use Rattle.xmpp_takes.proofs.NumbersKept.{address_is, numbers_acted}
 use Rattle.xmpp_takes.proofs.QuietRows.{quiet_ending}
 use Rattle.xmpp_takes.specs.Accounts.{Exists, HaveAccounts}
@@ -67,8 +68,8 @@ moment_stays (Notice from to origin) b = refl
 
 -- these are the acts of a row
 by_acts : {A : Type 0} (say : ItemOut → A) (acts : List (Act A)) (s : Step A) (o : Option Taken) → marks acts ≡ marks_of o → AllByRecursion (λ (t : Taken). t.entry.stamp ≡ s.hall.moment) (at_most_one o) → AllByRecursion (IsTo s.hall) (at_most_one o)
-    → (IsSound s.hall → AllByRecursion (IsFromSender s.hall) (at_most_one o)) → (HaveAccounts s.hall → Fit s.hall.accounts acts) → HasTaken (at_most_one o) s (acted say acts s)
-by_acts say acts s o marked stamps addressees senders fit =
+    → (IsSound s.hall → AllByRecursion (IsFromSender s.hall) (at_most_one o)) → (HaveAccounts s.hall → Fit s.hall.accounts acts) → IfSome o (Rooms s.hall) → HasTaken (at_most_one o) s (acted say acts s)
+by_acts say acts s o marked stamps addressees senders fit rooms =
     let b = books_of s in
     let books : books_of (acted say acts s) ≡ all_marking (marks_of o) b = acted_books say acts s ∙ ap (λ ms. all_marking ms b) marked in
     record {
@@ -77,11 +78,15 @@ by_acts say acts s o marked stamps addressees senders fit =
       stamps = stamps;
       addressees = addressees;
       senders = senders;
-      sound = λ is. record { numbers = numbers_acted say acts s is.numbers; accounts = accounts_acted say acts s (fit is.accounts) is.accounts };
+      sound = λ is. record { numbers = numbers_acted say acts s is.numbers; accounts = accounts_acted say acts s (fit is.accounts) is.accounts; archives = λ p. subst IsWithin (sym (ap (λ (x : Books _). slice_get x.archives p) books ∙ archives_get o b p)) (within_taken s.hall o p rooms (is.archives p)) };
       domain = ap (λ (x : Books _). x.domain) books ∙ stays (λ (x : Books _). x.domain) domain_stays (marks_of o) b;
       accounts = ap (λ (x : Books _). x.accounts) books ∙ stays (λ (x : Books _). x.accounts) accounts_stay (marks_of o) b;
       moment = ap (λ (x : Books _). x.moment) books ∙ stays (λ (x : Books _). x.moment) moment_stays (marks_of o) b;
     }
+
+rooms_of_one : {A : Type 0} (k : ℕ) (i : Item) (h : Hall A) (o : Option Taken) → IfSome o (IsTakenFrom k i h) → IfSome o (Rooms h)
+rooms_of_one k i h None is = tt
+rooms_of_one k i h (Some t) is = (is.sender_room, is.addressee_room)
 
 pub item_takes : {A : Type 0} (say : ItemOut → A) (k : ℕ) (i : Item) (s : Step A) → (o : Option Taken) × HasTaken (at_most_one o) s (after_item say k i s) × IfSome o (IsTakenFrom k i s.hall)
 item_takes say k i s =
@@ -89,7 +94,7 @@ item_takes say k i s =
     let m = open_marks say k i standing s.hall in (
       m.0,
       by_acts say (at_open say k i standing s.hall) s m.0 m.1 (all_of_one m.0 (λ t is. ap (λ (e : EntryView). e.stamp) is.entry) m.2) (all_of_one m.0 (λ t is. is_to k i s.hall t is) m.2)
-          (λ sound. all_of_one m.0 (λ t is. is_from_sender k i s.hall t sound is) m.2) (fit_open say k i s.hall),
+          (λ sound. all_of_one m.0 (λ t is. is_from_sender k i s.hall t sound is) m.2) (fit_open say k i s.hall) (rooms_of_one k i s.hall m.0 m.2),
       m.2,
     )
 
@@ -168,7 +173,7 @@ fault_fits accounts say k f (Some st) h = fit_ending accounts say k (fault_condi
 
 fault_takes : {A : Type 0} (say : ItemOut → A) (k : ℕ) (o : Option Fault) (s : Step A) → HasTaken [] s (after_fault say k o s)
 fault_takes say k None s = takes_nothing s
-fault_takes say k (Some f) s = by_acts say (at_fault say k f (standing_at k s.hall) s.hall) s None (quiet_fault say k f (standing_at k s.hall) s.hall) tt tt (λ sound. tt) (λ have. fault_fits s.hall.accounts say k f (standing_at k s.hall) s.hall)
+fault_takes say k (Some f) s = by_acts say (at_fault say k f (standing_at k s.hall) s.hall) s None (quiet_fault say k f (standing_at k s.hall) s.hall) tt tt (λ sound. tt) (λ have. fault_fits s.hall.accounts say k f (standing_at k s.hall) s.hall) tt
 
 turn_takes : {A : Type 0} (say : ItemOut → A) (k : ℕ) (t : Turn) (s : Step A) → Takes s (after_turn say k t s)
 turn_takes say k t s =

@@ -1,9 +1,13 @@
--- What is so of a server's sessions and logins from the start.
-use Rattle.xmpp_desk.specs.State.{Hall}
+-- What is so of a server's sessions, logins and archives from the start.
+use Rattle.std.specs.Prelude.{ℕ, ◌≤◌, IfSome}
+use Rattle.xmpp_archive.specs.declared.archive.TheConstants.{GREATEST_NUMBER}
+use Rattle.xmpp_desk.specs.State.{Hall, Kept, archive_at}
 use Rattle.xmpp_takes.specs.Accounts.{HaveAccounts}
 use Rattle.xmpp_takes.specs.Numbers.{HaveNumbers}
 
--- sessions have numbers of their own, and are of accounts that exist, as logins are
+-- Sessions have numbers of their own, and are of accounts that exist, as logins are. No archive gave a number above the
+-- greatest.
 pub record IsSound {A : Type 0} (h : Hall A) : Type 0 where
   pub numbers : HaveNumbers h
   pub accounts : HaveAccounts h
+  pub archives : (account : ℕ) → IfSome (archive_at account h) (λ (kept : Kept). kept.last ≤ GREATEST_NUMBER)

@@ -11,6 +11,7 @@ use Rattle.xmpp_forwarding.specs.Passed.{addressed}
 use Rattle.xmpp_framing.specs.declared.items.Item.{Item}
 use Rattle.xmpp_framing.specs.declared.items.Item.TheVariants as item
 use Rattle.xmpp_live.specs.Sessions.{Session, session_at}
+use Rattle.xmpp_message_rows.specs.Messages.{is_full_at}
 use Rattle.xmpp_messages.specs.Entries.{entry_of}
 use Rattle.xmpp_route.specs.Destinations.{Bare, Destination, Full, NoUser, RemoteDomain, destination_of}
 use Rattle.xmpp_stanza.specs.Views.{MessageView}
@@ -100,7 +101,7 @@ Reads (item.Element e) m = word_of e ≡ word.Stanza false (Ok (stanza.Message m
 Reads i m = ⊥
 
 -- The item is a message of the session on this connection, and the entry is what an archive keeps of it: from the session's
--- address, and to the address that it was given or else to the session's bare address.
+-- address, and to the address that it was given or else to the session's bare address. Both archives have a number for it.
 pub record IsTakenFrom {A : Type 0} (k : ℕ) (i : Item) (h : Hall A) (t : Taken) : Type 0 where
   pub session : Session A
   pub is_on : session_at k h.sessions ≡ Some session
@@ -108,6 +109,8 @@ pub record IsTakenFrom {A : Type 0} (k : ℕ) (i : Item) (h : Hall A) (t : Taken
   pub reads : Reads i message
   pub sender : t.sender ≡ session.shown.account
   pub addressee : account_of (destination_of h.domain h.accounts session.shown.account message.to) ≡ Some t.addressee
+  pub sender_room : is_full_at (archive_at t.sender h) ≡ false
+  pub addressee_room : is_full_at (archive_at t.addressee h) ≡ false
   pub entry : t.entry ≡ entry_of 0 h.moment (addressed (session_address session.shown.number h) (unwrap_or message.to (bare_address session.shown.account h)) message)
 
 abbrev pub at_most_one : Option Taken → List Taken

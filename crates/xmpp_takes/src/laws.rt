@@ -27,8 +27,9 @@ pub fn archives_get_what_is_told<A>()
     ensures moment { (now : ℕ) (h : Hall A) → (at_moment now h).archives ≡ h.archives }
 {}
 
-/// A law: servers are sound. The numbers of sessions rise and are below the next one, and sessions and logins are of
-/// accounts that exist: so it is at the start, and stays so at each event (at items and bytes: `HasTaken`).
+/// A law: servers are sound. The numbers of sessions rise and are below the next one, sessions and logins are of
+/// accounts that exist, and no archive gave a number above the greatest: so it is at the start, and stays so at each
+/// event (at items and bytes: `HasTaken`).
 pub fn servers_stay_sound<A>()
     ensures start { (domain : List ℕ) (accounts : List Account) (keep : ℕ) → IsSound (at_start {A = A} domain accounts keep).hall }
     ensures connect { (k : ℕ) (entropy : List ℕ) (now : ℕ) (w : Whole A) → IsSound w.hall → IsSound (after_connect k entropy now w).hall }

@@ -34,6 +34,8 @@ use Rattle.xmpp_schedule.specs.Schedules.{WireView, keep_of, seen_of}
 use Rattle.xmpp_schedule.proofs.Lists.{all_map, map-map}
 use Rattle.xmpp_schedule.specs.declared.schedule.Version.{Version}
 use Rattle.xmpp_server.specs.Configs.{empty_kept, hall_at_start}
+use Rattle.xmpp_archive.specs.declared.archive.TheConstants.{GREATEST_NUMBER}
+use Rattle.xmpp_takes.proofs.NumbersWithin.{IsWithin}
 use Rattle.xmpp_takes.specs.Taken as server
 use Rattle.xmpp_takes.specs.Taken.{IsFromSender, IsTo, account_of, all_appended, entries_for}
 use Rattle.xmpp_world.specs.Declaring.{AreAccounts, AreNames}
@@ -231,6 +233,14 @@ counted : (place : ℕ) (names : List (List ℕ)) (archives : List Kept) → All
 counted place [] archives = tt
 counted place (name ∷ names) archives = counted_where name (slice_get archives place) (account_lines (place + 1) names archives) (counted (place + 1) names archives)
 
+within_where : (name : List ℕ) (o : Option Kept) (more : List AccountView) → IsWithin o → AllByRecursion (λ (a : AccountView). a.last ≤ GREATEST_NUMBER) more → AllByRecursion (λ (a : AccountView). a.last ≤ GREATEST_NUMBER) (account_where name o ++ more)
+within_where name None more is rest = rest
+within_where name (Some kept) more is rest = (is, rest)
+
+lines_within : (place : ℕ) (names : List (List ℕ)) (archives : List Kept) → ((account : ℕ) → IsWithin (slice_get archives account)) → AllByRecursion (λ (a : AccountView). a.last ≤ GREATEST_NUMBER) (account_lines place names archives)
+lines_within place [] archives each = tt
+lines_within place (name ∷ names) archives each = within_where name (slice_get archives place) (account_lines (place + 1) names archives) (each place) (lines_within (place + 1) names archives each)
+
 -- ---- the report
 
 rising : (keep : ℕ) (takes : List Taken) → EachPair IsNoLater takes → (a : AccountView) → IsNewestOf keep (history_of a.name takes) a → IsNonDecreasing (map (λ (e : EntryLineView). e.stamp) a.entries)
@@ -241,6 +251,7 @@ record AreRight (schedule : WireView) (takes : List Taken) (accounts : List Acco
   names : map (λ (a : AccountView). a.name) accounts ≡ names_in schedule
   counts : AllByRecursion (λ (a : AccountView). a.count ≡ length a.entries) accounts
   archives : AllByRecursion (λ a. IsNewestOf (keep_of schedule.version) (history_of a.name takes) a) accounts
+  numbers : AllByRecursion (λ (a : AccountView). a.last ≤ GREATEST_NUMBER) accounts
 
 are_right : (schedule : WireView) (w : World) → AreAccounts [] (names_in schedule) → AreNames (names_in schedule)
     → (is : IsBooked schedule.version (names_in schedule) (first_hall (names_in schedule) (keep_of schedule.version)) w) → AreRight schedule (map (with_names (names_in schedule)) is.takes) (account_lines 0 w.accounts w.server.hall.archives)
@@ -251,6 +262,7 @@ are_right schedule w accounts are is =
     let right : AreRight schedule (map (with_names names) is.takes) (account_lines 0 names archives) = record {
       names = names_told names keep archives is.takes is.archives 0 names (λ i name there. ap (slice_get names) (zero-add i) ∙ there);
       counts = counted 0 names archives;
+      numbers = lines_within 0 names archives is.sound.archives;
       archives = lines_newest names keep archives is.takes accounts are is.archives 0 names (λ i name there. ap (slice_get names) (zero-add i) ∙ there);
     } in
     subst (λ (ns : List (List ℕ)). AreRight schedule (map (with_names names) is.takes) (account_lines 0 ns archives)) (sym is.names_are) right
@@ -280,6 +292,7 @@ reported schedule w accounts are is owners =
         exist = all_of_accounts schedule is.takes are is.addressees is.senders;
         moments = moments;
         archives = right.archives;
+        numbers = right.numbers;
         stamps = AllByRecursion-weaker (λ a. IsNewestOf keep (history_of a.name takes) a) (λ (a : AccountView). IsNonDecreasing (map (λ (e : EntryLineView). e.stamp) a.entries)) (rising keep takes moments)
             (account_lines 0 w.accounts w.server.hall.archives) right.archives;
       },

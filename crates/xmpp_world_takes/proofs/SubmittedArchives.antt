@@ -1,9 +1,10 @@
 -- Where what was taken is what devices submitted, the archives are those of the submissions.
-use Rattle.std.proofs.Common.{◌≡◌, ℕ, ◌+◌, ◌-◌, ◌||◌, Bool, true, false, cond, List, [], ◌∷◌, Option, Some, None, length, drop, map, refl, sym, ap, ap₂, subst, ◌∙◌}
-use Rattle.std.proofs.lemmas.List.{drop-map, length-map}
+use Rattle.std.proofs.Common.{◌≡◌, ℕ, ◌+◌, ◌||◌, Bool, true, false, cond, List, [], ◌∷◌, Option, Some, None, length, map, refl, sym, ap, ap₂, subst, ◌∙◌, ◌≤◌, arith}
 use Rattle.std.specs.List.{AllByRecursion, filter}
 use Rattle.std.specs.Str.{bytes_eq}
-use Rattle.xmpp_archive.specs.Entries.{EntryView, newest}
+use Rattle.xmpp_archive.specs.Entries.{EntryView}
+use Rattle.xmpp_archive.proofs.Newest.{newest_few}
+use Rattle.xmpp_archive.specs.declared.archive.TheConstants.{GREATEST_NUMBER}
 use Rattle.xmpp_basis.proofs.Lists.{AllByRecursion-weaker}
 use Rattle.xmpp_report.specs.Lawful.{at_any_time, device_named, take_named, takes_in}
 use Rattle.xmpp_report.specs.LawfulRuns as runs
@@ -90,23 +91,24 @@ unstamped_history lines r takes account is as_said =
 lines_unstamped : (es : List EntryView) → map (λ e. at_any_time (entry_line e)) es ≡ map entry_line (map unstamped es)
 lines_unstamped es = sym (map-map unstamped entry_line es)
 
-newest_unstamped : (keep : ℕ) (es fs : List EntryView) → map unstamped es ≡ fs → map unstamped (newest keep es) ≡ newest keep fs
-newest_unstamped keep es fs same =
-    sym (drop-map unstamped (length es - keep) es) ∙ ap (drop (length es - keep)) same ∙ ap (λ (n : ℕ). drop (n - keep) fs) (sym (length-map es unstamped) ∙ ap length same)
-
 unstamped_again : (es fs : List EntryView) → map unstamped es ≡ fs → map unstamped fs ≡ fs
 unstamped_again es fs same = ap (map unstamped) (sym same) ∙ map-map unstamped unstamped es ∙ same
 
+both : {X : Type 0} (P Q R : X → Type 0) → ((x : X) → P x → Q x → R x) → (xs : List X) → AllByRecursion P xs → AllByRecursion Q xs → AllByRecursion R xs
+both P Q R each [] p q = tt
+both P Q R each (x ∷ xs) p q = (each x p.0 q.0, both P Q R each xs p.1 q.1)
+
 pub all_submissions : (lines : List WireLine) (r : ReportView) (takes : List Taken) → AreOfTakes (record { version = One; lines = lines }) takes r → AreAsSubmitted One r takes
-    → AllByRecursion (λ a. map at_any_time a.entries ≡ map (λ e. at_any_time (entry_line e)) (newest MOST_KEPT (archive_of a.name (takes_in r)))) r.accounts
+    → AllByRecursion (λ a. map at_any_time a.entries ≡ map (λ e. at_any_time (entry_line e)) (archive_of a.name (takes_in r))) r.accounts
 all_submissions lines r takes is as_said =
-    AllByRecursion-weaker (λ a. IsNewestOf MOST_KEPT (history_of a.name takes) a) (λ a. map at_any_time a.entries ≡ map (λ e. at_any_time (entry_line e)) (newest MOST_KEPT (archive_of a.name (takes_in r)))) each r.accounts is.archives
+    both (λ (a : AccountView). IsNewestOf MOST_KEPT (history_of a.name takes) a) (λ (a : AccountView). a.last ≤ GREATEST_NUMBER)
+    (λ (a : AccountView). map at_any_time a.entries ≡ map (λ e. at_any_time (entry_line e)) (archive_of a.name (takes_in r))) each r.accounts is.archives is.numbers
   where
-    each : (a : AccountView) → IsNewestOf MOST_KEPT (history_of a.name takes) a → map at_any_time a.entries ≡ map (λ e. at_any_time (entry_line e)) (newest MOST_KEPT (archive_of a.name (takes_in r)))
-    each a newest_is =
+    each : (a : AccountView) → IsNewestOf MOST_KEPT (history_of a.name takes) a → a.last ≤ GREATEST_NUMBER → map at_any_time a.entries ≡ map (λ e. at_any_time (entry_line e)) (archive_of a.name (takes_in r))
+    each a newest_is within =
         let history = history_of a.name takes in
         let submitted = archive_of a.name (takes_in r) in
         let same : map unstamped history ≡ submitted = unstamped_history lines r takes a.name is as_said in
-        ap (map at_any_time) newest_is.entries ∙ map-map entry_line at_any_time (newest MOST_KEPT history) ∙ lines_unstamped (newest MOST_KEPT history)
-        ∙ ap (map entry_line) (newest_unstamped MOST_KEPT history submitted same ∙ sym (newest_unstamped MOST_KEPT submitted submitted (unstamped_again history submitted same)))
-        ∙ sym (lines_unstamped (newest MOST_KEPT submitted))
+        let few : length history ≤ MOST_KEPT = (let last = newest_is.last in omega (arith, within, last)) in
+        ap (map at_any_time) (newest_is.entries ∙ ap (map entry_line) (newest_few MOST_KEPT history few)) ∙ map-map entry_line at_any_time history ∙ lines_unstamped history
+        ∙ ap (map entry_line) (same ∙ sym (unstamped_again history submitted same)) ∙ sym (lines_unstamped submitted)

@@ -4,6 +4,7 @@ use Rattle.std.specs.List.{AllByRecursion}
 use Rattle.std.specs.List.Sorted.{IsNonDecreasing}
 use Rattle.std.specs.Str.{bytes_eq}
 use Rattle.xmpp_archive.specs.Entries.{EntryView}
+use Rattle.xmpp_archive.specs.declared.archive.TheConstants.{GREATEST_NUMBER}
 use Rattle.xmpp_report.specs.Addresses.{full_address}
 use Rattle.xmpp_report.specs.Lawful.{EachPair, IsOfSchedule}
 use Rattle.xmpp_report.specs.LawfulRuns.{IsNewestOf}
@@ -63,6 +64,7 @@ pub record AreOfTakes (schedule : WireView) (takes : List Taken) (report : Repor
   pub exist : AllByRecursion (IsOfAccounts (seen_of schedule)) takes
   pub moments : EachPair IsNoLater takes
   pub archives : AllByRecursion (λ a. IsNewestOf (keep_of schedule.version) (history_of a.name takes) a) report.accounts
+  pub numbers : AllByRecursion (λ a. a.last ≤ GREATEST_NUMBER) report.accounts
   -- along an archive the stamps don't fall
   pub stamps : AllByRecursion (λ a. IsNonDecreasing (map (λ e. e.stamp) a.entries)) report.accounts
 

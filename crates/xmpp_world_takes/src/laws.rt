@@ -1,7 +1,6 @@
 //! The laws.
 ghost use Rattle.std.specs.Prelude.{◌≡◌, ℕ, List, map};
 ghost use Rattle.std.specs.List.{AllByRecursion};
-ghost use Rattle.xmpp_archive.specs.Entries.{newest};
 ghost use Rattle.xmpp_report.specs.Lawful.{at_any_time, takes_in};
 ghost use Rattle.xmpp_report.specs.LawfulRuns.{IsNewestOf, history_of as history_in};
 ghost use Rattle.xmpp_report.specs.Lines.{entry_line};
@@ -9,7 +8,6 @@ ghost use Rattle.xmpp_report.specs.Reports.{ReportView};
 ghost use Rattle.xmpp_report.specs.Takes.{archive_of};
 ghost use Rattle.xmpp_schedule.specs.Schedules.{WireView};
 ghost use Rattle.xmpp_schedule.specs.WireGrammar.{IsWireSchedule};
-ghost use Rattle.xmpp_schedule.specs.declared.schedule.TheConstants.{MOST_KEPT};
 ghost use Rattle.xmpp_schedule.specs.declared.schedule.Version.TheVariants.{One, Two};
 ghost use Rattle.xmpp_schedule.specs.declared.schedule.WireLine.{WireLine};
 ghost use Rattle.xmpp_world.specs.Histories.{history_of, world_of};
@@ -32,5 +30,5 @@ pub fn archives_are_those_of_submissions()
     ensures kept { (keep : ℕ) (lines : List WireLine) (report : ReportView) (takes : List Taken) → AreOfTakes (record { version = Two keep; lines = lines }) takes report → AreAsSubmitted (Two keep) report takes
         → AllByRecursion (λ a. IsNewestOf keep (history_in report a.name) a) report.accounts }
     ensures all { (lines : List WireLine) (report : ReportView) (takes : List Taken) → AreOfTakes (record { version = One; lines = lines }) takes report → AreAsSubmitted One report takes
-        → AllByRecursion (λ a. map at_any_time a.entries ≡ map (λ e. at_any_time (entry_line e)) (newest MOST_KEPT (archive_of a.name (takes_in report)))) report.accounts }
+        → AllByRecursion (λ a. map at_any_time a.entries ≡ map (λ e. at_any_time (entry_line e)) (archive_of a.name (takes_in report))) report.accounts }
 {}
