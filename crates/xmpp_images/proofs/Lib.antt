@@ -1,0 +1,2 @@
+-- pipes
+pub mod PipeSteps

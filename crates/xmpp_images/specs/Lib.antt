@@ -1,0 +1,2 @@
+-- law: pipes and worlds of bytes as images of those of items
+pub mod PipeImages
