@@ -1,2 +1,4 @@
 -- pipes
 pub mod PipeSteps
+pub mod PutSteps
+pub mod WireSteps

@@ -1,8 +1,9 @@
 -- What each operation on a pipe makes of the image that it is of a pipe of items.
-use Rattle.std.proofs.Common.{◌≡◌, ℕ, zero, suc, ◌<◌, ◌^◌, Bool, true, false, true≢false, List, [], ◌∷◌, ◌++◌, Option, Some, None, length, take, drop, map, refl, sym, ap, subst, ◌∙◌, arith, append_assoc, append-nil, cond}
+use Rattle.std.proofs.Common.{◌≡◌, ◌==◌, ◌&&◌, not, ℕ, zero, suc, ◌<◌, ◌^◌, Bool, true, false, true≢false, List, [], ◌∷◌, ◌++◌, Option, Some, None, length, take, drop, map, refl, sym, ap, subst, ◌∙◌, arith, append_assoc, append-nil, cond}
 use Rattle.std.proofs.Math.Seq.{drop-append_seam, take-append_seam}
 use Rattle.std.proofs.lemmas.List.{drop-map, length-map, map-append, take-map}
-use Rattle.std.proofs.lemmas.Bool.{cond-false, cond-true}
+use Rattle.std.proofs.lemmas.Bool.{and_parts}
+use Rattle.std.proofs.lemmas.Bool.Decides.{nat_tests}
 use Rattle.xmpp_carries.proofs.PipeLaws.{closes, cuts, due_means_none, empties, end_told, enters_not, fresh, hands, open_without_bytes}
 use Rattle.xmpp_carries.specs.Carries.{Carries, GivesFirst, KeepsFirst, held}
 use Rattle.xmpp_carries.specs.Items.{AreItems}
@@ -250,3 +251,37 @@ empty_image limits writer reader b p i open_still none = by i.carried
     by : IsCarried limits writer reader b p → p.items ≡ []
     by (over o) = o.no_items
     by (standing f is st) = none_left limits writer f b p st.items st.read (open_without_bytes st.start st.part b st.items st.behind st.carries open_still none).0
+
+-- ---- an end that is due
+
+pub record IsDue (b : Pipe) : Type 0 where
+  pub no_bytes : b.bytes ≡ []
+  pub has_ended : b.ended ≡ true
+  pub not_told : b.told ≡ false
+
+due_parts : (bytes : List ℕ) (ended told : Bool) → (length bytes == 0 && ended && not told) ≡ true → (bytes ≡ []) × (ended ≡ true) × (told ≡ false)
+due_parts [] true false e = (refl, refl, refl)
+due_parts [] true true e = absurd (true≢false (sym e))
+due_parts [] false told e = absurd (true≢false (sym e))
+due_parts (x ∷ bytes) ended told e = absurd (omega (arith, by e))
+  where
+    by : (length (x ∷ bytes) == 0 && ended && not told) ≡ true → length (x ∷ bytes) ≡ 0
+    by e = grind (arith, nat_tests, and_parts)
+
+pub is_due : (b : Pipe) → is_end_due b ≡ true → IsDue b
+is_due b due = (let h = due_parts b.bytes b.ended b.told due in record { no_bytes = h.0; has_ended = h.1; not_told = h.2 })
+
+pub items_due : (limits : Limits) (writer : Option Phase) (reader : Option State) (b : Pipe) (p : ItemPipe) → PipeImage limits writer reader b p → is_end_due b ≡ true → items.is_end_due p ≡ true
+items_due limits writer reader b p i due =
+    let d = is_due b due in
+    let none = due_image limits writer reader b p i due in
+    let ended = sym i.ended ∙ d.has_ended in
+    let told = sym i.told ∙ d.not_told in
+    rw (none, ended, told) refl
+
+-- its reader needs no framer any more
+pub due_told_image : (limits : Limits) (writer next : Option Phase) (reader other : Option State) (b : Pipe) (p : ItemPipe) → PipeImage limits writer reader b p → is_end_due b ≡ true
+    → PipeImage limits next other (with_end_told b) (items.with_end_told p)
+due_told_image limits writer next reader other b p i due =
+    let d = is_due b due in
+    record { ended = i.ended; told = refl; carried = over (record { no_bytes = d.no_bytes; no_items = due_image limits writer reader b p i due; has_ended = d.has_ended }) }

@@ -1,2 +1,3 @@
 -- law: pipes and worlds of bytes as images of those of items
 pub mod PipeImages
+pub mod WireImages
