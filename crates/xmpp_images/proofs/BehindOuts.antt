@@ -3,13 +3,15 @@ use Rattle.std.proofs.Common.{◌≡◌, ℕ, ◌==◌, not, ◌&&◌, Bool, tru
 use Rattle.xmpp_acks.specs.declared.end.TheConstants.{MOST_UNACKNOWLEDGED}
 use Rattle.xmpp_desk.specs.State.{Hall, Out, Put, Shut, Step, Took}
 use Rattle.xmpp_desk.specs.Steps as steps
-use Rattle.xmpp_desk.specs.Steps.{Act, act, acted, ask_where, overflow, part, part_where, put, put_where, queue, send_told, shut, told_out}
+use Rattle.xmpp_desk.specs.Steps.{Act, act, acted, ask_where, in_sessions, is_due, overflow, part, part_where, put, put_where, queue, send_told, shut, told_out}
 use Rattle.xmpp_desk.specs.Streams.{standing_at}
 use Rattle.xmpp_desk.specs.declared.connection.Standing.{Standing}
 use Rattle.xmpp_framing.specs.declared.items.Item.{Item}
-use Rattle.xmpp_live.specs.Sessions.{told_of}
+use Rattle.xmpp_live.specs.Sessions.{asks, told_of, waits, with_session, without}
 use Rattle.xmpp_live.specs.declared.told.Told.{Told}
+use Rattle.xmpp_replies.specs.Management.{request_item}
 use Rattle.xmpp_replies.specs.Streams.{error_item}
+use Rattle.xmpp_replies.specs.declared.conditions.StreamCondition.TheVariants.{ResourceConstraint}
 use Rattle.xmpp_server.specs.Table.{after_item, after_items, at_open}
 use Rattle.xmpp_writer.specs.Items.{Closing, ItemOut}
 

@@ -6,3 +6,7 @@ pub mod WireSteps
 pub mod Lookups
 -- the server
 pub mod BehindOuts
+pub mod HallsTurned
+pub mod Emissions
+-- moves
+pub mod NetworkMoves

@@ -16,6 +16,7 @@ use Rattle.xmpp_item_worlds.specs.ItemPipes.{ItemPipe}
 use Rattle.xmpp_item_worlds.specs.ItemWorlds.{read_of}
 use Rattle.xmpp_pipes.specs.Pipes.{Pipe, entered, risen}
 use Rattle.xmpp_writer.specs.Items.{Closing, ItemOut, Opening, Whole, written_item}
+use Rattle.xmpp_written.proofs.PutLaws.{put_enters}
 use Rattle.xmpp_written.specs.Puts.{HasPut, MayPut, OutFits, StandsAt, phase_behind, read_out}
 use Rattle.xmpp_images.specs.PipeImages.{AreRead, Awaits, IsCarried, Over, PipeImage, Standing, WriterStands, over, standing}
 use Rattle.xmpp_images.proofs.PipeSteps.{ended_image, image_same}
@@ -66,11 +67,7 @@ stands_behind (Opening h) t s = s
 stands_behind (Whole e) t s = s
 stands_behind Closing t s = s
 
-abbrev pub PutEnters : Type 0
-PutEnters = (s : State) (part : List ℕ) (p : Pipe) (items : List Item) (t : State) → Carries s part p items t → p.ended ≡ false → (now : Phase) (i : ItemOut) → StandsAt t now → MayPut now i → OutFits t.limits i
-    → t.limits.attributes < 2 ^ 32 → t.limits.namespace_bytes < 2 ^ 32 → HasPut s part p items t i
-
-module _ (put_enters : PutEnters) (limits : Limits) (few : limits.attributes < 2 ^ 32) (names : limits.namespace_bytes < 2 ^ 32) where
+module _ (limits : Limits) (few : limits.attributes < 2 ^ 32) (names : limits.namespace_bytes < 2 ^ 32) where
   -- into an ended pipe nothing enters
   lost : (writer next : Option Phase) (reader : Option State) (b : Pipe) (p : ItemPipe) (bytes : List ℕ) (more : List ItemOut) → b.ended ≡ true → PipeImage limits writer reader b p
       → PipeImage limits next reader (entered bytes b) (items.entered more p)

@@ -8,7 +8,7 @@ use Rattle.xmpp_framing.specs.declared.items.Item.{Item}
 use Rattle.xmpp_framing.specs.declared.states.Phase.{Phase}
 use Rattle.xmpp_framing.specs.declared.states.Phase.TheVariants as phase
 use Rattle.xmpp_images.proofs.PipeSteps.{IsHanded, closed_image, cut_image, dropped, due_told_image, ended_image, fresh_image, handed_image, is_due, over_image}
-use Rattle.xmpp_images.proofs.PutSteps.{PutEnters, ended_entered, items_ended_entered, put_image, puts_image}
+use Rattle.xmpp_images.proofs.PutSteps.{ended_entered, items_ended_entered, put_image, puts_image}
 use Rattle.xmpp_images.specs.PipeImages.{AreRead, IsCarried, PipeImage, Standing, over, standing}
 use Rattle.xmpp_images.specs.WireImages.{WireImage}
 use Rattle.xmpp_item_worlds.specs.ItemPipes as items
@@ -47,7 +47,7 @@ all_entered P more p all rest = by p.ended
     by true = all
     by false = all_joined P p.items more all rest
 
-module _ (put_enters : PutEnters) (UpFits DownFits : ItemOut → Type 0) (up_out : (i : ItemOut) → UpFits i → OutFits server_limits i) (down_out : (i : ItemOut) → DownFits i → OutFits client_limits i) where
+module _ (UpFits DownFits : ItemOut → Type 0) (up_out : (i : ItemOut) → UpFits i → OutFits server_limits i) (down_out : (i : ItemOut) → DownFits i → OutFits client_limits i) where
   -- ---- the network
 
   pub record IsWireCut (r d : Option State) (next : Option Phase) (b : Wire) (p : ItemWire) (n m : ℕ) : Type 0 where
@@ -101,7 +101,7 @@ module _ (put_enters : PutEnters) (UpFits DownFits : ItemOut → Type 0) (up_out
   wire_put_up r d writer b p more fit between i = record {
     device = i.device;
     end_together = ended_entered (flat_map written_item more) b.up ∙ i.end_together;
-    up = puts_image put_enters server_limits (omega arith) (omega arith) r b.up p.up more between (all_mapped UpFits (OutFits server_limits) up_out more fit) i.up;
+    up = puts_image server_limits (omega arith) (omega arith) r b.up p.up more between (all_mapped UpFits (OutFits server_limits) up_out more fit) i.up;
     down = i.down;
     up_fits = all_entered UpFits more p.up i.up_fits fit;
     down_fits = i.down_fits;
@@ -113,7 +113,7 @@ module _ (put_enters : PutEnters) (UpFits DownFits : ItemOut → Type 0) (up_out
     device = i.device;
     end_together = i.end_together ∙ sym (ended_entered (written_item out) b.down);
     up = i.up;
-    down = put_image put_enters client_limits (omega arith) (omega arith) now d b.down p.down out may (down_out out fits) i.down;
+    down = put_image client_limits (omega arith) (omega arith) now d b.down p.down out may (down_out out fits) i.down;
     up_fits = i.up_fits;
     down_fits = all_entered DownFits (out ∷ []) p.down i.down_fits (fits, tt);
   }
@@ -124,7 +124,7 @@ module _ (put_enters : PutEnters) (UpFits DownFits : ItemOut → Type 0) (up_out
   wire_fresh device h fits = record {
     device = refl;
     end_together = refl;
-    up = put_image put_enters server_limits (omega arith) (omega arith) phase.First (Some (from_start server_limits)) (fresh_wire device).up (items.fresh_wire device).up (Opening h) tt (up_out (Opening h) fits) (fresh_image server_limits);
+    up = put_image server_limits (omega arith) (omega arith) phase.First (Some (from_start server_limits)) (fresh_wire device).up (items.fresh_wire device).up (Opening h) tt (up_out (Opening h) fits) (fresh_image server_limits);
     down = fresh_image client_limits;
     up_fits = (fits, tt);
     down_fits = tt;

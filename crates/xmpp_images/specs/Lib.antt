@@ -3,3 +3,4 @@ pub mod PipeImages
 pub mod WireImages
 pub mod Cores
 pub mod WorldImages
+pub mod ItemRuns
