@@ -30,13 +30,13 @@ use Rattle.xmpp_written.specs.Puts.{MayPut, OutFits, phase_behind}
 pub number_suc : (place : ℕ) → number_at place ≡ suc place
 number_suc place = omega arith
 
-this_number : (place q : ℕ) → place ≡ q → is_number (number_at place) (suc q) ≡ true
+pub this_number : (place q : ℕ) → place ≡ q → is_number (number_at place) (suc q) ≡ true
 this_number place q e = subst (λ k. is_number (number_at place) k ≡ true) (number_suc place ∙ ap suc e) (self_is (number_at place))
 
-not_this : (place q : ℕ) → (place ≡ q → ⊥) → number_at place ≢ suc q
+pub not_this : (place q : ℕ) → (place ≡ q → ⊥) → number_at place ≢ suc q
 not_this place q other e = other (omega (arith, e))
 
-no_place : (place : ℕ) → number_at place ≢ 0
+pub no_place : (place : ℕ) → number_at place ≢ 0
 no_place place e = omega (arith, e)
 
 module _ (UpFits DownFits : ItemOut → Type 0) (up_out : (i : ItemOut) → UpFits i → OutFits server_limits i) (down_out : (i : ItemOut) → DownFits i → OutFits client_limits i) (place : ℕ) (devices : List DeviceState) where

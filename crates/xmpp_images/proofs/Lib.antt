@@ -8,5 +8,7 @@ pub mod Lookups
 pub mod BehindOuts
 pub mod HallsTurned
 pub mod Emissions
+pub mod ItemsServed
 -- moves
 pub mod NetworkMoves
+pub mod UpMoves

@@ -12,7 +12,6 @@ use Rattle.xmpp_framing.specs.Limits.{client_limits, server_limits}
 use Rattle.xmpp_framing.specs.States.{State}
 use Rattle.xmpp_framing.specs.declared.states.Phase.{Phase}
 use Rattle.xmpp_framing.specs.declared.states.Phase.TheVariants as phase
-use Rattle.xmpp_images.proofs.Emissions.{no_place, not_this, number_suc}
 use Rattle.xmpp_images.proofs.HallsTurned.{gone_turned, moment_turned}
 use Rattle.xmpp_images.proofs.Lookups.{found_behind_removal, get_changed_other, get_changed_same, length_changed, set_changes}
 use Rattle.xmpp_images.proofs.PipeSteps.{items_due}
@@ -56,22 +55,22 @@ pub record Found {A B : Type 0} (R : A → B → Type 0) (a : A) (ob : Option B)
   pub is : ob ≡ Some other
   pub holds : R a other
 
+found_of : {A B : Type 0} (R : A → B → Type 0) (a : A) (o : Option B) → Both R (Some a) o → Found R a o
+found_of R a None h = absurd h
+found_of R a (Some b) h = record { other = b; is = refl; holds = h }
+
 pub found_both : {A B : Type 0} (R : A → B → Type 0) (a : A) (oa : Option A) (ob : Option B) → oa ≡ Some a → Both R oa ob → Found R a ob
-found_both R a oa ob e r = by ob (subst (λ o. Both R o ob) e r)
-  where
-    by : (o : Option B) → Both R (Some a) o → Found R a o
-    by None h = absurd h
-    by (Some b) h = record { other = b; is = refl; holds = h }
+found_both R a oa ob e r = found_of R a ob (subst (λ o. Both R o ob) e r)
 
 -- one place is changed in both lists, and elsewhere it holds as before
-pub both_changed : {A B : Type 0} (R S : ℕ → A → B → Type 0) (f : A → A) (g : B → B) (as : List A) (bs : List B) (q : ℕ) → Both (S q) (option_map f (slice_get as q)) (option_map g (slice_get bs q))
-    → ((p : ℕ) → (p ≡ q → ⊥) → (a : A) (b : B) → R p a b → S p a b) → ((p : ℕ) → Both (R p) (slice_get as p) (slice_get bs p)) → (p : ℕ) → Both (S p) (slice_get (changed_at q f as) p) (slice_get (changed_at q g bs) p)
-both_changed R S f g as bs q here there all p = elim (cases_eq p q) [
-  | inl same ↦ subst (λ x. Both (S x) (slice_get (changed_at q f as) x) (slice_get (changed_at q g bs) x)) (sym same)
-      (subst (λ o. Both (S q) o (slice_get (changed_at q g bs) q)) (sym (get_changed_same f as q)) (subst (λ o. Both (S q) (option_map f (slice_get as q)) o) (sym (get_changed_same g bs q)) here))
-  | inr other ↦ subst (λ o. Both (S p) o (slice_get (changed_at q g bs) p)) (sym (get_changed_other f as q p other))
-      (subst (λ o. Both (S p) (slice_get as p) o) (sym (get_changed_other g bs q p other))
-      (both_weaker (R p) (S p) (there p other) (slice_get as p) (slice_get bs p) (all p)))
+pub both_changed : {A B : Type 0} (R S : ℕ → A → B → Type 0) (f : A → A) (g : B → B) (xs : List A) (ys : List B) (q : ℕ) → Both (S q) (option_map f (slice_get xs q)) (option_map g (slice_get ys q))
+    → ((p : ℕ) → (p ≡ q → ⊥) → (a : A) (b : B) → R p a b → S p a b) → ((p : ℕ) → Both (R p) (slice_get xs p) (slice_get ys p)) → (p : ℕ) → Both (S p) (slice_get (changed_at q f xs) p) (slice_get (changed_at q g ys) p)
+both_changed R S f g xs ys q here there all p = elim (cases_eq p q) [
+  | inl same ↦ subst (λ x. Both (S x) (slice_get (changed_at q f xs) x) (slice_get (changed_at q g ys) x)) (sym same)
+      (subst (λ o. Both (S q) o (slice_get (changed_at q g ys) q)) (sym (get_changed_same f xs q)) (subst (λ o. Both (S q) (option_map f (slice_get xs q)) o) (sym (get_changed_same g ys q)) here))
+  | inr other ↦ subst (λ o. Both (S p) o (slice_get (changed_at q g ys) p)) (sym (get_changed_other f xs q p other))
+      (subst (λ o. Both (S p) (slice_get xs p) o) (sym (get_changed_other g ys q p other))
+      (both_weaker (R p) (S p) (there p other) (slice_get xs p) (slice_get ys p) (all p)))
 ]
 
 pub number_apart : (p q : ℕ) → (p ≡ q → ⊥) → number_at p ≢ number_at q

@@ -21,7 +21,7 @@ use Rattle.xmpp_report.specs.Addresses.{bare_address}
 use Rattle.xmpp_schedule.specs.Grammar.{is_name}
 use Rattle.xmpp_server.specs.Table.{after_item}
 use Rattle.xmpp_world.specs.Worlds.{client_entropy, server_entropy}
-use Rattle.xmpp_writer.specs.Items.{Closing, ItemOut, Opening, Whole}
+use Rattle.xmpp_writer.specs.Items.{Closing, ItemOut}
 use Rattle.xmpp_written.specs.Puts.{MayPut, OutFits, phase_behind}
 
 -- ---- where the server stands in the stream of a connection
@@ -64,10 +64,9 @@ AreInOrder Fits j now (Took from to origin ∷ outs) later = AreInOrder Fits j n
 
 -- ---- what a client puts
 
+-- more may come behind it: it is no footer
 abbrev pub IsNoFooter : ItemOut → Type 0
-IsNoFooter Closing = ⊥
-IsNoFooter (Opening h) = Unit {0}
-IsNoFooter (Whole e) = Unit {0}
+IsNoFooter i = phase_behind i ≡ phase.Between
 
 -- What a turn put before is put still, and what is put then doesn't hang on it.
 pub record Adds (t alone u : Turn ItemOut ItemOut) : Type 0 where

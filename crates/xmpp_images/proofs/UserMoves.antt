@@ -1,0 +1,204 @@
+-- What the user of a device does.
+use Rattle.std.proofs.Common.{◌≡◌, ◌≢◌, ℕ, zero, suc, ◌+◌, ◌<◌, ◌≤◌, ◌==◌, Bool, true, false, true≢false, cond, List, [], ◌∷◌, ◌++◌, Option, Some, None, Result, Ok, Err, IsTrue, is_ok, map, flat_map, length, refl, sym, ap, ap₂, subst, ◌∙◌, inl, inr, arith}
+use Rattle.std.proofs.lemmas.Bool.{cases_eq, eq-eqb, eqb-true}
+use Rattle.std.specs.List.{AllByRecursion, slice_get, slice_set}
+use Rattle.std.specs.Option.{option_map}
+use Rattle.xmpp_client.specs.Feeds.{Fed}
+use Rattle.xmpp_client.specs.Values.{ClientValue}
+use Rattle.xmpp_client.specs.UserCalls.{catch_up_answer, catches_up, closes, dials, forgets, say_answer, says}
+use Rattle.xmpp_client.specs.declared.faults.CatchUpStart.{CatchUpStart}
+use Rattle.xmpp_client.specs.declared.faults.CatchUpStart.TheVariants as start
+use Rattle.xmpp_client.specs.declared.faults.SayFault.{SayFault}
+use Rattle.xmpp_client.specs.declared.faults.SayFault.TheVariants as fault
+use Rattle.xmpp_client_laws.proofs.TableTurned.{answer_turned, bytes_turned, calls_turned}
+use Rattle.xmpp_client_laws.specs.Calls as calls
+use Rattle.xmpp_client_laws.specs.Turned.{client_turned, written, written_fed}
+use Rattle.xmpp_client_rows.specs.Clients.{ClientView, Turn}
+use Rattle.xmpp_client_rows.specs.Speech.{in_bytes, in_items}
+use Rattle.xmpp_desk.specs.State.{Hall}
+use Rattle.xmpp_devices.specs.Devices as devices
+use Rattle.xmpp_devices.specs.Devices.{DeviceState, has_wire}
+use Rattle.xmpp_framing.specs.States.{State}
+use Rattle.xmpp_framing.specs.declared.states.Phase.TheVariants as phase
+use Rattle.xmpp_images.proofs.ItemsServed.{changed_none}
+use Rattle.xmpp_images.proofs.PutSteps.{nothing_entered}
+use Rattle.xmpp_images.proofs.Lookups.{get_changed_other, get_changed_same, length_changed, set_changes}
+use Rattle.xmpp_images.proofs.NetworkMoves.{IsMoved, both_changed, both_weaker, found_both}
+use Rattle.xmpp_images.proofs.WireSteps.{wire_left, wire_put_up}
+use Rattle.xmpp_images.specs.Cores.{CoresFit, TurnFits, writer_at}
+use Rattle.xmpp_images.specs.WireImages.{WireImage}
+use Rattle.xmpp_images.specs.WorldImages.{Both, DeviceImage, WireAt, WorldImage, framer_here}
+use Rattle.xmpp_item_worlds.specs.ItemMoves as items
+use Rattle.xmpp_item_worlds.specs.ItemMoves.{fed_of}
+use Rattle.xmpp_item_worlds.specs.ItemPipes as pipes
+use Rattle.xmpp_item_worlds.specs.ItemPipes.{ItemWire}
+use Rattle.xmpp_item_worlds.specs.ItemWorlds.{ItemDevice, ItemWorld, silent_turn}
+use Rattle.xmpp_report.specs.Addresses.{bare_address}
+use Rattle.xmpp_schedule.specs.Grammar.{is_name}
+use Rattle.xmpp_server.specs.Events.{framer_at}
+use Rattle.xmpp_wires.specs.Places.{changed_at, changed_where}
+use Rattle.xmpp_wires.specs.Wires.{left, put_up}
+use Rattle.xmpp_wires.specs.declared.wire.Wire.{Wire}
+use Rattle.xmpp_world.specs.Moves.{CatchUp, Close, Forget, Say, caught_up_by, closed_by, forgot_by, moved, said_by, spoke}
+use Rattle.xmpp_world.specs.Worlds.{World, number_at}
+use Rattle.xmpp_writer.specs.Items.{ItemOut, written_item}
+use Rattle.xmpp_written.specs.Puts.{phase_behind}
+
+-- ---- lists set at a place
+
+set_same : {T : Type 0} (l : List T) (i : ℕ) (x : T) → slice_get l i ≡ Some x → slice_set l i x ≡ l
+set_same [] zero x found = refl
+set_same [] (suc i) x found = refl
+set_same (y ∷ l) zero x found = ap (λ z. z ∷ l) (some_is x y (sym found))
+  where
+    some_is : {T : Type 0} (x y : T) → Some x ≡ Some y → x ≡ y
+    some_is x y e = cc
+set_same (y ∷ l) (suc i) x found = ap (λ r. y ∷ r) (set_same l i x found)
+
+pub get_set_same : {T : Type 0} (l : List T) (i : ℕ) (x y : T) → slice_get l i ≡ Some x → slice_get (slice_set l i y) i ≡ Some y
+get_set_same l i x y found = ap (λ m. slice_get m i) (set_changes (λ _. y) l i x y found refl) ∙ get_changed_same (λ _. y) l i ∙ ap (option_map (λ _. y)) found
+
+pub get_set_other : {T : Type 0} (l : List T) (i j : ℕ) (x y : T) → slice_get l i ≡ Some x → j ≢ i → slice_get (slice_set l i y) j ≡ slice_get l j
+get_set_other l i j x y found other = ap (λ m. slice_get m j) (set_changes (λ _. y) l i x y found refl) ∙ get_changed_other (λ _. y) l i j other
+
+length_where : {T : Type 0} (o : Option ℕ) (f : T → T) (l : List T) → length (changed_where o f l) ≡ length l
+length_where None f l = refl
+length_where (Some q) f l = length_changed f l q
+
+-- a device that changes has the framer of a connection that it had before, where its framer there is the same
+pub framer_stays : (ds : List DeviceState) (i : ℕ) (d d' : DeviceState) (q j : ℕ) → slice_get ds i ≡ Some d → framer_here q (Some d') ≡ framer_here q (Some d) → framer_here q (slice_get (slice_set ds i d') j) ≡ framer_here q (slice_get ds j)
+framer_stays ds i d d' q j found same = elim (cases_eq j i) [
+  | inl e ↦ ap (λ x. framer_here q (slice_get (slice_set ds i d') x)) e ∙ ap (framer_here q) (get_set_same ds i d d' found) ∙ same ∙ sym (ap (framer_here q) found) ∙ sym (ap (λ x. framer_here q (slice_get ds x)) e)
+  | inr other ↦ ap (framer_here q) (get_set_other ds i j d d' found other)
+]
+
+module _ (UpFits DownFits : ItemOut → Type 0) (HallFits : Hall ItemOut → Type 0) (ClientFits : ClientView ItemOut → Type 0) (cores : CoresFit UpFits DownFits HallFits ClientFits) where
+  -- a device changes, and the connection that it has
+  abbrev After : World → ItemWorld → ℕ → DeviceState → ℕ → Wire → ItemWire → Type 0
+  After w v i d' q b p = WireImage UpFits DownFits (framer_at (number_at q) w.server.framers) (framer_here q (slice_get (slice_set w.devices i d') b.device)) (writer_at (number_at q) v.server) b p
+
+  devices_changed : (w : World) (v : ItemWorld) (i : ℕ) (d d' : DeviceState) (e e' : ItemDevice) → slice_get w.devices i ≡ Some d → slice_get v.devices i ≡ Some e → DeviceImage ClientFits d' e' → WorldImage UpFits DownFits HallFits ClientFits w v
+      → (place : ℕ) → Both (DeviceImage ClientFits) (slice_get (slice_set w.devices i d') place) (slice_get (slice_set v.devices i e') place)
+  devices_changed w v i d d' e e' found found_item h image place =
+      subst (λ l. Both (DeviceImage ClientFits) (slice_get l place) (slice_get (slice_set v.devices i e') place)) (sym (set_changes (λ _. d') w.devices i d d' found refl))
+      (subst (λ l. Both (DeviceImage ClientFits) (slice_get (changed_at i (λ _. d') w.devices) place) (slice_get l place)) (sym (set_changes (λ _. e') v.devices i e e' found_item refl))
+      (both_changed (λ _. DeviceImage ClientFits) (λ _. DeviceImage ClientFits) (λ _. d') (λ _. e') w.devices v.devices i here (λ p other a b r. r) image.devices place))
+    where
+      here : Both (DeviceImage ClientFits) (option_map (λ _. d') (slice_get w.devices i)) (option_map (λ _. e') (slice_get v.devices i))
+      here = subst (λ o. Both (DeviceImage ClientFits) (option_map (λ _. d') o) (option_map (λ _. e') (slice_get v.devices i))) (sym found) (subst (λ o. Both (DeviceImage ClientFits) (Some d') (option_map (λ _. e') o)) (sym found_item) h)
+
+  wires_changed : (w : World) (v : ItemWorld) (i : ℕ) (d d' : DeviceState) (f : Wire → Wire) (g : ItemWire → ItemWire) (here : Option ℕ) → slice_get w.devices i ≡ Some d → WorldImage UpFits DownFits HallFits ClientFits w v
+      → ((q : ℕ) (b : Wire) (p : ItemWire) → here ≡ Some q → WireAt UpFits DownFits w v q b p → After w v i d' q (f b) (g p)) → ((q : ℕ) → (here ≡ Some q → ⊥) → framer_here q (Some d') ≡ framer_here q (Some d))
+      → (place : ℕ) → Both (After w v i d' place) (slice_get (changed_where here f w.wires) place) (slice_get (changed_where here g v.wires) place)
+  wires_changed w v i d d' f g None found image at_here at_other place =
+      both_weaker (WireAt UpFits DownFits w v place) (After w v i d' place)
+      (λ b p x. subst (λ r. WireImage UpFits DownFits (framer_at (number_at place) w.server.framers) r (writer_at (number_at place) v.server) b p) (sym (framer_stays w.devices i d d' place b.device found (at_other place (λ e. none_is_not place e)))) x)
+      (slice_get w.wires place) (slice_get v.wires place) (image.wires place)
+    where
+      none_is_not : (q : ℕ) → None ≡ Some q → ⊥
+      none_is_not q e = cc
+  wires_changed w v i d d' f g (Some h) found image at_here at_other place =
+      both_changed (WireAt UpFits DownFits w v) (After w v i d') f g w.wires v.wires h (both_here (slice_get w.wires h) (slice_get v.wires h) (image.wires h))
+      (λ q other b p x. subst (λ r. WireImage UpFits DownFits (framer_at (number_at q) w.server.framers) r (writer_at (number_at q) v.server) b p) (sym (framer_stays w.devices i d d' q b.device found (at_other q (λ e. other (sym (some_is h q e)))))) x)
+      image.wires place
+    where
+      some_is : (x y : ℕ) → Some x ≡ Some y → x ≡ y
+      some_is x y e = cc
+
+      both_here : (ob : Option Wire) (op : Option ItemWire) → Both (WireAt UpFits DownFits w v h) ob op → Both (After w v i d' h) (option_map f ob) (option_map g op)
+      both_here None None r = tt
+      both_here None (Some p) r = absurd r
+      both_here (Some b) None r = absurd r
+      both_here (Some b) (Some p) r = at_here h b p refl r
+
+  pub user_image : (w : World) (v : ItemWorld) (i : ℕ) (d d' : DeviceState) (e e' : ItemDevice) (f : Wire → Wire) (g : ItemWire → ItemWire) → slice_get w.devices i ≡ Some d → slice_get v.devices i ≡ Some e → DeviceImage ClientFits d' e' → d.here ≡ e.here
+      → WorldImage UpFits DownFits HallFits ClientFits w v → ((q : ℕ) (b : Wire) (p : ItemWire) → d.here ≡ Some q → WireAt UpFits DownFits w v q b p → After w v i d' q (f b) (g p))
+      → ((q : ℕ) → (d.here ≡ Some q → ⊥) → framer_here q (Some d') ≡ framer_here q (Some d))
+      → WorldImage UpFits DownFits HallFits ClientFits (record w { devices = slice_set w.devices i d'; wires = changed_where d.here f w.wires }) (record v { devices = slice_set v.devices i e'; wires = changed_where e.here g v.wires })
+  user_image w v i d d' e e' f g found found_item h same_here image at_here at_other =
+      subst (λ o. WorldImage UpFits DownFits HallFits ClientFits (record w { devices = slice_set w.devices i d'; wires = changed_where d.here f w.wires }) (record v { devices = slice_set v.devices i e'; wires = changed_where o g v.wires })) same_here
+      (record {
+        moment = image.moment;
+        hall = image.hall;
+        hall_fits = image.hall_fits;
+        devices = devices_changed w v i d d' e e' found found_item h image;
+        as_many = length_where d.here f w.wires ∙ image.as_many ∙ sym (length_where d.here g v.wires);
+        wires = wires_changed w v i d d' f g d.here found image at_here at_other;
+      })
+
+  -- ---- what is put goes out, where a connection is there
+
+  said_at_here : (w : World) (v : ItemWorld) (i : ℕ) (d d' : DeviceState) (more : List ItemOut) → slice_get w.devices i ≡ Some d → ((q : ℕ) → framer_here q (Some d') ≡ framer_here q (Some d)) → AllByRecursion UpFits more → AllByRecursion (λ x. phase_behind x ≡ phase.Between) more
+      → (q : ℕ) (b : Wire) (p : ItemWire) → d.here ≡ Some q → WireAt UpFits DownFits w v q b p → After w v i d' q (put_up (flat_map written_item more) b) (pipes.put_up more p)
+  said_at_here w v i d d' more found same fit between q b p here x =
+      wire_put_up UpFits DownFits cores.up_limits cores.down_limits (framer_at (number_at q) w.server.framers) (framer_here q (slice_get (slice_set w.devices i d') b.device)) (writer_at (number_at q) v.server) b p more fit between
+      (subst (λ r. WireImage UpFits DownFits (framer_at (number_at q) w.server.framers) r (writer_at (number_at q) v.server) b p) (sym (framer_stays w.devices i d d' q b.device found (same q))) x)
+
+  -- the device of bytes behind a turn
+  abbrev turned_device : DeviceState → Turn ItemOut ItemOut → DeviceState
+  turned_device d t = record d { client = record d.client { client = client_turned written_item t.client } }
+
+  spoke_image : (w : World) (v : ItemWorld) (i : ℕ) (d : DeviceState) (e : ItemDevice) (t : Turn ItemOut ItemOut) → slice_get w.devices i ≡ Some d → slice_get v.devices i ≡ Some e → DeviceImage ClientFits d e → TurnFits UpFits ClientFits t → WorldImage UpFits DownFits HallFits ClientFits w v
+      → WorldImage UpFits DownFits HallFits ClientFits (record w { devices = slice_set w.devices i (turned_device d t); wires = changed_where d.here (put_up (flat_map written_item t.out.put)) w.wires }) (items.spoke i e t v)
+  spoke_image w v i d e t found found_item h fits image =
+      user_image w v i d (turned_device d t) e (record e { client = t.client }) (put_up (flat_map written_item t.out.put)) (pipes.put_up t.out.put) found found_item (record { client = refl; here = h.here; fits = fits.client }) h.here image
+      (said_at_here w v i d (turned_device d t) t.out.put found (λ q. refl) fits.puts fits.no_footer) (λ q other. refl)
+
+  nothing_put : (p : ItemWire) → pipes.put_up [] p ≡ p
+  nothing_put p = ap (λ u. record p { up = u }) (nothing_entered p.up)
+
+  nothing_where : (o : Option ℕ) (l : List ItemWire) → changed_where o (pipes.put_up []) l ≡ l
+  nothing_where None l = refl
+  nothing_where (Some q) l = changed_none (pipes.put_up []) l q nothing_put
+
+  -- a line that is refused is noted down, and nothing is put
+  refused_image : (w : World) (v : ItemWorld) (i : ℕ) (d d' : DeviceState) (e : ItemDevice) → slice_get w.devices i ≡ Some d → slice_get v.devices i ≡ Some e → DeviceImage ClientFits d e → d'.client ≡ d.client → d'.here ≡ d.here → WorldImage UpFits DownFits HallFits ClientFits w v
+      → WorldImage UpFits DownFits HallFits ClientFits (record w { devices = slice_set w.devices i d'; wires = changed_where d.here (put_up []) w.wires }) v
+  refused_image w v i d d' e found found_item h same same_here image =
+      let same_framer : (q : ℕ) → framer_here q (Some d') ≡ framer_here q (Some d) = λ q. ap₂ (λ o (c : ClientValue). cond (has_wire q o) c.framer None) same_here same in
+      subst (WorldImage UpFits DownFits HallFits ClientFits (record w { devices = slice_set w.devices i d'; wires = changed_where d.here (put_up []) w.wires })) (ap₂ (λ l m. record v { devices = l; wires = m }) (set_same v.devices i e found_item) (nothing_where e.here v.wires))
+      (user_image w v i d d' e e (put_up []) (pipes.put_up []) found found_item (record { client = ap (λ (c : ClientValue). c.client) same ∙ h.client; here = same_here ∙ h.here; fits = h.fits }) h.here image
+      (said_at_here w v i d d' [] found same_framer tt tt) (λ q other. same_framer q))
+
+  -- ---- submissions
+
+  silent_is : (d : DeviceState) (e : ItemDevice) → DeviceImage ClientFits d e → devices.silent_turn d.client ≡ written (silent_turn e.client)
+  silent_is d e h = ap (λ c. record { client = c; out = record { put = []; events = []; notes = [] } }) h.client
+
+  said_is : (c : ClientView ItemOut) (to text : List ℕ) (private : Bool) (n : ℕ) → say_answer c text ≡ Ok n → says in_bytes (written (silent_turn c)) to text private ≡ written (says in_items (silent_turn c) to text private)
+  said_is c to text private n ok =
+      let fed : Fed ItemOut ItemOut = fed_of c in
+      ap (λ (f : Fed (List ℕ) ℕ). f.turn)
+      (sym (ap (λ a. calls.said_by in_bytes (written_fed fed) to text private (is_ok a)) (answer_turned written_item c text ∙ ok)) ∙ calls_turned bytes_turned (calls.Say to text private ∷ []) fed
+      ∙ ap (λ a. written_fed (calls.said_by in_items fed to text private (is_ok a))) ok)
+
+  say_refused_same : (line : ℕ) (f : SayFault) (d : DeviceState) → ((devices.say_refused line f d).client ≡ d.client) × ((devices.say_refused line f d).here ≡ d.here)
+  say_refused_same line fault.NotBound d = (refl, refl)
+  say_refused_same line fault.OutboxFull d = (refl, refl)
+  say_refused_same line fault.BadText d = (refl, refl)
+  say_refused_same line fault.NoMemory d = (refl, refl)
+
+  pub say_is : (i line : ℕ) (to text : List ℕ) (private : Bool) (w : World) (v : ItemWorld) → IsTrue (is_name to) → WorldImage UpFits DownFits HallFits ClientFits w v → IsMoved UpFits DownFits HallFits ClientFits cores (Say i line to text private) w v
+  say_is i line to text private w v name image = record { moves = items.Say i (bare_address to) text private ∷ []; is_run = refl; image = by (slice_get w.devices i) (slice_get v.devices i) refl refl (image.devices i) }
+    where
+      abbrev Goal : Option DeviceState → Option ItemDevice → Type 0
+      Goal od oe = WorldImage UpFits DownFits HallFits ClientFits (said_by i line to text private od w) (items.said_by i (bare_address to) text private oe v)
+
+      answered : (d : DeviceState) (e : ItemDevice) → slice_get w.devices i ≡ Some d → slice_get v.devices i ≡ Some e → DeviceImage ClientFits d e → (a : Result ℕ SayFault) → say_answer e.client text ≡ a
+          → WorldImage UpFits DownFits HallFits ClientFits (spoke i d.here (devices.says_by line (bare_address to) text private a d) w) (items.said_in a i e (says in_items (silent_turn e.client) (bare_address to) text private) v)
+      answered d e found found_item h (Ok n) ok =
+          let t = says in_items (silent_turn e.client) (bare_address to) text private in
+          subst (λ (u : Turn (List ℕ) ℕ). WorldImage UpFits DownFits HallFits ClientFits (spoke i d.here (devices.after_turn u d) w) (items.spoke i e t v)) (sym (ap (λ u. says in_bytes u (bare_address to) text private) (silent_is d e h) ∙ said_is e.client (bare_address to) text private n ok))
+          (spoke_image w v i d e t found found_item h (cores.says_so to text private n e.client h.fits name ok) image)
+      answered d e found found_item h (Err f) refused =
+          let same = say_refused_same line f d in
+          refused_image w v i d (devices.say_refused line f d) e found found_item h same.0 same.1 image
+
+      by : (od : Option DeviceState) (oe : Option ItemDevice) → slice_get w.devices i ≡ od → slice_get v.devices i ≡ oe → Both (DeviceImage ClientFits) od oe → Goal (slice_get w.devices i) (slice_get v.devices i)
+      by None None found found_item h = subst (λ o. Goal o (slice_get v.devices i)) (sym found) (subst (Goal None) (sym found_item) image)
+      by None (Some e) found found_item h = absurd h
+      by (Some d) None found found_item h = absurd h
+      by (Some d) (Some e) found found_item h =
+          subst (λ o. Goal o (slice_get v.devices i)) (sym found) (subst (Goal (Some d)) (sym found_item)
+          (subst (λ a. WorldImage UpFits DownFits HallFits ClientFits (spoke i d.here (devices.says_by line (bare_address to) text private a d) w) (items.said_in (say_answer e.client text) i e (says in_items (silent_turn e.client) (bare_address to) text private) v))
+          (sym (ap (λ c. say_answer c text) h.client ∙ answer_turned written_item e.client text)) (answered d e found found_item h (say_answer e.client text) refl)))
