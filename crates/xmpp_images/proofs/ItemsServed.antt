@@ -130,13 +130,18 @@ emptied_after place p later ws none u = record { wire = u.wire; found = u.found;
     by (inl e) = inr (e, none)
     by (inr e) = inr e
 
+-- what goes down leaves the pipe up
+put_after : (place : ℕ) (p : ItemWire) (i : ItemOut) (later : Option Phase) (ws : List ItemWire) → UpAfter place (put_down (i ∷ []) p) later ws → UpAfter place p later ws
+put_after place p i later ws u = record { wire = u.wire; found = u.found; is = u.is }
+
 up_after : (Fits : ItemOut → Type 0) (place : ℕ) (outs : List (Out ItemOut)) (now later : Option Phase) (ws : List ItemWire) (p : ItemWire) → AreInOrder Fits (number_at place) now outs later → slice_get ws place ≡ Some p → UpAfter place p later (all_emitted outs ws)
 up_after Fits place [] now later ws p order found = record { wire = p; found = found; is = inl refl }
 up_after Fits place (Took from to origin ∷ outs) now later ws p order found = up_after Fits place outs now later ws p order found
 up_after Fits place (Put zero i ∷ outs) now later ws p order found = up_after Fits place outs (behind_put (is_number (number_at place) zero) now i) later ws p order.1 found
 up_after Fits place (Put (suc q) i ∷ outs) now later ws p order found = elim (cases_eq place q) [
-  | inl same ↦ up_after Fits place outs (behind_put (is_number (number_at place) (suc q)) now i) later (changed_at q (put_down (i ∷ [])) ws) (put_down (i ∷ []) p) order.1
-      (subst (λ x. slice_get (changed_at x (put_down (i ∷ [])) ws) place ≡ Some (put_down (i ∷ []) p)) same (get_changed_same (put_down (i ∷ [])) ws place ∙ ap (option_map (put_down (i ∷ []))) found))
+  | inl same ↦ put_after place p i later (all_emitted outs (changed_at q (put_down (i ∷ [])) ws))
+      (up_after Fits place outs (behind_put (is_number (number_at place) (suc q)) now i) later (changed_at q (put_down (i ∷ [])) ws) (put_down (i ∷ []) p) order.1
+      (subst (λ x. slice_get (changed_at x (put_down (i ∷ [])) ws) place ≡ Some (put_down (i ∷ []) p)) same (get_changed_same (put_down (i ∷ [])) ws place ∙ ap (option_map (put_down (i ∷ []))) found)))
   | inr other ↦ up_after Fits place outs (behind_put (is_number (number_at place) (suc q)) now i) later (changed_at q (put_down (i ∷ [])) ws) p order.1 (get_changed_other (put_down (i ∷ [])) ws q place other ∙ found)
 ]
 up_after Fits place (Shut zero ∷ outs) now later ws p order found = up_after Fits place outs (behind_shut (is_number (number_at place) zero) now) later ws p order found

@@ -12,3 +12,4 @@ pub mod ItemsServed
 -- moves
 pub mod NetworkMoves
 pub mod UpMoves
+pub mod UserMoves

@@ -111,10 +111,7 @@ module _ (UpFits DownFits : ItemOut → Type 0) (HallFits : Hall ItemOut → Typ
   -- where the framer gives some first items
   module _ (place n : ℕ) (w : World) (v : ItemWorld) (b : Wire) (p : ItemWire) (found : slice_get w.wires place ≡ Some b) (found_item : slice_get v.wires place ≡ Some p) (i : WorldImage UpFits DownFits HallFits ClientFits w v)
       (f : State) (reader : framer_at (number_at place) w.server.framers ≡ Some f)
-      (h : IsUpHanded UpFits DownFits f (framer_here place (slice_get w.devices b.device)) (writer_at (number_at place) v.server) b p n) (fit : AllByRecursion UpFits p.up.items) where
-    k : ℕ
-    k = number_at place
-
+      (h : IsUpHanded UpFits DownFits cores.up_limits cores.down_limits f (framer_here place (slice_get w.devices b.device)) (writer_at (number_at place) v.server) b p n) (fit : AllByRecursion UpFits p.up.items) where
     abbrev piece : List ℕ
     piece = take n b.up.bytes
 

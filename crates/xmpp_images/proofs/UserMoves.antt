@@ -1,5 +1,5 @@
 -- What the user of a device does.
-use Rattle.std.proofs.Common.{◌≡◌, ◌≢◌, ℕ, zero, suc, ◌+◌, ◌<◌, ◌≤◌, ◌==◌, Bool, true, false, true≢false, cond, List, [], ◌∷◌, ◌++◌, Option, Some, None, Result, Ok, Err, IsTrue, is_ok, map, flat_map, length, refl, sym, ap, ap₂, subst, ◌∙◌, inl, inr, arith}
+use Rattle.std.proofs.Common.{◌≡◌, ◌≢◌, ℕ, zero, suc, ◌+◌, ◌<◌, ◌≤◌, ◌==◌, Bool, true, false, true≢false, cond, List, [], ◌∷◌, ◌++◌, Option, Some, None, Result, Ok, Err, IsTrue, is_ok, map, flat_map, length, refl, sym, ap, ap₂, subst, ◌∙◌, inl, inr, append-nil, arith}
 use Rattle.std.proofs.lemmas.Bool.{cases_eq, eq-eqb, eqb-true}
 use Rattle.std.specs.List.{AllByRecursion, slice_get, slice_set}
 use Rattle.std.specs.Option.{option_map}
@@ -21,7 +21,6 @@ use Rattle.xmpp_devices.specs.Devices.{DeviceState, has_wire}
 use Rattle.xmpp_framing.specs.States.{State}
 use Rattle.xmpp_framing.specs.declared.states.Phase.TheVariants as phase
 use Rattle.xmpp_images.proofs.ItemsServed.{changed_none}
-use Rattle.xmpp_images.proofs.PutSteps.{nothing_entered}
 use Rattle.xmpp_images.proofs.Lookups.{get_changed_other, get_changed_same, length_changed, set_changes}
 use Rattle.xmpp_images.proofs.NetworkMoves.{IsMoved, both_changed, both_weaker, found_both}
 use Rattle.xmpp_images.proofs.WireSteps.{wire_left, wire_put_up}
@@ -31,7 +30,7 @@ use Rattle.xmpp_images.specs.WorldImages.{Both, DeviceImage, WireAt, WorldImage,
 use Rattle.xmpp_item_worlds.specs.ItemMoves as items
 use Rattle.xmpp_item_worlds.specs.ItemMoves.{fed_of}
 use Rattle.xmpp_item_worlds.specs.ItemPipes as pipes
-use Rattle.xmpp_item_worlds.specs.ItemPipes.{ItemWire}
+use Rattle.xmpp_item_worlds.specs.ItemPipes.{ItemPipe, ItemWire}
 use Rattle.xmpp_item_worlds.specs.ItemWorlds.{ItemDevice, ItemWorld, silent_turn}
 use Rattle.xmpp_report.specs.Addresses.{bare_address}
 use Rattle.xmpp_schedule.specs.Grammar.{is_name}
@@ -144,6 +143,13 @@ module _ (UpFits DownFits : ItemOut → Type 0) (HallFits : Hall ItemOut → Typ
       user_image w v i d (turned_device d t) e (record e { client = t.client }) (put_up (flat_map written_item t.out.put)) (pipes.put_up t.out.put) found found_item (record { client = refl; here = h.here; fits = fits.client }) h.here image
       (said_at_here w v i d (turned_device d t) t.out.put found (λ q. refl) fits.puts fits.no_footer) (λ q other. refl)
 
+  nothing_entered : (p : ItemPipe) → pipes.entered [] p ≡ p
+  nothing_entered p = by p.ended
+    where
+      by : (e : Bool) → cond e p (record p { items = p.items ++ [] }) ≡ p
+      by true = refl
+      by false = ap (λ l. record p { items = l }) (append-nil p.items)
+
   nothing_put : (p : ItemWire) → pipes.put_up [] p ≡ p
   nothing_put p = ap (λ u. record p { up = u }) (nothing_entered p.up)
 
@@ -178,12 +184,12 @@ module _ (UpFits DownFits : ItemOut → Type 0) (HallFits : Hall ItemOut → Typ
   say_refused_same line fault.BadText d = (refl, refl)
   say_refused_same line fault.NoMemory d = (refl, refl)
 
+  abbrev Submitted : ℕ → ℕ → List ℕ → List ℕ → Bool → World → ItemWorld → Option DeviceState → Option ItemDevice → Type 0
+  Submitted i line to text private w v od oe = WorldImage UpFits DownFits HallFits ClientFits (said_by i line to text private od w) (items.said_by i (bare_address to) text private oe v)
+
   pub say_is : (i line : ℕ) (to text : List ℕ) (private : Bool) (w : World) (v : ItemWorld) → IsTrue (is_name to) → WorldImage UpFits DownFits HallFits ClientFits w v → IsMoved UpFits DownFits HallFits ClientFits cores (Say i line to text private) w v
   say_is i line to text private w v name image = record { moves = items.Say i (bare_address to) text private ∷ []; is_run = refl; image = by (slice_get w.devices i) (slice_get v.devices i) refl refl (image.devices i) }
     where
-      abbrev Goal : Option DeviceState → Option ItemDevice → Type 0
-      Goal od oe = WorldImage UpFits DownFits HallFits ClientFits (said_by i line to text private od w) (items.said_by i (bare_address to) text private oe v)
-
       answered : (d : DeviceState) (e : ItemDevice) → slice_get w.devices i ≡ Some d → slice_get v.devices i ≡ Some e → DeviceImage ClientFits d e → (a : Result ℕ SayFault) → say_answer e.client text ≡ a
           → WorldImage UpFits DownFits HallFits ClientFits (spoke i d.here (devices.says_by line (bare_address to) text private a d) w) (items.said_in a i e (says in_items (silent_turn e.client) (bare_address to) text private) v)
       answered d e found found_item h (Ok n) ok =
@@ -194,11 +200,11 @@ module _ (UpFits DownFits : ItemOut → Type 0) (HallFits : Hall ItemOut → Typ
           let same = say_refused_same line f d in
           refused_image w v i d (devices.say_refused line f d) e found found_item h same.0 same.1 image
 
-      by : (od : Option DeviceState) (oe : Option ItemDevice) → slice_get w.devices i ≡ od → slice_get v.devices i ≡ oe → Both (DeviceImage ClientFits) od oe → Goal (slice_get w.devices i) (slice_get v.devices i)
-      by None None found found_item h = subst (λ o. Goal o (slice_get v.devices i)) (sym found) (subst (Goal None) (sym found_item) image)
+      by : (od : Option DeviceState) (oe : Option ItemDevice) → slice_get w.devices i ≡ od → slice_get v.devices i ≡ oe → Both (DeviceImage ClientFits) od oe → Submitted i line to text private w v (slice_get w.devices i) (slice_get v.devices i)
+      by None None found found_item h = subst (λ o. Submitted i line to text private w v o (slice_get v.devices i)) (sym found) (subst (Submitted i line to text private w v None) (sym found_item) image)
       by None (Some e) found found_item h = absurd h
       by (Some d) None found found_item h = absurd h
       by (Some d) (Some e) found found_item h =
-          subst (λ o. Goal o (slice_get v.devices i)) (sym found) (subst (Goal (Some d)) (sym found_item)
+          subst (λ o. Submitted i line to text private w v o (slice_get v.devices i)) (sym found) (subst (Submitted i line to text private w v (Some d)) (sym found_item)
           (subst (λ a. WorldImage UpFits DownFits HallFits ClientFits (spoke i d.here (devices.says_by line (bare_address to) text private a d) w) (items.said_in (say_answer e.client text) i e (says in_items (silent_turn e.client) (bare_address to) text private) v))
           (sym (ap (λ c. say_answer c text) h.client ∙ answer_turned written_item e.client text)) (answered d e found found_item h (say_answer e.client text) refl)))
