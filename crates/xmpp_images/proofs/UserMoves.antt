@@ -1,20 +1,26 @@
 -- What the user of a device does.
-use Rattle.std.proofs.Common.{◌≡◌, ◌≢◌, ℕ, zero, suc, ◌+◌, ◌<◌, ◌≤◌, ◌==◌, Bool, true, false, true≢false, cond, List, [], ◌∷◌, ◌++◌, Option, Some, None, Result, Ok, Err, IsTrue, is_ok, map, flat_map, length, refl, sym, ap, ap₂, subst, ◌∙◌, inl, inr, append-nil, arith}
+use Rattle.std.proofs.Common.{◌≡◌, ◌≢◌, ℕ, zero, suc, ◌+◌, ◌<◌, ◌≤◌, ◌==◌, Bool, true, false, true≢false, cond, List, [], ◌∷◌, ◌++◌, Option, Some, None, Result, Ok, Err, IsTrue, is_ok, nat_le, flat_map, length, refl, sym, ap, ap₂, subst, ◌∙◌, inl, inr, append-nil, arith}
 use Rattle.std.proofs.lemmas.Bool.{cases_eq, eq-eqb, eqb-true}
 use Rattle.std.specs.List.{AllByRecursion, slice_get, slice_set}
-use Rattle.std.specs.Option.{option_map}
+use Rattle.std.proofs.lemmas.List.{length-map}
+use Rattle.std.specs.Option.{is_some, option_map}
 use Rattle.xmpp_client.specs.Feeds.{Fed}
 use Rattle.xmpp_client.specs.Values.{ClientValue}
-use Rattle.xmpp_client.specs.UserCalls.{catch_up_answer, catches_up, closes, dials, forgets, say_answer, says}
+use Rattle.xmpp_client.specs.UserCalls.{catch_up_answer, catch_up_in, outbox_bound, catches_up, catches_up_in, closes, forgets, say_answer, says, submission_of, submits}
 use Rattle.xmpp_client.specs.declared.faults.CatchUpStart.{CatchUpStart}
 use Rattle.xmpp_client.specs.declared.faults.CatchUpStart.TheVariants as start
 use Rattle.xmpp_client.specs.declared.faults.SayFault.{SayFault}
 use Rattle.xmpp_client.specs.declared.faults.SayFault.TheVariants as fault
 use Rattle.xmpp_client_laws.proofs.TableTurned.{answer_turned, bytes_turned, calls_turned}
 use Rattle.xmpp_client_laws.specs.Calls as calls
-use Rattle.xmpp_client_laws.specs.Turned.{client_turned, written, written_fed}
+use Rattle.xmpp_client_laws.specs.Turned.{client_turned, session_turned, written, written_fed}
 use Rattle.xmpp_client_rows.specs.Clients.{ClientView, Turn}
 use Rattle.xmpp_client_rows.specs.Speech.{in_bytes, in_items}
+use Rattle.xmpp_client_rows.specs.Turns.{dropped, is_apart}
+use Rattle.xmpp_client_rows.specs.declared.phase.Phase.TheVariants.{Apart}
+use Rattle.xmpp_outbox.specs.Sessions.{SessionView}
+use Rattle.xmpp_outbox.specs.Submissions.{said_of}
+use Rattle.xmpp_outbox.specs.declared.said.Said.{Said}
 use Rattle.xmpp_desk.specs.State.{Hall}
 use Rattle.xmpp_devices.specs.Devices as devices
 use Rattle.xmpp_devices.specs.Devices.{DeviceState, has_wire}
@@ -87,7 +93,7 @@ module _ (UpFits DownFits : ItemOut → Type 0) (HallFits : Hall ItemOut → Typ
       here = subst (λ o. Both (DeviceImage ClientFits) (option_map (λ _. d') o) (option_map (λ _. e') (slice_get v.devices i))) (sym found) (subst (λ o. Both (DeviceImage ClientFits) (Some d') (option_map (λ _. e') o)) (sym found_item) h)
 
   wires_changed : (w : World) (v : ItemWorld) (i : ℕ) (d d' : DeviceState) (f : Wire → Wire) (g : ItemWire → ItemWire) (here : Option ℕ) → slice_get w.devices i ≡ Some d → WorldImage UpFits DownFits HallFits ClientFits w v
-      → ((q : ℕ) (b : Wire) (p : ItemWire) → here ≡ Some q → WireAt UpFits DownFits w v q b p → After w v i d' q (f b) (g p)) → ((q : ℕ) → (here ≡ Some q → ⊥) → framer_here q (Some d') ≡ framer_here q (Some d))
+      → ((q : ℕ) (b : Wire) (p : ItemWire) → here ≡ Some q → slice_get w.wires q ≡ Some b → slice_get v.wires q ≡ Some p → WireAt UpFits DownFits w v q b p → After w v i d' q (f b) (g p)) → ((q : ℕ) → (here ≡ Some q → ⊥) → framer_here q (Some d') ≡ framer_here q (Some d))
       → (place : ℕ) → Both (After w v i d' place) (slice_get (changed_where here f w.wires) place) (slice_get (changed_where here g v.wires) place)
   wires_changed w v i d d' f g None found image at_here at_other place =
       both_weaker (WireAt UpFits DownFits w v place) (After w v i d' place)
@@ -97,21 +103,21 @@ module _ (UpFits DownFits : ItemOut → Type 0) (HallFits : Hall ItemOut → Typ
       none_is_not : (q : ℕ) → None ≡ Some q → ⊥
       none_is_not q e = cc
   wires_changed w v i d d' f g (Some h) found image at_here at_other place =
-      both_changed (WireAt UpFits DownFits w v) (After w v i d') f g w.wires v.wires h (both_here (slice_get w.wires h) (slice_get v.wires h) (image.wires h))
+      both_changed (WireAt UpFits DownFits w v) (After w v i d') f g w.wires v.wires h (both_here (slice_get w.wires h) (slice_get v.wires h) refl refl (image.wires h))
       (λ q other b p x. subst (λ r. WireImage UpFits DownFits (framer_at (number_at q) w.server.framers) r (writer_at (number_at q) v.server) b p) (sym (framer_stays w.devices i d d' q b.device found (at_other q (λ e. other (sym (some_is h q e)))))) x)
       image.wires place
     where
       some_is : (x y : ℕ) → Some x ≡ Some y → x ≡ y
       some_is x y e = cc
 
-      both_here : (ob : Option Wire) (op : Option ItemWire) → Both (WireAt UpFits DownFits w v h) ob op → Both (After w v i d' h) (option_map f ob) (option_map g op)
-      both_here None None r = tt
-      both_here None (Some p) r = absurd r
-      both_here (Some b) None r = absurd r
-      both_here (Some b) (Some p) r = at_here h b p refl r
+      both_here : (ob : Option Wire) (op : Option ItemWire) → slice_get w.wires h ≡ ob → slice_get v.wires h ≡ op → Both (WireAt UpFits DownFits w v h) ob op → Both (After w v i d' h) (option_map f ob) (option_map g op)
+      both_here None None x y r = tt
+      both_here None (Some p) x y r = absurd r
+      both_here (Some b) None x y r = absurd r
+      both_here (Some b) (Some p) x y r = at_here h b p refl x y r
 
   pub user_image : (w : World) (v : ItemWorld) (i : ℕ) (d d' : DeviceState) (e e' : ItemDevice) (f : Wire → Wire) (g : ItemWire → ItemWire) → slice_get w.devices i ≡ Some d → slice_get v.devices i ≡ Some e → DeviceImage ClientFits d' e' → d.here ≡ e.here
-      → WorldImage UpFits DownFits HallFits ClientFits w v → ((q : ℕ) (b : Wire) (p : ItemWire) → d.here ≡ Some q → WireAt UpFits DownFits w v q b p → After w v i d' q (f b) (g p))
+      → WorldImage UpFits DownFits HallFits ClientFits w v → ((q : ℕ) (b : Wire) (p : ItemWire) → d.here ≡ Some q → slice_get w.wires q ≡ Some b → slice_get v.wires q ≡ Some p → WireAt UpFits DownFits w v q b p → After w v i d' q (f b) (g p))
       → ((q : ℕ) → (d.here ≡ Some q → ⊥) → framer_here q (Some d') ≡ framer_here q (Some d))
       → WorldImage UpFits DownFits HallFits ClientFits (record w { devices = slice_set w.devices i d'; wires = changed_where d.here f w.wires }) (record v { devices = slice_set v.devices i e'; wires = changed_where e.here g v.wires })
   user_image w v i d d' e e' f g found found_item h same_here image at_here at_other =
@@ -128,8 +134,8 @@ module _ (UpFits DownFits : ItemOut → Type 0) (HallFits : Hall ItemOut → Typ
   -- ---- what is put goes out, where a connection is there
 
   said_at_here : (w : World) (v : ItemWorld) (i : ℕ) (d d' : DeviceState) (more : List ItemOut) → slice_get w.devices i ≡ Some d → ((q : ℕ) → framer_here q (Some d') ≡ framer_here q (Some d)) → AllByRecursion UpFits more → AllByRecursion (λ x. phase_behind x ≡ phase.Between) more
-      → (q : ℕ) (b : Wire) (p : ItemWire) → d.here ≡ Some q → WireAt UpFits DownFits w v q b p → After w v i d' q (put_up (flat_map written_item more) b) (pipes.put_up more p)
-  said_at_here w v i d d' more found same fit between q b p here x =
+      → (q : ℕ) (b : Wire) (p : ItemWire) → d.here ≡ Some q → slice_get w.wires q ≡ Some b → slice_get v.wires q ≡ Some p → WireAt UpFits DownFits w v q b p → After w v i d' q (put_up (flat_map written_item more) b) (pipes.put_up more p)
+  said_at_here w v i d d' more found same fit between q b p here there there_item x =
       wire_put_up UpFits DownFits cores.up_limits cores.down_limits (framer_at (number_at q) w.server.framers) (framer_here q (slice_get (slice_set w.devices i d') b.device)) (writer_at (number_at q) v.server) b p more fit between
       (subst (λ r. WireImage UpFits DownFits (framer_at (number_at q) w.server.framers) r (writer_at (number_at q) v.server) b p) (sym (framer_stays w.devices i d d' q b.device found (same q))) x)
 
@@ -137,10 +143,10 @@ module _ (UpFits DownFits : ItemOut → Type 0) (HallFits : Hall ItemOut → Typ
   abbrev turned_device : DeviceState → Turn ItemOut ItemOut → DeviceState
   turned_device d t = record d { client = record d.client { client = client_turned written_item t.client } }
 
-  spoke_image : (w : World) (v : ItemWorld) (i : ℕ) (d : DeviceState) (e : ItemDevice) (t : Turn ItemOut ItemOut) → slice_get w.devices i ≡ Some d → slice_get v.devices i ≡ Some e → DeviceImage ClientFits d e → TurnFits UpFits ClientFits t → WorldImage UpFits DownFits HallFits ClientFits w v
+  spoke_image : (w : World) (v : ItemWorld) (i : ℕ) (d : DeviceState) (e : ItemDevice) (t : Turn ItemOut ItemOut) → slice_get w.devices i ≡ Some d → slice_get v.devices i ≡ Some e → DeviceImage ClientFits d e → t.client.phase ≡ e.client.phase → TurnFits UpFits ClientFits t → WorldImage UpFits DownFits HallFits ClientFits w v
       → WorldImage UpFits DownFits HallFits ClientFits (record w { devices = slice_set w.devices i (turned_device d t); wires = changed_where d.here (put_up (flat_map written_item t.out.put)) w.wires }) (items.spoke i e t v)
-  spoke_image w v i d e t found found_item h fits image =
-      user_image w v i d (turned_device d t) e (record e { client = t.client }) (put_up (flat_map written_item t.out.put)) (pipes.put_up t.out.put) found found_item (record { client = refl; here = h.here; fits = fits.client }) h.here image
+  spoke_image w v i d e t found found_item h same fits image =
+      user_image w v i d (turned_device d t) e (record e { client = t.client }) (put_up (flat_map written_item t.out.put)) (pipes.put_up t.out.put) found found_item (record { client = refl; here = h.here; framed = λ a. h.framed (sym (ap is_apart same) ∙ a); fits = fits.client }) h.here image
       (said_at_here w v i d (turned_device d t) t.out.put found (λ q. refl) fits.puts fits.no_footer) (λ q other. refl)
 
   nothing_entered : (p : ItemPipe) → pipes.entered [] p ≡ p
@@ -163,7 +169,7 @@ module _ (UpFits DownFits : ItemOut → Type 0) (HallFits : Hall ItemOut → Typ
   refused_image w v i d d' e found found_item h same same_here image =
       let same_framer : (q : ℕ) → framer_here q (Some d') ≡ framer_here q (Some d) = λ q. ap₂ (λ o (c : ClientValue). cond (has_wire q o) c.framer None) same_here same in
       subst (WorldImage UpFits DownFits HallFits ClientFits (record w { devices = slice_set w.devices i d'; wires = changed_where d.here (put_up []) w.wires })) (ap₂ (λ l m. record v { devices = l; wires = m }) (set_same v.devices i e found_item) (nothing_where e.here v.wires))
-      (user_image w v i d d' e e (put_up []) (pipes.put_up []) found found_item (record { client = ap (λ (c : ClientValue). c.client) same ∙ h.client; here = same_here ∙ h.here; fits = h.fits }) h.here image
+      (user_image w v i d d' e e (put_up []) (pipes.put_up []) found found_item (record { client = ap (λ (c : ClientValue). c.client) same ∙ h.client; here = same_here ∙ h.here; framed = λ a. ap (λ (c : ClientValue). c.framer) same ∙ h.framed a; fits = h.fits }) h.here image
       (said_at_here w v i d d' [] found same_framer tt tt) (λ q other. same_framer q))
 
   -- ---- submissions
@@ -177,6 +183,13 @@ module _ (UpFits DownFits : ItemOut → Type 0) (HallFits : Hall ItemOut → Typ
       ap (λ (f : Fed (List ℕ) ℕ). f.turn)
       (sym (ap (λ a. calls.said_by in_bytes (written_fed fed) to text private (is_ok a)) (answer_turned written_item c text ∙ ok)) ∙ calls_turned bytes_turned (calls.Say to text private ∷ []) fed
       ∙ ap (λ a. written_fed (calls.said_by in_items fed to text private (is_ok a))) ok)
+
+  submits_phase : (t : Turn ItemOut ItemOut) (o : Option (SessionView ItemOut)) (stanza : ItemOut) (said : Said) → (submits in_items t o stanza said).client.phase ≡ t.client.phase
+  submits_phase t None stanza said = refl
+  submits_phase t (Some s) stanza said = refl
+
+  says_phase : (c : ClientView ItemOut) (to text : List ℕ) (private : Bool) → (says in_items (silent_turn c) to text private).client.phase ≡ c.phase
+  says_phase c to text private = submits_phase (silent_turn c) c.session (in_items.say (submission_of c to text private)) (said_of c.epoch c.n to text private)
 
   say_refused_same : (line : ℕ) (f : SayFault) (d : DeviceState) → ((devices.say_refused line f d).client ≡ d.client) × ((devices.say_refused line f d).here ≡ d.here)
   say_refused_same line fault.NotBound d = (refl, refl)
@@ -195,7 +208,7 @@ module _ (UpFits DownFits : ItemOut → Type 0) (HallFits : Hall ItemOut → Typ
       answered d e found found_item h (Ok n) ok =
           let t = says in_items (silent_turn e.client) (bare_address to) text private in
           subst (λ (u : Turn (List ℕ) ℕ). WorldImage UpFits DownFits HallFits ClientFits (spoke i d.here (devices.after_turn u d) w) (items.spoke i e t v)) (sym (ap (λ u. says in_bytes u (bare_address to) text private) (silent_is d e h) ∙ said_is e.client (bare_address to) text private n ok))
-          (spoke_image w v i d e t found found_item h (cores.says_so to text private n e.client h.fits name ok) image)
+          (spoke_image w v i d e t found found_item h (says_phase e.client (bare_address to) text private) (cores.says_so to text private n e.client h.fits name ok) image)
       answered d e found found_item h (Err f) refused =
           let same = say_refused_same line f d in
           refused_image w v i d (devices.say_refused line f d) e found found_item h same.0 same.1 image
@@ -208,3 +221,84 @@ module _ (UpFits DownFits : ItemOut → Type 0) (HallFits : Hall ItemOut → Typ
           subst (λ o. Submitted i line to text private w v o (slice_get v.devices i)) (sym found) (subst (Submitted i line to text private w v (Some d)) (sym found_item)
           (subst (λ a. WorldImage UpFits DownFits HallFits ClientFits (spoke i d.here (devices.says_by line (bare_address to) text private a d) w) (items.said_in (say_answer e.client text) i e (says in_items (silent_turn e.client) (bare_address to) text private) v))
           (sym (ap (λ c. say_answer c text) h.client ∙ answer_turned written_item e.client text)) (answered d e found found_item h (say_answer e.client text) refl)))
+
+  -- ---- catching up
+
+  start_turned : (f : ItemOut → List ℕ) (c : ClientView ItemOut) → catch_up_answer (client_turned f c) ≡ catch_up_answer c
+  start_turned f c = by c.session
+    where
+      by : (o : Option (SessionView ItemOut)) → catch_up_in (client_turned f c) (option_map (session_turned f) o) ≡ catch_up_in c o
+      by None = refl
+      by (Some s) = ap (λ n. cond (nat_le outbox_bound n) (Err start.OutboxFull) (cond (is_some c.log.page) (Err start.Underway) (Ok tt))) (length-map s.waiting.queue f)
+
+  caught_up_is : (c : ClientView ItemOut) (most : ℕ) → catch_up_answer c ≡ Ok tt → catches_up in_bytes (written (silent_turn c)) most ≡ written (catches_up in_items (silent_turn c) most)
+  caught_up_is c most ok =
+      let fed : Fed ItemOut ItemOut = fed_of c in
+      ap (λ (f : Fed (List ℕ) ℕ). f.turn)
+      (sym (ap (λ a. calls.caught_up_by in_bytes (written_fed fed) most (is_ok a)) (start_turned written_item c ∙ ok)) ∙ calls_turned bytes_turned (calls.CatchUp most ∷ []) fed ∙ ap (λ a. written_fed (calls.caught_up_by in_items fed most (is_ok a))) ok)
+
+  catches_phase_in : (t : Turn ItemOut ItemOut) (o : Option (SessionView ItemOut)) (most : ℕ) → (catches_up_in in_items t o most).client.phase ≡ t.client.phase
+  catches_phase_in t None most = refl
+  catches_phase_in t (Some s) most = refl
+
+  catch_up_refused_same : (line : ℕ) (f : CatchUpStart) (d : DeviceState) → ((devices.catch_up_refused line f d).client ≡ d.client) × ((devices.catch_up_refused line f d).here ≡ d.here)
+  catch_up_refused_same line start.NotBound d = (refl, refl)
+  catch_up_refused_same line start.OutboxFull d = (refl, refl)
+  catch_up_refused_same line start.Underway d = (refl, refl)
+  catch_up_refused_same line start.NoMemory d = (refl, refl)
+
+  abbrev Asked : ℕ → ℕ → ℕ → World → ItemWorld → Option DeviceState → Option ItemDevice → Type 0
+  Asked i line most w v od oe = WorldImage UpFits DownFits HallFits ClientFits (caught_up_by i line most od w) (items.caught_up_by i most oe v)
+
+  pub catch_up_is : (i line most : ℕ) (w : World) (v : ItemWorld) → 1 ≤ most → most ≤ 100 → WorldImage UpFits DownFits HallFits ClientFits w v → IsMoved UpFits DownFits HallFits ClientFits cores (CatchUp i line most) w v
+  catch_up_is i line most w v some few image = record { moves = items.CatchUp i most ∷ []; is_run = refl; image = by (slice_get w.devices i) (slice_get v.devices i) refl refl (image.devices i) }
+    where
+      answered : (d : DeviceState) (e : ItemDevice) → slice_get w.devices i ≡ Some d → slice_get v.devices i ≡ Some e → DeviceImage ClientFits d e → (a : Result (Unit {0}) CatchUpStart) → catch_up_answer e.client ≡ a
+          → WorldImage UpFits DownFits HallFits ClientFits (spoke i d.here (devices.catches_up_by line most a d) w) (items.said_in a i e (catches_up in_items (silent_turn e.client) most) v)
+      answered d e found found_item h (Ok done) ok =
+          let t = catches_up in_items (silent_turn e.client) most in
+          subst (λ (u : Turn (List ℕ) ℕ). WorldImage UpFits DownFits HallFits ClientFits (spoke i d.here (devices.after_turn u d) w) (items.spoke i e t v)) (sym (ap (λ u. catches_up in_bytes u most) (silent_is d e h) ∙ caught_up_is e.client most ok))
+          (spoke_image w v i d e t found found_item h (catches_phase_in (silent_turn e.client) e.client.session most) (cores.catches_up_so most e.client h.fits some few ok) image)
+      answered d e found found_item h (Err f) refused =
+          let same = catch_up_refused_same line f d in
+          refused_image w v i d (devices.catch_up_refused line f d) e found found_item h same.0 same.1 image
+
+      by : (od : Option DeviceState) (oe : Option ItemDevice) → slice_get w.devices i ≡ od → slice_get v.devices i ≡ oe → Both (DeviceImage ClientFits) od oe → Asked i line most w v (slice_get w.devices i) (slice_get v.devices i)
+      by None None found found_item h = subst (λ o. Asked i line most w v o (slice_get v.devices i)) (sym found) (subst (Asked i line most w v None) (sym found_item) image)
+      by None (Some e) found found_item h = absurd h
+      by (Some d) None found found_item h = absurd h
+      by (Some d) (Some e) found found_item h =
+          subst (λ o. Asked i line most w v o (slice_get v.devices i)) (sym found) (subst (Asked i line most w v (Some d)) (sym found_item)
+          (subst (λ a. WorldImage UpFits DownFits HallFits ClientFits (spoke i d.here (devices.catches_up_by line most a d) w) (items.said_in (catch_up_answer e.client) i e (catches_up in_items (silent_turn e.client) most) v))
+          (sym (ap catch_up_answer h.client ∙ start_turned written_item e.client)) (answered d e found found_item h (catch_up_answer e.client) refl)))
+
+  -- ---- a connection that is left
+
+  -- a connection that the device doesn't have has no framer there
+  away : (o : Option ℕ) (f : Option State) (q : ℕ) → (o ≡ Some q → ⊥) → cond (has_wire q o) f None ≡ None
+  away None f q other = refl
+  away (Some h) f q other = by (h == q) refl
+    where
+      by : (b : Bool) → (h == q) ≡ b → cond b f None ≡ None
+      by true e = absurd (other (ap Some (eqb-true h q e)))
+      by false e = refl
+
+  pub left_at_here : (w : World) (v : ItemWorld) (i : ℕ) (d' : DeviceState) (q : ℕ) (b : Wire) (p : ItemWire) → WireAt UpFits DownFits w v q b p → After w v i d' q (left b) (pipes.left p)
+  left_at_here w v i d' q b p x =
+      wire_left UpFits DownFits cores.up_limits cores.down_limits (framer_at (number_at q) w.server.framers) (framer_here q (slice_get w.devices b.device)) (framer_here q (slice_get (slice_set w.devices i d') b.device)) (writer_at (number_at q) v.server) (writer_at (number_at q) v.server) b p x
+
+  abbrev Forgotten : ℕ → World → ItemWorld → Option DeviceState → Option ItemDevice → Type 0
+  Forgotten i w v od oe = WorldImage UpFits DownFits HallFits ClientFits (forgot_by i od w) (items.forgot_by i oe v)
+
+  pub forget_is : (i : ℕ) (w : World) (v : ItemWorld) → WorldImage UpFits DownFits HallFits ClientFits w v → IsMoved UpFits DownFits HallFits ClientFits cores (Forget i) w v
+  forget_is i w v image = record { moves = items.Forget i ∷ []; is_run = refl; image = by (slice_get w.devices i) (slice_get v.devices i) refl refl (image.devices i) }
+    where
+      by : (od : Option DeviceState) (oe : Option ItemDevice) → slice_get w.devices i ≡ od → slice_get v.devices i ≡ oe → Both (DeviceImage ClientFits) od oe → Forgotten i w v (slice_get w.devices i) (slice_get v.devices i)
+      by None None found found_item h = subst (λ o. Forgotten i w v o (slice_get v.devices i)) (sym found) (subst (Forgotten i w v None) (sym found_item) image)
+      by None (Some e) found found_item h = absurd h
+      by (Some d) None found found_item h = absurd h
+      by (Some d) (Some e) found found_item h =
+          subst (λ o. Forgotten i w v o (slice_get v.devices i)) (sym found) (subst (Forgotten i w v (Some d)) (sym found_item)
+          (user_image w v i d (devices.forgets_all d) e (record { client = (forgets in_items (fed_of e.client)).turn.client; here = None }) left pipes.left found found_item
+          (record { client = ap (λ c. dropped (record c { phase = Apart })) h.client; here = refl; framed = λ a. refl; fits = cores.forgets_so e.client h.fits }) h.here image
+          (λ q b p here x y r. left_at_here w v i (devices.forgets_all d) q b p r) (λ q other. sym (away d.here d.client.framer q other))))

@@ -1,7 +1,8 @@
 -- A world of bytes as the image of a world of items.
-use Rattle.std.specs.Prelude.{ℕ, ◌≡◌, List, [], Option, Some, None, if◌then◌else◌, length, slice_get}
+use Rattle.std.specs.Prelude.{ℕ, ◌≡◌, true, List, [], Option, Some, None, if◌then◌else◌, length, slice_get}
 use Rattle.xmpp_client_laws.specs.Turned.{client_turned}
 use Rattle.xmpp_client_rows.specs.Clients.{ClientView}
+use Rattle.xmpp_client_rows.specs.Turns.{is_apart}
 use Rattle.xmpp_desk.specs.State.{Hall}
 use Rattle.xmpp_devices.specs.Devices.{DeviceState, has_wire}
 use Rattle.xmpp_framing.specs.States.{State}
@@ -24,10 +25,12 @@ Both R (Some a) None = ⊥
 
 -- ---- devices
 
--- the client of bytes is that of items, with each thing that waits written, and it has the same connection
+-- The client of bytes is that of items, with each thing that waits written, and it has the same connection. A client that
+-- stands apart has no framer.
 pub record DeviceImage (ClientFits : ClientView ItemOut → Type 0) (d : DeviceState) (e : ItemDevice) : Type 0 where
   pub client : d.client.client ≡ client_turned written_item e.client
   pub here : d.here ≡ e.here
+  pub framed : is_apart e.client.phase ≡ true → d.client.framer ≡ None
   pub fits : ClientFits e.client
 
 -- the framer that a device has for the connection at a place
