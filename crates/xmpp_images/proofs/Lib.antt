@@ -13,3 +13,6 @@ pub mod ItemsServed
 pub mod NetworkMoves
 pub mod UpMoves
 pub mod UserMoves
+pub mod DialMoves
+pub mod Dialing
+pub mod ItemsHeard

@@ -51,7 +51,7 @@ use Rattle.xmpp_written.specs.Puts.{phase_behind}
 
 -- ---- lists set at a place
 
-set_same : {T : Type 0} (l : List T) (i : ℕ) (x : T) → slice_get l i ≡ Some x → slice_set l i x ≡ l
+pub set_same : {T : Type 0} (l : List T) (i : ℕ) (x : T) → slice_get l i ≡ Some x → slice_set l i x ≡ l
 set_same [] zero x found = refl
 set_same [] (suc i) x found = refl
 set_same (y ∷ l) zero x found = ap (λ z. z ∷ l) (some_is x y (sym found))
@@ -66,7 +66,7 @@ get_set_same l i x y found = ap (λ m. slice_get m i) (set_changes (λ _. y) l i
 pub get_set_other : {T : Type 0} (l : List T) (i j : ℕ) (x y : T) → slice_get l i ≡ Some x → j ≢ i → slice_get (slice_set l i y) j ≡ slice_get l j
 get_set_other l i j x y found other = ap (λ m. slice_get m j) (set_changes (λ _. y) l i x y found refl) ∙ get_changed_other (λ _. y) l i j other
 
-length_where : {T : Type 0} (o : Option ℕ) (f : T → T) (l : List T) → length (changed_where o f l) ≡ length l
+pub length_where : {T : Type 0} (o : Option ℕ) (f : T → T) (l : List T) → length (changed_where o f l) ≡ length l
 length_where None f l = refl
 length_where (Some q) f l = length_changed f l q
 
@@ -79,10 +79,10 @@ framer_stays ds i d d' q j found same = elim (cases_eq j i) [
 
 module _ (UpFits DownFits : ItemOut → Type 0) (HallFits : Hall ItemOut → Type 0) (ClientFits : ClientView ItemOut → Type 0) (cores : CoresFit UpFits DownFits HallFits ClientFits) where
   -- a device changes, and the connection that it has
-  abbrev After : World → ItemWorld → ℕ → DeviceState → ℕ → Wire → ItemWire → Type 0
+  abbrev pub After : World → ItemWorld → ℕ → DeviceState → ℕ → Wire → ItemWire → Type 0
   After w v i d' q b p = WireImage UpFits DownFits (framer_at (number_at q) w.server.framers) (framer_here q (slice_get (slice_set w.devices i d') b.device)) (writer_at (number_at q) v.server) b p
 
-  devices_changed : (w : World) (v : ItemWorld) (i : ℕ) (d d' : DeviceState) (e e' : ItemDevice) → slice_get w.devices i ≡ Some d → slice_get v.devices i ≡ Some e → DeviceImage ClientFits d' e' → WorldImage UpFits DownFits HallFits ClientFits w v
+  pub devices_changed : (w : World) (v : ItemWorld) (i : ℕ) (d d' : DeviceState) (e e' : ItemDevice) → slice_get w.devices i ≡ Some d → slice_get v.devices i ≡ Some e → DeviceImage ClientFits d' e' → WorldImage UpFits DownFits HallFits ClientFits w v
       → (place : ℕ) → Both (DeviceImage ClientFits) (slice_get (slice_set w.devices i d') place) (slice_get (slice_set v.devices i e') place)
   devices_changed w v i d d' e e' found found_item h image place =
       subst (λ l. Both (DeviceImage ClientFits) (slice_get l place) (slice_get (slice_set v.devices i e') place)) (sym (set_changes (λ _. d') w.devices i d d' found refl))
@@ -92,29 +92,40 @@ module _ (UpFits DownFits : ItemOut → Type 0) (HallFits : Hall ItemOut → Typ
       here : Both (DeviceImage ClientFits) (option_map (λ _. d') (slice_get w.devices i)) (option_map (λ _. e') (slice_get v.devices i))
       here = subst (λ o. Both (DeviceImage ClientFits) (option_map (λ _. d') o) (option_map (λ _. e') (slice_get v.devices i))) (sym found) (subst (λ o. Both (DeviceImage ClientFits) (Some d') (option_map (λ _. e') o)) (sym found_item) h)
 
-  wires_changed : (w : World) (v : ItemWorld) (i : ℕ) (d d' : DeviceState) (f : Wire → Wire) (g : ItemWire → ItemWire) (here : Option ℕ) → slice_get w.devices i ≡ Some d → WorldImage UpFits DownFits HallFits ClientFits w v
-      → ((q : ℕ) (b : Wire) (p : ItemWire) → here ≡ Some q → slice_get w.wires q ≡ Some b → slice_get v.wires q ≡ Some p → WireAt UpFits DownFits w v q b p → After w v i d' q (f b) (g p)) → ((q : ℕ) → (here ≡ Some q → ⊥) → framer_here q (Some d') ≡ framer_here q (Some d))
-      → (place : ℕ) → Both (After w v i d' place) (slice_get (changed_where here f w.wires) place) (slice_get (changed_where here g v.wires) place)
-  wires_changed w v i d d' f g None found image at_here at_other place =
+  -- what stands at a place behind the change
+  pub wires_changed : (w : World) (v : ItemWorld) (i : ℕ) (d d' : DeviceState) (f : Wire → Wire) (g : ItemWire → ItemWire) (here : Option ℕ) (place : ℕ) → slice_get w.devices i ≡ Some d → WorldImage UpFits DownFits HallFits ClientFits w v
+      → ((b : Wire) (p : ItemWire) → here ≡ Some place → slice_get w.wires place ≡ Some b → slice_get v.wires place ≡ Some p → WireAt UpFits DownFits w v place b p → After w v i d' place (f b) (g p))
+      → ((here ≡ Some place → ⊥) → framer_here place (Some d') ≡ framer_here place (Some d))
+      → Both (After w v i d' place) (slice_get (changed_where here f w.wires) place) (slice_get (changed_where here g v.wires) place)
+  wires_changed w v i d d' f g None place found image at_here at_other =
       both_weaker (WireAt UpFits DownFits w v place) (After w v i d' place)
-      (λ b p x. subst (λ r. WireImage UpFits DownFits (framer_at (number_at place) w.server.framers) r (writer_at (number_at place) v.server) b p) (sym (framer_stays w.devices i d d' place b.device found (at_other place (λ e. none_is_not place e)))) x)
+      (λ b p x. subst (λ r. WireImage UpFits DownFits (framer_at (number_at place) w.server.framers) r (writer_at (number_at place) v.server) b p) (sym (framer_stays w.devices i d d' place b.device found (at_other (none_is_not place)))) x)
       (slice_get w.wires place) (slice_get v.wires place) (image.wires place)
     where
       none_is_not : (q : ℕ) → None ≡ Some q → ⊥
       none_is_not q e = cc
-  wires_changed w v i d d' f g (Some h) found image at_here at_other place =
-      both_changed (WireAt UpFits DownFits w v) (After w v i d') f g w.wires v.wires h (both_here (slice_get w.wires h) (slice_get v.wires h) refl refl (image.wires h))
-      (λ q other b p x. subst (λ r. WireImage UpFits DownFits (framer_at (number_at q) w.server.framers) r (writer_at (number_at q) v.server) b p) (sym (framer_stays w.devices i d d' q b.device found (at_other q (λ e. other (sym (some_is h q e)))))) x)
-      image.wires place
+  wires_changed w v i d d' f g (Some h) place found image at_here at_other = elim (cases_eq place h) [
+    | inl same ↦
+        subst (λ x. Both (After w v i d' place) (slice_get (changed_at x f w.wires) place) (slice_get (changed_at x g v.wires) place)) same
+        (subst (λ o. Both (After w v i d' place) o (slice_get (changed_at place g v.wires) place)) (sym (get_changed_same f w.wires place))
+        (subst (λ o. Both (After w v i d' place) (option_map f (slice_get w.wires place)) o) (sym (get_changed_same g v.wires place))
+        (both_here (ap Some (sym same)) (slice_get w.wires place) (slice_get v.wires place) refl refl (image.wires place))))
+    | inr other ↦
+        subst (λ o. Both (After w v i d' place) o (slice_get (changed_at h g v.wires) place)) (sym (get_changed_other f w.wires h place other))
+        (subst (λ o. Both (After w v i d' place) (slice_get w.wires place) o) (sym (get_changed_other g v.wires h place other))
+        (both_weaker (WireAt UpFits DownFits w v place) (After w v i d' place)
+        (λ b p x. subst (λ r. WireImage UpFits DownFits (framer_at (number_at place) w.server.framers) r (writer_at (number_at place) v.server) b p) (sym (framer_stays w.devices i d d' place b.device found (at_other (λ e. other (sym (some_is h place e)))))) x)
+        (slice_get w.wires place) (slice_get v.wires place) (image.wires place)))
+  ]
     where
       some_is : (x y : ℕ) → Some x ≡ Some y → x ≡ y
       some_is x y e = cc
 
-      both_here : (ob : Option Wire) (op : Option ItemWire) → slice_get w.wires h ≡ ob → slice_get v.wires h ≡ op → Both (WireAt UpFits DownFits w v h) ob op → Both (After w v i d' h) (option_map f ob) (option_map g op)
-      both_here None None x y r = tt
-      both_here None (Some p) x y r = absurd r
-      both_here (Some b) None x y r = absurd r
-      both_here (Some b) (Some p) x y r = at_here h b p refl x y r
+      both_here : Some h ≡ Some place → (ob : Option Wire) (op : Option ItemWire) → slice_get w.wires place ≡ ob → slice_get v.wires place ≡ op → Both (WireAt UpFits DownFits w v place) ob op → Both (After w v i d' place) (option_map f ob) (option_map g op)
+      both_here e None None x y r = tt
+      both_here e None (Some p) x y r = absurd r
+      both_here e (Some b) None x y r = absurd r
+      both_here e (Some b) (Some p) x y r = at_here b p e x y r
 
   pub user_image : (w : World) (v : ItemWorld) (i : ℕ) (d d' : DeviceState) (e e' : ItemDevice) (f : Wire → Wire) (g : ItemWire → ItemWire) → slice_get w.devices i ≡ Some d → slice_get v.devices i ≡ Some e → DeviceImage ClientFits d' e' → d.here ≡ e.here
       → WorldImage UpFits DownFits HallFits ClientFits w v → ((q : ℕ) (b : Wire) (p : ItemWire) → d.here ≡ Some q → slice_get w.wires q ≡ Some b → slice_get v.wires q ≡ Some p → WireAt UpFits DownFits w v q b p → After w v i d' q (f b) (g p))
@@ -128,7 +139,7 @@ module _ (UpFits DownFits : ItemOut → Type 0) (HallFits : Hall ItemOut → Typ
         hall_fits = image.hall_fits;
         devices = devices_changed w v i d d' e e' found found_item h image;
         as_many = length_where d.here f w.wires ∙ image.as_many ∙ sym (length_where d.here g v.wires);
-        wires = wires_changed w v i d d' f g d.here found image at_here at_other;
+        wires = λ place. wires_changed w v i d d' f g d.here place found image (at_here place) (at_other place);
       })
 
   -- ---- what is put goes out, where a connection is there
@@ -174,7 +185,7 @@ module _ (UpFits DownFits : ItemOut → Type 0) (HallFits : Hall ItemOut → Typ
 
   -- ---- submissions
 
-  silent_is : (d : DeviceState) (e : ItemDevice) → DeviceImage ClientFits d e → devices.silent_turn d.client ≡ written (silent_turn e.client)
+  pub silent_is : (d : DeviceState) (e : ItemDevice) → DeviceImage ClientFits d e → devices.silent_turn d.client ≡ written (silent_turn e.client)
   silent_is d e h = ap (λ c. record { client = c; out = record { put = []; events = []; notes = [] } }) h.client
 
   said_is : (c : ClientView ItemOut) (to text : List ℕ) (private : Bool) (n : ℕ) → say_answer c text ≡ Ok n → says in_bytes (written (silent_turn c)) to text private ≡ written (says in_items (silent_turn c) to text private)
@@ -275,7 +286,7 @@ module _ (UpFits DownFits : ItemOut → Type 0) (HallFits : Hall ItemOut → Typ
   -- ---- a connection that is left
 
   -- a connection that the device doesn't have has no framer there
-  away : (o : Option ℕ) (f : Option State) (q : ℕ) → (o ≡ Some q → ⊥) → cond (has_wire q o) f None ≡ None
+  pub away : (o : Option ℕ) (f : Option State) (q : ℕ) → (o ≡ Some q → ⊥) → cond (has_wire q o) f None ≡ None
   away None f q other = refl
   away (Some h) f q other = by (h == q) refl
     where

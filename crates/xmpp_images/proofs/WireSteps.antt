@@ -40,7 +40,7 @@ pub all_mapped : {X : Type 0} (P Q : X → Type 0) (f : (x : X) → P x → Q x)
 all_mapped P Q f [] all = tt
 all_mapped P Q f (x ∷ l) all = (f x all.0, all_mapped P Q f l all.1)
 
-all_entered : (P : ItemOut → Type 0) (more : List ItemOut) (p : ItemPipe) → AllByRecursion P p.items → AllByRecursion P more → AllByRecursion P (items.entered more p).items
+pub all_entered : (P : ItemOut → Type 0) (more : List ItemOut) (p : ItemPipe) → AllByRecursion P p.items → AllByRecursion P more → AllByRecursion P (items.entered more p).items
 all_entered P more p all rest = by p.ended
   where
     by : (e : Bool) → AllByRecursion P (cond e p (record p { items = p.items ++ more })).items
