@@ -26,7 +26,7 @@ use Rattle.xmpp_framing.specs.declared.states.Phase.TheVariants as phase
 use Rattle.xmpp_images.proofs.HallsTurned.{moment_turned}
 use Rattle.xmpp_images.proofs.ItemsServed.{changed_twice}
 use Rattle.xmpp_images.proofs.Lookups.{found_beside_inserted, found_inserted, get_before, get_last}
-use Rattle.xmpp_images.proofs.NetworkMoves.{IsMoved, both_weaker, number_apart}
+use Rattle.xmpp_images.proofs.NetworkMoves.{both_weaker, number_apart}
 use Rattle.xmpp_images.proofs.PipeSteps.{closed_image, over_image}
 use Rattle.xmpp_images.proofs.PutSteps.{put_image}
 use Rattle.xmpp_images.proofs.UserMoves.{After, away, devices_changed, get_set_same, left_at_here, length_where, silent_is, user_image, wires_changed}
@@ -34,7 +34,7 @@ use Rattle.xmpp_images.proofs.WireSteps.{all_entered, wire_fresh, wire_left, wir
 use Rattle.xmpp_images.specs.Cores.{CoresFit, writer_at, writer_of}
 use Rattle.xmpp_images.specs.PipeImages.{PipeImage}
 use Rattle.xmpp_images.specs.WireImages.{WireImage}
-use Rattle.xmpp_images.specs.WorldImages.{Both, DeviceImage, WireAt, WorldImage, framer_here}
+use Rattle.xmpp_images.specs.WorldImages.{Both, DeviceImage, IsMoved, WireAt, WorldImage, framer_here}
 use Rattle.xmpp_item_worlds.specs.ItemMoves as items
 use Rattle.xmpp_item_worlds.specs.ItemMoves.{fed_of}
 use Rattle.xmpp_item_worlds.specs.ItemPipes as pipes
@@ -106,7 +106,7 @@ module _ (UpFits DownFits : ItemOut → Type 0) (HallFits : Hall ItemOut → Typ
     wires = changed_where d.here left (changed_where d.here (put_up f.turn.out.put) w.wires);
   }
 
-  pub close_is : (i : ℕ) (w : World) (v : ItemWorld) → WorldImage UpFits DownFits HallFits ClientFits w v → IsMoved UpFits DownFits HallFits ClientFits cores (Close i) w v
+  pub close_is : (i : ℕ) (w : World) (v : ItemWorld) → WorldImage UpFits DownFits HallFits ClientFits w v → IsMoved UpFits DownFits HallFits ClientFits (Close i) w v
   close_is i w v image = record { moves = items.Close i ∷ []; is_run = refl; image = by (slice_get w.devices i) (slice_get v.devices i) refl refl (image.devices i) }
     where
       some : (d : DeviceState) (e : ItemDevice) → slice_get w.devices i ≡ Some d → slice_get v.devices i ≡ Some e → DeviceImage ClientFits d e → Closed i w v (Some d) (Some e)

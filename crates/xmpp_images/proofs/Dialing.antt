@@ -24,12 +24,12 @@ use Rattle.xmpp_framing.specs.declared.states.Phase.TheVariants as phase
 use Rattle.xmpp_images.proofs.DialMoves.{framed, silent_fed}
 use Rattle.xmpp_images.proofs.HallsTurned.{moment_turned}
 use Rattle.xmpp_images.proofs.Lookups.{found_beside_inserted, found_inserted, get_before, get_last}
-use Rattle.xmpp_images.proofs.NetworkMoves.{IsMoved, both_weaker, number_apart}
+use Rattle.xmpp_images.proofs.NetworkMoves.{both_weaker, number_apart}
 use Rattle.xmpp_images.proofs.UserMoves.{After, away, devices_changed, get_set_same, left_at_here, length_where, wires_changed}
 use Rattle.xmpp_images.proofs.WireSteps.{wire_fresh}
 use Rattle.xmpp_images.specs.Cores.{CoresFit, TurnFits, writer_at, writer_of}
 use Rattle.xmpp_images.specs.WireImages.{WireImage}
-use Rattle.xmpp_images.specs.WorldImages.{Both, DeviceImage, WorldImage, framer_here}
+use Rattle.xmpp_images.specs.WorldImages.{Both, DeviceImage, IsMoved, WorldImage, framer_here}
 use Rattle.xmpp_item_worlds.specs.ItemMoves as items
 use Rattle.xmpp_item_worlds.specs.ItemMoves.{fed_of}
 use Rattle.xmpp_item_worlds.specs.ItemPipes as pipes
@@ -195,7 +195,7 @@ module _ (UpFits DownFits : ItemOut → Type 0) (HallFits : Hall ItemOut → Typ
   Dialed i w v od oe =
       WorldImage UpFits DownFits HallFits ClientFits (dialed_by i od w) (items.dialed_by i (client_entropy (number_at (length w.wires))) (server_entropy (number_at (length w.wires))) oe v)
 
-  pub dial_is : (i : ℕ) (w : World) (v : ItemWorld) → WorldImage UpFits DownFits HallFits ClientFits w v → IsMoved UpFits DownFits HallFits ClientFits cores (Dial i) w v
+  pub dial_is : (i : ℕ) (w : World) (v : ItemWorld) → WorldImage UpFits DownFits HallFits ClientFits w v → IsMoved UpFits DownFits HallFits ClientFits (Dial i) w v
   dial_is i w v image = record {
     moves = items.Dial i (client_entropy (number_at (length w.wires))) (server_entropy (number_at (length w.wires))) ∷ [];
     is_run = (number_at (length w.wires), refl);

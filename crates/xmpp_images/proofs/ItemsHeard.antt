@@ -11,16 +11,16 @@ use Rattle.xmpp_desk.specs.State.{Hall}
 use Rattle.xmpp_framing.specs.declared.items.Item.{Item}
 use Rattle.xmpp_images.proofs.ItemsServed.{changed_none, changed_twice}
 use Rattle.xmpp_images.proofs.Lookups.{get_changed_same, set_changes}
-use Rattle.xmpp_images.proofs.PipeSteps.{dropped}
 use Rattle.xmpp_images.proofs.UserMoves.{get_set_same, set_same}
 use Rattle.xmpp_images.proofs.WireSteps.{all_joined}
-use Rattle.xmpp_images.specs.Cores.{Adds, CoresFit, IsNoFooter, TurnFits}
+use Rattle.xmpp_images.specs.PipeImages.{dropped}
+use Rattle.xmpp_images.specs.Cores.{Adds, CoresFit, HeardFits, IsInTurn, IsNoFooter}
 use Rattle.xmpp_images.specs.ItemRuns.{downs}
 use Rattle.xmpp_item_worlds.specs.ItemMoves.{Down, all_moved, at_device, at_wire, has_wire, heard, heard_first, here_behind, left_where, moved}
 use Rattle.xmpp_item_worlds.specs.ItemPipes.{ItemPipe, ItemWire, entered, handed_down, left, put_up}
 use Rattle.xmpp_item_worlds.specs.ItemWorlds.{ItemDevice, ItemWorld, read_of, silent_turn}
 use Rattle.xmpp_wires.specs.Places.{changed_at}
-use Rattle.xmpp_writer.specs.Items.{ItemOut}
+use Rattle.xmpp_writer.specs.Items.{Closing, ItemOut}
 
 abbrev pub many_down : ℕ → ItemWire → ItemWire
 many_down count p = record p { down = dropped count p.down }
@@ -80,6 +80,11 @@ one_then_many : (apart : Bool) (a b : List ItemOut) (n : ℕ) (x : ItemWire) →
 one_then_many apart a b n x =
     ap₂ (λ u l. left_where apart (record x { up = u; down = record x.down { items = l } })) (entered_twice a b x.up) (drop_more n x.down.items)
 
+-- what is in turn behind things that are no footers
+in_turn_behind : (apart : Bool) (before put : List ItemOut) → AllByRecursion IsNoFooter before → IsInTurn apart put → IsInTurn apart (before ++ put)
+in_turn_behind apart before put none (inl all) = inl (all_joined IsNoFooter before put none all)
+in_turn_behind apart before put none (inr last) = inr (before ++ last.0, ap (λ l. before ++ l) last.1 ∙ sym (append_assoc before last.0 (Closing ∷ [])), all_joined IsNoFooter before last.0 none last.2, last.3)
+
 module _ (UpFits DownFits : ItemOut → Type 0) (HallFits : Hall ItemOut → Type 0) (ClientFits : ClientView ItemOut → Type 0) (cores : CoresFit UpFits DownFits HallFits ClientFits) where
   run_adds : (l : List Item) (t : Turn ItemOut ItemOut) → Adds t (items_run in_items (silent_turn t.client) l) (items_run in_items t l)
   run_adds [] t = record { client_is = refl; put_is = sym (append-nil t.out.put) }
@@ -97,18 +102,25 @@ module _ (UpFits DownFits : ItemOut → Type 0) (HallFits : Hall ItemOut → Typ
       }
 
   -- what the turn of some items puts fits
-  pub turn_fits : (l : List ItemOut) (c : ClientView ItemOut) → ClientFits c → AllByRecursion DownFits l → TurnFits UpFits ClientFits (turn_of_items c l)
-  turn_fits [] c fits all = record { client = fits; puts = tt; no_footer = tt }
-  turn_fits (i ∷ l) c fits all =
-      let one = item_step in_items (silent_turn c) (read_of i) in
-      let f = cores.hears i c fits all.0 in
-      let g = turn_fits l one.client f.client all.1 in
-      let a = run_adds (map read_of l) one in
-      record {
-        client = subst ClientFits (sym a.client_is) g.client;
-        puts = subst (AllByRecursion UpFits) (sym a.put_is) (all_joined UpFits one.out.put (turn_of_items one.client l).out.put f.puts g.puts);
-        no_footer = subst (AllByRecursion IsNoFooter) (sym a.put_is) (all_joined IsNoFooter one.out.put (turn_of_items one.client l).out.put f.no_footer g.no_footer);
-      }
+  pub turn_fits : (l : List ItemOut) (c : ClientView ItemOut) → ClientFits c → AllByRecursion DownFits l → HeardFits UpFits ClientFits (turn_of_items c l)
+  turn_fits [] c fits all = record { client = fits; puts = tt; in_turn = inl tt }
+  turn_fits (i ∷ l) c fits all = elim (cores.hears i c fits all.0).in_turn [
+    | inl none ↦
+        let one = item_step in_items (silent_turn c) (read_of i) in
+        let f = cores.hears i c fits all.0 in
+        let g = turn_fits l one.client f.client all.1 in
+        let a = run_adds (map read_of l) one in
+        record {
+          client = subst ClientFits (sym a.client_is) g.client;
+          puts = subst (AllByRecursion UpFits) (sym a.put_is) (all_joined UpFits one.out.put (turn_of_items one.client l).out.put f.puts g.puts);
+          in_turn = subst (λ (c' : ClientView ItemOut). IsInTurn (is_apart c'.phase) (turn_of_items c (i ∷ l)).out.put) (sym a.client_is)
+              (subst (IsInTurn (is_apart (turn_of_items one.client l).client.phase)) (sym a.put_is) (in_turn_behind (is_apart (turn_of_items one.client l).client.phase) one.out.put (turn_of_items one.client l).out.put none g.in_turn));
+        }
+    | inr last ↦
+        let one = item_step in_items (silent_turn c) (read_of i) in
+        let f = cores.hears i c fits all.0 in
+        subst (HeardFits UpFits ClientFits) (sym (apart_run (map read_of l) one last.3)) f
+  ]
 
   -- ---- items one after another, and at once
 

@@ -13,7 +13,7 @@ use Rattle.xmpp_framing.specs.declared.states.Phase.{Phase}
 use Rattle.xmpp_images.proofs.BehindOuts.{behind, items_behind}
 use Rattle.xmpp_images.proofs.Emissions.{not_this, this_number}
 use Rattle.xmpp_images.proofs.Lookups.{get_changed_other, get_changed_same}
-use Rattle.xmpp_images.proofs.PipeSteps.{dropped}
+use Rattle.xmpp_images.specs.PipeImages.{dropped}
 use Rattle.xmpp_images.specs.Cores.{AreInOrder, CoresFit, IsInOrder, behind_put, behind_shut, writer_at, writer_of}
 use Rattle.xmpp_images.specs.ItemRuns.{ups}
 use Rattle.xmpp_item_worlds.specs.ItemMoves.{Up, all_emitted, all_moved, emitted, moved, served_by, served_first, served_item, step_of}

@@ -16,3 +16,5 @@ pub mod UserMoves
 pub mod DialMoves
 pub mod Dialing
 pub mod ItemsHeard
+pub mod DownMoves
+pub mod Moves

@@ -19,7 +19,7 @@ use Rattle.xmpp_images.proofs.WireSteps.{IsWireCut, wire_cut, wire_up_told}
 use Rattle.xmpp_images.specs.Cores.{CoresFit, writer_at, writer_of}
 use Rattle.xmpp_images.specs.ItemRuns.{IsRunOf, moved_where}
 use Rattle.xmpp_images.specs.WireImages.{WireImage}
-use Rattle.xmpp_images.specs.WorldImages.{Both, DeviceImage, WireAt, WorldImage, framer_here}
+use Rattle.xmpp_images.specs.WorldImages.{Both, DeviceImage, IsMoved, WireAt, WorldImage, framer_here}
 use Rattle.xmpp_item_worlds.specs.ItemMoves as items
 use Rattle.xmpp_item_worlds.specs.ItemMoves.{ItemMove}
 use Rattle.xmpp_item_worlds.specs.ItemPipes as pipes
@@ -77,13 +77,7 @@ pub number_apart : (p q : ℕ) → (p ≡ q → ⊥) → number_at p ≢ number_
 number_apart p q other e = other (omega (arith, e))
 
 module _ (UpFits DownFits : ItemOut → Type 0) (HallFits : Hall ItemOut → Type 0) (ClientFits : ClientView ItemOut → Type 0) (cores : CoresFit UpFits DownFits HallFits ClientFits) where
-  -- the world behind some item moves is the image
-  pub record IsMoved (m : Move) (w : World) (v : ItemWorld) : Type 0 where
-    pub moves : List ItemMove
-    pub is_run : IsRunOf m moves
-    pub image : WorldImage UpFits DownFits HallFits ClientFits (moved m w) (items.all_moved moves v)
-
-  pub tick_is : (milliseconds : ℕ) (w : World) (v : ItemWorld) → WorldImage UpFits DownFits HallFits ClientFits w v → IsMoved (Tick milliseconds) w v
+  pub tick_is : (milliseconds : ℕ) (w : World) (v : ItemWorld) → WorldImage UpFits DownFits HallFits ClientFits w v → IsMoved UpFits DownFits HallFits ClientFits (Tick milliseconds) w v
   tick_is milliseconds w v i = record {
     moves = items.Tick milliseconds ∷ [];
     is_run = refl;
@@ -108,7 +102,7 @@ module _ (UpFits DownFits : ItemOut → Type 0) (HallFits : Hall ItemOut → Typ
       let h = wire_cut UpFits DownFits cores.up_limits cores.down_limits (framer_at (number_at place) w.server.framers) (framer_here place (slice_get w.devices b.device)) (writer_at (number_at place) v.server) (writer_at (number_at place) v.server) b p up down r in
       (h.up_count, h.down_count, h.image)
 
-  pub cut_is : (place up down : ℕ) (w : World) (v : ItemWorld) → WorldImage UpFits DownFits HallFits ClientFits w v → IsMoved (Cut place up down) w v
+  pub cut_is : (place up down : ℕ) (w : World) (v : ItemWorld) → WorldImage UpFits DownFits HallFits ClientFits w v → IsMoved UpFits DownFits HallFits ClientFits (Cut place up down) w v
   cut_is place up down w v i =
       let h = has_cut place up down w v (slice_get w.wires place) (slice_get v.wires place) (i.wires place) in
       record {

@@ -20,7 +20,7 @@ use Rattle.xmpp_item_worlds.specs.ItemWorlds.{read_of}
 use Rattle.xmpp_pipes.specs.Pipes.{Pipe, closed, cut_to, emptied, empty_pipe, entered, handed, is_end_due, with_end_told}
 use Rattle.xmpp_writer.specs.Items.{Closing, ItemOut, Opening, Whole, written_item}
 use Rattle.xmpp_written.specs.Puts.{HasPut, MayPut, OutFits, StandsAt, phase_behind, read_out}
-use Rattle.xmpp_images.specs.PipeImages.{AreRead, Awaits, IsCarried, Over, PipeImage, Standing, WriterStands, over, standing}
+use Rattle.xmpp_images.specs.PipeImages.{AreRead, Awaits, IsCarried, IsCut, IsHanded, Over, PipeImage, Standing, WriterStands, dropped, over, standing}
 
 -- ---- a pipe's counts are not looked at
 
@@ -132,10 +132,6 @@ told_image limits writer reader b p i = record { ended = i.ended; told = refl; c
 
 -- ---- what is lost
 
-pub record IsCut (limits : Limits) (writer next : Option Phase) (reader : Option State) (b : Pipe) (p : ItemPipe) (n : ℕ) : Type 0 where
-  pub count : ℕ
-  pub image : PipeImage limits next reader (cut_to n b) (items.cut_to count p)
-
 read_first : (first others : List Item) (outs : List ItemOut) → AreRead (first ++ others) outs → AreRead first (take (length first) outs)
 read_first first others outs e =
     sym (take-append_seam (map (placed 0) first) (map (placed 0) others)) ∙ ap (λ n. take n (map (placed 0) first ++ map (placed 0) others)) (length-map first (placed 0))
@@ -183,19 +179,6 @@ pub cut_image : (limits : Limits) (writer next : Option Phase) (reader : Option 
 cut_image limits writer next reader b p n i = cut_of limits writer next reader b p n i.told i.carried
 
 -- ---- what is handed over
-
-abbrev pub dropped : ℕ → ItemPipe → ItemPipe
-dropped count p = record p { items = drop count p.items }
-
--- the framer gives the first items, and the pipe carries the others
-pub record IsHanded (limits : Limits) (writer : Option Phase) (f : State) (b : Pipe) (p : ItemPipe) (n : ℕ) : Type 0 where
-  pub count : ℕ
-  pub first : List Item
-  pub now : State
-  pub run_is : run (turn f []) (take n b.bytes) ≡ turn now first
-  pub no_fault : now.fault ≡ None
-  pub read : AreRead first (take count p.items)
-  pub image : PipeImage limits writer (Some now) (handed n b) (dropped count p)
 
 pub handed_image : (limits : Limits) (writer : Option Phase) (f : State) (b : Pipe) (p : ItemPipe) (n : ℕ) → b.ended ≡ p.ended → b.told ≡ p.told → Standing limits writer f b p → IsHanded limits writer f b p n
 handed_image limits writer f b p n ended told st =

@@ -154,3 +154,18 @@ module _ (limits : Limits) (few : limits.attributes < 2 ^ 32) (names : limits.na
     where
       may : (i : ItemOut) → MayPut phase.Between i
       may i = tt
+
+  -- the same, and a footer behind them
+  pub puts_last : (reader : Option State) (b : Pipe) (p : ItemPipe) (more : List ItemOut) → AllByRecursion (λ i. phase_behind i ≡ phase.Between) more → AllByRecursion (OutFits limits) (more ++ Closing ∷ [])
+      → PipeImage limits (Some phase.Between) reader b p → PipeImage limits (Some phase.Ended) reader (entered (flat_map written_item (more ++ Closing ∷ [])) b) (items.entered (more ++ Closing ∷ []) p)
+  puts_last reader b p [] between fit m =
+      subst (λ l. PipeImage limits (Some phase.Ended) reader (entered l b) (items.entered (Closing ∷ []) p)) (sym (append-nil (written_item Closing))) (put_image phase.Between reader b p Closing tt fit.0 m)
+  puts_last reader b p (i ∷ more) between fit m =
+      let bytes = written_item i in
+      let last = more ++ Closing ∷ [] in
+      let rest = flat_map written_item last in
+      let one = subst (λ n. PipeImage limits (Some n) reader (entered bytes b) (items.entered (i ∷ []) p)) between.0 (put_image phase.Between reader b p i tt fit.0 m) in
+      let all = puts_last reader (entered bytes b) (items.entered (i ∷ []) p) more between.1 fit.1 one in
+      subst (PipeImage limits (Some phase.Ended) reader (entered (bytes ++ rest) b)) (two_items_entered i last p)
+      (image_same limits (Some phase.Ended) reader (entered rest (entered bytes b)) (entered (bytes ++ rest) b) (items.entered last (items.entered (i ∷ []) p)) (two_entered bytes rest b)
+      (ended_entered rest (entered bytes b) ∙ ended_entered bytes b ∙ sym (ended_entered (bytes ++ rest) b)) (told_entered rest (entered bytes b) ∙ told_entered bytes b ∙ sym (told_entered (bytes ++ rest) b)) all)

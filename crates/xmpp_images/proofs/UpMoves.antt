@@ -21,13 +21,13 @@ use Rattle.xmpp_images.proofs.Emissions.{all_here}
 use Rattle.xmpp_images.proofs.HallsTurned.{moment_turned}
 use Rattle.xmpp_images.proofs.ItemsServed.{at_once, many_up, served, served_fits, served_in_order, ups_are}
 use Rattle.xmpp_images.proofs.Lookups.{found_behind_other_value, found_behind_value, length_changed, set_changes}
-use Rattle.xmpp_images.proofs.NetworkMoves.{IsEnded, IsMoved, both_changed, end_is, found_both, number_apart}
+use Rattle.xmpp_images.proofs.NetworkMoves.{IsEnded, both_changed, end_is, found_both, number_apart}
 use Rattle.xmpp_images.proofs.WireSteps.{IsUpHanded, all_taken, wire_up}
 use Rattle.xmpp_images.specs.Cores.{AreInOrder, CoresFit, writer_at}
 use Rattle.xmpp_images.specs.ItemRuns.{IsRunOf, IsServed, moved_where, ups}
 use Rattle.xmpp_images.specs.PipeImages.{AreRead, IsCarried, Over, Standing, over, standing}
 use Rattle.xmpp_images.specs.WireImages.{WireImage}
-use Rattle.xmpp_images.specs.WorldImages.{Both, WireAt, WorldImage, framer_here}
+use Rattle.xmpp_images.specs.WorldImages.{Both, IsMoved, WireAt, WorldImage, framer_here}
 use Rattle.xmpp_item_worlds.specs.ItemMoves as items
 use Rattle.xmpp_item_worlds.specs.ItemMoves.{ItemMove, step_of}
 use Rattle.xmpp_item_worlds.specs.ItemPipes.{ItemWire}
@@ -80,12 +80,12 @@ length_items_emitted (Shut k ∷ outs) ps = length_items_emitted outs (items.emi
 length_items_emitted (Took from to origin ∷ outs) ps = length_items_emitted outs ps
 
 -- as many are dropped as there are
-drop_taken : (n : ℕ) (l : List ItemOut) → drop n l ≡ drop (length (take n l)) l
+pub drop_taken : (n : ℕ) (l : List ItemOut) → drop n l ≡ drop (length (take n l)) l
 drop_taken zero l = refl
 drop_taken (suc n) [] = refl
 drop_taken (suc n) (x ∷ l) = drop_taken n l
 
-no_amount : (count : Count) (p : Pipe) → p.bytes ≡ [] → amount count p ≡ 0
+pub no_amount : (count : Count) (p : Pipe) → p.bytes ≡ [] → amount count p ≡ 0
 no_amount (Number n) p none = ap (λ l. min n (length l)) none ∙ omega arith
 no_amount All p none = ap length none
 
@@ -237,7 +237,7 @@ module _ (UpFits DownFits : ItemOut → Type 0) (HallFits : Hall ItemOut → Typ
       by None found = record { moves = []; is_served = inl refl; image = nothing (served_by place count (slice_get w.wires place) w) (ap (λ o. served_by place count o w) found) }
       by (Some b) found = some b found (amount count b.up == 0) refl
 
-  pub up_is : (place : ℕ) (count : Count) (w : World) (v : ItemWorld) → WorldImage UpFits DownFits HallFits ClientFits w v → IsMoved UpFits DownFits HallFits ClientFits cores (Up place count) w v
+  pub up_is : (place : ℕ) (count : Count) (w : World) (v : ItemWorld) → WorldImage UpFits DownFits HallFits ClientFits w v → IsMoved UpFits DownFits HallFits ClientFits (Up place count) w v
   up_is place count w v i =
       let a = served_so place count w v i in
       let z = end_is UpFits DownFits HallFits ClientFits cores place (served_by place count (slice_get w.wires place) w) (items.all_moved a.moves v) a.image in

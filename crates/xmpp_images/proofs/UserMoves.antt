@@ -28,11 +28,11 @@ use Rattle.xmpp_framing.specs.States.{State}
 use Rattle.xmpp_framing.specs.declared.states.Phase.TheVariants as phase
 use Rattle.xmpp_images.proofs.ItemsServed.{changed_none}
 use Rattle.xmpp_images.proofs.Lookups.{get_changed_other, get_changed_same, length_changed, set_changes}
-use Rattle.xmpp_images.proofs.NetworkMoves.{IsMoved, both_changed, both_weaker, found_both}
+use Rattle.xmpp_images.proofs.NetworkMoves.{both_changed, both_weaker, found_both}
 use Rattle.xmpp_images.proofs.WireSteps.{wire_left, wire_put_up}
 use Rattle.xmpp_images.specs.Cores.{CoresFit, TurnFits, writer_at}
 use Rattle.xmpp_images.specs.WireImages.{WireImage}
-use Rattle.xmpp_images.specs.WorldImages.{Both, DeviceImage, WireAt, WorldImage, framer_here}
+use Rattle.xmpp_images.specs.WorldImages.{Both, DeviceImage, IsMoved, WireAt, WorldImage, framer_here}
 use Rattle.xmpp_item_worlds.specs.ItemMoves as items
 use Rattle.xmpp_item_worlds.specs.ItemMoves.{fed_of}
 use Rattle.xmpp_item_worlds.specs.ItemPipes as pipes
@@ -211,7 +211,7 @@ module _ (UpFits DownFits : ItemOut → Type 0) (HallFits : Hall ItemOut → Typ
   abbrev Submitted : ℕ → ℕ → List ℕ → List ℕ → Bool → World → ItemWorld → Option DeviceState → Option ItemDevice → Type 0
   Submitted i line to text private w v od oe = WorldImage UpFits DownFits HallFits ClientFits (said_by i line to text private od w) (items.said_by i (bare_address to) text private oe v)
 
-  pub say_is : (i line : ℕ) (to text : List ℕ) (private : Bool) (w : World) (v : ItemWorld) → IsTrue (is_name to) → WorldImage UpFits DownFits HallFits ClientFits w v → IsMoved UpFits DownFits HallFits ClientFits cores (Say i line to text private) w v
+  pub say_is : (i line : ℕ) (to text : List ℕ) (private : Bool) (w : World) (v : ItemWorld) → IsTrue (is_name to) → WorldImage UpFits DownFits HallFits ClientFits w v → IsMoved UpFits DownFits HallFits ClientFits (Say i line to text private) w v
   say_is i line to text private w v name image = record { moves = items.Say i (bare_address to) text private ∷ []; is_run = refl; image = by (slice_get w.devices i) (slice_get v.devices i) refl refl (image.devices i) }
     where
       answered : (d : DeviceState) (e : ItemDevice) → slice_get w.devices i ≡ Some d → slice_get v.devices i ≡ Some e → DeviceImage ClientFits d e → (a : Result ℕ SayFault) → say_answer e.client text ≡ a
@@ -261,7 +261,7 @@ module _ (UpFits DownFits : ItemOut → Type 0) (HallFits : Hall ItemOut → Typ
   abbrev Asked : ℕ → ℕ → ℕ → World → ItemWorld → Option DeviceState → Option ItemDevice → Type 0
   Asked i line most w v od oe = WorldImage UpFits DownFits HallFits ClientFits (caught_up_by i line most od w) (items.caught_up_by i most oe v)
 
-  pub catch_up_is : (i line most : ℕ) (w : World) (v : ItemWorld) → 1 ≤ most → most ≤ 100 → WorldImage UpFits DownFits HallFits ClientFits w v → IsMoved UpFits DownFits HallFits ClientFits cores (CatchUp i line most) w v
+  pub catch_up_is : (i line most : ℕ) (w : World) (v : ItemWorld) → 1 ≤ most → most ≤ 100 → WorldImage UpFits DownFits HallFits ClientFits w v → IsMoved UpFits DownFits HallFits ClientFits (CatchUp i line most) w v
   catch_up_is i line most w v some few image = record { moves = items.CatchUp i most ∷ []; is_run = refl; image = by (slice_get w.devices i) (slice_get v.devices i) refl refl (image.devices i) }
     where
       answered : (d : DeviceState) (e : ItemDevice) → slice_get w.devices i ≡ Some d → slice_get v.devices i ≡ Some e → DeviceImage ClientFits d e → (a : Result (Unit {0}) CatchUpStart) → catch_up_answer e.client ≡ a
@@ -301,7 +301,7 @@ module _ (UpFits DownFits : ItemOut → Type 0) (HallFits : Hall ItemOut → Typ
   abbrev Forgotten : ℕ → World → ItemWorld → Option DeviceState → Option ItemDevice → Type 0
   Forgotten i w v od oe = WorldImage UpFits DownFits HallFits ClientFits (forgot_by i od w) (items.forgot_by i oe v)
 
-  pub forget_is : (i : ℕ) (w : World) (v : ItemWorld) → WorldImage UpFits DownFits HallFits ClientFits w v → IsMoved UpFits DownFits HallFits ClientFits cores (Forget i) w v
+  pub forget_is : (i : ℕ) (w : World) (v : ItemWorld) → WorldImage UpFits DownFits HallFits ClientFits w v → IsMoved UpFits DownFits HallFits ClientFits (Forget i) w v
   forget_is i w v image = record { moves = items.Forget i ∷ []; is_run = refl; image = by (slice_get w.devices i) (slice_get v.devices i) refl refl (image.devices i) }
     where
       by : (od : Option DeviceState) (oe : Option ItemDevice) → slice_get w.devices i ≡ od → slice_get v.devices i ≡ oe → Both (DeviceImage ClientFits) od oe → Forgotten i w v (slice_get w.devices i) (slice_get v.devices i)

@@ -7,16 +7,16 @@ use Rattle.xmpp_framing.specs.States.{State, from_start, turn}
 use Rattle.xmpp_framing.specs.declared.items.Item.{Item}
 use Rattle.xmpp_framing.specs.declared.states.Phase.{Phase}
 use Rattle.xmpp_framing.specs.declared.states.Phase.TheVariants as phase
-use Rattle.xmpp_images.proofs.PipeSteps.{IsHanded, closed_image, cut_image, dropped, due_told_image, ended_image, fresh_image, handed_image, is_due, over_image}
-use Rattle.xmpp_images.proofs.PutSteps.{ended_entered, items_ended_entered, put_image, puts_image}
-use Rattle.xmpp_images.specs.PipeImages.{AreRead, IsCarried, PipeImage, Standing, over, standing}
+use Rattle.xmpp_images.proofs.PipeSteps.{closed_image, cut_image, due_told_image, ended_image, fresh_image, handed_image, is_due, over_image}
+use Rattle.xmpp_images.proofs.PutSteps.{ended_entered, items_ended_entered, put_image, puts_image, puts_last}
+use Rattle.xmpp_images.specs.PipeImages.{AreRead, IsCarried, IsHanded, PipeImage, Standing, dropped, over, standing}
 use Rattle.xmpp_images.specs.WireImages.{WireImage}
 use Rattle.xmpp_item_worlds.specs.ItemPipes as items
 use Rattle.xmpp_item_worlds.specs.ItemPipes.{ItemPipe, ItemWire}
 use Rattle.xmpp_pipes.specs.Pipes.{Pipe, entered, is_end_due}
 use Rattle.xmpp_wires.specs.Wires.{cut_at, down_end_told, fresh_wire, handed_down, handed_up, left, put_down, put_up, shut, up_end_told}
 use Rattle.xmpp_wires.specs.declared.wire.Wire.{Wire}
-use Rattle.xmpp_writer.specs.Items.{ItemOut, Opening, written_item}
+use Rattle.xmpp_writer.specs.Items.{Closing, ItemOut, Opening, written_item}
 use Rattle.xmpp_names.specs.declared.headers.Header.{Header}
 use Rattle.xmpp_written.specs.Puts.{MayPut, OutFits, phase_behind}
 
@@ -105,6 +105,19 @@ module _ (UpFits DownFits : ItemOut → Type 0) (up_out : (i : ItemOut) → UpFi
     down = i.down;
     up_fits = all_entered UpFits more p.up i.up_fits fit;
     down_fits = i.down_fits;
+  }
+
+  -- a footer behind what is put, and the device leaves
+  pub wire_last : (r d e : Option State) (writer next : Option Phase) (b : Wire) (p : ItemWire) (more : List ItemOut) → AllByRecursion UpFits (more ++ Closing ∷ []) → AllByRecursion (λ i. phase_behind i ≡ phase.Between) more
+      → WireImage UpFits DownFits r d writer b p → WireImage UpFits DownFits r e next (left (put_up (flat_map written_item (more ++ Closing ∷ [])) b)) (items.left (items.put_up (more ++ Closing ∷ []) p))
+  wire_last r d e writer next b p more fit between i = record {
+    device = i.device;
+    end_together = refl;
+    up = closed_image server_limits (Some phase.Ended) (Some phase.Between) r (entered (flat_map written_item (more ++ Closing ∷ [])) b.up) (items.entered (more ++ Closing ∷ []) p.up)
+        (puts_last server_limits (omega arith) (omega arith) r b.up p.up more between (all_mapped UpFits (OutFits server_limits) up_out (more ++ Closing ∷ []) fit) i.up);
+    down = over_image client_limits next e b.down p.down i.down.told;
+    up_fits = all_entered UpFits (more ++ Closing ∷ []) p.up i.up_fits fit;
+    down_fits = tt;
   }
 
   pub wire_put_down : (r d : Option State) (now : Phase) (b : Wire) (p : ItemWire) (out : ItemOut) → DownFits out → MayPut now out → WireImage UpFits DownFits r d (Some now) b p

@@ -1,10 +1,11 @@
 -- What the two cores owe to the pipes: what they put is within the limits of who reads it, and in the order of a stream.
-use Rattle.std.specs.Prelude.{ℕ, ◌≡◌, ◌≤◌, Bool, true, false, List, [], ◌∷◌, ◌++◌, Option, Some, None, Ok, IsTrue, map}
+use Rattle.std.specs.Prelude.{ℕ, ◌≡◌, ◌≤◌, ◌⊎◌, Bool, true, false, List, [], ◌∷◌, ◌++◌, Option, Some, None, Ok, IsTrue, map}
 use Rattle.std.specs.List.{AllByRecursion}
 use Rattle.std.specs.Option.{option_map}
 use Rattle.xmpp_client.specs.UserCalls.{catch_up_answer, catches_up, closes, dials, forgets, leaves, say_answer, says}
 use Rattle.xmpp_client_rows.specs.Clients.{ClientView, Turn}
 use Rattle.xmpp_client_rows.specs.Speech.{in_items}
+use Rattle.xmpp_client_rows.specs.Turns.{is_apart}
 use Rattle.xmpp_client.specs.Steps.{item_step}
 use Rattle.xmpp_desk.specs.Moments.{at_moment, gone_at, with_fresh}
 use Rattle.xmpp_desk.specs.State.{Hall, Out, Put, Shut, Took, conn_at, is_number}
@@ -79,6 +80,16 @@ pub record TurnFits (UpFits : ItemOut → Type 0) (ClientFits : ClientView ItemO
   pub puts : AllByRecursion UpFits t.out.put
   pub no_footer : AllByRecursion IsNoFooter t.out.put
 
+-- Behind an item that came a footer may be the last thing that is put: then the client has left.
+abbrev pub IsInTurn : Bool → List ItemOut → Type 0
+IsInTurn apart put = AllByRecursion IsNoFooter put ⊎ ((front : List ItemOut) × (put ≡ front ++ Closing ∷ []) × AllByRecursion IsNoFooter front × (apart ≡ true))
+
+-- what is put behind an item
+pub record HeardFits (UpFits : ItemOut → Type 0) (ClientFits : ClientView ItemOut → Type 0) (t : Turn ItemOut ItemOut) : Type 0 where
+  pub client : ClientFits t.client
+  pub puts : AllByRecursion UpFits t.out.put
+  pub in_turn : IsInTurn (is_apart t.client.phase) t.out.put
+
 -- ---- what is owed
 
 -- Of four families: what a client may put, and the server; halls; and clients. Whatever comes of these is among these.
@@ -99,8 +110,12 @@ pub record CoresFit (UpFits DownFits : ItemOut → Type 0) (HallFits : Hall Item
   pub dials_so : (k : ℕ) (c : ClientView ItemOut) → ClientFits c → TurnFits UpFits ClientFits (dials in_items (client_entropy k) (fed_of c)).turn
   pub loses : (c : ClientView ItemOut) → ClientFits c → ClientFits (leaves (fed_of c)).turn.client
   pub forgets_so : (c : ClientView ItemOut) → ClientFits c → ClientFits (forgets in_items (fed_of c)).turn.client
-  pub hears : (i : ItemOut) (c : ClientView ItemOut) → ClientFits c → DownFits i → TurnFits UpFits ClientFits (item_step in_items (silent_turn c) (read_of i))
+  pub hears : (i : ItemOut) (c : ClientView ItemOut) → ClientFits c → DownFits i → HeardFits UpFits ClientFits (item_step in_items (silent_turn c) (read_of i))
   pub says_so : (name text : List ℕ) (private : Bool) (n : ℕ) (c : ClientView ItemOut) → ClientFits c → IsTrue (is_name name) → say_answer c text ≡ Ok n
       → TurnFits UpFits ClientFits (says in_items (silent_turn c) (bare_address name) text private)
   pub catches_up_so : (most : ℕ) (c : ClientView ItemOut) → ClientFits c → 1 ≤ most → most ≤ 100 → catch_up_answer c ≡ Ok tt
       → TurnFits UpFits ClientFits (catches_up in_items (silent_turn c) most)
+
+-- the things that something is shown as: a family as the law has it
+abbrev pub Among : {A B : Type 0} → (A → B) → B → Type 0
+Among {A = A} shown b = (a : A) × (shown a ≡ b)

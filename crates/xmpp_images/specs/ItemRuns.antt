@@ -1,8 +1,9 @@
 -- Which moves of items a move of bytes is.
-use Rattle.std.specs.Prelude.{ℕ, zero, suc, ◌≡◌, ◌⊎◌, Bool, true, false, List, [], ◌∷◌, ◌++◌}
+use Rattle.std.specs.Prelude.{ℕ, zero, suc, ◌≡◌, ◌≤◌, ◌⊎◌, Bool, true, false, List, [], ◌∷◌, ◌++◌, IsTrue}
 use Rattle.xmpp_item_worlds.specs.ItemMoves as items
 use Rattle.xmpp_item_worlds.specs.ItemMoves.{ItemMove}
 use Rattle.xmpp_report.specs.Addresses.{bare_address}
+use Rattle.xmpp_schedule.specs.Grammar.{is_name}
 use Rattle.xmpp_world.specs.Moves as bytes
 use Rattle.xmpp_world.specs.Moves.{Move}
 use Rattle.xmpp_world.specs.Worlds.{client_entropy, server_entropy}
@@ -36,3 +37,9 @@ IsRunOf (bytes.Tick milliseconds) ms = ms ≡ items.Tick milliseconds ∷ []
 IsRunOf (bytes.Up place amount) ms = (first : List ItemMove) × (ended : Bool) × IsServed place first × (ms ≡ first ++ moved_where (items.UpEnd place) ended)
 IsRunOf (bytes.Down place amount) ms = (count : ℕ) × (ended : Bool) × (ms ≡ downs place count ++ moved_where (items.DownEnd place) ended)
 IsRunOf (bytes.Cut place up down) ms = (i j : ℕ) × (ms ≡ items.Cut place i j ∷ [])
+
+-- what is asked of a move: a message is for a name, and a page has 1 to 100 results
+abbrev pub MayMove : Move → Type 0
+MayMove (bytes.Say device line to text private) = IsTrue (is_name to)
+MayMove (bytes.CatchUp device line most) = (1 ≤ most) × (most ≤ 100)
+MayMove m = Unit {0}

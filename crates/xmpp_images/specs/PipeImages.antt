@@ -1,14 +1,16 @@
 -- A pipe of bytes as the image of a pipe of items, at the framer that reads it.
-use Rattle.std.specs.Prelude.{ℕ, ◌≡◌, false, true, List, [], Option, Some, None, map}
+use Rattle.std.specs.Prelude.{ℕ, ◌≡◌, false, true, List, [], Option, Some, None, drop, map, take}
 use Rattle.xmpp_carries.specs.Carries.{Carries, held}
-use Rattle.xmpp_framing.specs.States.{State}
+use Rattle.xmpp_framing.specs.Machine.{run}
+use Rattle.xmpp_framing.specs.States.{State, turn}
 use Rattle.xmpp_framing.specs.declared.items.Item.{Item}
 use Rattle.xmpp_framing.specs.declared.limits.Limits.{Limits}
 use Rattle.xmpp_framing.specs.declared.states.Phase.{Phase}
 use Rattle.xmpp_framing_laws.specs.Spells.{placed}
+use Rattle.xmpp_item_worlds.specs.ItemPipes as items
 use Rattle.xmpp_item_worlds.specs.ItemPipes.{ItemPipe}
 use Rattle.xmpp_item_worlds.specs.ItemWorlds.{read_of}
-use Rattle.xmpp_pipes.specs.Pipes.{Pipe}
+use Rattle.xmpp_pipes.specs.Pipes.{Pipe, cut_to, handed}
 use Rattle.xmpp_writer.specs.Items.{ItemOut}
 use Rattle.xmpp_written.specs.Puts.{StandsAt}
 
@@ -54,3 +56,24 @@ pub record PipeImage (limits : Limits) (writer : Option Phase) (reader : Option 
   pub ended : b.ended ≡ p.ended
   pub told : b.told ≡ p.told
   pub carried : IsCarried limits writer reader b p
+
+-- ---- some first items
+
+-- so many bytes stay, and so many items
+pub record IsCut (limits : Limits) (writer next : Option Phase) (reader : Option State) (b : Pipe) (p : ItemPipe) (n : ℕ) : Type 0 where
+  pub count : ℕ
+  pub image : PipeImage limits next reader (cut_to n b) (items.cut_to count p)
+
+-- so many items are handed over
+abbrev pub dropped : ℕ → ItemPipe → ItemPipe
+dropped count p = record p { items = drop count p.items }
+
+-- The framer gives the first items, and the pipe carries the others.
+pub record IsHanded (limits : Limits) (writer : Option Phase) (f : State) (b : Pipe) (p : ItemPipe) (n : ℕ) : Type 0 where
+  pub count : ℕ
+  pub first : List Item
+  pub now : State
+  pub run_is : run (turn f []) (take n b.bytes) ≡ turn now first
+  pub no_fault : now.fault ≡ None
+  pub read : AreRead first (take count p.items)
+  pub image : PipeImage limits writer (Some now) (handed n b) (dropped count p)

@@ -7,12 +7,15 @@ use Rattle.xmpp_desk.specs.State.{Hall}
 use Rattle.xmpp_devices.specs.Devices.{DeviceState, has_wire}
 use Rattle.xmpp_framing.specs.States.{State}
 use Rattle.xmpp_images.specs.Cores.{writer_at}
+use Rattle.xmpp_images.specs.ItemRuns.{IsRunOf}
 use Rattle.xmpp_images.specs.WireImages.{WireImage}
+use Rattle.xmpp_item_worlds.specs.ItemMoves.{ItemMove, all_moved}
 use Rattle.xmpp_item_worlds.specs.ItemPipes.{ItemWire}
 use Rattle.xmpp_item_worlds.specs.ItemWorlds.{ItemDevice, ItemWorld}
 use Rattle.xmpp_server.specs.Events.{framer_at}
 use Rattle.xmpp_server_laws.specs.Turned.{hall_turned}
 use Rattle.xmpp_wires.specs.declared.wire.Wire.{Wire}
+use Rattle.xmpp_world.specs.Moves.{Move, moved}
 use Rattle.xmpp_world.specs.Worlds.{World, number_at}
 use Rattle.xmpp_writer.specs.Items.{ItemOut, written_item}
 
@@ -53,3 +56,16 @@ pub record WorldImage (UpFits DownFits : ItemOut → Type 0) (HallFits : Hall It
   pub devices : (place : ℕ) → Both (DeviceImage ClientFits) (slice_get w.devices place) (slice_get v.devices place)
   pub as_many : length w.wires ≡ length v.wires
   pub wires : (place : ℕ) → Both (WireAt UpFits DownFits w v place) (slice_get w.wires place) (slice_get v.wires place)
+
+-- ---- moves
+
+-- A move of bytes is these moves of items: behind it the one world is the image of the other still.
+pub record IsMoved (UpFits DownFits : ItemOut → Type 0) (HallFits : Hall ItemOut → Type 0) (ClientFits : ClientView ItemOut → Type 0) (m : Move) (w : World) (v : ItemWorld) : Type 0 where
+  pub moves : List ItemMove
+  pub is_run : IsRunOf m moves
+  pub image : WorldImage UpFits DownFits HallFits ClientFits (moved m w) (all_moved moves v)
+
+-- a world of bytes is the image of one of items that moves lead to from a first one
+pub record IsReached (UpFits DownFits : ItemOut → Type 0) (HallFits : Hall ItemOut → Type 0) (ClientFits : ClientView ItemOut → Type 0) (start : ItemWorld) (w : World) : Type 0 where
+  pub moves : List ItemMove
+  pub image : WorldImage UpFits DownFits HallFits ClientFits w (all_moved moves start)

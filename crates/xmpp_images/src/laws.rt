@@ -1,0 +1,70 @@
+//! From worlds of bytes to worlds of items.
+ghost use Rattle.std.specs.Prelude.{◌≡◌, ◌<◌, ◌^◌, ℕ, List, [], ◌∷◌, Option, Some, false, true, slice_get};
+ghost use Rattle.std.specs.List.{AllByRecursion};
+ghost use Rattle.xmpp_client_rows.specs.Clients.{ClientView};
+ghost use Rattle.xmpp_desk.specs.State.{Hall};
+ghost use Rattle.xmpp_framing.specs.States.{State, from_start};
+ghost use Rattle.xmpp_framing.specs.declared.limits.Limits.{Limits};
+ghost use Rattle.xmpp_framing.specs.declared.states.Phase.{Phase};
+ghost use Rattle.xmpp_framing.specs.declared.states.Phase.TheVariants as phase;
+ghost use Rattle.xmpp_images.specs.Cores.{Among, CoresFit};
+ghost use Rattle.xmpp_images.specs.ItemRuns.{MayMove};
+ghost use Rattle.xmpp_images.specs.ItemStarts.{StartFits, items_at_start};
+ghost use Rattle.xmpp_images.specs.PipeImages.{IsCut, IsHanded, PipeImage, Standing};
+ghost use Rattle.xmpp_images.specs.WorldImages.{IsMoved, IsReached, WorldImage};
+ghost use Rattle.xmpp_item_worlds.specs.ItemPipes.{ItemPipe, ItemWire};
+ghost use Rattle.xmpp_item_worlds.specs.ItemPipes as items;
+ghost use Rattle.xmpp_item_worlds.specs.ItemWorlds.{ItemWorld};
+ghost use Rattle.xmpp_pipes.specs.Pipes.{Pipe, closed, emptied, empty_pipe, entered, is_end_due, with_end_told};
+ghost use Rattle.xmpp_schedule.specs.Schedules.{WireView};
+ghost use Rattle.xmpp_schedule.specs.WireGrammar.{IsWireSchedule};
+ghost use Rattle.xmpp_wires.specs.declared.wire.Wire.{Wire};
+ghost use Rattle.xmpp_world.specs.Histories.{history_of};
+ghost use Rattle.xmpp_world.specs.Moves.{Move};
+ghost use Rattle.xmpp_world.specs.Worlds.{World};
+ghost use Rattle.xmpp_writer.specs.Items.{ItemOut, written_item};
+ghost use Rattle.xmpp_written.specs.Puts.{MayPut, OutFits, phase_behind};
+
+/// A law: what each operation on a pipe of bytes is on the pipe of items that it is the image of, at the framer that
+/// reads it. A fresh pipe is the image of an empty one; what is put in the order of a stream, and fits, enters both; of
+/// bytes that are handed over the framer gives the first items, and has no fault; a cut leaves first items; and an end
+/// is one of both. Where the end of the bytes is due, that of the items is. Where a pipe without bytes has not ended, no
+/// item is under way.
+pub fn pipes_of_bytes_carry_items()
+    ensures fresh { (limits : Limits) → PipeImage limits (Some phase.First) (Some (from_start limits)) empty_pipe items.empty_pipe }
+    ensures put { (limits : Limits) → limits.attributes < 2 ^ 32 → limits.namespace_bytes < 2 ^ 32 → (now : Phase) (reader : Option State) (b : Pipe) (p : ItemPipe) (i : ItemOut) → MayPut now i → OutFits limits i
+        → PipeImage limits (Some now) reader b p → PipeImage limits (Some (phase_behind i)) reader (entered (written_item i) b) (items.entered (i ∷ []) p) }
+    ensures handed { (limits : Limits) (writer : Option Phase) (f : State) (b : Pipe) (p : ItemPipe) (n : ℕ) → b.ended ≡ p.ended → b.told ≡ p.told → Standing limits writer f b p → IsHanded limits writer f b p n }
+    ensures cut { (limits : Limits) (writer next : Option Phase) (reader : Option State) (b : Pipe) (p : ItemPipe) (n : ℕ) → PipeImage limits writer reader b p → IsCut limits writer next reader b p n }
+    ensures emptied { (limits : Limits) (writer : Option Phase) (reader : Option State) (b : Pipe) (p : ItemPipe) → b.told ≡ p.told → PipeImage limits writer reader (emptied b) (items.emptied p) }
+    ensures closed { (limits : Limits) (writer next : Option Phase) (reader : Option State) (b : Pipe) (p : ItemPipe) → PipeImage limits writer reader b p → PipeImage limits next reader (closed b) (items.closed p) }
+    ensures due { (limits : Limits) (writer : Option Phase) (reader : Option State) (b : Pipe) (p : ItemPipe) → PipeImage limits writer reader b p → is_end_due b ≡ true → items.is_end_due p ≡ true }
+    ensures told { (limits : Limits) (writer next : Option Phase) (reader other : Option State) (b : Pipe) (p : ItemPipe) → PipeImage limits writer reader b p → is_end_due b ≡ true
+        → PipeImage limits next other (with_end_told b) (items.with_end_told p) }
+    ensures empty { (limits : Limits) (writer : Option Phase) (reader : Option State) (b : Pipe) (p : ItemPipe) → PipeImage limits writer reader b p → b.ended ≡ false → b.bytes ≡ [] → p.items ≡ [] }
+{}
+
+/// A law: a move of bytes is some moves of items, with the same server and the same clients but for how what waits is
+/// written: where a world of bytes is the image of a world of items, it is so behind them. `IsRunOf` says which.
+///
+/// A premise is what the cores owe: that what they put fits into the limits of who reads it, and comes in the order of a
+/// stream (`CoresFit`), for some things, halls and clients that are among those of four families.
+pub fn a_move_is_moves_of_items<U, D, H, C>()
+    ensures { (up : U → ItemOut) (down : D → ItemOut) (hall : H → Hall ItemOut) (client : C → ClientView ItemOut) → CoresFit (Among up) (Among down) (Among hall) (Among client) → (m : Move) (w : World) (v : ItemWorld) → MayMove m
+        → WorldImage (Among up) (Among down) (Among hall) (Among client) w v → IsMoved (Among up) (Among down) (Among hall) (Among client) m w v }
+{}
+
+/// A law: each world of a wire schedule's history is the image of a world of items that moves of items lead to from the
+/// first one, in which the same accounts and devices are. With the same premise, of which the first world is part.
+pub fn histories_are_those_of_items<U, D, H, C>()
+    ensures { (up : U → ItemOut) (down : D → ItemOut) (hall : H → Hall ItemOut) (client : C → ClientView ItemOut) → CoresFit (Among up) (Among down) (Among hall) (Among client) → (schedule : WireView) → IsWireSchedule schedule
+        → StartFits (Among hall) (Among client) schedule → AllByRecursion (IsReached (Among up) (Among down) (Among hall) (Among client) (items_at_start schedule)) (history_of schedule) }
+{}
+
+/// A law: where a connection is open and a pipe of it has no bytes, no item is under way there.
+pub fn no_bytes_are_no_items<U, D, H, C>()
+    ensures up { (up : U → ItemOut) (down : D → ItemOut) (hall : H → Hall ItemOut) (client : C → ClientView ItemOut) (w : World) (v : ItemWorld) (place : ℕ) (b : Wire) (p : ItemWire) → WorldImage (Among up) (Among down) (Among hall) (Among client) w v
+        → slice_get w.wires place ≡ Some b → slice_get v.wires place ≡ Some p → b.up.ended ≡ false → b.up.bytes ≡ [] → (p.up.ended ≡ false) × (p.up.items ≡ []) }
+    ensures down { (up : U → ItemOut) (down : D → ItemOut) (hall : H → Hall ItemOut) (client : C → ClientView ItemOut) (w : World) (v : ItemWorld) (place : ℕ) (b : Wire) (p : ItemWire) → WorldImage (Among up) (Among down) (Among hall) (Among client) w v
+        → slice_get w.wires place ≡ Some b → slice_get v.wires place ≡ Some p → b.down.ended ≡ false → b.down.bytes ≡ [] → (p.down.ended ≡ false) × (p.down.items ≡ []) }
+{}
