@@ -354,9 +354,9 @@ module _ (UpFits DownFits : ItemOut → Type 0) (HallFits : Hall ItemOut → Typ
           (is_heard place (amount count b.down) w v b other.other d other_device.other found other.is device other_device.is other.holds other_device.holds image here (no_amount count b.down))
 
       has_or_not : (b : Wire) (d : DeviceState) → slice_get w.wires place ≡ Some b → slice_get w.devices b.device ≡ Some d → (o : Option ℕ) → d.here ≡ o → (c : Bool) → has_wire place o ≡ c → IsDown place w v (with_link place b.device (cond c (end_heard place (heard_first (amount count b.down) (link_of b d))) (link_of b d)) w)
-      has_or_not b d found device o here false no = nothing (with_link place b.device (link_of b d) w) (same_link place w b d found device)
-      has_or_not b d found device None here true yes = absurd (true≢false (sym yes))
-      has_or_not b d found device (Some q) here true yes = has_it b d found device (here ∙ ap Some (eqb-true q place yes))
+      has_or_not b d found device o here false elsewhere = nothing (with_link place b.device (link_of b d) w) (same_link place w b d found device)
+      has_or_not b d found device None here true is = absurd (true≢false (sym is))
+      has_or_not b d found device (Some q) here true is = has_it b d found device (here ∙ ap Some (eqb-true q place is))
 
       of_device : (b : Wire) → slice_get w.wires place ≡ Some b → (o : Option DeviceState) → slice_get w.devices b.device ≡ o → IsDown place w v (down_to place count b o w)
       of_device b found None device = nothing w refl

@@ -11,6 +11,7 @@ use Rattle.xmpp_desk.specs.State.{Hall}
 use Rattle.xmpp_framing.specs.declared.items.Item.{Item}
 use Rattle.xmpp_images.proofs.ItemsServed.{changed_none, changed_twice}
 use Rattle.xmpp_images.proofs.Lookups.{get_changed_same, set_changes}
+use Rattle.xmpp_images.proofs.TurnsBehind.{step_adds}
 use Rattle.xmpp_images.proofs.UserMoves.{get_set_same, set_same}
 use Rattle.xmpp_images.proofs.WireSteps.{all_joined}
 use Rattle.xmpp_images.specs.PipeImages.{dropped}
@@ -90,7 +91,7 @@ module _ (UpFits DownFits : ItemOut → Type 0) (HallFits : Hall ItemOut → Typ
   run_adds [] t = record { client_is = refl; put_is = sym (append-nil t.out.put) }
   run_adds (i ∷ l) t =
       let one = item_step in_items (silent_turn t.client) i in
-      let a = cores.adds i t in
+      let a = step_adds i t in
       let whole = run_adds l (item_step in_items t i) in
       let alone = run_adds l one in
       let same : items_run in_items (silent_turn (item_step in_items t i).client) l ≡ items_run in_items (silent_turn one.client) l = ap (λ c. items_run in_items (silent_turn c) l) a.client_is in

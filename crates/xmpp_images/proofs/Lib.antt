@@ -4,6 +4,8 @@ pub mod PutSteps
 pub mod WireSteps
 -- lists and numbers
 pub mod Lookups
+-- the client
+pub mod TurnsBehind
 -- the server
 pub mod BehindOuts
 pub mod HallsTurned

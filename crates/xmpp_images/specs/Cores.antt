@@ -13,7 +13,6 @@ use Rattle.xmpp_desk.specs.declared.connection.Connection.{Connection}
 use Rattle.xmpp_desk.specs.declared.connection.Phase.TheVariants as conn
 use Rattle.xmpp_desk.specs.declared.connection.Phase.{Phase as ConnPhase}
 use Rattle.xmpp_framing.specs.Limits.{client_limits, server_limits}
-use Rattle.xmpp_framing.specs.declared.items.Item.{Item}
 use Rattle.xmpp_framing.specs.declared.states.Phase.{Phase}
 use Rattle.xmpp_framing.specs.declared.states.Phase.TheVariants as phase
 use Rattle.xmpp_item_worlds.specs.ItemMoves.{fed_of, step_of}
@@ -106,7 +105,6 @@ pub record CoresFit (UpFits DownFits : ItemOut → Type 0) (HallFits : Hall Item
   pub in_order : (k : ℕ) (i : ItemOut) (h : Hall ItemOut) (j : ℕ) → HallFits h → UpFits i
       → AreInOrder DownFits j (writer_at j h) (after_item itself k (read_of i) (step_of h)).outs (writer_at j (after_item itself k (read_of i) (step_of h)).hall)
   -- ---- a client
-  pub adds : (i : Item) (t : Turn ItemOut ItemOut) → Adds t (item_step in_items (silent_turn t.client) i) (item_step in_items t i)
   pub dials_so : (k : ℕ) (c : ClientView ItemOut) → ClientFits c → TurnFits UpFits ClientFits (dials in_items (client_entropy k) (fed_of c)).turn
   pub loses : (c : ClientView ItemOut) → ClientFits c → ClientFits (leaves (fed_of c)).turn.client
   pub forgets_so : (c : ClientView ItemOut) → ClientFits c → ClientFits (forgets in_items (fed_of c)).turn.client
