@@ -75,7 +75,7 @@ close_client c = by (is_apart c.phase)
 abbrev pub framed : DeviceState → ItemDevice → Fed ItemOut ItemOut
 framed d e = record { framer = d.client.framer; turn = silent_turn e.client }
 
-module _ (UpFits DownFits : ItemOut → Type 0) (HallFits : Hall ItemOut → Type 0) (ClientFits : ClientView ItemOut → Type 0) (cores : CoresFit UpFits DownFits HallFits ClientFits) where
+module _ (UpFits DownFits : ItemOut → Type 0) (HallFits : ℕ → Hall ItemOut → Type 0) (ClientFits : ClientView ItemOut → Type 0) (cores : CoresFit UpFits DownFits HallFits ClientFits) where
   pub silent_fed : (d : DeviceState) (e : ItemDevice) → DeviceImage ClientFits d e → devices.silent d.client ≡ written_fed (framed d e)
   silent_fed d e h = ap (λ u. record { framer = d.client.framer; turn = u }) (silent_is UpFits DownFits HallFits ClientFits cores d e h)
 

@@ -45,7 +45,7 @@ use Rattle.xmpp_world.specs.Moves.{Dial, dialed_by}
 use Rattle.xmpp_world.specs.Worlds.{World, client_entropy, number_at, server_entropy}
 use Rattle.xmpp_writer.specs.Items.{ItemOut, Opening, written_item}
 
-module _ (UpFits DownFits : ItemOut → Type 0) (HallFits : Hall ItemOut → Type 0) (ClientFits : ClientView ItemOut → Type 0) (cores : CoresFit UpFits DownFits HallFits ClientFits) where
+module _ (UpFits DownFits : ItemOut → Type 0) (HallFits : ℕ → Hall ItemOut → Type 0) (ClientFits : ClientView ItemOut → Type 0) (cores : CoresFit UpFits DownFits HallFits ClientFits) where
   module _ (i : ℕ) (w : World) (v : ItemWorld) (d : DeviceState) (e : ItemDevice) (found : slice_get w.devices i ≡ Some d) (found_item : slice_get v.devices i ≡ Some e) (h : DeviceImage ClientFits d e)
       (image : WorldImage UpFits DownFits HallFits ClientFits w v) where
     -- how many connections there are, and the number of the new one
@@ -158,7 +158,8 @@ module _ (UpFits DownFits : ItemOut → Type 0) (HallFits : Hall ItemOut → Typ
     dialed_image = record {
       moment = image.moment;
       hall = ap₂ (λ m x. with_fresh k (server_entropy k) (at_moment m x)) image.moment image.hall ∙ ap (with_fresh k (server_entropy k)) (moment_turned written_item v.moment v.server);
-      hall_fits = cores.comes k (at_moment v.moment v.server) (cores.moment v.moment v.server image.hall_fits);
+      hall_fits = subst (λ m. HallFits m hall_now) (sym (length-append old_item_wires (new_item_wire ∷ []) ∙ ap (λ m. m + 1) many_items))
+          (cores.comes n (at_moment v.moment v.server) (cores.moment n v.moment v.server (subst (λ m. HallFits m v.server) (sym image.as_many) image.hall_fits)));
       devices = devices_changed UpFits DownFits HallFits ClientFits cores w v i d d' e e' found found_item device_image image;
       as_many = length-append old_wires (new_wire ∷ []) ∙ ap (λ m. m + 1) (length_where d.here left w.wires ∙ sym many_items) ∙ sym (length-append old_item_wires (new_item_wire ∷ []));
       wires = all_images;

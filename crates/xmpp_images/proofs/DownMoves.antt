@@ -82,7 +82,7 @@ heard_is n put b d d1 a e = ap (λ (u : DeviceState). link_of (left_where (is_le
     by true e = ap (λ x. link_of (left_where x (put_up put (handed_down n b))) (device_left true d1)) e
     by false e = ap (λ x. link_of (left_where x (put_up put (handed_down n b))) (device_left false d1)) e
 
-module _ (UpFits DownFits : ItemOut → Type 0) (HallFits : Hall ItemOut → Type 0) (ClientFits : ClientView ItemOut → Type 0) (cores : CoresFit UpFits DownFits HallFits ClientFits) where
+module _ (UpFits DownFits : ItemOut → Type 0) (HallFits : ℕ → Hall ItemOut → Type 0) (ClientFits : ClientView ItemOut → Type 0) (cores : CoresFit UpFits DownFits HallFits ClientFits) where
   -- ---- items come
 
   module _ (place n : ℕ) (w : World) (v : ItemWorld) (b : Wire) (p : ItemWire) (d : DeviceState) (e : ItemDevice) (found : slice_get w.wires place ≡ Some b) (found_item : slice_get v.wires place ≡ Some p)

@@ -86,7 +86,7 @@ in_turn_behind : (apart : Bool) (before put : List ItemOut) → AllByRecursion I
 in_turn_behind apart before put none (inl all) = inl (all_joined IsNoFooter before put none all)
 in_turn_behind apart before put none (inr last) = inr (before ++ last.0, ap (λ l. before ++ l) last.1 ∙ sym (append_assoc before last.0 (Closing ∷ [])), all_joined IsNoFooter before last.0 none last.2, last.3)
 
-module _ (UpFits DownFits : ItemOut → Type 0) (HallFits : Hall ItemOut → Type 0) (ClientFits : ClientView ItemOut → Type 0) (cores : CoresFit UpFits DownFits HallFits ClientFits) where
+module _ (UpFits DownFits : ItemOut → Type 0) (HallFits : ℕ → Hall ItemOut → Type 0) (ClientFits : ClientView ItemOut → Type 0) (cores : CoresFit UpFits DownFits HallFits ClientFits) where
   run_adds : (l : List Item) (t : Turn ItemOut ItemOut) → Adds t (items_run in_items (silent_turn t.client) l) (items_run in_items t l)
   run_adds [] t = record { client_is = refl; put_is = sym (append-nil t.out.put) }
   run_adds (i ∷ l) t =

@@ -1,5 +1,5 @@
 -- Items of a connection that go to the server one after another do what they do at once.
-use Rattle.std.proofs.Common.{◌≡◌, ◌≢◌, ◌⊎◌, ℕ, zero, suc, ◌+◌, Bool, true, false, List, [], ◌∷◌, ◌++◌, Option, Some, None, map, drop, length, refl, sym, ap, ap₂, subst, ◌∙◌, inl, inr, append-nil}
+use Rattle.std.proofs.Common.{◌≡◌, ◌≢◌, ◌⊎◌, ◌≤◌, ℕ, zero, suc, ◌+◌, Bool, true, false, List, [], ◌∷◌, ◌++◌, Option, Some, None, map, drop, length, refl, sym, ap, ap₂, subst, ◌∙◌, inl, inr, append-nil}
 use Rattle.std.proofs.lemmas.Bool.{cases_eq}
 use Rattle.std.specs.List.{AllByRecursion, slice_get}
 use Rattle.std.specs.Option.{option_map}
@@ -184,39 +184,39 @@ served_parts place i rest h =
     let d = after_item itself (number_at place) (read_of i) (step_of h) in
     ap (λ l. after_items itself (number_at place) (map read_of rest) (record { hall = d.hall; outs = l })) (sym (append-nil d.outs)) ∙ items_behind d.outs itself (number_at place) (map read_of rest) (step_of d.hall)
 
-module _ (UpFits DownFits : ItemOut → Type 0) (HallFits : Hall ItemOut → Type 0) (ClientFits : ClientView ItemOut → Type 0) (cores : CoresFit UpFits DownFits HallFits ClientFits) where
-  pub served_fits : (place : ℕ) (first : List ItemOut) (h : Hall ItemOut) → HallFits h → AllByRecursion UpFits first → HallFits (served place first h).hall
-  served_fits place [] h fits all = fits
-  served_fits place (i ∷ rest) h fits all =
+module _ (UpFits DownFits : ItemOut → Type 0) (HallFits : ℕ → Hall ItemOut → Type 0) (ClientFits : ClientView ItemOut → Type 0) (cores : CoresFit UpFits DownFits HallFits ClientFits) where
+  pub served_fits : (n place : ℕ) (first : List ItemOut) (h : Hall ItemOut) → number_at place ≤ n → HallFits n h → AllByRecursion UpFits first → HallFits n (served place first h).hall
+  served_fits n place [] h few fits all = fits
+  served_fits n place (i ∷ rest) h few fits all =
       let d = after_item itself (number_at place) (read_of i) (step_of h) in
-      subst (λ (s : Step ItemOut). HallFits s.hall) (sym (served_parts place i rest h)) (served_fits place rest d.hall (cores.handles (number_at place) i h fits all.0) all.1)
+      subst (λ (s : Step ItemOut). HallFits n s.hall) (sym (served_parts place i rest h)) (served_fits n place rest d.hall few (cores.handles n (number_at place) i h fits few all.0) all.1)
 
-  pub served_in_order : (place : ℕ) (first : List ItemOut) (h : Hall ItemOut) (j : ℕ) → HallFits h → AllByRecursion UpFits first → AreInOrder DownFits j (writer_at j h) (served place first h).outs (writer_at j (served place first h).hall)
-  served_in_order place [] h j fits all = refl
-  served_in_order place (i ∷ rest) h j fits all =
+  pub served_in_order : (n place : ℕ) (first : List ItemOut) (h : Hall ItemOut) (j : ℕ) → number_at place ≤ n → HallFits n h → AllByRecursion UpFits first → AreInOrder DownFits j (writer_at j h) (served place first h).outs (writer_at j (served place first h).hall)
+  served_in_order n place [] h j few fits all = refl
+  served_in_order n place (i ∷ rest) h j few fits all =
       let d = after_item itself (number_at place) (read_of i) (step_of h) in
       let d' = served place rest d.hall in
       subst (λ (s : Step ItemOut). AreInOrder DownFits j (writer_at j h) s.outs (writer_at j s.hall)) (sym (served_parts place i rest h))
-      (order_joined DownFits j (writer_at j h) (writer_at j d.hall) (writer_at j d'.hall) d.outs d'.outs (cores.in_order (number_at place) i h j fits all.0)
-      (served_in_order place rest d.hall j (cores.handles (number_at place) i h fits all.0) all.1))
+      (order_joined DownFits j (writer_at j h) (writer_at j d.hall) (writer_at j d'.hall) d.outs d'.outs (cores.in_order n (number_at place) i h j fits few all.0)
+      (served_in_order n place rest d.hall j few (cores.handles n (number_at place) i h fits few all.0) all.1))
 
-  pub ups_are : (place : ℕ) (first others : List ItemOut) (v : ItemWorld) (p : ItemWire) → slice_get v.wires place ≡ Some p → p.up.items ≡ first ++ others → HallFits v.server → AllByRecursion UpFits first
+  pub ups_are : (many place : ℕ) (first others : List ItemOut) (v : ItemWorld) (p : ItemWire) → number_at place ≤ many → slice_get v.wires place ≡ Some p → p.up.items ≡ first ++ others → HallFits many v.server → AllByRecursion UpFits first
       → all_moved (ups place (length first)) v ≡ at_once place first v
-  ups_are place [] others v p found items_are fits all = ap (λ l. record v { wires = l }) (sym (changed_none (many_up 0) v.wires place (λ x. refl)))
-  ups_are place (i ∷ rest) others v p found items_are fits all =
+  ups_are many place [] others v p few found items_are fits all = ap (λ l. record v { wires = l }) (sym (changed_none (many_up 0) v.wires place (λ x. refl)))
+  ups_are many place (i ∷ rest) others v p few found items_are fits all =
       let n = length rest in
       let d = after_item itself (number_at place) (read_of i) (step_of v.server) in
       let ws = changed_at place handed_up v.wires in
       let one : ItemWorld = record v { server = d.hall; wires = all_emitted d.outs ws } in
       let step : moved (Up place) v ≡ one = ap (λ o. served_by place o v) found ∙ ap (λ l. served_first place l v) items_are in
       let here : slice_get ws place ≡ Some (handed_up p) = get_changed_same handed_up v.wires place ∙ ap (option_map handed_up) found in
-      let after = up_after DownFits place d.outs (writer_at (number_at place) v.server) (writer_at (number_at place) d.hall) ws (handed_up p) (cores.in_order (number_at place) i v.server (number_at place) fits all.0) here in
+      let after = up_after DownFits place d.outs (writer_at (number_at place) v.server) (writer_at (number_at place) d.hall) ws (handed_up p) (cores.in_order many (number_at place) i v.server (number_at place) fits few all.0) here in
       let dropped_is : changed_at place (many_up n) (all_emitted d.outs ws) ≡ all_emitted d.outs (changed_at place (many_up (suc n)) v.wires) =
             all_commutes place n d.outs ws ∙ ap (all_emitted d.outs) (changed_twice (many_up n) handed_up (many_up (suc n)) v.wires place (many_handed n)) in
       ap (all_moved (ups place n)) step ∙ (elim after.is [
         | inl kept ↦
             let d' = served place rest d.hall in
-            ups_are place rest others one after.wire after.found (kept ∙ ap (drop 1) items_are) (cores.handles (number_at place) i v.server fits all.0) all.1
+            ups_are many place rest others one after.wire few after.found (kept ∙ ap (drop 1) items_are) (cores.handles many (number_at place) i v.server fits few all.0) all.1
             ∙ ap (λ l. record v { server = d'.hall; wires = all_emitted d'.outs l }) dropped_is
             ∙ ap (λ l. record v { server = d'.hall; wires = l }) (sym (emitted_joined d.outs d'.outs (changed_at place (many_up (suc n)) v.wires)))
             ∙ ap (λ (s : Step ItemOut). record v { server = s.hall; wires = all_emitted s.outs (changed_at place (many_up (suc n)) v.wires) }) (sym (served_parts place i rest v.server))

@@ -90,7 +90,7 @@ none_there : {A B : Type 0} (R : ℕ → A → B → Type 0) (place : ℕ) → B
 none_there R zero = tt
 none_there R (suc place) = tt
 
-module _ (UpFits DownFits : ItemOut → Type 0) (HallFits : Hall ItemOut → Type 0) (ClientFits : ClientView ItemOut → Type 0) where
+module _ (UpFits DownFits : ItemOut → Type 0) (HallFits : ℕ → Hall ItemOut → Type 0) (ClientFits : ClientView ItemOut → Type 0) where
   devices_at_start : (l : List Owned) → AllByRecursion (λ o. ClientFits (item_device o).client) l → (place : ℕ) → Both (DeviceImage ClientFits) (slice_get (map owned_at_start l) place) (slice_get (map item_device l) place)
   devices_at_start [] fit zero = tt
   devices_at_start [] fit (suc place) = tt

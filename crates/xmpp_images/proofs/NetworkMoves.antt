@@ -76,7 +76,7 @@ both_changed R S f g xs ys q here there all p = elim (cases_eq p q) [
 pub number_apart : (p q : ℕ) → (p ≡ q → ⊥) → number_at p ≢ number_at q
 number_apart p q other e = other (omega (arith, e))
 
-module _ (UpFits DownFits : ItemOut → Type 0) (HallFits : Hall ItemOut → Type 0) (ClientFits : ClientView ItemOut → Type 0) (cores : CoresFit UpFits DownFits HallFits ClientFits) where
+module _ (UpFits DownFits : ItemOut → Type 0) (HallFits : ℕ → Hall ItemOut → Type 0) (ClientFits : ClientView ItemOut → Type 0) (cores : CoresFit UpFits DownFits HallFits ClientFits) where
   pub tick_is : (milliseconds : ℕ) (w : World) (v : ItemWorld) → WorldImage UpFits DownFits HallFits ClientFits w v → IsMoved UpFits DownFits HallFits ClientFits (Tick milliseconds) w v
   tick_is milliseconds w v i = record {
     moves = items.Tick milliseconds ∷ [];
@@ -84,7 +84,7 @@ module _ (UpFits DownFits : ItemOut → Type 0) (HallFits : Hall ItemOut → Typ
     image = record {
       moment = ap (λ n. n + milliseconds) i.moment;
       hall = ap (at_moment (w.moment + milliseconds)) i.hall ∙ moment_turned written_item (w.moment + milliseconds) v.server ∙ ap (λ n. hall_turned written_item (at_moment (n + milliseconds) v.server)) i.moment;
-      hall_fits = cores.moment (v.moment + milliseconds) v.server i.hall_fits;
+      hall_fits = cores.moment (length v.wires) (v.moment + milliseconds) v.server i.hall_fits;
       devices = i.devices;
       as_many = i.as_many;
       wires = i.wires;
@@ -111,7 +111,7 @@ module _ (UpFits DownFits : ItemOut → Type 0) (HallFits : Hall ItemOut → Typ
         image = record {
           moment = i.moment;
           hall = i.hall;
-          hall_fits = i.hall_fits;
+          hall_fits = subst (λ n. HallFits n v.server) (sym (length_changed (pipes.cut_at h.0 h.1) v.wires place)) i.hall_fits;
           devices = i.devices;
           as_many = length_changed (cut_at up down) w.wires place ∙ i.as_many ∙ sym (length_changed (pipes.cut_at h.0 h.1) v.wires place);
           wires = both_changed (WireAt UpFits DownFits w v) (WireAt UpFits DownFits w v) (cut_at up down) (pipes.cut_at h.0 h.1) w.wires v.wires place h.2 (λ q other c r x. x) i.wires;
@@ -149,7 +149,8 @@ module _ (UpFits DownFits : ItemOut → Type 0) (HallFits : Hall ItemOut → Typ
         hall =
             ap (λ x. gone_at (number_at place) (at_moment w.moment x)) i.hall ∙ ap (gone_at (number_at place)) (moment_turned written_item w.moment v.server) ∙ gone_turned written_item (number_at place) (at_moment w.moment v.server)
             ∙ ap (λ n. hall_turned written_item (gone_at (place + 1) (at_moment n v.server))) i.moment;
-        hall_fits = cores.goes (place + 1) (at_moment v.moment v.server) (cores.moment v.moment v.server i.hall_fits);
+        hall_fits = subst (λ n. HallFits n (gone_at (place + 1) (at_moment v.moment v.server))) (sym (length_changed pipes.up_end_told v.wires place))
+            (cores.goes (length v.wires) (place + 1) (at_moment v.moment v.server) (cores.moment (length v.wires) v.moment v.server i.hall_fits));
         devices = i.devices;
         as_many = ap length set_is ∙ length_changed up_end_told w.wires place ∙ i.as_many ∙ sym (length_changed pipes.up_end_told v.wires place);
         wires = λ q. subst (λ l. Both (after q) (slice_get l q) (slice_get (changed_at place pipes.up_end_told v.wires) q)) (sym set_is)

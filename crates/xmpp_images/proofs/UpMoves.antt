@@ -1,6 +1,7 @@
 -- Bytes that are handed to the server are the items whose last bytes are among them.
-use Rattle.std.proofs.Common.{◌≡◌, ◌≢◌, ℕ, zero, suc, ◌+◌, ◌==◌, min, Bool, true, false, true≢false, cond, List, [], ◌∷◌, ◌++◌, Option, Some, None, map, take, drop, length, refl, sym, ap, ap₂, subst, ◌∙◌, inl, inr, arith}
+use Rattle.std.proofs.Common.{◌≡◌, ◌≢◌, ◌≤◌, ℕ, zero, suc, ◌+◌, ◌==◌, min, Bool, true, false, true≢false, cond, List, [], ◌∷◌, ◌++◌, Option, Some, None, map, take, drop, length, refl, sym, ap, ap₂, subst, ◌∙◌, inl, inr, arith}
 use Rattle.std.proofs.lemmas.List.{take-append-drop}
+use Rattle.std.proofs.lemmas.Option.{slice_get_within}
 use Rattle.std.specs.List.{AllByRecursion, slice_get, slice_set}
 use Rattle.std.specs.Map.{lookup, set_value}
 use Rattle.std.specs.Option.{option_map}
@@ -102,7 +103,7 @@ piece_is k piece f now first taken s t run_is no_fault read same =
     ap (λ (u : Turn). after_fault written_item k u.state.fault (after_items written_item k u.items s)) run_is ∙ ap (λ o. after_fault written_item k o (after_items written_item k first s)) no_fault
     ∙ unplaced written_item k first s ∙ ap (λ l. after_items written_item k l s) read ∙ ap (after_items written_item k (map read_of taken)) same ∙ items_turned written_item itself k (map read_of taken) t
 
-module _ (UpFits DownFits : ItemOut → Type 0) (HallFits : Hall ItemOut → Type 0) (ClientFits : ClientView ItemOut → Type 0) (cores : CoresFit UpFits DownFits HallFits ClientFits) where
+module _ (UpFits DownFits : ItemOut → Type 0) (HallFits : ℕ → Hall ItemOut → Type 0) (ClientFits : ClientView ItemOut → Type 0) (cores : CoresFit UpFits DownFits HallFits ClientFits) where
   record IsServedSo (place : ℕ) (count : Count) (w : World) (v : ItemWorld) : Type 0 where
     moves : List ItemMove
     is_served : IsServed place moves
@@ -128,8 +129,14 @@ module _ (UpFits DownFits : ItemOut → Type 0) (HallFits : Hall ItemOut → Typ
     same_moment : w.moment ≡ v.moment + 0
     same_moment = (let e = i.moment in omega (arith, e))
 
-    ticked_fits : HallFits ticked.server
-    ticked_fits = cores.moment (v.moment + 0) v.server i.hall_fits
+    abbrev many : ℕ
+    many = length v.wires
+
+    few : number_at place ≤ many
+    few = (let within = slice_get_within v.wires place p found_item in omega (arith, within))
+
+    ticked_fits : HallFits many ticked.server
+    ticked_fits = cores.moment many (v.moment + 0) v.server i.hall_fits
 
     taken_fit : AllByRecursion UpFits taken
     taken_fit = all_taken UpFits h.count p.up.items fit
@@ -190,18 +197,19 @@ module _ (UpFits DownFits : ItemOut → Type 0) (HallFits : Hall ItemOut → Typ
     behind_image = record {
       moment = same_moment;
       hall = refl;
-      hall_fits = served_fits UpFits DownFits HallFits ClientFits cores place taken ticked.server ticked_fits taken_fit;
+      hall_fits = subst (λ n. HallFits n done.hall) (sym (length_items_emitted done.outs (changed_at place (many_up (length taken)) v.wires) ∙ length_changed (many_up (length taken)) v.wires place))
+          (served_fits UpFits DownFits HallFits ClientFits cores many place taken ticked.server few ticked_fits taken_fit);
       devices = i.devices;
       as_many = length_emitted w.version w.moment (outs_turned written_item done.outs) before ∙ ap length (set_changes (handed_up n) w.wires place b (handed_up n b) found refl) ∙ length_changed (handed_up n) w.wires place
           ∙ i.as_many ∙ sym (length_items_emitted done.outs (changed_at place (many_up (length taken)) v.wires) ∙ length_changed (many_up (length taken)) v.wires place);
       wires = λ q. all_here UpFits DownFits cores.up_limits cores.down_limits q w.devices w.version w.moment done.outs framers_now (writer_at (number_at q) ticked.server) (writer_at (number_at q) done.hall) before
-          (changed_at place (many_up (length taken)) v.wires) (served_in_order UpFits DownFits HallFits ClientFits cores place taken ticked.server (number_at q) ticked_fits taken_fit) (handed_all q);
+          (changed_at place (many_up (length taken)) v.wires) (served_in_order UpFits DownFits HallFits ClientFits cores many place taken ticked.server (number_at q) few ticked_fits taken_fit) (handed_all q);
     }
 
     pub served_image : WorldImage UpFits DownFits HallFits ClientFits (bytes.served place n b w) (items.all_moved (items.Tick 0 ∷ ups place (length taken)) v)
     served_image =
         subst (λ x. WorldImage UpFits DownFits HallFits ClientFits x (items.all_moved (items.Tick 0 ∷ ups place (length taken)) v)) (sym bytes_is)
-        (subst (WorldImage UpFits DownFits HallFits ClientFits behind_it) (sym (ups_are UpFits DownFits HallFits ClientFits cores place taken (drop h.count p.up.items) ticked p found_item (sym (take-append-drop h.count p.up.items)) ticked_fits taken_fit)) behind_image)
+        (subst (WorldImage UpFits DownFits HallFits ClientFits behind_it) (sym (ups_are UpFits DownFits HallFits ClientFits cores many place taken (drop h.count p.up.items) ticked p few found_item (sym (take-append-drop h.count p.up.items)) ticked_fits taken_fit)) behind_image)
 
   served_so : (place : ℕ) (count : Count) (w : World) (v : ItemWorld) → WorldImage UpFits DownFits HallFits ClientFits w v → IsServedSo place count w v
   served_so place count w v i = by (slice_get w.wires place) refl

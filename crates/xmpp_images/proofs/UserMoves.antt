@@ -77,7 +77,7 @@ framer_stays ds i d d' q j found same = elim (cases_eq j i) [
   | inr other ↦ ap (framer_here q) (get_set_other ds i j d d' found other)
 ]
 
-module _ (UpFits DownFits : ItemOut → Type 0) (HallFits : Hall ItemOut → Type 0) (ClientFits : ClientView ItemOut → Type 0) (cores : CoresFit UpFits DownFits HallFits ClientFits) where
+module _ (UpFits DownFits : ItemOut → Type 0) (HallFits : ℕ → Hall ItemOut → Type 0) (ClientFits : ClientView ItemOut → Type 0) (cores : CoresFit UpFits DownFits HallFits ClientFits) where
   -- a device changes, and the connection that it has
   abbrev pub After : World → ItemWorld → ℕ → DeviceState → ℕ → Wire → ItemWire → Type 0
   After w v i d' q b p = WireImage UpFits DownFits (framer_at (number_at q) w.server.framers) (framer_here q (slice_get (slice_set w.devices i d') b.device)) (writer_at (number_at q) v.server) b p
@@ -136,7 +136,7 @@ module _ (UpFits DownFits : ItemOut → Type 0) (HallFits : Hall ItemOut → Typ
       (record {
         moment = image.moment;
         hall = image.hall;
-        hall_fits = image.hall_fits;
+        hall_fits = subst (λ n. HallFits n v.server) (sym (length_where d.here g v.wires)) image.hall_fits;
         devices = devices_changed w v i d d' e e' found found_item h image;
         as_many = length_where d.here f w.wires ∙ image.as_many ∙ sym (length_where d.here g v.wires);
         wires = λ place. wires_changed w v i d d' f g d.here place found image (at_here place) (at_other place);

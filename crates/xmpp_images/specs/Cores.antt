@@ -1,5 +1,5 @@
 -- What the two cores owe to the pipes: what they put is within the limits of who reads it, and in the order of a stream.
-use Rattle.std.specs.Prelude.{ℕ, ◌≡◌, ◌≤◌, ◌⊎◌, Bool, true, false, List, [], ◌∷◌, ◌++◌, Option, Some, None, Ok, IsTrue, map}
+use Rattle.std.specs.Prelude.{ℕ, ◌+◌, ◌≡◌, ◌≤◌, ◌⊎◌, Bool, true, false, List, [], ◌∷◌, ◌++◌, Option, Some, None, Ok, IsTrue, map}
 use Rattle.std.specs.List.{AllByRecursion}
 use Rattle.std.specs.Option.{option_map}
 use Rattle.xmpp_client.specs.UserCalls.{catch_up_answer, catches_up, closes, dials, forgets, leaves, say_answer, says}
@@ -91,18 +91,19 @@ pub record HeardFits (UpFits : ItemOut → Type 0) (ClientFits : ClientView Item
 
 -- ---- what is owed
 
--- Of four families: what a client may put, and the server; halls; and clients. Whatever comes of these is among these.
-pub record CoresFit (UpFits DownFits : ItemOut → Type 0) (HallFits : Hall ItemOut → Type 0) (ClientFits : ClientView ItemOut → Type 0) : Type 0 where
+-- Of four families: what a client may put, and the server; halls, of so many connections that were dialed; and clients.
+-- Whatever comes of these is among these.
+pub record CoresFit (UpFits DownFits : ItemOut → Type 0) (HallFits : ℕ → Hall ItemOut → Type 0) (ClientFits : ClientView ItemOut → Type 0) : Type 0 where
   -- ---- limits
   pub up_limits : (i : ItemOut) → UpFits i → OutFits server_limits i
   pub down_limits : (i : ItemOut) → DownFits i → OutFits client_limits i
   pub footer : UpFits Closing
-  -- ---- the server
-  pub moment : (now : ℕ) (h : Hall ItemOut) → HallFits h → HallFits (at_moment now h)
-  pub comes : (k : ℕ) (h : Hall ItemOut) → HallFits h → HallFits (with_fresh k (server_entropy k) h)
-  pub goes : (k : ℕ) (h : Hall ItemOut) → HallFits h → HallFits (gone_at k h)
-  pub handles : (k : ℕ) (i : ItemOut) (h : Hall ItemOut) → HallFits h → UpFits i → HallFits (after_item itself k (read_of i) (step_of h)).hall
-  pub in_order : (k : ℕ) (i : ItemOut) (h : Hall ItemOut) (j : ℕ) → HallFits h → UpFits i
+  -- ---- the server, which knows of so many connections
+  pub moment : (n now : ℕ) (h : Hall ItemOut) → HallFits n h → HallFits n (at_moment now h)
+  pub comes : (n : ℕ) (h : Hall ItemOut) → HallFits n h → HallFits (n + 1) (with_fresh (n + 1) (server_entropy (n + 1)) h)
+  pub goes : (n k : ℕ) (h : Hall ItemOut) → HallFits n h → HallFits n (gone_at k h)
+  pub handles : (n k : ℕ) (i : ItemOut) (h : Hall ItemOut) → HallFits n h → k ≤ n → UpFits i → HallFits n (after_item itself k (read_of i) (step_of h)).hall
+  pub in_order : (n k : ℕ) (i : ItemOut) (h : Hall ItemOut) (j : ℕ) → HallFits n h → k ≤ n → UpFits i
       → AreInOrder DownFits j (writer_at j h) (after_item itself k (read_of i) (step_of h)).outs (writer_at j (after_item itself k (read_of i) (step_of h)).hall)
   -- ---- a client
   pub dials_so : (k : ℕ) (c : ClientView ItemOut) → ClientFits c → TurnFits UpFits ClientFits (dials in_items (client_entropy k) (fed_of c)).turn
@@ -117,3 +118,6 @@ pub record CoresFit (UpFits DownFits : ItemOut → Type 0) (HallFits : Hall Item
 -- the things that something is shown as: a family as the law has it
 abbrev pub Among : {A B : Type 0} → (A → B) → B → Type 0
 Among {A = A} shown b = (a : A) × (shown a ≡ b)
+
+abbrev pub AmongHalls : {A : Type 0} → (A → ℕ × Hall ItemOut) → ℕ → Hall ItemOut → Type 0
+AmongHalls {A = A} shown n h = (a : A) × ((shown a).0 ≡ n) × ((shown a).1 ≡ h)

@@ -27,6 +27,6 @@ items_at_start schedule = record {
 }
 
 -- it is among the halls and clients of which `CoresFit` speaks
-pub record StartFits (HallFits : Hall ItemOut → Type 0) (ClientFits : ClientView ItemOut → Type 0) (schedule : WireView) : Type 0 where
-  pub hall : HallFits (items_at_start schedule).server
+pub record StartFits (HallFits : ℕ → Hall ItemOut → Type 0) (ClientFits : ClientView ItemOut → Type 0) (schedule : WireView) : Type 0 where
+  pub hall : HallFits 0 (items_at_start schedule).server
   pub clients : AllByRecursion (λ o. ClientFits (item_device o).client) (owned_in (common_steps schedule))

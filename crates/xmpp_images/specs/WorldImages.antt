@@ -49,10 +49,10 @@ WireAt UpFits DownFits w v place b p =
 
 -- The same moment; the server of bytes is that of items, with each thing that waits written; and so are the devices and the
 -- connections, each at its place.
-pub record WorldImage (UpFits DownFits : ItemOut → Type 0) (HallFits : Hall ItemOut → Type 0) (ClientFits : ClientView ItemOut → Type 0) (w : World) (v : ItemWorld) : Type 0 where
+pub record WorldImage (UpFits DownFits : ItemOut → Type 0) (HallFits : ℕ → Hall ItemOut → Type 0) (ClientFits : ClientView ItemOut → Type 0) (w : World) (v : ItemWorld) : Type 0 where
   pub moment : w.moment ≡ v.moment
   pub hall : w.server.hall ≡ hall_turned written_item v.server
-  pub hall_fits : HallFits v.server
+  pub hall_fits : HallFits (length v.wires) v.server
   pub devices : (place : ℕ) → Both (DeviceImage ClientFits) (slice_get w.devices place) (slice_get v.devices place)
   pub as_many : length w.wires ≡ length v.wires
   pub wires : (place : ℕ) → Both (WireAt UpFits DownFits w v place) (slice_get w.wires place) (slice_get v.wires place)
@@ -60,12 +60,12 @@ pub record WorldImage (UpFits DownFits : ItemOut → Type 0) (HallFits : Hall It
 -- ---- moves
 
 -- A move of bytes is these moves of items: behind it the one world is the image of the other still.
-pub record IsMoved (UpFits DownFits : ItemOut → Type 0) (HallFits : Hall ItemOut → Type 0) (ClientFits : ClientView ItemOut → Type 0) (m : Move) (w : World) (v : ItemWorld) : Type 0 where
+pub record IsMoved (UpFits DownFits : ItemOut → Type 0) (HallFits : ℕ → Hall ItemOut → Type 0) (ClientFits : ClientView ItemOut → Type 0) (m : Move) (w : World) (v : ItemWorld) : Type 0 where
   pub moves : List ItemMove
   pub is_run : IsRunOf m moves
   pub image : WorldImage UpFits DownFits HallFits ClientFits (moved m w) (all_moved moves v)
 
 -- a world of bytes is the image of one of items that moves lead to from a first one
-pub record IsReached (UpFits DownFits : ItemOut → Type 0) (HallFits : Hall ItemOut → Type 0) (ClientFits : ClientView ItemOut → Type 0) (start : ItemWorld) (w : World) : Type 0 where
+pub record IsReached (UpFits DownFits : ItemOut → Type 0) (HallFits : ℕ → Hall ItemOut → Type 0) (ClientFits : ClientView ItemOut → Type 0) (start : ItemWorld) (w : World) : Type 0 where
   pub moves : List ItemMove
   pub image : WorldImage UpFits DownFits HallFits ClientFits w (all_moved moves start)
