@@ -22,6 +22,7 @@ use Rattle.xmpp_framing.specs.Limits.{client_limits, server_limits}
 use Rattle.xmpp_framing.specs.States.{State, from_start}
 use Rattle.xmpp_framing.specs.declared.states.Phase.TheVariants as phase
 use Rattle.xmpp_images.proofs.DialMoves.{framed, silent_fed}
+use Rattle.xmpp_images.proofs.Beginnings.{begins_where, closed_begun}
 use Rattle.xmpp_images.proofs.HallsTurned.{moment_turned}
 use Rattle.xmpp_images.proofs.Lookups.{found_beside_inserted, found_inserted, get_before, get_last}
 use Rattle.xmpp_images.proofs.NetworkMoves.{both_weaker, number_apart}
@@ -29,7 +30,7 @@ use Rattle.xmpp_images.proofs.UserMoves.{After, away, devices_changed, get_set_s
 use Rattle.xmpp_images.proofs.WireSteps.{wire_fresh}
 use Rattle.xmpp_images.specs.Cores.{CoresFit, TurnFits, writer_at, writer_of}
 use Rattle.xmpp_images.specs.WireImages.{WireImage}
-use Rattle.xmpp_images.specs.WorldImages.{Both, DeviceImage, IsMoved, WorldImage, framer_here}
+use Rattle.xmpp_images.specs.WorldImages.{Begins, Both, DeviceImage, IsBegun, IsMoved, WorldImage, framer_here}
 use Rattle.xmpp_item_worlds.specs.ItemMoves as items
 use Rattle.xmpp_item_worlds.specs.ItemMoves.{fed_of}
 use Rattle.xmpp_item_worlds.specs.ItemPipes as pipes
@@ -44,6 +45,9 @@ use Rattle.xmpp_wires.specs.declared.wire.Wire.{Wire}
 use Rattle.xmpp_world.specs.Moves.{Dial, dialed_by}
 use Rattle.xmpp_world.specs.Worlds.{World, client_entropy, number_at, server_entropy}
 use Rattle.xmpp_writer.specs.Items.{ItemOut, Opening, written_item}
+
+some_is : {T : Type 0} (x y : T) → Some x ≡ Some y → x ≡ y
+some_is x y e = cc
 
 module _ (UpFits DownFits : ItemOut → Type 0) (HallFits : ℕ → Hall ItemOut → Type 0) (ClientFits : ClientView ItemOut → Type 0) (cores : CoresFit UpFits DownFits HallFits ClientFits) where
   module _ (i : ℕ) (w : World) (v : ItemWorld) (d : DeviceState) (e : ItemDevice) (found : slice_get w.devices i ≡ Some d) (found_item : slice_get v.devices i ≡ Some e) (h : DeviceImage ClientFits d e)
@@ -154,12 +158,23 @@ module _ (UpFits DownFits : ItemOut → Type 0) (HallFits : ℕ → Hall ItemOut
     abbrev items_now : ItemWorld
     items_now = record v { server = hall_now; devices = slice_set v.devices i e'; wires = old_item_wires ++ new_item_wire ∷ [] }
 
+    dialed_begins : Begins (old_item_wires ++ new_item_wire ∷ []) hall_now
+    dialed_begins q r there first = elim (cases_eq q n) [
+      | inl same ↦
+          let is : new_item_wire ≡ r = some_is new_item_wire r (sym (sym (ap (slice_get (old_item_wires ++ new_item_wire ∷ [])) many_items) ∙ get_last old_item_wires new_item_wire) ∙ ap (slice_get (old_item_wires ++ new_item_wire ∷ [])) (sym same) ∙ there) in
+          subst (λ (y : ItemWire). IsBegun y.up) is (inl (header, [], refl))
+      | inr other ↦
+          begins_where v.wires v.server d.here pipes.left (λ x. closed_begun x.up) image.begins q r (sym (get_before old_item_wires new_item_wire q (λ x. other (x ∙ many_items))) ∙ there)
+          (sym (ap (option_map writer_of) (found_beside_inserted (number_at q) k (fresh_conn (server_entropy k)) v.server.conns (number_apart q n other))) ∙ first)
+    ]
+
     dialed_image : WorldImage UpFits DownFits HallFits ClientFits world_now items_now
     dialed_image = record {
       moment = image.moment;
       hall = ap₂ (λ m x. with_fresh k (server_entropy k) (at_moment m x)) image.moment image.hall ∙ ap (with_fresh k (server_entropy k)) (moment_turned written_item v.moment v.server);
       hall_fits = subst (λ m. HallFits m hall_now) (sym (length-append old_item_wires (new_item_wire ∷ []) ∙ ap (λ m. m + 1) many_items))
           (cores.comes n (at_moment v.moment v.server) (cores.moment n v.moment v.server (subst (λ m. HallFits m v.server) (sym image.as_many) image.hall_fits)));
+      begins = dialed_begins;
       devices = devices_changed UpFits DownFits HallFits ClientFits cores w v i d d' e e' found found_item device_image image;
       as_many = length-append old_wires (new_wire ∷ []) ∙ ap (λ m. m + 1) (length_where d.here left w.wires ∙ sym many_items) ∙ sym (length-append old_item_wires (new_item_wire ∷ []));
       wires = all_images;

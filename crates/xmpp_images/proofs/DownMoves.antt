@@ -24,6 +24,7 @@ use Rattle.xmpp_framing.specs.declared.items.Item.{Item}
 use Rattle.xmpp_framing.specs.declared.items.Item.TheVariants as item
 use Rattle.xmpp_framing.specs.declared.states.Phase.{Phase}
 use Rattle.xmpp_framing_laws.specs.Spells.{placed}
+use Rattle.xmpp_images.proofs.Beginnings.{closed_begun, entered_begun}
 use Rattle.xmpp_images.proofs.ItemsHeard.{downs_are, heard_at_once, many_down, many_of, set_twice, turn_fits, turn_of_items}
 use Rattle.xmpp_images.proofs.Lookups.{get_changed_same, set_changes}
 use Rattle.xmpp_images.proofs.NetworkMoves.{found_both}
@@ -35,7 +36,7 @@ use Rattle.xmpp_images.specs.Cores.{CoresFit, HeardFits, IsInTurn, IsNoFooter, w
 use Rattle.xmpp_images.specs.ItemRuns.{downs, moved_where}
 use Rattle.xmpp_images.specs.PipeImages.{AreRead, over, standing}
 use Rattle.xmpp_images.specs.WireImages.{WireImage}
-use Rattle.xmpp_images.specs.WorldImages.{Both, DeviceImage, IsMoved, WireAt, WorldImage, framer_here}
+use Rattle.xmpp_images.specs.WorldImages.{Both, DeviceImage, IsBegun, IsMoved, WireAt, WorldImage, framer_here}
 use Rattle.xmpp_item_worlds.specs.ItemMoves as items
 use Rattle.xmpp_item_worlds.specs.ItemMoves.{fed_of, here_behind}
 use Rattle.xmpp_item_worlds.specs.ItemPipes as pipes
@@ -196,9 +197,13 @@ module _ (UpFits DownFits : ItemOut → Type 0) (HallFits : ℕ → Hall ItemOut
     items_here : e.here ≡ Some place
     items_here = sym h.here ∙ here
 
+    many_begun : (a : Bool) (y : ItemWire) → IsBegun y.up → IsBegun (many_of a t.out.put (length taken) y).up
+    many_begun true y z = closed_begun (pipes.entered t.out.put y.up) (entered_begun t.out.put y.up z)
+    many_begun false y z = entered_begun t.out.put y.up z
+
     heard_image : (a : Bool) → is_apart t.client.phase ≡ a → WorldImage UpFits DownFits HallFits ClientFits (with_link place b.device (link_now a) w) (items.all_moved (downs place (length taken)) v)
     heard_image a apart =
-        let all = user_image UpFits DownFits HallFits ClientFits cores w v b.device d (device_left a (d1 a)) e (e1 a) (f_now a) (many_of a t.out.put (length taken)) device item_device (device_image a apart) h.here image
+        let all = user_image UpFits DownFits HallFits ClientFits cores w v b.device d (device_left a (d1 a)) e (e1 a) (f_now a) (many_of a t.out.put (length taken)) device item_device (device_image a apart) h.here (many_begun a) image
               (λ q c r is there there_item y. subst (HereAt a) (some_is place q (sym here ∙ is)) (here_at a apart) c r there there_item) (left_framer a) in
         let bytes_is : record w { devices = slice_set w.devices b.device (device_left a (d1 a)); wires = changed_where d.here (f_now a) w.wires } ≡ with_link place b.device (link_now a) w =
               ap (λ o. record w { devices = slice_set w.devices b.device (device_left a (d1 a)); wires = changed_where o (f_now a) w.wires }) here
@@ -266,7 +271,7 @@ module _ (UpFits DownFits : ItemOut → Type 0) (HallFits : ℕ → Hall ItemOut
       let item_due = items_due client_limits (writer_at (number_at place) v.server) (framer_here place (slice_get w.devices b.device)) b.down p.down other.holds.down due in
       let e' : ItemDevice = record e { client = (leaves (fed_of e.client)).turn.client } in
       let all = user_image UpFits DownFits HallFits ClientFits cores w v b.device d (loses d) e e' down_end_told pipes.down_end_told device other_device.is
-            (record { client = ap (λ (c : ClientView (List ℕ)). record c { phase = Apart }) h.client; here = h.here; framed = λ a. refl; fits = cores.loses e.client h.fits }) h.here image
+            (record { client = ap (λ (c : ClientView (List ℕ)). record c { phase = Apart }) h.client; here = h.here; framed = λ a. refl; fits = cores.loses e.client h.fits }) h.here (λ y z. z) image
             (λ q c r is there there_item y. told_here q c r is there y) (λ q apart. lost_framer d.here q ∙ sym (away UpFits DownFits HallFits ClientFits cores d.here d.client.framer q apart)) in
       let bytes_is : record w { devices = slice_set w.devices b.device (loses d); wires = changed_where d.here down_end_told w.wires } ≡ with_link place b.device (link_of (down_end_told b) (loses d)) w =
             ap (λ o. record w { devices = slice_set w.devices b.device (loses d); wires = changed_where o down_end_told w.wires }) has_it

@@ -10,6 +10,8 @@ use Rattle.xmpp_desk.specs.Streams.{standing_of}
 use Rattle.xmpp_desk.specs.declared.connection.Connection.{Connection}
 use Rattle.xmpp_framing.specs.declared.items.Item.{Item}
 use Rattle.xmpp_framing.specs.declared.states.Phase.{Phase}
+use Rattle.xmpp_framing.specs.declared.states.Phase.TheVariants as phase
+use Rattle.xmpp_images.proofs.Beginnings.{IsHeaded, first_before}
 use Rattle.xmpp_images.proofs.BehindOuts.{behind, items_behind}
 use Rattle.xmpp_images.proofs.Emissions.{not_this, this_number}
 use Rattle.xmpp_images.proofs.Lookups.{get_changed_other, get_changed_same}
@@ -17,7 +19,7 @@ use Rattle.xmpp_images.specs.PipeImages.{dropped}
 use Rattle.xmpp_images.specs.Cores.{AreInOrder, CoresFit, IsInOrder, behind_put, behind_shut, writer_at, writer_of}
 use Rattle.xmpp_images.specs.ItemRuns.{ups}
 use Rattle.xmpp_item_worlds.specs.ItemMoves.{Up, all_emitted, all_moved, emitted, moved, served_by, served_first, served_item, step_of}
-use Rattle.xmpp_item_worlds.specs.ItemPipes.{ItemWire, handed_up, put_down, shut}
+use Rattle.xmpp_item_worlds.specs.ItemPipes.{ItemPipe, ItemWire, handed_up, put_down, shut}
 use Rattle.xmpp_item_worlds.specs.ItemWorlds.{ItemWorld, itself, read_of}
 use Rattle.xmpp_server.specs.Table.{after_item, after_items, at_open}
 use Rattle.xmpp_wires.specs.Places.{changed_at, changed_under}
@@ -118,23 +120,23 @@ order_joined Fits j a b c (Took from to origin ∷ outs) more order rest = order
 
 -- ---- the pipe up behind what was put out: as it was, or emptied, and then the server puts nothing more
 
-record UpAfter (place : ℕ) (p : ItemWire) (later : Option Phase) (ws : List ItemWire) : Type 0 where
-  wire : ItemWire
-  found : slice_get ws place ≡ Some wire
-  is : (wire.up.items ≡ p.up.items) ⊎ ((wire.up.items ≡ []) × (later ≡ None))
+pub record UpAfter (place : ℕ) (p : ItemWire) (later : Option Phase) (ws : List ItemWire) : Type 0 where
+  pub wire : ItemWire
+  pub found : slice_get ws place ≡ Some wire
+  pub is : (wire.up ≡ p.up) ⊎ ((wire.up.items ≡ []) × (later ≡ None))
 
 emptied_after : (place : ℕ) (p : ItemWire) (later : Option Phase) (ws : List ItemWire) → later ≡ None → UpAfter place (shut p) later ws → UpAfter place p later ws
 emptied_after place p later ws none u = record { wire = u.wire; found = u.found; is = by u.is }
   where
-    by : (u.wire.up.items ≡ []) ⊎ ((u.wire.up.items ≡ []) × (later ≡ None)) → (u.wire.up.items ≡ p.up.items) ⊎ ((u.wire.up.items ≡ []) × (later ≡ None))
-    by (inl e) = inr (e, none)
+    by : (u.wire.up ≡ (shut p).up) ⊎ ((u.wire.up.items ≡ []) × (later ≡ None)) → (u.wire.up ≡ p.up) ⊎ ((u.wire.up.items ≡ []) × (later ≡ None))
+    by (inl e) = inr (ap (λ (x : ItemPipe). x.items) e, none)
     by (inr e) = inr e
 
 -- what goes down leaves the pipe up
 put_after : (place : ℕ) (p : ItemWire) (i : ItemOut) (later : Option Phase) (ws : List ItemWire) → UpAfter place (put_down (i ∷ []) p) later ws → UpAfter place p later ws
 put_after place p i later ws u = record { wire = u.wire; found = u.found; is = u.is }
 
-up_after : (Fits : ItemOut → Type 0) (place : ℕ) (outs : List (Out ItemOut)) (now later : Option Phase) (ws : List ItemWire) (p : ItemWire) → AreInOrder Fits (number_at place) now outs later → slice_get ws place ≡ Some p → UpAfter place p later (all_emitted outs ws)
+pub up_after : (Fits : ItemOut → Type 0) (place : ℕ) (outs : List (Out ItemOut)) (now later : Option Phase) (ws : List ItemWire) (p : ItemWire) → AreInOrder Fits (number_at place) now outs later → slice_get ws place ≡ Some p → UpAfter place p later (all_emitted outs ws)
 up_after Fits place [] now later ws p order found = record { wire = p; found = found; is = inl refl }
 up_after Fits place (Took from to origin ∷ outs) now later ws p order found = up_after Fits place outs now later ws p order found
 up_after Fits place (Put zero i ∷ outs) now later ws p order found = up_after Fits place outs (behind_put (is_number (number_at place) zero) now i) later ws p order.1 found
@@ -185,38 +187,49 @@ served_parts place i rest h =
     ap (λ l. after_items itself (number_at place) (map read_of rest) (record { hall = d.hall; outs = l })) (sym (append-nil d.outs)) ∙ items_behind d.outs itself (number_at place) (map read_of rest) (step_of d.hall)
 
 module _ (UpFits DownFits : ItemOut → Type 0) (HallFits : ℕ → Hall ItemOut → Type 0) (ClientFits : ClientView ItemOut → Type 0) (cores : CoresFit UpFits DownFits HallFits ClientFits) where
-  pub served_fits : (n place : ℕ) (first : List ItemOut) (h : Hall ItemOut) → number_at place ≤ n → HallFits n h → AllByRecursion UpFits first → HallFits n (served place first h).hall
-  served_fits n place [] h few fits all = fits
-  served_fits n place (i ∷ rest) h few fits all =
+  pub served_fits : (n place : ℕ) (first : List ItemOut) (h : Hall ItemOut) → number_at place ≤ n → HallFits n h → AllByRecursion UpFits first → (writer_at (number_at place) h ≡ Some phase.First → IsHeaded first) → HallFits n (served place first h).hall
+  served_fits n place [] h few fits all comes = fits
+  served_fits n place (i ∷ rest) h few fits all comes =
       let d = after_item itself (number_at place) (read_of i) (step_of h) in
-      subst (λ (s : Step ItemOut). HallFits n s.hall) (sym (served_parts place i rest h)) (served_fits n place rest d.hall few (cores.handles n (number_at place) i h fits few all.0) all.1)
+      subst (λ (s : Step ItemOut). HallFits n s.hall) (sym (served_parts place i rest h)) (served_fits n place rest d.hall few (cores.handles n (number_at place) i h fits few all.0 comes) all.1 (λ e. absurd (cores.opened n (number_at place) i h fits few all.0 comes e)))
 
-  pub served_in_order : (n place : ℕ) (first : List ItemOut) (h : Hall ItemOut) (j : ℕ) → number_at place ≤ n → HallFits n h → AllByRecursion UpFits first → AreInOrder DownFits j (writer_at j h) (served place first h).outs (writer_at j (served place first h).hall)
-  served_in_order n place [] h j few fits all = refl
-  served_in_order n place (i ∷ rest) h j few fits all =
+  pub served_in_order : (n place : ℕ) (first : List ItemOut) (h : Hall ItemOut) (j : ℕ) → number_at place ≤ n → HallFits n h → AllByRecursion UpFits first → (writer_at (number_at place) h ≡ Some phase.First → IsHeaded first) → AreInOrder DownFits j (writer_at j h) (served place first h).outs (writer_at j (served place first h).hall)
+  served_in_order n place [] h j few fits all comes = refl
+  served_in_order n place (i ∷ rest) h j few fits all comes =
       let d = after_item itself (number_at place) (read_of i) (step_of h) in
       let d' = served place rest d.hall in
       subst (λ (s : Step ItemOut). AreInOrder DownFits j (writer_at j h) s.outs (writer_at j s.hall)) (sym (served_parts place i rest h))
-      (order_joined DownFits j (writer_at j h) (writer_at j d.hall) (writer_at j d'.hall) d.outs d'.outs (cores.in_order n (number_at place) i h j fits few all.0)
-      (served_in_order n place rest d.hall j few (cores.handles n (number_at place) i h fits few all.0) all.1))
+      (order_joined DownFits j (writer_at j h) (writer_at j d.hall) (writer_at j d'.hall) d.outs d'.outs (cores.in_order n (number_at place) i h j fits few all.0 comes)
+      (served_in_order n place rest d.hall j few (cores.handles n (number_at place) i h fits few all.0 comes) all.1 (λ e. absurd (cores.opened n (number_at place) i h fits few all.0 comes e))))
 
-  pub ups_are : (many place : ℕ) (first others : List ItemOut) (v : ItemWorld) (p : ItemWire) → number_at place ≤ many → slice_get v.wires place ≡ Some p → p.up.items ≡ first ++ others → HallFits many v.server → AllByRecursion UpFits first
+  -- behind an item its connection doesn't stand before the first header
+  pub served_opened : (n place : ℕ) (first : List ItemOut) (h : Hall ItemOut) → number_at place ≤ n → HallFits n h → AllByRecursion UpFits first → (writer_at (number_at place) h ≡ Some phase.First → IsHeaded first)
+      → writer_at (number_at place) (served place first h).hall ≡ Some phase.First → first ≡ []
+  served_opened n place [] h few fits all comes first = refl
+  served_opened n place (i ∷ rest) h few fits all comes first =
+      let d = after_item itself (number_at place) (read_of i) (step_of h) in
+      let opened = cores.opened n (number_at place) i h fits few all.0 comes in
+      let order = served_in_order n place rest d.hall (number_at place) few (cores.handles n (number_at place) i h fits few all.0 comes) all.1 (λ e. absurd (opened e)) in
+      absurd (opened (first_before DownFits (number_at place) (served place rest d.hall).outs (writer_at (number_at place) d.hall) (writer_at (number_at place) (served place rest d.hall).hall) order
+      (sym (ap (λ (s : Step ItemOut). writer_at (number_at place) s.hall) (served_parts place i rest h)) ∙ first)))
+
+  pub ups_are : (many place : ℕ) (first others : List ItemOut) (v : ItemWorld) (p : ItemWire) → number_at place ≤ many → slice_get v.wires place ≡ Some p → p.up.items ≡ first ++ others → HallFits many v.server → AllByRecursion UpFits first → (writer_at (number_at place) v.server ≡ Some phase.First → IsHeaded first)
       → all_moved (ups place (length first)) v ≡ at_once place first v
-  ups_are many place [] others v p few found items_are fits all = ap (λ l. record v { wires = l }) (sym (changed_none (many_up 0) v.wires place (λ x. refl)))
-  ups_are many place (i ∷ rest) others v p few found items_are fits all =
+  ups_are many place [] others v p few found items_are fits all comes = ap (λ l. record v { wires = l }) (sym (changed_none (many_up 0) v.wires place (λ x. refl)))
+  ups_are many place (i ∷ rest) others v p few found items_are fits all comes =
       let n = length rest in
       let d = after_item itself (number_at place) (read_of i) (step_of v.server) in
       let ws = changed_at place handed_up v.wires in
       let one : ItemWorld = record v { server = d.hall; wires = all_emitted d.outs ws } in
       let step : moved (Up place) v ≡ one = ap (λ o. served_by place o v) found ∙ ap (λ l. served_first place l v) items_are in
       let here : slice_get ws place ≡ Some (handed_up p) = get_changed_same handed_up v.wires place ∙ ap (option_map handed_up) found in
-      let after = up_after DownFits place d.outs (writer_at (number_at place) v.server) (writer_at (number_at place) d.hall) ws (handed_up p) (cores.in_order many (number_at place) i v.server (number_at place) fits few all.0) here in
+      let after = up_after DownFits place d.outs (writer_at (number_at place) v.server) (writer_at (number_at place) d.hall) ws (handed_up p) (cores.in_order many (number_at place) i v.server (number_at place) fits few all.0 comes) here in
       let dropped_is : changed_at place (many_up n) (all_emitted d.outs ws) ≡ all_emitted d.outs (changed_at place (many_up (suc n)) v.wires) =
             all_commutes place n d.outs ws ∙ ap (all_emitted d.outs) (changed_twice (many_up n) handed_up (many_up (suc n)) v.wires place (many_handed n)) in
       ap (all_moved (ups place n)) step ∙ (elim after.is [
         | inl kept ↦
             let d' = served place rest d.hall in
-            ups_are many place rest others one after.wire few after.found (kept ∙ ap (drop 1) items_are) (cores.handles many (number_at place) i v.server fits few all.0) all.1
+            ups_are many place rest others one after.wire few after.found (ap (λ (x : ItemPipe). x.items) kept ∙ ap (drop 1) items_are) (cores.handles many (number_at place) i v.server fits few all.0 comes) all.1 (λ e. absurd (cores.opened many (number_at place) i v.server fits few all.0 comes e))
             ∙ ap (λ l. record v { server = d'.hall; wires = all_emitted d'.outs l }) dropped_is
             ∙ ap (λ l. record v { server = d'.hall; wires = l }) (sym (emitted_joined d.outs d'.outs (changed_at place (many_up (suc n)) v.wires)))
             ∙ ap (λ (s : Step ItemOut). record v { server = s.hall; wires = all_emitted s.outs (changed_at place (many_up (suc n)) v.wires) }) (sym (served_parts place i rest v.server))

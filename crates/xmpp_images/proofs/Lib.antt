@@ -9,6 +9,7 @@ pub mod TurnsBehind
 -- the server
 pub mod BehindOuts
 pub mod HallsTurned
+pub mod Beginnings
 pub mod Emissions
 pub mod ItemsServed
 -- moves

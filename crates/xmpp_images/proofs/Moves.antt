@@ -86,6 +86,10 @@ of_step (wire.Run times) w line may = of_rounds times (length w.wires)
 
 -- ---- the start
 
+nothing_found : (place : ℕ) (p : ItemWire) → slice_get [] place ≡ Some p → ⊥
+nothing_found zero p e = cc
+nothing_found (suc place) p e = cc
+
 none_there : {A B : Type 0} (R : ℕ → A → B → Type 0) (place : ℕ) → Both (R place) (slice_get [] place) (slice_get [] place)
 none_there R zero = tt
 none_there R (suc place) = tt
@@ -102,6 +106,7 @@ module _ (UpFits DownFits : ItemOut → Type 0) (HallFits : ℕ → Hall ItemOut
     moment = refl;
     hall = refl;
     hall_fits = fits.hall;
+    begins = λ place p found. absurd (nothing_found place p found);
     devices = devices_at_start (owned_in (common_steps schedule)) fits.clients;
     as_many = refl;
     wires = none_there (WireAt UpFits DownFits (world_at_start schedule) (items_at_start schedule));

@@ -12,14 +12,15 @@ use Rattle.xmpp_framing.specs.Limits.{client_limits, server_limits}
 use Rattle.xmpp_framing.specs.States.{State}
 use Rattle.xmpp_framing.specs.declared.states.Phase.{Phase}
 use Rattle.xmpp_framing.specs.declared.states.Phase.TheVariants as phase
+use Rattle.xmpp_images.proofs.Beginnings.{begins_at, cut_begun}
 use Rattle.xmpp_images.proofs.HallsTurned.{gone_turned, moment_turned}
 use Rattle.xmpp_images.proofs.Lookups.{found_behind_removal, get_changed_other, get_changed_same, length_changed, set_changes}
-use Rattle.xmpp_images.proofs.PipeSteps.{items_due}
+use Rattle.xmpp_images.proofs.PipeSteps.{due_image, is_due, items_due}
 use Rattle.xmpp_images.proofs.WireSteps.{IsWireCut, wire_cut, wire_up_told}
 use Rattle.xmpp_images.specs.Cores.{CoresFit, writer_at, writer_of}
 use Rattle.xmpp_images.specs.ItemRuns.{IsRunOf, moved_where}
 use Rattle.xmpp_images.specs.WireImages.{WireImage}
-use Rattle.xmpp_images.specs.WorldImages.{Both, DeviceImage, IsMoved, WireAt, WorldImage, framer_here}
+use Rattle.xmpp_images.specs.WorldImages.{Begins, Both, DeviceImage, IsBegun, IsMoved, WireAt, WorldImage, framer_here}
 use Rattle.xmpp_item_worlds.specs.ItemMoves as items
 use Rattle.xmpp_item_worlds.specs.ItemMoves.{ItemMove}
 use Rattle.xmpp_item_worlds.specs.ItemPipes as pipes
@@ -34,6 +35,9 @@ use Rattle.xmpp_wires.specs.declared.wire.Wire.{Wire}
 use Rattle.xmpp_world.specs.Moves.{Cut, Move, Tick, end_told_up, moved, told_up}
 use Rattle.xmpp_world.specs.Worlds.{World, number_at}
 use Rattle.xmpp_writer.specs.Items.{ItemOut, written_item}
+
+some_is : {T : Type 0} (x y : T) → Some x ≡ Some y → x ≡ y
+some_is x y e = cc
 
 -- ---- both or neither
 
@@ -85,6 +89,7 @@ module _ (UpFits DownFits : ItemOut → Type 0) (HallFits : ℕ → Hall ItemOut
       moment = ap (λ n. n + milliseconds) i.moment;
       hall = ap (at_moment (w.moment + milliseconds)) i.hall ∙ moment_turned written_item (w.moment + milliseconds) v.server ∙ ap (λ n. hall_turned written_item (at_moment (n + milliseconds) v.server)) i.moment;
       hall_fits = cores.moment (length v.wires) (v.moment + milliseconds) v.server i.hall_fits;
+      begins = i.begins;
       devices = i.devices;
       as_many = i.as_many;
       wires = i.wires;
@@ -112,6 +117,7 @@ module _ (UpFits DownFits : ItemOut → Type 0) (HallFits : ℕ → Hall ItemOut
           moment = i.moment;
           hall = i.hall;
           hall_fits = subst (λ n. HallFits n v.server) (sym (length_changed (pipes.cut_at h.0 h.1) v.wires place)) i.hall_fits;
+          begins = begins_at v.wires v.server v.server place (pipes.cut_at h.0 h.1) (λ x b. cut_begun h.0 x.up b) (λ j e. e) i.begins;
           devices = i.devices;
           as_many = length_changed (cut_at up down) w.wires place ∙ i.as_many ∙ sym (length_changed (pipes.cut_at h.0 h.1) v.wires place);
           wires = both_changed (WireAt UpFits DownFits w v) (WireAt UpFits DownFits w v) (cut_at up down) (pipes.cut_at h.0 h.1) w.wires v.wires place h.2 (λ q other c r x. x) i.wires;
@@ -133,6 +139,19 @@ module _ (UpFits DownFits : ItemOut → Type 0) (HallFits : ℕ → Hall ItemOut
       wire_up_told UpFits DownFits cores.up_limits cores.down_limits (framer_at (number_at place) w.server.framers) (framer_here place (slice_get w.devices b.device))
       (framer_at (number_at place) (remove_entry (is_number (number_at place)) w.server.framers)) (writer_at (number_at place) v.server) (writer_at (number_at place) (gone_at (place + 1) (at_moment v.moment v.server))) b p due x
 
+  -- nothing comes of it any more
+  told_begins : (place : ℕ) (w : World) (v : ItemWorld) (b : Wire) (p : ItemWire) → slice_get v.wires place ≡ Some p → is_end_due b.up ≡ true → WireAt UpFits DownFits w v place b p → Begins v.wires v.server
+      → Begins (changed_at place pipes.up_end_told v.wires) (gone_at (place + 1) (at_moment v.moment v.server))
+  told_begins place w v b p found due x begins q r there first = elim (cases_eq q place) [
+    | inl same ↦
+        let is : pipes.up_end_told p ≡ r = some_is (pipes.up_end_told p) r (sym (get_changed_same pipes.up_end_told v.wires place ∙ ap (option_map pipes.up_end_told) found) ∙ ap (slice_get (changed_at place pipes.up_end_told v.wires)) (sym same) ∙ there) in
+        subst (λ (y : ItemWire). IsBegun y.up) is
+        (inr (due_image server_limits (Some phase.Between) (framer_at (number_at place) w.server.framers) b.up p.up x.up due, sym x.up.ended ∙ (is_due b.up due).has_ended))
+    | inr other ↦
+        begins q r (sym (get_changed_other pipes.up_end_told v.wires place q other) ∙ there)
+        (sym (ap (option_map writer_of) (found_behind_removal (number_at q) (place + 1) v.server.conns (number_apart q place other))) ∙ first)
+  ]
+
   told_image : (place : ℕ) (w : World) (v : ItemWorld) (b : Wire) (p : ItemWire) → slice_get w.wires place ≡ Some b → slice_get v.wires place ≡ Some p → is_end_due b.up ≡ true → WireAt UpFits DownFits w v place b p
       → WorldImage UpFits DownFits HallFits ClientFits w v
       → WorldImage UpFits DownFits HallFits ClientFits (record w { server = after_gone (number_at place) w.moment w.server; wires = slice_set w.wires place (up_end_told b) })
@@ -151,6 +170,7 @@ module _ (UpFits DownFits : ItemOut → Type 0) (HallFits : ℕ → Hall ItemOut
             ∙ ap (λ n. hall_turned written_item (gone_at (place + 1) (at_moment n v.server))) i.moment;
         hall_fits = subst (λ n. HallFits n (gone_at (place + 1) (at_moment v.moment v.server))) (sym (length_changed pipes.up_end_told v.wires place))
             (cores.goes (length v.wires) (place + 1) (at_moment v.moment v.server) (cores.moment (length v.wires) v.moment v.server i.hall_fits));
+        begins = told_begins place w v b p found_item due x i.begins;
         devices = i.devices;
         as_many = ap length set_is ∙ length_changed up_end_told w.wires place ∙ i.as_many ∙ sym (length_changed pipes.up_end_told v.wires place);
         wires = λ q. subst (λ l. Both (after q) (slice_get l q) (slice_get (changed_at place pipes.up_end_told v.wires) q)) (sym set_is)

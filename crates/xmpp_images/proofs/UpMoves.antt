@@ -1,5 +1,6 @@
 -- Bytes that are handed to the server are the items whose last bytes are among them.
-use Rattle.std.proofs.Common.{◌≡◌, ◌≢◌, ◌≤◌, ℕ, zero, suc, ◌+◌, ◌==◌, min, Bool, true, false, true≢false, cond, List, [], ◌∷◌, ◌++◌, Option, Some, None, map, take, drop, length, refl, sym, ap, ap₂, subst, ◌∙◌, inl, inr, arith}
+use Rattle.std.proofs.Common.{◌≡◌, ◌≢◌, ◌≤◌, ◌<◌, ℕ, zero, suc, ◌+◌, ◌==◌, min, Bool, true, false, true≢false, cond, List, [], ◌∷◌, ◌++◌, Option, Some, None, map, take, drop, length, refl, sym, ap, ap₂, subst, ◌∙◌, inl, inr, arith}
+use Rattle.std.proofs.lemmas.Bool.{cases_eq}
 use Rattle.std.proofs.lemmas.List.{take-append-drop}
 use Rattle.std.proofs.lemmas.Option.{slice_get_within}
 use Rattle.std.specs.List.{AllByRecursion, slice_get, slice_set}
@@ -16,19 +17,21 @@ use Rattle.xmpp_framing.specs.Machine.{run}
 use Rattle.xmpp_framing.specs.States.{State, Turn, turn}
 use Rattle.xmpp_framing.specs.declared.items.Item.{Item}
 use Rattle.xmpp_framing.specs.declared.items.Item.TheVariants as item
+use Rattle.xmpp_framing.specs.declared.states.Phase.{Phase}
 use Rattle.xmpp_framing.specs.declared.states.Phase.TheVariants as phase
 use Rattle.xmpp_framing_laws.specs.Spells.{placed}
+use Rattle.xmpp_images.proofs.Beginnings.{IsHeaded, begun_headed, first_before, wire_there}
 use Rattle.xmpp_images.proofs.Emissions.{all_here}
 use Rattle.xmpp_images.proofs.HallsTurned.{moment_turned}
-use Rattle.xmpp_images.proofs.ItemsServed.{at_once, many_up, served, served_fits, served_in_order, ups_are}
-use Rattle.xmpp_images.proofs.Lookups.{found_behind_other_value, found_behind_value, length_changed, set_changes}
+use Rattle.xmpp_images.proofs.ItemsServed.{UpAfter, at_once, changed_none, many_up, served, served_fits, served_in_order, served_opened, up_after, ups_are}
+use Rattle.xmpp_images.proofs.Lookups.{get_changed_other, found_behind_other_value, found_behind_value, length_changed, set_changes}
 use Rattle.xmpp_images.proofs.NetworkMoves.{IsEnded, both_changed, end_is, found_both, number_apart}
 use Rattle.xmpp_images.proofs.WireSteps.{IsUpHanded, all_taken, wire_up}
 use Rattle.xmpp_images.specs.Cores.{AreInOrder, CoresFit, writer_at}
 use Rattle.xmpp_images.specs.ItemRuns.{IsRunOf, IsServed, moved_where, ups}
 use Rattle.xmpp_images.specs.PipeImages.{AreRead, IsCarried, Over, Standing, over, standing}
 use Rattle.xmpp_images.specs.WireImages.{WireImage}
-use Rattle.xmpp_images.specs.WorldImages.{Both, IsMoved, WireAt, WorldImage, framer_here}
+use Rattle.xmpp_images.specs.WorldImages.{Begins, Both, IsBegun, IsMoved, WireAt, WorldImage, framer_here}
 use Rattle.xmpp_item_worlds.specs.ItemMoves as items
 use Rattle.xmpp_item_worlds.specs.ItemMoves.{ItemMove, step_of}
 use Rattle.xmpp_item_worlds.specs.ItemPipes.{ItemWire}
@@ -141,6 +144,9 @@ module _ (UpFits DownFits : ItemOut → Type 0) (HallFits : ℕ → Hall ItemOut
     taken_fit : AllByRecursion UpFits taken
     taken_fit = all_taken UpFits h.count p.up.items fit
 
+    comes : writer_at (number_at place) ticked.server ≡ Some phase.First → IsHeaded taken
+    comes first = begun_headed h.count p.up (i.begins place p found_item first)
+
     done_is : step_of_piece (number_at place) piece w.moment w.server ≡ step_turned written_item done
     done_is =
         ap (λ o. at_piece written_item (number_at place) piece o (begun w.moment w.server.hall [])) reader
@@ -193,23 +199,58 @@ module _ (UpFits DownFits : ItemOut → Type 0) (HallFits : ℕ → Hall ItemOut
         fed_by : Option State → List (ℕ × State)
         fed_by o = fed (number_at place) piece o w.server.framers
 
+    abbrev handed_items : List ItemWire
+    handed_items = changed_at place (many_up (length taken)) v.wires
+
+    now_begins : Begins (items.all_emitted done.outs handed_items) done.hall
+    now_begins q r there first = elim (cases_eq q place) [
+      | inl same ↦
+          let none : taken ≡ [] = served_opened UpFits DownFits HallFits ClientFits cores many place taken ticked.server few ticked_fits taken_fit comes (ap (λ j. writer_at (number_at j) done.hall) (sym same) ∙ first) in
+          let unchanged : handed_items ≡ v.wires = ap (λ l. changed_at place (many_up (length l)) v.wires) none ∙ changed_none (many_up 0) v.wires place (λ x. refl) in
+          kept p (ap (slice_get handed_items) same ∙ ap (λ l. slice_get l place) unchanged ∙ found_item) (λ e. i.begins place p found_item (ap (λ j. writer_at (number_at j) v.server) (sym same) ∙ e))
+      | inr other ↦
+          let x = wire_there v.wires q within in
+          kept x.0 (get_changed_other (many_up (length taken)) v.wires place q other ∙ x.1) (λ e. i.begins q x.0 x.1 e)
+    ]
+      where
+        within : q < length v.wires
+        within = (let has = slice_get_within (items.all_emitted done.outs handed_items) q r there in let same_length = length_items_emitted done.outs handed_items ∙ length_changed (many_up (length taken)) v.wires place in omega (arith, has, same_length))
+
+        some_is : (x y : ItemWire) → Some x ≡ Some y → x ≡ y
+        some_is x y e = cc
+
+        none_is_not : (o : Option Phase) → o ≡ None → o ≡ Some phase.First → ⊥
+        none_is_not o e f = cc
+
+        -- what goes up there is as it was
+        kept : (x : ItemWire) → slice_get handed_items q ≡ Some x → (writer_at (number_at q) v.server ≡ Some phase.First → IsBegun x.up) → IsBegun r.up
+        kept x found_there begun =
+            let order = served_in_order UpFits DownFits HallFits ClientFits cores many place taken ticked.server (number_at q) few ticked_fits taken_fit comes in
+            let after = up_after DownFits q done.outs (writer_at (number_at q) ticked.server) (writer_at (number_at q) done.hall) handed_items x order found_there in
+            let is : after.wire ≡ r = some_is after.wire r (sym after.found ∙ there) in
+            elim after.is [
+              | inl same ↦ subst IsBegun (sym same ∙ ap (λ (y : ItemWire). y.up) is) (begun (first_before DownFits (number_at q) done.outs (writer_at (number_at q) ticked.server) (writer_at (number_at q) done.hall) order first))
+              | inr gone ↦ absurd (none_is_not (writer_at (number_at q) done.hall) gone.1 first)
+            ]
+
     behind_image : WorldImage UpFits DownFits HallFits ClientFits behind_it (at_once place taken ticked)
     behind_image = record {
       moment = same_moment;
       hall = refl;
       hall_fits = subst (λ n. HallFits n done.hall) (sym (length_items_emitted done.outs (changed_at place (many_up (length taken)) v.wires) ∙ length_changed (many_up (length taken)) v.wires place))
-          (served_fits UpFits DownFits HallFits ClientFits cores many place taken ticked.server few ticked_fits taken_fit);
+          (served_fits UpFits DownFits HallFits ClientFits cores many place taken ticked.server few ticked_fits taken_fit comes);
+      begins = now_begins;
       devices = i.devices;
       as_many = length_emitted w.version w.moment (outs_turned written_item done.outs) before ∙ ap length (set_changes (handed_up n) w.wires place b (handed_up n b) found refl) ∙ length_changed (handed_up n) w.wires place
           ∙ i.as_many ∙ sym (length_items_emitted done.outs (changed_at place (many_up (length taken)) v.wires) ∙ length_changed (many_up (length taken)) v.wires place);
       wires = λ q. all_here UpFits DownFits cores.up_limits cores.down_limits q w.devices w.version w.moment done.outs framers_now (writer_at (number_at q) ticked.server) (writer_at (number_at q) done.hall) before
-          (changed_at place (many_up (length taken)) v.wires) (served_in_order UpFits DownFits HallFits ClientFits cores many place taken ticked.server (number_at q) few ticked_fits taken_fit) (handed_all q);
+          (changed_at place (many_up (length taken)) v.wires) (served_in_order UpFits DownFits HallFits ClientFits cores many place taken ticked.server (number_at q) few ticked_fits taken_fit comes) (handed_all q);
     }
 
     pub served_image : WorldImage UpFits DownFits HallFits ClientFits (bytes.served place n b w) (items.all_moved (items.Tick 0 ∷ ups place (length taken)) v)
     served_image =
         subst (λ x. WorldImage UpFits DownFits HallFits ClientFits x (items.all_moved (items.Tick 0 ∷ ups place (length taken)) v)) (sym bytes_is)
-        (subst (WorldImage UpFits DownFits HallFits ClientFits behind_it) (sym (ups_are UpFits DownFits HallFits ClientFits cores many place taken (drop h.count p.up.items) ticked p few found_item (sym (take-append-drop h.count p.up.items)) ticked_fits taken_fit)) behind_image)
+        (subst (WorldImage UpFits DownFits HallFits ClientFits behind_it) (sym (ups_are UpFits DownFits HallFits ClientFits cores many place taken (drop h.count p.up.items) ticked p few found_item (sym (take-append-drop h.count p.up.items)) ticked_fits taken_fit comes)) behind_image)
 
   served_so : (place : ℕ) (count : Count) (w : World) (v : ItemWorld) → WorldImage UpFits DownFits HallFits ClientFits w v → IsServedSo place count w v
   served_so place count w v i = by (slice_get w.wires place) refl

@@ -26,13 +26,14 @@ use Rattle.xmpp_devices.specs.Devices as devices
 use Rattle.xmpp_devices.specs.Devices.{DeviceState, has_wire}
 use Rattle.xmpp_framing.specs.States.{State}
 use Rattle.xmpp_framing.specs.declared.states.Phase.TheVariants as phase
+use Rattle.xmpp_images.proofs.Beginnings.{begins_where, closed_begun, entered_begun}
 use Rattle.xmpp_images.proofs.ItemsServed.{changed_none}
 use Rattle.xmpp_images.proofs.Lookups.{get_changed_other, get_changed_same, length_changed, set_changes}
 use Rattle.xmpp_images.proofs.NetworkMoves.{both_changed, both_weaker, found_both}
 use Rattle.xmpp_images.proofs.WireSteps.{wire_left, wire_put_up}
 use Rattle.xmpp_images.specs.Cores.{CoresFit, TurnFits, writer_at}
 use Rattle.xmpp_images.specs.WireImages.{WireImage}
-use Rattle.xmpp_images.specs.WorldImages.{Both, DeviceImage, IsMoved, WireAt, WorldImage, framer_here}
+use Rattle.xmpp_images.specs.WorldImages.{Both, DeviceImage, IsBegun, IsMoved, WireAt, WorldImage, framer_here}
 use Rattle.xmpp_item_worlds.specs.ItemMoves as items
 use Rattle.xmpp_item_worlds.specs.ItemMoves.{fed_of}
 use Rattle.xmpp_item_worlds.specs.ItemPipes as pipes
@@ -127,16 +128,17 @@ module _ (UpFits DownFits : ItemOut → Type 0) (HallFits : ℕ → Hall ItemOut
       both_here e (Some b) None x y r = absurd r
       both_here e (Some b) (Some p) x y r = at_here b p e x y r
 
-  pub user_image : (w : World) (v : ItemWorld) (i : ℕ) (d d' : DeviceState) (e e' : ItemDevice) (f : Wire → Wire) (g : ItemWire → ItemWire) → slice_get w.devices i ≡ Some d → slice_get v.devices i ≡ Some e → DeviceImage ClientFits d' e' → d.here ≡ e.here
+  pub user_image : (w : World) (v : ItemWorld) (i : ℕ) (d d' : DeviceState) (e e' : ItemDevice) (f : Wire → Wire) (g : ItemWire → ItemWire) → slice_get w.devices i ≡ Some d → slice_get v.devices i ≡ Some e → DeviceImage ClientFits d' e' → d.here ≡ e.here → ((x : ItemWire) → IsBegun x.up → IsBegun (g x).up)
       → WorldImage UpFits DownFits HallFits ClientFits w v → ((q : ℕ) (b : Wire) (p : ItemWire) → d.here ≡ Some q → slice_get w.wires q ≡ Some b → slice_get v.wires q ≡ Some p → WireAt UpFits DownFits w v q b p → After w v i d' q (f b) (g p))
       → ((q : ℕ) → (d.here ≡ Some q → ⊥) → framer_here q (Some d') ≡ framer_here q (Some d))
       → WorldImage UpFits DownFits HallFits ClientFits (record w { devices = slice_set w.devices i d'; wires = changed_where d.here f w.wires }) (record v { devices = slice_set v.devices i e'; wires = changed_where e.here g v.wires })
-  user_image w v i d d' e e' f g found found_item h same_here image at_here at_other =
+  user_image w v i d d' e e' f g found found_item h same_here keeps image at_here at_other =
       subst (λ o. WorldImage UpFits DownFits HallFits ClientFits (record w { devices = slice_set w.devices i d'; wires = changed_where d.here f w.wires }) (record v { devices = slice_set v.devices i e'; wires = changed_where o g v.wires })) same_here
       (record {
         moment = image.moment;
         hall = image.hall;
         hall_fits = subst (λ n. HallFits n v.server) (sym (length_where d.here g v.wires)) image.hall_fits;
+        begins = begins_where v.wires v.server d.here g keeps image.begins;
         devices = devices_changed w v i d d' e e' found found_item h image;
         as_many = length_where d.here f w.wires ∙ image.as_many ∙ sym (length_where d.here g v.wires);
         wires = λ place. wires_changed w v i d d' f g d.here place found image (at_here place) (at_other place);
@@ -157,7 +159,7 @@ module _ (UpFits DownFits : ItemOut → Type 0) (HallFits : ℕ → Hall ItemOut
   spoke_image : (w : World) (v : ItemWorld) (i : ℕ) (d : DeviceState) (e : ItemDevice) (t : Turn ItemOut ItemOut) → slice_get w.devices i ≡ Some d → slice_get v.devices i ≡ Some e → DeviceImage ClientFits d e → t.client.phase ≡ e.client.phase → TurnFits UpFits ClientFits t → WorldImage UpFits DownFits HallFits ClientFits w v
       → WorldImage UpFits DownFits HallFits ClientFits (record w { devices = slice_set w.devices i (turned_device d t); wires = changed_where d.here (put_up (flat_map written_item t.out.put)) w.wires }) (items.spoke i e t v)
   spoke_image w v i d e t found found_item h same fits image =
-      user_image w v i d (turned_device d t) e (record e { client = t.client }) (put_up (flat_map written_item t.out.put)) (pipes.put_up t.out.put) found found_item (record { client = refl; here = h.here; framed = λ a. h.framed (sym (ap is_apart same) ∙ a); fits = fits.client }) h.here image
+      user_image w v i d (turned_device d t) e (record e { client = t.client }) (put_up (flat_map written_item t.out.put)) (pipes.put_up t.out.put) found found_item (record { client = refl; here = h.here; framed = λ a. h.framed (sym (ap is_apart same) ∙ a); fits = fits.client }) h.here (λ x. entered_begun t.out.put x.up) image
       (said_at_here w v i d (turned_device d t) t.out.put found (λ q. refl) fits.puts fits.no_footer) (λ q other. refl)
 
   nothing_entered : (p : ItemPipe) → pipes.entered [] p ≡ p
@@ -180,7 +182,7 @@ module _ (UpFits DownFits : ItemOut → Type 0) (HallFits : ℕ → Hall ItemOut
   refused_image w v i d d' e found found_item h same same_here image =
       let same_framer : (q : ℕ) → framer_here q (Some d') ≡ framer_here q (Some d) = λ q. ap₂ (λ o (c : ClientValue). cond (has_wire q o) c.framer None) same_here same in
       subst (WorldImage UpFits DownFits HallFits ClientFits (record w { devices = slice_set w.devices i d'; wires = changed_where d.here (put_up []) w.wires })) (ap₂ (λ l m. record v { devices = l; wires = m }) (set_same v.devices i e found_item) (nothing_where e.here v.wires))
-      (user_image w v i d d' e e (put_up []) (pipes.put_up []) found found_item (record { client = ap (λ (c : ClientValue). c.client) same ∙ h.client; here = same_here ∙ h.here; framed = λ a. ap (λ (c : ClientValue). c.framer) same ∙ h.framed a; fits = h.fits }) h.here image
+      (user_image w v i d d' e e (put_up []) (pipes.put_up []) found found_item (record { client = ap (λ (c : ClientValue). c.client) same ∙ h.client; here = same_here ∙ h.here; framed = λ a. ap (λ (c : ClientValue). c.framer) same ∙ h.framed a; fits = h.fits }) h.here (λ x. entered_begun [] x.up) image
       (said_at_here w v i d d' [] found same_framer tt tt) (λ q other. same_framer q))
 
   -- ---- submissions
@@ -311,5 +313,5 @@ module _ (UpFits DownFits : ItemOut → Type 0) (HallFits : ℕ → Hall ItemOut
       by (Some d) (Some e) found found_item h =
           subst (λ o. Forgotten i w v o (slice_get v.devices i)) (sym found) (subst (Forgotten i w v (Some d)) (sym found_item)
           (user_image w v i d (devices.forgets_all d) e (record { client = (forgets in_items (fed_of e.client)).turn.client; here = None }) left pipes.left found found_item
-          (record { client = ap (λ c. dropped (record c { phase = Apart })) h.client; here = refl; framed = λ a. refl; fits = cores.forgets_so e.client h.fits }) h.here image
+          (record { client = ap (λ c. dropped (record c { phase = Apart })) h.client; here = refl; framed = λ a. refl; fits = cores.forgets_so e.client h.fits }) h.here (λ x. closed_begun x.up) image
           (λ q b p here x y r. left_at_here w v i (devices.forgets_all d) q b p r) (λ q other. sym (away d.here d.client.framer q other))))

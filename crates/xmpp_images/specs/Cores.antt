@@ -21,7 +21,7 @@ use Rattle.xmpp_report.specs.Addresses.{bare_address}
 use Rattle.xmpp_schedule.specs.Grammar.{is_name}
 use Rattle.xmpp_server.specs.Table.{after_item}
 use Rattle.xmpp_world.specs.Worlds.{client_entropy, server_entropy}
-use Rattle.xmpp_writer.specs.Items.{Closing, ItemOut}
+use Rattle.xmpp_writer.specs.Items.{Closing, ItemOut, Opening, Whole}
 use Rattle.xmpp_written.specs.Puts.{MayPut, OutFits, phase_behind}
 
 -- ---- where the server stands in the stream of a connection
@@ -37,6 +37,15 @@ writer_of c = phase_of c.phase
 -- where the connection isn't open it puts nothing
 abbrev pub writer_at : {A : Type 0} → ℕ → Hall A → Option Phase
 writer_at k h = option_map writer_of (conn_at k h)
+
+-- what comes before the first header of a stream was put is a header
+abbrev pub IsOpening : ItemOut → Type 0
+IsOpening (Opening h) = Unit {0}
+IsOpening (Whole e) = ⊥
+IsOpening Closing = ⊥
+
+abbrev pub MayCome : Option Phase → ItemOut → Type 0
+MayCome now i = now ≡ Some phase.First → IsOpening i
 
 -- ---- what the server puts out
 
@@ -102,9 +111,10 @@ pub record CoresFit (UpFits DownFits : ItemOut → Type 0) (HallFits : ℕ → H
   pub moment : (n now : ℕ) (h : Hall ItemOut) → HallFits n h → HallFits n (at_moment now h)
   pub comes : (n : ℕ) (h : Hall ItemOut) → HallFits n h → HallFits (n + 1) (with_fresh (n + 1) (server_entropy (n + 1)) h)
   pub goes : (n k : ℕ) (h : Hall ItemOut) → HallFits n h → HallFits n (gone_at k h)
-  pub handles : (n k : ℕ) (i : ItemOut) (h : Hall ItemOut) → HallFits n h → k ≤ n → UpFits i → HallFits n (after_item itself k (read_of i) (step_of h)).hall
-  pub in_order : (n k : ℕ) (i : ItemOut) (h : Hall ItemOut) (j : ℕ) → HallFits n h → k ≤ n → UpFits i
+  pub handles : (n k : ℕ) (i : ItemOut) (h : Hall ItemOut) → HallFits n h → k ≤ n → UpFits i → MayCome (writer_at k h) i → HallFits n (after_item itself k (read_of i) (step_of h)).hall
+  pub in_order : (n k : ℕ) (i : ItemOut) (h : Hall ItemOut) (j : ℕ) → HallFits n h → k ≤ n → UpFits i → MayCome (writer_at k h) i
       → AreInOrder DownFits j (writer_at j h) (after_item itself k (read_of i) (step_of h)).outs (writer_at j (after_item itself k (read_of i) (step_of h)).hall)
+  pub opened : (n k : ℕ) (i : ItemOut) (h : Hall ItemOut) → HallFits n h → k ≤ n → UpFits i → MayCome (writer_at k h) i → writer_at k (after_item itself k (read_of i) (step_of h)).hall ≡ Some phase.First → ⊥
   -- ---- a client
   pub dials_so : (k : ℕ) (c : ClientView ItemOut) → ClientFits c → TurnFits UpFits ClientFits (dials in_items (client_entropy k) (fed_of c)).turn
   pub loses : (c : ClientView ItemOut) → ClientFits c → ClientFits (leaves (fed_of c)).turn.client

@@ -1,23 +1,25 @@
 -- A world of bytes as the image of a world of items.
-use Rattle.std.specs.Prelude.{ℕ, ◌≡◌, true, List, [], Option, Some, None, if◌then◌else◌, length, slice_get}
+use Rattle.std.specs.Prelude.{ℕ, ◌≡◌, ◌⊎◌, true, List, [], ◌∷◌, Option, Some, None, if◌then◌else◌, length, slice_get}
 use Rattle.xmpp_client_laws.specs.Turned.{client_turned}
 use Rattle.xmpp_client_rows.specs.Clients.{ClientView}
 use Rattle.xmpp_client_rows.specs.Turns.{is_apart}
 use Rattle.xmpp_desk.specs.State.{Hall}
 use Rattle.xmpp_devices.specs.Devices.{DeviceState, has_wire}
 use Rattle.xmpp_framing.specs.States.{State}
+use Rattle.xmpp_framing.specs.declared.states.Phase.TheVariants as phase
 use Rattle.xmpp_images.specs.Cores.{writer_at}
 use Rattle.xmpp_images.specs.ItemRuns.{IsRunOf}
 use Rattle.xmpp_images.specs.WireImages.{WireImage}
 use Rattle.xmpp_item_worlds.specs.ItemMoves.{ItemMove, all_moved}
-use Rattle.xmpp_item_worlds.specs.ItemPipes.{ItemWire}
+use Rattle.xmpp_item_worlds.specs.ItemPipes.{ItemPipe, ItemWire}
 use Rattle.xmpp_item_worlds.specs.ItemWorlds.{ItemDevice, ItemWorld}
+use Rattle.xmpp_names.specs.declared.headers.Header.{Header}
 use Rattle.xmpp_server.specs.Events.{framer_at}
 use Rattle.xmpp_server_laws.specs.Turned.{hall_turned}
 use Rattle.xmpp_wires.specs.declared.wire.Wire.{Wire}
 use Rattle.xmpp_world.specs.Moves.{Move, moved}
 use Rattle.xmpp_world.specs.Worlds.{World, number_at}
-use Rattle.xmpp_writer.specs.Items.{ItemOut, written_item}
+use Rattle.xmpp_writer.specs.Items.{ItemOut, Opening, written_item}
 
 -- both are there and stand so to one another, or neither is there
 abbrev pub Both : {A B : Type 0} → (A → B → Type 0) → Option A → Option B → Type 0
@@ -41,6 +43,16 @@ abbrev pub framer_here : ℕ → Option DeviceState → Option State
 framer_here place None = None
 framer_here place (Some d) = if has_wire place d.here then d.client.framer else None
 
+-- ---- the first header
+
+-- it comes next, or nothing comes any more
+abbrev pub IsBegun : ItemPipe → Type 0
+IsBegun p = ((h : Header) × (rest : List ItemOut) × (p.items ≡ Opening h ∷ rest)) ⊎ ((p.items ≡ []) × (p.ended ≡ true))
+
+-- where the server awaits that of a connection
+abbrev pub Begins : List ItemWire → Hall ItemOut → Type 0
+Begins wires h = (place : ℕ) (p : ItemWire) → slice_get wires place ≡ Some p → writer_at (number_at place) h ≡ Some phase.First → IsBegun p.up
+
 -- ---- worlds
 
 abbrev pub WireAt : (UpFits DownFits : ItemOut → Type 0) → World → ItemWorld → ℕ → Wire → ItemWire → Type 0
@@ -53,6 +65,7 @@ pub record WorldImage (UpFits DownFits : ItemOut → Type 0) (HallFits : ℕ →
   pub moment : w.moment ≡ v.moment
   pub hall : w.server.hall ≡ hall_turned written_item v.server
   pub hall_fits : HallFits (length v.wires) v.server
+  pub begins : Begins v.wires v.server
   pub devices : (place : ℕ) → Both (DeviceImage ClientFits) (slice_get w.devices place) (slice_get v.devices place)
   pub as_many : length w.wires ≡ length v.wires
   pub wires : (place : ℕ) → Both (WireAt UpFits DownFits w v place) (slice_get w.wires place) (slice_get v.wires place)
