@@ -1,13 +1,12 @@
 -- What a server puts out comes behind what it put out before, and doesn't hang on that.
-use Rattle.std.proofs.Common.{◌≡◌, ℕ, ◌==◌, not, ◌&&◌, Bool, true, false, List, [], ◌∷◌, ◌++◌, Option, Some, None, cond, refl, sym, ap, ◌∙◌, append_assoc, append-nil}
+use Rattle.std.proofs.Common.{◌≡◌, ℕ, ◌==◌, not, Bool, true, false, List, [], ◌∷◌, ◌++◌, Option, Some, None, cond, refl, ap, ◌∙◌, append_assoc}
 use Rattle.xmpp_acks.specs.declared.end.TheConstants.{MOST_UNACKNOWLEDGED}
 use Rattle.xmpp_desk.specs.State.{Hall, Out, Put, Shut, Step, Took}
 use Rattle.xmpp_desk.specs.Steps as steps
 use Rattle.xmpp_desk.specs.Steps.{Act, act, acted, ask_where, in_sessions, is_due, overflow, part, part_where, put, put_where, queue, send_told, shut, told_out}
 use Rattle.xmpp_desk.specs.Streams.{standing_at}
-use Rattle.xmpp_desk.specs.declared.connection.Standing.{Standing}
 use Rattle.xmpp_framing.specs.declared.items.Item.{Item}
-use Rattle.xmpp_live.specs.Sessions.{asks, told_of, waits, with_session, without}
+use Rattle.xmpp_live.specs.Sessions.{told_of, waits, with_session, without}
 use Rattle.xmpp_live.specs.declared.told.Told.{Told}
 use Rattle.xmpp_replies.specs.Management.{request_item}
 use Rattle.xmpp_replies.specs.Streams.{error_item}

@@ -1,55 +1,45 @@
 -- A device closes its stream, or dials.
-use Rattle.std.proofs.Common.{◌≡◌, ◌≢◌, ℕ, zero, suc, ◌+◌, ◌==◌, Bool, true, false, cond, List, [], ◌∷◌, ◌++◌, Option, Some, None, flat_map, length, refl, sym, ap, ap₂, subst, ◌∙◌, inl, inr, append-nil, length-append, arith}
-use Rattle.std.proofs.lemmas.Bool.{cases_eq, eq-eqb}
-use Rattle.std.specs.BTreeMap.{insert_entry}
-use Rattle.std.specs.List.{AllByRecursion, slice_get, slice_set}
-use Rattle.std.specs.Option.{option_map}
-use Rattle.std.specs.Ordering.{nat_cmp}
+use Rattle.std.proofs.Common.{◌≡◌, ℕ, Bool, true, false, cond, List, [], ◌∷◌, ◌++◌, Option, Some, None, flat_map, refl, sym, ap, subst, ◌∙◌, append-nil, arith}
+use Rattle.std.specs.List.{slice_get, slice_set}
 use Rattle.xmpp_client.specs.Feeds.{Fed}
-use Rattle.xmpp_client.specs.UserCalls.{closes, dials, forgets}
+use Rattle.xmpp_client.specs.UserCalls.{closes, forgets}
 use Rattle.xmpp_client_laws.proofs.TableTurned.{bytes_turned, calls_turned}
 use Rattle.xmpp_client_laws.specs.Calls as calls
-use Rattle.xmpp_client_laws.specs.Turned.{client_turned, written, written_fed}
-use Rattle.xmpp_client_login.specs.LoginRows.{client_header}
-use Rattle.xmpp_client_rows.specs.Clients.{ClientView, Turn}
+use Rattle.xmpp_client_laws.specs.Turned.{client_turned, written_fed}
+use Rattle.xmpp_client_rows.specs.Clients.{ClientView}
 use Rattle.xmpp_client_rows.specs.Speech.{in_bytes, in_items, uttered}
 use Rattle.xmpp_client_rows.specs.Turns as turns
 use Rattle.xmpp_client_rows.specs.Turns.{drops, is_apart, puts}
-use Rattle.xmpp_desk.specs.Moments.{at_moment, fresh_conn, with_fresh}
 use Rattle.xmpp_desk.specs.State.{Hall}
 use Rattle.xmpp_devices.specs.Devices as devices
 use Rattle.xmpp_devices.specs.Devices.{DeviceState, client_behind, has_wire}
 use Rattle.xmpp_framing.specs.Limits.{client_limits, server_limits}
-use Rattle.xmpp_framing.specs.States.{State, from_start}
+use Rattle.xmpp_framing.specs.States.{State}
 use Rattle.xmpp_framing.specs.declared.states.Phase.{Phase}
 use Rattle.xmpp_framing.specs.declared.states.Phase.TheVariants as phase
 use Rattle.xmpp_images.proofs.Beginnings.{closed_begun, entered_begun}
-use Rattle.xmpp_images.proofs.HallsTurned.{moment_turned}
 use Rattle.xmpp_images.proofs.ItemsServed.{changed_twice}
-use Rattle.xmpp_images.proofs.Lookups.{found_beside_inserted, found_inserted, get_before, get_last}
-use Rattle.xmpp_images.proofs.NetworkMoves.{both_weaker, number_apart}
 use Rattle.xmpp_images.proofs.PipeSteps.{closed_image, over_image}
 use Rattle.xmpp_images.proofs.PutSteps.{put_image}
-use Rattle.xmpp_images.proofs.UserMoves.{After, away, devices_changed, get_set_same, left_at_here, length_where, silent_is, user_image, wires_changed}
-use Rattle.xmpp_images.proofs.WireSteps.{all_entered, wire_fresh, wire_left, wire_put_up}
-use Rattle.xmpp_images.specs.Cores.{CoresFit, writer_at, writer_of}
+use Rattle.xmpp_images.proofs.UserMoves.{After, away, silent_is, user_image}
+use Rattle.xmpp_images.proofs.WireSteps.{all_entered, wire_left, wire_put_up}
+use Rattle.xmpp_images.specs.Cores.{CoresFit, writer_at}
 use Rattle.xmpp_images.specs.PipeImages.{PipeImage}
 use Rattle.xmpp_images.specs.WireImages.{WireImage}
-use Rattle.xmpp_images.specs.WorldImages.{Both, DeviceImage, IsMoved, WireAt, WorldImage, framer_here}
+use Rattle.xmpp_images.specs.WorldImages.{Both, DeviceImage, IsMoved, WorldImage, framer_here}
 use Rattle.xmpp_item_worlds.specs.ItemMoves as items
 use Rattle.xmpp_item_worlds.specs.ItemMoves.{fed_of}
 use Rattle.xmpp_item_worlds.specs.ItemPipes as pipes
 use Rattle.xmpp_item_worlds.specs.ItemPipes.{ItemWire}
 use Rattle.xmpp_item_worlds.specs.ItemWorlds.{ItemDevice, ItemWorld, silent_turn}
 use Rattle.xmpp_pipes.specs.Pipes.{entered}
-use Rattle.xmpp_server.specs.Events.{after_connect, framer_at}
-use Rattle.xmpp_server_laws.specs.Turned.{hall_turned}
+use Rattle.xmpp_server.specs.Events.{framer_at}
 use Rattle.xmpp_wires.specs.Places.{changed_where}
-use Rattle.xmpp_wires.specs.Wires.{fresh_wire, left, put_up}
+use Rattle.xmpp_wires.specs.Wires.{left, put_up}
 use Rattle.xmpp_wires.specs.declared.wire.Wire.{Wire}
-use Rattle.xmpp_world.specs.Moves.{Close, Dial, closed_by, dialed_by}
-use Rattle.xmpp_world.specs.Worlds.{World, client_entropy, number_at, server_entropy}
-use Rattle.xmpp_writer.specs.Items.{Closing, ItemOut, Opening, written_item}
+use Rattle.xmpp_world.specs.Moves.{Close, closed_by}
+use Rattle.xmpp_world.specs.Worlds.{World, number_at}
+use Rattle.xmpp_writer.specs.Items.{Closing, ItemOut, written_item}
 
 where_twice : {T : Type 0} (o : Option ℕ) (f g : T → T) (l : List T) → changed_where o f (changed_where o g l) ≡ changed_where o (λ x. f (g x)) l
 where_twice None f g l = refl
@@ -123,7 +113,7 @@ module _ (UpFits DownFits : ItemOut → Type 0) (HallFits : ℕ → Hall ItemOut
           (subst (λ l. WorldImage UpFits DownFits HallFits ClientFits (record w { devices = slice_set w.devices i d'; wires = changed_where d.here f w.wires }) (record v { devices = slice_set v.devices i e'; wires = l })) (sym (where_twice e.here pipes.left (pipes.put_up t.out.put) v.wires))
           (user_image UpFits DownFits HallFits ClientFits cores w v i d d' e e' f g found found_item (record { client = refl; here = refl; framed = λ a. refl; fits = subst ClientFits (sym (close_client e.client)) (cores.forgets_so e.client h.fits) }) h.here (λ x b. closed_begun (pipes.entered t.out.put x.up) (entered_begun t.out.put x.up b)) image
           (λ q b p here x y r. subst (λ l. After UpFits DownFits HallFits ClientFits cores w v i d' q (left (put_up (flat_map written_item l) b)) (pipes.left (pipes.put_up l p))) (sym (close_puts e.client))
-            (last_image (framer_at (number_at q) w.server.framers) (framer_here q (slice_get w.devices b.device)) (framer_here q (slice_get (slice_set w.devices i d') b.device)) (writer_at (number_at q) v.server) (writer_at (number_at q) v.server) b p (is_apart e.client.phase) r))
+          (last_image (framer_at (number_at q) w.server.framers) (framer_here q (slice_get w.devices b.device)) (framer_here q (slice_get (slice_set w.devices i d') b.device)) (writer_at (number_at q) v.server) (writer_at (number_at q) v.server) b p (is_apart e.client.phase) r))
           (λ q other. sym (away UpFits DownFits HallFits ClientFits cores d.here d.client.framer q other)))))
 
       by : (od : Option DeviceState) (oe : Option ItemDevice) → slice_get w.devices i ≡ od → slice_get v.devices i ≡ oe → Both (DeviceImage ClientFits) od oe → Closed i w v (slice_get w.devices i) (slice_get v.devices i)

@@ -1,8 +1,8 @@
 -- A device dials.
-use Rattle.std.proofs.Common.{◌≡◌, ◌≢◌, ℕ, zero, suc, ◌+◌, ◌==◌, Bool, true, false, cond, List, [], ◌∷◌, ◌++◌, Option, Some, None, flat_map, length, refl, sym, ap, ap₂, subst, ◌∙◌, inl, inr, append-nil, length-append, arith}
+use Rattle.std.proofs.Common.{◌≡◌, ℕ, ◌+◌, ◌==◌, Bool, true, false, cond, List, [], ◌∷◌, ◌++◌, Option, Some, None, flat_map, length, refl, sym, ap, ap₂, subst, ◌∙◌, inl, inr, append-nil, length-append}
 use Rattle.std.proofs.lemmas.Bool.{cases_eq, eq-eqb, eqb-true}
 use Rattle.std.specs.BTreeMap.{insert_entry}
-use Rattle.std.specs.List.{AllByRecursion, slice_get, slice_set}
+use Rattle.std.specs.List.{slice_get, slice_set}
 use Rattle.std.specs.Option.{option_map}
 use Rattle.std.specs.Ordering.{nat_cmp}
 use Rattle.xmpp_client.specs.Feeds.{Fed}
@@ -15,12 +15,10 @@ use Rattle.xmpp_client_rows.specs.Clients.{ClientView, Turn}
 use Rattle.xmpp_client_rows.specs.Speech.{in_bytes, in_items}
 use Rattle.xmpp_desk.specs.Moments.{at_moment, fresh_conn, with_fresh}
 use Rattle.xmpp_desk.specs.State.{Hall}
-use Rattle.xmpp_desk.specs.declared.connection.Connection.{Connection}
 use Rattle.xmpp_devices.specs.Devices as devices
 use Rattle.xmpp_devices.specs.Devices.{DeviceState, client_behind, has_wire}
 use Rattle.xmpp_framing.specs.Limits.{client_limits, server_limits}
-use Rattle.xmpp_framing.specs.States.{State, from_start}
-use Rattle.xmpp_framing.specs.declared.states.Phase.TheVariants as phase
+use Rattle.xmpp_framing.specs.States.{from_start}
 use Rattle.xmpp_images.proofs.DialMoves.{framed, silent_fed}
 use Rattle.xmpp_images.proofs.Beginnings.{begins_where, closed_begun}
 use Rattle.xmpp_images.proofs.HallsTurned.{moment_turned}
@@ -35,10 +33,9 @@ use Rattle.xmpp_item_worlds.specs.ItemMoves as items
 use Rattle.xmpp_item_worlds.specs.ItemMoves.{fed_of}
 use Rattle.xmpp_item_worlds.specs.ItemPipes as pipes
 use Rattle.xmpp_item_worlds.specs.ItemPipes.{ItemWire}
-use Rattle.xmpp_item_worlds.specs.ItemWorlds.{ItemDevice, ItemWorld, silent_turn}
+use Rattle.xmpp_item_worlds.specs.ItemWorlds.{ItemDevice, ItemWorld}
 use Rattle.xmpp_names.specs.declared.headers.Header.{Header}
 use Rattle.xmpp_server.specs.Events.{Framers, after_connect, framer_at}
-use Rattle.xmpp_server_laws.specs.Turned.{hall_turned}
 use Rattle.xmpp_wires.specs.Places.{changed_where}
 use Rattle.xmpp_wires.specs.Wires.{fresh_wire, left, put_up}
 use Rattle.xmpp_wires.specs.declared.wire.Wire.{Wire}
@@ -111,7 +108,7 @@ module _ (UpFits DownFits : ItemOut → Type 0) (HallFits : ℕ → Hall ItemOut
         (subst (λ r. WireImage UpFits DownFits r (framer_here n (slice_get (slice_set w.devices i d') i)) (writer_at k hall_now) (put_up (written_item (Opening header)) (fresh_wire i)) new_item_wire) (sym (found_inserted k (from_start server_limits) w.server.framers))
         (subst (λ r. WireImage UpFits DownFits (Some (from_start server_limits)) r (writer_at k hall_now) (put_up (written_item (Opening header)) (fresh_wire i)) new_item_wire) (sym new_here)
         (subst (λ o. WireImage UpFits DownFits (Some (from_start server_limits)) (Some (from_start client_limits)) o (put_up (written_item (Opening header)) (fresh_wire i)) new_item_wire)
-          (sym (ap (option_map writer_of) (found_inserted k (fresh_conn (server_entropy k)) v.server.conns)))
+        (sym (ap (option_map writer_of) (found_inserted k (fresh_conn (server_entropy k)) v.server.conns)))
         (wire_fresh UpFits DownFits cores.up_limits cores.down_limits i header fits.puts.0))))
 
     -- another one
@@ -126,8 +123,8 @@ module _ (UpFits DownFits : ItemOut → Type 0) (HallFits : ℕ → Hall ItemOut
     old_image q other =
         both_weaker (After UpFits DownFits HallFits ClientFits cores w v i d' q) (Now q)
         (λ b p x. subst (λ r. WireImage UpFits DownFits r (framer_here q (slice_get (slice_set w.devices i d') b.device)) (writer_at (number_at q) hall_now) b p) (sym (found_beside_inserted (number_at q) k (from_start server_limits) w.server.framers (number_apart q n other)))
-          (subst (λ o. WireImage UpFits DownFits (framer_at (number_at q) w.server.framers) (framer_here q (slice_get (slice_set w.devices i d') b.device)) o b p)
-            (sym (ap (option_map writer_of) (found_beside_inserted (number_at q) k (fresh_conn (server_entropy k)) v.server.conns (number_apart q n other)))) x))
+        (subst (λ o. WireImage UpFits DownFits (framer_at (number_at q) w.server.framers) (framer_here q (slice_get (slice_set w.devices i d') b.device)) o b p)
+        (sym (ap (option_map writer_of) (found_beside_inserted (number_at q) k (fresh_conn (server_entropy k)) v.server.conns (number_apart q n other)))) x))
         (slice_get old_wires q) (slice_get old_item_wires q)
         (wires_changed UpFits DownFits HallFits ClientFits cores w v i d d' left pipes.left d.here q found image
         (λ b p here x y r. left_at_here UpFits DownFits HallFits ClientFits cores w v i d' q b p r)

@@ -1,32 +1,29 @@
 -- Bytes that are handed to a device are the items whose last bytes are among them.
-use Rattle.std.proofs.Common.{◌≡◌, ◌≢◌, ℕ, zero, suc, ◌+◌, ◌==◌, ◌&&◌, Bool, true, false, true≢false, cond, List, [], ◌∷◌, ◌++◌, Option, Some, None, map, flat_map, take, drop, length, refl, sym, ap, ap₂, subst, ◌∙◌, inl, inr, arith}
+use Rattle.std.proofs.Common.{◌≡◌, ℕ, ◌==◌, ◌&&◌, Bool, true, false, true≢false, cond, List, [], ◌∷◌, ◌++◌, Option, Some, None, map, flat_map, take, drop, length, refl, sym, ap, ap₂, subst, ◌∙◌, inl, inr}
 use Rattle.std.proofs.lemmas.Bool.{eq-eqb, eqb-true}
 use Rattle.std.proofs.lemmas.List.{take-append-drop}
 use Rattle.std.specs.List.{AllByRecursion, slice_get, slice_set}
-use Rattle.std.specs.Option.{option_map}
 use Rattle.xmpp_client.specs.Feeds.{Fed, bytes_in, bytes_step, kept_while, with_fault}
-use Rattle.xmpp_client.specs.Steps.{connected_step, item_step, items_run}
+use Rattle.xmpp_client.specs.Steps.{item_step, items_run}
 use Rattle.xmpp_client.specs.UserCalls.{leaves}
 use Rattle.xmpp_client_laws.proofs.TableTurned.{bytes_turned, items_turned}
 use Rattle.xmpp_client_laws.specs.Turned.{client_turned, written}
 use Rattle.xmpp_client_rows.specs.Clients.{ClientView, Turn}
-use Rattle.xmpp_client_rows.specs.Speech.{Speech, in_bytes, in_items}
+use Rattle.xmpp_client_rows.specs.Speech.{in_bytes}
 use Rattle.xmpp_client_rows.specs.Turns.{is_apart}
 use Rattle.xmpp_client_rows.specs.declared.phase.Phase.TheVariants.{Apart}
 use Rattle.xmpp_desk.specs.State.{Hall}
 use Rattle.xmpp_devices.specs.Devices as devices
 use Rattle.xmpp_devices.specs.Devices.{DeviceState, after_step, has_wire, hears, is_left, loses, spoken, unless_left}
-use Rattle.xmpp_framing.specs.Limits.{client_limits, server_limits}
-use Rattle.xmpp_framing.specs.Machine.{run}
+use Rattle.xmpp_framing.specs.Limits.{client_limits}
 use Rattle.xmpp_framing.specs.States as framing
 use Rattle.xmpp_framing.specs.States.{State, turn}
 use Rattle.xmpp_framing.specs.declared.items.Item.{Item}
 use Rattle.xmpp_framing.specs.declared.items.Item.TheVariants as item
-use Rattle.xmpp_framing.specs.declared.states.Phase.{Phase}
 use Rattle.xmpp_framing_laws.specs.Spells.{placed}
 use Rattle.xmpp_images.proofs.Beginnings.{closed_begun, entered_begun}
-use Rattle.xmpp_images.proofs.ItemsHeard.{downs_are, heard_at_once, many_down, many_of, set_twice, turn_fits, turn_of_items}
-use Rattle.xmpp_images.proofs.Lookups.{get_changed_same, set_changes}
+use Rattle.xmpp_images.proofs.ItemsHeard.{downs_are, many_down, many_of, set_twice, turn_fits, turn_of_items}
+use Rattle.xmpp_images.proofs.Lookups.{set_changes}
 use Rattle.xmpp_images.proofs.NetworkMoves.{found_both}
 use Rattle.xmpp_images.proofs.PipeSteps.{items_due}
 use Rattle.xmpp_images.proofs.UpMoves.{drop_taken, moved_joined, no_amount}
@@ -34,9 +31,9 @@ use Rattle.xmpp_images.proofs.UserMoves.{After, away, get_set_same, set_same, si
 use Rattle.xmpp_images.proofs.WireSteps.{IsDownHanded, all_taken, wire_down, wire_down_told, wire_last, wire_left, wire_put_up}
 use Rattle.xmpp_images.specs.Cores.{CoresFit, HeardFits, IsInTurn, IsNoFooter, writer_at}
 use Rattle.xmpp_images.specs.ItemRuns.{downs, moved_where}
-use Rattle.xmpp_images.specs.PipeImages.{AreRead, over, standing}
+use Rattle.xmpp_images.specs.PipeImages.{over, standing}
 use Rattle.xmpp_images.specs.WireImages.{WireImage}
-use Rattle.xmpp_images.specs.WorldImages.{Both, DeviceImage, IsBegun, IsMoved, WireAt, WorldImage, framer_here}
+use Rattle.xmpp_images.specs.WorldImages.{DeviceImage, IsBegun, IsMoved, WireAt, WorldImage, framer_here}
 use Rattle.xmpp_item_worlds.specs.ItemMoves as items
 use Rattle.xmpp_item_worlds.specs.ItemMoves.{fed_of, here_behind}
 use Rattle.xmpp_item_worlds.specs.ItemPipes as pipes
@@ -49,7 +46,7 @@ use Rattle.xmpp_wires.specs.Places.{changed_at, changed_where}
 use Rattle.xmpp_wires.specs.Wires.{amount, down_end_told, handed_down, put_up}
 use Rattle.xmpp_wires.specs.Wires as wires
 use Rattle.xmpp_wires.specs.declared.wire.Wire.{Wire}
-use Rattle.xmpp_world.specs.Moves.{Down, Link, down_by, down_to, end_heard, heard, heard_by, heard_first, left_where, link_of, with_link}
+use Rattle.xmpp_world.specs.Moves.{Down, Link, down_by, down_to, end_heard, heard, heard_first, left_where, link_of, with_link}
 use Rattle.xmpp_world.specs.Worlds.{World, number_at}
 use Rattle.xmpp_writer.specs.Items.{ItemOut, written_item}
 
@@ -204,14 +201,14 @@ module _ (UpFits DownFits : ItemOut → Type 0) (HallFits : ℕ → Hall ItemOut
     heard_image : (a : Bool) → is_apart t.client.phase ≡ a → WorldImage UpFits DownFits HallFits ClientFits (with_link place b.device (link_now a) w) (items.all_moved (downs place (length taken)) v)
     heard_image a apart =
         let all = user_image UpFits DownFits HallFits ClientFits cores w v b.device d (device_left a (d1 a)) e (e1 a) (f_now a) (many_of a t.out.put (length taken)) device item_device (device_image a apart) h.here (many_begun a) image
-              (λ q c r is there there_item y. subst (HereAt a) (some_is place q (sym here ∙ is)) (here_at a apart) c r there there_item) (left_framer a) in
+        (λ q c r is there there_item y. subst (HereAt a) (some_is place q (sym here ∙ is)) (here_at a apart) c r there there_item) (left_framer a) in
         let bytes_is : record w { devices = slice_set w.devices b.device (device_left a (d1 a)); wires = changed_where d.here (f_now a) w.wires } ≡ with_link place b.device (link_now a) w =
-              ap (λ o. record w { devices = slice_set w.devices b.device (device_left a (d1 a)); wires = changed_where o (f_now a) w.wires }) here
-              ∙ ap (λ l. record w { devices = slice_set w.devices b.device (device_left a (d1 a)); wires = l }) (sym (set_changes (f_now a) w.wires place b (f_now a b) found refl)) in
+        ap (λ o. record w { devices = slice_set w.devices b.device (device_left a (d1 a)); wires = changed_where o (f_now a) w.wires }) here
+        ∙ ap (λ l. record w { devices = slice_set w.devices b.device (device_left a (d1 a)); wires = l }) (sym (set_changes (f_now a) w.wires place b (f_now a b) found refl)) in
         let items_is : record v { devices = slice_set v.devices b.device (e1 a); wires = changed_where e.here (many_of a t.out.put (length taken)) v.wires } ≡ items.all_moved (downs place (length taken)) v =
-              ap (λ o. record v { devices = slice_set v.devices b.device (e1 a); wires = changed_where o (many_of a t.out.put (length taken)) v.wires }) items_here
-              ∙ ap (λ c. record v { devices = slice_set v.devices b.device (record { client = t.client; here = here_behind c e.here }); wires = changed_at place (many_of c t.out.put (length taken)) v.wires }) (sym apart)
-              ∙ sym (downs_are UpFits DownFits HallFits ClientFits cores place b.device taken (drop x.count p.down.items) v p e found_item (sym same) item_device items_here stands (sym (take-append-drop x.count p.down.items))) in
+        ap (λ o. record v { devices = slice_set v.devices b.device (e1 a); wires = changed_where o (many_of a t.out.put (length taken)) v.wires }) items_here
+        ∙ ap (λ c. record v { devices = slice_set v.devices b.device (record { client = t.client; here = here_behind c e.here }); wires = changed_at place (many_of c t.out.put (length taken)) v.wires }) (sym apart)
+        ∙ sym (downs_are UpFits DownFits HallFits ClientFits cores place b.device taken (drop x.count p.down.items) v p e found_item (sym same) item_device items_here stands (sym (take-append-drop x.count p.down.items))) in
         subst (λ y. WorldImage UpFits DownFits HallFits ClientFits y (items.all_moved (downs place (length taken)) v)) bytes_is
         (subst (WorldImage UpFits DownFits HallFits ClientFits (record w { devices = slice_set w.devices b.device (device_left a (d1 a)); wires = changed_where d.here (f_now a) w.wires })) items_is all)
 
@@ -243,11 +240,11 @@ module _ (UpFits DownFits : ItemOut → Type 0) (HallFits : ℕ → Hall ItemOut
         | standing f reader st ↦
             let framer = sym reader_is ∙ reader in
             let x = wire_down UpFits DownFits cores.up_limits cores.down_limits (framer_at (number_at place) w.server.framers) f (writer_at (number_at place) v.server) b p n st
-                  (subst (λ r. WireImage UpFits DownFits (framer_at (number_at place) w.server.framers) r (writer_at (number_at place) v.server) b p) reader at) in
+            (subst (λ r. WireImage UpFits DownFits (framer_at (number_at place) w.server.framers) r (writer_at (number_at place) v.server) b p) reader at) in
             let taken = take x.count p.down.items in
             let apart = is_apart (turn_of_items e.client taken).client.phase in
             let now_is = ap (λ (c : Bool). cond c (link_of b d) (heard n (hears (take n b.down.bytes) d) (link_of b d))) some
-                  ∙ link_is place n w v b p d e found found_item device item_device at.device h image here f framer x at.down_fits apart refl in
+            ∙ link_is place n w v b p d e found found_item device item_device at.device h image here f framer x at.down_fits apart refl in
             record {
               count = length taken;
               same_device = ap (λ (l : Link). l.wire.device) now_is ∙ left_device apart (put_up (flat_map written_item (turn_of_items e.client taken).out.put) (handed_down n b));
@@ -271,18 +268,18 @@ module _ (UpFits DownFits : ItemOut → Type 0) (HallFits : ℕ → Hall ItemOut
       let item_due = items_due client_limits (writer_at (number_at place) v.server) (framer_here place (slice_get w.devices b.device)) b.down p.down other.holds.down due in
       let e' : ItemDevice = record e { client = (leaves (fed_of e.client)).turn.client } in
       let all = user_image UpFits DownFits HallFits ClientFits cores w v b.device d (loses d) e e' down_end_told pipes.down_end_told device other_device.is
-            (record { client = ap (λ (c : ClientView (List ℕ)). record c { phase = Apart }) h.client; here = h.here; framed = λ a. refl; fits = cores.loses e.client h.fits }) h.here (λ y z. z) image
-            (λ q c r is there there_item y. told_here q c r is there y) (λ q apart. lost_framer d.here q ∙ sym (away UpFits DownFits HallFits ClientFits cores d.here d.client.framer q apart)) in
+      (record { client = ap (λ (c : ClientView (List ℕ)). record c { phase = Apart }) h.client; here = h.here; framed = λ a. refl; fits = cores.loses e.client h.fits }) h.here (λ y z. z) image
+      (λ q c r is there there_item y. told_here q c r is there y) (λ q apart. lost_framer d.here q ∙ sym (away UpFits DownFits HallFits ClientFits cores d.here d.client.framer q apart)) in
       let bytes_is : record w { devices = slice_set w.devices b.device (loses d); wires = changed_where d.here down_end_told w.wires } ≡ with_link place b.device (link_of (down_end_told b) (loses d)) w =
-            ap (λ o. record w { devices = slice_set w.devices b.device (loses d); wires = changed_where o down_end_told w.wires }) has_it
-            ∙ ap (λ l. record w { devices = slice_set w.devices b.device (loses d); wires = l }) (sym (set_changes down_end_told w.wires place b (down_end_told b) found refl)) in
+      ap (λ o. record w { devices = slice_set w.devices b.device (loses d); wires = changed_where o down_end_told w.wires }) has_it
+      ∙ ap (λ l. record w { devices = slice_set w.devices b.device (loses d); wires = l }) (sym (set_changes down_end_told w.wires place b (down_end_told b) found refl)) in
       let items_is : record v { devices = slice_set v.devices b.device e'; wires = changed_where e.here pipes.down_end_told v.wires } ≡ items.moved (items.DownEnd place) v =
-            ap (λ o. record v { devices = slice_set v.devices b.device e'; wires = changed_where o pipes.down_end_told v.wires }) item_here
-            ∙ ap (λ m. record v { devices = slice_set v.devices m e'; wires = changed_at place pipes.down_end_told v.wires }) other.holds.device
-            ∙ sym (ap (λ o. items.at_wire place (λ wire x. items.end_heard place wire.device (pipes.is_end_due wire.down) x) o v) other.is
-              ∙ ap (λ o. items.at_device place (λ wire x. items.end_heard place wire.device (pipes.is_end_due wire.down) x) p o v) (sym (ap (slice_get v.devices) other.holds.device) ∙ other_device.is)
-              ∙ ap (λ (c : Bool). cond c (items.end_heard place p.device (pipes.is_end_due p.down) e v) v) (ap (items.has_wire place) item_here ∙ eq-eqb place place refl)
-              ∙ ap (λ c. items.end_heard place p.device c e v) item_due) in
+      ap (λ o. record v { devices = slice_set v.devices b.device e'; wires = changed_where o pipes.down_end_told v.wires }) item_here
+      ∙ ap (λ m. record v { devices = slice_set v.devices m e'; wires = changed_at place pipes.down_end_told v.wires }) other.holds.device
+      ∙ sym (ap (λ o. items.at_wire place (λ wire x. items.end_heard place wire.device (pipes.is_end_due wire.down) x) o v) other.is
+      ∙ ap (λ o. items.at_device place (λ wire x. items.end_heard place wire.device (pipes.is_end_due wire.down) x) p o v) (sym (ap (slice_get v.devices) other.holds.device) ∙ other_device.is)
+      ∙ ap (λ (c : Bool). cond c (items.end_heard place p.device (pipes.is_end_due p.down) e v) v) (ap (items.has_wire place) item_here ∙ eq-eqb place place refl)
+      ∙ ap (λ c. items.end_heard place p.device c e v) item_due) in
       subst (λ y. WorldImage UpFits DownFits HallFits ClientFits y (items.moved (items.DownEnd place) v)) bytes_is
       (subst (WorldImage UpFits DownFits HallFits ClientFits (record w { devices = slice_set w.devices b.device (loses d); wires = changed_where d.here down_end_told w.wires })) items_is all)
     where

@@ -1,8 +1,8 @@
 -- What the server puts out goes into pipes of bytes as it goes into those of items.
-use Rattle.std.proofs.Common.{◌≡◌, ◌≢◌, ℕ, zero, suc, ◌+◌, ◌<◌, Bool, true, false, List, [], ◌∷◌, ◌++◌, Option, Some, None, map, refl, sym, ap, subst, ◌∙◌, inl, inr, arith}
+use Rattle.std.proofs.Common.{◌≡◌, ◌≢◌, ℕ, zero, suc, true, List, [], ◌∷◌, Option, Some, None, sym, ap, subst, ◌∙◌, inl, inr, arith}
 use Rattle.std.proofs.lemmas.Bool.{cases_eq}
 use Rattle.std.specs.List.{slice_get}
-use Rattle.std.specs.Map.{lookup, remove_entry}
+use Rattle.std.specs.Map.{remove_entry}
 use Rattle.std.specs.Option.{option_map}
 use Rattle.xmpp_desk.specs.State.{Out, Put, Shut, Took, is_number}
 use Rattle.xmpp_devices.specs.Devices.{DeviceState}
@@ -16,8 +16,8 @@ use Rattle.xmpp_images.specs.WorldImages.{Both, framer_here}
 use Rattle.xmpp_item_worlds.specs.ItemMoves as items
 use Rattle.xmpp_item_worlds.specs.ItemPipes as pipes
 use Rattle.xmpp_item_worlds.specs.ItemPipes.{ItemWire}
-use Rattle.xmpp_server.specs.Events.{Framers, dropped, dropped_at, framer_at}
-use Rattle.xmpp_server_laws.specs.Turned.{out_turned, outs_turned}
+use Rattle.xmpp_server.specs.Events.{Framers, dropped, framer_at}
+use Rattle.xmpp_server_laws.specs.Turned.{outs_turned}
 use Rattle.xmpp_schedule.specs.declared.schedule.Version.{Version}
 use Rattle.xmpp_wires.specs.Places.{changed_under}
 use Rattle.xmpp_wires.specs.Wires.{put_down, shut}
@@ -87,11 +87,11 @@ module _ (UpFits DownFits : ItemOut → Type 0) (up_out : (i : ItemOut) → UpFi
         let this = this_number place q same in
         put_here framers now i bs ps rest later q same (subst (λ b. IsInOrder DownFits b now i) this order.0) (subst (λ b. AreInOrder DownFits (number_at place) (behind_put b now i) rest later) this order.1) h
     | inr other ↦ record {
-        next = now;
-        in_order = subst (λ b. AreInOrder DownFits (number_at place) (behind_put b now i) rest later) (other_number (number_at place) (suc q) (not_this place q other)) order.1;
-        here = subst (λ o. Both (At framers now) o (slice_get (changed_under (suc q) (pipes.put_down (i ∷ [])) ps) place)) (sym (get_changed_other (put_down (written_item i)) bs q place other))
-            (subst (λ o. Both (At framers now) (slice_get bs place) o) (sym (get_changed_other (pipes.put_down (i ∷ [])) ps q place other)) h);
-      }
+      next = now;
+      in_order = subst (λ b. AreInOrder DownFits (number_at place) (behind_put b now i) rest later) (other_number (number_at place) (suc q) (not_this place q other)) order.1;
+      here = subst (λ o. Both (At framers now) o (slice_get (changed_under (suc q) (pipes.put_down (i ∷ [])) ps) place)) (sym (get_changed_other (put_down (written_item i)) bs q place other))
+          (subst (λ o. Both (At framers now) (slice_get bs place) o) (sym (get_changed_other (pipes.put_down (i ∷ [])) ps q place other)) h);
+    }
   ]
 
   both_other : (framers others : Framers) (now : Option Phase) (ob : Option Wire) (op : Option ItemWire) → framer_at (number_at place) framers ≡ framer_at (number_at place) others → Both (At framers now) ob op → Both (At others now) ob op
@@ -109,20 +109,20 @@ module _ (UpFits DownFits : ItemOut → Type 0) (up_out : (i : ItemOut) → UpFi
   }
   shut_one framers now (suc q) bs ps rest later order h = elim (cases_eq place q) [
     | inl same ↦ record {
-        next = None;
-        in_order = subst (λ b. AreInOrder DownFits (number_at place) (behind_shut b now) rest later) (this_number place q same) order;
-        here = subst (λ x. Both (At (remove_entry (is_number (suc q)) framers) None) (slice_get (changed_under (suc x) shut bs) place) (slice_get (changed_under (suc x) pipes.shut ps) place)) same
-            (subst (λ o. Both (At (remove_entry (is_number (suc q)) framers) None) o (slice_get (changed_under (suc place) pipes.shut ps) place)) (sym (get_changed_same shut bs place))
-            (subst (λ o. Both (At (remove_entry (is_number (suc q)) framers) None) (option_map shut (slice_get bs place)) o) (sym (get_changed_same pipes.shut ps place))
-            (both_shut framers (remove_entry (is_number (suc q)) framers) now None (slice_get bs place) (slice_get ps place) h)));
-      }
+      next = None;
+      in_order = subst (λ b. AreInOrder DownFits (number_at place) (behind_shut b now) rest later) (this_number place q same) order;
+      here = subst (λ x. Both (At (remove_entry (is_number (suc q)) framers) None) (slice_get (changed_under (suc x) shut bs) place) (slice_get (changed_under (suc x) pipes.shut ps) place)) same
+          (subst (λ o. Both (At (remove_entry (is_number (suc q)) framers) None) o (slice_get (changed_under (suc place) pipes.shut ps) place)) (sym (get_changed_same shut bs place))
+          (subst (λ o. Both (At (remove_entry (is_number (suc q)) framers) None) (option_map shut (slice_get bs place)) o) (sym (get_changed_same pipes.shut ps place))
+          (both_shut framers (remove_entry (is_number (suc q)) framers) now None (slice_get bs place) (slice_get ps place) h)));
+    }
     | inr other ↦ record {
-        next = now;
-        in_order = subst (λ b. AreInOrder DownFits (number_at place) (behind_shut b now) rest later) (other_number (number_at place) (suc q) (not_this place q other)) order;
-        here = subst (λ o. Both (At (remove_entry (is_number (suc q)) framers) now) o (slice_get (changed_under (suc q) pipes.shut ps) place)) (sym (get_changed_other shut bs q place other))
-            (subst (λ o. Both (At (remove_entry (is_number (suc q)) framers) now) (slice_get bs place) o) (sym (get_changed_other pipes.shut ps q place other))
-            (both_other framers (remove_entry (is_number (suc q)) framers) now (slice_get bs place) (slice_get ps place) (sym (found_behind_removal (number_at place) (suc q) framers (not_this place q other))) h));
-      }
+      next = now;
+      in_order = subst (λ b. AreInOrder DownFits (number_at place) (behind_shut b now) rest later) (other_number (number_at place) (suc q) (not_this place q other)) order;
+      here = subst (λ o. Both (At (remove_entry (is_number (suc q)) framers) now) o (slice_get (changed_under (suc q) pipes.shut ps) place)) (sym (get_changed_other shut bs q place other))
+          (subst (λ o. Both (At (remove_entry (is_number (suc q)) framers) now) (slice_get bs place) o) (sym (get_changed_other pipes.shut ps q place other))
+          (both_other framers (remove_entry (is_number (suc q)) framers) now (slice_get bs place) (slice_get ps place) (sym (found_behind_removal (number_at place) (suc q) framers (not_this place q other))) h));
+    }
   ]
 
   -- all that is put out

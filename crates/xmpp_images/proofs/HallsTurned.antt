@@ -1,5 +1,5 @@
 -- A moment, a connection that comes and one that goes are the same however what waits is written.
-use Rattle.std.proofs.Common.{◌≡◌, ℕ, ◌-◌, nat_le, not, ◌&&◌, max, Bool, true, false, List, Option, Some, None, cond, refl, sym, ap, ◌∙◌}
+use Rattle.std.proofs.Common.{◌≡◌, ℕ, ◌-◌, nat_le, not, ◌&&◌, max, Bool, true, false, List, Option, Some, None, cond, refl, ap, ◌∙◌}
 use Rattle.std.specs.Option.{is_none, option_map}
 use Rattle.xmpp_desk.specs.Moments.{at_moment, gone_at, with_fresh}
 use Rattle.xmpp_desk.specs.State.{Hall, with_sessions, without_conn}

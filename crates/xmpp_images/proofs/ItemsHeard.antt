@@ -1,5 +1,5 @@
 -- Items of a connection that go to the device one after another do what they do at once.
-use Rattle.std.proofs.Common.{◌≡◌, ◌≢◌, ℕ, zero, suc, ◌+◌, ◌==◌, Bool, true, false, true≢false, cond, List, [], ◌∷◌, ◌++◌, Option, Some, None, map, drop, length, refl, sym, ap, ap₂, subst, ◌∙◌, inl, inr, append_assoc, append-nil}
+use Rattle.std.proofs.Common.{◌≡◌, ℕ, zero, suc, Bool, true, false, cond, List, [], ◌∷◌, ◌++◌, Option, Some, None, map, drop, length, refl, sym, ap, ap₂, subst, ◌∙◌, inl, inr, append_assoc, append-nil}
 use Rattle.std.proofs.lemmas.Bool.{cases_Bool, eq-eqb}
 use Rattle.std.specs.List.{AllByRecursion, slice_get, slice_set}
 use Rattle.std.specs.Option.{option_map}
@@ -10,15 +10,15 @@ use Rattle.xmpp_client_rows.specs.Turns.{is_apart}
 use Rattle.xmpp_desk.specs.State.{Hall}
 use Rattle.xmpp_framing.specs.declared.items.Item.{Item}
 use Rattle.xmpp_images.proofs.ItemsServed.{changed_none, changed_twice}
-use Rattle.xmpp_images.proofs.Lookups.{get_changed_same, set_changes}
+use Rattle.xmpp_images.proofs.Lookups.{get_changed_same}
 use Rattle.xmpp_images.proofs.TurnsBehind.{step_adds}
 use Rattle.xmpp_images.proofs.UserMoves.{get_set_same, set_same}
 use Rattle.xmpp_images.proofs.WireSteps.{all_joined}
 use Rattle.xmpp_images.specs.PipeImages.{dropped}
 use Rattle.xmpp_images.specs.Cores.{Adds, CoresFit, HeardFits, IsInTurn, IsNoFooter}
 use Rattle.xmpp_images.specs.ItemRuns.{downs}
-use Rattle.xmpp_item_worlds.specs.ItemMoves.{Down, all_moved, at_device, at_wire, has_wire, heard, heard_first, here_behind, left_where, moved}
-use Rattle.xmpp_item_worlds.specs.ItemPipes.{ItemPipe, ItemWire, entered, handed_down, left, put_up}
+use Rattle.xmpp_item_worlds.specs.ItemMoves.{Down, all_moved, at_device, at_wire, has_wire, heard_first, here_behind, left_where, moved}
+use Rattle.xmpp_item_worlds.specs.ItemPipes.{ItemPipe, ItemWire, entered, handed_down, put_up}
 use Rattle.xmpp_item_worlds.specs.ItemWorlds.{ItemDevice, ItemWorld, read_of, silent_turn}
 use Rattle.xmpp_wires.specs.Places.{changed_at}
 use Rattle.xmpp_writer.specs.Items.{Closing, ItemOut}
@@ -152,24 +152,24 @@ module _ (UpFits DownFits : ItemOut → Type 0) (HallFits : ℕ → Hall ItemOut
       let n = length l in
       let t = item_step in_items (silent_turn e.client) (read_of i) in
       let behind : Bool → ItemWorld = λ b. record v {
-            devices = slice_set v.devices device (record { client = t.client; here = here_behind b e.here });
-            wires = changed_at place (one_of b t.out.put) v.wires;
-          } in
+        devices = slice_set v.devices device (record { client = t.client; here = here_behind b e.here });
+        wires = changed_at place (one_of b t.out.put) v.wires;
+      } in
       let itself_here : has_wire place e.here ≡ true = ap (has_wire place) here ∙ eq-eqb place place refl in
       let one_is : moved (Down place) v ≡ behind (is_apart t.client.phase) =
-            down_is place v p e found (ap (slice_get v.devices) dev ∙ found_device) ∙ ap (λ (b : Bool). cond b (heard_first place p.device p.down.items e v) v) itself_here ∙ ap₂ (λ m k. heard_first place m k e v) dev items_are in
+      down_is place v p e found (ap (slice_get v.devices) dev ∙ found_device) ∙ ap (λ (b : Bool). cond b (heard_first place p.device p.down.items e v) v) itself_here ∙ ap₂ (λ m k. heard_first place m k e v) dev items_are in
       let whole = items_run in_items t (map read_of l) in
       let shape : ClientView ItemOut → List ItemOut → ItemWorld = λ c put. record v {
-            devices = slice_set v.devices device (record { client = c; here = here_behind (is_apart c.phase) e.here });
-            wires = changed_at place (many_of (is_apart c.phase) put (suc n)) v.wires;
-          } in
+        devices = slice_set v.devices device (record { client = c; here = here_behind (is_apart c.phase) e.here });
+        wires = changed_at place (many_of (is_apart c.phase) put (suc n)) v.wires;
+      } in
       ap (all_moved (downs place n)) one_is ∙ elim (cases_Bool (is_apart t.client.phase)) [
         | inl apart ↦
             let e1 : ItemDevice = record { client = t.client; here = None } in
             ap (λ b. all_moved (downs place n) (behind b)) apart
             ∙ downs_of_none place n device (behind true) (one_of true t.out.put p) e1 (get_changed_same (one_of true t.out.put) v.wires place ∙ ap (option_map (one_of true t.out.put)) found) dev (get_set_same v.devices device e e1 found_device) refl
             ∙ sym (ap (λ (u : Turn ItemOut ItemOut). shape u.client u.out.put) (apart_run (map read_of l) t apart)
-              ∙ ap (λ b. record v { devices = slice_set v.devices device (record { client = t.client; here = here_behind b e.here }); wires = changed_at place (many_of b t.out.put (suc n)) v.wires }) apart)
+            ∙ ap (λ b. record v { devices = slice_set v.devices device (record { client = t.client; here = here_behind b e.here }); wires = changed_at place (many_of b t.out.put (suc n)) v.wires }) apart)
         | inr stays ↦
             let e1 : ItemDevice = record { client = t.client; here = e.here } in
             let t' = turn_of_items t.client l in
@@ -178,6 +178,6 @@ module _ (UpFits DownFits : ItemOut → Type 0) (HallFits : ℕ → Hall ItemOut
             ap (λ b. all_moved (downs place n) (behind b)) stays
             ∙ downs_are place device l others (behind false) (one_of false t.out.put p) e1 (get_changed_same (one_of false t.out.put) v.wires place ∙ ap (option_map (one_of false t.out.put)) found) dev (get_set_same v.devices device e e1 found_device) here stays (ap (drop 1) items_are)
             ∙ ap₂ (λ x y. record v { devices = x; wires = y }) (set_twice v.devices device e1 (record { client = t'.client; here = here_behind a e.here }))
-              (changed_twice (many_of a t'.out.put n) (one_of false t.out.put) (many_of a (t.out.put ++ t'.out.put) (suc n)) v.wires place (one_then_many a t.out.put t'.out.put n))
+            (changed_twice (many_of a t'.out.put n) (one_of false t.out.put) (many_of a (t.out.put ++ t'.out.put) (suc n)) v.wires place (one_then_many a t.out.put t'.out.put n))
             ∙ ap₂ shape (sym more.client_is) (sym more.put_is)
       ]

@@ -1,5 +1,5 @@
 -- Items of a connection that go to the server one after another do what they do at once.
-use Rattle.std.proofs.Common.{◌≡◌, ◌≢◌, ◌⊎◌, ◌≤◌, ℕ, zero, suc, ◌+◌, Bool, true, false, List, [], ◌∷◌, ◌++◌, Option, Some, None, map, drop, length, refl, sym, ap, ap₂, subst, ◌∙◌, inl, inr, append-nil}
+use Rattle.std.proofs.Common.{◌≡◌, ◌⊎◌, ◌≤◌, ℕ, zero, suc, Bool, true, false, List, [], ◌∷◌, ◌++◌, Option, Some, None, map, drop, length, refl, sym, ap, subst, ◌∙◌, inl, inr, append-nil}
 use Rattle.std.proofs.lemmas.Bool.{cases_eq}
 use Rattle.std.specs.List.{AllByRecursion, slice_get}
 use Rattle.std.specs.Option.{option_map}
@@ -13,19 +13,18 @@ use Rattle.xmpp_framing.specs.declared.states.Phase.{Phase}
 use Rattle.xmpp_framing.specs.declared.states.Phase.TheVariants as phase
 use Rattle.xmpp_images.proofs.Beginnings.{IsHeaded, first_before}
 use Rattle.xmpp_images.proofs.BehindOuts.{behind, items_behind}
-use Rattle.xmpp_images.proofs.Emissions.{not_this, this_number}
+use Rattle.xmpp_images.proofs.Emissions.{this_number}
 use Rattle.xmpp_images.proofs.Lookups.{get_changed_other, get_changed_same}
 use Rattle.xmpp_images.specs.PipeImages.{dropped}
 use Rattle.xmpp_images.specs.Cores.{AreInOrder, CoresFit, IsInOrder, behind_put, behind_shut, writer_at, writer_of}
 use Rattle.xmpp_images.specs.ItemRuns.{ups}
-use Rattle.xmpp_item_worlds.specs.ItemMoves.{Up, all_emitted, all_moved, emitted, moved, served_by, served_first, served_item, step_of}
+use Rattle.xmpp_item_worlds.specs.ItemMoves.{Up, all_emitted, all_moved, emitted, moved, served_by, served_first, step_of}
 use Rattle.xmpp_item_worlds.specs.ItemPipes.{ItemPipe, ItemWire, handed_up, put_down, shut}
 use Rattle.xmpp_item_worlds.specs.ItemWorlds.{ItemWorld, itself, read_of}
 use Rattle.xmpp_server.specs.Table.{after_item, after_items, at_open}
 use Rattle.xmpp_wires.specs.Places.{changed_at, changed_under}
 use Rattle.xmpp_world.specs.Worlds.{number_at}
 use Rattle.xmpp_writer.specs.Items.{ItemOut}
-use Rattle.xmpp_written.specs.Puts.{phase_behind}
 
 abbrev pub many_up : ℕ → ItemWire → ItemWire
 many_up count p = record p { up = dropped count p.up }
@@ -225,7 +224,7 @@ module _ (UpFits DownFits : ItemOut → Type 0) (HallFits : ℕ → Hall ItemOut
       let here : slice_get ws place ≡ Some (handed_up p) = get_changed_same handed_up v.wires place ∙ ap (option_map handed_up) found in
       let after = up_after DownFits place d.outs (writer_at (number_at place) v.server) (writer_at (number_at place) d.hall) ws (handed_up p) (cores.in_order many (number_at place) i v.server (number_at place) fits few all.0 comes) here in
       let dropped_is : changed_at place (many_up n) (all_emitted d.outs ws) ≡ all_emitted d.outs (changed_at place (many_up (suc n)) v.wires) =
-            all_commutes place n d.outs ws ∙ ap (all_emitted d.outs) (changed_twice (many_up n) handed_up (many_up (suc n)) v.wires place (many_handed n)) in
+      all_commutes place n d.outs ws ∙ ap (all_emitted d.outs) (changed_twice (many_up n) handed_up (many_up (suc n)) v.wires place (many_handed n)) in
       ap (all_moved (ups place n)) step ∙ (elim after.is [
         | inl kept ↦
             let d' = served place rest d.hall in

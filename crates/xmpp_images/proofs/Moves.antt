@@ -1,6 +1,5 @@
 -- Each move of bytes is moves of items, and so is each history.
-use Rattle.std.proofs.Common.{◌≡◌, ℕ, zero, suc, ◌+◌, ◌≤◌, Bool, true, false, List, [], ◌∷◌, ◌++◌, Option, Some, None, IsTrue, map, length, refl, sym, ap, subst, ◌∙◌}
-use Rattle.std.proofs.lemmas.List.{length-map}
+use Rattle.std.proofs.Common.{◌≡◌, ℕ, zero, suc, ◌+◌, true, false, List, [], ◌∷◌, ◌++◌, Option, Some, None, map, length, refl, sym, subst, ◌∙◌}
 use Rattle.std.specs.List.{AllByRecursion, slice_get}
 use Rattle.xmpp_client_rows.specs.Clients.{ClientView}
 use Rattle.xmpp_desk.specs.State.{Hall}
@@ -25,7 +24,6 @@ use Rattle.xmpp_item_worlds.specs.ItemWorlds.{ItemWorld}
 use Rattle.xmpp_schedule.specs.Contents.{Owned, owned_in}
 use Rattle.xmpp_schedule.specs.Schedules.{WireView}
 use Rattle.xmpp_schedule.specs.WireGrammar.{IsWireSchedule}
-use Rattle.xmpp_schedule.specs.declared.schedule.Count.TheVariants.{All}
 use Rattle.xmpp_schedule.specs.declared.schedule.Step.{Step}
 use Rattle.xmpp_schedule.specs.declared.schedule.Step.TheVariants as step
 use Rattle.xmpp_schedule.specs.declared.schedule.WireLine.{WireLine}
@@ -36,7 +34,7 @@ use Rattle.xmpp_wires.specs.Places.{place_under}
 use Rattle.xmpp_wires.specs.declared.wire.Wire.{Wire}
 use Rattle.xmpp_world.proofs.Traces.{may_follow}
 use Rattle.xmpp_world.specs.Histories.{common_steps, history_of, owned_at_start, world_at_start, worlds_along, worlds_by}
-use Rattle.xmpp_world.specs.Lines.{common_moves, move_of, moves_of, pass_of, passes_of, passes_where, round_from, rounds_of, step_moves, stepped}
+use Rattle.xmpp_world.specs.Lines.{common_moves, move_of, moves_of, passes_of, passes_where, round_from, rounds_of, step_moves, stepped}
 use Rattle.xmpp_world.specs.Moves as bytes
 use Rattle.xmpp_world.specs.Moves.{Move, all_moved, moved}
 use Rattle.xmpp_world.specs.Standing.{MayAllStep, MayStep}
@@ -111,6 +109,7 @@ module _ (UpFits DownFits : ItemOut → Type 0) (HallFits : ℕ → Hall ItemOut
     as_many = refl;
     wires = none_there (WireAt UpFits DownFits (world_at_start schedule) (items_at_start schedule));
   }
+
   -- ---- no bytes
 
   both_there : {A B : Type 0} (R : A → B → Type 0) (oa : Option A) (ob : Option B) (a : A) (b : B) → oa ≡ Some a → ob ≡ Some b → Both R oa ob → R a b

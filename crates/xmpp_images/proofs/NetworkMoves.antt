@@ -1,38 +1,35 @@
 -- A cut, a tick of the clock, and an end that is told to the server.
-use Rattle.std.proofs.Common.{◌≡◌, ◌≢◌, ℕ, ◌+◌, ◌<◌, Bool, true, false, true≢false, List, [], ◌∷◌, Option, Some, None, cond, length, refl, sym, ap, subst, ◌∙◌, inl, inr, arith}
+use Rattle.std.proofs.Common.{◌≡◌, ◌≢◌, ℕ, ◌+◌, Bool, true, false, List, [], ◌∷◌, Option, Some, None, cond, length, refl, sym, ap, subst, ◌∙◌, inl, inr, arith}
 use Rattle.std.proofs.lemmas.Bool.{cases_eq}
 use Rattle.std.specs.List.{slice_get, slice_set}
-use Rattle.std.specs.Map.{lookup, remove_entry}
+use Rattle.std.specs.Map.{remove_entry}
 use Rattle.std.specs.Option.{option_map}
 use Rattle.xmpp_client_rows.specs.Clients.{ClientView}
 use Rattle.xmpp_desk.specs.Moments.{at_moment, gone_at}
-use Rattle.xmpp_desk.specs.State.{Hall, conn_at, is_number}
-use Rattle.xmpp_devices.specs.Devices.{DeviceState}
-use Rattle.xmpp_framing.specs.Limits.{client_limits, server_limits}
-use Rattle.xmpp_framing.specs.States.{State}
-use Rattle.xmpp_framing.specs.declared.states.Phase.{Phase}
+use Rattle.xmpp_desk.specs.State.{Hall, is_number}
+use Rattle.xmpp_framing.specs.Limits.{server_limits}
 use Rattle.xmpp_framing.specs.declared.states.Phase.TheVariants as phase
 use Rattle.xmpp_images.proofs.Beginnings.{begins_at, cut_begun}
 use Rattle.xmpp_images.proofs.HallsTurned.{gone_turned, moment_turned}
 use Rattle.xmpp_images.proofs.Lookups.{found_behind_removal, get_changed_other, get_changed_same, length_changed, set_changes}
 use Rattle.xmpp_images.proofs.PipeSteps.{due_image, is_due, items_due}
-use Rattle.xmpp_images.proofs.WireSteps.{IsWireCut, wire_cut, wire_up_told}
+use Rattle.xmpp_images.proofs.WireSteps.{wire_cut, wire_up_told}
 use Rattle.xmpp_images.specs.Cores.{CoresFit, writer_at, writer_of}
-use Rattle.xmpp_images.specs.ItemRuns.{IsRunOf, moved_where}
+use Rattle.xmpp_images.specs.ItemRuns.{moved_where}
 use Rattle.xmpp_images.specs.WireImages.{WireImage}
-use Rattle.xmpp_images.specs.WorldImages.{Begins, Both, DeviceImage, IsBegun, IsMoved, WireAt, WorldImage, framer_here}
+use Rattle.xmpp_images.specs.WorldImages.{Begins, Both, IsBegun, IsMoved, WireAt, WorldImage, framer_here}
 use Rattle.xmpp_item_worlds.specs.ItemMoves as items
 use Rattle.xmpp_item_worlds.specs.ItemMoves.{ItemMove}
 use Rattle.xmpp_item_worlds.specs.ItemPipes as pipes
 use Rattle.xmpp_item_worlds.specs.ItemPipes.{ItemWire}
-use Rattle.xmpp_item_worlds.specs.ItemWorlds.{ItemDevice, ItemWorld}
+use Rattle.xmpp_item_worlds.specs.ItemWorlds.{ItemWorld}
 use Rattle.xmpp_pipes.specs.Pipes.{is_end_due}
 use Rattle.xmpp_server.specs.Events.{after_gone, framer_at}
 use Rattle.xmpp_server_laws.specs.Turned.{hall_turned}
 use Rattle.xmpp_wires.specs.Places.{changed_at}
 use Rattle.xmpp_wires.specs.Wires.{cut_at, up_end_told}
 use Rattle.xmpp_wires.specs.declared.wire.Wire.{Wire}
-use Rattle.xmpp_world.specs.Moves.{Cut, Move, Tick, end_told_up, moved, told_up}
+use Rattle.xmpp_world.specs.Moves.{Cut, Tick, end_told_up, told_up}
 use Rattle.xmpp_world.specs.Worlds.{World, number_at}
 use Rattle.xmpp_writer.specs.Items.{ItemOut, written_item}
 
@@ -155,14 +152,14 @@ module _ (UpFits DownFits : ItemOut → Type 0) (HallFits : ℕ → Hall ItemOut
   told_image : (place : ℕ) (w : World) (v : ItemWorld) (b : Wire) (p : ItemWire) → slice_get w.wires place ≡ Some b → slice_get v.wires place ≡ Some p → is_end_due b.up ≡ true → WireAt UpFits DownFits w v place b p
       → WorldImage UpFits DownFits HallFits ClientFits w v
       → WorldImage UpFits DownFits HallFits ClientFits (record w { server = after_gone (number_at place) w.moment w.server; wires = slice_set w.wires place (up_end_told b) })
-        (record v { server = gone_at (place + 1) (at_moment v.moment v.server); wires = changed_at place pipes.up_end_told v.wires })
+      (record v { server = gone_at (place + 1) (at_moment v.moment v.server); wires = changed_at place pipes.up_end_told v.wires })
   told_image place w v b p found found_item due x i =
       let set_is : slice_set w.wires place (up_end_told b) ≡ changed_at place up_end_told w.wires = set_changes up_end_told w.wires place b (up_end_told b) found refl in
       let after : ℕ → Wire → ItemWire → Type 0 =
-            λ q c r. WireImage UpFits DownFits (framer_at (number_at q) (remove_entry (is_number (number_at place)) w.server.framers)) (framer_here q (slice_get w.devices c.device)) (writer_at (number_at q) (gone_at (place + 1) (at_moment v.moment v.server))) c r in
+      λ q c r. WireImage UpFits DownFits (framer_at (number_at q) (remove_entry (is_number (number_at place)) w.server.framers)) (framer_here q (slice_get w.devices c.device)) (writer_at (number_at q) (gone_at (place + 1) (at_moment v.moment v.server))) c r in
       let here : Both (after place) (option_map up_end_told (slice_get w.wires place)) (option_map pipes.up_end_told (slice_get v.wires place)) =
-            subst (λ o. Both (after place) (option_map up_end_told o) (option_map pipes.up_end_told (slice_get v.wires place))) (sym found)
-            (subst (λ o. Both (after place) (Some (up_end_told b)) (option_map pipes.up_end_told o)) (sym found_item) (told_here place w v b p due x)) in
+      subst (λ o. Both (after place) (option_map up_end_told o) (option_map pipes.up_end_told (slice_get v.wires place))) (sym found)
+      (subst (λ o. Both (after place) (Some (up_end_told b)) (option_map pipes.up_end_told o)) (sym found_item) (told_here place w v b p due x)) in
       record {
         moment = i.moment;
         hall =
@@ -189,9 +186,9 @@ module _ (UpFits DownFits : ItemOut → Type 0) (HallFits : ℕ → Hall ItemOut
           let other = found_both (WireAt UpFits DownFits w v place) b (slice_get w.wires place) (slice_get v.wires place) found (i.wires place) in
           let due_item = items_due server_limits (Some phase.Between) (framer_at (number_at place) w.server.framers) b.up other.other.up other.holds.up due in
           let bytes_is : end_told_up place w ≡ record w { server = after_gone (number_at place) w.moment w.server; wires = slice_set w.wires place (up_end_told b) } =
-                ap (λ o. told_up place o w) found ∙ ap (λ (e : Bool). cond e (record w { server = after_gone (number_at place) w.moment w.server; wires = slice_set w.wires place (up_end_told b) }) w) due in
+          ap (λ o. told_up place o w) found ∙ ap (λ (e : Bool). cond e (record w { server = after_gone (number_at place) w.moment w.server; wires = slice_set w.wires place (up_end_told b) }) w) due in
           let items_is : items.moved (items.UpEnd place) v ≡ record v { server = gone_at (place + 1) (at_moment v.moment v.server); wires = changed_at place pipes.up_end_told v.wires } =
-                ap (λ o. items.told_up place o v) other.is ∙ ap (λ (e : Bool). cond e (record v { server = gone_at (place + 1) (at_moment v.moment v.server); wires = changed_at place pipes.up_end_told v.wires }) v) due_item in
+          ap (λ o. items.told_up place o v) other.is ∙ ap (λ (e : Bool). cond e (record v { server = gone_at (place + 1) (at_moment v.moment v.server); wires = changed_at place pipes.up_end_told v.wires }) v) due_item in
           record {
             ended = true;
             image = subst (λ x. WorldImage UpFits DownFits HallFits ClientFits x (items.moved (items.UpEnd place) v)) (sym bytes_is)
@@ -200,7 +197,7 @@ module _ (UpFits DownFits : ItemOut → Type 0) (HallFits : ℕ → Hall ItemOut
           }
       due_or_not b found false due =
           let bytes_is : end_told_up place w ≡ w =
-                ap (λ o. told_up place o w) found ∙ ap (λ (e : Bool). cond e (record w { server = after_gone (number_at place) w.moment w.server; wires = slice_set w.wires place (up_end_told b) }) w) due in
+          ap (λ o. told_up place o w) found ∙ ap (λ (e : Bool). cond e (record w { server = after_gone (number_at place) w.moment w.server; wires = slice_set w.wires place (up_end_told b) }) w) due in
           record { ended = false; image = subst (λ x. WorldImage UpFits DownFits HallFits ClientFits x v) (sym bytes_is) i }
 
       by : (o : Option Wire) → slice_get w.wires place ≡ o → IsEnded place w v

@@ -1,11 +1,11 @@
 -- What each operation on a pipe makes of the image that it is of a pipe of items.
-use Rattle.std.proofs.Common.{◌≡◌, ◌==◌, ◌&&◌, not, ℕ, zero, suc, ◌<◌, ◌^◌, Bool, true, false, true≢false, List, [], ◌∷◌, ◌++◌, Option, Some, None, length, take, drop, map, refl, sym, ap, subst, ◌∙◌, arith, append_assoc, append-nil, cond}
+use Rattle.std.proofs.Common.{◌≡◌, ◌==◌, ◌&&◌, not, ℕ, zero, suc, Bool, true, false, true≢false, List, [], ◌∷◌, ◌++◌, Option, Some, length, take, drop, map, refl, sym, ap, subst, ◌∙◌, arith}
 use Rattle.std.proofs.Math.Seq.{drop-append_seam, take-append_seam}
 use Rattle.std.proofs.lemmas.List.{drop-map, length-map, map-append, take-map}
 use Rattle.std.proofs.lemmas.Bool.{and_parts}
 use Rattle.std.proofs.lemmas.Bool.Decides.{nat_tests}
-use Rattle.xmpp_carries.proofs.PipeLaws.{closes, cuts, due_means_none, empties, end_told, enters_not, fresh, hands, open_without_bytes}
-use Rattle.xmpp_carries.specs.Carries.{Carries, GivesFirst, KeepsFirst, held}
+use Rattle.xmpp_carries.proofs.PipeLaws.{closes, cuts, due_means_none, end_told, fresh, hands, open_without_bytes}
+use Rattle.xmpp_carries.specs.Carries.{Carries, held}
 use Rattle.xmpp_carries.specs.Items.{AreItems}
 use Rattle.xmpp_framing.specs.Machine.{run}
 use Rattle.xmpp_framing.specs.States.{State, turn, from_start}
@@ -17,10 +17,9 @@ use Rattle.xmpp_framing_laws.specs.Spells.{placed}
 use Rattle.xmpp_item_worlds.specs.ItemPipes as items
 use Rattle.xmpp_item_worlds.specs.ItemPipes.{ItemPipe}
 use Rattle.xmpp_item_worlds.specs.ItemWorlds.{read_of}
-use Rattle.xmpp_pipes.specs.Pipes.{Pipe, closed, cut_to, emptied, empty_pipe, entered, handed, is_end_due, with_end_told}
-use Rattle.xmpp_writer.specs.Items.{Closing, ItemOut, Opening, Whole, written_item}
-use Rattle.xmpp_written.specs.Puts.{HasPut, MayPut, OutFits, StandsAt, phase_behind, read_out}
-use Rattle.xmpp_images.specs.PipeImages.{AreRead, Awaits, IsCarried, IsCut, IsHanded, Over, PipeImage, Standing, WriterStands, dropped, over, standing}
+use Rattle.xmpp_pipes.specs.Pipes.{Pipe, closed, emptied, empty_pipe, is_end_due, with_end_told}
+use Rattle.xmpp_writer.specs.Items.{ItemOut}
+use Rattle.xmpp_images.specs.PipeImages.{AreRead, Awaits, IsCarried, IsCut, IsHanded, PipeImage, Standing, over, standing}
 
 -- ---- a pipe's counts are not looked at
 

@@ -1,9 +1,8 @@
 -- What is put enters a pipe of bytes as it enters the pipe of items.
-use Rattle.std.proofs.Common.{◌≡◌, ℕ, ◌<◌, ◌^◌, Bool, true, false, List, [], ◌∷◌, ◌++◌, Option, Some, None, map, refl, sym, ap, subst, ◌∙◌, append_assoc, append-nil, cond, codes, flat_map}
+use Rattle.std.proofs.Common.{◌≡◌, ℕ, ◌<◌, ◌^◌, Bool, true, false, List, [], ◌∷◌, ◌++◌, Option, Some, map, refl, sym, ap, subst, ◌∙◌, append_assoc, append-nil, cond, codes, flat_map}
 use Rattle.std.specs.List.{AllByRecursion}
 use Rattle.std.proofs.lemmas.List.{map-append}
 use Rattle.std.proofs.lemmas.Bool.{cond-false, cond-true}
-use Rattle.xmpp_carries.specs.Carries.{Carries}
 use Rattle.xmpp_framing.specs.States.{State}
 use Rattle.xmpp_framing.specs.declared.items.Item.{Item}
 use Rattle.xmpp_framing.specs.declared.limits.Limits.{Limits}
@@ -14,11 +13,11 @@ use Rattle.xmpp_framing_laws.specs.Standing.{StandsOutside}
 use Rattle.xmpp_item_worlds.specs.ItemPipes as items
 use Rattle.xmpp_item_worlds.specs.ItemPipes.{ItemPipe}
 use Rattle.xmpp_item_worlds.specs.ItemWorlds.{read_of}
-use Rattle.xmpp_pipes.specs.Pipes.{Pipe, entered, risen}
+use Rattle.xmpp_pipes.specs.Pipes.{Pipe, entered}
 use Rattle.xmpp_writer.specs.Items.{Closing, ItemOut, Opening, Whole, written_item}
 use Rattle.xmpp_written.proofs.PutLaws.{put_enters}
-use Rattle.xmpp_written.specs.Puts.{HasPut, MayPut, OutFits, StandsAt, phase_behind, read_out}
-use Rattle.xmpp_images.specs.PipeImages.{AreRead, Awaits, IsCarried, Over, PipeImage, Standing, WriterStands, over, standing}
+use Rattle.xmpp_written.specs.Puts.{MayPut, OutFits, StandsAt, phase_behind, read_out}
+use Rattle.xmpp_images.specs.PipeImages.{AreRead, IsCarried, PipeImage, Standing, over, standing}
 use Rattle.xmpp_images.proofs.PipeSteps.{ended_image, image_same}
 
 -- ---- the fields of what entered

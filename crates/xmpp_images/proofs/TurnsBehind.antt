@@ -2,17 +2,17 @@
 use Rattle.std.proofs.Common.{◌≡◌, ℕ, Bool, true, false, ◌&&◌, cond, List, [], ◌∷◌, ◌++◌, Option, Some, None, Result, Ok, Err, codes, is_some, nat_le, length, refl, sym, ap, ap₂, ◌∙◌, append_assoc, append-nil}
 use Rattle.xmpp_acks.specs.declared.end.TooHigh.{TooHigh}
 use Rattle.xmpp_client.specs.PageRows.{answer_to, answered_page, begins_page, catch_up_fault, error_of_page, goes_on, iq_by, is_not_found, is_ping, next_queryid, nothing_told, numbered, only_fin, page_answered, page_done, page_ended, page_stanza, requests, restarts, result_of_page}
-use Rattle.xmpp_client.specs.Steps.{connected_step, element_row, element_step, handles, item_step, online_in, stanza_row, stream_condition, told_row}
+use Rattle.xmpp_client.specs.Steps.{connected_step, element_row, handles, item_step, online_in, stanza_row, stream_condition, told_row}
 use Rattle.xmpp_client_login.specs.LoginRows as rows
 use Rattle.xmpp_client_login.specs.Puts.{Row}
 use Rattle.xmpp_client_login.specs.declared.answers.Next.{Next}
 use Rattle.xmpp_client_login.specs.declared.answers.Next.TheVariants as next
 use Rattle.xmpp_client_rows.specs.AckRows.{ack_row, acknowledges, counts_too_high, request_row}
-use Rattle.xmpp_client_rows.specs.Clients.{ClientView, OutView, Turn}
+use Rattle.xmpp_client_rows.specs.Clients.{OutView, Turn}
 use Rattle.xmpp_client_rows.specs.LoginSteps as login
 use Rattle.xmpp_client_rows.specs.LoginSteps.{follows, header_row, login_row, other_element, peer_fault}
 use Rattle.xmpp_client_rows.specs.MessageRows.{bounce_of, error_within, held_row, is_own_or_absent, live_in, logged, message_with, other_message, refuses, result_row, result_to, tells_where}
-use Rattle.xmpp_client_rows.specs.SessionRows.{asks, attaches, begins, begins_epoch, binding_row, binds, can_resume, enabling_row, enabling_with, failed_row, features2_row, features2_with, first_stanzas, is_stanza, queue_in, resent, resumed_in, resumed_row, resumes_or_binds, resuming_row, resuming_with, tells_bound}
+use Rattle.xmpp_client_rows.specs.SessionRows.{asks, attaches, begins, begins_epoch, binding_row, binds, can_resume, enabling_with, failed_row, features2_with, first_stanzas, is_stanza, queue_in, resent, resumed_in, resumes_or_binds, resuming_with, tells_bound}
 use Rattle.xmpp_client_rows.specs.Speech.{Note, Acknowledged, Counted, Ended, Epoch, Handled, Put, Stated, in_items, uttered, uttered_where}
 use Rattle.xmpp_client_rows.specs.Turns.{drops, dropped, ends, goes, has_put, has_to_put, is_apart, is_online, left, notes, put_in, puts, queues, tells, with_log, with_session}
 use Rattle.xmpp_client_rows.specs.declared.events.CatchUpFault.{CatchUpFault}
@@ -44,7 +44,7 @@ use Rattle.xmpp_mam.specs.Readings.{result_read}
 use Rattle.xmpp_mam.specs.declared.archive_answers.MamResult.{MamResult}
 use Rattle.xmpp_outbox.specs.Sessions.{SessionView}
 use Rattle.xmpp_outbox.specs.Submissions.{acknowledged, next_number}
-use Rattle.xmpp_outbox.specs.Waiting.{acked, counted_in, is_full, is_too_high, queued, submissions_to, too_high}
+use Rattle.xmpp_outbox.specs.Waiting.{acked, counted_in, is_full, is_too_high, submissions_to, too_high}
 use Rattle.xmpp_acks.specs.Counters.{ahead}
 use Rattle.xmpp_pages.specs.declared.fin.Fin.{Fin}
 use Rattle.xmpp_payload.specs.Names.{archive}

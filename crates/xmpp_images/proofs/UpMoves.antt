@@ -1,10 +1,10 @@
 -- Bytes that are handed to the server are the items whose last bytes are among them.
-use Rattle.std.proofs.Common.{◌≡◌, ◌≢◌, ◌≤◌, ◌<◌, ℕ, zero, suc, ◌+◌, ◌==◌, min, Bool, true, false, true≢false, cond, List, [], ◌∷◌, ◌++◌, Option, Some, None, map, take, drop, length, refl, sym, ap, ap₂, subst, ◌∙◌, inl, inr, arith}
+use Rattle.std.proofs.Common.{◌≡◌, ◌≤◌, ◌<◌, ℕ, zero, suc, ◌+◌, ◌==◌, min, Bool, true, false, true≢false, cond, List, [], ◌∷◌, ◌++◌, Option, Some, None, map, take, drop, length, refl, sym, ap, ap₂, subst, ◌∙◌, inl, inr, arith}
 use Rattle.std.proofs.lemmas.Bool.{cases_eq}
 use Rattle.std.proofs.lemmas.List.{take-append-drop}
 use Rattle.std.proofs.lemmas.Option.{slice_get_within}
 use Rattle.std.specs.List.{AllByRecursion, slice_get, slice_set}
-use Rattle.std.specs.Map.{lookup, set_value}
+use Rattle.std.specs.Map.{set_value}
 use Rattle.std.specs.Option.{option_map}
 use Rattle.xmpp_client_rows.specs.Clients.{ClientView}
 use Rattle.xmpp_desk.specs.Moments.{at_moment}
@@ -12,7 +12,6 @@ use Rattle.xmpp_desk.specs.State.{Hall, Out, Put, Shut, Step, Took, is_number}
 use Rattle.xmpp_desk.specs.Streams.{standing_at}
 use Rattle.xmpp_desk.specs.Steps.{acted}
 use Rattle.xmpp_desk.specs.declared.connection.Standing.{Standing as ConnStanding}
-use Rattle.xmpp_framing.specs.Limits.{client_limits, server_limits}
 use Rattle.xmpp_framing.specs.Machine.{run}
 use Rattle.xmpp_framing.specs.States.{State, Turn, turn}
 use Rattle.xmpp_framing.specs.declared.items.Item.{Item}
@@ -23,13 +22,13 @@ use Rattle.xmpp_framing_laws.specs.Spells.{placed}
 use Rattle.xmpp_images.proofs.Beginnings.{IsHeaded, begun_headed, first_before, wire_there}
 use Rattle.xmpp_images.proofs.Emissions.{all_here}
 use Rattle.xmpp_images.proofs.HallsTurned.{moment_turned}
-use Rattle.xmpp_images.proofs.ItemsServed.{UpAfter, at_once, changed_none, many_up, served, served_fits, served_in_order, served_opened, up_after, ups_are}
+use Rattle.xmpp_images.proofs.ItemsServed.{at_once, changed_none, many_up, served, served_fits, served_in_order, served_opened, up_after, ups_are}
 use Rattle.xmpp_images.proofs.Lookups.{get_changed_other, found_behind_other_value, found_behind_value, length_changed, set_changes}
-use Rattle.xmpp_images.proofs.NetworkMoves.{IsEnded, both_changed, end_is, found_both, number_apart}
+use Rattle.xmpp_images.proofs.NetworkMoves.{both_changed, end_is, found_both, number_apart}
 use Rattle.xmpp_images.proofs.WireSteps.{IsUpHanded, all_taken, wire_up}
-use Rattle.xmpp_images.specs.Cores.{AreInOrder, CoresFit, writer_at}
-use Rattle.xmpp_images.specs.ItemRuns.{IsRunOf, IsServed, moved_where, ups}
-use Rattle.xmpp_images.specs.PipeImages.{AreRead, IsCarried, Over, Standing, over, standing}
+use Rattle.xmpp_images.specs.Cores.{CoresFit, writer_at}
+use Rattle.xmpp_images.specs.ItemRuns.{IsServed, moved_where, ups}
+use Rattle.xmpp_images.specs.PipeImages.{AreRead, over, standing}
 use Rattle.xmpp_images.specs.WireImages.{WireImage}
 use Rattle.xmpp_images.specs.WorldImages.{Begins, Both, IsBegun, IsMoved, WireAt, WorldImage, framer_here}
 use Rattle.xmpp_item_worlds.specs.ItemMoves as items
@@ -151,7 +150,7 @@ module _ (UpFits DownFits : ItemOut → Type 0) (HallFits : ℕ → Hall ItemOut
     done_is =
         ap (λ o. at_piece written_item (number_at place) piece o (begun w.moment w.server.hall [])) reader
         ∙ piece_is (number_at place) piece f h.now h.first taken (begun w.moment w.server.hall []) (step_of ticked.server) h.run_is h.no_fault h.read
-          (ap (λ x. record { hall = x; outs = [] }) (ap₂ at_moment same_moment i.hall ∙ moment_turned written_item (v.moment + 0) v.server))
+        (ap (λ x. record { hall = x; outs = [] }) (ap₂ at_moment same_moment i.hall ∙ moment_turned written_item (v.moment + 0) v.server))
 
     abbrev framers_now : List (ℕ × State)
     framers_now = set_value (is_number (number_at place)) w.server.framers h.now
@@ -274,7 +273,7 @@ module _ (UpFits DownFits : ItemOut → Type 0) (HallFits : ℕ → Hall ItemOut
             | over o ↦ absurd (true≢false (sym (ap (λ m. m == 0) (no_amount count b.up o.no_bytes)) ∙ few))
             | standing f reader st ↦
                 let h = wire_up UpFits DownFits cores.up_limits cores.down_limits f (framer_here place (slice_get w.devices b.device)) (writer_at (number_at place) v.server) b p n st
-                      (subst (λ r. WireImage UpFits DownFits r (framer_here place (slice_get w.devices b.device)) (writer_at (number_at place) v.server) b p) reader x) in
+                (subst (λ r. WireImage UpFits DownFits r (framer_here place (slice_get w.devices b.device)) (writer_at (number_at place) v.server) b p) reader x) in
                 record {
                   moves = items.Tick 0 ∷ ups place (length (take h.count p.up.items));
                   is_served = inr (length (take h.count p.up.items), refl);

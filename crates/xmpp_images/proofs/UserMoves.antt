@@ -1,12 +1,12 @@
 -- What the user of a device does.
-use Rattle.std.proofs.Common.{◌≡◌, ◌≢◌, ℕ, zero, suc, ◌+◌, ◌<◌, ◌≤◌, ◌==◌, Bool, true, false, true≢false, cond, List, [], ◌∷◌, ◌++◌, Option, Some, None, Result, Ok, Err, IsTrue, is_ok, nat_le, flat_map, length, refl, sym, ap, ap₂, subst, ◌∙◌, inl, inr, append-nil, arith}
-use Rattle.std.proofs.lemmas.Bool.{cases_eq, eq-eqb, eqb-true}
+use Rattle.std.proofs.Common.{◌≡◌, ◌≢◌, ℕ, zero, suc, ◌≤◌, ◌==◌, Bool, true, false, cond, List, [], ◌∷◌, ◌++◌, Option, Some, None, Result, Ok, Err, IsTrue, is_ok, nat_le, flat_map, length, refl, sym, ap, ap₂, subst, ◌∙◌, inl, inr, append-nil}
+use Rattle.std.proofs.lemmas.Bool.{cases_eq, eqb-true}
 use Rattle.std.specs.List.{AllByRecursion, slice_get, slice_set}
 use Rattle.std.proofs.lemmas.List.{length-map}
 use Rattle.std.specs.Option.{is_some, option_map}
 use Rattle.xmpp_client.specs.Feeds.{Fed}
 use Rattle.xmpp_client.specs.Values.{ClientValue}
-use Rattle.xmpp_client.specs.UserCalls.{catch_up_answer, catch_up_in, outbox_bound, catches_up, catches_up_in, closes, forgets, say_answer, says, submission_of, submits}
+use Rattle.xmpp_client.specs.UserCalls.{catch_up_answer, catch_up_in, outbox_bound, catches_up, catches_up_in, forgets, say_answer, says, submission_of, submits}
 use Rattle.xmpp_client.specs.declared.faults.CatchUpStart.{CatchUpStart}
 use Rattle.xmpp_client.specs.declared.faults.CatchUpStart.TheVariants as start
 use Rattle.xmpp_client.specs.declared.faults.SayFault.{SayFault}
@@ -29,7 +29,7 @@ use Rattle.xmpp_framing.specs.declared.states.Phase.TheVariants as phase
 use Rattle.xmpp_images.proofs.Beginnings.{begins_where, closed_begun, entered_begun}
 use Rattle.xmpp_images.proofs.ItemsServed.{changed_none}
 use Rattle.xmpp_images.proofs.Lookups.{get_changed_other, get_changed_same, length_changed, set_changes}
-use Rattle.xmpp_images.proofs.NetworkMoves.{both_changed, both_weaker, found_both}
+use Rattle.xmpp_images.proofs.NetworkMoves.{both_changed, both_weaker}
 use Rattle.xmpp_images.proofs.WireSteps.{wire_left, wire_put_up}
 use Rattle.xmpp_images.specs.Cores.{CoresFit, TurnFits, writer_at}
 use Rattle.xmpp_images.specs.WireImages.{WireImage}
@@ -45,7 +45,7 @@ use Rattle.xmpp_server.specs.Events.{framer_at}
 use Rattle.xmpp_wires.specs.Places.{changed_at, changed_where}
 use Rattle.xmpp_wires.specs.Wires.{left, put_up}
 use Rattle.xmpp_wires.specs.declared.wire.Wire.{Wire}
-use Rattle.xmpp_world.specs.Moves.{CatchUp, Close, Forget, Say, caught_up_by, closed_by, forgot_by, moved, said_by, spoke}
+use Rattle.xmpp_world.specs.Moves.{CatchUp, Forget, Say, caught_up_by, forgot_by, said_by, spoke}
 use Rattle.xmpp_world.specs.Worlds.{World, number_at}
 use Rattle.xmpp_writer.specs.Items.{ItemOut, written_item}
 use Rattle.xmpp_written.specs.Puts.{phase_behind}

@@ -1,5 +1,5 @@
 -- What each operation on a connection makes of the image that it is of a connection of items.
-use Rattle.std.proofs.Common.{◌≡◌, ℕ, zero, suc, ◌<◌, ◌^◌, Bool, true, false, List, [], ◌∷◌, ◌++◌, Option, Some, None, take, drop, refl, sym, ap, subst, ◌∙◌, flat_map, cond, arith}
+use Rattle.std.proofs.Common.{◌≡◌, ℕ, zero, suc, Bool, true, false, List, [], ◌∷◌, ◌++◌, Option, Some, None, take, drop, refl, sym, ◌∙◌, flat_map, cond, arith}
 use Rattle.std.specs.List.{AllByRecursion}
 use Rattle.xmpp_framing.specs.Limits.{client_limits, server_limits}
 use Rattle.xmpp_framing.specs.Machine.{run}
@@ -8,12 +8,12 @@ use Rattle.xmpp_framing.specs.declared.items.Item.{Item}
 use Rattle.xmpp_framing.specs.declared.states.Phase.{Phase}
 use Rattle.xmpp_framing.specs.declared.states.Phase.TheVariants as phase
 use Rattle.xmpp_images.proofs.PipeSteps.{closed_image, cut_image, due_told_image, ended_image, fresh_image, handed_image, is_due, over_image}
-use Rattle.xmpp_images.proofs.PutSteps.{ended_entered, items_ended_entered, put_image, puts_image, puts_last}
-use Rattle.xmpp_images.specs.PipeImages.{AreRead, IsCarried, IsHanded, PipeImage, Standing, dropped, over, standing}
+use Rattle.xmpp_images.proofs.PutSteps.{ended_entered, put_image, puts_image, puts_last}
+use Rattle.xmpp_images.specs.PipeImages.{AreRead, Standing, dropped}
 use Rattle.xmpp_images.specs.WireImages.{WireImage}
 use Rattle.xmpp_item_worlds.specs.ItemPipes as items
 use Rattle.xmpp_item_worlds.specs.ItemPipes.{ItemPipe, ItemWire}
-use Rattle.xmpp_pipes.specs.Pipes.{Pipe, entered, is_end_due}
+use Rattle.xmpp_pipes.specs.Pipes.{entered, is_end_due}
 use Rattle.xmpp_wires.specs.Wires.{cut_at, down_end_told, fresh_wire, handed_down, handed_up, left, put_down, put_up, shut, up_end_told}
 use Rattle.xmpp_wires.specs.declared.wire.Wire.{Wire}
 use Rattle.xmpp_writer.specs.Items.{Closing, ItemOut, Opening, written_item}

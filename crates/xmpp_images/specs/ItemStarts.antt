@@ -1,5 +1,5 @@
 -- The world of items in which a wire schedule begins.
-use Rattle.std.specs.Prelude.{ℕ, List, [], None, map}
+use Rattle.std.specs.Prelude.{ℕ, [], None, map}
 use Rattle.std.specs.List.{AllByRecursion}
 use Rattle.xmpp_client.specs.Making.{account_of}
 use Rattle.xmpp_client_laws.specs.Calls.{first_client}

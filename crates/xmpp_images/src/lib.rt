@@ -5,5 +5,6 @@
 mod laws;
 
 pub use laws::{
-    a_move_is_moves_of_items, histories_are_those_of_items, no_bytes_are_no_items, pipes_of_bytes_carry_items,
+    a_move_is_moves_of_items, histories_are_those_of_items, no_bytes_are_no_items,
+    pipes_of_bytes_carry_items,
 };
