@@ -21,3 +21,6 @@ pub mod Dialing
 pub mod ItemsHeard
 pub mod DownMoves
 pub mod Moves
+-- the order of a stream
+pub mod ConnsKept
+pub mod StepsInOrder

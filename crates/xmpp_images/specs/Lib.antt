@@ -7,3 +7,4 @@ pub mod Cores
 -- machine: the moves of items that a move of bytes is, and the first world
 pub mod ItemRuns
 pub mod ItemStarts
+pub mod Stands
