@@ -24,3 +24,5 @@ pub mod Moves
 -- the order of a stream
 pub mod ConnsKept
 pub mod StepsInOrder
+pub mod QuietRows
+pub mod RowsInOrder
