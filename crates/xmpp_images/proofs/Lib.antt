@@ -23,6 +23,8 @@ pub mod DownMoves
 pub mod Moves
 -- the order of a stream
 pub mod ConnsKept
+pub mod AloneKept
 pub mod StepsInOrder
 pub mod QuietRows
 pub mod RowsInOrder
+pub mod ServersInOrder

@@ -27,6 +27,7 @@ use Rattle.xmpp_framing.specs.declared.items.Item.{Item}
 use Rattle.xmpp_framing.specs.declared.items.Item.TheVariants as item
 use Rattle.xmpp_framing.specs.declared.states.Phase.{Phase}
 use Rattle.xmpp_framing.specs.declared.states.Phase.TheVariants as phase
+use Rattle.xmpp_images.proofs.AloneKept.{all_apart}
 use Rattle.xmpp_images.proofs.ConnsKept.{all_found}
 use Rattle.xmpp_images.proofs.Lookups.{found_behind_removal}
 use Rattle.xmpp_images.proofs.QuietRows.{counted_q}
@@ -84,6 +85,12 @@ some_is x y e = cc
 
 none_is_not : {T : Type 0} (x : T) → None ≡ Some x → ⊥
 none_is_not x e = cc
+
+-- what may come before the first header
+abbrev pub IsHeader : Item → Type 0
+IsHeader (item.Header at h) = Unit {0}
+IsHeader (item.Element e) = ⊥
+IsHeader item.Footer = ⊥
 
 module _ (n : ℕ) (start : ℕ → Option Phase) (k : ℕ) where
   -- the connection of the row is behind its header
@@ -143,14 +150,6 @@ module _ (n : ℕ) (start : ℕ → Option Phase) (k : ℕ) where
   refusing_calm : (x : Condition) (s : Step ItemOut) → On s → Calm n start s → Goes (refusing itself k x) s
   refusing_calm x s on c = put_word n start s k (refused_item x) on refl c
 
-  all_apart : (q : Session ItemOut → Bool) (l : List (Session ItemOut)) → find q l ≡ None → AllByRecursion (λ u. q u ≡ false) l
-  all_apart q [] none = tt
-  all_apart q (x ∷ l) none = by (all_apart q l) (q x) refl none
-    where
-      by : (find q l ≡ None → AllByRecursion (λ u. q u ≡ false) l) → (b : Bool) → q x ≡ b → cond b (Some x) (find q l) ≡ None → AllByRecursion (λ u. q u ≡ false) (x ∷ l)
-      by rest true e none = absurd (none_is_not x (sym none))
-      by rest false e none = (e, rest none)
-
   -- another connection on which a session is
   record IsFormer (s : Step ItemOut) (j : ℕ) : Type 0 where
     on : writer_in j s.hall.conns ≡ Some phase.Between
@@ -182,7 +181,7 @@ module _ (n : ℕ) (start : ℕ → Option Phase) (k : ℕ) where
   binding_calm account id None s none on c = put_word n start s k (iq_error_item (record { from = None; to = None; id = id }) bad_request) on refl c
   binding_calm account id (Some resource) s none on c =
       bound_calm (act itself (steps.Bind account resource k) s) (former_of (option_map ended_of (session_named account resource s.hall.sessions))) _ (λ j e. same j (by (session_named account resource s.hall.sessions) refl j e)) refl on
-      (bind_calm n start s account resource k on c)
+      (bind_calm n start s account resource k on (all_apart (is_at k) s.hall.sessions none) c)
     where
       same : (j : ℕ) → IsFormer s j → IsFormer (act itself (steps.Bind account resource k) s) j
       same j f = record { on = f.on; apart = f.apart }
@@ -195,7 +194,7 @@ module _ (n : ℕ) (start : ℕ → Option Phase) (k : ℕ) where
 
   asking_calm : (m : ℕ) (due : Bool) (s : Step ItemOut) → On s → Calm n start s → Goes (asking itself k m due) s
   asking_calm m false s on c = c
-  asking_calm m true s on c = put_word n start (in_sessions (with_session m (asks true)) s) k request_item on refl (session_changed n start s m (asks true) (λ t x. record { on = x.on; words = x.words }) c)
+  asking_calm m true s on c = put_word n start (in_sessions (with_session m (asks true)) s) k request_item on refl (session_changed n start s m (asks true) (λ t x. record { on = x.on; words = x.words }) (λ t. (refl, refl)) c)
 
   saying_calm : (waiting : List ItemOut) (m : ℕ) (due : Bool) (s : Step ItemOut) → AllByRecursion IsNoFooter waiting → On s → Calm n start s → Goes (saying k waiting (asking itself k m due)) s
   saying_calm [] m due s words on c = asking_calm m due s on c
@@ -221,10 +220,10 @@ module _ (n : ℕ) (start : ℕ → Option Phase) (k : ℕ) where
       former j e = former_is s c none (is_resumed_by previd account) u found j e
 
       one : Calm n start (act itself (steps.Resume previd account h k) s)
-      one = resume_calm n start s previd account h k on c
+      one = resume_calm n start s previd account h k on (all_apart (is_at k) s.hall.sessions none) c
 
       two : Calm n start (in_sessions (with_session u.shown.number (asks false)) (act itself (steps.Resume previd account h k) s))
-      two = session_changed n start (act itself (steps.Resume previd account h k) s) u.shown.number (asks false) (λ t x. record { on = x.on; words = x.words }) one
+      two = session_changed n start (act itself (steps.Resume previd account h k) s) u.shown.number (asks false) (λ t x. record { on = x.on; words = x.words }) (λ t. (refl, refl)) one
 
       words : AllByRecursion IsNoFooter (resent h u)
       words = all_dropped IsNoFooter (ahead h u.acked) u.waiting (all_found (SessionStands s.hall.conns) (is_resumed_by previd account) s.hall.sessions u c.stands.sessions found).words
@@ -325,12 +324,6 @@ module _ (n : ℕ) (start : ℕ → Option Phase) (k : ℕ) where
       → Goes (answering_header itself k (record { stage = stage.Start; tries = left; entropy = entropy }) a s.hall) s
   first_calm left entropy Opens s x found first c = opens_first n start s k _ login_features_item (in_phase conn.Login) x found first refl refl c
   first_calm left entropy (Refused why) s x found first c = ends_first n start s k _ (header_condition why) (ap (option_map writer_of) found ∙ ap Some first) c
-
-  -- what may come before the first header
-  abbrev pub IsHeader : Item → Type 0
-  IsHeader (item.Header at h) = Unit {0}
-  IsHeader (item.Element e) = ⊥
-  IsHeader item.Footer = ⊥
 
   pub row_calm : (i : Item) (p : ConnPhase) (left : Tries) (entropy : List ℕ) (s : Step ItemOut) (x : Connection) → lookup (is_number k) s.hall.conns ≡ Some x → writer_of x ≡ phase_of p → (Some (phase_of p) ≡ Some phase.First → IsHeader i) → Calm n start s
       → Goes (at_item itself k i (record { stage = stage_of p; tries = left; entropy = entropy }) s.hall) s

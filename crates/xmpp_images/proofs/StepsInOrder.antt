@@ -14,12 +14,13 @@ use Rattle.xmpp_desk.specs.declared.connection.Connection.{Connection}
 use Rattle.xmpp_desk.specs.declared.connection.Phase.{Phase as ConnPhase}
 use Rattle.xmpp_framing.specs.declared.states.Phase.{Phase}
 use Rattle.xmpp_framing.specs.declared.states.Phase.TheVariants as phase
+use Rattle.xmpp_images.proofs.AloneKept.{Keeps, NoneAt, alone_changed, alone_filtered, alone_joined, alone_resumed}
 use Rattle.xmpp_images.proofs.ConnsKept.{all_filtered, all_found, differ_removed, differ_set, few_removed, few_set, not_itself, removed_none}
 use Rattle.xmpp_images.proofs.ItemsServed.{order_joined}
 use Rattle.xmpp_images.proofs.Lookups.{found_behind_other_value, found_behind_removal, found_behind_value, number_is, other_number, self_is}
 use Rattle.xmpp_images.proofs.WireSteps.{all_dropped, all_joined, all_mapped}
 use Rattle.xmpp_images.specs.Cores.{AreInOrder, IsInOrder, IsNoFooter, behind_put, behind_shut, phase_of, writer_of}
-use Rattle.xmpp_images.specs.Stands.{Any, Conns, Differ, HallStands, IsBehind, SessionStands, writer_in}
+use Rattle.xmpp_images.specs.Stands.{Any, Conns, Differ, HallStands, IsBehind, SessionStands, Alone, writer_in}
 use Rattle.xmpp_item_worlds.specs.ItemWorlds.{itself}
 use Rattle.xmpp_live.specs.Sessions.{Session, acknowledged, after_resume, asks, bound, fresh, is_at, is_numbered, is_too_high, less, resumes, session_named, session_of, session_resumed, told, told_of, waits, with_session, without, without_at}
 use Rattle.xmpp_live.specs.declared.told.Told.{Told}
@@ -77,6 +78,7 @@ module _ (n : ℕ) (start : ℕ → Option Phase) where
     differ = differ_removed k h.conns c.differ;
     few = few_removed n k h.conns c.few;
     sessions = all_filtered (SessionStands h.conns) (SessionStands (remove_entry (is_number k) h.conns)) (λ t. not (is_at k t)) h.sessions (λ t x e. record { on = behind_other k h.conns t.shown.conn x.on e; words = x.words }) c.sessions;
+    alone = alone_filtered (λ t. not (is_at k t)) h.sessions c.alone;
   }
 
   -- where the writer stands behind a removal
@@ -137,7 +139,7 @@ module _ (n : ℕ) (start : ℕ → Option Phase) where
   new_conns : (s : Step ItemOut) (conns : Conns) → Differ conns → AllByRecursion (λ (e : ℕ × Connection). e.0 ≤ n) conns → ((j : ℕ) → writer_in j conns ≡ writer_in j s.hall.conns) → Calm n start s → Calm n start (record s { hall = record s.hall { conns = conns } })
   new_conns s conns d few same c = record {
     order = λ j. subst (AreInOrder Any j (start j) s.outs) (sym (same j)) (c.order j);
-    stands = record { differ = d; few = few; sessions = all_mapped (SessionStands s.hall.conns) (SessionStands conns) (λ t x. record { on = on t.shown.conn x.on; words = x.words }) s.hall.sessions c.stands.sessions };
+    stands = record { differ = d; few = few; sessions = all_mapped (SessionStands s.hall.conns) (SessionStands conns) (λ t x. record { on = on t.shown.conn x.on; words = x.words }) s.hall.sessions c.stands.sessions; alone = c.stands.alone };
   }
     where
       on : (o : Option ℕ) → IsBehind s.hall.conns o → IsBehind conns o
@@ -173,6 +175,7 @@ module _ (n : ℕ) (start : ℕ → Option Phase) where
           differ = differ_set k (f x) s.hall.conns c.stands.differ;
           few = few_set n k (f x) s.hall.conns c.stands.few;
           sessions = all_mapped (SessionStands s.hall.conns) (SessionStands (set_value (is_number k) s.hall.conns (f x))) (λ t y. record { on = behind_still t.shown.conn y.on; words = y.words }) s.hall.sessions c.stands.sessions;
+          alone = c.stands.alone;
         };
       })
     where
@@ -192,8 +195,8 @@ module _ (n : ℕ) (start : ℕ → Option Phase) where
 
   -- ---- sessions
 
-  pub new_sessions : (s : Step ItemOut) (sessions : List (Session ItemOut)) → AllByRecursion (SessionStands s.hall.conns) sessions → Calm n start s → Calm n start (record s { hall = with_sessions sessions s.hall })
-  new_sessions s sessions all c = record { order = c.order; stands = record { differ = c.stands.differ; few = c.stands.few; sessions = all } }
+  pub new_sessions : (s : Step ItemOut) (sessions : List (Session ItemOut)) → AllByRecursion (SessionStands s.hall.conns) sessions → Alone sessions → Calm n start s → Calm n start (record s { hall = with_sessions sessions s.hall })
+  new_sessions s sessions all alone c = record { order = c.order; stands = record { differ = c.stands.differ; few = c.stands.few; sessions = all; alone = alone } }
 
   all_changed : (conns : Conns) (m : ℕ) (f : Session ItemOut → Session ItemOut) (l : List (Session ItemOut)) → ((t : Session ItemOut) → SessionStands conns t → SessionStands conns (f t)) → AllByRecursion (SessionStands conns) l → AllByRecursion (SessionStands conns) (with_session m f l)
   all_changed conns m f [] keeps all = tt
@@ -203,8 +206,8 @@ module _ (n : ℕ) (start : ℕ → Option Phase) where
       by true = keeps t all.0
       by false = all.0
 
-  pub session_changed : (s : Step ItemOut) (m : ℕ) (f : Session ItemOut → Session ItemOut) → ((t : Session ItemOut) → SessionStands s.hall.conns t → SessionStands s.hall.conns (f t)) → Calm n start s → Calm n start (in_sessions (with_session m f) s)
-  session_changed s m f keeps c = new_sessions s (with_session m f s.hall.sessions) (all_changed s.hall.conns m f s.hall.sessions keeps c.stands.sessions) c
+  pub session_changed : (s : Step ItemOut) (m : ℕ) (f : Session ItemOut → Session ItemOut) → ((t : Session ItemOut) → SessionStands s.hall.conns t → SessionStands s.hall.conns (f t)) → Keeps f → Calm n start s → Calm n start (in_sessions (with_session m f) s)
+  session_changed s m f keeps same c = new_sessions s (with_session m f s.hall.sessions) (all_changed s.hall.conns m f s.hall.sessions keeps c.stands.sessions) (alone_changed m f same s.hall.sessions c.stands.alone) c
 
   all_without : (conns : Conns) (m : ℕ) (l : List (Session ItemOut)) → AllByRecursion (SessionStands conns) l → AllByRecursion (SessionStands conns) (without m l)
   all_without conns m l all = all_filtered (SessionStands conns) (SessionStands conns) (λ t. not (t.shown.number == m)) l (λ t x e. x) all
@@ -221,7 +224,7 @@ module _ (n : ℕ) (start : ℕ → Option Phase) where
   ask_calm : (s : Step ItemOut) (m : ℕ) (o : Option ℕ) (due : Bool) → IsBehind s.hall.conns o → Calm n start s → Calm n start (ask_where itself m o due s)
   ask_calm s m o false on c = c
   ask_calm s m None true on c = c
-  ask_calm s m (Some k) true on c = put_word (in_sessions (with_session m (asks true)) s) k request_item on refl (session_changed s m (asks true) (λ t x. record { on = x.on; words = x.words }) c)
+  ask_calm s m (Some k) true on c = put_word (in_sessions (with_session m (asks true)) s) k request_item on refl (session_changed s m (asks true) (λ t x. record { on = x.on; words = x.words }) (λ t. (refl, refl)) c)
 
   put_where_conns : (o : Option ℕ) (a : ItemOut) (s : Step ItemOut) → (put_where o a s).hall.conns ≡ s.hall.conns
   put_where_conns None a s = refl
@@ -230,7 +233,7 @@ module _ (n : ℕ) (start : ℕ → Option Phase) where
   queue_calm : (s : Step ItemOut) (m : ℕ) (a : ItemOut) (t : Told) → IsBehind s.hall.conns t.conn → IsNoFooter a → Calm n start s → Calm n start (queue itself m a t s)
   queue_calm s m a t on word c =
       let waiting = in_sessions (with_session m (waits a)) s in
-      let one = session_changed s m (waits a) (λ u x. record { on = x.on; words = all_joined IsNoFooter u.waiting (a ∷ []) x.words (word, tt) }) c in
+      let one = session_changed s m (waits a) (λ u x. record { on = x.on; words = all_joined IsNoFooter u.waiting (a ∷ []) x.words (word, tt) }) (λ u. (refl, refl)) c in
       ask_calm (put_where t.conn a waiting) m t.conn (is_due t) (subst (λ conns. IsBehind conns t.conn) (sym (put_where_conns t.conn a waiting)) on) (put_where_word waiting t.conn a on word one)
 
   send_told_calm : (s : Step ItemOut) (m : ℕ) (a : ItemOut) (o : Option Told) → ((t : Told) → o ≡ Some t → IsBehind s.hall.conns t.conn) → IsNoFooter a → Calm n start s → Calm n start (send_told itself m a o s)
@@ -238,7 +241,7 @@ module _ (n : ℕ) (start : ℕ → Option Phase) where
   send_told_calm s m a (Some t) on word c = uncounted t.counted
     where
       full : (b : Bool) → Calm n start (cond b (overflow itself m t s) (queue itself m a t s))
-      full true = part_where_calm (in_sessions (without m) s) t.conn (error_item ResourceConstraint) (on t refl) refl (new_sessions s (without m s.hall.sessions) (all_without s.hall.conns m s.hall.sessions c.stands.sessions) c)
+      full true = part_where_calm (in_sessions (without m) s) t.conn (error_item ResourceConstraint) (on t refl) refl (new_sessions s (without m s.hall.sessions) (all_without s.hall.conns m s.hall.sessions c.stands.sessions) (alone_filtered (λ u. not (u.shown.number == m)) s.hall.sessions c.stands.alone) c)
       full false = queue_calm s m a t (on t refl) word c
 
       uncounted : (b : Bool) → Calm n start (cond (not b) (put_where t.conn a s) (cond (t.waiting == MOST_UNACKNOWLEDGED) (overflow itself m t s) (queue itself m a t s)))
@@ -254,14 +257,15 @@ module _ (n : ℕ) (start : ℕ → Option Phase) where
   all_less conns None l all = all
   all_less conns (Some t) l all = all_without conns t.shown.number l all
 
-  pub bind_calm : (s : Step ItemOut) (account : ℕ) (resource : List ℕ) (k : ℕ) → writer_in k s.hall.conns ≡ Some phase.Between → Calm n start s → Calm n start (act itself (steps.Bind account resource k) s)
-  bind_calm s account resource k on c = record {
+  pub bind_calm : (s : Step ItemOut) (account : ℕ) (resource : List ℕ) (k : ℕ) → writer_in k s.hall.conns ≡ Some phase.Between → NoneAt k s.hall.sessions → Calm n start s → Calm n start (act itself (steps.Bind account resource k) s)
+  bind_calm s account resource k on none c = record {
     order = c.order;
     stands = record {
       differ = c.stands.differ;
       few = c.stands.few;
       sessions = all_joined (SessionStands s.hall.conns) (less (session_named account resource s.hall.sessions) s.hall.sessions) (fresh s.hall.next account resource k ∷ [])
           (all_less s.hall.conns (session_named account resource s.hall.sessions) s.hall.sessions c.stands.sessions) (record { on = on; words = tt }, tt);
+      alone = alone_joined k (session_named account resource s.hall.sessions) (fresh s.hall.next account resource k) s.hall.sessions refl none c.stands.alone;
     };
   }
 
@@ -273,8 +277,8 @@ module _ (n : ℕ) (start : ℕ → Option Phase) where
       by true = all_without conns t.shown.number l all
       by false = all_changed conns t.shown.number (resumes h k) l (λ u x. record { on = on; words = all_dropped IsNoFooter (ahead h u.acked) u.waiting x.words }) all
 
-  pub resume_calm : (s : Step ItemOut) (previd : List ℕ) (account h k : ℕ) → writer_in k s.hall.conns ≡ Some phase.Between → Calm n start s → Calm n start (act itself (steps.Resume previd account h k) s)
-  resume_calm s previd account h k on c = new_sessions s (after_resume h k (session_resumed previd account s.hall.sessions) s.hall.sessions) (all_resumed s.hall.conns h k (session_resumed previd account s.hall.sessions) s.hall.sessions on c.stands.sessions) c
+  pub resume_calm : (s : Step ItemOut) (previd : List ℕ) (account h k : ℕ) → writer_in k s.hall.conns ≡ Some phase.Between → NoneAt k s.hall.sessions → Calm n start s → Calm n start (act itself (steps.Resume previd account h k) s)
+  resume_calm s previd account h k on none c = new_sessions s (after_resume h k (session_resumed previd account s.hall.sessions) s.hall.sessions) (all_resumed s.hall.conns h k (session_resumed previd account s.hall.sessions) s.hall.sessions on c.stands.sessions) (alone_resumed h k (session_resumed previd account s.hall.sessions) s.hall.sessions none c.stands.alone) c
 
   -- ---- steps that touch no connection
 
@@ -290,7 +294,7 @@ module _ (n : ℕ) (start : ℕ → Option Phase) where
 
   archived_calm : (s : Step ItemOut) (e : EntryView) (account : ℕ) (o : Option Kept) → Calm n start s → Calm n start (record s { hall = archived_in e account o s.hall })
   archived_calm s e account None c = c
-  archived_calm s e account (Some kept) c = record { order = c.order; stands = record { differ = c.stands.differ; few = c.stands.few; sessions = c.stands.sessions } }
+  archived_calm s e account (Some kept) c = record { order = c.order; stands = record { differ = c.stands.differ; few = c.stands.few; sessions = c.stands.sessions; alone = c.stands.alone } }
 
   quiet_act : (s : Step ItemOut) (a : Act ItemOut) → IsQuiet a → Calm n start s → Calm n start (act itself a s)
   quiet_act s (steps.Send m a) word c = send_calm s m a word c
@@ -300,12 +304,12 @@ module _ (n : ℕ) (start : ℕ → Option Phase) where
   quiet_act s (steps.Fail k left) word c = absurd word
   quiet_act s (steps.Bind account resource k) word c = absurd word
   quiet_act s (steps.Resume previd account h k) word c = absurd word
-  quiet_act s (steps.Enable m resume) word c = session_changed s m _ (λ t x. record { on = x.on; words = x.words }) c
-  quiet_act s (steps.Acknowledge m h) word c = session_changed s m (acknowledged h) (λ t x. record { on = x.on; words = all_dropped IsNoFooter (ahead h t.acked) t.waiting x.words }) c
-  quiet_act s (steps.Ask m on) word c = session_changed s m (asks on) (λ t x. record { on = x.on; words = x.words }) c
-  quiet_act s (steps.Handle m) word c = session_changed s m _ (λ t x. record { on = x.on; words = x.words }) c
-  quiet_act s (steps.Present m available priority) word c = session_changed s m _ (λ t x. record { on = x.on; words = x.words }) c
-  quiet_act s (steps.Copy m on) word c = session_changed s m _ (λ t x. record { on = x.on; words = x.words }) c
+  quiet_act s (steps.Enable m resume) word c = session_changed s m _ (λ t x. record { on = x.on; words = x.words }) (λ t. (refl, refl)) c
+  quiet_act s (steps.Acknowledge m h) word c = session_changed s m (acknowledged h) (λ t x. record { on = x.on; words = all_dropped IsNoFooter (ahead h t.acked) t.waiting x.words }) (λ t. (refl, refl)) c
+  quiet_act s (steps.Ask m on) word c = session_changed s m (asks on) (λ t x. record { on = x.on; words = x.words }) (λ t. (refl, refl)) c
+  quiet_act s (steps.Handle m) word c = session_changed s m _ (λ t x. record { on = x.on; words = x.words }) (λ t. (refl, refl)) c
+  quiet_act s (steps.Present m available priority) word c = session_changed s m _ (λ t x. record { on = x.on; words = x.words }) (λ t. (refl, refl)) c
+  quiet_act s (steps.Copy m on) word c = session_changed s m _ (λ t x. record { on = x.on; words = x.words }) (λ t. (refl, refl)) c
   quiet_act s (steps.Archive account e) word c = archived_calm s e account (archive_at account s.hall) c
   quiet_act s (steps.Tell from to origin) word c = record { order = λ j. order_joined Any j (start j) (writer_in j s.hall.conns) (writer_in j s.hall.conns) s.outs (Took from to origin ∷ []) (c.order j) refl; stands = c.stands }
 

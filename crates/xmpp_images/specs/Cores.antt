@@ -128,6 +128,3 @@ pub record CoresFit (UpFits DownFits : ItemOut → Type 0) (HallFits : ℕ → H
 -- the things that something is shown as: a family as the law has it
 abbrev pub Among : {A B : Type 0} → (A → B) → B → Type 0
 Among {A = A} shown b = (a : A) × (shown a ≡ b)
-
-abbrev pub AmongHalls : {A : Type 0} → (A → ℕ × Hall ItemOut) → ℕ → Hall ItemOut → Type 0
-AmongHalls {A = A} shown n h = (a : A) × ((shown a).0 ≡ n) × ((shown a).1 ≡ h)

@@ -8,3 +8,4 @@ pub mod Cores
 pub mod ItemRuns
 pub mod ItemStarts
 pub mod Stands
+pub mod Owed

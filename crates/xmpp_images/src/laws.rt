@@ -7,9 +7,11 @@ ghost use Rattle.xmpp_framing.specs.States.{State, from_start};
 ghost use Rattle.xmpp_framing.specs.declared.limits.Limits.{Limits};
 ghost use Rattle.xmpp_framing.specs.declared.states.Phase.{Phase};
 ghost use Rattle.xmpp_framing.specs.declared.states.Phase.TheVariants as phase;
-ghost use Rattle.xmpp_images.specs.Cores.{Among, AmongHalls, CoresFit};
+ghost use Rattle.xmpp_images.specs.Cores.{Among};
+ghost use Rattle.xmpp_images.specs.Owed.{CoresKeep, StartKeeps};
+ghost use Rattle.xmpp_images.specs.Stands.{StandingHalls};
 ghost use Rattle.xmpp_images.specs.ItemRuns.{MayMove};
-ghost use Rattle.xmpp_images.specs.ItemStarts.{StartFits, items_at_start};
+ghost use Rattle.xmpp_images.specs.ItemStarts.{items_at_start};
 ghost use Rattle.xmpp_images.specs.PipeImages.{IsCut, IsHanded, PipeImage, Standing};
 ghost use Rattle.xmpp_images.specs.WorldImages.{IsMoved, IsReached, WorldImage};
 ghost use Rattle.xmpp_item_worlds.specs.ItemPipes.{ItemPipe, ItemWire};
@@ -47,24 +49,25 @@ pub fn pipes_of_bytes_carry_items()
 /// A law: a move of bytes is some moves of items, with the same server and the same clients but for how what waits is
 /// written: where a world of bytes is the image of a world of items, it is so behind them. `IsRunOf` says which.
 ///
-/// A premise is what the cores owe: that what they put fits into the limits of who reads it, and comes in the order of a
-/// stream (`CoresFit`), for some things, halls and clients that are among those of four families.
+/// A premise is what the cores owe: that what they put fits into the limits of who reads it (`CoresKeep`), for some
+/// things, halls and clients that are among those of four families. That the server puts it in the order of a stream is
+/// shown (`HallStands`).
 pub fn a_move_is_moves_of_items<U, D, H, C>()
-    ensures { (up : U → ItemOut) (down : D → ItemOut) (hall : H → ℕ × Hall ItemOut) (client : C → ClientView ItemOut) → CoresFit (Among up) (Among down) (AmongHalls hall) (Among client) → (m : Move) (w : World) (v : ItemWorld) → MayMove m
-        → WorldImage (Among up) (Among down) (AmongHalls hall) (Among client) w v → IsMoved (Among up) (Among down) (AmongHalls hall) (Among client) m w v }
+    ensures { (up : U → ItemOut) (down : D → ItemOut) (hall : H → Hall ItemOut) (client : C → ClientView ItemOut) → CoresKeep (Among up) (Among down) (Among hall) (Among client) → (m : Move) (w : World) (v : ItemWorld) → MayMove m
+        → WorldImage (Among up) (Among down) (StandingHalls (Among hall)) (Among client) w v → IsMoved (Among up) (Among down) (StandingHalls (Among hall)) (Among client) m w v }
 {}
 
 /// A law: each world of a wire schedule's history is the image of a world of items that moves of items lead to from the
 /// first one, in which the same accounts and devices are. With the same premise, of which the first world is part.
 pub fn histories_are_those_of_items<U, D, H, C>()
-    ensures { (up : U → ItemOut) (down : D → ItemOut) (hall : H → ℕ × Hall ItemOut) (client : C → ClientView ItemOut) → CoresFit (Among up) (Among down) (AmongHalls hall) (Among client) → (schedule : WireView) → IsWireSchedule schedule
-        → StartFits (AmongHalls hall) (Among client) schedule → AllByRecursion (IsReached (Among up) (Among down) (AmongHalls hall) (Among client) (items_at_start schedule)) (history_of schedule) }
+    ensures { (up : U → ItemOut) (down : D → ItemOut) (hall : H → Hall ItemOut) (client : C → ClientView ItemOut) → CoresKeep (Among up) (Among down) (Among hall) (Among client) → (schedule : WireView) → IsWireSchedule schedule
+        → StartKeeps (Among hall) (Among client) schedule → AllByRecursion (IsReached (Among up) (Among down) (StandingHalls (Among hall)) (Among client) (items_at_start schedule)) (history_of schedule) }
 {}
 
 /// A law: where a connection is open and a pipe of it has no bytes, no item is under way there.
 pub fn no_bytes_are_no_items<U, D, H, C>()
-    ensures up { (up : U → ItemOut) (down : D → ItemOut) (hall : H → ℕ × Hall ItemOut) (client : C → ClientView ItemOut) (w : World) (v : ItemWorld) (place : ℕ) (b : Wire) (p : ItemWire) → WorldImage (Among up) (Among down) (AmongHalls hall) (Among client) w v
+    ensures up { (up : U → ItemOut) (down : D → ItemOut) (hall : H → Hall ItemOut) (client : C → ClientView ItemOut) (w : World) (v : ItemWorld) (place : ℕ) (b : Wire) (p : ItemWire) → WorldImage (Among up) (Among down) (StandingHalls (Among hall)) (Among client) w v
         → slice_get w.wires place ≡ Some b → slice_get v.wires place ≡ Some p → b.up.ended ≡ false → b.up.bytes ≡ [] → (p.up.ended ≡ false) × (p.up.items ≡ []) }
-    ensures down { (up : U → ItemOut) (down : D → ItemOut) (hall : H → ℕ × Hall ItemOut) (client : C → ClientView ItemOut) (w : World) (v : ItemWorld) (place : ℕ) (b : Wire) (p : ItemWire) → WorldImage (Among up) (Among down) (AmongHalls hall) (Among client) w v
+    ensures down { (up : U → ItemOut) (down : D → ItemOut) (hall : H → Hall ItemOut) (client : C → ClientView ItemOut) (w : World) (v : ItemWorld) (place : ℕ) (b : Wire) (p : ItemWire) → WorldImage (Among up) (Among down) (StandingHalls (Among hall)) (Among client) w v
         → slice_get w.wires place ≡ Some b → slice_get v.wires place ≡ Some p → b.down.ended ≡ false → b.down.bytes ≡ [] → (p.down.ended ≡ false) × (p.down.items ≡ []) }
 {}
