@@ -1,11 +1,10 @@
 -- A connection has one session at most.
-use Rattle.std.proofs.Common.{◌≡◌, ◌≢◌, ◌==◌, ℕ, Bool, true, false, cond, not, List, [], ◌∷◌, ◌++◌, Option, Some, None, refl, sym, ap, subst, ◌∙◌}
+use Rattle.std.proofs.Common.{◌≡◌, ◌==◌, ℕ, Bool, true, false, cond, not, List, [], ◌∷◌, ◌++◌, Option, Some, None, refl, sym, ap, ◌∙◌}
 use Rattle.std.proofs.lemmas.Bool.{eq-eqb, eqb-true}
 use Rattle.std.specs.List.{AllByRecursion, filter, find}
 use Rattle.xmpp_images.proofs.ConnsKept.{all_filtered}
-use Rattle.xmpp_images.proofs.WireSteps.{all_mapped}
 use Rattle.xmpp_images.specs.Stands.{Alone, Apart}
-use Rattle.xmpp_live.specs.Sessions.{Session, after_resume, is_at, is_too_high, less, resumes, session_at, with_session, without}
+use Rattle.xmpp_live.specs.Sessions.{Session, after_resume, is_at, is_too_high, less, resumes, with_session, without}
 use Rattle.xmpp_resume.specs.Rows.{is_some_number}
 use Rattle.xmpp_writer.specs.Items.{ItemOut}
 

@@ -4,14 +4,14 @@ use Rattle.std.specs.List.{AllByRecursion}
 use Rattle.xmpp_archive.specs.Entries.{EntryView, entry_numbered}
 use Rattle.xmpp_desk.specs.Handling.{counting}
 use Rattle.xmpp_desk.specs.State.{Hall, Kept, archive_at, bare_address, session_address}
-use Rattle.xmpp_desk.specs.Steps.{Act, Handle, Send}
+use Rattle.xmpp_desk.specs.Steps.{Act, Handle}
 use Rattle.xmpp_forwarding.specs.Passed.{addressed}
 use Rattle.xmpp_forwarding.specs.Results.{AskerView, fin_item}
 use Rattle.xmpp_images.proofs.StepsInOrder.{IsQuiet}
 use Rattle.xmpp_item_worlds.specs.ItemWorlds.{itself}
 use Rattle.xmpp_live.specs.Sessions.{number_of, told_of}
 use Rattle.xmpp_live.specs.declared.told.Told.{Told}
-use Rattle.xmpp_message_rows.specs.Messages.{archiving, at_message, carrying, copying, copying_to, delivering, delivering_to, is_full_in, messaging, no_room, bouncing, telling}
+use Rattle.xmpp_message_rows.specs.Messages.{archiving, carrying, copying, copying_to, delivering, delivering_to, is_full_in, messaging, no_room, bouncing, telling}
 use Rattle.xmpp_messages.specs.Entries.{entry_of}
 use Rattle.xmpp_mam.specs.declared.archive_query.MamQuery.{MamQuery}
 use Rattle.xmpp_pages.specs.Cuts.{CutView}
@@ -30,7 +30,7 @@ use Rattle.xmpp_stanza.specs.declared.kinds.PresenceKind.TheVariants.{Available,
 use Rattle.xmpp_stanza.specs.declared.stanzas.Presence.{Presence}
 use Rattle.xmpp_stanza.specs.declared.stanzas.Stanza.{Stanza}
 use Rattle.xmpp_stanza.specs.declared.stanzas.Stanza.TheVariants as stanza
-use Rattle.xmpp_stanza_rows.specs.Stanzas.{at_bad_to, handling, malformed_item, presenting}
+use Rattle.xmpp_stanza_rows.specs.Stanzas.{at_bad_to, handling, presenting}
 use Rattle.xmpp_writer.specs.Items.{ItemOut}
 use Rattle.xmpp_written.specs.Puts.{phase_behind}
 use Rattle.xmpp_framing.specs.declared.states.Phase.{Phase}

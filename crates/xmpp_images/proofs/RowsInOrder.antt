@@ -1,16 +1,16 @@
 -- Each row of a server's table puts what comes in the order of a stream.
-use Rattle.std.proofs.Common.{◌≡◌, ◌≢◌, ◌==◌, ℕ, nat_le, Bool, true, false, cond, not, List, [], ◌∷◌, ◌++◌, Option, Some, None, Result, Ok, Err, length, codes, refl, sym, ap, subst, ◌∙◌, inl, inr}
+use Rattle.std.proofs.Common.{◌≡◌, ◌≢◌, ℕ, nat_le, Bool, true, false, cond, not, List, [], ◌∷◌, Option, Some, None, Result, Ok, Err, length, codes, refl, sym, ap, subst, ◌∙◌}
 use Rattle.std.proofs.lemmas.Bool.{eq-eqb}
 use Rattle.std.specs.List.{AllByRecursion, find}
 use Rattle.std.specs.Map.{lookup, remove_entry}
 use Rattle.std.specs.Option.{option_map}
 use Rattle.xmpp_acks.specs.Counters.{ahead}
 use Rattle.xmpp_acks.specs.declared.end.TooHigh.{TooHigh as TooHighCount}
-use Rattle.xmpp_desk.specs.Logins.{answering, at_challenge, at_login, at_login_other, beginning, failing, finishing, negotiation_at}
-use Rattle.xmpp_desk.specs.State.{Hall, Out, Step, conn_at, is_number}
+use Rattle.xmpp_desk.specs.Logins.{answering, at_challenge, at_login, at_login_other, beginning, failing, negotiation_at}
+use Rattle.xmpp_desk.specs.State.{Hall, Step, conn_at, is_number}
 use Rattle.xmpp_desk.specs.Steps as steps
 use Rattle.xmpp_desk.specs.Steps.{Act, act, acted, after_failure, in_phase, in_sessions, part, put}
-use Rattle.xmpp_desk.specs.Streams.{answering_header, at_any, at_header, closing, ending, ending_in, field_condition, header_condition, header_in, parting, parting_where, stage_of, standing_of}
+use Rattle.xmpp_desk.specs.Streams.{answering_header, at_any, ending_in, field_condition, header_condition, parting_where, stage_of, standing_of}
 use Rattle.xmpp_desk.specs.Words.{word_of}
 use Rattle.xmpp_desk.specs.declared.connection.Connection.{Connection}
 use Rattle.xmpp_desk.specs.declared.connection.Phase.{Phase as ConnPhase}
@@ -47,20 +47,18 @@ use Rattle.xmpp_login.specs.declared.negotiation.AuthAnswer.TheVariants as auth
 use Rattle.xmpp_login.specs.declared.sasl_condition.SaslCondition.{SaslCondition}
 use Rattle.xmpp_login.specs.declared.sasl_condition.SaslCondition.TheVariants.{Aborted}
 use Rattle.xmpp_payload.specs.Names.{binding}
-use Rattle.xmpp_replies.specs.Management.{ack_item, enabled_item, refused_item, request_item, resumable_item, resumed_item}
-use Rattle.xmpp_replies.specs.Requests.{bound_item, iq_error_item}
+use Rattle.xmpp_replies.specs.Management.{ack_item, refused_item, request_item, resumed_item}
+use Rattle.xmpp_replies.specs.Requests.{iq_error_item}
 use Rattle.xmpp_replies.specs.Sasl.{challenge_item, failure_item, success_item}
 use Rattle.xmpp_replies.specs.Streams.{error_item, header_item, login_features_item, session_features_item, too_high_item}
 use Rattle.xmpp_replies.specs.declared.conditions.StreamCondition.{StreamCondition}
 use Rattle.xmpp_replies.specs.declared.conditions.StreamCondition.TheVariants as stream
 use Rattle.xmpp_resume.specs.Rows.{is_some_number}
-use Rattle.xmpp_resume.specs.declared.answers.ResumeFault.{ResumeFault}
-use Rattle.xmpp_resume.specs.declared.answers.ResumeFault.TheVariants.{TooHigh, UnknownPrevid}
-use Rattle.xmpp_resume.specs.declared.answers.ResumeOk.{ResumeOk}
-use Rattle.xmpp_server.specs.Table.{after_item, at_item, at_open, at_word}
-use Rattle.xmpp_session_rows.specs.Bindings.{asked_resource, at_bind, bad_request, binding_as, chosen, former_of}
+use Rattle.xmpp_resume.specs.declared.answers.ResumeFault.TheVariants.{TooHigh}
+use Rattle.xmpp_server.specs.Table.{after_item, at_item, at_open}
+use Rattle.xmpp_session_rows.specs.Bindings.{asked_resource, bad_request, binding_as, chosen, former_of}
 use Rattle.xmpp_session_rows.specs.Managements.{acknowledging, at_ack, at_enable, at_request, enabled_as, refusing}
-use Rattle.xmpp_session_rows.specs.Resumptions.{asking, at_resume, resent_where, resuming, saying}
+use Rattle.xmpp_session_rows.specs.Resumptions.{asking, resent_where, resuming, saying}
 use Rattle.xmpp_stanza.specs.Views.{IqView}
 use Rattle.xmpp_stanza.specs.declared.conditions.Condition.{Condition}
 use Rattle.xmpp_stanza.specs.declared.conditions.Condition.TheVariants.{ItemNotFound, UnexpectedRequest}
@@ -74,7 +72,7 @@ use Rattle.xmpp_stanza_rows.specs.Stanzas.{at_stanza, judging, stanza_condition}
 use Rattle.std.specs.Result.{result_ok}
 use Rattle.xmpp_trees.specs.Readers.{first_named}
 use Rattle.xmpp_trees.specs.Trees.{Elem}
-use Rattle.xmpp_writer.specs.Items.{Closing, ItemOut}
+use Rattle.xmpp_writer.specs.Items.{ItemOut}
 
 abbrev NotStart : Stage → Type 0
 NotStart stage.Start = ⊥

@@ -1,7 +1,7 @@
 -- What a server puts comes in the order of a stream, whatever happens to it.
-use Rattle.std.proofs.Common.{◌≡◌, ◌≢◌, ◌≤◌, ◌+◌, ◌==◌, ℕ, Bool, true, false, cond, not, List, [], ◌∷◌, ◌++◌, Option, Some, None, map, refl, sym, ap, subst, ◌∙◌, arith}
+use Rattle.std.proofs.Common.{◌≡◌, ◌≤◌, ◌+◌, ◌==◌, ℕ, Bool, true, false, cond, not, List, [], ◌∷◌, Option, Some, None, refl, sym, ap, ◌∙◌, arith}
 use Rattle.std.specs.BTreeMap.{insert_entry}
-use Rattle.std.specs.List.{AllByRecursion, filter, find}
+use Rattle.std.specs.List.{AllByRecursion, find}
 use Rattle.std.specs.Map.{lookup, remove_entry}
 use Rattle.std.specs.Option.{option_map}
 use Rattle.std.specs.Ordering.{nat_cmp}
@@ -37,12 +37,11 @@ use Rattle.xmpp_images.specs.Owed.{CoresKeep}
 use Rattle.xmpp_images.specs.Stands.{Alone, Any, Apart, Conns, Differ, HallStands, IsBehind, OutPuts, SessionStands, StandingHalls, writer_in}
 use Rattle.xmpp_item_worlds.specs.ItemMoves.{step_of}
 use Rattle.xmpp_item_worlds.specs.ItemWorlds.{itself, read_of}
-use Rattle.xmpp_live.specs.Sessions.{Session, is_at, is_expired, lost, parked, session_at, unexpired, with_session, without}
+use Rattle.xmpp_live.specs.Sessions.{Session, is_at, lost, parked, session_at, with_session, without}
 use Rattle.xmpp_login.specs.declared.account.Account.{Account}
 use Rattle.xmpp_server.specs.Configs.{hall_at_start}
 use Rattle.xmpp_server.specs.Table.{after_item, at_item, at_open}
 use Rattle.xmpp_writer.specs.Items.{Closing, ItemOut, Opening, Whole}
-use Rattle.xmpp_written.specs.Puts.{MayPut, phase_behind}
 
 -- ---- moments, and connections that come and go
 
@@ -100,10 +99,11 @@ one_number k (x ∷ l) u a found = by (one_number k l u a.1) (is_at k x) refl fo
     by : (find (is_at k) l ≡ Some u → AllByRecursion (λ (t : Session ItemOut). is_at k t ≡ true → t.shown.number ≡ u.shown.number) l) → (b : Bool) → is_at k x ≡ b → cond b (Some x) (find (is_at k) l) ≡ Some u
         → AllByRecursion (λ (t : Session ItemOut). is_at k t ≡ true → t.shown.number ≡ u.shown.number) (x ∷ l)
     by rest true e found =
-        let same : x ≡ u = some_is x u found in
-        ((λ _. ap (λ (t : Session ItemOut). t.shown.number) same),
-        all_mapped (Apart x) (λ (t : Session ItemOut). is_at k t ≡ true → t.shown.number ≡ u.shown.number)
-        (λ t p at. sym (p k (on_true k x.shown.conn e) (on_true k t.shown.conn at)) ∙ ap (λ (t : Session ItemOut). t.shown.number) same) l a.0)
+        let same : x ≡ u = some_is x u found in (
+          (λ _. ap (λ (t : Session ItemOut). t.shown.number) same),
+          all_mapped (Apart x) (λ (t : Session ItemOut). is_at k t ≡ true → t.shown.number ≡ u.shown.number)
+              (λ t p at. sym (p k (on_true k x.shown.conn e) (on_true k t.shown.conn at)) ∙ ap (λ (t : Session ItemOut). t.shown.number) same) l a.0,
+        )
     by rest false e found = ((λ at. absurd (both (is_at k x) at e)), rest found)
 
 record Gone (k m : ℕ) (conns : Conns) (t : Session ItemOut) : Type 0 where
@@ -173,9 +173,10 @@ lost_stands now k conns l (Some u) found all a = by u.shown.resumable
 
     by : (b : Bool) → AllByRecursion (SessionStands (remove_entry (is_number k) conns)) (cond b (with_session u.shown.number (parked now) l) (without u.shown.number l)) × Alone (cond b (with_session u.shown.number (parked now) l) (without u.shown.number l))
     by true = (parked_all now k u.shown.number conns l each, parked_alone now u.shown.number l a)
-    by false =
-        (all_filtered (Gone k u.shown.number conns) (SessionStands (remove_entry (is_number k) conns)) (λ t. not (t.shown.number == u.shown.number)) l (λ t x e. other_on k u.shown.number conns t (not_true (t.shown.number == u.shown.number) e) x) each,
-        alone_filtered (λ t. not (t.shown.number == u.shown.number)) l a)
+    by false = (
+      all_filtered (Gone k u.shown.number conns) (SessionStands (remove_entry (is_number k) conns)) (λ t. not (t.shown.number == u.shown.number)) l (λ t x e. other_on k u.shown.number conns t (not_true (t.shown.number == u.shown.number) e) x) each,
+      alone_filtered (λ t. not (t.shown.number == u.shown.number)) l a,
+    )
 
 pub gone_stands : (n k : ℕ) (h : Hall ItemOut) → HallStands n h → HallStands n (gone_at k h)
 gone_stands n k h c =

@@ -1,28 +1,27 @@
 -- Each small step of a server leaves it so that what it put came in the order of a stream.
-use Rattle.std.proofs.Common.{◌≡◌, ◌≢◌, ◌≤◌, ◌+◌, ◌-◌, ◌==◌, ℕ, zero, suc, Bool, true, false, true≢false, cond, not, ◌&&◌, List, [], ◌∷◌, ◌++◌, Option, Some, None, map, drop, length, refl, sym, ap, subst, ◌∙◌, append_assoc, inl, inr, arith}
-use Rattle.std.proofs.lemmas.Bool.{cases_eq, eqb-true, eq-eqb}
-use Rattle.std.specs.List.{AllByRecursion, filter, find}
+use Rattle.std.proofs.Common.{◌≡◌, ◌≢◌, ◌≤◌, ◌==◌, ℕ, Bool, true, false, cond, not, List, [], ◌∷◌, ◌++◌, Option, Some, None, refl, sym, ap, subst, ◌∙◌, append_assoc}
+use Rattle.std.proofs.lemmas.Bool.{eq-eqb}
+use Rattle.std.specs.List.{AllByRecursion}
 use Rattle.std.specs.Map.{lookup, remove_entry, set_value}
 use Rattle.std.specs.Option.{option_map}
 use Rattle.xmpp_acks.specs.Counters.{ahead}
 use Rattle.xmpp_acks.specs.declared.end.TheConstants.{MOST_UNACKNOWLEDGED}
 use Rattle.xmpp_archive.specs.Entries.{EntryView}
-use Rattle.xmpp_desk.specs.State.{Hall, Kept, Out, Put, Shut, Step, Took, archive_at, changed, conn_at, is_number, with_conn, with_sessions}
+use Rattle.xmpp_desk.specs.State.{Hall, Kept, Put, Shut, Step, Took, archive_at, changed, conn_at, is_number, with_conn, with_sessions}
 use Rattle.xmpp_desk.specs.Steps as steps
 use Rattle.xmpp_desk.specs.Steps.{Act, act, acted, archived_in, ask_where, in_hall, in_phase, in_sessions, is_due, overflow, part, part_where, put, put_where, queue, send, send_told, shut, told_out}
 use Rattle.xmpp_desk.specs.declared.connection.Connection.{Connection}
-use Rattle.xmpp_desk.specs.declared.connection.Phase.{Phase as ConnPhase}
 use Rattle.xmpp_framing.specs.declared.states.Phase.{Phase}
 use Rattle.xmpp_framing.specs.declared.states.Phase.TheVariants as phase
 use Rattle.xmpp_images.proofs.AloneKept.{Keeps, NoneAt, alone_changed, alone_filtered, alone_joined, alone_resumed}
 use Rattle.xmpp_images.proofs.ConnsKept.{all_filtered, all_found, differ_removed, differ_set, few_removed, few_set, not_itself, removed_none}
 use Rattle.xmpp_images.proofs.ItemsServed.{order_joined}
-use Rattle.xmpp_images.proofs.Lookups.{found_behind_other_value, found_behind_removal, found_behind_value, number_is, other_number, self_is}
+use Rattle.xmpp_images.proofs.Lookups.{found_behind_other_value, found_behind_removal, found_behind_value, number_is}
 use Rattle.xmpp_images.proofs.WireSteps.{all_dropped, all_joined, all_mapped}
-use Rattle.xmpp_images.specs.Cores.{AreInOrder, IsInOrder, IsNoFooter, behind_put, behind_shut, phase_of, writer_of}
+use Rattle.xmpp_images.specs.Cores.{AreInOrder, IsInOrder, IsNoFooter, behind_put, behind_shut, writer_of}
 use Rattle.xmpp_images.specs.Stands.{Any, Conns, Differ, HallStands, IsBehind, SessionStands, Alone, writer_in}
 use Rattle.xmpp_item_worlds.specs.ItemWorlds.{itself}
-use Rattle.xmpp_live.specs.Sessions.{Session, acknowledged, after_resume, asks, bound, fresh, is_at, is_numbered, is_too_high, less, resumes, session_named, session_of, session_resumed, told, told_of, waits, with_session, without, without_at}
+use Rattle.xmpp_live.specs.Sessions.{Session, acknowledged, after_resume, asks, fresh, is_at, is_numbered, is_too_high, less, resumes, session_named, session_of, session_resumed, told, told_of, waits, with_session, without, without_at}
 use Rattle.xmpp_live.specs.declared.told.Told.{Told}
 use Rattle.xmpp_names.specs.declared.headers.Header.{Header}
 use Rattle.xmpp_replies.specs.Management.{request_item}
@@ -30,8 +29,7 @@ use Rattle.xmpp_replies.specs.Streams.{error_item}
 use Rattle.xmpp_replies.specs.declared.conditions.StreamCondition.{StreamCondition}
 use Rattle.xmpp_replies.specs.declared.conditions.StreamCondition.TheVariants.{ResourceConstraint}
 use Rattle.xmpp_resume.specs.Rows.{is_some_number}
-use Rattle.xmpp_writer.specs.Items.{Closing, ItemOut, Opening, Whole}
-use Rattle.xmpp_written.specs.Puts.{phase_behind}
+use Rattle.xmpp_writer.specs.Items.{Closing, ItemOut, Opening}
 
 -- so far all came in order, and the server stands
 pub record Calm (n : ℕ) (start : ℕ → Option Phase) (s : Step ItemOut) : Type 0 where
@@ -189,9 +187,10 @@ module _ (n : ℕ) (start : ℕ → Option Phase) where
       by : (j : ℕ) (b : Bool) → is_number j k ≡ b → IsInOrder Any b (writer_in j s.hall.conns) (Opening h)
           × (IsInOrder Any b (behind_put b (writer_in j s.hall.conns) (Opening h)) features × (behind_put b (behind_put b (writer_in j s.hall.conns) (Opening h)) features ≡ writer_in j (set_value (is_number k) s.hall.conns (f x))))
       by j false e = (tt, (tt, sym (set_writer k j s.hall.conns x (f x) found ∙ ap (λ b. cond b (Some (writer_of (f x))) (writer_in j s.hall.conns)) e)))
-      by j true e =
-          (subst (λ o. IsInOrder Any true o (Opening h)) (sym (ap (λ m. writer_in m s.hall.conns) (number_is j k e) ∙ here)) (tt, tt),
-          ((tt, tt), ap Some (word ∙ sym between) ∙ sym (set_writer k j s.hall.conns x (f x) found ∙ ap (λ b. cond b (Some (writer_of (f x))) (writer_in j s.hall.conns)) e)))
+      by j true e = (
+        subst (λ o. IsInOrder Any true o (Opening h)) (sym (ap (λ m. writer_in m s.hall.conns) (number_is j k e) ∙ here)) (tt, tt),
+        ((tt, tt), ap Some (word ∙ sym between) ∙ sym (set_writer k j s.hall.conns x (f x) found ∙ ap (λ b. cond b (Some (writer_of (f x))) (writer_in j s.hall.conns)) e)),
+      )
 
   -- ---- sessions
 

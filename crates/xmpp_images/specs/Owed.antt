@@ -1,11 +1,9 @@
 -- What is owed of the two cores: that what they put fits. The order is shown.
-use Rattle.std.specs.Prelude.{ℕ, ◌+◌, ◌≡◌, ◌≤◌, ◌⊎◌, Bool, true, false, List, [], ◌∷◌, ◌++◌, Option, Some, None, Ok, IsTrue}
+use Rattle.std.specs.Prelude.{ℕ, ◌≡◌, ◌≤◌, Bool, List, Ok, IsTrue}
 use Rattle.std.specs.List.{AllByRecursion}
-use Rattle.std.specs.Option.{option_map}
 use Rattle.xmpp_client.specs.UserCalls.{catch_up_answer, catches_up, dials, forgets, leaves, say_answer, says}
-use Rattle.xmpp_client_rows.specs.Clients.{ClientView, Turn}
+use Rattle.xmpp_client_rows.specs.Clients.{ClientView}
 use Rattle.xmpp_client_rows.specs.Speech.{in_items}
-use Rattle.xmpp_client_rows.specs.Turns.{is_apart}
 use Rattle.xmpp_client.specs.Steps.{item_step}
 use Rattle.xmpp_desk.specs.Moments.{at_moment, gone_at, with_fresh}
 use Rattle.xmpp_images.specs.Cores.{HeardFits, TurnFits}
@@ -14,21 +12,16 @@ use Rattle.xmpp_images.specs.Stands.{OutPuts}
 use Rattle.xmpp_schedule.specs.Contents.{owned_in}
 use Rattle.xmpp_schedule.specs.Schedules.{WireView}
 use Rattle.xmpp_world.specs.Histories.{common_steps}
-use Rattle.xmpp_desk.specs.State.{Hall, Out, Put, Shut, Took, conn_at, is_number}
-use Rattle.xmpp_desk.specs.declared.connection.Connection.{Connection}
-use Rattle.xmpp_desk.specs.declared.connection.Phase.TheVariants as conn
-use Rattle.xmpp_desk.specs.declared.connection.Phase.{Phase as ConnPhase}
+use Rattle.xmpp_desk.specs.State.{Hall}
 use Rattle.xmpp_framing.specs.Limits.{client_limits, server_limits}
-use Rattle.xmpp_framing.specs.declared.states.Phase.{Phase}
-use Rattle.xmpp_framing.specs.declared.states.Phase.TheVariants as phase
 use Rattle.xmpp_item_worlds.specs.ItemMoves.{fed_of, step_of}
 use Rattle.xmpp_item_worlds.specs.ItemWorlds.{itself, read_of, silent_turn}
 use Rattle.xmpp_report.specs.Addresses.{bare_address}
 use Rattle.xmpp_schedule.specs.Grammar.{is_name}
 use Rattle.xmpp_server.specs.Table.{after_item}
 use Rattle.xmpp_world.specs.Worlds.{client_entropy, server_entropy}
-use Rattle.xmpp_writer.specs.Items.{Closing, ItemOut, Opening, Whole}
-use Rattle.xmpp_written.specs.Puts.{MayPut, OutFits, phase_behind}
+use Rattle.xmpp_writer.specs.Items.{Closing, ItemOut}
+use Rattle.xmpp_written.specs.Puts.{OutFits}
 
 -- Of four families: what a client may put, and the server; halls; and clients. Whatever comes of these is among these.
 pub record CoresKeep (UpFits DownFits : ItemOut → Type 0) (HallKeeps : Hall ItemOut → Type 0) (ClientFits : ClientView ItemOut → Type 0) : Type 0 where

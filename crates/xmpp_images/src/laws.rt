@@ -1,5 +1,5 @@
 //! From worlds of bytes to worlds of items.
-ghost use Rattle.std.specs.Prelude.{◌≡◌, ◌<◌, ◌^◌, ℕ, List, [], ◌∷◌, Option, Some, false, true, slice_get};
+ghost use Rattle.std.specs.Prelude.{◌≡◌, ◌<◌, ◌+◌, ◌^◌, ℕ, List, [], ◌∷◌, Option, Some, false, true, slice_get};
 ghost use Rattle.std.specs.List.{AllByRecursion};
 ghost use Rattle.xmpp_client_rows.specs.Clients.{ClientView};
 ghost use Rattle.xmpp_desk.specs.State.{Hall};
@@ -7,16 +7,21 @@ ghost use Rattle.xmpp_framing.specs.States.{State, from_start};
 ghost use Rattle.xmpp_framing.specs.declared.limits.Limits.{Limits};
 ghost use Rattle.xmpp_framing.specs.declared.states.Phase.{Phase};
 ghost use Rattle.xmpp_framing.specs.declared.states.Phase.TheVariants as phase;
-ghost use Rattle.xmpp_images.specs.Cores.{Among};
+ghost use Rattle.xmpp_desk.specs.Moments.{at_moment, gone_at, with_fresh};
+ghost use Rattle.xmpp_images.specs.Cores.{Among, AreInOrder, MayCome, writer_at};
 ghost use Rattle.xmpp_images.specs.Owed.{CoresKeep, StartKeeps};
-ghost use Rattle.xmpp_images.specs.Stands.{StandingHalls};
+ghost use Rattle.xmpp_images.specs.Stands.{Any, HallStands, StandingHalls};
+ghost use Rattle.xmpp_item_worlds.specs.ItemMoves.{step_of};
+ghost use Rattle.xmpp_login.specs.declared.account.Account.{Account};
+ghost use Rattle.xmpp_server.specs.Configs.{hall_at_start};
+ghost use Rattle.xmpp_server.specs.Table.{after_item};
 ghost use Rattle.xmpp_images.specs.ItemRuns.{MayMove};
 ghost use Rattle.xmpp_images.specs.ItemStarts.{items_at_start};
 ghost use Rattle.xmpp_images.specs.PipeImages.{IsCut, IsHanded, PipeImage, Standing};
 ghost use Rattle.xmpp_images.specs.WorldImages.{IsMoved, IsReached, WorldImage};
 ghost use Rattle.xmpp_item_worlds.specs.ItemPipes.{ItemPipe, ItemWire};
 ghost use Rattle.xmpp_item_worlds.specs.ItemPipes as items;
-ghost use Rattle.xmpp_item_worlds.specs.ItemWorlds.{ItemWorld};
+ghost use Rattle.xmpp_item_worlds.specs.ItemWorlds.{ItemWorld, itself, read_of};
 ghost use Rattle.xmpp_pipes.specs.Pipes.{Pipe, closed, emptied, empty_pipe, entered, is_end_due, with_end_told};
 ghost use Rattle.xmpp_schedule.specs.Schedules.{WireView};
 ghost use Rattle.xmpp_schedule.specs.WireGrammar.{IsWireSchedule};
@@ -44,6 +49,21 @@ pub fn pipes_of_bytes_carry_items()
     ensures told { (limits : Limits) (writer next : Option Phase) (reader other : Option State) (b : Pipe) (p : ItemPipe) → PipeImage limits writer reader b p → is_end_due b ≡ true
         → PipeImage limits next other (with_end_told b) (items.with_end_told p) }
     ensures empty { (limits : Limits) (writer : Option Phase) (reader : Option State) (b : Pipe) (p : ItemPipe) → PipeImage limits writer reader b p → b.ended ≡ false → b.bytes ≡ [] → p.items ≡ [] }
+{}
+
+/// A law: what a server puts for a connection comes in the order of a stream (RFC 6120, sections 4.2 to 4.4): first its
+/// header, behind a footer nothing but the end, and nothing where the connection isn't open. It holds of a server that
+/// stands (`HallStands`): no number of a connection is twice, a connection has one session at most, a session's connection
+/// is open behind its header, and no footer waits. A new server stands, and whatever happens to it, it stands behind that;
+/// what comes to a connection before its header was put is a header.
+pub fn what_a_server_puts_is_in_order()
+    ensures begins { (n : ℕ) (domain : List ℕ) (accounts : List Account) (keep : ℕ) → HallStands n (hall_at_start domain accounts keep) }
+    ensures moment { (n now : ℕ) (h : Hall ItemOut) → HallStands n h → HallStands n (at_moment now h) }
+    ensures comes { (n : ℕ) (entropy : List ℕ) (h : Hall ItemOut) → HallStands n h → HallStands (n + 1) (with_fresh (n + 1) entropy h) }
+    ensures goes { (n k : ℕ) (h : Hall ItemOut) → HallStands n h → HallStands n (gone_at k h) }
+    ensures stands { (n k : ℕ) (i : ItemOut) (h : Hall ItemOut) → HallStands n h → MayCome (writer_at k h) i → HallStands n (after_item itself k (read_of i) (step_of h)).hall }
+    ensures order { (n k j : ℕ) (i : ItemOut) (h : Hall ItemOut) → HallStands n h → MayCome (writer_at k h) i
+        → AreInOrder Any j (writer_at j h) (after_item itself k (read_of i) (step_of h)).outs (writer_at j (after_item itself k (read_of i) (step_of h)).hall) }
 {}
 
 /// A law: a move of bytes is some moves of items, with the same server and the same clients but for how what waits is
