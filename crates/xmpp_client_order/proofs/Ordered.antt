@@ -1,11 +1,12 @@
 -- What is put between header and footer, and in which order.
 use Rattle.std.proofs.Common.{◌≡◌, ℕ, suc, zero, Bool, true, false, List, [], ◌∷◌, ◌++◌, drop, refl, sym, ◌∙◌, subst, append-nil, if◌then◌else◌}
 use Rattle.std.specs.List.{AllByRecursion}
-use Rattle.xmpp_client_order.specs.Order.{HasNoEnd, IsNoEnd, MayAll, phase_after}
+use Rattle.xmpp_client_order.specs.Order.{HasNoEnd, IsNoEnd}
 use Rattle.xmpp_client_rows.specs.Clients.{Turn}
 use Rattle.xmpp_client_rows.specs.Turns.{is_apart}
 use Rattle.xmpp_framing.specs.declared.states.Phase.{Phase}
 use Rattle.xmpp_framing.specs.declared.states.Phase.TheVariants as stream
+use Rattle.xmpp_puts.specs.PutLists.{MayAll, phase_after}
 use Rattle.xmpp_writer.specs.Items.{ItemOut}
 
 -- a step where a connection stands

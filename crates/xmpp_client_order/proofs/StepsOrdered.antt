@@ -5,7 +5,7 @@ use Rattle.xmpp_client.specs.Steps.{connected_step, element_row, item_step, item
 use Rattle.xmpp_client.specs.UserCalls.{catches_up, catches_up_in, closes, dials, forgets, leaves, says, submission_of, submits}
 use Rattle.xmpp_client_order.proofs.Ordered.{Step, nothing_put, step_either}
 use Rattle.xmpp_client_order.proofs.RowsOrdered.{Asked, asked_same, begun_page_asked, binding_ordered, enabling_ordered, ends_ordered, features2_ordered, header_ordered, login_ordered, online_ordered, requested_asked, resuming_ordered}
-use Rattle.xmpp_client_order.specs.Order.{HasNoEnd, IsNoEnd, MayAll, PutsHeader, PutsInOrder, phase_after}
+use Rattle.xmpp_client_order.specs.Order.{HasNoEnd, IsNoEnd, PutsHeader, PutsInOrder}
 use Rattle.xmpp_client_rows.specs.Clients.{Turn}
 use Rattle.xmpp_client_rows.specs.Speech.{in_items}
 use Rattle.xmpp_client_rows.specs.Turns.{ends, is_apart, is_online}
@@ -24,6 +24,7 @@ use Rattle.xmpp_outbox.specs.declared.said.Said.{Said}
 use Rattle.xmpp_stanza.specs.Names.{streams_ns}
 use Rattle.xmpp_trees.specs.Readers.{is_named}
 use Rattle.xmpp_trees.specs.Trees.{Elem}
+use Rattle.xmpp_puts.specs.PutLists.{MayAll, phase_after}
 use Rattle.xmpp_writer.specs.Items.{Closing, ItemOut}
 use Rattle.xmpp_written.specs.Puts.{phase_behind}
 

@@ -4,21 +4,11 @@ use Rattle.std.specs.List.{AllByRecursion}
 use Rattle.xmpp_client_login.specs.LoginRows.{client_header}
 use Rattle.xmpp_client_rows.specs.Clients.{Turn}
 use Rattle.xmpp_client_rows.specs.Turns.{is_apart}
-use Rattle.xmpp_framing.specs.declared.states.Phase.{Phase}
 use Rattle.xmpp_framing.specs.declared.states.Phase.TheVariants as stream
 use Rattle.xmpp_outbox.specs.Sessions.{SessionView}
+use Rattle.xmpp_puts.specs.PutLists.{MayAll, phase_after}
 use Rattle.xmpp_writer.specs.Items.{ItemOut, Opening}
-use Rattle.xmpp_written.specs.Puts.{MayPut, phase_behind}
-
--- each may be put behind those before it
-abbrev pub MayAll : Phase → List ItemOut → Type 0
-MayAll p [] = Unit {0}
-MayAll p (item ∷ rest) = MayPut p item × MayAll (phase_behind item) rest
-
--- where the stream stands behind items
-abbrev pub phase_after : Phase → List ItemOut → Phase
-phase_after p [] = p
-phase_after p (item ∷ rest) = phase_after (phase_behind item) rest
+use Rattle.xmpp_written.specs.Puts.{phase_behind}
 
 -- what waits is no footer
 abbrev pub IsNoEnd : ItemOut → Type 0
