@@ -1,0 +1,5 @@
+-- ---- rows
+pub mod Ordered
+pub mod RowsOrdered
+-- ---- items and calls
+pub mod StepsOrdered

@@ -1,0 +1,2 @@
+-- law
+pub mod PutLists
