@@ -17,7 +17,7 @@ use Rattle.xmpp_images.proofs.WireSteps.{all_joined}
 use Rattle.xmpp_images.specs.Cores.{CoresFit, writer_at}
 use Rattle.xmpp_images.specs.ItemRuns.{MayMove}
 use Rattle.xmpp_images.specs.ItemStarts.{StartFits, item_device, items_at_start}
-use Rattle.xmpp_images.specs.WorldImages.{Both, DeviceImage, IsMoved, IsReached, WireAt, WorldImage, framer_here}
+use Rattle.xmpp_images.specs.WorldImages.{Both, DeviceImage, GoBeside, IsMoved, IsReached, WireAt, WorldImage, framer_here}
 use Rattle.xmpp_item_worlds.specs.ItemMoves as items
 use Rattle.xmpp_item_worlds.specs.ItemPipes.{ItemWire}
 use Rattle.xmpp_item_worlds.specs.ItemWorlds.{ItemWorld}
@@ -166,3 +166,23 @@ module _ (UpFits DownFits : ItemOut → Type 0) (HallFits : ℕ → Hall ItemOut
     history_is schedule is fits =
         let start : Reached (items_at_start schedule) (world_at_start schedule) = record { moves = []; image = start_image schedule fits } in
         (start, along_lines schedule.lines (items_at_start schedule) (world_at_start schedule) (may_follow schedule (world_at_start schedule) is refl) start)
+
+    -- ---- worlds of bytes beside those of items
+
+    abbrev Go : List World → World → ItemWorld → Type 0
+    Go ws w v = GoBeside UpFits DownFits HallFits ClientFits ws w v
+
+    go_by : (ms : List Move) (rest : List World) (w : World) (v : ItemWorld) → AllByRecursion MayMove ms → WorldImage UpFits DownFits HallFits ClientFits w v
+        → ((x : ItemWorld) → WorldImage UpFits DownFits HallFits ClientFits (all_moved ms w) x → Go rest (all_moved ms w) x) → Go (worlds_by ms w ++ rest) w v
+    go_by [] rest w v may i more = more v i
+    go_by (m ∷ ms) rest w v may i more =
+        let h = move_is m w v may.0 i in
+        (m, refl, (h, go_by ms rest (moved m w) (items.all_moved h.moves v) may.1 h.image more))
+
+    go_along : (lines : List WireLine) (w : World) (v : ItemWorld) → MayAllStep lines w → WorldImage UpFits DownFits HallFits ClientFits w v → Go (worlds_along lines w) w v
+    go_along [] w v may i = tt
+    go_along (line ∷ lines) w v may i =
+        go_by (moves_of line w) (worlds_along lines (stepped line w)) w v (of_step line.step w line.number may.0) i (λ x j. go_along lines (stepped line w) x may.1 j)
+
+    pub beside_is : (schedule : WireView) → IsWireSchedule schedule → StartFits HallFits ClientFits schedule → Go (worlds_along schedule.lines (world_at_start schedule)) (world_at_start schedule) (items_at_start schedule)
+    beside_is schedule is fits = go_along schedule.lines (world_at_start schedule) (items_at_start schedule) (may_follow schedule (world_at_start schedule) is refl) (start_image schedule fits)

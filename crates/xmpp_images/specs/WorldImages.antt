@@ -82,3 +82,10 @@ pub record IsMoved (UpFits DownFits : ItemOut → Type 0) (HallFits : ℕ → Ha
 pub record IsReached (UpFits DownFits : ItemOut → Type 0) (HallFits : ℕ → Hall ItemOut → Type 0) (ClientFits : ClientView ItemOut → Type 0) (start : ItemWorld) (w : World) : Type 0 where
   pub moves : List ItemMove
   pub image : WorldImage UpFits DownFits HallFits ClientFits w (all_moved moves start)
+
+-- Worlds one behind another from one on, beside a world of items: each is behind a move of the one before it, and so many
+-- moves of items lead to that of which it is the image.
+abbrev pub GoBeside : (UpFits DownFits : ItemOut → Type 0) → (ℕ → Hall ItemOut → Type 0) → (ClientView ItemOut → Type 0) → List World → World → ItemWorld → Type 0
+GoBeside UpFits DownFits HallFits ClientFits [] w v = Unit {0}
+GoBeside UpFits DownFits HallFits ClientFits (x ∷ xs) w v =
+    (m : Move) × (x ≡ moved m w) × ((r : IsMoved UpFits DownFits HallFits ClientFits m w v) × GoBeside UpFits DownFits HallFits ClientFits xs x (all_moved r.moves v))

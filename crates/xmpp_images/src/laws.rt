@@ -18,7 +18,7 @@ ghost use Rattle.xmpp_server.specs.Table.{after_item};
 ghost use Rattle.xmpp_images.specs.ItemRuns.{MayMove};
 ghost use Rattle.xmpp_images.specs.ItemStarts.{items_at_start};
 ghost use Rattle.xmpp_images.specs.PipeImages.{IsCut, IsHanded, PipeImage, Standing};
-ghost use Rattle.xmpp_images.specs.WorldImages.{IsMoved, IsReached, WorldImage};
+ghost use Rattle.xmpp_images.specs.WorldImages.{GoBeside, IsMoved, IsReached, WorldImage};
 ghost use Rattle.xmpp_item_worlds.specs.ItemPipes.{ItemPipe, ItemWire};
 ghost use Rattle.xmpp_item_worlds.specs.ItemPipes as items;
 ghost use Rattle.xmpp_item_worlds.specs.ItemWorlds.{ItemWorld, itself, read_of};
@@ -26,7 +26,7 @@ ghost use Rattle.xmpp_pipes.specs.Pipes.{Pipe, closed, emptied, empty_pipe, ente
 ghost use Rattle.xmpp_schedule.specs.Schedules.{WireView};
 ghost use Rattle.xmpp_schedule.specs.WireGrammar.{IsWireSchedule};
 ghost use Rattle.xmpp_wires.specs.declared.wire.Wire.{Wire};
-ghost use Rattle.xmpp_world.specs.Histories.{history_of};
+ghost use Rattle.xmpp_world.specs.Histories.{history_of, world_at_start, worlds_along};
 ghost use Rattle.xmpp_world.specs.Moves.{Move};
 ghost use Rattle.xmpp_world.specs.Worlds.{World};
 ghost use Rattle.xmpp_writer.specs.Items.{ItemOut, written_item};
@@ -78,10 +78,13 @@ pub fn a_move_is_moves_of_items<U, D, H, C>()
 {}
 
 /// A law: each world of a wire schedule's history is the image of a world of items that moves of items lead to from the
-/// first one, in which the same accounts and devices are. With the same premise, of which the first world is part.
+/// first one, in which the same accounts and devices are (`reached`); and they go side by side, move by move (`beside`:
+/// the worlds behind the first are those of `history_of`). With the same premise, of which the first world is part.
 pub fn histories_are_those_of_items<U, D, H, C>()
-    ensures { (up : U → ItemOut) (down : D → ItemOut) (hall : H → Hall ItemOut) (client : C → ClientView ItemOut) → CoresKeep (Among up) (Among down) (Among hall) (Among client) → (schedule : WireView) → IsWireSchedule schedule
+    ensures reached { (up : U → ItemOut) (down : D → ItemOut) (hall : H → Hall ItemOut) (client : C → ClientView ItemOut) → CoresKeep (Among up) (Among down) (Among hall) (Among client) → (schedule : WireView) → IsWireSchedule schedule
         → StartKeeps (Among hall) (Among client) schedule → AllByRecursion (IsReached (Among up) (Among down) (StandingHalls (Among hall)) (Among client) (items_at_start schedule)) (history_of schedule) }
+    ensures beside { (up : U → ItemOut) (down : D → ItemOut) (hall : H → Hall ItemOut) (client : C → ClientView ItemOut) → CoresKeep (Among up) (Among down) (Among hall) (Among client) → (schedule : WireView) → IsWireSchedule schedule
+        → StartKeeps (Among hall) (Among client) schedule → GoBeside (Among up) (Among down) (StandingHalls (Among hall)) (Among client) (worlds_along schedule.lines (world_at_start schedule)) (world_at_start schedule) (items_at_start schedule) }
 {}
 
 /// A law: where a connection is open and a pipe of it has no bytes, no item is under way there.
