@@ -3,13 +3,13 @@ use Rattle.std.specs.Prelude.{◌≡◌, ℕ, false, List, Some, slice_get}
 use Rattle.xmpp_desk.specs.State.{Hall}
 use Rattle.xmpp_device_views.specs.Clients.{ClientShows}
 use Rattle.xmpp_device_views.specs.Identities.{Identity, IsNormal, Login}
-use Rattle.xmpp_device_views.specs.Pipes.{PipesShow}
+use Rattle.xmpp_device_views.specs.Pipes.{PipesShow, by_number}
 use Rattle.xmpp_device_views.specs.Servers.{ServerShows}
 use Rattle.xmpp_item_worlds.specs.ItemPipes.{ItemWire}
 use Rattle.xmpp_item_worlds.specs.ItemWorlds.{ItemDevice, ItemWorld}
 use Rattle.xmpp_links.specs.Machine.{LinkMove, LinkReaches}
 use Rattle.xmpp_links.specs.Stages.{Conn}
-use Rattle.xmpp_links.specs.Views.{View}
+use Rattle.xmpp_links.specs.Views.{Table, View}
 use Rattle.xmpp_links.specs.Wires.{is_flowing}
 use Rattle.xmpp_writer.specs.Items.{ItemOut}
 
@@ -18,7 +18,7 @@ pub record Shows (who : Identity) (logins : ℕ → Login) (w : ItemWorld) (v : 
   pub normal : IsNormal who
   pub device : ItemDevice
   pub there : slice_get w.devices who.place ≡ Some device
-  pub pipes : PipesShow who logins w.wires v
+  pub pipes : PipesShow who logins (by_number w.wires) v
   pub server : ServerShows who logins w.server v
   pub client : ClientShows who logins device v
 
@@ -46,7 +46,7 @@ pub record SameServer (v next : View ItemOut) : Type 0 where
 -- ---- what a step is in the links: a short list of moves
 
 -- the server comes to this, and these are then the pipes
-pub record ServerFollows (who : Identity) (logins : ℕ → Login) (h : Hall ItemOut) (wires : List ItemWire) (v : View ItemOut) : Type 0 where
+pub record ServerFollows (who : Identity) (logins : ℕ → Login) (h : Hall ItemOut) (wires : Table ItemWire) (v : View ItemOut) : Type 0 where
   pub moves : List (LinkMove ItemOut)
   pub next : View ItemOut
   pub leads : LinkReaches moves v next
@@ -55,7 +55,7 @@ pub record ServerFollows (who : Identity) (logins : ℕ → Login) (h : Hall Ite
   pub client : SameClient v next
 
 -- the client does
-pub record ClientFollows (who : Identity) (logins : ℕ → Login) (d : ItemDevice) (wires : List ItemWire) (v : View ItemOut) : Type 0 where
+pub record ClientFollows (who : Identity) (logins : ℕ → Login) (d : ItemDevice) (wires : Table ItemWire) (v : View ItemOut) : Type 0 where
   pub moves : List (LinkMove ItemOut)
   pub next : View ItemOut
   pub leads : LinkReaches moves v next
