@@ -1,15 +1,19 @@
 -- What the client of a device has: its account, how far it is with the connection that it works on, and its session.
-use Rattle.std.specs.Prelude.{◌≡◌, ℕ, ◌+◌, ◌⊎◌, true, false, All, Ok, Option, Some, None, is_none}
+use Rattle.std.specs.Prelude.{◌≡◌, ℕ, ◌+◌, ◌⊎◌, true, false, All, List, Ok, Option, Some, None, is_none}
 use Rattle.xmpp_client_login.specs.declared.login_state.LoginState.TheVariants as state
 use Rattle.xmpp_client_rows.specs.Turns.{is_apart}
 use Rattle.xmpp_client_rows.specs.declared.phase.Phase.{Phase}
 use Rattle.xmpp_client_rows.specs.declared.phase.Phase.TheVariants as phase
 use Rattle.xmpp_device_views.specs.Counted.{IsForServer}
+use Rattle.xmpp_device_views.specs.Frames.{SameServer}
 use Rattle.xmpp_device_views.specs.Identities.{Identity, Login, own_account}
+use Rattle.xmpp_device_views.specs.Pipes.{PipesShow}
 use Rattle.xmpp_device_views.specs.WordItems.{told_count}
+use Rattle.xmpp_item_worlds.specs.ItemPipes.{ItemWire}
 use Rattle.xmpp_item_worlds.specs.ItemWorlds.{ItemDevice}
+use Rattle.xmpp_links.specs.Machine.{LinkMove, LinkReaches}
 use Rattle.xmpp_links.specs.Stages.{Conn}
-use Rattle.xmpp_links.specs.Views.{Own, View}
+use Rattle.xmpp_links.specs.Views.{Own, Table, View}
 use Rattle.xmpp_links.specs.Wires.{is_flowing}
 use Rattle.xmpp_links.specs.Words.{Client, InAuth, InBind, InEnable, InFeatures1, InFeatures2, InHeader1, InHeader2, InOnline, InResponse, InResume}
 use Rattle.xmpp_outbox.specs.Sessions.{SessionView}
@@ -56,3 +60,14 @@ pub record ClientShows (who : Identity) (logins : ℕ → Login) (d : ItemDevice
   pub here : (k : ℕ) → v.here ≡ Some k → (place : ℕ) × (k ≡ place + 1) × (d.here ≡ Some place)
   pub has : (place : ℕ) → d.here ≡ Some place → (c : Conn ItemOut) × (v.conns (place + 1) ≡ Some c) × ((v.here ≡ Some (place + 1)) ⊎ (is_flowing c.wires ≡ false))
   pub phase : (k : ℕ) (c : Conn ItemOut) → v.here ≡ Some k → v.conns k ≡ Some c → d.client.phase ≡ client_phase who (logins k) c.client
+
+-- ---- what a step of the client is in the links
+
+-- it comes to this, and these are then the pipes
+pub record ClientFollows (who : Identity) (logins : ℕ → Login) (d : ItemDevice) (wires : Table ItemWire) (v : View ItemOut) : Type 0 where
+  pub moves : List (LinkMove ItemOut)
+  pub next : View ItemOut
+  pub leads : LinkReaches moves v next
+  pub client : ClientShows who logins d next
+  pub pipes : PipesShow who logins wires next
+  pub server : SameServer v next

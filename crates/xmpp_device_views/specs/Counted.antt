@@ -1,8 +1,7 @@
 -- The stanzas between this project's own ends: those that the server takes of a session, and those that the client counts.
 use Rattle.std.specs.Prelude.{◌≡◌, true, false, None}
-use Rattle.xmpp_client_rows.specs.SessionRows.{is_stanza}
 use Rattle.xmpp_desk.specs.State.{Hall}
-use Rattle.xmpp_desk.specs.Words.{is_long}
+use Rattle.xmpp_desk.specs.Words.{is_long, is_stanza}
 use Rattle.xmpp_live.specs.declared.told.Told.{Told}
 use Rattle.xmpp_stanza.specs.Readings.{stanza_of}
 use Rattle.xmpp_stanza_rows.specs.Stanzas.{stanza_condition}

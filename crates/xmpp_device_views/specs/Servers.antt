@@ -1,16 +1,20 @@
 -- What the server has of a device: how far it is with each of its connections, and the live session of its account and
 -- resource. Counts are told modulo 2 ^ 32, as in `Sends` and `Receives` of live sessions.
-use Rattle.std.specs.Prelude.{◌≡◌, ℕ, ◌≤◌, Bool, true, false, All, IsSome, Option, Some, None, slice_get}
+use Rattle.std.specs.Prelude.{◌≡◌, ℕ, ◌≤◌, Bool, true, false, All, IsSome, List, Option, Some, None, slice_get}
 use Rattle.xmpp_desk.specs.State.{Hall, archive_at, conn_at}
 use Rattle.xmpp_desk.specs.declared.connection.Connection.{Connection}
 use Rattle.xmpp_desk.specs.declared.connection.Phase.{Phase as DeskPhase}
 use Rattle.xmpp_desk.specs.declared.connection.Phase.TheVariants as phase
 use Rattle.xmpp_desk.specs.declared.connection.Tries.TheVariants as tries
 use Rattle.xmpp_device_views.specs.Counted.{IsForClient}
+use Rattle.xmpp_device_views.specs.Frames.{SameClient}
 use Rattle.xmpp_device_views.specs.Identities.{Identity, Login, exchange_of, served_account}
+use Rattle.xmpp_device_views.specs.Pipes.{PipesShow}
 use Rattle.xmpp_device_views.specs.WordItems.{told_count}
-use Rattle.xmpp_links.specs.Stages.{Closes, Conn, Ending, Errs, Stands}
-use Rattle.xmpp_links.specs.Views.{Row, View}
+use Rattle.xmpp_item_worlds.specs.ItemPipes.{ItemWire}
+use Rattle.xmpp_links.specs.Machine.{LinkMove, LinkReaches}
+use Rattle.xmpp_links.specs.Stages.{Conn, Ending, Stands}
+use Rattle.xmpp_links.specs.Views.{Row, Table, View}
 use Rattle.xmpp_links.specs.Words.{AtSession, Challenge, Phase, Ready, Restart, Sasl, Start}
 use Rattle.xmpp_live.specs.Rule.{IsRule}
 use Rattle.xmpp_live.specs.Sessions.{Session, is_named, session_at, session_named}
@@ -73,3 +77,14 @@ pub record ServerShows (who : Identity) (logins : ℕ → Login) (h : Hall ItemO
   pub row : IsRowShown v.row (session_named who.account who.resource h.sessions)
   pub seated : (k : ℕ) (c : Conn ItemOut) (s : Session ItemOut) → v.conns k ≡ Some c → session_at k h.sessions ≡ Some s → is_named who.account who.resource s ≡ true
   pub free : v.free ≤ h.next
+
+-- ---- what a step of the server is in the links: a short list of moves
+
+-- it comes to this, and these are then the pipes
+pub record ServerFollows (who : Identity) (logins : ℕ → Login) (h : Hall ItemOut) (wires : Table ItemWire) (v : View ItemOut) : Type 0 where
+  pub moves : List (LinkMove ItemOut)
+  pub next : View ItemOut
+  pub leads : LinkReaches moves v next
+  pub server : ServerShows who logins h next
+  pub pipes : PipesShow who logins wires next
+  pub client : SameClient v next
