@@ -4,6 +4,7 @@ pub mod Identities
 pub mod WordItems
 pub mod Counted
 pub mod Pipes
+pub mod Sent
 pub mod Frames
 pub mod Servers
 pub mod Clients

@@ -1,6 +1,9 @@
 -- What the server has of a device: how far it is with each of its connections, and the live session of its account and
 -- resource. Counts are told modulo 2 ^ 32, as in `Sends` and `Receives` of live sessions.
 use Rattle.std.specs.Prelude.{◌≡◌, ℕ, ◌≤◌, Bool, true, false, All, IsSome, List, Option, Some, None, slice_get}
+use Rattle.std.specs.List.Sorted.{IsStrictlySortedBy}
+use Rattle.std.specs.Map.{keys_of}
+use Rattle.std.specs.Ordering.{nat_cmp}
 use Rattle.xmpp_desk.specs.State.{Hall, archive_at, conn_at}
 use Rattle.xmpp_desk.specs.declared.connection.Connection.{Connection}
 use Rattle.xmpp_desk.specs.declared.connection.Phase.{Phase as DeskPhase}
@@ -68,11 +71,15 @@ pub record IsServed (who : Identity) (h : Hall ItemOut) : Type 0 where
   pub found : account_named who.name h.accounts ≡ Some (record { place = who.account; credentials = (served_account who).credentials })
   pub archive : IsSome (archive_at who.account h)
 
--- Its sessions keep their rule. On the device's connections no session is but its own, and the next number is above all of
--- its numbers.
+-- its sessions keep their rule, and its connections ascend
+pub record IsHall (h : Hall ItemOut) : Type 0 where
+  pub sessions : IsRule h.sessions h.next
+  pub conns : IsStrictlySortedBy nat_cmp (keys_of h.conns)
+
+-- On the device's connections no session is but its own, and the next number is above all of its numbers.
 pub record ServerShows (who : Identity) (logins : ℕ → Login) (h : Hall ItemOut) (v : View ItemOut) : Type 0 where
   pub served : IsServed who h
-  pub rule : IsRule h.sessions h.next
+  pub hall : IsHall h
   pub conns : (k : ℕ) (c : Conn ItemOut) → v.conns k ≡ Some c → conn_at k h ≡ conn_shown who (logins k) c
   pub row : IsRowShown v.row (session_named who.account who.resource h.sessions)
   pub seated : (k : ℕ) (c : Conn ItemOut) (s : Session ItemOut) → v.conns k ≡ Some c → session_at k h.sessions ≡ Some s → is_named who.account who.resource s ≡ true
