@@ -1,6 +1,5 @@
 -- The moves of a world of items: each is one item handed over, one end told, one call of a user, or one act of the network.
-use Rattle.std.specs.Prelude.{ℕ, ◌+◌, ◌==◌, Bool, List, [], ◌∷◌, ◌++◌, Option, Some, None, Result, Ok, Err, length, slice_get, slice_set, if◌then◌else◌}
-use Rattle.std.specs.Option.{option_map}
+use Rattle.std.specs.Prelude.{ℕ, ◌+◌, ◌==◌, Bool, true, false, List, [], ◌∷◌, ◌++◌, Option, Some, None, Result, Ok, Err, length, slice_get, slice_set, if◌then◌else◌}
 use Rattle.xmpp_client.specs.UserCalls.{catch_up_answer, catches_up, closes, dials, forgets, leaves, say_answer, says}
 use Rattle.xmpp_client.specs.Feeds.{Fed}
 use Rattle.xmpp_client.specs.Steps.{item_step}

@@ -29,12 +29,12 @@ closed p = record p { ended = true }
 abbrev pub emptied : ItemPipe → ItemPipe
 emptied p = record p { items = []; ended = true }
 
+abbrev has_none : List ItemOut → Bool
+has_none [] = true
+has_none (i ∷ items) = false
+
 abbrev pub is_empty : ItemPipe → Bool
 is_empty p = has_none p.items
-  where
-    abbrev has_none : List ItemOut → Bool
-    has_none [] = true
-    has_none (i ∷ items) = false
 
 -- nothing is under way any more, nothing comes, and that wasn't told yet
 abbrev pub is_end_due : ItemPipe → Bool

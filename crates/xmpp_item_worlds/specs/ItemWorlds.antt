@@ -1,11 +1,11 @@
 -- A world of items: the server and the clients of devices, over items, and between them connections of two pipes each.
-use Rattle.std.specs.Prelude.{ℕ, List, [], Option, None, map}
+use Rattle.std.specs.Prelude.{ℕ, List, [], Option}
 use Rattle.xmpp_client_rows.specs.Clients.{ClientView, Turn}
 use Rattle.xmpp_desk.specs.State.{Hall}
 use Rattle.xmpp_framing.specs.declared.items.Item.{Item}
 use Rattle.xmpp_framing.specs.declared.items.Item.TheVariants as item
+use Rattle.xmpp_framing_laws.specs.Spells.{as_written}
 use Rattle.xmpp_item_worlds.specs.ItemPipes.{ItemWire}
-use Rattle.xmpp_names.specs.declared.headers.Header.{Header}
 use Rattle.xmpp_writer.specs.Items.{Closing, ItemOut, Opening, Whole}
 
 -- a device: its client, and the place of the connection that it has, where it has one
@@ -26,7 +26,7 @@ itself i = i
 
 -- the item that its reader has of one that was put. Where a header stands in its stream is looked at by no row.
 abbrev pub read_of : ItemOut → Item
-read_of (Opening h) = item.Header 0 h
+read_of (Opening h) = item.Header 0 (as_written h)
 read_of (Whole e) = item.Element e
 read_of Closing = item.Footer
 

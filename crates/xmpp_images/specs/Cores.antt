@@ -1,0 +1,107 @@
+-- What the two cores owe to the pipes: what they put is within the limits of who reads it, and in the order of a stream.
+use Rattle.std.specs.Prelude.{ℕ, ◌≡◌, ◌≤◌, Bool, true, false, List, [], ◌∷◌, ◌++◌, Option, Some, None, Ok, IsTrue, map}
+use Rattle.std.specs.List.{AllByRecursion}
+use Rattle.std.specs.Option.{option_map}
+use Rattle.xmpp_client.specs.UserCalls.{catch_up_answer, catches_up, closes, dials, forgets, leaves, say_answer, says}
+use Rattle.xmpp_client_rows.specs.Clients.{ClientView, Turn}
+use Rattle.xmpp_client_rows.specs.Speech.{in_items}
+use Rattle.xmpp_client.specs.Steps.{item_step}
+use Rattle.xmpp_desk.specs.Moments.{at_moment, gone_at, with_fresh}
+use Rattle.xmpp_desk.specs.State.{Hall, Out, Put, Shut, Took, conn_at, is_number}
+use Rattle.xmpp_desk.specs.declared.connection.Connection.{Connection}
+use Rattle.xmpp_desk.specs.declared.connection.Phase.TheVariants as conn
+use Rattle.xmpp_desk.specs.declared.connection.Phase.{Phase as ConnPhase}
+use Rattle.xmpp_framing.specs.Limits.{client_limits, server_limits}
+use Rattle.xmpp_framing.specs.declared.items.Item.{Item}
+use Rattle.xmpp_framing.specs.declared.states.Phase.{Phase}
+use Rattle.xmpp_framing.specs.declared.states.Phase.TheVariants as phase
+use Rattle.xmpp_item_worlds.specs.ItemMoves.{fed_of, step_of}
+use Rattle.xmpp_item_worlds.specs.ItemWorlds.{itself, read_of, silent_turn}
+use Rattle.xmpp_report.specs.Addresses.{bare_address}
+use Rattle.xmpp_schedule.specs.Grammar.{is_name}
+use Rattle.xmpp_server.specs.Table.{after_item}
+use Rattle.xmpp_world.specs.Worlds.{client_entropy, server_entropy}
+use Rattle.xmpp_writer.specs.Items.{Closing, ItemOut, Opening, Whole}
+use Rattle.xmpp_written.specs.Puts.{MayPut, OutFits, phase_behind}
+
+-- ---- where the server stands in the stream of a connection
+
+-- the first header is to be put yet, or was put
+abbrev pub phase_of : ConnPhase → Phase
+phase_of conn.Start = phase.First
+phase_of p = phase.Between
+
+abbrev pub writer_of : Connection → Phase
+writer_of c = phase_of c.phase
+
+-- where the connection isn't open it puts nothing
+abbrev pub writer_at : {A : Type 0} → ℕ → Hall A → Option Phase
+writer_at k h = option_map writer_of (conn_at k h)
+
+-- ---- what the server puts out
+
+-- a thing for this connection, or for another
+abbrev pub IsInOrder : (ItemOut → Type 0) → Bool → Option Phase → ItemOut → Type 0
+IsInOrder Fits false now i = Unit {0}
+IsInOrder Fits true None i = ⊥
+IsInOrder Fits true (Some now) i = MayPut now i × Fits i
+
+abbrev pub behind_put : Bool → Option Phase → ItemOut → Option Phase
+behind_put false now i = now
+behind_put true now i = Some (phase_behind i)
+
+abbrev pub behind_shut : Bool → Option Phase → Option Phase
+behind_shut false now = now
+behind_shut true now = None
+
+-- Of all that is put out, what is for this connection comes in order and fits: first a header, and behind a footer, and
+-- where the connection was shut, nothing. So the writer, who stood at the one, stands at the other.
+abbrev pub AreInOrder : (ItemOut → Type 0) → ℕ → Option Phase → List (Out ItemOut) → Option Phase → Type 0
+AreInOrder Fits j now [] later = now ≡ later
+AreInOrder Fits j now (Put k i ∷ outs) later = IsInOrder Fits (is_number j k) now i × AreInOrder Fits j (behind_put (is_number j k) now i) outs later
+AreInOrder Fits j now (Shut k ∷ outs) later = AreInOrder Fits j (behind_shut (is_number j k) now) outs later
+AreInOrder Fits j now (Took from to origin ∷ outs) later = AreInOrder Fits j now outs later
+
+-- ---- what a client puts
+
+abbrev pub IsNoFooter : ItemOut → Type 0
+IsNoFooter Closing = ⊥
+IsNoFooter (Opening h) = Unit {0}
+IsNoFooter (Whole e) = Unit {0}
+
+-- What a turn put before is put still, and what is put then doesn't hang on it.
+pub record Adds (t alone u : Turn ItemOut ItemOut) : Type 0 where
+  pub client_is : u.client ≡ alone.client
+  pub put_is : u.out.put ≡ t.out.put ++ alone.out.put
+
+-- what it puts fits and is no footer, and the client that it becomes is one of these
+pub record TurnFits (UpFits : ItemOut → Type 0) (ClientFits : ClientView ItemOut → Type 0) (t : Turn ItemOut ItemOut) : Type 0 where
+  pub client : ClientFits t.client
+  pub puts : AllByRecursion UpFits t.out.put
+  pub no_footer : AllByRecursion IsNoFooter t.out.put
+
+-- ---- what is owed
+
+-- Of four families: what a client may put, and the server; halls; and clients. Whatever comes of these is among these.
+pub record CoresFit (UpFits DownFits : ItemOut → Type 0) (HallFits : Hall ItemOut → Type 0) (ClientFits : ClientView ItemOut → Type 0) : Type 0 where
+  -- ---- limits
+  pub up_limits : (i : ItemOut) → UpFits i → OutFits server_limits i
+  pub down_limits : (i : ItemOut) → DownFits i → OutFits client_limits i
+  pub footer : UpFits Closing
+  -- ---- the server
+  pub moment : (now : ℕ) (h : Hall ItemOut) → HallFits h → HallFits (at_moment now h)
+  pub comes : (k : ℕ) (h : Hall ItemOut) → HallFits h → HallFits (with_fresh k (server_entropy k) h)
+  pub goes : (k : ℕ) (h : Hall ItemOut) → HallFits h → HallFits (gone_at k h)
+  pub handles : (k : ℕ) (i : ItemOut) (h : Hall ItemOut) → HallFits h → UpFits i → HallFits (after_item itself k (read_of i) (step_of h)).hall
+  pub in_order : (k : ℕ) (i : ItemOut) (h : Hall ItemOut) (j : ℕ) → HallFits h → UpFits i
+      → AreInOrder DownFits j (writer_at j h) (after_item itself k (read_of i) (step_of h)).outs (writer_at j (after_item itself k (read_of i) (step_of h)).hall)
+  -- ---- a client
+  pub adds : (i : Item) (t : Turn ItemOut ItemOut) → Adds t (item_step in_items (silent_turn t.client) i) (item_step in_items t i)
+  pub dials_so : (k : ℕ) (c : ClientView ItemOut) → ClientFits c → TurnFits UpFits ClientFits (dials in_items (client_entropy k) (fed_of c)).turn
+  pub loses : (c : ClientView ItemOut) → ClientFits c → ClientFits (leaves (fed_of c)).turn.client
+  pub forgets_so : (c : ClientView ItemOut) → ClientFits c → ClientFits (forgets in_items (fed_of c)).turn.client
+  pub hears : (i : ItemOut) (c : ClientView ItemOut) → ClientFits c → DownFits i → TurnFits UpFits ClientFits (item_step in_items (silent_turn c) (read_of i))
+  pub says_so : (name text : List ℕ) (private : Bool) (n : ℕ) (c : ClientView ItemOut) → ClientFits c → IsTrue (is_name name) → say_answer c text ≡ Ok n
+      → TurnFits UpFits ClientFits (says in_items (silent_turn c) (bare_address name) text private)
+  pub catches_up_so : (most : ℕ) (c : ClientView ItemOut) → ClientFits c → 1 ≤ most → most ≤ 100 → catch_up_answer c ≡ Ok tt
+      → TurnFits UpFits ClientFits (catches_up in_items (silent_turn c) most)

@@ -1,0 +1,56 @@
+-- A pipe of bytes as the image of a pipe of items, at the framer that reads it.
+use Rattle.std.specs.Prelude.{ℕ, ◌≡◌, false, true, List, [], Option, Some, None, map}
+use Rattle.xmpp_carries.specs.Carries.{Carries, held}
+use Rattle.xmpp_framing.specs.States.{State}
+use Rattle.xmpp_framing.specs.declared.items.Item.{Item}
+use Rattle.xmpp_framing.specs.declared.limits.Limits.{Limits}
+use Rattle.xmpp_framing.specs.declared.states.Phase.{Phase}
+use Rattle.xmpp_framing_laws.specs.Spells.{placed}
+use Rattle.xmpp_item_worlds.specs.ItemPipes.{ItemPipe}
+use Rattle.xmpp_item_worlds.specs.ItemWorlds.{read_of}
+use Rattle.xmpp_pipes.specs.Pipes.{Pipe}
+use Rattle.xmpp_writer.specs.Items.{ItemOut}
+use Rattle.xmpp_written.specs.Puts.{StandsAt}
+
+-- the items that a framer gives are those that were put, but for the places of headers
+abbrev pub AreRead : List Item → List ItemOut → Type 0
+AreRead items outs = map (placed 0) items ≡ map read_of outs
+
+-- Who writes stands at a phase of its stream: it has the first header to put, stands behind one, or behind the footer.
+-- Where it puts nothing more, at none.
+abbrev pub WriterStands : Option Phase → State → Type 0
+WriterStands None t = Unit {0}
+WriterStands (Some now) t = StandsAt t now
+
+-- what is put next comes to the framer in this state
+pub record Awaits (limits : Limits) (writer : Option Phase) (t : State) : Type 0 where
+  pub limits_are : t.limits ≡ limits
+  pub stands : WriterStands writer t
+
+-- The bytes, behind those that the framer has in hand, carry the items. Where the pipe hasn't ended, its writer may go on.
+pub record Standing (limits : Limits) (writer : Option Phase) (f : State) (b : Pipe) (p : ItemPipe) : Type 0 where
+  pub start : State
+  pub part : List ℕ
+  pub items : List Item
+  pub behind : State
+  pub held_is : f ≡ held start part
+  pub carries : Carries start part b items behind
+  pub read : AreRead items p.items
+  pub awaits : b.ended ≡ false → Awaits limits writer behind
+
+-- nothing is under way, and nothing comes
+pub record Over (b : Pipe) (p : ItemPipe) : Type 0 where
+  pub no_bytes : b.bytes ≡ []
+  pub no_items : p.items ≡ []
+  pub has_ended : b.ended ≡ true
+
+-- by the framer that reads the pipe, where there is one; a pipe that is over needs none
+pub data IsCarried (limits : Limits) (writer : Option Phase) (reader : Option State) (b : Pipe) (p : ItemPipe) : Type 0 where
+  over : Over b p → IsCarried limits writer reader b p
+  standing : (f : State) → reader ≡ Some f → Standing limits writer f b p → IsCarried limits writer reader b p
+
+-- the same end, told or not, and the same items
+pub record PipeImage (limits : Limits) (writer : Option Phase) (reader : Option State) (b : Pipe) (p : ItemPipe) : Type 0 where
+  pub ended : b.ended ≡ p.ended
+  pub told : b.told ≡ p.told
+  pub carried : IsCarried limits writer reader b p
