@@ -1,5 +1,5 @@
 -- What the client of a device has: its account, how far it is with the connection that it works on, and its session.
-use Rattle.std.specs.Prelude.{◌≡◌, ℕ, ◌+◌, ◌⊎◌, true, false, All, List, Ok, Option, Some, None, is_none}
+use Rattle.std.specs.Prelude.{◌≡◌, ℕ, ◌+◌, ◌⊎◌, false, All, List, Ok, Option, Some, None, is_none}
 use Rattle.xmpp_client_login.specs.declared.login_state.LoginState.TheVariants as state
 use Rattle.xmpp_client_rows.specs.Turns.{is_apart}
 use Rattle.xmpp_client_rows.specs.declared.phase.Phase.{Phase}

@@ -1,12 +1,12 @@
 -- A device as both of its ends know it, and a login of it (RFC 6120, sections 6 and 7; RFC 5802).
-use Rattle.std.specs.Prelude.{◌≡◌, ◌≢◌, ℕ, List, [], ◌∷◌, ◌++◌, Ok, codes, take}
+use Rattle.std.specs.Prelude.{◌≡◌, ◌≢◌, ℕ, List, [], ◌∷◌, ◌++◌, Ok}
 use Rattle.base64.specs.GeneralPurpose.{IsBytes}
 use Rattle.xmpp_client_rows.specs.declared.account.Account.{Account as ClientsAccount}
 use Rattle.xmpp_jid.specs.Forms.{resource_form}
 use Rattle.xmpp_jid.specs.Normal.{normal}
 use Rattle.xmpp_login.specs.Accounts.{bare_text, account_of}
 use Rattle.xmpp_login.specs.declared.account.Account.{Account}
-use Rattle.xmpp_scram.specs.Exchange.{ClientView, CredentialsView, ReplyView, ServerView, added_nonce, begun_client, begun_server, check_of, expecting, last_of, reply_of, server_final_message}
+use Rattle.xmpp_scram.specs.Exchange.{ClientView, ReplyView, ServerView, added_nonce, begun_client, begun_server, check_of, expecting, last_of, reply_of, server_final_message}
 use Rattle.xmpp_scram.specs.Messages.{client_first_of}
 use Rattle.xmpp_scram.specs.declared.client_first.ClientFirst.{ClientFirst}
 

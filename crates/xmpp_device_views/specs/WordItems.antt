@@ -1,6 +1,6 @@
 -- The item that each word of the links is, as this project's own ends put it. Counts are told modulo 2 ^ 32, and a session
 -- by its `previd` (XEP-0198, sections 4 and 5).
-use Rattle.std.specs.Prelude.{ℕ, ◌%◌, ◌^◌, Bool, true, false, codes, if◌then◌else◌}
+use Rattle.std.specs.Prelude.{ℕ, ◌%◌, ◌^◌, Bool, true, false, codes}
 use Rattle.xmpp_client_login.specs.LoginRows.{client_header}
 use Rattle.xmpp_desk.specs.declared.limits.TheConstants.{RESUMABLE_SECONDS}
 use Rattle.xmpp_device_views.specs.Identities.{Identity, Login, exchange_of, full_of}
