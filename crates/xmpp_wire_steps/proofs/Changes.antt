@@ -1,5 +1,5 @@
 -- The item under a number of a list is changed, and the others are not.
-use Rattle.std.proofs.Common.{◌≡◌, ◌≢◌, ℕ, zero, suc, List, [], ◌∷◌, Option, Some, None, ◌+◌, refl, ap, slice_get, add-one}
+use Rattle.std.proofs.Common.{◌≡◌, ◌≢◌, ℕ, zero, suc, List, [], ◌∷◌, ◌+◌, refl, ap, slice_get, add-one}
 use Rattle.std.specs.Option.{option_map}
 use Rattle.xmpp_device_views.specs.Pipes.{under}
 use Rattle.xmpp_wires.specs.Places.{changed_at, changed_under}

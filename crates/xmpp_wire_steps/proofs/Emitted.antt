@@ -1,17 +1,16 @@
 -- What is put out for a connection goes into its pipe down or shuts it, and changes no other.
-use Rattle.std.proofs.Common.{◌≡◌, ◌≢◌, ℕ, ◌+◌, Bool, true, false, List, [], ◌∷◌, ◌++◌, Option, Some, None, nat_eq, refl, sym, ap, subst, ◌∙◌, inl, inr, map}
+use Rattle.std.proofs.Common.{◌≡◌, ◌≢◌, ℕ, List, [], ◌∷◌, ◌++◌, Option, Some, None, nat_eq, refl, sym, ap, subst, ◌∙◌, inl, inr, map}
 use Rattle.std.proofs.lemmas.Bool.{cases_eq}
 use Rattle.std.specs.Option.{option_map}
 use Rattle.xmpp_desk.specs.State.{Out, Put, Shut, Took}
 use Rattle.xmpp_device_views.specs.Pipes.{by_number, under}
 use Rattle.xmpp_device_views.specs.Sent.{sent, sent_one, sent_under, where_it}
 use Rattle.xmpp_item_worlds.specs.ItemMoves.{all_emitted, emitted}
-use Rattle.xmpp_item_worlds.specs.ItemPipes.{ItemWire, handed_up, put_down, shut}
-use Rattle.xmpp_links.proofs.Entries.{at_other, at_same, other_number, same_number}
-use Rattle.xmpp_links.specs.Views.{Table, with_at}
-use Rattle.xmpp_wire_steps.proofs.Changes.{at_place, under_changed, under_other}
+use Rattle.xmpp_item_worlds.specs.ItemPipes.{ItemWire, put_down, shut}
+use Rattle.xmpp_links.proofs.Entries.{other_number, same_number}
+use Rattle.xmpp_wire_steps.proofs.Changes.{under_changed, under_other}
 use Rattle.xmpp_wire_steps.proofs.Flows.{entered_none, entered_twice}
-use Rattle.xmpp_wires.specs.Places.{changed_at, changed_under}
+use Rattle.xmpp_wires.specs.Places.{changed_under}
 use Rattle.xmpp_writer.specs.Items.{ItemOut}
 
 pub mapped_same : {T : Type 0} (o : Option T) → option_map (λ t. t) o ≡ o

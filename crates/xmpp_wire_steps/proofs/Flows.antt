@@ -1,8 +1,8 @@
 -- What is taken and put is taken and put in the pipes of items as in those of words.
-use Rattle.std.proofs.Common.{◌≡◌, ℕ, Bool, true, false, not, List, [], ◌∷◌, ◌++◌, drop, map, refl, sym, ap, ◌∙◌, inl, inr, cond}
+use Rattle.std.proofs.Common.{◌≡◌, true, false, not, List, [], ◌∷◌, ◌++◌, drop, map, refl, sym, ap, ◌∙◌, inl, inr}
 use Rattle.std.proofs.lemmas.Bool.{cases_Bool}
 use Rattle.std.proofs.lemmas.List.{append-nil, append_assoc, map-append}
-use Rattle.xmpp_item_worlds.specs.ItemPipes.{ItemPipe, closed, entered, handed}
+use Rattle.xmpp_item_worlds.specs.ItemPipes.{ItemPipe, entered, handed}
 use Rattle.xmpp_links.specs.Words.{DownWord, UpWord}
 use Rattle.xmpp_links.specs.Wires.{Flow, Stop, Wires, down_words, halt, is_flowing, left_down, left_up, send_down, send_up, up_words}
 use Rattle.xmpp_writer.specs.Items.{ItemOut}

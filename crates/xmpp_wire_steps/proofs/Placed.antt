@@ -1,5 +1,5 @@
 -- All connections of a device, where one of them changes.
-use Rattle.std.proofs.Common.{◌≡◌, ◌≢◌, ℕ, true, false, List, Option, Some, None, refl, sym, ap, subst, ◌∙◌, inl, inr}
+use Rattle.std.proofs.Common.{◌≡◌, ◌≢◌, ℕ, false, List, Option, Some, None, refl, sym, ap, subst, ◌∙◌, inl, inr}
 use Rattle.std.proofs.lemmas.Bool.{cases_eq}
 use Rattle.std.specs.Option.{option_map}
 use Rattle.xmpp_desk.specs.State.{Out}
@@ -12,7 +12,7 @@ use Rattle.xmpp_links.proofs.Entries.{at_other, at_same}
 use Rattle.xmpp_links.specs.Stages.{Conn}
 use Rattle.xmpp_links.specs.Views.{Table, View, with_at}
 use Rattle.xmpp_links.specs.Wires.{is_flowing}
-use Rattle.xmpp_wire_steps.proofs.Emitted.{AreFor, mapped_same}
+use Rattle.xmpp_wire_steps.proofs.Emitted.{AreFor}
 use Rattle.xmpp_writer.specs.Items.{ItemOut}
 
 pub shown_as : (who : Identity) (x : Login) (k : ℕ) (o p : Option (Conn ItemOut)) (m n : Option ItemWire) → p ≡ o → n ≡ m → IsShown who x k o m → IsShown who x k p n

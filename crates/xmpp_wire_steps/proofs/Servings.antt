@@ -1,6 +1,5 @@
 -- What the server has of a device, where one connection of it comes to another phase, or its session is changed.
-use Rattle.std.proofs.Common.{◌≡◌, ◌≢◌, ℕ, ◌≤◌, Bool, true, false, List, Option, Some, None, length, refl, sym, ap, subst, ◌∙◌, inl, inr}
-use Rattle.std.proofs.lemmas.Bool.{cases_eq}
+use Rattle.std.proofs.Common.{◌≡◌, ℕ, ◌≤◌, true, Option, Some, None, length, refl, sym, ap, subst, ◌∙◌}
 use Rattle.std.specs.Option.{option_map}
 use Rattle.xmpp_acks.specs.declared.end.TheConstants.{MOST_UNACKNOWLEDGED}
 use Rattle.xmpp_desk.specs.State.{Hall, conn_at, with_conn, with_sessions}
@@ -11,9 +10,8 @@ use Rattle.xmpp_links.proofs.Entries.{Entry, New, Old, entry}
 use Rattle.xmpp_links.specs.Stages.{Conn}
 use Rattle.xmpp_links.specs.Views.{Row, Table, View, with_at}
 use Rattle.xmpp_links.specs.Views as links
-use Rattle.xmpp_live.specs.Rule.{IsRule}
 use Rattle.xmpp_live.specs.Sessions.{Session, is_named, session_at, session_named, session_of, with_session}
-use Rattle.xmpp_wire_steps.proofs.Found.{Keeps, at_was, change_here, changes_one, found_is, keeps_one, named_changed, numbered_here, rule_changed}
+use Rattle.xmpp_wire_steps.proofs.Found.{Keeps, at_was, change_here, changes_one, keeps_one, named_changed, numbered_here, rule_changed}
 use Rattle.xmpp_wire_steps.proofs.Halls.{hall_apart, hall_here, hall_sorted}
 use Rattle.xmpp_writer.specs.Items.{ItemOut}
 

@@ -1,5 +1,5 @@
 -- One connection as the server takes a word from it, puts words, shuts it, or hears of its end.
-use Rattle.std.proofs.Common.{◌≡◌, ℕ, Bool, true, false, not, List, [], ◌∷◌, ◌++◌, map, refl, sym, ap, subst, ◌∙◌}
+use Rattle.std.proofs.Common.{◌≡◌, ℕ, true, not, List, [], ◌∷◌, ◌++◌, map, refl, sym, ap, subst, ◌∙◌}
 use Rattle.std.proofs.lemmas.List.Elements.{All-append, All-nil, All-tail}
 use Rattle.std.specs.List.{All}
 use Rattle.xmpp_device_views.specs.Counted.{IsForClient, IsForServer}
@@ -9,9 +9,9 @@ use Rattle.xmpp_device_views.specs.WordItems.{down_item, is_behind_login, up_ite
 use Rattle.xmpp_item_worlds.specs.ItemPipes.{ItemWire, handed_up, put_down, shut, up_end_told}
 use Rattle.xmpp_links.specs.SessionMoves.{shut as shut_conn}
 use Rattle.xmpp_links.specs.Stages.{Closes, Conn, Ending, Errs, Stands, tail_of}
-use Rattle.xmpp_links.specs.Words.{Ack, Auth, Bind, Bound, Chal, Cause, Down, DownWord, Enable, Enabled, End, Err, Failed, Feat, Foot, Hdr, Head, Phase, Req, Resp, ResumeAt, Resumed, St, Succ, Up, UpWord, down_stanzas, up_stanzas}
-use Rattle.xmpp_links.specs.Wires.{Flow, Stop, Wires, down_words, halt, is_flowing, left_up, send_down, up_words}
-use Rattle.xmpp_wire_steps.proofs.Flows.{entered_end, entered_ended, halted, halted_down, halted_up, handed_words, put_flowing, put_taken, put_up_kept, put_words, taken_flowing, taken_up}
+use Rattle.xmpp_links.specs.Words.{Ack, Auth, Bind, Bound, Chal, Down, DownWord, Enable, Enabled, End, Err, Failed, Feat, Foot, Hdr, Head, Phase, Req, Resp, ResumeAt, Resumed, St, Succ, Up, UpWord, down_stanzas, up_stanzas}
+use Rattle.xmpp_links.specs.Wires.{Flow, Stop, Wires, down_words, left_up, send_down, up_words}
+use Rattle.xmpp_wire_steps.proofs.Flows.{entered_end, halted, halted_down, halted_up, handed_words, put_flowing, put_taken, put_up_kept, put_words, taken_flowing, taken_up}
 use Rattle.xmpp_writer.specs.Items.{ItemOut}
 
 -- ---- stanzas among words
