@@ -1,0 +1,10 @@
+-- ---- what the rows of the table of the handshake determine
+pub mod Standing
+-- ---- what the server reads of each word
+pub mod ReadWords
+-- ---- one move
+pub mod HandMoves
+pub mod LoginRows
+-- ---- words of a session
+pub mod Sessions
+pub mod SessionRows

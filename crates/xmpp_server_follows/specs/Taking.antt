@@ -1,0 +1,57 @@
+-- A word stands first on its way up: what the server does on its item is to be moves of the links.
+use Rattle.std.specs.Prelude.{◌≡◌, ℕ, List, ◌∷◌, Some}
+use Rattle.xmpp_desk.specs.State.{Hall, Step}
+use Rattle.xmpp_device_views.specs.Identities.{Identity, IsNormal, Login}
+use Rattle.xmpp_device_views.specs.Pipes.{PipesShow}
+use Rattle.xmpp_device_views.specs.Sent.{sent}
+use Rattle.xmpp_device_views.specs.Servers.{ServerFollows, ServerShows}
+use Rattle.xmpp_device_views.specs.WordItems.{up_item}
+use Rattle.xmpp_item_worlds.specs.ItemMoves.{step_of}
+use Rattle.xmpp_item_worlds.specs.ItemPipes.{ItemWire, handed_up}
+use Rattle.xmpp_item_worlds.specs.ItemWorlds.{itself, read_of}
+use Rattle.xmpp_links.specs.Machine.{LinkReached}
+use Rattle.xmpp_links.specs.Stages.{Conn}
+use Rattle.xmpp_links.specs.Views.{Table, View, with_at}
+use Rattle.xmpp_links.specs.Wires.{up_words}
+use Rattle.xmpp_links.specs.Words.{Ack, Auth, Enable, Hdr, Req, Resp, Up, UpWord}
+use Rattle.xmpp_server.specs.Table.{after_item}
+use Rattle.xmpp_writer.specs.Items.{ItemOut}
+
+-- the device is shown, and the word is the first on the connection with this number
+pub record IsFirst (who : Identity) (logins : ℕ → Login) (h : Hall ItemOut) (wires : Table ItemWire) (v : View ItemOut) (k : ℕ) (word : UpWord ItemOut) : Type 0 where
+  pub normal : IsNormal who
+  pub reached : LinkReached v
+  pub server : ServerShows who logins h v
+  pub pipes : PipesShow who logins wires v
+  pub conn : Conn ItemOut
+  pub is : v.conns k ≡ Some conn
+  pub rest : List (UpWord ItemOut)
+  pub first : up_words conn.wires ≡ word ∷ rest
+  pub wire : ItemWire
+  pub there : wires k ≡ Some wire
+
+-- what the server does on an item
+abbrev pub on_item : ℕ → ItemOut → Hall ItemOut → Step ItemOut
+on_item k i h = after_item itself k (read_of i) (step_of h)
+
+-- behind a step, of which an item of this connection was handed over, the links have moved as this says
+abbrev pub StepFollows : Identity → (ℕ → Login) → Table ItemWire → View ItemOut → ℕ → ItemWire → Step ItemOut → Type 0
+StepFollows who logins wires v k wire done = ServerFollows who logins done.hall (sent done.outs (with_at k (handed_up wire) wires)) v
+
+-- the word's item is taken
+abbrev pub IsTaken : Identity → (ℕ → Login) → Hall ItemOut → Table ItemWire → View ItemOut → ℕ → ItemWire → UpWord ItemOut → Type 0
+IsTaken who logins h wires v k wire word = StepFollows who logins wires v k wire (on_item k (up_item who (logins k) word) h)
+
+-- the words of a login
+abbrev pub IsOfLogin : UpWord ItemOut → Type 0
+IsOfLogin Hdr = Unit {0}
+IsOfLogin Auth = Unit {0}
+IsOfLogin Resp = Unit {0}
+IsOfLogin _ = ⊥
+
+-- the words on the acknowledgement of stanzas, where a session is
+abbrev pub IsOfManagement : UpWord ItemOut → Type 0
+IsOfManagement Enable = Unit {0}
+IsOfManagement (Up Req) = Unit {0}
+IsOfManagement (Up (Ack n)) = Unit {0}
+IsOfManagement _ = ⊥

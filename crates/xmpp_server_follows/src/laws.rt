@@ -1,0 +1,23 @@
+//! What a server does on each item is moves of the links.
+ghost use Rattle.std.specs.Prelude.{ℕ};
+ghost use Rattle.xmpp_desk.specs.State.{Hall};
+ghost use Rattle.xmpp_device_views.specs.Identities.{Identity, Login};
+ghost use Rattle.xmpp_item_worlds.specs.ItemPipes.{ItemWire};
+ghost use Rattle.xmpp_links.specs.Views.{Table, View};
+ghost use Rattle.xmpp_links.specs.Words.{UpWord};
+ghost use Rattle.xmpp_server_follows.specs.Taking.{IsFirst, IsOfLogin, IsOfManagement, IsTaken};
+ghost use Rattle.xmpp_writer.specs.Items.{ItemOut};
+
+/// A law: on each word of a login (RFC 6120, sections 4.3 and 6) the server does what it does in the links: it is one
+/// move there.
+pub fn logins_follow()
+    ensures { (who : Identity) (logins : ℕ → Login) (h : Hall ItemOut) (wires : Table ItemWire) (v : View ItemOut) (k : ℕ) (word : UpWord ItemOut) (p : IsFirst who logins h wires v k word)
+        → IsOfLogin word → IsTaken who logins h wires v k p.wire word }
+{}
+
+/// A law: on each word on the acknowledgement of stanzas (XEP-0198, sections 3 and 4) likewise: a session is counted from
+/// its `enable` on, a request is answered by the count, and a count takes from the queue what it acknowledges.
+pub fn acknowledgements_follow()
+    ensures { (who : Identity) (logins : ℕ → Login) (h : Hall ItemOut) (wires : Table ItemWire) (v : View ItemOut) (k : ℕ) (word : UpWord ItemOut) (p : IsFirst who logins h wires v k word)
+        → IsOfManagement word → IsTaken who logins h wires v k p.wire word }
+{}

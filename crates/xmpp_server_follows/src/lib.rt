@@ -1,0 +1,6 @@
+//! What a server does on an item that comes on a connection of a device is moves of the links of that device.
+#![tactic(auto)]
+
+mod laws;
+
+pub use laws::{acknowledgements_follow, logins_follow};
