@@ -8,3 +8,16 @@ pub mod LoginRows
 -- ---- words of a session
 pub mod Sessions
 pub mod SessionRows
+-- ---- ends
+pub mod Removed
+pub mod HallsLeft
+pub mod Leavings
+pub mod Shuts
+pub mod FooterRows
+pub mod GoneRows
+-- ---- bindings
+pub mod BindReads
+pub mod Pushed
+pub mod Binding
+pub mod BindRows
+pub mod Former

@@ -1,5 +1,6 @@
 -- A word stands first on its way up: what the server does on its item is to be moves of the links.
-use Rattle.std.specs.Prelude.{◌≡◌, ℕ, List, ◌∷◌, Some}
+use Rattle.std.specs.Prelude.{◌≡◌, ℕ, true, List, [], ◌∷◌, Some}
+use Rattle.xmpp_desk.specs.Moments.{gone_at}
 use Rattle.xmpp_desk.specs.State.{Hall, Step}
 use Rattle.xmpp_device_views.specs.Identities.{Identity, IsNormal, Login}
 use Rattle.xmpp_device_views.specs.Pipes.{PipesShow}
@@ -7,7 +8,7 @@ use Rattle.xmpp_device_views.specs.Sent.{sent}
 use Rattle.xmpp_device_views.specs.Servers.{ServerFollows, ServerShows}
 use Rattle.xmpp_device_views.specs.WordItems.{up_item}
 use Rattle.xmpp_item_worlds.specs.ItemMoves.{step_of}
-use Rattle.xmpp_item_worlds.specs.ItemPipes.{ItemWire, handed_up}
+use Rattle.xmpp_item_worlds.specs.ItemPipes.{ItemWire, handed_up, up_end_told}
 use Rattle.xmpp_item_worlds.specs.ItemWorlds.{itself, read_of}
 use Rattle.xmpp_links.specs.Machine.{LinkReached}
 use Rattle.xmpp_links.specs.Stages.{Conn}
@@ -55,3 +56,21 @@ IsOfManagement Enable = Unit {0}
 IsOfManagement (Up Req) = Unit {0}
 IsOfManagement (Up (Ack n)) = Unit {0}
 IsOfManagement _ = ⊥
+
+-- ---- the end of a connection
+
+-- nothing is under way on it to the server, and nothing comes
+pub record IsOver (who : Identity) (logins : ℕ → Login) (h : Hall ItemOut) (wires : Table ItemWire) (v : View ItemOut) (k : ℕ) : Type 0 where
+  pub reached : LinkReached v
+  pub server : ServerShows who logins h v
+  pub pipes : PipesShow who logins wires v
+  pub conn : Conn ItemOut
+  pub is : v.conns k ≡ Some conn
+  pub wire : ItemWire
+  pub there : wires k ≡ Some wire
+  pub nothing : wire.up.items ≡ []
+  pub ended : wire.up.ended ≡ true
+
+-- the server hears of it
+abbrev pub IsHeard : Identity → (ℕ → Login) → Hall ItemOut → Table ItemWire → View ItemOut → ℕ → ItemWire → Type 0
+IsHeard who logins h wires v k wire = ServerFollows who logins (gone_at k h) (with_at k (up_end_told wire) wires) v

@@ -1,0 +1,198 @@
+-- The row on a binding (RFC 6120, section 7), where the older session of the device is on no connection.
+use Rattle.std.proofs.Common.{◌≡◌, ◌≢◌, ℕ, ◌+◌, ◌<◌, ◌≤◌, ◌^◌, ◌==◌, Bool, true, false, not, List, [], ◌∷◌, ◌++◌, Option, Some, None, Ok, All, codes, refl, sym, ap, subst, ◌∙◌, inl, inr, arith}
+use Rattle.std.proofs.lemmas.Bool.{cases_Bool, eq-eqb}
+use Rattle.std.proofs.lemmas.List.Elements.{All-nil}
+use Rattle.std.specs.List.{filter, find}
+use Rattle.std.specs.Option.{option_map}
+use Rattle.std.specs.Result.{result_ok}
+use Rattle.xmpp_desk.specs.State.{Hall, Put, Step, conn_at, full_address}
+use Rattle.xmpp_desk.specs.Steps.{Say, acted}
+use Rattle.xmpp_desk.specs.Streams.{parting_where, standing_of}
+use Rattle.xmpp_desk.specs.Words.{is_long}
+use Rattle.xmpp_desk.specs.declared.connection.Phase.TheVariants as phase
+use Rattle.xmpp_desk.specs.declared.connection.Standing.{Standing}
+use Rattle.xmpp_desk.specs.declared.connection.Tries.TheVariants as tries
+use Rattle.xmpp_desk.specs.declared.word.Word.TheVariants as word
+use Rattle.xmpp_device_views.specs.Counted.{IsForClient}
+use Rattle.xmpp_device_views.specs.Identities.{Identity, Login, full_of}
+use Rattle.xmpp_device_views.specs.Servers.{IsRowShown, ServerShows, conn_shown, open_conn}
+use Rattle.xmpp_device_views.specs.WordItems.{up_item}
+use Rattle.xmpp_framing.specs.declared.items.Item.TheVariants as item
+use Rattle.xmpp_item_worlds.specs.ItemMoves.{step_of}
+use Rattle.xmpp_item_worlds.specs.ItemPipes.{ItemWire}
+use Rattle.xmpp_item_worlds.specs.ItemWorlds.{itself}
+use Rattle.xmpp_links.proofs.Entries.{Entry, New, Old, entry}
+use Rattle.xmpp_links.proofs.Expected.{expected_up}
+use Rattle.xmpp_links.proofs.Numbers.{reached_rises}
+use Rattle.xmpp_links.specs.Links.{LinkKept}
+use Rattle.xmpp_links.specs.Machine.{EndsRow, TakesBind}
+use Rattle.xmpp_links.specs.SessionMoves.{unread}
+use Rattle.xmpp_links.specs.Stages.{Conn, Ending, Stands}
+use Rattle.xmpp_links.specs.Views.{Row, Table, View, on_phase, session_on, with_at}
+use Rattle.xmpp_links.specs.Views as links
+use Rattle.xmpp_links.specs.Words.{AtSession, Bind, Bound, DownWord, Phase, Ready}
+use Rattle.xmpp_live.specs.Rule.{IsRule}
+use Rattle.xmpp_live.specs.Sessions.{Session, ended_of, fresh, is_at, is_named, less, session_at, session_named, session_of, told, without}
+use Rattle.xmpp_replies.specs.Requests.{bound_item}
+use Rattle.xmpp_replies.specs.Streams.{error_item}
+use Rattle.xmpp_replies.specs.declared.conditions.StreamCondition.TheVariants as stream
+use Rattle.xmpp_server.specs.Table.{at_word}
+use Rattle.xmpp_server_follows.proofs.Binding.{bound_hall, bound_shows, new_row}
+use Rattle.xmpp_server_follows.proofs.BindReads.{address_is, bind_elem, bind_iq, bind_read, bind_word, resource_asked, resource_chosen}
+use Rattle.xmpp_server_follows.proofs.HandMoves.{kept_here, open_here, row_here}
+use Rattle.xmpp_server_follows.proofs.Leavings.{unseated}
+use Rattle.xmpp_server_follows.proofs.Removed.{found_none, named_gone, of_left, rule_left}
+use Rattle.xmpp_server_follows.proofs.Sessions.{taken, taken_client, taken_pipes}
+use Rattle.xmpp_server_follows.proofs.Standing.{stands_at}
+use Rattle.xmpp_server_follows.specs.Taking.{IsFirst, IsTaken, StepFollows, on_item}
+use Rattle.xmpp_session_rows.specs.Bindings.{asked_resource, at_bind, binding_as, chosen, former_of}
+use Rattle.xmpp_stanza.specs.Readings.{stanza_of}
+use Rattle.xmpp_stanza_rows.specs.Ready.{at_ready_or_bound, ready_stanza}
+use Rattle.xmpp_wire_steps.proofs.Emitted.{puts_at}
+use Rattle.xmpp_wire_steps.proofs.Found.{found_is, found_some}
+use Rattle.xmpp_wire_steps.proofs.Servings.{IsLive, live_of}
+use Rattle.xmpp_writer.specs.Items.{ItemOut, Whole}
+
+pub none_left : {A : Type 0} (p q : A → Bool) (ss : List A) → find p ss ≡ None → find p (filter q ss) ≡ None
+none_left p q [] none = none
+none_left p q (x ∷ ss) none =
+    elim (cases_Bool (p x)) [
+      | inl here ↦ let found : Some x ≡ None = rw here at none in absurd (let no_way : ⊥ = cc in no_way)
+      | inr other ↦
+          let rest = none_left p q ss (rw other at none) in
+          elim (cases_Bool (q x)) [ inl stays ↦ rw (stays, other) rest | inr gone ↦ rw gone rest ]
+    ]
+
+no_row_named : (who : Identity) (h : Hall ItemOut) (o : Option (Session ItemOut)) → IsRowShown None o → o ≡ None
+no_row_named who h None shown = refl
+no_row_named who h (Some s) shown = absurd shown
+
+module _ (who : Identity) (logins : ℕ → Login) (h : Hall ItemOut) (wires : Table ItemWire) (v : View ItemOut) (k : ℕ) (p : IsFirst who logins h wires v k Bind) (fits : h.next + 1 < 2 ^ 64) where
+  kept : LinkKept v
+  kept = kept_here who logins h wires v k Bind p
+
+  ready : p.conn.phase ≡ Ready
+  ready = expected_up v k p.conn Bind p.rest kept p.is p.first
+
+  off : session_on p.conn ≡ None
+  off = ap (λ q. on_phase q p.conn.ending p.conn.gone) ready
+
+  none_here : session_at k h.sessions ≡ None
+  none_here = unseated who logins h v kept p.server k p.conn p.is off
+
+  abbrev standing : Standing
+  standing = standing_of (record { entropy = (logins k).yours; phase = phase.Ready who.account; tries = tries.Three })
+
+  -- the server binds
+  bind_step : on_item k (up_item who (logins k) Bind) h ≡ acted itself (binding_as itself k who.account (codes "bind") (Some who.resource) h) (step_of h)
+  bind_step =
+      row_here who logins h wires v k Bind p Ready (item.Element (bind_elem who.resource)) ready
+      ∙ ap (λ w. acted itself (at_ready_or_bound itself k who.account w (option_map told (session_at k h.sessions)) standing h) (step_of h)) (bind_word who.resource)
+      ∙ ap (λ o. acted itself (at_ready_or_bound itself k who.account (word.Stanza (is_long (bind_elem who.resource)) (stanza_of (bind_elem who.resource))) (option_map told o) standing h) (step_of h)) none_here
+      ∙ ap (λ r. acted itself (binding_as itself k who.account (codes "bind") (result_ok (chosen h.next r)) h) (step_of h)) (resource_asked who.resource)
+      ∙ ap (λ r. acted itself (binding_as itself k who.account (codes "bind") (result_ok r) h) (step_of h)) (resource_chosen h.next who.resource p.normal.chosen p.normal.resource)
+
+  abbrev items : List ItemOut
+  items = bound_item (codes "bind") (full_of who) ∷ []
+
+  new_number : v.sessions h.next ≡ None
+  new_number = go (v.sessions h.next) refl
+    where
+      go : (o : Option (links.Session ItemOut)) → v.sessions h.next ≡ o → v.sessions h.next ≡ None
+      go None is = is
+      go (Some s) is = let given = (reached_rises v p.reached).given h.next s is in let free = p.server.free in absurd (let no_way : ⊥ = omega arith in no_way)
+
+  abbrev attached : Conn ItemOut
+  attached = taken who logins h wires v k Bind p (AtSession h.next) (Bound h.next ∷ [])
+
+  shown : (j : ℕ) (e : Conn ItemOut) → Entry k attached v.conns j e → conn_at j h ≡ conn_shown who (logins j) e
+  shown j e (New same it) =
+      let s = stands_at v k p.conn kept p.is Bind p.rest p.first in
+      let here : conn_at k h ≡ conn_shown who (logins k) attached =
+          open_here who logins h wires v k Bind p Ready ready
+          ∙ sym (ap (λ b. open_conn who (logins k) (AtSession h.next) p.conn.ending b) s.1 ∙ ap (λ g. open_conn who (logins k) (AtSession h.next) g false) s.0) in
+      subst (λ n. conn_at n h ≡ conn_shown who (logins n) e) same (here ∙ ap (conn_shown who (logins k)) it)
+  shown j e (Old apart was) = p.server.conns j e was
+
+  mine : (j : ℕ) (e : Conn ItemOut) → Entry k attached v.conns j e → (d : Conn ItemOut) × (v.conns j ≡ Some d)
+  mine j e (New same it) = (p.conn, subst (λ n. v.conns n ≡ Some p.conn) same p.is)
+  mine j e (Old apart was) = (e, was)
+
+  module _ (left : List (Session ItemOut)) (rule : IsRule left h.next) (was : (m : ℕ) (s : Session ItemOut) → session_of m left ≡ Some s → session_of m h.sessions ≡ Some s) (seat : session_at k left ≡ None)
+      (name : session_named who.account who.resource left ≡ None) where
+    abbrev after : Hall ItemOut
+    after = bound_hall who logins h v p.server k left h.conns rule was seat name fits
+
+    abbrev sessions : Table (links.Session ItemOut)
+    sessions = with_at h.next unread v.sessions
+
+    abbrev last : View ItemOut
+    last = record v { conns = with_at k attached v.conns; row = Some (new_row h.next k); sessions = sessions; free = h.next + 1 }
+
+    after_shows : ServerShows who logins after last
+    after_shows =
+        bound_shows who logins h v p.server k left h.conns rule was seat name fits (with_at k attached v.conns) sessions p.server.hall.conns
+        (λ j e there. shown j e (entry k attached v.conns j e there)) (λ j e there. mine j e (entry k attached v.conns j e there))
+
+  -- where this is the older session with the device's name, before it is told so
+  abbrev bound_so : Option (Session ItemOut) → Step ItemOut
+  bound_so o =
+      acted itself (parting_where itself (former_of (option_map ended_of o)) (error_item stream.Conflict) (Say k (bound_item (codes "bind") (full_address who.account who.resource h)) ∷ []))
+      (record { hall = record h { sessions = less o h.sessions ++ fresh h.next who.account who.resource k ∷ []; next = h.next + 1 }; outs = [] })
+
+  -- no session has the device's name
+  bind_new : v.row ≡ None → IsTaken who logins h wires v k p.wire Bind
+  bind_new no_row =
+      let name : session_named who.account who.resource h.sessions ≡ None = no_row_named who h (session_named who.account who.resource h.sessions) (subst (λ o. IsRowShown o (session_named who.account who.resource h.sessions)) no_row p.server.row) in
+      let rule = p.server.hall.sessions in
+      let was : (m : ℕ) (s : Session ItemOut) → session_of m h.sessions ≡ Some s → session_of m h.sessions ≡ Some s = λ m s is. is in
+      let next : View ItemOut = last h.sessions rule was none_here name in
+      let done : Hall ItemOut = after h.sessions rule was none_here name in
+      let step : on_item k (up_item who (logins k) Bind) h ≡ record { hall = done; outs = puts_at k items } =
+          bind_step ∙ ap bound_so name ∙ ap (λ a. record { hall = done; outs = puts_at k (bound_item (codes "bind") a ∷ []) }) (address_is who h p.server.served) in
+      subst (StepFollows who logins wires v k p.wire) (sym step) (record {
+        moves = TakesBind k h.next ∷ [];
+        next = next;
+        leads = (next, record { conn = p.conn; is = p.is; rest = p.rest; first = p.first; phase = ready; none = no_row; fresh = new_number; rises = p.server.free; gives = refl }, refl);
+        server = after_shows h.sessions rule was none_here name;
+        pipes = taken_pipes who logins h wires v k Bind p (AtSession h.next) (Bound h.next ∷ []) items next (λ j. refl) refl (All-nil IsForClient);
+        client = taken_client who logins h wires v k Bind p (AtSession h.next) (Bound h.next ∷ []) next refl refl refl refl;
+      })
+
+  -- the older one is parked, and ends
+  bind_over : (row : Row ItemOut) → v.row ≡ Some row → row.on ≡ None → IsTaken who logins h wires v k p.wire Bind
+  bind_over row is_row parked =
+      let live = live_of who logins h v row p.server is_row in
+      let s : Session ItemOut = live.session in
+      let stays : Session ItemOut → Bool = λ t. not (t.shown.number == s.shown.number) in
+      let out : stays s ≡ false = ap not (eq-eqb s.shown.number s.shown.number refl) in
+      let left : List (Session ItemOut) = filter stays h.sessions in
+      let rule : IsRule left h.next = rule_left stays h.next h.sessions p.server.hall.sessions in
+      let was : (m : ℕ) (t : Session ItemOut) → session_of m left ≡ Some t → session_of m h.sessions ≡ Some t = λ m t is. (of_left stays h.next 1 m h.sessions t p.server.hall.sessions.ascending is).0 in
+      let seat : session_at k left ≡ None = none_left (is_at k) stays h.sessions none_here in
+      let name : session_named who.account who.resource left ≡ None = named_gone stays who.account who.resource h.next h.sessions s p.server.hall.sessions live.named out in
+      let ended : View ItemOut = record v { row = None } in
+      let next : View ItemOut = last left rule was seat name in
+      let done : Hall ItemOut = after left rule was seat name in
+      let off_it : s.shown.conn ≡ None = live.row.conn ∙ parked in
+      let step : on_item k (up_item who (logins k) Bind) h ≡ record { hall = done; outs = puts_at k items } =
+          bind_step ∙ ap bound_so live.named
+          ∙ ap (λ o. acted itself (parting_where itself o (error_item stream.Conflict) (Say k (bound_item (codes "bind") (full_address who.account who.resource h)) ∷ [])) (record { hall = done; outs = [] })) off_it
+          ∙ ap (λ a. record { hall = done; outs = puts_at k (bound_item (codes "bind") a ∷ []) }) (address_is who h p.server.served) in
+      subst (StepFollows who logins wires v k p.wire) (sym step) (record {
+        moves = EndsRow ∷ TakesBind k h.next ∷ [];
+        next = next;
+        leads = (ended, record { row = row; is_row = is_row; off = parked; gives = refl },
+        (next, record { conn = p.conn; is = p.is; rest = p.rest; first = p.first; phase = ready; none = refl; fresh = new_number; rises = p.server.free; gives = refl }, refl));
+        server = after_shows left rule was seat name;
+        pipes = taken_pipes who logins h wires v k Bind p (AtSession h.next) (Bound h.next ∷ []) items next (λ j. refl) refl (All-nil IsForClient);
+        client = taken_client who logins h wires v k Bind p (AtSession h.next) (Bound h.next ∷ []) next refl refl refl refl;
+      })
+
+  -- where the older session with the device's name is on no connection
+  pub bind_follows : ((row : Row ItemOut) → v.row ≡ Some row → row.on ≡ None) → IsTaken who logins h wires v k p.wire Bind
+  bind_follows parked = go v.row refl
+    where
+      go : (o : Option (Row ItemOut)) → v.row ≡ o → IsTaken who logins h wires v k p.wire Bind
+      go None is = bind_new is
+      go (Some row) is = bind_over row is (parked row is)
