@@ -19,5 +19,5 @@ pub mod GoneRows
 pub mod BindReads
 pub mod Pushed
 pub mod Binding
-pub mod BindRows
 pub mod Former
+pub mod BindRows

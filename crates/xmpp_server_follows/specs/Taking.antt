@@ -1,5 +1,5 @@
 -- A word stands first on its way up: what the server does on its item is to be moves of the links.
-use Rattle.std.specs.Prelude.{◌≡◌, ℕ, true, List, [], ◌∷◌, Some}
+use Rattle.std.specs.Prelude.{◌≡◌, ℕ, ◌+◌, ◌<◌, ◌^◌, true, List, [], ◌∷◌, Some}
 use Rattle.xmpp_desk.specs.Moments.{gone_at}
 use Rattle.xmpp_desk.specs.State.{Hall, Step}
 use Rattle.xmpp_device_views.specs.Identities.{Identity, IsNormal, Login}
@@ -56,6 +56,10 @@ IsOfManagement Enable = Unit {0}
 IsOfManagement (Up Req) = Unit {0}
 IsOfManagement (Up (Ack n)) = Unit {0}
 IsOfManagement _ = ⊥
+
+-- another session has a number of 64 bits
+abbrev pub HasNumber : Hall ItemOut → Type 0
+HasNumber h = h.next + 1 < 2 ^ 64
 
 -- ---- the end of a connection
 

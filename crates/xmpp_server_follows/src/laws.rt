@@ -4,8 +4,8 @@ ghost use Rattle.xmpp_desk.specs.State.{Hall};
 ghost use Rattle.xmpp_device_views.specs.Identities.{Identity, Login};
 ghost use Rattle.xmpp_item_worlds.specs.ItemPipes.{ItemWire};
 ghost use Rattle.xmpp_links.specs.Views.{Table, View};
-ghost use Rattle.xmpp_links.specs.Words.{Foot, UpWord};
-ghost use Rattle.xmpp_server_follows.specs.Taking.{IsFirst, IsHeard, IsOfLogin, IsOfManagement, IsOver, IsTaken};
+ghost use Rattle.xmpp_links.specs.Words.{Bind, Foot, UpWord};
+ghost use Rattle.xmpp_server_follows.specs.Taking.{HasNumber, IsFirst, IsHeard, IsOfLogin, IsOfManagement, IsOver, IsTaken};
 ghost use Rattle.xmpp_writer.specs.Items.{ItemOut};
 
 /// A law: on each word of a login (RFC 6120, sections 4.3 and 6) the server does what it does in the links: it is one
@@ -34,4 +34,11 @@ pub fn footers_follow()
 pub fn ends_follow()
     ensures { (who : Identity) (logins : ℕ → Login) (h : Hall ItemOut) (wires : Table ItemWire) (v : View ItemOut) (k : ℕ) (p : IsOver who logins h wires v k)
         → IsHeard who logins h wires v k p.wire }
+{}
+
+/// A law: on a binding (RFC 6120, section 7) likewise: the older session of the device ends, with its connection told so and
+/// shut, where it has one, and the new session is on the connection, in at most three moves.
+pub fn bindings_follow()
+    ensures { (who : Identity) (logins : ℕ → Login) (h : Hall ItemOut) (wires : Table ItemWire) (v : View ItemOut) (k : ℕ) (p : IsFirst who logins h wires v k Bind) → HasNumber h
+        → IsTaken who logins h wires v k p.wire Bind }
 {}

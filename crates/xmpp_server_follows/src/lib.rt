@@ -3,4 +3,4 @@
 
 mod laws;
 
-pub use laws::{acknowledgements_follow, ends_follow, footers_follow, logins_follow};
+pub use laws::{acknowledgements_follow, bindings_follow, ends_follow, footers_follow, logins_follow};
