@@ -18,9 +18,10 @@ use Rattle.xmpp_item_worlds.specs.ItemPipes.{ItemWire}
 use Rattle.xmpp_links.specs.Machine.{LinkMove, LinkReaches}
 use Rattle.xmpp_links.specs.Stages.{Conn, Ending, Stands}
 use Rattle.xmpp_links.specs.Views.{Row, Table, View}
+use Rattle.xmpp_links.specs.Views as links
 use Rattle.xmpp_links.specs.Words.{AtSession, Challenge, Phase, Ready, Restart, Sasl, Start}
 use Rattle.xmpp_live.specs.Rule.{IsRule}
-use Rattle.xmpp_live.specs.Sessions.{Session, is_named, session_at, session_named}
+use Rattle.xmpp_live.specs.Sessions.{Session, is_named, session_at, session_named, session_of}
 use Rattle.xmpp_login.specs.Accounts.{account_named}
 use Rattle.xmpp_writer.specs.Items.{ItemOut}
 
@@ -76,13 +77,14 @@ pub record IsHall (h : Hall ItemOut) : Type 0 where
   pub sessions : IsRule h.sessions h.next
   pub conns : IsStrictlySortedBy nat_cmp (keys_of h.conns)
 
--- On the device's connections no session is but its own, and the next number is above all of its numbers.
+-- On the device's connections and under its numbers no session is but its own, and the next number is above all of these.
 pub record ServerShows (who : Identity) (logins : ℕ → Login) (h : Hall ItemOut) (v : View ItemOut) : Type 0 where
   pub served : IsServed who h
   pub hall : IsHall h
   pub conns : (k : ℕ) (c : Conn ItemOut) → v.conns k ≡ Some c → conn_at k h ≡ conn_shown who (logins k) c
   pub row : IsRowShown v.row (session_named who.account who.resource h.sessions)
   pub seated : (k : ℕ) (c : Conn ItemOut) (s : Session ItemOut) → v.conns k ≡ Some c → session_at k h.sessions ≡ Some s → is_named who.account who.resource s ≡ true
+  pub owned : (q : ℕ) (t : links.Session ItemOut) (s : Session ItemOut) → v.sessions q ≡ Some t → session_of q h.sessions ≡ Some s → is_named who.account who.resource s ≡ true
   pub free : v.free ≤ h.next
 
 -- ---- what a step of the server is in the links: a short list of moves

@@ -1,5 +1,5 @@
 -- The row on a binding (RFC 6120, section 7): the older session of the device ends, and its connection is told so and shut.
-use Rattle.std.proofs.Common.{◌≡◌, ◌≢◌, ℕ, ◌+◌, ◌<◌, ◌≤◌, ◌^◌, ◌==◌, Bool, true, false, not, ◌&&◌, List, [], ◌∷◌, ◌++◌, Option, Some, None, Ok, All, codes, refl, sym, ap, subst, ◌∙◌, inl, inr, arith}
+use Rattle.std.proofs.Common.{◌≡◌, ◌≢◌, ℕ, ◌+◌, ◌<◌, ◌≤◌, ◌^◌, ◌==◌, Bool, true, false, not, ◌&&◌, List, [], ◌∷◌, ◌++◌, Option, Some, None, Ok, All, codes, refl, sym, ap, subst, ◌∙◌, ◌⊎◌, inl, inr, arith}
 use Rattle.std.proofs.lemmas.Bool.{cases_Bool, eq-eqb}
 use Rattle.std.proofs.lemmas.List.Elements.{All-nil}
 use Rattle.std.proofs.lemmas.Option.{same_Some}
@@ -57,7 +57,7 @@ use Rattle.xmpp_stanza_rows.specs.Ready.{at_ready_or_bound, ready_stanza}
 use Rattle.xmpp_wire_steps.proofs.Emitted.{puts_at}
 use Rattle.xmpp_wire_steps.proofs.Flows.{halted, taken_flowing}
 use Rattle.xmpp_wire_steps.proofs.Placed.{keeps_at}
-use Rattle.xmpp_wire_steps.proofs.Servings.{IsLive, live_of}
+use Rattle.xmpp_wire_steps.proofs.Servings.{IsLive, Known, known_altered, known_same, live_of}
 use Rattle.xmpp_writer.specs.Items.{Closing, ItemOut}
 
 pub none_left : {A : Type 0} (p q : A → Bool) (ss : List A) → find p ss ≡ None → find p (filter q ss) ≡ None
@@ -104,6 +104,13 @@ module _ (who : Identity) (logins : ℕ → Login) (h : Hall ItemOut) (wires : T
       ∙ ap (λ r. acted itself (binding_as itself k who.account (codes "bind") (result_ok (chosen h.next r)) h) (step_of h)) (resource_asked who.resource)
       ∙ ap (λ r. acted itself (binding_as itself k who.account (codes "bind") (result_ok r) h) (step_of h)) (resource_chosen h.next who.resource p.normal.chosen p.normal.resource)
 
+  known_bound : (ss : Table (links.Session ItemOut)) → Known ss v → (q : ℕ) (u : links.Session ItemOut) → with_at h.next unread ss q ≡ Some u → (q ≡ h.next) ⊎ ((old : links.Session ItemOut) × (v.sessions q ≡ Some old))
+  known_bound ss known q u is = go (entry h.next unread ss q u is)
+    where
+      go : Entry h.next unread ss q u → (q ≡ h.next) ⊎ ((old : links.Session ItemOut) × (v.sessions q ≡ Some old))
+      go (New same it) = inl (sym same)
+      go (Old apart there) = inr (known q u there)
+
   abbrev items : List ItemOut
   items = bound_item (codes "bind") (full_of who) ∷ []
 
@@ -143,7 +150,7 @@ module _ (who : Identity) (logins : ℕ → Login) (h : Hall ItemOut) (wires : T
 
     after_shows : ServerShows who logins after last
     after_shows =
-        bound_shows who logins h v p.server k left h.conns rule was seat name fits (with_at k attached v.conns) sessions p.server.hall.conns
+        bound_shows who logins h v p.server k left h.conns rule was seat name fits (with_at k attached v.conns) sessions (known_bound v.sessions (λ q s is. (s, is))) p.server.hall.conns
         (λ j e there. shown j e (entry k attached v.conns j e there)) (λ j e there. mine j e (entry k attached v.conns j e there))
 
   -- where this is the older session with the device's name, before it is told so
@@ -295,7 +302,7 @@ module _ (who : Identity) (logins : ℕ → Login) (h : Hall ItemOut) (wires : T
         mine_first (New same it) = (former, subst (λ n. v.conns n ≡ Some former) same placed.1)
         mine_first (Old away there) = (e, there)
 
-    module _ (ss : Table (links.Session ItemOut)) (none_yet : ss h.next ≡ None) (moves : List (LinkMove ItemOut)) (to : LinkReaches moves v (record v { conns = first_conns; row = None; sessions = ss })) where
+    module _ (ss : Table (links.Session ItemOut)) (known : Known ss v) (none_yet : ss h.next ≡ None) (moves : List (LinkMove ItemOut)) (to : LinkReaches moves v (record v { conns = first_conns; row = None; sessions = ss })) where
       abbrev middle : View ItemOut
       middle = record v { conns = first_conns; row = None; sessions = ss }
 
@@ -309,7 +316,7 @@ module _ (who : Identity) (logins : ℕ → Login) (h : Hall ItemOut) (wires : T
             next = end;
             leads = then_reaches moves (TakesBind k h.next) v middle end to (end, record { conn = p.conn; is = at_other f closed v.conns k apart ∙ p.is; rest = p.rest; first = p.first; phase = ready; none = refl; fresh = none_yet; rises = p.server.free; gives = refl }, refl);
             server =
-                bound_shows who logins h v p.server k left (without_conn f h).conns rule was seat name fits last_conns (with_at h.next unread ss) (without_sorted f h p.server.hall.conns)
+                bound_shows who logins h v p.server k left (without_conn f h).conns rule was seat name fits last_conns (with_at h.next unread ss) (known_bound ss known) (without_sorted f h p.server.hall.conns)
                 (λ j e there. shown_last j e (entry k attached first_conns j e there)) (λ j e there. mine_last j e (entry k attached first_conns j e there));
             pipes =
                 shut_then_taken who logins wires v p.pipes f k apart former (Errs Conflict) words p.conn p.wire Bind p.rest (AtSession h.next) (Bound h.next ∷ []) items end placed.1 p.is p.there p.first refl refl (All-nil IsForClient) refl;
@@ -326,12 +333,12 @@ module _ (who : Identity) (logins : ℕ → Login) (h : Hall ItemOut) (wires : T
     bind_detached counted =
         let g : ℕ → links.Session ItemOut → links.Session ItemOut = λ q s. lost_if (has (Some row.number) q) (s.counted && (has v.here f && has (carries former) q)) s in
         let parked : View ItemOut = record v { conns = first_conns; row = Some (record row { on = None }); sessions = alter g v.sessions } in
-        bound_behind (alter g v.sessions) (ap (changed (g h.next)) new_number) (Detaches f (Errs Conflict) ∷ EndsRow ∷ [])
+        bound_behind (alter g v.sessions) (known_altered g v) (ap (changed (g h.next)) new_number) (Detaches f (Errs Conflict) ∷ EndsRow ∷ [])
         (parked, record { conn = former; is = placed.1; row = row; is_row = is_row; on = on; counted = counted; reason = tt; gives = refl }, (record parked { row = None }, record { row = record row { on = None }; is_row = refl; off = refl; gives = refl }, refl))
 
     bind_shut : row.counted ≡ false → IsTaken who logins h wires v k p.wire Bind
     bind_shut uncounted =
-        bound_behind v.sessions new_number (Shuts f (Errs Conflict) ∷ [])
+        bound_behind v.sessions (known_same v) new_number (Shuts f (Errs Conflict) ∷ [])
         (record v { conns = first_conns; row = None }, record { conn = former; is = placed.1; row = row; is_row = is_row; on = on; uncounted = uncounted; reason = tt; gives = refl }, refl)
 
     bind_on : IsTaken who logins h wires v k p.wire Bind

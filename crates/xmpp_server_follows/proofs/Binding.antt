@@ -13,9 +13,9 @@ use Rattle.xmpp_links.specs.Stages.{Conn}
 use Rattle.xmpp_links.specs.Views.{Row, Table, View}
 use Rattle.xmpp_links.specs.Views as links
 use Rattle.xmpp_live.specs.Rule.{IsRule}
-use Rattle.xmpp_live.specs.Sessions.{Session, fresh, is_at, is_named, session_at, session_named, session_of}
+use Rattle.xmpp_live.specs.Sessions.{Session, fresh, is_at, is_named, is_numbered, session_at, session_named, session_of}
 use Rattle.xmpp_server_follows.proofs.Leavings.{seat_is, seat_of}
-use Rattle.xmpp_server_follows.proofs.Pushed.{named_last, newest_named, rule_pushed, seat_pushed}
+use Rattle.xmpp_server_follows.proofs.Pushed.{found_pushed, named_last, numbers_below, newest_named, rule_pushed, seat_pushed}
 use Rattle.xmpp_wire_steps.proofs.Found.{found_is, numbered_here}
 use Rattle.xmpp_writer.specs.Items.{ItemOut}
 
@@ -40,17 +40,25 @@ module _ (who : Identity) (logins : ℕ → Login) (h : Hall ItemOut) (v : View 
   abbrev pub bound_hall : Hall ItemOut
   bound_hall = record h { sessions = left ++ fresh h.next who.account who.resource k ∷ []; next = h.next + 1; conns = conns }
 
-  pub bound_shows : (cs : Table (Conn ItemOut)) (t : Table (links.Session ItemOut)) → IsStrictlySortedBy nat_cmp (keys_of conns) → ((j : ℕ) (e : Conn ItemOut) → cs j ≡ Some e → conn_at j bound_hall ≡ conn_shown who (logins j) e)
+  pub bound_shows : (cs : Table (Conn ItemOut)) (t : Table (links.Session ItemOut)) → ((q : ℕ) (u : links.Session ItemOut) → t q ≡ Some u → (q ≡ h.next) ⊎ ((old : links.Session ItemOut) × (v.sessions q ≡ Some old))) → IsStrictlySortedBy nat_cmp (keys_of conns) → ((j : ℕ) (e : Conn ItemOut) → cs j ≡ Some e → conn_at j bound_hall ≡ conn_shown who (logins j) e)
       → ((j : ℕ) (e : Conn ItemOut) → cs j ≡ Some e → (d : Conn ItemOut) × (v.conns j ≡ Some d)) → ServerShows who logins bound_hall (record v { conns = cs; row = Some (new_row h.next k); sessions = t; free = h.next + 1 })
-  bound_shows cs t sorted shown mine = record {
+  bound_shows cs t known sorted shown mine = record {
     served = record { domain = shows.served.domain; account = shows.served.account; found = shows.served.found; archive = shows.served.archive };
     hall = record { sessions = rule_pushed h.next who.account who.resource k left rule fits seat name; conns = sorted };
     conns = shown;
     row = subst (IsRowShown (Some (new_row h.next k))) (sym (named_last h.next who.account who.resource k left rule fits seat name)) (new_is_row h.next who.account who.resource k);
     seated = λ j e s there at. seated j e s there (seat_pushed h.next who.account who.resource k left rule fits seat name j s at);
+    owned = λ q u s there found. owned q s (known q u there) (found_pushed (is_numbered q) left (fresh h.next who.account who.resource k) s found);
     free = omega arith;
   }
     where
+      new_named : (s : Session ItemOut) → fresh h.next who.account who.resource k ≡ s → is_named who.account who.resource s ≡ true
+      new_named s same = subst (λ u. is_named who.account who.resource u ≡ true) same (newest_named h.next who.account who.resource k left rule fits seat name)
+      owned : (q : ℕ) (s : Session ItemOut) → (q ≡ h.next) ⊎ ((old : links.Session ItemOut) × (v.sessions q ≡ Some old))
+          → (session_of q left ≡ Some s) ⊎ ((session_of q left ≡ None) × (fresh {A = ItemOut} h.next who.account who.resource k ≡ s) × (is_numbered {A = ItemOut} q (fresh h.next who.account who.resource k) ≡ true)) → is_named who.account who.resource s ≡ true
+      owned q s old (inr new) = new_named s new.1
+      owned q s (inr old) (inl there) = shows.owned q old.0 s old.1 (was q s there)
+      owned q s (inl same) (inl there) = let below = numbers_below h.next 1 q h.sessions s shows.hall.sessions.ascending (was q s there) in absurd (let no_way : ⊥ = omega arith in no_way)
       seated : (j : ℕ) (e : Conn ItemOut) (s : Session ItemOut) → cs j ≡ Some e → (session_at j left ≡ Some s) ⊎ (fresh h.next who.account who.resource k ≡ s) → is_named who.account who.resource s ≡ true
       seated j e s there (inl at) =
           let d = mine j e there in

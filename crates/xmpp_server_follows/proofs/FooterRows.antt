@@ -22,20 +22,20 @@ use Rattle.xmpp_server_follows.proofs.Leavings.{left_hall, left_shows, unseated}
 use Rattle.xmpp_server_follows.proofs.Removed.{all_left, named_gone}
 use Rattle.xmpp_server_follows.proofs.Shuts.{shut_client, shut_pipes, shuts_at}
 use Rattle.xmpp_server_follows.specs.Taking.{IsFirst, IsTaken, StepFollows, on_item}
-use Rattle.xmpp_wire_steps.proofs.Servings.{IsLive, live_of}
+use Rattle.xmpp_wire_steps.proofs.Servings.{Known, known_altered, known_same, live_of}
 use Rattle.xmpp_writer.specs.Items.{Closing, ItemOut}
 
 module _ (who : Identity) (logins : ℕ → Login) (h : Hall ItemOut) (wires : Table ItemWire) (v : View ItemOut) (k : ℕ) (p : IsFirst who logins h wires v k Foot) where
-  kept : LinkKept v
+  pub kept : LinkKept v
   kept = kept_here who logins h wires v k Foot p
 
-  abbrev stays : Session ItemOut → Bool
+  abbrev pub stays : Session ItemOut → Bool
   stays s = not (is_at k s)
 
   abbrev closed : Conn ItemOut
   closed = shut_conn Closes p.conn
 
-  foot_step : on_item k (up_item who (logins k) Foot) h ≡ record { hall = left_hall who logins h v kept p.server k p.conn p.is stays; outs = shuts_at k (Closing ∷ []) }
+  pub foot_step : on_item k (up_item who (logins k) Foot) h ≡ record { hall = left_hall who logins h v kept p.server k p.conn p.is stays; outs = shuts_at k (Closing ∷ []) }
   foot_step = row_here who logins h wires v k Foot p p.conn.phase item.Footer refl
 
   -- without a session
@@ -47,7 +47,7 @@ module _ (who : Identity) (logins : ℕ → Login) (h : Hall ItemOut) (wires : T
         moves = TakesFoot k ∷ [];
         next = next;
         leads = (next, record { conn = p.conn; is = p.is; off = off; rest = p.rest; first = p.first; gives = refl }, refl);
-        server = left_shows who logins h v kept p.server k p.conn p.is stays closed v.row v.sessions refl (subst (λ ss. IsRowShown v.row (session_named who.account who.resource ss)) (sym nobody) p.server.row);
+        server = left_shows who logins h v kept p.server k p.conn p.is stays closed v.row v.sessions (known_same v) refl (subst (λ ss. IsRowShown v.row (session_named who.account who.resource ss)) (sym nobody) p.server.row);
         pipes = shut_pipes who logins wires v next k p.conn p.wire Closes p.pipes (wire_here who logins h wires v k Foot p) (λ j. refl) (Closing ∷ []) refl;
         client = shut_client who logins wires v next k p.conn p.wire Closes p.is refl refl refl refl;
       })
@@ -60,8 +60,8 @@ module _ (who : Identity) (logins : ℕ → Login) (h : Hall ItemOut) (wires : T
         let there : is_at k live.session ≡ true = ap (is_some_number k) (live.row.conn ∙ on) ∙ eq-eqb k k refl in
         named_gone stays who.account who.resource h.next h.sessions live.session p.server.hall.sessions live.named (ap not there)
 
-    ends : (t : Table (links.Session ItemOut)) → ServerShows who logins (left_hall who logins h v kept p.server k p.conn p.is stays) (record v { conns = with_at k closed v.conns; row = None; sessions = t })
-    ends t = left_shows who logins h v kept p.server k p.conn p.is stays closed None t refl (subst (IsRowShown None) (sym gone_named) tt)
+    ends : (t : Table (links.Session ItemOut)) → Known t v → ServerShows who logins (left_hall who logins h v kept p.server k p.conn p.is stays) (record v { conns = with_at k closed v.conns; row = None; sessions = t })
+    ends t known = left_shows who logins h v kept p.server k p.conn p.is stays closed None t known refl (subst (IsRowShown None) (sym gone_named) tt)
 
     foot_detached : row.counted ≡ true → IsTaken who logins h wires v k p.wire Foot
     foot_detached counted =
@@ -72,7 +72,7 @@ module _ (who : Identity) (logins : ℕ → Login) (h : Hall ItemOut) (wires : T
           moves = Detaches k Closes ∷ EndsRow ∷ [];
           next = next;
           leads = (off, record { conn = p.conn; is = p.is; row = row; is_row = is_row; on = on; counted = counted; reason = (p.rest, p.first); gives = refl }, (next, record { row = record row { on = None }; is_row = refl; off = refl; gives = refl }, refl));
-          server = ends sessions;
+          server = ends sessions (known_altered (λ q s. lost_if (has (Some row.number) q) (s.counted && (has v.here k && has (carries p.conn) q)) s) v);
           pipes = shut_pipes who logins wires v next k p.conn p.wire Closes p.pipes (wire_here who logins h wires v k Foot p) (λ j. refl) (Closing ∷ []) refl;
           client = shut_client who logins wires v next k p.conn p.wire Closes p.is refl refl refl refl;
         })
@@ -84,7 +84,7 @@ module _ (who : Identity) (logins : ℕ → Login) (h : Hall ItemOut) (wires : T
           moves = Shuts k Closes ∷ [];
           next = next;
           leads = (next, record { conn = p.conn; is = p.is; row = row; is_row = is_row; on = on; uncounted = uncounted; reason = (p.rest, p.first); gives = refl }, refl);
-          server = ends v.sessions;
+          server = ends v.sessions (known_same v);
           pipes = shut_pipes who logins wires v next k p.conn p.wire Closes p.pipes (wire_here who logins h wires v k Foot p) (λ j. refl) (Closing ∷ []) refl;
           client = shut_client who logins wires v next k p.conn p.wire Closes p.is refl refl refl refl;
         })

@@ -29,7 +29,7 @@ use Rattle.xmpp_server_follows.proofs.Leavings.{left_hall, left_shows, seat_is, 
 use Rattle.xmpp_server_follows.proofs.Removed.{all_left, named_gone}
 use Rattle.xmpp_wire_steps.proofs.Found.{change_here, changes_one, found_is, found_mapped, found_on, numbered_here, rises_mapped}
 use Rattle.xmpp_wire_steps.proofs.Placed.{keeps_at, shown_at}
-use Rattle.xmpp_wire_steps.proofs.Servings.{IsLive, live_of}
+use Rattle.xmpp_wire_steps.proofs.Servings.{IsLive, known_same, live_of}
 use Rattle.xmpp_wire_steps.proofs.Taken.{wire_gone}
 use Rattle.xmpp_writer.specs.Items.{ItemOut}
 
@@ -147,7 +147,7 @@ module _ (who : Identity) (logins : ℕ → Login) (h : Hall ItemOut) (wires : T
       let nobody : filter stays h.sessions ≡ h.sessions = all_left (is_at k) h.sessions none in
       follows (left_hall who logins h v kept shows k c is stays) v.row
       (ap (λ o. with_sessions (lost h.moment o h.sessions) (without_conn k h)) none ∙ ap (λ ss. with_sessions ss (without_conn k h)) (sym nobody))
-      (left_shows who logins h v kept shows k c is stays told v.row v.sessions (ended_conn who (logins k) c.phase c.ending) (subst (λ ss. IsRowShown v.row (session_named who.account who.resource ss)) (sym nobody) shows.row))
+      (left_shows who logins h v kept shows k c is stays told v.row v.sessions (known_same v) (ended_conn who (logins k) c.phase c.ending) (subst (λ ss. IsRowShown v.row (session_named who.account who.resource ss)) (sym nobody) shows.row))
       (Hears k) (record v { conns = with_at k told v.conns }, record { conn = c; is = is; ended = stopped; empty = empty; off = off; gives = refl }, refl)
 
   module _ (row : Row ItemOut) (is_row : v.row ≡ Some row) (on : row.on ≡ Some k) where
@@ -166,7 +166,7 @@ module _ (who : Identity) (logins : ℕ → Login) (h : Hall ItemOut) (wires : T
         let out : stays s ≡ false = ap not (eq-eqb s.shown.number s.shown.number refl) in
         follows (left_hall who logins h v kept shows k c is stays) None
         (ap (λ o. with_sessions (lost h.moment o h.sessions) (without_conn k h)) seat ∙ ap (λ b. with_sessions (cond b (with_session s.shown.number (parked h.moment) h.sessions) (without s.shown.number h.sessions)) (without_conn k h)) same)
-        (left_shows who logins h v kept shows k c is stays told None v.sessions (ended_conn who (logins k) c.phase c.ending)
+        (left_shows who logins h v kept shows k c is stays told None v.sessions (known_same v) (ended_conn who (logins k) c.phase c.ending)
         (subst (IsRowShown None) (sym (named_gone stays who.account who.resource h.next h.sessions s shows.hall.sessions live.named out)) tt))
         (HearsEarly k) (record v { conns = with_at k told v.conns; row = None }, record { conn = c; is = is; ended = stopped; empty = empty; row = row; is_row = is_row; on = on; uncounted = uncounted; gives = refl }, refl)
 
@@ -180,6 +180,7 @@ module _ (who : Identity) (logins : ℕ → Login) (h : Hall ItemOut) (wires : T
       conns = λ j e at. shown j e (entry k told v.conns j e at);
       row = subst (IsRowShown (Some (record row { on = None }))) (sym found) (parked_row h.moment row live.session live.row);
       seated = λ j e s at on_it. seated j e s (entry k told v.conns j e at) (was_on j s on_it);
+      owned = λ q u s there at. owned s q u there (was_parked n h.moment q h.sessions s at);
       free = shows.free;
     }
       where
@@ -201,6 +202,8 @@ module _ (who : Identity) (logins : ℕ → Login) (h : Hall ItemOut) (wires : T
             (was.0, seat_of h.next j h.sessions was.0 shows.hall.sessions (subst (λ m. session_of m h.sessions ≡ Some was.0) same was.1) seated, was.2)
         name : (t s : Session ItemOut) → parks n h.moment t ≡ s → is_named who.account who.resource t ≡ true → is_named who.account who.resource s ≡ true
         name t s same named = subst (λ u. is_named who.account who.resource u ≡ true) same (named_parked n h.moment who.account who.resource t ∙ named)
+        owned : (s : Session ItemOut) (q : ℕ) (u : links.Session ItemOut) → v.sessions q ≡ Some u → (t : Session ItemOut) × (session_of q h.sessions ≡ Some t) × (parks n h.moment t ≡ s) → is_named who.account who.resource s ≡ true
+        owned s q u there old = name old.0 s old.2 (shows.owned q u old.0 there old.1)
         seated : (j : ℕ) (e : Conn ItemOut) (s : Session ItemOut) → Entry k told v.conns j e → (t : Session ItemOut) × (session_at j h.sessions ≡ Some t) × (parks n h.moment t ≡ s) → is_named who.account who.resource s ≡ true
         seated j e s (New same it) was = name was.0 s was.2 (shows.seated k c was.0 is (subst (λ m. session_at m h.sessions ≡ Some was.0) (sym same) was.1))
         seated j e s (Old apart at) was = name was.0 s was.2 (shows.seated j e was.0 at was.1)

@@ -15,9 +15,9 @@ use Rattle.xmpp_live.specs.Rule.{IsRule}
 use Rattle.xmpp_live.specs.Sessions.{Session, is_at, is_named, is_numbered, session_at, session_named, session_of, without_at}
 use Rattle.xmpp_resume.specs.Rows.{is_some_number}
 use Rattle.xmpp_server_follows.proofs.HallsLeft.{without_apart, without_here, without_sorted}
-use Rattle.xmpp_server_follows.proofs.Removed.{found_none, named_gone, one_named, rule_left, seat_left}
+use Rattle.xmpp_server_follows.proofs.Removed.{found_none, of_left, one_named, rule_left, seat_left}
 use Rattle.xmpp_wire_steps.proofs.Found.{found_is, found_some, numbered_here}
-use Rattle.xmpp_wire_steps.proofs.Servings.{IsLive, live_of}
+use Rattle.xmpp_wire_steps.proofs.Servings.{Known}
 use Rattle.xmpp_writer.specs.Items.{ItemOut}
 
 pub seat_is : (o : Option ℕ) (k : ℕ) → is_some_number k o ≡ true → o ≡ Some k
@@ -61,14 +61,15 @@ module _ (who : Identity) (logins : ℕ → Login) (h : Hall ItemOut) (v : View 
   abbrev pub left_hall : (Session ItemOut → Bool) → Hall ItemOut
   left_hall q = with_sessions (filter q h.sessions) (without_conn k h)
 
-  pub left_shows : (q : Session ItemOut → Bool) (d : Conn ItemOut) (o : Option (Row ItemOut)) (t : Table (links.Session ItemOut)) → conn_shown who (logins k) d ≡ None → IsRowShown o (session_named who.account who.resource (filter q h.sessions))
+  pub left_shows : (q : Session ItemOut → Bool) (d : Conn ItemOut) (o : Option (Row ItemOut)) (t : Table (links.Session ItemOut)) → Known t v → conn_shown who (logins k) d ≡ None → IsRowShown o (session_named who.account who.resource (filter q h.sessions))
       → ServerShows who logins (left_hall q) (record v { conns = with_at k d v.conns; row = o; sessions = t })
-  left_shows q d o t ended row = record {
+  left_shows q d o t known ended row = record {
     served = record { domain = shows.served.domain; account = shows.served.account; found = shows.served.found; archive = shows.served.archive };
     hall = record { sessions = rule_left q h.next h.sessions shows.hall.sessions; conns = without_sorted k h shows.hall.conns };
     conns = λ j e there. shown j e (entry k d v.conns j e there);
     row = row;
     seated = λ j e s there seat. seated j e s (entry k d v.conns j e there) (seat_left q j h.next h.sessions s shows.hall.sessions seat);
+    owned = λ n u s there found. let old = known n u there in shows.owned n old.0 s old.1 (of_left q h.next 1 n h.sessions s shows.hall.sessions.ascending found).0;
     free = shows.free;
   }
     where

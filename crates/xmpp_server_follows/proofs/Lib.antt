@@ -21,3 +21,15 @@ pub mod Pushed
 pub mod Binding
 pub mod Former
 pub mod BindRows
+-- ---- moments, and resumptions
+pub mod MomentRows
+pub mod ResumeReads
+pub mod StrangeRows
+-- ---- other devices
+pub mod Others
+pub mod OtherRows
+pub mod OtherEnds
+-- ---- items
+pub mod ItemsTaken
+-- ---- for resumptions of sessions that live
+pub mod Resuming

@@ -76,20 +76,20 @@ module _ (who : Identity) (logins : ℕ → Login) (h : Hall ItemOut) (wires : T
   abbrev hello : Header
   hello = as_written (client_header who.domain)
 
-  abbrev goes : DeskPhase → List ItemOut → Step ItemOut
+  abbrev pub goes : DeskPhase → List ItemOut → Step ItemOut
   goes at items = record { hall = with_conn k (in_phase at) h; outs = puts_at k items }
 
   module _ (p : IsFirst who logins h wires v k Hdr) where
     opens_here : header_answer h.domain hello ≡ Opens
     opens_here = ap (λ d. header_answer d hello) p.server.served.domain ∙ header_opens who.domain p.normal.domain
 
-    start_step : p.conn.phase ≡ Start → on_item k (up_item who (logins k) Hdr) h ≡ goes phase.Login (header_item who.domain k (logins k).yours ∷ features_item false ∷ [])
+    pub start_step : p.conn.phase ≡ Start → on_item k (up_item who (logins k) Hdr) h ≡ goes phase.Login (header_item who.domain k (logins k).yours ∷ features_item false ∷ [])
     start_step is =
         row_here who logins h wires v k Hdr p Start (item.Header 0 hello) is
         ∙ ap (λ a. acted itself (answering_header itself k (standing Start) a h) (step_of h)) opens_here
         ∙ ap (λ d. goes phase.Login (header_item d k (logins k).yours ∷ features_item false ∷ [])) p.server.served.domain
 
-    restart_step : p.conn.phase ≡ Restart → on_item k (up_item who (logins k) Hdr) h ≡ goes (phase.Ready who.account) (header_item who.domain k (logins k).yours ∷ features_item true ∷ [])
+    pub restart_step : p.conn.phase ≡ Restart → on_item k (up_item who (logins k) Hdr) h ≡ goes (phase.Ready who.account) (header_item who.domain k (logins k).yours ∷ features_item true ∷ [])
     restart_step is =
         row_here who logins h wires v k Hdr p Restart (item.Header 0 hello) is
         ∙ ap (λ a. acted itself (answering_header itself k (standing Restart) a h) (step_of h)) opens_here
@@ -115,14 +115,14 @@ module _ (who : Identity) (logins : ℕ → Login) (h : Hall ItemOut) (wires : T
     header_follows (inl is) = start_follows is
     header_follows (inr is) = restart_follows is
 
-  abbrev negotiation : Negotiation
+  abbrev pub negotiation : Negotiation
   negotiation = record { account = who.account; exchange = exchange_of who (logins k) }
 
   module _ (p : IsFirst who logins h wires v k Auth) (is : p.conn.phase ≡ Sasl) where
     abbrev first_message : Elem
     first_message = auth_of (codes "SCRAM-SHA-256") (logins k).client.message
 
-    auth_step : on_item k (up_item who (logins k) Auth) h ≡ goes (phase.Challenge negotiation) (challenge_item (exchange_of who (logins k)).message ∷ [])
+    pub auth_step : on_item k (up_item who (logins k) Auth) h ≡ goes (phase.Challenge negotiation) (challenge_item (exchange_of who (logins k)).message ∷ [])
     auth_step =
         row_here who logins h wires v k Auth p Sasl (item.Element first_message) is
         ∙ ap (λ w. acted itself (at_word itself k w stage.Login (standing Sasl) h) (step_of h)) (auth_word (codes "SCRAM-SHA-256") (logins k).client.message)
@@ -140,7 +140,7 @@ module _ (who : Identity) (logins : ℕ → Login) (h : Hall ItemOut) (wires : T
     negotiating : negotiation_at k h ≡ Some negotiation
     negotiating = ap (option_and_then negotiation_of) (open_here who logins h wires v k Resp p Challenge is)
 
-    response_step : on_item k (up_item who (logins k) Resp) h ≡ goes (phase.Restart who.account) (success_item (server_final_message (logins k).reply.verifier) ∷ [])
+    pub response_step : on_item k (up_item who (logins k) Resp) h ≡ goes (phase.Restart who.account) (success_item (server_final_message (logins k).reply.verifier) ∷ [])
     response_step =
         row_here who logins h wires v k Resp p Challenge (item.Element last_message) is
         ∙ ap (λ w. acted itself (at_word itself k w stage.Challenge (standing Challenge) h) (step_of h)) (response_word (logins k).reply.message)

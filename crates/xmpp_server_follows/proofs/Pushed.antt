@@ -31,6 +31,18 @@ pushed_last p (x ∷ ss) f none fits =
       | inr other ↦ rw other (pushed_last p ss f (rw other at none) fits)
     ]
 
+rises_order : {A : Type 0} (next low : ℕ) (ss : List (Session A)) → RisesTo next low ss → low ≤ next
+rises_order next low [] rises = rises
+rises_order next low (s ∷ ss) rises = let rest = rises_order next (s.shown.number + 1) ss rises.1 in let first = rises.0 in omega arith
+
+pub numbers_below : {A : Type 0} (next low n : ℕ) (ss : List (Session A)) (s : Session A) → RisesTo next low ss → session_of n ss ≡ Some s → n + 1 ≤ next
+numbers_below next low n [] s rises is = absurd (let no_way : ⊥ = cc in no_way)
+numbers_below next low n (x ∷ ss) s rises is =
+    elim (cases_Bool (x.shown.number == n)) [
+      | inl here ↦ let same : x.shown.number ≡ n = eqb-true x.shown.number n here in let top = rises_order next (x.shown.number + 1) ss rises.1 in omega arith
+      | inr other ↦ numbers_below next (x.shown.number + 1) n ss s rises.1 (rw other at is)
+    ]
+
 pub rises_pushed : {A : Type 0} (next low : ℕ) (ss : List (Session A)) (f : Session A) → RisesTo next low ss → f.shown.number ≡ next → RisesTo (next + 1) low (ss ++ f ∷ [])
 rises_pushed next low [] f rises is = ((let r = rises in omega arith), (let e = is in omega arith))
 rises_pushed next low (s ∷ ss) f rises is = (rises.0, rises_pushed next (s.shown.number + 1) ss f rises.1 is)

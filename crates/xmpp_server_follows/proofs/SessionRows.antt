@@ -45,7 +45,7 @@ use Rattle.xmpp_stanza.specs.declared.conditions.Condition.TheVariants.{Unexpect
 use Rattle.xmpp_stanza_rows.specs.Ready.{at_bound}
 use Rattle.xmpp_wire_steps.proofs.Emitted.{puts_at}
 use Rattle.xmpp_wire_steps.proofs.Found.{Keeps}
-use Rattle.xmpp_wire_steps.proofs.Servings.{row_shows, session_shows}
+use Rattle.xmpp_wire_steps.proofs.Servings.{Known, known_altered, known_same, row_shows, session_shows}
 use Rattle.xmpp_writer.specs.Items.{ItemOut, Whole}
 
 -- ---- sessions that are changed so
@@ -103,7 +103,7 @@ acknowledged_row r n within few s is = record {
   for_client = All-drop IsForClient (n - r.acked) r.queue is.for_client;
 }
 
-fewer : (n most : ℕ) (zs : List ItemOut) → length zs ≤ most → length (drop n zs) ≤ most
+pub fewer : (n most : ℕ) (zs : List ItemOut) → length zs ≤ most → length (drop n zs) ≤ most
 fewer n most zs few = let size = length-drop n zs in omega arith
 
 not_high : (q a : ℕ) → a ≤ q → nat_lt q a ≡ false
@@ -118,12 +118,26 @@ within_answer r n within few s is =
     let not : is_too_high (told_count n) s ≡ false = not_high (length s.waiting) (ahead (told_count n) s.acked) (omega arith) in
     rw not refl
 
+-- the sessions of the links, where one is counted from now on
+abbrev enabled_one : ℕ → Bool → ℕ → links.Session ItemOut → links.Session ItemOut
+enabled_one n flows q s = record s {
+  counted = if has (Some n) q then true else s.counted;
+  up = record s.up { is_open = if has (Some n) q then flows else s.up.is_open };
+  down = record s.down { is_open = if has (Some n) q then flows else s.down.is_open };
+}
+
+abbrev enabled_sessions : ℕ → Bool → View ItemOut → Table (links.Session ItemOut)
+enabled_sessions n flows v = alter (enabled_one n flows) v.sessions
+
+known_enabled : (n : ℕ) (flows : Bool) (v : View ItemOut) → Known (enabled_sessions n flows v) v
+known_enabled n flows v = known_altered (enabled_one n flows) v
+
 -- ---- the rows
 
 module _ (who : Identity) (logins : ℕ → Login) (h : Hall ItemOut) (wires : Table ItemWire) (v : View ItemOut) (k : ℕ) where
   -- a request is answered by the count
   module _ (p : IsFirst who logins h wires v k (Up Req)) (there : HasThere v k p.conn.phase true) where
-    request_step : on_item k (up_item who (logins k) (Up Req)) h ≡ record { hall = h; outs = puts_at k (ack_item (told_count there.0.handled) ∷ []) }
+    pub request_step : on_item k (up_item who (logins k) (Up Req)) h ≡ record { hall = h; outs = puts_at k (ack_item (told_count there.0.handled) ∷ []) }
     request_step =
         let s = (live who logins h wires v k (Up Req) p true there).session in
         let c = counts_so who logins h wires v k (Up Req) p true there in
@@ -141,17 +155,17 @@ module _ (who : Identity) (logins : ℕ → Login) (h : Hall ItemOut) (wires : T
           moves = TakesRequest k ∷ [];
           next = next;
           leads = (next, record { conn = p.conn; is = p.is; rest = p.rest; first = p.first; row = row; is_row = there.1; on = there.3; counted = there.4; gives = refl }, refl);
-          server = row_shows who logins h v p.server k p.conn p.is (taken who logins h wires v k (Up Req) p p.conn.phase puts) v.row sessions refl p.server.row;
+          server = row_shows who logins h v p.server k p.conn p.is (taken who logins h wires v k (Up Req) p p.conn.phase puts) v.row sessions (known_altered (λ q s. stated_if (has (Some row.number) q) s) v) refl p.server.row;
           pipes = taken_pipes who logins h wires v k (Up Req) p p.conn.phase puts (ack_item (told_count row.handled) ∷ []) next (λ j. refl) refl (All-nil IsForClient);
           client = taken_client who logins h wires v k (Up Req) p p.conn.phase puts next refl refl refl refl;
         })
 
   -- stanzas are counted from now on
   module _ (p : IsFirst who logins h wires v k Enable) (there : HasThere v k p.conn.phase false) where
-    abbrev enabled_hall : Hall ItemOut
+    abbrev pub enabled_hall : Hall ItemOut
     enabled_hall = with_sessions (with_session there.0.number (enables true) h.sessions) h
 
-    enable_step : on_item k (up_item who (logins k) Enable) h ≡ record { hall = enabled_hall; outs = puts_at k (resumable_item there.0.number RESUMABLE_SECONDS ∷ []) }
+    pub enable_step : on_item k (up_item who (logins k) Enable) h ≡ record { hall = enabled_hall; outs = puts_at k (resumable_item there.0.number RESUMABLE_SECONDS ∷ []) }
     enable_step =
         let s = (live who logins h wires v k Enable p false there).session in
         let c = counts_so who logins h wires v k Enable p false there in
@@ -173,19 +187,12 @@ module _ (who : Identity) (logins : ℕ → Login) (h : Hall ItemOut) (wires : T
           leads = (next, record { conn = p.conn; is = p.is; rest = p.rest; first = p.first; row = row; is_row = there.1; on = there.3; uncounted = there.4; gives = refl }, refl);
           server =
               row_shows who logins enabled_hall (record v { row = Some after; sessions = sessions })
-              (session_shows who logins h v row after (enables true) sessions p.server there.1 enables_keeps (enabled_row row) (few_wait who logins h wires v k Enable p false there))
-              k p.conn p.is d (Some after) sessions refl
-              (session_shows who logins h v row after (enables true) sessions p.server there.1 enables_keeps (enabled_row row) (few_wait who logins h wires v k Enable p false there)).row;
+              (session_shows who logins h v row after (enables true) sessions (known_enabled row.number (is_flowing p.conn.wires) v) p.server there.1 enables_keeps (enabled_row row) (few_wait who logins h wires v k Enable p false there))
+              k p.conn p.is d (Some after) sessions (known_same (record v { row = Some after; sessions = sessions })) refl
+              (session_shows who logins h v row after (enables true) sessions (known_enabled row.number (is_flowing p.conn.wires) v) p.server there.1 enables_keeps (enabled_row row) (few_wait who logins h wires v k Enable p false there)).row;
           pipes = taken_pipes who logins h wires v k Enable p p.conn.phase puts (resumable_item row.number RESUMABLE_SECONDS ∷ []) next (λ j. refl) refl (All-nil IsForClient);
           client = taken_client who logins h wires v k Enable p p.conn.phase puts next refl refl refl refl;
         })
-      where
-        enabled_sessions : ℕ → Bool → View ItemOut → Table (links.Session ItemOut)
-        enabled_sessions n flows w = alter (λ q s. record s {
-          counted = if has (Some n) q then true else s.counted;
-          up = record s.up { is_open = if has (Some n) q then flows else s.up.is_open };
-          down = record s.down { is_open = if has (Some n) q then flows else s.down.is_open };
-        }) w.sessions
 
   -- a count acknowledges
   module _ (n : ℕ) (p : IsFirst who logins h wires v k (Up (Ack n))) (there : HasThere v k p.conn.phase true) where
@@ -195,13 +202,13 @@ module _ (who : Identity) (logins : ℕ → Login) (h : Hall ItemOut) (wires : T
     low : told_count n < 2 ^ 32
     low = mod-lt n (omega arith)
 
-    abbrev acked_hall : Hall ItemOut
+    abbrev pub acked_hall : Hall ItemOut
     acked_hall = with_sessions (with_session there.0.number (acknowledged (told_count n)) h.sessions) h
 
-    abbrev asked_hall : Hall ItemOut
+    abbrev pub asked_hall : Hall ItemOut
     asked_hall = with_sessions (with_session there.0.number (asks false) acked_hall.sessions) acked_hall
 
-    count_step : on_item k (up_item who (logins k) (Up (Ack n))) h ≡ record { hall = asked_hall; outs = [] }
+    pub count_step : on_item k (up_item who (logins k) (Up (Ack n))) h ≡ record { hall = asked_hall; outs = [] }
     count_step =
         let here = live who logins h wires v k (Up (Ack n)) p true there in
         let s = here.session in
@@ -220,17 +227,17 @@ module _ (who : Identity) (logins : ℕ → Login) (h : Hall ItemOut) (wires : T
         let next : View ItemOut = record v { conns = with_at k d v.conns; row = Some after; sessions = sessions } in
         let queue_few = few who logins h wires v k (Up (Ack n)) p true there in
         let acked : ServerShows who logins acked_hall (record v { row = Some after; sessions = sessions }) =
-            session_shows who logins h v row after (acknowledged (told_count n)) sessions p.server there.1 (acknowledged_keeps (told_count n)) (acknowledged_row row n within queue_few)
+            session_shows who logins h v row after (acknowledged (told_count n)) sessions (known_altered (λ q s. acked_if (has (Some row.number) q) n s) v) p.server there.1 (acknowledged_keeps (told_count n)) (acknowledged_row row n within queue_few)
             (λ s is. fewer (ahead (told_count n) s.acked) MOST_UNACKNOWLEDGED s.waiting (few_wait who logins h wires v k (Up (Ack n)) p true there s is)) in
         let few_left : length after.queue ≤ MOST_UNACKNOWLEDGED = fewer (n - row.acked) MOST_UNACKNOWLEDGED row.queue queue_few in
         let asked : ServerShows who logins asked_hall (record v { row = Some after; sessions = sessions }) =
-            session_shows who logins acked_hall (record v { row = Some after; sessions = sessions }) after after (asks false) sessions acked refl (asks_keeps false) (asked_row false after)
+            session_shows who logins acked_hall (record v { row = Some after; sessions = sessions }) after after (asks false) sessions (known_same (record v { row = Some after; sessions = sessions })) acked refl (asks_keeps false) (asked_row false after)
             (λ s is. subst (λ q. length q ≤ MOST_UNACKNOWLEDGED) (sym is.waiting) few_left) in
         subst (StepFollows who logins wires v k p.wire) (sym count_step) (record {
           moves = TakesCount k n ∷ [];
           next = next;
           leads = (next, record { conn = p.conn; is = p.is; rest = p.rest; first = p.first; row = row; is_row = there.1; on = there.3; counted = there.4; gives = refl }, refl);
-          server = row_shows who logins asked_hall (record v { row = Some after; sessions = sessions }) asked k p.conn p.is d (Some after) sessions refl asked.row;
+          server = row_shows who logins asked_hall (record v { row = Some after; sessions = sessions }) asked k p.conn p.is d (Some after) sessions (known_same (record v { row = Some after; sessions = sessions })) refl asked.row;
           pipes = taken_pipes who logins h wires v k (Up (Ack n)) p p.conn.phase [] [] next (λ j. refl) refl (All-nil IsForClient);
           client = taken_client who logins h wires v k (Up (Ack n)) p p.conn.phase [] next refl refl refl refl;
         })

@@ -6,7 +6,7 @@ use Rattle.xmpp_links.specs.Views.{View}
 use Rattle.xmpp_links.specs.Words.{Client, Hdr, InHeader1, InHeader2, Phase, Restart, Start, UpWord}
 use Rattle.xmpp_links.specs.Wires.{Flow, Stop, Wires, up_whole, up_words}
 
-whole_first : {A : Type 0} (ws : Wires A) (word : UpWord A) (rest : List (UpWord A)) → up_words ws ≡ word ∷ rest → (more : List (UpWord A)) × (up_whole ws ≡ word ∷ more)
+pub whole_first : {A : Type 0} (ws : Wires A) (word : UpWord A) (rest : List (UpWord A)) → up_words ws ≡ word ∷ rest → (more : List (UpWord A)) × (up_whole ws ≡ word ∷ more)
 whole_first (Flow us ds) word rest first = (rest, first)
 whole_first (Stop us ds lu ld) word rest first = (rest ++ lu, ap (λ us. us ++ lu) first)
 

@@ -1,5 +1,5 @@
 -- A word stands first on its way up: what the server does on its item is to be moves of the links.
-use Rattle.std.specs.Prelude.{◌≡◌, ℕ, ◌+◌, ◌<◌, ◌^◌, true, List, [], ◌∷◌, Some}
+use Rattle.std.specs.Prelude.{◌≡◌, ◌≢◌, ◌⊎◌, ℕ, ◌+◌, ◌<◌, ◌^◌, true, List, [], ◌∷◌, Some, None}
 use Rattle.xmpp_desk.specs.Moments.{gone_at}
 use Rattle.xmpp_desk.specs.State.{Hall, Step}
 use Rattle.xmpp_device_views.specs.Identities.{Identity, IsNormal, Login}
@@ -14,7 +14,9 @@ use Rattle.xmpp_links.specs.Machine.{LinkReached}
 use Rattle.xmpp_links.specs.Stages.{Conn}
 use Rattle.xmpp_links.specs.Views.{Table, View, with_at}
 use Rattle.xmpp_links.specs.Wires.{up_words}
-use Rattle.xmpp_links.specs.Words.{Ack, Auth, Enable, Hdr, Req, Resp, Up, UpWord}
+use Rattle.xmpp_links.specs.Words.{Ack, Auth, Enable, Foot, Hdr, Req, Resp, Up, UpWord}
+use Rattle.xmpp_live.specs.Sessions.{session_resumed}
+use Rattle.xmpp_resume.specs.Previds.{previd_of}
 use Rattle.xmpp_server.specs.Table.{after_item}
 use Rattle.xmpp_writer.specs.Items.{ItemOut}
 
@@ -78,3 +80,41 @@ pub record IsOver (who : Identity) (logins : ℕ → Login) (h : Hall ItemOut) (
 -- the server hears of it
 abbrev pub IsHeard : Identity → (ℕ → Login) → Hall ItemOut → Table ItemWire → View ItemOut → ℕ → ItemWire → Type 0
 IsHeard who logins h wires v k wire = ServerFollows who logins (gone_at k h) (with_at k (up_end_told wire) wires) v
+
+-- ---- resumptions
+
+-- no session of the account that can be resumed has the number
+abbrev pub IsStrange : Identity → Hall ItemOut → ℕ → Type 0
+IsStrange who h q = session_resumed (previd_of q) who.account h.sessions ≡ None
+
+-- ---- other devices
+
+-- two devices: each has its own place, and no account and resource are those of both
+pub record AreApart (who whom : Identity) : Type 0 where
+  pub place : whom.place ≢ who.place
+  pub name : who.account ≡ whom.account → who.resource ≡ whom.resource → ⊥
+
+-- the words whose rows are of their own device alone: of a login, on acknowledgement, and a footer
+abbrev pub IsOwnWord : UpWord ItemOut → Type 0
+IsOwnWord Foot = Unit {0}
+IsOwnWord word = IsOfLogin word ⊎ IsOfManagement word
+
+-- of another device nothing moves, or as the links say
+abbrev pub IsLeft : Identity → Identity → (ℕ → Login) → (ℕ → Login) → Hall ItemOut → Table ItemWire → View ItemOut → ℕ → ItemWire → UpWord ItemOut → Type 0
+IsLeft who whom logins others h wires u k wire word = StepFollows whom others wires u k wire (on_item k (up_item who (logins k) word) h)
+
+-- ---- items
+
+-- the item is that of a word, which is the first on the connection
+pub record HasFirst (who : Identity) (logins : ℕ → Login) (h : Hall ItemOut) (wires : Table ItemWire) (v : View ItemOut) (k : ℕ) (w : ItemWire) (i : ItemOut) : Type 0 where
+  pub word : UpWord ItemOut
+  pub is : up_item who (logins k) word ≡ i
+  pub first : IsFirst who logins h wires v k word
+  pub same : first.wire ≡ w
+
+-- an item is the first on its way up on a connection of the device
+pub record IsNext (who : Identity) (wires : Table ItemWire) (k : ℕ) (w : ItemWire) (i : ItemOut) : Type 0 where
+  pub there : wires k ≡ Some w
+  pub of : w.device ≡ who.place
+  pub items : List ItemOut
+  pub first : w.up.items ≡ i ∷ items

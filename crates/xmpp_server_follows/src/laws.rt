@@ -1,11 +1,17 @@
 //! What a server does on each item is moves of the links.
-ghost use Rattle.std.specs.Prelude.{ℕ};
+ghost use Rattle.std.specs.Prelude.{◌≡◌, ℕ, ◌+◌, Some, slice_get};
+ghost use Rattle.xmpp_desk.specs.Moments.{at_moment};
 ghost use Rattle.xmpp_desk.specs.State.{Hall};
-ghost use Rattle.xmpp_device_views.specs.Identities.{Identity, Login};
+ghost use Rattle.xmpp_device_views.specs.Identities.{Identity, IsNormal, Login};
+ghost use Rattle.xmpp_device_views.specs.Pipes.{PipesShow, by_number};
+ghost use Rattle.xmpp_device_views.specs.Servers.{ServerFollows, ServerShows};
+ghost use Rattle.xmpp_item_worlds.specs.ItemMoves.{served_item};
 ghost use Rattle.xmpp_item_worlds.specs.ItemPipes.{ItemWire};
+ghost use Rattle.xmpp_item_worlds.specs.ItemWorlds.{ItemWorld};
+ghost use Rattle.xmpp_links.specs.Machine.{LinkReached};
 ghost use Rattle.xmpp_links.specs.Views.{Table, View};
-ghost use Rattle.xmpp_links.specs.Words.{Bind, Foot, UpWord};
-ghost use Rattle.xmpp_server_follows.specs.Taking.{HasNumber, IsFirst, IsHeard, IsOfLogin, IsOfManagement, IsOver, IsTaken};
+ghost use Rattle.xmpp_links.specs.Words.{Bind, Foot, ResumeAt, UpWord};
+ghost use Rattle.xmpp_server_follows.specs.Taking.{AreApart, HasFirst, HasNumber, IsFirst, IsHeard, IsLeft, IsNext, IsOfLogin, IsOfManagement, IsOver, IsOwnWord, IsStrange, IsTaken, StepFollows, on_item};
 ghost use Rattle.xmpp_writer.specs.Items.{ItemOut};
 
 /// A law: on each word of a login (RFC 6120, sections 4.3 and 6) the server does what it does in the links: it is one
@@ -41,4 +47,33 @@ pub fn ends_follow()
 pub fn bindings_follow()
     ensures { (who : Identity) (logins : ℕ → Login) (h : Hall ItemOut) (wires : Table ItemWire) (v : View ItemOut) (k : ℕ) (p : IsFirst who logins h wires v k Bind) → HasNumber h
         → IsTaken who logins h wires v k p.wire Bind }
+{}
+
+/// A law: on a resumption (XEP-0198, section 5) of a session that the server doesn't have, or can't resume, likewise: it says
+/// so, and the connection stays as it is.
+pub fn strange_resumptions_follow()
+    ensures { (who : Identity) (logins : ℕ → Login) (h : Hall ItemOut) (wires : Table ItemWire) (v : View ItemOut) (k q n : ℕ) (p : IsFirst who logins h wires v k (ResumeAt q n)) → IsStrange who h q
+        → IsTaken who logins h wires v k p.wire (ResumeAt q n) }
+{}
+
+/// A law: as time passes a session that was parked for too long ends in the links too, and nothing else happens.
+pub fn moments_follow()
+    ensures { (who : Identity) (logins : ℕ → Login) (h : Hall ItemOut) (wires : Table ItemWire) (v : View ItemOut) (now : ℕ) → ServerShows who logins h v → PipesShow who logins wires v
+        → ServerFollows who logins (at_moment now h) wires v }
+{}
+
+/// A law: what the server does on a word of a login, on one on acknowledgement and on a footer leaves the part of another
+/// device as it is, also in the links.
+pub fn other_devices_stay()
+    ensures { (who whom : Identity) (logins others : ℕ → Login) (h : Hall ItemOut) (wires : Table ItemWire) (v u : View ItemOut) (k : ℕ) (word : UpWord ItemOut) (p : IsFirst who logins h wires v k word)
+        → IsOwnWord word → AreApart who whom → ServerShows whom others h u → PipesShow whom others wires u → IsLeft who whom logins others h wires u k p.wire word }
+{}
+
+/// A law: each item that comes to the server on a connection of the device is that of the first word there; and what the
+/// laws say of the step that it takes on the item holds in the world of items.
+pub fn items_are_words()
+    ensures words { (who : Identity) (logins : ℕ → Login) (h : Hall ItemOut) (wires : Table ItemWire) (v : View ItemOut) (k : ℕ) (w : ItemWire) (i : ItemOut) → IsNormal who → LinkReached v → ServerShows who logins h v
+        → PipesShow who logins wires v → IsNext who wires k w i → HasFirst who logins h wires v k w i }
+    ensures worlds { (who : Identity) (logins : ℕ → Login) (w : ItemWorld) (v : View ItemOut) (place : ℕ) (wire : ItemWire) (i : ItemOut) → slice_get w.wires place ≡ Some wire
+        → StepFollows who logins (by_number w.wires) v (place + 1) wire (on_item (place + 1) i w.server) → ServerFollows who logins (served_item place i w).server (by_number (served_item place i w).wires) v }
 {}

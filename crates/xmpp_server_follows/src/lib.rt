@@ -3,4 +3,7 @@
 
 mod laws;
 
-pub use laws::{acknowledgements_follow, bindings_follow, ends_follow, footers_follow, logins_follow};
+pub use laws::{
+    acknowledgements_follow, bindings_follow, ends_follow, footers_follow, items_are_words,
+    logins_follow, moments_follow, other_devices_stay, strange_resumptions_follow,
+};

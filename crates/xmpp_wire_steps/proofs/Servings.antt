@@ -6,14 +6,24 @@ use Rattle.xmpp_desk.specs.State.{Hall, conn_at, with_conn, with_sessions}
 use Rattle.xmpp_desk.specs.declared.connection.Connection.{Connection}
 use Rattle.xmpp_device_views.specs.Identities.{Identity, Login}
 use Rattle.xmpp_device_views.specs.Servers.{IsRow, IsRowShown, ServerShows, conn_shown}
-use Rattle.xmpp_links.proofs.Entries.{Entry, New, Old, entry}
+use Rattle.xmpp_links.proofs.Entries.{Entry, New, Old, entry, was}
 use Rattle.xmpp_links.specs.Stages.{Conn}
-use Rattle.xmpp_links.specs.Views.{Row, Table, View, with_at}
+use Rattle.xmpp_links.specs.Views.{Row, Table, View, alter, with_at}
 use Rattle.xmpp_links.specs.Views as links
 use Rattle.xmpp_live.specs.Sessions.{Session, is_named, session_at, session_named, session_of, with_session}
-use Rattle.xmpp_wire_steps.proofs.Found.{Keeps, at_was, change_here, changes_one, keeps_one, named_changed, numbered_here, rule_changed}
+use Rattle.xmpp_wire_steps.proofs.Found.{Keeps, at_was, of_was, change_here, changes_one, keeps_one, named_changed, numbered_here, rule_changed}
 use Rattle.xmpp_wire_steps.proofs.Halls.{hall_apart, hall_here, hall_sorted}
 use Rattle.xmpp_writer.specs.Items.{ItemOut}
+
+-- these are sessions that the device had
+abbrev pub Known : Table (links.Session ItemOut) → View ItemOut → Type 0
+Known t v = (q : ℕ) (s : links.Session ItemOut) → t q ≡ Some s → (old : links.Session ItemOut) × (v.sessions q ≡ Some old)
+
+pub known_same : (v : View ItemOut) → Known v.sessions v
+known_same v q s is = (s, is)
+
+pub known_altered : (g : ℕ → links.Session ItemOut → links.Session ItemOut) (v : View ItemOut) → Known (alter g v.sessions) v
+known_altered g v q s is = let old = was g v.sessions q s is in (old.0, old.1)
 
 -- the live session of a row
 pub record IsLive (who : Identity) (h : Hall ItemOut) (r : Row ItemOut) : Type 0 where
@@ -38,45 +48,48 @@ module _ (who : Identity) (logins : ℕ → Login) (h : Hall ItemOut) (v : View 
     conns = λ j e there. shown j e (entry k d v.conns j e there);
     row = shows.row;
     seated = λ j e s there seat. seated j e s (entry k d v.conns j e there) seat;
+    owned = shows.owned;
     free = shows.free;
   }
     where
       shown : (j : ℕ) (e : Conn ItemOut) → Entry k d v.conns j e → conn_at j (with_conn k f h) ≡ conn_shown who (logins j) e
       shown j e (New same it) = subst (λ n. conn_at n (with_conn k f h) ≡ conn_shown who (logins n) e) same (hall_here k f h conn at ∙ sym comes ∙ ap (conn_shown who (logins k)) it)
-      shown j e (Old apart was) = hall_apart k f h conn at j apart ∙ shows.conns j e was
+      shown j e (Old apart before) = hall_apart k f h conn at j apart ∙ shows.conns j e before
       seated : (j : ℕ) (e : Conn ItemOut) (s : Session ItemOut) → Entry k d v.conns j e → session_at j h.sessions ≡ Some s → is_named who.account who.resource s ≡ true
       seated j e s (New same it) seat = shows.seated k c s is (subst (λ n. session_at n h.sessions ≡ Some s) (sym same) seat)
-      seated j e s (Old apart was) seat = shows.seated j e s was seat
+      seated j e s (Old apart before) seat = shows.seated j e s before seat
 
   -- it stays in its phase, and this is then the row
-  pub row_shows : (d : Conn ItemOut) (o : Option (Row ItemOut)) (t : Table (links.Session ItemOut)) → conn_shown who (logins k) d ≡ conn_shown who (logins k) c → IsRowShown o (session_named who.account who.resource h.sessions)
+  pub row_shows : (d : Conn ItemOut) (o : Option (Row ItemOut)) (t : Table (links.Session ItemOut)) → Known t v → conn_shown who (logins k) d ≡ conn_shown who (logins k) c → IsRowShown o (session_named who.account who.resource h.sessions)
       → ServerShows who logins h (record v { conns = with_at k d v.conns; row = o; sessions = t })
-  row_shows d o t same row = record {
+  row_shows d o t known same row = record {
     served = shows.served;
     hall = shows.hall;
     conns = λ j e there. shown j e (entry k d v.conns j e there);
     row = row;
     seated = λ j e s there seat. seated j e s (entry k d v.conns j e there) seat;
+    owned = λ q u s there found. let old = known q u there in shows.owned q old.0 s old.1 found;
     free = shows.free;
   }
     where
       shown : (j : ℕ) (e : Conn ItemOut) → Entry k d v.conns j e → conn_at j h ≡ conn_shown who (logins j) e
       shown j e (New at it) = subst (λ n. conn_at n h ≡ conn_shown who (logins n) e) at (shows.conns k c is ∙ sym same ∙ ap (conn_shown who (logins k)) it)
-      shown j e (Old apart was) = shows.conns j e was
+      shown j e (Old apart before) = shows.conns j e before
       seated : (j : ℕ) (e : Conn ItemOut) (s : Session ItemOut) → Entry k d v.conns j e → session_at j h.sessions ≡ Some s → is_named who.account who.resource s ≡ true
       seated j e s (New at it) seat = shows.seated k c s is (subst (λ n. session_at n h.sessions ≡ Some s) (sym at) seat)
-      seated j e s (Old apart was) seat = shows.seated j e s was seat
+      seated j e s (Old apart before) seat = shows.seated j e s before seat
 
 -- the session of the device is changed
 pub session_shows : (who : Identity) (logins : ℕ → Login) (h : Hall ItemOut) (v : View ItemOut) (r changed : Row ItemOut) (f : Session ItemOut → Session ItemOut) (t : Table (links.Session ItemOut))
-    → ServerShows who logins h v → v.row ≡ Some r → Keeps f → ((s : Session ItemOut) → IsRow r s → IsRow changed (f s)) → ((s : Session ItemOut) → IsRow r s → length (f s).waiting ≤ MOST_UNACKNOWLEDGED)
+    → Known t v → ServerShows who logins h v → v.row ≡ Some r → Keeps f → ((s : Session ItemOut) → IsRow r s → IsRow changed (f s)) → ((s : Session ItemOut) → IsRow r s → length (f s).waiting ≤ MOST_UNACKNOWLEDGED)
     → ServerShows who logins (with_sessions (with_session r.number f h.sessions) h) (record v { row = Some changed; sessions = t })
-session_shows who logins h v r changed f t shows is kept becomes few = record {
+session_shows who logins h v r changed f t known shows is kept becomes few = record {
   served = record { domain = shows.served.domain; account = shows.served.account; found = shows.served.found; archive = shows.served.archive };
   hall = record { sessions = rule_changed h.next r.number f h.sessions kept few_in shows.hall.sessions; conns = shows.hall.conns };
   conns = shows.conns;
   row = subst (IsRowShown (Some changed)) (sym found) (becomes live.session live.row);
   seated = λ j e s there seat. seated j e s there (at_was j r.number f h.sessions s kept seat);
+  owned = λ q u s there found. owned q s (known q u there) (of_was q r.number f h.sessions s kept found);
   free = shows.free;
 }
   where
@@ -96,4 +109,6 @@ session_shows who logins h v r changed f t shows is kept becomes few = record {
         let b : u.shown.resource ≡ s.shown.resource = ap (λ (x : Session ItemOut). x.shown.resource) (sym same) ∙ all.resource s in
         rw (a, b) named
     seated : (j : ℕ) (e : Conn ItemOut) (s : Session ItemOut) → v.conns j ≡ Some e → (u : Session ItemOut) × (session_at j h.sessions ≡ Some u) × (changes_one r.number f u ≡ s) → is_named who.account who.resource s ≡ true
-    seated j e s there was = named_so was.0 s was.2 (shows.seated j e was.0 there was.1)
+    seated j e s there before = named_so before.0 s before.2 (shows.seated j e before.0 there before.1)
+    owned : (q : ℕ) (s : Session ItemOut) → (old : links.Session ItemOut) × (v.sessions q ≡ Some old) → (u : Session ItemOut) × (session_of q h.sessions ≡ Some u) × (changes_one r.number f u ≡ s) → is_named who.account who.resource s ≡ true
+    owned q s old then_so = named_so then_so.0 s then_so.2 (shows.owned q old.0 then_so.0 old.1 then_so.1)
