@@ -33,3 +33,4 @@ pub mod OtherEnds
 pub mod ItemsTaken
 -- ---- for resumptions of sessions that live
 pub mod Resuming
+pub mod ResumeRows
