@@ -1,10 +1,10 @@
 -- What the server reads of a binding (RFC 6120, section 7), and what it answers.
-use Rattle.std.proofs.Common.{◌≡◌, ◌≢◌, ℕ, Bool, true, false, List, [], ◌∷◌, ◌++◌, Option, Some, None, Ok, codes, refl, sym, ap, subst, ◌∙◌}
+use Rattle.std.proofs.Common.{◌≡◌, ◌≢◌, ℕ, List, [], ◌∷◌, ◌++◌, None, Ok, codes, refl, ap, ◌∙◌}
 use Rattle.std.proofs.lemmas.List.{append-nil}
-use Rattle.xmpp_desk.specs.State.{Hall, bare_address, full_address, name_of}
+use Rattle.xmpp_desk.specs.State.{Hall, full_address, name_of}
 use Rattle.xmpp_desk.specs.Words.{is_long, word_of}
 use Rattle.xmpp_desk.specs.declared.word.Word.TheVariants as word
-use Rattle.xmpp_device_views.specs.Identities.{Identity, IsNormal, full_of}
+use Rattle.xmpp_device_views.specs.Identities.{Identity, full_of}
 use Rattle.xmpp_device_views.specs.Servers.{IsServed}
 use Rattle.xmpp_ext.specs.Bind.{bind_request_elem}
 use Rattle.xmpp_jid.specs.Forms.{resource_form}
@@ -15,7 +15,7 @@ use Rattle.xmpp_stanza.specs.Readings.{stanza_of}
 use Rattle.xmpp_stanza.specs.Views.{IqView}
 use Rattle.xmpp_stanza.specs.declared.kinds.IqKind.TheVariants.{Set}
 use Rattle.xmpp_stanza.specs.declared.stanzas.Stanza.TheVariants.{Iq}
-use Rattle.xmpp_trees.specs.Trees.{Elem, Nodes, child, no_nodes}
+use Rattle.xmpp_trees.specs.Trees.{Elem, child, no_nodes}
 use Rattle.xmpp_writer.specs.Items.{ItemOut}
 
 abbrev pub bind_elem : List ℕ → Elem

@@ -1,12 +1,12 @@
 -- The row on a binding (RFC 6120, section 7): the older session of the device ends, and its connection is told so and shut.
-use Rattle.std.proofs.Common.{◌≡◌, ◌≢◌, ℕ, ◌+◌, ◌<◌, ◌≤◌, ◌^◌, ◌==◌, Bool, true, false, not, ◌&&◌, List, [], ◌∷◌, ◌++◌, Option, Some, None, Ok, All, codes, refl, sym, ap, subst, ◌∙◌, ◌⊎◌, inl, inr, arith}
+use Rattle.std.proofs.Common.{◌≡◌, ◌≢◌, ℕ, ◌+◌, ◌<◌, ◌^◌, ◌==◌, Bool, true, false, not, ◌&&◌, List, [], ◌∷◌, ◌++◌, Option, Some, None, codes, refl, sym, ap, subst, ◌∙◌, ◌⊎◌, inl, inr, arith}
 use Rattle.std.proofs.lemmas.Bool.{cases_Bool, eq-eqb}
 use Rattle.std.proofs.lemmas.List.Elements.{All-nil}
 use Rattle.std.proofs.lemmas.Option.{same_Some}
 use Rattle.std.specs.List.{filter, find}
 use Rattle.std.specs.Option.{option_map}
 use Rattle.std.specs.Result.{result_ok}
-use Rattle.xmpp_desk.specs.State.{Hall, Put, Step, conn_at, full_address, without_conn}
+use Rattle.xmpp_desk.specs.State.{Hall, Step, conn_at, full_address, without_conn}
 use Rattle.xmpp_desk.specs.Steps.{Say, acted}
 use Rattle.xmpp_desk.specs.Streams.{parting_where, standing_of}
 use Rattle.xmpp_desk.specs.Words.{is_long}
@@ -35,25 +35,24 @@ use Rattle.xmpp_links.specs.Wires.{send_down}
 use Rattle.xmpp_links.specs.Views as links
 use Rattle.xmpp_links.specs.Words.{AtSession, Bind, Bound, Conflict, Ready}
 use Rattle.xmpp_live.specs.Rule.{IsRule}
-use Rattle.xmpp_live.specs.Sessions.{Session, ended_of, fresh, is_at, is_named, less, session_at, session_named, session_of, told, without}
+use Rattle.xmpp_live.specs.Sessions.{Session, ended_of, fresh, is_at, is_named, less, session_at, session_named, session_of, told}
 use Rattle.xmpp_replies.specs.Requests.{bound_item}
 use Rattle.xmpp_replies.specs.Streams.{error_item}
 use Rattle.xmpp_replies.specs.declared.conditions.StreamCondition.TheVariants as stream
-use Rattle.xmpp_server.specs.Table.{at_word}
 use Rattle.xmpp_server_follows.proofs.Binding.{bound_hall, bound_shows, new_row}
-use Rattle.xmpp_server_follows.proofs.BindReads.{address_is, bind_elem, bind_iq, bind_read, bind_word, resource_asked, resource_chosen}
+use Rattle.xmpp_server_follows.proofs.BindReads.{address_is, bind_elem, bind_word, resource_asked, resource_chosen}
 use Rattle.xmpp_server_follows.proofs.Former.{keeps_both, pushed_stays, shut_then_taken}
 use Rattle.xmpp_server_follows.proofs.HallsLeft.{without_apart, without_here, without_sorted}
 use Rattle.xmpp_server_follows.proofs.HandMoves.{kept_here, open_here, row_here}
 use Rattle.xmpp_server_follows.proofs.Leavings.{unseated}
-use Rattle.xmpp_server_follows.proofs.Removed.{found_none, named_gone, of_left, rule_left}
+use Rattle.xmpp_server_follows.proofs.Removed.{named_gone, of_left, rule_left}
 use Rattle.xmpp_server_follows.proofs.Sessions.{taken, taken_client, taken_pipes}
 use Rattle.xmpp_server_follows.proofs.Shuts.{shuts_at}
 use Rattle.xmpp_server_follows.proofs.Standing.{stands_at}
 use Rattle.xmpp_server_follows.specs.Taking.{IsFirst, IsTaken, StepFollows, on_item}
-use Rattle.xmpp_session_rows.specs.Bindings.{asked_resource, at_bind, binding_as, chosen, former_of}
+use Rattle.xmpp_session_rows.specs.Bindings.{binding_as, chosen, former_of}
 use Rattle.xmpp_stanza.specs.Readings.{stanza_of}
-use Rattle.xmpp_stanza_rows.specs.Ready.{at_ready_or_bound, ready_stanza}
+use Rattle.xmpp_stanza_rows.specs.Ready.{at_ready_or_bound}
 use Rattle.xmpp_wire_steps.proofs.Emitted.{puts_at}
 use Rattle.xmpp_wire_steps.proofs.Flows.{halted, taken_flowing}
 use Rattle.xmpp_wire_steps.proofs.Placed.{keeps_at}

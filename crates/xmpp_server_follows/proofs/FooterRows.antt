@@ -1,8 +1,8 @@
 -- The row on a footer (RFC 6120, section 4.4): the server puts its own, and shuts the connection; a session on it ends.
-use Rattle.std.proofs.Common.{◌≡◌, ℕ, Bool, true, false, not, ◌&&◌, List, [], ◌∷◌, ◌++◌, Option, Some, None, refl, sym, ap, subst, ◌∙◌, inl, inr}
+use Rattle.std.proofs.Common.{◌≡◌, ℕ, Bool, true, false, not, ◌&&◌, [], ◌∷◌, Option, Some, None, refl, sym, ap, subst, ◌∙◌, inl, inr}
 use Rattle.std.proofs.lemmas.Bool.{cases_Bool, eq-eqb}
 use Rattle.std.specs.List.{filter}
-use Rattle.xmpp_desk.specs.State.{Hall, Put, Shut}
+use Rattle.xmpp_desk.specs.State.{Hall}
 use Rattle.xmpp_device_views.specs.Identities.{Identity, Login}
 use Rattle.xmpp_device_views.specs.Servers.{IsRowShown, ServerShows}
 use Rattle.xmpp_device_views.specs.WordItems.{up_item}

@@ -1,5 +1,5 @@
 -- Two connections of a device: the one is shut, and then a word is taken from the other.
-use Rattle.std.proofs.Common.{◌≡◌, ◌≢◌, ℕ, Bool, true, false, List, [], ◌∷◌, ◌++◌, Option, Some, None, map, refl, sym, ap, subst, ◌∙◌, inl, inr}
+use Rattle.std.proofs.Common.{◌≡◌, ◌≢◌, ℕ, Bool, true, List, [], ◌∷◌, ◌++◌, Option, Some, None, map, refl, sym, ap, subst, ◌∙◌, inl, inr}
 use Rattle.std.proofs.lemmas.Bool.{cases_Bool, cases_eq}
 use Rattle.std.specs.List.{All, filter}
 use Rattle.std.specs.Option.{option_map}
@@ -18,7 +18,7 @@ use Rattle.xmpp_links.specs.Views.{Table, View, with_at}
 use Rattle.xmpp_links.specs.Wires.{left_up, send_down, up_words}
 use Rattle.xmpp_links.specs.Words.{DownWord, Phase, UpWord, down_stanzas}
 use Rattle.xmpp_server_follows.proofs.Shuts.{shuts_are_for, shuts_at, shuts_here}
-use Rattle.xmpp_wire_steps.proofs.Emitted.{AreFor, mapped_twice, puts_are_for, puts_at, puts_here, sent_both}
+use Rattle.xmpp_wire_steps.proofs.Emitted.{AreFor, puts_are_for, puts_at, puts_here, sent_both}
 use Rattle.xmpp_wire_steps.proofs.Placed.{shown_as, shown_at, shown_sent}
 use Rattle.xmpp_wire_steps.proofs.Taken.{wire_shut, wire_taken}
 use Rattle.xmpp_writer.specs.Items.{ItemOut}

@@ -1,5 +1,5 @@
 -- The server hears of the end of a connection: the session on it is parked where it is counted, and else ends.
-use Rattle.std.proofs.Common.{◌≡◌, ◌≢◌, ℕ, ◌≤◌, ◌==◌, Bool, true, false, not, List, [], ◌∷◌, Option, Some, None, cond, length, map, refl, sym, ap, subst, ◌∙◌, inl, inr}
+use Rattle.std.proofs.Common.{◌≡◌, ℕ, ◌≤◌, ◌==◌, Bool, true, false, not, List, [], ◌∷◌, Option, Some, None, cond, length, map, refl, sym, ap, subst, ◌∙◌, inl, inr}
 use Rattle.std.proofs.lemmas.Bool.{cases_Bool, eq-eqb}
 use Rattle.std.proofs.lemmas.Option.{same_Some}
 use Rattle.std.specs.List.{filter}
@@ -7,7 +7,6 @@ use Rattle.std.specs.Option.{option_map}
 use Rattle.xmpp_acks.specs.declared.end.TheConstants.{MOST_UNACKNOWLEDGED}
 use Rattle.xmpp_desk.specs.Moments.{gone_at}
 use Rattle.xmpp_desk.specs.State.{Hall, conn_at, with_sessions, without_conn}
-use Rattle.xmpp_desk.specs.declared.connection.Connection.{Connection}
 use Rattle.xmpp_device_views.specs.Identities.{Identity, Login}
 use Rattle.xmpp_device_views.specs.Pipes.{IsWire, PipesShow}
 use Rattle.xmpp_device_views.specs.Servers.{IsRow, IsRowShown, ServerFollows, ServerShows, conn_shown, open_conn}
@@ -20,7 +19,7 @@ use Rattle.xmpp_links.specs.Stages.{Closes, Conn, Ending, Errs, Stands}
 use Rattle.xmpp_links.specs.Views.{Row, Table, View, session_on, with_at}
 use Rattle.xmpp_links.specs.Views as links
 use Rattle.xmpp_links.specs.Wires.{is_flowing, up_words}
-use Rattle.xmpp_links.specs.Words.{Phase, UpWord}
+use Rattle.xmpp_links.specs.Words.{Phase}
 use Rattle.xmpp_live.specs.Rule.{IsRule}
 use Rattle.xmpp_live.specs.Sessions.{Session, is_at, is_named, is_numbered, lost, parked, session_at, session_named, session_of, with_session, without}
 use Rattle.xmpp_server_follows.proofs.HallsLeft.{without_apart, without_here, without_sorted}

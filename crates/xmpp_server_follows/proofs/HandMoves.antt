@@ -1,19 +1,17 @@
 -- The server takes a word of the handshake outside of sessions: that is one move of the links.
-use Rattle.std.proofs.Common.{◌≡◌, ℕ, Bool, true, false, List, [], ◌∷◌, Option, Some, None, map, refl, sym, ap, subst, ◌∙◌}
+use Rattle.std.proofs.Common.{◌≡◌, ℕ, false, List, [], ◌∷◌, Option, Some, map, refl, sym, ap, subst, ◌∙◌}
 use Rattle.std.specs.List.{All}
 use Rattle.std.specs.Option.{option_map}
 use Rattle.xmpp_desk.specs.State.{Hall, conn_at, with_conn}
 use Rattle.xmpp_desk.specs.Steps.{acted, in_phase}
 use Rattle.xmpp_desk.specs.Streams.{standing_at, standing_of}
-use Rattle.xmpp_desk.specs.declared.connection.Connection.{Connection}
 use Rattle.xmpp_desk.specs.declared.connection.Phase.{Phase as DeskPhase}
-use Rattle.xmpp_desk.specs.declared.connection.Standing.{Standing}
 use Rattle.xmpp_desk.specs.declared.connection.Tries.TheVariants as tries
 use Rattle.xmpp_device_views.specs.Counted.{IsForClient}
 use Rattle.xmpp_device_views.specs.Identities.{Identity, Login}
-use Rattle.xmpp_device_views.specs.Pipes.{IsShown, IsWire, PipesShow}
-use Rattle.xmpp_device_views.specs.Sent.{sent, sent_under}
-use Rattle.xmpp_device_views.specs.Servers.{ServerFollows, ServerShows, open_conn, phase_shown}
+use Rattle.xmpp_device_views.specs.Pipes.{IsShown, IsWire}
+use Rattle.xmpp_device_views.specs.Sent.{sent_under}
+use Rattle.xmpp_device_views.specs.Servers.{open_conn, phase_shown}
 use Rattle.xmpp_device_views.specs.WordItems.{down_item, is_behind_login}
 use Rattle.xmpp_framing.specs.declared.items.Item.{Item}
 use Rattle.xmpp_item_worlds.specs.ItemMoves.{step_of}
@@ -22,9 +20,9 @@ use Rattle.xmpp_item_worlds.specs.ItemWorlds.{itself}
 use Rattle.xmpp_links.proofs.Reached.{link_kept}
 use Rattle.xmpp_links.specs.Links.{LinkKept}
 use Rattle.xmpp_links.specs.Machine.{TakesHand}
-use Rattle.xmpp_links.specs.Stages.{Conn, Ending, Goes, Stands, server_hand}
+use Rattle.xmpp_links.specs.Stages.{Conn, Goes, Stands, server_hand}
 use Rattle.xmpp_links.specs.Views.{Table, View, with_at}
-use Rattle.xmpp_links.specs.Wires.{left_up, send_down, up_words}
+use Rattle.xmpp_links.specs.Wires.{left_up, send_down}
 use Rattle.xmpp_links.specs.Words.{DownWord, Phase, UpWord, down_stanzas}
 use Rattle.xmpp_server.specs.Table.{after_item, at_item, at_open}
 use Rattle.xmpp_server_follows.proofs.Standing.{stands_at}

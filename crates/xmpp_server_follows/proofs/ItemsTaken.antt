@@ -1,5 +1,5 @@
 -- In a world of items: the first item on its way up is that of the first word, and behind it the pipes are as the step says.
-use Rattle.std.proofs.Common.{◌≡◌, ◌≢◌, ℕ, ◌+◌, List, [], ◌∷◌, Option, Some, None, map, slice_get, refl, sym, ap, subst, ◌∙◌, inl, inr}
+use Rattle.std.proofs.Common.{◌≡◌, ℕ, ◌+◌, List, [], ◌∷◌, Option, Some, None, map, slice_get, refl, sym, ap, subst, ◌∙◌, inl, inr}
 use Rattle.std.proofs.lemmas.Bool.{cases_eq}
 use Rattle.std.specs.Option.{option_map}
 use Rattle.xmpp_desk.specs.State.{Hall, Out}
@@ -16,9 +16,8 @@ use Rattle.xmpp_links.specs.Machine.{LinkReached}
 use Rattle.xmpp_links.specs.Stages.{Conn}
 use Rattle.xmpp_links.specs.Views.{Table, View, with_at}
 use Rattle.xmpp_links.specs.Wires.{up_words}
-use Rattle.xmpp_links.specs.Words.{UpWord}
 use Rattle.xmpp_server_follows.proofs.Former.{pipes_as}
-use Rattle.xmpp_server_follows.specs.Taking.{HasFirst, IsFirst, IsNext, StepFollows, on_item}
+use Rattle.xmpp_server_follows.specs.Taking.{HasFirst, IsNext, StepFollows, on_item}
 use Rattle.xmpp_wire_steps.proofs.Changes.{at_place, under_changed, under_other, under_place}
 use Rattle.xmpp_wire_steps.proofs.Emitted.{all_sent}
 use Rattle.xmpp_wires.specs.Places.{changed_at, changed_under}

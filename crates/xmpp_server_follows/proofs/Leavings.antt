@@ -1,18 +1,18 @@
 -- What the server has of a device, where one of its connections is no more.
-use Rattle.std.proofs.Common.{◌≡◌, ◌≢◌, ℕ, Bool, true, false, not, List, Option, Some, None, refl, sym, ap, subst, ◌∙◌, inl, inr}
+use Rattle.std.proofs.Common.{◌≡◌, ℕ, Bool, true, List, Option, Some, None, refl, sym, ap, subst, ◌∙◌}
 use Rattle.std.proofs.lemmas.Bool.{eq-eqb, eqb-true}
 use Rattle.std.proofs.lemmas.Option.{same_Some}
 use Rattle.std.specs.List.{filter}
 use Rattle.xmpp_desk.specs.State.{Hall, conn_at, with_sessions, without_conn}
 use Rattle.xmpp_device_views.specs.Identities.{Identity, Login}
-use Rattle.xmpp_device_views.specs.Servers.{IsRow, IsRowShown, ServerShows, conn_shown}
+use Rattle.xmpp_device_views.specs.Servers.{IsRowShown, ServerShows, conn_shown}
 use Rattle.xmpp_links.proofs.Entries.{Entry, New, Old, entry}
 use Rattle.xmpp_links.specs.Links.{IsPlaced, LinkKept}
 use Rattle.xmpp_links.specs.Stages.{Conn}
 use Rattle.xmpp_links.specs.Views.{Row, Table, View, session_on, with_at}
 use Rattle.xmpp_links.specs.Views as links
 use Rattle.xmpp_live.specs.Rule.{IsRule}
-use Rattle.xmpp_live.specs.Sessions.{Session, is_at, is_named, is_numbered, session_at, session_named, session_of, without_at}
+use Rattle.xmpp_live.specs.Sessions.{Session, is_at, is_named, is_numbered, session_at, session_named, session_of}
 use Rattle.xmpp_resume.specs.Rows.{is_some_number}
 use Rattle.xmpp_server_follows.proofs.HallsLeft.{without_apart, without_here, without_sorted}
 use Rattle.xmpp_server_follows.proofs.Removed.{found_none, of_left, one_named, rule_left, seat_left}

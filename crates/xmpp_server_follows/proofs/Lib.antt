@@ -34,3 +34,4 @@ pub mod ItemsTaken
 -- ---- for resumptions of sessions that live
 pub mod Resuming
 pub mod ResumeRows
+pub mod ResumeTaken

@@ -1,20 +1,18 @@
 -- The rows of a login: a header, `auth`, `response`, and the header behind it.
-use Rattle.std.proofs.Common.{◌≡◌, ℕ, Bool, true, false, List, [], ◌∷◌, Option, Some, None, Ok, codes, map, refl, sym, ap, subst, ◌∙◌, ◌⊎◌, inl, inr}
+use Rattle.std.proofs.Common.{◌≡◌, ℕ, Bool, true, false, List, [], ◌∷◌, Some, Ok, codes, map, refl, sym, ap, subst, ◌∙◌, ◌⊎◌, inl, inr}
 use Rattle.std.proofs.lemmas.List.Elements.{All-nil}
 use Rattle.std.specs.Option.{option_and_then, option_map}
-use Rattle.xmpp_desk.specs.Logins.{answering, at_challenge, at_login, beginning, finishing, negotiation_at, negotiation_of}
-use Rattle.xmpp_desk.specs.State.{Hall, Step, conn_at, with_conn}
+use Rattle.xmpp_desk.specs.Logins.{answering, beginning, finishing, negotiation_at, negotiation_of}
+use Rattle.xmpp_desk.specs.State.{Hall, Step, with_conn}
 use Rattle.xmpp_desk.specs.Steps.{acted, in_phase}
-use Rattle.xmpp_desk.specs.Streams.{answering_header, opening, standing_of}
-use Rattle.xmpp_desk.specs.declared.connection.Connection.{Connection}
+use Rattle.xmpp_desk.specs.Streams.{answering_header, standing_of}
 use Rattle.xmpp_desk.specs.declared.connection.Phase.{Phase as DeskPhase}
 use Rattle.xmpp_desk.specs.declared.connection.Phase.TheVariants as phase
 use Rattle.xmpp_desk.specs.declared.connection.Stage.TheVariants as stage
 use Rattle.xmpp_desk.specs.declared.connection.Standing.{Standing}
 use Rattle.xmpp_desk.specs.declared.connection.Tries.TheVariants as tries
-use Rattle.xmpp_desk.specs.declared.word.Word.{Word}
 use Rattle.xmpp_device_views.specs.Counted.{IsForClient}
-use Rattle.xmpp_device_views.specs.Identities.{Identity, IsLogin, Login, exchange_of, served_account}
+use Rattle.xmpp_device_views.specs.Identities.{Identity, IsLogin, Login, exchange_of}
 use Rattle.xmpp_device_views.specs.Servers.{IsServed, phase_shown}
 use Rattle.xmpp_device_views.specs.WordItems.{down_item, features_item, is_behind_login, up_item}
 use Rattle.xmpp_framing.specs.declared.items.Item.TheVariants as item
@@ -24,9 +22,9 @@ use Rattle.xmpp_item_worlds.specs.ItemMoves.{step_of}
 use Rattle.xmpp_item_worlds.specs.ItemPipes.{ItemWire}
 use Rattle.xmpp_item_worlds.specs.ItemWorlds.{itself}
 use Rattle.xmpp_links.proofs.Expected.{expected_up}
-use Rattle.xmpp_links.specs.Stages.{Goes, server_hand}
+use Rattle.xmpp_links.specs.Stages.{server_hand}
 use Rattle.xmpp_links.specs.Views.{Table, View}
-use Rattle.xmpp_links.specs.Words.{Auth, Chal, Challenge, Client, DownWord, Feat, Hdr, Head, InHeader1, InHeader2, Phase, Ready, Resp, Restart, Sasl, Start, Succ, UpWord}
+use Rattle.xmpp_links.specs.Words.{Auth, Chal, Challenge, Feat, Hdr, Head, Phase, Ready, Resp, Restart, Sasl, Start, Succ, UpWord}
 use Rattle.xmpp_login.specs.Accounts.{account_named}
 use Rattle.xmpp_login.specs.Headers.{header_answer}
 use Rattle.xmpp_login.specs.Negotiations.{auth_answer, begun_by, begun_of, begun_with, ended_of, ended_with, final_answer}
@@ -40,8 +38,7 @@ use Rattle.xmpp_replies.specs.Sasl.{challenge_item, success_item}
 use Rattle.xmpp_replies.specs.Streams.{header_item}
 use Rattle.xmpp_sasl.specs.Sasl.{auth_of, carrier}
 use Rattle.xmpp_scram.specs.Exchange.{added_nonce, server_final_message}
-use Rattle.xmpp_scram.specs.declared.client_first.ClientFirst.{ClientFirst}
-use Rattle.xmpp_server.specs.Table.{at_item, at_word}
+use Rattle.xmpp_server.specs.Table.{at_word}
 use Rattle.xmpp_server_follows.proofs.HandMoves.{hand_follows, kept_here, open_here, row_here, wire_here}
 use Rattle.xmpp_server_follows.proofs.ReadWords.{auth_word, header_opens, response_word}
 use Rattle.xmpp_server_follows.proofs.Standing.{client_at_restart, client_at_start}

@@ -1,5 +1,5 @@
 -- Time passes: a session that was parked for too long ends (XEP-0198, section 5).
-use Rattle.std.proofs.Common.{◌≡◌, ℕ, ◌≤◌, Bool, true, false, not, ◌&&◌, List, [], ◌∷◌, Option, Some, None, ◌-◌, nat_le, refl, sym, ap, subst, ◌∙◌, inl, inr}
+use Rattle.std.proofs.Common.{◌≡◌, ℕ, Bool, true, false, not, ◌&&◌, [], ◌∷◌, Option, Some, None, ◌-◌, nat_le, refl, sym, subst, ◌∙◌, inl, inr}
 use Rattle.std.proofs.lemmas.Bool.{cases_Bool}
 use Rattle.std.specs.List.{filter}
 use Rattle.std.specs.Prelude.{is_none, max}
@@ -7,11 +7,11 @@ use Rattle.xmpp_desk.specs.Moments.{at_moment}
 use Rattle.xmpp_desk.specs.State.{Hall}
 use Rattle.xmpp_device_views.specs.Identities.{Identity, Login}
 use Rattle.xmpp_device_views.specs.Pipes.{PipesShow}
-use Rattle.xmpp_device_views.specs.Servers.{IsRow, IsRowShown, ServerFollows, ServerShows}
+use Rattle.xmpp_device_views.specs.Servers.{IsRowShown, ServerFollows, ServerShows}
 use Rattle.xmpp_item_worlds.specs.ItemPipes.{ItemWire}
 use Rattle.xmpp_links.specs.Machine.{EndsRow}
 use Rattle.xmpp_links.specs.Views.{Row, Table, View}
-use Rattle.xmpp_live.specs.Sessions.{Session, is_at, is_expired, is_named, session_at, session_named, session_of}
+use Rattle.xmpp_live.specs.Sessions.{Session, is_expired, is_named, session_named}
 use Rattle.xmpp_resume.specs.declared.answers.TheConstants.{RESUMABLE_FOR}
 use Rattle.xmpp_server_follows.proofs.BindRows.{none_left}
 use Rattle.xmpp_server_follows.proofs.Leavings.{seat_is, seat_of}

@@ -1,5 +1,5 @@
 -- A footer leaves the other devices as they are.
-use Rattle.std.proofs.Common.{◌≡◌, ◌≢◌, ℕ, Bool, true, false, not, List, [], ◌∷◌, Option, Some, None, refl, sym, ap, subst, ◌∙◌, inl, inr}
+use Rattle.std.proofs.Common.{◌≡◌, ◌≢◌, ℕ, Bool, true, not, [], ◌∷◌, Option, Some, None, refl, sym, ap, subst, ◌∙◌, inl, inr}
 use Rattle.std.proofs.lemmas.Bool.{cases_Bool}
 use Rattle.std.specs.List.{filter}
 use Rattle.xmpp_desk.specs.State.{Hall, with_sessions, without_conn}
@@ -12,7 +12,7 @@ use Rattle.xmpp_item_worlds.specs.ItemPipes.{ItemWire, handed_up}
 use Rattle.xmpp_links.specs.Stages.{Conn}
 use Rattle.xmpp_links.specs.Views.{Table, View, with_at}
 use Rattle.xmpp_links.specs.Words.{Foot, UpWord}
-use Rattle.xmpp_live.specs.Sessions.{Session, is_at, is_named, session_at, session_named, session_of}
+use Rattle.xmpp_live.specs.Sessions.{Session, is_at, is_named, session_at, session_named}
 use Rattle.xmpp_server_follows.proofs.BindRows.{none_left}
 use Rattle.xmpp_server_follows.proofs.FooterRows.{foot_step}
 use Rattle.xmpp_server_follows.proofs.HallsLeft.{without_apart, without_sorted}

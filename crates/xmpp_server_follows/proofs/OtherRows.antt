@@ -1,5 +1,5 @@
 -- The rows of a login and of acknowledgement leave the other devices as they are.
-use Rattle.std.proofs.Common.{◌≡◌, ℕ, ◌≤◌, Bool, true, false, List, [], ◌∷◌, Option, Some, None, length, refl, sym, ap, subst, ◌∙◌, ◌⊎◌, inl, inr}
+use Rattle.std.proofs.Common.{◌≡◌, ℕ, ◌≤◌, true, false, List, [], ◌∷◌, Some, length, refl, sym, ap, subst, ◌∙◌, ◌⊎◌, inl, inr}
 use Rattle.std.specs.Option.{option_map}
 use Rattle.xmpp_acks.specs.Counters.{ahead}
 use Rattle.xmpp_acks.specs.declared.end.TheConstants.{MOST_UNACKNOWLEDGED}
@@ -17,10 +17,9 @@ use Rattle.xmpp_device_views.specs.WordItems.{features_item, told_count, up_item
 use Rattle.xmpp_item_worlds.specs.ItemPipes.{ItemWire, handed_up}
 use Rattle.xmpp_links.proofs.Expected.{expected_up}
 use Rattle.xmpp_links.specs.Promises.{HasThere}
-use Rattle.xmpp_links.specs.Stages.{Conn}
 use Rattle.xmpp_links.specs.Views.{Table, View, with_at}
-use Rattle.xmpp_links.specs.Words.{Ack, Auth, Challenge, Enable, Hdr, Phase, Req, Resp, Restart, Sasl, Start, Up, UpWord}
-use Rattle.xmpp_live.specs.Sessions.{Session, acknowledged, asks, enables, is_named, session_named, session_of, with_session}
+use Rattle.xmpp_links.specs.Words.{Ack, Auth, Enable, Hdr, Req, Resp, Restart, Start, Up, UpWord}
+use Rattle.xmpp_live.specs.Sessions.{Session, acknowledged, asks, enables, is_named, session_of, with_session}
 use Rattle.xmpp_replies.specs.Management.{ack_item, resumable_item}
 use Rattle.xmpp_replies.specs.Sasl.{challenge_item, success_item}
 use Rattle.xmpp_replies.specs.Streams.{header_item}

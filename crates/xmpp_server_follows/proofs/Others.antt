@@ -9,13 +9,12 @@ use Rattle.xmpp_desk.specs.declared.connection.Connection.{Connection}
 use Rattle.xmpp_device_views.specs.Identities.{Identity, Login}
 use Rattle.xmpp_device_views.specs.Pipes.{IsShown, IsWire, PipesShow}
 use Rattle.xmpp_device_views.specs.Sent.{sent, sent_one, sent_under, where_it}
-use Rattle.xmpp_device_views.specs.Servers.{IsRowShown, ServerFollows, ServerShows, conn_shown}
+use Rattle.xmpp_device_views.specs.Servers.{IsRowShown, ServerFollows, ServerShows}
 use Rattle.xmpp_item_worlds.specs.ItemPipes.{ItemWire, handed_up, put_down, shut}
 use Rattle.xmpp_links.proofs.Entries.{at_other, at_same}
 use Rattle.xmpp_links.specs.Stages.{Conn}
 use Rattle.xmpp_links.specs.Views.{Table, View, with_at}
-use Rattle.xmpp_links.specs.Views as links
-use Rattle.xmpp_live.specs.Sessions.{Session, is_named, session_at, session_named, session_of, with_session}
+use Rattle.xmpp_live.specs.Sessions.{Session, is_named, session_named, session_of, with_session}
 use Rattle.xmpp_server_follows.proofs.Removed.{named_as}
 use Rattle.xmpp_server_follows.specs.Taking.{AreApart}
 use Rattle.xmpp_wire_steps.proofs.Emitted.{AreFor}

@@ -1,5 +1,5 @@
 -- A session is bound behind those that are left: it is the newest, and has its name alone.
-use Rattle.std.proofs.Common.{◌≡◌, ◌≢◌, ℕ, ◌+◌, ◌<◌, ◌≤◌, ◌^◌, ◌==◌, Bool, true, false, not, List, [], ◌∷◌, ◌++◌, Option, Some, None, length, refl, sym, ap, subst, ◌∙◌, ◌⊎◌, inl, inr, arith}
+use Rattle.std.proofs.Common.{◌≡◌, ℕ, ◌+◌, ◌<◌, ◌≤◌, ◌^◌, ◌==◌, Bool, true, List, [], ◌∷◌, ◌++◌, Some, None, length, refl, sym, ap, subst, ◌∙◌, ◌⊎◌, inl, inr, arith}
 use Rattle.std.proofs.lemmas.Bool.{cases_Bool, eq-eqb, eqb-true}
 use Rattle.std.proofs.lemmas.Option.{same_Some}
 use Rattle.std.specs.List.{find}
@@ -8,9 +8,7 @@ use Rattle.xmpp_basis.proofs.Bytes.{bytes_eq-self}
 use Rattle.xmpp_live.specs.Rule.{IsRule, RisesTo}
 use Rattle.xmpp_live.specs.Sessions.{Session, fresh, is_at, is_named, is_numbered, session_at, session_named, session_of}
 use Rattle.xmpp_resume.specs.Rows.{is_some_number}
-use Rattle.xmpp_server_follows.proofs.Leavings.{seat_of}
-use Rattle.xmpp_server_follows.proofs.Removed.{found_none}
-use Rattle.xmpp_wire_steps.proofs.Found.{found_is, found_some, numbered_here}
+use Rattle.xmpp_wire_steps.proofs.Found.{found_some}
 
 -- what is found in a list with one behind it was found before, or is that one
 pub found_pushed : {A : Type 0} (p : A → Bool) (ss : List A) (f s : A) → find p (ss ++ f ∷ []) ≡ Some s → (find p ss ≡ Some s) ⊎ ((find p ss ≡ None) × (f ≡ s) × (p f ≡ true))

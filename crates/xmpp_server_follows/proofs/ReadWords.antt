@@ -1,8 +1,7 @@
 -- What the server reads of the items that a client puts.
-use Rattle.std.proofs.Common.{◌≡◌, ℕ, ◌<◌, ◌%◌, ◌^◌, Bool, true, false, List, [], ◌∷◌, Option, Some, None, Ok, codes, refl, sym, ap, ◌∙◌, arith, cond}
+use Rattle.std.proofs.Common.{◌≡◌, ℕ, ◌<◌, ◌^◌, true, List, Some, Ok, codes, refl, arith}
 use Rattle.xmpp_basis.proofs.Bytes.{bytes_eq-self}
 use Rattle.std.specs.Fmt.{decimal}
-use Rattle.xmpp_bad_fields.specs.BadFields.{has_bad_management_field}
 use Rattle.xmpp_client_login.specs.LoginRows.{client_header}
 use Rattle.xmpp_desk.specs.Words.{is_bad_management, is_bad_sasl, management_word, resume_word, sasl_word, word_of}
 use Rattle.xmpp_desk.specs.declared.word.Word.TheVariants as word
@@ -10,7 +9,6 @@ use Rattle.xmpp_ext.specs.StreamManagement.{ack_elem, enable_elem, resume_elem}
 use Rattle.xmpp_framing_laws.specs.Spells.{as_written}
 use Rattle.xmpp_jid.specs.Normal.{normal}
 use Rattle.xmpp_login.specs.Headers.{header_answer, is_host}
-use Rattle.xmpp_login.specs.declared.header_judgement.HeaderAnswer.{HeaderAnswer}
 use Rattle.xmpp_login.specs.declared.header_judgement.HeaderAnswer.TheVariants.{Opens}
 use Rattle.xmpp_payload.proofs.Numbers.{written_number}
 use Rattle.xmpp_payload.specs.Bare.{bare}

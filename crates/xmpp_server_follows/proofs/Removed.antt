@@ -1,13 +1,11 @@
 -- Sessions that live, of which some are left out.
-use Rattle.std.proofs.Common.{◌≡◌, ◌≢◌, ℕ, ◌+◌, ◌<◌, ◌≤◌, ◌==◌, Bool, true, false, not, ◌&&◌, List, [], ◌∷◌, Option, Some, None, length, refl, sym, ap, subst, ◌∙◌, inl, inr, arith}
+use Rattle.std.proofs.Common.{◌≡◌, ℕ, ◌+◌, ◌≤◌, ◌==◌, Bool, true, false, not, List, [], ◌∷◌, Option, Some, None, refl, sym, ap, subst, ◌∙◌, inl, inr, arith}
 use Rattle.std.proofs.lemmas.Bool.{cases_Bool, eqb-true}
 use Rattle.std.proofs.lemmas.Option.{same_Some}
 use Rattle.std.proofs.lemmas.Slice.Eq.{bytes_eq-Decides}
 use Rattle.std.specs.List.{filter, find}
-use Rattle.std.specs.Str.{bytes_eq}
-use Rattle.xmpp_acks.specs.declared.end.TheConstants.{MOST_UNACKNOWLEDGED}
 use Rattle.xmpp_live.specs.Rule.{IsRule, RisesTo}
-use Rattle.xmpp_live.specs.Sessions.{Session, is_at, is_named, is_numbered, session_at, session_named, session_of, without_at}
+use Rattle.xmpp_live.specs.Sessions.{Session, is_at, is_named, session_at, session_named, session_of}
 use Rattle.xmpp_wire_steps.proofs.Found.{found_is, numbered_here, numbers_above}
 
 -- what is left is found, where it was

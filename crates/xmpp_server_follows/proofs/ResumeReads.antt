@@ -1,12 +1,11 @@
 -- Which session a `previd` names (XEP-0198, section 5).
-use Rattle.std.proofs.Common.{◌≡◌, ◌≢◌, ℕ, ◌+◌, ◌<◌, ◌≤◌, ◌^◌, ◌==◌, ◌&&◌, Bool, true, false, List, [], ◌∷◌, Option, Some, None, refl, sym, ap, subst, ◌∙◌, inl, inr, arith}
-use Rattle.std.proofs.lemmas.Bool.{cases_Bool, eq-eqb, eqb-true}
+use Rattle.std.proofs.Common.{◌≡◌, ℕ, ◌<◌, ◌^◌, ◌==◌, ◌&&◌, Bool, true, false, refl, ap, ◌∙◌}
+use Rattle.std.proofs.lemmas.Bool.{eq-eqb, eqb-true}
 use Rattle.std.proofs.lemmas.Slice.Eq.{bytes_eq-Decides}
-use Rattle.std.specs.List.{find}
 use Rattle.std.specs.Str.{bytes_eq}
 use Rattle.xmpp_basis.proofs.Bytes.{bytes_eq-self}
 use Rattle.xmpp_basis.proofs.HexDigits.{hex16_of_same}
-use Rattle.xmpp_live.specs.Sessions.{Session, is_resumed_by, session_of, session_resumed}
+use Rattle.xmpp_live.specs.Sessions.{Session, is_resumed_by}
 use Rattle.xmpp_resume.specs.Previds.{previd_of}
 
 -- what a session that is found so is

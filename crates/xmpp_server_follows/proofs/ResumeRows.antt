@@ -1,37 +1,31 @@
 -- The row on a resumption (XEP-0198, section 5) of a session that lives and is parked, with a count that names a place in its queue.
-use Rattle.std.proofs.Common.{◌≡◌, ◌≢◌, ℕ, ◌+◌, ◌-◌, ◌<◌, ◌≤◌, ◌%◌, ◌^◌, Bool, true, false, List, [], ◌∷◌, ◌++◌, Option, Some, None, Ok, Err, cond, length, drop, nat_le, nat_lt, map, refl, sym, ap, subst, ◌∙◌, ◌⊎◌, inl, inr, arith}
+use Rattle.std.proofs.Common.{◌≡◌, ℕ, ◌-◌, ◌<◌, ◌≤◌, ◌^◌, Bool, true, false, List, [], ◌∷◌, ◌++◌, Option, Some, None, length, drop, nat_lt, refl, sym, ap, subst, ◌∙◌, arith}
 use Rattle.std.proofs.lemmas.Bool.Decides.{nat_tests}
-use Rattle.std.proofs.lemmas.List.{append-nil, append_assoc, length-drop}
+use Rattle.std.proofs.lemmas.List.{append-nil, append_assoc}
 use Rattle.std.proofs.lemmas.List.Elements.{All-drop}
-use Rattle.std.proofs.lemmas.Option.{same_Some}
-use Rattle.std.specs.List.{All, find}
-use Rattle.std.specs.Option.{option_map}
 use Rattle.xmpp_acks.proofs.Senders.{ahead_exact}
 use Rattle.xmpp_acks.specs.Counters.{ahead}
-use Rattle.xmpp_acks.specs.declared.end.TheConstants.{MOST_UNACKNOWLEDGED}
 use Rattle.xmpp_desk.specs.State.{Hall, Out, Put, Step, with_sessions}
-use Rattle.xmpp_desk.specs.Steps.{Act, Ask, Say, acted}
+use Rattle.xmpp_desk.specs.Steps.{Act, acted}
 use Rattle.xmpp_device_views.specs.Counted.{IsForClient}
 use Rattle.xmpp_device_views.specs.Identities.{Identity, Login}
-use Rattle.xmpp_device_views.specs.Servers.{IsRow, IsRowShown, ServerShows, conn_shown}
-use Rattle.xmpp_device_views.specs.WordItems.{told_count, up_item}
-use Rattle.xmpp_item_worlds.specs.ItemMoves.{step_of}
+use Rattle.xmpp_device_views.specs.Servers.{IsRow, IsRowShown}
+use Rattle.xmpp_device_views.specs.WordItems.{told_count}
 use Rattle.xmpp_item_worlds.specs.ItemPipes.{ItemWire}
 use Rattle.xmpp_item_worlds.specs.ItemWorlds.{itself}
 use Rattle.xmpp_links.proofs.Numbers.{reached_rises}
-use Rattle.xmpp_links.specs.Links.{LinkKept}
 use Rattle.xmpp_links.specs.Promises.{IsWithin}
 use Rattle.xmpp_links.specs.Views.{Row, Table, View}
 use Rattle.xmpp_links.specs.Words.{ResumeAt}
-use Rattle.xmpp_live.specs.Sessions.{Session, asks, is_named, is_numbered, is_resumed_by, is_too_high, resent, resumes, session_named, session_of, session_resumed, with_session}
+use Rattle.xmpp_live.specs.Sessions.{Session, asks, is_named, is_numbered, is_resumed_by, is_too_high, resumes, session_named, session_of, session_resumed, with_session}
 use Rattle.xmpp_resume.specs.Previds.{previd_of}
 use Rattle.xmpp_replies.specs.Management.{request_item}
 use Rattle.xmpp_server_follows.proofs.Pushed.{numbers_below}
 use Rattle.xmpp_server_follows.proofs.Removed.{one_named}
 use Rattle.xmpp_server_follows.proofs.ResumeReads.{IsResumed, resumed_is}
 use Rattle.xmpp_server_follows.proofs.Resuming.{Comes}
-use Rattle.xmpp_server_follows.proofs.StrangeRows.{Asked, asked_here, resume_step}
-use Rattle.xmpp_server_follows.specs.Taking.{IsFirst, on_item}
+use Rattle.xmpp_server_follows.proofs.StrangeRows.{Asked, asked_here}
+use Rattle.xmpp_server_follows.specs.Taking.{IsFirst}
 use Rattle.xmpp_session_rows.specs.Resumptions.{asking, saying}
 use Rattle.xmpp_wire_steps.proofs.Emitted.{puts_at}
 use Rattle.xmpp_wire_steps.proofs.Found.{found_is, found_some, numbered_here}
@@ -102,7 +96,7 @@ module _ (who : Identity) (logins : ℕ → Login) (h : Hall ItemOut) (wires : T
   q_low : q < 2 ^ 64
   q_low = let a = (reached_rises v p.reached).given q old.session old.there in let b = p.server.free in let c = p.server.hall.sessions.fits in omega arith
 
-  numbered : session_of s.shown.number h.sessions ≡ Some s
+  pub numbered : session_of s.shown.number h.sessions ≡ Some s
   numbered = numbered_here (is_resumed_by (previd_of q) who.account) h.next 1 h.sessions s p.server.hall.sessions.ascending found
 
   s_low : s.shown.number < 2 ^ 64

@@ -1,16 +1,14 @@
 -- The rows of a session on the acknowledgement of stanzas (XEP-0198, sections 3 and 4): a request, `enable`, and a count.
-use Rattle.std.proofs.Common.{◌≡◌, ℕ, ◌+◌, ◌-◌, ◌≤◌, ◌<◌, ◌%◌, ◌^◌, Bool, true, false, List, [], ◌∷◌, Option, Some, None, Ok, Result, length, drop, nat_lt, map, cond, codes, if◌then◌else◌, refl, sym, ap, subst, ◌∙◌, arith}
+use Rattle.std.proofs.Common.{◌≡◌, ℕ, ◌-◌, ◌≤◌, ◌<◌, ◌^◌, Bool, true, false, List, [], ◌∷◌, Some, Ok, length, drop, nat_lt, cond, codes, if◌then◌else◌, refl, sym, ap, subst, ◌∙◌, arith}
 use Rattle.std.proofs.lemmas.Bool.Decides.{nat_tests}
 use Rattle.std.proofs.lemmas.List.{length-drop}
 use Rattle.std.proofs.lemmas.List.Elements.{All-drop, All-nil}
 use Rattle.std.proofs.Math.Nat.{mod-lt}
-use Rattle.std.specs.List.{All}
 use Rattle.std.specs.Option.{option_map}
 use Rattle.xmpp_acks.proofs.Senders.{ahead_exact}
 use Rattle.xmpp_acks.specs.Counters.{ahead}
 use Rattle.xmpp_acks.specs.declared.end.TheConstants.{MOST_UNACKNOWLEDGED}
-use Rattle.xmpp_acks.specs.declared.end.TooHigh.{TooHigh}
-use Rattle.xmpp_desk.specs.State.{Hall, Put, Step, with_sessions}
+use Rattle.xmpp_desk.specs.State.{Hall, Put, with_sessions}
 use Rattle.xmpp_desk.specs.Steps.{Say, acted}
 use Rattle.xmpp_desk.specs.Steps.{Enable as ActEnable}
 use Rattle.xmpp_desk.specs.declared.word.Word.TheVariants as word
@@ -32,21 +30,20 @@ use Rattle.xmpp_links.specs.Views.{Row, Table, View, alter, has, with_at}
 use Rattle.xmpp_links.specs.Views as links
 use Rattle.xmpp_links.specs.Wires.{is_flowing}
 use Rattle.xmpp_links.specs.Words.{Ack, Down, DownWord, Enable, Enabled, Req, Up, UpWord}
-use Rattle.xmpp_live.specs.Sessions.{Session, ack_answer, acknowledged, asks, enables, is_too_high, session_of, told, with_session}
+use Rattle.xmpp_live.specs.Sessions.{Session, ack_answer, acknowledged, asks, enables, is_too_high, session_of, with_session}
 use Rattle.xmpp_payload.specs.Bare.{bare}
 use Rattle.xmpp_payload.specs.Names.{management}
 use Rattle.xmpp_replies.specs.Management.{ack_item, resumable_item}
 use Rattle.xmpp_server_follows.proofs.HandMoves.{kept_here}
 use Rattle.xmpp_server_follows.proofs.ReadWords.{ack_word, enable_word, request_word}
-use Rattle.xmpp_server_follows.proofs.Sessions.{counts_so, few, few_wait, live, numbered, seated, session_row, taken, taken_client, taken_pipes}
+use Rattle.xmpp_server_follows.proofs.Sessions.{counts_so, few, few_wait, live, numbered, session_row, taken, taken_client, taken_pipes}
 use Rattle.xmpp_server_follows.specs.Taking.{IsFirst, IsOfManagement, IsTaken, StepFollows, on_item}
-use Rattle.xmpp_session_rows.specs.Managements.{acknowledging, at_ack, at_enable, at_request, refusing}
+use Rattle.xmpp_session_rows.specs.Managements.{acknowledging, refusing}
 use Rattle.xmpp_stanza.specs.declared.conditions.Condition.TheVariants.{UnexpectedRequest}
-use Rattle.xmpp_stanza_rows.specs.Ready.{at_bound}
 use Rattle.xmpp_wire_steps.proofs.Emitted.{puts_at}
 use Rattle.xmpp_wire_steps.proofs.Found.{Keeps}
 use Rattle.xmpp_wire_steps.proofs.Servings.{Known, known_altered, known_same, row_shows, session_shows}
-use Rattle.xmpp_writer.specs.Items.{ItemOut, Whole}
+use Rattle.xmpp_writer.specs.Items.{ItemOut}
 
 -- ---- sessions that are changed so
 

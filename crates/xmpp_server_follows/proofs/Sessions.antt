@@ -1,9 +1,9 @@
 -- The server takes a word of the session that it has on a connection.
-use Rattle.std.proofs.Common.{◌≡◌, ℕ, ◌+◌, ◌-◌, ◌≤◌, ◌<◌, ◌%◌, ◌^◌, Bool, true, false, List, [], ◌∷◌, Option, Some, None, Ok, length, drop, map, refl, sym, ap, subst, ◌∙◌, arith}
+use Rattle.std.proofs.Common.{◌≡◌, ℕ, ◌≤◌, Bool, List, Some, length, map, refl, sym, ap, subst, ◌∙◌}
 use Rattle.std.specs.List.{All}
 use Rattle.std.specs.Option.{option_map}
 use Rattle.xmpp_acks.specs.declared.end.TheConstants.{MOST_UNACKNOWLEDGED}
-use Rattle.xmpp_desk.specs.State.{Hall, Step, with_sessions}
+use Rattle.xmpp_desk.specs.State.{Hall}
 use Rattle.xmpp_desk.specs.Steps.{acted}
 use Rattle.xmpp_desk.specs.Streams.{standing_of}
 use Rattle.xmpp_desk.specs.Words.{word_of}
@@ -16,7 +16,7 @@ use Rattle.xmpp_device_views.specs.Frames.{KeepsClient, SameClient}
 use Rattle.xmpp_device_views.specs.Identities.{Identity, Login}
 use Rattle.xmpp_device_views.specs.Pipes.{IsWire, PipesShow}
 use Rattle.xmpp_device_views.specs.Sent.{sent, sent_under}
-use Rattle.xmpp_device_views.specs.Servers.{IsRow, ServerFollows, ServerShows}
+use Rattle.xmpp_device_views.specs.Servers.{IsRow}
 use Rattle.xmpp_device_views.specs.WordItems.{down_item, is_behind_login}
 use Rattle.xmpp_framing.specs.declared.items.Item.TheVariants as item
 use Rattle.xmpp_item_worlds.specs.ItemMoves.{step_of}
@@ -28,7 +28,6 @@ use Rattle.xmpp_links.specs.Views.{Row, Table, View, with_at}
 use Rattle.xmpp_links.specs.Wires.{left_up, send_down}
 use Rattle.xmpp_links.specs.Words.{AtSession, DownWord, Phase, UpWord, down_stanzas}
 use Rattle.xmpp_live.specs.Sessions.{Session, is_named, session_at, session_of, told}
-use Rattle.xmpp_server.specs.Table.{at_item, at_word}
 use Rattle.xmpp_server_follows.proofs.HandMoves.{row_here, wire_here}
 use Rattle.xmpp_server_follows.specs.Taking.{IsFirst, on_item}
 use Rattle.xmpp_stanza_rows.specs.Ready.{at_bound, at_ready_or_bound}

@@ -1,6 +1,6 @@
 -- The server ends the stream on a connection, and shuts it.
-use Rattle.std.proofs.Common.{◌≡◌, ◌≢◌, ℕ, Bool, true, false, List, [], ◌∷◌, ◌++◌, Option, Some, None, map, refl, sym, ap, subst, ◌∙◌}
-use Rattle.xmpp_desk.specs.State.{Out, Put, Shut}
+use Rattle.std.proofs.Common.{◌≡◌, ℕ, List, [], ◌∷◌, ◌++◌, Some, map, refl, sym, ap, subst, ◌∙◌}
+use Rattle.xmpp_desk.specs.State.{Out, Shut}
 use Rattle.xmpp_device_views.specs.Frames.{KeepsClient, SameClient}
 use Rattle.xmpp_device_views.specs.Identities.{Identity, Login}
 use Rattle.xmpp_device_views.specs.Pipes.{IsWire, PipesShow}

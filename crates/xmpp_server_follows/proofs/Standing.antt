@@ -1,9 +1,9 @@
 -- Where a connection stands, by its row of the table and the word that comes.
 use Rattle.std.proofs.Common.{◌≡◌, ℕ, Bool, true, false, List, [], ◌∷◌, ◌++◌, refl, sym, ap, ◌∙◌, ◌⊎◌, inl, inr, Some}
-use Rattle.xmpp_links.specs.Links.{ArePiped, LinkKept}
-use Rattle.xmpp_links.specs.Stages.{Conn, Ending, Greets, IsAt, Regreets, Stage, Stands, Succeeded, client_of, foot_of, phase_of, up_of}
+use Rattle.xmpp_links.specs.Links.{LinkKept}
+use Rattle.xmpp_links.specs.Stages.{Conn, Greets, Regreets, Stage, Stands, Succeeded, client_of, foot_of, phase_of, up_of}
 use Rattle.xmpp_links.specs.Views.{View}
-use Rattle.xmpp_links.specs.Words.{Client, Hdr, InHeader1, InHeader2, Phase, Restart, Start, UpWord}
+use Rattle.xmpp_links.specs.Words.{Hdr, InHeader1, InHeader2, Restart, Start, UpWord}
 use Rattle.xmpp_links.specs.Wires.{Flow, Stop, Wires, up_whole, up_words}
 
 pub whole_first : {A : Type 0} (ws : Wires A) (word : UpWord A) (rest : List (UpWord A)) → up_words ws ≡ word ∷ rest → (more : List (UpWord A)) × (up_whole ws ≡ word ∷ more)

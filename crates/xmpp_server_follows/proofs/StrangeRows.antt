@@ -1,9 +1,8 @@
 -- The row on a resumption (XEP-0198, section 5) of a session that the server doesn't have: it says so.
-use Rattle.std.proofs.Common.{◌≡◌, ℕ, ◌+◌, ◌<◌, ◌≤◌, ◌%◌, ◌^◌, Bool, true, false, List, [], ◌∷◌, ◌++◌, Option, Some, None, All, refl, sym, ap, subst, ◌∙◌, inl, inr, arith}
+use Rattle.std.proofs.Common.{◌≡◌, ℕ, true, List, [], ◌∷◌, Some, None, refl, sym, ap, subst, ◌∙◌, arith}
 use Rattle.std.proofs.Math.Nat.{mod-lt}
 use Rattle.std.proofs.lemmas.List.Elements.{All-nil}
 use Rattle.std.proofs.lemmas.Option.{same_Some}
-use Rattle.std.specs.List.{find}
 use Rattle.std.specs.Option.{option_map}
 use Rattle.xmpp_desk.specs.State.{Hall}
 use Rattle.xmpp_desk.specs.Steps.{acted}
@@ -27,7 +26,7 @@ use Rattle.xmpp_links.specs.Machine.{TakesStrangeResume}
 use Rattle.xmpp_links.specs.Views.{Row, Table, View, on_phase, session_on, with_at}
 use Rattle.xmpp_links.specs.Views as links
 use Rattle.xmpp_links.specs.Words.{DownWord, Failed, Ready, ResumeAt}
-use Rattle.xmpp_live.specs.Sessions.{Session, is_named, is_resumed_by, resent, resume_answer, session_at, session_resumed, told}
+use Rattle.xmpp_live.specs.Sessions.{is_named, is_resumed_by, resume_answer, session_at, session_resumed, told}
 use Rattle.xmpp_replies.specs.Management.{refused_item}
 use Rattle.xmpp_resume.specs.Previds.{previd_of}
 use Rattle.xmpp_server_follows.proofs.HandMoves.{kept_here, row_here}
@@ -43,7 +42,7 @@ use Rattle.xmpp_stanza.specs.declared.conditions.Condition.TheVariants.{ItemNotF
 use Rattle.xmpp_stanza_rows.specs.Ready.{at_ready_or_bound}
 use Rattle.xmpp_wire_steps.proofs.Emitted.{puts_at}
 use Rattle.xmpp_wire_steps.proofs.Found.{found_is, found_some}
-use Rattle.xmpp_wire_steps.proofs.Servings.{IsLive, known_same, live_of, row_shows}
+use Rattle.xmpp_wire_steps.proofs.Servings.{known_same, live_of, row_shows}
 use Rattle.xmpp_writer.specs.Items.{ItemOut}
 
 -- what the word for a resumption tells of the sessions: it was stated by a client that read that it is counted
@@ -56,10 +55,10 @@ module _ (who : Identity) (logins : ℕ → Login) (h : Hall ItemOut) (wires : T
   kept : LinkKept v
   kept = kept_here who logins h wires v k (ResumeAt q n) p
 
-  ready : p.conn.phase ≡ Ready
+  pub ready : p.conn.phase ≡ Ready
   ready = expected_up v k p.conn (ResumeAt q n) p.rest kept p.is p.first
 
-  none_here : session_at k h.sessions ≡ None
+  pub none_here : session_at k h.sessions ≡ None
   none_here = unseated who logins h v kept p.server k p.conn p.is (ap (λ at. on_phase at p.conn.ending p.conn.gone) ready)
 
   pub asked_here : Asked v q

@@ -1,12 +1,13 @@
 -- A word stands first on its way up: what the server does on its item is to be moves of the links.
-use Rattle.std.specs.Prelude.{◌≡◌, ◌≢◌, ◌⊎◌, ℕ, ◌+◌, ◌<◌, ◌^◌, true, List, [], ◌∷◌, Some, None}
+use Rattle.std.specs.Prelude.{◌≡◌, ◌≢◌, ◌⊎◌, ℕ, ◌+◌, ◌<◌, ◌^◌, true, false, nat_le, length, List, [], ◌∷◌, Some, None}
 use Rattle.xmpp_desk.specs.Moments.{gone_at}
 use Rattle.xmpp_desk.specs.State.{Hall, Step}
+use Rattle.xmpp_desk.specs.declared.limits.TheConstants.{ASKS_AT}
 use Rattle.xmpp_device_views.specs.Identities.{Identity, IsNormal, Login}
 use Rattle.xmpp_device_views.specs.Pipes.{PipesShow}
 use Rattle.xmpp_device_views.specs.Sent.{sent}
 use Rattle.xmpp_device_views.specs.Servers.{ServerFollows, ServerShows}
-use Rattle.xmpp_device_views.specs.WordItems.{up_item}
+use Rattle.xmpp_device_views.specs.WordItems.{told_count, up_item}
 use Rattle.xmpp_item_worlds.specs.ItemMoves.{step_of}
 use Rattle.xmpp_item_worlds.specs.ItemPipes.{ItemWire, handed_up, up_end_told}
 use Rattle.xmpp_item_worlds.specs.ItemWorlds.{itself, read_of}
@@ -15,7 +16,7 @@ use Rattle.xmpp_links.specs.Stages.{Conn}
 use Rattle.xmpp_links.specs.Views.{Table, View, with_at}
 use Rattle.xmpp_links.specs.Wires.{up_words}
 use Rattle.xmpp_links.specs.Words.{Ack, Auth, Enable, Foot, Hdr, Req, Resp, Up, UpWord}
-use Rattle.xmpp_live.specs.Sessions.{session_resumed}
+use Rattle.xmpp_live.specs.Sessions.{Session, resent, session_resumed}
 use Rattle.xmpp_resume.specs.Previds.{previd_of}
 use Rattle.xmpp_server.specs.Table.{after_item}
 use Rattle.xmpp_writer.specs.Items.{ItemOut}
@@ -86,6 +87,14 @@ IsHeard who logins h wires v k wire = ServerFollows who logins (gone_at k h) (wi
 -- no session of the account that can be resumed has the number
 abbrev pub IsStrange : Identity → Hall ItemOut → ℕ → Type 0
 IsStrange who h q = session_resumed (previd_of q) who.account h.sessions ≡ None
+
+-- a session is named that is parked, on the connection that the client works on, and of its stanzas fewer are sent again than
+-- a request is due for
+pub record IsParkedHere (who : Identity) (h : Hall ItemOut) (v : View ItemOut) (k q n : ℕ) (s : Session ItemOut) : Type 0 where
+  pub here : v.here ≡ Some k
+  pub found : session_resumed (previd_of q) who.account h.sessions ≡ Some s
+  pub off : s.shown.conn ≡ None
+  pub few : nat_le ASKS_AT (length (resent (told_count n) s)) ≡ false
 
 -- ---- other devices
 

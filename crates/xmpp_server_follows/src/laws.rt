@@ -11,7 +11,8 @@ ghost use Rattle.xmpp_item_worlds.specs.ItemWorlds.{ItemWorld};
 ghost use Rattle.xmpp_links.specs.Machine.{LinkReached};
 ghost use Rattle.xmpp_links.specs.Views.{Table, View};
 ghost use Rattle.xmpp_links.specs.Words.{Bind, Foot, ResumeAt, UpWord};
-ghost use Rattle.xmpp_server_follows.specs.Taking.{AreApart, HasFirst, HasNumber, IsFirst, IsHeard, IsLeft, IsNext, IsOfLogin, IsOfManagement, IsOver, IsOwnWord, IsStrange, IsTaken, StepFollows, on_item};
+ghost use Rattle.xmpp_live.specs.Sessions.{Session};
+ghost use Rattle.xmpp_server_follows.specs.Taking.{AreApart, HasFirst, HasNumber, IsFirst, IsHeard, IsLeft, IsNext, IsOfLogin, IsOfManagement, IsOver, IsOwnWord, IsParkedHere, IsStrange, IsTaken, StepFollows, on_item};
 ghost use Rattle.xmpp_writer.specs.Items.{ItemOut};
 
 /// A law: on each word of a login (RFC 6120, sections 4.3 and 6) the server does what it does in the links: it is one
@@ -76,4 +77,12 @@ pub fn items_are_words()
         → PipesShow who logins wires v → IsNext who wires k w i → HasFirst who logins h wires v k w i }
     ensures worlds { (who : Identity) (logins : ℕ → Login) (w : ItemWorld) (v : View ItemOut) (place : ℕ) (wire : ItemWire) (i : ItemOut) → slice_get w.wires place ≡ Some wire
         → StepFollows who logins (by_number w.wires) v (place + 1) wire (on_item (place + 1) i w.server) → ServerFollows who logins (served_item place i w).server (by_number (served_item place i w).wires) v }
+{}
+
+/// A law: on a resumption of a session that is parked, on the connection that the client works on, likewise: the count that it
+/// states names a place in the queue, and what is behind that is sent again, in one move. (Where ten stanzas or more are sent
+/// again, a request goes out behind them: of that this law does not speak.)
+pub fn parked_resumptions_follow()
+    ensures { (who : Identity) (logins : ℕ → Login) (h : Hall ItemOut) (wires : Table ItemWire) (v : View ItemOut) (k q n : ℕ) (p : IsFirst who logins h wires v k (ResumeAt q n)) (s : Session ItemOut) → IsParkedHere who h v k q n s
+        → IsTaken who logins h wires v k p.wire (ResumeAt q n) }
 {}
