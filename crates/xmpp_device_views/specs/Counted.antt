@@ -1,4 +1,5 @@
--- The stanzas between this project's own ends: those that the server takes of a session, and those that the client counts.
+-- The stanzas between this project's own ends: those that the server takes of a session, and those that the client
+-- counts.
 use Rattle.std.specs.Prelude.{◌≡◌, true, false, None}
 use Rattle.xmpp_desk.specs.State.{Hall}
 use Rattle.xmpp_desk.specs.Words.{is_long, is_stanza}

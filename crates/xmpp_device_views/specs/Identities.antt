@@ -10,7 +10,8 @@ use Rattle.xmpp_scram.specs.Exchange.{ClientView, ReplyView, ServerView, added_n
 use Rattle.xmpp_scram.specs.Messages.{client_first_of}
 use Rattle.xmpp_scram.specs.declared.client_first.ClientFirst.{ClientFirst}
 
--- the place of the device among the devices, and of its account among those of the server; the account's name, its domain
+-- the place of the device among the devices, and of its account among those of the server; the account's name, its
+-- domain
 -- and its password; and the device's resource
 pub record Identity : Type 0 where
   pub place : ℕ
@@ -47,7 +48,8 @@ pub record IsNormal (who : Identity) : Type 0 where
 
 -- ---- logins
 
--- the bytes that were drawn for a connection, for the client's end and for the server's; and the client's first message,
+-- the bytes that were drawn for a connection, for the client's end and for the server's; and the client's first
+-- message,
 -- what is read of it, and the client's reply
 pub record Login : Type 0 where
   pub mine : List ℕ

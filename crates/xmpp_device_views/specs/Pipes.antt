@@ -1,4 +1,5 @@
--- The pipes of a device's connections, which are numbered from 1: both hold the words that will be taken. What was lost is
+-- The pipes of a device's connections, which are numbered from 1: both hold the words that will be taken. What was
+-- lost is
 -- in the links alone.
 use Rattle.std.specs.Prelude.{◌≡◌, ℕ, not, All, List, Option, Some, None, map, slice_get}
 use Rattle.std.specs.Option.{option_and_then}

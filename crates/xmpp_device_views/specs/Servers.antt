@@ -77,7 +77,8 @@ pub record IsHall (h : Hall ItemOut) : Type 0 where
   pub sessions : IsRule h.sessions h.next
   pub conns : IsStrictlySortedBy nat_cmp (keys_of h.conns)
 
--- On the device's connections and under its numbers no session is but its own, and the next number is above all of these.
+-- On the device's connections and under its numbers no session is but its own, and the next number is above all of
+-- these.
 pub record ServerShows (who : Identity) (logins : ℕ → Login) (h : Hall ItemOut) (v : View ItemOut) : Type 0 where
   pub served : IsServed who h
   pub hall : IsHall h

@@ -1,4 +1,5 @@
--- The item that each word of the links is, as this project's own ends put it. Counts are told modulo 2 ^ 32, and a session
+-- The item that each word of the links is, as this project's own ends put it. Counts are told modulo 2 ^ 32, and a
+-- session
 -- by its `previd` (XEP-0198, sections 4 and 5).
 use Rattle.std.specs.Prelude.{ℕ, ◌%◌, ◌^◌, Bool, true, false, codes}
 use Rattle.xmpp_client_login.specs.LoginRows.{client_header}
@@ -46,7 +47,8 @@ abbrev pub features_item : Bool → ItemOut
 features_item true = session_features_item
 features_item false = login_features_item
 
--- A word that the server puts on the connection with this number. A count that is too high is stated on connections alone
+-- A word that the server puts on the connection with this number. A count that is too high is stated on connections
+-- alone
 -- that the client left, where nothing comes to it: that word stands for no item in particular.
 abbrev pub down_item : Identity → Login → ℕ → Bool → DownWord ItemOut → ItemOut
 down_item who x k behind Head = header_item who.domain k x.yours

@@ -1,4 +1,5 @@
--- The row on a binding (RFC 6120, section 7): the older session of the device ends, and its connection is told so and shut.
+-- The row on a binding (RFC 6120, section 7): the older session of the device ends, and its connection is told so and
+-- shut.
 use Rattle.std.proofs.Common.{◌≡◌, ◌≢◌, ℕ, ◌+◌, ◌<◌, ◌^◌, ◌==◌, Bool, true, false, not, ◌&&◌, List, [], ◌∷◌, ◌++◌, Option, Some, None, codes, refl, sym, ap, subst, ◌∙◌, ◌⊎◌, inl, inr, arith}
 use Rattle.std.proofs.lemmas.Bool.{cases_Bool, eq-eqb}
 use Rattle.std.proofs.lemmas.List.Elements.{All-nil}
@@ -127,8 +128,8 @@ module _ (who : Identity) (logins : ℕ → Login) (h : Hall ItemOut) (wires : T
   shown j e (New same it) =
       let s = stands_at v k p.conn kept p.is Bind p.rest p.first in
       let here : conn_at k h ≡ conn_shown who (logins k) attached =
-          open_here who logins h wires v k Bind p Ready ready
-          ∙ sym (ap (λ b. open_conn who (logins k) (AtSession h.next) p.conn.ending b) s.1 ∙ ap (λ g. open_conn who (logins k) (AtSession h.next) g false) s.0) in
+      open_here who logins h wires v k Bind p Ready ready
+      ∙ sym (ap (λ b. open_conn who (logins k) (AtSession h.next) p.conn.ending b) s.1 ∙ ap (λ g. open_conn who (logins k) (AtSession h.next) g false) s.0) in
       subst (λ n. conn_at n h ≡ conn_shown who (logins n) e) same (here ∙ ap (conn_shown who (logins k)) it)
   shown j e (Old apart was) = p.server.conns j e was
 
@@ -167,7 +168,7 @@ module _ (who : Identity) (logins : ℕ → Login) (h : Hall ItemOut) (wires : T
       let next : View ItemOut = last h.sessions rule was none_here name in
       let done : Hall ItemOut = after h.sessions rule was none_here name in
       let step : on_item k (up_item who (logins k) Bind) h ≡ record { hall = done; outs = puts_at k items } =
-          bind_step ∙ ap bound_so name ∙ ap (λ a. record { hall = done; outs = puts_at k (bound_item (codes "bind") a ∷ []) }) (address_is who h p.server.served) in
+      bind_step ∙ ap bound_so name ∙ ap (λ a. record { hall = done; outs = puts_at k (bound_item (codes "bind") a ∷ []) }) (address_is who h p.server.served) in
       subst (StepFollows who logins wires v k p.wire) (sym step) (record {
         moves = TakesBind k h.next ∷ [];
         next = next;
@@ -194,14 +195,17 @@ module _ (who : Identity) (logins : ℕ → Login) (h : Hall ItemOut) (wires : T
       let done : Hall ItemOut = after left rule was seat name in
       let off_it : s.shown.conn ≡ None = live.row.conn ∙ parked in
       let step : on_item k (up_item who (logins k) Bind) h ≡ record { hall = done; outs = puts_at k items } =
-          bind_step ∙ ap bound_so live.named
-          ∙ ap (λ o. acted itself (parting_where itself o (error_item stream.Conflict) (Say k (bound_item (codes "bind") (full_address who.account who.resource h)) ∷ [])) (record { hall = done; outs = [] })) off_it
-          ∙ ap (λ a. record { hall = done; outs = puts_at k (bound_item (codes "bind") a ∷ []) }) (address_is who h p.server.served) in
+      bind_step ∙ ap bound_so live.named
+      ∙ ap (λ o. acted itself (parting_where itself o (error_item stream.Conflict) (Say k (bound_item (codes "bind") (full_address who.account who.resource h)) ∷ [])) (record { hall = done; outs = [] })) off_it
+      ∙ ap (λ a. record { hall = done; outs = puts_at k (bound_item (codes "bind") a ∷ []) }) (address_is who h p.server.served) in
       subst (StepFollows who logins wires v k p.wire) (sym step) (record {
         moves = EndsRow ∷ TakesBind k h.next ∷ [];
         next = next;
-        leads = (ended, record { row = row; is_row = is_row; off = parked; gives = refl },
-        (next, record { conn = p.conn; is = p.is; rest = p.rest; first = p.first; phase = ready; none = refl; fresh = new_number; rises = p.server.free; gives = refl }, refl));
+        leads = (
+          ended,
+          record { row = row; is_row = is_row; off = parked; gives = refl },
+          (next, record { conn = p.conn; is = p.is; rest = p.rest; first = p.first; phase = ready; none = refl; fresh = new_number; rises = p.server.free; gives = refl }, refl),
+        );
         server = after_shows left rule was seat name;
         pipes = taken_pipes who logins h wires v k Bind p (AtSession h.next) (Bound h.next ∷ []) items next (λ j. refl) refl (All-nil IsForClient);
         client = taken_client who logins h wires v k Bind p (AtSession h.next) (Bound h.next ∷ []) next refl refl refl refl;
@@ -349,6 +353,7 @@ module _ (who : Identity) (logins : ℕ → Login) (h : Hall ItemOut) (wires : T
       placed_so : (row : Row ItemOut) → v.row ≡ Some row → (o : Option ℕ) → row.on ≡ o → IsTaken who logins h wires v k p.wire Bind
       placed_so row is None parked = bind_over row is parked
       placed_so row is (Some f) on = bind_on row is f on
+
       go : (o : Option (Row ItemOut)) → v.row ≡ o → IsTaken who logins h wires v k p.wire Bind
       go None is = bind_new is
       go (Some row) is = placed_so row is row.on refl

@@ -54,11 +54,13 @@ module _ (who : Identity) (logins : ℕ → Login) (h : Hall ItemOut) (v : View 
     where
       new_named : (s : Session ItemOut) → fresh h.next who.account who.resource k ≡ s → is_named who.account who.resource s ≡ true
       new_named s same = subst (λ u. is_named who.account who.resource u ≡ true) same (newest_named h.next who.account who.resource k left rule fits seat name)
+
       owned : (q : ℕ) (s : Session ItemOut) → (q ≡ h.next) ⊎ ((old : links.Session ItemOut) × (v.sessions q ≡ Some old))
           → (session_of q left ≡ Some s) ⊎ ((session_of q left ≡ None) × (fresh {A = ItemOut} h.next who.account who.resource k ≡ s) × (is_numbered {A = ItemOut} q (fresh h.next who.account who.resource k) ≡ true)) → is_named who.account who.resource s ≡ true
       owned q s old (inr new) = new_named s new.1
       owned q s (inr old) (inl there) = shows.owned q old.0 s old.1 (was q s there)
       owned q s (inl same) (inl there) = let below = numbers_below h.next 1 q h.sessions s shows.hall.sessions.ascending (was q s there) in absurd (let no_way : ⊥ = omega arith in no_way)
+
       seated : (j : ℕ) (e : Conn ItemOut) (s : Session ItemOut) → cs j ≡ Some e → (session_at j left ≡ Some s) ⊎ (fresh h.next who.account who.resource k ≡ s) → is_named who.account who.resource s ≡ true
       seated j e s there (inl at) =
           let d = mine j e there in

@@ -58,9 +58,9 @@ module _ (who : Identity) (logins : ℕ → Login) (wires : Table ItemWire) (v :
   sent_apart outs more w there for j =
       elim (cases_eq k j) [
         | inl same ↦ subst (λ n. sent (outs ++ more) (with_at k (handed_up w) wires) n ≡ sent more (with_at k (handed_up w) (sent outs wires)) n) same
-              (ap (option_map (sent_under k (outs ++ more))) (at_same k (handed_up w) wires)
-              ∙ ap Some (sent_both k outs more (handed_up w) ∙ ap (sent_under k more) (for k (handed_up w) apart))
-              ∙ sym (ap (option_map (sent_under k more)) (at_same k (handed_up w) (sent outs wires))))
+            (ap (option_map (sent_under k (outs ++ more))) (at_same k (handed_up w) wires)
+            ∙ ap Some (sent_both k outs more (handed_up w) ∙ ap (sent_under k more) (for k (handed_up w) apart))
+            ∙ sym (ap (option_map (sent_under k more)) (at_same k (handed_up w) (sent outs wires))))
         | inr other ↦
             ap (option_map (sent_under j (outs ++ more))) (at_other k (handed_up w) wires j other)
             ∙ both_sent j outs more (wires j)
@@ -80,10 +80,10 @@ module _ (who : Identity) (logins : ℕ → Login) (wires : Table ItemWire) (v :
       let has = has_wire who logins wires v f former pipes is_former in
       let middle : View ItemOut = record v { conns = with_at f (shut_conn ending former) v.conns } in
       let closed : IsWire who (logins f) f (shut_conn ending former) (sent_under f (shuts_at f words) has.wire) =
-          subst (IsWire who (logins f) f (shut_conn ending former)) (sym (shuts_here f words has.wire ∙ ap (λ l. shut (put_down l has.wire)) same_words)) (wire_shut who (logins f) f former has.wire has.is ending) in
+      subst (IsWire who (logins f) f (shut_conn ending former)) (sym (shuts_here f words has.wire ∙ ap (λ l. shut (put_down l has.wire)) same_words)) (wire_shut who (logins f) f former has.wire has.is ending) in
       let shut_so : PipesShow who logins (sent (shuts_at f words) wires) middle =
-          shown_at who logins wires (sent (shuts_at f words) wires) v middle f (shut_conn ending former) (sent_under f (shuts_at f words) has.wire) pipes (λ j. refl)
-          (ap (option_map (sent_under f (shuts_at f words))) has.there) (λ j other. left_so j other (wires j)) closed in
+      shown_at who logins wires (sent (shuts_at f words) wires) v middle f (shut_conn ending former) (sent_under f (shuts_at f words) has.wire) pipes (λ j. refl)
+      (ap (option_map (sent_under f (shuts_at f words))) has.there) (λ j other. left_so j other (wires j)) closed in
       pipes_as who logins (sent (puts_at k items) (with_at k (handed_up w) (sent (shuts_at f words) wires))) (sent (shuts_at f words ++ puts_at k items) (with_at k (handed_up w) wires)) next
       (sent_apart (shuts_at f words) (puts_at k items) w there (shuts_are_for f words))
       (shown_sent who logins (sent (shuts_at f words) wires) middle next k (record c { phase = at; wires = send_down puts (left_up rest c.wires) }) w (handed_up w) (puts_at k items) shut_so (λ j. ap (λ t. t j) conns) (puts_are_for k items)
@@ -93,5 +93,6 @@ module _ (who : Identity) (logins : ℕ → Login) (wires : Table ItemWire) (v :
       left_so : (j : ℕ) → f ≢ j → (o : Option ItemWire) → option_map (sent_under j (shuts_at f words)) o ≡ o
       left_so j other None = refl
       left_so j other (Some u) = ap Some (shuts_are_for f words j u other)
+
       mine_w : IsWire who (logins k) k c w
       mine_w = subst (IsShown who (logins k) k (Some c)) there (subst (λ o. IsShown who (logins k) k o (wires k)) is (pipes.each k))

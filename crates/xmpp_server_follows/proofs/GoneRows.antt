@@ -185,12 +185,15 @@ module _ (who : Identity) (logins : ℕ → Login) (h : Hall ItemOut) (wires : T
       where
         n : ℕ
         n = live.session.shown.number
+
         found : session_named who.account who.resource (with_session n (parked h.moment) h.sessions) ≡ Some (parked h.moment live.session)
         found = found_mapped (is_named who.account who.resource) (parks n h.moment) h.sessions (named_parked n h.moment who.account who.resource) ∙ ap (option_map (parks n h.moment)) live.named ∙ ap Some (change_here n (parked h.moment) live.session refl)
+
         shown : (j : ℕ) (e : Conn ItemOut) → Entry k told v.conns j e → conn_at j (without_conn k h) ≡ conn_shown who (logins j) e
         shown j e (New same it) =
             subst (λ m. conn_at m (without_conn k h) ≡ conn_shown who (logins m) e) same (without_here k h shows.hall.conns ∙ sym (ended_conn who (logins k) c.phase c.ending) ∙ ap (conn_shown who (logins k)) it)
         shown j e (Old apart was) = without_apart k h shows.hall.conns j apart ∙ shows.conns j e was
+
         was_on : (j : ℕ) (s : Session ItemOut) → session_at j (with_session n (parked h.moment) h.sessions) ≡ Some s → (t : Session ItemOut) × (session_at j h.sessions ≡ Some t) × (parks n h.moment t ≡ s)
         was_on j s at =
             let ss = with_session n (parked h.moment) h.sessions in
@@ -199,10 +202,13 @@ module _ (who : Identity) (logins : ℕ → Login) (h : Hall ItemOut) (wires : T
             let same : s.shown.number ≡ was.0.shown.number = ap (λ (u : Session ItemOut). u.shown.number) (sym was.2) ∙ same_number_so n h.moment was.0 in
             let seated : was.0.shown.conn ≡ Some j = still_on n h.moment was.0 j (ap (λ (u : Session ItemOut). u.shown.conn) was.2 ∙ seat_is s.shown.conn j (found_is (is_at j) ss s at)) in
             (was.0, seat_of h.next j h.sessions was.0 shows.hall.sessions (subst (λ m. session_of m h.sessions ≡ Some was.0) same was.1) seated, was.2)
+
         name : (t s : Session ItemOut) → parks n h.moment t ≡ s → is_named who.account who.resource t ≡ true → is_named who.account who.resource s ≡ true
         name t s same named = subst (λ u. is_named who.account who.resource u ≡ true) same (named_parked n h.moment who.account who.resource t ∙ named)
+
         owned : (s : Session ItemOut) (q : ℕ) (u : links.Session ItemOut) → v.sessions q ≡ Some u → (t : Session ItemOut) × (session_of q h.sessions ≡ Some t) × (parks n h.moment t ≡ s) → is_named who.account who.resource s ≡ true
         owned s q u there old = name old.0 s old.2 (shows.owned q u old.0 there old.1)
+
         seated : (j : ℕ) (e : Conn ItemOut) (s : Session ItemOut) → Entry k told v.conns j e → (t : Session ItemOut) × (session_at j h.sessions ≡ Some t) × (parks n h.moment t ≡ s) → is_named who.account who.resource s ≡ true
         seated j e s (New same it) was = name was.0 s was.2 (shows.seated k c was.0 is (subst (λ m. session_at m h.sessions ≡ Some was.0) (sym same) was.1))
         seated j e s (Old apart at) was = name was.0 s was.2 (shows.seated j e was.0 at was.1)

@@ -70,7 +70,7 @@ module _ (who : Identity) (logins : ℕ → Login) (h : Hall ItemOut) (wires : T
       let d : Conn ItemOut = record c { phase = phase; wires = send_down puts (left_up p.rest c.wires) } in
       let next : View ItemOut = record v { conns = with_at k d v.conns } in
       let here : sent_under k (puts_at k items) (handed_up p.wire) ≡ put_down (map (down_item who (logins k) k (is_behind_login c.client)) puts) (handed_up p.wire)
-          = puts_here k items (handed_up p.wire) ∙ ap (λ l. put_down l (handed_up p.wire)) same in
+      = puts_here k items (handed_up p.wire) ∙ ap (λ l. put_down l (handed_up p.wire)) same in
       let s = stands_at v k c kept_here p.is word p.rest p.first in
       record {
         moves = TakesHand k ∷ [];

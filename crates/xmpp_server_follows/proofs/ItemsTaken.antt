@@ -1,4 +1,5 @@
--- In a world of items: the first item on its way up is that of the first word, and behind it the pipes are as the step says.
+-- In a world of items: the first item on its way up is that of the first word, and behind it the pipes are as the
+-- step says.
 use Rattle.std.proofs.Common.{◌≡◌, ℕ, ◌+◌, List, [], ◌∷◌, Option, Some, None, map, slice_get, refl, sym, ap, subst, ◌∙◌, inl, inr}
 use Rattle.std.proofs.lemmas.Bool.{cases_eq}
 use Rattle.std.specs.Option.{option_map}
@@ -71,6 +72,7 @@ module _ (who : Identity) (logins : ℕ → Login) (h : Hall ItemOut) (wires : T
             first = record { normal = normal; reached = reached; server = server; pipes = pipes; conn = c; is = is; rest = word.1; first = word.2; wire = w; there = there };
             same = refl;
           }
+
       go : (o : Option (Conn ItemOut)) → v.conns k ≡ o → IsShown who (logins k) k (v.conns k) (Some w) → HasFirst who logins h wires v k w i
       go None is shown = absurd (subst (λ o. IsShown who (logins k) k o (Some w)) is shown of)
       go (Some c) is shown = on c is (subst (λ o. IsShown who (logins k) k o (Some w)) is shown)

@@ -45,9 +45,11 @@ module _ (who : Identity) (logins : ℕ → Login) (h : Hall ItemOut) (v : View 
           let same : there.0 ≡ c = same_Some there.0 c (sym there.1 ∙ is) in
           let some : session_on c ≡ Some r.number = ap session_on (sym same) ∙ there.2 in
           let no_way : ⊥ = cc in no_way
+
       shown : (o : Option (Row ItemOut)) (t : Session ItemOut) → v.row ≡ o → t.shown.conn ≡ Some k → IsRowShown o (Some t) → ⊥
       shown None t row on it = it
       shown (Some r) t row on it = placed r row (sym it.conn ∙ on)
+
       no_one : (s : Session ItemOut) → session_at k h.sessions ≡ Some s → ⊥
       no_one s seat =
           let named = shows.seated k c s is seat in
@@ -76,8 +78,10 @@ module _ (who : Identity) (logins : ℕ → Login) (h : Hall ItemOut) (v : View 
       shown : (j : ℕ) (e : Conn ItemOut) → Entry k d v.conns j e → conn_at j (without_conn k h) ≡ conn_shown who (logins j) e
       shown j e (New same it) = subst (λ n. conn_at n (without_conn k h) ≡ conn_shown who (logins n) e) same (without_here k h shows.hall.conns ∙ sym ended ∙ ap (conn_shown who (logins k)) it)
       shown j e (Old apart was) = without_apart k h shows.hall.conns j apart ∙ shows.conns j e was
+
       was_on : (j : ℕ) (s : Session ItemOut) → session_of s.shown.number h.sessions ≡ Some s → is_at j s ≡ true → session_at j h.sessions ≡ Some s
       was_on j s there on = seat_of h.next j h.sessions s shows.hall.sessions there (seat_is s.shown.conn j on)
+
       seated : (j : ℕ) (e : Conn ItemOut) (s : Session ItemOut) → Entry k d v.conns j e → (session_of s.shown.number h.sessions ≡ Some s) × (is_at j s ≡ true) × (q s ≡ true) → is_named who.account who.resource s ≡ true
       seated j e s (New same it) seat = shows.seated k c s is (was_on k s seat.0 (subst (λ n. is_at n s ≡ true) (sym same) seat.1))
       seated j e s (Old apart was) seat = shows.seated j e s was (was_on j s seat.0 seat.1)

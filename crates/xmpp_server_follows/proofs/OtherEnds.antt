@@ -43,8 +43,10 @@ module _ (who whom : Identity) (logins : ℕ → Login) (h : Hall ItemOut) (wire
     where
       stays : Session ItemOut → Bool
       stays s = not (is_at k s)
+
       other : (j : ℕ) (e : Conn ItemOut) → v.conns j ≡ Some e → k ≢ j
       other j e there same = let here : v.conns k ≡ Some e = subst (λ n. v.conns n ≡ Some e) (sym same) there in let no_way : ⊥ = cc in no_way
+
       stays_so : (t : Session ItemOut) → session_named whom.account whom.resource h.sessions ≡ Some t → not (is_at k t) ≡ true
       stays_so t is =
           elim (cases_Bool (is_at k t)) [
@@ -56,6 +58,7 @@ module _ (who whom : Identity) (logins : ℕ → Login) (h : Hall ItemOut) (wire
                 absurd (apart.name (sym a.0 ∙ b.0) (sym a.1 ∙ b.1))
             | inr off ↦ ap not off
           ]
+
       row_same : (o : Option (Session ItemOut)) → session_named whom.account whom.resource h.sessions ≡ o
           → session_named whom.account whom.resource (filter (λ s. not (is_at k s)) h.sessions) ≡ session_named whom.account whom.resource h.sessions
       row_same None is = none_left (is_named whom.account whom.resource) (λ s. not (is_at k s)) h.sessions is ∙ sym is

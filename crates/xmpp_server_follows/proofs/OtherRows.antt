@@ -54,10 +54,10 @@ module _ (who whom : Identity) (logins others : ℕ → Login) (h : Hall ItemOut
   pub login_stays : (word : UpWord ItemOut) (p : IsFirst who logins h wires v k word) → IsOfLogin word → StepFollows whom others wires u k p.wire (on_item k (up_item who (logins k) word) h)
   login_stays Hdr p is = header_stays p (expected_up v k p.conn Hdr p.rest (kept_here who logins h wires v k Hdr p) p.is p.first)
   login_stays Auth p is =
-      subst (StepFollows whom others wires u k p.wire) (sym (auth_step who logins h wires v k p (expected_up v k p.conn Auth p.rest (kept_here who logins h wires v k Auth p) p.is p.first))) 
+      subst (StepFollows whom others wires u k p.wire) (sym (auth_step who logins h wires v k p (expected_up v k p.conn Auth p.rest (kept_here who logins h wires v k Auth p) p.is p.first)))
       (goes_stays Auth p (phase.Challenge (record { account = who.account; exchange = exchange_of who (logins k) })) (challenge_item (exchange_of who (logins k)).message ∷ []))
   login_stays Resp p is =
-      subst (StepFollows whom others wires u k p.wire) (sym (response_step who logins h wires v k p (expected_up v k p.conn Resp p.rest (kept_here who logins h wires v k Resp p) p.is p.first))) 
+      subst (StepFollows whom others wires u k p.wire) (sym (response_step who logins h wires v k p (expected_up v k p.conn Resp p.rest (kept_here who logins h wires v k Resp p) p.is p.first)))
       (goes_stays Resp p (phase.Restart who.account) (success_item (server_final_message (logins k).reply.verifier) ∷ []))
   login_stays _ p is = absurd is
 

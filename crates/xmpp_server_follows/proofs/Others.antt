@@ -55,12 +55,13 @@ module _ (who whom : Identity) (logins : ℕ → Login) (h : Hall ItemOut) (wire
       left_so : (j : ℕ) → k ≢ j → (o : Option ItemWire) → option_map (sent_under j outs) o ≡ o
       left_so j other None = refl
       left_so j other (Some u) = ap Some (for j u other)
+
       each : (j : ℕ) → IsShown whom (logins j) j (v.conns j) (sent outs (with_at k (handed_up w) wires) j)
       each j =
           elim (cases_eq k j) [
             | inl same ↦ subst (λ n. IsShown whom (logins n) n (v.conns n) (sent outs (with_at k (handed_up w) wires) n)) same
-                  (shown_as whom (logins k) k None (v.conns k) (Some (sent_under k outs (handed_up w))) (sent outs (with_at k (handed_up w) wires) k) (not_its k w there of)
-                  (ap (option_map (sent_under k outs)) (at_same k (handed_up w) wires)) (λ its. apart.place (sym its ∙ sent_device k outs (handed_up w) ∙ of)))
+                (shown_as whom (logins k) k None (v.conns k) (Some (sent_under k outs (handed_up w))) (sent outs (with_at k (handed_up w) wires) k) (not_its k w there of)
+                (ap (option_map (sent_under k outs)) (at_same k (handed_up w) wires)) (λ its. apart.place (sym its ∙ sent_device k outs (handed_up w) ∙ of)))
             | inr other ↦
                 shown_as whom (logins j) j (v.conns j) (v.conns j) (wires j) (sent outs (with_at k (handed_up w) wires) j) refl
                 (ap (option_map (sent_under j outs)) (at_other k (handed_up w) wires j other) ∙ left_so j other (wires j)) (pipes.each j)
@@ -100,6 +101,7 @@ module _ (who whom : Identity) (logins : ℕ → Login) (h : Hall ItemOut) (wire
           let a : u.shown.account ≡ t.shown.account = ap (λ (x : Session ItemOut). x.shown.account) (sym same) ∙ all.account t in
           let b : u.shown.resource ≡ t.shown.resource = ap (λ (x : Session ItemOut). x.shown.resource) (sym same) ∙ all.resource t in
           rw (a, b) is
+
       -- its session has another number
       unchanged : (t : Session ItemOut) → session_named whom.account whom.resource h.sessions ≡ Some t → changes_one n f t ≡ t
       unchanged t is =
@@ -112,9 +114,11 @@ module _ (who whom : Identity) (logins : ℕ → Login) (h : Hall ItemOut) (wire
                 absurd (apart.name (sym a.0 ∙ ap (λ (x : Session ItemOut). x.shown.account) one ∙ b.0) (sym a.1 ∙ ap (λ (x : Session ItemOut). x.shown.resource) one ∙ b.1))
             | inr other ↦ rw other refl
           ]
+
       row_so : (o : Option (Session ItemOut)) → session_named whom.account whom.resource h.sessions ≡ o → option_map (changes_one n f) o ≡ o
       row_so None is = refl
       row_so (Some t) is = ap Some (unchanged t is)
+
       row_same : session_named whom.account whom.resource (with_session n f h.sessions) ≡ session_named whom.account whom.resource h.sessions
       row_same = named_changed whom.account whom.resource n f h.sessions keeps ∙ row_so (session_named whom.account whom.resource h.sessions) refl
 

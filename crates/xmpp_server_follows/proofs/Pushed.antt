@@ -82,6 +82,7 @@ module _ {A : Type 0} (next account : ℕ) (resource : List ℕ) (k : ℕ) (ss :
     where
       Was : ℕ → Session A → Type 0
       Was m s = (session_of m ss ≡ Some s) ⊎ ((session_of m ss ≡ None) × (newest ≡ s) × (is_numbered m newest ≡ true))
+
       conns : (m n conn : ℕ) (s t : Session A) → s.shown.conn ≡ Some conn → t.shown.conn ≡ Some conn → Was m s → Was n t → m ≡ n
       conns m n conn s t on_s on_t (inl a) (inl b) = rule.conns m n conn s t a b on_s on_t
       conns m n conn s t on_s on_t (inl a) (inr b) =
@@ -91,6 +92,7 @@ module _ {A : Type 0} (next account : ℕ) (resource : List ℕ) (k : ℕ) (ss :
           let same : Some k ≡ s.shown.conn = ap (λ (u : Session A). u.shown.conn) a.1 in
           not_there n t (is_at k) seat b (at_true t (on_t ∙ sym on_s ∙ sym same))
       conns m n conn s t on_s on_t (inr a) (inr b) = number_of m newest s a.1 a.2 ∙ sym (number_of n newest t b.1 b.2)
+
       names : (m n : ℕ) (s t : Session A) → s.shown.account ≡ t.shown.account → s.shown.resource ≡ t.shown.resource → Was m s → Was n t → m ≡ n
       names m n s t a r (inl x) (inl y) = rule.names m n s t x y a r
       names m n s t a r (inl x) (inr y) =
@@ -100,6 +102,7 @@ module _ {A : Type 0} (next account : ℕ) (resource : List ℕ) (k : ℕ) (ss :
           not_there n t (is_named account resource) name y
           (named_true t (sym a ∙ sym (ap (λ (u : Session A). u.shown.account) x.1)) (sym r ∙ sym (ap (λ (u : Session A). u.shown.resource) x.1)))
       names m n s t a r (inr x) (inr y) = number_of m newest s x.1 x.2 ∙ sym (number_of n newest t y.1 y.2)
+
       few : (n : ℕ) (s : Session A) → Was n s → length s.waiting ≤ MOST_UNACKNOWLEDGED
       few n s (inl a) = rule.few n s a
       few n s (inr a) = subst (λ (u : Session A). length u.waiting ≤ MOST_UNACKNOWLEDGED) a.1 (omega arith)

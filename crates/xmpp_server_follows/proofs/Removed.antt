@@ -71,6 +71,7 @@ module _ {A : Type 0} where
             | inl same ↦ let equal : x.shown.number ≡ n = eqb-true x.shown.number n same in absurd (let no_way : ⊥ = omega arith in no_way)
             | inr apart ↦ rw apart found
           ]
+
       kept : q x ≡ true → (session_of n (filter q ss) ≡ Some s → (session_of n ss ≡ Some s) × (q s ≡ true)) → session_of n (x ∷ filter q ss) ≡ Some s → (session_of n (x ∷ ss) ≡ Some s) × (q s ≡ true)
       kept left below found =
           elim (cases_Bool (x.shown.number == n)) [

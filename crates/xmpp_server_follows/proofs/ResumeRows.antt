@@ -1,4 +1,5 @@
--- The row on a resumption (XEP-0198, section 5) of a session that lives and is parked, with a count that names a place in its queue.
+-- The row on a resumption (XEP-0198, section 5) of a session that lives and is parked, with a count that names a
+-- place in its queue.
 use Rattle.std.proofs.Common.{◌≡◌, ℕ, ◌-◌, ◌<◌, ◌≤◌, ◌^◌, Bool, true, false, List, [], ◌∷◌, ◌++◌, Option, Some, None, length, drop, nat_lt, refl, sym, ap, subst, ◌∙◌, arith}
 use Rattle.std.proofs.lemmas.Bool.Decides.{nat_tests}
 use Rattle.std.proofs.lemmas.List.{append-nil, append_assoc}

@@ -1,4 +1,5 @@
--- A session that is parked is resumed on the connection that its client works on, where fewer stanzas wait than a request is due for.
+-- A session that is parked is resumed on the connection that its client works on, where fewer stanzas wait than a
+-- request is due for.
 use Rattle.std.proofs.Common.{◌≡◌, ℕ, ◌-◌, ◌≤◌, Bool, true, false, List, [], ◌∷◌, Option, Some, None, Ok, Err, cond, length, drop, nat_le, map, refl, sym, ap, subst, ◌∙◌, ◌⊎◌, inl, inr}
 use Rattle.std.proofs.lemmas.List.Elements.{All-drop}
 use Rattle.std.proofs.lemmas.Option.{same_Some}
@@ -152,21 +153,26 @@ module _ (who : Identity) (logins : ℕ → Login) (h : Hall ItemOut) (wires : T
         by_name =
             named_moved s.shown.number k h.next back h.sessions comes p.server.hall.sessions nobody who.account who.resource
             ∙ ap (option_map (moved s.shown.number k h.next back h.sessions comes p.server.hall.sessions nobody)) own.named ∙ ap Some (change_here s.shown.number back s refl)
+
         shown : (j : ℕ) (e : Conn ItemOut) → Entry k attached v.conns j e → conn_at j h ≡ conn_shown who (logins j) e
         shown j e (New same it) = subst (λ m. conn_at m h ≡ conn_shown who (logins m) e) same (same_conn ∙ ap (conn_shown who (logins k)) it)
         shown j e (Old apart was) = p.server.conns j e was
+
         name : (a b : Session ItemOut) → moved s.shown.number k h.next back h.sessions comes p.server.hall.sessions nobody a ≡ b → is_named who.account who.resource a ≡ true → is_named who.account who.resource b ≡ true
         name a b same is =
             subst (λ u. is_named who.account who.resource u ≡ true) same (moved_named s.shown.number k h.next back h.sessions comes p.server.hall.sessions nobody who.account who.resource a ∙ is)
+
         mine : (a : Session ItemOut) → session_of a.shown.number h.sessions ≡ Some a → a.shown.number ≡ s.shown.number → is_named who.account who.resource a ≡ true
         mine a here same =
             subst (λ u. is_named who.account who.resource u ≡ true) (same_Some s a (sym there ∙ ap (λ m. session_of m h.sessions) (sym same) ∙ here)) (found_is (is_named who.account who.resource) h.sessions s own.named)
+
         seated : (j : ℕ) (e : Conn ItemOut) (u : Session ItemOut) → Entry k attached v.conns j e
             → (a : Session ItemOut) × (session_of a.shown.number h.sessions ≡ Some a) × (moved s.shown.number k h.next back h.sessions comes p.server.hall.sessions nobody a ≡ u) × (((a.shown.number ≡ s.shown.number) × (j ≡ k)) ⊎ (session_at j h.sessions ≡ Some a))
             → is_named who.account who.resource u ≡ true
         seated j e u at (a, here, same, inl new) = name a u same (mine a here new.0)
         seated j e u (New is_k it) (a, here, same, inr seat) = name a u same (p.server.seated k p.conn a p.is (subst (λ m. session_at m h.sessions ≡ Some a) (sym is_k) seat))
         seated j e u (Old apart was) (a, here, same, inr seat) = name a u same (p.server.seated j e a was seat)
+
         owned : (m : ℕ) (b : Session ItemOut) → (old : links.Session ItemOut) × (v.sessions m ≡ Some old) → (a : Session ItemOut) × (session_of m h.sessions ≡ Some a) × (moved s.shown.number k h.next back h.sessions comes p.server.hall.sessions nobody a ≡ b)
             → is_named who.account who.resource b ≡ true
         owned m b old was = name was.0 b was.2 (p.server.owned m old.0 was.0 old.1 was.1)

@@ -75,11 +75,13 @@ module _ (n k next : ℕ) (f : Session ItemOut → Session ItemOut) (ss : List (
     where
       numbered : (i : ℕ) (s : Session ItemOut) → session_of i ss ≡ Some s → s.shown.number ≡ i
       numbered i s there = eqb-true s.shown.number i (found_is (is_numbered i) ss s there)
+
       one_seat : (i j conn : ℕ) (s t : Session ItemOut) → session_of i ss ≡ Some s → session_of j ss ≡ Some t → ((s.shown.number ≡ n) × (conn ≡ k)) ⊎ (s.shown.conn ≡ Some conn) → ((t.shown.number ≡ n) × (conn ≡ k)) ⊎ (t.shown.conn ≡ Some conn) → i ≡ j
       one_seat i j conn s t at_i at_j (inl a) (inl b) = sym (numbered i s at_i) ∙ a.0 ∙ sym b.0 ∙ numbered j t at_j
       one_seat i j conn s t at_i at_j (inl a) (inr b) = not_there j t at_j (b ∙ ap Some a.1)
       one_seat i j conn s t at_i at_j (inr a) (inl b) = not_there i s at_i (a ∙ ap Some b.1)
       one_seat i j conn s t at_i at_j (inr a) (inr b) = rule.conns i j conn s t at_i at_j a b
+
       few_of : (m : ℕ) (s : Session ItemOut) → session_of m ss ≡ Some s → length (moved s).waiting ≤ MOST_UNACKNOWLEDGED
       few_of m s there =
           elim (cases_Bool (s.shown.number == n)) [

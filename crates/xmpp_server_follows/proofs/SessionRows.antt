@@ -1,4 +1,5 @@
--- The rows of a session on the acknowledgement of stanzas (XEP-0198, sections 3 and 4): a request, `enable`, and a count.
+-- The rows of a session on the acknowledgement of stanzas (XEP-0198, sections 3 and 4): a request, `enable`, and a
+-- count.
 use Rattle.std.proofs.Common.{◌≡◌, ℕ, ◌-◌, ◌≤◌, ◌<◌, ◌^◌, Bool, true, false, List, [], ◌∷◌, Some, Ok, length, drop, nat_lt, cond, codes, if◌then◌else◌, refl, sym, ap, subst, ◌∙◌, arith}
 use Rattle.std.proofs.lemmas.Bool.Decides.{nat_tests}
 use Rattle.std.proofs.lemmas.List.{length-drop}
@@ -224,12 +225,12 @@ module _ (who : Identity) (logins : ℕ → Login) (h : Hall ItemOut) (wires : T
         let next : View ItemOut = record v { conns = with_at k d v.conns; row = Some after; sessions = sessions } in
         let queue_few = few who logins h wires v k (Up (Ack n)) p true there in
         let acked : ServerShows who logins acked_hall (record v { row = Some after; sessions = sessions }) =
-            session_shows who logins h v row after (acknowledged (told_count n)) sessions (known_altered (λ q s. acked_if (has (Some row.number) q) n s) v) p.server there.1 (acknowledged_keeps (told_count n)) (acknowledged_row row n within queue_few)
-            (λ s is. fewer (ahead (told_count n) s.acked) MOST_UNACKNOWLEDGED s.waiting (few_wait who logins h wires v k (Up (Ack n)) p true there s is)) in
+        session_shows who logins h v row after (acknowledged (told_count n)) sessions (known_altered (λ q s. acked_if (has (Some row.number) q) n s) v) p.server there.1 (acknowledged_keeps (told_count n)) (acknowledged_row row n within queue_few)
+        (λ s is. fewer (ahead (told_count n) s.acked) MOST_UNACKNOWLEDGED s.waiting (few_wait who logins h wires v k (Up (Ack n)) p true there s is)) in
         let few_left : length after.queue ≤ MOST_UNACKNOWLEDGED = fewer (n - row.acked) MOST_UNACKNOWLEDGED row.queue queue_few in
         let asked : ServerShows who logins asked_hall (record v { row = Some after; sessions = sessions }) =
-            session_shows who logins acked_hall (record v { row = Some after; sessions = sessions }) after after (asks false) sessions (known_same (record v { row = Some after; sessions = sessions })) acked refl (asks_keeps false) (asked_row false after)
-            (λ s is. subst (λ q. length q ≤ MOST_UNACKNOWLEDGED) (sym is.waiting) few_left) in
+        session_shows who logins acked_hall (record v { row = Some after; sessions = sessions }) after after (asks false) sessions (known_same (record v { row = Some after; sessions = sessions })) acked refl (asks_keeps false) (asked_row false after)
+        (λ s is. subst (λ q. length q ≤ MOST_UNACKNOWLEDGED) (sym is.waiting) few_left) in
         subst (StepFollows who logins wires v k p.wire) (sym count_step) (record {
           moves = TakesCount k n ∷ [];
           next = next;

@@ -49,7 +49,7 @@ module _ (who : Identity) (logins : ℕ → Login) (h : Hall ItemOut) (wires : T
       → items ≡ map (down_item who (logins k) k (is_behind_login p.conn.client)) puts → All IsForClient (down_stanzas puts) → PipesShow who logins (sent (puts_at k items) (with_at k (handed_up p.wire) wires)) next
   taken_pipes at puts items next conns same stanzas =
       let here : sent_under k (puts_at k items) (handed_up p.wire) ≡ put_down (map (down_item who (logins k) k (is_behind_login p.conn.client)) puts) (handed_up p.wire)
-          = puts_here k items (handed_up p.wire) ∙ ap (λ l. put_down l (handed_up p.wire)) same in
+      = puts_here k items (handed_up p.wire) ∙ ap (λ l. put_down l (handed_up p.wire)) same in
       shown_sent who logins wires v next k (taken at puts) p.wire (handed_up p.wire) (puts_at k items) p.pipes conns (puts_are_for k items)
       (subst (IsWire who (logins k) k (taken at puts)) (sym here) (wire_taken who (logins k) k p.conn p.wire (wire_here who logins h wires v k word p) word p.rest puts at p.first stanzas))
 

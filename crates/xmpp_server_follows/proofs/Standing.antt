@@ -44,6 +44,7 @@ module _ {A : Type 0} (v : View A) (k : ℕ) (c : Conn A) (kept : LinkKept v) (i
       stands : (c.ending ≡ Stands) ⊎ (up_words c.wires ≡ []) → c.ending ≡ Stands
       stands (inl e) = e
       stands (inr none) = absurd (let no_way : ⊥ = cc in no_way)
+
       untold : (b : Bool) → c.gone ≡ b → (c.gone ≡ true → up_words c.wires ≡ []) → c.gone ≡ false
       untold false e told = e
       untold true e told = let none = told e in absurd (let no_way : ⊥ = cc in no_way)

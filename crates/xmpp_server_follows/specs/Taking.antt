@@ -88,7 +88,8 @@ IsHeard who logins h wires v k wire = ServerFollows who logins (gone_at k h) (wi
 abbrev pub IsStrange : Identity → Hall ItemOut → ℕ → Type 0
 IsStrange who h q = session_resumed (previd_of q) who.account h.sessions ≡ None
 
--- a session is named that is parked, on the connection that the client works on, and of its stanzas fewer are sent again than
+-- a session is named that is parked, on the connection that the client works on, and of its stanzas fewer are sent
+-- again than
 -- a request is due for
 pub record IsParkedHere (who : Identity) (h : Hall ItemOut) (v : View ItemOut) (k q n : ℕ) (s : Session ItemOut) : Type 0 where
   pub here : v.here ≡ Some k

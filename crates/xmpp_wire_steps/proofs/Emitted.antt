@@ -25,7 +25,7 @@ changed_one : (k j : ℕ) (f : ItemWire → ItemWire) (wires : List ItemWire) �
 changed_one k j f wires =
     elim (cases_eq j k) [
       | inl same ↦ subst (λ n. under n (changed_under j f wires) ≡ option_map (where_it (nat_eq j n) f) (under n wires)) same
-            (under_changed j f wires ∙ ap (λ b. option_map (where_it b f) (under j wires)) (sym (same_number j)))
+          (under_changed j f wires ∙ ap (λ b. option_map (where_it b f) (under j wires)) (sym (same_number j)))
       | inr apart ↦ under_other j k f wires apart ∙ sym (mapped_same (under k wires)) ∙ ap (λ b. option_map (where_it b f) (under k wires)) (sym (other_number j k apart))
     ]
 

@@ -143,6 +143,7 @@ module _ {A : Type 0} where
     where
       all : Keeps (changes_one n f)
       all = keeps_one n f kept
+
       few_of : (m : ℕ) (s : Session A) → session_of m ss ≡ Some s → length (changes_one n f s).waiting ≤ MOST_UNACKNOWLEDGED
       few_of m s is =
           let number : s.shown.number ≡ m = eqb-true s.shown.number m (found_is (is_numbered m) ss s is) in

@@ -27,7 +27,7 @@ shown_at who logins wires after v next k c w old conns here others is = record {
     each j =
         elim (cases_eq k j) [
           | inl same ↦ subst (λ n. IsShown who (logins n) n (next.conns n) (after n)) same
-                (shown_as who (logins k) k (Some c) (next.conns k) (Some w) (after k) (conns k ∙ at_same k c v.conns) here is)
+              (shown_as who (logins k) k (Some c) (next.conns k) (Some w) (after k) (conns k ∙ at_same k c v.conns) here is)
           | inr apart ↦ shown_as who (logins j) j (v.conns j) (next.conns j) (wires j) (after j) (conns j ∙ at_other k c v.conns j apart) (others j apart) (old.each j)
         ]
 

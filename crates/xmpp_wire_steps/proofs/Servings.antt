@@ -55,6 +55,7 @@ module _ (who : Identity) (logins : ℕ → Login) (h : Hall ItemOut) (v : View 
       shown : (j : ℕ) (e : Conn ItemOut) → Entry k d v.conns j e → conn_at j (with_conn k f h) ≡ conn_shown who (logins j) e
       shown j e (New same it) = subst (λ n. conn_at n (with_conn k f h) ≡ conn_shown who (logins n) e) same (hall_here k f h conn at ∙ sym comes ∙ ap (conn_shown who (logins k)) it)
       shown j e (Old apart before) = hall_apart k f h conn at j apart ∙ shows.conns j e before
+
       seated : (j : ℕ) (e : Conn ItemOut) (s : Session ItemOut) → Entry k d v.conns j e → session_at j h.sessions ≡ Some s → is_named who.account who.resource s ≡ true
       seated j e s (New same it) seat = shows.seated k c s is (subst (λ n. session_at n h.sessions ≡ Some s) (sym same) seat)
       seated j e s (Old apart before) seat = shows.seated j e s before seat
@@ -75,6 +76,7 @@ module _ (who : Identity) (logins : ℕ → Login) (h : Hall ItemOut) (v : View 
       shown : (j : ℕ) (e : Conn ItemOut) → Entry k d v.conns j e → conn_at j h ≡ conn_shown who (logins j) e
       shown j e (New at it) = subst (λ n. conn_at n h ≡ conn_shown who (logins n) e) at (shows.conns k c is ∙ sym same ∙ ap (conn_shown who (logins k)) it)
       shown j e (Old apart before) = shows.conns j e before
+
       seated : (j : ℕ) (e : Conn ItemOut) (s : Session ItemOut) → Entry k d v.conns j e → session_at j h.sessions ≡ Some s → is_named who.account who.resource s ≡ true
       seated j e s (New at it) seat = shows.seated k c s is (subst (λ n. session_at n h.sessions ≡ Some s) (sym at) seat)
       seated j e s (Old apart before) seat = shows.seated j e s before seat
@@ -95,20 +97,25 @@ session_shows who logins h v r changed f t known shows is kept becomes few = rec
   where
     live : IsLive who h r
     live = live_of who logins h v r shows is
+
     found : session_named who.account who.resource (with_session r.number f h.sessions) ≡ Some (f live.session)
     found = named_changed who.account who.resource r.number f h.sessions kept ∙ ap (option_map (changes_one r.number f)) live.named ∙ ap Some (change_here r.number f live.session live.row.number)
+
     few_in : (s : Session ItemOut) → session_of r.number h.sessions ≡ Some s → length (f s).waiting ≤ MOST_UNACKNOWLEDGED
     few_in s at =
         let mine : session_of r.number h.sessions ≡ Some live.session = subst (λ n. session_of n h.sessions ≡ Some live.session) live.row.number
-            (numbered_here (is_named who.account who.resource) h.next 1 h.sessions live.session shows.hall.sessions.ascending live.named) in
+        (numbered_here (is_named who.account who.resource) h.next 1 h.sessions live.session shows.hall.sessions.ascending live.named) in
         subst (λ u. length (f u).waiting ≤ MOST_UNACKNOWLEDGED) (let same : live.session ≡ s = cc in same) (few live.session live.row)
+
     named_so : (s u : Session ItemOut) → changes_one r.number f s ≡ u → is_named who.account who.resource s ≡ true → is_named who.account who.resource u ≡ true
     named_so s u same named =
         let all = keeps_one r.number f kept in
         let a : u.shown.account ≡ s.shown.account = ap (λ (x : Session ItemOut). x.shown.account) (sym same) ∙ all.account s in
         let b : u.shown.resource ≡ s.shown.resource = ap (λ (x : Session ItemOut). x.shown.resource) (sym same) ∙ all.resource s in
         rw (a, b) named
+
     seated : (j : ℕ) (e : Conn ItemOut) (s : Session ItemOut) → v.conns j ≡ Some e → (u : Session ItemOut) × (session_at j h.sessions ≡ Some u) × (changes_one r.number f u ≡ s) → is_named who.account who.resource s ≡ true
     seated j e s there before = named_so before.0 s before.2 (shows.seated j e before.0 there before.1)
+
     owned : (q : ℕ) (s : Session ItemOut) → (old : links.Session ItemOut) × (v.sessions q ≡ Some old) → (u : Session ItemOut) × (session_of q h.sessions ≡ Some u) × (changes_one r.number f u ≡ s) → is_named who.account who.resource s ≡ true
     owned q s old then_so = named_so then_so.0 s then_so.2 (shows.owned q old.0 then_so.0 old.1 then_so.1)
