@@ -1,0 +1,3 @@
+pub use Rattle.xmpp_edge.specs.Listed
+-- law: what a word that the server takes is in the links
+pub mod Taking

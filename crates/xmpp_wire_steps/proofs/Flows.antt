@@ -1,0 +1,110 @@
+-- What is taken and put is taken and put in the pipes of items as in those of words.
+use Rattle.std.proofs.Common.{◌≡◌, true, false, not, List, [], ◌∷◌, ◌++◌, drop, map, refl, sym, ap, ◌∙◌, inl, inr}
+use Rattle.std.proofs.lemmas.Bool.{cases_Bool}
+use Rattle.std.proofs.lemmas.List.{append-nil, append_assoc, map-append}
+use Rattle.xmpp_item_worlds.specs.ItemPipes.{ItemPipe, entered, handed}
+use Rattle.xmpp_links.specs.Words.{DownWord, UpWord}
+use Rattle.xmpp_links.specs.Wires.{Flow, Stop, Wires, down_words, halt, is_flowing, left_down, left_up, send_down, send_up, up_words}
+use Rattle.xmpp_writer.specs.Items.{ItemOut}
+
+-- ---- pipes of items
+
+pub entered_open : (more : List ItemOut) (p : ItemPipe) → p.ended ≡ false → (entered more p).items ≡ p.items ++ more
+entered_open more p flows = rw flows refl
+
+pub entered_ended : (more : List ItemOut) (p : ItemPipe) → p.ended ≡ true → entered more p ≡ p
+entered_ended more p ended = rw ended refl
+
+pub entered_end : (more : List ItemOut) (p : ItemPipe) → (entered more p).ended ≡ p.ended
+entered_end more p = elim (cases_Bool p.ended) [ inl ended ↦ ap (λ (q : ItemPipe). q.ended) (entered_ended more p ended) | inr flows ↦ rw flows refl ]
+
+-- one after the other, or all at once
+pub entered_twice : (some more : List ItemOut) (p : ItemPipe) → entered more (entered some p) ≡ entered (some ++ more) p
+entered_twice some more p =
+    elim (cases_Bool p.ended) [
+      | inl ended ↦ rw (entered_ended some p ended) (entered_ended more p ended ∙ sym (entered_ended (some ++ more) p ended))
+      | inr flows ↦ rw flows (ap (λ items. record { items = items; ended = false; told = p.told }) (append_assoc p.items some more))
+    ]
+
+-- nothing is put
+pub entered_none : (p : ItemPipe) → entered [] p ≡ p
+entered_none p =
+    elim (cases_Bool p.ended) [
+      | inl ended ↦ entered_ended [] p ended
+      | inr flows ↦ entered_as p flows ∙ ap (λ items. record p { items = items }) (append-nil p.items)
+    ]
+  where
+    entered_as : (q : ItemPipe) → q.ended ≡ false → entered [] q ≡ record q { items = q.items ++ [] }
+    entered_as q flows = rw flows refl
+
+-- ---- pipes of words
+
+pub taken_up : {A : Type 0} (rest : List (UpWord A)) (puts : List (DownWord A)) (ws : Wires A) → up_words (send_down puts (left_up rest ws)) ≡ rest
+taken_up rest puts (Flow us ds) = refl
+taken_up rest puts (Stop us ds lu ld) = refl
+
+pub taken_flowing : {A : Type 0} (rest : List (UpWord A)) (puts : List (DownWord A)) (ws : Wires A) → is_flowing (send_down puts (left_up rest ws)) ≡ is_flowing ws
+taken_flowing rest puts (Flow us ds) = refl
+taken_flowing rest puts (Stop us ds lu ld) = refl
+
+pub taken_down : {A : Type 0} (rest : List (DownWord A)) (puts : List (UpWord A)) (ws : Wires A) → down_words (send_up puts (left_down rest ws)) ≡ rest
+taken_down rest puts (Flow us ds) = refl
+taken_down rest puts (Stop us ds lu ld) = refl
+
+pub heard_flowing : {A : Type 0} (rest : List (DownWord A)) (puts : List (UpWord A)) (ws : Wires A) → is_flowing (send_up puts (left_down rest ws)) ≡ is_flowing ws
+heard_flowing rest puts (Flow us ds) = refl
+heard_flowing rest puts (Stop us ds lu ld) = refl
+
+-- what a server puts behind what it takes
+pub put_taken : {A : Type 0} (rest : List (UpWord A)) (puts : List (DownWord A)) (ws : Wires A) → down_words (send_down puts (left_up rest ws)) ≡ down_words (send_down puts ws)
+put_taken rest puts (Flow us ds) = refl
+put_taken rest puts (Stop us ds lu ld) = refl
+
+pub put_heard : {A : Type 0} (rest : List (DownWord A)) (puts : List (UpWord A)) (ws : Wires A) → up_words (send_up puts (left_down rest ws)) ≡ up_words (send_up puts ws)
+put_heard rest puts (Flow us ds) = refl
+put_heard rest puts (Stop us ds lu ld) = refl
+
+pub put_up_kept : {A : Type 0} (puts : List (DownWord A)) (ws : Wires A) → up_words (send_down puts ws) ≡ up_words ws
+put_up_kept puts (Flow us ds) = refl
+put_up_kept puts (Stop us ds lu ld) = refl
+
+pub put_down_kept : {A : Type 0} (puts : List (UpWord A)) (ws : Wires A) → down_words (send_up puts ws) ≡ down_words ws
+put_down_kept puts (Flow us ds) = refl
+put_down_kept puts (Stop us ds lu ld) = refl
+
+pub put_flowing : {A : Type 0} (puts : List (DownWord A)) (ws : Wires A) → is_flowing (send_down puts ws) ≡ is_flowing ws
+put_flowing puts (Flow us ds) = refl
+put_flowing puts (Stop us ds lu ld) = refl
+
+pub said_flowing : {A : Type 0} (puts : List (UpWord A)) (ws : Wires A) → is_flowing (send_up puts ws) ≡ is_flowing ws
+said_flowing puts (Flow us ds) = refl
+said_flowing puts (Stop us ds lu ld) = refl
+
+pub halted_up : {A : Type 0} (ws : Wires A) → up_words (halt ws) ≡ []
+halted_up (Flow us ds) = refl
+halted_up (Stop us ds lu ld) = refl
+
+pub halted_down : {A : Type 0} (ws : Wires A) → down_words (halt ws) ≡ down_words ws
+halted_down (Flow us ds) = refl
+halted_down (Stop us ds lu ld) = refl
+
+pub halted : {A : Type 0} (ws : Wires A) → is_flowing (halt ws) ≡ false
+halted (Flow us ds) = refl
+halted (Stop us ds lu ld) = refl
+
+-- ---- the items of words
+
+pub handed_words : {W : Type 0} (f : W → ItemOut) (word : W) (rest : List W) (p : ItemPipe) → p.items ≡ map f (word ∷ rest) → (handed p).items ≡ map f rest
+handed_words f word rest p items = ap (drop 1) items
+
+-- what the server puts: into a pipe that has ended nothing enters
+pub put_words : {A : Type 0} (g : DownWord A → ItemOut) (puts : List (DownWord A)) (ws : Wires A) (p : ItemPipe) → p.items ≡ map g (down_words ws) → p.ended ≡ not (is_flowing ws)
+    → (entered (map g puts) p).items ≡ map g (down_words (send_down puts ws))
+put_words g puts (Flow us ds) p items ended = entered_open (map g puts) p ended ∙ ap (λ l. l ++ map g puts) items ∙ sym (map-append g ds puts)
+put_words g puts (Stop us ds lu ld) p items ended = ap (λ (q : ItemPipe). q.items) (entered_ended (map g puts) p ended) ∙ items
+
+-- and the client
+pub said_words : {A : Type 0} (f : UpWord A → ItemOut) (puts : List (UpWord A)) (ws : Wires A) (p : ItemPipe) → p.items ≡ map f (up_words ws) → p.ended ≡ not (is_flowing ws)
+    → (entered (map f puts) p).items ≡ map f (up_words (send_up puts ws))
+said_words f puts (Flow us ds) p items ended = entered_open (map f puts) p ended ∙ ap (λ l. l ++ map f puts) items ∙ sym (map-append f us puts)
+said_words f puts (Stop us ds lu ld) p items ended = ap (λ (q : ItemPipe). q.items) (entered_ended (map f puts) p ended) ∙ items

@@ -1,0 +1,10 @@
+-- ---- pipes
+pub mod Changes
+pub mod Flows
+pub mod Emitted
+pub mod Taken
+pub mod Placed
+-- ---- the server
+pub mod Found
+pub mod Halls
+pub mod Servings
