@@ -23,40 +23,35 @@ pub fn logins_follow()
 {}
 
 /// A law: on each word on the acknowledgement of stanzas (XEP-0198, sections 3 and 4) likewise: a session is counted
-/// from
-/// its `enable` on, a request is answered by the count, and a count takes from the queue what it acknowledges.
+/// from its `enable` on, a request is answered by the count, and a count takes from the queue what it acknowledges.
 pub fn acknowledgements_follow()
     ensures { (who : Identity) (logins : ℕ → Login) (h : Hall ItemOut) (wires : Table ItemWire) (v : View ItemOut) (k : ℕ) (word : UpWord ItemOut) (p : IsFirst who logins h wires v k word)
         → IsOfManagement word → IsTaken who logins h wires v k p.wire word }
 {}
 
-/// A law: on a footer (RFC 6120, section 4.4) likewise: the server puts its own and shuts the connection, and a
-/// session on
-/// it ends, in at most two moves.
+/// A law: on a footer (RFC 6120, section 4.4) likewise: the server puts its own and shuts the connection, and a session
+/// on it ends, in at most two moves.
 pub fn footers_follow()
     ensures { (who : Identity) (logins : ℕ → Login) (h : Hall ItemOut) (wires : Table ItemWire) (v : View ItemOut) (k : ℕ) (p : IsFirst who logins h wires v k Foot)
         → IsTaken who logins h wires v k p.wire Foot }
 {}
 
 /// A law: where the server hears of the end of a connection, it does so in the links: a session on it is parked where
-/// it is
-/// counted, and else ends (XEP-0198, section 5).
+/// it is counted, and else ends (XEP-0198, section 5).
 pub fn ends_follow()
     ensures { (who : Identity) (logins : ℕ → Login) (h : Hall ItemOut) (wires : Table ItemWire) (v : View ItemOut) (k : ℕ) (p : IsOver who logins h wires v k)
         → IsHeard who logins h wires v k p.wire }
 {}
 
 /// A law: on a binding (RFC 6120, section 7) likewise: the older session of the device ends, with its connection told
-/// so and
-/// shut, where it has one, and the new session is on the connection, in at most three moves.
+/// so and shut, where it has one, and the new session is on the connection, in at most three moves.
 pub fn bindings_follow()
     ensures { (who : Identity) (logins : ℕ → Login) (h : Hall ItemOut) (wires : Table ItemWire) (v : View ItemOut) (k : ℕ) (p : IsFirst who logins h wires v k Bind) → HasNumber h
         → IsTaken who logins h wires v k p.wire Bind }
 {}
 
 /// A law: on a resumption (XEP-0198, section 5) of a session that the server doesn't have, or can't resume, likewise:
-/// it says
-/// so, and the connection stays as it is.
+/// it says so, and the connection stays as it is.
 pub fn strange_resumptions_follow()
     ensures { (who : Identity) (logins : ℕ → Login) (h : Hall ItemOut) (wires : Table ItemWire) (v : View ItemOut) (k q n : ℕ) (p : IsFirst who logins h wires v k (ResumeAt q n)) → IsStrange who h q
         → IsTaken who logins h wires v k p.wire (ResumeAt q n) }
@@ -69,16 +64,14 @@ pub fn moments_follow()
 {}
 
 /// A law: what the server does on a word of a login, on one on acknowledgement and on a footer leaves the part of
-/// another
-/// device as it is, also in the links.
+/// another device as it is, also in the links.
 pub fn other_devices_stay()
     ensures { (who whom : Identity) (logins others : ℕ → Login) (h : Hall ItemOut) (wires : Table ItemWire) (v u : View ItemOut) (k : ℕ) (word : UpWord ItemOut) (p : IsFirst who logins h wires v k word)
         → IsOwnWord word → AreApart who whom → ServerShows whom others h u → PipesShow whom others wires u → IsLeft who whom logins others h wires u k p.wire word }
 {}
 
 /// A law: each item that comes to the server on a connection of the device is that of the first word there; and what
-/// the
-/// laws say of the step that it takes on the item holds in the world of items.
+/// the laws say of the step that it takes on the item holds in the world of items.
 pub fn items_are_words()
     ensures words { (who : Identity) (logins : ℕ → Login) (h : Hall ItemOut) (wires : Table ItemWire) (v : View ItemOut) (k : ℕ) (w : ItemWire) (i : ItemOut) → IsNormal who → LinkReached v → ServerShows who logins h v
         → PipesShow who logins wires v → IsNext who wires k w i → HasFirst who logins h wires v k w i }
@@ -86,11 +79,9 @@ pub fn items_are_words()
         → StepFollows who logins (by_number w.wires) v (place + 1) wire (on_item (place + 1) i w.server) → ServerFollows who logins (served_item place i w).server (by_number (served_item place i w).wires) v }
 {}
 
-/// A law: on a resumption of a session that is parked, on the connection that the client works on, likewise: the
-/// count that it
-/// states names a place in the queue, and what is behind that is sent again, in one move. (Where ten stanzas or more
-/// are sent
-/// again, a request goes out behind them: of that this law does not speak.)
+/// A law: on a resumption of a session that is parked, on the connection that the client works on, likewise: the count
+/// that it states names a place in the queue, and what is behind that is sent again, in one move. (Where ten stanzas or
+/// more are sent again, a request goes out behind them: of that this law does not speak.)
 pub fn parked_resumptions_follow()
     ensures { (who : Identity) (logins : ℕ → Login) (h : Hall ItemOut) (wires : Table ItemWire) (v : View ItemOut) (k q n : ℕ) (p : IsFirst who logins h wires v k (ResumeAt q n)) (s : Session ItemOut) → IsParkedHere who h v k q n s
         → IsTaken who logins h wires v k p.wire (ResumeAt q n) }
