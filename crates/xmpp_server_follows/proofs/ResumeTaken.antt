@@ -247,8 +247,10 @@ parked_follows who logins h wires v k q n p s is = go is.here
   where
     its : IsOwnSession who h v q s
     its = own_session who logins h wires v k q n p s is.found
+
     off : its.row.on ≡ None
     off = sym its.live.conn ∙ is.off
+
     go : (v.here ≡ Some k) ⊎ ((has v.here k ≡ false) × ((r : Row ItemOut) → v.row ≡ Some r → r.acked ≤ n)) → IsTaken who logins h wires v k p.wire (ResumeAt q n)
     go (inl here) =
         let present = resume_is_present v k n p.conn its.row p.rest (kept_here who logins h wires v k (ResumeAt q n) p) here p.is its.is_row (first_word who logins h wires v k q n p s is.found) in
