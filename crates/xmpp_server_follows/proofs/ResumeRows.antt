@@ -91,7 +91,7 @@ pub record IsOwnSession (who : Identity) (h : Hall ItemOut) (v : View ItemOut) (
   pub counted : row.counted ≡ true
 
 module _ (who : Identity) (logins : ℕ → Login) (h : Hall ItemOut) (wires : Table ItemWire) (v : View ItemOut) (k q n : ℕ) (p : IsFirst who logins h wires v k (ResumeAt q n)) (s : Session ItemOut) (found : session_resumed (previd_of q) who.account h.sessions ≡ Some s) where
-  old : Asked v q
+  pub old : Asked v q n
   old = asked_here who logins h wires v k q n p
 
   q_low : q < 2 ^ 64

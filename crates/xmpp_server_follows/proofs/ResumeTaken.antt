@@ -1,12 +1,15 @@
 -- A session that is parked is resumed on the connection that its client works on, where fewer stanzas wait than a
 -- request is due for.
-use Rattle.std.proofs.Common.{◌≡◌, ℕ, ◌-◌, ◌≤◌, Bool, true, false, List, [], ◌∷◌, Option, Some, None, Ok, Err, cond, length, drop, nat_le, map, refl, sym, ap, subst, ◌∙◌, ◌⊎◌, inl, inr}
+use Rattle.std.proofs.Common.{◌≡◌, ℕ, ◌-◌, ◌≤◌, Bool, true, false, List, [], ◌∷◌, Option, Some, None, Ok, Err, cond, length, drop, nat_le, map, refl, sym, ap, subst, ◌∙◌, ◌⊎◌, inl, inr, if◌then◌else◌, arith, ◌++◌}
+use Rattle.std.proofs.lemmas.List.{length-append, length-drop}
 use Rattle.std.proofs.lemmas.List.Elements.{All-drop}
 use Rattle.std.proofs.lemmas.Option.{same_Some}
-use Rattle.std.specs.List.{All}
+use Rattle.std.specs.List.{All, Contains}
 use Rattle.std.specs.Option.{option_map}
 use Rattle.xmpp_acks.specs.Counters.{ahead}
 use Rattle.xmpp_acks.specs.declared.end.TheConstants.{MOST_UNACKNOWLEDGED}
+use Rattle.xmpp_acks.proofs.Directions.{kept_reached}
+use Rattle.xmpp_acks.specs.Delivery.{Direction, Reached, queue_of}
 use Rattle.xmpp_desk.specs.State.{Hall, Put, Step, conn_at, with_sessions}
 use Rattle.xmpp_desk.specs.Steps.{Act, Ask, Resume, Say, acted}
 use Rattle.xmpp_desk.specs.Streams.{parting_where}
@@ -20,7 +23,7 @@ use Rattle.xmpp_item_worlds.specs.ItemPipes.{ItemWire}
 use Rattle.xmpp_item_worlds.specs.ItemWorlds.{itself}
 use Rattle.xmpp_links.proofs.Entries.{Entry, New, Old, entry}
 use Rattle.xmpp_links.proofs.Promised.{resume_is_present}
-use Rattle.xmpp_links.specs.Machine.{TakesResume}
+use Rattle.xmpp_links.specs.Machine.{LinkMove, LinkMoves, TakesLateResume, TakesResume}
 use Rattle.xmpp_links.specs.Promises.{IsWithin}
 use Rattle.xmpp_links.specs.SessionMoves.{resumed_if, resumed_words}
 use Rattle.xmpp_links.specs.Stages.{Conn}
@@ -36,7 +39,7 @@ use Rattle.xmpp_resume.specs.Previds.{previd_of}
 use Rattle.xmpp_resume.specs.declared.answers.ResumeFault.TheVariants.{TooHigh}
 use Rattle.xmpp_server_follows.proofs.HandMoves.{kept_here, open_here}
 use Rattle.xmpp_server_follows.proofs.Resuming.{Comes, moved, moved_named, moved_seat, moved_was, named_moved, rule_moved}
-use Rattle.xmpp_server_follows.proofs.ResumeRows.{IsOwnSession, asked_so, asked_where, numbered, own_session, resumed_row, resumes_comes, said, within_so}
+use Rattle.xmpp_server_follows.proofs.ResumeRows.{IsOwnSession, asked_so, asked_where, numbered, old, own_session, resumed_row, resumes_comes, said, within_so}
 use Rattle.xmpp_server_follows.proofs.SessionRows.{asked_row, asks_keeps, fewer}
 use Rattle.xmpp_server_follows.proofs.Sessions.{taken, taken_client, taken_pipes}
 use Rattle.xmpp_server_follows.proofs.Standing.{stands_at}
@@ -47,6 +50,16 @@ use Rattle.xmpp_wire_steps.proofs.Emitted.{puts_at}
 use Rattle.xmpp_wire_steps.proofs.Found.{change_here, found_is}
 use Rattle.xmpp_wire_steps.proofs.Servings.{Known, known_altered, known_same, session_shows}
 use Rattle.xmpp_writer.specs.Items.{ItemOut}
+
+within_stated : (d : Direction ItemOut) (acked n : ℕ) (queue : List ItemOut) → Reached d → acked ≡ d.acked → queue ≡ queue_of d → acked ≤ n → Contains d.stated n → IsWithin acked queue n
+within_stated d acked n queue reached same is low stated =
+    let k = kept_reached d reached in
+    let top = k.stated n stated in
+    let all = ap length k.front.1 in
+    let a = length-append (d.got ++ d.way) k.front.0 in
+    let b = length-append d.got d.way in
+    let q : length queue ≡ length d.put - d.acked = ap length is ∙ length-drop d.acked d.put in
+    record { low = low; high = omega arith }
 
 -- the words of stanzas are the stanzas
 stanza_items : (who : Identity) (x : Login) (k : ℕ) (behind : Bool) (zs : List ItemOut) → map (down_item who x k behind) (map Down (map St zs)) ≡ zs
@@ -184,30 +197,62 @@ module _ (who : Identity) (logins : ℕ → Login) (h : Hall ItemOut) (wires : T
         ∙ ap (λ c. resumed_item row.number c ∷ resent hh s) own.live.handled
         ∙ ap (λ l. resumed_item row.number (told_count row.handled) ∷ l) (r.waiting ∙ sym (stanza_items who (logins k) k (is_behind_login p.conn.client) (drop (n - row.acked) row.queue)))
 
+    module _ (move : LinkMove ItemOut) (g : ℕ → links.Session ItemOut → links.Session ItemOut) where
+      abbrev next : View ItemOut
+      next = record v { conns = with_at k attached v.conns; row = Some after; sessions = alter g v.sessions }
+
+      back_by : LinkMoves move v next → IsTaken who logins h wires v k p.wire (ResumeAt q n)
+      back_by leads =
+          let first_shows = back_shows (alter g v.sessions) (known_altered g v) in
+          let few_left : length after.queue ≤ MOST_UNACKNOWLEDGED = fewer (n - row.acked) MOST_UNACKNOWLEDGED row.queue few in
+          subst (StepFollows who logins wires v k p.wire) (sym back_step) (record {
+            moves = move ∷ [];
+            next = next;
+            leads = (next, leads, refl);
+            server =
+                subst (λ m. ServerShows who logins (with_sessions (with_session m (asks false) back_hall.sessions) back_hall) next) (sym own.live.number)
+                (session_shows who logins back_hall next after after (asks false) (alter g v.sessions) (known_same next) first_shows refl (asks_keeps false) (asked_row false after) (λ t is. subst (λ z. length z ≤ MOST_UNACKNOWLEDGED) (sym is.waiting) few_left));
+            pipes =
+                taken_pipes who logins h wires v k (ResumeAt q n) p (AtSession row.number) puts (resumed_item s.shown.number s.handled ∷ resent hh s) next (λ j. refl) items_are
+                (subst (All IsForClient) (sym (stanzas_so (drop (n - row.acked) row.queue))) (All-drop IsForClient (n - row.acked) row.queue own.live.for_client));
+            client = taken_client who logins h wires v k (ResumeAt q n) p (AtSession row.number) puts next refl refl refl refl;
+          })
+
     pub back_follows : v.here ≡ Some k → IsTaken who logins h wires v k p.wire (ResumeAt q n)
     back_follows here =
-        let g : ℕ → links.Session ItemOut → links.Session ItemOut = λ m t. resumed_if (has (Some row.number) m) (is_flowing p.conn.wires) t in
-        let sessions : Table (links.Session ItemOut) = alter g v.sessions in
-        let next : View ItemOut = record v { conns = with_at k attached v.conns; row = Some after; sessions = sessions } in
-        let first_shows = back_shows sessions (known_altered g v) in
-        let few_left : length after.queue ≤ MOST_UNACKNOWLEDGED = fewer (n - row.acked) MOST_UNACKNOWLEDGED row.queue few in
-        subst (StepFollows who logins wires v k p.wire) (sym back_step) (record {
-          moves = TakesResume k ∷ [];
-          next = next;
-          leads = (next, record { conn = p.conn; here = here; is = p.is; h = n; row = row; is_row = own.is_row; off = parked; counted = own.counted; rest = p.rest; first = first_word; gives = refl }, refl);
-          server =
-              subst (λ m. ServerShows who logins (with_sessions (with_session m (asks false) back_hall.sessions) back_hall) next) (sym own.live.number)
-              (session_shows who logins back_hall next after after (asks false) sessions (known_same next) first_shows refl (asks_keeps false) (asked_row false after) (λ t is. subst (λ z. length z ≤ MOST_UNACKNOWLEDGED) (sym is.waiting) few_left));
-          pipes =
-              taken_pipes who logins h wires v k (ResumeAt q n) p (AtSession row.number) puts (resumed_item s.shown.number s.handled ∷ resent hh s) next (λ j. refl) items_are
-              (subst (All IsForClient) (sym (stanzas_so (drop (n - row.acked) row.queue))) (All-drop IsForClient (n - row.acked) row.queue own.live.for_client));
-          client = taken_client who logins h wires v k (ResumeAt q n) p (AtSession row.number) puts next refl refl refl refl;
+        back_by (TakesResume k) (λ m t. resumed_if (has (Some row.number) m) (is_flowing p.conn.wires) t)
+        (record { conn = p.conn; here = here; is = p.is; h = n; row = row; is_row = own.is_row; off = parked; counted = own.counted; rest = p.rest; first = first_word; gives = refl })
+
+    pub back_late : has v.here k ≡ false → IsTaken who logins h wires v k p.wire (ResumeAt q n)
+    back_late left =
+        back_by (TakesLateResume k) (λ m t. record t {
+          up = record t.up { stated = if has (Some row.number) m then t.up.stated ++ length t.up.got ∷ [] else t.up.stated };
+          down = record t.down { acked = if has (Some row.number) m then n else t.down.acked };
         })
+        (record { conn = p.conn; left = left; is = p.is; h = n; row = row; is_row = own.is_row; off = parked; counted = own.counted; low = within.low; rest = p.rest; first = first_word; gives = refl })
+
+  -- what a late word states was handled
+  pub late_within : row.acked ≤ n → IsWithin row.acked row.queue n
+  late_within low =
+      let kept = kept_here who logins h wires v k (ResumeAt q n) p in
+      let r = kept.row row own.is_row in
+      let asked = old who logins h wires v k q n p s found in
+      let same : r.session ≡ asked.session = same_Some r.session asked.session (sym r.is ∙ ap v.sessions (sym own.live.number ∙ own.number) ∙ asked.there) in
+      let stated : Contains r.session.down.stated n = subst (λ (t : links.Session ItemOut). Contains t.down.stated n) (sym same) asked.stated in
+      within_stated r.session.down row.acked n row.queue (kept.sessions row.number r.session r.is).down r.acked r.queue low stated
 
 pub parked_follows : (who : Identity) (logins : ℕ → Login) (h : Hall ItemOut) (wires : Table ItemWire) (v : View ItemOut) (k q n : ℕ) (p : IsFirst who logins h wires v k (ResumeAt q n)) (s : Session ItemOut) → IsParkedHere who h v k q n s
     → IsTaken who logins h wires v k p.wire (ResumeAt q n)
-parked_follows who logins h wires v k q n p s is =
-    let its = own_session who logins h wires v k q n p s is.found in
-    let first = first_word who logins h wires v k q n p s is.found in
-    let present = resume_is_present v k n p.conn its.row p.rest (kept_here who logins h wires v k (ResumeAt q n) p) is.here p.is its.is_row first in
-    back_follows who logins h wires v k q n p s is.found (sym its.live.conn ∙ is.off) present.3 is.few is.here
+parked_follows who logins h wires v k q n p s is = go is.here
+  where
+    its : IsOwnSession who h v q s
+    its = own_session who logins h wires v k q n p s is.found
+
+    off : its.row.on ≡ None
+    off = sym its.live.conn ∙ is.off
+
+    go : (v.here ≡ Some k) ⊎ ((has v.here k ≡ false) × ((r : Row ItemOut) → v.row ≡ Some r → r.acked ≤ n)) → IsTaken who logins h wires v k p.wire (ResumeAt q n)
+    go (inl here) =
+        let present = resume_is_present v k n p.conn its.row p.rest (kept_here who logins h wires v k (ResumeAt q n) p) here p.is its.is_row (first_word who logins h wires v k q n p s is.found) in
+        back_follows who logins h wires v k q n p s is.found off present.3 is.few here
+    go (inr late) = back_late who logins h wires v k q n p s is.found off (late_within who logins h wires v k q n p s is.found (late.1 its.row its.is_row)) is.few late.0

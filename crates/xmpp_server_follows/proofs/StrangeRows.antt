@@ -3,6 +3,7 @@ use Rattle.std.proofs.Common.{◌≡◌, ℕ, true, List, [], ◌∷◌, Some, N
 use Rattle.std.proofs.Math.Nat.{mod-lt}
 use Rattle.std.proofs.lemmas.List.Elements.{All-nil}
 use Rattle.std.proofs.lemmas.Option.{same_Some}
+use Rattle.std.specs.List.{Contains}
 use Rattle.std.specs.Option.{option_map}
 use Rattle.xmpp_desk.specs.State.{Hall}
 use Rattle.xmpp_desk.specs.Steps.{acted}
@@ -46,10 +47,11 @@ use Rattle.xmpp_wire_steps.proofs.Servings.{known_same, live_of, row_shows}
 use Rattle.xmpp_writer.specs.Items.{ItemOut}
 
 -- what the word for a resumption tells of the sessions: it was stated by a client that read that it is counted
-pub record Asked (v : View ItemOut) (q : ℕ) : Type 0 where
+pub record Asked (v : View ItemOut) (q n : ℕ) : Type 0 where
   pub session : links.Session ItemOut
   pub there : v.sessions q ≡ Some session
   pub read : session.read ≡ true
+  pub stated : Contains session.down.stated n
 
 module _ (who : Identity) (logins : ℕ → Login) (h : Hall ItemOut) (wires : Table ItemWire) (v : View ItemOut) (k q n : ℕ) (p : IsFirst who logins h wires v k (ResumeAt q n)) where
   kept : LinkKept v
@@ -61,13 +63,13 @@ module _ (who : Identity) (logins : ℕ → Login) (h : Hall ItemOut) (wires : T
   pub none_here : session_at k h.sessions ≡ None
   none_here = unseated who logins h v kept p.server k p.conn p.is (ap (λ at. on_phase at p.conn.ending p.conn.gone) ready)
 
-  pub asked_here : Asked v q
+  pub asked_here : Asked v q n
   asked_here =
       let conn = kept.conns k p.conn p.is in
       let whole = whole_first p.conn.wires (ResumeAt q n) p.rest p.first in
       let stage = asks conn.stage p.conn.footed q n whole.0 (sym conn.at.up ∙ whole.1) in
       let asked = subst (IsAsked v.sessions) stage.is conn.asked in
-      record { session = asked.0; there = asked.1; read = asked.2 }
+      record { session = asked.0; there = asked.1; read = asked.2; stated = asked.3 }
 
   abbrev standing : Standing
   standing = standing_of (record { entropy = (logins k).yours; phase = phase.Ready who.account; tries = tries.Three })

@@ -1,5 +1,5 @@
 -- A word stands first on its way up: what the server does on its item is to be moves of the links.
-use Rattle.std.specs.Prelude.{◌≡◌, ◌≢◌, ◌⊎◌, ℕ, ◌+◌, ◌<◌, ◌^◌, true, false, nat_le, length, List, [], ◌∷◌, Some, None}
+use Rattle.std.specs.Prelude.{◌≡◌, ◌≢◌, ◌⊎◌, ℕ, ◌+◌, ◌<◌, ◌≤◌, ◌^◌, true, false, nat_le, length, List, [], ◌∷◌, Some, None}
 use Rattle.xmpp_desk.specs.Moments.{gone_at}
 use Rattle.xmpp_desk.specs.State.{Hall, Step}
 use Rattle.xmpp_desk.specs.declared.limits.TheConstants.{ASKS_AT}
@@ -13,7 +13,7 @@ use Rattle.xmpp_item_worlds.specs.ItemPipes.{ItemWire, handed_up, up_end_told}
 use Rattle.xmpp_item_worlds.specs.ItemWorlds.{itself, read_of}
 use Rattle.xmpp_links.specs.Machine.{LinkReached}
 use Rattle.xmpp_links.specs.Stages.{Conn}
-use Rattle.xmpp_links.specs.Views.{Table, View, with_at}
+use Rattle.xmpp_links.specs.Views.{Row, Table, View, has, with_at}
 use Rattle.xmpp_links.specs.Wires.{up_words}
 use Rattle.xmpp_links.specs.Words.{Ack, Auth, Enable, Foot, Hdr, Req, Resp, Up, UpWord}
 use Rattle.xmpp_live.specs.Sessions.{Session, resent, session_resumed}
@@ -88,11 +88,10 @@ IsHeard who logins h wires v k wire = ServerFollows who logins (gone_at k h) (wi
 abbrev pub IsStrange : Identity → Hall ItemOut → ℕ → Type 0
 IsStrange who h q = session_resumed (previd_of q) who.account h.sessions ≡ None
 
--- a session is named that is parked, on the connection that the client works on, and of its stanzas fewer are sent
--- again than
--- a request is due for
+-- a session is named that is parked, on the connection that the client works on, or late on another one with a count that is
+-- not behind the one acknowledged; and of its stanzas fewer are sent again than a request is due for
 pub record IsParkedHere (who : Identity) (h : Hall ItemOut) (v : View ItemOut) (k q n : ℕ) (s : Session ItemOut) : Type 0 where
-  pub here : v.here ≡ Some k
+  pub here : (v.here ≡ Some k) ⊎ ((has v.here k ≡ false) × ((r : Row ItemOut) → v.row ≡ Some r → r.acked ≤ n))
   pub found : session_resumed (previd_of q) who.account h.sessions ≡ Some s
   pub off : s.shown.conn ≡ None
   pub few : nat_le ASKS_AT (length (resent (told_count n) s)) ≡ false
