@@ -79,16 +79,10 @@ pub fn items_are_words()
         → StepFollows who logins (by_number w.wires) v (place + 1) wire (on_item (place + 1) i w.server) → ServerFollows who logins (served_item place i w).server (by_number (served_item place i w).wires) v }
 {}
 
-<<<<<<< HEAD
-/// A law: on a resumption of a session that is parked, on the connection that the client works on, likewise: the count
-/// that it states names a place in the queue, and what is behind that is sent again, in one move. (Where ten stanzas or
-/// more are sent again, a request goes out behind them: of that this law does not speak.)
-=======
-/// A law: on a resumption of a session that is parked likewise, on the connection that the client works on, and on another
-/// one that it left, where the count isn't behind the one acknowledged: the count names a place in the queue, and what is
-/// behind that is sent again, in one move. (Where ten stanzas or more are sent again, a request goes out behind them: of
-/// that this law does not speak.)
->>>>>>> c90a281a4db83131854cc9087081a710811d4948
+/// A law: on a resumption of a session that is parked likewise, on the connection that the client works on, and on
+/// another one that it left, where the count isn't behind the one acknowledged: the count names a place in the queue,
+/// and what is behind that is sent again, in one move. (Where ten stanzas or more are sent again, a request goes out
+/// behind them: of that this law does not speak.)
 pub fn parked_resumptions_follow()
     ensures { (who : Identity) (logins : ℕ → Login) (h : Hall ItemOut) (wires : Table ItemWire) (v : View ItemOut) (k q n : ℕ) (p : IsFirst who logins h wires v k (ResumeAt q n)) (s : Session ItemOut) → IsParkedHere who h v k q n s
         → IsTaken who logins h wires v k p.wire (ResumeAt q n) }
