@@ -5,3 +5,5 @@
 mod generated;
 #[cfg(test)]
 mod reports;
+#[cfg(test)]
+mod runs;
