@@ -1,6 +1,8 @@
 -- Each move of bytes is moves of items, and so is each history.
 use Rattle.std.proofs.Common.{◌≡◌, ℕ, zero, suc, ◌+◌, true, false, List, [], ◌∷◌, ◌++◌, Option, Some, None, map, length, refl, sym, subst, ◌∙◌}
+use Rattle.std.proofs.lemmas.Bool.{and_parts}
 use Rattle.std.specs.List.{AllByRecursion, slice_get}
+use Rattle.std.specs.Prelude.{IsTrue}
 use Rattle.xmpp_client_rows.specs.Clients.{ClientView}
 use Rattle.xmpp_desk.specs.State.{Hall}
 use Rattle.xmpp_edge.specs.Names.{place_of}
@@ -22,8 +24,9 @@ use Rattle.xmpp_item_worlds.specs.ItemMoves as items
 use Rattle.xmpp_item_worlds.specs.ItemPipes.{ItemWire}
 use Rattle.xmpp_item_worlds.specs.ItemWorlds.{ItemWorld}
 use Rattle.xmpp_schedule.specs.Contents.{Owned, owned_in}
-use Rattle.xmpp_schedule.specs.Schedules.{WireView}
-use Rattle.xmpp_schedule.specs.WireGrammar.{IsWireSchedule}
+use Rattle.xmpp_schedule.specs.Grammar.{is_text}
+use Rattle.xmpp_schedule.specs.Schedules.{WireView, wire_steps_of}
+use Rattle.xmpp_schedule.specs.WireGrammar.{AreRunnable, IsWireSchedule, WireAbove, above_by, may_run, nothing_above}
 use Rattle.xmpp_schedule.specs.declared.schedule.Step.{Step}
 use Rattle.xmpp_schedule.specs.declared.schedule.Step.TheVariants as step
 use Rattle.xmpp_schedule.specs.declared.schedule.WireLine.{WireLine}
@@ -32,7 +35,7 @@ use Rattle.xmpp_schedule.specs.declared.schedule.WireStep.TheVariants as wire
 use Rattle.xmpp_server.specs.Events.{framer_at}
 use Rattle.xmpp_wires.specs.Places.{place_under}
 use Rattle.xmpp_wires.specs.declared.wire.Wire.{Wire}
-use Rattle.xmpp_world.proofs.Traces.{may_follow}
+use Rattle.xmpp_world.proofs.Traces.{may_follow, may_run_all}
 use Rattle.xmpp_world.specs.Histories.{common_steps, history_of, owned_at_start, world_at_start, worlds_along, worlds_by}
 use Rattle.xmpp_world.specs.Lines.{common_moves, move_of, moves_of, passes_of, passes_where, round_from, rounds_of, step_moves, stepped}
 use Rattle.xmpp_world.specs.Moves as bytes
@@ -63,24 +66,50 @@ of_rounds : (times count : ℕ) → AllByRecursion MayMove (rounds_of times coun
 of_rounds zero count = tt
 of_rounds (suc times) count = all_joined MayMove (round_from 0 count) (rounds_of times count) (of_round 0 count) (of_rounds times count)
 
-of_common : (s : Step) (w : World) (line : ℕ) → MayStep (wire.Common s) w → AllByRecursion MayMove (common_moves w.names line s)
-of_common (step.Account name) w line may = tt
-of_common (step.Device name account) w line may = tt
-of_common (step.Say device to text) w line may = of_place (λ place. bytes.Say place line to text false) (λ place. may) (place_of device w.names)
-of_common (step.Private device to text) w line may = of_place (λ place. bytes.Say place line to text true) (λ place. may) (place_of device w.names)
-of_common (step.Catchup device most) w line may = of_place (λ place. bytes.CatchUp place line most) (λ place. may) (place_of device w.names)
-of_common (step.Tick milliseconds) w line may = (tt, tt)
+-- the text of a message is one
+abbrev MaySay : WireStep → Type 0
+MaySay (wire.Common (step.Say device to text)) = IsTrue (is_text text)
+MaySay (wire.Common (step.Private device to text)) = IsTrue (is_text text)
+MaySay s = Unit {0}
 
-of_step : (s : WireStep) (w : World) (line : ℕ) → MayStep s w → AllByRecursion MayMove (step_moves w.names (length w.wires) line s)
-of_step (wire.Common s) w line may = of_common s w line may
-of_step (wire.Dial device) w line may = of_place bytes.Dial (λ place. tt) (place_of device w.names)
-of_step (wire.Forget device) w line may = of_place bytes.Forget (λ place. tt) (place_of device w.names)
-of_step (wire.Close device) w line may = of_place bytes.Close (λ place. tt) (place_of device w.names)
-of_step (wire.Up k count) w line may = of_place (λ place. bytes.Up place count) (λ place. tt) (place_under k)
-of_step (wire.Down k count) w line may = of_place (λ place. bytes.Down place count) (λ place. tt) (place_under k)
-of_step (wire.Cut k up down) w line may = of_place (λ place. bytes.Cut place up down) (λ place. tt) (place_under k)
-of_step (wire.Pass k times) w line may = of_passes_where times (place_under k)
-of_step (wire.Run times) w line may = of_rounds times (length w.wires)
+runnable_says : (s : WireStep) (above : WireAbove) → IsTrue (may_run above s) → MaySay s
+runnable_says (wire.Common (step.Say device to text)) above may = (and_parts _ _ may).1
+runnable_says (wire.Common (step.Private device to text)) above may = (and_parts _ _ may).1
+runnable_says (wire.Common (step.Account name)) above may = tt
+runnable_says (wire.Common (step.Device name account)) above may = tt
+runnable_says (wire.Common (step.Catchup device most)) above may = tt
+runnable_says (wire.Common (step.Tick milliseconds)) above may = tt
+runnable_says (wire.Dial device) above may = tt
+runnable_says (wire.Forget device) above may = tt
+runnable_says (wire.Close device) above may = tt
+runnable_says (wire.Up k count) above may = tt
+runnable_says (wire.Down k count) above may = tt
+runnable_says (wire.Cut k up down) above may = tt
+runnable_says (wire.Pass k times) above may = tt
+runnable_says (wire.Run times) above may = tt
+
+all_say : (lines : List WireLine) (above : WireAbove) → AreRunnable above (wire_steps_of lines) → AllByRecursion (λ (line : WireLine). MaySay line.step) lines
+all_say [] above run = tt
+all_say (line ∷ lines) above run = (runnable_says line.step above run.0, all_say lines (above_by line.step above) run.1)
+
+of_common : (s : Step) (w : World) (line : ℕ) → MayStep (wire.Common s) w → MaySay (wire.Common s) → AllByRecursion MayMove (common_moves w.names line s)
+of_common (step.Account name) w line may says = tt
+of_common (step.Device name account) w line may says = tt
+of_common (step.Say device to text) w line may says = of_place (λ place. bytes.Say place line to text false) (λ place. (may, says)) (place_of device w.names)
+of_common (step.Private device to text) w line may says = of_place (λ place. bytes.Say place line to text true) (λ place. (may, says)) (place_of device w.names)
+of_common (step.Catchup device most) w line may says = of_place (λ place. bytes.CatchUp place line most) (λ place. may) (place_of device w.names)
+of_common (step.Tick milliseconds) w line may says = (tt, tt)
+
+of_step : (s : WireStep) (w : World) (line : ℕ) → MayStep s w → MaySay s → AllByRecursion MayMove (step_moves w.names (length w.wires) line s)
+of_step (wire.Common s) w line may says = of_common s w line may says
+of_step (wire.Dial device) w line may says = of_place bytes.Dial (λ place. tt) (place_of device w.names)
+of_step (wire.Forget device) w line may says = of_place bytes.Forget (λ place. tt) (place_of device w.names)
+of_step (wire.Close device) w line may says = of_place bytes.Close (λ place. tt) (place_of device w.names)
+of_step (wire.Up k count) w line may says = of_place (λ place. bytes.Up place count) (λ place. tt) (place_under k)
+of_step (wire.Down k count) w line may says = of_place (λ place. bytes.Down place count) (λ place. tt) (place_under k)
+of_step (wire.Cut k up down) w line may says = of_place (λ place. bytes.Cut place up down) (λ place. tt) (place_under k)
+of_step (wire.Pass k times) w line may says = of_passes_where times (place_under k)
+of_step (wire.Run times) w line may says = of_rounds times (length w.wires)
 
 -- ---- the start
 
@@ -132,7 +161,7 @@ module _ (UpFits DownFits : ItemOut → Type 0) (HallFits : ℕ → Hall ItemOut
     move_is (bytes.Dial device) w v may i = dial_is UpFits DownFits HallFits ClientFits cores device w v i
     move_is (bytes.Forget device) w v may i = forget_is UpFits DownFits HallFits ClientFits cores device w v i
     move_is (bytes.Close device) w v may i = close_is UpFits DownFits HallFits ClientFits cores device w v i
-    move_is (bytes.Say device line to text private) w v may i = say_is UpFits DownFits HallFits ClientFits cores device line to text private w v may i
+    move_is (bytes.Say device line to text private) w v may i = say_is UpFits DownFits HallFits ClientFits cores device line to text private w v may.0 may.1 i
     move_is (bytes.CatchUp device line most) w v may i = catch_up_is UpFits DownFits HallFits ClientFits cores device line most w v may.0 may.1 i
     move_is (bytes.Tick milliseconds) w v may i = tick_is UpFits DownFits HallFits ClientFits cores milliseconds w v i
     move_is (bytes.Up place count) w v may i = up_is UpFits DownFits HallFits ClientFits cores place count w v i
@@ -156,16 +185,16 @@ module _ (UpFits DownFits : ItemOut → Type 0) (HallFits : ℕ → Hall ItemOut
         let more = along_moves ms start (moved m w) may.1 one in
         ((one, more.0), more.1)
 
-    along_lines : (lines : List WireLine) (start : ItemWorld) (w : World) → MayAllStep lines w → Reached start w → AllByRecursion (Reached start) (worlds_along lines w)
-    along_lines [] start w may r = tt
-    along_lines (line ∷ lines) start w may r =
-        let here = along_moves (moves_of line w) start w (of_step line.step w line.number may.0) r in
-        all_joined (Reached start) (worlds_by (moves_of line w) w) (worlds_along lines (stepped line w)) here.0 (along_lines lines start (stepped line w) may.1 here.1)
+    along_lines : (lines : List WireLine) (start : ItemWorld) (w : World) → MayAllStep lines w → AllByRecursion (λ (line : WireLine). MaySay line.step) lines → Reached start w → AllByRecursion (Reached start) (worlds_along lines w)
+    along_lines [] start w may says r = tt
+    along_lines (line ∷ lines) start w may says r =
+        let here = along_moves (moves_of line w) start w (of_step line.step w line.number may.0 says.0) r in
+        all_joined (Reached start) (worlds_by (moves_of line w) w) (worlds_along lines (stepped line w)) here.0 (along_lines lines start (stepped line w) may.1 says.1 here.1)
 
     pub history_is : (schedule : WireView) → IsWireSchedule schedule → StartFits HallFits ClientFits schedule → AllByRecursion (IsReached UpFits DownFits HallFits ClientFits (items_at_start schedule)) (history_of schedule)
     history_is schedule is fits =
         let start : Reached (items_at_start schedule) (world_at_start schedule) = record { moves = []; image = start_image schedule fits } in
-        (start, along_lines schedule.lines (items_at_start schedule) (world_at_start schedule) (may_follow schedule (world_at_start schedule) is refl) start)
+        (start, along_lines schedule.lines (items_at_start schedule) (world_at_start schedule) (may_follow schedule (world_at_start schedule) is refl) (all_say schedule.lines nothing_above (may_run_all schedule is)) start)
 
     -- ---- worlds of bytes beside those of items
 
@@ -179,10 +208,10 @@ module _ (UpFits DownFits : ItemOut → Type 0) (HallFits : ℕ → Hall ItemOut
         let h = move_is m w v may.0 i in
         (m, refl, (h, go_by ms rest (moved m w) (items.all_moved h.moves v) may.1 h.image more))
 
-    go_along : (lines : List WireLine) (w : World) (v : ItemWorld) → MayAllStep lines w → WorldImage UpFits DownFits HallFits ClientFits w v → Go (worlds_along lines w) w v
-    go_along [] w v may i = tt
-    go_along (line ∷ lines) w v may i =
-        go_by (moves_of line w) (worlds_along lines (stepped line w)) w v (of_step line.step w line.number may.0) i (λ x j. go_along lines (stepped line w) x may.1 j)
+    go_along : (lines : List WireLine) (w : World) (v : ItemWorld) → MayAllStep lines w → AllByRecursion (λ (line : WireLine). MaySay line.step) lines → WorldImage UpFits DownFits HallFits ClientFits w v → Go (worlds_along lines w) w v
+    go_along [] w v may says i = tt
+    go_along (line ∷ lines) w v may says i =
+        go_by (moves_of line w) (worlds_along lines (stepped line w)) w v (of_step line.step w line.number may.0 says.0) i (λ x j. go_along lines (stepped line w) x may.1 says.1 j)
 
     pub beside_is : (schedule : WireView) → IsWireSchedule schedule → StartFits HallFits ClientFits schedule → Go (worlds_along schedule.lines (world_at_start schedule)) (world_at_start schedule) (items_at_start schedule)
-    beside_is schedule is fits = go_along schedule.lines (world_at_start schedule) (items_at_start schedule) (may_follow schedule (world_at_start schedule) is refl) (start_image schedule fits)
+    beside_is schedule is fits = go_along schedule.lines (world_at_start schedule) (items_at_start schedule) (may_follow schedule (world_at_start schedule) is refl) (all_say schedule.lines nothing_above (may_run_all schedule is)) (start_image schedule fits)

@@ -40,7 +40,7 @@ use Rattle.xmpp_item_worlds.specs.ItemPipes as pipes
 use Rattle.xmpp_item_worlds.specs.ItemPipes.{ItemPipe, ItemWire}
 use Rattle.xmpp_item_worlds.specs.ItemWorlds.{ItemDevice, ItemWorld, silent_turn}
 use Rattle.xmpp_report.specs.Addresses.{bare_address}
-use Rattle.xmpp_schedule.specs.Grammar.{is_name}
+use Rattle.xmpp_schedule.specs.Grammar.{is_name, is_text}
 use Rattle.xmpp_server.specs.Events.{framer_at}
 use Rattle.xmpp_wires.specs.Places.{changed_at, changed_where}
 use Rattle.xmpp_wires.specs.Wires.{left, put_up}
@@ -213,15 +213,15 @@ module _ (UpFits DownFits : ItemOut → Type 0) (HallFits : ℕ → Hall ItemOut
   abbrev Submitted : ℕ → ℕ → List ℕ → List ℕ → Bool → World → ItemWorld → Option DeviceState → Option ItemDevice → Type 0
   Submitted i line to text private w v od oe = WorldImage UpFits DownFits HallFits ClientFits (said_by i line to text private od w) (items.said_by i (bare_address to) text private oe v)
 
-  pub say_is : (i line : ℕ) (to text : List ℕ) (private : Bool) (w : World) (v : ItemWorld) → IsTrue (is_name to) → WorldImage UpFits DownFits HallFits ClientFits w v → IsMoved UpFits DownFits HallFits ClientFits (Say i line to text private) w v
-  say_is i line to text private w v name image = record { moves = items.Say i (bare_address to) text private ∷ []; is_run = refl; image = by (slice_get w.devices i) (slice_get v.devices i) refl refl (image.devices i) }
+  pub say_is : (i line : ℕ) (to text : List ℕ) (private : Bool) (w : World) (v : ItemWorld) → IsTrue (is_name to) → IsTrue (is_text text) → WorldImage UpFits DownFits HallFits ClientFits w v → IsMoved UpFits DownFits HallFits ClientFits (Say i line to text private) w v
+  say_is i line to text private w v name plain image = record { moves = items.Say i (bare_address to) text private ∷ []; is_run = refl; image = by (slice_get w.devices i) (slice_get v.devices i) refl refl (image.devices i) }
     where
       answered : (d : DeviceState) (e : ItemDevice) → slice_get w.devices i ≡ Some d → slice_get v.devices i ≡ Some e → DeviceImage ClientFits d e → (a : Result ℕ SayFault) → say_answer e.client text ≡ a
           → WorldImage UpFits DownFits HallFits ClientFits (spoke i d.here (devices.says_by line (bare_address to) text private a d) w) (items.said_in a i e (says in_items (silent_turn e.client) (bare_address to) text private) v)
       answered d e found found_item h (Ok n) ok =
           let t = says in_items (silent_turn e.client) (bare_address to) text private in
           subst (λ (u : Turn (List ℕ) ℕ). WorldImage UpFits DownFits HallFits ClientFits (spoke i d.here (devices.after_turn u d) w) (items.spoke i e t v)) (sym (ap (λ u. says in_bytes u (bare_address to) text private) (silent_is d e h) ∙ said_is e.client (bare_address to) text private n ok))
-          (spoke_image w v i d e t found found_item h (says_phase e.client (bare_address to) text private) (cores.says_so to text private n e.client h.fits name ok) image)
+          (spoke_image w v i d e t found found_item h (says_phase e.client (bare_address to) text private) (cores.says_so to text private n e.client h.fits name plain ok) image)
       answered d e found found_item h (Err f) refused =
           let same = say_refused_same line f d in
           refused_image w v i d (devices.say_refused line f d) e found found_item h same.0 same.1 image

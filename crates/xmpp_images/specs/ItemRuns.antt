@@ -3,7 +3,7 @@ use Rattle.std.specs.Prelude.{ℕ, zero, suc, ◌≡◌, ◌≤◌, ◌⊎◌, B
 use Rattle.xmpp_item_worlds.specs.ItemMoves as items
 use Rattle.xmpp_item_worlds.specs.ItemMoves.{ItemMove}
 use Rattle.xmpp_report.specs.Addresses.{bare_address}
-use Rattle.xmpp_schedule.specs.Grammar.{is_name}
+use Rattle.xmpp_schedule.specs.Grammar.{is_name, is_text}
 use Rattle.xmpp_world.specs.Moves as bytes
 use Rattle.xmpp_world.specs.Moves.{Move}
 use Rattle.xmpp_world.specs.Worlds.{client_entropy, server_entropy}
@@ -38,8 +38,8 @@ IsRunOf (bytes.Up place amount) ms = (first : List ItemMove) × (ended : Bool) �
 IsRunOf (bytes.Down place amount) ms = (count : ℕ) × (ended : Bool) × (ms ≡ downs place count ++ moved_where (items.DownEnd place) ended)
 IsRunOf (bytes.Cut place up down) ms = (i j : ℕ) × (ms ≡ items.Cut place i j ∷ [])
 
--- what is asked of a move: a message is for a name, and a page has 1 to 100 results
+-- what is asked of a move: a message is for a name and has a text, and a page has 1 to 100 results
 abbrev pub MayMove : Move → Type 0
-MayMove (bytes.Say device line to text private) = IsTrue (is_name to)
+MayMove (bytes.Say device line to text private) = IsTrue (is_name to) × IsTrue (is_text text)
 MayMove (bytes.CatchUp device line most) = (1 ≤ most) × (most ≤ 100)
 MayMove m = Unit {0}

@@ -17,7 +17,7 @@ use Rattle.xmpp_framing.specs.Limits.{client_limits, server_limits}
 use Rattle.xmpp_item_worlds.specs.ItemMoves.{fed_of, step_of}
 use Rattle.xmpp_item_worlds.specs.ItemWorlds.{itself, read_of, silent_turn}
 use Rattle.xmpp_report.specs.Addresses.{bare_address}
-use Rattle.xmpp_schedule.specs.Grammar.{is_name}
+use Rattle.xmpp_schedule.specs.Grammar.{is_name, is_text}
 use Rattle.xmpp_server.specs.Table.{after_item}
 use Rattle.xmpp_world.specs.Worlds.{client_entropy, server_entropy}
 use Rattle.xmpp_writer.specs.Items.{Closing, ItemOut}
@@ -40,7 +40,7 @@ pub record CoresKeep (UpFits DownFits : ItemOut → Type 0) (HallKeeps : Hall It
   pub loses : (c : ClientView ItemOut) → ClientFits c → ClientFits (leaves (fed_of c)).turn.client
   pub forgets_so : (c : ClientView ItemOut) → ClientFits c → ClientFits (forgets in_items (fed_of c)).turn.client
   pub hears : (i : ItemOut) (c : ClientView ItemOut) → ClientFits c → DownFits i → HeardFits UpFits ClientFits (item_step in_items (silent_turn c) (read_of i))
-  pub says_so : (name text : List ℕ) (private : Bool) (n : ℕ) (c : ClientView ItemOut) → ClientFits c → IsTrue (is_name name) → say_answer c text ≡ Ok n
+  pub says_so : (name text : List ℕ) (private : Bool) (n : ℕ) (c : ClientView ItemOut) → ClientFits c → IsTrue (is_name name) → IsTrue (is_text text) → say_answer c text ≡ Ok n
       → TurnFits UpFits ClientFits (says in_items (silent_turn c) (bare_address name) text private)
   pub catches_up_so : (most : ℕ) (c : ClientView ItemOut) → ClientFits c → 1 ≤ most → most ≤ 100 → catch_up_answer c ≡ Ok tt
       → TurnFits UpFits ClientFits (catches_up in_items (silent_turn c) most)
