@@ -1,0 +1,11 @@
+pub mod UpComes
+pub mod Waiting
+pub mod Starts
+pub mod Keeping
+-- the client
+pub mod MildItems
+pub mod MildRows
+pub mod MildSteps
+-- the server
+pub mod AnsweredItems
+pub mod AnsweredSteps
