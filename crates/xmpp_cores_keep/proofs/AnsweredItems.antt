@@ -38,7 +38,7 @@ use Rattle.xmpp_trees.specs.Trees.{Elem, Nodes, child, joined, name_of, no_nodes
 other_name : (e : Elem) (name : List ℕ) → bytes_eq (name_of e) name ≡ false → name_of e ≡ name → ⊥
 other_name e name other same = unlike (bytes_eq (name_of e) name) other ((bytes_eq-Decides (name_of e) name).1 same)
 
-not_this : {V : Type 0} (b : Bool) (r : Result V ExtFault) (v : V) → b ≡ false → where_this b r ≡ Ok v → ⊥
+pub not_this : {V : Type 0} (b : Bool) (r : Result V ExtFault) (v : V) → b ≡ false → where_this b r ≡ Ok v → ⊥
 not_this true r v other is = absurd (cc other)
 not_this false r v other is = cc is
 
@@ -47,16 +47,16 @@ pub record IsNoStanza (e : Elem) : Type 0 where
   pub message : bytes_eq (name_of e) (codes "message") ≡ false
   pub iq : bytes_eq (name_of e) (codes "iq") ≡ false
 
-no_request : (e : Elem) → bytes_eq (name_of e) (codes "iq") ≡ false → (q : IqView) → stanza_of e ≡ Ok (Iq q) → ⊥
+pub no_request : (e : Elem) → bytes_eq (name_of e) (codes "iq") ≡ false → (q : IqView) → stanza_of e ≡ Ok (Iq q) → ⊥
 no_request e other q is = other_name e (codes "iq") other ((iq_law e q).0 is).named.1
 
-no_message : (e : Elem) → bytes_eq (name_of e) (codes "message") ≡ false → (m : MessageView) → stanza_of e ≡ Ok (Message m) → ⊥
+pub no_message : (e : Elem) → bytes_eq (name_of e) (codes "message") ≡ false → (m : MessageView) → stanza_of e ≡ Ok (Message m) → ⊥
 no_message e other m is = other_name e (codes "message") other ((message_law e m).0 is).named.1
 
-no_enabled : (e : Elem) → bytes_eq (name_of e) (codes "enabled") ≡ false → (v : Enabled) → enabled_read e ≡ Ok v → ⊥
+pub no_enabled : (e : Elem) → bytes_eq (name_of e) (codes "enabled") ≡ false → (v : Enabled) → enabled_read e ≡ Ok v → ⊥
 no_enabled e other v is = not_this (is_management (codes "enabled") e) _ v (not_named management (codes "enabled") e other) is
 
-no_challenge : (e : Elem) → bytes_eq (name_of e) (codes "challenge") ≡ false → (payload : List ℕ) → carrier_read (codes "challenge") e ≡ Ok payload → ⊥
+pub no_challenge : (e : Elem) → bytes_eq (name_of e) (codes "challenge") ≡ false → (payload : List ℕ) → carrier_read (codes "challenge") e ≡ Ok payload → ⊥
 no_challenge e other payload is = not_this (is_sasl (codes "challenge") e) _ payload (not_named sasl (codes "challenge") e other) is
 
 -- an element of another name
@@ -131,7 +131,7 @@ carbon_other sent e other = other_first e no_nodes other refl
 
 -- ---- requests
 
-iq_answers_by : (e : Elem) (kind : List ℕ) → name_of e ≡ codes "iq" → attr_named (codes "type") e ≡ Some kind → bytes_eq kind (codes "get") ≡ false → bytes_eq kind (codes "set") ≡ false → (q : IqView) → stanza_of e ≡ Ok (Iq q) → answers_iq q.kind ≡ true → ⊥
+pub iq_answers_by : (e : Elem) (kind : List ℕ) → name_of e ≡ codes "iq" → attr_named (codes "type") e ≡ Some kind → bytes_eq kind (codes "get") ≡ false → bytes_eq kind (codes "set") ≡ false → (q : IqView) → stanza_of e ≡ Ok (Iq q) → answers_iq q.kind ≡ true → ⊥
 iq_answers_by e kind named told get set q is asks = by q.kind (same_Some kind (iq_type q.kind) (sym told ∙ ((iq_law e q).0 is).kind)) asks
   where
     by : (k : IqKind) → kind ≡ iq_type k → answers_iq k ≡ true → ⊥

@@ -9,3 +9,8 @@ pub mod MildSteps
 -- the server
 pub mod AnsweredItems
 pub mod AnsweredSteps
+pub mod AnsweredReplies
+pub mod AnsweredMessages
+pub mod AnsweredRows
+pub mod AnsweredRequests
+pub mod AnsweredEnabled
