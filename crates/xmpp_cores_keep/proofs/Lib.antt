@@ -14,3 +14,6 @@ pub mod AnsweredMessages
 pub mod AnsweredRows
 pub mod AnsweredRequests
 pub mod AnsweredEnabled
+pub mod AnsweredChallenges
+pub mod AnsweredWords
+pub mod AnsweredTable

@@ -19,20 +19,18 @@ ghost use Rattle.xmpp_world.specs.Worlds.{World};
 /// a server's limits and mild: none of its messages has a result of an archive in it, and the payload of its `auth` is
 /// short. What the server puts is within a client's limits, and a client can answer it. What a schedule begins with is
 /// among these.
-///
-/// One premise is left, of the server alone: that a client can answer what it puts, and what waits (`ServerAnswers`). That
-/// it is within a client's limits is shown.
 pub fn both_cores_keep_to_the_limits()
     ensures client { ClientIsMild }
-    ensures keep { ServerAnswers → CoresKeep UpFits DownFits HallFits ClientFits }
+    ensures server { ServerAnswers }
+    ensures keep { CoresKeep UpFits DownFits HallFits ClientFits }
     ensures start { (schedule : WireView) → IsWireSchedule schedule → StartKeeps HallFits ClientFits schedule }
 {}
 
 /// A law: each world of a wire schedule's history, of either version, is the image of a world of items that moves of items
 /// lead to from the first one. Where a connection is open in it, and a pipe of that has no bytes, no item is under way
-/// there. With the same premise.
+/// there.
 pub fn each_world_is_one_of_items()
-    ensures history { ServerAnswers → (schedule : WireView) → IsWireSchedule schedule
+    ensures history { (schedule : WireView) → IsWireSchedule schedule
         → AllByRecursion (IsReached UpFits DownFits (StandingHalls HallFits) ClientFits (items_at_start schedule)) (history_of schedule) }
     ensures up { (w : World) (v : ItemWorld) (place : ℕ) (b : Wire) (p : ItemWire) → WorldImage UpFits DownFits (StandingHalls HallFits) ClientFits w v
         → slice_get w.wires place ≡ Some b → slice_get v.wires place ≡ Some p → b.up.ended ≡ false → b.up.bytes ≡ [] → (p.up.ended ≡ false) × (p.up.items ≡ []) }

@@ -1,3 +1,4 @@
+use Rattle.xmpp_cores_keep.proofs.AnsweredTable.{what_a_server_says_is_answered}
 use Rattle.xmpp_cores_keep.proofs.Keeping.{cores_keep}
 use Rattle.xmpp_cores_keep.proofs.MildSteps.{client_is_mild}
 use Rattle.xmpp_cores_keep.proofs.Starts.{start_keeps}
@@ -9,9 +10,9 @@ use Rattle.xmpp_images.specs.Stands.{StandingHalls}
 
 pub returns : goal.returns
 returns c = record {
-  history = λ server schedule is.
+  history = λ schedule is.
       let fits = start_keeps schedule is in
-      history_is UpFits DownFits (StandingHalls HallFits) ClientFits (cores_fit UpFits DownFits HallFits ClientFits (cores_keep server client_is_mild)) schedule is
+      history_is UpFits DownFits (StandingHalls HallFits) ClientFits (cores_fit UpFits DownFits HallFits ClientFits (cores_keep what_a_server_says_is_answered client_is_mild)) schedule is
       (record { hall = (start_stands 0 _ _ _, fits.hall); clients = fits.clients });
   up = no_items_up UpFits DownFits (StandingHalls HallFits) ClientFits;
   down = no_items_down UpFits DownFits (StandingHalls HallFits) ClientFits;
