@@ -39,7 +39,6 @@ use Rattle.xmpp_login.specs.declared.negotiation.AuthAnswer.{AuthAnswer}
 use Rattle.xmpp_login.specs.declared.negotiation.AuthAnswer.TheVariants as auth
 use Rattle.xmpp_login.specs.declared.sasl_condition.SaslCondition.TheVariants as condition
 use Rattle.xmpp_payload.specs.Names.{binding}
-use Rattle.xmpp_replies.specs.Sasl.{challenge_item}
 use Rattle.xmpp_replies.specs.declared.conditions.StreamCondition.{StreamCondition}
 use Rattle.xmpp_replies.specs.declared.conditions.StreamCondition.TheVariants as stream
 use Rattle.xmpp_request_rows.specs.Requests.{request_of}

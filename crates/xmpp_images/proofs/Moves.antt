@@ -213,5 +213,12 @@ module _ (UpFits DownFits : ItemOut → Type 0) (HallFits : ℕ → Hall ItemOut
     go_along (line ∷ lines) w v may says i =
         go_by (moves_of line w) (worlds_along lines (stepped line w)) w v (of_step line.step w line.number may.0 says.0) i (λ x j. go_along lines (stepped line w) x may.1 says.1 j)
 
+    -- so many moves, of any world
+    pub moves_are : (ms : List Move) (w : World) (v : ItemWorld) → AllByRecursion MayMove ms → WorldImage UpFits DownFits HallFits ClientFits w v → Go (worlds_by ms w) w v
+    moves_are [] w v may i = tt
+    moves_are (m ∷ ms) w v may i =
+        let h = move_is m w v may.0 i in
+        (m, refl, (h, moves_are ms (moved m w) (items.all_moved h.moves v) may.1 h.image))
+
     pub beside_is : (schedule : WireView) → IsWireSchedule schedule → StartFits HallFits ClientFits schedule → Go (worlds_along schedule.lines (world_at_start schedule)) (world_at_start schedule) (items_at_start schedule)
     beside_is schedule is fits = go_along schedule.lines (world_at_start schedule) (items_at_start schedule) (may_follow schedule (world_at_start schedule) is refl) (all_say schedule.lines nothing_above (may_run_all schedule is)) (start_image schedule fits)

@@ -26,7 +26,7 @@ ghost use Rattle.xmpp_pipes.specs.Pipes.{Pipe, closed, emptied, empty_pipe, ente
 ghost use Rattle.xmpp_schedule.specs.Schedules.{WireView};
 ghost use Rattle.xmpp_schedule.specs.WireGrammar.{IsWireSchedule};
 ghost use Rattle.xmpp_wires.specs.declared.wire.Wire.{Wire};
-ghost use Rattle.xmpp_world.specs.Histories.{history_of, world_at_start, worlds_along};
+ghost use Rattle.xmpp_world.specs.Histories.{history_of, world_at_start, worlds_along, worlds_by};
 ghost use Rattle.xmpp_world.specs.Moves.{Move};
 ghost use Rattle.xmpp_world.specs.Worlds.{World};
 ghost use Rattle.xmpp_writer.specs.Items.{ItemOut, written_item};
@@ -67,14 +67,17 @@ pub fn what_a_server_puts_is_in_order()
 {}
 
 /// A law: a move of bytes is some moves of items, with the same server and the same clients but for how what waits is
-/// written: where a world of bytes is the image of a world of items, it is so behind them. `IsRunOf` says which.
+/// written: where a world of bytes is the image of a world of items, it is so behind them. `IsRunOf` says which. So it is
+/// of moves one after another, however many, from any world on.
 ///
 /// A premise is what the cores owe: that what they put fits into the limits of who reads it (`CoresKeep`), for some
 /// things, halls and clients that are among those of four families. That the server puts it in the order of a stream is
 /// shown (`HallStands`).
 pub fn a_move_is_moves_of_items<U, D, H, C>()
-    ensures { (up : U → ItemOut) (down : D → ItemOut) (hall : H → Hall ItemOut) (client : C → ClientView ItemOut) → CoresKeep (Among up) (Among down) (Among hall) (Among client) → (m : Move) (w : World) (v : ItemWorld) → MayMove m
+    ensures one { (up : U → ItemOut) (down : D → ItemOut) (hall : H → Hall ItemOut) (client : C → ClientView ItemOut) → CoresKeep (Among up) (Among down) (Among hall) (Among client) → (m : Move) (w : World) (v : ItemWorld) → MayMove m
         → WorldImage (Among up) (Among down) (StandingHalls (Among hall)) (Among client) w v → IsMoved (Among up) (Among down) (StandingHalls (Among hall)) (Among client) m w v }
+    ensures many { (up : U → ItemOut) (down : D → ItemOut) (hall : H → Hall ItemOut) (client : C → ClientView ItemOut) → CoresKeep (Among up) (Among down) (Among hall) (Among client) → (moves : List Move) (w : World) (v : ItemWorld) → AllByRecursion MayMove moves
+        → WorldImage (Among up) (Among down) (StandingHalls (Among hall)) (Among client) w v → GoBeside (Among up) (Among down) (StandingHalls (Among hall)) (Among client) (worlds_by moves w) w v }
 {}
 
 /// A law: each world of a wire schedule's history is the image of a world of items that moves of items lead to from the

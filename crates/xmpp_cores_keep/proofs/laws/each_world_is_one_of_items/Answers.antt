@@ -4,7 +4,7 @@ use Rattle.xmpp_cores_keep.proofs.MildSteps.{client_is_mild}
 use Rattle.xmpp_cores_keep.proofs.Starts.{start_keeps}
 use Rattle.xmpp_cores_keep.proofs.laws.each_world_is_one_of_items.Goals as goal
 use Rattle.xmpp_cores_keep.specs.Mild.{ClientFits, DownFits, HallFits, UpFits}
-use Rattle.xmpp_images.proofs.Moves.{history_is, no_items_down, no_items_up}
+use Rattle.xmpp_images.proofs.Moves.{history_is, moves_are, no_items_down, no_items_up}
 use Rattle.xmpp_images.proofs.ServersInOrder.{cores_fit, start_stands}
 use Rattle.xmpp_images.specs.Stands.{StandingHalls}
 
@@ -14,6 +14,7 @@ returns c = record {
       let fits = start_keeps schedule is in
       history_is UpFits DownFits (StandingHalls HallFits) ClientFits (cores_fit UpFits DownFits HallFits ClientFits (cores_keep what_a_server_says_is_answered client_is_mild)) schedule is
       (record { hall = (start_stands 0 _ _ _, fits.hall); clients = fits.clients });
+  moves = λ ms w v may i. moves_are UpFits DownFits (StandingHalls HallFits) ClientFits (cores_fit UpFits DownFits HallFits ClientFits (cores_keep what_a_server_says_is_answered client_is_mild)) ms w v may i;
   up = no_items_up UpFits DownFits (StandingHalls HallFits) ClientFits;
   down = no_items_down UpFits DownFits (StandingHalls HallFits) ClientFits;
 }
