@@ -1,5 +1,5 @@
 //! Bytes whose calls answer want of memory.
-ghost use Rattle.std.specs.Prelude.{◌≡◌, ◌+◌, ◌≤◌, [], ◌++◌, length, IfOk, IsOk, OnOk, OnErr};
+ghost use Rattle.std.specs.Prelude.{◌≡◌, ◌+◌, ◌≤◌, [], ◌∷◌, ◌++◌, length, IfOk, IsOk, OnOk, OnErr};
 
 use crate::fault::NoMemory;
 use std::alloc::Global;
@@ -54,6 +54,16 @@ impl Bytes {
         ensures room { length bytes.now ≤ self.old.spare → IsOk result }
     {
         self.bytes.extend_from_slice(bytes)?;
+        Ok(())
+    }
+
+    /// Adds a byte at the end. A refusal leaves them as they were.
+    pub fn push(&mut self, byte: u8) -> Result<(), NoMemory>
+        ensures ok { OnOk result (self.new.items ≡ self.old.items ++ byte ∷ []) }
+        ensures err { OnErr result (self.new.items ≡ self.old.items) }
+        ensures room { 1 ≤ self.old.spare → IsOk result }
+    {
+        self.bytes.push(byte)?;
         Ok(())
     }
 

@@ -1,5 +1,6 @@
 //! A text that answers want of memory, and that can be shared.
-ghost use Rattle.std.specs.Prelude.{◌≡◌, [], IfOk};
+ghost use Rattle.std.specs.Prelude.{◌≡◌, [], IfOk, string_bytes};
+ghost use Rattle.xmpp_edge.specs.Texts.{bytes_of};
 
 use crate::fault::NoMemory;
 use crate::list::Copied;
@@ -18,6 +19,16 @@ enum Characters {
     Owned(String),
     /// Copies of it have them too.
     Shared(RcStr),
+}
+
+/// Characters whose copies take no memory.
+fn shared_characters(characters: String) -> Result<Characters, NoMemory>
+    ensures { IfOk result (λ c. bytes_of c ≡ string_bytes characters) }
+{
+    match ArrayString::from(characters.as_str()) {
+        Ok(short) => Ok(Characters::Short(short)),
+        Err(_) => Ok(Characters::Shared(RcStr::from_string(characters)?)),
+    }
 }
 
 /// A text. Contracts see it as the list of its bytes, which are UTF-8.
@@ -56,17 +67,16 @@ impl Text {
         Ok(Text { characters })
     }
 
-    /// The same text, so held that its copies share its characters and take no memory for them. The characters
-    /// are not copied. Where memory runs out the text is dropped.
+    /// The same text, so held that its copies share its characters and take no memory for them. Few characters come to
+    /// stand in the text itself, others are not copied. Where memory runs out the text is dropped.
     pub fn shared(self) -> Result<Text, NoMemory>
         ensures { IfOk result (λ t. t ≡ self) }
     {
-        match self.characters {
-            Characters::Owned(characters) => Ok(Text {
-                characters: Characters::Shared(RcStr::from_string(characters)?),
-            }),
-            characters => Ok(Text { characters }),
-        }
+        let characters = match self.characters {
+            Characters::Owned(characters) => shared_characters(characters)?,
+            characters => characters,
+        };
+        Ok(Text { characters })
     }
 
     /// The text, without a copy.

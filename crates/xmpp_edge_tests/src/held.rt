@@ -26,15 +26,23 @@ fn is_printed(alloc: Global, text: &Text, shown: &str) -> bool {
     }
 }
 
-/// A text is copied and printed as it is, and copied when it is shared.
+/// A text is copied and printed as it is, and copied when it is shared, also where it was made of a string.
 fn is_held(alloc: Global, given: &str, shown: &str) -> Result<bool, NoMemory> {
     let text = Text::from_str(alloc, given)?;
+    let made = Text::from(String::from_str(alloc, given)?);
     let owned = is_copy(alloc, &text, given) && is_printed(alloc, &text, shown);
-    Ok(is_shared(alloc, text, given) && owned)
+    Ok(is_shared(alloc, text, given) && is_shared(alloc, made, given) && owned)
 }
 
 /// Texts, and how they are printed, also for a reader.
-static TEXTS: [(&str, &str); 2] = [("", " \"\""), ("käse", "käse \"käse\"")];
+static TEXTS: [(&str, &str); 3] = [
+    ("", " \"\""),
+    ("käse", "käse \"käse\""),
+    (
+        "käse und brot, zweimal",
+        "käse und brot, zweimal \"käse und brot, zweimal\"",
+    ),
+];
 
 #[test]
 fn texts_are_copied_and_printed(rt: HostRuntime) -> Result<(), Fail> {
@@ -46,6 +54,7 @@ fn texts_are_copied_and_printed(rt: HostRuntime) -> Result<(), Fail> {
 
 fn gather(bytes: &mut Bytes, part: &[u8], last: &[u8]) -> Result<(), NoMemory> {
     bytes.append(part)?;
+    bytes.push(b'-')?;
     bytes.reserve(last.len())?;
     bytes.append_reserved(last);
     Ok(())
@@ -106,7 +115,7 @@ fn places(alloc: Global, name: &str, absent: &str) -> Result<[Option<usize>; 2],
 fn bytes_lists_and_names_are_gathered(rt: HostRuntime) {
     let alloc = rt.alloc();
     assert!(rt;
-        is_gathered(alloc, b"abcdef") == Ok(true)
+        is_gathered(alloc, b"abcd-ef") == Ok(true)
             && are_listed(alloc, &[3, 1]) == Ok(true)
             && is_name_copied(alloc, "phone") == Ok(true)
             && places(alloc, "desk", "watch") == Ok([Some(1), None])

@@ -1,6 +1,7 @@
 pub mod LastIds
 pub mod Orders
 pub mod Repeats
+pub mod Rising
 pub mod Tilings
 pub mod Turned
 pub mod Unheld

@@ -81,7 +81,7 @@ same_texts : (texts more : List (List ℕ)) (places : List ℕ) → AllByRecursi
 same_texts texts more [] all = refl
 same_texts texts more (p ∷ ps) all = rw (get_or_append_left texts more [] p all.0, same_texts texts more ps all.1) refl
 
-text-push : (texts : List (List ℕ)) (p q : List ℕ) → is_text_of q (texts ++ p ∷ []) ≡ (bytes_eq p q || is_text_of q texts)
+pub text-push : (texts : List (List ℕ)) (p q : List ℕ) → is_text_of q (texts ++ p ∷ []) ≡ (bytes_eq p q || is_text_of q texts)
 text-push texts p q =
     list_any-append (λ t. bytes_eq t q) texts (p ∷ [])
     ∙ (ap (λ b. is_text_of q texts || b) (or-false (bytes_eq p q)) ∙ or_comm (is_text_of q texts) (bytes_eq p q))

@@ -1,7 +1,7 @@
 -- The places of texts in the order of the texts.
-use Rattle.std.specs.Prelude.{◌≡◌, ℕ, ◌<◌, List, [], length, map, slice_index_or}
+use Rattle.std.specs.Prelude.{◌≡◌, ℕ, ◌<◌, false, List, [], length, map, slice_index_or}
 use Rattle.std.specs.List.{AllByRecursion}
-use Rattle.xmpp_archive.specs.Chained.{Ascend, is_text_of}
+use Rattle.xmpp_archive.specs.Chained.{Ascend, IsBelow, is_text_of}
 
 -- the text at a place
 abbrev pub text_at : List (List ℕ) → ℕ → List ℕ
@@ -15,3 +15,7 @@ pub record IsOrderOf (places : List ℕ) (texts : List (List ℕ)) : Type 0 wher
   pub within : AllByRecursion (λ i. i < length texts) places
   pub ascend : Ascend (texts_at texts places)
   pub every : (p : List ℕ) → is_text_of p (texts_at texts places) ≡ is_text_of p texts
+
+-- each text above this one is none of these
+abbrev pub AreUpTo : List ℕ → List (List ℕ) → Type 0
+AreUpTo q texts = (p : List ℕ) → IsBelow q p → is_text_of p texts ≡ false

@@ -1,11 +1,11 @@
 //! The places of entries in the order of their ids. Where ids rise, as those of an archive do, that is the order of the
 //! entries, and an id is found to be new by one comparison.
-ghost use Rattle.std.specs.Prelude.{◌≡◌, ℕ, ◌-◌, ◌+◌, ◌<◌, ◌≤◌, List, [], ◌∷◌, ◌++◌, ◌||◌, Some, true, false, length, slice_get, vec_len, vec_capacity, IfOk, IfSome, IfNone};
+ghost use Rattle.std.specs.Prelude.{◌≡◌, ℕ, ◌-◌, ◌+◌, ◌<◌, ◌≤◌, List, [], ◌∷◌, ◌++◌, ◌||◌, Some, None, true, false, length, slice_get, vec_len, vec_capacity, IfOk, IfSome, IfNone, IsTrue};
 ghost use Rattle.std.specs.List.{list_any};
 ghost use Rattle.std.specs.Str.{bytes_eq};
-ghost use Rattle.xmpp_archive.specs.Chained.{IsGap, is_text_of};
+ghost use Rattle.xmpp_archive.specs.Chained.{IsBelow, IsGap, is_text_of};
 ghost use Rattle.xmpp_log.specs.LogPages.{ids_of};
-ghost use Rattle.xmpp_log.specs.Orders.{IsOrderOf, texts_at};
+ghost use Rattle.xmpp_log.specs.Orders.{AreUpTo, IsOrderOf, texts_at};
 ghost use Rattle.xmpp_log.specs.Views.{first_repeat};
 
 use crate::log_entry::LogEntry;
@@ -98,6 +98,45 @@ fn is_repeated(
     has_id(places, entries, id) || has_id(page, before, id)
 }
 
+/// The greatest of the ids, or an empty one where there is none.
+fn greatest<'a>(places: &[usize], entries: &'a [LogEntry]) -> &'a str
+    requires order { IsOrderOf places.now (ids_of entries.now) }
+    ensures { AreUpTo result.now (ids_of entries.now) }
+{
+    let count = places.len();
+    if count == 0 {
+        return "";
+    }
+    id_at(places, entries, count - 1)
+}
+
+fn is_above(id: &str, other: &str) -> bool
+    ensures { IsTrue result → IsBelow other.now id.now }
+{
+    match other.cmp(id) {
+        Ordering::Less => true,
+        Ordering::Equal => false,
+        Ordering::Greater => false,
+    }
+}
+
+/// Whether each of the results' ids is above all ids before it. So it is of a page of an archive; one comparison for
+/// each tells it, and then none repeats.
+fn rise<'a>(places: &[usize], entries: &'a [LogEntry], results: &'a [LogEntry]) -> bool
+    requires order { IsOrderOf places.now (ids_of entries.now) }
+    ensures { IsTrue result → first_repeat (ids_of entries.now) (ids_of results.now) ≡ None }
+{
+    let mut last = greatest(places, entries);
+    for at in 0..results.len() {
+        let id = results[at].id.as_str();
+        if !is_above(id, last) {
+            return false;
+        }
+        last = id;
+    }
+    true
+}
+
 /// The first of the results' ids that an entry has or that stands before itself.
 pub(crate) fn repeated(
     alloc: Global,
@@ -108,6 +147,9 @@ pub(crate) fn repeated(
     requires order { IsOrderOf places.now (ids_of entries.now) }
     ensures { IfOk result (λ id. id ≡ first_repeat (ids_of entries.now) (ids_of results.now)) }
 {
+    if rise(places, entries, results) {
+        return Ok(None);
+    }
     let mut page: Vec<usize> = Vec::new(alloc);
     page.reserve(results.len())?;
     for at in 0..results.len() {

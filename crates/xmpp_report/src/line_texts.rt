@@ -32,7 +32,7 @@ impl Printed for TakeLine {
         append_number_field(out, self.n)?;
         append_field(out, self.account.as_str())?;
         print_moment(out, self.moment)?;
-        out.append(b"\n")
+        out.push(b'\n')
     }
 }
 
@@ -57,7 +57,7 @@ fn print_fields(out: &mut Bytes, entry: &EntryLine) -> Result<(), NoMemory>
     append_field(out, message.to.as_str())?;
     append_field(out, message.origin.as_str())?;
     append_field(out, first_text(&message.bodies))?;
-    out.append(b"\n")
+    out.push(b'\n')
 }
 
 impl Printed for EntryLine {
@@ -114,7 +114,7 @@ impl Printed for ConnLine {
         append_number_field(out, self.downput)?;
         append_number_field(out, self.downtaken)?;
         append_field(out, end_name(self.end))?;
-        out.append(b"\n")
+        out.push(b'\n')
     }
 }
 
@@ -140,7 +140,7 @@ impl Printed for SaidLine {
         append_field(out, mark_name(self.state))?;
         append_field(out, self.to.as_str())?;
         append_field(out, self.text.as_str())?;
-        out.append(b"\n")
+        out.push(b'\n')
     }
 }
 
@@ -163,7 +163,7 @@ impl Printed for RefusedLine {
         out.append(b"refused ")?;
         append_number(out, self.line)?;
         append_field(out, why_name(self.why))?;
-        out.append(b"\n")
+        out.push(b'\n')
     }
 }
 
@@ -198,7 +198,7 @@ impl Printed for PageLine {
         out.append(after_name(&self.after).as_bytes())?;
         append_number_field(out, self.count)?;
         print_total(out, self.total)?;
-        out.append(b"\n")
+        out.push(b'\n')
     }
 }
 
@@ -211,7 +211,7 @@ impl Printed for UnderwayLine {
         out.append(b"underway ")?;
         out.append(self.queryid.as_str().as_bytes())?;
         append_number_field(out, self.got)?;
-        out.append(b"\n")
+        out.push(b'\n')
     }
 }
 
@@ -223,6 +223,6 @@ impl Printed for HeldLine {
     fn print(&self, out: &mut Bytes) -> Result<(), NoMemory> {
         out.append(b"held ")?;
         out.append(self.id.as_str().as_bytes())?;
-        out.append(b"\n")
+        out.push(b'\n')
     }
 }

@@ -37,7 +37,7 @@ pub fn append_number(out: &mut Bytes, n: u64) -> Result<(), NoMemory>
 pub fn append_field(out: &mut Bytes, field: &str) -> Result<(), NoMemory>
     ensures { OnOk result (out.new.items ≡ out.old.items ++ 32 ∷ field.now) }
 {
-    out.append(b" ")?;
+    out.push(b' ')?;
     out.append(field.as_bytes())
 }
 
@@ -45,6 +45,6 @@ pub fn append_field(out: &mut Bytes, field: &str) -> Result<(), NoMemory>
 pub fn append_number_field(out: &mut Bytes, n: u64) -> Result<(), NoMemory>
     ensures { OnOk result (out.new.items ≡ out.old.items ++ 32 ∷ decimal n) }
 {
-    out.append(b" ")?;
+    out.push(b' ')?;
     append_number(out, n)
 }
