@@ -81,6 +81,7 @@ fn is_lower(c: u8) -> bool
     b'a' <= c && c <= b'z'
 }
 
+/// Whether a byte is a decimal digit of ASCII: `0` to `9`.
 pub fn is_digit(c: u8) -> bool
     ensures { result ≡ is_digit c }
 {
