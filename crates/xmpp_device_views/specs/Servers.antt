@@ -10,6 +10,7 @@ use Rattle.xmpp_desk.specs.declared.connection.Phase.{Phase as DeskPhase}
 use Rattle.xmpp_desk.specs.declared.connection.Phase.TheVariants as phase
 use Rattle.xmpp_desk.specs.declared.connection.Tries.TheVariants as tries
 use Rattle.xmpp_device_views.specs.Counted.{IsForClient}
+use Rattle.xmpp_device_views.specs.Deeds.{Deed, deeds_of}
 use Rattle.xmpp_device_views.specs.Frames.{SameClient}
 use Rattle.xmpp_device_views.specs.Identities.{Identity, Login, exchange_of, served_account}
 use Rattle.xmpp_device_views.specs.Pipes.{PipesShow}
@@ -90,11 +91,12 @@ pub record ServerShows (who : Identity) (logins : ℕ → Login) (h : Hall ItemO
 
 -- ---- what a step of the server is in the links: a short list of moves
 
--- it comes to this, and these are then the pipes
-pub record ServerFollows (who : Identity) (logins : ℕ → Login) (h : Hall ItemOut) (wires : Table ItemWire) (v : View ItemOut) : Type 0 where
+-- it comes to this, and these are then the pipes; and these stanzas were put and handled
+pub record ServerFollows (who : Identity) (logins : ℕ → Login) (h : Hall ItemOut) (wires : Table ItemWire) (v : View ItemOut) (done : List (Deed ItemOut)) : Type 0 where
   pub moves : List (LinkMove ItemOut)
   pub next : View ItemOut
   pub leads : LinkReaches moves v next
+  pub does : deeds_of moves ≡ done
   pub server : ServerShows who logins h next
   pub pipes : PipesShow who logins wires next
   pub client : SameClient v next

@@ -1,0 +1,34 @@
+-- Which stanzas moves of the links put and handle, and where a client comes to its session: in their order. What else
+-- they do is no deed.
+use Rattle.std.specs.Prelude.{List, [], ◌∷◌, ◌++◌, map}
+use Rattle.xmpp_links.specs.Machine.{Keeps, LinkMove, Puts, Queues, ReadsEnabled, ReadsStanza, Serves, TakesStanza}
+
+pub data Deed (A : Type 0) : Type 0 where
+  -- the client puts it, and the server handles it
+  Says : A → Deed A
+  Takes : A → Deed A
+  -- the server puts it, and the client handles it
+  Gives : A → Deed A
+  Reads : A → Deed A
+  -- the client hears that its session is counted (XEP-0198, section 3)
+  Enters : Deed A
+
+abbrev pub deed_of : {A : Type 0} → LinkMove A → List (Deed A)
+deed_of (Puts k z) = Says z ∷ []
+deed_of (Queues z) = Says z ∷ []
+deed_of (TakesStanza k z) = Takes z ∷ []
+deed_of (Serves k z) = Gives z ∷ []
+deed_of (Keeps z) = Gives z ∷ []
+deed_of (ReadsStanza k z) = Reads z ∷ []
+deed_of (ReadsEnabled k m) = Enters ∷ []
+deed_of _ = []
+
+abbrev pub deeds_of : {A : Type 0} → List (LinkMove A) → List (Deed A)
+deeds_of [] = []
+deeds_of (move ∷ moves) = deed_of move ++ deeds_of moves
+
+abbrev pub gives_all : {A : Type 0} → List A → List (Deed A)
+gives_all zs = map Gives zs
+
+abbrev pub says_all : {A : Type 0} → List A → List (Deed A)
+says_all zs = map Says zs
