@@ -90,7 +90,7 @@ module _ (UpFits DownFits : ItemOut → Type 0) (HallFits : ℕ → Hall ItemOut
     Now q b p = WireImage UpFits DownFits (framer_at (number_at q) framers_now) (framer_here q (slice_get (slice_set w.devices i d') b.device)) (writer_at (number_at q) hall_now) b p
 
     fits : TurnFits UpFits ClientFits t
-    fits = cores.dials_so k e.client h.fits
+    fits = cores.client.dials_so k e.client h.fits
 
     device_image : DeviceImage ClientFits d' e'
     device_image = record { client = refl; here = ap Some image.as_many; framed = λ a. absurd (false_is_not a); fits = fits.client }
