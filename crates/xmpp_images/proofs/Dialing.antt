@@ -175,6 +175,7 @@ module _ (UpFits DownFits : ItemOut → Type 0) (HallFits : ℕ → Hall ItemOut
       devices = devices_changed UpFits DownFits HallFits ClientFits cores w v i d d' e e' found found_item device_image image;
       as_many = length-append old_wires (new_wire ∷ []) ∙ ap (λ m. m + 1) (length_where d.here left w.wires ∙ sym many_items) ∙ sym (length-append old_item_wires (new_item_wire ∷ []));
       wires = all_images;
+      takes = image.takes;
     }
 
     -- what the client of bytes did

@@ -142,6 +142,7 @@ module _ (UpFits DownFits : ItemOut → Type 0) (HallFits : ℕ → Hall ItemOut
         devices = devices_changed w v i d d' e e' found found_item h image;
         as_many = length_where d.here f w.wires ∙ image.as_many ∙ sym (length_where d.here g v.wires);
         wires = λ place. wires_changed w v i d d' f g d.here place found image (at_here place) (at_other place);
+        takes = image.takes;
       })
 
   -- ---- what is put goes out, where a connection is there
