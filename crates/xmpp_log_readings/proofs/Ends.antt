@@ -1,26 +1,34 @@
 -- The end of a page: where the application takes it over, so does the log, and then the two are the same still.
-use Rattle.std.proofs.Common.{◌≡◌, ℕ, suc, ◌<◌, ◌^◌, ◌==◌, Bool, true, false, not, ◌&&◌, ◌||◌, List, [], ◌∷◌, ◌++◌, Option, Some, None, Ok, map, filter, length, refl, sym, ap, ap₂, subst, ◌∙◌}
+use Rattle.std.proofs.Common.{◌≡◌, inl, inr, arith, ℕ, suc, ◌<◌, ◌^◌, ◌==◌, nat_lt, min, Bool, true, false, not, ◌&&◌, ◌||◌, if◌then◌else◌, List, [], ◌∷◌, ◌++◌, Option, Some, None, Ok, Err, map, filter, length, refl, sym, ap, ap₂, subst, ◌∙◌, append_assoc, append-nil}
+use Rattle.std.proofs.Math.Bool.{and-false, or-false}
+use Rattle.std.proofs.lemmas.Bool.{and_parts, false≢true, not-true, true≢false}
+use Rattle.std.proofs.lemmas.Bool.Decides.{leb_tells}
 use Rattle.std.proofs.lemmas.List.{map-append}
+use Rattle.std.proofs.lemmas.List.Concat.{flat_map-append}
+use Rattle.std.proofs.lemmas.List.Folds.{list_any-append}
+use Rattle.std.proofs.lemmas.Option.{none-some, same_Some}
 use Rattle.std.specs.List.{AllByRecursion, flat_map, list_any}
 use Rattle.std.specs.Option.{option_map, option_map_or}
 use Rattle.std.specs.Str.{bytes_eq}
 use Rattle.xmpp_archive.specs.Entries.{EntryView}
 use Rattle.xmpp_archive.specs.Ids.{id_of}
 use Rattle.xmpp_log.specs.LogPages.{ids_of, last_id}
-use Rattle.xmpp_log.specs.Views.{LogView, advance_of, after_fin, end_of, first_repeat, outcome_of, repeat_of, same_id, unheld, with_page}
+use Rattle.xmpp_log.specs.Views.{LogView, advance_of, after_fin, end_of, first_repeat, outcome_of, same_id, unheld, with_page}
+use Rattle.xmpp_log.specs.declared.fin.FinFault.TheVariants as fault
 use Rattle.xmpp_log.specs.declared.log_entry.LogEntry.{LogEntry}
 use Rattle.xmpp_log_readings.proofs.Entries.{among_ids, at_both, ids_at, last_at, length_at, logged_at, same_ids}
-use Rattle.xmpp_log_readings.specs.Shown.{AreGiven, IsFinOf, IsGiven, IsReadingGiven, LogShows, id_logged, page_shown, tile_shown}
+use Rattle.xmpp_log_readings.specs.Shown.{AreGiven, ArePageGiven, IsFinOf, IsGiven, IsReadingGiven, LogShows, id_logged, page_shown, tile_shown}
 use Rattle.xmpp_pages.specs.declared.fin.Fin.{Fin}
+use Rattle.xmpp_sessions.proofs.Lists.{all_weaker}
 use Rattle.xmpp_sessions.specs.Answers.{last_in}
-use Rattle.xmpp_sessions.specs.Devices.{OpenPage, Reading, Tile, log_of}
-use Rattle.xmpp_sessions.specs.Events.{Around, are_new, is_broken, is_empty, is_number_among, logged, over, same_place, tile}
+use Rattle.xmpp_sessions.specs.Devices.{OpenPage, Reading, log_of}
+use Rattle.xmpp_sessions.specs.Events.{Around, are_new, is_broken, is_empty, is_number_among, over, same_place, tile}
 
 abbrev Small : List ℕ → Type 0
 Small ns = AllByRecursion (λ n. n < 2 ^ 64) ns
 
 small_of : (history : List EntryView) (ns : List ℕ) → AreGiven history ns → Small ns
-small_of history ns g = AllByRecursion-weaker (IsGiven history) (λ m. m < 2 ^ 64) (λ m given. given.small) ns g
+small_of history ns g = all_weaker (IsGiven history) (λ m. m < 2 ^ 64) ns (λ m given. given.small) g
 
 -- ---- ids that come twice
 
@@ -96,6 +104,12 @@ unheld_by ids ns are small (e ∷ held) (h ∷ hs) few same =
 
 -- ---- the log behind the page
 
+some_not_below : (m : ℕ) → nat_lt (suc m) 1 ≡ false
+some_not_below m = elim (leb_tells (suc (suc m)) 1) [
+  | inl below ↦ absurd (let one = below.1 in omega (arith, one))
+  | inr other ↦ other.0
+]
+
 log_grows : (page : OpenPage) (b : Reading) (way : Bool) → flat_map (λ run. run) (if way then b.broken ++ b.run ∷ [] else b.broken) ++ (if way then page.results else b.run ++ page.results) ≡ log_of b ++ page.results
 log_grows page b true = ap (λ l. l ++ page.results) (flat_map-append (λ run. run) b.broken (b.run ∷ []) ∙ ap (λ l. flat_map (λ run. run) b.broken ++ l) (append-nil b.run))
 log_grows page b false = sym (append_assoc (flat_map (λ run. run) b.broken) b.run page.results)
@@ -116,7 +130,7 @@ module _ (keep : ℕ) (history : List EntryView) (log : LogView) (b : Reading) (
       by (n ∷ []) g k e = subst (λ m. m < 2 ^ 64) (same_Some n k e) g.0.small
       by (n ∷ m ∷ ns) g k e = by (m ∷ ns) g.1 k e
 
-  module _ (a : Around) (q : ℕ) (complete : Bool) (last : Option ℕ) (count : ℕ) (fin : Fin) (fits : IsFinOf fin complete last count) (small : (k : ℕ) → last ≡ Some k → k < 2 ^ 64) where
+  module _ (q : ℕ) (complete : Bool) (last : Option ℕ) (count : ℕ) (fin : Fin) (fits : IsFinOf fin complete last count) (small : (k : ℕ) → last ≡ Some k → k < 2 ^ 64) where
     -- what the application asks of an end
     abbrev pub IsGood : Type 0
     IsGood = (page.number == q && same_place last (last_in page.results) && are_new (log_of b) page.results && (complete || not (is_empty page.results))) ≡ true
@@ -137,31 +151,27 @@ module _ (keep : ℕ) (history : List EntryView) (log : LogView) (b : Reading) (
             → (if nat_lt (length (logged_at history ns)) 1 && not c then Err fault.NoAdvance else Ok (outcome_of c)) ≡ Ok (outcome_of c)
         advances true ns g some = rw (and-false (nat_lt (length (logged_at history ns)) 1)) refl
         advances false [] g some = absurd (false≢true some)
-        advances false (n ∷ ns) g some = rw (length_at history (n ∷ ns) g) refl
+        advances false (n ∷ ns) g some = rw (length_at history (n ∷ ns) g) (rw (some_not_below (length ns)) refl)
 
-    -- the application's tile
-    abbrev pub given_then : ℕ
-    given_then = option_map_or (λ answer. answer.last) page.answer a.last
-
-    pub over_shows : count ≡ min given_then keep → LogShows keep history (after_fin log fin) (over a complete count page b)
-    over_shows total =
-        subst (λ l. LogShows keep history l (over a complete count page b)) (sym (ap (λ o. elim o [ None ↦ log | Some p ↦ with_page log p fin ]) (shows.page ∙ ap (option_map (page_shown history)) is)))
-        (record {
-          entries =
-              ap (λ es. es ++ logged_at history page.results) shows.entries ∙ sym (at_both history (log_of b) page.results)
-              ∙ ap (logged_at history) (sym (log_grows page b (is_broken page.after b.run page.results)));
-          tiles =
-              ap₂ (λ ts t. ts ++ t ∷ []) shows.tiles (tile_is complete fits.complete)
-              ∙ sym (map-append (tile_shown keep) b.tiles (tile a complete count page ∷ []));
-          page = refl;
-          held = unheld_by (ids_of (logged_at history page.results)) page.results (ids_at history page.results results) (small_of history page.results results) log.held b.held given.held shows.held;
-        })
-      where
-        tile_is : (c : Bool) → fin.complete ≡ c
-            → record { after = option_map id_of page.after; count = length (logged_at history page.results); complete = fin.complete; total = fin.count } ≡ tile_shown keep (tile a c count page)
-        tile_is true e =
-            ap₂ (λ n f. record { after = option_map id_of page.after; count = n; complete = f; total = fin.count }) (length_at history page.results results) e
-            ∙ ap (λ t. record { after = option_map id_of page.after; count = length page.results; complete = true; total = t }) (fits.count ∙ total)
-        tile_is false e =
-            ap₂ (λ n f. record { after = option_map id_of page.after; count = n; complete = f; total = fin.count }) (length_at history page.results results) e
-            ∙ ap (λ t. record { after = option_map id_of page.after; count = length page.results; complete = false; total = t }) (fits.count ∙ total)
+  pub over_shows : (a : Around) (complete : Bool) (last : Option ℕ) (count : ℕ) (fin : Fin) → IsFinOf fin complete last count → count ≡ min (option_map_or (λ answer. answer.last) page.answer a.last) keep → LogShows keep history (after_fin log fin) (over a complete count page b)
+  over_shows a complete last count fin fits total =
+      subst (λ l. LogShows keep history l (over a complete count page b)) (sym (ap (λ o. elim o [ None ↦ log | Some p ↦ with_page log p fin ]) (shows.page ∙ ap (option_map (page_shown history)) is)))
+      (record {
+        entries =
+            ap (λ es. es ++ logged_at history page.results) shows.entries ∙ sym (at_both history (log_of b) page.results)
+            ∙ ap (logged_at history) (sym (log_grows page b (is_broken page.after b.run page.results)));
+        tiles =
+            ap₂ (λ ts t. ts ++ t ∷ []) shows.tiles (tile_is complete fits.complete)
+            ∙ sym (map-append (tile_shown keep) b.tiles (tile a complete count page ∷ []));
+        page = refl;
+        held = unheld_by (ids_of (logged_at history page.results)) page.results (ids_at history page.results results) (small_of history page.results results) log.held b.held given.held shows.held;
+      })
+    where
+      tile_is : (c : Bool) → fin.complete ≡ c
+          → record { after = option_map id_of page.after; count = length (logged_at history page.results); complete = fin.complete; total = fin.count } ≡ tile_shown keep (tile a c count page)
+      tile_is true e =
+          ap₂ (λ n f. record { after = option_map id_of page.after; count = n; complete = f; total = fin.count }) (length_at history page.results results) e
+          ∙ ap (λ t. record { after = option_map id_of page.after; count = length page.results; complete = true; total = t }) (fits.count ∙ total)
+      tile_is false e =
+          ap₂ (λ n f. record { after = option_map id_of page.after; count = n; complete = f; total = fin.count }) (length_at history page.results results) e
+          ∙ ap (λ t. record { after = option_map id_of page.after; count = length page.results; complete = false; total = t }) (fits.count ∙ total)

@@ -1,6 +1,8 @@
 -- A result comes, a page begins, begins anew or is given up, and a message is held.
-use Rattle.std.proofs.Common.{◌≡◌, ℕ, suc, ◌<◌, ◌^◌, Bool, true, false, not, ◌&&◌, ◌||◌, List, [], ◌∷◌, ◌++◌, Option, Some, None, map, length, refl, sym, ap, ap₂, subst, ◌∙◌}
-use Rattle.std.proofs.lemmas.List.{map-append}
+use Rattle.std.proofs.Common.{◌≡◌, inl, inr, arith, ℕ, suc, ◌+◌, ◌<◌, ◌^◌, nat_le, nat_lt, Bool, true, false, not, ◌&&◌, ◌||◌, if◌then◌else◌, List, [], ◌∷◌, ◌++◌, Some, None, map, length, refl, sym, ap, ap₂, ◌∙◌}
+use Rattle.std.proofs.lemmas.Bool.{false≢true, true≢false}
+use Rattle.std.proofs.lemmas.Bool.Decides.{leb_tells}
+use Rattle.std.proofs.lemmas.List.{length-map, map-append}
 use Rattle.std.specs.List.{AllByRecursion, list_any}
 use Rattle.std.specs.Option.{option_map}
 use Rattle.std.specs.Str.{bytes_eq}
@@ -9,13 +11,26 @@ use Rattle.xmpp_archive.specs.Ids.{id_of}
 use Rattle.xmpp_direct.specs.Direct.{as_logged}
 use Rattle.xmpp_log.specs.LogCalls.{after_hold, may_hold, with_restart}
 use Rattle.xmpp_log.specs.LogPages.{ids_of, last_id}
-use Rattle.xmpp_log.specs.Views.{LogView, with_begun, with_result, without_page}
+use Rattle.xmpp_log.specs.Views.{LogView, OpenPage as LogPage, with_begun, with_result, without_page}
 use Rattle.xmpp_log.specs.declared.log_entry.LogEntry.{LogEntry}
 use Rattle.xmpp_log_readings.proofs.Entries.{among_ids, at_both, at_first, ids_at, last_at, logged_at}
 use Rattle.xmpp_log_readings.specs.Shown.{AreGiven, IsGiven, IsReadingGiven, LogShows, id_logged, page_shown, queryid_of}
+use Rattle.xmpp_sessions.proofs.Lists.{all_weaker}
 use Rattle.xmpp_sessions.specs.Answers.{last_in}
 use Rattle.xmpp_sessions.specs.Devices.{OpenPage, Reading, log_of}
-use Rattle.xmpp_sessions.specs.Events.{asking, hold, holds, is_number_among, result}
+use Rattle.xmpp_sessions.specs.Events.{asking, hold, holds, is_number_among}
+
+below_or_not : (k n : ℕ) → nat_lt k n ≡ not (nat_le n k)
+below_or_not k n = elim (leb_tells (suc k) n) [
+  | inl below ↦ elim (leb_tells n k) [
+    | inl above ↦ absurd (let one = below.1 in let two = above.1 in omega (arith, one, two))
+    | inr other ↦ below.0 ∙ sym (ap not other.0)
+  ]
+  | inr not_below ↦ elim (leb_tells n k) [
+    | inl above ↦ not_below.0 ∙ sym (ap not above.0)
+    | inr other ↦ absurd (let one = not_below.1 in let two = other.1 in omega (arith, one, two))
+  ]
+]
 
 module _ (keep : ℕ) (history : List EntryView) (log : LogView) (b : Reading) (shows : LogShows keep history log b) where
   pub result_shows : (n : ℕ) (page : OpenPage) (g : IsGiven history n) → b.page ≡ Some page
@@ -24,7 +39,7 @@ module _ (keep : ℕ) (history : List EntryView) (log : LogView) (b : Reading) (
     entries = shows.entries;
     tiles = shows.tiles;
     page =
-        ap (option_map (λ p. record p { results = p.results ++ as_logged g.entry ∷ [] })) (shows.page ∙ ap (option_map (page_shown history)) is)
+        ap (option_map (λ (p : LogPage). record p { results = p.results ++ as_logged g.entry ∷ [] })) (shows.page ∙ ap (option_map (page_shown history)) is)
         ∙ ap (λ results. Some (record (page_shown history page) { results = results }))
         (ap (λ es. logged_at history page.results ++ map as_logged es) (sym (at_first history n [] g)) ∙ sym (at_both history page.results (n ∷ [])));
     held = shows.held;
@@ -44,7 +59,7 @@ module _ (keep : ℕ) (history : List EntryView) (log : LogView) (b : Reading) (
   restarted_shows page began is = record {
     entries = shows.entries;
     tiles = shows.tiles;
-    page = ap (option_map (λ p. record p { queryid = queryid_of (b.asked + 1); after = None; results = [] })) (shows.page ∙ ap (option_map (page_shown history)) is);
+    page = ap (option_map (λ (p : LogPage). record p { queryid = queryid_of (b.asked + 1); after = None; results = [] })) (shows.page ∙ ap (option_map (page_shown history)) is);
     held = shows.held;
   }
 
@@ -57,10 +72,10 @@ module _ (keep : ℕ) (history : List EntryView) (log : LogView) (b : Reading) (
   ids_held = shows.held
 
   many_held : length log.held ≡ length b.held
-  many_held = sym (length-map id_logged log.held) ∙ ap length shows.held ∙ length-map id_of b.held
+  many_held = sym (length-map log.held id_logged) ∙ ap length shows.held ∙ length-map b.held id_of
 
   small_log : AreGiven history (log_of b) → AllByRecursion (λ m. m < 2 ^ 64) (log_of b)
-  small_log g = AllByRecursion-weaker (IsGiven history) (λ m. m < 2 ^ 64) (λ m given. given.small) (log_of b) g
+  small_log g = all_weaker (IsGiven history) (λ m. m < 2 ^ 64) (log_of b) (λ m given. given.small) g
 
   may_is : (n : ℕ) → IsReadingGiven history b → n < 2 ^ 64 → may_hold log (id_of n) ≡ not (holds n b)
   may_is n g few =
@@ -73,7 +88,7 @@ module _ (keep : ℕ) (history : List EntryView) (log : LogView) (b : Reading) (
       by : (x y : Bool) (k : ℕ) → (not x && (not y && nat_lt k 10000)) ≡ not (x || y || nat_le 10000 k)
       by true y k = refl
       by false true k = refl
-      by false false k = lt_not_le k 10000
+      by false false k = below_or_not k 10000
 
   held_by : (e : LogEntry) (n : ℕ) → e.id ≡ id_of n → (may : Bool) (held : Bool) → may ≡ not held
       → LogShows keep history (if may then record log { held = log.held ++ e ∷ [] } else log) (record b { held = if held then b.held else b.held ++ n ∷ [] })

@@ -1,6 +1,6 @@
 -- A log (of `xmpp_log`), and the same by numbers alone, as the reading of an application over sessions (of
 -- `xmpp_sessions`), where the archive's history is known.
-use Rattle.std.specs.Prelude.{◌≡◌, ℕ, ◌<◌, ◌≤◌, ◌^◌, min, List, ◌∷◌, Option, Some, None, Bool, is_some, map}
+use Rattle.std.specs.Prelude.{◌≡◌, ℕ, ◌<◌, ◌^◌, min, List, ◌∷◌, Option, Some, None, Bool, is_some, map}
 use Rattle.std.specs.Fmt.{decimal}
 use Rattle.std.specs.List.{AllByRecursion}
 use Rattle.std.specs.Option.{option_map}
@@ -63,7 +63,7 @@ pub record IsReadingGiven (history : List EntryView) (b : Reading) : Type 0 wher
 
 -- The end of a page (XEP-0313, section 4.2) as the application has it: whether it is complete, the last entry's number, and
 -- how many the archive keeps.
-pub record IsFinOf (fin : Fin) (complete : Bool) (last : Option ℕ) (count : ℕ) : Type 0 where
-  pub complete : fin.complete ≡ complete
-  pub last : fin.last ≡ option_map id_of last
-  pub count : fin.count ≡ count
+pub record IsFinOf (fin : Fin) (whole : Bool) (greatest : Option ℕ) (kept : ℕ) : Type 0 where
+  pub complete : fin.complete ≡ whole
+  pub last : fin.last ≡ option_map id_of greatest
+  pub count : fin.count ≡ kept
