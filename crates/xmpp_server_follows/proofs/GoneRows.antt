@@ -1,5 +1,5 @@
 -- The server hears of the end of a connection: the session on it is parked where it is counted, and else ends.
-use Rattle.std.proofs.Common.{◌≡◌, ℕ, ◌≤◌, ◌==◌, Bool, true, false, not, List, [], ◌∷◌, Option, Some, None, cond, length, map, refl, sym, ap, subst, ◌∙◌, inl, inr}
+use Rattle.std.proofs.Common.{◌≡◌, ℕ, ◌≤◌, ◌==◌, Bool, true, false, not, List, [], ◌∷◌, ◌++◌, Option, Some, None, cond, length, map, refl, sym, ap, subst, ◌∙◌, inl, inr}
 use Rattle.std.proofs.lemmas.Bool.{cases_Bool, eq-eqb}
 use Rattle.std.proofs.lemmas.Option.{same_Some}
 use Rattle.std.specs.List.{filter}
@@ -7,6 +7,7 @@ use Rattle.std.specs.Option.{option_map}
 use Rattle.xmpp_acks.specs.declared.end.TheConstants.{MOST_UNACKNOWLEDGED}
 use Rattle.xmpp_desk.specs.Moments.{gone_at}
 use Rattle.xmpp_desk.specs.State.{Hall, conn_at, with_sessions, without_conn}
+use Rattle.xmpp_device_views.specs.Deeds.{deed_of}
 use Rattle.xmpp_device_views.specs.Identities.{Identity, Login}
 use Rattle.xmpp_device_views.specs.Pipes.{IsWire, PipesShow}
 use Rattle.xmpp_device_views.specs.Servers.{IsRow, IsRowShown, ServerFollows, ServerShows, conn_shown, open_conn}
@@ -125,21 +126,22 @@ module _ (who : Identity) (logins : ℕ → Login) (h : Hall ItemOut) (wires : T
   abbrev told : Conn ItemOut
   told = record c { gone = true }
 
-  follows : (hall : Hall ItemOut) (o : Option (Row ItemOut)) → gone_at k h ≡ hall → ServerShows who logins hall (record v { conns = with_at k told v.conns; row = o }) → (move : LinkMove ItemOut)
-      → LinkReaches (move ∷ []) v (record v { conns = with_at k told v.conns; row = o }) → ServerFollows who logins (gone_at k h) (with_at k (up_end_told w) wires) v
-  follows hall o same server move leads =
+  follows : (hall : Hall ItemOut) (o : Option (Row ItemOut)) → gone_at k h ≡ hall → ServerShows who logins hall (record v { conns = with_at k told v.conns; row = o }) → (move : LinkMove ItemOut) → deed_of move ≡ []
+      → LinkReaches (move ∷ []) v (record v { conns = with_at k told v.conns; row = o }) → ServerFollows who logins (gone_at k h) (with_at k (up_end_told w) wires) v []
+  follows hall o same server move none leads =
       let next : View ItemOut = record v { conns = with_at k told v.conns; row = o } in
       record {
         moves = move ∷ [];
         next = next;
         leads = leads;
+        does = ap (λ l. l ++ []) none;
         server = subst (λ g. ServerShows who logins g next) (sym same) server;
         pipes = shown_at who logins wires (with_at k (up_end_told w) wires) v next k told (up_end_told w) pipes (λ j. refl) (at_same k (up_end_told w) wires) (λ j apart. at_other k (up_end_told w) wires j apart) (wire_gone who (logins k) k c w wire);
         client = record { here = refl; own = refl; epoch = refl; conns = keeps_at v.conns k c told is refl (λ e. e) };
       }
 
   -- without a session
-  gone_bare : session_on c ≡ None → ServerFollows who logins (gone_at k h) (with_at k (up_end_told w) wires) v
+  gone_bare : session_on c ≡ None → ServerFollows who logins (gone_at k h) (with_at k (up_end_told w) wires) v []
   gone_bare off =
       let stays : Session ItemOut → Bool = λ s. not (is_at k s) in
       let none = unseated who logins h v kept shows k c is off in
@@ -147,7 +149,7 @@ module _ (who : Identity) (logins : ℕ → Login) (h : Hall ItemOut) (wires : T
       follows (left_hall who logins h v kept shows k c is stays) v.row
       (ap (λ o. with_sessions (lost h.moment o h.sessions) (without_conn k h)) none ∙ ap (λ ss. with_sessions ss (without_conn k h)) (sym nobody))
       (left_shows who logins h v kept shows k c is stays told v.row v.sessions (known_same v) (ended_conn who (logins k) c.phase c.ending) (subst (λ ss. IsRowShown v.row (session_named who.account who.resource ss)) (sym nobody) shows.row))
-      (Hears k) (record v { conns = with_at k told v.conns }, record { conn = c; is = is; ended = stopped; empty = empty; off = off; gives = refl }, refl)
+      (Hears k) refl (record v { conns = with_at k told v.conns }, record { conn = c; is = is; ended = stopped; empty = empty; off = off; gives = refl }, refl)
 
   module _ (row : Row ItemOut) (is_row : v.row ≡ Some row) (on : row.on ≡ Some k) where
     live : IsLive who h row
@@ -157,7 +159,7 @@ module _ (who : Identity) (logins : ℕ → Login) (h : Hall ItemOut) (wires : T
     seat = found_on h.next k who.account who.resource h.sessions live.session shows.hall.sessions live.named (live.row.conn ∙ on)
 
     -- one that isn't counted yet ends
-    gone_early : row.counted ≡ false → ServerFollows who logins (gone_at k h) (with_at k (up_end_told w) wires) v
+    gone_early : row.counted ≡ false → ServerFollows who logins (gone_at k h) (with_at k (up_end_told w) wires) v []
     gone_early uncounted =
         let s : Session ItemOut = live.session in
         let stays : Session ItemOut → Bool = λ t. not (t.shown.number == s.shown.number) in
@@ -167,7 +169,7 @@ module _ (who : Identity) (logins : ℕ → Login) (h : Hall ItemOut) (wires : T
         (ap (λ o. with_sessions (lost h.moment o h.sessions) (without_conn k h)) seat ∙ ap (λ b. with_sessions (cond b (with_session s.shown.number (parked h.moment) h.sessions) (without s.shown.number h.sessions)) (without_conn k h)) same)
         (left_shows who logins h v kept shows k c is stays told None v.sessions (known_same v) (ended_conn who (logins k) c.phase c.ending)
         (subst (IsRowShown None) (sym (named_gone stays who.account who.resource h.next h.sessions s shows.hall.sessions live.named out)) tt))
-        (HearsEarly k) (record v { conns = with_at k told v.conns; row = None }, record { conn = c; is = is; ended = stopped; empty = empty; row = row; is_row = is_row; on = on; uncounted = uncounted; gives = refl }, refl)
+        (HearsEarly k) refl (record v { conns = with_at k told v.conns; row = None }, record { conn = c; is = is; ended = stopped; empty = empty; row = row; is_row = is_row; on = on; uncounted = uncounted; gives = refl }, refl)
 
     abbrev parked_hall : Hall ItemOut
     parked_hall = with_sessions (with_session live.session.shown.number (parked h.moment) h.sessions) (without_conn k h)
@@ -213,21 +215,21 @@ module _ (who : Identity) (logins : ℕ → Login) (h : Hall ItemOut) (wires : T
         seated j e s (New same it) was = name was.0 s was.2 (shows.seated k c was.0 is (subst (λ m. session_at m h.sessions ≡ Some was.0) (sym same) was.1))
         seated j e s (Old apart at) was = name was.0 s was.2 (shows.seated j e was.0 at was.1)
 
-    gone_parked : row.counted ≡ true → ServerFollows who logins (gone_at k h) (with_at k (up_end_told w) wires) v
+    gone_parked : row.counted ≡ true → ServerFollows who logins (gone_at k h) (with_at k (up_end_told w) wires) v []
     gone_parked counted =
         let s : Session ItemOut = live.session in
         let same : s.shown.resumable ≡ true = live.row.resumable ∙ counted in
         follows parked_hall (Some (record row { on = None }))
         (ap (λ o. with_sessions (lost h.moment o h.sessions) (without_conn k h)) seat ∙ ap (λ b. with_sessions (cond b (with_session s.shown.number (parked h.moment) h.sessions) (without s.shown.number h.sessions)) (without_conn k h)) same)
         parked_shows
-        (Parks k) (record v { conns = with_at k told v.conns; row = Some (record row { on = None }) }, record { conn = c; is = is; ended = stopped; empty = empty; row = row; is_row = is_row; on = on; counted = counted; gives = refl }, refl)
+        (Parks k) refl (record v { conns = with_at k told v.conns; row = Some (record row { on = None }) }, record { conn = c; is = is; ended = stopped; empty = empty; row = row; is_row = is_row; on = on; counted = counted; gives = refl }, refl)
 
-    gone_on : ServerFollows who logins (gone_at k h) (with_at k (up_end_told w) wires) v
+    gone_on : ServerFollows who logins (gone_at k h) (with_at k (up_end_told w) wires) v []
     gone_on = elim (cases_Bool row.counted) [ inl counted ↦ gone_parked counted | inr uncounted ↦ gone_early uncounted ]
 
-  pub gone_follows : ServerFollows who logins (gone_at k h) (with_at k (up_end_told w) wires) v
+  pub gone_follows : ServerFollows who logins (gone_at k h) (with_at k (up_end_told w) wires) v []
   gone_follows = go (session_on c) refl
     where
-      go : (o : Option ℕ) → session_on c ≡ o → ServerFollows who logins (gone_at k h) (with_at k (up_end_told w) wires) v
+      go : (o : Option ℕ) → session_on c ≡ o → ServerFollows who logins (gone_at k h) (with_at k (up_end_told w) wires) v []
       go None off = gone_bare off
       go (Some n) seated = let a = (kept.conns k c is).attached n seated in gone_on a.0 a.1 a.3

@@ -205,10 +205,11 @@ module _ (who : Identity) (logins : ℕ → Login) (h : Hall ItemOut) (wires : T
       back_by leads =
           let first_shows = back_shows (alter g v.sessions) (known_altered g v) in
           let few_left : length after.queue ≤ MOST_UNACKNOWLEDGED = fewer (n - row.acked) MOST_UNACKNOWLEDGED row.queue few in
-          subst (StepFollows who logins wires v k p.wire) (sym back_step) (record {
+          subst (λ t. StepFollows who logins wires v k p.wire t []) (sym back_step) (record {
             moves = move ∷ [];
             next = next;
             leads = (next, leads, refl);
+            does = refl;
             server =
                 subst (λ m. ServerShows who logins (with_sessions (with_session m (asks false) back_hall.sessions) back_hall) next) (sym own.live.number)
                 (session_shows who logins back_hall next after after (asks false) (alter g v.sessions) (known_same next) first_shows refl (asks_keeps false) (asked_row false after) (λ t is. subst (λ z. length z ≤ MOST_UNACKNOWLEDGED) (sym is.waiting) few_left));

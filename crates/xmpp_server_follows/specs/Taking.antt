@@ -3,6 +3,7 @@ use Rattle.std.specs.Prelude.{◌≡◌, ◌≢◌, ◌⊎◌, ℕ, ◌+◌, ◌
 use Rattle.xmpp_desk.specs.Moments.{gone_at}
 use Rattle.xmpp_desk.specs.State.{Hall, Step}
 use Rattle.xmpp_desk.specs.declared.limits.TheConstants.{ASKS_AT}
+use Rattle.xmpp_device_views.specs.Deeds.{Deed}
 use Rattle.xmpp_device_views.specs.Identities.{Identity, IsNormal, Login}
 use Rattle.xmpp_device_views.specs.Pipes.{PipesShow}
 use Rattle.xmpp_device_views.specs.Sent.{sent}
@@ -38,13 +39,14 @@ pub record IsFirst (who : Identity) (logins : ℕ → Login) (h : Hall ItemOut) 
 abbrev pub on_item : ℕ → ItemOut → Hall ItemOut → Step ItemOut
 on_item k i h = after_item itself k (read_of i) (step_of h)
 
--- behind a step, of which an item of this connection was handed over, the links have moved as this says
-abbrev pub StepFollows : Identity → (ℕ → Login) → Table ItemWire → View ItemOut → ℕ → ItemWire → Step ItemOut → Type 0
-StepFollows who logins wires v k wire done = ServerFollows who logins done.hall (sent done.outs (with_at k (handed_up wire) wires)) v
+-- behind a step, of which an item of this connection was handed over, the links have moved as this says, and put and
+-- handled these stanzas
+abbrev pub StepFollows : Identity → (ℕ → Login) → Table ItemWire → View ItemOut → ℕ → ItemWire → Step ItemOut → List (Deed ItemOut) → Type 0
+StepFollows who logins wires v k wire step done = ServerFollows who logins step.hall (sent step.outs (with_at k (handed_up wire) wires)) v done
 
--- the word's item is taken
+-- the word's item is taken, and no stanza is put or handled
 abbrev pub IsTaken : Identity → (ℕ → Login) → Hall ItemOut → Table ItemWire → View ItemOut → ℕ → ItemWire → UpWord ItemOut → Type 0
-IsTaken who logins h wires v k wire word = StepFollows who logins wires v k wire (on_item k (up_item who (logins k) word) h)
+IsTaken who logins h wires v k wire word = StepFollows who logins wires v k wire (on_item k (up_item who (logins k) word) h) []
 
 -- the words of a login
 abbrev pub IsOfLogin : UpWord ItemOut → Type 0
@@ -80,7 +82,7 @@ pub record IsOver (who : Identity) (logins : ℕ → Login) (h : Hall ItemOut) (
 
 -- the server hears of it
 abbrev pub IsHeard : Identity → (ℕ → Login) → Hall ItemOut → Table ItemWire → View ItemOut → ℕ → ItemWire → Type 0
-IsHeard who logins h wires v k wire = ServerFollows who logins (gone_at k h) (with_at k (up_end_told wire) wires) v
+IsHeard who logins h wires v k wire = ServerFollows who logins (gone_at k h) (with_at k (up_end_told wire) wires) v []
 
 -- ---- resumptions
 
@@ -110,7 +112,7 @@ IsOwnWord word = IsOfLogin word ⊎ IsOfManagement word
 
 -- of another device nothing moves, or as the links say
 abbrev pub IsLeft : Identity → Identity → (ℕ → Login) → (ℕ → Login) → Hall ItemOut → Table ItemWire → View ItemOut → ℕ → ItemWire → UpWord ItemOut → Type 0
-IsLeft who whom logins others h wires u k wire word = StepFollows whom others wires u k wire (on_item k (up_item who (logins k) word) h)
+IsLeft who whom logins others h wires u k wire word = StepFollows whom others wires u k wire (on_item k (up_item who (logins k) word) h) []
 
 -- ---- items
 

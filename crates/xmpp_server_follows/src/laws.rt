@@ -1,7 +1,8 @@
 //! What a server does on each item is moves of the links.
-ghost use Rattle.std.specs.Prelude.{◌≡◌, ℕ, ◌+◌, Some, slice_get};
+ghost use Rattle.std.specs.Prelude.{◌≡◌, ℕ, ◌+◌, List, [], Some, slice_get};
 ghost use Rattle.xmpp_desk.specs.Moments.{at_moment};
 ghost use Rattle.xmpp_desk.specs.State.{Hall};
+ghost use Rattle.xmpp_device_views.specs.Deeds.{Deed};
 ghost use Rattle.xmpp_device_views.specs.Identities.{Identity, IsNormal, Login};
 ghost use Rattle.xmpp_device_views.specs.Pipes.{PipesShow, by_number};
 ghost use Rattle.xmpp_device_views.specs.Servers.{ServerFollows, ServerShows};
@@ -60,7 +61,7 @@ pub fn strange_resumptions_follow()
 /// A law: as time passes a session that was parked for too long ends in the links too, and nothing else happens.
 pub fn moments_follow()
     ensures { (who : Identity) (logins : ℕ → Login) (h : Hall ItemOut) (wires : Table ItemWire) (v : View ItemOut) (now : ℕ) → ServerShows who logins h v → PipesShow who logins wires v
-        → ServerFollows who logins (at_moment now h) wires v }
+        → ServerFollows who logins (at_moment now h) wires v [] }
 {}
 
 /// A law: what the server does on a word of a login, on one on acknowledgement and on a footer leaves the part of
@@ -75,8 +76,8 @@ pub fn other_devices_stay()
 pub fn items_are_words()
     ensures words { (who : Identity) (logins : ℕ → Login) (h : Hall ItemOut) (wires : Table ItemWire) (v : View ItemOut) (k : ℕ) (w : ItemWire) (i : ItemOut) → IsNormal who → LinkReached v → ServerShows who logins h v
         → PipesShow who logins wires v → IsNext who wires k w i → HasFirst who logins h wires v k w i }
-    ensures worlds { (who : Identity) (logins : ℕ → Login) (w : ItemWorld) (v : View ItemOut) (place : ℕ) (wire : ItemWire) (i : ItemOut) → slice_get w.wires place ≡ Some wire
-        → StepFollows who logins (by_number w.wires) v (place + 1) wire (on_item (place + 1) i w.server) → ServerFollows who logins (served_item place i w).server (by_number (served_item place i w).wires) v }
+    ensures worlds { (who : Identity) (logins : ℕ → Login) (w : ItemWorld) (v : View ItemOut) (place : ℕ) (wire : ItemWire) (i : ItemOut) (done : List (Deed ItemOut)) → slice_get w.wires place ≡ Some wire
+        → StepFollows who logins (by_number w.wires) v (place + 1) wire (on_item (place + 1) i w.server) done → ServerFollows who logins (served_item place i w).server (by_number (served_item place i w).wires) v done }
 {}
 
 /// A law: on a resumption of a session that is parked likewise, on the connection that the client works on, and on
