@@ -55,9 +55,9 @@ use Rattle.xmpp_server_follows.specs.Taking.{IsFirst, IsTaken, StepFollows, on_i
 use Rattle.xmpp_session_rows.specs.Bindings.{binding_as, chosen, former_of}
 use Rattle.xmpp_stanza.specs.Readings.{stanza_of}
 use Rattle.xmpp_stanza_rows.specs.Ready.{at_ready_or_bound}
-use Rattle.xmpp_wire_steps.proofs.DeedsOf.{does_both}
 use Rattle.xmpp_wire_steps.proofs.Emitted.{puts_at}
 use Rattle.xmpp_wire_steps.proofs.Flows.{halted, taken_flowing}
+use Rattle.xmpp_wire_steps.proofs.MoreMoves.{does_both, then_reaches}
 use Rattle.xmpp_wire_steps.proofs.Placed.{keeps_at}
 use Rattle.xmpp_wire_steps.proofs.Servings.{IsLive, Known, known_altered, known_same, live_of}
 use Rattle.xmpp_writer.specs.Items.{Closing, ItemOut}
@@ -75,11 +75,6 @@ none_left p q (x ∷ ss) none =
 no_row_named : (who : Identity) (h : Hall ItemOut) (o : Option (Session ItemOut)) → IsRowShown None o → o ≡ None
 no_row_named who h None shown = refl
 no_row_named who h (Some s) shown = absurd shown
-
--- one move more
-then_reaches : (moves : List (LinkMove ItemOut)) (move : LinkMove ItemOut) (v middle last : View ItemOut) → LinkReaches moves v middle → LinkReaches (move ∷ []) middle last → LinkReaches (moves ++ move ∷ []) v last
-then_reaches [] move v middle last to more = subst (λ u. LinkReaches (move ∷ []) u last) to more
-then_reaches (first ∷ moves) move v middle last to more = (to.0, to.1, then_reaches moves move to.0 middle last to.2 more)
 
 module _ (who : Identity) (logins : ℕ → Login) (h : Hall ItemOut) (wires : Table ItemWire) (v : View ItemOut) (k : ℕ) (p : IsFirst who logins h wires v k Bind) (fits : h.next + 1 < 2 ^ 64) where
   kept : LinkKept v
@@ -321,7 +316,7 @@ module _ (who : Identity) (logins : ℕ → Login) (h : Hall ItemOut) (wires : T
           subst (λ t. StepFollows who logins wires v k p.wire t []) (sym step) (record {
             moves = moves ++ TakesBind k h.next ∷ [];
             next = end;
-            leads = then_reaches moves (TakesBind k h.next) v middle end to (end, record { conn = p.conn; is = at_other f closed v.conns k apart ∙ p.is; rest = p.rest; first = p.first; phase = ready; none = refl; fresh = none_yet; rises = p.server.free; gives = refl }, refl);
+            leads = then_reaches moves (TakesBind k h.next ∷ []) v middle end to (end, record { conn = p.conn; is = at_other f closed v.conns k apart ∙ p.is; rest = p.rest; first = p.first; phase = ready; none = refl; fresh = none_yet; rises = p.server.free; gives = refl }, refl);
             does = does_both moves (TakesBind k h.next ∷ []) [] [] nothing refl;
             server =
                 bound_shows who logins h v p.server k left (without_conn f h).conns rule was seat name fits last_conns (with_at h.next unread ss) (known_bound ss known) (without_sorted f h p.server.hall.conns)

@@ -5,7 +5,7 @@ pub mod Emitted
 pub mod Taken
 pub mod Placed
 -- ---- moves
-pub mod DeedsOf
+pub mod MoreMoves
 -- ---- the server
 pub mod Found
 pub mod Halls
