@@ -53,7 +53,7 @@ module _ (who : Identity) (logins : ℕ → Login) (h : Hall ItemOut) (wires : T
   kept : LinkKept v
   kept = kept_here who logins h wires v k (ResumeAt q n) p
 
-  abbrev hh : ℕ
+  abbrev pub hh : ℕ
   hh = told_count n
 
   pub high : is_too_high hh s ≡ true

@@ -101,7 +101,7 @@ module _ (who : Identity) (logins : ℕ → Login) (h : Hall ItemOut) (wires : T
     abbrev pub last_hall : Hall ItemOut
     last_hall = with_sessions (with_session s.shown.number (asks false) back_hall.sessions) back_hall
 
-    abbrev due : Bool
+    abbrev pub due : Bool
     due = nat_le ASKS_AT (length (resent hh s))
 
     abbrev tail : List (Session ItemOut) → Step ItemOut
