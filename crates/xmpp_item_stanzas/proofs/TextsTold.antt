@@ -18,18 +18,18 @@ use Rattle.xmpp_schedule.specs.Grammar.{is_digit, is_lower, is_name}
 
 -- ---- a text is cut at the first of its kind
 
-abbrev NonePasses : (ℕ → Bool) → List ℕ → Type 0
+abbrev pub NonePasses : (ℕ → Bool) → List ℕ → Type 0
 NonePasses p xs = AllByRecursion (λ x. p x ≡ false) xs
 
 module _ (p : ℕ → Bool) where
-  position : (xs : List ℕ) (c : ℕ) (ys : List ℕ) → NonePasses p xs → p c ≡ true → position_or_len p (xs ++ c ∷ ys) ≡ length xs
+  pub position : (xs : List ℕ) (c : ℕ) (ys : List ℕ) → NonePasses p xs → p c ≡ true → position_or_len p (xs ++ c ∷ ys) ≡ length xs
   position [] c ys none is = rw is refl
   position (x ∷ xs) c ys none is = let rest = position xs c ys none.1 is in rw none.0 (omega (arith, rest))
 
-  before_it : (xs : List ℕ) (c : ℕ) (ys : List ℕ) → NonePasses p xs → p c ≡ true → before_first p (xs ++ c ∷ ys) ≡ xs
+  pub before_it : (xs : List ℕ) (c : ℕ) (ys : List ℕ) → NonePasses p xs → p c ≡ true → before_first p (xs ++ c ∷ ys) ≡ xs
   before_it xs c ys none is = ap (λ n. take n (xs ++ c ∷ ys)) (position xs c ys none is) ∙ take-append_seam xs (c ∷ ys)
 
-  behind_it : (xs : List ℕ) (c : ℕ) (ys : List ℕ) → NonePasses p xs → p c ≡ true → after_first p (xs ++ c ∷ ys) ≡ ys
+  pub behind_it : (xs : List ℕ) (c : ℕ) (ys : List ℕ) → NonePasses p xs → p c ≡ true → after_first p (xs ++ c ∷ ys) ≡ ys
   behind_it xs c ys none is = ap (λ n. drop (n + 1) (xs ++ c ∷ ys)) (position xs c ys none is) ∙ drop-append-add xs (c ∷ ys) 1
 
 -- ---- names and digits have neither a dot nor an at sign
@@ -81,8 +81,11 @@ entry_again n is = ap (λ o. unwrap_or o 0) (sym (number_found (id_of n) n is.so
 
 -- ---- names
 
+pub no_at : (name : List ℕ) → is_name name ≡ true → NonePasses is_at name
+no_at name is = in_name is_at first_no_at char_no_at name is
+
 pub name_again : (name domain : List ℕ) → is_name name ≡ true → name_told (name ++ 64 ∷ domain) ≡ name
-name_again name domain is = before_it is_at name 64 domain (in_name is_at first_no_at char_no_at name is) refl
+name_again name domain is = before_it is_at name 64 domain (no_at name is) refl
 
 -- ---- origin ids
 
