@@ -1,5 +1,5 @@
 -- A client's submissions as those of its sessions.
-use Rattle.std.specs.Prelude.{◌≡◌, ℕ, true, false, Bool, List, [], ◌∷◌, Option, Some, None, drop, map}
+use Rattle.std.specs.Prelude.{◌≡◌, true, false, Bool, List, [], Option, Some, None, drop, map}
 use Rattle.xmpp_client_rows.specs.Clients.{ClientView}
 use Rattle.xmpp_devices.specs.DeviceLines.{said_line}
 use Rattle.xmpp_outbox.specs.Sessions.{SessionView}
