@@ -1,5 +1,5 @@
 -- One small step of a row on a stanza, and then all of them.
-use Rattle.std.proofs.Common.{◌≡◌, ℕ, zero, suc, ◌≤◌, Bool, true, false, not, ◌×◌, List, [], ◌∷◌, ◌++◌, Option, Some, None, is_some, length, map, nat_eq, refl, sym, ap, subst, ◌∙◌, inl, inr}
+use Rattle.std.proofs.Common.{◌≡◌, ℕ, zero, suc, Bool, true, false, List, [], ◌∷◌, ◌++◌, Option, Some, None, is_some, nat_eq, refl, sym, ap, subst, ◌∙◌, inl, inr}
 use Rattle.std.proofs.lemmas.Bool.{cases_Bool, eqb-true}
 use Rattle.std.proofs.lemmas.List.{map-append}
 use Rattle.std.proofs.lemmas.Option.{same_Some}
@@ -8,27 +8,27 @@ use Rattle.std.specs.Prelude.{ℤ, slice_get, slice_set}
 use Rattle.xmpp_archive.specs.Entries.{EntryView}
 use Rattle.xmpp_desk.specs.State.{Hall, Kept, Step, Took, archive_at}
 use Rattle.xmpp_desk.specs.Steps.{Act, Archive, Copy, Handle, Present, Send, Tell, act, acted, appended, archived_in}
-use Rattle.xmpp_device_views.specs.Deeds.{Deed, Gives, deeds_of, gives_all}
-use Rattle.xmpp_device_views.specs.Frames.{KeepsClient, SameClient}
+use Rattle.xmpp_device_views.specs.Deeds.{Deed, Gives, gives_all}
+use Rattle.xmpp_device_views.specs.Frames.{SameClient}
 use Rattle.xmpp_device_views.specs.Identities.{Identity, Login}
 use Rattle.xmpp_device_views.specs.Pipes.{PipesShow}
 use Rattle.xmpp_device_views.specs.Sent.{sent}
-use Rattle.xmpp_device_views.specs.Servers.{IsRow, ServerFollows, ServerShows}
+use Rattle.xmpp_device_views.specs.Servers.{ServerFollows, ServerShows}
 use Rattle.xmpp_item_worlds.specs.ItemPipes.{ItemWire}
 use Rattle.xmpp_item_worlds.specs.ItemWorlds.{itself}
 use Rattle.xmpp_links.proofs.Entries.{same_number}
 use Rattle.xmpp_links.proofs.Reached.{link_kept}
 use Rattle.xmpp_links.specs.Machine.{LinkMove, LinkReached, LinkReaches, nothing_yet}
 use Rattle.xmpp_links.specs.Views.{Row, Table, View}
-use Rattle.xmpp_live.specs.Sessions.{Session, copies, handles, presents}
+use Rattle.xmpp_live.specs.Sessions.{copies, handles, presents}
 use Rattle.xmpp_server_follows.proofs.Former.{keeps_both}
 use Rattle.xmpp_stanzas_follow.proofs.Elsewhere.{send_stands}
-use Rattle.xmpp_stanzas_follow.proofs.GivenParts.{IsCountedAt, IsFair, IsKeptRow, IsNotOf, fair_still, given_both, given_still, row_both, row_same, sends_elsewhere}
+use Rattle.xmpp_stanzas_follow.proofs.GivenParts.{IsFair, IsNotOf, fair_still, given_both, given_still, row_both, row_same, sends_elsewhere}
 use Rattle.xmpp_stanzas_follow.proofs.Listening.{each_weaker}
 use Rattle.xmpp_stanzas_follow.proofs.MorePipes.{more_put_out, told_out}
 use Rattle.xmpp_stanzas_follow.proofs.Own.{Goes, own_goes}
 use Rattle.xmpp_stanzas_follow.proofs.Thinned.{LeavesRow, apart_row, fair_row, session_kept}
-use Rattle.xmpp_stanzas_follow.specs.Given.{IsGiven, sends_to}
+use Rattle.xmpp_stanzas_follow.specs.Given.{sends_to}
 use Rattle.xmpp_wire_steps.proofs.Found.{Keeps}
 use Rattle.xmpp_wire_steps.proofs.MoreMoves.{does_both, then_reaches}
 use Rattle.xmpp_wire_steps.proofs.Placed.{keeps_all}
@@ -161,7 +161,7 @@ module _ (who : Identity) (logins : ℕ → Login) where
 
     -- ---- one behind the other
 
-    same_both : (v u w : View ItemOut) → SameClient v u → SameClient u w → SameClient v w
+    pub same_both : (v u w : View ItemOut) → SameClient v u → SameClient u w → SameClient v w
     same_both v u w first then_so = record {
       here = then_so.here ∙ first.here;
       own = then_so.own ∙ first.own;
@@ -169,7 +169,7 @@ module _ (who : Identity) (logins : ℕ → Login) where
       conns = λ k. keeps_both (v.conns k) (u.conns k) (w.conns k) (first.conns k) (then_so.conns k);
     }
 
-    pub follows_both : (v : View ItemOut) (first last : Step ItemOut) (done more all : List (Deed ItemOut)) → done ++ more ≡ all → (f : ServerFollows who logins first.hall (sent first.outs wires) v done)
+    abbrev pub follows_both : (v : View ItemOut) (first last : Step ItemOut) (done more all : List (Deed ItemOut)) → done ++ more ≡ all → (f : ServerFollows who logins first.hall (sent first.outs wires) v done)
         → ServerFollows who logins last.hall (sent last.outs wires) f.next more → ServerFollows who logins last.hall (sent last.outs wires) v all
     follows_both v first last done more all same f g = record {
       moves = f.moves ++ g.moves;

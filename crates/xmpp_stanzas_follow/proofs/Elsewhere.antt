@@ -1,6 +1,6 @@
 -- A stanza goes to a session that isn't the device's: of the device nothing moves.
-use Rattle.std.proofs.Common.{◌≡◌, ℕ, ◌+◌, ◌≤◌, ◌==◌, Bool, true, false, not, ◌×◌, List, [], ◌∷◌, ◌++◌, Option, Some, None, cond, length, refl, sym, ap, subst, ◌∙◌, inl, inr, arith}
-use Rattle.std.proofs.lemmas.Bool.{cases_Bool, eq-eqb}
+use Rattle.std.proofs.Common.{◌≡◌, ℕ, ◌+◌, ◌≤◌, ◌==◌, Bool, true, false, not, List, [], ◌∷◌, ◌++◌, Option, Some, None, cond, length, refl, sym, subst, ◌∙◌, arith}
+use Rattle.std.proofs.lemmas.Bool.{eq-eqb}
 use Rattle.std.proofs.lemmas.List.{length_push}
 use Rattle.std.proofs.lemmas.Option.{same_Some}
 use Rattle.std.specs.Option.{option_map}
@@ -37,11 +37,11 @@ one_more zs z few room =
     let less : length zs + 1 ≤ MOST_UNACKNOWLEDGED = below (length zs) few room in
     omega arith
   where
-    below : (n : ℕ) → n ≤ MOST_UNACKNOWLEDGED → (n == MOST_UNACKNOWLEDGED) ≡ false → n + 1 ≤ MOST_UNACKNOWLEDGED
-    below n few room = by_cases n few (λ same. let there = eq-eqb n MOST_UNACKNOWLEDGED same in let no_way : ⊥ = cc in no_way)
-
     by_cases : (n : ℕ) → n ≤ MOST_UNACKNOWLEDGED → (n ≡ MOST_UNACKNOWLEDGED → ⊥) → n + 1 ≤ MOST_UNACKNOWLEDGED
     by_cases n few apart = omega arith
+
+    below : (n : ℕ) → n ≤ MOST_UNACKNOWLEDGED → (n == MOST_UNACKNOWLEDGED) ≡ false → n + 1 ≤ MOST_UNACKNOWLEDGED
+    below n few room = by_cases n few (λ same. let there = eq-eqb n MOST_UNACKNOWLEDGED same in let no_way : ⊥ = cc in no_way)
 
 -- ---- what a step is, as the device's part of it stays
 

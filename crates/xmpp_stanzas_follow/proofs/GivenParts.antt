@@ -1,5 +1,5 @@
 -- What one small step gives, and then those behind it.
-use Rattle.std.proofs.Common.{◌≡◌, ℕ, nat_eq, cond, true, false, List, [], ◌∷◌, ◌++◌, Option, Some, None, refl, sym, ap, subst, ◌∙◌}
+use Rattle.std.proofs.Common.{◌≡◌, ℕ, cond, true, List, [], ◌∷◌, ◌++◌, Option, Some, None, refl, sym, ap, subst, ◌∙◌}
 use Rattle.std.proofs.lemmas.List.{append-nil, append_assoc}
 use Rattle.xmpp_desk.specs.Steps.{Act, Copy, Present, Send}
 use Rattle.xmpp_device_views.specs.Counted.{IsForClient}
@@ -91,10 +91,12 @@ module _ (act : Act ItemOut) (acts : List (Act ItemOut)) (some more : List ItemO
   ended_first r q first rest =
       let short : sent_to r.number act ≡ some ++ first.0 ∷ first.1 = sym (alone r.number) ∙ first.2 in
       let none : some ++ more ≡ some = ap (λ l. some ++ l) rest.0 ∙ append-nil some in
+      let moved : (some ++ first.0 ∷ first.1) ++ sends_to r.number acts ≡ some ++ first.0 ∷ (first.1 ++ sends_to r.number acts) = append_assoc some (first.0 ∷ first.1) (sends_to r.number acts) in
+      let all : sent_to r.number act ++ sends_to r.number acts ≡ some ++ first.0 ∷ (first.1 ++ sends_to r.number acts) = ap (λ l. l ++ sends_to r.number acts) short ∙ moved in
       subst (IsGiven (act ∷ acts) (some ++ more) (Some r)) (sym rest.1) (
         first.0,
         first.1 ++ sends_to r.number acts,
-        ap (λ l. l ++ sends_to r.number acts) short ∙ append_assoc some (first.0 ∷ first.1) (sends_to r.number acts) ∙ ap (λ l. l ++ first.0 ∷ first.1 ++ sends_to r.number acts) (sym none),
+        all ∙ ap (λ l. l ++ first.0 ∷ (first.1 ++ sends_to r.number acts)) (sym none),
       )
 
   -- it lives on behind the first

@@ -25,12 +25,12 @@ use Rattle.xmpp_messages.specs.Entries.{entry_of}
 use Rattle.xmpp_pages.specs.Cuts.{CutView}
 use Rattle.xmpp_pages.specs.Kept.{kept_by}
 use Rattle.xmpp_pages.specs.PageOf.{page_of}
-use Rattle.xmpp_request_rows.specs.Requests.{asker_of, at_iq, empty_answer, envelope_of, info_item, paging, querying_in, refusing_iq, request_of, sending_entries, sending_entry, serving}
+use Rattle.xmpp_request_rows.specs.Requests.{asker_of, empty_answer, envelope_of, info_item, paging, querying_in, refusing_iq, request_of, sending_entries, sending_entry, serving}
 use Rattle.xmpp_request_rows.specs.declared.request.Request.{Request}
 use Rattle.xmpp_request_rows.specs.declared.request.Request.TheVariants as request
 use Rattle.xmpp_route.specs.Destinations.{Bare, Destination, Full, NoUser, RemoteDomain, account_in, at_user, destination_of}
 use Rattle.xmpp_route.specs.Messages.{is_copied, is_for_users}
-use Rattle.xmpp_route.specs.Plans.{copied_of, dropped, is_ready, plan_of, planned, ready_of, received_copies, refused, routed, sent_copies, to_user, wants_copy}
+use Rattle.xmpp_route.specs.Plans.{copied_of, dropped, is_ready, plan_of, planned, ready_of, refused, routed, to_user, wants_copy}
 use Rattle.xmpp_route.specs.Routes.{Bounced, PlanOf, RouteOf, Routed, archives_of, plan_renamed}
 use Rattle.xmpp_stanza.specs.Kinds.{answers_message}
 use Rattle.xmpp_stanza.specs.Views.{IqView, MessageView}

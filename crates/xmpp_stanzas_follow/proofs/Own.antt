@@ -8,11 +8,11 @@ use Rattle.std.proofs.lemmas.Option.{same_Some}
 use Rattle.std.specs.List.{filter}
 use Rattle.std.specs.Option.{option_map}
 use Rattle.xmpp_acks.specs.declared.end.TheConstants.{MOST_UNACKNOWLEDGED}
-use Rattle.xmpp_desk.specs.State.{Hall, Out, Put, Shut, Step, with_sessions, without_conn}
-use Rattle.xmpp_desk.specs.Steps.{Act, Send, act, ask_where, in_sessions, is_due, overflow, part, part_where, put, put_where, queue, send_told}
+use Rattle.xmpp_desk.specs.State.{Hall, Put, Shut, Step, with_sessions, without_conn}
+use Rattle.xmpp_desk.specs.Steps.{Act, Send, act, ask_where, in_sessions, is_due, overflow, part_where, put, put_where, queue, send_told}
 use Rattle.xmpp_device_views.specs.Counted.{IsForClient}
-use Rattle.xmpp_device_views.specs.Deeds.{Deed, Gives, gives_all}
-use Rattle.xmpp_device_views.specs.Frames.{SameClient}
+use Rattle.xmpp_device_views.specs.Deeds.{gives_all}
+use Rattle.xmpp_device_views.specs.Frames.{KeepsClient}
 use Rattle.xmpp_device_views.specs.Identities.{Identity, Login}
 use Rattle.xmpp_device_views.specs.Pipes.{PipesShow}
 use Rattle.xmpp_device_views.specs.Sent.{sent}
@@ -21,26 +21,27 @@ use Rattle.xmpp_item_worlds.specs.ItemPipes.{ItemWire}
 use Rattle.xmpp_item_worlds.specs.ItemWorlds.{itself}
 use Rattle.xmpp_links.proofs.Entries.{at_same}
 use Rattle.xmpp_links.specs.Links.{IsPlaced, LinkKept}
-use Rattle.xmpp_links.specs.Machine.{Detaches, EndsRow, Keeps, LinkMove, Serves}
+use Rattle.xmpp_links.specs.Machine.{Demands, Detaches, EndsRow, Keeps, Serves}
 use Rattle.xmpp_links.specs.SessionMoves.{lost_if, put_if, shut as shut_conn}
 use Rattle.xmpp_links.specs.Stages.{Conn, Errs, tail_of}
 use Rattle.xmpp_links.specs.Views.{Row, Table, View, alter, carries, has, session_on, with_at}
 use Rattle.xmpp_links.specs.Views as links
 use Rattle.xmpp_links.specs.Wires.{send_down}
-use Rattle.xmpp_links.specs.Words.{Constraint, Down, St}
-use Rattle.xmpp_live.specs.Sessions.{Session, asks, is_at, is_named, session_named, session_of, told, waits, with_session, without}
+use Rattle.xmpp_links.specs.Words.{Constraint, Down, Req, St}
+use Rattle.xmpp_live.specs.Sessions.{Session, asks, is_at, is_named, session_of, told, waits, with_session, without}
 use Rattle.xmpp_replies.specs.Management.{request_item}
 use Rattle.xmpp_replies.specs.Streams.{error_item}
 use Rattle.xmpp_replies.specs.declared.conditions.StreamCondition.TheVariants as stream
-use Rattle.xmpp_server_follows.proofs.Demanding.{demanded, follows_on, sent_more}
+use Rattle.xmpp_server_follows.proofs.Former.{keeps_both}
 use Rattle.xmpp_server_follows.proofs.Leavings.{left_hall, left_shows}
 use Rattle.xmpp_server_follows.proofs.Removed.{named_gone}
+use Rattle.xmpp_server_follows.proofs.SessionRows.{asked_row, asks_keeps}
 use Rattle.xmpp_server_follows.proofs.Shuts.{shuts_at}
 use Rattle.xmpp_stanzas_follow.proofs.Elsewhere.{one_more, waits_keeps}
 use Rattle.xmpp_stanzas_follow.proofs.GivenParts.{IsKeptRow, given_all, given_short, row_ended, sends_here}
 use Rattle.xmpp_stanzas_follow.proofs.MorePipes.{more_put_out, put_here, shut_here}
 use Rattle.xmpp_stanzas_follow.proofs.Thinned.{thinned}
-use Rattle.xmpp_stanzas_follow.specs.Given.{IsGiven, sends_to}
+use Rattle.xmpp_stanzas_follow.specs.Given.{IsGiven}
 use Rattle.xmpp_wire_steps.proofs.Flows.{halted, put_flowing}
 use Rattle.xmpp_wire_steps.proofs.Found.{numbered_here}
 use Rattle.xmpp_wire_steps.proofs.Placed.{keeps_all, keeps_at}
@@ -172,31 +173,81 @@ module _ (who : Identity) (logins : ℕ → Login) (wires : Table ItemWire) (v :
       abbrev served : View ItemOut
       served = record v { conns = with_at k put_conn v.conns; row = Some after; sessions = alter one_put v.sessions }
 
-      served_follows : ServerFollows who logins waiting_hall (sent (s.outs ++ Put k z ∷ []) wires) v (Gives z ∷ [])
-      served_follows = record {
-        moves = Serves k z ∷ [];
-        next = served;
-        leads = (served, record { conn = c; is = is; row = r; is_row = is_row; on = on; counted = counted; gives = refl }, refl);
-        does = refl;
-        server = row_shows who logins waiting_hall middle waits_shows k c is put_conn (Some after) (alter one_put v.sessions) (known_same middle) refl waits_shows.row;
-        pipes =
-            more_put_out who logins wires served s.outs (Put k z ∷ [])
-            (put_here who logins (sent s.outs wires) v pipes k c is served (Down (St z) ∷ []) (z ∷ []) refl (All-cons IsForClient z [] stanza (All-nil IsForClient)) refl);
-        client = record { here = refl; own = refl; epoch = refl; conns = keeps_at v.conns k c put_conn is refl (λ ended. put_flowing (Down (St z) ∷ []) c.wires ∙ ended) };
-      }
+      served_shows : ServerShows who logins waiting_hall served
+      served_shows = row_shows who logins waiting_hall middle waits_shows k c is put_conn (Some after) (alter one_put v.sessions) (known_same middle) refl waits_shows.row
+
+      served_pipes : PipesShow who logins (sent (s.outs ++ Put k z ∷ []) wires) served
+      served_pipes =
+          more_put_out who logins wires served s.outs (Put k z ∷ [])
+          (put_here who logins (sent s.outs wires) v pipes k c is served (Down (St z) ∷ []) (z ∷ []) refl (All-cons IsForClient z [] stanza (All-nil IsForClient)) refl)
 
       at_there : served.conns k ≡ Some put_conn
       at_there = at_same k put_conn v.conns
 
-      asked_follows : ServerFollows who logins (with_sessions (with_session r.number (asks true) waiting_hall.sessions) waiting_hall) (sent ((s.outs ++ Put k z ∷ []) ++ Put k request_item ∷ []) wires) v (Gives z ∷ [])
-      asked_follows =
-          follows_on who logins (with_sessions (with_session r.number (asks true) waiting_hall.sessions) waiting_hall) (sent (Put k request_item ∷ []) (sent (s.outs ++ Put k z ∷ []) wires)) (sent ((s.outs ++ Put k z ∷ []) ++ Put k request_item ∷ []) wires) v (Gives z ∷ [])
-          (sent_more (s.outs ++ Put k z ∷ []) (Put k request_item ∷ []) wires)
-          (demanded who logins waiting_hall (sent (s.outs ++ Put k z ∷ []) wires) v (Gives z ∷ []) k served_follows after put_conn refl on counted at_there)
+      -- and a request goes out behind it
+      abbrev asked_conn : Conn ItemOut
+      asked_conn = record put_conn { wires = send_down (Down Req ∷ []) put_conn.wires }
+
+      abbrev asked : View ItemOut
+      asked = record served { conns = with_at k asked_conn served.conns }
+
+      abbrev asked_hall : Hall ItemOut
+      asked_hall = with_sessions (with_session r.number (asks true) waiting_hall.sessions) waiting_hall
+
+      asks_shows : ServerShows who logins asked_hall served
+      asks_shows =
+          session_shows who logins waiting_hall served after after (asks true) served.sessions (known_same served) served_shows refl (asks_keeps true) (asked_row true after)
+          (λ t its. subst (λ q. length q ≤ MOST_UNACKNOWLEDGED) (sym its.waiting) more_few)
+
+      asked_shows : ServerShows who logins asked_hall asked
+      asked_shows = row_shows who logins asked_hall served asks_shows k put_conn at_there asked_conn (Some after) served.sessions (known_same served) refl asks_shows.row
+
+      asked_pipes : PipesShow who logins (sent ((s.outs ++ Put k z ∷ []) ++ Put k request_item ∷ []) wires) asked
+      asked_pipes =
+          more_put_out who logins wires asked (s.outs ++ Put k z ∷ []) (Put k request_item ∷ [])
+          (put_here who logins (sent (s.outs ++ Put k z ∷ []) wires) served served_pipes k put_conn at_there asked (Down Req ∷ []) (request_item ∷ []) refl (All-nil IsForClient) refl)
+
+      served_keeps : (j : ℕ) → KeepsClient (v.conns j) (served.conns j)
+      served_keeps = keeps_at v.conns k c put_conn is refl (λ ended. put_flowing (Down (St z) ∷ []) c.wires ∙ ended)
+
+      asked_keeps : (j : ℕ) → KeepsClient (v.conns j) (asked.conns j)
+      asked_keeps j =
+          keeps_both (v.conns j) (served.conns j) (asked.conns j) (served_keeps j)
+          (keeps_at served.conns k put_conn asked_conn at_there refl (λ ended. put_flowing (Down Req ∷ []) put_conn.wires ∙ ended) j)
 
       by_due : (b : Bool) → Result (ask_where itself r.number (Some k) b (put k z waiting))
-      by_due false = record { given = z ∷ []; follows = served_follows; are_given = given_here; kept = row_here }
-      by_due true = record { given = z ∷ []; follows = asked_follows; are_given = given_here; kept = row_here }
+      by_due false = record {
+        given = z ∷ [];
+        follows = record {
+          moves = Serves k z ∷ [];
+          next = served;
+          leads = (served, record { conn = c; is = is; row = r; is_row = is_row; on = on; counted = counted; gives = refl }, refl);
+          does = refl;
+          server = served_shows;
+          pipes = served_pipes;
+          client = record { here = refl; own = refl; epoch = refl; conns = served_keeps };
+        };
+        are_given = given_here;
+        kept = row_here;
+      }
+      by_due true = record {
+        given = z ∷ [];
+        follows = record {
+          moves = Serves k z ∷ Demands k ∷ [];
+          next = asked;
+          leads = (
+            served,
+            record { conn = c; is = is; row = r; is_row = is_row; on = on; counted = counted; gives = refl },
+            (asked, record { conn = put_conn; is = at_there; row = after; is_row = refl; on = on; counted = counted; gives = refl }, refl),
+          );
+          does = refl;
+          server = asked_shows;
+          pipes = asked_pipes;
+          client = record { here = refl; own = refl; epoch = refl; conns = asked_keeps };
+        };
+        are_given = given_here;
+        kept = row_here;
+      }
 
       put_out : Result (queue itself r.number z (told x) s)
       put_out = subst Result (sym (ap (λ o. ask_where itself r.number o (is_due (told x)) (put_where o z waiting)) (live.row.conn ∙ on))) (by_due (is_due (told x)))

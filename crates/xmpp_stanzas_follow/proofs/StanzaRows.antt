@@ -1,5 +1,5 @@
 -- The row on a stanza (RFC 6120, section 8): what it is for the device whose session it is of, and for the others.
-use Rattle.std.proofs.Common.{◌≡◌, ℕ, ◌+◌, ◌≤◌, Bool, true, false, List, [], ◌∷◌, ◌++◌, Option, Some, None, cond, length, refl, sym, ap, subst, ◌∙◌, ◌⊎◌, inl, inr}
+use Rattle.std.proofs.Common.{◌≡◌, ℕ, ◌+◌, true, false, List, [], ◌∷◌, Option, Some, None, cond, refl, sym, ap, subst, ◌∙◌, ◌⊎◌, inl, inr}
 use Rattle.std.proofs.lemmas.Bool.{cases_Bool}
 use Rattle.std.proofs.lemmas.List.Elements.{All-head, All-nil}
 use Rattle.std.proofs.lemmas.Option.{same_Some}
@@ -10,7 +10,7 @@ use Rattle.xmpp_desk.specs.Steps.{Act, Archive, Copy, Handle, Present, Send, Tel
 use Rattle.xmpp_desk.specs.Words.{is_long, is_stanza, word_of}
 use Rattle.xmpp_desk.specs.declared.word.Word.TheVariants as word
 use Rattle.xmpp_device_views.specs.Counted.{IsForClient, IsForServer}
-use Rattle.xmpp_device_views.specs.Deeds.{Deed, Takes, gives_all}
+use Rattle.xmpp_device_views.specs.Deeds.{Takes, gives_all}
 use Rattle.xmpp_device_views.specs.Identities.{Identity, Login}
 use Rattle.xmpp_device_views.specs.Pipes.{PipesShow}
 use Rattle.xmpp_device_views.specs.Sent.{sent}
@@ -27,7 +27,7 @@ use Rattle.xmpp_links.specs.Stages.{Conn}
 use Rattle.xmpp_links.specs.Views.{Row, Table, View, alter, has, with_at}
 use Rattle.xmpp_links.specs.Views as links
 use Rattle.xmpp_links.specs.Words.{St, Up, up_stanzas}
-use Rattle.xmpp_live.specs.Sessions.{Session, handles, is_named, session_named, session_of, told, with_session}
+use Rattle.xmpp_live.specs.Sessions.{Session, handles, is_named, session_of, told, with_session}
 use Rattle.xmpp_server_follows.proofs.HandMoves.{kept_here, wire_here}
 use Rattle.xmpp_server_follows.proofs.Others.{pipes_stay}
 use Rattle.xmpp_server_follows.proofs.Removed.{named_as}
@@ -35,16 +35,16 @@ use Rattle.xmpp_server_follows.proofs.Sessions.{counts_so, few_wait, live, numbe
 use Rattle.xmpp_server_follows.specs.Taking.{AreApart, IsFirst, on_item}
 use Rattle.xmpp_stanza.specs.Readings.{stanza_of}
 use Rattle.xmpp_stanza_rows.specs.Ready.{at_bound}
-use Rattle.xmpp_stanza_rows.specs.Stanzas.{handling, judging}
+use Rattle.xmpp_stanza_rows.specs.Stanzas.{judging}
 use Rattle.xmpp_stanzas_follow.proofs.ActSteps.{acts_go, follows_both, handles_keeps, reached_more}
 use Rattle.xmpp_stanzas_follow.proofs.GivenParts.{IsCountedAt, IsFair, IsKeptRow, IsNotOf, fair_still}
 use Rattle.xmpp_stanzas_follow.proofs.Listening.{AreHeard, IsHeard, IsHeardBy, IsListening, each_weaker, handling_heard}
 use Rattle.xmpp_stanzas_follow.proofs.Own.{Goes}
-use Rattle.xmpp_stanzas_follow.specs.Given.{IsGiven, IsOfSession, StepGives, acts_on, sends_to}
+use Rattle.xmpp_stanzas_follow.specs.Given.{IsGiven, IsOfSession, StepGives, acts_on}
 use Rattle.xmpp_trees.specs.Trees.{Elem}
 use Rattle.xmpp_wire_steps.proofs.Found.{found_is, numbered_here}
-use Rattle.xmpp_wire_steps.proofs.Servings.{known_altered, known_same, live_of, row_shows, session_shows}
-use Rattle.xmpp_writer.specs.Items.{ItemOut, Whole}
+use Rattle.xmpp_wire_steps.proofs.Servings.{IsLive, known_altered, known_same, live_of, row_shows, session_shows}
+use Rattle.xmpp_writer.specs.Items.{ItemOut}
 
 -- ---- for any device: nothing is for a session of it that isn't counted
 
@@ -54,6 +54,7 @@ module _ (who : Identity) (logins : ℕ → Login) (h : Hall ItemOut) (v : View 
       let there = numbered_here (is_named who.account who.resource) h.next 1 h.sessions here.session shows.hall.sessions.ascending here.named in
       by (heard here.session (subst (λ m. session_of m h.sessions ≡ Some here.session) (here.row.number ∙ number) there))
     where
+      here : IsLive who h r
       here = live_of who logins h v r shows is
 
       counts : r.counted ≡ false → (here.session.shown.available ≡ true) ⊎ (here.session.shown.carbons ≡ true) → ⊥
@@ -163,7 +164,7 @@ module _ (who : Identity) (logins : ℕ → Login) (h : Hall ItemOut) (wires : T
         session_shows who logins h v row after handles (alter counted_one v.sessions) (known_altered counted_one v) p.server there.1 handles_keeps (handled_row row)
         (few_wait who logins h wires v k (Up (St z)) p true there)
 
-    counted_follows : ServerFollows who logins counted_hall (sent [] (with_at k (handed_up p.wire) wires)) v (Takes z ∷ [])
+    abbrev counted_follows : ServerFollows who logins counted_hall (sent [] (with_at k (handed_up p.wire) wires)) v (Takes z ∷ [])
     counted_follows = record {
       moves = TakesStanza k z ∷ [];
       next = next;

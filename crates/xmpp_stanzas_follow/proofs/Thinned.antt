@@ -1,5 +1,5 @@
 -- What the server has of a device, where sessions are changed or end that aren't its own, or where its own ends.
-use Rattle.std.proofs.Common.{◌≡◌, ◌≢◌, ℕ, ◌≤◌, ◌==◌, Bool, true, false, not, List, Option, Some, None, length, refl, sym, ap, subst, ◌∙◌, inl, inr}
+use Rattle.std.proofs.Common.{◌≡◌, ◌≢◌, ℕ, ◌≤◌, ◌==◌, Bool, true, false, not, Option, Some, None, length, refl, sym, ap, subst, ◌∙◌, inl, inr}
 use Rattle.std.proofs.lemmas.Bool.{cases_Bool, eqb-true}
 use Rattle.std.specs.List.{filter}
 use Rattle.std.specs.Option.{option_map}
@@ -11,7 +11,7 @@ use Rattle.xmpp_links.specs.Links.{IsPlaced, LinkKept}
 use Rattle.xmpp_links.specs.Stages.{Conn}
 use Rattle.xmpp_links.specs.Views.{Row, Table, View}
 use Rattle.xmpp_links.specs.Views as links
-use Rattle.xmpp_live.specs.Sessions.{Session, is_at, is_named, is_numbered, session_at, session_named, session_of, with_session}
+use Rattle.xmpp_live.specs.Sessions.{Session, is_at, is_named, is_numbered, session_named, session_of, with_session}
 use Rattle.xmpp_server_follows.proofs.BindRows.{none_left}
 use Rattle.xmpp_server_follows.proofs.HallsLeft.{without_apart, without_sorted}
 use Rattle.xmpp_server_follows.proofs.Leavings.{seat_is, seat_of}
