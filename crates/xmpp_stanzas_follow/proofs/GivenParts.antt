@@ -102,8 +102,7 @@ module _ (act : Act ItemOut) (acts : List (Act ItemOut)) (some more : List ItemO
   -- it lives on behind the first
   lived_first : (r next : Row ItemOut) (q : Option (Row ItemOut)) → IsGiven (act ∷ []) some (Some r) (Some next) → IsGiven acts more (Some next) q → IsGiven (act ∷ acts) (some ++ more) (Some r) q
   lived_first r next None first rest =
-      let all : some ≡ sent_to r.number act = first.1 ∙ alone r.number in
-      (
+      let all : some ≡ sent_to r.number act = first.1 ∙ alone r.number in (
         rest.0,
         rest.1,
         ap (λ n. sent_to r.number act ++ sends_to n acts) (sym first.0) ∙ ap (λ l. sent_to r.number act ++ l) rest.2 ∙ sym (append_assoc (sent_to r.number act) more (rest.0 ∷ rest.1)) ∙ ap (λ l. (l ++ more) ++ rest.0 ∷ rest.1) (sym all),
