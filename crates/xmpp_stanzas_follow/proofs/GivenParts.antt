@@ -19,8 +19,8 @@ IsNotOf o n = (r : Row ItemOut) → o ≡ Some r → r.number ≡ n → ⊥
 abbrev pub IsCountedAt : Option (Row ItemOut) → ℕ → Type 0
 IsCountedAt o n = (r : Row ItemOut) → o ≡ Some r → r.number ≡ n → r.counted ≡ true
 
--- what a row on a stanza does for the device: no stanza is for a session that isn't counted, and none of the device's is
--- handled
+-- what a row on a stanza does for the device: no stanza is for a session of it that isn't counted, and none of its own
+-- is handled
 abbrev pub IsFair : Option (Row ItemOut) → Act ItemOut → Type 0
 IsFair o (Send n z) = IsForClient z × IsCountedAt o n
 IsFair o (Present n available priority) = IsCountedAt o n

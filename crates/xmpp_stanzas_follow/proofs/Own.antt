@@ -1,5 +1,5 @@
--- A stanza goes to the session of the device, which is counted: it waits there, and goes out where the session is attached;
--- or the session ends, since as many wait as may (XEP-0198, section 4).
+-- A stanza goes to the session of the device, which is counted: it waits there, and goes out where the session is
+-- attached; or the session ends, since as many wait as may (XEP-0198, section 4).
 use Rattle.std.proofs.Common.{◌≡◌, ℕ, ◌≤◌, ◌==◌, Bool, true, false, not, ◌&&◌, List, [], ◌∷◌, ◌++◌, Option, Some, None, cond, length, refl, sym, ap, subst, ◌∙◌, inl, inr}
 use Rattle.std.proofs.lemmas.Bool.{cases_Bool, eq-eqb}
 use Rattle.std.proofs.lemmas.List.{append_assoc}

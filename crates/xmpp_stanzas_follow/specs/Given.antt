@@ -1,5 +1,5 @@
--- A stanza of a device's session is handled by a list of small steps. What they send to the session of a device, its own or
--- another, is put there.
+-- A stanza of a device's session is handled by a list of small steps. What they send to the session of a device, its
+-- own or another, is put there.
 use Rattle.std.specs.Prelude.{◌≡◌, ℕ, nat_eq, true, if◌then◌else◌, List, [], ◌∷◌, ◌++◌, Option, Some, None}
 use Rattle.xmpp_desk.specs.State.{Hall, Step}
 use Rattle.xmpp_desk.specs.Steps.{Act, Send}
@@ -40,16 +40,16 @@ sends_to n (act ∷ acts) = sent_to n act ++ sends_to n acts
 
 -- ---- what was given to a device
 
--- All that is sent to its session, where that lives on. Where it ends on the way, since no more stanzas may wait in its queue,
--- all before the one that would have been too many. And nothing, where the device has no session. The session is told by
--- its row in the links, before and behind.
+-- All that is sent to its session, where that lives on. Where it ends on the way, since no more stanzas may wait in its
+-- queue, all before the one that would have been too many. And nothing, where the device has no session. The session is
+-- told by its row in the links, before and behind.
 abbrev pub IsGiven : List (Act ItemOut) → List ItemOut → Option (Row ItemOut) → Option (Row ItemOut) → Type 0
 IsGiven acts given None behind = (given ≡ []) × (behind ≡ None)
 IsGiven acts given (Some r) None = (z : ItemOut) × (missing : List ItemOut) × (sends_to r.number acts ≡ given ++ z ∷ missing)
 IsGiven acts given (Some r) (Some next) = (next.number ≡ r.number) × (given ≡ sends_to r.number acts)
 
--- behind a step, of which an item of a connection was handed over, the links have moved, and of stanzas they did this: what is
--- said, and then that these were given
+-- behind a step, of which an item of a connection was handed over, the links have moved, and of stanzas they did this:
+-- first what is said, and then these were given
 pub record StepGives (who : Identity) (logins : ℕ → Login) (wires : Table ItemWire) (v : View ItemOut) (k : ℕ) (wire : ItemWire) (step : Step ItemOut) (acts : List (Act ItemOut)) (first : List (Deed ItemOut)) : Type 0 where
   pub given : List ItemOut
   pub follows : StepFollows who logins wires v k wire step (first ++ gives_all given)
