@@ -1,0 +1,9 @@
+-- ---- connections by their numbers, and devices by their places
+pub mod Numbered
+-- ---- what moves of one end leave of the other
+pub mod Stays
+-- ---- cuts
+pub mod CutPipes
+-- ---- a client leaves its connection
+pub mod Leaves
+pub mod Parts
