@@ -75,7 +75,7 @@ module _ (who : Identity) (logins : ℕ → Login) (wires : Table ItemWire) (v :
       (λ n apart. at_other k (cut_at i j w) wires n apart) (wire_cut who (logins k) k i j c w (wire_of who logins wires v k c w pipes is there))
 
   pub cut_server : SameServer v (cut_view k i j c v)
-  cut_server = record { row = refl; free = refl; conns = keeps_server_at v.conns k c (cut_conn i j c) is refl refl refl }
+  cut_server = record { row = refl; free = refl; known = known_altered (ways_cut (has v.here k) c i j) v; conns = keeps_server_at v.conns k c (cut_conn i j c) is refl refl refl }
 
   pub cut_client : SameClient v (cut_view k i j c v)
   cut_client = record { here = refl; own = refl; epoch = refl; conns = keeps_at v.conns k c (cut_conn i j c) is refl (λ e. cut_stops i j c.wires) }

@@ -29,6 +29,7 @@ use Rattle.xmpp_links.specs.Wires.{Flow, Stop, Wires, cut, down_words, is_flowin
 use Rattle.xmpp_links.specs.Words.{Ack, Auth, Bind, Enable, Foot, Hdr, Req, Resp, ResumeAt, St, Up, UpWord, down_stanzas, up_stanzas}
 use Rattle.xmpp_wire_steps.proofs.Flows.{entered_ended}
 use Rattle.xmpp_wire_steps.proofs.Placed.{shown_as, shown_at}
+use Rattle.xmpp_wire_steps.proofs.Servings.{known_same}
 use Rattle.xmpp_writer.specs.Items.{Closing, ItemOut}
 
 -- behind it the client has no connection, and the pipes are these
@@ -167,7 +168,7 @@ module _ (who : Identity) (logins : ℕ → Login) (wires : Table ItemWire) (v :
     own = refl;
     epoch = refl;
     pipes = record { each = left_pipes.each };
-    server = record { row = refl; free = refl; conns = (cut_server who logins wires v k all 0 c w is).conns };
+    server = let same = cut_server who logins wires v k all 0 c w is in record { row = refl; free = refl; known = same.known; conns = same.conns };
   }
 
   abbrev footed : Conn ItemOut
@@ -202,8 +203,8 @@ module _ (who : Identity) (logins : ℕ → Login) (wires : Table ItemWire) (v :
         pipes =
             shown_at who logins (with_at k (left w) wires) (with_at k (left (put_up (Closing ∷ []) w)) wires) middle behind_foot k footed (left (put_up (Closing ∷ []) w)) left_pipes (λ j. refl)
             (at_same k (left (put_up (Closing ∷ []) w)) wires) (λ j apart. at_other k (left (put_up (Closing ∷ []) w)) wires j apart ∙ sym (at_other k (left w) wires j apart)) two;
-        server = same_servers v gone_from behind_foot (record { row = refl; free = refl; conns = (cut_server who logins wires v k all 0 c w is).conns })
-            (record { row = refl; free = refl; conns = keeps_server_at gone_from.conns k stopped footed (at_same k stopped v.conns) refl refl refl });
+        server = same_servers v gone_from behind_foot (plainly here).server
+            (record { row = refl; free = refl; known = known_same gone_from; conns = keeps_server_at gone_from.conns k stopped footed (at_same k stopped v.conns) refl refl refl });
       }
 
   -- it stood apart
@@ -221,7 +222,7 @@ module _ (who : Identity) (logins : ℕ → Login) (wires : Table ItemWire) (v :
         own = refl;
         epoch = refl;
         pipes = pipes_same who logins wires (with_at k (left w) wires) v (λ j. ap (λ u. with_at k u wires j) same ∙ at_itself k w wires there j) pipes;
-        server = record { row = refl; free = refl; conns = λ j. keeps_server (v.conns j) };
+        server = record { row = refl; free = refl; known = known_same v; conns = λ j. keeps_server (v.conns j) };
       }
 
   -- where a connection stands the footer goes out

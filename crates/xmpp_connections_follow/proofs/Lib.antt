@@ -7,3 +7,9 @@ pub mod CutPipes
 -- ---- a client leaves its connection
 pub mod Leaves
 pub mod Parts
+-- ---- a connection comes
+pub mod Inserted
+pub mod Dialling
+-- ---- worlds
+pub mod Lifts
+pub mod Elsewhere

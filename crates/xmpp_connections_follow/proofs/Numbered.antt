@@ -49,6 +49,11 @@ pub here_twice : (here : Option ℕ) (f g : ItemWire → ItemWire) (wires : Tabl
 here_twice None f g wires j = refl
 here_twice (Some place) f g wires j = mapped_twice (where_it (nat_eq (place + 1) j) g) (where_it (nat_eq (place + 1) j) f) (wires j) ∙ both_where (nat_eq (place + 1) j) f g (wires j)
 
+-- and where it is changed alike
+pub here_again : (here : Option ℕ) (f : ItemWire → ItemWire) (wires same : Table ItemWire) (j : ℕ) → wires j ≡ same j → where_here here f wires j ≡ where_here here f same j
+here_again None f wires same j alike = alike
+here_again (Some place) f wires same j alike = ap (option_map (where_it (nat_eq (place + 1) j) f)) alike
+
 -- the connection at a place is changed to this
 pub place_is : (place : ℕ) (f : ItemWire → ItemWire) (w : ItemWire) (wires : List ItemWire) → slice_get wires place ≡ Some w → (j : ℕ) → under j (changed_at place f wires) ≡ with_at (place + 1) (f w) (by_number wires) j
 place_is place f w wires there j = here_changed (Some place) f wires j ∙ here_is place f w (by_number wires) (under_place place wires ∙ there) j

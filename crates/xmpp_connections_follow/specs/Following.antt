@@ -1,7 +1,7 @@
 -- A move of a world, and the links of a device: they have moved with it, or it is none of theirs.
 use Rattle.std.specs.Prelude.{◌≡◌, ◌≢◌, ℕ, ◌+◌, ◌×◌, ◌≤◌, List, [], ◌∷◌, Option, Some, None, nat_eq, slice_get, if◌then◌else◌}
 use Rattle.std.specs.List.{AllByRecursion}
-use Rattle.xmpp_desk.specs.State.{Hall, conn_at}
+use Rattle.xmpp_desk.specs.State.{Hall}
 use Rattle.xmpp_desk.specs.declared.connection.Connection.{Connection}
 use Rattle.xmpp_device_views.specs.Clients.{ClientShows}
 use Rattle.xmpp_device_views.specs.Deeds.{Deed, deeds_of}
@@ -62,10 +62,10 @@ pub record IsDrawn (who : Identity) (x : Login) (own other : List ℕ) : Type 0 
   pub mine : x.mine ≡ own
   pub yours : x.yours ≡ other
 
--- no connection is open with a number above those dialled, and a session that is on a connection is on an open one
+-- no connection is open, and no session is on one, with a number above those dialled
 pub record AreDialled (n : ℕ) (h : Hall ItemOut) : Type 0 where
-  pub few : AllByRecursion (λ (e : ℕ × Connection). e.0 ≤ n) h.conns
-  pub seated : (k : ℕ) (s : Session ItemOut) → session_at k h.sessions ≡ Some s → (c : Connection) × (conn_at k h ≡ Some c)
+  pub conns : AllByRecursion (λ (e : ℕ × Connection). e.0 ≤ n) h.conns
+  pub seats : (k : ℕ) (s : Session ItemOut) → session_at k h.sessions ≡ Some s → k ≤ n
 
 -- ---- items
 

@@ -1,0 +1,1 @@
+//! Connections that come and go are moves of the links.
