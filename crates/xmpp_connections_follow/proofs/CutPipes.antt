@@ -1,5 +1,5 @@
 -- A connection of a device is cut: its pipes are cut as those of the links, and both ends have what they had.
-use Rattle.std.proofs.Common.{◌≡◌, ◌≢◌, ℕ, ◌+◌, true, false, not, List, [], ◌∷◌, Some, length, map, take, refl, sym, ap, subst, ◌∙◌}
+use Rattle.std.proofs.Common.{◌≡◌, ℕ, false, not, Option, None, Some, length, map, take, refl, sym, ap, subst, ◌∙◌}
 use Rattle.std.proofs.lemmas.List.{take-map}
 use Rattle.std.proofs.lemmas.List.Elements.{All-take}
 use Rattle.std.specs.List.{All}
@@ -17,7 +17,7 @@ use Rattle.xmpp_item_worlds.specs.ItemPipes.{ItemWire, cut_at}
 use Rattle.xmpp_item_worlds.specs.ItemWorlds.{ItemDevice}
 use Rattle.xmpp_links.proofs.Cuts.{down_front, up_front}
 use Rattle.xmpp_links.proofs.Entries.{at_other, at_same}
-use Rattle.xmpp_links.specs.LinkMoves.{IsCut, ways_cut}
+use Rattle.xmpp_links.specs.LinkMoves.{ways_cut}
 use Rattle.xmpp_links.specs.Stages.{Conn}
 use Rattle.xmpp_links.specs.Views.{Table, View, alter, has, with_at}
 use Rattle.xmpp_links.specs.Wires.{Flow, Stop, Wires, cut, down_words, is_flowing, up_words}
@@ -68,6 +68,14 @@ wire_cut who x k i j c w is = record {
 pub wire_of : (who : Identity) (logins : ℕ → Login) (wires : Table ItemWire) (v : View ItemOut) (k : ℕ) (c : Conn ItemOut) (w : ItemWire) → PipesShow who logins wires v → v.conns k ≡ Some c → wires k ≡ Some w → IsWire who (logins k) k c w
 wire_of who logins wires v k c w pipes is there = subst (IsShown who (logins k) k (Some c)) there (subst (λ o. IsShown who (logins k) k o (wires k)) is (pipes.each k))
 
+-- and a connection that it dialled is its own
+pub conn_of : (who : Identity) (logins : ℕ → Login) (wires : Table ItemWire) (v : View ItemOut) (k : ℕ) (w : ItemWire) → PipesShow who logins wires v → wires k ≡ Some w → w.device ≡ who.place → (c : Conn ItemOut) × (v.conns k ≡ Some c)
+conn_of who logins wires v k w pipes there of = go (v.conns k) refl (subst (IsShown who (logins k) k (v.conns k)) there (pipes.each k))
+  where
+    go : (o : Option (Conn ItemOut)) → v.conns k ≡ o → IsShown who (logins k) k (v.conns k) (Some w) → (c : Conn ItemOut) × (v.conns k ≡ Some c)
+    go None is shown = absurd (subst (λ o. IsShown who (logins k) k o (Some w)) is shown of)
+    go (Some c) is shown = (c, is)
+
 module _ (who : Identity) (logins : ℕ → Login) (wires : Table ItemWire) (v : View ItemOut) (k i j : ℕ) (c : Conn ItemOut) (w : ItemWire) (is : v.conns k ≡ Some c) where
   pub cut_pipes : PipesShow who logins wires v → wires k ≡ Some w → PipesShow who logins (with_at k (cut_at i j w) wires) (cut_view k i j c v)
   cut_pipes pipes there =
@@ -80,7 +88,7 @@ module _ (who : Identity) (logins : ℕ → Login) (wires : Table ItemWire) (v :
   pub cut_client : SameClient v (cut_view k i j c v)
   cut_client = record { here = refl; own = refl; epoch = refl; conns = keeps_at v.conns k c (cut_conn i j c) is refl (λ e. cut_stops i j c.wires) }
 
-  pub cut_follows : (h : Hall ItemOut) (d : ItemDevice) → ServerShows who logins h v → ClientShows who logins d v → PipesShow who logins wires v → wires k ≡ Some w
+  cut_follows : (h : Hall ItemOut) (d : ItemDevice) → ServerShows who logins h v → ClientShows who logins d v → PipesShow who logins wires v → wires k ≡ Some w
       → CutFollows who logins h d (with_at k (cut_at i j w) wires) v k i j
   cut_follows h d server client pipes there = record {
     next = cut_view k i j c v;
@@ -89,3 +97,9 @@ module _ (who : Identity) (logins : ℕ → Login) (wires : Table ItemWire) (v :
     client = client_stays who logins d v (cut_view k i j c v) cut_client client;
     pipes = cut_pipes pipes there;
   }
+
+pub cut_of_device : (who : Identity) (logins : ℕ → Login) (h : Hall ItemOut) (d : ItemDevice) (wires : Table ItemWire) (v : View ItemOut) (k i j : ℕ) (w : ItemWire) → ServerShows who logins h v → ClientShows who logins d v → PipesShow who logins wires v
+    → wires k ≡ Some w → w.device ≡ who.place → CutFollows who logins h d (with_at k (cut_at i j w) wires) v k i j
+cut_of_device who logins h d wires v k i j w server client pipes there of =
+    let c = conn_of who logins wires v k w pipes there of in
+    cut_follows who logins wires v k i j c.0 w c.1 h d server client pipes there

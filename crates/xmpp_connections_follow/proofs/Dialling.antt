@@ -1,5 +1,5 @@
 -- A client dials: it leaves the connection that it has, and one more connection comes, of which the server hears.
-use Rattle.std.proofs.Common.{◌≡◌, ◌≢◌, ℕ, ◌+◌, ◌≤◌, true, false, not, List, [], ◌∷◌, ◌++◌, Option, Some, None, if◌then◌else◌, map, nat_eq, refl, sym, ap, subst, ◌∙◌, ◌⊎◌, inl, inr, arith}
+use Rattle.std.proofs.Common.{◌≡◌, ◌≢◌, ℕ, ◌+◌, ◌≤◌, true, false, List, [], ◌∷◌, ◌++◌, Option, Some, None, if◌then◌else◌, nat_eq, refl, sym, ap, subst, ◌∙◌, ◌⊎◌, inl, inr, arith}
 use Rattle.std.proofs.lemmas.Bool.{cases_eq}
 use Rattle.std.proofs.lemmas.List.Elements.{All-nil}
 use Rattle.std.proofs.lemmas.Option.{same_Some}
@@ -10,7 +10,6 @@ use Rattle.xmpp_client_login.specs.declared.login_state.LoginState.TheVariants a
 use Rattle.xmpp_client_rows.specs.Speech.{in_items}
 use Rattle.xmpp_client_rows.specs.declared.phase.Phase.TheVariants as phase
 use Rattle.xmpp_connections_follow.proofs.Inserted.{found_beside, found_inserted, sorted_inserted}
-use Rattle.xmpp_connections_follow.proofs.Leaves.{HasLeft}
 use Rattle.xmpp_connections_follow.proofs.Parts.{here_left}
 use Rattle.xmpp_connections_follow.proofs.Stays.{along_both, no_deeds, server_stays}
 use Rattle.xmpp_connections_follow.specs.Following.{AreDialled, BothFollow, IsDrawn, with_login}
@@ -166,7 +165,7 @@ module _ (who : Identity) (logins : ℕ → Login) (x : Login) (n : ℕ) (own ot
 
   pub dial_follows : (h : Hall ItemOut) (d : ItemDevice) (wires : Table ItemWire) (v : View ItemOut) → IsShownHere who logins d wires v → ServerShows who logins h v → wires k ≡ None → AreDialled n h
       → BothFollow who more (with_fresh k other h) (record { client = (dials in_items own (fed_of d.client)).turn.client; here = Some n })
-        (with_at k (put_up (dials in_items own (fed_of d.client)).turn.out.put (fresh_wire who.place)) (where_here d.here left wires)) v []
+      (with_at k (put_up (dials in_items own (fed_of d.client)).turn.out.put (fresh_wire who.place)) (where_here d.here left wires)) v []
   dial_follows h d wires v shown server none below =
       let l = here_left who logins d wires v shown in
       let header : (dials in_items own (fed_of d.client)).turn.out.put ≡ up_item who x Hdr ∷ [] = ap (λ a. Opening (client_header a.login.domain) ∷ []) shown.client.account in

@@ -21,7 +21,7 @@ use Rattle.xmpp_item_worlds.specs.ItemMoves.{CatchUp, Close, Cut, Down, DownEnd,
 use Rattle.xmpp_item_worlds.specs.ItemPipes.{ItemWire, cut_at, down_end_told, handed_down, is_end_due, left, put_up}
 use Rattle.xmpp_item_worlds.specs.ItemWorlds.{ItemDevice, ItemWorld, silent_turn}
 use Rattle.xmpp_links.specs.Stages.{Conn}
-use Rattle.xmpp_links.specs.Views.{Table, View}
+use Rattle.xmpp_links.specs.Views.{View}
 use Rattle.xmpp_wire_steps.proofs.Changes.{changed_there, under_place}
 use Rattle.xmpp_wires.specs.Places.{changed_at, changed_where}
 use Rattle.xmpp_writer.specs.Items.{ItemOut}
@@ -60,7 +60,7 @@ changed_of whom here f wires keeps strange_here place x is there = go (slice_get
     found = sym (changed_there place f wires) ∙ subst (λ o. slice_get (changed_where o f wires) place ≡ Some x) is there
 
     go : (o : Option ItemWire) → slice_get wires place ≡ o → x.device ≢ whom
-    go None none = absurd (let no_way : ⊥ = rw none at found in cc in no_way)
+    go None none = absurd (let some : None ≡ Some x = ap (option_map f) (sym none) ∙ found in let no_way : ⊥ = cc in no_way)
     go (Some y) some =
         let same : f y ≡ x = same_Some (f y) x (sym (ap (option_map f) some) ∙ found) in
         λ e. strange_here place y is some (sym (keeps y) ∙ ap (λ z. z.device) same ∙ e)

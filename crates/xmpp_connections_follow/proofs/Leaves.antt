@@ -1,25 +1,21 @@
 -- A client leaves its connection, with a footer or without: the connection is cut behind all that goes up, nothing more
 -- comes down, and the client has no connection any more. Where it stands apart nothing changes.
-use Rattle.std.proofs.Common.{◌≡◌, ℕ, ◌+◌, Bool, true, false, not, List, [], ◌∷◌, ◌++◌, Option, Some, None, drop, length, map, take, refl, sym, ap, subst, ◌∙◌, ◌⊎◌, inl, inr}
+use Rattle.std.proofs.Common.{◌≡◌, ℕ, true, false, not, List, [], ◌∷◌, ◌++◌, Some, None, drop, length, map, refl, sym, ap, subst, ◌∙◌, ◌⊎◌, inl, inr}
 use Rattle.std.proofs.Math.Seq.{drop-length, take-length}
 use Rattle.std.proofs.lemmas.Bool.{cases_Bool}
 use Rattle.std.proofs.lemmas.List.{length-map, map-append}
-use Rattle.std.proofs.lemmas.List.Elements.{All-nil}
 use Rattle.std.specs.List.{All}
 use Rattle.xmpp_connections_follow.proofs.CutPipes.{cut_conn, cut_down, cut_pipes, cut_server, cut_stops, cut_view, wire_of}
-use Rattle.xmpp_connections_follow.proofs.Numbered.{at_itself, here_is}
+use Rattle.xmpp_connections_follow.proofs.Numbered.{at_itself}
 use Rattle.xmpp_connections_follow.proofs.Stays.{keeps_server, keeps_server_at, same_servers}
 use Rattle.xmpp_device_views.specs.Counted.{IsForClient, IsForServer}
 use Rattle.xmpp_device_views.specs.Deeds.{deeds_of}
 use Rattle.xmpp_device_views.specs.Frames.{SameServer}
 use Rattle.xmpp_device_views.specs.Identities.{Identity, Login}
-use Rattle.xmpp_device_views.specs.Pipes.{IsShown, IsWire, PipesShow}
-use Rattle.xmpp_device_views.specs.Reading.{IsShownHere, where_here}
+use Rattle.xmpp_device_views.specs.Pipes.{IsWire, PipesShow}
 use Rattle.xmpp_device_views.specs.WordItems.{down_item, is_behind_login, up_item}
 use Rattle.xmpp_item_worlds.specs.ItemPipes.{ItemPipe, ItemWire, closed, cut_at, emptied, entered, left, put_up}
-use Rattle.xmpp_item_worlds.specs.ItemWorlds.{ItemDevice}
-use Rattle.xmpp_links.proofs.Entries.{at_other, at_same, has_not, is_has}
-use Rattle.xmpp_links.proofs.Reached.{link_kept}
+use Rattle.xmpp_links.proofs.Entries.{at_other, at_same, is_has}
 use Rattle.xmpp_links.specs.EndMoves.{up_lost, with_foot}
 use Rattle.xmpp_links.specs.Links.{ArePiped}
 use Rattle.xmpp_links.specs.Machine.{Cuts, Foots, LetsGo, LinkMove, LinkReaches}
@@ -153,7 +149,7 @@ module _ (who : Identity) (logins : ℕ → Login) (wires : Table ItemWire) (v :
   gone_from = record middle { here = None }
 
   all_stay : drop all (up_words c.wires) ≡ []
-  all_stay = ap (λ n. drop n (up_words c.wires)) (ap length wire.up ∙ length-map (up_item who (logins k)) (up_words c.wires)) ∙ drop-length (up_words c.wires)
+  all_stay = ap (λ n. drop n (up_words c.wires)) (ap length wire.up ∙ length-map (up_words c.wires) (up_item who (logins k))) ∙ drop-length (up_words c.wires)
 
   left_pipes : PipesShow who logins (with_at k (left w) wires) middle
   left_pipes = pipes_same who logins (with_at k (cut_at all 0 w) wires) (with_at k (left w) wires) middle (λ j. ap (λ u. with_at k u wires j) (left_is_cut w)) (cut_pipes who logins wires v k all 0 c w is pipes there)
@@ -162,7 +158,7 @@ module _ (who : Identity) (logins : ℕ → Login) (wires : Table ItemWire) (v :
   plainly here = record {
     moves = Cuts k all 0 ∷ LetsGo k ∷ [];
     next = gone_from;
-    leads = (middle, record { conn = c; is = is; gives = refl }, gone_from, record { conn = stopped; here = here; is = at_same k stopped v.conns; ended = cut_stops all 0 c.wires; empty = cut_down all 0 c.wires; gives = refl }, refl);
+    leads = (middle, record { conn = c; is = is; gives = refl }, (gone_from, record { conn = stopped; here = here; is = at_same k stopped v.conns; ended = cut_stops all 0 c.wires; empty = cut_down all 0 c.wires; gives = refl }, refl));
     does = refl;
     idle = refl;
     own = refl;
@@ -178,6 +174,7 @@ module _ (who : Identity) (logins : ℕ → Login) (wires : Table ItemWire) (v :
   behind_foot = record gone_from { conns = with_at k footed gone_from.conns }
 
   with_footer : v.here ≡ Some k → is_flowing c.wires ≡ true → HasLeft who logins (with_at k (left (put_up (Closing ∷ []) w)) wires) v
+  unfolding plainly
   with_footer here flows =
       let works : has v.here k ≡ true = is_has v.here k here in
       let stands = piped.flowing flows in
@@ -190,11 +187,15 @@ module _ (who : Identity) (logins : ℕ → Login) (wires : Table ItemWire) (v :
         leads = (
           middle,
           record { conn = c; is = is; gives = refl },
-          gone_from,
-          record { conn = stopped; here = here; is = at_same k stopped v.conns; ended = cut_stops all 0 c.wires; empty = cut_down all 0 c.wires; gives = refl },
-          behind_foot,
-          record { conn = stopped; left = refl; is = at_same k stopped v.conns; unfooted = piped.unfooted works; stands = stands.1; untold = stands.2; whole = none_lost all 0 c.wires flows all_stay; gives = refl },
-          refl
+          (
+            gone_from,
+            record { conn = stopped; here = here; is = at_same k stopped v.conns; ended = cut_stops all 0 c.wires; empty = cut_down all 0 c.wires; gives = refl },
+            (
+              behind_foot,
+              record { conn = stopped; left = refl; is = at_same k stopped v.conns; unfooted = piped.unfooted works; stands = stands.1; untold = stands.2; whole = none_lost all 0 c.wires flows all_stay; gives = refl },
+              refl,
+            ),
+          ),
         );
         does = refl;
         idle = refl;

@@ -12,4 +12,5 @@ pub mod Inserted
 pub mod Dialling
 -- ---- worlds
 pub mod Lifts
+pub mod DownWords
 pub mod Elsewhere

@@ -1,5 +1,5 @@
 -- What follows a step of one end follows it in the world.
-use Rattle.std.proofs.Common.{◌≡◌, ℕ, ◌+◌, Bool, true, false, not, ◌&&◌, List, [], ◌∷◌, Option, Some, None, Ok, Err, if◌then◌else◌, map, slice_get, refl, sym, ap, subst, ◌∙◌}
+use Rattle.std.proofs.Common.{◌≡◌, ℕ, ◌+◌, Bool, true, false, not, ◌&&◌, List, [], ◌∷◌, Option, Some, None, Ok, Err, if◌then◌else◌, slice_get, refl, sym, ap, subst, ◌∙◌}
 use Rattle.std.proofs.lemmas.Bool.{eq-eqb, eqb-true}
 use Rattle.std.specs.List.{slice_set}
 use Rattle.xmpp_client.specs.UserCalls.{catch_up_answer, catches_up, closes, forgets, leaves, say_answer, says}
@@ -7,17 +7,17 @@ use Rattle.xmpp_client.specs.declared.faults.CatchUpStart.{CatchUpStart}
 use Rattle.xmpp_client.specs.declared.faults.SayFault.{SayFault}
 use Rattle.xmpp_client_rows.specs.Clients.{Turn}
 use Rattle.xmpp_client_rows.specs.Speech.{in_items}
-use Rattle.xmpp_connections_follow.proofs.CutPipes.{cut_follows}
+use Rattle.xmpp_connections_follow.proofs.CutPipes.{cut_of_device}
 use Rattle.xmpp_connections_follow.proofs.Leaves.{pipes_same}
 use Rattle.xmpp_connections_follow.proofs.Numbered.{here_again, here_changed, place_is, set_here}
 use Rattle.xmpp_connections_follow.proofs.Parts.{closed_so, closes_note, forgotten, told_over}
 use Rattle.xmpp_connections_follow.proofs.Stays.{client_stays, server_stays}
-use Rattle.xmpp_connections_follow.specs.Following.{CutFollows, IsNextItem, WorldFollows}
+use Rattle.xmpp_connections_follow.specs.Following.{IsNextItem, WorldFollows}
 use Rattle.xmpp_desk.specs.Moments.{at_moment, gone_at}
-use Rattle.xmpp_device_views.specs.Clients.{ClientFollows, ClientShows}
+use Rattle.xmpp_device_views.specs.Clients.{ClientFollows}
 use Rattle.xmpp_device_views.specs.Deeds.{Deed}
 use Rattle.xmpp_device_views.specs.Identities.{Identity, Login}
-use Rattle.xmpp_device_views.specs.Pipes.{IsShown, PipesShow, by_number, under}
+use Rattle.xmpp_device_views.specs.Pipes.{by_number, under}
 use Rattle.xmpp_device_views.specs.Reading.{HearingFollows, IsOverHere, IsShownHere, SpeakingFollows, device_behind, noted, turn_on, where_here, wire_behind}
 use Rattle.xmpp_device_views.specs.Servers.{ServerFollows, ServerShows}
 use Rattle.xmpp_device_views.specs.Shows.{Shows}
@@ -25,11 +25,14 @@ use Rattle.xmpp_item_worlds.specs.ItemMoves.{CatchUp, Close, Cut, Down, DownEnd,
 use Rattle.xmpp_item_worlds.specs.ItemPipes.{ItemPipe, ItemWire, cut_at, down_end_told, is_empty, is_end_due, left, put_up, up_end_told}
 use Rattle.xmpp_item_worlds.specs.ItemWorlds.{ItemDevice, ItemWorld, silent_turn}
 use Rattle.xmpp_links.specs.Machine.{Cuts, LinkReached}
-use Rattle.xmpp_links.specs.Stages.{Conn}
 use Rattle.xmpp_links.specs.Views.{Table, View, with_at}
 use Rattle.xmpp_wire_steps.proofs.Changes.{under_place}
 use Rattle.xmpp_wires.specs.Places.{changed_at, changed_where}
 use Rattle.xmpp_writer.specs.Items.{ItemOut}
+
+first_of : (a b : Bool) → a && b ≡ true → a ≡ true
+first_of true b e = refl
+first_of false b e = absurd (let no_way : ⊥ = cc in no_way)
 
 -- a pipe of which the end is due is empty and has ended
 due_empty : (p : ItemPipe) → is_end_due p ≡ true → p.items ≡ []
@@ -37,7 +40,10 @@ due_empty p due = go p.items refl
   where
     go : (l : List ItemOut) → p.items ≡ l → p.items ≡ []
     go [] is = is
-    go (i ∷ items) is = absurd (let no_way : ⊥ = rw is at due in cc in no_way)
+    go (i ∷ items) is =
+        let full : is_empty p ≡ false = ap (λ l. is_empty (record p { items = l })) is in
+        let first : is_empty p ≡ true = first_of (is_empty p) p.ended (first_of (is_empty p && p.ended) (not p.told) due) in
+        absurd (let no_way : ⊥ = cc in no_way)
 
 due_ended : (p : ItemPipe) → is_end_due p ≡ true → p.ended ≡ true
 due_ended p due = second (is_empty p) p.ended (not p.told) due
@@ -114,17 +120,9 @@ module _ (who : Identity) (logins : ℕ → Login) (w : ItemWorld) (v : View Ite
     under_it : by_number w.wires (place + 1) ≡ Some wire
     under_it = under_place place w.wires ∙ there
 
-    conn_of : (c : Conn ItemOut) × (v.conns (place + 1) ≡ Some c)
-    conn_of = go (v.conns (place + 1)) refl (subst (IsShown who (logins (place + 1)) (place + 1) (v.conns (place + 1))) under_it (s.pipes.each (place + 1)))
-      where
-        go : (o : Option (Conn ItemOut)) → v.conns (place + 1) ≡ o → IsShown who (logins (place + 1)) (place + 1) (v.conns (place + 1)) (Some wire) → (c : Conn ItemOut) × (v.conns (place + 1) ≡ Some c)
-        go None is shown = absurd (subst (λ o. IsShown who (logins (place + 1)) (place + 1) o (Some wire)) is shown of)
-        go (Some c) is shown = (c, is)
-
     pub cut_lifts : (i j : ℕ) → WorldFollows who logins (moved (Cut place i j) w) v []
     cut_lifts i j =
-        let c = conn_of in
-        let f = cut_follows who logins (by_number w.wires) v (place + 1) i j c.0 wire c.1 w.server s.device s.server s.client s.pipes under_it in
+        let f = cut_of_device who logins w.server s.device (by_number w.wires) v (place + 1) i j wire s.server s.client s.pipes under_it of in
         record {
           moves = Cuts (place + 1) i j ∷ [];
           next = f.next;

@@ -92,8 +92,8 @@ under_more l x k =
     ]
 
 pub length_changed : {T : Type 0} (here : Option ℕ) (f : T → T) (l : List T) → length (changed_where here f l) ≡ length l
-length_changed None f l = refl
-length_changed (Some place) f l = go place l
+length_changed {T = T} None f l = refl
+length_changed {T = T} (Some place) f l = go place l
   where
     go : (p : ℕ) (items : List T) → length (changed_at p f items) ≡ length items
     go p [] = refl

@@ -1,11 +1,11 @@
 -- Moves of one end leave the part of the other as it is.
-use Rattle.std.proofs.Common.{◌≡◌, ◌×◌, ℕ, ◌+◌, ◌≤◌, true, false, List, [], ◌∷◌, ◌++◌, Option, Some, None, refl, sym, ap, subst, ◌∙◌, inl, inr, arith}
+use Rattle.std.proofs.Common.{◌≡◌, ◌⊎◌, ℕ, ◌+◌, ◌≤◌, false, List, [], ◌∷◌, ◌++◌, Option, Some, None, refl, sym, ap, subst, ◌∙◌, inl, inr}
 use Rattle.std.proofs.lemmas.Bool.{cases_eq}
 use Rattle.std.proofs.lemmas.List.{append_assoc}
 use Rattle.std.specs.Prelude.{is_none}
-use Rattle.xmpp_desk.specs.State.{Hall, conn_at}
+use Rattle.xmpp_desk.specs.State.{Hall}
 use Rattle.xmpp_device_views.specs.Clients.{ClientShows, IsOwnShown, client_phase}
-use Rattle.xmpp_device_views.specs.Deeds.{Deed, deed_of, deeds_of}
+use Rattle.xmpp_device_views.specs.Deeds.{deed_of, deeds_of}
 use Rattle.xmpp_device_views.specs.Frames.{KeepsClient, KeepsServer, SameClient, SameServer}
 use Rattle.xmpp_device_views.specs.Identities.{Identity, Login}
 use Rattle.xmpp_device_views.specs.Servers.{IsRowShown, ServerShows, conn_shown, open_conn}

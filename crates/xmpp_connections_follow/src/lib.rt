@@ -3,3 +3,8 @@
 #![tactic(auto)]
 
 mod laws;
+
+pub use laws::{
+    closes_follow, cuts_follow, ends_are_told, forgets_follow, steps_follow, turns_follow,
+    words_come_down,
+};
