@@ -15,7 +15,7 @@ use Rattle.xmpp_connections_follow.proofs.Stays.{client_stays, server_stays}
 use Rattle.xmpp_connections_follow.specs.Following.{IsNextItem, WorldFollows}
 use Rattle.xmpp_desk.specs.Moments.{at_moment, gone_at}
 use Rattle.xmpp_device_views.specs.Clients.{ClientFollows}
-use Rattle.xmpp_device_views.specs.Deeds.{Deed}
+use Rattle.xmpp_device_views.specs.Deeds.{Deed, Drops}
 use Rattle.xmpp_device_views.specs.Identities.{Identity, Login}
 use Rattle.xmpp_device_views.specs.Pipes.{by_number, under}
 use Rattle.xmpp_device_views.specs.Reading.{HearingFollows, IsOverHere, IsShownHere, SpeakingFollows, device_behind, noted, turn_on, where_here, wire_behind}
@@ -95,19 +95,19 @@ module _ (who : Identity) (logins : ℕ → Login) (w : ItemWorld) (v : View Ite
 
   -- ---- the client parts
 
-  pub forget_lifts : LinkReached v → WorldFollows who logins (moved (Forget who.place) w) v []
+  pub forget_lifts : LinkReached v → WorldFollows who logins (moved (Forget who.place) w) v (Drops ∷ [])
   forget_lifts reached =
       let d : ItemDevice = s.device in
-      subst (λ o. WorldFollows who logins (forgot_by who.place o w) v []) (sym s.there)
-      (client_lifts (forgot_by who.place (Some d) w) (record { client = (forgets in_items (fed_of d.client)).turn.client; here = None }) (where_here d.here left (by_number w.wires)) [] refl refl (here_changed d.here left w.wires)
+      subst (λ o. WorldFollows who logins (forgot_by who.place o w) v (Drops ∷ [])) (sym s.there)
+      (client_lifts (forgot_by who.place (Some d) w) (record { client = (forgets in_items (fed_of d.client)).turn.client; here = None }) (where_here d.here left (by_number w.wires)) (Drops ∷ []) refl refl (here_changed d.here left w.wires)
       (forgotten who logins d (by_number w.wires) v (shown_here reached)))
 
-  pub close_lifts : LinkReached v → WorldFollows who logins (moved (Close who.place) w) v []
+  pub close_lifts : LinkReached v → WorldFollows who logins (moved (Close who.place) w) v (Drops ∷ [])
   close_lifts reached =
       let d : ItemDevice = s.device in
       let t : Turn ItemOut ItemOut = (closes in_items (fed_of d.client)).turn in
       let shown = shown_here reached in
-      subst (λ o. WorldFollows who logins (closed_by who.place o w) v []) (sym s.there)
+      subst (λ o. WorldFollows who logins (closed_by who.place o w) v (Drops ∷ [])) (sym s.there)
       (subst (WorldFollows who logins (closed_by who.place (Some d) w) v) (closes_note who logins d (by_number w.wires) v shown)
       (client_lifts (closed_by who.place (Some d) w) (record { client = t.client; here = None }) (where_here d.here left (where_here d.here (put_up t.out.put) (by_number w.wires))) (noted t.out.notes) refl refl
       (λ j. here_changed d.here left (changed_where d.here (put_up t.out.put) w.wires) j

@@ -10,8 +10,9 @@ use Rattle.xmpp_client_rows.specs.Turns as turns
 use Rattle.xmpp_connections_follow.proofs.CutPipes.{wire_of}
 use Rattle.xmpp_connections_follow.proofs.Leaves.{HasLeft, leaves_plainly, leaves_with, left_same}
 use Rattle.xmpp_connections_follow.proofs.Numbered.{at_itself, here_is, here_twice}
-use Rattle.xmpp_connections_follow.proofs.Stays.{along_both, keeps_server, no_deeds}
+use Rattle.xmpp_connections_follow.proofs.Stays.{along_both, deeds_both, keeps_server}
 use Rattle.xmpp_device_views.specs.Clients.{ClientFollows, ClientShows}
+use Rattle.xmpp_device_views.specs.Deeds.{Drops}
 use Rattle.xmpp_device_views.specs.Identities.{Identity, Login}
 use Rattle.xmpp_device_views.specs.Pipes.{IsShown, IsWire, PipesShow}
 use Rattle.xmpp_device_views.specs.Reading.{ClosingFollows, ForgettingFollows, IsOverHere, IsShownHere, LeavingFollows, noted, where_here}
@@ -114,7 +115,7 @@ module _ (who : Identity) (logins : ℕ → Login) (d : ItemDevice) (wires : Tab
 
   -- ---- the session is given up
 
-  no_more : (l : List (Note ItemOut)) → l ≡ [] → noted (l ++ Ended ∷ []) ≡ []
+  no_more : (l : List (Note ItemOut)) → l ≡ [] → noted (l ++ Ended ∷ []) ≡ Drops ∷ []
   no_more l none = ap (λ notes. noted (notes ++ Ended ∷ [])) none
 
   abbrev parted : Turn ItemOut ItemOut → Turn ItemOut ItemOut
@@ -125,7 +126,7 @@ module _ (who : Identity) (logins : ℕ → Login) (d : ItemDevice) (wires : Tab
     moves = l.moves ++ Forgets ∷ [];
     next = record l.next { own = None };
     leads = along_both l.moves (Forgets ∷ []) v l.next (record l.next { own = None }) l.leads (record l.next { own = None }, record { idle = l.idle; gives = refl }, refl);
-    does = no_deeds l.moves (Forgets ∷ []) l.does refl ∙ sym (no_more t.out.notes none);
+    does = deeds_both l.moves (Forgets ∷ []) ∙ ap (λ ds. ds ++ Drops ∷ []) l.does ∙ sym (no_more t.out.notes none);
     client = record {
       account = ap (λ c. c.account) same ∙ shown.client.account;
       epoch = ap (λ c. c.epoch) same ∙ shown.client.epoch ∙ sym l.epoch;
@@ -163,7 +164,7 @@ module _ (who : Identity) (logins : ℕ → Login) (d : ItemDevice) (wires : Tab
       parting t (where_here d.here left (where_here d.here (put_up t.out.put) wires)) (footer_client (is_apart d.client.phase) (silent_turn d.client) (Closing ∷ []))
       (footer_notes (is_apart d.client.phase) (silent_turn d.client) (Closing ∷ [])) (here_left_with t.out.put footer_put)
 
-  pub closes_note : noted (closes in_items (fed_of d.client)).turn.out.notes ≡ []
+  pub closes_note : noted (closes in_items (fed_of d.client)).turn.out.notes ≡ Drops ∷ []
   closes_note = no_more (puts_footer in_items (silent_turn d.client)).out.notes (footer_notes (is_apart d.client.phase) (silent_turn d.client) (Closing ∷ []))
 
   -- ---- its end is told

@@ -8,7 +8,7 @@ ghost use Rattle.xmpp_connections_follow.specs.Following.{CutFollows, HasNextDow
 ghost use Rattle.xmpp_desk.specs.Moments.{at_moment, gone_at};
 ghost use Rattle.xmpp_desk.specs.State.{Hall};
 ghost use Rattle.xmpp_device_views.specs.Clients.{ClientShows};
-ghost use Rattle.xmpp_device_views.specs.Deeds.{Deed};
+ghost use Rattle.xmpp_device_views.specs.Deeds.{Deed, Drops};
 ghost use Rattle.xmpp_device_views.specs.Identities.{Identity, Login};
 ghost use Rattle.xmpp_device_views.specs.Pipes.{PipesShow, by_number};
 ghost use Rattle.xmpp_device_views.specs.Reading.{ClosingFollows, ForgettingFollows, HearingFollows, IsNextDown, IsOverHere, IsRead, IsShownHere, LeavingFollows, SpeakingFollows, noted, turn_on};
@@ -28,7 +28,7 @@ pub fn forgets_follow()
     ensures links { (who : Identity) (logins : ℕ → Login) (d : ItemDevice) (wires : Table ItemWire) (v : View ItemOut) → IsShownHere who logins d wires v
         → ForgettingFollows who logins d wires v (forgets in_items (fed_of d.client)).turn }
     ensures worlds { (who : Identity) (logins : ℕ → Login) (w : ItemWorld) (v : View ItemOut) → Shows who logins w v → LinkReached v
-        → WorldFollows who logins (moved (Forget who.place) w) v [] }
+        → WorldFollows who logins (moved (Forget who.place) w) v (Drops ∷ []) }
 {}
 
 /// A law: likewise where it puts its footer before (RFC 6120, section 4.4): the footer goes out where the client works
@@ -37,7 +37,7 @@ pub fn closes_follow()
     ensures links { (who : Identity) (logins : ℕ → Login) (d : ItemDevice) (wires : Table ItemWire) (v : View ItemOut) → IsShownHere who logins d wires v
         → ClosingFollows who logins d wires v (closes in_items (fed_of d.client)).turn }
     ensures worlds { (who : Identity) (logins : ℕ → Login) (w : ItemWorld) (v : View ItemOut) → Shows who logins w v → LinkReached v
-        → WorldFollows who logins (moved (Close who.place) w) v [] }
+        → WorldFollows who logins (moved (Close who.place) w) v (Drops ∷ []) }
 {}
 
 /// A law: where a device is told the end of the connection that it has, the client lets it go, where it worked there,
