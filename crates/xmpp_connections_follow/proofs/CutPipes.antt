@@ -76,6 +76,11 @@ conn_of who logins wires v k w pipes there of = go (v.conns k) refl (subst (IsSh
     go None is shown = absurd (subst (λ o. IsShown who (logins k) k o (Some w)) is shown of)
     go (Some c) is shown = (c, is)
 
+-- and where no pipes are, it has no connection
+pub none_there : (who : Identity) (x : Login) (k : ℕ) (o : Option (Conn ItemOut)) → IsShown who x k o None → o ≡ None
+none_there who x k None shown = refl
+none_there who x k (Some c) shown = absurd shown
+
 module _ (who : Identity) (logins : ℕ → Login) (wires : Table ItemWire) (v : View ItemOut) (k i j : ℕ) (c : Conn ItemOut) (w : ItemWire) (is : v.conns k ≡ Some c) where
   pub cut_pipes : PipesShow who logins wires v → wires k ≡ Some w → PipesShow who logins (with_at k (cut_at i j w) wires) (cut_view k i j c v)
   cut_pipes pipes there =

@@ -9,6 +9,7 @@ use Rattle.xmpp_client_login.specs.LoginRows.{client_header}
 use Rattle.xmpp_client_login.specs.declared.login_state.LoginState.TheVariants as state
 use Rattle.xmpp_client_rows.specs.Speech.{in_items}
 use Rattle.xmpp_client_rows.specs.declared.phase.Phase.TheVariants as phase
+use Rattle.xmpp_connections_follow.proofs.CutPipes.{none_there}
 use Rattle.xmpp_connections_follow.proofs.Inserted.{found_beside, found_inserted, sorted_inserted}
 use Rattle.xmpp_connections_follow.proofs.Parts.{here_left}
 use Rattle.xmpp_connections_follow.proofs.Stays.{along_both, no_deeds, server_stays}
@@ -152,13 +153,6 @@ module _ (who : Identity) (logins : ℕ → Login) (x : Login) (n : ℕ) (own ot
 
   -- ---- both
 
-  fresh_number : (v : View ItemOut) (wires : Table ItemWire) → PipesShow who logins wires v → wires k ≡ None → v.conns k ≡ None
-  fresh_number v wires pipes none = go (v.conns k) refl (subst (IsShown who (logins k) k (v.conns k)) none (pipes.each k))
-    where
-      go : (o : Option (Conn ItemOut)) → v.conns k ≡ o → IsShown who (logins k) k (v.conns k) None → v.conns k ≡ None
-      go None is shown = is
-      go (Some c) is shown = absurd (subst (λ o. IsShown who (logins k) k o None) is shown)
-
   left_none : (here : Option ℕ) (wires : Table ItemWire) → wires k ≡ None → where_here here left wires k ≡ None
   left_none None wires none = none
   left_none (Some place) wires none = ap (option_map (where_it (nat_eq (place + 1) k) left)) none
@@ -175,7 +169,7 @@ module _ (who : Identity) (logins : ℕ → Login) (x : Login) (n : ℕ) (own ot
         next = with_dialled l.next;
         leads =
             along_both l.moves (Dials k ∷ []) v l.next (with_dialled l.next) l.leads
-            (with_dialled l.next, record { idle = l.idle; fresh = fresh_number l.next (where_here d.here left wires) l.pipes (left_none d.here wires none); gives = refl }, refl);
+            (with_dialled l.next, record { idle = l.idle; fresh = none_there who (logins k) k (l.next.conns k) (subst (IsShown who (logins k) k (l.next.conns k)) (left_none d.here wires none) (l.pipes.each k)); gives = refl }, refl);
         does = no_deeds l.moves (Dials k ∷ []) l.does refl;
         server = fresh_shows h l.next (server_stays who logins h v l.next l.server server) below;
         client = dialled_client d v shown.client l.next l.own l.epoch;

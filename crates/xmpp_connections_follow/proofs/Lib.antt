@@ -14,3 +14,4 @@ pub mod Dialling
 pub mod Lifts
 pub mod DownWords
 pub mod Elsewhere
+pub mod Comes
