@@ -1,5 +1,5 @@
 -- What the client sends again behind a resumption.
-use Rattle.std.proofs.Common.{◌≡◌, List, [], ◌∷◌, ◌++◌, map, refl, ap, ◌∙◌}
+use Rattle.std.proofs.Common.{◌≡◌, List, [], ◌∷◌, ◌++◌, map, refl, ap}
 use Rattle.xmpp_client_rows.specs.SessionRows.{resent}
 use Rattle.xmpp_client_rows.specs.Speech.{in_items, spread_all}
 use Rattle.xmpp_device_views.specs.Identities.{Identity, Login}

@@ -1,5 +1,5 @@
 -- Each word comes where the client expects it, and is read there.
-use Rattle.std.proofs.Common.{◌≡◌, ℕ, ◌⊎◌, inl, inr, codes, refl, sym, subst, Some}
+use Rattle.std.proofs.Common.{◌≡◌, ℕ, ◌⊎◌, inl, inr, codes}
 use Rattle.xmpp_device_views.specs.Identities.{Identity, Login}
 use Rattle.xmpp_device_views.specs.Reading.{IsNextDown, IsRead}
 use Rattle.xmpp_item_worlds.specs.ItemPipes.{ItemWire}

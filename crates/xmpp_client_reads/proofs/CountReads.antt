@@ -1,12 +1,12 @@
 -- The client reads a request, which it answers by its count, and a count.
-use Rattle.std.proofs.Common.{◌≡◌, ℕ, ◌-◌, ◌^◌, Bool, true, false, List, [], ◌∷◌, Option, Some, None, Ok, drop, codes, if◌then◌else◌, refl, sym, ap, subst, ◌∙◌, arith}
+use Rattle.std.proofs.Common.{◌≡◌, ℕ, ◌-◌, List, [], ◌∷◌, Some, drop, codes, if◌then◌else◌, refl, sym, ap, subst, ◌∙◌, arith}
 use Rattle.std.proofs.Math.Nat.{mod-lt}
 use Rattle.std.proofs.lemmas.List.Elements.{All-nil}
 use Rattle.xmpp_client.specs.Steps.{online_in, told_row}
 use Rattle.xmpp_client_rows.specs.AckRows.{acknowledges, counts_too_high, request_row}
 use Rattle.xmpp_client_rows.specs.Clients.{Turn}
 use Rattle.xmpp_client_rows.specs.Speech.{in_items}
-use Rattle.xmpp_device_views.specs.Clients.{IsOwn, IsOwnShown, client_phase}
+use Rattle.xmpp_device_views.specs.Clients.{IsOwn, client_phase}
 use Rattle.xmpp_device_views.specs.Counted.{IsForServer}
 use Rattle.xmpp_device_views.specs.Identities.{Identity, Login}
 use Rattle.xmpp_device_views.specs.Reading.{HearingFollows, IsNextDown, IsRead, turn_on}
@@ -20,7 +20,7 @@ use Rattle.xmpp_links.specs.LinkMoves.{heard_if, told_if}
 use Rattle.xmpp_links.specs.Machine.{ReadsCount, ReadsRequest}
 use Rattle.xmpp_links.specs.Promises.{IsWithin}
 use Rattle.xmpp_links.specs.Views.{Own, Table, View, alter, has, with_at}
-use Rattle.xmpp_links.specs.Words.{Ack, Down, DownWord, InOnline, Req, Up, UpWord}
+use Rattle.xmpp_links.specs.Words.{Ack, Down, InOnline, Req, Up, UpWord}
 use Rattle.xmpp_outbox.specs.Sessions.{SessionView}
 use Rattle.xmpp_outbox.specs.Waiting.{too_high}
 use Rattle.xmpp_payload.specs.Bare.{bare}

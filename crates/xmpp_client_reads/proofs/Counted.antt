@@ -1,6 +1,6 @@
--- A count that names a place in the client's queue is told exactly, though modulo 2 ^ 32, and takes from the queue what it
--- acknowledges.
-use Rattle.std.proofs.Common.{◌≡◌, ℕ, ◌-◌, ◌≤◌, Bool, false, List, length, drop, nat_lt, refl, sym, ap, ◌∙◌, arith}
+-- A count that names a place in the client's queue is told exactly, though modulo 2 ^ 32, and takes from the queue
+-- what it acknowledges.
+use Rattle.std.proofs.Common.{◌≡◌, ℕ, ◌-◌, ◌≤◌, false, List, length, drop, nat_lt, refl, ap, ◌∙◌, arith}
 use Rattle.std.proofs.lemmas.Bool.Decides.{nat_tests}
 use Rattle.std.proofs.lemmas.List.{length-drop}
 use Rattle.std.proofs.lemmas.List.Elements.{All-drop}

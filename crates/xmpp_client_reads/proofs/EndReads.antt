@@ -1,8 +1,7 @@
 -- The client reads that the server ended the stream, and leaves the connection.
-use Rattle.std.proofs.Common.{◌≡◌, ℕ, true, false, List, Some, None, codes, if◌then◌else◌, refl, sym, ap, subst, ◌∙◌}
-use Rattle.xmpp_client.specs.Steps.{element_row, stream_condition}
+use Rattle.std.proofs.Common.{◌≡◌, ℕ, List, None, if◌then◌else◌, refl, sym, ap, subst, ◌∙◌}
+use Rattle.xmpp_client.specs.Steps.{stream_condition}
 use Rattle.xmpp_client_rows.specs.Clients.{Turn}
-use Rattle.xmpp_client_rows.specs.Speech.{in_items}
 use Rattle.xmpp_client_rows.specs.Turns.{ends}
 use Rattle.xmpp_client_rows.specs.declared.events.PeerFault.TheVariants.{Stream}
 use Rattle.xmpp_device_views.specs.Clients.{client_phase}
@@ -15,7 +14,7 @@ use Rattle.xmpp_links.specs.Words.{DownWord}
 use Rattle.xmpp_stanza.specs.Errors.{stream_error_elem}
 use Rattle.xmpp_trees.specs.Trees.{Elem}
 use Rattle.xmpp_writer.specs.Items.{ItemOut, Whole}
-use Rattle.xmpp_client_reads.proofs.Turning.{element_at, on_element}
+use Rattle.xmpp_client_reads.proofs.Turning.{on_element}
 use Rattle.xmpp_client_reads.proofs.Working.{leaves_here, never_apart, phase_here}
 
 module _ (who : Identity) (logins : ℕ → Login) (d : ItemDevice) (wires : Table ItemWire) (v : View ItemOut) (k : ℕ) (word : DownWord ItemOut) (p : IsNextDown who logins d wires v k word) (condition : List ℕ) where

@@ -1,19 +1,14 @@
 -- The stanzas with which a session begins, the switch of carbons and the presence, are for the server.
 use Rattle.std.proofs.Common.{◌≡◌, true, false, None, codes, pos, refl}
-use Rattle.xmpp_desk.specs.State.{Hall}
-use Rattle.xmpp_desk.specs.Words.{is_long, is_stanza}
+use Rattle.xmpp_desk.specs.Words.{is_long}
 use Rattle.xmpp_device_views.specs.Counted.{IsForServer}
 use Rattle.xmpp_ext.specs.Requests.{carbons_switch_elem}
-use Rattle.xmpp_live.specs.declared.told.Told.{Told}
 use Rattle.xmpp_requests.specs.Sessions.{available_item, carbons_item, setting_elem}
-use Rattle.xmpp_stanza.specs.Readings.{stanza_of}
 use Rattle.xmpp_stanza.specs.Written.{presence_elem}
 use Rattle.xmpp_stanza.specs.declared.kinds.PresenceKind.TheVariants.{Available}
-use Rattle.xmpp_stanza_rows.specs.Stanzas.{stanza_condition}
 use Rattle.xmpp_tokens.specs.Spelling.{text_byte, value_byte}
 use Rattle.xmpp_trees.specs.Trees.{Elem, child, no_nodes}
 use Rattle.xmpp_writer.specs.Canon.{assignment, declared_default, default_inside, spelled_attribute, spelled_name}
-use Rattle.xmpp_writer.specs.Items.{ItemOut}
 
 abbrev switch : Elem
 switch = setting_elem (codes "carbons") (child (carbons_switch_elem (record { on = true })) no_nodes)

@@ -1,5 +1,5 @@
 -- One connection as the client takes a word from it, puts words, or leaves it.
-use Rattle.std.proofs.Common.{◌≡◌, ℕ, true, false, not, List, [], ◌∷◌, ◌++◌, length, map, take, refl, sym, ap, subst, ◌∙◌, inl, inr}
+use Rattle.std.proofs.Common.{◌≡◌, ℕ, not, List, [], ◌∷◌, ◌++◌, length, map, take, refl, sym, ap, subst, ◌∙◌, inl, inr}
 use Rattle.std.proofs.lemmas.Bool.{cases_Bool}
 use Rattle.std.proofs.lemmas.List.Elements.{All-append, All-nil, All-tail}
 use Rattle.std.specs.List.{All}
@@ -65,8 +65,8 @@ all_stay ws = cut_up_words (length (up_words ws)) 0 ws ∙ take_all (up_words ws
 -- ---- the connection
 
 module _ (who : Identity) (x : Login) (k : ℕ) (c : Conn ItemOut) (w : ItemWire) (is : IsWire who x k c w) where
-  -- the client takes the first word, puts others, and comes to a state: the items that are left are those of their words
-  -- also behind it
+  -- the client takes the first word, puts others, and comes to a state: the items that are left are those of their
+  -- words also behind it
   pub wire_heard_as : (word : DownWord ItemOut) (rest : List (DownWord ItemOut)) (puts : List (UpWord ItemOut)) (client : Client) → down_words c.wires ≡ word ∷ rest
       → map (down_item who x k (is_behind_login c.client)) rest ≡ map (down_item who x k (is_behind_login client)) rest → All IsForServer (up_stanzas puts)
       → IsWire who x k (record c { client = client; wires = send_up puts (left_down rest c.wires) }) (put_up (map (up_item who x) puts) (handed_down w))

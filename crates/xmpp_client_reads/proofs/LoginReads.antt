@@ -1,8 +1,8 @@
 -- The client reads the words of a login, which are one move each.
-use Rattle.std.proofs.Common.{◌≡◌, ℕ, Bool, true, false, List, [], ◌∷◌, Option, Some, None, Ok, codes, map, refl, sym, ap, subst, ◌∙◌, ◌⊎◌, inl, inr}
+use Rattle.std.proofs.Common.{◌≡◌, ℕ, true, false, List, [], ◌∷◌, Option, Some, None, Ok, codes, map, refl, sym, ap, subst, ◌∙◌, ◌⊎◌, inl, inr}
 use Rattle.std.proofs.lemmas.List.Elements.{All-nil}
 use Rattle.std.specs.List.{All}
-use Rattle.xmpp_client_login.specs.LoginRows.{begun, checked, challenged, client_header, offered, replied, succeeded}
+use Rattle.xmpp_client_login.specs.LoginRows.{begun, checked, challenged, offered, replied, succeeded}
 use Rattle.xmpp_client_rows.specs.Clients.{ClientView, Turn}
 use Rattle.xmpp_client_rows.specs.LoginSteps.{follows}
 use Rattle.xmpp_client_rows.specs.SessionRows.{features2_with, resumes_or_binds}
@@ -12,13 +12,12 @@ use Rattle.xmpp_device_views.specs.Clients.{IsOwn, IsOwnShown, client_phase}
 use Rattle.xmpp_device_views.specs.Counted.{IsForServer}
 use Rattle.xmpp_device_views.specs.Identities.{Identity, IsLogin, Login, exchange_of}
 use Rattle.xmpp_device_views.specs.Reading.{HearingFollows, IsNextDown, IsRead, noted, turn_on}
-use Rattle.xmpp_device_views.specs.WordItems.{down_item, features_item, is_behind_login, told_count, up_item}
+use Rattle.xmpp_device_views.specs.WordItems.{features_item, is_behind_login, up_item}
 use Rattle.xmpp_features.proofs.FeatureLaws.{features_again}
 use Rattle.xmpp_features.specs.Features.{features_elem}
 use Rattle.xmpp_features.specs.declared.features.Features.{Features}
 use Rattle.xmpp_item_worlds.specs.ItemPipes.{ItemWire}
 use Rattle.xmpp_item_worlds.specs.ItemWorlds.{ItemDevice, silent_turn}
-use Rattle.xmpp_links.proofs.Expected.{expected_down}
 use Rattle.xmpp_links.specs.LinkMoves.{told_if}
 use Rattle.xmpp_links.specs.Machine.{AsksToBind, AsksToResume, ReadsHand}
 use Rattle.xmpp_links.specs.Stages.{Goes, IsEarly, client_hand}
@@ -31,11 +30,11 @@ use Rattle.xmpp_requests.specs.Sessions.{bind_item, resume_item}
 use Rattle.xmpp_resume.specs.Previds.{previd_of}
 use Rattle.xmpp_sasl.specs.Readings.{carrier_read}
 use Rattle.xmpp_sasl.specs.Sasl.{carrier}
-use Rattle.xmpp_scram.specs.Exchange.{ClientView as Exchange, added_nonce, begun_client, check_of, expecting, reply_of, server_final_message}
+use Rattle.xmpp_scram.specs.Exchange.{ClientView as Exchange, added_nonce, begun_client, expecting, server_final_message}
 use Rattle.xmpp_trees.specs.Trees.{Elem}
 use Rattle.xmpp_wire_steps.proofs.Servings.{known_altered, known_same}
 use Rattle.xmpp_writer.specs.Items.{ItemOut, Whole}
-use Rattle.xmpp_client_reads.proofs.Turning.{element_at, header_at, on_element, on_header}
+use Rattle.xmpp_client_reads.proofs.Turning.{header_at, on_element}
 use Rattle.xmpp_client_reads.proofs.Working.{SameItems, heard, kept_here, phase_here, same_items, wire_here, works_on}
 use Rattle.xmpp_client_reads.proofs.Rests.{behind_success}
 

@@ -1,25 +1,22 @@
 -- The client reads how its session begins, is resumed, or is no more.
-use Rattle.std.proofs.Common.{◌≡◌, ℕ, ◌+◌, ◌-◌, ◌≤◌, ◌<◌, ◌^◌, Bool, true, false, List, [], ◌∷◌, ◌++◌, Option, Some, None, Ok, length, drop, nat_lt, min, codes, map, if◌then◌else◌, is_ok, not, refl, sym, ap, subst, ◌∙◌, inl, inr, arith}
+use Rattle.std.proofs.Common.{◌≡◌, ℕ, ◌+◌, ◌-◌, ◌<◌, ◌^◌, true, false, List, [], ◌∷◌, Some, None, length, drop, codes, if◌then◌else◌, is_ok, not, refl, sym, ap, subst, ◌∙◌, arith}
 use Rattle.std.proofs.Math.Nat.{min-eq_left, mod-lt}
-use Rattle.std.proofs.lemmas.Bool.{cases_Bool}
 use Rattle.std.proofs.lemmas.List.Elements.{All-cons, All-nil}
 use Rattle.std.specs.List.{All}
-use Rattle.xmpp_acks.specs.declared.end.TheConstants.{MOST_UNACKNOWLEDGED}
 use Rattle.xmpp_basis.proofs.HexDigits.{length-hex16_of}
-use Rattle.xmpp_basis.specs.Hexadecimal.{hex16_of}
 use Rattle.xmpp_client_rows.specs.AckRows.{acknowledges, counts_too_high}
-use Rattle.xmpp_client_rows.specs.Clients.{ClientView, Turn}
+use Rattle.xmpp_client_rows.specs.Clients.{Turn}
 use Rattle.xmpp_client_rows.specs.LoginSteps.{other_element}
-use Rattle.xmpp_client_rows.specs.SessionRows.{asks, attaches, begins, begins_epoch, can_resume, enabling_with, failed_row, first_stanzas, is_bound, is_empty, resent, resumed_in, resumed_row, resuming_with}
-use Rattle.xmpp_client_rows.specs.Speech.{in_items, spread_all}
+use Rattle.xmpp_client_rows.specs.SessionRows.{asks, attaches, begins, begins_epoch, enabling_with, failed_row, first_stanzas, is_empty, resent, resumed_in, resuming_with}
+use Rattle.xmpp_client_rows.specs.Speech.{in_items}
 use Rattle.xmpp_client_rows.specs.declared.account.Account.{Account}
 use Rattle.xmpp_client_rows.specs.declared.phase.Phase.TheVariants as phase
 use Rattle.xmpp_desk.specs.declared.limits.TheConstants.{RESUMABLE_SECONDS}
-use Rattle.xmpp_device_views.specs.Clients.{IsOwn, IsOwnShown, client_phase}
+use Rattle.xmpp_device_views.specs.Clients.{IsOwn, client_phase}
 use Rattle.xmpp_device_views.specs.Counted.{IsForServer}
 use Rattle.xmpp_device_views.specs.Identities.{Identity, Login, full_of}
 use Rattle.xmpp_device_views.specs.Reading.{HearingFollows, IsNextDown, IsRead, turn_on}
-use Rattle.xmpp_device_views.specs.WordItems.{told_count, up_item}
+use Rattle.xmpp_device_views.specs.WordItems.{told_count}
 use Rattle.xmpp_ext.specs.Bind.{bind_result_elem}
 use Rattle.xmpp_ext.specs.StreamManagement.{enabled_elem, resumed_elem, sm_failed_elem}
 use Rattle.xmpp_ext.specs.declared.stream_management.Enabled.{Enabled as EnabledWord}
@@ -34,15 +31,13 @@ use Rattle.xmpp_links.specs.Promises.{IsWithin}
 use Rattle.xmpp_links.specs.SessionMoves.{again, put_if}
 use Rattle.xmpp_links.specs.Stages.{Conn}
 use Rattle.xmpp_links.specs.Views.{Own, Session, Table, View, alter, has, with_at}
-use Rattle.xmpp_links.specs.Wires.{Flow, Stop, Wires, is_flowing, left_down, send_up}
-use Rattle.xmpp_links.specs.Words.{Bind, Bound, DownWord, Enable, Enabled, Failed, InBind, InEnable, InOnline, InResume, Req, Resumed, St, Up, UpWord, up_stanzas}
+use Rattle.xmpp_links.specs.Wires.{Wires, is_flowing, left_down, send_up}
+use Rattle.xmpp_links.specs.Words.{Bind, Bound, Enable, Enabled, Failed, InBind, InEnable, InOnline, InResume, Resumed, St, Up, UpWord, up_stanzas}
 use Rattle.xmpp_outbox.specs.Sessions.{SessionView}
 use Rattle.xmpp_outbox.specs.Submissions.{next_number}
 use Rattle.xmpp_outbox.specs.Waiting.{too_high}
 use Rattle.xmpp_payload_laws.proofs.ManagementWritten.{enabled_written, resumed_written}
 use Rattle.xmpp_payload_laws.proofs.RequestReads.{result_written}
-use Rattle.xmpp_replies.specs.Management.{refused_item, request_item}
-use Rattle.xmpp_replies.specs.Requests.{bound_item}
 use Rattle.xmpp_requests.specs.Sessions.{available_item, bind_item, carbons_item, enable_item}
 use Rattle.xmpp_resume.specs.Previds.{previd_of}
 use Rattle.xmpp_stanza.specs.declared.conditions.Condition.TheVariants.{ItemNotFound}
@@ -54,7 +49,7 @@ use Rattle.xmpp_writer.specs.Items.{ItemOut, Whole}
 use Rattle.xmpp_client_reads.proofs.Counted.{acked_own, not_too_high}
 use Rattle.xmpp_client_reads.proofs.FirstStanzas.{available_is, carbons_is}
 use Rattle.xmpp_client_reads.proofs.Again.{again_items, again_stanzas}
-use Rattle.xmpp_client_reads.proofs.Turning.{element_at, on_element, own_session}
+use Rattle.xmpp_client_reads.proofs.Turning.{on_element, own_session}
 use Rattle.xmpp_client_reads.proofs.Twice.{both_sent, known_then, thrice}
 use Rattle.xmpp_client_reads.proofs.Working.{heard, kept_here, phase_here, same_items, works_on}
 
@@ -95,9 +90,6 @@ module _ (who : Identity) (logins : ℕ → Login) (d : ItemDevice) (wires : Tab
 
     next_epoch : (n : ℕ) → n + 1 < 2 ^ 64 → next_number n ≡ n + 1
     next_epoch n below = min-eq_left (omega arith)
-
-    sessions_named : ℕ → Session ItemOut → Session ItemOut
-    sessions_named q s = record s { epoch = if has (Some m) q then Some (v.epoch + 1) else s.epoch }
 
     pub bound_read : IsRead who logins d wires v k p.conn p.wire (Bound m)
     bound_read =
@@ -174,8 +166,7 @@ module _ (who : Identity) (logins : ℕ → Login) (d : ItemDevice) (wires : Tab
         let stanzas : All IsForServer (up_stanzas puts) = own_begun.for_server in
         subst (HearingFollows who logins d wires v k p.wire) (sym enabled_turn)
         (works_on who logins d wires v k (Enabled m) p starts (InOnline m) puts (ReadsEnabled k m ∷ Puts k carbons_item ∷ Puts k available_item ∷ []) third_view refl p.shown.client.epoch own_begun refl refl stanzas
-        (same_items who logins d wires v k (Enabled m) p InEnable (InOnline m) is refl)
-        (
+        (same_items who logins d wires v k (Enabled m) p InEnable (InOnline m) is refl) (
           first_view,
           record { conn = p.conn; here = p.here; is = p.is; rest = p.rest; first = p.first; client = is; gives = refl },
           (
@@ -230,8 +221,7 @@ module _ (who : Identity) (logins : ℕ → Login) (d : ItemDevice) (wires : Tab
         subst (HearingFollows who logins d wires v k p.wire) (sym resumed_turn)
         (works_on who logins d wires v k (Resumed q h) p goes_on (InOnline o.number) (again left_over) (ReadsResumed k ∷ []) next refl p.shown.client.epoch after refl
         (ap (resent in_items) after.queue ∙ again_items who (logins k) left_over) (subst (All IsForServer) (sym (again_stanzas left_over)) after.for_server)
-        (same_items who logins d wires v k (Resumed q h) p (InResume q) (InOnline o.number) is refl)
-        (
+        (same_items who logins d wires v k (Resumed q h) p (InResume q) (InOnline o.number) is refl) (
           next,
           record { conn = p.conn; here = p.here; is = p.is; own = o; is_own = own; client = is ∙ ap InResume (sym number); h = h; rest = p.rest; first = p.first ∙ ap (λ (n : ℕ). Resumed n h ∷ p.rest) (sym number); gives = refl },
           refl,

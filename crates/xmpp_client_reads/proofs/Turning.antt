@@ -1,5 +1,5 @@
 -- What the client does on an item hangs on its phase, on its session, and on what it reads of the item.
-use Rattle.std.proofs.Common.{◌≡◌, ℕ, Bool, true, false, Option, Some, None, Ok, codes, if◌then◌else◌, refl, sym, ap, subst, ◌∙◌}
+use Rattle.std.proofs.Common.{◌≡◌, ℕ, Option, Some, None, codes, if◌then◌else◌, refl, ap, subst}
 use Rattle.xmpp_client.specs.Steps.{element_row, stream_condition}
 use Rattle.xmpp_client_rows.specs.Clients.{Turn}
 use Rattle.xmpp_client_rows.specs.LoginSteps.{header_row}

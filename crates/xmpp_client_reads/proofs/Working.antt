@@ -1,24 +1,22 @@
 -- A step of the client is moves of the links, where it works on with its connection, and where it leaves it.
-use Rattle.std.proofs.Common.{◌≡◌, ◌≢◌, ℕ, ◌+◌, Bool, true, false, List, [], ◌∷◌, Option, Some, None, length, map, is_none, refl, sym, ap, subst, ◌∙◌, inl, inr, ◌⊎◌}
+use Rattle.std.proofs.Common.{◌≡◌, ℕ, ◌+◌, true, false, List, [], ◌∷◌, Option, Some, None, length, map, is_none, refl, sym, ap, subst, ◌∙◌, inl, inr}
 use Rattle.std.proofs.lemmas.Bool.{cases_eq}
 use Rattle.std.specs.List.{All}
 use Rattle.xmpp_client_rows.specs.Clients.{ClientView, Turn}
 use Rattle.xmpp_client_rows.specs.Turns.{is_apart}
-use Rattle.xmpp_client_rows.specs.declared.phase.Phase.{Phase}
-use Rattle.xmpp_client_rows.specs.declared.phase.Phase.TheVariants as phase
-use Rattle.xmpp_device_views.specs.Clients.{ClientFollows, ClientShows, IsOwnShown, client_phase}
+use Rattle.xmpp_device_views.specs.Clients.{ClientShows, IsOwnShown, client_phase}
 use Rattle.xmpp_device_views.specs.Counted.{IsForServer}
 use Rattle.xmpp_device_views.specs.Deeds.{deeds_of}
 use Rattle.xmpp_device_views.specs.Frames.{KeepsServer, SameServer}
-use Rattle.xmpp_device_views.specs.Identities.{Identity, IsLogin, Login}
-use Rattle.xmpp_device_views.specs.Pipes.{IsShown, IsWire, PipesShow}
-use Rattle.xmpp_device_views.specs.Reading.{HearingFollows, IsNextDown, IsShownHere, device_behind, noted, wire_behind}
+use Rattle.xmpp_device_views.specs.Identities.{Identity, Login}
+use Rattle.xmpp_device_views.specs.Pipes.{IsShown, IsWire}
+use Rattle.xmpp_device_views.specs.Reading.{HearingFollows, IsNextDown, noted, wire_behind}
 use Rattle.xmpp_device_views.specs.WordItems.{down_item, is_behind_login, up_item}
 use Rattle.xmpp_item_worlds.specs.ItemMoves.{here_behind, left_where}
 use Rattle.xmpp_item_worlds.specs.ItemPipes.{ItemWire, handed_down, left, put_up}
 use Rattle.xmpp_item_worlds.specs.ItemWorlds.{ItemDevice}
 use Rattle.xmpp_links.proofs.CutLinks.{cut_conn, some_one}
-use Rattle.xmpp_links.proofs.Entries.{Entry, New, Old, at_other, at_same, entry}
+use Rattle.xmpp_links.proofs.Entries.{at_other, at_same}
 use Rattle.xmpp_links.proofs.Reached.{link_kept}
 use Rattle.xmpp_links.proofs.Tables.{cut_down_words, cut_stops}
 use Rattle.xmpp_links.specs.LinkMoves.{ways_cut}

@@ -1,5 +1,5 @@
 -- The words that the client reads, but stanzas.
-use Rattle.std.specs.Prelude.{ℕ, ◌+◌, ◌<◌, ◌^◌}
+use Rattle.std.specs.Prelude.{◌+◌, ◌<◌, ◌^◌}
 use Rattle.xmpp_links.specs.Views.{View}
 use Rattle.xmpp_links.specs.Words.{Ack, Bound, Chal, Down, DownWord, Enabled, End, Err, Failed, Feat, Head, Req, Resumed, Succ}
 use Rattle.xmpp_writer.specs.Items.{ItemOut}

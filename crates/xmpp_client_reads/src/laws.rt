@@ -32,8 +32,8 @@ pub fn acknowledgements_are_read()
         → IsOfCounts word → IsRead who logins d wires v k p.conn p.wire word }
 {}
 
-/// A law: at an error of the stream (RFC 6120, section 4.9) the client leaves the connection, in two moves: it is cut, so
-/// that all on its way down is lost, and let go. A count that was too high, and a footer alone, never come to it.
+/// A law: at an error of the stream (RFC 6120, section 4.9) the client leaves the connection, in two moves: it is cut,
+/// so that all on its way down is lost, and let go. A count that was too high, and a footer alone, never come to it.
 pub fn ends_are_read()
     ensures { (who : Identity) (logins : ℕ → Login) (d : ItemDevice) (wires : Table ItemWire) (v : View ItemOut) (k : ℕ) (word : DownWord ItemOut) (p : IsNextDown who logins d wires v k word)
         → IsOfEnd word → IsRead who logins d wires v k p.conn p.wire word }
