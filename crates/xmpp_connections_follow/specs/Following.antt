@@ -1,5 +1,5 @@
 -- A move of a world, and the links of a device: they have moved with it, or it is none of theirs.
-use Rattle.std.specs.Prelude.{[], None, ◌≡◌, ℕ, ◌≤◌, List, ◌∷◌, Some, nat_eq, slice_get, if◌then◌else◌}
+use Rattle.std.specs.Prelude.{◌≡◌, ℕ, ◌≤◌, List, [], ◌∷◌, Some, None, nat_eq, slice_get, if◌then◌else◌}
 use Rattle.std.specs.List.{AllByRecursion}
 use Rattle.xmpp_desk.specs.State.{Hall}
 use Rattle.xmpp_desk.specs.declared.connection.Connection.{Connection}
