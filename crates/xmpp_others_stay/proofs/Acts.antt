@@ -1,8 +1,7 @@
 -- Acts for one device, each of which leaves another one as it is.
-use Rattle.std.proofs.Common.{◌≡◌, ◌≢◌, ℕ, ◌==◌, Bool, true, false, not, List, [], ◌∷◌, Option, Some, None, length, refl, ap, ◌⊎◌, inl, inr}
+use Rattle.std.proofs.Common.{◌≡◌, ◌≢◌, ℕ, ◌==◌, Bool, true, false, not, List, [], ◌∷◌, Option, Some, None, refl, ap, subst, inl, inr}
 use Rattle.std.proofs.lemmas.Bool.{cases_Bool, eqb-true}
 use Rattle.std.proofs.lemmas.Option.{same_Some}
-use Rattle.std.specs.List.{filter}
 use Rattle.xmpp_acks.specs.Counters.{ahead}
 use Rattle.xmpp_acks.specs.declared.end.TheConstants.{MOST_UNACKNOWLEDGED}
 use Rattle.xmpp_desk.specs.State.{Hall, Put, Shut, Step, with_sessions, without_conn}
@@ -17,6 +16,7 @@ use Rattle.xmpp_live.specs.Sessions.{Session, asks, is_at, parked, resumes, sess
 use Rattle.xmpp_others_stay.proofs.Carried.{Carries}
 use Rattle.xmpp_others_stay.proofs.Elsewhere.{AreElsewhere, both_elsewhere, put_elsewhere, shut_elsewhere}
 use Rattle.xmpp_others_stay.proofs.Halls.{IsNotOf, changed_stays, conn_apart, conn_stays, number_apart, thinned_stays}
+use Rattle.xmpp_replies.specs.Management.{request_item}
 use Rattle.xmpp_server_follows.proofs.Leavings.{seat_is}
 use Rattle.xmpp_server_follows.proofs.SessionRows.{fewer}
 use Rattle.xmpp_session_rows.specs.Resumptions.{asking, saying}
@@ -119,5 +119,5 @@ module _ (whom : Identity) (others : ℕ → Login) (u : View ItemOut) (kept : L
   leave_saying k (i ∷ items) more none rest = leave_say k i (saying k items more) none (leave_saying k items more none rest)
 
   pub leave_asking : (k n : ℕ) (due : Bool) → u.conns k ≡ None → IsNotOf u n → Leave (asking itself k n due)
-  leave_asking k n true none not_of = leave_ask n true _ not_of (leave_say k _ [] none leave_nothing)
+  leave_asking k n true none not_of = leave_ask n true (Say k request_item ∷ []) not_of (leave_say k request_item [] none leave_nothing)
   leave_asking k n false none not_of = leave_nothing

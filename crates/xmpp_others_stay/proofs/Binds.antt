@@ -24,7 +24,7 @@ use Rattle.xmpp_links.specs.Links.{LinkKept}
 use Rattle.xmpp_links.specs.Views.{Table, View, on_phase, with_at}
 use Rattle.xmpp_links.specs.Words.{Bind, Ready}
 use Rattle.xmpp_live.specs.Sessions.{Session, ended_of, fresh, is_at, is_named, less, session_at, session_named, told, without}
-use Rattle.xmpp_others_stay.proofs.Acts.{Leave, Stays, ended_stays, leave_nothing, leave_parting, leave_say, left_out}
+use Rattle.xmpp_others_stay.proofs.Acts.{Stays, ended_stays, leave_nothing, leave_parting, leave_say, left_out}
 use Rattle.xmpp_others_stay.proofs.Elsewhere.{none_elsewhere}
 use Rattle.xmpp_others_stay.proofs.Parted.{conn_not, former_not, kept_beside, session_not, stays_follow}
 use Rattle.xmpp_others_stay.proofs.Pushing.{pushed_stays}
@@ -37,7 +37,7 @@ use Rattle.xmpp_server_follows.proofs.BindRows.{none_left}
 use Rattle.xmpp_server_follows.proofs.HandMoves.{kept_here, row_here, wire_here}
 use Rattle.xmpp_server_follows.proofs.Leavings.{unseated}
 use Rattle.xmpp_server_follows.proofs.Removed.{named_gone}
-use Rattle.xmpp_server_follows.specs.Taking.{HasNumber, IsFirst, IsLeft, on_item}
+use Rattle.xmpp_server_follows.specs.Taking.{IsFirst, IsLeft, on_item}
 use Rattle.xmpp_session_rows.specs.Bindings.{binding_as, chosen, former_of}
 use Rattle.xmpp_stanza.specs.Readings.{stanza_of}
 use Rattle.xmpp_stanza_rows.specs.Ready.{at_ready_or_bound}

@@ -1,5 +1,5 @@
 -- What the server has of a device stays, where connections and sessions change that are none of it.
-use Rattle.std.proofs.Common.{◌≡◌, ◌≢◌, ℕ, ◌==◌, Bool, true, Option, Some, None, refl, sym, ap, subst, ◌∙◌, ◌⊎◌, inl, inr}
+use Rattle.std.proofs.Common.{◌≡◌, ◌≢◌, ℕ, ◌==◌, Bool, true, Option, Some, None, refl, sym, subst, ◌∙◌, ◌⊎◌, inl, inr}
 use Rattle.std.proofs.lemmas.Bool.{cases_Bool, eqb-true}
 use Rattle.std.specs.List.{filter}
 use Rattle.std.specs.Option.{option_map}
@@ -9,7 +9,6 @@ use Rattle.xmpp_device_views.specs.Servers.{IsRow, IsRowShown, ServerShows}
 use Rattle.xmpp_links.specs.Links.{IsPlaced, LinkKept}
 use Rattle.xmpp_links.specs.Stages.{Conn}
 use Rattle.xmpp_links.specs.Views.{Row, View}
-use Rattle.xmpp_links.specs.Views as links
 use Rattle.xmpp_live.specs.Sessions.{Session, is_named, session_at, session_named, with_session}
 use Rattle.xmpp_others_stay.proofs.Carried.{Carries, carried, carried_named, carried_was, named_carried, rule_carried, seat_was}
 use Rattle.xmpp_others_stay.proofs.Elsewhere.{apart_from}

@@ -1,11 +1,11 @@
 -- What is one device's is none of another's: connections, sessions, and the connection that a session is on.
-use Rattle.std.proofs.Common.{◌≡◌, ◌≢◌, ℕ, true, Option, Some, None, refl, sym, ap, subst, ◌∙◌}
+use Rattle.std.proofs.Common.{◌≡◌, ◌≢◌, ℕ, true, [], Option, Some, None, refl, sym, ap, subst, ◌∙◌}
 use Rattle.std.proofs.lemmas.Option.{same_Some}
 use Rattle.xmpp_desk.specs.State.{Hall, Step}
 use Rattle.xmpp_device_views.specs.Identities.{Identity, Login}
 use Rattle.xmpp_device_views.specs.Pipes.{PipesShow}
 use Rattle.xmpp_device_views.specs.Sent.{sent}
-use Rattle.xmpp_device_views.specs.Servers.{IsRow, IsRowShown, ServerFollows, ServerShows}
+use Rattle.xmpp_device_views.specs.Servers.{IsRowShown, ServerFollows, ServerShows}
 use Rattle.xmpp_item_worlds.specs.ItemPipes.{ItemWire, handed_up}
 use Rattle.xmpp_links.proofs.Reached.{link_kept}
 use Rattle.xmpp_links.specs.Links.{IsPlaced, LinkKept}
