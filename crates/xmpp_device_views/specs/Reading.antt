@@ -1,6 +1,6 @@
 -- A word stands first on its way down on the connection that the client works on, or the user calls: what the client does
 -- is to be moves of the links.
-use Rattle.std.specs.Prelude.{◌≡◌, ℕ, ◌+◌, ◌++◌, ◌∷◌, List, [], Option, Some, None, nat_eq}
+use Rattle.std.specs.Prelude.{◌≡◌, ℕ, ◌+◌, ◌++◌, ◌∷◌, List, [], Option, Some, None, nat_eq, true}
 use Rattle.std.specs.Option.{option_map}
 use Rattle.xmpp_client.specs.Steps.{item_step}
 use Rattle.xmpp_client_rows.specs.Clients.{Turn}
