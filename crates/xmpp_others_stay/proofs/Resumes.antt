@@ -1,5 +1,5 @@
--- A resumption (XEP-0198, section 5) leaves other devices: the session that it names is of the device itself, or none is
--- named; and so is the connection that this was on.
+-- A resumption (XEP-0198, section 5) leaves other devices: the session that it names is of the device itself, or none
+-- is named; and so is the connection that this was on.
 use Rattle.std.proofs.Common.{◌≡◌, ℕ, Bool, true, false, List, [], ◌∷◌, Option, Some, None, Ok, Err, cond, length, nat_le, refl, sym, ap, subst, ◌∙◌}
 use Rattle.xmpp_desk.specs.State.{Hall, Step, with_sessions}
 use Rattle.xmpp_desk.specs.Steps.{Act, Ask, Close, Say, acted}

@@ -12,8 +12,8 @@ ghost use Rattle.xmpp_others_stay.specs.Beside.{HasRoom, IsBeside, IsNoStanza};
 ghost use Rattle.xmpp_server_follows.specs.Taking.{IsFirst, IsHeard, IsLeft, IsOver};
 ghost use Rattle.xmpp_writer.specs.Items.{ItemOut};
 
-/// A law: whatever word of a device the server takes that is no stanza, of each other device nothing moves: also where a
-/// session is bound, and the older one ends with its connection, and where one is resumed, parked or on another
+/// A law: whatever word of a device the server takes that is no stanza, of each other device nothing moves: also where
+/// a session is bound, and the older one ends with its connection, and where one is resumed, parked or on another
 /// connection, or its count is too high (RFC 6120, section 7; XEP-0198, section 5).
 pub fn words_leave_others()
     ensures { (who whom : Identity) (logins others : ℕ → Login) (h : Hall ItemOut) (wires : Table ItemWire) (v u : View ItemOut) (k : ℕ) (word : UpWord ItemOut) (p : IsFirst who logins h wires v k word)
