@@ -26,8 +26,8 @@ pub record Rests {A : Type 0} (h g : Hall A) : Type 0 where
   pub keeps : IsOrdered g
   pub no_more : g.next + unbound g ≤ h.next + unbound h
 
--- behind so many connections that came: the numbers that were given, and the connections that may still be given one, are
--- no more than these (the first number is 1)
+-- behind so many connections that came: the numbers that were given, and the connections that may still be given one,
+-- are no more than these (the first number is 1)
 pub record IsWithin {A : Type 0} (n : ℕ) (h : Hall A) : Type 0 where
   pub ordered : IsOrdered h
   pub few : h.next + unbound h ≤ n + 1
