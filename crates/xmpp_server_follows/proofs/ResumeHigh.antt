@@ -1,6 +1,6 @@
 -- The row on a resumption (XEP-0198, section 5) with a count that is behind the one acknowledged: it is too high, and the
 -- session ends. This happens on connections alone that the client left: nothing comes to it.
-use Rattle.std.proofs.Common.{◌≡◌, ℕ, ◌+◌, ◌≤◌, ◌==◌, Bool, true, false, not, List, [], ◌∷◌, Option, Some, None, Ok, Err, cond, map, refl, sym, ap, subst, ◌∙◌, inl, inr}
+use Rattle.std.proofs.Common.{◌≡◌, ℕ, ◌==◌, Bool, true, false, not, List, [], ◌∷◌, Option, Some, None, Ok, Err, cond, map, refl, sym, ap, subst, ◌∙◌, inl, inr}
 use Rattle.std.proofs.lemmas.Bool.{cases_Bool, eq-eqb}
 use Rattle.std.specs.List.{filter}
 use Rattle.xmpp_desk.specs.State.{Hall, Step, with_sessions, without_conn}
@@ -18,7 +18,7 @@ use Rattle.xmpp_links.specs.Links.{LinkKept}
 use Rattle.xmpp_links.specs.Machine.{TakesHighResume}
 use Rattle.xmpp_links.specs.SessionMoves.{shut as shut_conn}
 use Rattle.xmpp_links.specs.Stages.{Conn, Errs, tail_of}
-use Rattle.xmpp_links.specs.Views.{Row, Table, View, has, with_at}
+use Rattle.xmpp_links.specs.Views.{Table, View, with_at}
 use Rattle.xmpp_links.specs.Wires.{is_flowing}
 use Rattle.xmpp_links.specs.Words.{ResumeAt}
 use Rattle.xmpp_links.specs.Words as word
@@ -50,10 +50,10 @@ nothing_put some others w ended = ap (λ d. record w { up = emptied w.up; down =
 
 module _ (who : Identity) (logins : ℕ → Login) (h : Hall ItemOut) (wires : Table ItemWire) (v : View ItemOut) (k q n : ℕ) (p : IsFirst who logins h wires v k (ResumeAt q n)) (s : Session ItemOut) (found : session_resumed (previd_of q) who.account h.sessions ≡ Some s)
     (own : IsOwnSession who h v q s) (behind : IsBehind v k n own.row) where
-  kept : LinkKept v
+  pub kept : LinkKept v
   kept = kept_here who logins h wires v k (ResumeAt q n) p
 
-  abbrev hh : ℕ
+  abbrev pub hh : ℕ
   hh = told_count n
 
   pub high : is_too_high hh s ≡ true

@@ -1,7 +1,6 @@
 -- A session is resumed (XEP-0198, section 5) that is on another connection: the stream there ends first, by `conflict`, and
 -- the session is parked; then all is as for one that was parked.
-use Rattle.std.proofs.Common.{◌≡◌, ◌≢◌, ℕ, ◌==◌, Bool, true, false, not, ◌&&◌, List, [], ◌∷◌, ◌++◌, Option, Some, None, Ok, Err, cond, length, nat_le, refl, sym, ap, subst, ◌∙◌, inl, inr}
-use Rattle.std.proofs.lemmas.Bool.{cases_Bool}
+use Rattle.std.proofs.Common.{◌≡◌, ◌≢◌, ℕ, ◌==◌, Bool, false, ◌&&◌, List, [], ◌∷◌, ◌++◌, Option, Some, None, Ok, Err, cond, length, nat_le, refl, sym, ap, subst, ◌∙◌}
 use Rattle.std.proofs.lemmas.Option.{same_Some}
 use Rattle.std.specs.List.{filter, find}
 use Rattle.std.specs.Option.{option_map}
@@ -29,7 +28,7 @@ use Rattle.xmpp_links.specs.Views.{Row, Table, View, alter, carries, has, on_pha
 use Rattle.xmpp_links.specs.Views as links
 use Rattle.xmpp_links.specs.Wires.{send_down}
 use Rattle.xmpp_links.specs.Words.{Conflict, ResumeAt}
-use Rattle.xmpp_live.specs.Sessions.{Session, after_resume, asks, is_at, is_named, is_resumed_by, is_too_high, resent, resume_answer, resume_ok, resumes, send_count, session_at, session_named, session_resumed, with_session, without, without_at}
+use Rattle.xmpp_live.specs.Sessions.{Session, after_resume, asks, is_at, is_resumed_by, is_too_high, resent, resume_answer, resume_ok, resumes, send_count, session_resumed, with_session, without, without_at}
 use Rattle.xmpp_replies.specs.Management.{resumed_item}
 use Rattle.xmpp_replies.specs.Streams.{error_item}
 use Rattle.xmpp_replies.specs.declared.conditions.StreamCondition.TheVariants as stream
@@ -42,7 +41,7 @@ use Rattle.xmpp_server_follows.proofs.Leavings.{unseated}
 use Rattle.xmpp_server_follows.proofs.Parkings.{off, off_leaves, off_named, off_shows}
 use Rattle.xmpp_server_follows.proofs.Removed.{all_left}
 use Rattle.xmpp_server_follows.proofs.ResumeCounts.{IsBehind, IsPlace}
-use Rattle.xmpp_server_follows.proofs.ResumeHigh.{alone, high, high_begins, high_follows, high_hall, high_words, stays}
+use Rattle.xmpp_server_follows.proofs.ResumeHigh.{alone, high, high_begins, high_follows, high_words, stays}
 use Rattle.xmpp_server_follows.proofs.ResumeRows.{IsOwnSession, asked_so, asked_where, said, within_so}
 use Rattle.xmpp_server_follows.proofs.ResumeTaken.{back_follows, few}
 use Rattle.xmpp_server_follows.proofs.Shuts.{shuts_are_for, shuts_at}
@@ -230,8 +229,8 @@ module _ (who : Identity) (logins : ℕ → Login) (h : Hall ItemOut) (wires : T
         subst (λ t. StepFollows who logins wires v k p.wire t []) (sym step)
         (behind_it all last (asked_hall k m due (last_hall (comes (with_session m off h.sessions))) (shuts_at f words) (puts_at k items))
         (λ j.
-            ap (λ o. sent o (with_at k (handed_up p.wire) wires) j) (asked_outs k m due (last_hall (comes (with_session m off h.sessions))) (shuts_at f words) (puts_at k items))
-            ∙ sent_apart who logins wires v p.pipes f k apart (shuts_at f words) last.outs p.wire p.there (shuts_are_for f words) j)
+        ap (λ o. sent o (with_at k (handed_up p.wire) wires) j) (asked_outs k m due (last_hall (comes (with_session m off h.sessions))) (shuts_at f words) (puts_at k items))
+        ∙ sent_apart who logins wires v p.pipes f k apart (shuts_at f words) last.outs p.wire p.there (shuts_are_for f words) j)
         (back_follows who logins hall off_wires off_view k q n first (off s) off_found off_own refl (record { low = place.within.low; high = place.within.high }) place.here))
 
   -- ---- it is behind
@@ -277,6 +276,6 @@ module _ (who : Identity) (logins : ℕ → Login) (h : Hall ItemOut) (wires : T
         subst (λ t. StepFollows who logins wires v k p.wire t []) (sym high_step)
         (behind_it all last refl
         (λ j.
-            sent_swapped f k (shuts_at f words) (shuts_at k told) apart (shuts_are_for f words) (shuts_are_for k told) (with_at k (handed_up p.wire) wires) j
-            ∙ sent_apart who logins wires v p.pipes f k apart (shuts_at f words) (shuts_at k told) p.wire p.there (shuts_are_for f words) j)
+        sent_swapped f k (shuts_at f words) (shuts_at k told) apart (shuts_are_for f words) (shuts_are_for k told) (with_at k (handed_up p.wire) wires) j
+        ∙ sent_apart who logins wires v p.pipes f k apart (shuts_at f words) (shuts_at k told) p.wire p.there (shuts_are_for f words) j)
         (high_follows who logins hall off_wires off_view k q n first (off s) off_found off_own off_behind refl))

@@ -1,6 +1,6 @@
 -- A session that is parked is resumed, with a count that names a place in its queue: on the connection that its client
 -- works on, or late.
-use Rattle.std.proofs.Common.{◌≡◌, ℕ, ◌-◌, ◌≤◌, Bool, true, false, List, [], ◌∷◌, Option, Some, None, Ok, Err, cond, length, drop, nat_le, map, refl, sym, ap, subst, ◌∙◌, ◌⊎◌, inl, inr, if◌then◌else◌, arith, ◌++◌}
+use Rattle.std.proofs.Common.{◌≡◌, ℕ, ◌-◌, ◌≤◌, Bool, true, false, List, [], ◌∷◌, Option, Some, None, Ok, Err, cond, length, drop, nat_le, map, refl, sym, ap, subst, ◌∙◌, ◌⊎◌, inl, inr, if◌then◌else◌, ◌++◌}
 use Rattle.std.proofs.lemmas.List.Elements.{All-drop}
 use Rattle.std.proofs.lemmas.Option.{same_Some}
 use Rattle.std.specs.List.{All}
@@ -101,7 +101,7 @@ module _ (who : Identity) (logins : ℕ → Login) (h : Hall ItemOut) (wires : T
     abbrev pub last_hall : Hall ItemOut
     last_hall = with_sessions (with_session s.shown.number (asks false) back_hall.sessions) back_hall
 
-    abbrev due : Bool
+    abbrev pub due : Bool
     due = nat_le ASKS_AT (length (resent hh s))
 
     abbrev tail : List (Session ItemOut) → Step ItemOut

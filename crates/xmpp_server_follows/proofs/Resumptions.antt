@@ -1,6 +1,6 @@
 -- A resumption (XEP-0198, section 5): of a session that the server doesn't have, of one that is parked, and of one that is
 -- on a connection; with a count that names a place in its queue, and with one that is behind.
-use Rattle.std.proofs.Common.{◌≡◌, ℕ, Option, Some, None, refl, sym, subst, ◌∙◌, ◌⊎◌, inl, inr}
+use Rattle.std.proofs.Common.{◌≡◌, ℕ, [], Option, Some, None, refl, sym, subst, ◌⊎◌, inl, inr}
 use Rattle.xmpp_desk.specs.State.{Hall}
 use Rattle.xmpp_device_views.specs.Identities.{Identity, Login}
 use Rattle.xmpp_item_worlds.specs.ItemPipes.{ItemWire}

@@ -1,9 +1,9 @@
 -- What doesn't hang on an order: of outs for two connections, of two connections that are no more, and of changes of a
 -- session that is then changed or left out.
-use Rattle.std.proofs.Common.{◌≡◌, ◌≢◌, ℕ, ◌==◌, Bool, true, false, not, List, [], ◌∷◌, ◌++◌, Option, Some, None, map, refl, sym, ap, ◌∙◌, inl, inr}
+use Rattle.std.proofs.Common.{◌≡◌, ◌≢◌, ℕ, ◌==◌, Bool, true, false, List, [], ◌∷◌, ◌++◌, Option, Some, None, map, refl, sym, ap, ◌∙◌, inl, inr}
 use Rattle.std.proofs.lemmas.Bool.{cases_Bool, cases_eq}
 use Rattle.std.proofs.lemmas.List.{append_assoc}
-use Rattle.std.specs.List.{filter, find}
+use Rattle.std.specs.List.{find}
 use Rattle.std.specs.Map.{remove_entry}
 use Rattle.std.specs.Option.{option_map}
 use Rattle.xmpp_desk.specs.State.{Hall, Out, Put, is_number}
@@ -58,8 +58,8 @@ removed_swapped f k apart (e ∷ es) =
           ]
       | inr not_one ↦
           elim (cases_Bool (is_number k e.0)) [
-            | inl other ↦ rw (not_one, other, other) refl
-            | inr neither ↦ rw (not_one, neither, not_one, neither) (ap (λ l. e ∷ l) (removed_swapped f k apart es))
+            | inl other ↦ rw (not_one, other) refl
+            | inr neither ↦ rw (not_one, neither, not_one) (ap (λ l. e ∷ l) (removed_swapped f k apart es))
           ]
     ]
 

@@ -1,0 +1,4 @@
+pub mod Sends
+pub mod Queries
+pub mod Pages
+pub mod Replies

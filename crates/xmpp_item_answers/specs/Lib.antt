@@ -1,0 +1,4 @@
+-- law: what a hall is to the applications, and which stanzas are said
+pub mod Around
+-- machine: what the server does on a stanza, and how that is read
+pub mod Sent

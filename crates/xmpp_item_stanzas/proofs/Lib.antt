@@ -1,0 +1,4 @@
+pub mod TextsTold
+pub mod ItemsUp
+pub mod ItemsDown
+pub mod PagesDown
