@@ -7,3 +7,5 @@ pub mod LoginTexts
 pub mod Exchanges
 pub mod DrawnLogins
 pub mod ScheduleLogins
+-- ---- the first world
+pub mod FirstWorlds

@@ -2,9 +2,12 @@
 ghost use Rattle.std.specs.Prelude.{◌≡◌, ◌≢◌, ℕ, List, true};
 ghost use Rattle.xmpp_device_logins.specs.Devices.{AreTwo, IsDeviceAt, identity_at};
 ghost use Rattle.xmpp_device_logins.specs.Logins.{HasLogin, IsDrawn};
-ghost use Rattle.xmpp_device_views.specs.Identities.{Identity, IsNormal, own_account};
+ghost use Rattle.xmpp_device_views.specs.Identities.{Identity, IsNormal, Login, own_account};
 ghost use Rattle.xmpp_device_views.specs.Servers.{IsServed};
+ghost use Rattle.xmpp_device_views.specs.Shows.{Shows};
 ghost use Rattle.xmpp_devices.specs.Starting.{accounts_at_start, device_at_start};
+ghost use Rattle.xmpp_images.specs.ItemStarts.{items_at_start};
+ghost use Rattle.xmpp_links.specs.Machine.{nothing_yet};
 ghost use Rattle.xmpp_report.specs.Addresses.{domain};
 ghost use Rattle.xmpp_schedule.specs.Contents.{Owned, accounts_of};
 ghost use Rattle.xmpp_schedule.specs.Schedules.{WireView};
@@ -41,4 +44,11 @@ pub fn logins_go_through()
     ensures drawn { (who : Identity) (mine yours : List ℕ) → is_plain who.name ≡ true → is_plain who.password ≡ true → IsDrawn mine → IsDrawn yours → HasLogin who mine yours }
     ensures schedule { (schedule : WireView) (place : ℕ) (o : Owned) → IsWireSchedule schedule → IsDeviceAt schedule place o
         → (n : ℕ) → HasLogin (identity_at schedule place o) (client_entropy n) (server_entropy n) }
+{}
+
+/// A law: the first world of items of a wire schedule shows each of its devices, whatever its logins will be: nothing is
+/// there yet.
+pub fn devices_are_shown_from_the_start()
+    ensures { (schedule : WireView) (place : ℕ) (o : Owned) (logins : ℕ → Login) → IsWireSchedule schedule → IsDeviceAt schedule place o
+        → Shows (identity_at schedule place o) logins (items_at_start schedule) nothing_yet }
 {}

@@ -3,4 +3,6 @@
 
 mod laws;
 
-pub use laws::{devices_are_apart, devices_have_identities, logins_go_through};
+pub use laws::{
+    devices_are_apart, devices_are_shown_from_the_start, devices_have_identities, logins_go_through,
+};
