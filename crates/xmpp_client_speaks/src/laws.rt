@@ -1,5 +1,5 @@
 //! What a client does on stanzas and for its user is moves of the links.
-ghost use Rattle.std.specs.Prelude.{◌≡◌, ℕ, ◌<◌, ◌^◌, Bool, IfSome, List, Ok, Option};
+ghost use Rattle.std.specs.Prelude.{◌≡◌, ℕ, ◌<◌, ◌^◌, Bool, true, IfSome, List, Ok, Option};
 ghost use Rattle.xmpp_client.specs.PageRows.{answer_to};
 ghost use Rattle.xmpp_client.specs.UserCalls.{catch_up_answer, catches_up, say_answer, says};
 ghost use Rattle.xmpp_client_fits.specs.Answerable.{IsItemAnswerable};
@@ -14,9 +14,11 @@ ghost use Rattle.xmpp_item_worlds.specs.ItemWorlds.{ItemDevice, read_of, silent_
 ghost use Rattle.xmpp_links.specs.Views.{Table, View};
 ghost use Rattle.xmpp_links.specs.Words.{Down, St};
 ghost use Rattle.xmpp_outbox.specs.Submissions.{origin_of};
+ghost use Rattle.xmpp_report.specs.Addresses.{bare_address};
 ghost use Rattle.xmpp_requests.specs.Messages.{page_item, queryid_text, submission_item};
 ghost use Rattle.xmpp_requests.specs.Sessions.{available_item, carbons_item};
 ghost use Rattle.xmpp_requests_fit.specs.Bounds.{IsTextWithin, most_address, most_id, most_part, most_text};
+ghost use Rattle.xmpp_schedule.specs.Grammar.{is_name};
 ghost use Rattle.xmpp_stanza.specs.Views.{IqView};
 ghost use Rattle.xmpp_writer.specs.Items.{ItemOut};
 
@@ -56,4 +58,9 @@ pub fn catch_ups_follow()
     ensures { (who : Identity) (logins : ℕ → Login) (d : ItemDevice) (wires : Table ItemWire) (v : View ItemOut) (shown : IsShownHere who logins d wires v) (most : ℕ)
         → IsClientWithin d.client → most < 2 ^ 32 → catch_up_answer d.client ≡ Ok tt
         → SpeakingFollows who logins d wires v (catches_up in_items (silent_turn d.client) most) }
+{}
+
+/// A law: the addresses of a schedule's accounts, to which alone its users write, are bare, in normal form and short.
+pub fn accounts_have_bare_addresses()
+    ensures { (account : List ℕ) → is_name account ≡ true → IsBareAddress (bare_address account) }
 {}
