@@ -1,0 +1,3 @@
+pub use Rattle.xmpp_edge.specs.Listed
+-- law: numbers of sessions against connections
+pub mod Unbound
