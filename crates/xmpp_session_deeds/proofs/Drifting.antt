@@ -1,5 +1,5 @@
 -- Drifts behind drifts, and before deeds.
-use Rattle.std.proofs.Common.{◌≡◌, List, [], ◌∷◌, ◌++◌, refl, sym, subst}
+use Rattle.std.proofs.Common.{List, [], ◌∷◌, ◌++◌, subst}
 use Rattle.xmpp_device_views.specs.Deeds.{Deed}
 use Rattle.xmpp_links_events.specs.Lists.{Stanzas}
 use Rattle.xmpp_session_deeds.specs.Deeds.{DoesAmid, Drift, Drifts, drifted}

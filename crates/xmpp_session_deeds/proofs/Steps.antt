@@ -1,5 +1,5 @@
 -- Each move of the links is its deed, or a drift.
-use Rattle.std.proofs.Common.{◌≡◌, ◌⊎◌, inl, inr, ℕ, Bool, true, false, List, [], ◌∷◌, ◌++◌, Option, Some, None, refl, sym, ap, subst, ◌∙◌}
+use Rattle.std.proofs.Common.{◌≡◌, inl, inr, ℕ, List, [], ◌∷◌, ◌++◌, Option, Some, None, refl, sym, ap, subst, ◌∙◌}
 use Rattle.std.specs.Option.{option_map}
 use Rattle.xmpp_device_views.specs.Deeds.{Deed, Drops, Enters, Gives, Learns, Names, Reads, Says, Takes, deed_of, deeds_of}
 use Rattle.xmpp_links.specs.Events.{Bound, Counted, Dropped, Ended, Event, Handled, Heard, Known, Learned, Named, Said, Served, own_number, row_number, seen}
@@ -7,11 +7,11 @@ use Rattle.xmpp_links.specs.Machine.{AsksToBind, AsksToResume, Cuts, Demands, De
 use Rattle.xmpp_links.specs.Telling.{of_own, of_row}
 use Rattle.xmpp_links.specs.Views.{Own, Row, View}
 use Rattle.xmpp_links_events.proofs.Acts.{move_leads}
-use Rattle.xmpp_links_events.specs.Acts.{AreActs, IsAct}
+use Rattle.xmpp_links_events.specs.Acts.{AreActs}
 use Rattle.xmpp_links_events.specs.Lists.{IsDevice, IsOnline, Stanzas}
 use Rattle.xmpp_session_deeds.proofs.Drifting.{drifts_before}
 use Rattle.xmpp_session_deeds.specs.Deeds.{Binds, Counts, Does, DoesAmid, Drift, Drifts, Ends}
-use Rattle.xmpp_sessions.specs.Devices.{Device, Sessions, new_device}
+use Rattle.xmpp_sessions.specs.Devices.{Sessions, new_device}
 
 then_reaches : {A : Type 0} (moves : List (LinkMove A)) (move : LinkMove A) (v middle last : View A) → LinkReaches moves v middle → LinkMoves move middle last → LinkReaches (moves ++ move ∷ []) v last
 then_reaches [] move v middle last same by = (last, subst (λ x. LinkMoves move x last) same by, refl)

@@ -1,6 +1,6 @@
 -- The deeds of the links (`xmpp_device_views`) as what becomes of a device's sessions as lists. What the server alone does
 -- with a session, by a binding, by counting it and where it ends, is no deed: between two of them it drifts so.
-use Rattle.std.specs.Prelude.{◌≡◌, ◌⊎◌, ℕ, ◌≤◌, Bool, true, false, List, [], ◌∷◌, length, map}
+use Rattle.std.specs.Prelude.{◌≡◌, ◌⊎◌, ℕ, ◌≤◌, Bool, true, false, List, [], ◌∷◌, length}
 use Rattle.xmpp_device_views.specs.Deeds.{Deed, Drops, Enters, Gives, Learns, Names, Reads, Says, Takes}
 use Rattle.xmpp_links_events.specs.Acts.{MayAct}
 use Rattle.xmpp_links_events.specs.Lists.{IsCounting, Stanzas, knows}
@@ -78,7 +78,9 @@ DoesAmid r (x ∷ xs) d last = (before : List Drift) × (there : Sessions) × Dr
 
 -- ---- whose deeds
 
-abbrev pub IsOfClient : {A : Type 0} → Deed A → Type 0
-IsOfClient (Takes z) = ⊥
-IsOfClient (Gives z) = ⊥
-IsOfClient x = Unit {0}
+-- of the client, and not that a session was bound
+abbrev pub IsPlain : {A : Type 0} → Deed A → Type 0
+IsPlain (Takes z) = ⊥
+IsPlain (Gives z) = ⊥
+IsPlain Names = ⊥
+IsPlain x = Unit {0}
