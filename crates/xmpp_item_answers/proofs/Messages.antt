@@ -89,19 +89,19 @@ summed false delivered wants senders recipients sent same xs both one =
 -- ---- a submission to one of the accounts
 
 module _ (resource : List ℕ) (m : Submission) (t : Told) (h : Hall ItemOut) (account : ℕ) where
-  abbrev as_read : MessageView
+  abbrev pub as_read : MessageView
   as_read = message_of resource m h
 
-  abbrev as_sent : MessageView
+  abbrev pub as_sent : MessageView
   as_sent = addressed (session_address t.number h) (address_in m h) as_read
 
-  abbrev archs : List ℕ
+  abbrev pub archs : List ℕ
   archs = archives_of (archiving_of as_read t.account account)
 
   abbrev ready : List ℕ
   ready = map number_of (ready_of account h.sessions)
 
-  abbrev route : RouteOf ℕ
+  abbrev pub route : RouteOf ℕ
   route = record {
     archiving = archiving_of as_read t.account account;
     deliver = ready;
@@ -111,7 +111,7 @@ module _ (resource : List ℕ) (m : Submission) (t : Told) (h : Hall ItemOut) (a
 
   -- what archives it goes to
 
-  in_archives : (x : ℕ) → (x ≡ t.account) ⊎ (x ≡ account) → list_any (λ other. other == x) archs ≡ true
+  pub in_archives : (x : ℕ) → (x ≡ t.account) ⊎ (x ≡ account) → list_any (λ other. other == x) archs ≡ true
   in_archives x which = elim (cases_Bool (t.account == account)) [
     | inl same ↦
         let one : t.account ≡ account = eqb-true t.account account same in
@@ -128,7 +128,7 @@ module _ (resource : List ℕ) (m : Submission) (t : Told) (h : Hall ItemOut) (a
       or_so true = refl
       or_so false = refl
 
-  all_room : HasRoom t account h → is_full_in archs h ≡ false
+  pub all_room : HasRoom t account h → is_full_in archs h ≡ false
   all_room room = elim (cases_Bool (t.account == account)) [
     | inl same ↦ rw (same, room.recipients) refl
     | inr other ↦ rw (other, room.senders, room.recipients) refl
@@ -145,10 +145,10 @@ module _ (resource : List ℕ) (m : Submission) (t : Told) (h : Hall ItemOut) (a
 
   -- what that sends, by tests of sessions
 
-  abbrev is_delivered : Session ItemOut → Bool
+  abbrev pub is_delivered : Session ItemOut → Bool
   is_delivered s = is_of account s && is_ready s.shown
 
-  abbrev wants : Session ItemOut → Bool
+  abbrev pub wants : Session ItemOut → Bool
   wants s = wants_copy (having_it t ready) s.shown
 
   module _ (n : ℕ) (rise : RisesTo h.next 1 h.sessions) where
@@ -170,13 +170,13 @@ module _ (resource : List ℕ) (m : Submission) (t : Told) (h : Hall ItemOut) (a
     copies_where b which zs =
         picks_where b zs (filter wants (sessions_of which h.sessions)) ∙ ap (where_so b) (copies_to which zs) ∙ where_and b (if_passes (λ s. is_of which s && wants s) (session_of n h.sessions)) zs
 
-    abbrev went : Option (Session ItemOut) → List ItemOut
+    abbrev pub went : Option (Session ItemOut) → List ItemOut
     went o =
         where_so (if_passes is_delivered o) (delivered as_sent archs h n)
         ++ (where_so (is_copied as_read && if_passes (λ s. is_of t.account s && wants s) o) (copied as_sent archs h true n)
         ++ (where_so ((is_copied as_read && not (t.account == account)) && if_passes (λ s. is_of account s && wants s) o) (copied as_sent archs h false n) ++ []))
 
-    sends : sends_to n (carrying as_it_is as_sent archs route h) ≡ went (session_of n h.sessions)
+    pub sends : sends_to n (carrying as_it_is as_sent archs route h) ≡ went (session_of n h.sessions)
     sends =
         carried as_sent archs h n route
         ∙ (λ i. delivers (delivered as_sent archs h n) i
@@ -287,7 +287,7 @@ module _ (resource : List ℕ) (m : Submission) (t : Told) (h : Hall ItemOut) (a
 
 -- ---- to nobody
 
-abbrev unserved : StanzaError
+abbrev pub unserved : StanzaError
 unserved = record { kind = Cancel; condition = ServiceUnavailable }
 
 none_of : (o : Option ℕ) → is_some o ≡ false → o ≡ None
@@ -295,10 +295,10 @@ none_of None is = refl
 none_of (Some n) is = absurd (false≢true (sym is))
 
 module _ (resource : List ℕ) (m : Submission) (t : Told) (h : Hall ItemOut) (e : Elem) (is : IsSubmission resource m h e) (nobody : is_among m.to (names_of h.accounts) ≡ false) where
-  abbrev back : ItemOut
+  abbrev pub back : ItemOut
   back = bounce_item (address_in m h) (origin_of resource m.epoch m.n) unserved
 
-  comes_back : does_on e t h ≡ Send t.number back ∷ []
+  pub comes_back : does_on e t h ≡ Send t.number back ∷ []
   comes_back =
       ap (λ r. handling as_it_is r t h) (stanza_is resource m h e is)
       ∙ ap (λ d. messaging as_it_is (message_of resource m h) (address_in m h) t (plan_renamed number_of (planned d (message_of resource m h) t h.sessions)) h)
