@@ -2,13 +2,14 @@
 use Rattle.std.proofs.Common.{◌≡◌, ℕ, Bool, true, false, List, [], ◌∷◌, ◌++◌, codes, length, Option, Some, None, IfSome, Result, Ok, Err, refl, if◌then◌else◌}
 use Rattle.std.specs.Option.{option_map}
 use Rattle.std.specs.Prelude.{nat_le}
-use Rattle.xmpp_client_fits.proofs.TurnsKept.{All-append, logs_within, tells_within, within_either}
+use Rattle.xmpp_client_fits.proofs.TurnsKept.{logs_within, tells_within, within_either}
 use Rattle.xmpp_client_fits.specs.Within.{IsClientWithin, IsEntryWithin, IsLogWithin, IsPageWithin, IsTurnWithin}
 use Rattle.xmpp_client_rows.specs.Clients.{ClientView, Turn}
 use Rattle.xmpp_client_rows.specs.MessageRows.{bounce_of, held_by, held_row, is_own_or_absent, live_in, logged, message_row, message_with, other_message, own_id, refuses, result_row, result_to, tells_where}
 use Rattle.xmpp_client_rows.specs.declared.events.CatchUpFault.{CatchUpFault}
 use Rattle.xmpp_client_rows.specs.declared.events.Event.{Event}
 use Rattle.xmpp_ext.specs.declared.forwarding.Forwarded.{Forwarded}
+use Rattle.xmpp_framing_laws.proofs.PlainElements.{append_each}
 use Rattle.xmpp_log.specs.LogCalls.{after_hold, may_hold}
 use Rattle.xmpp_log.specs.Views.{LogView, OpenPage, page_for, with_result, without_page}
 use Rattle.xmpp_log.specs.declared.log_entry.LogEntry.{LogEntry}
@@ -29,7 +30,7 @@ refused_within t fault h = tells_within _ _ (logs_within t (without_page t.clien
 
 page_with : (o : Option OpenPage) (entry : LogEntry) → IfSome o IsPageWithin → IsEntryWithin entry → IfSome (option_map (λ (page : OpenPage). record page { results = page.results ++ entry ∷ [] }) o) IsPageWithin
 page_with None entry h one = tt
-page_with (Some page) entry h one = record { results = All-append IsEntryWithin page.results (entry ∷ []) h.results (one, tt); max = h.max }
+page_with (Some page) entry h one = record { results = append_each IsEntryWithin page.results (entry ∷ []) h.results (one, tt); max = h.max }
 
 result_to_within : (t : Turn ItemOut ItemOut) (o : Option OpenPage) (entry : LogEntry) → IsTurnWithin t → IsEntryWithin entry → IsTurnWithin (result_to t o entry)
 result_to_within t None entry h one = h

@@ -5,7 +5,7 @@ use Rattle.std.specs.Option.{option_map}
 use Rattle.std.specs.Str.{bytes_eq}
 use Rattle.xmpp_client.specs.PageRows.{answer_to, answered_page, begins_page, error_of_page, goes_on, iq_by, iq_row, is_not_found, is_ping, next_queryid, numbered, only_fin, page_answered, page_done, page_ended, requests, restarts, result_of_page}
 use Rattle.xmpp_client_fits.proofs.MessagesKept.{refused_within}
-use Rattle.xmpp_client_fits.proofs.TurnsKept.{All-append, all_put_within, ends_within, fit_either, has_to_put_within, logs_within, queues_within, tells_within, within_either}
+use Rattle.xmpp_client_fits.proofs.TurnsKept.{all_put_within, ends_within, fit_either, has_to_put_within, logs_within, queues_within, tells_within, within_either}
 use Rattle.xmpp_client_fits.specs.Within.{IsEntryWithin, IsLogWithin, IsPageWithin, IsSessionWithin, IsTurnWithin}
 use Rattle.xmpp_client_rows.specs.Clients.{Turn}
 use Rattle.xmpp_client_rows.specs.MessageRows.{error_within, is_own_or_absent}
@@ -13,6 +13,7 @@ use Rattle.xmpp_client_rows.specs.Speech.{in_items}
 use Rattle.xmpp_client_rows.specs.Turns.{is_online, queues, tells, with_log}
 use Rattle.xmpp_client_rows.specs.declared.events.Event.TheVariants.{PageDone}
 use Rattle.xmpp_framing.specs.Limits.{server_limits}
+use Rattle.xmpp_framing_laws.proofs.PlainElements.{append_each}
 use Rattle.xmpp_log.specs.LogCalls.{restarted, with_restart}
 use Rattle.xmpp_log.specs.LogPages.{last_id}
 use Rattle.xmpp_log.specs.Views.{LogView, OpenPage, after_fin, end_of, page_for, with_begun, with_page, without_page}
@@ -42,9 +43,9 @@ use Rattle.xmpp_written.specs.Puts.{OutFits}
 
 pub requested_within : (t : Turn ItemOut ItemOut) (s : SessionView ItemOut) (item : ItemOut) (kind : Bool) → IsTurnWithin t → IsSessionWithin s → OutFits server_limits item → IsTurnWithin (requests in_items t s item kind)
 requested_within t s item kind h within fit =
-    let one = All-append (OutFits server_limits) t.out.put (item ∷ []) h.put (fit, tt) in
+    let one = append_each (OutFits server_limits) t.out.put (item ∷ []) h.put (fit, tt) in
     all_put_within (queues in_items t s item kind) _ (queues_within t s item kind h within fit)
-    (fit_either (is_online t.client.phase) ((t.out.put ++ item ∷ []) ++ request_item ∷ []) t.out.put (All-append (OutFits server_limits) (t.out.put ++ item ∷ []) (request_item ∷ []) one (fitted.request, tt)) h.put)
+    (fit_either (is_online t.client.phase) ((t.out.put ++ item ∷ []) ++ request_item ∷ []) t.out.put (append_each (OutFits server_limits) (t.out.put ++ item ∷ []) (request_item ∷ []) one (fitted.request, tt)) h.put)
 
 last_within : (entries : List LogEntry) → AllByRecursion IsEntryWithin entries → IfSome (last_id entries) (IsTextWithin most_id)
 last_within [] h = tt
@@ -80,7 +81,7 @@ after_within log fin h = by_case log.page h.page
   where
     by_case : (o : Option OpenPage) → IfSome o IsPageWithin → IsLogWithin (elim o as (λ _. LogView) [ None ↦ log | Some page ↦ with_page log page fin ])
     by_case None page = h
-    by_case (Some p) page = record { entries = All-append IsEntryWithin log.entries p.results h.entries page.results; page = tt }
+    by_case (Some p) page = record { entries = append_each IsEntryWithin log.entries p.results h.entries page.results; page = tt }
 
 ended_log : (t : Turn ItemOut ItemOut) (fin : Fin) → IsTurnWithin t → IsTurnWithin (with_log t (after_fin t.client.log fin))
 ended_log t fin h = logs_within t (after_fin t.client.log fin) h (after_within t.client.log fin h.client.log)

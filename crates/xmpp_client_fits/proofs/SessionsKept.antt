@@ -7,7 +7,7 @@ use Rattle.std.specs.Str.Parse.{digits_value}
 use Rattle.xmpp_acks.specs.Counters.{ahead}
 use Rattle.xmpp_acks.specs.declared.end.TooHigh.{TooHigh as TooHighCount}
 use Rattle.xmpp_client_fits.proofs.LoginsKept.{other_element_within}
-use Rattle.xmpp_client_fits.proofs.TurnsKept.{All-append, All-drop, drops_within, ends_within, goes_within, notes_within, put_within, puts_within, tells_within, within_either}
+use Rattle.xmpp_client_fits.proofs.TurnsKept.{All-drop, drops_within, ends_within, goes_within, notes_within, put_within, puts_within, tells_within, within_either}
 use Rattle.xmpp_client_fits.specs.Answerable.{IsAnswerable}
 use Rattle.xmpp_client_fits.specs.Within.{AllFit, IsPhaseWithin, IsSessionWithin, IsTurnWithin}
 use Rattle.xmpp_client_rows.specs.AckRows.{ack_row, acknowledges, counts_too_high, request_row}
@@ -24,6 +24,7 @@ use Rattle.xmpp_ext.specs.declared.stream_management.Enabled.{Enabled}
 use Rattle.xmpp_features.specs.Features.{features_read}
 use Rattle.xmpp_features.specs.declared.features.Features.{Features}
 use Rattle.xmpp_framing.specs.Limits.{server_limits}
+use Rattle.xmpp_framing_laws.proofs.PlainElements.{append_each}
 use Rattle.xmpp_outbox.specs.Sessions.{SessionView}
 use Rattle.xmpp_outbox.specs.Waiting.{acked, is_too_high, too_high}
 use Rattle.xmpp_payload.specs.Readings.{where_this}
@@ -111,7 +112,7 @@ spread_within (item ∷ queue) fit = (fit.0, spread_within queue fit.1)
 
 resent_within : (queue : List ItemOut) → AllFit queue → AllFit (resent in_items queue)
 resent_within [] fit = tt
-resent_within (item ∷ queue) fit = All-append (OutFits server_limits) (spread_all in_items (item ∷ queue)) (request_item ∷ []) (spread_within (item ∷ queue) fit) (fitted.request, tt)
+resent_within (item ∷ queue) fit = append_each (OutFits server_limits) (spread_all in_items (item ∷ queue)) (request_item ∷ []) (spread_within (item ∷ queue) fit) (fitted.request, tt)
 
 queue_within : (o : Option (SessionView ItemOut)) → IfSome o IsSessionWithin → AllFit (queue_in o)
 queue_within None within = tt
@@ -170,7 +171,7 @@ binding_within t e h =
 begun_within : (t : Turn ItemOut ItemOut) (previd : List ℕ) → IsTurnWithin t → IsTextWithin most_id previd → IsTurnWithin (begins in_items t previd)
 begun_within t previd h short =
     let c = h.client in
-    let put = All-append (OutFits server_limits) t.out.put (carbons_item ∷ []) h.put (fitted.carbons, tt) in
+    let put = append_each (OutFits server_limits) t.out.put (carbons_item ∷ []) h.put (fitted.carbons, tt) in
     record {
       client = record {
         account = c.account;
@@ -179,7 +180,7 @@ begun_within t previd h short =
         session = record { previd = short; handled = omega arith; queue = (fitted.carbons, (fitted.available, tt)) };
         phase = tt;
       };
-      put = All-append (OutFits server_limits) (t.out.put ++ carbons_item ∷ []) (available_item ∷ []) put (fitted.available, tt);
+      put = append_each (OutFits server_limits) (t.out.put ++ carbons_item ∷ []) (available_item ∷ []) put (fitted.available, tt);
     }
 
 enabled_within : (t : Turn ItemOut ItemOut) (e : Elem) (read : Result Enabled ExtFault) → IsTurnWithin t → ((v : Enabled) → read ≡ Ok v → IsTextWithin most_id v.id) → IsTurnWithin (enabling_with in_items t e read)

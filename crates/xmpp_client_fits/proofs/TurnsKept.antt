@@ -10,6 +10,7 @@ use Rattle.xmpp_client_rows.specs.declared.events.PeerFault.{PeerFault}
 use Rattle.xmpp_client_rows.specs.declared.phase.Phase.{Phase}
 use Rattle.xmpp_client_rows.specs.declared.phase.Phase.TheVariants as phase
 use Rattle.xmpp_framing.specs.Limits.{server_limits}
+use Rattle.xmpp_framing_laws.proofs.PlainElements.{append_each}
 use Rattle.xmpp_log.specs.Views.{LogView}
 use Rattle.xmpp_outbox.specs.Sessions.{SessionView}
 use Rattle.xmpp_outbox.specs.Waiting.{Waiting, is_full, queued}
@@ -17,10 +18,6 @@ use Rattle.xmpp_writer.specs.Items.{ItemOut}
 use Rattle.xmpp_written.specs.Puts.{OutFits}
 
 -- ---- lists
-
-pub All-append : {A : Type 0} (P : A → Type 0) (xs ys : List A) → AllByRecursion P xs → AllByRecursion P ys → AllByRecursion P (xs ++ ys)
-All-append P [] ys h k = k
-All-append P (x ∷ xs) ys h k = (h.0, All-append P xs ys h.1 k)
 
 pub All-drop : {A : Type 0} (P : A → Type 0) (n : ℕ) (xs : List A) → AllByRecursion P xs → AllByRecursion P (drop n xs)
 All-drop P zero xs h = h
@@ -36,7 +33,7 @@ within_either false t u here there = there
 -- ---- what goes out, and what is told
 
 pub puts_within : (t : Turn ItemOut ItemOut) (more : List ItemOut) → IsTurnWithin t → AllFit more → IsTurnWithin (puts t more)
-puts_within t more h fit = record { client = h.client; put = All-append (OutFits server_limits) t.out.put more h.put fit }
+puts_within t more h fit = record { client = h.client; put = append_each (OutFits server_limits) t.out.put more h.put fit }
 
 pub put_within : (t : Turn ItemOut ItemOut) (item : ItemOut) → IsTurnWithin t → OutFits server_limits item → IsTurnWithin (puts t (item ∷ []))
 put_within t item h fit = puts_within t (item ∷ []) h (fit, tt)
@@ -81,7 +78,7 @@ session_within t s w h within =
     record { client = record { account = c.account; log = c.log; epoch = c.epoch; session = within; phase = c.phase }; put = h.put }
 
 queued_within : (s : SessionView ItemOut) (item : ItemOut) (kind : Bool) → IsSessionWithin s → OutFits server_limits item → IsSessionWithin (record s { waiting = queued s.waiting item kind })
-queued_within s item kind h fit = record { previd = h.previd; handled = h.handled; queue = All-append (OutFits server_limits) s.waiting.queue (item ∷ []) h.queue (fit, tt) }
+queued_within s item kind h fit = record { previd = h.previd; handled = h.handled; queue = append_each (OutFits server_limits) s.waiting.queue (item ∷ []) h.queue (fit, tt) }
 
 pub queues_within : (t : Turn ItemOut ItemOut) (s : SessionView ItemOut) (item : ItemOut) (kind : Bool) → IsTurnWithin t → IsSessionWithin s → OutFits server_limits item → IsTurnWithin (queues in_items t s item kind)
 queues_within t s item kind h within fit =
@@ -97,7 +94,7 @@ fit_either false xs ys here there = there
 pub put_in_within : (t : Turn ItemOut ItemOut) (s : SessionView ItemOut) (item : ItemOut) (kind : Bool) → IsTurnWithin t → IsSessionWithin s → OutFits server_limits item → IsTurnWithin (put_in in_items t s item kind)
 put_in_within t s item kind h within fit =
     all_put_within (queues in_items t s item kind) _ (queues_within t s item kind h within fit)
-    (fit_either (is_online t.client.phase) (t.out.put ++ item ∷ []) t.out.put (All-append (OutFits server_limits) t.out.put (item ∷ []) h.put (fit, tt)) h.put)
+    (fit_either (is_online t.client.phase) (t.out.put ++ item ∷ []) t.out.put (append_each (OutFits server_limits) t.out.put (item ∷ []) h.put (fit, tt)) h.put)
 
 pub has_to_put_within : (t : Turn ItemOut ItemOut) (o : Option (SessionView ItemOut)) (item : ItemOut) → IsTurnWithin t → IfSome o IsSessionWithin → OutFits server_limits item → IsTurnWithin (has_to_put in_items t o item)
 has_to_put_within t None item h within fit = h

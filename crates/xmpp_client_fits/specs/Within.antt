@@ -80,16 +80,3 @@ pub record IsClientWithin (c : ClientView ItemOut) : Type 0 where
 pub record IsTurnWithin (t : Turn ItemOut ItemOut) : Type 0 where
   pub client : IsClientWithin t.client
   pub put : AllFit t.out.put
-
--- before the first connection
-abbrev pub first_client : Account → ClientView ItemOut
-first_client account = record {
-  account = account;
-  log = record { entries = []; tiles = []; page = None; held = [] };
-  said = nothing_said;
-  epoch = 0;
-  n = 0;
-  pages = 0;
-  session = None;
-  phase = phase.Apart;
-}

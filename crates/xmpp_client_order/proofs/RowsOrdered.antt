@@ -12,7 +12,7 @@ use Rattle.xmpp_client_login.specs.declared.answers.Next.{Next}
 use Rattle.xmpp_client_login.specs.declared.answers.Next.TheVariants as next
 use Rattle.xmpp_client_login.specs.declared.login_state.LoginState.{LoginState}
 use Rattle.xmpp_client_login.specs.declared.login_state.LoginState.TheVariants as state
-use Rattle.xmpp_client_order.proofs.Ordered.{All-append, All-drop, Step, may_all, nothing_put, some_put, step_either, still_between}
+use Rattle.xmpp_client_order.proofs.Ordered.{All-drop, Step, may_all, nothing_put, some_put, step_either, still_between}
 use Rattle.xmpp_client_order.specs.Order.{HasNoEnd, IsNoEnd}
 use Rattle.xmpp_client_rows.specs.AckRows.{ack_row, acknowledges, counts_too_high, request_row}
 use Rattle.xmpp_client_rows.specs.Clients.{ClientView, Turn}
@@ -34,6 +34,7 @@ use Rattle.xmpp_ext.specs.declared.stream_management.Ack.{Ack}
 use Rattle.xmpp_ext.specs.declared.stream_management.Enabled.{Enabled}
 use Rattle.xmpp_features.specs.Features.{features_read}
 use Rattle.xmpp_features.specs.declared.features.Features.{Features}
+use Rattle.xmpp_framing_laws.proofs.PlainElements.{append_each}
 use Rattle.xmpp_log.specs.LogCalls.{with_restart}
 use Rattle.xmpp_log.specs.LogPages.{last_id}
 use Rattle.xmpp_log.specs.Views.{OpenPage, after_fin, end_of, page_for, with_begun, with_result, without_page}
@@ -201,7 +202,7 @@ spread_open (item ∷ queue) h = (h.0, spread_open queue h.1)
 
 resent_open : (queue : List ItemOut) → AllByRecursion IsNoEnd queue → AllByRecursion IsNoEnd (resent in_items queue)
 resent_open [] h = tt
-resent_open (item ∷ queue) h = All-append IsNoEnd (spread_all in_items (item ∷ queue)) (request_item ∷ []) (spread_open (item ∷ queue) h) (refl, tt)
+resent_open (item ∷ queue) h = append_each IsNoEnd (spread_all in_items (item ∷ queue)) (request_item ∷ []) (spread_open (item ∷ queue) h) (refl, tt)
 
 resumed_ordered : (t : Items) (s : SessionView ItemOut) (count : ℕ) → AllByRecursion IsNoEnd s.waiting.queue → Step t (resumed_row in_items t s count)
 resumed_ordered t s count h =
@@ -240,7 +241,7 @@ enabling_ordered t e h = enabled_ordered t e (enabled_read e) h
 -- ---- what waits in a session
 
 queued_open : (s : SessionView ItemOut) (item : ItemOut) → AllByRecursion IsNoEnd s.waiting.queue → IsNoEnd item → AllByRecursion IsNoEnd (s.waiting.queue ++ item ∷ [])
-queued_open s item h one = All-append IsNoEnd s.waiting.queue (item ∷ []) h (one, tt)
+queued_open s item h one = append_each IsNoEnd s.waiting.queue (item ∷ []) h (one, tt)
 
 -- nothing is put where the session isn't attached
 abbrev pub when_online : Bool → List ItemOut → List ItemOut

@@ -157,23 +157,25 @@ cores_keep server client = record {
   goes = λ k h keeps. (gone_kept k h keeps.0, gone_answers k h keeps.1);
   handles = λ k i h keeps fits. ((item_keeps k i h keeps fits).hall, server.handles k i h keeps fits);
   puts = λ k i h keeps fits. outs_both (after_item itself k (read_of i) (step_of h)).outs (item_keeps k i h keeps fits).outs (server.answers k i h keeps fits);
-  dials_so = λ k c h.
-      let u = (dials in_items (client_entropy k) (fed_of c)).turn in
-      let order = dials_ordered (fed_of c) (client_entropy k) h.no_end in
-      let within = dials_within (fed_of c) (client_entropy k) (begun_within c h) in
-      let mild = client.dials_so k c h in
-      record { client = turn_client u within order.queue mild; puts = turn_puts u within mild; no_footer = subst Standing (sym order.put) (refl, tt) };
-  loses = λ c h. record { within = (leaves_within (fed_of c) (begun_within c h)).client; no_end = h.no_end; mild = record { name = h.mild.name; queue = h.mild.queue } };
-  forgets_so = λ c h.
-      let within = forgets_within (fed_of c) (begun_within c h) in
-      record { within = within.client; no_end = tt; mild = record { name = h.mild.name; queue = tt } };
-  hears = λ i c h fits.
-      heard_fits c (item_step in_items (silent_turn c) (read_of i)) (items_within (read_of i ∷ []) (silent_turn c) (fits.1, tt) (begun_within c h)) (items_ordered (read_of i ∷ []) (silent_turn c) h.no_end) (client.hears i c h fits);
-  says_so = λ name text private n c h named plain ok.
-      asked_fits c (says in_items (silent_turn c) (bare_address name) text private)
-      (says_within (silent_turn c) (bare_address name) text private (address_within name named) (text_within text plain) (begun_within c h))
-      (says_ordered (silent_turn c) (bare_address name) text private h.no_end) (says_phase (silent_turn c) (bare_address name) text private) (client.says_so (bare_address name) text private c h);
-  catches_up_so = λ most c h some few ok.
-      asked_fits c (catches_up in_items (silent_turn c) most) (catches_up_within (silent_turn c) most (omega (arith, few)) (begun_within c h)) (catches_up_ordered (silent_turn c) most h.no_end)
-      (catches_phase_in (silent_turn c) c.session most) (client.catches_up_so most c h);
+  client = record {
+    dials_so = λ k c h.
+        let u = (dials in_items (client_entropy k) (fed_of c)).turn in
+        let order = dials_ordered (fed_of c) (client_entropy k) h.no_end in
+        let within = dials_within (fed_of c) (client_entropy k) (begun_within c h) in
+        let mild = client.dials_so k c h in
+        record { client = turn_client u within order.queue mild; puts = turn_puts u within mild; no_footer = subst Standing (sym order.put) (refl, tt) };
+    loses = λ c h. record { within = (leaves_within (fed_of c) (begun_within c h)).client; no_end = h.no_end; mild = record { name = h.mild.name; queue = h.mild.queue } };
+    forgets_so = λ c h.
+        let within = forgets_within (fed_of c) (begun_within c h) in
+        record { within = within.client; no_end = tt; mild = record { name = h.mild.name; queue = tt } };
+    hears = λ i c h fits.
+        heard_fits c (item_step in_items (silent_turn c) (read_of i)) (items_within (read_of i ∷ []) (silent_turn c) (fits.1, tt) (begun_within c h)) (items_ordered (read_of i ∷ []) (silent_turn c) h.no_end) (client.hears i c h fits);
+    says_so = λ name text private n c h named plain ok.
+        asked_fits c (says in_items (silent_turn c) (bare_address name) text private)
+        (says_within (silent_turn c) (bare_address name) text private (address_within name named) (text_within text plain) (begun_within c h))
+        (says_ordered (silent_turn c) (bare_address name) text private h.no_end) (says_phase (silent_turn c) (bare_address name) text private) (client.says_so (bare_address name) text private c h);
+    catches_up_so = λ most c h some few ok.
+        asked_fits c (catches_up in_items (silent_turn c) most) (catches_up_within (silent_turn c) most (omega (arith, few)) (begun_within c h)) (catches_up_ordered (silent_turn c) most h.no_end)
+        (catches_phase_in (silent_turn c) c.session most) (client.catches_up_so most c h);
+  };
 }

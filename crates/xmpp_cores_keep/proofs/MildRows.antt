@@ -13,7 +13,7 @@ use Rattle.xmpp_client_login.specs.declared.answers.Next.TheVariants as next
 use Rattle.xmpp_client_login.specs.declared.login_state.LoginState.{LoginState}
 use Rattle.xmpp_client_login.specs.declared.login_state.LoginState.TheVariants as state
 use Rattle.xmpp_client_fits.specs.Within.{IsLoginWithin}
-use Rattle.xmpp_client_order.proofs.Ordered.{All-append, All-drop}
+use Rattle.xmpp_client_order.proofs.Ordered.{All-drop}
 use Rattle.xmpp_cores_keep.proofs.MildItems.{auth_mild, mild}
 use Rattle.xmpp_cores_keep.specs.Mild.{HasMild, IsMild}
 use Rattle.xmpp_client_rows.specs.AckRows.{ack_row, acknowledges, counts_too_high, request_row}
@@ -36,6 +36,7 @@ use Rattle.xmpp_ext.specs.declared.stream_management.Ack.{Ack}
 use Rattle.xmpp_ext.specs.declared.stream_management.Enabled.{Enabled}
 use Rattle.xmpp_features.specs.Features.{features_read}
 use Rattle.xmpp_features.specs.declared.features.Features.{Features}
+use Rattle.xmpp_framing_laws.proofs.PlainElements.{append_each}
 use Rattle.xmpp_log.specs.LogCalls.{with_restart}
 use Rattle.xmpp_log.specs.LogPages.{last_id}
 use Rattle.xmpp_log.specs.Views.{OpenPage, after_fin, end_of, page_for, with_begun, with_result, without_page}
@@ -230,7 +231,7 @@ spread_open (item ∷ queue) h = (h.0, spread_open queue h.1)
 
 resent_open : (queue : List ItemOut) → AllByRecursion IsMild queue → AllByRecursion IsMild (resent in_items queue)
 resent_open [] h = tt
-resent_open (item ∷ queue) h = All-append IsMild (spread_all in_items (item ∷ queue)) (request_item ∷ []) (spread_open (item ∷ queue) h) (mild _ refl refl, tt)
+resent_open (item ∷ queue) h = append_each IsMild (spread_all in_items (item ∷ queue)) (request_item ∷ []) (spread_open (item ∷ queue) h) (mild _ refl refl, tt)
 
 resumed_ordered : (t : Items) (s : SessionView ItemOut) (count : ℕ) → AllByRecursion IsMild s.waiting.queue → Step t (resumed_row in_items t s count)
 resumed_ordered t s count h =
@@ -269,7 +270,7 @@ enabling_ordered t e h = enabled_ordered t e (enabled_read e) h
 -- ---- what waits in a session
 
 queued_open : (s : SessionView ItemOut) (item : ItemOut) → AllByRecursion IsMild s.waiting.queue → IsMild item → AllByRecursion IsMild (s.waiting.queue ++ item ∷ [])
-queued_open s item h one = All-append IsMild s.waiting.queue (item ∷ []) h (one, tt)
+queued_open s item h one = append_each IsMild s.waiting.queue (item ∷ []) h (one, tt)
 
 -- nothing is put where the session isn't attached
 abbrev pub when_online : Bool → List ItemOut → List ItemOut

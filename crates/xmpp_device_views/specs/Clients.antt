@@ -1,5 +1,6 @@
 -- What the client of a device has: its account, how far it is with the connection that it works on, and its session.
-use Rattle.std.specs.Prelude.{◌≡◌, ℕ, ◌+◌, ◌⊎◌, false, All, List, Ok, Option, Some, None, is_none}
+use Rattle.std.specs.Prelude.{◌≡◌, ℕ, ◌+◌, ◌≤◌, ◌⊎◌, false, All, List, Ok, Option, Some, None, is_none, length}
+use Rattle.xmpp_acks.specs.declared.end.TheConstants.{MOST_UNACKNOWLEDGED}
 use Rattle.xmpp_client_login.specs.declared.login_state.LoginState.TheVariants as state
 use Rattle.xmpp_client_rows.specs.Turns.{is_apart}
 use Rattle.xmpp_client_rows.specs.declared.phase.Phase.{Phase}
@@ -43,6 +44,7 @@ pub record IsOwn (o : Own ItemOut) (s : SessionView ItemOut) : Type 0 where
   pub handled : s.waiting.handled ≡ told_count o.handled
   pub queue : s.waiting.queue ≡ o.queue
   pub for_server : All IsForServer o.queue
+  pub few : length o.queue ≤ MOST_UNACKNOWLEDGED
 
 abbrev pub IsOwnShown : Option (Own ItemOut) → Option (SessionView ItemOut) → Type 0
 IsOwnShown None None = Unit {0}

@@ -1,7 +1,7 @@
--- Which stanzas moves of the links put and handle, and where a client comes to its session: in their order. What else
--- they do is no deed.
+-- Which stanzas moves of the links put and handle, and what becomes of the client's session: in their order. What else they
+-- do is no deed.
 use Rattle.std.specs.Prelude.{List, [], ◌∷◌, ◌++◌, map}
-use Rattle.xmpp_links.specs.Machine.{Keeps, LinkMove, Puts, Queues, ReadsEnabled, ReadsStanza, Serves, TakesStanza}
+use Rattle.xmpp_links.specs.Machine.{Forgets, Keeps, LinkMove, Puts, Queues, ReadsBound, ReadsCount, ReadsEnabled, ReadsFailed, ReadsResumed, ReadsStanza, Serves, TakesStanza}
 
 pub data Deed (A : Type 0) : Type 0 where
   -- the client puts it, and the server handles it
@@ -10,8 +10,13 @@ pub data Deed (A : Type 0) : Type 0 where
   -- the server puts it, and the client handles it
   Gives : A → Deed A
   Reads : A → Deed A
-  -- the client hears that its session is counted (XEP-0198, section 3)
+  -- the client reads that a session was bound, and that it is counted (RFC 6120, section 7; XEP-0198, section 3)
+  Names : Deed A
   Enters : Deed A
+  -- it learns how many of its stanzas were handled (XEP-0198, section 4)
+  Learns : Deed A
+  -- it gives its session up, where it has one
+  Drops : Deed A
 
 abbrev pub deed_of : {A : Type 0} → LinkMove A → List (Deed A)
 deed_of (Puts k z) = Says z ∷ []
@@ -20,7 +25,12 @@ deed_of (TakesStanza k z) = Takes z ∷ []
 deed_of (Serves k z) = Gives z ∷ []
 deed_of (Keeps z) = Gives z ∷ []
 deed_of (ReadsStanza k z) = Reads z ∷ []
+deed_of (ReadsBound k m) = Names ∷ []
 deed_of (ReadsEnabled k m) = Enters ∷ []
+deed_of (ReadsCount k h) = Learns ∷ []
+deed_of (ReadsResumed k) = Learns ∷ []
+deed_of (ReadsFailed k) = Drops ∷ []
+deed_of Forgets = Drops ∷ []
 deed_of _ = []
 
 abbrev pub deeds_of : {A : Type 0} → List (LinkMove A) → List (Deed A)

@@ -1,7 +1,7 @@
 -- What a step of one end leaves of the other.
 use Rattle.std.specs.Prelude.{◌≡◌, ℕ, false, Option, Some, None}
 use Rattle.xmpp_links.specs.Stages.{Conn}
-use Rattle.xmpp_links.specs.Views.{View}
+use Rattle.xmpp_links.specs.Views.{Session, View}
 use Rattle.xmpp_links.specs.Wires.{is_flowing}
 use Rattle.xmpp_writer.specs.Items.{ItemOut}
 
@@ -23,7 +23,9 @@ pub record SameClient (v next : View ItemOut) : Type 0 where
   pub epoch : next.epoch ≡ v.epoch
   pub conns : (k : ℕ) → KeepsClient (v.conns k) (next.conns k)
 
+-- no session comes that wasn't there
 pub record SameServer (v next : View ItemOut) : Type 0 where
   pub row : next.row ≡ v.row
   pub free : next.free ≡ v.free
+  pub known : (q : ℕ) (t : Session ItemOut) → next.sessions q ≡ Some t → (s : Session ItemOut) × (v.sessions q ≡ Some s)
   pub conns : (k : ℕ) → KeepsServer (v.conns k) (next.conns k)

@@ -1,13 +1,13 @@
 -- A word stands first on its way down on the connection that the client works on, or the user calls: what the client does
 -- is to be moves of the links.
-use Rattle.std.specs.Prelude.{◌≡◌, ℕ, ◌+◌, ◌++◌, ◌∷◌, List, [], Option, Some, None, nat_eq}
+use Rattle.std.specs.Prelude.{◌≡◌, ℕ, ◌+◌, ◌++◌, ◌∷◌, List, [], Option, Some, None, nat_eq, true}
 use Rattle.std.specs.Option.{option_map}
 use Rattle.xmpp_client.specs.Steps.{item_step}
 use Rattle.xmpp_client_rows.specs.Clients.{Turn}
 use Rattle.xmpp_client_rows.specs.Speech.{Acknowledged, Counted, Ended, Epoch, Handled, Note, Put, Stated, in_items}
 use Rattle.xmpp_client_rows.specs.Turns.{is_apart}
 use Rattle.xmpp_device_views.specs.Clients.{ClientFollows, ClientShows}
-use Rattle.xmpp_device_views.specs.Deeds.{Deed, Enters, Reads, Says}
+use Rattle.xmpp_device_views.specs.Deeds.{Deed, Drops, Enters, Learns, Names, Reads, Says}
 use Rattle.xmpp_device_views.specs.Identities.{Identity, IsNormal, Login}
 use Rattle.xmpp_device_views.specs.Pipes.{PipesShow}
 use Rattle.xmpp_device_views.specs.Sent.{where_it}
@@ -22,16 +22,16 @@ use Rattle.xmpp_links.specs.Wires.{down_words}
 use Rattle.xmpp_links.specs.Words.{DownWord}
 use Rattle.xmpp_writer.specs.Items.{ItemOut, Whole}
 
--- ---- what a turn notes down of stanzas
+-- ---- what a turn notes down of stanzas and of the session
 
 abbrev pub noted_by : Note ItemOut → List (Deed ItemOut)
-noted_by (Epoch e) = []
+noted_by (Epoch e) = Names ∷ []
 noted_by Counted = Enters ∷ []
 noted_by (Handled e) = Reads (Whole e) ∷ []
 noted_by (Put z) = Says z ∷ []
 noted_by (Stated n) = []
-noted_by (Acknowledged n) = []
-noted_by Ended = []
+noted_by (Acknowledged n) = Learns ∷ []
+noted_by Ended = Drops ∷ []
 
 abbrev pub noted : List (Note ItemOut) → List (Deed ItemOut)
 noted [] = []

@@ -111,7 +111,7 @@ module _ (UpFits DownFits : ItemOut → Type 0) (HallFits : ℕ → Hall ItemOut
           subst (λ x. WorldImage UpFits DownFits HallFits ClientFits (closed_world i d w x) (items.closed_by i (Some e) v)) (sym fed_is)
           (subst (λ l. WorldImage UpFits DownFits HallFits ClientFits (record w { devices = slice_set w.devices i d'; wires = l }) (items.closed_by i (Some e) v)) (sym (where_twice d.here left (put_up (flat_map written_item t.out.put)) w.wires))
           (subst (λ l. WorldImage UpFits DownFits HallFits ClientFits (record w { devices = slice_set w.devices i d'; wires = changed_where d.here f w.wires }) (record v { devices = slice_set v.devices i e'; wires = l })) (sym (where_twice e.here pipes.left (pipes.put_up t.out.put) v.wires))
-          (user_image UpFits DownFits HallFits ClientFits cores w v i d d' e e' f g found found_item (record { client = refl; here = refl; framed = λ a. refl; fits = subst ClientFits (sym (close_client e.client)) (cores.forgets_so e.client h.fits) }) h.here (λ x b. closed_begun (pipes.entered t.out.put x.up) (entered_begun t.out.put x.up b)) image
+          (user_image UpFits DownFits HallFits ClientFits cores w v i d d' e e' f g found found_item (record { client = refl; here = refl; framed = λ a. refl; fits = subst ClientFits (sym (close_client e.client)) (cores.client.forgets_so e.client h.fits) }) h.here (λ x b. closed_begun (pipes.entered t.out.put x.up) (entered_begun t.out.put x.up b)) image
           (λ q b p here x y r. subst (λ l. After UpFits DownFits HallFits ClientFits cores w v i d' q (left (put_up (flat_map written_item l) b)) (pipes.left (pipes.put_up l p))) (sym (close_puts e.client))
           (last_image (framer_at (number_at q) w.server.framers) (framer_here q (slice_get w.devices b.device)) (framer_here q (slice_get (slice_set w.devices i d') b.device)) (writer_at (number_at q) v.server) (writer_at (number_at q) v.server) b p (is_apart e.client.phase) r))
           (λ q other. sym (away UpFits DownFits HallFits ClientFits cores d.here d.client.framer q other)))))

@@ -90,7 +90,7 @@ module _ (UpFits DownFits : ItemOut → Type 0) (HallFits : ℕ → Hall ItemOut
     Now q b p = WireImage UpFits DownFits (framer_at (number_at q) framers_now) (framer_here q (slice_get (slice_set w.devices i d') b.device)) (writer_at (number_at q) hall_now) b p
 
     fits : TurnFits UpFits ClientFits t
-    fits = cores.dials_so k e.client h.fits
+    fits = cores.client.dials_so k e.client h.fits
 
     device_image : DeviceImage ClientFits d' e'
     device_image = record { client = refl; here = ap Some image.as_many; framed = λ a. absurd (false_is_not a); fits = fits.client }
@@ -175,6 +175,7 @@ module _ (UpFits DownFits : ItemOut → Type 0) (HallFits : ℕ → Hall ItemOut
       devices = devices_changed UpFits DownFits HallFits ClientFits cores w v i d d' e e' found found_item device_image image;
       as_many = length-append old_wires (new_wire ∷ []) ∙ ap (λ m. m + 1) (length_where d.here left w.wires ∙ sym many_items) ∙ sym (length-append old_item_wires (new_item_wire ∷ []));
       wires = all_images;
+      takes = image.takes;
     }
 
     -- what the client of bytes did

@@ -268,7 +268,7 @@ module _ (UpFits DownFits : ItemOut → Type 0) (HallFits : ℕ → Hall ItemOut
       let item_due = items_due client_limits (writer_at (number_at place) v.server) (framer_here place (slice_get w.devices b.device)) b.down p.down other.holds.down due in
       let e' : ItemDevice = record e { client = (leaves (fed_of e.client)).turn.client } in
       let all = user_image UpFits DownFits HallFits ClientFits cores w v b.device d (loses d) e e' down_end_told pipes.down_end_told device other_device.is
-      (record { client = ap (λ (c : ClientView (List ℕ)). record c { phase = Apart }) h.client; here = h.here; framed = λ a. refl; fits = cores.loses e.client h.fits }) h.here (λ y z. z) image
+      (record { client = ap (λ (c : ClientView (List ℕ)). record c { phase = Apart }) h.client; here = h.here; framed = λ a. refl; fits = cores.client.loses e.client h.fits }) h.here (λ y z. z) image
       (λ q c r is there there_item y. told_here q c r is there y) (λ q apart. lost_framer d.here q ∙ sym (away UpFits DownFits HallFits ClientFits cores d.here d.client.framer q apart)) in
       let bytes_is : record w { devices = slice_set w.devices b.device (loses d); wires = changed_where d.here down_end_told w.wires } ≡ with_link place b.device (link_of (down_end_told b) (loses d)) w =
       ap (λ o. record w { devices = slice_set w.devices b.device (loses d); wires = changed_where o down_end_told w.wires }) has_it

@@ -105,10 +105,10 @@ module _ (UpFits DownFits : ItemOut → Type 0) (HallFits : ℕ → Hall ItemOut
   -- what the turn of some items puts fits
   pub turn_fits : (l : List ItemOut) (c : ClientView ItemOut) → ClientFits c → AllByRecursion DownFits l → HeardFits UpFits ClientFits (turn_of_items c l)
   turn_fits [] c fits all = record { client = fits; puts = tt; in_turn = inl tt }
-  turn_fits (i ∷ l) c fits all = elim (cores.hears i c fits all.0).in_turn [
+  turn_fits (i ∷ l) c fits all = elim (cores.client.hears i c fits all.0).in_turn [
     | inl none ↦
         let one = item_step in_items (silent_turn c) (read_of i) in
-        let f = cores.hears i c fits all.0 in
+        let f = cores.client.hears i c fits all.0 in
         let g = turn_fits l one.client f.client all.1 in
         let a = run_adds (map read_of l) one in
         record {
@@ -119,7 +119,7 @@ module _ (UpFits DownFits : ItemOut → Type 0) (HallFits : ℕ → Hall ItemOut
         }
     | inr last ↦
         let one = item_step in_items (silent_turn c) (read_of i) in
-        let f = cores.hears i c fits all.0 in
+        let f = cores.client.hears i c fits all.0 in
         subst (HeardFits UpFits ClientFits) (sym (apart_run (map read_of l) one last.3)) f
   ]
 

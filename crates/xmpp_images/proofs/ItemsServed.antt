@@ -1,5 +1,5 @@
 -- Items of a connection that go to the server one after another do what they do at once.
-use Rattle.std.proofs.Common.{◌≡◌, ◌⊎◌, ◌≤◌, ℕ, zero, suc, Bool, true, false, List, [], ◌∷◌, ◌++◌, Option, Some, None, map, drop, length, refl, sym, ap, subst, ◌∙◌, inl, inr, append-nil}
+use Rattle.std.proofs.Common.{◌≡◌, ◌⊎◌, ◌≤◌, ℕ, zero, suc, Bool, true, false, List, [], ◌∷◌, ◌++◌, Option, Some, None, map, drop, length, refl, sym, ap, ap₂, subst, ◌∙◌, inl, inr, append-nil, append_assoc}
 use Rattle.std.proofs.lemmas.Bool.{cases_eq}
 use Rattle.std.specs.List.{AllByRecursion, slice_get}
 use Rattle.std.specs.Option.{option_map}
@@ -18,9 +18,9 @@ use Rattle.xmpp_images.proofs.Lookups.{get_changed_other, get_changed_same}
 use Rattle.xmpp_images.specs.PipeImages.{dropped}
 use Rattle.xmpp_images.specs.Cores.{AreInOrder, CoresFit, IsInOrder, behind_put, behind_shut, writer_at, writer_of}
 use Rattle.xmpp_images.specs.ItemRuns.{ups}
-use Rattle.xmpp_item_worlds.specs.ItemMoves.{Up, all_emitted, all_moved, emitted, moved, served_by, served_first, step_of}
+use Rattle.xmpp_item_worlds.specs.ItemMoves.{Up, all_emitted, all_moved, emitted, moved, served_by, served_first, step_of, takes_told}
 use Rattle.xmpp_item_worlds.specs.ItemPipes.{ItemPipe, ItemWire, handed_up, put_down, shut}
-use Rattle.xmpp_item_worlds.specs.ItemWorlds.{ItemWorld, itself, read_of}
+use Rattle.xmpp_item_worlds.specs.ItemWorlds.{ItemWorld, Take, itself, read_of}
 use Rattle.xmpp_server.specs.Table.{after_item, after_items, at_open}
 use Rattle.xmpp_wires.specs.Places.{changed_at, changed_under}
 use Rattle.xmpp_world.specs.Worlds.{number_at}
@@ -93,6 +93,17 @@ all_commutes place n (out ∷ outs) ws = all_commutes place n outs (emitted out 
 emitted_joined : (a b : List (Out ItemOut)) (ws : List ItemWire) → all_emitted (a ++ b) ws ≡ all_emitted b (all_emitted a ws)
 emitted_joined [] b ws = refl
 emitted_joined (out ∷ a) b ws = emitted_joined a b (emitted out ws)
+
+-- ---- what was taken
+
+takes_joined : (moment : ℕ) (a b : List (Out ItemOut)) → takes_told moment (a ++ b) ≡ takes_told moment a ++ takes_told moment b
+takes_joined moment [] b = refl
+takes_joined moment (Put k i ∷ a) b = takes_joined moment a b
+takes_joined moment (Shut k ∷ a) b = takes_joined moment a b
+takes_joined moment (Took from to origin ∷ a) b = ap (λ l. record { moment = moment; from = from; to = to; origin = origin } ∷ l) (takes_joined moment a b)
+
+takes_behind : (moment : ℕ) (before : List Take) (a b : List (Out ItemOut)) → (before ++ takes_told moment a) ++ takes_told moment b ≡ before ++ takes_told moment (a ++ b)
+takes_behind moment before a b = append_assoc before (takes_told moment a) (takes_told moment b) ∙ ap (λ l. before ++ l) (sym (takes_joined moment a b))
 
 -- ---- order
 
@@ -176,7 +187,11 @@ abbrev pub served : ℕ → List ItemOut → Hall ItemOut → Step ItemOut
 served place first h = after_items itself (number_at place) (map read_of first) (step_of h)
 
 abbrev pub at_once : ℕ → List ItemOut → ItemWorld → ItemWorld
-at_once place first v = record v { server = (served place first v.server).hall; wires = all_emitted (served place first v.server).outs (changed_at place (many_up (length first)) v.wires) }
+at_once place first v = record v {
+  server = (served place first v.server).hall;
+  wires = all_emitted (served place first v.server).outs (changed_at place (many_up (length first)) v.wires);
+  takes = v.takes ++ takes_told v.moment (served place first v.server).outs;
+}
 
 -- the first item, and the others behind it
 served_parts : (place : ℕ) (i : ItemOut) (rest : List ItemOut) (h : Hall ItemOut) →
@@ -214,12 +229,13 @@ module _ (UpFits DownFits : ItemOut → Type 0) (HallFits : ℕ → Hall ItemOut
 
   pub ups_are : (many place : ℕ) (first others : List ItemOut) (v : ItemWorld) (p : ItemWire) → number_at place ≤ many → slice_get v.wires place ≡ Some p → p.up.items ≡ first ++ others → HallFits many v.server → AllByRecursion UpFits first → (writer_at (number_at place) v.server ≡ Some phase.First → IsHeaded first)
       → all_moved (ups place (length first)) v ≡ at_once place first v
-  ups_are many place [] others v p few found items_are fits all comes = ap (λ l. record v { wires = l }) (sym (changed_none (many_up 0) v.wires place (λ x. refl)))
+  ups_are many place [] others v p few found items_are fits all comes = ap₂ (λ l t. record v { wires = l; takes = t }) (sym (changed_none (many_up 0) v.wires place (λ x. refl))) (sym (append-nil v.takes))
   ups_are many place (i ∷ rest) others v p few found items_are fits all comes =
       let n = length rest in
       let d = after_item itself (number_at place) (read_of i) (step_of v.server) in
       let ws = changed_at place handed_up v.wires in
-      let one : ItemWorld = record v { server = d.hall; wires = all_emitted d.outs ws } in
+      let took = takes_told v.moment in
+      let one : ItemWorld = record v { server = d.hall; wires = all_emitted d.outs ws; takes = v.takes ++ took d.outs } in
       let step : moved (Up place) v ≡ one = ap (λ o. served_by place o v) found ∙ ap (λ l. served_first place l v) items_are in
       let here : slice_get ws place ≡ Some (handed_up p) = get_changed_same handed_up v.wires place ∙ ap (option_map handed_up) found in
       let after = up_after DownFits place d.outs (writer_at (number_at place) v.server) (writer_at (number_at place) d.hall) ws (handed_up p) (cores.in_order many (number_at place) i v.server (number_at place) fits few all.0 comes) here in
@@ -229,13 +245,13 @@ module _ (UpFits DownFits : ItemOut → Type 0) (HallFits : ℕ → Hall ItemOut
         | inl kept ↦
             let d' = served place rest d.hall in
             ups_are many place rest others one after.wire few after.found (ap (λ (x : ItemPipe). x.items) kept ∙ ap (drop 1) items_are) (cores.handles many (number_at place) i v.server fits few all.0 comes) all.1 (λ e. absurd (cores.opened many (number_at place) i v.server fits few all.0 comes e))
-            ∙ ap (λ l. record v { server = d'.hall; wires = all_emitted d'.outs l }) dropped_is
-            ∙ ap (λ l. record v { server = d'.hall; wires = l }) (sym (emitted_joined d.outs d'.outs (changed_at place (many_up (suc n)) v.wires)))
-            ∙ ap (λ (s : Step ItemOut). record v { server = s.hall; wires = all_emitted s.outs (changed_at place (many_up (suc n)) v.wires) }) (sym (served_parts place i rest v.server))
+            ∙ ap₂ (λ l t. record v { server = d'.hall; wires = all_emitted d'.outs l; takes = t }) dropped_is (takes_behind v.moment v.takes d.outs d'.outs)
+            ∙ ap (λ l. record v { server = d'.hall; wires = l; takes = v.takes ++ took (d.outs ++ d'.outs) }) (sym (emitted_joined d.outs d'.outs (changed_at place (many_up (suc n)) v.wires)))
+            ∙ ap (λ (s : Step ItemOut). record v { server = s.hall; wires = all_emitted s.outs (changed_at place (many_up (suc n)) v.wires); takes = v.takes ++ took s.outs }) (sym (served_parts place i rest v.server))
         | inr gone ↦
             let same : served place (i ∷ rest) v.server ≡ d = nothing_done (number_at place) (map read_of rest) d (no_conn (conn_at (number_at place) d.hall) gone.1) in
             let unchanged : many_up n after.wire ≡ after.wire = ap (λ l. record after.wire { up = record after.wire.up { items = drop n l } }) gone.0 ∙ ap (λ l. record after.wire { up = record after.wire.up { items = l } }) (drop_none n ∙ sym gone.0) in
             ups_of_none place n one after.wire after.found gone.0
-            ∙ ap (λ l. record v { server = d.hall; wires = l }) (sym (changed_to_same (many_up n) (all_emitted d.outs ws) place after.wire after.found unchanged) ∙ dropped_is)
-            ∙ ap (λ (s : Step ItemOut). record v { server = s.hall; wires = all_emitted s.outs (changed_at place (many_up (suc n)) v.wires) }) (sym same)
+            ∙ ap (λ l. record v { server = d.hall; wires = l; takes = v.takes ++ took d.outs }) (sym (changed_to_same (many_up n) (all_emitted d.outs ws) place after.wire after.found unchanged) ∙ dropped_is)
+            ∙ ap (λ (s : Step ItemOut). record v { server = s.hall; wires = all_emitted s.outs (changed_at place (many_up (suc n)) v.wires); takes = v.takes ++ took s.outs }) (sym same)
       ])

@@ -137,6 +137,7 @@ module _ (UpFits DownFits : ItemOut → Type 0) (HallFits : ℕ → Hall ItemOut
     devices = devices_at_start (owned_in (common_steps schedule)) fits.clients;
     as_many = refl;
     wires = none_there (WireAt UpFits DownFits (world_at_start schedule) (items_at_start schedule));
+    takes = refl;
   }
 
   -- ---- no bytes

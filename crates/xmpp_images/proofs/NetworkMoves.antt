@@ -90,6 +90,7 @@ module _ (UpFits DownFits : ItemOut → Type 0) (HallFits : ℕ → Hall ItemOut
       devices = i.devices;
       as_many = i.as_many;
       wires = i.wires;
+      takes = i.takes;
     };
   }
 
@@ -118,6 +119,7 @@ module _ (UpFits DownFits : ItemOut → Type 0) (HallFits : ℕ → Hall ItemOut
           devices = i.devices;
           as_many = length_changed (cut_at up down) w.wires place ∙ i.as_many ∙ sym (length_changed (pipes.cut_at h.0 h.1) v.wires place);
           wires = both_changed (WireAt UpFits DownFits w v) (WireAt UpFits DownFits w v) (cut_at up down) (pipes.cut_at h.0 h.1) w.wires v.wires place h.2 (λ q other c r x. x) i.wires;
+          takes = i.takes;
         };
       }
 
@@ -172,6 +174,7 @@ module _ (UpFits DownFits : ItemOut → Type 0) (HallFits : ℕ → Hall ItemOut
         as_many = ap length set_is ∙ length_changed up_end_told w.wires place ∙ i.as_many ∙ sym (length_changed pipes.up_end_told v.wires place);
         wires = λ q. subst (λ l. Both (after q) (slice_get l q) (slice_get (changed_at place pipes.up_end_told v.wires) q)) (sym set_is)
             (both_changed (WireAt UpFits DownFits w v) after up_end_told pipes.up_end_told w.wires v.wires place here (told_other place w v) i.wires q);
+        takes = i.takes;
       }
 
   pub record IsEnded (place : ℕ) (w : World) (v : ItemWorld) : Type 0 where

@@ -268,10 +268,5 @@ cores_fit UpFits DownFits HallKeeps ClientFits keep = record {
   in_order = λ n k i h j x few fits may.
       fitting_in_order DownFits j (writer_at j h) (writer_at j (after_item itself k (read_of i) (step_of h)).hall) (after_item itself k (read_of i) (step_of h)).outs (keep.puts k i h x.1 fits) ((after_item_calm n k i h x.0 may).order j);
   opened = λ n k i h x few fits may. opened_after n k i h x.0 may;
-  dials_so = keep.dials_so;
-  loses = keep.loses;
-  forgets_so = keep.forgets_so;
-  hears = keep.hears;
-  says_so = keep.says_so;
-  catches_up_so = keep.catches_up_so;
+  client = keep.client;
 }

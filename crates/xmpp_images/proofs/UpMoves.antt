@@ -1,7 +1,7 @@
 -- Bytes that are handed to the server are the items whose last bytes are among them.
-use Rattle.std.proofs.Common.{◌≡◌, ◌≤◌, ◌<◌, ℕ, zero, suc, ◌+◌, ◌==◌, min, Bool, true, false, true≢false, cond, List, [], ◌∷◌, ◌++◌, Option, Some, None, map, take, drop, length, refl, sym, ap, ap₂, subst, ◌∙◌, inl, inr, arith}
+use Rattle.std.proofs.Common.{◌≡◌, ◌≤◌, ◌<◌, ℕ, zero, suc, ◌+◌, ◌==◌, min, Bool, true, false, true≢false, cond, List, [], ◌∷◌, ◌++◌, Option, Some, None, map, take, drop, length, refl, sym, ap, ap₂, subst, ◌∙◌, inl, inr, append_assoc, append-nil, arith}
 use Rattle.std.proofs.lemmas.Bool.{cases_eq}
-use Rattle.std.proofs.lemmas.List.{take-append-drop}
+use Rattle.std.proofs.lemmas.List.{map-append, take-append-drop}
 use Rattle.std.proofs.lemmas.Option.{slice_get_within}
 use Rattle.std.specs.List.{AllByRecursion, slice_get, slice_set}
 use Rattle.std.specs.Map.{set_value}
@@ -30,7 +30,7 @@ use Rattle.xmpp_images.specs.Cores.{CoresFit, writer_at}
 use Rattle.xmpp_images.specs.ItemRuns.{IsServed, moved_where, ups}
 use Rattle.xmpp_images.specs.PipeImages.{AreRead, over, standing}
 use Rattle.xmpp_images.specs.WireImages.{WireImage}
-use Rattle.xmpp_images.specs.WorldImages.{Begins, Both, IsBegun, IsMoved, WireAt, WorldImage, framer_here}
+use Rattle.xmpp_images.specs.WorldImages.{Begins, Both, IsBegun, IsMoved, WireAt, WorldImage, framer_here, line_told}
 use Rattle.xmpp_item_worlds.specs.ItemMoves as items
 use Rattle.xmpp_item_worlds.specs.ItemMoves.{ItemMove, step_of}
 use Rattle.xmpp_item_worlds.specs.ItemPipes.{ItemWire}
@@ -43,6 +43,7 @@ use Rattle.xmpp_server.specs.Table.{after_item, after_items, at_open}
 use Rattle.xmpp_server_laws.proofs.TableTurned.{items_turned}
 use Rattle.xmpp_server_laws.specs.Turned.{hall_turned, outs_turned, step_turned}
 use Rattle.xmpp_wires.specs.Places.{changed_at, changed_under}
+use Rattle.xmpp_wires.specs.Takes.{take_told}
 use Rattle.xmpp_wires.specs.Wires.{amount, handed_up}
 use Rattle.xmpp_wires.specs.declared.wire.Wire.{Wire}
 use Rattle.xmpp_pipes.specs.Pipes.{Pipe}
@@ -75,6 +76,14 @@ length_emitted version moment [] e = refl
 length_emitted version moment (Put k bytes ∷ outs) e = length_emitted version moment outs (emitted version moment (Put k bytes) e) ∙ length_under k _ e.wires
 length_emitted version moment (Shut k ∷ outs) e = length_emitted version moment outs (emitted version moment (Shut k) e) ∙ length_under k _ e.wires
 length_emitted version moment (Took from to origin ∷ outs) e = length_emitted version moment outs (emitted version moment (Took from to origin) e)
+
+-- what was taken has the same lines
+takes_emitted : (version : Version) (moment : ℕ) (outs : List (Out ItemOut)) (e : Effects) → (all_emitted version moment (outs_turned written_item outs) e).takes ≡ e.takes ++ map (line_told version) (items.takes_told moment outs)
+takes_emitted version moment [] e = sym (append-nil e.takes)
+takes_emitted version moment (Put k i ∷ outs) e = takes_emitted version moment outs (emitted version moment (Put k (written_item i)) e)
+takes_emitted version moment (Shut k ∷ outs) e = takes_emitted version moment outs (emitted version moment (Shut k) e)
+takes_emitted version moment (Took from to origin ∷ outs) e =
+    takes_emitted version moment outs (emitted version moment (Took from to origin) e) ∙ append_assoc e.takes (take_told version moment from to origin ∷ []) (map (line_told version) (items.takes_told moment outs))
 
 length_items_emitted : (outs : List (Out ItemOut)) (ps : List ItemWire) → length (items.all_emitted outs ps) ≡ length ps
 length_items_emitted [] ps = refl
@@ -244,6 +253,10 @@ module _ (UpFits DownFits : ItemOut → Type 0) (HallFits : ℕ → Hall ItemOut
           ∙ i.as_many ∙ sym (length_items_emitted done.outs (changed_at place (many_up (length taken)) v.wires) ∙ length_changed (many_up (length taken)) v.wires place);
       wires = λ q. all_here UpFits DownFits cores.up_limits cores.down_limits q w.devices w.version w.moment done.outs framers_now (writer_at (number_at q) ticked.server) (writer_at (number_at q) done.hall) before
           (changed_at place (many_up (length taken)) v.wires) (served_in_order UpFits DownFits HallFits ClientFits cores many place taken ticked.server (number_at q) few ticked_fits taken_fit comes) (handed_all q);
+      takes =
+          takes_emitted w.version w.moment done.outs before
+          ∙ ap₂ (λ l m. l ++ map (line_told w.version) (items.takes_told m done.outs)) i.takes same_moment
+          ∙ sym (map-append (line_told w.version) v.takes (items.takes_told (v.moment + 0) done.outs));
     }
 
     pub served_image : WorldImage UpFits DownFits HallFits ClientFits (bytes.served place n b w) (items.all_moved (items.Tick 0 ∷ ups place (length taken)) v)

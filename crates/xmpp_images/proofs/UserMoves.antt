@@ -142,6 +142,7 @@ module _ (UpFits DownFits : ItemOut → Type 0) (HallFits : ℕ → Hall ItemOut
         devices = devices_changed w v i d d' e e' found found_item h image;
         as_many = length_where d.here f w.wires ∙ image.as_many ∙ sym (length_where d.here g v.wires);
         wires = λ place. wires_changed w v i d d' f g d.here place found image (at_here place) (at_other place);
+        takes = image.takes;
       })
 
   -- ---- what is put goes out, where a connection is there
@@ -221,7 +222,7 @@ module _ (UpFits DownFits : ItemOut → Type 0) (HallFits : ℕ → Hall ItemOut
       answered d e found found_item h (Ok n) ok =
           let t = says in_items (silent_turn e.client) (bare_address to) text private in
           subst (λ (u : Turn (List ℕ) ℕ). WorldImage UpFits DownFits HallFits ClientFits (spoke i d.here (devices.after_turn u d) w) (items.spoke i e t v)) (sym (ap (λ u. says in_bytes u (bare_address to) text private) (silent_is d e h) ∙ said_is e.client (bare_address to) text private n ok))
-          (spoke_image w v i d e t found found_item h (says_phase e.client (bare_address to) text private) (cores.says_so to text private n e.client h.fits name plain ok) image)
+          (spoke_image w v i d e t found found_item h (says_phase e.client (bare_address to) text private) (cores.client.says_so to text private n e.client h.fits name plain ok) image)
       answered d e found found_item h (Err f) refused =
           let same = say_refused_same line f d in
           refused_image w v i d (devices.say_refused line f d) e found found_item h same.0 same.1 image
@@ -271,7 +272,7 @@ module _ (UpFits DownFits : ItemOut → Type 0) (HallFits : ℕ → Hall ItemOut
       answered d e found found_item h (Ok done) ok =
           let t = catches_up in_items (silent_turn e.client) most in
           subst (λ (u : Turn (List ℕ) ℕ). WorldImage UpFits DownFits HallFits ClientFits (spoke i d.here (devices.after_turn u d) w) (items.spoke i e t v)) (sym (ap (λ u. catches_up in_bytes u most) (silent_is d e h) ∙ caught_up_is e.client most ok))
-          (spoke_image w v i d e t found found_item h (catches_phase_in (silent_turn e.client) e.client.session most) (cores.catches_up_so most e.client h.fits some few ok) image)
+          (spoke_image w v i d e t found found_item h (catches_phase_in (silent_turn e.client) e.client.session most) (cores.client.catches_up_so most e.client h.fits some few ok) image)
       answered d e found found_item h (Err f) refused =
           let same = catch_up_refused_same line f d in
           refused_image w v i d (devices.catch_up_refused line f d) e found found_item h same.0 same.1 image
@@ -313,5 +314,5 @@ module _ (UpFits DownFits : ItemOut → Type 0) (HallFits : ℕ → Hall ItemOut
       by (Some d) (Some e) found found_item h =
           subst (λ o. Forgotten i w v o (slice_get v.devices i)) (sym found) (subst (Forgotten i w v (Some d)) (sym found_item)
           (user_image w v i d (devices.forgets_all d) e (record { client = (forgets in_items (fed_of e.client)).turn.client; here = None }) left pipes.left found found_item
-          (record { client = ap (λ c. dropped (record c { phase = Apart })) h.client; here = refl; framed = λ a. refl; fits = cores.forgets_so e.client h.fits }) h.here (λ x. closed_begun x.up) image
+          (record { client = ap (λ c. dropped (record c { phase = Apart })) h.client; here = refl; framed = λ a. refl; fits = cores.client.forgets_so e.client h.fits }) h.here (λ x. closed_begun x.up) image
           (λ q b p here x y r. left_at_here w v i (devices.forgets_all d) q b p r) (λ q other. sym (away d.here d.client.framer q other))))

@@ -100,6 +100,18 @@ pub record HeardFits (UpFits : ItemOut → Type 0) (ClientFits : ClientView Item
 
 -- ---- what is owed
 
+-- Of three families: what a client may put, and the server; and clients. Whatever a client does puts what is of these, and
+-- leaves a client that is.
+pub record ClientKeeps (UpFits DownFits : ItemOut → Type 0) (ClientFits : ClientView ItemOut → Type 0) : Type 0 where
+  pub dials_so : (k : ℕ) (c : ClientView ItemOut) → ClientFits c → TurnFits UpFits ClientFits (dials in_items (client_entropy k) (fed_of c)).turn
+  pub loses : (c : ClientView ItemOut) → ClientFits c → ClientFits (leaves (fed_of c)).turn.client
+  pub forgets_so : (c : ClientView ItemOut) → ClientFits c → ClientFits (forgets in_items (fed_of c)).turn.client
+  pub hears : (i : ItemOut) (c : ClientView ItemOut) → ClientFits c → DownFits i → HeardFits UpFits ClientFits (item_step in_items (silent_turn c) (read_of i))
+  pub says_so : (name text : List ℕ) (private : Bool) (n : ℕ) (c : ClientView ItemOut) → ClientFits c → IsTrue (is_name name) → IsTrue (is_text text) → say_answer c text ≡ Ok n
+      → TurnFits UpFits ClientFits (says in_items (silent_turn c) (bare_address name) text private)
+  pub catches_up_so : (most : ℕ) (c : ClientView ItemOut) → ClientFits c → 1 ≤ most → most ≤ 100 → catch_up_answer c ≡ Ok tt
+      → TurnFits UpFits ClientFits (catches_up in_items (silent_turn c) most)
+
 -- Of four families: what a client may put, and the server; halls, of so many connections that were dialed; and clients.
 -- Whatever comes of these is among these.
 pub record CoresFit (UpFits DownFits : ItemOut → Type 0) (HallFits : ℕ → Hall ItemOut → Type 0) (ClientFits : ClientView ItemOut → Type 0) : Type 0 where
@@ -116,14 +128,7 @@ pub record CoresFit (UpFits DownFits : ItemOut → Type 0) (HallFits : ℕ → H
       → AreInOrder DownFits j (writer_at j h) (after_item itself k (read_of i) (step_of h)).outs (writer_at j (after_item itself k (read_of i) (step_of h)).hall)
   pub opened : (n k : ℕ) (i : ItemOut) (h : Hall ItemOut) → HallFits n h → k ≤ n → UpFits i → MayCome (writer_at k h) i → writer_at k (after_item itself k (read_of i) (step_of h)).hall ≡ Some phase.First → ⊥
   -- ---- a client
-  pub dials_so : (k : ℕ) (c : ClientView ItemOut) → ClientFits c → TurnFits UpFits ClientFits (dials in_items (client_entropy k) (fed_of c)).turn
-  pub loses : (c : ClientView ItemOut) → ClientFits c → ClientFits (leaves (fed_of c)).turn.client
-  pub forgets_so : (c : ClientView ItemOut) → ClientFits c → ClientFits (forgets in_items (fed_of c)).turn.client
-  pub hears : (i : ItemOut) (c : ClientView ItemOut) → ClientFits c → DownFits i → HeardFits UpFits ClientFits (item_step in_items (silent_turn c) (read_of i))
-  pub says_so : (name text : List ℕ) (private : Bool) (n : ℕ) (c : ClientView ItemOut) → ClientFits c → IsTrue (is_name name) → IsTrue (is_text text) → say_answer c text ≡ Ok n
-      → TurnFits UpFits ClientFits (says in_items (silent_turn c) (bare_address name) text private)
-  pub catches_up_so : (most : ℕ) (c : ClientView ItemOut) → ClientFits c → 1 ≤ most → most ≤ 100 → catch_up_answer c ≡ Ok tt
-      → TurnFits UpFits ClientFits (catches_up in_items (silent_turn c) most)
+  pub client : ClientKeeps UpFits DownFits ClientFits
 
 -- the things that something is shown as: a family as the law has it
 abbrev pub Among : {A B : Type 0} → (A → B) → B → Type 0

@@ -24,6 +24,7 @@ items_at_start schedule = record {
   server = hall_at_start domain (accounts_at_start (accounts_of (common_steps schedule))) (keep_of schedule.version);
   devices = map item_device (owned_in (common_steps schedule));
   wires = [];
+  takes = [];
 }
 
 -- it is among the halls and clients of which `CoresFit` speaks

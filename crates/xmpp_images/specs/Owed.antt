@@ -6,7 +6,7 @@ use Rattle.xmpp_client_rows.specs.Clients.{ClientView}
 use Rattle.xmpp_client_rows.specs.Speech.{in_items}
 use Rattle.xmpp_client.specs.Steps.{item_step}
 use Rattle.xmpp_desk.specs.Moments.{at_moment, gone_at, with_fresh}
-use Rattle.xmpp_images.specs.Cores.{HeardFits, TurnFits}
+use Rattle.xmpp_images.specs.Cores.{ClientKeeps}
 use Rattle.xmpp_images.specs.ItemStarts.{item_device, items_at_start}
 use Rattle.xmpp_images.specs.Stands.{OutPuts}
 use Rattle.xmpp_schedule.specs.Contents.{owned_in}
@@ -36,14 +36,7 @@ pub record CoresKeep (UpFits DownFits : ItemOut → Type 0) (HallKeeps : Hall It
   pub handles : (k : ℕ) (i : ItemOut) (h : Hall ItemOut) → HallKeeps h → UpFits i → HallKeeps (after_item itself k (read_of i) (step_of h)).hall
   pub puts : (k : ℕ) (i : ItemOut) (h : Hall ItemOut) → HallKeeps h → UpFits i → AllByRecursion (OutPuts DownFits) (after_item itself k (read_of i) (step_of h)).outs
   -- ---- a client
-  pub dials_so : (k : ℕ) (c : ClientView ItemOut) → ClientFits c → TurnFits UpFits ClientFits (dials in_items (client_entropy k) (fed_of c)).turn
-  pub loses : (c : ClientView ItemOut) → ClientFits c → ClientFits (leaves (fed_of c)).turn.client
-  pub forgets_so : (c : ClientView ItemOut) → ClientFits c → ClientFits (forgets in_items (fed_of c)).turn.client
-  pub hears : (i : ItemOut) (c : ClientView ItemOut) → ClientFits c → DownFits i → HeardFits UpFits ClientFits (item_step in_items (silent_turn c) (read_of i))
-  pub says_so : (name text : List ℕ) (private : Bool) (n : ℕ) (c : ClientView ItemOut) → ClientFits c → IsTrue (is_name name) → IsTrue (is_text text) → say_answer c text ≡ Ok n
-      → TurnFits UpFits ClientFits (says in_items (silent_turn c) (bare_address name) text private)
-  pub catches_up_so : (most : ℕ) (c : ClientView ItemOut) → ClientFits c → 1 ≤ most → most ≤ 100 → catch_up_answer c ≡ Ok tt
-      → TurnFits UpFits ClientFits (catches_up in_items (silent_turn c) most)
+  pub client : ClientKeeps UpFits DownFits ClientFits
 
 -- what a schedule begins with is among these
 pub record StartKeeps (HallKeeps : Hall ItemOut → Type 0) (ClientFits : ClientView ItemOut → Type 0) (schedule : WireView) : Type 0 where

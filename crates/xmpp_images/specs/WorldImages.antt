@@ -1,5 +1,5 @@
 -- A world of bytes as the image of a world of items.
-use Rattle.std.specs.Prelude.{ℕ, ◌≡◌, ◌⊎◌, true, List, [], ◌∷◌, Option, Some, None, if◌then◌else◌, length, slice_get}
+use Rattle.std.specs.Prelude.{ℕ, ◌≡◌, ◌⊎◌, true, List, [], ◌∷◌, Option, Some, None, if◌then◌else◌, length, map, slice_get}
 use Rattle.xmpp_client_laws.specs.Turned.{client_turned}
 use Rattle.xmpp_client_rows.specs.Clients.{ClientView}
 use Rattle.xmpp_client_rows.specs.Turns.{is_apart}
@@ -12,10 +12,13 @@ use Rattle.xmpp_images.specs.ItemRuns.{IsRunOf}
 use Rattle.xmpp_images.specs.WireImages.{WireImage}
 use Rattle.xmpp_item_worlds.specs.ItemMoves.{ItemMove, all_moved}
 use Rattle.xmpp_item_worlds.specs.ItemPipes.{ItemPipe, ItemWire}
-use Rattle.xmpp_item_worlds.specs.ItemWorlds.{ItemDevice, ItemWorld}
+use Rattle.xmpp_item_worlds.specs.ItemWorlds.{ItemDevice, ItemWorld, Take}
 use Rattle.xmpp_names.specs.declared.headers.Header.{Header}
+use Rattle.xmpp_report.specs.declared.report.TakeLine.{TakeLine}
+use Rattle.xmpp_schedule.specs.declared.schedule.Version.{Version}
 use Rattle.xmpp_server.specs.Events.{framer_at}
 use Rattle.xmpp_server_laws.specs.Turned.{hall_turned}
+use Rattle.xmpp_wires.specs.Takes.{take_told}
 use Rattle.xmpp_wires.specs.declared.wire.Wire.{Wire}
 use Rattle.xmpp_world.specs.Moves.{Move, moved}
 use Rattle.xmpp_world.specs.Worlds.{World, number_at}
@@ -55,12 +58,16 @@ Begins wires h = (place : ℕ) (p : ItemWire) → slice_get wires place ≡ Some
 
 -- ---- worlds
 
+-- a message that was taken, as its line tells it
+abbrev pub line_told : Version → Take → TakeLine
+line_told version t = take_told version t.moment t.from t.to t.origin
+
 abbrev pub WireAt : (UpFits DownFits : ItemOut → Type 0) → World → ItemWorld → ℕ → Wire → ItemWire → Type 0
 WireAt UpFits DownFits w v place b p =
     WireImage UpFits DownFits (framer_at (number_at place) w.server.framers) (framer_here place (slice_get w.devices b.device)) (writer_at (number_at place) v.server) b p
 
 -- The same moment; the server of bytes is that of items, with each thing that waits written; and so are the devices and the
--- connections, each at its place.
+-- connections, each at its place; and the same messages were taken.
 pub record WorldImage (UpFits DownFits : ItemOut → Type 0) (HallFits : ℕ → Hall ItemOut → Type 0) (ClientFits : ClientView ItemOut → Type 0) (w : World) (v : ItemWorld) : Type 0 where
   pub moment : w.moment ≡ v.moment
   pub hall : w.server.hall ≡ hall_turned written_item v.server
@@ -69,6 +76,7 @@ pub record WorldImage (UpFits DownFits : ItemOut → Type 0) (HallFits : ℕ →
   pub devices : (place : ℕ) → Both (DeviceImage ClientFits) (slice_get w.devices place) (slice_get v.devices place)
   pub as_many : length w.wires ≡ length v.wires
   pub wires : (place : ℕ) → Both (WireAt UpFits DownFits w v place) (slice_get w.wires place) (slice_get v.wires place)
+  pub takes : w.takes ≡ map (line_told w.version) v.takes
 
 -- ---- moves
 

@@ -9,7 +9,7 @@ use Rattle.xmpp_client_rows.specs.Turns.{is_apart}
 use Rattle.xmpp_desk.specs.Moments.{at_moment, gone_at, with_fresh}
 use Rattle.xmpp_desk.specs.State.{Hall, Out, Put, Shut, Step, Took}
 use Rattle.xmpp_item_worlds.specs.ItemPipes.{ItemWire, cut_at, down_end_told, fresh_wire, handed_down, handed_up, is_end_due, left, put_down, put_up, shut, up_end_told}
-use Rattle.xmpp_item_worlds.specs.ItemWorlds.{ItemDevice, ItemWorld, itself, read_of, silent_turn}
+use Rattle.xmpp_item_worlds.specs.ItemWorlds.{ItemDevice, ItemWorld, Take, itself, read_of, silent_turn}
 use Rattle.xmpp_server.specs.Table.{after_item}
 use Rattle.xmpp_wires.specs.Places.{changed_at, changed_under, changed_where}
 use Rattle.xmpp_writer.specs.Items.{ItemOut}
@@ -100,6 +100,13 @@ abbrev pub all_emitted : List (Out ItemOut) → List ItemWire → List ItemWire
 all_emitted [] wires = wires
 all_emitted (out ∷ outs) wires = all_emitted outs (emitted out wires)
 
+-- and what it took is noted down
+abbrev pub takes_told : ℕ → List (Out ItemOut) → List Take
+takes_told moment [] = []
+takes_told moment (Put k item ∷ outs) = takes_told moment outs
+takes_told moment (Shut k ∷ outs) = takes_told moment outs
+takes_told moment (Took from to origin ∷ outs) = record { moment = moment; from = from; to = to; origin = origin } ∷ takes_told moment outs
+
 abbrev pub step_of : Hall ItemOut → Step ItemOut
 step_of h = record { hall = h; outs = [] }
 
@@ -107,7 +114,7 @@ step_of h = record { hall = h; outs = [] }
 abbrev pub served_item : ℕ → ItemOut → ItemWorld → ItemWorld
 served_item place i w =
     let done = after_item itself (place + 1) (read_of i) (step_of w.server) in
-    record w { server = done.hall; wires = all_emitted done.outs (changed_at place handed_up w.wires) }
+    record w { server = done.hall; wires = all_emitted done.outs (changed_at place handed_up w.wires); takes = w.takes ++ takes_told w.moment done.outs }
 
 abbrev pub served_first : ℕ → List ItemOut → ItemWorld → ItemWorld
 served_first place [] w = w

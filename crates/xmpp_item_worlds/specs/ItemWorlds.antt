@@ -13,12 +13,21 @@ pub record ItemDevice : Type 0 where
   pub client : ClientView ItemOut
   pub here : Option ℕ
 
--- the moment; the server; the devices; the connections, in the order in which they were dialed
+-- a message that the server told that it took, and when: its addresses and its origin id
+pub record Take : Type 0 where
+  pub moment : ℕ
+  pub from : List ℕ
+  pub to : List ℕ
+  pub origin : List ℕ
+
+-- the moment; the server; the devices; the connections, in the order in which they were dialed; and the messages that the
+-- server took
 pub record ItemWorld : Type 0 where
   pub moment : ℕ
   pub server : Hall ItemOut
   pub devices : List ItemDevice
   pub wires : List ItemWire
+  pub takes : List Take
 
 -- what is put is the item itself
 abbrev pub itself : ItemOut → ItemOut

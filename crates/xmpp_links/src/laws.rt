@@ -11,6 +11,7 @@ ghost use Rattle.xmpp_links.specs.Machine.{LinkMove, LinkMoves, LinkReached, Lin
 ghost use Rattle.xmpp_links.specs.Newest.{newest};
 ghost use Rattle.xmpp_links.specs.Numbers.{IsRising};
 ghost use Rattle.xmpp_links.specs.Sums.{said_in, served_in};
+ghost use Rattle.xmpp_links.specs.Telling.{Tells};
 ghost use Rattle.xmpp_links.specs.Covers.{IsSettled, PromptReached};
 ghost use Rattle.xmpp_links.specs.Paging.{course_of, IsInTime, IsShort, Paging, PagingReached};
 ghost use Rattle.xmpp_links.specs.Wrong.{binds_beside, resumes_late, sends_all_again, states_acknowledged};
@@ -103,10 +104,11 @@ pub fn runs_with_premises_are_runs<A>()
 
 /// To the applications each move is nothing, or one event of a session: bound, named, counted, known, ended, dropped,
 /// or a stanza put or handled by one end, or a count that the client learned; and it comes with what an application may
-/// rest on, as that a stanza which is handled is the next one that was put. So what is seen of a session is what the
-/// events of its run make of it.
+/// rest on, as that a stanza which is handled is the next one that was put. `Tells` says which event each move is. So what
+/// is seen of a session is what the events of its run make of it.
 pub fn moves_are_events_of_sessions<A>()
     ensures moves { (move : LinkMove A) (v next : View A) → LinkReached v → LinkMoves move v next → (e : Option (Event A)) × IsSeenAs e (seen v) (seen next) }
+    ensures tells { (move : LinkMove A) (v next : View A) → LinkReached v → LinkMoves move v next → (e : Option (Event A)) × Tells move v e × IsSeenAs e (seen v) (seen next) }
     ensures runs { (v : View A) → LinkReached v → (es : List (Event A)) × Follows es (seen nothing_yet) (seen v) }
 {}
 

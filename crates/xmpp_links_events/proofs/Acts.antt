@@ -8,6 +8,7 @@ use Rattle.xmpp_links.specs.Views.{View}
 use Rattle.xmpp_links.specs.Events.{Seen, seen, Event, Bound, Named, Counted, Known, Ended, Dropped, Said, Handled, Served, Heard, Learned, IsSeenAs, Follows}
 use Rattle.xmpp_links.specs.Events as links
 use Rattle.xmpp_links.specs.Machine.{LinkMove, LinkMoves, nothing_yet, LinkReached}
+use Rattle.xmpp_links.specs.Telling.{Tells}
 use Rattle.xmpp_sessions.specs.Stanzas.{Up, Down}
 use Rattle.xmpp_sessions.specs.Stanzas.Up.{Carbons, Presence}
 use Rattle.xmpp_sessions.specs.Devices.{Sessions}
@@ -47,8 +48,8 @@ seen_leads r None v next d same a = (d, refl, subst (λ s. IsDevice r s d) (sym 
 seen_leads r (Some e) v next d (may, same) a = let l = event_leads r e v d may a in (l.0, l.1, subst (λ s. IsDevice r s l.0) (sym same) l.2)
 
 pub move_leads : {A : Type 0} (r : Stanzas A) (move : LinkMove A) (v next : View A) (d : Sessions) → LinkReached v → LinkMoves move v next → IsDevice r (seen v) d →
-    (e : Option (Event A)) × IsSeenAs e (seen v) (seen next) × ((after : Sessions) × AreActs r e (seen v) d after × IsDevice r (seen next) after)
-move_leads r move v next d reached by a = let s = move_seen move v next by (link_kept v reached) (reached_rises v reached) in (s.0, s.1, seen_leads r s.0 (seen v) (seen next) d s.1 a)
+    (e : Option (Event A)) × Tells move v e × IsSeenAs e (seen v) (seen next) × ((after : Sessions) × AreActs r e (seen v) d after × IsDevice r (seen next) after)
+move_leads r move v next d reached by a = let s = move_seen move v next by (link_kept v reached) (reached_rises v reached) in (s.0, s.1, s.2, seen_leads r s.0 (seen v) (seen next) d s.2 a)
 
 follow : {A : Type 0} (r : Stanzas A) (es : List (Event A)) (v last : Seen A) (d : Sessions) → Follows es v last → IsDevice r v d → (after : Sessions) × ActsLead r es v d after × IsDevice r last after
 follow r [] v last d same a = (d, refl, subst (λ s. IsDevice r s d) (sym same) a)

@@ -3,6 +3,7 @@ ghost use Rattle.std.specs.Prelude.{◌≡◌, ℕ, true, false, [], ◌∷◌, 
 ghost use Rattle.xmpp_links.specs.Views.{View};
 ghost use Rattle.xmpp_links.specs.Events.{Event, Follows, IsSeenAs, Seen, seen};
 ghost use Rattle.xmpp_links.specs.Machine.{LinkMove, LinkMoves, LinkReached, nothing_yet};
+ghost use Rattle.xmpp_links.specs.Telling.{Tells};
 ghost use Rattle.xmpp_sessions.specs.Stanzas.{Down, Up};
 ghost use Rattle.xmpp_sessions.specs.Stanzas.Up.{Carbons, Presence};
 ghost use Rattle.xmpp_sessions.specs.Devices.{Device, Sessions};
@@ -16,7 +17,7 @@ ghost use Rattle.xmpp_links_events.specs.Acts.{ActsLead, AreActs};
 pub fn moves_are_acts_of_sessions<A>()
     ensures begins { (r : Stanzas A) → IsDevice r (seen nothing_yet) no_sessions }
     ensures moves { (r : Stanzas A) (move : LinkMove A) (v next : View A) (d : Sessions) → LinkReached v → LinkMoves move v next → IsDevice r (seen v) d →
-        (e : Option (Event A)) × IsSeenAs e (seen v) (seen next) × ((after : Sessions) × AreActs r e (seen v) d after × IsDevice r (seen next) after) }
+        (e : Option (Event A)) × Tells move v e × IsSeenAs e (seen v) (seen next) × ((after : Sessions) × AreActs r e (seen v) d after × IsDevice r (seen next) after) }
     ensures runs { (r : Stanzas A) (v : View A) → LinkReached v → (es : List (Event A)) × Follows es (seen nothing_yet) (seen v) × ((d : Sessions) × ActsLead r es (seen nothing_yet) no_sessions d × IsDevice r (seen v) d) }
 {}
 

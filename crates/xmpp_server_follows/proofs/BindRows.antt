@@ -16,6 +16,7 @@ use Rattle.xmpp_desk.specs.declared.connection.Standing.{Standing}
 use Rattle.xmpp_desk.specs.declared.connection.Tries.TheVariants as tries
 use Rattle.xmpp_desk.specs.declared.word.Word.TheVariants as word
 use Rattle.xmpp_device_views.specs.Counted.{IsForClient}
+use Rattle.xmpp_device_views.specs.Deeds.{deeds_of}
 use Rattle.xmpp_device_views.specs.Frames.{KeepsClient}
 use Rattle.xmpp_device_views.specs.Identities.{Identity, Login, full_of}
 use Rattle.xmpp_device_views.specs.Servers.{IsRowShown, ServerShows, conn_shown, open_conn}
@@ -56,6 +57,7 @@ use Rattle.xmpp_stanza.specs.Readings.{stanza_of}
 use Rattle.xmpp_stanza_rows.specs.Ready.{at_ready_or_bound}
 use Rattle.xmpp_wire_steps.proofs.Emitted.{puts_at}
 use Rattle.xmpp_wire_steps.proofs.Flows.{halted, taken_flowing}
+use Rattle.xmpp_wire_steps.proofs.MoreMoves.{does_both, then_reaches}
 use Rattle.xmpp_wire_steps.proofs.Placed.{keeps_at}
 use Rattle.xmpp_wire_steps.proofs.Servings.{IsLive, Known, known_altered, known_same, live_of}
 use Rattle.xmpp_writer.specs.Items.{Closing, ItemOut}
@@ -73,11 +75,6 @@ none_left p q (x ∷ ss) none =
 no_row_named : (who : Identity) (h : Hall ItemOut) (o : Option (Session ItemOut)) → IsRowShown None o → o ≡ None
 no_row_named who h None shown = refl
 no_row_named who h (Some s) shown = absurd shown
-
--- one move more
-then_reaches : (moves : List (LinkMove ItemOut)) (move : LinkMove ItemOut) (v middle last : View ItemOut) → LinkReaches moves v middle → LinkReaches (move ∷ []) middle last → LinkReaches (moves ++ move ∷ []) v last
-then_reaches [] move v middle last to more = subst (λ u. LinkReaches (move ∷ []) u last) to more
-then_reaches (first ∷ moves) move v middle last to more = (to.0, to.1, then_reaches moves move to.0 middle last to.2 more)
 
 module _ (who : Identity) (logins : ℕ → Login) (h : Hall ItemOut) (wires : Table ItemWire) (v : View ItemOut) (k : ℕ) (p : IsFirst who logins h wires v k Bind) (fits : h.next + 1 < 2 ^ 64) where
   kept : LinkKept v
@@ -169,10 +166,11 @@ module _ (who : Identity) (logins : ℕ → Login) (h : Hall ItemOut) (wires : T
       let done : Hall ItemOut = after h.sessions rule was none_here name in
       let step : on_item k (up_item who (logins k) Bind) h ≡ record { hall = done; outs = puts_at k items } =
       bind_step ∙ ap bound_so name ∙ ap (λ a. record { hall = done; outs = puts_at k (bound_item (codes "bind") a ∷ []) }) (address_is who h p.server.served) in
-      subst (StepFollows who logins wires v k p.wire) (sym step) (record {
+      subst (λ t. StepFollows who logins wires v k p.wire t []) (sym step) (record {
         moves = TakesBind k h.next ∷ [];
         next = next;
         leads = (next, record { conn = p.conn; is = p.is; rest = p.rest; first = p.first; phase = ready; none = no_row; fresh = new_number; rises = p.server.free; gives = refl }, refl);
+        does = refl;
         server = after_shows h.sessions rule was none_here name;
         pipes = taken_pipes who logins h wires v k Bind p (AtSession h.next) (Bound h.next ∷ []) items next (λ j. refl) refl (All-nil IsForClient);
         client = taken_client who logins h wires v k Bind p (AtSession h.next) (Bound h.next ∷ []) next refl refl refl refl;
@@ -198,7 +196,7 @@ module _ (who : Identity) (logins : ℕ → Login) (h : Hall ItemOut) (wires : T
       bind_step ∙ ap bound_so live.named
       ∙ ap (λ o. acted itself (parting_where itself o (error_item stream.Conflict) (Say k (bound_item (codes "bind") (full_address who.account who.resource h)) ∷ [])) (record { hall = done; outs = [] })) off_it
       ∙ ap (λ a. record { hall = done; outs = puts_at k (bound_item (codes "bind") a ∷ []) }) (address_is who h p.server.served) in
-      subst (StepFollows who logins wires v k p.wire) (sym step) (record {
+      subst (λ t. StepFollows who logins wires v k p.wire t []) (sym step) (record {
         moves = EndsRow ∷ TakesBind k h.next ∷ [];
         next = next;
         leads = (
@@ -206,6 +204,7 @@ module _ (who : Identity) (logins : ℕ → Login) (h : Hall ItemOut) (wires : T
           record { row = row; is_row = is_row; off = parked; gives = refl },
           (next, record { conn = p.conn; is = p.is; rest = p.rest; first = p.first; phase = ready; none = refl; fresh = new_number; rises = p.server.free; gives = refl }, refl),
         );
+        does = refl;
         server = after_shows left rule was seat name;
         pipes = taken_pipes who logins h wires v k Bind p (AtSession h.next) (Bound h.next ∷ []) items next (λ j. refl) refl (All-nil IsForClient);
         client = taken_client who logins h wires v k Bind p (AtSession h.next) (Bound h.next ∷ []) next refl refl refl refl;
@@ -305,7 +304,7 @@ module _ (who : Identity) (logins : ℕ → Login) (h : Hall ItemOut) (wires : T
         mine_first (New same it) = (former, subst (λ n. v.conns n ≡ Some former) same placed.1)
         mine_first (Old away there) = (e, there)
 
-    module _ (ss : Table (links.Session ItemOut)) (known : Known ss v) (none_yet : ss h.next ≡ None) (moves : List (LinkMove ItemOut)) (to : LinkReaches moves v (record v { conns = first_conns; row = None; sessions = ss })) where
+    module _ (ss : Table (links.Session ItemOut)) (known : Known ss v) (none_yet : ss h.next ≡ None) (moves : List (LinkMove ItemOut)) (nothing : deeds_of moves ≡ []) (to : LinkReaches moves v (record v { conns = first_conns; row = None; sessions = ss })) where
       abbrev middle : View ItemOut
       middle = record v { conns = first_conns; row = None; sessions = ss }
 
@@ -314,10 +313,11 @@ module _ (who : Identity) (logins : ℕ → Login) (h : Hall ItemOut) (wires : T
 
       bound_behind : IsTaken who logins h wires v k p.wire Bind
       bound_behind =
-          subst (StepFollows who logins wires v k p.wire) (sym step) (record {
+          subst (λ t. StepFollows who logins wires v k p.wire t []) (sym step) (record {
             moves = moves ++ TakesBind k h.next ∷ [];
             next = end;
-            leads = then_reaches moves (TakesBind k h.next) v middle end to (end, record { conn = p.conn; is = at_other f closed v.conns k apart ∙ p.is; rest = p.rest; first = p.first; phase = ready; none = refl; fresh = none_yet; rises = p.server.free; gives = refl }, refl);
+            leads = then_reaches moves (TakesBind k h.next ∷ []) v middle end to (end, record { conn = p.conn; is = at_other f closed v.conns k apart ∙ p.is; rest = p.rest; first = p.first; phase = ready; none = refl; fresh = none_yet; rises = p.server.free; gives = refl }, refl);
+            does = does_both moves (TakesBind k h.next ∷ []) [] [] nothing refl;
             server =
                 bound_shows who logins h v p.server k left (without_conn f h).conns rule was seat name fits last_conns (with_at h.next unread ss) (known_bound ss known) (without_sorted f h p.server.hall.conns)
                 (λ j e there. shown_last j e (entry k attached first_conns j e there)) (λ j e there. mine_last j e (entry k attached first_conns j e there));
@@ -336,12 +336,12 @@ module _ (who : Identity) (logins : ℕ → Login) (h : Hall ItemOut) (wires : T
     bind_detached counted =
         let g : ℕ → links.Session ItemOut → links.Session ItemOut = λ q s. lost_if (has (Some row.number) q) (s.counted && (has v.here f && has (carries former) q)) s in
         let parked : View ItemOut = record v { conns = first_conns; row = Some (record row { on = None }); sessions = alter g v.sessions } in
-        bound_behind (alter g v.sessions) (known_altered g v) (ap (changed (g h.next)) new_number) (Detaches f (Errs Conflict) ∷ EndsRow ∷ [])
+        bound_behind (alter g v.sessions) (known_altered g v) (ap (changed (g h.next)) new_number) (Detaches f (Errs Conflict) ∷ EndsRow ∷ []) refl
         (parked, record { conn = former; is = placed.1; row = row; is_row = is_row; on = on; counted = counted; reason = tt; gives = refl }, (record parked { row = None }, record { row = record row { on = None }; is_row = refl; off = refl; gives = refl }, refl))
 
     bind_shut : row.counted ≡ false → IsTaken who logins h wires v k p.wire Bind
     bind_shut uncounted =
-        bound_behind v.sessions (known_same v) new_number (Shuts f (Errs Conflict) ∷ [])
+        bound_behind v.sessions (known_same v) new_number (Shuts f (Errs Conflict) ∷ []) refl
         (record v { conns = first_conns; row = None }, record { conn = former; is = placed.1; row = row; is_row = is_row; on = on; uncounted = uncounted; reason = tt; gives = refl }, refl)
 
     bind_on : IsTaken who logins h wires v k p.wire Bind

@@ -43,10 +43,11 @@ module _ (who : Identity) (logins : ℕ → Login) (h : Hall ItemOut) (wires : T
   foot_taken off =
       let next : View ItemOut = record v { conns = with_at k closed v.conns } in
       let nobody : filter stays h.sessions ≡ h.sessions = all_left (is_at k) h.sessions (unseated who logins h v kept p.server k p.conn p.is off) in
-      subst (StepFollows who logins wires v k p.wire) (sym foot_step) (record {
+      subst (λ t. StepFollows who logins wires v k p.wire t []) (sym foot_step) (record {
         moves = TakesFoot k ∷ [];
         next = next;
         leads = (next, record { conn = p.conn; is = p.is; off = off; rest = p.rest; first = p.first; gives = refl }, refl);
+        does = refl;
         server = left_shows who logins h v kept p.server k p.conn p.is stays closed v.row v.sessions (known_same v) refl (subst (λ ss. IsRowShown v.row (session_named who.account who.resource ss)) (sym nobody) p.server.row);
         pipes = shut_pipes who logins wires v next k p.conn p.wire Closes p.pipes (wire_here who logins h wires v k Foot p) (λ j. refl) (Closing ∷ []) refl;
         client = shut_client who logins wires v next k p.conn p.wire Closes p.is refl refl refl refl;
@@ -68,10 +69,11 @@ module _ (who : Identity) (logins : ℕ → Login) (h : Hall ItemOut) (wires : T
         let sessions : Table (links.Session ItemOut) = alter (λ q s. lost_if (has (Some row.number) q) (s.counted && (has v.here k && has (carries p.conn) q)) s) v.sessions in
         let off : View ItemOut = record v { conns = with_at k closed v.conns; row = Some (record row { on = None }); sessions = sessions } in
         let next : View ItemOut = record v { conns = with_at k closed v.conns; row = None; sessions = sessions } in
-        subst (StepFollows who logins wires v k p.wire) (sym foot_step) (record {
+        subst (λ t. StepFollows who logins wires v k p.wire t []) (sym foot_step) (record {
           moves = Detaches k Closes ∷ EndsRow ∷ [];
           next = next;
           leads = (off, record { conn = p.conn; is = p.is; row = row; is_row = is_row; on = on; counted = counted; reason = (p.rest, p.first); gives = refl }, (next, record { row = record row { on = None }; is_row = refl; off = refl; gives = refl }, refl));
+          does = refl;
           server = ends sessions (known_altered (λ q s. lost_if (has (Some row.number) q) (s.counted && (has v.here k && has (carries p.conn) q)) s) v);
           pipes = shut_pipes who logins wires v next k p.conn p.wire Closes p.pipes (wire_here who logins h wires v k Foot p) (λ j. refl) (Closing ∷ []) refl;
           client = shut_client who logins wires v next k p.conn p.wire Closes p.is refl refl refl refl;
@@ -80,10 +82,11 @@ module _ (who : Identity) (logins : ℕ → Login) (h : Hall ItemOut) (wires : T
     foot_ended : row.counted ≡ false → IsTaken who logins h wires v k p.wire Foot
     foot_ended uncounted =
         let next : View ItemOut = record v { conns = with_at k closed v.conns; row = None } in
-        subst (StepFollows who logins wires v k p.wire) (sym foot_step) (record {
+        subst (λ t. StepFollows who logins wires v k p.wire t []) (sym foot_step) (record {
           moves = Shuts k Closes ∷ [];
           next = next;
           leads = (next, record { conn = p.conn; is = p.is; row = row; is_row = is_row; on = on; uncounted = uncounted; reason = (p.rest, p.first); gives = refl }, refl);
+          does = refl;
           server = ends v.sessions (known_same v);
           pipes = shut_pipes who logins wires v next k p.conn p.wire Closes p.pipes (wire_here who logins h wires v k Foot p) (λ j. refl) (Closing ∷ []) refl;
           client = shut_client who logins wires v next k p.conn p.wire Closes p.is refl refl refl refl;

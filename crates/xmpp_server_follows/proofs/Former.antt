@@ -54,7 +54,7 @@ pipes_as who logins wires same v alike pipes = record { each = λ j. shown_as wh
 
 module _ (who : Identity) (logins : ℕ → Login) (wires : Table ItemWire) (v : View ItemOut) (pipes : PipesShow who logins wires v) (f k : ℕ) (apart : f ≢ k) where
   -- what was sent to the one first and then to the other
-  sent_apart : (outs more : List (Out ItemOut)) (w : ItemWire) → wires k ≡ Some w → AreFor f outs → (j : ℕ) → sent (outs ++ more) (with_at k (handed_up w) wires) j ≡ sent more (with_at k (handed_up w) (sent outs wires)) j
+  pub sent_apart : (outs more : List (Out ItemOut)) (w : ItemWire) → wires k ≡ Some w → AreFor f outs → (j : ℕ) → sent (outs ++ more) (with_at k (handed_up w) wires) j ≡ sent more (with_at k (handed_up w) (sent outs wires)) j
   sent_apart outs more w there for j =
       elim (cases_eq k j) [
         | inl same ↦ subst (λ n. sent (outs ++ more) (with_at k (handed_up w) wires) n ≡ sent more (with_at k (handed_up w) (sent outs wires)) n) same
@@ -71,28 +71,33 @@ module _ (who : Identity) (logins : ℕ → Login) (wires : Table ItemWire) (v :
       both_sent n some others None = refl
       both_sent n some others (Some u) = ap Some (sent_both n some others u)
 
+  -- the one is shut
+  pub shut_first : (former : Conn ItemOut) (ending : Ending) (words : List ItemOut) → v.conns f ≡ Some former → words ≡ map (down_item who (logins f) f (is_behind_login former.client)) (tail_of ending)
+      → PipesShow who logins (sent (shuts_at f words) wires) (record v { conns = with_at f (shut_conn ending former) v.conns })
+  shut_first former ending words is_former same_words =
+      let has = has_wire who logins wires v f former pipes is_former in
+      let closed : IsWire who (logins f) f (shut_conn ending former) (sent_under f (shuts_at f words) has.wire) =
+      subst (IsWire who (logins f) f (shut_conn ending former)) (sym (shuts_here f words has.wire ∙ ap (λ l. shut (put_down l has.wire)) same_words)) (wire_shut who (logins f) f former has.wire has.is ending) in
+      shown_at who logins wires (sent (shuts_at f words) wires) v (record v { conns = with_at f (shut_conn ending former) v.conns }) f (shut_conn ending former) (sent_under f (shuts_at f words) has.wire) pipes (λ j. refl)
+      (ap (option_map (sent_under f (shuts_at f words))) has.there) (λ j other. left_so j other (wires j)) closed
+    where
+      left_so : (j : ℕ) → f ≢ j → (o : Option ItemWire) → option_map (sent_under j (shuts_at f words)) o ≡ o
+      left_so j other None = refl
+      left_so j other (Some u) = ap Some (shuts_are_for f words j u other)
+
   pub shut_then_taken : (former : Conn ItemOut) (ending : Ending) (words : List ItemOut) (c : Conn ItemOut) (w : ItemWire) (word : UpWord ItemOut) (rest : List (UpWord ItemOut)) (at : Phase) (puts : List (DownWord ItemOut)) (items : List ItemOut) (next : View ItemOut)
       → v.conns f ≡ Some former → v.conns k ≡ Some c → wires k ≡ Some w → up_words c.wires ≡ word ∷ rest
       → words ≡ map (down_item who (logins f) f (is_behind_login former.client)) (tail_of ending) → items ≡ map (down_item who (logins k) k (is_behind_login c.client)) puts → All IsForClient (down_stanzas puts)
       → next.conns ≡ with_at k (record c { phase = at; wires = send_down puts (left_up rest c.wires) }) (with_at f (shut_conn ending former) v.conns)
       → PipesShow who logins (sent (shuts_at f words ++ puts_at k items) (with_at k (handed_up w) wires)) next
   shut_then_taken former ending words c w word rest at puts items next is_former is there first same_words same_items stanzas conns =
-      let has = has_wire who logins wires v f former pipes is_former in
       let middle : View ItemOut = record v { conns = with_at f (shut_conn ending former) v.conns } in
-      let closed : IsWire who (logins f) f (shut_conn ending former) (sent_under f (shuts_at f words) has.wire) =
-      subst (IsWire who (logins f) f (shut_conn ending former)) (sym (shuts_here f words has.wire ∙ ap (λ l. shut (put_down l has.wire)) same_words)) (wire_shut who (logins f) f former has.wire has.is ending) in
-      let shut_so : PipesShow who logins (sent (shuts_at f words) wires) middle =
-      shown_at who logins wires (sent (shuts_at f words) wires) v middle f (shut_conn ending former) (sent_under f (shuts_at f words) has.wire) pipes (λ j. refl)
-      (ap (option_map (sent_under f (shuts_at f words))) has.there) (λ j other. left_so j other (wires j)) closed in
+      let shut_so : PipesShow who logins (sent (shuts_at f words) wires) middle = shut_first former ending words is_former same_words in
       pipes_as who logins (sent (puts_at k items) (with_at k (handed_up w) (sent (shuts_at f words) wires))) (sent (shuts_at f words ++ puts_at k items) (with_at k (handed_up w) wires)) next
       (sent_apart (shuts_at f words) (puts_at k items) w there (shuts_are_for f words))
       (shown_sent who logins (sent (shuts_at f words) wires) middle next k (record c { phase = at; wires = send_down puts (left_up rest c.wires) }) w (handed_up w) (puts_at k items) shut_so (λ j. ap (λ t. t j) conns) (puts_are_for k items)
       (subst (IsWire who (logins k) k (record c { phase = at; wires = send_down puts (left_up rest c.wires) })) (sym (puts_here k items (handed_up w) ∙ ap (λ l. put_down l (handed_up w)) same_items))
       (wire_taken who (logins k) k c w mine_w word rest puts at first stanzas)))
     where
-      left_so : (j : ℕ) → f ≢ j → (o : Option ItemWire) → option_map (sent_under j (shuts_at f words)) o ≡ o
-      left_so j other None = refl
-      left_so j other (Some u) = ap Some (shuts_are_for f words j u other)
-
       mine_w : IsWire who (logins k) k c w
       mine_w = subst (IsShown who (logins k) k (Some c)) there (subst (λ o. IsShown who (logins k) k o (wires k)) is (pipes.each k))

@@ -64,7 +64,7 @@ module _ (who : Identity) (logins : ℕ → Login) (h : Hall ItemOut) (wires : T
   -- the move
   pub hand_follows : (phase : Phase) (puts : List (DownWord ItemOut)) (shown : DeskPhase) (items : List ItemOut) → server_hand p.conn.phase word ≡ Goes phase puts → phase_shown who (logins k) phase ≡ shown
       → items ≡ map (down_item who (logins k) k (is_behind_login p.conn.client)) puts → All IsForClient (down_stanzas puts)
-      → StepFollows who logins wires v k p.wire (record { hall = with_conn k (in_phase shown) h; outs = puts_at k items })
+      → StepFollows who logins wires v k p.wire (record { hall = with_conn k (in_phase shown) h; outs = puts_at k items }) []
   hand_follows phase puts shown items hand stands same stanzas =
       let c : Conn ItemOut = p.conn in
       let d : Conn ItemOut = record c { phase = phase; wires = send_down puts (left_up p.rest c.wires) } in
@@ -76,6 +76,7 @@ module _ (who : Identity) (logins : ℕ → Login) (h : Hall ItemOut) (wires : T
         moves = TakesHand k ∷ [];
         next = next;
         leads = (next, record { conn = c; is = p.is; word = word; rest = p.rest; first = p.first; phase = phase; puts = puts; hand = hand; gives = refl }, refl);
+        does = refl;
         server =
             phase_shows who logins h v p.server k c p.is (in_phase shown) (record { entropy = (logins k).yours; phase = phase_shown who (logins k) c.phase; tries = tries.Three }) d (open_here c.phase refl)
             (ap (λ e. open_conn who (logins k) phase e c.gone) s.0 ∙ ap (λ b. open_conn who (logins k) phase Stands b) s.1 ∙ ap (λ q. Some (record { entropy = (logins k).yours; phase = q; tries = tries.Three })) stands);

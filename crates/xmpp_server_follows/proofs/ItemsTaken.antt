@@ -4,6 +4,7 @@ use Rattle.std.proofs.Common.{◌≡◌, ℕ, ◌+◌, List, [], ◌∷◌, Opti
 use Rattle.std.proofs.lemmas.Bool.{cases_eq}
 use Rattle.std.specs.Option.{option_map}
 use Rattle.xmpp_desk.specs.State.{Hall, Out}
+use Rattle.xmpp_device_views.specs.Deeds.{Deed}
 use Rattle.xmpp_device_views.specs.Identities.{Identity, IsNormal, Login}
 use Rattle.xmpp_device_views.specs.Pipes.{IsShown, IsWire, PipesShow, by_number, under}
 use Rattle.xmpp_device_views.specs.Sent.{sent, sent_under}
@@ -39,12 +40,13 @@ pub next_wires : (place : ℕ) (outs : List (Out ItemOut)) (wires : List ItemWir
 next_wires place outs wires w there j = all_sent j outs (changed_at place handed_up wires) ∙ ap (option_map (sent_under j outs)) (handed_table place wires w there j)
 
 -- what follows a step follows it in the world
-pub world_follows : (who : Identity) (logins : ℕ → Login) (w : ItemWorld) (v : View ItemOut) (place : ℕ) (wire : ItemWire) (i : ItemOut) → slice_get w.wires place ≡ Some wire
-    → StepFollows who logins (by_number w.wires) v (place + 1) wire (on_item (place + 1) i w.server) → ServerFollows who logins (served_item place i w).server (by_number (served_item place i w).wires) v
-world_follows who logins w v place wire i there step = record {
+pub world_follows : (who : Identity) (logins : ℕ → Login) (w : ItemWorld) (v : View ItemOut) (place : ℕ) (wire : ItemWire) (i : ItemOut) (done : List (Deed ItemOut)) → slice_get w.wires place ≡ Some wire
+    → StepFollows who logins (by_number w.wires) v (place + 1) wire (on_item (place + 1) i w.server) done → ServerFollows who logins (served_item place i w).server (by_number (served_item place i w).wires) v done
+world_follows who logins w v place wire i done there step = record {
   moves = step.moves;
   next = step.next;
   leads = step.leads;
+  does = step.does;
   server = step.server;
   pipes =
       pipes_as who logins (sent (on_item (place + 1) i w.server).outs (with_at (place + 1) (handed_up wire) (by_number w.wires))) (by_number (served_item place i w).wires) step.next

@@ -14,6 +14,7 @@ pub mod HallsLeft
 pub mod Leavings
 pub mod Shuts
 pub mod FooterRows
+pub mod Parkings
 pub mod GoneRows
 -- ---- bindings
 pub mod BindReads
@@ -31,7 +32,13 @@ pub mod OtherRows
 pub mod OtherEnds
 -- ---- items
 pub mod ItemsTaken
--- ---- for resumptions of sessions that live
+-- ---- resumptions of sessions that live
 pub mod Resuming
 pub mod ResumeRows
+pub mod Demanding
 pub mod ResumeTaken
+pub mod ResumeCounts
+pub mod ResumeHigh
+pub mod Swapped
+pub mod ResumeOn
+pub mod Resumptions

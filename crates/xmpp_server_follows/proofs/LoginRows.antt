@@ -98,13 +98,13 @@ module _ (who : Identity) (logins : ℕ → Login) (h : Hall ItemOut) (wires : T
 
     start_follows : p.conn.phase ≡ Start → IsTaken who logins h wires v k p.wire Hdr
     start_follows is =
-        subst (StepFollows who logins wires v k p.wire) (sym (start_step is))
+        subst (λ t. StepFollows who logins wires v k p.wire t []) (sym (start_step is))
         (hand_follows who logins h wires v k Hdr p Sasl (Head ∷ Feat ∷ []) phase.Login (header_item who.domain k (logins k).yours ∷ features_item false ∷ []) (ap (λ q. server_hand q Hdr) is) refl
         (headers false (ap is_behind_login (client_at_start v k p.conn (kept_here who logins h wires v k Hdr p) p.is is))) (All-nil IsForClient))
 
     restart_follows : p.conn.phase ≡ Restart → IsTaken who logins h wires v k p.wire Hdr
     restart_follows is =
-        subst (StepFollows who logins wires v k p.wire) (sym (restart_step is))
+        subst (λ t. StepFollows who logins wires v k p.wire t []) (sym (restart_step is))
         (hand_follows who logins h wires v k Hdr p Ready (Head ∷ Feat ∷ []) (phase.Ready who.account) (header_item who.domain k (logins k).yours ∷ features_item true ∷ []) (ap (λ q. server_hand q Hdr) is) refl
         (headers true (ap is_behind_login (client_at_restart v k p.conn (kept_here who logins h wires v k Hdr p) p.is p.rest is p.first))) (All-nil IsForClient))
 
@@ -127,7 +127,7 @@ module _ (who : Identity) (logins : ℕ → Login) (h : Hall ItemOut) (wires : T
 
     pub auth_follows : IsTaken who logins h wires v k p.wire Auth
     auth_follows =
-        subst (StepFollows who logins wires v k p.wire) (sym auth_step)
+        subst (λ t. StepFollows who logins wires v k p.wire t []) (sym auth_step)
         (hand_follows who logins h wires v k Auth p Challenge (Chal ∷ []) (phase.Challenge negotiation) (challenge_item (exchange_of who (logins k)).message ∷ []) (ap (λ q. server_hand q Auth) is) refl refl (All-nil IsForClient))
 
   module _ (p : IsFirst who logins h wires v k Resp) (is : p.conn.phase ≡ Challenge) where
@@ -146,7 +146,7 @@ module _ (who : Identity) (logins : ℕ → Login) (h : Hall ItemOut) (wires : T
 
     pub response_follows : IsTaken who logins h wires v k p.wire Resp
     response_follows =
-        subst (StepFollows who logins wires v k p.wire) (sym response_step)
+        subst (λ t. StepFollows who logins wires v k p.wire t []) (sym response_step)
         (hand_follows who logins h wires v k Resp p Restart (Succ ∷ []) (phase.Restart who.account) (success_item (server_final_message (logins k).reply.verifier) ∷ []) (ap (λ q. server_hand q Resp) is) refl refl (All-nil IsForClient))
 
 pub login_follows : (who : Identity) (logins : ℕ → Login) (h : Hall ItemOut) (wires : Table ItemWire) (v : View ItemOut) (k : ℕ) (word : UpWord ItemOut) (p : IsFirst who logins h wires v k word)

@@ -49,11 +49,12 @@ module _ (who : Identity) (logins : ℕ → Login) (h : Hall ItemOut) (wires : T
     free = shows.free;
   }
 
-  stays_so : IsRowShown v.row (session_named who.account who.resource (filter stays h.sessions)) → ServerFollows who logins (at_moment now h) wires v
+  stays_so : IsRowShown v.row (session_named who.account who.resource (filter stays h.sessions)) → ServerFollows who logins (at_moment now h) wires v []
   stays_so row = record {
     moves = [];
     next = v;
     leads = refl;
+    does = refl;
     server = thinned_shows v.row row;
     pipes = pipes;
     client = record { here = refl; own = refl; epoch = refl; conns = λ k. keeps_all (v.conns k) };
@@ -63,7 +64,7 @@ module _ (who : Identity) (logins : ℕ → Login) (h : Hall ItemOut) (wires : T
   no_session None shown = refl
   no_session (Some s) shown = absurd shown
 
-  without_row : v.row ≡ None → ServerFollows who logins (at_moment now h) wires v
+  without_row : v.row ≡ None → ServerFollows who logins (at_moment now h) wires v []
   without_row none =
       let nobody = no_session (session_named who.account who.resource h.sessions) (subst (λ o. IsRowShown o (session_named who.account who.resource h.sessions)) none shows.row) in
       let still = none_left (is_named who.account who.resource) stays h.sessions nobody in
@@ -73,12 +74,12 @@ module _ (who : Identity) (logins : ℕ → Login) (h : Hall ItemOut) (wires : T
     live : IsLive who h row
     live = live_of who logins h v row shows is
 
-    lives_on : stays live.session ≡ true → ServerFollows who logins (at_moment now h) wires v
+    lives_on : stays live.session ≡ true → ServerFollows who logins (at_moment now h) wires v []
     lives_on left =
         let found = left_found (is_named who.account who.resource) stays h.sessions live.session live.named left in
         stays_so (subst (λ o. IsRowShown o (session_named who.account who.resource (filter stays h.sessions))) (sym is) (subst (IsRowShown (Some row)) (sym found) live.row))
 
-    expires : stays live.session ≡ false → ServerFollows who logins (at_moment now h) wires v
+    expires : stays live.session ≡ false → ServerFollows who logins (at_moment now h) wires v []
     expires gone =
         let expired : is_expired (max h.moment now) live.session ≡ true = not_false (is_expired (max h.moment now) live.session) gone in
         let away : live.session.shown.conn ≡ None = is_off live.session.shown.conn (first_true (is_none live.session.shown.conn) (nat_le RESUMABLE_FOR (max h.moment now - live.session.shown.parked_at)) expired) in
@@ -87,17 +88,18 @@ module _ (who : Identity) (logins : ℕ → Login) (h : Hall ItemOut) (wires : T
           moves = EndsRow ∷ [];
           next = record v { row = None };
           leads = (record v { row = None }, record { row = row; is_row = is; off = sym live.row.conn ∙ away; gives = refl }, refl);
+          does = refl;
           server = thinned_shows None (subst (IsRowShown None) (sym nobody) tt);
           pipes = record { each = pipes.each };
           client = record { here = refl; own = refl; epoch = refl; conns = λ k. keeps_all (v.conns k) };
         }
 
-    with_row : ServerFollows who logins (at_moment now h) wires v
+    with_row : ServerFollows who logins (at_moment now h) wires v []
     with_row = elim (cases_Bool (stays live.session)) [ inl left ↦ lives_on left | inr gone ↦ expires gone ]
 
-  pub moment_follows : ServerFollows who logins (at_moment now h) wires v
+  pub moment_follows : ServerFollows who logins (at_moment now h) wires v []
   moment_follows = go v.row refl
     where
-      go : (o : Option (Row ItemOut)) → v.row ≡ o → ServerFollows who logins (at_moment now h) wires v
+      go : (o : Option (Row ItemOut)) → v.row ≡ o → ServerFollows who logins (at_moment now h) wires v []
       go None none = without_row none
       go (Some row) is = with_row row is

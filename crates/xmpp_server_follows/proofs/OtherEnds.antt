@@ -65,10 +65,10 @@ module _ (who whom : Identity) (logins : ℕ → Login) (h : Hall ItemOut) (wire
       row_same (Some t) is = left_found (is_named whom.account whom.resource) (λ s. not (is_at k s)) h.sessions t is (stays_so t is) ∙ sym is
 
 pub foot_stays : (who whom : Identity) (logins others : ℕ → Login) (h : Hall ItemOut) (wires : Table ItemWire) (v u : View ItemOut) (k : ℕ) (p : IsFirst who logins h wires v k Foot) → AreApart who whom → ServerShows whom others h u → PipesShow whom others wires u
-    → StepFollows whom others wires u k p.wire (on_item k (up_item who (logins k) Foot) h)
+    → StepFollows whom others wires u k p.wire (on_item k (up_item who (logins k) Foot) h) []
 foot_stays who whom logins others h wires v u k p apart shows pipes =
     let none = not_its who whom others h wires u apart shows pipes k p.wire p.there (wire_here who logins h wires v k Foot p).of in
-    subst (StepFollows whom others wires u k p.wire) (sym (foot_step who logins h wires v k p))
+    subst (λ t. StepFollows whom others wires u k p.wire t []) (sym (foot_step who logins h wires v k p))
     (nothing_moves whom others (with_sessions (filter (λ s. not (is_at k s)) h.sessions) (without_conn k h)) (sent (shuts_at k (Closing ∷ [])) (with_at k (handed_up p.wire) wires)) u
     (left_stays who whom others h wires u apart shows pipes k none (λ s seat. p.server.seated k p.conn s p.is seat))
     (pipes_stay who whom others h wires u apart shows pipes k p.wire (shuts_at k (Closing ∷ [])) p.there (wire_here who logins h wires v k Foot p).of (shuts_are_for k (Closing ∷ []))))

@@ -123,11 +123,12 @@ module _ (who whom : Identity) (logins : ℕ → Login) (h : Hall ItemOut) (wire
       row_same = named_changed whom.account whom.resource n f h.sessions keeps ∙ row_so (session_named whom.account whom.resource h.sessions) refl
 
 -- nothing moves
-pub nothing_moves : (whom : Identity) (logins : ℕ → Login) (h : Hall ItemOut) (wires : Table ItemWire) (v : View ItemOut) → ServerShows whom logins h v → PipesShow whom logins wires v → ServerFollows whom logins h wires v
+pub nothing_moves : (whom : Identity) (logins : ℕ → Login) (h : Hall ItemOut) (wires : Table ItemWire) (v : View ItemOut) → ServerShows whom logins h v → PipesShow whom logins wires v → ServerFollows whom logins h wires v []
 nothing_moves whom logins h wires v shows pipes = record {
   moves = [];
   next = v;
   leads = refl;
+  does = refl;
   server = shows;
   pipes = pipes;
   client = record { here = refl; own = refl; epoch = refl; conns = λ k. keeps_all (v.conns k) };

@@ -149,10 +149,11 @@ module _ (who : Identity) (logins : ℕ → Login) (h : Hall ItemOut) (wires : T
         let puts : List (DownWord ItemOut) = Down (Ack row.handled) ∷ [] in
         let sessions : Table (links.Session ItemOut) = alter (λ q s. stated_if (has (Some row.number) q) s) v.sessions in
         let next : View ItemOut = record v { conns = with_at k (taken who logins h wires v k (Up Req) p p.conn.phase puts) v.conns; sessions = sessions } in
-        subst (StepFollows who logins wires v k p.wire) (sym request_step) (record {
+        subst (λ t. StepFollows who logins wires v k p.wire t []) (sym request_step) (record {
           moves = TakesRequest k ∷ [];
           next = next;
           leads = (next, record { conn = p.conn; is = p.is; rest = p.rest; first = p.first; row = row; is_row = there.1; on = there.3; counted = there.4; gives = refl }, refl);
+          does = refl;
           server = row_shows who logins h v p.server k p.conn p.is (taken who logins h wires v k (Up Req) p p.conn.phase puts) v.row sessions (known_altered (λ q s. stated_if (has (Some row.number) q) s) v) refl p.server.row;
           pipes = taken_pipes who logins h wires v k (Up Req) p p.conn.phase puts (ack_item (told_count row.handled) ∷ []) next (λ j. refl) refl (All-nil IsForClient);
           client = taken_client who logins h wires v k (Up Req) p p.conn.phase puts next refl refl refl refl;
@@ -179,10 +180,11 @@ module _ (who : Identity) (logins : ℕ → Login) (h : Hall ItemOut) (wires : T
         let after : Row ItemOut = record row { counted = true } in
         let sessions : Table (links.Session ItemOut) = enabled_sessions row.number (is_flowing p.conn.wires) v in
         let next : View ItemOut = record v { conns = with_at k d v.conns; row = Some after; sessions = sessions } in
-        subst (StepFollows who logins wires v k p.wire) (sym enable_step) (record {
+        subst (λ t. StepFollows who logins wires v k p.wire t []) (sym enable_step) (record {
           moves = TakesEnable k ∷ [];
           next = next;
           leads = (next, record { conn = p.conn; is = p.is; rest = p.rest; first = p.first; row = row; is_row = there.1; on = there.3; uncounted = there.4; gives = refl }, refl);
+          does = refl;
           server =
               row_shows who logins enabled_hall (record v { row = Some after; sessions = sessions })
               (session_shows who logins h v row after (enables true) sessions (known_enabled row.number (is_flowing p.conn.wires) v) p.server there.1 enables_keeps (enabled_row row) (few_wait who logins h wires v k Enable p false there))
@@ -231,10 +233,11 @@ module _ (who : Identity) (logins : ℕ → Login) (h : Hall ItemOut) (wires : T
         let asked : ServerShows who logins asked_hall (record v { row = Some after; sessions = sessions }) =
         session_shows who logins acked_hall (record v { row = Some after; sessions = sessions }) after after (asks false) sessions (known_same (record v { row = Some after; sessions = sessions })) acked refl (asks_keeps false) (asked_row false after)
         (λ s is. subst (λ q. length q ≤ MOST_UNACKNOWLEDGED) (sym is.waiting) few_left) in
-        subst (StepFollows who logins wires v k p.wire) (sym count_step) (record {
+        subst (λ t. StepFollows who logins wires v k p.wire t []) (sym count_step) (record {
           moves = TakesCount k n ∷ [];
           next = next;
           leads = (next, record { conn = p.conn; is = p.is; rest = p.rest; first = p.first; row = row; is_row = there.1; on = there.3; counted = there.4; gives = refl }, refl);
+          does = refl;
           server = row_shows who logins asked_hall (record v { row = Some after; sessions = sessions }) asked k p.conn p.is d (Some after) sessions (known_same (record v { row = Some after; sessions = sessions })) refl asked.row;
           pipes = taken_pipes who logins h wires v k (Up (Ack n)) p p.conn.phase [] [] next (λ j. refl) refl (All-nil IsForClient);
           client = taken_client who logins h wires v k (Up (Ack n)) p p.conn.phase [] next refl refl refl refl;

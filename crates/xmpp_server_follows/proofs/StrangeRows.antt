@@ -106,10 +106,11 @@ module _ (who : Identity) (logins : ℕ → Login) (h : Hall ItemOut) (wires : T
         let puts : List (DownWord ItemOut) = Failed ∷ [] in
         let d = taken who logins h wires v k (ResumeAt q n) p p.conn.phase puts in
         let next : View ItemOut = record v { conns = with_at k d v.conns } in
-        subst (StepFollows who logins wires v k p.wire) (sym strange_step) (record {
+        subst (λ t. StepFollows who logins wires v k p.wire t []) (sym strange_step) (record {
           moves = TakesStrangeResume k ∷ [];
           next = next;
           leads = (next, record { conn = p.conn; is = p.is; p = q; h = n; rest = p.rest; first = p.first; no_row = no_row; gives = refl }, refl);
+          does = refl;
           server = row_shows who logins h v p.server k p.conn p.is d v.row v.sessions (known_same v) refl p.server.row;
           pipes = taken_pipes who logins h wires v k (ResumeAt q n) p p.conn.phase puts (refused_item ItemNotFound ∷ []) next (λ j. refl) refl (All-nil IsForClient);
           client = taken_client who logins h wires v k (ResumeAt q n) p p.conn.phase puts next refl refl refl refl;

@@ -1,23 +1,22 @@
 -- A word stands first on its way up: what the server does on its item is to be moves of the links.
-use Rattle.std.specs.Prelude.{◌≡◌, ◌≢◌, ◌⊎◌, ℕ, ◌+◌, ◌<◌, ◌≤◌, ◌^◌, true, false, nat_le, length, List, [], ◌∷◌, Some, None}
+use Rattle.std.specs.Prelude.{◌≡◌, ◌≢◌, ◌⊎◌, ℕ, ◌+◌, ◌<◌, ◌^◌, true, length, List, [], ◌∷◌, Some}
 use Rattle.xmpp_desk.specs.Moments.{gone_at}
 use Rattle.xmpp_desk.specs.State.{Hall, Step}
-use Rattle.xmpp_desk.specs.declared.limits.TheConstants.{ASKS_AT}
+use Rattle.xmpp_device_views.specs.Deeds.{Deed}
 use Rattle.xmpp_device_views.specs.Identities.{Identity, IsNormal, Login}
 use Rattle.xmpp_device_views.specs.Pipes.{PipesShow}
 use Rattle.xmpp_device_views.specs.Sent.{sent}
 use Rattle.xmpp_device_views.specs.Servers.{ServerFollows, ServerShows}
-use Rattle.xmpp_device_views.specs.WordItems.{told_count, up_item}
+use Rattle.xmpp_device_views.specs.WordItems.{up_item}
 use Rattle.xmpp_item_worlds.specs.ItemMoves.{step_of}
 use Rattle.xmpp_item_worlds.specs.ItemPipes.{ItemWire, handed_up, up_end_told}
 use Rattle.xmpp_item_worlds.specs.ItemWorlds.{itself, read_of}
 use Rattle.xmpp_links.specs.Machine.{LinkReached}
 use Rattle.xmpp_links.specs.Stages.{Conn}
-use Rattle.xmpp_links.specs.Views.{Row, Table, View, has, with_at}
+use Rattle.xmpp_links.specs.Views.{Table, View, with_at}
+use Rattle.xmpp_links.specs.Views as links
 use Rattle.xmpp_links.specs.Wires.{up_words}
 use Rattle.xmpp_links.specs.Words.{Ack, Auth, Enable, Foot, Hdr, Req, Resp, Up, UpWord}
-use Rattle.xmpp_live.specs.Sessions.{Session, resent, session_resumed}
-use Rattle.xmpp_resume.specs.Previds.{previd_of}
 use Rattle.xmpp_server.specs.Table.{after_item}
 use Rattle.xmpp_writer.specs.Items.{ItemOut}
 
@@ -38,13 +37,14 @@ pub record IsFirst (who : Identity) (logins : ℕ → Login) (h : Hall ItemOut) 
 abbrev pub on_item : ℕ → ItemOut → Hall ItemOut → Step ItemOut
 on_item k i h = after_item itself k (read_of i) (step_of h)
 
--- behind a step, of which an item of this connection was handed over, the links have moved as this says
-abbrev pub StepFollows : Identity → (ℕ → Login) → Table ItemWire → View ItemOut → ℕ → ItemWire → Step ItemOut → Type 0
-StepFollows who logins wires v k wire done = ServerFollows who logins done.hall (sent done.outs (with_at k (handed_up wire) wires)) v
+-- behind a step, of which an item of this connection was handed over, the links have moved as this says, and put and
+-- handled these stanzas
+abbrev pub StepFollows : Identity → (ℕ → Login) → Table ItemWire → View ItemOut → ℕ → ItemWire → Step ItemOut → List (Deed ItemOut) → Type 0
+StepFollows who logins wires v k wire step done = ServerFollows who logins step.hall (sent step.outs (with_at k (handed_up wire) wires)) v done
 
--- the word's item is taken
+-- the word's item is taken, and no stanza is put or handled
 abbrev pub IsTaken : Identity → (ℕ → Login) → Hall ItemOut → Table ItemWire → View ItemOut → ℕ → ItemWire → UpWord ItemOut → Type 0
-IsTaken who logins h wires v k wire word = StepFollows who logins wires v k wire (on_item k (up_item who (logins k) word) h)
+IsTaken who logins h wires v k wire word = StepFollows who logins wires v k wire (on_item k (up_item who (logins k) word) h) []
 
 -- the words of a login
 abbrev pub IsOfLogin : UpWord ItemOut → Type 0
@@ -80,21 +80,15 @@ pub record IsOver (who : Identity) (logins : ℕ → Login) (h : Hall ItemOut) (
 
 -- the server hears of it
 abbrev pub IsHeard : Identity → (ℕ → Login) → Hall ItemOut → Table ItemWire → View ItemOut → ℕ → ItemWire → Type 0
-IsHeard who logins h wires v k wire = ServerFollows who logins (gone_at k h) (with_at k (up_end_told wire) wires) v
+IsHeard who logins h wires v k wire = ServerFollows who logins (gone_at k h) (with_at k (up_end_told wire) wires) v []
 
 -- ---- resumptions
 
--- no session of the account that can be resumed has the number
-abbrev pub IsStrange : Identity → Hall ItemOut → ℕ → Type 0
-IsStrange who h q = session_resumed (previd_of q) who.account h.sessions ≡ None
-
--- a session is named that is parked, on the connection that the client works on, or late on another one with a count that is
--- not behind the one acknowledged; and of its stanzas fewer are sent again than a request is due for
-pub record IsParkedHere (who : Identity) (h : Hall ItemOut) (v : View ItemOut) (k q n : ℕ) (s : Session ItemOut) : Type 0 where
-  pub here : (v.here ≡ Some k) ⊎ ((has v.here k ≡ false) × ((r : Row ItemOut) → v.row ≡ Some r → r.acked ≤ n))
-  pub found : session_resumed (previd_of q) who.account h.sessions ≡ Some s
-  pub off : s.shown.conn ≡ None
-  pub few : nat_le ASKS_AT (length (resent (told_count n) s)) ≡ false
+-- In no session of the device the server put 2 ^ 32 stanzas. For an old resumption, on a connection that was left, can state
+-- a count that is behind the one acknowledged; and since counts are told modulo 2 ^ 32, the server sees that it is none of
+-- its queue only while it is behind by less than that.
+pub record AreCountable (v : View ItemOut) : Type 0 where
+  pub few : (q : ℕ) (s : links.Session ItemOut) → v.sessions q ≡ Some s → length s.down.put < 2 ^ 32
 
 -- ---- other devices
 
@@ -110,7 +104,7 @@ IsOwnWord word = IsOfLogin word ⊎ IsOfManagement word
 
 -- of another device nothing moves, or as the links say
 abbrev pub IsLeft : Identity → Identity → (ℕ → Login) → (ℕ → Login) → Hall ItemOut → Table ItemWire → View ItemOut → ℕ → ItemWire → UpWord ItemOut → Type 0
-IsLeft who whom logins others h wires u k wire word = StepFollows whom others wires u k wire (on_item k (up_item who (logins k) word) h)
+IsLeft who whom logins others h wires u k wire word = StepFollows whom others wires u k wire (on_item k (up_item who (logins k) word) h) []
 
 -- ---- items
 

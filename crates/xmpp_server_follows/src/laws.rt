@@ -1,7 +1,8 @@
 //! What a server does on each item is moves of the links.
-ghost use Rattle.std.specs.Prelude.{◌≡◌, ℕ, ◌+◌, Some, slice_get};
+ghost use Rattle.std.specs.Prelude.{◌≡◌, ℕ, ◌+◌, List, [], Some, slice_get};
 ghost use Rattle.xmpp_desk.specs.Moments.{at_moment};
 ghost use Rattle.xmpp_desk.specs.State.{Hall};
+ghost use Rattle.xmpp_device_views.specs.Deeds.{Deed};
 ghost use Rattle.xmpp_device_views.specs.Identities.{Identity, IsNormal, Login};
 ghost use Rattle.xmpp_device_views.specs.Pipes.{PipesShow, by_number};
 ghost use Rattle.xmpp_device_views.specs.Servers.{ServerFollows, ServerShows};
@@ -11,8 +12,7 @@ ghost use Rattle.xmpp_item_worlds.specs.ItemWorlds.{ItemWorld};
 ghost use Rattle.xmpp_links.specs.Machine.{LinkReached};
 ghost use Rattle.xmpp_links.specs.Views.{Table, View};
 ghost use Rattle.xmpp_links.specs.Words.{Bind, Foot, ResumeAt, UpWord};
-ghost use Rattle.xmpp_live.specs.Sessions.{Session};
-ghost use Rattle.xmpp_server_follows.specs.Taking.{AreApart, HasFirst, HasNumber, IsFirst, IsHeard, IsLeft, IsNext, IsOfLogin, IsOfManagement, IsOver, IsOwnWord, IsParkedHere, IsStrange, IsTaken, StepFollows, on_item};
+ghost use Rattle.xmpp_server_follows.specs.Taking.{AreApart, AreCountable, HasFirst, HasNumber, IsFirst, IsHeard, IsLeft, IsNext, IsOfLogin, IsOfManagement, IsOver, IsOwnWord, IsTaken, StepFollows, on_item};
 ghost use Rattle.xmpp_writer.specs.Items.{ItemOut};
 
 /// A law: on each word of a login (RFC 6120, sections 4.3 and 6) the server does what it does in the links: it is one
@@ -50,17 +50,20 @@ pub fn bindings_follow()
         → IsTaken who logins h wires v k p.wire Bind }
 {}
 
-/// A law: on a resumption (XEP-0198, section 5) of a session that the server doesn't have, or can't resume, likewise:
-/// it says so, and the connection stays as it is.
-pub fn strange_resumptions_follow()
-    ensures { (who : Identity) (logins : ℕ → Login) (h : Hall ItemOut) (wires : Table ItemWire) (v : View ItemOut) (k q n : ℕ) (p : IsFirst who logins h wires v k (ResumeAt q n)) → IsStrange who h q
+/// A law: on a resumption (XEP-0198, section 5) likewise. Where the server doesn't have the session, or can't resume it,
+/// it says so, and the connection stays as it is. Else the session comes to the connection, from where it was parked, or
+/// from another connection, where the stream ends first, by `conflict`; what is behind the count is sent again, and a
+/// request goes out behind it where as many stanzas wait. Only on a connection that the client left a count can be behind
+/// the one acknowledged: then the session ends.
+pub fn resumptions_follow()
+    ensures { (who : Identity) (logins : ℕ → Login) (h : Hall ItemOut) (wires : Table ItemWire) (v : View ItemOut) (k q n : ℕ) (p : IsFirst who logins h wires v k (ResumeAt q n)) → AreCountable v
         → IsTaken who logins h wires v k p.wire (ResumeAt q n) }
 {}
 
 /// A law: as time passes a session that was parked for too long ends in the links too, and nothing else happens.
 pub fn moments_follow()
     ensures { (who : Identity) (logins : ℕ → Login) (h : Hall ItemOut) (wires : Table ItemWire) (v : View ItemOut) (now : ℕ) → ServerShows who logins h v → PipesShow who logins wires v
-        → ServerFollows who logins (at_moment now h) wires v }
+        → ServerFollows who logins (at_moment now h) wires v [] }
 {}
 
 /// A law: what the server does on a word of a login, on one on acknowledgement and on a footer leaves the part of
@@ -75,15 +78,6 @@ pub fn other_devices_stay()
 pub fn items_are_words()
     ensures words { (who : Identity) (logins : ℕ → Login) (h : Hall ItemOut) (wires : Table ItemWire) (v : View ItemOut) (k : ℕ) (w : ItemWire) (i : ItemOut) → IsNormal who → LinkReached v → ServerShows who logins h v
         → PipesShow who logins wires v → IsNext who wires k w i → HasFirst who logins h wires v k w i }
-    ensures worlds { (who : Identity) (logins : ℕ → Login) (w : ItemWorld) (v : View ItemOut) (place : ℕ) (wire : ItemWire) (i : ItemOut) → slice_get w.wires place ≡ Some wire
-        → StepFollows who logins (by_number w.wires) v (place + 1) wire (on_item (place + 1) i w.server) → ServerFollows who logins (served_item place i w).server (by_number (served_item place i w).wires) v }
-{}
-
-/// A law: on a resumption of a session that is parked likewise, on the connection that the client works on, and on
-/// another one that it left, where the count isn't behind the one acknowledged: the count names a place in the queue,
-/// and what is behind that is sent again, in one move. (Where ten stanzas or more are sent again, a request goes out
-/// behind them: of that this law does not speak.)
-pub fn parked_resumptions_follow()
-    ensures { (who : Identity) (logins : ℕ → Login) (h : Hall ItemOut) (wires : Table ItemWire) (v : View ItemOut) (k q n : ℕ) (p : IsFirst who logins h wires v k (ResumeAt q n)) (s : Session ItemOut) → IsParkedHere who h v k q n s
-        → IsTaken who logins h wires v k p.wire (ResumeAt q n) }
+    ensures worlds { (who : Identity) (logins : ℕ → Login) (w : ItemWorld) (v : View ItemOut) (place : ℕ) (wire : ItemWire) (i : ItemOut) (done : List (Deed ItemOut)) → slice_get w.wires place ≡ Some wire
+        → StepFollows who logins (by_number w.wires) v (place + 1) wire (on_item (place + 1) i w.server) done → ServerFollows who logins (served_item place i w).server (by_number (served_item place i w).wires) v done }
 {}

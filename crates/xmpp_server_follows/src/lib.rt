@@ -5,6 +5,5 @@ mod laws;
 
 pub use laws::{
     acknowledgements_follow, bindings_follow, ends_follow, footers_follow, items_are_words,
-    logins_follow, moments_follow, other_devices_stay, parked_resumptions_follow,
-    strange_resumptions_follow,
+    logins_follow, moments_follow, other_devices_stay, resumptions_follow,
 };

@@ -4,6 +4,8 @@ pub mod Flows
 pub mod Emitted
 pub mod Taken
 pub mod Placed
+-- ---- moves
+pub mod MoreMoves
 -- ---- the server
 pub mod Found
 pub mod Halls
