@@ -64,7 +64,7 @@ get_in_take (suc m) [] i x at = absurd (none-some x at)
 get_in_take (suc m) (y ∷ ys) zero x at = at
 get_in_take (suc m) (y ∷ ys) (suc i) x at = get_in_take m ys i x at
 
-get_in_drop : (k : ℕ) (xs : List EntryView) (i : ℕ) (x : EntryView) → slice_get (drop k xs) i ≡ Some x → slice_get xs (k + i) ≡ Some x
+pub get_in_drop : (k : ℕ) (xs : List EntryView) (i : ℕ) (x : EntryView) → slice_get (drop k xs) i ≡ Some x → slice_get xs (k + i) ≡ Some x
 get_in_drop zero xs i x at = let same : zero + i ≡ i = omega arith in rw same at
 get_in_drop (suc k) [] i x at = absurd (none-some x at)
 get_in_drop (suc k) (y ∷ ys) i x at = let same : suc k + i ≡ suc (k + i) = omega arith in rw same (get_in_drop k ys i x at)
