@@ -7,3 +7,4 @@ pub mod ActsFall
 pub mod RowsFall
 pub mod ItemsFall
 pub mod Within
+pub mod WorldsWithin

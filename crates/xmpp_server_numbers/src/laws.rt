@@ -1,12 +1,15 @@
 //! The laws.
-ghost use Rattle.std.specs.Prelude.{◌+◌, ◌<◌, ◌^◌, ◌≤◌, ℕ, List};
+ghost use Rattle.std.specs.Prelude.{◌+◌, ◌<◌, ◌^◌, ◌≤◌, ℕ, List, length};
 ghost use Rattle.xmpp_desk.specs.Moments.{at_moment, gone_at, with_fresh};
 ghost use Rattle.xmpp_desk.specs.State.{Hall, Step};
 ghost use Rattle.xmpp_framing.specs.declared.items.Item.{Item};
+ghost use Rattle.xmpp_item_worlds.specs.ItemMoves.{ItemMove, all_moved, moved};
+ghost use Rattle.xmpp_item_worlds.specs.ItemWorlds.{ItemWorld};
 ghost use Rattle.xmpp_login.specs.declared.account.Account.{Account};
 ghost use Rattle.xmpp_server.specs.Configs.{hall_at_start};
 ghost use Rattle.xmpp_server.specs.Table.{after_item};
 ghost use Rattle.xmpp_server_numbers.specs.Unbound.{IsOrdered, IsWithin, Rests, unbound};
+ghost use Rattle.xmpp_server_numbers.specs.Worlds.{IsWorldWithin};
 ghost use Rattle.xmpp_writer.specs.Items.{ItemOut};
 
 /// A law: the next number of a session and the count of open connections without a session, together, never rise, but
@@ -32,4 +35,12 @@ pub fn numbers_are_within_connections<A>()
     ensures moment { (now n : ℕ) (h : Hall A) → IsWithin n h → IsWithin n (at_moment now h) }
     ensures fresh { (k : ℕ) (entropy : List ℕ) (n : ℕ) (h : Hall A) → IsWithin n h → IsWithin (n + 1) (with_fresh k entropy h) }
     ensures next { (n : ℕ) (h : Hall A) → IsWithin n h → h.next ≤ n + 1 }
+{}
+
+/// A law: so it is in worlds of items. Where no more numbers were given than connections were dialed, it is so behind any
+/// move (`one`), and behind moves one after another (`many`), as long as there are fewer than 2 ^ 64 - 1 connections.
+pub fn worlds_give_no_more_numbers()
+    ensures one { (m : ItemMove) (w : ItemWorld) → IsWorldWithin w → length (moved m w).wires + 1 < 2 ^ 64 → IsWorldWithin (moved m w) }
+    ensures many { (moves : List ItemMove) (w : ItemWorld) → IsWorldWithin w → length (all_moved moves w).wires + 1 < 2 ^ 64
+        → IsWorldWithin (all_moved moves w) }
 {}

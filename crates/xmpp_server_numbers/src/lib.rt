@@ -3,4 +3,6 @@
 
 mod laws;
 
-pub use laws::{numbers_are_given_to_connections, numbers_are_within_connections};
+pub use laws::{
+    numbers_are_given_to_connections, numbers_are_within_connections, worlds_give_no_more_numbers,
+};

@@ -1,0 +1,1 @@
+-- Drifts are events of their device, and an act by which no message is taken leaves the other devices.

@@ -1,0 +1,1 @@
+//! Deeds of the links in sessions as lists.
