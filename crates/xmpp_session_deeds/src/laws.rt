@@ -6,7 +6,7 @@ ghost use Rattle.xmpp_links.specs.Events.{seen};
 ghost use Rattle.xmpp_links.specs.Machine.{LinkMove, LinkReached, LinkReaches};
 ghost use Rattle.xmpp_links.specs.Views.{View};
 ghost use Rattle.xmpp_links_events.specs.Lists.{IsDevice, Stanzas};
-ghost use Rattle.xmpp_session_deeds.specs.Deeds.{AllDrift, DoesAll, DoesAmid, Drift, Drifts, IsDrifted, IsGivenAtOnce, IsPlain, IsTakenAtOnce, drift_events, with_device};
+ghost use Rattle.xmpp_session_deeds.specs.Deeds.{DoesAll, DoesAmid, Drift, Drifts, IsGivenAtOnce, IsPlain, IsTakenAtOnce, drift_events, with_device};
 ghost use Rattle.xmpp_sessions.specs.Devices.{Device, Sessions, World};
 ghost use Rattle.xmpp_sessions.specs.Events.{Act, Reaches, acted, around, own, taken_by};
 
@@ -31,12 +31,10 @@ pub fn stanzas_are_given_at_once<A>()
     ensures taken { (r : Stanzas A) (z : A) (zs : List A) (d last : Sessions) → DoesAmid r (Takes z ∷ gives_all zs) d last → IsTakenAtOnce (r.up z) (map r.down zs) d last }
 {}
 
-/// A law: drifts are events of the device, and nothing else happens in the world of the applications (`drifts`); also where
-/// all devices drift, each so that something is so of it (`all`). So it is of each act by which no message is taken: the
-/// device at the place does it, and the others stay (`alone`).
+/// A law: drifts are events of the device, and nothing else happens in the world of the applications (`drifts`). So it is of
+/// each act by which no message is taken: the device at the place does it, and the others stay (`alone`).
 pub fn drifts_are_events()
     ensures drifts { (xs : List Drift) (w : World) (i : ℕ) (d : Device) (last : Sessions) → slice_get w.devices i ≡ Some d → Drifts xs d.sessions last
         → Reaches (drift_events i xs) w (with_device i (record d { sessions = last }) w) }
-    ensures all { (Is : ℕ → Device → Sessions → Type 0) (w : World) → ((i : ℕ) (d : Device) → slice_get w.devices i ≡ Some d → (x : IsDrifted d) × Is i d x.last) → AllDrift Is w }
     ensures alone { (w : World) (i : ℕ) (act : Act) (d : Device) → slice_get w.devices i ≡ Some d → taken_by w.accounts w.clock i d act ≡ [] → acted w i act d ≡ with_device i (own (around w d) act d) w }
 {}
