@@ -5,3 +5,5 @@ pub mod Counts
 pub mod Ends
 pub mod Saying
 pub mod Asking
+pub mod Served
+pub mod Grown

@@ -11,8 +11,9 @@ use Rattle.xmpp_schedule.specs.Contents.{Owned}
 use Rattle.xmpp_schedule.specs.Grammar.{is_name, is_text}
 use Rattle.xmpp_session_views.specs.Submitted.{SubmissionsShow}
 use Rattle.xmpp_sessions.specs.Answers.{last_in}
-use Rattle.xmpp_sessions.specs.Devices.{Device, Reading, Sessions, epoch_of}
+use Rattle.xmpp_sessions.specs.Devices.{Device, Reading, Sessions, epoch_of, up_put}
 use Rattle.xmpp_sessions.specs.Devices.Stage.{Known}
+use Rattle.xmpp_sessions.specs.Events.{Act, Bind, Enable, End, ServerHandles}
 use Rattle.xmpp_sessions.specs.Kept.{AreLogged, IsSession}
 use Rattle.xmpp_sessions.specs.Stanzas.{Request, Submission}
 use Rattle.xmpp_item_stanzas.specs.Meant.{requested}
@@ -106,3 +107,21 @@ pub record IsEntering (c : ClientView ItemOut) (d : Sessions) : Type 0 where
   pub offline : d.online ≡ false
   pub session : IsSession d.now
   pub unknown : d.now.stage ≢ Known
+
+-- ---- the server
+
+-- nothing more is said, and no more is acknowledged
+pub record SameUps (d e : Sessions) : Type 0 where
+  pub past : e.past ≡ d.past
+  pub n : e.n ≡ d.n
+  pub online : e.online ≡ d.online
+  pub acked : e.now.acked ≡ d.now.acked
+  pub put : up_put e.now ≡ up_put d.now
+
+-- what the server does at a device
+abbrev pub IsOfServer : Act → Type 0
+IsOfServer Bind = Unit {0}
+IsOfServer Enable = Unit {0}
+IsOfServer End = Unit {0}
+IsOfServer (ServerHandles fits full) = Unit {0}
+IsOfServer _ = ⊥

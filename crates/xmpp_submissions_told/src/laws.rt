@@ -1,5 +1,5 @@
 //! What a client's submissions and its log become by calls, counts and sessions.
-ghost use Rattle.std.specs.Prelude.{◌≡◌, ℕ, List, [], ◌∷◌, Bool, true, false, None, Option, Some};
+ghost use Rattle.std.specs.Prelude.{◌≡◌, ℕ, List, [], ◌∷◌, ◌++◌, Bool, true, false, None, Option, Some};
 ghost use Rattle.xmpp_archive.specs.Entries.{EntryView};
 ghost use Rattle.xmpp_client.specs.UserCalls.{catches_up, closes, dials, forgets, says};
 ghost use Rattle.xmpp_client_laws.specs.Calls.{first_client};
@@ -16,7 +16,8 @@ ghost use Rattle.xmpp_item_stanzas.specs.Meant.{requested, submitted};
 ghost use Rattle.xmpp_item_worlds.specs.ItemMoves.{fed_of};
 ghost use Rattle.xmpp_item_worlds.specs.ItemWorlds.{silent_turn};
 ghost use Rattle.xmpp_links_events.specs.Lists.{knows, no_sessions};
-ghost use Rattle.xmpp_log_readings.specs.Shown.{LogShows};
+ghost use Rattle.xmpp_log.specs.Views.{LogView};
+ghost use Rattle.xmpp_log_readings.specs.Shown.{IsReadingGiven, LogShows};
 ghost use Rattle.xmpp_outbox.specs.Sessions.{SessionView, with_waiting};
 ghost use Rattle.xmpp_outbox.specs.Waiting.{counted_in, queued};
 ghost use Rattle.xmpp_report.specs.Addresses.{bare_address, domain};
@@ -24,11 +25,11 @@ ghost use Rattle.xmpp_schedule.specs.Contents.{Owned};
 ghost use Rattle.xmpp_session_views.specs.Built.{IsUpAs};
 ghost use Rattle.xmpp_session_views.specs.Submitted.{SubmissionsShow};
 ghost use Rattle.xmpp_sessions.specs.Answers.{last_in};
-ghost use Rattle.xmpp_sessions.specs.Devices.{Device, Reading, Sessions, new_device};
-ghost use Rattle.xmpp_sessions.specs.Events.{CatchUp, May, acknowledged, ask, goes_offline, moved_down, put_all, put_up, queries, reads_bound};
+ghost use Rattle.xmpp_sessions.specs.Devices.{Device, Reading, Sessions, Take, new_device};
+ghost use Rattle.xmpp_sessions.specs.Events.{Act, Around, CatchUp, May, acknowledged, ask, goes_offline, hear_all, moved_down, own, put_all, put_up, queries, reads_bound};
 ghost use Rattle.xmpp_sessions.specs.Events as events;
 ghost use Rattle.xmpp_sessions.specs.Stanzas.{Carbons, Down, Message, Presence, Query, Request};
-ghost use Rattle.xmpp_submissions_told.specs.Told.{IsAcked, IsBinding, IsCatchingUp, IsCounted, IsEntering, IsSaying, SameLog, SameSaid, next_request, next_submission, queued_where};
+ghost use Rattle.xmpp_submissions_told.specs.Told.{IsAcked, IsBinding, IsCatchingUp, IsCounted, IsEntering, IsOfServer, IsSaying, SameLog, SameSaid, SameUps, next_request, next_submission, queued_where};
 ghost use Rattle.xmpp_writer.specs.Items.{ItemOut};
 
 /// A law: where a device's user submits a message to an account by its name, and its client takes it, the client of the
@@ -101,4 +102,18 @@ pub fn sessions_told()
     ensures entered { (t : Turn ItemOut ItemOut) (d : Sessions) (previd : List ℕ) → IsEntering t.client d → SubmissionsShow (begins in_items t previd).client (put_up Presence (put_up Carbons (knows d))) }
     ensures dialed { (c : ClientView ItemOut) (d : Sessions) (entropy : List ℕ) → SubmissionsShow c d → SubmissionsShow (dials in_items entropy (fed_of c)).turn.client d }
     ensures stays { (c : ClientView ItemOut) (d : Sessions) (p : Phase) → SubmissionsShow c d → SubmissionsShow (record c { phase = p }) d }
+{}
+
+/// A law: what the server does, at a device or for others, tells a client nothing: it shows the same submissions, and its
+/// log the same reading (`acts`, `served`, `hears`, `heard`). A history that grows leaves the log what it is, and what it
+/// has of the history (`grown`, `given`).
+pub fn servers_tell_nothing()
+    ensures same { (c : ClientView ItemOut) (d e : Sessions) → SameUps d e → SubmissionsShow c d → SubmissionsShow c e }
+    ensures acts { (c : ClientView ItemOut) (a : Around) (act : Act) (x : Device) → IsOfServer act → SubmissionsShow c x.sessions → SubmissionsShow c (own a act x).sessions }
+    ensures served { (keep : ℕ) (history : List EntryView) (log : LogView) (a : Around) (act : Act) (x : Device) → IsOfServer act
+        → LogShows keep history log x.reading × IsReadingGiven history x.reading → LogShows keep history log (own a act x).reading × IsReadingGiven history (own a act x).reading }
+    ensures hears { (c : ClientView ItemOut) (takes new : List Take) (full : List ℕ) (j : ℕ) (x : Device) → SubmissionsShow c x.sessions → SubmissionsShow c (hear_all takes full new j x).sessions }
+    ensures heard { (takes new : List Take) (full : List ℕ) (j : ℕ) (x : Device) → (hear_all takes full new j x).reading ≡ x.reading }
+    ensures grown { (keep : ℕ) (history more : List EntryView) (log : LogView) (b : Reading) → IsReadingGiven history b → LogShows keep history log b → LogShows keep (history ++ more) log b }
+    ensures given { (history more : List EntryView) (b : Reading) → IsReadingGiven history b → IsReadingGiven (history ++ more) b }
 {}

@@ -4,4 +4,6 @@
 
 mod laws;
 
-pub use laws::{catch_ups_told, counts_told, requests_told, says_told, sessions_told};
+pub use laws::{
+    catch_ups_told, counts_told, requests_told, says_told, servers_tell_nothing, sessions_told,
+};
