@@ -6,4 +6,5 @@ pub mod Requests
 pub mod Rises
 pub mod Unanswered
 pub mod Said
+pub mod Taken
 pub mod Whole

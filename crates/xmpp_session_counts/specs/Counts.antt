@@ -1,7 +1,7 @@
 -- How large the numbers of a run become, by what its users did.
 use Rattle.std.specs.Prelude.{◌≡◌, ℕ, ◌+◌, ◌*◌, ◌≤◌, ◌≢◌, ◌==◌, true, List, [], ◌∷◌, ◌++◌, length, filter}
 use Rattle.std.specs.List.{AllByRecursion, flat_map}
-use Rattle.xmpp_sessions.specs.Stanzas.{Request, answers, messages, requests}
+use Rattle.xmpp_sessions.specs.Stanzas.{Request, Submission, answers, messages, requests}
 use Rattle.xmpp_sessions.specs.Devices.{Device, Session, Sessions, up_put}
 use Rattle.xmpp_sessions.specs.Events.{Event}
 use Rattle.xmpp_sessions.specs.Events.Act.{CatchUp, ClientHandles, ServerHandles}
@@ -54,3 +54,7 @@ IsBetween i _ = Unit {0}
 -- no stanza of an answer is under way to the client
 abbrev pub IsUnanswered : Device → Type 0
 IsUnanswered d = d.sessions.online ≡ true → answers d.sessions.now.down_rest ≡ []
+
+-- the message is of an epoch up to this one, and its number is within this one
+abbrev pub IsNumberedWithin : ℕ → ℕ → Submission → Type 0
+IsNumberedWithin epoch n m = (m.epoch ≤ epoch) × (m.n ≤ n)

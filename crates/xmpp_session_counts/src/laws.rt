@@ -1,15 +1,15 @@
 //! Laws of how large the numbers of a run become.
-ghost use Rattle.std.specs.Prelude.{◌≡◌, ◌≢◌, ℕ, ◌+◌, ◌*◌, ◌≤◌, ◌++◌, List, None, Some, length, map, slice_get};
+ghost use Rattle.std.specs.Prelude.{◌≡◌, ◌≢◌, ℕ, ◌+◌, ◌*◌, ◌≤◌, ◌++◌, List, None, Some, filter, length, map, slice_get};
 ghost use Rattle.std.specs.List.{AllByRecursion};
 ghost use Rattle.xmpp_sessions.specs.Stanzas.{messages};
-ghost use Rattle.xmpp_sessions.specs.Devices.{Device, OpenPage, World, up_put};
+ghost use Rattle.xmpp_sessions.specs.Devices.{Device, OpenPage, World, epoch_of, up_put};
 ghost use Rattle.xmpp_sessions.specs.Answers.{behind};
 ghost use Rattle.xmpp_sessions.specs.Events.{Event, Moves, Reached, Reaches, beginning};
 ghost use Rattle.xmpp_sessions.specs.Events.Act.{ClientHandles};
 ghost use Rattle.xmpp_sessions.specs.Events.Event.{At};
 ghost use Rattle.xmpp_sessions.specs.Histories.{spoken_in};
-ghost use Rattle.xmpp_sessions.specs.Kept.{Read, Taken};
-ghost use Rattle.xmpp_session_counts.specs.Counts.{IsBetween, IsDownFew, IsUnanswered, IsUpFew, MayAsk, OfEach, number_of, requested, requested_in, said_by};
+ghost use Rattle.xmpp_sessions.specs.Kept.{Read, Taken, is_of};
+ghost use Rattle.xmpp_session_counts.specs.Counts.{IsBetween, IsDownFew, IsNumberedWithin, IsUnanswered, IsUpFew, MayAsk, OfEach, number_of, requested, requested_in, said_by};
 
 /// A law: in each session that a device had, the server put at most 101 stanzas for each one that it handled, and one for
 /// each take (`down`); the client put messages, requests, and two stanzas at most beside them (`up`). So by what the
@@ -57,4 +57,15 @@ pub fn says_are_counted()
         (i : ℕ) (d : Device) → slice_get w.devices i ≡ Some d → OfEach (λ s. length (messages (up_put s)) ≤ length (said_by i events)) d }
     ensures n { (keep : ℕ) (accounts homes : List (List ℕ)) (events : List Event) (w : World) → Reaches events (beginning keep accounts homes) w →
         (i : ℕ) (d : Device) → slice_get w.devices i ≡ Some d → d.sessions.n ≤ length (said_by i events) }
+{}
+
+/// A law: the messages that were taken of a device are of epochs that it reached, and their numbers are no more than its
+/// user said (`device`). So where no device's epoch is above a bound, that of no message that was taken is (`all`).
+pub fn takes_are_counted()
+    ensures device { (keep : ℕ) (accounts homes : List (List ℕ)) (events : List Event) (w : World) → Reaches events (beginning keep accounts homes) w →
+        (i : ℕ) (d : Device) → slice_get w.devices i ≡ Some d →
+        AllByRecursion (λ t. IsNumberedWithin (epoch_of d.sessions) (length (said_by i events)) t.said) (filter (is_of i) w.takes) }
+    ensures all { (keep : ℕ) (accounts homes : List (List ℕ)) (events : List Event) (w : World) (high : ℕ) → Reaches events (beginning keep accounts homes) w →
+        ((i : ℕ) (d : Device) → slice_get w.devices i ≡ Some d → epoch_of d.sessions ≤ high) →
+        AllByRecursion (λ t. IsNumberedWithin high (length (spoken_in events)) t.said) w.takes }
 {}
