@@ -1,5 +1,5 @@
--- A stanza that tells no sender ends no stream, whosever session it comes from; and what a client puts of itself is of this
--- kind (RFC 6120, section 8.1.2.1).
+-- A stanza that tells no sender ends no stream, whosever session it comes from; and what a client puts of itself is of
+-- this kind (RFC 6120, section 8.1.2.1).
 use Rattle.std.proofs.Common.{◌≡◌, ℕ, ◌<◌, ◌≤◌, ◌^◌, Bool, true, false, List, [], length, Option, Some, None, IfSome, Result, Ok, Err, codes, refl, sym, ap, subst, ◌∙◌, arith, unwrap_or}
 use Rattle.std.proofs.lemmas.Bool.Decides.{nat_tests}
 use Rattle.std.specs.Prelude.{nat_lt}

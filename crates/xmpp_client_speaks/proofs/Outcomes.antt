@@ -1,5 +1,5 @@
--- What comes of a stanza that a client handled, or of a call of its user: nothing that the links have, an end of the connection,
--- or one stanza that is put.
+-- What comes of a stanza that a client handled, or of a call of its user: nothing that the links have, an end of the
+-- connection, or one stanza that is put.
 use Rattle.std.proofs.Common.{◌≡◌, Bool, true, false, List, [], ◌∷◌, ◌++◌, Some, refl, if◌then◌else◌}
 use Rattle.xmpp_client_rows.specs.Clients.{Turn}
 use Rattle.xmpp_client_rows.specs.Speech.{Put}

@@ -1,5 +1,5 @@
 -- A client's submissions as those of its sessions.
-use Rattle.std.specs.Prelude.{◌≡◌, true, false, Bool, List, [], Option, Some, None, drop, map}
+use Rattle.std.specs.Prelude.{◌≡◌, true, false, Bool, List, [], Option, Some, None, drop, is_some, map}
 use Rattle.xmpp_client_rows.specs.Clients.{ClientView}
 use Rattle.xmpp_devices.specs.DeviceLines.{said_line}
 use Rattle.xmpp_outbox.specs.Sessions.{SessionView}
@@ -30,5 +30,6 @@ IsWaiting (Some s) c d = (map said_line c.said.waiting ≡ map (reported.said_li
 pub record SubmissionsShow (c : ClientView ItemOut) (d : Sessions) : Type 0 where
   pub epoch : c.epoch ≡ epoch_of d
   pub n : c.n ≡ d.n
+  pub online : d.online ≡ is_some c.session
   pub said : map said_line (all_said c.said) ≡ said_of d
   pub waiting : IsWaiting c.session c d
