@@ -1,5 +1,5 @@
 -- What is sent to a session is read as what it hears.
-use Rattle.std.proofs.Common.{◌≡◌, ℕ, ◌+◌, ◌⊎◌, ◌==◌, ◌&&◌, ◌||◌, not, Bool, true, false, cond, List, [], ◌∷◌, ◌++◌, Some, None, filter, length, map, refl, sym, ap, ap₂, subst, ◌∙◌, arith, inl, inr, if◌then◌else◌}
+use Rattle.std.proofs.Common.{◌≡◌, ℕ, ◌+◌, ◌⊎◌, ◌==◌, ◌&&◌, ◌||◌, not, Bool, true, false, cond, List, [], ◌∷◌, ◌++◌, Some, None, Ok, filter, length, map, refl, sym, ap, ap₂, subst, ◌∙◌, arith, inl, inr, if◌then◌else◌}
 use Rattle.std.proofs.lemmas.Bool.{and_parts, cases_Bool, eq-eqb, eqb-true, false≢true, or_left, or_right}
 use Rattle.std.proofs.lemmas.List.{append-nil, map-append}
 use Rattle.std.proofs.lemmas.Option.{same_Some}
@@ -9,7 +9,7 @@ use Rattle.std.specs.Option.{option_map}
 use Rattle.std.specs.Str.{bytes_eq}
 use Rattle.xmpp_archive.specs.Entries.{EntryView}
 use Rattle.xmpp_basis.proofs.Bytes.{bytes_eq-self}
-use Rattle.xmpp_desk.specs.State.{Hall, archive_at}
+use Rattle.xmpp_desk.specs.State.{Hall, archive_at, session_address}
 use Rattle.xmpp_forwarding.specs.Copies.{copy_item}
 use Rattle.xmpp_forwarding.specs.Passed.{passed_item}
 use Rattle.xmpp_item_answers.proofs.Carried.{copied, copied_to, delivered, delivered_to}
@@ -23,7 +23,9 @@ use Rattle.xmpp_item_stanzas.specs.Downs.{down_stanza}
 use Rattle.xmpp_item_stanzas.specs.Meant.{IsEntryNumber, IsSubmitted}
 use Rattle.xmpp_live.specs.Sessions.{Session, is_of, number_of, session_of, told, told_of}
 use Rattle.xmpp_message_rows.specs.Messages.{carrying, copy_for, number_behind, number_in}
-use Rattle.xmpp_messages_heard.proofs.Archived.{same_name}
+use Rattle.xmpp_jid.specs.Normal.{normal}
+use Rattle.xmpp_messages_heard.proofs.Addresses.{full_normal, normal_to}
+use Rattle.xmpp_messages_heard.proofs.Archived.{is_named, same_name}
 use Rattle.xmpp_messages_heard.proofs.Places.{bare_is, full_is}
 use Rattle.xmpp_messages_heard.proofs.TakenEntries.{take_now}
 use Rattle.xmpp_messages_heard.specs.Hearing.{hears_in}
@@ -160,6 +162,14 @@ module _ {keep : ℕ} {owned : List Owned} {names : List (List ℕ)} {takes : Li
     submission : IsSubmitted full
     submission = record { chat = refl; origin = origin_of o.device m.epoch m.n; said = m.text; apart = m.private; contains = refl }
 
+    from_normal : normal (session_address s.shown.number h) ≡ Ok (session_address s.shown.number h)
+    from_normal =
+        subst (λ a. normal a ≡ Ok a) (sym (full_is names h x.runs.configured owned i o s x.session))
+        (full_normal o.account o.device (is_named x s.shown.account o.account x.session.account) x.said.origin.device)
+
+    to_normal : normal (m.to ++ 64 ∷ h.domain) ≡ Ok (m.to ++ 64 ∷ h.domain)
+    to_normal = normal_to x
+
     told_here : told_of u.shown.number h.sessions ≡ Some (told u)
     told_here = ap (option_map told) v.lives
 
@@ -171,7 +181,7 @@ module _ {keep : ℕ} {owned : List Owned} {names : List (List ℕ)} {takes : Li
         ∙ (λ k. passed_item (bare_is names h x.runs.configured u.shown.account p.account v.account k) (number_here k) full ∷ []) in
         subst (λ zs. ReadsAs p history zs (Live number ∷ [])) (sym same)
         (reads_one p history z (Live number) (passed_read (report.bare_address p.account) number full submission (is_entry is))
-        (is_entry is, inl (record { message = full; is = refl; submission = submission })))
+        (is_entry is, inl (record { message = full; is = refl; sender = from_normal; addressee = to_normal; submission = submission })))
 
     copied_reads : (sent : Bool) → ReadsAs p history (copied full accounts h sent u.shown.number) (Live number ∷ [])
     copied_reads sent =
@@ -182,7 +192,7 @@ module _ {keep : ℕ} {owned : List Owned} {names : List (List ℕ)} {takes : Li
         ∙ ap (λ a. copy_item c a ∷ []) (full_is names h x.runs.configured owned j p u v) in
         subst (λ zs. ReadsAs p history zs (Live number ∷ [])) (sym same)
         (reads_one p history z (Live number) (copied_read c (report.full_address p.account p.device) number submission number_here (is_entry is))
-        (is_entry is, inr (record { copy = c; is = refl; by = bare_is names h x.runs.configured u.shown.account p.account v.account; number = number_here; submission = submission })))
+        (is_entry is, inr (record { copy = c; is = refl; by = bare_is names h x.runs.configured u.shown.account p.account v.account; number = number_here; sender = from_normal; addressee = to_normal; submission = submission })))
 
   -- ---- whom it reaches
 

@@ -18,6 +18,7 @@ use Rattle.xmpp_item_worlds.specs.ItemMoves.{step_of, takes_told}
 use Rattle.xmpp_item_worlds.specs.ItemWorlds.{Take as Told}
 use Rattle.xmpp_live.specs.Sessions.{Session, session_of, told}
 use Rattle.xmpp_message_rows.specs.Messages.{carrying}
+use Rattle.xmpp_messages_heard.proofs.Addresses.{normal_to}
 use Rattle.xmpp_messages_heard.proofs.Archived.{archives_more, archives_same, taken_here}
 use Rattle.xmpp_messages_heard.proofs.Booked.{IsBooked, booked}
 use Rattle.xmpp_messages_heard.proofs.Heard.{ReadsAs, carried_reads, reads_none, reads_one}
@@ -170,6 +171,7 @@ module _ {keep : ℕ} {owned : List Owned} {names : List (List ℕ)} {takes : Li
           from = address_in m h;
           error = unserved;
           is = ap (λ d. bounce_item (address_in m h) (origin_of d m.epoch m.n) unserved) (sym (device_is here));
+          address = normal_to x;
           origin = subst (λ d. IsOrigin d m.epoch m.n) (sym (device_is here)) x.said.origin;
         }))))))
 

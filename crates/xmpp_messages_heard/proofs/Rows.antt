@@ -1,5 +1,5 @@
 -- The row of a submission: it is carried to an account that has the name, or comes back.
-use Rattle.std.proofs.Common.{◌≡◌, ℕ, ◌<◌, true, false, List, [], ◌∷◌, ◌++◌, Option, Some, None, Ok, IfSome, is_some, ◌⊎◌, length, refl, sym, ap, ap₂, subst, ◌∙◌, arith, inl, inr}
+use Rattle.std.proofs.Common.{◌≡◌, ℕ, ◌<◌, true, false, List, [], ◌∷◌, ◌++◌, Option, Some, None, IfSome, is_some, ◌⊎◌, length, refl, sym, ap, ap₂, subst, ◌∙◌, arith, inl, inr}
 use Rattle.std.proofs.lemmas.Bool.Decides.{nat_tests}
 use Rattle.std.specs.List.{slice_get}
 use Rattle.xmpp_desk.specs.State.{Hall, archive_at}
@@ -12,11 +12,10 @@ use Rattle.xmpp_item_answers.specs.Sent as answers
 use Rattle.xmpp_item_answers.specs.Sent.{as_it_is, does_on}
 use Rattle.xmpp_item_stanzas.specs.Meant.{submitted}
 use Rattle.xmpp_jid.specs.Cuts.{resource_of}
-use Rattle.xmpp_jid.specs.Normal.{normal}
 use Rattle.xmpp_live.specs.Sessions.{Session, told}
 use Rattle.xmpp_login.specs.Accounts.{names_of}
 use Rattle.xmpp_message_rows.specs.Messages.{carrying, is_full_at}
-use Rattle.xmpp_messages_heard.proofs.Addresses.{bare_normal, no_resource}
+use Rattle.xmpp_messages_heard.proofs.Addresses.{no_resource, normal_to}
 use Rattle.xmpp_messages_heard.proofs.Places.{names_are}
 use Rattle.xmpp_messages_heard.specs.Done.{acts_on}
 use Rattle.xmpp_messages_heard.specs.Submits.{Submits}
@@ -45,7 +44,7 @@ module _ {keep : ℕ} {owned : List Owned} {names : List (List ℕ)} {takes : Li
   submission = record {
     item = ap (λ d. submitted o.device d m) x.runs.configured.domain ∙ x.element;
     name = x.said.named;
-    normal = subst (λ d. normal (m.to ++ 64 ∷ d) ≡ Ok (m.to ++ 64 ∷ d)) (sym x.runs.configured.domain) (bare_normal m.to x.said.named);
+    normal = normal_to x;
     bare = subst (λ d. resource_of (m.to ++ 64 ∷ d) ≡ None) (sym x.runs.configured.domain) (no_resource m.to x.said.named);
   }
 
