@@ -70,7 +70,7 @@ module _ (o : Owned) (keep : ℕ) (history : List EntryView) (d : ItemDevice) (s
     request = tt;
   }
 
-  number_behind : next_number d.client.pages ≡ b.asked + 1
+  pub number_behind : next_number d.client.pages ≡ b.asked + 1
   number_behind = ap next_number is.pages ∙ (let more = is.more in omega (arith, more))
 
   -- a page was asked for

@@ -1,4 +1,5 @@
+use Rattle.xmpp_stanzas_logged.proofs.Logged.{stanza_logged}
 use Rattle.xmpp_stanzas_logged.proofs.laws.stanzas_are_logged.Goals as goal
 
 pub returns : goal.returns
-returns c = ?
+returns c = stanza_logged
