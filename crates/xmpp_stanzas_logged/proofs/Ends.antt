@@ -1,25 +1,24 @@
 -- A page whose end came is taken over, and behind one that isn't the last the next one is asked for.
-use Rattle.std.proofs.Common.{◌≡◌, ℕ, suc, ◌+◌, ◌-◌, ◌<◌, ◌^◌, ◌==◌, min, Bool, true, false, ◌&&◌, ◌||◌, not, if◌then◌else◌, List, [], ◌∷◌, ◌++◌, length, Option, Some, None, Result, Ok, refl, sym, ap, ap₂, subst, ◌∙◌, append_assoc, append-nil, arith}
+use Rattle.std.proofs.Common.{◌≡◌, ℕ, suc, ◌+◌, ◌-◌, ◌<◌, ◌^◌, ◌==◌, Bool, true, false, ◌&&◌, ◌||◌, not, if◌then◌else◌, List, [], ◌∷◌, ◌++◌, length, Option, Some, Ok, refl, sym, ap, ap₂, subst, ◌∙◌, append_assoc, append-nil, arith}
 use Rattle.std.proofs.lemmas.Bool.{and_parts, false≢true}
 use Rattle.std.proofs.lemmas.List.Concat.{flat_map-append}
 use Rattle.std.proofs.lemmas.Option.{none-some, same_Some}
 use Rattle.std.specs.List.{AllByRecursion, flat_map, slice_get}
-use Rattle.std.specs.Option.{IfSome, option_map, option_map_or}
+use Rattle.std.specs.Option.{IfSome, option_map}
 use Rattle.std.specs.Result.{result_ok}
 use Rattle.xmpp_archive.specs.Entries.{EntryView}
 use Rattle.xmpp_archive.specs.Ids.{id_of}
-use Rattle.xmpp_client.specs.PageRows.{begins_page, goes_on, next_queryid, page_done, page_ended, page_stanza, result_of_page}
+use Rattle.xmpp_client.specs.PageRows.{begins_page, next_queryid, page_done, page_ended, page_stanza, result_of_page}
 use Rattle.xmpp_client_rows.specs.Clients.{Turn}
 use Rattle.xmpp_client_rows.specs.Speech.{in_items}
 use Rattle.xmpp_client_rows.specs.Turns.{ends, tells, with_log}
 use Rattle.xmpp_client_rows.specs.declared.events.Event.TheVariants.{PageDone}
 use Rattle.xmpp_client_rows.specs.declared.events.PeerFault.TheVariants.{Unacknowledged}
 use Rattle.xmpp_device_views.specs.Reading.{turn_on}
-use Rattle.xmpp_forwarding.specs.Results.{fin_item}
-use Rattle.xmpp_item_stanzas.specs.Meant.{Fits, IsEntryNumber, IsPage}
+use Rattle.xmpp_item_stanzas.specs.Meant.{Fits, IsEntryNumber}
 use Rattle.xmpp_item_worlds.specs.ItemWorlds.{ItemDevice}
 use Rattle.xmpp_log.specs.LogPages.{last_id}
-use Rattle.xmpp_log.specs.Views.{LogView, after_fin, end_of, outcome_of, with_begun}
+use Rattle.xmpp_log.specs.Views.{LogView, after_fin, outcome_of, with_begun}
 use Rattle.xmpp_log.specs.declared.fin.PageOutcome.TheVariants.{Complete, More}
 use Rattle.xmpp_log_readings.proofs.Ends.{ends_well, over_shows}
 use Rattle.xmpp_log_readings.proofs.Entries.{last_at}

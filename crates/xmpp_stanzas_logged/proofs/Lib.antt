@@ -10,3 +10,4 @@ pub mod Results
 pub mod Restarts
 pub mod Ends
 pub mod Logged
+pub mod Histories

@@ -1,11 +1,11 @@
 -- Where the place of a page isn't kept any more, the page is asked for anew.
-use Rattle.std.proofs.Common.{◌≡◌, ℕ, ◌+◌, ◌==◌, Bool, true, false, ◌&&◌, if◌then◌else◌, is_some, List, [], ◌∷◌, Option, Some, None, Ok, refl, sym, ap, subst, ◌∙◌}
+use Rattle.std.proofs.Common.{◌≡◌, ℕ, ◌+◌, ◌==◌, true, false, ◌&&◌, if◌then◌else◌, is_some, List, Option, Some, None, refl, sym, ap, subst, ◌∙◌}
 use Rattle.std.proofs.lemmas.Bool.{and_parts}
 use Rattle.std.proofs.lemmas.Option.{none-some, same_Some}
 use Rattle.std.specs.Option.{IfSome, option_map, option_map_or}
 use Rattle.xmpp_archive.specs.Entries.{EntryView}
 use Rattle.xmpp_archive.specs.Ids.{id_of}
-use Rattle.xmpp_client.specs.PageRows.{answered_page, is_not_found, next_queryid, numbered, page_answered, page_stanza, requests, restarts}
+use Rattle.xmpp_client.specs.PageRows.{answered_page, next_queryid, numbered, page_answered, page_stanza, requests, restarts}
 use Rattle.xmpp_client_rows.specs.Clients.{Turn}
 use Rattle.xmpp_client_rows.specs.MessageRows.{is_own_or_absent, refuses}
 use Rattle.xmpp_client_rows.specs.Speech.{in_items}
@@ -14,21 +14,20 @@ use Rattle.xmpp_client_rows.specs.declared.events.CatchUpFault.TheVariants.{Refu
 use Rattle.xmpp_client_rows.specs.declared.events.PeerFault.TheVariants.{Unacknowledged}
 use Rattle.xmpp_device_views.specs.Reading.{turn_on}
 use Rattle.xmpp_forwarding.specs.Queries.{no_such_place}
-use Rattle.xmpp_item_stanzas.specs.Meant.{Fits, IsRequest, requested}
+use Rattle.xmpp_item_stanzas.specs.Meant.{Fits}
 use Rattle.xmpp_item_worlds.specs.ItemWorlds.{ItemDevice}
 use Rattle.xmpp_log.specs.LogCalls.{with_restart}
 use Rattle.xmpp_log.specs.Views.{page_for, without_page}
 use Rattle.xmpp_log_readings.proofs.Steps.{restarted_shows}
-use Rattle.xmpp_log_readings.specs.Shown.{LogShows, page_shown, queryid_of}
+use Rattle.xmpp_log_readings.specs.Shown.{LogShows, page_shown}
 use Rattle.xmpp_outbox.specs.Sessions.{SessionView, with_waiting}
-use Rattle.xmpp_outbox.specs.Submissions.{next_number}
-use Rattle.xmpp_outbox.specs.Waiting.{counted_in, is_full}
+use Rattle.xmpp_outbox.specs.Waiting.{counted_in}
 use Rattle.xmpp_replies.specs.Requests.{EnvelopeView, iq_error_item}
 use Rattle.xmpp_requests.specs.Messages.{page_item, queryid_text}
 use Rattle.xmpp_schedule.specs.Contents.{Owned}
 use Rattle.xmpp_session_views.specs.Built.{IsAnswer}
 use Rattle.xmpp_sessions.specs.Devices.{OpenPage, Reading}
-use Rattle.xmpp_sessions.specs.Events.{Reaction, asking, restart, with_page}
+use Rattle.xmpp_sessions.specs.Events.{asking, restart, with_page}
 use Rattle.xmpp_sessions.specs.Stanzas.{Request}
 use Rattle.xmpp_stanza.specs.Errors.{error_elem}
 use Rattle.xmpp_stanza.specs.Views.{IqView}

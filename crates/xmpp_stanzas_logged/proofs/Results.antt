@@ -1,6 +1,6 @@
 -- A result comes to the open page as the entry that it is of.
-use Rattle.std.proofs.Common.{◌≡◌, ℕ, ◌==◌, min, nat_le, nat_lt, Bool, true, false, ◌&&◌, if◌then◌else◌, List, [], ◌∷◌, ◌++◌, Option, Some, None, Ok, length, refl, sym, ap, ap₂, subst, ◌∙◌, codes, arith}
-use Rattle.std.proofs.lemmas.Bool.{and_parts, lt-leb, ltb-true, true≢false}
+use Rattle.std.proofs.Common.{◌≡◌, ℕ, ◌==◌, min, nat_le, nat_lt, true, false, ◌&&◌, if◌then◌else◌, List, [], ◌∷◌, ◌++◌, Some, None, Ok, length, refl, sym, ap, ap₂, subst, ◌∙◌, arith}
+use Rattle.std.proofs.lemmas.Bool.{and_parts, lt-leb, ltb-true}
 use Rattle.std.proofs.lemmas.Bool.Decides.{Decides-eqb}
 use Rattle.std.specs.Option.{option_map}
 use Rattle.std.specs.Str.{bytes_eq}
@@ -14,7 +14,7 @@ use Rattle.xmpp_client_rows.specs.Turns.{with_log}
 use Rattle.xmpp_device_views.specs.Reading.{turn_on}
 use Rattle.xmpp_direct.specs.Direct.{as_logged}
 use Rattle.xmpp_forwarding.proofs.EntryLaws.{entry_again}
-use Rattle.xmpp_forwarding.specs.Results.{archived_message, archived_result, entry_elem, entry_item}
+use Rattle.xmpp_forwarding.specs.Results.{archived_message, archived_result, entry_elem}
 use Rattle.xmpp_item_stanzas.proofs.TextsTold as told
 use Rattle.xmpp_item_worlds.specs.ItemWorlds.{ItemDevice}
 use Rattle.xmpp_log.specs.Views.{page_for, with_result}

@@ -1,5 +1,5 @@
 -- A client that is online counts a stanza, and then does what it does on it. What is shown of it behind that.
-use Rattle.std.proofs.Common.{◌≡◌, ℕ, ◌+◌, ◌<◌, ◌^◌, min, true, false, List, [], ◌∷◌, Option, Some, None, Ok, refl, sym, ap, subst, ◌∙◌, codes, arith, if◌then◌else◌}
+use Rattle.std.proofs.Common.{◌≡◌, ℕ, ◌+◌, true, false, List, [], ◌∷◌, Some, refl, sym, ap, subst, ◌∙◌, codes, arith, if◌then◌else◌}
 use Rattle.xmpp_archive.specs.Entries.{EntryView}
 use Rattle.xmpp_client.specs.PageRows.{iq_row}
 use Rattle.xmpp_client.specs.Steps.{connected_step, element_row, handles, item_step, online_in, stanza_row}
@@ -9,7 +9,7 @@ use Rattle.xmpp_client_rows.specs.SessionRows.{is_stanza}
 use Rattle.xmpp_client_rows.specs.Speech.{Handled, Put, in_items}
 use Rattle.xmpp_client_rows.specs.Turns.{is_apart}
 use Rattle.xmpp_client_rows.specs.declared.phase.Phase.TheVariants.{Online}
-use Rattle.xmpp_device_views.specs.Reading.{noted, turn_on}
+use Rattle.xmpp_device_views.specs.Reading.{noted}
 use Rattle.xmpp_framing.specs.declared.items.Item.TheVariants.{Element}
 use Rattle.xmpp_item_stanzas.specs.Meant.{IsRequest, requested}
 use Rattle.xmpp_item_worlds.specs.ItemWorlds.{ItemDevice, silent_turn}
@@ -26,7 +26,6 @@ use Rattle.xmpp_stanza.specs.Names.{streams_ns}
 use Rattle.xmpp_stanza.specs.Readings.{stanza_of}
 use Rattle.xmpp_stanza.specs.Views.{IqView, MessageView}
 use Rattle.xmpp_stanza.specs.Written.{IsNormal, iq_elem, message_elem}
-use Rattle.xmpp_stanza.specs.declared.stanzas.Stanza.TheVariants.{Iq, Message}
 use Rattle.xmpp_stanzas_logged.proofs.Stanzas.{iq_read, message_read}
 use Rattle.xmpp_stanzas_logged.specs.Logged.{IsOnline, IsReadAs}
 use Rattle.xmpp_trees.specs.Readers.{is_named}
