@@ -27,7 +27,7 @@ use Rattle.xmpp_log_readings.specs.Shown.{AreGiven, IsFinOf, IsReadingGiven, Log
 use Rattle.xmpp_mam.specs.ArchiveAnswers.{fin_elem}
 use Rattle.xmpp_mam.specs.Readings.{fin_read}
 use Rattle.xmpp_outbox.specs.Sessions.{SessionView, with_waiting}
-use Rattle.xmpp_outbox.specs.Waiting.{counted_in}
+use Rattle.xmpp_outbox.specs.Waiting.{counted_in, is_full}
 use Rattle.xmpp_pages.specs.Cuts.{CutView, fin_of}
 use Rattle.xmpp_pages.specs.declared.fin.Fin.{Fin}
 use Rattle.xmpp_payload_laws.proofs.FinReads.{fin_written}
@@ -47,7 +47,7 @@ use Rattle.xmpp_stanzas_logged.proofs.Faults.{page_well, taken_well}
 use Rattle.xmpp_stanzas_logged.proofs.Found.{both_given, number_given, results_given}
 use Rattle.xmpp_stanzas_logged.proofs.Restarts.{most_of, page_answers}
 use Rattle.xmpp_stanzas_logged.proofs.Turns.{asking_read, counted_turn, iq_turn, number_behind, quiet_read}
-use Rattle.xmpp_stanzas_logged.specs.Logged.{IsCountOf, IsOnline, IsReadAs}
+use Rattle.xmpp_stanzas_logged.specs.Logged.{HasPlaceFor, IsCountOf, IsOnline, IsReadAs}
 use Rattle.xmpp_stanzas_logged.specs.Plain.{IsPlain}
 use Rattle.xmpp_trees.specs.Trees.{Elem, child, no_nodes}
 use Rattle.xmpp_writer.specs.Items.{ItemOut, Whole}
@@ -199,10 +199,10 @@ module _ (o : Owned) (keep : ℕ) (history : List EntryView) (d : ItemDevice) (s
     abbrev place : Option ℕ
     place = last_in (log_of next)
 
-    goes : complete ≡ false → turn_on (Whole e) d ≡ asks
-    goes whole =
+    goes : complete ≡ false → is_full s.waiting ≡ false → turn_on (Whole e) d ≡ asks
+    goes whole room =
         ended ∙ ap (λ c. page_done in_items h (page_shown history page) fin (outcome_of c)) whole
-        ∙ ap (λ full. if full then ends told Unacknowledged else asks) is.place
+        ∙ ap (λ full. if full then ends told Unacknowledged else asks) room
 
     begun : LogShows keep history (with_begun log (next_queryid told) page.max) (asking place page.max a.last next).reading
     begun =
@@ -212,9 +212,9 @@ module _ (o : Owned) (keep : ℕ) (history : List EntryView) (d : ItemDevice) (s
     abbrev asked : Request
     asked = record { number = b.asked + 1; after = place; max = page.max }
 
-    one_more : complete ≡ false → IsReadAs o keep history d s z (asking place page.max a.last next) (turn_on z d)
-    one_more whole =
-        let step = goes whole in
+    one_more : complete ≡ false → is_full s.waiting ≡ false → IsReadAs o keep history d s z (asking place page.max a.last next) (turn_on z d)
+    one_more whole room =
+        let step = goes whole room in
         subst (λ z. IsReadAs o keep history d s z (asking place page.max a.last next) (turn_on z d)) (sym built.is)
         (asking_read o keep history d s b is e (turn_on (Whole e) d) (with_begun log (next_queryid told) page.max) (asking place page.max a.last next).reading asked
         (page_stanza in_items told (last_id log.entries) page.max)
@@ -232,16 +232,16 @@ module _ (o : Owned) (keep : ℕ) (history : List EntryView) (d : ItemDevice) (s
     abbrev reaction : Bool → Reaction
     reaction c = if c then quiet next else asking (last_in next.run) page.max a.last next
 
-    either : (c : Bool) → complete ≡ c → IsReadAs o keep history d s z (reaction c) (turn_on z d)
-    either true whole = last_one whole
-    either false whole =
-        subst (λ after. IsReadAs o keep history d s z (asking after page.max a.last next) (turn_on z d)) (last_of_both a complete count page b (some_results whole)) (one_more whole)
+    either : (c : Bool) → complete ≡ c → HasPlaceFor s (reaction c).request → IsReadAs o keep history d s z (reaction c) (turn_on z d)
+    either true whole room = last_one whole
+    either false whole room =
+        subst (λ after. IsReadAs o keep history d s z (asking after page.max a.last next) (turn_on z d)) (last_of_both a complete count page b (some_results whole)) (one_more whole room)
 
-  pub end_comes : ((page : OpenPage) → b.page ≡ Some page → IsCountOf keep a page count) → (with_page (events.fin a q complete last count) b).reading.faulty ≡ false
+  pub end_comes : ((page : OpenPage) → b.page ≡ Some page → IsCountOf keep a page count) → (with_page (events.fin a q complete last count) b).reading.faulty ≡ false → HasPlaceFor s (with_page (events.fin a q complete last count) b).request
       → IsReadAs o keep history d s z (with_page (events.fin a q complete last count) b) (turn_on z d)
   end_comes total =
-      page_well (λ x. IsReadAs o keep history d s z x (turn_on z d)) b (events.fin a q complete last count)
-      (λ page there. taken_well (λ x. IsReadAs o keep history d s z x (turn_on z d)) b
+      page_well (λ x. HasPlaceFor s x.request → IsReadAs o keep history d s z x (turn_on z d)) b (events.fin a q complete last count)
+      (λ page there. taken_well (λ x. HasPlaceFor s x.request → IsReadAs o keep history d s z x (turn_on z d)) b
       (page.number == q && same_place last (last_in page.results) && are_new (log_of b) page.results && (complete || not (is_empty page.results)))
       (if complete then quiet (over a complete count page b) else asking (last_in (over a complete count page b).run) page.max a.last (over a complete count page b))
       (λ good. either page there (total page there) good complete refl))

@@ -21,7 +21,7 @@ use Rattle.xmpp_log.specs.Views.{page_for, without_page}
 use Rattle.xmpp_log_readings.proofs.Steps.{restarted_shows}
 use Rattle.xmpp_log_readings.specs.Shown.{LogShows, page_shown}
 use Rattle.xmpp_outbox.specs.Sessions.{SessionView, with_waiting}
-use Rattle.xmpp_outbox.specs.Waiting.{counted_in}
+use Rattle.xmpp_outbox.specs.Waiting.{counted_in, is_full}
 use Rattle.xmpp_replies.specs.Requests.{EnvelopeView, iq_error_item}
 use Rattle.xmpp_requests.specs.Messages.{page_item, queryid_text}
 use Rattle.xmpp_schedule.specs.Contents.{Owned}
@@ -36,7 +36,7 @@ use Rattle.xmpp_stanza.specs.declared.kinds.IqKind.TheVariants.{Error}
 use Rattle.xmpp_stanzas_logged.proofs.Faults.{page_well, taken_well}
 use Rattle.xmpp_stanzas_logged.proofs.Results.{page_found}
 use Rattle.xmpp_stanzas_logged.proofs.Turns.{asking_read, counted_turn, iq_turn, number_behind}
-use Rattle.xmpp_stanzas_logged.specs.Logged.{IsOnline, IsReadAs}
+use Rattle.xmpp_stanzas_logged.specs.Logged.{HasPlaceFor, IsOnline, IsReadAs}
 use Rattle.xmpp_trees.specs.Trees.{Elem, child, no_nodes}
 use Rattle.xmpp_writer.specs.Items.{ItemOut, Whole}
 
@@ -74,7 +74,7 @@ module _ (o : Owned) (keep : ℕ) (history : List EntryView) (d : ItemDevice) (s
   abbrev session : SessionView ItemOut
   session = with_waiting s (counted_in s.waiting)
 
-  module _ (page : OpenPage) (there : b.page ≡ Some page) (same : (page.number == q) ≡ true) (place : option_map_or (λ n. true) page.after false ≡ true) where
+  module _ (page : OpenPage) (there : b.page ≡ Some page) (same : (page.number == q) ≡ true) (place : option_map_or (λ n. true) page.after false ≡ true) (room : is_full s.waiting ≡ false) where
     abbrev asked : Request
     asked = record { number = b.asked + 1; after = None; max = page.max }
 
@@ -86,7 +86,7 @@ module _ (o : Owned) (keep : ℕ) (history : List EntryView) (d : ItemDevice) (s
         iq_turn d.client s is.online is.session error (subst IsNormal (sym answer.from) tt) answer.to
         ∙ page_answers o keep history d s b is q page there same error e answer.from answer.id_is
         ∙ ap (λ some. if some then restarts in_items h (Some session) page.max else refuses h (Refused no_such_place.condition)) (some_place page.after place)
-        ∙ ap (λ full. if full then ends (with_log h (without_page d.client.log)) Unacknowledged else anew) is.place
+        ∙ ap (λ full. if full then ends (with_log h (without_page d.client.log)) Unacknowledged else anew) room
 
     shows : LogShows keep history (with_restart d.client.log (next_queryid h)) (asking None page.max page.began b).reading
     shows =
@@ -103,8 +103,8 @@ module _ (o : Owned) (keep : ℕ) (history : List EntryView) (d : ItemDevice) (s
         (record { logged = is.given.logged; page = tt; held = is.given.held }) refl
         (record { number_fits = is.more; place = tt; max_fits = most_of b.page page there is.most }))
 
-  pub restart_comes : (with_page (restart q) b).reading.faulty ≡ false → IsReadAs o keep history d s z (with_page (restart q) b) (turn_on z d)
+  pub restart_comes : (with_page (restart q) b).reading.faulty ≡ false → HasPlaceFor s (with_page (restart q) b).request → IsReadAs o keep history d s z (with_page (restart q) b) (turn_on z d)
   restart_comes =
-      page_well (λ x. IsReadAs o keep history d s z x (turn_on z d)) b (restart q)
-      (λ page there. taken_well (λ x. IsReadAs o keep history d s z x (turn_on z d)) b (page.number == q && option_map_or (λ n. true) page.after false) (asking None page.max page.began b)
-      (λ good. (let parts = and_parts (page.number == q) (option_map_or (λ n. true) page.after false) good in asked_anew page there parts.0 parts.1)))
+      page_well (λ x. HasPlaceFor s x.request → IsReadAs o keep history d s z x (turn_on z d)) b (restart q)
+      (λ page there. taken_well (λ x. HasPlaceFor s x.request → IsReadAs o keep history d s z x (turn_on z d)) b (page.number == q && option_map_or (λ n. true) page.after false) (asking None page.max page.began b)
+      (λ good room. (let parts = and_parts (page.number == q) (option_map_or (λ n. true) page.after false) good in asked_anew page there parts.0 parts.1 room)))

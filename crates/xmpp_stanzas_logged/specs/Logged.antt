@@ -22,20 +22,23 @@ use Rattle.xmpp_writer.specs.Items.{ItemOut}
 
 -- ---- before the stanza
 
--- The device has names of a schedule, and its client is online in a session that may put a stanza more. The client's log
--- shows the reading, and pages have numbers of 64 bits.
+-- The device has names of a schedule, and its client is online in a session. The client's log shows the reading, and
+-- pages have numbers of 64 bits.
 pub record IsOnline (o : Owned) (keep : ℕ) (history : List EntryView) (d : ItemDevice) (s : SessionView ItemOut) (b : Reading) : Type 0 where
   pub account_named : is_name o.account ≡ true
   pub device_named : is_name o.device ≡ true
   pub bare : d.client.account.bare ≡ bare_address o.account
   pub online : d.client.phase ≡ Online
   pub session : d.client.session ≡ Some s
-  pub place : is_full s.waiting ≡ false
   pub log : LogShows keep history d.client.log b
   pub given : IsReadingGiven history b
   pub pages : d.client.pages ≡ b.asked
   pub more : b.asked + 1 < 2 ^ 64
   pub most : IfSome b.page (λ page. Fits page.max)
+
+-- a session that has to put a request has place for it
+abbrev pub HasPlaceFor : SessionView ItemOut → Option Request → Type 0
+HasPlaceFor s request = IfSome request (λ r. is_full s.waiting ≡ false)
 
 -- the end of a page tells how many entries the archive kept when it answered, or keeps, where it isn't known when that was
 abbrev pub IsCountOf : ℕ → Around → OpenPage → ℕ → Type 0

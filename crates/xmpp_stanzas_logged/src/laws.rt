@@ -11,7 +11,7 @@ ghost use Rattle.xmpp_session_views.specs.Built.{IsDown};
 ghost use Rattle.xmpp_sessions.specs.Devices.{Reading, Take};
 ghost use Rattle.xmpp_sessions.specs.Events.{Around, reads};
 ghost use Rattle.xmpp_sessions_laws.specs.Reported.{history_at};
-ghost use Rattle.xmpp_stanzas_logged.specs.Logged.{IsCounted, IsOnline, IsReadAs};
+ghost use Rattle.xmpp_stanzas_logged.specs.Logged.{HasPlaceFor, IsCounted, IsOnline, IsReadAs};
 ghost use Rattle.xmpp_stanzas_logged.specs.Plain.{IsNamedTake, IsPlain};
 ghost use Rattle.xmpp_writer.specs.Items.{ItemOut};
 
@@ -20,7 +20,7 @@ ghost use Rattle.xmpp_writer.specs.Items.{ItemOut};
 /// and for the same, and nothing else becomes of it but that the stanza is counted.
 pub fn stanzas_are_logged()
     ensures { (o : Owned) (keep : ℕ) (history : List EntryView) (d : ItemDevice) (s : SessionView ItemOut) (b : Reading) (z : ItemOut) (a : Around)
-        → IsOnline o keep history d s b → IsPlain history → IsDown o history z → IsCounted keep a b.page (down_stanza z) → (reads a (down_stanza z) b).reading.faulty ≡ false
+        → IsOnline o keep history d s b → IsPlain history → IsDown o history z → IsCounted keep a b.page (down_stanza z) → (reads a (down_stanza z) b).reading.faulty ≡ false → HasPlaceFor s (reads a (down_stanza z) b).request
         → IsReadAs o keep history d s z (reads a (down_stanza z) b) (turn_on z d) }
 {}
 
