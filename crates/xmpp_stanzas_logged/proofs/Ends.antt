@@ -46,8 +46,8 @@ use Rattle.xmpp_stanza.specs.declared.kinds.IqKind.TheVariants as iq
 use Rattle.xmpp_stanzas_logged.proofs.Faults.{page_well, taken_well}
 use Rattle.xmpp_stanzas_logged.proofs.Found.{both_given, number_given, results_given}
 use Rattle.xmpp_stanzas_logged.proofs.Restarts.{most_of, page_answers}
-use Rattle.xmpp_stanzas_logged.proofs.Turns.{asking_read, counted_turn, iq_turn, number_behind, quiet_read}
-use Rattle.xmpp_stanzas_logged.specs.Logged.{HasPlaceFor, IsCountOf, IsOnline, IsReadAs}
+use Rattle.xmpp_stanzas_logged.proofs.Turns.{IsDone, asking_read, counted_turn, iq_turn, left_read, number_behind, quiet_read, quietly}
+use Rattle.xmpp_stanzas_logged.specs.Logged.{IsCountOf, IsLeftAs, IsOnline, IsReadAs}
 use Rattle.xmpp_stanzas_logged.specs.Plain.{IsPlain}
 use Rattle.xmpp_trees.specs.Trees.{Elem, child, no_nodes}
 use Rattle.xmpp_writer.specs.Items.{ItemOut, Whole}
@@ -199,10 +199,11 @@ module _ (o : Owned) (keep : ℕ) (history : List EntryView) (d : ItemDevice) (s
     abbrev place : Option ℕ
     place = last_in (log_of next)
 
-    goes : complete ≡ false → is_full s.waiting ≡ false → turn_on (Whole e) d ≡ asks
-    goes whole room =
-        ended ∙ ap (λ c. page_done in_items h (page_shown history page) fin (outcome_of c)) whole
-        ∙ ap (λ full. if full then ends told Unacknowledged else asks) room
+    abbrev gives_up : Turn ItemOut ItemOut
+    gives_up = ends told Unacknowledged
+
+    goes : complete ≡ false → turn_on (Whole e) d ≡ (if is_full s.waiting then gives_up else asks)
+    goes whole = ended ∙ ap (λ c. page_done in_items h (page_shown history page) fin (outcome_of c)) whole
 
     begun : LogShows keep history (with_begun log (next_queryid told) page.max) (asking place page.max a.last next).reading
     begun =
@@ -214,7 +215,7 @@ module _ (o : Owned) (keep : ℕ) (history : List EntryView) (d : ItemDevice) (s
 
     one_more : complete ≡ false → is_full s.waiting ≡ false → IsReadAs o keep history d s z (asking place page.max a.last next) (turn_on z d)
     one_more whole room =
-        let step = goes whole room in
+        let step : turn_on (Whole e) d ≡ asks = goes whole ∙ ap (λ full. if full then gives_up else asks) room in
         subst (λ z. IsReadAs o keep history d s z (asking place page.max a.last next) (turn_on z d)) (sym built.is)
         (asking_read o keep history d s b is e (turn_on (Whole e) d) (with_begun log (next_queryid told) page.max) (asking place page.max a.last next).reading asked
         (page_stanza in_items told (last_id log.entries) page.max)
@@ -222,6 +223,14 @@ module _ (o : Owned) (keep : ℕ) (history : List EntryView) (d : ItemDevice) (s
         (ap (λ (t : Turn ItemOut ItemOut). t.client) step) (ap (λ (t : Turn ItemOut ItemOut). t.out.notes) step) begun
         (record { logged = given.logged; page = tt; held = given.held }) refl
         (record { number_fits = is.more; place = last_numbered history plain (log_of next) given.logged; max_fits = most_of b.page page there is.most }))
+
+    left_there : complete ≡ false → is_full s.waiting ≡ true → IsLeftAs keep history d s z (asking place page.max a.last next) (turn_on z d)
+    left_there whole full =
+        let step : turn_on (Whole e) d ≡ gives_up = goes whole ∙ ap (λ full. if full then gives_up else asks) full in
+        subst (λ z. IsLeftAs keep history d s z (asking place page.max a.last next) (turn_on z d)) (sym built.is)
+        (left_read o keep history d s b is e (turn_on (Whole e) d) log (asking place page.max a.last next)
+        (ap (λ (t : Turn ItemOut ItemOut). t.client) step) (ap (λ (t : Turn ItemOut ItemOut). t.out.notes) step)
+        (record { entries = shows.entries; tiles = shows.tiles; page = shows.page; held = shows.held }) (record { logged = given.logged; page = tt; held = given.held }))
 
     -- the next page begins behind the last entry
     some_results : complete ≡ false → not (is_empty page.results) ≡ true
@@ -232,16 +241,16 @@ module _ (o : Owned) (keep : ℕ) (history : List EntryView) (d : ItemDevice) (s
     abbrev reaction : Bool → Reaction
     reaction c = if c then quiet next else asking (last_in next.run) page.max a.last next
 
-    either : (c : Bool) → complete ≡ c → HasPlaceFor s (reaction c).request → IsReadAs o keep history d s z (reaction c) (turn_on z d)
-    either true whole room = last_one whole
-    either false whole room =
-        subst (λ after. IsReadAs o keep history d s z (asking after page.max a.last next) (turn_on z d)) (last_of_both a complete count page b (some_results whole)) (one_more whole room)
+    either : (c : Bool) → complete ≡ c → IsDone o keep history d s z (reaction c) (turn_on z d)
+    either true whole = quietly o keep history d s z next (turn_on z d) (last_one whole)
+    either false whole =
+        subst (λ after. IsDone o keep history d s z (asking after page.max a.last next) (turn_on z d)) (last_of_both a complete count page b (some_results whole))
+        (record { goes_on = one_more whole; leaves = λ r asks full. left_there whole full })
 
-  pub end_comes : ((page : OpenPage) → b.page ≡ Some page → IsCountOf keep a page count) → (with_page (events.fin a q complete last count) b).reading.faulty ≡ false → HasPlaceFor s (with_page (events.fin a q complete last count) b).request
-      → IsReadAs o keep history d s z (with_page (events.fin a q complete last count) b) (turn_on z d)
+  pub end_comes : ((page : OpenPage) → b.page ≡ Some page → IsCountOf keep a page count) → (with_page (events.fin a q complete last count) b).reading.faulty ≡ false → IsDone o keep history d s z (with_page (events.fin a q complete last count) b) (turn_on z d)
   end_comes total =
-      page_well (λ x. HasPlaceFor s x.request → IsReadAs o keep history d s z x (turn_on z d)) b (events.fin a q complete last count)
-      (λ page there. taken_well (λ x. HasPlaceFor s x.request → IsReadAs o keep history d s z x (turn_on z d)) b
+      page_well (λ x. IsDone o keep history d s z x (turn_on z d)) b (events.fin a q complete last count)
+      (λ page there. taken_well (λ x. IsDone o keep history d s z x (turn_on z d)) b
       (page.number == q && same_place last (last_in page.results) && are_new (log_of b) page.results && (complete || not (is_empty page.results)))
       (if complete then quiet (over a complete count page b) else asking (last_in (over a complete count page b).run) page.max a.last (over a complete count page b))
       (λ good. either page there (total page there) good complete refl))

@@ -18,7 +18,7 @@ use Rattle.xmpp_item_stanzas.specs.Meant.{Fits}
 use Rattle.xmpp_item_worlds.specs.ItemWorlds.{ItemDevice}
 use Rattle.xmpp_log.specs.LogCalls.{with_restart}
 use Rattle.xmpp_log.specs.Views.{page_for, without_page}
-use Rattle.xmpp_log_readings.proofs.Steps.{restarted_shows}
+use Rattle.xmpp_log_readings.proofs.Steps.{dropped_shows, restarted_shows}
 use Rattle.xmpp_log_readings.specs.Shown.{LogShows, page_shown}
 use Rattle.xmpp_outbox.specs.Sessions.{SessionView, with_waiting}
 use Rattle.xmpp_outbox.specs.Waiting.{counted_in, is_full}
@@ -35,8 +35,8 @@ use Rattle.xmpp_stanza.specs.Written.{IsNormal, iq_elem}
 use Rattle.xmpp_stanza.specs.declared.kinds.IqKind.TheVariants.{Error}
 use Rattle.xmpp_stanzas_logged.proofs.Faults.{page_well, taken_well}
 use Rattle.xmpp_stanzas_logged.proofs.Results.{page_found}
-use Rattle.xmpp_stanzas_logged.proofs.Turns.{asking_read, counted_turn, iq_turn, number_behind}
-use Rattle.xmpp_stanzas_logged.specs.Logged.{HasPlaceFor, IsOnline, IsReadAs}
+use Rattle.xmpp_stanzas_logged.proofs.Turns.{IsDone, asking_read, counted_turn, iq_turn, left_read, number_behind}
+use Rattle.xmpp_stanzas_logged.specs.Logged.{IsLeftAs, IsOnline, IsReadAs}
 use Rattle.xmpp_trees.specs.Trees.{Elem, child, no_nodes}
 use Rattle.xmpp_writer.specs.Items.{ItemOut, Whole}
 
@@ -74,37 +74,49 @@ module _ (o : Owned) (keep : ℕ) (history : List EntryView) (d : ItemDevice) (s
   abbrev session : SessionView ItemOut
   session = with_waiting s (counted_in s.waiting)
 
-  module _ (page : OpenPage) (there : b.page ≡ Some page) (same : (page.number == q) ≡ true) (place : option_map_or (λ n. true) page.after false ≡ true) (room : is_full s.waiting ≡ false) where
+  module _ (page : OpenPage) (there : b.page ≡ Some page) (same : (page.number == q) ≡ true) (place : option_map_or (λ n. true) page.after false ≡ true) where
     abbrev asked : Request
     asked = record { number = b.asked + 1; after = None; max = page.max }
 
     abbrev anew : Turn ItemOut ItemOut
     anew = requests in_items (with_log (numbered h) (with_restart d.client.log (next_queryid h))) session (page_stanza in_items h None page.max) false
 
-    restarted : turn_on (Whole e) d ≡ anew
+    abbrev gives_up : Turn ItemOut ItemOut
+    gives_up = ends (with_log h (without_page d.client.log)) Unacknowledged
+
+    restarted : turn_on (Whole e) d ≡ (if is_full s.waiting then gives_up else anew)
     restarted =
         iq_turn d.client s is.online is.session error (subst IsNormal (sym answer.from) tt) answer.to
         ∙ page_answers o keep history d s b is q page there same error e answer.from answer.id_is
         ∙ ap (λ some. if some then restarts in_items h (Some session) page.max else refuses h (Refused no_such_place.condition)) (some_place page.after place)
-        ∙ ap (λ full. if full then ends (with_log h (without_page d.client.log)) Unacknowledged else anew) room
 
     shows : LogShows keep history (with_restart d.client.log (next_queryid h)) (asking None page.max page.began b).reading
     shows =
         subst (λ n. LogShows keep history (with_restart d.client.log (queryid_text n)) (asking None page.max page.began b).reading) (sym (number_behind o keep history d s b is e))
         (restarted_shows keep history d.client.log b is.log page page.began there)
 
-    asked_anew : IsReadAs o keep history d s z (asking None page.max page.began b) (turn_on z d)
-    asked_anew =
+    asked_anew : is_full s.waiting ≡ false → IsReadAs o keep history d s z (asking None page.max page.began b) (turn_on z d)
+    asked_anew room =
+        let step : turn_on (Whole e) d ≡ anew = restarted ∙ ap (λ full. if full then gives_up else anew) room in
         subst (λ z. IsReadAs o keep history d s z (asking None page.max page.began b) (turn_on z d)) (sym built)
         (asking_read o keep history d s b is e (turn_on (Whole e) d) (with_restart d.client.log (next_queryid h)) (asking None page.max page.began b).reading asked
         (page_stanza in_items h None page.max)
         (ap (λ n. page_item (queryid_text n) None page.max) (number_behind o keep history d s b is e))
-        (ap (λ (t : Turn ItemOut ItemOut). t.client) restarted) (ap (λ (t : Turn ItemOut ItemOut). t.out.notes) restarted) shows
+        (ap (λ (t : Turn ItemOut ItemOut). t.client) step) (ap (λ (t : Turn ItemOut ItemOut). t.out.notes) step) shows
         (record { logged = is.given.logged; page = tt; held = is.given.held }) refl
         (record { number_fits = is.more; place = tt; max_fits = most_of b.page page there is.most }))
 
-  pub restart_comes : (with_page (restart q) b).reading.faulty ≡ false → HasPlaceFor s (with_page (restart q) b).request → IsReadAs o keep history d s z (with_page (restart q) b) (turn_on z d)
+    left_there : is_full s.waiting ≡ true → IsLeftAs keep history d s z (asking None page.max page.began b) (turn_on z d)
+    left_there full =
+        let step : turn_on (Whole e) d ≡ gives_up = restarted ∙ ap (λ full. if full then gives_up else anew) full in
+        let none = dropped_shows keep history d.client.log b is.log in
+        subst (λ z. IsLeftAs keep history d s z (asking None page.max page.began b) (turn_on z d)) (sym built)
+        (left_read o keep history d s b is e (turn_on (Whole e) d) (without_page d.client.log) (asking None page.max page.began b)
+        (ap (λ (t : Turn ItemOut ItemOut). t.client) step) (ap (λ (t : Turn ItemOut ItemOut). t.out.notes) step)
+        (record { entries = none.entries; tiles = none.tiles; page = none.page; held = none.held }) (record { logged = is.given.logged; page = tt; held = is.given.held }))
+
+  pub restart_comes : (with_page (restart q) b).reading.faulty ≡ false → IsDone o keep history d s z (with_page (restart q) b) (turn_on z d)
   restart_comes =
-      page_well (λ x. HasPlaceFor s x.request → IsReadAs o keep history d s z x (turn_on z d)) b (restart q)
-      (λ page there. taken_well (λ x. HasPlaceFor s x.request → IsReadAs o keep history d s z x (turn_on z d)) b (page.number == q && option_map_or (λ n. true) page.after false) (asking None page.max page.began b)
-      (λ good room. (let parts = and_parts (page.number == q) (option_map_or (λ n. true) page.after false) good in asked_anew page there parts.0 parts.1 room)))
+      page_well (λ x. IsDone o keep history d s z x (turn_on z d)) b (restart q)
+      (λ page there. taken_well (λ x. IsDone o keep history d s z x (turn_on z d)) b (page.number == q && option_map_or (λ n. true) page.after false) (asking None page.max page.began b)
+      (λ good. (let parts = and_parts (page.number == q) (option_map_or (λ n. true) page.after false) good in record { goes_on = asked_anew page there parts.0 parts.1; leaves = λ r asks full. left_there page there parts.0 parts.1 full })))

@@ -3,7 +3,7 @@ use Rattle.std.specs.Prelude.{◌≡◌, ℕ, ◌+◌, ◌<◌, ◌^◌, min, tr
 use Rattle.std.specs.Option.{IfSome, option_map_or}
 use Rattle.xmpp_archive.specs.Entries.{EntryView}
 use Rattle.xmpp_client_rows.specs.Clients.{Turn}
-use Rattle.xmpp_client_rows.specs.declared.phase.Phase.TheVariants.{Online}
+use Rattle.xmpp_client_rows.specs.declared.phase.Phase.TheVariants.{Apart, Online}
 use Rattle.xmpp_device_views.specs.Deeds.{Reads, says_all}
 use Rattle.xmpp_device_views.specs.Reading.{noted}
 use Rattle.xmpp_item_stanzas.specs.Meant.{Fits, requested}
@@ -75,3 +75,17 @@ pub record IsReadAs (o : Owned) (keep : ℕ) (history : List EntryView) (d : Ite
   -- it read the stanza, and then put the request
   pub noted : noted t.out.notes ≡ Reads z ∷ says_all (puts_of x.request)
   pub request : IfSome x.request (λ r. IsUpAs o (Query r) (requested r))
+
+-- What a client does that has to put a request, and as many stanzas wait in its session as may: it leaves the connection,
+-- and keeps the session. Its log shows the reading of the reaction, but that no page is open.
+pub record IsLeftAs (keep : ℕ) (history : List EntryView) (d : ItemDevice) (s : SessionView ItemOut) (z : ItemOut) (x : Reaction) (t : Turn ItemOut ItemOut) : Type 0 where
+  pub log : LogShows keep history t.client.log (record x.reading { page = None })
+  pub given : IsReadingGiven history (record x.reading { page = None })
+  pub account : t.client.account ≡ d.client.account
+  pub said : t.client.said ≡ d.client.said
+  pub epoch : t.client.epoch ≡ d.client.epoch
+  pub n : t.client.n ≡ d.client.n
+  pub pages : t.client.pages ≡ d.client.pages
+  pub phase : t.client.phase ≡ Apart
+  pub session : t.client.session ≡ Some (with_waiting s (counted_in s.waiting))
+  pub noted : noted t.out.notes ≡ Reads z ∷ []
