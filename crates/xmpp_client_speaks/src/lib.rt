@@ -3,4 +3,7 @@
 
 mod laws;
 
-pub use laws::{catch_ups_follow, stanzas_are_read, submissions_follow};
+pub use laws::{
+    accounts_have_bare_addresses, catch_ups_follow, stanzas_are_read, submissions_follow,
+    what_a_client_puts_is_taken,
+};

@@ -1,6 +1,6 @@
 -- A connection comes in a world: of this device, or of another one. Before it comes, the moment may end a session that
 -- was parked for too long.
-use Rattle.std.proofs.Common.{◌≡◌, ◌≢◌, ℕ, ◌+◌, ◌≤◌, Bool, true, false, List, [], ◌∷◌, ◌++◌, Option, Some, None, if◌then◌else◌, length, nat_eq, slice_get, refl, sym, ap, subst, ◌∙◌, inl, inr}
+use Rattle.std.proofs.Common.{◌≡◌, ◌≢◌, ℕ, ◌+◌, ◌≤◌, Bool, List, [], ◌∷◌, ◌++◌, Option, Some, None, if◌then◌else◌, length, nat_eq, slice_get, refl, sym, ap, subst, ◌∙◌, inl, inr}
 use Rattle.std.proofs.lemmas.Bool.{cases_Bool, cases_eq}
 use Rattle.std.specs.List.{filter, find}
 use Rattle.xmpp_client.specs.UserCalls.{dials}
@@ -15,11 +15,11 @@ use Rattle.xmpp_connections_follow.proofs.Numbered.{here_changed, length_changed
 use Rattle.xmpp_connections_follow.proofs.Stays.{along_both, client_stays, no_deeds, reached_along}
 use Rattle.xmpp_connections_follow.specs.Following.{AreDialled, IsDrawn, WorldFollows, with_login}
 use Rattle.xmpp_desk.specs.Moments.{at_moment, fresh_conn, with_fresh}
-use Rattle.xmpp_desk.specs.State.{Hall, conn_at}
+use Rattle.xmpp_desk.specs.State.{Hall}
 use Rattle.xmpp_device_views.specs.Identities.{Identity, Login}
 use Rattle.xmpp_device_views.specs.Pipes.{IsShown, PipesShow, by_number, under}
 use Rattle.xmpp_device_views.specs.Reading.{where_here}
-use Rattle.xmpp_device_views.specs.Servers.{ServerFollows, ServerShows, conn_shown}
+use Rattle.xmpp_device_views.specs.Servers.{ServerFollows, ServerShows}
 use Rattle.xmpp_device_views.specs.Shows.{Shows}
 use Rattle.xmpp_item_worlds.specs.ItemMoves.{Dial, dialed_by, fed_of, moved}
 use Rattle.xmpp_item_worlds.specs.ItemPipes.{ItemWire, fresh_wire, left, put_up}
@@ -30,6 +30,7 @@ use Rattle.xmpp_links.specs.Stages.{Conn}
 use Rattle.xmpp_links.specs.Views.{Table, View, with_at}
 use Rattle.xmpp_live.specs.Sessions.{Session, session_at}
 use Rattle.xmpp_wire_steps.proofs.Placed.{shown_as}
+use Rattle.xmpp_wire_steps.proofs.PromptMoves.{prompt_both, silent_as}
 use Rattle.xmpp_wires.specs.Places.{changed_where}
 use Rattle.xmpp_writer.specs.Items.{ItemOut}
 
@@ -81,6 +82,7 @@ module _ (who : Identity) (logins : ℕ → Login) (w : ItemWorld) (v : View Ite
         next = f.next;
         leads = along_both moment.moves f.moves v moment.next f.next moment.leads f.leads;
         does = no_deeds moment.moves f.moves moment.does f.does;
+        prompt = prompt_both moment.moves f.moves (silent_as moment.moves [] moment.does tt) f.prompt;
         shows = record {
           normal = s.normal;
           device = record { client = t.client; here = Some n };
@@ -137,6 +139,7 @@ module _ (whom : Identity) (others : ℕ → Login) (w : ItemWorld) (u : View It
         next = moment.next;
         leads = moment.leads;
         does = moment.does;
+        prompt = silent_as moment.moves [] moment.does tt;
         shows = record {
           normal = s.normal;
           device = s.device;

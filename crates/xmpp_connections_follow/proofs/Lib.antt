@@ -15,3 +15,4 @@ pub mod Lifts
 pub mod DownWords
 pub mod Elsewhere
 pub mod Comes
+pub mod Nobody

@@ -1,20 +1,20 @@
 //! Connections that come and go are moves of the links, and what follows a turn or a step follows it in a world.
-ghost use Rattle.std.specs.Prelude.{◌≡◌, ◌≢◌, ℕ, ◌+◌, ◌∷◌, [], Bool, true, List, Ok, Err, Some, length, slice_get};
+ghost use Rattle.std.specs.Prelude.{◌≡◌, ◌≢◌, ℕ, ◌+◌, ◌∷◌, [], Bool, true, false, List, Ok, Err, Some, length, slice_get};
 ghost use Rattle.xmpp_client.specs.UserCalls.{catch_up_answer, catches_up, closes, forgets, leaves, say_answer, says};
 ghost use Rattle.xmpp_client.specs.declared.faults.CatchUpStart.{CatchUpStart};
 ghost use Rattle.xmpp_client.specs.declared.faults.SayFault.{SayFault};
 ghost use Rattle.xmpp_client_rows.specs.Speech.{in_items};
-ghost use Rattle.xmpp_connections_follow.specs.Following.{CutFollows, HasNextDown, IsNextItem, WorldFollows};
+ghost use Rattle.xmpp_connections_follow.specs.Following.{AreDialled, CutFollows, HasNextDown, IsDrawn, IsNextItem, IsOfNobody, IsOnNone, WorldFollows, with_login};
 ghost use Rattle.xmpp_desk.specs.Moments.{at_moment, gone_at};
 ghost use Rattle.xmpp_desk.specs.State.{Hall};
 ghost use Rattle.xmpp_device_views.specs.Clients.{ClientShows};
-ghost use Rattle.xmpp_device_views.specs.Deeds.{Deed, Drops};
+ghost use Rattle.xmpp_device_views.specs.Deeds.{Deed, Drops, SaysNothing};
 ghost use Rattle.xmpp_device_views.specs.Identities.{Identity, Login};
 ghost use Rattle.xmpp_device_views.specs.Pipes.{PipesShow, by_number};
 ghost use Rattle.xmpp_device_views.specs.Reading.{ClosingFollows, ForgettingFollows, HearingFollows, IsNextDown, IsOverHere, IsRead, IsShownHere, LeavingFollows, SpeakingFollows, noted, turn_on};
 ghost use Rattle.xmpp_device_views.specs.Servers.{ServerFollows, ServerShows};
 ghost use Rattle.xmpp_device_views.specs.Shows.{Shows};
-ghost use Rattle.xmpp_item_worlds.specs.ItemMoves.{CatchUp, Close, Cut, Dial, Down, DownEnd, Forget, Say, Tick, Up, UpEnd, fed_of, moved, served_item};
+ghost use Rattle.xmpp_item_worlds.specs.ItemMoves.{CatchUp, Close, Cut, Dial, Down, DownEnd, Forget, ItemMove, Say, Tick, Up, UpEnd, fed_of, moved, served_item};
 ghost use Rattle.xmpp_item_worlds.specs.ItemPipes.{ItemWire, cut_at, is_end_due, up_end_told};
 ghost use Rattle.xmpp_item_worlds.specs.ItemWorlds.{ItemDevice, ItemWorld, silent_turn};
 ghost use Rattle.xmpp_links.specs.Machine.{LinkReached};
@@ -58,6 +58,44 @@ pub fn cuts_follow()
         → WorldFollows who logins (moved (Cut place i j) w) v [] }
 {}
 
+/// A law: where a device dials, it leaves the connection that it has, and the new one is there under the next number, with
+/// its login; before that the moment may end the session that was parked for too long (XEP-0198, section 5). Nothing of
+/// the server is on that number before.
+pub fn dials_follow()
+    ensures { (who : Identity) (logins : ℕ → Login) (w : ItemWorld) (v : View ItemOut) (x : Login) (mine yours : List ℕ) → Shows who logins w v → LinkReached v → IsDrawn who x mine yours → AreDialled (length w.wires) w.server
+        → WorldFollows who (with_login (length w.wires + 1) x logins) (moved (Dial who.place mine yours) w) v [] }
+{}
+
+/// A law: what happens to one device, and on its connections, leaves every other one as it is. As a connection comes the
+/// moment may end a session of the other one that was parked for too long.
+pub fn others_are_left()
+    ensures dials { (who whom : Identity) (logins others : ℕ → Login) (w : ItemWorld) (v u : View ItemOut) (mine yours : List ℕ) → Shows who logins w v → Shows whom others w u → whom.place ≢ who.place
+        → WorldFollows whom others (moved (Dial who.place mine yours) w) u [] }
+    ensures forgets { (who whom : Identity) (logins others : ℕ → Login) (w : ItemWorld) (v u : View ItemOut) → Shows who logins w v → Shows whom others w u → whom.place ≢ who.place
+        → Shows whom others (moved (Forget who.place) w) u }
+    ensures closes { (who whom : Identity) (logins others : ℕ → Login) (w : ItemWorld) (v u : View ItemOut) → Shows who logins w v → Shows whom others w u → whom.place ≢ who.place
+        → Shows whom others (moved (Close who.place) w) u }
+    ensures says { (who whom : Identity) (logins others : ℕ → Login) (w : ItemWorld) (v u : View ItemOut) (to text : List ℕ) (private : Bool) → Shows who logins w v → Shows whom others w u → whom.place ≢ who.place
+        → Shows whom others (moved (Say who.place to text private) w) u }
+    ensures asks { (who whom : Identity) (logins others : ℕ → Login) (w : ItemWorld) (v u : View ItemOut) (most : ℕ) → Shows who logins w v → Shows whom others w u → whom.place ≢ who.place
+        → Shows whom others (moved (CatchUp who.place most) w) u }
+    ensures hears { (whom : Identity) (others : ℕ → Login) (w : ItemWorld) (u : View ItemOut) (place : ℕ) (wire : ItemWire) → Shows whom others w u → slice_get w.wires place ≡ Some wire → wire.device ≢ whom.place
+        → Shows whom others (moved (Down place) w) u }
+    ensures ends { (whom : Identity) (others : ℕ → Login) (w : ItemWorld) (u : View ItemOut) (place : ℕ) (wire : ItemWire) → Shows whom others w u → slice_get w.wires place ≡ Some wire → wire.device ≢ whom.place
+        → Shows whom others (moved (DownEnd place) w) u }
+    ensures cuts { (whom : Identity) (others : ℕ → Login) (w : ItemWorld) (u : View ItemOut) (place i j : ℕ) (wire : ItemWire) → Shows whom others w u → slice_get w.wires place ≡ Some wire → wire.device ≢ whom.place
+        → Shows whom others (moved (Cut place i j) w) u }
+{}
+
+/// A law: a move of a device, or on a connection, that isn't there changes nothing; nor does one where nothing is to be
+/// handed over or told.
+pub fn moves_of_nobody_do_nothing()
+    ensures nobody { (m : ItemMove) (w : ItemWorld) → IsOfNobody m w → moved m w ≡ w }
+    ensures up { (w : ItemWorld) (place : ℕ) (wire : ItemWire) → slice_get w.wires place ≡ Some wire → wire.up.items ≡ [] → moved (Up place) w ≡ w }
+    ensures told { (w : ItemWorld) (place : ℕ) (wire : ItemWire) → slice_get w.wires place ≡ Some wire → is_end_due wire.up ≡ false → moved (UpEnd place) w ≡ w }
+    ensures down { (w : ItemWorld) (place : ℕ) (wire : ItemWire) → slice_get w.wires place ≡ Some wire → IsOnNone place wire w → moved (Down place) w ≡ w }
+{}
+
 /// A law: each item that comes to a device on the connection that it has is that of the first word there, and the client
 /// works there.
 pub fn words_come_down()
@@ -86,13 +124,13 @@ pub fn turns_follow()
 {}
 
 /// A law: what follows a step of the server on an item, as time passes, and where it is told the end of a connection,
-/// follows it in the world.
+/// follows it in the world: the client says nothing there.
 pub fn steps_follow()
-    ensures takes { (who : Identity) (logins : ℕ → Login) (w : ItemWorld) (v : View ItemOut) (place : ℕ) (wire : ItemWire) (i : ItemOut) (items : List ItemOut) (done : List (Deed ItemOut)) → Shows who logins w v
+    ensures takes { (who : Identity) (logins : ℕ → Login) (w : ItemWorld) (v : View ItemOut) (place : ℕ) (wire : ItemWire) (i : ItemOut) (items : List ItemOut) (done : List (Deed ItemOut)) → SaysNothing done → Shows who logins w v
         → slice_get w.wires place ≡ Some wire → wire.up.items ≡ i ∷ items → ServerFollows who logins (served_item place i w).server (by_number (served_item place i w).wires) v done
         → WorldFollows who logins (moved (Up place) w) v done }
-    ensures ticks { (who : Identity) (logins : ℕ → Login) (w : ItemWorld) (v : View ItemOut) (milliseconds : ℕ) (done : List (Deed ItemOut)) → Shows who logins w v
+    ensures ticks { (who : Identity) (logins : ℕ → Login) (w : ItemWorld) (v : View ItemOut) (milliseconds : ℕ) (done : List (Deed ItemOut)) → SaysNothing done → Shows who logins w v
         → ServerFollows who logins (at_moment (w.moment + milliseconds) w.server) (by_number w.wires) v done → WorldFollows who logins (moved (Tick milliseconds) w) v done }
-    ensures ends { (who : Identity) (logins : ℕ → Login) (w : ItemWorld) (v : View ItemOut) (place : ℕ) (wire : ItemWire) (done : List (Deed ItemOut)) → Shows who logins w v → slice_get w.wires place ≡ Some wire → is_end_due wire.up ≡ true
+    ensures ends { (who : Identity) (logins : ℕ → Login) (w : ItemWorld) (v : View ItemOut) (place : ℕ) (wire : ItemWire) (done : List (Deed ItemOut)) → SaysNothing done → Shows who logins w v → slice_get w.wires place ≡ Some wire → is_end_due wire.up ≡ true
         → ServerFollows who logins (gone_at (place + 1) (at_moment w.moment w.server)) (with_at (place + 1) (up_end_told wire) (by_number w.wires)) v done → WorldFollows who logins (moved (UpEnd place) w) v done }
 {}

@@ -5,6 +5,6 @@
 mod laws;
 
 pub use laws::{
-    closes_follow, cuts_follow, ends_are_told, forgets_follow, steps_follow, turns_follow,
-    words_come_down,
+    closes_follow, cuts_follow, dials_follow, ends_are_told, forgets_follow,
+    moves_of_nobody_do_nothing, others_are_left, steps_follow, turns_follow, words_come_down,
 };
