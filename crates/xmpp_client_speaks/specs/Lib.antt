@@ -1,0 +1,3 @@
+pub use Rattle.xmpp_edge.specs.Listed
+-- law: what a client's user writes to
+pub mod Speaking

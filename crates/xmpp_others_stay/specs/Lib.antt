@@ -1,0 +1,2 @@
+-- law: what a step leaves of other devices
+pub mod Beside

@@ -1,0 +1,10 @@
+pub mod Counted
+pub mod RuleKept
+pub mod Falls
+pub mod MomentsFall
+pub mod CalmRows
+pub mod ActsFall
+pub mod RowsFall
+pub mod ItemsFall
+pub mod Within
+pub mod WorldsWithin

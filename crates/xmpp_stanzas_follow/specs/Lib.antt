@@ -1,0 +1,3 @@
+pub use Rattle.xmpp_edge.specs.Listed
+-- law: what a stanza gives to whom
+pub mod Given
