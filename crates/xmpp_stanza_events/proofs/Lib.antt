@@ -1,0 +1,2 @@
+pub mod FullQueues
+pub mod MessageEvents
