@@ -1,11 +1,12 @@
 -- A stanza of a device is handled by the server of the applications, and sessions drift before and behind: what becomes of
 -- each device.
-use Rattle.std.specs.Prelude.{◌≡◌, ◌≢◌, ℕ, Bool, List, [], ◌∷◌, ◌++◌, Some, length, slice_get}
-use Rattle.xmpp_session_deeds.specs.Deeds.{Drift, Drifts, IsTaken}
-use Rattle.xmpp_sessions.specs.Devices.{Device, Sessions, Take, World}
-use Rattle.xmpp_sessions.specs.Events.{Event, Reaches, hears_of, told}
+use Rattle.std.specs.Prelude.{◌≡◌, ◌≢◌, ◌⊎◌, ℕ, Bool, List, [], ◌∷◌, ◌++◌, Some, length, slice_get}
+use Rattle.xmpp_session_deeds.specs.Deeds.{Drift, Drifts, IsTaken, IsTakenAtOnce}
+use Rattle.xmpp_sessions.specs.Devices.{Device, Sessions, Take, World, epoch_of}
+use Rattle.xmpp_sessions.specs.Devices.Row.{NoRow}
+use Rattle.xmpp_sessions.specs.Events.{Around, Event, Reaches, flagged, hears_of, made_served, reading_served, told}
 use Rattle.xmpp_sessions.specs.Histories.{spoken_in}
-use Rattle.xmpp_sessions.specs.Stanzas.{Submission}
+use Rattle.xmpp_sessions.specs.Stanzas.{Down, Submission, Up}
 use Rattle.xmpp_sessions.specs.Stanzas.Up.{Message}
 
 -- ---- a message to an account that exists
@@ -40,6 +41,27 @@ pub record IsTakenOf (t : Take) (number i : ℕ) (d : Device) (last : Sessions) 
   pub taken : IsTaken (Message t.said) there next
   pub hears : hears_of t i (record d { sessions = next }) ≡ heard
   pub rests : Drifts behind (told heard full number next) last
+
+-- ---- a stanza by which no message is taken
+
+-- The stanza is handled, and then the reply is given: all of it; or, where the queue is full, what comes before that, and the
+-- session ends.
+pub record IsRepliedTo (reply : List Down) (z : Up) (d last : Sessions) : Type 0 where
+  pub given : List Down
+  pub once : IsTakenAtOnce z given d last
+  pub whole : (given ≡ reply) ⊎ ((missing : Down) × (more : List Down) × (reply ≡ given ++ missing ∷ more) × (last.row ≡ NoRow))
+
+-- a device beside only drifts
+abbrev pub IsDriftedTo : Sessions → Sessions → Type 0
+IsDriftedTo d last = (xs : List Drift) × Drifts xs d last
+
+-- the device itself, with its flags, and what is known of answers
+abbrev pub served_as : Around → Up → Sessions → Device → Device
+served_as a z last d = record d {
+  sessions = flagged z last;
+  reading = reading_served a z d.reading;
+  made = made_served a (epoch_of d.sessions) z d.made;
+}
 
 -- ---- worlds
 
