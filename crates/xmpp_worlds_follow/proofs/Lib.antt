@@ -1,0 +1,4 @@
+-- ---- one device
+pub mod Downs
+-- ---- how a server stands
+pub mod Headers

@@ -1,0 +1,6 @@
+//! Each move of a world of items is moves of the links, for the device whose move it is and for every other one.
+#![tactic(auto)]
+
+mod laws;
+
+pub use laws::{headers_come_first, items_go_down, users_are_followed};
