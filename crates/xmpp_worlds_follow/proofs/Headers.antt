@@ -1,16 +1,15 @@
 -- What comes on a connection before its header was put is a header.
-use Rattle.std.proofs.Common.{◌≡◌, ℕ, ◌+◌, Bool, true, false, List, [], ◌∷◌, ◌++◌, Option, Some, None, slice_get, refl, sym, ap, subst, ◌∙◌}
+use Rattle.std.proofs.Common.{◌≡◌, ℕ, Bool, false, List, ◌∷◌, ◌++◌, Some, refl, sym, ap, subst, ◌∙◌}
 use Rattle.std.specs.Option.{option_map}
 use Rattle.xmpp_desk.specs.State.{Hall}
-use Rattle.xmpp_desk.specs.declared.connection.Connection.{Connection}
 use Rattle.xmpp_device_views.specs.Identities.{Identity, Login}
-use Rattle.xmpp_device_views.specs.Servers.{conn_shown, open_conn}
+use Rattle.xmpp_device_views.specs.Servers.{open_conn}
 use Rattle.xmpp_device_views.specs.WordItems.{up_item}
 use Rattle.xmpp_framing.specs.declared.states.Phase.TheVariants as framing
 use Rattle.xmpp_images.specs.Cores.{IsOpening, MayCome, writer_at, writer_of}
 use Rattle.xmpp_item_worlds.specs.ItemPipes.{ItemWire}
 use Rattle.xmpp_links.proofs.Reached.{link_kept}
-use Rattle.xmpp_links.specs.Stages.{Conn, Ending, Greets, Stage, Stands, foot_of, phase_of, up_of}
+use Rattle.xmpp_links.specs.Stages.{Ending, Greets, Stage, Stands, foot_of, phase_of, up_of}
 use Rattle.xmpp_links.specs.Views.{Table, View}
 use Rattle.xmpp_links.specs.Words.{AtSession, Challenge, Hdr, Phase, Ready, Restart, Sasl, Start, UpWord}
 use Rattle.xmpp_server_follows.proofs.Standing.{whole_first}

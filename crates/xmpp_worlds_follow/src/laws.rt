@@ -21,6 +21,30 @@ ghost use Rattle.xmpp_server_follows.specs.Taking.{AreCountable, HasFirst, HasNu
 ghost use Rattle.xmpp_worlds_follow.specs.Steps.{IsShownBeside, ItemGoesUp};
 ghost use Rattle.xmpp_writer.specs.Items.{ItemOut};
 
+/// A law: an item that goes up on a connection of a device is that of a word, and by that word the links of every device
+/// move. On a stanza the device's own links take it first; then each device is given what the row on the stanza sends to
+/// its session: all of it, or, where the session ends since no more stanzas may wait in its queue, what was sent before
+/// that. On any other word no stanza is put or handled. The next number of a session has 64 bits.
+pub fn items_go_up()
+    ensures { (who : Identity) (logins : ℕ → Login) (w : ItemWorld) (v : View ItemOut) (place : ℕ) (wire : ItemWire) (i : ItemOut) (items : List ItemOut) → Shows who logins w v → LinkReached v → slice_get w.wires place ≡ Some wire
+        → wire.device ≡ who.place → wire.up.items ≡ i ∷ items → HasNumber w.server → AreCountable v → ItemGoesUp who logins w v place wire i }
+{}
+
+/// A law: where the end of a connection of a device is told to the server, a session there is parked or ends
+/// (XEP-0198, section 5), and for each other device nothing moves but that the moment may end a session of it that was
+/// parked for too long.
+pub fn ends_go_up()
+    ensures own { (who : Identity) (logins : ℕ → Login) (w : ItemWorld) (v : View ItemOut) (place : ℕ) (wire : ItemWire) → Shows who logins w v → LinkReached v → slice_get w.wires place ≡ Some wire → wire.device ≡ who.place
+        → WorldFollows who logins (moved (UpEnd place) w) v [] }
+    ensures beside { (who whom : Identity) (logins others : ℕ → Login) (w : ItemWorld) (v u : View ItemOut) (place : ℕ) (wire : ItemWire) → Shows who logins w v → LinkReached v → slice_get w.wires place ≡ Some wire → wire.device ≡ who.place
+        → IsShownBeside who whom others w u → WorldFollows whom others (moved (UpEnd place) w) u [] }
+{}
+
+/// A law: as the clock moves on, a session that was parked for too long ends in the links of its device.
+pub fn ticks_follow()
+    ensures { (who : Identity) (logins : ℕ → Login) (w : ItemWorld) (v : View ItemOut) (milliseconds : ℕ) → Shows who logins w v → WorldFollows who logins (moved (Tick milliseconds) w) v [] }
+{}
+
 /// A law: whatever item comes down to a device, on the connection that it has, the client does on it what it does in the
 /// links, and of stanzas what it notes down. The client keeps to its bounds, it can answer what comes, and the next epoch
 /// has 64 bits.
