@@ -5,3 +5,4 @@ pub mod Ups
 pub mod UpEnds
 -- ---- how a server stands
 pub mod Headers
+pub mod StandMoves

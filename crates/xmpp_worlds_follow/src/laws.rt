@@ -1,23 +1,26 @@
 //! Each move of a world of items is moves of the links, for every device that the world shows.
-ghost use Rattle.std.specs.Prelude.{◌≡◌, ℕ, ◌+◌, ◌<◌, ◌^◌, ◌∷◌, [], Bool, List, Ok, Some, slice_get};
+ghost use Rattle.std.specs.Prelude.{◌≡◌, ℕ, ◌+◌, ◌<◌, ◌^◌, ◌∷◌, [], Bool, List, Ok, Some, length, slice_get};
 ghost use Rattle.xmpp_client.specs.UserCalls.{catch_up_answer, catches_up, say_answer, says};
 ghost use Rattle.xmpp_client_fits.specs.Answerable.{IsItemAnswerable};
 ghost use Rattle.xmpp_client_fits.specs.Within.{IsClientWithin};
 ghost use Rattle.xmpp_client_rows.specs.Speech.{in_items};
 ghost use Rattle.xmpp_client_speaks.specs.Speaking.{IsBareAddress};
-ghost use Rattle.xmpp_connections_follow.specs.Following.{IsNextItem, WorldFollows};
+ghost use Rattle.xmpp_connections_follow.specs.Following.{AreDialled, IsNextItem, WorldFollows};
 ghost use Rattle.xmpp_desk.specs.State.{Hall};
 ghost use Rattle.xmpp_device_views.specs.Identities.{Identity, Login};
 ghost use Rattle.xmpp_device_views.specs.Reading.{noted, turn_on};
 ghost use Rattle.xmpp_device_views.specs.Shows.{Shows};
 ghost use Rattle.xmpp_images.specs.Cores.{MayCome, writer_at};
-ghost use Rattle.xmpp_item_worlds.specs.ItemMoves.{CatchUp, Down, Say, Tick, UpEnd, moved};
+ghost use Rattle.xmpp_images.specs.ItemStarts.{items_at_start};
+ghost use Rattle.xmpp_item_worlds.specs.ItemMoves.{CatchUp, Down, ItemMove, Say, Tick, Up, UpEnd, moved};
 ghost use Rattle.xmpp_item_worlds.specs.ItemPipes.{ItemWire};
 ghost use Rattle.xmpp_item_worlds.specs.ItemWorlds.{ItemDevice, ItemWorld, read_of, silent_turn};
 ghost use Rattle.xmpp_links.specs.Machine.{LinkReached};
 ghost use Rattle.xmpp_links.specs.Views.{Table, View};
 ghost use Rattle.xmpp_requests_fit.specs.Bounds.{IsTextWithin, most_text};
+ghost use Rattle.xmpp_schedule.specs.Schedules.{WireView};
 ghost use Rattle.xmpp_server_follows.specs.Taking.{AreCountable, HasFirst, HasNumber};
+ghost use Rattle.xmpp_worlds_follow.specs.Standing.{MayGoUp, ServerStands};
 ghost use Rattle.xmpp_worlds_follow.specs.Steps.{IsShownBeside, ItemGoesUp};
 ghost use Rattle.xmpp_writer.specs.Items.{ItemOut};
 
@@ -66,4 +69,14 @@ pub fn users_are_followed()
 /// stands with its connections (`HallStands` of `xmpp_images`) goes on standing.
 pub fn headers_come_first()
     ensures { (who : Identity) (logins : ℕ → Login) (h : Hall ItemOut) (wires : Table ItemWire) (v : View ItemOut) (k : ℕ) (w : ItemWire) (i : ItemOut) → HasFirst who logins h wires v k w i → MayCome (writer_at k h) i }
+{}
+
+/// A law: a world's server stands with the connections that were dialled (`HallStands` of `xmpp_images`) as the world
+/// begins, and behind each move, where what goes up may come (`MayGoUp`): on a connection of a device that is shown all
+/// does. And where it stands, nothing of the server is on a connection that was not dialled yet.
+pub fn servers_stand()
+    ensures begins { (schedule : WireView) → ServerStands (items_at_start schedule) }
+    ensures stays { (m : ItemMove) (w : ItemWorld) → MayGoUp m w → ServerStands w → ServerStands (moved m w) }
+    ensures may { (who : Identity) (logins : ℕ → Login) (w : ItemWorld) (v : View ItemOut) (place : ℕ) → Shows who logins w v → LinkReached v → ((wire : ItemWire) → slice_get w.wires place ≡ Some wire → wire.device ≡ who.place) → MayGoUp (Up place) w }
+    ensures dialled { (w : ItemWorld) → ServerStands w → AreDialled (length w.wires) w.server }
 {}

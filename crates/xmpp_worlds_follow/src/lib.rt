@@ -4,5 +4,6 @@
 mod laws;
 
 pub use laws::{
-    ends_go_up, headers_come_first, items_go_down, items_go_up, ticks_follow, users_are_followed,
+    ends_go_up, headers_come_first, items_go_down, items_go_up, servers_stand, ticks_follow,
+    users_are_followed,
 };
