@@ -58,7 +58,7 @@ module _ (who : Identity) (logins : ℕ → Login) (d : ItemDevice) (wires : Tab
         let next : View ItemOut =
         record v { conns = with_at k (heard who logins d wires v k (Down Req) p p.conn.client puts) v.conns; sessions = alter (λ q s. told_if (has (Some o.number) q) s) v.sessions } in
         subst (HearingFollows who logins d wires v k p.wire) (sym request_turn)
-        (works_on who logins d wires v k (Down Req) p (request_row in_items now asked.0) p.conn.client puts (ReadsRequest k ∷ []) next refl p.shown.client.epoch p.shown.client.own
+        (works_on who logins d wires v k (Down Req) p (request_row in_items now asked.0) p.conn.client puts (ReadsRequest k ∷ []) next (tt, tt) refl p.shown.client.epoch p.shown.client.own
         (phase_here who logins d wires v k (Down Req) p p.conn.client refl) (ap (λ n. ack_item n ∷ []) asked.2.handled) (All-nil IsForServer) refl
         (next, record { conn = p.conn; here = p.here; is = p.is; rest = p.rest; first = p.first; own = o; is_own = own; client = is; gives = refl }, refl) refl refl (λ j. refl) refl refl
         (known_altered (λ q s. told_if (has (Some o.number) q) s) v))
@@ -97,7 +97,7 @@ module _ (who : Identity) (logins : ℕ → Login) (d : ItemDevice) (wires : Tab
           sessions = alter (λ q s. heard_if (has (Some o.number) q) h s) v.sessions;
         } in
         subst (HearingFollows who logins d wires v k p.wire) (sym count_turn)
-        (works_on who logins d wires v k (Down (Ack h)) p goes_on p.conn.client [] (ReadsCount k h ∷ []) next refl p.shown.client.epoch (acked_own o counted.0 h within counted.2)
+        (works_on who logins d wires v k (Down (Ack h)) p goes_on p.conn.client [] (ReadsCount k h ∷ []) next (tt, tt) refl p.shown.client.epoch (acked_own o counted.0 h within counted.2)
         (phase_here who logins d wires v k (Down (Ack h)) p p.conn.client refl) refl (All-nil IsForServer) refl
         (next, record { conn = p.conn; here = p.here; is = p.is; rest = p.rest; first = p.first; own = o; is_own = own; client = is; gives = refl }, refl) refl refl (λ j. refl) refl refl
         (known_altered (λ q s. heard_if (has (Some o.number) q) h s) v))

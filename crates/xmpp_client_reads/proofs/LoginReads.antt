@@ -57,7 +57,7 @@ module _ (who : Identity) (logins : ℕ → Login) (d : ItemDevice) (wires : Tab
       → All IsForServer (up_stanzas puts) → SameItems who logins d wires v k word p client → HearingFollows who logins d wires v k p.wire t
   hand_follows word p client puts t early hand is put notes stanzas items =
       let next : View ItemOut = record v { conns = with_at k (heard who logins d wires v k word p client puts) v.conns } in
-      works_on who logins d wires v k word p t client puts (ReadsHand k ∷ []) next (ap (λ (c : ClientView ItemOut). c.account) is) (ap (λ (c : ClientView ItemOut). c.epoch) is ∙ p.shown.client.epoch)
+      works_on who logins d wires v k word p t client puts (ReadsHand k ∷ []) next (tt, tt) (ap (λ (c : ClientView ItemOut). c.account) is) (ap (λ (c : ClientView ItemOut). c.epoch) is ∙ p.shown.client.epoch)
       (subst (IsOwnShown v.own) (ap (λ (c : ClientView ItemOut). c.session) (sym is)) p.shown.client.own) (ap (λ (c : ClientView ItemOut). c.phase) is) put stanzas items
       (next, record { conn = p.conn; here = p.here; is = p.is; word = word; rest = p.rest; first = p.first; early = early; client = client; puts = puts; hand = hand; gives = refl }, refl) (sym notes) refl (λ j. refl) refl refl (known_same v)
 
@@ -110,7 +110,7 @@ module _ (who : Identity) (logins : ℕ → Login) (d : ItemDevice) (wires : Tab
     binds_follow : p.conn.client ≡ InFeatures2 → v.own ≡ None → IsOwnShown v.own d.client.session → HearingFollows who logins d wires v k p.wire (resumes_or_binds in_items now None)
     binds_follow is none own =
         let next : View ItemOut = record v { conns = with_at k (heard who logins d wires v k Feat p InBind (Bind ∷ [])) v.conns } in
-        works_on who logins d wires v k Feat p (resumes_or_binds in_items now None) InBind (Bind ∷ []) (AsksToBind k ∷ []) next refl p.shown.client.epoch own refl
+        works_on who logins d wires v k Feat p (resumes_or_binds in_items now None) InBind (Bind ∷ []) (AsksToBind k ∷ []) next (tt, tt) refl p.shown.client.epoch own refl
         (ap (λ (a : Account). bind_item a.resource ∷ []) p.shown.client.account) (All-nil IsForServer) (same_items who logins d wires v k Feat p InFeatures2 InBind is refl)
         (next, record { conn = p.conn; here = p.here; is = p.is; rest = p.rest; first = p.first; client = is; none = none; gives = refl }, refl) refl refl (λ j. refl) refl refl (known_same v)
 
@@ -119,7 +119,7 @@ module _ (who : Identity) (logins : ℕ → Login) (d : ItemDevice) (wires : Tab
     resumes_follow o s is some own both =
         let next : View ItemOut =
         record v { conns = with_at k (heard who logins d wires v k Feat p (InResume o.number) (ResumeAt o.number o.handled ∷ [])) v.conns; sessions = alter (λ q t. told_if (has (Some o.number) q) t) v.sessions } in
-        works_on who logins d wires v k Feat p (resumes_or_binds in_items now (Some s)) (InResume o.number) (ResumeAt o.number o.handled ∷ []) (AsksToResume k ∷ []) next refl p.shown.client.epoch own refl
+        works_on who logins d wires v k Feat p (resumes_or_binds in_items now (Some s)) (InResume o.number) (ResumeAt o.number o.handled ∷ []) (AsksToResume k ∷ []) next (tt, tt) refl p.shown.client.epoch own refl
         (ap (λ previd. resume_item previd s.waiting.handled ∷ []) both.previd ∙ ap (λ n. resume_item (previd_of o.number) n ∷ []) both.handled) (All-nil IsForServer)
         (same_items who logins d wires v k Feat p InFeatures2 (InResume o.number) is refl)
         (next, record { conn = p.conn; here = p.here; is = p.is; rest = p.rest; first = p.first; client = is; own = o; is_own = some; gives = refl }, refl) refl refl (λ j. refl) refl refl

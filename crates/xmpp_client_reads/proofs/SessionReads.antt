@@ -1,5 +1,5 @@
 -- The client reads how its session begins, is resumed, or is no more.
-use Rattle.std.proofs.Common.{◌≡◌, ℕ, ◌+◌, ◌-◌, ◌<◌, ◌^◌, true, false, List, [], ◌∷◌, Some, None, length, drop, codes, if◌then◌else◌, is_ok, not, refl, sym, ap, subst, ◌∙◌, arith}
+use Rattle.std.proofs.Common.{◌≡◌, ℕ, ◌+◌, ◌-◌, ◌<◌, ◌^◌, true, false, List, [], ◌∷◌, Some, None, length, drop, codes, inl, if◌then◌else◌, is_ok, not, refl, sym, ap, subst, ◌∙◌, arith}
 use Rattle.std.proofs.Math.Nat.{min-eq_left, mod-lt}
 use Rattle.std.proofs.lemmas.List.Elements.{All-cons, All-nil}
 use Rattle.std.specs.List.{All}
@@ -70,7 +70,7 @@ module _ (who : Identity) (logins : ℕ → Login) (d : ItemDevice) (wires : Tab
     failed_read =
         let next : View ItemOut = record v { conns = with_at k (heard who logins d wires v k Failed p InBind (Bind ∷ [])) v.conns; own = None } in
         subst (HearingFollows who logins d wires v k p.wire) (sym failed_turn)
-        (works_on who logins d wires v k Failed p (failed_row in_items now) InBind (Bind ∷ []) (ReadsFailed k ∷ []) next refl p.shown.client.epoch tt refl
+        (works_on who logins d wires v k Failed p (failed_row in_items now) InBind (Bind ∷ []) (ReadsFailed k ∷ []) next (tt, tt) refl p.shown.client.epoch tt refl
         (ap (λ (a : Account). bind_item a.resource ∷ []) p.shown.client.account) (All-nil IsForServer) (same_items who logins d wires v k Failed p (InResume o.number) InBind is refl)
         (next, record { conn = p.conn; here = p.here; is = p.is; rest = p.rest; first = p.first; p = o.number; client = is; gives = refl }, refl) refl refl (λ j. refl) refl refl (known_same v))
 
@@ -100,7 +100,7 @@ module _ (who : Identity) (logins : ℕ → Login) (d : ItemDevice) (wires : Tab
           sessions = alter (λ q s. record s { epoch = if has (Some m) q then Some (v.epoch + 1) else s.epoch }) v.sessions;
         } in
         subst (HearingFollows who logins d wires v k p.wire) (sym bound_turn)
-        (works_on who logins d wires v k (Bound m) p enables InEnable (Enable ∷ []) (ReadsBound k m ∷ []) next refl (ap next_number p.shown.client.epoch ∙ next_epoch v.epoch low) p.shown.client.own refl refl (All-nil IsForServer)
+        (works_on who logins d wires v k (Bound m) p enables InEnable (Enable ∷ []) (ReadsBound k m ∷ []) next (tt, tt) refl (ap next_number p.shown.client.epoch ∙ next_epoch v.epoch low) p.shown.client.own refl refl (All-nil IsForServer)
         (same_items who logins d wires v k (Bound m) p InBind InEnable is refl)
         (next, record { conn = p.conn; here = p.here; is = p.is; rest = p.rest; first = p.first; client = is; gives = refl }, refl) refl refl (λ j. refl) refl refl
         (known_altered (λ q s. record s { epoch = if has (Some m) q then Some (v.epoch + 1) else s.epoch }) v))
@@ -165,7 +165,7 @@ module _ (who : Identity) (logins : ℕ → Login) (d : ItemDevice) (wires : Tab
         let puts : List (UpWord ItemOut) = Up (St carbons_item) ∷ Up (St available_item) ∷ [] in
         let stanzas : All IsForServer (up_stanzas puts) = own_begun.for_server in
         subst (HearingFollows who logins d wires v k p.wire) (sym enabled_turn)
-        (works_on who logins d wires v k (Enabled m) p starts (InOnline m) puts (ReadsEnabled k m ∷ Puts k carbons_item ∷ Puts k available_item ∷ []) third_view refl p.shown.client.epoch own_begun refl refl stanzas
+        (works_on who logins d wires v k (Enabled m) p starts (InOnline m) puts (ReadsEnabled k m ∷ Puts k carbons_item ∷ Puts k available_item ∷ []) third_view (tt, (inl refl, (inl refl, tt))) refl p.shown.client.epoch own_begun refl refl stanzas
         (same_items who logins d wires v k (Enabled m) p InEnable (InOnline m) is refl) (
           first_view,
           record { conn = p.conn; here = p.here; is = p.is; rest = p.rest; first = p.first; client = is; gives = refl },
@@ -219,7 +219,7 @@ module _ (who : Identity) (logins : ℕ → Login) (d : ItemDevice) (wires : Tab
         } in
         let after = acked_own o s h within has_session.2 in
         subst (HearingFollows who logins d wires v k p.wire) (sym resumed_turn)
-        (works_on who logins d wires v k (Resumed q h) p goes_on (InOnline o.number) (again left_over) (ReadsResumed k ∷ []) next refl p.shown.client.epoch after refl
+        (works_on who logins d wires v k (Resumed q h) p goes_on (InOnline o.number) (again left_over) (ReadsResumed k ∷ []) next (tt, tt) refl p.shown.client.epoch after refl
         (ap (resent in_items) after.queue ∙ again_items who (logins k) left_over) (subst (All IsForServer) (sym (again_stanzas left_over)) after.for_server)
         (same_items who logins d wires v k (Resumed q h) p (InResume q) (InOnline o.number) is refl) (
           next,

@@ -6,7 +6,7 @@ use Rattle.xmpp_client_rows.specs.Clients.{ClientView, Turn}
 use Rattle.xmpp_client_rows.specs.Turns.{is_apart}
 use Rattle.xmpp_device_views.specs.Clients.{ClientShows, IsOwnShown, client_phase}
 use Rattle.xmpp_device_views.specs.Counted.{IsForServer}
-use Rattle.xmpp_device_views.specs.Deeds.{deeds_of}
+use Rattle.xmpp_device_views.specs.Deeds.{ArePrompt, deeds_of}
 use Rattle.xmpp_device_views.specs.Frames.{KeepsServer, SameServer}
 use Rattle.xmpp_device_views.specs.Identities.{Identity, Login}
 use Rattle.xmpp_device_views.specs.Pipes.{IsShown, IsWire}
@@ -148,18 +148,19 @@ module _ (who : Identity) (logins : ℕ → Login) (d : ItemDevice) (wires : Tab
   same_items before client is same = ap (λ b. map (down_item who (logins k) k b) p.rest) (ap is_behind_login is ∙ same)
 
   -- the client works on: it comes to a state and puts words
-  pub works_on : (t : Turn ItemOut ItemOut) (client : Client) (puts : List (UpWord ItemOut)) (moves : List (LinkMove ItemOut)) (next : View ItemOut)
+  pub works_on : (t : Turn ItemOut ItemOut) (client : Client) (puts : List (UpWord ItemOut)) (moves : List (LinkMove ItemOut)) (next : View ItemOut) → ArePrompt moves
       → t.client.account ≡ d.client.account → t.client.epoch ≡ next.epoch → IsOwnShown next.own t.client.session → t.client.phase ≡ client_phase who (logins k) client
       → t.out.put ≡ map (up_item who (logins k)) puts → All IsForServer (up_stanzas puts) → SameItems client
       → LinkReaches moves v next → deeds_of moves ≡ noted t.out.notes
       → next.here ≡ v.here → ((j : ℕ) → next.conns j ≡ with_at k (heard client puts) v.conns j) → next.row ≡ v.row → next.free ≡ v.free → Known next.sessions v
       → HearingFollows who logins d wires v k p.wire t
-  works_on t client puts moves next account epoch own phase put stanzas items leads does here conns row free known =
+  works_on t client puts moves next prompt account epoch own phase put stanzas items leads does here conns row free known =
       record {
         moves = moves;
         next = next;
         leads = leads;
         does = does;
+        prompt = prompt;
         client =
             subst (λ b. ClientShows who logins (record { client = t.client; here = here_behind b d.here }) next) (sym works)
             (client_works who logins d v p.shown.client next k (heard client puts) t.client p.here here (conns k ∙ at_same k (heard client puts) v.conns) account epoch own phase);
@@ -184,6 +185,7 @@ module _ (who : Identity) (logins : ℕ → Login) (d : ItemDevice) (wires : Tab
         next = next;
         leads = (cut, record { conn = p.conn; is = p.is; gives = refl }, (next, record { conn = after; here = p.here; is = at_same k after v.conns; ended = cut_stops (length (up_words p.conn.wires)) 0 p.conn.wires; empty = cut_down_words (length (up_words p.conn.wires)) 0 p.conn.wires; gives = refl }, refl));
         does = sym notes;
+        prompt = (tt, (tt, tt));
         client =
             subst (λ b. ClientShows who logins (record { client = t.client; here = here_behind b d.here }) next) (sym apart)
             (client_leaves who logins d v p.shown.client next t.client refl account (epoch ∙ p.shown.client.epoch) (subst (IsOwnShown v.own) (sym session) p.shown.client.own) apart);

@@ -1,11 +1,12 @@
 -- A turn of a client, part by part, is moves of the links.
-use Rattle.std.proofs.Common.{◌≡◌, ◌≢◌, ℕ, ◌+◌, ◌≤◌, ◌==◌, Bool, true, false, List, [], ◌∷◌, ◌++◌, Option, Some, None, length, is_none, refl, sym, ap, subst, ◌∙◌, arith, append-nil, append_assoc, inl, inr, if◌then◌else◌}
+use Rattle.std.proofs.Common.{◌≡◌, ◌≢◌, ◌⊎◌, ℕ, ◌+◌, ◌≤◌, ◌==◌, Bool, true, false, List, [], ◌∷◌, ◌++◌, Option, Some, None, length, is_none, refl, sym, ap, subst, ◌∙◌, arith, append-nil, append_assoc, inl, inr, if◌then◌else◌}
 use Rattle.std.proofs.lemmas.Bool.{cases_Bool}
 use Rattle.std.proofs.lemmas.Bool.Decides.{nat_tests}
 use Rattle.std.proofs.lemmas.List.{length_push}
 use Rattle.std.proofs.lemmas.List.Elements.{All-append, All-cons, All-nil}
 use Rattle.xmpp_client_reads.proofs.Hearing.{wire_left, wire_said}
 use Rattle.xmpp_client_reads.proofs.Working.{client_leaves, client_works, same_server}
+use Rattle.xmpp_client_rows.specs.Clients.{ClientView}
 use Rattle.xmpp_client_rows.specs.Speech.{Note, Put}
 use Rattle.xmpp_client_rows.specs.Turns.{is_apart, is_online}
 use Rattle.xmpp_client_rows.specs.declared.phase.Phase.{Phase}
@@ -13,7 +14,7 @@ use Rattle.xmpp_client_rows.specs.declared.phase.Phase.TheVariants as phase
 use Rattle.xmpp_client_speaks.proofs.Outcomes.{IsGone, IsQueued, IsQuiet, IsSaid, T, said_put}
 use Rattle.xmpp_device_views.specs.Clients.{ClientFollows, ClientShows, IsOwn, IsOwnShown, client_phase}
 use Rattle.xmpp_device_views.specs.Counted.{IsForServer}
-use Rattle.xmpp_device_views.specs.Deeds.{Says, deed_of, deeds_of}
+use Rattle.xmpp_device_views.specs.Deeds.{ArePrompt, IsAskedAt, Says, awaits, deed_of, deeds_of}
 use Rattle.xmpp_device_views.specs.Frames.{KeepsServer, SameServer}
 use Rattle.xmpp_device_views.specs.Identities.{Identity, Login}
 use Rattle.xmpp_device_views.specs.Pipes.{IsShown, IsWire, PipesShow}
@@ -27,7 +28,7 @@ use Rattle.xmpp_links.proofs.Reached.{kept_along}
 use Rattle.xmpp_links.proofs.Tables.{cut_down_words, cut_stops}
 use Rattle.xmpp_links.specs.LinkMoves.{ways_cut}
 use Rattle.xmpp_links.specs.Links.{FitsOwn, LinkKept}
-use Rattle.xmpp_links.specs.Machine.{Cuts, LetsGo, LinkMove, Puts, Queues, Requests}
+use Rattle.xmpp_links.specs.Machine.{Cuts, LetsGo, LinkMove, LinkReaches, Puts, Queues, Requests}
 use Rattle.xmpp_links.specs.PutMoves.{is_online as is_client_online}
 use Rattle.xmpp_links.specs.SessionMoves.{put_if}
 use Rattle.xmpp_links.specs.Stages.{Conn}
@@ -39,6 +40,7 @@ use Rattle.xmpp_outbox.specs.Waiting.{is_full}
 use Rattle.xmpp_replies.specs.Management.{request_item}
 use Rattle.xmpp_wire_steps.proofs.MoreMoves.{deeds_both, then_reaches}
 use Rattle.xmpp_wire_steps.proofs.Placed.{shown_at}
+use Rattle.xmpp_wire_steps.proofs.PromptMoves.{prompt_both}
 use Rattle.xmpp_wire_steps.proofs.Servings.{known_altered, known_same}
 use Rattle.xmpp_writer.specs.Items.{ItemOut}
 
@@ -162,6 +164,23 @@ wire_of who x k (Some b) (Some w) c is shown = let same : b ≡ c = cc in (w, re
 
 -- ---- a turn
 
+-- a stanza has gone out on this connection, on which the client is online: moves lead so far, and a request that is put at
+-- once makes them prompt
+pub record IsOut (who : Identity) (logins : ℕ → Login) (d : ItemDevice) (v : View ItemOut) (table : List ItemOut → Table ItemWire) (z : ItemOut) (k : ℕ) (t : T) : Type 0 where
+  pub moves : List (LinkMove ItemOut)
+  pub next : View ItemOut
+  pub leads : LinkReaches moves v next
+  pub does : deeds_of moves ≡ noted t.out.notes
+  pub client : ClientShows who logins (record d { client = t.client }) next
+  pub pipes : PipesShow who logins (table t.out.put) next
+  pub server : SameServer v next
+  pub p : ℕ
+  pub conn : Conn ItemOut
+  pub here : next.here ≡ Some k
+  pub is : next.conns k ≡ Some conn
+  pub online : conn.client ≡ InOnline p
+  pub behind : (more : List (LinkMove ItemOut)) → (awaits z ≡ false) ⊎ IsAskedAt k more → ArePrompt more → ArePrompt (moves ++ more)
+
 module _ (who : Identity) (logins : ℕ → Login) (d : ItemDevice) (v : View ItemOut) (table : List ItemOut → Table ItemWire) where
   -- so far moves lead to a view that shows the device with this turn's client, and with what it put in the pipes
   abbrev pub Course : T → Type 0
@@ -174,6 +193,7 @@ module _ (who : Identity) (logins : ℕ → Login) (d : ItemDevice) (v : View It
     next = c.next;
     leads = c.leads;
     does = c.does ∙ ap noted (sym q.notes);
+    prompt = c.prompt;
     client = record {
       account = q.account ∙ c.client.account;
       epoch = q.epoch ∙ c.client.epoch;
@@ -192,8 +212,8 @@ module _ (who : Identity) (logins : ℕ → Login) (d : ItemDevice) (v : View It
     kept_so t c = kept_along c.moves v c.next kept c.leads
 
     -- the pipes of the connection that the client works on take what is put
-    enters_at : (t : T) (c : Course t) (k : ℕ) → c.next.here ≡ Some k → Enters k table
-    enters_at t c k at = let had = c.client.here k at in subst (λ n. Enters n table) (sym had.1) (enters had.0 had.2)
+    enters_at : (a : ClientView ItemOut) (next : View ItemOut) → ClientShows who logins (record d { client = a }) next → (k : ℕ) → next.here ≡ Some k → Enters k table
+    enters_at a next shows k at = let had = shows.here k at in subst (λ n. Enters n table) (sym had.1) (enters had.0 had.2)
 
     -- the connection on which it is online
     works_online : (t : T) (c : Course t) → is_online t.client.phase ≡ true → IsOnlineHere c.next
@@ -228,6 +248,7 @@ module _ (who : Identity) (logins : ℕ → Login) (d : ItemDevice) (v : View It
           next = next;
           leads = then_reaches c.moves (Queues z ∷ []) v c.next next c.leads (next, record { own = o.0; is_own = o.1; away = away; gives = refl }, refl);
           does = more_said t u c z (Queues z) refl q.notes;
+          prompt = prompt_both c.moves (Queues z ∷ []) c.prompt (tt, tt);
           client = record {
             account = q.account ∙ c.client.account;
             epoch = q.epoch ∙ c.client.epoch;
@@ -253,7 +274,7 @@ module _ (who : Identity) (logins : ℕ → Login) (d : ItemDevice) (v : View It
     -- ---- and where it is online: it goes out
 
     put_course : (t u : T) (c : Course t) (s : SessionView ItemOut) (z : ItemOut) → t.client.session ≡ Some s → is_full s.waiting ≡ false → IsForServer z → IsQueued t u s z → u.out.put ≡ t.out.put ++ z ∷ []
-        → (k p : ℕ) (conn : Conn ItemOut) → c.next.here ≡ Some k → c.next.conns k ≡ Some conn → conn.client ≡ InOnline p → Course u
+        → (k p : ℕ) (conn : Conn ItemOut) → c.next.here ≡ Some k → c.next.conns k ≡ Some conn → conn.client ≡ InOnline p → IsOut who logins d v table z k u
     put_course t u c s z stands place good q put k p conn at is online =
         record {
           moves = c.moves ++ Puts k z ∷ [];
@@ -270,13 +291,19 @@ module _ (who : Identity) (logins : ℕ → Login) (d : ItemDevice) (v : View It
               (shown_at who logins (table t.out.put) (table (t.out.put ++ z ∷ [])) c.next next k after (put_up (z ∷ []) w.0) c.pipes (λ j. refl) (way.here t.out.put (z ∷ []) w.0 w.1) (way.apart t.out.put (z ∷ []))
               (wire_said who (logins k) k conn w.0 w.2 (Up (St z) ∷ []) (All-cons IsForServer z [] good (All-nil IsForServer))));
           server = server_then v c.next next c.server (same_server c.next next k conn after is (λ j. refl) refl refl (known_altered _ c.next) refl refl refl);
+          p = p;
+          conn = after;
+          here = at;
+          is = at_same k after c.next.conns;
+          online = online;
+          behind = λ more asked rest. subst ArePrompt (sym (append_assoc c.moves (Puts k z ∷ []) more)) (prompt_both c.moves (Puts k z ∷ more) c.prompt (asked, rest));
         }
       where
         o : (w : Own ItemOut) × (c.next.own ≡ Some w) × IsOwn w s
         o = own_shown c.next.own t.client.session s stands c.client.own
 
         way : Enters k table
-        way = enters_at t c k at
+        way = enters_at t.client c.next c.client k at
 
         w : (w : ItemWire) × (table t.out.put k ≡ Some w) × IsWire who (logins k) k conn w
         w = wire_of who (logins k) k (c.next.conns k) (table t.out.put k) conn is (c.pipes.each k)
@@ -293,53 +320,66 @@ module _ (who : Identity) (logins : ℕ → Login) (d : ItemDevice) (v : View It
 
     -- ---- a request behind it
 
-    ask_course : (t u : T) (c : Course t) (s : SessionView ItemOut) → t.client.session ≡ Some s → u.client ≡ t.client → u.out.notes ≡ t.out.notes → u.out.put ≡ t.out.put ++ request_item ∷ []
-        → (k p : ℕ) (conn : Conn ItemOut) → c.next.here ≡ Some k → c.next.conns k ≡ Some conn → conn.client ≡ InOnline p → Course u
-    ask_course t u c s stands same notes put k p conn at is online =
+    ask_course : (t u : T) (s : SessionView ItemOut) (z : ItemOut) (k : ℕ) (c : IsOut who logins d v table z k t) → t.client.session ≡ Some s → u.client ≡ t.client → u.out.notes ≡ t.out.notes → u.out.put ≡ t.out.put ++ request_item ∷ [] → Course u
+    ask_course t u s z k c stands same notes put =
         record {
           moves = c.moves ++ Requests k ∷ [];
           next = next;
           leads =
               then_reaches c.moves (Requests k ∷ []) v c.next next c.leads
-              (next, record { conn = conn; here = at; is = is; own = o.0; is_own = o.1; client = online_own c.next k p conn o.0 (kept_so t c) at is online o.1; gives = refl }, refl);
+              (next, record { conn = c.conn; here = c.here; is = c.is; own = o.0; is_own = o.1; client = online_own c.next k c.p c.conn o.0 (kept_along c.moves v c.next kept c.leads) c.here c.is c.online o.1; gives = refl }, refl);
           does = deeds_both c.moves (Requests k ∷ []) ∙ append-nil (deeds_of c.moves) ∙ c.does ∙ ap noted (sym notes);
+          prompt = c.behind (Requests k ∷ []) (inr ([], refl)) (tt, tt);
           client =
               subst (λ a. ClientShows who logins (record d { client = a }) next) (sym same)
-              (client_works who logins (record d { client = t.client }) c.next c.client next k after t.client at refl (at_same k after c.next.conns) refl c.client.epoch c.client.own (c.client.phase k conn at is));
+              (client_works who logins (record d { client = t.client }) c.next c.client next k after t.client c.here refl (at_same k after c.next.conns) refl c.client.epoch c.client.own (c.client.phase k c.conn c.here c.is));
           pipes =
               subst (λ items. PipesShow who logins (table items) next) (sym put)
               (shown_at who logins (table t.out.put) (table (t.out.put ++ request_item ∷ [])) c.next next k after (put_up (request_item ∷ []) w.0) c.pipes (λ j. refl) (way.here t.out.put (request_item ∷ []) w.0 w.1)
               (way.apart t.out.put (request_item ∷ []))
-              (wire_said who (logins k) k conn w.0 w.2 (Up Req ∷ []) (All-nil IsForServer)));
-          server = server_then v c.next next c.server (same_server c.next next k conn after is (λ j. refl) refl refl (known_same c.next) refl refl refl);
+              (wire_said who (logins k) k c.conn w.0 w.2 (Up Req ∷ []) (All-nil IsForServer)));
+          server = server_then v c.next next c.server (same_server c.next next k c.conn after c.is (λ j. refl) refl refl (known_same c.next) refl refl refl);
         }
       where
         o : (w : Own ItemOut) × (c.next.own ≡ Some w) × IsOwn w s
         o = own_shown c.next.own t.client.session s stands c.client.own
 
         way : Enters k table
-        way = enters_at t c k at
+        way = enters_at t.client c.next c.client k c.here
 
-        w : (w : ItemWire) × (table t.out.put k ≡ Some w) × IsWire who (logins k) k conn w
-        w = wire_of who (logins k) k (c.next.conns k) (table t.out.put k) conn is (c.pipes.each k)
+        w : (w : ItemWire) × (table t.out.put k ≡ Some w) × IsWire who (logins k) k c.conn w
+        w = wire_of who (logins k) k (c.next.conns k) (table t.out.put k) c.conn c.is (c.pipes.each k)
 
         after : Conn ItemOut
-        after = record conn { wires = send_up (Up Req ∷ []) conn.wires }
+        after = record c.conn { wires = send_up (Up Req ∷ []) c.conn.wires }
 
         next : View ItemOut
         next = record c.next { conns = with_at k after c.next.conns }
 
+    -- ---- or none, where it isn't awaited
+
+    out_course : (t : T) (z : ItemOut) (k : ℕ) → IsOut who logins d v table z k t → awaits z ≡ false → Course t
+    out_course t z k c other = record {
+      moves = c.moves;
+      next = c.next;
+      leads = c.leads;
+      does = c.does;
+      prompt = subst ArePrompt (append-nil c.moves) (c.behind [] (inl other) tt);
+      client = c.client;
+      pipes = c.pipes;
+      server = c.server;
+    }
+
     -- ---- a stanza is put, wherever the client stands
 
-    both_course : (t u : T) (c : Course t) (m : IsSaid t u) → is_online t.client.phase ≡ true → (asks : Bool) → u.out.put ≡ said_put asks t.out.put m.stanza → Course u
-    both_course t u c m on false put =
+    both_course : (t u : T) (c : Course t) (m : IsSaid t u) → is_online t.client.phase ≡ true → (asks : Bool) → m.asks ≡ asks → u.out.put ≡ said_put asks t.out.put m.stanza → Course u
+    both_course t u c m on false silent put =
         let at = works_online t c on in
-        put_course t u c m.session m.stanza m.stands m.place m.good m.queued put at.k at.p at.conn at.here at.is at.online
-    both_course t u c m on true put =
+        out_course u m.stanza at.k (put_course t u c m.session m.stanza m.stands m.place m.good m.queued put at.k at.p at.conn at.here at.is at.online) (m.other silent)
+    both_course t u c m on true asks put =
         let at = works_online t c on in
-        let said : Course middle = put_course t middle c m.session m.stanza m.stands m.place m.good queued refl at.k at.p at.conn at.here at.is at.online in
-        let then_at = works_online middle said (ap is_online m.queued.phase ∙ on) in
-        ask_course middle u said m.queued.session m.queued.is refl refl put then_at.k then_at.p then_at.conn then_at.here then_at.is then_at.online
+        let said : IsOut who logins d v table m.stanza at.k middle = put_course t middle c m.session m.stanza m.stands m.place m.good queued refl at.k at.p at.conn at.here at.is at.online in
+        ask_course middle u m.queued.session m.stanza at.k said m.queued.is refl refl put
       where
         middle : T
         middle = record u { out = record u.out { put = t.out.put ++ m.stanza ∷ [] } }
@@ -361,7 +401,7 @@ module _ (who : Identity) (logins : ℕ → Login) (d : ItemDevice) (v : View It
     pub said_course : (t u : T) → IsSaid t u → Course t → Course u
     said_course t u m c =
         elim (cases_Bool (is_online t.client.phase)) [
-          | inl on ↦ both_course t u c m on m.asks (m.put ∙ ap (λ b. if b then said_put m.asks t.out.put m.stanza else t.out.put) on)
+          | inl on ↦ both_course t u c m on m.asks refl (m.put ∙ ap (λ b. if b then said_put m.asks t.out.put m.stanza else t.out.put) on)
           | inr off ↦ queue_course t u c m.session m.stanza m.stands m.place m.good m.queued (m.put ∙ ap (λ b. if b then said_put m.asks t.out.put m.stanza else t.out.put) off) (away t c off)
         ]
 
@@ -390,6 +430,7 @@ module _ (who : Identity) (logins : ℕ → Login) (d : ItemDevice) (v : View It
                   refl,
                 ),
               );
+          prompt = prompt_both c.moves (Cuts k (length (up_words conn.wires)) 0 ∷ LetsGo k ∷ []) c.prompt (tt, (tt, tt));
           does = deeds_both c.moves (Cuts k (length (up_words conn.wires)) 0 ∷ LetsGo k ∷ []) ∙ append-nil (deeds_of c.moves) ∙ c.does ∙ ap noted (sym g.notes);
           client =
               client_leaves who logins (record d { client = t.client }) c.next c.client next u.client refl g.account (g.epoch ∙ c.client.epoch) (subst (IsOwnShown c.next.own) (sym g.session) c.client.own) (ap is_apart g.phase);

@@ -8,6 +8,7 @@ use Rattle.xmpp_client_speaks.specs.Speaking.{IsBareAddress}
 use Rattle.xmpp_desk.specs.State.{Hall}
 use Rattle.xmpp_desk.specs.Words.{is_stanza}
 use Rattle.xmpp_device_views.specs.Counted.{IsBare, IsForBare, IsForServer}
+use Rattle.xmpp_device_views.specs.Deeds.{awaits}
 use Rattle.xmpp_framing.specs.Limits.{server_limits}
 use Rattle.xmpp_jid.specs.declared.fault.JidFault.{JidFault}
 use Rattle.xmpp_live.specs.declared.told.Told.{Told}
@@ -107,6 +108,11 @@ pub answer_for_server : (q : IqView) (ping : Bool) → IfSome q.from (IsTextWith
 answer_for_server q true from id = for_server _ refl (fitted.answer q.from q.id from id) (iq_written q.from q.id iq.Result no_nodes)
 answer_for_server q false from id =
     for_server _ refl (fitted.refusal q.from q.id from id) (iq_written q.from q.id iq.Error (child (error_elem (record { kind = Cancel; condition = ServiceUnavailable })) no_nodes))
+
+-- an answer is no message, and asks for no page
+pub answer_other : (q : IqView) (ping : Bool) → awaits (answer_to q ping) ≡ false
+answer_other q true = refl
+answer_other q false = refl
 
 pub submission_for_server : (resource to text : List ℕ) (epoch n : ℕ) (private : Bool) → IsTextWithin most_part resource → epoch < 2 ^ 64 → n < 2 ^ 64 → IsBareAddress to → IsTextWithin most_text text
     → IsForServer (submission_item (origin_of resource epoch n) to text private)

@@ -6,6 +6,7 @@ use Rattle.xmpp_client_rows.specs.Speech.{Put}
 use Rattle.xmpp_client_rows.specs.Turns.{is_online}
 use Rattle.xmpp_client_rows.specs.declared.phase.Phase.TheVariants as phase
 use Rattle.xmpp_device_views.specs.Counted.{IsForServer}
+use Rattle.xmpp_device_views.specs.Deeds.{awaits}
 use Rattle.xmpp_outbox.specs.Sessions.{SessionView}
 use Rattle.xmpp_outbox.specs.Waiting.{is_full}
 use Rattle.xmpp_replies.specs.Management.{request_item}
@@ -52,7 +53,7 @@ pub record IsQueued (t u : T) (s : SessionView ItemOut) (z : ItemOut) : Type 0 w
   pub queue : session.waiting.queue ≡ s.waiting.queue ++ z ∷ []
   pub notes : u.out.notes ≡ t.out.notes ++ Put z ∷ []
 
--- and where the session is attached it goes out
+-- and where the session is attached it goes out, with a request behind it unless it isn't awaited
 pub record IsSaid (t u : T) : Type 0 where
   pub session : SessionView ItemOut
   pub stands : t.client.session ≡ Some session
@@ -60,6 +61,7 @@ pub record IsSaid (t u : T) : Type 0 where
   pub stanza : ItemOut
   pub good : IsForServer stanza
   pub asks : Bool
+  pub other : asks ≡ false → awaits stanza ≡ false
   pub queued : IsQueued t u session stanza
   pub put : u.out.put ≡ (if is_online t.client.phase then said_put asks t.out.put stanza else t.out.put)
 

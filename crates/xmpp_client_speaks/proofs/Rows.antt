@@ -19,9 +19,10 @@ use Rattle.xmpp_client_rows.specs.declared.events.CatchUpFault.{CatchUpFault}
 use Rattle.xmpp_client_rows.specs.declared.events.Event.{Event}
 use Rattle.xmpp_client_rows.specs.declared.events.Event.TheVariants.{PageDone}
 use Rattle.xmpp_client_rows.specs.declared.events.PeerFault.TheVariants.{Unacknowledged}
-use Rattle.xmpp_client_speaks.proofs.Fair.{answer_for_server, page_for_server}
+use Rattle.xmpp_client_speaks.proofs.Fair.{answer_for_server, answer_other, page_for_server}
 use Rattle.xmpp_client_speaks.proofs.Outcomes.{IsQuiet, IsSaid, Outcome, T, leaves, outcome_either, quiet_either, quiet_same, said_put, says, stays}
 use Rattle.xmpp_device_views.specs.Counted.{IsForServer}
+use Rattle.xmpp_device_views.specs.Deeds.{awaits}
 use Rattle.xmpp_ext.specs.declared.forwarding.Forwarded.{Forwarded}
 use Rattle.xmpp_log.specs.LogPages.{last_id}
 use Rattle.xmpp_log.specs.Views.{LogView, OpenPage, after_fin, end_of, page_for, with_page}
@@ -89,12 +90,12 @@ message_quiet t m = with_quiet t m (first_named archive (codes "result") m.paylo
 
 -- ---- what is put
 
-put_outcome : (t : T) (o : Option (SessionView ItemOut)) (z : ItemOut) → t.client.session ≡ o → IsForServer z → Outcome t (has_to_put in_items t o z)
-put_outcome t None z is good = stays (quiet_same t)
-put_outcome t (Some s) z is good =
+put_outcome : (t : T) (o : Option (SessionView ItemOut)) (z : ItemOut) → t.client.session ≡ o → IsForServer z → awaits z ≡ false → Outcome t (has_to_put in_items t o z)
+put_outcome t None z is good other = stays (quiet_same t)
+put_outcome t (Some s) z is good other =
     outcome_either (is_full s.waiting) t (ends t Unacknowledged) (put_in in_items t s z false)
     (leaves (record { account = refl; epoch = refl; session = refl; phase = refl; put = refl; notes = refl }))
-    (λ place. says (record { session = s; stands = is; place = place; stanza = z; good = good; asks = false; queued = record { account = refl; epoch = refl; phase = refl; session = _; is = refl; previd = refl; acked = refl; handled = refl; queue = refl; notes = refl }; put = refl }))
+    (λ place. says (record { session = s; stands = is; place = place; stanza = z; good = good; asks = false; other = λ e. other; queued = record { account = refl; epoch = refl; phase = refl; session = _; is = refl; previd = refl; acked = refl; handled = refl; queue = refl; notes = refl }; put = refl }))
 
 low : (n : ℕ) → next_number n < 2 ^ 64
 low n = omega arith
@@ -112,6 +113,7 @@ begun_said t s max is place within small = record {
   stanza = page_item (next_queryid t) (last_id t.client.log.entries) max;
   good = page_for_server (next_number t.client.pages) max (last_id t.client.log.entries) (low t.client.pages) (last_within t.client.log.entries within) small;
   asks = true;
+  other = λ e. absurd (let no_way : ⊥ = cc in no_way);
   queued = record { account = refl; epoch = refl; phase = refl; session = _; is = refl; previd = refl; acked = refl; handled = refl; queue = refl; notes = refl };
   put = refl;
 }
@@ -143,6 +145,7 @@ behind t m u q (says r) = says (record {
   stanza = r.stanza;
   good = r.good;
   asks = r.asks;
+  other = r.other;
   queued = record {
     account = r.queued.account ∙ q.account;
     epoch = r.queued.epoch ∙ q.epoch;
@@ -202,6 +205,7 @@ restart_outcome t (Some s) max is small =
       stanza = page_item (next_queryid t) None max;
       good = page_for_server (next_number t.client.pages) max None (low t.client.pages) tt small;
       asks = true;
+      other = λ e. absurd (let no_way : ⊥ = cc in no_way);
       queued = record { account = refl; epoch = refl; phase = refl; session = _; is = refl; previd = refl; acked = refl; handled = refl; queue = refl; notes = refl };
       put = refl;
     }))
@@ -239,10 +243,10 @@ CanAnswer q kind = answers_iq kind ≡ true → IfSome q.from (IsTextWithin most
 iq_outcome : (t : T) (q : IqView) (kind : IqKind) → IsLogWithin t.client.log → CanAnswer q kind → Outcome t (iq_by in_items t q kind)
 iq_outcome t q iq.Get h short =
     let b = short refl in
-    put_outcome t t.client.session (answer_to q (is_ping (elements_of q.payload))) refl (answer_for_server q (is_ping (elements_of q.payload)) b.0 b.1)
+    put_outcome t t.client.session (answer_to q (is_ping (elements_of q.payload))) refl (answer_for_server q (is_ping (elements_of q.payload)) b.0 b.1) (answer_other q (is_ping (elements_of q.payload)))
 iq_outcome t q iq.Set h short =
     let b = short refl in
-    put_outcome t t.client.session (answer_to q false) refl (answer_for_server q false b.0 b.1)
+    put_outcome t t.client.session (answer_to q false) refl (answer_for_server q false b.0 b.1) (answer_other q false)
 iq_outcome t q iq.Result h short = page_outcome t q (page_for q.id t.client.log.page) h (page_within q.id t.client.log.page h.page)
 iq_outcome t q iq.Error h short = page_outcome t q (page_for q.id t.client.log.page) h (page_within q.id t.client.log.page h.page)
 
@@ -269,6 +273,7 @@ submits_said t (Some s) z said n is answer good = record {
   stanza = z;
   good = good;
   asks = true;
+  other = λ e. absurd (let no_way : ⊥ = cc in no_way);
   queued = record { account = refl; epoch = refl; phase = refl; session = _; is = refl; previd = refl; acked = refl; handled = refl; queue = refl; notes = refl };
   put = refl;
 }

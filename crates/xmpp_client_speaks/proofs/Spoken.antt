@@ -172,6 +172,7 @@ module _ (who : Identity) (logins : ℕ → Login) (d : ItemDevice) (wires : Tab
         next = next;
         leads = (next, record { conn = p.conn; here = p.here; is = p.is; rest = p.rest; first = p.first; own = o; is_own = own; client = client; gives = refl }, refl);
         does = ap (λ i. Reads i ∷ []) whole;
+        prompt = (tt, tt);
         client =
             client_works who logins d v p.shown.client next k after (handles in_items (silent_turn d.client) s e).client p.here refl (at_same k after v.conns) refl p.shown.client.epoch (counted_own o s old)
             (p.shown.client.phase k p.conn p.here p.is);
@@ -257,6 +258,7 @@ module _ (who : Identity) (logins : ℕ → Login) (d : ItemDevice) (wires : Tab
     next = v;
     leads = refl;
     does = refl;
+    prompt = tt;
     client = shown.client;
     pipes = record { each = λ k. subst (IsShown who (logins k) k (v.conns k)) (sym (silent_here d.here wires k)) (shown.pipes.each k) };
     server = server_stays v;

@@ -30,6 +30,7 @@ use Rattle.xmpp_links.specs.Stages.{Conn}
 use Rattle.xmpp_links.specs.Views.{Table, View, with_at}
 use Rattle.xmpp_live.specs.Sessions.{Session, session_at}
 use Rattle.xmpp_wire_steps.proofs.Placed.{shown_as}
+use Rattle.xmpp_wire_steps.proofs.PromptMoves.{prompt_both, silent_as}
 use Rattle.xmpp_wires.specs.Places.{changed_where}
 use Rattle.xmpp_writer.specs.Items.{ItemOut}
 
@@ -81,6 +82,7 @@ module _ (who : Identity) (logins : ℕ → Login) (w : ItemWorld) (v : View Ite
         next = f.next;
         leads = along_both moment.moves f.moves v moment.next f.next moment.leads f.leads;
         does = no_deeds moment.moves f.moves moment.does f.does;
+        prompt = prompt_both moment.moves f.moves (silent_as moment.moves [] moment.does tt) f.prompt;
         shows = record {
           normal = s.normal;
           device = record { client = t.client; here = Some n };
@@ -137,6 +139,7 @@ module _ (whom : Identity) (others : ℕ → Login) (w : ItemWorld) (u : View It
         next = moment.next;
         leads = moment.leads;
         does = moment.does;
+        prompt = silent_as moment.moves [] moment.does tt;
         shows = record {
           normal = s.normal;
           device = s.device;

@@ -37,6 +37,7 @@ use Rattle.xmpp_links.specs.Words.{Hdr, InHeader1}
 use Rattle.xmpp_live.specs.Sessions.{Session, is_named, session_at}
 use Rattle.xmpp_scram.specs.Exchange.{added_nonce}
 use Rattle.xmpp_wire_steps.proofs.Placed.{shown_as}
+use Rattle.xmpp_wire_steps.proofs.PromptMoves.{prompt_both, silent_as}
 use Rattle.xmpp_writer.specs.Items.{ItemOut, Opening}
 
 -- ---- logins
@@ -171,6 +172,7 @@ module _ (who : Identity) (logins : ℕ → Login) (x : Login) (n : ℕ) (own ot
             along_both l.moves (Dials k ∷ []) v l.next (with_dialled l.next) l.leads
             (with_dialled l.next, record { idle = l.idle; fresh = none_there who (logins k) k (l.next.conns k) (subst (IsShown who (logins k) k (l.next.conns k)) (left_none d.here wires none) (l.pipes.each k)); gives = refl }, refl);
         does = no_deeds l.moves (Dials k ∷ []) l.does refl;
+        prompt = prompt_both l.moves (Dials k ∷ []) (silent_as l.moves [] l.does tt) (tt, tt);
         server = fresh_shows h l.next (server_stays who logins h v l.next l.server server) below;
         client = dialled_client d v shown.client l.next l.own l.epoch;
         pipes = subst (λ is. PipesShow who more (with_at k (put_up is (fresh_wire who.place)) (where_here d.here left wires)) (with_dialled l.next)) (sym header) pipes;

@@ -15,7 +15,7 @@ use Rattle.xmpp_connections_follow.proofs.Stays.{client_stays, server_stays}
 use Rattle.xmpp_connections_follow.specs.Following.{IsNextItem, WorldFollows}
 use Rattle.xmpp_desk.specs.Moments.{at_moment, gone_at}
 use Rattle.xmpp_device_views.specs.Clients.{ClientFollows}
-use Rattle.xmpp_device_views.specs.Deeds.{Deed, Drops}
+use Rattle.xmpp_device_views.specs.Deeds.{Deed, Drops, SaysNothing}
 use Rattle.xmpp_device_views.specs.Identities.{Identity, Login}
 use Rattle.xmpp_device_views.specs.Pipes.{by_number, under}
 use Rattle.xmpp_device_views.specs.Reading.{HearingFollows, IsOverHere, IsShownHere, SpeakingFollows, device_behind, noted, turn_on, where_here, wire_behind}
@@ -27,6 +27,7 @@ use Rattle.xmpp_item_worlds.specs.ItemWorlds.{ItemDevice, ItemWorld, silent_turn
 use Rattle.xmpp_links.specs.Machine.{Cuts, LinkReached}
 use Rattle.xmpp_links.specs.Views.{Table, View, with_at}
 use Rattle.xmpp_wire_steps.proofs.Changes.{under_place}
+use Rattle.xmpp_wire_steps.proofs.PromptMoves.{silent_as}
 use Rattle.xmpp_wires.specs.Places.{changed_at, changed_where}
 use Rattle.xmpp_writer.specs.Items.{ItemOut}
 
@@ -58,7 +59,7 @@ module _ (who : Identity) (logins : ℕ → Login) (w : ItemWorld) (v : View Ite
   shown_here reached = record { normal = s.normal; reached = reached; client = s.client; pipes = s.pipes }
 
   pub nothing_moves : WorldFollows who logins w v []
-  nothing_moves = record { moves = []; next = v; leads = refl; does = refl; shows = s }
+  nothing_moves = record { moves = []; next = v; leads = refl; does = refl; prompt = tt; shows = s }
 
   pub client_lifts : (after : ItemWorld) (d : ItemDevice) (wires : Table ItemWire) (done : List (Deed ItemOut)) → after.server ≡ w.server → after.devices ≡ slice_set w.devices who.place d → ((j : ℕ) → under j after.wires ≡ wires j)
       → ClientFollows who logins d wires v done → WorldFollows who logins after v done
@@ -67,6 +68,7 @@ module _ (who : Identity) (logins : ℕ → Login) (w : ItemWorld) (v : View Ite
     next = f.next;
     leads = f.leads;
     does = f.does;
+    prompt = f.prompt;
     shows = record {
       normal = s.normal;
       device = d;
@@ -77,12 +79,13 @@ module _ (who : Identity) (logins : ℕ → Login) (w : ItemWorld) (v : View Ite
     };
   }
 
-  pub server_lifts : (after : ItemWorld) (done : List (Deed ItemOut)) → after.devices ≡ w.devices → ServerFollows who logins after.server (by_number after.wires) v done → WorldFollows who logins after v done
-  server_lifts after done devices f = record {
+  pub server_lifts : (after : ItemWorld) (done : List (Deed ItemOut)) → SaysNothing done → after.devices ≡ w.devices → ServerFollows who logins after.server (by_number after.wires) v done → WorldFollows who logins after v done
+  server_lifts after done silent devices f = record {
     moves = f.moves;
     next = f.next;
     leads = f.leads;
     does = f.does;
+    prompt = silent_as f.moves done f.does silent;
     shows = record {
       normal = s.normal;
       device = s.device;
@@ -128,6 +131,7 @@ module _ (who : Identity) (logins : ℕ → Login) (w : ItemWorld) (v : View Ite
           next = f.next;
           leads = (f.next, f.cuts, refl);
           does = refl;
+          prompt = (tt, tt);
           shows = record {
             normal = s.normal;
             device = s.device;
@@ -217,19 +221,19 @@ module _ (who : Identity) (logins : ℕ → Login) (w : ItemWorld) (v : View Ite
 
   -- ---- the server
 
-  pub serve_lifts : (place : ℕ) (wire : ItemWire) (i : ItemOut) (items : List ItemOut) (done : List (Deed ItemOut)) → slice_get w.wires place ≡ Some wire → wire.up.items ≡ i ∷ items
+  pub serve_lifts : (place : ℕ) (wire : ItemWire) (i : ItemOut) (items : List ItemOut) (done : List (Deed ItemOut)) → SaysNothing done → slice_get w.wires place ≡ Some wire → wire.up.items ≡ i ∷ items
       → ServerFollows who logins (served_item place i w).server (by_number (served_item place i w).wires) v done → WorldFollows who logins (moved (Up place) w) v done
-  serve_lifts place wire i items done there first f =
-      subst (λ x. WorldFollows who logins x v done) (sym (ap (λ o. served_by place o w) there ∙ ap (λ is. served_first place is w) first)) (server_lifts (served_item place i w) done refl f)
+  serve_lifts place wire i items done silent there first f =
+      subst (λ x. WorldFollows who logins x v done) (sym (ap (λ o. served_by place o w) there ∙ ap (λ is. served_first place is w) first)) (server_lifts (served_item place i w) done silent refl f)
 
-  pub tick_lifts : (milliseconds : ℕ) (done : List (Deed ItemOut)) → ServerFollows who logins (at_moment (w.moment + milliseconds) w.server) (by_number w.wires) v done → WorldFollows who logins (moved (Tick milliseconds) w) v done
-  tick_lifts milliseconds done f = server_lifts (moved (Tick milliseconds) w) done refl f
+  pub tick_lifts : (milliseconds : ℕ) (done : List (Deed ItemOut)) → SaysNothing done → ServerFollows who logins (at_moment (w.moment + milliseconds) w.server) (by_number w.wires) v done → WorldFollows who logins (moved (Tick milliseconds) w) v done
+  tick_lifts milliseconds done silent f = server_lifts (moved (Tick milliseconds) w) done silent refl f
 
-  pub told_lifts : (place : ℕ) (wire : ItemWire) (done : List (Deed ItemOut)) → slice_get w.wires place ≡ Some wire → is_end_due wire.up ≡ true
+  pub told_lifts : (place : ℕ) (wire : ItemWire) (done : List (Deed ItemOut)) → SaysNothing done → slice_get w.wires place ≡ Some wire → is_end_due wire.up ≡ true
       → ServerFollows who logins (gone_at (place + 1) (at_moment w.moment w.server)) (with_at (place + 1) (up_end_told wire) (by_number w.wires)) v done → WorldFollows who logins (moved (UpEnd place) w) v done
-  told_lifts place wire done there due f =
+  told_lifts place wire done silent there due f =
       subst (λ x. WorldFollows who logins x v done) (sym (ap (λ o. told_up place o w) there ∙ ap (λ b. if b then ended else w) due))
-      (server_lifts ended done refl (record {
+      (server_lifts ended done silent refl (record {
         moves = f.moves;
         next = f.next;
         leads = f.leads;

@@ -28,6 +28,7 @@ use Rattle.xmpp_links.specs.Stages.{Conn}
 use Rattle.xmpp_links.specs.Views.{Table, View, has, with_at}
 use Rattle.xmpp_links.specs.Wires.{down_words, is_flowing}
 use Rattle.xmpp_wire_steps.proofs.Placed.{shown_at}
+use Rattle.xmpp_wire_steps.proofs.PromptMoves.{prompt_both, silent_as}
 use Rattle.xmpp_wire_steps.proofs.Servings.{known_same}
 use Rattle.xmpp_writer.specs.Items.{Closing, ItemOut}
 
@@ -126,6 +127,7 @@ module _ (who : Identity) (logins : ℕ → Login) (d : ItemDevice) (wires : Tab
     moves = l.moves ++ Forgets ∷ [];
     next = record l.next { own = None };
     leads = along_both l.moves (Forgets ∷ []) v l.next (record l.next { own = None }) l.leads (record l.next { own = None }, record { idle = l.idle; gives = refl }, refl);
+    prompt = prompt_both l.moves (Forgets ∷ []) (silent_as l.moves [] l.does tt) (tt, tt);
     does = deeds_both l.moves (Forgets ∷ []) ∙ ap (λ ds. ds ++ Drops ∷ []) l.does ∙ sym (no_more t.out.notes none);
     client = record {
       account = ap (λ c. c.account) same ∙ shown.client.account;
@@ -219,6 +221,7 @@ module _ (who : Identity) (logins : ℕ → Login) (d : ItemDevice) (wires : Tab
         next = v;
         leads = refl;
         does = refl;
+        prompt = tt;
         client = record {
           account = shown.client.account;
           epoch = shown.client.epoch;
@@ -240,6 +243,7 @@ module _ (who : Identity) (logins : ℕ → Login) (d : ItemDevice) (wires : Tab
             next = record v { here = None };
             leads = (record v { here = None }, record { conn = c; here = here; is = is; ended = ended; empty = empty; gives = refl }, refl);
             does = refl;
+            prompt = (tt, tt);
             client = record {
               account = shown.client.account;
               epoch = shown.client.epoch;

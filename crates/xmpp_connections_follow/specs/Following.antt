@@ -4,7 +4,7 @@ use Rattle.std.specs.List.{AllByRecursion}
 use Rattle.xmpp_desk.specs.State.{Hall}
 use Rattle.xmpp_desk.specs.declared.connection.Connection.{Connection}
 use Rattle.xmpp_device_views.specs.Clients.{ClientShows}
-use Rattle.xmpp_device_views.specs.Deeds.{Deed, deeds_of}
+use Rattle.xmpp_device_views.specs.Deeds.{ArePrompt, Deed, deeds_of}
 use Rattle.xmpp_device_views.specs.Identities.{Identity, IsLogin, Login}
 use Rattle.xmpp_device_views.specs.Pipes.{PipesShow}
 use Rattle.xmpp_device_views.specs.Reading.{IsNextDown}
@@ -23,12 +23,14 @@ use Rattle.xmpp_writer.specs.Items.{ItemOut}
 
 -- ---- what follows
 
--- the links have moved, and of stanzas as is said; and these are then the pipes and both ends
+-- the links have moved, and of stanzas as is said, with a request behind each that is awaited; and these are then the
+-- pipes and both ends
 pub record BothFollow (who : Identity) (logins : ℕ → Login) (h : Hall ItemOut) (d : ItemDevice) (wires : Table ItemWire) (v : View ItemOut) (done : List (Deed ItemOut)) : Type 0 where
   pub moves : List (LinkMove ItemOut)
   pub next : View ItemOut
   pub leads : LinkReaches moves v next
   pub does : deeds_of moves ≡ done
+  pub prompt : ArePrompt moves
   pub server : ServerShows who logins h next
   pub client : ClientShows who logins d next
   pub pipes : PipesShow who logins wires next
@@ -39,6 +41,7 @@ pub record WorldFollows (who : Identity) (logins : ℕ → Login) (w : ItemWorld
   pub next : View ItemOut
   pub leads : LinkReaches moves v next
   pub does : deeds_of moves ≡ done
+  pub prompt : ArePrompt moves
   pub shows : Shows who logins w next
 
 -- ---- cuts

@@ -8,7 +8,7 @@ ghost use Rattle.xmpp_connections_follow.specs.Following.{AreDialled, CutFollows
 ghost use Rattle.xmpp_desk.specs.Moments.{at_moment, gone_at};
 ghost use Rattle.xmpp_desk.specs.State.{Hall};
 ghost use Rattle.xmpp_device_views.specs.Clients.{ClientShows};
-ghost use Rattle.xmpp_device_views.specs.Deeds.{Deed, Drops};
+ghost use Rattle.xmpp_device_views.specs.Deeds.{Deed, Drops, SaysNothing};
 ghost use Rattle.xmpp_device_views.specs.Identities.{Identity, Login};
 ghost use Rattle.xmpp_device_views.specs.Pipes.{PipesShow, by_number};
 ghost use Rattle.xmpp_device_views.specs.Reading.{ClosingFollows, ForgettingFollows, HearingFollows, IsNextDown, IsOverHere, IsRead, IsShownHere, LeavingFollows, SpeakingFollows, noted, turn_on};
@@ -124,13 +124,13 @@ pub fn turns_follow()
 {}
 
 /// A law: what follows a step of the server on an item, as time passes, and where it is told the end of a connection,
-/// follows it in the world.
+/// follows it in the world: the client says nothing there.
 pub fn steps_follow()
-    ensures takes { (who : Identity) (logins : ℕ → Login) (w : ItemWorld) (v : View ItemOut) (place : ℕ) (wire : ItemWire) (i : ItemOut) (items : List ItemOut) (done : List (Deed ItemOut)) → Shows who logins w v
+    ensures takes { (who : Identity) (logins : ℕ → Login) (w : ItemWorld) (v : View ItemOut) (place : ℕ) (wire : ItemWire) (i : ItemOut) (items : List ItemOut) (done : List (Deed ItemOut)) → SaysNothing done → Shows who logins w v
         → slice_get w.wires place ≡ Some wire → wire.up.items ≡ i ∷ items → ServerFollows who logins (served_item place i w).server (by_number (served_item place i w).wires) v done
         → WorldFollows who logins (moved (Up place) w) v done }
-    ensures ticks { (who : Identity) (logins : ℕ → Login) (w : ItemWorld) (v : View ItemOut) (milliseconds : ℕ) (done : List (Deed ItemOut)) → Shows who logins w v
+    ensures ticks { (who : Identity) (logins : ℕ → Login) (w : ItemWorld) (v : View ItemOut) (milliseconds : ℕ) (done : List (Deed ItemOut)) → SaysNothing done → Shows who logins w v
         → ServerFollows who logins (at_moment (w.moment + milliseconds) w.server) (by_number w.wires) v done → WorldFollows who logins (moved (Tick milliseconds) w) v done }
-    ensures ends { (who : Identity) (logins : ℕ → Login) (w : ItemWorld) (v : View ItemOut) (place : ℕ) (wire : ItemWire) (done : List (Deed ItemOut)) → Shows who logins w v → slice_get w.wires place ≡ Some wire → is_end_due wire.up ≡ true
+    ensures ends { (who : Identity) (logins : ℕ → Login) (w : ItemWorld) (v : View ItemOut) (place : ℕ) (wire : ItemWire) (done : List (Deed ItemOut)) → SaysNothing done → Shows who logins w v → slice_get w.wires place ≡ Some wire → is_end_due wire.up ≡ true
         → ServerFollows who logins (gone_at (place + 1) (at_moment w.moment w.server)) (with_at (place + 1) (up_end_told wire) (by_number w.wires)) v done → WorldFollows who logins (moved (UpEnd place) w) v done }
 {}

@@ -6,7 +6,7 @@ use Rattle.xmpp_client_rows.specs.Turns.{is_apart}
 use Rattle.xmpp_client_rows.specs.declared.phase.Phase.{Phase}
 use Rattle.xmpp_client_rows.specs.declared.phase.Phase.TheVariants as phase
 use Rattle.xmpp_device_views.specs.Counted.{IsForServer}
-use Rattle.xmpp_device_views.specs.Deeds.{Deed, deeds_of}
+use Rattle.xmpp_device_views.specs.Deeds.{ArePrompt, Deed, deeds_of}
 use Rattle.xmpp_device_views.specs.Frames.{SameServer}
 use Rattle.xmpp_device_views.specs.Identities.{Identity, Login, own_account}
 use Rattle.xmpp_device_views.specs.Pipes.{PipesShow}
@@ -66,12 +66,14 @@ pub record ClientShows (who : Identity) (logins : ℕ → Login) (d : ItemDevice
 
 -- ---- what a step of the client is in the links
 
--- it comes to this, and these are then the pipes; and these stanzas were put and handled
+-- it comes to this, and these are then the pipes; and these stanzas were put and handled, those that are awaited with a
+-- request behind them
 pub record ClientFollows (who : Identity) (logins : ℕ → Login) (d : ItemDevice) (wires : Table ItemWire) (v : View ItemOut) (done : List (Deed ItemOut)) : Type 0 where
   pub moves : List (LinkMove ItemOut)
   pub next : View ItemOut
   pub leads : LinkReaches moves v next
   pub does : deeds_of moves ≡ done
+  pub prompt : ArePrompt moves
   pub client : ClientShows who logins d next
   pub pipes : PipesShow who logins wires next
   pub server : SameServer v next

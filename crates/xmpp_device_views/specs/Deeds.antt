@@ -1,7 +1,11 @@
 -- Which stanzas moves of the links put and handle, and what becomes of the client's session: in their order. What else they
--- do is no deed.
-use Rattle.std.specs.Prelude.{List, [], ◌∷◌, ◌++◌, map}
-use Rattle.xmpp_links.specs.Machine.{Forgets, Keeps, LinkMove, Puts, Queues, ReadsBound, ReadsCount, ReadsEnabled, ReadsFailed, ReadsResumed, ReadsStanza, Serves, TakesStanza}
+-- do is no deed. And with which of these stanzas the client puts a request for a count.
+use Rattle.std.specs.Prelude.{◌≡◌, ◌⊎◌, ℕ, Bool, true, false, List, [], ◌∷◌, ◌++◌, map}
+use Rattle.xmpp_item_stanzas.specs.Ups.{up_stanza}
+use Rattle.xmpp_links.specs.Machine.{Forgets, Keeps, LinkMove, Puts, Queues, ReadsBound, ReadsCount, ReadsEnabled, ReadsFailed, ReadsResumed, ReadsStanza, Requests, Serves, TakesStanza}
+use Rattle.xmpp_sessions.specs.Stanzas.{Up}
+use Rattle.xmpp_sessions.specs.Stanzas.Up.{Message, Query}
+use Rattle.xmpp_writer.specs.Items.{ItemOut}
 
 pub data Deed (A : Type 0) : Type 0 where
   -- the client puts it, and the server handles it
@@ -42,3 +46,33 @@ gives_all zs = map Gives zs
 
 abbrev pub says_all : {A : Type 0} → List A → List (Deed A)
 says_all zs = map Says zs
+
+-- the client says nothing
+abbrev pub SaysNothing : {A : Type 0} → List (Deed A) → Type 0
+SaysNothing [] = Unit {0}
+SaysNothing (Says z ∷ deeds) = ⊥
+SaysNothing (_ ∷ deeds) = SaysNothing deeds
+
+-- ---- stanzas that are awaited
+
+-- a message, or a request for a page
+abbrev pub is_awaited : Up → Bool
+is_awaited (Message m) = true
+is_awaited (Query r) = true
+is_awaited _ = false
+
+abbrev pub awaits : ItemOut → Bool
+awaits z = is_awaited (up_stanza z)
+
+-- the first of the moves is a request on this connection
+abbrev pub IsAskedAt : ℕ → List (LinkMove ItemOut) → Type 0
+IsAskedAt k moves = (rest : List (LinkMove ItemOut)) × (moves ≡ Requests k ∷ rest)
+
+-- behind such a stanza that goes out the client puts a request at once
+abbrev pub IsPromptBefore : List (LinkMove ItemOut) → LinkMove ItemOut → Type 0
+IsPromptBefore moves (Puts k z) = (awaits z ≡ false) ⊎ IsAskedAt k moves
+IsPromptBefore moves _ = Unit {0}
+
+abbrev pub ArePrompt : List (LinkMove ItemOut) → Type 0
+ArePrompt [] = Unit {0}
+ArePrompt (move ∷ moves) = IsPromptBefore moves move × ArePrompt moves

@@ -2,3 +2,8 @@ pub mod Sends
 pub mod Queries
 pub mod Pages
 pub mod Replies
+pub mod Addressed
+pub mod Picks
+pub mod HearingSums
+pub mod Carried
+pub mod Messages

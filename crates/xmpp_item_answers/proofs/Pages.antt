@@ -4,6 +4,7 @@ use Rattle.std.proofs.lemmas.Bool.{cases_lt}
 use Rattle.std.proofs.lemmas.Option.{none-some, slice_get_within}
 use Rattle.std.specs.List.{AllByRecursion, slice_get}
 use Rattle.std.specs.Option.{IfSome, option_map}
+use Rattle.std.specs.Prelude.{nat_lt}
 use Rattle.xmpp_archive.specs.Entries.{AreKept, EntryView, entry_numbered}
 use Rattle.xmpp_archive.specs.Ids.{id_of}
 use Rattle.xmpp_desk.specs.State.{Hall, Kept}
@@ -21,7 +22,8 @@ use Rattle.xmpp_item_stanzas.specs.Meant.{Fits, IsEntryNumber, IsPage}
 use Rattle.xmpp_live.specs.declared.told.Told.{Told}
 use Rattle.xmpp_pages.specs.Cuts.{CutView}
 use Rattle.xmpp_pages.specs.Kept.{kept_by}
-use Rattle.xmpp_pages.specs.PageOf.{page_of}
+use Rattle.xmpp_pages.proofs.Walked.{shorter}
+use Rattle.xmpp_pages.specs.PageOf.{index_of_page, page_of}
 use Rattle.xmpp_request_rows.specs.Requests.{asker_of, envelope_of, paging, sending_entries, sending_entry}
 use Rattle.xmpp_replies.specs.Requests.{iq_error_item}
 use Rattle.xmpp_requests.specs.Messages.{queryid_text}
@@ -45,6 +47,12 @@ pub record IsThere (entries : List EntryView) (n : ℕ) : Type 0 where
 pub record IsCut (entries : List EntryView) (cut : CutView) : Type 0 where
   pub all : AllByRecursion (IsThere entries) cut.numbers
   pub count : Fits cut.count
+  pub index : Fits cut.first_index
+
+-- the page's first entry stands among all
+index_within : (all page : List EntryView) → index_of_page all page ≤ length all
+index_within all [] = omega arith
+index_within all (e ∷ es) = shorter (λ f. nat_lt f.number e.number) all
 
 numbers_there : (all xs : List EntryView) → ((i : ℕ) (e : EntryView) → slice_get xs i ≡ Some e → IsThere all e.number) → AllByRecursion (IsThere all) (map number_of xs)
 numbers_there all [] each = tt
@@ -56,7 +64,7 @@ get_in_take (suc m) [] i x at = absurd (none-some x at)
 get_in_take (suc m) (y ∷ ys) zero x at = at
 get_in_take (suc m) (y ∷ ys) (suc i) x at = get_in_take m ys i x at
 
-get_in_drop : (k : ℕ) (xs : List EntryView) (i : ℕ) (x : EntryView) → slice_get (drop k xs) i ≡ Some x → slice_get xs (k + i) ≡ Some x
+pub get_in_drop : (k : ℕ) (xs : List EntryView) (i : ℕ) (x : EntryView) → slice_get (drop k xs) i ≡ Some x → slice_get xs (k + i) ≡ Some x
 get_in_drop zero xs i x at = let same : zero + i ≡ i = omega arith in rw same at
 get_in_drop (suc k) [] i x at = absurd (none-some x at)
 get_in_drop (suc k) (y ∷ ys) i x at = let same : suc k + i ≡ suc (k + i) = omega arith in rw same (get_in_drop k ys i x at)
@@ -80,6 +88,7 @@ module _ (keep last : ℕ) (kept : List EntryView) (known : AreKept keep last ke
       record {
         all = numbers_there kept (take most (kept_behind n last kept)) (λ i e at. there (n - purged last kept + i) e (get_in_drop (n - purged last kept) kept i e (get_in_take most (kept_behind n last kept) i e at)));
         count = omega (arith, highest, known.within);
+        index = omega (arith, highest, known.within, index_within kept (take most (kept_behind n last kept)));
       }
 
   pub page_there : (owner : List ℕ) (after : Option ℕ) (most : ℕ) → most ≤ 100 → IsGiven last after → IfSome (page_of (kept_by owner kept) (query_behind (option_map id_of after) most)) (IsCut kept)
@@ -103,7 +112,7 @@ module _ (n q : ℕ) (asker : AskerView) (is : asker.queryid ≡ queryid_text q)
       ap (λ o. read_at n (sending_entry as_it_is n asker o rest)) this.found ∙ ap (map down_stanza) (sends_here n (entry_item asker this.entry) rest)
       ∙ (λ i. one i ∷ entries_read ks more all.1 i)
 
-numbers_fit : (entries : List EntryView) (ns : List ℕ) → AllByRecursion (IsThere entries) ns → AllByRecursion IsEntryNumber ns
+pub numbers_fit : (entries : List EntryView) (ns : List ℕ) → AllByRecursion (IsThere entries) ns → AllByRecursion IsEntryNumber ns
 numbers_fit entries [] all = tt
 numbers_fit entries (n ∷ ns) all = (all.0.number, numbers_fit entries ns all.1)
 

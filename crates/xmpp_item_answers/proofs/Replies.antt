@@ -1,6 +1,6 @@
 -- What the server answers to the stanzas of this project's clients is what the server of the applications does.
 use Rattle.std.proofs.Common.{◌≡◌, ◌≢◌, ℕ, ◌≤◌, true, List, [], ◌∷◌, Option, Some, None, Ok, codes, map, pos, refl, sym, ap, ◌∙◌, arith}
-use Rattle.std.specs.Option.{option_map}
+use Rattle.std.specs.Option.{IfSome, option_map}
 use Rattle.xmpp_archive.specs.Ids.{id_of}
 use Rattle.xmpp_archive.specs.Entries.{EntryView, entry_numbered}
 use Rattle.xmpp_desk.specs.State.{Hall, Kept, archive_at}
@@ -9,7 +9,7 @@ use Rattle.xmpp_ext.specs.Requests.{carbons_switch_elem}
 use Rattle.xmpp_direct.specs.Direct.{query_behind}
 use Rattle.xmpp_forwarding.specs.Queries.{no_such_place, query_asked}
 use Rattle.xmpp_forwarding.specs.Results.{AskerView, entry_item, fin_item}
-use Rattle.xmpp_item_answers.proofs.Pages.{page_read, page_there}
+use Rattle.xmpp_item_answers.proofs.Pages.{IsCut, page_read, page_there}
 use Rattle.xmpp_item_answers.proofs.Queries.{query_read}
 use Rattle.xmpp_item_answers.proofs.Sends.{elem_in, sends_elsewhere, sends_here}
 use Rattle.xmpp_item_answers.specs.Around.{IsAround, IsAsked}
@@ -43,38 +43,46 @@ use Rattle.xmpp_writer.specs.Items.{ItemOut, Whole}
 
 -- ---- requests for pages
 
-abbrev page_in : Request → Elem
+abbrev pub page_in : Request → Elem
 page_in r = page_elem (queryid_text r.number) (option_map id_of r.after) r.max
 
-abbrev request_in : Request → Elem
+abbrev pub request_in : Request → Elem
 request_in r = setting_elem (queryid_text r.number) (child (page_in r) no_nodes)
 
-abbrev iq_in : Request → IqView
+abbrev pub iq_in : Request → IqView
 iq_in r = record { from = None; to = None; id = queryid_text r.number; kind = iq.Set; payload = child (page_in r) no_nodes }
 
-request_served : (r : Request) (t : Told) (h : Hall ItemOut) → does_on (request_in r) t h ≡ serving as_it_is (Some (query_request (query_asked (page_in r)))) (iq_in r) t h
+pub request_served : (r : Request) (t : Told) (h : Hall ItemOut) → does_on (request_in r) t h ≡ serving as_it_is (Some (query_request (query_asked (page_in r)))) (iq_in r) t h
 request_served r t h = refl
 
 module _ (a : Around) (t : Told) (h : Hall ItemOut) (r : Request) (around : IsAround a t h) (asked : IsAsked a.last r) where
-  pub request_answered : (e : Elem) → requested r ≡ Whole e → read_at t.number (does_on e t h) ≡ reply a (Query r)
-  request_answered e is =
-      let kept = around.kept in
-      let queryid = queryid_text r.number in
+  abbrev pub page : Option CutView
+  page = page_of (kept_by around.kept.owner around.kept.entries) (query_behind (option_map id_of r.after) r.max)
+
+  pub page_is_there : IfSome page (IsCut around.kept.entries)
+  page_is_there = page_there around.most a.last around.kept.entries around.keeps.entries around.kept.owner r.after r.max asked.few asked.place
+
+  -- the page is sent
+  pub request_does : (e : Elem) → requested r ≡ Whole e → does_on e t h ≡ paging as_it_is (iq_in r) t (queryid_text r.number) around.kept page h
+  request_does e is =
       let query = query_behind (option_map id_of r.after) r.max in
       let low : r.max ≤ 100 = asked.few in
       let elem : request_in r ≡ e = ap elem_in is in
-      let page = page_of (kept_by kept.owner kept.entries) query in
+      ap (λ x. does_on x t h) (sym elem)
+      ∙ ap (λ o. serving as_it_is (Some (query_request o)) (iq_in r) t h) (query_read (queryid_text r.number) r.max (omega (arith, low)) (option_map id_of r.after))
+      ∙ ap (λ o. querying_in as_it_is (iq_in r) t (record { queryid = queryid_text r.number; query = query }) o h) around.there
+
+  pub request_answered : (e : Elem) → requested r ≡ Whole e → read_at t.number (does_on e t h) ≡ reply a (Query r)
+  request_answered e is =
       let known = around.keeps.entries in
-      ap (λ x. read_at t.number (does_on x t h)) (sym elem)
-      ∙ ap (λ o. read_at t.number (serving as_it_is (Some (query_request o)) (iq_in r) t h)) (query_read queryid r.max (omega (arith, low)) (option_map id_of r.after))
-      ∙ ap (λ o. read_at t.number (querying_in as_it_is (iq_in r) t (record { queryid = queryid; query = query }) o h)) around.there
-      ∙ page_read (iq_in r) t queryid kept h r.number asked.number_fits refl refl page (page_there around.most a.last kept.entries known kept.owner r.after r.max asked.few asked.place)
-      ∙ sym (answers_pages around.most a.last r.number r.max r.after kept.owner kept.entries known.some known around.keeps.many asked.few asked.place)
+      ap (read_at t.number) (request_does e is)
+      ∙ page_read (iq_in r) t (queryid_text r.number) around.kept h r.number asked.number_fits refl refl page page_is_there
+      ∙ sym (answers_pages around.most a.last r.number r.max r.after around.kept.owner around.kept.entries known.some known around.keeps.many asked.few asked.place)
       ∙ ap (λ first. answer_of first a.last r) (sym around.oldest)
 
 -- ---- the switch of carbons, and presence
 
-abbrev iq_of_switch : IqView
+abbrev pub iq_of_switch : IqView
 iq_of_switch = record { from = None; to = None; id = codes "carbons"; kind = iq.Set; payload = child (carbons_switch_elem (record { on = true })) no_nodes }
 
 -- what is done on it

@@ -4,10 +4,9 @@ use Rattle.xmpp_device_views.specs.Deeds.{Takes, gives_all}
 use Rattle.xmpp_links_events.proofs.Acts.{one_by_one}
 use Rattle.xmpp_links_events.specs.Lists.{IsCounting, Stanzas}
 use Rattle.xmpp_session_deeds.proofs.Sorted.{enable_at, with_sessions}
-use Rattle.xmpp_session_deeds.specs.Deeds.{Binds, Counts, DoesAmid, Drift, Drifts, Ends, IsTaken, drifted}
+use Rattle.xmpp_session_deeds.specs.Deeds.{Binds, Counts, DoesAmid, Drift, Drifts, Ends, IsGivenAtOnce, IsTakenAtOnce, drifted}
 use Rattle.xmpp_sessions.specs.Devices.{Present, Sessions}
 use Rattle.xmpp_sessions.specs.Events.{put_down}
-use Rattle.xmpp_sessions.specs.Stanzas.{Down, Up}
 
 -- a device without a live session of its present epoch gets none by drifting
 stays_away : (xs : List Drift) (d there : Sessions) → Drifts xs d there → d.row ≢ Present → there.row ≢ Present
@@ -24,14 +23,6 @@ still (Counts ∷ xs) d there by counted counts = absurd (counted.1 (enable_at d
 still (Ends ∷ xs) d there by counted counts = absurd (stays_away xs (drifted Ends d) there by.1 (λ e. cc) counts.0)
 
 -- ---- given
-
-pub record IsGivenAtOnce (zs : List Down) (d last : Sessions) : Type 0 where
-  pub before : List Drift
-  pub there : Sessions
-  pub behind : List Drift
-  pub drifts : Drifts before d there
-  pub counting : IsCounting there
-  pub rests : Drifts behind (put_down zs there) last
 
 module _ {A : Type 0} (r : Stanzas A) where
   pub given_at_once : (z : A) (zs : List A) (d last : Sessions) → DoesAmid r (gives_all (z ∷ zs)) d last → IsGivenAtOnce (map r.down (z ∷ zs)) d last
@@ -54,15 +45,6 @@ module _ {A : Type 0} (r : Stanzas A) where
         counting = does.0;
         rests = subst (λ s. Drifts more.behind s last) (ap (put_down (map r.down (y ∷ zs))) same ∙ sym (one_by_one (r.down z) (map r.down (y ∷ zs)) there)) more.rests;
       }
-
-  pub record IsTakenAtOnce (z : Up) (zs : List Down) (d last : Sessions) : Type 0 where
-    pub before : List Drift
-    pub there : Sessions
-    pub next : Sessions
-    pub behind : List Drift
-    pub drifts : Drifts before d there
-    pub taken : IsTaken z there next
-    pub rests : Drifts behind (put_down zs next) last
 
   -- nothing is put
   none_put : (d : Sessions) → put_down [] d ≡ d

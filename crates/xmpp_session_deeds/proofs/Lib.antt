@@ -3,3 +3,4 @@ pub mod Steps
 pub mod Sorted
 pub mod Given
 pub mod Worlds
+pub mod AllDrifts

@@ -1,11 +1,13 @@
 -- The deeds of the links (`xmpp_device_views`) as what becomes of a device's sessions as lists. What the server alone does
 -- with a session, by a binding, by counting it and where it ends, is no deed: between two of them it drifts so.
-use Rattle.std.specs.Prelude.{◌≡◌, ◌⊎◌, ℕ, ◌≤◌, Bool, true, false, List, [], ◌∷◌, length}
+use Rattle.std.specs.Prelude.{◌≡◌, ◌⊎◌, ℕ, ◌≤◌, Bool, true, false, List, [], ◌∷◌, length, map, Some}
 use Rattle.xmpp_device_views.specs.Deeds.{Deed, Drops, Enters, Gives, Learns, Names, Reads, Says, Takes}
 use Rattle.xmpp_links_events.specs.Acts.{MayAct}
 use Rattle.xmpp_links_events.specs.Lists.{IsCounting, Stanzas, knows}
-use Rattle.xmpp_sessions.specs.Devices.{Sessions}
-use Rattle.xmpp_sessions.specs.Events.{Act, Bind, ClientHandles, Enable, End, ReadBound, ReadEnabled, ServerHandles, acknowledged, binds, counts, end_row, goes_offline, moved_down, moved_up, put_down, put_up, reads_bound}
+use Rattle.std.specs.List.{slice_get, slice_set}
+use Rattle.xmpp_sessions.specs.Devices.{Device, Sessions, World}
+use Rattle.xmpp_sessions.specs.Events.{Act, At, Event, Bind, ClientHandles, Enable, End, ReadBound, ReadEnabled, ServerHandles, acknowledged, binds, counts, end_row, goes_offline, moved_down, moved_up, put_down, put_up, reads_bound, Reaches}
+use Rattle.xmpp_sessions.specs.Histories.{spoken_in}
 use Rattle.xmpp_sessions.specs.Stanzas.{Down, Up}
 
 -- ---- what the server alone does
@@ -76,6 +78,27 @@ abbrev pub DoesAmid : {A : Type 0} → Stanzas A → List (Deed A) → Sessions 
 DoesAmid r [] d last = (xs : List Drift) × Drifts xs d last
 DoesAmid r (x ∷ xs) d last = (before : List Drift) × (there : Sessions) × Drifts before d there × ((next : Sessions) × Does r x there next × DoesAmid r xs next last)
 
+-- ---- what the server gives
+
+-- The session drifts, the stanzas are given, one directly behind the other, and it drifts again.
+pub record IsGivenAtOnce (zs : List Down) (d last : Sessions) : Type 0 where
+  pub before : List Drift
+  pub there : Sessions
+  pub behind : List Drift
+  pub drifts : Drifts before d there
+  pub counting : IsCounting there
+  pub rests : Drifts behind (put_down zs there) last
+
+-- the same, directly behind one that is taken
+pub record IsTakenAtOnce (z : Up) (zs : List Down) (d last : Sessions) : Type 0 where
+  pub before : List Drift
+  pub there : Sessions
+  pub next : Sessions
+  pub behind : List Drift
+  pub drifts : Drifts before d there
+  pub taken : IsTaken z there next
+  pub rests : Drifts behind (put_down zs next) last
+
 -- ---- whose deeds
 
 -- of the client, and not that a session was bound
@@ -84,3 +107,29 @@ IsPlain (Takes z) = ⊥
 IsPlain (Gives z) = ⊥
 IsPlain Names = ⊥
 IsPlain x = Unit {0}
+
+-- ---- worlds
+
+-- the events of a device
+abbrev pub drift_events : ℕ → List Drift → List Event
+drift_events i xs = map (λ x. At i (act_of x)) xs
+
+-- a device of it is this
+abbrev pub with_device : ℕ → Device → World → World
+with_device i d w = record w { devices = slice_set w.devices i d }
+
+-- a device drifts
+pub record IsDrifted (d : Device) : Type 0 where
+  pub drifts : List Drift
+  pub last : Sessions
+  pub leads : Drifts drifts d.sessions last
+
+-- The devices of a world drift, each to what is said of it, and this is the world behind these events: nobody says anything
+-- in them.
+pub record AllDrift (Is : ℕ → Device → Sessions → Type 0) (w : World) : Type 0 where
+  pub events : List Event
+  pub devices : List Device
+  pub reaches : Reaches events w (record w { devices = devices })
+  pub silent : spoken_in events ≡ []
+  pub each : (i : ℕ) (d : Device) → slice_get w.devices i ≡ Some d → (last : Sessions) × Is i d last × (slice_get devices i ≡ Some (record d { sessions = last }))
+  pub many : length devices ≡ length w.devices

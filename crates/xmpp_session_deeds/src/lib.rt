@@ -3,4 +3,6 @@
 
 mod laws;
 
-
+pub use laws::{
+    deeds_are_done_in_sessions, drifts_are_events, drifts_come_first, stanzas_are_given_at_once,
+};

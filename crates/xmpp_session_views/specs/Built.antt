@@ -6,7 +6,7 @@ use Rattle.xmpp_forwarding.specs.Passed.{passed_item}
 use Rattle.xmpp_forwarding.specs.Queries.{no_such_place}
 use Rattle.xmpp_forwarding.specs.Results.{AskerView, entry_item, fin_item}
 use Rattle.xmpp_item_stanzas.specs.Downs.{down_stanza}
-use Rattle.xmpp_item_stanzas.specs.Meant.{IsEntryNumber, IsOrigin, IsPage, IsRequest, IsSubmitted, requested, submitted}
+use Rattle.xmpp_item_stanzas.specs.Meant.{Fits, IsEntryNumber, IsOrigin, IsPage, IsRequest, IsSubmitted, requested, submitted}
 use Rattle.xmpp_item_stanzas.specs.Ups.{up_stanza}
 use Rattle.xmpp_outbox.specs.Submissions.{origin_of}
 use Rattle.xmpp_pages.specs.Cuts.{CutView}
@@ -19,6 +19,7 @@ use Rattle.xmpp_schedule.specs.Grammar.{is_name, is_text}
 use Rattle.xmpp_sessions.specs.Answers.{last_in}
 use Rattle.xmpp_sessions.specs.Stanzas.{Accepted, Bounced, Carbons, Down, Fin, Live, Message, NotFound, Presence, Query, Res, Submission, Up}
 use Rattle.xmpp_stanza.specs.Views.{MessageView}
+use Rattle.xmpp_stanza.specs.Written.{IsNormal}
 use Rattle.xmpp_stanza.specs.declared.errors.StanzaError.{StanzaError}
 use Rattle.xmpp_trees.specs.Trees.{no_nodes}
 use Rattle.xmpp_writer.specs.Items.{ItemOut}
@@ -50,6 +51,7 @@ asker_for o q = record { by = bare_address o.account; full = full_address o.acco
 -- an answer to what was asked with this id of nobody in particular
 pub record IsAnswer (id : List ℕ) (a : EnvelopeView) : Type 0 where
   pub from : a.from ≡ None
+  pub to : IsNormal a.to
   pub id_is : a.id ≡ id
 
 -- a message that came back
@@ -57,12 +59,15 @@ pub record IsBounce (o : Owned) (epoch n : ℕ) (z : ItemOut) : Type 0 where
   pub from : List ℕ
   pub error : StanzaError
   pub is : z ≡ bounce_item from (origin_of o.device epoch n) error
+  pub address : IsNormal (Some from)
   pub origin : IsOrigin o.device epoch n
 
 -- the message itself, or a copy of it
 pub record IsPassed (o : Owned) (n : ℕ) (z : ItemOut) : Type 0 where
   pub message : MessageView
   pub is : z ≡ passed_item (bare_address o.account) (Some n) message
+  pub sender : IsNormal message.from
+  pub addressee : IsNormal message.to
   pub submission : IsSubmitted message
 
 pub record IsCopied (o : Owned) (n : ℕ) (z : ItemOut) : Type 0 where
@@ -70,6 +75,8 @@ pub record IsCopied (o : Owned) (n : ℕ) (z : ItemOut) : Type 0 where
   pub is : z ≡ copy_item copy (full_address o.account o.device)
   pub by : copy.by ≡ bare_address o.account
   pub number : copy.number ≡ Some n
+  pub sender : IsNormal copy.message.from
+  pub addressee : IsNormal copy.message.to
   pub submission : IsSubmitted copy.message
 
 abbrev pub IsLive : Owned → ℕ → ItemOut → Type 0
@@ -88,6 +95,7 @@ pub record IsEnd (o : Owned) (q : ℕ) (complete : Bool) (last : Option ℕ) (co
   pub answer : IsAnswer (queryid_text q) envelope
   pub cut : CutView
   pub page : IsPage cut
+  pub index : Fits cut.first_index
   pub told : (cut.complete ≡ complete) × (last_in cut.numbers ≡ last) × (cut.count ≡ count)
   pub is : z ≡ fin_item envelope cut
 

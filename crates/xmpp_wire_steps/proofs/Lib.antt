@@ -6,6 +6,7 @@ pub mod Taken
 pub mod Placed
 -- ---- moves
 pub mod MoreMoves
+pub mod PromptMoves
 -- ---- the server
 pub mod Found
 pub mod Halls

@@ -1,0 +1,3 @@
+pub use Rattle.xmpp_edge.specs.Listed
+-- law: which deeds keep the links prompt and in time
+pub mod InTime

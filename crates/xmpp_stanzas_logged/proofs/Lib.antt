@@ -1,0 +1,9 @@
+pub mod Stanzas
+pub mod Forwards
+pub mod Names
+pub mod Turns
+pub mod Quiet
+pub mod Lives
+pub mod Found
+pub mod Faults
+pub mod Results

@@ -1,0 +1,115 @@
+-- A world of items beside the world of the two applications over sessions: of each device the links, whose stanzas are those
+-- of its sessions, and what its client has; and what the server has.
+use Rattle.std.specs.Prelude.{◌≡◌, ℕ, ◌+◌, ◌*◌, ◌≤◌, ◌<◌, ◌^◌, All, List, Some, length, map, slice_get}
+use Rattle.std.specs.List.{AllByRecursion}
+use Rattle.xmpp_archive.specs.Entries.{EntryView}
+use Rattle.xmpp_cores_keep.specs.Mild.{ClientFits, DownFits, HallFits, UpFits}
+use Rattle.xmpp_device_logins.specs.Devices.{identity_at}
+use Rattle.xmpp_device_views.specs.Deeds.{awaits}
+use Rattle.xmpp_device_views.specs.Identities.{Login}
+use Rattle.xmpp_device_views.specs.Shows.{Shows}
+use Rattle.xmpp_images.specs.Stands.{HallStands}
+use Rattle.xmpp_item_fits.specs.Fitting.{FitsHere}
+use Rattle.xmpp_item_stanzas.specs.Items.{stanzas_read}
+use Rattle.xmpp_item_worlds.specs.ItemPipes.{ItemWire}
+use Rattle.xmpp_item_worlds.specs.ItemWorlds.{ItemWorld}
+use Rattle.xmpp_links.specs.Covers.{PromptReached}
+use Rattle.xmpp_links.specs.Events.{SeenSession, seen}
+use Rattle.xmpp_links.specs.Paging.{PagingReached}
+use Rattle.xmpp_links.specs.Views.{View}
+use Rattle.xmpp_links_events.specs.Lists.{IsDevice}
+use Rattle.xmpp_links_in_time.specs.InTime.{paging_here}
+use Rattle.xmpp_log_readings.specs.Shown.{LogShows}
+use Rattle.xmpp_schedule.specs.Contents.{Owned, accounts_of}
+use Rattle.xmpp_schedule.specs.Schedules.{WireView, keep_of}
+use Rattle.xmpp_server_numbers.specs.Unbound.{IsWithin}
+use Rattle.xmpp_session_views.specs.Built.{IsDown, IsUp}
+use Rattle.xmpp_session_views.specs.Served.{FlagsShow, ServerRuns, take_told}
+use Rattle.xmpp_session_views.specs.Submitted.{SubmissionsShow}
+use Rattle.xmpp_sessions.specs.Devices.{Device, Take, World}
+use Rattle.xmpp_sessions.specs.Events.{Event, Reaches}
+use Rattle.xmpp_sessions.specs.Histories.{spoken_in}
+use Rattle.xmpp_sessions_laws.specs.Reported.{history_at}
+use Rattle.xmpp_sessions_laws.specs.Runs.{begins, owned_of, steps_in}
+use Rattle.xmpp_writer.specs.Items.{ItemOut}
+
+-- ---- the schedule
+
+abbrev pub names_of : WireView → List (List ℕ)
+names_of schedule = accounts_of (steps_in schedule)
+
+abbrev pub keep_in : WireView → ℕ
+keep_in schedule = keep_of schedule.version
+
+-- what the account of a device has ever got
+abbrev pub history_for : WireView → List Take → Owned → List EntryView
+history_for schedule takes o = history_at (owned_of schedule) takes o.account
+
+-- the device at a place
+abbrev pub IsOwned : WireView → ℕ → Owned → Type 0
+IsOwned schedule i o = slice_get (owned_of schedule) i ≡ Some o
+
+-- ---- how much may happen
+
+-- how many messages all users say, how many pages each device asks for, and how many connections are dialled
+pub record Bounds : Type 0 where
+  pub says : ℕ
+  pub pages : ℕ
+  pub dials : ℕ
+
+-- So no session comes to 2 ^ 32 stanzas, and no number to 2 ^ 64.
+pub record AreSmall (b : Bounds) : Type 0 where
+  pub stanzas : 101 * (b.says + b.pages + 4) + b.says < 2 ^ 32
+  pub dials : b.dials + 2 < 2 ^ 64
+
+-- ---- a device
+
+-- the stanzas of a session are built as they are read
+pub record AreBuilt (o : Owned) (history : List EntryView) (t : SeenSession ItemOut) : Type 0 where
+  pub up : All (IsUp o) t.up_put
+  pub down : All (IsDown o history) t.down_put
+
+pub record DeviceRuns (schedule : WireView) (w : ItemWorld) (x : World) (i : ℕ) (o : Owned) : Type 0 where
+  -- the links, of which moves that are prompt and in time have made what is shown
+  pub logins : ℕ → Login
+  pub view : View ItemOut
+  pub in_time : PagingReached paging_here view
+  pub prompt : PromptReached awaits view
+  pub shows : Shows (identity_at schedule i o) logins w view
+  -- its sessions
+  pub device : Device
+  pub there : slice_get x.devices i ≡ Some device
+  pub account : device.account ≡ o.account
+  pub sessions : IsDevice stanzas_read (seen view) device.sessions
+  pub built : (q : ℕ) (t : SeenSession ItemOut) → (seen view).sessions q ≡ Some t → AreBuilt o (history_for schedule x.takes o) t
+  -- what its client has
+  pub submissions : SubmissionsShow shows.device.client device.sessions
+  pub log : LogShows (keep_in schedule) (history_for schedule x.takes o) shows.device.client.log device.reading
+  pub pages : shows.device.client.pages ≡ device.reading.asked
+  -- what the server has of its session
+  pub flags : FlagsShow (identity_at schedule i o).account o.device w.server device.sessions
+
+-- ---- worlds
+
+-- The events led here from the beginning, and in them users said so many messages at most.
+pub record IsLed (schedule : WireView) (b : Bounds) (x : World) : Type 0 where
+  pub events : List Event
+  pub reaches : Reaches events (begins schedule) x
+  pub spoken : length (spoken_in events) ≤ b.says
+
+pub record WorldRuns (schedule : WireView) (b : Bounds) (w : ItemWorld) (x : World) : Type 0 where
+  pub led : IsLed schedule b x
+  pub asked : (i : ℕ) (d : Device) → slice_get x.devices i ≡ Some d → d.reading.asked ≤ b.pages + 1
+  pub dialled : length w.wires ≤ b.dials
+  -- devices, and no others
+  pub devices : (i : ℕ) (o : Owned) → IsOwned schedule i o → DeviceRuns schedule w x i o
+  pub many : length w.devices ≡ length (owned_of schedule)
+  pub many_there : length x.devices ≡ length (owned_of schedule)
+  pub wires : (place : ℕ) (wire : ItemWire) → slice_get w.wires place ≡ Some wire → (o : Owned) × IsOwned schedule wire.device o
+  -- the server
+  pub server : ServerRuns (keep_in schedule) (owned_of schedule) (names_of schedule) x.takes w.server
+  pub takes : w.takes ≡ map (take_told (owned_of schedule)) x.takes
+  pub clock : x.clock ≡ w.moment
+  pub fits : FitsHere w
+  pub stands : HallStands (length w.wires) w.server
+  pub within : IsWithin (length w.wires) w.server
