@@ -1,7 +1,8 @@
 -- The end of a connection goes up, and time passes: what that is for each device.
-use Rattle.std.proofs.Common.{◌≡◌, ℕ, ◌+◌, Bool, true, false, not, ◌&&◌, List, [], ◌∷◌, ◌++◌, Some, if◌then◌else◌, slice_get, refl, sym, ap, subst, ◌∙◌}
+use Rattle.std.proofs.Common.{◌≡◌, ℕ, ◌+◌, Bool, true, false, not, ◌&&◌, List, [], ◌∷◌, ◌++◌, Some, slice_get, refl, sym, ap, subst, ◌∙◌}
 use Rattle.xmpp_connections_follow.proofs.CutPipes.{conn_of}
 use Rattle.xmpp_connections_follow.proofs.Lifts.{nothing_moves, tick_lifts, told_lifts}
+use Rattle.xmpp_connections_follow.proofs.Nobody.{not_over}
 use Rattle.xmpp_connections_follow.proofs.Stays.{along_both, no_deeds, reached_along}
 use Rattle.xmpp_connections_follow.specs.Following.{WorldFollows}
 use Rattle.xmpp_desk.specs.Moments.{at_moment, gone_at}
@@ -11,7 +12,7 @@ use Rattle.xmpp_device_views.specs.Identities.{Identity, Login}
 use Rattle.xmpp_device_views.specs.Pipes.{by_number}
 use Rattle.xmpp_device_views.specs.Servers.{ServerFollows}
 use Rattle.xmpp_device_views.specs.Shows.{Shows}
-use Rattle.xmpp_item_worlds.specs.ItemMoves.{Tick, UpEnd, moved, told_up}
+use Rattle.xmpp_item_worlds.specs.ItemMoves.{Tick, UpEnd, moved}
 use Rattle.xmpp_item_worlds.specs.ItemPipes.{ItemPipe, ItemWire, is_empty, is_end_due, up_end_told}
 use Rattle.xmpp_item_worlds.specs.ItemWorlds.{ItemWorld}
 use Rattle.xmpp_links.proofs.Reached.{link_kept}
@@ -24,7 +25,6 @@ use Rattle.xmpp_server_follows.proofs.GoneRows.{gone_follows}
 use Rattle.xmpp_server_follows.proofs.MomentRows.{moment_follows}
 use Rattle.xmpp_server_follows.specs.Taking.{IsOver}
 use Rattle.xmpp_wire_steps.proofs.Changes.{under_place}
-use Rattle.xmpp_wires.specs.Places.{changed_at}
 use Rattle.xmpp_worlds_follow.specs.Steps.{IsShownBeside}
 use Rattle.xmpp_writer.specs.Items.{ItemOut}
 
@@ -34,7 +34,7 @@ pub moment_in : (who : Identity) (logins : ℕ → Login) (w : ItemWorld) (v : V
 moment_in who logins w v now s = moment_follows who logins w.server (by_number w.wires) v now s.server s.pipes
 
 pub tick_in : (who : Identity) (logins : ℕ → Login) (w : ItemWorld) (v : View ItemOut) (milliseconds : ℕ) → Shows who logins w v → WorldFollows who logins (moved (Tick milliseconds) w) v []
-tick_in who logins w v milliseconds s = tick_lifts who logins w v s milliseconds [] (moment_in who logins w v (w.moment + milliseconds) s)
+tick_in who logins w v milliseconds s = tick_lifts who logins w v s milliseconds [] tt (moment_in who logins w v (w.moment + milliseconds) s)
 
 -- ---- an end
 
@@ -78,20 +78,13 @@ due_ended : (p : ItemPipe) → is_end_due p ≡ true → p.ended ≡ true
 due_ended p due = (both_true (is_empty p) p.ended (not p.told) due).1
 
 -- before the end is due nothing changes
-not_due : (w : ItemWorld) (place : ℕ) (wire : ItemWire) → slice_get w.wires place ≡ Some wire → is_end_due wire.up ≡ false → moved (UpEnd place) w ≡ w
-not_due w place wire there early = ap (λ o. told_up place o w) there ∙ ap (λ b. if b then ended else w) early
-  where
-    ended : ItemWorld
-    ended = record w { server = gone_at (place + 1) (at_moment w.moment w.server); wires = changed_at place up_end_told w.wires }
-
--- what both cases give a device
 module _ (w : ItemWorld) (place : ℕ) (wire : ItemWire) (there : slice_get w.wires place ≡ Some wire) (whom : Identity) (others : ℕ → Login) (u : View ItemOut) (s : Shows whom others w u) where
   early_or_due : (is_end_due wire.up ≡ true → ServerFollows whom others (gone_at (place + 1) (at_moment w.moment w.server)) (with_at (place + 1) (up_end_told wire) (by_number w.wires)) u []) → WorldFollows whom others (moved (UpEnd place) w) u []
   early_or_due hears = go (is_end_due wire.up) refl
     where
       go : (b : Bool) → is_end_due wire.up ≡ b → WorldFollows whom others (moved (UpEnd place) w) u []
-      go false early = subst (λ x. WorldFollows whom others x u []) (sym (not_due w place wire there early)) (nothing_moves whom others w u s)
-      go true due = told_lifts whom others w u s place wire [] there due (hears due)
+      go false early = subst (λ x. WorldFollows whom others x u []) (sym (not_over w place wire there early)) (nothing_moves whom others w u s)
+      go true due = told_lifts whom others w u s place wire [] tt there due (hears due)
 
 module _ (who : Identity) (logins : ℕ → Login) (w : ItemWorld) (v : View ItemOut) (s : Shows who logins w v) (reached : LinkReached v) (place : ℕ) (wire : ItemWire) (there : slice_get w.wires place ≡ Some wire) (of : wire.device ≡ who.place) where
   abbrev now : Hall ItemOut

@@ -2,7 +2,7 @@
 use Rattle.std.proofs.Common.{◌≡◌, ℕ, ◌+◌, List, [], ◌∷◌, ◌++◌, Some, slice_get, sym, ap, subst, ◌∙◌}
 use Rattle.xmpp_connections_follow.proofs.Stays.{client_stays}
 use Rattle.xmpp_connections_follow.specs.Following.{WorldFollows}
-use Rattle.xmpp_device_views.specs.Deeds.{Deed, gives_all}
+use Rattle.xmpp_device_views.specs.Deeds.{Deed, SaysNothing, gives_all}
 use Rattle.xmpp_device_views.specs.Identities.{Identity, Login}
 use Rattle.xmpp_device_views.specs.Pipes.{by_number}
 use Rattle.xmpp_device_views.specs.Sent.{sent}
@@ -27,6 +27,7 @@ use Rattle.xmpp_server_follows.specs.Taking.{AreCountable, HasFirst, HasNumber, 
 use Rattle.xmpp_stanzas_follow.proofs.StanzaRows.{reaches_other, stanza_comes, stanza_follows}
 use Rattle.xmpp_stanzas_follow.specs.Given.{IsOfSession, StepGives, acts_on}
 use Rattle.xmpp_wire_steps.proofs.Changes.{under_place}
+use Rattle.xmpp_wire_steps.proofs.PromptMoves.{gives_nothing_said, silent_as}
 use Rattle.xmpp_worlds_follow.specs.Steps.{IsGivenIn, IsOfWord, IsShownBeside, ItemGoesUp, UpDoes, takes_it, takes_nothing}
 use Rattle.xmpp_writer.specs.Items.{ItemOut}
 
@@ -50,13 +51,14 @@ module _ (w : ItemWorld) (place : ℕ) (x : ItemWire) (j : ItemOut) (items : Lis
   }
 
   -- the view behind it is that behind the step
-  abbrev taken_in : (whom : Identity) (others : ℕ → Login) (u : View ItemOut) (done : List (Deed ItemOut)) → Shows whom others w u → StepFollows whom others (by_number w.wires) u (place + 1) x (on_item (place + 1) j w.server) done
-      → WorldFollows whom others (moved (Up place) w) u done
-  taken_in whom others u done s step = record {
+  abbrev taken_in : (whom : Identity) (others : ℕ → Login) (u : View ItemOut) (done : List (Deed ItemOut)) → SaysNothing done → Shows whom others w u
+      → StepFollows whom others (by_number w.wires) u (place + 1) x (on_item (place + 1) j w.server) done → WorldFollows whom others (moved (Up place) w) u done
+  taken_in whom others u done silent s step = record {
     moves = step.moves;
     next = step.next;
     leads = step.leads;
     does = step.does;
+    prompt = silent_as step.moves done step.does silent;
     shows = subst (λ y. Shows whom others y step.next) (sym moved_so) (served_shows whom others u done s step);
   }
 
@@ -89,14 +91,14 @@ module _ (who : Identity) (logins : ℕ → Login) (w : ItemWorld) (v : View Ite
 
   module _ (s : Shows who logins w v) (room : HasNumber w.server) (few : AreCountable v) (items : List ItemOut) where
     own_taken : (word : UpWord ItemOut) (p : First word) → Pipe word p items → IsTaken who logins w.server (by_number w.wires) v (place + 1) p.wire word → WorldFollows who logins (moved (Up place) w) v []
-    own_taken word p pipe step = taken_in w place p.wire (up_item who (logins (place + 1)) word) items (there_is word p) pipe who logins v [] s step
+    own_taken word p pipe step = taken_in w place p.wire (up_item who (logins (place + 1)) word) items (there_is word p) pipe who logins v [] tt s step
 
     own_stanza : (z : ItemOut) (p : First (UpTraffic (St z))) → Pipe (UpTraffic (St z)) p items → (x : IsOfSession who w.server z) → IsGivenIn who who logins w (moved (Up place) w) v z x (takes_it z)
     own_stanza z p pipe x =
         let g : StepGives who logins (by_number w.wires) v (place + 1) p.wire (on_item (place + 1) z w.server) (acts_on who w.server z x) (takes_it z) = stanza_follows who logins w.server (by_number w.wires) v (place + 1) z p x in
         record {
           given = g.given;
-          follows = taken_in w place p.wire z items (there_is (UpTraffic (St z)) p) pipe who logins v (takes_it z ++ gives_all g.given) s g.follows;
+          follows = taken_in w place p.wire z items (there_is (UpTraffic (St z)) p) pipe who logins v (takes_it z ++ gives_all g.given) (gives_nothing_said g.given) s g.follows;
           are_given = g.are_given;
         }
 
@@ -120,7 +122,7 @@ module _ (who : Identity) (logins : ℕ → Login) (w : ItemWorld) (v : View Ite
 
     other_taken : (word : UpWord ItemOut) (p : First word) → Pipe word p items → IsNoStanza word → HasRoom word w.server → WorldFollows whom others (moved (Up place) w) u []
     other_taken word p pipe none has_room =
-        taken_in w place p.wire (up_item who (logins (place + 1)) word) items (there_is word p) pipe whom others u [] b.shows
+        taken_in w place p.wire (up_item who (logins (place + 1)) word) items (there_is word p) pipe whom others u [] tt b.shows
         (word_stays who whom logins others w.server (by_number w.wires) v u (place + 1) word p none has_room beside_it)
 
     other_stanza : (z : ItemOut) (p : First (UpTraffic (St z))) → Pipe (UpTraffic (St z)) p items → (x : IsOfSession who w.server z) → IsGivenIn who whom others w (moved (Up place) w) u z x (takes_nothing z)
@@ -129,7 +131,7 @@ module _ (who : Identity) (logins : ℕ → Login) (w : ItemWorld) (v : View Ite
         reaches_other who logins w.server (by_number w.wires) v (place + 1) z p x whom others u b.apart b.reached b.shows.server b.shows.pipes in
         record {
           given = g.given;
-          follows = taken_in w place p.wire z items (there_is (UpTraffic (St z)) p) pipe whom others u (gives_all g.given) b.shows g.follows;
+          follows = taken_in w place p.wire z items (there_is (UpTraffic (St z)) p) pipe whom others u (gives_all g.given) (gives_nothing_said g.given) b.shows g.follows;
           are_given = g.are_given;
         }
 
