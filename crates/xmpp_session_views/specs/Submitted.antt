@@ -3,7 +3,7 @@ use Rattle.std.specs.Prelude.{◌≡◌, true, false, Bool, List, [], Option, So
 use Rattle.xmpp_client_rows.specs.Clients.{ClientView}
 use Rattle.xmpp_devices.specs.DeviceLines.{said_line}
 use Rattle.xmpp_outbox.specs.Sessions.{SessionView}
-use Rattle.xmpp_outbox.specs.Submissions.{all_said}
+use Rattle.xmpp_outbox.specs.Submissions.{SaidView, all_said}
 use Rattle.xmpp_report.specs.declared.report.SaidMark.TheVariants.{Waiting}
 use Rattle.xmpp_sessions.specs.Devices.{Sessions, epoch_of, up_put}
 use Rattle.xmpp_sessions.specs.Stanzas.{Carbons, Message, Presence, Query, Up, messages}
@@ -23,13 +23,13 @@ abbrev pub outstanding : Sessions → List Up
 outstanding d = drop d.now.acked (up_put d.now)
 
 -- a client that has its session keeps its submissions that wait apart; which of the queue's stanzas these are it knows
-abbrev pub IsWaiting : Option (SessionView ItemOut) → ClientView ItemOut → Sessions → Type 0
-IsWaiting None c d = c.said.waiting ≡ []
-IsWaiting (Some s) c d = (map said_line c.said.waiting ≡ map (reported.said_line Waiting) (messages (outstanding d))) × (s.waiting.submissions ≡ map is_message (outstanding d))
+abbrev pub IsWaiting : Option (SessionView ItemOut) → SaidView → Sessions → Type 0
+IsWaiting None said d = said.waiting ≡ []
+IsWaiting (Some s) said d = (map said_line said.waiting ≡ map (reported.said_line Waiting) (messages (outstanding d))) × (s.waiting.submissions ≡ map is_message (outstanding d))
 
 pub record SubmissionsShow (c : ClientView ItemOut) (d : Sessions) : Type 0 where
   pub epoch : c.epoch ≡ epoch_of d
   pub n : c.n ≡ d.n
   pub online : d.online ≡ is_some c.session
   pub said : map said_line (all_said c.said) ≡ said_of d
-  pub waiting : IsWaiting c.session c d
+  pub waiting : IsWaiting c.session c.said d

@@ -1,0 +1,10 @@
+pub mod EachDevice
+pub mod Reactions
+pub mod Down
+pub mod Up
+pub mod Requests
+pub mod Rises
+pub mod Unanswered
+pub mod Said
+pub mod Taken
+pub mod Whole

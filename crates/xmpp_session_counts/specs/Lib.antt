@@ -1,0 +1,2 @@
+-- How large the numbers of a run become.
+pub mod Counts
