@@ -59,8 +59,8 @@ IsUnanswered d = d.sessions.online ≡ true → answers d.sessions.now.down_rest
 abbrev pub IsNumberedWithin : ℕ → ℕ → Submission → Type 0
 IsNumberedWithin epoch n m = (m.epoch ≤ epoch) × (m.n ≤ n)
 
--- A turn: a device's client only handles stanzas, of which the server handles none of its own meanwhile; or at the first
--- event alone it may put a request.
+-- A turn of a device: its user asks for no page, and the server handles none of its stanzas; or a request may be put at
+-- the first event alone.
 abbrev pub IsTurn : ℕ → List Event → Type 0
 IsTurn i [] = Unit {0}
 IsTurn i (event ∷ events) = AllByRecursion (IsBetween i) (event ∷ events) ⊎ AllByRecursion (λ later. MayAsk i later → ⊥) events
