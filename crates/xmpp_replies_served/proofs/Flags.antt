@@ -1,6 +1,6 @@
 -- The flags of a device's session: those of the session whose stanza it is are altered as the applications do, and those of
 -- others stay.
-use Rattle.std.proofs.Common.{◌≡◌, ℕ, ◌==◌, ◌||◌, Bool, true, false, List, [], ◌∷◌, Option, Some, None, pos, refl, sym, ap, subst, ◌∙◌, inl, inr}
+use Rattle.std.proofs.Common.{◌≡◌, ℕ, ◌==◌, ◌≢◌, ◌&&◌, ◌||◌, Bool, true, false, List, [], ◌∷◌, Option, Some, None, pos, refl, sym, ap, subst, ◌∙◌, inl, inr}
 use Rattle.std.proofs.lemmas.Bool.{and_parts, cases_Bool, eq-eqb, eqb-true, false≢true}
 use Rattle.std.proofs.lemmas.Option.{none-some, same_Some}
 use Rattle.std.specs.List.{AllByRecursion, find}
@@ -15,15 +15,15 @@ use Rattle.xmpp_replies_served.specs.Replied.{IsReplyCase, behind}
 use Rattle.xmpp_route.proofs.Chosen.{AreFound, all_found}
 use Rattle.xmpp_schedule.specs.Contents.{Owned}
 use Rattle.xmpp_session_views.specs.Served.{FlagsShow}
-use Rattle.xmpp_sessions.specs.Devices.{Present, Sessions, Take}
-use Rattle.xmpp_sessions.specs.Events.{flagged, is_carbons, is_presence}
+use Rattle.xmpp_sessions.specs.Devices.{NoRow, Present, Sessions, Take}
+use Rattle.xmpp_sessions.specs.Events.{flagged, is_carbons, is_presence, is_present}
 use Rattle.xmpp_sessions.specs.Stanzas.{Carbons, Message, Presence, Query, Up}
 use Rattle.xmpp_trees.specs.Trees.{Elem}
 use Rattle.xmpp_writer.specs.Items.{ItemOut}
 
 -- ---- sessions by their names
 
-found_has : (P : Session ItemOut → Type 0) (q : Session ItemOut → Bool) (ss : List (Session ItemOut)) (s : Session ItemOut) → AllByRecursion P ss → find q ss ≡ Some s → P s × (q s ≡ true)
+pub found_has : (P : Session ItemOut → Type 0) (q : Session ItemOut → Bool) (ss : List (Session ItemOut)) (s : Session ItemOut) → AllByRecursion P ss → find q ss ≡ Some s → P s × (q s ≡ true)
 found_has P q [] s all is = absurd (none-some s is)
 found_has P q (x ∷ ss) s all is = elim (cases_Bool (q x)) [
   | inl passed ↦ let this : x ≡ s = same_Some x s (rw passed at is) in (subst P this all.0, subst (λ y. q y ≡ true) this passed)
@@ -31,7 +31,7 @@ found_has P q (x ∷ ss) s all is = elim (cases_Bool (q x)) [
 ]
 
 -- one that is found by its number passes no test that none passes
-none_passes : (q : Session ItemOut → Bool) (m : ℕ) (ss : List (Session ItemOut)) (s : Session ItemOut) → find q ss ≡ None → session_of m ss ≡ Some s → q s ≡ true → ⊥
+pub none_passes : (q : Session ItemOut → Bool) (m : ℕ) (ss : List (Session ItemOut)) (s : Session ItemOut) → find q ss ≡ None → session_of m ss ≡ Some s → q s ≡ true → ⊥
 none_passes q m [] s none is passes = none-some s is
 none_passes q m (x ∷ ss) s none is passes = elim (cases_Bool (q x)) [
   | inl passed ↦ none-some x (sym (rw passed at none))
@@ -42,21 +42,21 @@ none_passes q m (x ∷ ss) s none is passes = elim (cases_Bool (q x)) [
       ]
 ]
 
-each_found : (ss ts : List (Session ItemOut)) → AreFound ss ts → AllByRecursion (λ t. session_of t.shown.number ss ≡ Some t) ts
+pub each_found : (ss ts : List (Session ItemOut)) → AreFound ss ts → AllByRecursion (λ t. session_of t.shown.number ss ≡ Some t) ts
 each_found ss [] found = tt
 each_found ss (t ∷ ts) found = (found.0, each_found ss ts found.1)
 
-names_are : (account : ℕ) (resource : List ℕ) (s : Session ItemOut) → is_named account resource s ≡ true → (s.shown.account ≡ account) × (s.shown.resource ≡ resource)
+pub names_are : (account : ℕ) (resource : List ℕ) (s : Session ItemOut) → is_named account resource s ≡ true → (s.shown.account ≡ account) × (s.shown.resource ≡ resource)
 names_are account resource s is =
     let both = and_parts (s.shown.account == account) (bytes_eq s.shown.resource resource) is in
     (eqb-true s.shown.account account both.0, same-from_bytes_eq s.shown.resource resource both.1)
 
 module _ (account : ℕ) (resource : List ℕ) (h : Hall ItemOut) (rule : IsRule h.sessions h.next) where
-  abbrev all_are_found : AllByRecursion (λ t. session_of t.shown.number h.sessions ≡ Some t) h.sessions
+  abbrev pub all_are_found : AllByRecursion (λ t. session_of t.shown.number h.sessions ≡ Some t) h.sessions
   all_are_found = each_found h.sessions h.sessions (all_found h.next 1 h.sessions rule.ascending)
 
   -- no other has its name
-  the_named : (t : Session ItemOut) → session_of t.shown.number h.sessions ≡ Some t → is_named account resource t ≡ true → session_named account resource h.sessions ≡ Some t
+  pub the_named : (t : Session ItemOut) → session_of t.shown.number h.sessions ≡ Some t → is_named account resource t ≡ true → session_named account resource h.sessions ≡ Some t
   the_named t there named = by_case (session_named account resource h.sessions) refl
     where
       by_case : (found : Option (Session ItemOut)) → session_named account resource h.sessions ≡ found → session_named account resource h.sessions ≡ Some t
@@ -85,18 +85,23 @@ own_altered Presence account resource n available carbons s is = λ named. let f
 own_altered (Message m) account resource n available carbons s is = is
 own_altered (Query r) account resource n available carbons s is = is
 
+shifted : (there one two : Bool) → there ≡ true → (one || (there && two)) ≡ (there && (one || two))
+shifted true one two is = refl
+shifted false one two is = absurd (false≢true is)
+
 module _ (keep : ℕ) (owned : List Owned) (names : List (List ℕ)) (takes : List Take) (h : Hall ItemOut) (o : Owned) (s : Session ItemOut) (x : Up) (e : Elem) (is : IsReplyCase keep owned names takes h o s x e) (rule : IsRule h.sessions h.next) where
   abbrev n : ℕ
   n = s.shown.number
 
-  module _ (account : ℕ) (resource : List ℕ) (own : Bool) (d : Sessions) (shows : FlagsShow account resource h d) (present : d.row ≡ Present)
+  module _ (account : ℕ) (resource : List ℕ) (own : Bool) (d : Sessions) (shows : FlagsShow account resource h d) (live : d.row ≢ NoRow)
       (which : (t : Session ItemOut) → session_of t.shown.number h.sessions ≡ Some t → is_named account resource t ≡ true → (t.shown.number == n) ≡ own) where
-    begins : AllByRecursion (HasFlags account resource n own d.now.available d.now.carbons) h.sessions
+    begins : AllByRecursion (HasFlags account resource n own (is_present d.row && d.now.available) (is_present d.row && d.now.carbons)) h.sessions
     begins = each h.sessions (all_are_found account resource h rule)
       where
-        each : (ts : List (Session ItemOut)) → AllByRecursion (λ t. session_of t.shown.number h.sessions ≡ Some t) ts → AllByRecursion (HasFlags account resource n own d.now.available d.now.carbons) ts
+        each : (ts : List (Session ItemOut)) → AllByRecursion (λ t. session_of t.shown.number h.sessions ≡ Some t) ts →
+            AllByRecursion (HasFlags account resource n own (is_present d.row && d.now.available) (is_present d.row && d.now.carbons)) ts
         each [] all = tt
-        each (t ∷ ts) all = (λ named. let f = shows present t (the_named account resource h rule t all.0 named) in (which t all.0 named, f.0, f.1, f.2), each ts all.1)
+        each (t ∷ ts) all = (λ named. let f = shows live t (the_named account resource h rule t all.0 named) in (which t all.0 named, f.0, f.1, f.2), each ts all.1)
 
   ends : (account : ℕ) (resource : List ℕ) (own available carbons : Bool) → AllByRecursion (HasFlags account resource n own available carbons) (behind e s h).hall.sessions → (t : Session ItemOut) → session_named account resource (behind e s h).hall.sessions ≡ Some t →
       (t.shown.available ≡ available) × (t.shown.carbons ≡ carbons) × (t.shown.priority ≡ pos 0)
@@ -105,23 +110,29 @@ module _ (keep : ℕ) (owned : List Owned) (names : List (List ℕ)) (takes : Li
       let f = has.0 has.1 in
       (f.1, f.2, f.3)
 
-  pub own_flags : (d : Sessions) → FlagsShow s.shown.account s.shown.resource h d → FlagsShow s.shown.account s.shown.resource (behind e s h).hall (flagged x d)
-  own_flags d shows = λ present t found.
+  pub own_flags : (d : Sessions) → d.row ≡ Present → FlagsShow s.shown.account s.shown.resource h d → FlagsShow s.shown.account s.shown.resource (behind e s h).hall (flagged x d)
+  own_flags d present shows = λ live t found.
       let account = s.shown.account in
       let resource = s.shown.resource in
-      let P = HasFlags account resource n true d.now.available d.now.carbons in
-      let Q = HasFlags account resource n true (is_presence x || d.now.available) (is_carbons x || d.now.carbons) in
+      let available = is_present d.row && d.now.available in
+      let carbons = is_present d.row && d.now.carbons in
+      let P = HasFlags account resource n true available carbons in
+      let Q = HasFlags account resource n true (is_presence x || available) (is_carbons x || carbons) in
       let which : (u : Session ItemOut) → session_of u.shown.number h.sessions ≡ Some u → is_named account resource u ≡ true → (u.shown.number == n) ≡ true =
       λ u there named. (let a = names_are account resource u named in eq-eqb u.shown.number n (rule.names u.shown.number n u s there is.session.there a.0 a.1)) in
-      let goes = behind_goes P Q (flags_steady account resource n true d.now.available d.now.carbons) (flags_steady account resource n true (is_presence x || d.now.available) (is_carbons x || d.now.carbons)) keep owned names takes h o s
-      (begins account resource true d shows present which) x e is (λ u here p. own_altered x account resource n d.now.available d.now.carbons u p)
+      let goes = behind_goes P Q (flags_steady account resource n true available carbons) (flags_steady account resource n true (is_presence x || available) (is_carbons x || carbons)) keep owned names takes h o s
+      (begins account resource true d shows live which) x e is (λ u here p. own_altered x account resource n available carbons u p)
       (λ u other p. λ named. absurd (false≢true (sym other ∙ (p named).0))) in
-      ends account resource true (is_presence x || d.now.available) (is_carbons x || d.now.carbons) goes.sessions t found
+      let f = ends account resource true (is_presence x || available) (is_carbons x || carbons) goes.sessions t found in
+      let row : is_present d.row ≡ true = ap is_present present in
+      (f.0 ∙ shifted (is_present d.row) (is_presence x) d.now.available row, f.1 ∙ shifted (is_present d.row) (is_carbons x) d.now.carbons row, f.2)
 
   pub other_flags : (account : ℕ) (resource : List ℕ) (d : Sessions) → is_named account resource s ≡ false → FlagsShow account resource h d → FlagsShow account resource (behind e s h).hall d
-  other_flags account resource d apart shows = λ present t found.
-      let P = HasFlags account resource n false d.now.available d.now.carbons in
-      let steady = flags_steady account resource n false d.now.available d.now.carbons in
+  other_flags account resource d apart shows = λ live t found.
+      let available = is_present d.row && d.now.available in
+      let carbons = is_present d.row && d.now.carbons in
+      let P = HasFlags account resource n false available carbons in
+      let steady = flags_steady account resource n false available carbons in
       let which : (u : Session ItemOut) → session_of u.shown.number h.sessions ≡ Some u → is_named account resource u ≡ true → (u.shown.number == n) ≡ false =
       λ u there named. elim (cases_Bool (u.shown.number == n)) [
         | inl here ↦
@@ -129,12 +140,12 @@ module _ (keep : ℕ) (owned : List Owned) (names : List (List ℕ)) (takes : Li
             absurd (false≢true (sym apart ∙ sym (ap (is_named account resource) same) ∙ named))
         | inr other ↦ other
       ] in
-      let goes = behind_goes P P steady steady keep owned names takes h o s (begins account resource false d shows present which) x e is
-      (λ u here p. unnamed x u here p) (λ u other p. p) in
-      ends account resource false d.now.available d.now.carbons goes.sessions t found
+      let goes = behind_goes P P steady steady keep owned names takes h o s (begins account resource false d shows live which) x e is
+      (λ u here p. unnamed account resource available carbons x u here p) (λ u other p. p) in
+      ends account resource false available carbons goes.sessions t found
     where
-      unnamed : (y : Up) (u : Session ItemOut) → (u.shown.number == n) ≡ true → HasFlags account resource n false d.now.available d.now.carbons u → HasFlags account resource n false d.now.available d.now.carbons (alters y u)
-      unnamed Carbons u here p = λ named. absurd (false≢true (sym (p named).0 ∙ here))
-      unnamed Presence u here p = λ named. absurd (false≢true (sym (p named).0 ∙ here))
-      unnamed (Message m) u here p = p
-      unnamed (Query r) u here p = p
+      unnamed : (account : ℕ) (resource : List ℕ) (available carbons : Bool) (y : Up) (u : Session ItemOut) → (u.shown.number == n) ≡ true → HasFlags account resource n false available carbons u → HasFlags account resource n false available carbons (alters y u)
+      unnamed account resource available carbons Carbons u here p = λ named. absurd (false≢true (sym (p named).0 ∙ here))
+      unnamed account resource available carbons Presence u here p = λ named. absurd (false≢true (sym (p named).0 ∙ here))
+      unnamed account resource available carbons (Message m) u here p = p
+      unnamed account resource available carbons (Query r) u here p = p

@@ -10,7 +10,7 @@ ghost use Rattle.xmpp_replies_served.specs.Replied.{IsReplyCase, around_of, behi
 ghost use Rattle.xmpp_schedule.specs.Contents.{Owned};
 ghost use Rattle.xmpp_session_views.specs.Built.{IsDown};
 ghost use Rattle.xmpp_session_views.specs.Served.{FlagsShow, ServerRuns};
-ghost use Rattle.xmpp_sessions.specs.Devices.{Sessions, Take};
+ghost use Rattle.xmpp_sessions.specs.Devices.{Present, Sessions, Take};
 ghost use Rattle.xmpp_sessions.specs.Events.{flagged, reply};
 ghost use Rattle.xmpp_sessions.specs.Stanzas.{Up};
 ghost use Rattle.xmpp_sessions_laws.specs.Reported.{history_at};
@@ -36,7 +36,7 @@ pub fn replies_leave_the_server_running()
         → ServerRuns keep owned names takes (behind e s h).hall }
     ensures silent { (keep : ℕ) (owned : List Owned) (names : List (List ℕ)) (takes : List Take) (h : Hall ItemOut) (o : Owned) (s : Session ItemOut) (x : Up) (e : Elem) (moment : ℕ) → IsReplyCase keep owned names takes h o s x e
         → takes_told moment (behind e s h).outs ≡ [] }
-    ensures flags { (keep : ℕ) (owned : List Owned) (names : List (List ℕ)) (takes : List Take) (h : Hall ItemOut) (o : Owned) (s : Session ItemOut) (x : Up) (e : Elem) (d : Sessions) → IsReplyCase keep owned names takes h o s x e → IsRule h.sessions h.next
+    ensures flags { (keep : ℕ) (owned : List Owned) (names : List (List ℕ)) (takes : List Take) (h : Hall ItemOut) (o : Owned) (s : Session ItemOut) (x : Up) (e : Elem) (d : Sessions) → IsReplyCase keep owned names takes h o s x e → IsRule h.sessions h.next → d.row ≡ Present
         → FlagsShow s.shown.account s.shown.resource h d → FlagsShow s.shown.account s.shown.resource (behind e s h).hall (flagged x d) }
     ensures spares { (keep : ℕ) (owned : List Owned) (names : List (List ℕ)) (takes : List Take) (h : Hall ItemOut) (o : Owned) (s : Session ItemOut) (x : Up) (e : Elem) (account : ℕ) (resource : List ℕ) (d : Sessions) → IsReplyCase keep owned names takes h o s x e → IsRule h.sessions h.next
         → is_named account resource s ≡ false → FlagsShow account resource h d → FlagsShow account resource (behind e s h).hall d }

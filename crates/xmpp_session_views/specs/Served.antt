@@ -1,5 +1,5 @@
 -- What a server has, as the takes and archives of the applications, and the flags of a device's session.
-use Rattle.std.specs.Prelude.{◌≡◌, ℕ, List, Some, length, pos, slice_get}
+use Rattle.std.specs.Prelude.{◌≡◌, ◌≢◌, ◌&&◌, ℕ, List, Some, length, pos, slice_get}
 use Rattle.std.specs.List.{AllByRecursion}
 use Rattle.xmpp_archive.specs.Entries.{newest}
 use Rattle.xmpp_desk.specs.State.{Hall, archive_at}
@@ -8,7 +8,8 @@ use Rattle.xmpp_live.specs.Sessions.{Session, session_named}
 use Rattle.xmpp_devices.specs.Starting.{accounts_at_start}
 use Rattle.xmpp_report.specs.Addresses.{bare_address, domain, full_address, origin_of}
 use Rattle.xmpp_schedule.specs.Contents.{Owned}
-use Rattle.xmpp_sessions.specs.Devices.{Present, Sessions, Take}
+use Rattle.xmpp_sessions.specs.Devices.{NoRow, Sessions, Take}
+use Rattle.xmpp_sessions.specs.Events.{is_present}
 use Rattle.xmpp_sessions_laws.specs.Reported.{history_at, name_at}
 use Rattle.xmpp_writer.specs.Items.{ItemOut}
 
@@ -30,10 +31,11 @@ ArchivesShow keep owned names takes h = (place : ℕ) (name : List ℕ) → slic
   entries = newest keep (history_at owned takes name);
 })
 
--- the session that the server has of a device is available, and wants copies, as the applications say
+-- the session that the server has of a device is available, and wants copies, as the applications say; one of which the
+-- client hasn't read is and does neither
 abbrev pub FlagsShow : ℕ → List ℕ → Hall ItemOut → Sessions → Type 0
-FlagsShow account resource h d = d.row ≡ Present → (s : Session ItemOut) → session_named account resource h.sessions ≡ Some s
-    → (s.shown.available ≡ d.now.available) × (s.shown.carbons ≡ d.now.carbons) × (s.shown.priority ≡ pos 0)
+FlagsShow account resource h d = d.row ≢ NoRow → (s : Session ItemOut) → session_named account resource h.sessions ≡ Some s
+    → (s.shown.available ≡ (is_present d.row && d.now.available)) × (s.shown.carbons ≡ (is_present d.row && d.now.carbons)) × (s.shown.priority ≡ pos 0)
 
 -- ---- the server
 

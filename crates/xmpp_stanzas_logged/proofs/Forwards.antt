@@ -1,5 +1,5 @@
 -- A forwarded message is read as it was written, with its moment, or the last that has a stamp.
-use Rattle.std.proofs.Common.{◌≡◌, ℕ, ◌≤◌, ◌/◌, ◌%◌, min, Bool, true, false, List, Option, Some, None, Ok, refl, sym, ap, subst, ◌∙◌, codes, arith}
+use Rattle.std.proofs.Common.{◌≡◌, ℕ, ◌≤◌, ◌/◌, ◌%◌, min, Bool, true, false, Option, Some, Ok, sym, ap, subst, ◌∙◌, arith}
 use Rattle.xmpp_ext.proofs.ForwardingLaws.{stamp_again}
 use Rattle.xmpp_ext.specs.Carbons.{carbon_elem}
 use Rattle.xmpp_ext.specs.ForwardReadings.{carbon_read, carbon_with, forward_read, forward_with}

@@ -7,3 +7,7 @@ pub mod Lives
 pub mod Found
 pub mod Faults
 pub mod Results
+pub mod Restarts
+pub mod Ends
+pub mod Logged
+pub mod Histories

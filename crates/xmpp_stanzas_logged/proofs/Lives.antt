@@ -1,20 +1,20 @@
 -- A message that came live, and a copy of one, is held by its number in the account's archive.
-use Rattle.std.proofs.Common.{◌≡◌, ℕ, ◌<◌, ◌^◌, min, Bool, true, false, find, if◌then◌else◌, List, [], ◌∷◌, ◌++◌, Option, Some, None, Result, Ok, Err, inl, inr, refl, sym, ap, ap₂, subst, ◌∙◌, codes, arith}
+use Rattle.std.proofs.Common.{◌≡◌, ℕ, ◌<◌, ◌^◌, min, Bool, true, false, find, if◌then◌else◌, List, [], ◌∷◌, ◌++◌, Option, Some, None, Ok, inl, inr, refl, sym, ap, ap₂, subst, ◌∙◌, codes}
 use Rattle.std.proofs.lemmas.Slice.Eq.{bytes_eq-Decides}
 use Rattle.std.specs.List.{AllByRecursion}
 use Rattle.std.specs.Str.{bytes_eq}
 use Rattle.xmpp_archive.specs.Entries.{EntryView}
 use Rattle.xmpp_archive.specs.Ids.{id_of}
-use Rattle.xmpp_client_rows.specs.Clients.{ClientView, Turn}
-use Rattle.xmpp_client_rows.specs.MessageRows.{bounce_of, copied_in, held_by, held_row, is_error, is_own, itself, live_in, logged, message_with, copied as live_copied, own_id, tells_where}
+use Rattle.xmpp_client_rows.specs.Clients.{Turn}
+use Rattle.xmpp_client_rows.specs.MessageRows.{bounce_of, copied_in, held_by, held_row, is_own, itself, live_in, logged, message_with, copied as live_copied, own_id, tells_where}
 use Rattle.xmpp_client_rows.specs.Speech.{Handled}
 use Rattle.xmpp_client_rows.specs.declared.events.Event.{Event}
 use Rattle.xmpp_device_views.specs.Reading.{turn_on}
 use Rattle.xmpp_ext.specs.Carbons.{carbon_elem, is_carbon}
 use Rattle.xmpp_ext.specs.Forwarding.{forwarded_elem}
 use Rattle.xmpp_ext.specs.declared.forwarding.Forwarded.{Forwarded}
-use Rattle.xmpp_forwarding.specs.Copies.{CopyView, copied_elem, copy_elem, copy_item, copy_message}
-use Rattle.xmpp_forwarding.specs.Passed.{passed_elem, passed_item, passed_message, passed_nodes}
+use Rattle.xmpp_forwarding.specs.Copies.{copy_elem, copy_message}
+use Rattle.xmpp_forwarding.specs.Passed.{passed_elem, passed_message, passed_nodes}
 use Rattle.xmpp_item_stanzas.specs.Meant.{IsEntryNumber, IsSubmitted}
 use Rattle.xmpp_item_worlds.specs.ItemWorlds.{ItemDevice}
 use Rattle.xmpp_jid.specs.Normal.{normal}

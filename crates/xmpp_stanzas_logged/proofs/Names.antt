@@ -1,5 +1,5 @@
 -- Addresses of names are in normal form.
-use Rattle.std.proofs.Common.{◌≡◌, ℕ, true, List, [], ◌∷◌, ◌++◌, Option, Some, None, Ok, refl, ap, subst, ◌∙◌, append_assoc}
+use Rattle.std.proofs.Common.{◌≡◌, ℕ, true, List, [], ◌∷◌, ◌++◌, Some, Ok, ap, subst, append_assoc}
 use Rattle.xmpp_devices.proofs.Names.{domain_stays, local_stays, normal_address, resource_stays}
 use Rattle.xmpp_jid.proofs.NormalAgain.{are_joined}
 use Rattle.xmpp_jid.specs.Normal.{normal}

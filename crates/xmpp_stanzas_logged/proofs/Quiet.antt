@@ -1,9 +1,9 @@
 -- What leaves the log as it is: that carbons are on, and a message that came back.
-use Rattle.std.proofs.Common.{◌≡◌, ℕ, Bool, true, false, find, if◌then◌else◌, List, [], ◌∷◌, Option, Some, None, refl, sym, ap, subst, ◌∙◌, codes}
+use Rattle.std.proofs.Common.{◌≡◌, ℕ, Bool, true, false, find, if◌then◌else◌, List, [], Option, Some, None, refl, sym, ap, subst, ◌∙◌, codes}
 use Rattle.std.specs.Option.{option_map}
 use Rattle.xmpp_archive.specs.Entries.{EntryView}
-use Rattle.xmpp_client.specs.PageRows.{iq_row, page_answered}
-use Rattle.xmpp_client_rows.specs.Clients.{ClientView, Turn}
+use Rattle.xmpp_client.specs.PageRows.{page_answered}
+use Rattle.xmpp_client_rows.specs.Clients.{Turn}
 use Rattle.xmpp_client_rows.specs.MessageRows.{bounce_of, copied_in, held_row, is_own, itself, live_in, tells_where}
 use Rattle.xmpp_client_rows.specs.Speech.{in_items}
 use Rattle.xmpp_client_rows.specs.declared.events.Event.{Event}
@@ -14,7 +14,7 @@ use Rattle.xmpp_log.specs.Views.{page_for}
 use Rattle.xmpp_log_readings.specs.Shown.{page_shown}
 use Rattle.xmpp_outbox.specs.Sessions.{SessionView}
 use Rattle.xmpp_outbox.specs.Submissions.{origin_of}
-use Rattle.xmpp_replies.specs.Requests.{EnvelopeView, bounce_item, result_item}
+use Rattle.xmpp_replies.specs.Requests.{EnvelopeView, result_item}
 use Rattle.xmpp_schedule.specs.Contents.{Owned}
 use Rattle.xmpp_session_views.specs.Built.{IsAnswer, IsBounce}
 use Rattle.xmpp_sessions.specs.Devices.{OpenPage, Reading}

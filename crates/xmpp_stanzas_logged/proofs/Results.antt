@@ -1,6 +1,6 @@
 -- A result comes to the open page as the entry that it is of.
-use Rattle.std.proofs.Common.{◌≡◌, ℕ, ◌==◌, min, nat_le, nat_lt, Bool, true, false, ◌&&◌, if◌then◌else◌, List, [], ◌∷◌, ◌++◌, Option, Some, None, Ok, length, refl, sym, ap, ap₂, subst, ◌∙◌, codes, arith}
-use Rattle.std.proofs.lemmas.Bool.{and_parts, lt-leb, ltb-true, true≢false}
+use Rattle.std.proofs.Common.{◌≡◌, ℕ, ◌==◌, min, nat_le, nat_lt, true, false, ◌&&◌, if◌then◌else◌, List, [], ◌∷◌, ◌++◌, Some, None, Ok, length, refl, sym, ap, ap₂, subst, ◌∙◌, arith}
+use Rattle.std.proofs.lemmas.Bool.{and_parts, lt-leb, ltb-true}
 use Rattle.std.proofs.lemmas.Bool.Decides.{Decides-eqb}
 use Rattle.std.specs.Option.{option_map}
 use Rattle.std.specs.Str.{bytes_eq}
@@ -14,7 +14,7 @@ use Rattle.xmpp_client_rows.specs.Turns.{with_log}
 use Rattle.xmpp_device_views.specs.Reading.{turn_on}
 use Rattle.xmpp_direct.specs.Direct.{as_logged}
 use Rattle.xmpp_forwarding.proofs.EntryLaws.{entry_again}
-use Rattle.xmpp_forwarding.specs.Results.{archived_message, archived_result, entry_elem, entry_item}
+use Rattle.xmpp_forwarding.specs.Results.{archived_message, archived_result, entry_elem}
 use Rattle.xmpp_item_stanzas.proofs.TextsTold as told
 use Rattle.xmpp_item_worlds.specs.ItemWorlds.{ItemDevice}
 use Rattle.xmpp_log.specs.Views.{page_for, with_result}
@@ -38,7 +38,7 @@ use Rattle.xmpp_stanzas_logged.proofs.Found.{both_given, found_entry, results_gi
 use Rattle.xmpp_stanzas_logged.proofs.Lives.{same_again}
 use Rattle.xmpp_stanzas_logged.proofs.Names.{bare_normal, full_normal}
 use Rattle.xmpp_stanzas_logged.proofs.Stanzas.{archived, archived_read}
-use Rattle.xmpp_stanzas_logged.proofs.Turns.{counted_turn, quiet_read, read_online}
+use Rattle.xmpp_stanzas_logged.proofs.Turns.{IsDone, counted_turn, quiet_read, quietly, read_online}
 use Rattle.xmpp_stanzas_logged.specs.Logged.{IsOnline, IsReadAs}
 use Rattle.xmpp_stanzas_logged.specs.Plain.{IsPlain, IsPlainEntry}
 use Rattle.xmpp_trees.specs.Trees.{Elem}
@@ -131,8 +131,8 @@ module _ (o : Owned) (keep : ℕ) (history : List EntryView) (d : ItemDevice) (s
         (ap (λ (t : Turn ItemOut ItemOut). t.client) takes) (ap (λ (t : Turn ItemOut ItemOut). t.out.notes) takes) shows
         (record { logged = is.given.logged; page = both_given history page.results (n ∷ []) results (given, tt); held = is.given.held }) refl)
 
-  pub result_comes : (with_page (result q n) b).reading.faulty ≡ false → IsReadAs o keep history d s z (with_page (result q n) b) (turn_on z d)
+  pub result_comes : (with_page (result q n) b).reading.faulty ≡ false → IsDone o keep history d s z (with_page (result q n) b) (turn_on z d)
   result_comes =
-      page_well (λ x. IsReadAs o keep history d s z x (turn_on z d)) b (result q n)
-      (λ page there. taken_well (λ x. IsReadAs o keep history d s z x (turn_on z d)) b (page.number == q && nat_lt (length page.results) page.max) (quiet (behind page))
-      (λ good. (let parts = and_parts (page.number == q) (nat_lt (length page.results) page.max) good in taken page there parts.0 parts.1)))
+      page_well (λ x. IsDone o keep history d s z x (turn_on z d)) b (result q n)
+      (λ page there. taken_well (λ x. IsDone o keep history d s z x (turn_on z d)) b (page.number == q && nat_lt (length page.results) page.max) (quiet (behind page))
+      (λ good. (let parts = and_parts (page.number == q) (nat_lt (length page.results) page.max) good in quietly o keep history d s z (behind page) (turn_on z d) (taken page there parts.0 parts.1))))

@@ -1,5 +1,5 @@
 -- Stanzas are read as they were built, whatever they contain.
-use Rattle.std.proofs.Common.{◌≡◌, ℕ, List, [], ◌∷◌, Option, Some, None, Ok, refl, sym, ◌∙◌, ap, codes, unwrap_or, subst}
+use Rattle.std.proofs.Common.{◌≡◌, ℕ, List, [], ◌∷◌, Option, Some, None, Ok, refl, sym, ◌∙◌, ap, unwrap_or, subst}
 use Rattle.xmpp_stanza.proofs.KindLemmas.{message_reads, no_kind_is, spelled_is}
 use Rattle.xmpp_stanza.proofs.ReadingLaws.{iq_law, message_law}
 use Rattle.xmpp_stanza.proofs.WrittenAttrs.{from_written, id_written, lang_written, to_written, type_written}

@@ -1,5 +1,6 @@
 -- A client that is online counts a stanza, and then does what it does on it. What is shown of it behind that.
-use Rattle.std.proofs.Common.{◌≡◌, ℕ, ◌+◌, ◌<◌, ◌^◌, min, true, false, List, [], ◌∷◌, Option, Some, None, Ok, refl, sym, ap, subst, ◌∙◌, codes, arith, if◌then◌else◌}
+use Rattle.std.proofs.Common.{◌≡◌, ℕ, ◌+◌, true, false, List, [], ◌∷◌, Some, None, refl, sym, ap, subst, ◌∙◌, codes, arith, if◌then◌else◌}
+use Rattle.std.proofs.lemmas.Option.{none-some}
 use Rattle.xmpp_archive.specs.Entries.{EntryView}
 use Rattle.xmpp_client.specs.PageRows.{iq_row}
 use Rattle.xmpp_client.specs.Steps.{connected_step, element_row, handles, item_step, online_in, stanza_row}
@@ -8,8 +9,8 @@ use Rattle.xmpp_client_rows.specs.MessageRows.{message_row}
 use Rattle.xmpp_client_rows.specs.SessionRows.{is_stanza}
 use Rattle.xmpp_client_rows.specs.Speech.{Handled, Put, in_items}
 use Rattle.xmpp_client_rows.specs.Turns.{is_apart}
-use Rattle.xmpp_client_rows.specs.declared.phase.Phase.TheVariants.{Online}
-use Rattle.xmpp_device_views.specs.Reading.{noted, turn_on}
+use Rattle.xmpp_client_rows.specs.declared.phase.Phase.TheVariants.{Apart, Online}
+use Rattle.xmpp_device_views.specs.Reading.{noted}
 use Rattle.xmpp_framing.specs.declared.items.Item.TheVariants.{Element}
 use Rattle.xmpp_item_stanzas.specs.Meant.{IsRequest, requested}
 use Rattle.xmpp_item_worlds.specs.ItemWorlds.{ItemDevice, silent_turn}
@@ -17,18 +18,17 @@ use Rattle.xmpp_log.specs.Views.{LogView}
 use Rattle.xmpp_log_readings.specs.Shown.{IsReadingGiven, LogShows}
 use Rattle.xmpp_outbox.specs.Sessions.{SessionView, with_waiting}
 use Rattle.xmpp_outbox.specs.Submissions.{next_number}
-use Rattle.xmpp_outbox.specs.Waiting.{counted_in, queued}
+use Rattle.xmpp_outbox.specs.Waiting.{counted_in, is_full, queued}
 use Rattle.xmpp_schedule.specs.Contents.{Owned}
 use Rattle.xmpp_sessions.specs.Devices.{Reading}
-use Rattle.xmpp_sessions.specs.Events.{quiet}
+use Rattle.xmpp_sessions.specs.Events.{Reaction, quiet}
 use Rattle.xmpp_sessions.specs.Stanzas.{Request}
 use Rattle.xmpp_stanza.specs.Names.{streams_ns}
 use Rattle.xmpp_stanza.specs.Readings.{stanza_of}
 use Rattle.xmpp_stanza.specs.Views.{IqView, MessageView}
 use Rattle.xmpp_stanza.specs.Written.{IsNormal, iq_elem, message_elem}
-use Rattle.xmpp_stanza.specs.declared.stanzas.Stanza.TheVariants.{Iq, Message}
 use Rattle.xmpp_stanzas_logged.proofs.Stanzas.{iq_read, message_read}
-use Rattle.xmpp_stanzas_logged.specs.Logged.{IsOnline, IsReadAs}
+use Rattle.xmpp_stanzas_logged.specs.Logged.{HasPlaceFor, IsLeftAs, IsOnline, IsReadAs}
 use Rattle.xmpp_trees.specs.Readers.{is_named}
 use Rattle.xmpp_trees.specs.Trees.{Elem}
 use Rattle.xmpp_writer.specs.Items.{ItemOut, Whole}
@@ -70,7 +70,7 @@ module _ (o : Owned) (keep : ℕ) (history : List EntryView) (d : ItemDevice) (s
     request = tt;
   }
 
-  number_behind : next_number d.client.pages ≡ b.asked + 1
+  pub number_behind : next_number d.client.pages ≡ b.asked + 1
   number_behind = ap next_number is.pages ∙ (let more = is.more in omega (arith, more))
 
   -- a page was asked for
@@ -91,3 +91,30 @@ module _ (o : Owned) (keep : ℕ) (history : List EntryView) (d : ItemDevice) (s
     noted = ap noted notes ∙ ap (λ z. noted (Handled e ∷ Put z ∷ [])) same;
     request = (refl, request);
   }
+
+  -- the connection was left
+  pub left_read : (t : Turn ItemOut ItemOut) (log : LogView) (x : Reaction) → t.client ≡ record (counted_turn d.client s e).client { log = log; phase = Apart } → t.out.notes ≡ Handled e ∷ []
+      → LogShows keep history log (record x.reading { page = None }) → IsReadingGiven history (record x.reading { page = None }) → IsLeftAs keep history d s (Whole e) x t
+  left_read t log x client notes shows given = record {
+    log = subst (λ (c : ClientView ItemOut). LogShows keep history c.log (record x.reading { page = None })) (sym client) shows;
+    given = given;
+    account = ap (λ (c : ClientView ItemOut). c.account) client;
+    said = ap (λ (c : ClientView ItemOut). c.said) client;
+    epoch = ap (λ (c : ClientView ItemOut). c.epoch) client;
+    n = ap (λ (c : ClientView ItemOut). c.n) client;
+    pages = ap (λ (c : ClientView ItemOut). c.pages) client;
+    phase = ap (λ (c : ClientView ItemOut). c.phase) client;
+    session = ap (λ (c : ClientView ItemOut). c.session) client;
+    noted = ap noted notes;
+  }
+
+-- ---- both
+
+-- where there is place for a request, and where there is none
+pub record IsDone (o : Owned) (keep : ℕ) (history : List EntryView) (d : ItemDevice) (s : SessionView ItemOut) (z : ItemOut) (x : Reaction) (t : Turn ItemOut ItemOut) : Type 0 where
+  pub goes_on : HasPlaceFor s x.request → IsReadAs o keep history d s z x t
+  pub leaves : (r : Request) → x.request ≡ Some r → is_full s.waiting ≡ true → IsLeftAs keep history d s z x t
+
+pub quietly : (o : Owned) (keep : ℕ) (history : List EntryView) (d : ItemDevice) (s : SessionView ItemOut) (z : ItemOut) (next : Reading) (t : Turn ItemOut ItemOut)
+    → IsReadAs o keep history d s z (quiet next) t → IsDone o keep history d s z (quiet next) t
+quietly o keep history d s z next t read = record { goes_on = λ room. read; leaves = λ r asks full. absurd (none-some r asks) }

@@ -3,7 +3,7 @@ use Rattle.std.specs.Prelude.{◌≡◌, ℕ, ◌+◌, ◌<◌, ◌^◌, min, tr
 use Rattle.std.specs.Option.{IfSome, option_map_or}
 use Rattle.xmpp_archive.specs.Entries.{EntryView}
 use Rattle.xmpp_client_rows.specs.Clients.{Turn}
-use Rattle.xmpp_client_rows.specs.declared.phase.Phase.TheVariants.{Online}
+use Rattle.xmpp_client_rows.specs.declared.phase.Phase.TheVariants.{Apart, Online}
 use Rattle.xmpp_device_views.specs.Deeds.{Reads, says_all}
 use Rattle.xmpp_device_views.specs.Reading.{noted}
 use Rattle.xmpp_item_stanzas.specs.Meant.{Fits, requested}
@@ -22,20 +22,23 @@ use Rattle.xmpp_writer.specs.Items.{ItemOut}
 
 -- ---- before the stanza
 
--- The device has names of a schedule, and its client is online in a session that may put a stanza more. The client's log
--- shows the reading, and pages have numbers of 64 bits.
+-- The device has names of a schedule, and its client is online in a session. The client's log shows the reading, and
+-- pages have numbers of 64 bits.
 pub record IsOnline (o : Owned) (keep : ℕ) (history : List EntryView) (d : ItemDevice) (s : SessionView ItemOut) (b : Reading) : Type 0 where
   pub account_named : is_name o.account ≡ true
   pub device_named : is_name o.device ≡ true
   pub bare : d.client.account.bare ≡ bare_address o.account
   pub online : d.client.phase ≡ Online
   pub session : d.client.session ≡ Some s
-  pub place : is_full s.waiting ≡ false
   pub log : LogShows keep history d.client.log b
   pub given : IsReadingGiven history b
   pub pages : d.client.pages ≡ b.asked
   pub more : b.asked + 1 < 2 ^ 64
   pub most : IfSome b.page (λ page. Fits page.max)
+
+-- a session that has to put a request has place for it
+abbrev pub HasPlaceFor : SessionView ItemOut → Option Request → Type 0
+HasPlaceFor s request = IfSome request (λ r. is_full s.waiting ≡ false)
 
 -- the end of a page tells how many entries the archive kept when it answered, or keeps, where it isn't known when that was
 abbrev pub IsCountOf : ℕ → Around → OpenPage → ℕ → Type 0
@@ -72,3 +75,17 @@ pub record IsReadAs (o : Owned) (keep : ℕ) (history : List EntryView) (d : Ite
   -- it read the stanza, and then put the request
   pub noted : noted t.out.notes ≡ Reads z ∷ says_all (puts_of x.request)
   pub request : IfSome x.request (λ r. IsUpAs o (Query r) (requested r))
+
+-- What a client does that has to put a request, and as many stanzas wait in its session as may: it leaves the connection,
+-- and keeps the session. Its log shows the reading of the reaction, but that no page is open.
+pub record IsLeftAs (keep : ℕ) (history : List EntryView) (d : ItemDevice) (s : SessionView ItemOut) (z : ItemOut) (x : Reaction) (t : Turn ItemOut ItemOut) : Type 0 where
+  pub log : LogShows keep history t.client.log (record x.reading { page = None })
+  pub given : IsReadingGiven history (record x.reading { page = None })
+  pub account : t.client.account ≡ d.client.account
+  pub said : t.client.said ≡ d.client.said
+  pub epoch : t.client.epoch ≡ d.client.epoch
+  pub n : t.client.n ≡ d.client.n
+  pub pages : t.client.pages ≡ d.client.pages
+  pub phase : t.client.phase ≡ Apart
+  pub session : t.client.session ≡ Some (with_waiting s (counted_in s.waiting))
+  pub noted : noted t.out.notes ≡ Reads z ∷ []

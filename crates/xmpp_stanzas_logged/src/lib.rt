@@ -3,4 +3,4 @@
 
 mod laws;
 
-pub use laws::stanzas_are_logged;
+pub use laws::{full_clients_leave, histories_are_plain, stanzas_are_logged};

@@ -1,15 +1,20 @@
 -- What a log has of a history stays where the history grows.
-use Rattle.std.proofs.Common.{◌≡◌, ℕ, Bool, true, false, List, [], ◌∷◌, ◌++◌, Option, Some, None, map, refl, sym, ap, ◌∙◌, if◌then◌else◌}
+use Rattle.std.proofs.Common.{◌≡◌, ℕ, ◌+◌, filter, Bool, true, false, List, [], ◌∷◌, ◌++◌, Option, Some, None, map, refl, subst, sym, ap, ◌∙◌, if◌then◌else◌}
 use Rattle.std.specs.Option.{option_map}
 use Rattle.std.specs.Prelude.{find}
-use Rattle.xmpp_archive.specs.Entries.{EntryView}
+use Rattle.xmpp_archive.specs.Entries.{EntryView, numbered}
 use Rattle.xmpp_direct.specs.Direct.{as_logged}
 use Rattle.xmpp_log.specs.Views.{LogView}
 use Rattle.xmpp_log_readings.proofs.Entries.{at_first}
 use Rattle.xmpp_log_readings.specs.Shown.{AreGiven, ArePageGiven, IsGiven, IsReadingGiven, LogShows, page_shown}
 use Rattle.xmpp_sessions.proofs.Lists.{all_weaker}
 use Rattle.xmpp_sessions.specs.Devices.{OpenPage, Reading, log_of}
-use Rattle.xmpp_sessions_laws.specs.Reported.{entries_at}
+use Rattle.xmpp_sessions_laws.specs.Reported.{entries_at, history_at, take_of}
+use Rattle.xmpp_report.specs.Takes.{Take, concerns, entry_of, numbered_from}
+use Rattle.xmpp_schedule.specs.Contents.{Owned}
+use Rattle.xmpp_sessions.specs.Devices as sessions
+use Rattle.std.proofs.lemmas.List.{map-append}
+use Rattle.std.proofs.lemmas.List.Elements.{filter-append}
 
 -- what is found in front is found
 found_in_front : {A : Type 0} (p : A → Bool) (xs ys : List A) (a : A) → find p xs ≡ Some a → find p (xs ++ ys) ≡ Some a
@@ -45,3 +50,31 @@ module _ (history more : List EntryView) where
     page = shows.page ∙ sym (page_given b.page g.page).1;
     held = shows.held;
   }
+
+-- ---- a history of takes
+
+numbered_more : (n : ℕ) (xs ys : List EntryView) → (more : List EntryView) × (numbered_from n (xs ++ ys) ≡ numbered_from n xs ++ more)
+numbered_more n [] ys = (numbered_from n ys, refl)
+numbered_more n (x ∷ xs) ys =
+    let rest = numbered_more (n + 1) xs ys in
+    (rest.0, ap (λ entries. numbered n x ∷ entries) rest.1)
+
+pub history_more : (owned : List Owned) (takes new : List sessions.Take) (account : List ℕ) → (more : List EntryView) × (history_at owned (takes ++ new) account ≡ history_at owned takes account ++ more)
+history_more owned takes new account =
+    let mine = λ (ts : List Take). filter (concerns account) ts in
+    let all = numbered_more 1 (map entry_of (mine (map (take_of owned) takes))) (map entry_of (mine (map (take_of owned) new))) in (
+      all.0,
+      ap (numbered_from 1)
+          (ap (λ ts. map entry_of (mine ts)) (map-append (take_of owned) takes new)
+          ∙ ap (map entry_of) (filter-append (concerns account) (map (take_of owned) takes) (map (take_of owned) new))
+          ∙ map-append entry_of (mine (map (take_of owned) takes)) (mine (map (take_of owned) new)))
+          ∙ all.1,
+    )
+
+pub takes_grown : (keep : ℕ) (owned : List Owned) (takes new : List sessions.Take) (account : List ℕ) (log : LogView) (b : Reading)
+    → LogShows keep (history_at owned takes account) log b × IsReadingGiven (history_at owned takes account) b
+    → LogShows keep (history_at owned (takes ++ new) account) log b × IsReadingGiven (history_at owned (takes ++ new) account) b
+takes_grown keep owned takes new account log b read =
+    let history = history_at owned takes account in
+    let more = history_more owned takes new account in
+    subst (λ h. LogShows keep h log b × IsReadingGiven h b) (sym more.1) (log_grown history more.0 keep log b read.1 read.0, reading_given history more.0 b read.1)

@@ -29,6 +29,7 @@ ghost use Rattle.xmpp_sessions.specs.Devices.{Device, Reading, Sessions, Take, n
 ghost use Rattle.xmpp_sessions.specs.Events.{Act, Around, CatchUp, May, acknowledged, ask, goes_offline, hear_all, moved_down, own, put_all, put_up, queries, reads_bound};
 ghost use Rattle.xmpp_sessions.specs.Events as events;
 ghost use Rattle.xmpp_sessions.specs.Stanzas.{Carbons, Down, Message, Presence, Query, Request};
+ghost use Rattle.xmpp_sessions_laws.specs.Reported.{history_at};
 ghost use Rattle.xmpp_submissions_told.specs.Told.{IsAcked, IsBinding, IsCatchingUp, IsCounted, IsEntering, IsOfServer, IsSaying, SameLog, SameSaid, SameUps, next_request, next_submission, queued_where};
 ghost use Rattle.xmpp_writer.specs.Items.{ItemOut};
 
@@ -106,7 +107,7 @@ pub fn sessions_told()
 
 /// A law: what the server does, at a device or for others, tells a client nothing: it shows the same submissions, and its
 /// log the same reading (`acts`, `served`, `hears`, `heard`). A history that grows leaves the log what it is, and what it
-/// has of the history (`grown`, `given`).
+/// has of the history (`grown`, `given`), and so it does where the server takes more (`taken`).
 pub fn servers_tell_nothing()
     ensures same { (c : ClientView ItemOut) (d e : Sessions) → SameUps d e → SubmissionsShow c d → SubmissionsShow c e }
     ensures acts { (c : ClientView ItemOut) (a : Around) (act : Act) (x : Device) → IsOfServer act → SubmissionsShow c x.sessions → SubmissionsShow c (own a act x).sessions }
@@ -116,4 +117,7 @@ pub fn servers_tell_nothing()
     ensures heard { (takes new : List Take) (full : List ℕ) (j : ℕ) (x : Device) → (hear_all takes full new j x).reading ≡ x.reading }
     ensures grown { (keep : ℕ) (history more : List EntryView) (log : LogView) (b : Reading) → IsReadingGiven history b → LogShows keep history log b → LogShows keep (history ++ more) log b }
     ensures given { (history more : List EntryView) (b : Reading) → IsReadingGiven history b → IsReadingGiven (history ++ more) b }
+    ensures taken { (keep : ℕ) (owned : List Owned) (takes new : List Take) (account : List ℕ) (log : LogView) (b : Reading)
+        → LogShows keep (history_at owned takes account) log b × IsReadingGiven (history_at owned takes account) b
+        → LogShows keep (history_at owned (takes ++ new) account) log b × IsReadingGiven (history_at owned (takes ++ new) account) b }
 {}

@@ -1,9 +1,7 @@
 -- A world of items beside the world of the two applications over sessions: of each device the links, whose stanzas are those
 -- of its sessions, and what its client has; and what the server has.
-use Rattle.std.specs.Prelude.{◌≡◌, ℕ, ◌+◌, ◌*◌, ◌≤◌, ◌<◌, ◌^◌, All, List, Some, length, map, slice_get}
-use Rattle.std.specs.List.{AllByRecursion}
+use Rattle.std.specs.Prelude.{◌≡◌, ◌≢◌, ◌⊎◌, ℕ, ◌+◌, ◌*◌, ◌≤◌, ◌<◌, ◌^◌, ◌==◌, All, Bool, List, [], ◌∷◌, Option, None, Some, Result, Ok, Err, if◌then◌else◌, length, map, slice_get}
 use Rattle.xmpp_archive.specs.Entries.{EntryView}
-use Rattle.xmpp_cores_keep.specs.Mild.{ClientFits, DownFits, HallFits, UpFits}
 use Rattle.xmpp_device_logins.specs.Devices.{identity_at}
 use Rattle.xmpp_device_views.specs.Deeds.{awaits}
 use Rattle.xmpp_device_views.specs.Identities.{Login}
@@ -12,7 +10,11 @@ use Rattle.xmpp_images.specs.Stands.{HallStands}
 use Rattle.xmpp_item_fits.specs.Fitting.{FitsHere}
 use Rattle.xmpp_item_stanzas.specs.Items.{stanzas_read}
 use Rattle.xmpp_item_worlds.specs.ItemPipes.{ItemWire}
-use Rattle.xmpp_item_worlds.specs.ItemWorlds.{ItemWorld}
+use Rattle.xmpp_item_stanzas.specs.Told.{name_told}
+use Rattle.xmpp_item_worlds.specs.ItemMoves.{CatchUp, Dial, Down, ItemMove, Say, moved}
+use Rattle.xmpp_item_worlds.specs.ItemWorlds.{ItemDevice, ItemWorld}
+use Rattle.xmpp_client.specs.UserCalls.{say_answer}
+use Rattle.xmpp_session_counts.specs.Counts.{IsUnanswered}
 use Rattle.xmpp_links.specs.Covers.{PromptReached}
 use Rattle.xmpp_links.specs.Events.{SeenSession, seen}
 use Rattle.xmpp_links.specs.Paging.{PagingReached}
@@ -28,7 +30,7 @@ use Rattle.xmpp_session_views.specs.Served.{FlagsShow, ServerRuns, take_told}
 use Rattle.xmpp_session_views.specs.Submitted.{SubmissionsShow}
 use Rattle.xmpp_sessions.specs.Devices.{Device, Take, World}
 use Rattle.xmpp_sessions.specs.Events.{Event, Reaches}
-use Rattle.xmpp_sessions.specs.Histories.{spoken_in}
+use Rattle.xmpp_sessions.specs.Histories.{Spoken, spoken_in}
 use Rattle.xmpp_sessions_laws.specs.Reported.{history_at}
 use Rattle.xmpp_sessions_laws.specs.Runs.{begins, owned_of, steps_in}
 use Rattle.xmpp_writer.specs.Items.{ItemOut}
@@ -91,14 +93,15 @@ pub record DeviceRuns (schedule : WireView) (w : ItemWorld) (x : World) (i : ℕ
 
 -- ---- worlds
 
--- The events led here from the beginning, and in them users said so many messages at most.
-pub record IsLed (schedule : WireView) (b : Bounds) (x : World) : Type 0 where
+-- Events led here from the beginning, and in them users said so many messages.
+pub record IsLed (schedule : WireView) (says : ℕ) (x : World) : Type 0 where
   pub events : List Event
   pub reaches : Reaches events (begins schedule) x
-  pub spoken : length (spoken_in events) ≤ b.says
+  pub spoken : length (spoken_in events) ≡ says
 
-pub record WorldRuns (schedule : WireView) (b : Bounds) (w : ItemWorld) (x : World) : Type 0 where
-  pub led : IsLed schedule b x
+pub record WorldRuns (schedule : WireView) (b : Bounds) (says : ℕ) (w : ItemWorld) (x : World) : Type 0 where
+  pub led : IsLed schedule says x
+  pub said : says ≤ b.says
   pub asked : (i : ℕ) (d : Device) → slice_get x.devices i ≡ Some d → d.reading.asked ≤ b.pages + 1
   pub dialled : length w.wires ≤ b.dials
   -- devices, and no others
@@ -113,3 +116,45 @@ pub record WorldRuns (schedule : WireView) (b : Bounds) (w : ItemWorld) (x : Wor
   pub fits : FitsHere w
   pub stands : HallStands (length w.wires) w.server
   pub within : IsWithin (length w.wires) w.server
+
+-- ---- a move
+
+-- what users say by it: a message that the client takes
+abbrev pub spoken_where : {T E : Type 0} → Result T E → Spoken → List Spoken
+spoken_where (Ok done) s = s ∷ []
+spoken_where (Err fault) s = []
+
+abbrev pub said_at : ℕ → List ℕ → List ℕ → Bool → Option ItemDevice → List Spoken
+said_at place to text private None = []
+said_at place to text private (Some d) = spoken_where (say_answer d.client text) (record { device = place; to = name_told to; text = text; private = private })
+
+abbrev pub spoken_by_move : ItemMove → ItemWorld → List Spoken
+spoken_by_move (Say place to text private) w = said_at place to text private (slice_get w.devices place)
+spoken_by_move m w = []
+
+-- The device at a place asks for a page at most where its user does, and where it is handed an item: then for one at most,
+-- and for none while no answer is under way to it.
+abbrev pub IsAskedOnce : Device → Device → Type 0
+IsAskedOnce d e = (IsUnanswered d → (e.reading.asked ≡ d.reading.asked) × IsUnanswered e) × ((e.reading.asked ≡ d.reading.asked) ⊎ ((e.reading.asked ≡ d.reading.asked + 1) × IsUnanswered e))
+
+abbrev pub IsAskedBy : ItemMove → ItemWorld → ℕ → Device → Device → Type 0
+IsAskedBy (CatchUp place most) w i d e = e.reading.asked ≤ d.reading.asked + (if i == place then 1 else 0)
+IsAskedBy (Down place) w i d e = IsAskedOnce d e × ((wire : ItemWire) → slice_get w.wires place ≡ Some wire → wire.device ≢ i → (e.reading.asked ≡ d.reading.asked) × (IsUnanswered d → IsUnanswered e))
+IsAskedBy m w i d e = e.reading.asked ≡ d.reading.asked
+
+-- What is asked of a move beside that it may be: no more is said, asked for and dialled than is bounded.
+abbrev pub IsInBounds : Bounds → ℕ → ItemMove → ItemWorld → World → Type 0
+IsInBounds b says (Say place to text private) w x = says + 1 ≤ b.says
+IsInBounds b says (CatchUp place most) w x = (d : Device) → slice_get x.devices place ≡ Some d → d.reading.asked ≤ b.pages
+IsInBounds b says (Down place) w x = (wire : ItemWire) (d : Device) → slice_get w.wires place ≡ Some wire → slice_get x.devices wire.device ≡ Some d → (d.reading.asked ≤ b.pages) ⊎ IsUnanswered d
+IsInBounds b says (Dial place mine yours) w x = length w.wires + 1 ≤ b.dials
+IsInBounds b says m w x = Unit {0}
+
+-- Behind the move the worlds are beside one another still, by these events.
+pub record MoveRuns (schedule : WireView) (b : Bounds) (says : ℕ) (m : ItemMove) (w : ItemWorld) (x : World) : Type 0 where
+  pub events : List Event
+  pub next : World
+  pub reaches : Reaches events x next
+  pub spoken : spoken_in events ≡ spoken_by_move m w
+  pub asked : (i : ℕ) (d e : Device) → slice_get x.devices i ≡ Some d → slice_get next.devices i ≡ Some e → IsAskedBy m w i d e
+  pub runs : WorldRuns schedule b (says + length (spoken_by_move m w)) (moved m w) next

@@ -1,4 +1,4 @@
-use Rattle.xmpp_submissions_told.proofs.Grown.{log_grown, reading_given}
+use Rattle.xmpp_submissions_told.proofs.Grown.{log_grown, reading_given, takes_grown}
 use Rattle.xmpp_submissions_told.proofs.Served.{acts_read, acts_told, hears_nothing, hears_told, same_told}
 use Rattle.xmpp_submissions_told.proofs.laws.servers_tell_nothing.Goals as goal
 
@@ -11,4 +11,5 @@ returns c = record {
   heard = hears_nothing;
   grown = λ keep history more log b g shows. log_grown history more keep log b g shows;
   given = reading_given;
+  taken = takes_grown;
 }

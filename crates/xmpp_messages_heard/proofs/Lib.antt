@@ -1,0 +1,11 @@
+pub mod Places
+pub mod TakenEntries
+pub mod Marked
+pub mod Booked
+pub mod Staying
+pub mod Archived
+pub mod Addresses
+pub mod Heard
+pub mod Rows
+pub mod Outcomes
+pub mod Flags
