@@ -1,18 +1,21 @@
 -- Connections that are open behind a change were open before it.
-use Rattle.std.proofs.Common.{◌≡◌, ℕ, zero, suc, ◌+◌, ◌<◌, ◌≤◌, true, false, List, [], ◌∷◌, ◌++◌, Option, Some, None, length, refl, sym, ap, subst, arith}
+use Rattle.std.proofs.Common.{◌≡◌, ℕ, zero, suc, ◌+◌, ◌<◌, ◌≤◌, Bool, true, false, cond, List, [], ◌∷◌, ◌++◌, Option, Some, None, length, refl, sym, ap, subst, ◌∙◌, arith}
+use Rattle.std.proofs.lemmas.Bool.{false≢true}
 use Rattle.std.proofs.lemmas.List.{length-set}
 use Rattle.std.proofs.lemmas.Option.{none-some, same_Some}
 use Rattle.std.specs.Prelude.{slice_get, slice_set}
+use Rattle.std.specs.List.{AllByRecursion}
 use Rattle.xmpp_desk.specs.State.{Out, Put, Shut, Took}
 use Rattle.xmpp_report.specs.declared.report.ConnEnd.{ConnEnd}
 use Rattle.xmpp_report.specs.declared.report.ConnEnd.TheVariants as end
 use Rattle.xmpp_schedule.specs.declared.schedule.Version.{Version}
 use Rattle.xmpp_wires.specs.Places.{changed_at, changed_where, place_under}
-use Rattle.xmpp_wires.specs.Wires.{cut_at, first_end, left, put_down, shut}
+use Rattle.xmpp_wires.specs.Wires.{cut_at, first_end, left, put_down, put_up, shut}
 use Rattle.xmpp_wires.specs.declared.wire.Wire.{Wire}
 use Rattle.xmpp_world.specs.Effects.{Effects, all_emitted, emitted}
 use Rattle.xmpp_world.specs.WorldReports.{is_open}
-use Rattle.xmpp_worlds_kept.specs.Kept.{is_open_at}
+use Rattle.xmpp_pipes.specs.Pipes.{Pipe, entered, risen}
+use Rattle.xmpp_worlds_kept.specs.Kept.{IsFlowing, is_open_at}
 
 -- ---- one connection
 
@@ -129,3 +132,73 @@ pub emitted_on : (version : Version) (moment : ℕ) (outs : List (Out (List ℕ)
 emitted_on version moment [] e = same_on e.wires
 emitted_on version moment (out ∷ outs) e =
     then_on e.wires (emitted version moment out e).wires (all_emitted version moment outs (emitted version moment out e)).wires (one_on version moment out e) (emitted_on version moment outs (emitted version moment out e))
+
+-- ---- no pipe of an open connection has ended
+
+-- the change keeps that
+abbrev pub StaysFlowing : (Wire → Wire) → Type 0
+StaysFlowing f = (b : Wire) → IsFlowing b → IsFlowing (f b)
+
+not_open : (e : ConnEnd) (P : Type 0) → is_open e ≡ false → is_open e ≡ true → P
+not_open e P closes opens = absurd (false≢true (sym closes ∙ opens))
+
+cut_end : (e : ConnEnd) → is_open (first_end e end.Cut) ≡ false
+cut_end end.Open = refl
+cut_end end.Cut = refl
+cut_end end.Left = refl
+cut_end end.Shut = refl
+
+shut_end : (e : ConnEnd) → is_open (first_end e end.Shut) ≡ false
+shut_end end.Open = refl
+shut_end end.Cut = refl
+shut_end end.Left = refl
+shut_end end.Shut = refl
+
+pub left_flows : StaysFlowing left
+left_flows b is = not_open (left b).end _ (left_end b.end)
+
+pub shut_flows : StaysFlowing shut
+shut_flows b is = not_open (shut b).end _ (shut_end b.end)
+
+pub cut_flows : (up down : ℕ) → StaysFlowing (cut_at up down)
+cut_flows up down b is = not_open (cut_at up down b).end _ (cut_end b.end)
+
+ended_entered : (more : List ℕ) (p : Pipe) → (entered more p).ended ≡ p.ended
+ended_entered more p = by p.ended refl
+  where
+    by : (c : Bool) → p.ended ≡ c → (cond c p (record p { bytes = p.bytes ++ more; put = risen p.put (length more) })).ended ≡ p.ended
+    by true is = refl
+    by false is = refl
+
+pub put_up_flows : (more : List ℕ) → StaysFlowing (put_up more)
+put_up_flows more b is opens = (ended_entered more b.up ∙ (is opens).0, (is opens).1)
+
+pub put_down_flows : (more : List ℕ) → StaysFlowing (put_down more)
+put_down_flows more b is opens = ((is opens).0, ended_entered more b.down ∙ (is opens).1)
+
+pub changed_flows : (f : Wire → Wire) → StaysFlowing f → (wires : List Wire) (q : ℕ) → AllByRecursion IsFlowing wires → AllByRecursion IsFlowing (changed_at q f wires)
+changed_flows f stays [] q all = tt
+changed_flows f stays (b ∷ wires) zero all = (stays b all.0, all.1)
+changed_flows f stays (b ∷ wires) (suc q) all = (all.0, changed_flows f stays wires q all.1)
+
+pub where_flows : (f : Wire → Wire) → StaysFlowing f → (wires : List Wire) (o : Option ℕ) → AllByRecursion IsFlowing wires → AllByRecursion IsFlowing (changed_where o f wires)
+where_flows f stays wires None all = all
+where_flows f stays wires (Some q) all = changed_flows f stays wires q all
+
+pub set_flows : (wires : List Wire) (q : ℕ) (old new : Wire) → slice_get wires q ≡ Some old → (IsFlowing old → IsFlowing new) → AllByRecursion IsFlowing wires → AllByRecursion IsFlowing (slice_set wires q new)
+set_flows [] q old new found stays all = absurd (none-some old found)
+set_flows (b ∷ wires) zero old new found stays all = (stays (subst IsFlowing (same_Some b old found) all.0), all.1)
+set_flows (b ∷ wires) (suc q) old new found stays all = (all.0, set_flows wires q old new found stays all.1)
+
+pub more_flows : (wires : List Wire) (x : Wire) → AllByRecursion IsFlowing wires → IsFlowing x → AllByRecursion IsFlowing (wires ++ x ∷ [])
+more_flows [] x all is = (is, tt)
+more_flows (b ∷ wires) x all is = (all.0, more_flows wires x all.1 is)
+
+one_flows : (version : Version) (moment : ℕ) (out : Out (List ℕ)) (e : Effects) → AllByRecursion IsFlowing e.wires → AllByRecursion IsFlowing (emitted version moment out e).wires
+one_flows version moment (Put k bytes) e all = where_flows (put_down bytes) (put_down_flows bytes) e.wires (place_under k) all
+one_flows version moment (Shut k) e all = where_flows shut shut_flows e.wires (place_under k) all
+one_flows version moment (Took from to origin) e all = all
+
+pub emitted_flows : (version : Version) (moment : ℕ) (outs : List (Out (List ℕ))) (e : Effects) → AllByRecursion IsFlowing e.wires → AllByRecursion IsFlowing (all_emitted version moment outs e).wires
+emitted_flows version moment [] e all = all
+emitted_flows version moment (out ∷ outs) e all = emitted_flows version moment outs (emitted version moment out e) (one_flows version moment out e all)

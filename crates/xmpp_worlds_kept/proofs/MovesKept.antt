@@ -3,6 +3,7 @@ use Rattle.std.proofs.Common.{◌≡◌, ◌⊎◌, ℕ, zero, suc, ◌==◌, �
 use Rattle.std.proofs.lemmas.Bool.{eqb-true, false≢true}
 use Rattle.std.proofs.lemmas.Option.{none-some, same_Some}
 use Rattle.std.specs.Prelude.{slice_get, slice_set, take}
+use Rattle.std.specs.List.{AllByRecursion}
 use Rattle.xmpp_client.specs.Feeds.{bytes_step}
 use Rattle.xmpp_client.specs.declared.faults.CatchUpStart.{CatchUpStart}
 use Rattle.xmpp_client.specs.declared.faults.CatchUpStart.TheVariants as start
@@ -28,8 +29,8 @@ use Rattle.xmpp_world.specs.Moves.{Link, Move, caught_up_by, closed_by, dialed_b
 use Rattle.xmpp_world.specs.WorldReports.{is_open}
 use Rattle.xmpp_world.specs.Worlds.{World, client_entropy, number_at}
 use Rattle.xmpp_world_takes.proofs.OwnersKept.{owners_kept}
-use Rattle.xmpp_worlds_kept.proofs.Ends.{Onward, changed_on, closed_there, emitted_on, left_closes, left_opens, cut_opens, length_more, more_on, set_closed, set_on, then_on, where_on}
-use Rattle.xmpp_worlds_kept.specs.Kept.{IsKept, IsNewest, is_open_at, owned_by}
+use Rattle.xmpp_worlds_kept.proofs.Ends.{Onward, changed_on, closed_there, emitted_on, left_closes, left_opens, cut_opens, length_more, more_on, set_closed, set_on, then_on, where_on, changed_flows, cut_flows, emitted_flows, left_flows, more_flows, put_up_flows, set_flows, where_flows}
+use Rattle.xmpp_worlds_kept.specs.Kept.{IsFlowing, IsKept, IsNewest, is_open_at, owned_by}
 
 -- ---- one device
 
@@ -77,23 +78,25 @@ one_set devices wires later place new on is all i d at =
 record IsKeptBy (w v : World) : Type 0 where
   version : v.version ≡ w.version
   accounts : v.accounts ≡ w.accounts
+  flowing : AllByRecursion IsFlowing w.wires → AllByRecursion IsFlowing v.wires
   newest : AllNewest w.devices w.wires → AllNewest v.devices v.wires
 
 nothing : (w : World) → IsKeptBy w w
-nothing w = record { version = refl; accounts = refl; newest = λ all. all }
+nothing w = record { version = refl; accounts = refl; flowing = λ all. all; newest = λ all. all }
 
 then_kept : (u w v : World) → IsKeptBy u w → IsKeptBy w v → IsKeptBy u v
-then_kept u w v first second = record { version = second.version ∙ first.version; accounts = second.accounts ∙ first.accounts; newest = λ all. second.newest (first.newest all) }
+then_kept u w v first second = record { version = second.version ∙ first.version; accounts = second.accounts ∙ first.accounts; flowing = λ all. second.flowing (first.flowing all); newest = λ all. second.newest (first.newest all) }
 
 either : (b : Bool) (w v x : World) → IsKeptBy w v → IsKeptBy w x → IsKeptBy w (cond b v x)
 either true w v x here there = here
 either false w v x here there = there
 
 -- connections alone change
-wires_kept : (w : World) (v : World) → v.version ≡ w.version → v.accounts ≡ w.accounts → v.devices ≡ w.devices → Onward w.wires v.wires → IsKeptBy w v
-wires_kept w v version accounts devices on = record {
+wires_kept : (w : World) (v : World) → v.version ≡ w.version → v.accounts ≡ w.accounts → v.devices ≡ w.devices → Onward w.wires v.wires → (AllByRecursion IsFlowing w.wires → AllByRecursion IsFlowing v.wires) → IsKeptBy w v
+wires_kept w v version accounts devices on flowing = record {
   version = version;
   accounts = accounts;
+  flowing = flowing;
   newest = λ all. subst (λ ds. AllNewest ds v.wires) (sym devices) (all_on w.devices w.wires v.wires on all);
 }
 
@@ -112,6 +115,7 @@ dialed place (Some d) w =
     record {
       version = refl;
       accounts = refl;
+      flowing = λ all. more_flows before one (where_flows wires.left left_flows w.wires d.here all) (put_up_flows s.put (fresh_wire place) (λ opened. (refl, refl)));
       newest = λ all. one_set w.devices w.wires (before ++ one ∷ []) place s.device on
           (record {
             there = λ p at. (let same = same_Some (length w.wires) p at in omega (arith, same, size, many));
@@ -125,6 +129,7 @@ forgot place None w found = nothing w
 forgot place (Some d) w found = record {
   version = refl;
   accounts = refl;
+  flowing = where_flows wires.left left_flows w.wires d.here;
   newest = λ all.
       let later = changed_where d.here wires.left w.wires in
       let on = where_on wires.left left_opens w.wires d.here in
@@ -138,6 +143,7 @@ closed place None w found = nothing w
 closed place (Some d) w found = record {
   version = refl;
   accounts = refl;
+  flowing = λ all. where_flows wires.left left_flows (changed_where d.here (put_up (closes_here d).put) w.wires) d.here (where_flows (put_up (closes_here d).put) (put_up_flows (closes_here d).put) w.wires d.here all);
   newest = λ all.
       let put = changed_where d.here (put_up (closes_here d).put) w.wires in
       let later = changed_where d.here wires.left put in
@@ -170,6 +176,7 @@ spoke_kept : (place : ℕ) (put : List ℕ) (d new : DeviceState) (w : World) �
 spoke_kept place put d new w found same = record {
   version = refl;
   accounts = refl;
+  flowing = where_flows (put_up put) (put_up_flows put) w.wires d.here;
   newest = λ all.
       let later = changed_where d.here (put_up put) w.wires in
       let on = where_on (put_up put) (λ b is. is) w.wires d.here in
@@ -197,6 +204,7 @@ served_kept place n wire w found =
     let first = slice_set w.wires place (handed_up n wire) in
     wires_kept w (served place n wire w) refl refl refl
     (then_on w.wires first _ (set_on w.wires place wire (handed_up n wire) found (λ is. is)) (emitted_on w.version w.moment done.outs (effects_of first w.takes)))
+    (λ all. emitted_flows w.version w.moment done.outs (effects_of first w.takes) (set_flows w.wires place wire (handed_up n wire) found (λ is. is) all))
 
 was_served : (place : ℕ) (count : Count) (o : Option Wire) (w : World) → slice_get w.wires place ≡ o → IsKeptBy w (served_by place count o w)
 was_served place count None w found = nothing w
@@ -207,7 +215,7 @@ end_told : (place : ℕ) (o : Option Wire) (w : World) → slice_get w.wires pla
 end_told place None w found = nothing w
 end_told place (Some wire) w found =
     let v = record w { server = after_gone (number_at place) w.moment w.server; wires = slice_set w.wires place (up_end_told wire) } in
-    either (is_end_due wire.up) w v w (wires_kept w v refl refl refl (set_on w.wires place wire (up_end_told wire) found (λ is. is))) (nothing w)
+    either (is_end_due wire.up) w v w (wires_kept w v refl refl refl (set_on w.wires place wire (up_end_told wire) found (λ is. is)) (set_flows w.wires place wire (up_end_told wire) found (λ is. is))) (nothing w)
 
 -- ---- to the device
 
@@ -215,22 +223,23 @@ end_told place (Some wire) w found =
 record IsLinkKept (place : ℕ) (l m : Link) : Type 0 where
   newest : m.device.newest ≡ l.device.newest
   never : is_open m.wire.end ≡ true → is_open l.wire.end ≡ true
+  flowing : IsFlowing l.wire → IsFlowing m.wire
   here : (m.device.here ≡ l.device.here) ⊎ (is_open m.wire.end ≡ false)
 
 still : (place : ℕ) (l : Link) → IsLinkKept place l l
-still place l = record { newest = refl; never = λ is. is; here = inl refl }
+still place l = record { newest = refl; never = λ is. is; flowing = λ is. is; here = inl refl }
 
 links_either : (b : Bool) (place : ℕ) (l m x : Link) → IsLinkKept place l m → IsLinkKept place l x → IsLinkKept place l (cond b m x)
 links_either true place l m x here there = here
 links_either false place l m x here there = there
 
 -- the client heard something
-module _ (place : ℕ) (l : Link) (e : DeviceState) (b : Wire) (newest : e.newest ≡ l.device.newest) (here : e.here ≡ l.device.here) (never : is_open b.end ≡ true → is_open l.wire.end ≡ true) where
+module _ (place : ℕ) (l : Link) (e : DeviceState) (b : Wire) (newest : e.newest ≡ l.device.newest) (here : e.here ≡ l.device.here) (never : is_open b.end ≡ true → is_open l.wire.end ≡ true) (flowing : IsFlowing l.wire → IsFlowing b) where
   hearing_by : (c : Bool) → is_left e.client ≡ c → IsLinkKept place l (link_of (left_where (is_left (cond c (record e { here = None }) e).client) b) (cond c (record e { here = None }) e))
   hearing_by true is =
       let closes : is_open (left_where (is_left e.client) b).end ≡ false = subst (λ c. is_open (left_where c b).end ≡ false) (sym is) (left_closes b) in
-      record { newest = newest; never = λ opened. absurd (no_way (is_open (left_where (is_left e.client) b).end) closes opened); here = inr closes }
-  hearing_by false is = record { newest = newest; never = subst (λ c. is_open (left_where c b).end ≡ true → is_open l.wire.end ≡ true) (sym is) never; here = inl here }
+      record { newest = newest; never = λ opened. absurd (no_way (is_open (left_where (is_left e.client) b).end) closes opened); flowing = λ is opened. absurd (no_way (is_open (left_where (is_left e.client) b).end) closes opened); here = inr closes }
+  hearing_by false is = record { newest = newest; never = subst (λ c. is_open (left_where c b).end ≡ true → is_open l.wire.end ≡ true) (sym is) never; flowing = subst (λ c. IsFlowing l.wire → IsFlowing (left_where c b)) (sym is) flowing; here = inl here }
 
   hearing : IsLinkKept place l (link_of (left_where (is_left (unless_left e).client) b) (unless_left e))
   hearing = hearing_by (is_left e.client) refl
@@ -238,7 +247,7 @@ module _ (place : ℕ) (l : Link) (e : DeviceState) (b : Wire) (newest : e.newes
 heard_kept : (place n : ℕ) (l : Link) → IsLinkKept place l (heard n (hears (take n l.wire.down.bytes) l.device) l)
 heard_kept place n l =
     let s = after_step (bytes_step in_bytes (silent l.device.client) (take n l.wire.down.bytes)) l.device in
-    hearing place l s.device (put_up s.put (handed_down n l.wire)) refl refl (λ is. is)
+    hearing place l s.device (put_up s.put (handed_down n l.wire)) refl refl (λ is. is) (λ is. put_up_flows s.put (handed_down n l.wire) is)
 
 first_kept : (place n : ℕ) (l : Link) → IsLinkKept place l (heard_first n l)
 first_kept place n l = links_either (n == 0) place l l (heard n (hears (take n l.wire.down.bytes) l.device) l) (still place l) (heard_kept place n l)
@@ -247,7 +256,7 @@ first_kept place n l = links_either (n == 0) place l l (heard n (hears (take n l
 end_kept : (place : ℕ) (l m : Link) → IsLinkKept place l m → IsLinkKept place l (end_heard place m)
 end_kept place l m kept =
     links_either (has_wire place m.device.here && is_end_due m.wire.down) place l (link_of (down_end_told m.wire) (loses m.device)) m
-    (record { newest = kept.newest; never = kept.never; here = kept.here }) kept
+    (record { newest = kept.newest; never = kept.never; flowing = kept.flowing; here = kept.here }) kept
 
 -- where this is the device's connection
 has_here : (place : ℕ) (o : Option ℕ) → has_wire place o ≡ true → o ≡ Some place
@@ -259,6 +268,7 @@ link_kept : (place device : ℕ) (l m : Link) (w : World) → slice_get w.wires 
 link_kept place device l m w wired found here kept = record {
   version = refl;
   accounts = refl;
+  flowing = set_flows w.wires place l.wire m.wire wired kept.flowing;
   newest = λ all.
       let later = slice_set w.wires place m.wire in
       let on = set_on w.wires place l.wire m.wire wired kept.never in
@@ -277,6 +287,7 @@ put_again : (place device : ℕ) (l : Link) (w : World) → slice_get w.wires pl
 put_again place device l w wired found = record {
   version = refl;
   accounts = refl;
+  flowing = set_flows w.wires place l.wire l.wire wired (λ is. is);
   newest = λ all.
       let later = slice_set w.wires place l.wire in
       let on = set_on w.wires place l.wire l.wire wired (λ is. is) in
@@ -307,19 +318,19 @@ move_kept (moves.Forget place) w = forgot place (slice_get w.devices place) w re
 move_kept (moves.Close place) w = closed place (slice_get w.devices place) w refl
 move_kept (moves.Say place line to text private) w = said place line to text private (slice_get w.devices place) w refl
 move_kept (moves.CatchUp place line most) w = caught_up place line most (slice_get w.devices place) w refl
-move_kept (moves.Tick milliseconds) w = record { version = refl; accounts = refl; newest = λ all. all }
+move_kept (moves.Tick milliseconds) w = record { version = refl; accounts = refl; flowing = λ all. all; newest = λ all. all }
 move_kept (moves.Up place count) w =
     let v = served_by place count (slice_get w.wires place) w in
     then_kept w v (told_up place (slice_get v.wires place) v) (was_served place count (slice_get w.wires place) w refl) (end_told place (slice_get v.wires place) v refl)
 move_kept (moves.Down place count) w = heard_on place count (slice_get w.wires place) w refl
-move_kept (moves.Cut place up down) w = wires_kept w (moved (moves.Cut place up down) w) refl refl refl (changed_on (cut_at up down) (cut_opens up down) w.wires place)
+move_kept (moves.Cut place up down) w = wires_kept w (moved (moves.Cut place up down) w) refl refl refl (changed_on (cut_at up down) (cut_opens up down) w.wires place) (changed_flows (cut_at up down) (cut_flows up down) w.wires place)
 
 -- ---- what a world keeps
 
 pub kept_behind : (schedule : WireView) (m : Move) (w : World) → IsKept schedule w → IsKept schedule (moved m w)
 kept_behind schedule m w is =
     let step = move_kept m w in
-    record { version = step.version ∙ is.version; accounts = step.accounts ∙ is.accounts; owners = owners_kept m w ∙ is.owners; newest = step.newest is.newest }
+    record { version = step.version ∙ is.version; accounts = step.accounts ∙ is.accounts; owners = owners_kept m w ∙ is.owners; flowing = step.flowing is.flowing; newest = step.newest is.newest }
 
 first_owners : (os : List Owned) → map owned_by (map owned_at_start os) ≡ os
 first_owners [] = refl
@@ -335,6 +346,7 @@ kept_first schedule = record {
   version = refl;
   accounts = refl;
   owners = first_owners (owned_in (common_steps schedule));
+  flowing = tt;
   newest = λ i d at.
       let none = first_newest (owned_in (common_steps schedule)) i d at in
       record { there = λ p is. absurd (none-some p (sym none ∙ is)); here = λ p is opened. absurd (none-some p (sym none ∙ is)) };

@@ -1,5 +1,6 @@
 -- What a world of bytes keeps beside the states of its server and clients.
 use Rattle.std.specs.Prelude.{◌≡◌, ℕ, ◌<◌, Bool, true, false, List, Some, length, map, slice_get}
+use Rattle.std.specs.List.{AllByRecursion}
 use Rattle.std.specs.Option.{option_map_or}
 use Rattle.xmpp_devices.specs.Devices.{DeviceState}
 use Rattle.xmpp_schedule.specs.Contents.{Owned, accounts_of, owned_in}
@@ -20,6 +21,12 @@ pub record IsNewest (wires : List Wire) (d : DeviceState) : Type 0 where
   pub there : (place : ℕ) → d.newest ≡ Some place → place < length wires
   pub here : (place : ℕ) → d.newest ≡ Some place → is_open_at place wires ≡ true → d.here ≡ Some place
 
+-- ---- a connection
+
+-- while it is open no pipe of it has ended
+abbrev pub IsFlowing : Wire → Type 0
+IsFlowing b = is_open b.end ≡ true → (b.up.ended ≡ false) × (b.down.ended ≡ false)
+
 -- ---- a world
 
 abbrev pub owned_by : DeviceState → Owned
@@ -29,4 +36,5 @@ pub record IsKept (schedule : WireView) (w : World) : Type 0 where
   pub version : w.version ≡ schedule.version
   pub accounts : w.accounts ≡ accounts_of (common_steps schedule)
   pub owners : map owned_by w.devices ≡ owned_in (common_steps schedule)
+  pub flowing : AllByRecursion IsFlowing w.wires
   pub newest : (i : ℕ) (d : DeviceState) → slice_get w.devices i ≡ Some d → IsNewest w.wires d

@@ -6,7 +6,7 @@ ghost use Rattle.xmpp_world.specs.Worlds.{World};
 ghost use Rattle.xmpp_worlds_kept.specs.Kept.{IsKept};
 
 /// A law: each world of a wire schedule has the schedule's version, its accounts and its devices in their order; and of
-/// each device the newest connection that it dialled is there, and while nothing ended that, the device has it. So is the
+/// each device the newest connection that it dialled is there, and while it is open the device has it; no pipe of an open connection has ended. So is the
 /// first world, and each move keeps it.
 pub fn worlds_keep()
     ensures begins { (schedule : WireView) → IsKept schedule (world_at_start schedule) }
