@@ -1,4 +1,4 @@
-//! What a server does on a submission, as the server of the two applications.
+//! What a server does on a submission is what the server of the two applications does.
 #![tactic(auto)]
 
 mod laws;

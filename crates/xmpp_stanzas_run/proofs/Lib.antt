@@ -1,0 +1,2 @@
+pub mod GivenHere
+pub mod MessagesGiven

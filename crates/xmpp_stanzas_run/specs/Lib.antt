@@ -1,0 +1,2 @@
+-- law: the device to which something is given
+pub mod Beside
