@@ -1,0 +1,2 @@
+pub mod Drifted
+pub mod Flags
