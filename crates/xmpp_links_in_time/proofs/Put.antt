@@ -74,7 +74,7 @@ module _ (v : View ItemOut) (d : Sessions) (kept : LinkKept v) (device : IsDevic
   -- ---- the client puts
 
   -- what waits in its queue
-  queue_length : (o : Own ItemOut) (s : LinkSession ItemOut) → o.queue ≡ queue_of s.up → IsSession stanzas_read (seen_session s) d.now → length o.queue ≡ length (drop d.now.acked (up_put d.now))
+  pub queue_length : (o : Own ItemOut) (s : LinkSession ItemOut) → o.queue ≡ queue_of s.up → IsSession stanzas_read (seen_session s) d.now → length o.queue ≡ length (drop d.now.acked (up_put d.now))
   queue_length o s queue is =
       ap length queue ∙ sym (length-map (drop s.up.acked s.up.put) up_stanza) ∙ ap length (sym (drop-map up_stanza s.up.acked s.up.put))
       ∙ ap₂ (λ n l. length (drop n l)) is.acked is.up_put

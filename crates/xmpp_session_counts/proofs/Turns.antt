@@ -30,16 +30,16 @@ turn (event ∷ all) w last i d e taken read (inr none) led there here =
     let high = first.1 in
     omega arith
 
-read_along : (all : List events.Event) (w last : World) → events.Reaches all w last → Taken w → Read w → Read last
+pub read_along : (all : List events.Event) (w last : World) → events.Reaches all w last → Taken w → Read w → Read last
 read_along [] w last led taken read = subst Read (sym led) read
 read_along (event ∷ all) w last led taken read = read_along all led.0 last led.2 (taken_moves event w led.0 led.1 taken) (read_moves event w led.0 led.1 taken read)
 
 -- events, and then others
-reaches_both : (first second : List events.Event) (w last : World) → events.Reaches (first ++ second) w last → (mid : World) × events.Reaches first w mid × events.Reaches second mid last
+pub reaches_both : (first second : List events.Event) (w last : World) → events.Reaches (first ++ second) w last → (mid : World) × events.Reaches first w mid × events.Reaches second mid last
 reaches_both [] second w last led = (w, refl, led)
 reaches_both (event ∷ first) second w last led = let rest = reaches_both first second led.0 last led.2 in (rest.0, (led.0, led.1, rest.1), rest.2)
 
-there_along : (all : List events.Event) (w last : World) (i : ℕ) (d : Device) → events.Reaches all w last → slice_get w.devices i ≡ Some d → (e : Device) × (slice_get last.devices i ≡ Some e)
+pub there_along : (all : List events.Event) (w last : World) (i : ℕ) (d : Device) → events.Reaches all w last → slice_get w.devices i ≡ Some d → (e : Device) × (slice_get last.devices i ≡ Some e)
 there_along [] w last i d led at = (d, ap (λ (v : World). slice_get v.devices i) led ∙ at)
 there_along (event ∷ all) w last i d led at = let one = there_behind event w led.0 i d led.1 at in there_along all led.0 last i one.0 led.2 one.1
 

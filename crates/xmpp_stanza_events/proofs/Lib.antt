@@ -1,0 +1,3 @@
+pub mod FullQueues
+pub mod MessageEvents
+pub mod ReplyEvents
