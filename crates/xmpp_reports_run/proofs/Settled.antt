@@ -70,7 +70,7 @@ flows_by false is = absurd (false≢true is)
 module _ (schedule : WireView) (w : World) (v : ItemWorld) (x : sessions.World) (image : WorldImage UpFits DownFits (StandingHalls HallFits) ClientFits w v) (kept : IsKept schedule w) (i : ℕ) (o : Owned) (runs : DeviceRuns schedule v x i o)
     (d : DeviceState) (there : slice_get w.devices i ≡ Some d) where
   -- the device of items
-  device_image : DeviceImage ClientFits d runs.shows.device
+  pub device_image : DeviceImage ClientFits d runs.shows.device
   device_image = both_there (DeviceImage ClientFits) (slice_get w.devices i) (slice_get v.devices i) d runs.shows.device there runs.shows.there (image.devices i)
 
   wire_shown : (place : ℕ) (c : Conn ItemOut) (p : ItemWire) → runs.view.conns (place + 1) ≡ Some c → slice_get v.wires place ≡ Some p → IsWire (identity_at schedule i o) (runs.logins (place + 1)) (place + 1) c p
