@@ -1,3 +1,4 @@
 pub mod FullQueues
 pub mod MessageEvents
 pub mod ReplyEvents
+pub mod DeedEvents

@@ -1,24 +1,23 @@
 -- A stanza by which no message is taken, amid drifts, is an event of the world of the applications.
-use Rattle.std.proofs.Common.{◌≡◌, ◌≢◌, ℕ, zero, suc, ◌+◌, ◌<◌, ◌==◌, Bool, true, false, List, [], ◌∷◌, ◌++◌, Option, Some, None, length, take, refl, sym, ap, ap₂, subst, ◌∙◌, arith, inl, inr, if◌then◌else◌}
+use Rattle.std.proofs.Common.{◌≡◌, ◌≢◌, ℕ, zero, suc, ◌<◌, ◌==◌, Bool, true, false, List, [], ◌∷◌, ◌++◌, Some, length, take, refl, sym, ap, ap₂, subst, ◌∙◌, arith, inl, inr, if◌then◌else◌}
 use Rattle.std.proofs.lemmas.Bool.{cases_Bool, eq-eqb, eqb-true, false≢true, lt-ltb, ltb-true}
 use Rattle.std.proofs.lemmas.List.{length-append, take_all}
-use Rattle.std.proofs.lemmas.Option.{none-some, same_Some}
+use Rattle.std.proofs.lemmas.Option.{same_Some}
 use Rattle.std.specs.List.{slice_get, slice_set}
 use Rattle.std.specs.Prelude.{nat_lt}
-use Rattle.xmpp_links_events.specs.Acts.{MayAct}
 use Rattle.xmpp_links_events.specs.Lists.{IsCounting}
 use Rattle.xmpp_session_deeds.proofs.AllDrifts.{all_drift, reaches_both, spoken_both}
 use Rattle.xmpp_session_deeds.proofs.Sorted.{enable_at, enable_may, with_sessions}
 use Rattle.xmpp_session_deeds.proofs.Worlds.{acted_alone, drifts_reach, set_here}
 use Rattle.xmpp_session_deeds.specs.Deeds.{AllDrift, Binds, Counts, Drift, Drifts, Ends, IsDrifted, IsTakenAtOnce, drift_events, drifted, with_device}
-use Rattle.xmpp_sessions.specs.Devices.{Device, Sessions, Take, World, epoch_of}
+use Rattle.xmpp_sessions.specs.Devices.{Device, Sessions, World, epoch_of}
 use Rattle.xmpp_sessions.specs.Devices.Row.{NoRow, Present}
 use Rattle.xmpp_sessions.specs.Devices.Stage.{Named}
-use Rattle.xmpp_sessions.specs.Events.{Act, Around, At, Event, Reaches, acted, around, end_row, flagged, give, made_served, moved_up, own, put_down, reading_served, reply, served, taken_by, taking, ServerHandles}
+use Rattle.xmpp_sessions.specs.Events.{Act, At, Reaches, around, end_row, flagged, give, made_served, moved_up, own, put_down, reading_served, reply, served, taken_by, taking, ServerHandles}
 use Rattle.xmpp_sessions.specs.Histories.{spoken_in}
-use Rattle.xmpp_sessions.specs.Stanzas.{Down, Submission, Up}
+use Rattle.xmpp_sessions.specs.Stanzas.{Down, Up}
 use Rattle.xmpp_sessions.specs.Stanzas.Up.{Carbons, Message, Presence, Query}
-use Rattle.xmpp_stanza_events.specs.Handled.{AreHandled, IsDriftedTo, IsRepliedTo, served_as}
+use Rattle.xmpp_stanza_events.specs.Handled.{AreHandled, IsRepliedTo, served_as}
 
 -- ---- drifts
 
@@ -79,7 +78,7 @@ give_all zs s =
     ∙ ap (λ b. let t : Sessions = record (put_down zs s) { row = if b then NoRow else s.row } in t) (never (length zs))
   where
     never : (n : ℕ) → nat_lt n n ≡ false
-    never n = elim (cases_Bool (nat_lt n n)) [ | inl is ↦ absurd (let less : n < n = ltb-true n n is in omega (arith, less)) | inr is ↦ is ]
+    never n = elim (cases_Bool (nat_lt n n)) [ inl is ↦ absurd (let less : n < n = ltb-true n n is in omega (arith, less)) | inr is ↦ is ]
 
 give_some : (given : List Down) (missing : Down) (more : List Down) (s : Sessions) → give (length given) (given ++ missing ∷ more) s ≡ end_row (put_down given s)
 give_some given missing more s =

@@ -1,12 +1,13 @@
 -- A stanza of a device is handled by the server of the applications, and sessions drift before and behind: what becomes of
 -- each device.
-use Rattle.std.specs.Prelude.{◌≡◌, ◌≢◌, ◌⊎◌, ℕ, Bool, List, [], ◌∷◌, ◌++◌, Some, length, slice_get}
+use Rattle.std.specs.Prelude.{◌≡◌, ◌≢◌, ◌⊎◌, ℕ, Bool, true, false, List, [], ◌∷◌, ◌++◌, Some, length, slice_get}
 use Rattle.xmpp_session_deeds.specs.Deeds.{Drift, Drifts, IsTaken, IsTakenAtOnce}
 use Rattle.xmpp_sessions.specs.Devices.{Device, Sessions, Take, World, epoch_of}
 use Rattle.xmpp_sessions.specs.Devices.Row.{NoRow}
 use Rattle.xmpp_sessions.specs.Events.{Around, Event, Reaches, flagged, hears_of, made_served, reading_served, told}
 use Rattle.xmpp_sessions.specs.Histories.{spoken_in}
 use Rattle.xmpp_sessions.specs.Stanzas.{Down, Submission, Up}
+use Rattle.xmpp_sessions.specs.Stanzas.Down.{Live}
 use Rattle.xmpp_sessions.specs.Stanzas.Up.{Message}
 
 -- ---- a message to an account that exists
@@ -41,6 +42,11 @@ pub record IsTakenOf (t : Take) (number i : ℕ) (d : Device) (last : Sessions) 
   pub taken : IsTaken (Message t.said) there next
   pub hears : hears_of t i (record d { sessions = next }) ≡ heard
   pub rests : Drifts behind (told heard full number next) last
+
+-- what is given to one that hears, or doesn't: its number; or nothing, since its queue is full, and its session ends
+abbrev pub IsHeardOf : Bool → ℕ → List Down → Sessions → Type 0
+IsHeardOf false number given last = given ≡ []
+IsHeardOf true number given last = (given ≡ Live number ∷ []) ⊎ ((given ≡ []) × (last.row ≡ NoRow))
 
 -- ---- a stanza by which no message is taken
 

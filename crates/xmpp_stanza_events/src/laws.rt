@@ -1,9 +1,15 @@
 //! What the server of the applications does on a stanza, where sessions drift before and behind.
-ghost use Rattle.std.specs.Prelude.{◌≡◌, ◌≢◌, ℕ, true, [], ◌∷◌, Some, slice_get};
-ghost use Rattle.xmpp_sessions.specs.Devices.{Device, Sessions, World, last_of};
-ghost use Rattle.xmpp_sessions.specs.Events.{around, is_among, reply, taking};
-ghost use Rattle.xmpp_sessions.specs.Stanzas.{Submission, Up};
-ghost use Rattle.xmpp_stanza_events.specs.Handled.{AreHandled, EndsAs, IsDriftedTo, IsRepliedTo, IsTakenOf, IsToldOf, served_as, take_at, takes_with};
+ghost use Rattle.std.specs.Prelude.{◌≡◌, ◌≢◌, ◌⊎◌, ℕ, true, List, [], ◌∷◌, ◌++◌, Some, map, slice_get};
+ghost use Rattle.xmpp_device_views.specs.Deeds.{Takes, gives_all};
+ghost use Rattle.xmpp_links_events.specs.Lists.{Stanzas};
+ghost use Rattle.xmpp_session_deeds.specs.Deeds.{DoesAmid};
+ghost use Rattle.xmpp_sessions.specs.Devices.{Device, Sessions, Take, World, last_of};
+ghost use Rattle.xmpp_sessions.specs.Devices.Row.{NoRow};
+ghost use Rattle.xmpp_sessions.specs.Devices.Stage.{Named};
+ghost use Rattle.xmpp_sessions.specs.Events.{around, hears_of, is_among, reply, taking};
+ghost use Rattle.xmpp_sessions.specs.Stanzas.{Down, Submission, Up};
+ghost use Rattle.xmpp_sessions.specs.Stanzas.Up.{Message};
+ghost use Rattle.xmpp_stanza_events.specs.Handled.{AreHandled, EndsAs, IsDriftedTo, IsHeardOf, IsRepliedTo, IsTakenOf, IsToldOf, served_as, take_at, takes_with};
 
 /// A law: where a device's message to an account that exists is handled, and each other device hears of it or doesn't, each
 /// amid drifts of its own sessions, these are events of the world of the applications: all drift, the server handles the
@@ -23,4 +29,15 @@ pub fn replies_are_events()
         → IsRepliedTo (reply (around x d) z) z d.sessions last
         → ((j : ℕ) (e : Device) → slice_get x.devices j ≡ Some e → j ≢ i → IsDriftedTo e.sessions (ends j))
         → AreHandled (EndsAs ends) x i (served_as (around x d) z last d) x.takes }
+{}
+
+/// A law: what the server gives in the links, to a device that hears of a take or doesn't, also directly behind its message
+/// that is taken, and what it replies, is what these events need.
+pub fn deeds_are_handled<A>()
+    ensures beside { (r : Stanzas A) (zs : List A) (t : Take) (number j : ℕ) (e : Device) (last : Sessions) → DoesAmid r (gives_all zs) e.sessions last → (hears_of t j e ≡ true → e.sessions.now.stage ≢ Named)
+        → IsHeardOf (hears_of t j e) number (map r.down zs) last → IsToldOf t number j e last }
+    ensures own { (r : Stanzas A) (z : A) (zs : List A) (t : Take) (number i : ℕ) (d : Device) (last : Sessions) → r.up z ≡ Message t.said → DoesAmid r (Takes z ∷ gives_all zs) d.sessions last
+        → IsHeardOf (hears_of t i d) number (map r.down zs) last → IsTakenOf t number i d last }
+    ensures replied { (r : Stanzas A) (z : A) (zs : List A) (reply : List Down) (d last : Sessions) → DoesAmid r (Takes z ∷ gives_all zs) d last
+        → (map r.down zs ≡ reply) ⊎ ((missing : Down) × (more : List Down) × (reply ≡ map r.down zs ++ missing ∷ more) × (last.row ≡ NoRow)) → IsRepliedTo reply (r.up z) d last }
 {}

@@ -3,4 +3,4 @@
 
 mod laws;
 
-pub use laws::{messages_are_events, replies_are_events};
+pub use laws::{deeds_are_handled, messages_are_events, replies_are_events};
