@@ -5,6 +5,7 @@ pub mod Up
 pub mod Requests
 pub mod Rises
 pub mod Unanswered
+pub mod Turns
 pub mod Said
 pub mod Taken
 pub mod Whole

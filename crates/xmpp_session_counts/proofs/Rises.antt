@@ -4,11 +4,12 @@ use Rattle.std.proofs.Common.{◌≡◌, ◌≢◌, ◌⊎◌, ℕ, ◌+◌, ◌
 use Rattle.std.proofs.lemmas.Bool.{cases_Bool, eq-eqb, true≢false}
 use Rattle.std.proofs.lemmas.Option.{same_Some}
 use Rattle.std.specs.List.{slice_get}
+use Rattle.std.specs.Option.{option_map}
 use Rattle.xmpp_sessions.specs.Stanzas.{Up, Down}
 use Rattle.xmpp_sessions.specs.Devices.{Device, Take, World}
 use Rattle.xmpp_sessions.specs.Events as events
 use Rattle.xmpp_sessions.specs.Events.Event.{At, Tick}
-use Rattle.xmpp_sessions.proofs.Worlds.{same_place, was_device}
+use Rattle.xmpp_sessions.proofs.Worlds.{get_each, same_place, was_device}
 use Rattle.xmpp_session_counts.specs.Counts.{MayAsk}
 use Rattle.xmpp_session_counts.proofs.Reactions.{reacts, Reacts, Stays, Asks}
 use Rattle.xmpp_session_counts.proofs.Requests.{asked_served}
@@ -64,6 +65,13 @@ pub becomes_of : (event : events.Event) (w next : World) → events.Moves event 
 becomes_of event w next led i d e there here =
     let b = becomes event w next led i e here in
     subst (λ c. Becomes w event i c e) (same_Some b.0 d (sym b.1 ∙ there)) b.2
+
+-- a device that is there before an event is there behind it
+pub there_behind : (event : events.Event) (w next : World) (i : ℕ) (d : Device) → events.Moves event w next → slice_get w.devices i ≡ Some d → (e : Device) × (slice_get next.devices i ≡ Some e)
+there_behind (Tick ms) w next i d led at = (d, ap (λ (v : World). slice_get v.devices i) led ∙ at)
+there_behind (At j act) w next i d led at =
+    let f = events.becomes w (events.taken_by w.accounts w.clock j led.0 act) j act in
+    (f (0 + i) d, ap (λ (v : World). slice_get v.devices i) led.3 ∙ get_each 0 f w.devices i ∙ ap (option_map (f (0 + i))) at)
 
 -- it stays, or rises by one
 abbrev pub RisesByOne : ℕ → ℕ → Type 0

@@ -159,7 +159,7 @@ takes_few keep accounts homes all w led =
 -- Messages.
 
 -- a device that is there was there at the beginning
-was_there : (all : List events.Event) (w last : World) (i : ℕ) (e : Device) → events.Reaches all w last → slice_get last.devices i ≡ Some e → (d : Device) × (slice_get w.devices i ≡ Some d)
+pub was_there : (all : List events.Event) (w last : World) (i : ℕ) (e : Device) → events.Reaches all w last → slice_get last.devices i ≡ Some e → (d : Device) × (slice_get w.devices i ≡ Some d)
 was_there [] w last i e led at = (e, ap (λ (v : World). slice_get v.devices i) (sym led) ∙ at)
 was_there (event ∷ all) w last i e led at =
     let later = was_there all led.0 last i e led.2 at in

@@ -13,11 +13,9 @@ use Rattle.xmpp_sessions.specs.Kept.{IsAt, IsPage, PageKept, Read, Taken}
 use Rattle.xmpp_sessions.proofs.Numbered.{answers_append}
 use Rattle.xmpp_sessions.proofs.Runs.{taken_moves}
 use Rattle.xmpp_sessions.proofs.TileRuns.{read_moves}
-use Rattle.xmpp_sessions.proofs.Worlds.{get_each}
-use Rattle.std.specs.Option.{option_map}
 use Rattle.xmpp_session_counts.specs.Counts.{IsBetween, IsUnanswered}
 use Rattle.xmpp_session_counts.proofs.Reactions.{reacts, Reacts, Stays, Asks, passes}
-use Rattle.xmpp_session_counts.proofs.Rises.{Becomes, Stayed, Acted, Heard, becomes_of, reading_hears}
+use Rattle.xmpp_session_counts.proofs.Rises.{Becomes, Stayed, Acted, Heard, becomes_of, reading_hears, there_behind}
 
 -- what is heard is no answer
 
@@ -204,13 +202,6 @@ event_leads event w next i d e before behind_it between there led here = by (bec
     by (Stayed ms is same) = leads_nowhere d e same
     by (Heard j act is other new same) = subst (LeadsTo d) (sym same) (hears_leads (w.takes ++ new) (events.full_of act) new i d)
     by (Acted act is may new took same) = acted act is may new same (is_handling act)
-
--- a device that is there before an event is there behind it
-there_behind : (event : events.Event) (w next : World) (i : ℕ) (d : Device) → events.Moves event w next → slice_get w.devices i ≡ Some d → (e : Device) × (slice_get next.devices i ≡ Some e)
-there_behind (Tick ms) w next i d led at = (d, ap (λ (v : World). slice_get v.devices i) led ∙ at)
-there_behind (At j act) w next i d led at =
-    let f = events.becomes w (events.taken_by w.accounts w.clock j led.0 act) j act in
-    (f (0 + i) d, ap (λ (v : World). slice_get v.devices i) led.3 ∙ get_each 0 f w.devices i ∙ ap (option_map (f (0 + i))) at)
 
 pub leads_along : (all : List events.Event) (w last : World) (i : ℕ) (d e : Device) → Taken w → Read w → AllByRecursion (IsBetween i) all → events.Reaches all w last →
     slice_get w.devices i ≡ Some d → slice_get last.devices i ≡ Some e → LeadsTo d e

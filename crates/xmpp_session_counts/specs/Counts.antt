@@ -1,5 +1,5 @@
 -- How large the numbers of a run become, by what its users did.
-use Rattle.std.specs.Prelude.{◌≡◌, ℕ, ◌+◌, ◌*◌, ◌≤◌, ◌≢◌, ◌==◌, true, List, [], ◌∷◌, ◌++◌, length, filter}
+use Rattle.std.specs.Prelude.{◌≡◌, ℕ, ◌+◌, ◌*◌, ◌≤◌, ◌≢◌, ◌⊎◌, ◌==◌, true, List, [], ◌∷◌, ◌++◌, length, filter}
 use Rattle.std.specs.List.{AllByRecursion, flat_map}
 use Rattle.xmpp_sessions.specs.Stanzas.{Request, Submission, answers, messages, requests}
 use Rattle.xmpp_sessions.specs.Devices.{Device, Session, Sessions, up_put}
@@ -58,3 +58,9 @@ IsUnanswered d = d.sessions.online ≡ true → answers d.sessions.now.down_rest
 -- the message is of an epoch up to this one, and its number is within this one
 abbrev pub IsNumberedWithin : ℕ → ℕ → Submission → Type 0
 IsNumberedWithin epoch n m = (m.epoch ≤ epoch) × (m.n ≤ n)
+
+-- A turn of a device: its user asks for no page, and the server handles none of its stanzas; or a request may be put at
+-- the first event alone.
+abbrev pub IsTurn : ℕ → List Event → Type 0
+IsTurn i [] = Unit {0}
+IsTurn i (event ∷ events) = AllByRecursion (IsBetween i) (event ∷ events) ⊎ AllByRecursion (λ later. MayAsk i later → ⊥) events

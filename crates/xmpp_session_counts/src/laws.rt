@@ -1,6 +1,6 @@
 //! Laws of how large the numbers of a run become.
 ghost use Rattle.std.specs.Prelude.{◌≡◌, ◌≢◌, ℕ, ◌+◌, ◌*◌, ◌≤◌, ◌++◌, List, None, Some, filter, length, map, slice_get};
-ghost use Rattle.std.specs.List.{AllByRecursion};
+ghost use Rattle.std.specs.List.{AllByRecursion, flat_map};
 ghost use Rattle.xmpp_sessions.specs.Stanzas.{messages};
 ghost use Rattle.xmpp_sessions.specs.Devices.{Device, OpenPage, World, epoch_of, up_put};
 ghost use Rattle.xmpp_sessions.specs.Answers.{behind};
@@ -9,7 +9,7 @@ ghost use Rattle.xmpp_sessions.specs.Events.Act.{ClientHandles};
 ghost use Rattle.xmpp_sessions.specs.Events.Event.{At};
 ghost use Rattle.xmpp_sessions.specs.Histories.{spoken_in};
 ghost use Rattle.xmpp_sessions.specs.Kept.{Read, Taken, is_of};
-ghost use Rattle.xmpp_session_counts.specs.Counts.{IsBetween, IsDownFew, IsNumberedWithin, IsUnanswered, IsUpFew, MayAsk, OfEach, number_of, requested, requested_in, said_by};
+ghost use Rattle.xmpp_session_counts.specs.Counts.{IsBetween, IsDownFew, IsNumberedWithin, IsTurn, IsUnanswered, IsUpFew, MayAsk, OfEach, number_of, requested, requested_in, said_by};
 
 /// A law: in each session that a device had, the server put at most 101 stanzas for each one that it handled, and one for
 /// each take (`down`); the client put messages, requests, and two stanzas at most beside them (`up`). So by what the
@@ -46,6 +46,18 @@ pub fn pages_begin_one_by_one()
     ensures once { (events : List Event) (w last : World) (i : ℕ) (d e : Device) → Taken w → Read w → AllByRecursion (IsBetween i) events → Reaches events w last →
         slice_get w.devices i ≡ Some d → slice_get last.devices i ≡ Some e →
         (e.reading.asked ≤ d.reading.asked + 1) × (IsUnanswered d → (e.reading.asked ≡ d.reading.asked) × IsUnanswered e) }
+{}
+
+/// A law: in each turn a device's client puts one request at most (`turn`), and none where it may put none (`none`). So it
+/// asks for no more pages than there are turns (`turns`).
+pub fn each_turn_asks_once()
+    ensures turn { (events : List Event) (w last : World) (i : ℕ) (d e : Device) → Taken w → Read w → IsTurn i events → Reaches events w last →
+        slice_get w.devices i ≡ Some d → slice_get last.devices i ≡ Some e → e.reading.asked ≤ d.reading.asked + 1 }
+    ensures none { (events : List Event) (w last : World) (i : ℕ) (d e : Device) → AllByRecursion (λ event. MayAsk i event → ⊥) events → Reaches events w last →
+        slice_get w.devices i ≡ Some d → slice_get last.devices i ≡ Some e → e.reading.asked ≡ d.reading.asked }
+    ensures turns { (all : List (List Event)) (w last : World) (i : ℕ) (d e : Device) → Taken w → Read w → AllByRecursion (IsTurn i) all →
+        Reaches (flat_map (λ one. one) all) w last → slice_get w.devices i ≡ Some d → slice_get last.devices i ≡ Some e →
+        e.reading.asked ≤ d.reading.asked + length all }
 {}
 
 /// A law: the messages that were taken are no more than the users said (`takes`), and those that a device's client put in

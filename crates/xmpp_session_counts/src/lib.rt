@@ -3,4 +3,7 @@
 
 mod laws;
 
-pub use laws::{pages_begin_one_by_one, requests_are_few, says_are_counted, stanzas_are_few};
+pub use laws::{
+    each_turn_asks_once, pages_begin_one_by_one, requests_are_few, says_are_counted,
+    stanzas_are_few, takes_are_counted,
+};

@@ -1,0 +1,2 @@
+-- law: a schedule's history beside events of the two applications
+pub mod Besides
