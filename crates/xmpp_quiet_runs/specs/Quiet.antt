@@ -8,14 +8,16 @@ use Rattle.xmpp_device_views.specs.Identities.{Login}
 use Rattle.xmpp_images.specs.Stands.{HallStands}
 use Rattle.xmpp_item_fits.specs.Fitting.{FitsHere}
 use Rattle.xmpp_item_worlds.specs.ItemPipes.{ItemWire}
-use Rattle.xmpp_item_worlds.specs.ItemWorlds.{ItemWorld}
+use Rattle.xmpp_item_worlds.specs.ItemWorlds.{ItemDevice, ItemWorld}
 use Rattle.xmpp_live.specs.Sessions.{Session, session_named}
 use Rattle.xmpp_schedule.specs.Contents.{Owned}
 use Rattle.xmpp_schedule.specs.Schedules.{WireView}
 use Rattle.xmpp_server_numbers.specs.Unbound.{IsWithin}
 use Rattle.xmpp_session_views.specs.Served.{FlagsShow, ServerRuns}
-use Rattle.xmpp_sessions.specs.Devices.{Sessions, World}
-use Rattle.xmpp_worlds_run.specs.Running.{Bounds, DeviceRuns, IsOwned, keep_in, names_of}
+use Rattle.xmpp_sessions.specs.Devices.{Device, Sessions, World}
+use Rattle.xmpp_sessions.specs.Events.{Event, Reaches}
+use Rattle.xmpp_sessions.specs.Histories.{spoken_in}
+use Rattle.xmpp_worlds_run.specs.Running.{Bounds, DeviceRuns, IsOwned, WorldRuns, keep_in, names_of}
 use Rattle.xmpp_sessions_laws.specs.Runs.{owned_of}
 use Rattle.xmpp_writer.specs.Items.{ItemOut}
 
@@ -48,7 +50,7 @@ DoFlagsGo account resource h next = AreFlagsKept account resource h next ⊎ IsF
 pub record QuietDevice (schedule : WireView) (w : ItemWorld) (x : World) (i : ℕ) (o : Owned) (old : DeviceRuns schedule w x i o) (after : ItemWorld) : Type 0 where
   pub logins : ℕ → Login
   pub follows : WorldFollows (identity_at schedule i o) logins after old.view []
-  pub user : SameUser old.shows.device.client follows.shows.device.client
+  pub user : (e : ItemDevice) → slice_get after.devices i ≡ Some e → SameUser old.shows.device.client e.client
   pub flags : DoFlagsGo (identity_at schedule i o).account o.device w.server after.server
 
 -- so it is of all devices, and the server has taken no message; time has passed
@@ -63,3 +65,12 @@ pub record QuietWorld (schedule : WireView) (b : Bounds) (w : ItemWorld) (x : Wo
   pub fits : FitsHere after
   pub stands : HallStands (length after.wires) after.server
   pub within : IsWithin (length after.wires) after.server
+
+-- behind the move the worlds are beside one another, by these events
+pub record QuietRuns (schedule : WireView) (b : Bounds) (says : ℕ) (x : World) (after : ItemWorld) : Type 0 where
+  pub events : List Event
+  pub next : World
+  pub reaches : Reaches events x next
+  pub silent : spoken_in events ≡ []
+  pub asked : (i : ℕ) (d e : Device) → slice_get x.devices i ≡ Some d → slice_get next.devices i ≡ Some e → e.reading.asked ≡ d.reading.asked
+  pub runs : WorldRuns schedule b says after next
