@@ -59,21 +59,21 @@ module _ (schedule : WireView) (b : Bounds) (says : ℕ) (w : ItemWorld) (x : Wo
   -- another device
   other_runs : (j : ℕ) (p : Owned) → IsOwned schedule j p → j ≢ i → DeviceRuns schedule next behind j p
   other_runs j p is other = record {
-      logins = r.logins;
-      view = r.view;
-      in_time = r.in_time;
-      prompt = r.prompt;
-      shows = s;
-      device = r.device;
-      there = set_beside x.devices i j d other ∙ r.there;
-      account = r.account;
-      sessions = r.sessions;
-      built = r.built;
-      submissions = subst (λ (e : ItemDevice). SubmissionsShow e.client r.device.sessions) same r.submissions;
-      log = subst (λ (e : ItemDevice). LogShows (keep_in schedule) (history_for schedule x.takes p) e.client.log r.device.reading) same r.log;
-      pages = subst (λ (e : ItemDevice). e.client.pages ≡ r.device.reading.asked) same r.pages;
-      flags = subst (λ h. FlagsShow (identity_at schedule j p).account p.device h r.device.sessions) (sym alone.server) r.flags;
-    }
+    logins = r.logins;
+    view = r.view;
+    in_time = r.in_time;
+    prompt = r.prompt;
+    shows = s;
+    device = r.device;
+    there = set_beside x.devices i j d other ∙ r.there;
+    account = r.account;
+    sessions = r.sessions;
+    built = r.built;
+    submissions = subst (λ (e : ItemDevice). SubmissionsShow e.client r.device.sessions) same r.submissions;
+    log = subst (λ (e : ItemDevice). LogShows (keep_in schedule) (history_for schedule x.takes p) e.client.log r.device.reading) same r.log;
+    pages = subst (λ (e : ItemDevice). e.client.pages ≡ r.device.reading.asked) same r.pages;
+    flags = subst (λ h. FlagsShow (identity_at schedule j p).account p.device h r.device.sessions) (sym alone.server) r.flags;
+  }
     where
       r : DeviceRuns schedule w x j p
       r = runs.devices j p is
