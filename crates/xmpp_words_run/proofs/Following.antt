@@ -12,7 +12,7 @@ use Rattle.xmpp_sessions.specs.Events.{ReadBound, binds, counts, end_row, is_pre
 use Rattle.xmpp_words_run.specs.Words.{IsBare, binds_amid}
 use Rattle.xmpp_writer.specs.Items.{ItemOut}
 
-not_present : (r : Row) → r ≢ Present → is_present r ≡ false
+pub not_present : (r : Row) → r ≢ Present → is_present r ≡ false
 not_present NoRow other = refl
 not_present Unread other = refl
 not_present Present other = absurd (other refl)
@@ -75,7 +75,7 @@ module _ (account : ℕ) (resource : List ℕ) (h : Hall ItemOut) where
   absent_still (Counts ∷ xs) d last drifts absent = absurd (absent (drifts.0 (with_sessions_of d) refl).0)
   absent_still (Ends ∷ xs) d last drifts absent = absent_still xs (end_row d) last drifts.1 (λ e. let no_way : ⊥ = cc in no_way)
 
-  bound_absent : (xs : List Drift) (d last : Sessions) → binds_amid xs ≡ true → Drifts xs d last → last.row ≢ Present
+  pub bound_absent : (xs : List Drift) (d last : Sessions) → binds_amid xs ≡ true → Drifts xs d last → last.row ≢ Present
   bound_absent [] d last some drifts = absurd (false≢true some)
   bound_absent (Binds ∷ xs) d last some drifts = absent_still xs (binds d) last drifts.1 (λ e. let no_way : ⊥ = cc in no_way)
   bound_absent (Counts ∷ xs) d last some drifts = bound_absent xs (counts d) last some drifts.1

@@ -1,0 +1,3 @@
+pub use Rattle.xmpp_edge.specs.Listed
+-- law: moves by which no device does anything with stanzas
+pub mod Quiet
