@@ -29,6 +29,7 @@ use Rattle.xmpp_world.specs.Moves as bytes
 use Rattle.xmpp_world.specs.Worlds as wires
 use Rattle.xmpp_worlds_run.specs.Running.{WorldRuns}
 use Rattle.xmpp_schedules_run.specs.Besides.{AreBeside, EachMoveRuns, GoBeside, IsImage, bounds}
+use Rattle.xmpp_schedules_run.proofs.Wires.{IsNoDial, downs_none, moves_many, served_none}
 use Rattle.xmpp_schedules_run.proofs.Rounds.{AtMost, Goes, IsInRound, down_line, joined, most_behind, round_of, stays, up_line}
 
 cores : CoresFit UpFits DownFits (StandingHalls HallFits) ClientFits
@@ -39,7 +40,7 @@ pub is_moved : (m : Move) (W : wires.World) (w : ItemWorld) → MayMove m → Is
 is_moved m W w may image = move_is UpFits DownFits (StandingHalls HallFits) ClientFits cores m W w may image
 
 -- Moves lead to a world of bytes, and events to one of the applications; behind each the two are beside one another.
-pub record LineGoes (schedule : WireView) (before says : ℕ) (said : List Spoken) (ms : List Move) (W : wires.World) (x : World) (Post : ItemWorld → World → Type 0) : Type 0 where
+pub record LineGoes (schedule : WireView) (dials says : ℕ) (said : List Spoken) (ms : List Move) (W : wires.World) (x : World) (Post : ItemWorld → World → Type 0) : Type 0 where
   pub moves : List (List Event)
   pub items : ItemWorld
   pub next : World
@@ -48,15 +49,16 @@ pub record LineGoes (schedule : WireView) (before says : ℕ) (said : List Spoke
   pub image : IsImage (all_moved ms W) items
   pub runs : WorldRuns schedule bounds says items next
   pub post : Post items next
+  pub wide : length items.wires ≤ length W.wires + dials
   pub beside : GoBeside schedule ms moves W x
 
-pub no_moves : (schedule : WireView) (says : ℕ) (W : wires.World) (w : ItemWorld) (x : World) (Post : ItemWorld → World → Type 0) → IsImage W w → WorldRuns schedule bounds says w x → Post w x → LineGoes schedule says says [] [] W x Post
-no_moves schedule says W w x Post image runs post = record { moves = []; items = w; next = x; led = refl; spoken = refl; image = image; runs = runs; post = post; beside = tt }
+pub no_moves : (schedule : WireView) (says : ℕ) (W : wires.World) (w : ItemWorld) (x : World) (Post : ItemWorld → World → Type 0) → IsImage W w → WorldRuns schedule bounds says w x → Post w x → LineGoes schedule 0 says [] [] W x Post
+no_moves schedule says W w x Post image runs post = record { moves = []; items = w; next = x; led = refl; spoken = refl; image = image; runs = runs; post = post; wide = (let same = image.as_many in omega arith); beside = tt }
 
 -- one move
-pub one_move : (schedule : WireView) (before says : ℕ) (said : List Spoken) (m : Move) (W : wires.World) (x : World) (Post : ItemWorld → World → Type 0) (events : List Event) (w2 : ItemWorld) (next : World) → Reaches events x next → spoken_in events ≡ said →
-    IsImage (moved m W) w2 → WorldRuns schedule bounds says w2 next → Post w2 next → LineGoes schedule before says said (m ∷ []) W x Post
-one_move schedule before says said m W x Post events w2 next led spoken image runs post = record {
+pub one_move : (schedule : WireView) (dials says : ℕ) (said : List Spoken) (m : Move) (W : wires.World) (x : World) (Post : ItemWorld → World → Type 0) (events : List Event) (w2 : ItemWorld) (next : World) → Reaches events x next → spoken_in events ≡ said →
+    IsImage (moved m W) w2 → WorldRuns schedule bounds says w2 next → Post w2 next → length w2.wires ≤ length W.wires + dials → LineGoes schedule dials says said (m ∷ []) W x Post
+one_move schedule dials says said m W x Post events w2 next led spoken image runs post wide = record {
   moves = events ∷ [];
   items = w2;
   next = next;
@@ -65,6 +67,7 @@ one_move schedule before says said m W x Post events w2 next led spoken image ru
   image = image;
   runs = runs;
   post = post;
+  wide = wide;
   beside = (subst (AreBeside schedule (moved m W)) (reaches_is events x next led) (record { says = says; items = w2; image = image; runs = runs }), tt);
 }
 
@@ -87,11 +90,11 @@ beside_joined schedule (m ∷ first) second (e ∷ es) fs W x one two =
     (one.0, beside_joined schedule first second es fs (moved m W) (state_after x e) one.1
     (subst (GoBeside schedule second fs (all_moved first (moved m W))) (state_joined x e (flat_map (λ l. l) es)) two))
 
-pub and_then : (schedule : WireView) (before mid says : ℕ) (said more : List Spoken) (first second : List Move) (W : wires.World) (x : World) (Mid Post : ItemWorld → World → Type 0) →
-    LineGoes schedule before mid said first W x Mid →
-    ((w : ItemWorld) (y : World) → IsImage (all_moved first W) w → WorldRuns schedule bounds mid w y → Mid w y → LineGoes schedule mid says more second (all_moved first W) y Post) →
-    LineGoes schedule before says (said ++ more) (first ++ second) W x Post
-and_then schedule before mid says said more first second W x Mid Post one rest =
+pub and_then : (schedule : WireView) (mid says : ℕ) (said more : List Spoken) (first second : List Move) (W : wires.World) (x : World) (Mid Post : ItemWorld → World → Type 0) →
+    LineGoes schedule 0 mid said first W x Mid →
+    ((w : ItemWorld) (y : World) → IsImage (all_moved first W) w → WorldRuns schedule bounds mid w y → Mid w y → LineGoes schedule 0 says more second (all_moved first W) y Post) →
+    LineGoes schedule 0 says (said ++ more) (first ++ second) W x Post
+and_then schedule mid says said more first second W x Mid Post one rest =
     let two = rest one.items one.next one.image one.runs one.post in
     record {
       moves = one.moves ++ two.moves;
@@ -103,6 +106,7 @@ and_then schedule before mid says said more first second W x Mid Post one rest =
       image = subst (λ V. IsImage V two.items) (sym (all_moved_joined first second W)) two.image;
       runs = two.runs;
       post = two.post;
+      wide = let shown = one.image.as_many in let first_wide = one.wide in let second_wide = two.wide in omega arith;
       beside = beside_joined schedule first second one.moves two.moves W x one.beside
           (subst (GoBeside schedule second two.moves (all_moved first W)) (reaches_is (flat_map (λ l. l) one.moves) x one.next one.led) two.beside);
     }
@@ -110,53 +114,57 @@ and_then schedule before mid says said more first second W x Mid Post one rest =
 -- ---- passes and rounds
 
 module _ (schedule : WireView) (each : EachMoveRuns schedule) where
-  of_goes : (says : ℕ) (m : Move) (W : wires.World) (w : ItemWorld) (x : World) (Post : ItemWorld → World → Type 0) (r : IsMoved UpFits DownFits (StandingHalls HallFits) ClientFits m W w) →
-      Goes schedule says (items.all_moved r.moves w) x (Post (items.all_moved r.moves w)) → LineGoes schedule says says [] (m ∷ []) W x Post
-  of_goes says m W w x Post r g = one_move schedule says says [] m W x Post g.events (items.all_moved r.moves w) g.next g.led g.silent r.image g.runs g.post
+  pub of_goes : (says : ℕ) (m : Move) (W : wires.World) (w : ItemWorld) (x : World) (Post : ItemWorld → World → Type 0) → IsImage W w → (r : IsMoved UpFits DownFits (StandingHalls HallFits) ClientFits m W w) →
+      Goes schedule says (items.all_moved r.moves w) x (Post (items.all_moved r.moves w)) → AllByRecursion IsNoDial r.moves → LineGoes schedule 0 says [] (m ∷ []) W x Post
+  of_goes says m W w x Post image r g none =
+      one_move schedule 0 says [] m W x Post g.events (items.all_moved r.moves w) g.next g.led g.silent r.image g.runs g.post
+      (let same = moves_many r.moves w none in let shown = image.as_many in omega arith)
 
   pub up_byte : (says place : ℕ) (count : Count) (W : wires.World) (w : ItemWorld) (x : World) (n p : ℕ) → IsImage W w → WorldRuns schedule bounds says w x → IsInRound n p w x →
-      LineGoes schedule says says [] (bytes.Up place count ∷ []) W x (IsInRound n p)
+      LineGoes schedule 0 says [] (bytes.Up place count ∷ []) W x (IsInRound n p)
   up_byte says place count W w x n p image runs round =
       let r = is_moved (bytes.Up place count) W w tt image in
       let run = r.is_run in
-      of_goes says (bytes.Up place count) W w x (IsInRound n p) r
+      of_goes says (bytes.Up place count) W w x (IsInRound n p) image r
       (subst (λ ms. Goes schedule says (items.all_moved ms w) x (IsInRound n p (items.all_moved ms w))) (sym run.3) (up_line schedule each says place run.0 run.1 w x n p run.2 runs round))
+      (subst (AllByRecursion IsNoDial) (sym run.3) (served_none place run.0 run.1 run.2))
 
   pub down_byte : (says place : ℕ) (count : Count) (W : wires.World) (w : ItemWorld) (x : World) (n : ℕ) → n ≤ 200000 → IsImage W w → WorldRuns schedule bounds says w x → IsInRound n place w x →
-      LineGoes schedule says says [] (bytes.Down place count ∷ []) W x (IsInRound n (place + 1))
+      LineGoes schedule 0 says [] (bytes.Down place count ∷ []) W x (IsInRound n (place + 1))
   down_byte says place count W w x n few image runs round =
       let r = is_moved (bytes.Down place count) W w tt image in
       let run = r.is_run in
-      of_goes says (bytes.Down place count) W w x (IsInRound n (place + 1)) r
+      of_goes says (bytes.Down place count) W w x (IsInRound n (place + 1)) image r
       (subst (λ ms. Goes schedule says (items.all_moved ms w) x (IsInRound n (place + 1) (items.all_moved ms w))) (sym run.2) (down_line schedule each says place run.0 run.1 w x n few runs round))
+      (subst (AllByRecursion IsNoDial) (sym run.2) (downs_none place run.0 run.1))
 
   pub pass_goes : (says place : ℕ) (W : wires.World) (w : ItemWorld) (x : World) (n : ℕ) → n ≤ 200000 → IsImage W w → WorldRuns schedule bounds says w x → IsInRound n place w x →
-      LineGoes schedule says says [] (pass_of place) W x (IsInRound n (place + 1))
+      LineGoes schedule 0 says [] (pass_of place) W x (IsInRound n (place + 1))
   pass_goes says place W w x n few image runs round =
-      and_then schedule says says says [] [] (bytes.Up place All ∷ []) (bytes.Down place All ∷ []) W x (IsInRound n place) (IsInRound n (place + 1)) (up_byte says place All W w x n place image runs round)
+      and_then schedule says says [] [] (bytes.Up place All ∷ []) (bytes.Down place All ∷ []) W x (IsInRound n place) (IsInRound n (place + 1)) (up_byte says place All W w x n place image runs round)
       (λ v y shown here mid. down_byte says place All (moved (bytes.Up place All) W) v y n few shown here mid)
 
   pub round_goes : (says place count : ℕ) (W : wires.World) (w : ItemWorld) (x : World) (n : ℕ) → n ≤ 200000 → IsImage W w → WorldRuns schedule bounds says w x → IsInRound n place w x →
-      LineGoes schedule says says [] (round_from place count) W x (λ v y. (p : ℕ) × IsInRound n p v y)
+      LineGoes schedule 0 says [] (round_from place count) W x (λ v y. (p : ℕ) × IsInRound n p v y)
   round_goes says place zero W w x n few image runs round = no_moves schedule says W w x (λ v y. (p : ℕ) × IsInRound n p v y) image runs (place, round)
   round_goes says place (suc count) W w x n few image runs round =
-      and_then schedule says says says [] [] (pass_of place) (round_from (place + 1) count) W x (IsInRound n (place + 1)) (λ v y. (p : ℕ) × IsInRound n p v y) (pass_goes says place W w x n few image runs round)
+      and_then schedule says says [] [] (pass_of place) (round_from (place + 1) count) W x (IsInRound n (place + 1)) (λ v y. (p : ℕ) × IsInRound n p v y) (pass_goes says place W w x n few image runs round)
       (λ v y shown here mid. round_goes says (place + 1) count (all_moved (pass_of place) W) v y n few shown here mid)
 
   pub rounds_go : (says times count : ℕ) (W : wires.World) (w : ItemWorld) (x : World) (n : ℕ) → n + times ≤ 200000 → IsImage W w → WorldRuns schedule bounds says w x → AtMost n x →
-      LineGoes schedule says says [] (rounds_of times count) W x (λ v y. AtMost (n + times) y)
+      LineGoes schedule 0 says [] (rounds_of times count) W x (λ v y. AtMost (n + times) y)
   rounds_go says zero count W w x n few image runs most = no_moves schedule says W w x (λ v y. AtMost (n + 0) y) image runs (subst (λ k. AtMost k x) (let same : n ≡ n + 0 = omega arith in same) most)
   rounds_go says (suc times) count W w x n few image runs most =
-      and_then schedule says says says [] [] (round_from 0 count) (rounds_of times count) W x (λ v y. (p : ℕ) × IsInRound n p v y) (λ v y. AtMost (n + suc times) y)
+      and_then schedule says says [] [] (round_from 0 count) (rounds_of times count) W x (λ v y. (p : ℕ) × IsInRound n p v y) (λ v y. AtMost (n + suc times) y)
       (round_goes says 0 count W w x n (omega arith) image runs (round_of n 0 w x most))
-      (λ v y shown here mid. subst (λ k. LineGoes schedule says says [] (rounds_of times count) (all_moved (round_from 0 count) W) y (λ u z. AtMost k z)) (let same : n + 1 + times ≡ n + suc times = omega arith in same)
+      (λ v y shown here mid. subst (λ k. LineGoes schedule 0 says [] (rounds_of times count) (all_moved (round_from 0 count) W) y (λ u z. AtMost k z)) (let same : n + 1 + times ≡ n + suc times = omega arith in same)
       (rounds_go says times count (all_moved (round_from 0 count) W) v y (n + 1) (omega arith) shown here (most_behind n mid.0 v y mid.1)))
 
   pub passes_go : (says times place : ℕ) (W : wires.World) (w : ItemWorld) (x : World) (n : ℕ) → n + times ≤ 200000 → IsImage W w → WorldRuns schedule bounds says w x → AtMost n x →
-      LineGoes schedule says says [] (passes_of times place) W x (λ v y. AtMost (n + times) y)
+      LineGoes schedule 0 says [] (passes_of times place) W x (λ v y. AtMost (n + times) y)
   passes_go says zero place W w x n few image runs most = no_moves schedule says W w x (λ v y. AtMost (n + 0) y) image runs (subst (λ k. AtMost k x) (let same : n ≡ n + 0 = omega arith in same) most)
   passes_go says (suc times) place W w x n few image runs most =
-      and_then schedule says says says [] [] (pass_of place) (passes_of times place) W x (IsInRound n (place + 1)) (λ v y. AtMost (n + suc times) y)
+      and_then schedule says says [] [] (pass_of place) (passes_of times place) W x (IsInRound n (place + 1)) (λ v y. AtMost (n + suc times) y)
       (pass_goes says place W w x n (omega arith) image runs (round_of n place w x most))
-      (λ v y shown here mid. subst (λ k. LineGoes schedule says says [] (passes_of times place) (all_moved (pass_of place) W) y (λ u z. AtMost k z)) (let same : n + 1 + times ≡ n + suc times = omega arith in same)
+      (λ v y shown here mid. subst (λ k. LineGoes schedule 0 says [] (passes_of times place) (all_moved (pass_of place) W) y (λ u z. AtMost k z)) (let same : n + 1 + times ≡ n + suc times = omega arith in same)
       (passes_go says times place (all_moved (pass_of place) W) v y (n + 1) (omega arith) shown here (most_behind n (place + 1) v y mid)))
