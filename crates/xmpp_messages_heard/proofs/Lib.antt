@@ -8,3 +8,4 @@ pub mod Addresses
 pub mod Heard
 pub mod Rows
 pub mod Outcomes
+pub mod Flags

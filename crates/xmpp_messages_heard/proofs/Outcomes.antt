@@ -24,7 +24,7 @@ use Rattle.xmpp_messages_heard.proofs.Booked.{IsBooked, booked}
 use Rattle.xmpp_messages_heard.proofs.Heard.{ReadsAs, carried_reads, reads_none, reads_one}
 use Rattle.xmpp_messages_heard.proofs.Marked.{carried_marks}
 use Rattle.xmpp_messages_heard.proofs.Rows.{IsKnown, bounce, known_or_not, row_carries, row_refuses, same_sends}
-use Rattle.xmpp_messages_heard.proofs.Staying.{ArePassing, acted_stays, carrying_passes, counting_passes}
+use Rattle.xmpp_messages_heard.proofs.Staying.{ArePassing, carrying_passes, counting_passes, devices_stay}
 use Rattle.xmpp_messages_heard.proofs.TakenEntries.{entry_same, take_now}
 use Rattle.xmpp_messages_heard.specs.Done.{acts_on, behind}
 use Rattle.xmpp_messages_heard.specs.Hearing.{heard_in, hears_in, only_at, taken_now}
@@ -82,12 +82,20 @@ module _ {keep : ℕ} {owned : List Owned} {names : List (List ℕ)} {takes : Li
 
   -- ---- archives, and what is told
 
-  goes_on : (taken : Option Taken) → IsBooked h taken next (behind s h e).outs → ArePassing (acts_on s h e) → (more : List Take) → ArchivesShow keep owned names (takes ++ more) next → ServerRuns keep owned names (takes ++ more) next
-  goes_on taken is pass more archives = record {
+  pub all_pass : ArePassing (counting (told s) (acts_on s h e))
+  all_pass =
+      counting_passes (told s) (acts_on s h e)
+      (elim (known_or_not x) [
+        | inl known ↦ subst ArePassing (sym (row_carries x known.0 known.1.at known.1.place)) (carrying_passes o.device m (told s) h known.0)
+        | inr nobody ↦ subst ArePassing (sym (row_refuses x nobody)) (tt, tt)
+      ])
+
+  goes_on : (taken : Option Taken) → IsBooked h taken next (behind s h e).outs → (more : List Take) → ArchivesShow keep owned names (takes ++ more) next → ServerRuns keep owned names (takes ++ more) next
+  goes_on taken is more archives = record {
     configured = record { domain = is.domain ∙ x.runs.configured.domain; accounts = is.accounts ∙ x.runs.configured.accounts };
     archives = archives;
     many = is.many ∙ x.runs.many;
-    sessions = acted_stays owned names (counting (told s) (acts_on s h e)) (step_of h) (counting_passes (told s) (acts_on s h e) pass) x.runs.sessions;
+    sessions = devices_stay owned names (counting (told s) (acts_on s h e)) (step_of h) all_pass x.runs.sessions;
   }
 
   module _ (account : ℕ) (is : IsKnown x account) where
@@ -100,7 +108,7 @@ module _ {keep : ℕ} {owned : List Owned} {names : List (List ℕ)} {takes : Li
     runs_taken : ServerRuns keep owned names (takes ++ new) next
     runs_taken =
         subst (λ more. ServerRuns keep owned names (takes ++ more) next) (sym (new_is true is.known))
-        (goes_on (Some (taken_here x account is.at)) taken_so (subst ArePassing (sym row) (carrying_passes o.device m (told s) h account)) (take ∷ [])
+        (goes_on (Some (taken_here x account is.at)) taken_so (take ∷ [])
         (archives_more x account is.at next (behind s h e).outs taken_so))
 
     told_taken : takes_told h.moment (behind s h e).outs ≡ map (take_told owned) new
@@ -119,7 +127,7 @@ module _ {keep : ℕ} {owned : List Owned} {names : List (List ℕ)} {takes : Li
     runs_same : ServerRuns keep owned names (takes ++ new) next
     runs_same =
         subst (λ more. ServerRuns keep owned names (takes ++ more) next) (sym (new_is false nobody))
-        (goes_on None none_so (subst ArePassing (sym refused) (tt, tt)) [] (archives_same x next (behind s h e).outs none_so))
+        (goes_on None none_so [] (archives_same x next (behind s h e).outs none_so))
 
     told_none : takes_told h.moment (behind s h e).outs ≡ map (take_told owned) new
     told_none = none_so.notes ∙ ap (map (take_told owned)) (sym (new_is false nobody))

@@ -82,24 +82,13 @@ carrying_passes resource m t h account =
 
 -- ---- the sessions
 
-module _ (owned : List Owned) (names : List (List ℕ)) where
+-- what is said of a session stays where a count or a queue changes
+module _ (P : Session ItemOut → Type 0) (handled : (s : Session ItemOut) → P s → P (handles s)) (waiting : (z : ItemOut) (s : Session ItemOut) → P s → P (waits z s)) (asked : (on : Bool) (s : Session ItemOut) → P s → P (asks on s)) where
   abbrev Are : List (Session ItemOut) → Type 0
-  Are ss = AllByRecursion (IsOfDevice owned names) ss
+  Are ss = AllByRecursion P ss
 
   abbrev Stay : Step ItemOut → Type 0
-  Stay s = AllByRecursion (IsOfDevice owned names) s.hall.sessions
-
-  abbrev KeepsDevice : (Session ItemOut → Session ItemOut) → Type 0
-  KeepsDevice f = (s : Session ItemOut) → IsOfDevice owned names s → IsOfDevice owned names (f s)
-
-  handles_keeps : KeepsDevice handles
-  handles_keeps s is = record { place = is.place; device = is.device; there = is.there; account = is.account; resource = is.resource }
-
-  waits_keeps : (z : ItemOut) → KeepsDevice (waits z)
-  waits_keeps z s is = record { place = is.place; device = is.device; there = is.there; account = is.account; resource = is.resource }
-
-  asks_keeps : (on : Bool) → KeepsDevice (asks on)
-  asks_keeps on s is = record { place = is.place; device = is.device; there = is.there; account = is.account; resource = is.resource }
+  Stay s = AllByRecursion P s.hall.sessions
 
   some_stay : (p : Session ItemOut → Bool) (ss : List (Session ItemOut)) → Are ss → Are (filter p ss)
   some_stay p [] are = tt
@@ -109,11 +98,11 @@ module _ (owned : List Owned) (names : List (List ℕ)) where
         | inr goes ↦ rw goes (some_stay p ss are.1)
       ]
 
-  either_is : (b : Bool) (s t : Session ItemOut) → IsOfDevice owned names s → IsOfDevice owned names t → IsOfDevice owned names (cond b s t)
+  either_is : (b : Bool) (s t : Session ItemOut) → P s → P t → P (cond b s t)
   either_is true s t a b = a
   either_is false s t a b = b
 
-  changed_stay : (n : ℕ) (f : Session ItemOut → Session ItemOut) → KeepsDevice f → (ss : List (Session ItemOut)) → Are ss → Are (with_session n f ss)
+  changed_stay : (n : ℕ) (f : Session ItemOut → Session ItemOut) → ((s : Session ItemOut) → P s → P (f s)) → (ss : List (Session ItemOut)) → Are ss → Are (with_session n f ss)
   changed_stay n f keeps [] are = tt
   changed_stay n f keeps (s ∷ ss) are = (either_is (s.shown.number == n) (f s) s (keeps s are.0) are.0, changed_stay n f keeps ss are.1)
 
@@ -131,12 +120,12 @@ module _ (owned : List Owned) (names : List (List ℕ)) where
   ask_stays : (n : ℕ) (o : Option ℕ) (due : Bool) (s : Step ItemOut) → Stay s → Stay (ask_where itself n o due s)
   ask_stays n o false s stay = stay
   ask_stays n None true s stay = stay
-  ask_stays n (Some k) true s stay = changed_stay n (asks true) (asks_keeps true) s.hall.sessions stay
+  ask_stays n (Some k) true s stay = changed_stay n (asks true) (asked true) s.hall.sessions stay
 
   queue_stays : (n : ℕ) (z : ItemOut) (t : Told) (s : Step ItemOut) → Stay s → Stay (queue itself n z t s)
   queue_stays n z t s stay =
       let u = in_sessions (with_session n (waits z)) s in
-      ask_stays n t.conn (is_due t) (put_where t.conn z u) (put_stays t.conn z u (changed_stay n (waits z) (waits_keeps z) s.hall.sessions stay))
+      ask_stays n t.conn (is_due t) (put_where t.conn z u) (put_stays t.conn z u (changed_stay n (waits z) (waiting z) s.hall.sessions stay))
 
   overflow_stays : (n : ℕ) (t : Told) (s : Step ItemOut) → Stay s → Stay (overflow itself n t s)
   overflow_stays n t s stay =
@@ -157,7 +146,7 @@ module _ (owned : List Owned) (names : List (List ℕ)) where
   archived_stays e account (Some kept) s stay = stay
 
   act_stays : (a : Act ItemOut) (s : Step ItemOut) → IsPassing a → Stay s → Stay (act itself a s)
-  act_stays (Handle n) s is stay = changed_stay n handles handles_keeps s.hall.sessions stay
+  act_stays (Handle n) s is stay = changed_stay n handles handled s.hall.sessions stay
   act_stays (Send n z) s is stay = sent_stays n z (told_of n s.hall.sessions) s stay
   act_stays (Archive account e) s is stay = archived_stays e account (archive_at account s.hall) s stay
   act_stays (Tell from to origin) s is stay = stay
@@ -173,6 +162,21 @@ module _ (owned : List Owned) (names : List (List ℕ)) where
   act_stays (steps.Present n available priority) s is stay = absurd is
   act_stays (steps.Copy n on) s is stay = absurd is
 
-  pub acted_stays : (acts : List (Act ItemOut)) (s : Step ItemOut) → ArePassing acts → AllByRecursion (IsOfDevice owned names) s.hall.sessions → AllByRecursion (IsOfDevice owned names) (acted itself acts s).hall.sessions
+  pub acted_stays : (acts : List (Act ItemOut)) (s : Step ItemOut) → ArePassing acts → AllByRecursion P s.hall.sessions → AllByRecursion P (acted itself acts s).hall.sessions
   acted_stays [] s all stay = stay
   acted_stays (a ∷ acts) s all stay = acted_stays acts (act itself a s) all.1 (act_stays a s all.0 stay)
+
+-- each is one of a device's
+
+module _ (owned : List Owned) (names : List (List ℕ)) where
+  device_handled : (s : Session ItemOut) → IsOfDevice owned names s → IsOfDevice owned names (handles s)
+  device_handled s is = record { place = is.place; device = is.device; there = is.there; account = is.account; resource = is.resource }
+
+  device_waiting : (z : ItemOut) (s : Session ItemOut) → IsOfDevice owned names s → IsOfDevice owned names (waits z s)
+  device_waiting z s is = record { place = is.place; device = is.device; there = is.there; account = is.account; resource = is.resource }
+
+  device_asked : (on : Bool) (s : Session ItemOut) → IsOfDevice owned names s → IsOfDevice owned names (asks on s)
+  device_asked on s is = record { place = is.place; device = is.device; there = is.there; account = is.account; resource = is.resource }
+
+  pub devices_stay : (acts : List (Act ItemOut)) (s : Step ItemOut) → ArePassing acts → AllByRecursion (IsOfDevice owned names) s.hall.sessions → AllByRecursion (IsOfDevice owned names) (acted itself acts s).hall.sessions
+  devices_stay acts s all stay = acted_stays (IsOfDevice owned names) device_handled device_waiting device_asked acts s all stay

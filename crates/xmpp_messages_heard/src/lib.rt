@@ -3,4 +3,4 @@
 
 mod laws;
 
-pub use laws::messages_are_heard;
+pub use laws::{hearing_is_that_of_the_applications, messages_are_heard};

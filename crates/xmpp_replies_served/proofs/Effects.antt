@@ -107,10 +107,10 @@ module _ (P Q : Session ItemOut → Type 0) (before : IsSteady P) (after : IsSte
 -- ---- the server runs on
 
 module _ (keep : ℕ) (owned : List Owned) (names : List (List ℕ)) where
-  abbrev Owns : Session ItemOut → Type 0
+  abbrev pub Owns : Session ItemOut → Type 0
   Owns s = IsOfDevice owned names s
 
-  same_owner : (s t : Session ItemOut) → t.shown.account ≡ s.shown.account → t.shown.resource ≡ s.shown.resource → Owns s → Owns t
+  pub same_owner : (s t : Session ItemOut) → t.shown.account ≡ s.shown.account → t.shown.resource ≡ s.shown.resource → Owns s → Owns t
   same_owner s t account resource is = record {
     place = is.place;
     device = is.device;
@@ -132,7 +132,7 @@ module _ (keep : ℕ) (owned : List Owned) (names : List (List ℕ)) where
   altered_owner (Message m) s is = is
   altered_owner (Query r) s is = is
 
-  runs_on : (takes : List Take) (h next : Hall ItemOut) → next.domain ≡ h.domain → next.accounts ≡ h.accounts → next.archives ≡ h.archives → AllByRecursion Owns next.sessions → ServerRuns keep owned names takes h → ServerRuns keep owned names takes next
+  pub runs_on : (takes : List Take) (h next : Hall ItemOut) → next.domain ≡ h.domain → next.accounts ≡ h.accounts → next.archives ≡ h.archives → AllByRecursion Owns next.sessions → ServerRuns keep owned names takes h → ServerRuns keep owned names takes next
   runs_on takes h next domain accounts archives sessions runs = record {
     configured = record { domain = domain ∙ runs.configured.domain; accounts = accounts ∙ runs.configured.accounts };
     archives = λ place name there. ap (λ (all : List Kept). slice_get all place) archives ∙ runs.archives place name there;

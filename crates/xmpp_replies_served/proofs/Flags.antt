@@ -23,7 +23,7 @@ use Rattle.xmpp_writer.specs.Items.{ItemOut}
 
 -- ---- sessions by their names
 
-found_has : (P : Session ItemOut → Type 0) (q : Session ItemOut → Bool) (ss : List (Session ItemOut)) (s : Session ItemOut) → AllByRecursion P ss → find q ss ≡ Some s → P s × (q s ≡ true)
+pub found_has : (P : Session ItemOut → Type 0) (q : Session ItemOut → Bool) (ss : List (Session ItemOut)) (s : Session ItemOut) → AllByRecursion P ss → find q ss ≡ Some s → P s × (q s ≡ true)
 found_has P q [] s all is = absurd (none-some s is)
 found_has P q (x ∷ ss) s all is = elim (cases_Bool (q x)) [
   | inl passed ↦ let this : x ≡ s = same_Some x s (rw passed at is) in (subst P this all.0, subst (λ y. q y ≡ true) this passed)
@@ -31,7 +31,7 @@ found_has P q (x ∷ ss) s all is = elim (cases_Bool (q x)) [
 ]
 
 -- one that is found by its number passes no test that none passes
-none_passes : (q : Session ItemOut → Bool) (m : ℕ) (ss : List (Session ItemOut)) (s : Session ItemOut) → find q ss ≡ None → session_of m ss ≡ Some s → q s ≡ true → ⊥
+pub none_passes : (q : Session ItemOut → Bool) (m : ℕ) (ss : List (Session ItemOut)) (s : Session ItemOut) → find q ss ≡ None → session_of m ss ≡ Some s → q s ≡ true → ⊥
 none_passes q m [] s none is passes = none-some s is
 none_passes q m (x ∷ ss) s none is passes = elim (cases_Bool (q x)) [
   | inl passed ↦ none-some x (sym (rw passed at none))
@@ -42,21 +42,21 @@ none_passes q m (x ∷ ss) s none is passes = elim (cases_Bool (q x)) [
       ]
 ]
 
-each_found : (ss ts : List (Session ItemOut)) → AreFound ss ts → AllByRecursion (λ t. session_of t.shown.number ss ≡ Some t) ts
+pub each_found : (ss ts : List (Session ItemOut)) → AreFound ss ts → AllByRecursion (λ t. session_of t.shown.number ss ≡ Some t) ts
 each_found ss [] found = tt
 each_found ss (t ∷ ts) found = (found.0, each_found ss ts found.1)
 
-names_are : (account : ℕ) (resource : List ℕ) (s : Session ItemOut) → is_named account resource s ≡ true → (s.shown.account ≡ account) × (s.shown.resource ≡ resource)
+pub names_are : (account : ℕ) (resource : List ℕ) (s : Session ItemOut) → is_named account resource s ≡ true → (s.shown.account ≡ account) × (s.shown.resource ≡ resource)
 names_are account resource s is =
     let both = and_parts (s.shown.account == account) (bytes_eq s.shown.resource resource) is in
     (eqb-true s.shown.account account both.0, same-from_bytes_eq s.shown.resource resource both.1)
 
 module _ (account : ℕ) (resource : List ℕ) (h : Hall ItemOut) (rule : IsRule h.sessions h.next) where
-  abbrev all_are_found : AllByRecursion (λ t. session_of t.shown.number h.sessions ≡ Some t) h.sessions
+  abbrev pub all_are_found : AllByRecursion (λ t. session_of t.shown.number h.sessions ≡ Some t) h.sessions
   all_are_found = each_found h.sessions h.sessions (all_found h.next 1 h.sessions rule.ascending)
 
   -- no other has its name
-  the_named : (t : Session ItemOut) → session_of t.shown.number h.sessions ≡ Some t → is_named account resource t ≡ true → session_named account resource h.sessions ≡ Some t
+  pub the_named : (t : Session ItemOut) → session_of t.shown.number h.sessions ≡ Some t → is_named account resource t ≡ true → session_named account resource h.sessions ≡ Some t
   the_named t there named = by_case (session_named account resource h.sessions) refl
     where
       by_case : (found : Option (Session ItemOut)) → session_named account resource h.sessions ≡ found → session_named account resource h.sessions ≡ Some t

@@ -33,7 +33,7 @@ one_left : (P : Session ItemOut → Type 0) (b : Bool) (s : Session ItemOut) (ss
 one_left P true s ss p all = (p, all)
 one_left P false s ss p all = all
 
-all_left : (P : Session ItemOut → Type 0) (q : Session ItemOut → Bool) (ss : List (Session ItemOut)) → AllByRecursion P ss → AllByRecursion P (filter q ss)
+pub all_left : (P : Session ItemOut → Type 0) (q : Session ItemOut → Bool) (ss : List (Session ItemOut)) → AllByRecursion P ss → AllByRecursion P (filter q ss)
 all_left P q [] all = tt
 all_left P q (s ∷ ss) all = one_left P (q s) s (filter q ss) all.0 (all_left P q ss all.1)
 
@@ -72,7 +72,7 @@ IsSend (Send n z) = Unit {0}
 IsSend _ = ⊥
 
 module _ (P : Session ItemOut → Type 0) (steady : IsSteady P) where
-  then_put : (k : ℕ) (z : ItemOut) (s next : Step ItemOut) → Goes P s next → Goes P s (put k z next)
+  pub then_put : (k : ℕ) (z : ItemOut) (s next : Step ItemOut) → Goes P s next → Goes P s (put k z next)
   then_put k z s next goes = record {
     domain = goes.domain;
     accounts = goes.accounts;
@@ -81,7 +81,7 @@ module _ (P : Session ItemOut → Type 0) (steady : IsSteady P) where
     told = λ moment. nothing_more moment next.outs (Put k z ∷ []) refl ∙ goes.told moment;
   }
 
-  then_shut : (k : ℕ) (s next : Step ItemOut) → Goes P s next → Goes P s (shut k next)
+  pub then_shut : (k : ℕ) (s next : Step ItemOut) → Goes P s next → Goes P s (shut k next)
   then_shut k s next goes = record {
     domain = goes.domain;
     accounts = goes.accounts;
@@ -90,7 +90,7 @@ module _ (P : Session ItemOut → Type 0) (steady : IsSteady P) where
     told = λ moment. nothing_more moment next.outs (Shut k ∷ []) refl ∙ goes.told moment;
   }
 
-  then_changed : (n : ℕ) (f : Session ItemOut → Session ItemOut) → ((t : Session ItemOut) → P t → P (f t)) → (s next : Step ItemOut) → Goes P s next → Goes P s (in_sessions (with_session n f) next)
+  pub then_changed : (n : ℕ) (f : Session ItemOut → Session ItemOut) → ((t : Session ItemOut) → P t → P (f t)) → (s next : Step ItemOut) → Goes P s next → Goes P s (in_sessions (with_session n f) next)
   then_changed n f keeps = then_sessions P P (with_session n f) (all_changed P P n f (λ t is p. keeps t p) (λ t is p. p))
 
   then_put_where : (conn : Option ℕ) (z : ItemOut) (s next : Step ItemOut) → Goes P s next → Goes P s (put_where conn z next)
@@ -126,7 +126,7 @@ module _ (P : Session ItemOut → Type 0) (steady : IsSteady P) where
       either (not t.counted) s _ _ (then_put_where t.conn z s next goes)
       (either (t.waiting == MOST_UNACKNOWLEDGED) s _ _ (then_overflow n t s next goes) (then_queue n z t s next goes))
 
-  then_send : (a : Act ItemOut) → IsSend a → (s next : Step ItemOut) → Goes P s next → Goes P s (act itself a next)
+  pub then_send : (a : Act ItemOut) → IsSend a → (s next : Step ItemOut) → Goes P s next → Goes P s (act itself a next)
   then_send (Send n z) is s next goes = then_told n z (told_of n next.hall.sessions) s next goes
   then_send _ is s next goes = absurd is
 

@@ -140,3 +140,27 @@ end_none (m ∷ ms) place ended none = (none.0, end_none ms place ended none.1)
 pub served_none : (place : ℕ) (first : List ItemMove) (ended : Bool) → IsServed place first → AllByRecursion IsNoDial (first ++ moved_where (UpEnd place) ended)
 served_none place first ended (inl is) = subst (λ ms. AllByRecursion IsNoDial (ms ++ moved_where (UpEnd place) ended)) (sym is) (end_none [] place ended tt)
 served_none place first ended (inr some) = subst (λ ms. AllByRecursion IsNoDial (ms ++ moved_where (UpEnd place) ended)) (sym some.1) (end_none (Tick 0 ∷ ups place some.0) place ended (tt, ups_none place some.0))
+
+-- ---- the moment, which what is handed to a device leaves
+
+pub down_moment : (place : ℕ) (w : ItemWorld) → (moved (Down place) w).moment ≡ w.moment
+down_moment place w = of_wire (slice_get w.wires place)
+  where
+    f : ItemWire → ItemDevice → ItemWorld → ItemWorld
+    f wire d = items.heard_first place wire.device wire.down.items d
+
+    heard : (wire : ItemWire) (d : ItemDevice) (l : List ItemOut) → (items.heard_first place wire.device l d w).moment ≡ w.moment
+    heard wire d [] = refl
+    heard wire d (i ∷ l) = refl
+
+    chosen : (b : Bool) (wire : ItemWire) (d : ItemDevice) → (cond b (f wire d w) w).moment ≡ w.moment
+    chosen true wire d = heard wire d wire.down.items
+    chosen false wire d = refl
+
+    of_device : (wire : ItemWire) (o : Option ItemDevice) → (items.at_device place f wire o w).moment ≡ w.moment
+    of_device wire None = refl
+    of_device wire (Some d) = chosen (has_wire place d.here) wire d
+
+    of_wire : (o : Option ItemWire) → (items.at_wire place f o w).moment ≡ w.moment
+    of_wire None = refl
+    of_wire (Some wire) = of_device wire (slice_get w.devices wire.device)

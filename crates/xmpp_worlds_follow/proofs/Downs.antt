@@ -1,5 +1,5 @@
 -- An item comes down, and the user of a device calls: what the client does.
-use Rattle.std.proofs.Common.{◌≡◌, ℕ, ◌+◌, ◌<◌, Bool, List, Some, Ok, slice_get, sym, ap, subst, ◌∙◌}
+use Rattle.std.proofs.Common.{◌≡◌, ℕ, ◌+◌, ◌<◌, Bool, List, Some, Ok, slice_get, sym, subst, ◌∙◌}
 use Rattle.std.proofs.lemmas.Option.{same_Some}
 use Rattle.std.specs.Prelude.{◌^◌}
 use Rattle.xmpp_client.specs.UserCalls.{catch_up_answer, catches_up, say_answer, says}

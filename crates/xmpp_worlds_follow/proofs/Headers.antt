@@ -1,20 +1,26 @@
 -- What comes on a connection before its header was put is a header.
-use Rattle.std.proofs.Common.{◌≡◌, ℕ, ◌+◌, Bool, true, false, List, [], ◌∷◌, ◌++◌, Option, Some, None, slice_get, refl, sym, ap, subst, ◌∙◌}
+use Rattle.std.proofs.Common.{◌≡◌, ℕ, Bool, false, List, ◌∷◌, ◌++◌, Some, refl, sym, ap, subst, ◌∙◌, ◌+◌, slice_get}
 use Rattle.std.specs.Option.{option_map}
 use Rattle.xmpp_desk.specs.State.{Hall}
-use Rattle.xmpp_desk.specs.declared.connection.Connection.{Connection}
 use Rattle.xmpp_device_views.specs.Identities.{Identity, Login}
-use Rattle.xmpp_device_views.specs.Servers.{conn_shown, open_conn}
+use Rattle.xmpp_device_views.specs.Pipes.{by_number}
+use Rattle.xmpp_device_views.specs.Servers.{open_conn}
+use Rattle.xmpp_device_views.specs.Shows.{Shows}
 use Rattle.xmpp_device_views.specs.WordItems.{up_item}
 use Rattle.xmpp_framing.specs.declared.states.Phase.TheVariants as framing
 use Rattle.xmpp_images.specs.Cores.{IsOpening, MayCome, writer_at, writer_of}
+use Rattle.xmpp_item_worlds.specs.ItemMoves.{Up}
 use Rattle.xmpp_item_worlds.specs.ItemPipes.{ItemWire}
+use Rattle.xmpp_item_worlds.specs.ItemWorlds.{ItemWorld}
 use Rattle.xmpp_links.proofs.Reached.{link_kept}
-use Rattle.xmpp_links.specs.Stages.{Conn, Ending, Greets, Stage, Stands, foot_of, phase_of, up_of}
+use Rattle.xmpp_links.specs.Machine.{LinkReached}
+use Rattle.xmpp_links.specs.Stages.{Ending, Greets, Stage, Stands, foot_of, phase_of, up_of}
 use Rattle.xmpp_links.specs.Views.{Table, View}
 use Rattle.xmpp_links.specs.Words.{AtSession, Challenge, Hdr, Phase, Ready, Restart, Sasl, Start, UpWord}
 use Rattle.xmpp_server_follows.proofs.Standing.{whole_first}
 use Rattle.xmpp_server_follows.specs.Taking.{HasFirst, IsFirst}
+use Rattle.xmpp_worlds_follow.proofs.Ups.{item_is_word}
+use Rattle.xmpp_worlds_follow.specs.Standing.{MayGoUp}
 use Rattle.xmpp_writer.specs.Items.{ItemOut}
 
 -- at the first row of the table the first word is the header
@@ -43,3 +49,8 @@ module _ (who : Identity) (logins : ℕ → Login) (h : Hall ItemOut) (wires : T
 
   pub item_may_come : (w : ItemWire) (i : ItemOut) → HasFirst who logins h wires v k w i → MayCome (writer_at k h) i
   item_may_come w i has first = subst IsOpening has.is (word_opens has.word has.first first)
+
+-- in a world, where the connection is one of the device's
+pub item_may_go_up : (who : Identity) (logins : ℕ → Login) (w : ItemWorld) (v : View ItemOut) (place : ℕ) → Shows who logins w v → LinkReached v → ((wire : ItemWire) → slice_get w.wires place ≡ Some wire → wire.device ≡ who.place) → MayGoUp (Up place) w
+item_may_go_up who logins w v place s reached its wire i items there first =
+    item_may_come who logins w.server (by_number w.wires) v (place + 1) wire i (item_is_word who logins w v place wire i items s reached there (its wire there) first)

@@ -3,4 +3,7 @@
 
 mod laws;
 
-pub use laws::{headers_come_first, items_go_down, users_are_followed};
+pub use laws::{
+    ends_go_up, headers_come_first, items_go_down, items_go_up, servers_stand, ticks_follow,
+    users_are_followed,
+};

@@ -22,6 +22,7 @@ use Rattle.xmpp_links.specs.Views.{View}
 use Rattle.xmpp_links_events.specs.Lists.{IsDevice}
 use Rattle.xmpp_links_in_time.specs.InTime.{paging_here}
 use Rattle.xmpp_log_readings.specs.Shown.{LogShows}
+use Rattle.xmpp_payload_laws.specs.AsRead.{last_moment}
 use Rattle.xmpp_schedule.specs.Contents.{Owned, accounts_of}
 use Rattle.xmpp_schedule.specs.Schedules.{WireView, keep_of}
 use Rattle.xmpp_server_numbers.specs.Unbound.{IsWithin}
@@ -142,11 +143,13 @@ IsAskedBy (CatchUp place most) w i d e = e.reading.asked ≤ d.reading.asked + (
 IsAskedBy (Down place) w i d e = IsAskedOnce d e × ((wire : ItemWire) → slice_get w.wires place ≡ Some wire → wire.device ≢ i → (e.reading.asked ≡ d.reading.asked) × (IsUnanswered d → IsUnanswered e))
 IsAskedBy m w i d e = e.reading.asked ≡ d.reading.asked
 
--- What is asked of a move beside that it may be: no more is said, asked for and dialled than is bounded.
+-- What is asked of a move beside that it may be: no more is said, asked for and dialled than is bounded, and what comes to
+-- a client comes before the last moment that has a stamp.
 abbrev pub IsInBounds : Bounds → ℕ → ItemMove → ItemWorld → World → Type 0
 IsInBounds b says (Say place to text private) w x = says + 1 ≤ b.says
 IsInBounds b says (CatchUp place most) w x = (d : Device) → slice_get x.devices place ≡ Some d → d.reading.asked ≤ b.pages
-IsInBounds b says (Down place) w x = (wire : ItemWire) (d : Device) → slice_get w.wires place ≡ Some wire → slice_get x.devices wire.device ≡ Some d → (d.reading.asked ≤ b.pages) ⊎ IsUnanswered d
+IsInBounds b says (Down place) w x =
+    ((wire : ItemWire) (d : Device) → slice_get w.wires place ≡ Some wire → slice_get x.devices wire.device ≡ Some d → (d.reading.asked ≤ b.pages) ⊎ IsUnanswered d) × (w.moment ≤ last_moment)
 IsInBounds b says (Dial place mine yours) w x = length w.wires + 1 ≤ b.dials
 IsInBounds b says m w x = Unit {0}
 

@@ -1,0 +1,2 @@
+//! A stanza comes down to a client: the worlds are beside one another still.
+#![tactic(auto)]

@@ -1,0 +1,5 @@
+pub mod Alike
+pub mod Put
+pub mod Along
+pub mod Staying
+pub mod Rest

@@ -1,0 +1,3 @@
+pub use Rattle.xmpp_edge.specs.Listed
+-- law: worlds with names of a schedule
+pub mod Named

@@ -1,0 +1,2 @@
+-- law: what comes but stanzas
+pub mod Coming

@@ -1,0 +1,4 @@
+pub mod FullQueues
+pub mod MessageEvents
+pub mod ReplyEvents
+pub mod DeedEvents

@@ -1,0 +1,2 @@
+pub mod BuiltAlong
+pub mod Going
