@@ -19,6 +19,8 @@ use Rattle.xmpp_sessions.specs.Histories.{Spoken, spoken_by, spoken_in}
 use Rattle.xmpp_worlds_run.specs.Running.{IsAskedBy, IsAskedOnce, IsInBounds, MoveRuns, WorldRuns, spoken_by_move}
 use Rattle.xmpp_schedules_run.specs.Besides.{EachMoveRuns, bounds}
 use Rattle.xmpp_schedules_run.proofs.Places.{MakesNone, here_at, here_of, up_makes, up_end_makes, tick_makes, down_makes, down_end_makes}
+use Rattle.xmpp_payload_laws.specs.AsRead.{last_moment}
+use Rattle.xmpp_schedules_run.proofs.Wires.{down_moment}
 use Rattle.xmpp_schedules_run.proofs.Places as places
 
 -- ---- states
@@ -157,8 +159,8 @@ module _ (schedule : WireView) (each : EachMoveRuns schedule) where
       by false v y here mid = stays schedule says v y (IsInRound n p v) here mid
 
   -- one item goes to a device
-  down_goes : (says place : ℕ) (w : ItemWorld) (x : World) (n : ℕ) → n ≤ 200000 → WorldRuns schedule bounds says w x → AreHanded n place w x → Goes schedule says (moved (Down place) w) x (AreHanded n place (moved (Down place) w))
-  down_goes says place w x n few runs handed = by (places.reaches place w)
+  down_goes : (says place : ℕ) (w : ItemWorld) (x : World) (n : ℕ) → n ≤ 200000 → w.moment ≤ last_moment → WorldRuns schedule bounds says w x → AreHanded n place w x → Goes schedule says (moved (Down place) w) x (AreHanded n place (moved (Down place) w))
+  down_goes says place w x n few timely runs handed = by (places.reaches place w)
     where
       by : places.Reaches place w → Goes schedule says (moved (Down place) w) x (AreHanded n place (moved (Down place) w))
       by (places.Nobody none) = subst (λ v. Goes schedule says v x (AreHanded n place v)) (sym none) (stays schedule says w x (AreHanded n place w) runs handed)
@@ -175,10 +177,10 @@ module _ (schedule : WireView) (each : EachMoveRuns schedule) where
           ])
         where
           within : IsInBounds bounds says (Down place) w x
-          within wire2 dev at2 there =
+          within = (λ wire2 dev at2 there.
               let same : wire2 ≡ wire = same_Some wire2 wire (sym at2 ∙ at) in
               let here : here_at wire2.device w ≡ Some place = ap (λ (y : ItemWire). here_at y.device w) same ∙ ap here_of found ∙ is_here in
-              elim ((handed wire2.device dev there).here here) [ inl low ↦ inl (omega arith) | inr none ↦ inr none ]
+              elim ((handed wire2.device dev there).here here) [ inl low ↦ inl (omega arith) | inr none ↦ inr none ], timely)
 
           this : (i : ℕ) (o e : Device) → IsHanded n place w i o → IsAskedOnce o e → here_at i w ≡ Some place → IsHanded n place (moved (Down place) w) i e
           this i o e known once here = record {
@@ -202,20 +204,20 @@ module _ (schedule : WireView) (each : EachMoveRuns schedule) where
             later = λ h still above. let low = known.later h (down_makes place w i h still) above in omega arith;
           }
 
-  downs_go : (says place count : ℕ) (w : ItemWorld) (x : World) (n : ℕ) → n ≤ 200000 → WorldRuns schedule bounds says w x → AreHanded n place w x →
+  downs_go : (says place count : ℕ) (w : ItemWorld) (x : World) (n : ℕ) → n ≤ 200000 → w.moment ≤ last_moment → WorldRuns schedule bounds says w x → AreHanded n place w x →
       Goes schedule says (all_moved (downs place count) w) x (AreHanded n place (all_moved (downs place count) w))
-  downs_go says place zero w x n few runs handed = stays schedule says w x (AreHanded n place w) runs handed
-  downs_go says place (suc count) w x n few runs handed =
-      then schedule says (moved (Down place) w) (all_moved (downs place count) (moved (Down place) w)) x (AreHanded n place (moved (Down place) w)) _ (down_goes says place w x n few runs handed)
-      (λ y here mid. downs_go says place count (moved (Down place) w) y n few here mid)
+  downs_go says place zero w x n few timely runs handed = stays schedule says w x (AreHanded n place w) runs handed
+  downs_go says place (suc count) w x n few timely runs handed =
+      then schedule says (moved (Down place) w) (all_moved (downs place count) (moved (Down place) w)) x (AreHanded n place (moved (Down place) w)) _ (down_goes says place w x n few timely runs handed)
+      (λ y here mid. downs_go says place count (moved (Down place) w) y n few (subst (λ k. k ≤ last_moment) (sym (down_moment place w)) timely) here mid)
 
   -- all that is handed to the device of a connection
-  pub down_line : (says place count : ℕ) (ended : Bool) (w : ItemWorld) (x : World) (n : ℕ) → n ≤ 200000 → WorldRuns schedule bounds says w x → IsInRound n place w x →
+  pub down_line : (says place count : ℕ) (ended : Bool) (w : ItemWorld) (x : World) (n : ℕ) → n ≤ 200000 → w.moment ≤ last_moment → WorldRuns schedule bounds says w x → IsInRound n place w x →
       Goes schedule says (all_moved (downs place count ++ moved_where (DownEnd place) ended) w) x (IsInRound n (place + 1) (all_moved (downs place count ++ moved_where (DownEnd place) ended) w))
-  down_line says place count ended w x n few runs round =
+  down_line says place count ended w x n few timely runs round =
       subst (λ v. Goes schedule says v x (IsInRound n (place + 1) v)) (sym (all_joined (downs place count) (moved_where (DownEnd place) ended) w))
       (then schedule says (all_moved (downs place count) w) (all_moved (moved_where (DownEnd place) ended) (all_moved (downs place count) w)) x (AreHanded n place (all_moved (downs place count) w)) _
-      (downs_go says place count w x n few runs (handed_of n place w x round))
+      (downs_go says place count w x n few timely runs (handed_of n place w x round))
       (λ y here mid. by ended (all_moved (downs place count) w) y here (round_behind n place (all_moved (downs place count) w) y mid)))
     where
       by : (b : Bool) (v : ItemWorld) (y : World) → WorldRuns schedule bounds says v y → IsInRound n (place + 1) v y → Goes schedule says (all_moved (moved_where (DownEnd place) b) v) y (IsInRound n (place + 1) (all_moved (moved_where (DownEnd place) b) v))
