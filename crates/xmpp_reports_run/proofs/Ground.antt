@@ -126,13 +126,13 @@ module _ (schedule : WireView) (right : IsWireSchedule schedule) (b : Bounds) (s
       let spoken = runs.led.spoken in
       all_three (λ t. IsNamedTake t.device t) (IsOfDevice x.accounts (length x.devices)) (λ t. IsNumberedWithin (b.dials + 1) (length (spoken_in runs.led.events)) t.said) (IsTellable (owned_of schedule))
       (λ t named of within.
-          let epoch = within.0 in
-          let n = within.1 in
-          record {
-            account = named.account;
-            device = named.device;
-            to = named_among t.said.to (names_of schedule) names (subst (λ accounts. is_among t.said.to accounts ≡ true) exist of.exists);
-            epoch = omega (arith, epoch, dials);
-            n = omega (arith, n, spoken, said, stanzas);
-          })
+      let epoch = within.0 in
+      let n = within.1 in
+      record {
+        account = named.account;
+        device = named.device;
+        to = named_among t.said.to (names_of schedule) names (subst (λ accounts. is_among t.said.to accounts ≡ true) exist of.exists);
+        epoch = omega (arith, epoch, dials);
+        n = omega (arith, n, spoken, said, stanzas);
+      })
       x.takes (by_device IsNamedTake (length x.devices) x.takes of_one placed) taken.placed numbered
