@@ -2,3 +2,4 @@ pub mod Places
 pub mod Rounds
 pub mod Wires
 pub mod ByteMoves
+pub mod SingleMoves
