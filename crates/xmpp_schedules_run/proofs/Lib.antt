@@ -3,3 +3,4 @@ pub mod Rounds
 pub mod Wires
 pub mod ByteMoves
 pub mod SingleMoves
+pub mod Lines
