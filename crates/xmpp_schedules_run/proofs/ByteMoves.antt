@@ -92,9 +92,11 @@ beside_joined : (schedule : WireView) (first second : List Move) (es fs : List (
 beside_joined schedule [] second [] fs W x one two = two
 beside_joined schedule [] second (e ∷ es) fs W x one two = absurd one
 beside_joined schedule (m ∷ first) second [] fs W x one two = absurd one
-beside_joined schedule (m ∷ first) second (e ∷ es) fs W x one two =
-    (one.0, beside_joined schedule first second es fs (moved m W) (state_after x e) one.1
-    (subst (GoBeside schedule second fs (all_moved first (moved m W))) (state_joined x e (flat_map (λ l. l) es)) two))
+beside_joined schedule (m ∷ first) second (e ∷ es) fs W x one two = (
+  one.0,
+  beside_joined schedule first second es fs (moved m W) (state_after x e) one.1
+      (subst (GoBeside schedule second fs (all_moved first (moved m W))) (state_joined x e (flat_map (λ l. l) es)) two),
+)
 
 pub and_then : (schedule : WireView) (mid says : ℕ) (said more : List Spoken) (first second : List Move) (W : wires.World) (x : World) (Mid Post : ItemWorld → World → Type 0) →
     LineGoes schedule 0 mid said first W x Mid →

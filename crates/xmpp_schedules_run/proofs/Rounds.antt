@@ -177,10 +177,13 @@ module _ (schedule : WireView) (each : EachMoveRuns schedule) where
           ])
         where
           within : IsInBounds bounds says (Down place) w x
-          within = (λ wire2 dev at2 there.
-              let same : wire2 ≡ wire = same_Some wire2 wire (sym at2 ∙ at) in
-              let here : here_at wire2.device w ≡ Some place = ap (λ (y : ItemWire). here_at y.device w) same ∙ ap here_of found ∙ is_here in
-              elim ((handed wire2.device dev there).here here) [ inl low ↦ inl (omega arith) | inr none ↦ inr none ], timely)
+          within = (
+            λ wire2 dev at2 there.
+                let same : wire2 ≡ wire = same_Some wire2 wire (sym at2 ∙ at) in
+                let here : here_at wire2.device w ≡ Some place = ap (λ (y : ItemWire). here_at y.device w) same ∙ ap here_of found ∙ is_here in
+                elim ((handed wire2.device dev there).here here) [ inl low ↦ inl (omega arith) | inr none ↦ inr none ],
+            timely,
+          )
 
           this : (i : ℕ) (o e : Device) → IsHanded n place w i o → IsAskedOnce o e → here_at i w ≡ Some place → IsHanded n place (moved (Down place) w) i e
           this i o e known once here = record {
