@@ -1,5 +1,5 @@
 -- A move that changes nothing leaves the worlds beside one another.
-use Rattle.std.proofs.Common.{◌≡◌, ℕ, ◌+◌, ◌≤◌, ◌==◌, Bool, true, false, List, [], ◌∷◌, Some, None, Err, length, refl, sym, ap, ◌∙◌, subst, if◌then◌else◌, arith, inl}
+use Rattle.std.proofs.Common.{◌≡◌, ℕ, ◌+◌, ◌≤◌, ◌==◌, Bool, true, false, List, [], Some, Err, length, refl, sym, ap, ◌∙◌, subst, if◌then◌else◌, arith, inl}
 use Rattle.std.proofs.lemmas.Option.{same_Some}
 use Rattle.std.specs.List.{slice_get}
 use Rattle.xmpp_client.specs.UserCalls.{catch_up_answer, catches_up, say_answer, says as says_turn}

@@ -1,30 +1,17 @@
-//! How the links of a device go on.
+//! What of a device goes on beside a world of items.
 ghost use Rattle.std.specs.Prelude.{◌≡◌, ◌++◌, ℕ, All, List, Some, slice_get};
 ghost use Rattle.xmpp_archive.specs.Entries.{EntryView};
-ghost use Rattle.xmpp_connections_follow.specs.Following.{WorldFollows};
 ghost use Rattle.xmpp_deeds_in_time.specs.Pages.{IsPaged};
-ghost use Rattle.xmpp_device_logins.specs.Devices.{identity_at};
-ghost use Rattle.xmpp_device_views.specs.Deeds.{Deed, gives_all, says_all};
-ghost use Rattle.xmpp_device_views.specs.Identities.{Login};
+ghost use Rattle.xmpp_device_views.specs.Deeds.{gives_all, says_all};
 ghost use Rattle.xmpp_item_worlds.specs.ItemWorlds.{ItemWorld};
-ghost use Rattle.xmpp_links.specs.Events.{Seen, seen};
-ghost use Rattle.xmpp_links_in_time.specs.InTime.{AreInTime};
+ghost use Rattle.xmpp_links.specs.Events.{Seen};
 ghost use Rattle.xmpp_schedule.specs.Contents.{Owned};
 ghost use Rattle.xmpp_schedule.specs.Schedules.{WireView};
 ghost use Rattle.xmpp_session_views.specs.Built.{IsDown, IsUp};
 ghost use Rattle.xmpp_sessions.specs.Devices.{Device, Take, World};
-ghost use Rattle.xmpp_worlds_run.specs.Going.{AllBuilt, ArePutBuilt, DeviceGoes};
-ghost use Rattle.xmpp_worlds_run.specs.Running.{Bounds, DeviceRuns, WorldRuns, history_for};
+ghost use Rattle.xmpp_worlds_run.specs.Going.{AllBuilt, ArePutBuilt};
+ghost use Rattle.xmpp_worlds_run.specs.Running.{Bounds, WorldRuns, history_for};
 ghost use Rattle.xmpp_writer.specs.Items.{ItemOut};
-
-/// A law: where the links of a device follow a move of the world, and what the device puts by it is put in time and built as
-/// it is read, they go on: they stay in time and prompt, the sessions that are seen of them have done these deeds, and all
-/// that is in these is built.
-pub fn devices_go_on()
-    ensures { (schedule : WireView) (w after : ItemWorld) (x : World) (i : ℕ) (o : Owned) (history : List EntryView) (done : List (Deed ItemOut)) (old : DeviceRuns schedule w x i o) (logins : ℕ → Login)
-        → WorldFollows (identity_at schedule i o) logins after old.view done → AreInTime done old.device.sessions.now → ArePutBuilt o history done → AllBuilt o history (seen old.view)
-        → DeviceGoes schedule after i o history done old.device.sessions }
-{}
 
 /// A law: what is built stays so where the account's history grows (`one`, `all`), as it does where more is taken
 /// (`takes`). And stanzas that are built each are built as the deeds that put them (`gives`, `says`).

@@ -1,6 +1,6 @@
-//! Laws: how the links of a device go on beside a world of items, with its sessions and what is built in them.
+//! Laws: beside a world of items what is built stays built, and the pages of each device are in time.
 #![tactic(auto)]
 
 mod laws;
 
-pub use laws::{devices_are_paged, devices_go_on, what_is_built_stays};
+pub use laws::{devices_are_paged, what_is_built_stays};
