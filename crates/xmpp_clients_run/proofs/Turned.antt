@@ -8,6 +8,7 @@ use Rattle.xmpp_client_rows.specs.Clients.{Turn}
 use Rattle.xmpp_client_rows.specs.declared.account.Account.{Account}
 use Rattle.xmpp_clients_run.proofs.Drifted.{IsDriftedTo, drifted_to, same_ups}
 use Rattle.xmpp_clients_run.proofs.Next.{IsNextRead, IsNextStanza, next_read}
+use Rattle.xmpp_device_logins.specs.Devices.{identity_at}
 use Rattle.xmpp_device_views.specs.Deeds.{Deed, Reads, says_all}
 use Rattle.xmpp_device_views.specs.Reading.{noted, turn_on}
 use Rattle.xmpp_item_stanzas.proofs.ItemsUp.{request_read}
@@ -27,6 +28,7 @@ use Rattle.xmpp_schedule.specs.Schedules.{WireView}
 use Rattle.xmpp_session_deeds.proofs.Sorted.{drifts_first}
 use Rattle.xmpp_session_deeds.specs.Deeds.{DoesAll, DoesAmid, Drift, Drifts, IsPlain as IsPlainDeed, drift_events, with_device}
 use Rattle.xmpp_session_views.specs.Built.{IsUpAs}
+use Rattle.xmpp_session_views.specs.Served.{FlagsShow}
 use Rattle.xmpp_session_views.specs.Submitted.{SubmissionsShow}
 use Rattle.xmpp_sessions.specs.Devices.{Device, Reading, Sessions, World}
 use Rattle.xmpp_sessions.specs.Events as events
@@ -136,7 +138,7 @@ module _ (schedule : WireView) (w : ItemWorld) (x : World) (i : ℕ) (o : Owned)
       (subst (λ keep. IsCounted keep a b.page (down_stanza z)) k.keeps (counted x k.read i old.device old.there nr.online (down_stanza z) nr.rest nr.first))
       (well x k.read i old.device old.there nr.online (down_stanza z) nr.rest nr.first k.taken)).goes_on (room_for s reaction.request k.short)
 
-  asked_well : IfSome reaction.request IsRequest
+  pub asked_well : IfSome reaction.request IsRequest
   asked_well = is_request o reaction.request read_so.request
 
   -- ---- the device of the applications
@@ -183,3 +185,7 @@ module _ (schedule : WireView) (w : ItemWorld) (x : World) (i : ℕ) (o : Owned)
         reaction_told d.client t.client there s (down_stanza z) sorted.3.1.rest reaction.request (same_told d.client old.device.sessions there (same_ups old.device.sessions there to_there) old.submissions) acked
         (record { epoch = read_so.epoch; n = read_so.n; said = read_so.said }) k.next.has
         (read_so.session ∙ ap (λ q. Some (with_waiting s q)) (same_waiting s.waiting reaction.request))
+
+    -- the session at the server is the same, and no device comes to one by drifts
+    pub flags_so : FlagsShow (identity_at schedule i o).account o.device w.server behind.sessions
+    flags_so present u at = (let f = old.flags (to_there.row present) u at in (f.0 ∙ sym to_there.available, f.1 ∙ sym to_there.carbons, f.2))
