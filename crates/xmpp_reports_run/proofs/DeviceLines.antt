@@ -1,5 +1,5 @@
 -- The lines of devices.
-use Rattle.std.proofs.Common.{◌≡◌, ℕ, zero, suc, ◌+◌, ◌<◌, ◌^◌, true, List, [], ◌∷◌, Option, Some, length, map, refl, sym, ap, subst, ◌∙◌, arith}
+use Rattle.std.proofs.Common.{◌≡◌, ℕ, suc, List, [], ◌∷◌, Some, length, map, refl, sym, ap, subst, ◌∙◌, arith}
 use Rattle.std.proofs.lemmas.List.{length-map}
 use Rattle.std.proofs.lemmas.Option.{same_Some, slice_get-map}
 use Rattle.std.specs.Option.{option_map}
@@ -17,7 +17,6 @@ use Rattle.xmpp_log.specs.Views.{LogView}
 use Rattle.xmpp_log_readings.specs.Shown.{IsReadingGiven}
 use Rattle.xmpp_outbox.specs.Submissions.{all_said}
 use Rattle.xmpp_readings_known.proofs.Readings.{reading_given}
-use Rattle.xmpp_report.specs.Reports.{DeviceView}
 use Rattle.xmpp_reports_run.proofs.Ground.{few_takes, keeps, read}
 use Rattle.xmpp_reports_run.proofs.LogLines.{AreLogLines, log_lines}
 use Rattle.xmpp_reports_run.proofs.Settled.{device_image, settled_device}
@@ -33,7 +32,7 @@ use Rattle.xmpp_world.specs.WorldReports.{device_line_of}
 use Rattle.xmpp_world.specs.Worlds.{World}
 use Rattle.xmpp_worlds_kept.specs.Kept.{IsKept, owned_by}
 use Rattle.xmpp_worlds_run.specs.Running.{AreSmall, Bounds, DeviceRuns, WorldRuns, keep_in}
-use Rattle.xmpp_writer.specs.Items.{ItemOut, written_item}
+use Rattle.xmpp_writer.specs.Items.{written_item}
 
 module _ (schedule : WireView) (right : IsWireSchedule schedule) (b : Bounds) (small : AreSmall b) (says : ℕ) (w : World) (v : ItemWorld) (x : sessions.World) (kept : IsKept schedule w) (image : WorldImage UpFits DownFits (StandingHalls HallFits) ClientFits w v)
     (runs : WorldRuns schedule b says v x) where

@@ -1,5 +1,5 @@
 -- What is known of a world of the applications that stands beside a world of items.
-use Rattle.std.proofs.Common.{◌≡◌, ℕ, zero, suc, ◌+◌, ◌*◌, ◌<◌, ◌≤◌, ◌^◌, Bool, true, false, List, [], ◌∷◌, Option, Some, length, refl, sym, ap, subst, ◌∙◌, arith, inl, inr}
+use Rattle.std.proofs.Common.{◌≡◌, ℕ, zero, suc, ◌+◌, ◌<◌, ◌≤◌, ◌^◌, true, List, [], ◌∷◌, Some, length, refl, sym, subst, ◌∙◌, arith, inl, inr}
 use Rattle.std.proofs.lemmas.Bool.{cases_Bool, false≢true}
 use Rattle.std.proofs.lemmas.Option.{same_Some, slice_get_within}
 use Rattle.std.proofs.lemmas.Slice.Eq.{bytes_eq-Decides}
@@ -14,9 +14,9 @@ use Rattle.xmpp_device_views.specs.Deeds.{awaits}
 use Rattle.xmpp_links_counted.proofs.Counted.{epochs}
 use Rattle.xmpp_item_stanzas.specs.Items.{stanzas_read}
 use Rattle.xmpp_reports_run.proofs.TakeLines.{IsTellable}
-use Rattle.xmpp_schedule.specs.Contents.{Owned, accounts_of}
+use Rattle.xmpp_schedule.specs.Contents.{Owned}
 use Rattle.xmpp_schedule.specs.Grammar.{is_name}
-use Rattle.xmpp_schedule.specs.Schedules.{WireView, keep_of}
+use Rattle.xmpp_schedule.specs.Schedules.{WireView}
 use Rattle.xmpp_schedule.specs.WireGrammar.{IsWireSchedule}
 use Rattle.xmpp_session_counts.proofs.Said.{takes_few}
 use Rattle.xmpp_session_counts.proofs.Taken.{of_all}
@@ -31,7 +31,7 @@ use Rattle.xmpp_sessions.specs.Kept.{IsOfDevice, Read, Taken, is_of}
 use Rattle.xmpp_sessions_laws.proofs.Ground.{by_device}
 use Rattle.xmpp_sessions_laws.proofs.Owners.{name_is}
 use Rattle.xmpp_sessions_laws.specs.Reported.{name_at}
-use Rattle.xmpp_sessions_laws.specs.Runs.{begins, owned_of, steps_in}
+use Rattle.xmpp_sessions_laws.specs.Runs.{begins, owned_of}
 use Rattle.xmpp_world.proofs.Declares.{are_accounts, are_names, some_kept}
 use Rattle.xmpp_world.proofs.Traces.{may_run_all}
 use Rattle.xmpp_world.specs.Declaring.{AreNames}

@@ -1,16 +1,14 @@
 -- The lines of a log that shows a reading are those of the reading.
-use Rattle.std.proofs.Common.{◌≡◌, ℕ, zero, suc, ◌+◌, ◌-◌, ◌≤◌, List, [], ◌∷◌, ◌++◌, Option, Some, None, length, map, drop, take, refl, sym, ap, ap₂, subst, ◌∙◌, arith}
+use Rattle.std.proofs.Common.{◌≡◌, ℕ, ◌-◌, List, [], ◌∷◌, ◌++◌, Option, Some, None, length, map, drop, take, refl, sym, ap, ap₂, subst, ◌∙◌}
 use Rattle.std.proofs.Math.Seq.{drop-append_seam, take-append_seam}
 use Rattle.std.specs.Option.{option_map}
 use Rattle.xmpp_archive.specs.Entries.{EntryView}
 use Rattle.xmpp_archive.specs.Ids.{id_of}
 use Rattle.xmpp_devices.specs.DeviceLines as devices
 use Rattle.xmpp_devices.specs.DeviceLines.{underway_lines}
-use Rattle.xmpp_direct.specs.Direct.{as_logged}
 use Rattle.xmpp_log.specs.LogPages as pages
 use Rattle.xmpp_log.specs.LogPages.{LogPage, tile_of}
 use Rattle.xmpp_log.specs.Views.{LogView}
-use Rattle.xmpp_log.specs.declared.log_entry.LogEntry.{LogEntry}
 use Rattle.xmpp_log_readings.proofs.Entries.{at_both, length_at, logged_at}
 use Rattle.xmpp_log_readings.specs.Shown.{AreGiven, ArePageGiven, IsReadingGiven, LogShows, id_logged, page_shown, tile_shown}
 use Rattle.xmpp_report.proofs.LoggedLines.{logged_by-pages}

@@ -1,8 +1,8 @@
 -- What a world of bytes shows.
-use Rattle.std.proofs.Common.{◌≡◌, ℕ, zero, suc, ◌+◌, ◌<◌, Bool, true, false, cond, List, [], ◌∷◌, Option, Some, None, length, map, refl, sym, ap, subst, ◌∙◌, arith, inl, inr}
+use Rattle.std.proofs.Common.{◌≡◌, ℕ, zero, suc, ◌+◌, true, false, cond, List, [], ◌∷◌, Option, Some, None, length, map, refl, sym, ap, subst, ◌∙◌, arith, inl, inr}
 use Rattle.std.proofs.lemmas.Bool.{cases_Bool, false≢true}
 use Rattle.std.proofs.lemmas.List.{length-map}
-use Rattle.std.proofs.lemmas.Option.{none-some, same_Some, slice_get-map}
+use Rattle.std.proofs.lemmas.Option.{none-some, same_Some}
 use Rattle.std.proofs.lemmas.Slice.Eq.{bytes_eq-Decides}
 use Rattle.std.specs.Option.{option_map}
 use Rattle.std.specs.Prelude.{drop, slice_get}
@@ -17,7 +17,6 @@ use Rattle.xmpp_edge.specs.Names.{is_among}
 use Rattle.xmpp_images.specs.Stands.{StandingHalls}
 use Rattle.xmpp_images.specs.WorldImages.{WorldImage}
 use Rattle.xmpp_item_worlds.specs.ItemWorlds.{ItemWorld}
-use Rattle.xmpp_log.specs.Views as log
 use Rattle.xmpp_log.specs.Views.{LogView}
 use Rattle.xmpp_log.specs.declared.log_entry.LogEntry.{LogEntry}
 use Rattle.xmpp_log.specs.declared.tile.Tile.{Tile}
@@ -27,12 +26,12 @@ use Rattle.xmpp_reports_run.proofs.Ground.{exist, keeps}
 use Rattle.xmpp_reports_run.proofs.Settled.{device_image}
 use Rattle.xmpp_reports_run.proofs.WorldTold.{archive_is}
 use Rattle.xmpp_reports_run.specs.ShownWorlds.{asked_in, entries_for, log_named, pages_cut, pages_in, shown_of, underway}
-use Rattle.xmpp_schedule.specs.Contents.{Owned, owned_in}
+use Rattle.xmpp_schedule.specs.Contents.{Owned}
 use Rattle.xmpp_schedule.specs.Schedules.{WireView}
 use Rattle.xmpp_schedule.specs.WireGrammar.{IsWireSchedule, nothing_above}
 use Rattle.xmpp_sessions.specs.Devices as sessions
 use Rattle.xmpp_sessions.specs.Devices.{Device, OpenPage, Reading}
-use Rattle.xmpp_sessions.specs.Histories.{asked_of, asked_with}
+use Rattle.xmpp_sessions.specs.Histories.{asked_with}
 use Rattle.xmpp_sessions_laws.proofs.Owners.{Differ, name_other, names_differ, names_of}
 use Rattle.xmpp_sessions_laws.proofs.WireSteps.{wire_stand}
 use Rattle.xmpp_sessions_laws.specs.Reported.{IsShown, history_at}

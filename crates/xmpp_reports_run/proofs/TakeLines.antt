@@ -1,5 +1,5 @@
 -- The line of a take is told by its addresses and its origin id.
-use Rattle.std.proofs.Common.{◌≡◌, ℕ, ◌<◌, ◌^◌, ◌==◌, Bool, true, false, not, ◌||◌, ◌&&◌, List, [], ◌∷◌, ◌++◌, decimal, map, refl, sym, ap, ap₂, subst, ◌∙◌, arith, append_assoc}
+use Rattle.std.proofs.Common.{◌≡◌, ℕ, ◌<◌, ◌^◌, true, not, ◌||◌, ◌&&◌, List, [], ◌∷◌, ◌++◌, decimal, map, refl, ap, ap₂, subst, ◌∙◌, arith, append_assoc}
 use Rattle.std.proofs.lemmas.Bool.{and_from, and_parts, or_left}
 use Rattle.std.proofs.lemmas.Bool.Decides.{nat_tests}
 use Rattle.std.proofs.lemmas.Fmt.{decimal_is_IsNumeral}
@@ -15,7 +15,6 @@ use Rattle.xmpp_payload.proofs.Numbers.{written_number}
 use Rattle.xmpp_report.specs.Addresses.{bare_address, domain, full_address, origin_of}
 use Rattle.xmpp_report.specs.Lines.{take_line}
 use Rattle.xmpp_report.specs.declared.report.TakeLine.{TakeLine}
-use Rattle.xmpp_schedule.proofs.Lists.{map-map}
 use Rattle.xmpp_schedule.specs.Contents.{Owned}
 use Rattle.xmpp_schedule.specs.Grammar.{is_digit, is_lower, is_name}
 use Rattle.xmpp_schedule.specs.declared.schedule.Version.{Version}

@@ -1,13 +1,11 @@
 -- The report of a world.
-use Rattle.std.proofs.Common.{◌≡◌, ℕ, List, Some, map, refl, sym, ap, ap₂, subst, ◌∙◌}
+use Rattle.std.proofs.Common.{◌≡◌, ℕ, List, Some, map, refl, ap, ap₂, ◌∙◌}
 use Rattle.std.specs.Prelude.{slice_get}
-use Rattle.xmpp_archive.specs.Entries.{EntryView}
 use Rattle.xmpp_cores_keep.specs.Mild.{ClientFits, DownFits, HallFits, UpFits}
-use Rattle.xmpp_desk.specs.State.{Hall, Kept}
+use Rattle.xmpp_desk.specs.State.{Hall}
 use Rattle.xmpp_images.specs.Stands.{StandingHalls}
 use Rattle.xmpp_images.specs.WorldImages.{WorldImage, line_told}
 use Rattle.xmpp_item_worlds.specs.ItemWorlds.{ItemWorld}
-use Rattle.xmpp_report.specs.declared.report.TakeLine.{TakeLine}
 use Rattle.xmpp_reports_run.proofs.AccountLines.{archive_of_name, lines_are}
 use Rattle.xmpp_reports_run.proofs.DeviceLines.{all_told}
 use Rattle.xmpp_reports_run.proofs.Ground.{tellable}
