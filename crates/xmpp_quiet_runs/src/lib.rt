@@ -3,4 +3,4 @@
 
 mod laws;
 
-pub use laws::{quiet_worlds_run};
+pub use laws::quiet_worlds_run;
