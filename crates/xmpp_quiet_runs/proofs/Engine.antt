@@ -76,24 +76,6 @@ module _ (schedule : WireView) (b : Bounds) (says : ℕ) (w : ItemWorld) (x : Wo
         let xs = gone.amid.0 in
         let leads = gone.amid.1 in (
           record { drifts = xs; last = gone.end; leads = leads },
-<<<<<<< HEAD
-          o,
-          owned,
-          record {
-            logins = gone.logins;
-            view = gone.view;
-            in_time = gone.in_time;
-            prompt = gone.prompt;
-            shows = gone.shows;
-            account = old.account;
-            sessions = gone.sessions;
-            built = gone.built;
-            submissions = same_submissions old.shows.device.client gone.shows.device.client gone.end user (drifts_show_submissions xs old.shows.device.client old.device.sessions gone.end leads old.submissions);
-            log = subst (λ l. LogShows (keep_in schedule) (history_for schedule x.takes o) l old.device.reading) (sym user.log) old.log;
-            pages = user.pages ∙ old.pages;
-            flags = flags_behind stanzas_read (identity_at schedule i o) w.server after.server old.logins gone.logins old.view gone.view (link_kept gone.view gone.reached) old.shows.server gone.shows.server old.device.sessions gone.end old.sessions gone.sessions xs leads bare old.flags move.flags;
-          },
-=======
           (
             o,
             owned,
@@ -112,7 +94,6 @@ module _ (schedule : WireView) (b : Bounds) (says : ℕ) (w : ItemWorld) (x : Wo
               flags = flags_behind stanzas_read (identity_at schedule i o) w.server after.server old.logins gone.logins old.view gone.view (link_kept gone.view gone.reached) old.shows.server gone.shows.server old.device.sessions gone.end old.sessions gone.sessions xs leads bare old.flags move.flags;
             },
           ),
->>>>>>> 631215c45bc1a7c5f0b9b60e8ceb3c1e9988a165
         )
 
   device_stands : (i : ℕ) (d : Device) → slice_get x.devices i ≡ Some d → (y : IsDrifted d) × IsSo schedule after x i d y.last
