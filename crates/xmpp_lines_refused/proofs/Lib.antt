@@ -1,0 +1,3 @@
+pub mod MovesRefused
+pub mod NamesApart
+pub mod LinesRefused
