@@ -1,2 +1,0 @@
-//! A stanza comes down to a client: the worlds are beside one another still.
-#![tactic(auto)]
