@@ -3,4 +3,4 @@
 
 mod laws;
 
-pub use laws::replies_are_answers;
+pub use laws::{messages_are_heard, replies_are_answers};

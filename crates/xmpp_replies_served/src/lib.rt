@@ -3,4 +3,4 @@
 
 mod laws;
 
-pub use laws::replies_are_served;
+pub use laws::{replies_are_served, replies_leave_the_server_running};

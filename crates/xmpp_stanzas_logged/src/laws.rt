@@ -27,16 +27,16 @@ pub fn stanzas_are_logged()
 {}
 
 /// A law: where that reaction is to ask for a page, and as many stanzas wait in the session as may, the client leaves the
-/// connection instead, and no page is open. Its log shows the reading still.
+/// connection instead; its log shows the reading but for the page, of which none is open.
 pub fn full_clients_leave()
     ensures { (o : Owned) (keep : ℕ) (history : List EntryView) (d : ItemDevice) (s : SessionView ItemOut) (b : Reading) (z : ItemOut) (a : Around)
         → IsOnline o keep history d s b → IsPlain history → IsDown o history z → IsCounted keep a b.page (down_stanza z) → (reads a (down_stanza z) b).reading.faulty ≡ false → (r : Request)
         → (reads a (down_stanza z) b).request ≡ Some r → is_full s.waiting ≡ true → IsLeftAs keep history d s z (reads a (down_stanza z) b) (turn_on z d) }
 {}
 
-/// A law: the history of an account that the takes of named devices make has only entries that are read as they are. So it
-/// is of each account of a schedule: of its at most 100,000 lines each moves the clock on by at most 1,000,000,000
-/// milliseconds, which all together are fewer than those until the last moment that has a stamp.
+/// A law: the history of an account that the takes of named devices make, at moments that have a stamp, has only entries
+/// that are read as they are. (A schedule of 100,000 lines, each of which moves the clock on by at most 1,000,000,000
+/// milliseconds, comes to no later moment.)
 pub fn histories_are_plain()
     ensures { (owned : List Owned) (takes : List Take) (account : List ℕ) → AllByRecursion (IsNamedTake owned) takes → length takes < 2 ^ 64 → IsPlain (history_at owned takes account) }
 {}
