@@ -1,0 +1,4 @@
+pub mod Lists
+pub mod FirstServers
+pub mod FirstDevices
+pub mod Beginning
