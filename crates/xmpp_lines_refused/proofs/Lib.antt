@@ -1,3 +1,5 @@
 pub mod MovesRefused
 pub mod NamesApart
 pub mod LinesRefused
+pub mod QuietMoves
+pub mod LinesAnswered

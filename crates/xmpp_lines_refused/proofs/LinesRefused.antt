@@ -129,7 +129,7 @@ same_names place lines [] = refl
 same_names zero lines (n ∷ ns) = refl
 same_names (suc place) lines (n ∷ ns) = ap (λ names. n.name ∷ names) (same_names place lines ns)
 
-move_names : (m : Move) (w : World) → names_of (noted_in w) ≡ names_of (noted_behind m w)
+pub move_names : (m : Move) (w : World) → names_of (noted_in w) ≡ names_of (noted_behind m w)
 move_names (moves.Dial place) w = refl
 move_names (moves.Forget place) w = refl
 move_names (moves.Close place) w = refl

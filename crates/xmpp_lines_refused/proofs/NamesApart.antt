@@ -42,7 +42,7 @@ with_new (n ∷ names) name are new =
 
 -- ---- the lines of a schedule
 
-abbrev names_by : List Step → List (List ℕ)
+abbrev pub names_by : List Step → List (List ℕ)
 names_by steps = map (λ (o : Owned). o.device) (owned_in steps)
 
 isnt : (b : Bool) → not b ≡ true → b ≡ false
@@ -87,7 +87,7 @@ by_lines above n (line ∷ lines) are apart =
 abbrev pub names_of : List Noted → List (List ℕ)
 names_of ns = map (λ (n : Noted). n.name) ns
 
-first_names : (os : List Owned) → map (λ (o : Owned). o.device) os ≡ names_of (map noted_of (map owned_at_start os))
+pub first_names : (os : List Owned) → map (λ (o : Owned). o.device) os ≡ names_of (map noted_of (map owned_at_start os))
 first_names [] = refl
 first_names (o ∷ os) = ap (λ ns. o.device ∷ ns) (first_names os)
 

@@ -3,4 +3,4 @@
 
 mod laws;
 
-pub use laws::{lines_are_refused, moves_leave_refused};
+pub use laws::{lines_are_answered, lines_are_refused, moves_leave_refused};
