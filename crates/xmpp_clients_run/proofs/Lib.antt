@@ -1,0 +1,5 @@
+pub mod Next
+pub mod Drifted
+pub mod Turned
+pub mod Alone
+pub mod Downs
