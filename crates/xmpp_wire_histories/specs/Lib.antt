@@ -1,0 +1,5 @@
+pub use Rattle.xmpp_edge.specs.Listed
+-- law: the sessions of a device in a world
+pub mod Pairs
+-- law: what changes nothing
+pub mod Untouched
