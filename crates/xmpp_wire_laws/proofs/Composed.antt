@@ -115,7 +115,7 @@ module _ (s : WireView) (right : IsWireSchedule s) where
       omega arith
 
   -- each device's epoch is no higher than the numbers that the server gave
-  epoch_of_device : (says : ℕ) (v : ItemWorld) (x : sessions.World) (runs : WorldRuns s bounds says v x) (i : ℕ) (d : sessions.Device) → slice_get x.devices i ≡ Some d → sessions.epoch_of d.sessions ≤ 10001
+  pub epoch_of_device : (says : ℕ) (v : ItemWorld) (x : sessions.World) (runs : WorldRuns s bounds says v x) (i : ℕ) (d : sessions.Device) → slice_get x.devices i ≡ Some d → sessions.epoch_of d.sessions ≤ 10001
   epoch_of_device says v x runs i d at =
       let size = slice_get_within x.devices i d at in
       let many = runs.many_there in
@@ -138,13 +138,18 @@ module _ (s : WireView) (right : IsWireSchedule s) where
       (λ t few. let epoch = few.0 in let n = few.1 in (omega arith, omega arith))
       (of_all _ _ _ led.events x 10001 led.reaches (epoch_of_device beside.says beside.items x beside.runs))
 
-  pub run_of : (runs : ScheduleRuns s) → IsRunOf s (map shown_of (history_of s)) (report_of (world_of s))
+  -- behind the last line the world that it leads to is beside the last one of the applications
+  pub last_beside : (runs : ScheduleRuns s) → IsKept s (world_of s) × AreBeside s (world_of s) runs.last
   unfolding world_of
-  run_of sr =
-      let start = kept_first s in
-      let end = along_lines s.lines sr.runs (world_at_start s) (begins s) start sr.first sr.go in
+  last_beside sr =
+      let end = along_lines s.lines sr.runs (world_at_start s) (begins s) (kept_first s) sr.first sr.go in
       let is = reaches_is (joined (moves_of sr.runs)) (begins s) sr.last sr.reaches in
-      let last : AreBeside s (world_of s) sr.last = subst (AreBeside s (world_of s)) (sym is) end.1 in
+      (end.0, subst (AreBeside s (world_of s)) (sym is) end.1)
+
+  pub run_of : (runs : ScheduleRuns s) → IsRunOf s (map shown_of (history_of s)) (report_of (world_of s))
+  run_of sr =
+      let end = last_beside sr in
+      let last = end.1 in
       let told = reported s bounds last.says (world_of s) last.items sr.last right small end.0 last.image last.runs in
       record {
         right = right;
@@ -154,14 +159,15 @@ module _ (s : WireView) (right : IsWireSchedule s) where
         last = sr.last;
         reaches = sr.reaches;
         few = few_of (world_of s) sr.last last;
-        shown = show_lines s.lines sr.runs (world_at_start s) (begins s) start sr.first sr.go;
+        shown = show_lines s.lines sr.runs (world_at_start s) (begins s) (kept_first s) sr.first sr.go;
         reported = record { version = told.version; wire = told.wire; takes = told.takes; accounts = told.accounts; devices = told.devices; refused = sr.refused };
       }
 
+  pub last_is : (runs : ScheduleRuns s) → (run_of runs).last ≡ runs.last
+  unfolding run_of
+  last_is sr = refl
+
   pub lawful : (runs : ScheduleRuns s) → KeepsLaws (map shown_of (history_of s)) (seen_of s) (report_of (world_of s))
-  unfolding world_of run_of
   lawful sr =
-      let start = kept_first s in
-      let end = along_lines s.lines sr.runs (world_at_start s) (begins s) start sr.first sr.go in
-      let is = reaches_is (joined (moves_of sr.runs)) (begins s) sr.last sr.reaches in
-      laws_kept s (map shown_of (history_of s)) (report_of (world_of s)) (run_of sr) (counted_of (world_of s) sr.last (subst (AreBeside s (world_of s)) (sym is) end.1))
+      laws_kept s (map shown_of (history_of s)) (report_of (world_of s)) (run_of sr)
+      (subst AreCounted (sym (last_is sr)) (counted_of (world_of s) sr.last (last_beside sr).1))
