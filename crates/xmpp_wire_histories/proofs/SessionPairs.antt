@@ -40,8 +40,8 @@ use Rattle.xmpp_world.specs.Histories.{common_steps}
 use Rattle.xmpp_world.specs.Worlds.{World}
 use Rattle.xmpp_writer.specs.Items.{ItemOut, written_item}
 
-abbrev pair_of : links.Session ItemOut → Pair
-pair_of t = record { up = t.up; down = t.down }
+abbrev pub pair_of : links.Session ItemOut → Pair
+pair_of t = record { epoch = t.epoch; up = t.up; down = t.down }
 
 module _ (v : View ItemOut) (kept : LinkKept v) where
   abbrev pairs_of : ℕ → Option Pair
@@ -117,6 +117,11 @@ pairs_here s W x beside i o owned =
           let turned : option_map (client.session_turned written_item) found.other.client.session ≡ Some t = sym (ap (λ c. c.session) found.holds.client) ∙ at in
           client_by dr.view kept dr.view.own found.other.client.session t refl (subst (λ (e : ItemDevice). IsOwnShown dr.view.own e.client.session) (sym same) dr.shows.client.own) turned;
     }
+
+pub pairs_are : (s : WireView) (W : World) (x : sessions.World) (beside : AreBeside s W x) (i : ℕ) (o : Owned) (owned : slice_get (owned_of s) i ≡ Some o) →
+    (pairs_here s W x beside i o owned).pairs ≡ (λ number. option_map pair_of ((beside.runs.devices i o owned).view.sessions number))
+unfolding pairs_here
+pairs_are s W x beside i o owned = refl
 
 pub delivered : (p : Pair) → IsPair p → IsPrefix p.up.got p.up.put × IsPrefix p.down.got p.down.put × (p.up.acked ≤ length p.up.got) × (p.down.acked ≤ length p.down.got)
 delivered p is =

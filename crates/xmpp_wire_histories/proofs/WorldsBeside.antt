@@ -15,6 +15,9 @@ use Rattle.xmpp_world.specs.Histories.{history_of, world_at_start, worlds_along,
 use Rattle.xmpp_world.specs.Lines.{moves_of, stepped}
 use Rattle.xmpp_world.specs.Moves.{Move, moved}
 use Rattle.xmpp_world.specs.Worlds.{World}
+use Rattle.xmpp_world_takes.proofs.BookedMoves.{each_world}
+use Rattle.xmpp_worlds_kept.proofs.MovesKept.{kept_behind, kept_first}
+use Rattle.xmpp_worlds_kept.specs.Kept.{IsKept}
 
 abbrev pub HasBeside : WireView → World → Type 0
 HasBeside s W = (x : sessions.World) × AreBeside s W x
@@ -37,3 +40,6 @@ pub beside_at : (s : WireView) → ScheduleRuns s → (j : ℕ) (W : World) → 
 beside_at s runs j W at =
     let all : AllByRecursion (HasBeside s) (history_of s) = ((begins s, runs.first), lines_beside s s.lines runs.runs (world_at_start s) (begins s) runs.go) in
     subst (λ o. IfSome o (HasBeside s)) at (all_at (HasBeside s) (history_of s) j all)
+
+pub kept_at : (s : WireView) (j : ℕ) (W : World) → slice_get (history_of s) j ≡ Some W → IsKept s W
+kept_at s j W at = subst (λ o. IfSome o (IsKept s)) at (all_at (IsKept s) (history_of s) j (each_world (IsKept s) (kept_behind s) s (kept_first s)))

@@ -14,8 +14,10 @@ use Rattle.xmpp_world.specs.Histories.{common_steps}
 use Rattle.xmpp_world.specs.Worlds.{World}
 use Rattle.xmpp_writer.specs.Items.{ItemOut, written_item}
 
--- a session: what goes up to the server, and what comes down to the client
+-- a session: the epoch that it got when its client read that it was bound; what goes up to the server, and what comes down to
+-- the client
 pub record Pair : Type 0 where
+  pub epoch : Option ℕ
   pub up : Direction ItemOut
   pub down : Direction ItemOut
 
