@@ -1,11 +1,11 @@
 -- Lists of the sessions of a device, one session after the other: those of an epoch are those of its session.
-use Rattle.std.proofs.Common.{◌≡◌, ◌≢◌, ℕ, zero, suc, ◌+◌, ◌-◌, ◌<◌, ◌==◌, cond, true, false, List, [], ◌∷◌, ◌++◌, Some, length, map, refl, sym, ap, ap₂, ◌∙◌, subst, arith, append_assoc, inl, inr}
+use Rattle.std.proofs.Common.{◌≡◌, ◌≢◌, ℕ, zero, suc, ◌+◌, ◌-◌, ◌<◌, ◌==◌, cond, false, List, [], ◌∷◌, ◌++◌, Some, length, map, refl, sym, ap, ap₂, ◌∙◌, subst, arith, append_assoc, inl, inr}
 use Rattle.std.proofs.lemmas.Bool.{eq-eqb}
 use Rattle.std.proofs.lemmas.Bool.Decides.{eqb_tells}
 use Rattle.std.proofs.lemmas.List.{append-nil, map-append}
 use Rattle.std.proofs.lemmas.List.Elements.{filter-append}
 use Rattle.std.proofs.lemmas.Option.{none-some, same_Some}
-use Rattle.std.specs.List.{AllByRecursion, filter, flat_map, slice_get}
+use Rattle.std.specs.List.{AllByRecursion, flat_map, slice_get}
 use Rattle.xmpp_schedule.proofs.Lists.{all_filter, all_front, all_map}
 use Rattle.xmpp_sessions.proofs.Numbered.{messages_append}
 use Rattle.xmpp_sessions.specs.Devices.{Session, up_put}

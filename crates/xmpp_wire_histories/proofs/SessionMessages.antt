@@ -1,10 +1,9 @@
 -- In a world beside the applications the messages of a session are those that lines of a report tell of its epoch.
-use Rattle.std.proofs.Common.{◌≡◌, ℕ, ◌+◌, ◌<◌, ◌≤◌, leb, true, false, List, [], ◌∷◌, ◌++◌, Option, None, Some, length, map, refl, sym, ap, ap₂, ◌∙◌, subst, arith, inl, inr}
+use Rattle.std.proofs.Common.{◌≡◌, ℕ, ◌+◌, ◌<◌, leb, List, [], ◌∷◌, ◌++◌, Option, None, Some, length, map, refl, sym, ap, ap₂, ◌∙◌, subst, arith, inl, inr}
 use Rattle.std.proofs.lemmas.Bool.{cases_Bool, leb-false, leb-true}
 use Rattle.std.proofs.lemmas.Option.{none-some, same_Some}
 use Rattle.std.specs.List.{AllByRecursion, filter, slice_get}
 use Rattle.std.specs.Option.{option_map}
-use Rattle.std.specs.Str.{bytes_eq}
 use Rattle.xmpp_basis.proofs.Lists.{AllByRecursion-weaker}
 use Rattle.xmpp_cores_keep.specs.Mild.{ClientFits}
 use Rattle.xmpp_devices.specs.DeviceLines.{said_line}
@@ -14,13 +13,12 @@ use Rattle.xmpp_images.proofs.NetworkMoves.{found_both}
 use Rattle.xmpp_images.specs.WorldImages.{DeviceImage}
 use Rattle.xmpp_item_stanzas.specs.Items.{stanzas_read}
 use Rattle.xmpp_item_worlds.specs.ItemWorlds.{ItemDevice}
-use Rattle.xmpp_links.specs.Events.{SeenSession, seen, seen_as, seen_session}
+use Rattle.xmpp_links.specs.Events.{seen_as, seen_session}
 use Rattle.xmpp_links.specs.Views as links
 use Rattle.xmpp_links_events.specs.Lists.{IsSession}
 use Rattle.xmpp_outbox.specs.Submissions.{all_said}
 use Rattle.xmpp_report.specs.Lines.{take_line}
 use Rattle.xmpp_report.specs.declared.report.SaidMark.TheVariants.{Undecided}
-use Rattle.xmpp_report.specs.declared.report.TakeLine.{TakeLine}
 use Rattle.xmpp_reports_run.proofs.WorldTold as world
 use Rattle.xmpp_schedule.specs.Contents.{Owned, accounts_of}
 use Rattle.xmpp_schedule.specs.Schedules.{WireView, keep_of}
@@ -41,7 +39,7 @@ use Rattle.xmpp_sessions_laws.specs.Reported.{mark_of, said_of, take_of}
 use Rattle.xmpp_sessions_laws.specs.Runs.{begins, owned_of, steps_in}
 use Rattle.xmpp_wire_histories.proofs.EpochLists.{accepted_in, accepted_numbered, at_last, at_past, found_at, have_all, joined, put_in, put_numbered, said_same}
 use Rattle.xmpp_wire_histories.proofs.SessionPairs.{pair_of}
-use Rattle.xmpp_wire_histories.specs.Messages.{AreTold, HasMessages, Told, messages_in, of_epoch, said_lines, taken_of, told, told_said, told_taken}
+use Rattle.xmpp_wire_histories.specs.Messages.{AreTold, HasMessages, messages_in, of_epoch, said_lines, taken_of, told, told_said, told_taken}
 use Rattle.xmpp_wire_histories.specs.Pairs.{Pair}
 use Rattle.xmpp_world.specs.Worlds.{World}
 use Rattle.xmpp_worlds_kept.specs.Kept.{IsKept}

@@ -4,16 +4,15 @@ use Rattle.std.proofs.lemmas.Option.{none-some, same_Some}
 use Rattle.std.specs.List.{slice_get}
 use Rattle.std.specs.Option.{option_map}
 use Rattle.xmpp_acks.proofs.Directions.{got_prefix, kept_reached}
-use Rattle.xmpp_acks.specs.Delivery.{IsPrefix, queue_of}
+use Rattle.xmpp_acks.specs.Delivery.{IsPrefix}
 use Rattle.xmpp_client_laws.specs.Turned as client
 use Rattle.xmpp_cores_keep.specs.Mild.{ClientFits}
 use Rattle.xmpp_desk.specs.State.{Hall}
-use Rattle.xmpp_device_logins.specs.Devices.{account_place, identity_at}
+use Rattle.xmpp_device_logins.specs.Devices.{account_place}
 use Rattle.xmpp_device_views.specs.Clients.{IsOwnShown}
 use Rattle.xmpp_device_views.specs.Deeds.{awaits}
 use Rattle.xmpp_device_views.specs.Servers.{IsRowShown}
 use Rattle.xmpp_device_views.specs.WordItems.{told_count}
-use Rattle.xmpp_devices.specs.Devices.{DeviceState}
 use Rattle.xmpp_images.proofs.NetworkMoves.{found_both}
 use Rattle.xmpp_images.specs.WorldImages.{DeviceImage}
 use Rattle.xmpp_item_worlds.specs.ItemWorlds.{ItemDevice}
@@ -21,7 +20,6 @@ use Rattle.xmpp_links.proofs.Promised.{client_end, server_end}
 use Rattle.xmpp_links.proofs.Reached.{link_kept}
 use Rattle.xmpp_links.proofs.WithPremises.{prompt_runs}
 use Rattle.xmpp_links.specs.Links.{LinkKept}
-use Rattle.xmpp_links.specs.Promises.{IsClientEnd, IsServerEnd}
 use Rattle.xmpp_links.specs.Views as links
 use Rattle.xmpp_links.specs.Views.{Own, Row, View}
 use Rattle.xmpp_live.specs.Sessions as live

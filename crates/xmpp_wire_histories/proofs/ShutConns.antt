@@ -1,5 +1,5 @@
 -- Where the server has no connection at a place, what is handed to it there changes nothing.
-use Rattle.std.proofs.Common.{◌≡◌, ◌≢◌, ◌⊎◌, ℕ, zero, suc, ◌==◌, max, Bool, true, false, cond, List, [], ◌∷◌, Option, None, Some, length, refl, sym, ap, ◌∙◌, subst, inl, inr}
+use Rattle.std.proofs.Common.{◌≡◌, ◌≢◌, ◌⊎◌, ℕ, zero, suc, ◌==◌, max, Bool, true, false, cond, List, [], ◌∷◌, Option, None, Some, refl, sym, ap, ◌∙◌, subst, inl, inr}
 use Rattle.std.proofs.Math.Nat.{max-eq_left, le-max_right}
 use Rattle.std.proofs.lemmas.Bool.Decides.{eqb_tells}
 use Rattle.std.proofs.lemmas.Option.{none-some}
@@ -11,8 +11,7 @@ use Rattle.xmpp_basis.proofs.Lists.{AllByRecursion-weaker}
 use Rattle.xmpp_desk.specs.Moments.{at_moment, gone_at}
 use Rattle.xmpp_desk.specs.State.{Hall, Step, conn_at, is_number}
 use Rattle.xmpp_desk.specs.Steps.{acted}
-use Rattle.xmpp_desk.specs.Streams.{standing_at, standing_of}
-use Rattle.xmpp_framing.specs.Machine.{run}
+use Rattle.xmpp_desk.specs.Streams.{standing_of}
 use Rattle.xmpp_framing.specs.States as framing
 use Rattle.xmpp_framing.specs.States.{Turn}
 use Rattle.xmpp_framing.specs.declared.fault.Fault.{Fault}
@@ -41,7 +40,7 @@ use Rattle.xmpp_world.specs.Effects.{all_emitted, effects_of}
 use Rattle.xmpp_world.specs.Moves as moves
 use Rattle.xmpp_world.specs.Moves.{moved, served, served_by, server_behind, step_of_piece, told_up, with_effects}
 use Rattle.xmpp_world.specs.Worlds.{World, number_at}
-use Rattle.xmpp_writer.specs.Items.{ItemOut, written_item}
+use Rattle.xmpp_writer.specs.Items.{written_item}
 
 -- ---- lists
 

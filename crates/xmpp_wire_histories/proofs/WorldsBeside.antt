@@ -1,5 +1,5 @@
 -- Each world of the history of a schedule that goes beside a run is itself beside a world of the two applications.
-use Rattle.std.proofs.Common.{◌≡◌, ℕ, List, [], ◌∷◌, ◌++◌, Some, subst}
+use Rattle.std.proofs.Common.{◌≡◌, ℕ, List, [], ◌∷◌, Some, subst}
 use Rattle.std.specs.List.{AllByRecursion, flat_map, slice_get}
 use Rattle.std.specs.Prelude.{IfSome}
 use Rattle.xmpp_item_fits.proofs.ChangedLists.{all_at}

@@ -43,8 +43,8 @@ said_lines d = (device_line false d).said
 abbrev pub taken_of : List ℕ → List TakeLine → List TakeLine
 taken_of name lines = filter (λ (line : TakeLine). bytes_eq name line.device) lines
 
--- Of the session of an epoch: what its client put are the messages of the device's `said` lines of that epoch; and what the
--- server handled of them, to accounts that exist, are those of the `take` lines of that epoch.
+-- Of the session of an epoch: what its client put are the messages of the device's `said` lines of that epoch; and what
+-- the server handled of them, to accounts that exist, are those of the `take` lines of that epoch.
 pub record HasMessages (w : World) (i : ℕ) (o : Owned) (e : ℕ) (p : Pair) : Type 0 where
   pub put : (d : DeviceState) → slice_get w.devices i ≡ Some d → map told (messages_in p.up.put) ≡ of_epoch e (map told_said (said_lines d))
   pub handled : map told (filter (λ (m : Submission). is_among m.to w.accounts) (messages_in p.up.got)) ≡ of_epoch e (map told_taken (taken_of o.device w.takes))

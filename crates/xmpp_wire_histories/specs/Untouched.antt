@@ -8,8 +8,8 @@ use Rattle.xmpp_world.specs.Worlds.{World, number_at}
 abbrev pub IsShutAt : ℕ → World → Type 0
 IsShutAt place w = conn_at (number_at place) w.server.hall ≡ None
 
--- The archives, the messages that were taken, the devices, the server's connections and all other pipes are what they were;
--- and so are the sessions, but that one which was parked for too long has ended.
+-- The archives, the messages that were taken, the devices, the server's connections and all other pipes are what they
+-- were; and so are the sessions, but that one which was parked for too long has ended.
 pub record IsUntouched (place : ℕ) (w next : World) : Type 0 where
   pub archives : next.server.hall.archives ≡ w.server.hall.archives
   pub takes : next.takes ≡ w.takes
