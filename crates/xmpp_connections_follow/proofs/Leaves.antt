@@ -56,6 +56,20 @@ left_same who logins wires same v alike l = record {
   server = l.server;
 }
 
+-- where it has none nothing is left
+pub none_left : (who : Identity) (logins : ℕ → Login) (wires : Table ItemWire) (v : View ItemOut) → PipesShow who logins wires v → v.here ≡ None → HasLeft who logins wires v
+none_left who logins wires v pipes idle = record {
+  moves = [];
+  next = v;
+  leads = refl;
+  does = refl;
+  idle = idle;
+  own = refl;
+  epoch = refl;
+  pipes = pipes;
+  server = record { row = refl; free = refl; known = known_same v; conns = λ j. keeps_server (v.conns j) };
+}
+
 -- ---- pipes that are left
 
 left_is_cut : (w : ItemWire) → left w ≡ cut_at (length w.up.items) 0 w
@@ -214,17 +228,7 @@ module _ (who : Identity) (logins : ℕ → Login) (wires : Table ItemWire) (v :
       let away : has v.here k ≡ false = ap (λ o. has o k) idle in
       let nothing : w.down.items ≡ [] = wire.down ∙ ap (map (down_item who (logins k) k (is_behind_login c.client))) (piped.left away) in
       let same : left w ≡ w = left_still w (wire.up_ended ∙ ap not ended) nothing (wire.down_ended ∙ ap not ended) in
-      record {
-        moves = [];
-        next = v;
-        leads = refl;
-        does = refl;
-        idle = idle;
-        own = refl;
-        epoch = refl;
-        pipes = pipes_same who logins wires (with_at k (left w) wires) v (λ j. ap (λ u. with_at k u wires j) same ∙ at_itself k w wires there j) pipes;
-        server = record { row = refl; free = refl; known = known_same v; conns = λ j. keeps_server (v.conns j) };
-      }
+      none_left who logins (with_at k (left w) wires) v (pipes_same who logins wires (with_at k (left w) wires) v (λ j. ap (λ u. with_at k u wires j) same ∙ at_itself k w wires there j) pipes) idle
 
   -- where a connection stands the footer goes out
   pub leaves_with : (items : List ItemOut) → (v.here ≡ Some k) ⊎ ((v.here ≡ None) × (is_flowing c.wires ≡ false)) → (v.here ≡ Some k → items ≡ Closing ∷ []) → HasLeft who logins (with_at k (left (put_up items w)) wires) v

@@ -36,7 +36,7 @@ first_of true b e = refl
 first_of false b e = absurd (let no_way : ⊥ = cc in no_way)
 
 -- a pipe of which the end is due is empty and has ended
-due_empty : (p : ItemPipe) → is_end_due p ≡ true → p.items ≡ []
+pub due_empty : (p : ItemPipe) → is_end_due p ≡ true → p.items ≡ []
 due_empty p due = go p.items refl
   where
     go : (l : List ItemOut) → p.items ≡ l → p.items ≡ []
@@ -46,7 +46,7 @@ due_empty p due = go p.items refl
         let first : is_empty p ≡ true = first_of (is_empty p) p.ended (first_of (is_empty p && p.ended) (not p.told) due) in
         absurd (let no_way : ⊥ = cc in no_way)
 
-due_ended : (p : ItemPipe) → is_end_due p ≡ true → p.ended ≡ true
+pub due_ended : (p : ItemPipe) → is_end_due p ≡ true → p.ended ≡ true
 due_ended p due = second (is_empty p) p.ended (not p.told) due
   where
     second : (a b c : Bool) → a && b && c ≡ true → b ≡ true

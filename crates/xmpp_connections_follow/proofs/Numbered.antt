@@ -9,22 +9,14 @@ use Rattle.xmpp_device_views.specs.Sent.{where_it}
 use Rattle.xmpp_item_worlds.specs.ItemPipes.{ItemWire}
 use Rattle.xmpp_links.proofs.Entries.{at_other, at_same, other_number, same_number}
 use Rattle.xmpp_links.specs.Views.{Table, with_at}
-use Rattle.xmpp_wire_steps.proofs.Changes.{at_place, under_changed, under_other, under_place}
-use Rattle.xmpp_wire_steps.proofs.Emitted.{mapped_same, mapped_twice}
-use Rattle.xmpp_wires.specs.Places.{changed_at, changed_under, changed_where}
+use Rattle.xmpp_wire_steps.proofs.Changes.{at_place, under_place}
+use Rattle.xmpp_wire_steps.proofs.Emitted.{changed_one, mapped_same, mapped_twice}
+use Rattle.xmpp_wires.specs.Places.{changed_at, changed_where}
 
 -- ---- tables
 
 pub at_itself : {A : Type 0} (k : ℕ) (a : A) (t : Table A) → t k ≡ Some a → (j : ℕ) → with_at k a t j ≡ t j
 at_itself k a t there j = elim (cases_eq k j) [ inl same ↦ subst (λ n. with_at k a t n ≡ t n) same (at_same k a t ∙ sym there) | inr apart ↦ at_other k a t j apart ]
-
-changed_one : (k j : ℕ) (f : ItemWire → ItemWire) (wires : List ItemWire) → under k (changed_under j f wires) ≡ option_map (where_it (nat_eq j k) f) (under k wires)
-changed_one k j f wires =
-    elim (cases_eq j k) [
-      | inl same ↦ subst (λ n. under n (changed_under j f wires) ≡ option_map (where_it (nat_eq j n) f) (under n wires)) same
-          (under_changed j f wires ∙ ap (λ b. option_map (where_it b f) (under j wires)) (sym (same_number j)))
-      | inr apart ↦ under_other j k f wires apart ∙ sym (mapped_same (under k wires)) ∙ ap (λ b. option_map (where_it b f) (under k wires)) (sym (other_number j k apart))
-    ]
 
 -- the connection that a device has is changed in a list as under its number
 pub here_changed : (here : Option ℕ) (f : ItemWire → ItemWire) (wires : List ItemWire) (j : ℕ) → under j (changed_where here f wires) ≡ where_here here f (by_number wires) j

@@ -8,7 +8,7 @@ use Rattle.xmpp_client_rows.specs.Speech.{Ended, Note, in_items}
 use Rattle.xmpp_client_rows.specs.Turns.{drops, is_apart, puts, puts_footer}
 use Rattle.xmpp_client_rows.specs.Turns as turns
 use Rattle.xmpp_connections_follow.proofs.CutPipes.{wire_of}
-use Rattle.xmpp_connections_follow.proofs.Leaves.{HasLeft, leaves_plainly, leaves_with, left_same}
+use Rattle.xmpp_connections_follow.proofs.Leaves.{HasLeft, leaves_plainly, leaves_with, left_same, none_left}
 use Rattle.xmpp_connections_follow.proofs.Numbered.{at_itself, here_is, here_twice}
 use Rattle.xmpp_connections_follow.proofs.Stays.{along_both, deeds_both, keeps_server}
 use Rattle.xmpp_device_views.specs.Clients.{ClientFollows, ClientShows}
@@ -79,25 +79,12 @@ module _ (who : Identity) (logins : ℕ → Login) (d : ItemDevice) (wires : Tab
       on : (c : Conn ItemOut) → v.conns (place + 1) ≡ Some c → (v.here ≡ Some (place + 1)) ⊎ (is_flowing c.wires ≡ false) → HasConn who logins d wires v place
       on c is where_it_is = wired c is (wires (place + 1)) refl (subst (λ o. IsShown who (logins (place + 1)) (place + 1) o (wires (place + 1))) is (shown.pipes.each (place + 1))) where_it_is
 
-  none_left : v.here ≡ None → HasLeft who logins wires v
-  none_left idle = record {
-    moves = [];
-    next = v;
-    leads = refl;
-    does = refl;
-    idle = idle;
-    own = refl;
-    epoch = refl;
-    pipes = shown.pipes;
-    server = record { row = refl; free = refl; known = known_same v; conns = λ j. keeps_server (v.conns j) };
-  }
-
   -- the connection that the device has is left
   pub here_left : HasLeft who logins (where_here d.here left wires) v
   here_left = go d.here refl
     where
       go : (o : Option ℕ) → d.here ≡ o → HasLeft who logins (where_here o left wires) v
-      go None none = none_left (works_on_none who logins d v shown.client none)
+      go None none = none_left who logins wires v shown.pipes (works_on_none who logins d v shown.client none)
       go (Some place) at =
           let h = has_conn place at in
           left_same who logins (with_at (place + 1) (left h.wire) wires) (where_here (Some place) left wires) v (here_is place left h.wire wires h.there)
@@ -108,7 +95,7 @@ module _ (who : Identity) (logins : ℕ → Login) (d : ItemDevice) (wires : Tab
   here_left_with items foot = left_same who logins (where_here d.here (λ w. left (put_up items w)) wires) (where_here d.here left (where_here d.here (put_up items) wires)) v (here_twice d.here left (put_up items) wires) (go d.here refl)
     where
       go : (o : Option ℕ) → d.here ≡ o → HasLeft who logins (where_here o (λ w. left (put_up items w)) wires) v
-      go None none = none_left (works_on_none who logins d v shown.client none)
+      go None none = none_left who logins wires v shown.pipes (works_on_none who logins d v shown.client none)
       go (Some place) at =
           let h = has_conn place at in
           left_same who logins (with_at (place + 1) (left (put_up items h.wire)) wires) (where_here (Some place) (λ w. left (put_up items w)) wires) v (here_is place (λ w. left (put_up items w)) h.wire wires h.there)

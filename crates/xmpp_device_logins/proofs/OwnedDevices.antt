@@ -82,7 +82,7 @@ of_schedule schedule is = all_owned schedule.lines nothing_above (may_run_all sc
 
 -- ---- one of them
 
-named_among : (name : List ℕ) (names : List (List ℕ)) → AreNames names → is_among name names ≡ true → is_name name ≡ true
+pub named_among : (name : List ℕ) (names : List (List ℕ)) → AreNames names → is_among name names ≡ true → is_name name ≡ true
 named_among name [] each known = absurd (false≢true known)
 named_among name (other ∷ names) each known =
     elim (cases_Bool (bytes_eq name other)) [

@@ -55,7 +55,7 @@ close_puts c = by (is_apart c.phase)
     by true = refl
     by false = refl
 
-close_client : (c : ClientView ItemOut) → (closes in_items (fed_of c)).turn.client ≡ (forgets in_items (fed_of c)).turn.client
+pub close_client : (c : ClientView ItemOut) → (closes in_items (fed_of c)).turn.client ≡ (forgets in_items (fed_of c)).turn.client
 close_client c = by (is_apart c.phase)
   where
     by : (b : Bool) → (drops in_items (turns.left (cond b (silent_turn c) (puts (silent_turn c) (uttered in_items Closing))))).client ≡ (forgets in_items (fed_of c)).turn.client

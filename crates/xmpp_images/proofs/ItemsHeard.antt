@@ -9,7 +9,7 @@ use Rattle.xmpp_client_rows.specs.Speech.{in_items}
 use Rattle.xmpp_client_rows.specs.Turns.{is_apart}
 use Rattle.xmpp_desk.specs.State.{Hall}
 use Rattle.xmpp_framing.specs.declared.items.Item.{Item}
-use Rattle.xmpp_images.proofs.ItemsServed.{changed_none, changed_twice}
+use Rattle.xmpp_images.proofs.ItemsServed.{changed_none, changed_twice, drop_more}
 use Rattle.xmpp_images.proofs.Lookups.{get_changed_same}
 use Rattle.xmpp_images.proofs.TurnsBehind.{step_adds}
 use Rattle.xmpp_images.proofs.UserMoves.{get_set_same, set_same}
@@ -31,14 +31,6 @@ set_twice [] zero x y = refl
 set_twice [] (suc i) x y = refl
 set_twice (z ∷ l) zero x y = refl
 set_twice (z ∷ l) (suc i) x y = ap (λ r. z ∷ r) (set_twice l i x y)
-
-drop_none : (n : ℕ) → drop {A = ItemOut} n [] ≡ []
-drop_none zero = refl
-drop_none (suc n) = refl
-
-drop_more : (n : ℕ) (l : List ItemOut) → drop n (drop 1 l) ≡ drop (suc n) l
-drop_more n [] = drop_none n
-drop_more n (x ∷ l) = refl
 
 -- ---- things that enter one behind another
 

@@ -65,7 +65,7 @@ drop_none : (n : ℕ) → drop {A = ItemOut} n [] ≡ []
 drop_none zero = refl
 drop_none (suc n) = refl
 
-drop_more : (n : ℕ) (l : List ItemOut) → drop n (drop 1 l) ≡ drop (suc n) l
+pub drop_more : (n : ℕ) (l : List ItemOut) → drop n (drop 1 l) ≡ drop (suc n) l
 drop_more n [] = drop_none n
 drop_more n (x ∷ l) = refl
 

@@ -11,6 +11,7 @@ use Rattle.xmpp_client_rows.specs.Turns.{drops, is_apart, puts}
 use Rattle.xmpp_client_rows.specs.Turns as turns
 use Rattle.xmpp_desk.specs.Moments.{at_moment, gone_at}
 use Rattle.xmpp_desk.specs.State.{Hall, Out, Put, Shut, Took}
+use Rattle.xmpp_images.proofs.DialMoves.{close_client}
 use Rattle.xmpp_images.proofs.WireSteps.{all_dropped, all_entered, all_joined, all_taken}
 use Rattle.xmpp_images.specs.Owed.{CoresKeep}
 use Rattle.xmpp_images.specs.Stands.{OutPuts}
@@ -29,14 +30,7 @@ use Rattle.xmpp_writer.specs.Items.{Closing, ItemOut}
 
 -- ---- a client that closes its stream
 
-close_client : (c : ClientView ItemOut) → (closes in_items (fed_of c)).turn.client ≡ (forgets in_items (fed_of c)).turn.client
-close_client c = by (is_apart c.phase)
-  where
-    by : (b : Bool) → (drops in_items (turns.left (cond b (silent_turn c) (puts (silent_turn c) (uttered in_items Closing))))).client ≡ (forgets in_items (fed_of c)).turn.client
-    by true = refl
-    by false = refl
-
--- it puts a footer at most
+-- a footer at most is put
 close_puts : (P : ItemOut → Type 0) (c : ClientView ItemOut) → P Closing → AllByRecursion P (closes in_items (fed_of c)).turn.out.put
 close_puts P c fits = by (is_apart c.phase)
   where

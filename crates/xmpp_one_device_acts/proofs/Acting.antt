@@ -107,6 +107,7 @@ module _ (schedule : WireView) (b : Bounds) (says : ℕ) (w : ItemWorld) (x : Wo
     server = subst (ServerRuns (keep_in schedule) (owned_of schedule) (names_of schedule) x.takes) (sym alone.server) runs.server;
     takes = alone.takes ∙ runs.takes;
     clock = runs.clock ∙ sym alone.moment;
+    now = (λ k. (alone.server k).moment) ∙ runs.now ∙ sym alone.moment;
     fits = a.fits;
     stands = subst (λ n. HallStands n next.server) (sym alone.many) (subst (HallStands (length w.wires)) (sym alone.server) runs.stands);
     within = subst (λ n. IsWithin n next.server) (sym alone.many) (subst (IsWithin (length w.wires)) (sym alone.server) runs.within);

@@ -1,23 +1,22 @@
 -- A connection comes under a new number: what is shown of a device stays.
-use Rattle.std.proofs.Common.{◌≡◌, ◌≢◌, ℕ, false, List, [], ◌∷◌, Some, None, cond, refl, sym, ap, subst, ◌∙◌}
+use Rattle.std.proofs.Common.{◌≡◌, ◌≢◌, ℕ, List, [], ◌∷◌, None, refl, sym, ap, ◌∙◌}
 use Rattle.std.proofs.lemmas.Cmp.{nat_cmp_total}
-use Rattle.std.proofs.lemmas.Map.Lookups.{exact_unsigned}
 use Rattle.std.specs.BTreeMap.{insert_entry}
 use Rattle.std.specs.List.{AllByRecursion}
 use Rattle.std.specs.List.Sorted.{IsStrictlySortedBy}
-use Rattle.std.specs.Map.{keys_of, lookup}
+use Rattle.std.specs.Map.{keys_of}
 use Rattle.std.specs.Ordering.{match_ordering, nat_cmp, ordering_reverse}
 use Rattle.std.specs.declared.cmp.Ordering.{Ordering}
 use Rattle.std.specs.declared.cmp.Ordering.TheVariants.{Equal, Greater, Less}
 use Rattle.xmpp_desk.specs.Moments.{fresh_conn, with_fresh}
-use Rattle.xmpp_desk.specs.State.{Hall, is_number}
+use Rattle.xmpp_desk.specs.State.{Hall}
 use Rattle.xmpp_device_views.specs.Identities.{Identity, Login}
 use Rattle.xmpp_device_views.specs.Pipes.{PipesShow}
 use Rattle.xmpp_device_views.specs.Servers.{ServerShows}
+use Rattle.xmpp_images.proofs.Lookups.{found_beside_inserted}
 use Rattle.xmpp_item_worlds.specs.ItemPipes.{ItemWire}
 use Rattle.xmpp_links.specs.Views.{Table, View, with_at}
 use Rattle.xmpp_others_stay.proofs.Elsewhere.{apart_from, unknown, with_beside}
-use Rattle.xmpp_server_follows.proofs.HallsLeft.{not_another}
 use Rattle.xmpp_writer.specs.Items.{ItemOut}
 
 -- ---- an entry that comes among others in the order of their numbers
@@ -53,27 +52,13 @@ module _ {X : Type 0} (k : ℕ) (v : X) where
       by Equal is rest = (sorted.0, sorted.1)
       by Greater is rest = (above_inserted e.0 es (turned k e.0 is) sorted.0, rest)
 
-  found_beside : (j : ℕ) (es : List (ℕ × X)) → j ≢ k → lookup (is_number j) (insert_entry nat_cmp es k v) ≡ lookup (is_number j) es
-  found_beside j [] other = ap (λ c. cond c (Some v) None) (not_another j k other)
-  found_beside j (e ∷ es) other = by (found_beside j es other) (nat_cmp k e.0) refl
-    where
-      no : is_number j k ≡ false
-      no = not_another j k other
-
-      by : lookup (is_number j) (insert_entry nat_cmp es k v) ≡ lookup (is_number j) es → (o : Ordering) → nat_cmp k e.0 ≡ o → lookup (is_number j) (match_ordering o ((k, v) ∷ e ∷ es) ((e.0, v) ∷ es) (e ∷ insert_entry nat_cmp es k v)) ≡ lookup (is_number j) (e ∷ es)
-      by rest Less is = ap (λ c. cond c (Some v) (lookup (is_number j) (e ∷ es))) no
-      by rest Equal is =
-          let away = subst (λ n. is_number j n ≡ false) (exact_unsigned k e.0 is) no in
-          ap (λ c. cond c (Some v) (lookup (is_number j) es)) away ∙ sym (ap (λ c. cond c (Some e.1) (lookup (is_number j) es)) away)
-      by rest Greater is = ap (cond (is_number j e.0) (Some e.1)) rest
-
 -- ---- the device
 
 pub fresh_shows : (whom : Identity) (others : ℕ → Login) (h : Hall ItemOut) (wires : Table ItemWire) (u : View ItemOut) (k : ℕ) (entropy : List ℕ) → PipesShow whom others wires u → ServerShows whom others h u → wires k ≡ None → ServerShows whom others (with_fresh k entropy h) u
 fresh_shows whom others h wires u k entropy pipes shows none = record {
   served = record { domain = shows.served.domain; account = shows.served.account; found = shows.served.found; archive = shows.served.archive };
   hall = record { sessions = shows.hall.sessions; conns = sorted_inserted k (fresh_conn entropy) h.conns shows.hall.conns };
-  conns = λ j e there. found_beside k (fresh_conn entropy) j h.conns (λ same. apart_from u k j e (unknown whom others wires u pipes k none) there (sym same)) ∙ shows.conns j e there;
+  conns = λ j e there. found_beside_inserted j k (fresh_conn entropy) h.conns (λ same. apart_from u k j e (unknown whom others wires u pipes k none) there (sym same)) ∙ shows.conns j e there;
   row = shows.row;
   seated = shows.seated;
   owned = shows.owned;

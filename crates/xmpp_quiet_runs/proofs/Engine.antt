@@ -168,6 +168,7 @@ module _ (schedule : WireView) (b : Bounds) (says : ℕ) (w : ItemWorld) (x : Wo
       server = quiet.server;
       takes = quiet.takes ∙ runs.takes;
       clock = ap (λ c. c + passed) runs.clock ∙ sym quiet.moment;
+      now = quiet.now;
       fits = quiet.fits;
       stands = quiet.stands;
       within = quiet.within;

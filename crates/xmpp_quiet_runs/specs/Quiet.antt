@@ -62,6 +62,7 @@ pub record QuietWorld (schedule : WireView) (b : Bounds) (w : ItemWorld) (x : Wo
   pub server : ServerRuns (keep_in schedule) (owned_of schedule) (names_of schedule) x.takes after.server
   pub takes : after.takes ≡ w.takes
   pub moment : after.moment ≡ w.moment + passed
+  pub now : after.server.moment ≡ after.moment
   pub fits : FitsHere after
   pub stands : HallStands (length after.wires) after.server
   pub within : IsWithin (length after.wires) after.server

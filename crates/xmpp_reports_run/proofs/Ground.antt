@@ -1,12 +1,9 @@
 -- What is known of a world of the applications that stands beside a world of items.
-use Rattle.std.proofs.Common.{◌≡◌, ℕ, zero, suc, ◌+◌, ◌<◌, ◌≤◌, ◌^◌, true, List, [], ◌∷◌, Some, length, refl, sym, subst, ◌∙◌, arith, inl, inr}
-use Rattle.std.proofs.lemmas.Bool.{cases_Bool, false≢true}
+use Rattle.std.proofs.Common.{◌≡◌, ℕ, zero, suc, ◌+◌, ◌<◌, ◌≤◌, ◌^◌, true, List, [], ◌∷◌, Some, length, refl, sym, subst, ◌∙◌, arith}
 use Rattle.std.proofs.lemmas.Option.{same_Some, slice_get_within}
-use Rattle.std.proofs.lemmas.Slice.Eq.{bytes_eq-Decides}
 use Rattle.std.specs.List.{AllByRecursion, filter}
 use Rattle.std.specs.Prelude.{slice_get}
-use Rattle.std.specs.Str.{bytes_eq}
-use Rattle.xmpp_device_logins.proofs.OwnedDevices.{declared}
+use Rattle.xmpp_device_logins.proofs.OwnedDevices.{declared, named_among}
 use Rattle.xmpp_edge.specs.Names.{is_among}
 use Rattle.xmpp_item_worlds.specs.ItemWorlds.{ItemWorld}
 use Rattle.xmpp_links.proofs.WithPremises.{prompt_runs}
@@ -34,7 +31,6 @@ use Rattle.xmpp_sessions_laws.specs.Reported.{name_at}
 use Rattle.xmpp_sessions_laws.specs.Runs.{begins, owned_of}
 use Rattle.xmpp_world.proofs.Declares.{are_accounts, are_names, some_kept}
 use Rattle.xmpp_world.proofs.Traces.{may_run_all}
-use Rattle.xmpp_world.specs.Declaring.{AreNames}
 use Rattle.xmpp_worlds_run.specs.Running.{AreSmall, Bounds, WorldRuns, keep_in, names_of}
 
 -- ---- lists
@@ -43,14 +39,6 @@ pub some_at : {A : Type 0} (xs : List A) (i : ℕ) → i < length xs → (x : A)
 some_at [] i low = absurd (omega (arith, low))
 some_at (x ∷ xs) zero low = (x, refl)
 some_at (x ∷ xs) (suc i) low = some_at xs i (omega (arith, low))
-
-named_among : (name : List ℕ) (names : List (List ℕ)) → AreNames names → is_among name names ≡ true → is_name name ≡ true
-named_among name [] each known = absurd (false≢true known)
-named_among name (other ∷ names) each known =
-    elim (cases_Bool (bytes_eq name other)) [
-      | inl same ↦ subst (λ n. is_name n ≡ true) (sym ((bytes_eq-Decides name other).0 same)) each.0
-      | inr differs ↦ named_among name names each.1 (rw differs at known)
-    ]
 
 all_three : {A : Type 0} (P Q R S : A → Type 0) → ((a : A) → P a → Q a → R a → S a) → (xs : List A) → AllByRecursion P xs → AllByRecursion Q xs → AllByRecursion R xs → AllByRecursion S xs
 all_three P Q R S each [] p q r = tt

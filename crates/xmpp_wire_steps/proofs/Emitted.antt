@@ -21,7 +21,7 @@ pub mapped_twice : {T U V : Type 0} (f : T → U) (g : U → V) (o : Option T) �
 mapped_twice f g None = refl
 mapped_twice f g (Some t) = refl
 
-changed_one : (k j : ℕ) (f : ItemWire → ItemWire) (wires : List ItemWire) → under k (changed_under j f wires) ≡ option_map (where_it (nat_eq j k) f) (under k wires)
+pub changed_one : (k j : ℕ) (f : ItemWire → ItemWire) (wires : List ItemWire) → under k (changed_under j f wires) ≡ option_map (where_it (nat_eq j k) f) (under k wires)
 changed_one k j f wires =
     elim (cases_eq j k) [
       | inl same ↦ subst (λ n. under n (changed_under j f wires) ≡ option_map (where_it (nat_eq j n) f) (under n wires)) same

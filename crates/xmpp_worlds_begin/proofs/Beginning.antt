@@ -36,6 +36,7 @@ begun schedule is b = record {
   server = server_begins schedule;
   takes = refl;
   clock = refl;
+  now = refl;
   fits = begun_fits schedule is;
   stands = start_stands 0 domain (accounts_at_start (names_of schedule)) (keep_in schedule);
   within = start_within domain (accounts_at_start (names_of schedule)) (keep_in schedule);

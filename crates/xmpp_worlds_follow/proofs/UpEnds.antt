@@ -1,7 +1,7 @@
 -- The end of a connection goes up, and time passes: what that is for each device.
-use Rattle.std.proofs.Common.{◌≡◌, ℕ, ◌+◌, Bool, true, false, not, ◌&&◌, List, [], ◌∷◌, ◌++◌, Some, slice_get, refl, sym, ap, subst, ◌∙◌}
+use Rattle.std.proofs.Common.{◌≡◌, ℕ, ◌+◌, Bool, true, false, [], ◌++◌, Some, slice_get, refl, sym, subst, ◌∙◌}
 use Rattle.xmpp_connections_follow.proofs.CutPipes.{conn_of}
-use Rattle.xmpp_connections_follow.proofs.Lifts.{nothing_moves, tick_lifts, told_lifts}
+use Rattle.xmpp_connections_follow.proofs.Lifts.{due_empty, due_ended, nothing_moves, tick_lifts, told_lifts}
 use Rattle.xmpp_connections_follow.proofs.Nobody.{not_over}
 use Rattle.xmpp_connections_follow.proofs.Stays.{along_both, no_deeds, reached_along}
 use Rattle.xmpp_connections_follow.specs.Following.{WorldFollows}
@@ -13,7 +13,7 @@ use Rattle.xmpp_device_views.specs.Pipes.{by_number}
 use Rattle.xmpp_device_views.specs.Servers.{ServerFollows}
 use Rattle.xmpp_device_views.specs.Shows.{Shows}
 use Rattle.xmpp_item_worlds.specs.ItemMoves.{Tick, UpEnd, moved}
-use Rattle.xmpp_item_worlds.specs.ItemPipes.{ItemPipe, ItemWire, is_empty, is_end_due, up_end_told}
+use Rattle.xmpp_item_worlds.specs.ItemPipes.{ItemWire, is_end_due, up_end_told}
 use Rattle.xmpp_item_worlds.specs.ItemWorlds.{ItemWorld}
 use Rattle.xmpp_links.proofs.Reached.{link_kept}
 use Rattle.xmpp_links.specs.Machine.{LinkReached}
@@ -57,25 +57,6 @@ both_quiet who logins h last wires after v f g = record {
   pipes = g.pipes;
   client = same_clients v f.next g.next f.client g.client;
 }
-
--- a pipe of which the end is due is empty and has ended
-both_true : (a b c : Bool) → a && b && c ≡ true → (a ≡ true) × (b ≡ true)
-both_true true true c e = (refl, refl)
-both_true true false c e = absurd (let no_way : ⊥ = cc in no_way)
-both_true false b c e = absurd (let no_way : ⊥ = cc in no_way)
-
-due_empty : (p : ItemPipe) → is_end_due p ≡ true → p.items ≡ []
-due_empty p due = go p.items refl
-  where
-    go : (l : List ItemOut) → p.items ≡ l → p.items ≡ []
-    go [] is = is
-    go (i ∷ items) is =
-        let full : is_empty p ≡ false = ap (λ l. is_empty (record p { items = l })) is in
-        let none : is_empty p ≡ true = (both_true (is_empty p) p.ended (not p.told) due).0 in
-        absurd (let no_way : ⊥ = cc in no_way)
-
-due_ended : (p : ItemPipe) → is_end_due p ≡ true → p.ended ≡ true
-due_ended p due = (both_true (is_empty p) p.ended (not p.told) due).1
 
 -- before the end is due nothing changes
 module _ (w : ItemWorld) (place : ℕ) (wire : ItemWire) (there : slice_get w.wires place ≡ Some wire) (whom : Identity) (others : ℕ → Login) (u : View ItemOut) (s : Shows whom others w u) where

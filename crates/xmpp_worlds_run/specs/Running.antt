@@ -114,6 +114,8 @@ pub record WorldRuns (schedule : WireView) (b : Bounds) (says : ℕ) (w : ItemWo
   pub server : ServerRuns (keep_in schedule) (owned_of schedule) (names_of schedule) x.takes w.server
   pub takes : w.takes ≡ map (take_told (owned_of schedule)) x.takes
   pub clock : x.clock ≡ w.moment
+  -- it has looked at the clock since this last moved on
+  pub now : w.server.moment ≡ w.moment
   pub fits : FitsHere w
   pub stands : HallStands (length w.wires) w.server
   pub within : IsWithin (length w.wires) w.server

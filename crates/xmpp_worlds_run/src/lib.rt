@@ -1,2 +1,2 @@
-//! Laws: each move of a world of items is events of the two applications.
+//! Definitions and lemmas: a world of items beside a world of the two applications, and a device's links behind a move.
 #![tactic(auto)]
