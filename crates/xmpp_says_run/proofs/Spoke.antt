@@ -114,7 +114,7 @@ module _ (schedule : WireView) (b : Bounds) (says : ℕ) (w : ItemWorld) (x : Wo
     pub same_at : SameUps r.device.sessions at
     same_at = same_ups drifted.0 r.device.sessions at drifted.2
 
-    end_is : g.end ≡ events.put_up y at
+    pub end_is : g.end ≡ events.put_up y at
     end_is = drifted.3.2 ∙ drifted.3.1.1 ∙ ap (λ u. events.put_up u at) read
 
     pub ends_with : (n : ℕ) → IsDevice stanzas_read (seen g.view) (record (events.put_up y at) { n = n })

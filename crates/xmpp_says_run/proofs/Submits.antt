@@ -1,8 +1,3 @@
--- DRAFT (04:30): not one module of this crate has met the prover. A first check (04:15) ended before it read the crate: the
--- library of xmpp_readings_known was proved over another build of xmpp_session_views. The crate stands on it no longer; a
--- second check (04:27) was still in its checksums at 04:30. No goal is known to be open: run rt check, and mend what it says.
--- Missing: the same for CatchUp (proofs/Asks.antt: Spoke with z = requested (next_request ..), y = Query ..; timely by
--- asks_in_time and Known.paged; given by xmpp_readings_known, AreLogged by Read), and the joint with refused_calls_run.
 -- The user submits a message, and the client takes it.
 use Rattle.std.proofs.Common.{◌≡◌, ◌≢◌, ℕ, ◌+◌, ◌≤◌, ◌<◌, ◌^◌, Bool, true, false, List, [], ◌∷◌, Ok, Some, length, slice_get, refl, sym, ap, subst, ◌∙◌, arith}
 use Rattle.std.proofs.lemmas.Option.{same_Some}
