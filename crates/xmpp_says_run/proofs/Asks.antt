@@ -1,5 +1,5 @@
 -- The user asks for the archive, and the client takes it.
-use Rattle.std.proofs.Common.{◌≡◌, ◌≢◌, ℕ, ◌+◌, ◌≤◌, ◌<◌, ◌^◌, ◌==◌, Bool, true, false, List, [], ◌∷◌, Ok, Some, slice_get, refl, sym, ap, subst, ◌∙◌, if◌then◌else◌, arith}
+use Rattle.std.proofs.Common.{◌≡◌, ℕ, ◌+◌, ◌≤◌, ◌==◌, Bool, true, false, [], ◌∷◌, Ok, Some, slice_get, refl, sym, ap, subst, ◌∙◌, if◌then◌else◌, arith}
 use Rattle.std.proofs.lemmas.Bool.{eq-eqb}
 use Rattle.std.proofs.lemmas.Option.{same_Some}
 use Rattle.xmpp_client.specs.UserCalls as calls
@@ -13,7 +13,6 @@ use Rattle.xmpp_deeds_in_time.proofs.Timely.{asks_in_time}
 use Rattle.xmpp_device_logins.specs.Devices.{identity_at}
 use Rattle.xmpp_device_views.specs.Deeds.{Says, awaits}
 use Rattle.xmpp_device_views.specs.Identities.{Identity}
-use Rattle.xmpp_device_views.specs.Reading.{noted}
 use Rattle.xmpp_item_fits.proofs.FittingImages.{keep_here, takes_any}
 use Rattle.xmpp_item_fits.proofs.MoveSteps.{move_fits}
 use Rattle.xmpp_item_fits.specs.Fitting.{MayItem}
@@ -40,7 +39,7 @@ use Rattle.xmpp_sessions.specs.Events as events
 use Rattle.xmpp_sessions.specs.Stanzas.{Query, Request}
 use Rattle.xmpp_submissions_told.proofs.Asking.{asks_log, asks_may, asks_pages, asks_put, asks_shows, request_built}
 use Rattle.xmpp_submissions_told.specs.Told.{IsAcked, IsCatchingUp, next_request}
-use Rattle.xmpp_users_run.proofs.Turning.{IsTurn, acted_by, drifted_to, move_runs}
+use Rattle.xmpp_users_run.proofs.Turning.{acted_by, move_runs}
 use Rattle.xmpp_worlds_follow.proofs.Downs.{ask_in}
 use Rattle.xmpp_worlds_run.specs.Going.{DeviceGoes}
 use Rattle.xmpp_worlds_run.specs.Running.{AreSmall, Bounds, DeviceRuns, IsInBounds, IsOwned, MoveRuns, WorldRuns, history_for, keep_in}

@@ -1,5 +1,5 @@
 -- What is known of a device that runs beside a world of items: its name, its numbers, what was acknowledged, and its log.
-use Rattle.std.proofs.Common.{◌≡◌, ℕ, suc, zero, ◌+◌, ◌≤◌, ◌<◌, ◌^◌, true, List, [], ◌∷◌, Some, length, slice_get, refl, subst, arith}
+use Rattle.std.proofs.Common.{◌≡◌, ℕ, suc, zero, ◌+◌, ◌<◌, ◌^◌, true, List, [], ◌∷◌, Some, length, slice_get, refl, subst, arith}
 use Rattle.std.proofs.lemmas.Option.{none-some}
 use Rattle.xmpp_client_fits.specs.Within.{IsClientWithin}
 use Rattle.xmpp_deeds_in_time.proofs.Kept.{Paged, paged_begins, paged_kept}

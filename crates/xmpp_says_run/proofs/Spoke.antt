@@ -8,7 +8,6 @@ use Rattle.xmpp_connections_follow.specs.Following.{WorldFollows}
 use Rattle.xmpp_device_logins.specs.Devices.{identity_at}
 use Rattle.xmpp_device_views.specs.Deeds.{Says, awaits, deeds_of}
 use Rattle.xmpp_device_views.specs.Identities.{Identity}
-use Rattle.xmpp_device_views.specs.Reading.{noted}
 use Rattle.xmpp_device_views.specs.Servers.{ServerShows}
 use Rattle.xmpp_flags_stay.proofs.Drifted.{same_ups, still_acked}
 use Rattle.xmpp_flags_stay.proofs.Flags.{flags_drift}

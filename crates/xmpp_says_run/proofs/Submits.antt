@@ -1,5 +1,5 @@
 -- The user submits a message, and the client takes it.
-use Rattle.std.proofs.Common.{◌≡◌, ◌≢◌, ℕ, ◌+◌, ◌≤◌, ◌<◌, ◌^◌, Bool, true, false, List, [], ◌∷◌, Ok, Some, length, slice_get, refl, sym, ap, subst, ◌∙◌, arith}
+use Rattle.std.proofs.Common.{◌≡◌, ℕ, ◌+◌, ◌≤◌, Bool, true, List, [], ◌∷◌, Ok, Some, length, slice_get, refl, sym, ap, subst, ◌∙◌}
 use Rattle.std.proofs.lemmas.Option.{same_Some}
 use Rattle.xmpp_client.specs.UserCalls as calls
 use Rattle.xmpp_client.specs.UserCalls.{say_answer}
@@ -13,7 +13,6 @@ use Rattle.xmpp_deeds_in_time.proofs.Timely.{room_to_say, says_in_time}
 use Rattle.xmpp_device_logins.specs.Devices.{identity_at}
 use Rattle.xmpp_device_views.specs.Deeds.{Says, awaits}
 use Rattle.xmpp_device_views.specs.Identities.{Identity}
-use Rattle.xmpp_device_views.specs.Reading.{noted}
 use Rattle.xmpp_item_fits.proofs.FittingImages.{keep_here, takes_any}
 use Rattle.xmpp_item_fits.proofs.MoveSteps.{move_fits}
 use Rattle.xmpp_item_fits.specs.Fitting.{MayItem}
@@ -46,7 +45,7 @@ use Rattle.xmpp_sessions.specs.Histories.{Spoken}
 use Rattle.xmpp_sessions.specs.Stanzas.{Message, Submission}
 use Rattle.xmpp_submissions_told.proofs.Saying.{built_so, says_may, says_put, says_same, says_shows}
 use Rattle.xmpp_submissions_told.specs.Told.{IsAcked, IsSaying, SameLog, SameUps, next_submission}
-use Rattle.xmpp_users_run.proofs.Turning.{IsTurn, move_runs}
+use Rattle.xmpp_users_run.proofs.Turning.{move_runs}
 use Rattle.xmpp_worlds_follow.proofs.Downs.{say_in}
 use Rattle.xmpp_worlds_run.specs.Going.{DeviceGoes}
 use Rattle.xmpp_worlds_run.specs.Running.{AreSmall, Bounds, DeviceRuns, IsInBounds, IsOwned, MoveRuns, WorldRuns, history_for, keep_in, said_at, spoken_by_move, spoken_where}
