@@ -12,7 +12,7 @@ use Rattle.xmpp_connections_follow.proofs.Stays.{reached_along}
 use Rattle.xmpp_connections_follow.specs.Following.{IsNextItem, WorldFollows}
 use Rattle.xmpp_cores_keep.specs.Mild.{ClientFits, DownFits, HallFits, UpFits}
 use Rattle.xmpp_device_logins.specs.Devices.{identity_at}
-use Rattle.xmpp_device_views.specs.Deeds.{Deed, awaits, deeds_of}
+use Rattle.xmpp_device_views.specs.Deeds.{awaits, deeds_of}
 use Rattle.xmpp_device_views.specs.Identities.{Identity}
 use Rattle.xmpp_device_views.specs.Pipes.{by_number}
 use Rattle.xmpp_device_views.specs.Reading.{HearingFollows, device_behind, noted, turn_on}
@@ -52,7 +52,7 @@ use Rattle.xmpp_sessions.specs.Histories.{spoken_in}
 use Rattle.xmpp_submissions_told.proofs.Served.{same_told}
 use Rattle.xmpp_worlds_run.proofs.BuiltAlong.{built_along}
 use Rattle.xmpp_worlds_run.specs.Going.{ArePutBuilt}
-use Rattle.xmpp_worlds_run.specs.Running.{AreSmall, Bounds, DeviceRuns, IsInBounds, IsOwned, MoveRuns, WorldRuns, history_for, keep_in}
+use Rattle.xmpp_worlds_run.specs.Running.{Bounds, DeviceRuns, IsInBounds, IsOwned, MoveRuns, WorldRuns, history_for, keep_in}
 use Rattle.xmpp_writer.specs.Items.{ItemOut}
 
 -- ---- what comes

@@ -1,7 +1,6 @@
 -- What a client learns of how many stanzas were handled is what its session in the links is told.
-use Rattle.std.proofs.Common.{◌≡◌, ℕ, ◌+◌, ◌-◌, ◌≤◌, ◌%◌, ◌^◌, true, List, [], ◌∷◌, ◌++◌, Option, Some, None, length, drop, refl, sym, ap, subst, ◌∙◌, arith, length-append}
+use Rattle.std.proofs.Common.{◌≡◌, ℕ, ◌+◌, ◌≤◌, true, [], ◌∷◌, Option, Some, None, length, refl, ap, subst, ◌∙◌, arith, length-append}
 use Rattle.std.proofs.lemmas.List.{length-drop}
-use Rattle.xmpp_client_rows.specs.Clients.{ClientView}
 use Rattle.xmpp_device_views.specs.Clients.{ClientShows, IsOwn, IsOwnShown}
 use Rattle.xmpp_device_views.specs.Deeds.{Learns}
 use Rattle.xmpp_device_views.specs.Identities.{Identity, Login}
@@ -13,12 +12,10 @@ use Rattle.xmpp_links.specs.Links.{LinkKept}
 use Rattle.xmpp_links.specs.Views.{Own, View}
 use Rattle.xmpp_links_events.specs.Lists.{IsDevice}
 use Rattle.xmpp_links_in_time.proofs.Put.{own_session, queue_length, seen_there}
-use Rattle.xmpp_outbox.specs.Sessions.{SessionView, with_waiting}
-use Rattle.xmpp_outbox.specs.Waiting.{acked}
-use Rattle.xmpp_session_deeds.specs.Deeds.{DoesAll, IsLearnt}
-use Rattle.xmpp_sessions.specs.Devices.{Session, Sessions, up_put}
+use Rattle.xmpp_outbox.specs.Sessions.{SessionView}
+use Rattle.xmpp_session_deeds.specs.Deeds.{DoesAll}
+use Rattle.xmpp_sessions.specs.Devices.{Sessions, up_put}
 use Rattle.xmpp_sessions.specs.Events.{acknowledged}
-use Rattle.xmpp_sessions_run.proofs.Turns.{HasSession}
 use Rattle.xmpp_writer.specs.Items.{ItemOut}
 
 -- the device learns a count, and nothing else

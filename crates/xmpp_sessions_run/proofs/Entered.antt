@@ -47,8 +47,8 @@ entered d = put_up Presence (put_up Carbons (knows d))
 
 -- ---- the sessions
 
-enters_so : (there end : Sessions) → DoesAll stanzas_read enters there end → MayAct ReadEnabled there × (end ≡ entered there)
-enters_so there end (one, (may, is), (two, (on, at), (three, (still, so), same))) = (
+enters_so : (there last : Sessions) → DoesAll stanzas_read enters there last → MayAct ReadEnabled there × (last ≡ entered there)
+enters_so there last (one, (may, is), (two, (on, at), (three, (still, so), same))) = (
   may,
   same ∙ so ∙ ap (λ z. put_up z two) presence_read ∙ ap (put_up Presence) (at ∙ ap (λ z. put_up z one) carbons_read ∙ ap (put_up Carbons) is),
 )
@@ -75,8 +75,8 @@ enters_timely s none = (
   ),
 )
 
-enters_built : (o : Owned) (history : List EntryView) → ArePutBuilt o history enters
-enters_built o history = (subst (λ y. IsUpAs o y carbons_item) (sym carbons_read) refl, (subst (λ y. IsUpAs o y available_item) (sym presence_read) refl, tt))
+enters_built : (o : Owned) (entries : List EntryView) → ArePutBuilt o entries enters
+enters_built o entries = (subst (λ y. IsUpAs o y carbons_item) (sym carbons_read) refl, (subst (λ y. IsUpAs o y available_item) (sym presence_read) refl, tt))
 
 same_entered : (d there : Sessions) → IsDriftedTo d there → SameUps (entered d) (entered there)
 same_entered d there by = record {

@@ -24,8 +24,8 @@ use Rattle.xmpp_worlds_run.specs.Running.{Bounds, MoveRuns, keep_in}
 use Rattle.xmpp_writer.specs.Items.{ItemOut}
 
 -- where there was one
-gives_up : (there end : Sessions) → DoesAll stanzas_read (Drops ∷ []) there end → end ≡ goes_offline there
-gives_up there end (next, does, same) = same ∙ by does
+gives_up : (there last : Sessions) → DoesAll stanzas_read (Drops ∷ []) there last → last ≡ goes_offline there
+gives_up there last (next, does, same) = same ∙ by does
   where
     by : Does stanzas_read Drops there next → next ≡ goes_offline there
     by (inl on) = on.1

@@ -13,7 +13,7 @@ use Rattle.xmpp_links_in_time.specs.InTime.{AreInTime}
 use Rattle.xmpp_log.specs.Views.{LogView}
 use Rattle.xmpp_log_readings.specs.Shown.{LogShows}
 use Rattle.xmpp_one_device_acts.proofs.Acting.{act_reaches, act_spoken}
-use Rattle.xmpp_outbox.specs.Sessions.{SessionView, with_waiting}
+use Rattle.xmpp_outbox.specs.Sessions.{with_waiting}
 use Rattle.xmpp_outbox.specs.Waiting.{acked}
 use Rattle.xmpp_schedule.specs.Schedules.{WireView}
 use Rattle.xmpp_session_deeds.proofs.Sorted.{drifts_first}

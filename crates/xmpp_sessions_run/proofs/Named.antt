@@ -1,5 +1,5 @@
 -- The client reads that a resource was bound: its next epoch begins.
-use Rattle.std.proofs.Common.{◌≡◌, ◌≢◌, ℕ, ◌+◌, ◌<◌, ◌^◌, ◌&&◌, Bool, true, false, List, [], ◌∷◌, ◌++◌, Option, Some, None, inl, inr, refl, sym, ap, ap₂, subst, ◌∙◌, arith, append_assoc}
+use Rattle.std.proofs.Common.{◌≡◌, ℕ, ◌+◌, ◌<◌, ◌^◌, ◌&&◌, Bool, true, false, List, [], ◌∷◌, ◌++◌, Option, Some, None, inl, inr, refl, sym, ap, ap₂, subst, ◌∙◌, arith, append_assoc}
 use Rattle.std.specs.Prelude.{pos}
 use Rattle.xmpp_client_rows.specs.Clients.{Turn}
 use Rattle.xmpp_client_rows.specs.SessionRows.{asks, begins_epoch}
@@ -30,7 +30,7 @@ use Rattle.xmpp_session_deeds.proofs.Worlds.{drifts_reach, set_here, set_twice}
 use Rattle.xmpp_session_deeds.specs.Deeds.{Binds, Counts, DoesAmid, Drift, Drifts, Ends, drift_events, with_device}
 use Rattle.xmpp_session_views.specs.Served.{FlagsShow}
 use Rattle.xmpp_session_views.specs.Submitted.{SubmissionsShow}
-use Rattle.xmpp_sessions.specs.Devices.{Device, NoRow, Sessions, Unread, World}
+use Rattle.xmpp_sessions.specs.Devices.{Device, Sessions, Unread, World}
 use Rattle.xmpp_sessions.specs.Events as events
 use Rattle.xmpp_sessions.specs.Events.{At, Event, ReadBound, Reaches, is_present, reads_bound}
 use Rattle.xmpp_sessions.specs.Histories.{spoken_in}

@@ -1,5 +1,5 @@
 -- What the client does on each of these words.
-use Rattle.std.proofs.Common.{◌≡◌, ℕ, true, List, [], ◌∷◌, Some, None, length, codes, if◌then◌else◌, is_ok, not, option_map, Option, refl, sym, ap, subst, ◌∙◌, arith}
+use Rattle.std.proofs.Common.{◌≡◌, ℕ, ◌+◌, true, false, List, [], ◌∷◌, Some, None, length, codes, if◌then◌else◌, is_ok, not, Option, refl, ap, subst, ◌∙◌, arith}
 use Rattle.std.proofs.Math.Nat.{mod-lt}
 use Rattle.xmpp_basis.proofs.HexDigits.{length-hex16_of}
 use Rattle.xmpp_client.specs.Steps.{online_in, told_row}
@@ -44,7 +44,7 @@ use Rattle.xmpp_stanza.specs.declared.conditions.Condition.TheVariants.{ItemNotF
 use Rattle.xmpp_stanza.specs.declared.kinds.IqKind.TheVariants.{Result}
 use Rattle.xmpp_stanza.specs.Written.{iq_elem}
 use Rattle.xmpp_trees.specs.Trees.{Elem, child, no_nodes}
-use Rattle.xmpp_writer.specs.Items.{ItemOut, Whole}
+use Rattle.xmpp_writer.specs.Items.{ItemOut}
 
 some_digits : (text : List ℕ) → length text ≡ 16 → is_empty text ≡ false
 some_digits [] size = absurd (let no_way : ⊥ = cc in no_way)

@@ -1,5 +1,5 @@
 -- A word on a session comes down: behind it the worlds are beside one another still.
-use Rattle.std.proofs.Common.{◌≡◌, ℕ, ◌+◌, ◌<◌, ◌≤◌, ◌^◌, Some, length, refl, sym, ap, subst, ◌∙◌, arith}
+use Rattle.std.proofs.Common.{◌≡◌, ℕ, ◌+◌, ◌<◌, ◌^◌, refl, sym, subst, ◌∙◌, arith}
 use Rattle.std.proofs.lemmas.Option.{same_Some}
 use Rattle.xmpp_client_reads.proofs.AllReads.{counts_read, session_read}
 use Rattle.xmpp_client_rows.specs.AckRows.{acknowledges}
