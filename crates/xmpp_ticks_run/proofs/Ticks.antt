@@ -31,7 +31,7 @@ tick_runs schedule b says milliseconds w x runs =
       server = moment_runs (keep_in schedule) (owned_of schedule) (names_of schedule) x.takes w.server runs.server later;
       takes = refl;
       moment = refl;
-      now = let shown = runs.now in let same : max w.server.moment later ≡ later = omega (arith, shown) in same;
+      now = let shown = runs.now in let same : max w.server.moment (w.moment + milliseconds) ≡ w.moment + milliseconds = omega (arith, shown) in same;
       fits = move_fits UpFits DownFits HallFits ClientFits keep_here takes_any (Tick milliseconds) w runs.fits tt;
       stands = move_stands (Tick milliseconds) w tt runs.stands;
       within = moment_within later (length w.wires) w.server runs.within;
