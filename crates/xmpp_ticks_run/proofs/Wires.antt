@@ -32,7 +32,7 @@ same_twice a b c first second q wire at =
 -- ---- what the server puts out
 
 pub emitted_same : (outs : List (Out ItemOut)) (l : List ItemWire) → AreOfSame l (all_emitted outs l)
-emitted_same [] l q wire at = (wire, at, refl)
+emitted_same [] l = λ q wire at. (wire, at, refl)
 emitted_same (Put k z ∷ outs) l =
     same_twice l (emitted (Put k z) l) (all_emitted outs (emitted (Put k z) l)) (where_same (put_down (z ∷ [])) (λ v. refl) (place_under k) l) (emitted_same outs (emitted (Put k z) l))
 emitted_same (Shut k ∷ outs) l = same_twice l (emitted (Shut k) l) (all_emitted outs (emitted (Shut k) l)) (where_same shut (λ v. refl) (place_under k) l) (emitted_same outs (emitted (Shut k) l))
