@@ -1,5 +1,5 @@
 -- The end of a connection is told to the server.
-use Rattle.std.proofs.Common.{◌≡◌, ℕ, ◌+◌, ◌≤◌, Bool, true, false, List, [], Option, Some, None, max, length, slice_get, if◌then◌else◌, refl, sym, ap, subst, ◌∙◌, ◌⊎◌, inl, inr, arith}
+use Rattle.std.proofs.Common.{◌≡◌, ℕ, ◌+◌, ◌≤◌, Bool, true, false, List, [], Option, Some, None, max, length, slice_get, if◌then◌else◌, refl, sym, ap, subst, ◌∙◌, inl, inr, arith}
 use Rattle.std.proofs.lemmas.Bool.{cases_eq}
 use Rattle.xmpp_connections_follow.proofs.Numbered.{length_changed}
 use Rattle.xmpp_connections_follow.specs.Following.{WorldFollows}
@@ -25,7 +25,6 @@ use Rattle.xmpp_schedule.specs.WireGrammar.{IsWireSchedule}
 use Rattle.xmpp_server_numbers.proofs.Within.{gone_within, moment_within}
 use Rattle.xmpp_server_numbers.specs.Unbound.{IsWithin}
 use Rattle.xmpp_server_runs_on.proofs.Events.{gone_flags, gone_runs, moment_flags, moment_runs}
-use Rattle.xmpp_session_views.specs.Served.{ServerRuns}
 use Rattle.xmpp_sessions.specs.Devices.{World}
 use Rattle.xmpp_sessions_laws.specs.Runs.{owned_of}
 use Rattle.xmpp_ticks_run.proofs.Goes.{apart_of}

@@ -1,5 +1,5 @@
 -- What an item on its way up is for the devices of a schedule.
-use Rattle.std.proofs.Common.{◌≡◌, ℕ, ◌+◌, ◌<◌, ◌≤◌, ◌^◌, true, List, [], ◌∷◌, Option, Some, None, length, map, slice_get, refl, sym, ap, subst, ◌∙◌, arith}
+use Rattle.std.proofs.Common.{◌≡◌, ℕ, ◌<◌, ◌≤◌, true, List, ◌∷◌, Option, Some, None, length, map, slice_get, refl, sym, subst, ◌∙◌, arith}
 use Rattle.std.proofs.lemmas.Bool.{false≢true}
 use Rattle.std.specs.Option.{IfSome, is_some, unwrap_or}
 use Rattle.xmpp_device_logins.proofs.OwnedDevices.{declared}
@@ -20,7 +20,6 @@ use Rattle.xmpp_schedule.specs.WireGrammar.{IsWireSchedule}
 use Rattle.xmpp_server_follows.specs.Taking.{AreApart, AreCountable, HasNumber}
 use Rattle.xmpp_server_numbers.proofs.Within.{next_within}
 use Rattle.xmpp_sessions.specs.Devices.{World}
-use Rattle.xmpp_sessions.specs.Histories.{spoken_in}
 use Rattle.xmpp_sessions_laws.specs.Runs.{owned_of, steps_in}
 use Rattle.xmpp_words_run.specs.Words.{IsDeviceOf}
 use Rattle.xmpp_worlds_follow.proofs.Ups.{item_goes_up}

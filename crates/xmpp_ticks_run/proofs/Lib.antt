@@ -4,6 +4,6 @@ pub mod Quietly
 pub mod Wires
 pub mod Ticks
 pub mod Ends
-pub mod Kinds
+pub mod WordKinds
 pub mod Goes
 pub mod Ups

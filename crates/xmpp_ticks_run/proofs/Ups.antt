@@ -1,5 +1,5 @@
 -- A word goes up that is no stanza.
-use Rattle.std.proofs.Common.{◌≡◌, ◌≢◌, ℕ, ◌+◌, ◌≤◌, ◌<◌, ◌^◌, List, [], ◌∷◌, ◌++◌, Some, length, slice_get, refl, sym, ap, subst, ◌∙◌, ◌⊎◌, inl, inr, append-nil, arith}
+use Rattle.std.proofs.Common.{◌≡◌, ◌≢◌, ℕ, ◌+◌, ◌≤◌, List, [], ◌∷◌, ◌++◌, Some, length, slice_get, refl, sym, ap, subst, ◌∙◌, inl, inr, append-nil, arith}
 use Rattle.std.proofs.lemmas.Bool.{cases_eq}
 use Rattle.std.proofs.lemmas.Option.{same_Some}
 use Rattle.xmpp_connections_follow.proofs.Numbered.{length_changed}
@@ -33,7 +33,7 @@ use Rattle.xmpp_takes.proofs.PieceTakes.{item_takes}
 use Rattle.xmpp_ticks_run.proofs.Fresh.{bound_fresh}
 use Rattle.xmpp_ticks_run.proofs.Goes.{apart_of, device_of, goes_up, reached}
 use Rattle.xmpp_ticks_run.proofs.Kept.{kept_flags}
-use Rattle.xmpp_ticks_run.proofs.Kinds.{by_kind, silent_does, still_silent}
+use Rattle.xmpp_ticks_run.proofs.WordKinds.{by_kind, silent_does, still_silent}
 use Rattle.xmpp_ticks_run.proofs.Quietly.{quiet_device, quiet_move}
 use Rattle.xmpp_ticks_run.proofs.Wires.{at_same, emitted_long, emitted_same, same_twice}
 use Rattle.xmpp_wires.specs.Places.{changed_at}

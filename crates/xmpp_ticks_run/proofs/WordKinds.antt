@@ -1,5 +1,5 @@
 -- An item on its way up is that of a word but a stanza, whosever words are looked at.
-use Rattle.std.proofs.Common.{◌≡◌, ℕ, true, false, List, [], None, Some, sym, subst, ◌∙◌}
+use Rattle.std.proofs.Common.{◌≡◌, ℕ, true, List, [], sym, subst, ◌∙◌}
 use Rattle.std.proofs.lemmas.Bool.{false≢true}
 use Rattle.std.proofs.lemmas.Option.{none-some}
 use Rattle.xmpp_connections_follow.specs.Following.{WorldFollows}
