@@ -10,3 +10,4 @@ pub mod Messages
 pub mod Replies
 pub mod Sources
 pub mod Stanzas
+pub mod Ups

@@ -31,3 +31,8 @@ pub fn stanzas_go_up()
         → (g : ItemGoesUp (identity_at schedule wire.device o) (runs.devices wire.device o owned).logins w (runs.devices wire.device o owned).view place wire i) → (z : ItemOut) → g.has.word ≡ UpTraffic (St z)
         → MoveRuns schedule b says (Up place) w x }
 {}
+
+/// A law: so it is whatever goes up on a connection, also where nothing does, or no such connection is there.
+pub fn ups_run()
+    ensures { (schedule : WireView) (b : Bounds) → IsWireSchedule schedule → AreSmall b → (says place : ℕ) (w : ItemWorld) (x : World) → WorldRuns schedule b says w x → IsGround schedule x → MoveRuns schedule b says (Up place) w x }
+{}

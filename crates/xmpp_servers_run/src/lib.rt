@@ -3,4 +3,4 @@
 
 mod laws;
 
-pub use laws::{requests_are_placed, stanzas_go_up};
+pub use laws::{requests_are_placed, stanzas_go_up, ups_run};
