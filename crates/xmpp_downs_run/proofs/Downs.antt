@@ -15,7 +15,6 @@ use Rattle.xmpp_device_views.specs.Pipes.{by_number}
 use Rattle.xmpp_device_views.specs.Reading.{IsNextDown}
 use Rattle.xmpp_device_views.specs.WordItems.{down_item, is_behind_login}
 use Rattle.xmpp_downs_run.proofs.Quiet.{quiet_word_runs}
-use Rattle.xmpp_downs_run.specs.Words.{IsOfSessions, WordsRun}
 use Rattle.xmpp_item_worlds.specs.ItemMoves.{Down as DownMove}
 use Rattle.xmpp_item_worlds.specs.ItemPipes.{ItemWire}
 use Rattle.xmpp_item_worlds.specs.ItemWorlds.{ItemDevice, ItemWorld}
@@ -24,11 +23,11 @@ use Rattle.xmpp_links.specs.Words.{Ack, Bound, Chal, Down, DownWord, Enabled, En
 use Rattle.xmpp_schedule.specs.Contents.{Owned}
 use Rattle.xmpp_schedule.specs.Schedules.{WireView}
 use Rattle.xmpp_sessions.specs.Devices.{World}
+use Rattle.xmpp_sessions_run.proofs.Words.{session_word_runs}
 use Rattle.xmpp_worlds_run.specs.Running.{AreSmall, Bounds, DeviceRuns, IsInBounds, IsOwned, MoveRuns, WorldRuns}
 use Rattle.xmpp_writer.specs.Items.{ItemOut}
 
-module _ (schedule : WireView) (b : Bounds) (small : AreSmall b) (says : ℕ) (w : ItemWorld) (x : World) (runs : WorldRuns schedule b says w x) (ground : IsGround schedule x) (place : ℕ) (bounds : IsInBounds b says (DownMove place) w x)
-    (session_words : WordsRun schedule b says w x runs place IsOfSessions) where
+module _ (schedule : WireView) (b : Bounds) (small : AreSmall b) (says : ℕ) (w : ItemWorld) (x : World) (runs : WorldRuns schedule b says w x) (ground : IsGround schedule x) (place : ℕ) (bounds : IsInBounds b says (DownMove place) w x) where
   abbrev Runs : Type 0
   Runs = MoveRuns schedule b says (DownMove place) w x
 
@@ -57,13 +56,13 @@ module _ (schedule : WireView) (b : Bounds) (small : AreSmall b) (says : ℕ) (w
     word_runs Feat p n = quiet_word_runs schedule b says w x runs place wire o owned Feat tt p n
     word_runs Chal p n = quiet_word_runs schedule b says w x runs place wire o owned Chal tt p n
     word_runs Succ p n = quiet_word_runs schedule b says w x runs place wire o owned Succ tt p n
-    word_runs Failed p n = session_words wire o owned Failed tt p n
-    word_runs (Resumed q h) p n = session_words wire o owned (Resumed q h) tt p n
-    word_runs (Bound m) p n = session_words wire o owned (Bound m) tt p n
-    word_runs (Enabled m) p n = session_words wire o owned (Enabled m) tt p n
+    word_runs Failed p n = session_word_runs schedule b small says w x runs ground place wire o owned Failed tt p n bounds
+    word_runs (Resumed q h) p n = session_word_runs schedule b small says w x runs ground place wire o owned (Resumed q h) tt p n bounds
+    word_runs (Bound m) p n = session_word_runs schedule b small says w x runs ground place wire o owned (Bound m) tt p n bounds
+    word_runs (Enabled m) p n = session_word_runs schedule b small says w x runs ground place wire o owned (Enabled m) tt p n bounds
     word_runs (Down (St z)) p n = down_runs schedule b small says w x runs ground place wire o owned z n p bounds
     word_runs (Down Req) p n = quiet_word_runs schedule b says w x runs place wire o owned (Down Req) tt p n
-    word_runs (Down (Ack h)) p n = session_words wire o owned (Down (Ack h)) tt p n
+    word_runs (Down (Ack h)) p n = session_word_runs schedule b small says w x runs ground place wire o owned (Down (Ack h)) tt p n bounds
     word_runs (Err cause) p n = quiet_word_runs schedule b says w x runs place wire o owned (Err cause) tt p n
     word_runs End p n = quiet_word_runs schedule b says w x runs place wire o owned End tt p n
 

@@ -6,7 +6,7 @@ ghost use Rattle.xmpp_device_logins.specs.Devices.{identity_at};
 ghost use Rattle.xmpp_device_views.specs.Pipes.{by_number};
 ghost use Rattle.xmpp_device_views.specs.Reading.{IsNextDown};
 ghost use Rattle.xmpp_device_views.specs.WordItems.{down_item, is_behind_login};
-ghost use Rattle.xmpp_downs_run.specs.Words.{IsOfSessions, IsQuiet, WordsRun};
+ghost use Rattle.xmpp_downs_run.specs.Words.{IsQuiet};
 ghost use Rattle.xmpp_item_fits.specs.Fitting.{MayItem};
 ghost use Rattle.xmpp_item_worlds.specs.ItemMoves.{Cut, Dial, Down, DownEnd};
 ghost use Rattle.xmpp_item_worlds.specs.ItemPipes.{ItemWire};
@@ -48,9 +48,7 @@ pub fn quiet_words_come_down()
 {}
 
 /// A law: behind each item that comes down on a connection the worlds are beside one another still. Where there is no such
-/// connection, where nothing is on it, or where its device has another one, nothing happens. Of the words on how a session
-/// begins, is resumed, or is no more, and of counts (`IsOfSessions`), it is a premise.
+/// connection, where nothing is on it, or where its device has another one, nothing happens.
 pub fn downs_run()
-    ensures { (schedule : WireView) (b : Bounds) → AreSmall b → (says : ℕ) (w : ItemWorld) (x : World) (runs : WorldRuns schedule b says w x) → IsGround schedule x → (place : ℕ) → IsInBounds b says (Down place) w x
-        → WordsRun schedule b says w x runs place IsOfSessions → MoveRuns schedule b says (Down place) w x }
+    ensures { (schedule : WireView) (b : Bounds) → AreSmall b → (says : ℕ) (w : ItemWorld) (x : World) → WorldRuns schedule b says w x → IsGround schedule x → (place : ℕ) → IsInBounds b says (Down place) w x → MoveRuns schedule b says (Down place) w x }
 {}
