@@ -1,5 +1,5 @@
 -- Each move, by the law of its kind.
-use Rattle.std.proofs.Common.{◌≡◌, ℕ, Option, None, Some, slice_get, refl, compute}
+use Rattle.std.proofs.Common.{◌≡◌, ℕ, Option, None, Some, slice_get, refl, arith}
 use Rattle.xmpp_connections_run.proofs.Still.{nobody_runs}
 use Rattle.xmpp_downs_run.proofs.Dials.{each_dial}
 use Rattle.xmpp_downs_run.proofs.Downs.{each_down}
@@ -21,7 +21,7 @@ use Rattle.xmpp_users_run.proofs.Given.{close_runs, forget_runs}
 use Rattle.xmpp_worlds_run.specs.Running.{AreSmall, IsInBounds, MoveRuns, WorldRuns}
 
 small : AreSmall bounds
-small = record { stanzas = compute; dials = compute }
+small = record { stanzas = omega arith; dials = omega arith }
 
 module _ (schedule : WireView) (right : IsWireSchedule schedule) (says : ℕ) (w : ItemWorld) (x : World) (runs : WorldRuns schedule bounds says w x) where
   forgotten : (i : ℕ) (e : Option ItemDevice) → slice_get w.devices i ≡ e → MoveRuns schedule bounds says (Forget i) w x
