@@ -1,0 +1,5 @@
+pub mod Known
+pub mod Spoke
+pub mod Submits
+pub mod Asks
+pub mod Calls

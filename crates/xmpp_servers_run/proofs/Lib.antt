@@ -1,0 +1,13 @@
+pub mod Placed
+pub mod UpBuilt
+pub mod Amid
+pub mod Flags
+pub mod Links
+pub mod Coming
+pub mod Worlds
+pub mod Submitted
+pub mod Messages
+pub mod Replies
+pub mod Sources
+pub mod Stanzas
+pub mod Ups

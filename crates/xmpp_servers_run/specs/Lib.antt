@@ -1,0 +1,2 @@
+-- law: requests that are under way to the server
+pub mod Placed

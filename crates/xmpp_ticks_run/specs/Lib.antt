@@ -1,0 +1,1 @@
+pub use Rattle.xmpp_edge.specs.Listed
