@@ -5,3 +5,5 @@ pub mod ConnLines
 pub mod OpenNumbers
 -- reports
 pub mod ReadReports
+-- each schedule
+pub mod WholeRuns
