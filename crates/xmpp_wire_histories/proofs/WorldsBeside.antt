@@ -1,12 +1,15 @@
--- Each world of the history of a schedule that goes beside a run is itself beside a world of the two applications.
+-- Each world of the history of a wire schedule is beside a world of the two applications.
 use Rattle.std.proofs.Common.{◌≡◌, ℕ, List, [], ◌∷◌, Some, subst}
 use Rattle.std.specs.List.{AllByRecursion, flat_map, slice_get}
 use Rattle.std.specs.Prelude.{IfSome}
 use Rattle.xmpp_item_fits.proofs.ChangedLists.{all_at}
+use Rattle.xmpp_lines_run.proofs.WholeSchedules.{schedule_runs}
+use Rattle.xmpp_moves_run.proofs.Moves.{each_runs}
 use Rattle.xmpp_schedule.proofs.Lists.{all_append}
 use Rattle.xmpp_schedule.specs.Schedules.{WireView}
+use Rattle.xmpp_schedule.specs.WireGrammar.{IsWireSchedule}
 use Rattle.xmpp_schedule.specs.declared.schedule.WireLine.{WireLine}
-use Rattle.xmpp_schedules_run.specs.Besides.{AreBeside, GoBeside, GoLines, ScheduleRuns}
+use Rattle.xmpp_schedules_run.specs.Besides.{AreBeside, GoBeside, GoLines}
 use Rattle.xmpp_sessions.specs.Devices as sessions
 use Rattle.xmpp_sessions.specs.Events.{Event}
 use Rattle.xmpp_sessions.specs.Histories.{state_after}
@@ -36,8 +39,9 @@ lines_beside s (line ∷ lines) (run ∷ runs) W x go =
     all_append (HasBeside s) (worlds_by (moves_of line W) W) (worlds_along lines (stepped line W)) (moves_beside s (moves_of line W) run.moves W x go.1)
     (lines_beside s lines runs (stepped line W) (state_after x (flat_map (λ one. one) run.moves)) go.2)
 
-pub beside_at : (s : WireView) → ScheduleRuns s → (j : ℕ) (W : World) → slice_get (history_of s) j ≡ Some W → HasBeside s W
-beside_at s runs j W at =
+pub beside_at : (s : WireView) → IsWireSchedule s → (j : ℕ) (W : World) → slice_get (history_of s) j ≡ Some W → HasBeside s W
+beside_at s right j W at =
+    let runs = schedule_runs s right (each_runs s right) in
     let all : AllByRecursion (HasBeside s) (history_of s) = ((begins s, runs.first), lines_beside s s.lines runs.runs (world_at_start s) (begins s) runs.go) in
     subst (λ o. IfSome o (HasBeside s)) at (all_at (HasBeside s) (history_of s) j all)
 

@@ -6,8 +6,8 @@ use Rattle.xmpp_wire_histories.specs.Messages.{AreTold}
 use Rattle.xmpp_wire_histories.proofs.laws.sessions_are_pairs.Goals as goal
 
 pub returns-clause-pairs : goal.returns-clause-pairs
-returns-clause-pairs c = λ s right runs j w at i o owned.
-    let here = beside_at s runs j w at in (
+returns-clause-pairs c = λ s right j w at i o owned.
+    let here = beside_at s right j w at in (
       lemmas.pairs_here s w here.0 here.1 i o owned,
       subst (AreTold w i o) (sym (lemmas.pairs_are s w here.0 here.1 i o owned)) (told_here s right w here.0 (kept_at s j w at) here.1 i o owned),
     )
