@@ -1,5 +1,5 @@
 -- When each answer comes, and the text that is due with it.
-use Rattle.std.specs.Prelude.{◌≡◌, ◌≢◌, ℕ, ◌<◌, ◌≤◌, ◌==◌, Bool, true, false, ◌||◌, List, length, Option, Some, None, Err, IfSome, IsOk, IsSomeAnd}
+use Rattle.std.specs.Prelude.{◌≡◌, ◌≢◌, ℕ, ◌<◌, ◌≤◌, ◌==◌, Bool, true, false, ◌||◌, List, length, map, Option, Some, None, Err, IfSome, IsOk, IsSomeAnd}
 use Rattle.std.specs.Bool.{MatchBool}
 use Rattle.std.specs.Io.KnownBytes.{IsAtEnd}
 use Rattle.xmpp_check.specs.Checked.{told}
@@ -14,7 +14,8 @@ use Rattle.xmpp_report.specs.LawfulRuns.{KeepsLaws}
 use Rattle.xmpp_schedule.specs.WireReading.{reading}
 use Rattle.xmpp_report.specs.ReportText.{text_of}
 use Rattle.xmpp_report.specs.Reports.{ReportView}
-use Rattle.xmpp_schedule.specs.Schedules.{ScheduleView}
+use Rattle.xmpp_reports_run.specs.ShownWorlds.{shown_of}
+use Rattle.xmpp_schedule.specs.Schedules.{ScheduleView, WireView, seen_of}
 use Rattle.xmpp_journal.specs.AccountsFiles.{AccountsView, IsAccountsFile, accounts_text}
 use Rattle.xmpp_journal.specs.Journals.{InputView, Says}
 use Rattle.xmpp_journal.specs.Reading.{accounts_reading, rerun_reading}
@@ -31,7 +32,7 @@ use Rattle.xmpp_schedule.specs.declared.fault.LineWhy.{LineWhy}
 use Rattle.xmpp_schedule.specs.declared.fault.ScheduleFault.TheVariants.{BadLine}
 use Rattle.xmpp_schedule.specs.declared.schedule.Schedule.{Schedule}
 use Rattle.xmpp_schedule.specs.declared.schedule.Schedule.TheVariants.{Direct, Wire}
-use Rattle.xmpp_world.specs.Histories.{world_of}
+use Rattle.xmpp_world.specs.Histories.{history_of, world_of}
 use Rattle.xmpp_world.specs.WorldReports.{report_of}
 use Rattle.xmpp_cli.specs.Dealings.{Dealings, IsQuietDialer, IsQuietDoor}
 use Rattle.xmpp_cli.specs.Texts.{words_line, read_fault_line, too_long_line, bad_line, link_fault_line, entropy_fault_line, peer_line}
@@ -62,10 +63,16 @@ pub record IsDirectReport (schedule : ScheduleView) (report : ReportView) : Type
   pub direct : report ≡ direct_report schedule
   pub lawful : KeepsLaws (direct_history schedule) schedule report
 
--- A case for each kind of schedule. The report of a wire schedule is that of the world to which its lines lead, byte by byte.
+-- The report is that of the world to which the schedule's lines lead, byte by byte, and keeps the five laws of the schedule's
+-- version, over what each world on the way there shows.
+pub record IsWireReport (schedule : WireView) (report : ReportView) : Type 0 where
+  pub wire : report ≡ report_of (world_of schedule)
+  pub lawful : KeepsLaws (map shown_of (history_of schedule)) (seen_of schedule) report
+
+-- a case for each kind of schedule
 abbrev pub IsReportOf : Schedule → ReportView → Type 0
 IsReportOf (Direct schedule) report = IsDirectReport schedule report
-IsReportOf (Wire schedule) report = report ≡ report_of (world_of schedule)
+IsReportOf (Wire schedule) report = IsWireReport schedule report
 
 -- The text is the report of one schedule, and the input, where it is known, is that schedule's text.
 abbrev pub IsReplayed : Option (List ℕ) → List ℕ → Type 0

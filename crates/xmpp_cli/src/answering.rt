@@ -28,9 +28,10 @@ use xmpp_replay::direct;
 use xmpp_report::{Report, report_text};
 use xmpp_rerun::rerun_bytes;
 use xmpp_schedule::{Schedule, ScheduleFault, WireSchedule, read_schedule};
+use xmpp_wire_reports::wire_schedules_are_lawful;
 use xmpp_world::wire_report;
 
-/// The report of a schedule. The law is called for its fact, that the report of a direct one keeps the five laws.
+/// The report of a schedule. The laws are called for their fact, that it keeps the five laws of the schedule's version.
 fn reported(alloc: Global, schedule: Schedule) -> Result<Report, NoMemory>
     requires { IsSchedule schedule }
     ensures { IfOk result (λ report. IsReportOf schedule report) }
@@ -40,7 +41,10 @@ fn reported(alloc: Global, schedule: Schedule) -> Result<Report, NoMemory>
             direct_is_lawful();
             direct(alloc, schedule)
         }
-        Schedule::Wire(schedule) => wire_report(alloc, &schedule),
+        Schedule::Wire(schedule) => {
+            wire_schedules_are_lawful();
+            wire_report(alloc, &schedule)
+        }
     }
 }
 

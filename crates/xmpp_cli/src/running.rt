@@ -71,6 +71,9 @@ fn write_due<S: Source, K: Sink, O: Surroundings>(
 /// | 10 | of `serve` and `sync` only where no random bytes were drawn | `entropy fault` |
 /// | 11 | exactly where the source gave more than `MOST_BYTES_READ` bytes | `too long` |
 ///
+/// At status 0 of `replay` the report is that of the schedule's run, direct or over connections, and keeps the five laws of
+/// its version: no message is lost or doubled within what they say, and each device's log is of its account's history.
+///
 /// Each "exactly" yields to want of memory, and to what comes before it in the order words, read, length, grammar,
 /// write. Clauses speak of bytes where the source and the sink tell them.
 pub fn run<S: Source, K: Sink, D: Door, L: Dialer, C: Clock, E: Entropy>(
@@ -81,7 +84,8 @@ pub fn run<S: Source, K: Sink, D: Door, L: Dialer, C: Clock, E: Entropy>(
     outside: &mut Outside<D, L, C, E>,
 ) -> u8
     requires { IsSome outside.old.door }
-    // What was read is the text of one schedule, and what was written is the text of its report and nothing else.
+    // What was read is the text of one schedule, direct or wire, of either version. What was written is the text of its report
+    // and nothing else, and that report keeps the five laws of the schedule's version.
     ensures done_replay { result ≡ 0 → asked words.now ≡ Some Command.Replay → (schedule : Schedule) × (report : ReportView)
         × IsSchedule schedule
         × IfSome (S.left source.old) (λ input. input ≡ schedule_text schedule)
