@@ -14,7 +14,7 @@ use Rattle.xmpp_report.specs.LawfulRuns.{KeepsLaws}
 use Rattle.xmpp_schedule.specs.WireReading.{reading}
 use Rattle.xmpp_report.specs.ReportText.{text_of}
 use Rattle.xmpp_report.specs.Reports.{ReportView}
-use Rattle.xmpp_reports_run.specs.ShownWorlds.{shown_of}
+use Rattle.xmpp_wire_schedules.specs.ShownWorlds.{shown_of}
 use Rattle.xmpp_schedule.specs.Schedules.{ScheduleView, WireView, seen_of}
 use Rattle.xmpp_journal.specs.AccountsFiles.{AccountsView, IsAccountsFile, accounts_text}
 use Rattle.xmpp_journal.specs.Journals.{InputView, Says}

@@ -28,7 +28,7 @@ use xmpp_replay::direct;
 use xmpp_report::{Report, report_text};
 use xmpp_rerun::rerun_bytes;
 use xmpp_schedule::{Schedule, ScheduleFault, WireSchedule, read_schedule};
-use xmpp_wire_reports::wire_schedules_are_lawful;
+use xmpp_wire_schedules::wire_schedules_are_lawful;
 use xmpp_world::wire_report;
 
 /// The report of a schedule. The laws are called for their fact, that it keeps the five laws of the schedule's version.

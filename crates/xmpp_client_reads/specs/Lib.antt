@@ -1,3 +1,0 @@
-pub use Rattle.xmpp_edge.specs.Listed
--- law: which words
-pub mod Reads

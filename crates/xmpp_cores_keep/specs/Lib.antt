@@ -1,4 +1,0 @@
--- what each core puts, beside that it fits
-pub mod Mild
--- what is owed of that
-pub mod Owed

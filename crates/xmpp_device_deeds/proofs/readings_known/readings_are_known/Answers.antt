@@ -1,0 +1,11 @@
+use Rattle.xmpp_device_deeds.proofs.Next.{counted, well}
+use Rattle.xmpp_device_deeds.proofs.Readings.{page_short, reading_given}
+use Rattle.xmpp_device_deeds.proofs.readings_known.readings_are_known.Goals as goal
+
+pub returns : goal.returns
+returns c = record {
+  given = λ owned w read few i d there. reading_given w read i d there owned few;
+  most = page_short;
+  well = λ w taken read i d there online x rest split. well w read i d there online x rest split taken;
+  counted = λ w read i d there online x rest split. counted w read i d there online x rest split;
+}

@@ -1,5 +1,0 @@
-use Rattle.xmpp_devices_go.proofs.Grown.{built_grows, built_taken, down_grows, gives_built, says_built}
-use Rattle.xmpp_devices_go.proofs.laws.what_is_built_stays.Goals as goal
-
-pub returns : goal.returns
-returns c = record { one = down_grows; all = built_grows; takes = built_taken; gives = gives_built; says = says_built }

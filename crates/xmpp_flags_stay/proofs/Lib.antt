@@ -1,2 +1,0 @@
-pub mod Drifted
-pub mod Flags

@@ -1,1 +1,0 @@
-pub use Rattle.xmpp_edge.specs.Listed

@@ -1,9 +1,0 @@
-pub mod Sends
-pub mod Queries
-pub mod Pages
-pub mod Replies
-pub mod Addressed
-pub mod Picks
-pub mod HearingSums
-pub mod Carried
-pub mod Messages

@@ -1,0 +1,57 @@
+-- The id of a session that the server names can be answered.
+use Rattle.std.proofs.Common.{◌≡◌, ℕ, Bool, true, false, List, [], ◌∷◌, codes, Option, Some, None, Result, Ok, refl, sym, subst, arith}
+use Rattle.xmpp_basis.proofs.HexDigits.{length-hex16_of}
+use Rattle.xmpp_basis.specs.Hexadecimal.{hex16_of}
+use Rattle.xmpp_item_images.proofs.AnsweredItems.{no_challenge, no_message, no_request}
+use Rattle.xmpp_item_images.proofs.AnsweredRows.{either_acts, refusing_answers}
+use Rattle.xmpp_item_images.proofs.AnsweredSteps.{ActsAnswer}
+use Rattle.xmpp_item_images.specs.Mild.{IsAnswered}
+use Rattle.xmpp_client_fits.specs.Answerable.{IsAnswerable}
+use Rattle.xmpp_desk.specs.declared.limits.TheConstants.{RESUMABLE_SECONDS}
+use Rattle.xmpp_ext.specs.Readings.{enabled_read, enabled_with}
+use Rattle.xmpp_ext.specs.StreamManagement.{enabled_elem}
+use Rattle.xmpp_ext.specs.declared.stream_management.Enabled.{Enabled}
+use Rattle.xmpp_item_worlds.specs.ItemWorlds.{itself}
+use Rattle.xmpp_live.specs.declared.told.Told.{Told}
+use Rattle.xmpp_payload.specs.Readings.{where_this}
+use Rattle.xmpp_payload.specs.Shapes.{attr_or_empty}
+use Rattle.xmpp_payload.specs.declared.fault.ExtFault.{ExtFault}
+use Rattle.xmpp_requests_fit.specs.Bounds.{IsTextWithin, most_id}
+use Rattle.xmpp_session_rows.specs.Managements.{at_enable, enabled_as}
+use Rattle.xmpp_sizes.proofs.Characters.{printable_characters}
+use Rattle.xmpp_sizes.proofs.Numerals.{said_hex}
+use Rattle.xmpp_stanza.specs.declared.conditions.Condition.TheVariants.{UnexpectedRequest}
+use Rattle.xmpp_trees.specs.Trees.{Elem}
+
+this_is : {V : Type 0} (b : Bool) (r : Result V ExtFault) (v : V) → where_this b r ≡ Ok v → r ≡ Ok v
+this_is true r v is = is
+this_is false r v is = absurd cc
+
+with_is : (e : Elem) (o : Option (Option ℕ)) (v : Enabled) → enabled_with e o ≡ Ok v → attr_or_empty (codes "id") e ≡ v.id
+with_is e None v is = absurd cc
+with_is e (Some max) v is = cc
+
+session_answers : (e : Elem) (v : Enabled) → IsTextWithin most_id (attr_or_empty (codes "id") e) → enabled_read e ≡ Ok v → IsTextWithin most_id v.id
+session_answers e v short is = subst (IsTextWithin most_id) (with_is e _ v (this_is _ _ v is)) short
+
+resumable_id : (id : List ℕ) (seconds : ℕ) → attr_or_empty (codes "id") (enabled_elem (record { id = id; resume = true; max = Some seconds })) ≡ id
+resumable_id [] seconds = refl
+resumable_id (c ∷ cs) seconds = refl
+
+hex_within : (n : ℕ) → IsTextWithin most_id (hex16_of n)
+hex_within n = let said = said_hex n in let long = length-hex16_of n in record { characters = said.characters; short = omega (arith, long) }
+
+named_answers : (v : Enabled) → IsTextWithin most_id (attr_or_empty (codes "id") (enabled_elem v)) → IsAnswerable (enabled_elem v)
+named_answers v short = record {
+  request = λ q is asks. absurd (no_request (enabled_elem v) refl q is);
+  result = λ m given r is found reads. absurd (no_message (enabled_elem v) refl m is);
+  session = λ w is. session_answers (enabled_elem v) w short is;
+  challenge = λ p is. absurd (no_challenge (enabled_elem v) refl p is);
+}
+
+pub enabled_answers : (n : ℕ) (b : Bool) → IsAnswered (enabled_as n b)
+enabled_answers n true = named_answers (record { id = hex16_of n; resume = true; max = Some RESUMABLE_SECONDS }) (subst (IsTextWithin most_id) (sym (resumable_id (hex16_of n) RESUMABLE_SECONDS)) (hex_within n))
+enabled_answers n false = named_answers (record { id = []; resume = false; max = None }) (record { characters = printable_characters [] refl; short = omega arith })
+
+pub enable_acts : (k : ℕ) (resume : Bool) (t : Told) → ActsAnswer (at_enable itself k resume t)
+enable_acts k resume t = either_acts t.counted _ _ (refusing_answers k UnexpectedRequest) (tt, (enabled_answers t.number resume, tt))

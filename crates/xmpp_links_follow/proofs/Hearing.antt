@@ -1,0 +1,132 @@
+-- One connection as the client takes a word from it, puts words, or leaves it.
+use Rattle.std.proofs.Common.{◌≡◌, ℕ, not, List, [], ◌∷◌, ◌++◌, length, map, take, refl, sym, ap, subst, ◌∙◌, inl, inr}
+use Rattle.std.proofs.lemmas.Bool.{cases_Bool}
+use Rattle.std.proofs.lemmas.List.Elements.{All-append, All-nil, All-tail}
+use Rattle.std.specs.List.{All}
+use Rattle.xmpp_device_views.specs.Counted.{IsForClient, IsForServer}
+use Rattle.xmpp_device_views.specs.Identities.{Identity, Login}
+use Rattle.xmpp_device_views.specs.Pipes.{IsWire}
+use Rattle.xmpp_device_views.specs.WordItems.{down_item, is_behind_login, up_item}
+use Rattle.xmpp_item_worlds.specs.ItemPipes.{ItemPipe, ItemWire, closed, emptied, entered, handed_down, left, put_up}
+use Rattle.xmpp_links.proofs.CutLinks.{cut_conn}
+use Rattle.xmpp_links.proofs.Tables.{cut_down_words, cut_stops, cut_up_words}
+use Rattle.xmpp_links.specs.Stages.{Conn}
+use Rattle.xmpp_links.specs.Wires.{Flow, Stop, Wires, cut, down_words, left_down, send_up, up_words}
+use Rattle.xmpp_links.specs.Words.{Ack, Auth, Bind, Bound, Chal, Client, Down, DownWord, Enable, Enabled, End, Err, Failed, Feat, Foot, Hdr, Head, Req, Resp, ResumeAt, Resumed, St, Succ, Up, UpWord, down_stanzas, up_stanzas}
+use Rattle.xmpp_links_follow.proofs.Flows.{entered_end, entered_ended, entered_none, handed_words, heard_flowing, put_down_kept, put_heard, said_flowing, said_words, taken_down}
+use Rattle.xmpp_writer.specs.Items.{ItemOut}
+
+-- ---- stanzas among words
+
+pub up_both : {A : Type 0} (ws more : List (UpWord A)) → up_stanzas (ws ++ more) ≡ up_stanzas ws ++ up_stanzas more
+up_both [] more = refl
+up_both (Up (St z) ∷ ws) more = ap (λ zs. z ∷ zs) (up_both ws more)
+up_both (Up Req ∷ ws) more = up_both ws more
+up_both (Up (Ack n) ∷ ws) more = up_both ws more
+up_both (Hdr ∷ ws) more = up_both ws more
+up_both (Auth ∷ ws) more = up_both ws more
+up_both (Resp ∷ ws) more = up_both ws more
+up_both (ResumeAt p h ∷ ws) more = up_both ws more
+up_both (Bind ∷ ws) more = up_both ws more
+up_both (Enable ∷ ws) more = up_both ws more
+up_both (Foot ∷ ws) more = up_both ws more
+
+fewer_down : {A : Type 0} (P : A → Type 0) (word : DownWord A) (rest : List (DownWord A)) → All P (down_stanzas (word ∷ rest)) → All P (down_stanzas rest)
+fewer_down P (Down (St z)) rest all = All-tail P z (down_stanzas rest) all
+fewer_down P (Down Req) rest all = all
+fewer_down P (Down (Ack n)) rest all = all
+fewer_down P Head rest all = all
+fewer_down P Feat rest all = all
+fewer_down P Chal rest all = all
+fewer_down P Succ rest all = all
+fewer_down P Failed rest all = all
+fewer_down P (Resumed p h) rest all = all
+fewer_down P (Bound m) rest all = all
+fewer_down P (Enabled m) rest all = all
+fewer_down P (Err cause) rest all = all
+fewer_down P End rest all = all
+
+more_up : {A : Type 0} (P : A → Type 0) (puts : List (UpWord A)) (ws : Wires A) → All P (up_stanzas (up_words ws)) → All P (up_stanzas puts) → All P (up_stanzas (up_words (send_up puts ws)))
+more_up P puts (Flow us ds) all more = subst (All P) (sym (up_both us puts)) (All-append P (up_stanzas us) (up_stanzas puts) all more)
+more_up P puts (Stop us ds lu ld) all more = all
+
+entered_told : (more : List ItemOut) (p : ItemPipe) → (entered more p).told ≡ p.told
+entered_told more p = elim (cases_Bool p.ended) [ inl ended ↦ ap (λ (q : ItemPipe). q.told) (entered_ended more p ended) | inr flows ↦ rw flows refl ]
+
+-- ---- all words that are under way stay
+
+take_all : {T : Type 0} (items : List T) → take (length items) items ≡ items
+take_all [] = refl
+take_all (item ∷ items) = ap (λ l. item ∷ l) (take_all items)
+
+pub all_stay : {A : Type 0} (ws : Wires A) → up_words (cut (length (up_words ws)) 0 ws) ≡ up_words ws
+all_stay ws = cut_up_words (length (up_words ws)) 0 ws ∙ take_all (up_words ws)
+
+-- ---- the connection
+
+module _ (who : Identity) (x : Login) (k : ℕ) (c : Conn ItemOut) (w : ItemWire) (is : IsWire who x k c w) where
+  -- the client takes the first word, puts others, and comes to a state: the items that are left are those of their
+  -- words also behind it
+  pub wire_heard_as : (word : DownWord ItemOut) (rest : List (DownWord ItemOut)) (puts : List (UpWord ItemOut)) (client : Client) → down_words c.wires ≡ word ∷ rest
+      → map (down_item who x k (is_behind_login c.client)) rest ≡ map (down_item who x k (is_behind_login client)) rest → All IsForServer (up_stanzas puts)
+      → IsWire who x k (record c { client = client; wires = send_up puts (left_down rest c.wires) }) (put_up (map (up_item who x) puts) (handed_down w))
+  wire_heard_as word rest puts client first same more =
+      let f : UpWord ItemOut → ItemOut = up_item who x in
+      let g : DownWord ItemOut → ItemOut = down_item who x k (is_behind_login c.client) in
+      let after : DownWord ItemOut → ItemOut = down_item who x k (is_behind_login client) in
+      record {
+        of = is.of;
+        login = is.login;
+        up = said_words f puts c.wires w.up is.up is.up_ended ∙ ap (map f) (sym (put_heard rest puts c.wires));
+        down = handed_words g word rest w.down (is.down ∙ ap (map g) first) ∙ same ∙ ap (map after) (sym (taken_down rest puts c.wires));
+        up_ended = entered_end (map f puts) w.up ∙ is.up_ended ∙ ap not (sym (heard_flowing rest puts c.wires));
+        down_ended = is.down_ended ∙ ap not (sym (heard_flowing rest puts c.wires));
+        gone = entered_told (map f puts) w.up ∙ is.gone;
+        for_server =
+            subst (λ ws. All IsForServer (up_stanzas ws)) (sym (put_heard rest puts c.wires))
+            (more_up IsForServer puts c.wires is.for_server more);
+        for_client =
+            subst (λ ws. All IsForClient (down_stanzas ws)) (sym (taken_down rest puts c.wires))
+            (fewer_down IsForClient word rest (subst (λ ws. All IsForClient (down_stanzas ws)) first is.for_client));
+      }
+
+  pub wire_heard : (word : DownWord ItemOut) (rest : List (DownWord ItemOut)) (puts : List (UpWord ItemOut)) (client : Client) → down_words c.wires ≡ word ∷ rest → is_behind_login client ≡ is_behind_login c.client
+      → All IsForServer (up_stanzas puts) → IsWire who x k (record c { client = client; wires = send_up puts (left_down rest c.wires) }) (put_up (map (up_item who x) puts) (handed_down w))
+  wire_heard word rest puts client first same more = wire_heard_as word rest puts client first (ap (λ b. map (down_item who x k b) rest) (sym same)) more
+
+  -- it puts words
+  pub wire_said : (puts : List (UpWord ItemOut)) → All IsForServer (up_stanzas puts) → IsWire who x k (record c { wires = send_up puts c.wires }) (put_up (map (up_item who x) puts) w)
+  wire_said puts more =
+      let f : UpWord ItemOut → ItemOut = up_item who x in
+      let g : DownWord ItemOut → ItemOut = down_item who x k (is_behind_login c.client) in
+      record {
+        of = is.of;
+        login = is.login;
+        up = said_words f puts c.wires w.up is.up is.up_ended;
+        down = is.down ∙ ap (map g) (sym (put_down_kept puts c.wires));
+        up_ended = entered_end (map f puts) w.up ∙ is.up_ended ∙ ap not (sym (said_flowing puts c.wires));
+        down_ended = is.down_ended ∙ ap not (sym (said_flowing puts c.wires));
+        gone = entered_told (map f puts) w.up ∙ is.gone;
+        for_server = more_up IsForServer puts c.wires is.for_server more;
+        for_client = subst (λ ws. All IsForClient (down_stanzas ws)) (sym (put_down_kept puts c.wires)) is.for_client;
+      }
+
+  -- it leaves: what is on its way up stays, and all on its way down is lost
+  pub wire_left : IsWire who x k (cut_conn (length (up_words c.wires)) 0 c) (left w)
+  wire_left =
+      let ws : Wires ItemOut = c.wires in
+      record {
+        of = is.of;
+        login = is.login;
+        up = is.up ∙ ap (map (up_item who x)) (sym (all_stay ws));
+        down = ap (map (down_item who x k (is_behind_login c.client))) (sym (cut_down_words (length (up_words ws)) 0 ws));
+        up_ended = ap not (sym (cut_stops (length (up_words ws)) 0 ws));
+        down_ended = ap not (sym (cut_stops (length (up_words ws)) 0 ws));
+        gone = is.gone;
+        for_server = subst (λ us. All IsForServer (up_stanzas us)) (sym (all_stay ws)) is.for_server;
+        for_client = subst (λ ds. All IsForClient (down_stanzas ds)) (sym (cut_down_words (length (up_words ws)) 0 ws)) (All-nil IsForClient);
+      }
+
+-- where nothing is put, it is left as before the word was taken
+pub left_silent : (w : ItemWire) → left (put_up [] (handed_down w)) ≡ left w
+left_silent w = ap (λ (p : ItemPipe). record w { up = closed p; down = emptied w.down }) (entered_none w.up)

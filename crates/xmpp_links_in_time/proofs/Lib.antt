@@ -1,5 +1,0 @@
-pub mod Alike
-pub mod Put
-pub mod Along
-pub mod Staying
-pub mod Rest

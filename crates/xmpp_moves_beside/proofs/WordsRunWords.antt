@@ -1,0 +1,47 @@
+-- Each word that is no stanza.
+use Rattle.std.proofs.Common.{◌≡◌, ℕ, List, []}
+use Rattle.xmpp_desk.specs.State.{Hall}
+use Rattle.xmpp_device_views.specs.Identities.{Identity, Login}
+use Rattle.xmpp_device_views.specs.WordItems.{up_item}
+use Rattle.xmpp_item_worlds.specs.ItemMoves.{takes_told}
+use Rattle.xmpp_item_worlds.specs.ItemPipes.{ItemWire}
+use Rattle.xmpp_links.specs.Views.{Table, View}
+use Rattle.xmpp_links.specs.Words.{Ack, Auth, Bind, Enable, Foot, Hdr, Req, Resp, ResumeAt, St, Up, UpWord}
+use Rattle.xmpp_schedule.specs.Contents.{Owned}
+use Rattle.xmpp_links_follow.specs.Taking.{IsFirst, on_item}
+use Rattle.xmpp_moves_beside.proofs.Mutes.{mute_flags, mute_runs, mute_silent}
+use Rattle.xmpp_session_views.specs.Served.{FlagsShow, ServerRuns}
+use Rattle.xmpp_sessions.specs.Devices.{Sessions, Take}
+use Rattle.xmpp_moves_beside.proofs.Bound.{bound_runs, bound_silent}
+use Rattle.xmpp_moves_beside.proofs.Muted.{word_mute}
+use Rattle.xmpp_moves_beside.specs.WordsRunWords.{IsDeviceOf, IsSilent, IsUnbinding}
+use Rattle.xmpp_writer.specs.Items.{ItemOut}
+
+-- it binds, or not
+split_word : (P : UpWord ItemOut → Type 0) → P Bind → ((word : UpWord ItemOut) → IsUnbinding word → P word) → (word : UpWord ItemOut) → IsSilent word → P word
+split_word P bind other Hdr is = other Hdr tt
+split_word P bind other Auth is = other Auth tt
+split_word P bind other Resp is = other Resp tt
+split_word P bind other (ResumeAt p h) is = other (ResumeAt p h) tt
+split_word P bind other Bind is = bind
+split_word P bind other Enable is = other Enable tt
+split_word P bind other (Up (St z)) is = absurd is
+split_word P bind other (Up Req) is = other (Up Req) tt
+split_word P bind other (Up (Ack n)) is = other (Up (Ack n)) tt
+split_word P bind other Foot is = other Foot tt
+
+module _ (who : Identity) (logins : ℕ → Login) (h : Hall ItemOut) (wires : Table ItemWire) (v : View ItemOut) (k : ℕ) (owned : List Owned) (names : List (List ℕ)) (o : Owned) (of : IsDeviceOf owned names who o) where
+  pub word_runs : (keep : ℕ) (takes : List Take) → ServerRuns keep owned names takes h → (word : UpWord ItemOut) → IsSilent word → IsFirst who logins h wires v k word → ServerRuns keep owned names takes (on_item k (up_item who (logins k) word) h).hall
+  word_runs keep takes runs =
+      split_word (λ word. IsFirst who logins h wires v k word → ServerRuns keep owned names takes (on_item k (up_item who (logins k) word) h).hall)
+      (λ p. bound_runs who logins h wires v k p owned names o of keep takes runs)
+      (λ word is p. mute_runs h k (up_item who (logins k) word) (word_mute who (logins k) word is) keep owned names takes runs)
+
+  pub word_silent : (moment : ℕ) (word : UpWord ItemOut) → IsSilent word → IsFirst who logins h wires v k word → takes_told moment (on_item k (up_item who (logins k) word) h).outs ≡ []
+  word_silent moment =
+      split_word (λ word. IsFirst who logins h wires v k word → takes_told moment (on_item k (up_item who (logins k) word) h).outs ≡ [])
+      (λ p. bound_silent who logins h wires v k p owned names o of moment) (λ word is p. mute_silent h k (up_item who (logins k) word) (word_mute who (logins k) word is) moment)
+
+pub word_flags : (who : Identity) (logins : ℕ → Login) (h : Hall ItemOut) (wires : Table ItemWire) (v : View ItemOut) (k : ℕ) (word : UpWord ItemOut) (account : ℕ) (resource : List ℕ) (d : Sessions)
+    → IsFirst who logins h wires v k word → IsUnbinding word → FlagsShow account resource h d → FlagsShow account resource (on_item k (up_item who (logins k) word) h).hall d
+word_flags who logins h wires v k word account resource d p is shows = mute_flags h k (up_item who (logins k) word) (word_mute who (logins k) word is) account resource d p.server.hall.sessions shows

@@ -1,2 +1,0 @@
--- law: what a step leaves of other devices
-pub mod Beside

@@ -1,2 +1,0 @@
--- law: a stanza that is no message, and the session that it is of
-pub mod Replied

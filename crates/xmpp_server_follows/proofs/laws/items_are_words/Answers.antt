@@ -1,5 +1,0 @@
-use Rattle.xmpp_server_follows.proofs.ItemsTaken.{next_is_word, world_follows}
-use Rattle.xmpp_server_follows.proofs.laws.items_are_words.Goals as goal
-
-pub returns : goal.returns
-returns c = record { words = next_is_word; worlds = world_follows }

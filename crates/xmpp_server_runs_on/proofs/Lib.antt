@@ -1,7 +1,0 @@
-pub mod MuteActs
-pub mod MuteRows
-pub mod Flagged
-pub mod Mutes
-pub mod Binding
-pub mod Events
-pub mod Stanzas

@@ -1,2 +1,0 @@
--- law: what comes but stanzas
-pub mod Coming

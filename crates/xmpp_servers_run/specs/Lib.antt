@@ -1,2 +1,0 @@
--- law: requests that are under way to the server
-pub mod Placed

@@ -1,4 +1,0 @@
-pub mod FullQueues
-pub mod MessageEvents
-pub mod ReplyEvents
-pub mod DeedEvents

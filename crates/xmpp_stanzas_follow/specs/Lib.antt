@@ -1,3 +1,0 @@
-pub use Rattle.xmpp_edge.specs.Listed
--- law: what a stanza gives to whom
-pub mod Given

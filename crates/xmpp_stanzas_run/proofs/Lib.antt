@@ -1,2 +1,0 @@
-pub mod GivenHere
-pub mod MessagesGiven

@@ -1,2 +1,0 @@
--- law: the device to which something is given
-pub mod Beside

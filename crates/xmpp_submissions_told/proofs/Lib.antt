@@ -1,9 +1,0 @@
-pub mod Lines
-pub mod Shown
-pub mod Puts
-pub mod Counts
-pub mod Ends
-pub mod Saying
-pub mod Asking
-pub mod Served
-pub mod Grown

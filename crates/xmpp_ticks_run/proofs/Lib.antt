@@ -1,9 +1,0 @@
-pub mod Kept
-pub mod Fresh
-pub mod Quietly
-pub mod Wires
-pub mod Ticks
-pub mod Ends
-pub mod WordKinds
-pub mod Goes
-pub mod Ups

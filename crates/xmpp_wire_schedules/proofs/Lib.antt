@@ -1,0 +1,59 @@
+-- first worlds
+pub mod Lists
+pub mod FirstServers
+pub mod FirstDevices
+pub mod FirstWorldsBeginning
+-- schedules run
+pub mod Places
+pub mod Rounds
+pub mod Wires
+pub mod ByteMoves
+pub mod SingleMoves
+pub mod SchedulesRunLines
+-- first lines
+pub mod FirstLinesBeginning
+-- refused lines
+pub mod MovesRefused
+pub mod NamesApart
+pub mod LinesRefused
+pub mod QuietMoves
+pub mod LinesAnswered
+-- lines
+pub mod LineCounts
+pub mod LineMoments
+pub mod LineSays
+pub mod LineEvents
+pub mod LinesAlong
+pub mod LinesDone
+pub mod WholeSchedules
+-- each move
+pub mod Moves
+-- lines
+pub mod LogLines
+pub mod TakeLines
+pub mod AccountLines
+-- worlds
+pub mod Ground
+pub mod Settled
+pub mod DeviceLines
+pub mod WorldTold
+pub mod Shown
+-- laws kept
+pub mod Composed
+-- the counts of a connection's bytes have 64 bits
+pub mod CountedBytes
+-- and so have all numbers that a run leaves open
+pub mod ConnLines
+pub mod OpenNumbers
+-- reports
+pub mod ReadReports
+-- each schedule
+pub mod WholeRuns
+-- each world of a history stands beside the applications
+pub mod WorldsBeside
+-- what each session has of lists
+pub mod EpochLists
+-- laws
+pub mod SessionPairs
+pub mod SessionMessages
+pub mod ShutConns

@@ -1,0 +1,16 @@
+pub use Rattle.xmpp_edge.specs.Listed
+-- law: a schedule's history beside events of the two applications
+pub mod Besides
+pub use Rattle.xmpp_sessions_laws.specs.Runs
+-- law: what the devices of a wire schedule refused
+pub mod Refusals
+pub mod Answered
+-- law: the report of a world of bytes beside one of the applications
+pub mod Reports
+-- law: what it shows
+pub mod ShownWorlds
+-- law: the sessions of a device in a world
+pub mod Pairs
+pub mod Messages
+-- law: what changes nothing
+pub mod Untouched

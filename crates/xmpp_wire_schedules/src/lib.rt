@@ -1,0 +1,24 @@
+//! Laws. Wire schedules beside runs of the two applications, and the laws of their reports.
+#![tactic(auto)]
+
+mod each_move;
+mod first_lines;
+mod first_worlds;
+mod histories;
+mod lawful;
+mod laws_kept;
+mod lines;
+mod refused_lines;
+mod reports_of_worlds;
+
+pub use each_move::each_move_runs;
+pub use first_lines::schedules_begin;
+pub use first_worlds::worlds_begin;
+pub use histories::{sessions_are_pairs, what_is_shut_changes_nothing};
+pub use lawful::{
+    wire_schedules_are_lawful, wire_schedules_are_readable, wire_schedules_are_told_apart,
+};
+pub use laws_kept::schedules_that_run_are_lawful;
+pub use lines::lines_run;
+pub use refused_lines::{lines_are_answered, lines_are_refused, moves_leave_refused};
+pub use reports_of_worlds::{reports_run, worlds_show};

@@ -1,5 +1,0 @@
-pub mod Muted
-pub mod Bound
-pub mod Stepped
-pub mod Following
-pub mod Words

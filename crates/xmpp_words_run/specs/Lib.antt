@@ -1,2 +1,0 @@
--- law: words of a device's connections, and its flags
-pub mod Words

@@ -1,4 +1,0 @@
-pub mod Lists
-pub mod FirstServers
-pub mod FirstDevices
-pub mod Beginning

@@ -1,2 +1,0 @@
-pub mod BuiltAlong
-pub mod Going
