@@ -9,7 +9,7 @@ pub mod Rounds
 pub mod Wires
 pub mod ByteMoves
 pub mod SingleMoves
-pub mod SchedulesRunLines
+pub mod LineUnits
 -- first lines
 pub mod FirstLinesBeginning
 -- refused lines

@@ -9,7 +9,7 @@ use Rattle.xmpp_schedule.specs.declared.schedule.Step.TheVariants as step
 use Rattle.xmpp_schedule.specs.declared.schedule.TheConstants.{MOST_DIALS, MOST_TIMES_TOGETHER}
 use Rattle.xmpp_schedule.specs.declared.schedule.WireStep.{WireStep}
 use Rattle.xmpp_schedule.specs.declared.schedule.WireStep.TheVariants as wire
-use Rattle.xmpp_wire_schedules.proofs.SchedulesRunLines.{MaySay, dials_of, units_of}
+use Rattle.xmpp_wire_schedules.proofs.LineUnits.{MaySay, dials_of, units_of}
 
 -- ---- a message, a page
 

@@ -13,7 +13,7 @@ use Rattle.xmpp_schedule.specs.declared.schedule.Step.TheVariants as step
 use Rattle.xmpp_schedule.specs.declared.schedule.WireStep.{WireStep}
 use Rattle.xmpp_schedule.specs.declared.schedule.WireStep.TheVariants as wire
 use Rattle.xmpp_wire_schedules.proofs.ByteMoves.{IsTimely, LineGoes, down_byte, no_moves, passes_go, rounds_go, up_byte}
-use Rattle.xmpp_wire_schedules.proofs.SchedulesRunLines.{MaySay, dials_of, units_of}
+use Rattle.xmpp_wire_schedules.proofs.LineUnits.{MaySay, dials_of, units_of}
 use Rattle.xmpp_wire_schedules.proofs.Rounds.{AtMost, IsInRound, most_behind, round_of}
 use Rattle.xmpp_wire_schedules.proofs.SingleMoves.{catch_up_byte, close_byte, cut_byte, dial_byte, forget_byte, say_byte, tick_byte}
 use Rattle.xmpp_wire_schedules.specs.Besides.{EachMoveRuns, IsImage, bounds}

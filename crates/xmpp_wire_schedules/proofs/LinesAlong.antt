@@ -13,7 +13,7 @@ use Rattle.xmpp_schedule.specs.Schedules.{WireView}
 use Rattle.xmpp_schedule.specs.WireGrammar.{AreWireLines, WireAbove, above_by, are_few, may_run}
 use Rattle.xmpp_schedule.specs.declared.schedule.WireLine.{WireLine}
 use Rattle.xmpp_wire_schedules.proofs.ByteMoves.{IsTimely}
-use Rattle.xmpp_wire_schedules.proofs.SchedulesRunLines.{dials_of, units_of}
+use Rattle.xmpp_wire_schedules.proofs.LineUnits.{dials_of, units_of}
 use Rattle.xmpp_wire_schedules.proofs.Rounds.{AtMost, joined}
 use Rattle.xmpp_wire_schedules.specs.Besides.{EachMoveRuns, GoLines, IsImage, bounds}
 use Rattle.xmpp_sessions.specs.Devices.{World}
