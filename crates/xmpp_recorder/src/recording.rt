@@ -12,9 +12,10 @@ use std::alloc::Global;
 use xmpp_edge::{Bytes, NoMemory};
 use xmpp_halves::Outgoing;
 use xmpp_journal::{AccountsFile, Event, LAST_CONNECTION};
+use xmpp_rerun::server_of;
 use xmpp_senders::{Sender, close, send_all};
 use xmpp_server::Outputs;
-use xmpp_serving::{are_bytes, server_of};
+use xmpp_serving::are_bytes;
 
 // Keeps an event for the journal.
 #[tactic(auto, using(crate::proofs::MoreEvents::views_more))]

@@ -1,4 +1,4 @@
-//! The server that a run begins with.
+//! The server of an accounts file, with which a run begins.
 ghost use Rattle.std.specs.Prelude.{◌≡◌, ◌≤◌, ◌<◌, ◌^◌, None, IfOk, IsTrue, length};
 ghost use Rattle.std.specs.List.{list_all};
 ghost use Rattle.xmpp_journal.specs.AccountsFiles.{IsAccountsFile};
@@ -60,7 +60,7 @@ fn begun(alloc: Global, config: Config) -> Result<Server, NoMemory>
 
 /// A server of the accounts of a file, without connections.
 #[tactic(auto, using(crate::proofs::AccountsAtStart::some_kept))]
-pub(crate) fn server_of(alloc: Global, file: &AccountsFile) -> Result<Server, NoMemory>
+pub fn server_of(alloc: Global, file: &AccountsFile) -> Result<Server, NoMemory>
     requires right { IsAccountsFile file.now }
     requires few { length file.now.accounts < 2 ^ 32 }
     ensures { IfOk result (λ server. server ≡ (run_at_start file.now).server) }

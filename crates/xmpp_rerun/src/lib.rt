@@ -8,5 +8,6 @@ mod laws;
 mod outputs;
 mod runs;
 
+pub use configuring::server_of;
 pub use laws::each_account_is_told;
 pub use runs::{rerun, rerun_bytes};

@@ -1,4 +1,3 @@
-mod Beginnings
 -- ---- what events do
 pub mod Adding
 pub mod EventLists

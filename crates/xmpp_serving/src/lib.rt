@@ -1,10 +1,9 @@
 //! A server serves connections one after another, and writes a journal of what happened (RFC 6120, RFC 6121). The parts of it
-//! that know of no order of connections stand by themselves: a server of an accounts file, what happens to it with its line in
-//! the journal, and the journal's end.
+//! that know of no order of connections stand by themselves: what happens to a server with its line in the journal, and
+//! the journal's end.
 #![tactic(auto)]
 
 mod book;
-mod configuring;
 mod ending;
 mod facts;
 mod fault;
@@ -14,7 +13,6 @@ mod serving;
 mod visiting;
 
 pub use book::{begin, on_connect, on_gone, on_piece};
-pub use configuring::server_of;
 pub use ending::finish;
 pub use facts::are_bytes;
 pub use fault::ServeFault;

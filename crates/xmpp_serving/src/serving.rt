@@ -10,7 +10,6 @@ ghost use Rattle.xmpp_serving.specs.Journaling.{AreFewer, AreGivenBack, HasServe
 ghost use Rattle.xmpp_serving.specs.Noting.{HaveVisited, IsNext, IsStart, book};
 
 use crate::book::begin;
-use crate::configuring::server_of;
 use crate::ending::finish;
 use crate::fault::ServeFault;
 use crate::visiting::serve_link;
@@ -18,6 +17,7 @@ use std::alloc::Global;
 use xmpp_edge::Bytes;
 use xmpp_journal::{AccountsFile, InputFault, read_accounts};
 use xmpp_outside::{Clock, Dialer, Door, Entropy, Link, Outside};
+use xmpp_rerun::server_of;
 use xmpp_server::Server;
 
 // The next connection is served, and its link is given back.
