@@ -57,3 +57,10 @@ pub mod EpochLists
 pub mod SessionPairs
 pub mod SessionMessages
 pub mod ShutConns
+-- late words
+pub mod OtherSessions
+pub mod WordsSparing
+pub mod WordsOutside
+pub mod LatePipes
+pub mod LateMoves
+pub mod LateBytes

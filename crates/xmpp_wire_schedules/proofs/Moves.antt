@@ -20,7 +20,7 @@ use Rattle.xmpp_moves_beside.proofs.Ticks.{tick_runs}
 use Rattle.xmpp_moves_beside.proofs.Given.{close_runs, forget_runs}
 use Rattle.xmpp_moves_beside.specs.Running.{AreSmall, IsInBounds, MoveRuns, WorldRuns}
 
-small : AreSmall bounds
+pub small : AreSmall bounds
 small = record { stanzas = omega arith; dials = omega arith }
 
 module _ (schedule : WireView) (right : IsWireSchedule schedule) (says : ℕ) (w : ItemWorld) (x : World) (runs : WorldRuns schedule bounds says w x) where

@@ -5,6 +5,7 @@ mod each_move;
 mod first_lines;
 mod first_worlds;
 mod histories;
+mod late_words;
 mod lawful;
 mod laws_kept;
 mod lines;
@@ -15,6 +16,7 @@ pub use each_move::each_move_runs;
 pub use first_lines::schedules_begin;
 pub use first_worlds::worlds_begin;
 pub use histories::{sessions_are_pairs, what_is_shut_changes_nothing};
+pub use late_words::late_words_change_no_archive;
 pub use lawful::{
     wire_schedules_are_lawful, wire_schedules_are_readable, wire_schedules_are_told_apart,
 };
