@@ -57,3 +57,8 @@ pub mod EpochLists
 pub mod SessionPairs
 pub mod SessionMessages
 pub mod ShutConns
+-- what each session has of takes, and what is taken behind a bind
+pub mod SessionRuns
+pub mod Chains
+pub mod BoundSessions
+pub mod TakenBehind

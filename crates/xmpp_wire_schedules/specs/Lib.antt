@@ -14,3 +14,5 @@ pub mod Pairs
 pub mod Messages
 -- law: what changes nothing
 pub mod Untouched
+-- law: what is taken behind a bind
+pub mod Bound
