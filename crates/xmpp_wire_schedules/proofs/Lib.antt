@@ -64,3 +64,8 @@ pub mod WordsOutside
 pub mod LatePipes
 pub mod LateMoves
 pub mod LateBytes
+-- what each session has of takes, and what is taken behind a bind
+pub mod SessionRuns
+pub mod Chains
+pub mod BoundSessions
+pub mod TakenBehind

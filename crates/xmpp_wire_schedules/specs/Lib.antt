@@ -16,3 +16,5 @@ pub mod Messages
 pub mod Untouched
 -- law: what a late word changes
 pub mod LateWords
+-- law: what is taken behind a bind
+pub mod Bound

@@ -1,6 +1,7 @@
 //! Laws. Wire schedules beside runs of the two applications, and the laws of their reports.
 #![tactic(auto)]
 
+mod binds;
 mod each_move;
 mod first_lines;
 mod first_worlds;
@@ -12,6 +13,7 @@ mod lines;
 mod refused_lines;
 mod reports_of_worlds;
 
+pub use binds::nothing_older_is_taken_behind_a_bind;
 pub use each_move::each_move_runs;
 pub use first_lines::schedules_begin;
 pub use first_worlds::worlds_begin;
