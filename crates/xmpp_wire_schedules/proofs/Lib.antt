@@ -57,3 +57,10 @@ pub mod EpochLists
 pub mod SessionPairs
 pub mod SessionMessages
 pub mod ShutConns
+-- which faults there are
+pub mod Reasons
+pub mod EventRows
+pub mod PagesStay
+pub mod ItemsTold
+pub mod PiecesTold
+pub mod Timely

@@ -14,3 +14,5 @@ pub mod Pairs
 pub mod Messages
 -- law: what changes nothing
 pub mod Untouched
+-- law: which faults there are
+pub mod Faults
