@@ -38,7 +38,7 @@ use Rattle.xmpp_wire_schedules.specs.Besides.{AreBeside, EachMoveRuns, GoBeside,
 use Rattle.xmpp_wire_schedules.proofs.Wires.{IsNoDial, downs_none, moves_many, served_none}
 use Rattle.xmpp_wire_schedules.proofs.Rounds.{AtMost, Goes, IsInRound, down_line, joined, most_behind, round_of, stays, up_line}
 
-cores : CoresFit UpFits DownFits (StandingHalls HallFits) ClientFits
+pub cores : CoresFit UpFits DownFits (StandingHalls HallFits) ClientFits
 cores = cores_fit UpFits DownFits HallFits ClientFits (cores_keep what_a_server_says_is_answered client_is_mild)
 
 -- a move of bytes is moves of items

@@ -69,3 +69,10 @@ pub mod SessionRuns
 pub mod Chains
 pub mod BoundSessions
 pub mod TakenBehind
+-- which faults there are
+pub mod Reasons
+pub mod EventRows
+pub mod PagesStay
+pub mod ItemsTold
+pub mod PiecesTold
+pub mod Timely

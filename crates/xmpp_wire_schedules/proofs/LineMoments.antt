@@ -24,30 +24,30 @@ use Rattle.xmpp_world.specs.Worlds.{World, number_at}
 
 -- ---- moves that leave the moment
 
-abbrev IsStill : Move → Type 0
+abbrev pub IsStill : Move → Type 0
 IsStill m = (w : World) → (moved m w).moment ≡ w.moment
 
 moment_if : (b : Bool) (u v w : World) → u.moment ≡ w.moment → v.moment ≡ w.moment → (cond b u v).moment ≡ w.moment
 moment_if true u v w p q = p
 moment_if false u v w p q = q
 
-dialed : (place : ℕ) (o : Option DeviceState) (w : World) → (dialed_by place o w).moment ≡ w.moment
+pub dialed : (place : ℕ) (o : Option DeviceState) (w : World) → (dialed_by place o w).moment ≡ w.moment
 dialed place None w = refl
 dialed place (Some d) w = refl
 
-forgot : (place : ℕ) (o : Option DeviceState) (w : World) → (forgot_by place o w).moment ≡ w.moment
+pub forgot : (place : ℕ) (o : Option DeviceState) (w : World) → (forgot_by place o w).moment ≡ w.moment
 forgot place None w = refl
 forgot place (Some d) w = refl
 
-closed : (place : ℕ) (o : Option DeviceState) (w : World) → (closed_by place o w).moment ≡ w.moment
+pub closed : (place : ℕ) (o : Option DeviceState) (w : World) → (closed_by place o w).moment ≡ w.moment
 closed place None w = refl
 closed place (Some d) w = refl
 
-said : (place line : ℕ) (to text : List ℕ) (private : Bool) (o : Option DeviceState) (w : World) → (said_by place line to text private o w).moment ≡ w.moment
+pub said : (place line : ℕ) (to text : List ℕ) (private : Bool) (o : Option DeviceState) (w : World) → (said_by place line to text private o w).moment ≡ w.moment
 said place line to text private None w = refl
 said place line to text private (Some d) w = refl
 
-asked : (place line most : ℕ) (o : Option DeviceState) (w : World) → (caught_up_by place line most o w).moment ≡ w.moment
+pub asked : (place line most : ℕ) (o : Option DeviceState) (w : World) → (caught_up_by place line most o w).moment ≡ w.moment
 asked place line most None w = refl
 asked place line most (Some d) w = refl
 
@@ -59,7 +59,7 @@ end_told : (place : ℕ) (o : Option Wire) (w : World) → (told_up place o w).m
 end_told place None w = refl
 end_told place (Some wire) w = moment_if (is_end_due wire.up) (record w { server = after_gone (number_at place) w.moment w.server; wires = slice_set w.wires place (up_end_told wire) }) w w refl refl
 
-up_still : (place : ℕ) (count : Count) → IsStill (moves.Up place count)
+pub up_still : (place : ℕ) (count : Count) → IsStill (moves.Up place count)
 up_still place count w =
     let v = served_by place count (slice_get w.wires place) w in
     end_told place (slice_get v.wires place) v ∙ was_served place count (slice_get w.wires place) w
@@ -72,7 +72,7 @@ heard_on : (place : ℕ) (count : Count) (o : Option Wire) (w : World) → (down
 heard_on place count None w = refl
 heard_on place count (Some wire) w = heard_to place count wire (slice_get w.devices wire.device) w
 
-down_still : (place : ℕ) (count : Count) → IsStill (moves.Down place count)
+pub down_still : (place : ℕ) (count : Count) → IsStill (moves.Down place count)
 down_still place count w = heard_on place count (slice_get w.wires place) w
 
 -- ---- many of them

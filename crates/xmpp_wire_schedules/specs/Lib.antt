@@ -18,3 +18,5 @@ pub mod Untouched
 pub mod LateWords
 -- law: what is taken behind a bind
 pub mod Bound
+-- law: which faults there are
+pub mod Faults

@@ -3,6 +3,7 @@
 
 mod binds;
 mod each_move;
+mod faults;
 mod first_lines;
 mod first_worlds;
 mod histories;
@@ -15,6 +16,7 @@ mod reports_of_worlds;
 
 pub use binds::nothing_older_is_taken_behind_a_bind;
 pub use each_move::each_move_runs;
+pub use faults::{no_page_fails, streams_end_for_few_reasons};
 pub use first_lines::schedules_begin;
 pub use first_worlds::worlds_begin;
 pub use histories::{sessions_are_pairs, what_is_shut_changes_nothing};

@@ -1,0 +1,235 @@
+-- An item that comes to a device on its connection makes no fault that its client tells, by the word that it is.
+use Rattle.std.proofs.Common.{◌≡◌, ◌⊎◌, ℕ, zero, suc, ◌+◌, ◌≤◌, Bool, true, false, cond, List, [], ◌∷◌, Option, Some, None, length, slice_get, refl, sym, ap, subst, ◌∙◌, inl, inr, arith}
+use Rattle.std.proofs.lemmas.Bool.{false≢true}
+use Rattle.std.proofs.lemmas.List.{length-map}
+use Rattle.std.proofs.lemmas.Option.{none-some, same_Some}
+use Rattle.std.specs.List.{AllByRecursion}
+use Rattle.std.specs.Option.{IfSome, option_map}
+use Rattle.xmpp_archive.specs.Entries.{EntryView}
+use Rattle.xmpp_client.specs.Steps.{element_row, item_step, stream_condition}
+use Rattle.xmpp_client_rows.specs.Clients.{ClientView, Turn}
+use Rattle.xmpp_client_rows.specs.Speech.{in_items}
+use Rattle.xmpp_client_rows.specs.Turns.{ends}
+use Rattle.xmpp_client_rows.specs.declared.events.PeerFault.TheVariants.{Stream}
+use Rattle.xmpp_client_rows.specs.declared.phase.Phase.TheVariants as phase
+use Rattle.xmpp_device_deeds.proofs.Next.{well}
+use Rattle.xmpp_device_deeds.proofs.ReadingsKnownHistories.{world_plain}
+use Rattle.xmpp_device_deeds.proofs.Rest.{short_queue}
+use Rattle.xmpp_device_deeds.specs.Logged.{IsReadAs}
+use Rattle.xmpp_device_deeds.specs.Named.{IsNamed}
+use Rattle.xmpp_device_deeds.specs.Shown.{page_shown, tile_shown}
+use Rattle.xmpp_device_views.specs.Deeds.{awaits}
+use Rattle.xmpp_device_views.specs.Identities.{Identity}
+use Rattle.xmpp_device_views.specs.Pipes.{by_number}
+use Rattle.xmpp_device_views.specs.Reading.{IsNextDown, turn_on}
+use Rattle.xmpp_device_views.specs.WordItems.{down_item, features_item, is_behind_login}
+use Rattle.xmpp_item_images.proofs.TurnsBehind.{step_adds}
+use Rattle.xmpp_item_images.specs.Devices.{identity_at}
+use Rattle.xmpp_item_stanzas.specs.Downs.{down_stanza}
+use Rattle.xmpp_item_worlds.specs.ItemPipes.{ItemWire}
+use Rattle.xmpp_item_worlds.specs.ItemWorlds.{ItemDevice, ItemWorld, read_of, silent_turn}
+use Rattle.xmpp_links.proofs.WithPremises.{prompt_runs}
+use Rattle.xmpp_links.specs.Words.{Ack, Bound, Chal, Conflict, Constraint, Down, DownWord, Enabled, End, Err, Failed, Feat, Head, InBind, Req, Resumed, St, Succ, TooHigh}
+use Rattle.xmpp_links_follow.proofs.AllReads.{expected}
+use Rattle.xmpp_links_follow.proofs.DownWords.{next_down}
+use Rattle.xmpp_links_follow.proofs.Turning.{element_at, on_element}
+use Rattle.xmpp_links_follow.proofs.Working.{phase_here}
+use Rattle.xmpp_links_follow.specs.Following.{HasNextDown, IsNextItem}
+use Rattle.xmpp_log.specs.Views.{LogView, OpenPage, without_page}
+use Rattle.xmpp_moves_beside.proofs.Next.{IsNextRead, IsNextStanza, next_read, next_stanza}
+use Rattle.xmpp_moves_beside.proofs.Turned.{IsReadable, reaction, read_so}
+use Rattle.xmpp_moves_beside.specs.Ground.{IsGround}
+use Rattle.xmpp_moves_beside.specs.Running.{AreSmall, Bounds, DeviceRuns, IsOwned, WorldRuns, history_for, keep_in}
+use Rattle.xmpp_payload.specs.Names.{sasl}
+use Rattle.xmpp_payload_laws.specs.AsRead.{last_moment}
+use Rattle.xmpp_schedule.specs.Contents.{Owned}
+use Rattle.xmpp_schedule.specs.Schedules.{WireView}
+use Rattle.xmpp_sessions.specs.Devices as sessions
+use Rattle.xmpp_sessions.specs.Devices.{Reading, World}
+use Rattle.xmpp_sessions.specs.Events.{around}
+use Rattle.xmpp_sessions_laws.specs.Runs.{owned_of}
+use Rattle.xmpp_wire_schedules.proofs.EventRows.{IsFairItem, IsFine, IsStanzaAt, StepOut, step_out}
+use Rattle.xmpp_wire_schedules.proofs.PagesStay.{never_lost}
+use Rattle.xmpp_writer.specs.Items.{Closing, ItemOut, Opening, Whole}
+
+-- ---- small facts
+
+named_at : (owned : List Owned) (i : ℕ) (o : Owned) → AllByRecursion IsNamed owned → slice_get owned i ≡ Some o → IsNamed o
+named_at [] i o all there = absurd (none-some o there)
+named_at (p ∷ owned) zero o all there = subst IsNamed (same_Some p o there) all.0
+named_at (p ∷ owned) (suc i) o all there = named_at owned i o all.1 there
+
+none_shown : {A B : Type 0} (f : A → B) (o : Option A) → option_map f o ≡ None → o ≡ None
+none_shown f None is = refl
+none_shown f (Some a) is = absurd (none-some (f a) (sym is))
+
+never : (TooHigh ≡ Conflict) ⊎ (TooHigh ≡ Constraint) → ⊥
+never (inl e) = cc e
+never (inr e) = cc e
+
+features_fair : (behind : Bool) → IsFairItem (read_of (features_item behind))
+features_fair true = λ named. absurd (false≢true named)
+features_fair false = λ named. absurd (false≢true named)
+
+no_stanza : (c : ClientView ItemOut) (behind : Bool) → IsStanzaAt c (read_of (features_item behind)) → ⊥
+no_stanza c true at = false≢true at.1
+no_stanza c false at = false≢true at.1
+
+module _ (schedule : WireView) (b : Bounds) (small : AreSmall b) (says : ℕ) (w : ItemWorld) (x : World) (runs : WorldRuns schedule b says w x) (ground : IsGround schedule x) (timely : w.moment ≤ last_moment)
+    (place : ℕ) (wire : ItemWire) (o : Owned) (owned : IsOwned schedule wire.device o) where
+  abbrev i : ℕ
+  i = wire.device
+
+  abbrev old : DeviceRuns schedule w x i o
+  old = runs.devices i o owned
+
+  abbrev who : Identity
+  who = identity_at schedule i o
+
+  abbrev d : ItemDevice
+  d = old.shows.device
+
+  abbrev reading : Reading
+  reading = old.device.reading
+
+  abbrev history : List EntryView
+  history = history_for schedule x.takes o
+
+  abbrev At : DownWord ItemOut → Type 0
+  At word = IsNextDown who old.logins d (by_number w.wires) old.view (place + 1) word
+
+  abbrev item : (word : DownWord ItemOut) → At word → ItemOut
+  item word p = down_item who (old.logins (place + 1)) (place + 1) (is_behind_login p.conn.client) word
+
+  -- the open page isn't dropped
+  abbrev IsKept : ItemOut → Type 0
+  IsKept z = (page : OpenPage) → d.client.log.page ≡ Some page → (turn_on z d).client.log ≡ without_page d.client.log → ⊥
+
+  -- ---- a stanza
+
+  module _ (z : ItemOut) (p : At (Down (St z))) where
+    nx : IsNextStanza old.view d z
+    nx = next_stanza who old.logins d (by_number w.wires) old.view (place + 1) z p
+
+    nr : IsNextRead o history z old.device.sessions
+    nr = next_read old.view d z nx old.device.sessions old.sessions o history old.built
+
+    names : IsNamed o
+    names = named_at (owned_of schedule) i o ground.named.devices owned
+
+    early : x.clock ≤ last_moment
+    early = subst (λ n. n ≤ last_moment) (sym runs.clock) timely
+
+    known : IsReadable schedule w x i o old z
+    known = record {
+      taken = ground.taken;
+      read = ground.read;
+      keeps = ground.keeps;
+      account_named = names.account;
+      device_named = names.device;
+      next = nx;
+      plain = world_plain (owned_of schedule) x ground.taken ground.named early ground.few o.account;
+      few = ground.few;
+      more = (let few = runs.asked i old.device old.there in let most = small.stanzas in omega (arith, few, most));
+      short = subst (λ m. IfSome m (λ s. length s.waiting.queue ≤ 1002)) nx.has (short_queue who old.logins d old.view old.in_time old.shows.client);
+    }
+
+    abbrev next : Reading
+    next = (reaction schedule w x i o old z known).reading
+
+    read : IsReadAs o (keep_in schedule) history d nx.session z (reaction schedule w x i o old z known) (turn_on z d)
+    unfolding nx known
+    read = read_so schedule w x i o old z known
+
+    well_read : next.faulty ≡ false
+    well_read = well x ground.read i old.device old.there nr.online (down_stanza z) nr.rest nr.first ground.taken
+
+    stanza_kept : IsKept z
+    stanza_kept page there same = by reading.page refl
+      where
+        none_now : next.page ≡ None
+        none_now = none_shown (page_shown history) next.page (sym read.log.page ∙ ap (λ (l : LogView). l.page) same)
+
+        as_many : length next.tiles ≡ length reading.tiles
+        as_many =
+            sym (length-map next.tiles (tile_shown (keep_in schedule))) ∙ ap length (sym read.log.tiles ∙ ap (λ (l : LogView). l.tiles) same ∙ old.log.tiles)
+            ∙ length-map reading.tiles (tile_shown (keep_in schedule))
+
+        by : (q : Option sessions.OpenPage) → reading.page ≡ q → ⊥
+        by None none = none-some page (sym (old.log.page ∙ ap (option_map (page_shown history)) none) ∙ there)
+        by (Some q) is = never_lost (around x old.device) reading q is (down_stanza z) well_read none_now as_many
+
+    stanza_fair : (y : ItemOut) → y ≡ z → IsFairItem (read_of y)
+    stanza_fair (Opening h) same = tt
+    stanza_fair Closing same = tt
+    stanza_fair (Whole e) same = λ named.
+        let ended : (element_at d e phase.Online).client.phase ≡ phase.Apart =
+        ap (λ b. (cond b (ends (silent_turn d.client) (Stream (stream_condition e))) (element_row in_items (silent_turn d.client) phase.Online e)).client.phase) named in
+        let both : phase.Online ≡ phase.Apart =
+        sym read.phase ∙ ap (λ y. (turn_on y d).client.phase) (sym same) ∙ ap (λ (t : Turn ItemOut ItemOut). t.client.phase) (on_element d e phase.Online nx.online) ∙ ended in
+        absurd (let no_way : ⊥ = cc in no_way)
+
+  -- ---- each word
+
+  fair_word : (word : DownWord ItemOut) (p : At word) → IsFairItem (read_of (item word p))
+  unfolding sasl
+  fair_word Head p = tt
+  fair_word Feat p = features_fair (is_behind_login p.conn.client)
+  fair_word Chal p = λ named. absurd (false≢true named)
+  fair_word Succ p = λ named. absurd (false≢true named)
+  fair_word Failed p = λ named. absurd (false≢true named)
+  fair_word (Resumed q h) p = λ named. absurd (false≢true named)
+  fair_word (Bound m) p = λ named. absurd (false≢true named)
+  fair_word (Enabled m) p = λ named. absurd (false≢true named)
+  fair_word (Down (St z)) p = stanza_fair z p z refl
+  fair_word (Down Req) p = λ named. absurd (false≢true named)
+  fair_word (Down (Ack h)) p = λ named. absurd (false≢true named)
+  fair_word (Err Conflict) p = λ named. inl refl
+  fair_word (Err Constraint) p = λ named. inr refl
+  fair_word (Err TooHigh) p = absurd (never (expected who old.logins d (by_number w.wires) old.view (place + 1) (Err TooHigh) p))
+  fair_word End p = tt
+
+  kept_word : (word : DownWord ItemOut) (p : At word) → IsStanzaAt d.client (read_of (item word p)) → IsKept (item word p)
+  unfolding sasl
+  kept_word Head p at = absurd at
+  kept_word Feat p at = absurd (no_stanza d.client (is_behind_login p.conn.client) at)
+  kept_word Chal p at = absurd (false≢true at.1)
+  kept_word Succ p at = absurd (false≢true at.1)
+  kept_word Failed p at = absurd (false≢true at.1)
+  kept_word (Resumed q h) p at = absurd (false≢true at.1)
+  kept_word (Bound m) p at =
+      let binding = phase_here who old.logins d (by_number w.wires) old.view (place + 1) (Bound m) p InBind (expected who old.logins d (by_number w.wires) old.view (place + 1) (Bound m) p).1 in
+      let both : phase.Online ≡ phase.Binding = sym at.0 ∙ binding in
+      absurd (let no_way : ⊥ = cc in no_way)
+  kept_word (Enabled m) p at = absurd (false≢true at.1)
+  kept_word (Down (St z)) p at = stanza_kept z p
+  kept_word (Down Req) p at = absurd (false≢true at.1)
+  kept_word (Down (Ack h)) p at = absurd (false≢true at.1)
+  kept_word (Err Conflict) p at = absurd (false≢true at.1)
+  kept_word (Err Constraint) p at = absurd (false≢true at.1)
+  kept_word (Err TooHigh) p at = absurd (never (expected who old.logins d (by_number w.wires) old.view (place + 1) (Err TooHigh) p))
+  kept_word End p at = absurd at
+
+  -- ---- the item
+
+  module _ (z : ItemOut) (n : IsNextItem place i w d wire z) where
+    h : HasNextDown who old.logins d (by_number w.wires) old.view (place + 1) wire z
+    h = next_down who old.logins w old.view old.shows (prompt_runs awaits old.view old.prompt) place d wire z n
+
+    fair : IsFairItem (read_of z)
+    fair = subst (λ y. IsFairItem (read_of y)) h.is (fair_word h.word h.next)
+
+    kept : IsStanzaAt d.client (read_of z) → IsKept z
+    kept at = subst IsKept h.is (kept_word h.word h.next (subst (λ y. IsStanzaAt d.client (read_of y)) (sym h.is) at))
+
+    pub item_fine : (t : Turn ItemOut ItemOut) → t.client ≡ d.client → IsFine t → IsFine (item_step in_items t (read_of z))
+    item_fine t same fine = by (step_out t (read_of z) fair fine)
+      where
+        client_is : (item_step in_items t (read_of z)).client ≡ (turn_on z d).client
+        client_is = (step_adds (read_of z) t).client_is ∙ ap (λ c. (item_step in_items (silent_turn c) (read_of z)).client) same
+
+        by : StepOut t (read_of z) (item_step in_items t (read_of z)) → IsFine (item_step in_items t (read_of z))
+        by (inl done) = done
+        by (inr (at, (page, there, dropped))) =
+            absurd (kept (subst (λ c. IsStanzaAt c (read_of z)) same at) page (ap (λ (c : ClientView ItemOut). c.log.page) (sym same) ∙ there)
+            (ap (λ (c : ClientView ItemOut). c.log) (sym client_is) ∙ dropped ∙ ap (λ (c : ClientView ItemOut). without_page c.log) same))

@@ -1,0 +1,74 @@
+-- What the clients of a world of bytes tell of faults, and for which reasons its server ends streams.
+use Rattle.std.specs.Prelude.{◌≡◌, ◌⊎◌, ℕ, Bool, false, List, Some, codes, slice_get, take}
+use Rattle.std.specs.List.{AllByRecursion}
+use Rattle.xmpp_client.specs.Feeds.{bytes_step}
+use Rattle.xmpp_client_rows.specs.Speech.{in_bytes}
+use Rattle.xmpp_client_rows.specs.declared.events.Event.{Event}
+use Rattle.xmpp_client_rows.specs.declared.events.Event.TheVariants.{CatchUpRefused, Ended}
+use Rattle.xmpp_client_rows.specs.declared.events.PeerFault.{PeerFault}
+use Rattle.xmpp_client_rows.specs.declared.events.PeerFault.TheVariants.{Stream}
+use Rattle.xmpp_device_views.specs.Identities.{Login}
+use Rattle.xmpp_device_views.specs.Shows.{Shows}
+use Rattle.xmpp_devices.specs.Devices.{DeviceState, silent}
+use Rattle.xmpp_item_images.specs.Devices.{identity_at}
+use Rattle.xmpp_item_worlds.specs.ItemWorlds.{ItemWorld}
+use Rattle.xmpp_links.specs.Machine.{LinkReached}
+use Rattle.xmpp_links.specs.Stages.{Conn}
+use Rattle.xmpp_links.specs.Views.{View, has}
+use Rattle.xmpp_links.specs.Wires.{down_whole}
+use Rattle.xmpp_links.specs.Words.{Cause, Conflict, Constraint, DownWord, Err, TooHigh}
+use Rattle.xmpp_schedule.specs.Contents.{Owned}
+use Rattle.xmpp_schedule.specs.Schedules.{WireView}
+use Rattle.xmpp_wire_schedules.specs.Besides.{IsImage}
+use Rattle.xmpp_wires.specs.declared.wire.Wire.{Wire}
+use Rattle.xmpp_world.specs.Worlds.{World}
+use Rattle.xmpp_writer.specs.Items.{ItemOut}
+
+-- ---- what a client tells its user
+
+-- what it tells when the next n bytes of its connection are handed to it
+abbrev pub told_on : ℕ → Wire → DeviceState → List Event
+told_on n wire d = (bytes_step in_bytes (silent d.client) (take n wire.down.bytes)).turn.out.events
+
+-- However many bytes are handed to a device on the connection that it has, each event that its client then tells is of this
+-- kind.
+abbrev pub EachTells : (Event → Type 0) → World → Type 0
+EachTells P w = (place n : ℕ) (wire : Wire) (d : DeviceState) → slice_get w.wires place ≡ Some wire → slice_get w.devices wire.device ≡ Some d → d.here ≡ Some place
+    → AllByRecursion P (told_on n wire d)
+
+-- no `CatchUpFault`
+abbrev pub IsNoPageFault : Event → Type 0
+IsNoPageFault (CatchUpRefused fault) = ⊥
+IsNoPageFault _ = Unit {0}
+
+-- no stream error with another condition than these (RFC 6120, section 4.9.3)
+abbrev pub IsFewEnd : PeerFault → Type 0
+IsFewEnd (Stream condition) = (condition ≡ codes "conflict") ⊎ (condition ≡ codes "resource-constraint")
+IsFewEnd _ = Unit {0}
+
+abbrev pub EndsForFew : Event → Type 0
+EndsForFew (Ended fault) = IsFewEnd fault
+EndsForFew _ = Unit {0}
+
+-- ---- what the server puts
+
+-- the cause of a stream error that it puts on a connection on which the client works, or works no more
+abbrev pub MayCause : Bool → Cause → Type 0
+MayCause works Conflict = Unit {0}
+MayCause works Constraint = Unit {0}
+MayCause works TooHigh = works ≡ false
+
+abbrev pub IsForReason : Bool → DownWord ItemOut → Type 0
+IsForReason works (Err cause) = MayCause works cause
+IsForReason works _ = Unit {0}
+
+-- The connections of a device in a world of bytes: the words that the server put on each, that are under way or were lost. The
+-- world is the image of one of items, whose pipes hold the words that are under way.
+pub record HasWords (schedule : WireView) (w : World) (i : ℕ) (o : Owned) : Type 0 where
+  pub items : ItemWorld
+  pub image : IsImage w items
+  pub logins : ℕ → Login
+  pub view : View ItemOut
+  pub reached : LinkReached view
+  pub shows : Shows (identity_at schedule i o) logins items view
+  pub words : (k : ℕ) (c : Conn ItemOut) → view.conns k ≡ Some c → AllByRecursion (IsForReason (has view.here k)) (down_whole c.wires)
