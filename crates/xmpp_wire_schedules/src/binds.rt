@@ -1,5 +1,5 @@
 //! The law.
-ghost use Rattle.std.specs.Prelude.{◌≡◌, ℕ, ◌≤◌, Some, slice_get};
+ghost use Rattle.std.specs.Prelude.{◌≡◌, ℕ, ◌<◌, ◌≤◌, Some, slice_get};
 ghost use Rattle.xmpp_devices.specs.Devices.{DeviceState};
 ghost use Rattle.xmpp_schedule.specs.Contents.{Owned};
 ghost use Rattle.xmpp_schedule.specs.Schedules.{WireView};
@@ -12,8 +12,11 @@ ghost use Rattle.xmpp_world.specs.Worlds.{World};
 /// A law: in a world of a wire schedule's history each session that the server has of a device is enabled (XEP-0198,
 /// section 3), or it has none; in a later one, `bound`, it has one that isn't. So it has handled a bind of that device
 /// (RFC 6120, section 7). Then what any later world has of takes beyond that one is, of this device, of epochs above the
-/// one that its client had reached before the bind: no message of an older session comes into an archive any more.
+/// one that its client had reached before the bind: no message of an older session comes into an archive any more
+/// (`bound`). And whatever was bound, of an epoch that the client has left behind nothing is taken any more (`left`).
 pub fn nothing_older_is_taken_behind_a_bind()
-    ensures { (s : WireView) → IsWireSchedule s → (j m k : ℕ) (w bound later : World) → slice_get (history_of s) j ≡ Some w → slice_get (history_of s) m ≡ Some bound → slice_get (history_of s) k ≡ Some later → j ≤ m → m ≤ k
+    ensures bound { (s : WireView) → IsWireSchedule s → (j m k : ℕ) (w bound later : World) → slice_get (history_of s) j ≡ Some w → slice_get (history_of s) m ≡ Some bound → slice_get (history_of s) k ≡ Some later → j ≤ m → m ≤ k
         → (i : ℕ) (o : Owned) (d : DeviceState) → slice_get (owned_of s) i ≡ Some o → slice_get w.devices i ≡ Some d → AreEnabled s o w → HasBound s o bound → IsTakenAbove d.client.client.epoch o bound later }
+    ensures left { (s : WireView) → IsWireSchedule s → (j k : ℕ) (w later : World) → slice_get (history_of s) j ≡ Some w → slice_get (history_of s) k ≡ Some later → j ≤ k
+        → (i : ℕ) (o : Owned) (d : DeviceState) → slice_get (owned_of s) i ≡ Some o → slice_get w.devices i ≡ Some d → (e : ℕ) → e < d.client.client.epoch → IsTakenAbove e o w later }
 {}

@@ -1,5 +1,8 @@
-use Rattle.xmpp_wire_schedules.proofs.TakenBehind.{taken_above}
+use Rattle.xmpp_wire_schedules.proofs.TakenBehind.{taken_above, taken_from}
 use Rattle.xmpp_wire_schedules.proofs.binds.nothing_older_is_taken_behind_a_bind.Goals as goal
 
-pub returns : goal.returns
-returns c = taken_above
+pub returns-clause-bound : goal.returns-clause-bound
+returns-clause-bound c = taken_above
+
+pub returns-clause-left : goal.returns-clause-left
+returns-clause-left c = taken_from
