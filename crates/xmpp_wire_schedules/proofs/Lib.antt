@@ -64,3 +64,4 @@ pub mod WordsOutside
 pub mod LatePipes
 pub mod LateMoves
 pub mod LateBytes
+pub mod AsksUnbound
