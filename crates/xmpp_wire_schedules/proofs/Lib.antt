@@ -76,3 +76,4 @@ pub mod PagesStay
 pub mod ItemsTold
 pub mod PiecesTold
 pub mod Timely
+pub mod AsksUnbound

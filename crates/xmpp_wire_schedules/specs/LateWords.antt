@@ -1,14 +1,19 @@
 -- What a late `bind` or `resume` changes in a world of bytes.
-use Rattle.std.specs.Prelude.{◌≡◌, ◌⊎◌, ℕ, not, List, None, Some, filter, slice_get}
+use Rattle.std.specs.Prelude.{◌≡◌, ◌⊎◌, ℕ, not, List, ◌∷◌, None, Some, filter, slice_get}
 use Rattle.xmpp_desk.specs.Moments.{at_moment}
 use Rattle.xmpp_item_images.specs.Devices.{account_place}
+use Rattle.xmpp_item_worlds.specs.ItemPipes.{ItemWire}
+use Rattle.xmpp_item_worlds.specs.ItemWorlds.{ItemWorld}
 use Rattle.xmpp_live.specs.Sessions.{Session, is_named, session_at}
+use Rattle.xmpp_requests.specs.Sessions.{bind_item, resume_item}
 use Rattle.xmpp_schedule.specs.Contents.{Owned, accounts_of}
 use Rattle.xmpp_schedule.specs.Schedules.{WireView}
 use Rattle.xmpp_sessions_laws.specs.Runs.{owned_of}
+use Rattle.xmpp_wire_schedules.specs.Besides.{IsImage}
 use Rattle.xmpp_wires.specs.declared.wire.Wire.{Wire}
 use Rattle.xmpp_world.specs.Histories.{common_steps}
 use Rattle.xmpp_world.specs.Worlds.{World, number_at}
+use Rattle.xmpp_writer.specs.Items.{ItemOut}
 
 -- the connection at a place is one that the device dialled, whether it has it still or has left it
 pub record IsDialledBy (schedule : WireView) (w : World) (place : ℕ) (o : Owned) : Type 0 where
@@ -16,9 +21,20 @@ pub record IsDialledBy (schedule : WireView) (w : World) (place : ℕ) (o : Owne
   pub there : slice_get w.wires place ≡ Some wire
   pub of : slice_get (owned_of schedule) wire.device ≡ Some o
 
--- the server has no session on it: there alone it takes a `bind` or a `resume`
+-- the server has no session on it
 abbrev pub IsUnboundAt : ℕ → World → Type 0
 IsUnboundAt place w = session_at (number_at place) w.server.hall.sessions ≡ None
+
+-- it asks for a session: a `bind` or a `resume`
+abbrev pub IsAsk : ItemOut → Type 0
+IsAsk i = ((resource : List ℕ) × (i ≡ bind_item resource)) ⊎ ((previd : List ℕ) × (h : ℕ) × (i ≡ resume_item previd h))
+
+-- The items that the bytes of a world are: where the next one on its way to the server asks for a session, the server has
+-- none on that connection.
+pub record AsksAreUnbound (w : World) : Type 0 where
+  pub items : ItemWorld
+  pub image : IsImage w items
+  pub unbound : (place : ℕ) (wire : ItemWire) (i : ItemOut) (rest : List ItemOut) → slice_get items.wires place ≡ Some wire → wire.up.items ≡ i ∷ rest → IsAsk i → IsUnboundAt place w
 
 -- the sessions that aren't of this account with this resource
 abbrev pub others_of : {A : Type 0} → ℕ → List ℕ → List (Session A) → List (Session A)

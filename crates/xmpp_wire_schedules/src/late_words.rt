@@ -4,15 +4,17 @@ ghost use Rattle.xmpp_schedule.specs.Contents.{Owned};
 ghost use Rattle.xmpp_schedule.specs.Schedules.{WireView};
 ghost use Rattle.xmpp_schedule.specs.WireGrammar.{IsWireSchedule};
 ghost use Rattle.xmpp_schedule.specs.declared.schedule.Count.{Count};
-ghost use Rattle.xmpp_wire_schedules.specs.LateWords.{IsDialledBy, IsOfDeviceAlone, IsUnboundAt};
+ghost use Rattle.xmpp_wire_schedules.specs.LateWords.{AsksAreUnbound, IsDialledBy, IsOfDeviceAlone, IsUnboundAt};
 ghost use Rattle.xmpp_world.specs.Histories.{history_of};
 ghost use Rattle.xmpp_world.specs.Moves.{Up, moved};
 ghost use Rattle.xmpp_world.specs.Worlds.{World};
 
 /// A law: in each world of a wire schedule's history, where the server has no session on a connection, whatever of it
-/// is handed to the server changes no archive, and of sessions only those of the device that dialled it. So it is of a
-/// late `bind` or `resume` (RFC 6120, section 7; XEP-0198, section 5), on a connection that its device has left.
+/// is handed to the server changes no archive, and of sessions only those of the device that dialled it (`changes`).
+/// Where a `bind` or a `resume` comes (RFC 6120, section 7; XEP-0198, section 5), the server has none (`asks`). So it is of
+/// a late one, on a connection that its device has left.
 pub fn late_words_change_no_archive()
-    ensures { (s : WireView) → IsWireSchedule s → (j : ℕ) (w : World) → slice_get (history_of s) j ≡ Some w → (place : ℕ) (o : Owned) → IsDialledBy s w place o → IsUnboundAt place w → (count : Count)
+    ensures changes { (s : WireView) → IsWireSchedule s → (j : ℕ) (w : World) → slice_get (history_of s) j ≡ Some w → (place : ℕ) (o : Owned) → IsDialledBy s w place o → IsUnboundAt place w → (count : Count)
         → IsOfDeviceAlone s o w (moved (Up place count) w) }
+    ensures asks { (s : WireView) → IsWireSchedule s → (j : ℕ) (w : World) → slice_get (history_of s) j ≡ Some w → AsksAreUnbound w }
 {}
