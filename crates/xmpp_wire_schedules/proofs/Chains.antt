@@ -30,7 +30,7 @@ cut_run : (xs ys : List Event) (x last : sessions.World) → Reaches (xs ++ ys) 
 cut_run [] ys x last r = record { mid = x; first = refl; second = r }
 cut_run (e ∷ xs) ys x last r = let rest = cut_run xs ys r.0 last r.2 in record { mid = rest.mid; first = (r.0, r.1, rest.first); second = rest.second }
 
-cut_at : (xs ys : List Event) (x last : sessions.World) → Reaches (xs ++ ys) x last → Reaches xs x (state_after x xs) × Reaches ys (state_after x xs) last
+pub cut_at : (xs ys : List Event) (x last : sessions.World) → Reaches (xs ++ ys) x last → Reaches xs x (state_after x xs) × Reaches ys (state_after x xs) last
 cut_at xs ys x last r =
     let b = cut_run xs ys x last r in
     let is = reaches_is xs x b.mid b.first in

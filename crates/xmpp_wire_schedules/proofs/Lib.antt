@@ -69,6 +69,7 @@ pub mod SessionRuns
 pub mod Chains
 pub mod BoundSessions
 pub mod TakenBehind
+pub mod HandledBinds
 -- which faults there are
 pub mod Reasons
 pub mod EventRows

@@ -1,10 +1,18 @@
-//! The law.
-ghost use Rattle.std.specs.Prelude.{◌≡◌, ℕ, ◌<◌, ◌≤◌, Some, slice_get};
+//! The laws.
+ghost use Rattle.std.specs.Prelude.{◌≡◌, ℕ, ◌<◌, ◌≤◌, List, ◌∷◌, ◌++◌, Some, drop, length, slice_get};
+ghost use Rattle.std.specs.List.{flat_map};
 ghost use Rattle.xmpp_devices.specs.Devices.{DeviceState};
 ghost use Rattle.xmpp_schedule.specs.Contents.{Owned};
 ghost use Rattle.xmpp_schedule.specs.Schedules.{WireView};
 ghost use Rattle.xmpp_schedule.specs.WireGrammar.{IsWireSchedule};
-ghost use Rattle.xmpp_sessions_laws.specs.Runs.{owned_of};
+ghost use Rattle.xmpp_sessions.specs.Devices.{Device, epoch_of};
+ghost use Rattle.xmpp_sessions.specs.Events.{Event};
+ghost use Rattle.xmpp_sessions.specs.Events.Act.{Bind};
+ghost use Rattle.xmpp_sessions.specs.Events.Event.{At};
+ghost use Rattle.xmpp_sessions.specs.Histories.{state_after};
+ghost use Rattle.xmpp_sessions.specs.Laws.{AreAbove};
+ghost use Rattle.xmpp_sessions_laws.specs.Runs.{begins, moves_of, owned_of};
+ghost use Rattle.xmpp_wire_schedules.specs.Besides.{ScheduleRuns};
 ghost use Rattle.xmpp_wire_schedules.specs.Bound.{AreEnabled, HasBound, IsTakenAbove};
 ghost use Rattle.xmpp_world.specs.Histories.{history_of};
 ghost use Rattle.xmpp_world.specs.Worlds.{World};
@@ -19,4 +27,11 @@ pub fn nothing_older_is_taken_behind_a_bind()
         → (i : ℕ) (o : Owned) (d : DeviceState) → slice_get (owned_of s) i ≡ Some o → slice_get w.devices i ≡ Some d → AreEnabled s o w → HasBound s o bound → IsTakenAbove d.client.client.epoch o bound later }
     ensures left { (s : WireView) → IsWireSchedule s → (j k : ℕ) (w later : World) → slice_get (history_of s) j ≡ Some w → slice_get (history_of s) k ≡ Some later → j ≤ k
         → (i : ℕ) (o : Owned) (d : DeviceState) → slice_get (owned_of s) i ≡ Some o → slice_get w.devices i ≡ Some d → (e : ℕ) → e < d.client.client.epoch → IsTakenAbove e o w later }
+{}
+
+/// A law: so it is behind each bind that the server handles in a run of the applications beside the schedule's history,
+/// whatever the session before it was: of the device nothing more is taken of an epoch that it had reached by then.
+pub fn nothing_older_is_taken_behind_a_handled_bind()
+    ensures { (s : WireView) → IsWireSchedule s → (runs : ScheduleRuns s) (front behind : List Event) (i : ℕ) (d : Device) → flat_map (λ move. move) (moves_of runs.runs) ≡ front ++ At i Bind ∷ behind
+        → slice_get (state_after (begins s) front).devices i ≡ Some d → AreAbove (epoch_of d.sessions) i (drop (length (state_after (begins s) front).takes) runs.last.takes) }
 {}

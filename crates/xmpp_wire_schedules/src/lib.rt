@@ -14,7 +14,9 @@ mod lines;
 mod refused_lines;
 mod reports_of_worlds;
 
-pub use binds::nothing_older_is_taken_behind_a_bind;
+pub use binds::{
+    nothing_older_is_taken_behind_a_bind, nothing_older_is_taken_behind_a_handled_bind,
+};
 pub use each_move::each_move_runs;
 pub use faults::{no_page_fails, streams_end_for_few_reasons};
 pub use first_lines::schedules_begin;
