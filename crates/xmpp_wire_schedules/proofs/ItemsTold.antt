@@ -1,10 +1,31 @@
 -- An item that comes to a device on its connection makes no fault that its client tells, by the word that it is.
-use Rattle.std.proofs.Common.{◌≡◌, ◌⊎◌, ℕ, zero, suc, ◌+◌, ◌≤◌, Bool, true, false, cond, List, [], ◌∷◌, Option, Some, None, length, slice_get, refl, sym, ap, subst, ◌∙◌, inl, inr, arith}
+use Rattle.std.proofs.Common.{◌≡◌, ◌⊎◌, ℕ, zero, suc, ◌+◌, ◌≤◌, Bool, true, false, cond, List, [], ◌∷◌, Option, Some, None, Result, Ok, Err, codes, length, slice_get, refl, sym, ap, subst, ◌∙◌, inl, inr, arith}
 use Rattle.std.proofs.lemmas.Bool.{false≢true}
 use Rattle.std.proofs.lemmas.List.{length-map}
 use Rattle.std.proofs.lemmas.Option.{none-some, same_Some}
 use Rattle.std.specs.List.{AllByRecursion}
 use Rattle.std.specs.Option.{IfSome, option_map}
+use Rattle.std.proofs.Math.Nat.{mod-lt}
+use Rattle.xmpp_client_rows.specs.declared.phase.Phase.{Phase}
+use Rattle.xmpp_device_views.specs.Clients.{IsOwn, client_phase}
+use Rattle.xmpp_ext.specs.Readings.{resumption_read}
+use Rattle.xmpp_ext.specs.StreamManagement.{ack_elem, ack_read, resumed_elem, sm_failed_elem}
+use Rattle.xmpp_ext.specs.declared.stream_management.Ack.{Ack as AckWord}
+use Rattle.xmpp_framing.specs.declared.items.Item.{Item}
+use Rattle.xmpp_framing.specs.declared.items.Item.TheVariants as framed
+use Rattle.xmpp_links.proofs.Promised.{down_count_within, resumed_within}
+use Rattle.xmpp_links.specs.Links.{LinkKept}
+use Rattle.xmpp_links.specs.Promises.{IsExpectedDown}
+use Rattle.xmpp_links.specs.Views.{Own}
+use Rattle.xmpp_links_follow.proofs.Counted.{not_too_high}
+use Rattle.xmpp_outbox.specs.Sessions.{SessionView}
+use Rattle.xmpp_outbox.specs.Waiting.{is_too_high}
+use Rattle.xmpp_payload.specs.Bare.{bare}
+use Rattle.xmpp_payload_laws.proofs.ManagementWritten.{ack_written, resumed_written}
+use Rattle.xmpp_resume.specs.Previds.{previd_of}
+use Rattle.xmpp_stanza.specs.Errors.{stream_error_elem}
+use Rattle.xmpp_stanza.specs.declared.conditions.Condition.TheVariants.{ItemNotFound}
+use Rattle.xmpp_trees.specs.Trees.{Elem}
 use Rattle.xmpp_archive.specs.Entries.{EntryView}
 use Rattle.xmpp_client.specs.Steps.{element_row, item_step, stream_condition}
 use Rattle.xmpp_client_rows.specs.Clients.{ClientView, Turn}
@@ -22,25 +43,25 @@ use Rattle.xmpp_device_views.specs.Deeds.{awaits}
 use Rattle.xmpp_device_views.specs.Identities.{Identity}
 use Rattle.xmpp_device_views.specs.Pipes.{by_number}
 use Rattle.xmpp_device_views.specs.Reading.{IsNextDown, turn_on}
-use Rattle.xmpp_device_views.specs.WordItems.{down_item, features_item, is_behind_login}
+use Rattle.xmpp_device_views.specs.WordItems.{down_item, features_item, is_behind_login, told_count}
 use Rattle.xmpp_item_images.proofs.TurnsBehind.{step_adds}
 use Rattle.xmpp_item_images.specs.Devices.{identity_at}
 use Rattle.xmpp_item_stanzas.specs.Downs.{down_stanza}
 use Rattle.xmpp_item_worlds.specs.ItemPipes.{ItemWire}
 use Rattle.xmpp_item_worlds.specs.ItemWorlds.{ItemDevice, ItemWorld, read_of, silent_turn}
 use Rattle.xmpp_links.proofs.WithPremises.{prompt_runs}
-use Rattle.xmpp_links.specs.Words.{Ack, Bound, Chal, Conflict, Constraint, Down, DownWord, Enabled, End, Err, Failed, Feat, Head, InBind, Req, Resumed, St, Succ, TooHigh}
+use Rattle.xmpp_links.specs.Words.{Ack, Bound, Chal, Conflict, Constraint, Down, DownWord, Client, Enabled, End, Err as ErrWord, Failed, Feat, Head, InAuth, InBind, InEnable, InFeatures1, InFeatures2, InOnline, InResponse, InResume, Req, Resumed, St, Succ, TooHigh}
 use Rattle.xmpp_links_follow.proofs.AllReads.{expected}
 use Rattle.xmpp_links_follow.proofs.DownWords.{next_down}
-use Rattle.xmpp_links_follow.proofs.Turning.{element_at, on_element}
-use Rattle.xmpp_links_follow.proofs.Working.{phase_here}
+use Rattle.xmpp_links_follow.proofs.Turning.{element_at, on_element, own_session}
+use Rattle.xmpp_links_follow.proofs.Working.{kept_here, phase_here}
 use Rattle.xmpp_links_follow.specs.Following.{HasNextDown, IsNextItem}
 use Rattle.xmpp_log.specs.Views.{LogView, OpenPage, without_page}
 use Rattle.xmpp_moves_beside.proofs.Next.{IsNextRead, IsNextStanza, next_read, next_stanza}
 use Rattle.xmpp_moves_beside.proofs.Turned.{IsReadable, reaction, read_so}
 use Rattle.xmpp_moves_beside.specs.Ground.{IsGround}
 use Rattle.xmpp_moves_beside.specs.Running.{AreSmall, Bounds, DeviceRuns, IsOwned, WorldRuns, history_for, keep_in}
-use Rattle.xmpp_payload.specs.Names.{sasl}
+use Rattle.xmpp_payload.specs.Names.{management, sasl}
 use Rattle.xmpp_payload_laws.specs.AsRead.{last_moment}
 use Rattle.xmpp_schedule.specs.Contents.{Owned}
 use Rattle.xmpp_schedule.specs.Schedules.{WireView}
@@ -48,7 +69,7 @@ use Rattle.xmpp_sessions.specs.Devices as sessions
 use Rattle.xmpp_sessions.specs.Devices.{Reading, World}
 use Rattle.xmpp_sessions.specs.Events.{around}
 use Rattle.xmpp_sessions_laws.specs.Runs.{owned_of}
-use Rattle.xmpp_wire_schedules.proofs.EventRows.{IsFairItem, IsFine, IsStanzaAt, StepOut, step_out}
+use Rattle.xmpp_wire_schedules.proofs.EventRows.{IsCountAt, IsFairItem, IsFine, IsHighAt, IsLeft, IsStanzaAt, StepOut, step_out}
 use Rattle.xmpp_wire_schedules.proofs.PagesStay.{never_lost}
 use Rattle.xmpp_writer.specs.Items.{Closing, ItemOut, Opening, Whole}
 
@@ -70,6 +91,27 @@ never (inr e) = cc e
 features_fair : (behind : Bool) → IsFairItem (read_of (features_item behind))
 features_fair true = λ named. absurd (false≢true named)
 features_fair false = λ named. absurd (false≢true named)
+
+-- a client that awaits no count has none that is too high
+abbrev CountsNone : Phase → Type 0
+CountsNone p = (e : Elem) (h : ℕ) → IsCountAt p e h → ⊥
+
+none_high : (c : ClientView ItemOut) (p : Phase) → c.phase ≡ p → CountsNone p → (i : Item) → IsHighAt c i → ⊥
+none_high c p at none (framed.Element e) (s, h, has, count, plain, high) = none e h (subst (λ p. IsCountAt p e h) at count)
+none_high c p at none (framed.Header place header) high = high
+none_high c p at none framed.Footer high = high
+
+same_ok : {A E : Type 0} (a b : A) (r : Result A E) → r ≡ Ok a → r ≡ Ok b → a ≡ b
+same_ok a b r first second = (let same : Ok a ≡ r = sym first in cc)
+
+no_ok : {A E : Type 0} (why : E) (a : A) (r : Result A E) → r ≡ Err why → r ≡ Ok a → ⊥
+no_ok why a r first second = cc
+
+-- where the client reads this count, it isn't too high
+not_above : (c : ClientView ItemOut) (own : SessionView ItemOut) (h : ℕ) → c.session ≡ Some own → is_too_high own.waiting h ≡ false → (s : SessionView ItemOut) (k : ℕ) → c.session ≡ Some s → k ≡ h → is_too_high s.waiting k ≡ true → ⊥
+not_above c own h has low s k there same high =
+    let is : own ≡ s = same_Some own s (sym has ∙ there) in
+    false≢true (sym low ∙ ap (λ (q : SessionView ItemOut). is_too_high q.waiting h) is ∙ ap (is_too_high s.waiting) (sym same) ∙ high)
 
 no_stanza : (c : ClientView ItemOut) (behind : Bool) → IsStanzaAt c (read_of (features_item behind)) → ⊥
 no_stanza c true at = false≢true at.1
@@ -184,12 +226,12 @@ module _ (schedule : WireView) (b : Bounds) (small : AreSmall b) (says : ℕ) (w
   fair_word (Down (St z)) p = stanza_fair z p z refl
   fair_word (Down Req) p = λ named. absurd (false≢true named)
   fair_word (Down (Ack h)) p = λ named. absurd (false≢true named)
-  fair_word (Err Conflict) p = λ named. inl refl
-  fair_word (Err Constraint) p = λ named. inr refl
-  fair_word (Err TooHigh) p = absurd (never (expected who old.logins d (by_number w.wires) old.view (place + 1) (Err TooHigh) p))
+  fair_word (ErrWord Conflict) p = λ named. inl refl
+  fair_word (ErrWord Constraint) p = λ named. inr refl
+  fair_word (ErrWord TooHigh) p = absurd (never (expected who old.logins d (by_number w.wires) old.view (place + 1) (ErrWord TooHigh) p))
   fair_word End p = tt
 
-  kept_word : (word : DownWord ItemOut) (p : At word) → IsStanzaAt d.client (read_of (item word p)) → IsKept (item word p)
+  kept_word : (word : DownWord ItemOut) (p : At word) → IsStanzaAt d.client (read_of (item word p)) → IsKept (item word p) × (IsLeft (turn_on (item word p) d) → ⊥)
   unfolding sasl
   kept_word Head p at = absurd at
   kept_word Feat p at = absurd (no_stanza d.client (is_behind_login p.conn.client) at)
@@ -202,13 +244,86 @@ module _ (schedule : WireView) (b : Bounds) (small : AreSmall b) (says : ℕ) (w
       let both : phase.Online ≡ phase.Binding = sym at.0 ∙ binding in
       absurd (let no_way : ⊥ = cc in no_way)
   kept_word (Enabled m) p at = absurd (false≢true at.1)
-  kept_word (Down (St z)) p at = stanza_kept z p
+  kept_word (Down (St z)) p at = (stanza_kept z p, λ gone. (let both : phase.Online ≡ phase.Apart = sym (read z p).phase ∙ gone in cc))
   kept_word (Down Req) p at = absurd (false≢true at.1)
   kept_word (Down (Ack h)) p at = absurd (false≢true at.1)
-  kept_word (Err Conflict) p at = absurd (false≢true at.1)
-  kept_word (Err Constraint) p at = absurd (false≢true at.1)
-  kept_word (Err TooHigh) p at = absurd (never (expected who old.logins d (by_number w.wires) old.view (place + 1) (Err TooHigh) p))
+  kept_word (ErrWord Conflict) p at = absurd (false≢true at.1)
+  kept_word (ErrWord Constraint) p at = absurd (false≢true at.1)
+  kept_word (ErrWord TooHigh) p at = absurd (never (expected who old.logins d (by_number w.wires) old.view (place + 1) (ErrWord TooHigh) p))
   kept_word End p at = absurd at
+
+  -- no count is too high
+  abbrev IsLow : ItemOut → Type 0
+  IsLow z = IsHighAt d.client (read_of z) → IsLeft (turn_on z d) → ⊥
+
+  module _ (word : DownWord ItemOut) (p : At word) where
+    client_at : (client : Client) → p.conn.client ≡ client → d.client.phase ≡ client_phase who (old.logins (place + 1)) client
+    client_at client is = phase_here who old.logins d (by_number w.wires) old.view (place + 1) word p client is
+
+    quiet_at : (client : Client) → p.conn.client ≡ client → CountsNone (client_phase who (old.logins (place + 1)) client) → IsLow (item word p)
+    quiet_at client is none = λ high gone. none_high d.client (client_phase who (old.logins (place + 1)) client) (client_at client is) none (read_of (item word p)) high
+
+    comes : IsExpectedDown old.view p.conn.client word
+    comes = expected who old.logins d (by_number w.wires) old.view (place + 1) word p
+
+    links : LinkKept old.view
+    links = kept_here who old.logins d (by_number w.wires) old.view (place + 1) word p
+
+    has_own : (o : Own ItemOut) → old.view.own ≡ Some o → (s : SessionView ItemOut) × (d.client.session ≡ Some s) × IsOwn o s
+    has_own o is = own_session who old.logins d old.view o old.shows.client is
+
+  resumed_low : (q h : ℕ) (p : At (Resumed q h)) → IsLow (item (Resumed q h) p)
+  resumed_low q h p (s, k, has, count, plain, high) gone =
+      let e = comes (Resumed q h) p in
+      let own = has_own (Resumed q h) p e.0 e.1 in
+      let within = resumed_within old.view (place + 1) q h p.conn e.0 p.rest (links (Resumed q h) p) p.here p.is e.1 p.first in
+      let known = subst (λ at. IsCountAt at (resumed_elem (record { previd = previd_of q; h = told_count h })) k) (client_at (Resumed q h) p (InResume q) e.3) count in
+      let told = same_ok (previd_of q, told_count h) known.0 (resumption_read (codes "resumed") (resumed_elem (record { previd = previd_of q; h = told_count h }))) (resumed_written (record { previd = previd_of q; h = told_count h }) (mod-lt h (omega arith))) known.1 in
+      not_above d.client own.0 (told_count h) own.1 (not_too_high e.0 own.0 h within own.2) s k has (sym known.2 ∙ ap (λ (x : List ℕ × ℕ). x.1) (sym told)) high
+
+  failed_low : (p : At Failed) → IsLow (item Failed p)
+  failed_low p (s, k, has, count, plain, high) gone =
+      let e = comes Failed p in
+      let known = subst (λ at. IsCountAt at (sm_failed_elem (record { condition = ItemNotFound })) k) (client_at Failed p (InResume e.0.number) e.2) count in
+      no_ok _ known.0 (resumption_read (codes "resumed") (sm_failed_elem (record { condition = ItemNotFound }))) refl known.1
+
+  count_low : (h : ℕ) (p : At (Down (Ack h))) → IsLow (item (Down (Ack h)) p)
+  count_low h p (s, k, has, count, plain, high) gone =
+      let e = comes (Down (Ack h)) p in
+      let own = has_own (Down (Ack h)) p e.0 e.1 in
+      let within = down_count_within old.view (place + 1) h p.conn e.0 p.rest (links (Down (Ack h)) p) p.here p.is e.1 p.first in
+      let known = subst (λ at. IsCountAt at (ack_elem (record { h = told_count h })) k) (client_at (Down (Ack h)) p (InOnline e.0.number) e.2) count in
+      let told = same_ok (record { h = told_count h }) known.0 (ack_read (ack_elem (record { h = told_count h }))) (ack_written (record { h = told_count h }) (mod-lt h (omega arith))) known.2 in
+      not_above d.client own.0 (told_count h) own.1 (not_too_high e.0 own.0 h within own.2) s k has (sym known.3 ∙ ap (λ (x : AckWord). x.h) (sym told)) high
+
+  request_low : (p : At (Down Req)) → IsLow (item (Down Req) p)
+  request_low p (s, k, has, count, plain, high) gone =
+      let e = comes (Down Req) p in
+      let known = subst (λ at. IsCountAt at (bare management (codes "r")) k) (client_at (Down Req) p (InOnline e.0.number) e.2) count in
+      false≢true (sym known.1)
+
+  stanza_low : (z : ItemOut) (p : At (Down (St z))) → IsLow z
+  stanza_low z p high gone = (let both : phase.Online ≡ phase.Apart = sym (read z p).phase ∙ gone in cc)
+
+  error_low : (condition : List ℕ) → IsLow (Whole (stream_error_elem condition None))
+  error_low condition (s, k, has, count, plain, high) gone = false≢true (sym plain)
+
+  low_word : (word : DownWord ItemOut) (p : At word) → IsLow (item word p)
+  low_word Head p = λ high gone. high
+  low_word Feat p = elim (comes Feat p) [ inl at ↦ quiet_at Feat p InFeatures1 at (λ e h none. none) | inr at ↦ quiet_at Feat p InFeatures2 at (λ e h none. none) ]
+  low_word Chal p = quiet_at Chal p InAuth (comes Chal p) (λ e h none. none)
+  low_word Succ p = quiet_at Succ p InResponse (comes Succ p) (λ e h none. none)
+  low_word Failed p = failed_low p
+  low_word (Resumed q h) p = resumed_low q h p
+  low_word (Bound m) p = quiet_at (Bound m) p InBind (comes (Bound m) p).1 (λ e h none. none)
+  low_word (Enabled m) p = quiet_at (Enabled m) p InEnable (comes (Enabled m) p).1 (λ e h none. none)
+  low_word (Down (St z)) p = stanza_low z p
+  low_word (Down Req) p = request_low p
+  low_word (Down (Ack h)) p = count_low h p
+  low_word (ErrWord Conflict) p = error_low (codes "conflict")
+  low_word (ErrWord Constraint) p = error_low (codes "resource-constraint")
+  low_word (ErrWord TooHigh) p = λ high gone. never (comes (ErrWord TooHigh) p)
+  low_word End p = λ high gone. high
 
   -- ---- the item
 
@@ -219,8 +334,14 @@ module _ (schedule : WireView) (b : Bounds) (small : AreSmall b) (says : ℕ) (w
     fair : IsFairItem (read_of z)
     fair = subst (λ y. IsFairItem (read_of y)) h.is (fair_word h.word h.next)
 
-    kept : IsStanzaAt d.client (read_of z) → IsKept z
-    kept at = subst IsKept h.is (kept_word h.word h.next (subst (λ y. IsStanzaAt d.client (read_of y)) (sym h.is) at))
+    abbrev IsStaying : ItemOut → Type 0
+    IsStaying y = IsKept y × (IsLeft (turn_on y d) → ⊥)
+
+    stays : IsStanzaAt d.client (read_of z) → IsStaying z
+    stays at = subst IsStaying h.is (kept_word h.word h.next (subst (λ y. IsStanzaAt d.client (read_of y)) (sym h.is) at))
+
+    low : IsLow z
+    low = subst IsLow h.is (low_word h.word h.next)
 
     pub item_fine : (t : Turn ItemOut ItemOut) → t.client ≡ d.client → IsFine t → IsFine (item_step in_items t (read_of z))
     item_fine t same fine = by (step_out t (read_of z) fair fine)
@@ -228,8 +349,16 @@ module _ (schedule : WireView) (b : Bounds) (small : AreSmall b) (says : ℕ) (w
         client_is : (item_step in_items t (read_of z)).client ≡ (turn_on z d).client
         client_is = (step_adds (read_of z) t).client_is ∙ ap (λ c. (item_step in_items (silent_turn c) (read_of z)).client) same
 
+        left_here : IsLeft (item_step in_items t (read_of z)) → IsLeft (turn_on z d)
+        left_here gone = ap (λ (c : ClientView ItemOut). c.phase) (sym client_is) ∙ gone
+
+        at_here : IsStanzaAt t.client (read_of z) → IsStanzaAt d.client (read_of z)
+        at_here at = subst (λ c. IsStanzaAt c (read_of z)) same at
+
         by : StepOut t (read_of z) (item_step in_items t (read_of z)) → IsFine (item_step in_items t (read_of z))
         by (inl done) = done
-        by (inr (at, (page, there, dropped))) =
-            absurd (kept (subst (λ c. IsStanzaAt c (read_of z)) same at) page (ap (λ (c : ClientView ItemOut). c.log.page) (sym same) ∙ there)
+        by (inr (inl (at, inl (page, there, dropped)))) =
+            absurd ((stays (at_here at)).0 page (ap (λ (c : ClientView ItemOut). c.log.page) (sym same) ∙ there)
             (ap (λ (c : ClientView ItemOut). c.log) (sym client_is) ∙ dropped ∙ ap (λ (c : ClientView ItemOut). without_page c.log) same))
+        by (inr (inl (at, inr gone))) = absurd ((stays (at_here at)).1 (left_here gone))
+        by (inr (inr (high, gone))) = absurd (low (subst (λ c. IsHighAt c (read_of z)) same high) (left_here gone))

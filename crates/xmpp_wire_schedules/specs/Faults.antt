@@ -6,7 +6,7 @@ use Rattle.xmpp_client_rows.specs.Speech.{in_bytes}
 use Rattle.xmpp_client_rows.specs.declared.events.Event.{Event}
 use Rattle.xmpp_client_rows.specs.declared.events.Event.TheVariants.{CatchUpRefused, Ended}
 use Rattle.xmpp_client_rows.specs.declared.events.PeerFault.{PeerFault}
-use Rattle.xmpp_client_rows.specs.declared.events.PeerFault.TheVariants.{Stream}
+use Rattle.xmpp_client_rows.specs.declared.events.PeerFault.TheVariants as peer
 use Rattle.xmpp_device_views.specs.Identities.{Login}
 use Rattle.xmpp_device_views.specs.Shows.{Shows}
 use Rattle.xmpp_devices.specs.Devices.{DeviceState, silent}
@@ -41,9 +41,12 @@ abbrev pub IsNoPageFault : Event → Type 0
 IsNoPageFault (CatchUpRefused fault) = ⊥
 IsNoPageFault _ = Unit {0}
 
--- no stream error with another condition than these (RFC 6120, section 4.9.3)
+-- The server's stream errors are these two (RFC 6120, section 4.9.3), and the client ends no stream by an error of its own, for
+-- a count that is too high, nor leaves a connection since 10,000 stanzas wait.
 abbrev pub IsFewEnd : PeerFault → Type 0
-IsFewEnd (Stream condition) = (condition ≡ codes "conflict") ⊎ (condition ≡ codes "resource-constraint")
+IsFewEnd (peer.Stream condition) = (condition ≡ codes "conflict") ⊎ (condition ≡ codes "resource-constraint")
+IsFewEnd (peer.TooHigh fault) = ⊥
+IsFewEnd peer.Unacknowledged = ⊥
 IsFewEnd _ = Unit {0}
 
 abbrev pub EndsForFew : Event → Type 0

@@ -17,9 +17,10 @@ pub fn no_page_fails()
 {}
 
 /// A law: and there are few stream errors (RFC 6120, section 4.9.3). However many bytes are handed to a device, its client
-/// tells of none but `conflict` and `resource-constraint` (`told`). Of the server's, on whatever connection of a device and
-/// also where they were lost, each is one of these, or states a count that is too high (XEP-0198, section 5) on a connection
-/// on which the client works no more (`put`).
+/// tells of none of the server's but `conflict` and `resource-constraint`; it ends no stream by one itself, as it would for a
+/// count that is too high (XEP-0198, section 4), and leaves no connection since too many stanzas wait (`told`). Of those
+/// that the server put, on whatever connection of a device and also where they were lost, each is one of these two, or that
+/// for a resumption whose count is too high, on a connection on which the client works no more (`put`).
 pub fn streams_end_for_few_reasons()
     ensures told { (s : WireView) → IsWireSchedule s → (j : ℕ) (w : World) → slice_get (history_of s) j ≡ Some w → EachTells EndsForFew w }
     ensures put { (s : WireView) → IsWireSchedule s → (j : ℕ) (w : World) → slice_get (history_of s) j ≡ Some w → (i : ℕ) (o : Owned) → slice_get (owned_of s) i ≡ Some o → HasWords s w i o }
