@@ -1,6 +1,6 @@
 -- Moves of bytes, one after another, as events of the applications.
-use Rattle.std.proofs.Common.{◌≡◌, ◌≢◌, ◌⊎◌, ℕ, zero, suc, ◌+◌, ◌≤◌, ◌==◌, Bool, true, false, cond, List, [], ◌∷◌, ◌++◌, Option, None, Some, length, refl, sym, ap, ◌∙◌, subst, arith, inl, inr, append_assoc}
-use Rattle.std.proofs.lemmas.List.{append-nil, length-append}
+use Rattle.std.proofs.Common.{◌≡◌, ℕ, zero, suc, ◌+◌, ◌≤◌, ◌==◌, Bool, true, false, cond, List, [], ◌∷◌, ◌++◌, Option, None, Some, length, refl, sym, ap, ◌∙◌, subst, arith}
+use Rattle.std.proofs.lemmas.List.{append-nil}
 use Rattle.std.proofs.lemmas.List.Concat.{flat_map-append}
 use Rattle.std.specs.List.{AllByRecursion, flat_map, slice_get, slice_set}
 use Rattle.xmpp_item_images.proofs.AnsweredTable.{what_a_server_says_is_answered}
@@ -10,7 +10,7 @@ use Rattle.xmpp_item_images.specs.Mild.{ClientFits, DownFits, HallFits, UpFits}
 use Rattle.xmpp_item_images.proofs.Moves.{move_is}
 use Rattle.xmpp_item_images.proofs.ServersInOrder.{cores_fit}
 use Rattle.xmpp_item_images.specs.ImagesCores.{CoresFit}
-use Rattle.xmpp_item_images.specs.ItemRuns.{IsRunOf, MayMove, downs, moved_where}
+use Rattle.xmpp_item_images.specs.ItemRuns.{MayMove}
 use Rattle.xmpp_item_images.specs.Stands.{StandingHalls}
 use Rattle.xmpp_item_images.specs.WorldImages.{IsMoved}
 use Rattle.xmpp_item_worlds.specs.ItemMoves as items
@@ -36,7 +36,7 @@ use Rattle.xmpp_world.specs.Worlds as wires
 use Rattle.xmpp_moves_beside.specs.Running.{WorldRuns}
 use Rattle.xmpp_wire_schedules.specs.Besides.{AreBeside, EachMoveRuns, GoBeside, IsImage, bounds}
 use Rattle.xmpp_wire_schedules.proofs.Wires.{IsNoDial, downs_none, moves_many, served_none}
-use Rattle.xmpp_wire_schedules.proofs.Rounds.{AtMost, Goes, IsInRound, down_line, joined, most_behind, round_of, stays, up_line}
+use Rattle.xmpp_wire_schedules.proofs.Rounds.{AtMost, Goes, IsInRound, down_line, joined, most_behind, round_of, up_line}
 
 pub cores : CoresFit UpFits DownFits (StandingHalls HallFits) ClientFits
 cores = cores_fit UpFits DownFits HallFits ClientFits (cores_keep what_a_server_says_is_answered client_is_mild)

@@ -1,7 +1,7 @@
 -- The report of a wire schedule is that of a run of the two applications.
-use Rattle.std.proofs.Common.{◌≡◌, ℕ, ◌+◌, ◌<◌, ◌≤◌, ◌^◌, List, [], ◌∷◌, ◌++◌, Some, length, get_or, refl, sym, ap, ◌∙◌, subst, arith, map}
+use Rattle.std.proofs.Common.{◌≡◌, ℕ, ◌<◌, ◌≤◌, ◌^◌, List, [], ◌∷◌, ◌++◌, Some, length, get_or, refl, sym, ap, ◌∙◌, subst, arith, map}
 use Rattle.std.proofs.lemmas.Option.{same_Some, slice_get-get_or, slice_get_within}
-use Rattle.std.specs.List.{AllByRecursion, flat_map, slice_get}
+use Rattle.std.specs.List.{flat_map, slice_get}
 use Rattle.xmpp_archive.specs.declared.archive.TheConstants.{GREATEST_NUMBER}
 use Rattle.xmpp_device_views.specs.Deeds.{awaits}
 use Rattle.xmpp_item_stanzas.specs.Items.{stanzas_read}
@@ -9,20 +9,18 @@ use Rattle.xmpp_item_worlds.specs.ItemWorlds.{ItemWorld}
 use Rattle.xmpp_links.proofs.WithPremises.{prompt_runs}
 use Rattle.xmpp_links_counted.proofs.Counted.{epochs}
 use Rattle.xmpp_report.specs.LawfulRuns.{KeepsLaws}
-use Rattle.xmpp_report.specs.Reports.{ReportView}
-use Rattle.xmpp_report.specs.Worlds as report
 use Rattle.xmpp_wire_schedules.proofs.Shown.{world_shown}
 use Rattle.xmpp_wire_schedules.proofs.WorldTold.{reported}
 use Rattle.xmpp_wire_schedules.specs.ShownWorlds.{shown_of}
 use Rattle.xmpp_schedule.specs.Schedules.{WireView, seen_of}
 use Rattle.xmpp_schedule.specs.WireGrammar.{IsWireSchedule}
 use Rattle.xmpp_schedule.specs.declared.schedule.WireLine.{WireLine}
-use Rattle.xmpp_wire_schedules.specs.Besides.{AreBeside, GoBeside, GoLines, IsImage, ScheduleRuns, bounds}
+use Rattle.xmpp_wire_schedules.specs.Besides.{AreBeside, GoBeside, GoLines, ScheduleRuns, bounds}
 use Rattle.xmpp_session_counts.proofs.Said.{takes_few}
 use Rattle.xmpp_session_counts.proofs.Taken.{of_all}
 use Rattle.xmpp_session_counts.specs.Counts.{IsNumberedWithin}
 use Rattle.xmpp_sessions.specs.Devices as sessions
-use Rattle.xmpp_sessions.specs.Events.{Event, Reaches, after}
+use Rattle.xmpp_sessions.specs.Events.{Event, after}
 use Rattle.xmpp_sessions.proofs.Lists.{all_weaker}
 use Rattle.xmpp_sessions.specs.Histories.{spoken_in, state_after, states_of}
 use Rattle.xmpp_sessions_laws.proofs.Moments.{reaches_is}

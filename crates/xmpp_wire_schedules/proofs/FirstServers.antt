@@ -1,5 +1,5 @@
 -- The server with which a schedule begins: its archives are empty, and no session is there.
-use Rattle.std.proofs.Common.{◌≡◌, ℕ, ◌-◌, List, [], Some, length, map, slice_get, refl, sym, ap, ◌∙◌}
+use Rattle.std.proofs.Common.{◌≡◌, ℕ, ◌-◌, List, [], Some, map, slice_get, refl, sym, ap, ◌∙◌}
 use Rattle.std.proofs.lemmas.List.{length-map}
 use Rattle.std.proofs.lemmas.Option.{slice_get-map}
 use Rattle.std.specs.Option.{option_map}

@@ -1,5 +1,5 @@
 -- The worlds with which a schedule begins stand beside one another.
-use Rattle.std.proofs.Common.{◌≡◌, ℕ, ◌+◌, ◌≤◌, [], Some, length, map, slice_get, refl, arith}
+use Rattle.std.proofs.Common.{◌≡◌, ℕ, ◌+◌, ◌≤◌, [], Some, map, slice_get, refl, arith}
 use Rattle.std.proofs.lemmas.List.{length-map}
 use Rattle.xmpp_devices.specs.Starting.{accounts_at_start}
 use Rattle.xmpp_item_images.proofs.ServersInOrder.{start_stands}

@@ -1,10 +1,8 @@
 -- The connections that devices have: a move of a connection leaves those of other devices, and makes none.
-use Rattle.std.proofs.Common.{◌≡◌, ◌≢◌, ℕ, zero, suc, ◌+◌, ◌==◌, Bool, true, false, cond, List, [], ◌∷◌, ◌++◌, Option, None, Some, length, refl, sym, ap, ◌∙◌, subst, arith, inl, inr}
-use Rattle.std.proofs.lemmas.Bool.{cases_Bool, cases_eq, eqb-true, eq-eqb}
+use Rattle.std.proofs.Common.{◌≡◌, ℕ, zero, suc, ◌+◌, Bool, true, false, cond, List, [], ◌∷◌, Option, None, Some, refl, sym, ap, ◌∙◌, inl, inr}
+use Rattle.std.proofs.lemmas.Bool.{cases_Bool, eqb-true}
 use Rattle.std.proofs.lemmas.Option.{same_Some}
 use Rattle.std.specs.List.{slice_get, slice_set}
-use Rattle.xmpp_client.specs.UserCalls.{leaves}
-use Rattle.xmpp_client_rows.specs.Turns.{is_apart}
 use Rattle.xmpp_desk.specs.Moments.{at_moment, gone_at}
 use Rattle.xmpp_wires.specs.Places.{changed_at}
 use Rattle.xmpp_item_worlds.specs.ItemMoves.{ItemMove, Down, DownEnd, Tick, Up, UpEnd, fed_of, has_wire, here_behind, moved}

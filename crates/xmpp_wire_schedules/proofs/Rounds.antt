@@ -1,15 +1,14 @@
 -- In a pass, and in each round of a run, a device asks for one page at most.
-use Rattle.std.proofs.Common.{◌≡◌, ◌≢◌, ◌⊎◌, ℕ, zero, suc, ◌+◌, ◌≤◌, ◌==◌, Bool, true, false, cond, List, [], ◌∷◌, ◌++◌, Option, None, Some, length, refl, sym, ap, ◌∙◌, subst, arith, inl, inr}
+use Rattle.std.proofs.Common.{◌≡◌, ◌⊎◌, ℕ, zero, suc, ◌+◌, ◌≤◌, Bool, true, false, List, [], ◌∷◌, ◌++◌, Some, length, refl, sym, ap, ◌∙◌, subst, arith, inl, inr}
 use Rattle.std.proofs.lemmas.Bool.{cases_eq}
-use Rattle.std.proofs.lemmas.List.{append-nil}
 use Rattle.std.proofs.lemmas.List.Concat.{flat_map-append}
 use Rattle.std.proofs.lemmas.Option.{same_Some}
-use Rattle.std.specs.List.{AllByRecursion, flat_map, slice_get}
+use Rattle.std.specs.List.{slice_get}
 use Rattle.xmpp_item_images.specs.ItemRuns.{IsServed, downs, moved_where, ups}
 use Rattle.xmpp_item_images.specs.Fitting.{MayItem}
 use Rattle.xmpp_item_worlds.specs.ItemMoves.{ItemMove, Down, DownEnd, Tick, Up, UpEnd, all_moved, moved}
 use Rattle.xmpp_item_worlds.specs.ItemPipes.{ItemWire}
-use Rattle.xmpp_item_worlds.specs.ItemWorlds.{ItemDevice, ItemWorld}
+use Rattle.xmpp_item_worlds.specs.ItemWorlds.{ItemWorld}
 use Rattle.xmpp_schedule.specs.Schedules.{WireView}
 use Rattle.xmpp_session_counts.specs.Counts.{IsUnanswered}
 use Rattle.xmpp_session_counts.proofs.Said.{was_there}

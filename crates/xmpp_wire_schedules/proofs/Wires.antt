@@ -1,7 +1,7 @@
 -- How many connections there are: a dial makes one, and no other move makes any.
 use Rattle.std.proofs.Common.{◌≡◌, ℕ, zero, suc, ◌+◌, ◌≤◌, Bool, true, false, cond, List, [], ◌∷◌, ◌++◌, Option, None, Some, Result, Ok, Err, length, refl, sym, ap, ◌∙◌, subst, arith, inl, inr}
 use Rattle.std.proofs.lemmas.List.{length_push}
-use Rattle.std.specs.List.{AllByRecursion, slice_get, slice_set}
+use Rattle.std.specs.List.{AllByRecursion, slice_get}
 use Rattle.xmpp_client.specs.UserCalls.{dials}
 use Rattle.xmpp_client_rows.specs.Clients.{Turn}
 use Rattle.xmpp_client_rows.specs.Speech.{in_items}
@@ -13,7 +13,7 @@ use Rattle.xmpp_item_worlds.specs.ItemMoves.{ItemMove, CatchUp, Close, Cut, Dial
 use Rattle.xmpp_item_worlds.specs.ItemMoves as items
 use Rattle.xmpp_item_worlds.specs.ItemPipes.{ItemWire, fresh_wire, handed_up, is_end_due, left, put_up, up_end_told}
 use Rattle.xmpp_item_worlds.specs.ItemWorlds.{ItemDevice, ItemWorld, itself, read_of}
-use Rattle.xmpp_wires.specs.Places.{changed_at, changed_under, changed_where, place_under}
+use Rattle.xmpp_wires.specs.Places.{changed_at, changed_where, place_under}
 use Rattle.xmpp_writer.specs.Items.{ItemOut}
 
 at_many : (p : ℕ) (f : ItemWire → ItemWire) (l : List ItemWire) → length (changed_at p f l) ≡ length l
