@@ -59,6 +59,7 @@ module _ {R I O P : Type 0} (told : I → IncomingView) (out : O → OutgoingVie
             (λ i q at. held (suc i) q at),
       )
 
+module _ {R I P : Type 0} where
   -- none of them has no reader
   pub all_some : (ps : List (Place R I P)) → are_started ps ≡ true → (i : ℕ) (p : Place R I P) → get_elem? ps i ≡ some p → p.worker ≡ None → ⊥
   unfolding are_started
