@@ -12,3 +12,5 @@ pub mod ServedLinks
 pub mod Written
 -- faults
 pub mod Refusals
+-- a server that has served
+pub mod Served

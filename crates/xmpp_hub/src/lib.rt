@@ -9,3 +9,4 @@ mod settling;
 
 pub use fault::HubFault;
 pub use serving::serve_started;
+
