@@ -6,7 +6,9 @@ mod fault;
 mod giving;
 mod serving;
 mod settling;
+mod together;
 
 pub use fault::HubFault;
 pub use serving::serve_started;
+pub use together::serve_together;
 
