@@ -1,12 +1,10 @@
 -- What a reader that has ended brought: its pieces, and its end.
-use Rattle.std.proofs.Common.{◌≡◌, ℕ, ◌<◌, ◌≤◌, ◌⊎◌, Bool, true, false, true≢false, ◌&&◌, List, [], ◌∷◌, ◌++◌, length, map, Option, Some, None, IfSome, append-nil, append_assoc, ap, refl, subst, sym, ◌∙◌}
+use Rattle.std.proofs.Common.{◌≡◌, ℕ, Bool, true, false, true≢false, ◌&&◌, List, [], ◌∷◌, ◌++◌, map, Option, Some, None, IfSome, ap, refl, subst, sym, ◌∙◌}
 use Rattle.std.specs.Io.KnownBytes.{Appends}
-use Rattle.std.specs.List.{flat_map}
 use Rattle.std.specs.Option.{ForSome}
-use Rattle.xmpp_halves.specs.Halves.{IncomingView}
 use Rattle.xmpp_hub.specs.Served.{joined}
 use Rattle.xmpp_owner.specs.Events.{Gave, Gone, Told, told_of}
-use Rattle.xmpp_readers.specs.Feeds.{IsFeed, are_pieces, bytes_in, bytes_of, is_piece}
+use Rattle.xmpp_readers.specs.Feeds.{are_pieces, bytes_in, bytes_of, is_piece}
 use Rattle.xmpp_readers.specs.declared.item.Item.{Item}
 use Rattle.xmpp_readers.specs.declared.item.What.{What}
 use Rattle.xmpp_readers.specs.declared.item.What.TheVariants as what

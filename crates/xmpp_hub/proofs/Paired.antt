@@ -1,12 +1,11 @@
 -- The half of a reader and the sender at its place are of one link.
-use Rattle.std.proofs.Common.{◌≡◌, ℕ, zero, suc, List, [], ◌∷◌, ◌++◌, map, drop, Option, Some, None, IfSome, ap, refl, subst, sym, ◌∙◌}
+use Rattle.std.proofs.Common.{◌≡◌, ℕ, zero, suc, List, [], ◌∷◌, map, Option, Some, None, IfSome, ap, refl, sym, ◌∙◌}
 use mathlib.Core.Option.{some, some-ne-none, some-injective}
 use lib.ListN.{get_elem?}
 use Rattle.xmpp_halves.specs.Halves.{IncomingView, OutgoingView}
 use Rattle.xmpp_hub.specs.Backs.{ArePaired}
 use Rattle.xmpp_owner.specs.Halves.{IsHeld, IsNew}
 use Rattle.xmpp_owner.specs.declared.owner.Owner.{Owner}
-use Rattle.xmpp_owner.specs.declared.place.Place.{Place}
 use Rattle.xmpp_senders.specs.Sendings.{numbers_of}
 use Rattle.xmpp_senders.specs.declared.sender.Sender.{Sender}
 

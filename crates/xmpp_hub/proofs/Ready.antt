@@ -1,11 +1,9 @@
 -- Once all readers were started and have ended, they can be settled.
-use Rattle.std.proofs.Common.{◌≡◌, ℕ, zero, suc, ◌+◌, ◌<◌, Bool, true, false, true≢false, List, [], ◌∷◌, length, map, Option, Some, None, IfSome, is_some, cond, ap, refl, subst, sym, ◌∙◌, arith}
+use Rattle.std.proofs.Common.{◌≡◌, ℕ, zero, suc, ◌+◌, Bool, true, false, true≢false, List, [], ◌∷◌, length, Option, Some, None, IfSome, is_some, cond, ap, refl, subst, sym, ◌∙◌, arith}
 use mathlib.Core.Option.{some, some-ne-none, some-injective}
 use lib.ListN.{get_elem?}
-use Rattle.crossbeam_channel.specs.Ends.{sends_on}
 use Rattle.xmpp_halves.specs.Halves.{IncomingView, OutgoingView}
-use Rattle.xmpp_hub.proofs.Paired.{at_map}
-use Rattle.xmpp_hub.specs.Backs.{AreReady, IsReady, are_started}
+use Rattle.xmpp_hub.specs.Backs.{AreReady, are_started}
 use Rattle.xmpp_owner.specs.Events as owner
 use Rattle.xmpp_owner.specs.Halves.{IsNew}
 use Rattle.xmpp_owner.specs.Places.{IsPlaced, are_over}

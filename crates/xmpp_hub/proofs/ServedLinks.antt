@@ -1,26 +1,24 @@
 -- The links of a server that has served: each connection's feed is in the journal, and on its link went what the server put.
-use Rattle.std.proofs.Common.{◌≡◌, ℕ, zero, suc, ◌+◌, ◌<◌, ◌≤◌, ◌⊎◌, inl, inr, ⊎_elim, Bool, true, false, true≢false, List, [], ◌∷◌, ◌++◌, length, map, Option, Some, None, IfSome, ap, refl, subst, sym, ◌∙◌, arith}
-use mathlib.Core.Option.{some, some-ne-none, some-injective}
+use Rattle.std.proofs.Common.{◌≡◌, ℕ, suc, ◌+◌, ◌≤◌, Bool, true, false, List, [], ◌∷◌, ◌++◌, length, map, Option, Some, None, ap, refl, subst, sym, ◌∙◌, arith}
+use mathlib.Core.Option.{some}
 use lib.ListN.{get_elem?}
-use Rattle.xmpp_halves.specs.Halves.{IncomingView, OutgoingView, link_of}
+use Rattle.xmpp_halves.specs.Halves.{IncomingView, OutgoingView}
 use Rattle.xmpp_hub.proofs.Feeds.{bytes_pieces, pieces_of, read_all, told_pieces}
 use Rattle.xmpp_hub.specs.Backs.{AreBack, IsBack}
-use Rattle.xmpp_hub.specs.Served.{AreServed, IsServed, feed_of, joined}
+use Rattle.xmpp_hub.specs.Served.{AreServed, IsServed, joined}
 use Rattle.xmpp_journal.specs.AccountsFiles.{AccountsView}
 use Rattle.xmpp_journal.specs.Journals.{EventView}
 use Rattle.xmpp_outside.specs.Links.{LinkView}
 use Rattle.xmpp_owner.specs.Events as owner
-use Rattle.xmpp_owner.specs.Owners.{HasGiven}
-use Rattle.xmpp_owner.specs.Places.{AreKept, IsPlaced, feed_from}
+use Rattle.xmpp_owner.specs.Places.{IsPlaced, feed_from}
 use Rattle.xmpp_owner.specs.declared.place.Place.{Place}
 use Rattle.xmpp_queue.specs.Merge.{items_of}
 use Rattle.xmpp_readers.specs.Feeds.{bytes_of, number}
 use Rattle.xmpp_readers.specs.Readers.{HasStopped}
 use Rattle.xmpp_readers.specs.declared.item.Item.{Item}
-use Rattle.xmpp_readers.specs.declared.reader.ReaderJob.{ReaderJob}
 use Rattle.xmpp_recorder.specs.Records.{bare, run_of_file}
 use Rattle.xmpp_senders.specs.Puts.{put_for}
-use Rattle.xmpp_senders.specs.Sendings.{HasSent, HaveSent}
+use Rattle.xmpp_senders.specs.Sendings.{HasSent}
 use Rattle.xmpp_senders.specs.declared.sender.Sender.{Sender}
 
 unbroken : (broken : Bool) (faults : ℕ) → (broken ≡ true → 1 ≤ faults) → faults ≡ 0 → broken ≡ false

@@ -1,7 +1,5 @@
 -- The journal of a server that has served, and the links that it gave back.
-use Rattle.std.proofs.Common.{◌≡◌, ℕ, ◌+◌, ◌<◌, ◌⊎◌, inl, inr, ⊎_elim, true, List, [], ◌∷◌, ◌++◌, length, map, Option, None, ap, refl, subst, sym, ◌∙◌, arith}
-use mathlib.Core.Option.{some}
-use lib.ListN.{get_elem?}
+use Rattle.std.proofs.Common.{◌≡◌, ℕ, ◌+◌, ◌<◌, inl, inr, ⊎_elim, true, List, ◌++◌, length, Option, ap, subst, sym, ◌∙◌, arith}
 use Rattle.xmpp_halves.specs.Halves.{IncomingView, OutgoingView}
 use Rattle.xmpp_hub.proofs.Ready.{all_some}
 use Rattle.xmpp_hub.proofs.ServedLinks.{all_served}
@@ -13,11 +11,10 @@ use Rattle.xmpp_owner.specs.Places.{AreKept, IsPlaced}
 use Rattle.xmpp_owner.specs.declared.place.Place.{Place}
 use Rattle.xmpp_readers.specs.declared.item.Item.{Item}
 use Rattle.xmpp_recorder.proofs.MoreEvents.{bares_are}
-use Rattle.xmpp_recorder.specs.Records.{IsKept, bare, bares_of, run_of_file, views_of}
+use Rattle.xmpp_recorder.specs.Records.{IsKept, bares_of, run_of_file, views_of}
 use Rattle.xmpp_recorder.specs.declared.recorder.Recorder.{Recorder}
 use Rattle.xmpp_senders.specs.Puts.{put_for}
 use Rattle.xmpp_senders.specs.Sendings.{HasSent}
-use Rattle.xmpp_senders.specs.declared.sender.Sender.{Sender}
 use Rattle.xmpp_serving.specs.Journaling.{journal_text}
 
 module _ {R I O P : Type 0} (told : I → IncomingView) (out : O → OutgoingView) (got : List (Item P)) (r : Recorder O) (places : List (Place R I P)) where

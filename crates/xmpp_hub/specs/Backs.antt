@@ -1,8 +1,7 @@
 -- Places and the halves of their connections, when these are given back.
-use Rattle.std.specs.Prelude.{◌≡◌, ℕ, ◌+◌, Bool, true, false, List, [], ◌∷◌, ◌++◌, Option, Some, IfSome, is_some, length, if◌then◌else◌}
+use Rattle.std.specs.Prelude.{◌≡◌, ℕ, ◌+◌, Bool, true, false, List, [], ◌∷◌, ◌++◌, Some, IfSome, is_some, length, if◌then◌else◌}
 use mathlib.Core.Option.{some}
 use lib.ListN.{get_elem?}
-use Rattle.crossbeam_channel.specs.Ends.{sends_on}
 use Rattle.xmpp_halves.specs.Halves.{IncomingView, OutgoingView, link_of}
 use Rattle.xmpp_outside.specs.Links.{LinkView}
 use Rattle.xmpp_owner.specs.Halves.{IsNew}

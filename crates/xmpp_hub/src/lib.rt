@@ -11,4 +11,3 @@ mod together;
 pub use fault::HubFault;
 pub use serving::serve_started;
 pub use together::serve_together;
-

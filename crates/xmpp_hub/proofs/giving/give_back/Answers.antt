@@ -1,4 +1,4 @@
-use Rattle.std.proofs.Common.{◌≡◌, ◌∙◌, ap, arith, length, refl, sym}
+use Rattle.std.proofs.Common.{◌∙◌, ap, arith}
 use Rattle.std.specs.Vec.Iter.{into_iter_items}
 use Rattle.xmpp_hub.proofs.Backs.{behind_more, paired_empty, paired_first, paired_none, paired_rest}
 use Rattle.xmpp_hub.proofs.giving.give_back.Goals as goal
