@@ -1,0 +1,16 @@
+-- the halves of one link stand at one place
+pub mod Paired
+-- what a reader that has ended brought
+pub mod Feeds
+-- readers that can be settled
+pub mod Ready
+-- links that are given back, one more
+pub mod Backs
+-- the links of a server that has served
+pub mod ServedLinks
+-- the journal
+pub mod Written
+-- faults
+pub mod Refusals
+-- a server that has served
+pub mod Served

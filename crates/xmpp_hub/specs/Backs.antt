@@ -1,0 +1,77 @@
+-- Places and the halves of their connections, when these are given back.
+use Rattle.std.specs.Prelude.{◌≡◌, ℕ, ◌+◌, Bool, true, false, List, [], ◌∷◌, ◌++◌, Some, IfSome, is_some, length, if◌then◌else◌}
+use mathlib.Core.Option.{some}
+use lib.ListN.{get_elem?}
+use Rattle.xmpp_halves.specs.Halves.{IncomingView, OutgoingView, link_of}
+use Rattle.xmpp_outside.specs.Links.{LinkView}
+use Rattle.xmpp_owner.specs.Halves.{IsNew}
+use Rattle.xmpp_owner.specs.Owners.{HasGiven}
+use Rattle.xmpp_owner.specs.declared.place.Place.{Place}
+use Rattle.xmpp_queue.specs.Merge.{items_of}
+use Rattle.xmpp_readers.specs.Feeds.{has_end, number}
+use Rattle.xmpp_readers.specs.declared.item.Item.{Item}
+use Rattle.xmpp_readers.specs.declared.reader.ReaderJob.{ReaderJob}
+use Rattle.xmpp_senders.specs.declared.sender.Sender.{Sender}
+
+-- the second list begins with the first
+abbrev pub AreBehind : List LinkView → List LinkView → Type 0
+AreBehind old new = (links : List LinkView) × (new ≡ old ++ links)
+
+module _ {R I O P : Type 0} (told : I → IncomingView) (out : O → OutgoingView) where
+  -- the half of each reader is of the same link as the half that stands at its place
+  abbrev pub ArePaired : List (Place R I P) → List (Sender O) → Type 0
+  ArePaired places senders = (i : ℕ) (p : Place R I P) → get_elem? places i ≡ some p
+      → IfSome p.worker (λ job. (s : Sender O) × (get_elem? senders i ≡ some s) × ((told job.half).number ≡ (out s.half).number))
+
+  module _ (got : List (Item P)) where
+    -- the reader of connection k was started and has ended; its half was new, and is of the same link as the sender's
+    pub record IsReady (same : ReaderJob R I P → Type 0) (k : ℕ) (p : Place R I P) (s : Sender O) : Type 0 where
+      pub job : ReaderJob R I P
+      pub worker : p.worker ≡ Some job
+      pub queue : same job
+      pub from : job.from ≡ k
+      pub ended : has_end (items_of number k got) ≡ true
+      pub pair : (told job.half).number ≡ (out s.half).number
+      pub new : IsNew (told job.half)
+
+    -- so are all, from k on
+    abbrev pub AreReady : (ReaderJob R I P → Type 0) → ℕ → List (Place R I P) → List (Sender O) → Type 0
+    AreReady same k [] [] = Unit {0}
+    AreReady same k [] (s ∷ ss) = ⊥
+    AreReady same k (p ∷ ps) [] = ⊥
+    AreReady same k (p ∷ ps) (s ∷ ss) = IsReady same k p s × AreReady same (k + 1) ps ss
+
+    -- the link of connection k: what its half gave is what was taken of its reader, and its other half is the sender's
+    pub record IsBack (k : ℕ) (p : Place R I P) (s : Sender O) (link : LinkView) : Type 0 where
+      pub job : ReaderJob R I P
+      pub half : I
+      pub given : HasGiven told job (items_of number k got) half
+      pub new : IsNew (told job.half)
+      pub link_is : link ≡ link_of (told half) (out s.half)
+
+    -- the links of all, from k on
+    abbrev pub AreBack : ℕ → List (Place R I P) → List (Sender O) → List LinkView → Type 0
+    AreBack k [] [] [] = Unit {0}
+    AreBack k [] [] (l ∷ ls) = ⊥
+    AreBack k [] (s ∷ ss) links = ⊥
+    AreBack k (p ∷ ps) [] links = ⊥
+    AreBack k (p ∷ ps) (s ∷ ss) [] = ⊥
+    AreBack k (p ∷ ps) (s ∷ ss) (l ∷ ls) = IsBack k p s l × AreBack (k + 1) ps ss ls
+
+module _ {R I O P : Type 0} (told : I → IncomingView) (out : O → OutgoingView) (got : List (Item P)) where
+  -- the first n links were given back, and these places and senders are left
+  pub record AreBackYet (n : ℕ) (places left : List (Place R I P)) (senders rest : List (Sender O)) (old now : List LinkView) : Type 0 where
+    pub ps : List (Place R I P)
+    pub ss : List (Sender O)
+    pub links : List LinkView
+    pub places_are : places ≡ ps ++ left
+    pub senders_are : senders ≡ ss ++ rest
+    pub many : length ps ≡ n
+    pub given : now ≡ old ++ links
+    pub back : AreBack told out got 1 ps ss links
+
+module _ {R I P : Type 0} where
+  -- a reader was started at each place
+  unfoldable pub are_started : List (Place R I P) → Bool
+  are_started [] = true
+  are_started (p ∷ ps) = if is_some p.worker then are_started ps else false

@@ -1,0 +1,14 @@
+pub use Rattle.xmpp_edge.specs.Counts
+pub use Rattle.xmpp_halves.specs.Halves
+pub use Rattle.xmpp_journal.specs.Journals
+pub use Rattle.xmpp_outside.specs.Links
+pub use Rattle.xmpp_owner.specs.Events
+pub use Rattle.xmpp_recorder.specs.Records
+pub use Rattle.xmpp_rerun.specs.Reruns
+pub use Rattle.xmpp_senders.specs.Puts
+pub use Rattle.xmpp_serving.specs.Journaling
+pub use Rattle.xmpp_serving.specs.Visits
+-- law
+pub mod Served
+-- view
+pub mod Backs

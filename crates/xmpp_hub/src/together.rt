@@ -1,0 +1,159 @@
+//! Connections that come in at a port are served at the same time.
+ghost use Rattle.std.specs.Prelude.{◌≡◌, ◌⊎◌, [], IfErr, IfOk, IfSome, IsErrOf, IsSome};
+ghost use Rattle.xmpp_edge.specs.Counts.{Rose};
+ghost use Rattle.xmpp_hub.specs.Backs.{AreBehind};
+ghost use Rattle.xmpp_hub.specs.Served.{HasServed, IsOwn, IsRefusal};
+ghost use Rattle.xmpp_journal.specs.AccountsFiles.{IsAccountsFile, accounts_text};
+ghost use Rattle.xmpp_recorder.specs.Records.{IsKept};
+
+use crate::fault::HubFault;
+use crate::serving::serve_started;
+use std::alloc::Global;
+use std::sync::Wait;
+use std::thread::Threads;
+use xmpp_edge::{Bytes, NoMemory};
+use xmpp_halves::{Halves, Incoming, Outgoing, Pair};
+use xmpp_journal::{AccountsFile, InputFault, read_accounts};
+use xmpp_outside::{Clock, Entropy};
+use xmpp_owner::Owner;
+use xmpp_readers::AcceptorJob;
+use xmpp_recorder::Recorder;
+use xmpp_workers::Spawner;
+
+// Serves at a door that is open, with a recorder to which nothing has happened yet.
+fn serve_with<
+    R: Threads + Wait + Copy + Send + 'static,
+    I: Incoming + Drop + Send + 'static,
+    O: Outgoing + Drop + Send + 'static,
+    D: Halves<Incoming = I, Outgoing = O> + Send + Drop + 'static,
+    C: Clock,
+    E: Entropy,
+    S: Spawner,
+>(
+    rt: &R,
+    n: u32,
+    recorder: Recorder<O>,
+    door: D,
+    clock: &mut C,
+    entropy: &mut E,
+    spawner: &mut S,
+) -> (Result<Bytes, HubFault>, Option<D>)
+where
+    D::Link: Send + 'static,
+    requires kept { IsKept O.told (C.moment clock.old) (E.bytes entropy.old) recorder }
+    requires fresh { (recorder.events.items ≡ []) × (recorder.senders.items ≡ []) }
+    ensures served { IfOk result.0 (λ text. IfSome result.1 (λ new. HasServed (accounts_text recorder.file) n (C.moment clock.old) (E.bytes entropy.old) (D.given door) (D.given new) text.items)) }
+    ensures given { IfSome result.1 (λ new. AreBehind (D.given door) (D.given new)) }
+    ensures faults { IfErr result.0 (λ e. IsOwn e) }
+    ensures link_fault { IsErrOf result.0 HubFault.LinkFault → IfSome result.1 (λ new. Rose (D.faults door) (D.faults new)) }
+    ensures no_worker { IsErrOf result.0 HubFault.NoWorker → Rose (S.faults spawner.old) (S.faults spawner.new) }
+    ensures entropy_fault { IsErrOf result.0 HubFault.EntropyFault → Rose (E.faults entropy.old) (E.faults entropy.new) }
+    ensures kept { IsErrOf result.0 HubFault.NoWorker ⊎ IsSome result.1 }
+{
+    let alloc = recorder.alloc;
+    let (owner, to, pass) = match Owner::new(*rt, alloc, recorder) {
+        Ok(begun) => begun,
+        Err(NoMemory) => return (Err(HubFault::NoMemory), Some(door)),
+    };
+    match spawner.start(AcceptorJob::new(*rt, door, to, pass, n)) {
+        Ok(acceptor) => {
+            let (served, door) = serve_started(rt, n, owner, acceptor, clock, entropy, spawner);
+            (served, Some(door))
+        }
+        Err(_) => (Err(HubFault::NoWorker), None),
+    }
+}
+
+// Serves at a door that is open, with a server of an accounts file.
+#[tactic(auto, using(crate::proofs::Served::served_again))]
+fn serve_at<
+    R: Threads + Wait + Copy + Send + 'static,
+    I: Incoming + Drop + Send + 'static,
+    O: Outgoing + Drop + Send + 'static,
+    D: Halves<Incoming = I, Outgoing = O> + Send + Drop + 'static,
+    C: Clock,
+    E: Entropy,
+    S: Spawner,
+>(
+    rt: &R,
+    alloc: Global,
+    n: u32,
+    file: AccountsFile,
+    door: D,
+    clock: &mut C,
+    entropy: &mut E,
+    spawner: &mut S,
+) -> (Result<Bytes, HubFault>, Option<D>)
+where
+    D::Link: Send + 'static,
+    requires right { IsAccountsFile file }
+    ensures served { IfOk result.0 (λ text. IfSome result.1 (λ new. HasServed (accounts_text file) n (C.moment clock.old) (E.bytes entropy.old) (D.given door) (D.given new) text.items)) }
+    ensures given { IfSome result.1 (λ new. AreBehind (D.given door) (D.given new)) }
+    ensures faults { IfErr result.0 (λ e. IsOwn e) }
+    ensures link_fault { IsErrOf result.0 HubFault.LinkFault → IfSome result.1 (λ new. Rose (D.faults door) (D.faults new)) }
+    ensures no_worker { IsErrOf result.0 HubFault.NoWorker → Rose (S.faults spawner.old) (S.faults spawner.new) }
+    ensures entropy_fault { IsErrOf result.0 HubFault.EntropyFault → Rose (E.faults entropy.old) (E.faults entropy.new) }
+    ensures kept { IsErrOf result.0 HubFault.NoWorker ⊎ IsSome result.1 }
+{
+    if file.accounts.as_slice().len() > u32::MAX as usize {
+        return (Err(HubFault::NoMemory), Some(door));
+    }
+    match Recorder::new(alloc, file) {
+        Ok(recorder) => serve_with(rt, n, recorder, door, clock, entropy, spawner),
+        Err(NoMemory) => (Err(HubFault::NoMemory), Some(door)),
+    }
+}
+
+/// Serves `n` connections that come in at a port, at the same time, and answers the journal of what happened, with the archives
+/// in the end. `accounts` is the text of an accounts file. An acceptor takes the connections in, a reader of its own reads each,
+/// and what the server puts for a connection goes out on its link. The journal's events are a merge of what each reader read,
+/// each piece once and in order. A connection is gone where a read fails, where its end is read, and where it gave as much as
+/// one may.
+///
+/// `BadLine` comes where `accounts` is the text of no accounts file, with the first bad line and its first reason; then the door
+/// stays closed. `LinkFault`, `NoWorker` and `EntropyFault` come only where the count of faults rose of the door, of the spawner
+/// and of the source of random bytes: where several did, that which was met first. Then, and after want of memory, all readers
+/// are joined, and the links of which a reader was started are given back. Where the acceptor can't be started, the door is
+/// dropped.
+#[tactic(auto, using(crate::proofs::Served::served_again, crate::proofs::Refusals::refused))]
+pub fn serve_together<
+    R: Threads + Wait + Copy + Send + 'static,
+    I: Incoming + Drop + Send + 'static,
+    O: Outgoing + Drop + Send + 'static,
+    D: Halves<Incoming = I, Outgoing = O> + Send + Drop + 'static,
+    C: Clock,
+    E: Entropy,
+    S: Spawner,
+>(
+    rt: &R,
+    alloc: Global,
+    accounts: &[u8],
+    port: u16,
+    n: u32,
+    mut door: D,
+    clock: &mut C,
+    entropy: &mut E,
+    spawner: &mut S,
+) -> (Result<Bytes, HubFault>, Option<D>)
+where
+    D::Link: Send + 'static,
+    ensures served { IfOk result.0 (λ text. IfSome result.1 (λ new. HasServed accounts.now n (C.moment clock.old) (E.bytes entropy.old) (D.given door) (D.given new) text.items)) }
+    ensures bad { IfErr result.0 (λ e. IsRefusal accounts.now e) }
+    ensures back { IfSome result.1 (λ new. AreBehind (D.given door) (D.given new)) }
+    ensures link_fault { IsErrOf result.0 HubFault.LinkFault → IfSome result.1 (λ new. Rose (D.faults door) (D.faults new)) }
+    ensures no_worker { IsErrOf result.0 HubFault.NoWorker → Rose (S.faults spawner.old) (S.faults spawner.new) }
+    ensures entropy_fault { IsErrOf result.0 HubFault.EntropyFault → Rose (E.faults entropy.old) (E.faults entropy.new) }
+    ensures kept { IsErrOf result.0 HubFault.NoWorker ⊎ IsSome result.1 }
+{
+    let file = match read_accounts(alloc, accounts) {
+        Ok(file) => file,
+        Err(InputFault::BadLine { line, why }) => {
+            return (Err(HubFault::BadLine { line, why }), Some(door));
+        }
+        Err(InputFault::NoMemory) => return (Err(HubFault::NoMemory), Some(door)),
+    };
+    match door.listen(port) {
+        Ok(()) => serve_at(rt, alloc, n, file, door, clock, entropy, spawner),
+        Err(_) => (Err(HubFault::LinkFault), Some(door)),
+    }
+}
