@@ -49,7 +49,7 @@ module _ {P : Type 0} where
   no_bytes (Came a) e = refl
   no_bytes (Gave piece) e = absurd (true≢false (sym e))
   no_bytes Ended e = refl
-  no_bytes (Closed b) e = refl
+  no_bytes Closed e = refl
   no_bytes Wanted e = refl
 
   pub has_read : {R I : Type 0} (told : I → IncomingView) (job : ReaderJob R I P) (half : I) (pass : Pass (Item P) (Known (Item P))) (v : Known (Item P)) (x : Item P)
@@ -79,5 +79,5 @@ module _ {P : Type 0} where
   ended_is (Came a) e = absurd (true≢false (sym e))
   ended_is (Gave piece) e = absurd (true≢false (sym e))
   ended_is Ended e = refl
-  ended_is (Closed b) e = absurd (true≢false (sym e))
+  ended_is Closed e = absurd (true≢false (sym e))
   ended_is Wanted e = absurd (true≢false (sym e))

@@ -1,5 +1,5 @@
 -- What the acceptor's answer has to do with its job.
-use Rattle.std.specs.Prelude.{◌≡◌, ℕ, zero, suc, ◌≤◌, Bool, true, false, ◌&&◌, List, [], ◌∷◌, ◌++◌, length}
+use Rattle.std.specs.Prelude.{◌≡◌, ℕ, zero, suc, ◌≤◌, ◌<◌, Bool, true, false, ◌&&◌, List, [], ◌∷◌, ◌++◌, length}
 use Rattle.crossbeam_channel.specs.Claims.{view, IsSeatAt}
 use Rattle.crossbeam_channel.specs.Ends.{sends_on}
 use Rattle.xmpp_edge.specs.Counts.{Rose, counted}
@@ -21,7 +21,7 @@ module _ {P : Type 0} where
   is_arrival (Came _) = true
   is_arrival (Gave _) = false
   is_arrival Ended = false
-  is_arrival (Closed _) = false
+  is_arrival Closed = false
   is_arrival Wanted = false
 
   -- connections that came in, and nothing else
@@ -29,19 +29,20 @@ module _ {P : Type 0} where
   are_arrivals [] = true
   are_arrivals (x ∷ xs) = is_arrival x.what && are_arrivals xs
 
-  abbrev pub closed_item : Bool → Item P
-  closed_item failed = record { from = 0; what = Closed failed }
+  abbrev pub closed_item : Item P
+  closed_item = record { from = 0; what = Closed }
 
   -- The acceptor sent the connections that came in, and then that no more are taken in: since it has as many as it was to
-  -- take in, or since the door failed, and then the door's count of faults rose.
+  -- take in, or since the door failed before that, and then the door's count of faults rose.
   pub record HasAccepted {R D : Type 0} (faults handed : D → ℕ) (given : D → List LinkView) (job : AcceptorJob R D P) (answer : AcceptorAnswer D P) : Type 0 where
     pub seat : IsSeatAt (sends_on job.to) answer.pass
     pub shape : view answer.pass ≡ has_sent 0 (view answer.pass).put
     pub body : List (Item P)
-    pub whole : (view answer.pass).put ≡ body ++ closed_item answer.failed ∷ []
+    pub whole : (view answer.pass).put ≡ body ++ closed_item ∷ []
     pub arrivals : are_arrivals body ≡ true
     pub most : length body ≤ job.count
     pub all : answer.failed ≡ false → length body ≡ job.count
+    pub fewer : answer.failed ≡ true → length body < job.count
     pub cause : answer.failed ≡ true → Rose (faults job.door) (faults answer.door)
     pub quiet : answer.failed ≡ false → faults answer.door ≡ faults job.door
     pub handed_is : handed answer.door ≡ counted_times (length body) (handed job.door)

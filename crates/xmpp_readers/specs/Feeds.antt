@@ -14,7 +14,7 @@ module _ {P : Type 0} where
   is_piece (Came _) = false
   is_piece (Gave _) = true
   is_piece Ended = false
-  is_piece (Closed _) = false
+  is_piece Closed = false
   is_piece Wanted = false
 
   -- the last item of a reader
@@ -22,14 +22,14 @@ module _ {P : Type 0} where
   is_last (Came _) = false
   is_last (Gave _) = false
   is_last Ended = true
-  is_last (Closed _) = true
+  is_last Closed = true
   is_last Wanted = true
 
   abbrev pub bytes_in : What P → List ℕ
   bytes_in (Came _) = []
   bytes_in (Gave piece) = piece.bytes.items
   bytes_in Ended = []
-  bytes_in (Closed _) = []
+  bytes_in Closed = []
   bytes_in Wanted = []
 
   -- pieces, and nothing else
@@ -47,7 +47,7 @@ module _ {P : Type 0} where
   is_end (Came _) = false
   is_end (Gave _) = false
   is_end Ended = true
-  is_end (Closed _) = false
+  is_end Closed = false
   is_end Wanted = false
 
   -- one of them is an end

@@ -1,5 +1,5 @@
 //! How the acceptor works.
-ghost use Rattle.std.specs.Prelude.{◌≡◌, ◌≤◌, true, false, length};
+ghost use Rattle.std.specs.Prelude.{◌≡◌, ◌≤◌, ◌<◌, true, false, length};
 ghost use Rattle.crossbeam_channel.specs.Claims.{IsSeatAt, view};
 ghost use Rattle.crossbeam_channel.specs.Ends.{sends_on};
 ghost use Rattle.xmpp_edge.specs.Counts.{Rose};
@@ -29,6 +29,7 @@ fn accept_all<R: Wait, D: Halves>(
     ensures arrivals { are_arrivals (view pass.new).put ≡ true }
     ensures most { length (view pass.new).put ≤ count }
     ensures all { result ≡ false → length (view pass.new).put ≡ count }
+    ensures fewer { result ≡ true → length (view pass.new).put < count }
     ensures cause { result ≡ true → Rose (D.faults door.old) (D.faults door.new) }
     ensures quiet { result ≡ false → D.faults door.new ≡ D.faults door.old }
     ensures handed { D.handed door.new ≡ counted_times (length (view pass.new).put) (D.handed door.old) }
@@ -62,7 +63,7 @@ impl<R: Wait + Drop, D: Halves + Drop> Job for AcceptorJob<R, D, Pair<D::Incomin
             count,
         } = self;
         let failed = accept_all(&rt, &mut door, &to, &mut pass, count);
-        let what = What::Closed(failed);
+        let what = What::Closed;
         post(&rt, &to, &mut pass, Item { from: 0, what });
         AcceptorAnswer { door, pass, failed }
     }

@@ -32,8 +32,8 @@ pub enum What<P> {
     Gave(Piece),
     /// A reader: a read failed, or found the end, or enough was read.
     Ended,
-    /// The acceptor: no more connections are taken in. It tells whether that is since the door failed.
-    Closed(bool),
+    /// The acceptor: no more connections are taken in.
+    Closed,
     /// A reader: it goes no further, since it wants memory.
     Wanted,
 }

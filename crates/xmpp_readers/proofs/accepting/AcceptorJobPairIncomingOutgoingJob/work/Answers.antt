@@ -13,12 +13,13 @@ returns g c =
     let put = ap (λ (v : Known (Item _)). v.put) c.post.ensures.put in
     record {
       seat = c.post.ensures.channel;
-      shape = c.post.ensures.put ∙ ap (λ v. with_put v (closed_item c.accept_all-failed.result)) took.shape ∙ ap (has_sent 0) (sym put);
+      shape = c.post.ensures.put ∙ ap (λ v. with_put v (closed_item)) took.shape ∙ ap (has_sent 0) (sym put);
       body = before.put;
       whole = put;
       arrivals = took.arrivals;
       most = took.most;
       all = took.all;
+      fewer = took.fewer;
       cause = took.cause;
       quiet = took.quiet;
       handed_is = took.handed;
