@@ -3,7 +3,7 @@ use Rattle.std.proofs.Common.{◌≡◌, ℕ, ◌≤◌, Option, Some, None, ◌
 use Rattle.xmpp_edge.specs.Counts.{Rose}
 use Rattle.xmpp_owner.specs.Troubles.{HasMet, first_of}
 use Rattle.xmpp_owner.specs.declared.trouble.Trouble.{Trouble}
-use Rattle.xmpp_owner.specs.declared.trouble.Trouble.TheVariants.{Worker, Entropy, Door}
+use Rattle.xmpp_owner.specs.declared.trouble.Trouble.TheVariants.{Worker, Entropy}
 
 later : (a b c : ℕ) → Rose a b → b ≤ c → Rose a c
 later a b c rose le = omega (arith, rose, le)
@@ -11,29 +11,20 @@ later a b c rose le = omega (arith, rose, le)
 after_same : (a b c : ℕ) → b ≡ a → Rose b c → Rose a c
 after_same a b c same rose = omega (arith, same, rose)
 
-pub met_door : (met : Option Trouble) (s e t f : ℕ) → HasMet met s e t f → HasMet (first_of met Door) s e t f
-met_door None s e t f h = tt
-met_door (Some Worker) s e t f h = h
-met_door (Some Entropy) s e t f h = h
-met_door (Some Door) s e t f h = h
-
 -- neither count rose
 pub met_quiet : (met : Option Trouble) (s e t f u g : ℕ) → u ≡ t → g ≡ f → HasMet met s e t f → HasMet met s e u g
 met_quiet None s e t f u g same and_same h = (same ∙ h.0, and_same ∙ h.1)
 met_quiet (Some Worker) s e t f u g same and_same h = omega (arith, h, same)
 met_quiet (Some Entropy) s e t f u g same and_same h = omega (arith, h, and_same)
-met_quiet (Some Door) s e t f u g same and_same h = tt
 
 -- the spawner's count rose
 pub met_worker : (met : Option Trouble) (s e t f u g : ℕ) → Rose t u → t ≤ u → g ≡ f → HasMet met s e t f → HasMet (first_of met Worker) s e u g
 met_worker None s e t f u g rose le and_same h = after_same s t u h.0 rose
 met_worker (Some Worker) s e t f u g rose le and_same h = later s t u h le
 met_worker (Some Entropy) s e t f u g rose le and_same h = omega (arith, h, and_same)
-met_worker (Some Door) s e t f u g rose le and_same h = tt
 
 -- the count of the source of random bytes rose
 pub met_entropy : (met : Option Trouble) (s e t f g : ℕ) → Rose f g → HasMet met s e t f → HasMet (first_of met Entropy) s e t g
 met_entropy None s e t f g rose h = after_same e f g h.1 rose
 met_entropy (Some Worker) s e t f g rose h = h
 met_entropy (Some Entropy) s e t f g rose h = omega (arith, h, rose)
-met_entropy (Some Door) s e t f g rose h = tt

@@ -4,7 +4,9 @@ pub mod KeptPlaces
 pub mod WholeFeeds
 -- the owner after each kind of item
 pub mod OwnerSteps
--- a reader that was joined
+-- the connections that came in
+pub mod CountedArrivals
+-- a reader that was joined, and the acceptor
 pub mod Settled
 -- the events are a merge
 pub mod MergedFeeds

@@ -1,5 +1,5 @@
--- A reader that was joined.
-use Rattle.std.proofs.Common.{◌≡◌, true, List, ◌++◌, sym, ap, ◌∙◌, subst}
+-- Workers that were joined.
+use Rattle.std.proofs.Common.{◌≡◌, ℕ, true, List, ◌++◌, length, sym, ap, ◌∙◌, subst}
 use Rattle.crossbeam_channel.specs.Claims.{view}
 use Rattle.xmpp_queue.specs.declared.rule.Known.{Known}
 use Rattle.xmpp_readers.specs.declared.item.Item.{Item}
@@ -9,7 +9,14 @@ use Rattle.xmpp_halves.specs.Halves.{IncomingView}
 use Rattle.xmpp_queue.specs.Merge.{items_of}
 use Rattle.xmpp_readers.specs.Feeds.{number, has_end}
 use Rattle.xmpp_readers.specs.Readers.{HasRead}
+use Rattle.xmpp_outside.specs.Links.{LinkView}
+use Rattle.xmpp_owner.proofs.CountedArrivals.{all_came}
+use Rattle.xmpp_owner.specs.Arrivals.{arrivals, has_closed}
 use Rattle.xmpp_owner.specs.Owners.{HasGiven}
+use Rattle.xmpp_queue.proofs.ItemsOf.{items_of-append}
+use Rattle.xmpp_readers.specs.Acceptors.{HasAccepted}
+use Rattle.xmpp_readers.specs.declared.acceptor.AcceptorAnswer.{AcceptorAnswer}
+use Rattle.xmpp_readers.specs.declared.acceptor.AcceptorJob.{AcceptorJob}
 use Rattle.xmpp_owner.proofs.WholeFeeds.{whole, end_is_last}
 use Rattle.xmpp_readers.proofs.LongerFeeds.{ended_is}
 
@@ -24,3 +31,12 @@ module _ {R I P : Type 0} where
     where
       shifted : (told : I → IncomingView) (job : ReaderJob R I P) (put taken : List (Item P)) (half : I) → put ≡ taken → HasGiven told job put half → HasGiven told job taken half
       shifted told job put taken half is h = subst (λ l. HasGiven told job l half) is h
+
+module _ {R D P : Type 0} where
+  -- the connections that were taken of an acceptor that has ended are those that it sent
+  pub all_taken : (faults handed : D → ℕ) (links : D → List LinkView) (job : AcceptorJob R D P) (answer : AcceptorAnswer D P) (got rest : List (Item P)) → (accepted : HasAccepted faults handed links job answer)
+      → items_of number (view answer.pass).from (got ++ rest) ≡ (view answer.pass).put → has_closed (items_of number 0 got) ≡ true → arrivals (items_of number 0 got) ≡ length accepted.body
+  all_taken faults handed links job answer got rest accepted all closed =
+      let from : (view answer.pass).from ≡ 0 = ap (λ (v : Known (Item P)). v.from) accepted.shape in
+      all_came (items_of number 0 got) (items_of number 0 rest) accepted.body
+      (sym (items_of-append number 0 got rest) ∙ ap (λ k. items_of number k (got ++ rest)) (sym from) ∙ all ∙ accepted.whole) accepted.arrivals closed

@@ -7,12 +7,12 @@ use Rattle.xmpp_queue.specs.Merge.{items_of}
 use Rattle.xmpp_readers.specs.Feeds.{number, is_piece, is_end, are_pieces, has_end, IsFeed}
 use Rattle.xmpp_queue.proofs.ItemsOf.{items_of-append}
 
-and_left : (a b : Bool) → (a && b) ≡ true → (a ≡ true) × (b ≡ true)
+pub and_left : (a b : Bool) → (a && b) ≡ true → (a ≡ true) × (b ≡ true)
 and_left true b e = (refl, e)
 and_left false b e = absurd (true≢false (sym e))
 
 module _ {P : Type 0} where
-  head_is : Item P → List (Item P) → Item P
+  unfoldable pub head_is : Item P → List (Item P) → Item P
   head_is d [] = d
   head_is d (x ∷ xs) = x
 
@@ -20,7 +20,7 @@ module _ {P : Type 0} where
   piece_goes_on (Came i) b e h = h
   piece_goes_on (Gave p) b e h = h
   piece_goes_on Ended b e h = absurd (true≢false (sym e))
-  piece_goes_on (Closed c) b e h = absurd (true≢false (sym e))
+  piece_goes_on Closed b e h = absurd (true≢false (sym e))
   piece_goes_on Wanted b e h = absurd (true≢false (sym e))
 
   none_behind : (xs ys : List (Item P)) → xs ++ ys ≡ [] → ys ≡ []

@@ -33,7 +33,7 @@ module _ {P : Type 0} where
   told_in (what.Came _) = []
   told_in (what.Gave piece) = Gave piece.bytes.items ∷ []
   told_in what.Ended = Gone ∷ []
-  told_in (what.Closed _) = []
+  told_in what.Closed = []
   told_in what.Wanted = []
 
   unfoldable pub told_of : List (Item P) → List Told

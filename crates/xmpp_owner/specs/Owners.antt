@@ -6,6 +6,7 @@ use Rattle.crossbeam_channel.specs.Claims.{view, IsSeatAt}
 use Rattle.crossbeam_channel.specs.Ends.{sends_on, receives_on}
 use Rattle.std.specs.Io.KnownBytes.{Appends}
 use Rattle.xmpp_halves.specs.Halves.{IncomingView}
+use Rattle.xmpp_owner.specs.Arrivals.{AreHere}
 use Rattle.xmpp_owner.specs.Events.{Event}
 use Rattle.xmpp_owner.specs.Places.{AreKept}
 use Rattle.xmpp_owner.specs.declared.owner.Owner.{Owner}
@@ -27,10 +28,17 @@ module _ {R I P T : Type 0} where
     pub same : (i : ℕ) (p : Place R I P) → get_elem? h.places.items i ≡ some p → IfSome p.worker (λ job. sends_on job.to ≡ sends_on h.to)
 
   module _ (events : T → List Event) where
-    -- the events are what was taken
+    -- the events are what was taken, and each connection that came has its place
     pub record IsGoing (h : Owner R I P T) : Type 0 where
       pub still : IsOpen h
       pub kept : AreKept (events h.taker) (view h.pass).got h.places.items
+      pub here : AreHere 0 (view h.pass).got h.closed h.met h.places.items
+
+    -- so it is but for one connection that came, and has no place yet
+    pub record IsComing (h : Owner R I P T) : Type 0 where
+      pub still : IsOpen h
+      pub kept : AreKept (events h.taker) (view h.pass).got h.places.items
+      pub here : AreHere 1 (view h.pass).got h.closed h.met h.places.items
 
     -- the events are what was taken but for x, which was taken last
     pub record IsPending (h : Owner R I P T) (x : Item P) : Type 0 where
@@ -38,6 +46,7 @@ module _ {R I P T : Type 0} where
       pub got : List (Item P)
       pub took : (view h.pass).got ≡ got ++ x ∷ []
       pub kept : AreKept (events h.taker) got h.places.items
+      pub here : AreHere 0 got h.closed h.met h.places.items
 
 module _ {R I P : Type 0} where
   -- what was taken of a reader is all that its half gave, in pieces, and then its end

@@ -45,6 +45,11 @@ module _ {R I P : Type 0} where
   are_over [] = true
   are_over (p ∷ ps) = if is_over p then are_over ps else false
 
+  -- a reader was started at each place
+  unfoldable pub are_started : List (Place R I P) → Bool
+  are_started [] = true
+  are_started (p ∷ ps) = if is_some p.worker then are_started ps else false
+
   abbrev pub feed_of : maybe.Option (Place R I P) → ℕ → List (Item P) → List Told
   feed_of none k got = []
   feed_of (some p) k got = Connect ∷ feed_from p.worker (items_of number k got)

@@ -2,7 +2,7 @@
 use Rattle.std.specs.Prelude.{◌≡◌, ℕ, Option, Some, None}
 use Rattle.xmpp_edge.specs.Counts.{Rose}
 use Rattle.xmpp_owner.specs.declared.trouble.Trouble.{Trouble}
-use Rattle.xmpp_owner.specs.declared.trouble.Trouble.TheVariants.{Worker, Entropy, Door}
+use Rattle.xmpp_owner.specs.declared.trouble.Trouble.TheVariants.{Worker, Entropy}
 
 abbrev pub first_of : Option Trouble → Trouble → Option Trouble
 first_of None trouble = Some trouble
@@ -14,4 +14,3 @@ abbrev pub HasMet : Option Trouble → ℕ → ℕ → ℕ → ℕ → Type 0
 HasMet None s e t f = (t ≡ s) × (f ≡ e)
 HasMet (Some Worker) s e t f = Rose s t
 HasMet (Some Entropy) s e t f = Rose e f
-HasMet (Some Door) s e t f = Unit {0}

@@ -11,6 +11,6 @@ mod trouble;
 
 pub use owner::Owner;
 pub use place::Place;
-pub use settling::settle;
+pub use settling::{settle, settle_acceptor};
 pub use taker::Taker;
 pub use trouble::Trouble;

@@ -1,16 +1,19 @@
-//! A reader that has ended is joined.
-ghost use Rattle.std.specs.Prelude.{◌≡◌, true, false};
+//! Workers that have ended are joined.
+ghost use Rattle.std.specs.Prelude.{◌≡◌, ◌<◌, true, false};
 ghost use Rattle.crossbeam_channel.specs.Claims.{IsSeatAt, view};
 ghost use Rattle.crossbeam_channel.specs.Ends.{sends_on};
+ghost use Rattle.xmpp_edge.specs.Counts.{Rose};
+ghost use Rattle.xmpp_owner.specs.Arrivals.{arrivals, has_closed};
 ghost use Rattle.xmpp_owner.specs.Owners.{HasGiven};
 ghost use Rattle.xmpp_queue.specs.Merge.{items_of};
+ghost use Rattle.xmpp_readers.specs.Acceptors.{counted_times};
 ghost use Rattle.xmpp_readers.specs.Feeds.{has_end, number as number_of};
 
 use std::sync::Wait;
 use std::thread::Threads;
-use xmpp_halves::Incoming;
+use xmpp_halves::{Halves, Incoming, Pair};
 use xmpp_queue::{Receipt, Sending, retire};
-use xmpp_readers::{Item, ReaderAnswer, ReaderJob};
+use xmpp_readers::{AcceptorAnswer, AcceptorJob, Item, ReaderAnswer, ReaderJob};
 use xmpp_workers::Worker;
 
 /// Joins the reader of connection `number`, whose end was taken, and takes in its pass: what was taken of it is all that its
@@ -34,4 +37,35 @@ pub fn settle<R: Threads + Wait + Drop, I: Incoming + Drop, P: Drop>(
     let ReaderAnswer { half, pass: spent } = worker.join(rt);
     retire(to, pass, spent);
     half
+}
+
+/// Joins the acceptor, whose last item was taken, and takes in its pass. Answers its door, and whether that failed: the
+/// connections that were taken of it are all that the door handed out.
+pub fn settle_acceptor<R: Threads + Wait + Drop, D: Halves + Drop>(
+    rt: &R,
+    to: &Sending<Item<Pair<D::Incoming, D::Outgoing>>>,
+    pass: &mut Receipt<Item<Pair<D::Incoming, D::Outgoing>>>,
+    worker: Worker<AcceptorJob<R, D, Pair<D::Incoming, D::Outgoing>>>,
+) -> (D, bool)
+    requires channel { IsSeatAt (sends_on to.now) pass.old }
+    requires owner { ((view pass.old).takes ≡ true) × ((view pass.old).sends ≡ false) }
+    requires job { sends_on worker.to ≡ sends_on to.now }
+    requires closed { has_closed (items_of number_of 0 (view pass.old).got) ≡ true }
+    ensures channel { IsSeatAt (sends_on to.now) pass.new }
+    ensures owner { ((view pass.new).takes ≡ true) × ((view pass.new).sends ≡ false) }
+    ensures got { (view pass.new).got ≡ (view pass.old).got }
+    ensures all { result.1 ≡ false → arrivals (items_of number_of 0 (view pass.old).got) ≡ worker.count }
+    ensures fewer { result.1 ≡ true → arrivals (items_of number_of 0 (view pass.old).got) < worker.count }
+    ensures cause { result.1 ≡ true → Rose (D.faults worker.door) (D.faults result.0) }
+    ensures quiet { result.1 ≡ false → D.faults result.0 ≡ D.faults worker.door }
+    ensures handed { D.handed result.0 ≡ counted_times (arrivals (items_of number_of 0 (view pass.old).got)) (D.handed worker.door) }
+    ensures given { D.given result.0 ≡ D.given worker.door }
+{
+    let AcceptorAnswer {
+        door,
+        pass: spent,
+        failed,
+    } = worker.join(rt);
+    retire(to, pass, spent);
+    (door, failed)
 }

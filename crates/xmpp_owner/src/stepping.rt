@@ -4,13 +4,16 @@ ghost use Rattle.std.specs.Vec.{vec_capacity};
 ghost use Rattle.crossbeam_channel.specs.Claims.{IsSeatAt, view};
 ghost use Rattle.crossbeam_channel.specs.Ends.{sends_on};
 ghost use Rattle.xmpp_halves.specs.Halves.{IsUnusedPair};
+ghost use Rattle.xmpp_owner.specs.Arrivals.{has_closed};
 ghost use Rattle.xmpp_owner.specs.Events.{AreMerged};
 ghost use Rattle.xmpp_owner.specs.Halves.{IsHeld};
-ghost use Rattle.xmpp_owner.specs.Owners.{IsGoing, IsPending};
+ghost use Rattle.xmpp_owner.specs.Owners.{IsComing, IsGoing, IsPending};
 ghost use Rattle.xmpp_owner.specs.Places.{HasNoReader, IsStarted, are_over, feeds, is_over};
 ghost use Rattle.xmpp_owner.specs.Troubles.{HasMet};
+ghost use Rattle.xmpp_queue.specs.Merge.{items_of};
 ghost use Rattle.xmpp_queue.specs.Rule.{sender};
-ghost use Rattle.xmpp_readers.specs.declared.item.What.TheVariants.{Closed, Ended, Gave};
+ghost use Rattle.xmpp_readers.specs.Feeds.{number};
+ghost use Rattle.xmpp_readers.specs.declared.item.What.TheVariants.{Ended, Gave};
 
 use crate::owner::Owner;
 use crate::place::Place;
@@ -126,6 +129,7 @@ impl<
         requires many { length (T.numbers self.old.taker) ≡ length self.old.places.items }
         requires right { T.keeps self.old.taker (C.moment clock.old) (E.bytes entropy.old) }
         ensures going { OnOk result (IsGoing T.events self.new) }
+        ensures queue { self.new.to ≡ self.old.to }
         ensures held { IsHeld I.told T.numbers self.new }
         ensures many { OnOk result (length (T.numbers self.new.taker) ≡ length self.new.places.items) }
         ensures right { OnOk result (T.keeps self.new.taker (C.moment clock.old) (E.bytes entropy.old)) }
@@ -151,6 +155,7 @@ impl<
         requires many { length (T.numbers self.old.taker) ≡ length self.old.places.items }
         requires right { T.keeps self.old.taker (C.moment clock.old) (E.bytes entropy.old) }
         ensures going { OnOk result (IsGoing T.events self.new) }
+        ensures queue { self.new.to ≡ self.old.to }
         ensures held { IsHeld I.told T.numbers self.new }
         ensures many { OnOk result (length (T.numbers self.new.taker) ≡ length self.new.places.items) }
         ensures right { OnOk result (T.keeps self.new.taker (C.moment clock.old) (E.bytes entropy.old)) }
@@ -163,15 +168,17 @@ impl<
         match what {
             What::Gave(piece) => self.gave(clock, from, piece),
             What::Ended => self.ended(clock, from),
-            What::Closed(failed) => {
-                self.closed(from, failed);
-                Ok(())
-            }
-            What::Came(pair) => self.admit(spawner, clock, entropy, pair),
             What::Wanted => {
                 self.mark(from);
                 Err(NoMemory)
             }
+            What::Came(pair) if from == 0 => self.admit(spawner, clock, entropy, pair),
+            What::Closed if from == 0 => {
+                self.closed = true;
+                Ok(())
+            }
+            // These are the acceptor's alone.
+            What::Came(_) | What::Closed => Ok(()),
         }
     }
 
@@ -181,6 +188,7 @@ impl<
         requires held { IsHeld I.told T.numbers self.old }
         requires many { length (T.numbers self.old.taker) ≡ length self.old.places.items }
         ensures going { OnOk result (IsGoing T.events self.new) }
+        ensures queue { self.new.to ≡ self.old.to }
         ensures held { IsHeld I.told T.numbers self.new }
         ensures many { length (T.numbers self.new.taker) ≡ length self.new.places.items }
         ensures right { (drawn : Option (List ℕ)) → T.keeps self.old.taker (C.moment clock.old) drawn → OnOk result (T.keeps self.new.taker (C.moment clock.old) drawn) }
@@ -200,6 +208,7 @@ impl<
         requires held { IsHeld I.told T.numbers self.old }
         requires many { length (T.numbers self.old.taker) ≡ length self.old.places.items }
         ensures going { OnOk result (IsGoing T.events self.new) }
+        ensures queue { self.new.to ≡ self.old.to }
         ensures held { IsHeld I.told T.numbers self.new }
         ensures many { length (T.numbers self.new.taker) ≡ length self.new.places.items }
         ensures right { (drawn : Option (List ℕ)) → T.keeps self.old.taker (C.moment clock.old) drawn → OnOk result (T.keeps self.new.taker (C.moment clock.old) drawn) }
@@ -220,26 +229,11 @@ impl<
     fn mark(&mut self, from: u64)
         requires held { IsHeld I.told T.numbers self.old }
         ensures held { IsHeld I.told T.numbers self.new }
-        ensures taker { self.new.taker ≡ self.old.taker }
+        ensures same { (self.new.taker ≡ self.old.taker) × (self.new.to ≡ self.old.to) }
     {
         match started(self.places.as_slice(), from) {
             None => {}
             Some(index) => self.places[index].ended = true,
-        }
-    }
-
-    // No more connections are taken in.
-    fn closed(&mut self, from: u64, failed: bool)
-        requires going { IsPending T.events self.old (record { from = from; what = Closed failed }) }
-        requires held { IsHeld I.told T.numbers self.old }
-        ensures going { IsGoing T.events self.new }
-        ensures held { IsHeld I.told T.numbers self.new }
-        ensures same { (self.new.taker ≡ self.old.taker) × (self.new.places ≡ self.old.places) }
-        ensures met { (s e t f : ℕ) → HasMet self.old.met s e t f → HasMet self.new.met s e t f }
-    {
-        self.closed = true;
-        if failed {
-            self.met = first(self.met, Trouble::Door);
         }
     }
 
@@ -251,11 +245,12 @@ impl<
         entropy: &mut E,
         pair: Pair<I, O>,
     ) -> Result<(), NoMemory>
-        requires going { IsGoing T.events self.old }
+        requires coming { IsComing T.events self.old }
         requires held { IsHeld I.told T.numbers self.old }
         requires many { length (T.numbers self.old.taker) ≡ length self.old.places.items }
         requires right { T.keeps self.old.taker (C.moment clock.old) (E.bytes entropy.old) }
         ensures going { OnOk result (IsGoing T.events self.new) }
+        ensures queue { self.new.to ≡ self.old.to }
         ensures held { IsHeld I.told T.numbers self.new }
         ensures many { OnOk result (length (T.numbers self.new.taker) ≡ length self.new.places.items) }
         ensures right { OnOk result (T.keeps self.new.taker (C.moment clock.old) (E.bytes entropy.old)) }
@@ -271,9 +266,10 @@ impl<
 
     // A worker that finds no place would not be joined, so that there is one before it is started.
     fn make_room(&mut self) -> Result<(), NoMemory>
-        requires going { IsGoing T.events self.old }
+        requires coming { IsComing T.events self.old }
         requires held { IsHeld I.told T.numbers self.old }
-        ensures going { IsGoing T.events self.new }
+        ensures coming { IsComing T.events self.new }
+        ensures queue { self.new.to ≡ self.old.to }
         ensures held { IsHeld I.told T.numbers self.new }
         ensures places { self.new.places.items ≡ self.old.places.items }
         ensures same { (self.new.taker ≡ self.old.taker) × (self.new.met ≡ self.old.met) }
@@ -292,13 +288,14 @@ impl<
         incoming: I,
         outgoing: O,
     ) -> Result<(), NoMemory>
-        requires going { IsGoing T.events self.old }
+        requires coming { IsComing T.events self.old }
         requires held { IsHeld I.told T.numbers self.old }
         requires many { length (T.numbers self.old.taker) ≡ length self.old.places.items }
         requires right { T.keeps self.old.taker (C.moment clock.old) (E.bytes entropy.old) }
         requires room { vec_len self.old.places < vec_capacity self.old.places }
         requires pair { IsUnusedPair (I.told incoming) (O.told outgoing) }
         ensures going { OnOk result (IsGoing T.events self.new) }
+        ensures queue { self.new.to ≡ self.old.to }
         ensures held { IsHeld I.told T.numbers self.new }
         ensures many { OnOk result (length (T.numbers self.new.taker) ≡ length self.new.places.items) }
         ensures right { OnOk result (T.keeps self.new.taker (C.moment clock.old) (E.bytes entropy.old)) }
@@ -336,7 +333,8 @@ impl<
     }
 
     /// Goes on until no more connections are taken in, and each reader that was started has ended. The events are a merge of
-    /// what was taken of each reader. What went wrong outside is kept in `met`, and the run goes on.
+    /// what was taken of each reader. Where nothing went wrong outside, each connection that was taken of the acceptor has its
+    /// place and its reader. What went wrong is kept in `met`, and the run goes on.
     pub fn run<S: Spawner, C: Clock, E: Entropy>(
         &mut self,
         spawner: &mut S,
@@ -350,7 +348,9 @@ impl<
         requires met { self.old.met ≡ None }
         ensures going { OnOk result (IsGoing T.events self.new) }
         ensures over { OnOk result (are_over self.new.places.items ≡ true) }
+        ensures closed { OnOk result (has_closed (items_of number 0 (view self.new.pass).got) ≡ true) }
         ensures merged { OnOk result (AreMerged (T.events self.new.taker) (feeds self.new.places.items (view self.new.pass).got)) }
+        ensures queue { self.new.to ≡ self.old.to }
         ensures held { IsHeld I.told T.numbers self.new }
         ensures many { OnOk result (length (T.numbers self.new.taker) ≡ length self.new.places.items) }
         ensures right { OnOk result (T.keeps self.new.taker (C.moment clock.old) (E.bytes entropy.old)) }
@@ -378,7 +378,7 @@ impl<
         match what {
             What::Gave(_) => {}
             What::Ended | What::Wanted => self.mark(from),
-            What::Closed(_) => self.closed = true,
+            What::Closed => self.closed = true,
             What::Came(pair) => {
                 let (_incoming, mut outgoing) = pair.apart();
                 outgoing.close();

@@ -9,8 +9,6 @@ pub enum Trouble {
     Worker,
     /// The source of random bytes failed.
     Entropy,
-    /// The door failed.
-    Door,
 }
 
 // What was met first stays.

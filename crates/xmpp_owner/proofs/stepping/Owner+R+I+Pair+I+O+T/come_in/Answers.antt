@@ -1,5 +1,6 @@
 use Rattle.std.proofs.Common.{refl, sym, ap, ◌∙◌, ◌+◌, false, Some, None, ◌≡◌, length, subst}
 use Rattle.crossbeam_channel.specs.Ends.{sends_on}
+use Rattle.xmpp_owner.proofs.CountedArrivals.{never_none}
 use Rattle.xmpp_owner.proofs.HeldHalves.{held_came, held_passed, held_with}
 use Rattle.xmpp_owner.proofs.KeptPlaces.{Adds}
 use Rattle.xmpp_owner.proofs.OwnerSteps.{came, chosen, connected}
@@ -7,6 +8,7 @@ use Rattle.xmpp_owner.proofs.stepping.Owner+R+I+Pair+I+O+T.come_in.Goals as goal
 use Rattle.xmpp_owner.specs.Events.{Connect, Gone}
 use Rattle.xmpp_owner.specs.Halves.{IsNew}
 use Rattle.xmpp_owner.specs.declared.place.Place.{Place}
+use Rattle.xmpp_owner.specs.declared.trouble.Trouble.TheVariants as trouble
 
 pub returns-in-Ok-clause-going : goal.returns-in-Ok-clause-going
 returns-in-Ok-clause-going g c =
@@ -16,7 +18,7 @@ returns-in-Ok-clause-going g c =
     let from : job.from ≡ length h.places.items + 1 = ap (λ j. j.from) c.in-Ok.ensures.job ∙ c.new-job.ensures.from ∙ ap (λ l. length l + 1) count in
     let to : sends_on job.to ≡ sends_on h.to = ap (λ j. sends_on j.to) c.in-Ok.ensures.job ∙ ap sends_on c.new-job.ensures.to ∙ c.in_ok-to.ensures in
     let began = subst (λ l. Adds (events h.taker) (events c.connect.new.self) (length l + 1) Connect) count (connected c.in_ok-connect.field-0 _ _ _ c.if-not-branch.false c.in_ok-connect.ensures.came) in
-    came events h c.hire-pass.new.pass c.push_reserved.new.self c.connect.new.self h.met p c.requires.going c.hire-pass.ensures.channel.0 c.hire-pass.ensures.views.0 c.hire-pass.ensures.fresh c.push_reserved.ensures.items (from, to) refl began
+    came events h c.hire-pass.new.pass c.push_reserved.new.self c.connect.new.self h.met p c.requires.coming c.hire-pass.ensures.channel.0 c.hire-pass.ensures.views.0 c.hire-pass.ensures.fresh c.push_reserved.ensures.items (from, to) refl began (λ e. (e, refl))
 
 pub returns-in_ok-gone-in-Err-clause-going : goal.returns-in_ok-gone-in-Err-clause-going
 returns-in_ok-gone-in-Err-clause-going g c =
@@ -25,7 +27,7 @@ returns-in_ok-gone-in-Err-clause-going g c =
     let count : c.as_slice.result.now ≡ h.places.items = c.as_slice.ensures.value in
     let began = subst (λ l. Adds (events h.taker) (events c.connect.new.self) (length l + 1) Connect) count (connected c.in_ok-connect.field-0 _ _ _ c.if-not-branch.false c.in_ok-connect.ensures.came) in
     let over = subst (λ l. Adds (events c.connect.new.self) (events c.gone.new.self) (length l + 1) Gone) count c.in_ok-gone-in-Err.ensures.gone in
-    came events h c.hire-pass.new.pass c.push_reserved-in-Err.new.self c.gone.new.self _ p c.requires.going c.hire-pass.ensures.channel.0 c.hire-pass.ensures.views.0 c.hire-pass.ensures.fresh c.push_reserved-in-Err.ensures.items tt refl (events c.connect.new.self, began, over)
+    came events h c.hire-pass.new.pass c.push_reserved-in-Err.new.self c.gone.new.self _ p c.requires.coming c.hire-pass.ensures.channel.0 c.hire-pass.ensures.views.0 c.hire-pass.ensures.fresh c.push_reserved-in-Err.ensures.items tt refl (events c.connect.new.self, began, over) (λ e. absurd (never_none h.met _ trouble.Worker c.first-self-in-Err.ensures e))
 
 pub returns-in-Ok-clause-held : goal.returns-in-Ok-clause-held
 returns-in-Ok-clause-held g c =

@@ -1,4 +1,4 @@
-use Rattle.std.proofs.Common.{refl, ◌<◌, inl, subst, ap, true, arith}
+use Rattle.std.proofs.Common.{refl, ◌<◌, inl, inr, subst, ap, true, arith}
 use Rattle.xmpp_owner.proofs.HeldHalves.{first_same, held_marked}
 use Rattle.xmpp_owner.proofs.OwnerSteps.{on_ok, pass_over, started_below, started_is, write_end}
 use Rattle.xmpp_owner.proofs.stepping.Owner+R+I+Pair+I+O+T.ended.Goals as goal
@@ -14,7 +14,7 @@ index_mut-requires g c = subst (λ n. c.in-Some.index < n) c.as_slice.ensures.le
 pub returns-in-None-clause-going : goal.returns-in-None-clause-going
 returns-in-None-clause-going g c =
     let item : Item _ = record { from = c.args.from; what = Ended } in
-    pass_over g.T.Taker.events c.args.self.now item c.requires.going (inl (subst (λ l. HasNoReader l c.args.from) c.as_slice.ensures.value c.in-None.ensures))
+    pass_over g.T.Taker.events c.args.self.now item c.requires.going (inl (subst (λ l. HasNoReader l c.args.from) c.as_slice.ensures.value c.in-None.ensures)) (inr refl)
 
 pub returns-in-Some-clause-going : goal.returns-in-Some-clause-going
 returns-in-Some-clause-going g c =

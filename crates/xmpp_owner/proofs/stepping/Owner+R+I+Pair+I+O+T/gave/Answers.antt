@@ -1,4 +1,4 @@
-use Rattle.std.proofs.Common.{refl, inl, subst, arith}
+use Rattle.std.proofs.Common.{refl, inl, inr, subst, arith}
 use Rattle.xmpp_owner.proofs.HeldHalves.{first_same, held_with}
 use Rattle.xmpp_owner.proofs.OwnerSteps.{on_ok, pass_over, started_below, write_down}
 use Rattle.xmpp_owner.proofs.stepping.Owner+R+I+Pair+I+O+T.gave.Goals as goal
@@ -10,7 +10,7 @@ use Rattle.xmpp_readers.specs.declared.item.What.TheVariants as what
 pub returns-in-None-clause-going : goal.returns-in-None-clause-going
 returns-in-None-clause-going g c =
     let item : Item _ = record { from = c.args.from; what = what.Gave c.args.piece } in
-    pass_over g.T.Taker.events c.args.self.now item c.requires.going (inl (subst (λ l. HasNoReader l c.args.from) c.as_slice.ensures.value c.in-None.ensures))
+    pass_over g.T.Taker.events c.args.self.now item c.requires.going (inl (subst (λ l. HasNoReader l c.args.from) c.as_slice.ensures.value c.in-None.ensures)) (inr refl)
 
 pub returns-in-Some-clause-going : goal.returns-in-Some-clause-going
 returns-in-Some-clause-going g c =

@@ -7,6 +7,7 @@ use Rattle.xmpp_owner.specs.Troubles.{HasMet}
 abbrev pub invariant-loop : goal.invariant-loop
 invariant-loop g l = record {
   going : IsGoing g.T.Taker.events l.self;
+  queue : l.self.to ≡ l.initial.self.to;
   held : IsHeld g.I.Incoming.told g.T.Taker.numbers l.self;
   many : length (g.T.Taker.numbers l.self.taker) ≡ length l.self.places.items;
   right : g.T.Taker.keeps l.self.taker (g.C.Clock.moment l.initial.clock) (g.E.Entropy.bytes l.initial.entropy);
