@@ -3,7 +3,7 @@ use Rattle.std.proofs.Common.{◌≡◌, ℕ, Bool, true, false, ◌≤◌, List
 use Rattle.std.specs.Io.KnownBytes.{IsAtEnd}
 use Rattle.xmpp_syncing.specs.declared.fault.SyncFault.{SyncFault}
 use Rattle.xmpp_edge.specs.declared.whole_reads.TheConstants.{MOST_BYTES_READ}
-use Rattle.xmpp_cli.proofs.Unread.{unread_entropy, unread_link, unread_peer}
+use Rattle.xmpp_cli.proofs.Unread.{unread_entropy, unread_link, unread_peer, unread_worker}
 use Rattle.xmpp_cli.specs.Dealings.{Dealings}
 use Rattle.xmpp_cli.specs.Words.{reads}
 use Rattle.xmpp_cli.specs.Table.{IsReplayed, IsRefusal, IsRefused, IsChecked, IsReadWhole, IsRerun, IsRerunRefusal, IsServed, IsAccountsRefusal, HasSynced, IsScriptRefusal, IsStopped, HasLinkFailed, HasPeerFailed, IsDone, IsAnswer, IsDueOf, Due}
@@ -11,7 +11,7 @@ use Rattle.xmpp_cli.specs.declared.answer.Answer.{Answer}
 use Rattle.xmpp_cli.specs.declared.command.Command.{Command}
 use Rattle.xmpp_cli.specs.declared.command.Command.TheVariants.{Help, Version, Replay, Check, Rerun, Generate, Serve, Sync}
 use Rattle.xmpp_cli.specs.declared.outcome.Outcome.{Outcome}
-use Rattle.xmpp_cli.specs.declared.outcome.Outcome.TheVariants.{Done, WrongWords, Refused, ReadFault, LinkFault, PeerFault, EntropyFault, TooLong}
+use Rattle.xmpp_cli.specs.declared.outcome.Outcome.TheVariants.{Done, WrongWords, Refused, ReadFault, LinkFault, PeerFault, NoWorker, EntropyFault, TooLong}
 
 replayed_of_known : (input : List ℕ) (known : Option (List ℕ)) (text : List ℕ) → IfSome known (λ all. input ≡ all) → IsReplayed (Some input) text → IsReplayed known text
 replayed_of_known input None text same (schedule, report, is, spelled, of, due) = (schedule, report, is, tt, of, due)
@@ -81,18 +81,18 @@ done_of_known Replay input known dealt text same done = replayed_of_known input 
 done_of_known Check input known dealt text same done = checked_of_known true input known text same done
 done_of_known Rerun input known dealt text same done = rerun_of_known input known text same done
 done_of_known (Generate number size) input known dealt text same done = done
-done_of_known (Serve port connections) input known dealt text same done = served_of_known connections input known dealt text same done
+done_of_known (Serve port connections) input known dealt text same done = (done.0, served_of_known connections input known dealt text same done.1)
 done_of_known (Sync port) input known dealt text same done = synced_of_known input known dealt text same done
 
-refused_of_known : (command : Command) (input : List ℕ) (known : Option (List ℕ)) (text : List ℕ) → IfSome known (λ all. input ≡ all) → IsRefused command (Some input) text → IsRefused command known text
-refused_of_known Help input known text same refused = refused
-refused_of_known Version input known text same refused = refused
-refused_of_known Replay input known text same refused = refusal_of_known input known text same refused
-refused_of_known Check input known text same refused = checked_of_known false input known text same refused
-refused_of_known Rerun input known text same refused = rerun_refusal_of_known input known text same refused
-refused_of_known (Generate number size) input known text same refused = refused
-refused_of_known (Serve port connections) input known text same refused = accounts_refusal_of_known input known text same refused
-refused_of_known (Sync port) input known text same refused = script_refusal_of_known input known text same refused
+refused_of_known : (command : Command) (input : List ℕ) (known : Option (List ℕ)) (dealt : Dealings) (text : List ℕ) → IfSome known (λ all. input ≡ all) → IsRefused command (Some input) dealt text → IsRefused command known dealt text
+refused_of_known Help input known dealt text same refused = refused
+refused_of_known Version input known dealt text same refused = refused
+refused_of_known Replay input known dealt text same refused = refusal_of_known input known text same refused
+refused_of_known Check input known dealt text same refused = checked_of_known false input known text same refused
+refused_of_known Rerun input known dealt text same refused = rerun_refusal_of_known input known text same refused
+refused_of_known (Generate number size) input known dealt text same refused = refused
+refused_of_known (Serve port connections) input known dealt text same refused = (refused.0, accounts_refusal_of_known input known text same refused.1)
+refused_of_known (Sync port) input known dealt text same refused = script_refusal_of_known input known text same refused
 
 -- what was seen is what was read, and so what the source tells
 known_as_seen : (seen input : List ℕ) (known : Option (List ℕ)) → seen ≡ input → IfSome known (λ all. input ≡ all) → IfSome known (λ all. seen ≡ all)
@@ -107,11 +107,12 @@ short_as_read input (Some all) same short = subst (λ bytes. length bytes ≤ MO
 due_of_answer : (command : Command) (seen : List ℕ) (known left : Option (List ℕ)) (rose : Type 0) (dealt : Dealings) (outcome : Outcome) (text : List ℕ)
     → IfSome known (λ all. seen ≡ all) → IsReadWhole known left → IsAnswer command (Some seen) dealt outcome text → IsDueOf command known left rose dealt outcome text
 due_of_answer command seen known left rose dealt Done text same whole answer = (done_of_known command seen known dealt text same answer, λ e. whole)
-due_of_answer command seen known left rose dealt Refused text same whole answer = (refused_of_known command seen known text same answer, λ e. whole)
+due_of_answer command seen known left rose dealt Refused text same whole answer = (refused_of_known command seen known dealt text same answer, λ e. whole)
 due_of_answer command seen known left rose dealt WrongWords text same whole answer = absurd answer
 due_of_answer command seen known left rose dealt ReadFault text same whole answer = absurd answer
 due_of_answer command seen known left rose dealt LinkFault text same whole answer = ((link_of_known command seen known dealt same answer.0, answer.1), λ e. whole)
 due_of_answer command seen known left rose dealt PeerFault text same whole answer = (peer_of_known command seen known dealt text same answer, λ e. whole)
+due_of_answer command seen known left rose dealt NoWorker text same whole answer = (answer, λ e. whole)
 due_of_answer command seen known left rose dealt EntropyFault text same whole answer = (answer, λ e. whole)
 due_of_answer command seen known left rose dealt TooLong text same whole answer = absurd answer
 
@@ -136,15 +137,15 @@ unread_done (Generate number size) seen known dealt text e done = done
 unread_done (Serve port connections) seen known dealt text e done = absurd (cc)
 unread_done (Sync port) seen known dealt text e done = absurd (cc)
 
-unread_refused : (command : Command) (seen : List ℕ) (known : Option (List ℕ)) (text : List ℕ) → reads (Some command) ≡ false → IsRefused command (Some seen) text → IsRefused command known text
-unread_refused Help seen known text e refused = refused
-unread_refused Version seen known text e refused = refused
-unread_refused Replay seen known text e refused = absurd (cc)
-unread_refused Check seen known text e refused = absurd (cc)
-unread_refused Rerun seen known text e refused = absurd (cc)
-unread_refused (Generate number size) seen known text e refused = refused
-unread_refused (Serve port connections) seen known text e refused = absurd (cc)
-unread_refused (Sync port) seen known text e refused = absurd (cc)
+unread_refused : (command : Command) (seen : List ℕ) (known : Option (List ℕ)) (dealt : Dealings) (text : List ℕ) → reads (Some command) ≡ false → IsRefused command (Some seen) dealt text → IsRefused command known dealt text
+unread_refused Help seen known dealt text e refused = refused
+unread_refused Version seen known dealt text e refused = refused
+unread_refused Replay seen known dealt text e refused = absurd (cc)
+unread_refused Check seen known dealt text e refused = absurd (cc)
+unread_refused Rerun seen known dealt text e refused = absurd (cc)
+unread_refused (Generate number size) seen known dealt text e refused = refused
+unread_refused (Serve port connections) seen known dealt text e refused = absurd (cc)
+unread_refused (Sync port) seen known dealt text e refused = absurd (cc)
 
 unread_whole : {P : Type 0} (command : Command) → reads (Some command) ≡ false → reads (Some command) ≡ true → P
 unread_whole command e is = let both : false ≡ true = sym e ∙ is in absurd (cc)
@@ -152,11 +153,12 @@ unread_whole command e is = let both : false ≡ true = sym e ∙ is in absurd (
 unread_due : (command : Command) (seen : List ℕ) (known left : Option (List ℕ)) (rose : Type 0) (dealt : Dealings) (outcome : Outcome) (text : List ℕ)
     → reads (Some command) ≡ false → IsAnswer command (Some seen) dealt outcome text → IsDueOf command known left rose dealt outcome text
 unread_due command seen known left rose dealt Done text e answer = (unread_done command seen known dealt text e answer, unread_whole command e)
-unread_due command seen known left rose dealt Refused text e answer = (unread_refused command seen known text e answer, unread_whole command e)
+unread_due command seen known left rose dealt Refused text e answer = (unread_refused command seen known dealt text e answer, unread_whole command e)
 unread_due command seen known left rose dealt WrongWords text e answer = absurd answer
 unread_due command seen known left rose dealt ReadFault text e answer = absurd answer
 unread_due command seen known left rose dealt LinkFault text e answer = absurd (unread_link command (Some seen) dealt e answer.0)
 unread_due command seen known left rose dealt PeerFault text e answer = absurd (unread_peer command (Some seen) dealt text e answer)
+unread_due command seen known left rose dealt NoWorker text e answer = absurd (unread_worker command dealt e answer.0)
 unread_due command seen known left rose dealt EntropyFault text e answer = absurd (unread_entropy command dealt e answer.0)
 unread_due command seen known left rose dealt TooLong text e answer = absurd answer
 

@@ -9,19 +9,19 @@ use Rattle.xmpp_journal.specs.declared.fault.InputFault.TheVariants as inputs
 use Rattle.xmpp_rerun.specs.Reruns.{SaysRun, rerun_of}
 use Rattle.xmpp_schedule.specs.Kinds.{InGrammar}
 use Rattle.xmpp_schedule.specs.declared.fault.LineWhy.{LineWhy}
-use Rattle.xmpp_cli.specs.Texts.{words_line, read_fault_line, too_long_line, bad_line, link_fault_line, entropy_fault_line, peer_line}
+use Rattle.xmpp_cli.specs.Texts.{words_line, read_fault_line, too_long_line, bad_line, link_fault_line, no_worker_line, entropy_fault_line, peer_line}
 use Rattle.xmpp_journal.specs.Reading.{rerun_reading}
 use Rattle.xmpp_script.specs.Reading.{script_reading}
 use Rattle.xmpp_syncing.specs.declared.failure.PeerFailure.{PeerFailure}
 use Rattle.xmpp_syncing.specs.declared.fault.SyncFault.TheVariants as syncs
 use Rattle.xmpp_edge.specs.Counts.{Rose, Quiet}
-use Rattle.xmpp_cli.specs.Dealings.{Dealings, IsQuietDialer, IsQuietDoor}
+use Rattle.xmpp_cli.specs.Dealings.{AreBack, Dealings, IsQuietDialer, IsQuietDoor}
 use Rattle.xmpp_cli.specs.Words.{goes_out, reads}
 use Rattle.xmpp_cli.specs.Table.{code_of, is_status, Due, HasDoorFailed, HasSynced, IsAccountsRefusal, IsRefusal, IsScriptRefusal, IsServed, IsStopped, MustAnswer, SaysAccounts}
 use Rattle.xmpp_cli.specs.declared.command.Command.{Command}
 use Rattle.xmpp_cli.specs.declared.command.Command.TheVariants.{Help, Version, Replay, Check, Rerun, Generate, Serve, Sync}
 use Rattle.xmpp_cli.specs.declared.outcome.Outcome.{Outcome}
-use Rattle.xmpp_cli.specs.declared.outcome.Outcome.TheVariants.{Done, WrongWords, Refused, ReadFault, LinkFault, PeerFault, EntropyFault, TooLong}
+use Rattle.xmpp_cli.specs.declared.outcome.Outcome.TheVariants.{Done, WrongWords, Refused, ReadFault, LinkFault, PeerFault, NoWorker, EntropyFault, TooLong}
 use Rattle.xmpp_cli.specs.declared.texts.TheConstants.{HELP, VERSION}
 
 module _ (known left : Option (List ℕ)) (rose calm still : Type 0) (dealt : Dealings) (Written : List ℕ → Type 0) (result : ℕ) where
@@ -77,11 +77,11 @@ module _ (known left : Option (List ℕ)) (rose calm still : Type 0) (dealt : De
       ((whole refl).ended, (line, reason, why, subst Written text_is out))
 
   done_serve : (port connections : ℕ) (command : Option Command) → Answered command → result ≡ 0 → command ≡ Some (Serve port connections)
-      → IsAtEnd left × ((text : List ℕ) × IsServed known connections dealt text × Written text)
+      → IsAtEnd left × AreBack dealt × ((text : List ℕ) × IsServed known connections dealt text × Written text)
   done_serve port connections command answer zero e =
       let (text, due, out) = answer Done zero in
-      let (served, whole) = subst (λ c. Due c known left rose dealt Done text) e due in
-      ((whole refl).ended, (text, served, out))
+      let ((back, served), whole) = subst (λ c. Due c known left rose dealt Done text) e due in
+      ((whole refl).ended, back, (text, served, out))
 
   done_sync : (port : ℕ) (command : Option Command) → Answered command → result ≡ 0 → command ≡ Some (Sync port)
       → IsAtEnd left × ((text : List ℕ) × HasSynced known dealt text × Written text)
@@ -91,10 +91,11 @@ module _ (known left : Option (List ℕ)) (rose calm still : Type 0) (dealt : De
       ((whole refl).ended, (text, synced, out))
 
   refused_serve : (port connections : ℕ) (command : Option Command) → Answered command → result ≡ 3 → command ≡ Some (Serve port connections)
-      → (text : List ℕ) × IsAccountsRefusal known text × Written text
+      → AreBack dealt × ((text : List ℕ) × IsAccountsRefusal known text × Written text)
   refused_serve port connections command answer three e =
       let (text, due, out) = answer Refused three in
-      (text, (subst (λ c. Due c known left rose dealt Refused text) e due).0, out)
+      let (back, refused) = (subst (λ c. Due c known left rose dealt Refused text) e due).0 in
+      (back, (text, refused, out))
 
   refused_sync : (port : ℕ) (command : Option Command) → Answered command → result ≡ 3 → command ≡ Some (Sync port)
       → (text : List ℕ) × IsScriptRefusal known text × Written text
@@ -104,11 +105,11 @@ module _ (known left : Option (List ℕ)) (rose calm still : Type 0) (dealt : De
 
   -- 7 is of `serve` and `sync` alone
   link_serve : (port connections : ℕ) (command : Option Command) → Answered command → result ≡ 7 → command ≡ Some (Serve port connections)
-      → HasDoorFailed connections dealt × Written link_fault_line
+      → AreBack dealt × HasDoorFailed connections dealt × Written link_fault_line
   link_serve port connections command answer seven e =
       let (text, due, out) = answer LinkFault seven in
-      let (failed, text_is) = (subst (λ c. Due c known left rose dealt LinkFault text) e due).0 in
-      (failed, subst Written text_is out)
+      let ((back, failed), text_is) = (subst (λ c. Due c known left rose dealt LinkFault text) e due).0 in
+      (back, failed, subst Written text_is out)
 
   link_sync : (port : ℕ) (command : Option Command) → Answered command → result ≡ 7 → command ≡ Some (Sync port)
       → IsStopped known dealt syncs.Link × Written link_fault_line
@@ -124,6 +125,14 @@ module _ (known left : Option (List ℕ)) (rose calm still : Type 0) (dealt : De
       let (text, due, out) = answer PeerFault eight in
       let (failure, stopped, text_is) = (subst (λ c. Due c known left rose dealt PeerFault text) e due).0 in
       (failure, stopped, subst Written text_is out)
+
+  -- 9 is of `serve` alone
+  worker_serve : (port connections : ℕ) (command : Option Command) → Answered command → result ≡ 9 → command ≡ Some (Serve port connections)
+      → Rose dealt.before.starts dealt.behind.starts × Written no_worker_line
+  worker_serve port connections command answer nine e =
+      let (text, due, out) = answer NoWorker nine in
+      let (failed, text_is) = (subst (λ c. Due c known left rose dealt NoWorker text) e due).0 in
+      (failed, subst Written text_is out)
 
   entropy_serve : (port connections : ℕ) (command : Option Command) → Answered command → result ≡ 10 → command ≡ Some (Serve port connections)
       → Rose dealt.before.draws dealt.behind.draws × Written entropy_fault_line
@@ -171,7 +180,7 @@ module _ (known left : Option (List ℕ)) (rose calm still : Type 0) (dealt : De
           | inl five ↦ inr (inl five.1)
           | inr b ↦ elim (eqb_tells result 6) [
             | inl six ↦ inr (inr six.1)
-            | inr c ↦ absurd (left_over status a.1 b.1 c.1 (none Done (λ s. cc)) (none Refused (λ s. cc)) (none ReadFault (λ s. cc)) (none LinkFault (λ s. cc)) (none PeerFault (λ s. cc)) (none EntropyFault (λ s. cc)) (none TooLong (λ s. cc)))
+            | inr c ↦ absurd (left_over status a.1 b.1 c.1 (none Done (λ s. cc)) (none Refused (λ s. cc)) (none ReadFault (λ s. cc)) (none LinkFault (λ s. cc)) (none PeerFault (λ s. cc)) (none NoWorker (λ s. cc)) (none EntropyFault (λ s. cc)) (none TooLong (λ s. cc)))
           ]
         ]
       ]
@@ -183,12 +192,13 @@ module _ (known left : Option (List ℕ)) (rose calm still : Type 0) (dealt : De
       never None answer e ReadFault other is = let (text, due, out) = answer ReadFault is in due
       never None answer e LinkFault other is = let (text, due, out) = answer LinkFault is in due
       never None answer e PeerFault other is = let (text, due, out) = answer PeerFault is in due
+      never None answer e NoWorker other is = let (text, due, out) = answer NoWorker is in due
       never None answer e EntropyFault other is = let (text, due, out) = answer EntropyFault is in due
       never None answer e TooLong other is = let (text, due, out) = answer TooLong is in due
       never (Some c) answer e outcome other is = cc
 
-      left_over : IsTrue (is_status result) → result ≢ 2 → result ≢ 5 → result ≢ 6 → result ≢ 0 → result ≢ 3 → result ≢ 4 → result ≢ 7 → result ≢ 8 → result ≢ 10 → result ≢ 11 → ⊥
-      left_over status a b c d e f g h i j = grind (arith, nat_tests)
+      left_over : IsTrue (is_status result) → result ≢ 2 → result ≢ 5 → result ≢ 6 → result ≢ 0 → result ≢ 3 → result ≢ 4 → result ≢ 7 → result ≢ 8 → result ≢ 9 → result ≢ 10 → result ≢ 11 → ⊥
+      left_over status a b c d e f g h i j k = grind (arith, nat_tests)
 
 module _ (rose calm still : Type 0) (dealt : Dealings) (result : ℕ) where
   complete_help : (known : Option (List ℕ)) (command : Option Command) → Exactly known None rose calm still dealt (λ text. Unit {0}) result command → command ≡ Some Help → still → (result ≡ 0) ⊎ (result ≡ 6)
@@ -234,11 +244,12 @@ module _ (rose calm still : Type 0) (dealt : Dealings) (result : ℕ) where
   too_long_only (Some input) (Some (Sync port)) exactly e apart read quiet = absurd cc
 
   complete_serve : (port connections : ℕ) (known : Option (List ℕ)) (command : Option Command) → Exactly known None rose calm still dealt (λ text. Unit {0}) result command
-      → command ≡ Some (Serve port connections) → calm → IsQuietDoor dealt → Quiet dealt.before.draws dealt.behind.draws → still →
+      → command ≡ Some (Serve port connections) → calm → IsQuietDoor dealt → Quiet dealt.before.draws dealt.behind.draws
+      → Quiet dealt.before.starts dealt.behind.starts → still →
       IfSome known (λ input. length input ≤ MOST_BYTES_READ → SaysAccounts input → (result ≡ 0) ⊎ (result ≡ 6))
-  complete_serve port connections None command exactly e read door draws quiet = tt
-  complete_serve port connections (Some input) command exactly e read door draws quiet = λ short good.
-      exactly Done (subst (λ c. MustAnswer c (Some input) calm dealt Done) (sym e) (read, (door, draws), (short, good, tt))) quiet
+  complete_serve port connections None command exactly e read door draws starts quiet = tt
+  complete_serve port connections (Some input) command exactly e read door draws starts quiet = λ short good.
+      exactly Done (subst (λ c. MustAnswer c (Some input) calm dealt Done) (sym e) (read, (door, draws, starts), (short, good, tt))) quiet
 
   complete_sync : (port : ℕ) (known : Option (List ℕ)) (command : Option Command) → Exactly known None rose calm still dealt (λ text. Unit {0}) result command
       → command ≡ Some (Sync port) → calm → IsQuietDialer dealt → Quiet dealt.before.draws dealt.behind.draws → still →

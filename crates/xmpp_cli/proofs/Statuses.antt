@@ -12,16 +12,17 @@ use Rattle.xmpp_schedule.specs.Kinds.{IsSchedule, schedule_text}
 use Rattle.xmpp_schedule.specs.declared.schedule.Schedule.{Schedule}
 use Rattle.xmpp_script.specs.Reading.{script_reading}
 use Rattle.xmpp_script.specs.Scripts.{ScriptView}
-use Rattle.xmpp_serving.specs.Journaling.{AreFewer, HasServed}
+use Rattle.xmpp_hub.specs.Served.{HasServed}
+use Rattle.xmpp_serving.specs.Journaling.{AreFewer}
 use Rattle.xmpp_cli.proofs.Dialers.{link_not_quiet, not_risen}
-use Rattle.xmpp_cli.proofs.Unread.{unread_entropy, unread_link, unread_peer}
+use Rattle.xmpp_cli.proofs.Unread.{unread_entropy, unread_link, unread_peer, unread_worker}
 use Rattle.xmpp_cli.specs.Dealings.{Dealings, DoorView}
 use Rattle.xmpp_cli.specs.Words.{reads}
-use Rattle.xmpp_cli.specs.Table.{code_of, Accepts, HasLinkFailed, HasPeerFailed, HasEntropyFailed, IsBlameless, IsQuiet, SaysAccounts, IsServed, IsDone, IsRefused, IsReportOf, Due, IsDueOf, MustAnswer, MustEnd, generated_summary}
+use Rattle.xmpp_cli.specs.Table.{code_of, Accepts, HasLinkFailed, HasPeerFailed, HasNoWorker, HasEntropyFailed, IsBlameless, IsQuiet, SaysAccounts, IsServed, IsDone, IsRefused, IsReportOf, Due, IsDueOf, MustAnswer, MustEnd, generated_summary}
 use Rattle.xmpp_cli.specs.declared.command.Command.{Command}
 use Rattle.xmpp_cli.specs.declared.command.Command.TheVariants.{Help, Version, Replay, Check, Rerun, Generate, Serve, Sync}
 use Rattle.xmpp_cli.specs.declared.outcome.Outcome.{Outcome}
-use Rattle.xmpp_cli.specs.declared.outcome.Outcome.TheVariants.{Done, WrongWords, Refused, ReadFault, LinkFault, PeerFault, EntropyFault, TooLong}
+use Rattle.xmpp_cli.specs.declared.outcome.Outcome.TheVariants.{Done, WrongWords, Refused, ReadFault, LinkFault, PeerFault, NoWorker, EntropyFault, TooLong}
 
 -- What is known of a call whose status is neither 5 nor 6.
 abbrev pub Told : Option Command → Option (List ℕ) → Option (List ℕ) → Type 0 → Dealings → (List ℕ → Type 0) → ℕ → Type 0
@@ -36,6 +37,7 @@ code_not_5 Refused e = omega arith
 code_not_5 ReadFault e = omega arith
 code_not_5 LinkFault e = omega arith
 code_not_5 PeerFault e = omega arith
+code_not_5 NoWorker e = omega arith
 code_not_5 EntropyFault e = omega arith
 code_not_5 TooLong e = omega arith
 
@@ -46,6 +48,7 @@ code_not_6 Refused e = omega arith
 code_not_6 ReadFault e = omega arith
 code_not_6 LinkFault e = omega arith
 code_not_6 PeerFault e = omega arith
+code_not_6 NoWorker e = omega arith
 code_not_6 EntropyFault e = omega arith
 code_not_6 TooLong e = omega arith
 
@@ -57,8 +60,9 @@ outcome_with n =
     else (if n == 4 then ReadFault
     else (if n == 7 then LinkFault
     else (if n == 8 then PeerFault
+    else (if n == 9 then NoWorker
     else (if n == 10 then EntropyFault
-    else TooLong))))))
+    else TooLong)))))))
 
 outcome_back : (outcome : Outcome) → outcome_with (code_of outcome) ≡ outcome
 outcome_back Done = refl
@@ -67,6 +71,7 @@ outcome_back Refused = refl
 outcome_back ReadFault = refl
 outcome_back LinkFault = refl
 outcome_back PeerFault = refl
+outcome_back NoWorker = refl
 outcome_back EntropyFault = refl
 outcome_back TooLong = refl
 
@@ -118,19 +123,19 @@ done_accepted Replay input dealt text (schedule, report, is, spelled, of, due) =
 done_accepted Check input dealt text (stream, is, sound, due) = ap (λ bytes. (told bytes).sound) is ∙ sound
 done_accepted Rerun input dealt text (run, says, due) = (run, says)
 done_accepted (Generate number size) input dealt text done = tt
-done_accepted (Serve port connections) input dealt text served = served_accepted connections input dealt text served
+done_accepted (Serve port connections) input dealt text served = served_accepted connections input dealt text served.1
 done_accepted (Sync port) input dealt text (script, is, synced) = begun_accepted input script synced.begins.script is synced.begins.said
 
-refused_not_accepted : (command : Command) (input text : List ℕ) → IsRefused command (Some input) text → ¬ (Accepts command input)
-refused_not_accepted Help input text refused accepts = refused
-refused_not_accepted Version input text refused accepts = refused
-refused_not_accepted Replay input text (line, reason, why, due) accepts = why.1 accepts
-refused_not_accepted Check input text (stream, is, unsound, due) accepts =
+refused_not_accepted : (command : Command) (input text : List ℕ) (dealt : Dealings) → IsRefused command (Some input) dealt text → ¬ (Accepts command input)
+refused_not_accepted Help input text dealt refused accepts = refused
+refused_not_accepted Version input text dealt refused accepts = refused
+refused_not_accepted Replay input text dealt (line, reason, why, due) accepts = why.1 accepts
+refused_not_accepted Check input text dealt (stream, is, unsound, due) accepts =
     let both : true ≡ false = sym accepts ∙ ap (λ bytes. (told bytes).sound) is ∙ unsound in cc
-refused_not_accepted Rerun input text (line, reason, why, due) accepts = why.1 accepts
-refused_not_accepted (Generate number size) input text refused accepts = refused
-refused_not_accepted (Serve port connections) input text (line, reason, why, due) accepts = why.1 accepts
-refused_not_accepted (Sync port) input text (line, reason, why, due) accepts = let both : false ≡ true = sym (ap (λ r. is_ok r) why) ∙ accepts in cc
+refused_not_accepted Rerun input text dealt (line, reason, why, due) accepts = why.1 accepts
+refused_not_accepted (Generate number size) input text dealt refused accepts = refused
+refused_not_accepted (Serve port connections) input text dealt (back, (line, reason, why, due)) accepts = why.1 accepts
+refused_not_accepted (Sync port) input text dealt (line, reason, why, due) accepts = let both : false ≡ true = sym (ap (λ r. is_ok r) why) ∙ accepts in cc
 
 -- a door that is quiet did not fail
 door_not_quiet : (connections : ℕ) (dealt : Dealings) (old new : Option DoorView)
@@ -146,8 +151,18 @@ quiet_link Replay known dealt quiet failed = failed
 quiet_link Check known dealt quiet failed = failed
 quiet_link Rerun known dealt quiet failed = failed
 quiet_link (Generate number size) known dealt quiet failed = failed
-quiet_link (Serve port connections) known dealt quiet failed = door_not_quiet connections dealt dealt.before.door dealt.behind.door quiet.0 failed
+quiet_link (Serve port connections) known dealt quiet failed = door_not_quiet connections dealt dealt.before.door dealt.behind.door quiet.0 failed.1
 quiet_link (Sync port) known dealt quiet (script, is, stopped) = link_not_quiet stopped.start dealt.before.dialer dealt.behind.dialer quiet.0.faults quiet.0.ends stopped.untold
+
+quiet_worker : (command : Command) (dealt : Dealings) → IsQuiet command dealt → ¬ (HasNoWorker command dealt)
+quiet_worker Help dealt quiet failed = failed
+quiet_worker Version dealt quiet failed = failed
+quiet_worker Replay dealt quiet failed = failed
+quiet_worker Check dealt quiet failed = failed
+quiet_worker Rerun dealt quiet failed = failed
+quiet_worker (Generate number size) dealt quiet failed = failed
+quiet_worker (Serve port connections) dealt quiet failed = not_risen _ _ quiet.2 failed
+quiet_worker (Sync port) dealt quiet failed = failed
 
 quiet_entropy : (command : Command) (dealt : Dealings) → IsQuiet command dealt → ¬ (HasEntropyFailed command dealt)
 quiet_entropy Help dealt quiet failed = failed
@@ -195,6 +210,7 @@ unread_done (Serve port connections) known left rose dealt Refused text e due = 
 unread_done (Sync port) known left rose dealt Refused text e due = absurd (cc)
 unread_done command known left rose dealt LinkFault text e due = absurd (unread_link command known dealt e due.0.0)
 unread_done command known left rose dealt PeerFault text e due = absurd (unread_peer command known dealt text e due.0)
+unread_done command known left rose dealt NoWorker text e due = absurd (unread_worker command dealt e due.0.0)
 unread_done command known left rose dealt EntropyFault text e due = absurd (unread_entropy command dealt e due.0.0)
 unread_done command known left rose dealt WrongWords text e due = absurd due.0
 unread_done command known left rose dealt ReadFault text e due = let both : false ≡ true = sym e ∙ due.0 in absurd (cc)
@@ -206,7 +222,7 @@ read_ends : (command : Command) (input : List ℕ) (left : Option (List ℕ)) (r
 read_ends command input left rose dealt Done Done text e calm quiet must due = refl
 read_ends command input left rose dealt Done Refused text e calm quiet must due = absurd (must.1 (done_accepted command input dealt text due.0))
 read_ends command input left rose dealt Done TooLong text e calm quiet must due = absurd (omega (arith, must, (due.1 e).short))
-read_ends command input left rose dealt Refused Done text e calm quiet must due = absurd (refused_not_accepted command input text due.0 must.1)
+read_ends command input left rose dealt Refused Done text e calm quiet must due = absurd (refused_not_accepted command input text dealt due.0 must.1)
 read_ends command input left rose dealt Refused Refused text e calm quiet must due = refl
 read_ends command input left rose dealt Refused TooLong text e calm quiet must due = absurd (omega (arith, must, (due.1 e).short))
 read_ends command input left rose dealt PeerFault Done text e calm quiet must due = absurd (no_peer command input dealt text must.2 due.0)
@@ -217,12 +233,14 @@ read_ends command input left rose dealt TooLong Refused text e calm quiet must d
 read_ends command input left rose dealt TooLong TooLong text e calm quiet must due = refl
 read_ends command input left rose dealt ReadFault wanted text e calm quiet must due = absurd (calm due.1)
 read_ends command input left rose dealt LinkFault wanted text e calm quiet must due = absurd (quiet_link command (Some input) dealt quiet due.0.0)
+read_ends command input left rose dealt NoWorker wanted text e calm quiet must due = absurd (quiet_worker command dealt quiet due.0.0)
 read_ends command input left rose dealt EntropyFault wanted text e calm quiet must due = absurd (quiet_entropy command dealt quiet due.0.0)
 read_ends command input left rose dealt WrongWords wanted text e calm quiet must due = absurd due.0
 read_ends command input left rose dealt outcome WrongWords text e calm quiet must due = absurd must
 read_ends command input left rose dealt outcome ReadFault text e calm quiet must due = absurd must
 read_ends command input left rose dealt outcome LinkFault text e calm quiet must due = absurd must
 read_ends command input left rose dealt outcome PeerFault text e calm quiet must due = absurd must
+read_ends command input left rose dealt outcome NoWorker text e calm quiet must due = absurd must
 read_ends command input left rose dealt outcome EntropyFault text e calm quiet must due = absurd must
 
 read_must : (command : Command) (known left : Option (List ℕ)) (rose : Type 0) (dealt : Dealings) (outcome wanted : Outcome) (text : List ℕ)
@@ -248,6 +266,7 @@ must_be None known left rose calm dealt Refused wanted text still must due = abs
 must_be None known left rose calm dealt ReadFault wanted text still must due = absurd due
 must_be None known left rose calm dealt LinkFault wanted text still must due = absurd due
 must_be None known left rose calm dealt PeerFault wanted text still must due = absurd due
+must_be None known left rose calm dealt NoWorker wanted text still must due = absurd due
 must_be None known left rose calm dealt EntropyFault wanted text still must due = absurd due
 must_be None known left rose calm dealt TooLong wanted text still must due = absurd due
 

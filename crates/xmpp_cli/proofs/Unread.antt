@@ -1,8 +1,8 @@
--- A command that does not read can fail by no link, by no server and by no random bytes.
+-- A command that does not read can fail by no link, by no server, by no thread and by no random bytes.
 use Rattle.std.proofs.Common.{◌≡◌, ℕ, false, List, Option, Some}
 use Rattle.xmpp_cli.specs.Dealings.{Dealings}
 use Rattle.xmpp_cli.specs.Words.{reads}
-use Rattle.xmpp_cli.specs.Table.{HasLinkFailed, HasPeerFailed, HasEntropyFailed}
+use Rattle.xmpp_cli.specs.Table.{HasLinkFailed, HasPeerFailed, HasNoWorker, HasEntropyFailed}
 use Rattle.xmpp_cli.specs.declared.command.Command.{Command}
 use Rattle.xmpp_cli.specs.declared.command.Command.TheVariants.{Help, Version, Replay, Check, Rerun, Generate, Serve, Sync}
 
@@ -25,6 +25,16 @@ unread_peer Rerun known dealt text e failed = failed
 unread_peer (Generate number size) known dealt text e failed = failed
 unread_peer (Serve port connections) known dealt text e failed = failed
 unread_peer (Sync port) known dealt text e failed = cc
+
+pub unread_worker : (command : Command) (dealt : Dealings) → reads (Some command) ≡ false → ¬ (HasNoWorker command dealt)
+unread_worker Help dealt e failed = failed
+unread_worker Version dealt e failed = failed
+unread_worker Replay dealt e failed = failed
+unread_worker Check dealt e failed = failed
+unread_worker Rerun dealt e failed = failed
+unread_worker (Generate number size) dealt e failed = failed
+unread_worker (Serve port connections) dealt e failed = cc
+unread_worker (Sync port) dealt e failed = failed
 
 pub unread_entropy : (command : Command) (dealt : Dealings) → reads (Some command) ≡ false → ¬ (HasEntropyFailed command dealt)
 unread_entropy Help dealt e failed = failed

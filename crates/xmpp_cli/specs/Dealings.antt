@@ -1,6 +1,7 @@
 -- What clauses see of the outside before a call and behind it.
-use Rattle.std.specs.Prelude.{◌≡◌, ◌⊎◌, ◌++◌, ◌∷◌, [], ℕ, List, Option, Some, None, IfSome}
+use Rattle.std.specs.Prelude.{◌≡◌, ◌⊎◌, ◌++◌, ◌∷◌, [], ℕ, List, Option, Some, None, IfSome, IsSomeAnd}
 use Rattle.xmpp_edge.specs.Counts.{Quiet, counted}
+use Rattle.xmpp_hub.specs.Backs.{AreBehind}
 use Rattle.xmpp_outside.specs.Links.{LinkView}
 use Rattle.xmpp_serving.specs.Journaling.{AreGivenBack}
 use Rattle.xmpp_syncing.specs.Talks.{DialerView}
@@ -11,13 +12,15 @@ pub record DoorView : Type 0 where
   pub handed : ℕ
   pub given : List LinkView
 
--- a door and a dialer, the clock's moment and the random bytes where these are told, and how many drawings failed
+-- a door and a dialer, the clock's moment and the random bytes where these are told, how many drawings failed, and how many
+-- threads could not be started
 pub record OutsideView : Type 0 where
   pub door : Option DoorView
   pub dialer : DialerView
   pub moment : Option ℕ
   pub drawn : Option (List ℕ)
   pub draws : ℕ
+  pub starts : ℕ
 
 -- the outside before a call, and behind it
 pub record Dealings : Type 0 where
@@ -40,7 +43,11 @@ pub record IsQuietDialer (dealt : Dealings) : Type 0 where
 
 -- each link that the door handed out was given back to it, in order
 abbrev pub AreBack : Dealings → Type 0
-AreBack dealt = IfSome dealt.before.door (λ old. IfSome dealt.behind.door (λ new. AreGivenBack old.handed new.handed old.given new.given))
+AreBack dealt = IsSomeAnd dealt.before.door (λ old. IsSomeAnd dealt.behind.door (λ new. AreGivenBack old.handed new.handed old.given new.given))
+
+-- the links that were given back to the door stand behind those that were there
+abbrev pub AreKept : Dealings → Type 0
+AreKept dealt = IfSome dealt.before.door (λ old. IfSome dealt.behind.door (λ new. AreBehind old.given new.given))
 
 -- the dialer handed out a link, and got it back
 pub record IsReturned (old new : DialerView) : Type 0 where

@@ -13,6 +13,8 @@ pub use Rattle.xmpp_schedule.specs.Reading
 pub use Rattle.xmpp_report.specs.ReportText
 pub use Rattle.xmpp_report.specs.Reports
 pub use Rattle.xmpp_schedule.specs.Schedules
+pub use Rattle.xmpp_hub.specs.Backs
+pub use Rattle.xmpp_hub.specs.Served
 pub use Rattle.xmpp_outside.specs.Links
 pub use Rattle.xmpp_script.specs.Scripts
 pub use Rattle.xmpp_serving.specs.Journaling
@@ -23,3 +25,4 @@ pub mod Words
 pub mod Dealings
 pub mod Texts
 pub mod Table
+pub mod Tellings

@@ -23,7 +23,8 @@ use Rattle.xmpp_journal.specs.declared.fault.InputFault.TheVariants as inputs
 use Rattle.xmpp_rerun.specs.Reruns.{SaysRun, rerun_of}
 use Rattle.xmpp_script.specs.Reading.{script_reading}
 use Rattle.xmpp_script.specs.declared.fault.ScriptFault.TheVariants as scripts
-use Rattle.xmpp_serving.specs.Journaling.{AreFewer, HasServed}
+use Rattle.xmpp_hub.specs.Served.{HasServed}
+use Rattle.xmpp_serving.specs.Journaling.{AreFewer}
 use Rattle.xmpp_syncing.specs.Syncs.{IsSynced, IsUnsynced}
 use Rattle.xmpp_syncing.specs.declared.failure.PeerFailure.{PeerFailure}
 use Rattle.xmpp_syncing.specs.declared.fault.SyncFault.{SyncFault}
@@ -34,13 +35,13 @@ use Rattle.xmpp_schedule.specs.declared.schedule.Schedule.{Schedule}
 use Rattle.xmpp_schedule.specs.declared.schedule.Schedule.TheVariants.{Direct, Wire}
 use Rattle.xmpp_world.specs.Histories.{history_of, world_of}
 use Rattle.xmpp_world.specs.WorldReports.{report_of}
-use Rattle.xmpp_cli.specs.Dealings.{Dealings, IsQuietDialer, IsQuietDoor}
-use Rattle.xmpp_cli.specs.Texts.{words_line, read_fault_line, too_long_line, bad_line, link_fault_line, entropy_fault_line, peer_line}
+use Rattle.xmpp_cli.specs.Dealings.{AreBack, Dealings, IsQuietDialer, IsQuietDoor}
+use Rattle.xmpp_cli.specs.Texts.{words_line, read_fault_line, too_long_line, bad_line, link_fault_line, no_worker_line, entropy_fault_line, peer_line}
 use Rattle.xmpp_cli.specs.Words.{reads}
 use Rattle.xmpp_cli.specs.declared.command.Command.{Command}
 use Rattle.xmpp_cli.specs.declared.command.Command.TheVariants.{Help, Version, Replay, Check, Rerun, Generate, Serve, Sync}
 use Rattle.xmpp_cli.specs.declared.outcome.Outcome.{Outcome}
-use Rattle.xmpp_cli.specs.declared.outcome.Outcome.TheVariants.{Done, WrongWords, Refused, ReadFault, LinkFault, PeerFault, EntropyFault, TooLong}
+use Rattle.xmpp_cli.specs.declared.outcome.Outcome.TheVariants.{Done, WrongWords, Refused, ReadFault, LinkFault, PeerFault, NoWorker, EntropyFault, TooLong}
 use Rattle.xmpp_cli.specs.declared.texts.TheConstants.{HELP, VERSION}
 
 -- the exit status of each outcome
@@ -51,12 +52,13 @@ code_of Refused = 3
 code_of ReadFault = 4
 code_of LinkFault = 7
 code_of PeerFault = 8
+code_of NoWorker = 9
 code_of EntropyFault = 10
 code_of TooLong = 11
 
 -- the statuses that there are
 abbrev pub is_status : ℕ → Bool
-is_status n = n == 0 || n == 2 || n == 3 || n == 4 || n == 5 || n == 6 || n == 7 || n == 8 || n == 10 || n == 11
+is_status n = n == 0 || n == 2 || n == 3 || n == 4 || n == 5 || n == 6 || n == 7 || n == 8 || n == 9 || n == 10 || n == 11
 
 -- the report is that of the schedule's direct run, and keeps the five laws of the schedule's version
 pub record IsDirectReport (schedule : ScheduleView) (report : ReportView) : Type 0 where
@@ -106,8 +108,8 @@ IsRerunRefusal known text =
 abbrev pub generated_summary : ℕ → ℕ → List ℕ
 generated_summary number size = let schedule = generated number size in summary_of schedule (report_of (world_of schedule))
 
--- The text is the journal of a server that served so many connections, and the input, where it is known, is the text of its
--- accounts.
+-- The text is the journal of a server that served so many connections at the same time, and the input, where it is known, is the
+-- text of its accounts.
 abbrev pub IsServed : Option (List ℕ) → ℕ → Dealings → List ℕ → Type 0
 IsServed known connections dealt text =
     (accounts : List ℕ) × IfSome known (λ input. input ≡ accounts)
@@ -150,17 +152,17 @@ IsDone Replay known dealt text = IsReplayed known text
 IsDone Check known dealt text = IsChecked true known text
 IsDone Rerun known dealt text = IsRerun known text
 IsDone (Generate number size) known dealt text = text ≡ generated_summary number size
-IsDone (Serve port connections) known dealt text = IsServed known connections dealt text
+IsDone (Serve port connections) known dealt text = AreBack dealt × IsServed known connections dealt text
 IsDone (Sync port) known dealt text = HasSynced known dealt text
 
 -- A case for each command that can refuse its input: the text where it does.
-abbrev pub IsRefused : Command → Option (List ℕ) → List ℕ → Type 0
-IsRefused Replay known text = IsRefusal known text
-IsRefused Check known text = IsChecked false known text
-IsRefused Rerun known text = IsRerunRefusal known text
-IsRefused (Serve port connections) known text = IsAccountsRefusal known text
-IsRefused (Sync port) known text = IsScriptRefusal known text
-IsRefused command known text = ⊥
+abbrev pub IsRefused : Command → Option (List ℕ) → Dealings → List ℕ → Type 0
+IsRefused Replay known dealt text = IsRefusal known text
+IsRefused Check known dealt text = IsChecked false known text
+IsRefused Rerun known dealt text = IsRerunRefusal known text
+IsRefused (Serve port connections) known dealt text = AreBack dealt × IsAccountsRefusal known text
+IsRefused (Sync port) known dealt text = IsScriptRefusal known text
+IsRefused command known dealt text = ⊥
 
 -- A case for each command that can refuse its input: which inputs it doesn't refuse.
 abbrev pub Accepts : Command → List ℕ → Type 0
@@ -179,7 +181,7 @@ HasDoorFailed connections dealt =
 
 -- A case for each command that goes out: a link or the door failed.
 abbrev pub HasLinkFailed : Command → Option (List ℕ) → Dealings → Type 0
-HasLinkFailed (Serve port connections) known dealt = HasDoorFailed connections dealt
+HasLinkFailed (Serve port connections) known dealt = AreBack dealt × HasDoorFailed connections dealt
 HasLinkFailed (Sync port) known dealt = IsStopped known dealt syncs.Link
 HasLinkFailed command known dealt = ⊥
 
@@ -187,6 +189,11 @@ HasLinkFailed command known dealt = ⊥
 abbrev pub HasPeerFailed : Command → Option (List ℕ) → Dealings → List ℕ → Type 0
 HasPeerFailed (Sync port) known dealt text = (failure : PeerFailure) × IsStopped known dealt (syncs.Peer failure) × (text ≡ peer_line failure)
 HasPeerFailed command known dealt text = ⊥
+
+-- A thread could not be started.
+abbrev pub HasNoWorker : Command → Dealings → Type 0
+HasNoWorker (Serve port connections) dealt = Rose dealt.before.starts dealt.behind.starts
+HasNoWorker command dealt = ⊥
 
 -- No random bytes were drawn.
 abbrev pub HasEntropyFailed : Command → Dealings → Type 0
@@ -197,9 +204,10 @@ HasEntropyFailed command dealt = ⊥
 -- what a command makes of its input
 abbrev pub IsAnswer : Command → Option (List ℕ) → Dealings → Outcome → List ℕ → Type 0
 IsAnswer command known dealt Done text = IsDone command known dealt text
-IsAnswer command known dealt Refused text = IsRefused command known text
+IsAnswer command known dealt Refused text = IsRefused command known dealt text
 IsAnswer command known dealt LinkFault text = HasLinkFailed command known dealt × (text ≡ link_fault_line)
 IsAnswer command known dealt PeerFault text = HasPeerFailed command known dealt text
+IsAnswer command known dealt NoWorker text = HasNoWorker command dealt × (text ≡ no_worker_line)
 IsAnswer command known dealt EntropyFault text = HasEntropyFailed command dealt × (text ≡ entropy_fault_line)
 IsAnswer command known dealt outcome text = ⊥
 
@@ -237,7 +245,8 @@ MustEnd command input dealt outcome = ⊥
 
 -- A case for each command that goes out: what it has to do with did not fail.
 abbrev pub IsQuiet : Command → Dealings → Type 0
-IsQuiet (Serve port connections) dealt = IsQuietDoor dealt × Quiet dealt.before.draws dealt.behind.draws
+IsQuiet (Serve port connections) dealt =
+    IsQuietDoor dealt × Quiet dealt.before.draws dealt.behind.draws × Quiet dealt.before.starts dealt.behind.starts
 IsQuiet (Sync port) dealt = IsQuietDialer dealt × Quiet dealt.before.draws dealt.behind.draws
 IsQuiet command dealt = Unit {0}
 

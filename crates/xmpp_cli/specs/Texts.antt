@@ -18,6 +18,9 @@ too_long_line = codes "too long" ++ 10 ∷ []
 abbrev pub link_fault_line : List ℕ
 link_fault_line = codes "link fault" ++ 10 ∷ []
 
+abbrev pub no_worker_line : List ℕ
+no_worker_line = codes "no worker" ++ 10 ∷ []
+
 abbrev pub entropy_fault_line : List ℕ
 entropy_fault_line = codes "entropy fault" ++ 10 ∷ []
 

@@ -86,6 +86,11 @@ goes_out (Some (Serve port connections)) = true
 goes_out (Some (Sync port)) = true
 goes_out command = false
 
+-- whether the command takes connections in
+abbrev pub serves : Option Command → Bool
+serves (Some (Serve port connections)) = true
+serves command = false
+
 -- the command that these words ask for
 abbrev pub asked : {A : Type 0} → List (String A) → Option Command
 asked words = command_of (map string_bytes words)

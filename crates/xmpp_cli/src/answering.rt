@@ -1,10 +1,10 @@
 //! What is answered to the words and the input of a call.
 //!
 //! All text is made before a byte of it is written; want of memory is an answer of its own.
-ghost use Rattle.std.specs.Prelude.{◌≡◌, false, true, ◌<◌, ◌≤◌, Some, IfOk, IsSome};
+ghost use Rattle.std.specs.Prelude.{◌≡◌, ◌⊎◌, false, true, ◌<◌, ◌≤◌, Some, IfOk, IsSome};
 ghost use Rattle.xmpp_edge.specs.Counts.{Rose};
-ghost use Rattle.xmpp_cli.specs.Dealings.{AreBack, Dealings, IsBack};
-ghost use Rattle.xmpp_cli.specs.Words.{IsAskable, asked, goes_out, reads};
+ghost use Rattle.xmpp_cli.specs.Dealings.{AreKept, Dealings, IsBack};
+ghost use Rattle.xmpp_cli.specs.Words.{IsAskable, asked, goes_out, reads, serves};
 ghost use Rattle.xmpp_cli.specs.Table.{IsAnswer, IsReportOf, Due, generated_summary};
 ghost use Rattle.xmpp_generator.specs.Summary.{summary_of};
 ghost use Rattle.xmpp_generator.specs.declared.generated.TheConstants.{MOST_SIZE};
@@ -16,19 +16,25 @@ ghost use Rattle.xmpp_world.specs.WorldReports.{report_of};
 use crate::answer::{Answer, said};
 use crate::command::Command;
 use crate::outcome::Outcome;
-use crate::surroundings::Surroundings;
+use crate::outside::Outside;
+use crate::surroundings::{Surroundings, serve, synchronise};
 use crate::texts::{HELP, READ_FAULT_LINE, TOO_LONG_LINE, VERSION, WORDS_LINE, refusal};
 use std::alloc::Global;
+use std::sync::Wait;
+use std::thread::Threads;
 use xmpp_check::check;
 use xmpp_direct::direct_is_lawful;
 use xmpp_edge::{Bytes, NoMemory, ReadAllFault, Source, read_all};
 use xmpp_generator::{generate, summary_text};
+use xmpp_halves::{Halves, Incoming, Outgoing};
 use xmpp_journal::InputFault;
+use xmpp_outside::{Clock, Dialer, Entropy};
 use xmpp_replay::direct;
 use xmpp_report::{Report, report_text};
 use xmpp_rerun::rerun_bytes;
 use xmpp_schedule::{Schedule, ScheduleFault, WireSchedule, read_schedule};
 use xmpp_wire_schedules::wire_schedules_are_lawful;
+use xmpp_workers::Spawner;
 use xmpp_world::wire_report;
 
 /// The report of a schedule. The laws are called for their fact, that it keeps the five laws of the schedule's version.
@@ -127,19 +133,32 @@ fn summed_up(alloc: Global, number: u64, size: u32) -> Result<Answer, NoMemory>
 
 /// The answer of a command to an input, which it looks at only if it is one that reads. The outside is as it was where the
 /// command doesn't go out.
-fn answer_to<O: Surroundings>(
+fn answer_to<
+    R: Threads + Wait + Copy + Send + 'static,
+    I: Incoming + Drop + Send + 'static,
+    O: Outgoing + Drop + Send + 'static,
+    D: Halves<Incoming = I, Outgoing = O> + Send + Drop + 'static,
+    L: Dialer,
+    C: Clock,
+    E: Entropy,
+    P: Spawner,
+>(
+    rt: &R,
     alloc: Global,
     command: Command,
     input: Bytes,
-    outside: &mut O,
+    outside: &mut Outside<D, L, C, E, P>,
 ) -> Result<Answer, NoMemory>
-    requires there { IsSome (O.view outside.old).door }
+where
+    D::Link: Send + 'static,
+    requires there { IsSome outside.old.door }
     requires askable { IsAskable command }
     ensures answer { IfOk result (λ answer. IsAnswer command (Some input.items)
-        (record { before = O.view outside.old; behind = O.view outside.new }) answer.outcome answer.text.items) }
-    ensures door { IsSome (O.view outside.new).door }
-    ensures back { AreBack (record { before = O.view outside.old; behind = O.view outside.new }) }
-    ensures returned { IsBack (record { before = O.view outside.old; behind = O.view outside.new }) }
+        (record { before = ⟦<Outside<D, L, C, E, P> as Surroundings>⟧.view outside.old; behind = ⟦<Outside<D, L, C, E, P> as Surroundings>⟧.view outside.new }) answer.outcome answer.text.items) }
+    ensures door { IsSome outside.new.door ⊎ Rose (P.faults outside.old.spawner) (P.faults outside.new.spawner) }
+    ensures kept { AreKept (record { before = ⟦<Outside<D, L, C, E, P> as Surroundings>⟧.view outside.old; behind = ⟦<Outside<D, L, C, E, P> as Surroundings>⟧.view outside.new }) }
+    ensures returned { IsBack (record { before = ⟦<Outside<D, L, C, E, P> as Surroundings>⟧.view outside.old; behind = ⟦<Outside<D, L, C, E, P> as Surroundings>⟧.view outside.new }) }
+    ensures stays { serves (Some command) ≡ false → (outside.new.door ≡ outside.old.door) × (outside.new.spawner ≡ outside.old.spawner) }
     ensures apart { goes_out (Some command) ≡ false → outside.new ≡ outside.old }
 {
     match command {
@@ -150,34 +169,48 @@ fn answer_to<O: Surroundings>(
         Command::Rerun => reran(alloc, input),
         Command::Generate { number, size } => summed_up(alloc, number, size),
         Command::Serve { port, connections } => {
-            outside.serve(alloc, port, connections, input.as_slice())
+            serve(rt, alloc, port, connections, input.as_slice(), outside)
         }
-        Command::Sync { port } => outside.synchronise(alloc, port, input.as_slice()),
+        Command::Sync { port } => synchronise(alloc, port, input.as_slice(), outside),
     }
 }
 
 /// The answer of a command that reads, whose input is all that the source gives.
-fn answer_read<S: Source, O: Surroundings>(
+fn answer_read<
+    R: Threads + Wait + Copy + Send + 'static,
+    S: Source,
+    I: Incoming + Drop + Send + 'static,
+    O: Outgoing + Drop + Send + 'static,
+    D: Halves<Incoming = I, Outgoing = O> + Send + Drop + 'static,
+    L: Dialer,
+    C: Clock,
+    E: Entropy,
+    P: Spawner,
+>(
+    rt: &R,
     alloc: Global,
     command: Command,
     source: &mut S,
-    outside: &mut O,
+    outside: &mut Outside<D, L, C, E, P>,
 ) -> Result<Answer, NoMemory>
-    requires there { IsSome (O.view outside.old).door }
+where
+    D::Link: Send + 'static,
+    requires there { IsSome outside.old.door }
     requires askable { IsAskable command }
     requires reading { reads (Some command) ≡ true }
     ensures due { IfOk result (λ answer. Due (Some command) (S.left source.old) (S.left source.new)
         (Rose (S.faults source.old) (S.faults source.new))
-        (record { before = O.view outside.old; behind = O.view outside.new }) answer.outcome answer.text.items) }
+        (record { before = ⟦<Outside<D, L, C, E, P> as Surroundings>⟧.view outside.old; behind = ⟦<Outside<D, L, C, E, P> as Surroundings>⟧.view outside.new }) answer.outcome answer.text.items) }
     ensures read_fault { S.faults source.old < S.faults source.new → IfOk result (λ answer. answer.outcome ≡ Outcome.ReadFault) }
     ensures later { S.faults source.old ≤ S.faults source.new }
-    ensures door { IsSome (O.view outside.new).door }
-    ensures back { AreBack (record { before = O.view outside.old; behind = O.view outside.new }) }
-    ensures returned { IsBack (record { before = O.view outside.old; behind = O.view outside.new }) }
+    ensures door { IsSome outside.new.door ⊎ Rose (P.faults outside.old.spawner) (P.faults outside.new.spawner) }
+    ensures kept { AreKept (record { before = ⟦<Outside<D, L, C, E, P> as Surroundings>⟧.view outside.old; behind = ⟦<Outside<D, L, C, E, P> as Surroundings>⟧.view outside.new }) }
+    ensures returned { IsBack (record { before = ⟦<Outside<D, L, C, E, P> as Surroundings>⟧.view outside.old; behind = ⟦<Outside<D, L, C, E, P> as Surroundings>⟧.view outside.new }) }
+    ensures stays { serves (Some command) ≡ false → (outside.new.door ≡ outside.old.door) × (outside.new.spawner ≡ outside.old.spawner) }
     ensures apart { goes_out (Some command) ≡ false → outside.new ≡ outside.old }
 {
     match read_all(alloc, source) {
-        Ok(input) => answer_to(alloc, command, input, outside),
+        Ok(input) => answer_to(rt, alloc, command, input, outside),
         Err(ReadAllFault::ReadFault) => said(alloc, Outcome::ReadFault, READ_FAULT_LINE),
         Err(ReadAllFault::TooLong) => said(alloc, Outcome::TooLong, TOO_LONG_LINE),
         Err(ReadAllFault::NoMemory) => Err(NoMemory),
@@ -185,27 +218,41 @@ fn answer_read<S: Source, O: Surroundings>(
 }
 
 /// The answer to these words. The source is read where they ask for a command that reads, and otherwise left as it is.
-pub fn due<S: Source, O: Surroundings>(
+pub fn due<
+    R: Threads + Wait + Copy + Send + 'static,
+    S: Source,
+    I: Incoming + Drop + Send + 'static,
+    O: Outgoing + Drop + Send + 'static,
+    D: Halves<Incoming = I, Outgoing = O> + Send + Drop + 'static,
+    L: Dialer,
+    C: Clock,
+    E: Entropy,
+    P: Spawner,
+>(
+    rt: &R,
     alloc: Global,
     words: &[String],
     source: &mut S,
-    outside: &mut O,
+    outside: &mut Outside<D, L, C, E, P>,
 ) -> Result<Answer, NoMemory>
-    requires { IsSome (O.view outside.old).door }
+where
+    D::Link: Send + 'static,
+    requires { IsSome outside.old.door }
     ensures due { IfOk result (λ answer. Due (asked words.now) (S.left source.old) (S.left source.new)
         (Rose (S.faults source.old) (S.faults source.new))
-        (record { before = O.view outside.old; behind = O.view outside.new }) answer.outcome answer.text.items) }
+        (record { before = ⟦<Outside<D, L, C, E, P> as Surroundings>⟧.view outside.old; behind = ⟦<Outside<D, L, C, E, P> as Surroundings>⟧.view outside.new }) answer.outcome answer.text.items) }
     ensures read_fault { S.faults source.old < S.faults source.new → IfOk result (λ answer. answer.outcome ≡ Outcome.ReadFault) }
     ensures later { S.faults source.old ≤ S.faults source.new }
     ensures unread { reads (asked words.now) ≡ false → source.new ≡ source.old }
-    ensures door { IsSome (O.view outside.new).door }
-    ensures back { AreBack (record { before = O.view outside.old; behind = O.view outside.new }) }
-    ensures returned { IsBack (record { before = O.view outside.old; behind = O.view outside.new }) }
+    ensures door { IsSome outside.new.door ⊎ Rose (P.faults outside.old.spawner) (P.faults outside.new.spawner) }
+    ensures kept { AreKept (record { before = ⟦<Outside<D, L, C, E, P> as Surroundings>⟧.view outside.old; behind = ⟦<Outside<D, L, C, E, P> as Surroundings>⟧.view outside.new }) }
+    ensures returned { IsBack (record { before = ⟦<Outside<D, L, C, E, P> as Surroundings>⟧.view outside.old; behind = ⟦<Outside<D, L, C, E, P> as Surroundings>⟧.view outside.new }) }
+    ensures stays { serves (asked words.now) ≡ false → (outside.new.door ≡ outside.old.door) × (outside.new.spawner ≡ outside.old.spawner) }
     ensures apart { goes_out (asked words.now) ≡ false → outside.new ≡ outside.old }
 {
     match Command::of_words(words) {
         None => said(alloc, Outcome::WrongWords, WORDS_LINE),
-        Some(command) if command.reads() => answer_read(alloc, command, source, outside),
-        Some(command) => answer_to(alloc, command, Bytes::new(alloc), outside),
+        Some(command) if command.reads() => answer_read(rt, alloc, command, source, outside),
+        Some(command) => answer_to(rt, alloc, command, Bytes::new(alloc), outside),
     }
 }

@@ -6,10 +6,12 @@ mod answer;
 mod answering;
 mod command;
 mod outcome;
+mod outside;
 mod running;
 mod surroundings;
 mod texts;
 
+use crate::outside::Outside;
 use crate::running::run;
 use crate::texts::USAGE;
 use std::alloc::{AllocGlobal, Global};
@@ -17,8 +19,11 @@ use std::process::ExitCode;
 use std::rt::Env;
 use std::{env, io};
 use xmpp_edge::{NoMemory, StdSink, StdSource};
-use xmpp_outside::{Clock, Dialer, Door, Entropy, Outside};
-use xmpp_sockets::{SystemClock, SystemEntropy, TcpDialer, TcpDoor};
+use xmpp_halves::Halves;
+use xmpp_outside::{Clock, Dialer, Entropy};
+use xmpp_sockets::{SystemClock, SystemEntropy, TcpDialer};
+use xmpp_tcp_halves::TcpHalvesDoor;
+use xmpp_workers::{Spawner, StdSpawner};
 
 /// The words behind the program's name. There are none where one is not UTF-8.
 fn words_of<R: Env + AllocGlobal>(rt: &R) -> Result<Vec<String>, NoMemory> {
@@ -36,16 +41,21 @@ fn words_of<R: Env + AllocGlobal>(rt: &R) -> Result<Vec<String>, NoMemory> {
 }
 
 /// Drops an outside, which isn't dropped as a whole: its parts are.
-fn drop_outside<D: Door + Drop, L: Dialer + Drop, C: Clock + Drop, E: Entropy + Drop>(
-    outside: Outside<D, L, C, E>,
-) {
+fn drop_outside<
+    D: Halves + Drop,
+    L: Dialer + Drop,
+    C: Clock + Drop,
+    E: Entropy + Drop,
+    P: Spawner + Drop,
+>(outside: Outside<D, L, C, E, P>) {
     let Outside {
         door,
         dialer,
         clock,
         entropy,
+        spawner,
     } = outside;
-    drop((door, dialer, clock, entropy));
+    drop((door, dialer, clock, entropy, spawner));
 }
 
 fn main(rt: HostRuntime) -> ExitCode {
@@ -55,12 +65,14 @@ fn main(rt: HostRuntime) -> ExitCode {
     let mut source = StdSource::new(rt.reader());
     let mut sink = StdSink::new(io::writer(&rt));
     let mut outside = Outside {
-        door: Some(TcpDoor::new(&rt, rt.alloc())),
+        door: Some(TcpHalvesDoor::new(rt, rt.alloc())),
         dialer: TcpDialer::new(&rt, rt.alloc()),
         clock: SystemClock::new(&rt),
         entropy: SystemEntropy::new(&rt),
+        spawner: StdSpawner::new(rt),
     };
     let status = run(
+        &rt,
         rt.alloc(),
         words.as_slice(),
         &mut source,

@@ -17,6 +17,8 @@ pub enum Outcome {
     LinkFault,
     /// The server has to answer for it.
     PeerFault,
+    /// A thread could not be started.
+    NoWorker,
     /// No random bytes were drawn.
     EntropyFault,
     /// The source gave more than `MOST_BYTES_READ` bytes.
@@ -35,6 +37,7 @@ impl Outcome {
             Outcome::ReadFault => 4,
             Outcome::LinkFault => 7,
             Outcome::PeerFault => 8,
+            Outcome::NoWorker => 9,
             Outcome::EntropyFault => 10,
             Outcome::TooLong => 11,
         }

@@ -7,47 +7,67 @@ ghost use Rattle.xmpp_report.specs.ReportText.{text_of};
 ghost use Rattle.xmpp_report.specs.Reports.{ReportView};
 ghost use Rattle.xmpp_schedule.specs.Kinds.{IsSchedule, schedule_text};
 ghost use Rattle.xmpp_schedule.specs.declared.schedule.Schedule.{Schedule};
-ghost use Rattle.xmpp_cli.specs.Dealings.{AreBack, IsBack};
-ghost use Rattle.xmpp_cli.specs.Words.{asked, goes_out, reads};
+ghost use Rattle.xmpp_cli.specs.Dealings.{AreKept, IsBack};
+ghost use Rattle.xmpp_cli.specs.Words.{asked, goes_out, reads, serves};
 ghost use Rattle.xmpp_cli.specs.Table.{code_of, is_status, IsReportOf, Due, MustAnswer, generated_summary};
 
 use crate::answering::due;
 use crate::command::Command;
 use crate::outcome::Outcome;
+use crate::outside::Outside;
 use crate::surroundings::Surroundings;
 use std::alloc::Global;
+use std::sync::Wait;
+use std::thread::Threads;
 use xmpp_edge::{Sink, Source, write_all};
-use xmpp_outside::{Clock, Dialer, Door, Entropy, Outside};
+use xmpp_halves::{Halves, Incoming, Outgoing};
+use xmpp_outside::{Clock, Dialer, Entropy};
+use xmpp_workers::Spawner;
 
 /// Writes what is due, and answers the exit status.
-fn write_due<S: Source, K: Sink, O: Surroundings>(
+fn write_due<
+    R: Threads + Wait + Copy + Send + 'static,
+    S: Source,
+    K: Sink,
+    I: Incoming + Drop + Send + 'static,
+    O: Outgoing + Drop + Send + 'static,
+    D: Halves<Incoming = I, Outgoing = O> + Send + Drop + 'static,
+    L: Dialer,
+    C: Clock,
+    E: Entropy,
+    P: Spawner,
+>(
+    rt: &R,
     alloc: Global,
     words: &[String],
     source: &mut S,
     sink: &mut K,
-    outside: &mut O,
+    outside: &mut Outside<D, L, C, E, P>,
 ) -> u8
-    requires { IsSome (O.view outside.old).door }
+where
+    D::Link: Send + 'static,
+    requires { IsSome outside.old.door }
     ensures told { result ≢ 5 → result ≢ 6 → (outcome : Outcome) × (text : List ℕ) × (result ≡ code_of outcome)
         × Due (asked words.now) (S.left source.old) (S.left source.new) (Rose (S.faults source.old) (S.faults source.new))
-        (record { before = O.view outside.old; behind = O.view outside.new }) outcome text
+        (record { before = ⟦<Outside<D, L, C, E, P> as Surroundings>⟧.view outside.old; behind = ⟦<Outside<D, L, C, E, P> as Surroundings>⟧.view outside.new }) outcome text
         × Appends (K.written sink.old) (K.written sink.new) text }
     ensures prefix { result ≡ 5 → Rose (K.faults sink.old) (K.faults sink.new) × ((outcome : Outcome) × (text : List ℕ)
         × Due (asked words.now) (S.left source.old) (S.left source.new) (Rose (S.faults source.old) (S.faults source.new))
-        (record { before = O.view outside.old; behind = O.view outside.new }) outcome text
+        (record { before = ⟦<Outside<D, L, C, E, P> as Surroundings>⟧.view outside.old; behind = ⟦<Outside<D, L, C, E, P> as Surroundings>⟧.view outside.new }) outcome text
         × AppendsPrefix (K.written sink.old) (K.written sink.new) text) }
     ensures no_memory { result ≡ 6 → Keeps (K.written sink.old) (K.written sink.new) }
     ensures write_fault_only { K.faults sink.old < K.faults sink.new → result ≡ 5 }
     ensures read_fault_only { S.faults source.old < S.faults source.new → (result ≡ 4) ⊎ (result ≡ 5) ⊎ (result ≡ 6) }
     ensures unread { reads (asked words.now) ≡ false → source.new ≡ source.old }
-    ensures door { IsSome (O.view outside.new).door }
-    ensures back { AreBack (record { before = O.view outside.old; behind = O.view outside.new }) }
-    ensures returned { IsBack (record { before = O.view outside.old; behind = O.view outside.new }) }
+    ensures door { IsSome outside.new.door ⊎ Rose (P.faults outside.old.spawner) (P.faults outside.new.spawner) }
+    ensures kept { AreKept (record { before = ⟦<Outside<D, L, C, E, P> as Surroundings>⟧.view outside.old; behind = ⟦<Outside<D, L, C, E, P> as Surroundings>⟧.view outside.new }) }
+    ensures returned { IsBack (record { before = ⟦<Outside<D, L, C, E, P> as Surroundings>⟧.view outside.old; behind = ⟦<Outside<D, L, C, E, P> as Surroundings>⟧.view outside.new }) }
+    ensures stays { serves (asked words.now) ≡ false → (outside.new.door ≡ outside.old.door) × (outside.new.spawner ≡ outside.old.spawner) }
     ensures apart { goes_out (asked words.now) ≡ false → outside.new ≡ outside.old }
     ensures source_later { S.faults source.old ≤ S.faults source.new }
     ensures sink_later { K.faults sink.old ≤ K.faults sink.new }
 {
-    match due(alloc, words, source, outside) {
+    match due(rt, alloc, words, source, outside) {
         Ok(answer) => match write_all(sink, answer.text.as_slice()) {
             Ok(()) => answer.outcome.code(),
             Err(_) => 5,
@@ -68,6 +88,7 @@ fn write_due<S: Source, K: Sink, O: Surroundings>(
 /// | 6 | where memory ran out | nothing |
 /// | 7 | of `serve` only where the door failed before its connections were over; of `sync` only where the dialer or its link failed, or the link ended, before the script was done | `link fault` |
 /// | 8 | of `sync` only where the server has to answer for it that the script was not done | `peer`, and what it did |
+/// | 9 | of `serve` only where a thread could not be started | `no worker` |
 /// | 10 | of `serve` and `sync` only where no random bytes were drawn | `entropy fault` |
 /// | 11 | exactly where the source gave more than `MOST_BYTES_READ` bytes | `too long` |
 ///
@@ -76,13 +97,27 @@ fn write_due<S: Source, K: Sink, O: Surroundings>(
 ///
 /// Each "exactly" yields to want of memory, and to what comes before it in the order words, read, length, grammar,
 /// write. Clauses speak of bytes where the source and the sink tell them.
-pub fn run<S: Source, K: Sink, D: Door, L: Dialer, C: Clock, E: Entropy>(
+pub fn run<
+    R: Threads + Wait + Copy + Send + 'static,
+    S: Source,
+    K: Sink,
+    I: Incoming + Drop + Send + 'static,
+    O: Outgoing + Drop + Send + 'static,
+    D: Halves<Incoming = I, Outgoing = O> + Send + Drop + 'static,
+    L: Dialer,
+    C: Clock,
+    E: Entropy,
+    P: Spawner,
+>(
+    rt: &R,
     alloc: Global,
     words: &[String],
     source: &mut S,
     sink: &mut K,
-    outside: &mut Outside<D, L, C, E>,
+    outside: &mut Outside<D, L, C, E, P>,
 ) -> u8
+where
+    D::Link: Send + 'static,
     requires { IsSome outside.old.door }
     // What was read is the text of one schedule, direct or wire, of either version. What was written is the text of its report
     // and nothing else, and that report keeps the five laws of the schedule's version.
@@ -98,30 +133,32 @@ pub fn run<S: Source, K: Sink, D: Door, L: Dialer, C: Clock, E: Entropy>(
     // Whatever outcome the status is the code of, its text is due, and was written and nothing else.
     ensures answered { (outcome : Outcome) → result ≡ code_of outcome → (text : List ℕ)
         × Due (asked words.now) (S.left source.old) (S.left source.new) (Rose (S.faults source.old) (S.faults source.new))
-        (record { before = ⟦<Outside<D, L, C, E> as Surroundings>⟧.view outside.old; behind = ⟦<Outside<D, L, C, E> as Surroundings>⟧.view outside.new }) outcome text
+        (record { before = ⟦<Outside<D, L, C, E, P> as Surroundings>⟧.view outside.old; behind = ⟦<Outside<D, L, C, E, P> as Surroundings>⟧.view outside.new }) outcome text
         × Appends (K.written sink.old) (K.written sink.new) text }
     // The converse: where nothing failed, the outcome that there must be is the one that there is.
     ensures exactly { (outcome : Outcome)
         → MustAnswer (asked words.now) (S.left source.old) (Quiet (S.faults source.old) (S.faults source.new))
-        (record { before = ⟦<Outside<D, L, C, E> as Surroundings>⟧.view outside.old; behind = ⟦<Outside<D, L, C, E> as Surroundings>⟧.view outside.new }) outcome
+        (record { before = ⟦<Outside<D, L, C, E, P> as Surroundings>⟧.view outside.old; behind = ⟦<Outside<D, L, C, E, P> as Surroundings>⟧.view outside.new }) outcome
         → Quiet (K.faults sink.old) (K.faults sink.new) → (result ≡ code_of outcome) ⊎ (result ≡ 6) }
     ensures read_fault_only { S.faults source.old < S.faults source.new → (result ≡ 4) ⊎ (result ≡ 5) ⊎ (result ≡ 6) }
     // What went out is a prefix of the text that was due.
     ensures write_fault { result ≡ 5 → Rose (K.faults sink.old) (K.faults sink.new) × ((outcome : Outcome) × (text : List ℕ)
         × Due (asked words.now) (S.left source.old) (S.left source.new) (Rose (S.faults source.old) (S.faults source.new))
-        (record { before = ⟦<Outside<D, L, C, E> as Surroundings>⟧.view outside.old; behind = ⟦<Outside<D, L, C, E> as Surroundings>⟧.view outside.new }) outcome text
+        (record { before = ⟦<Outside<D, L, C, E, P> as Surroundings>⟧.view outside.old; behind = ⟦<Outside<D, L, C, E, P> as Surroundings>⟧.view outside.new }) outcome text
         × AppendsPrefix (K.written sink.old) (K.written sink.new) text) }
     ensures write_fault_only { K.faults sink.old < K.faults sink.new → result ≡ 5 }
     ensures no_memory { result ≡ 6 → Keeps (K.written sink.old) (K.written sink.new) }
-    ensures door { IsSome outside.new.door }
-    // Each link that the door handed out was given back to it, in order, and so was the one that the dialer handed out.
-    ensures given_back { AreBack (record { before = ⟦<Outside<D, L, C, E> as Surroundings>⟧.view outside.old; behind = ⟦<Outside<D, L, C, E> as Surroundings>⟧.view outside.new }) }
-    ensures returned { IsBack (record { before = ⟦<Outside<D, L, C, E> as Surroundings>⟧.view outside.old; behind = ⟦<Outside<D, L, C, E> as Surroundings>⟧.view outside.new }) }
+    ensures door { IsSome outside.new.door ⊎ Rose (P.faults outside.old.spawner) (P.faults outside.new.spawner) }
+    // The links that were given back to the door stand behind those that were there; that these are all that it handed out is
+    // said with the text that is due. The link that the dialer handed out was given back to it.
+    ensures given_back { AreKept (record { before = ⟦<Outside<D, L, C, E, P> as Surroundings>⟧.view outside.old; behind = ⟦<Outside<D, L, C, E, P> as Surroundings>⟧.view outside.new }) }
+    ensures returned { IsBack (record { before = ⟦<Outside<D, L, C, E, P> as Surroundings>⟧.view outside.old; behind = ⟦<Outside<D, L, C, E, P> as Surroundings>⟧.view outside.new }) }
+    ensures stays { serves (asked words.now) ≡ false → (outside.new.door ≡ outside.old.door) × (outside.new.spawner ≡ outside.old.spawner) }
     ensures apart { goes_out (asked words.now) ≡ false → outside.new ≡ outside.old }
     ensures known { IsTrue (is_status result) }
     ensures unread { reads (asked words.now) ≡ false → source.new ≡ source.old }
     ensures source_later { S.faults source.old ≤ S.faults source.new }
     ensures sink_later { K.faults sink.old ≤ K.faults sink.new }
 {
-    write_due(alloc, words, source, sink, outside)
+    write_due(rt, alloc, words, source, sink, outside)
 }

@@ -1,95 +1,143 @@
 //! What a call has to do with the outside.
-ghost use Rattle.std.specs.Prelude.{◌≡◌, IfOk, IsSome, Some};
-ghost use Rattle.xmpp_cli.specs.Dealings.{AreBack, IsBack, OutsideView, door_view};
+ghost use Rattle.std.specs.Prelude.{◌≡◌, ◌⊎◌, IfOk, IsSome, Some};
+ghost use Rattle.xmpp_edge.specs.Counts.{Rose};
+ghost use Rattle.xmpp_cli.specs.Dealings.{AreKept, IsBack, OutsideView, door_view};
 ghost use Rattle.xmpp_cli.specs.Table.{IsAnswer};
+ghost use Rattle.xmpp_cli.specs.Tellings.{Tells};
 ghost use Rattle.xmpp_cli.specs.declared.command.Command.TheVariants.{Serve, Sync};
 
 use crate::answer::{Answer, said};
 use crate::outcome::Outcome;
-use crate::texts::{ENTROPY_FAULT_LINE, LINK_FAULT_LINE, peer_line, refusal};
+use crate::outside::Outside;
+use crate::texts::{ENTROPY_FAULT_LINE, LINK_FAULT_LINE, NO_WORKER_LINE, peer_line, refusal};
 use std::alloc::Global;
-use xmpp_edge::NoMemory;
-use xmpp_outside::{Clock, Dialer, Door, Entropy, Outside};
-use xmpp_serving::{ServeFault, serve_one_by_one};
+use std::sync::Wait;
+use std::thread::Threads;
+use xmpp_edge::{Bytes, NoMemory};
+use xmpp_halves::{Halves, Incoming, Outgoing};
+use xmpp_hub::{HubFault, serve_together};
+use xmpp_outside::{Clock, Dialer, Entropy};
 use xmpp_syncing::{SyncFault, sync};
+use xmpp_workers::Spawner;
 
-/// What serves and what does scripts. Contracts alone see its `view`.
+/// What contracts see of the outside.
 pub trait Surroundings {
     ghost view: { Self → OutsideView };
-
-    /// Serves so many connections to a port, one after another, as a server of these accounts.
-    fn serve(
-        &mut self,
-        alloc: Global,
-        port: u16,
-        connections: u32,
-        accounts: &[u8],
-    ) -> Result<Answer, NoMemory>
-        requires { IsSome (view self.old).door }
-        ensures answer { IfOk result (λ answer. IsAnswer (Serve port connections) (Some accounts.now)
-            (record { before = view self.old; behind = view self.new }) answer.outcome answer.text.items) }
-        ensures door { IsSome (view self.new).door }
-        ensures back { AreBack (record { before = view self.old; behind = view self.new }) }
-        ensures dialer { (view self.new).dialer ≡ (view self.old).dialer };
-
-    /// Does a script as a client of the server at a port.
-    fn synchronise(&mut self, alloc: Global, port: u16, script: &[u8]) -> Result<Answer, NoMemory>
-        ensures answer { IfOk result (λ answer. IsAnswer (Sync port) (Some script.now)
-            (record { before = view self.old; behind = view self.new }) answer.outcome answer.text.items) }
-        ensures back { IsBack (record { before = view self.old; behind = view self.new }) }
-        ensures door { (view self.new).door ≡ (view self.old).door };
 }
 
-impl<D: Door, L: Dialer, C: Clock, E: Entropy> Surroundings for Outside<D, L, C, E> {
+impl<D: Halves, L: Dialer, C: Clock, E: Entropy, P: Spawner> Surroundings
+    for Outside<D, L, C, E, P> {
     ghost view = { λ s. record {
       door = door_view D.faults D.handed D.given s.door;
       dialer = record { faults = L.faults s.dialer; ends = L.ends s.dialer; handed = L.handed s.dialer; given = L.given s.dialer };
       moment = C.moment s.clock;
       drawn = E.bytes s.entropy;
       draws = E.faults s.entropy;
+      starts = P.faults s.spawner;
     } };
+}
 
-    fn serve(
-        &mut self,
-        alloc: Global,
-        port: u16,
-        connections: u32,
-        accounts: &[u8],
-    ) -> Result<Answer, NoMemory> {
-        match serve_one_by_one(alloc, accounts, port, connections, self) {
-            Ok(text) => Ok(Answer {
-                outcome: Outcome::Done,
-                text,
-            }),
-            Err(ServeFault::BadLine { line, why }) => Ok(Answer {
-                outcome: Outcome::Refused,
-                text: refusal(alloc, line, why)?,
-            }),
-            Err(ServeFault::LinkFault) => said(alloc, Outcome::LinkFault, LINK_FAULT_LINE),
-            Err(ServeFault::EntropyFault) => {
-                said(alloc, Outcome::EntropyFault, ENTROPY_FAULT_LINE)
-            }
-            Err(ServeFault::NoMemory) => Err(NoMemory),
-        }
+// What is answered to what came of serving.
+fn told(alloc: Global, served: Result<Bytes, HubFault>) -> Result<Answer, NoMemory>
+    ensures { IfOk result (λ answer. Tells served answer.outcome answer.text.items) }
+{
+    match served {
+        Ok(text) => Ok(Answer {
+            outcome: Outcome::Done,
+            text,
+        }),
+        Err(HubFault::BadLine { line, why }) => Ok(Answer {
+            outcome: Outcome::Refused,
+            text: refusal(alloc, line, why)?,
+        }),
+        Err(HubFault::LinkFault) => said(alloc, Outcome::LinkFault, LINK_FAULT_LINE),
+        Err(HubFault::NoWorker) => said(alloc, Outcome::NoWorker, NO_WORKER_LINE),
+        Err(HubFault::EntropyFault) => said(alloc, Outcome::EntropyFault, ENTROPY_FAULT_LINE),
+        Err(HubFault::NoMemory) => Err(NoMemory),
     }
+}
 
-    fn synchronise(&mut self, alloc: Global, port: u16, script: &[u8]) -> Result<Answer, NoMemory> {
-        match sync(alloc, script, port, &mut self.dialer, &mut self.entropy) {
-            Ok(text) => Ok(Answer {
-                outcome: Outcome::Done,
-                text,
-            }),
-            Err(SyncFault::BadLine { line, why }) => Ok(Answer {
-                outcome: Outcome::Refused,
-                text: refusal(alloc, line, why)?,
-            }),
-            Err(SyncFault::Link) => said(alloc, Outcome::LinkFault, LINK_FAULT_LINE),
-            Err(SyncFault::Peer(failure)) => Ok(Answer {
-                outcome: Outcome::PeerFault,
-                text: peer_line(alloc, failure)?,
-            }),
-            Err(SyncFault::Entropy) => said(alloc, Outcome::EntropyFault, ENTROPY_FAULT_LINE),
-            Err(SyncFault::NoMemory) => Err(NoMemory),
+/// Serves so many connections to a port, at the same time, as a server of these accounts.
+pub fn serve<
+    R: Threads + Wait + Copy + Send + 'static,
+    I: Incoming + Drop + Send + 'static,
+    O: Outgoing + Drop + Send + 'static,
+    D: Halves<Incoming = I, Outgoing = O> + Send + Drop + 'static,
+    L: Dialer,
+    C: Clock,
+    E: Entropy,
+    P: Spawner,
+>(
+    rt: &R,
+    alloc: Global,
+    port: u16,
+    connections: u32,
+    accounts: &[u8],
+    outside: &mut Outside<D, L, C, E, P>,
+) -> Result<Answer, NoMemory>
+where
+    D::Link: Send + 'static,
+    requires { IsSome outside.old.door }
+    ensures answer { IfOk result (λ answer. IsAnswer (Serve port connections) (Some accounts.now)
+        (record { before = ⟦<Outside<D, L, C, E, P> as Surroundings>⟧.view outside.old; behind = ⟦<Outside<D, L, C, E, P> as Surroundings>⟧.view outside.new }) answer.outcome answer.text.items) }
+    ensures door { IsSome outside.new.door ⊎ Rose (P.faults outside.old.spawner) (P.faults outside.new.spawner) }
+    ensures kept { AreKept (record { before = ⟦<Outside<D, L, C, E, P> as Surroundings>⟧.view outside.old; behind = ⟦<Outside<D, L, C, E, P> as Surroundings>⟧.view outside.new }) }
+    ensures dialer { outside.new.dialer ≡ outside.old.dialer }
+{
+    match outside.door.take() {
+        Some(door) => {
+            let (text, door) = serve_together(
+                rt,
+                alloc,
+                accounts,
+                port,
+                connections,
+                door,
+                &mut outside.clock,
+                &mut outside.entropy,
+                &mut outside.spawner,
+            );
+            outside.door = door;
+            told(alloc, text)
         }
+        None => unreachable!(),
+    }
+}
+
+/// Does a script as a client of the server at a port.
+pub fn synchronise<D: Halves, L: Dialer, C: Clock, E: Entropy, P: Spawner>(
+    alloc: Global,
+    port: u16,
+    script: &[u8],
+    outside: &mut Outside<D, L, C, E, P>,
+) -> Result<Answer, NoMemory>
+    ensures answer { IfOk result (λ answer. IsAnswer (Sync port) (Some script.now)
+        (record { before = ⟦<Outside<D, L, C, E, P> as Surroundings>⟧.view outside.old; behind = ⟦<Outside<D, L, C, E, P> as Surroundings>⟧.view outside.new }) answer.outcome answer.text.items) }
+    ensures back { IsBack (record { before = ⟦<Outside<D, L, C, E, P> as Surroundings>⟧.view outside.old; behind = ⟦<Outside<D, L, C, E, P> as Surroundings>⟧.view outside.new }) }
+    ensures door { outside.new.door ≡ outside.old.door }
+    ensures spawner { outside.new.spawner ≡ outside.old.spawner }
+{
+    match sync(
+        alloc,
+        script,
+        port,
+        &mut outside.dialer,
+        &mut outside.entropy,
+    ) {
+        Ok(text) => Ok(Answer {
+            outcome: Outcome::Done,
+            text,
+        }),
+        Err(SyncFault::BadLine { line, why }) => Ok(Answer {
+            outcome: Outcome::Refused,
+            text: refusal(alloc, line, why)?,
+        }),
+        Err(SyncFault::Link) => said(alloc, Outcome::LinkFault, LINK_FAULT_LINE),
+        Err(SyncFault::Peer(failure)) => Ok(Answer {
+            outcome: Outcome::PeerFault,
+            text: peer_line(alloc, failure)?,
+        }),
+        Err(SyncFault::Entropy) => said(alloc, Outcome::EntropyFault, ENTROPY_FAULT_LINE),
+        Err(SyncFault::NoMemory) => Err(NoMemory),
     }
 }

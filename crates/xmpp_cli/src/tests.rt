@@ -1,14 +1,16 @@
 //! Calls over a source, a sink and an outside in memory, whose calls fail where a row says so.
 use crate::drop_outside;
+use crate::outside::Outside;
 use crate::running::run;
 use crate::texts::{HELP, VERSION};
 use std::alloc::Global;
+use std::sync::Wait;
 use std::test::Fail;
+use std::thread::Threads;
 use xmpp_edge::{Bytes, MemorySink, MemorySource, NoMemory, Numbers};
-use xmpp_memory_outside::{
-    Links, MemoryClock, MemoryDialer, MemoryDoor, MemoryEntropy, MemoryLink,
-};
-use xmpp_outside::Outside;
+use xmpp_memory_halves::{MemoryHalvesDoor, UncutMemoryLink};
+use xmpp_memory_outside::{Links, MemoryClock, MemoryDialer, MemoryEntropy, MemoryLink};
+use xmpp_workers::MemorySpawner;
 
 const SCHEDULE: &str = "\
 xmpp-schedule 1 direct
@@ -151,14 +153,28 @@ static CALLS: [(&str, &str, u64, u64, u8, &str); 18] = [
     ("sync 65536", SCRIPT, 1, 0, 2, "words\n"),
 ];
 
-// The words, the input, the calls of door and dialer and of the random bytes that fail, from 1 or 0 for none, the status, and
-// what is written.
-static FAILING: [(&str, &str, u64, u64, u8, &str); 5] = [
-    ("serve 5222 1", ACCOUNTS, 1, 0, 7, "link fault\n"),
-    ("serve 5222 1", ACCOUNTS, 2, 0, 7, "link fault\n"),
-    ("serve 5222 1", ACCOUNTS, 0, 1, 10, "entropy fault\n"),
-    ("sync 5222", SCRIPT, 1, 0, 7, "link fault\n"),
-    ("sync 5222", SCRIPT, 0, 1, 10, "entropy fault\n"),
+// The words, the input, the calls of door and dialer, the drawing of random bytes and the start of a thread that fail, from 1 or
+// 0 for none, the status, and what is written. The first thread takes connections in, the second reads the first of them.
+static FAILING: [(&str, &str, u64, u64, u64, u8, &str); 7] = [
+    ("serve 5222 1", ACCOUNTS, 1, 0, 0, 7, "link fault\n"),
+    ("serve 5222 1", ACCOUNTS, 2, 0, 0, 7, "link fault\n"),
+    ("serve 5222 1", ACCOUNTS, 0, 0, 1, 9, "no worker\n"),
+    ("serve 5222 1", ACCOUNTS, 0, 0, 2, 9, "no worker\n"),
+    ("serve 5222 1", ACCOUNTS, 0, 1, 0, 10, "entropy fault\n"),
+    ("sync 5222", SCRIPT, 1, 0, 0, 7, "link fault\n"),
+    ("sync 5222", SCRIPT, 0, 1, 0, 10, "entropy fault\n"),
+];
+
+// The lines of the journal of two connections that end at once. Which of those between the first and the last two comes first
+// is for the threads to decide.
+static TWO: [&str; 7] = [
+    "xmpp-journal 1",
+    "connect 1 5 000000000000000000000000000000000000000000000000",
+    "connect 2 5 000000000000000000000000000000000000000000000000",
+    "gone 1 5",
+    "gone 2 5",
+    "account alice 0",
+    "end",
 ];
 
 fn number(alloc: Global, n: u64) -> Result<Numbers, NoMemory> {
@@ -180,73 +196,121 @@ fn source(alloc: Global, input: &str, fails: u64) -> Result<MemorySource, NoMemo
     Ok(MemorySource::new(bytes, 7, number(alloc, fails)?))
 }
 
-// A door with one link, which ends at once, and a dialer with another.
-fn door(alloc: Global, fails: u64) -> Result<MemoryDoor, NoMemory> {
-    let mut links = Links::new(alloc);
-    links.push(MemoryLink::new(alloc, Bytes::new(alloc), 1, number(alloc, 0)?)?)?;
-    Ok(MemoryDoor::new(links, number(alloc, fails)?))
+// A door with so many links, which end at once.
+fn door(
+    alloc: Global,
+    connections: u64,
+    fails: u64,
+) -> Result<MemoryHalvesDoor<UncutMemoryLink>, NoMemory> {
+    let mut links = Vec::new(alloc);
+    for _ in 0..connections {
+        links.push(UncutMemoryLink::new(Bytes::new(alloc), 1, number(alloc, 0)?))?;
+    }
+    Ok(MemoryHalvesDoor::new(alloc, links, number(alloc, fails)?))
 }
 
+// A dialer with one link, which ends at once.
 fn dialer(alloc: Global, fails: u64) -> Result<MemoryDialer, NoMemory> {
     let mut links = Links::new(alloc);
     links.push(MemoryLink::new(alloc, Bytes::new(alloc), 1, number(alloc, 0)?)?)?;
     Ok(MemoryDialer::new(links, number(alloc, fails)?))
 }
 
-// Whether a call with these words ends so, and writes this.
-fn is_answered(
+// Which calls fail: of the sink, of door and dialer, of the random bytes, and of what starts threads.
+#[derive(Clone, Copy)]
+struct Fails {
+    writes: u64,
+    ways: u64,
+    draws: u64,
+    starts: u64,
+}
+
+const NOTHING_FAILS: Fails = Fails {
+    writes: 0,
+    ways: 0,
+    draws: 0,
+    starts: 0,
+};
+
+// The status of a call with these words, and what it writes, where so many connections come in.
+fn answer<R: Threads + Wait + Copy + Send + 'static>(
+    rt: &R,
     alloc: Global,
     text: &str,
     source: &mut MemorySource,
-    fails: (u64, u64, u64),
-    status: u8,
-    written: &str,
-) -> Result<bool, NoMemory> {
+    connections: u64,
+    fails: Fails,
+) -> Result<(u8, MemorySink), NoMemory> {
     let words = words(alloc, text)?;
-    let mut sink = MemorySink::new(alloc, 64, number(alloc, fails.0)?);
+    let mut sink = MemorySink::new(alloc, 64, number(alloc, fails.writes)?);
     let mut outside = Outside {
-        door: Some(door(alloc, fails.1)?),
-        dialer: dialer(alloc, fails.1)?,
+        door: Some(door(alloc, connections, fails.ways)?),
+        dialer: dialer(alloc, fails.ways)?,
         clock: MemoryClock::new(5),
-        entropy: MemoryEntropy::new([0; 24], number(alloc, fails.2)?),
+        entropy: MemoryEntropy::new([0; 24], number(alloc, fails.draws)?),
+        spawner: MemorySpawner::new(*rt, number(alloc, fails.starts)?),
     };
-    let ended = run(alloc, words.as_slice(), source, &mut sink, &mut outside);
+    let status = run(rt, alloc, words.as_slice(), source, &mut sink, &mut outside);
     drop_outside(outside);
-    Ok(ended == status && sink.written() == written.as_bytes())
+    Ok((status, sink))
 }
 
 #[test]
 fn calls_are_answered(rt: HostRuntime) -> Result<(), Fail> {
     for (words, input, read_fails, write_fails, status, written) in CALLS {
         let mut source = source(rt.alloc(), input, read_fails)?;
-        assert!(rt;
-            is_answered(
-                rt.alloc(),
-                words,
-                &mut source,
-                (write_fails, 0, 0),
-                status,
-                written
-            )?
-        );
+        let fails = Fails {
+            writes: write_fails,
+            ..NOTHING_FAILS
+        };
+        let (ended, sink) = answer(&rt, rt.alloc(), words, &mut source, 1, fails)?;
+        assert!(rt; ended == status && sink.written() == written.as_bytes());
     }
     Ok(())
 }
 
 #[test]
 fn failing_calls_are_answered(rt: HostRuntime) -> Result<(), Fail> {
-    for (words, input, fails, draw_fails, status, written) in FAILING {
+    for (words, input, ways, draws, starts, status, written) in FAILING {
         let mut source = source(rt.alloc(), input, 0)?;
-        assert!(rt;
-            is_answered(
-                rt.alloc(),
-                words,
-                &mut source,
-                (0, fails, draw_fails),
-                status,
-                written
-            )?
-        );
+        let fails = Fails {
+            writes: 0,
+            ways,
+            draws,
+            starts,
+        };
+        let (ended, sink) = answer(&rt, rt.alloc(), words, &mut source, 1, fails)?;
+        assert!(rt; ended == status && sink.written() == written.as_bytes());
     }
+    Ok(())
+}
+
+// Whether a text has these lines and no other, in any order.
+fn has_lines(written: &[u8], lines: &[&str]) -> bool {
+    let Ok(text) = str::from_utf8(written) else {
+        return false;
+    };
+    let mut size = 0;
+    for line in lines {
+        if !text.lines().any(|other| other == *line) {
+            return false;
+        }
+        size += line.len() + 1;
+    }
+    size == text.len()
+}
+
+#[test]
+fn two_connections_are_served(rt: HostRuntime) -> Result<(), Fail> {
+    let mut source = source(rt.alloc(), ACCOUNTS, 0)?;
+    let (ended, sink) = answer(
+        &rt,
+        rt.alloc(),
+        "serve 5222 2",
+        &mut source,
+        2,
+        NOTHING_FAILS,
+    )?;
+    assert!(rt; ended == 0 && has_lines(sink.written(), &TWO));
     Ok(())
 }

@@ -19,6 +19,9 @@ pub const TOO_LONG_LINE: &str = "too long\n";
 /// What is written where the door, a link or the dialer failed.
 pub const LINK_FAULT_LINE: &str = "link fault\n";
 
+/// What is written where a thread could not be started.
+pub const NO_WORKER_LINE: &str = "no worker\n";
+
 /// What is written where no random bytes were drawn.
 pub const ENTROPY_FAULT_LINE: &str = "entropy fault\n";
 
@@ -40,8 +43,8 @@ xmpp generate NUMBER SIZE
                 makes a schedule of NUMBER (0 to 18446744073709551615) with SIZE drawn lines (0 to 10000), runs it, and
                 writes the summary of its report
 xmpp serve PORT N
-                reads accounts from standard input, serves N connections (1 to 1000) to a port of this machine, one after
-                another, and writes the journal and the archives
+                reads accounts from standard input, serves N connections (1 to 1000) to a port of this machine, at the
+                same time, and writes the journal and the archives
 xmpp sync PORT  reads a script from standard input, does it as a client of a server at a port of this machine, and writes
                 the pages, the log and the messages held
 The exit status is
@@ -53,6 +56,7 @@ The exit status is
  6  where memory ran out; nothing is written
  7  where connections can't be made or taken, or the one of sync failed or ended before the script was done
  8  where the server of sync did what it must not; what is written
+ 9  where a thread could not be started
 10  where the system gave no random bytes
 11  where the input has more than 67108864 bytes
 ";

@@ -7,11 +7,9 @@ mod clock;
 mod dialer;
 mod door;
 mod link;
-mod outside;
 
 pub use chance::Entropy;
 pub use clock::{Clock, LAST_MOMENT_TOLD};
 pub use dialer::Dialer;
 pub use door::Door;
 pub use link::{Link, send_whole};
-pub use outside::Outside;

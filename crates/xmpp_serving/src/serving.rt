@@ -1,5 +1,5 @@
 //! Connections are served one after another.
-ghost use Rattle.std.specs.Prelude.{◌≡◌, ◌≢◌, ◌⊎◌, ◌<◌, ◌^◌, [], ◌∷◌, ◌++◌, None, Err, length, IfErr, IfOk, IfSome, IsErrOf, IsSome, IsTrue, OnOk};
+ghost use Rattle.std.specs.Prelude.{◌≡◌, ◌≢◌, ◌⊎◌, ◌<◌, ◌^◌, [], ◌∷◌, ◌++◌, None, Err, length, IfErr, IfOk, IsErrOf, IsTrue, OnOk};
 ghost use Rattle.xmpp_desk.specs.State.{conn_at};
 ghost use Rattle.xmpp_edge.specs.Counts.{Rose};
 ghost use Rattle.xmpp_journal.specs.AccountsFiles.{IsAccountsFile};
@@ -16,7 +16,7 @@ use crate::visiting::serve_link;
 use std::alloc::Global;
 use xmpp_edge::Bytes;
 use xmpp_journal::{AccountsFile, InputFault, read_accounts};
-use xmpp_outside::{Clock, Dialer, Door, Entropy, Link, Outside};
+use xmpp_outside::{Clock, Door, Entropy, Link};
 use xmpp_rerun::server_of;
 use xmpp_server::Server;
 
@@ -152,41 +152,27 @@ fn serve_file<D: Door, C: Clock, E: Entropy>(
 /// `BadLine` comes where `accounts` is the text of no accounts file, with the first bad line and its first reason; then the
 /// door stays closed. `LinkFault` comes exactly where the door failed, `EntropyFault` exactly where the source of random bytes
 /// did, and `NoMemory` where memory ran out. A link that fails is no error.
-pub fn serve_one_by_one<D: Door, L: Dialer, C: Clock, E: Entropy>(
+pub fn serve_one_by_one<D: Door, C: Clock, E: Entropy>(
     alloc: Global,
     accounts: &[u8],
     port: u16,
     n: u32,
-    outside: &mut Outside<D, L, C, E>,
+    door: &mut D,
+    clock: &mut C,
+    entropy: &mut E,
 ) -> Result<Bytes, ServeFault>
-    requires { IsSome outside.old.door }
-    ensures door { IsSome outside.new.door }
-    ensures served { IfOk result (λ text. IfSome outside.old.door (λ old. IfSome outside.new.door (λ new.
-        HasServed accounts.now n (C.moment outside.old.clock) (E.bytes outside.old.entropy) (D.given old) (D.given new) text.items))) }
-    ensures back { IfSome outside.old.door (λ old. IfSome outside.new.door (λ new. AreGivenBack (D.handed old) (D.handed new) (D.given old) (D.given new))) }
+    ensures served { IfOk result (λ text. HasServed accounts.now n (C.moment clock.old) (E.bytes entropy.old) (D.given door.old) (D.given door.new) text.items) }
+    ensures back { AreGivenBack (D.handed door.old) (D.handed door.new) (D.given door.old) (D.given door.new) }
     ensures bad { IfErr result (λ e. IsRefusal accounts.now e) }
-    ensures link_fault { IsErrOf result ServeFault.LinkFault → IfSome outside.old.door (λ old. IfSome outside.new.door (λ new.
-        Rose (D.faults old) (D.faults new) × (n ≢ 0 → AreFewer n (D.given old) (D.given new)))) }
-    ensures door_quiet { result ≢ Err ServeFault.LinkFault → IfSome outside.old.door (λ old. IfSome outside.new.door (λ new. D.faults new ≡ D.faults old)) }
-    ensures entropy_fault { IsErrOf result ServeFault.EntropyFault → Rose (E.faults outside.old.entropy) (E.faults outside.new.entropy) }
-    ensures entropy_quiet { result ≢ Err ServeFault.EntropyFault → E.faults outside.new.entropy ≡ E.faults outside.old.entropy }
-    ensures dialer { outside.new.dialer ≡ outside.old.dialer }
+    ensures link_fault { IsErrOf result ServeFault.LinkFault → Rose (D.faults door.old) (D.faults door.new) × (n ≢ 0 → AreFewer n (D.given door.old) (D.given door.new)) }
+    ensures door_quiet { result ≢ Err ServeFault.LinkFault → D.faults door.new ≡ D.faults door.old }
+    ensures entropy_fault { IsErrOf result ServeFault.EntropyFault → Rose (E.faults entropy.old) (E.faults entropy.new) }
+    ensures entropy_quiet { result ≢ Err ServeFault.EntropyFault → E.faults entropy.new ≡ E.faults entropy.old }
 {
     let file = match read_accounts(alloc, accounts) {
         Ok(file) => file,
         Err(InputFault::BadLine { line, why }) => return Err(ServeFault::BadLine { line, why }),
         Err(InputFault::NoMemory) => return Err(ServeFault::NoMemory),
     };
-    match &mut outside.door {
-        Some(door) => serve_file(
-            alloc,
-            &file,
-            port,
-            n,
-            door,
-            &mut outside.clock,
-            &mut outside.entropy,
-        ),
-        None => unreachable!(),
-    }
+    serve_file(alloc, &file, port, n, door, clock, entropy)
 }

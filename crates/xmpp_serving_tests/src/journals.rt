@@ -8,10 +8,7 @@ use crate::texts::{
 use std::alloc::Global;
 use std::test::Fail;
 use xmpp_edge::{Bytes, NoMemory, Numbers};
-use xmpp_memory_outside::{
-    Links, MemoryClock, MemoryDialer, MemoryDoor, MemoryEntropy, MemoryLink, Shelf,
-};
-use xmpp_outside::Outside;
+use xmpp_memory_outside::{Links, MemoryClock, MemoryDoor, MemoryEntropy, MemoryLink, Shelf};
 use xmpp_rerun::rerun_bytes;
 use xmpp_schedule::LineWhy;
 use xmpp_serving::{ServeFault, serve_one_by_one};
@@ -244,30 +241,19 @@ fn has_put(given: &Shelf, put: Option<Texts>) -> bool {
 
 // Whether a run goes as it should.
 fn goes_well(alloc: Global, run: &Run) -> Result<bool, NoMemory> {
-    let mut outside = Outside {
-        door: Some(door(alloc, run)?),
-        dialer: MemoryDialer::new(Links::new(alloc), Numbers::new(alloc)),
-        clock: MemoryClock::new(5),
-        entropy: MemoryEntropy::new([0; 24], number(alloc, run.draw_fails)?),
-    };
+    let mut door = door(alloc, run)?;
+    let mut clock = MemoryClock::new(5);
+    let mut entropy = MemoryEntropy::new([0; 24], number(alloc, run.draw_fails)?);
     let given = serve_one_by_one(
         alloc,
         run.accounts.as_bytes(),
         5222,
         run.connections,
-        &mut outside,
+        &mut door,
+        &mut clock,
+        &mut entropy,
     );
-    let put = match &outside.door {
-        Some(door) => has_put(door.given(), run.put),
-        None => false,
-    };
-    let Outside {
-        door,
-        dialer,
-        clock,
-        entropy,
-    } = outside;
-    drop((door, dialer, clock, entropy));
+    let put = has_put(door.given(), run.put);
     Ok(put && is_answer(alloc, run, &given))
 }
 
