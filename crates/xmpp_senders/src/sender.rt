@@ -25,7 +25,7 @@ impl<O: Outgoing> Sender<O> {
         }
     }
 
-    /// Writes bytes, unless a write failed before.
+    /// Writes bytes, unless a write failed before. A write that fails ends the link.
     pub fn put(&mut self, bytes: &[u8])
         ensures number { (O.told self.new.half).number ≡ (O.told self.old.half).number }
         ensures sent { (before : List ℕ) → HasSent before self.old.broken (O.told self.old.half) → HasSent (before ++ bytes.now) self.new.broken (O.told self.new.half) }
@@ -35,7 +35,11 @@ impl<O: Outgoing> Sender<O> {
         }
         match write_whole(&mut self.half, bytes) {
             Ok(()) => {}
-            Err(_) => self.broken = true,
+            Err(_) => {
+                self.broken = true;
+                // The reader ends too, and the session can be resumed.
+                self.half.close();
+            }
         }
     }
 

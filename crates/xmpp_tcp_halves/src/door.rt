@@ -9,9 +9,13 @@ use crate::outgoing::TcpOutgoing;
 use std::alloc::Global;
 use std::io::ErrorKind;
 use std::net::{IpAddr, Ipv4Addr, Net, OpenListener, OpenStream, SocketAddr};
+use std::time::Duration;
 use xmpp_edge::Failed;
 use xmpp_halves::{GivenBack, Halves, JoinedLink, Pair, put_back};
 use xmpp_outside::Door;
+
+/// How long a write waits for a peer that doesn't read, in seconds. Then it fails, and the others are served again.
+const LONGEST_WRITE: u64 = 10;
 
 /// A door at a port of the loopback address of this machine (RFC 1122, section 3.2.1.3), over the system's sockets. Each
 /// error of the system is a fault, and so is an accept where nothing listens, or for which memory runs out. A call that was
@@ -75,6 +79,7 @@ impl<R: Net + Drop> TcpHalvesDoor<R> {
         };
         // A message goes out at once, also where it is short.
         let _ = stream.set_nodelay(true);
+        let _ = stream.set_write_timeout(Some(Duration::from_secs(LONGEST_WRITE)));
         let incoming = TcpIncoming {
             stream,
             number,
