@@ -1,0 +1,2 @@
+-- ---- law: what links carried, as it is done again
+pub mod Carried
