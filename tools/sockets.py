@@ -120,12 +120,12 @@ class Serving:
             self.run.wait()
 
     def ended(self):
-        """Its status, what it wrote, and the processor's time that it took, once it has ended."""
+        """Its status, what it wrote, and the processor's time that it took, once it has ended. `memory` is the most that it had, in MB."""
         timer = threading.Timer(SECONDS, self.run.kill)
         timer.start()
         _, status, usage = os.wait4(self.run.pid, 0)
         timer.cancel()
-        self.run.returncode = os.waitstatus_to_exitcode(status)
+        self.run.returncode, self.memory = os.waitstatus_to_exitcode(status), usage.ru_maxrss / 1000
         self.recorder.ended()
         self.out.seek(0)
         return self.run.returncode, self.out.read().decode(), usage.ru_utime + usage.ru_stime
