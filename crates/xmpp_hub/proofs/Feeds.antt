@@ -23,7 +23,7 @@ module _ {P : Type 0} where
   one_told (what.Came p) rest e = absurd (true≢false (sym e))
   one_told (what.Gave piece) rest e = refl
   one_told what.Ended rest e = absurd (true≢false (sym e))
-  one_told (what.Closed b) rest e = absurd (true≢false (sym e))
+  one_told what.Closed rest e = absurd (true≢false (sym e))
   one_told what.Wanted rest e = absurd (true≢false (sym e))
 
   pub told_pieces : (body : List (Item P)) (last : Item P) → are_pieces body ≡ true → last.what ≡ what.Ended → told_of (body ++ last ∷ []) ≡ map Gave (pieces_of body) ++ Gone ∷ []

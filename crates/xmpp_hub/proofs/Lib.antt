@@ -10,6 +10,8 @@ pub mod Backs
 pub mod ServedLinks
 -- the journal
 pub mod Written
+-- as many links as were handed out
+pub mod CountedLinks
 -- faults
 pub mod Refusals
 -- a server that has served

@@ -3,10 +3,10 @@ use Rattle.std.proofs.Common.{◌≡◌, ℕ, zero, suc, ◌+◌, Bool, true, fa
 use mathlib.Core.Option.{some, some-ne-none, some-injective}
 use lib.ListN.{get_elem?}
 use Rattle.xmpp_halves.specs.Halves.{IncomingView, OutgoingView}
-use Rattle.xmpp_hub.specs.Backs.{AreReady, are_started}
+use Rattle.xmpp_hub.specs.Backs.{AreReady}
 use Rattle.xmpp_owner.specs.Events as owner
 use Rattle.xmpp_owner.specs.Halves.{IsNew}
-use Rattle.xmpp_owner.specs.Places.{IsPlaced, are_over}
+use Rattle.xmpp_owner.specs.Places.{IsPlaced, are_over, are_started}
 use Rattle.xmpp_owner.specs.declared.place.Place.{Place}
 use Rattle.xmpp_readers.specs.declared.item.Item.{Item}
 use Rattle.xmpp_readers.specs.declared.reader.ReaderJob.{ReaderJob}

@@ -1,5 +1,5 @@
 -- A server of an accounts file has served.
-use Rattle.std.proofs.Common.{◌≡◌, ℕ, List, Option, Some, None, Result, Ok, Err, IfOk, IfSome, subst}
+use Rattle.std.proofs.Common.{◌≡◌, ℕ, List, Option, Some, None, Result, Ok, Err, IfOk, IfSome, refl, subst}
 use Rattle.xmpp_hub.specs.Served.{HasServed, IsWritten}
 use Rattle.xmpp_journal.specs.AccountsFiles.{AccountsView, IsAccountsFile, accounts_text}
 use Rattle.xmpp_outside.specs.Links.{LinkView}
@@ -12,9 +12,10 @@ pub has_served : (accounts : List ℕ) (file : AccountsView) (n : ℕ) (moment :
     → IsAccountsFile file → accounts ≡ accounts_text file → IsWritten file n moment drawn old new text → HasServed accounts n moment drawn old new text
 has_served accounts file n moment drawn old new text right whole is = record { file = file; right = right; whole = whole; is = is }
 
-pub served_as : (accounts same : List ℕ) (n : ℕ) (moment : Option ℕ) (drawn : Option (List ℕ)) (old begun new : List LinkView) (text : List ℕ)
-    → accounts ≡ same → old ≡ begun → HasServed accounts n moment drawn old new text → HasServed same n moment drawn begun new text
-served_as accounts same n moment drawn old begun new text is at served = subst (λ a. HasServed a n moment drawn begun new text) is (subst (λ o. HasServed accounts n moment drawn o new text) at served)
+pub served_as : (accounts same : List ℕ) (n m : ℕ) (moment : Option ℕ) (drawn : Option (List ℕ)) (old begun new : List LinkView) (text : List ℕ)
+    → accounts ≡ same → n ≡ m → old ≡ begun → HasServed accounts n moment drawn old new text → HasServed same m moment drawn begun new text
+served_as accounts same n m moment drawn old begun new text is many at served =
+    subst (λ a. HasServed a m moment drawn begun new text) is (subst (λ k. HasServed accounts k moment drawn begun new text) many (subst (λ o. HasServed accounts n moment drawn o new text) at served))
 
 pub some_then : {A : Type 0} (P Q : A → Type 0) (o : Option A) → ((a : A) → P a → Q a) → IfSome o P → IfSome o Q
 some_then P Q None f is = tt
@@ -26,4 +27,4 @@ pub served_again : {A E D : Type 0} (items : A → List ℕ) (given : D → List
     → IfOk r (λ text. IfSome door (λ new. HasServed same n moment drawn begun (given new) (items text)))
 served_again items given r door accounts same n moment drawn old begun is at served =
     ok_then _ (λ text. IfSome door (λ new. HasServed same n moment drawn begun (given new) (items text))) r
-    (λ text one. some_then _ (λ new. HasServed same n moment drawn begun (given new) (items text)) door (λ new of. served_as accounts same n moment drawn old begun (given new) (items text) is at of) one) served
+    (λ text one. some_then _ (λ new. HasServed same n moment drawn begun (given new) (items text)) door (λ new of. served_as accounts same n n moment drawn old begun (given new) (items text) is refl at of) one) served

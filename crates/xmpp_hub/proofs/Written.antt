@@ -3,11 +3,11 @@ use Rattle.std.proofs.Common.{◌≡◌, ℕ, ◌+◌, ◌<◌, inl, inr, ⊎_el
 use Rattle.xmpp_halves.specs.Halves.{IncomingView, OutgoingView}
 use Rattle.xmpp_hub.proofs.Ready.{all_some}
 use Rattle.xmpp_hub.proofs.ServedLinks.{all_served}
-use Rattle.xmpp_hub.specs.Backs.{AreBack, are_started}
+use Rattle.xmpp_hub.specs.Backs.{AreBack}
 use Rattle.xmpp_hub.specs.Served.{IsWritten}
 use Rattle.xmpp_outside.specs.Links.{LinkView}
 use Rattle.xmpp_owner.specs.Events as owner
-use Rattle.xmpp_owner.specs.Places.{AreKept, IsPlaced}
+use Rattle.xmpp_owner.specs.Places.{AreKept, IsPlaced, are_started}
 use Rattle.xmpp_owner.specs.declared.place.Place.{Place}
 use Rattle.xmpp_readers.specs.declared.item.Item.{Item}
 use Rattle.xmpp_recorder.proofs.MoreEvents.{bares_are}

@@ -1,5 +1,5 @@
 -- Places and the halves of their connections, when these are given back.
-use Rattle.std.specs.Prelude.{◌≡◌, ℕ, ◌+◌, Bool, true, false, List, [], ◌∷◌, ◌++◌, Some, IfSome, is_some, length, if◌then◌else◌}
+use Rattle.std.specs.Prelude.{◌≡◌, ℕ, ◌+◌, true, List, [], ◌∷◌, ◌++◌, Some, IfSome, length}
 use mathlib.Core.Option.{some}
 use lib.ListN.{get_elem?}
 use Rattle.xmpp_halves.specs.Halves.{IncomingView, OutgoingView, link_of}
@@ -69,9 +69,3 @@ module _ {R I O P : Type 0} (told : I → IncomingView) (out : O → OutgoingVie
     pub many : length ps ≡ n
     pub given : now ≡ old ++ links
     pub back : AreBack told out got 1 ps ss links
-
-module _ {R I P : Type 0} where
-  -- a reader was started at each place
-  unfoldable pub are_started : List (Place R I P) → Bool
-  are_started [] = true
-  are_started (p ∷ ps) = if is_some p.worker then are_started ps else false

@@ -1,10 +1,11 @@
 //! Connections that come in at a port are served at the same time.
-ghost use Rattle.std.specs.Prelude.{◌≡◌, ◌⊎◌, [], IfErr, IfOk, IfSome, IsErrOf, IsSome};
+ghost use Rattle.std.specs.Prelude.{◌≡◌, ◌≢◌, ◌⊎◌, [], Err, IfErr, IfOk, IfSome, IsErrOf, IsSome};
 ghost use Rattle.xmpp_edge.specs.Counts.{Rose};
 ghost use Rattle.xmpp_hub.specs.Backs.{AreBehind};
 ghost use Rattle.xmpp_hub.specs.Served.{HasServed, IsOwn, IsRefusal};
 ghost use Rattle.xmpp_journal.specs.AccountsFiles.{IsAccountsFile, accounts_text};
 ghost use Rattle.xmpp_recorder.specs.Records.{IsKept};
+ghost use Rattle.xmpp_serving.specs.Journaling.{AreFewer, AreGivenBack};
 
 use crate::fault::HubFault;
 use crate::serving::serve_started;
@@ -45,7 +46,9 @@ where
     ensures served { IfOk result.0 (λ text. IfSome result.1 (λ new. HasServed (accounts_text recorder.file) n (C.moment clock.old) (E.bytes entropy.old) (D.given door) (D.given new) text.items)) }
     ensures given { IfSome result.1 (λ new. AreBehind (D.given door) (D.given new)) }
     ensures faults { IfErr result.0 (λ e. IsOwn e) }
-    ensures link_fault { IsErrOf result.0 HubFault.LinkFault → IfSome result.1 (λ new. Rose (D.faults door) (D.faults new)) }
+    ensures all_back { result.0 ≢ Err HubFault.NoWorker → result.0 ≢ Err HubFault.EntropyFault → result.0 ≢ Err HubFault.NoMemory
+        → IfSome result.1 (λ new. AreGivenBack (D.handed door) (D.handed new) (D.given door) (D.given new)) }
+    ensures link_fault { IsErrOf result.0 HubFault.LinkFault → IfSome result.1 (λ new. Rose (D.faults door) (D.faults new) × AreFewer n (D.given door) (D.given new)) }
     ensures no_worker { IsErrOf result.0 HubFault.NoWorker → Rose (S.faults spawner.old) (S.faults spawner.new) }
     ensures entropy_fault { IsErrOf result.0 HubFault.EntropyFault → Rose (E.faults entropy.old) (E.faults entropy.new) }
     ensures kept { IsErrOf result.0 HubFault.NoWorker ⊎ IsSome result.1 }
@@ -57,7 +60,7 @@ where
     };
     match spawner.start(AcceptorJob::new(*rt, door, to, pass, n)) {
         Ok(acceptor) => {
-            let (served, door) = serve_started(rt, n, owner, acceptor, clock, entropy, spawner);
+            let (served, door) = serve_started(rt, owner, acceptor, clock, entropy, spawner);
             (served, Some(door))
         }
         Err(_) => (Err(HubFault::NoWorker), None),
@@ -90,7 +93,9 @@ where
     ensures served { IfOk result.0 (λ text. IfSome result.1 (λ new. HasServed (accounts_text file) n (C.moment clock.old) (E.bytes entropy.old) (D.given door) (D.given new) text.items)) }
     ensures given { IfSome result.1 (λ new. AreBehind (D.given door) (D.given new)) }
     ensures faults { IfErr result.0 (λ e. IsOwn e) }
-    ensures link_fault { IsErrOf result.0 HubFault.LinkFault → IfSome result.1 (λ new. Rose (D.faults door) (D.faults new)) }
+    ensures all_back { result.0 ≢ Err HubFault.NoWorker → result.0 ≢ Err HubFault.EntropyFault → result.0 ≢ Err HubFault.NoMemory
+        → IfSome result.1 (λ new. AreGivenBack (D.handed door) (D.handed new) (D.given door) (D.given new)) }
+    ensures link_fault { IsErrOf result.0 HubFault.LinkFault → IfSome result.1 (λ new. Rose (D.faults door) (D.faults new) × AreFewer n (D.given door) (D.given new)) }
     ensures no_worker { IsErrOf result.0 HubFault.NoWorker → Rose (S.faults spawner.old) (S.faults spawner.new) }
     ensures entropy_fault { IsErrOf result.0 HubFault.EntropyFault → Rose (E.faults entropy.old) (E.faults entropy.new) }
     ensures kept { IsErrOf result.0 HubFault.NoWorker ⊎ IsSome result.1 }
@@ -112,9 +117,9 @@ where
 ///
 /// `BadLine` comes where `accounts` is the text of no accounts file, with the first bad line and its first reason; then the door
 /// stays closed. `LinkFault`, `NoWorker` and `EntropyFault` come only where the count of faults rose of the door, of the spawner
-/// and of the source of random bytes: where several did, that which was met first. Then, and after want of memory, all readers
-/// are joined, and the links of which a reader was started are given back. Where the acceptor can't be started, the door is
-/// dropped.
+/// and of the source of random bytes: where several did, that which was met first. After `LinkFault` all links that the door
+/// handed out are given back. After the others, and after want of memory, all readers are joined, and the links of which a
+/// reader was started are given back. Where the acceptor can't be started, the door is dropped.
 #[tactic(auto, using(crate::proofs::Served::served_again, crate::proofs::Refusals::refused))]
 pub fn serve_together<
     R: Threads + Wait + Copy + Send + 'static,
@@ -140,7 +145,9 @@ where
     ensures served { IfOk result.0 (λ text. IfSome result.1 (λ new. HasServed accounts.now n (C.moment clock.old) (E.bytes entropy.old) (D.given door) (D.given new) text.items)) }
     ensures bad { IfErr result.0 (λ e. IsRefusal accounts.now e) }
     ensures back { IfSome result.1 (λ new. AreBehind (D.given door) (D.given new)) }
-    ensures link_fault { IsErrOf result.0 HubFault.LinkFault → IfSome result.1 (λ new. Rose (D.faults door) (D.faults new)) }
+    ensures all_back { result.0 ≢ Err HubFault.NoWorker → result.0 ≢ Err HubFault.EntropyFault → result.0 ≢ Err HubFault.NoMemory
+        → IfSome result.1 (λ new. AreGivenBack (D.handed door) (D.handed new) (D.given door) (D.given new)) }
+    ensures link_fault { IsErrOf result.0 HubFault.LinkFault → IfSome result.1 (λ new. Rose (D.faults door) (D.faults new) × (n ≢ 0 → AreFewer n (D.given door) (D.given new))) }
     ensures no_worker { IsErrOf result.0 HubFault.NoWorker → Rose (S.faults spawner.old) (S.faults spawner.new) }
     ensures entropy_fault { IsErrOf result.0 HubFault.EntropyFault → Rose (E.faults entropy.old) (E.faults entropy.new) }
     ensures kept { IsErrOf result.0 HubFault.NoWorker ⊎ IsSome result.1 }
