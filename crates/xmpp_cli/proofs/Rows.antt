@@ -163,13 +163,13 @@ module _ (known left : Option (List ℕ)) (rose calm still : Type 0) (dealt : De
   words None answer two = let (text, due, out) = answer WrongWords two in (refl, subst Written due out)
   words (Some command) answer two = let (text, due, out) = answer WrongWords two in absurd due.0
 
-  read_fault : (command : Option Command) → Answered command → result ≡ 4 → (reads command ≡ true) × rose × Written read_fault_line
+  read_fault : (command : Option Command) → Answered command → result ≡ 4 → (reads command ≡ true) × rose × Written read_fault_line × (dealt.behind ≡ dealt.before)
   read_fault None answer four = let (text, due, out) = answer ReadFault four in absurd due
-  read_fault (Some command) answer four = let (text, due, out) = answer ReadFault four in (due.0, due.1, subst Written due.2 out)
+  read_fault (Some command) answer four = let (text, due, out) = answer ReadFault four in (due.0, due.1, subst Written due.2 out, due.3)
 
-  too_long : (command : Option Command) → Answered command → result ≡ 11 → (reads command ≡ true) × IfSome known (λ input. MOST_BYTES_READ < length input) × Written too_long_line
+  too_long : (command : Option Command) → Answered command → result ≡ 11 → (reads command ≡ true) × IfSome known (λ input. MOST_BYTES_READ < length input) × Written too_long_line × (dealt.behind ≡ dealt.before)
   too_long None answer eleven = let (text, due, out) = answer TooLong eleven in absurd due
-  too_long (Some command) answer eleven = let (text, due, out) = answer TooLong eleven in (due.0, due.1, subst Written due.2 out)
+  too_long (Some command) answer eleven = let (text, due, out) = answer TooLong eleven in (due.0, due.1, subst Written due.2 out, due.3)
 
   words_only : (command : Option Command) → Answered command → IsTrue (is_status result) → command ≡ None → (result ≡ 2) ⊎ (result ≡ 5) ⊎ (result ≡ 6)
   words_only command answer status e =

@@ -217,11 +217,13 @@ pub record IsReadWhole (known left : Option (List ℕ)) : Type 0 where
   pub short : IfSome known (λ input. length input ≤ MOST_BYTES_READ)
 
 -- What is due of a command with an outcome, where `rose` says that the source's count of faults rose. `left` is what is
--- left of the input.
+-- left of the input. Where that is not read to its end, the outside is as it was.
 abbrev pub IsDueOf : Command → Option (List ℕ) → Option (List ℕ) → Type 0 → Dealings → Outcome → List ℕ → Type 0
-IsDueOf command known left rose dealt ReadFault text = (reads (Some command) ≡ true) × rose × (text ≡ read_fault_line)
+IsDueOf command known left rose dealt ReadFault text =
+    (reads (Some command) ≡ true) × rose × (text ≡ read_fault_line) × (dealt.behind ≡ dealt.before)
 IsDueOf command known left rose dealt TooLong text =
     (reads (Some command) ≡ true) × IfSome known (λ input. MOST_BYTES_READ < length input) × (text ≡ too_long_line)
+    × (dealt.behind ≡ dealt.before)
 IsDueOf command known left rose dealt outcome text =
     IsAnswer command known dealt outcome text × (reads (Some command) ≡ true → IsReadWhole known left)
 
