@@ -1,5 +1,5 @@
 //! Connections are served at the same time.
-ghost use Rattle.std.specs.Prelude.{◌≡◌, ◌≢◌, ◌⊎◌, ◌<◌, ◌^◌, ◌∷◌, ◌++◌, ℕ, List, Option, None, Some, Err, IfErr, IfOk, IfSome, IsErrOf, IsSome, is_some, length, true};
+ghost use Rattle.std.specs.Prelude.{◌≡◌, ◌≢◌, ◌⊎◌, ◌<◌, ◌^◌, ◌∷◌, ◌++◌, ℕ, List, Option, None, Some, Err, IfErr, IfOk, IfSome, IsErrOf, length, true};
 ghost use Rattle.crossbeam_channel.specs.Claims.{IsSeatAt, view};
 ghost use Rattle.crossbeam_channel.specs.Ends.{sends_on};
 ghost use Rattle.xmpp_edge.specs.Counts.{Rose};
