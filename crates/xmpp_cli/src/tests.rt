@@ -290,12 +290,12 @@ fn has_lines(written: &[u8], lines: &[&str]) -> bool {
     let Ok(text) = str::from_utf8(written) else {
         return false;
     };
-    let mut size = 0;
+    let mut size: usize = 0;
     for line in lines {
         if !text.lines().any(|other| other == *line) {
             return false;
         }
-        size += line.len() + 1;
+        size = size.saturating_add(line.len()).saturating_add(1);
     }
     size == text.len()
 }
