@@ -81,14 +81,14 @@ impl<R: Net + Drop> TcpHalvesDoor<R> {
         let _ = stream.set_nodelay(true);
         let _ = stream.set_write_timeout(Some(Duration::from_secs(LONGEST_WRITE)));
         let incoming = TcpIncoming {
-            stream,
+            stream: Some(stream),
             number,
             faults: 0,
             ends: 0,
             room,
         };
         let outgoing = TcpOutgoing {
-            stream: same,
+            stream: Some(same),
             number,
             faults: 0,
         };
