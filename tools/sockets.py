@@ -69,7 +69,7 @@ class Recorder:
 
     def __init__(self, to, change=bytes):
         self.up, self.down, self.threads = [], [], []
-        self.to, self.change = to, change
+        self.to, self.change, self.lock = to, change, threading.Lock()
         self.listener = socket.create_server((HOST, 0))
         self.port = self.listener.getsockname()[1]
         threading.Thread(target=self.accept, daemon=True).start()
@@ -78,19 +78,25 @@ class Recorder:
         while True:
             try:
                 client = self.listener.accept()[0]
-                server = dialed(self.to)
+                with self.lock:
+                    self.hand_on_both(client, dialed(self.to))
             except OSError:
                 return
-            client.setsockopt(socket.IPPROTO_TCP, socket.TCP_NODELAY, 1)
-            self.up.append(bytearray())
-            self.down.append(bytearray())
-            for args in ((client, server, self.up[-1], bytes), (server, client, self.down[-1], self.change)):
-                self.threads.append(threading.Thread(target=hand_on, args=args, daemon=True))
-                self.threads[-1].start()
+
+    def hand_on_both(self, client, server):
+        client.setsockopt(socket.IPPROTO_TCP, socket.TCP_NODELAY, 1)
+        self.up.append(bytearray())
+        self.down.append(bytearray())
+        for args in ((client, server, self.up[-1], bytes), (server, client, self.down[-1], self.change)):
+            self.threads.append(threading.Thread(target=hand_on, args=args, daemon=True))
+            self.threads[-1].start()
 
     def ended(self):
+        """Waits until all is handed on of each connection that the server has taken."""
         self.listener.close()
-        for thread in self.threads:
+        with self.lock:
+            threads = list(self.threads)
+        for thread in threads:
             thread.join(SECONDS)
 
 
