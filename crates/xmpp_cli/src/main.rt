@@ -88,4 +88,6 @@ fn main(rt: HostRuntime) -> ExitCode {
 }
 
 #[cfg(test)]
+mod ended;
+#[cfg(test)]
 mod tests;

@@ -1,5 +1,6 @@
 //! Calls over a source, a sink and an outside in memory, whose calls fail where a row says so.
 use crate::drop_outside;
+use crate::ended::EndedLink;
 use crate::outside::Outside;
 use crate::running::run;
 use crate::texts::{HELP, VERSION};
@@ -8,7 +9,7 @@ use std::sync::Wait;
 use std::test::Fail;
 use std::thread::Threads;
 use xmpp_edge::{Bytes, MemorySink, MemorySource, NoMemory, Numbers};
-use xmpp_memory_halves::{MemoryHalvesDoor, UncutMemoryLink};
+use xmpp_memory_halves::MemoryHalvesDoor;
 use xmpp_memory_outside::{Links, MemoryClock, MemoryDialer, MemoryEntropy, MemoryLink};
 use xmpp_workers::MemorySpawner;
 
@@ -201,10 +202,10 @@ fn door(
     alloc: Global,
     connections: u64,
     fails: u64,
-) -> Result<MemoryHalvesDoor<UncutMemoryLink>, NoMemory> {
+) -> Result<MemoryHalvesDoor<EndedLink>, NoMemory> {
     let mut links = Vec::new(alloc);
     for _ in 0..connections {
-        links.push(UncutMemoryLink::new(Bytes::new(alloc), 1, number(alloc, 0)?))?;
+        links.push(EndedLink)?;
     }
     Ok(MemoryHalvesDoor::new(alloc, links, number(alloc, fails)?))
 }

@@ -1,0 +1,59 @@
+//! Links that end at once.
+ghost use Rattle.std.specs.Prelude.{◌≡◌, None};
+
+use std::alloc::Global;
+use xmpp_edge::{Failed, NoMemory};
+use xmpp_halves::{Incoming, Outgoing, Pair};
+use xmpp_memory_halves::Uncut;
+
+/// A half that gives its end.
+#[derive(Drop)]
+pub(crate) struct EndedIncoming {
+    number: u64,
+    ends: u64,
+}
+
+impl Incoming for EndedIncoming {
+    ghost told = { λ s. record { number = s.number; read = None; left = None; faults = 0; ends = s.ends } };
+
+    fn read(&mut self, buf: &mut [u8]) -> Result<usize, Failed> {
+        if !buf.is_empty() {
+            self.ends = self.ends.saturating_add(1);
+        }
+        Ok(0)
+    }
+}
+
+/// A half that takes all bytes.
+#[derive(Drop)]
+pub(crate) struct OpenOutgoing {
+    number: u64,
+}
+
+impl Outgoing for OpenOutgoing {
+    ghost told = { λ s. record { number = s.number; written = None; faults = 0 } };
+
+    fn write(&mut self, bytes: &[u8]) -> Result<usize, Failed> {
+        Ok(bytes.len())
+    }
+
+    fn close(&mut self) {}
+}
+
+/// Such a link that is not handed out yet.
+#[derive(Drop)]
+pub(crate) struct EndedLink;
+
+impl Uncut for EndedLink {
+    type Incoming = EndedIncoming;
+
+    type Outgoing = OpenOutgoing;
+
+    fn cut(
+        self,
+        _alloc: Global,
+        number: u64,
+    ) -> Result<Pair<EndedIncoming, OpenOutgoing>, NoMemory> {
+        Ok(Pair::new(EndedIncoming { number, ends: 0 }, OpenOutgoing { number }))
+    }
+}
