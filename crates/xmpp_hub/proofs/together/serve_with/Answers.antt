@@ -1,8 +1,9 @@
 use Rattle.std.proofs.Common.{◌∙◌, ap, subst}
+use Rattle.xmpp_edge.specs.Counts.{Rose}
 use Rattle.xmpp_hub.proofs.Served.{ok_then, served_as}
 use Rattle.xmpp_hub.proofs.together.serve_with.Goals as goal
 use Rattle.xmpp_journal.specs.AccountsFiles.{accounts_text}
-use Rattle.xmpp_serving.specs.Journaling.{AreGivenBack}
+use Rattle.xmpp_serving.specs.Journaling.{AreFewer, AreGivenBack}
 
 pub returns-in-Ok-start-clause-served : goal.returns-in-Ok-start-clause-served
 returns-in-Ok-start-clause-served g c =
@@ -15,3 +16,11 @@ pub returns-in-Ok-start-clause-all_back : goal.returns-in-Ok-start-clause-all_ba
 returns-in-Ok-start-clause-all_back g c worker entropy memory =
     let handed = g.D.Door.handed in let given = g.D.Door.given in let new = c.serve_started-served.result.1 in let door = ap (λ j. j.door) c.in-Ok-start.ensures.job ∙ c.new-2.ensures.door in
     subst (λ d. AreGivenBack (handed d) (handed new) (given d) (given new)) door (c.serve_started-served.ensures.all_back worker entropy memory)
+
+pub returns-in-Ok-start-clause-link_fault : goal.returns-in-Ok-start-clause-link_fault
+returns-in-Ok-start-clause-link_fault g c is =
+    let failed = c.serve_started-served.ensures.link_fault is in let new = c.serve_started-served.result.1 in let door = ap (λ j. j.door) c.in-Ok-start.ensures.job ∙ c.new-2.ensures.door in (
+      subst (λ d. Rose (g.D.Door.faults d) (g.D.Door.faults new)) door failed.0,
+      subst (λ n. AreFewer n (g.D.Door.given c.args.door) (g.D.Door.given new)) (ap (λ j. j.count) c.in-Ok-start.ensures.job ∙ c.new-2.ensures.count)
+          (subst (λ d. AreFewer c.in-Ok-start.acceptor.count (g.D.Door.given d) (g.D.Door.given new)) door failed.1),
+    )
