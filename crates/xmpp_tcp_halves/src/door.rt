@@ -76,14 +76,14 @@ impl<R: Net + Drop> TcpHalvesDoor<R> {
         // A message goes out at once, also where it is short.
         let _ = stream.set_nodelay(true);
         let incoming = TcpIncoming {
-            stream,
+            stream: Some(stream),
             number,
             faults: 0,
             ends: 0,
             room,
         };
         let outgoing = TcpOutgoing {
-            stream: same,
+            stream: Some(same),
             number,
             faults: 0,
         };
