@@ -16,6 +16,7 @@ SHARED = os.environ.get("SHARED_TOOLS", os.path.join(TOP, "../shared/tools"))
 BASELINE = os.environ.get("BASELINE", os.path.join(SHARED, "baseline"))
 HOST = "127.0.0.1"
 SECONDS = 30
+TICKS = os.sysconf("SC_CLK_TCK")
 
 
 def free_port():
@@ -68,7 +69,7 @@ class Recorder:
 
     def __init__(self, to, change=bytes):
         self.up, self.down, self.threads = [], [], []
-        self.to, self.change = to, change
+        self.to, self.change, self.lock = to, change, threading.Lock()
         self.listener = socket.create_server((HOST, 0))
         self.port = self.listener.getsockname()[1]
         threading.Thread(target=self.accept, daemon=True).start()
@@ -77,27 +78,41 @@ class Recorder:
         while True:
             try:
                 client = self.listener.accept()[0]
-                server = dialed(self.to)
+                with self.lock:
+                    self.hand_on_both(client, dialed(self.to))
             except OSError:
                 return
-            client.setsockopt(socket.IPPROTO_TCP, socket.TCP_NODELAY, 1)
-            self.up.append(bytearray())
-            self.down.append(bytearray())
-            for args in ((client, server, self.up[-1], bytes), (server, client, self.down[-1], self.change)):
-                self.threads.append(threading.Thread(target=hand_on, args=args, daemon=True))
-                self.threads[-1].start()
+
+    def hand_on_both(self, client, server):
+        client.setsockopt(socket.IPPROTO_TCP, socket.TCP_NODELAY, 1)
+        self.up.append(bytearray())
+        self.down.append(bytearray())
+        for args in ((client, server, self.up[-1], bytes), (server, client, self.down[-1], self.change)):
+            self.threads.append(threading.Thread(target=hand_on, args=args, daemon=True))
+            self.threads[-1].start()
 
     def ended(self):
+        """Waits until all is handed on of each connection that the server has taken."""
         self.listener.close()
-        for thread in self.threads:
+        with self.lock:
+            threads = list(self.threads)
+        for thread in threads:
             thread.join(SECONDS)
 
 
+def most_memory(pid):
+    """The most bytes that a process had in memory so far. What `wait` tells is no less than what this process has, since the
+    other one begins as a copy of it."""
+    with open(f"/proc/{pid}/status", encoding="ascii") as file:
+        return next((int(line.split()[1]) * 1024 for line in file if line.startswith("VmHWM:")), 0)
+
+
 class Serving:
-    """`serve` of a program for so many connections, which dial `port`, where a recorder listens. `direct` is its own port."""
+    """`serve` of a program for so many connections, which dial `port`, where a recorder listens. `direct` is its own port.
+    Once it has ended, `memory` is the most that it had, in bytes."""
 
     def __init__(self, program, accounts, count, change=bytes):
-        self.out, self.direct = tempfile.TemporaryFile(), free_port()
+        self.out, self.direct, self.memory = tempfile.TemporaryFile(), free_port(), 0
         with tempfile.TemporaryFile() as source:
             source.write(accounts.encode())
             source.seek(0)
@@ -119,23 +134,32 @@ class Serving:
             self.run.kill()
             self.run.wait()
 
+    def times(self):
+        """The processor's seconds that it took so far, user and system, to a hundredth."""
+        with open(f"/proc/{self.run.pid}/stat", encoding="ascii") as file:
+            user, system = file.read().rsplit(")", 1)[1].split()[11:13]
+        return int(user) / TICKS, int(system) / TICKS
+
     def ended(self):
-        """Its status, what it wrote, and the processor's time that it took, once it has ended."""
-        timer = threading.Timer(SECONDS, self.run.kill)
-        timer.start()
-        _, status, usage = os.wait4(self.run.pid, 0)
-        timer.cancel()
+        """Its status, what it wrote, and the processor's time that it took, user and system, once it has ended."""
+        end, pid = time.monotonic() + SECONDS, 0
+        while not pid:
+            if time.monotonic() > end:
+                self.run.kill()
+            self.memory = max(self.memory, most_memory(self.run.pid))
+            time.sleep(0.001)
+            pid, status, usage = os.wait4(self.run.pid, os.WNOHANG)
         self.run.returncode = os.waitstatus_to_exitcode(status)
         self.recorder.ended()
         self.out.seek(0)
-        return self.run.returncode, self.out.read().decode(), usage.ru_utime + usage.ru_stime
+        return self.run.returncode, self.out.read().decode(), (usage.ru_utime, usage.ru_stime)
 
 
 class Client:
-    """A plain client: it logs in, and then says what it is told to."""
+    """A plain client: it logs in, and then says what it is told to. `heard` is all that it was told."""
 
     def __init__(self, port, account, password, changed=0):
-        self.link, self.got, self.account = dialed(port), "", account
+        self.link, self.got, self.heard, self.account = dialed(port), "", bytearray(), account
         self.say(journals.STREAM + journals.auth(account, "abcdef"))
         challenge = self.until("</challenge>")
         both = base64.b64decode(re.search(r">([^<>]*)</challenge>", challenge)[1]).decode().split(",")[0][2:]
@@ -148,10 +172,15 @@ class Client:
     def say(self, text):
         self.link.sendall(text.encode())
 
+    def hear(self):
+        piece = self.link.recv(65_536)
+        self.heard += piece
+        return piece
+
     def until(self, end, count=1):
         """What comes up to that end, for the count-th time."""
         while self.got.count(end) < count:
-            piece = self.link.recv(65_536)
+            piece = self.hear()
             if not piece:
                 raise ValueError(f"the connection ended before {end}")
             self.got += piece.decode()
@@ -166,6 +195,6 @@ class Client:
     def leave(self):
         """Closes the stream, and reads what comes until the other end has closed the connection."""
         self.say("</stream:stream>")
-        while self.link.recv(65_536):
+        while self.hear():
             pass
         self.link.close()
