@@ -81,14 +81,14 @@ impl<R: Net + Drop> TcpHalvesDoor<R> {
         let _ = stream.set_nodelay(true);
         let _ = stream.set_write_timeout(Some(Duration::from_secs(LONGEST_WRITE)));
         let incoming = TcpIncoming {
-            stream: Some(stream),
+            stream,
             number,
             faults: 0,
             ends: 0,
             room,
         };
         let outgoing = TcpOutgoing {
-            stream: Some(same),
+            stream: same,
             number,
             faults: 0,
         };

@@ -8,11 +8,10 @@ use xmpp_edge::Failed;
 use xmpp_halves::Outgoing;
 
 /// The half of a stream of the system to which bytes are written. It doesn't tell what was written. A call that was
-/// interrupted is tried again, each other error is a fault, and so is a write that takes none of the bytes it is given, and
-/// each behind the link's end. Then the system's stream is let go, so that a link that is over holds no descriptor here.
+/// interrupted is tried again, each other error is a fault, and so is a write that takes none of the bytes it is given.
 #[derive(Drop)]
 pub struct TcpOutgoing<S> {
-    pub(crate) stream: Option<S>,
+    pub(crate) stream: S,
     pub(crate) number: u64,
     pub(crate) faults: u64,
 }
@@ -32,14 +31,11 @@ fn write_to<S: Write>(stream: &mut S, bytes: &[u8]) -> Result<usize, Failed>
     Err(Failed)
 }
 
-impl<S: Write + OpenStream + Drop> Outgoing for TcpOutgoing<S> {
+impl<S: Write + OpenStream> Outgoing for TcpOutgoing<S> {
     ghost told = { λ s. record { number = s.number; written = None; faults = s.faults } };
 
     fn write(&mut self, bytes: &[u8]) -> Result<usize, Failed> {
-        let written = match &mut self.stream {
-            Some(stream) => write_to(stream, bytes),
-            None => Err(Failed),
-        };
+        let written = write_to(&mut self.stream, bytes);
         if written.is_err() {
             self.faults = self.faults.saturating_add(1);
         }
@@ -48,8 +44,6 @@ impl<S: Write + OpenStream + Drop> Outgoing for TcpOutgoing<S> {
 
     fn close(&mut self) {
         // What was written still goes out. An error tells that the other end is gone.
-        if let Some(stream) = self.stream.take() {
-            let _ = stream.shutdown(Shutdown::Both);
-        }
+        let _ = self.stream.shutdown(Shutdown::Both);
     }
 }
