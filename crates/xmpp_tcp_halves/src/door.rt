@@ -5,6 +5,7 @@ ghost use Rattle.xmpp_outside.specs.Links.{counted_if};
 ghost use Rattle.xmpp_tcp_halves.specs.SilentLinks.{silent_links};
 
 use crate::incoming::{Counts, TcpIncoming};
+use crate::letting_go::LetGo;
 use crate::outgoing::TcpOutgoing;
 use std::alloc::Global;
 use std::io::ErrorKind;
@@ -30,7 +31,10 @@ pub struct TcpHalvesDoor<R: Net> {
     handed: u64,
 }
 
-impl<R: Net + Drop> TcpHalvesDoor<R> {
+impl<R: Net + Drop> TcpHalvesDoor<R>
+where
+    R::Stream: LetGo,
+{
     /// A door that isn't open yet.
     pub fn new(net: R, alloc: Global) -> TcpHalvesDoor<R>
         ensures given { ⟦<TcpHalvesDoor<R> as Door>⟧.given result ≡ [] }
@@ -81,14 +85,14 @@ impl<R: Net + Drop> TcpHalvesDoor<R> {
         let _ = stream.set_nodelay(true);
         let _ = stream.set_write_timeout(Some(Duration::from_secs(LONGEST_WRITE)));
         let incoming = TcpIncoming {
-            stream,
+            stream: Some(stream),
             number,
             faults: 0,
             ends: 0,
             room,
         };
         let outgoing = TcpOutgoing {
-            stream: same,
+            stream: Some(same),
             number,
             faults: 0,
         };
@@ -127,7 +131,10 @@ fn counts_of<S>(incoming: &TcpIncoming<S>, outgoing: &TcpOutgoing<S>) -> Counts
     }
 }
 
-impl<R: Net + Drop> Door for TcpHalvesDoor<R> {
+impl<R: Net + Drop> Door for TcpHalvesDoor<R>
+where
+    R::Stream: LetGo,
+{
     type Link = JoinedLink<TcpIncoming<R::Stream>, TcpOutgoing<R::Stream>>;
 
     ghost faults = { λ s. s.faults };
@@ -166,7 +173,10 @@ impl<R: Net + Drop> Door for TcpHalvesDoor<R> {
     }
 }
 
-impl<R: Net + Drop> Halves for TcpHalvesDoor<R> {
+impl<R: Net + Drop> Halves for TcpHalvesDoor<R>
+where
+    R::Stream: LetGo,
+{
     type Incoming = TcpIncoming<R::Stream>;
 
     type Outgoing = TcpOutgoing<R::Stream>;

@@ -3,6 +3,7 @@ ghost use Rattle.std.specs.Prelude.{◌≡◌, None};
 ghost use Rattle.std.specs.Io.{ReadsAtMost};
 ghost use Rattle.std.specs.Io.KnownBytes.{ReadConsumes};
 
+use crate::letting_go::{LetGo, let_go};
 use std::io::{ErrorKind, Read};
 use xmpp_edge::Failed;
 use xmpp_halves::{GivenBack, Incoming};
@@ -16,12 +17,13 @@ pub struct Counts {
     pub write_faults: u64,
 }
 
-/// The half of a stream of the system from which bytes are read. It doesn't tell what was read; it tells what is left to read
-/// where the stream does, which the system's don't. A call that was interrupted is tried again, and each other error is a
-/// fault. It has room with it for when its link is given back.
+/// The half of a stream of the system from which bytes are read. It doesn't tell what was read, nor what is left to read. A
+/// call that was interrupted is tried again, and each other error is a fault. Behind a fault or the end it lets the system's
+/// stream go, so that a link that is over holds no descriptor here; what is read then is the end. It has room with it for
+/// when its link is given back.
 #[derive(Drop)]
 pub struct TcpIncoming<S> {
-    pub(crate) stream: S,
+    pub(crate) stream: Option<S>,
     pub(crate) number: u64,
     pub(crate) faults: u64,
     pub(crate) ends: u64,
@@ -44,15 +46,24 @@ fn read_from<S: Read>(stream: &mut S, buf: &mut [u8]) -> Result<usize, Failed>
     Err(Failed)
 }
 
-impl<S: Read> Incoming for TcpIncoming<S> {
-    ghost told = { λ s. record { number = s.number; read = None; left = S.remaining s.stream; faults = s.faults; ends = s.ends } };
+impl<S: Read + LetGo> Incoming for TcpIncoming<S> {
+    ghost told = { λ s. record { number = s.number; read = None; left = None; faults = s.faults; ends = s.ends } };
 
     fn read(&mut self, buf: &mut [u8]) -> Result<usize, Failed> {
-        let read = read_from(&mut self.stream, buf);
+        let read = match &mut self.stream {
+            Some(stream) => read_from(stream, buf),
+            None => Ok(0),
+        };
         match read {
-            Ok(0) if !buf.is_empty() => self.ends = self.ends.saturating_add(1),
+            Ok(0) if !buf.is_empty() => {
+                self.ends = self.ends.saturating_add(1);
+                let_go(&mut self.stream);
+            }
             Ok(_) => {}
-            Err(_) => self.faults = self.faults.saturating_add(1),
+            Err(_) => {
+                self.faults = self.faults.saturating_add(1);
+                let_go(&mut self.stream);
+            }
         }
         read
     }

@@ -3,8 +3,10 @@
 
 mod door;
 mod incoming;
+mod letting_go;
 mod outgoing;
 
 pub use door::TcpHalvesDoor;
 pub use incoming::TcpIncoming;
+pub use letting_go::LetGo;
 pub use outgoing::TcpOutgoing;

@@ -2,16 +2,18 @@
 ghost use Rattle.std.specs.Prelude.{◌≡◌, ◌<◌, None, length, IfOk};
 ghost use Rattle.std.specs.Io.{WritesAtMost};
 
+use crate::letting_go::{LetGo, let_go};
 use std::io::{ErrorKind, Write};
 use std::net::{OpenStream, Shutdown};
 use xmpp_edge::Failed;
 use xmpp_halves::Outgoing;
 
 /// The half of a stream of the system to which bytes are written. It doesn't tell what was written. A call that was
-/// interrupted is tried again, each other error is a fault, and so is a write that takes none of the bytes it is given.
+/// interrupted is tried again, each other error is a fault, and so is a write that takes none of the bytes it is given, and
+/// each behind the link's end. Then the system's stream is let go, so that a link that is over holds no descriptor here.
 #[derive(Drop)]
 pub struct TcpOutgoing<S> {
-    pub(crate) stream: S,
+    pub(crate) stream: Option<S>,
     pub(crate) number: u64,
     pub(crate) faults: u64,
 }
@@ -31,11 +33,14 @@ fn write_to<S: Write>(stream: &mut S, bytes: &[u8]) -> Result<usize, Failed>
     Err(Failed)
 }
 
-impl<S: Write + OpenStream> Outgoing for TcpOutgoing<S> {
+impl<S: Write + OpenStream + LetGo> Outgoing for TcpOutgoing<S> {
     ghost told = { λ s. record { number = s.number; written = None; faults = s.faults } };
 
     fn write(&mut self, bytes: &[u8]) -> Result<usize, Failed> {
-        let written = write_to(&mut self.stream, bytes);
+        let written = match &mut self.stream {
+            Some(stream) => write_to(stream, bytes),
+            None => Err(Failed),
+        };
         if written.is_err() {
             self.faults = self.faults.saturating_add(1);
         }
@@ -44,6 +49,9 @@ impl<S: Write + OpenStream> Outgoing for TcpOutgoing<S> {
 
     fn close(&mut self) {
         // What was written still goes out. An error tells that the other end is gone.
-        let _ = self.stream.shutdown(Shutdown::Both);
+        if let Some(stream) = &self.stream {
+            let _ = stream.shutdown(Shutdown::Both);
+        }
+        let_go(&mut self.stream);
     }
 }

@@ -1,0 +1,21 @@
+//! Streams of the system that are let go.
+use std::net::TcpStream;
+
+/// A stream that can be let go: it holds no descriptor of the system then.
+pub trait LetGo {
+    /// Drops the stream.
+    fn let_go(self);
+}
+
+impl LetGo for TcpStream {
+    fn let_go(self) {
+        drop(self);
+    }
+}
+
+/// Lets a stream go, where there is one.
+pub(crate) fn let_go<S: LetGo>(stream: &mut Option<S>) {
+    if let Some(stream) = stream.take() {
+        stream.let_go();
+    }
+}
