@@ -1,5 +1,4 @@
 -- ---- rows
-pub mod Ordered
-pub mod RowsOrdered
+pub mod RowsPut
 -- ---- items and calls
 pub mod StepsOrdered

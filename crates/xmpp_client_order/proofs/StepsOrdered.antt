@@ -1,12 +1,12 @@
 -- Items, pieces of bytes and calls put in order.
-use Rattle.std.proofs.Common.{◌≡◌, ℕ, Bool, true, false, List, [], ◌∷◌, ◌++◌, codes, Option, Some, None, refl, sym, ap, ◌∙◌, subst, append_assoc, append-nil, if◌then◌else◌}
+use Rattle.std.proofs.Common.{◌≡◌, ℕ, Bool, true, false, List, [], ◌∷◌, ◌++◌, Option, Some, None, IfSome, Result, Ok, Err, inl, inr, refl, sym, ap, ◌∙◌, subst, append_assoc, append-nil, if◌then◌else◌}
+use Rattle.std.specs.List.{AllByRecursion}
 use Rattle.xmpp_client.specs.Feeds.{Fed, bytes_in, bytes_step, read, with_fault}
-use Rattle.xmpp_client.specs.Steps.{connected_step, element_row, item_step, items_run}
-use Rattle.xmpp_client.specs.UserCalls.{catches_up, catches_up_in, closes, dials, forgets, leaves, says, submission_of, submits}
-use Rattle.xmpp_client_order.proofs.Ordered.{Step, nothing_put, step_either}
-use Rattle.xmpp_client_order.proofs.RowsOrdered.{Asked, asked_same, begun_page_asked, binding_ordered, enabling_ordered, ends_ordered, features2_ordered, header_ordered, login_ordered, online_ordered, requested_asked, resuming_ordered}
+use Rattle.xmpp_client.specs.Steps.{connected_step, item_step, items_run}
+use Rattle.xmpp_client.specs.UserCalls.{catches_up, closes, dials, forgets, leaves, says}
+use Rattle.xmpp_client_login.specs.LoginRows as rows
+use Rattle.xmpp_client_order.proofs.RowsPut.{ArePut, Asked, IsOfOwn, Items, Step, catches_up_puts, connected_puts, says_puts}
 use Rattle.xmpp_client_order.specs.Order.{HasNoEnd, IsNoEnd, PutsHeader, PutsInOrder}
-use Rattle.xmpp_client_rows.specs.Clients.{Turn}
 use Rattle.xmpp_client_rows.specs.Speech.{in_items}
 use Rattle.xmpp_client_rows.specs.Turns.{ends, is_apart, is_online}
 use Rattle.xmpp_client_rows.specs.declared.events.PeerFault.TheVariants.{Framing}
@@ -15,33 +15,56 @@ use Rattle.xmpp_client_rows.specs.declared.phase.Phase.TheVariants as phase
 use Rattle.xmpp_framing.specs.States.{State}
 use Rattle.xmpp_framing.specs.declared.fault.Fault.{Fault}
 use Rattle.xmpp_framing.specs.declared.items.Item.{Item}
-use Rattle.xmpp_framing.specs.declared.items.Item.TheVariants.{Header, Element, Footer}
 use Rattle.xmpp_framing.specs.declared.states.Phase.{Phase}
 use Rattle.xmpp_framing.specs.declared.states.Phase.TheVariants as stream
-use Rattle.xmpp_outbox.specs.Sessions.{SessionView}
-use Rattle.xmpp_outbox.specs.Submissions.{said_of, with_said}
-use Rattle.xmpp_outbox.specs.declared.said.Said.{Said}
-use Rattle.xmpp_stanza.specs.Names.{streams_ns}
-use Rattle.xmpp_trees.specs.Readers.{is_named}
-use Rattle.xmpp_trees.specs.Trees.{Elem}
 use Rattle.xmpp_puts.specs.PutLists.{MayAll, phase_after}
+use Rattle.xmpp_scram.specs.Exchange.{ClientView as Exchange, begun_client}
+use Rattle.xmpp_scram.specs.declared.fault.ScramFault.{ScramFault}
 use Rattle.xmpp_writer.specs.Items.{Closing, ItemOut}
 use Rattle.xmpp_written.specs.Puts.{phase_behind}
 
-abbrev Items : Type 0
-Items = Turn ItemOut ItemOut
-
--- ---- steps, one behind the other
+-- ---- what the rows put
 
 unlike : (b : Bool) → b ≡ true → b ≡ false → ⊥
 unlike b is other = cc (sym is ∙ other)
 
--- where a connection stands it isn't silent
-pub while_connected : (t u : Items) → is_apart t.client.phase ≡ false → Step t u → PutsInOrder t u
-while_connected t u connected step =
-    record { more = step.more; put = step.put; may = step.may; stands = step.stands; silent = λ apart. absurd (unlike (is_apart t.client.phase) apart connected); queue = step.queue }
+own : IsOfOwn IsNoEnd
+own = record { element = λ e a b. refl; header = λ h. refl }
 
-pub silent_step : (t u : Items) → u.out.put ≡ t.out.put → HasNoEnd u.client.session → PutsInOrder t u
+begun : (r : Result Exchange ScramFault) → IfSome (rows.begun r).put IsNoEnd
+begun (Ok exchange) = refl
+begun (Err why) = tt
+
+may_all : (more : List ItemOut) → AllByRecursion IsNoEnd more → MayAll stream.Between more
+may_all [] h = tt
+may_all (item ∷ rest) h = (tt, subst (λ (p : Phase). MayAll p rest) (sym h.0) (may_all rest h.1))
+
+still_between : (more : List ItemOut) → AllByRecursion IsNoEnd more → phase_after stream.Between more ≡ stream.Between
+still_between [] h = refl
+still_between (item ∷ rest) h = subst (λ (p : Phase). phase_after p rest ≡ stream.Between) (sym h.0) (still_between rest h.1)
+
+may_put : (apart : Bool) (more : List ItemOut) → ArePut IsNoEnd apart more → MayAll stream.Between more
+may_put apart more (inl each) = may_all more each
+may_put apart more (inr last) = subst (MayAll stream.Between) (sym last.1) (tt, subst (λ (p : Phase). MayAll p (Closing ∷ [])) (sym last.2) (tt, tt))
+
+stands_put : (apart : Bool) (more : List ItemOut) → ArePut IsNoEnd apart more → apart ≡ false → phase_after stream.Between more ≡ stream.Between
+stands_put apart more (inl each) stands = still_between more each
+stands_put apart more (inr last) stands = absurd (unlike apart last.3 stands)
+
+-- ---- steps, one behind the other
+
+-- where a connection stands it isn't silent
+while_connected : (t u : Items) → is_apart t.client.phase ≡ false → Step IsNoEnd t u → PutsInOrder t u
+while_connected t u connected step = record {
+  more = step.more;
+  put = step.put;
+  may = may_put (is_apart u.client.phase) step.more step.each;
+  stands = stands_put (is_apart u.client.phase) step.more step.each;
+  silent = λ apart. absurd (unlike (is_apart t.client.phase) apart connected);
+  queue = step.queue;
+}
+
+silent_step : (t u : Items) → u.out.put ≡ t.out.put → HasNoEnd u.client.session → PutsInOrder t u
 silent_step t u same queue = record { more = []; put = same ∙ sym (append-nil t.out.put); may = tt; stands = λ e. refl; silent = λ apart. refl; queue = queue }
 
 may_join : (p : Phase) (xs ys : List ItemOut) → MayAll p xs → MayAll (phase_after p xs) ys → MayAll p (xs ++ ys)
@@ -84,26 +107,12 @@ joins t u v a b =
 
 -- ---- items
 
-element_ordered : (t : Items) (p : client.Phase) (e : Elem) → HasNoEnd t.client.session → Step t (element_row in_items t p e)
-element_ordered t phase.Apart e h = nothing_put t t refl h
-element_ordered t (phase.Login s) e h = login_ordered t s e h
-element_ordered t phase.Features2 e h = features2_ordered t e h
-element_ordered t phase.Resuming e h = resuming_ordered t e h
-element_ordered t phase.Binding e h = binding_ordered t e h
-element_ordered t phase.Enabling e h = enabling_ordered t e h
-element_ordered t phase.Online e h = online_ordered t t.client.session e h h
-
-connected_ordered : (t : Items) (item : Item) → HasNoEnd t.client.session → Step t (connected_step in_items t item)
-connected_ordered t (Header at header) h = header_ordered t t.client.phase h
-connected_ordered t (Element e) h = step_either t (is_named streams_ns (codes "error") e) _ _ (ends_ordered t _ h) (element_ordered t t.client.phase e h)
-connected_ordered t Footer h = ends_ordered t _ h
-
 item_follows : (t : Items) (item : Item) → HasNoEnd t.client.session → Follows t (item_step in_items t item)
 item_follows t item h = by_case (is_apart t.client.phase) refl
   where
     by_case : (b : Bool) → is_apart t.client.phase ≡ b → Follows t (if b then t else connected_step in_items t item)
     by_case true is = record { puts = silent_step t t refl h; apart = λ e. e }
-    by_case false is = record { puts = while_connected t (connected_step in_items t item) is (connected_ordered t item h); apart = λ e. absurd (unlike (is_apart t.client.phase) e is) }
+    by_case false is = record { puts = while_connected t (connected_step in_items t item) is (connected_puts IsNoEnd own t item (λ nonce at. begun (begun_client t.client.account.login.name t.client.account.login.password nonce)) h); apart = λ e. absurd (unlike (is_apart t.client.phase) e is) }
 
 items_follow : (items : List Item) (t : Items) → HasNoEnd t.client.session → Follows t (items_run in_items t items)
 items_follow [] t h = record { puts = silent_step t t refl h; apart = λ e. e }
@@ -172,23 +181,20 @@ apart_offline phase.Binding e = absurd (cc e)
 apart_offline phase.Enabling e = absurd (cc e)
 apart_offline phase.Online e = absurd (cc e)
 
-as_asked : (t u : Items) → Asked t u → PutsInOrder t u
+as_asked : (t u : Items) → Asked IsNoEnd t u → PutsInOrder t u
 as_asked t u asked =
     let step = asked.step in
-    record { more = step.more; put = step.put; may = step.may; stands = step.stands; silent = λ e. asked.quiet (apart_offline t.client.phase e); queue = step.queue }
-
-submitted_ordered : (t : Items) (o : Option (SessionView ItemOut)) (item : ItemOut) (said : Said) → HasNoEnd t.client.session → HasNoEnd o → IsNoEnd item → PutsInOrder t (submits in_items t o item said)
-submitted_ordered t None item said h of one = silent_step t t refl h
-submitted_ordered t (Some s) item said h of one =
-    let now = record t { client = record t.client { n = said.n; said = with_said t.client.said said } } in
-    as_asked t _ (asked_same t now _ refl refl (requested_asked now s item true of one))
+    record {
+      more = step.more;
+      put = step.put;
+      may = may_put (is_apart u.client.phase) step.more step.each;
+      stands = stands_put (is_apart u.client.phase) step.more step.each;
+      silent = λ e. asked.quiet (apart_offline t.client.phase e);
+      queue = step.queue;
+    }
 
 pub says_ordered : (t : Items) (to text : List ℕ) (private : Bool) → HasNoEnd t.client.session → PutsInOrder t (says in_items t to text private)
-says_ordered t to text private h = submitted_ordered t t.client.session (submission_of t.client to text private) (said_of t.client.epoch t.client.n to text private) h h refl
-
-asked_ordered : (t : Items) (o : Option (SessionView ItemOut)) (max : ℕ) → HasNoEnd t.client.session → HasNoEnd o → PutsInOrder t (catches_up_in in_items t o max)
-asked_ordered t None max h of = silent_step t t refl h
-asked_ordered t (Some s) max h of = as_asked t _ (begun_page_asked t s max of)
+says_ordered t to text private h = as_asked t _ (says_puts IsNoEnd own t to text private h refl)
 
 pub catches_up_ordered : (t : Items) (max : ℕ) → HasNoEnd t.client.session → PutsInOrder t (catches_up in_items t max)
-catches_up_ordered t max h = asked_ordered t t.client.session max h h
+catches_up_ordered t max h = as_asked t _ (catches_up_puts IsNoEnd own t max h)

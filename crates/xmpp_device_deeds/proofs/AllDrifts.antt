@@ -17,7 +17,7 @@ reaches_both (x ∷ xs) ys w mid last (next, by, along) more = (next, by, reache
 pub spoken_both : (xs ys : List Event) → spoken_in (xs ++ ys) ≡ spoken_in xs ++ spoken_in ys
 spoken_both xs ys = flat_map-append spoken_by xs ys
 
-drifts_silent : (i : ℕ) (xs : List Drift) → spoken_in (drift_events i xs) ≡ []
+pub drifts_silent : (i : ℕ) (xs : List Drift) → spoken_in (drift_events i xs) ≡ []
 drifts_silent i [] = refl
 drifts_silent i (Binds ∷ xs) = drifts_silent i xs
 drifts_silent i (Counts ∷ xs) = drifts_silent i xs

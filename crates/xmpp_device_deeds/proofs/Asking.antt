@@ -37,7 +37,7 @@ use Rattle.xmpp_device_deeds.specs.Told.{IsCatchingUp, SameSaid, next_request}
 use Rattle.xmpp_writer.specs.Items.{ItemOut}
 use Rattle.xmpp_device_deeds.proofs.Saying.{next_is}
 
-last_behind : (a : List ℕ) (n : ℕ) (b : List ℕ) → last_in (a ++ n ∷ b) ≡ last_in (n ∷ b)
+pub last_behind : (a : List ℕ) (n : ℕ) (b : List ℕ) → last_in (a ++ n ∷ b) ≡ last_in (n ∷ b)
 last_behind [] n b = refl
 last_behind (m ∷ []) n b = refl
 last_behind (m ∷ k ∷ a) n b = last_behind (k ∷ a) n b

@@ -9,7 +9,7 @@ use Rattle.xmpp_sessions.specs.Devices.{Present, Sessions}
 use Rattle.xmpp_sessions.specs.Events.{put_down}
 
 -- a device without a live session of its present epoch gets none by drifting
-stays_away : (xs : List Drift) (d there : Sessions) → Drifts xs d there → d.row ≢ Present → there.row ≢ Present
+pub stays_away : (xs : List Drift) (d there : Sessions) → Drifts xs d there → d.row ≢ Present → there.row ≢ Present
 stays_away [] d there same away = λ e. away (ap (λ (s : Sessions). s.row) (sym same) ∙ e)
 stays_away (Binds ∷ xs) d there by away = stays_away xs (drifted Binds d) there by.1 (λ e. cc)
 stays_away (Counts ∷ xs) d there by away = absurd (away (enable_at d by.0).0)

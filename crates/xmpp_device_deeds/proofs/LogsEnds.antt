@@ -1,9 +1,9 @@
 -- A page whose end came is taken over, and behind one that isn't the last the next one is asked for.
-use Rattle.std.proofs.Common.{◌≡◌, ℕ, suc, ◌+◌, ◌-◌, ◌<◌, ◌^◌, ◌==◌, Bool, true, false, ◌&&◌, ◌||◌, not, if◌then◌else◌, List, [], ◌∷◌, ◌++◌, length, Option, Some, Ok, refl, sym, ap, ap₂, subst, ◌∙◌, append_assoc, append-nil, arith}
+use Rattle.std.proofs.Common.{◌≡◌, ℕ, ◌+◌, ◌<◌, ◌^◌, ◌==◌, Bool, true, false, ◌&&◌, ◌||◌, not, if◌then◌else◌, List, [], ◌∷◌, ◌++◌, Option, Some, Ok, refl, sym, ap, ap₂, subst, ◌∙◌, append_assoc, append-nil, arith}
 use Rattle.std.proofs.lemmas.Bool.{and_parts, false≢true}
 use Rattle.std.proofs.lemmas.List.Concat.{flat_map-append}
 use Rattle.std.proofs.lemmas.Option.{none-some, same_Some}
-use Rattle.std.specs.List.{AllByRecursion, flat_map, slice_get}
+use Rattle.std.specs.List.{AllByRecursion, flat_map}
 use Rattle.std.specs.Option.{IfSome, option_map}
 use Rattle.std.specs.Result.{result_ok}
 use Rattle.xmpp_archive.specs.Entries.{EntryView}
@@ -15,11 +15,13 @@ use Rattle.xmpp_client_rows.specs.Turns.{ends, tells, with_log}
 use Rattle.xmpp_client_rows.specs.declared.events.Event.TheVariants.{PageDone}
 use Rattle.xmpp_client_rows.specs.declared.events.PeerFault.TheVariants.{Unacknowledged}
 use Rattle.xmpp_device_views.specs.Reading.{turn_on}
+use Rattle.xmpp_item_stanzas.proofs.PagesDown.{last_place}
 use Rattle.xmpp_item_stanzas.specs.Meant.{Fits, IsEntryNumber}
 use Rattle.xmpp_item_worlds.specs.ItemWorlds.{ItemDevice}
 use Rattle.xmpp_log.specs.LogPages.{last_id}
 use Rattle.xmpp_log.specs.Views.{LogView, after_fin, outcome_of, with_begun}
 use Rattle.xmpp_log.specs.declared.fin.PageOutcome.TheVariants.{Complete, More}
+use Rattle.xmpp_device_deeds.proofs.Asking.{last_behind as last_append}
 use Rattle.xmpp_device_deeds.proofs.LogReadingsEnds.{ends_well, over_shows}
 use Rattle.xmpp_device_deeds.proofs.Entries.{last_at}
 use Rattle.xmpp_device_deeds.proofs.LogReadingsSteps.{begun_shows}
@@ -54,11 +56,6 @@ use Rattle.xmpp_writer.specs.Items.{ItemOut, Whole}
 
 -- ---- what is read of an end
 
-last_place : (ns : List ℕ) → slice_get ns (length ns - 1) ≡ last_in ns
-last_place [] = refl
-last_place (n ∷ []) = refl
-last_place (n ∷ m ∷ ns) = (let whole : length (n ∷ m ∷ ns) - 1 ≡ suc (length (m ∷ ns) - 1) = omega arith in ap (slice_get (n ∷ m ∷ ns)) whole ∙ last_place (m ∷ ns))
-
 abbrev end : List ℕ → ℕ → ℕ → Bool → Fin
 end ns index count complete = fin_of (record { numbers = ns; first_index = index; count = count; complete = complete })
 
@@ -81,11 +78,6 @@ last_fits (n ∷ []) all k is = subst (λ m. m < 2 ^ 64) (same_Some n k is) all.
 last_fits (n ∷ m ∷ ns) all k is = last_fits (m ∷ ns) all.1 k is
 
 -- ---- the reading behind the page
-
-last_append : (xs : List ℕ) (y : ℕ) (ys : List ℕ) → last_in (xs ++ y ∷ ys) ≡ last_in (y ∷ ys)
-last_append [] y ys = refl
-last_append (x ∷ []) y ys = refl
-last_append (x ∷ w ∷ xs) y ys = last_append (w ∷ xs) y ys
 
 last_behind : (xs ys : List ℕ) → not (is_empty ys) ≡ true → last_in (xs ++ ys) ≡ last_in ys
 last_behind xs [] some = absurd (false≢true some)

@@ -28,7 +28,7 @@ named_among name (other ∷ names) all is = by (bytes_eq name other) refl (named
     by true same later is = subst (λ n. is_name n ≡ true) (sym ((bytes_eq-Decides name other).0 same)) all.0
     by false differs later is = later is
 
-named_at : (owned : List Owned) (i : ℕ) (o : Owned) → AllByRecursion IsNamed owned → slice_get owned i ≡ Some o → IsNamed o
+pub named_at : (owned : List Owned) (i : ℕ) (o : Owned) → AllByRecursion IsNamed owned → slice_get owned i ≡ Some o → IsNamed o
 named_at [] i o all there = absurd (none-some o there)
 named_at (p ∷ owned) zero o all there = subst IsNamed (same_Some p o there) all.0
 named_at (p ∷ owned) (suc i) o all there = named_at owned i o all.1 there

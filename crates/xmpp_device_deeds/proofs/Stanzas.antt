@@ -1,5 +1,6 @@
 -- Stanzas are read as they were built, whatever they contain.
-use Rattle.std.proofs.Common.{◌≡◌, ℕ, List, [], ◌∷◌, Option, Some, None, Ok, refl, sym, ◌∙◌, ap, unwrap_or, subst}
+use Rattle.std.proofs.Common.{◌≡◌, ℕ, List, [], Option, Some, None, Ok, refl, sym, ◌∙◌, ap, unwrap_or, subst}
+use Rattle.xmpp_item_stanzas.proofs.ItemsUp.{empty_again}
 use Rattle.xmpp_stanza.proofs.KindLemmas.{message_reads, no_kind_is, spelled_is}
 use Rattle.xmpp_stanza.proofs.ReadingLaws.{iq_law, message_law}
 use Rattle.xmpp_stanza.proofs.WrittenAttrs.{from_written, id_written, lang_written, to_written, type_written}
@@ -19,10 +20,6 @@ normal_address (Some form) h = (form, h, refl)
 
 pub address_again : (given address : Option (List ℕ)) → given ≡ address → IsNormal address → IsAddressOf given address
 address_again given address is h = subst (λ o. IsAddressOf o address) (sym is) (normal_address address h)
-
-pub empty_again : (t : List ℕ) → unwrap_or (unless_empty t) [] ≡ t
-empty_again [] = refl
-empty_again (c ∷ cs) = refl
 
 text_again : (given : Option (List ℕ)) (t : List ℕ) → given ≡ unless_empty t → t ≡ unwrap_or given []
 text_again given t is = sym (ap (λ o. unwrap_or o []) is ∙ empty_again t)

@@ -16,13 +16,9 @@ use Rattle.xmpp_replies.specs.declared.conditions.StreamCondition.TheVariants.{R
 use Rattle.xmpp_item_images.proofs.CalmRows.{Calm, calm}
 use Rattle.xmpp_item_images.proofs.Falls.{Falls, both, changed_falls, conn_falls, ended_falls, no_fall, off, refocus, shut_falls, then_falls}
 use Rattle.xmpp_item_images.proofs.MomentsFall.{other_is}
-use Rattle.xmpp_item_images.proofs.RuleKept.{Keeps}
+use Rattle.xmpp_item_images.proofs.RuleKept.{Keeps, was_found}
 use Rattle.xmpp_item_images.specs.Unbound.{IsOrdered}
 use Rattle.xmpp_writer.specs.Items.{ItemOut}
-
-was_so : {S T : Type 0} (g : S → T) (o : Option S) (t : T) → option_map g o ≡ Some t → (s : S) × (o ≡ Some s) × (g s ≡ t)
-was_so g None t is = absurd (let no_way : ⊥ = cc in no_way)
-was_so g (Some s) t is = (s, refl, same_Some (g s) t is)
 
 module _ {A : Type 0} (say : ItemOut → A) (x : ℕ → Bool) where
   abbrev Fall : Hall A → Step A → Type 0
@@ -70,7 +66,7 @@ module _ {A : Type 0} (say : ItemOut → A) (x : ℕ → Bool) where
 
   overflow_falls : (n : ℕ) (t : Told) (s : Step A) → told_of n s.hall.sessions ≡ Some t → IsOrdered s.hall → Fall s.hall (overflow say n t s)
   overflow_falls n t s it is =
-      let was = was_so told (session_of n s.hall.sessions) t it in
+      let was = was_found told (session_of n s.hall.sessions) t it in
       let conn : was.0.shown.conn ≡ t.conn = ap (λ (u : Told). u.conn) was.2 in
       part_falls t.conn (say (error_item ResourceConstraint)) s.hall (in_sessions (without n) s)
       (ended_falls x (both x (off t.conn)) n s.hall was.0 was.1 (λ j yes'. let parts = and_parts (x j) (off t.conn j) yes' in (parts.0, subst (λ c. off c j ≡ true) (sym conn) parts.1)) is)

@@ -1,6 +1,7 @@
 -- A connection has one session at most.
 use Rattle.std.proofs.Common.{◌≡◌, ◌==◌, ℕ, Bool, true, false, cond, not, List, [], ◌∷◌, ◌++◌, Option, Some, None, refl, sym, ap, ◌∙◌}
 use Rattle.std.proofs.lemmas.Bool.{eq-eqb, eqb-true}
+use Rattle.std.proofs.lemmas.Option.{none-some, same_Some}
 use Rattle.std.specs.List.{AllByRecursion, filter, find}
 use Rattle.xmpp_item_images.proofs.ConnsKept.{all_filtered}
 use Rattle.xmpp_item_images.specs.Stands.{Alone, Apart}
@@ -10,12 +11,6 @@ use Rattle.xmpp_writer.specs.Items.{ItemOut}
 
 abbrev Sessions : Type 0
 Sessions = List (Session ItemOut)
-
-some_is : {T : Type 0} (x y : T) → Some x ≡ Some y → x ≡ y
-some_is x y e = cc
-
-none_is_not : {T : Type 0} (x : T) → None ≡ Some x → ⊥
-none_is_not x e = cc
 
 pub alone_filtered : (q : Session ItemOut → Bool) (l : Sessions) → Alone l → Alone (filter q l)
 alone_filtered q [] a = tt
@@ -56,8 +51,8 @@ abbrev pub NoneAt : ℕ → Sessions → Type 0
 NoneAt k l = AllByRecursion (λ (t : Session ItemOut). is_at k t ≡ false) l
 
 not_there : (k : ℕ) (o : Option ℕ) → is_some_number k o ≡ false → o ≡ Some k → ⊥
-not_there k None apart is = none_is_not k is
-not_there k (Some q) apart is = true_is_not (sym (eq-eqb q k (some_is q k is)) ∙ apart)
+not_there k None apart is = none-some k is
+not_there k (Some q) apart is = true_is_not (sym (eq-eqb q k (same_Some q k is)) ∙ apart)
   where
     true_is_not : true ≡ false → ⊥
     true_is_not e = cc
@@ -67,7 +62,7 @@ joins k x [] is none a = (tt, tt)
 joins k x (t ∷ l) is none a = (more l a.0, joins k x l is none.1 a.1)
   where
     more : (l : Sessions) → AllByRecursion (Apart t) l → AllByRecursion (Apart t) (l ++ x ∷ [])
-    more [] all = ((λ q tc xc. absurd (not_there k t.shown.conn none.0 (tc ∙ ap Some (some_is q k (sym xc ∙ is))))), tt)
+    more [] all = ((λ q tc xc. absurd (not_there k t.shown.conn none.0 (tc ∙ ap Some (same_Some q k (sym xc ∙ is))))), tt)
     more (u ∷ l) all = (all.0, more l all.1)
 
 pub none_less : (k : ℕ) (o : Option (Session ItemOut)) (l : Sessions) → NoneAt k l → NoneAt k (less o l)
@@ -112,5 +107,5 @@ all_apart q [] none = tt
 all_apart q (x ∷ l) none = by (all_apart q l) (q x) refl none
   where
     by : (find q l ≡ None → AllByRecursion (λ u. q u ≡ false) l) → (b : Bool) → q x ≡ b → cond b (Some x) (find q l) ≡ None → AllByRecursion (λ u. q u ≡ false) (x ∷ l)
-    by rest true e none = absurd (none_is_not x (sym none))
+    by rest true e none = absurd (none-some x (sym none))
     by rest false e none = (e, rest none)

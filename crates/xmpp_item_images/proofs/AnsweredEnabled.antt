@@ -1,5 +1,5 @@
 -- The id of a session that the server names can be answered.
-use Rattle.std.proofs.Common.{◌≡◌, ℕ, Bool, true, false, List, [], ◌∷◌, codes, Option, Some, None, Result, Ok, refl, sym, subst, arith}
+use Rattle.std.proofs.Common.{◌≡◌, ℕ, Bool, true, false, List, [], ◌∷◌, codes, Option, Some, None, Ok, refl, sym, subst, arith}
 use Rattle.xmpp_basis.proofs.HexDigits.{length-hex16_of}
 use Rattle.xmpp_basis.specs.Hexadecimal.{hex16_of}
 use Rattle.xmpp_item_images.proofs.AnsweredItems.{no_challenge, no_message, no_request}
@@ -13,26 +13,21 @@ use Rattle.xmpp_ext.specs.StreamManagement.{enabled_elem}
 use Rattle.xmpp_ext.specs.declared.stream_management.Enabled.{Enabled}
 use Rattle.xmpp_item_worlds.specs.ItemWorlds.{itself}
 use Rattle.xmpp_live.specs.declared.told.Told.{Told}
-use Rattle.xmpp_payload.specs.Readings.{where_this}
 use Rattle.xmpp_payload.specs.Shapes.{attr_or_empty}
-use Rattle.xmpp_payload.specs.declared.fault.ExtFault.{ExtFault}
 use Rattle.xmpp_requests_fit.specs.Bounds.{IsTextWithin, most_id}
+use Rattle.xmpp_server_fits.proofs.Readings.{this_is}
 use Rattle.xmpp_session_rows.specs.Managements.{at_enable, enabled_as}
 use Rattle.xmpp_sizes.proofs.Characters.{printable_characters}
 use Rattle.xmpp_sizes.proofs.Numerals.{said_hex}
 use Rattle.xmpp_stanza.specs.declared.conditions.Condition.TheVariants.{UnexpectedRequest}
 use Rattle.xmpp_trees.specs.Trees.{Elem}
 
-this_is : {V : Type 0} (b : Bool) (r : Result V ExtFault) (v : V) → where_this b r ≡ Ok v → r ≡ Ok v
-this_is true r v is = is
-this_is false r v is = absurd cc
-
 with_is : (e : Elem) (o : Option (Option ℕ)) (v : Enabled) → enabled_with e o ≡ Ok v → attr_or_empty (codes "id") e ≡ v.id
 with_is e None v is = absurd cc
 with_is e (Some max) v is = cc
 
 session_answers : (e : Elem) (v : Enabled) → IsTextWithin most_id (attr_or_empty (codes "id") e) → enabled_read e ≡ Ok v → IsTextWithin most_id v.id
-session_answers e v short is = subst (IsTextWithin most_id) (with_is e _ v (this_is _ _ v is)) short
+session_answers e v short is = subst (IsTextWithin most_id) (with_is e _ v (this_is _ _ v is).1) short
 
 resumable_id : (id : List ℕ) (seconds : ℕ) → attr_or_empty (codes "id") (enabled_elem (record { id = id; resume = true; max = Some seconds })) ≡ id
 resumable_id [] seconds = refl

@@ -2,7 +2,7 @@
 use Rattle.std.proofs.Common.{◌≡◌, ℕ, Bool, true, false, List, [], ◌∷◌, ◌++◌, codes, bytes_eq, Option, Some, None, Result, Ok, refl, sym, ap, ◌∙◌, inl, inr}
 use Rattle.std.proofs.lemmas.Bool.{cases_Bool}
 use Rattle.std.proofs.lemmas.Slice.Eq.{bytes_eq-Decides}
-use Rattle.std.proofs.lemmas.Option.{same_Some}
+use Rattle.std.proofs.lemmas.Option.{none-some, same_Some}
 use Rattle.xmpp_archive.specs.Ids.{id_of}
 use Rattle.xmpp_client_fits.specs.Answerable.{IsAnswerable}
 use Rattle.xmpp_item_images.proofs.MildItems.{not_named, other_first, unlike}
@@ -79,13 +79,10 @@ message_answers e a c d short = record {
   challenge = λ payload is. absurd (no_challenge e d payload is);
 }
 
-none_is_not : {A : Type 0} (x : A) → None ≡ Some x → ⊥
-none_is_not x e = cc
-
 -- one without a result
 pub plain_message : (e : Elem) → bytes_eq (name_of e) (codes "iq") ≡ false → bytes_eq (name_of e) (codes "enabled") ≡ false → bytes_eq (name_of e) (codes "challenge") ≡ false
     → first_named archive (codes "result") (nodes_of e) ≡ None → IsAnswerable e
-plain_message e a c d none = message_answers e a c d (λ given r found reads. absurd (none_is_not given (sym none ∙ found)))
+plain_message e a c d none = message_answers e a c d (λ given r found reads. absurd (none-some given (sym none ∙ found)))
 
 -- ---- a message as it is passed on has no result where it came without one
 
@@ -93,7 +90,7 @@ joined_none : (ks more : Nodes) → first_named archive (codes "result") ks ≡ 
 joined_none no_nodes more h k = k
 joined_none (text t rest) more h k = joined_none rest more h k
 joined_none (child e rest) more h k = elim (cases_Bool (is_named archive (codes "result") e)) [
-  | inl b ↦ absurd (none_is_not e (sym h ∙ rw b refl))
+  | inl b ↦ absurd (none-some e (sym h ∙ rw b refl))
   | inr b ↦ rw b (joined_none rest more (rw b at h) k)
 ]
 
@@ -105,7 +102,7 @@ kept_none : (by : List ℕ) (ks : Nodes) → first_named archive (codes "result"
 kept_none by no_nodes h = refl
 kept_none by (text t rest) h = kept_none by rest h
 kept_none by (child e rest) h = elim (cases_Bool (is_named archive (codes "result") e)) [
-  | inl b ↦ absurd (none_is_not e (sym h ∙ rw b refl))
+  | inl b ↦ absurd (none-some e (sym h ∙ rw b refl))
   | inr b ↦
       let more = kept_none by rest (rw b at h) in
       elim (cases_Bool (is_given_by by e)) [ inl g ↦ rw g more | inr g ↦ rw (g, b) more ]
@@ -115,7 +112,7 @@ runs_none : (run : List ℕ) (ks : Nodes) → first_named archive (codes "result
 runs_none run no_nodes h = text_none run
 runs_none run (text t rest) h = runs_none (run ++ t) rest h
 runs_none run (child e rest) h = joined_none (text_node run) (child e (texts_joined [] rest)) (text_none run) (elim (cases_Bool (is_named archive (codes "result") e)) [
-  | inl b ↦ absurd (none_is_not e (sym h ∙ rw b refl))
+  | inl b ↦ absurd (none-some e (sym h ∙ rw b refl))
   | inr b ↦ rw b (runs_none [] rest (rw b at h))
 ])
 

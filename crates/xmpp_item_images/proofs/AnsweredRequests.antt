@@ -26,13 +26,13 @@ use Rattle.xmpp_pages.specs.Cuts.{CutView}
 use Rattle.xmpp_pages.specs.Kept.{kept_by}
 use Rattle.xmpp_pages.specs.PageOf.{page_of}
 use Rattle.xmpp_payload.specs.Names.{archive}
-use Rattle.xmpp_payload.specs.Readings.{where_this}
 use Rattle.xmpp_payload.specs.Shapes.{attr_or_empty}
 use Rattle.xmpp_payload.specs.declared.fault.ExtFault.{ExtFault}
 use Rattle.xmpp_request_rows.specs.Requests.{answering_iq, asker_of, envelope_of, info_item, paging, querying_in, sending_entries, sending_entry, serving}
 use Rattle.xmpp_request_rows.specs.declared.request.Request.{Request}
 use Rattle.xmpp_request_rows.specs.declared.request.Request.TheVariants as request
 use Rattle.xmpp_requests_fit.specs.Bounds.{IsTextWithin, most_id}
+use Rattle.xmpp_server_fits.proofs.Readings.{this_is}
 use Rattle.xmpp_sizes.proofs.Numerals.{said_hex}
 use Rattle.xmpp_stanza.specs.Views.{IqView}
 use Rattle.xmpp_trees.specs.Readers.{first_named, is_named}
@@ -48,10 +48,6 @@ with_id : (queryid id : List ℕ) (x : Result Forwarded ExtFault) (r : MamResult
 with_id queryid id (Ok f) r is = cc
 with_id queryid id (Err why) r is = absurd cc
 
-this_is : {V : Type 0} (b : Bool) (r : Result V ExtFault) (v : V) → where_this b r ≡ Ok v → r ≡ Ok v
-this_is true r v is = is
-this_is false r v is = absurd cc
-
 is_result_named : (e : Elem) → bytes_eq (namespace_of e) archive ≡ true → bytes_eq (name_of e) (codes "result") ≡ true → first_named archive (codes "result") (child e no_nodes) ≡ Some e
 is_result_named e a b = rw (a, b) refl
 
@@ -61,7 +57,7 @@ entry_answers a e = message_answers (entry_elem a e) refl refl refl (λ given r 
     let one = archived_result a.queryid e in
     let queryid = attr_or_empty (codes "queryid") one in
     let inside = forward_read None (the_forwarded one) in
-    let read = this_is (is_named archive (codes "result") one) (result_with queryid (Some (id_of e.number)) inside) r (ap result_read same ∙ reads) in
+    let read = (this_is (is_named archive (codes "result") one) (result_with queryid (Some (id_of e.number)) inside) r (ap result_read same ∙ reads)).1 in
     subst (IsTextWithin most_id) (with_id queryid (id_of e.number) inside r read) (id_within e.number))
 
 -- ---- requests

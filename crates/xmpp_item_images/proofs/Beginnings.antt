@@ -1,6 +1,7 @@
 -- Where the server awaits the first header of a connection, that comes next, or nothing comes any more.
 use Rattle.std.proofs.Common.{◌≡◌, ℕ, zero, suc, ◌<◌, Bool, true, false, cond, List, [], ◌∷◌, ◌++◌, Option, Some, None, take, length, refl, sym, ap, subst, ◌∙◌, inl, inr, arith}
 use Rattle.std.proofs.lemmas.Bool.{cases_eq}
+use Rattle.std.proofs.lemmas.Option.{none-some, same_Some}
 use Rattle.std.specs.List.{slice_get}
 use Rattle.std.specs.Option.{option_map}
 use Rattle.xmpp_desk.specs.State.{Hall, Out, Put, Shut, Took, is_number}
@@ -15,12 +16,6 @@ use Rattle.xmpp_wires.specs.Places.{changed_at, changed_where}
 use Rattle.xmpp_world.specs.Worlds.{number_at}
 use Rattle.xmpp_writer.specs.Items.{Closing, ItemOut, Opening, Whole}
 use Rattle.xmpp_written.specs.Puts.{phase_behind}
-
-some_is : {T : Type 0} (x y : T) → Some x ≡ Some y → x ≡ y
-some_is x y e = cc
-
-none_is_not : {T : Type 0} (x : T) → None ≡ Some x → ⊥
-none_is_not x e = cc
 
 -- ---- one pipe
 
@@ -67,8 +62,8 @@ begun_headed n p (inr over) = subst IsHeaded (sym (ap (take n) over.0 ∙ take_n
 -- ---- connections
 
 mapped_is : (g : ItemWire → ItemWire) (o : Option ItemWire) (p : ItemWire) → option_map g o ≡ Some p → (x : ItemWire) × (o ≡ Some x) × (g x ≡ p)
-mapped_is g None p e = absurd (none_is_not p e)
-mapped_is g (Some x) p e = (x, refl, some_is (g x) p e)
+mapped_is g None p e = absurd (none-some p e)
+mapped_is g (Some x) p e = (x, refl, same_Some (g x) p e)
 
 -- one of them changes, and the server awaits no other first headers
 pub begins_at : (ws : List ItemWire) (h h' : Hall ItemOut) (q : ℕ) (g : ItemWire → ItemWire) → ((x : ItemWire) → IsBegun x.up → IsBegun (g x).up)
@@ -109,5 +104,5 @@ first_before Fits j (Shut k ∷ outs) now later order first = by (λ n o. first_
   where
     by : ((n : Option Phase) → AreInOrder Fits j n outs later → n ≡ Some phase.First) → (b : Bool) → AreInOrder Fits j (behind_shut b now) outs later → now ≡ Some phase.First
     by more false rest = more now rest
-    by more true rest = absurd (none_is_not phase.First (more None rest))
+    by more true rest = absurd (none-some phase.First (more None rest))
 first_before Fits j (Took from to origin ∷ outs) now later order first = first_before Fits j outs now later order first

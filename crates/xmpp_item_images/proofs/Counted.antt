@@ -2,25 +2,17 @@
 use Rattle.std.proofs.Common.{◌≡◌, ◌≢◌, ℕ, ◌+◌, ◌<◌, ◌≤◌, ◌==◌, Bool, true, false, cond, List, [], ◌∷◌, Some, length, refl, sym, ap, ◌∙◌, inl, inr, arith}
 use Rattle.std.proofs.lemmas.Bool.{cases_Bool, cases_lt, eq-eqb, false≢true, lt-ltb, le-ltb}
 use Rattle.std.proofs.lemmas.Map.{keys-set_value}
-use Rattle.std.proofs.lemmas.Map.Lookups.{exact_unsigned}
 use Rattle.std.specs.BTreeMap.{insert_entry}
 use Rattle.std.specs.List.{AllByRecursion, filter}
 use Rattle.std.specs.List.Sorted.{IsStrictlySortedBy}
 use Rattle.std.specs.Map.{keys_of, lookup, remove_entry, set_value}
-use Rattle.std.specs.Ordering.{is_eq, match_ordering, nat_cmp}
+use Rattle.std.specs.Ordering.{match_ordering, nat_cmp}
 use Rattle.std.specs.declared.cmp.Ordering.{Ordering}
 use Rattle.std.specs.declared.cmp.Ordering.TheVariants.{Equal, Greater, Less}
 use Rattle.xmpp_desk.specs.State.{is_number}
+use Rattle.xmpp_item_images.proofs.Lookups.{number_is}
 
 -- ---- numbers
-
-equal_is : (o : Ordering) → is_eq o ≡ true → o ≡ Equal
-equal_is Less h = absurd (false≢true h)
-equal_is Equal h = refl
-equal_is Greater h = absurd (false≢true h)
-
-pub number_is : (k j : ℕ) → is_number k j ≡ true → k ≡ j
-number_is k j is = exact_unsigned k j (equal_is (nat_cmp k j) is)
 
 less_is : (a b : ℕ) → nat_cmp a b ≡ Less → a < b
 less_is a b is = elim (cases_lt a b) [
@@ -84,15 +76,11 @@ both_pass p q k ks js implies rest =
 abbrev pub Ascend : {X : Type 0} → List (ℕ × X) → Type 0
 Ascend es = IsStrictlySortedBy nat_cmp (keys_of es)
 
-pub none_ascend : IsStrictlySortedBy nat_cmp []
-unfolding IsStrictlySortedBy
-none_ascend = tt
-
 module _ {X : Type 0} where
   pub key_set : (k : ℕ) (es : List (ℕ × X)) (c : X) → keys_of (set_value (is_number k) es c) ≡ keys_of es
   key_set k es c = keys-set_value (is_number k) es c
 
-  all_removed : (P : ℕ → Type 0) (test : ℕ → Bool) (es : List (ℕ × X)) → AllByRecursion P (keys_of es) → AllByRecursion P (keys_of (remove_entry test es))
+  pub all_removed : (P : ℕ → Type 0) (test : ℕ → Bool) (es : List (ℕ × X)) → AllByRecursion P (keys_of es) → AllByRecursion P (keys_of (remove_entry test es))
   all_removed P test [] all = all
   all_removed P test (e ∷ es) all = elim (cases_Bool (test e.0)) [ inl gone ↦ rw gone all.1 | inr stays ↦ rw stays (all.0, all_removed P test es all.1) ]
 

@@ -1,6 +1,7 @@
 -- A device dials.
 use Rattle.std.proofs.Common.{◌≡◌, ℕ, ◌+◌, ◌==◌, Bool, true, false, cond, List, [], ◌∷◌, ◌++◌, Option, Some, None, flat_map, length, refl, sym, ap, ap₂, subst, ◌∙◌, inl, inr, append-nil, length-append}
 use Rattle.std.proofs.lemmas.Bool.{cases_eq, eq-eqb, eqb-true}
+use Rattle.std.proofs.lemmas.Option.{same_Some}
 use Rattle.std.specs.BTreeMap.{insert_entry}
 use Rattle.std.specs.List.{slice_get, slice_set}
 use Rattle.std.specs.Option.{option_map}
@@ -42,9 +43,6 @@ use Rattle.xmpp_wires.specs.declared.wire.Wire.{Wire}
 use Rattle.xmpp_world.specs.Moves.{Dial, dialed_by}
 use Rattle.xmpp_world.specs.Worlds.{World, client_entropy, number_at, server_entropy}
 use Rattle.xmpp_writer.specs.Items.{ItemOut, Opening, written_item}
-
-some_is : {T : Type 0} (x y : T) → Some x ≡ Some y → x ≡ y
-some_is x y e = cc
 
 module _ (UpFits DownFits : ItemOut → Type 0) (HallFits : ℕ → Hall ItemOut → Type 0) (ClientFits : ClientView ItemOut → Type 0) (cores : CoresFit UpFits DownFits HallFits ClientFits) where
   module _ (i : ℕ) (w : World) (v : ItemWorld) (d : DeviceState) (e : ItemDevice) (found : slice_get w.devices i ≡ Some d) (found_item : slice_get v.devices i ≡ Some e) (h : DeviceImage ClientFits d e)
@@ -158,7 +156,7 @@ module _ (UpFits DownFits : ItemOut → Type 0) (HallFits : ℕ → Hall ItemOut
     dialed_begins : Begins (old_item_wires ++ new_item_wire ∷ []) hall_now
     dialed_begins q r there first = elim (cases_eq q n) [
       | inl same ↦
-          let is : new_item_wire ≡ r = some_is new_item_wire r (sym (sym (ap (slice_get (old_item_wires ++ new_item_wire ∷ [])) many_items) ∙ get_last old_item_wires new_item_wire) ∙ ap (slice_get (old_item_wires ++ new_item_wire ∷ [])) (sym same) ∙ there) in
+          let is : new_item_wire ≡ r = same_Some new_item_wire r (sym (sym (ap (slice_get (old_item_wires ++ new_item_wire ∷ [])) many_items) ∙ get_last old_item_wires new_item_wire) ∙ ap (slice_get (old_item_wires ++ new_item_wire ∷ [])) (sym same) ∙ there) in
           subst (λ (y : ItemWire). IsBegun y.up) is (inl (header, [], refl))
       | inr other ↦
           begins_where v.wires v.server d.here pipes.left (λ x. closed_begun x.up) image.begins q r (sym (get_before old_item_wires new_item_wire q (λ x. other (x ∙ many_items))) ∙ there)

@@ -2,6 +2,7 @@
 use Rattle.std.proofs.Common.{◌≡◌, ℕ, ◌==◌, ◌&&◌, Bool, true, false, true≢false, cond, List, [], ◌∷◌, ◌++◌, Option, Some, None, map, flat_map, take, drop, length, refl, sym, ap, ap₂, subst, ◌∙◌, inl, inr}
 use Rattle.std.proofs.lemmas.Bool.{eq-eqb, eqb-true}
 use Rattle.std.proofs.lemmas.List.{take-append-drop}
+use Rattle.std.proofs.lemmas.Option.{same_Some}
 use Rattle.std.specs.List.{AllByRecursion, slice_get, slice_set}
 use Rattle.xmpp_client.specs.Feeds.{Fed, bytes_in, bytes_step, kept_while, with_fault}
 use Rattle.xmpp_client.specs.Steps.{item_step, items_run}
@@ -27,7 +28,7 @@ use Rattle.xmpp_item_images.proofs.Lookups.{set_changes}
 use Rattle.xmpp_item_images.proofs.NetworkMoves.{found_both}
 use Rattle.xmpp_item_images.proofs.PipeSteps.{items_due}
 use Rattle.xmpp_item_images.proofs.UpMoves.{drop_taken, moved_joined, no_amount}
-use Rattle.xmpp_item_images.proofs.UserMoves.{After, away, get_set_same, set_same, silent_is, user_image}
+use Rattle.xmpp_item_images.proofs.UserMoves.{After, away, get_set_same, silent_is, user_image}
 use Rattle.xmpp_item_images.proofs.WireSteps.{IsDownHanded, all_taken, wire_down, wire_down_told, wire_last, wire_left, wire_put_up}
 use Rattle.xmpp_item_images.specs.ImagesCores.{CoresFit, HeardFits, IsInTurn, IsNoFooter, writer_at}
 use Rattle.xmpp_item_images.specs.ItemRuns.{downs, moved_where}
@@ -48,21 +49,19 @@ use Rattle.xmpp_wires.specs.Wires as wires
 use Rattle.xmpp_wires.specs.declared.wire.Wire.{Wire}
 use Rattle.xmpp_world.specs.Moves.{Down, Link, down_by, down_to, end_heard, heard, heard_first, left_where, link_of, with_link}
 use Rattle.xmpp_world.specs.Worlds.{World, number_at}
+use Rattle.xmpp_world_takes.proofs.DevicesMoved.{put_again}
 use Rattle.xmpp_writer.specs.Items.{ItemOut, written_item}
 
 -- ---- the place of a header is not looked at
 
-step_unplaced : (t : Turn (List ℕ) ℕ) (i : Item) → item_step in_bytes t i ≡ item_step in_bytes t (placed 0 i)
+pub step_unplaced : (t : Turn (List ℕ) ℕ) (i : Item) → item_step in_bytes t i ≡ item_step in_bytes t (placed 0 i)
 step_unplaced t (item.Header at h) = refl
 step_unplaced t (item.Element e) = refl
 step_unplaced t item.Footer = refl
 
-run_unplaced : (l : List Item) (t : Turn (List ℕ) ℕ) → items_run in_bytes t l ≡ items_run in_bytes t (map (placed 0) l)
+pub run_unplaced : (l : List Item) (t : Turn (List ℕ) ℕ) → items_run in_bytes t l ≡ items_run in_bytes t (map (placed 0) l)
 run_unplaced [] t = refl
 run_unplaced (i ∷ l) t = ap (λ u. items_run in_bytes u l) (step_unplaced t i) ∙ run_unplaced l (item_step in_bytes t (placed 0 i))
-
-some_is : {T : Type 0} (x y : T) → Some x ≡ Some y → x ≡ y
-some_is x y e = cc
 
 left_device : (a : Bool) (y : Wire) → (left_where a y).device ≡ y.device
 left_device true y = refl
@@ -184,8 +183,8 @@ module _ (UpFits DownFits : ItemOut → Type 0) (HallFits : ℕ → Hall ItemOut
 
     here_at : (a : Bool) → is_apart t.client.phase ≡ a → HereAt a place
     here_at a apart c r there there_item =
-        subst (λ y. After UpFits DownFits HallFits ClientFits cores w v b.device (device_left a (d1 a)) place (f_now a y) (many_of a t.out.put (length taken) r)) (some_is b c (sym found ∙ there))
-        (subst (λ y. After UpFits DownFits HallFits ClientFits cores w v b.device (device_left a (d1 a)) place (f_now a b) (many_of a t.out.put (length taken) y)) (some_is p r (sym found_item ∙ there_item)) (wire_now a apart))
+        subst (λ y. After UpFits DownFits HallFits ClientFits cores w v b.device (device_left a (d1 a)) place (f_now a y) (many_of a t.out.put (length taken) r)) (same_Some b c (sym found ∙ there))
+        (subst (λ y. After UpFits DownFits HallFits ClientFits cores w v b.device (device_left a (d1 a)) place (f_now a b) (many_of a t.out.put (length taken) y)) (same_Some p r (sym found_item ∙ there_item)) (wire_now a apart))
 
     left_framer : (a : Bool) (q : ℕ) → (d.here ≡ Some q → ⊥) → framer_here q (Some (device_left a (d1 a))) ≡ framer_here q (Some d)
     left_framer true q other = sym (away UpFits DownFits HallFits ClientFits cores d.here d.client.framer q other)
@@ -201,7 +200,7 @@ module _ (UpFits DownFits : ItemOut → Type 0) (HallFits : ℕ → Hall ItemOut
     heard_image : (a : Bool) → is_apart t.client.phase ≡ a → WorldImage UpFits DownFits HallFits ClientFits (with_link place b.device (link_now a) w) (items.all_moved (downs place (length taken)) v)
     heard_image a apart =
         let all = user_image UpFits DownFits HallFits ClientFits cores w v b.device d (device_left a (d1 a)) e (e1 a) (f_now a) (many_of a t.out.put (length taken)) device item_device (device_image a apart) h.here (many_begun a) image
-        (λ q c r is there there_item y. subst (HereAt a) (some_is place q (sym here ∙ is)) (here_at a apart) c r there there_item) (left_framer a) in
+        (λ q c r is there there_item y. subst (HereAt a) (same_Some place q (sym here ∙ is)) (here_at a apart) c r there there_item) (left_framer a) in
         let bytes_is : record w { devices = slice_set w.devices b.device (device_left a (d1 a)); wires = changed_where d.here (f_now a) w.wires } ≡ with_link place b.device (link_now a) w =
         ap (λ o. record w { devices = slice_set w.devices b.device (device_left a (d1 a)); wires = changed_where o (f_now a) w.wires }) here
         ∙ ap (λ l. record w { devices = slice_set w.devices b.device (device_left a (d1 a)); wires = l }) (sym (set_changes (f_now a) w.wires place b (f_now a b) found refl)) in
@@ -220,7 +219,7 @@ module _ (UpFits DownFits : ItemOut → Type 0) (HallFits : ℕ → Hall ItemOut
 
   -- nothing is changed where the same is set
   same_link : (place : ℕ) (w : World) (b : Wire) (d : DeviceState) → slice_get w.wires place ≡ Some b → slice_get w.devices b.device ≡ Some d → with_link place b.device (link_of b d) w ≡ w
-  same_link place w b d found device = ap₂ (λ x y. record w { wires = x; devices = y }) (set_same w.wires place b found) (set_same w.devices b.device d device)
+  same_link place w b d found device = ap₂ (λ x y. record w { wires = x; devices = y }) (put_again w.wires place b found) (put_again w.devices b.device d device)
 
   is_heard : (place n : ℕ) (w : World) (v : ItemWorld) (b : Wire) (p : ItemWire) (d : DeviceState) (e : ItemDevice) → slice_get w.wires place ≡ Some b → slice_get v.wires place ≡ Some p → slice_get w.devices b.device ≡ Some d → slice_get v.devices b.device ≡ Some e
       → WireAt UpFits DownFits w v place b p → DeviceImage ClientFits d e → WorldImage UpFits DownFits HallFits ClientFits w v → d.here ≡ Some place → (b.down.bytes ≡ [] → n ≡ 0) → IsHeard place w v b (heard_first n (link_of b d))
@@ -296,8 +295,8 @@ module _ (UpFits DownFits : ItemOut → Type 0) (HallFits : ℕ → Hall ItemOut
 
       told_here : (q : ℕ) (c : Wire) (r : ItemWire) → d.here ≡ Some q → slice_get w.wires q ≡ Some c → WireAt UpFits DownFits w v q c r → After UpFits DownFits HallFits ClientFits cores w v b.device (loses d) q (down_end_told c) (pipes.down_end_told r)
       told_here q c r is there y =
-          let same_place = some_is place q (sym (has_place place d.here here) ∙ is) in
-          let due_there : is_end_due c.down ≡ true = ap (λ (z : Wire). is_end_due z.down) (sym (some_is b c (sym found ∙ ap (slice_get w.wires) same_place ∙ there))) ∙ due in
+          let same_place = same_Some place q (sym (has_place place d.here here) ∙ is) in
+          let due_there : is_end_due c.down ≡ true = ap (λ (z : Wire). is_end_due z.down) (sym (same_Some b c (sym found ∙ ap (slice_get w.wires) same_place ∙ there))) ∙ due in
           wire_down_told UpFits DownFits cores.up_limits cores.down_limits (framer_at (number_at q) w.server.framers) (framer_here q (slice_get w.devices c.device)) (framer_here q (slice_get (slice_set w.devices b.device (loses d)) c.device)) (writer_at (number_at q) v.server) c r due_there y
 
   -- ---- the move

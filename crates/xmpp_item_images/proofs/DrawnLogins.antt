@@ -7,7 +7,7 @@ use Rattle.std.specs.Prelude.{nat_lt}
 use Rattle.base64.specs.GeneralPurpose.{IsBytes}
 use Rattle.sha2.specs.Sha256.{sha256}
 use Rattle.xmpp_base64.proofs.ByteSteps.{IsBytes-append, IsBytes-cons, IsBytes-nil}
-use Rattle.xmpp_item_images.proofs.DrawnBytes.{first_bytes, hash_bytes, number_bytes}
+use Rattle.xmpp_item_images.proofs.DrawnBytes.{first_bytes}
 use Rattle.xmpp_item_images.proofs.Exchanges.{goes_in_bytes}
 use Rattle.xmpp_item_images.specs.Logins.{HasLogin, IsDrawn}
 use Rattle.xmpp_device_views.specs.Identities.{Identity, bare_of}
@@ -16,6 +16,7 @@ use Rattle.xmpp_scram.specs.Agreement.{Given, IsAllowed}
 use Rattle.xmpp_scram.specs.Classes.{is_printable}
 use Rattle.xmpp_scram.specs.Exchange.{added_nonce, base64_of, is_plain, salt_of}
 use Rattle.xmpp_scram.specs.Grammar.{is_nonce}
+use Rattle.xmpp_server_fits.proofs.StartKept.{hash_bytes, high_first}
 use Rattle.xmpp_world.specs.Worlds.{client_entropy, fifteen_zeros, server_entropy}
 
 -- ---- nonces
@@ -89,7 +90,7 @@ front_bytes b low = IsBytes-cons b fifteen_zeros low (small_bytes fifteen_zeros 
 
 drawn : (b n : ℕ) → b < 256 → IsDrawn (b ∷ fifteen_zeros ++ to_be_bytes w64 n)
 drawn b n low = record {
-  bytes = IsBytes-append (b ∷ fifteen_zeros) (to_be_bytes w64 n) (front_bytes b low) (number_bytes 8 n);
+  bytes = IsBytes-append (b ∷ fifteen_zeros) (to_be_bytes w64 n) (front_bytes b low) (high_first 8 n);
   enough = omega arith;
 }
 

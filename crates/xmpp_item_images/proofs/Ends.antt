@@ -1,5 +1,5 @@
 -- Connections that are open behind a change were open before it.
-use Rattle.std.proofs.Common.{◌≡◌, ℕ, zero, suc, ◌+◌, ◌<◌, ◌≤◌, Bool, true, false, cond, List, [], ◌∷◌, ◌++◌, Option, Some, None, length, refl, sym, ap, subst, ◌∙◌, arith}
+use Rattle.std.proofs.Common.{◌≡◌, ℕ, zero, suc, ◌+◌, ◌<◌, ◌≤◌, true, false, List, [], ◌∷◌, ◌++◌, Option, Some, None, length, refl, sym, ap, subst, ◌∙◌, arith}
 use Rattle.std.proofs.lemmas.Bool.{false≢true}
 use Rattle.std.proofs.lemmas.List.{length-set}
 use Rattle.std.proofs.lemmas.Option.{none-some, same_Some}
@@ -14,7 +14,7 @@ use Rattle.xmpp_wires.specs.Wires.{cut_at, first_end, left, put_down, put_up, sh
 use Rattle.xmpp_wires.specs.declared.wire.Wire.{Wire}
 use Rattle.xmpp_world.specs.Effects.{Effects, all_emitted, emitted}
 use Rattle.xmpp_world.specs.WorldReports.{is_open}
-use Rattle.xmpp_pipes.specs.Pipes.{Pipe, entered, risen}
+use Rattle.xmpp_item_images.proofs.PutSteps.{ended_entered}
 use Rattle.xmpp_item_images.specs.Kept.{IsFlowing, is_open_at}
 
 -- ---- one connection
@@ -162,13 +162,6 @@ shut_flows b is = not_open (shut b).end _ (shut_end b.end)
 
 pub cut_flows : (up down : ℕ) → StaysFlowing (cut_at up down)
 cut_flows up down b is = not_open (cut_at up down b).end _ (cut_end b.end)
-
-ended_entered : (more : List ℕ) (p : Pipe) → (entered more p).ended ≡ p.ended
-ended_entered more p = by p.ended refl
-  where
-    by : (c : Bool) → p.ended ≡ c → (cond c p (record p { bytes = p.bytes ++ more; put = risen p.put (length more) })).ended ≡ p.ended
-    by true is = refl
-    by false is = refl
 
 pub put_up_flows : (more : List ℕ) → StaysFlowing (put_up more)
 put_up_flows more b is opens = (ended_entered more b.up ∙ (is opens).0, (is opens).1)

@@ -13,7 +13,7 @@ use Rattle.xmpp_live.specs.Rule.{IsRule}
 use Rattle.xmpp_live.specs.Sessions.{Session, is_at, is_numbered, session_at, session_of, with_session, without, without_at}
 use Rattle.xmpp_resume.specs.Rows.{is_some_number}
 use Rattle.xmpp_item_images.proofs.Counted.{every, fewer_pass, key_set, passing, removed_ascend, removed_pass}
-use Rattle.xmpp_item_images.proofs.RuleKept.{Keeps, Sits, Stays, changes_one, is_seat, left_found, number_is, on_seat, one_number, rule_changed, rule_left}
+use Rattle.xmpp_item_images.proofs.RuleKept.{Keeps, Sits, changes_one, is_seat, left_found, number_is, on_seat, one_number, rule_changed, rule_left, stays}
 use Rattle.xmpp_item_images.specs.Unbound.{IsOrdered, is_unbound}
 
 -- ---- what is counted: of some connections alone, where others are about to be shut
@@ -95,7 +95,7 @@ module _ {A : Type 0} where
       → IsOrdered h → Falls x x h (with_sessions (with_session n f h.sessions) h)
   changed_falls x n f h kept conn few is =
       sessions_fall x x (with_session n f h.sessions) h is
-      (rule_changed h.next n f h.sessions is.sessions kept (Stays (λ s j on. sym (conn s) ∙ on)) few)
+      (rule_changed h.next n (λ j. ⊥) f h.sessions is.sessions kept (stays h.sessions f (λ s j on. sym (conn s) ∙ on)) few)
       (λ j yes'. yes')
       (λ j s yes' there. found_in_map (is_at j) (changes_one n f) h.sessions s there (is_seat j (changes_one n f s) (same (s.shown.number == n) s ∙ on_seat j h.sessions s there)))
     where
@@ -104,11 +104,11 @@ module _ {A : Type 0} where
       same false s = refl
 
   -- one moves, or ends, of which the connection isn't looked at
-  pub moved_falls : (x y : ℕ → Bool) (n : ℕ) (f : Session A → Session A) (h : Hall A) (t : Session A) → session_of n h.sessions ≡ Some t → Keeps f → Sits h.sessions f
+  pub moved_falls : (x y : ℕ → Bool) (n : ℕ) (Free : ℕ → Type 0) (f : Session A → Session A) (h : Hall A) (t : Session A) → session_of n h.sessions ≡ Some t → Keeps f → Sits Free h.sessions f
       → ((s : Session A) → session_of n h.sessions ≡ Some s → length (f s).waiting ≤ MOST_UNACKNOWLEDGED) → ((j : ℕ) → y j ≡ true → (x j ≡ true) × (off t.shown.conn j ≡ true)) → IsOrdered h
       → Falls x y h (with_sessions (with_session n f h.sessions) h)
-  moved_falls x y n f h t it kept sits few wider is =
-      sessions_fall x y (with_session n f h.sessions) h is (rule_changed h.next n f h.sessions is.sessions kept sits few) (λ j yes'. (wider j yes').0) held
+  moved_falls x y n Free f h t it kept sits few wider is =
+      sessions_fall x y (with_session n f h.sessions) h is (rule_changed h.next n Free f h.sessions is.sessions kept sits few) (λ j yes'. (wider j yes').0) held
     where
       held : Held y h.sessions (with_session n f h.sessions)
       held j s yes' there =
@@ -119,8 +119,8 @@ module _ {A : Type 0} where
                 let on : t.shown.conn ≡ Some j = ap (λ (u : Session A). u.shown.conn) (sym same) ∙ on_seat j h.sessions s there in
                 absurd (false≢true (sym (ap not (is_seat j t on)) ∙ (wider j yes').1))
             | inr apart ↦
-                let stays : changes_one n f s ≡ s = rw apart refl in
-                found_in_map (is_at j) (changes_one n f) h.sessions s there (is_seat j (changes_one n f s) (ap (λ (u : Session A). u.shown.conn) stays ∙ on_seat j h.sessions s there))
+                let unchanged : changes_one n f s ≡ s = rw apart refl in
+                found_in_map (is_at j) (changes_one n f) h.sessions s there (is_seat j (changes_one n f s) (ap (λ (u : Session A). u.shown.conn) unchanged ∙ on_seat j h.sessions s there))
           ]
 
   pub ended_falls : (x y : ℕ → Bool) (n : ℕ) (h : Hall A) (t : Session A) → session_of n h.sessions ≡ Some t → ((j : ℕ) → y j ≡ true → (x j ≡ true) × (off t.shown.conn j ≡ true)) → IsOrdered h

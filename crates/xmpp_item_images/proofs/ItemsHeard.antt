@@ -9,11 +9,11 @@ use Rattle.xmpp_client_rows.specs.Speech.{in_items}
 use Rattle.xmpp_client_rows.specs.Turns.{is_apart}
 use Rattle.xmpp_desk.specs.State.{Hall}
 use Rattle.xmpp_framing.specs.declared.items.Item.{Item}
+use Rattle.xmpp_framing_laws.proofs.PlainElements.{append_each}
 use Rattle.xmpp_item_images.proofs.ItemsServed.{changed_none, changed_twice, drop_more}
 use Rattle.xmpp_item_images.proofs.Lookups.{get_changed_same}
 use Rattle.xmpp_item_images.proofs.TurnsBehind.{step_adds}
-use Rattle.xmpp_item_images.proofs.UserMoves.{get_set_same, set_same}
-use Rattle.xmpp_item_images.proofs.WireSteps.{all_joined}
+use Rattle.xmpp_item_images.proofs.UserMoves.{get_set_same}
 use Rattle.xmpp_item_images.specs.PipeImages.{dropped}
 use Rattle.xmpp_item_images.specs.ImagesCores.{Adds, CoresFit, HeardFits, IsInTurn, IsNoFooter}
 use Rattle.xmpp_item_images.specs.ItemRuns.{downs}
@@ -21,6 +21,7 @@ use Rattle.xmpp_item_worlds.specs.ItemMoves.{Down, all_moved, at_device, at_wire
 use Rattle.xmpp_item_worlds.specs.ItemPipes.{ItemPipe, ItemWire, entered, handed_down, put_up}
 use Rattle.xmpp_item_worlds.specs.ItemWorlds.{ItemDevice, ItemWorld, read_of, silent_turn}
 use Rattle.xmpp_wires.specs.Places.{changed_at}
+use Rattle.xmpp_world_takes.proofs.DevicesMoved.{put_again}
 use Rattle.xmpp_writer.specs.Items.{Closing, ItemOut}
 
 abbrev pub many_down : ℕ → ItemWire → ItemWire
@@ -34,14 +35,14 @@ set_twice (z ∷ l) (suc i) x y = ap (λ r. z ∷ r) (set_twice l i x y)
 
 -- ---- things that enter one behind another
 
-entered_twice : (a b : List ItemOut) (p : ItemPipe) → entered b (entered a p) ≡ entered (a ++ b) p
+pub entered_twice : (a b : List ItemOut) (p : ItemPipe) → entered b (entered a p) ≡ entered (a ++ b) p
 entered_twice a b p = by p.ended refl
   where
     by : (e : Bool) → p.ended ≡ e → entered b (entered a p) ≡ entered (a ++ b) p
     by true e = rw e refl
     by false e = rw e (ap (λ l. record { items = l; ended = false; told = p.told }) (append_assoc p.items a b))
 
-nothing_entered : (p : ItemPipe) → entered [] p ≡ p
+pub nothing_entered : (p : ItemPipe) → entered [] p ≡ p
 nothing_entered p = by p.ended
   where
     by : (e : Bool) → cond e p (record p { items = p.items ++ [] }) ≡ p
@@ -55,7 +56,7 @@ abbrev pub turn_of_items : ClientView ItemOut → List ItemOut → Turn ItemOut 
 turn_of_items c l = items_run in_items (silent_turn c) (map read_of l)
 
 -- an item that comes where no connection stands does nothing
-apart_run : (l : List Item) (t : Turn ItemOut ItemOut) → is_apart t.client.phase ≡ true → items_run in_items t l ≡ t
+pub apart_run : (l : List Item) (t : Turn ItemOut ItemOut) → is_apart t.client.phase ≡ true → items_run in_items t l ≡ t
 apart_run [] t e = refl
 apart_run (i ∷ l) t e = ap (λ (b : Bool). items_run in_items (cond b t (connected_step in_items t i)) l) e ∙ apart_run l t e
 
@@ -75,8 +76,8 @@ one_then_many apart a b n x =
 
 -- what is in turn behind things that are no footers
 in_turn_behind : (apart : Bool) (before put : List ItemOut) → AllByRecursion IsNoFooter before → IsInTurn apart put → IsInTurn apart (before ++ put)
-in_turn_behind apart before put none (inl all) = inl (all_joined IsNoFooter before put none all)
-in_turn_behind apart before put none (inr last) = inr (before ++ last.0, ap (λ l. before ++ l) last.1 ∙ sym (append_assoc before last.0 (Closing ∷ [])), all_joined IsNoFooter before last.0 none last.2, last.3)
+in_turn_behind apart before put none (inl all) = inl (append_each IsNoFooter before put none all)
+in_turn_behind apart before put none (inr last) = inr (before ++ last.0, ap (λ l. before ++ l) last.1 ∙ sym (append_assoc before last.0 (Closing ∷ [])), append_each IsNoFooter before last.0 none last.2, last.3)
 
 module _ (UpFits DownFits : ItemOut → Type 0) (HallFits : ℕ → Hall ItemOut → Type 0) (ClientFits : ClientView ItemOut → Type 0) (cores : CoresFit UpFits DownFits HallFits ClientFits) where
   run_adds : (l : List Item) (t : Turn ItemOut ItemOut) → Adds t (items_run in_items (silent_turn t.client) l) (items_run in_items t l)
@@ -105,7 +106,7 @@ module _ (UpFits DownFits : ItemOut → Type 0) (HallFits : ℕ → Hall ItemOut
         let a = run_adds (map read_of l) one in
         record {
           client = subst ClientFits (sym a.client_is) g.client;
-          puts = subst (AllByRecursion UpFits) (sym a.put_is) (all_joined UpFits one.out.put (turn_of_items one.client l).out.put f.puts g.puts);
+          puts = subst (AllByRecursion UpFits) (sym a.put_is) (append_each UpFits one.out.put (turn_of_items one.client l).out.put f.puts g.puts);
           in_turn = subst (λ (c' : ClientView ItemOut). IsInTurn (is_apart c'.phase) (turn_of_items c (i ∷ l)).out.put) (sym a.client_is)
               (subst (IsInTurn (is_apart (turn_of_items one.client l).client.phase)) (sym a.put_is) (in_turn_behind (is_apart (turn_of_items one.client l).client.phase) one.out.put (turn_of_items one.client l).out.put none g.in_turn));
         }
@@ -138,7 +139,7 @@ module _ (UpFits DownFits : ItemOut → Type 0) (HallFits : ℕ → Hall ItemOut
       → is_apart e.client.phase ≡ false → p.down.items ≡ l ++ others → all_moved (downs place (length l)) v ≡ heard_at_once place device e l v
   downs_are place device [] others v p e found dev found_device here stands items_are =
       sym (ap₂ (λ x y. record v { devices = x; wires = y })
-      (ap (λ (b : Bool). slice_set v.devices device (record { client = e.client; here = here_behind b e.here })) stands ∙ set_same v.devices device e found_device)
+      (ap (λ (b : Bool). slice_set v.devices device (record { client = e.client; here = here_behind b e.here })) stands ∙ put_again v.devices device e found_device)
       (ap (λ (b : Bool). changed_at place (many_of b [] 0) v.wires) stands ∙ changed_none (many_of false [] 0) v.wires place (λ x. ap (λ u. record x { up = u }) (nothing_entered x.up))))
   downs_are place device (i ∷ l) others v p e found dev found_device here stands items_are =
       let n = length l in

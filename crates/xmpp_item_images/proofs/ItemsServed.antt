@@ -1,6 +1,7 @@
 -- Items of a connection that go to the server one after another do what they do at once.
 use Rattle.std.proofs.Common.{◌≡◌, ◌⊎◌, ◌≤◌, ℕ, zero, suc, Bool, true, false, List, [], ◌∷◌, ◌++◌, Option, Some, None, map, drop, length, refl, sym, ap, ap₂, subst, ◌∙◌, inl, inr, append-nil, append_assoc}
 use Rattle.std.proofs.lemmas.Bool.{cases_eq}
+use Rattle.std.proofs.lemmas.Option.{none-some, same_Some}
 use Rattle.std.specs.List.{AllByRecursion, slice_get}
 use Rattle.std.specs.Option.{option_map}
 use Rattle.xmpp_client_rows.specs.Clients.{ClientView}
@@ -48,15 +49,9 @@ changed_none f [] p same = refl
 changed_none f (x ∷ l) zero same = ap (λ y. y ∷ l) (same x)
 changed_none f (x ∷ l) (suc p) same = ap (λ r. x ∷ r) (changed_none f l p same)
 
-some_is : {T : Type 0} (x y : T) → Some x ≡ Some y → x ≡ y
-some_is x y e = cc
-
-none_is_not : {T : Type 0} (x : T) → None ≡ Some x → ⊥
-none_is_not x e = cc
-
 pub changed_to_same : {T : Type 0} (f : T → T) (l : List T) (p : ℕ) (x : T) → slice_get l p ≡ Some x → f x ≡ x → changed_at p f l ≡ l
 changed_to_same f [] p x found same = refl
-changed_to_same f (y ∷ l) zero x found same = ap (λ z. z ∷ l) (ap f (some_is y x found) ∙ same ∙ sym (some_is y x found))
+changed_to_same f (y ∷ l) zero x found same = ap (λ z. z ∷ l) (ap f (same_Some y x found) ∙ same ∙ sym (same_Some y x found))
 changed_to_same f (y ∷ l) (suc p) x found same = ap (λ r. y ∷ r) (changed_to_same f l p x found same)
 
 -- ---- items dropped
@@ -169,7 +164,7 @@ up_after Fits place (Shut (suc q) ∷ outs) now later ws p order found = elim (c
 
 no_conn : (o : Option Connection) → option_map writer_of o ≡ None → o ≡ None
 no_conn None e = refl
-no_conn (Some c) e = absurd (none_is_not (writer_of c) (sym e))
+no_conn (Some c) e = absurd (none-some (writer_of c) (sym e))
 
 nothing_done : (k : ℕ) (items : List Item) (s : Step ItemOut) → conn_at k s.hall ≡ None → after_items itself k items s ≡ s
 nothing_done k [] s none = refl

@@ -35,7 +35,6 @@ pub mod Starts
 pub mod Keeping
 -- the client
 pub mod MildItems
-pub mod MildRows
 pub mod MildSteps
 -- the server
 pub mod AnsweredItems

@@ -1,6 +1,7 @@
 -- What is found in lists and under numbers behind a change.
 use Rattle.std.proofs.Common.{◌≡◌, ◌≢◌, ℕ, zero, suc, Bool, true, false, true≢false, cond, List, [], ◌∷◌, ◌++◌, Some, None, length, refl, sym, ap, subst, ◌∙◌}
 use Rattle.std.proofs.lemmas.Cmp.{nat_cmp_total}
+use Rattle.std.proofs.lemmas.Option.{none-some, same_Some}
 use Rattle.std.specs.BTreeMap.{insert_entry}
 use Rattle.std.proofs.lemmas.Map.Lookups.{exact_unsigned}
 use Rattle.std.specs.Cmp.{tied_itself}
@@ -33,16 +34,10 @@ length_changed f [] q = refl
 length_changed f (x ∷ l) zero = refl
 length_changed f (x ∷ l) (suc q) = ap suc (length_changed f l q)
 
-some_is : {T : Type 0} (x y : T) → Some x ≡ Some y → x ≡ y
-some_is x y e = cc
-
-none_is_not : {T : Type 0} (x : T) → None ≡ Some x → ⊥
-none_is_not x e = cc
-
 pub set_changes : {T : Type 0} (f : T → T) (l : List T) (q : ℕ) (x y : T) → slice_get l q ≡ Some x → y ≡ f x → slice_set l q y ≡ changed_at q f l
-set_changes f [] zero x y found is = absurd (none_is_not x found)
-set_changes f [] (suc q) x y found is = absurd (none_is_not x found)
-set_changes f (z ∷ l) zero x y found is = ap (λ v. v ∷ l) (is ∙ ap f (sym (some_is z x found)))
+set_changes f [] zero x y found is = absurd (none-some x found)
+set_changes f [] (suc q) x y found is = absurd (none-some x found)
+set_changes f (z ∷ l) zero x y found is = ap (λ v. v ∷ l) (is ∙ ap f (sym (same_Some z x found)))
 set_changes f (z ∷ l) (suc q) x y found is = ap (λ r. z ∷ r) (set_changes f l q x y found is)
 
 -- one more at the end
@@ -65,7 +60,7 @@ none_at_end (y ∷ l) = none_at_end l
 pub self_is : (k : ℕ) → is_number k k ≡ true
 self_is k = ap is_eq (tied_itself nat_cmp_total k)
 
-equal_is : (o : Ordering) → is_eq o ≡ true → o ≡ Equal
+pub equal_is : (o : Ordering) → is_eq o ≡ true → o ≡ Equal
 equal_is Less e = absurd (true≢false (sym e))
 equal_is Equal e = refl
 equal_is Greater e = absurd (true≢false (sym e))
@@ -99,7 +94,7 @@ found_behind_other_value j k (e ∷ es) x other = by (found_behind_other_value j
     by rest false there = ap (cond (is_number j e.0) (Some e.1)) rest
 
 pub found_behind_value : {X : Type 0} (k : ℕ) (es : List (ℕ × X)) (old x : X) → lookup (is_number k) es ≡ Some old → lookup (is_number k) (set_value (is_number k) es x) ≡ Some x
-found_behind_value k [] old x found = absurd (none_is_not old found)
+found_behind_value k [] old x found = absurd (none-some old found)
 found_behind_value k (e ∷ es) old x found = by (found_behind_value k es old x) (is_number k e.0) refl
   where
     by : (lookup (is_number k) es ≡ Some old → lookup (is_number k) (set_value (is_number k) es x) ≡ Some x) → (b : Bool) → is_number k e.0 ≡ b → lookup (is_number k) (cond b ((e.0, x) ∷ es) (e ∷ set_value (is_number k) es x)) ≡ Some x

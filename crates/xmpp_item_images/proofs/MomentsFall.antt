@@ -6,7 +6,7 @@ use Rattle.xmpp_desk.specs.State.{Hall, with_sessions, without_conn}
 use Rattle.xmpp_live.specs.Sessions.{Session, is_at, is_expired, lost, parked, session_at, session_of, with_session, without}
 use Rattle.xmpp_item_images.proofs.Counted.{inserted_ascend, inserted_pass}
 use Rattle.xmpp_item_images.proofs.Falls.{Falls, bound_is, counts, ended_falls, every_one, gone_conn_falls, moved_falls, off, parked_go_falls, sessions_fall, then_falls}
-use Rattle.xmpp_item_images.proofs.RuleKept.{Keeps, Stays, numbered_here, on_seat}
+use Rattle.xmpp_item_images.proofs.RuleKept.{Keeps, numbered_here, on_seat, stays}
 use Rattle.xmpp_item_images.specs.Unbound.{IsOrdered, unbound}
 
 pub other_is : (k j : ℕ) → j ≢ k → off (Some k) j ≡ true
@@ -40,7 +40,7 @@ module _ {A : Type 0} where
 
       by : (b : Bool) → Falls every_one (off (Some k)) h (with_sessions (cond b (with_session s.shown.number (parked h.moment) h.sessions) (without s.shown.number h.sessions)) h)
       by true =
-          moved_falls every_one (off (Some k)) s.shown.number (parked h.moment) h s here (parks h.moment) (Stays (λ t j on. absurd (let no_way : ⊥ = cc on in no_way))) (λ t it. is.sessions.few s.shown.number t it) apart is
+          moved_falls every_one (off (Some k)) s.shown.number (λ j. ⊥) (parked h.moment) h s here (parks h.moment) (stays h.sessions (parked h.moment) (λ t j on. absurd (let no_way : ⊥ = cc on in no_way))) (λ t it. is.sessions.few s.shown.number t it) apart is
       by false = ended_falls every_one (off (Some k)) s.shown.number h s here apart is
 
   -- and its connection is no more

@@ -1,7 +1,7 @@
 -- The moves of items that a move of bytes is are such as keep all within limits.
 use Rattle.std.proofs.Common.{ℕ, zero, suc, Bool, true, false, List, inl, inr, refl, sym, subst}
 use Rattle.std.specs.List.{AllByRecursion}
-use Rattle.xmpp_item_images.proofs.WireSteps.{all_joined}
+use Rattle.xmpp_framing_laws.proofs.PlainElements.{append_each}
 use Rattle.xmpp_item_images.specs.ItemRuns.{IsRunOf, IsServed, MayMove, downs, moved_where, ups}
 use Rattle.xmpp_item_images.specs.Fitting.{MayItem}
 use Rattle.xmpp_item_worlds.specs.ItemMoves as items
@@ -36,7 +36,7 @@ runs_may (bytes.Say device line to text private) ms run may = subst May (sym run
 runs_may (bytes.CatchUp device line most) ms run may = subst May (sym run) (may, tt)
 runs_may (bytes.Tick milliseconds) ms run may = subst May (sym run) (tt, tt)
 runs_may (bytes.Up place amount) ms run may =
-    subst May (sym run.3) (all_joined MayItem run.0 (moved_where (items.UpEnd place) run.1) (served_may place run.0 run.2) (where_may (items.UpEnd place) run.1 tt))
+    subst May (sym run.3) (append_each MayItem run.0 (moved_where (items.UpEnd place) run.1) (served_may place run.0 run.2) (where_may (items.UpEnd place) run.1 tt))
 runs_may (bytes.Down place amount) ms run may =
-    subst May (sym run.2) (all_joined MayItem (downs place run.0) (moved_where (items.DownEnd place) run.1) (downs_may place run.0) (where_may (items.DownEnd place) run.1 tt))
+    subst May (sym run.2) (append_each MayItem (downs place run.0) (moved_where (items.DownEnd place) run.1) (downs_may place run.0) (where_may (items.DownEnd place) run.1 tt))
 runs_may (bytes.Cut place up down) ms run may = subst May (sym run.2) (tt, tt)

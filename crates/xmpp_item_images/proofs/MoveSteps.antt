@@ -5,14 +5,16 @@ use Rattle.xmpp_client.specs.Steps.{item_step}
 use Rattle.xmpp_client.specs.UserCalls.{catch_up_answer, catches_up, closes, dials, forgets, leaves, say_answer, says}
 use Rattle.xmpp_client.specs.declared.faults.CatchUpStart.{CatchUpStart}
 use Rattle.xmpp_client.specs.declared.faults.SayFault.{SayFault}
+use Rattle.xmpp_client_fits.proofs.TurnsKept.{All-drop}
 use Rattle.xmpp_client_rows.specs.Clients.{ClientView, Turn}
 use Rattle.xmpp_client_rows.specs.Speech.{in_items, uttered}
 use Rattle.xmpp_client_rows.specs.Turns.{drops, is_apart, puts}
 use Rattle.xmpp_client_rows.specs.Turns as turns
 use Rattle.xmpp_desk.specs.Moments.{at_moment, gone_at}
 use Rattle.xmpp_desk.specs.State.{Hall, Out, Put, Shut, Took}
+use Rattle.xmpp_framing_laws.proofs.PlainElements.{append_each}
 use Rattle.xmpp_item_images.proofs.DialMoves.{close_client}
-use Rattle.xmpp_item_images.proofs.WireSteps.{all_dropped, all_entered, all_joined, all_taken}
+use Rattle.xmpp_item_images.proofs.WireSteps.{all_entered, all_taken}
 use Rattle.xmpp_item_images.specs.ImagesOwed.{CoresKeep}
 use Rattle.xmpp_item_images.specs.Stands.{OutPuts}
 use Rattle.xmpp_item_images.proofs.ChangedLists.{all_at, all_changed, all_set, all_where}
@@ -63,10 +65,10 @@ module _ (UpFits DownFits : ItemOut → Type 0) where
   put_down_fits more rest wire fits = record { up = fits.up; down = all_entered DownFits more wire.down fits.down rest }
 
   handed_up_fits : (wire : ItemWire) → Both wire → Both (handed_up wire)
-  handed_up_fits wire fits = record { up = all_dropped UpFits 1 wire.up.items fits.up; down = fits.down }
+  handed_up_fits wire fits = record { up = All-drop UpFits 1 wire.up.items fits.up; down = fits.down }
 
   handed_down_fits : (wire : ItemWire) → Both wire → Both (handed_down wire)
-  handed_down_fits wire fits = record { up = fits.up; down = all_dropped DownFits 1 wire.down.items fits.down }
+  handed_down_fits wire fits = record { up = fits.up; down = All-drop DownFits 1 wire.down.items fits.down }
 
   up_told_fits : (wire : ItemWire) → Both wire → Both (up_end_told wire)
   up_told_fits wire fits = record { up = fits.up; down = fits.down }
@@ -114,7 +116,7 @@ module _ (UpFits DownFits : ItemOut → Type 0) (HallKeeps : Hall ItemOut → Ty
       record {
         hall = any (length w.wires + 1) k (at_moment w.moment w.server) (keep.moment w.moment w.server fits.hall);
         clients = all_set OfDevice w.devices device (record { client = t.client; here = Some (length w.wires) }) done.client fits.clients;
-        wires = all_joined OfWire (changed_where d.here left w.wires) (put_up t.out.put (fresh_wire device) ∷ [])
+        wires = append_each OfWire (changed_where d.here left w.wires) (put_up t.out.put (fresh_wire device) ∷ [])
             (all_where OfWire left (left_fits UpFits DownFits) d.here w.wires fits.wires) (put_up_fits UpFits DownFits t.out.put done.puts (fresh_wire device) (fresh_fits UpFits DownFits device), tt);
       }
 

@@ -6,6 +6,7 @@ use Rattle.std.specs.Prelude.{IsTrue}
 use Rattle.xmpp_client_rows.specs.Clients.{ClientView}
 use Rattle.xmpp_desk.specs.State.{Hall}
 use Rattle.xmpp_edge.specs.Names.{place_of}
+use Rattle.xmpp_framing_laws.proofs.PlainElements.{append_each}
 use Rattle.xmpp_item_images.proofs.DialMoves.{close_is}
 use Rattle.xmpp_item_images.proofs.Dialing.{dial_is}
 use Rattle.xmpp_item_images.proofs.DownMoves.{down_moves}
@@ -15,7 +16,6 @@ use Rattle.xmpp_item_images.proofs.NetworkMoves.{cut_is, tick_is}
 use Rattle.xmpp_item_images.proofs.PipeSteps.{empty_image}
 use Rattle.xmpp_item_images.proofs.UpMoves.{moved_joined, up_is}
 use Rattle.xmpp_item_images.proofs.UserMoves.{catch_up_is, forget_is, say_is}
-use Rattle.xmpp_item_images.proofs.WireSteps.{all_joined}
 use Rattle.xmpp_item_images.specs.ImagesCores.{CoresFit, writer_at}
 use Rattle.xmpp_item_images.specs.ItemRuns.{MayMove}
 use Rattle.xmpp_item_images.specs.ItemStarts.{StartFits, item_device, items_at_start}
@@ -64,7 +64,7 @@ of_round place (suc count) = (tt, (tt, of_round (place + 1) count))
 
 of_rounds : (times count : ℕ) → AllByRecursion MayMove (rounds_of times count)
 of_rounds zero count = tt
-of_rounds (suc times) count = all_joined MayMove (round_from 0 count) (rounds_of times count) (of_round 0 count) (of_rounds times count)
+of_rounds (suc times) count = append_each MayMove (round_from 0 count) (rounds_of times count) (of_round 0 count) (of_rounds times count)
 
 -- the text of a message is one
 abbrev MaySay : WireStep → Type 0
@@ -190,7 +190,7 @@ module _ (UpFits DownFits : ItemOut → Type 0) (HallFits : ℕ → Hall ItemOut
     along_lines [] start w may says r = tt
     along_lines (line ∷ lines) start w may says r =
         let here = along_moves (moves_of line w) start w (of_step line.step w line.number may.0 says.0) r in
-        all_joined (Reached start) (worlds_by (moves_of line w) w) (worlds_along lines (stepped line w)) here.0 (along_lines lines start (stepped line w) may.1 says.1 here.1)
+        append_each (Reached start) (worlds_by (moves_of line w) w) (worlds_along lines (stepped line w)) here.0 (along_lines lines start (stepped line w) may.1 says.1 here.1)
 
     pub history_is : (schedule : WireView) → IsWireSchedule schedule → StartFits HallFits ClientFits schedule → AllByRecursion (IsReached UpFits DownFits HallFits ClientFits (items_at_start schedule)) (history_of schedule)
     history_is schedule is fits =

@@ -58,7 +58,7 @@ domain_is account is =
     let whole = are_joined (Some account) domain None (record { local_stays = local_stays account is; domain_stays = domain_stays; resource_stays = tt }) in
     subst (λ t. domain_of t ≡ domain) (append-nil ((account ++ 64 ∷ []) ++ domain) ∙ append_assoc account (64 ∷ []) domain) whole.domain_is
 
-normal_full : (account device : List ℕ) → is_name account ≡ true → is_name device ≡ true → normal (full_address account device) ≡ Ok (full_address account device)
+pub normal_full : (account device : List ℕ) → is_name account ≡ true → is_name device ≡ true → normal (full_address account device) ≡ Ok (full_address account device)
 normal_full account device is named =
     let whole = are_joined (Some account) domain (Some device) (record { local_stays = local_stays account is; domain_stays = domain_stays; resource_stays = resource_stays device named }) in
     subst (λ t. normal t ≡ Ok t) (ap (λ t. t ++ 47 ∷ device) (append_assoc account (64 ∷ []) domain)) whole.normal_form

@@ -1,6 +1,7 @@
 -- A cut, a tick of the clock, and an end that is told to the server.
 use Rattle.std.proofs.Common.{◌≡◌, ◌≢◌, ℕ, ◌+◌, Bool, true, false, List, [], ◌∷◌, Option, Some, None, cond, length, refl, sym, ap, subst, ◌∙◌, inl, inr, arith}
 use Rattle.std.proofs.lemmas.Bool.{cases_eq}
+use Rattle.std.proofs.lemmas.Option.{same_Some}
 use Rattle.std.specs.List.{slice_get, slice_set}
 use Rattle.std.specs.Map.{remove_entry}
 use Rattle.std.specs.Option.{option_map}
@@ -32,9 +33,6 @@ use Rattle.xmpp_wires.specs.declared.wire.Wire.{Wire}
 use Rattle.xmpp_world.specs.Moves.{Cut, Tick, end_told_up, told_up}
 use Rattle.xmpp_world.specs.Worlds.{World, number_at}
 use Rattle.xmpp_writer.specs.Items.{ItemOut, written_item}
-
-some_is : {T : Type 0} (x y : T) → Some x ≡ Some y → x ≡ y
-some_is x y e = cc
 
 -- ---- both or neither
 
@@ -143,7 +141,7 @@ module _ (UpFits DownFits : ItemOut → Type 0) (HallFits : ℕ → Hall ItemOut
       → Begins (changed_at place pipes.up_end_told v.wires) (gone_at (place + 1) (at_moment v.moment v.server))
   told_begins place w v b p found due x begins q r there first = elim (cases_eq q place) [
     | inl same ↦
-        let is : pipes.up_end_told p ≡ r = some_is (pipes.up_end_told p) r (sym (get_changed_same pipes.up_end_told v.wires place ∙ ap (option_map pipes.up_end_told) found) ∙ ap (slice_get (changed_at place pipes.up_end_told v.wires)) (sym same) ∙ there) in
+        let is : pipes.up_end_told p ≡ r = same_Some (pipes.up_end_told p) r (sym (get_changed_same pipes.up_end_told v.wires place ∙ ap (option_map pipes.up_end_told) found) ∙ ap (slice_get (changed_at place pipes.up_end_told v.wires)) (sym same) ∙ there) in
         subst (λ (y : ItemWire). IsBegun y.up) is
         (inr (due_image server_limits (Some phase.Between) (framer_at (number_at place) w.server.framers) b.up p.up x.up due, sym x.up.ended ∙ (is_due b.up due).has_ended))
     | inr other ↦

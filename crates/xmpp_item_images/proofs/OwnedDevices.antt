@@ -1,14 +1,13 @@
 -- The devices that a wire schedule declares: each has a name of its own, and its account is declared.
-use Rattle.std.proofs.Common.{◌≡◌, ℕ, zero, suc, Bool, true, false, not, ◌&&◌, ◌||◌, List, [], ◌∷◌, ◌++◌, length, Some, refl, sym, ap, subst, append_assoc, ◌∙◌, inl, inr}
-use Rattle.std.proofs.lemmas.Bool.{and_parts, cases_Bool, false≢true, or_left}
+use Rattle.std.proofs.Common.{◌≡◌, ℕ, zero, suc, Bool, true, false, not, ◌&&◌, ◌||◌, List, [], ◌∷◌, ◌++◌, length, Some, refl, sym, ap, subst, append_assoc, ◌∙◌}
+use Rattle.std.proofs.lemmas.Bool.{and_parts, false≢true, not-true, or_left}
 use Rattle.std.proofs.lemmas.List.Folds.{list_any-append}
 use Rattle.std.proofs.lemmas.Option.{none-some, same_Some}
-use Rattle.std.proofs.lemmas.Slice.Eq.{bytes_eq-Decides}
 use Rattle.std.specs.List.{flat_map, slice_get}
 use Rattle.std.specs.Prelude.{IsTrue, nat_lt}
 use Rattle.std.specs.Str.{bytes_eq}
-use Rattle.xmpp_basis.proofs.Bytes.{bytes_eq-self}
 use Rattle.xmpp_edge.specs.Names.{is_among}
+use Rattle.xmpp_item_images.proofs.Starts.{named_among}
 use Rattle.xmpp_schedule.specs.Contents.{Owned, accounts_of, owned_in}
 use Rattle.xmpp_schedule.specs.Grammar.{is_name}
 use Rattle.xmpp_schedule.specs.Schedules.{WireView, common_at, steps_of, wire_steps_of}
@@ -20,8 +19,8 @@ use Rattle.xmpp_schedule.specs.declared.schedule.WireStep.{WireStep}
 use Rattle.xmpp_schedule.specs.declared.schedule.WireStep.TheVariants as wire
 use Rattle.xmpp_world.proofs.Declares.{are_accounts, are_names}
 use Rattle.xmpp_world.proofs.Traces.{may_run_all}
-use Rattle.xmpp_world.specs.Declaring.{AreNames}
 use Rattle.xmpp_world.specs.Histories.{common_steps}
+use Rattle.xmpp_world_takes.proofs.AccountNames.{among_last}
 
 -- ---- among these accounts, and behind devices of these names
 
@@ -40,10 +39,6 @@ lines_of lines = flat_map (λ (line : WireLine). common_at line.number line.step
 abbrev Rest : WireAbove → List Line → Type 0
 Rest above rest = AreOwned (above.names.accounts ++ accounts_of (steps_of rest)) above.names.devices (owned_in (steps_of rest))
 
-not_true : (b : Bool) → not b ≡ true → b ≡ false
-not_true true e = absurd (cc e)
-not_true false e = refl
-
 new_device : (above : WireAbove) (name account : List ℕ) (more : List (List ℕ)) → IsTrue (may_run above (wire.Common (step.Device name account)))
     → IsOwned (above.names.accounts ++ more) above.names.devices (record { device = name; account = account })
 new_device above name account more may =
@@ -53,7 +48,7 @@ new_device above name account more may =
     record {
       named = c.1;
       owned = list_any-append (λ other. bytes_eq account other) above.names.accounts more ∙ or_left (is_among account above.names.accounts) (is_among account more) a.1;
-      new = not_true (is_among name above.names.devices) b.1;
+      new = not-true (is_among name above.names.devices) b.1;
     }
 
 more : (n : ℕ) (s : WireStep) (above : WireAbove) (rest : List Line) → IsTrue (may_run above s) → Rest (above_by s above) rest → Rest above (common_at n s ++ rest)
@@ -81,14 +76,6 @@ of_schedule : (schedule : WireView) → IsWireSchedule schedule → AreOwned (ac
 of_schedule schedule is = all_owned schedule.lines nothing_above (may_run_all schedule is)
 
 -- ---- one of them
-
-pub named_among : (name : List ℕ) (names : List (List ℕ)) → AreNames names → is_among name names ≡ true → is_name name ≡ true
-named_among name [] each known = absurd (false≢true known)
-named_among name (other ∷ names) each known =
-    elim (cases_Bool (bytes_eq name other)) [
-      | inl same ↦ subst (λ n. is_name n ≡ true) (sym ((bytes_eq-Decides name other).0 same)) each.0
-      | inr differs ↦ named_among name names each.1 (rw differs at known)
-    ]
 
 one_owned : (accounts before : List (List ℕ)) (os : List Owned) (place : ℕ) (o : Owned) → AreOwned accounts before os → slice_get os place ≡ Some o → (is_name o.device ≡ true) × (is_among o.account accounts ≡ true)
 one_owned accounts before [] place o are is = absurd (none-some o is)
@@ -118,14 +105,6 @@ behind_new accounts before (x ∷ os) zero o are is = subst (λ y. is_among y.de
 behind_new accounts before (x ∷ os) (suc place) o are is =
     let later : is_among o.device (before ++ x.device ∷ []) ≡ false = behind_new accounts (before ++ x.device ∷ []) os place o are.1 is in
     neither (is_among o.device before) (is_among o.device (x.device ∷ [])) (sym (list_any-append (λ other. bytes_eq o.device other) before (x.device ∷ [])) ∙ later)
-
-among_last : (name : List ℕ) (before : List (List ℕ)) → is_among name (before ++ name ∷ []) ≡ true
-among_last name [] = rw (bytes_eq-self name) refl
-among_last name (n ∷ before) = there (bytes_eq name n) (is_among name (before ++ name ∷ [])) (among_last name before)
-  where
-    there : (x y : Bool) → y ≡ true → (x || y) ≡ true
-    there true y h = refl
-    there false y h = h
 
 -- the first device, and a later one of the same name
 not_later : (accounts before : List (List ℕ)) (x : Owned) (os : List Owned) (place : ℕ) (o r : Owned) → AreOwned accounts (before ++ x.device ∷ []) os → Some x ≡ Some o → slice_get os place ≡ Some r → o.device ≡ r.device → ⊥

@@ -1,6 +1,6 @@
 -- What each operation on a pipe makes of the image that it is of a pipe of items.
-use Rattle.std.proofs.Common.{◌≡◌, ◌==◌, ◌&&◌, not, ℕ, zero, suc, Bool, true, false, true≢false, List, [], ◌∷◌, ◌++◌, Option, Some, length, take, drop, map, refl, sym, ap, subst, ◌∙◌, arith}
-use Rattle.std.proofs.Math.Seq.{drop-append_seam, take-append_seam}
+use Rattle.std.proofs.Common.{◌≡◌, ◌==◌, ◌&&◌, not, ℕ, Bool, true, false, true≢false, List, [], ◌∷◌, ◌++◌, Option, Some, length, take, drop, map, refl, sym, ap, subst, ◌∙◌, arith}
+use Rattle.std.proofs.Math.Seq.{drop-append_seam, take-append_seam, take-nil}
 use Rattle.std.proofs.lemmas.List.{drop-map, length-map, map-append, take-map}
 use Rattle.std.proofs.lemmas.Bool.{and_parts}
 use Rattle.std.proofs.lemmas.Bool.Decides.{nat_tests}
@@ -141,17 +141,13 @@ read_others first others outs e =
     sym (drop-append_seam (map (placed 0) first) (map (placed 0) others)) ∙ ap (λ n. drop n (map (placed 0) first ++ map (placed 0) others)) (length-map first (placed 0))
     ∙ ap (drop (length first)) (sym (map-append (placed 0) first others) ∙ e) ∙ drop-map read_of (length first) outs
 
-take_none : (n : ℕ) → take {A = ℕ} n [] ≡ []
-take_none zero = refl
-take_none (suc n) = refl
-
 cut_of : (limits : Limits) (writer next : Option Phase) (reader : Option State) (b : Pipe) (p : ItemPipe) (n : ℕ) → b.told ≡ p.told → IsCarried limits writer reader b p → IsCut limits writer next reader b p n
 cut_of limits writer next reader b p n told (over o) = record {
   count = 0;
   image = record {
     ended = refl;
     told = told;
-    carried = over (record { no_bytes = ap (take n) o.no_bytes ∙ take_none n; no_items = refl; has_ended = refl });
+    carried = over (record { no_bytes = ap (take n) o.no_bytes ∙ take-nil n; no_items = refl; has_ended = refl });
   };
 }
 cut_of limits writer next reader b p n told (standing f is st) =

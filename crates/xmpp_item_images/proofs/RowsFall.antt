@@ -21,7 +21,7 @@ use Rattle.xmpp_item_images.proofs.CalmRows.{Calm, calm_asking, calm_saying}
 use Rattle.xmpp_item_images.proofs.Counted.{one_fewer}
 use Rattle.xmpp_item_images.proofs.Falls.{Falls, counts, ended_falls, every_one, implied, moved_falls, no_fall, off, refocus, shut_falls, then_falls}
 use Rattle.xmpp_item_images.proofs.MomentsFall.{other_is}
-use Rattle.xmpp_item_images.proofs.RuleKept.{Comes, Keeps, is_seat, left_found, named_gone, none_left, numbered_here, on_seat, one_number, rule_left, rule_pushed}
+use Rattle.xmpp_item_images.proofs.RuleKept.{Keeps, comes, is_seat, left_found, named_gone, none_left, numbered_here, on_seat, one_number, rule_left, rule_pushed}
 use Rattle.xmpp_item_images.specs.Unbound.{IsOrdered, is_unbound, unbound}
 use Rattle.xmpp_session_rows.specs.Bindings.{binding_as, former_of}
 use Rattle.xmpp_session_rows.specs.Resumptions.{asking, resent_where, resuming, saying}
@@ -95,7 +95,7 @@ module _ {A : Type 0} where
 
     pub resumed_falls : Falls every_one (off t.shown.conn) h (with_sessions (with_session t.shown.number (resumes n k) h.sessions) h)
     resumed_falls =
-        moved_falls every_one (off t.shown.conn) t.shown.number (resumes n k) h t here (resumes_keep n k) (Comes k seat (λ s. refl))
+        moved_falls every_one (off t.shown.conn) t.shown.number (λ j. j ≡ k) (resumes n k) h t here (resumes_keep n k) (comes k h.sessions (resumes n k) seat (λ s. refl))
         (λ s it. let few = is.sessions.few t.shown.number s it in omega (arith, few, length-drop (ahead n s.acked) s.waiting)) (λ j yes'. (refl, yes')) is
 
     pub high_falls : Falls every_one (off t.shown.conn) h (with_sessions (without t.shown.number h.sessions) h)

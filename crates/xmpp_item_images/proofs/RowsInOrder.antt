@@ -1,11 +1,13 @@
 -- Each row of a server's table puts what comes in the order of a stream.
 use Rattle.std.proofs.Common.{◌≡◌, ◌≢◌, ℕ, nat_le, Bool, true, false, cond, not, List, [], ◌∷◌, Option, Some, None, Result, Ok, Err, length, codes, refl, sym, ap, subst, ◌∙◌}
 use Rattle.std.proofs.lemmas.Bool.{eq-eqb}
+use Rattle.std.proofs.lemmas.Option.{none-some}
 use Rattle.std.specs.List.{AllByRecursion, find}
 use Rattle.std.specs.Map.{lookup, remove_entry}
 use Rattle.std.specs.Option.{option_map}
 use Rattle.xmpp_acks.specs.Counters.{ahead}
 use Rattle.xmpp_acks.specs.declared.end.TooHigh.{TooHigh as TooHighCount}
+use Rattle.xmpp_client_fits.proofs.TurnsKept.{All-drop}
 use Rattle.xmpp_desk.specs.Logins.{answering, at_challenge, at_login, at_login_other, beginning, failing, negotiation_at}
 use Rattle.xmpp_desk.specs.State.{Hall, Step, conn_at, is_number}
 use Rattle.xmpp_desk.specs.Steps as steps
@@ -32,7 +34,6 @@ use Rattle.xmpp_item_images.proofs.ConnsKept.{all_found}
 use Rattle.xmpp_item_images.proofs.Lookups.{found_behind_removal}
 use Rattle.xmpp_item_images.proofs.QuietRows.{counted_q}
 use Rattle.xmpp_item_images.proofs.StepsInOrder.{Calm, bind_calm, ends_first, entered, opens_first, part_calm, put_word, quiet_calm, resume_calm, session_changed, shut_footer}
-use Rattle.xmpp_item_images.proofs.WireSteps.{all_dropped}
 use Rattle.xmpp_item_images.specs.ImagesCores.{IsNoFooter, phase_of, writer_of}
 use Rattle.xmpp_item_images.specs.Stands.{Conns, IsBehind, SessionStands, writer_in}
 use Rattle.xmpp_item_worlds.specs.ItemWorlds.{itself}
@@ -77,12 +78,6 @@ use Rattle.xmpp_writer.specs.Items.{ItemOut}
 abbrev NotStart : Stage → Type 0
 NotStart stage.Start = ⊥
 NotStart s = Unit {0}
-
-some_is : {T : Type 0} (x y : T) → Some x ≡ Some y → x ≡ y
-some_is x y e = cc
-
-none_is_not : {T : Type 0} (x : T) → None ≡ Some x → ⊥
-none_is_not x e = cc
 
 -- what may come before the first header
 abbrev pub IsHeader : Item → Type 0
@@ -185,7 +180,7 @@ module _ (n : ℕ) (start : ℕ → Option Phase) (k : ℕ) where
       same j f = record { on = f.on; apart = f.apart }
 
       by : (o : Option (Session ItemOut)) → session_named account resource s.hall.sessions ≡ o → (j : ℕ) → former_of (option_map ended_of o) ≡ Some j → IsFormer s j
-      by None found j e = absurd (none_is_not j e)
+      by None found j e = absurd (none-some j e)
       by (Some u) found j e = former_is s c none (is_named account resource) u found j e
 
   -- ---- resumptions
@@ -224,7 +219,7 @@ module _ (n : ℕ) (start : ℕ → Option Phase) (k : ℕ) where
       two = session_changed n start (act itself (steps.Resume previd account h k) s) u.shown.number (asks false) (λ t x. record { on = x.on; words = x.words }) (λ t. (refl, refl)) one
 
       words : AllByRecursion IsNoFooter (resent h u)
-      words = all_dropped IsNoFooter (ahead h u.acked) u.waiting (all_found (SessionStands s.hall.conns) (is_resumed_by previd account) s.hall.sessions u c.stands.sessions found).words
+      words = All-drop IsNoFooter (ahead h u.acked) u.waiting (all_found (SessionStands s.hall.conns) (is_resumed_by previd account) s.hall.sessions u c.stands.sessions found).words
 
       by : (b : Bool) → Goes (resuming itself k account previd h (cond b (Err (TooHigh h (send_count u) u.shown.conn)) (Ok (resume_ok u))) (resent h u)) s
       by true =

@@ -10,6 +10,7 @@ use Rattle.xmpp_basis.proofs.Bytes.{bytes_eq-self}
 use Rattle.xmpp_live.specs.Rule.{IsRule, RisesTo}
 use Rattle.xmpp_live.specs.Sessions.{Session, fresh, is_at, is_named, is_numbered, session_at, session_named, session_of, with_session}
 use Rattle.xmpp_resume.specs.Rows.{is_some_number}
+use Rattle.xmpp_route.proofs.Rising.{rises_filter}
 
 -- ---- what is found
 
@@ -79,7 +80,7 @@ found_pushed p (x ∷ ss) f s is =
           elim (found_pushed p ss f s rest) [ inl before ↦ inl (rw other before) | inr last ↦ inr ((rw other last.0), last.1, last.2) ]
     ]
 
-found_mapped : {A : Type 0} (p : A → Bool) (g : A → A) (ss : List A) → ((s : A) → p (g s) ≡ p s) → find p (map g ss) ≡ option_map g (find p ss)
+pub found_mapped : {A : Type 0} (p : A → Bool) (g : A → A) (ss : List A) → ((s : A) → p (g s) ≡ p s) → find p (map g ss) ≡ option_map g (find p ss)
 found_mapped p g [] same = refl
 found_mapped p g (s ∷ ss) same =
     elim (cases_Bool (p s)) [
@@ -87,9 +88,13 @@ found_mapped p g (s ∷ ss) same =
       | inr other ↦ let apart = same s ∙ other in rw (apart, other) (found_mapped p g ss same)
     ]
 
-was_found : {A : Type 0} (g : A → A) (o : Option A) (s : A) → option_map g o ≡ Some s → (t : A) × (o ≡ Some t) × (g t ≡ s)
-was_found g None s is = absurd (let no_way : ⊥ = cc in no_way)
-was_found g (Some t) s is = (t, refl, same_Some (g t) s is)
+pub was_found : {A B : Type 0} (g : A → B) (o : Option A) (b : B) → option_map g o ≡ Some b → (a : A) × (o ≡ Some a) × (g a ≡ b)
+was_found g None b is = absurd (let no_way : ⊥ = cc in no_way)
+was_found g (Some a) b is = (a, refl, same_Some (g a) b is)
+
+pub either : {T : Type 0} (P : T → Type 0) (b : Bool) (x y : T) → P x → P y → P (cond b x y)
+either P true x y first second = first
+either P false x y first second = second
 
 -- ---- connections of sessions
 
@@ -138,23 +143,22 @@ module _ {A : Type 0} where
   one_number p q next ss s t rule at_s at_t same =
       same_Some s t (sym (numbered_here p next 1 ss s rule.ascending at_s) ∙ ap (λ n. session_of n ss) same ∙ numbered_here q next 1 ss t rule.ascending at_t)
 
+  -- one on a connection is the one that is found there
+  pub seat_of : (next k : ℕ) (ss : List (Session A)) (s : Session A) → IsRule ss next → session_of s.shown.number ss ≡ Some s → s.shown.conn ≡ Some k → session_at k ss ≡ Some s
+  seat_of next k ss s rule there on =
+      let some = found_some (is_numbered s.shown.number) (is_at k) ss s there (is_seat k s on) in
+      let also = numbered_here (is_at k) next 1 ss some.0 rule.ascending some.1 in
+      let number = rule.conns s.shown.number some.0.shown.number k s some.0 there also on (on_seat k ss some.0 some.1) in
+      some.1 ∙ ap Some (sym (one_number (is_numbered s.shown.number) (is_at k) next ss s some.0 rule there some.1 number))
+
   -- ---- some are left out
 
   rises_above : (next low high : ℕ) (ss : List (Session A)) → low ≤ high → RisesTo next high ss → RisesTo next low ss
   rises_above next low high [] more rises = let r = rises in omega arith
   rises_above next low high (s ∷ ss) more rises = ((let r = rises.0 in omega arith), rises.1)
 
-  rises_left : (q : Session A → Bool) (next low : ℕ) (ss : List (Session A)) → RisesTo next low ss → RisesTo next low (filter q ss)
-  rises_left q next low [] rises = rises
-  rises_left q next low (x ∷ ss) rises =
-      let rest = rises_left q next (x.shown.number + 1) ss rises.1 in
-      elim (cases_Bool (q x)) [
-        | inl left ↦ rw left (rises.0, rest)
-        | inr gone ↦ rw gone (rises_above next low (x.shown.number + 1) (filter q ss) (let first = rises.0 in omega arith) rest)
-      ]
-
   -- what is found by its number is left, and was there
-  of_left : (q : Session A → Bool) (next low n : ℕ) (ss : List (Session A)) (s : Session A) → RisesTo next low ss → session_of n (filter q ss) ≡ Some s → (session_of n ss ≡ Some s) × (q s ≡ true)
+  pub of_left : (q : Session A → Bool) (next low n : ℕ) (ss : List (Session A)) (s : Session A) → RisesTo next low ss → session_of n (filter q ss) ≡ Some s → (session_of n ss ≡ Some s) × (q s ≡ true)
   of_left q next low n [] s rises is = absurd (let no_way : ⊥ = cc in no_way)
   of_left q next low n (x ∷ ss) s rises is =
       elim (cases_Bool (q x)) [
@@ -181,7 +185,7 @@ module _ {A : Type 0} where
 
   pub rule_left : (q : Session A → Bool) (next : ℕ) (ss : List (Session A)) → IsRule ss next → IsRule (filter q ss) next
   rule_left q next ss rule = record {
-    ascending = rises_left q next 1 ss rule.ascending;
+    ascending = rises_filter q next 1 ss rule.ascending;
     fits = rule.fits;
     conns = λ m n conn s t at_m at_n. rule.conns m n conn s t (of_left q next 1 m ss s rule.ascending at_m).0 (of_left q next 1 n ss t rule.ascending at_n).0;
     names = λ m n s t at_m at_n. rule.names m n s t (of_left q next 1 m ss s rule.ascending at_m).0 (of_left q next 1 n ss t rule.ascending at_n).0;
@@ -199,15 +203,11 @@ module _ {A : Type 0} where
     pub account : (s : Session A) → (f s).shown.account ≡ s.shown.account
     pub resource : (s : Session A) → (f s).shown.resource ≡ s.shown.resource
 
-  either : (P : Session A → Type 0) (b : Bool) (x y : Session A) → P x → P y → P (cond b x y)
-  either P true x y first second = first
-  either P false x y first second = second
-
-  keeps_one : (n : ℕ) (f : Session A → Session A) → Keeps f → Keeps (changes_one n f)
+  pub keeps_one : (n : ℕ) (f : Session A → Session A) → Keeps f → Keeps (changes_one n f)
   keeps_one n f kept = record {
-    number = λ s. either (λ t. t.shown.number ≡ s.shown.number) (s.shown.number == n) (f s) s (kept.number s) refl;
-    account = λ s. either (λ t. t.shown.account ≡ s.shown.account) (s.shown.number == n) (f s) s (kept.account s) refl;
-    resource = λ s. either (λ t. t.shown.resource ≡ s.shown.resource) (s.shown.number == n) (f s) s (kept.resource s) refl;
+    number = λ s. either (λ (t : Session A). t.shown.number ≡ s.shown.number) (s.shown.number == n) (f s) s (kept.number s) refl;
+    account = λ s. either (λ (t : Session A). t.shown.account ≡ s.shown.account) (s.shown.number == n) (f s) s (kept.account s) refl;
+    resource = λ s. either (λ (t : Session A). t.shown.resource ≡ s.shown.resource) (s.shown.number == n) (f s) s (kept.resource s) refl;
   }
 
   rises_mapped : (g : Session A → Session A) → ((s : Session A) → (g s).shown.number ≡ s.shown.number) → (next low : ℕ) (ss : List (Session A)) → RisesTo next low ss → RisesTo next low (map g ss)
@@ -215,64 +215,76 @@ module _ {A : Type 0} where
   rises_mapped g same next low (s ∷ ss) rises =
       (subst (λ n. low ≤ n) (sym (same s)) rises.0, subst (λ n. RisesTo next (n + 1) (map g ss)) (sym (same s)) (rises_mapped g same next (s.shown.number + 1) ss rises.1))
 
-  of_was : (m n : ℕ) (f : Session A → Session A) (ss : List (Session A)) (s : Session A) → Keeps f → session_of m (with_session n f ss) ≡ Some s → (t : Session A) × (session_of m ss ≡ Some t) × (changes_one n f t ≡ s)
+  pub of_was : (m n : ℕ) (f : Session A → Session A) (ss : List (Session A)) (s : Session A) → Keeps f → session_of m (with_session n f ss) ≡ Some s → (t : Session A) × (session_of m ss ≡ Some t) × (changes_one n f t ≡ s)
   of_was m n f ss s kept is =
       was_found (changes_one n f) (session_of m ss) s (sym (found_mapped (is_numbered m) (changes_one n f) ss (λ t. ap (λ k. k == m) ((keeps_one n f kept).number t))) ∙ is)
 
-  -- where it has a connection, it had that before, or it comes to one on which none was
-  pub data Sits (ss : List (Session A)) (f : Session A → Session A) : Type 0 where
-    Stays : ((s : Session A) (j : ℕ) → (f s).shown.conn ≡ Some j → s.shown.conn ≡ Some j) → Sits ss f
-    Comes : (k : ℕ) → session_at k ss ≡ None → ((s : Session A) → (f s).shown.conn ≡ Some k) → Sits ss f
+  pub named_one : (account : ℕ) (resource : List ℕ) (n : ℕ) (f : Session A → Session A) (s : Session A) → Keeps f → is_named account resource (changes_one n f s) ≡ is_named account resource s
+  named_one account resource n f s kept = let all = keeps_one n f kept in let a = all.account s in let r = all.resource s in rw (a, r) refl
 
-  module _ (next n : ℕ) (f : Session A → Session A) (ss : List (Session A)) (rule : IsRule ss next) where
-    number_at : (i : ℕ) (s : Session A) → session_of i ss ≡ Some s → s.shown.number ≡ i
-    number_at i s is = number_is i ss s is
+  pub named_changed : (account : ℕ) (resource : List ℕ) (n : ℕ) (f : Session A → Session A) (ss : List (Session A)) → Keeps f → session_named account resource (with_session n f ss) ≡ option_map (changes_one n f) (session_named account resource ss)
+  named_changed account resource n f ss kept = found_mapped (is_named account resource) (changes_one n f) ss (λ s. named_one account resource n f s kept)
 
-    was_on : (j : ℕ) (s : Session A) → ((t : Session A) (i : ℕ) → (f t).shown.conn ≡ Some i → t.shown.conn ≡ Some i) → (changes_one n f s).shown.conn ≡ Some j → s.shown.conn ≡ Some j
-    was_on j s stays = either (λ t. t.shown.conn ≡ Some j → s.shown.conn ≡ Some j) (s.shown.number == n) (f s) s (stays s j) (λ is. is)
+  -- where it has a connection, it had that before, or it comes to a free one, on which none was
+  pub record Sits (Free : ℕ → Type 0) (ss : List (Session A)) (f : Session A → Session A) : Type 0 where
+    pub conn : (s : Session A) (j : ℕ) → (f s).shown.conn ≡ Some j → Free j ⊎ (s.shown.conn ≡ Some j)
+    pub nobody : (j : ℕ) → Free j → session_at j ss ≡ None
 
-    moved_on : (j k : ℕ) (s : Session A) → ((t : Session A) → (f t).shown.conn ≡ Some k) → (changes_one n f s).shown.conn ≡ Some j → ((s.shown.number ≡ n) × (j ≡ k)) ⊎ (s.shown.conn ≡ Some j)
-    moved_on j k s comes =
+  pub stays : (ss : List (Session A)) (f : Session A → Session A) → ((s : Session A) (j : ℕ) → (f s).shown.conn ≡ Some j → s.shown.conn ≡ Some j) → Sits (λ j. ⊥) ss f
+  stays ss f same = record { conn = λ s j on. inr (same s j on); nobody = λ j free. absurd free }
+
+  pub comes : (k : ℕ) (ss : List (Session A)) (f : Session A → Session A) → session_at k ss ≡ None → ((s : Session A) → (f s).shown.conn ≡ Some k) → Sits (λ j. j ≡ k) ss f
+  comes k ss f nobody on = record {
+    conn = λ s j is. inl (sym (same_Some k j (sym (on s) ∙ is)));
+    nobody = λ j same. subst (λ i. session_at i ss ≡ None) (sym same) nobody;
+  }
+
+  module _ (next n : ℕ) (Free : ℕ → Type 0) (f : Session A → Session A) (ss : List (Session A)) (rule : IsRule ss next) (kept : Keeps f) (sits : Sits Free ss f) where
+    all : Keeps (changes_one n f)
+    all = keeps_one n f kept
+
+    -- it is on a free connection now, or where it was
+    moved_on : (s : Session A) (j : ℕ) → (changes_one n f s).shown.conn ≡ Some j → ((s.shown.number ≡ n) × Free j) ⊎ (s.shown.conn ≡ Some j)
+    moved_on s j =
         elim (cases_Bool (s.shown.number == n)) [
-          | inl here ↦ rw here (λ is. inl (eqb-true s.shown.number n here, sym (same_Some k j (sym (comes s) ∙ is))))
+          | inl here ↦ rw here (λ is. elim (sits.conn s j is) [ inl free ↦ inl (eqb-true s.shown.number n here, free) | inr was ↦ inr was ])
           | inr apart ↦ rw apart (λ is. inr is)
         ]
 
-    no_one : {B : Type 0} (k m : ℕ) (s : Session A) → session_at k ss ≡ None → session_of m ss ≡ Some s → s.shown.conn ≡ Some k → B
-    no_one k m s nobody there on =
-        let some = found_some (is_numbered m) (is_at k) ss s there (is_seat k s on) in
+    no_one : {B : Type 0} (m j : ℕ) (s : Session A) → session_of m ss ≡ Some s → Free j → s.shown.conn ≡ Some j → B
+    no_one m j s there free on =
+        let some = found_some (is_numbered m) (is_at j) ss s there (is_seat j s on) in
         let e = some.1 in
+        let none = sits.nobody j free in
         absurd (let no_way : ⊥ = cc in no_way)
 
-    one_seat : (k i j conn : ℕ) (s t : Session A) → session_at k ss ≡ None → session_of i ss ≡ Some s → session_of j ss ≡ Some t
-        → ((s.shown.number ≡ n) × (conn ≡ k)) ⊎ (s.shown.conn ≡ Some conn) → ((t.shown.number ≡ n) × (conn ≡ k)) ⊎ (t.shown.conn ≡ Some conn) → i ≡ j
-    one_seat k i j conn s t nobody at_i at_j (inl a) (inl b) = sym (number_at i s at_i) ∙ a.0 ∙ sym b.0 ∙ number_at j t at_j
-    one_seat k i j conn s t nobody at_i at_j (inl a) (inr b) = no_one k j t nobody at_j (b ∙ ap Some a.1)
-    one_seat k i j conn s t nobody at_i at_j (inr a) (inl b) = no_one k i s nobody at_i (a ∙ ap Some b.1)
-    one_seat k i j conn s t nobody at_i at_j (inr a) (inr b) = rule.conns i j conn s t at_i at_j a b
-
-    seats : Sits ss f → (i j conn : ℕ) (s t : Session A) → session_of i ss ≡ Some s → session_of j ss ≡ Some t → (changes_one n f s).shown.conn ≡ Some conn → (changes_one n f t).shown.conn ≡ Some conn → i ≡ j
-    seats (Stays stays) i j conn s t at_i at_j on_s on_t = rule.conns i j conn s t at_i at_j (was_on conn s stays on_s) (was_on conn t stays on_t)
-    seats (Comes k nobody comes) i j conn s t at_i at_j on_s on_t = one_seat k i j conn s t nobody at_i at_j (moved_on conn k s comes on_s) (moved_on conn k t comes on_t)
+    one_seat : (i j conn : ℕ) (s t : Session A) → session_of i ss ≡ Some s → session_of j ss ≡ Some t → ((s.shown.number ≡ n) × Free conn) ⊎ (s.shown.conn ≡ Some conn) → ((t.shown.number ≡ n) × Free conn) ⊎ (t.shown.conn ≡ Some conn) → i ≡ j
+    one_seat i j conn s t at_i at_j (inl a) (inl b) = sym (number_is i ss s at_i) ∙ a.0 ∙ sym b.0 ∙ number_is j ss t at_j
+    one_seat i j conn s t at_i at_j (inl a) (inr b) = no_one j conn t at_j a.1 b
+    one_seat i j conn s t at_i at_j (inr a) (inl b) = no_one i conn s at_i b.1 a
+    one_seat i j conn s t at_i at_j (inr a) (inr b) = rule.conns i j conn s t at_i at_j a b
 
     few_of : ((s : Session A) → session_of n ss ≡ Some s → length (f s).waiting ≤ MOST_UNACKNOWLEDGED) → (m : ℕ) (s : Session A) → session_of m ss ≡ Some s → length (changes_one n f s).waiting ≤ MOST_UNACKNOWLEDGED
     few_of few m s is =
         elim (cases_Bool (s.shown.number == n)) [
           | inl here ↦
-              let same : m ≡ n = sym (number_at m s is) ∙ eqb-true s.shown.number n here in
+              let same : m ≡ n = sym (number_is m ss s is) ∙ eqb-true s.shown.number n here in
               rw here (few s (subst (λ i. session_of i ss ≡ Some s) same is))
           | inr other ↦ rw other (rule.few m s is)
         ]
 
+    ascends : RisesTo next 1 (with_session n f ss)
+    ascends = rises_mapped (changes_one n f) all.number next 1 ss rule.ascending
+
     -- the rule holds where one session is changed, of which few enough stanzas wait
-    pub rule_changed : Keeps f → Sits ss f → ((s : Session A) → session_of n ss ≡ Some s → length (f s).waiting ≤ MOST_UNACKNOWLEDGED) → IsRule (with_session n f ss) next
-    rule_changed kept sits few = record {
-      ascending = rises_mapped (changes_one n f) all.number next 1 ss rule.ascending;
+    pub rule_changed : ((s : Session A) → session_of n ss ≡ Some s → length (f s).waiting ≤ MOST_UNACKNOWLEDGED) → IsRule (with_session n f ss) next
+    rule_changed few = record {
+      ascending = ascends;
       fits = rule.fits;
       conns = λ i j conn s t at_i at_j on_s on_t.
           let a = of_was i n f ss s kept at_i in
           let b = of_was j n f ss t kept at_j in
-          seats sits i j conn a.0 b.0 a.1 b.1 (ap (λ (u : Session A). u.shown.conn) a.2 ∙ on_s) (ap (λ (u : Session A). u.shown.conn) b.2 ∙ on_t);
+          one_seat i j conn a.0 b.0 a.1 b.1 (moved_on a.0 conn (ap (λ (u : Session A). u.shown.conn) a.2 ∙ on_s)) (moved_on b.0 conn (ap (λ (u : Session A). u.shown.conn) b.2 ∙ on_t));
       names = λ i j s t at_i at_j account resource.
           let a = of_was i n f ss s kept at_i in
           let b = of_was j n f ss t kept at_j in
@@ -281,18 +293,36 @@ module _ {A : Type 0} where
           (sym (all.resource a.0) ∙ ap (λ (u : Session A). u.shown.resource) a.2 ∙ resource ∙ sym (ap (λ (u : Session A). u.shown.resource) b.2) ∙ all.resource b.0);
       few = λ m s at_m. let a = of_was m n f ss s kept at_m in subst (λ (u : Session A). length u.waiting ≤ MOST_UNACKNOWLEDGED) a.2 (few_of few m a.0 a.1);
     }
+
+    -- one on a connection was there, or the connection was free
+    pub seat_was : (j : ℕ) (s : Session A) → session_at j (with_session n f ss) ≡ Some s
+        → (t : Session A) × (session_of t.shown.number ss ≡ Some t) × (changes_one n f t ≡ s) × (((t.shown.number ≡ n) × Free j) ⊎ (session_at j ss ≡ Some t))
+    seat_was j s at =
+        let old = of_was s.shown.number n f ss s kept (numbered_here (is_at j) next 1 (with_session n f ss) s ascends at) in
+        let same : s.shown.number ≡ old.0.shown.number = ap (λ (u : Session A). u.shown.number) (sym old.2) ∙ all.number old.0 in
+        let there : session_of old.0.shown.number ss ≡ Some old.0 = subst (λ m. session_of m ss ≡ Some old.0) same old.1 in
+        (old.0, there, old.2, seated old.0 there (moved_on old.0 j (ap (λ (u : Session A). u.shown.conn) old.2 ∙ on_seat j (with_session n f ss) s at)))
       where
-        all : Keeps (changes_one n f)
-        all = keeps_one n f kept
+        seated : (t : Session A) → session_of t.shown.number ss ≡ Some t → ((t.shown.number ≡ n) × Free j) ⊎ (t.shown.conn ≡ Some j) → ((t.shown.number ≡ n) × Free j) ⊎ (session_at j ss ≡ Some t)
+        seated t there (inl new) = inl new
+        seated t there (inr on) = inr (seat_of next j ss t rule there on)
 
   -- ---- one is bound behind those that are left
 
-  named_as : (account : ℕ) (resource : List ℕ) (s : Session A) → is_named account resource s ≡ true → (s.shown.account ≡ account) × (s.shown.resource ≡ resource)
+  pub named_as : (account : ℕ) (resource : List ℕ) (s : Session A) → is_named account resource s ≡ true → (s.shown.account ≡ account) × (s.shown.resource ≡ resource)
   named_as account resource s is =
       elim (cases_Bool (s.shown.account == account)) [
         | inl same ↦ (eqb-true s.shown.account account same, (bytes_eq-Decides s.shown.resource resource).0 (rw same at is))
         | inr apart ↦ let none : false ≡ true = rw apart at is in absurd (let no_way : ⊥ = cc in no_way)
       ]
+
+  pub one_named : (account : ℕ) (resource : List ℕ) (next : ℕ) (ss : List (Session A)) (s t : Session A) → IsRule ss next → session_named account resource ss ≡ Some s → session_of t.shown.number ss ≡ Some t → is_named account resource t ≡ true → t ≡ s
+  one_named account resource next ss s t rule found there named =
+      let here = numbered_here (is_named account resource) next 1 ss s rule.ascending found in
+      let a = named_as account resource s (found_is (is_named account resource) ss s found) in
+      let b = named_as account resource t named in
+      let number : t.shown.number ≡ s.shown.number = rule.names t.shown.number s.shown.number t s there here (b.0 ∙ sym a.0) (b.1 ∙ sym a.1) in
+      same_Some t s (sym there ∙ ap (λ n. session_of n ss) number ∙ here)
 
   -- the one of a name is left out, and none with its name is left
   pub named_gone : (q : Session A → Bool) (account : ℕ) (resource : List ℕ) (next : ℕ) (ss : List (Session A)) (s : Session A) → IsRule ss next → session_named account resource ss ≡ Some s → q s ≡ false
@@ -301,13 +331,9 @@ module _ {A : Type 0} where
     where
       no_one : (t : Session A) → session_named account resource (filter q ss) ≡ Some t → ⊥
       no_one t is =
-          let there = of_left q next 1 t.shown.number ss t rule.ascending (numbered_here (is_named account resource) next 1 (filter q ss) t (rises_left q next 1 ss rule.ascending) is) in
-          let here = numbered_here (is_named account resource) next 1 ss s rule.ascending found in
-          let a = named_as account resource s (found_is (is_named account resource) ss s found) in
-          let b = named_as account resource t (found_is (is_named account resource) (filter q ss) t is) in
-          let number : t.shown.number ≡ s.shown.number = rule.names t.shown.number s.shown.number t s there.0 here (b.0 ∙ sym a.0) (b.1 ∙ sym a.1) in
-          let same : t ≡ s = same_Some t s (sym there.0 ∙ ap (λ n. session_of n ss) number ∙ here) in
-          let stays : q s ≡ true = subst (λ u. q u ≡ true) same there.1 in
+          let there = of_left q next 1 t.shown.number ss t rule.ascending (numbered_here (is_named account resource) next 1 (filter q ss) t (rises_filter q next 1 ss rule.ascending) is) in
+          let same : t ≡ s = one_named account resource next ss s t rule found there.0 (found_is (is_named account resource) (filter q ss) t is) in
+          let left : q s ≡ true = subst (λ u. q u ≡ true) same there.1 in
           let no_way : ⊥ = cc in no_way
 
   rises_pushed : (next low : ℕ) (ss : List (Session A)) (f : Session A) → RisesTo next low ss → f.shown.number ≡ next → RisesTo (next + 1) low (ss ++ f ∷ [])

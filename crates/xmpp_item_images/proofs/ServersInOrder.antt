@@ -23,8 +23,9 @@ use Rattle.xmpp_world.specs.Worlds.{server_entropy}
 use Rattle.xmpp_desk.specs.declared.connection.Connection.{Connection}
 use Rattle.xmpp_framing.specs.declared.states.Phase.{Phase}
 use Rattle.xmpp_framing.specs.declared.states.Phase.TheVariants as phase
-use Rattle.std.proofs.lemmas.Bool.{eq-eqb, eqb-true}
+use Rattle.std.proofs.lemmas.Bool.{eq-eqb}
 use Rattle.xmpp_item_images.proofs.AloneKept.{all_apart, alone_filtered}
+use Rattle.xmpp_resume.proofs.StoredFacts.{at_conn}
 use Rattle.xmpp_resume.specs.Rows.{is_some_number}
 use Rattle.xmpp_item_images.proofs.Beginnings.{first_before}
 use Rattle.xmpp_item_images.proofs.ConnsKept.{absent, all_filtered, differ_inserted, differ_removed, few_inserted, few_removed, removed_none}
@@ -75,14 +76,6 @@ gone_on k conns (Some q) e x = ap (option_map writer_of) (found_behind_removal q
     true_is_not : true ≡ false → ⊥
     true_is_not x = cc
 
--- all on the connection have the number of the first there
-on_true : (k : ℕ) (o : Option ℕ) → is_some_number k o ≡ true → o ≡ Some k
-on_true k None e = absurd (true_is_not e)
-  where
-    true_is_not : false ≡ true → ⊥
-    true_is_not e = cc
-on_true k (Some q) e = ap Some (eqb-true q k e)
-
 one_number : (k : ℕ) (l : List (Session ItemOut)) (u : Session ItemOut) → Alone l → find (is_at k) l ≡ Some u → AllByRecursion (λ (t : Session ItemOut). is_at k t ≡ true → t.shown.number ≡ u.shown.number) l
 one_number k [] u a found = tt
 one_number k (x ∷ l) u a found = by (one_number k l u a.1) (is_at k x) refl found
@@ -102,7 +95,7 @@ one_number k (x ∷ l) u a found = by (one_number k l u a.1) (is_at k x) refl fo
         let same : x ≡ u = some_is x u found in (
           (λ _. ap (λ (t : Session ItemOut). t.shown.number) same),
           all_mapped (Apart x) (λ (t : Session ItemOut). is_at k t ≡ true → t.shown.number ≡ u.shown.number)
-              (λ t p at. sym (p k (on_true k x.shown.conn e) (on_true k t.shown.conn at)) ∙ ap (λ (t : Session ItemOut). t.shown.number) same) l a.0,
+              (λ t p at. sym (p k (at_conn k x.shown.conn e) (at_conn k t.shown.conn at)) ∙ ap (λ (t : Session ItemOut). t.shown.number) same) l a.0,
         )
     by rest false e found = ((λ at. absurd (both (is_at k x) at e)), rest found)
 

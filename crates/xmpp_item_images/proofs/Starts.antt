@@ -79,7 +79,7 @@ devices_fit (o ∷ os) h = (device_fits o h.0, devices_fit os h.1)
 abbrev AreKnown : WireAbove → Type 0
 AreKnown above = AreNames above.names.accounts
 
-named_among : (name : List ℕ) (names : List (List ℕ)) → AreNames names → is_among name names ≡ true → is_name name ≡ true
+pub named_among : (name : List ℕ) (names : List (List ℕ)) → AreNames names → is_among name names ≡ true → is_name name ≡ true
 named_among name [] are is = absurd (cc is)
 named_among name (other ∷ names) are is =
     elim (cases_Bool (bytes_eq name other)) [

@@ -1,23 +1,26 @@
 -- Each small step of a server leaves it so that what it put came in the order of a stream.
 use Rattle.std.proofs.Common.{◌≡◌, ◌≢◌, ◌≤◌, ◌==◌, ℕ, Bool, true, false, cond, not, List, [], ◌∷◌, ◌++◌, Option, Some, None, refl, sym, ap, subst, ◌∙◌, append_assoc}
 use Rattle.std.proofs.lemmas.Bool.{eq-eqb}
+use Rattle.std.proofs.lemmas.Option.{same_Some}
 use Rattle.std.specs.List.{AllByRecursion}
 use Rattle.std.specs.Map.{lookup, remove_entry, set_value}
 use Rattle.std.specs.Option.{option_map}
 use Rattle.xmpp_acks.specs.Counters.{ahead}
 use Rattle.xmpp_acks.specs.declared.end.TheConstants.{MOST_UNACKNOWLEDGED}
 use Rattle.xmpp_archive.specs.Entries.{EntryView}
+use Rattle.xmpp_client_fits.proofs.TurnsKept.{All-drop}
 use Rattle.xmpp_desk.specs.State.{Hall, Kept, Put, Shut, Step, Took, archive_at, changed, conn_at, is_number, with_conn, with_sessions}
 use Rattle.xmpp_desk.specs.Steps as steps
 use Rattle.xmpp_desk.specs.Steps.{Act, act, acted, archived_in, ask_where, in_hall, in_phase, in_sessions, is_due, overflow, part, part_where, put, put_where, queue, send, send_told, shut, told_out}
 use Rattle.xmpp_desk.specs.declared.connection.Connection.{Connection}
 use Rattle.xmpp_framing.specs.declared.states.Phase.{Phase}
 use Rattle.xmpp_framing.specs.declared.states.Phase.TheVariants as phase
+use Rattle.xmpp_framing_laws.proofs.PlainElements.{append_each}
 use Rattle.xmpp_item_images.proofs.AloneKept.{Keeps, NoneAt, alone_changed, alone_filtered, alone_joined, alone_resumed}
 use Rattle.xmpp_item_images.proofs.ConnsKept.{all_filtered, all_found, differ_removed, differ_set, few_removed, few_set, not_itself, removed_none}
 use Rattle.xmpp_item_images.proofs.ItemsServed.{order_joined}
 use Rattle.xmpp_item_images.proofs.Lookups.{found_behind_other_value, found_behind_removal, found_behind_value, number_is}
-use Rattle.xmpp_item_images.proofs.WireSteps.{all_dropped, all_joined, all_mapped}
+use Rattle.xmpp_item_images.proofs.WireSteps.{all_mapped}
 use Rattle.xmpp_item_images.specs.ImagesCores.{AreInOrder, IsInOrder, IsNoFooter, behind_put, behind_shut, writer_of}
 use Rattle.xmpp_item_images.specs.Stands.{Any, Conns, Differ, HallStands, IsBehind, SessionStands, Alone, writer_in}
 use Rattle.xmpp_item_worlds.specs.ItemWorlds.{itself}
@@ -35,9 +38,6 @@ use Rattle.xmpp_writer.specs.Items.{Closing, ItemOut, Opening}
 pub record Calm (n : ℕ) (start : ℕ → Option Phase) (s : Step ItemOut) : Type 0 where
   pub order : (j : ℕ) → AreInOrder Any j (start j) s.outs (writer_in j s.hall.conns)
   pub stands : HallStands n s.hall
-
-some_is : {T : Type 0} (x y : T) → Some x ≡ Some y → x ≡ y
-some_is x y e = cc
 
 first_is_not : Some phase.First ≡ Some phase.Between → ⊥
 first_is_not e = cc
@@ -218,7 +218,7 @@ module _ (n : ℕ) (start : ℕ → Option Phase) where
     where
       none_is_not : (t : Told) → None ≡ Some t → ⊥
       none_is_not t e = cc
-  told_stands conns m l all (Some u) found t is = subst (λ (x : Told). IsBehind conns x.conn) (some_is (told u) t is) (all_found (SessionStands conns) (is_numbered m) l u all found).on
+  told_stands conns m l all (Some u) found t is = subst (λ (x : Told). IsBehind conns x.conn) (same_Some (told u) t is) (all_found (SessionStands conns) (is_numbered m) l u all found).on
 
   ask_calm : (s : Step ItemOut) (m : ℕ) (o : Option ℕ) (due : Bool) → IsBehind s.hall.conns o → Calm n start s → Calm n start (ask_where itself m o due s)
   ask_calm s m o false on c = c
@@ -232,7 +232,7 @@ module _ (n : ℕ) (start : ℕ → Option Phase) where
   queue_calm : (s : Step ItemOut) (m : ℕ) (a : ItemOut) (t : Told) → IsBehind s.hall.conns t.conn → IsNoFooter a → Calm n start s → Calm n start (queue itself m a t s)
   queue_calm s m a t on word c =
       let waiting = in_sessions (with_session m (waits a)) s in
-      let one = session_changed s m (waits a) (λ u x. record { on = x.on; words = all_joined IsNoFooter u.waiting (a ∷ []) x.words (word, tt) }) (λ u. (refl, refl)) c in
+      let one = session_changed s m (waits a) (λ u x. record { on = x.on; words = append_each IsNoFooter u.waiting (a ∷ []) x.words (word, tt) }) (λ u. (refl, refl)) c in
       ask_calm (put_where t.conn a waiting) m t.conn (is_due t) (subst (λ conns. IsBehind conns t.conn) (sym (put_where_conns t.conn a waiting)) on) (put_where_word waiting t.conn a on word one)
 
   send_told_calm : (s : Step ItemOut) (m : ℕ) (a : ItemOut) (o : Option Told) → ((t : Told) → o ≡ Some t → IsBehind s.hall.conns t.conn) → IsNoFooter a → Calm n start s → Calm n start (send_told itself m a o s)
@@ -262,7 +262,7 @@ module _ (n : ℕ) (start : ℕ → Option Phase) where
     stands = record {
       differ = c.stands.differ;
       few = c.stands.few;
-      sessions = all_joined (SessionStands s.hall.conns) (less (session_named account resource s.hall.sessions) s.hall.sessions) (fresh s.hall.next account resource k ∷ [])
+      sessions = append_each (SessionStands s.hall.conns) (less (session_named account resource s.hall.sessions) s.hall.sessions) (fresh s.hall.next account resource k ∷ [])
           (all_less s.hall.conns (session_named account resource s.hall.sessions) s.hall.sessions c.stands.sessions) (record { on = on; words = tt }, tt);
       alone = alone_joined k (session_named account resource s.hall.sessions) (fresh s.hall.next account resource k) s.hall.sessions refl none c.stands.alone;
     };
@@ -274,7 +274,7 @@ module _ (n : ℕ) (start : ℕ → Option Phase) where
     where
       by : (b : Bool) → AllByRecursion (SessionStands conns) (cond b (without t.shown.number l) (with_session t.shown.number (resumes h k) l))
       by true = all_without conns t.shown.number l all
-      by false = all_changed conns t.shown.number (resumes h k) l (λ u x. record { on = on; words = all_dropped IsNoFooter (ahead h u.acked) u.waiting x.words }) all
+      by false = all_changed conns t.shown.number (resumes h k) l (λ u x. record { on = on; words = All-drop IsNoFooter (ahead h u.acked) u.waiting x.words }) all
 
   pub resume_calm : (s : Step ItemOut) (previd : List ℕ) (account h k : ℕ) → writer_in k s.hall.conns ≡ Some phase.Between → NoneAt k s.hall.sessions → Calm n start s → Calm n start (act itself (steps.Resume previd account h k) s)
   resume_calm s previd account h k on none c = new_sessions s (after_resume h k (session_resumed previd account s.hall.sessions) s.hall.sessions) (all_resumed s.hall.conns h k (session_resumed previd account s.hall.sessions) s.hall.sessions on c.stands.sessions) (alone_resumed h k (session_resumed previd account s.hall.sessions) s.hall.sessions none c.stands.alone) c
@@ -304,7 +304,7 @@ module _ (n : ℕ) (start : ℕ → Option Phase) where
   quiet_act s (steps.Bind account resource k) word c = absurd word
   quiet_act s (steps.Resume previd account h k) word c = absurd word
   quiet_act s (steps.Enable m resume) word c = session_changed s m _ (λ t x. record { on = x.on; words = x.words }) (λ t. (refl, refl)) c
-  quiet_act s (steps.Acknowledge m h) word c = session_changed s m (acknowledged h) (λ t x. record { on = x.on; words = all_dropped IsNoFooter (ahead h t.acked) t.waiting x.words }) (λ t. (refl, refl)) c
+  quiet_act s (steps.Acknowledge m h) word c = session_changed s m (acknowledged h) (λ t x. record { on = x.on; words = All-drop IsNoFooter (ahead h t.acked) t.waiting x.words }) (λ t. (refl, refl)) c
   quiet_act s (steps.Ask m on) word c = session_changed s m (asks on) (λ t x. record { on = x.on; words = x.words }) (λ t. (refl, refl)) c
   quiet_act s (steps.Handle m) word c = session_changed s m _ (λ t x. record { on = x.on; words = x.words }) (λ t. (refl, refl)) c
   quiet_act s (steps.Present m available priority) word c = session_changed s m _ (λ t x. record { on = x.on; words = x.words }) (λ t. (refl, refl)) c

@@ -1,6 +1,5 @@
 -- What fits into a server's limits comes so as a server of items wants it.
-use Rattle.std.proofs.Common.{◌≡◌, ℕ, zero, suc, ◌≤◌, ◌<◌, ◌==◌, ◌/◌, ◌^◌, Bool, true, false, List, [], ◌∷◌, cond, length, refl, ap, arith, lit<, length-append}
-use Rattle.std.proofs.Math.Nat.{mod-lt}
+use Rattle.std.proofs.Common.{◌≡◌, ℕ, zero, suc, ◌≤◌, ◌<◌, ◌==◌, Bool, true, false, List, [], ◌∷◌, cond, length, refl, ap, arith, length-append}
 use Rattle.std.proofs.lemmas.Bool.{and_from}
 use Rattle.std.proofs.lemmas.Bool.Decides.{nat_tests}
 use Rattle.std.specs.Int.{byte_at, bytes_high_first}
@@ -10,6 +9,7 @@ use Rattle.xmpp_framing.specs.Limits.{server_limits}
 use Rattle.xmpp_framing.specs.TagSteps.{tag_limits}
 use Rattle.xmpp_framing_laws.specs.Fitting.{Fits, NodesFit, TagFits, TagsFit}
 use Rattle.xmpp_item_worlds.specs.ItemWorlds.{read_of}
+use Rattle.xmpp_server_fits.proofs.StartKept.{byte_at_small}
 use Rattle.xmpp_server_fits.specs.Keeps.{Comes, IsDrawn, IsShort, stanza_limits}
 use Rattle.xmpp_sizes.proofs.ElementSizes.{nodes_within, text_of_size, value_and_nodes}
 use Rattle.xmpp_sizes.proofs.TextSizes.{text_no_longer}
@@ -88,16 +88,12 @@ up_comes Closing fits = tt
 
 -- ---- what is drawn for a connection
 
-byte_small : (k n : ℕ) → byte_at k n < 256
-byte_small zero n = mod-lt n (lit< tt)
-byte_small (suc k) n = mod-lt (n / 256 ^ suc k) (lit< tt)
-
 small_is : (b : ℕ) → b < 256 → nat_lt b 256 ≡ true
 small_is b h = grind (arith, nat_tests)
 
 bytes_small : (k n : ℕ) → list_all (λ b. nat_lt b 256) (bytes_high_first k n) ≡ true
 bytes_small zero n = refl
-bytes_small (suc k) n = and_from _ _ (small_is (byte_at k n) (byte_small k n)) (bytes_small k n)
+bytes_small (suc k) n = and_from _ _ (small_is (byte_at k n) (byte_at_small k n)) (bytes_small k n)
 
 bytes_many : (k n : ℕ) → length (bytes_high_first k n) ≡ k
 bytes_many zero n = refl

@@ -85,7 +85,7 @@ takes_emitted version moment (Shut k ∷ outs) e = takes_emitted version moment 
 takes_emitted version moment (Took from to origin ∷ outs) e =
     takes_emitted version moment outs (emitted version moment (Took from to origin) e) ∙ append_assoc e.takes (take_told version moment from to origin ∷ []) (map (line_told version) (items.takes_told moment outs))
 
-length_items_emitted : (outs : List (Out ItemOut)) (ps : List ItemWire) → length (items.all_emitted outs ps) ≡ length ps
+pub length_items_emitted : (outs : List (Out ItemOut)) (ps : List ItemWire) → length (items.all_emitted outs ps) ≡ length ps
 length_items_emitted [] ps = refl
 length_items_emitted (Put k i ∷ outs) ps = length_items_emitted outs (items.emitted (Put k i) ps) ∙ length_under k _ ps
 length_items_emitted (Shut k ∷ outs) ps = length_items_emitted outs (items.emitted (Shut k) ps) ∙ length_under k _ ps

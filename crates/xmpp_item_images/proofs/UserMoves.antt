@@ -1,5 +1,5 @@
 -- What the user of a device does.
-use Rattle.std.proofs.Common.{◌≡◌, ◌≢◌, ℕ, zero, suc, ◌≤◌, ◌==◌, Bool, true, false, cond, List, [], ◌∷◌, ◌++◌, Option, Some, None, Result, Ok, Err, IsTrue, is_ok, nat_le, flat_map, length, refl, sym, ap, ap₂, subst, ◌∙◌, inl, inr, append-nil}
+use Rattle.std.proofs.Common.{◌≡◌, ◌≢◌, ℕ, ◌≤◌, ◌==◌, Bool, true, false, cond, List, [], ◌∷◌, ◌++◌, Option, Some, None, Result, Ok, Err, IsTrue, is_ok, nat_le, flat_map, length, refl, sym, ap, ap₂, subst, ◌∙◌, inl, inr, append-nil}
 use Rattle.std.proofs.lemmas.Bool.{cases_eq, eqb-true}
 use Rattle.std.specs.List.{AllByRecursion, slice_get, slice_set}
 use Rattle.std.proofs.lemmas.List.{length-map}
@@ -47,19 +47,11 @@ use Rattle.xmpp_wires.specs.Wires.{left, put_up}
 use Rattle.xmpp_wires.specs.declared.wire.Wire.{Wire}
 use Rattle.xmpp_world.specs.Moves.{CatchUp, Forget, Say, caught_up_by, forgot_by, said_by, spoke}
 use Rattle.xmpp_world.specs.Worlds.{World, number_at}
+use Rattle.xmpp_world_takes.proofs.DevicesMoved.{put_again}
 use Rattle.xmpp_writer.specs.Items.{ItemOut, written_item}
 use Rattle.xmpp_written.specs.Puts.{phase_behind}
 
 -- ---- lists set at a place
-
-pub set_same : {T : Type 0} (l : List T) (i : ℕ) (x : T) → slice_get l i ≡ Some x → slice_set l i x ≡ l
-set_same [] zero x found = refl
-set_same [] (suc i) x found = refl
-set_same (y ∷ l) zero x found = ap (λ z. z ∷ l) (some_is x y (sym found))
-  where
-    some_is : {T : Type 0} (x y : T) → Some x ≡ Some y → x ≡ y
-    some_is x y e = cc
-set_same (y ∷ l) (suc i) x found = ap (λ r. y ∷ r) (set_same l i x found)
 
 pub get_set_same : {T : Type 0} (l : List T) (i : ℕ) (x y : T) → slice_get l i ≡ Some x → slice_get (slice_set l i y) i ≡ Some y
 get_set_same l i x y found = ap (λ m. slice_get m i) (set_changes (λ _. y) l i x y found refl) ∙ get_changed_same (λ _. y) l i ∙ ap (option_map (λ _. y)) found
@@ -182,7 +174,7 @@ module _ (UpFits DownFits : ItemOut → Type 0) (HallFits : ℕ → Hall ItemOut
       → WorldImage UpFits DownFits HallFits ClientFits (record w { devices = slice_set w.devices i d'; wires = changed_where d.here (put_up []) w.wires }) v
   refused_image w v i d d' e found found_item h same same_here image =
       let same_framer : (q : ℕ) → framer_here q (Some d') ≡ framer_here q (Some d) = λ q. ap₂ (λ o (c : ClientValue). cond (has_wire q o) c.framer None) same_here same in
-      subst (WorldImage UpFits DownFits HallFits ClientFits (record w { devices = slice_set w.devices i d'; wires = changed_where d.here (put_up []) w.wires })) (ap₂ (λ l m. record v { devices = l; wires = m }) (set_same v.devices i e found_item) (nothing_where e.here v.wires))
+      subst (WorldImage UpFits DownFits HallFits ClientFits (record w { devices = slice_set w.devices i d'; wires = changed_where d.here (put_up []) w.wires })) (ap₂ (λ l m. record v { devices = l; wires = m }) (put_again v.devices i e found_item) (nothing_where e.here v.wires))
       (user_image w v i d d' e e (put_up []) (pipes.put_up []) found found_item (record { client = ap (λ (c : ClientValue). c.client) same ∙ h.client; here = same_here ∙ h.here; framed = λ a. ap (λ (c : ClientValue). c.framer) same ∙ h.framed a; fits = h.fits }) h.here (λ x. entered_begun [] x.up) image
       (said_at_here w v i d d' [] found same_framer tt tt) (λ q other. same_framer q))
 

@@ -1,12 +1,14 @@
 -- What each operation on a connection makes of the image that it is of a connection of items.
-use Rattle.std.proofs.Common.{◌≡◌, ℕ, zero, suc, Bool, true, false, List, [], ◌∷◌, ◌++◌, Option, Some, None, take, drop, refl, sym, ◌∙◌, flat_map, cond, arith}
+use Rattle.std.proofs.Common.{◌≡◌, ℕ, zero, suc, Bool, true, false, List, [], ◌∷◌, ◌++◌, Option, Some, None, take, refl, sym, ◌∙◌, flat_map, cond, arith}
 use Rattle.std.specs.List.{AllByRecursion}
+use Rattle.xmpp_client_fits.proofs.TurnsKept.{All-drop}
 use Rattle.xmpp_framing.specs.Limits.{client_limits, server_limits}
 use Rattle.xmpp_framing.specs.Machine.{run}
 use Rattle.xmpp_framing.specs.States.{State, from_start, turn}
 use Rattle.xmpp_framing.specs.declared.items.Item.{Item}
 use Rattle.xmpp_framing.specs.declared.states.Phase.{Phase}
 use Rattle.xmpp_framing.specs.declared.states.Phase.TheVariants as phase
+use Rattle.xmpp_framing_laws.proofs.PlainElements.{append_each}
 use Rattle.xmpp_item_images.proofs.PipeSteps.{closed_image, cut_image, due_told_image, ended_image, fresh_image, handed_image, is_due, over_image}
 use Rattle.xmpp_item_images.proofs.PutSteps.{ended_entered, put_image, puts_image, puts_last}
 use Rattle.xmpp_item_images.specs.PipeImages.{AreRead, Standing, dropped}
@@ -27,15 +29,6 @@ all_taken P zero l all = tt
 all_taken P (suc n) [] all = tt
 all_taken P (suc n) (x ∷ l) all = (all.0, all_taken P n l all.1)
 
-pub all_dropped : {X : Type 0} (P : X → Type 0) (n : ℕ) (l : List X) → AllByRecursion P l → AllByRecursion P (drop n l)
-all_dropped P zero l all = all
-all_dropped P (suc n) [] all = tt
-all_dropped P (suc n) (x ∷ l) all = all_dropped P n l all.1
-
-pub all_joined : {X : Type 0} (P : X → Type 0) (l more : List X) → AllByRecursion P l → AllByRecursion P more → AllByRecursion P (l ++ more)
-all_joined P [] more all rest = rest
-all_joined P (x ∷ l) more all rest = (all.0, all_joined P l more all.1 rest)
-
 pub all_mapped : {X : Type 0} (P Q : X → Type 0) (f : (x : X) → P x → Q x) (l : List X) → AllByRecursion P l → AllByRecursion Q l
 all_mapped P Q f [] all = tt
 all_mapped P Q f (x ∷ l) all = (f x all.0, all_mapped P Q f l all.1)
@@ -45,7 +38,7 @@ all_entered P more p all rest = by p.ended
   where
     by : (e : Bool) → AllByRecursion P (cond e p (record p { items = p.items ++ more })).items
     by true = all
-    by false = all_joined P p.items more all rest
+    by false = append_each P p.items more all rest
 
 module _ (UpFits DownFits : ItemOut → Type 0) (up_out : (i : ItemOut) → UpFits i → OutFits server_limits i) (down_out : (i : ItemOut) → DownFits i → OutFits client_limits i) where
   -- ---- the network
@@ -195,7 +188,7 @@ module _ (UpFits DownFits : ItemOut → Type 0) (up_out : (i : ItemOut) → UpFi
           end_together = i.end_together;
           up = h.image;
           down = i.down;
-          up_fits = all_dropped UpFits h.count p.up.items i.up_fits;
+          up_fits = All-drop UpFits h.count p.up.items i.up_fits;
           down_fits = i.down_fits;
         };
       }
@@ -226,6 +219,6 @@ module _ (UpFits DownFits : ItemOut → Type 0) (up_out : (i : ItemOut) → UpFi
           up = i.up;
           down = h.image;
           up_fits = i.up_fits;
-          down_fits = all_dropped DownFits h.count p.down.items i.down_fits;
+          down_fits = All-drop DownFits h.count p.down.items i.down_fits;
         };
       }

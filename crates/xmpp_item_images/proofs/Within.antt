@@ -5,9 +5,9 @@ use Rattle.xmpp_desk.specs.State.{Hall, Step}
 use Rattle.xmpp_framing.specs.declared.items.Item.{Item}
 use Rattle.xmpp_live.specs.Rule.{IsRule}
 use Rattle.xmpp_login.specs.declared.account.Account.{Account}
+use Rattle.xmpp_route.proofs.Rising.{none_ascend}
 use Rattle.xmpp_server.specs.Configs.{hall_at_start}
 use Rattle.xmpp_server.specs.Table.{after_item}
-use Rattle.xmpp_item_images.proofs.Counted.{none_ascend}
 use Rattle.xmpp_item_images.proofs.Falls.{Falls, every_one}
 use Rattle.xmpp_item_images.proofs.ItemsFall.{item_falls}
 use Rattle.xmpp_item_images.proofs.MomentsFall.{fresh_ordered, fresh_rises, gone_falls, moment_falls}

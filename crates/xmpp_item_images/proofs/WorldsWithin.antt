@@ -5,33 +5,24 @@ use Rattle.xmpp_client.specs.UserCalls.{catch_up_answer, catches_up, closes, dia
 use Rattle.xmpp_client_rows.specs.Clients.{Turn}
 use Rattle.xmpp_client_rows.specs.Speech.{in_items}
 use Rattle.xmpp_desk.specs.Moments.{at_moment, gone_at, with_fresh}
-use Rattle.xmpp_desk.specs.State.{Out, Put, Shut, Took}
-use Rattle.xmpp_item_worlds.specs.ItemMoves.{Close, CatchUp, Cut, Dial, Down, DownEnd, Forget, ItemMove, Say, Tick, Up, UpEnd, all_emitted, all_moved, at_device, at_wire, caught_up_by, closed_by, dialed_by, emitted, end_heard, fed_of, forgot_by, has_wire, heard_first, moved, said_by, said_in, served_by, served_first, spoke, step_of, told_up}
-use Rattle.xmpp_item_worlds.specs.ItemPipes.{ItemWire, cut_at, down_end_told, fresh_wire, handed_up, is_end_due, left, put_down, put_up, shut, up_end_told}
+use Rattle.xmpp_item_worlds.specs.ItemMoves.{Close, CatchUp, Cut, Dial, Down, DownEnd, Forget, ItemMove, Say, Tick, Up, UpEnd, all_moved, at_device, at_wire, caught_up_by, closed_by, dialed_by, end_heard, fed_of, forgot_by, has_wire, heard_first, moved, said_by, said_in, served_by, served_first, spoke, step_of, told_up}
+use Rattle.xmpp_item_worlds.specs.ItemPipes.{ItemWire, cut_at, down_end_told, fresh_wire, handed_up, is_end_due, left, put_up, up_end_told}
 use Rattle.xmpp_item_worlds.specs.ItemWorlds.{ItemDevice, ItemWorld, itself, read_of, silent_turn}
 use Rattle.xmpp_server.specs.Table.{after_item}
+use Rattle.xmpp_item_images.proofs.UpMoves.{length_items_emitted}
+use Rattle.xmpp_item_images.proofs.UserMoves.{length_where}
 use Rattle.xmpp_item_images.proofs.Within.{fresh_within, gone_within, item_within, moment_within}
 use Rattle.xmpp_item_images.specs.Unbound.{IsWithin}
 use Rattle.xmpp_item_images.specs.Worlds.{IsWorldWithin}
-use Rattle.xmpp_wires.specs.Places.{changed_at, changed_where, place_under}
+use Rattle.xmpp_wires.specs.Places.{changed_at, changed_where}
 use Rattle.xmpp_writer.specs.Items.{ItemOut}
 
 -- ---- how many connections there are
 
-at_long : {T : Type 0} (place : ℕ) (f : T → T) (l : List T) → length (changed_at place f l) ≡ length l
+pub at_long : {T : Type 0} (place : ℕ) (f : T → T) (l : List T) → length (changed_at place f l) ≡ length l
 at_long place f [] = refl
 at_long zero f (x ∷ l) = refl
 at_long (suc place) f (x ∷ l) = ap suc (at_long place f l)
-
-where_long : {T : Type 0} (o : Option ℕ) (f : T → T) (l : List T) → length (changed_where o f l) ≡ length l
-where_long None f l = refl
-where_long (Some place) f l = at_long place f l
-
-emitted_long : (outs : List (Out ItemOut)) (l : List ItemWire) → length (all_emitted outs l) ≡ length l
-emitted_long [] l = refl
-emitted_long (Put k i ∷ outs) l = emitted_long outs (emitted (Put k i) l) ∙ where_long (place_under k) (put_down (i ∷ [])) l
-emitted_long (Shut k ∷ outs) l = emitted_long outs (emitted (Shut k) l) ∙ where_long (place_under k) shut l
-emitted_long (Took from to origin ∷ outs) l = emitted_long outs l
 
 -- ---- moves
 
@@ -69,22 +60,22 @@ dials_go place mine yours (Some d) w = record {
   where
     long : length (changed_where d.here left w.wires ++ put_up (dials in_items mine (fed_of d.client)).turn.out.put (fresh_wire place) ∷ []) ≡ length w.wires + 1
     long =
-        let old = where_long d.here left w.wires in
+        let old = length_where d.here left w.wires in
         let all = length-append (changed_where d.here left w.wires) (put_up (dials in_items mine (fed_of d.client)).turn.out.put (fresh_wire place) ∷ []) in
         omega (arith, old, all)
 
 forgets_go : (place : ℕ) (o : Option ItemDevice) (w : ItemWorld) → Goes w (forgot_by place o w)
 forgets_go place None w = nothing w
-forgets_go place (Some d) w = quiet w (forgot_by place (Some d) w) (where_long d.here left w.wires) refl
+forgets_go place (Some d) w = quiet w (forgot_by place (Some d) w) (length_where d.here left w.wires) refl
 
 closes_go : (place : ℕ) (o : Option ItemDevice) (w : ItemWorld) → Goes w (closed_by place o w)
 closes_go place None w = nothing w
 closes_go place (Some d) w =
     let put = (closes in_items (fed_of d.client)).turn.out.put in
-    quiet w (closed_by place (Some d) w) (where_long d.here left (changed_where d.here (put_up put) w.wires) ∙ where_long d.here (put_up put) w.wires) refl
+    quiet w (closed_by place (Some d) w) (length_where d.here left (changed_where d.here (put_up put) w.wires) ∙ length_where d.here (put_up put) w.wires) refl
 
 spoken_go : {T E : Type 0} (r : Result T E) (place : ℕ) (d : ItemDevice) (t : Turn ItemOut ItemOut) (w : ItemWorld) → Goes w (said_in r place d t w)
-spoken_go (Ok done) place d t w = quiet w (spoke place d t w) (where_long d.here (put_up t.out.put) w.wires) refl
+spoken_go (Ok done) place d t w = quiet w (spoke place d t w) (length_where d.here (put_up t.out.put) w.wires) refl
 spoken_go (Err fault) place d t w = nothing w
 
 says_go : (place : ℕ) (to text : List ℕ) (private : Bool) (o : Option ItemDevice) (w : ItemWorld) → Goes w (said_by place to text private o w)
@@ -98,7 +89,7 @@ catches_go place most (Some d) w = spoken_go (catch_up_answer d.client) place d 
 first_goes : (place : ℕ) (items : List ItemOut) (w : ItemWorld) → Goes w (served_first place items w)
 first_goes place [] w = nothing w
 first_goes place (i ∷ items) w =
-    same_many w (served_first place (i ∷ items) w) (emitted_long (after_item itself (place + 1) (read_of i) (step_of w.server)).outs (changed_at place handed_up w.wires) ∙ at_long place handed_up w.wires)
+    same_many w (served_first place (i ∷ items) w) (length_items_emitted (after_item itself (place + 1) (read_of i) (step_of w.server)).outs (changed_at place handed_up w.wires) ∙ at_long place handed_up w.wires)
     (λ n fits is. item_within itself (place + 1) (read_of i) n (step_of w.server) fits is)
 
 served_goes : (place : ℕ) (o : Option ItemWire) (w : ItemWorld) → Goes w (served_by place o w)

@@ -60,7 +60,7 @@ module _ (complete : Bool) (index count : ℕ) where
   count_again (Some id) None = ap Some (text_of-text_node (decimal count))
   count_again (Some id) (Some t) = ap Some (text_of-text_node (decimal count))
 
-last_place : (ns : List ℕ) → slice_get ns (length ns - 1) ≡ last_in ns
+pub last_place : (ns : List ℕ) → slice_get ns (length ns - 1) ≡ last_in ns
 last_place [] = refl
 last_place (n ∷ []) = refl
 last_place (n ∷ m ∷ ns) =

@@ -6,6 +6,7 @@ use Rattle.std.proofs.lemmas.Option.{same_Some}
 use Rattle.std.specs.List.{AllByRecursion}
 use Rattle.std.specs.Prelude.{ℤ, slice_get, slice_set}
 use Rattle.xmpp_archive.specs.Entries.{EntryView}
+use Rattle.xmpp_basis.proofs.Lists.{AllByRecursion-weaker}
 use Rattle.xmpp_desk.specs.State.{Hall, Kept, Step, Took, archive_at}
 use Rattle.xmpp_desk.specs.Steps.{Act, Archive, Copy, Handle, Present, Send, Tell, act, acted, appended, archived_in}
 use Rattle.xmpp_device_views.specs.Deeds.{Deed, Gives, gives_all}
@@ -24,7 +25,6 @@ use Rattle.xmpp_live.specs.Sessions.{copies, handles, presents}
 use Rattle.xmpp_links_follow.proofs.Former.{keeps_both}
 use Rattle.xmpp_links_follow.proofs.StanzasElsewhere.{send_stands}
 use Rattle.xmpp_links_follow.proofs.GivenParts.{IsFair, IsNotOf, fair_still, given_both, given_still, row_both, row_same, sends_elsewhere}
-use Rattle.xmpp_links_follow.proofs.Listening.{each_weaker}
 use Rattle.xmpp_links_follow.proofs.MorePipes.{more_put_out, told_out}
 use Rattle.xmpp_links_follow.proofs.Own.{Goes, own_goes}
 use Rattle.xmpp_links_follow.proofs.Thinned.{LeavesRow, apart_row, fair_row, session_kept}
@@ -198,4 +198,4 @@ module _ (who : Identity) (logins : ℕ → Login) where
         let one = act_goes s v reached shows pipes a fair.0 in
         goes_both a acts v (act itself a s) (acted itself (a ∷ acts) s) one
         (acts_go acts (act itself a s) one.follows.next (reached_more one.follows.moves v one.follows.next reached one.follows.leads) one.follows.server one.follows.pipes
-        (each_weaker (IsFair v.row) (IsFair one.follows.next.row) (λ b. fair_still v.row one.follows.next.row b one.kept) acts fair.1))
+        (AllByRecursion-weaker (IsFair v.row) (IsFair one.follows.next.row) (λ b. fair_still v.row one.follows.next.row b one.kept) acts fair.1))

@@ -13,11 +13,10 @@ use Rattle.xmpp_item_worlds.specs.ItemWorlds.{itself}
 use Rattle.xmpp_links.specs.Links.{LinkKept}
 use Rattle.xmpp_links.specs.Views.{View}
 use Rattle.xmpp_live.specs.Sessions.{Session, asks, is_at, parked, resumes, session_at, session_named, with_session, without}
-use Rattle.xmpp_links_follow.proofs.Carried.{Carries}
 use Rattle.xmpp_links_follow.proofs.OthersElsewhere.{AreElsewhere, both_elsewhere, put_elsewhere, shut_elsewhere}
-use Rattle.xmpp_links_follow.proofs.OthersHalls.{IsNotOf, changed_stays, conn_apart, conn_stays, number_apart, thinned_stays}
+use Rattle.xmpp_links_follow.proofs.OthersHalls.{Carries, IsNotOf, changed_stays, conn_apart, conn_stays, number_apart, thinned_stays}
 use Rattle.xmpp_replies.specs.Management.{request_item}
-use Rattle.xmpp_links_follow.proofs.Leavings.{seat_is}
+use Rattle.xmpp_item_images.proofs.RuleKept.{seat_is}
 use Rattle.xmpp_links_follow.proofs.SessionRows.{fewer}
 use Rattle.xmpp_session_rows.specs.Resumptions.{asking, saying}
 use Rattle.xmpp_writer.specs.Items.{Closing, ItemOut}

@@ -4,7 +4,7 @@ use Rattle.std.proofs.Common.{◌≡◌, ◌≢◌, ℕ, ◌+◌, ◌<◌, ◌^�
 use Rattle.std.proofs.lemmas.Bool.{cases_Bool, eq-eqb}
 use Rattle.std.proofs.lemmas.List.Elements.{All-nil}
 use Rattle.std.proofs.lemmas.Option.{same_Some}
-use Rattle.std.specs.List.{filter, find}
+use Rattle.std.specs.List.{filter}
 use Rattle.std.specs.Option.{option_map}
 use Rattle.std.specs.Result.{result_ok}
 use Rattle.xmpp_desk.specs.State.{Hall, Step, conn_at, full_address, without_conn}
@@ -38,16 +38,17 @@ use Rattle.xmpp_links.specs.Views as links
 use Rattle.xmpp_links.specs.Words.{AtSession, Bind, Bound, Conflict, Ready}
 use Rattle.xmpp_live.specs.Rule.{IsRule}
 use Rattle.xmpp_live.specs.Sessions.{Session, ended_of, fresh, is_at, is_named, less, session_at, session_named, session_of, told}
+use Rattle.xmpp_pages.proofs.Tallying.{filter_kept}
 use Rattle.xmpp_replies.specs.Requests.{bound_item}
 use Rattle.xmpp_replies.specs.Streams.{error_item}
 use Rattle.xmpp_replies.specs.declared.conditions.StreamCondition.TheVariants as stream
 use Rattle.xmpp_links_follow.proofs.Binding.{bound_hall, bound_shows, new_row}
 use Rattle.xmpp_links_follow.proofs.BindReads.{address_is, bind_elem, bind_word, resource_asked, resource_chosen}
-use Rattle.xmpp_links_follow.proofs.Former.{keeps_both, pushed_stays, shut_then_taken}
+use Rattle.xmpp_links_follow.proofs.Former.{keeps_both, shut_then_taken}
 use Rattle.xmpp_links_follow.proofs.HallsLeft.{without_apart, without_here, without_sorted}
 use Rattle.xmpp_links_follow.proofs.HandMoves.{kept_here, open_here, row_here}
 use Rattle.xmpp_links_follow.proofs.Leavings.{unseated}
-use Rattle.xmpp_links_follow.proofs.Removed.{named_gone, of_left, rule_left}
+use Rattle.xmpp_item_images.proofs.RuleKept.{named_gone, none_left, of_left, rule_left}
 use Rattle.xmpp_links_follow.proofs.Sessions.{taken, taken_client, taken_pipes}
 use Rattle.xmpp_links_follow.proofs.Shuts.{shuts_at}
 use Rattle.xmpp_links_follow.proofs.Standing.{stands_at}
@@ -61,16 +62,6 @@ use Rattle.xmpp_links_follow.proofs.MoreMoves.{does_both, then_reaches}
 use Rattle.xmpp_links_follow.proofs.Placed.{keeps_at}
 use Rattle.xmpp_links_follow.proofs.Servings.{IsLive, Known, known_altered, known_same, live_of}
 use Rattle.xmpp_writer.specs.Items.{Closing, ItemOut}
-
-pub none_left : {A : Type 0} (p q : A → Bool) (ss : List A) → find p ss ≡ None → find p (filter q ss) ≡ None
-none_left p q [] none = none
-none_left p q (x ∷ ss) none =
-    elim (cases_Bool (p x)) [
-      | inl here ↦ let found : Some x ≡ None = rw here at none in absurd (let no_way : ⊥ = cc in no_way)
-      | inr other ↦
-          let rest = none_left p q ss (rw other at none) in
-          elim (cases_Bool (q x)) [ inl stays ↦ rw (stays, other) rest | inr gone ↦ rw gone rest ]
-    ]
 
 no_row_named : (who : Identity) (h : Hall ItemOut) (o : Option (Session ItemOut)) → IsRowShown None o → o ≡ None
 no_row_named who h None shown = refl
@@ -285,7 +276,7 @@ module _ (who : Identity) (logins : ℕ → Login) (h : Hall ItemOut) (wires : T
         ∙ ap (λ o. acted itself (parting_where itself o (error_item stream.Conflict) (Say k (bound_item (codes "bind") (full_address who.account who.resource h)) ∷ []))
         (record { hall = record h { sessions = fewer ++ fresh h.next who.account who.resource k ∷ []; next = h.next + 1 }; outs = [] })) (live.row.conn ∙ on)
         ∙ ap (λ ss. record { hall = record h { sessions = ss; next = h.next + 1; conns = (without_conn f h).conns }; outs = shuts_at f words ++ puts_at k (bound_item (codes "bind") (full_address who.account who.resource h) ∷ []) })
-        (pushed_stays elsewhere fewer (fresh h.next who.account who.resource k) elsewhere_new)
+        (filter_kept elsewhere fewer (fresh h.next who.account who.resource k) elsewhere_new)
         ∙ ap (λ a. record { hall = done; outs = shuts_at f words ++ puts_at k (bound_item (codes "bind") a ∷ []) }) (address_is who h p.server.served)
 
     shown_last : (j : ℕ) (e : Conn ItemOut) → Entry k attached first_conns j e → conn_at j done ≡ conn_shown who (logins j) e

@@ -14,9 +14,8 @@ use Rattle.xmpp_links.specs.Views.{Row, Table, View}
 use Rattle.xmpp_links.specs.Views as links
 use Rattle.xmpp_live.specs.Rule.{IsRule}
 use Rattle.xmpp_live.specs.Sessions.{Session, fresh, is_at, is_named, is_numbered, session_at, session_named, session_of}
-use Rattle.xmpp_links_follow.proofs.Leavings.{seat_is, seat_of}
-use Rattle.xmpp_links_follow.proofs.Pushed.{found_pushed, named_last, numbers_below, newest_named, rule_pushed, seat_pushed}
-use Rattle.xmpp_links_follow.proofs.Found.{found_is, numbered_here}
+use Rattle.xmpp_item_images.proofs.RuleKept.{found_is, found_pushed, numbered_here, rule_pushed, seat_is, seat_of}
+use Rattle.xmpp_links_follow.proofs.Pushed.{named_last, numbers_below, newest_named, seat_pushed}
 use Rattle.xmpp_writer.specs.Items.{ItemOut}
 
 abbrev pub new_row : ℕ → ℕ → Row ItemOut

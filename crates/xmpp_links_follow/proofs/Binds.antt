@@ -33,15 +33,13 @@ use Rattle.xmpp_replies.specs.Requests.{bound_item}
 use Rattle.xmpp_replies.specs.Streams.{error_item}
 use Rattle.xmpp_replies.specs.declared.conditions.StreamCondition.TheVariants as stream
 use Rattle.xmpp_links_follow.proofs.BindReads.{bind_elem, bind_word, resource_asked, resource_chosen}
-use Rattle.xmpp_links_follow.proofs.BindRows.{none_left}
+use Rattle.xmpp_item_images.proofs.RuleKept.{found_is, named_gone, none_left, numbered_here}
 use Rattle.xmpp_links_follow.proofs.HandMoves.{kept_here, row_here, wire_here}
 use Rattle.xmpp_links_follow.proofs.Leavings.{unseated}
-use Rattle.xmpp_links_follow.proofs.Removed.{named_gone}
 use Rattle.xmpp_links_follow.specs.Taking.{IsFirst, IsLeft, on_item}
 use Rattle.xmpp_session_rows.specs.Bindings.{binding_as, chosen, former_of}
 use Rattle.xmpp_stanza.specs.Readings.{stanza_of}
 use Rattle.xmpp_stanza_rows.specs.Ready.{at_ready_or_bound}
-use Rattle.xmpp_links_follow.proofs.Found.{found_is, numbered_here}
 use Rattle.xmpp_writer.specs.Items.{ItemOut}
 
 module _ (who : Identity) (logins : ℕ → Login) (h : Hall ItemOut) (wires : Table ItemWire) (v : View ItemOut) (k : ℕ) (p : IsFirst who logins h wires v k Bind) where

@@ -6,13 +6,15 @@ use Rattle.std.specs.List.{filter, find}
 use Rattle.xmpp_client.specs.UserCalls.{dials}
 use Rattle.xmpp_client_rows.specs.Clients.{Turn}
 use Rattle.xmpp_client_rows.specs.Speech.{in_items}
+use Rattle.xmpp_item_images.proofs.UserMoves.{get_set_same, length_where}
 use Rattle.xmpp_links_follow.proofs.CutPipes.{none_there}
 use Rattle.xmpp_links_follow.proofs.Dialling.{dial_follows, fresh_beside}
 use Rattle.xmpp_links_follow.proofs.ConnectionsElsewhere.{IsOfOther, other_pipes}
+use Rattle.xmpp_links_follow.proofs.Former.{pipes_as}
 use Rattle.xmpp_links_follow.proofs.Inserted.{sorted_inserted}
-use Rattle.xmpp_links_follow.proofs.Leaves.{pipes_same}
-use Rattle.xmpp_links_follow.proofs.Numbered.{here_changed, length_changed, set_elsewhere, set_here, under_more, under_none}
-use Rattle.xmpp_links_follow.proofs.Stays.{along_both, client_stays, no_deeds, reached_along}
+use Rattle.xmpp_links_follow.proofs.MoreMoves.{then_reaches}
+use Rattle.xmpp_links_follow.proofs.Numbered.{here_changed, set_elsewhere, under_more, under_none}
+use Rattle.xmpp_links_follow.proofs.Stays.{client_stays, no_deeds, reached_along}
 use Rattle.xmpp_links_follow.specs.Following.{AreDialled, IsDrawn, WorldFollows, with_login}
 use Rattle.xmpp_desk.specs.Moments.{at_moment, fresh_conn, with_fresh}
 use Rattle.xmpp_desk.specs.State.{Hall}
@@ -60,7 +62,7 @@ again_at k x t same j e = ap (λ o. if nat_eq k j then Some x else o) e
 one_more : (here : Option ℕ) (x : ItemWire) (wires : List ItemWire) (j : ℕ) → under j (changed_where here left wires ++ x ∷ []) ≡ with_at (length wires + 1) x (where_here here left (by_number wires)) j
 one_more here x wires j =
     under_more (changed_where here left wires) x j
-    ∙ ap (λ n. with_at (n + 1) x (by_number (changed_where here left wires)) j) (length_changed here left wires)
+    ∙ ap (λ n. with_at (n + 1) x (by_number (changed_where here left wires)) j) (length_where here left wires)
     ∙ again_at (length wires + 1) x (by_number (changed_where here left wires)) (where_here here left (by_number wires)) j (here_changed here left wires j)
 
 -- ---- this device
@@ -80,15 +82,15 @@ module _ (who : Identity) (logins : ℕ → Login) (w : ItemWorld) (v : View Ite
       (record {
         moves = moment.moves ++ f.moves;
         next = f.next;
-        leads = along_both moment.moves f.moves v moment.next f.next moment.leads f.leads;
+        leads = then_reaches moment.moves f.moves v moment.next f.next moment.leads f.leads;
         does = no_deeds moment.moves f.moves moment.does f.does;
         prompt = prompt_both moment.moves f.moves (silent_as moment.moves [] moment.does tt) f.prompt;
         shows = record {
           normal = s.normal;
           device = record { client = t.client; here = Some n };
-          there = set_here w.devices who.place d (record { client = t.client; here = Some n }) s.there;
+          there = get_set_same w.devices who.place d (record { client = t.client; here = Some n }) s.there;
           pipes =
-              pipes_same who (with_login (n + 1) x logins) (with_at (n + 1) (put_up t.out.put (fresh_wire who.place)) (where_here d.here left (by_number w.wires))) (by_number (dialed_by who.place mine yours (Some d) w).wires) f.next
+              pipes_as who (with_login (n + 1) x logins) (with_at (n + 1) (put_up t.out.put (fresh_wire who.place)) (where_here d.here left (by_number w.wires))) (by_number (dialed_by who.place mine yours (Some d) w).wires) f.next
               (one_more d.here (put_up t.out.put (fresh_wire who.place)) w.wires) f.pipes;
           server = f.server;
           client = f.client;
@@ -131,7 +133,7 @@ module _ (whom : Identity) (others : ℕ → Login) (w : ItemWorld) (u : View It
       let none : moment.next.conns (n + 1) ≡ None =
       none_there whom (others (n + 1)) (n + 1) (moment.next.conns (n + 1)) (subst (IsShown whom (others (n + 1)) (n + 1) (moment.next.conns (n + 1))) (under_none w.wires) (moment.pipes.each (n + 1))) in
       let stays : PipesShow whom others (where_here d.here left (by_number w.wires)) moment.next =
-      pipes_same whom others (by_number (changed_where d.here left w.wires)) (where_here d.here left (by_number w.wires)) moment.next (λ j. sym (here_changed d.here left w.wires j))
+      pipes_as whom others (by_number (changed_where d.here left w.wires)) (where_here d.here left (by_number w.wires)) moment.next (λ j. sym (here_changed d.here left w.wires j))
       (other_pipes whom others moment.next d.here left w.wires (λ y. refl) strange_here moment.pipes) in
       subst (λ o. WorldFollows whom others (dialed_by at mine yours o w) u []) (sym is)
       (record {
@@ -145,7 +147,7 @@ module _ (whom : Identity) (others : ℕ → Login) (w : ItemWorld) (u : View It
           device = s.device;
           there = set_elsewhere w.devices at whom.place (record { client = t.client; here = Some n }) apart ∙ s.there;
           pipes =
-              pipes_same whom others (with_at (n + 1) x (where_here d.here left (by_number w.wires))) (by_number (dialed_by at mine yours (Some d) w).wires) moment.next (one_more d.here x w.wires)
+              pipes_as whom others (with_at (n + 1) x (where_here d.here left (by_number w.wires))) (by_number (dialed_by at mine yours (Some d) w).wires) moment.next (one_more d.here x w.wires)
               (beside_pipes whom others moment.next (n + 1) x (where_here d.here left (by_number w.wires)) (λ e. apart (sym e)) none stays);
           server = beside_server whom others moment.next (n + 1) (at_moment w.moment w.server) yours none moment.server;
           client = client_stays whom others s.device u moment.next moment.client s.client;

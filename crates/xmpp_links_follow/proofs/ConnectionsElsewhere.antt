@@ -9,7 +9,7 @@ use Rattle.xmpp_client_rows.specs.Clients.{Turn}
 use Rattle.xmpp_client_rows.specs.Speech.{in_items}
 use Rattle.xmpp_client_rows.specs.Turns.{is_apart}
 use Rattle.xmpp_links_follow.proofs.CutPipes.{wire_of}
-use Rattle.xmpp_links_follow.proofs.Leaves.{pipes_same}
+use Rattle.xmpp_links_follow.proofs.Former.{pipes_as}
 use Rattle.xmpp_links_follow.proofs.Numbered.{here_changed, set_elsewhere}
 use Rattle.xmpp_device_views.specs.Identities.{Identity, Login}
 use Rattle.xmpp_device_views.specs.Pipes.{IsShown, PipesShow, by_number, under}
@@ -43,7 +43,7 @@ module _ (whom : Identity) (others : ℕ → Login) (u : View ItemOut) where
 
   pub other_pipes : (here : Option ℕ) (f : ItemWire → ItemWire) (wires : List ItemWire) → ((x : ItemWire) → (f x).device ≡ x.device) → IsOfOther whom.place here wires → PipesShow whom others (by_number wires) u
       → PipesShow whom others (by_number (changed_where here f wires)) u
-  other_pipes here f wires keeps apart pipes = pipes_same whom others (where_here here f (by_number wires)) (by_number (changed_where here f wires)) u (here_changed here f wires) (go here refl)
+  other_pipes here f wires keeps apart pipes = pipes_as whom others (where_here here f (by_number wires)) (by_number (changed_where here f wires)) u (here_changed here f wires) (go here refl)
     where
       go : (o : Option ℕ) → here ≡ o → PipesShow whom others (where_here o f (by_number wires)) u
       go None is = pipes

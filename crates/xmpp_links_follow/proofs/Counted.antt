@@ -1,8 +1,6 @@
 -- A count that names a place in the client's queue is told exactly, though modulo 2 ^ 32, and takes from the queue
 -- what it acknowledges.
-use Rattle.std.proofs.Common.{◌≡◌, ℕ, ◌-◌, ◌≤◌, false, List, length, drop, nat_lt, refl, ap, ◌∙◌, arith}
-use Rattle.std.proofs.lemmas.Bool.Decides.{nat_tests}
-use Rattle.std.proofs.lemmas.List.{length-drop}
+use Rattle.std.proofs.Common.{◌≡◌, ℕ, ◌-◌, ◌≤◌, false, length, drop, refl, ap, ◌∙◌, arith}
 use Rattle.std.proofs.lemmas.List.Elements.{All-drop}
 use Rattle.xmpp_acks.proofs.Senders.{ahead_exact}
 use Rattle.xmpp_acks.specs.Counters.{ahead}
@@ -12,18 +10,13 @@ use Rattle.xmpp_device_views.specs.Counted.{IsForServer}
 use Rattle.xmpp_device_views.specs.WordItems.{told_count}
 use Rattle.xmpp_links.specs.Promises.{IsWithin}
 use Rattle.xmpp_links.specs.Views.{Own}
+use Rattle.xmpp_links_follow.proofs.SessionRows.{fewer, not_high}
 use Rattle.xmpp_outbox.specs.Sessions.{SessionView, with_waiting}
 use Rattle.xmpp_outbox.specs.Waiting.{acked, is_too_high}
 use Rattle.xmpp_writer.specs.Items.{ItemOut}
 
 near : (o : Own ItemOut) (h : ℕ) → IsWithin o.acked o.queue h → length o.queue ≤ 10000 → ahead (told_count h) (told_count o.acked) ≡ h - o.acked
 near o h within few = let low = within.low in let high = within.high in ahead_exact h o.acked low (omega arith)
-
-not_high : (q a : ℕ) → a ≤ q → nat_lt q a ≡ false
-not_high q a within = grind (arith, nat_tests)
-
-fewer : (n most : ℕ) (zs : List ItemOut) → length zs ≤ most → length (drop n zs) ≤ most
-fewer n most zs few = let size = length-drop n zs in omega arith
 
 module _ (o : Own ItemOut) (s : SessionView ItemOut) (h : ℕ) (within : IsWithin o.acked o.queue h) (is : IsOwn o s) where
   ahead_so : ahead (told_count h) s.waiting.acked ≡ h - o.acked

@@ -5,6 +5,7 @@ use Rattle.std.proofs.lemmas.Bool.Decides.{nat_tests}
 use Rattle.std.proofs.lemmas.List.{length_push}
 use Rattle.std.proofs.lemmas.List.Elements.{All-append, All-cons, All-nil}
 use Rattle.xmpp_links_follow.proofs.Hearing.{wire_left, wire_said}
+use Rattle.xmpp_links_follow.proofs.Stays.{keeps_server, same_servers}
 use Rattle.xmpp_links_follow.proofs.Working.{client_leaves, client_works, same_server}
 use Rattle.xmpp_client_rows.specs.Clients.{ClientView}
 use Rattle.xmpp_client_rows.specs.Speech.{Note, Put}
@@ -15,7 +16,7 @@ use Rattle.xmpp_links_follow.proofs.Outcomes.{IsGone, IsQueued, IsQuiet, IsSaid,
 use Rattle.xmpp_device_views.specs.Clients.{ClientFollows, ClientShows, IsOwn, IsOwnShown, client_phase}
 use Rattle.xmpp_device_views.specs.Counted.{IsForServer}
 use Rattle.xmpp_device_views.specs.Deeds.{ArePrompt, IsAskedAt, Says, awaits, deed_of, deeds_of}
-use Rattle.xmpp_device_views.specs.Frames.{KeepsServer, SameServer}
+use Rattle.xmpp_device_views.specs.Frames.{SameServer}
 use Rattle.xmpp_device_views.specs.Identities.{Identity, Login}
 use Rattle.xmpp_device_views.specs.Pipes.{IsShown, IsWire, PipesShow}
 use Rattle.xmpp_device_views.specs.Reading.{noted, noted_by}
@@ -52,28 +53,8 @@ noted_on (one ∷ ns) more = ap (λ l. noted_by one ++ l) (noted_on ns more) ∙
 
 -- ---- what the server has is left
 
-keeps_still : (o : Option (Conn ItemOut)) → KeepsServer o o
-keeps_still None = tt
-keeps_still (Some c) = (refl, refl, refl)
-
-keeps_then : (a b c : Option (Conn ItemOut)) → KeepsServer a b → KeepsServer b c → KeepsServer a c
-keeps_then None None None x y = tt
-keeps_then None None (Some c) x y = absurd y
-keeps_then None (Some b) c x y = absurd x
-keeps_then (Some a) None c x y = absurd x
-keeps_then (Some a) (Some b) None x y = absurd y
-keeps_then (Some a) (Some b) (Some c) x y = (y.0 ∙ x.0, y.1 ∙ x.1, y.2 ∙ x.2)
-
 pub server_stays : (v : View ItemOut) → SameServer v v
-server_stays v = record { row = refl; free = refl; known = known_same v; conns = λ k. keeps_still (v.conns k) }
-
-pub server_then : (v m n : View ItemOut) → SameServer v m → SameServer m n → SameServer v n
-server_then v m n first rest = record {
-  row = rest.row ∙ first.row;
-  free = rest.free ∙ first.free;
-  known = λ q t is. let s = rest.known q t is in first.known q s.0 s.1;
-  conns = λ k. keeps_then (v.conns k) (m.conns k) (n.conns k) (first.conns k) (rest.conns k);
-}
+server_stays v = record { row = refl; free = refl; known = known_same v; conns = λ k. keeps_server (v.conns k) }
 
 -- ---- whether the client is online
 
@@ -259,7 +240,7 @@ module _ (who : Identity) (logins : ℕ → Login) (d : ItemDevice) (v : View It
             phase = λ k conn at is. q.phase ∙ c.client.phase k conn at is;
           };
           pipes = subst (λ items. PipesShow who logins (table items) next) (sym put) (record { each = c.pipes.each });
-          server = server_then v c.next next c.server (record { row = refl; free = refl; known = known_altered _ c.next; conns = λ k. keeps_still (c.next.conns k) });
+          server = same_servers v c.next next c.server (record { row = refl; free = refl; known = known_altered _ c.next; conns = λ k. keeps_server (c.next.conns k) });
         }
       where
         o : (w : Own ItemOut) × (c.next.own ≡ Some w) × IsOwn w s
@@ -290,7 +271,7 @@ module _ (who : Identity) (logins : ℕ → Login) (d : ItemDevice) (v : View It
               subst (λ items. PipesShow who logins (table items) next) (sym put)
               (shown_at who logins (table t.out.put) (table (t.out.put ++ z ∷ [])) c.next next k after (put_up (z ∷ []) w.0) c.pipes (λ j. refl) (way.here t.out.put (z ∷ []) w.0 w.1) (way.apart t.out.put (z ∷ []))
               (wire_said who (logins k) k conn w.0 w.2 (Up (St z) ∷ []) (All-cons IsForServer z [] good (All-nil IsForServer))));
-          server = server_then v c.next next c.server (same_server c.next next k conn after is (λ j. refl) refl refl (known_altered _ c.next) refl refl refl);
+          server = same_servers v c.next next c.server (same_server c.next next k conn after is (λ j. refl) refl refl (known_altered _ c.next) refl refl refl);
           p = p;
           conn = after;
           here = at;
@@ -338,7 +319,7 @@ module _ (who : Identity) (logins : ℕ → Login) (d : ItemDevice) (v : View It
               (shown_at who logins (table t.out.put) (table (t.out.put ++ request_item ∷ [])) c.next next k after (put_up (request_item ∷ []) w.0) c.pipes (λ j. refl) (way.here t.out.put (request_item ∷ []) w.0 w.1)
               (way.apart t.out.put (request_item ∷ []))
               (wire_said who (logins k) k c.conn w.0 w.2 (Up Req ∷ []) (All-nil IsForServer)));
-          server = server_then v c.next next c.server (same_server c.next next k c.conn after c.is (λ j. refl) refl refl (known_same c.next) refl refl refl);
+          server = same_servers v c.next next c.server (same_server c.next next k c.conn after c.is (λ j. refl) refl refl (known_same c.next) refl refl refl);
         }
       where
         o : (w : Own ItemOut) × (c.next.own ≡ Some w) × IsOwn w s
@@ -438,7 +419,7 @@ module _ (who : Identity) (logins : ℕ → Login) (d : ItemDevice) (v : View It
               shown_at who logins (table t.out.put) after c.next next k ended (left w.0) c.pipes (λ j. refl) (here w.0 w.1) others
               (wire_left who (logins k) k conn w.0 w.2);
           server =
-              server_then v c.next next c.server
+              same_servers v c.next next c.server
               (same_server c.next next k conn ended is (λ j. refl) refl refl (known_altered (ways_cut (has c.next.here k) conn (length (up_words conn.wires)) 0) c.next) refl refl refl);
         }
       where

@@ -1,5 +1,5 @@
 -- A connection of a device is cut: its pipes are cut as those of the links, and both ends have what they had.
-use Rattle.std.proofs.Common.{◌≡◌, ℕ, false, not, Option, None, Some, length, map, take, refl, sym, ap, subst, ◌∙◌}
+use Rattle.std.proofs.Common.{◌≡◌, ℕ, not, Option, None, Some, length, map, take, refl, sym, ap, subst, ◌∙◌}
 use Rattle.std.proofs.lemmas.List.{take-map}
 use Rattle.std.proofs.lemmas.List.Elements.{All-take}
 use Rattle.std.specs.List.{All}
@@ -17,26 +17,15 @@ use Rattle.xmpp_item_worlds.specs.ItemPipes.{ItemWire, cut_at}
 use Rattle.xmpp_item_worlds.specs.ItemWorlds.{ItemDevice}
 use Rattle.xmpp_links.proofs.Cuts.{down_front, up_front}
 use Rattle.xmpp_links.proofs.Entries.{at_other, at_same}
+use Rattle.xmpp_links.proofs.Tables.{cut_down_words, cut_stops, cut_up_words}
 use Rattle.xmpp_links.specs.LinkMoves.{ways_cut}
 use Rattle.xmpp_links.specs.Stages.{Conn}
 use Rattle.xmpp_links.specs.Views.{Table, View, alter, has, with_at}
-use Rattle.xmpp_links.specs.Wires.{Flow, Stop, Wires, cut, down_words, is_flowing, up_words}
+use Rattle.xmpp_links.specs.Wires.{cut, down_words, up_words}
 use Rattle.xmpp_links.specs.Words.{down_stanzas, up_stanzas}
 use Rattle.xmpp_links_follow.proofs.Placed.{keeps_at, shown_at}
 use Rattle.xmpp_links_follow.proofs.Servings.{known_altered, row_shows}
 use Rattle.xmpp_writer.specs.Items.{ItemOut}
-
-pub cut_up : {A : Type 0} (i j : ℕ) (ws : Wires A) → up_words (cut i j ws) ≡ take i (up_words ws)
-cut_up i j (Flow us ds) = refl
-cut_up i j (Stop us ds lu ld) = refl
-
-pub cut_down : {A : Type 0} (i j : ℕ) (ws : Wires A) → down_words (cut i j ws) ≡ take j (down_words ws)
-cut_down i j (Flow us ds) = refl
-cut_down i j (Stop us ds lu ld) = refl
-
-pub cut_stops : {A : Type 0} (i j : ℕ) (ws : Wires A) → is_flowing (cut i j ws) ≡ false
-cut_stops i j (Flow us ds) = refl
-cut_stops i j (Stop us ds lu ld) = refl
 
 abbrev pub cut_conn : ℕ → ℕ → Conn ItemOut → Conn ItemOut
 cut_conn i j c = record c { wires = cut i j c.wires }
@@ -48,19 +37,19 @@ pub wire_cut : (who : Identity) (x : Login) (k i j : ℕ) (c : Conn ItemOut) (w 
 wire_cut who x k i j c w is = record {
   of = is.of;
   login = is.login;
-  up = ap (take i) is.up ∙ take-map (up_item who x) i (up_words c.wires) ∙ ap (map (up_item who x)) (sym (cut_up i j c.wires));
+  up = ap (take i) is.up ∙ take-map (up_item who x) i (up_words c.wires) ∙ ap (map (up_item who x)) (sym (cut_up_words i j c.wires));
   down =
       ap (take j) is.down
       ∙ take-map (down_item who x k (is_behind_login c.client)) j (down_words c.wires)
-      ∙ ap (map (down_item who x k (is_behind_login c.client))) (sym (cut_down i j c.wires));
+      ∙ ap (map (down_item who x k (is_behind_login c.client))) (sym (cut_down_words i j c.wires));
   up_ended = ap not (sym (cut_stops i j c.wires));
   down_ended = ap not (sym (cut_stops i j c.wires));
   gone = is.gone;
   for_server =
-      subst (λ us. All IsForServer (up_stanzas us)) (sym (cut_up i j c.wires))
+      subst (λ us. All IsForServer (up_stanzas us)) (sym (cut_up_words i j c.wires))
       (subst (All IsForServer) (up_front i (up_words c.wires)) (All-take IsForServer (length (up_stanzas (take i (up_words c.wires)))) (up_stanzas (up_words c.wires)) is.for_server));
   for_client =
-      subst (λ ds. All IsForClient (down_stanzas ds)) (sym (cut_down i j c.wires))
+      subst (λ ds. All IsForClient (down_stanzas ds)) (sym (cut_down_words i j c.wires))
       (subst (All IsForClient) (down_front j (down_words c.wires)) (All-take IsForClient (length (down_stanzas (take j (down_words c.wires)))) (down_stanzas (down_words c.wires)) is.for_client));
 }
 

@@ -11,6 +11,7 @@ use Rattle.xmpp_device_views.specs.Identities.{Identity, Login}
 use Rattle.xmpp_device_views.specs.Sent.{sent, sent_under}
 use Rattle.xmpp_device_views.specs.Servers.{ServerFollows, ServerShows}
 use Rattle.xmpp_item_worlds.specs.ItemPipes.{ItemWire, put_down}
+use Rattle.xmpp_links.proofs.Prompt.{same_flow_down}
 use Rattle.xmpp_links.specs.Machine.{Demands}
 use Rattle.xmpp_links.specs.Stages.{Conn}
 use Rattle.xmpp_links.specs.Views.{Row, Table, View, with_at}
@@ -21,8 +22,7 @@ use Rattle.xmpp_replies.specs.Management.{request_item}
 use Rattle.xmpp_links_follow.proofs.Former.{has_wire, keeps_both, pipes_as}
 use Rattle.xmpp_links_follow.proofs.SessionRows.{asked_row, asks_keeps}
 use Rattle.xmpp_links_follow.proofs.Emitted.{one_here, puts_are_for, sent_both}
-use Rattle.xmpp_links_follow.proofs.Flows.{put_flowing}
-use Rattle.xmpp_links_follow.proofs.Found.{numbered_here}
+use Rattle.xmpp_item_images.proofs.RuleKept.{numbered_here}
 use Rattle.xmpp_links_follow.proofs.MoreMoves.{does_both, then_reaches}
 use Rattle.xmpp_links_follow.proofs.Placed.{keeps_at, shown_at}
 use Rattle.xmpp_links_follow.proofs.Servings.{known_same, live_of, row_shows, session_shows}
@@ -88,7 +88,7 @@ module _ (who : Identity) (logins : ℕ → Login) (hall : Hall ItemOut) (wires 
           here = f.client.here;
           own = f.client.own;
           epoch = f.client.epoch;
-          conns = λ j. keeps_both (v.conns j) (f.next.conns j) (last.conns j) (f.client.conns j) (keeps_at f.next.conns k c d is refl (λ ended. put_flowing (Down Req ∷ []) c.wires ∙ ended) j);
+          conns = λ j. keeps_both (v.conns j) (f.next.conns j) (last.conns j) (f.client.conns j) (keeps_at f.next.conns k c d is refl (λ ended. same_flow_down (Down Req ∷ []) c.wires ∙ ended) j);
         };
       }
     where

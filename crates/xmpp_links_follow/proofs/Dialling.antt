@@ -11,8 +11,9 @@ use Rattle.xmpp_client_rows.specs.Speech.{in_items}
 use Rattle.xmpp_client_rows.specs.declared.phase.Phase.TheVariants as phase
 use Rattle.xmpp_links_follow.proofs.CutPipes.{none_there}
 use Rattle.xmpp_links_follow.proofs.Inserted.{found_beside, found_inserted, sorted_inserted}
+use Rattle.xmpp_links_follow.proofs.MoreMoves.{then_reaches}
 use Rattle.xmpp_links_follow.proofs.Parts.{here_left}
-use Rattle.xmpp_links_follow.proofs.Stays.{along_both, no_deeds, server_stays}
+use Rattle.xmpp_links_follow.proofs.Stays.{no_deeds, server_stays}
 use Rattle.xmpp_links_follow.specs.Following.{AreDialled, BothFollow, IsDrawn, with_login}
 use Rattle.xmpp_desk.specs.Moments.{fresh_conn, with_fresh}
 use Rattle.xmpp_desk.specs.State.{Hall, conn_at}
@@ -169,7 +170,7 @@ module _ (who : Identity) (logins : ℕ → Login) (x : Login) (n : ℕ) (own ot
         moves = l.moves ++ Dials k ∷ [];
         next = with_dialled l.next;
         leads =
-            along_both l.moves (Dials k ∷ []) v l.next (with_dialled l.next) l.leads
+            then_reaches l.moves (Dials k ∷ []) v l.next (with_dialled l.next) l.leads
             (with_dialled l.next, record { idle = l.idle; fresh = none_there who (logins k) k (l.next.conns k) (subst (IsShown who (logins k) k (l.next.conns k)) (left_none d.here wires none) (l.pipes.each k)); gives = refl }, refl);
         does = no_deeds l.moves (Dials k ∷ []) l.does refl;
         prompt = prompt_both l.moves (Dials k ∷ []) (silent_as l.moves [] l.does tt) (tt, tt);

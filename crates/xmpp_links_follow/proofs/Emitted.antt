@@ -5,11 +5,11 @@ use Rattle.std.specs.Option.{option_map}
 use Rattle.xmpp_desk.specs.State.{Out, Put, Shut, Took}
 use Rattle.xmpp_device_views.specs.Pipes.{by_number, under}
 use Rattle.xmpp_device_views.specs.Sent.{sent, sent_one, sent_under, where_it}
+use Rattle.xmpp_item_images.proofs.ItemsHeard.{entered_twice, nothing_entered}
 use Rattle.xmpp_item_worlds.specs.ItemMoves.{all_emitted, emitted}
 use Rattle.xmpp_item_worlds.specs.ItemPipes.{ItemWire, put_down, shut}
 use Rattle.xmpp_links.proofs.Entries.{other_number, same_number}
 use Rattle.xmpp_links_follow.proofs.Changes.{under_changed, under_other}
-use Rattle.xmpp_links_follow.proofs.Flows.{entered_none, entered_twice}
 use Rattle.xmpp_wires.specs.Places.{changed_under}
 use Rattle.xmpp_writer.specs.Items.{ItemOut}
 
@@ -51,7 +51,7 @@ pub one_apart : (k j : ℕ) (f : ItemWire → ItemWire) (w : ItemWire) → k ≢
 one_apart k j f w apart = ap (λ b. where_it b f w) (other_number k j apart)
 
 pub puts_here : (k : ℕ) (items : List ItemOut) (w : ItemWire) → sent_under k (puts_at k items) w ≡ put_down items w
-puts_here k [] w = ap (λ p. record w { down = p }) (sym (entered_none w.down))
+puts_here k [] w = ap (λ p. record w { down = p }) (sym (nothing_entered w.down))
 puts_here k (i ∷ items) w =
     ap (sent_under k (puts_at k items)) (one_here k (put_down (i ∷ [])) w)
     ∙ puts_here k items (put_down (i ∷ []) w)

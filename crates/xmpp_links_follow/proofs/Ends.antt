@@ -16,7 +16,7 @@ use Rattle.xmpp_links_follow.specs.Beside.{IsBeside}
 use Rattle.xmpp_links_follow.proofs.HandMoves.{shown_wire}
 use Rattle.xmpp_links_follow.proofs.ServersOthers.{nothing_moves}
 use Rattle.xmpp_links_follow.specs.Taking.{IsHeard, IsOver}
-use Rattle.xmpp_links_follow.proofs.Found.{numbered_here}
+use Rattle.xmpp_item_images.proofs.RuleKept.{numbered_here}
 use Rattle.xmpp_writer.specs.Items.{ItemOut}
 
 module _ (who whom : Identity) (logins others : ℕ → Login) (h : Hall ItemOut) (wires : Table ItemWire) (v u : View ItemOut) (k : ℕ) (p : IsOver who logins h wires v k) (beside : IsBeside who whom others h wires u) where

@@ -1,7 +1,6 @@
 -- What is taken and put is taken and put in the pipes of items as in those of words.
-use Rattle.std.proofs.Common.{◌≡◌, true, false, not, List, [], ◌∷◌, ◌++◌, drop, map, refl, sym, ap, ◌∙◌, inl, inr}
-use Rattle.std.proofs.lemmas.Bool.{cases_Bool}
-use Rattle.std.proofs.lemmas.List.{append-nil, append_assoc, map-append}
+use Rattle.std.proofs.Common.{◌≡◌, true, false, not, List, [], ◌∷◌, ◌++◌, drop, map, refl, sym, ap, ◌∙◌}
+use Rattle.std.proofs.lemmas.List.{map-append}
 use Rattle.xmpp_item_worlds.specs.ItemPipes.{ItemPipe, entered, handed}
 use Rattle.xmpp_links.specs.Words.{DownWord, UpWord}
 use Rattle.xmpp_links.specs.Wires.{Flow, Stop, Wires, down_words, halt, is_flowing, left_down, left_up, send_down, send_up, up_words}
@@ -14,28 +13,6 @@ entered_open more p flows = rw flows refl
 
 pub entered_ended : (more : List ItemOut) (p : ItemPipe) → p.ended ≡ true → entered more p ≡ p
 entered_ended more p ended = rw ended refl
-
-pub entered_end : (more : List ItemOut) (p : ItemPipe) → (entered more p).ended ≡ p.ended
-entered_end more p = elim (cases_Bool p.ended) [ inl ended ↦ ap (λ (q : ItemPipe). q.ended) (entered_ended more p ended) | inr flows ↦ rw flows refl ]
-
--- one after the other, or all at once
-pub entered_twice : (some more : List ItemOut) (p : ItemPipe) → entered more (entered some p) ≡ entered (some ++ more) p
-entered_twice some more p =
-    elim (cases_Bool p.ended) [
-      | inl ended ↦ rw (entered_ended some p ended) (entered_ended more p ended ∙ sym (entered_ended (some ++ more) p ended))
-      | inr flows ↦ rw flows (ap (λ items. record { items = items; ended = false; told = p.told }) (append_assoc p.items some more))
-    ]
-
--- nothing is put
-pub entered_none : (p : ItemPipe) → entered [] p ≡ p
-entered_none p =
-    elim (cases_Bool p.ended) [
-      | inl ended ↦ entered_ended [] p ended
-      | inr flows ↦ entered_as p flows ∙ ap (λ items. record p { items = items }) (append-nil p.items)
-    ]
-  where
-    entered_as : (q : ItemPipe) → q.ended ≡ false → entered [] q ≡ record q { items = q.items ++ [] }
-    entered_as q flows = rw flows refl
 
 -- ---- pipes of words
 
@@ -63,22 +40,6 @@ put_taken rest puts (Stop us ds lu ld) = refl
 pub put_heard : {A : Type 0} (rest : List (DownWord A)) (puts : List (UpWord A)) (ws : Wires A) → up_words (send_up puts (left_down rest ws)) ≡ up_words (send_up puts ws)
 put_heard rest puts (Flow us ds) = refl
 put_heard rest puts (Stop us ds lu ld) = refl
-
-pub put_up_kept : {A : Type 0} (puts : List (DownWord A)) (ws : Wires A) → up_words (send_down puts ws) ≡ up_words ws
-put_up_kept puts (Flow us ds) = refl
-put_up_kept puts (Stop us ds lu ld) = refl
-
-pub put_down_kept : {A : Type 0} (puts : List (UpWord A)) (ws : Wires A) → down_words (send_up puts ws) ≡ down_words ws
-put_down_kept puts (Flow us ds) = refl
-put_down_kept puts (Stop us ds lu ld) = refl
-
-pub put_flowing : {A : Type 0} (puts : List (DownWord A)) (ws : Wires A) → is_flowing (send_down puts ws) ≡ is_flowing ws
-put_flowing puts (Flow us ds) = refl
-put_flowing puts (Stop us ds lu ld) = refl
-
-pub said_flowing : {A : Type 0} (puts : List (UpWord A)) (ws : Wires A) → is_flowing (send_up puts ws) ≡ is_flowing ws
-said_flowing puts (Flow us ds) = refl
-said_flowing puts (Stop us ds lu ld) = refl
 
 pub halted_up : {A : Type 0} (ws : Wires A) → up_words (halt ws) ≡ []
 halted_up (Flow us ds) = refl

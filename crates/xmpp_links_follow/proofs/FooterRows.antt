@@ -19,7 +19,8 @@ use Rattle.xmpp_live.specs.Sessions.{Session, is_at, session_named}
 use Rattle.xmpp_resume.specs.Rows.{is_some_number}
 use Rattle.xmpp_links_follow.proofs.HandMoves.{kept_here, row_here, wire_here}
 use Rattle.xmpp_links_follow.proofs.Leavings.{left_hall, left_shows, unseated}
-use Rattle.xmpp_links_follow.proofs.Removed.{all_left, named_gone}
+use Rattle.xmpp_links_follow.proofs.Removed.{all_left}
+use Rattle.xmpp_item_images.proofs.RuleKept.{named_gone}
 use Rattle.xmpp_links_follow.proofs.Shuts.{shut_client, shut_pipes, shuts_at}
 use Rattle.xmpp_links_follow.specs.Taking.{IsFirst, IsTaken, StepFollows, on_item}
 use Rattle.xmpp_links_follow.proofs.Servings.{Known, known_altered, known_same, live_of}

@@ -1,7 +1,7 @@
 -- Two connections of a device: the one is shut, and then a word is taken from the other.
-use Rattle.std.proofs.Common.{◌≡◌, ◌≢◌, ℕ, Bool, true, List, [], ◌∷◌, ◌++◌, Option, Some, None, map, refl, sym, ap, subst, ◌∙◌, inl, inr}
-use Rattle.std.proofs.lemmas.Bool.{cases_Bool, cases_eq}
-use Rattle.std.specs.List.{All, filter}
+use Rattle.std.proofs.Common.{◌≡◌, ◌≢◌, ℕ, List, [], ◌∷◌, ◌++◌, Option, Some, None, map, refl, sym, ap, subst, ◌∙◌, inl, inr}
+use Rattle.std.proofs.lemmas.Bool.{cases_eq}
+use Rattle.std.specs.List.{All}
 use Rattle.std.specs.Option.{option_map}
 use Rattle.xmpp_desk.specs.State.{Out}
 use Rattle.xmpp_device_views.specs.Counted.{IsForClient}
@@ -22,11 +22,6 @@ use Rattle.xmpp_links_follow.proofs.Emitted.{AreFor, puts_are_for, puts_at, puts
 use Rattle.xmpp_links_follow.proofs.Placed.{shown_as, shown_at, shown_sent}
 use Rattle.xmpp_links_follow.proofs.Taken.{wire_shut, wire_taken}
 use Rattle.xmpp_writer.specs.Items.{ItemOut}
-
--- what stays, also with one behind
-pub pushed_stays : {A : Type 0} (q : A → Bool) (ss : List A) (f : A) → q f ≡ true → filter q (ss ++ f ∷ []) ≡ filter q ss ++ f ∷ []
-pushed_stays q [] f stays = rw stays refl
-pushed_stays q (x ∷ ss) f stays = elim (cases_Bool (q x)) [ inl left ↦ rw left (ap (λ l. x ∷ l) (pushed_stays q ss f stays)) | inr gone ↦ rw gone (pushed_stays q ss f stays) ]
 
 -- a connection of the device has its pipes
 pub record HasWire (who : Identity) (x : Login) (k : ℕ) (c : Conn ItemOut) (m : Option ItemWire) : Type 0 where

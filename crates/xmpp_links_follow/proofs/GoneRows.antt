@@ -21,7 +21,8 @@ use Rattle.xmpp_live.specs.Sessions.{Session, is_at, lost, parked, session_at, s
 use Rattle.xmpp_links_follow.proofs.HandMoves.{shown_wire}
 use Rattle.xmpp_links_follow.proofs.Leavings.{left_hall, left_shows, unseated}
 use Rattle.xmpp_links_follow.proofs.Parkings.{off_shows, parked_leaves}
-use Rattle.xmpp_links_follow.proofs.Removed.{all_left, named_gone}
+use Rattle.xmpp_links_follow.proofs.Removed.{all_left}
+use Rattle.xmpp_item_images.proofs.RuleKept.{named_gone}
 use Rattle.xmpp_links_follow.proofs.Found.{found_on}
 use Rattle.xmpp_links_follow.proofs.Placed.{keeps_at, shown_at}
 use Rattle.xmpp_links_follow.proofs.Servings.{IsLive, known_same, live_of}

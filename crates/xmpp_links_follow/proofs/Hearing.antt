@@ -1,35 +1,25 @@
 -- One connection as the client takes a word from it, puts words, or leaves it.
-use Rattle.std.proofs.Common.{◌≡◌, ℕ, not, List, [], ◌∷◌, ◌++◌, length, map, take, refl, sym, ap, subst, ◌∙◌, inl, inr}
-use Rattle.std.proofs.lemmas.Bool.{cases_Bool}
+use Rattle.std.proofs.Common.{◌≡◌, ℕ, not, List, [], ◌∷◌, length, map, take, refl, sym, ap, subst, ◌∙◌}
 use Rattle.std.proofs.lemmas.List.Elements.{All-append, All-nil, All-tail}
 use Rattle.std.specs.List.{All}
 use Rattle.xmpp_device_views.specs.Counted.{IsForClient, IsForServer}
 use Rattle.xmpp_device_views.specs.Identities.{Identity, Login}
 use Rattle.xmpp_device_views.specs.Pipes.{IsWire}
 use Rattle.xmpp_device_views.specs.WordItems.{down_item, is_behind_login, up_item}
-use Rattle.xmpp_item_worlds.specs.ItemPipes.{ItemPipe, ItemWire, closed, emptied, entered, handed_down, left, put_up}
+use Rattle.xmpp_item_images.proofs.ItemsHeard.{nothing_entered}
+use Rattle.xmpp_item_images.proofs.PutSteps.{items_ended_entered, items_told_entered}
+use Rattle.xmpp_item_worlds.specs.ItemPipes.{ItemPipe, ItemWire, closed, emptied, handed_down, left, put_up}
+use Rattle.xmpp_links.proofs.Counting.{up_stanzas_with}
 use Rattle.xmpp_links.proofs.CutLinks.{cut_conn}
+use Rattle.xmpp_links.proofs.Prompt.{same_down, same_flow_up}
 use Rattle.xmpp_links.proofs.Tables.{cut_down_words, cut_stops, cut_up_words}
 use Rattle.xmpp_links.specs.Stages.{Conn}
 use Rattle.xmpp_links.specs.Wires.{Flow, Stop, Wires, cut, down_words, left_down, send_up, up_words}
-use Rattle.xmpp_links.specs.Words.{Ack, Auth, Bind, Bound, Chal, Client, Down, DownWord, Enable, Enabled, End, Err, Failed, Feat, Foot, Hdr, Head, Req, Resp, ResumeAt, Resumed, St, Succ, Up, UpWord, down_stanzas, up_stanzas}
-use Rattle.xmpp_links_follow.proofs.Flows.{entered_end, entered_ended, entered_none, handed_words, heard_flowing, put_down_kept, put_heard, said_flowing, said_words, taken_down}
+use Rattle.xmpp_links.specs.Words.{Ack, Bound, Chal, Client, Down, DownWord, Enabled, End, Err, Failed, Feat, Head, Req, Resumed, St, Succ, UpWord, down_stanzas, up_stanzas}
+use Rattle.xmpp_links_follow.proofs.Flows.{handed_words, heard_flowing, put_heard, said_words, taken_down}
 use Rattle.xmpp_writer.specs.Items.{ItemOut}
 
 -- ---- stanzas among words
-
-pub up_both : {A : Type 0} (ws more : List (UpWord A)) → up_stanzas (ws ++ more) ≡ up_stanzas ws ++ up_stanzas more
-up_both [] more = refl
-up_both (Up (St z) ∷ ws) more = ap (λ zs. z ∷ zs) (up_both ws more)
-up_both (Up Req ∷ ws) more = up_both ws more
-up_both (Up (Ack n) ∷ ws) more = up_both ws more
-up_both (Hdr ∷ ws) more = up_both ws more
-up_both (Auth ∷ ws) more = up_both ws more
-up_both (Resp ∷ ws) more = up_both ws more
-up_both (ResumeAt p h ∷ ws) more = up_both ws more
-up_both (Bind ∷ ws) more = up_both ws more
-up_both (Enable ∷ ws) more = up_both ws more
-up_both (Foot ∷ ws) more = up_both ws more
 
 fewer_down : {A : Type 0} (P : A → Type 0) (word : DownWord A) (rest : List (DownWord A)) → All P (down_stanzas (word ∷ rest)) → All P (down_stanzas rest)
 fewer_down P (Down (St z)) rest all = All-tail P z (down_stanzas rest) all
@@ -47,11 +37,8 @@ fewer_down P (Err cause) rest all = all
 fewer_down P End rest all = all
 
 more_up : {A : Type 0} (P : A → Type 0) (puts : List (UpWord A)) (ws : Wires A) → All P (up_stanzas (up_words ws)) → All P (up_stanzas puts) → All P (up_stanzas (up_words (send_up puts ws)))
-more_up P puts (Flow us ds) all more = subst (All P) (sym (up_both us puts)) (All-append P (up_stanzas us) (up_stanzas puts) all more)
+more_up P puts (Flow us ds) all more = subst (All P) (sym (up_stanzas_with us puts)) (All-append P (up_stanzas us) (up_stanzas puts) all more)
 more_up P puts (Stop us ds lu ld) all more = all
-
-entered_told : (more : List ItemOut) (p : ItemPipe) → (entered more p).told ≡ p.told
-entered_told more p = elim (cases_Bool p.ended) [ inl ended ↦ ap (λ (q : ItemPipe). q.told) (entered_ended more p ended) | inr flows ↦ rw flows refl ]
 
 -- ---- all words that are under way stay
 
@@ -79,9 +66,9 @@ module _ (who : Identity) (x : Login) (k : ℕ) (c : Conn ItemOut) (w : ItemWire
         login = is.login;
         up = said_words f puts c.wires w.up is.up is.up_ended ∙ ap (map f) (sym (put_heard rest puts c.wires));
         down = handed_words g word rest w.down (is.down ∙ ap (map g) first) ∙ same ∙ ap (map after) (sym (taken_down rest puts c.wires));
-        up_ended = entered_end (map f puts) w.up ∙ is.up_ended ∙ ap not (sym (heard_flowing rest puts c.wires));
+        up_ended = items_ended_entered (map f puts) w.up ∙ is.up_ended ∙ ap not (sym (heard_flowing rest puts c.wires));
         down_ended = is.down_ended ∙ ap not (sym (heard_flowing rest puts c.wires));
-        gone = entered_told (map f puts) w.up ∙ is.gone;
+        gone = items_told_entered (map f puts) w.up ∙ is.gone;
         for_server =
             subst (λ ws. All IsForServer (up_stanzas ws)) (sym (put_heard rest puts c.wires))
             (more_up IsForServer puts c.wires is.for_server more);
@@ -103,12 +90,12 @@ module _ (who : Identity) (x : Login) (k : ℕ) (c : Conn ItemOut) (w : ItemWire
         of = is.of;
         login = is.login;
         up = said_words f puts c.wires w.up is.up is.up_ended;
-        down = is.down ∙ ap (map g) (sym (put_down_kept puts c.wires));
-        up_ended = entered_end (map f puts) w.up ∙ is.up_ended ∙ ap not (sym (said_flowing puts c.wires));
-        down_ended = is.down_ended ∙ ap not (sym (said_flowing puts c.wires));
-        gone = entered_told (map f puts) w.up ∙ is.gone;
+        down = is.down ∙ ap (map g) (sym (same_down puts c.wires));
+        up_ended = items_ended_entered (map f puts) w.up ∙ is.up_ended ∙ ap not (sym (same_flow_up puts c.wires));
+        down_ended = is.down_ended ∙ ap not (sym (same_flow_up puts c.wires));
+        gone = items_told_entered (map f puts) w.up ∙ is.gone;
         for_server = more_up IsForServer puts c.wires is.for_server more;
-        for_client = subst (λ ws. All IsForClient (down_stanzas ws)) (sym (put_down_kept puts c.wires)) is.for_client;
+        for_client = subst (λ ws. All IsForClient (down_stanzas ws)) (sym (same_down puts c.wires)) is.for_client;
       }
 
   -- it leaves: what is on its way up stays, and all on its way down is lost
@@ -129,4 +116,4 @@ module _ (who : Identity) (x : Login) (k : ℕ) (c : Conn ItemOut) (w : ItemWire
 
 -- where nothing is put, it is left as before the word was taken
 pub left_silent : (w : ItemWire) → left (put_up [] (handed_down w)) ≡ left w
-left_silent w = ap (λ (p : ItemPipe). record w { up = closed p; down = emptied w.down }) (entered_none w.up)
+left_silent w = ap (λ (p : ItemPipe). record w { up = closed p; down = emptied w.down }) (nothing_entered w.up)

@@ -11,7 +11,7 @@ use Rattle.std.specs.Ordering.{is_eq, match_ordering, nat_cmp, ordering_reverse}
 use Rattle.std.specs.declared.cmp.Ordering.{Ordering}
 use Rattle.std.specs.declared.cmp.Ordering.TheVariants.{Equal, Greater, Less}
 use Rattle.xmpp_desk.specs.State.{is_number}
-use Rattle.xmpp_links_follow.proofs.WireStepsHalls.{is_same_number}
+use Rattle.xmpp_item_images.proofs.Lookups.{number_is}
 
 module _ {X : Type 0} (k : ℕ) (v : X) where
   self_is : is_number k k ≡ true
@@ -21,7 +21,7 @@ module _ {X : Type 0} (k : ℕ) (v : X) where
   not_another j apart = by (is_number j k) refl
     where
       by : (b : Bool) → is_number j k ≡ b → is_number j k ≡ false
-      by true e = absurd (apart (is_same_number j k e))
+      by true e = absurd (apart (number_is j k e))
       by false e = e
 
   pub found_inserted : (es : List (ℕ × X)) → lookup (is_number k) (insert_entry nat_cmp es k v) ≡ Some v

@@ -5,7 +5,8 @@ use Rattle.std.proofs.Math.Seq.{drop-length, take-length}
 use Rattle.std.proofs.lemmas.Bool.{cases_Bool}
 use Rattle.std.proofs.lemmas.List.{length-map, map-append}
 use Rattle.std.specs.List.{All}
-use Rattle.xmpp_links_follow.proofs.CutPipes.{cut_conn, cut_down, cut_pipes, cut_server, cut_stops, cut_view, wire_of}
+use Rattle.xmpp_links_follow.proofs.CutPipes.{cut_conn, cut_pipes, cut_server, cut_view, wire_of}
+use Rattle.xmpp_links_follow.proofs.Former.{pipes_as as pipes_same}
 use Rattle.xmpp_links_follow.proofs.Numbered.{at_itself}
 use Rattle.xmpp_links_follow.proofs.Stays.{keeps_server, keeps_server_at, same_servers}
 use Rattle.xmpp_device_views.specs.Counted.{IsForClient, IsForServer}
@@ -16,6 +17,7 @@ use Rattle.xmpp_device_views.specs.Pipes.{IsWire, PipesShow}
 use Rattle.xmpp_device_views.specs.WordItems.{down_item, is_behind_login, up_item}
 use Rattle.xmpp_item_worlds.specs.ItemPipes.{ItemPipe, ItemWire, closed, cut_at, emptied, entered, left, put_up}
 use Rattle.xmpp_links.proofs.Entries.{at_other, at_same, is_has}
+use Rattle.xmpp_links.proofs.Tables.{cut_down_words, cut_stops}
 use Rattle.xmpp_links.specs.EndMoves.{up_lost, with_foot}
 use Rattle.xmpp_links.specs.Links.{ArePiped}
 use Rattle.xmpp_links.specs.Machine.{Cuts, Foots, LetsGo, LinkMove, LinkReaches}
@@ -24,7 +26,7 @@ use Rattle.xmpp_links.specs.Views.{Table, View, has, with_at}
 use Rattle.xmpp_links.specs.Wires.{Flow, Stop, Wires, cut, down_words, is_flowing, up_words}
 use Rattle.xmpp_links.specs.Words.{Ack, Auth, Bind, Enable, Foot, Hdr, Req, Resp, ResumeAt, St, Up, UpWord, down_stanzas, up_stanzas}
 use Rattle.xmpp_links_follow.proofs.Flows.{entered_ended}
-use Rattle.xmpp_links_follow.proofs.Placed.{shown_as, shown_at}
+use Rattle.xmpp_links_follow.proofs.Placed.{shown_at}
 use Rattle.xmpp_links_follow.proofs.Servings.{known_same}
 use Rattle.xmpp_writer.specs.Items.{Closing, ItemOut}
 
@@ -39,9 +41,6 @@ pub record HasLeft (who : Identity) (logins : ℕ → Login) (wires : Table Item
   pub epoch : next.epoch ≡ v.epoch
   pub pipes : PipesShow who logins wires next
   pub server : SameServer v next
-
-pub pipes_same : (who : Identity) (logins : ℕ → Login) (wires same : Table ItemWire) (v : View ItemOut) → ((j : ℕ) → same j ≡ wires j) → PipesShow who logins wires v → PipesShow who logins same v
-pipes_same who logins wires same v alike pipes = record { each = λ j. shown_as who (logins j) j (v.conns j) (v.conns j) (wires j) (same j) refl (alike j) (pipes.each j) }
 
 pub left_same : (who : Identity) (logins : ℕ → Login) (wires same : Table ItemWire) (v : View ItemOut) → ((j : ℕ) → same j ≡ wires j) → HasLeft who logins wires v → HasLeft who logins same v
 left_same who logins wires same v alike l = record {
@@ -172,7 +171,7 @@ module _ (who : Identity) (logins : ℕ → Login) (wires : Table ItemWire) (v :
   plainly here = record {
     moves = Cuts k all 0 ∷ LetsGo k ∷ [];
     next = gone_from;
-    leads = (middle, record { conn = c; is = is; gives = refl }, (gone_from, record { conn = stopped; here = here; is = at_same k stopped v.conns; ended = cut_stops all 0 c.wires; empty = cut_down all 0 c.wires; gives = refl }, refl));
+    leads = (middle, record { conn = c; is = is; gives = refl }, (gone_from, record { conn = stopped; here = here; is = at_same k stopped v.conns; ended = cut_stops all 0 c.wires; empty = cut_down_words all 0 c.wires; gives = refl }, refl));
     does = refl;
     idle = refl;
     own = refl;
@@ -203,7 +202,7 @@ module _ (who : Identity) (logins : ℕ → Login) (wires : Table ItemWire) (v :
           record { conn = c; is = is; gives = refl },
           (
             gone_from,
-            record { conn = stopped; here = here; is = at_same k stopped v.conns; ended = cut_stops all 0 c.wires; empty = cut_down all 0 c.wires; gives = refl },
+            record { conn = stopped; here = here; is = at_same k stopped v.conns; ended = cut_stops all 0 c.wires; empty = cut_down_words all 0 c.wires; gives = refl },
             (
               behind_foot,
               record { conn = stopped; left = refl; is = at_same k stopped v.conns; unfooted = piped.unfooted works; stands = stands.1; untold = stands.2; whole = none_lost all 0 c.wires flows all_stay; gives = refl },

@@ -1,6 +1,5 @@
 -- What the server has of a device, where one of its connections is no more.
-use Rattle.std.proofs.Common.{◌≡◌, ℕ, Bool, true, List, Option, Some, None, refl, sym, ap, subst, ◌∙◌}
-use Rattle.std.proofs.lemmas.Bool.{eq-eqb, eqb-true}
+use Rattle.std.proofs.Common.{◌≡◌, ℕ, Bool, true, Option, Some, None, refl, sym, ap, subst, ◌∙◌}
 use Rattle.std.proofs.lemmas.Option.{same_Some}
 use Rattle.std.specs.List.{filter}
 use Rattle.xmpp_desk.specs.State.{Hall, conn_at, with_sessions, without_conn}
@@ -11,28 +10,12 @@ use Rattle.xmpp_links.specs.Links.{IsPlaced, LinkKept}
 use Rattle.xmpp_links.specs.Stages.{Conn}
 use Rattle.xmpp_links.specs.Views.{Row, Table, View, session_on, with_at}
 use Rattle.xmpp_links.specs.Views as links
-use Rattle.xmpp_live.specs.Rule.{IsRule}
-use Rattle.xmpp_live.specs.Sessions.{Session, is_at, is_named, is_numbered, session_at, session_named, session_of}
-use Rattle.xmpp_resume.specs.Rows.{is_some_number}
+use Rattle.xmpp_live.specs.Sessions.{Session, is_at, is_named, session_at, session_named, session_of}
 use Rattle.xmpp_links_follow.proofs.HallsLeft.{without_apart, without_here, without_sorted}
-use Rattle.xmpp_links_follow.proofs.Removed.{found_none, of_left, one_named, rule_left, seat_left}
-use Rattle.xmpp_links_follow.proofs.Found.{found_is, found_some, numbered_here}
+use Rattle.xmpp_links_follow.proofs.Removed.{seat_left}
+use Rattle.xmpp_item_images.proofs.RuleKept.{found_is, found_none, found_some, numbered_here, of_left, one_named, rule_left, seat_is, seat_of}
 use Rattle.xmpp_links_follow.proofs.Servings.{Known}
 use Rattle.xmpp_writer.specs.Items.{ItemOut}
-
-pub seat_is : (o : Option ℕ) (k : ℕ) → is_some_number k o ≡ true → o ≡ Some k
-seat_is None k is = absurd (let no_way : ⊥ = cc in no_way)
-seat_is (Some m) k is = ap Some (eqb-true m k is)
-
--- the session that is on a connection is found there
-pub seat_of : {A : Type 0} (next k : ℕ) (ss : List (Session A)) (s : Session A) → IsRule ss next → session_of s.shown.number ss ≡ Some s → s.shown.conn ≡ Some k → session_at k ss ≡ Some s
-seat_of next k ss s rule there on =
-    let fits : is_at k s ≡ true = ap (is_some_number k) on ∙ eq-eqb k k refl in
-    let some = found_some (is_numbered s.shown.number) (is_at k) ss s there fits in
-    let also = numbered_here (is_at k) next 1 ss some.0 rule.ascending some.1 in
-    let number : s.shown.number ≡ some.0.shown.number = rule.conns s.shown.number some.0.shown.number k s some.0 there also on (seat_is some.0.shown.conn k (found_is (is_at k) ss some.0 some.1)) in
-    let same : s ≡ some.0 = same_Some s some.0 (sym there ∙ ap (λ n. session_of n ss) number ∙ also) in
-    some.1 ∙ ap Some (sym same)
 
 module _ (who : Identity) (logins : ℕ → Login) (h : Hall ItemOut) (v : View ItemOut) (kept : LinkKept v) (shows : ServerShows who logins h v) (k : ℕ) (c : Conn ItemOut) (is : v.conns k ≡ Some c) where
   -- where the links have no session on the connection the server has none

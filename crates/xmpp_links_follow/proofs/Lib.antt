@@ -46,7 +46,6 @@ pub mod OtherEnds
 -- ---- items
 pub mod ItemsTaken
 -- ---- resumptions of sessions that live
-pub mod Resuming
 pub mod ResumeRows
 pub mod Demanding
 pub mod ResumeTaken
@@ -75,7 +74,6 @@ pub mod Comes
 pub mod Nobody
 -- ---- what stays of a device, by small steps
 pub mod OthersElsewhere
-pub mod Carried
 pub mod OthersHalls
 pub mod Pushing
 pub mod Acts

@@ -7,9 +7,10 @@ use Rattle.xmpp_client.specs.declared.faults.CatchUpStart.{CatchUpStart}
 use Rattle.xmpp_client.specs.declared.faults.SayFault.{SayFault}
 use Rattle.xmpp_client_rows.specs.Clients.{Turn}
 use Rattle.xmpp_client_rows.specs.Speech.{in_items}
+use Rattle.xmpp_item_images.proofs.UserMoves.{get_set_same}
 use Rattle.xmpp_links_follow.proofs.CutPipes.{cut_of_device}
-use Rattle.xmpp_links_follow.proofs.Leaves.{pipes_same}
-use Rattle.xmpp_links_follow.proofs.Numbered.{here_again, here_changed, place_is, set_here}
+use Rattle.xmpp_links_follow.proofs.Former.{pipes_as}
+use Rattle.xmpp_links_follow.proofs.Numbered.{here_again, here_changed, place_is}
 use Rattle.xmpp_links_follow.proofs.Parts.{closed_so, closes_note, forgotten, told_over}
 use Rattle.xmpp_links_follow.proofs.Stays.{client_stays, server_stays}
 use Rattle.xmpp_links_follow.specs.Following.{IsNextItem, WorldFollows}
@@ -72,8 +73,8 @@ module _ (who : Identity) (logins : ℕ → Login) (w : ItemWorld) (v : View Ite
     shows = record {
       normal = s.normal;
       device = d;
-      there = ap (λ l. slice_get l who.place) devices ∙ set_here w.devices who.place s.device d s.there;
-      pipes = pipes_same who logins wires (by_number after.wires) f.next pipes f.pipes;
+      there = ap (λ l. slice_get l who.place) devices ∙ get_set_same w.devices who.place s.device d s.there;
+      pipes = pipes_as who logins wires (by_number after.wires) f.next pipes f.pipes;
       server = subst (λ h. ServerShows who logins h f.next) (sym server) (server_stays who logins w.server v f.next f.server s.server);
       client = f.client;
     };
@@ -136,7 +137,7 @@ module _ (who : Identity) (logins : ℕ → Login) (w : ItemWorld) (v : View Ite
             normal = s.normal;
             device = s.device;
             there = s.there;
-            pipes = pipes_same who logins (with_at (place + 1) (cut_at i j wire) (by_number w.wires)) (by_number (moved (Cut place i j) w).wires) f.next (place_is place (cut_at i j) wire w.wires there) f.pipes;
+            pipes = pipes_as who logins (with_at (place + 1) (cut_at i j wire) (by_number w.wires)) (by_number (moved (Cut place i j) w).wires) f.next (place_is place (cut_at i j) wire w.wires there) f.pipes;
             server = f.server;
             client = f.client;
           };
@@ -239,7 +240,7 @@ module _ (who : Identity) (logins : ℕ → Login) (w : ItemWorld) (v : View Ite
         leads = f.leads;
         does = f.does;
         server = f.server;
-        pipes = pipes_same who logins (with_at (place + 1) (up_end_told wire) (by_number w.wires)) (by_number ended.wires) f.next (place_is place up_end_told wire w.wires there) f.pipes;
+        pipes = pipes_as who logins (with_at (place + 1) (up_end_told wire) (by_number w.wires)) (by_number ended.wires) f.next (place_is place up_end_told wire w.wires there) f.pipes;
         client = f.client;
       }))
     where

@@ -7,6 +7,7 @@ use Rattle.std.specs.Option.{unwrap_or}
 use Rattle.std.specs.Prelude.{int_le, pos}
 use Rattle.std.specs.Str.{bytes_eq}
 use Rattle.xmpp_archive.specs.Entries.{EntryView, entry_numbered}
+use Rattle.xmpp_basis.proofs.Lists.{AllByRecursion-weaker}
 use Rattle.xmpp_desk.specs.State.{Hall, Kept, archive_at, bare_address, session_address}
 use Rattle.xmpp_desk.specs.Steps.{Act, Archive, Copy, Present, Send, Tell}
 use Rattle.xmpp_device_views.specs.Counted.{IsBare, IsForBare, IsForClient}
@@ -32,6 +33,7 @@ use Rattle.xmpp_route.specs.Destinations.{Bare, Destination, Full, NoUser, Remot
 use Rattle.xmpp_route.specs.Messages.{is_copied, is_for_users}
 use Rattle.xmpp_route.specs.Plans.{copied_of, dropped, is_ready, plan_of, planned, ready_of, refused, routed, to_user, wants_copy}
 use Rattle.xmpp_route.specs.Routes.{Bounced, PlanOf, RouteOf, Routed, archives_of, plan_renamed}
+use Rattle.xmpp_schedule.proofs.Lists.{all_map}
 use Rattle.xmpp_stanza.specs.Kinds.{answers_message}
 use Rattle.xmpp_stanza.specs.Views.{IqView, MessageView}
 use Rattle.xmpp_stanza.specs.declared.conditions.Condition.{Condition}
@@ -46,7 +48,7 @@ use Rattle.xmpp_stanza.specs.declared.stanzas.Presence.{Presence}
 use Rattle.xmpp_stanza.specs.declared.stanzas.Stanza.{Stanza}
 use Rattle.xmpp_stanza.specs.declared.stanzas.Stanza.TheVariants as stanza
 use Rattle.xmpp_stanza_rows.specs.Stanzas.{at_bad_to, handling, malformed_item, presenting}
-use Rattle.xmpp_links_follow.proofs.Found.{numbers_above}
+use Rattle.xmpp_item_images.proofs.RuleKept.{numbers_above}
 use Rattle.xmpp_writer.specs.Items.{ItemOut}
 
 -- ---- what is told here
@@ -71,10 +73,6 @@ AreHeard ss acts = AllByRecursion (IsHeard ss) acts
 
 -- ---- lists
 
-pub each_weaker : {X : Type 0} (P Q : X → Type 0) → ((x : X) → P x → Q x) → (xs : List X) → AllByRecursion P xs → AllByRecursion Q xs
-each_weaker P Q then_so [] all = tt
-each_weaker P Q then_so (x ∷ xs) all = (then_so x all.0, each_weaker P Q then_so xs all.1)
-
 each_chosen : {X : Type 0} (P : X → Type 0) (q : X → Bool) (xs : List X) → AllByRecursion P xs → AllByRecursion (λ x. P x × (q x ≡ true)) (filter q xs)
 each_chosen P q [] all = tt
 each_chosen P q (x ∷ xs) all =
@@ -82,10 +80,6 @@ each_chosen P q (x ∷ xs) all =
       | inl passes ↦ rw passes ((all.0, passes), each_chosen P q xs all.1)
       | inr other ↦ rw other (each_chosen P q xs all.1)
     ]
-
-each_mapped : {X Y : Type 0} (P : Y → Type 0) (f : X → Y) (xs : List X) → AllByRecursion (λ x. P (f x)) xs → AllByRecursion P (map f xs)
-each_mapped P f [] all = tt
-each_mapped P f (x ∷ xs) all = (all.0, each_mapped P f xs all.1)
 
 first_true : (a b : Bool) → a && b ≡ true → a ≡ true
 first_true true b is = refl
@@ -97,7 +91,7 @@ IsListed ss s = session_of s.shown.number ss ≡ Some s
 
 listed : (next low : ℕ) (ss : List (Session ItemOut)) → RisesTo next low ss → AllByRecursion (IsListed ss) ss
 listed next low [] rises = tt
-listed next low (x ∷ ss) rises = (here, each_weaker (IsListed ss) (IsListed (x ∷ ss)) later ss (listed next (x.shown.number + 1) ss rises.1))
+listed next low (x ∷ ss) rises = (here, AllByRecursion-weaker (IsListed ss) (IsListed (x ∷ ss)) later ss (listed next (x.shown.number + 1) ss rises.1))
   where
     here : session_of x.shown.number (x ∷ ss) ≡ Some x
     here = let e = eq-eqb x.shown.number x.shown.number refl in rw e refl
@@ -117,13 +111,13 @@ module _ (ss : List (Session ItemOut)) where
   IsReached s = IsHeardBy ss s.shown.number
 
   chosen_heard : (p : Session ItemOut → Bool) (xs : List (Session ItemOut)) → ((s : Session ItemOut) → p s ≡ true → IsListening s) → AllByRecursion (IsListed ss) xs → AllByRecursion IsReached (filter p xs)
-  chosen_heard p xs listens all = each_weaker (λ s. IsListed ss s × (p s ≡ true)) IsReached heard (filter p xs) (each_chosen (IsListed ss) p xs all)
+  chosen_heard p xs listens all = AllByRecursion-weaker (λ s. IsListed ss s × (p s ≡ true)) IsReached heard (filter p xs) (each_chosen (IsListed ss) p xs all)
     where
       heard : (s : Session ItemOut) → IsListed ss s × (p s ≡ true) → IsReached s
       heard s is t found = subst IsListening (same_Some s t (sym is.0 ∙ found)) (listens s is.1)
 
   of_account : (account : ℕ) → AllByRecursion (IsListed ss) ss → AllByRecursion (IsListed ss) (sessions_of account ss)
-  of_account account all = each_weaker (λ s. IsListed ss s × (is_of account s ≡ true)) (IsListed ss) (λ s both. both.0) (filter (is_of account) ss) (each_chosen (IsListed ss) (is_of account) ss all)
+  of_account account all = AllByRecursion-weaker (λ s. IsListed ss s × (is_of account s ≡ true)) (IsListed ss) (λ s both. both.0) (filter (is_of account) ss) (each_chosen (IsListed ss) (is_of account) ss all)
 
   -- ---- plans
 
@@ -195,7 +189,7 @@ module _ (ss : List (Session ItemOut)) where
 
   numbers_heard : (p : PlanOf (Session ItemOut)) → PlanHeard p → NumbersHeard (plan_renamed number_of p)
   numbers_heard (Bounced e) heard = tt
-  numbers_heard (Routed r) heard = (each_mapped (IsHeardBy ss) number_of r.deliver heard.0, each_mapped (IsHeardBy ss) number_of r.sent heard.1, each_mapped (IsHeardBy ss) number_of r.received heard.2)
+  numbers_heard (Routed r) heard = (all_map (IsHeardBy ss) number_of r.deliver heard.0, all_map (IsHeardBy ss) number_of r.sent heard.1, all_map (IsHeardBy ss) number_of r.received heard.2)
 
 -- ---- messages
 

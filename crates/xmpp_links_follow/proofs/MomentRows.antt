@@ -13,9 +13,8 @@ use Rattle.xmpp_links.specs.Machine.{EndsRow}
 use Rattle.xmpp_links.specs.Views.{Row, Table, View}
 use Rattle.xmpp_live.specs.Sessions.{Session, is_expired, is_named, session_named}
 use Rattle.xmpp_resume.specs.declared.answers.TheConstants.{RESUMABLE_FOR}
-use Rattle.xmpp_links_follow.proofs.BindRows.{none_left}
-use Rattle.xmpp_links_follow.proofs.Leavings.{seat_is, seat_of}
-use Rattle.xmpp_links_follow.proofs.Removed.{left_found, named_gone, of_left, rule_left, seat_left}
+use Rattle.xmpp_item_images.proofs.RuleKept.{left_found, named_gone, none_left, of_left, rule_left, seat_is, seat_of}
+use Rattle.xmpp_links_follow.proofs.Removed.{seat_left}
 use Rattle.xmpp_links_follow.proofs.Placed.{keeps_all}
 use Rattle.xmpp_links_follow.proofs.Servings.{IsLive, live_of}
 use Rattle.xmpp_writer.specs.Items.{ItemOut}

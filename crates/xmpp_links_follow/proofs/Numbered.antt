@@ -6,6 +6,7 @@ use Rattle.std.specs.Option.{option_map}
 use Rattle.xmpp_device_views.specs.Pipes.{by_number, under}
 use Rattle.xmpp_device_views.specs.Reading.{where_here}
 use Rattle.xmpp_device_views.specs.Sent.{where_it}
+use Rattle.xmpp_item_images.proofs.Lookups.{get_before, get_last, none_at_end}
 use Rattle.xmpp_item_worlds.specs.ItemPipes.{ItemWire}
 use Rattle.xmpp_links.proofs.Entries.{at_other, at_same, other_number, same_number}
 use Rattle.xmpp_links.specs.Views.{Table, with_at}
@@ -52,23 +53,6 @@ place_is place f w wires there j = here_changed (Some place) f wires j ∙ here_
 
 -- ---- one more
 
-none_is_not : {T : Type 0} (x : T) → None ≡ Some x → ⊥
-none_is_not x e = cc
-
-get_last : {T : Type 0} (l : List T) (x : T) → slice_get (l ++ x ∷ []) (length l) ≡ Some x
-get_last [] x = refl
-get_last (y ∷ l) x = get_last l x
-
-get_before : {T : Type 0} (l : List T) (x : T) (p : ℕ) → p ≢ length l → slice_get (l ++ x ∷ []) p ≡ slice_get l p
-get_before [] x zero other = absurd (other refl)
-get_before [] x (suc p) other = refl
-get_before (y ∷ l) x zero other = refl
-get_before (y ∷ l) x (suc p) other = get_before l x p (λ e. other (ap suc e))
-
-none_at_end : {T : Type 0} (l : List T) → slice_get l (length l) ≡ None
-none_at_end [] = refl
-none_at_end (y ∷ l) = none_at_end l
-
 pub under_none : {T : Type 0} (l : List T) → under (length l + 1) l ≡ None
 under_none l = under_place (length l) l ∙ none_at_end l
 
@@ -83,22 +67,7 @@ under_more l x k =
       | inr apart ↦ under_before l x k apart ∙ sym (at_other (length l + 1) x (by_number l) k apart)
     ]
 
-pub length_changed : {T : Type 0} (here : Option ℕ) (f : T → T) (l : List T) → length (changed_where here f l) ≡ length l
-length_changed {T = T} None f l = refl
-length_changed {T = T} (Some place) f l = go place l
-  where
-    go : (p : ℕ) (items : List T) → length (changed_at p f items) ≡ length items
-    go p [] = refl
-    go zero (x ∷ items) = refl
-    go (suc p) (x ∷ items) = ap suc (go p items)
-
 -- ---- devices
-
-pub set_here : {T : Type 0} (l : List T) (q : ℕ) (x y : T) → slice_get l q ≡ Some x → slice_get (slice_set l q y) q ≡ Some y
-set_here [] zero x y found = absurd (none_is_not x found)
-set_here [] (suc q) x y found = absurd (none_is_not x found)
-set_here (z ∷ l) zero x y found = refl
-set_here (z ∷ l) (suc q) x y found = set_here l q x y found
 
 pub set_elsewhere : {T : Type 0} (l : List T) (q p : ℕ) (y : T) → p ≢ q → slice_get (slice_set l q y) p ≡ slice_get l p
 set_elsewhere [] zero p y apart = refl

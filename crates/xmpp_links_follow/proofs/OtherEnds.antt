@@ -13,17 +13,15 @@ use Rattle.xmpp_links.specs.Stages.{Conn}
 use Rattle.xmpp_links.specs.Views.{Table, View, with_at}
 use Rattle.xmpp_links.specs.Words.{Foot, UpWord}
 use Rattle.xmpp_live.specs.Sessions.{Session, is_at, is_named, session_at, session_named}
-use Rattle.xmpp_links_follow.proofs.BindRows.{none_left}
+use Rattle.xmpp_item_images.proofs.RuleKept.{found_is, left_found, named_as, none_left, numbered_here, of_left, rule_left, seat_is, seat_of}
 use Rattle.xmpp_links_follow.proofs.FooterRows.{foot_step}
 use Rattle.xmpp_links_follow.proofs.HallsLeft.{without_apart, without_sorted}
 use Rattle.xmpp_links_follow.proofs.HandMoves.{wire_here}
-use Rattle.xmpp_links_follow.proofs.Leavings.{seat_is, seat_of}
 use Rattle.xmpp_links_follow.proofs.OtherRows.{others_stay}
 use Rattle.xmpp_links_follow.proofs.ServersOthers.{not_its, nothing_moves, pipes_stay}
-use Rattle.xmpp_links_follow.proofs.Removed.{left_found, named_as, of_left, rule_left, seat_left}
+use Rattle.xmpp_links_follow.proofs.Removed.{seat_left}
 use Rattle.xmpp_links_follow.proofs.Shuts.{shuts_are_for, shuts_at}
 use Rattle.xmpp_links_follow.specs.Taking.{AreApart, IsFirst, IsLeft, IsOwnWord, StepFollows, on_item}
-use Rattle.xmpp_links_follow.proofs.Found.{found_is, numbered_here}
 use Rattle.xmpp_writer.specs.Items.{Closing, ItemOut}
 
 module _ (who whom : Identity) (logins : ℕ → Login) (h : Hall ItemOut) (wires : Table ItemWire) (v : View ItemOut) (apart : AreApart who whom) (shows : ServerShows whom logins h v) (pipes : PipesShow whom logins wires v) (k : ℕ) (none : v.conns k ≡ None) where

@@ -31,7 +31,8 @@ use Rattle.xmpp_links_follow.proofs.SessionRows.{acknowledged_keeps, asks_keeps,
 use Rattle.xmpp_links_follow.proofs.Sessions.{few_wait, live, numbered}
 use Rattle.xmpp_links_follow.specs.Taking.{AreApart, IsFirst, IsOfLogin, IsOfManagement, StepFollows, on_item}
 use Rattle.xmpp_links_follow.proofs.Emitted.{puts_are_for, puts_at}
-use Rattle.xmpp_links_follow.proofs.Found.{change_here, changes_one, found_is, of_changed}
+use Rattle.xmpp_links_follow.proofs.Found.{change_here, of_changed}
+use Rattle.xmpp_item_images.proofs.RuleKept.{changes_one, found_is}
 use Rattle.xmpp_writer.specs.Items.{ItemOut}
 
 module _ (who whom : Identity) (logins others : ℕ → Login) (h : Hall ItemOut) (wires : Table ItemWire) (v u : View ItemOut) (k : ℕ) (apart : AreApart who whom) (shows : ServerShows whom others h u) (pipes : PipesShow whom others wires u) where

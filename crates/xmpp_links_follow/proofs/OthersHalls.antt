@@ -1,22 +1,29 @@
 -- What the server has of a device stays, where connections and sessions change that are none of it.
-use Rattle.std.proofs.Common.{◌≡◌, ◌≢◌, ℕ, ◌==◌, Bool, true, Option, Some, None, refl, sym, subst, ◌∙◌, ◌⊎◌, inl, inr}
+use Rattle.std.proofs.Common.{◌≡◌, ◌≢◌, ℕ, ◌≤◌, ◌==◌, length, Bool, true, Option, Some, None, refl, sym, subst, ◌∙◌, ◌⊎◌, inl, inr}
 use Rattle.std.proofs.lemmas.Bool.{cases_Bool, eqb-true}
 use Rattle.std.specs.List.{filter}
 use Rattle.std.specs.Option.{option_map}
+use Rattle.xmpp_acks.specs.declared.end.TheConstants.{MOST_UNACKNOWLEDGED}
 use Rattle.xmpp_desk.specs.State.{Hall, with_sessions, without_conn}
 use Rattle.xmpp_device_views.specs.Identities.{Identity, Login}
 use Rattle.xmpp_device_views.specs.Servers.{IsRow, IsRowShown, ServerShows}
 use Rattle.xmpp_links.specs.Links.{IsPlaced, LinkKept}
 use Rattle.xmpp_links.specs.Stages.{Conn}
 use Rattle.xmpp_links.specs.Views.{Row, View}
-use Rattle.xmpp_live.specs.Sessions.{Session, is_named, session_at, session_named, with_session}
-use Rattle.xmpp_links_follow.proofs.Carried.{Carries, carried, carried_named, carried_was, named_carried, rule_carried, seat_was}
+use Rattle.xmpp_live.specs.Sessions.{Session, is_named, session_at, session_named, session_of, with_session}
+use Rattle.xmpp_item_images.proofs.RuleKept.{Keeps, Sits, changes_one, left_found, named_changed, named_one, none_left, of_left, of_was, rule_changed, rule_left, seat_is, seat_of, seat_was}
 use Rattle.xmpp_links_follow.proofs.OthersElsewhere.{apart_from}
-use Rattle.xmpp_links_follow.proofs.BindRows.{none_left}
 use Rattle.xmpp_links_follow.proofs.HallsLeft.{without_apart, without_sorted}
-use Rattle.xmpp_links_follow.proofs.Leavings.{seat_is, seat_of}
-use Rattle.xmpp_links_follow.proofs.Removed.{left_found, of_left, rule_left, seat_left}
+use Rattle.xmpp_links_follow.proofs.Removed.{seat_left}
 use Rattle.xmpp_writer.specs.Items.{ItemOut}
+
+-- what a change of a session leaves: it stays where it is, or is on no connection, or comes to a free one
+pub record Carries (Free : ℕ → Type 0) (f : Session ItemOut → Session ItemOut) : Type 0 where
+  pub number : (s : Session ItemOut) → (f s).shown.number ≡ s.shown.number
+  pub account : (s : Session ItemOut) → (f s).shown.account ≡ s.shown.account
+  pub resource : (s : Session ItemOut) → (f s).shown.resource ≡ s.shown.resource
+  pub conn : (s : Session ItemOut) (j : ℕ) → (f s).shown.conn ≡ Some j → Free j ⊎ (s.shown.conn ≡ Some j)
+  pub few : (s : Session ItemOut) → length s.waiting ≤ MOST_UNACKNOWLEDGED → length (f s).waiting ≤ MOST_UNACKNOWLEDGED
 
 -- it is not the number of the device's session
 abbrev pub IsNotOf : View ItemOut → ℕ → Type 0
@@ -78,30 +85,33 @@ module _ (whom : Identity) (others : ℕ → Login) (h : Hall ItemOut) (u : View
       → ServerShows whom others (with_sessions (with_session n f h.sessions) h) u
   changed_stays n Free f carries free not_of = record {
     served = record { domain = shows.served.domain; account = shows.served.account; found = shows.served.found; archive = shows.served.archive };
-    hall = record { sessions = rule_carried n h.next Free f h.sessions carries shows.hall.sessions nobody; conns = shows.hall.conns };
+    hall = record { sessions = rule_changed h.next n Free f h.sessions shows.hall.sessions keeps sits (λ s at. carries.few s (shows.hall.sessions.few n s at)); conns = shows.hall.conns };
     conns = shows.conns;
     row = subst (IsRowShown u.row) (sym row_same) shows.row;
-    seated = λ j e s there at. seated j e s there (seat_was n h.next Free f h.sessions carries shows.hall.sessions nobody j s at);
+    seated = λ j e s there at. seated j e s there (seat_was h.next n Free f h.sessions shows.hall.sessions keeps sits j s at);
     owned = λ q t s there found.
-        let old = carried_was n h.next Free f h.sessions carries shows.hall.sessions nobody q s found in
+        let old = of_was q n f h.sessions s keeps found in
         name old.0 s old.2 (shows.owned q t old.0 there old.1);
     free = shows.free;
   }
     where
-      nobody : (j : ℕ) → Free j → session_at j h.sessions ≡ None
-      nobody j is = (free j is).1
+      keeps : Keeps f
+      keeps = record { number = carries.number; account = carries.account; resource = carries.resource }
 
-      name : (a s : Session ItemOut) → carried n h.next Free f h.sessions carries shows.hall.sessions nobody a ≡ s → is_named whom.account whom.resource a ≡ true → is_named whom.account whom.resource s ≡ true
+      sits : Sits Free h.sessions f
+      sits = record { conn = carries.conn; nobody = λ j is. (free j is).1 }
+
+      name : (a s : Session ItemOut) → changes_one n f a ≡ s → is_named whom.account whom.resource a ≡ true → is_named whom.account whom.resource s ≡ true
       name a s same is =
           subst (λ (x : Session ItemOut). is_named whom.account whom.resource x ≡ true) same
-          (carried_named n h.next Free f h.sessions carries shows.hall.sessions nobody whom.account whom.resource a ∙ is)
+          (named_one whom.account whom.resource n f a keeps ∙ is)
 
       seated : (j : ℕ) (e : Conn ItemOut) (s : Session ItemOut) → u.conns j ≡ Some e
-          → (a : Session ItemOut) × (carried n h.next Free f h.sessions carries shows.hall.sessions nobody a ≡ s) × (Free j ⊎ (session_at j h.sessions ≡ Some a)) → is_named whom.account whom.resource s ≡ true
-      seated j e s there (a, same, inl is) = let none = (free j is).0 in absurd (let no_way : ⊥ = cc in no_way)
-      seated j e s there (a, same, inr at) = name a s same (shows.seated j e a there at)
+          → (a : Session ItemOut) × (session_of a.shown.number h.sessions ≡ Some a) × (changes_one n f a ≡ s) × (((a.shown.number ≡ n) × Free j) ⊎ (session_at j h.sessions ≡ Some a)) → is_named whom.account whom.resource s ≡ true
+      seated j e s there (a, here, same, inl new) = let none = (free j new.1).0 in absurd (let no_way : ⊥ = cc in no_way)
+      seated j e s there (a, here, same, inr at) = name a s same (shows.seated j e a there at)
 
-      row_so : (o : Option (Session ItemOut)) → session_named whom.account whom.resource h.sessions ≡ o → option_map (carried n h.next Free f h.sessions carries shows.hall.sessions nobody) o ≡ o
+      row_so : (o : Option (Session ItemOut)) → session_named whom.account whom.resource h.sessions ≡ o → option_map (changes_one n f) o ≡ o
       row_so None is = refl
       row_so (Some t) is =
           elim (cases_Bool (t.shown.number == n)) [
@@ -110,4 +120,4 @@ module _ (whom : Identity) (others : ℕ → Login) (h : Hall ItemOut) (u : View
           ]
 
       row_same : session_named whom.account whom.resource (with_session n f h.sessions) ≡ session_named whom.account whom.resource h.sessions
-      row_same = named_carried n h.next Free f h.sessions carries shows.hall.sessions nobody whom.account whom.resource ∙ row_so (session_named whom.account whom.resource h.sessions) refl
+      row_same = named_changed whom.account whom.resource n f h.sessions keeps ∙ row_so (session_named whom.account whom.resource h.sessions) refl

@@ -20,6 +20,7 @@ use Rattle.xmpp_device_views.specs.Servers.{IsRow, IsRowShown, ServerFollows, Se
 use Rattle.xmpp_item_worlds.specs.ItemPipes.{ItemWire}
 use Rattle.xmpp_item_worlds.specs.ItemWorlds.{itself}
 use Rattle.xmpp_links.proofs.Entries.{at_same}
+use Rattle.xmpp_links.proofs.Prompt.{same_flow_down}
 use Rattle.xmpp_links.specs.Links.{IsPlaced, LinkKept}
 use Rattle.xmpp_links.specs.Machine.{Demands, Detaches, EndsRow, Keeps, Serves}
 use Rattle.xmpp_links.specs.SessionMoves.{lost_if, put_if, shut as shut_conn}
@@ -34,7 +35,7 @@ use Rattle.xmpp_replies.specs.Streams.{error_item}
 use Rattle.xmpp_replies.specs.declared.conditions.StreamCondition.TheVariants as stream
 use Rattle.xmpp_links_follow.proofs.Former.{keeps_both}
 use Rattle.xmpp_links_follow.proofs.Leavings.{left_hall, left_shows}
-use Rattle.xmpp_links_follow.proofs.Removed.{named_gone}
+use Rattle.xmpp_item_images.proofs.RuleKept.{named_gone, numbered_here}
 use Rattle.xmpp_links_follow.proofs.SessionRows.{asked_row, asks_keeps}
 use Rattle.xmpp_links_follow.proofs.Shuts.{shuts_at}
 use Rattle.xmpp_links_follow.proofs.StanzasElsewhere.{one_more, waits_keeps}
@@ -42,8 +43,7 @@ use Rattle.xmpp_links_follow.proofs.GivenParts.{IsKeptRow, given_all, given_shor
 use Rattle.xmpp_links_follow.proofs.MorePipes.{more_put_out, put_here, shut_here}
 use Rattle.xmpp_links_follow.proofs.Thinned.{thinned}
 use Rattle.xmpp_links_follow.specs.Given.{IsGiven}
-use Rattle.xmpp_links_follow.proofs.Flows.{halted, put_flowing}
-use Rattle.xmpp_links_follow.proofs.Found.{numbered_here}
+use Rattle.xmpp_links_follow.proofs.Flows.{halted}
 use Rattle.xmpp_links_follow.proofs.Placed.{keeps_all, keeps_at}
 use Rattle.xmpp_links_follow.proofs.Servings.{IsLive, known_altered, known_same, live_of, row_shows, session_shows}
 use Rattle.xmpp_writer.specs.Items.{Closing, ItemOut}
@@ -55,7 +55,7 @@ pub record Goes (who : Identity) (logins : ℕ → Login) (wires : Table ItemWir
   pub are_given : IsGiven acts given v.row follows.next.row
   pub kept : IsKeptRow v.row follows.next.row
 
-twice_left : {A : Type 0} (p q : A → Bool) (xs : List A) → filter p (filter q xs) ≡ filter (λ x. q x && p x) xs
+pub twice_left : {A : Type 0} (p q : A → Bool) (xs : List A) → filter p (filter q xs) ≡ filter (λ x. q x && p x) xs
 twice_left p q [] = refl
 twice_left p q (x ∷ xs) =
     elim (cases_Bool (q x)) [
@@ -208,12 +208,12 @@ module _ (who : Identity) (logins : ℕ → Login) (wires : Table ItemWire) (v :
           (put_here who logins (sent (s.outs ++ Put k z ∷ []) wires) served served_pipes k put_conn at_there asked (Down Req ∷ []) (request_item ∷ []) refl (All-nil IsForClient) refl)
 
       served_keeps : (j : ℕ) → KeepsClient (v.conns j) (served.conns j)
-      served_keeps = keeps_at v.conns k c put_conn is refl (λ ended. put_flowing (Down (St z) ∷ []) c.wires ∙ ended)
+      served_keeps = keeps_at v.conns k c put_conn is refl (λ ended. same_flow_down (Down (St z) ∷ []) c.wires ∙ ended)
 
       asked_keeps : (j : ℕ) → KeepsClient (v.conns j) (asked.conns j)
       asked_keeps j =
           keeps_both (v.conns j) (served.conns j) (asked.conns j) (served_keeps j)
-          (keeps_at served.conns k put_conn asked_conn at_there refl (λ ended. put_flowing (Down Req ∷ []) put_conn.wires ∙ ended) j)
+          (keeps_at served.conns k put_conn asked_conn at_there refl (λ ended. same_flow_down (Down Req ∷ []) put_conn.wires ∙ ended) j)
 
       by_due : (b : Bool) → Result (ask_where itself r.number (Some k) b (put k z waiting))
       by_due false = record {

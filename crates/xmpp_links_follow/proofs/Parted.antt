@@ -18,8 +18,7 @@ use Rattle.xmpp_links_follow.proofs.OthersHalls.{IsNotOf}
 use Rattle.xmpp_links_follow.specs.Beside.{IsBeside}
 use Rattle.xmpp_links_follow.proofs.Former.{has_wire}
 use Rattle.xmpp_links_follow.proofs.ServersOthers.{not_its, nothing_moves}
-use Rattle.xmpp_links_follow.proofs.Removed.{named_as}
-use Rattle.xmpp_links_follow.proofs.Found.{found_is, numbered_here}
+use Rattle.xmpp_item_images.proofs.RuleKept.{found_is, named_as, numbered_here}
 use Rattle.xmpp_links_follow.proofs.Servings.{live_of}
 use Rattle.xmpp_writer.specs.Items.{ItemOut}
 

@@ -9,8 +9,9 @@ use Rattle.xmpp_client_rows.specs.Turns.{drops, is_apart, puts, puts_footer}
 use Rattle.xmpp_client_rows.specs.Turns as turns
 use Rattle.xmpp_links_follow.proofs.CutPipes.{wire_of}
 use Rattle.xmpp_links_follow.proofs.Leaves.{HasLeft, leaves_plainly, leaves_with, left_same, none_left}
+use Rattle.xmpp_links_follow.proofs.MoreMoves.{deeds_both, then_reaches}
 use Rattle.xmpp_links_follow.proofs.Numbered.{at_itself, here_is, here_twice}
-use Rattle.xmpp_links_follow.proofs.Stays.{along_both, deeds_both, keeps_server}
+use Rattle.xmpp_links_follow.proofs.Stays.{keeps_server}
 use Rattle.xmpp_device_views.specs.Clients.{ClientFollows, ClientShows}
 use Rattle.xmpp_device_views.specs.Deeds.{Drops}
 use Rattle.xmpp_device_views.specs.Identities.{Identity, Login}
@@ -113,7 +114,7 @@ module _ (who : Identity) (logins : ℕ → Login) (d : ItemDevice) (wires : Tab
   parting t after same none l = record {
     moves = l.moves ++ Forgets ∷ [];
     next = record l.next { own = None };
-    leads = along_both l.moves (Forgets ∷ []) v l.next (record l.next { own = None }) l.leads (record l.next { own = None }, record { idle = l.idle; gives = refl }, refl);
+    leads = then_reaches l.moves (Forgets ∷ []) v l.next (record l.next { own = None }) l.leads (record l.next { own = None }, record { idle = l.idle; gives = refl }, refl);
     prompt = prompt_both l.moves (Forgets ∷ []) (silent_as l.moves [] l.does tt) (tt, tt);
     does = deeds_both l.moves (Forgets ∷ []) ∙ ap (λ ds. ds ++ Drops ∷ []) l.does ∙ sym (no_more t.out.notes none);
     client = record {

@@ -12,9 +12,7 @@ use Rattle.xmpp_links.specs.Stages.{Conn}
 use Rattle.xmpp_links.specs.Views.{View}
 use Rattle.xmpp_links.specs.Views as links
 use Rattle.xmpp_live.specs.Sessions.{Session, fresh, is_at, is_named, is_numbered, session_at, session_named, session_of}
-use Rattle.xmpp_links_follow.proofs.Leavings.{seat_is}
-use Rattle.xmpp_links_follow.proofs.Pushed.{found_pushed, rule_pushed}
-use Rattle.xmpp_links_follow.proofs.Removed.{named_as}
+use Rattle.xmpp_item_images.proofs.RuleKept.{found_pushed, named_as, rule_pushed, seat_is}
 use Rattle.xmpp_links_follow.specs.Taking.{AreApart}
 use Rattle.xmpp_writer.specs.Items.{ItemOut}
 

@@ -27,10 +27,10 @@ use Rattle.xmpp_replies.specs.Streams.{error_item, too_high_item}
 use Rattle.xmpp_replies.specs.declared.conditions.StreamCondition.TheVariants as stream
 use Rattle.xmpp_resume.specs.Previds.{previd_of}
 use Rattle.xmpp_resume.specs.declared.answers.ResumeFault.TheVariants.{TooHigh}
-use Rattle.xmpp_links_follow.proofs.BindRows.{none_left}
+use Rattle.xmpp_item_images.proofs.RuleKept.{named_gone, none_left}
 use Rattle.xmpp_links_follow.proofs.HandMoves.{kept_here, wire_here}
 use Rattle.xmpp_links_follow.proofs.Leavings.{left_hall, left_shows}
-use Rattle.xmpp_links_follow.proofs.Removed.{all_left, named_gone}
+use Rattle.xmpp_links_follow.proofs.Removed.{all_left}
 use Rattle.xmpp_links_follow.proofs.ResumeCounts.{IsBehind, high_so}
 use Rattle.xmpp_links_follow.proofs.ResumeRows.{IsOwnSession}
 use Rattle.xmpp_links_follow.proofs.ResumeTaken.{first_word, nobody}

@@ -34,7 +34,7 @@ use Rattle.xmpp_replies.specs.Streams.{error_item}
 use Rattle.xmpp_replies.specs.declared.conditions.StreamCondition.TheVariants as stream
 use Rattle.xmpp_resume.specs.Previds.{previd_of}
 use Rattle.xmpp_resume.specs.declared.answers.ResumeFault.TheVariants.{TooHigh}
-use Rattle.xmpp_links_follow.proofs.BindRows.{none_left}
+use Rattle.xmpp_item_images.proofs.RuleKept.{changes_one, either, found_mapped, none_left}
 use Rattle.xmpp_links_follow.proofs.Former.{keeps_both, pipes_as, sent_apart, shut_first}
 use Rattle.xmpp_links_follow.proofs.HandMoves.{kept_here}
 use Rattle.xmpp_links_follow.proofs.Leavings.{unseated}
@@ -51,7 +51,7 @@ use Rattle.xmpp_links_follow.specs.Taking.{IsFirst, IsTaken, StepFollows, on_ite
 use Rattle.xmpp_session_rows.specs.Resumptions.{asking, resent_where, resuming, saying}
 use Rattle.xmpp_links_follow.proofs.Emitted.{puts_at}
 use Rattle.xmpp_links_follow.proofs.Flows.{halted}
-use Rattle.xmpp_links_follow.proofs.Found.{change_here, changes_one, either, found_mapped}
+use Rattle.xmpp_links_follow.proofs.Found.{change_here}
 use Rattle.xmpp_links_follow.proofs.Placed.{keeps_at}
 use Rattle.xmpp_links_follow.proofs.Servings.{known_altered}
 use Rattle.xmpp_writer.specs.Items.{Closing, ItemOut}

@@ -4,7 +4,6 @@ use Rattle.std.proofs.Common.{◌≡◌, ℕ, ◌-◌, ◌<◌, ◌≤◌, ◌^�
 use Rattle.std.proofs.lemmas.Bool.Decides.{nat_tests}
 use Rattle.std.proofs.lemmas.List.{append-nil, append_assoc}
 use Rattle.std.proofs.lemmas.List.Elements.{All-drop}
-use Rattle.xmpp_acks.proofs.Senders.{ahead_exact}
 use Rattle.xmpp_acks.specs.Counters.{ahead}
 use Rattle.xmpp_desk.specs.State.{Hall, Out, Put, Step, with_sessions}
 use Rattle.xmpp_desk.specs.Steps.{Act, acted}
@@ -22,14 +21,13 @@ use Rattle.xmpp_live.specs.Sessions.{Session, asks, is_named, is_numbered, is_re
 use Rattle.xmpp_resume.specs.Previds.{previd_of}
 use Rattle.xmpp_replies.specs.Management.{request_item}
 use Rattle.xmpp_links_follow.proofs.Pushed.{numbers_below}
-use Rattle.xmpp_links_follow.proofs.Removed.{one_named}
+use Rattle.xmpp_item_images.proofs.RuleKept.{found_is, found_some, numbered_here, one_named}
 use Rattle.xmpp_links_follow.proofs.ResumeReads.{IsResumed, resumed_is}
-use Rattle.xmpp_links_follow.proofs.Resuming.{Comes}
+use Rattle.xmpp_links_follow.proofs.SessionRows.{near}
 use Rattle.xmpp_links_follow.proofs.StrangeRows.{Asked, asked_here}
 use Rattle.xmpp_links_follow.specs.Taking.{IsFirst}
 use Rattle.xmpp_session_rows.specs.Resumptions.{asking, saying}
 use Rattle.xmpp_links_follow.proofs.Emitted.{puts_at}
-use Rattle.xmpp_links_follow.proofs.Found.{found_is, found_some, numbered_here}
 use Rattle.xmpp_writer.specs.Items.{ItemOut}
 
 -- ---- what is put
@@ -49,12 +47,6 @@ asked_so k m true h outs = refl
 asked_so k m false h outs = refl
 
 -- ---- the session
-
-pub resumes_comes : (n k : ℕ) → Comes k (resumes n k)
-resumes_comes n k = record { number = λ s. refl; account = λ s. refl; resource = λ s. refl; conn = λ s. refl }
-
-near : (r : Row ItemOut) (n : ℕ) → IsWithin r.acked r.queue n → length r.queue ≤ 10000 → ahead (told_count n) (told_count r.acked) ≡ n - r.acked
-near r n within few = let low = within.low in let high = within.high in ahead_exact n r.acked low (omega arith)
 
 pub resumed_row : (r : Row ItemOut) (n k : ℕ) → IsWithin r.acked r.queue n → length r.queue ≤ 10000 → (s : Session ItemOut) → IsRow r s
     → IsRow (record r { on = Some k; acked = n; queue = drop (n - r.acked) r.queue }) (resumes (told_count n) k s)

@@ -37,8 +37,8 @@ use Rattle.xmpp_resume.specs.Previds.{previd_of}
 use Rattle.xmpp_resume.specs.declared.answers.ResumeFault.TheVariants.{TooHigh}
 use Rattle.xmpp_links_follow.proofs.Demanding.{demanded, follows_on, sent_more}
 use Rattle.xmpp_links_follow.proofs.HandMoves.{kept_here, open_here}
-use Rattle.xmpp_links_follow.proofs.Resuming.{Comes, moved, moved_named, moved_seat, moved_was, named_moved, rule_moved}
-use Rattle.xmpp_links_follow.proofs.ResumeRows.{IsOwnSession, asked_so, asked_where, numbered, resumed_row, resumes_comes, said, within_so}
+use Rattle.xmpp_item_images.proofs.RuleKept.{Keeps, Sits, changes_one, comes, found_is, named_changed, named_one, of_was, rule_changed, seat_was}
+use Rattle.xmpp_links_follow.proofs.ResumeRows.{IsOwnSession, asked_so, asked_where, numbered, resumed_row, said, within_so}
 use Rattle.xmpp_links_follow.proofs.SessionRows.{asked_row, asks_keeps, fewer}
 use Rattle.xmpp_links_follow.proofs.Sessions.{taken, taken_client, taken_pipes}
 use Rattle.xmpp_links_follow.proofs.Standing.{stands_at}
@@ -46,7 +46,7 @@ use Rattle.xmpp_links_follow.proofs.StrangeRows.{none_here, ready, resume_step}
 use Rattle.xmpp_links_follow.specs.Taking.{IsFirst, StepFollows, on_item}
 use Rattle.xmpp_session_rows.specs.Resumptions.{asking, resent_where, resuming, saying}
 use Rattle.xmpp_links_follow.proofs.Emitted.{puts_at}
-use Rattle.xmpp_links_follow.proofs.Found.{change_here, found_is}
+use Rattle.xmpp_links_follow.proofs.Found.{change_here}
 use Rattle.xmpp_links_follow.proofs.Servings.{Known, known_altered, known_same, session_shows}
 use Rattle.xmpp_writer.specs.Items.{ItemOut}
 
@@ -140,45 +140,48 @@ module _ (who : Identity) (logins : ℕ → Login) (h : Hall ItemOut) (wires : T
         open_here who logins h wires v k (ResumeAt q n) p Ready (ready who logins h wires v k q n p)
         ∙ sym (ap (λ b. open_conn who (logins k) (AtSession row.number) p.conn.ending b) st.1 ∙ ap (λ g. open_conn who (logins k) (AtSession row.number) g false) st.0)
 
-    comes : Comes k back
-    comes = resumes_comes hh k
+    keeps : Keeps back
+    keeps = record { number = λ t. refl; account = λ t. refl; resource = λ t. refl }
+
+    sits : Sits (λ j. j ≡ k) h.sessions back
+    sits = comes k h.sessions back nobody (λ t. refl)
 
     back_shows : (t : Table (links.Session ItemOut)) → Known t v → ServerShows who logins back_hall (record v { conns = with_at k attached v.conns; row = Some after; sessions = t })
     back_shows t known = record {
       served = record { domain = p.server.served.domain; account = p.server.served.account; found = p.server.served.found; archive = p.server.served.archive };
-      hall = record { sessions = rule_moved s.shown.number k h.next back h.sessions comes p.server.hall.sessions nobody few_back; conns = p.server.hall.conns };
+      hall = record { sessions = rule_changed h.next s.shown.number (λ j. j ≡ k) back h.sessions p.server.hall.sessions keeps sits few_back; conns = p.server.hall.conns };
       conns = λ j e at. shown j e (entry k attached v.conns j e at);
       row = subst (IsRowShown (Some after)) (sym by_name) (resumed_row row n k within few s own.live);
-      seated = λ j e u at seat. seated j e u (entry k attached v.conns j e at) (moved_seat s.shown.number k h.next back h.sessions comes p.server.hall.sessions nobody few_back j u seat);
-      owned = λ m u t2 at here. owned m t2 (known m u at) (moved_was s.shown.number k h.next back h.sessions comes p.server.hall.sessions nobody m t2 here);
+      seated = λ j e u at seat. seated j e u (entry k attached v.conns j e at) (seat_was h.next s.shown.number (λ j. j ≡ k) back h.sessions p.server.hall.sessions keeps sits j u seat);
+      owned = λ m u t2 at here. owned m t2 (known m u at) (of_was m s.shown.number back h.sessions t2 keeps here);
       free = p.server.free;
     }
       where
         by_name : session_named who.account who.resource (with_session s.shown.number back h.sessions) ≡ Some (back s)
         by_name =
-            named_moved s.shown.number k h.next back h.sessions comes p.server.hall.sessions nobody who.account who.resource
-            ∙ ap (option_map (moved s.shown.number k h.next back h.sessions comes p.server.hall.sessions nobody)) own.named ∙ ap Some (change_here s.shown.number back s refl)
+            named_changed who.account who.resource s.shown.number back h.sessions keeps
+            ∙ ap (option_map (changes_one s.shown.number back)) own.named ∙ ap Some (change_here s.shown.number back s refl)
 
         shown : (j : ℕ) (e : Conn ItemOut) → Entry k attached v.conns j e → conn_at j h ≡ conn_shown who (logins j) e
         shown j e (New same it) = subst (λ m. conn_at m h ≡ conn_shown who (logins m) e) same (same_conn ∙ ap (conn_shown who (logins k)) it)
         shown j e (Old apart was) = p.server.conns j e was
 
-        name : (a b : Session ItemOut) → moved s.shown.number k h.next back h.sessions comes p.server.hall.sessions nobody a ≡ b → is_named who.account who.resource a ≡ true → is_named who.account who.resource b ≡ true
+        name : (a b : Session ItemOut) → changes_one s.shown.number back a ≡ b → is_named who.account who.resource a ≡ true → is_named who.account who.resource b ≡ true
         name a b same is =
-            subst (λ u. is_named who.account who.resource u ≡ true) same (moved_named s.shown.number k h.next back h.sessions comes p.server.hall.sessions nobody who.account who.resource a ∙ is)
+            subst (λ u. is_named who.account who.resource u ≡ true) same (named_one who.account who.resource s.shown.number back a keeps ∙ is)
 
         mine : (a : Session ItemOut) → session_of a.shown.number h.sessions ≡ Some a → a.shown.number ≡ s.shown.number → is_named who.account who.resource a ≡ true
         mine a here same =
             subst (λ u. is_named who.account who.resource u ≡ true) (same_Some s a (sym there ∙ ap (λ m. session_of m h.sessions) (sym same) ∙ here)) (found_is (is_named who.account who.resource) h.sessions s own.named)
 
         seated : (j : ℕ) (e : Conn ItemOut) (u : Session ItemOut) → Entry k attached v.conns j e
-            → (a : Session ItemOut) × (session_of a.shown.number h.sessions ≡ Some a) × (moved s.shown.number k h.next back h.sessions comes p.server.hall.sessions nobody a ≡ u) × (((a.shown.number ≡ s.shown.number) × (j ≡ k)) ⊎ (session_at j h.sessions ≡ Some a))
+            → (a : Session ItemOut) × (session_of a.shown.number h.sessions ≡ Some a) × (changes_one s.shown.number back a ≡ u) × (((a.shown.number ≡ s.shown.number) × (j ≡ k)) ⊎ (session_at j h.sessions ≡ Some a))
             → is_named who.account who.resource u ≡ true
         seated j e u at (a, here, same, inl new) = name a u same (mine a here new.0)
         seated j e u (New is_k it) (a, here, same, inr seat) = name a u same (p.server.seated k p.conn a p.is (subst (λ m. session_at m h.sessions ≡ Some a) (sym is_k) seat))
         seated j e u (Old apart was) (a, here, same, inr seat) = name a u same (p.server.seated j e a was seat)
 
-        owned : (m : ℕ) (b : Session ItemOut) → (old : links.Session ItemOut) × (v.sessions m ≡ Some old) → (a : Session ItemOut) × (session_of m h.sessions ≡ Some a) × (moved s.shown.number k h.next back h.sessions comes p.server.hall.sessions nobody a ≡ b)
+        owned : (m : ℕ) (b : Session ItemOut) → (old : links.Session ItemOut) × (v.sessions m ≡ Some old) → (a : Session ItemOut) × (session_of m h.sessions ≡ Some a) × (changes_one s.shown.number back a ≡ b)
             → is_named who.account who.resource b ≡ true
         owned m b old was = name was.0 b was.2 (p.server.owned m old.0 was.0 old.1 was.1)
 

@@ -32,7 +32,7 @@ use Rattle.xmpp_links_follow.proofs.StrangeRows.{none_here, resume_step}
 use Rattle.xmpp_links_follow.specs.Taking.{IsFirst, IsLeft}
 use Rattle.xmpp_session_rows.specs.Resumptions.{asking, resent_where, resuming, saying}
 use Rattle.xmpp_stanza.specs.declared.conditions.Condition.TheVariants.{ItemNotFound}
-use Rattle.xmpp_links_follow.proofs.Found.{found_is, numbered_here}
+use Rattle.xmpp_item_images.proofs.RuleKept.{found_is, numbered_here}
 use Rattle.xmpp_writer.specs.Items.{Closing, ItemOut}
 
 module _ (who whom : Identity) (logins others : ℕ → Login) (h : Hall ItemOut) (wires : Table ItemWire) (v u : View ItemOut) (k q n : ℕ) (p : IsFirst who logins h wires v k (ResumeAt q n)) (beside : IsBeside who whom others h wires u) where

@@ -15,10 +15,10 @@ use Rattle.xmpp_links.proofs.Entries.{at_other, at_same}
 use Rattle.xmpp_links.specs.Stages.{Conn}
 use Rattle.xmpp_links.specs.Views.{Table, View, with_at}
 use Rattle.xmpp_live.specs.Sessions.{Session, is_named, session_named, session_of, with_session}
-use Rattle.xmpp_links_follow.proofs.Removed.{named_as}
+use Rattle.xmpp_item_images.proofs.RuleKept.{changes_one, found_is, named_as, numbered_here}
 use Rattle.xmpp_links_follow.specs.Taking.{AreApart}
 use Rattle.xmpp_links_follow.proofs.Emitted.{AreFor}
-use Rattle.xmpp_links_follow.proofs.Found.{Keeps, at_was, changes_one, found_is, keeps_one, named_changed, numbered_here, of_was, rule_changed}
+use Rattle.xmpp_links_follow.proofs.Found.{Keeps, at_was, keeps_one, named_changed, of_was, rule_changed}
 use Rattle.xmpp_links_follow.proofs.WireStepsHalls.{hall_apart, hall_sorted}
 use Rattle.xmpp_links_follow.proofs.Placed.{keeps_all, shown_as}
 use Rattle.xmpp_writer.specs.Items.{ItemOut}

@@ -11,7 +11,8 @@ use Rattle.xmpp_links.specs.Stages.{Conn}
 use Rattle.xmpp_links.specs.Views.{Row, Table, View, alter, with_at}
 use Rattle.xmpp_links.specs.Views as links
 use Rattle.xmpp_live.specs.Sessions.{Session, is_named, session_at, session_named, session_of, with_session}
-use Rattle.xmpp_links_follow.proofs.Found.{Keeps, at_was, of_was, change_here, changes_one, keeps_one, named_changed, numbered_here, rule_changed}
+use Rattle.xmpp_links_follow.proofs.Found.{Keeps, at_was, of_was, change_here, keeps_one, named_changed, rule_changed}
+use Rattle.xmpp_item_images.proofs.RuleKept.{changes_one, numbered_here}
 use Rattle.xmpp_links_follow.proofs.WireStepsHalls.{hall_apart, hall_here, hall_sorted}
 use Rattle.xmpp_writer.specs.Items.{ItemOut}
 

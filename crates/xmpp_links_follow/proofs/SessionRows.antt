@@ -84,7 +84,7 @@ asked_row on r s is = record {
 }
 
 -- a count that names a place in the queue
-near : (r : Row ItemOut) (n : ℕ) → IsWithin r.acked r.queue n → length r.queue ≤ 10000 → ahead (told_count n) (told_count r.acked) ≡ n - r.acked
+pub near : (r : Row ItemOut) (n : ℕ) → IsWithin r.acked r.queue n → length r.queue ≤ 10000 → ahead (told_count n) (told_count r.acked) ≡ n - r.acked
 near r n within few = let low = within.low in let high = within.high in ahead_exact n r.acked low (omega arith)
 
 acknowledged_row : (r : Row ItemOut) (n : ℕ) → IsWithin r.acked r.queue n → length r.queue ≤ 10000 → (s : Session ItemOut) → IsRow r s
@@ -104,7 +104,7 @@ acknowledged_row r n within few s is = record {
 pub fewer : (n most : ℕ) (zs : List ItemOut) → length zs ≤ most → length (drop n zs) ≤ most
 fewer n most zs few = let size = length-drop n zs in omega arith
 
-not_high : (q a : ℕ) → a ≤ q → nat_lt q a ≡ false
+pub not_high : (q a : ℕ) → a ≤ q → nat_lt q a ≡ false
 not_high q a within = grind (arith, nat_tests)
 
 within_answer : (r : Row ItemOut) (n : ℕ) → IsWithin r.acked r.queue n → length r.queue ≤ 10000 → (s : Session ItemOut) → IsRow r s → ack_answer (told_count n) s ≡ Ok (ahead (told_count n) s.acked)

@@ -34,7 +34,8 @@ use Rattle.xmpp_stanza_rows.specs.Ready.{at_bound, at_ready_or_bound}
 use Rattle.xmpp_trees.specs.Trees.{Elem}
 use Rattle.xmpp_links_follow.proofs.Emitted.{puts_are_for, puts_at, puts_here}
 use Rattle.xmpp_links_follow.proofs.Flows.{taken_flowing}
-use Rattle.xmpp_links_follow.proofs.Found.{found_on, numbered_here}
+use Rattle.xmpp_links_follow.proofs.Found.{found_on}
+use Rattle.xmpp_item_images.proofs.RuleKept.{numbered_here}
 use Rattle.xmpp_links_follow.proofs.Placed.{keeps_at, shown_sent}
 use Rattle.xmpp_links_follow.proofs.Servings.{IsLive, live_of}
 use Rattle.xmpp_links_follow.proofs.Taken.{wire_taken}

@@ -9,9 +9,11 @@ use Rattle.xmpp_client.specs.Steps.{element_row, handles, item_step, online_in, 
 use Rattle.xmpp_client.specs.UserCalls.{catch_up_answer, catches_up, say_answer, says as says_turn}
 use Rattle.xmpp_client_fits.specs.Answerable.{IsItemAnswerable}
 use Rattle.xmpp_client_fits.specs.Within.{IsClientWithin}
+use Rattle.xmpp_item_images.proofs.ItemsHeard.{entered_twice, nothing_entered}
+use Rattle.xmpp_links_follow.proofs.HandMoves.{shown_wire}
 use Rattle.xmpp_links_follow.proofs.Hearing.{wire_heard}
 use Rattle.xmpp_links_follow.proofs.Turning.{own_session}
-use Rattle.xmpp_links_follow.proofs.Working.{client_works, never_apart, same_server, shown_wire}
+use Rattle.xmpp_links_follow.proofs.Working.{client_works, never_apart, same_server, some_place}
 use Rattle.xmpp_client_rows.specs.AckRows.{request_row}
 use Rattle.xmpp_client_rows.specs.SessionRows.{is_stanza}
 use Rattle.xmpp_client_rows.specs.Speech.{in_items}
@@ -54,7 +56,6 @@ use Rattle.xmpp_stanza.specs.Names.{client_ns, streams_ns}
 use Rattle.xmpp_stanza.specs.Readings.{stanza_of}
 use Rattle.xmpp_trees.specs.Readers.{is_named}
 use Rattle.xmpp_trees.specs.Trees.{Elem, name_of, namespace_of}
-use Rattle.xmpp_links_follow.proofs.Flows.{entered_none, entered_twice}
 use Rattle.xmpp_links_follow.proofs.Placed.{shown_at}
 use Rattle.xmpp_links_follow.proofs.Servings.{known_altered}
 use Rattle.xmpp_writer.specs.Items.{ItemOut, Whole}
@@ -65,7 +66,7 @@ put_twice : (put more : List ItemOut) (w : ItemWire) → put_up more (put_up put
 put_twice put more w = ap (λ (p : ItemPipe). record w { up = p }) (entered_twice put more w.up)
 
 put_none : (w : ItemWire) → put_up [] w ≡ w
-put_none w = ap (λ (p : ItemPipe). record w { up = p }) (entered_none w.up)
+put_none w = ap (λ (p : ItemPipe). record w { up = p }) (nothing_entered w.up)
 
 -- those of a connection of which an item was handed over
 heard_enters : (k : ℕ) (w : ItemWire) (wires : Table ItemWire) → Enters k (λ put. with_at k (put_up put w) wires)
@@ -141,9 +142,6 @@ counted_own o s old = record {
   few = old.few;
 }
 
-one_place : (a b : ℕ) → Some a ≡ Some b → a ≡ b
-one_place a b same = cc
-
 module _ (who : Identity) (logins : ℕ → Login) (d : ItemDevice) (wires : Table ItemWire) (v : View ItemOut) (k : ℕ) (z : ItemOut) (p : IsNextDown who logins d wires v k (Down (St z))) where
   -- the connection's pipes, so much being put
   abbrev heard : List ItemOut → Table ItemWire
@@ -159,7 +157,7 @@ module _ (who : Identity) (logins : ℕ → Login) (d : ItemDevice) (wires : Tab
   works = ap is_apart (p.shown.client.phase k p.conn p.here p.is) ∙ never_apart who (logins k) p.conn.client
 
   number : (place : ℕ) → d.here ≡ Some place → k ≡ place + 1
-  number place at = let had = p.shown.client.here k p.here in had.1 ∙ ap (λ n. n + 1) (one_place had.0 place (sym had.2 ∙ at))
+  number place at = let had = p.shown.client.here k p.here in had.1 ∙ ap (λ n. n + 1) (some_place had.0 place (sym had.2 ∙ at))
 
   enters : (place : ℕ) → d.here ≡ Some place → Enters (place + 1) heard
   enters place at = subst (λ n. Enters n heard) (number place at) (heard_enters k (handed_down p.wire) wires)

@@ -6,36 +6,30 @@ use Rattle.std.specs.Option.{option_map}
 use Rattle.xmpp_client.specs.UserCalls.{catch_up_answer, catches_up, closes, dials, say_answer, says}
 use Rattle.xmpp_client_rows.specs.Clients.{Turn}
 use Rattle.xmpp_client_rows.specs.Speech.{in_items}
-use Rattle.xmpp_links_follow.proofs.Numbered.{length_changed}
 use Rattle.xmpp_links_follow.specs.Following.{AreDialled}
 use Rattle.xmpp_desk.specs.Moments.{at_moment, gone_at, with_fresh}
-use Rattle.xmpp_desk.specs.State.{Out, Put, Shut, Took, is_number}
+use Rattle.xmpp_desk.specs.State.{is_number}
 use Rattle.xmpp_desk.specs.declared.connection.Connection.{Connection}
 use Rattle.xmpp_framing.specs.declared.states.Phase.TheVariants as framing
 use Rattle.xmpp_item_images.proofs.Lookups.{number_is}
 use Rattle.xmpp_item_images.proofs.ServersInOrder.{after_item_calm, fresh_stands, gone_stands, moment_stands, start_stands}
+use Rattle.xmpp_item_images.proofs.UpMoves.{length_items_emitted}
+use Rattle.xmpp_item_images.proofs.UserMoves.{length_where}
 use Rattle.xmpp_item_images.specs.ImagesCores.{MayCome, writer_at, writer_of}
 use Rattle.xmpp_item_images.specs.ItemStarts.{items_at_start}
 use Rattle.xmpp_item_images.specs.Stands.{Conns, HallStands, IsBehind, SessionStands}
-use Rattle.xmpp_item_worlds.specs.ItemMoves.{Close, CatchUp, Cut, Dial, Down, DownEnd, Forget, ItemMove, Say, Tick, Up, UpEnd, all_emitted, at_device, at_wire, caught_up_by, closed_by, dialed_by, emitted, end_heard, fed_of, forgot_by, has_wire, heard_first, moved, said_by, said_in, served_by, served_first, spoke, step_of, told_up}
-use Rattle.xmpp_item_worlds.specs.ItemPipes.{ItemWire, cut_at, down_end_told, fresh_wire, handed_up, is_end_due, left, put_down, put_up, shut, up_end_told}
+use Rattle.xmpp_item_worlds.specs.ItemMoves.{Close, CatchUp, Cut, Dial, Down, DownEnd, Forget, ItemMove, Say, Tick, Up, UpEnd, at_device, at_wire, caught_up_by, closed_by, dialed_by, end_heard, fed_of, forgot_by, has_wire, heard_first, moved, said_by, said_in, served_by, served_first, spoke, step_of, told_up}
+use Rattle.xmpp_item_worlds.specs.ItemPipes.{ItemWire, cut_at, down_end_told, fresh_wire, handed_up, is_end_due, left, put_up, up_end_told}
 use Rattle.xmpp_item_worlds.specs.ItemWorlds.{ItemDevice, ItemWorld, itself, read_of, silent_turn}
 use Rattle.xmpp_live.specs.Sessions.{Session, is_at, session_at}
 use Rattle.xmpp_schedule.specs.Schedules.{WireView}
 use Rattle.xmpp_server.specs.Table.{after_item}
-use Rattle.xmpp_links_follow.proofs.Leavings.{seat_is}
-use Rattle.xmpp_links_follow.proofs.Found.{found_is}
-use Rattle.xmpp_wires.specs.Places.{changed_at, changed_where, place_under}
+use Rattle.xmpp_item_images.proofs.RuleKept.{found_is, seat_is}
+use Rattle.xmpp_wires.specs.Places.{changed_at, changed_where}
 use Rattle.xmpp_links_follow.specs.Standing.{MayGoUp, ServerStands}
 use Rattle.xmpp_writer.specs.Items.{ItemOut}
 
 -- ---- as many connections
-
-emitted_long : (outs : List (Out ItemOut)) (l : List ItemWire) → length (all_emitted outs l) ≡ length l
-emitted_long [] l = refl
-emitted_long (Put k i ∷ outs) l = emitted_long outs (emitted (Put k i) l) ∙ length_changed (place_under k) (put_down (i ∷ [])) l
-emitted_long (Shut k ∷ outs) l = emitted_long outs (emitted (Shut k) l) ∙ length_changed (place_under k) shut l
-emitted_long (Took from to origin ∷ outs) l = emitted_long outs l
 
 abbrev Goes : ItemWorld → ItemWorld → Type 0
 Goes w v = ServerStands w → ServerStands v
@@ -61,22 +55,22 @@ dials_go place mine yours (Some d) w stands =
   where
     long : length (changed_where d.here left w.wires ++ put_up (dials in_items mine (fed_of d.client)).turn.out.put (fresh_wire place) ∷ []) ≡ length w.wires + 1
     long =
-        let old = length_changed d.here left w.wires in
+        let old = length_where d.here left w.wires in
         let all = length-append (changed_where d.here left w.wires) (put_up (dials in_items mine (fed_of d.client)).turn.out.put (fresh_wire place) ∷ []) in
         omega (arith, old, all)
 
 forgets_go : (place : ℕ) (o : Option ItemDevice) (w : ItemWorld) → Goes w (forgot_by place o w)
 forgets_go place None w stands = stands
-forgets_go place (Some d) w stands = quiet w (forgot_by place (Some d) w) (length_changed d.here left w.wires) refl stands
+forgets_go place (Some d) w stands = quiet w (forgot_by place (Some d) w) (length_where d.here left w.wires) refl stands
 
 closes_go : (place : ℕ) (o : Option ItemDevice) (w : ItemWorld) → Goes w (closed_by place o w)
 closes_go place None w stands = stands
 closes_go place (Some d) w stands =
     let put = (closes in_items (fed_of d.client)).turn.out.put in
-    quiet w (closed_by place (Some d) w) (length_changed d.here left (changed_where d.here (put_up put) w.wires) ∙ length_changed d.here (put_up put) w.wires) refl stands
+    quiet w (closed_by place (Some d) w) (length_where d.here left (changed_where d.here (put_up put) w.wires) ∙ length_where d.here (put_up put) w.wires) refl stands
 
 spoken_go : {T E : Type 0} (r : Result T E) (place : ℕ) (d : ItemDevice) (t : Turn ItemOut ItemOut) (w : ItemWorld) → Goes w (said_in r place d t w)
-spoken_go (Ok done) place d t w stands = quiet w (spoke place d t w) (length_changed d.here (put_up t.out.put) w.wires) refl stands
+spoken_go (Ok done) place d t w stands = quiet w (spoke place d t w) (length_where d.here (put_up t.out.put) w.wires) refl stands
 spoken_go (Err fault) place d t w stands = stands
 
 says_go : (place : ℕ) (to text : List ℕ) (private : Bool) (o : Option ItemDevice) (w : ItemWorld) → Goes w (said_by place to text private o w)
@@ -91,7 +85,7 @@ catches_go place most (Some d) w stands = spoken_go (catch_up_answer d.client) p
 first_goes : (place : ℕ) (items : List ItemOut) (w : ItemWorld) → ((i : ItemOut) (rest : List ItemOut) → items ≡ i ∷ rest → MayCome (writer_at (place + 1) w.server) i) → Goes w (served_first place items w)
 first_goes place [] w may stands = stands
 first_goes place (i ∷ items) w may stands =
-    same_many w (served_first place (i ∷ items) w) (emitted_long (after_item itself (place + 1) (read_of i) (step_of w.server)).outs (changed_at place handed_up w.wires) ∙ length_changed (Some place) handed_up w.wires)
+    same_many w (served_first place (i ∷ items) w) (length_items_emitted (after_item itself (place + 1) (read_of i) (step_of w.server)).outs (changed_at place handed_up w.wires) ∙ length_where (Some place) handed_up w.wires)
     (λ n old. (after_item_calm n (place + 1) i w.server old (may i items refl)).stands) stands
 
 served_goes : (place : ℕ) (o : Option ItemWire) (w : ItemWorld) → ((wire : ItemWire) (i : ItemOut) (rest : List ItemOut) → o ≡ Some wire → wire.up.items ≡ i ∷ rest → MayCome (writer_at (place + 1) w.server) i) → Goes w (served_by place o w)
@@ -102,7 +96,7 @@ told_goes : (place : ℕ) (o : Option ItemWire) (w : ItemWorld) → Goes w (told
 told_goes place None w stands = stands
 told_goes place (Some wire) w stands =
     either w (is_end_due wire.up) ended w
-    (same_many w ended (length_changed (Some place) up_end_told w.wires) (λ n old. gone_stands n (place + 1) (at_moment w.moment w.server) (moment_stands n w.moment w.server old)))
+    (same_many w ended (length_where (Some place) up_end_told w.wires) (λ n old. gone_stands n (place + 1) (at_moment w.moment w.server) (moment_stands n w.moment w.server old)))
     (λ old. old) stands
   where
     ended : ItemWorld
@@ -110,11 +104,11 @@ told_goes place (Some wire) w stands =
 
 heard_goes : (place device : ℕ) (items : List ItemOut) (d : ItemDevice) (w : ItemWorld) → Goes w (heard_first place device items d w)
 heard_goes place device [] d w stands = stands
-heard_goes place device (i ∷ items) d w stands = quiet w (heard_first place device (i ∷ items) d w) (length_changed (Some place) _ w.wires) refl stands
+heard_goes place device (i ∷ items) d w stands = quiet w (heard_first place device (i ∷ items) d w) (length_where (Some place) _ w.wires) refl stands
 
 end_goes : (place device : ℕ) (due : Bool) (d : ItemDevice) (w : ItemWorld) → Goes w (end_heard place device due d w)
 end_goes place device false d w stands = stands
-end_goes place device true d w stands = quiet w (end_heard place device true d w) (length_changed (Some place) down_end_told w.wires) refl stands
+end_goes place device true d w stands = quiet w (end_heard place device true d w) (length_where (Some place) down_end_told w.wires) refl stands
 
 at_device_goes : (place : ℕ) (f : ItemWire → ItemDevice → ItemWorld → ItemWorld) → ((wire : ItemWire) (d : ItemDevice) (w : ItemWorld) → Goes w (f wire d w)) → (wire : ItemWire) (o : Option ItemDevice) (w : ItemWorld)
     → Goes w (at_device place f wire o w)
@@ -138,7 +132,7 @@ move_stands (Down place) w may stands =
     at_wire_goes place (λ wire d. heard_first place wire.device wire.down.items d) (λ wire d v. heard_goes place wire.device wire.down.items d v) (slice_get w.wires place) w stands
 move_stands (DownEnd place) w may stands =
     at_wire_goes place (λ wire d. end_heard place wire.device (is_end_due wire.down) d) (λ wire d v. end_goes place wire.device (is_end_due wire.down) d v) (slice_get w.wires place) w stands
-move_stands (Cut place up down) w may stands = quiet w (moved (Cut place up down) w) (length_changed (Some place) (cut_at up down) w.wires) refl stands
+move_stands (Cut place up down) w may stands = quiet w (moved (Cut place up down) w) (length_where (Some place) (cut_at up down) w.wires) refl stands
 
 pub start_is : (schedule : WireView) → ServerStands (items_at_start schedule)
 start_is schedule = start_stands 0 _ _ _

@@ -5,6 +5,7 @@ use Rattle.std.proofs.lemmas.List.Elements.{All-head, All-nil}
 use Rattle.std.proofs.lemmas.Option.{same_Some}
 use Rattle.std.specs.List.{All, AllByRecursion}
 use Rattle.xmpp_acks.proofs.Senders.{counted_more}
+use Rattle.xmpp_basis.proofs.Lists.{AllByRecursion-weaker}
 use Rattle.xmpp_desk.specs.State.{Hall, Step, with_sessions}
 use Rattle.xmpp_desk.specs.Steps.{Act, Archive, Copy, Handle, Present, Send, Tell, acted}
 use Rattle.xmpp_desk.specs.Words.{is_long, is_stanza, word_of}
@@ -30,7 +31,7 @@ use Rattle.xmpp_links.specs.Words.{St, Up, up_stanzas}
 use Rattle.xmpp_live.specs.Sessions.{Session, handles, is_named, session_of, told, with_session}
 use Rattle.xmpp_links_follow.proofs.HandMoves.{kept_here, wire_here}
 use Rattle.xmpp_links_follow.proofs.ServersOthers.{pipes_stay}
-use Rattle.xmpp_links_follow.proofs.Removed.{named_as}
+use Rattle.xmpp_item_images.proofs.RuleKept.{found_is, named_as, numbered_here}
 use Rattle.xmpp_links_follow.proofs.Sessions.{counts_so, few_wait, live, numbered, seated, session_row, taken, taken_client, taken_pipes}
 use Rattle.xmpp_links_follow.specs.Taking.{AreApart, IsFirst, on_item}
 use Rattle.xmpp_stanza.specs.Readings.{stanza_of}
@@ -38,11 +39,10 @@ use Rattle.xmpp_stanza_rows.specs.Ready.{at_bound}
 use Rattle.xmpp_stanza_rows.specs.Stanzas.{judging}
 use Rattle.xmpp_links_follow.proofs.ActSteps.{acts_go, follows_both, handles_keeps, reached_more}
 use Rattle.xmpp_links_follow.proofs.GivenParts.{IsCountedAt, IsFair, IsKeptRow, IsNotOf, fair_still}
-use Rattle.xmpp_links_follow.proofs.Listening.{AreHeard, IsHeard, IsHeardBy, IsListening, each_weaker, handling_heard}
+use Rattle.xmpp_links_follow.proofs.Listening.{AreHeard, IsHeard, IsHeardBy, IsListening, handling_heard}
 use Rattle.xmpp_links_follow.proofs.Own.{Goes}
 use Rattle.xmpp_links_follow.specs.Given.{IsGiven, IsOfSession, StepGives, acts_on}
 use Rattle.xmpp_trees.specs.Trees.{Elem}
-use Rattle.xmpp_links_follow.proofs.Found.{found_is, numbered_here}
 use Rattle.xmpp_links_follow.proofs.Servings.{IsLive, known_altered, known_same, live_of, row_shows, session_shows}
 use Rattle.xmpp_writer.specs.Items.{ItemOut}
 
@@ -74,7 +74,7 @@ module _ (who : Identity) (logins : ℕ → Login) (h : Hall ItemOut) (v : View 
   heard_fair _ heard = absurd heard
 
   all_fair : (acts : List (Act ItemOut)) → AreHeard h.sessions acts → AllByRecursion (IsFair v.row) acts
-  all_fair acts heard = each_weaker (IsHeard h.sessions) (IsFair v.row) heard_fair acts heard
+  all_fair acts heard = AllByRecursion-weaker (IsHeard h.sessions) (IsFair v.row) heard_fair acts heard
 
 stanza_word : (e : Elem) → is_stanza e ≡ true → is_long e ≡ false → word_of e ≡ word.Stanza false (stanza_of e)
 unfolding word_of
@@ -181,7 +181,7 @@ module _ (who : Identity) (logins : ℕ → Login) (h : Hall ItemOut) (wires : T
     goes : Goes who logins (with_at k (handed_up p.wire) wires) next acts (acted itself acts counted_step)
     goes =
         acts_go who logins (with_at k (handed_up p.wire) wires) acts counted_step next (reached_more who logins (with_at k (handed_up p.wire) wires) (TakesStanza k z ∷ []) v next p.reached counted_follows.leads) counted_follows.server counted_follows.pipes
-        (each_weaker (IsFair v.row) (IsFair (Some after)) (λ a. fair_still v.row (Some after) a kept_row) acts (all_fair who logins h v p.server acts heard))
+        (AllByRecursion-weaker (IsFair v.row) (IsFair (Some after)) (λ a. fair_still v.row (Some after) a kept_row) acts (all_fair who logins h v p.server acts heard))
 
     given_by : (given : List ItemOut) (q : Option (Row ItemOut)) → IsGiven acts given (Some after) q → IsGiven acts given (Some row) q
     given_by given None is = is

@@ -1,11 +1,10 @@
 -- Moves of one end leave the part of the other as it is.
-use Rattle.std.proofs.Common.{◌≡◌, ◌⊎◌, ℕ, ◌+◌, ◌≤◌, false, List, [], ◌∷◌, ◌++◌, Option, Some, None, refl, sym, ap, subst, ◌∙◌, inl, inr}
+use Rattle.std.proofs.Common.{◌≡◌, ◌⊎◌, ℕ, ◌+◌, ◌≤◌, false, List, [], ◌++◌, Option, Some, None, refl, sym, ap, subst, ◌∙◌, inl, inr}
 use Rattle.std.proofs.lemmas.Bool.{cases_eq}
-use Rattle.std.proofs.lemmas.List.{append_assoc}
 use Rattle.std.specs.Prelude.{is_none}
 use Rattle.xmpp_desk.specs.State.{Hall}
 use Rattle.xmpp_device_views.specs.Clients.{ClientShows, IsOwnShown, client_phase}
-use Rattle.xmpp_device_views.specs.Deeds.{deed_of, deeds_of}
+use Rattle.xmpp_device_views.specs.Deeds.{deeds_of}
 use Rattle.xmpp_device_views.specs.Frames.{KeepsClient, KeepsServer, SameClient, SameServer}
 use Rattle.xmpp_device_views.specs.Identities.{Identity, Login}
 use Rattle.xmpp_device_views.specs.Servers.{IsRowShown, ServerShows, conn_shown, open_conn}
@@ -15,25 +14,18 @@ use Rattle.xmpp_links.specs.Machine.{LinkMove, LinkReached, LinkReaches, nothing
 use Rattle.xmpp_links.specs.Stages.{Conn}
 use Rattle.xmpp_links.specs.Views.{Session, Table, View, with_at}
 use Rattle.xmpp_links.specs.Wires.{is_flowing}
+use Rattle.xmpp_links_follow.proofs.MoreMoves.{deeds_both, then_reaches}
 use Rattle.xmpp_live.specs.Sessions.{session_named}
 use Rattle.xmpp_writer.specs.Items.{ItemOut}
 
 -- ---- moves, one after the other
-
-pub along_both : {A : Type 0} (moves more : List (LinkMove A)) (v mid last : View A) → LinkReaches moves v mid → LinkReaches more mid last → LinkReaches (moves ++ more) v last
-along_both [] more v mid last same then_so = subst (λ x. LinkReaches more x last) same then_so
-along_both (move ∷ moves) more v mid last (next, by, along) then_so = (next, by, along_both moves more next mid last along then_so)
-
-pub deeds_both : {A : Type 0} (moves more : List (LinkMove A)) → deeds_of (moves ++ more) ≡ deeds_of moves ++ deeds_of more
-deeds_both [] more = refl
-deeds_both (move ∷ moves) more = ap (λ ds. deed_of move ++ ds) (deeds_both moves more) ∙ sym (append_assoc (deed_of move) (deeds_of moves) (deeds_of more))
 
 -- none, and again none
 pub no_deeds : {A : Type 0} (moves more : List (LinkMove A)) → deeds_of moves ≡ [] → deeds_of more ≡ [] → deeds_of (moves ++ more) ≡ []
 no_deeds moves more first then_so = deeds_both moves more ∙ ap (λ ds. ds ++ deeds_of more) first ∙ then_so
 
 pub reached_along : {A : Type 0} (moves : List (LinkMove A)) (v last : View A) → LinkReached v → LinkReaches moves v last → LinkReached last
-reached_along moves v last reached along = record { moves = reached.moves ++ moves; reaches = along_both reached.moves moves nothing_yet v last reached.reaches along }
+reached_along moves v last reached along = record { moves = reached.moves ++ moves; reaches = then_reaches reached.moves moves nothing_yet v last reached.reaches along }
 
 -- ---- the server's part
 

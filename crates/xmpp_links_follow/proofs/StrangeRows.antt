@@ -33,7 +33,7 @@ use Rattle.xmpp_resume.specs.Previds.{previd_of}
 use Rattle.xmpp_links_follow.proofs.HandMoves.{kept_here, row_here}
 use Rattle.xmpp_links_follow.proofs.Leavings.{unseated}
 use Rattle.xmpp_links_follow.proofs.ReadWords.{resume_is_word}
-use Rattle.xmpp_links_follow.proofs.Removed.{named_as}
+use Rattle.xmpp_item_images.proofs.RuleKept.{found_is, found_some, named_as}
 use Rattle.xmpp_links_follow.proofs.ResumeReads.{resumed_by}
 use Rattle.xmpp_links_follow.proofs.Standing.{whole_first}
 use Rattle.xmpp_links_follow.proofs.Sessions.{taken, taken_client, taken_pipes}
@@ -42,7 +42,6 @@ use Rattle.xmpp_session_rows.specs.Resumptions.{at_resume, resent_where, resumin
 use Rattle.xmpp_stanza.specs.declared.conditions.Condition.TheVariants.{ItemNotFound}
 use Rattle.xmpp_stanza_rows.specs.Ready.{at_ready_or_bound}
 use Rattle.xmpp_links_follow.proofs.Emitted.{puts_at}
-use Rattle.xmpp_links_follow.proofs.Found.{found_is, found_some}
 use Rattle.xmpp_links_follow.proofs.Servings.{known_same, live_of, row_shows}
 use Rattle.xmpp_writer.specs.Items.{ItemOut}
 

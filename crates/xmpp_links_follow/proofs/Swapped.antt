@@ -8,6 +8,7 @@ use Rattle.std.specs.Map.{remove_entry}
 use Rattle.std.specs.Option.{option_map}
 use Rattle.xmpp_desk.specs.State.{Hall, Out, Put, is_number}
 use Rattle.xmpp_device_views.specs.Sent.{sent, sent_under}
+use Rattle.xmpp_item_images.proofs.Lookups.{number_is}
 use Rattle.xmpp_item_worlds.specs.ItemPipes.{ItemWire}
 use Rattle.xmpp_links.specs.Views.{Table}
 use Rattle.xmpp_live.specs.Sessions.{Session, with_session, without}
@@ -15,7 +16,6 @@ use Rattle.xmpp_replies.specs.Management.{request_item}
 use Rattle.xmpp_links_follow.proofs.Parkings.{off}
 use Rattle.xmpp_links_follow.proofs.ResumeRows.{asked_where}
 use Rattle.xmpp_links_follow.proofs.Emitted.{AreFor, sent_both}
-use Rattle.xmpp_links_follow.proofs.WireStepsHalls.{is_same_number}
 use Rattle.xmpp_writer.specs.Items.{ItemOut}
 
 -- ---- outs
@@ -53,7 +53,7 @@ removed_swapped f k apart (e ∷ es) =
     elim (cases_Bool (is_number f e.0)) [
       | inl one ↦
           elim (cases_Bool (is_number k e.0)) [
-            | inl both ↦ absurd (apart (is_same_number f e.0 one ∙ sym (is_same_number k e.0 both)))
+            | inl both ↦ absurd (apart (number_is f e.0 one ∙ sym (number_is k e.0 both)))
             | inr other ↦ rw (one, other, one) refl
           ]
       | inr not_one ↦

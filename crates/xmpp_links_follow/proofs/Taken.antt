@@ -1,36 +1,23 @@
 -- One connection as the server takes a word from it, puts words, shuts it, or hears of its end.
-use Rattle.std.proofs.Common.{◌≡◌, ℕ, true, not, List, [], ◌∷◌, ◌++◌, map, refl, sym, ap, subst, ◌∙◌}
+use Rattle.std.proofs.Common.{◌≡◌, ℕ, true, not, List, [], ◌∷◌, map, refl, sym, ap, subst, ◌∙◌}
 use Rattle.std.proofs.lemmas.List.Elements.{All-append, All-nil, All-tail}
 use Rattle.std.specs.List.{All}
 use Rattle.xmpp_device_views.specs.Counted.{IsForClient, IsForServer}
 use Rattle.xmpp_device_views.specs.Identities.{Identity, Login}
 use Rattle.xmpp_device_views.specs.Pipes.{IsWire}
 use Rattle.xmpp_device_views.specs.WordItems.{down_item, is_behind_login, up_item}
+use Rattle.xmpp_item_images.proofs.PutSteps.{items_ended_entered}
 use Rattle.xmpp_item_worlds.specs.ItemPipes.{ItemWire, handed_up, put_down, shut, up_end_told}
+use Rattle.xmpp_links.proofs.Counting.{down_stanzas_with}
+use Rattle.xmpp_links.proofs.Prompt.{same_flow_down, same_up}
 use Rattle.xmpp_links.specs.SessionMoves.{shut as shut_conn}
 use Rattle.xmpp_links.specs.Stages.{Closes, Conn, Ending, Errs, Stands, tail_of}
-use Rattle.xmpp_links.specs.Words.{Ack, Auth, Bind, Bound, Chal, Down, DownWord, Enable, Enabled, End, Err, Failed, Feat, Foot, Hdr, Head, Phase, Req, Resp, ResumeAt, Resumed, St, Succ, Up, UpWord, down_stanzas, up_stanzas}
+use Rattle.xmpp_links.specs.Words.{Ack, Auth, Bind, DownWord, Enable, Foot, Hdr, Phase, Req, Resp, ResumeAt, St, Up, UpWord, down_stanzas, up_stanzas}
 use Rattle.xmpp_links.specs.Wires.{Flow, Stop, Wires, down_words, left_up, send_down, up_words}
-use Rattle.xmpp_links_follow.proofs.Flows.{entered_end, halted, halted_down, halted_up, handed_words, put_flowing, put_taken, put_up_kept, put_words, taken_flowing, taken_up}
+use Rattle.xmpp_links_follow.proofs.Flows.{halted, halted_down, halted_up, handed_words, put_taken, put_words, taken_flowing, taken_up}
 use Rattle.xmpp_writer.specs.Items.{ItemOut}
 
 -- ---- stanzas among words
-
-pub down_both : {A : Type 0} (ws more : List (DownWord A)) → down_stanzas (ws ++ more) ≡ down_stanzas ws ++ down_stanzas more
-down_both [] more = refl
-down_both (Down (St z) ∷ ws) more = ap (λ zs. z ∷ zs) (down_both ws more)
-down_both (Down Req ∷ ws) more = down_both ws more
-down_both (Down (Ack n) ∷ ws) more = down_both ws more
-down_both (Head ∷ ws) more = down_both ws more
-down_both (Feat ∷ ws) more = down_both ws more
-down_both (Chal ∷ ws) more = down_both ws more
-down_both (Succ ∷ ws) more = down_both ws more
-down_both (Failed ∷ ws) more = down_both ws more
-down_both (Resumed p h ∷ ws) more = down_both ws more
-down_both (Bound m ∷ ws) more = down_both ws more
-down_both (Enabled m ∷ ws) more = down_both ws more
-down_both (Err cause ∷ ws) more = down_both ws more
-down_both (End ∷ ws) more = down_both ws more
 
 fewer_up : {A : Type 0} (P : A → Type 0) (word : UpWord A) (rest : List (UpWord A)) → All P (up_stanzas (word ∷ rest)) → All P (up_stanzas rest)
 fewer_up P (Up (St z)) rest all = All-tail P z (up_stanzas rest) all
@@ -45,7 +32,7 @@ fewer_up P Enable rest all = all
 fewer_up P Foot rest all = all
 
 more_down : {A : Type 0} (P : A → Type 0) (puts : List (DownWord A)) (ws : Wires A) → All P (down_stanzas (down_words ws)) → All P (down_stanzas puts) → All P (down_stanzas (down_words (send_down puts ws)))
-more_down P puts (Flow us ds) all more = subst (All P) (sym (down_both ds puts)) (All-append P (down_stanzas ds) (down_stanzas puts) all more)
+more_down P puts (Flow us ds) all more = subst (All P) (sym (down_stanzas_with ds puts)) (All-append P (down_stanzas ds) (down_stanzas puts) all more)
 more_down P puts (Stop us ds lu ld) all more = all
 
 no_stanza : {A : Type 0} (P : A → Type 0) (ending : Ending) → All P (down_stanzas {A = A} (tail_of ending))
@@ -68,7 +55,7 @@ module _ (who : Identity) (x : Login) (k : ℕ) (c : Conn ItemOut) (w : ItemWire
         up = handed_words f word rest w.up (is.up ∙ ap (map f) first) ∙ ap (map f) (sym (taken_up rest puts c.wires));
         down = put_words g puts c.wires w.down is.down is.down_ended ∙ ap (map g) (sym (put_taken rest puts c.wires));
         up_ended = is.up_ended ∙ ap not (sym (taken_flowing rest puts c.wires));
-        down_ended = entered_end (map g puts) w.down ∙ is.down_ended ∙ ap not (sym (taken_flowing rest puts c.wires));
+        down_ended = items_ended_entered (map g puts) w.down ∙ is.down_ended ∙ ap not (sym (taken_flowing rest puts c.wires));
         gone = is.gone;
         for_server =
             subst (λ ws. All IsForServer (up_stanzas ws)) (sym (taken_up rest puts c.wires))
@@ -86,12 +73,12 @@ module _ (who : Identity) (x : Login) (k : ℕ) (c : Conn ItemOut) (w : ItemWire
       record {
         of = is.of;
         login = is.login;
-        up = is.up ∙ ap (map (up_item who x)) (sym (put_up_kept puts c.wires));
+        up = is.up ∙ ap (map (up_item who x)) (sym (same_up puts c.wires));
         down = put_words g puts c.wires w.down is.down is.down_ended;
-        up_ended = is.up_ended ∙ ap not (sym (put_flowing puts c.wires));
-        down_ended = entered_end (map g puts) w.down ∙ is.down_ended ∙ ap not (sym (put_flowing puts c.wires));
+        up_ended = is.up_ended ∙ ap not (sym (same_flow_down puts c.wires));
+        down_ended = items_ended_entered (map g puts) w.down ∙ is.down_ended ∙ ap not (sym (same_flow_down puts c.wires));
         gone = is.gone;
-        for_server = subst (λ ws. All IsForServer (up_stanzas ws)) (sym (put_up_kept puts c.wires)) is.for_server;
+        for_server = subst (λ ws. All IsForServer (up_stanzas ws)) (sym (same_up puts c.wires)) is.for_server;
         for_client = more_down IsForClient puts c.wires is.for_client more;
       }
 

@@ -12,12 +12,11 @@ use Rattle.xmpp_links.specs.Stages.{Conn}
 use Rattle.xmpp_links.specs.Views.{Row, Table, View}
 use Rattle.xmpp_links.specs.Views as links
 use Rattle.xmpp_live.specs.Sessions.{Session, is_at, is_named, is_numbered, session_named, session_of, with_session}
-use Rattle.xmpp_links_follow.proofs.BindRows.{none_left}
+use Rattle.xmpp_item_images.proofs.RuleKept.{changes_one, found_is, found_some, left_found, none_left, of_left, one_named, rule_left, seat_is, seat_of}
 use Rattle.xmpp_links_follow.proofs.HallsLeft.{without_apart, without_sorted}
-use Rattle.xmpp_links_follow.proofs.Leavings.{seat_is, seat_of}
-use Rattle.xmpp_links_follow.proofs.Removed.{left_found, of_left, one_named, rule_left, seat_left}
+use Rattle.xmpp_links_follow.proofs.Removed.{seat_left}
 use Rattle.xmpp_links_follow.proofs.GivenParts.{IsCountedAt, IsNotOf}
-use Rattle.xmpp_links_follow.proofs.Found.{Keeps, at_was, changes_one, found_is, found_some, keeps_one, named_changed, of_was, rule_changed}
+use Rattle.xmpp_links_follow.proofs.Found.{Keeps, at_was, keeps_one, named_changed, of_was, rule_changed}
 use Rattle.xmpp_links_follow.proofs.Servings.{Known}
 use Rattle.xmpp_writer.specs.Items.{ItemOut}
 

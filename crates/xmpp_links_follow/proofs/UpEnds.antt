@@ -2,8 +2,9 @@
 use Rattle.std.proofs.Common.{◌≡◌, ℕ, ◌+◌, Bool, true, false, [], ◌++◌, Some, slice_get, refl, sym, subst, ◌∙◌}
 use Rattle.xmpp_links_follow.proofs.CutPipes.{conn_of}
 use Rattle.xmpp_links_follow.proofs.Lifts.{due_empty, due_ended, nothing_moves, tick_lifts, told_lifts}
+use Rattle.xmpp_links_follow.proofs.MoreMoves.{then_reaches}
 use Rattle.xmpp_links_follow.proofs.Nobody.{not_over}
-use Rattle.xmpp_links_follow.proofs.Stays.{along_both, no_deeds, reached_along}
+use Rattle.xmpp_links_follow.proofs.Stays.{no_deeds, reached_along}
 use Rattle.xmpp_links_follow.specs.Following.{WorldFollows}
 use Rattle.xmpp_desk.specs.Moments.{at_moment, gone_at}
 use Rattle.xmpp_desk.specs.State.{Hall}
@@ -51,7 +52,7 @@ both_quiet : (who : Identity) (logins : ℕ → Login) (h last : Hall ItemOut) (
 both_quiet who logins h last wires after v f g = record {
   moves = f.moves ++ g.moves;
   next = g.next;
-  leads = along_both f.moves g.moves v f.next g.next f.leads g.leads;
+  leads = then_reaches f.moves g.moves v f.next g.next f.leads g.leads;
   does = no_deeds f.moves g.moves f.does g.does;
   server = g.server;
   pipes = g.pipes;

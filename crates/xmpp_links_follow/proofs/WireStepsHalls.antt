@@ -1,33 +1,15 @@
 -- The connections of a server, where one of them comes to another phase.
 use Rattle.std.proofs.Common.{◌≡◌, ◌≢◌, ℕ, true, false, List, [], ◌∷◌, Some, refl, sym, ap, subst, ◌∙◌, inl, inr}
-use Rattle.std.proofs.lemmas.Bool.{cases_Bool, false≢true}
+use Rattle.std.proofs.lemmas.Bool.{cases_Bool}
 use Rattle.std.proofs.lemmas.Map.{keys-set_value}
-use Rattle.std.proofs.lemmas.Map.Lookups.{exact_unsigned}
 use Rattle.std.specs.List.Sorted.{IsStrictlySortedBy}
 use Rattle.std.specs.Map.{keys_of, lookup, set_value}
-use Rattle.std.specs.Ordering.{is_eq, nat_cmp}
-use Rattle.std.specs.declared.cmp.Ordering.{Ordering}
-use Rattle.std.specs.declared.cmp.Ordering.TheVariants.{Equal, Greater, Less}
+use Rattle.std.specs.Ordering.{nat_cmp}
 use Rattle.xmpp_desk.specs.State.{Hall, changed, conn_at, is_number, with_conn}
 use Rattle.xmpp_desk.specs.declared.connection.Connection.{Connection}
-
-equal_is : (o : Ordering) → is_eq o ≡ true → o ≡ Equal
-equal_is Less h = absurd (false≢true h)
-equal_is Equal h = refl
-equal_is Greater h = absurd (false≢true h)
-
-pub is_same_number : (k j : ℕ) → is_number k j ≡ true → k ≡ j
-is_same_number k j is = exact_unsigned k j (equal_is (nat_cmp k j) is)
+use Rattle.xmpp_item_images.proofs.Lookups.{found_behind_value, number_is}
 
 module _ {X : Type 0} where
-  set_here : (k : ℕ) (es : List (ℕ × X)) (c d : X) → lookup (is_number k) es ≡ Some c → lookup (is_number k) (set_value (is_number k) es d) ≡ Some d
-  set_here k [] c d is = absurd (let no_way : ⊥ = cc in no_way)
-  set_here k (e ∷ es) c d is =
-      elim (cases_Bool (is_number k e.0)) [
-        | inl here ↦ rw (here, here) refl
-        | inr other ↦ rw (other, other) (set_here k es c d (rw other at is))
-      ]
-
   set_apart : (k j : ℕ) (es : List (ℕ × X)) (d : X) → k ≢ j → lookup (is_number j) (set_value (is_number k) es d) ≡ lookup (is_number j) es
   set_apart k j [] d apart = refl
   set_apart k j (e ∷ es) d apart =
@@ -38,14 +20,14 @@ module _ {X : Type 0} where
     where
       not_there : (n : ℕ) → is_number k n ≡ true → is_number j n ≡ false
       not_there n here =
-          elim (cases_Bool (is_number j n)) [ inl there ↦ absurd (apart (is_same_number k n here ∙ sym (is_same_number j n there))) | inr not_it ↦ not_it ]
+          elim (cases_Bool (is_number j n)) [ inl there ↦ absurd (apart (number_is k n here ∙ sym (number_is j n there))) | inr not_it ↦ not_it ]
 
 module _ {A : Type 0} (k : ℕ) (f : Connection → Connection) (h : Hall A) (c : Connection) (is : conn_at k h ≡ Some c) where
   changed_as : (with_conn k f h).conns ≡ set_value (is_number k) h.conns (f c)
   changed_as = ap (λ o. changed k f o h.conns) is
 
   pub hall_here : conn_at k (with_conn k f h) ≡ Some (f c)
-  hall_here = ap (lookup (is_number k)) changed_as ∙ set_here k h.conns c (f c) is
+  hall_here = ap (lookup (is_number k)) changed_as ∙ found_behind_value k h.conns c (f c) is
 
   pub hall_apart : (j : ℕ) → k ≢ j → conn_at j (with_conn k f h) ≡ conn_at j h
   hall_apart j apart = ap (lookup (is_number j)) changed_as ∙ set_apart k j h.conns (f c) apart

@@ -1,6 +1,5 @@
 -- A step of the client is moves of the links, where it works on with its connection, and where it leaves it.
-use Rattle.std.proofs.Common.{◌≡◌, ℕ, ◌+◌, true, false, List, [], ◌∷◌, Option, Some, None, length, map, is_none, refl, sym, ap, subst, ◌∙◌, inl, inr}
-use Rattle.std.proofs.lemmas.Bool.{cases_eq}
+use Rattle.std.proofs.Common.{◌≡◌, ℕ, ◌+◌, true, false, List, [], ◌∷◌, Some, None, length, map, is_none, refl, sym, ap, subst, ◌∙◌, inl}
 use Rattle.std.specs.List.{All}
 use Rattle.xmpp_client_rows.specs.Clients.{ClientView, Turn}
 use Rattle.xmpp_client_rows.specs.Turns.{is_apart}
@@ -9,7 +8,7 @@ use Rattle.xmpp_device_views.specs.Counted.{IsForServer}
 use Rattle.xmpp_device_views.specs.Deeds.{ArePrompt, deeds_of}
 use Rattle.xmpp_device_views.specs.Frames.{KeepsServer, SameServer}
 use Rattle.xmpp_device_views.specs.Identities.{Identity, Login}
-use Rattle.xmpp_device_views.specs.Pipes.{IsShown, IsWire}
+use Rattle.xmpp_device_views.specs.Pipes.{IsWire}
 use Rattle.xmpp_device_views.specs.Reading.{HearingFollows, IsNextDown, noted, wire_behind}
 use Rattle.xmpp_device_views.specs.WordItems.{down_item, is_behind_login, up_item}
 use Rattle.xmpp_item_worlds.specs.ItemMoves.{here_behind, left_where}
@@ -26,15 +25,14 @@ use Rattle.xmpp_links.specs.Stages.{Conn}
 use Rattle.xmpp_links.specs.Views.{Table, View, alter, has, with_at}
 use Rattle.xmpp_links.specs.Wires.{left_down, send_up, up_words}
 use Rattle.xmpp_links.specs.Words.{Client, DownWord, InAuth, InBind, InEnable, InFeatures1, InFeatures2, InHeader1, InHeader2, InOnline, InResponse, InResume, UpWord, up_stanzas}
+use Rattle.xmpp_links_follow.proofs.HandMoves.{shown_wire}
 use Rattle.xmpp_links_follow.proofs.Placed.{shown_at}
 use Rattle.xmpp_links_follow.proofs.Servings.{Known, known_altered}
 use Rattle.xmpp_links_follow.proofs.Hearing.{left_silent, wire_heard_as, wire_left}
+use Rattle.xmpp_links_follow.proofs.Stays.{keeps_server_at}
 use Rattle.xmpp_writer.specs.Items.{ItemOut}
 
 -- ---- what is shown
-
-pub shown_wire : (who : Identity) (x : Login) (k : ℕ) (o : Option (Conn ItemOut)) (m : Option ItemWire) (c : Conn ItemOut) (w : ItemWire) → o ≡ Some c → m ≡ Some w → IsShown who x k o m → IsWire who x k c w
-shown_wire who x k o m c w conn wire shown = subst (IsShown who x k (Some c)) wire (subst (λ p. IsShown who x k p m) conn shown)
 
 -- a client that works on a connection doesn't stand apart
 pub never_apart : (who : Identity) (x : Login) (c : Client) → is_apart (client_phase who x c) ≡ false
@@ -51,17 +49,6 @@ never_apart who x (InOnline p) = refl
 
 -- ---- what the server has is left
 
-keeps_same : (o : Option (Conn ItemOut)) → KeepsServer o o
-keeps_same None = tt
-keeps_same (Some c) = (refl, refl, refl)
-
-pub keeps_server_at : (t : Table (Conn ItemOut)) (k : ℕ) (c next : Conn ItemOut) → t k ≡ Some c → next.phase ≡ c.phase → next.ending ≡ c.ending → next.gone ≡ c.gone → (j : ℕ) → KeepsServer (t j) (with_at k next t j)
-keeps_server_at t k c next is phase ending gone j =
-    elim (cases_eq k j) [
-      | inl same ↦ subst (λ n. KeepsServer (t n) (with_at k next t n)) same (subst (λ o. KeepsServer o (with_at k next t k)) (sym is) (subst (KeepsServer (Some c)) (sym (at_same k next t)) (phase, ending, gone)))
-      | inr apart ↦ subst (KeepsServer (t j)) (sym (at_other k next t j apart)) (keeps_same (t j))
-    ]
-
 pub same_server : (v next : View ItemOut) (k : ℕ) (c after : Conn ItemOut) → v.conns k ≡ Some c → ((j : ℕ) → next.conns j ≡ with_at k after v.conns j) → next.row ≡ v.row → next.free ≡ v.free → Known next.sessions v
     → after.phase ≡ c.phase → after.ending ≡ c.ending → after.gone ≡ c.gone → SameServer v next
 same_server v next k c after is conns row free known phase ending gone = record {
@@ -73,7 +60,7 @@ same_server v next k c after is conns row free known phase ending gone = record 
 
 -- ---- the client
 
-some_place : (a b : ℕ) → Some a ≡ Some b → a ≡ b
+pub some_place : (a b : ℕ) → Some a ≡ Some b → a ≡ b
 some_place a b same = cc
 
 module _ (who : Identity) (logins : ℕ → Login) (d : ItemDevice) (v : View ItemOut) (old : ClientShows who logins d v) where

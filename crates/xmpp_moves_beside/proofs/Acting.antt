@@ -1,46 +1,33 @@
 -- One device of a world acts, and the worlds are beside one another still.
-use Rattle.std.proofs.Common.{◌≡◌, ◌≢◌, ℕ, zero, suc, ◌+◌, ◌≤◌, ◌==◌, Bool, true, false, List, [], ◌∷◌, ◌++◌, Some, length, map, slice_get, refl, sym, ap, ap₂, subst, ◌∙◌, length-append}
+use Rattle.std.proofs.Common.{◌≡◌, ◌≢◌, ℕ, ◌+◌, ◌≤◌, ◌==◌, Bool, true, false, List, [], ◌∷◌, ◌++◌, Some, length, slice_get, refl, sym, ap, subst, ◌∙◌, length-append}
 use Rattle.std.proofs.lemmas.Bool.Decides.{Decides-eqb}
 use Rattle.std.proofs.lemmas.Option.{same_Some}
-use Rattle.std.specs.List.{slice_set}
 use Rattle.xmpp_item_images.specs.Devices.{identity_at}
 use Rattle.xmpp_device_views.specs.Shows.{Shows}
 use Rattle.xmpp_item_images.specs.Stands.{HallStands}
-use Rattle.xmpp_item_images.specs.Fitting.{FitsHere}
-use Rattle.xmpp_item_worlds.specs.ItemPipes.{ItemWire}
 use Rattle.xmpp_item_worlds.specs.ItemWorlds.{ItemDevice, ItemWorld}
+use Rattle.xmpp_links_follow.proofs.Numbered.{set_elsewhere}
 use Rattle.xmpp_schedule.specs.Contents.{Owned}
 use Rattle.xmpp_schedule.specs.Schedules.{WireView}
 use Rattle.xmpp_item_images.specs.Unbound.{IsWithin}
-use Rattle.xmpp_device_deeds.proofs.AllDrifts.{reaches_both, spoken_both}
+use Rattle.xmpp_device_deeds.proofs.AllDrifts.{drifts_silent, reaches_both, spoken_both}
 use Rattle.xmpp_device_deeds.proofs.Worlds.{acted_alone, drifts_reach, set_here, set_twice}
-use Rattle.xmpp_device_deeds.specs.Deeds.{Binds, Counts, Drift, Drifts, Ends, drift_events, with_device}
-use Rattle.xmpp_session_views.specs.Served.{FlagsShow, ServerRuns, take_told}
+use Rattle.xmpp_device_deeds.specs.Deeds.{Drift, Drifts, drift_events, with_device}
+use Rattle.xmpp_session_views.specs.Served.{FlagsShow, ServerRuns}
 use Rattle.xmpp_session_views.specs.Submitted.{SubmissionsShow}
 use Rattle.xmpp_device_deeds.specs.Shown.{LogShows}
 use Rattle.xmpp_sessions.specs.Devices.{Device, Sessions, World}
-use Rattle.xmpp_sessions.specs.Events.{Act, At, Event, May, Reaches, acted, around, own, taken_by}
+use Rattle.xmpp_sessions.specs.Events.{Act, At, May, Reaches, acted, around, own, taken_by}
 use Rattle.xmpp_sessions.specs.Histories.{spoken_in}
 use Rattle.xmpp_sessions_laws.specs.Runs.{owned_of}
+use Rattle.xmpp_moves_beside.proofs.ReplyEvents.{set_long}
 use Rattle.xmpp_moves_beside.specs.Moves.{ActsAlone, IsOneDevice}
-use Rattle.xmpp_moves_beside.specs.Running.{Bounds, DeviceRuns, IsLed, IsOwned, WorldRuns, history_for, keep_in, names_of}
+use Rattle.xmpp_moves_beside.specs.Running.{Bounds, DeviceRuns, IsOwned, WorldRuns, history_for, keep_in, names_of}
 
 -- ---- lists
 
-set_many : {T : Type 0} (l : List T) (i : ℕ) (x : T) → length (slice_set l i x) ≡ length l
-set_many [] i x = refl
-set_many (y ∷ l) zero x = refl
-set_many (y ∷ l) (suc i) x = ap suc (set_many l i x)
-
-set_beside : {T : Type 0} (l : List T) (i j : ℕ) (x : T) → j ≢ i → slice_get (slice_set l i x) j ≡ slice_get l j
-set_beside [] i j x other = refl
-set_beside (y ∷ l) zero zero x other = absurd (other refl)
-set_beside (y ∷ l) zero (suc j) x other = refl
-set_beside (y ∷ l) (suc i) zero x other = refl
-set_beside (y ∷ l) (suc i) (suc j) x other = set_beside l i j x (λ e. other (ap suc e))
-
 -- what is so at one place, and at all others
-either : (P : ℕ → Type 0) (i : ℕ) → P i → ((j : ℕ) → j ≢ i → P j) → (j : ℕ) → P j
+pub either : (P : ℕ → Type 0) (i : ℕ) → P i → ((j : ℕ) → j ≢ i → P j) → (j : ℕ) → P j
 either P i here beside j = by (j == i) refl
   where
     by : (b : Bool) → (j == i) ≡ b → P j
@@ -65,7 +52,7 @@ module _ (schedule : WireView) (b : Bounds) (says : ℕ) (w : ItemWorld) (x : Wo
     prompt = r.prompt;
     shows = s;
     device = r.device;
-    there = set_beside x.devices i j d other ∙ r.there;
+    there = set_elsewhere x.devices i j d other ∙ r.there;
     account = r.account;
     sessions = r.sessions;
     built = r.built;
@@ -95,14 +82,14 @@ module _ (schedule : WireView) (b : Bounds) (says : ℕ) (w : ItemWorld) (x : Wo
     asked =
         either (λ j. (e : Device) → slice_get behind.devices j ≡ Some e → e.reading.asked ≤ b.pages + 1) i
         (λ e at. subst (λ (y : Device). y.reading.asked ≤ b.pages + 1) (same_Some d e (sym (set_here x.devices i a.old d a.there) ∙ at)) a.asked)
-        (λ j other e at. runs.asked j e (sym (set_beside x.devices i j d other) ∙ at));
+        (λ j other e at. runs.asked j e (sym (set_elsewhere x.devices i j d other) ∙ at));
     dialled = subst (λ n. n ≤ b.dials) (sym alone.many) runs.dialled;
     devices =
         either (λ j. (p : Owned) → IsOwned schedule j p → DeviceRuns schedule next behind j p) i
         (λ p is. subst (DeviceRuns schedule next behind i) (same_Some o p (sym a.owned ∙ is)) a.device)
         (λ j other p is. other_runs j p is other);
     many = alone.devices ∙ runs.many;
-    many_there = set_many x.devices i d ∙ runs.many_there;
+    many_there = set_long x.devices i d ∙ runs.many_there;
     wires = λ place wire at. let was = alone.wires place wire at in let of = runs.wires place was.0 was.1 in (of.0, subst (λ n. IsOwned schedule n of.0) (sym was.2) of.1);
     server = subst (ServerRuns (keep_in schedule) (owned_of schedule) (names_of schedule) x.takes) (sym alone.server) runs.server;
     takes = alone.takes ∙ runs.takes;
@@ -114,12 +101,6 @@ module _ (schedule : WireView) (b : Bounds) (says : ℕ) (w : ItemWorld) (x : Wo
   }
 
 -- ---- an act behind drifts
-
-silent : (i : ℕ) (xs : List Drift) → spoken_in (drift_events i xs) ≡ []
-silent i [] = refl
-silent i (Binds ∷ xs) = silent i xs
-silent i (Counts ∷ xs) = silent i xs
-silent i (Ends ∷ xs) = silent i xs
 
 module _ (x : World) (i : ℕ) (d : Device) (there : slice_get x.devices i ≡ Some d) (xs : List Drift) (s : Sessions) (drifts : Drifts xs d.sessions s) where
   abbrev drifted_to : Device
@@ -137,4 +118,4 @@ module _ (x : World) (i : ℕ) (d : Device) (there : slice_get x.devices i ≡ S
       reaches_both (drift_events i xs) (At i act ∷ []) x between (with_device i e x) (drifts_reach xs x i d s there drifts) (with_device i e x, (drifted_to, here, may, sym is), refl)
 
 pub act_spoken : (i : ℕ) (xs : List Drift) (act : Act) → spoken_in (drift_events i xs ++ At i act ∷ []) ≡ spoken_in (At i act ∷ [])
-act_spoken i xs act = spoken_both (drift_events i xs) (At i act ∷ []) ∙ ap (λ l. l ++ spoken_in (At i act ∷ [])) (silent i xs)
+act_spoken i xs act = spoken_both (drift_events i xs) (At i act ∷ []) ∙ ap (λ l. l ++ spoken_in (At i act ∷ [])) (drifts_silent i xs)

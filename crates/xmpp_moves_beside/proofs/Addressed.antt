@@ -28,7 +28,7 @@ use Rattle.xmpp_stanza.specs.Readings.{stanza_of}
 use Rattle.xmpp_stanza.specs.Views.{MessageView}
 use Rattle.xmpp_stanza.specs.declared.kinds.MessageKind.TheVariants.{Chat}
 use Rattle.xmpp_stanza.specs.declared.stanzas.Stanza.TheVariants.{Message}
-use Rattle.xmpp_trees.specs.Tidied.{text_node}
+use Rattle.xmpp_trees.proofs.TidyLaws.{tidy_end}
 use Rattle.xmpp_trees.specs.Trees.{AreTidy, Elem}
 use Rattle.xmpp_writer.specs.Items.{ItemOut}
 
@@ -44,10 +44,6 @@ message_of resource m h = record {
   payload = submission_nodes (origin_of resource m.epoch m.n) m.text m.private;
 }
 
-text_tidy : (t : List ℕ) → AreTidy (text_node t)
-text_tidy [] = tt
-text_tidy (c ∷ cs) = ((λ e. absurd cc), tt, tt)
-
 private_tidy : (private : Bool) → AreTidy (private_nodes private)
 unfolding IsStrictlySortedBy
 private_tidy true = ((tt, tt), tt)
@@ -56,7 +52,7 @@ private_tidy false = tt
 pub stanza_is : (resource : List ℕ) (m : Submission) (h : Hall ItemOut) (e : Elem) → IsSubmission resource m h e → stanza_of e ≡ Ok (Message (message_of resource m h))
 unfolding IsStrictlySortedBy
 stanza_is resource m h e is =
-    let tidy : AreTidy (submission_nodes (origin_of resource m.epoch m.n) m.text m.private) = ((tt, text_tidy m.text), (((tt, tt), tt), private_tidy m.private)) in
+    let tidy : AreTidy (submission_nodes (origin_of resource m.epoch m.n) m.text m.private) = ((tt, tidy_end m.text), (((tt, tt), tt), private_tidy m.private)) in
     ap (λ z. stanza_of (elem_in z)) (sym is.item) ∙ message_read (message_of resource m h) tt is.normal tidy
 
 -- ---- where it goes

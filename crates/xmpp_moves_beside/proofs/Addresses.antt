@@ -1,6 +1,7 @@
 -- The addresses of accounts are in normal form, and of no resource in particular.
 use Rattle.std.proofs.Common.{◌≡◌, ℕ, true, List, [], ◌∷◌, ◌++◌, Some, None, Ok, append_assoc, ap, sym, subst, ◌∙◌}
 use Rattle.std.proofs.lemmas.List.{append-nil}
+use Rattle.xmpp_device_deeds.proofs.Names.{bare_normal}
 use Rattle.xmpp_devices.proofs.Names.{domain_stays, local_stays, resource_stays}
 use Rattle.xmpp_jid.proofs.NormalAgain.{are_joined}
 use Rattle.xmpp_jid.specs.Cuts.{resource_of}
@@ -22,9 +23,6 @@ joined_bare account is = are_joined (Some account) domain None (record { local_s
 spelled_bare : (account : List ℕ) → address_text (Some account) domain None ≡ bare_address account
 spelled_bare account = append-nil ((account ++ 64 ∷ []) ++ domain) ∙ append_assoc account (64 ∷ []) domain
 
-pub bare_normal : (account : List ℕ) → is_name account ≡ true → normal (bare_address account) ≡ Ok (bare_address account)
-bare_normal account is = subst (λ t. normal t ≡ Ok t) (spelled_bare account) (joined_bare account is).normal_form
-
 pub no_resource : (account : List ℕ) → is_name account ≡ true → resource_of (bare_address account) ≡ None
 no_resource account is = subst (λ t. resource_of t ≡ None) (spelled_bare account) (joined_bare account is).resource_is
 
@@ -34,9 +32,6 @@ joined_full account device is named =
 
 spelled_full : (account device : List ℕ) → address_text (Some account) domain (Some device) ≡ full_address account device
 spelled_full account device = ap (λ t. t ++ 47 ∷ device) (append_assoc account (64 ∷ []) domain)
-
-pub full_normal : (account device : List ℕ) → is_name account ≡ true → is_name device ≡ true → normal (full_address account device) ≡ Ok (full_address account device)
-full_normal account device is named = subst (λ t. normal t ≡ Ok t) (spelled_full account device) (joined_full account device is named).normal_form
 
 -- that of the recipient, at the server
 pub normal_to : {keep : ℕ} {owned : List Owned} {names : List (List ℕ)} {takes : List Take} {h : Hall ItemOut} {i : ℕ} {o : Owned} {s : Session ItemOut} {m : Submission} {e : Elem} → Submits keep owned names takes h i o s m e → normal (m.to ++ 64 ∷ h.domain) ≡ Ok (m.to ++ 64 ∷ h.domain)

@@ -1,35 +1,19 @@
 -- An item that comes to a device is a move of that device alone.
-use Rattle.std.proofs.Common.{◌≡◌, ◌≢◌, ℕ, zero, suc, Bool, true, false, List, [], ◌∷◌, Some, length, slice_get, refl, sym, ap, ◌∙◌, if◌then◌else◌}
+use Rattle.std.proofs.Common.{◌≡◌, ℕ, zero, suc, Bool, true, false, List, [], ◌∷◌, Some, slice_get, refl, sym, ap, ◌∙◌, if◌then◌else◌}
 use Rattle.std.proofs.lemmas.Bool.{eq-eqb}
 use Rattle.std.proofs.lemmas.Option.{none-some, same_Some}
-use Rattle.std.specs.List.{slice_set}
-use Rattle.xmpp_client_rows.specs.Clients.{Turn}
 use Rattle.xmpp_client_rows.specs.Turns.{is_apart}
+use Rattle.xmpp_item_images.proofs.WorldsWithin.{at_long}
+use Rattle.xmpp_links_follow.proofs.Numbered.{set_elsewhere}
 use Rattle.xmpp_links_follow.specs.Following.{IsNextItem}
 use Rattle.xmpp_device_views.specs.Reading.{device_behind, turn_on, wire_behind}
 use Rattle.xmpp_item_worlds.specs.ItemMoves.{Down, at_device, at_wire, has_wire, heard, heard_first, left_where, moved}
 use Rattle.xmpp_item_worlds.specs.ItemPipes.{ItemWire, handed_down, put_up}
 use Rattle.xmpp_item_worlds.specs.ItemWorlds.{ItemDevice, ItemWorld}
+use Rattle.xmpp_moves_beside.proofs.ReplyEvents.{set_long}
 use Rattle.xmpp_moves_beside.specs.Moves.{IsOneDevice}
 use Rattle.xmpp_wires.specs.Places.{changed_at}
 use Rattle.xmpp_writer.specs.Items.{ItemOut}
-
-set_many : {T : Type 0} (l : List T) (i : ℕ) (x : T) → length (slice_set l i x) ≡ length l
-set_many [] i x = refl
-set_many (y ∷ l) zero x = refl
-set_many (y ∷ l) (suc i) x = ap (λ n. suc n) (set_many l i x)
-
-pub set_beside : {T : Type 0} (l : List T) (i j : ℕ) (x : T) → j ≢ i → slice_get (slice_set l i x) j ≡ slice_get l j
-set_beside [] i j x other = refl
-set_beside (y ∷ l) zero zero x other = absurd (other refl)
-set_beside (y ∷ l) zero (suc j) x other = refl
-set_beside (y ∷ l) (suc i) zero x other = refl
-set_beside (y ∷ l) (suc i) (suc j) x other = set_beside l i j x (λ e. other (ap (λ n. suc n) e))
-
-changed_many : {T : Type 0} (place : ℕ) (f : T → T) (l : List T) → length (changed_at place f l) ≡ length l
-changed_many place f [] = refl
-changed_many zero f (x ∷ l) = refl
-changed_many (suc place) f (x ∷ l) = ap (λ n. suc n) (changed_many place f l)
 
 changed_from : (place : ℕ) (f : ItemWire → ItemWire) → ((x : ItemWire) → (f x).device ≡ x.device) → (l : List ItemWire) (j : ℕ) (wire : ItemWire) → slice_get (changed_at place f l) j ≡ Some wire
     → (old : ItemWire) × (slice_get l j ≡ Some old) × (wire.device ≡ old.device)
@@ -63,8 +47,8 @@ module _ (w : ItemWorld) (place : ℕ) (d : ItemDevice) (wire : ItemWire) (z : I
     server = refl;
     takes = refl;
     moment = refl;
-    devices = set_many w.devices wire.device (device_behind (turn_on z d) d);
-    beside = λ j other. set_beside w.devices wire.device j (device_behind (turn_on z d) d) other;
-    many = changed_many place (wire_behind (turn_on z d)) w.wires;
+    devices = set_long w.devices wire.device (device_behind (turn_on z d) d);
+    beside = λ j other. set_elsewhere w.devices wire.device j (device_behind (turn_on z d) d) other;
+    many = at_long place (wire_behind (turn_on z d)) w.wires;
     wires = λ j u at. changed_from place (wire_behind (turn_on z d)) (behind_device (is_apart (turn_on z d).client.phase) (turn_on z d).out.put) w.wires j u at;
   }

@@ -1,5 +1,6 @@
 -- What the server handles of a session, and what it gives, amid drifts, leaves what the client has of it, and its flags.
 use Rattle.std.proofs.Common.{◌≡◌, ℕ, ◌≤◌, ◌||◌, Bool, true, false, List, [], ◌∷◌, ◌++◌, length, map, take, refl, sym, ap, subst, ◌∙◌, append_assoc, inl, inr}
+use Rattle.std.proofs.Math.Seq.{take-append_seam}
 use Rattle.xmpp_moves_beside.proofs.ClientsDrifted.{drifted_to, same_ups}
 use Rattle.xmpp_device_deeds.proofs.DeedsInTimeEnds.{reply_ends}
 use Rattle.xmpp_device_deeds.specs.Pages.{EndsFor}
@@ -101,15 +102,10 @@ module _ (y : Up) where
 
 -- ---- the ends of pages that are given
 
-front_of : {T : Type 0} (xs ys : List T) → take (length xs) (xs ++ ys) ≡ xs
-front_of [] [] = refl
-front_of [] (y ∷ ys) = refl
-front_of (x ∷ xs) ys = ap (λ l. x ∷ l) (front_of xs ys)
-
 -- of a reply, or a front of it
 pub ends_for : (a : Around) (z : ItemOut) (zs : List ItemOut) (rest : List Down) → reply a (up_stanza z) ≡ map down_stanza zs ++ rest → EndsFor z zs
 ends_for a z zs rest same =
-    subst (λ ds. many is_end ds ≤ one_if (is_query (up_stanza z))) (ap (take (length (map down_stanza zs))) same ∙ front_of (map down_stanza zs) rest)
+    subst (λ ds. many is_end ds ≤ one_if (is_query (up_stanza z))) (ap (take (length (map down_stanza zs))) same ∙ take-append_seam (map down_stanza zs) rest)
     (reply_ends a (length (map down_stanza zs)) (up_stanza z))
 
 pub heard_ends : (b : Bool) (n : ℕ) (ds : List Down) (last : Sessions) → IsHeardOf b n ds last → many is_end ds ≡ 0

@@ -1,6 +1,7 @@
 -- A message to an account is heard by the sessions that `hears` names, once, by its number in their archive; one to nobody
 -- comes back.
 use Rattle.std.proofs.Common.{◌≡◌, ◌≢◌, ℕ, ◌+◌, ◌⊎◌, ◌==◌, ◌&&◌, ◌||◌, not, Bool, true, false, List, [], ◌∷◌, ◌++◌, Option, Some, None, filter, is_some, map, pos, refl, sym, ap, subst, ◌∙◌, append-nil, arith, inl, inr, if◌then◌else◌}
+use Rattle.std.proofs.Math.Bool.{or-false}
 use Rattle.std.proofs.lemmas.Bool.{and_parts, cases_Bool, eq-eqb, eqb-true, false≢true}
 use Rattle.std.proofs.lemmas.Bool.Decides.{nat_tests}
 use Rattle.std.proofs.lemmas.List.{map-append}
@@ -12,10 +13,11 @@ use Rattle.xmpp_desk.specs.Steps.{Send}
 use Rattle.xmpp_edge.proofs.NamePlaces.{is_some-place_of}
 use Rattle.xmpp_edge.specs.Names.{is_among, place_of}
 use Rattle.xmpp_forwarding.specs.Passed.{addressed, passed_item}
+use Rattle.xmpp_links_follow.proofs.Own.{twice_left}
 use Rattle.xmpp_moves_beside.proofs.Addressed.{destination_is, message_of, stanza_is}
 use Rattle.xmpp_moves_beside.proofs.Carried.{carried, copied, copied_to, delivered, delivered_to}
 use Rattle.xmpp_moves_beside.proofs.HearingSums.{heard_once, where_so}
-use Rattle.xmpp_moves_beside.proofs.Picks.{among, filtered_twice, if_passes, number_found, picked, picks}
+use Rattle.xmpp_moves_beside.proofs.Picks.{among, if_passes, number_found, picked, picks}
 use Rattle.xmpp_moves_beside.proofs.Sends.{sends_elsewhere, sends_here}
 use Rattle.xmpp_moves_beside.specs.Heard.{HasRoom, IsSubmission, address_in, hears}
 use Rattle.xmpp_moves_beside.specs.Sent.{as_it_is, does_on, read_at, sends_to}
@@ -63,25 +65,21 @@ never : {X : Type 0} (b : Bool) (xs : List X) → where_so (b && false) xs ≡ [
 never true xs = refl
 never false xs = refl
 
-or_nothing : (b : Bool) → (b || false) ≡ b
-or_nothing true = refl
-or_nothing false = refl
-
 with_priority : (available high : Bool) → (available ≡ true → high ≡ true) → (available && high) ≡ available
 with_priority true high so = so refl
 with_priority false high so = refl
 
-copied_is : (r : MessageView) (origin said : List ℕ) (private : Bool) → is_copied (record r { kind = Chat; payload = submission_nodes origin said private }) ≡ not private
+pub copied_is : (r : MessageView) (origin said : List ℕ) (private : Bool) → is_copied (record r { kind = Chat; payload = submission_nodes origin said private }) ≡ not private
 copied_is r origin said true = refl
 copied_is r origin said false = refl
 
 -- what is delivered and copied, of a message that may be private
-summed : {X : Type 0} (private delivered wants senders recipients sent same : Bool) (xs : List X) → (senders ≡ true → recipients ≡ true → same ≡ true) → (same ≡ true → recipients ≡ true → senders ≡ true) →
+pub summed : {X : Type 0} (private delivered wants senders recipients sent same : Bool) (xs : List X) → (senders ≡ true → recipients ≡ true → same ≡ true) → (same ≡ true → recipients ≡ true → senders ≡ true) →
     where_so delivered xs
     ++ (where_so (not private && (senders && (wants && not (sent || delivered)))) xs
     ++ (where_so ((not private && not same) && (recipients && (wants && not (sent || delivered)))) xs ++ []))
     ≡ where_so (delivered || (((not private && wants) && (senders || recipients)) && not sent)) xs
-summed true delivered wants senders recipients sent same xs both one = append-nil (where_so delivered xs) ∙ ap (λ b. where_so b xs) (sym (or_nothing delivered))
+summed true delivered wants senders recipients sent same xs both one = append-nil (where_so delivered xs) ∙ ap (λ b. where_so b xs) (sym (or-false delivered))
 summed false delivered wants senders recipients sent same xs both one =
     ap (λ zs. where_so delivered xs ++ (where_so (senders && (wants && not (sent || delivered))) xs ++ zs)) (append-nil (where_so (not same && (recipients && (wants && not (sent || delivered)))) xs))
     ∙ heard_once delivered wants senders recipients sent same xs both one
@@ -153,13 +151,13 @@ module _ (resource : List ℕ) (m : Submission) (t : Told) (h : Hall ItemOut) (a
 
   module _ (n : ℕ) (rise : RisesTo h.next 1 h.sessions) where
     ready_is : ready ≡ map number_of (filter is_delivered h.sessions)
-    ready_is = ap (map number_of) (filtered_twice (λ (s : Session ItemOut). is_ready s.shown) (is_of account) h.sessions)
+    ready_is = ap (map number_of) (twice_left (λ (s : Session ItemOut). is_ready s.shown) (is_of account) h.sessions)
 
     delivers : (zs : List ItemOut) → picks zs n ready ≡ where_so (if_passes is_delivered (session_of n h.sessions)) zs
     delivers zs = ap (picks zs n) ready_is ∙ picked is_delivered zs h.next 1 n h.sessions rise
 
     copies_to : (which : ℕ) (zs : List ItemOut) → picks zs n (map number_of (filter wants (sessions_of which h.sessions))) ≡ where_so (if_passes (λ s. is_of which s && wants s) (session_of n h.sessions)) zs
-    copies_to which zs = ap (λ ss. picks zs n (map number_of ss)) (filtered_twice wants (is_of which) h.sessions) ∙ picked (λ s. is_of which s && wants s) zs h.next 1 n h.sessions rise
+    copies_to which zs = ap (λ ss. picks zs n (map number_of ss)) (twice_left wants (is_of which) h.sessions) ∙ picked (λ s. is_of which s && wants s) zs h.next 1 n h.sessions rise
 
     picks_where : (b : Bool) (zs : List ItemOut) (ss : List (Session ItemOut)) → picks zs n (map number_of (if b then ss else [])) ≡ where_so b (picks zs n (map number_of ss))
     picks_where true zs ss = refl

@@ -1,6 +1,6 @@
 -- The archives behind a submission are those of the takes, with the one that is taken now.
-use Rattle.std.proofs.Common.{◌≡◌, ℕ, ◌+◌, ◌-◌, ◌==◌, ◌||◌, Bool, true, false, cond, List, [], ◌∷◌, ◌++◌, Option, Some, None, drop, length, map, unwrap_or, refl, sym, ap, ap₂, ◌∙◌, arith}
-use Rattle.std.proofs.lemmas.List.{append-nil, drop-append-le, drop-drop, length-append, length-drop, length_push, map_push}
+use Rattle.std.proofs.Common.{◌≡◌, ℕ, ◌+◌, ◌==◌, ◌||◌, Bool, true, false, cond, List, [], ◌∷◌, ◌++◌, Option, Some, None, length, map, unwrap_or, refl, sym, ap, ap₂, ◌∙◌}
+use Rattle.std.proofs.lemmas.List.{append-nil, length_push, map_push}
 use Rattle.std.specs.List.{slice_get}
 use Rattle.std.specs.Option.{option_map}
 use Rattle.std.specs.Str.{bytes_eq}
@@ -27,18 +27,8 @@ use Rattle.xmpp_takes.specs.Taken.{Taken, all_appended, entries_for}
 use Rattle.xmpp_trees.specs.Trees.{Elem}
 use Rattle.xmpp_world.specs.Declaring.{AreAccounts, AreNames}
 use Rattle.xmpp_world_takes.proofs.AccountNames.{named, same_account}
+use Rattle.xmpp_world_takes.proofs.AppendedEntries.{newest_behind}
 use Rattle.xmpp_writer.specs.Items.{ItemOut}
-
--- what is kept of what was kept before, and of more
-newest_behind : {A : Type 0} (keep : ℕ) (xs ys : List A) → newest keep (newest keep xs ++ ys) ≡ newest keep (xs ++ ys)
-newest_behind keep xs ys =
-    let over = length xs - keep in
-    let kept = drop over xs in
-    let size : length kept ≡ length xs - over = length-drop over xs in
-    let first = length-append kept ys in
-    let both = length-append xs ys in
-    let number : length (xs ++ ys) - keep ≡ over + (length (kept ++ ys) - keep) = omega (arith, size, first, both) in
-    sym (ap (λ n. drop n (xs ++ ys)) number ∙ sym (drop-drop (length (kept ++ ys) - keep) over (xs ++ ys)) ∙ ap (drop (length (kept ++ ys) - keep)) (drop-append-le over xs ys (omega arith)))
 
 pub are_named : (before names : List (List ℕ)) → AreAccounts before names → AreNames names
 are_named before [] are = tt

@@ -1,7 +1,6 @@
 -- Behind a binding the server runs on.
-use Rattle.std.proofs.Common.{◌≡◌, ◌≢◌, ℕ, ◌==◌, not, Bool, true, false, List, [], ◌∷◌, ◌++◌, Option, Some, None, Ok, codes, filter, refl, sym, ap, subst, ◌∙◌, if◌then◌else◌}
+use Rattle.std.proofs.Common.{◌≡◌, ◌≢◌, ℕ, ◌==◌, not, Bool, true, false, List, [], ◌∷◌, ◌++◌, Option, Some, None, codes, filter, refl, sym, ap, subst, ◌∙◌, if◌then◌else◌}
 use Rattle.std.proofs.lemmas.Bool.{and_parts, eq-eqb, eqb-true, false≢true, not-true}
-use Rattle.std.proofs.lemmas.List.{append-nil}
 use Rattle.std.proofs.lemmas.Option.{same_Some}
 use Rattle.std.specs.List.{AllByRecursion}
 use Rattle.std.specs.Option.{option_map}
@@ -16,7 +15,7 @@ use Rattle.xmpp_desk.specs.declared.word.Word.TheVariants as word
 use Rattle.xmpp_ext.specs.Bind.{bind_request_elem}
 use Rattle.xmpp_item_worlds.specs.ItemMoves.{step_of, takes_told}
 use Rattle.xmpp_item_worlds.specs.ItemWorlds.{itself, read_of}
-use Rattle.xmpp_jid.specs.Forms.{resource_form}
+use Rattle.xmpp_links_follow.proofs.BindReads.{resource_asked, resource_chosen}
 use Rattle.xmpp_live.specs.Rule.{IsRule}
 use Rattle.xmpp_live.specs.Sessions.{Session, ended_of, fresh, is_named, less, session_named, session_of, told}
 use Rattle.xmpp_replies.specs.Requests.{bound_item}
@@ -32,7 +31,7 @@ use Rattle.xmpp_moves_beside.proofs.Flagged.{Flagged, FlaggedAs, flagged_about, 
 use Rattle.xmpp_moves_beside.proofs.MuteActs.{IsAbout, then_mute}
 use Rattle.xmpp_moves_beside.proofs.MuteRows.{mute_parting}
 use Rattle.xmpp_moves_beside.specs.Coming.{MayBind, behind_item}
-use Rattle.xmpp_session_rows.specs.Bindings.{asked_resource, binding_as, chosen, former_of}
+use Rattle.xmpp_session_rows.specs.Bindings.{binding_as, chosen, former_of}
 use Rattle.xmpp_session_views.specs.Served.{FlagsShow, IsOfDevice, ServerRuns}
 use Rattle.xmpp_sessions.specs.Devices.{Sessions, Take}
 use Rattle.xmpp_sessions.specs.Events.{binds}
@@ -49,14 +48,6 @@ bind_elem resource = setting_elem (codes "bind") (child (bind_request_elem (reco
 bind_word : (resource : List ℕ) → word_of (bind_elem resource) ≡ word.Stanza (is_long (bind_elem resource)) (stanza_of (bind_elem resource))
 unfolding word_of
 bind_word resource = refl
-
-resource_asked : (resource : List ℕ) → asked_resource (bind_request_elem (record { resource = resource })) ≡ resource
-resource_asked [] = refl
-resource_asked (b ∷ bs) = append-nil (b ∷ bs)
-
-resource_chosen : (number : ℕ) (resource : List ℕ) → resource ≢ [] → resource_form resource ≡ Ok resource → chosen number resource ≡ Ok resource
-resource_chosen number [] some form = absurd (some refl)
-resource_chosen number (b ∷ bs) some form = form
 
 -- ---- sessions
 

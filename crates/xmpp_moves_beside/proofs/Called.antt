@@ -1,17 +1,13 @@
 -- The worlds that calls make: one device is another, and its connection.
-use Rattle.std.proofs.Common.{◌≡◌, ◌≢◌, ℕ, zero, suc, List, [], ◌∷◌, Option, Some, None, length, slice_get, refl, sym, ap, ◌∙◌}
+use Rattle.std.proofs.Common.{◌≡◌, ℕ, zero, suc, List, [], ◌∷◌, Option, Some, None, length, slice_get, refl, sym, ap, ◌∙◌}
 use Rattle.std.proofs.lemmas.Option.{none-some, same_Some}
 use Rattle.std.specs.List.{slice_set}
-use Rattle.xmpp_links_follow.proofs.Numbered.{length_changed, set_elsewhere}
+use Rattle.xmpp_links_follow.proofs.Numbered.{set_elsewhere}
 use Rattle.xmpp_item_worlds.specs.ItemPipes.{ItemWire}
 use Rattle.xmpp_item_worlds.specs.ItemWorlds.{ItemDevice, ItemWorld}
+use Rattle.xmpp_moves_beside.proofs.ReplyEvents.{set_long}
 use Rattle.xmpp_moves_beside.specs.Moves.{IsOneDevice}
 use Rattle.xmpp_wires.specs.Places.{changed_at, changed_where}
-
-many_set : {T : Type 0} (l : List T) (i : ℕ) (x : T) → length (slice_set l i x) ≡ length l
-many_set [] i x = refl
-many_set (y ∷ l) zero x = refl
-many_set (y ∷ l) (suc i) x = ap suc (many_set l i x)
 
 -- connections are changed, and stay their devices'
 abbrev pub AreOfSame : List ItemWire → List ItemWire → Type 0
@@ -40,7 +36,7 @@ one_called i w c wires many same = record {
   server = refl;
   takes = refl;
   moment = refl;
-  devices = many_set w.devices i c;
+  devices = set_long w.devices i c;
   beside = λ j other. set_elsewhere w.devices i j c other;
   many = many;
   wires = same;

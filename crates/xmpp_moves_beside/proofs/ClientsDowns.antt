@@ -1,14 +1,15 @@
 -- Behind a stanza that comes to a client the worlds are beside one another still.
-use Rattle.std.proofs.Common.{◌≡◌, ◌≢◌, ℕ, zero, suc, ◌+◌, ◌≤◌, ◌<◌, ◌^◌, List, [], ◌∷◌, ◌++◌, Option, Some, None, length, map, slice_get, inl, inr, refl, sym, ap, subst, ◌∙◌, arith}
-use Rattle.std.proofs.lemmas.Option.{none-some, same_Some}
+use Rattle.std.proofs.Common.{◌≡◌, ◌≢◌, ℕ, ◌+◌, ◌≤◌, List, [], ◌∷◌, ◌++◌, Option, Some, None, length, map, slice_get, inl, inr, refl, sym, ap, subst, ◌∙◌, arith}
+use Rattle.std.proofs.lemmas.Option.{same_Some}
 use Rattle.std.specs.List.{AllByRecursion}
 use Rattle.std.specs.Option.{IfSome}
 use Rattle.xmpp_archive.specs.Entries.{EntryView}
 use Rattle.xmpp_client_rows.specs.Clients.{Turn}
-use Rattle.xmpp_moves_beside.proofs.Alone.{heard_so, hears_alone, moved_so, set_beside}
+use Rattle.xmpp_moves_beside.proofs.Alone.{heard_so, hears_alone, moved_so}
 use Rattle.xmpp_moves_beside.proofs.Next.{IsNextStanza, next_stanza}
 use Rattle.xmpp_moves_beside.proofs.Turned.{IsReadable, asked_well, behind, drifts, ends_so, flags_so, reaches_so, reaction, read_so, submits_so}
 use Rattle.xmpp_moves_beside.specs.Ground.{IsGround}
+use Rattle.xmpp_links_follow.proofs.Numbered.{set_elsewhere}
 use Rattle.xmpp_links_follow.proofs.Spoken.{stanza_read}
 use Rattle.xmpp_links_follow.proofs.ConnectionsElsewhere.{down_leaves}
 use Rattle.xmpp_links_follow.proofs.Lifts.{hear_lifts}
@@ -45,7 +46,7 @@ use Rattle.xmpp_device_deeds.specs.Shown.{LogShows}
 use Rattle.xmpp_moves_beside.proofs.Acting.{act_spoken, acted_on}
 use Rattle.xmpp_moves_beside.specs.Moves.{ActsAlone}
 use Rattle.xmpp_payload_laws.specs.AsRead.{last_moment}
-use Rattle.xmpp_device_deeds.proofs.ReadingsKnownHistories.{world_plain}
+use Rattle.xmpp_device_deeds.proofs.ReadingsKnownHistories.{named_at, world_plain}
 use Rattle.xmpp_device_deeds.specs.Named.{IsNamed}
 use Rattle.xmpp_schedule.specs.Contents.{Owned, accounts_of}
 use Rattle.xmpp_schedule.specs.Schedules.{WireView, keep_of}
@@ -70,11 +71,6 @@ use Rattle.xmpp_moves_beside.specs.Running.{AreSmall, Bounds, DeviceRuns, IsInBo
 use Rattle.xmpp_writer.specs.Items.{ItemOut}
 
 -- ---- small facts
-
-named_at : (owned : List Owned) (i : ℕ) (o : Owned) → AllByRecursion IsNamed owned → slice_get owned i ≡ Some o → IsNamed o
-named_at [] i o all there = absurd (none-some o there)
-named_at (p ∷ owned) zero o all there = subst IsNamed (same_Some p o there) all.0
-named_at (p ∷ owned) (suc i) o all there = named_at owned i o all.1 there
 
 ups_are : (r : Option Request) → IfSome r IsRequest → map up_stanza (puts_of r) ≡ queries r
 ups_are None is = refl
@@ -273,7 +269,7 @@ module _ (schedule : WireView) (b : Bounds) (small : AreSmall b) (says : ℕ) (w
       → (f.reading.asked ≡ e.reading.asked) × (IsUnanswered e → IsUnanswered f)
   elsewhere j e f at behind_at u there apart =
       let mine : i ≢ j = λ same. apart (ap (λ (y : ItemWire). y.device) (same_Some u wire (sym there ∙ n.there)) ∙ same) in
-      let is : e ≡ f = same_Some e f (sym at ∙ sym (set_beside x.devices i j next (λ same. mine (sym same))) ∙ behind_at) in
+      let is : e ≡ f = same_Some e f (sym at ∙ sym (set_elsewhere x.devices i j next (λ same. mine (sym same))) ∙ behind_at) in
       subst (λ y. (y.reading.asked ≡ e.reading.asked) × (IsUnanswered e → IsUnanswered y)) is (refl, λ u. u)
 
   pub down_runs : MoveRuns schedule b says (Down place) w x

@@ -1,9 +1,9 @@
 -- The end of a connection is told to the server.
 use Rattle.std.proofs.Common.{◌≡◌, ℕ, ◌+◌, ◌≤◌, Bool, true, false, List, [], Option, Some, None, max, length, slice_get, if◌then◌else◌, refl, sym, ap, subst, ◌∙◌, inl, inr, arith}
 use Rattle.std.proofs.lemmas.Bool.{cases_eq}
-use Rattle.xmpp_links_follow.proofs.Numbered.{length_changed}
 use Rattle.xmpp_links_follow.specs.Following.{WorldFollows}
 use Rattle.xmpp_moves_beside.proofs.Still.{nobody_runs, told_runs}
+use Rattle.xmpp_item_images.proofs.UserMoves.{length_where}
 use Rattle.xmpp_item_images.specs.Mild.{ClientFits, DownFits, HallFits, UpFits}
 use Rattle.xmpp_desk.specs.Moments.{at_moment, gone_at}
 use Rattle.xmpp_desk.specs.State.{Hall}
@@ -55,7 +55,7 @@ module _ (schedule : WireView) (b : Bounds) (says : ℕ) (w : ItemWorld) (x : Wo
     later_within = moment_within w.moment (length w.wires) w.server runs.within
 
     many_wires : length after.wires ≡ length w.wires
-    many_wires = length_changed (Some place) up_end_told w.wires
+    many_wires = length_where (Some place) up_end_told w.wires
 
     -- ---- each device
 

@@ -2,8 +2,9 @@
 use Rattle.std.proofs.Common.{◌≡◌, ◌≢◌, ℕ, ◌+◌, ◌≤◌, List, [], ◌∷◌, ◌++◌, Some, length, slice_get, refl, sym, ap, subst, ◌∙◌, inl, inr, append-nil, arith}
 use Rattle.std.proofs.lemmas.Bool.{cases_eq}
 use Rattle.std.proofs.lemmas.Option.{same_Some}
-use Rattle.xmpp_links_follow.proofs.Numbered.{length_changed}
 use Rattle.xmpp_links_follow.specs.Following.{WorldFollows}
+use Rattle.xmpp_item_images.proofs.UpMoves.{length_items_emitted}
+use Rattle.xmpp_item_images.proofs.UserMoves.{length_where}
 use Rattle.xmpp_item_images.specs.Mild.{ClientFits, DownFits, HallFits, UpFits}
 use Rattle.xmpp_desk.specs.State.{Step}
 use Rattle.xmpp_item_images.specs.Devices.{identity_at}
@@ -33,12 +34,12 @@ use Rattle.xmpp_takes.proofs.PieceTakes.{item_takes}
 use Rattle.xmpp_moves_beside.proofs.Fresh.{bound_fresh}
 use Rattle.xmpp_moves_beside.proofs.Goes.{apart_of, device_of, goes_up, reached}
 use Rattle.xmpp_moves_beside.proofs.Kept.{kept_flags}
-use Rattle.xmpp_moves_beside.proofs.WordKinds.{by_kind, silent_does, still_silent}
+use Rattle.xmpp_moves_beside.proofs.WordKinds.{silent_does, still_silent}
 use Rattle.xmpp_moves_beside.proofs.Quietly.{quiet_device, quiet_move}
-use Rattle.xmpp_moves_beside.proofs.Wires.{at_same, emitted_long, emitted_same, same_twice}
+use Rattle.xmpp_moves_beside.proofs.Wires.{at_same, emitted_same, same_twice}
 use Rattle.xmpp_wires.specs.Places.{changed_at}
 use Rattle.xmpp_moves_beside.proofs.Bound.{bound_bare, bound_spares}
-use Rattle.xmpp_moves_beside.proofs.WordsRunWords.{word_flags, word_runs, word_silent}
+use Rattle.xmpp_moves_beside.proofs.WordsRunWords.{split_word, word_flags, word_runs, word_silent}
 use Rattle.xmpp_moves_beside.specs.WordsRunWords.{IsDeviceOf, IsSilent}
 use Rattle.xmpp_links_follow.proofs.Headers.{item_may_go_up}
 use Rattle.xmpp_links_follow.proofs.StandMoves.{move_stands}
@@ -103,7 +104,7 @@ module _ (schedule : WireView) (b : Bounds) (says : ℕ) (w : ItemWorld) (x : Wo
   own_flags : DoFlagsGo who.account who.resource w.server step.hall
   own_flags =
       subst (λ y. DoFlagsGo who.account who.resource w.server (on_item (place + 1) y w.server).hall) has.is
-      (by_kind (λ word. IsFirst who logins w.server wires v (place + 1) word → DoFlagsGo who.account who.resource w.server (on_word word).hall)
+      (split_word (λ word. IsFirst who logins w.server wires v (place + 1) word → DoFlagsGo who.account who.resource w.server (on_word word).hall)
       (λ p. inr (bound_fresh who logins w.server wires v (place + 1) p (bound_bare who logins w.server wires v (place + 1) p (owned_of schedule) (names_of schedule) o of)))
       (λ word un p. inl (kept_flags who.account who.resource w.server (on_word word).hall (λ d shows. word_flags who logins w.server wires v (place + 1) word who.account who.resource d p un shows)))
       has.word silent has.first)
@@ -111,7 +112,7 @@ module _ (schedule : WireView) (b : Bounds) (says : ℕ) (w : ItemWorld) (x : Wo
   other_flags : (account : ℕ) (resource : List ℕ) → (who.account ≡ account → who.resource ≢ resource) → DoFlagsGo account resource w.server step.hall
   other_flags account resource apart =
       subst (λ y. DoFlagsGo account resource w.server (on_item (place + 1) y w.server).hall) has.is
-      (by_kind (λ word. IsFirst who logins w.server wires v (place + 1) word → DoFlagsGo account resource w.server (on_word word).hall)
+      (split_word (λ word. IsFirst who logins w.server wires v (place + 1) word → DoFlagsGo account resource w.server (on_word word).hall)
       (λ p. inl (kept_flags account resource w.server (on_word Bind).hall (λ d shows. bound_spares who logins w.server wires v (place + 1) p (owned_of schedule) (names_of schedule) o of account resource d apart shows)))
       (λ word un p. inl (kept_flags account resource w.server (on_word word).hall (λ d shows. word_flags who logins w.server wires v (place + 1) word account resource d p un shows)))
       has.word silent has.first)
@@ -126,7 +127,7 @@ module _ (schedule : WireView) (b : Bounds) (says : ℕ) (w : ItemWorld) (x : Wo
   -- ---- the world
 
   many_wires : length after.wires ≡ length w.wires
-  many_wires = emitted_long step.outs (changed_at place handed_up w.wires) ∙ length_changed (Some place) handed_up w.wires
+  many_wires = length_items_emitted step.outs (changed_at place handed_up w.wires) ∙ length_where (Some place) handed_up w.wires
 
   wires_are : (q : ℕ) (other : ItemWire) → slice_get after.wires q ≡ Some other → (p : Owned) × IsOwned schedule other.device p
   wires_are q other at =

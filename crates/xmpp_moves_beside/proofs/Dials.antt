@@ -9,9 +9,10 @@ use Rattle.xmpp_client_rows.specs.Clients.{Turn}
 use Rattle.xmpp_client_rows.specs.Speech.{in_items}
 use Rattle.xmpp_links_follow.proofs.Comes.{dial_leaves, dial_lifts}
 use Rattle.xmpp_links_follow.proofs.ConnectionsElsewhere.{of_its_own}
-use Rattle.xmpp_links_follow.proofs.Numbered.{length_changed, set_elsewhere, set_here}
+use Rattle.xmpp_links_follow.proofs.Numbered.{set_elsewhere}
 use Rattle.xmpp_links_follow.specs.Following.{AreDialled, IsDrawn, WorldFollows, with_login}
 use Rattle.xmpp_moves_beside.proofs.Still.{nobody_runs}
+use Rattle.xmpp_item_images.proofs.UserMoves.{get_set_same, length_where}
 use Rattle.xmpp_item_images.specs.Mild.{ClientFits, DownFits, HallFits, UpFits}
 use Rattle.xmpp_desk.specs.Moments.{at_moment, with_fresh}
 use Rattle.xmpp_desk.specs.State.{Hall}
@@ -126,7 +127,7 @@ module _ (schedule : WireView) (right : IsWireSchedule schedule) (b : Bounds) (s
           subst (λ v. WorldFollows who (with_login (n + 1) draws.login old.logins) v old.view []) moved_so
           (dial_lifts who old.logins w old.view old.shows (moment_of i o old) draws.login mine yours (prompt_runs awaits old.view old.prompt) drawn below);
       user = λ e at.
-          subst (λ (y : ItemDevice). SameUser old.shows.device.client y.client) (same_Some dialling e (sym (set_here w.devices i d dialling own.shows.there) ∙ at))
+          subst (λ (y : ItemDevice). SameUser old.shows.device.client y.client) (same_Some dialling e (sym (get_set_same w.devices i d dialling own.shows.there) ∙ at))
           (subst (λ (y : ItemDevice). SameUser y.client dialling.client) (same_Some d old.shows.device (sym own.shows.there ∙ old.shows.there)) (same_user d.client t.client.phase));
       flags = inl (kept_flags who.account o.device);
     }
@@ -156,7 +157,7 @@ module _ (schedule : WireView) (right : IsWireSchedule schedule) (b : Bounds) (s
 
     many_wires : length after.wires ≡ n + 1
     many_wires =
-        let before = length_changed d.here left w.wires in
+        let before = length_where d.here left w.wires in
         let all = length-append (changed_where d.here left w.wires) (fresh ∷ []) in
         omega (arith, before, all)
 

@@ -5,9 +5,9 @@ use Rattle.xmpp_client.specs.UserCalls.{leaves}
 use Rattle.xmpp_client_rows.specs.declared.phase.Phase.TheVariants as phase
 use Rattle.xmpp_links_follow.proofs.ConnectionsElsewhere.{cut_leaves, end_leaves}
 use Rattle.xmpp_links_follow.proofs.Lifts.{cut_lifts, end_lifts}
-use Rattle.xmpp_links_follow.proofs.Numbered.{length_changed, set_here}
 use Rattle.xmpp_links_follow.specs.Following.{WorldFollows}
 use Rattle.xmpp_moves_beside.proofs.Still.{nobody_runs, still_runs}
+use Rattle.xmpp_item_images.proofs.UserMoves.{get_set_same, length_where}
 use Rattle.xmpp_item_images.specs.Mild.{ClientFits, DownFits, HallFits, UpFits}
 use Rattle.xmpp_item_images.specs.Devices.{identity_at}
 use Rattle.xmpp_device_views.specs.Deeds.{awaits}
@@ -58,7 +58,7 @@ module _ (schedule : WireView) (b : Bounds) (says : ℕ) (w : ItemWorld) (x : Wo
       moment = refl;
       devices = refl;
       beside = λ j other. refl;
-      many = length_changed (Some place) (cut_at up down) w.wires;
+      many = length_where (Some place) (cut_at up down) w.wires;
       wires = where_same (cut_at up down) (λ v. refl) (Some place) w.wires;
     }
 
@@ -90,10 +90,10 @@ module _ (schedule : WireView) (b : Bounds) (says : ℕ) (w : ItemWorld) (x : Wo
         drift_runs schedule b says (DownEnd place) w x runs i o owned ended
         (record {
           is = is;
-          alone = one_called i w away (changed_at place down_end_told w.wires) (length_changed (Some place) down_end_told w.wires) (where_same down_end_told (λ v. refl) (Some place) w.wires);
+          alone = one_called i w away (changed_at place down_end_told w.wires) (length_where (Some place) down_end_told w.wires) (where_same down_end_told (λ v. refl) (Some place) w.wires);
           fits = subst FitsHere is (move_fits UpFits DownFits HallFits ClientFits keep_here takes_any (DownEnd place) w runs.fits tt);
           follows = subst (λ v. WorldFollows who old.logins v old.view []) is (end_lifts who old.logins w old.view old.shows place wire there refl (prompt_runs awaits old.view old.prompt));
-          user = λ e at. subst (λ (y : ItemDevice). SameUser d.client y.client) (same_Some away e (sym (set_here w.devices i d away old.shows.there) ∙ at)) (same_user d.client phase.Apart);
+          user = λ e at. subst (λ (y : ItemDevice). SameUser d.client y.client) (same_Some away e (sym (get_set_same w.devices i d away old.shows.there) ∙ at)) (same_user d.client phase.Apart);
           others = λ j p q other.
               subst (λ v. Shows (identity_at schedule j p) (runs.devices j p q).logins v (runs.devices j p q).view) is
               (end_leaves (identity_at schedule j p) (runs.devices j p q).logins w (runs.devices j p q).view (runs.devices j p q).shows place wire there (λ same. other (sym same)));

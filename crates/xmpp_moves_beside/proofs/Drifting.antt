@@ -1,6 +1,6 @@
 -- The links of one device move without a deed, and the server stays: the device drifts, and the worlds are beside one
 -- another still.
-use Rattle.std.proofs.Common.{◌≡◌, ◌≢◌, ℕ, ◌+◌, ◌≤◌, ◌==◌, Bool, true, false, List, [], ◌∷◌, Some, length, slice_get, refl, sym, ap, subst, ◌∙◌, arith}
+use Rattle.std.proofs.Common.{◌≡◌, ◌≢◌, ℕ, ◌+◌, ◌≤◌, ◌==◌, Bool, true, false, List, [], Some, length, slice_get, refl, sym, ap, subst, ◌∙◌, arith}
 use Rattle.std.proofs.lemmas.Bool.Decides.{Decides-eqb}
 use Rattle.std.proofs.lemmas.Option.{same_Some}
 use Rattle.xmpp_archive.specs.Entries.{EntryView}
@@ -23,6 +23,7 @@ use Rattle.xmpp_links.proofs.WithPremises.{prompt_runs}
 use Rattle.xmpp_links.specs.Events.{seen}
 use Rattle.xmpp_links.specs.Machine.{LinkReached}
 use Rattle.xmpp_links_events.specs.Lists.{IsDevice}
+use Rattle.xmpp_device_deeds.proofs.AllDrifts.{drifts_silent}
 use Rattle.xmpp_device_deeds.proofs.Staying.{paging_stays, prompt_stays}
 use Rattle.xmpp_device_deeds.specs.InTime.{AreInTime}
 use Rattle.xmpp_device_deeds.specs.Shown.{LogShows}
@@ -35,7 +36,7 @@ use Rattle.xmpp_schedule.specs.Schedules.{WireView}
 use Rattle.xmpp_session_counts.specs.Counts.{IsUnanswered}
 use Rattle.xmpp_device_deeds.proofs.SessionDeedsSteps.{moves_done}
 use Rattle.xmpp_device_deeds.proofs.Worlds.{drifts_reach, set_here}
-use Rattle.xmpp_device_deeds.specs.Deeds.{Binds, Counts, DoesAmid, Drift, Drifts, Ends, drift_events, with_device}
+use Rattle.xmpp_device_deeds.specs.Deeds.{DoesAmid, Drift, Drifts, drift_events, with_device}
 use Rattle.xmpp_session_views.specs.Served.{FlagsShow}
 use Rattle.xmpp_sessions.specs.Devices.{Device, Sessions, World}
 use Rattle.xmpp_sessions.specs.Events.{Event, Reaches}
@@ -44,13 +45,6 @@ use Rattle.xmpp_sessions.specs.Stanzas.{answers}
 use Rattle.xmpp_moves_beside.proofs.BuiltAlong.{built_along}
 use Rattle.xmpp_moves_beside.specs.Going.{ArePutBuilt}
 use Rattle.xmpp_moves_beside.specs.Running.{Bounds, DeviceRuns, IsAskedBy, IsOwned, MoveRuns, WorldRuns, history_for, keep_in, spoken_by_move}
-
--- nobody says anything
-silent_drifts : (i : ℕ) (xs : List Drift) → spoken_in (drift_events i xs) ≡ []
-silent_drifts i [] = refl
-silent_drifts i (Binds ∷ xs) = silent_drifts i xs
-silent_drifts i (Counts ∷ xs) = silent_drifts i xs
-silent_drifts i (Ends ∷ xs) = silent_drifts i xs
 
 -- nor asks, and nothing comes to the client
 abbrev pub IsStill : Device → Device → Type 0
@@ -139,7 +133,7 @@ module _ (schedule : WireView) (b : Bounds) (says : ℕ) (m : ItemMove) (w : Ite
     events = drift_events i xs
 
     silent : spoken_in events ≡ []
-    silent = silent_drifts i xs
+    silent = drifts_silent i xs
 
     reaches : Reaches events x next
     reaches = drifts_reach xs x i old.device end old.there drifts

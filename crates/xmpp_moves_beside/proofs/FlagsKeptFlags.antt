@@ -6,16 +6,17 @@ use Rattle.xmpp_desk.specs.State.{Hall}
 use Rattle.xmpp_device_views.specs.Identities.{Identity, Login}
 use Rattle.xmpp_device_views.specs.Servers.{IsRowShown, ServerShows}
 use Rattle.xmpp_item_stanzas.specs.Items.{stanzas_read}
-use Rattle.xmpp_links.specs.Events.{SeenSession, new_session, row_number, seen, seen_as, seen_session}
+use Rattle.xmpp_links.specs.Events.{SeenSession, row_number, seen, seen_as, seen_session}
 use Rattle.xmpp_links.specs.Links.{LinkKept}
 use Rattle.xmpp_links.specs.Views.{Row as LinkRow, View}
 use Rattle.xmpp_links_events.specs.Lists.{IsDevice, IsRow}
 use Rattle.xmpp_live.specs.Sessions.{Session, session_named}
+use Rattle.xmpp_device_deeds.proofs.Given.{stays_away}
 use Rattle.xmpp_device_deeds.specs.Deeds.{Binds, Counts, Drift, Drifts, Ends, drifted}
-use Rattle.xmpp_device_deeds.proofs.Sorted.{enable_at}
+use Rattle.xmpp_moves_beside.proofs.Following.{not_present}
 use Rattle.xmpp_session_views.specs.Served.{FlagsShow}
-use Rattle.xmpp_sessions.specs.Devices.{NoRow, Present, Row, Sessions, Unread}
-use Rattle.xmpp_sessions.specs.Events.{counts, end_row, is_present}
+use Rattle.xmpp_sessions.specs.Devices.{NoRow, Present, Sessions}
+use Rattle.xmpp_sessions.specs.Events.{counts, end_row}
 use Rattle.xmpp_writer.specs.Items.{ItemOut}
 
 -- a session is bound
@@ -25,24 +26,12 @@ binds_amid (Binds ∷ xs) = true
 binds_amid (Counts ∷ xs) = binds_amid xs
 binds_amid (Ends ∷ xs) = binds_amid xs
 
--- a device without a live session of its present epoch gets none by drifting
-stays_away : (xs : List Drift) (d there : Sessions) → Drifts xs d there → d.row ≢ Present → there.row ≢ Present
-stays_away [] d there same away = λ e. away (ap (λ (s : Sessions). s.row) (sym same) ∙ e)
-stays_away (Binds ∷ xs) d there by away = stays_away xs (drifted Binds d) there by.1 (λ e. cc)
-stays_away (Counts ∷ xs) d there by away = absurd (away (enable_at d by.0).0)
-stays_away (Ends ∷ xs) d there by away = stays_away xs (drifted Ends d) there by.1 (λ e. cc)
-
 -- behind a binding the row isn't that of the client's session
 bound_away : (xs : List Drift) (d last : Sessions) → binds_amid xs ≡ true → Drifts xs d last → last.row ≢ Present
 bound_away [] d last some by = absurd (let no_way : ⊥ = cc in no_way)
 bound_away (Binds ∷ xs) d last some by = stays_away xs (drifted Binds d) last by.1 (λ e. cc)
 bound_away (Counts ∷ xs) d last some by = bound_away xs (drifted Counts d) last some by.1
 bound_away (Ends ∷ xs) d last some by = bound_away xs (drifted Ends d) last some by.1
-
-not_present : (r : Row) → r ≢ Present → is_present r ≡ false
-not_present NoRow other = refl
-not_present Unread other = refl
-not_present Present other = absurd (other refl)
 
 module _ (who : Identity) (logins : ℕ → Login) (h : Hall ItemOut) where
   -- the session that the server has of the device, where it has one, is not available and wants no copies

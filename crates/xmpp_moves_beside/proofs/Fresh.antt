@@ -34,7 +34,7 @@ use Rattle.xmpp_moves_beside.proofs.Walks.{Goes, IsSteady, then_put, then_shut}
 use Rattle.xmpp_links_follow.proofs.BindReads.{bind_elem, bind_word, resource_asked, resource_chosen}
 use Rattle.xmpp_links_follow.proofs.HandMoves.{kept_here, row_here}
 use Rattle.xmpp_links_follow.proofs.Leavings.{unseated}
-use Rattle.xmpp_links_follow.proofs.Removed.{named_gone}
+use Rattle.xmpp_item_images.proofs.RuleKept.{named_gone}
 use Rattle.xmpp_links_follow.specs.Taking.{IsFirst, on_item}
 use Rattle.xmpp_session_rows.specs.Bindings.{binding_as, chosen, former_of}
 use Rattle.xmpp_sessions.proofs.Lists.{all_append}

@@ -1,29 +1,26 @@
 -- The user gives the session up, or closes the stream.
-use Rattle.std.proofs.Common.{◌≡◌, ◌≢◌, ℕ, ◌+◌, ◌≤◌, Bool, true, false, List, [], ◌∷◌, Option, Some, None, length, slice_get, refl, sym, ap, subst, ◌∙◌, inl, inr, arith, if◌then◌else◌}
+use Rattle.std.proofs.Common.{◌≡◌, ℕ, ◌+◌, ◌≤◌, List, [], ◌∷◌, Some, None, slice_get, refl, sym, ap, subst, ◌∙◌, inl, inr, arith}
 use Rattle.std.proofs.lemmas.Option.{same_Some}
-use Rattle.std.specs.List.{slice_set}
 use Rattle.xmpp_client.specs.UserCalls.{closes, forgets}
-use Rattle.xmpp_client_rows.specs.Clients.{ClientView}
-use Rattle.xmpp_client_rows.specs.Speech.{in_items, uttered}
-use Rattle.xmpp_client_rows.specs.Turns.{drops, is_apart, left, puts}
+use Rattle.xmpp_client_rows.specs.Speech.{in_items}
 use Rattle.xmpp_links_follow.proofs.ConnectionsElsewhere.{close_leaves, forget_leaves, of_its_own}
 use Rattle.xmpp_links_follow.proofs.Lifts.{close_lifts, forget_lifts}
-use Rattle.xmpp_links_follow.proofs.Numbered.{length_changed, set_here}
 use Rattle.xmpp_links_follow.specs.Following.{WorldFollows}
+use Rattle.xmpp_item_images.proofs.DialMoves.{close_client}
+use Rattle.xmpp_item_images.proofs.UserMoves.{get_set_same, length_where}
 use Rattle.xmpp_item_images.specs.Mild.{ClientFits, DownFits, HallFits, UpFits}
 use Rattle.xmpp_item_images.specs.Devices.{identity_at}
-use Rattle.xmpp_device_views.specs.Deeds.{Deed, Drops, awaits, deeds_of}
+use Rattle.xmpp_device_views.specs.Deeds.{Drops, awaits, deeds_of}
 use Rattle.xmpp_device_views.specs.Identities.{Identity}
 use Rattle.xmpp_device_views.specs.Servers.{ServerShows}
-use Rattle.xmpp_device_views.specs.Shows.{Shows}
 use Rattle.xmpp_item_images.proofs.FittingImages.{keep_here, takes_any}
 use Rattle.xmpp_item_images.proofs.MoveSteps.{move_fits}
-use Rattle.xmpp_item_images.specs.Fitting.{FitsHere, MayItem}
+use Rattle.xmpp_item_images.specs.Fitting.{FitsHere}
 use Rattle.xmpp_item_stanzas.specs.Items.{stanzas_read}
 use Rattle.xmpp_item_worlds.specs.ItemMoves.{Close, Forget, ItemMove, closed_by, fed_of, forgot_by, moved}
 use Rattle.xmpp_item_worlds.specs.ItemPipes as pipes
-use Rattle.xmpp_item_worlds.specs.ItemPipes.{ItemWire, put_up}
-use Rattle.xmpp_item_worlds.specs.ItemWorlds.{ItemDevice, ItemWorld, silent_turn}
+use Rattle.xmpp_item_worlds.specs.ItemPipes.{put_up}
+use Rattle.xmpp_item_worlds.specs.ItemWorlds.{ItemDevice, ItemWorld}
 use Rattle.xmpp_links.proofs.Reached.{link_kept}
 use Rattle.xmpp_links.proofs.WithPremises.{prompt_runs}
 use Rattle.xmpp_links.specs.Events.{seen}
@@ -36,15 +33,14 @@ use Rattle.xmpp_device_deeds.proofs.Sorted.{drifts_first}
 use Rattle.xmpp_device_deeds.specs.Deeds.{Does, DoesAll, DoesAmid, Drift, Drifts}
 use Rattle.xmpp_session_views.specs.Served.{FlagsShow}
 use Rattle.xmpp_session_views.specs.Submitted.{SubmissionsShow}
-use Rattle.xmpp_sessions.specs.Devices.{Device, Sessions, World}
+use Rattle.xmpp_sessions.specs.Devices.{Sessions, World}
 use Rattle.xmpp_sessions.specs.Events.{Drop, goes_offline}
-use Rattle.xmpp_device_deeds.proofs.SubmissionsEnds.{broken_told, closed_told, forgot_told}
+use Rattle.xmpp_device_deeds.proofs.SubmissionsEnds.{broken_told, forgot_told}
 use Rattle.xmpp_device_deeds.proofs.Served.{same_told}
-use Rattle.xmpp_device_deeds.specs.Told.{SameUps}
-use Rattle.xmpp_moves_beside.proofs.Called.{AreOfSame, one_called, same_twice, where_same}
+use Rattle.xmpp_moves_beside.proofs.Called.{one_called, same_twice, where_same}
 use Rattle.xmpp_moves_beside.proofs.FlagsKeptDrifted.{same_ups}
 use Rattle.xmpp_moves_beside.proofs.FlagsKeptFlags.{flags_drift}
-use Rattle.xmpp_moves_beside.proofs.Turning.{IsTurn, acted_by, device_at, move_runs, old}
+use Rattle.xmpp_moves_beside.proofs.Turning.{IsTurn, move_runs, old}
 use Rattle.xmpp_links_follow.proofs.Stays.{reached_along}
 use Rattle.xmpp_links.specs.Machine.{LinkReached}
 use Rattle.xmpp_device_deeds.proofs.Staying.{paging_stays, prompt_stays}
@@ -54,15 +50,7 @@ use Rattle.xmpp_moves_beside.proofs.BuiltAlong.{built_along}
 use Rattle.xmpp_moves_beside.specs.Going.{ArePutBuilt, DeviceGoes}
 use Rattle.xmpp_moves_beside.specs.Running.{Bounds, DeviceRuns, IsOwned, MoveRuns, WorldRuns, history_for, keep_in}
 use Rattle.xmpp_wires.specs.Places.{changed_where}
-use Rattle.xmpp_writer.specs.Items.{Closing, ItemOut}
-
--- the footer changes nothing of the client
-as_forgotten : (c : ClientView ItemOut) → (closes in_items (fed_of c)).turn.client ≡ (forgets in_items (fed_of c)).turn.client
-as_forgotten c = by (is_apart c.phase)
-  where
-    by : (b : Bool) → (drops in_items (left (if b then silent_turn c else puts (silent_turn c) (uttered in_items Closing)))).client ≡ (forgets in_items (fed_of c)).turn.client
-    by true = refl
-    by false = refl
+use Rattle.xmpp_writer.specs.Items.{ItemOut}
 
 module _ (schedule : WireView) (b : Bounds) (says : ℕ) (w : ItemWorld) (x : World) (runs : WorldRuns schedule b says w x) (i : ℕ) (o : Owned) (owned : IsOwned schedule i o) where
   abbrev r : DeviceRuns schedule w x i o
@@ -151,10 +139,10 @@ module _ (schedule : WireView) (b : Bounds) (says : ℕ) (w : ItemWorld) (x : Wo
   forgot_is = ap (λ d. forgot_by i d w) r.shows.there
 
   forgets_one : IsOneDevice i w (moved (Forget i) w)
-  forgets_one = subst (IsOneDevice i w) (sym forgot_is) (one_called i w gone (changed_where c.here pipes.left w.wires) (length_changed c.here pipes.left w.wires) (where_same pipes.left (λ v. refl) c.here w.wires))
+  forgets_one = subst (IsOneDevice i w) (sym forgot_is) (one_called i w gone (changed_where c.here pipes.left w.wires) (length_where c.here pipes.left w.wires) (where_same pipes.left (λ v. refl) c.here w.wires))
 
   forgets_there : slice_get (moved (Forget i) w).devices i ≡ Some gone
-  forgets_there = ap (λ (n : ItemWorld). slice_get n.devices i) forgot_is ∙ set_here w.devices i c gone r.shows.there
+  forgets_there = ap (λ (n : ItemWorld). slice_get n.devices i) forgot_is ∙ get_set_same w.devices i c gone r.shows.there
 
   forgets_fits : FitsHere (moved (Forget i) w)
   forgets_fits = move_fits UpFits DownFits HallFits ClientFits keep_here takes_any (Forget i) w runs.fits tt
@@ -198,14 +186,14 @@ module _ (schedule : WireView) (b : Bounds) (says : ℕ) (w : ItemWorld) (x : Wo
   closes_one =
       subst (IsOneDevice i w) (sym close_is)
       (one_called i w (record { client = (closes in_items (fed_of c.client)).turn.client; here = None }) (changed_where c.here pipes.left (changed_where c.here (put_up footer) w.wires))
-      (length_changed c.here pipes.left (changed_where c.here (put_up footer) w.wires) ∙ length_changed c.here (put_up footer) w.wires)
+      (length_where c.here pipes.left (changed_where c.here (put_up footer) w.wires) ∙ length_where c.here (put_up footer) w.wires)
       (same_twice w.wires (changed_where c.here (put_up footer) w.wires) (changed_where c.here pipes.left (changed_where c.here (put_up footer) w.wires)) (where_same (put_up footer) (λ v. refl) c.here w.wires)
       (where_same pipes.left (λ v. refl) c.here (changed_where c.here (put_up footer) w.wires))))
 
   closes_there : slice_get (moved (Close i) w).devices i ≡ Some gone
   closes_there =
-      ap (λ (n : ItemWorld). slice_get n.devices i) close_is ∙ set_here w.devices i c (record { client = (closes in_items (fed_of c.client)).turn.client; here = None }) r.shows.there
-      ∙ ap (λ client. Some (record { client = client; here = None })) (as_forgotten c.client)
+      ap (λ (n : ItemWorld). slice_get n.devices i) close_is ∙ get_set_same w.devices i c (record { client = (closes in_items (fed_of c.client)).turn.client; here = None }) r.shows.there
+      ∙ ap (λ client. Some (record { client = client; here = None })) (close_client c.client)
 
   closes_fits : FitsHere (moved (Close i) w)
   closes_fits = move_fits UpFits DownFits HallFits ClientFits keep_here takes_any (Close i) w runs.fits tt

@@ -1,7 +1,7 @@
 -- What is sent to a session is read as what it hears.
 use Rattle.std.proofs.Common.{◌≡◌, ℕ, ◌+◌, ◌⊎◌, ◌==◌, ◌&&◌, ◌||◌, not, Bool, true, false, cond, List, [], ◌∷◌, ◌++◌, Some, None, Ok, filter, length, map, refl, sym, ap, ap₂, subst, ◌∙◌, arith, inl, inr, if◌then◌else◌}
 use Rattle.std.proofs.lemmas.Bool.{and_parts, cases_Bool, eq-eqb, eqb-true, false≢true, or_left, or_right}
-use Rattle.std.proofs.lemmas.List.{append-nil, map-append}
+use Rattle.std.proofs.lemmas.List.{map-append}
 use Rattle.std.proofs.lemmas.Option.{same_Some}
 use Rattle.std.specs.Cmp.Lexicographic.{nat_list_eq_equiv}
 use Rattle.std.specs.List.{AllByRecursion, list_any, slice_get}
@@ -12,10 +12,12 @@ use Rattle.xmpp_basis.proofs.Bytes.{bytes_eq-self}
 use Rattle.xmpp_desk.specs.State.{Hall, archive_at, session_address}
 use Rattle.xmpp_forwarding.specs.Copies.{copy_item}
 use Rattle.xmpp_forwarding.specs.Passed.{passed_item}
+use Rattle.xmpp_item_images.proofs.NamedDevices.{normal_full}
+use Rattle.xmpp_links_follow.proofs.Own.{twice_left}
 use Rattle.xmpp_moves_beside.proofs.Carried.{copied, copied_to, delivered, delivered_to}
-use Rattle.xmpp_moves_beside.proofs.HearingSums.{heard_once, where_so}
-use Rattle.xmpp_moves_beside.proofs.AnswersMessages.{archs, as_read, as_sent, in_archives, is_delivered, route, sends, wants, went}
-use Rattle.xmpp_moves_beside.proofs.Picks.{among, filtered_twice, if_passes}
+use Rattle.xmpp_moves_beside.proofs.HearingSums.{where_so}
+use Rattle.xmpp_moves_beside.proofs.AnswersMessages.{archs, as_read, as_sent, copied_is, in_archives, is_delivered, route, sends, summed, wants, went}
+use Rattle.xmpp_moves_beside.proofs.Picks.{among, if_passes}
 use Rattle.xmpp_moves_beside.specs.Sent as answers
 use Rattle.xmpp_moves_beside.specs.Sent.{as_it_is}
 use Rattle.xmpp_item_stanzas.proofs.ItemsDown.{copied_read, passed_read}
@@ -24,7 +26,7 @@ use Rattle.xmpp_item_stanzas.specs.Meant.{IsEntryNumber, IsSubmitted}
 use Rattle.xmpp_live.specs.Sessions.{Session, is_of, number_of, session_of, told, told_of}
 use Rattle.xmpp_message_rows.specs.Messages.{carrying, copy_for, number_behind, number_in}
 use Rattle.xmpp_jid.specs.Normal.{normal}
-use Rattle.xmpp_moves_beside.proofs.Addresses.{full_normal, normal_to}
+use Rattle.xmpp_moves_beside.proofs.Addresses.{normal_to}
 use Rattle.xmpp_moves_beside.proofs.Archived.{is_named, same_name}
 use Rattle.xmpp_moves_beside.proofs.Places.{bare_is, full_is}
 use Rattle.xmpp_moves_beside.proofs.TakenEntries.{take_now}
@@ -32,7 +34,6 @@ use Rattle.xmpp_moves_beside.specs.Hearing.{hears_in}
 use Rattle.xmpp_moves_beside.specs.Submits.{IsSessionAt, Submits}
 use Rattle.xmpp_outbox.specs.Submissions.{origin_of}
 use Rattle.xmpp_report.specs.Addresses as report
-use Rattle.xmpp_requests.specs.Messages.{submission_nodes}
 use Rattle.xmpp_route.specs.Messages.{is_copied}
 use Rattle.xmpp_route.specs.Plans.{is_ready, ready_of}
 use Rattle.xmpp_schedule.specs.Contents.{Owned}
@@ -44,7 +45,6 @@ use Rattle.xmpp_sessions.specs.Stanzas.Down.{Live}
 use Rattle.xmpp_sessions_laws.proofs.Turned.{history_few, history_long}
 use Rattle.xmpp_sessions_laws.specs.Reported.{history_at}
 use Rattle.xmpp_stanza.specs.Views.{MessageView}
-use Rattle.xmpp_stanza.specs.declared.kinds.MessageKind.TheVariants.{Chat}
 use Rattle.xmpp_trees.specs.Trees.{Elem}
 use Rattle.xmpp_writer.specs.Items.{ItemOut}
 
@@ -76,25 +76,6 @@ module _ (p : Owned) (history : List EntryView) where
   }
 
 -- ---- tests
-
-copied_is : (r : MessageView) (origin said : List ℕ) (private : Bool) → is_copied (record r { kind = Chat; payload = submission_nodes origin said private }) ≡ not private
-copied_is r origin said true = refl
-copied_is r origin said false = refl
-
-nothing_more : (b : Bool) → (b || false) ≡ b
-nothing_more true = refl
-nothing_more false = refl
-
--- what is delivered and copied, of a message that may be private
-summed : {X : Type 0} (private delivered wants senders recipients sent same : Bool) (xs : List X) → (senders ≡ true → recipients ≡ true → same ≡ true) → (same ≡ true → recipients ≡ true → senders ≡ true) →
-    where_so delivered xs
-    ++ (where_so (not private && (senders && (wants && not (sent || delivered)))) xs
-    ++ (where_so ((not private && not same) && (recipients && (wants && not (sent || delivered)))) xs ++ []))
-    ≡ where_so (delivered || (((not private && wants) && (senders || recipients)) && not sent)) xs
-summed true delivered wants senders recipients sent same xs both one = append-nil (where_so delivered xs) ∙ ap (λ b. where_so b xs) (sym (nothing_more delivered))
-summed false delivered wants senders recipients sent same xs both one =
-    ap (λ zs. where_so delivered xs ++ (where_so (senders && (wants && not (sent || delivered))) xs ++ zs)) (append-nil (where_so (not same && (recipients && (wants && not (sent || delivered)))) xs))
-    ∙ heard_once delivered wants senders recipients sent same xs both one
 
 module _ {keep : ℕ} {owned : List Owned} {names : List (List ℕ)} {takes : List Take} {h : Hall ItemOut} {i : ℕ} {o : Owned} {s : Session ItemOut} {m : Submission} {e : Elem} (x : Submits keep owned names takes h i o s m e) (account : ℕ) (at : slice_get names account ≡ Some m.to) (j : ℕ) (p : Owned) (u : Session ItemOut) (v : IsSessionAt owned names h j p u) where
   abbrev take : Take
@@ -165,7 +146,7 @@ module _ {keep : ℕ} {owned : List Owned} {names : List (List ℕ)} {takes : Li
     from_normal : normal (session_address s.shown.number h) ≡ Ok (session_address s.shown.number h)
     from_normal =
         subst (λ a. normal a ≡ Ok a) (sym (full_is names h x.runs.configured owned i o s x.session))
-        (full_normal o.account o.device (is_named x s.shown.account o.account x.session.account) x.said.origin.device)
+        (normal_full o.account o.device (is_named x s.shown.account o.account x.session.account) x.said.origin.device)
 
     to_normal : normal (m.to ++ 64 ∷ h.domain) ≡ Ok (m.to ++ 64 ∷ h.domain)
     to_normal = normal_to x
@@ -205,7 +186,7 @@ module _ {keep : ℕ} {owned : List Owned} {names : List (List ℕ)} {takes : Li
   -- it wants a copy where it asked for them, didn't send the message and doesn't get it
   wants_is : wants o.device m (told s) h account u ≡ (u.shown.carbons && not ((s.shown.number == u.shown.number) || d))
   wants_is =
-      let ready_is : ready ≡ map number_of (filter (is_delivered o.device m (told s) h account) h.sessions) = ap (map number_of) (filtered_twice (λ (t : Session ItemOut). is_ready t.shown) (is_of account) h.sessions) in
+      let ready_is : ready ≡ map number_of (filter (is_delivered o.device m (told s) h account) h.sessions) = ap (map number_of) (twice_left (λ (t : Session ItemOut). is_ready t.shown) (is_of account) h.sessions) in
       let is : list_any (λ k. k == u.shown.number) ready ≡ d =
       ap (list_any (λ k. k == u.shown.number)) ready_is ∙ among (is_delivered o.device m (told s) h account) h.next 1 u.shown.number h.sessions x.rule.ascending ∙ ap (if_passes (is_delivered o.device m (told s) h account)) v.lives in
       ap (λ b. u.shown.carbons && not ((s.shown.number == u.shown.number) || b)) is

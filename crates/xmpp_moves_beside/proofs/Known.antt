@@ -1,6 +1,5 @@
 -- What is known of a device that runs beside a world of items: its name, its numbers, what was acknowledged, and its log.
-use Rattle.std.proofs.Common.{◌≡◌, ℕ, suc, zero, ◌+◌, ◌<◌, ◌^◌, true, List, [], ◌∷◌, Some, length, slice_get, refl, subst, arith}
-use Rattle.std.proofs.lemmas.Option.{none-some}
+use Rattle.std.proofs.Common.{◌≡◌, ℕ, ◌+◌, ◌<◌, ◌^◌, true, Some, length, slice_get, subst, arith}
 use Rattle.xmpp_client_fits.specs.Within.{IsClientWithin}
 use Rattle.xmpp_device_deeds.proofs.Kept.{Paged, paged_begins, paged_kept}
 use Rattle.xmpp_device_deeds.specs.Pages.{IsPaged}
@@ -24,18 +23,12 @@ use Rattle.xmpp_sessions_laws.specs.Reported.{history_at}
 use Rattle.xmpp_sessions_laws.specs.Runs.{begins, owned_of}
 use Rattle.xmpp_device_deeds.specs.Told.{IsAcked}
 use Rattle.xmpp_world.proofs.Declares.{some_kept}
+use Rattle.xmpp_moves_beside.proofs.MessageEvents.{there_too}
 use Rattle.xmpp_moves_beside.specs.Running.{AreSmall, Bounds, DeviceRuns, IsOwned, WorldRuns, history_for, keep_in, names_of}
-
--- of two lists of one length, what stands at a place
-same_place : {A B : Type 0} (l : List A) (k : List B) (i : ℕ) (a : A) → length l ≡ length k → slice_get l i ≡ Some a → (c : B) × (slice_get k i ≡ Some c)
-same_place [] k i a many there = absurd (none-some a there)
-same_place (e ∷ l) [] i a many there = absurd (omega (arith, many))
-same_place (e ∷ l) (c ∷ k) zero a many there = (c, refl)
-same_place (e ∷ l) (c ∷ k) (suc i) a many there = same_place l k i a (omega (arith, many)) there
 
 -- a device that the world has is one of the schedule's
 pub owned_there : (schedule : WireView) (b : Bounds) (says : ℕ) (w : ItemWorld) (x : World) → WorldRuns schedule b says w x → (i : ℕ) (d : ItemDevice) → slice_get w.devices i ≡ Some d → (o : Owned) × IsOwned schedule i o
-owned_there schedule b says w x runs i d there = same_place w.devices (owned_of schedule) i d runs.many there
+owned_there schedule b says w x runs i d there = there_too w.devices (owned_of schedule) i d runs.many there
 
 module _ (schedule : WireView) (right : IsWireSchedule schedule) (b : Bounds) (small : AreSmall b) (says : ℕ) (w : ItemWorld) (x : World) (runs : WorldRuns schedule b says w x) where
   taken : Taken x

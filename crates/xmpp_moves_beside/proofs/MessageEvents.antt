@@ -20,7 +20,7 @@ use Rattle.xmpp_moves_beside.specs.Handled.{AreHandled, IsTakenOf, IsToldOf, tak
 none_put : (s : Sessions) → put_down [] s ≡ s
 none_put s = ap (λ l. record s { now = record s.now { down_rest = l } }) (append-nil s.now.down_rest)
 
-there_too : {A B : Type 0} (xs : List A) (ys : List B) (j : ℕ) (a : A) → length xs ≡ length ys → slice_get xs j ≡ Some a → (b : B) × (slice_get ys j ≡ Some b)
+pub there_too : {A B : Type 0} (xs : List A) (ys : List B) (j : ℕ) (a : A) → length xs ≡ length ys → slice_get xs j ≡ Some a → (b : B) × (slice_get ys j ≡ Some b)
 there_too [] ys j a long at = absurd (none-some a at)
 there_too (x ∷ xs) [] j a long at = absurd (omega (arith, long))
 there_too (x ∷ xs) (y ∷ ys) zero a long at = (y, refl)

@@ -17,14 +17,13 @@ use Rattle.xmpp_moves_beside.specs.Hearing.{hears_in}
 use Rattle.xmpp_moves_beside.specs.Submits.{Submits}
 use Rattle.xmpp_route.proofs.Chosen.{AreFound, all_found}
 use Rattle.xmpp_schedule.specs.Contents.{Owned}
-use Rattle.xmpp_links_follow.proofs.Removed.{one_named}
+use Rattle.xmpp_item_images.proofs.RuleKept.{found_is, found_some, one_named}
 use Rattle.xmpp_session_views.specs.Served.{FlagsShow}
 use Rattle.xmpp_sessions.specs.Devices.{Device, Sessions, Take, concerns}
 use Rattle.xmpp_sessions.specs.Devices.Row.{NoRow}
 use Rattle.xmpp_sessions.specs.Events.{hears_of, is_present}
 use Rattle.xmpp_sessions.specs.Stanzas.{Submission}
 use Rattle.xmpp_trees.specs.Trees.{Elem}
-use Rattle.xmpp_links_follow.proofs.Found.{found_is, found_some}
 use Rattle.xmpp_writer.specs.Items.{ItemOut}
 
 -- ---- a session that was there before

@@ -1,5 +1,5 @@
 -- Of a message that is taken each device is given what it hears of it in the applications.
-use Rattle.std.proofs.Common.{◌≡◌, ℕ, ◌==◌, Bool, true, false, List, [], ◌∷◌, ◌++◌, Option, Some, None, map, refl, sym, ap, ap₂, subst, ◌∙◌, if◌then◌else◌}
+use Rattle.std.proofs.Common.{◌≡◌, ℕ, ◌==◌, true, false, List, [], ◌∷◌, ◌++◌, Option, Some, None, map, refl, sym, ap, ap₂, subst, ◌∙◌, if◌then◌else◌}
 use Rattle.std.proofs.lemmas.Bool.{and_parts, eqb-true}
 use Rattle.std.specs.List.{slice_get}
 use Rattle.std.specs.Str.{bytes_eq}
@@ -15,7 +15,7 @@ use Rattle.xmpp_links.specs.Views.{Row, View}
 use Rattle.xmpp_links_events.specs.Lists.{IsDevice}
 use Rattle.xmpp_live.specs.Sessions.{Session, is_named, session_named}
 use Rattle.xmpp_moves_beside.proofs.MessagesFlags.{hears_alike}
-use Rattle.xmpp_moves_beside.proofs.Outcomes.{reads}
+use Rattle.xmpp_moves_beside.proofs.Outcomes.{only_nothing, reads}
 use Rattle.xmpp_moves_beside.specs.Done.{acts_on}
 use Rattle.xmpp_moves_beside.specs.Hearing.{heard_in, hears_in, only_at, taken_now}
 use Rattle.xmpp_moves_beside.specs.Submits.{IsSessionAt, Submits}
@@ -23,7 +23,7 @@ use Rattle.xmpp_schedule.specs.Contents.{Owned}
 use Rattle.xmpp_session_views.specs.Served.{FlagsShow}
 use Rattle.xmpp_sessions.specs.Devices.{Device, Sessions, Take, last_of}
 use Rattle.xmpp_sessions.specs.Events.{Around, hears_of, reply}
-use Rattle.xmpp_sessions.specs.Stanzas.{Down, Submission}
+use Rattle.xmpp_sessions.specs.Stanzas.{Submission}
 use Rattle.xmpp_sessions.specs.Stanzas.Down.{Bounced, Live}
 use Rattle.xmpp_sessions.specs.Stanzas.Up.{Message}
 use Rattle.xmpp_moves_beside.specs.Handled.{IsHeardOf}
@@ -31,18 +31,8 @@ use Rattle.xmpp_links_follow.specs.Given.{IsGiven, sends_to}
 use Rattle.xmpp_moves_beside.proofs.GivenHere.{ended_row, heard, lives_on}
 use Rattle.xmpp_moves_beside.specs.Beside.{IsBeside}
 use Rattle.xmpp_trees.specs.Trees.{Elem}
-use Rattle.xmpp_links_follow.proofs.Found.{found_is, numbered_here}
+use Rattle.xmpp_item_images.proofs.RuleKept.{found_is, numbered_here}
 use Rattle.xmpp_writer.specs.Items.{ItemOut}
-
-only_nothing : (n k : ℕ) → only_at n k [] ≡ []
-only_nothing n k = go (n == k)
-  where
-    none : List Down
-    none = []
-
-    go : (b : Bool) → (if b then none else none) ≡ none
-    go true = refl
-    go false = refl
 
 module _ {keep : ℕ} {owned : List Owned} {names : List (List ℕ)} {takes : List Take} {h : Hall ItemOut} {i : ℕ} {o : Owned} {s : Session ItemOut} {m : Submission} {e : Elem} (x : Submits keep owned names takes h i o s m e) (exists : is_among m.to names ≡ true)
     (j : ℕ) (p : Owned) (who : Identity) (logins : ℕ → Login) (v next : View ItemOut) (d : Device) (given : List ItemOut) (last : Sessions) (at : IsBeside owned names h j p who logins v d) (is : IsGiven (acts_on s h e) given v.row next.row) (device : IsDevice stanzas_read (seen next) last) where

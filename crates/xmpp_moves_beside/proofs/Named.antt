@@ -25,9 +25,9 @@ use Rattle.xmpp_device_deeds.specs.Shown.{LogShows}
 use Rattle.xmpp_moves_beside.proofs.Acting.{act_reaches, act_spoken}
 use Rattle.xmpp_requests.specs.Sessions.{enable_item}
 use Rattle.xmpp_schedule.specs.Schedules.{WireView}
-use Rattle.xmpp_device_deeds.proofs.AllDrifts.{reaches_both, spoken_both}
+use Rattle.xmpp_device_deeds.proofs.AllDrifts.{drifts_silent, reaches_both, spoken_both}
 use Rattle.xmpp_device_deeds.proofs.Worlds.{drifts_reach, set_here, set_twice}
-use Rattle.xmpp_device_deeds.specs.Deeds.{Binds, Counts, DoesAmid, Drift, Drifts, Ends, drift_events, with_device}
+use Rattle.xmpp_device_deeds.specs.Deeds.{DoesAmid, Drift, Drifts, drift_events, with_device}
 use Rattle.xmpp_session_views.specs.Served.{FlagsShow}
 use Rattle.xmpp_session_views.specs.Submitted.{SubmissionsShow}
 use Rattle.xmpp_sessions.specs.Devices.{Device, Sessions, Unread, World}
@@ -68,12 +68,6 @@ reads_so d end (first, there, drifts, (next, (live, may, is), (behind, rests))) 
 offline : (live : Bool) (e : Device) → events.May (ReadBound live) e → e.sessions.online ≡ false
 offline true e may = may.0
 offline false e may = may.0
-
-drifts_silent : (i : ℕ) (xs : List Drift) → spoken_in (drift_events i xs) ≡ []
-drifts_silent i [] = refl
-drifts_silent i (Binds ∷ xs) = drifts_silent i xs
-drifts_silent i (Counts ∷ xs) = drifts_silent i xs
-drifts_silent i (Ends ∷ xs) = drifts_silent i xs
 
 never : (a b : Bool) → b ≡ false → (a && b) ≡ false
 never true b is = is

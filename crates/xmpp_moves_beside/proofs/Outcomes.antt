@@ -45,7 +45,7 @@ use Rattle.xmpp_takes.specs.Taken.{Taken}
 use Rattle.xmpp_trees.specs.Trees.{Elem}
 use Rattle.xmpp_writer.specs.Items.{ItemOut}
 
-only_nothing : (n k : ℕ) → only_at n k [] ≡ []
+pub only_nothing : (n k : ℕ) → only_at n k [] ≡ []
 only_nothing n k = go (n == k)
   where
     none : List Down

@@ -1,5 +1,5 @@
 -- What goes to one session among those that a test passes: once, where it passes it.
-use Rattle.std.proofs.Common.{◌≡◌, ℕ, ◌+◌, ◌<◌, ◌==◌, ◌&&◌, Bool, false, List, [], ◌∷◌, ◌++◌, Option, Some, None, map, filter, refl, subst, ap, ◌∙◌, arith, inl, inr, if◌then◌else◌}
+use Rattle.std.proofs.Common.{◌≡◌, ℕ, ◌+◌, ◌<◌, ◌==◌, Bool, false, List, [], ◌∷◌, ◌++◌, Option, Some, None, map, filter, refl, subst, ap, ◌∙◌, arith, inl, inr, if◌then◌else◌}
 use Rattle.std.proofs.lemmas.Bool.{cases_Bool, eqb-true, ne_eqb}
 use Rattle.std.proofs.lemmas.List.{append-nil}
 use Rattle.std.proofs.lemmas.Option.{none-some, same_Some}
@@ -70,18 +70,6 @@ module _ {A : Type 0} (p : Session A → Bool) where
           | inr failed ↦ rw (failed, other) rest
         ]
   ]
-
--- two tests one after the other are one
-pub filtered_twice : {A : Type 0} (p q : A → Bool) (xs : List A) → filter p (filter q xs) ≡ filter (λ x. q x && p x) xs
-filtered_twice p q [] = refl
-filtered_twice p q (x ∷ xs) = elim (cases_Bool (q x)) [
-  | inl first ↦
-      elim (cases_Bool (p x)) [
-        | inl also ↦ rw (first, also) (ap (λ t. x ∷ t) (filtered_twice p q xs))
-        | inr but ↦ rw (first, but) (filtered_twice p q xs)
-      ]
-  | inr out ↦ rw out (filtered_twice p q xs)
-]
 
 -- a session that is found has the number
 pub number_found : {A : Type 0} (n : ℕ) (s : Session A) (ss : List (Session A)) → session_of n ss ≡ Some s → s.shown.number ≡ n

@@ -5,8 +5,8 @@ use Rattle.xmpp_client_rows.specs.Clients.{Turn}
 use Rattle.xmpp_moves_beside.proofs.Alone.{heard_so, hears_alone, moved_so}
 use Rattle.xmpp_links_follow.proofs.ConnectionsElsewhere.{down_leaves}
 use Rattle.xmpp_links_follow.proofs.Lifts.{hear_lifts}
-use Rattle.xmpp_links_follow.proofs.Numbered.{set_here}
 use Rattle.xmpp_links_follow.specs.Following.{IsNextItem, WorldFollows}
+use Rattle.xmpp_item_images.proofs.UserMoves.{get_set_same}
 use Rattle.xmpp_item_images.specs.Mild.{ClientFits, DownFits, HallFits, UpFits}
 use Rattle.xmpp_item_images.specs.Devices.{identity_at}
 use Rattle.xmpp_device_views.specs.Identities.{Identity}
@@ -59,7 +59,7 @@ module _ (schedule : WireView) (b : Bounds) (says : ℕ) (w : ItemWorld) (x : Wo
         follows =
             subst (WorldFollows who old.logins after old.view) calm.notes
             (subst (λ v. WorldFollows who old.logins v old.view (noted t.out.notes)) is (hear_lifts who old.logins w old.view old.shows place d wire z n read));
-        user = λ e at. subst (λ (y : ItemDevice). SameUser d.client y.client) (same_Some (device_behind t d) e (sym (set_here w.devices i d (device_behind t d) old.shows.there) ∙ at)) calm.user;
+        user = λ e at. subst (λ (y : ItemDevice). SameUser d.client y.client) (same_Some (device_behind t d) e (sym (get_set_same w.devices i d (device_behind t d) old.shows.there) ∙ at)) calm.user;
         others = λ j p q other.
             subst (λ v. Shows (identity_at schedule j p) (runs.devices j p q).logins v (runs.devices j p q).view) is
             (down_leaves (identity_at schedule j p) (runs.devices j p q).logins w (runs.devices j p q).view (runs.devices j p q).shows place wire n.there (λ same. other (sym same)));

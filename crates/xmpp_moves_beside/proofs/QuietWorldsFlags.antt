@@ -1,5 +1,5 @@
 -- The flags of a device's session behind a move without a deed.
-use Rattle.std.proofs.Common.{◌≡◌, ◌≢◌, ℕ, ◌+◌, ◌&&◌, Bool, true, false, List, [], ◌∷◌, Option, None, Some, pos, refl, sym, ap, subst, ◌∙◌, ◌⊎◌, inl, inr}
+use Rattle.std.proofs.Common.{◌≡◌, ℕ, ◌&&◌, true, false, List, [], ◌∷◌, Option, None, Some, pos, refl, sym, ap, subst, ◌∙◌, inl, inr}
 use Rattle.std.proofs.lemmas.Bool.{cases_Bool, false≢true}
 use Rattle.std.proofs.lemmas.Option.{none-some, same_Some}
 use Rattle.xmpp_desk.specs.State.{Hall}
@@ -10,10 +10,10 @@ use Rattle.xmpp_links.specs.Links.{LinkKept}
 use Rattle.xmpp_links.specs.Views.{Row, View}
 use Rattle.xmpp_links_events.specs.Lists.{IsDevice, IsRow, Stanzas, stage_of}
 use Rattle.xmpp_live.specs.Sessions.{Session, session_named}
-use Rattle.xmpp_moves_beside.specs.Quiet.{AreFlagsKept, DoFlagsGo, IsFresh}
+use Rattle.xmpp_moves_beside.specs.Quiet.{AreFlagsKept, DoFlagsGo}
 use Rattle.xmpp_device_deeds.specs.Deeds.{Binds, Counts, Drift, Drifts, Ends}
 use Rattle.xmpp_session_views.specs.Served.{FlagsShow}
-use Rattle.xmpp_sessions.specs.Devices.{Counted, Known, Named, NoRow, Present, Row as DeviceRow, Sessions, Unread}
+use Rattle.xmpp_sessions.specs.Devices.{Named, NoRow, Present, Row as DeviceRow, Sessions, Unread}
 use Rattle.xmpp_sessions.specs.Events.{binds, counts, end_row, is_present}
 use Rattle.xmpp_moves_beside.proofs.Following.{bound_absent, drifts_show}
 use Rattle.xmpp_moves_beside.specs.WordsRunWords.{binds_amid}
@@ -29,16 +29,16 @@ bare_drifts (Binds ∷ xs) d last drifts bare = bare_drifts xs (binds d) last dr
 bare_drifts (Counts ∷ xs) d last drifts bare = bare_drifts xs (counts d) last drifts.1 (λ named. absurd (let no_way : ⊥ = cc in no_way))
 bare_drifts (Ends ∷ xs) d last drifts bare = bare_drifts xs (end_row d) last drifts.1 bare
 
-no_row : (v : View ItemOut) (d : Sessions) (live : Option ℕ) → IsRow (seen v) d.row live → d.row ≡ NoRow → live ≡ None
+pub no_row : (v : View ItemOut) (d : Sessions) (live : Option ℕ) → IsRow (seen v) d.row live → d.row ≡ NoRow → live ≡ None
 no_row v d None is none = refl
 no_row v d (Some p) (t, at, inl (unread, row)) none = absurd (let bad : Unread ≡ NoRow = sym row ∙ none in let no_way : ⊥ = cc in no_way)
 no_row v d (Some p) (t, at, inr (present, row)) none = absurd (let bad : Present ≡ NoRow = sym row ∙ none in let no_way : ⊥ = cc in no_way)
 
-none_live : (o : Option (Row ItemOut)) → row_number o ≡ None → o ≡ None
+pub none_live : (o : Option (Row ItemOut)) → row_number o ≡ None → o ≡ None
 none_live None is = refl
 none_live (Some r) is = absurd (none-some r.number (sym is))
 
-none_shown : (o : Option (Session ItemOut)) → IsRowShown None o → o ≡ None
+pub none_shown : (o : Option (Session ItemOut)) → IsRowShown None o → o ≡ None
 none_shown None shown = refl
 none_shown (Some s) shown = absurd shown
 

@@ -1,20 +1,21 @@
 -- A stanza by which no message is taken, amid drifts, is an event of the world of the applications.
 use Rattle.std.proofs.Common.{◌≡◌, ◌≢◌, ℕ, zero, suc, ◌<◌, ◌==◌, Bool, true, false, List, [], ◌∷◌, ◌++◌, Some, length, take, refl, sym, ap, ap₂, subst, ◌∙◌, arith, inl, inr, if◌then◌else◌}
+use Rattle.std.proofs.Math.Seq.{take-append_seam}
 use Rattle.std.proofs.lemmas.Bool.{cases_Bool, eq-eqb, eqb-true, false≢true, lt-ltb, ltb-true}
 use Rattle.std.proofs.lemmas.List.{length-append, take_all}
 use Rattle.std.proofs.lemmas.Option.{same_Some}
 use Rattle.std.specs.List.{slice_get, slice_set}
 use Rattle.std.specs.Prelude.{nat_lt}
 use Rattle.xmpp_links_events.specs.Lists.{IsCounting}
-use Rattle.xmpp_device_deeds.proofs.AllDrifts.{all_drift, reaches_both, spoken_both}
+use Rattle.xmpp_device_deeds.proofs.AllDrifts.{all_drift, drifts_silent, reaches_both, spoken_both}
 use Rattle.xmpp_device_deeds.proofs.Sorted.{enable_at, enable_may, with_sessions}
 use Rattle.xmpp_device_deeds.proofs.Worlds.{acted_alone, drifts_reach, set_here}
 use Rattle.xmpp_device_deeds.specs.Deeds.{AllDrift, Binds, Counts, Drift, Drifts, Ends, IsDrifted, IsTakenAtOnce, drift_events, drifted, with_device}
+use Rattle.xmpp_links_follow.proofs.Numbered.{set_elsewhere}
 use Rattle.xmpp_sessions.specs.Devices.{Device, Sessions, World, epoch_of}
 use Rattle.xmpp_sessions.specs.Devices.Row.{NoRow, Present}
 use Rattle.xmpp_sessions.specs.Devices.Stage.{Named}
 use Rattle.xmpp_sessions.specs.Events.{Act, At, Reaches, around, end_row, flagged, give, made_served, moved_up, own, put_down, reading_served, reply, served, taken_by, taking, ServerHandles}
-use Rattle.xmpp_sessions.specs.Histories.{spoken_in}
 use Rattle.xmpp_sessions.specs.Stanzas.{Down, Up}
 use Rattle.xmpp_sessions.specs.Stanzas.Up.{Carbons, Message, Presence, Query}
 use Rattle.xmpp_moves_beside.specs.Handled.{AreHandled, IsRepliedTo, served_as}
@@ -41,30 +42,12 @@ epoch_stays (Binds ∷ xs) d last by = epoch_stays xs (drifted Binds d) last by.
 epoch_stays (Counts ∷ xs) d last by = epoch_stays xs (drifted Counts d) last by.1
 epoch_stays (Ends ∷ xs) d last by = epoch_stays xs (drifted Ends d) last by.1
 
-drifts_silent : (i : ℕ) (xs : List Drift) → spoken_in (drift_events i xs) ≡ []
-drifts_silent i [] = refl
-drifts_silent i (Binds ∷ xs) = drifts_silent i xs
-drifts_silent i (Counts ∷ xs) = drifts_silent i xs
-drifts_silent i (Ends ∷ xs) = drifts_silent i xs
-
 -- ---- lists
 
-set_other : {T : Type 0} (l : List T) (i j : ℕ) (x : T) → j ≢ i → slice_get (slice_set l i x) j ≡ slice_get l j
-set_other [] i j x apart = refl
-set_other (y ∷ l) zero zero x apart = absurd (apart refl)
-set_other (y ∷ l) zero (suc j) x apart = refl
-set_other (y ∷ l) (suc i) zero x apart = refl
-set_other (y ∷ l) (suc i) (suc j) x apart = set_other l i j x (λ same. apart (ap suc same))
-
-set_long : {T : Type 0} (l : List T) (i : ℕ) (x : T) → length (slice_set l i x) ≡ length l
+pub set_long : {T : Type 0} (l : List T) (i : ℕ) (x : T) → length (slice_set l i x) ≡ length l
 set_long [] i x = refl
 set_long (y ∷ l) zero x = refl
 set_long (y ∷ l) (suc i) x = ap suc (set_long l i x)
-
-front_of : {T : Type 0} (xs ys : List T) → take (length xs) (xs ++ ys) ≡ xs
-front_of [] [] = refl
-front_of [] (y ∷ ys) = refl
-front_of (x ∷ xs) ys = ap (λ l. x ∷ l) (front_of xs ys)
 
 -- ---- what is given
 
@@ -84,7 +67,7 @@ give_some : (given : List Down) (missing : Down) (more : List Down) (s : Session
 give_some given missing more s =
     let long = length-append given (missing ∷ more) in
     let few : nat_lt (length given) (length (given ++ missing ∷ more)) ≡ true = lt-ltb (length given) (length (given ++ missing ∷ more)) (omega (arith, long)) in
-    λ k. let t : Sessions = record (put_down (front_of given (missing ∷ more) k) s) { row = if few k then NoRow else s.row } in t
+    λ k. let t : Sessions = record (put_down (take-append_seam given (missing ∷ more) k) s) { row = if few k then NoRow else s.row } in t
 
 taking_first : (accounts : List (List ℕ)) (moment i : ℕ) (account : List ℕ) (z : Up) (rest : List Up) → taking accounts moment i account (z ∷ rest) ≡ taking accounts moment i account (z ∷ [])
 taking_first accounts moment i account Carbons rest = refl
@@ -211,7 +194,7 @@ module _ (Is : ℕ → Device → Sessions → Type 0) (x : World) (i : ℕ) (d 
             let it = before.each j e at in (
               it.0,
               it.1.other apart,
-              set_other next_world.devices i j (own_with (flagged z last)) apart ∙ set_other before.devices i j (own_with handled) apart ∙ it.2,
+              set_elsewhere next_world.devices i j (own_with (flagged z last)) apart ∙ set_elsewhere before.devices i j (own_with handled) apart ∙ it.2,
             );
         many = set_long next_world.devices i (own_with (flagged z last)) ∙ set_long before.devices i (own_with handled) ∙ before.many;
       }

@@ -1,17 +1,10 @@
 -- Which session a step sends to.
-use Rattle.std.proofs.Common.{◌≡◌, ◌≢◌, ℕ, true, false, List, [], ◌∷◌, ◌++◌, refl, ap, if◌then◌else◌}
-use Rattle.std.proofs.lemmas.Bool.{eq-eqb, ne_eqb}
-use Rattle.std.specs.Prelude.{nat_eq}
+use Rattle.std.proofs.Common.{◌≡◌, ◌≢◌, ℕ, List, [], ◌∷◌, ◌++◌, ap, if◌then◌else◌}
 use Rattle.xmpp_desk.specs.Steps.{Act, Send}
+use Rattle.xmpp_links.proofs.Entries.{other_number, same_number}
 use Rattle.xmpp_moves_beside.specs.Sent.{sends_to}
 use Rattle.xmpp_writer.specs.Items.{Closing, ItemOut, Opening, Whole}
 use Rattle.xmpp_trees.specs.Trees.{Elem, element, no_nodes}
-
-pub same_number : (n : ℕ) → nat_eq n n ≡ true
-same_number n = eq-eqb n n refl
-
-pub other_number : (m n : ℕ) → m ≢ n → nat_eq m n ≡ false
-other_number m n differ = ne_eqb m n differ
 
 -- what goes to this session comes first, and what goes to another one doesn't
 pub sends_here : (n : ℕ) (z : ItemOut) (acts : List (Act ItemOut)) → sends_to n (Send n z ∷ acts) ≡ z ∷ sends_to n acts

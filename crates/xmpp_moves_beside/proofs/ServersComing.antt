@@ -43,7 +43,7 @@ use Rattle.xmpp_links_follow.specs.Given.{IsGiven, IsOfSession, sends_to}
 use Rattle.xmpp_moves_beside.specs.Beside.{IsBeside}
 use Rattle.xmpp_moves_beside.proofs.Goes.{apart_of, device_of}
 use Rattle.xmpp_trees.specs.Trees.{Elem}
-use Rattle.xmpp_links_follow.proofs.Found.{found_is, numbered_here}
+use Rattle.xmpp_item_images.proofs.RuleKept.{found_is, numbered_here}
 use Rattle.xmpp_moves_beside.proofs.Stepped.{stanza_step}
 use Rattle.xmpp_moves_beside.specs.WordsRunWords.{IsDeviceOf}
 use Rattle.xmpp_world.proofs.Declares.{are_accounts}

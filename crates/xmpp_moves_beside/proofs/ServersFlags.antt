@@ -10,6 +10,7 @@ use Rattle.xmpp_links.specs.Links.{LinkKept}
 use Rattle.xmpp_links.specs.Views.{Row, View}
 use Rattle.xmpp_links_events.specs.Lists.{IsDevice, IsRow}
 use Rattle.xmpp_live.specs.Sessions.{Session, session_named}
+use Rattle.xmpp_moves_beside.proofs.QuietWorldsFlags.{no_row, none_live, none_shown}
 use Rattle.xmpp_moves_beside.specs.Quiet.{AreFlagsKept}
 use Rattle.xmpp_moves_beside.proofs.Amid.{IsBehind}
 use Rattle.xmpp_session_views.specs.Served.{FlagsShow}
@@ -18,19 +19,6 @@ use Rattle.xmpp_sessions.specs.Events.{is_present}
 use Rattle.xmpp_writer.specs.Items.{ItemOut}
 
 -- ---- where the applications have no session, the server has none
-
-no_row : (v : View ItemOut) (d : Sessions) (live : Option ℕ) → IsRow (seen v) d.row live → d.row ≡ NoRow → live ≡ None
-no_row v d None is none = refl
-no_row v d (Some p) (t, at, inl (unread, row)) none = absurd (let bad : Unread ≡ NoRow = sym row ∙ none in let no_way : ⊥ = cc in no_way)
-no_row v d (Some p) (t, at, inr (present, row)) none = absurd (let bad : Present ≡ NoRow = sym row ∙ none in let no_way : ⊥ = cc in no_way)
-
-none_live : (o : Option (Row ItemOut)) → row_number o ≡ None → o ≡ None
-none_live None is = refl
-none_live (Some r) is = absurd (none-some r.number (sym is))
-
-none_shown : (o : Option (Session ItemOut)) → IsRowShown None o → o ≡ None
-none_shown None shown = refl
-none_shown (Some s) shown = absurd shown
 
 nobody : (who : Identity) (logins : ℕ → Login) (h : Hall ItemOut) (v : View ItemOut) (d : Sessions) → ServerShows who logins h v → IsDevice stanzas_read (seen v) d → d.row ≡ NoRow → session_named who.account who.resource h.sessions ≡ None
 nobody who logins h v d shows is none =

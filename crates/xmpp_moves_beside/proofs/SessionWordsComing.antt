@@ -4,10 +4,11 @@ use Rattle.std.proofs.lemmas.Option.{same_Some}
 use Rattle.std.specs.List.{AllByRecursion}
 use Rattle.xmpp_archive.specs.Entries.{EntryView}
 use Rattle.xmpp_client_rows.specs.Clients.{Turn}
-use Rattle.xmpp_moves_beside.proofs.Alone.{heard_so, hears_alone, moved_so, set_beside}
+use Rattle.xmpp_moves_beside.proofs.Alone.{heard_so, hears_alone, moved_so}
 use Rattle.xmpp_moves_beside.specs.Ground.{IsGround}
 use Rattle.xmpp_links_follow.proofs.ConnectionsElsewhere.{down_leaves}
 use Rattle.xmpp_links_follow.proofs.Lifts.{hear_lifts}
+use Rattle.xmpp_links_follow.proofs.Numbered.{set_elsewhere}
 use Rattle.xmpp_links_follow.proofs.Stays.{reached_along}
 use Rattle.xmpp_links_follow.specs.Following.{IsNextItem, WorldFollows}
 use Rattle.xmpp_item_images.specs.Mild.{ClientFits, DownFits, HallFits, UpFits}
@@ -228,7 +229,7 @@ module _ (schedule : WireView) (b : Bounds) (says : ℕ) (w : ItemWorld) (x : Wo
         → (f.reading.asked ≡ e.reading.asked) × (IsUnanswered e → IsUnanswered f)
     elsewhere j e f at behind_at u there apart =
         let mine : i ≢ j = λ same. apart (ap (λ (y : ItemWire). y.device) (same_Some u c.wire (sym there ∙ c.item.there)) ∙ same) in
-        let is : e ≡ f = same_Some e f (sym at ∙ sym (set_beside x.devices i j next (λ same. mine (sym same))) ∙ behind_at) in
+        let is : e ≡ f = same_Some e f (sym at ∙ sym (set_elsewhere x.devices i j next (λ same. mine (sym same))) ∙ behind_at) in
         subst (λ y. (y.reading.asked ≡ e.reading.asked) × (IsUnanswered e → IsUnanswered y)) is (refl, λ u. u)
 
     pub heard_runs : MoveRuns schedule b says (Down c.place) w x

@@ -34,7 +34,7 @@ use Rattle.xmpp_sessions.specs.Stanzas.{Message, Query, Request, Submission, Up,
 use Rattle.xmpp_sessions_laws.specs.Pages.{IsGiven}
 use Rattle.xmpp_sessions_laws.specs.Runs.{owned_of}
 use Rattle.xmpp_links_follow.specs.Given.{sends_to}
-use Rattle.xmpp_links_follow.proofs.Found.{found_is}
+use Rattle.xmpp_item_images.proofs.RuleKept.{found_is}
 use Rattle.xmpp_world.proofs.Declares.{some_kept}
 use Rattle.xmpp_moves_beside.specs.Running.{history_for, keep_in, names_of}
 use Rattle.xmpp_writer.specs.Items.{ItemOut}

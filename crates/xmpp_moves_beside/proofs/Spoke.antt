@@ -2,9 +2,9 @@
 use Rattle.std.proofs.Common.{◌≡◌, ℕ, List, [], ◌∷◌, Some, slice_get, refl, sym, ap, subst, ◌∙◌}
 use Rattle.std.proofs.lemmas.Option.{same_Some}
 use Rattle.xmpp_client_rows.specs.Clients.{Turn}
-use Rattle.xmpp_links_follow.proofs.Numbered.{length_changed, set_here}
 use Rattle.xmpp_links_follow.proofs.Stays.{reached_along}
 use Rattle.xmpp_links_follow.specs.Following.{WorldFollows}
+use Rattle.xmpp_item_images.proofs.UserMoves.{get_set_same, length_where}
 use Rattle.xmpp_item_images.specs.Devices.{identity_at}
 use Rattle.xmpp_device_views.specs.Deeds.{Says, awaits, deeds_of}
 use Rattle.xmpp_device_views.specs.Identities.{Identity}
@@ -76,10 +76,10 @@ module _ (schedule : WireView) (b : Bounds) (says : ℕ) (w : ItemWorld) (x : Wo
     pub one_device : IsOneDevice i w (moved m w)
     one_device =
         subst (IsOneDevice i w) (sym is)
-        (one_called i w behind (changed_where c.here (put_up t.out.put) w.wires) (length_changed c.here (put_up t.out.put) w.wires) (where_same (put_up t.out.put) (λ v. refl) c.here w.wires))
+        (one_called i w behind (changed_where c.here (put_up t.out.put) w.wires) (length_where c.here (put_up t.out.put) w.wires) (where_same (put_up t.out.put) (λ v. refl) c.here w.wires))
 
     there : slice_get (moved m w).devices i ≡ Some behind
-    there = ap (λ (n : ItemWorld). slice_get n.devices i) is ∙ set_here w.devices i c behind r.shows.there
+    there = ap (λ (n : ItemWorld). slice_get n.devices i) is ∙ get_set_same w.devices i c behind r.shows.there
 
     pub reached : LinkReached r.view
     reached = prompt_runs awaits r.view r.prompt

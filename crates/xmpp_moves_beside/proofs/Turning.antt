@@ -1,8 +1,8 @@
 -- A device's client does one act of the applications, behind drifts, and each other device is shown as it was.
-use Rattle.std.proofs.Common.{◌≡◌, ◌≢◌, ℕ, ◌+◌, ◌≤◌, ◌==◌, Bool, true, false, List, [], ◌∷◌, ◌++◌, Some, length, slice_get, refl, sym, ap, subst, ◌∙◌}
-use Rattle.std.proofs.lemmas.Bool.Decides.{Decides-eqb}
+use Rattle.std.proofs.Common.{◌≡◌, ◌≢◌, ℕ, ◌+◌, ◌≤◌, List, [], ◌∷◌, ◌++◌, Some, length, slice_get, sym, subst, ◌∙◌}
 use Rattle.std.proofs.lemmas.Option.{same_Some}
-use Rattle.xmpp_links_follow.proofs.Numbered.{set_elsewhere, set_here}
+use Rattle.xmpp_links_follow.proofs.Numbered.{set_elsewhere}
+use Rattle.xmpp_item_images.proofs.UserMoves.{get_set_same}
 use Rattle.xmpp_item_images.specs.Devices.{identity_at}
 use Rattle.xmpp_device_views.specs.Deeds.{Deed}
 use Rattle.xmpp_device_views.specs.Shows.{Shows}
@@ -13,7 +13,7 @@ use Rattle.xmpp_item_worlds.specs.ItemWorlds.{ItemWorld}
 use Rattle.xmpp_links.specs.Events.{seen}
 use Rattle.xmpp_links_events.specs.Lists.{IsDevice}
 use Rattle.xmpp_device_deeds.specs.Shown.{LogShows}
-use Rattle.xmpp_moves_beside.proofs.Acting.{act_reaches, act_spoken, acted_on}
+use Rattle.xmpp_moves_beside.proofs.Acting.{act_reaches, act_spoken, acted_on, either}
 use Rattle.xmpp_moves_beside.specs.Moves.{ActsAlone, IsOneDevice}
 use Rattle.xmpp_schedule.specs.Contents.{Owned}
 use Rattle.xmpp_schedule.specs.Schedules.{WireView}
@@ -26,14 +26,6 @@ use Rattle.xmpp_sessions.specs.Histories.{Spoken, spoken_in}
 use Rattle.xmpp_writer.specs.Items.{ItemOut}
 use Rattle.xmpp_moves_beside.specs.Going.{DeviceGoes}
 use Rattle.xmpp_moves_beside.specs.Running.{Bounds, DeviceRuns, IsAskedBy, IsOwned, MoveRuns, WorldRuns, history_for, keep_in, spoken_by_move}
-
--- what is so at one place, and at all others
-either : (P : ℕ → Type 0) (i : ℕ) → P i → ((j : ℕ) → j ≢ i → P j) → (j : ℕ) → P j
-either P i here beside j = by (j == i) refl
-  where
-    by : (b : Bool) → (j == i) ≡ b → P j
-    by true same = subst P (sym ((Decides-eqb j i).0 same)) here
-    by false other = beside j (λ e. let same : (j == i) ≡ true = (Decides-eqb j i).1 e in absurd (let no_way : ⊥ = cc in no_way))
 
 module _ (schedule : WireView) (b : Bounds) (says : ℕ) (m : ItemMove) (w : ItemWorld) (x : World) (runs : WorldRuns schedule b says w x) (i : ℕ) (o : Owned) (owned : IsOwned schedule i o) where
   abbrev pub device_at : DeviceRuns schedule w x i o
@@ -94,7 +86,7 @@ module _ (schedule : WireView) (b : Bounds) (says : ℕ) (m : ItemMove) (w : Ite
         prompt = g.prompt;
         shows = g.shows;
         device = new;
-        there = set_here x.devices i old new device_at.there;
+        there = get_set_same x.devices i old new device_at.there;
         account = t.account ∙ device_at.account;
         sessions = t.sessions;
         built = g.built;
@@ -116,7 +108,7 @@ module _ (schedule : WireView) (b : Bounds) (says : ℕ) (m : ItemMove) (w : Ite
           either (λ j. (d e : Device) → slice_get x.devices j ≡ Some d → slice_get (with_device i new x).devices j ≡ Some e → IsAskedBy m w j d e) i
           (λ d e is at.
           subst (λ (y : Device). IsAskedBy m w i y e) (same_Some old d (sym device_at.there ∙ is))
-          (subst (IsAskedBy m w i old) (same_Some new e (sym (set_here x.devices i old new device_at.there) ∙ at)) t.asked))
+          (subst (IsAskedBy m w i old) (same_Some new e (sym (get_set_same x.devices i old new device_at.there) ∙ at)) t.asked))
           (λ j other d e is at. subst (IsAskedBy m w j d) (same_Some d e (sym is ∙ sym (set_elsewhere x.devices i j new other) ∙ at)) (t.others_asked j d other));
       runs = subst (λ (l : List Spoken). WorldRuns schedule b (says + length l) (moved m w) (with_device i new x)) all_spoken (acted_on schedule b says w x runs i o (moved m w) new acts);
     }

@@ -1,7 +1,6 @@
 -- Connections are changed, and stay their devices'.
-use Rattle.std.proofs.Common.{◌≡◌, ℕ, zero, suc, List, [], ◌∷◌, Option, Some, None, length, slice_get, refl, sym, ap, ◌∙◌}
+use Rattle.std.proofs.Common.{◌≡◌, ℕ, zero, suc, List, [], ◌∷◌, Option, Some, None, slice_get, refl, sym, ap, ◌∙◌}
 use Rattle.std.proofs.lemmas.Option.{none-some, same_Some}
-use Rattle.xmpp_links_follow.proofs.Numbered.{length_changed}
 use Rattle.xmpp_desk.specs.State.{Out, Put, Shut, Took}
 use Rattle.xmpp_item_worlds.specs.ItemMoves.{all_emitted, emitted}
 use Rattle.xmpp_item_worlds.specs.ItemPipes.{ItemWire, put_down, shut}
@@ -37,9 +36,3 @@ emitted_same (Put k z ∷ outs) l =
     same_twice l (emitted (Put k z) l) (all_emitted outs (emitted (Put k z) l)) (where_same (put_down (z ∷ [])) (λ v. refl) (place_under k) l) (emitted_same outs (emitted (Put k z) l))
 emitted_same (Shut k ∷ outs) l = same_twice l (emitted (Shut k) l) (all_emitted outs (emitted (Shut k) l)) (where_same shut (λ v. refl) (place_under k) l) (emitted_same outs (emitted (Shut k) l))
 emitted_same (Took from to origin ∷ outs) l = emitted_same outs l
-
-pub emitted_long : (outs : List (Out ItemOut)) (l : List ItemWire) → length (all_emitted outs l) ≡ length l
-emitted_long [] l = refl
-emitted_long (Put k z ∷ outs) l = emitted_long outs (emitted (Put k z) l) ∙ length_changed (place_under k) (put_down (z ∷ [])) l
-emitted_long (Shut k ∷ outs) l = emitted_long outs (emitted (Shut k) l) ∙ length_changed (place_under k) shut l
-emitted_long (Took from to origin ∷ outs) l = emitted_long outs l

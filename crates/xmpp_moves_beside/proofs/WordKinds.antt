@@ -17,6 +17,7 @@ use Rattle.xmpp_links.specs.Words.{Ack, Auth, Bind, Enable, Foot, Hdr, Req, Resp
 use Rattle.xmpp_links_follow.proofs.HandMoves.{kept_here}
 use Rattle.xmpp_links_follow.proofs.Sessions.{live, seat}
 use Rattle.xmpp_links_follow.specs.Taking.{HasFirst, IsFirst}
+use Rattle.xmpp_moves_beside.proofs.WordsRunWords.{split_word}
 use Rattle.xmpp_moves_beside.specs.Coming.{IsMute}
 use Rattle.xmpp_links_follow.proofs.StanzaRows.{stanza_comes}
 use Rattle.xmpp_moves_beside.proofs.Fresh.{none_here}
@@ -24,19 +25,6 @@ use Rattle.xmpp_moves_beside.proofs.Muted.{word_mute}
 use Rattle.xmpp_moves_beside.specs.WordsRunWords.{IsSilent, IsUnbinding}
 use Rattle.xmpp_links_follow.specs.Steps.{UpDoes}
 use Rattle.xmpp_writer.specs.Items.{ItemOut, Whole}
-
--- it binds, or not
-pub by_kind : (P : UpWord ItemOut → Type 0) → P Bind → ((word : UpWord ItemOut) → IsUnbinding word → P word) → (word : UpWord ItemOut) → IsSilent word → P word
-by_kind P bind other Hdr is = other Hdr tt
-by_kind P bind other Auth is = other Auth tt
-by_kind P bind other Resp is = other Resp tt
-by_kind P bind other (ResumeAt p h) is = other (ResumeAt p h) tt
-by_kind P bind other Bind is = bind
-by_kind P bind other Enable is = other Enable tt
-by_kind P bind other (UpTraffic (St z)) is = absurd is
-by_kind P bind other (UpTraffic Req) is = other (UpTraffic Req) tt
-by_kind P bind other (UpTraffic (Ack n)) is = other (UpTraffic (Ack n)) tt
-by_kind P bind other Foot is = other Foot tt
 
 -- what it does is no deed
 pub silent_does : (who whom : Identity) (logins : ℕ → Login) (w after : ItemWorld) (v : View ItemOut) (first : ItemOut → List (Deed ItemOut)) (word : UpWord ItemOut) → IsSilent word → UpDoes who whom logins w after v first word
@@ -69,7 +57,7 @@ module _ (h : Hall ItemOut) (wires : Table ItemWire) (k : ℕ) (who whom : Ident
   module _ (wire : ItemWire) (i : ItemOut) (a : HasFirst who logins h wires v k wire i) (silent : IsSilent a.word) where
     no_stanza : (z : ItemOut) → z ≡ i → IsFirst whom others h wires u k (UpTraffic (St z)) → ⊥
     no_stanza z is p =
-        by_kind (λ word. up_item who (logins k) word ≡ i → IsFirst who logins h wires v k word → ⊥) (λ same bind. no_bind z p bind)
+        split_word (λ word. up_item who (logins k) word ≡ i → IsFirst who logins h wires v k word → ⊥) (λ same bind. no_bind z p bind)
         (λ word un same first. no_mute who (logins k) word un z (stanza_comes whom others h wires u k z p).stanza (same ∙ sym is)) a.word silent a.is a.first
 
     by_word : (word : UpWord ItemOut) → up_item whom (others k) word ≡ i → IsFirst whom others h wires u k word → IsSilent word

@@ -18,7 +18,7 @@ use Rattle.xmpp_moves_beside.specs.WordsRunWords.{IsDeviceOf, IsSilent, IsUnbind
 use Rattle.xmpp_writer.specs.Items.{ItemOut}
 
 -- it binds, or not
-split_word : (P : UpWord ItemOut → Type 0) → P Bind → ((word : UpWord ItemOut) → IsUnbinding word → P word) → (word : UpWord ItemOut) → IsSilent word → P word
+pub split_word : (P : UpWord ItemOut → Type 0) → P Bind → ((word : UpWord ItemOut) → IsUnbinding word → P word) → (word : UpWord ItemOut) → IsSilent word → P word
 split_word P bind other Hdr is = other Hdr tt
 split_word P bind other Auth is = other Auth tt
 split_word P bind other Resp is = other Resp tt

@@ -4,7 +4,8 @@ use Rattle.std.proofs.lemmas.Bool.{cases_eq}
 use Rattle.std.proofs.lemmas.Option.{same_Some, slice_get_within}
 use Rattle.std.specs.List.{slice_get}
 use Rattle.xmpp_archive.proofs.NumberedEntries.{at_place}
-use Rattle.xmpp_links_follow.proofs.Numbered.{length_changed}
+use Rattle.xmpp_item_images.proofs.UpMoves.{length_items_emitted}
+use Rattle.xmpp_item_images.proofs.UserMoves.{length_where}
 use Rattle.xmpp_item_images.specs.Mild.{ClientFits, DownFits, HallFits, UpFits}
 use Rattle.xmpp_device_views.specs.Deeds.{awaits}
 use Rattle.xmpp_item_images.specs.Stands.{HallStands}
@@ -27,7 +28,7 @@ use Rattle.xmpp_sessions.specs.Histories.{spoken_in}
 use Rattle.xmpp_sessions_laws.specs.Runs.{begins, owned_of}
 use Rattle.xmpp_moves_beside.specs.Handled.{AreHandled}
 use Rattle.xmpp_takes.proofs.PieceTakes.{item_takes}
-use Rattle.xmpp_moves_beside.proofs.Wires.{at_same, emitted_long, emitted_same, same_twice}
+use Rattle.xmpp_moves_beside.proofs.Wires.{at_same, emitted_same, same_twice}
 use Rattle.xmpp_wires.specs.Places.{changed_at}
 use Rattle.xmpp_links_follow.proofs.Headers.{item_may_go_up}
 use Rattle.xmpp_links_follow.proofs.StandMoves.{move_stands}
@@ -100,7 +101,7 @@ module _ (c : Coming) (takes : List Take) (n : IsHandled c takes) where
   -- ---- the server
 
   many_wires : length (after c).wires ≡ length c.w.wires
-  many_wires = emitted_long (step c).outs (changed_at c.place handed_up c.w.wires) ∙ length_changed (Some c.place) handed_up c.w.wires
+  many_wires = length_items_emitted (step c).outs (changed_at c.place handed_up c.w.wires) ∙ length_where (Some c.place) handed_up c.w.wires
 
   wires_are : (q : ℕ) (other : ItemWire) → slice_get (after c).wires q ≡ Some other → (p : Owned) × IsOwned c.schedule other.device p
   wires_are q other at =

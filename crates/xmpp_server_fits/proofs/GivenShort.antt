@@ -42,6 +42,7 @@ use Rattle.xmpp_tokens.specs.Tags.{AreAttributes, IsAttribute}
 use Rattle.xmpp_tokens.specs.ValueGrammar as values
 use Rattle.xmpp_tokens.specs.ValueGrammar.{SpellsValue, space_of, spaces}
 use Rattle.xmpp_tokens.specs.declared.references.Reference.TheVariants.{Character, Malformed, Unknown}
+use Rattle.xmpp_trees.proofs.TidyReads.{text_of-text_node}
 use Rattle.xmpp_trees.specs.Attributes.{Attribute, found, has_name}
 use Rattle.xmpp_trees.specs.Readers.{text_of}
 use Rattle.xmpp_trees.specs.Tidied.{text_node}
@@ -204,14 +205,6 @@ start_short scope bytes raw t start ns name v is =
 
 -- ---- elements
 
-said_text : (says : List ℕ) → text_of (text_node says) ≡ says
-said_text [] = refl
-said_text (c ∷ cs) = append_nil (c ∷ cs)
-  where
-    append_nil : (xs : List ℕ) → xs ++ [] ≡ xs
-    append_nil [] = refl
-    append_nil (x ∷ xs) = ap (λ l. x ∷ l) (append_nil xs)
-
 text_before : (says : List ℕ) (e : Elem) (more : Nodes) → text_of (joined (text_node says) (child e more)) ≡ says ++ text_of more
 text_before [] e more = refl
 text_before (c ∷ cs) e more = refl
@@ -219,7 +212,7 @@ text_before (c ∷ cs) e more = refl
 content_short : (scope : Scope) (bytes : List ℕ) (kids : Nodes) → SpellsContent scope bytes kids → length (text_of kids) ≤ length bytes
 content_short scope bytes kids (text_alone _ _ _ says is_text kids_are) =
     let one = text_shorter bytes says is_text.spelled in
-    omega (arith, one, ap (λ ks. length (text_of ks)) kids_are, ap length (said_text says))
+    omega (arith, one, ap (λ ks. length (text_of ks)) kids_are, ap length (text_of-text_node says))
 content_short scope bytes kids (with_element _ _ _ front says middle rest e more is_text spelled content bytes_are kids_are) =
     let one = text_shorter front says is_text.spelled in
     let ih = content_short scope rest more content in

@@ -22,7 +22,6 @@ use Rattle.xmpp_login.specs.declared.sasl_condition.SaslCondition.{SaslCondition
 use Rattle.xmpp_login.specs.declared.sasl_condition.SaslCondition.TheVariants as condition
 use Rattle.xmpp_framing_laws.specs.Plain.{IsPlain}
 use Rattle.xmpp_hashes.specs.Hashes.{hmac_of, verifier_of}
-use Rattle.xmpp_payload.specs.Readings.{where_this}
 use Rattle.xmpp_payload.specs.declared.fault.ExtFault.{ExtFault}
 use Rattle.xmpp_put_fits.proofs.Forwarding.{text_characters}
 use Rattle.xmpp_put_fits.proofs.Logins.{base64_printable, base64_short, carrier_read, failure_read, is_byte, printable_bytes}
@@ -40,7 +39,7 @@ use Rattle.xmpp_scram.specs.Grammar.{IsClientFirst, is_nonce}
 use Rattle.xmpp_scram.specs.Messages.{ClientFinalView, client_final_of, client_first_of}
 use Rattle.xmpp_scram.specs.declared.client_first.ClientFirst.{ClientFirst}
 use Rattle.xmpp_scram.specs.declared.fault.ScramFault.{ScramFault}
-use Rattle.xmpp_server_fits.proofs.Readings.{plain_inside}
+use Rattle.xmpp_server_fits.proofs.Readings.{plain_inside, this_is}
 use Rattle.xmpp_server_fits.proofs.StepsKept.{whole_read}
 use Rattle.xmpp_server_fits.specs.Keeps.{AccountKeeps, IsDrawn, IsRead, IsShort}
 use Rattle.xmpp_sizes.proofs.Characters.{printable_append}
@@ -126,8 +125,8 @@ take_shorter (suc n) (x ∷ xs) = let ih = take_shorter n xs in omega (arith, ih
 taken_short : (entropy : List ℕ) → length entropy ≤ 1000 → length (take 18 entropy) ≤ 1000
 taken_short entropy h = let less = take_shorter 18 entropy in omega (arith, h, less)
 
-nonce_within : (bytes : List ℕ) (first : ClientFirst) (found : IsClientFirst (Some first.flag) false first.name first.nonce first.bare bytes) → length bytes ≤ 65536 → length first.nonce ≤ 65536
-nonce_within bytes first found short =
+nonce_within : (most : ℕ) (bytes : List ℕ) (first : ClientFirst) (found : IsClientFirst (Some first.flag) false first.name first.nonce first.bare bytes) → length bytes ≤ most → length first.nonce ≤ most
+nonce_within most bytes first found short =
     let said = found.said in
     let whole = ap length found.spelled in
     let bare = ap length said.spelled in
@@ -151,7 +150,7 @@ decoded_short text (Ok bytes) b h is ok =
     subst (λ x. length x ≤ length text) same (subst (λ t. length bytes ≤ length t) (sym text_is) long)
 decoded_short text (Err why) b h is ok = absurd cc
 
-payload_short : (text b : List ℕ) → list_all is_byte text ≡ true → payload_read text ≡ Ok b → length b ≤ length text
+pub payload_short : (text b : List ℕ) → list_all is_byte text ≡ true → payload_read text ≡ Ok b → length b ≤ length text
 unfolding payload_read
 payload_short text b h is =
     elim (cases_Bool (bytes_eq text (codes "="))) [
@@ -164,17 +163,13 @@ auth_payload None r v is = absurd cc
 auth_payload (Some m) (Err f) v is = absurd cc
 auth_payload (Some m) (Ok p) v is = cc
 
-this_one : {V : Type 0} (b : Bool) (r : Result V ExtFault) (v : V) → where_this b r ≡ Ok v → r ≡ Ok v
-this_one true r v is = is
-this_one false r v is = absurd cc
-
-auth_short : (e : Elem) (v : List ℕ × List ℕ) → IsPlain e → IsShort e → auth_read e ≡ Ok v → length v.1 ≤ 65536
-auth_short e v plain short is =
+auth_short : (most : ℕ) (e : Elem) (v : List ℕ × List ℕ) → IsPlain e → (is_sasl (codes "auth") e ≡ true → length (text_of (nodes_of e)) ≤ most) → auth_read e ≡ Ok v → length v.1 ≤ most
+auth_short most e v plain short is =
     let text = text_of (nodes_of e) in
     let bytes = utf8_bytes text (text_characters (nodes_of e) (plain_inside e plain.inside)).utf8 in
-    let content = short.content in
-    let within =
-    payload_short text v.1 bytes (auth_payload (mechanism_of e) (payload_read text) v (this_one (is_sasl (codes "auth") e) (auth_with (mechanism_of e) (payload_read text)) v is)) in
+    let read = this_is (is_sasl (codes "auth") e) (auth_with (mechanism_of e) (payload_read text)) v is in
+    let content = short read.0 in
+    let within = payload_short text v.1 bytes (auth_payload (mechanism_of e) (payload_read text) v read.1) in
     omega (arith, content, within)
 
 nonce_byte : (b : ℕ) → classes.is_printable b ≡ true → is_printable b ≡ true
@@ -189,47 +184,48 @@ some_printable [] h = refl
 some_printable (b ∷ t) h = nonce_bytes (b ∷ t) h
 
 -- printable, and of so many bytes
-record IsSmall (most : ℕ) (t : List ℕ) : Type 0 where
-  printable : list_all is_printable t ≡ true
-  short : length t ≤ most
+pub record IsSmall (most : ℕ) (t : List ℕ) : Type 0 where
+  pub printable : list_all is_printable t ≡ true
+  pub short : length t ≤ most
 
 small_append : (m n : ℕ) (s t : List ℕ) → IsSmall m s → IsSmall n t → IsSmall (m + n) (s ++ t)
 small_append m n s t h k =
     let a = h.short in let b = k.short in record { printable = printable_append s t h.printable k.printable; short = omega (arith, a, b, length-append s t) }
 
-nonce_small : (bytes : List ℕ) (first : ClientFirst) → client_first_of bytes ≡ Ok first → length bytes ≤ 65536 → IsSmall 65536 first.nonce
-nonce_small bytes first is short =
+nonce_small : (most : ℕ) (bytes : List ℕ) (first : ClientFirst) → client_first_of bytes ≡ Ok first → length bytes ≤ most → IsSmall most first.nonce
+nonce_small most bytes first is short =
     let found = first_found bytes first is in
     let said = found.said in
     let printable : is_nonce first.nonce ≡ true = said.random in
-    record { printable = some_printable first.nonce printable; short = nonce_within bytes first found short }
+    record { printable = some_printable first.nonce printable; short = nonce_within most bytes first found short }
 
 -- ---- the challenge
 
-encoded_small : (m n : ℕ) (t : List ℕ) → list_all is_byte t ≡ true → length t ≤ m → 2 * m + 4 ≤ n → IsSmall n (base64_of t)
+pub encoded_small : (m n : ℕ) (t : List ℕ) → list_all is_byte t ≡ true → length t ≤ m → 2 * m + 4 ≤ n → IsSmall n (base64_of t)
 unfolding base64_of
 encoded_small m n t h short within = let long = base64_short t in record { printable = base64_printable t h; short = omega (arith, long, short, within) }
 
-first_small : (nonce salt : List ℕ) (count : ℕ) → IsSmall 68000 nonce → list_all is_byte salt ≡ true → length salt ≤ 1000 → count < 2 ^ 64 → IsSmall 100000 (server_first_message nonce salt count)
-first_small nonce salt count h bytes short small =
+first_small : (most : ℕ) (nonce salt : List ℕ) (count : ℕ) → IsSmall most nonce → list_all is_byte salt ≡ true → length salt ≤ 1000 → count < 2 ^ 64 → IsSmall (most + 2032) (server_first_message nonce salt count)
+first_small most nonce salt count h bytes short small =
     let salted = encoded_small 1000 2004 salt bytes short (omega arith) in
     let digits : IsSmall 20 (decimal count) = record { printable = decimal_printable count small; short = length-decimal-le 20 count (omega arith) (omega (arith, small)) small } in
-    let a = small_append 2 68000 (codes "r=") nonce (record { printable = refl; short = omega arith }) h in
-    let b = small_append (2 + 68000) 3 (codes "r=" ++ nonce) (codes ",s=") a (record { printable = refl; short = omega arith }) in
-    let c = small_append (2 + 68000 + 3) 2004 (codes "r=" ++ nonce ++ codes ",s=") (base64_of salt) b salted in
-    let d = small_append (2 + 68000 + 3 + 2004) 3 (codes "r=" ++ nonce ++ codes ",s=" ++ base64_of salt) (codes ",i=") c (record { printable = refl; short = omega arith }) in
-    let e = small_append (2 + 68000 + 3 + 2004 + 3) 20 (codes "r=" ++ nonce ++ codes ",s=" ++ base64_of salt ++ codes ",i=") (decimal count) d digits in
+    let a = small_append 2 most (codes "r=") nonce (record { printable = refl; short = omega arith }) h in
+    let b = small_append (2 + most) 3 (codes "r=" ++ nonce) (codes ",s=") a (record { printable = refl; short = omega arith }) in
+    let c = small_append (2 + most + 3) 2004 (codes "r=" ++ nonce ++ codes ",s=") (base64_of salt) b salted in
+    let d = small_append (2 + most + 3 + 2004) 3 (codes "r=" ++ nonce ++ codes ",s=" ++ base64_of salt) (codes ",i=") c (record { printable = refl; short = omega arith }) in
+    let e = small_append (2 + most + 3 + 2004 + 3) 20 (codes "r=" ++ nonce ++ codes ",s=" ++ base64_of salt ++ codes ",i=") (decimal count) d digits in
     let long = e.short in
     record { printable = e.printable; short = omega (arith, long) }
 
-challenge_read : (t : List ℕ) → IsSmall 100000 t → IsRead (challenge_item t)
+challenge_read : (t : List ℕ) → IsSmall 69968 t → IsRead (challenge_item t)
 challenge_read t h = let short = h.short in whole_read _ (carrier_read (codes "challenge") t (word (codes "challenge") refl) (printable_bytes t h.printable) (omega (arith, short)))
 
 -- ---- answers to the first message
 
-abbrev pub AnswerKeeps : AuthAnswer → Type 0
-AnswerKeeps (auth.Begins n) = IsRead (challenge_item n.exchange.message)
-AnswerKeeps (auth.Fails why) = Unit {0}
+-- the challenge that begins an exchange
+abbrev pub IsSmallAnswer : ℕ → AuthAnswer → Type 0
+IsSmallAnswer most (auth.Begins n) = IsSmall most n.exchange.message
+IsSmallAnswer most (auth.Fails why) = Unit {0}
 
 abbrev FoundKeeps : FoundView → Type 0
 FoundKeeps f = (list_all is_byte f.credentials.salt ≡ true) × (length f.credentials.salt ≤ 1000) × (f.credentials.iterations < 2 ^ 64)
@@ -242,34 +238,45 @@ found_keeps place name (a ∷ more) h =
       | inr other ↦ rw other (found_keeps (place + 1) name more h.1)
     ]
 
-begun_keeps : (first : ClientFirst) (tail : List ℕ) (o : Option FoundView) → IsSmall 65536 first.nonce → IsSmall 2400 tail → IfSome o FoundKeeps → AnswerKeeps (begun_by first tail o)
-begun_keeps first tail None h k o = tt
-begun_keeps first tail (Some f) h k o =
-    let whole = small_append 65536 2400 first.nonce tail h k in
-    let long = whole.short in
-    challenge_read (server_first_message (first.nonce ++ tail) f.credentials.salt f.credentials.iterations)
-    (first_small (first.nonce ++ tail) f.credentials.salt f.credentials.iterations (record { printable = whole.printable; short = omega (arith, long) }) o.0 o.1 o.2)
+begun_small : (most more : ℕ) (first : ClientFirst) (tail : List ℕ) (o : Option FoundView) → IsSmall most first.nonce → IsSmall more tail → IfSome o FoundKeeps → IsSmallAnswer (most + more + 2032) (begun_by first tail o)
+begun_small most more first tail None h k o = tt
+begun_small most more first tail (Some f) h k o = first_small (most + more) (first.nonce ++ tail) f.credentials.salt f.credentials.iterations (small_append most more first.nonce tail h k) o.0 o.1 o.2
 
-with_keeps : (tail bytes : List ℕ) (accounts : List Account) (r : Result ClientFirst ScramFault) → client_first_of bytes ≡ r → length bytes ≤ 65536 → IsSmall 2400 tail → AllByRecursion AccountKeeps accounts → AnswerKeeps (begun_with tail accounts r)
-with_keeps tail bytes accounts (Ok first) is short k h = begun_keeps first tail (account_named first.name accounts) (nonce_small bytes first is short) k (found_keeps 0 first.name accounts h)
-with_keeps tail bytes accounts (Err fault) is short k h = tt
+with_small : (most more : ℕ) (tail bytes : List ℕ) (accounts : List Account) (r : Result ClientFirst ScramFault) → client_first_of bytes ≡ r → length bytes ≤ most → IsSmall more tail → AllByRecursion AccountKeeps accounts
+    → IsSmallAnswer (most + more + 2032) (begun_with tail accounts r)
+with_small most more tail bytes accounts (Ok first) is short k h =
+    begun_small most more first tail (account_named first.name accounts) (nonce_small most bytes first is short) k (found_keeps 0 first.name accounts h)
+with_small most more tail bytes accounts (Err fault) is short k h = tt
 
-of_keeps : (tail : List ℕ) (accounts : List Account) (r : Result (List ℕ × List ℕ) ExtFault) → ((v : List ℕ × List ℕ) → r ≡ Ok v → length v.1 ≤ 65536) → IsSmall 2400 tail → AllByRecursion AccountKeeps accounts
-    → AnswerKeeps (begun_of tail accounts r)
-of_keeps tail accounts (Ok v) short k h = with_keeps tail v.1 accounts (client_first_of v.1) refl (short v refl) k h
-of_keeps tail accounts (Err fault) short k h = tt
+of_small : (most more : ℕ) (tail : List ℕ) (accounts : List Account) (r : Result (List ℕ × List ℕ) ExtFault) → ((v : List ℕ × List ℕ) → r ≡ Ok v → length v.1 ≤ most) → IsSmall more tail → AllByRecursion AccountKeeps accounts
+    → IsSmallAnswer (most + more + 2032) (begun_of tail accounts r)
+of_small most more tail accounts (Ok v) short k h = with_small most more tail v.1 accounts (client_first_of v.1) refl (short v refl) k h
+of_small most more tail accounts (Err fault) short k h = tt
+
+either_answer : (most : ℕ) (b : Bool) (x y : AuthAnswer) → IsSmallAnswer most x → IsSmallAnswer most y → IsSmallAnswer most (cond b x y)
+either_answer most true x y h k = h
+either_answer most false x y h k = k
+
+-- it is no longer than what is in the `auth`, and what is added
+pub auth_small : (most more : ℕ) (e : Elem) (entropy : List ℕ) (accounts : List Account) → IsPlain e → (is_sasl (codes "auth") e ≡ true → length (text_of (nodes_of e)) ≤ most) → IsSmall more (added_nonce entropy) → AllByRecursion AccountKeeps accounts
+    → IsSmallAnswer (most + more + 2032) (auth_answer e entropy accounts)
+auth_small most more e entropy accounts plain short tail h =
+    either_answer (most + more + 2032) (is_scram (auth_mechanism e)) (begun_of (added_nonce entropy) accounts (auth_read e)) (auth.Fails condition.InvalidMechanism)
+    (of_small most more (added_nonce entropy) accounts (auth_read e) (λ v is. auth_short most e v plain short is) tail h) tt
 
 tail_small : (entropy : List ℕ) → IsDrawn entropy → IsSmall 2400 (added_nonce entropy)
 tail_small entropy h = encoded_small 1000 2400 (take 18 entropy) (first_bytes 18 entropy h.bytes) (taken_short entropy h.short) (omega arith)
 
-either_answer : (b : Bool) (x y : AuthAnswer) → AnswerKeeps x → AnswerKeeps y → AnswerKeeps (cond b x y)
-either_answer true x y h k = h
-either_answer false x y h k = k
+abbrev pub AnswerKeeps : AuthAnswer → Type 0
+AnswerKeeps (auth.Begins n) = IsRead (challenge_item n.exchange.message)
+AnswerKeeps (auth.Fails why) = Unit {0}
+
+answer_keeps : (answer : AuthAnswer) → IsSmallAnswer 69968 answer → AnswerKeeps answer
+answer_keeps (auth.Begins n) small = challenge_read n.exchange.message small
+answer_keeps (auth.Fails why) small = tt
 
 pub auth_keeps : (e : Elem) (entropy : List ℕ) (accounts : List Account) → IsPlain e → IsShort e → IsDrawn entropy → AllByRecursion AccountKeeps accounts → AnswerKeeps (auth_answer e entropy accounts)
-auth_keeps e entropy accounts plain short drawn h =
-    either_answer (is_scram (auth_mechanism e)) (begun_of (added_nonce entropy) accounts (auth_read e)) (auth.Fails condition.InvalidMechanism)
-    (of_keeps (added_nonce entropy) accounts (auth_read e) (λ v is. auth_short e v plain short is) (tail_small entropy drawn) h) tt
+auth_keeps e entropy accounts plain short drawn h = answer_keeps (auth_answer e entropy accounts) (auth_small 65536 2400 e entropy accounts plain (λ is. short.content) (tail_small entropy drawn) h)
 
 -- ---- the success
 

@@ -17,6 +17,7 @@ use Rattle.xmpp_route.specs.Messages.{is_chat, is_for_users}
 use Rattle.xmpp_route.specs.Plans.{plan_of, planned, ready_of, refused, to_full, to_user}
 use Rattle.xmpp_route.specs.Routes.{Bounced, PlanOf, RouteOf, Routed, archives_of, plan_renamed}
 use Rattle.xmpp_server_fits.proofs.Addresses.{bare_said, session_said}
+use Rattle.xmpp_server_fits.proofs.RowsKept.{either_acts}
 use Rattle.xmpp_server_fits.proofs.StepsKept.{whole_read}
 use Rattle.xmpp_server_fits.specs.Keeps.{ActsKeep, HallKeeps}
 use Rattle.xmpp_server_maps.specs.Images.{itself}
@@ -108,14 +109,10 @@ addressed_fits : (from to : List ℕ) (m : MessageView) → MessageFits m → Sa
 addressed_fits from to m h a b =
     record { from = a; to = b; id_bytes = h.id_bytes; payload_bytes = h.payload_bytes; within = h.within; id = h.id; lang = h.lang; payload = h.payload; tidy = h.tidy }
 
-either_row : (b : Bool) (x y : List (Act ItemOut)) → ActsKeep x → ActsKeep y → ActsKeep (cond b x y)
-either_row true x y h k = h
-either_row false x y h k = k
-
 messaging_kept : (m : MessageView) (to : List ℕ) (t : Told) (p : PlanOf ℕ) (h : Hall ItemOut) → MessageFits m → Said 18426 to → PlanKeeps p → HallKeeps h → ActsKeep (messaging itself m to t p h)
 messaging_kept m to t (Bounced e) h fits said known keeps = bouncing_kept m to e t fits said known
 messaging_kept m to t (Routed r) h fits said known keeps =
-    either_row (is_full_in (archives_of r.archiving) h) (bouncing itself m to no_room t) (carrying itself (addressed (session_address t.number h) to m) (archives_of r.archiving) r h) (bouncing_kept m to no_room t fits said tt)
+    either_acts (is_full_in (archives_of r.archiving) h) (bouncing itself m to no_room t) (carrying itself (addressed (session_address t.number h) to m) (archives_of r.archiving) r h) (bouncing_kept m to no_room t fits said tt)
     (carrying_kept (addressed (session_address t.number h) to m) (archives_of r.archiving) r h (addressed_fits (session_address t.number h) to m fits (session_said t.number h keeps) said) keeps)
 
 pub message_kept : (m : MessageView) (t : Told) (h : Hall ItemOut) → MessageFits m → HallKeeps h → ActsKeep (at_message itself m t h)

@@ -1,5 +1,5 @@
 -- Moments, connections that come and go, and pieces of bytes keep what a server keeps to.
-use Rattle.std.proofs.Common.{ℕ, Bool, true, false, List, [], ◌∷◌, Option, Some, None, IfSome, cond, Ordering, Less, Equal, Greater, refl}
+use Rattle.std.proofs.Common.{ℕ, List, [], ◌∷◌, Option, Some, None, IfSome, Ordering, Less, Equal, Greater, refl}
 use Rattle.std.specs.BTreeMap.{insert_entry}
 use Rattle.std.specs.List.{AllByRecursion}
 use Rattle.std.specs.Ordering.{match_ordering, nat_cmp}
@@ -11,7 +11,7 @@ use Rattle.xmpp_framing.specs.States.{Turn}
 use Rattle.xmpp_live.specs.Sessions.{Session, lost, parked, session_at, with_session, without}
 use Rattle.xmpp_server.specs.Events.{Whole, after_bytes, after_turn, at_piece, begun, framer_at, turn_of}
 use Rattle.xmpp_server_fits.proofs.Lists.{Values, each_filter, values_left}
-use Rattle.xmpp_server_fits.proofs.StepsKept.{session_changed, shown_kept}
+use Rattle.xmpp_server_fits.proofs.StepsKept.{either_kept, session_changed, shown_kept}
 use Rattle.xmpp_server_fits.proofs.TableKept.{fault_kept, items_kept}
 use Rattle.xmpp_server_fits.specs.Keeps.{Comes, ConnectionKeeps, HallKeeps, IsDrawn, OutIsRead, SessionKeeps, StepKeeps}
 use Rattle.xmpp_server_maps.specs.Images.{itself}
@@ -38,14 +38,10 @@ pub fresh_kept : (k : ℕ) (entropy : List ℕ) (h : Hall ItemOut) → IsDrawn e
 fresh_kept k entropy h drawn keeps =
     record { domain = keeps.domain; accounts = keeps.accounts; archives = keeps.archives; sessions = keeps.sessions; conns = inserted k (fresh_conn entropy) h.conns drawn keeps.conns }
 
-either_sessions : (b : Bool) (x y : List (Session ItemOut)) → AllByRecursion SessionKeeps x → AllByRecursion SessionKeeps y → AllByRecursion SessionKeeps (cond b x y)
-either_sessions true x y h k = h
-either_sessions false x y h k = k
-
 lost_kept : (now : ℕ) (o : Option (Session ItemOut)) (ss : List (Session ItemOut)) → AllByRecursion SessionKeeps ss → AllByRecursion SessionKeeps (lost now o ss)
 lost_kept now None ss h = h
 lost_kept now (Some s) ss h =
-    either_sessions s.shown.resumable (with_session s.shown.number (parked now) ss) (without s.shown.number ss)
+    either_kept s.shown.resumable (with_session s.shown.number (parked now) ss) (without s.shown.number ss)
     (session_changed s.shown.number (parked now) ss (λ t keeps. shown_kept t (parked now t) refl refl refl refl keeps) h) (each_filter SessionKeeps _ ss h)
 
 pub gone_kept : (k : ℕ) (h : Hall ItemOut) → HallKeeps h → HallKeeps (gone_at k h)

@@ -1,10 +1,8 @@
 -- What is read of an element that a framer gave.
-use Rattle.std.proofs.Common.{◌≡◌, ℕ, ◌+◌, ◌<◌, ◌≤◌, ◌^◌, nat_lt, Bool, true, false, ◌&&◌, List, [], ◌∷◌, Option, Some, None, IfSome, Result, Ok, Err, cond, codes, length, unwrap_or, refl, ap, subst, sym, ◌∙◌, arith, inl, inr, ltb-true}
-use Rattle.std.proofs.lemmas.Bool.{and_parts, cases_Bool, ltb-false}
+use Rattle.std.proofs.Common.{◌≡◌, ℕ, ◌+◌, ◌<◌, ◌≤◌, ◌^◌, Bool, true, false, List, [], ◌∷◌, Option, Some, None, IfSome, Result, Ok, Err, cond, codes, length, unwrap_or, refl, ap, subst, sym, ◌∙◌, arith, inl, inr}
+use Rattle.std.proofs.lemmas.Bool.{cases_Bool, ltb-false}
 use Rattle.std.proofs.lemmas.Option.{same_Some}
 use Rattle.std.specs.Option.{option_map}
-use Rattle.std.specs.Str.{all_ascii_digits}
-use Rattle.std.specs.Str.Parse.{digits_value}
 use Rattle.xmpp_desk.specs.Words.{if_read, is_bad_management, is_bad_sasl, is_long, is_stanza, is_stream_error, management_word, other_word, resume_word, sasl_word, word_of}
 use Rattle.xmpp_desk.specs.declared.limits.TheConstants.{MOST_STANZA_BYTES}
 use Rattle.xmpp_desk.specs.declared.word.Word.{Word}
@@ -15,9 +13,9 @@ use Rattle.xmpp_ext.specs.declared.stream_management.Ack.{Ack}
 use Rattle.xmpp_framing.specs.declared.items.Item.TheVariants as item
 use Rattle.xmpp_framing_laws.specs.Fitting.{NodesFit, TagsFit}
 use Rattle.xmpp_framing_laws.specs.Plain.{ArePlainNodes, IsPlain, IsPlainElement}
+use Rattle.xmpp_payload.proofs.Numbers.{required_fits}
 use Rattle.xmpp_payload.specs.Names.{binding}
 use Rattle.xmpp_payload.specs.Readings.{where_this}
-use Rattle.xmpp_payload.specs.Shapes.{is_number, number_below, required_number}
 use Rattle.xmpp_payload.specs.declared.fault.ExtFault.{ExtFault}
 use Rattle.xmpp_put_fits.proofs.Forwarding.{attribute_characters, text_characters}
 use Rattle.xmpp_put_fits.proofs.Requests.{inside_client}
@@ -42,6 +40,7 @@ use Rattle.xmpp_stanza.specs.declared.fault.StanzaFault.TheVariants as fault
 use Rattle.xmpp_stanza.specs.declared.stanzas.Stanza.{Stanza}
 use Rattle.xmpp_stanza.specs.declared.stanzas.Stanza.TheVariants as stanza
 use Rattle.xmpp_tokens.specs.Lines.{IsCharacters}
+use Rattle.xmpp_trees.proofs.TidyReads.{nodes_of_tree}
 use Rattle.xmpp_trees.specs.Readers.{attr_of, child_of, elements_of, first_named, is_named, text_of}
 use Rattle.xmpp_trees.specs.Trees.{AreTidy, Elem, IsTree, Nodes, child, depth, depth_below, element, namespace_of, no_nodes, nodes_of, text}
 use Rattle.xmpp_writer.specs.Canon.{canon, default_inside}
@@ -53,9 +52,6 @@ plain_inside (element ns name attrs kids) h = h.2
 
 tags_inside : (e : Elem) → TagsFit client_tags client_ns e → NodesFit client_tags (default_inside client_ns (namespace_of e)) (nodes_of e)
 tags_inside (element ns name attrs kids) h = h.1
-
-tidy_inside : (e : Elem) → IsTree e → AreTidy (nodes_of e)
-tidy_inside (element ns name attrs kids) h = h.1
 
 depth_inside : (e : Elem) → depth e ≡ depth_below (nodes_of e) + 1
 depth_inside (element ns name attrs kids) = refl
@@ -138,7 +134,7 @@ message_fits e m h is =
         shallow = subst (λ ks. depth_below ks ≤ 31) (sym same) (omega (arith, deep, depth_inside e));
         short = le_self (nodes_size client_ns m.payload);
       };
-      tidy = subst AreTidy (sym same) (tidy_inside e h.tree);
+      tidy = subst AreTidy (sym same) (nodes_of_tree e h.tree);
     }
 
 -- ---- requests
@@ -218,32 +214,18 @@ binds_fit e (Err f) plain short is = tt
 
 -- ---- counts
 
-below_is : (limit : ℕ) (t : List ℕ) (n : ℕ) → number_below limit t ≡ Some n → n < limit
-below_is limit t n is =
-    elim (cases_Bool (is_number limit t)) [
-      | inl b ↦
-          let value : digits_value 10 t ≡ n = same_Some _ n (rw b at is) in
-          let small = ltb-true (digits_value 10 t) limit (and_parts (nat_lt 0 (length t) && all_ascii_digits t) (nat_lt (digits_value 10 t) limit) b).1 in
-          omega (arith, value, small)
-      | inr b ↦ let none : None ≡ Some n = rw b at is in absurd cc
-    ]
-
-required_is : (limit : ℕ) (o : Option (List ℕ)) (n : ℕ) → required_number limit o ≡ Some n → n < limit
-required_is limit None n is = absurd cc
-required_is limit (Some t) n is = below_is limit t n is
-
 ack_is : (o : Option ℕ) (v : Ack) → ack_with o ≡ Ok v → o ≡ Some v.h
 ack_is None v is = absurd cc
 ack_is (Some h) v is = cc
 
-this_is : {V : Type 0} (b : Bool) (r : Result V ExtFault) (v : V) → where_this b r ≡ Ok v → r ≡ Ok v
-this_is true r v is = is
+pub this_is : {V : Type 0} (b : Bool) (r : Result V ExtFault) (v : V) → where_this b r ≡ Ok v → (b ≡ true) × (r ≡ Ok v)
+this_is true r v is = (refl, is)
 this_is false r v is = absurd cc
 
 acks : (e : Elem) (v : Ack) → ack_read e ≡ Ok v → v.h < 2 ^ 32
 acks e v is =
     elim (cases_Bool (is_management (codes "a") e)) [
-      | inl b ↦ required_is (2 ^ 32) (attr_named (codes "h") e) v.h (ack_is (count_of e) v (rw b at is))
+      | inl b ↦ required_fits (2 ^ 32) (attr_named (codes "h") e) v.h (ack_is (count_of e) v (rw b at is))
       | inr b ↦ let none : Err _ ≡ Ok v = rw b at is in absurd cc
     ]
 
@@ -254,8 +236,8 @@ resumes_with (Some p) (Some h) v is = cc
 
 resumes_by : (e : Elem) (v : List ℕ × ℕ) → resumption_read (codes "resume") e ≡ Ok v → v.1 < 2 ^ 32
 resumes_by e v is =
-    required_is (2 ^ 32) (attr_named (codes "h") e) v.1
-    (resumes_with (attr_named (codes "previd") e) (count_of e) v (this_is (is_management (codes "resume") e) (resumption_with (attr_named (codes "previd") e) (count_of e)) v is))
+    required_fits (2 ^ 32) (attr_named (codes "h") e) v.1
+    (resumes_with (attr_named (codes "previd") e) (count_of e) v (this_is (is_management (codes "resume") e) (resumption_with (attr_named (codes "previd") e) (count_of e)) v is).1)
 
 -- ---- words
 

@@ -209,7 +209,7 @@ ToldKeeps t = t.handled < 2 ^ 32
 pub refusing_kept : (k : ℕ) (c : Condition) → IsKnown c → ActsKeep (refusing itself k c)
 refusing_kept k c known = (whole_read _ (refused_read c known), tt)
 
-either_acts : (b : Bool) (x y : List (Act ItemOut)) → ActsKeep x → ActsKeep y → ActsKeep (cond b x y)
+pub either_acts : (b : Bool) (x y : List (Act ItemOut)) → ActsKeep x → ActsKeep y → ActsKeep (cond b x y)
 either_acts true x y h k = h
 either_acts false x y h k = k
 

@@ -31,20 +31,20 @@ bytes_append : (xs ys : List ℕ) → IsBytes xs → IsBytes ys → IsBytes (xs 
 bytes_append [] ys p q = q
 bytes_append (x ∷ xs) ys p q = bytes_cons x (xs ++ ys) (p 0) (bytes_append xs ys (λ i. p (suc i)) q)
 
-byte_at_small : (k n : ℕ) → byte_at k n < 256
+pub byte_at_small : (k n : ℕ) → byte_at k n < 256
 byte_at_small zero n = mod-lt n (lit< tt)
 byte_at_small (suc k) n = mod-lt (n / 256 ^ suc k) (lit< tt)
 
-high_first : (k n : ℕ) → IsBytes (bytes_high_first k n)
+pub high_first : (k n : ℕ) → IsBytes (bytes_high_first k n)
 high_first zero n = bytes_nil
 high_first (suc k) n = bytes_cons (byte_at k n) (bytes_high_first k n) (byte_at_small k n) (high_first k n)
 
-digest : (h : List ℕ) (n : ℕ) → IsBytes (digest_bytes h n)
+pub digest : (h : List ℕ) (n : ℕ) → IsBytes (digest_bytes h n)
 unfolding digest_bytes
 digest h zero = bytes_nil
 digest h (suc n) = bytes_append (digest_bytes h n) (to_be_bytes w32 (slice_index h n)) (digest h n) (high_first 4 (slice_index h n))
 
-hash_bytes : (m : List ℕ) → IsBytes (sha256 m)
+pub hash_bytes : (m : List ℕ) → IsBytes (sha256 m)
 unfolding sha256
 hash_bytes m = digest _ 8
 

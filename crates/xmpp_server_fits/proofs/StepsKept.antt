@@ -169,7 +169,7 @@ bind_kept account k resource s said h = record {
   outs = h.outs;
 }
 
-either_kept : (b : Bool) (ss ts : List (Session ItemOut)) → AllByRecursion SessionKeeps ss → AllByRecursion SessionKeeps ts → AllByRecursion SessionKeeps (cond b ss ts)
+pub either_kept : (b : Bool) (ss ts : List (Session ItemOut)) → AllByRecursion SessionKeeps ss → AllByRecursion SessionKeeps ts → AllByRecursion SessionKeeps (cond b ss ts)
 either_kept true ss ts h k = h
 either_kept false ss ts h k = k
 

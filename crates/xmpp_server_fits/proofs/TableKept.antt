@@ -1,5 +1,5 @@
 -- What comes of an item is read.
-use Rattle.std.proofs.Common.{◌≡◌, ℕ, Bool, true, false, List, [], ◌∷◌, Option, Some, None, IfSome, Result, Ok, Err, cond, codes, refl, arith}
+use Rattle.std.proofs.Common.{◌≡◌, ℕ, Bool, true, false, List, [], ◌∷◌, Option, Some, None, IfSome, Result, Ok, Err, codes, refl, arith}
 use Rattle.std.specs.List.{AllByRecursion}
 use Rattle.std.specs.Option.{option_map}
 use Rattle.xmpp_desk.specs.Handling.{counting}
@@ -29,7 +29,7 @@ use Rattle.xmpp_server_fits.proofs.Lists.{each_found, value_found}
 use Rattle.xmpp_server_fits.proofs.MessagesKept.{message_kept}
 use Rattle.xmpp_server_fits.proofs.Readings.{word_comes}
 use Rattle.xmpp_server_fits.proofs.RequestsKept.{iq_kept}
-use Rattle.xmpp_server_fits.proofs.RowsKept.{ToldKeeps, ack_kept, any_kept, bind_kept, challenge_kept, closing_kept, enable_kept, ending_kept, header_kept, login_kept, refusing_kept, request_kept, resume_kept}
+use Rattle.xmpp_server_fits.proofs.RowsKept.{ToldKeeps, ack_kept, any_kept, bind_kept, challenge_kept, closing_kept, either_acts, enable_kept, ending_kept, header_kept, login_kept, refusing_kept, request_kept, resume_kept}
 use Rattle.xmpp_server_fits.proofs.StepsKept.{acts_kept, whole_read}
 use Rattle.xmpp_server_fits.specs.Keeps.{ActsKeep, Comes, ConnectionKeeps, HallKeeps, IsDrawn, IsRead, SessionKeeps, StepKeeps}
 use Rattle.xmpp_server_fits.specs.Words.{BindsFit, ReadFits, WordComes}
@@ -78,12 +78,8 @@ handling_kept (Err fault.NotAStanza) t h fits keeps = tt
 handling_kept (Err fault.BadFormat) t h fits keeps = tt
 handling_kept (Err fault.NoMemory) t h fits keeps = tt
 
-either_row : (b : Bool) (x y : List (Act ItemOut)) → ActsKeep x → ActsKeep y → ActsKeep (cond b x y)
-either_row true x y h k = h
-either_row false x y h k = k
-
 counting_kept : (t : Told) (acts : List (Act ItemOut)) → ActsKeep acts → ActsKeep (counting t acts)
-counting_kept t acts h = either_row t.counted _ acts (tt, h) h
+counting_kept t acts h = either_acts t.counted _ acts (tt, h) h
 
 judging_kept : (k : ℕ) (read : Result Stanza StanzaFault) (t : Told) (st : Standing) (o : Option StreamCondition) (h : Hall ItemOut) → ReadFits read → HallKeeps h → IsDrawn st.entropy → ActsKeep (judging itself k read t st o h)
 judging_kept k read t st None h fits keeps drawn = counting_kept t (handling itself read t h) (handling_kept read t h fits keeps)

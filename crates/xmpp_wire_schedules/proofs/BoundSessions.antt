@@ -20,10 +20,9 @@ use Rattle.xmpp_links.specs.Events.{seen, seen_as, seen_session}
 use Rattle.xmpp_links.specs.Links.{LinkKept}
 use Rattle.xmpp_links.specs.Views.{Row}
 use Rattle.xmpp_links_events.specs.Lists.{IsRow, stage_of}
-use Rattle.xmpp_links_follow.proofs.Found.{found_is, numbered_here}
-use Rattle.xmpp_links_follow.proofs.Removed.{one_named}
+use Rattle.xmpp_item_images.proofs.RuleKept.{found_is, numbered_here, one_named}
 use Rattle.xmpp_live.specs.Sessions.{Session, is_named, session_named, session_of}
-use Rattle.xmpp_moves_beside.specs.Running.{AreSmall, DeviceRuns}
+use Rattle.xmpp_moves_beside.specs.Running.{DeviceRuns}
 use Rattle.xmpp_report.specs.Lines.{take_line}
 use Rattle.xmpp_report.specs.declared.report.TakeLine.{TakeLine}
 use Rattle.xmpp_schedule.specs.Contents.{Owned, accounts_of}
@@ -43,6 +42,7 @@ use Rattle.xmpp_sessions_laws.proofs.WireSteps.{wire_stand}
 use Rattle.xmpp_sessions_laws.specs.Reported.{take_of}
 use Rattle.xmpp_sessions_laws.specs.Runs.{begins, owned_of, steps_in}
 use Rattle.xmpp_basis.proofs.Lists.{AllByRecursion-weaker}
+use Rattle.xmpp_wire_schedules.proofs.Moves.{small}
 use Rattle.xmpp_wire_schedules.proofs.SessionRuns.{IsBehind, Leads, behind_along, led_along}
 use Rattle.xmpp_wire_schedules.proofs.WorldTold as world
 use Rattle.xmpp_wire_schedules.specs.Besides.{AreBeside, bounds}
@@ -141,9 +141,6 @@ module _ (s : WireView) (W : World) (x : sessions.World) (beside : AreBeside s W
       ap (λ c. c.epoch) found.holds.client ∙ ap (λ (e : ItemDevice). e.client.epoch) same ∙ here.shows.client.epoch ∙ here.sessions.epoch
 
 -- ---- takes
-
-small : AreSmall bounds
-small = record { stanzas = omega arith; dials = omega arith }
 
 module _ (s : WireView) (right : IsWireSchedule s) where
   taken_here : (W : World) (x : sessions.World) → AreBeside s W x → Taken x

@@ -3,6 +3,7 @@ use Rattle.std.proofs.Common.{◌≡◌, ℕ, zero, suc, ◌+◌, ◌≤◌, ◌
 use Rattle.std.proofs.lemmas.List.{append-nil}
 use Rattle.std.proofs.lemmas.List.Concat.{flat_map-append}
 use Rattle.std.specs.List.{AllByRecursion, flat_map, slice_get, slice_set}
+use Rattle.xmpp_device_deeds.proofs.AllDrifts.{reaches_both}
 use Rattle.xmpp_item_images.proofs.AnsweredTable.{what_a_server_says_is_answered}
 use Rattle.xmpp_item_images.proofs.Keeping.{cores_keep}
 use Rattle.xmpp_item_images.proofs.MildSteps.{client_is_mild}
@@ -14,7 +15,6 @@ use Rattle.xmpp_item_images.specs.ItemRuns.{MayMove}
 use Rattle.xmpp_item_images.specs.Stands.{StandingHalls}
 use Rattle.xmpp_item_images.specs.WorldImages.{IsMoved}
 use Rattle.xmpp_item_worlds.specs.ItemMoves as items
-use Rattle.xmpp_item_worlds.specs.ItemMoves.{ItemMove}
 use Rattle.xmpp_item_worlds.specs.ItemWorlds.{ItemWorld}
 use Rattle.xmpp_schedule.specs.Schedules.{WireView}
 use Rattle.xmpp_schedule.specs.declared.schedule.Count.{Count}
@@ -29,6 +29,7 @@ use Rattle.xmpp_pipes.specs.Pipes.{is_end_due}
 use Rattle.xmpp_server.specs.Events.{after_gone}
 use Rattle.xmpp_wires.specs.Wires.{amount, up_end_told}
 use Rattle.xmpp_wires.specs.declared.wire.Wire.{Wire}
+use Rattle.xmpp_world.proofs.Turns.{moved_join}
 use Rattle.xmpp_world.specs.Lines.{pass_of, passes_of, round_from, rounds_of}
 use Rattle.xmpp_world.specs.Moves.{Move, all_moved, moved}
 use Rattle.xmpp_world.specs.Moves as bytes
@@ -36,7 +37,7 @@ use Rattle.xmpp_world.specs.Worlds as wires
 use Rattle.xmpp_moves_beside.specs.Running.{WorldRuns}
 use Rattle.xmpp_wire_schedules.specs.Besides.{AreBeside, EachMoveRuns, GoBeside, IsImage, bounds}
 use Rattle.xmpp_wire_schedules.proofs.Wires.{IsNoDial, downs_none, moves_many, served_none}
-use Rattle.xmpp_wire_schedules.proofs.Rounds.{AtMost, Goes, IsInRound, down_line, joined, most_behind, round_of, up_line}
+use Rattle.xmpp_wire_schedules.proofs.Rounds.{AtMost, Goes, IsInRound, down_line, most_behind, round_of, up_line}
 
 pub cores : CoresFit UpFits DownFits (StandingHalls HallFits) ClientFits
 cores = cores_fit UpFits DownFits HallFits ClientFits (cores_keep what_a_server_says_is_answered client_is_mild)
@@ -79,11 +80,7 @@ one_move schedule dials says said m W x Post events w2 next led spoken image run
 
 -- moves, and then others
 
-all_moved_joined : (first second : List Move) (W : wires.World) → all_moved (first ++ second) W ≡ all_moved second (all_moved first W)
-all_moved_joined [] second W = refl
-all_moved_joined (m ∷ first) second W = all_moved_joined first second (moved m W)
-
-state_joined : (x : World) (first second : List Event) → state_after x (first ++ second) ≡ state_after (state_after x first) second
+pub state_joined : (x : World) (first second : List Event) → state_after x (first ++ second) ≡ state_after (state_after x first) second
 state_joined x [] second = refl
 state_joined x (e ∷ first) second = state_joined (after x e) first second
 
@@ -108,10 +105,10 @@ and_then schedule mid says said more first second W x Mid Post one rest =
       moves = one.moves ++ two.moves;
       items = two.items;
       next = two.next;
-      led = subst (λ es. Reaches es x two.next) (sym (flat_map-append (λ l. l) one.moves two.moves)) (joined (flat_map (λ l. l) one.moves) (flat_map (λ l. l) two.moves) x one.next two.next one.led two.led);
+      led = subst (λ es. Reaches es x two.next) (sym (flat_map-append (λ l. l) one.moves two.moves)) (reaches_both (flat_map (λ l. l) one.moves) (flat_map (λ l. l) two.moves) x one.next two.next one.led two.led);
       spoken = ap spoken_in (flat_map-append (λ l. l) one.moves two.moves) ∙ flat_map-append spoken_by (flat_map (λ l. l) one.moves) (flat_map (λ l. l) two.moves)
           ∙ ap (λ l. l ++ spoken_in (flat_map (λ k. k) two.moves)) one.spoken ∙ ap (λ l. said ++ l) two.spoken;
-      image = subst (λ V. IsImage V two.items) (sym (all_moved_joined first second W)) two.image;
+      image = subst (λ V. IsImage V two.items) (sym (moved_join first second W)) two.image;
       runs = two.runs;
       post = two.post;
       wide = let shown = one.image.as_many in let first_wide = one.wide in let second_wide = two.wide in omega arith;

@@ -3,15 +3,17 @@ use Rattle.std.proofs.Common.{◌≡◌, ℕ, zero, suc, ◌+◌, List, [], ◌�
 use Rattle.std.proofs.lemmas.List.Concat.{flat_map-append}
 use Rattle.std.proofs.lemmas.Option.{none-some, same_Some}
 use Rattle.std.specs.List.{flat_map, slice_get}
+use Rattle.xmpp_device_deeds.proofs.AllDrifts.{reaches_both}
 use Rattle.xmpp_schedule.specs.Schedules.{WireView}
 use Rattle.xmpp_schedule.specs.WireGrammar.{IsWireSchedule}
 use Rattle.xmpp_schedule.specs.declared.schedule.WireLine.{WireLine}
 use Rattle.xmpp_sessions.specs.Devices as sessions
-use Rattle.xmpp_sessions.specs.Events.{Event, Reaches, after}
+use Rattle.xmpp_sessions.specs.Events.{Event, Reaches}
 use Rattle.xmpp_sessions.specs.Histories.{state_after}
 use Rattle.xmpp_sessions_laws.proofs.Moments.{reaches_is}
 use Rattle.xmpp_sessions_laws.specs.Runs.{LineRun, begins}
 use Rattle.xmpp_sessions_laws.specs.Runs as lines
+use Rattle.xmpp_wire_schedules.proofs.ByteMoves.{state_joined}
 use Rattle.xmpp_wire_schedules.proofs.WholeRuns.{whole_run}
 use Rattle.xmpp_wire_schedules.specs.Besides.{AreBeside, GoBeside, GoLines}
 use Rattle.xmpp_world.specs.Histories.{history_of, world_at_start, worlds_along, worlds_by}
@@ -36,10 +38,6 @@ cut_at xs ys x last r =
     let is = reaches_is xs x b.mid b.first in
     (subst (λ u. Reaches xs x u) is b.first, subst (λ u. Reaches ys u last) is b.second)
 
-after_both : (x : sessions.World) (es fs : List Event) → state_after x (es ++ fs) ≡ state_after (state_after x es) fs
-after_both x [] fs = refl
-after_both x (e ∷ es) fs = after_both (after x e) es fs
-
 -- ---- worlds, one after another
 
 abbrev pub Chain : WireView → sessions.World → List World → Type 0
@@ -60,7 +58,7 @@ chain_moves s (m ∷ ms) (es ∷ ess) W x more last Ws go reaches behind =
       es,
       parts.0,
       go.0,
-      chain_moves s ms ess (moved m W) (state_after x es) more last Ws go.1 parts.1 (subst (λ u. Reaches more u last → Chain s u Ws) (after_both x es (joined ess)) behind),
+      chain_moves s ms ess (moved m W) (state_after x es) more last Ws go.1 parts.1 (subst (λ u. Reaches more u last → Chain s u Ws) (state_joined x es (joined ess)) behind),
     )
 
 chain_lines : (s : WireView) (rest : List WireLine) (runs : List LineRun) (W : World) (x last : sessions.World) → GoLines s rest runs W x → Reaches (joined (lines.moves_of runs)) x last → Chain s x (worlds_along rest W)
@@ -88,10 +86,6 @@ pub record Picked (s : WireView) (x : sessions.World) (Ws : List World) (j : ℕ
   pub chain : Chain s world (W ∷ rest)
   pub at : (d n : ℕ) → n ≡ j + d → slice_get (W ∷ rest) d ≡ slice_get Ws n
 
-joins : (es fs : List Event) (x y z : sessions.World) → Reaches es x y → Reaches fs y z → Reaches (es ++ fs) x z
-joins [] fs x y z one two = subst (λ v. Reaches fs v z) one two
-joins (e ∷ es) fs x y z one two = (one.0, one.1, joins es fs one.0 y z one.2 two)
-
 pub pick : (s : WireView) (Ws : List World) (x : sessions.World) (j : ℕ) (W : World) → Chain s x Ws → slice_get Ws j ≡ Some W → Picked s x Ws j W
 pick s [] x j W chain at = absurd (none-some W at)
 pick s (V ∷ Ws) x zero W chain at =
@@ -111,7 +105,7 @@ pick s (V ∷ Ws) x (suc j) W chain at =
     record {
       world = p.world;
       events = chain.1 ++ p.events;
-      reaches = joins chain.1 p.events x chain.0 p.world chain.2 p.reaches;
+      reaches = reaches_both chain.1 p.events x chain.0 p.world chain.2 p.reaches;
       beside = p.beside;
       rest = p.rest;
       chain = p.chain;

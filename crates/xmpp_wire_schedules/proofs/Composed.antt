@@ -9,6 +9,8 @@ use Rattle.xmpp_item_worlds.specs.ItemWorlds.{ItemWorld}
 use Rattle.xmpp_links.proofs.WithPremises.{prompt_runs}
 use Rattle.xmpp_links_counted.proofs.Counted.{epochs}
 use Rattle.xmpp_report.specs.LawfulRuns.{KeepsLaws}
+use Rattle.xmpp_wire_schedules.proofs.ByteMoves.{state_joined}
+use Rattle.xmpp_wire_schedules.proofs.Moves.{small}
 use Rattle.xmpp_wire_schedules.proofs.Shown.{world_shown}
 use Rattle.xmpp_wire_schedules.proofs.WorldTold.{reported}
 use Rattle.xmpp_wire_schedules.specs.ShownWorlds.{shown_of}
@@ -20,7 +22,7 @@ use Rattle.xmpp_session_counts.proofs.Said.{takes_few}
 use Rattle.xmpp_session_counts.proofs.Taken.{of_all}
 use Rattle.xmpp_session_counts.specs.Counts.{IsNumberedWithin}
 use Rattle.xmpp_sessions.specs.Devices as sessions
-use Rattle.xmpp_sessions.specs.Events.{Event, after}
+use Rattle.xmpp_sessions.specs.Events.{Event}
 use Rattle.xmpp_sessions.proofs.Lists.{all_weaker}
 use Rattle.xmpp_sessions.specs.Histories.{spoken_in, state_after, states_of}
 use Rattle.xmpp_sessions_laws.proofs.Moments.{reaches_is}
@@ -36,23 +38,16 @@ use Rattle.xmpp_world.specs.WorldReports.{report_of}
 use Rattle.xmpp_world.specs.Worlds.{World}
 use Rattle.xmpp_item_images.proofs.MovesKept.{kept_behind, kept_first}
 use Rattle.xmpp_item_images.specs.Kept.{IsKept}
-use Rattle.xmpp_moves_beside.specs.Running.{AreSmall, WorldRuns}
+use Rattle.xmpp_moves_beside.specs.Running.{WorldRuns}
 
 -- the events of moves, one after another
 abbrev joined : List (List Event) → List Event
 joined moves = flat_map (λ one. one) moves
 
-after_both : (x : sessions.World) (es fs : List Event) → state_after x (es ++ fs) ≡ state_after (state_after x es) fs
-after_both x [] fs = refl
-after_both x (e ∷ es) fs = after_both (after x e) es fs
-
 after_moves : (x : sessions.World) (front back : List (List Event)) → state_after x (joined (front ++ back)) ≡ state_after (state_after x (joined front)) (joined back)
 after_moves x [] back = refl
 after_moves x (es ∷ front) back =
-    after_both x es (joined (front ++ back)) ∙ after_moves (state_after x es) front back ∙ ap (λ w. state_after w (joined back)) (sym (after_both x es (joined front)))
-
-small : AreSmall bounds
-small = record { stanzas = omega arith; dials = omega arith }
+    state_joined x es (joined (front ++ back)) ∙ after_moves (state_after x es) front back ∙ ap (λ w. state_after w (joined back)) (sym (state_joined x es (joined front)))
 
 module _ (s : WireView) (right : IsWireSchedule s) where
   shows : (W : World) (x : sessions.World) → IsKept s W → AreBeside s W x → IsShown (owned_of s) x (shown_of W)
@@ -65,7 +60,7 @@ module _ (s : WireView) (right : IsWireSchedule s) where
   along (m ∷ ms) [] W x kept beside go = absurd go
   along (m ∷ ms) (es ∷ ess) W x kept beside go =
       let rest = along ms ess (moved m W) (state_after x es) (kept_behind s m W kept) go.0 go.1 in
-      (rest.0, subst (AreBeside s (all_moved ms (moved m W))) (sym (after_both x es (joined ess))) rest.1)
+      (rest.0, subst (AreBeside s (all_moved ms (moved m W))) (sym (state_joined x es (joined ess))) rest.1)
 
   along_lines : (rest : List WireLine) (runs : List LineRun) (W : World) (x : sessions.World) → IsKept s W → AreBeside s W x → GoLines s rest runs W x → IsKept s (all_stepped rest W) × AreBeside s (all_stepped rest W) (state_after x (joined (moves_of runs)))
   along_lines [] [] W x kept beside go = (kept, beside)
@@ -85,7 +80,7 @@ module _ (s : WireView) (right : IsWireSchedule s) where
   show_moves (m ∷ ms) (es ∷ ess) W x more others kept beside go behind = (
     shows W x kept beside,
     show_moves ms ess (moved m W) (state_after x es) more others (kept_behind s m W kept) go.0 go.1
-        (subst (λ w. AreShown (owned_of s) (states_of w more) (map shown_of (all_moved ms (moved m W) ∷ others))) (after_both x es (joined ess)) behind),
+        (subst (λ w. AreShown (owned_of s) (states_of w more) (map shown_of (all_moved ms (moved m W) ∷ others))) (state_joined x es (joined ess)) behind),
   )
 
   show_lines : (rest : List WireLine) (runs : List LineRun) (W : World) (x : sessions.World) → IsKept s W → AreBeside s W x → GoLines s rest runs W x →

@@ -1,12 +1,11 @@
 -- What a client tells of an item is no fault of a catch-up, unless it drops the open page; and no stream error but the item's.
 use Rattle.std.proofs.Common.{◌≡◌, ◌⊎◌, ℕ, Bool, true, false, ◌&&◌, cond, List, [], ◌∷◌, Option, Some, None, Result, Ok, Err, codes, is_some, nat_le, length, refl, subst, sym, inl, inr}
-use Rattle.std.proofs.lemmas.Option.{none-some}
 use Rattle.std.specs.List.{AllByRecursion}
 use Rattle.std.specs.Option.{IfSome}
-use Rattle.std.specs.Str.{bytes_eq}
 use Rattle.xmpp_acks.specs.Counters.{ahead}
 use Rattle.xmpp_client.specs.PageRows.{answer_to, answered_page, begins_page, catch_up_fault, error_of_page, goes_on, iq_by, is_not_found, is_ping, next_queryid, nothing_told, numbered, only_fin, page_answered, page_done, page_ended, page_stanza, requests, restarts, result_of_page}
 use Rattle.xmpp_client.specs.Steps.{connected_step, element_row, handles, item_step, online_in, stanza_row, stream_condition, told_row}
+use Rattle.xmpp_client_laws.proofs.OnlineWalk.{page_open}
 use Rattle.xmpp_client_login.specs.LoginRows as rows
 use Rattle.xmpp_client_login.specs.Puts.{Row}
 use Rattle.xmpp_client_login.specs.declared.answers.Next.{Next}
@@ -247,22 +246,13 @@ bounce_fair c m = by (is_bounce c m)
 other_message_fine : (t : Turned) (m : MessageView) → IsFine t → IsFine (other_message t m)
 other_message_fine t m fine = where_fine (held_row t (live_in t.client.account.bare m)) (bounce_of t.client m) (bounce_fair t.client m) fine
 
--- what is found is the open page
-found_open : (queryid : List ℕ) (o : Option OpenPage) (page : OpenPage) → page_for queryid o ≡ Some page → o ≡ Some page
-found_open queryid None page is = is
-found_open queryid (Some p) page is = by (bytes_eq p.queryid queryid) is
-  where
-    by : (b : Bool) → cond b (Some p) None ≡ Some page → Some p ≡ Some page
-    by true is = is
-    by false is = absurd (none-some page is)
-
 result_out : (t : Turned) (o : Option OpenPage) (entry : LogEntry) → ((page : OpenPage) → o ≡ Some page → t.client.log.page ≡ Some page) → IsFine t → Out t (result_to t o entry)
 result_out t None entry there fine = inl (inl fine)
 result_out t (Some page) entry there fine =
     out_if t (nat_le page.max (length page.results)) (refuses t Overrun) (with_log t (with_result t.client.log entry)) (inr (page, there page refl, refl)) (inl (inl fine))
 
 result_row_out : (t : Turned) (r : Result MamResult ExtFault) → IsFine t → Out t (result_row t r)
-result_row_out t (Ok r) fine = result_out t (page_for r.queryid t.client.log.page) (logged r.id r.forwarded.stamp r.forwarded.message) (found_open r.queryid t.client.log.page) fine
+result_row_out t (Ok r) fine = result_out t (page_for r.queryid t.client.log.page) (logged r.id r.forwarded.stamp r.forwarded.message) (page_open r.queryid t.client.log.page) fine
 result_row_out t (Err why) fine = inl (inl fine)
 
 message_out : (t : Turned) (m : MessageView) (result : Option Elem) → IsFine t → Out t (message_with t m result)
@@ -323,8 +313,8 @@ page_out t q (Some page) there fine =
 iq_out : (t : Turned) (q : IqView) (kind : IqKind) → IsFine t → Out t (iq_by in_items t q kind)
 iq_out t q iq.Get fine = inl (put_kept t t.client.session (answer_to q (is_ping (elements_of q.payload))) fine)
 iq_out t q iq.Set fine = inl (put_kept t t.client.session (answer_to q false) fine)
-iq_out t q iq.Result fine = page_out t q (page_for q.id t.client.log.page) (found_open q.id t.client.log.page) fine
-iq_out t q iq.Error fine = page_out t q (page_for q.id t.client.log.page) (found_open q.id t.client.log.page) fine
+iq_out t q iq.Result fine = page_out t q (page_for q.id t.client.log.page) (page_open q.id t.client.log.page) fine
+iq_out t q iq.Error fine = page_out t q (page_for q.id t.client.log.page) (page_open q.id t.client.log.page) fine
 
 stanza_out : (t : Turned) (r : Result Stanza StanzaFault) → IsFine t → Out t (stanza_row in_items t r)
 stanza_out t (Ok (Message m)) fine = message_out t m (first_named archive (codes "result") m.payload) fine

@@ -3,7 +3,8 @@ use Rattle.std.proofs.Common.{◌≡◌, ℕ, zero, suc, ◌+◌, ◌<◌, ◌�
 use Rattle.std.proofs.lemmas.Option.{same_Some, slice_get_within}
 use Rattle.std.specs.List.{AllByRecursion, filter}
 use Rattle.std.specs.Prelude.{slice_get}
-use Rattle.xmpp_item_images.proofs.OwnedDevices.{declared, named_among}
+use Rattle.xmpp_item_images.proofs.OwnedDevices.{declared}
+use Rattle.xmpp_item_images.proofs.Starts.{named_among}
 use Rattle.xmpp_edge.specs.Names.{is_among}
 use Rattle.xmpp_item_worlds.specs.ItemWorlds.{ItemWorld}
 use Rattle.xmpp_links.proofs.WithPremises.{prompt_runs}

@@ -1,9 +1,8 @@
 -- An item that comes to a device on its connection makes no fault that its client tells, by the word that it is.
-use Rattle.std.proofs.Common.{◌≡◌, ◌⊎◌, ℕ, zero, suc, ◌+◌, ◌≤◌, Bool, true, false, cond, List, [], ◌∷◌, Option, Some, None, Result, Ok, Err, codes, length, slice_get, refl, sym, ap, subst, ◌∙◌, inl, inr, arith}
+use Rattle.std.proofs.Common.{◌≡◌, ◌⊎◌, ℕ, ◌+◌, ◌≤◌, Bool, true, false, cond, List, Option, Some, None, Result, Ok, Err, codes, length, refl, sym, ap, subst, ◌∙◌, inl, inr, arith}
 use Rattle.std.proofs.lemmas.Bool.{false≢true}
 use Rattle.std.proofs.lemmas.List.{length-map}
 use Rattle.std.proofs.lemmas.Option.{none-some, same_Some}
-use Rattle.std.specs.List.{AllByRecursion}
 use Rattle.std.specs.Option.{IfSome, option_map}
 use Rattle.std.proofs.Math.Nat.{mod-lt}
 use Rattle.xmpp_client_rows.specs.declared.phase.Phase.{Phase}
@@ -34,7 +33,7 @@ use Rattle.xmpp_client_rows.specs.Turns.{ends}
 use Rattle.xmpp_client_rows.specs.declared.events.PeerFault.TheVariants.{Stream}
 use Rattle.xmpp_client_rows.specs.declared.phase.Phase.TheVariants as phase
 use Rattle.xmpp_device_deeds.proofs.Next.{well}
-use Rattle.xmpp_device_deeds.proofs.ReadingsKnownHistories.{world_plain}
+use Rattle.xmpp_device_deeds.proofs.ReadingsKnownHistories.{named_at, world_plain}
 use Rattle.xmpp_device_deeds.proofs.Rest.{short_queue}
 use Rattle.xmpp_device_deeds.specs.Logged.{IsReadAs}
 use Rattle.xmpp_device_deeds.specs.Named.{IsNamed}
@@ -74,11 +73,6 @@ use Rattle.xmpp_wire_schedules.proofs.PagesStay.{never_lost}
 use Rattle.xmpp_writer.specs.Items.{Closing, ItemOut, Opening, Whole}
 
 -- ---- small facts
-
-named_at : (owned : List Owned) (i : ℕ) (o : Owned) → AllByRecursion IsNamed owned → slice_get owned i ≡ Some o → IsNamed o
-named_at [] i o all there = absurd (none-some o there)
-named_at (p ∷ owned) zero o all there = subst IsNamed (same_Some p o there) all.0
-named_at (p ∷ owned) (suc i) o all there = named_at owned i o all.1 there
 
 none_shown : {A B : Type 0} (f : A → B) (o : Option A) → option_map f o ≡ None → o ≡ None
 none_shown f None is = refl

@@ -1,5 +1,5 @@
 -- Bytes that are handed to the server on a connection on which it has no session.
-use Rattle.std.proofs.Common.{◌≡◌, ℕ, ◌+◌, max, ◌==◌, ◌-◌, ◌&&◌, not, Bool, true, List, [], ◌∷◌, ◌++◌, Option, Some, None, is_none, map, nat_le, refl, sym, ap, subst, ◌∙◌, ◌⊎◌, inl, inr, arith}
+use Rattle.std.proofs.Common.{◌≡◌, ℕ, ◌+◌, max, ◌==◌, ◌-◌, ◌&&◌, not, Bool, true, List, ◌++◌, Option, Some, None, is_none, map, nat_le, refl, sym, ap, subst, ◌∙◌, ◌⊎◌, inl, inr, arith}
 use Rattle.std.proofs.lemmas.Option.{none-some}
 use Rattle.std.specs.List.{AllByRecursion, filter, slice_get}
 use Rattle.std.specs.Option.{option_map}
@@ -8,6 +8,7 @@ use Rattle.xmpp_desk.specs.Moments.{at_moment}
 use Rattle.xmpp_desk.specs.State.{Hall}
 use Rattle.xmpp_item_images.proofs.MovesKept.{kept_behind}
 use Rattle.xmpp_item_images.proofs.NetworkMoves.{Found, found_both}
+use Rattle.xmpp_item_images.proofs.UpMoves.{moved_joined}
 use Rattle.xmpp_item_images.specs.Devices.{identity_at}
 use Rattle.xmpp_item_images.specs.ItemRuns.{IsServed, moved_where, ups}
 use Rattle.xmpp_item_images.specs.Kept.{IsKept}
@@ -17,7 +18,7 @@ use Rattle.xmpp_item_images.specs.WorldImages.{IsMoved, WireAt, line_told}
 use Rattle.xmpp_item_worlds.specs.ItemMoves as items
 use Rattle.xmpp_item_worlds.specs.ItemMoves.{ItemMove, Tick, UpEnd}
 use Rattle.xmpp_item_worlds.specs.ItemWorlds.{ItemWorld}
-use Rattle.xmpp_links_follow.proofs.BindRows.{none_left}
+use Rattle.xmpp_item_images.proofs.RuleKept.{none_left}
 use Rattle.xmpp_live.specs.Sessions.{Session, is_at, is_expired, session_at, unexpired}
 use Rattle.xmpp_moves_beside.specs.Running.{MoveRuns}
 use Rattle.xmpp_resume.specs.declared.answers.TheConstants.{RESUMABLE_FOR}
@@ -39,10 +40,6 @@ use Rattle.xmpp_world.specs.Moves as bytes
 use Rattle.xmpp_world.specs.Moves.{moved}
 use Rattle.xmpp_world.specs.Worlds.{World, number_at}
 use Rattle.xmpp_writer.specs.Items.{ItemOut, written_item}
-
-joined : (first second : List ItemMove) (w : ItemWorld) → items.all_moved (first ++ second) w ≡ items.all_moved second (items.all_moved first w)
-joined [] second w = refl
-joined (m ∷ first) second w = joined first second (items.moved m w)
 
 none_turned : {A B : Type 0} (f : A → B) (o : Option A) → option_map f o ≡ None → o ≡ None
 none_turned f None none = refl
@@ -150,7 +147,7 @@ module _ (s : WireView) (right : IsWireSchedule s) (W : World) (x : sessions.Wor
   served_alone first ended (inl nothing) = subst (λ ms. IsAlone (items.all_moved (ms ++ moved_where (UpEnd place) ended) v)) (sym nothing) (told_alone ended)
   served_alone first ended (inr (n, is)) =
       subst (λ ms. IsAlone (items.all_moved (ms ++ moved_where (UpEnd place) ended) v)) (sym is)
-      (subst IsAlone (sym (joined (ups place n) (moved_where (UpEnd place) ended) ticked))
+      (subst IsAlone (sym (moved_joined (ups place n) (moved_where (UpEnd place) ended) ticked))
       (ended_alone (items.all_moved (ups place n) ticked) (ups_late s right d o by.of place m v.server.archives (others (filter timely v.server.sessions)) v.takes n ticked ticks) ended))
 
   -- ---- bytes

@@ -16,7 +16,7 @@ use Rattle.xmpp_links.specs.Stages.{Conn}
 use Rattle.xmpp_links.specs.Words.{Auth, Bind, Enable, Foot, Hdr, Resp, ResumeAt, Up as UpTraffic, UpWord}
 use Rattle.xmpp_links_follow.proofs.Changes.{under_place}
 use Rattle.xmpp_links_follow.proofs.CutPipes.{conn_of}
-use Rattle.xmpp_links_follow.proofs.Leavings.{seat_is, seat_of}
+use Rattle.xmpp_item_images.proofs.RuleKept.{seat_is, seat_of}
 use Rattle.xmpp_links_follow.proofs.Removed.{seat_left}
 use Rattle.xmpp_links_follow.specs.Steps.{ItemGoesUp}
 use Rattle.xmpp_links_follow.specs.Taking.{on_item}

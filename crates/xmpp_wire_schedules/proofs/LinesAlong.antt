@@ -3,6 +3,7 @@ use Rattle.std.proofs.Common.{◌≡◌, ℕ, ◌+◌, ◌*◌, ◌≤◌, List,
 use Rattle.std.proofs.lemmas.List.Concat.{flat_map-append}
 use Rattle.std.specs.List.{flat_map}
 use Rattle.std.specs.Prelude.{IsTrue}
+use Rattle.xmpp_device_deeds.proofs.AllDrifts.{reaches_both}
 use Rattle.xmpp_item_worlds.specs.ItemWorlds.{ItemWorld}
 use Rattle.xmpp_wire_schedules.specs.Refusals.{AreLinesRefused, all_refusals}
 use Rattle.xmpp_wire_schedules.proofs.LineCounts.{counted, may_say}
@@ -14,7 +15,7 @@ use Rattle.xmpp_schedule.specs.WireGrammar.{AreWireLines, WireAbove, above_by, a
 use Rattle.xmpp_schedule.specs.declared.schedule.WireLine.{WireLine}
 use Rattle.xmpp_wire_schedules.proofs.ByteMoves.{IsTimely}
 use Rattle.xmpp_wire_schedules.proofs.LineUnits.{dials_of, units_of}
-use Rattle.xmpp_wire_schedules.proofs.Rounds.{AtMost, joined}
+use Rattle.xmpp_wire_schedules.proofs.Rounds.{AtMost}
 use Rattle.xmpp_wire_schedules.specs.Besides.{EachMoveRuns, GoLines, IsImage, bounds}
 use Rattle.xmpp_sessions.specs.Devices.{World}
 use Rattle.xmpp_sessions.specs.Events.{Reaches}
@@ -108,7 +109,7 @@ module _ (schedule : WireView) (each : EachMoveRuns schedule) where
         last = more.last;
         go = (refl, d.goes.beside, subst (GoLines schedule rest more.runs (stepped line W)) (reaches_is (flat_map (λ one. one) d.goes.moves) x d.goes.next d.goes.led) more.go);
         reaches = subst (λ es. Reaches es x more.last) (sym (flat_map-append (λ one. one) d.goes.moves (moves_of more.runs)))
-            (joined (flat_map (λ one. one) d.goes.moves) (flat_map (λ one. one) (moves_of more.runs)) x d.goes.next more.last d.goes.led more.reaches);
+            (reaches_both (flat_map (λ one. one) d.goes.moves) (flat_map (λ one. one) (moves_of more.runs)) x d.goes.next more.last d.goes.led more.reaches);
         refused = (refl, refl, more.refused);
         spoken = (refl, d.goes.spoken, more.spoken);
       }

@@ -1,6 +1,6 @@
 -- No two devices of a schedule have one name.
-use Rattle.std.proofs.Common.{◌≡◌, ℕ, ◌+◌, Bool, true, false, not, List, [], ◌∷◌, ◌++◌, length, map, refl, sym, ap, subst, append-nil, append_assoc}
-use Rattle.std.proofs.lemmas.Bool.{and_parts, or_parts, true≢false}
+use Rattle.std.proofs.Common.{◌≡◌, ℕ, ◌+◌, false, not, List, [], ◌∷◌, ◌++◌, length, map, refl, sym, ap, subst, append-nil, append_assoc}
+use Rattle.std.proofs.lemmas.Bool.{and_parts, not-true, or_parts}
 use Rattle.std.specs.List.{AllByRecursion, flat_map}
 use Rattle.std.specs.Prelude.{IsTrue, ◌&&◌, nat_lt}
 use Rattle.std.specs.Str.{bytes_eq}
@@ -45,17 +45,13 @@ with_new (n ∷ names) name are new =
 abbrev pub names_by : List Step → List (List ℕ)
 names_by steps = map (λ (o : Owned). o.device) (owned_in steps)
 
-isnt : (b : Bool) → not b ≡ true → b ≡ false
-isnt true is = absurd (true≢false (sym is))
-isnt false is = refl
-
 new_name : (above : WireAbove) (name account : List ℕ) → IsTrue (may_run above (wire.Common (step.Device name account))) → is_among name above.names.devices ≡ false
 new_name above name account may =
     let few = nat_lt (length above.names.devices) 100 in
     let fresh = not (is_among name above.names.devices) in
     let a = and_parts (few && is_name name && fresh) (is_among account above.names.accounts) may in
     let b = and_parts (few && is_name name) fresh a.0 in
-    isnt (is_among name above.names.devices) b.1
+    not-true (is_among name above.names.devices) b.1
 
 by_step : (above : WireAbove) (number : ℕ) (s : WireStep) (rest : List Line) → IsTrue (may_run above s) → AreApart above.names.devices
     → (AreApart (above_by s above).names.devices → AreApart ((above_by s above).names.devices ++ names_by (steps_of rest)))

@@ -10,7 +10,7 @@ use Rattle.xmpp_desk.specs.Steps as steps
 use Rattle.xmpp_desk.specs.Steps.{Act, act, acted, put, shut}
 use Rattle.xmpp_desk.specs.Streams.{parting_where}
 use Rattle.xmpp_item_worlds.specs.ItemWorlds.{itself}
-use Rattle.xmpp_links_follow.proofs.Leavings.{seat_is, seat_of}
+use Rattle.xmpp_item_images.proofs.RuleKept.{seat_is, seat_of}
 use Rattle.xmpp_live.specs.Rule.{IsRule}
 use Rattle.xmpp_live.specs.Sessions.{Session, asks, fresh, is_at, is_named, session_at, session_of, with_session, without}
 use Rattle.xmpp_moves_beside.proofs.RepliesFlags.{all_are_found}

@@ -1,12 +1,13 @@
 -- However many bytes are handed to a device, what its client tells is no such fault: they are items, one after another.
-use Rattle.std.proofs.Common.{◌≡◌, ◌⊎◌, ℕ, zero, suc, ◌+◌, ◌≤◌, Bool, true, false, cond, List, [], ◌∷◌, ◌++◌, Option, None, Some, drop, map, slice_get, take, refl, sym, ap, subst, ◌∙◌, inl, inr, arith}
+use Rattle.std.proofs.Common.{◌≡◌, ◌⊎◌, ℕ, ◌+◌, ◌≤◌, Bool, true, false, cond, List, [], ◌∷◌, ◌++◌, Option, None, Some, drop, map, slice_get, take, refl, sym, ap, subst, ◌∙◌, inl, inr, arith}
+use Rattle.std.proofs.Math.Seq.{take-nil}
 use Rattle.std.proofs.lemmas.Bool.{eq-eqb}
 use Rattle.std.proofs.lemmas.List.{take-append-drop}
 use Rattle.std.proofs.lemmas.Option.{same_Some}
 use Rattle.std.specs.List.{AllByRecursion}
 use Rattle.std.specs.Option.{option_map}
 use Rattle.xmpp_client.specs.Feeds.{bytes_in, bytes_step, with_fault}
-use Rattle.xmpp_client.specs.Steps.{connected_step, item_step, items_run}
+use Rattle.xmpp_client.specs.Steps.{item_step, items_run}
 use Rattle.xmpp_client_laws.proofs.TableTurned.{bytes_turned, items_turned}
 use Rattle.xmpp_client_laws.specs.Turned.{written}
 use Rattle.xmpp_client_rows.specs.Clients.{ClientView, Turn}
@@ -21,9 +22,8 @@ use Rattle.xmpp_devices.specs.Devices.{DeviceState, has_wire}
 use Rattle.xmpp_framing.specs.States as framing
 use Rattle.xmpp_framing.specs.States.{State}
 use Rattle.xmpp_framing.specs.declared.fault.Fault.{Fault}
-use Rattle.xmpp_framing.specs.declared.items.Item.{Item}
-use Rattle.xmpp_framing.specs.declared.items.Item.TheVariants as item
-use Rattle.xmpp_framing_laws.specs.Spells.{placed}
+use Rattle.xmpp_item_images.proofs.DownMoves.{run_unplaced}
+use Rattle.xmpp_item_images.proofs.ItemsHeard.{apart_run}
 use Rattle.xmpp_item_images.proofs.Lookups.{get_changed_same}
 use Rattle.xmpp_item_images.proofs.NetworkMoves.{found_both}
 use Rattle.xmpp_item_images.proofs.TurnsBehind.{step_adds}
@@ -92,11 +92,6 @@ widened s says w x r = record {
 -- so far the device asked for few pages, or no answer is under way to it
 abbrev IsFew : Device → Type 0
 IsFew d = (d.reading.asked ≤ 200001) ⊎ IsUnanswered d
-
--- items that come where no connection stands do nothing
-apart_run : (l : List Item) (t : Turn ItemOut ItemOut) → is_apart t.client.phase ≡ true → items_run in_items t l ≡ t
-apart_run [] t e = refl
-apart_run (i ∷ l) t e = ap (λ (b : Bool). items_run in_items (cond b t (connected_step in_items t i)) l) e ∙ apart_run l t e
 
 -- these items are under way to the device of a connection, which has it
 record AreComing (s : WireView) (place says : ℕ) (w : ItemWorld) (x : World) (wire : ItemWire) (d : ItemDevice) (items : List ItemOut) : Type 0 where
@@ -210,20 +205,6 @@ fault_fair t (Some why) fair = by (is_apart t.client.phase)
     by true = fair
     by false = all_append IsFair t.out.events (Ended (Framing why) ∷ []) fair ((tt, tt), tt)
 
--- the place of a header is not looked at
-step_unplaced : (t : Turn (List ℕ) ℕ) (i : Item) → item_step in_bytes t i ≡ item_step in_bytes t (placed 0 i)
-step_unplaced t (item.Header at h) = refl
-step_unplaced t (item.Element e) = refl
-step_unplaced t item.Footer = refl
-
-run_unplaced : (l : List Item) (t : Turn (List ℕ) ℕ) → items_run in_bytes t l ≡ items_run in_bytes t (map (placed 0) l)
-run_unplaced [] t = refl
-run_unplaced (i ∷ l) t = ap (λ u. items_run in_bytes u l) (step_unplaced t i) ∙ run_unplaced l (item_step in_bytes t (placed 0 i))
-
-take_none : (n : ℕ) → take {A = ℕ} n [] ≡ []
-take_none zero = refl
-take_none (suc n) = refl
-
 module _ (s : WireView) (right : IsWireSchedule s) (W : bytes.World) (x : World) (beside : AreBeside s W x) (timely : IsTimely W) where
   abbrev v : ItemWorld
   v = beside.items
@@ -234,7 +215,7 @@ module _ (s : WireView) (right : IsWireSchedule s) (W : bytes.World) (x : World)
 
     -- no byte comes
     nothing_told : b.down.bytes ≡ [] → AllByRecursion IsFair (told_on n b d)
-    nothing_told none = subst (λ bs. AllByRecursion IsFair (bytes_step in_bytes (devices.silent d.client) bs).turn.out.events) (sym (ap (take n) none ∙ take_none n)) (by d.client.framer)
+    nothing_told none = subst (λ bs. AllByRecursion IsFair (bytes_step in_bytes (devices.silent d.client) bs).turn.out.events) (sym (ap (take n) none ∙ take-nil n)) (by d.client.framer)
       where
         by : (f : Option State) → AllByRecursion IsFair (bytes_in in_bytes (devices.silent_turn d.client) f []).turn.out.events
         by None = tt

@@ -4,6 +4,7 @@ use Rattle.std.proofs.lemmas.Bool.{cases_eq}
 use Rattle.std.proofs.lemmas.List.Concat.{flat_map-append}
 use Rattle.std.proofs.lemmas.Option.{same_Some}
 use Rattle.std.specs.List.{slice_get}
+use Rattle.xmpp_device_deeds.proofs.AllDrifts.{reaches_both}
 use Rattle.xmpp_item_images.specs.ItemRuns.{IsServed, downs, moved_where, ups}
 use Rattle.xmpp_item_images.specs.Fitting.{MayItem}
 use Rattle.xmpp_item_worlds.specs.ItemMoves.{ItemMove, Down, DownEnd, Tick, Up, UpEnd, all_moved, moved}
@@ -66,10 +67,6 @@ pub record Goes (schedule : WireView) (says : ℕ) (w2 : ItemWorld) (x : World) 
   pub post : Post next
   pub runs : WorldRuns schedule bounds says w2 next
 
-pub joined : (first second : List Event) (x y z : World) → Reaches first x y → Reaches second y z → Reaches (first ++ second) x z
-joined [] second x y z one two = subst (λ v. Reaches second v z) one two
-joined (e ∷ first) second x y z one two = (one.0, one.1, joined first second one.0 y z one.2 two)
-
 pub stays : (schedule : WireView) (says : ℕ) (w2 : ItemWorld) (x : World) (Post : World → Type 0) → WorldRuns schedule bounds says w2 x → Post x → Goes schedule says w2 x Post
 stays schedule says w2 x Post runs post = record { events = []; next = x; led = refl; silent = refl; post = post; runs = runs }
 
@@ -80,7 +77,7 @@ then schedule says w1 w2 x Mid Post first second =
     record {
       events = first.events ++ rest.events;
       next = rest.next;
-      led = joined first.events rest.events x first.next rest.next first.led rest.led;
+      led = reaches_both first.events rest.events x first.next rest.next first.led rest.led;
       silent = flat_map-append spoken_by first.events rest.events ∙ ap (λ l. l ++ spoken_in rest.events) first.silent ∙ rest.silent;
       post = rest.post;
       runs = rest.runs;

@@ -19,6 +19,7 @@ use Rattle.xmpp_links_events.specs.Lists.{IsSession}
 use Rattle.xmpp_outbox.specs.Submissions.{all_said}
 use Rattle.xmpp_report.specs.Lines.{take_line}
 use Rattle.xmpp_report.specs.declared.report.SaidMark.TheVariants.{Undecided}
+use Rattle.xmpp_wire_schedules.proofs.Moves.{small}
 use Rattle.xmpp_wire_schedules.proofs.WorldTold as world
 use Rattle.xmpp_schedule.specs.Contents.{Owned, accounts_of}
 use Rattle.xmpp_schedule.specs.Schedules.{WireView, keep_of}
@@ -43,11 +44,8 @@ use Rattle.xmpp_wire_schedules.specs.Messages.{AreTold, HasMessages, messages_in
 use Rattle.xmpp_wire_schedules.specs.Pairs.{Pair}
 use Rattle.xmpp_world.specs.Worlds.{World}
 use Rattle.xmpp_item_images.specs.Kept.{IsKept}
-use Rattle.xmpp_moves_beside.specs.Running.{AreSmall, DeviceRuns}
+use Rattle.xmpp_moves_beside.specs.Running.{DeviceRuns}
 use Rattle.xmpp_writer.specs.Items.{ItemOut}
-
-small : AreSmall bounds
-small = record { stanzas = omega arith; dials = omega arith }
 
 -- the session of which a pair is made
 found_pair : (o : Option (links.Session ItemOut)) (p : Pair) → option_map pair_of o ≡ Some p → (t : links.Session ItemOut) × (o ≡ Some t) × (pair_of t ≡ p)

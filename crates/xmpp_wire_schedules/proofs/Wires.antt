@@ -7,13 +7,13 @@ use Rattle.xmpp_client_rows.specs.Clients.{Turn}
 use Rattle.xmpp_client_rows.specs.Speech.{in_items}
 use Rattle.xmpp_server.specs.Table.{after_item}
 use Rattle.xmpp_desk.specs.Moments.{at_moment, gone_at}
-use Rattle.xmpp_desk.specs.State.{Out, Put, Shut, Took}
+use Rattle.xmpp_item_images.proofs.UpMoves.{length_items_emitted}
 use Rattle.xmpp_item_images.specs.ItemRuns.{IsServed, downs, moved_where, ups}
 use Rattle.xmpp_item_worlds.specs.ItemMoves.{ItemMove, CatchUp, Close, Cut, Dial, Down, DownEnd, Forget, Say, Tick, Up, UpEnd, all_moved, fed_of, has_wire, moved, step_of}
 use Rattle.xmpp_item_worlds.specs.ItemMoves as items
 use Rattle.xmpp_item_worlds.specs.ItemPipes.{ItemWire, fresh_wire, handed_up, is_end_due, left, put_up, up_end_told}
 use Rattle.xmpp_item_worlds.specs.ItemWorlds.{ItemDevice, ItemWorld, itself, read_of}
-use Rattle.xmpp_wires.specs.Places.{changed_at, changed_where, place_under}
+use Rattle.xmpp_wires.specs.Places.{changed_at, changed_where}
 use Rattle.xmpp_writer.specs.Items.{ItemOut}
 
 at_many : (p : ℕ) (f : ItemWire → ItemWire) (l : List ItemWire) → length (changed_at p f l) ≡ length l
@@ -24,12 +24,6 @@ at_many (suc p) f (x ∷ l) = ap suc (at_many p f l)
 where_many : (o : Option ℕ) (f : ItemWire → ItemWire) (l : List ItemWire) → length (changed_where o f l) ≡ length l
 where_many None f l = refl
 where_many (Some p) f l = at_many p f l
-
-emitted_many : (outs : List (Out ItemOut)) (l : List ItemWire) → length (items.all_emitted outs l) ≡ length l
-emitted_many [] l = refl
-emitted_many (Put k i ∷ outs) l = emitted_many outs (items.emitted (Put k i) l) ∙ where_many (place_under k) _ l
-emitted_many (Shut k ∷ outs) l = emitted_many outs (items.emitted (Shut k) l) ∙ where_many (place_under k) _ l
-emitted_many (Took from to origin ∷ outs) l = emitted_many outs l
 
 -- as many as before
 abbrev pub AsMany : ItemWorld → ItemWorld → Type 0
@@ -57,7 +51,7 @@ up_many place (Some wire) w = by wire.up.items
   where
     by : (l : List ItemOut) → AsMany w (items.served_first place l w)
     by [] = refl
-    by (i ∷ l) = emitted_many (after_item itself (place + 1) (read_of i) (step_of w.server)).outs (changed_at place handed_up w.wires) ∙ at_many place handed_up w.wires
+    by (i ∷ l) = length_items_emitted (after_item itself (place + 1) (read_of i) (step_of w.server)).outs (changed_at place handed_up w.wires) ∙ at_many place handed_up w.wires
 
 told_many : (place : ℕ) (o : Option ItemWire) (w : ItemWorld) → AsMany w (items.told_up place o w)
 told_many place None w = refl

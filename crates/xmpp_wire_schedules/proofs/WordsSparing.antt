@@ -22,7 +22,8 @@ use Rattle.xmpp_links.proofs.Expected.{expected_up}
 use Rattle.xmpp_links.specs.Views.{Table, View, on_phase}
 use Rattle.xmpp_links.specs.Words.{Auth, Bind, Enable, Foot, Hdr, Ready, Resp, Restart, ResumeAt, Start, Up, UpWord}
 use Rattle.xmpp_links_follow.proofs.BindReads.{bind_elem, bind_word, resource_asked, resource_chosen}
-use Rattle.xmpp_links_follow.proofs.Found.{found_is, found_on, numbered_here}
+use Rattle.xmpp_links_follow.proofs.Found.{found_on}
+use Rattle.xmpp_item_images.proofs.RuleKept.{found_is, numbered_here}
 use Rattle.xmpp_links_follow.proofs.HandMoves.{kept_here, row_here}
 use Rattle.xmpp_links_follow.proofs.Leavings.{unseated}
 use Rattle.xmpp_links_follow.proofs.LoginRows.{auth_step, response_step, restart_step, start_step}

@@ -83,7 +83,7 @@ before_new name before (n ∷ names) (suc place) are is =
     neither true y h = absurd (false≢true (sym h))
     neither false y h = refl
 
-among_last : (name : List ℕ) (before : List (List ℕ)) → is_among name (before ++ name ∷ []) ≡ true
+pub among_last : (name : List ℕ) (before : List (List ℕ)) → is_among name (before ++ name ∷ []) ≡ true
 among_last name [] = rw (bytes_eq-self name) refl
 among_last name (n ∷ before) = or_there (bytes_eq name n) (is_among name (before ++ name ∷ [])) (among_last name before)
   where

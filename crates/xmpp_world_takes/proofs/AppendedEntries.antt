@@ -9,7 +9,7 @@ use Rattle.xmpp_desk.specs.Steps.{appended}
 use Rattle.xmpp_takes.specs.Taken.{all_appended}
 
 -- what is kept of what was kept before, and of more
-newest_behind : {A : Type 0} (keep : ℕ) (xs ys : List A) → newest keep (newest keep xs ++ ys) ≡ newest keep (xs ++ ys)
+pub newest_behind : {A : Type 0} (keep : ℕ) (xs ys : List A) → newest keep (newest keep xs ++ ys) ≡ newest keep (xs ++ ys)
 newest_behind keep xs ys =
     let over = length xs - keep in
     let kept = drop over xs in

@@ -5,6 +5,7 @@ pub mod AccountNames
 -- ---- the world
 pub mod Booked
 pub mod BookedMoves
+pub mod DevicesMoved
 pub mod OwnersKept
 -- ---- the report
 pub mod ArchiveStamps
