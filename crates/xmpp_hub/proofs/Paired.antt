@@ -6,6 +6,7 @@ use Rattle.xmpp_halves.specs.Halves.{IncomingView, OutgoingView}
 use Rattle.xmpp_hub.specs.Backs.{ArePaired}
 use Rattle.xmpp_owner.specs.Halves.{IsHeld, IsNew}
 use Rattle.xmpp_owner.specs.declared.owner.Owner.{Owner}
+use Rattle.xmpp_recorder.specs.declared.recorder.Recorder.{Recorder}
 use Rattle.xmpp_senders.specs.Sendings.{numbers_of}
 use Rattle.xmpp_senders.specs.declared.sender.Sender.{Sender}
 
@@ -25,3 +26,8 @@ module _ {R I O P T : Type 0} (told : I → IncomingView) (out : O → OutgoingV
       map_some (λ job. (get_elem? (numbers h.taker) i ≡ some (told job.half).number) × IsNew (told job.half))
       (λ job. (s : Sender O) × (get_elem? senders i ≡ some s) × ((told job.half).number ≡ (out s.half).number)) p.worker
       (λ job e. at_map (λ (s : Sender O). (out s.half).number) senders i (told job.half).number (sym (ap (λ l. get_elem? l i) are) ∙ e.0)) (held.paired i p at)
+
+module _ {R I O P : Type 0} (told : I → IncomingView) (out : O → OutgoingView) where
+  -- so it is with a recorder
+  pub held_paired : (h : Owner R I P (Recorder O)) → IsHeld told (λ r. numbers_of out r.senders.items) h → ArePaired told out h.places.items h.taker.senders.items
+  held_paired h held = paired told out (λ r. numbers_of out r.senders.items) h h.taker.senders.items refl held

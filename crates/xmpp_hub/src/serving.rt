@@ -32,6 +32,7 @@ use xmpp_recorder::{Recorder, journal_of};
 use xmpp_workers::{Spawner, Worker};
 
 // After a fault: joins all workers, and gives the links of readers back.
+#[tactic(auto, using(crate::proofs::Paired::held_paired))]
 fn leave<
     R: Threads + Wait + Drop,
     I: Incoming + Drop,

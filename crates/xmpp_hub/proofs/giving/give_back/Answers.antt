@@ -30,7 +30,7 @@ loop-place-preserved-in-Some-worker g c =
     let read = subst (λ j. HasRead told j c.join-half.result) c.in-Some-worker.worker-is c.join-half.ensures in record {
       paired = paired_rest told out left at.senders.items p next s rest at.invariant.paired first front;
       given = left_next told out c.args.places.items left next c.args.senders.items at.senders.items rest (given c.args.door.now) (given at.door) (given c.give_back_halves.new.self) p s job _ at.invariant.given first front c.in-Some-worker.is
-      (record { answer = c.join-half.result; read = read; link_is = refl }) c.give_back_halves.ensures.given;
+          (record { answer = c.join-half.result; read = read; link_is = refl }) c.give_back_halves.ensures.given;
       faults = c.give_back_halves.ensures.faults ∙ at.invariant.faults;
       handed = c.give_back_halves.ensures.handed ∙ at.invariant.handed;
     }
