@@ -17,6 +17,9 @@ use xmpp_trees::{Attr, Attrs};
 /// fewer.
 const KEPT_PIECES: usize = 64;
 
+/// Up to so many pieces room doubles.
+const DOUBLED_PIECES: usize = 1_024;
+
 /// What stands in an element: a part of a tag, a text, or an end tag. A namespace holds until another one is told, and
 /// attributes stand before the name of their element.
 #[derive(Drop)]
@@ -61,17 +64,17 @@ impl Model for Pieces {
     ghost invariant = { λ p. (reading p.items.items).ns ≡ p.ns };
 }
 
-// How many pieces there is to be room for where so many are wanted. It doubles, so that all moves of pieces together are as
-// many as there are pieces.
+// How many pieces there is to be room for where so many are wanted. Room for many grows by a part of itself and doesn't double:
+// what is unfinished for long shall take little more than its pieces.
 fn room_for(wanted: usize) -> usize
     ensures { wanted ≤ result }
 {
     if wanted <= KEPT_PIECES {
-        return KEPT_PIECES;
-    }
-    match wanted.checked_next_power_of_two() {
-        Some(power) => power,
-        None => wanted,
+        KEPT_PIECES
+    } else if wanted <= DOUBLED_PIECES {
+        wanted.saturating_mul(2)
+    } else {
+        wanted.saturating_add(wanted / 8)
     }
 }
 
