@@ -3,7 +3,7 @@ use Rattle.std.proofs.Common.{◌≡◌, ℕ, suc, ◌+◌, ◌≤◌, List, [],
 use mathlib.Core.Option.{some, some-ne-none, some-injective}
 use lib.ListN.{get_elem?}
 use Rattle.xmpp_halves.specs.Halves.{IncomingView, OutgoingView, link_of}
-use Rattle.xmpp_hub.specs.Backs.{AreBack, AreBackYet, AreBehind, ArePaired, AreReady, IsBack, IsReady}
+use Rattle.xmpp_hub.specs.Backs.{AreBack, AreBackYet, AreLeft, AreLeftFrom, AreLeftYet, ArePaired, AreReady, IsBack, IsLeft, IsReady}
 use Rattle.xmpp_outside.specs.Links.{LinkView}
 use Rattle.xmpp_owner.specs.Halves.{IsNew}
 use Rattle.xmpp_owner.specs.Owners.{HasGiven}
@@ -22,12 +22,6 @@ the_same : {A : Type 0} (a b : A) → Some a ≡ Some b → a ≡ b
 unfolding or_it
 the_same a b e = ap (or_it a) e
 
-pub behind_none : (g : List LinkView) → AreBehind g g
-behind_none g = ([], sym (append-nil g))
-
-pub behind_more : (f g h : List LinkView) (link : LinkView) → AreBehind f g → h ≡ g ++ link ∷ [] → AreBehind f h
-behind_more f g h link are is = (are.0 ++ link ∷ [], is ∙ ap (λ l. l ++ link ∷ []) are.1 ∙ append_assoc f are.0 (link ∷ []))
-
 module _ {R I O P : Type 0} (told : I → IncomingView) (out : O → OutgoingView) (got : List (Item P)) where
   pub back_more : (k : ℕ) (ps : List (Place R I P)) (ss : List (Sender O)) (ls : List LinkView) (p : Place R I P) (s : Sender O) (l : LinkView) → AreBack told out got k ps ss ls → IsBack told out got (k + length ps) p s l
       → AreBack told out got k (ps ++ p ∷ []) (ss ++ s ∷ []) (ls ++ l ∷ [])
@@ -41,6 +35,9 @@ module _ {R I O P : Type 0} (told : I → IncomingView) (out : O → OutgoingVie
       (are.0, back_more (k + 1) ps ss ls p s l are.1 (subst (λ n. IsBack told out got n p s l) same is))
 
 module _ {R I O P : Type 0} (told : I → IncomingView) (out : O → OutgoingView) where
+  pub paired_begin : (places left : List (Place R I P)) (senders rest : List (Sender O)) → ArePaired told out places senders → left ≡ places → rest ≡ senders → ArePaired told out left rest
+  paired_begin places left senders rest paired a b = subst (λ l. ArePaired told out l rest) (sym a) (subst (λ l. ArePaired told out places l) (sym b) paired)
+
   -- the first place's reader is of the same link as the first sender
   pub paired_first : (left : List (Place R I P)) (senders : List (Sender O)) (p : Place R I P) (ps : List (Place R I P)) (s : Sender O) (ss : List (Sender O)) (job : ReaderJob R I P)
       → ArePaired told out left senders → left ≡ p ∷ ps → senders ≡ s ∷ ss → p.worker ≡ Some job → (told job.half).number ≡ (out s.half).number
@@ -68,6 +65,56 @@ module _ {R I O P : Type 0} (told : I → IncomingView) (out : O → OutgoingVie
       → ArePaired told out left senders → left ≡ p ∷ ps → length senders ≡ 0 → senders ≡ rest → ArePaired told out ps rest
   paired_empty left [] rest p ps paired first none same i q at = let both = subst (λ l. ArePaired told out l []) first paired in subst (λ l. IfSome q.worker (λ job. (s : Sender O) × (get_elem? l i ≡ some s) × ((told job.half).number ≡ (out s.half).number))) same (both (suc i) q at)
   paired_empty left (s ∷ ss) rest p ps paired first none same i q at = absurd (omega (arith, none))
+
+module _ {R I O P : Type 0} (told : I → IncomingView) (out : O → OutgoingView) where
+  pub left_first : (places left : List (Place R I P)) (senders rest : List (Sender O)) (g : List LinkView) → left ≡ places → rest ≡ senders → AreLeftYet told out places left senders rest g g
+  left_first places left senders rest g a b = record {
+    links = [];
+    given = sym (append-nil g);
+    whole = λ more are. subst (λ l. AreLeft told out l senders more) a (subst (λ l. AreLeft told out left l more) b are);
+  }
+
+  -- a reader was joined, and its link given back
+  pub left_next : (places was left : List (Place R I P)) (senders had rest : List (Sender O)) (old now new : List LinkView) (p : Place R I P) (s : Sender O) (job : ReaderJob R I P) (link : LinkView)
+      → AreLeftYet told out places was senders had old now → was ≡ p ∷ left → had ≡ s ∷ rest → p.worker ≡ Some job → IsLeft told out job s link → new ≡ now ++ link ∷ []
+      → AreLeftYet told out places left senders rest old new
+  left_next places was left senders had rest old now new p s job link yet first front some_one is more = record {
+    links = yet.links ++ link ∷ [];
+    given = more ∙ ap (λ l. l ++ link ∷ []) yet.given ∙ append_assoc old yet.links (link ∷ []);
+    whole = λ others are.
+        let here : AreLeftFrom told out p.worker (AreLeft told out left) (s ∷ rest) (link ∷ others) = subst (λ w. AreLeftFrom told out w (AreLeft told out left) (s ∷ rest) (link ∷ others)) (sym some_one) (is, are) in
+        let all : AreLeft told out was had (link ∷ others) = subst (λ l. AreLeft told out l had (link ∷ others)) (sym first) (subst (λ l. AreLeft told out (p ∷ left) l (link ∷ others)) (sym front) here) in
+        subst (λ l. AreLeft told out places senders l) (sym (append_assoc yet.links (link ∷ []) others)) (yet.whole (link ∷ others) all);
+  }
+
+  -- no reader was started
+  pub left_none : (places was left : List (Place R I P)) (senders had rest : List (Sender O)) (old now : List LinkView) (p : Place R I P) (s : Sender O)
+      → AreLeftYet told out places was senders had old now → was ≡ p ∷ left → had ≡ s ∷ rest → p.worker ≡ None → AreLeftYet told out places left senders rest old now
+  left_none places was left senders had rest old now p s yet first front none = record {
+    links = yet.links;
+    given = yet.given;
+    whole = λ more are.
+        let here : AreLeftFrom told out p.worker (AreLeft told out left) (s ∷ rest) more = subst (λ w. AreLeftFrom told out w (AreLeft told out left) (s ∷ rest) more) (sym none) are in
+        yet.whole more (subst (λ l. AreLeft told out l had more) (sym first) (subst (λ l. AreLeft told out (p ∷ left) l more) (sym front) here));
+  }
+
+  -- nor is there a sender
+  pub left_empty : (places was left : List (Place R I P)) (senders had rest : List (Sender O)) (old now : List LinkView) (p : Place R I P)
+      → AreLeftYet told out places was senders had old now → was ≡ p ∷ left → length had ≡ 0 → had ≡ rest → p.worker ≡ None → AreLeftYet told out places left senders rest old now
+  left_empty places was left senders [] rest old now p yet first empty same none = record {
+    links = yet.links;
+    given = yet.given;
+    whole = λ more are.
+        let here : AreLeftFrom told out p.worker (AreLeft told out left) [] more = subst (λ w. AreLeftFrom told out w (AreLeft told out left) [] more) (sym none) (subst (λ l. AreLeft told out left l more) (sym same) are) in
+        yet.whole more (subst (λ l. AreLeft told out l [] more) (sym first) here);
+  }
+  left_empty places was left senders (s ∷ had) rest old now p yet first empty same none = absurd (omega (arith, empty))
+
+  -- once no place is left
+  pub left_all : (places left : List (Place R I P)) (senders rest : List (Sender O)) (old now : List LinkView) → AreLeftYet told out places left senders rest old now → length left ≡ 0
+      → (links : List LinkView) × (now ≡ old ++ links) × AreLeft told out places senders links
+  left_all places [] senders rest old now yet none = (yet.links, yet.given, subst (λ l. AreLeft told out places senders l) (append-nil yet.links) (yet.whole [] tt))
+  left_all places (p ∷ left) senders rest old now yet none = absurd (omega (arith, none))
 
 module _ {R I O P : Type 0} (told : I → IncomingView) (out : O → OutgoingView) (got : List (Item P)) where
   module _ (same : ReaderJob R I P → Type 0) where

@@ -1,5 +1,5 @@
 -- Places and the halves of their connections, when these are given back.
-use Rattle.std.specs.Prelude.{◌≡◌, ℕ, ◌+◌, true, List, [], ◌∷◌, ◌++◌, Some, IfSome, length}
+use Rattle.std.specs.Prelude.{◌≡◌, ℕ, ◌+◌, true, List, [], ◌∷◌, ◌++◌, Option, None, Some, IfSome, length}
 use mathlib.Core.Option.{some}
 use lib.ListN.{get_elem?}
 use Rattle.xmpp_halves.specs.Halves.{IncomingView, OutgoingView, link_of}
@@ -9,7 +9,9 @@ use Rattle.xmpp_owner.specs.Owners.{HasGiven}
 use Rattle.xmpp_owner.specs.declared.place.Place.{Place}
 use Rattle.xmpp_queue.specs.Merge.{items_of}
 use Rattle.xmpp_readers.specs.Feeds.{has_end, number}
+use Rattle.xmpp_readers.specs.Readers.{HasRead}
 use Rattle.xmpp_readers.specs.declared.item.Item.{Item}
+use Rattle.xmpp_readers.specs.declared.reader.ReaderAnswer.{ReaderAnswer}
 use Rattle.xmpp_readers.specs.declared.reader.ReaderJob.{ReaderJob}
 use Rattle.xmpp_senders.specs.declared.sender.Sender.{Sender}
 
@@ -22,6 +24,33 @@ module _ {R I O P : Type 0} (told : I → IncomingView) (out : O → OutgoingVie
   abbrev pub ArePaired : List (Place R I P) → List (Sender O) → Type 0
   ArePaired places senders = (i : ℕ) (p : Place R I P) → get_elem? places i ≡ some p
       → IfSome p.worker (λ job. (s : Sender O) × (get_elem? senders i ≡ some s) × ((told job.half).number ≡ (out s.half).number))
+
+  -- the link of a reader that was joined: its one half is what the reader answered, and its other half is the sender's
+  pub record IsLeft (job : ReaderJob R I P) (s : Sender O) (link : LinkView) : Type 0 where
+    pub answer : ReaderAnswer I P
+    pub read : HasRead told job answer
+    pub link_is : link ≡ link_of (told answer.half) (out s.half)
+
+  -- the link of the first reader, if one was started, and then the others
+  abbrev pub AreLeftFrom : Option (ReaderJob R I P) → (List (Sender O) → List LinkView → Type 0) → List (Sender O) → List LinkView → Type 0
+  AreLeftFrom None Others [] links = Others [] links
+  AreLeftFrom None Others (s ∷ ss) links = Others ss links
+  AreLeftFrom (Some job) Others [] links = ⊥
+  AreLeftFrom (Some job) Others (s ∷ ss) [] = ⊥
+  AreLeftFrom (Some job) Others (s ∷ ss) (l ∷ ls) = IsLeft job s l × Others ss ls
+
+  -- the links of all readers that were started, in the order of their places, each with the sender at its place
+  abbrev pub AreLeft : List (Place R I P) → List (Sender O) → List LinkView → Type 0
+  AreLeft [] senders [] = Unit {0}
+  AreLeft [] senders (l ∷ ls) = ⊥
+  AreLeft (p ∷ ps) senders links = AreLeftFrom p.worker (AreLeft ps) senders links
+
+  -- These links were given back, and these places and senders are left: with whatever links are theirs, those of all are given
+  -- back.
+  pub record AreLeftYet (places left : List (Place R I P)) (senders rest : List (Sender O)) (old now : List LinkView) : Type 0 where
+    pub links : List LinkView
+    pub given : now ≡ old ++ links
+    pub whole : (more : List LinkView) → AreLeft left rest more → AreLeft places senders (links ++ more)
 
   module _ (got : List (Item P)) where
     -- the reader of connection k was started and has ended; its half was new, and is of the same link as the sender's

@@ -1,6 +1,7 @@
 //! Readers are joined, and links given back, whatever failed.
 ghost use Rattle.std.specs.Prelude.{◌≡◌, ◌++◌, ◌≤◌, ℕ, List, IfSome, length};
-ghost use Rattle.xmpp_hub.specs.Backs.{AreBehind, ArePaired};
+ghost use Rattle.xmpp_hub.specs.Backs.{AreLeft, ArePaired};
+ghost use Rattle.xmpp_outside.specs.Links.{LinkView};
 
 use std::collections::VecDeque;
 use std::sync::Wait;
@@ -19,7 +20,7 @@ pub(crate) fn give_back<
     D: Halves<Incoming = I, Outgoing = O>,
 >(rt: &R, places: Vec<Place<R, I, Pair<I, O>>>, senders: Vec<Sender<O>>, door: &mut D)
     requires { ArePaired I.told O.told places.items senders.items }
-    ensures given { AreBehind (D.given door.old) (D.given door.new) }
+    ensures given { (links : List LinkView) × (D.given door.new ≡ D.given door.old ++ links) × AreLeft I.told O.told places.items senders.items links }
     ensures faults { D.faults door.new ≡ D.faults door.old }
     ensures handed { D.handed door.new ≡ D.handed door.old }
 {

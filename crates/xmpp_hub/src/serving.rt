@@ -3,9 +3,10 @@ ghost use Rattle.std.specs.Prelude.{◌≡◌, ◌≢◌, ◌⊎◌, ◌<◌, �
 ghost use Rattle.crossbeam_channel.specs.Claims.{IsSeatAt, view};
 ghost use Rattle.crossbeam_channel.specs.Ends.{sends_on};
 ghost use Rattle.xmpp_edge.specs.Counts.{Rose};
-ghost use Rattle.xmpp_hub.specs.Backs.{AreBehind};
+ghost use Rattle.xmpp_hub.specs.Backs.{AreBehind, AreLeft};
 ghost use Rattle.xmpp_hub.specs.Served.{HasServed, IsOwn, IsRefusal, IsWritten};
 ghost use Rattle.xmpp_journal.specs.AccountsFiles.{accounts_text};
+ghost use Rattle.xmpp_outside.specs.Links.{LinkView};
 ghost use Rattle.xmpp_owner.specs.Arrivals.{has_closed};
 ghost use Rattle.xmpp_owner.specs.Halves.{IsHeld};
 ghost use Rattle.xmpp_owner.specs.Owners.{IsGoing};
@@ -42,7 +43,7 @@ fn leave<
     acceptor: Worker<AcceptorJob<R, D, Pair<I, O>>>,
 ) -> D
     requires held { IsHeld I.told (λ r. numbers_of O.told r.senders.items) owner }
-    ensures { AreBehind (D.given acceptor.door) (D.given result) }
+    ensures left { (links : List LinkView) × (D.given result ≡ D.given acceptor.door ++ links) × AreLeft I.told O.told owner.places.items owner.taker.senders.items links }
 {
     let AcceptorAnswer { mut door, .. } = acceptor.join(rt);
     let Owner { places, taker, .. } = owner;
