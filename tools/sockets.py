@@ -15,7 +15,7 @@ TOP = os.path.dirname(os.path.dirname(os.path.abspath(__file__)))
 SHARED = os.environ.get("SHARED_TOOLS", os.path.join(TOP, "../shared/tools"))
 BASELINE = os.environ.get("BASELINE", os.path.join(SHARED, "baseline"))
 HOST = "127.0.0.1"
-SECONDS = 30
+SECONDS = 120
 TICKS = os.sysconf("SC_CLK_TCK")
 
 

@@ -5,12 +5,8 @@ use Rattle.std.specs.declared.alloc.Global.{Global}
 use Rattle.xmpp_names.proofs.BoundNames.{front_of_more}
 use Rattle.xmpp_names.specs.Scopes.{Scope, scope_of}
 use Rattle.xmpp_names.specs.declared.scopes.Binding.{Binding}
-use Rattle.xmpp_framing.specs.FramerView.{open_of, opens_of, own_of, scopes_of}
+use Rattle.xmpp_framing.specs.FramerView.{own_of, scopes_of}
 use Rattle.xmpp_framing.specs.TagSteps.{outer_scopes, scope_in}
-use Rattle.xmpp_framing.specs.declared.states.Open.{Open}
-
-pub opens_push : (os : List Open) (o : Open) → opens_of (os ++ o ∷ []) ≡ open_of o ∷ opens_of os
-opens_push os o = ap (map open_of) (reverse-append os (o ∷ []))
 
 pub scopes_push : (vs : List (Vec Binding Global)) (v : Vec Binding Global) → scopes_of (vs ++ v ∷ []) ≡ v.items ∷ scopes_of vs
 scopes_push vs v = ap (map own_of) (reverse-append vs (v ∷ []))

@@ -4,9 +4,9 @@ use Rattle.std.specs.Coded.{Coded, code_by, coded×, coded_list, coded_option}
 use Rattle.std.proofs.Common.{refl}
 use Rattle.xmpp_names.specs.Scopes.{Scope}
 use Rattle.xmpp_names.specs.contracts.scopes.Binding as binding
-use Rattle.xmpp_trees.specs.Codes.{coded_bytes, elem_coded}
+use Rattle.xmpp_open_elements.specs.OpenCodes.{coded_open}
+use Rattle.xmpp_trees.specs.Codes.{coded_bytes}
 use Rattle.xmpp_framing.specs.States.{OpenElement, State}
-use Rattle.xmpp_trees.specs.Trees.{Elem}
 use Rattle.xmpp_framing.specs.contracts.fault.Fault as fault
 use Rattle.xmpp_framing.specs.contracts.limits.Limits as limits
 use Rattle.xmpp_framing.specs.contracts.states.Lexical as lexical
@@ -15,9 +15,6 @@ use Rattle.xmpp_framing.specs.declared.fault.Fault.{Fault}
 use Rattle.xmpp_framing.specs.declared.limits.Limits.{Limits}
 use Rattle.xmpp_framing.specs.declared.states.Lexical.{Lexical}
 use Rattle.xmpp_framing.specs.declared.states.Places.{Places}
-
-abbrev pub coded_open : Coded OpenElement
-coded_open = code_by (List ℕ × Elem) (coded× coded_bytes elem_coded) (λ o. (o.spelled, o.element)) (λ p. record { spelled = p.0; element = p.1 }) (λ _. refl)
 
 -- what is counted and asked, the bytes in hand, and what is open
 abbrev Numbers : Type 0

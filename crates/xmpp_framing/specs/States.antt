@@ -3,7 +3,7 @@ use Rattle.std.specs.Prelude.{ℕ, ◌+◌, ◌-◌, ◌^◌, min, Bool, true, f
 use Rattle.std.specs.Option.{is_some}
 use Rattle.xmpp_names.specs.Scopes.{Scope}
 use Rattle.xmpp_trees.specs.Tidied.{text_node}
-use Rattle.xmpp_trees.specs.Trees.{Elem, Nodes, with_nodes}
+pub use Rattle.xmpp_open_elements.specs.Open.{OpenElement, with_more}
 use Rattle.xmpp_framing.specs.declared.fault.Fault.{Fault}
 use Rattle.xmpp_framing.specs.declared.fault.Why.{Why}
 use Rattle.xmpp_framing.specs.declared.items.Item.{Item}
@@ -14,11 +14,6 @@ use Rattle.xmpp_framing.specs.declared.states.Mode.TheVariants as mode
 use Rattle.xmpp_framing.specs.declared.states.Phase.{Phase}
 use Rattle.xmpp_framing.specs.declared.states.Phase.TheVariants as phase
 use Rattle.xmpp_framing.specs.declared.states.Places.{Places}
-
--- an element whose end tag hasn't come: its name as it is spelled, and what there is of it
-pub record OpenElement : Type 0 where
-  pub spelled : List ℕ
-  pub element : Elem
 
 pub record State : Type 0 where
   pub limits : Limits
@@ -118,9 +113,6 @@ moved t s = record t { state = s }
 
 abbrev pub gives : State → List Item → Item → Turn
 gives s items item = record { state = s; items = items ++ item ∷ [] }
-
-abbrev pub with_more : OpenElement → Nodes → OpenElement
-with_more o more = record o { element = with_nodes o.element more }
 
 -- the open element with the text behind its last tag
 abbrev pub with_text : OpenElement → List ℕ → OpenElement

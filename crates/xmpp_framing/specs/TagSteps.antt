@@ -17,6 +17,7 @@ use Rattle.xmpp_trees.specs.Attributes.{sorted_attributes}
 use Rattle.xmpp_framing.specs.Expanded.{attribute_of}
 use Rattle.xmpp_framing.specs.MarkupSteps.{in_phase}
 use Rattle.xmpp_framing.specs.States.{OpenElement, State, Turn, gathered, gathered_in, gives, item_ended, may_declare, moved, open_count, token_ended, token_fails, turn, with_more, with_text}
+pub use Rattle.xmpp_open_elements.specs.Open.{covered}
 use Rattle.xmpp_trees.specs.Tidied.{tidied}
 use Rattle.xmpp_trees.specs.Trees.{Elem, element, no_nodes, child}
 use Rattle.xmpp_framing.specs.declared.fault.Why.{Why}
@@ -88,10 +89,6 @@ added t e = added_to t.state.here t e
 -- the tag of an empty element
 unfoldable pub leaf : Turn → Tag → Turn
 leaf t tag = added (moved t (joined_text t.state)) (element_from tag)
-
-abbrev pub covered : Option OpenElement → List OpenElement → List OpenElement
-covered None below = below
-covered (Some o) below = o ∷ below
 
 abbrev pub deeper : State → Tag → State
 deeper s tag = record s {

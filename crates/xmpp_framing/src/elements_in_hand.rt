@@ -2,22 +2,25 @@
 ghost use Rattle.std.specs.Prelude.{◌≡◌, [], map, string_bytes, IfOk, OnOk, OnErr};
 ghost use Rattle.xmpp_trees.specs.Attributes.{sorted_attributes};
 ghost use Rattle.xmpp_framing.specs.Expanded.{attribute_of};
-ghost use Rattle.xmpp_framing.specs.FramerView.{open_of};
-ghost use Rattle.xmpp_framing.specs.States.{gives, item_ended, moved, turn, with_text};
-ghost use Rattle.xmpp_framing.specs.TagSteps;
-ghost use Rattle.xmpp_framing.specs.TagSteps.{added, closed, deeper, element_from, joined_text, leaf, level, shallower};
-ghost use Rattle.xmpp_trees.specs.Trees.{element, no_nodes};
+ghost use Rattle.xmpp_framing.specs.States.{gives, item_ended, turn};
+ghost use Rattle.xmpp_framing.specs.TagSteps.{closed, closed_joined, deeper, joined_text, leaf, level};
+ghost use Rattle.xmpp_framing.specs.declared.items.Item.TheVariants as item;
+ghost use Rattle.xmpp_open_elements.specs.Open.{joined};
+ghost use Rattle.xmpp_trees.specs.Tidied.{text_node, tidied};
 ghost use Rattle.xmpp_trees.specs.Views.{elem_view};
 ghost use Rattle.xmpp_names.specs.TagView.{tag_view};
 
 use crate::framer::Framer;
 use crate::items::{Item, Items};
-use crate::states::Open;
 use std::alloc::Global;
 use std::mem;
 use xmpp_edge::{NoMemory, Text};
 use xmpp_names::{ExpandedAttribute, Tag};
+use xmpp_open_elements::OpenElements;
 use xmpp_trees::{Attr, Attrs, Element, Tree, tidy_attrs};
+
+// So many bytes stand in a text itself.
+const SHORT: usize = 16;
 
 // The attributes of a tag in the order of a tree, moved.
 fn attrs_of(alloc: Global, attributes: Vec<ExpandedAttribute>) -> Result<Attrs, NoMemory>
@@ -32,34 +35,21 @@ fn attrs_of(alloc: Global, attributes: Vec<ExpandedAttribute>) -> Result<Attrs, 
     tidy_attrs(attrs)
 }
 
-// An element that contains nothing yet.
-fn element_of(
-    alloc: Global,
-    ns: Text,
-    name: Text,
-    attributes: Vec<ExpandedAttribute>,
-) -> Result<Element, NoMemory>
-    ensures { IfOk result (λ e. elem_view e ≡ element ns name (sorted_attributes (map attribute_of attributes.items)) no_nodes) }
-{
-    let attrs = attrs_of(alloc, attributes)?;
-    Ok(Element {
-        ns,
-        name,
-        attrs,
-        children: Vec::new(alloc),
-    })
-}
-
-// The text in hand joins an element.
-fn join_to(alloc: Global, around: &mut Open, chars: &mut String) -> Result<(), NoMemory>
-    ensures joined { OnOk result (open_of around.new ≡ with_text (open_of around.old) (string_bytes chars.old)) }
+// The text in hand joins the innermost open element. A short one leaves its room for the next.
+fn join_to(alloc: Global, opens: &mut OpenElements, chars: &mut String) -> Result<(), NoMemory>
+    ensures joined { OnOk result (opens.new ≡ joined opens.old (text_node (string_bytes chars.old))) }
     ensures taken { OnOk result (string_bytes chars.new ≡ []) }
 {
     if chars.as_str().is_empty() {
         return Ok(());
     }
+    if chars.as_str().len() <= SHORT {
+        opens.text(Text::from_str(alloc, chars.as_str())?)?;
+        chars.clear();
+        return Ok(());
+    }
     let text = mem::replace(chars, String::new(alloc));
-    around.element.push_text(Text::from(text))?;
+    opens.text(Text::from(text))?;
     Ok(())
 }
 
@@ -68,31 +58,20 @@ impl Framer {
     fn join_text(&mut self) -> Result<(), NoMemory>
         ensures { OnOk result (self.new ≡ joined_text self.old) }
     {
-        match &mut self.here {
-            Some(open) => join_to(self.alloc, open, &mut self.chars)?,
-            None => self.chars.clear(),
-        }
+        join_to(self.alloc, &mut self.opens, &mut self.chars)?;
         Ok(())
     }
 
-    // A whole element becomes a child of the innermost open one, or is given.
-    fn add(&mut self, element: Element, items: &mut Items) -> Result<(), NoMemory>
-        ensures ok { OnOk result (turn self.new items.new.items ≡ added (turn self.old items.old.items) (elem_view element)) }
+    // A whole element that none is around is given.
+    fn give(&mut self, element: Element, items: &mut Items) -> Result<(), NoMemory>
+        ensures ok { OnOk result (turn self.new items.new.items ≡ gives (item_ended self.old) items.old.items (item.Element (tidied (elem_view element)))) }
         ensures err { OnErr result (items.new.items ≡ items.old.items) }
     {
-        match &mut self.here {
-            Some(open) => {
-                open.element.push_child(element)?;
-                self.end_token();
-            }
-            None => {
-                // Attributes were put in order and texts joined as they were read. `Tree::of` finds that so in one walk,
-                // and takes no memory: the state of the definitions needn't say it of each open element.
-                let tree = Tree::of(self.alloc, element)?;
-                items.push(Item::Element(tree))?;
-                self.end_item();
-            }
-        }
+        // Attributes were put in order and texts joined as they were read. `Tree::of` finds that so in one walk, and takes
+        // no memory: the state of the definitions needn't say it of each open element.
+        let tree = Tree::of(self.alloc, element)?;
+        items.push(Item::Element(tree))?;
+        self.end_item();
         Ok(())
     }
 
@@ -108,14 +87,25 @@ impl Framer {
             attributes,
             ..
         } = tag;
-        let element = element_of(self.alloc, ns, name, attributes)?;
+        let attrs = attrs_of(self.alloc, attributes)?;
         self.join_text()?;
-        self.add(element, items)?;
+        if self.opens.is_inside() {
+            self.opens.leaf(self.alloc, ns, name, attrs)?;
+            self.end_token();
+        } else {
+            let element = Element {
+                ns,
+                name,
+                attrs,
+                children: Vec::new(self.alloc),
+            };
+            self.give(element, items)?;
+        }
         Ok(())
     }
 
     // An element begins inside the one that was the innermost.
-    #[tactic(auto, using(crate::proofs::Stacks::opens_push, crate::proofs::Stacks::scopes_push))]
+    #[tactic(auto, using(crate::proofs::Stacks::scopes_push))]
     fn deepen(&mut self, tag: Tag) -> Result<(), NoMemory>
         ensures { OnOk result (self.new ≡ deeper self.old (tag_view tag)) }
     {
@@ -127,13 +117,9 @@ impl Framer {
             bindings,
             ..
         } = tag;
-        let element = element_of(self.alloc, ns, name, attributes)?;
+        let attrs = attrs_of(self.alloc, attributes)?;
         self.scopes.open(self.alloc, bindings)?;
-        match self.here.take() {
-            Some(outer) => self.below.push(outer)?,
-            None => {}
-        }
-        self.here = Some(Open { prefix, element });
+        self.opens.begin(self.alloc, prefix, ns, name, attrs)?;
         Ok(())
     }
 
@@ -148,13 +134,22 @@ impl Framer {
         Ok(())
     }
 
-    // The innermost open element leaves.
-    #[tactic(auto, using(crate::proofs::Stacks::opens_push, crate::proofs::Stacks::scopes_less))]
-    fn shallow(&mut self)
-        ensures { self.new ≡ shallower self.old }
+    // The innermost open element, behind which no text is in hand, is whole.
+    #[tactic(auto, using(crate::proofs::Stacks::scopes_less))]
+    fn close_joined(&mut self, items: &mut Items) -> Result<(), NoMemory>
+        ensures ok { OnOk result (turn self.new items.new.items ≡ closed_joined (turn self.old items.old.items)) }
+        ensures err { OnErr result (items.new.items ≡ items.old.items) }
     {
-        self.here = self.below.pop();
+        if !self.opens.is_inside() {
+            return Ok(());
+        }
+        let whole = self.opens.end(self.alloc)?;
         self.scopes.close();
+        match whole {
+            Some(element) => self.give(element, items)?,
+            None => self.end_token(),
+        }
+        Ok(())
     }
 
     // The innermost open element is whole.
@@ -164,13 +159,7 @@ impl Framer {
         ensures err { OnErr result (items.new.items ≡ items.old.items) }
     {
         self.join_text()?;
-        match self.here.take() {
-            Some(open) => {
-                self.shallow();
-                self.add(open.element, items)?;
-            }
-            None => {}
-        }
+        self.close_joined(items)?;
         Ok(())
     }
 }

@@ -12,11 +12,12 @@ ghost use Rattle.xmpp_framing.specs.States.{counted, fails, from_start, gathered
 
 use crate::fault::{Fault, Why};
 use crate::limits::Limits;
-use crate::states::{Lexical, Mode, Open, Phase, Places};
+use crate::states::{Lexical, Mode, Phase, Places};
 use std::alloc::Global;
 use std::marker::Model;
 use xmpp_edge::{NoMemory, Text};
 use xmpp_names::Scopes;
+use xmpp_open_elements::OpenElements;
 use xmpp_tokens::PartialCharacter;
 
 // The most bytes of room that are kept from one token to the next. Tags of chat are far shorter. A longer one takes its
@@ -35,8 +36,7 @@ pub struct Framer {
     pub(crate) token: Vec<u8>,
     pub(crate) pending: PartialCharacter,
     pub(crate) chars: String,
-    pub(crate) here: Option<Open>,
-    pub(crate) below: Vec<Open>,
+    pub(crate) opens: OpenElements,
     pub(crate) scopes: Scopes,
     pub(crate) name: Text,
     pub(crate) fault: Option<Fault>,
@@ -88,8 +88,7 @@ impl Framer {
             token: Vec::new(alloc),
             pending: PartialCharacter::new(),
             chars: String::new(alloc),
-            here: None,
-            below: Vec::new(alloc),
+            opens: OpenElements::new(alloc),
             scopes: Scopes::new(alloc),
             name: Text::new(alloc),
             fault: None,
@@ -110,9 +109,7 @@ impl Framer {
         if self.chars.as_str().is_empty() {
             self.chars = String::new(self.alloc);
         }
-        if self.below.is_empty() {
-            self.below = Vec::new(self.alloc);
-        }
+        self.opens.slim(self.alloc);
     }
 
     // The stream has a fault.
@@ -204,7 +201,7 @@ impl Framer {
     pub(crate) fn begin_item(&mut self)
         ensures { self.new ≡ item_begun self.old }
     {
-        if self.here.is_none() {
+        if !self.opens.is_inside() {
             self.places.item_at = self.places.at;
             self.places.used = 1;
         }
@@ -231,7 +228,7 @@ impl Framer {
     pub(crate) fn is_inside(&self) -> bool
         ensures { result ≡ is_some self.now.here }
     {
-        self.here.is_some()
+        self.opens.is_inside()
     }
 
     // Whether a declaration may stand here.
@@ -239,7 +236,7 @@ impl Framer {
         ensures { result ≡ States.may_declare self.now }
     {
         match self.lexical.phase {
-            Phase::First | Phase::Between => self.here.is_none(),
+            Phase::First | Phase::Between => !self.opens.is_inside(),
             Phase::FirstDeclared | Phase::Declared | Phase::Ended => false,
         }
     }

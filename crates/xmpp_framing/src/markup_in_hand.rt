@@ -67,7 +67,7 @@ impl Framer {
     fn open_section(&mut self)
         ensures { self.new ≡ section_opened self.old }
     {
-        if self.here.is_some() {
+        if self.opens.is_inside() {
             self.token.clear();
             self.lexical.mode = Mode::Section;
         } else {

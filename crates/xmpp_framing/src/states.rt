@@ -1,12 +1,4 @@
 //! The parts of a framer's state.
-ghost use Rattle.std.specs.Prelude.{◌≡◌};
-ghost use Rattle.std.specs.Str.{bytes_eq};
-ghost use Rattle.xmpp_framing.specs.FramerView.{open_of};
-
-use xmpp_edge::Text;
-use xmpp_names::is_spelled;
-use xmpp_trees::Element;
-
 /// Places in the stream, each the smaller of an offset and 2^64 - 1, and a count.
 #[derive(Clone, Copy)]
 pub(crate) struct Places {
@@ -75,25 +67,4 @@ pub(crate) struct Lexical {
     pub(crate) spoiled: bool,
     /// Memory ran out.
     pub(crate) spent: bool,
-}
-
-/// An element whose end tag hasn't come.
-#[derive(Drop)]
-pub(crate) struct Open {
-    /// The prefix of the element's name, where it has one: its end tag repeats it.
-    pub(crate) prefix: Option<Text>,
-    pub(crate) element: Element,
-}
-
-impl Open {
-    // Whether a name is the element's as its start tag spells it.
-    pub(crate) fn is_spelled(&self, name: &str) -> bool
-        ensures { result ≡ bytes_eq name.now (open_of self.now).spelled }
-    {
-        let prefix = match &self.prefix {
-            Some(prefix) => Some(prefix.as_str()),
-            None => None,
-        };
-        is_spelled(prefix, self.element.name.as_str(), name)
-    }
 }

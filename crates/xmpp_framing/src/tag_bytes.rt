@@ -97,7 +97,7 @@ impl Framer {
     fn unlimit(&mut self)
         ensures { self.new ≡ unlimited self.old }
     {
-        if self.here.is_none() {
+        if !self.opens.is_inside() {
             self.places.used = 0;
         }
     }

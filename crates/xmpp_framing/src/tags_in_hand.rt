@@ -86,10 +86,7 @@ impl Framer {
         ensures { result ≡ TagSteps.is_spelled self.now.here (end_of self.now.token) }
     {
         match read_end(&self.token) {
-            Some(name) => match &self.here {
-                Some(open) => open.is_spelled(name),
-                None => false,
-            },
+            Some(name) => self.opens.is_innermost(name),
             None => false,
         }
     }
@@ -115,10 +112,7 @@ impl Framer {
     fn open_count(&self) -> usize
         ensures { result ≡ States.open_count self.now }
     {
-        match &self.here {
-            Some(_) => self.below.len() + 1,
-            None => 0,
-        }
+        self.opens.len()
     }
 
     fn is_too_deep(&self) -> bool

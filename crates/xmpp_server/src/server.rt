@@ -1,11 +1,12 @@
 //! The server.
 ghost use Rattle.std.specs.Prelude.{◌≡◌, ◌≢◌, ◌<◌, ◌≤◌, ◌^◌, None, Some, length, IfErr, IfOk, IsOk, OnErr, OnOk};
+ghost use Rattle.std.specs.Map.{remove_entry};
 ghost use Rattle.std.specs.Option.{option_copied, option_map};
 ghost use Rattle.xmpp_server.specs.Configs.{at_start, config_fault};
 ghost use Rattle.xmpp_server.specs.Events.{IsAfterBytes, Stops, after_connect, after_gone, framer_at, holds_part};
 ghost use Rattle.xmpp_desk.specs.Moments.{at_moment};
 ghost use Rattle.xmpp_desk.specs.Seen.{kept_of, outs_of};
-ghost use Rattle.xmpp_desk.specs.State.{archive_at, conn_at};
+ghost use Rattle.xmpp_desk.specs.State.{archive_at, conn_at, is_number};
 ghost use Rattle.xmpp_live.specs.Rule.{IsRule};
 ghost use Rattle.xmpp_server.specs.Telling.{IsFront};
 ghost use Rattle.xmpp_writer.specs.Items.{written_item};
@@ -43,6 +44,13 @@ impl Model for Server {
     ghost coded = { Prim.hlevel (codes, state_coded) };
 
     ghost view = { λ s. record { hall = hall_of s.desk; framers = s.framers.entries } };
+}
+
+// The framer of a connection leaves.
+fn forget(framers: &mut BTreeMap<u64, Framer>, conn: u64)
+    ensures { framers.new.entries ≡ remove_entry (is_number conn) framers.old.entries }
+{
+    let _ = framers.remove(&conn);
 }
 
 impl Server {
@@ -93,7 +101,7 @@ impl Server {
         let framer = Framer::new(self.desk.alloc, Limits::server());
         let _ = self.framers.insert(conn, framer)?;
         if self.desk.admit(conn, entropy).is_err() {
-            let _ = self.framers.remove(&conn);
+            forget(&mut self.framers, conn);
             return Err(NoMemory);
         }
         self.desk.begin(now);
@@ -132,7 +140,7 @@ impl Server {
     {
         self.desk.begin(now);
         self.desk.lose(conn);
-        let _ = self.framers.remove(&conn);
+        forget(&mut self.framers, conn);
     }
 
     /// Time passes: sessions that were parked for too long end. It takes no memory.

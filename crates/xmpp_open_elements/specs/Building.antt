@@ -1,0 +1,16 @@
+-- What a tree under construction has read.
+use Rattle.std.specs.Prelude.{List, map, reverse}
+use Rattle.std.specs.Option.{option_map}
+use Rattle.xmpp_open_elements.specs.Pieces.{Reading}
+use Rattle.xmpp_open_elements.specs.declared.building.Building.{Building}
+use Rattle.xmpp_trees.specs.Views.{elem_view}
+
+abbrev pub reading_of : Building → Reading
+reading_of b = record {
+  ns = b.ns;
+  attr_ns = b.attr_ns;
+  attr_name = b.attr_name;
+  attrs = b.attrs.items;
+  here = option_map elem_view b.here;
+  below = map elem_view (reverse b.below.items);
+}

@@ -1,0 +1,268 @@
+//! The pieces of elements, one behind the other.
+ghost use Rattle.std.specs.Prelude.{◌≡◌, ◌+◌, ◌*◌, ◌≤◌, [], length, IfOk, OnErr, OnOk, Some};
+ghost use Rattle.std.specs.VecDeque.{deque_capacity, deque_len};
+ghost use Rattle.xmpp_open_elements.specs.Building.{reading_of};
+ghost use Rattle.xmpp_open_elements.specs.Pieces.{at_start, covered, ended, in_namespace, put_in, reading, step, with_attr, with_attrs, with_text};
+ghost use Rattle.xmpp_trees.specs.Trees.{child, element, no_nodes};
+
+use crate::building::Building;
+use std::alloc::Global;
+use std::collections::VecDeque;
+use std::marker::Model;
+use std::mem;
+use xmpp_edge::{Copied, NoMemory, Text};
+use xmpp_trees::{Attr, Attrs};
+
+/// How many pieces room is taken for at first, which is kept from one element to the next. Most elements of a chat have
+/// fewer.
+const KEPT_PIECES: usize = 64;
+
+/// Up to so many pieces room doubles.
+const DOUBLED_PIECES: usize = 1_024;
+
+/// What stands in an element: a part of a tag, a text, or an end tag. A namespace holds until another one is told, and
+/// attributes stand before the name of their element.
+#[derive(Drop)]
+pub(crate) enum Piece {
+    /// The namespace of the elements that begin behind it.
+    Namespace(Text),
+    /// The name of an attribute, which has no namespace unless one follows.
+    AttributeName(Text),
+    /// The namespace of the attribute whose name stands before it.
+    AttributeNamespace(Text),
+    /// The value of an attribute.
+    Value(Text),
+    /// The name of an element that begins.
+    Start(Text),
+    /// The name of an element that contains nothing.
+    Leaf(Text),
+    /// A text.
+    Text(Text),
+    /// The innermost element ends.
+    End,
+}
+
+/// Pieces, and the namespace that holds behind them. Contracts see what they say, and the room that is left.
+#[derive(Drop)]
+pub(crate) struct Pieces {
+    items: VecDeque<Piece>,
+    ns: Text,
+}
+
+impl Model for Pieces {
+    ghost use Rattle.std.specs.Prelude.{◌≡◌, ◌-◌};
+    ghost use Rattle.std.specs.VecDeque.{deque_capacity, deque_len};
+    ghost use Rattle.xmpp_open_elements.specs.OpenCodes.{pieces_coded};
+    ghost use Rattle.xmpp_open_elements.specs.Pieces.{PiecesView, reading};
+
+    ghost Value = { PiecesView };
+
+    ghost coded = { pieces_coded };
+
+    ghost view = { λ p. record { reading = reading p.items.items; spare = deque_capacity p.items - deque_len p.items } };
+
+    ghost invariant = { λ p. (reading p.items.items).ns ≡ p.ns };
+}
+
+// How many pieces there is to be room for where so many are wanted. Room for many grows by a part of itself and doesn't double:
+// what is unfinished for long shall take little more than its pieces.
+fn room_for(wanted: usize) -> usize
+    ensures { wanted ≤ result }
+{
+    if wanted <= KEPT_PIECES {
+        KEPT_PIECES
+    } else if wanted <= DOUBLED_PIECES {
+        wanted.saturating_mul(2)
+    } else {
+        wanted.saturating_add(wanted / 8)
+    }
+}
+
+// Adds a piece. There is room.
+#[tactic(auto, using(crate::proofs::Said::said_more))]
+fn push(items: &mut VecDeque<Piece>, piece: Piece)
+    requires { deque_len items.old + 1 ≤ deque_capacity items.old }
+    ensures said { reading items.new.items ≡ step (reading items.old.items) piece }
+    ensures len { deque_len items.new ≡ deque_len items.old + 1 }
+    ensures capacity { deque_capacity items.new ≡ deque_capacity items.old }
+{
+    items.push_back_reserved(piece);
+}
+
+// Adds an attribute of the element that begins next. There is room.
+fn push_attr(items: &mut VecDeque<Piece>, attr: Attr)
+    requires { deque_len items.old + 3 ≤ deque_capacity items.old }
+    ensures said { reading items.new.items ≡ with_attr (reading items.old.items) attr }
+    ensures len { deque_len items.new ≤ deque_len items.old + 3 }
+    ensures capacity { deque_capacity items.new ≡ deque_capacity items.old }
+{
+    let Attr { ns, name, value } = attr;
+    push(items, Piece::AttributeName(name));
+    if !ns.as_str().is_empty() {
+        push(items, Piece::AttributeNamespace(ns));
+    }
+    push(items, Piece::Value(value));
+}
+
+// Adds the attributes of the element that begins next. There is room.
+fn push_attrs(items: &mut VecDeque<Piece>, attrs: Attrs)
+    requires { deque_len items.old + 3 * length attrs.items ≤ deque_capacity items.old }
+    ensures said { reading items.new.items ≡ with_attrs (reading items.old.items) attrs.items }
+    ensures len { deque_len items.new ≤ deque_len items.old + 3 * length attrs.items }
+    ensures capacity { deque_capacity items.new ≡ deque_capacity items.old }
+{
+    for attr in attrs.into_items() {
+        push_attr(items, attr);
+    }
+}
+
+impl Pieces {
+    /// No pieces. It takes no memory.
+    pub(crate) fn new(alloc: Global) -> Pieces
+        ensures { result.reading ≡ at_start }
+    {
+        Pieces {
+            items: VecDeque::new(alloc),
+            ns: Text::new(alloc),
+        }
+    }
+
+    // Makes room for so many pieces more.
+    fn reserve(&mut self, n: usize) -> Result<(), NoMemory>
+        ensures ok { OnOk result (n ≤ self.new.spare) }
+        ensures reading { self.new.reading ≡ self.old.reading }
+    {
+        let len = self.items.len();
+        if n > self.items.capacity() - len {
+            self.items
+                .reserve_exact(room_for(len.saturating_add(n)) - len)?;
+        }
+        Ok(())
+    }
+
+    // A namespace holds from here on. A refusal leaves what is said as it was.
+    fn hold(&mut self, alloc: Global, ns: Text) -> Result<(), NoMemory>
+        requires { 1 ≤ self.old.spare }
+        ensures ok { OnOk result (self.new.reading ≡ in_namespace self.old.reading ns) }
+        ensures err { OnErr result (self.new.reading ≡ self.old.reading) }
+        ensures spare { self.old.spare ≤ self.new.spare + 1 }
+    {
+        if self.ns.as_str() == ns.as_str() {
+            return Ok(());
+        }
+        let copy = ns.copied(alloc)?;
+        push(&mut self.items, Piece::Namespace(ns));
+        self.ns = copy;
+        Ok(())
+    }
+
+    // Makes room for a tag with so many attributes, in whose namespace pieces are from here on.
+    fn prepare(&mut self, alloc: Global, ns: Text, attrs: &Attrs) -> Result<(), NoMemory>
+        ensures room { OnOk result (3 * length attrs.now.items + 1 ≤ self.new.spare) }
+        ensures ok { OnOk result (self.new.reading ≡ in_namespace self.old.reading ns) }
+        ensures err { OnErr result (self.new.reading ≡ self.old.reading) }
+    {
+        let count = attrs.as_slice().len();
+        self.reserve(count.saturating_mul(3).saturating_add(2))?;
+        self.hold(alloc, ns)?;
+        Ok(())
+    }
+
+    /// An element begins inside the innermost one. A refusal leaves the open elements as they were.
+    #[tactic(auto, using(crate::proofs::Said::attrs_after, crate::proofs::Said::attrs_here, crate::proofs::Said::attrs_below, crate::proofs::Said::attrs_ns))]
+    pub(crate) fn begin(
+        &mut self,
+        alloc: Global,
+        ns: Text,
+        name: Text,
+        attrs: Attrs,
+    ) -> Result<(), NoMemory>
+        requires { self.old.reading.attrs ≡ [] }
+        ensures here { OnOk result (self.new.reading.here ≡ Some (element ns name attrs.items no_nodes)) }
+        ensures below { OnOk result (self.new.reading.below ≡ covered self.old.reading.here self.old.reading.below) }
+        ensures attrs { self.new.reading.attrs ≡ [] }
+        ensures err { OnErr result ((self.new.reading.here ≡ self.old.reading.here) × (self.new.reading.below ≡ self.old.reading.below)) }
+    {
+        self.prepare(alloc, ns, &attrs)?;
+        push_attrs(&mut self.items, attrs);
+        push(&mut self.items, Piece::Start(name));
+        Ok(())
+    }
+
+    /// An element that contains nothing stands in the innermost one. A refusal leaves the open elements as they were.
+    #[tactic(auto, using(crate::proofs::Said::attrs_after, crate::proofs::Said::attrs_here, crate::proofs::Said::attrs_below, crate::proofs::Said::attrs_ns))]
+    pub(crate) fn leaf(
+        &mut self,
+        alloc: Global,
+        ns: Text,
+        name: Text,
+        attrs: Attrs,
+    ) -> Result<(), NoMemory>
+        requires { self.old.reading.attrs ≡ [] }
+        ensures here { OnOk result (self.new.reading.here ≡ put_in self.old.reading.here (child (element ns name attrs.items no_nodes) no_nodes)) }
+        ensures below { self.new.reading.below ≡ self.old.reading.below }
+        ensures attrs { self.new.reading.attrs ≡ [] }
+        ensures err { OnErr result (self.new.reading.here ≡ self.old.reading.here) }
+    {
+        self.prepare(alloc, ns, &attrs)?;
+        push_attrs(&mut self.items, attrs);
+        push(&mut self.items, Piece::Leaf(name));
+        Ok(())
+    }
+
+    /// A text. A refusal drops it, and leaves what is said as it was.
+    pub(crate) fn text(&mut self, content: Text) -> Result<(), NoMemory>
+        ensures ok { OnOk result (self.new.reading ≡ with_text self.old.reading content) }
+        ensures err { OnErr result (self.new.reading ≡ self.old.reading) }
+    {
+        self.reserve(1)?;
+        push(&mut self.items, Piece::Text(content));
+        Ok(())
+    }
+
+    /// The innermost element ends. A refusal leaves what is said as it was.
+    pub(crate) fn end(&mut self) -> Result<(), NoMemory>
+        ensures ok { OnOk result (self.new.reading ≡ ended self.old.reading) }
+        ensures err { OnErr result (self.new.reading ≡ self.old.reading) }
+    {
+        self.reserve(1)?;
+        push(&mut self.items, Piece::End);
+        Ok(())
+    }
+
+    /// Takes all pieces out, and makes of them what they say. Room for few stays.
+    pub(crate) fn build(&mut self, alloc: Global) -> Result<Building, NoMemory>
+        ensures built { IfOk result (λ b. reading_of b ≡ self.old.reading) }
+        ensures none { self.new.reading ≡ at_start }
+    {
+        let mut items = mem::replace(&mut self.items, VecDeque::new(alloc));
+        self.ns = Text::new(alloc);
+        let built = build(alloc, &mut items)?;
+        if items.capacity() <= KEPT_PIECES {
+            self.items = items;
+        }
+        Ok(built)
+    }
+
+    /// Gives back the room of what is empty. It takes no memory.
+    pub(crate) fn slim(&mut self, alloc: Global)
+        ensures { self.new.reading ≡ self.old.reading }
+    {
+        if self.items.is_empty() {
+            self.items = VecDeque::new(alloc);
+            self.ns = Text::new(alloc);
+        }
+    }
+}
+
+// Takes each piece out, and makes of them what they say.
+fn build(alloc: Global, items: &mut VecDeque<Piece>) -> Result<Building, NoMemory>
+    ensures built { IfOk result (λ b. reading_of b ≡ reading items.old.items) }
+    ensures none { OnOk result (items.new.items ≡ []) }
+{
+    let mut building = Building::new(alloc);
+    while let Some(piece) = items.pop_front() {
+        building.step(alloc, piece)?;
+    }
+    Ok(building)
+}
