@@ -13,6 +13,8 @@ SHIM = r"""
 #include <malloc.h>
 #include <stdio.h>
 #include <stdlib.h>
+#include <sys/syscall.h>
+#include <unistd.h>
 
 static long held, most, before, text;
 
@@ -62,6 +64,13 @@ __attribute__((destructor)) static void tell(void) {
     FILE *file = fopen(getenv("MOST_HELD"), "w");
     fprintf(file, "%ld", most);
     fclose(file);
+}
+
+/* a program with threads ends so, without destructors */
+void _exit(int status) {
+    tell();
+    syscall(SYS_exit_group, status);
+    __builtin_unreachable();
 }
 """
 
