@@ -7,7 +7,7 @@ use std::alloc::Global;
 use xmpp_edge::{Bytes, NoMemory};
 use xmpp_framing::{Item, Why};
 use xmpp_names::Header;
-use xmpp_writer::{write, write_footer, write_header};
+use xmpp_writer::{write_footer, write_growing, write_header};
 
 /// The namespace of a header (RFC 6120, section 4.8.1).
 const STREAMS_NAMESPACE: &str = "http://etherx.jabber.org/streams";
@@ -21,7 +21,7 @@ pub(crate) fn append_item(out: &mut Bytes, item: &Item) -> Result<(), NoMemory>
 {
     match item {
         Item::Header { at: _, header } => write_header(header, out)?,
-        Item::Element(tree) => write(tree, out)?,
+        Item::Element(tree) => write_growing(tree, out)?,
         Item::Footer => write_footer(out)?,
     }
     out.append(b"\n")

@@ -3,3 +3,4 @@ pub mod WrittenNodes
 pub mod WrittenTags
 -- laws
 pub mod PartLaws
+pub mod WeightLaws

@@ -6,8 +6,9 @@ mod laws;
 mod parts;
 mod tag_lengths;
 mod tag_writing;
+mod weights;
 mod writing;
 
 pub use laws::elements_are_written_in_parts;
 pub use parts::{write_end, write_nodes, write_start};
-pub use writing::{spelled_len, write, write_footer, write_header};
+pub use writing::{spelled_len, write, write_footer, write_growing, write_header};

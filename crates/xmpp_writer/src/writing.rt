@@ -11,6 +11,7 @@ ghost use Rattle.xmpp_trees.specs.Views.{elem_view, node_view, nodes_view};
 
 use crate::tag_lengths::{assignment_len, end_len, start_len};
 use crate::tag_writing::{default_inside, put_assignment, put_end, put_start};
+use crate::weights::element_room;
 use xmpp_edge::{Bytes, NoMemory, Text};
 use xmpp_names::Header;
 use xmpp_tokens::{append_text_reserved, spelled_text_len};
@@ -162,6 +163,22 @@ pub fn write(tree: &Tree, out: &mut Bytes) -> Result<(), NoMemory>
 {
     let element = tree.element();
     make_room(out, element_len(CLIENT_NAMESPACE, element))?;
+    put_element(out, CLIENT_NAMESPACE, element);
+    Ok(())
+}
+
+/// Writes what `write` does, and sooner, into bytes that much is to be added to: in place of measuring the element it
+/// reserves what one of its size takes at most, six bytes for each byte of its names, namespaces, values and texts, and
+/// sixty for each element and attribute. What that is too much stays, as room for what is added next. Where the bytes are
+/// to hold no more than an element takes, or where it is to be refused only if it doesn't fit, `write` is the one to call.
+///
+/// A refusal leaves the bytes as they were. The stack used grows with the depth of the tree.
+pub fn write_growing(tree: &Tree, out: &mut Bytes) -> Result<(), NoMemory>
+    ensures ok { OnOk result (out.new.items ≡ out.old.items ++ canon tree.now) }
+    ensures err { OnErr result (out.new.items ≡ out.old.items) }
+{
+    let element = tree.element();
+    make_room(out, element_room(element))?;
     put_element(out, CLIENT_NAMESPACE, element);
     Ok(())
 }
