@@ -4,7 +4,7 @@ use std::test::Fail;
 use xmpp_edge::{Bytes, NoMemory, Text};
 use xmpp_names::Header;
 use xmpp_trees::{Attr, Element, Tree};
-use xmpp_writer::{spelled_len, write, write_footer, write_header};
+use xmpp_writer::{spelled_len, write, write_footer, write_growing, write_header};
 
 /// A namespace, a name, and a value or a text.
 type Row = (&'static str, &'static str, &'static str);
@@ -52,6 +52,17 @@ fn message(alloc: Global) -> Result<Tree, NoMemory> {
     Tree::of(alloc, element)
 }
 
+/// Whether a tree is written so into bytes that grow, and again behind that.
+fn is_written_growing(alloc: Global, tree: &Tree, expected: &[u8]) -> Result<bool, NoMemory> {
+    let mut out = Bytes::new(alloc);
+    write_growing(tree, &mut out)?;
+    write_growing(tree, &mut out)?;
+    match out.as_slice().strip_prefix(expected) {
+        Some(second) => Ok(second == expected),
+        None => Ok(false),
+    }
+}
+
 /// Whether a tree is written so, with its length known before.
 fn is_written(alloc: Global, tree: &Tree, expected: &[u8]) -> Result<bool, NoMemory> {
     let mut out = Bytes::new(alloc);
@@ -60,7 +71,9 @@ fn is_written(alloc: Global, tree: &Tree, expected: &[u8]) -> Result<bool, NoMem
 }
 
 fn is_message_written(alloc: Global, expected: &str) -> Result<bool, NoMemory> {
-    is_written(alloc, &message(alloc)?, expected.as_bytes())
+    let tree = message(alloc)?;
+    Ok(is_written(alloc, &tree, expected.as_bytes())?
+        && is_written_growing(alloc, &tree, expected.as_bytes())?)
 }
 
 #[test]

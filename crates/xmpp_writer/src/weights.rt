@@ -7,9 +7,10 @@ ghost use Rattle.xmpp_trees.specs.Views.{elem_view, node_view, nodes_view};
 
 use xmpp_trees::{Attr, Element, Node};
 
-// What a byte of a tree is written in at most: `&apos;`.
+// The most bytes that a byte of a tree is written in: `&apos;`.
 const LONGEST: usize = 6;
 
+// The weight of an attribute: its bytes, and ten for what stands around them.
 fn attribute_weight(attr: &Attr) -> usize
     ensures { result ≡ min (Weight.attribute_weight attr.now) (2 ^ 64 - 1) }
 {
@@ -31,6 +32,7 @@ fn attributes_weight(attrs: &[Attr]) -> usize
     all
 }
 
+// The weight of an element: its own bytes and ten, and what its attributes and its nodes weigh.
 #[cycle(weight)]
 fn element_weight(element: &Element) -> usize
     ensures { result ≡ min (weight (elem_view element.now)) (2 ^ 64 - 1) }

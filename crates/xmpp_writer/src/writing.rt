@@ -1,9 +1,9 @@
 //! Elements, headers and footers as they are written (RFC 6120, section 4).
 //!
-//! A tree is written in two walks: one for the length (`tag_lengths`), and, once all room is reserved, one that
-//! writes and so has no refusal (`tag_writing`). Each call is given the default namespace in force; what it
-//! declares holds only inside. A text and a value go by runs: the longest prefix without a byte to escape, then
-//! the escape.
+//! A tree is written in two walks: one for the length (`tag_lengths`) or for a bound of it (`weights`), and, once all
+//! room is reserved, one that writes and so has no refusal (`tag_writing`). Each call is given the default namespace in
+//! force; what it declares holds only inside. A text and a value go by runs: the longest prefix without a byte to
+//! escape, then the escape.
 ghost use Rattle.std.specs.Prelude.{◌≡◌, ◌+◌, ◌-◌, ◌<◌, ◌≤◌, ◌^◌, ◌++◌, length, min, OnErr, OnOk};
 ghost use Rattle.xmpp_writer.specs.Canon;
 ghost use Rattle.xmpp_writer.specs.Canon.{canon, written, written_footer, written_given, written_header, written_inside, written_nodes};
@@ -167,12 +167,13 @@ pub fn write(tree: &Tree, out: &mut Bytes) -> Result<(), NoMemory>
     Ok(())
 }
 
-/// Writes what `write` does, and sooner, into bytes that much is to be added to: in place of measuring the element it
-/// reserves what one of its size takes at most, six bytes for each byte of its names, namespaces, values and texts, and
-/// sixty for each element and attribute. What that is too much stays, as room for what is added next. Where the bytes are
-/// to hold no more than an element takes, or where it is to be refused only if it doesn't fit, `write` is the one to call.
+/// Writes what `write` does, for bytes to which much is added, as a text of many elements. It takes less time and may take
+/// more memory: the element isn't measured, but so much is reserved as one of its size takes at most. That is six bytes for
+/// each byte of its names, namespaces, values and texts, and sixty for each element and attribute. What is left over is
+/// room for what is added next. Where the bytes are for one element alone, `write` is the one to call.
 ///
-/// A refusal leaves the bytes as they were. The stack used grows with the depth of the tree.
+/// The memory is reserved before the first byte is written: a refusal leaves the bytes as they were. The stack used
+/// grows with the depth of the tree.
 pub fn write_growing(tree: &Tree, out: &mut Bytes) -> Result<(), NoMemory>
     ensures ok { OnOk result (out.new.items ≡ out.old.items ++ canon tree.now) }
     ensures err { OnErr result (out.new.items ≡ out.old.items) }
