@@ -72,8 +72,10 @@ fn is_written(alloc: Global, tree: &Tree, expected: &[u8]) -> Result<bool, NoMem
 
 fn is_message_written(alloc: Global, expected: &str) -> Result<bool, NoMemory> {
     let tree = message(alloc)?;
-    Ok(is_written(alloc, &tree, expected.as_bytes())?
-        && is_written_growing(alloc, &tree, expected.as_bytes())?)
+    Ok(
+        is_written(alloc, &tree, expected.as_bytes())?
+            && is_written_growing(alloc, &tree, expected.as_bytes())?,
+    )
 }
 
 #[test]
