@@ -107,8 +107,8 @@ attributes_heavy (a ∷ more) = omega (arith, attributes_heavy more)
 
 attributes_fit : (attrs : List Attribute) → min (length (assignments (spelled_attributes 0 attrs))) (2 ^ 64 - 1) ≤ 6 * attributes_weight attrs
 attributes_fit attrs =
-    ⊎_elim (λ (few : leb (length attrs) (2 ^ 64) ≡ true). let small = leb-true (length attrs) (2 ^ 64) few in let short = attributes_short 0 attrs (omega (arith, small)) in omega (arith, short))
-    (λ (many : leb (length attrs) (2 ^ 64) ≡ false). let past = leb-false (length attrs) (2 ^ 64) many in omega (arith, past, attributes_heavy attrs))
+    ⊎_elim (λ (few : leb (length attrs) (2 ^ 64) ≡ true). let small = leb-true (length attrs) (2 ^ 64) few in omega (arith, attributes_short 0 attrs (omega (arith, small))))
+    (λ (many : leb (length attrs) (2 ^ 64) ≡ false). omega (arith, leb-false (length attrs) (2 ^ 64) many, attributes_heavy attrs))
     (cases_Bool (leb (length attrs) (2 ^ 64)))
 
 -- ---- tags
@@ -140,7 +140,6 @@ behind_fits : (nothing : Bool) (ns name inside : List ℕ) (room : ℕ) → min 
     → min (length (behind_attributes nothing ns name inside)) (2 ^ 64 - 1) ≤ 11 + length name + room
 behind_fits true ns name inside room fits = omega arith
 behind_fits false ns name inside room fits =
-    let close = spelled_name ns name ++ (62 ∷ []) in
     omega (arith, fits, length-append (tag_end false) (inside ++ written_end_tag ns name), length-append inside (written_end_tag ns name), length-append (spelled_name ns name) (62 ∷ []), name_short ns name)
 
 -- ---- elements
