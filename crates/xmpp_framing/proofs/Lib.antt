@@ -9,3 +9,7 @@ pub mod Stacks
 -- steps of the code: many bytes at once
 pub mod PlainTags
 pub mod PlainTexts
+pub mod UsualTexts
+pub mod CalmTags
+-- steps of the code: a byte of ASCII where no character is in hand
+pub mod Alone

@@ -92,7 +92,7 @@ impl Framer {
             self.fail(self.places.item_at, Why::TooLong);
             return Ok(());
         }
-        if !self.pending.continues(b) {
+        if !self.continues(b) {
             self.fail(self.token_place(), Why::Encoding);
             return Ok(());
         }

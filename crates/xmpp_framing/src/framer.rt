@@ -7,6 +7,7 @@ ghost use Rattle.std.specs.Option.{is_some};
 ghost use Rattle.xmpp_framing.specs.Machine.{passed};
 ghost use Rattle.xmpp_framing.specs.Readings.{Stands};
 ghost use Rattle.xmpp_framing.specs.States;
+ghost use Rattle.xmpp_tokens.specs.Utf8.{continues};
 ghost use Rattle.xmpp_framing.specs.declared.limits.TheConstants.{MOST_DEPTH};
 ghost use Rattle.xmpp_framing.specs.States.{counted, fails, from_start, gathered, gathered_in, item_begun, item_ended, token_begun, token_ended, token_fails};
 
@@ -138,12 +139,25 @@ impl Framer {
         }
     }
 
+    // Whether a byte can continue the character in hand, or begin one. Most are of ASCII where none is in hand.
+    #[tactic(auto, using(crate::proofs::Alone::goes_on_alone))]
+    pub(crate) fn continues(&self, b: u8) -> bool
+        ensures { result ≡ continues self.now.pending b }
+    {
+        b < 128 && self.pending.len() == 0 || self.pending.continues(b)
+    }
+
     // The stream goes on after a byte. One that can't continue the character in hand was refused before (`go_on`), and
-    // `held_after` says what is held after any other: so there is no answer of `take` to heed.
+    // `held_after` says what is held after any other: so there is no answer of `take` to heed. A byte of ASCII where no
+    // character is in hand leaves none.
+    #[tactic(auto, using(crate::proofs::Alone::held_alone))]
     pub(crate) fn pass(&mut self, b: u8)
         ensures { self.new ≡ passed self.old b }
     {
         self.places.at = self.places.at.saturating_add(1);
+        if b < 128 && self.pending.len() == 0 {
+            return;
+        }
         match self.pending.take(b) {
             Ok(()) => {}
             Err(_) => {}

@@ -2,16 +2,21 @@
 //!
 //! Plain bytes of a text or a tag are taken at once: a scan by slice, one copy, and offsets that advance by its
 //! length. That is the run of those bytes.
-ghost use Rattle.std.specs.Prelude.{◌≡◌, ◌≤◌, ◌<◌, ◌++◌, true, take, length, IfOk, OnOk};
+ghost use Rattle.std.specs.Prelude.{◌≡◌, ◌≤◌, ◌<◌, ◌++◌, ◌&&◌, ◌==◌, not, nat_lt, true, Some, None, take, length, IfOk, IfSome, OnOk, if◌then◌else◌};
 ghost use Rattle.std.specs.List.{list_all, prefix_len};
 ghost use Rattle.std.specs.Option.{is_some};
 ghost use Rattle.xmpp_framing.specs.ManyBytes;
+ghost use Rattle.xmpp_tokens.specs.Values.{is_plain_ascii};
 ghost use Rattle.xmpp_framing.specs.ManyBytes.{GoesOnTo, KeepsQuote, LeavesRoom, TakesRun, behind_bytes, quote_after, tag_taken, text_taken};
 
 use crate::framer::Framer;
 use crate::states::Mode;
+use memchr::{memchr, memchr2};
 use xmpp_edge::NoMemory;
-use xmpp_tokens::{is_control, quote_behind};
+use xmpp_tokens::{is_control, is_quote, quote_behind};
+
+/// So many bytes at most are looked through at once: where one of them is unlike the others, they are read again.
+const NEAR: usize = 128;
 
 // ---- scans
 
@@ -45,6 +50,9 @@ fn whole_characters(bytes: &[u8]) -> &str
     ensures front { result.now ≡ take (length result.now) bytes.now }
     ensures bound { length result.now ≤ length bytes.now }
 {
+    if bytes.is_empty() {
+        return "";
+    }
     match str::from_utf8(bytes) {
         Ok(text) => text,
         Err(e) => match str::from_utf8(&bytes[..e.valid_up_to()]) {
@@ -54,12 +62,67 @@ fn whole_characters(bytes: &[u8]) -> &str
     }
 }
 
-// The plain characters that a text begins with.
+// Whether a byte is one of ASCII that says itself in a text: a space or more, and no markup.
+fn is_usual(b: u8) -> bool
+    ensures { result ≡ (is_plain_ascii b && (not (b == 62) && not (b == 93))) }
+{
+    b' ' <= b && b < 128 && b != b'<' && b != b'&' && b != b'>' && b != b']'
+}
+
+// Whether each byte is one of ASCII that says itself in a text. No byte ends the loop, so that it can become vector code.
+fn are_usual(bytes: &[u8]) -> bool
+    ensures { result ≡ list_all (λ b. is_plain_ascii b && (not (b == 62) && not (b == 93))) bytes.now }
+{
+    let mut usual = true;
+    for b in bytes {
+        usual &= is_usual(*b);
+    }
+    usual
+}
+
+// How many bytes stand before the first `<` or `&`.
+fn markup_at(bytes: &[u8]) -> usize
+    ensures { result ≤ length bytes.now }
+{
+    match memchr2(b'<', b'&', bytes) {
+        Some(at) => at,
+        None => bytes.len(),
+    }
+}
+
+// The bytes at the front that may be a text of usual ones.
+fn near_text(bytes: &[u8]) -> &[u8]
+    ensures front { result.now ≡ take (length result.now) bytes.now }
+    ensures bound { length result.now ≤ length bytes.now }
+{
+    if bytes.is_empty() || !is_usual(bytes[0]) {
+        return &bytes[..0];
+    }
+    let len = markup_at(&bytes[..bytes.len().min(NEAR)]);
+    &bytes[..len]
+}
+
+// Bytes of ASCII as a text.
+#[tactic(auto, using(crate::proofs::UsualTexts::usual_utf8))]
+fn ascii_text(bytes: &[u8]) -> &str
+    requires { list_all (λ b. is_plain_ascii b && (not (b == 62) && not (b == 93))) bytes.now ≡ true }
+    ensures { result.now ≡ bytes.now }
+{
+    // SAFETY: bytes of ASCII are UTF-8.
+    unsafe { str::from_utf8_unchecked(bytes) }
+}
+
+// The plain characters that a text begins with, some of them at least where there are any.
+#[tactic(auto, using(crate::proofs::UsualTexts::usual_plain))]
 fn plain_text(bytes: &[u8]) -> &str
     ensures front { result.now ≡ take (length result.now) bytes.now }
     ensures bound { length result.now ≤ length bytes.now }
     ensures plain { list_all ManyBytes.is_plain result.now ≡ true }
 {
+    let near = near_text(bytes);
+    if !near.is_empty() && are_usual(near) {
+        return ascii_text(near);
+    }
     whole_characters(plain_front(bytes))
 }
 
@@ -112,13 +175,110 @@ fn same_quote_len(quote: Option<u8>, bytes: &[u8]) -> usize
 
 // How many first bytes are of ASCII and don't end a tag, up to a quote at most, and the quote that is open behind them.
 #[tactic(auto, using(crate::proofs::PlainTags::one_further))]
-fn part_front(quote: Option<u8>, bytes: &[u8]) -> (usize, Option<u8>)
+fn part_by_bytes(quote: Option<u8>, bytes: &[u8]) -> (usize, Option<u8>)
     ensures { GoesOnTo quote bytes.now result.0 result.1 }
 {
     let len = same_quote_len(quote, bytes);
     match bytes.get(len) {
         Some(b) if goes_on_in(quote, *b) => (len + 1, quote_behind(quote, *b)),
         _ => (len, quote),
+    }
+}
+
+// The quote that isn't this one.
+fn other_quote(quote: u8) -> u8
+    ensures { result ≡ (if quote == 34 then 39 else 34) }
+{
+    if quote == b'"' { b'\'' } else { b'"' }
+}
+
+// Whether a byte is one of ASCII that neither may end a tag nor is this quote.
+fn is_calm(other: u8, b: u8) -> bool
+    ensures { result ≡ (nat_lt b 128 && (not (b == 62) && not (b == other))) }
+{
+    b < 128 && b != b'>' && b != other
+}
+
+// A fact, or its contrary where it changes.
+fn toggled(fact: bool, changes: bool) -> bool
+    ensures { result ≡ (if changes then not fact else fact) }
+{
+    if changes { !fact } else { fact }
+}
+
+// This quote, where it is open.
+fn open_quote(quote: u8, inside: bool) -> Option<u8>
+    ensures { result ≡ (if inside then Some quote else None) }
+{
+    if inside { Some(quote) } else { None }
+}
+
+// The quote that is open behind bytes whose first stands inside a quote, where each of them is of ASCII, none is `>` and
+// none is the other quote. No byte ends the loop, so that it can become vector code.
+fn quote_behind_calm(quote: u8, bytes: &[u8]) -> Option<Option<u8>>
+    ensures { IfSome result (λ behind. GoesOnTo (Some quote) bytes.now (length bytes.now) behind) }
+{
+    if !is_quote(quote) {
+        return None;
+    }
+    let other = other_quote(quote);
+    let mut inside = true;
+    let mut calm = true;
+    for b in bytes {
+        inside = toggled(inside, *b == quote);
+        calm &= is_calm(other, *b);
+    }
+    if calm {
+        Some(open_quote(quote, inside))
+    } else {
+        None
+    }
+}
+
+// How many bytes stand before the first `>`.
+fn greater_at(bytes: &[u8]) -> usize
+    ensures { result ≤ length bytes.now }
+{
+    match memchr(b'>', bytes) {
+        Some(at) => at,
+        None => bytes.len(),
+    }
+}
+
+// The bytes at the front that may be calm.
+fn near_tag(bytes: &[u8]) -> &[u8]
+    ensures front { result.now ≡ take (length result.now) bytes.now }
+    ensures bound { length result.now ≤ length bytes.now }
+{
+    if bytes.is_empty() || bytes[0] >= 128 {
+        return &bytes[..0];
+    }
+    let len = greater_at(&bytes[..bytes.len().min(NEAR)]);
+    &bytes[..len]
+}
+
+// The same as `part_by_bytes` from inside a quote on, and past quotes where the bytes up to `>` are calm.
+#[tactic(auto, using(crate::proofs::CalmTags::front_goes))]
+fn quoted_front(quote: u8, bytes: &[u8]) -> (usize, Option<u8>)
+    ensures { GoesOnTo (Some quote) bytes.now result.0 result.1 }
+{
+    let near = near_tag(bytes);
+    if near.is_empty() {
+        return part_by_bytes(Some(quote), bytes);
+    }
+    match quote_behind_calm(quote, near) {
+        Some(behind) => (near.len(), behind),
+        None => part_by_bytes(Some(quote), bytes),
+    }
+}
+
+// How many first bytes are of ASCII and don't end a tag, up to a quote or further, and the quote that is open behind them.
+fn part_front(quote: Option<u8>, bytes: &[u8]) -> (usize, Option<u8>)
+    ensures { GoesOnTo quote bytes.now result.0 result.1 }
+{
+    match quote {
+        Some(q) => quoted_front(q, bytes),
+        None => part_by_bytes(None, bytes),
     }
 }
 

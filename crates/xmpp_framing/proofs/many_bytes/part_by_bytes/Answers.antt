@@ -1,6 +1,6 @@
 use Rattle.std.proofs.Common.{sym, ◌∙◌}
 use Rattle.xmpp_framing.proofs.PlainTags.{one_further}
-use Rattle.xmpp_framing.proofs.many_bytes.part_front.Goals as goal
+use Rattle.xmpp_framing.proofs.many_bytes.part_by_bytes.Goals as goal
 
 pub returns-in-Some : goal.returns-in-Some
 returns-in-Some c =
