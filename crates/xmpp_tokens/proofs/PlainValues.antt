@@ -27,13 +27,13 @@ said_as_it_is : (raw : List ℕ) → list_all is_plain_ascii raw ≡ true → va
 said_as_it_is [] h = refl
 said_as_it_is (b ∷ bs) h = let p = and_parts (is_plain_ascii b) _ h in plain_byte b bs (plain b p.0) ∙ ap (in_front (b ∷ [])) (said_as_it_is bs p.1)
 
-ascii : (raw : List ℕ) → list_all is_plain_ascii raw ≡ true → IsAscii raw
-ascii [] h i = omega arith
-ascii (b ∷ bs) h zero = small b (and_parts (is_plain_ascii b) _ h).0
-ascii (b ∷ bs) h (suc i) = ascii bs (and_parts (is_plain_ascii b) _ h).1 i
+pub plain_ascii : (raw : List ℕ) → list_all is_plain_ascii raw ≡ true → IsAscii raw
+plain_ascii [] h i = omega arith
+plain_ascii (b ∷ bs) h zero = small b (and_parts (is_plain_ascii b) _ h).0
+plain_ascii (b ∷ bs) h (suc i) = plain_ascii bs (and_parts (is_plain_ascii b) _ h).1 i
 
 pub plain_utf8 : (raw : List ℕ) → list_all is_plain_ascii raw ≡ true → IsUtf8 raw
-plain_utf8 raw h = IsUtf8-from_ascii raw (ascii raw h)
+plain_utf8 raw h = IsUtf8-from_ascii raw (plain_ascii raw h)
 
 pub plain_value : (raw : List ℕ) → list_all is_plain_ascii raw ≡ true → value_of raw ≡ Some raw
 unfolding value_of are_characters

@@ -1,8 +1,9 @@
 -- The front and what is behind it.
-use Rattle.std.proofs.Common.{◌≡◌, suc, ◌+◌, ◌≤◌, Bool, true, false, cond, not, List, [], ◌∷◌, ◌++◌, length, take, drop, refl, sym, ap, ◌∙◌, arith, ⊎_elim}
+use Rattle.std.proofs.Common.{◌≡◌, ℕ, suc, ◌+◌, ◌≤◌, Bool, true, false, cond, not, List, [], ◌∷◌, ◌++◌, length, take, drop, refl, sym, ap, ◌∙◌, arith, ⊎_elim}
 use Rattle.std.proofs.lemmas.Bool.{cases_Bool, and_parts, and_from, not-true}
 use Rattle.std.specs.List.{prefix_len, list_all}
 use Rattle.xmpp_tokens.specs.Fronts.{front, behind}
+use Rattle.xmpp_tokens.specs.Tags.{is_empty}
 
 pub take_prefix : {X : Type 0} (p : X → Bool) (xs : List X) → take (prefix_len p xs) xs ≡ front p xs
 take_prefix p [] = refl
@@ -69,3 +70,10 @@ behind_stops p (x ∷ xs) y ys e =
 
     keep_all : {Y : Type 0} (b : Bool) (u v : Y) → b ≡ false → cond b u v ≡ v
     keep_all b u v f = rw f refl
+
+pub none_in_front : (p : ℕ → Bool) (b : ℕ) (bs : List ℕ) → not (p b) ≡ is_empty (front p (b ∷ bs))
+none_in_front p b bs = ⊎_elim (λ (t : p b ≡ true). rw t refl) (λ (f : p b ≡ false). rw f refl) (cases_Bool (p b))
+
+pub stops_where_none : (p : ℕ → Bool) (bs : List ℕ) → is_empty (front p bs) ≡ true → stops p bs ≡ true
+stops_where_none p [] h = refl
+stops_where_none p (b ∷ bs) h = none_in_front p b bs ∙ h

@@ -3,12 +3,15 @@ ghost use Rattle.std.specs.Prelude.{◌≡◌, Some, None, if◌then◌else◌};
 ghost use Rattle.std.specs.List.{list_all};
 ghost use Rattle.std.specs.Option.{option_map};
 ghost use Rattle.xmpp_tokens.specs.Characters;
+ghost use Rattle.xmpp_tokens.specs.Fronts.{front, behind};
 ghost use Rattle.xmpp_tokens.specs.Tags;
 ghost use Rattle.xmpp_tokens.specs.Values.{as_text};
 ghost use Rattle.xmpp_tokens.specs.SpelledView.{spelled_view};
 
-use crate::characters::is_name;
-use crate::fronts::{split_colon, split_qualified, split_until, split_white};
+use crate::characters::{ascii_text, is_letter, is_name};
+use crate::fronts::{
+    goes_no_further, split_colon, split_letters, split_qualified, split_until, split_white,
+};
 
 /// An attribute as it is spelled, and what is behind it.
 #[derive(Clone, Copy)]
@@ -33,13 +36,6 @@ fn is_behind_colon(bytes: &[u8]) -> bool
         Some((_, rest)) => is_name(rest),
         None => true,
     }
-}
-
-// Whether a byte is an ASCII letter.
-fn is_letter(b: u8) -> bool
-    ensures { result ≡ Characters.is_letter b }
-{
-    b.is_ascii_lowercase() || b.is_ascii_uppercase()
 }
 
 // Whether each byte is an ASCII letter.
@@ -73,10 +69,26 @@ fn text_of(bytes: &[u8]) -> Option<&str>
 
 // The text of a qualified name.
 #[tactic(auto, unfolding(crate::specs::Tags::is_qualified))]
-pub(crate) fn qualified(name: &[u8]) -> Option<&str>
+fn qualified(name: &[u8]) -> Option<&str>
     ensures { option_map (λ s. s.now) result ≡ (if Tags.is_qualified name.now then Some name.now else None) }
 {
     if has_parts(name) { text_of(name) } else { None }
+}
+
+// The text of the qualified name that bytes begin with, if they do, and what is behind its bytes. Most names are of letters
+// alone, and so are ASCII.
+#[tactic(auto, using(crate::proofs::LetterNames::letters_ascii, crate::proofs::LetterNames::letters_named, crate::proofs::LetterNames::letters_in_front))]
+pub(crate) fn split_named(bytes: &[u8]) -> (Option<&str>, &[u8])
+    ensures name { option_map (λ s. s.now) result.0
+        ≡ (if Tags.is_qualified (front Tags.is_qualified_byte bytes.now) then Some (front Tags.is_qualified_byte bytes.now) else None) }
+    ensures rest { result.1.now ≡ behind Tags.is_qualified_byte bytes.now }
+{
+    let (letters, rest) = split_letters(bytes);
+    if !letters.is_empty() && goes_no_further(rest) {
+        return (Some(ascii_text(letters)), rest);
+    }
+    let (name, rest) = split_qualified(bytes);
+    (qualified(name), rest)
 }
 
 // An attribute from its opening quote on.
@@ -111,8 +123,8 @@ pub(crate) fn spelled_at(bytes: &[u8]) -> Option<SpelledAttribute<'_>>
     if space.is_empty() {
         return None;
     }
-    let (name, rest) = split_qualified(spelled);
-    assigned(qualified(name)?, split_white(rest).1)
+    let (name, rest) = split_named(spelled);
+    assigned(name?, split_white(rest).1)
 }
 
 // How a start tag ends that has only these bytes left.

@@ -5,9 +5,10 @@ ghost use Rattle.xmpp_tokens.specs.Characters;
 ghost use Rattle.xmpp_tokens.specs.Fronts.{front, behind};
 ghost use Rattle.xmpp_tokens.specs.Spelling;
 ghost use Rattle.xmpp_tokens.specs.Tags;
+ghost use Rattle.xmpp_tokens.specs.Tags.{is_empty};
 ghost use Rattle.xmpp_tokens.specs.Values;
 
-use crate::characters::{is_name_byte, is_white};
+use crate::characters::{is_letter, is_name_byte, is_white};
 use crate::written::Written;
 use memchr::memchr;
 
@@ -114,6 +115,32 @@ pub(crate) fn split_qualified(bytes: &[u8]) -> (&[u8], &[u8])
     ensures behind { result.1.now ≡ behind Tags.is_qualified_byte bytes.now }
 {
     bytes.split_at(qualified_len(bytes))
+}
+
+fn letters_len(bytes: &[u8]) -> usize
+    ensures { result ≡ prefix_len Characters.is_letter bytes.now }
+{
+    bytes.iter().take_while(|b| is_letter(**b)).count()
+}
+
+// The letters, and the rest.
+#[tactic(auto, using(crate::proofs::Splits::take_prefix, crate::proofs::Splits::drop_prefix, crate::proofs::Splits::prefix_within))]
+pub(crate) fn split_letters(bytes: &[u8]) -> (&[u8], &[u8])
+    ensures front { result.0.now ≡ front Characters.is_letter bytes.now }
+    ensures behind { result.1.now ≡ behind Characters.is_letter bytes.now }
+{
+    bytes.split_at(letters_len(bytes))
+}
+
+// Whether no byte at the front goes on a name or is a colon.
+#[tactic(auto, using(crate::proofs::Splits::none_in_front))]
+pub(crate) fn goes_no_further(bytes: &[u8]) -> bool
+    ensures { result ≡ is_empty (front Tags.is_qualified_byte bytes.now) }
+{
+    match bytes.split_first() {
+        Some((first, _)) => !is_qualified_byte(*first),
+        None => true,
+    }
 }
 
 // Whether a text is written with a byte as it is.

@@ -6,10 +6,10 @@ ghost use Rattle.xmpp_tokens.specs.Tags;
 ghost use Rattle.std.specs.Option.{option_map};
 ghost use Rattle.xmpp_tokens.specs.Tags.{end_name, end_tag, inside_of, tag_of};
 
-use crate::attributes::{end_in, is_quote, qualified, spelled_at};
+use crate::attributes::{end_in, is_quote, spelled_at, split_named};
 use crate::distinct::are_distinct;
 use crate::fault::{TagFault, TagWhy};
-use crate::fronts::{split_qualified, split_white};
+use crate::fronts::split_white;
 use crate::raw_tags::{RawAttribute, RawTag, StartTag};
 use crate::values::{begins_unknown, has_ampersand, value_text};
 use std::alloc::Global;
@@ -63,8 +63,8 @@ fn read_inside<'a>(
 fn start_at<'a>(alloc: Global, bytes: &'a [u8]) -> Result<Option<StartTag<'a>>, NoMemory>
     ensures { IfOk result (λ o. option_map (λ t. raw_tag (RawTag.Start t)) o ≡ Tags.start_at bytes.now) }
 {
-    let (name, inside) = split_qualified(bytes);
-    let Some(name) = qualified(name) else {
+    let (name, inside) = split_named(bytes);
+    let Some(name) = name else {
         return Ok(None);
     };
     let Some((attributes, empty)) = read_inside(alloc, inside)? else {
@@ -85,8 +85,8 @@ fn start_at<'a>(alloc: Global, bytes: &'a [u8]) -> Result<Option<StartTag<'a>>, 
 fn end_at(bytes: &[u8]) -> Option<&str>
     ensures { option_map (λ name. end_tag name.now) result ≡ Tags.end_at bytes.now }
 {
-    let (name, end) = split_qualified(bytes);
-    let name = qualified(name)?;
+    let (name, end) = split_named(bytes);
+    let name = name?;
     if split_white(end).1 == b">".as_slice() {
         Some(name)
     } else {

@@ -6,7 +6,7 @@ ghost use Rattle.xmpp_tokens.specs.Faults.{IfRefused};
 ghost use Rattle.xmpp_tokens.specs.Values;
 ghost use Rattle.xmpp_tokens.specs.Values.{as_text, in_front, reference, text, value_from, value_of};
 
-use crate::characters::are_characters;
+use crate::characters::{are_characters, ascii_text};
 use crate::fault::{TagFault, TagWhy};
 use crate::fronts::{split_name_bytes, split_plain, split_until};
 use crate::references::{Reference, referred};
@@ -147,14 +147,12 @@ fn are_plain_ascii(raw: &[u8]) -> bool
 }
 
 // A copy of a spelled value that is what it says.
+#[tactic(auto, using(crate::proofs::PlainValues::plain_ascii))]
 fn plain_text(alloc: Global, raw: &[u8]) -> Result<Option<Text>, NoMemory>
     requires { list_all Values.is_plain_ascii raw.now ≡ true }
     ensures { IfOk result (λ o. o ≡ Some raw.now) }
 {
-    match str::from_utf8(raw) {
-        Ok(text) => Ok(Some(Text::from_str(alloc, text)?)),
-        Err(_) => Ok(None),
-    }
+    Ok(Some(Text::from_str(alloc, ascii_text(raw))?))
 }
 
 // The value that a spelled one says, where no reference in it has an unknown name.
