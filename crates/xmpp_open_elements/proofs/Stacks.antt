@@ -1,13 +1,12 @@
 -- Stacks, the innermost last, as the lists of the definitions, the innermost first.
-use Rattle.std.proofs.Common.{◌≡◌, List, [], ◌∷◌, ◌++◌, map, reverse, ap}
+use Rattle.std.proofs.Common.{◌≡◌, ℕ, List, [], ◌∷◌, ◌++◌, map, reverse, ap}
 use Rattle.std.proofs.lemmas.List.{reverse-append}
-use Rattle.xmpp_open_elements.specs.Named.{names_of, spelled_of}
-use Rattle.xmpp_open_elements.specs.declared.opens.Name.{Name}
+use Rattle.xmpp_open_elements.specs.Named.{names_of}
 use Rattle.xmpp_trees.specs.Views.{elem_view}
 use Rattle.xmpp_trees.specs.declared.elements.Element.{Element}
 
 pub views_push : (es : List Element) (e : Element) → map elem_view (reverse (es ++ e ∷ [])) ≡ elem_view e ∷ map elem_view (reverse es)
 views_push es e = ap (map elem_view) (reverse-append es (e ∷ []))
 
-pub names_push : (ns : List Name) (n : Name) → names_of (ns ++ n ∷ []) ≡ spelled_of n ∷ names_of ns
-names_push ns n = ap (map spelled_of) (reverse-append ns (n ∷ []))
+pub names_push : (ns : List (List ℕ)) (n : List ℕ) → names_of (ns ++ n ∷ []) ≡ n ∷ names_of ns
+names_push ns n = reverse-append ns (n ∷ [])

@@ -1,14 +1,9 @@
 -- Open elements: their names, and what pieces say of them.
-use Rattle.std.specs.Prelude.{◌≡◌, ℕ, List, [], ◌∷◌, Option, Some, None, length, map, reverse}
-use Rattle.std.specs.Option.{is_some, option_map}
-use Rattle.xmpp_names.specs.Names.{with_prefix}
+use Rattle.std.specs.Prelude.{◌≡◌, ℕ, List, [], ◌∷◌, Option, Some, None, length, reverse}
+use Rattle.std.specs.Option.{is_some}
 use Rattle.xmpp_open_elements.specs.Open.{OpenElement, Opens}
 use Rattle.xmpp_open_elements.specs.Pieces.{Reading}
-use Rattle.xmpp_open_elements.specs.declared.opens.Name.{Name}
 use Rattle.xmpp_trees.specs.Trees.{Elem}
-
-abbrev pub spelled_of : Name → List ℕ
-spelled_of n = with_prefix n.prefix n.local
 
 -- each element with its name
 abbrev pub named : Option (List ℕ) → Option Elem → Option OpenElement
@@ -22,14 +17,14 @@ all_named (n ∷ ns) [] = []
 all_named (n ∷ ns) (e ∷ es) = record { spelled = n; element = e } ∷ all_named ns es
 
 -- names of a stack, the innermost first
-abbrev pub names_of : List Name → List (List ℕ)
-names_of names = map spelled_of (reverse names)
+abbrev pub names_of : List (List ℕ) → List (List ℕ)
+names_of names = reverse names
 
-abbrev pub opens_of : Option Name → List Name → Reading → Opens
-opens_of here below r = record { here = named (option_map spelled_of here) r.here; below = all_named (names_of below) r.below }
+abbrev pub opens_of : Option (List ℕ) → List (List ℕ) → Reading → Opens
+opens_of here below r = record { here = named here r.here; below = all_named (names_of below) r.below }
 
 -- there are as many names as open elements, and no attribute waits for its element
-pub record AreNamed (here : Option Name) (below : List Name) (r : Reading) : Type 0 where
+pub record AreNamed (here : Option (List ℕ)) (below : List (List ℕ)) (r : Reading) : Type 0 where
   pub none_waits : r.attrs ≡ []
   pub innermost : is_some here ≡ is_some r.here
   pub others : length below ≡ length r.below

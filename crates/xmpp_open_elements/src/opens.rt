@@ -1,9 +1,7 @@
 //! Open elements: their names, and all that was read of them in pieces.
 ghost use Rattle.std.specs.Prelude.{◌≡◌, [], None, Some, IfOk, OnErr, OnOk, true};
-ghost use Rattle.std.specs.Str.{bytes_eq};
 ghost use Rattle.std.specs.Option.{is_some, option_map};
 ghost use Rattle.xmpp_names.specs.Names.{with_prefix};
-ghost use Rattle.xmpp_open_elements.specs.Named.{spelled_of};
 ghost use Rattle.xmpp_open_elements.specs.Open.{begun, closed, is_innermost, joined, none_open, open_count, outermost};
 ghost use Rattle.xmpp_trees.specs.Trees.{child, element, no_nodes, text};
 ghost use Rattle.xmpp_trees.specs.Views.{elem_view};
@@ -12,27 +10,19 @@ use crate::pieces::Pieces;
 use std::alloc::Global;
 use std::marker::Model;
 use xmpp_edge::{Copied, NoMemory, Text};
-use xmpp_names::is_spelled;
 use xmpp_trees::{Attrs, Element};
 
-/// The name of an open element: its prefix, where it has one, and its local part.
-#[derive(Drop)]
-pub(crate) struct Name {
-    prefix: Option<Text>,
-    local: Text,
-}
-
-impl Name {
-    // Whether a name is spelled so.
-    fn is_spelled(&self, name: &str) -> bool
-        ensures { result ≡ bytes_eq name.now (spelled_of self.now) }
-    {
-        let prefix = match &self.prefix {
-            Some(prefix) => Some(prefix.as_str()),
-            None => None,
-        };
-        is_spelled(prefix, self.local.as_str(), name)
-    }
+// A name as it is spelled, with its prefix where it has one.
+fn spelled(alloc: Global, prefix: Option<Text>, local: &Text) -> Result<Text, NoMemory>
+    ensures { IfOk result (λ t. t ≡ with_prefix prefix local.now) }
+{
+    let Some(prefix) = prefix else {
+        return local.copied(alloc);
+    };
+    let mut name = String::from_str(alloc, prefix.as_str())?;
+    name.push(':')?;
+    name.push_str(local.as_str())?;
+    Text::from(name).shared()
 }
 
 /// The elements of a stream whose end tags haven't come. Contracts see the innermost, and those around it, each with its name
@@ -42,8 +32,8 @@ impl Name {
 /// made once the outermost element is whole.
 #[derive(Drop)]
 pub struct OpenElements {
-    here: Option<Name>,
-    below: Vec<Name>,
+    here: Option<Text>,
+    below: Vec<Text>,
     pieces: Pieces,
 }
 
@@ -96,7 +86,7 @@ impl OpenElements {
         ensures { result ≡ is_innermost self.now name.now }
     {
         match &self.here {
-            Some(here) => here.is_spelled(name),
+            Some(here) => here.as_str() == name,
             None => false,
         }
     }
@@ -113,14 +103,14 @@ impl OpenElements {
         ensures ok { OnOk result (self.new ≡ begun self.old (record { spelled = with_prefix prefix name; element = element ns name attrs.items no_nodes })) }
         ensures err { OnErr result (self.new ≡ self.old) }
     {
-        let local = name.copied(alloc)?;
+        let spelled = spelled(alloc, prefix, &name)?;
         self.below.reserve(1)?;
         self.pieces.begin(alloc, ns, name, attrs)?;
         match self.here.take() {
             Some(outer) => self.below.push_reserved(outer),
             None => {}
         }
-        self.here = Some(Name { prefix, local });
+        self.here = Some(spelled);
         Ok(())
     }
 

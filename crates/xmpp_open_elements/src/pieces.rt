@@ -13,9 +13,11 @@ use std::mem;
 use xmpp_edge::{Copied, NoMemory, Text};
 use xmpp_trees::{Attr, Attrs};
 
-/// How many pieces room is taken for at first, which is kept from one element to the next. Most elements of a chat have
-/// fewer.
+/// Room for so many pieces is kept from one element to the next. Most elements of a chat have fewer.
 const KEPT_PIECES: usize = 64;
+
+/// Room for so many pieces is taken at first.
+const FIRST_PIECES: usize = 16;
 
 /// Up to so many pieces room doubles.
 const DOUBLED_PIECES: usize = 1_024;
@@ -69,8 +71,8 @@ impl Model for Pieces {
 fn room_for(wanted: usize) -> usize
     ensures { wanted ≤ result }
 {
-    if wanted <= KEPT_PIECES {
-        KEPT_PIECES
+    if wanted <= FIRST_PIECES {
+        FIRST_PIECES
     } else if wanted <= DOUBLED_PIECES {
         wanted.saturating_mul(2)
     } else {
