@@ -77,6 +77,15 @@ impl Bytes {
         Ok(())
     }
 
+    /// Adds a byte at the end and takes no memory. It lowers `spare` by at most 1.
+    pub fn push_reserved(&mut self, byte: u8)
+        requires { 1 ≤ self.old.spare }
+        ensures items { self.new.items ≡ self.old.items ++ byte ∷ [] }
+        ensures spare { self.old.spare ≤ self.new.spare + 1 }
+    {
+        self.bytes.push_reserved(byte);
+    }
+
     /// Adds bytes at the end and takes no memory. It lowers `spare` by at most their number.
     pub fn append_reserved(&mut self, bytes: &[u8])
         requires { length bytes.now ≤ self.old.spare }

@@ -2,6 +2,7 @@
 //! want of memory, names with their places, and sources and sinks whose failures are counted.
 #![tactic(auto)]
 
+mod ascii;
 mod bytes;
 mod failing_calls;
 mod fault;
@@ -18,6 +19,7 @@ mod unread;
 mod whole_reads;
 mod whole_writes;
 
+pub use ascii::ascii_str;
 pub use bytes::Bytes;
 pub use fault::{Failed, NoMemory};
 pub use list::{Copied, ListOf, Names, Numbers};

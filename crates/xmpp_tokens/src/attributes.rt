@@ -8,7 +8,7 @@ ghost use Rattle.xmpp_tokens.specs.Tags;
 ghost use Rattle.xmpp_tokens.specs.Values.{as_text};
 ghost use Rattle.xmpp_tokens.specs.SpelledView.{spelled_view};
 
-use crate::characters::{ascii_text, is_letter, is_name};
+use crate::characters::{is_letter, is_name};
 use crate::fronts::{
     goes_no_further, split_colon, split_letters, split_qualified, split_until, split_white,
 };
@@ -85,7 +85,7 @@ pub(crate) fn split_named(bytes: &[u8]) -> (Option<&str>, &[u8])
 {
     let (letters, rest) = split_letters(bytes);
     if !letters.is_empty() && goes_no_further(rest) {
-        return (Some(ascii_text(letters)), rest);
+        return (Some(ascii_str(letters)), rest);
     }
     let (name, rest) = split_qualified(bytes);
     (qualified(name), rest)

@@ -1,6 +1,5 @@
 //! Classes of bytes and characters (XML 1.0, sections 2.2 and 2.3; Namespaces in XML 1.0, section 4).
 ghost use Rattle.std.specs.Prelude.{◌≡◌, true};
-ghost use Rattle.std.specs.Str.{IsAscii};
 ghost use Rattle.xmpp_tokens.specs.Characters;
 
 /// Whether a byte is white space: a space, a tab, a line feed or a carriage return (XML 1.0, section 2.3).
@@ -15,16 +14,6 @@ pub(crate) fn is_letter(b: u8) -> bool
     ensures { result ≡ Characters.is_letter b }
 {
     b.is_ascii_lowercase() || b.is_ascii_uppercase()
-}
-
-// Bytes of ASCII as a text. They are UTF-8, so it takes no look at them.
-#[tactic(auto, using(crate::proofs::Texts::ascii_is_text))]
-pub(crate) fn ascii_text(bytes: &[u8]) -> &str
-    requires { IsAscii bytes.now }
-    ensures { result.now ≡ bytes.now }
-{
-    // SAFETY: bytes of ASCII are UTF-8, as is proved here.
-    unsafe { str::from_utf8_unchecked(bytes) }
 }
 
 /// Whether a name may begin with a byte: an ASCII letter, `_`, and the bytes of each character from U+0080 on.

@@ -6,7 +6,7 @@ ghost use Rattle.xmpp_tokens.specs.Faults.{IfRefused};
 ghost use Rattle.xmpp_tokens.specs.Values;
 ghost use Rattle.xmpp_tokens.specs.Values.{as_text, in_front, reference, text, value_from, value_of};
 
-use crate::characters::{are_characters, ascii_text};
+use crate::characters::are_characters;
 use crate::fault::{TagFault, TagWhy};
 use crate::fronts::{split_name_bytes, split_plain, split_until};
 use crate::references::{Reference, referred};
@@ -152,7 +152,7 @@ fn plain_text(alloc: Global, raw: &[u8]) -> Result<Option<Text>, NoMemory>
     requires { list_all Values.is_plain_ascii raw.now ≡ true }
     ensures { IfOk result (λ o. o ≡ Some raw.now) }
 {
-    Ok(Some(Text::from_str(alloc, ascii_text(raw))?))
+    Ok(Some(Text::from_str(alloc, ascii_str(raw))?))
 }
 
 // The value that a spelled one says, where no reference in it has an unknown name.

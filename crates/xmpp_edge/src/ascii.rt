@@ -1,0 +1,13 @@
+//! Bytes of ASCII as a text.
+ghost use Rattle.std.specs.Prelude.{◌≡◌};
+ghost use Rattle.std.specs.Str.{IsAscii};
+
+/// Bytes of ASCII as a text. They are UTF-8 (RFC 3629, section 3), so it takes no look at them.
+#[tactic(auto, using(crate::proofs::PlainTexts::ascii_is_text))]
+pub fn ascii_str(bytes: &[u8]) -> &str
+    requires { IsAscii bytes.now }
+    ensures { result.now ≡ bytes.now }
+{
+    // SAFETY: bytes of ASCII are UTF-8, as is proved here.
+    unsafe { str::from_utf8_unchecked(bytes) }
+}
