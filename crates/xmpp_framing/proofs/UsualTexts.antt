@@ -2,9 +2,8 @@
 use Rattle.std.proofs.Common.{◌≡◌, ℕ, zero, suc, ◌<◌, Bool, true, not, ◌&&◌, ◌==◌, List, [], ◌∷◌, refl, arith}
 use Rattle.std.proofs.lemmas.Bool.{and_parts, and_from}
 use Rattle.std.proofs.lemmas.Bool.Decides.{nat_tests}
-use Rattle.std.proofs.lemmas.Str.{IsUtf8-from_ascii}
 use Rattle.std.specs.List.{list_all}
-use Rattle.std.specs.Str.{IsUtf8, IsAscii}
+use Rattle.std.specs.Str.{IsAscii}
 use Rattle.xmpp_tokens.specs.Values.{is_plain_ascii}
 use Rattle.xmpp_framing.specs.ManyBytes
 
@@ -17,13 +16,10 @@ plain b h = grind (arith, nat_tests)
 small : (b : ℕ) → is_usual b ≡ true → b < 128
 small b h = grind (arith, nat_tests)
 
-ascii : (bs : List ℕ) → list_all is_usual bs ≡ true → IsAscii bs
-ascii [] h i = omega arith
-ascii (b ∷ bs) h zero = small b (and_parts (is_usual b) _ h).0
-ascii (b ∷ bs) h (suc i) = ascii bs (and_parts (is_usual b) _ h).1 i
-
-pub usual_utf8 : (bs : List ℕ) → list_all is_usual bs ≡ true → IsUtf8 bs
-usual_utf8 bs h = IsUtf8-from_ascii bs (ascii bs h)
+pub usual_ascii : (bs : List ℕ) → list_all is_usual bs ≡ true → IsAscii bs
+usual_ascii [] h i = omega arith
+usual_ascii (b ∷ bs) h zero = small b (and_parts (is_usual b) _ h).0
+usual_ascii (b ∷ bs) h (suc i) = usual_ascii bs (and_parts (is_usual b) _ h).1 i
 
 pub usual_plain : (bs : List ℕ) → list_all is_usual bs ≡ true → list_all ManyBytes.is_plain bs ≡ true
 usual_plain [] h = refl

@@ -12,7 +12,7 @@ ghost use Rattle.xmpp_framing.specs.ManyBytes.{GoesOnTo, KeepsQuote, LeavesRoom,
 use crate::framer::Framer;
 use crate::states::Mode;
 use memchr::{memchr, memchr2};
-use xmpp_edge::NoMemory;
+use xmpp_edge::{NoMemory, ascii_str};
 use xmpp_tokens::{is_control, is_quote, quote_behind};
 
 /// So many bytes at most are looked through at once: where one of them is unlike the others, they are read again.
@@ -102,18 +102,8 @@ fn near_text(bytes: &[u8]) -> &[u8]
     &bytes[..len]
 }
 
-// Bytes of ASCII as a text.
-#[tactic(auto, using(crate::proofs::UsualTexts::usual_utf8))]
-fn ascii_text(bytes: &[u8]) -> &str
-    requires { list_all (λ b. is_plain_ascii b && (not (b == 62) && not (b == 93))) bytes.now ≡ true }
-    ensures { result.now ≡ bytes.now }
-{
-    // SAFETY: bytes of ASCII are UTF-8.
-    unsafe { str::from_utf8_unchecked(bytes) }
-}
-
 // The plain characters that a text begins with, some of them at least where there are any.
-#[tactic(auto, using(crate::proofs::UsualTexts::usual_plain))]
+#[tactic(auto, using(crate::proofs::UsualTexts::usual_ascii, crate::proofs::UsualTexts::usual_plain))]
 fn plain_text(bytes: &[u8]) -> &str
     ensures front { result.now ≡ take (length result.now) bytes.now }
     ensures bound { length result.now ≤ length bytes.now }
@@ -121,7 +111,7 @@ fn plain_text(bytes: &[u8]) -> &str
 {
     let near = near_text(bytes);
     if !near.is_empty() && are_usual(near) {
-        return ascii_text(near);
+        return ascii_str(near);
     }
     whole_characters(plain_front(bytes))
 }

@@ -12,6 +12,7 @@ use crate::characters::{is_letter, is_name};
 use crate::fronts::{
     goes_no_further, split_colon, split_letters, split_qualified, split_until, split_white,
 };
+use xmpp_edge::ascii_str;
 
 /// An attribute as it is spelled, and what is behind it.
 #[derive(Clone, Copy)]

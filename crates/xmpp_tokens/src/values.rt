@@ -11,7 +11,7 @@ use crate::fault::{TagFault, TagWhy};
 use crate::fronts::{split_name_bytes, split_plain, split_until};
 use crate::references::{Reference, referred};
 use std::alloc::Global;
-use xmpp_edge::{NoMemory, Text};
+use xmpp_edge::{NoMemory, Text, ascii_str};
 
 // Puts a character at the end.
 fn push_character(value: &mut Vec<u8>, c: char) -> Result<(), NoMemory>
