@@ -4,7 +4,7 @@ ghost use Rattle.xmpp_archive.specs.Ids.{id_of, number_read};
 
 use std::alloc::Global;
 use xmpp_basis::{hex16, read_hex16};
-use xmpp_edge::{NoMemory, Text};
+use xmpp_edge::{NoMemory, Text, ascii_str};
 
 /// The archive id of an entry's number: its 16 hexadecimal digits, in lower case, the highest first.
 pub fn id_text(number: u64) -> [u8; 16]
@@ -17,10 +17,7 @@ pub fn id_text(number: u64) -> [u8; 16]
 pub fn id_of_number(alloc: Global, number: u64) -> Result<Text, NoMemory>
     ensures { IfOk result (λ t. t ≡ id_of number) }
 {
-    match str::from_utf8(&id_text(number)) {
-        Ok(id) => Text::from_str(alloc, id),
-        Err(_) => unreachable!(),
-    }
+    Text::from_str(alloc, ascii_str(&id_text(number)))
 }
 
 /// The number whose archive id this is. `None` where it is the id of no entry: it hasn't 16 bytes, one of them is

@@ -35,7 +35,9 @@ pub fn hex16(number: u64) -> [u8; 16]
 {
     let mut text = [b'0'; DIGITS];
     let mut rest = number;
-    for at in (0..DIGITS).rev() {
+    let mut at = DIGITS;
+    while at > 0 {
+        at -= 1;
         text[at] = digit_text(rest % 16);
         rest /= 16;
     }
