@@ -1,3 +1,4 @@
+pub mod BareEnds
 pub mod ChainLaw
 pub mod ChainPlaces
 pub mod ChainReads

@@ -3,7 +3,7 @@ ghost use Rattle.std.specs.Prelude.{◌≡◌, IfOk};
 ghost use Rattle.xmpp_archive.specs.Entries.{entry_with};
 ghost use Rattle.xmpp_archive.specs.Peers.{peer_of};
 
-use crate::peers::bare_form;
+use crate::kept::Kept;
 use std::alloc::Global;
 use std::marker::Model;
 use std::rc::Rc;
@@ -46,7 +46,7 @@ pub struct ArchivedMessage {
 #[derive(Drop)]
 pub struct Entry {
     number: u64,
-    message: Rc<ArchivedMessage, Global>,
+    message: Rc<Kept, Global>,
 }
 
 /// Entries, in order.
@@ -67,7 +67,7 @@ impl Entry {
     {
         Ok(Entry {
             number,
-            message: Rc::new(alloc, message)?,
+            message: Rc::new(alloc, Kept::new(message))?,
         })
     }
 
@@ -89,7 +89,7 @@ impl Entry {
     pub fn message(&self) -> &ArchivedMessage
         ensures { self.now ≡ entry_with self.now.number result.now }
     {
-        self.message.as_ref()
+        self.message.as_ref().message()
     }
 
     /// The entry's peer in the archive of a bare address: the bare form of `to` where `from` has that bare address,
@@ -97,13 +97,9 @@ impl Entry {
     pub fn peer<'a>(&'a self, owner: &str) -> &'a str
         ensures { result.now ≡ peer_of owner.now self.now }
     {
-        let message = self.message();
-        let from = bare_form(message.from.as_str());
-        if from == owner {
-            bare_form(message.to.as_str())
-        } else {
-            from
-        }
+        let kept = self.message.as_ref();
+        let from = kept.from_bare();
+        if from == owner { kept.to_bare() } else { from }
     }
 }
 

@@ -6,6 +6,7 @@ mod archive;
 mod chains;
 mod entry;
 mod ids;
+mod kept;
 mod laws;
 mod peers;
 

@@ -1,8 +1,6 @@
-use Rattle.std.proofs.Common.{◌≡◌, ◌+◌, ◌-◌, length, map, ap, sym, ◌∙◌, subst, arith}
+use Rattle.std.proofs.Common.{◌≡◌, length, ap, sym, ◌∙◌, subst, arith}
 use Rattle.xmpp_archive.proofs.Newest.{kept_again}
-use Rattle.xmpp_archive.specs.Chained.{IsChained}
 use Rattle.xmpp_archive.specs.Entries.{AreKept, newest}
-use Rattle.xmpp_archive.specs.Peers.{peer_of}
 use Rattle.xmpp_archive.proofs.archive.Archive.restore.Goals as goal
 
 -- the newest are kept, and they are linked
