@@ -15,6 +15,7 @@ pub struct MemorySpawner<R> {
     made: u64,
     fails: Numbers,
     faults: u64,
+    started: u64,
 }
 
 impl<R> Model for MemorySpawner<R> {
@@ -22,7 +23,7 @@ impl<R> Model for MemorySpawner<R> {
 
     ghost Value = { StartsView };
 
-    ghost view = { λ s. record { made = s.made; fails = s.fails.items; faults = s.faults } };
+    ghost view = { λ s. record { made = s.made; fails = s.fails.items; faults = s.faults; started = s.started } };
 }
 
 impl<R: Threads> MemorySpawner<R> {
@@ -35,6 +36,7 @@ impl<R: Threads> MemorySpawner<R> {
             made: 0,
             fails,
             faults: 0,
+            started: 0,
         }
     }
 }
@@ -44,6 +46,8 @@ impl<R: Threads> Spawner for MemorySpawner<R> {
 
     ghost faults = { λ s. s.faults };
 
+    ghost started = { λ s. s.started };
+
     fn runtime(&self) -> &R {
         &self.rt
     }
@@ -52,6 +56,7 @@ impl<R: Threads> Spawner for MemorySpawner<R> {
         ensures cause { HasCause self.old.faults self.new.faults result }
         ensures made { self.new.made ≡ counted self.old.made }
         ensures fails { self.new.fails ≡ self.old.fails }
+        ensures started { self.new.started ≡ self.old.started }
         ensures chosen { IsErr result ↔ Contains self.old.fails self.new.made }
     {
         self.made = self.made.saturating_add(1);
@@ -65,9 +70,19 @@ impl<R: Threads> Spawner for MemorySpawner<R> {
     fn count(&mut self)
         ensures rose { Rose self.old.faults self.new.faults }
         ensures later { self.old.faults ≤ self.new.faults }
+        ensures started { self.new.started ≡ self.old.started }
         ensures made { self.new.made ≡ self.old.made }
         ensures fails { self.new.fails ≡ self.old.fails }
     {
         self.faults = self.faults.saturating_add(1);
+    }
+
+    fn count_started(&mut self)
+        ensures started { self.new.started ≡ counted self.old.started }
+        ensures faults { self.new.faults ≡ self.old.faults }
+        ensures made { self.new.made ≡ self.old.made }
+        ensures fails { self.new.fails ≡ self.old.fails }
+    {
+        self.started = self.started.saturating_add(1);
     }
 }

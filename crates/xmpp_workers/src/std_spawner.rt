@@ -10,14 +10,20 @@ use xmpp_edge::Failed;
 pub struct StdSpawner<R> {
     rt: R,
     faults: u64,
+    started: u64,
 }
 
 impl<R: Threads> StdSpawner<R> {
     /// What starts threads by `rt`.
     pub fn new(rt: R) -> StdSpawner<R>
-        ensures { ⟦<StdSpawner<R> as Spawner>⟧.faults result ≡ 0 }
+        ensures faults { ⟦<StdSpawner<R> as Spawner>⟧.faults result ≡ 0 }
+        ensures started { ⟦<StdSpawner<R> as Spawner>⟧.started result ≡ 0 }
     {
-        StdSpawner { rt, faults: 0 }
+        StdSpawner {
+            rt,
+            faults: 0,
+            started: 0,
+        }
     }
 }
 
@@ -25,6 +31,8 @@ impl<R: Threads> Spawner for StdSpawner<R> {
     type Runtime = R;
 
     ghost faults = { λ s. s.faults };
+
+    ghost started = { λ s. s.started };
 
     fn runtime(&self) -> &R {
         &self.rt
@@ -36,5 +44,9 @@ impl<R: Threads> Spawner for StdSpawner<R> {
 
     fn count(&mut self) {
         self.faults = self.faults.saturating_add(1);
+    }
+
+    fn count_started(&mut self) {
+        self.started = self.started.saturating_add(1);
     }
 }
