@@ -17,7 +17,7 @@ use Rattle.xmpp_trees.specs.Attributes.{sorted_attributes}
 use Rattle.xmpp_framing.specs.Expanded.{attribute_of}
 use Rattle.xmpp_framing.specs.MarkupSteps.{in_phase}
 use Rattle.xmpp_framing.specs.States.{OpenElement, State, Turn, gathered, gathered_in, gives, item_ended, may_declare, moved, open_count, token_ended, token_fails, turn, with_more, with_text}
-pub use Rattle.xmpp_open_elements.specs.Open.{covered}
+pub use Rattle.xmpp_open_elements.specs.Nested.{covered, first_of, rest_of}
 use Rattle.xmpp_trees.specs.Tidied.{tidied}
 use Rattle.xmpp_trees.specs.Trees.{Elem, element, no_nodes, child}
 use Rattle.xmpp_framing.specs.declared.fault.Why.{Why}
@@ -122,14 +122,6 @@ begun t tag =
 abbrev pub starts : Turn → Result Tag StartWhy → Turn
 starts t (Ok tag) = begun t tag
 starts t (Err fault) = moved t (token_fails t.state (start_why t.state fault))
-
-abbrev pub first_of : List OpenElement → Option OpenElement
-first_of [] = None
-first_of (o ∷ os) = Some o
-
-abbrev pub rest_of : List OpenElement → List OpenElement
-rest_of [] = []
-rest_of (o ∷ os) = os
 
 -- the innermost open element leaves
 abbrev pub shallower : State → State

@@ -1,12 +1,12 @@
 -- Open elements and their names: as many, and what becomes of them.
-use Rattle.std.proofs.Common.{◌≡◌, ℕ, zero, suc, ◌+◌, ◌<◌, ◌==◌, List, [], ◌∷◌, ◌++◌, Bool, true, false, true≢false, Option, Some, None, length, length-append, reverse, refl, sym, ap, ◌∙◌, arith, if◌then◌else◌}
+use Rattle.std.proofs.Common.{◌≡◌, ℕ, zero, suc, ◌+◌, ◌<◌, ◌==◌, List, [], ◌∷◌, ◌++◌, true, false, true≢false, Option, Some, None, length, length-append, refl, sym, ap, ◌∙◌, arith, if◌then◌else◌}
 use Rattle.std.proofs.lemmas.List.{length-reverse}
-use Rattle.std.specs.Option.{IsSome, is_some, option_map, option_to_list}
+use Rattle.std.specs.Option.{IsSome, is_some, option_to_list}
 use Rattle.xmpp_open_elements.proofs.Stacks.{names_push}
 use Rattle.xmpp_open_elements.specs.Named.{AreNamed, all_named, named, names_of, opens_of}
-use Rattle.xmpp_open_elements.specs.Open as opened
-use Rattle.xmpp_open_elements.specs.Open.{OpenElement, Opens, begun, closed, closed_in, joined, more_in, none_open, open_count, outermost, outermost_in}
-use Rattle.xmpp_open_elements.specs.Pieces.{Reading, covered, ended, ended_in, first_of, put_in, rest_of}
+use Rattle.xmpp_open_elements.specs.Open.{OpenElement, Opens, begun, closed, closed_in, joined, left_open, more_in, none_open, open_count, outermost, outermost_in}
+use Rattle.xmpp_open_elements.specs.Nested.{covered, first_of, rest_of}
+use Rattle.xmpp_open_elements.specs.Pieces.{Reading, ended, ended_in, put_in}
 use Rattle.xmpp_trees.specs.Trees.{Elem, Nodes, child, no_nodes}
 
 -- ---- as many
@@ -34,7 +34,7 @@ names_below None below = below
 names_below (Some outer) below = below ++ outer ∷ []
 
 covered_named : (here : Option (List ℕ)) (below : List (List ℕ)) (e : Option Elem) (es : List Elem) → is_some here ≡ is_some e
-    → all_named (names_of (names_below here below)) (covered e es) ≡ opened.covered (named (here) e) (all_named (names_of below) es)
+    → all_named (names_of (names_below here below)) (covered e es) ≡ covered (named (here) e) (all_named (names_of below) es)
 covered_named None below None es same = refl
 covered_named None below (Some e) es same = absurd (true≢false (sym same))
 covered_named (Some n) below None es same = absurd (true≢false same)
@@ -162,3 +162,11 @@ pub closed_pop : (here : Option (List ℕ)) (below rest : List (List ℕ)) (got 
 closed_pop None below rest got r s are is split some ends = absurd (true≢false (sym is))
 closed_pop (Some n) below rest None r s are is split some ends = absurd (true≢false (sym some))
 closed_pop (Some n) below rest (Some p) r s are is split some ends = (sym (not_outermost n p below rest r s are split ends), closed_is n p below rest r s are split ends)
+
+-- ---- what a refusal of its end leaves
+
+left_in : (n : ℕ) (os : Opens) → (n == 0) ≡ false → length os.below ≡ n → left_open os ≡ os
+left_in n os some same = rw (same, some) refl
+
+pub left_around : (here : Option (List ℕ)) (below : List (List ℕ)) (r : Reading) → AreNamed here below r → false ≡ (length below == 0) → left_open (opens_of here below r) ≡ opens_of here below r
+left_around here below r are some = left_in (length below) (opens_of here below r) (sym some) (all_count (names_of below) r.below (many_names below ∙ are.others) ∙ many_names below)

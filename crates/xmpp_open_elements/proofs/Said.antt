@@ -1,6 +1,6 @@
 -- What pieces say, one more of them.
-use Rattle.std.proofs.Common.{◌≡◌, List, [], ◌∷◌, ◌++◌, refl, sym, ap, ◌∙◌, append-nil, append_assoc}
-use Rattle.xmpp_open_elements.specs.Pieces.{Reading, at_start, read_on, reading, step, with_attr, with_attrs}
+use Rattle.std.proofs.Common.{◌≡◌, ◌≤◌, ◌*◌, List, [], ◌∷◌, ◌++◌, Bool, true, false, if◌then◌else◌, length, refl, sym, ◌∙◌, append-nil, append_assoc, arith}
+use Rattle.xmpp_open_elements.specs.Pieces.{Reading, at_start, attrs_pieces, has_namespace, read_on, reading, step, with_attr, with_attrs}
 use Rattle.xmpp_open_elements.specs.declared.pieces.Piece.{Piece}
 use Rattle.xmpp_trees.specs.Attributes.{Attribute}
 
@@ -31,3 +31,13 @@ attrs_below r (a ∷ attrs) = attrs_below (with_attr r a) attrs
 pub attrs_ns : (r : Reading) (attrs : List Attribute) → (with_attrs r attrs).ns ≡ r.ns
 attrs_ns r [] = refl
 attrs_ns r (a ∷ attrs) = attrs_ns (with_attr r a) attrs
+
+-- ---- how many they are
+
+at_most : (qualified : Bool) → (if qualified then 3 else 2) ≤ 3
+at_most true = omega arith
+at_most false = omega arith
+
+pub pieces_bound : (attrs : List Attribute) → attrs_pieces attrs ≤ 3 * length attrs
+pieces_bound [] = omega arith
+pieces_bound (a ∷ attrs) = let rest = pieces_bound attrs in let this = at_most (has_namespace a) in omega (arith, rest, this)

@@ -1,5 +1,5 @@
 -- What a tree under construction has read.
-use Rattle.std.specs.Prelude.{List, map, reverse}
+use Rattle.std.specs.Prelude.{map, reverse}
 use Rattle.std.specs.Option.{option_map}
 use Rattle.xmpp_open_elements.specs.Pieces.{Reading}
 use Rattle.xmpp_open_elements.specs.declared.building.Building.{Building}

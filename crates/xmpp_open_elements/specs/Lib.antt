@@ -1,3 +1,4 @@
+pub mod Nested
 -- open elements, and what pieces say of them
 pub mod Open
 pub mod Pieces

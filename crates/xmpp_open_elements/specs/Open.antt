@@ -1,7 +1,8 @@
 -- Elements whose end tags haven't come (XML 1.0, section 3.1).
-use Rattle.std.specs.Prelude.{ℕ, ◌+◌, Bool, false, if◌then◌else◌, List, [], ◌∷◌, Option, Some, None, length}
+use Rattle.std.specs.Prelude.{ℕ, ◌+◌, ◌==◌, Bool, false, if◌then◌else◌, List, [], ◌∷◌, Option, Some, None, length}
 use Rattle.std.specs.Option.{is_some}
 use Rattle.std.specs.Str.{bytes_eq}
+use Rattle.xmpp_open_elements.specs.Nested.{covered}
 use Rattle.xmpp_trees.specs.Trees.{Elem, Nodes, child, no_nodes, with_nodes}
 
 -- an element whose end tag hasn't come: its name as it is spelled, and what there is of it
@@ -19,10 +20,6 @@ none_open = record { here = None; below = [] }
 
 abbrev pub with_more : OpenElement → Nodes → OpenElement
 with_more o more = record o { element = with_nodes o.element more }
-
-abbrev pub covered : Option OpenElement → List OpenElement → List OpenElement
-covered None below = below
-covered (Some o) below = o ∷ below
 
 -- an element begins inside the one that was the innermost
 abbrev pub begun : Opens → OpenElement → Opens
@@ -53,6 +50,10 @@ outermost_in (Some o) (p ∷ ps) = None
 
 abbrev pub outermost : Opens → Option Elem
 outermost os = outermost_in os.here os.below
+
+-- what a refusal of its end leaves open
+abbrev pub left_open : Opens → Opens
+left_open os = if length os.below == 0 then none_open else os
 
 -- how many elements are open
 abbrev pub open_count : Opens → ℕ

@@ -1,5 +1,6 @@
 -- What pieces of elements say, one behind the other.
-use Rattle.std.specs.Prelude.{ℕ, List, [], ◌∷◌, ◌++◌, Option, Some, None}
+use Rattle.std.specs.Prelude.{ℕ, ◌+◌, ◌==◌, Bool, not, if◌then◌else◌, length, List, [], ◌∷◌, ◌++◌, Option, Some, None}
+use Rattle.xmpp_open_elements.specs.Nested.{covered, first_of, rest_of}
 use Rattle.xmpp_open_elements.specs.declared.pieces.Piece.{Piece}
 use Rattle.xmpp_open_elements.specs.declared.pieces.Piece.TheVariants as piece
 use Rattle.xmpp_trees.specs.Attributes.{Attribute, attribute}
@@ -21,18 +22,6 @@ at_start = record { ns = []; attr_ns = []; attr_name = []; attrs = []; here = No
 abbrev pub put_in : Option Elem → Nodes → Option Elem
 put_in None more = None
 put_in (Some e) more = Some (with_nodes e more)
-
-abbrev pub covered : Option Elem → List Elem → List Elem
-covered None below = below
-covered (Some e) below = e ∷ below
-
-abbrev pub first_of : List Elem → Option Elem
-first_of [] = None
-first_of (e ∷ es) = Some e
-
-abbrev pub rest_of : List Elem → List Elem
-rest_of [] = []
-rest_of (e ∷ es) = es
 
 -- an element that begins here
 abbrev pub next_element : Reading → List ℕ → Elem
@@ -83,6 +72,17 @@ with_attr r a = record r { attrs = r.attrs ++ a ∷ []; attr_ns = []; attr_name 
 abbrev pub with_attrs : Reading → List Attribute → Reading
 with_attrs r [] = r
 with_attrs r (a ∷ rest) = with_attrs (with_attr r a) rest
+
+-- how many attributes have a namespace, and how many pieces attributes take
+abbrev pub has_namespace : Attribute → Bool
+has_namespace a = not (length a.ns == 0)
+
+abbrev pub attr_pieces : Attribute → ℕ
+attr_pieces a = if has_namespace a then 3 else 2
+
+abbrev pub attrs_pieces : List Attribute → ℕ
+attrs_pieces [] = 0
+attrs_pieces (a ∷ attrs) = attr_pieces a + attrs_pieces attrs
 
 abbrev pub in_namespace : Reading → List ℕ → Reading
 in_namespace r ns = record r { ns = ns }

@@ -2,7 +2,7 @@
 ghost use Rattle.std.specs.Prelude.{◌≡◌, [], None, Some, IfOk, OnErr, OnOk, true};
 ghost use Rattle.std.specs.Option.{is_some, option_map};
 ghost use Rattle.xmpp_names.specs.Names.{with_prefix};
-ghost use Rattle.xmpp_open_elements.specs.Open.{begun, closed, is_innermost, joined, none_open, open_count, outermost};
+ghost use Rattle.xmpp_open_elements.specs.Open.{begun, closed, is_innermost, joined, left_open, none_open, open_count, outermost};
 ghost use Rattle.xmpp_trees.specs.Trees.{child, element, no_nodes, text};
 ghost use Rattle.xmpp_trees.specs.Views.{elem_view};
 
@@ -139,9 +139,11 @@ impl OpenElements {
     }
 
     /// The innermost element is whole. It becomes a child of the one around it, or is given where there is none. A refusal
-    /// may leave no element open.
+    /// leaves the open elements as they were where one is around it, and none open where there is none.
+    #[tactic(auto, using(crate::proofs::Names::left_around))]
     pub fn end(&mut self, alloc: Global) -> Result<Option<Element>, NoMemory>
-        ensures { IfOk result (λ e. (option_map elem_view e ≡ outermost self.old) × (self.new ≡ closed self.old)) }
+        ensures ok { IfOk result (λ e. (option_map elem_view e ≡ outermost self.old) × (self.new ≡ closed self.old)) }
+        ensures err { OnErr result (self.new ≡ left_open self.old) }
     {
         if self.here.is_none() {
             return Ok(None);

@@ -1,8 +1,9 @@
 //! The pieces of elements, one behind the other.
-ghost use Rattle.std.specs.Prelude.{◌≡◌, ◌+◌, ◌*◌, ◌≤◌, [], length, IfOk, OnErr, OnOk, Some};
+ghost use Rattle.std.specs.Prelude.{◌≡◌, ◌+◌, ◌-◌, ◌^◌, ◌≤◌, [], min, IfOk, OnErr, OnOk, Some};
 ghost use Rattle.std.specs.VecDeque.{deque_capacity, deque_len};
 ghost use Rattle.xmpp_open_elements.specs.Building.{reading_of};
-ghost use Rattle.xmpp_open_elements.specs.Pieces.{at_start, covered, ended, in_namespace, put_in, reading, step, with_attr, with_attrs, with_text};
+ghost use Rattle.xmpp_open_elements.specs.Nested.{covered};
+ghost use Rattle.xmpp_open_elements.specs.Pieces.{at_start, attr_pieces, attrs_pieces, ended, has_namespace, in_namespace, put_in, reading, step, with_attr, with_attrs, with_text};
 ghost use Rattle.xmpp_trees.specs.Trees.{child, element, no_nodes};
 
 use crate::building::Building;
@@ -19,8 +20,8 @@ const KEPT_PIECES: usize = 64;
 /// Room for so many pieces is taken at first.
 const FIRST_PIECES: usize = 16;
 
-/// Up to so many pieces room doubles.
-const DOUBLED_PIECES: usize = 1_024;
+/// Up to so many pieces room grows by a half of itself, and by an eighth past it.
+const HALF_MORE: usize = 1_024;
 
 /// What stands in an element: a part of a tag, a text, or an end tag. A namespace holds until another one is told, and
 /// attributes stand before the name of their element.
@@ -66,18 +67,17 @@ impl Model for Pieces {
     ghost invariant = { λ p. (reading p.items.items).ns ≡ p.ns };
 }
 
-// How many pieces there is to be room for where so many are wanted. Room for many grows by a part of itself and doesn't double:
-// what is unfinished for long shall take little more than its pieces.
-fn room_for(wanted: usize) -> usize
+// How many pieces there is to be room for where so many are wanted and there was room for so many. Room grows by a part of
+// itself and doesn't double: what is unfinished for long shall take little more than its pieces.
+fn room_for(there: usize, wanted: usize) -> usize
     ensures { wanted ≤ result }
 {
-    if wanted <= FIRST_PIECES {
-        FIRST_PIECES
-    } else if wanted <= DOUBLED_PIECES {
-        wanted.saturating_mul(2)
+    let more = if there <= HALF_MORE {
+        there / 2
     } else {
-        wanted.saturating_add(wanted / 8)
-    }
+        there / 8
+    };
+    wanted.max(there.saturating_add(more)).max(FIRST_PIECES)
 }
 
 // Adds a piece. There is room.
@@ -91,16 +91,35 @@ fn push(items: &mut VecDeque<Piece>, piece: Piece)
     items.push_back_reserved(piece);
 }
 
+// Whether an attribute has a namespace.
+fn has_namespace(attr: &Attr) -> bool
+    ensures { result ≡ has_namespace attr.now }
+{
+    !attr.ns.as_str().is_empty()
+}
+
+// How many pieces attributes take, or 2^64 - 1 where that is less.
+fn attrs_pieces(attrs: &[Attr]) -> usize
+    ensures { result ≡ min (attrs_pieces attrs.now) (2 ^ 64 - 1) }
+{
+    let mut pieces: usize = 0;
+    for attr in attrs {
+        pieces = pieces.saturating_add(if has_namespace(attr) { 3 } else { 2 });
+    }
+    pieces
+}
+
 // Adds an attribute of the element that begins next. There is room.
 fn push_attr(items: &mut VecDeque<Piece>, attr: Attr)
-    requires { deque_len items.old + 3 ≤ deque_capacity items.old }
+    requires { deque_len items.old + attr_pieces attr ≤ deque_capacity items.old }
     ensures said { reading items.new.items ≡ with_attr (reading items.old.items) attr }
-    ensures len { deque_len items.new ≤ deque_len items.old + 3 }
+    ensures len { deque_len items.new ≡ deque_len items.old + attr_pieces attr }
     ensures capacity { deque_capacity items.new ≡ deque_capacity items.old }
 {
+    let qualified = has_namespace(&attr);
     let Attr { ns, name, value } = attr;
     push(items, Piece::AttributeName(name));
-    if !ns.as_str().is_empty() {
+    if qualified {
         push(items, Piece::AttributeNamespace(ns));
     }
     push(items, Piece::Value(value));
@@ -108,9 +127,9 @@ fn push_attr(items: &mut VecDeque<Piece>, attr: Attr)
 
 // Adds the attributes of the element that begins next. There is room.
 fn push_attrs(items: &mut VecDeque<Piece>, attrs: Attrs)
-    requires { deque_len items.old + 3 * length attrs.items ≤ deque_capacity items.old }
+    requires { deque_len items.old + attrs_pieces attrs.items ≤ deque_capacity items.old }
     ensures said { reading items.new.items ≡ with_attrs (reading items.old.items) attrs.items }
-    ensures len { deque_len items.new ≤ deque_len items.old + 3 * length attrs.items }
+    ensures len { deque_len items.new ≡ deque_len items.old + attrs_pieces attrs.items }
     ensures capacity { deque_capacity items.new ≡ deque_capacity items.old }
 {
     for attr in attrs.into_items() {
@@ -135,9 +154,10 @@ impl Pieces {
         ensures reading { self.new.reading ≡ self.old.reading }
     {
         let len = self.items.len();
-        if n > self.items.capacity() - len {
+        let there = self.items.capacity();
+        if n > there - len {
             self.items
-                .reserve_exact(room_for(len.saturating_add(n)) - len)?;
+                .reserve_exact(room_for(there, len.saturating_add(n)) - len)?;
         }
         Ok(())
     }
@@ -158,14 +178,14 @@ impl Pieces {
         Ok(())
     }
 
-    // Makes room for a tag with so many attributes, in whose namespace pieces are from here on.
+    // Makes room for a tag with these attributes, in whose namespace pieces are from here on.
+    #[tactic(auto, using(crate::proofs::Said::pieces_bound))]
     fn prepare(&mut self, alloc: Global, ns: Text, attrs: &Attrs) -> Result<(), NoMemory>
-        ensures room { OnOk result (3 * length attrs.now.items + 1 ≤ self.new.spare) }
+        ensures room { OnOk result (attrs_pieces attrs.now.items + 1 ≤ self.new.spare) }
         ensures ok { OnOk result (self.new.reading ≡ in_namespace self.old.reading ns) }
         ensures err { OnErr result (self.new.reading ≡ self.old.reading) }
     {
-        let count = attrs.as_slice().len();
-        self.reserve(count.saturating_mul(3).saturating_add(2))?;
+        self.reserve(attrs_pieces(attrs.as_slice()).saturating_add(2))?;
         self.hold(alloc, ns)?;
         Ok(())
     }
