@@ -1,5 +1,5 @@
 -- The places of texts in the order of the texts.
-use Rattle.std.specs.Prelude.{◌≡◌, ℕ, ◌<◌, false, List, [], length, map, slice_index_or}
+use Rattle.std.specs.Prelude.{◌≡◌, ℕ, ◌<◌, true, false, ⊤, List, [], ◌∷◌, ◌++◌, length, map, slice_index_or}
 use Rattle.std.specs.List.{AllByRecursion}
 use Rattle.xmpp_archive.specs.Chained.{Ascend, IsBelow, is_text_of}
 
@@ -19,3 +19,12 @@ pub record IsOrderOf (places : List ℕ) (texts : List (List ℕ)) : Type 0 wher
 -- each text above this one is none of these
 abbrev pub AreUpTo : List ℕ → List (List ℕ) → Type 0
 AreUpTo q texts = (p : List ℕ) → IsBelow q p → is_text_of p texts ≡ false
+
+-- each of these is below this text
+abbrev pub AreBelow : List ℕ → List (List ℕ) → Type 0
+AreBelow p texts = (q : List ℕ) → is_text_of q texts ≡ true → IsBelow q p
+
+-- each text to come is above those that are there and those that come before it
+abbrev pub Rise : List (List ℕ) → List (List ℕ) → Type 0
+Rise texts [] = ⊤
+Rise texts (p ∷ ps) = AreBelow p texts × Rise (texts ++ p ∷ []) ps

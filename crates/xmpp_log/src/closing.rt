@@ -1,12 +1,13 @@
 //! The end of a page: whether it may join the log, and how it does.
-ghost use Rattle.std.specs.Prelude.{◌≡◌, ℕ, ◌-◌, ◌<◌, ◌≤◌, false, None, ◌⊎◌, if◌then◌else◌, List, [], ◌∷◌, ◌++◌, Ok, Err, Result, IfOk, IfErr, OnOk, OnErr, length, vec_len, vec_capacity};
+ghost use Rattle.std.specs.Prelude.{◌≡◌, ℕ, ◌-◌, ◌<◌, ◌≤◌, false, IsTrue, None, ◌⊎◌, if◌then◌else◌, List, [], ◌∷◌, ◌++◌, Ok, Err, Result, IfOk, IfErr, OnOk, OnErr, length, vec_len, vec_capacity};
+ghost use Rattle.std.specs.Result.{result_map_both};
 ghost use Rattle.xmpp_log.specs.Breaks.{break_at, is_break};
 ghost use Rattle.xmpp_log.specs.LogPages.{ids_of, last_id};
-ghost use Rattle.xmpp_log.specs.Orders.{IsOrderOf};
+ghost use Rattle.xmpp_log.specs.Orders.{IsOrderOf, Rise};
 ghost use Rattle.xmpp_log.specs.Views.{LogView, advance_of, end_of, outcome_of, first_repeat, repeat_of, same_id};
 
 use crate::fin::{FinFault, PageOutcome};
-use crate::id_order::{put, repeated};
+use crate::id_order::{put_next, repeated, rise};
 use crate::log_entry::{LogEntries, LogEntry};
 use crate::open_page::{Page, borrowed, copied, last_id, same_id};
 use crate::tile::{Tile, Tiles};
@@ -50,16 +51,25 @@ fn check_last(alloc: Global, page: &Page, fin: &Fin) -> Result<(), FinFault>
     })
 }
 
+/// How a page ended that may join the log, and whether each of its ids is above all before it.
+#[derive(Clone, Copy)]
+pub(crate) struct Ending {
+    pub(crate) outcome: PageOutcome,
+    pub(crate) rising: bool,
+}
+
 /// Judges a page that is to follow these entries.
+#[tactic(auto, using(crate::proofs::Rising::fresh_from_rise))]
 pub(crate) fn judge(
     alloc: Global,
     entries: &[LogEntry],
     order: &[usize],
     page: &Page,
     fin: &Fin,
-) -> Result<PageOutcome, FinFault>
+) -> Result<Ending, FinFault>
     requires { IsOrderOf order.now (ids_of entries.now) }
-    ensures exact { (log : LogView) → log.entries ≡ entries.now → (result ≡ Err FinFault.NoMemory) ⊎ (result ≡ end_of log page.now fin.now) }
+    ensures exact { (log : LogView) → log.entries ≡ entries.now → (result ≡ Err FinFault.NoMemory) ⊎ (result_map_both (λ e. e.outcome) (λ fault. fault) result ≡ end_of log page.now fin.now) }
+    ensures rising { IfOk result (λ e. IsTrue e.rising → Rise (ids_of entries.now) (ids_of page.now.results)) }
     ensures fresh { OnOk result (first_repeat (ids_of entries.now) (ids_of page.now.results) ≡ None) }
     ensures advances { OnOk result (fin.now.complete ≡ false → 0 < length page.now.results) }
 {
@@ -68,8 +78,18 @@ pub(crate) fn judge(
     if results.is_empty() && !fin.complete {
         return Err(FinFault::NoAdvance);
     }
+    let outcome = outcome(fin.complete);
+    if rise(order, entries, results) {
+        return Ok(Ending {
+            outcome,
+            rising: true,
+        });
+    }
     match repeated(alloc, order, entries, results)? {
-        None => Ok(outcome(fin.complete)),
+        None => Ok(Ending {
+            outcome,
+            rising: false,
+        }),
         Some(id) => Err(FinFault::Repeats(id)),
     }
 }
@@ -86,7 +106,8 @@ fn outcome(complete: bool) -> PageOutcome
 }
 
 /// Moves results to the end of the entries, and puts their places in the order.
-fn join(entries: &mut LogEntries, order: &mut Vec<usize>, results: LogEntries)
+fn join(entries: &mut LogEntries, order: &mut Vec<usize>, results: LogEntries, rising: bool)
+    requires rising { IsTrue rising → Rise (ids_of entries.old.items) (ids_of results.items) }
     requires entries { length results.items ≤ entries.old.spare }
     requires places { length results.items ≤ vec_capacity order.old - vec_len order.old }
     requires order { IsOrderOf order.old.items (ids_of entries.old.items) }
@@ -95,7 +116,7 @@ fn join(entries: &mut LogEntries, order: &mut Vec<usize>, results: LogEntries)
     ensures order { IsOrderOf order.new.items (ids_of entries.new.items) }
 {
     for entry in results.into_items() {
-        put(order, entries.as_slice(), entry.id.as_str());
+        put_next(order, entries.as_slice(), entry.id.as_str(), rising);
         entries.push_reserved(entry);
     }
 }
@@ -125,7 +146,9 @@ pub(crate) fn take_over(
     breaks: &mut Numbers,
     page: Page,
     fin: &Fin,
+    rising: bool,
 )
+    requires rising { IsTrue rising → Rise (ids_of entries.old.items) (ids_of page.results) }
     requires entries { length page.results ≤ entries.old.spare }
     requires places { length page.results ≤ vec_capacity order.old - vec_len order.old }
     requires tiles { 1 ≤ tiles.old.spare }
@@ -146,5 +169,5 @@ pub(crate) fn take_over(
     };
     note_break(breaks, entries.as_slice().len(), &tile);
     tiles.push_reserved(tile);
-    join(entries, order, results);
+    join(entries, order, results, rising);
 }

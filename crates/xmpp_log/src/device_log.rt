@@ -127,7 +127,7 @@ impl Log {
             &page,
             fin,
         ) {
-            Ok(outcome) => {
+            Ok(ending) => {
                 self.held.let_go(page.results.as_slice());
                 take_over(
                     &mut self.entries,
@@ -136,8 +136,9 @@ impl Log {
                     &mut self.breaks,
                     page,
                     fin,
+                    ending.rising,
                 );
-                Ok(outcome)
+                Ok(ending.outcome)
             }
             Err(FinFault::NoMemory) => {
                 self.page = Some(page);

@@ -5,7 +5,7 @@ ghost use Rattle.std.specs.List.{list_any};
 ghost use Rattle.std.specs.Str.{bytes_eq};
 ghost use Rattle.xmpp_archive.specs.Chained.{IsBelow, IsGap, is_text_of};
 ghost use Rattle.xmpp_log.specs.LogPages.{ids_of};
-ghost use Rattle.xmpp_log.specs.Orders.{AreUpTo, IsOrderOf, texts_at};
+ghost use Rattle.xmpp_log.specs.Orders.{AreBelow, AreUpTo, IsOrderOf, Rise, texts_at};
 ghost use Rattle.xmpp_log.specs.Views.{first_repeat};
 
 use crate::log_entry::LogEntry;
@@ -83,6 +83,22 @@ pub(crate) fn put(places: &mut Vec<usize>, entries: &[LogEntry], id: &str)
     }
 }
 
+/// The same of an id of which it may be known that it is above all others: then it takes no comparison.
+pub(crate) fn put_next(places: &mut Vec<usize>, entries: &[LogEntry], id: &str, above: bool)
+    requires order { IsOrderOf places.old.items (ids_of entries.now) }
+    requires above { IsTrue above → AreBelow id.now (ids_of entries.now) }
+    requires fresh { list_any (λ other. bytes_eq id.now other) (ids_of entries.now) ≡ false }
+    requires room { 1 ≤ vec_capacity places.old - vec_len places.old }
+    ensures order { IsOrderOf places.new.items (ids_of entries.now ++ id.now ∷ []) }
+    ensures room { vec_capacity places.old - vec_len places.old ≤ vec_capacity places.new - vec_len places.new + 1 }
+{
+    if above {
+        places.push_reserved(entries.len());
+    } else {
+        put(places, entries, id);
+    }
+}
+
 /// Whether an entry has an id, or one of the results before it.
 fn is_repeated(
     places: &[usize],
@@ -122,9 +138,9 @@ fn is_above(id: &str, other: &str) -> bool
 
 /// Whether each of the results' ids is above all ids before it. So it is of a page of an archive; one comparison for
 /// each tells it, and then none repeats.
-fn rise<'a>(places: &[usize], entries: &'a [LogEntry], results: &'a [LogEntry]) -> bool
+pub(crate) fn rise<'a>(places: &[usize], entries: &'a [LogEntry], results: &'a [LogEntry]) -> bool
     requires order { IsOrderOf places.now (ids_of entries.now) }
-    ensures { IsTrue result → first_repeat (ids_of entries.now) (ids_of results.now) ≡ None }
+    ensures { IsTrue result → Rise (ids_of entries.now) (ids_of results.now) }
 {
     let mut last = greatest(places, entries);
     for at in 0..results.len() {
@@ -147,9 +163,6 @@ pub(crate) fn repeated(
     requires order { IsOrderOf places.now (ids_of entries.now) }
     ensures { IfOk result (λ id. id ≡ first_repeat (ids_of entries.now) (ids_of results.now)) }
 {
-    if rise(places, entries, results) {
-        return Ok(None);
-    }
     let mut page: Vec<usize> = Vec::new(alloc);
     page.reserve(results.len())?;
     for at in 0..results.len() {

@@ -1,7 +1,7 @@
-use Rattle.std.proofs.Common.{◌≡◌, ◌-◌, ◌≤◌, ◌++◌, None, length, vec_capacity, vec_len}
+use Rattle.std.proofs.Common.{◌≡◌, ◌-◌, ◌≤◌, ◌++◌, IsTrue, None, length, vec_capacity, vec_len}
 use Rattle.std.specs.Vec.Iter.{into_iter_items, into_iter_len}
 use Rattle.xmpp_log.specs.LogPages.{ids_of}
-use Rattle.xmpp_log.specs.Orders.{IsOrderOf}
+use Rattle.xmpp_log.specs.Orders.{IsOrderOf, Rise}
 use Rattle.xmpp_log.specs.Views.{first_repeat}
 use Rattle.xmpp_log.proofs.closing.join.Given as goal
 
@@ -14,5 +14,6 @@ invariant-loop-entry l = record {
   room : length (into_iter_items l.entry-iterator) ≤ l.entries.spare;
   places : length (into_iter_items l.entry-iterator) ≤ vec_capacity l.order - vec_len l.order;
   order : IsOrderOf l.order.items (ids_of l.entries.items);
+  rising : IsTrue l.rising → Rise (ids_of l.entries.items) (ids_of (into_iter_items l.entry-iterator));
   fresh : first_repeat (ids_of l.entries.items) (ids_of (into_iter_items l.entry-iterator)) ≡ None;
 }

@@ -1,5 +1,5 @@
-use Rattle.std.proofs.Common.{arith, refl, ◌∙◌}
-use Rattle.xmpp_log.proofs.Rising.{rises_on, rising_is_new}
+use Rattle.std.proofs.Common.{arith, refl}
+use Rattle.xmpp_log.proofs.Rising.{rise_more, rises_on}
 use Rattle.xmpp_log.specs.LogPages.{ids_of}
 use Rattle.xmpp_log.proofs.id_order.rise.Goals as goal
 
@@ -14,6 +14,6 @@ loop-at-preserved c =
       text = c.as_str-id.utf8;
       up = rises_on known c.args.results.now c.loop-at.at c.index-results-at.result c.loop-at.last.now c.as_str-id.result.now
           (omega arith) c.as_str-id.ensures above c.loop-at.invariant.up;
-      same = c.loop-at.invariant.same ∙ rising_is_new known c.args.results.now c.loop-at.at c.index-results-at.result c.loop-at.last.now c.as_str-id.result.now
-          (omega arith) c.as_str-id.ensures above c.loop-at.invariant.up;
+      rise = rise_more known c.args.results.now c.loop-at.at c.index-results-at.result c.loop-at.last.now c.as_str-id.result.now
+          (omega arith) c.as_str-id.ensures above c.loop-at.invariant.up c.loop-at.invariant.rise;
     }
