@@ -24,7 +24,7 @@ pub(crate) fn append_item(out: &mut Bytes, item: &Item) -> Result<(), NoMemory>
         Item::Element(tree) => write_growing(tree, out)?,
         Item::Footer => write_footer(out)?,
     }
-    out.append(b"\n")
+    out.push(b'\n')
 }
 
 // Whether a header opens a stream between a client and its server.

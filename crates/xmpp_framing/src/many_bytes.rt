@@ -407,10 +407,15 @@ impl Framer {
 
     // ---- both
 
-    // Takes bytes that a piece begins with and that only add to what is in hand, and answers how many.
+    // Takes bytes that a piece begins with and that only add to what is in hand, and answers how many. What most tags begin
+    // and end with is not looked at twice.
     pub(crate) fn take_run(&mut self, bytes: &[u8]) -> Result<usize, NoMemory>
         ensures { IfOk result (λ n. TakesRun self.old self.new bytes.now n) }
     {
+        match bytes.first() {
+            Some(b) if *b == b'<' || *b == b'>' => return Ok(0),
+            _ => {}
+        }
         if self.takes_text() {
             return self.take_text_run(bytes);
         }

@@ -8,6 +8,7 @@ pub mod BoundNames
 pub mod Expanded
 pub mod NamePairs
 pub mod SameNames
+pub mod SpelledLengths
 pub mod SpelledNames
 -- ---- whole tags and headers
 pub mod EndLaws

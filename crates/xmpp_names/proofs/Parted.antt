@@ -65,7 +65,7 @@ kept : (o : Option (List ExpandedAttribute)) → is_some (option_and_then if_dis
 kept None h = refl
 kept (Some es) h = kept_some (are_distinct (map name_of es)) es h
 
-module _ (scope : Scope) (name : List ℕ) (own : Scope) (others : List Attribute) (empty : Bool) (h : is_well_formed scope name own others ≡ true) where
+module _ (scope : Scope) (name : List ℕ) (own : Scope) (others : List Attribute) (empty : Bool) (h : is_well_formed scope (prefix_of name) own others ≡ true) where
   finishes : parted_tag scope name own others empty ≡ tag_with name own empty (element_ns (own ++ scope) (prefix_of name)) (expanded_attributes (own ++ scope) others)
   unfolding parted_tag attributes_in
   finishes =
@@ -104,11 +104,11 @@ past limits count own fault None h e = absurd (false≢true h)
 past limits count own fault (Some t) h e = ap (λ f. or_fault f t) e
 
 module _ (limits : TagLimits) (count : ℕ) (scope : Scope) (name : List ℕ) (own : Scope) (others : List Attribute) (empty : Bool) where
-  pub refused : is_well_formed scope name own others ≡ false → limited limits count own (parted_tag scope name own others empty) ≡ Err NotWellFormed
+  pub refused : is_well_formed scope (prefix_of name) own others ≡ false → limited limits count own (parted_tag scope name own others empty) ≡ Err NotWellFormed
   unfolding parted_tag
   refused h = ap (limited limits count own) (refuses (list_all may_declare own) (element_ns (own ++ scope) (prefix_of name)) (attributes_in (own ++ scope) others) name own empty h)
 
-  pub past_refused : (fault : StartWhy) → is_well_formed scope name own others ≡ true → past_limits limits count own ≡ Some fault → limited limits count own (parted_tag scope name own others empty) ≡ Err fault
+  pub past_refused : (fault : StartWhy) → is_well_formed scope (prefix_of name) own others ≡ true → past_limits limits count own ≡ Some fault → limited limits count own (parted_tag scope name own others empty) ≡ Err fault
   unfolding parted_tag
   past_refused fault h e =
       past limits count own fault (parted_tag scope name own others empty) (builds (list_all may_declare own) (element_ns (own ++ scope) (prefix_of name)) (attributes_in (own ++ scope) others) name own empty h) e

@@ -1,7 +1,8 @@
 -- Attributes without a prefix: their expanded names are distinct where the spelled ones are.
-use Rattle.std.proofs.Common.{◌≡◌, ℕ, Bool, true, false, cond, not, ◌&&◌, ◌||◌, List, [], ◌∷◌, Option, Some, None, Ok, map, bytes_eq, refl, sym, ap, ◌∙◌}
+use Rattle.std.proofs.Common.{◌≡◌, ℕ, Bool, true, false, cond, not, ◌&&◌, ◌||◌, List, [], ◌∷◌, Option, Some, None, Ok, map, bytes_eq, refl, sym, ap, ◌∙◌, ◌++◌}
 use Rattle.std.proofs.lemmas.Bool.{and_parts, and_from, false≢true, not-true, not_from_false, or_parts, or_from}
 use Rattle.std.proofs.Math.Bool.{and-true}
+use Rattle.std.proofs.lemmas.List.{map_push}
 use Rattle.std.proofs.lemmas.Slice.Eq.{bytes_eq-Decides}
 use Rattle.std.specs.List.{list_any, before_first, after_first}
 use Rattle.std.specs.Option.{option_map, option_and_then, is_some}
@@ -13,10 +14,11 @@ use Rattle.xmpp_tokens.specs.Tags as spelled
 use Rattle.xmpp_tokens.specs.declared.raw_tags.RawAttribute.{RawAttribute}
 use Rattle.xmpp_names.proofs.Parted.{names_tell}
 use Rattle.xmpp_names.specs.Declarations.{declared_prefix, others_of, unless_binding}
-use Rattle.xmpp_names.specs.Expansion.{Name, are_distinct, attribute_ns, expanded_name, expanded_names, in_front, is_same}
+use Rattle.xmpp_names.specs.Expansion.{Name, are_distinct, attribute_ns, expanded_attribute, expanded_attributes, expanded_name, expanded_names, in_front, is_same, plain_attribute, with_value}
 use Rattle.xmpp_names.specs.Names.{has_colon, is_colon, local_of, prefix_of}
 use Rattle.xmpp_names.specs.Scopes.{Scope, bound}
 use Rattle.xmpp_names.specs.Starts.{attributes_in}
+use Rattle.xmpp_names.specs.declared.expansion.ExpandedAttribute.{ExpandedAttribute}
 
 -- ---- a tag's attributes have spelled names of their own, and so have those that are no declarations
 
@@ -76,3 +78,24 @@ pub plain_tell : (scope : Scope) (xs : List RawAttribute) → list_any (λ a. ha
 plain_tell scope xs h d =
     let ns = names_of (map attribute_of xs) in
     names_tell scope (map attribute_of xs) (map plain ns) true (plain_names scope xs h) (sym (distinct_plain ns ∙ d))
+
+-- ---- attributes without a prefix
+
+abbrev plain_of : RawAttribute → ExpandedAttribute
+plain_of a = plain_attribute (attribute_of a)
+
+plain_one : (scope : Scope) (a : RawAttribute) → has_colon a.name.now ≡ false → expanded_attribute scope (attribute_of a) ≡ Some (plain_of a)
+plain_one scope a h = ap (option_map (with_value a.value)) (plain_name scope a.name.now h)
+
+pub plain_expanded : (scope : Scope) (xs : List RawAttribute) → list_any (λ a. has_colon a.name.now) xs ≡ false → expanded_attributes scope (map attribute_of xs) ≡ Some (map (λ a. plain_attribute (attribute_of a)) xs)
+plain_expanded scope [] h = refl
+plain_expanded scope (a ∷ xs) h =
+    let p = or_parts (has_colon a.name.now) _ h in
+    ap (λ o. option_and_then (λ e. in_front (e ∷ []) (expanded_attributes scope (map attribute_of xs))) o) (plain_one scope a p.0)
+    ∙ ap (in_front (plain_of a ∷ [])) (plain_expanded scope xs p.1)
+
+pub plain_next : (seen : List RawAttribute) (a : RawAttribute) (old new : List ExpandedAttribute) (ns name : List ℕ) → ns ≡ [] → name ≡ a.name.now → old ≡ map (λ x. plain_attribute (attribute_of x)) seen
+    → new ≡ old ++ record { ns = ns; name = name; value = a.value } ∷ [] → new ≡ map (λ x. plain_attribute (attribute_of x)) (seen ++ a ∷ [])
+plain_next seen a old new ns name n m o is =
+    let made : List ℕ → List ℕ → List ExpandedAttribute = λ s l. record { ns = s; name = l; value = a.value } ∷ [] in
+    is ∙ ap (λ l. l ++ made ns name) o ∙ ap (λ s. map plain_of seen ++ made s name) n ∙ ap (λ l. map plain_of seen ++ made [] l) m ∙ sym (map_push plain_of seen a)

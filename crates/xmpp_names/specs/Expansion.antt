@@ -45,6 +45,10 @@ with_value value n = record { ns = n.ns; name = n.name; value = value }
 abbrev pub expanded_attribute : Scope → Attribute → Option ExpandedAttribute
 expanded_attribute scope a = option_map (with_value a.value) (expanded_name scope a.name)
 
+-- an attribute whose name has no prefix, with its expanded name
+abbrev pub plain_attribute : Attribute → ExpandedAttribute
+plain_attribute a = record { ns = []; name = a.name; value = a.value }
+
 -- attributes in the order in which they are given
 abbrev pub expanded_attributes : Scope → List Attribute → Option (List ExpandedAttribute)
 expanded_attributes scope [] = Some []

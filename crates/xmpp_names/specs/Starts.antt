@@ -87,7 +87,7 @@ start_behind limits scope (Err why) = Err (as_start_why why)
 unfoldable pub start_of : TagLimits → Scope → List ℕ → Result Tag StartWhy
 start_of limits scope bytes = start_behind limits scope (tag_of bytes)
 
--- a name, declarations and other attributes that say a tag
+-- a name's prefix, declarations and other attributes that say a tag
 abbrev pub is_well_formed : Scope → List ℕ → Scope → List Attribute → Bool
-is_well_formed scope name own others =
-    list_all may_declare own && (is_some (element_ns (own ++ scope) (prefix_of name)) && is_some (attributes_in (own ++ scope) others))
+is_well_formed scope prefix own others =
+    list_all may_declare own && (is_some (element_ns (own ++ scope) prefix) && is_some (attributes_in (own ++ scope) others))

@@ -1,8 +1,10 @@
 //! Expanded names of elements and attributes.
 ghost use Rattle.std.specs.Prelude.{◌≡◌, ◌++◌, Some, map, IfOk};
-ghost use Rattle.std.specs.Option.{option_map};
+ghost use Rattle.std.specs.List.{list_any};
+ghost use Rattle.std.specs.Option.{is_some, option_map};
 ghost use Rattle.xmpp_names.specs.Expansion;
-ghost use Rattle.xmpp_names.specs.Expansion.{borrowed_name};
+ghost use Rattle.xmpp_names.specs.Expansion.{borrowed_name, plain_attribute};
+ghost use Rattle.xmpp_names.specs.Names.{has_colon};
 ghost use Rattle.xmpp_names.specs.Scopes.{scope_of};
 ghost use Rattle.xmpp_tokens.specs.RawTags.{attribute_of};
 ghost use Rattle.xmpp_tokens.specs.Tags.{names_of};
@@ -37,21 +39,24 @@ pub(crate) struct ExpandedName<'a> {
     pub(crate) ns: &'a str,
 }
 
-// The namespace of an element whose name has this prefix.
+// Whether an element whose name has this prefix has a namespace, be it the empty one. Without a prefix nothing is looked up.
 #[tactic(auto, unfolding(crate::specs::Expansion::element_ns))]
-pub(crate) fn element_ns<'a>(own: &'a [Binding], stack: &'a Scopes, prefix: &str) -> Option<&'a str>
-    ensures { option_map (λ s. s.now) result ≡ Expansion.element_ns (own.now ++ scope_of stack.now) prefix.now }
+pub(crate) fn has_element_ns(own: &[Binding], stack: &Scopes, prefix: &str) -> bool
+    ensures { result ≡ is_some (Expansion.element_ns (own.now ++ scope_of stack.now) prefix.now) }
 {
     if prefix.is_empty() {
-        return Some(bound_in(own, stack, prefix).unwrap_or(""));
+        return true;
     }
     if prefix == "xmlns" {
-        return None;
+        return false;
     }
-    bound_in(own, stack, prefix)
+    match bound_in(own, stack, prefix) {
+        Some(_) => true,
+        None => false,
+    }
 }
 
-// The same as a text. The empty one takes no memory, nor does a copy of a declared one.
+// The namespace of an element whose name has this prefix. The empty one takes no memory, nor does a copy of a declared one.
 #[tactic(auto, unfolding(crate::specs::Expansion::element_ns))]
 pub(crate) fn element_ns_copy(
     alloc: Global,
@@ -164,8 +169,8 @@ fn expanded_attribute(
     }
 }
 
-// Attributes with their expanded names, in order, if each has one.
-pub(crate) fn expanded_attributes(
+// Attributes with their expanded names, in order, if each has one. Each prefix is looked up.
+fn bound_attributes(
     alloc: Global,
     own: &[Binding],
     stack: &Scopes,
@@ -182,4 +187,39 @@ pub(crate) fn expanded_attributes(
         }
     }
     Ok(Some(attributes))
+}
+
+// Attributes without a prefix, with their expanded names: no name is split, and none looked up.
+fn plain_attributes(
+    alloc: Global,
+    others: Vec<RawAttribute<'_>>,
+) -> Result<Vec<ExpandedAttribute>, NoMemory>
+    ensures { IfOk result (λ v. v.items ≡ map (λ a. plain_attribute (attribute_of a)) others.entry.items) }
+{
+    let mut attributes = Vec::with_capacity(alloc, others.len())?;
+    for attribute in others {
+        let RawAttribute { name, value } = attribute;
+        let name = Text::from_str(alloc, name)?;
+        let ns = Text::new(alloc);
+        attributes.push(ExpandedAttribute { ns, name, value })?;
+    }
+    Ok(attributes)
+}
+
+// Attributes with their expanded names, in order, if each has one. It is told whether some has a prefix.
+pub(crate) fn expanded_attributes(
+    alloc: Global,
+    own: &[Binding],
+    stack: &Scopes,
+    others: Vec<RawAttribute<'_>>,
+    prefixed: bool,
+) -> Result<Option<Vec<ExpandedAttribute>>, NoMemory>
+    requires { prefixed ≡ list_any (λ a. has_colon a.name.now) others.items }
+    ensures { IfOk result (λ o. option_map (λ v. v.items) o
+        ≡ Expansion.expanded_attributes (own.now ++ scope_of stack.now) (map attribute_of others.entry.items)) }
+{
+    if prefixed {
+        return bound_attributes(alloc, own, stack, others);
+    }
+    Ok(Some(plain_attributes(alloc, others)?))
 }

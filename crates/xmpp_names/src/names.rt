@@ -36,6 +36,16 @@ pub(crate) fn split_prefix(name: &str) -> (Option<&str>, &str)
     }
 }
 
+// The characters of a prefix; none where there is no prefix.
+pub(crate) fn prefix_or_nothing<'a>(prefix: Option<&'a str>) -> &'a str
+    ensures { result.now ≡ unwrap_or (option_map (λ p. p.now) prefix.entry) [] }
+{
+    match prefix {
+        Some(prefix) => prefix,
+        None => "",
+    }
+}
+
 // Whether bytes are a colon and this local part.
 fn is_behind_colon(local: &[u8], bytes: &[u8]) -> bool
     ensures { result ≡ bytes_eq bytes.now (58 ∷ local.now) }

@@ -1,9 +1,9 @@
 //! Start tags with their names expanded.
-ghost use Rattle.std.specs.Prelude.{◌≡◌, ◌++◌, Ok, Err, Some, true, map, IfOk, IfErr};
+ghost use Rattle.std.specs.Prelude.{◌≡◌, [], ◌++◌, Ok, Err, Some, true, map, unwrap_or, IfOk, IfErr};
 ghost use Rattle.std.specs.List.{list_any};
 ghost use Rattle.std.specs.Option.{option_map, is_some};
 ghost use Rattle.xmpp_names.specs.Faults.{IfRefused};
-ghost use Rattle.xmpp_names.specs.Names.{has_colon};
+ghost use Rattle.xmpp_names.specs.Names.{has_colon, local_of, prefix_of, with_prefix};
 ghost use Rattle.xmpp_names.specs.Scopes.{Scope, scope_of};
 ghost use Rattle.xmpp_names.specs.Starts;
 ghost use Rattle.xmpp_names.specs.Starts.{attributes_in, limited, parted_tag, start_of};
@@ -15,11 +15,11 @@ ghost use Rattle.xmpp_tokens.specs.Tags.{names_of, tag_of};
 
 use crate::declarations::{PartedAttributes, all_may_declare, part};
 use crate::expansion::{
-    ExpandedAttribute, element_ns, element_ns_copy, expanded_attributes, expanded_names,
+    ExpandedAttribute, element_ns_copy, expanded_attributes, expanded_names, has_element_ns,
 };
 use crate::fault::{StartFault, StartWhy};
 use crate::limits::TagLimits;
-use crate::names::{is_prefixed, split_name, split_prefix};
+use crate::names::{is_prefixed, prefix_or_nothing, split_prefix};
 use crate::open_scopes::Scopes;
 use crate::pairs::{FEW_NAMES, have_names_in_pairs};
 use crate::scopes::Binding;
@@ -45,11 +45,15 @@ pub struct Tag {
     pub empty: bool,
 }
 
-// Whether a declaration's namespace name is past a limit.
+// Whether a declaration's namespace name is past a limit. A byte is spelled with six at most: few are not looked at.
 fn is_long(most: u32, binding: &Binding) -> bool
     ensures { result ≡ Starts.is_long most binding.now }
 {
-    spelled_value_len(binding.ns.as_str().as_bytes()) > most as usize
+    let ns = binding.ns.as_str().as_bytes();
+    if ns.len() <= 42 && most >= 252 {
+        return false;
+    }
+    spelled_value_len(ns) > most as usize
 }
 
 // Whether some declaration's namespace name is past a limit.
@@ -90,18 +94,20 @@ fn has_prefixed(attributes: &[RawAttribute]) -> bool
     false
 }
 
-// Whether each attribute has an expanded name, and no two have the same. Without a prefix the spelled names are those,
-// and few names are compared in pairs: memory is taken for many alone.
+// Whether each attribute has an expanded name, and no two have the same. It is told whether some has a prefix: without one
+// the spelled names are those. Few names are compared in pairs: memory is taken for many alone.
 fn have_names(
     alloc: Global,
     own: &[Binding],
     stack: &Scopes,
     others: &[RawAttribute<'_>],
+    prefixed: bool,
 ) -> Result<bool, NoMemory>
-    requires { Tags.are_distinct (names_of (map attribute_of others.now)) ≡ true }
+    requires distinct { Tags.are_distinct (names_of (map attribute_of others.now)) ≡ true }
+    requires prefixed { prefixed ≡ list_any (λ a. has_colon a.name.now) others.now }
     ensures { IfOk result (λ b. b ≡ is_some (attributes_in (own.now ++ scope_of stack.now) (map attribute_of others.now))) }
 {
-    if !has_prefixed(others) {
+    if !prefixed {
         return Ok(true);
     }
     if others.len() <= FEW_NAMES {
@@ -113,21 +119,23 @@ fn have_names(
     }
 }
 
-// Whether a name, declarations and other attributes say a tag.
+// Whether declarations and other attributes say a tag, behind a name with this prefix.
 fn is_well_formed(
     alloc: Global,
     stack: &Scopes,
-    name: &str,
+    prefix: &str,
     parted: &PartedAttributes<'_>,
+    prefixed: bool,
 ) -> Result<bool, NoMemory>
-    requires { Tags.are_distinct (names_of (map attribute_of parted.now.others.items)) ≡ true }
-    ensures { IfOk result (λ b. b ≡ Starts.is_well_formed (scope_of stack.now) name.now parted.now.bindings.items (map attribute_of parted.now.others.items)) }
+    requires distinct { Tags.are_distinct (names_of (map attribute_of parted.now.others.items)) ≡ true }
+    requires prefixed { prefixed ≡ list_any (λ a. has_colon a.name.now) parted.now.others.items }
+    ensures { IfOk result (λ b. b ≡ Starts.is_well_formed (scope_of stack.now) prefix.now parted.now.bindings.items (map attribute_of parted.now.others.items)) }
 {
     let own = parted.bindings.as_slice();
-    if !all_may_declare(own) || element_ns(own, stack, split_name(name).0).is_none() {
+    if !all_may_declare(own) || !has_element_ns(own, stack, prefix) {
         return Ok(false);
     }
-    have_names(alloc, own, stack, parted.others.as_slice())
+    have_names(alloc, own, stack, parted.others.as_slice(), prefixed)
 }
 
 // A copy of a text, if there is one.
@@ -140,27 +148,31 @@ fn copied(alloc: Global, text: Option<&str>) -> Result<Option<Text>, NoMemory>
     }
 }
 
-// The tag, its memory taken.
+// The tag, its memory taken, behind a name with this prefix and this local part.
 fn finished(
     alloc: Global,
     stack: &Scopes,
-    spelled: &str,
+    prefix: Option<&str>,
+    local: &str,
     parted: PartedAttributes<'_>,
+    prefixed: bool,
     empty: bool,
 ) -> Result<Option<Tag>, NoMemory>
-    requires { Starts.is_well_formed (scope_of stack.now) spelled.now parted.bindings.items (map attribute_of parted.others.items) ≡ true }
+    requires prefix { unwrap_or (option_map (λ p. p.now) prefix) [] ≡ prefix_of (with_prefix (option_map (λ p. p.now) prefix) local.now) }
+    requires local { local.now ≡ local_of (with_prefix (option_map (λ p. p.now) prefix) local.now) }
+    requires formed { Starts.is_well_formed (scope_of stack.now) (unwrap_or (option_map (λ p. p.now) prefix) []) parted.bindings.items (map attribute_of parted.others.items) ≡ true }
+    requires prefixed { prefixed ≡ list_any (λ a. has_colon a.name.now) parted.others.items }
     ensures { IfOk result (λ o. option_map tag_view o
-        ≡ parted_tag (scope_of stack.now) spelled.now parted.entry.bindings.items (map attribute_of parted.entry.others.items) empty) }
+        ≡ parted_tag (scope_of stack.now) (with_prefix (option_map (λ p. p.now) prefix.entry) local.now) parted.entry.bindings.items (map attribute_of parted.entry.others.items) empty) }
 {
     let PartedAttributes { bindings, others } = parted;
-    let (prefix, local) = split_prefix(spelled);
-    let found = element_ns_copy(alloc, bindings.as_slice(), stack, prefix.unwrap_or(""))?;
+    let found = element_ns_copy(alloc, bindings.as_slice(), stack, prefix_or_nothing(prefix))?;
     let Some(ns) = found else {
         return Ok(None);
     };
     let name = Text::from_str(alloc, local)?;
     let prefix = copied(alloc, prefix)?;
-    match expanded_attributes(alloc, bindings.as_slice(), stack, others)? {
+    match expanded_attributes(alloc, bindings.as_slice(), stack, others, prefixed)? {
         Some(attributes) => Ok(Some(Tag {
             prefix,
             ns,
@@ -189,13 +201,15 @@ fn expand(
     ensures refused { IfErr result (λ e. IfRefused e (λ why. limited limits count parted.entry.bindings.items
         (parted_tag (scope_of stack.now) spelled.now parted.entry.bindings.items (map attribute_of parted.entry.others.items) empty) ≡ Err why)) }
 {
-    if !is_well_formed(alloc, stack, spelled, &parted)? {
+    let (prefix, local) = split_prefix(spelled);
+    let prefixed = has_prefixed(parted.others.as_slice());
+    if !is_well_formed(alloc, stack, prefix_or_nothing(prefix), &parted, prefixed)? {
         return Err(StartFault::Refused(StartWhy::NotWellFormed));
     }
     if let Some(why) = past_limits(limits, count, parted.bindings.as_slice()) {
         return Err(StartFault::Refused(why));
     }
-    match finished(alloc, stack, spelled, parted, empty)? {
+    match finished(alloc, stack, prefix, local, parted, prefixed, empty)? {
         Some(tag) => Ok(tag),
         None => Err(StartFault::Refused(StartWhy::NotWellFormed)),
     }

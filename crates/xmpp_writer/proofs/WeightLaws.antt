@@ -6,8 +6,9 @@ use Rattle.std.proofs.lemmas.Grind.{flat_map-append}
 use Rattle.std.proofs.lemmas.Int.Digits.{length-digits_of-le}
 use Rattle.std.proofs.lemmas.List.{length-map}
 use Rattle.std.specs.Int.Digits.{digits_of}
+use Rattle.xmpp_names.proofs.SpelledLengths.{either, text_short, value_short}
 use Rattle.xmpp_names.specs.Scopes.{xml_namespace}
-use Rattle.xmpp_tokens.specs.Spelling.{spelled_text, spelled_value, text_byte, value_byte}
+use Rattle.xmpp_tokens.specs.Spelling.{spelled_text, spelled_value}
 use Rattle.xmpp_tokens.specs.Tags as tokens
 use Rattle.xmpp_tokens.specs.Tags.{is_empty, tag_end}
 use Rattle.xmpp_trees.specs.Attributes.{Attribute}
@@ -15,41 +16,6 @@ use Rattle.xmpp_trees.specs.Trees.{Elem, Nodes, no_nodes, child, text, element}
 use Rattle.xmpp_writer.proofs.WrittenTags.{next_most}
 use Rattle.xmpp_writer.specs.Canon.{assignment, assignments, behind_attributes, declared_default, declares_default, default_inside, foreign, has_nothing, next_number, number_text, opened, spelled, spelled_attribute, spelled_attributes, spelled_name, streams_namespace, tag_attributes, written, written_end_tag, written_nodes}
 use Rattle.xmpp_writer.specs.Weight.{attribute_weight, attributes_weight, nodes_weight, weight}
-
-either : (c : Bool) (x y : List ℕ) (n : ℕ) → length x ≤ n → length y ≤ n → length (if c then x else y) ≤ n
-either true x y n here there = here
-either false x y n here there = there
-
--- ---- bytes
-
-text_byte_short : (b : ℕ) → length (text_byte b) ≤ 5
-unfolding text_byte
-text_byte_short b =
-    let cr = if b == 13 then codes "&#xD;" else b ∷ [] in
-    let more = if b == 62 then codes "&gt;" else cr in
-    let less = if b == 60 then codes "&lt;" else more in
-    let c = either (b == 13) (codes "&#xD;") (b ∷ []) 5 (omega arith) (omega arith) in
-    let m = either (b == 62) (codes "&gt;") cr 5 (omega arith) c in
-    let l = either (b == 60) (codes "&lt;") more 5 (omega arith) m in
-    either (b == 38) (codes "&amp;") less 5 (omega arith) l
-
-value_byte_short : (b : ℕ) → length (value_byte b) ≤ 6
-unfolding value_byte
-value_byte_short b =
-    let short = text_byte_short b in
-    let feed = if b == 10 then codes "&#xA;" else text_byte b in
-    let tab = if b == 9 then codes "&#x9;" else feed in
-    let f = either (b == 10) (codes "&#xA;") (text_byte b) 6 (omega arith) (omega (arith, short)) in
-    let t = either (b == 9) (codes "&#x9;") feed 6 (omega arith) f in
-    either (b == 39) (codes "&apos;") tab 6 (omega arith) t
-
-pub text_short : (t : List ℕ) → length (spelled_text t) ≤ 5 * length t
-text_short [] = omega arith
-text_short (b ∷ bs) = omega (arith, length-append (text_byte b) (spelled_text bs), text_byte_short b, text_short bs)
-
-pub value_short : (v : List ℕ) → length (spelled_value v) ≤ 6 * length v
-value_short [] = omega arith
-value_short (b ∷ bs) = omega (arith, length-append (value_byte b) (spelled_value bs), value_byte_short b, value_short bs)
 
 number_short : (n : ℕ) → n < 2 ^ 64 → length (number_text n) ≤ 20
 unfolding number_text

@@ -35,11 +35,12 @@ pub(crate) fn put_assignment(out: &mut Bytes, name: &[&[u8]], value: &[u8])
     ensures items { out.new.items ≡ out.old.items ++ assignment (spelled (flat_map (λ part. part.now) name.now) value.now) }
     ensures spare { out.old.spare ≤ out.new.spare + length (assignment (spelled (flat_map (λ part. part.now) name.now) value.now)) }
 {
-    out.append_reserved(b" ");
+    out.push_reserved(b' ');
     put_parts(out, name);
-    out.append_reserved(b"='");
+    out.push_reserved(b'=');
+    out.push_reserved(b'\'');
     append_value_reserved(out, value);
-    out.append_reserved(b"'");
+    out.push_reserved(b'\'');
 }
 
 // Adds the declaration of a numbered prefix.
@@ -187,7 +188,7 @@ pub(crate) fn put_start(out: &mut Bytes, default: &str, ns: &str, name: &str, at
     ensures items { out.new.items ≡ out.old.items ++ opened default.now ns.now name.now attrs.now }
     ensures spare { out.old.spare ≤ out.new.spare + length (opened default.now ns.now name.now attrs.now) }
 {
-    out.append_reserved(b"<");
+    out.push_reserved(b'<');
     put_name(out, ns, name);
     put_default(out, default, ns);
     put_attributes(out, attrs);
@@ -199,7 +200,8 @@ pub(crate) fn put_end(out: &mut Bytes, ns: &str, name: &str)
     ensures items { out.new.items ≡ out.old.items ++ written_end_tag ns.now name.now }
     ensures spare { out.old.spare ≤ out.new.spare + length (written_end_tag ns.now name.now) }
 {
-    out.append_reserved(b"</");
+    out.push_reserved(b'<');
+    out.push_reserved(b'/');
     put_name(out, ns, name);
-    out.append_reserved(b">");
+    out.push_reserved(b'>');
 }

@@ -45,10 +45,11 @@ fn put_inside(out: &mut Bytes, default: &str, ns: &str, name: &str, children: &V
     ensures spare { out.old.spare ≤ out.new.spare + length (written_inside default.now ns.now name.now (nodes_view children.now.items)) }
 {
     if children.is_empty() {
-        out.append_reserved(b"/>");
+        out.push_reserved(b'/');
+        out.push_reserved(b'>');
         return;
     }
-    out.append_reserved(b">");
+    out.push_reserved(b'>');
     put_nodes(out, default_inside(default, ns), children);
     put_end(out, ns, name);
 }

@@ -1,7 +1,7 @@
 use Rattle.std.proofs.Common.{map, sym, ap, ◌∙◌}
 use Rattle.xmpp_names.proofs.Parted.{refused, past_refused}
 use Rattle.xmpp_names.specs.Scopes.{scope_of}
-use Rattle.xmpp_names.specs.Starts.{past_limits}
+use Rattle.xmpp_names.specs.Starts.{is_well_formed, past_limits}
 use Rattle.xmpp_tokens.specs.RawTags.{attribute_of}
 use Rattle.xmpp_names.proofs.starts.expand.Goals as goal
 
@@ -11,7 +11,7 @@ returns-then-not-branch-clause-refused c =
     let own = c.args.parted.bindings.items in
     let others = map attribute_of c.args.parted.others.items in
     refused c.args.limits c.args.count scope c.args.spelled.now own others c.args.empty
-    (sym c.in_ok-is_well_formed.ensures ∙ c.if-not-branch.true)
+    (ap (λ p. is_well_formed scope p own others) (sym (c.prefix_or_nothing.ensures ∙ c.split_prefix.ensures.prefix)) ∙ sym c.in_ok-is_well_formed.ensures ∙ c.if-not-branch.true)
 
 pub returns-in-Some-clause-refused : goal.returns-in-Some-clause-refused
 returns-in-Some-clause-refused c =
@@ -19,5 +19,5 @@ returns-in-Some-clause-refused c =
     let own = c.args.parted.bindings.items in
     let others = map attribute_of c.args.parted.others.items in
     past_refused c.args.limits c.args.count scope c.args.spelled.now own others c.args.empty c.in-Some.why
-    (sym c.in_ok-is_well_formed.ensures ∙ c.if-not-branch.false)
-    (ap (past_limits c.args.limits c.args.count) (sym c.as_slice.ensures.value) ∙ sym c.past_limits.ensures ∙ c.in-Some.is)
+    (ap (λ p. is_well_formed scope p own others) (sym (c.prefix_or_nothing.ensures ∙ c.split_prefix.ensures.prefix)) ∙ sym c.in_ok-is_well_formed.ensures ∙ c.if-not-branch.false)
+    (ap (past_limits c.args.limits c.args.count) (sym c.as_slice-2.ensures.value) ∙ sym c.past_limits.ensures ∙ c.in-Some.is)

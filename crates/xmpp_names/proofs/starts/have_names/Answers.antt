@@ -11,9 +11,9 @@ use Rattle.xmpp_names.specs.declared.expansion.ExpandedName.{ExpandedName}
 use Rattle.xmpp_tokens.specs.RawTags.{attribute_of}
 use Rattle.xmpp_names.proofs.starts.have_names.Goals as goal
 
-pub returns-then-not-has_prefixed : goal.returns-then-not-has_prefixed
-returns-then-not-has_prefixed c =
-    plain_tell (c.args.own.now ++ scope_of c.args.stack.now) c.args.others.now (sym c.has_prefixed.ensures ∙ c.if-not-has_prefixed.true) c.requires
+pub returns-then-not-prefixed : goal.returns-then-not-prefixed
+returns-then-not-prefixed c =
+    plain_tell (c.args.own.now ++ scope_of c.args.stack.now) c.args.others.now (sym c.requires.prefixed ∙ c.if-not-prefixed.true) c.requires.distinct
 
 pub returns-in-Some : goal.returns-in-Some
 returns-in-Some c =

@@ -2,7 +2,7 @@ use Rattle.std.proofs.Common.{◌≡◌, ◌++◌, map}
 use Rattle.xmpp_names.specs.Expansion.{in_front, expanded_attributes}
 use Rattle.xmpp_names.specs.Scopes.{scope_of}
 use Rattle.xmpp_tokens.specs.RawTags.{attribute_of}
-use Rattle.xmpp_names.proofs.expansion.expanded_attributes.Given as goal
+use Rattle.xmpp_names.proofs.expansion.bound_attributes.Given as goal
 
 -- those so far and what is left are all
 abbrev pub invariant-loop-attribute : goal.invariant-loop-attribute
