@@ -13,3 +13,5 @@ pub mod MergedFeeds
 -- the half of each reader is of the link that stands at its place; what was met first
 pub mod HeldHalves
 pub mod FirstTroubles
+-- the readers stay at their places
+pub mod MoreReaders

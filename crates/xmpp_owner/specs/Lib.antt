@@ -8,6 +8,7 @@ pub use Rattle.xmpp_queue.specs.Rule
 pub mod Events
 pub mod Places
 pub mod Arrivals
+pub mod StartedReaders
 -- view
 pub mod Owners
 pub mod Halves

@@ -9,6 +9,7 @@ ghost use Rattle.xmpp_owner.specs.Events.{AreMerged};
 ghost use Rattle.xmpp_owner.specs.Halves.{IsHeld};
 ghost use Rattle.xmpp_owner.specs.Owners.{IsComing, IsGoing, IsPending};
 ghost use Rattle.xmpp_owner.specs.Places.{HasNoReader, IsStarted, are_over, feeds, is_over};
+ghost use Rattle.xmpp_owner.specs.StartedReaders.{HasStarted, workers_of};
 ghost use Rattle.xmpp_owner.specs.Troubles.{HasMet};
 ghost use Rattle.xmpp_queue.specs.Merge.{items_of};
 ghost use Rattle.xmpp_queue.specs.Rule.{sender};
@@ -131,6 +132,7 @@ impl<
         ensures going { OnOk result (IsGoing T.events self.new) }
         ensures queue { self.new.to ≡ self.old.to }
         ensures held { IsHeld I.told T.numbers self.new }
+        ensures readers { HasStarted self.old.places.items self.new.places.items (S.started spawner.old) (S.started spawner.new) }
         ensures many { OnOk result (length (T.numbers self.new.taker) ≡ length self.new.places.items) }
         ensures right { OnOk result (T.keeps self.new.taker (C.moment clock.old) (E.bytes entropy.old)) }
         ensures met { (s e : ℕ) → HasMet self.old.met s e (S.faults spawner.old) (E.faults entropy.old) → OnOk result (HasMet self.new.met s e (S.faults spawner.new) (E.faults entropy.new)) }
@@ -143,6 +145,7 @@ impl<
     }
 
     // Does what an item asks for.
+    #[tactic(auto, using(crate::proofs::MoreReaders::as_they_were))]
     fn hear<S: Spawner, C: Clock, E: Entropy>(
         &mut self,
         spawner: &mut S,
@@ -157,6 +160,7 @@ impl<
         ensures going { OnOk result (IsGoing T.events self.new) }
         ensures queue { self.new.to ≡ self.old.to }
         ensures held { IsHeld I.told T.numbers self.new }
+        ensures readers { HasStarted self.old.places.items self.new.places.items (S.started spawner.old) (S.started spawner.new) }
         ensures many { OnOk result (length (T.numbers self.new.taker) ≡ length self.new.places.items) }
         ensures right { OnOk result (T.keeps self.new.taker (C.moment clock.old) (E.bytes entropy.old)) }
         ensures met { (s e : ℕ) → HasMet self.old.met s e (S.faults spawner.old) (E.faults entropy.old) → OnOk result (HasMet self.new.met s e (S.faults spawner.new) (E.faults entropy.new)) }
@@ -190,6 +194,7 @@ impl<
         ensures going { OnOk result (IsGoing T.events self.new) }
         ensures queue { self.new.to ≡ self.old.to }
         ensures held { IsHeld I.told T.numbers self.new }
+        ensures workers { workers_of self.new.places.items ≡ workers_of self.old.places.items }
         ensures many { length (T.numbers self.new.taker) ≡ length self.new.places.items }
         ensures right { (drawn : Option (List ℕ)) → T.keeps self.old.taker (C.moment clock.old) drawn → OnOk result (T.keeps self.new.taker (C.moment clock.old) drawn) }
         ensures met { self.new.met ≡ self.old.met }
@@ -210,6 +215,7 @@ impl<
         ensures going { OnOk result (IsGoing T.events self.new) }
         ensures queue { self.new.to ≡ self.old.to }
         ensures held { IsHeld I.told T.numbers self.new }
+        ensures workers { workers_of self.new.places.items ≡ workers_of self.old.places.items }
         ensures many { length (T.numbers self.new.taker) ≡ length self.new.places.items }
         ensures right { (drawn : Option (List ℕ)) → T.keeps self.old.taker (C.moment clock.old) drawn → OnOk result (T.keeps self.new.taker (C.moment clock.old) drawn) }
         ensures met { self.new.met ≡ self.old.met }
@@ -229,6 +235,7 @@ impl<
     fn mark(&mut self, from: u64)
         requires held { IsHeld I.told T.numbers self.old }
         ensures held { IsHeld I.told T.numbers self.new }
+        ensures workers { workers_of self.new.places.items ≡ workers_of self.old.places.items }
         ensures same { (self.new.taker ≡ self.old.taker) × (self.new.to ≡ self.old.to) }
     {
         match started(self.places.as_slice(), from) {
@@ -238,6 +245,7 @@ impl<
     }
 
     // A connection came.
+    #[tactic(auto, using(crate::proofs::MoreReaders::as_they_were))]
     fn admit<S: Spawner, C: Clock, E: Entropy>(
         &mut self,
         spawner: &mut S,
@@ -252,6 +260,7 @@ impl<
         ensures going { OnOk result (IsGoing T.events self.new) }
         ensures queue { self.new.to ≡ self.old.to }
         ensures held { IsHeld I.told T.numbers self.new }
+        ensures readers { HasStarted self.old.places.items self.new.places.items (S.started spawner.old) (S.started spawner.new) }
         ensures many { OnOk result (length (T.numbers self.new.taker) ≡ length self.new.places.items) }
         ensures right { OnOk result (T.keeps self.new.taker (C.moment clock.old) (E.bytes entropy.old)) }
         ensures met { (s e : ℕ) → HasMet self.old.met s e (S.faults spawner.old) (E.faults entropy.old) → OnOk result (HasMet self.new.met s e (S.faults spawner.new) (E.faults entropy.new)) }
@@ -280,6 +289,7 @@ impl<
     }
 
     // Makes a place for a connection, and starts its reader.
+    #[tactic(auto, using(crate::proofs::MoreReaders::as_they_were))]
     fn come_in<S: Spawner, C: Clock, E: Entropy>(
         &mut self,
         spawner: &mut S,
@@ -297,6 +307,7 @@ impl<
         ensures going { OnOk result (IsGoing T.events self.new) }
         ensures queue { self.new.to ≡ self.old.to }
         ensures held { IsHeld I.told T.numbers self.new }
+        ensures readers { HasStarted self.old.places.items self.new.places.items (S.started spawner.old) (S.started spawner.new) }
         ensures many { OnOk result (length (T.numbers self.new.taker) ≡ length self.new.places.items) }
         ensures right { OnOk result (T.keeps self.new.taker (C.moment clock.old) (E.bytes entropy.old)) }
         ensures met { (s e : ℕ) → HasMet self.old.met s e (S.faults spawner.old) (E.faults entropy.old) → OnOk result (HasMet self.new.met s e (S.faults spawner.new) (E.faults entropy.new)) }
@@ -334,7 +345,9 @@ impl<
 
     /// Goes on until no more connections are taken in, and each reader that was started has ended. The events are a merge of
     /// what was taken of each reader. Where nothing went wrong outside, each connection that was taken of the acceptor has its
-    /// place and its reader. What went wrong is kept in `met`, and the run goes on.
+    /// place and its reader. What went wrong is kept in `met`, and the run goes on. Whatever the answer, no reader that was started
+    /// is lost: each stands at its place, behind those that were there.
+    #[tactic(auto, using(crate::proofs::MoreReaders::as_they_were, crate::proofs::MoreReaders::started_on))]
     pub fn run<S: Spawner, C: Clock, E: Entropy>(
         &mut self,
         spawner: &mut S,
@@ -352,6 +365,7 @@ impl<
         ensures merged { OnOk result (AreMerged (T.events self.new.taker) (feeds self.new.places.items (view self.new.pass).got)) }
         ensures queue { self.new.to ≡ self.old.to }
         ensures held { IsHeld I.told T.numbers self.new }
+        ensures readers { HasStarted self.old.places.items self.new.places.items (S.started spawner.old) (S.started spawner.new) }
         ensures many { OnOk result (length (T.numbers self.new.taker) ≡ length self.new.places.items) }
         ensures right { OnOk result (T.keeps self.new.taker (C.moment clock.old) (E.bytes entropy.old)) }
         ensures met { OnOk result (HasMet self.new.met (S.faults spawner.old) (E.faults entropy.old) (S.faults spawner.new) (E.faults entropy.new)) }
@@ -373,6 +387,7 @@ impl<
     fn pass_by(&mut self, item: Item<Pair<I, O>>)
         requires held { IsHeld I.told T.numbers self.old }
         ensures held { IsHeld I.told T.numbers self.new }
+        ensures workers { workers_of self.new.places.items ≡ workers_of self.old.places.items }
     {
         let Item { from, what } = item;
         match what {
@@ -387,10 +402,12 @@ impl<
     }
 
     /// After want of memory: closes all halves, and takes items until no more connections are taken in, and each reader that
-    /// was started has sent its last. So no worker waits for room in the queue, and all can be joined.
+    /// was started has sent its last. So no worker waits for room in the queue, and all can be joined: each reader stays at its
+    /// place.
     pub fn drain(&mut self)
         requires held { IsHeld I.told T.numbers self.old }
         ensures held { IsHeld I.told T.numbers self.new }
+        ensures workers { workers_of self.new.places.items ≡ workers_of self.old.places.items }
     {
         self.taker.close_all();
         let rt = self.rt;

@@ -3,6 +3,7 @@ use Rattle.crossbeam_channel.specs.Ends.{sends_on}
 use Rattle.xmpp_owner.proofs.CountedArrivals.{never_none}
 use Rattle.xmpp_owner.proofs.HeldHalves.{held_came, held_passed, held_with}
 use Rattle.xmpp_owner.proofs.KeptPlaces.{Adds}
+use Rattle.xmpp_owner.proofs.MoreReaders.{none_more, one_more}
 use Rattle.xmpp_owner.proofs.OwnerSteps.{came, chosen, connected}
 use Rattle.xmpp_owner.proofs.stepping.Owner+R+I+Pair+I+O+T.come_in.Goals as goal
 use Rattle.xmpp_owner.specs.Events.{Connect, Gone}
@@ -64,3 +65,12 @@ returns-in_ok-gone-in-Err-clause-right g c =
     let drawn = g.E.Entropy.bytes c.args.entropy.now in
     subst (λ m. g.T.Taker.keeps c.gone.new.self m drawn) c.connect.ensures.moment
     (c.in_ok-gone-in-Err.ensures.right drawn (subst (λ m. g.T.Taker.keeps c.connect.new.self m drawn) (sym c.connect.ensures.moment) c.in_ok-connect.ensures.right))
+
+pub returns-in-Ok-clause-readers : goal.returns-in-Ok-clause-readers
+returns-in-Ok-clause-readers g c =
+    let places = c.args.self.now.places.items in let job = c.in-Ok.worker in
+    one_more places c.push_reserved.new.self.items (record { worker = Some job; ended = false }) job (g.S.Spawner.started c.args.spawner.now) (g.S.Spawner.started c.start.new.self) c.push_reserved.ensures.items refl c.in-Ok.ensures.started
+
+pub returns-in_ok-gone-in-Err-clause-readers : goal.returns-in_ok-gone-in-Err-clause-readers
+returns-in_ok-gone-in-Err-clause-readers g c =
+    none_more c.args.self.now.places.items c.push_reserved-in-Err.new.self.items (record { worker = None; ended = false }) (g.S.Spawner.started c.args.spawner.now) (g.S.Spawner.started c.start.new.self) c.push_reserved-in-Err.ensures.items refl c.in-Err.ensures.not_started

@@ -1,5 +1,10 @@
+use Rattle.std.proofs.Common.{◌≡◌}
 use Rattle.xmpp_owner.proofs.stepping.Owner+R+I+Pair+I+O+T.drain.Given as goal
 use Rattle.xmpp_owner.specs.Halves.{IsHeld}
+use Rattle.xmpp_owner.specs.StartedReaders.{workers_of}
 
 abbrev pub invariant-loop : goal.invariant-loop
-invariant-loop g l = IsHeld g.I.Incoming.told g.T.Taker.numbers l.self
+invariant-loop g l = record {
+  held : IsHeld g.I.Incoming.told g.T.Taker.numbers l.self;
+  workers : workers_of l.self.places.items ≡ workers_of l.initial.self.places.items;
+}

@@ -2,6 +2,7 @@ use Rattle.std.proofs.Common.{◌≡◌, length}
 use Rattle.xmpp_owner.proofs.stepping.Owner+R+I+Pair+I+O+T.run.Given as goal
 use Rattle.xmpp_owner.specs.Halves.{IsHeld}
 use Rattle.xmpp_owner.specs.Owners.{IsGoing}
+use Rattle.xmpp_owner.specs.StartedReaders.{HasStarted}
 use Rattle.xmpp_owner.specs.Troubles.{HasMet}
 
 abbrev pub invariant-loop : goal.invariant-loop
@@ -9,6 +10,7 @@ invariant-loop g l = record {
   going : IsGoing g.T.Taker.events l.self;
   queue : l.self.to ≡ l.initial.self.to;
   held : IsHeld g.I.Incoming.told g.T.Taker.numbers l.self;
+  readers : HasStarted l.initial.self.places.items l.self.places.items (g.S.Spawner.started l.initial.spawner) (g.S.Spawner.started l.spawner);
   many : length (g.T.Taker.numbers l.self.taker) ≡ length l.self.places.items;
   right : g.T.Taker.keeps l.self.taker (g.C.Clock.moment l.initial.clock) (g.E.Entropy.bytes l.initial.entropy);
   met : HasMet l.self.met (g.S.Spawner.faults l.initial.spawner) (g.E.Entropy.faults l.initial.entropy) (g.S.Spawner.faults l.spawner) (g.E.Entropy.faults l.entropy);
