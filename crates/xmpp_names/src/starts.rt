@@ -28,6 +28,12 @@ use xmpp_basis::are_distinct;
 use xmpp_edge::{NoMemory, Text};
 use xmpp_tokens::{RawAttribute, RawTag, StartTag, TagFault, TagWhy, read_tag, spelled_value_len};
 
+/// So many bytes of a namespace name are not looked at, where a limit leaves room for the longest spelling of each.
+const UNMEASURED: usize = 42;
+
+/// The most bytes in which these are spelled: `&apos;` has six.
+const LONGEST_UNMEASURED: u32 = 252;
+
 /// A start tag, or the tag of an empty element, with its names expanded (Namespaces in XML 1.0, section 2.1).
 #[derive(Debug, Drop)]
 pub struct Tag {
@@ -50,7 +56,7 @@ fn is_long(most: u32, binding: &Binding) -> bool
     ensures { result ≡ Starts.is_long most binding.now }
 {
     let ns = binding.ns.as_str().as_bytes();
-    if ns.len() <= 42 && most >= 252 {
+    if ns.len() <= UNMEASURED && most >= LONGEST_UNMEASURED {
         return false;
     }
     spelled_value_len(ns) > most as usize
