@@ -136,6 +136,9 @@ impl Held {
     pub(crate) fn let_go(&mut self, results: &[LogEntry])
         ensures { self.new ≡ unheld (ids_of results.now) self.old }
     {
+        if self.as_slice().is_empty() {
+            return;
+        }
         remove_ids(&mut self.ids, results);
         self.start = settle(&mut self.items, self.start, &self.ids);
     }
