@@ -28,16 +28,21 @@ impl Incoming for EndedIncoming {
 #[derive(Drop)]
 pub(crate) struct OpenOutgoing {
     number: u64,
+    closed: bool,
 }
 
 impl Outgoing for OpenOutgoing {
     ghost told = { λ s. record { number = s.number; written = None; faults = 0 } };
 
+    ghost closed = { λ s. s.closed };
+
     fn write(&mut self, bytes: &[u8]) -> Result<usize, Failed> {
         Ok(bytes.len())
     }
 
-    fn close(&mut self) {}
+    fn close(&mut self) {
+        self.closed = true;
+    }
 }
 
 /// Such a link that is not handed out yet.
@@ -54,6 +59,10 @@ impl Uncut for EndedLink {
         _alloc: Global,
         number: u64,
     ) -> Result<Pair<EndedIncoming, OpenOutgoing>, NoMemory> {
-        Ok(Pair::new(EndedIncoming { number, ends: 0 }, OpenOutgoing { number }))
+        let outgoing = OpenOutgoing {
+            number,
+            closed: false,
+        };
+        Ok(Pair::new(EndedIncoming { number, ends: 0 }, outgoing))
     }
 }

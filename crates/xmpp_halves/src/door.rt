@@ -1,5 +1,5 @@
 //! Doors that hand out links in halves.
-ghost use Rattle.std.specs.Prelude.{◌≡◌, [], ◌∷◌, ◌++◌, IfOk, is_ok};
+ghost use Rattle.std.specs.Prelude.{◌≡◌, [], ◌∷◌, ◌++◌, false, IfOk, is_ok};
 ghost use Rattle.xmpp_edge.specs.Counts.{HasCause};
 ghost use Rattle.xmpp_outside.specs.Links.{counted_if};
 ghost use Rattle.xmpp_halves.specs.Halves.{link_of};
@@ -17,11 +17,12 @@ pub trait Halves: Door {
     type Outgoing: Outgoing + Drop;
 
     /// The next connection that comes in, in halves. They have the number of the links that were handed out so far, with
-    /// this one. `Failed` comes only where `faults` rose in this call, and then none is handed out.
+    /// this one, and are not closed. `Failed` comes only where `faults` rose in this call, and then none is handed out.
     fn accept_halves(&mut self) -> Result<Pair<Self::Incoming, Self::Outgoing>, Failed>
         ensures cause { HasCause (Self.faults self.old) (Self.faults self.new) result }
         ensures handed { Self.handed self.new ≡ counted_if (is_ok result) (Self.handed self.old) }
         ensures number { IfOk result (λ pair. (Self.Incoming.told pair.incoming).number ≡ Self.handed self.new) }
+        ensures open { IfOk result (λ pair. Self.Outgoing.closed pair.outgoing ≡ false) }
         ensures given { Self.given self.new ≡ Self.given self.old };
 
     /// Takes the halves of a link back, behind the links that were given back before. It takes no memory.

@@ -1,5 +1,5 @@
 //! Where the bytes of a link go.
-ghost use Rattle.std.specs.Prelude.{◌≡◌, ◌<◌, length, None, IfOk, OnOk};
+ghost use Rattle.std.specs.Prelude.{◌≡◌, ◌<◌, Bool, true, length, None, IfOk, OnOk};
 ghost use Rattle.std.specs.Io.{WritesAtMost};
 ghost use Rattle.std.specs.Io.KnownBytes.{Appends, WriteAppends};
 ghost use Rattle.xmpp_edge.specs.Counts.{HasCause};
@@ -10,9 +10,11 @@ use xmpp_edge::{Failed, WriteFault};
 
 /// The half of a link to which bytes are written. Contracts alone see `told`: the number of the link, the bytes that were
 /// written, where it tells them, and the count of writes that failed, which stays at 2^64 - 1 once there. A half that doesn't
-/// tell its bytes never tells any.
+/// tell its bytes never tells any. They also see `closed`, whether the half was closed.
 pub trait Outgoing {
     ghost told: { Self → OutgoingView };
+
+    ghost closed: { Self → Bool };
 
     /// Takes bytes from the start of `bytes`, and answers how many: at least 1, if there are any. `Failed` comes only where
     /// the count of failed writes rose in this call, and then no byte was taken; `Ok` leaves that count as it was.
@@ -22,11 +24,13 @@ pub trait Outgoing {
         ensures silent { (told self.old).written ≡ None → (told self.new).written ≡ None }
         ensures some { IfOk result (λ n. 0 < length bytes.now → 0 < n) }
         ensures cause { HasCause (told self.old).faults (told self.new).faults result }
-        ensures number { (told self.new).number ≡ (told self.old).number };
+        ensures number { (told self.new).number ≡ (told self.old).number }
+        ensures closed { closed self.new ≡ closed self.old };
 
     /// Ends the link in both directions: what reads from its other half finds the end. No count rises.
     fn close(&mut self)
-        ensures { told self.new ≡ told self.old };
+        ensures told { told self.new ≡ told self.old }
+        ensures closed { closed self.new ≡ true };
 }
 
 /// Writes all of `bytes` to a half. It takes no memory.
@@ -38,6 +42,7 @@ pub fn write_whole<O: Outgoing>(half: &mut O, bytes: &[u8]) -> Result<(), WriteF
     ensures silent { (O.told half.old).written ≡ None → (O.told half.new).written ≡ None }
     ensures cause { HasCause (O.told half.old).faults (O.told half.new).faults result }
     ensures number { (O.told half.new).number ≡ (O.told half.old).number }
+    ensures closed { O.closed half.new ≡ O.closed half.old }
 {
     let mut rest = bytes;
     while !rest.is_empty() {

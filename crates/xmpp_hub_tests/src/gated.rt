@@ -67,17 +67,22 @@ impl Incoming for GatedIncoming {
 pub(crate) struct GatedOutgoing {
     written: Written,
     number: u64,
+    closed: bool,
 }
 
 impl Outgoing for GatedOutgoing {
     ghost told = { λ s. record { number = s.number; written = None; faults = 0 } };
+
+    ghost closed = { λ s. s.closed };
 
     fn write(&mut self, bytes: &[u8]) -> Result<usize, Failed> {
         let _ = self.written.fetch_add(bytes.len() as u64, Ordering::SeqCst);
         Ok(bytes.len())
     }
 
-    fn close(&mut self) {}
+    fn close(&mut self) {
+        self.closed = true;
+    }
 }
 
 /// A gated link that is not handed out yet.
@@ -104,7 +109,11 @@ impl Uncut for GatedLink {
             number,
             ends: 0,
         };
-        let outgoing = GatedOutgoing { written, number };
+        let outgoing = GatedOutgoing {
+            written,
+            number,
+            closed: false,
+        };
         Ok(Pair::new(incoming, outgoing))
     }
 }

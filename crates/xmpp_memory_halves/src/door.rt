@@ -1,5 +1,5 @@
 //! Doors in memory that hand out links in halves.
-ghost use Rattle.std.specs.Prelude.{◌≡◌, [], IfNone, IfOk, IfSome, is_ok};
+ghost use Rattle.std.specs.Prelude.{◌≡◌, [], false, IfNone, IfOk, IfSome, is_ok};
 ghost use Rattle.xmpp_edge.specs.Counts.{HasCause};
 ghost use Rattle.xmpp_memory_halves.specs.Backs.{links_back};
 ghost use Rattle.xmpp_outside.specs.Links.{counted_if};
@@ -79,6 +79,7 @@ impl<U: Uncut + Drop> MemoryHalvesDoor<U> {
         number: u64,
     ) -> Result<Option<Pair<RoomedHalf<U::Incoming, U::Outgoing>, U::Outgoing>>, NoMemory>
         ensures number { IfOk result (λ next. IfSome next (λ pair. (U.Incoming.told pair.incoming.half).number ≡ number)) }
+        ensures open { IfOk result (λ next. IfSome next (λ pair. U.Outgoing.closed pair.outgoing ≡ false)) }
         ensures last { IfOk result (λ next. IfNone next (self.old.uncut.items ≡ [])) }
         ensures given { self.new.given ≡ self.old.given }
         ensures faults { self.new.faults ≡ self.old.faults }
@@ -100,6 +101,7 @@ impl<U: Uncut + Drop> MemoryHalvesDoor<U> {
         &mut self,
     ) -> Result<Pair<RoomedHalf<U::Incoming, U::Outgoing>, U::Outgoing>, Failed>
         ensures number { IfOk result (λ pair. (U.Incoming.told pair.incoming.half).number ≡ self.new.handed) }
+        ensures open { IfOk result (λ pair. U.Outgoing.closed pair.outgoing ≡ false) }
         ensures cause { HasCause self.old.faults self.new.faults result }
         ensures handed { self.new.handed ≡ counted_if (is_ok result) self.old.handed }
         ensures given { self.new.given ≡ self.old.given }

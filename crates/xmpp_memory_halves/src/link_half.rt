@@ -31,6 +31,7 @@ impl<L: Link> Incoming for ReadingHalf<L> {
 pub struct WritingHalf<L> {
     pub link: L,
     pub number: u64,
+    pub closed: bool,
 }
 
 impl<L: Link> Outgoing for WritingHalf<L> {
@@ -40,11 +41,14 @@ impl<L: Link> Outgoing for WritingHalf<L> {
       faults = (L.told s.link).write_faults;
     } };
 
+    ghost closed = { λ s. s.closed };
+
     fn write(&mut self, bytes: &[u8]) -> Result<usize, Failed> {
         self.link.write(bytes)
     }
 
     fn close(&mut self) {
         self.link.close();
+        self.closed = true;
     }
 }

@@ -45,6 +45,7 @@ impl Uncut for UncutMemoryLink {
         let outgoing = WritingHalf {
             link: written,
             number,
+            closed: false,
         };
         Ok(Pair::new(incoming, outgoing))
     }

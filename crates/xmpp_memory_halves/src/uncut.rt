@@ -1,5 +1,5 @@
 //! What the halves of a link are made of.
-ghost use Rattle.std.specs.Prelude.{◌≡◌, IfOk};
+ghost use Rattle.std.specs.Prelude.{◌≡◌, false, IfOk};
 
 use std::alloc::Global;
 use xmpp_edge::NoMemory;
@@ -11,11 +11,12 @@ pub trait Uncut {
 
     type Outgoing: Outgoing + Drop;
 
-    /// The halves, with this number.
+    /// The halves, with this number. They are not closed.
     fn cut(
         self,
         alloc: Global,
         number: u64,
     ) -> Result<Pair<Self::Incoming, Self::Outgoing>, NoMemory>
-        ensures { IfOk result (λ pair. (Self.Incoming.told pair.incoming).number ≡ number) };
+        ensures number { IfOk result (λ pair. (Self.Incoming.told pair.incoming).number ≡ number) }
+        ensures open { IfOk result (λ pair. Self.Outgoing.closed pair.outgoing ≡ false) };
 }

@@ -1,5 +1,5 @@
 //! Doors over TCP that hand out links in halves.
-ghost use Rattle.std.specs.Prelude.{◌≡◌, [], IfOk, is_ok};
+ghost use Rattle.std.specs.Prelude.{◌≡◌, [], false, IfOk, is_none, is_ok};
 ghost use Rattle.xmpp_edge.specs.Counts.{HasCause};
 ghost use Rattle.xmpp_outside.specs.Links.{counted_if};
 ghost use Rattle.xmpp_tcp_halves.specs.SilentLinks.{silent_links};
@@ -72,7 +72,8 @@ where
         &self,
         number: u64,
     ) -> Result<Pair<TcpIncoming<R::Stream>, TcpOutgoing<R::Stream>>, Failed>
-        ensures { IfOk result (λ pair. pair.incoming.number ≡ number) }
+        ensures number { IfOk result (λ pair. pair.incoming.number ≡ number) }
+        ensures open { IfOk result (λ pair. is_none pair.outgoing.stream ≡ false) }
     {
         let stream = self.next()?;
         let Ok(same) = stream.try_clone() else {
@@ -102,6 +103,7 @@ where
     // Hands out the next connection.
     fn hand_out(&mut self) -> Result<Pair<TcpIncoming<R::Stream>, TcpOutgoing<R::Stream>>, Failed>
         ensures number { IfOk result (λ pair. pair.incoming.number ≡ self.new.handed) }
+        ensures open { IfOk result (λ pair. is_none pair.outgoing.stream ≡ false) }
         ensures cause { HasCause self.old.faults self.new.faults result }
         ensures handed { self.new.handed ≡ counted_if (is_ok result) self.old.handed }
         ensures given { self.new.given ≡ self.old.given }

@@ -1,4 +1,6 @@
 //! Streams of the system that are let go.
+ghost use Rattle.std.specs.Prelude.{◌≡◌, None};
+
 use std::net::TcpStream;
 
 /// A stream that can be let go: it holds no descriptor of the system then.
@@ -14,7 +16,9 @@ impl LetGo for TcpStream {
 }
 
 /// Lets a stream go, where there is one.
-pub(crate) fn let_go<S: LetGo>(stream: &mut Option<S>) {
+pub(crate) fn let_go<S: LetGo>(stream: &mut Option<S>)
+    ensures { stream.new ≡ None }
+{
     if let Some(stream) = stream.take() {
         stream.let_go();
     }

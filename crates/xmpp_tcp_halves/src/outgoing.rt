@@ -1,5 +1,5 @@
 //! The half of a TCP connection that takes bytes.
-ghost use Rattle.std.specs.Prelude.{◌≡◌, ◌<◌, None, length, IfOk};
+ghost use Rattle.std.specs.Prelude.{◌≡◌, ◌<◌, None, length, IfOk, is_none};
 ghost use Rattle.std.specs.Io.{WritesAtMost};
 
 use crate::letting_go::{LetGo, let_go};
@@ -35,6 +35,8 @@ fn write_to<S: Write>(stream: &mut S, bytes: &[u8]) -> Result<usize, Failed>
 
 impl<S: Write + OpenStream + LetGo> Outgoing for TcpOutgoing<S> {
     ghost told = { λ s. record { number = s.number; written = None; faults = s.faults } };
+
+    ghost closed = { λ s. is_none s.stream };
 
     fn write(&mut self, bytes: &[u8]) -> Result<usize, Failed> {
         let written = match &mut self.stream {

@@ -12,6 +12,7 @@ loop-rest-preserved g c =
       c.in-Ok.ensures.cause.quiet ∙ before.3,
       (λ none. c.in-Ok.ensures.silent (before.4 none)),
       c.in-Ok.ensures.number ∙ before.5,
+      c.in-Ok.ensures.closed ∙ before.6,
     )
 
 pub returns-in-Err-clause-prefix : goal.returns-in-Err-clause-prefix

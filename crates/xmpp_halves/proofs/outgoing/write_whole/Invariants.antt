@@ -10,6 +10,7 @@ invariant-loop-rest g l =
     × ((g.O.Outgoing.told l.half).faults ≡ (g.O.Outgoing.told l.initial.half).faults)
     × ((g.O.Outgoing.told l.initial.half).written ≡ None → (g.O.Outgoing.told l.half).written ≡ None)
     × ((g.O.Outgoing.told l.half).number ≡ (g.O.Outgoing.told l.initial.half).number)
+    × (g.O.Outgoing.closed l.half ≡ g.O.Outgoing.closed l.initial.half)
 
 -- each write that does not end the loop takes a byte
 abbrev pub decreases-loop-rest : goal.decreases-loop-rest
