@@ -67,7 +67,7 @@ pub(crate) fn has_id(places: &[usize], entries: &[LogEntry], id: &str) -> bool
 }
 
 /// Puts in the place of the entry that is to follow these, with an id that none of them has. It takes no memory.
-pub(crate) fn put(places: &mut Vec<usize>, entries: &[LogEntry], id: &str)
+fn put(places: &mut Vec<usize>, entries: &[LogEntry], id: &str)
     requires order { IsOrderOf places.old.items (ids_of entries.now) }
     requires fresh { list_any (λ other. bytes_eq id.now other) (ids_of entries.now) ≡ false }
     requires room { 1 ≤ vec_capacity places.old - vec_len places.old }
