@@ -1,5 +1,5 @@
 -- What the parts of a tag say of the whole.
-use Rattle.std.proofs.Common.{◌≡◌, ℕ, Bor, unwrap_or, Bool, true, false, cond, ◌&&◌, List, [], ◌∷◌, ◌++◌, Option, Some, None, Err, map, refl, sym, ap, ◌∙◌}
+use Rattle.std.proofs.Common.{◌≡◌, ℕ, Bool, true, false, cond, ◌&&◌, List, [], ◌∷◌, ◌++◌, Option, Some, None, Err, map, refl, sym, ap, ◌∙◌}
 use Rattle.std.proofs.lemmas.Bool.{and_parts, false≢true, cond-true}
 use Rattle.std.specs.List.{list_all}
 use Rattle.std.specs.Option.{option_map, option_and_then, is_some}
@@ -15,10 +15,6 @@ use Rattle.xmpp_names.specs.declared.fault.StartWhy.TheVariants.{NotWellFormed}
 use Rattle.xmpp_names.specs.declared.limits.TagLimits.{TagLimits}
 
 -- ---- names and attributes
-
-pub prefix_or_nothing : (o : Option (Bor (List ℕ))) (d : Bor (List ℕ)) → d.now ≡ [] → (unwrap_or o d).now ≡ unwrap_or (option_map (λ p. p.now) o) []
-prefix_or_nothing None d e = e
-prefix_or_nothing (Some p) d e = refl
 
 one_more : (n : Name) (v : List ℕ) (es : Option (List ExpandedAttribute)) → in_front (n ∷ []) (option_map (map name_of) es) ≡ option_map (map name_of) (in_front (with_value v n ∷ []) es)
 one_more n v None = refl

@@ -201,7 +201,7 @@ fn plain_attributes(
         let RawAttribute { name, value } = attribute;
         let name = Text::from_str(alloc, name)?;
         let ns = Text::new(alloc);
-        attributes.push(ExpandedAttribute { ns, name, value })?;
+        attributes.push_reserved(ExpandedAttribute { ns, name, value });
     }
     Ok(attributes)
 }

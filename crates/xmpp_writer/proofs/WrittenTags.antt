@@ -1,12 +1,13 @@
 -- Numbers and tags as they are written.
-use Rattle.std.proofs.Common.{◌≡◌, ℕ, ◌+◌, ◌<◌, ◌≤◌, ◌^◌, Bool, true, false, eqb, List, [], ◌++◌, sym, ap, ◌∙◌, arith, ⊎_elim, length, get_or, drop, cond, min, append_assoc, length-append, length-drop}
+use Rattle.std.proofs.Common.{◌≡◌, ℕ, ◌+◌, ◌<◌, ◌≤◌, ◌^◌, Bool, true, false, ◌||◌, eqb, List, [], ◌++◌, bytes_eq, codes, if◌then◌else◌, refl, sym, ap, ◌∙◌, arith, ⊎_elim, length, get_or, drop, cond, min, append_assoc, length-append, length-drop}
 use Rattle.std.specs.Fmt.{decimal}
-use Rattle.std.proofs.lemmas.Bool.{cases_Bool, eqb-true}
+use Rattle.std.proofs.lemmas.Bool.{cases_Bool, eqb-true, false≢true}
 use Rattle.std.proofs.lemmas.Fmt.{decimal_digit, decimal-digits_of}
 use Rattle.std.proofs.lemmas.Bool.Decides.{nat_tests}
 use Rattle.std.proofs.lemmas.Grind.{flat_map-append}
+use Rattle.xmpp_names.specs.Scopes.{xml_namespace}
 use Rattle.xmpp_trees.specs.Attributes.{Attribute}
-use Rattle.xmpp_writer.specs.Canon.{number_text, next_number, is_foreign, assignment, assignments, spelled_attribute, spelled_attributes}
+use Rattle.xmpp_writer.specs.Canon.{has_prefix, spelled_name, streams_namespace, number_text, next_number, is_foreign, assignment, assignments, spelled_attribute, spelled_attributes}
 use Rattle.xmpp_trees.proofs.AttributeOrder.{nothing_left}
 use Rattle.xmpp_trees.proofs.RuleSteps.{drop_item}
 
@@ -16,6 +17,17 @@ decimal_is n small =
     ⊎_elim (λ (zero_is : eqb n 0 ≡ true). rw zero_is (ap decimal (eqb-true n 0 zero_is) ∙ decimal_digit 0 (omega arith)))
     (λ (other : eqb n 0 ≡ false). rw other (decimal-digits_of n (grind (arith, nat_tests, other)) small))
     (cases_Bool (eqb n 0))
+
+-- ---- a name
+
+pub name_alone : (ns name : List ℕ) → has_prefix ns ≡ false → spelled_name ns name ≡ name
+unfolding spelled_name
+name_alone ns name h = alone (bytes_eq ns streams_namespace) (bytes_eq ns xml_namespace) h
+  where
+    alone : (s x : Bool) → (s || x) ≡ false → (if s then codes "stream:" ++ name else (if x then codes "xml:" ++ name else name)) ≡ name
+    alone true x e = absurd (false≢true (sym e))
+    alone false true e = absurd (false≢true (sym e))
+    alone false false e = refl
 
 -- ---- a part is put, and then the rest
 

@@ -131,10 +131,13 @@ fn put_attributes(out: &mut Bytes, attrs: &[Attr])
     }
 }
 
-// Whether an element of a namespace has a prefix.
+// Whether an element of a namespace has a prefix. Most names of namespaces are shorter than those two.
 fn has_prefix(ns: &str) -> bool
     ensures { result ≡ Canon.has_prefix ns.now }
 {
+    if ns.len() < 32 {
+        return false;
+    }
     ns == STREAMS_NAMESPACE || ns == XML_NAMESPACE
 }
 
@@ -165,9 +168,9 @@ fn put_default(out: &mut Bytes, default: &str, ns: &str)
     }
 }
 
-// Adds the name of an element, with its prefix where it has one.
+// Adds the name of an element, with its prefix where it has one, told by each namespace that gives one.
 #[tactic(auto, unfolding(crate::specs::Canon::spelled_name))]
-fn put_name(out: &mut Bytes, ns: &str, name: &str)
+fn put_told_name(out: &mut Bytes, ns: &str, name: &str)
     requires { length (spelled_name ns.now name.now) ≤ out.old.spare }
     ensures items { out.new.items ≡ out.old.items ++ spelled_name ns.now name.now }
     ensures spare { out.old.spare ≤ out.new.spare + length (spelled_name ns.now name.now) }
@@ -179,6 +182,20 @@ fn put_name(out: &mut Bytes, ns: &str, name: &str)
         put_parts(out, &[b"xml:".as_slice(), name]);
     } else {
         out.append_reserved(name);
+    }
+}
+
+// Adds the name of an element, with its prefix where it has one. Most have none.
+#[tactic(auto, using(crate::proofs::WrittenTags::name_alone))]
+fn put_name(out: &mut Bytes, ns: &str, name: &str)
+    requires { length (spelled_name ns.now name.now) ≤ out.old.spare }
+    ensures items { out.new.items ≡ out.old.items ++ spelled_name ns.now name.now }
+    ensures spare { out.old.spare ≤ out.new.spare + length (spelled_name ns.now name.now) }
+{
+    if has_prefix(ns) {
+        put_told_name(out, ns, name);
+    } else {
+        out.append_reserved(name.as_bytes());
     }
 }
 

@@ -1,8 +1,11 @@
-use Rattle.std.proofs.Common.{◌≡◌, map}
+use Rattle.std.proofs.Common.{◌≡◌, ◌-◌, ◌≤◌, length, map, vec_capacity, vec_len}
 use Rattle.xmpp_names.specs.Expansion.{plain_attribute}
 use Rattle.xmpp_tokens.specs.RawTags.{attribute_of}
 use Rattle.xmpp_names.proofs.expansion.plain_attributes.Given as goal
 
--- those so far
+-- those so far, and room for what is left
 abbrev pub invariant-loop-attribute : goal.invariant-loop-attribute
-invariant-loop-attribute l = l.attributes.items ≡ map (λ a. plain_attribute (attribute_of a)) l.yielded
+invariant-loop-attribute l = record {
+  those : l.attributes.items ≡ map (λ a. plain_attribute (attribute_of a)) l.yielded;
+  room : length l.attribute-iterator.rest.items ≤ vec_capacity l.attributes - vec_len l.attributes;
+}
