@@ -388,6 +388,7 @@ impl<
         requires held { IsHeld I.told T.numbers self.old }
         ensures held { IsHeld I.told T.numbers self.new }
         ensures workers { workers_of self.new.places.items ≡ workers_of self.old.places.items }
+        ensures taker { self.new.taker ≡ self.old.taker }
     {
         let Item { from, what } = item;
         match what {
@@ -401,6 +402,16 @@ impl<
         }
     }
 
+    // Closes the halves of all connections.
+    fn close_halves(&mut self)
+        requires held { IsHeld I.told T.numbers self.old }
+        ensures held { IsHeld I.told T.numbers self.new }
+        ensures places { self.new.places ≡ self.old.places }
+        ensures shut { T.shut self.new.taker }
+    {
+        self.taker.close_all();
+    }
+
     /// After want of memory: closes all halves, and takes items until no more connections are taken in, and each reader that
     /// was started has sent its last. So no worker waits for room in the queue, and all can be joined: each reader stays at its
     /// place.
@@ -408,8 +419,9 @@ impl<
         requires held { IsHeld I.told T.numbers self.old }
         ensures held { IsHeld I.told T.numbers self.new }
         ensures workers { workers_of self.new.places.items ≡ workers_of self.old.places.items }
+        ensures shut { T.shut self.new.taker }
     {
-        self.taker.close_all();
+        self.close_halves();
         let rt = self.rt;
         for _ in rt.forever() {
             if self.closed && all_ended(self.places.as_slice()) {

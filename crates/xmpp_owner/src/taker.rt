@@ -10,9 +10,9 @@ use xmpp_outside::{Clock, Entropy};
 use xmpp_readers::Piece;
 
 /// What takes the events of connections, one after another. `O` is where the bytes of a connection go. Contracts alone see
-/// four things of it: `events`, those that it took, in order; `numbers`, those of the halves that it was given, in order;
-/// `keeps`, what is so of it between two events, where this moment and these random bytes are told; and `fixed`, bytes that no
-/// call changes.
+/// five things of it: `events`, those that it took, in order; `numbers`, those of the halves that it was given, in order;
+/// `keeps`, what is so of it between two events, where this moment and these random bytes are told; `fixed`, bytes that no
+/// call changes; and `shut`, that all halves that it was given are closed.
 pub trait Taker<O: Outgoing> {
     ghost events: { Self → List Event };
 
@@ -21,6 +21,8 @@ pub trait Taker<O: Outgoing> {
     ghost keeps: { Self → Option ℕ → Option (List ℕ) → Type 0 };
 
     ghost fixed: { Self → List ℕ };
+
+    ghost shut: { Self → Type 0 };
 
     /// Connection `k` begins, of which nothing was taken before, as of no later one, and random bytes are drawn for it. It is
     /// refused where that fails, and `false` is answered: then that is no event, and its half was closed.
@@ -65,5 +67,6 @@ pub trait Taker<O: Outgoing> {
 
     /// Closes all halves.
     fn close_all(&mut self)
-        ensures { numbers self.new ≡ numbers self.old };
+        ensures halves { numbers self.new ≡ numbers self.old }
+        ensures shut { shut self.new };
 }

@@ -11,7 +11,7 @@ use xmpp_serving::are_bytes;
 impl<O: Outgoing + Drop> Taker<O> for Recorder<O> {
     ghost use Rattle.xmpp_journal.specs.AccountsFiles.{accounts_text};
     ghost use Rattle.xmpp_recorder.specs.Records.{IsKept, bares_of};
-    ghost use Rattle.xmpp_senders.specs.Sendings.{numbers_of};
+    ghost use Rattle.xmpp_senders.specs.Sendings.{AreClosed, numbers_of};
 
     ghost events = { λ s. bares_of s.events.items };
 
@@ -20,6 +20,8 @@ impl<O: Outgoing + Drop> Taker<O> for Recorder<O> {
     ghost keeps = { λ s moment drawn. IsKept O.told moment drawn s };
 
     ghost fixed = { λ s. accounts_text s.file };
+
+    ghost shut = { λ s. AreClosed O.closed s.senders.items };
 
     fn connect<C: Clock, E: Entropy>(
         &mut self,

@@ -4,3 +4,5 @@ pub mod Sent
 pub mod Numbers
 -- what all have
 pub mod AllSent
+-- halves that are closed
+pub mod Closed

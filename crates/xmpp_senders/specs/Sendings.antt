@@ -1,5 +1,5 @@
--- What went out on the halves of connections.
-use Rattle.std.specs.Prelude.{◌≡◌, ℕ, ◌+◌, ◌≤◌, true, false, Bool, List, map, IfSome}
+-- What went out on the halves of connections, and which of them are closed.
+use Rattle.std.specs.Prelude.{◌≡◌, ℕ, ◌+◌, ◌<◌, ◌≤◌, true, false, Bool, List, length, map, IfSome}
 use mathlib.Core.Option.{some}
 use lib.ListN.{get_elem?}
 use Rattle.xmpp_halves.specs.Halves.{OutgoingView}
@@ -21,3 +21,16 @@ module _ {O : Type 0} (told : O → OutgoingView) where
   -- the numbers of the links of which these are the halves
   abbrev pub numbers_of : List (Sender O) → List ℕ
   numbers_of senders = map (λ s. (told s.half).number) senders
+
+module _ {O : Type 0} (closed : O → Bool) where
+  -- the half at this index is closed
+  abbrev pub IsClosed : List (Sender O) → ℕ → Type 0
+  IsClosed senders i = (s : Sender O) × (get_elem? senders i ≡ some s) × (closed s.half ≡ true)
+
+  -- each is
+  abbrev pub AreClosed : List (Sender O) → Type 0
+  AreClosed senders = (i : ℕ) → i < length senders → IsClosed senders i
+
+  -- those that were closed are closed still
+  abbrev pub StayClosed : List (Sender O) → List (Sender O) → Type 0
+  StayClosed old new = (i : ℕ) → IsClosed old i → IsClosed new i

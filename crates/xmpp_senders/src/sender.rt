@@ -1,5 +1,5 @@
 //! The half of a connection on which a server's bytes go out.
-ghost use Rattle.std.specs.Prelude.{◌≡◌, ◌++◌, ℕ, List, []};
+ghost use Rattle.std.specs.Prelude.{◌≡◌, ◌++◌, ℕ, List, [], false, true};
 ghost use Rattle.xmpp_halves.specs.Halves.{IncomingView, IsUnusedPair};
 ghost use Rattle.xmpp_senders.specs.Sendings.{HasSent};
 
@@ -29,6 +29,8 @@ impl<O: Outgoing> Sender<O> {
     pub fn put(&mut self, bytes: &[u8])
         ensures number { (O.told self.new.half).number ≡ (O.told self.old.half).number }
         ensures sent { (before : List ℕ) → HasSent before self.old.broken (O.told self.old.half) → HasSent (before ++ bytes.now) self.new.broken (O.told self.new.half) }
+        ensures closed { O.closed self.old.half ≡ true → O.closed self.new.half ≡ true }
+        ensures ended { self.old.broken ≡ false → self.new.broken ≡ true → O.closed self.new.half ≡ true }
     {
         if self.broken {
             return;
@@ -47,6 +49,7 @@ impl<O: Outgoing> Sender<O> {
     pub fn close(&mut self)
         ensures told { O.told self.new.half ≡ O.told self.old.half }
         ensures broken { self.new.broken ≡ self.old.broken }
+        ensures closed { O.closed self.new.half ≡ true }
     {
         self.half.close();
     }

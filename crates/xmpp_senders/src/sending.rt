@@ -3,7 +3,7 @@ ghost use Rattle.std.specs.Prelude.{◌≡◌, ◌<◌, ◌+◌, ◌⊎◌, ◌+
 ghost use Rattle.xmpp_desk.specs.Seen.{out_of, outs_of};
 ghost use Rattle.xmpp_desk.specs.State.{is_number};
 ghost use Rattle.xmpp_senders.specs.Puts.{bytes_put, put_for};
-ghost use Rattle.xmpp_senders.specs.Sendings.{HaveSent, numbers_of};
+ghost use Rattle.xmpp_senders.specs.Sendings.{AreClosed, HaveSent, IsClosed, StayClosed, numbers_of};
 
 use crate::sender::Sender;
 use xmpp_desk::Output;
@@ -26,6 +26,7 @@ fn index_of<O>(senders: &[Sender<O>], conn: u64) -> Option<usize>
 fn put<O: Outgoing>(senders: &mut Vec<Sender<O>>, conn: u64, bytes: &[u8])
     ensures numbers { numbers_of O.told senders.new.items ≡ numbers_of O.told senders.old.items }
     ensures sent { (before : ℕ → List ℕ) → HaveSent O.told before senders.old.items → HaveSent O.told (λ k. before k ++ (if is_number k conn then bytes.now else [])) senders.new.items }
+    ensures closed { StayClosed O.closed senders.old.items senders.new.items }
 {
     match index_of(senders.as_slice(), conn) {
         Some(index) => senders[index].put(bytes),
@@ -37,6 +38,8 @@ fn put<O: Outgoing>(senders: &mut Vec<Sender<O>>, conn: u64, bytes: &[u8])
 pub fn close<O: Outgoing>(senders: &mut Vec<Sender<O>>, conn: u64)
     ensures numbers { numbers_of O.told senders.new.items ≡ numbers_of O.told senders.old.items }
     ensures sent { (bytes : ℕ → List ℕ) → HaveSent O.told bytes senders.old.items → HaveSent O.told bytes senders.new.items }
+    ensures closed { StayClosed O.closed senders.old.items senders.new.items }
+    ensures this { (i : ℕ) → i + 1 ≡ conn → i < length senders.old.items → IsClosed O.closed senders.new.items i }
 {
     match index_of(senders.as_slice(), conn) {
         Some(index) => senders[index].close(),
@@ -47,6 +50,7 @@ pub fn close<O: Outgoing>(senders: &mut Vec<Sender<O>>, conn: u64)
 /// Ends all links.
 pub fn close_all<O: Outgoing>(senders: &mut Vec<Sender<O>>)
     ensures numbers { numbers_of O.told senders.new.items ≡ numbers_of O.told senders.old.items }
+    ensures closed { AreClosed O.closed senders.new.items }
 {
     let count = senders.as_slice().len() as u64;
     for conn in 0..count {
@@ -58,6 +62,7 @@ pub fn close_all<O: Outgoing>(senders: &mut Vec<Sender<O>>)
 fn send<O: Outgoing>(senders: &mut Vec<Sender<O>>, output: &Output)
     ensures numbers { numbers_of O.told senders.new.items ≡ numbers_of O.told senders.old.items }
     ensures sent { (before : ℕ → List ℕ) → HaveSent O.told before senders.old.items → HaveSent O.told (λ k. before k ++ bytes_put k (out_of output.now)) senders.new.items }
+    ensures closed { StayClosed O.closed senders.old.items senders.new.items }
 {
     match output {
         Output::Put { conn, bytes } => put(senders, *conn, bytes.as_slice()),
@@ -70,6 +75,7 @@ fn send<O: Outgoing>(senders: &mut Vec<Sender<O>>, output: &Output)
 pub fn send_all<O: Outgoing>(senders: &mut Vec<Sender<O>>, outputs: &[Output])
     ensures numbers { numbers_of O.told senders.new.items ≡ numbers_of O.told senders.old.items }
     ensures sent { (before : ℕ → List ℕ) → HaveSent O.told before senders.old.items → HaveSent O.told (λ k. before k ++ put_for k (outs_of outputs.now)) senders.new.items }
+    ensures closed { StayClosed O.closed senders.old.items senders.new.items }
 {
     for output in outputs {
         send(senders, output);

@@ -1,5 +1,6 @@
 use Rattle.std.proofs.Common.{◌≡◌, ◌<◌, ◌⊎◌, length, refl, subst}
 use Rattle.xmpp_senders.proofs.AllSent.{none_sent, numbers_set, one_sent}
+use Rattle.xmpp_senders.proofs.Closed.{one_stays}
 use Rattle.xmpp_senders.proofs.sending.put.Goals as goal
 
 pub index_mut-requires : goal.index_mut-requires
@@ -18,3 +19,8 @@ returns-in-Some-clause-sent g c =
 pub returns-in-None-clause-sent : goal.returns-in-None-clause-sent
 returns-in-None-clause-sent g c =
     none_sent g.O.Outgoing.told c.args.senders.now.items c.args.conn c.args.bytes.now (subst (λ l. (c.args.conn ≡ 0) ⊎ (length l < c.args.conn)) c.as_slice.ensures.value c.in-None.ensures)
+
+pub returns-in-Some-clause-closed : goal.returns-in-Some-clause-closed
+returns-in-Some-clause-closed g c =
+    one_stays g.O.Outgoing.closed c.args.senders.now.items c.in-Some.index c.index_mut.result.now c.put.new.self
+    (subst (λ l. c.in-Some.index < length l) c.as_slice.ensures.value c.in-Some.ensures.1) c.index_mut.ensures.value c.put.ensures.closed

@@ -10,6 +10,7 @@ loop-output-preserved g c = record {
   numbers = c.send.ensures.numbers ∙ c.loop-output.invariant.numbers;
   sent = λ before have. next_sent g.O.Outgoing.told before c.args.outputs.now c.loop-output.output-index c.output-item.result c.send.new.senders.items c.loop-output-test.true c.output-item.is
       (c.send.ensures.sent (λ k. before k ++ put_for k (outs_of (take c.loop-output.output-index c.args.outputs.now))) (c.loop-output.invariant.sent before have));
+  closed = λ i was. c.send.ensures.closed i (c.loop-output.invariant.closed i was);
 }
 
 pub returns-clause-sent : goal.returns-clause-sent

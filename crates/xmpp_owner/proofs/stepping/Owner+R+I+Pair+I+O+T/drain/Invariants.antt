@@ -7,4 +7,5 @@ abbrev pub invariant-loop : goal.invariant-loop
 invariant-loop g l = record {
   held : IsHeld g.I.Incoming.told g.T.Taker.numbers l.self;
   workers : workers_of l.self.places.items ≡ workers_of l.initial.self.places.items;
+  shut : g.T.Taker.shut l.self.taker;
 }
