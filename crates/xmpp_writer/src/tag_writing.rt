@@ -17,6 +17,9 @@ pub(crate) const STREAMS_NAMESPACE: &str = "http://etherx.jabber.org/streams";
 /// The namespace of the prefix `xml` (Namespaces in XML 1.0, section 3).
 pub(crate) const XML_NAMESPACE: &str = "http://www.w3.org/XML/1998/namespace";
 
+/// How many bytes the shorter of these two has.
+const SHORTEST: usize = 32;
+
 /// Adds parts at the end, one behind the other.
 pub(crate) fn put_parts(out: &mut Bytes, parts: &[&[u8]])
     requires { length (flat_map (λ part. part.now) parts.now) ≤ out.old.spare }
@@ -131,11 +134,11 @@ fn put_attributes(out: &mut Bytes, attrs: &[Attr])
     }
 }
 
-// Whether an element of a namespace has a prefix. Most names of namespaces are shorter than those two.
+// Whether an element of a namespace has a prefix. Most names of namespaces are shorter than the two that give one.
 fn has_prefix(ns: &str) -> bool
     ensures { result ≡ Canon.has_prefix ns.now }
 {
-    if ns.len() < 32 {
+    if ns.len() < SHORTEST {
         return false;
     }
     ns == STREAMS_NAMESPACE || ns == XML_NAMESPACE
