@@ -10,7 +10,7 @@ use Rattle.xmpp_readers.specs.declared.item.Item.{Item}
 use Rattle.xmpp_senders.specs.declared.sender.Sender.{Sender}
 use Rattle.xmpp_serving.specs.Journaling.{AreFewer, AreGivenBack, counted_each}
 
-counted_first : (n count : ℕ) → counted_times n (counted count) ≡ counted (counted_times n count)
+pub counted_first : (n count : ℕ) → counted_times n (counted count) ≡ counted (counted_times n count)
 unfolding counted_times
 counted_first zero count = refl
 counted_first (suc n) count = ap counted (counted_first n count)
@@ -21,7 +21,7 @@ each_counted [] count = refl
 each_counted (link ∷ links) count = sym (counted_first (length links) count) ∙ each_counted links (counted count)
 
 module _ {R I O P : Type 0} (told : I → IncomingView) (out : O → OutgoingView) (got : List (Item P)) where
-  back_count : (k : ℕ) (ps : List (Place R I P)) (ss : List (Sender O)) (ls : List LinkView) → AreBack told out got k ps ss ls → length ls ≡ length ps
+  pub back_count : (k : ℕ) (ps : List (Place R I P)) (ss : List (Sender O)) (ls : List LinkView) → AreBack told out got k ps ss ls → length ls ≡ length ps
   back_count k [] [] [] back = refl
   back_count k [] [] (l ∷ ls) back = absurd back
   back_count k [] (s ∷ ss) ls back = absurd back

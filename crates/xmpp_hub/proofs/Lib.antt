@@ -12,6 +12,8 @@ pub mod ServedLinks
 pub mod Written
 -- as many links as were handed out
 pub mod CountedLinks
+-- the links of readers that were joined
+pub mod JoinedReaders
 -- faults
 pub mod Refusals
 -- a server that has served

@@ -4,6 +4,7 @@ ghost use Rattle.crossbeam_channel.specs.Claims.{IsSeatAt, view};
 ghost use Rattle.crossbeam_channel.specs.Ends.{sends_on};
 ghost use Rattle.xmpp_edge.specs.Counts.{Rose};
 ghost use Rattle.xmpp_hub.specs.Backs.{AreBehind, AreLeft};
+ghost use Rattle.xmpp_hub.specs.Joined.{AreMore, HasReaders};
 ghost use Rattle.xmpp_hub.specs.Served.{HasServed, IsOwn, IsRefusal, IsWritten};
 ghost use Rattle.xmpp_journal.specs.AccountsFiles.{accounts_text};
 ghost use Rattle.xmpp_outside.specs.Links.{LinkView};
@@ -11,6 +12,7 @@ ghost use Rattle.xmpp_owner.specs.Arrivals.{has_closed};
 ghost use Rattle.xmpp_owner.specs.Halves.{IsHeld};
 ghost use Rattle.xmpp_owner.specs.Owners.{IsGoing};
 ghost use Rattle.xmpp_owner.specs.Places.{are_over};
+ghost use Rattle.xmpp_owner.specs.StartedReaders.{readers_in};
 ghost use Rattle.xmpp_owner.specs.Troubles.{HasMet};
 ghost use Rattle.xmpp_queue.specs.Merge.{items_of};
 ghost use Rattle.xmpp_readers.specs.Feeds.{number};
@@ -31,7 +33,7 @@ use xmpp_readers::{AcceptorAnswer, AcceptorJob};
 use xmpp_recorder::{Recorder, journal_of};
 use xmpp_workers::{Spawner, Worker};
 
-// After a fault: joins all workers, and gives the links of readers back.
+// After a fault, once no reader goes on: joins all workers, and gives the links of readers back.
 #[tactic(auto, using(crate::proofs::Paired::held_paired))]
 fn leave<
     R: Threads + Wait + Drop,
@@ -44,7 +46,9 @@ fn leave<
     acceptor: Worker<AcceptorJob<R, D, Pair<I, O>>>,
 ) -> D
     requires held { IsHeld I.told (λ r. numbers_of O.told r.senders.items) owner }
+    requires over { are_over owner.places.items ≡ true }
     ensures left { (links : List LinkView) × (D.given result ≡ D.given acceptor.door ++ links) × AreLeft I.told O.told owner.places.items owner.taker.senders.items links }
+    ensures readers { AreMore (readers_in owner.places.items) (D.given acceptor.door) (D.given result) }
 {
     let AcceptorAnswer { mut door, .. } = acceptor.join(rt);
     let Owner { places, taker, .. } = owner;
@@ -75,6 +79,7 @@ fn finish<
     ensures served { (moment : Option ℕ) (drawn : Option (List ℕ)) → IsKept O.told moment drawn owner.taker
         → IfOk result.0 (λ text. IsWritten owner.taker.file acceptor.count moment drawn (D.given acceptor.door) (D.given result.1) text.items) }
     ensures all_back { AreGivenBack (D.handed acceptor.door) (D.handed result.1) (D.given acceptor.door) (D.given result.1) }
+    ensures readers { AreMore (readers_in owner.places.items) (D.given acceptor.door) (D.given result.1) }
     ensures faults { IfErr result.0 (λ e. (e ≡ HubFault.LinkFault) ⊎ (e ≡ HubFault.NoMemory)) }
     ensures failed { IsErrOf result.0 HubFault.LinkFault → Rose (D.faults acceptor.door) (D.faults result.1) × AreFewer acceptor.count (D.given acceptor.door) (D.given result.1) }
 {
@@ -113,7 +118,9 @@ fn finish<
 /// `LinkFault`, `NoWorker` and `EntropyFault` come only where the count of faults rose of the door, of the spawner and of the
 /// source of random bytes: where several did, that which was met first. After `LinkFault` all links that the door handed out
 /// are given back, which are fewer than the acceptor was to take in. After the others, and after want of memory, all readers are
-/// joined, and their links given back.
+/// joined, and their links given back. Whatever is answered, as many links are given back as there were readers: those that the
+/// owner had, and as many more as the spawner counted threads in this call.
+#[tactic(auto, using(crate::proofs::JoinedReaders::after_run, crate::proofs::JoinedReaders::after_drain))]
 pub fn serve_started<
     R: Threads + Wait + Copy + Send + 'static,
     I: Incoming + Drop + Send + 'static,
@@ -138,6 +145,7 @@ pub fn serve_started<
     requires queue { sends_on acceptor.to ≡ sends_on owner.to }
     ensures served { IfOk result.0 (λ text. HasServed (accounts_text owner.taker.file) acceptor.count (C.moment clock.old) (E.bytes entropy.old) (D.given acceptor.door) (D.given result.1) text.items) }
     ensures given { AreBehind (D.given acceptor.door) (D.given result.1) }
+    ensures readers { HasReaders (readers_in owner.places.items) (D.given acceptor.door) (D.given result.1) (S.started spawner.old) (S.started spawner.new) }
     ensures faults { IfErr result.0 (λ e. IsOwn e) }
     ensures all_back { result.0 ≢ Err HubFault.NoWorker → result.0 ≢ Err HubFault.EntropyFault → result.0 ≢ Err HubFault.NoMemory
         → AreGivenBack (D.handed acceptor.door) (D.handed result.1) (D.given acceptor.door) (D.given result.1) }

@@ -1,7 +1,8 @@
 //! Connections that come in at a port are served at the same time.
-ghost use Rattle.std.specs.Prelude.{◌≡◌, ◌≢◌, ◌⊎◌, [], Err, IfErr, IfOk, IfSome, IsErrOf, IsSome};
+ghost use Rattle.std.specs.Prelude.{◌≡◌, ◌≢◌, ◌⊎◌, [], Err, IfErr, IfOk, IfSome, IsErrOf, IsSome, MatchOption};
 ghost use Rattle.xmpp_edge.specs.Counts.{Rose};
 ghost use Rattle.xmpp_hub.specs.Backs.{AreBehind};
+ghost use Rattle.xmpp_hub.specs.Joined.{HasWorkers};
 ghost use Rattle.xmpp_hub.specs.Served.{HasServed, IsOwn, IsRefusal};
 ghost use Rattle.xmpp_journal.specs.AccountsFiles.{IsAccountsFile, accounts_text};
 ghost use Rattle.xmpp_recorder.specs.Records.{IsKept};
@@ -22,6 +23,7 @@ use xmpp_recorder::Recorder;
 use xmpp_workers::Spawner;
 
 // Serves at a door that is open, with a recorder to which nothing has happened yet.
+#[tactic(auto, using(crate::proofs::JoinedReaders::none_started))]
 fn serve_with<
     R: Threads + Wait + Copy + Send + 'static,
     I: Incoming + Drop + Send + 'static,
@@ -45,6 +47,7 @@ where
     requires fresh { (recorder.events.items ≡ []) × (recorder.senders.items ≡ []) }
     ensures served { IfOk result.0 (λ text. IfSome result.1 (λ new. HasServed (accounts_text recorder.file) n (C.moment clock.old) (E.bytes entropy.old) (D.given door) (D.given new) text.items)) }
     ensures given { IfSome result.1 (λ new. AreBehind (D.given door) (D.given new)) }
+    ensures workers { MatchOption result.1 (S.started spawner.new ≡ S.started spawner.old) (λ new. HasWorkers (D.given door) (D.given new) (S.started spawner.old) (S.started spawner.new)) }
     ensures faults { IfErr result.0 (λ e. IsOwn e) }
     ensures all_back { result.0 ≢ Err HubFault.NoWorker → result.0 ≢ Err HubFault.EntropyFault → result.0 ≢ Err HubFault.NoMemory
         → IfSome result.1 (λ new. AreGivenBack (D.handed door) (D.handed new) (D.given door) (D.given new)) }
@@ -68,7 +71,7 @@ where
 }
 
 // Serves at a door that is open, with a server of an accounts file.
-#[tactic(auto, using(crate::proofs::Served::served_again))]
+#[tactic(auto, using(crate::proofs::Served::served_again, crate::proofs::JoinedReaders::none_started))]
 fn serve_at<
     R: Threads + Wait + Copy + Send + 'static,
     I: Incoming + Drop + Send + 'static,
@@ -92,6 +95,7 @@ where
     requires right { IsAccountsFile file }
     ensures served { IfOk result.0 (λ text. IfSome result.1 (λ new. HasServed (accounts_text file) n (C.moment clock.old) (E.bytes entropy.old) (D.given door) (D.given new) text.items)) }
     ensures given { IfSome result.1 (λ new. AreBehind (D.given door) (D.given new)) }
+    ensures workers { MatchOption result.1 (S.started spawner.new ≡ S.started spawner.old) (λ new. HasWorkers (D.given door) (D.given new) (S.started spawner.old) (S.started spawner.new)) }
     ensures faults { IfErr result.0 (λ e. IsOwn e) }
     ensures all_back { result.0 ≢ Err HubFault.NoWorker → result.0 ≢ Err HubFault.EntropyFault → result.0 ≢ Err HubFault.NoMemory
         → IfSome result.1 (λ new. AreGivenBack (D.handed door) (D.handed new) (D.given door) (D.given new)) }
@@ -119,8 +123,10 @@ where
 /// stays closed. `LinkFault`, `NoWorker` and `EntropyFault` come only where the count of faults rose of the door, of the spawner
 /// and of the source of random bytes: where several did, that which was met first. After `LinkFault` all links that the door
 /// handed out are given back. After the others, and after want of memory, all readers are joined, and the links of which a
-/// reader was started are given back. Where the acceptor can't be started, the door is dropped.
-#[tactic(auto, using(crate::proofs::Served::served_again, crate::proofs::Refusals::refused))]
+/// reader was started are given back. Where the acceptor can't be started, the door is dropped, and no thread was started. Else
+/// no thread was started and no link given back, or an acceptor was started and as many links are given back as readers were,
+/// as the spawner counts them.
+#[tactic(auto, using(crate::proofs::Served::served_again, crate::proofs::Refusals::refused, crate::proofs::JoinedReaders::none_started, crate::proofs::JoinedReaders::workers_again))]
 pub fn serve_together<
     R: Threads + Wait + Copy + Send + 'static,
     I: Incoming + Drop + Send + 'static,
@@ -145,6 +151,7 @@ where
     ensures served { IfOk result.0 (λ text. IfSome result.1 (λ new. HasServed accounts.now n (C.moment clock.old) (E.bytes entropy.old) (D.given door) (D.given new) text.items)) }
     ensures bad { IfErr result.0 (λ e. IsRefusal accounts.now e) }
     ensures back { IfSome result.1 (λ new. AreBehind (D.given door) (D.given new)) }
+    ensures workers { MatchOption result.1 (S.started spawner.new ≡ S.started spawner.old) (λ new. HasWorkers (D.given door) (D.given new) (S.started spawner.old) (S.started spawner.new)) }
     ensures all_back { result.0 ≢ Err HubFault.NoWorker → result.0 ≢ Err HubFault.EntropyFault → result.0 ≢ Err HubFault.NoMemory
         → IfSome result.1 (λ new. AreGivenBack (D.handed door) (D.handed new) (D.given door) (D.given new)) }
     ensures link_fault { IsErrOf result.0 HubFault.LinkFault → IfSome result.1 (λ new. Rose (D.faults door) (D.faults new) × (n ≢ 0 → AreFewer n (D.given door) (D.given new))) }

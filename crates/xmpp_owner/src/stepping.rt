@@ -420,6 +420,7 @@ impl<
         ensures held { IsHeld I.told T.numbers self.new }
         ensures workers { workers_of self.new.places.items ≡ workers_of self.old.places.items }
         ensures shut { T.shut self.new.taker }
+        ensures over { are_over self.new.places.items ≡ true }
     {
         self.close_halves();
         let rt = self.rt;

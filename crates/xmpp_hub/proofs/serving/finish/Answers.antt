@@ -4,6 +4,7 @@ use Rattle.crossbeam_channel.specs.Claims.{view}
 use Rattle.crossbeam_channel.specs.Ends.{sends_on}
 use Rattle.xmpp_edge.specs.Counts.{Rose}
 use Rattle.xmpp_hub.proofs.CountedLinks.{all_back, are_fewer}
+use Rattle.xmpp_hub.proofs.JoinedReaders.{back_many}
 use Rattle.xmpp_hub.proofs.Ready.{ready}
 use Rattle.xmpp_hub.proofs.Written.{is_written}
 use Rattle.xmpp_hub.proofs.serving.finish.Goals as goal
@@ -63,3 +64,21 @@ returns-in-Ok-clause-served g c moment drawn kept =
     (subst (λ l. AreBack told out l 1 h.places.items h.taker.senders.items back.0) c.settle_acceptor-door.ensures.got back.2)
     (back.1 ∙ ap (λ l. l ++ back.0) c.settle_acceptor-door.ensures.given)
     (c.in-Ok.ensures ∙ ap (λ l. journal_text h.taker.file (views_of l)) c.as_slice.ensures.value)
+
+pub returns-then-failed-clause-readers : goal.returns-then-failed-clause-readers
+returns-then-failed-clause-readers g c =
+    let h = c.args.owner in let back = c.settle_all.ensures.back in let given = g.D.Door.given in
+    back_many g.I.Incoming.told g.O.Outgoing.told (view c.settle_acceptor-door.new.pass).got h.places.items h.taker.senders.items (given c.args.acceptor.door) (given c.settle_all.new.door) back.0 back.2
+    (back.1 ∙ ap (λ l. l ++ back.0) c.settle_acceptor-door.ensures.given) (c.requires.going.here.started c.requires.met)
+
+pub returns-in-Ok-clause-readers : goal.returns-in-Ok-clause-readers
+returns-in-Ok-clause-readers g c =
+    let h = c.args.owner in let back = c.settle_all.ensures.back in let given = g.D.Door.given in
+    back_many g.I.Incoming.told g.O.Outgoing.told (view c.settle_acceptor-door.new.pass).got h.places.items h.taker.senders.items (given c.args.acceptor.door) (given c.settle_all.new.door) back.0 back.2
+    (back.1 ∙ ap (λ l. l ++ back.0) c.settle_acceptor-door.ensures.given) (c.requires.going.here.started c.requires.met)
+
+pub returns-clause-readers : goal.returns-clause-readers
+returns-clause-readers g c =
+    let h = c.args.owner in let back = c.settle_all.ensures.back in let given = g.D.Door.given in
+    back_many g.I.Incoming.told g.O.Outgoing.told (view c.settle_acceptor-door.new.pass).got h.places.items h.taker.senders.items (given c.args.acceptor.door) (given c.settle_all.new.door) back.0 back.2
+    (back.1 ∙ ap (λ l. l ++ back.0) c.settle_acceptor-door.ensures.given) (c.requires.going.here.started c.requires.met)

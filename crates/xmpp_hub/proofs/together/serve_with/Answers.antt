@@ -1,5 +1,6 @@
 use Rattle.std.proofs.Common.{◌∙◌, ap, subst}
 use Rattle.xmpp_edge.specs.Counts.{Rose}
+use Rattle.xmpp_hub.proofs.JoinedReaders.{with_acceptor}
 use Rattle.xmpp_hub.proofs.Served.{ok_then, served_as}
 use Rattle.xmpp_hub.proofs.together.serve_with.Goals as goal
 use Rattle.xmpp_journal.specs.AccountsFiles.{accounts_text}
@@ -24,3 +25,9 @@ returns-in-Ok-start-clause-link_fault g c is =
       subst (λ n. AreFewer n (g.D.Door.given c.args.door) (g.D.Door.given new)) (ap (λ j. j.count) c.in-Ok-start.ensures.job ∙ c.new-2.ensures.count)
           (subst (λ d. AreFewer c.in-Ok-start.acceptor.count (g.D.Door.given d) (g.D.Door.given new)) door failed.1),
     )
+
+pub returns-in-Ok-start-clause-workers : goal.returns-in-Ok-start-clause-workers
+returns-in-Ok-start-clause-workers g c =
+    let given = g.D.Door.given in let started = g.S.Spawner.started in let door = ap (λ j. j.door) c.in-Ok-start.ensures.job ∙ c.new-2.ensures.door in
+    with_acceptor _ (given c.in-Ok-start.acceptor.door) (given c.args.door) (given c.serve_started-served.result.1) (started c.args.spawner.now) (started c.start.new.self) (started c.serve_started-served.new.spawner)
+    c.in-Ok.ensures.places (ap given door) c.in-Ok-start.ensures.started c.serve_started-served.ensures.readers
