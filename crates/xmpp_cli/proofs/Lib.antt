@@ -1,4 +1,5 @@
 pub mod Dialers
+pub mod Doors
 pub mod Inputs
 mod Rows
 pub mod Statuses

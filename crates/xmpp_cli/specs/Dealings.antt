@@ -1,7 +1,8 @@
 -- What clauses see of the outside before a call and behind it.
-use Rattle.std.specs.Prelude.{◌≡◌, ◌⊎◌, ◌++◌, ◌∷◌, [], ℕ, List, Option, Some, None, IfSome, IsSomeAnd}
+use Rattle.std.specs.Prelude.{◌≡◌, ◌⊎◌, ◌++◌, ◌∷◌, [], ℕ, List, Option, Some, None, IfSome, IsSomeAnd, MatchOption}
 use Rattle.xmpp_edge.specs.Counts.{Quiet, counted}
 use Rattle.xmpp_hub.specs.Backs.{AreBehind}
+use Rattle.xmpp_hub.specs.Joined.{HasWorkers}
 use Rattle.xmpp_outside.specs.Links.{LinkView}
 use Rattle.xmpp_serving.specs.Journaling.{AreGivenBack}
 use Rattle.xmpp_syncing.specs.Talks.{DialerView}
@@ -12,8 +13,8 @@ pub record DoorView : Type 0 where
   pub handed : ℕ
   pub given : List LinkView
 
--- a door and a dialer, the clock's moment and the random bytes where these are told, how many drawings failed, and how many
--- threads could not be started
+-- a door and a dialer, the clock's moment and the random bytes where these are told, how many drawings failed, how many threads
+-- could not be started, and how many were started
 pub record OutsideView : Type 0 where
   pub door : Option DoorView
   pub dialer : DialerView
@@ -21,6 +22,7 @@ pub record OutsideView : Type 0 where
   pub drawn : Option (List ℕ)
   pub draws : ℕ
   pub starts : ℕ
+  pub started : ℕ
 
 -- the outside before a call, and behind it
 pub record Dealings : Type 0 where
@@ -48,6 +50,12 @@ AreBack dealt = IsSomeAnd dealt.before.door (λ old. IsSomeAnd dealt.behind.door
 -- the links that were given back to the door stand behind those that were there
 abbrev pub AreKept : Dealings → Type 0
 AreKept dealt = IfSome dealt.before.door (λ old. IfSome dealt.behind.door (λ new. AreBehind old.given new.given))
+
+-- Where the door is there still, no thread was started and no link given back to it; or an acceptor was started and joined, and
+-- of each reader that was started the link was given back. Where it is not, no thread was started.
+abbrev pub AreJoined : Dealings → Type 0
+AreJoined dealt = IfSome dealt.before.door (λ old. MatchOption dealt.behind.door (dealt.behind.started ≡ dealt.before.started) (λ new.
+    HasWorkers old.given new.given dealt.before.started dealt.behind.started))
 
 -- the dialer handed out a link, and got it back
 pub record IsReturned (old new : DialerView) : Type 0 where

@@ -14,6 +14,7 @@ pub use Rattle.xmpp_report.specs.ReportText
 pub use Rattle.xmpp_report.specs.Reports
 pub use Rattle.xmpp_schedule.specs.Schedules
 pub use Rattle.xmpp_hub.specs.Backs
+pub use Rattle.xmpp_hub.specs.Joined
 pub use Rattle.xmpp_hub.specs.Served
 pub use Rattle.xmpp_outside.specs.Links
 pub use Rattle.xmpp_script.specs.Scripts

@@ -3,7 +3,7 @@
 //! All text is made before a byte of it is written; want of memory is an answer of its own.
 ghost use Rattle.std.specs.Prelude.{◌≡◌, ◌⊎◌, false, true, ◌<◌, ◌≤◌, Some, IfOk, IsSome};
 ghost use Rattle.xmpp_edge.specs.Counts.{Rose};
-ghost use Rattle.xmpp_cli.specs.Dealings.{AreKept, Dealings, IsBack};
+ghost use Rattle.xmpp_cli.specs.Dealings.{AreJoined, AreKept, Dealings, IsBack};
 ghost use Rattle.xmpp_cli.specs.Words.{IsAskable, asked, goes_out, reads, serves};
 ghost use Rattle.xmpp_cli.specs.Table.{IsAnswer, IsReportOf, Due, generated_summary};
 ghost use Rattle.xmpp_generator.specs.Summary.{summary_of};
@@ -133,6 +133,7 @@ fn summed_up(alloc: Global, number: u64, size: u32) -> Result<Answer, NoMemory>
 
 /// The answer of a command to an input, which it looks at only if it is one that reads. The outside is as it was where the
 /// command doesn't go out.
+#[tactic(auto, using(crate::proofs::Doors::still_joined))]
 fn answer_to<
     R: Threads + Wait + Copy + Send + 'static,
     I: Incoming + Drop + Send + 'static,
@@ -157,6 +158,7 @@ where
         (record { before = ⟦<Outside<D, L, C, E, P> as Surroundings>⟧.view outside.old; behind = ⟦<Outside<D, L, C, E, P> as Surroundings>⟧.view outside.new }) answer.outcome answer.text.items) }
     ensures door { IsSome outside.new.door ⊎ Rose (P.faults outside.old.spawner) (P.faults outside.new.spawner) }
     ensures kept { AreKept (record { before = ⟦<Outside<D, L, C, E, P> as Surroundings>⟧.view outside.old; behind = ⟦<Outside<D, L, C, E, P> as Surroundings>⟧.view outside.new }) }
+    ensures joined { AreJoined (record { before = ⟦<Outside<D, L, C, E, P> as Surroundings>⟧.view outside.old; behind = ⟦<Outside<D, L, C, E, P> as Surroundings>⟧.view outside.new }) }
     ensures returned { IsBack (record { before = ⟦<Outside<D, L, C, E, P> as Surroundings>⟧.view outside.old; behind = ⟦<Outside<D, L, C, E, P> as Surroundings>⟧.view outside.new }) }
     ensures stays { serves (Some command) ≡ false → (outside.new.door ≡ outside.old.door) × (outside.new.spawner ≡ outside.old.spawner) }
     ensures apart { goes_out (Some command) ≡ false → outside.new ≡ outside.old }
@@ -176,6 +178,7 @@ where
 }
 
 /// The answer of a command that reads, whose input is all that the source gives.
+#[tactic(auto, using(crate::proofs::Doors::still_joined))]
 fn answer_read<
     R: Threads + Wait + Copy + Send + 'static,
     S: Source,
@@ -205,6 +208,7 @@ where
     ensures later { S.faults source.old ≤ S.faults source.new }
     ensures door { IsSome outside.new.door ⊎ Rose (P.faults outside.old.spawner) (P.faults outside.new.spawner) }
     ensures kept { AreKept (record { before = ⟦<Outside<D, L, C, E, P> as Surroundings>⟧.view outside.old; behind = ⟦<Outside<D, L, C, E, P> as Surroundings>⟧.view outside.new }) }
+    ensures joined { AreJoined (record { before = ⟦<Outside<D, L, C, E, P> as Surroundings>⟧.view outside.old; behind = ⟦<Outside<D, L, C, E, P> as Surroundings>⟧.view outside.new }) }
     ensures returned { IsBack (record { before = ⟦<Outside<D, L, C, E, P> as Surroundings>⟧.view outside.old; behind = ⟦<Outside<D, L, C, E, P> as Surroundings>⟧.view outside.new }) }
     ensures stays { serves (Some command) ≡ false → (outside.new.door ≡ outside.old.door) × (outside.new.spawner ≡ outside.old.spawner) }
     ensures apart { goes_out (Some command) ≡ false → outside.new ≡ outside.old }
@@ -218,6 +222,7 @@ where
 }
 
 /// The answer to these words. The source is read where they ask for a command that reads, and otherwise left as it is.
+#[tactic(auto, using(crate::proofs::Doors::still_joined))]
 pub fn due<
     R: Threads + Wait + Copy + Send + 'static,
     S: Source,
@@ -246,6 +251,7 @@ where
     ensures unread { reads (asked words.now) ≡ false → source.new ≡ source.old }
     ensures door { IsSome outside.new.door ⊎ Rose (P.faults outside.old.spawner) (P.faults outside.new.spawner) }
     ensures kept { AreKept (record { before = ⟦<Outside<D, L, C, E, P> as Surroundings>⟧.view outside.old; behind = ⟦<Outside<D, L, C, E, P> as Surroundings>⟧.view outside.new }) }
+    ensures joined { AreJoined (record { before = ⟦<Outside<D, L, C, E, P> as Surroundings>⟧.view outside.old; behind = ⟦<Outside<D, L, C, E, P> as Surroundings>⟧.view outside.new }) }
     ensures returned { IsBack (record { before = ⟦<Outside<D, L, C, E, P> as Surroundings>⟧.view outside.old; behind = ⟦<Outside<D, L, C, E, P> as Surroundings>⟧.view outside.new }) }
     ensures stays { serves (asked words.now) ≡ false → (outside.new.door ≡ outside.old.door) × (outside.new.spawner ≡ outside.old.spawner) }
     ensures apart { goes_out (asked words.now) ≡ false → outside.new ≡ outside.old }

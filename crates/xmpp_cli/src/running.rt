@@ -7,7 +7,7 @@ ghost use Rattle.xmpp_report.specs.ReportText.{text_of};
 ghost use Rattle.xmpp_report.specs.Reports.{ReportView};
 ghost use Rattle.xmpp_schedule.specs.Kinds.{IsSchedule, schedule_text};
 ghost use Rattle.xmpp_schedule.specs.declared.schedule.Schedule.{Schedule};
-ghost use Rattle.xmpp_cli.specs.Dealings.{AreKept, IsBack};
+ghost use Rattle.xmpp_cli.specs.Dealings.{AreJoined, AreKept, IsBack};
 ghost use Rattle.xmpp_cli.specs.Words.{asked, goes_out, reads, serves};
 ghost use Rattle.xmpp_cli.specs.Table.{code_of, is_status, IsReportOf, Due, MustAnswer, generated_summary};
 
@@ -61,6 +61,7 @@ where
     ensures unread { reads (asked words.now) ≡ false → source.new ≡ source.old }
     ensures door { IsSome outside.new.door ⊎ Rose (P.faults outside.old.spawner) (P.faults outside.new.spawner) }
     ensures kept { AreKept (record { before = ⟦<Outside<D, L, C, E, P> as Surroundings>⟧.view outside.old; behind = ⟦<Outside<D, L, C, E, P> as Surroundings>⟧.view outside.new }) }
+    ensures joined { AreJoined (record { before = ⟦<Outside<D, L, C, E, P> as Surroundings>⟧.view outside.old; behind = ⟦<Outside<D, L, C, E, P> as Surroundings>⟧.view outside.new }) }
     ensures returned { IsBack (record { before = ⟦<Outside<D, L, C, E, P> as Surroundings>⟧.view outside.old; behind = ⟦<Outside<D, L, C, E, P> as Surroundings>⟧.view outside.new }) }
     ensures stays { serves (asked words.now) ≡ false → (outside.new.door ≡ outside.old.door) × (outside.new.spawner ≡ outside.old.spawner) }
     ensures apart { goes_out (asked words.now) ≡ false → outside.new ≡ outside.old }
@@ -152,6 +153,8 @@ where
     // The links that were given back to the door stand behind those that were there; that these are all that it handed out is
     // said with the text that is due. The link that the dialer handed out was given back to it.
     ensures given_back { AreKept (record { before = ⟦<Outside<D, L, C, E, P> as Surroundings>⟧.view outside.old; behind = ⟦<Outside<D, L, C, E, P> as Surroundings>⟧.view outside.new }) }
+    // No thread that was started is lost: each was joined, and the link of each reader was given back to the door.
+    ensures joined { AreJoined (record { before = ⟦<Outside<D, L, C, E, P> as Surroundings>⟧.view outside.old; behind = ⟦<Outside<D, L, C, E, P> as Surroundings>⟧.view outside.new }) }
     ensures returned { IsBack (record { before = ⟦<Outside<D, L, C, E, P> as Surroundings>⟧.view outside.old; behind = ⟦<Outside<D, L, C, E, P> as Surroundings>⟧.view outside.new }) }
     ensures stays { serves (asked words.now) ≡ false → (outside.new.door ≡ outside.old.door) × (outside.new.spawner ≡ outside.old.spawner) }
     ensures apart { goes_out (asked words.now) ≡ false → outside.new ≡ outside.old }

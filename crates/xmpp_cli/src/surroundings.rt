@@ -1,7 +1,7 @@
 //! What a call has to do with the outside.
 ghost use Rattle.std.specs.Prelude.{◌≡◌, ◌⊎◌, IfOk, IsSome, Some};
 ghost use Rattle.xmpp_edge.specs.Counts.{Rose};
-ghost use Rattle.xmpp_cli.specs.Dealings.{AreKept, IsBack, OutsideView, door_view};
+ghost use Rattle.xmpp_cli.specs.Dealings.{AreJoined, AreKept, IsBack, OutsideView, door_view};
 ghost use Rattle.xmpp_cli.specs.Table.{IsAnswer};
 ghost use Rattle.xmpp_cli.specs.Tellings.{Tells};
 ghost use Rattle.xmpp_cli.specs.declared.command.Command.TheVariants.{Serve, Sync};
@@ -34,6 +34,7 @@ impl<D: Halves, L: Dialer, C: Clock, E: Entropy, P: Spawner> Surroundings
       drawn = E.bytes s.entropy;
       draws = E.faults s.entropy;
       starts = P.faults s.spawner;
+      started = P.started s.spawner;
     } };
 }
 
@@ -58,6 +59,7 @@ fn told(alloc: Global, served: Result<Bytes, HubFault>) -> Result<Answer, NoMemo
 }
 
 /// Serves so many connections to a port, at the same time, as a server of these accounts.
+#[tactic(auto, using(crate::proofs::Doors::served_joined))]
 pub fn serve<
     R: Threads + Wait + Copy + Send + 'static,
     I: Incoming + Drop + Send + 'static,
@@ -82,6 +84,7 @@ where
         (record { before = ⟦<Outside<D, L, C, E, P> as Surroundings>⟧.view outside.old; behind = ⟦<Outside<D, L, C, E, P> as Surroundings>⟧.view outside.new }) answer.outcome answer.text.items) }
     ensures door { IsSome outside.new.door ⊎ Rose (P.faults outside.old.spawner) (P.faults outside.new.spawner) }
     ensures kept { AreKept (record { before = ⟦<Outside<D, L, C, E, P> as Surroundings>⟧.view outside.old; behind = ⟦<Outside<D, L, C, E, P> as Surroundings>⟧.view outside.new }) }
+    ensures joined { AreJoined (record { before = ⟦<Outside<D, L, C, E, P> as Surroundings>⟧.view outside.old; behind = ⟦<Outside<D, L, C, E, P> as Surroundings>⟧.view outside.new }) }
     ensures dialer { outside.new.dialer ≡ outside.old.dialer }
 {
     match outside.door.take() {

@@ -57,7 +57,7 @@ module _ {R I P : Type 0} where
 
 module _ {R I O P : Type 0} (told : I → IncomingView) (out : O → OutgoingView) where
   -- the links of readers that were joined after a fault
-  pub left_many : (places : List (Place R I P)) (senders : List (Sender O)) (links : List LinkView) → AreLeft told out places senders links → length links ≡ readers_in places
+  left_many : (places : List (Place R I P)) (senders : List (Sender O)) (links : List LinkView) → AreLeft told out places senders links → length links ≡ readers_in places
   unfolding count_some
   left_many [] senders [] left = refl
   left_many [] senders (l ∷ ls) left = absurd left
@@ -70,6 +70,9 @@ module _ {R I O P : Type 0} (told : I → IncomingView) (out : O → OutgoingVie
       first (Some job) [] links others left = absurd left
       first (Some job) (s ∷ ss) [] others left = absurd left
       first (Some job) (s ∷ ss) (l ∷ ls) others left = ap suc (others ss ls left.1)
+
+  pub left_more : (places : List (Place R I P)) (senders : List (Sender O)) (old new : List LinkView) → ((links : List LinkView) × (new ≡ old ++ links) × AreLeft told out places senders links) → AreMore (readers_in places) old new
+  left_more places senders old new left = (left.0, left.1, left_many places senders left.0 left.2)
 
   -- those of all readers, once each has ended
   pub back_many : (got : List (Item P)) (places : List (Place R I P)) (senders : List (Sender O)) (old new links : List LinkView) → AreBack told out got 1 places senders links → new ≡ old ++ links → are_started places ≡ true

@@ -1,7 +1,9 @@
 //! Readers are joined, and links given back, whatever failed.
 ghost use Rattle.std.specs.Prelude.{◌≡◌, ◌++◌, ◌≤◌, ℕ, List, IfSome, length};
 ghost use Rattle.xmpp_hub.specs.Backs.{AreLeft, ArePaired};
+ghost use Rattle.xmpp_hub.specs.Joined.{AreMore};
 ghost use Rattle.xmpp_outside.specs.Links.{LinkView};
+ghost use Rattle.xmpp_owner.specs.StartedReaders.{readers_in};
 
 use std::collections::VecDeque;
 use std::sync::Wait;
@@ -21,6 +23,7 @@ pub(crate) fn give_back<
 >(rt: &R, places: Vec<Place<R, I, Pair<I, O>>>, senders: Vec<Sender<O>>, door: &mut D)
     requires { ArePaired I.told O.told places.items senders.items }
     ensures given { (links : List LinkView) × (D.given door.new ≡ D.given door.old ++ links) × AreLeft I.told O.told places.items senders.items links }
+    ensures readers { AreMore (readers_in places.items) (D.given door.old) (D.given door.new) }
     ensures faults { D.faults door.new ≡ D.faults door.old }
     ensures handed { D.handed door.new ≡ D.handed door.old }
 {

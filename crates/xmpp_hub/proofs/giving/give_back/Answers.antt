@@ -1,6 +1,7 @@
 use Rattle.std.proofs.Common.{◌∙◌, ap, arith, refl, subst}
 use Rattle.std.specs.Vec.Iter.{into_iter_items}
 use Rattle.xmpp_hub.proofs.Backs.{left_all, left_empty, left_first, left_next, left_none, paired_begin, paired_empty, paired_first, paired_none, paired_rest}
+use Rattle.xmpp_hub.proofs.JoinedReaders.{left_more}
 use Rattle.xmpp_hub.proofs.giving.give_back.Goals as goal
 use Rattle.xmpp_readers.specs.Readers.{HasRead}
 
@@ -69,3 +70,9 @@ returns-clause-given g c =
     let at = c.loop-place in let none = at.place-iterator.rest.ok in let over = c.in-None.ensures.steps.0 in
     left_all g.I.Incoming.told g.O.Outgoing.told c.args.places.items (into_iter_items at.place-iterator) c.args.senders.items at.senders.items
     (g.D.Door.given c.args.door.now) (g.D.Door.given at.door) at.invariant.given (omega (arith, none, over))
+
+pub returns-clause-readers : goal.returns-clause-readers
+returns-clause-readers g c =
+    let at = c.loop-place in let none = at.place-iterator.rest.ok in let over = c.in-None.ensures.steps.0 in let given = g.D.Door.given in
+    left_more g.I.Incoming.told g.O.Outgoing.told c.args.places.items c.args.senders.items (given c.args.door.now) (given at.door)
+    (left_all g.I.Incoming.told g.O.Outgoing.told c.args.places.items (into_iter_items at.place-iterator) c.args.senders.items at.senders.items (given c.args.door.now) (given at.door) at.invariant.given (omega (arith, none, over)))
