@@ -1,6 +1,6 @@
 //! A slice's front of bytes of a class, and what is behind it.
 ghost use Rattle.std.specs.Prelude.{◌≡◌, ◌<◌, ◌==◌, not};
-ghost use Rattle.std.specs.List.{prefix_len};
+ghost use Rattle.std.specs.List.{list_all, prefix_len};
 ghost use Rattle.xmpp_tokens.specs.Characters;
 ghost use Rattle.xmpp_tokens.specs.Fronts.{front, behind};
 ghost use Rattle.xmpp_tokens.specs.Spelling;
@@ -143,11 +143,11 @@ pub(crate) fn goes_no_further(bytes: &[u8]) -> bool
     }
 }
 
-// Whether a text is written with a byte as it is.
+// Whether a text is written with a byte as it is. It has no branches.
 pub(crate) fn is_text_plain(b: u8) -> bool
     ensures { result ≡ Spelling.is_text_plain b }
 {
-    b != b'&' && b != b'<' && b != b'>' && b != b'\r'
+    (b != b'&') & (b != b'<') & (b != b'>') & (b != b'\r')
 }
 
 fn text_plain_len(bytes: &[u8]) -> usize
@@ -165,11 +165,11 @@ fn split_text_plain(bytes: &[u8]) -> (&[u8], &[u8])
     bytes.split_at(text_plain_len(bytes))
 }
 
-// Whether a value is written with a byte as it is.
+// Whether a value is written with a byte as it is. It has no branches.
 pub(crate) fn is_value_plain(b: u8) -> bool
     ensures { result ≡ Spelling.is_value_plain b }
 {
-    is_text_plain(b) && b != b'\'' && b != b'\t' && b != b'\n'
+    is_text_plain(b) & (b != b'\'') & (b != b'\t') & (b != b'\n')
 }
 
 fn value_plain_len(bytes: &[u8]) -> usize
@@ -195,5 +195,37 @@ pub(crate) fn split_plain_as(form: Written, bytes: &[u8]) -> (&[u8], &[u8])
     match form {
         Written::Text => split_text_plain(bytes),
         Written::Value => split_value_plain(bytes),
+    }
+}
+
+// Whether each byte is one that a text is written with as it is. No byte ends the loop, so that it can become vector code.
+pub(crate) fn are_text_plain(bytes: &[u8]) -> bool
+    ensures { result ≡ list_all Spelling.is_text_plain bytes.now }
+{
+    let mut plain = true;
+    for b in bytes {
+        plain &= is_text_plain(*b);
+    }
+    plain
+}
+
+// Whether each byte is one that a value is written with as it is. No byte ends the loop, so that it can become vector code.
+pub(crate) fn are_value_plain(bytes: &[u8]) -> bool
+    ensures { result ≡ list_all Spelling.is_value_plain bytes.now }
+{
+    let mut plain = true;
+    for b in bytes {
+        plain &= is_value_plain(*b);
+    }
+    plain
+}
+
+// Whether each byte is written as it is.
+pub(crate) fn are_plain_as(form: Written, bytes: &[u8]) -> bool
+    ensures { result ≡ list_all (Spelling.is_plain_as form) bytes.now }
+{
+    match form {
+        Written::Text => are_text_plain(bytes),
+        Written::Value => are_value_plain(bytes),
     }
 }
