@@ -1,5 +1,5 @@
 //! A slice's front of bytes of a class, and what is behind it.
-ghost use Rattle.std.specs.Prelude.{◌≡◌, ◌<◌, ◌==◌, not};
+ghost use Rattle.std.specs.Prelude.{◌≡◌, ◌<◌, ◌==◌, true, not};
 ghost use Rattle.std.specs.List.{list_all, prefix_len};
 ghost use Rattle.xmpp_tokens.specs.Characters;
 ghost use Rattle.xmpp_tokens.specs.Fronts.{front, behind};
@@ -8,7 +8,7 @@ ghost use Rattle.xmpp_tokens.specs.Tags;
 ghost use Rattle.xmpp_tokens.specs.Tags.{is_empty};
 ghost use Rattle.xmpp_tokens.specs.Values;
 
-use crate::characters::{is_letter, is_name_byte, is_white};
+use crate::characters::{is_ascii_name_byte, is_name_byte, is_white};
 use crate::written::Written;
 use memchr::memchr;
 
@@ -117,28 +117,29 @@ pub(crate) fn split_qualified(bytes: &[u8]) -> (&[u8], &[u8])
     bytes.split_at(qualified_len(bytes))
 }
 
-fn letters_len(bytes: &[u8]) -> usize
-    ensures { result ≡ prefix_len Characters.is_letter bytes.now }
+fn ascii_name_len(bytes: &[u8]) -> usize
+    ensures { result ≡ prefix_len Characters.is_ascii_name_byte bytes.now }
 {
-    bytes.iter().take_while(|b| is_letter(**b)).count()
+    bytes.iter().take_while(|b| is_ascii_name_byte(**b)).count()
 }
 
-// The letters, and the rest.
+// The bytes of ASCII that go on a name, and the rest.
 #[tactic(auto, using(crate::proofs::Splits::take_prefix, crate::proofs::Splits::drop_prefix, crate::proofs::Splits::prefix_within))]
-pub(crate) fn split_letters(bytes: &[u8]) -> (&[u8], &[u8])
-    ensures front { result.0.now ≡ front Characters.is_letter bytes.now }
-    ensures behind { result.1.now ≡ behind Characters.is_letter bytes.now }
+pub(crate) fn split_ascii_name(bytes: &[u8]) -> (&[u8], &[u8])
+    ensures front { result.0.now ≡ front Characters.is_ascii_name_byte bytes.now }
+    ensures behind { result.1.now ≡ behind Characters.is_ascii_name_byte bytes.now }
 {
-    bytes.split_at(letters_len(bytes))
+    bytes.split_at(ascii_name_len(bytes))
 }
 
-// Whether no byte at the front goes on a name or is a colon.
-#[tactic(auto, using(crate::proofs::Splits::none_in_front))]
+// Whether no byte at the front goes on a name or is a colon, where none of ASCII goes on one.
+#[tactic(auto, using(crate::proofs::AsciiNames::goes_on_no_name))]
 pub(crate) fn goes_no_further(bytes: &[u8]) -> bool
+    requires { is_empty (front Characters.is_ascii_name_byte bytes.now) ≡ true }
     ensures { result ≡ is_empty (front Tags.is_qualified_byte bytes.now) }
 {
     match bytes.split_first() {
-        Some((first, _)) => !is_qualified_byte(*first),
+        Some((first, _)) => *first < 128 && *first != b':',
         None => true,
     }
 }
