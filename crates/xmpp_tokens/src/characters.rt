@@ -6,7 +6,7 @@ ghost use Rattle.xmpp_tokens.specs.Characters;
 pub fn is_white(b: u8) -> bool
     ensures { result ≡ Characters.is_white b }
 {
-    b == b' ' || b == b'\t' || b == b'\n' || b == b'\r'
+    b <= b' ' && (b == b' ' || b == b'\t' || b == b'\n' || b == b'\r')
 }
 
 // Whether a byte is an ASCII letter.

@@ -1,5 +1,5 @@
 //! A slice's front of bytes of a class, and what is behind it.
-ghost use Rattle.std.specs.Prelude.{◌≡◌, ◌<◌, ◌==◌, true, not};
+ghost use Rattle.std.specs.Prelude.{◌≡◌, ◌<◌, ◌≤◌, ◌==◌, true, not, length};
 ghost use Rattle.std.specs.List.{list_all, prefix_len};
 ghost use Rattle.xmpp_tokens.specs.Characters;
 ghost use Rattle.xmpp_tokens.specs.Fronts.{front, behind};
@@ -11,6 +11,9 @@ ghost use Rattle.xmpp_tokens.specs.Values;
 use crate::characters::{is_ascii_name_byte, is_name_byte, is_white};
 use crate::written::Written;
 use memchr::memchr;
+
+/// So many bytes are looked at together, by vector code, before they are looked at one by one.
+const AT_ONCE: usize = 16;
 
 fn name_len(bytes: &[u8]) -> usize
     ensures { result ≡ prefix_len Characters.is_name_byte bytes.now }
@@ -151,10 +154,22 @@ pub(crate) fn is_text_plain(b: u8) -> bool
     (b != b'&') & (b != b'<') & (b != b'>') & (b != b'\r')
 }
 
+#[tactic(auto, using(crate::proofs::Splits::prefix_within))]
+fn text_plain_near(bytes: &[u8]) -> usize
+    ensures len { result ≡ prefix_len Spelling.is_text_plain bytes.now }
+    ensures bound { result ≤ length bytes.now }
+{
+    bytes.iter().take_while(|b| is_text_plain(**b)).count()
+}
+
 fn text_plain_len(bytes: &[u8]) -> usize
     ensures { result ≡ prefix_len Spelling.is_text_plain bytes.now }
 {
-    bytes.iter().take_while(|b| is_text_plain(**b)).count()
+    let mut done = 0;
+    while bytes.len() - done >= AT_ONCE && are_text_plain(&bytes[done..done + AT_ONCE]) {
+        done += AT_ONCE;
+    }
+    done + text_plain_near(&bytes[done..])
 }
 
 // The bytes that a text is written with as they are, and the rest.
@@ -173,10 +188,22 @@ pub(crate) fn is_value_plain(b: u8) -> bool
     is_text_plain(b) & (b != b'\'') & (b != b'\t') & (b != b'\n')
 }
 
+#[tactic(auto, using(crate::proofs::Splits::prefix_within))]
+fn value_plain_near(bytes: &[u8]) -> usize
+    ensures len { result ≡ prefix_len Spelling.is_value_plain bytes.now }
+    ensures bound { result ≤ length bytes.now }
+{
+    bytes.iter().take_while(|b| is_value_plain(**b)).count()
+}
+
 fn value_plain_len(bytes: &[u8]) -> usize
     ensures { result ≡ prefix_len Spelling.is_value_plain bytes.now }
 {
-    bytes.iter().take_while(|b| is_value_plain(**b)).count()
+    let mut done = 0;
+    while bytes.len() - done >= AT_ONCE && are_value_plain(&bytes[done..done + AT_ONCE]) {
+        done += AT_ONCE;
+    }
+    done + value_plain_near(&bytes[done..])
 }
 
 // The bytes that a value is written with as they are, and the rest.
