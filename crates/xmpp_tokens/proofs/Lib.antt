@@ -1,7 +1,7 @@
 -- ---- characters, UTF-8 and fronts of bytes
 pub mod CharacterLaws
+pub mod AsciiNames
 pub mod NameCharacters
-pub mod LetterNames
 pub mod Splits
 pub mod Texts
 pub mod UntilLens

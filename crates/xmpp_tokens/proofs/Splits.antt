@@ -1,6 +1,7 @@
 -- The front and what is behind it.
-use Rattle.std.proofs.Common.{◌≡◌, ℕ, suc, ◌+◌, ◌≤◌, Bool, true, false, cond, not, List, [], ◌∷◌, ◌++◌, length, take, drop, refl, sym, ap, ◌∙◌, arith, ⊎_elim}
+use Rattle.std.proofs.Common.{◌≡◌, ℕ, zero, suc, ◌+◌, ◌-◌, ◌≤◌, Bool, true, false, cond, not, List, [], ◌∷◌, ◌++◌, length, take, drop, length-drop, refl, sym, ap, ◌∙◌, arith, ⊎_elim}
 use Rattle.std.proofs.lemmas.Bool.{cases_Bool, and_parts, and_from, not-true}
+use Rattle.std.proofs.lemmas.List.{drop-drop}
 use Rattle.std.specs.List.{prefix_len, list_all}
 use Rattle.xmpp_tokens.specs.Fronts.{front, behind}
 use Rattle.xmpp_tokens.specs.Tags.{is_empty}
@@ -25,6 +26,23 @@ pub prefix_within : {X : Type 0} (p : X → Bool) (xs : List X) → prefix_len p
 prefix_within p [] = omega arith
 prefix_within p (x ∷ xs) =
     ⊎_elim (λ (t : p x ≡ true). let ih = prefix_within p xs in rw t (omega arith)) (λ (f : p x ≡ false). rw f (omega arith)) (cases_Bool (p x))
+
+prefix_behind : {X : Type 0} (p : X → Bool) (n : ℕ) (xs : List X) → n ≤ length xs → list_all p (take n xs) ≡ true → n + prefix_len p (drop n xs) ≡ prefix_len p xs
+prefix_behind p zero xs within h = omega arith
+prefix_behind p (suc n) [] within h = omega arith
+prefix_behind p (suc n) (x ∷ xs) within h =
+    let q = and_parts (p x) _ h in
+    let less : n ≤ length xs = omega arith in
+    let ih = prefix_behind p n xs less q.1 in
+    rw q.0 (omega arith)
+
+-- what passes behind a place where all have passed
+pub prefix_further : (p : ℕ → Bool) (done to : ℕ) (xs : List ℕ) → done ≤ to → to ≤ length xs → list_all p (take (to - done) (drop done xs)) ≡ true
+    → to - done + prefix_len p (drop to xs) ≡ prefix_len p (drop done xs)
+prefix_further p done to xs further within h =
+    let left : to - done ≤ length (drop done xs) = omega (arith, length-drop done xs) in
+    let e : to ≡ done + (to - done) = omega arith in
+    ap (λ l. to - done + prefix_len p l) (ap (λ k. drop k xs) e ∙ sym (drop-drop (to - done) done xs)) ∙ prefix_behind p (to - done) (drop done xs) left h
 
 -- both together are the list
 pub joined : {X : Type 0} (p : X → Bool) (xs : List X) → front p xs ++ behind p xs ≡ xs

@@ -24,6 +24,14 @@ is_name_start b = is_letter b || (b == 95 || nat_le 128 b)
 abbrev pub is_name_byte : ℕ → Bool
 is_name_byte b = is_name_start b || (is_digit b || (b == 45 || b == 46))
 
+-- one of ASCII
+abbrev pub is_ascii_name_byte : ℕ → Bool
+is_ascii_name_byte b = is_name_byte b && nat_lt b 128
+
+abbrev pub begins_as_name : List ℕ → Bool
+begins_as_name [] = false
+begins_as_name (b ∷ bs) = is_name_start b
+
 -- the characters of XML (2.2, Char)
 abbrev pub is_character : ℕ → Bool
 is_character c = c == 9 || (c == 10 || (c == 13 || (is_in_range 32 55295 c || (is_in_range 57344 65533 c || is_in_range 65536 1114111 c))))

@@ -1,16 +1,14 @@
 //! An attribute as it is spelled, read off the bytes of a tag.
 ghost use Rattle.std.specs.Prelude.{◌≡◌, Some, None, if◌then◌else◌};
-ghost use Rattle.std.specs.List.{list_all};
 ghost use Rattle.std.specs.Option.{option_map};
-ghost use Rattle.xmpp_tokens.specs.Characters;
 ghost use Rattle.xmpp_tokens.specs.Fronts.{front, behind};
 ghost use Rattle.xmpp_tokens.specs.Tags;
 ghost use Rattle.xmpp_tokens.specs.Values.{as_text};
 ghost use Rattle.xmpp_tokens.specs.SpelledView.{spelled_view};
 
-use crate::characters::{is_letter, is_name};
+use crate::characters::{begins_as_name, is_name};
 use crate::fronts::{
-    goes_no_further, split_colon, split_letters, split_qualified, split_until, split_white,
+    goes_no_further, split_ascii_name, split_colon, split_qualified, split_until, split_white,
 };
 use xmpp_edge::ascii_str;
 
@@ -39,21 +37,10 @@ fn is_behind_colon(bytes: &[u8]) -> bool
     }
 }
 
-// Whether each byte is an ASCII letter.
-fn are_letters(bytes: &[u8]) -> bool
-    ensures { result ≡ list_all Characters.is_letter bytes.now }
-{
-    bytes.iter().all(|b| is_letter(*b))
-}
-
-// Whether bytes are a name or two with a colon between, if they are UTF-8. Letters are told at once.
-#[tactic(auto, using(crate::proofs::LetterNames::letters_have_parts))]
+// Whether bytes are a name or two with a colon between, if they are UTF-8.
 fn has_parts(name: &[u8]) -> bool
     ensures { result ≡ Tags.has_parts name.now }
 {
-    if !name.is_empty() && are_letters(name) {
-        return true;
-    }
     let (prefix, rest) = split_colon(name);
     is_name(prefix) && is_behind_colon(rest)
 }
@@ -76,17 +63,17 @@ fn qualified(name: &[u8]) -> Option<&str>
     if has_parts(name) { text_of(name) } else { None }
 }
 
-// The text of the qualified name that bytes begin with, if they do, and what is behind its bytes. Most names are of letters
-// alone, and so are ASCII.
-#[tactic(auto, using(crate::proofs::LetterNames::letters_ascii, crate::proofs::LetterNames::letters_named, crate::proofs::LetterNames::letters_in_front))]
+// The text of the qualified name that bytes begin with, if they do, and what is behind its bytes. Most names are of ASCII
+// and have no colon.
+#[tactic(auto, using(crate::proofs::AsciiNames::stops_behind, crate::proofs::AsciiNames::front_ascii, crate::proofs::AsciiNames::front_named, crate::proofs::AsciiNames::front_alone))]
 pub(crate) fn split_named(bytes: &[u8]) -> (Option<&str>, &[u8])
     ensures name { option_map (λ s. s.now) result.0
         ≡ (if Tags.is_qualified (front Tags.is_qualified_byte bytes.now) then Some (front Tags.is_qualified_byte bytes.now) else None) }
     ensures rest { result.1.now ≡ behind Tags.is_qualified_byte bytes.now }
 {
-    let (letters, rest) = split_letters(bytes);
-    if !letters.is_empty() && goes_no_further(rest) {
-        return (Some(ascii_str(letters)), rest);
+    let (name, rest) = split_ascii_name(bytes);
+    if begins_as_name(name) && goes_no_further(rest) {
+        return (Some(ascii_str(name)), rest);
     }
     let (name, rest) = split_qualified(bytes);
     (qualified(name), rest)

@@ -6,7 +6,7 @@ ghost use Rattle.xmpp_tokens.specs.Characters;
 pub fn is_white(b: u8) -> bool
     ensures { result ≡ Characters.is_white b }
 {
-    b == b' ' || b == b'\t' || b == b'\n' || b == b'\r'
+    b <= b' ' && (b == b' ' || b == b'\t' || b == b'\n' || b == b'\r')
 }
 
 // Whether a byte is an ASCII letter.
@@ -28,6 +28,23 @@ pub fn is_name_byte(b: u8) -> bool
     ensures { result ≡ Characters.is_name_byte b }
 {
     is_name_start(b) || b.is_ascii_digit() || b == b'-' || b == b'.'
+}
+
+// Whether a name may go on with a byte, and it is of ASCII. Letters are told first.
+pub(crate) fn is_ascii_name_byte(b: u8) -> bool
+    ensures { result ≡ Characters.is_ascii_name_byte b }
+{
+    is_letter(b) || b.is_ascii_digit() || b == b'_' || b == b'-' || b == b'.'
+}
+
+// Whether bytes begin as a name does.
+pub(crate) fn begins_as_name(bytes: &[u8]) -> bool
+    ensures { result ≡ Characters.begins_as_name bytes.now }
+{
+    match bytes.split_first() {
+        Some((first, _)) => is_name_start(*first),
+        None => false,
+    }
 }
 
 /// Whether a byte is a control character that is none of XML's (section 2.2).

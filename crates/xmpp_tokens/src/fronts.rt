@@ -1,6 +1,6 @@
 //! A slice's front of bytes of a class, and what is behind it.
-ghost use Rattle.std.specs.Prelude.{◌≡◌, ◌<◌, ◌==◌, not};
-ghost use Rattle.std.specs.List.{prefix_len};
+ghost use Rattle.std.specs.Prelude.{◌≡◌, ◌<◌, ◌≤◌, ◌==◌, true, not, length};
+ghost use Rattle.std.specs.List.{list_all, prefix_len};
 ghost use Rattle.xmpp_tokens.specs.Characters;
 ghost use Rattle.xmpp_tokens.specs.Fronts.{front, behind};
 ghost use Rattle.xmpp_tokens.specs.Spelling;
@@ -8,9 +8,12 @@ ghost use Rattle.xmpp_tokens.specs.Tags;
 ghost use Rattle.xmpp_tokens.specs.Tags.{is_empty};
 ghost use Rattle.xmpp_tokens.specs.Values;
 
-use crate::characters::{is_letter, is_name_byte, is_white};
+use crate::characters::{is_ascii_name_byte, is_name_byte, is_white};
 use crate::written::Written;
 use memchr::memchr;
+
+/// So many bytes are looked at together, by vector code, before they are looked at one by one.
+const AT_ONCE: usize = 16;
 
 fn name_len(bytes: &[u8]) -> usize
     ensures { result ≡ prefix_len Characters.is_name_byte bytes.now }
@@ -117,43 +120,56 @@ pub(crate) fn split_qualified(bytes: &[u8]) -> (&[u8], &[u8])
     bytes.split_at(qualified_len(bytes))
 }
 
-fn letters_len(bytes: &[u8]) -> usize
-    ensures { result ≡ prefix_len Characters.is_letter bytes.now }
+fn ascii_name_len(bytes: &[u8]) -> usize
+    ensures { result ≡ prefix_len Characters.is_ascii_name_byte bytes.now }
 {
-    bytes.iter().take_while(|b| is_letter(**b)).count()
+    bytes.iter().take_while(|b| is_ascii_name_byte(**b)).count()
 }
 
-// The letters, and the rest.
+// The bytes of ASCII that go on a name, and the rest.
 #[tactic(auto, using(crate::proofs::Splits::take_prefix, crate::proofs::Splits::drop_prefix, crate::proofs::Splits::prefix_within))]
-pub(crate) fn split_letters(bytes: &[u8]) -> (&[u8], &[u8])
-    ensures front { result.0.now ≡ front Characters.is_letter bytes.now }
-    ensures behind { result.1.now ≡ behind Characters.is_letter bytes.now }
+pub(crate) fn split_ascii_name(bytes: &[u8]) -> (&[u8], &[u8])
+    ensures front { result.0.now ≡ front Characters.is_ascii_name_byte bytes.now }
+    ensures behind { result.1.now ≡ behind Characters.is_ascii_name_byte bytes.now }
 {
-    bytes.split_at(letters_len(bytes))
+    bytes.split_at(ascii_name_len(bytes))
 }
 
-// Whether no byte at the front goes on a name or is a colon.
-#[tactic(auto, using(crate::proofs::Splits::none_in_front))]
+// Whether no byte at the front goes on a name or is a colon, where none of ASCII goes on one.
+#[tactic(auto, using(crate::proofs::AsciiNames::goes_on_no_name))]
 pub(crate) fn goes_no_further(bytes: &[u8]) -> bool
+    requires { is_empty (front Characters.is_ascii_name_byte bytes.now) ≡ true }
     ensures { result ≡ is_empty (front Tags.is_qualified_byte bytes.now) }
 {
     match bytes.split_first() {
-        Some((first, _)) => !is_qualified_byte(*first),
+        Some((first, _)) => *first < 128 && *first != b':',
         None => true,
     }
 }
 
-// Whether a text is written with a byte as it is.
+// Whether a text is written with a byte as it is. It has no branches.
 pub(crate) fn is_text_plain(b: u8) -> bool
     ensures { result ≡ Spelling.is_text_plain b }
 {
-    b != b'&' && b != b'<' && b != b'>' && b != b'\r'
+    (b != b'&') & (b != b'<') & (b != b'>') & (b != b'\r')
+}
+
+#[tactic(auto, using(crate::proofs::Splits::prefix_within))]
+fn text_plain_near(bytes: &[u8]) -> usize
+    ensures len { result ≡ prefix_len Spelling.is_text_plain bytes.now }
+    ensures bound { result ≤ length bytes.now }
+{
+    bytes.iter().take_while(|b| is_text_plain(**b)).count()
 }
 
 fn text_plain_len(bytes: &[u8]) -> usize
     ensures { result ≡ prefix_len Spelling.is_text_plain bytes.now }
 {
-    bytes.iter().take_while(|b| is_text_plain(**b)).count()
+    let mut done = 0;
+    while bytes.len() - done >= AT_ONCE && are_text_plain(&bytes[done..done + AT_ONCE]) {
+        done += AT_ONCE;
+    }
+    done + text_plain_near(&bytes[done..])
 }
 
 // The bytes that a text is written with as they are, and the rest.
@@ -165,17 +181,29 @@ fn split_text_plain(bytes: &[u8]) -> (&[u8], &[u8])
     bytes.split_at(text_plain_len(bytes))
 }
 
-// Whether a value is written with a byte as it is.
+// Whether a value is written with a byte as it is. It has no branches.
 pub(crate) fn is_value_plain(b: u8) -> bool
     ensures { result ≡ Spelling.is_value_plain b }
 {
-    is_text_plain(b) && b != b'\'' && b != b'\t' && b != b'\n'
+    is_text_plain(b) & (b != b'\'') & (b != b'\t') & (b != b'\n')
+}
+
+#[tactic(auto, using(crate::proofs::Splits::prefix_within))]
+fn value_plain_near(bytes: &[u8]) -> usize
+    ensures len { result ≡ prefix_len Spelling.is_value_plain bytes.now }
+    ensures bound { result ≤ length bytes.now }
+{
+    bytes.iter().take_while(|b| is_value_plain(**b)).count()
 }
 
 fn value_plain_len(bytes: &[u8]) -> usize
     ensures { result ≡ prefix_len Spelling.is_value_plain bytes.now }
 {
-    bytes.iter().take_while(|b| is_value_plain(**b)).count()
+    let mut done = 0;
+    while bytes.len() - done >= AT_ONCE && are_value_plain(&bytes[done..done + AT_ONCE]) {
+        done += AT_ONCE;
+    }
+    done + value_plain_near(&bytes[done..])
 }
 
 // The bytes that a value is written with as they are, and the rest.
@@ -195,5 +223,37 @@ pub(crate) fn split_plain_as(form: Written, bytes: &[u8]) -> (&[u8], &[u8])
     match form {
         Written::Text => split_text_plain(bytes),
         Written::Value => split_value_plain(bytes),
+    }
+}
+
+// Whether each byte is one that a text is written with as it is. No byte ends the loop, so that it can become vector code.
+pub(crate) fn are_text_plain(bytes: &[u8]) -> bool
+    ensures { result ≡ list_all Spelling.is_text_plain bytes.now }
+{
+    let mut plain = true;
+    for b in bytes {
+        plain &= is_text_plain(*b);
+    }
+    plain
+}
+
+// Whether each byte is one that a value is written with as it is. No byte ends the loop, so that it can become vector code.
+pub(crate) fn are_value_plain(bytes: &[u8]) -> bool
+    ensures { result ≡ list_all Spelling.is_value_plain bytes.now }
+{
+    let mut plain = true;
+    for b in bytes {
+        plain &= is_value_plain(*b);
+    }
+    plain
+}
+
+// Whether each byte is written as it is.
+pub(crate) fn are_plain_as(form: Written, bytes: &[u8]) -> bool
+    ensures { result ≡ list_all (Spelling.is_plain_as form) bytes.now }
+{
+    match form {
+        Written::Text => are_text_plain(bytes),
+        Written::Value => are_value_plain(bytes),
     }
 }

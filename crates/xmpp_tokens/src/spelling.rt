@@ -4,7 +4,9 @@ ghost use Rattle.xmpp_tokens.specs.Spelling;
 ghost use Rattle.xmpp_tokens.specs.Spelling.{spelled_text, spelled_value, text_byte, value_byte, written};
 ghost use Rattle.xmpp_tokens.specs.Values.{text};
 
-use crate::fronts::{is_text_plain, is_value_plain, split_plain_as};
+use crate::fronts::{
+    are_plain_as, are_text_plain, are_value_plain, is_text_plain, is_value_plain, split_plain_as,
+};
 use crate::written::Written;
 use xmpp_edge::{Bytes, NoMemory};
 
@@ -46,9 +48,13 @@ fn value_byte_len(b: u8) -> usize
 }
 
 /// The length of a text as it is written, or 2^64 - 1 where that is less. It takes no memory.
+#[tactic(auto, using(crate::proofs::SpellingRuns::text_len_is))]
 pub fn spelled_text_len(bytes: &[u8]) -> usize
     ensures { result ≡ min (length (spelled_text bytes.now)) (2 ^ 64 - 1) }
 {
+    if are_text_plain(bytes) {
+        return bytes.len();
+    }
     let mut len = 0usize;
     for b in bytes {
         len = len.saturating_add(text_byte_len(*b));
@@ -57,9 +63,13 @@ pub fn spelled_text_len(bytes: &[u8]) -> usize
 }
 
 /// The length of a value as it is written, or 2^64 - 1 where that is less. It takes no memory.
+#[tactic(auto, using(crate::proofs::SpellingRuns::value_len_is))]
 pub fn spelled_value_len(bytes: &[u8]) -> usize
     ensures { result ≡ min (length (spelled_value bytes.now)) (2 ^ 64 - 1) }
 {
+    if are_value_plain(bytes) {
+        return bytes.len();
+    }
     let mut len = 0usize;
     for b in bytes {
         len = len.saturating_add(value_byte_len(*b));
@@ -86,12 +96,17 @@ fn append_run<'a>(form: Written, out: &mut Bytes, rest: &'a [u8]) -> &'a [u8]
     }
 }
 
-// Writes a text or a value at the end and takes no memory.
+// Writes a text or a value at the end and takes no memory. Most are written as they are.
+#[tactic(auto, using(crate::proofs::SpellingRuns::plain_written))]
 fn append_written(form: Written, out: &mut Bytes, bytes: &[u8])
     requires { length (written form bytes.now) ≤ out.old.spare }
     ensures items { out.new.items ≡ out.old.items ++ written form bytes.now }
     ensures spare { out.old.spare ≤ out.new.spare + length (written form bytes.now) }
 {
+    if are_plain_as(form, bytes) {
+        out.append_reserved(bytes);
+        return;
+    }
     let mut rest = bytes;
     while !rest.is_empty() {
         rest = append_run(form, out, rest);
