@@ -148,16 +148,22 @@ impl Pieces {
         }
     }
 
+    // How many pieces more there is room for.
+    fn room(&self) -> usize
+        ensures { result ≡ self.now.spare }
+    {
+        self.items.capacity() - self.items.len()
+    }
+
     // Makes room for so many pieces more.
     fn reserve(&mut self, n: usize) -> Result<(), NoMemory>
         ensures ok { OnOk result (n ≤ self.new.spare) }
         ensures reading { self.new.reading ≡ self.old.reading }
     {
-        let len = self.items.len();
-        let there = self.items.capacity();
-        if n > there - len {
-            self.items
-                .reserve_exact(room_for(there, len.saturating_add(n)) - len)?;
+        if n > self.room() {
+            let len = self.items.len();
+            let wanted = room_for(self.items.capacity(), len.saturating_add(n));
+            self.items.reserve_exact(wanted - len)?;
         }
         Ok(())
     }
@@ -185,7 +191,10 @@ impl Pieces {
         ensures ok { OnOk result (self.new.reading ≡ in_namespace self.old.reading ns) }
         ensures err { OnErr result (self.new.reading ≡ self.old.reading) }
     {
-        self.reserve(attrs_pieces(attrs.as_slice()).saturating_add(2))?;
+        let attrs = attrs.as_slice();
+        if self.room() / 3 <= attrs.len() {
+            self.reserve(attrs_pieces(attrs).saturating_add(2))?;
+        }
         self.hold(alloc, ns)?;
         Ok(())
     }
