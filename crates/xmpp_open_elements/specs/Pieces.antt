@@ -53,6 +53,7 @@ step r (piece.Namespace t) = record r { ns = t }
 step r (piece.AttributeName t) = record r { attr_name = t; attr_ns = [] }
 step r (piece.AttributeNamespace t) = record r { attr_ns = t }
 step r (piece.Value t) = with_value r t
+step r (piece.Attributes l) = record r { attrs = l.items }
 step r (piece.Start t) = begun r t
 step r (piece.Leaf t) = with_leaf r t
 step r (piece.Text t) = with_text r t

@@ -123,6 +123,7 @@ impl Building {
             }
             Piece::AttributeNamespace(ns) => self.attr_ns = ns,
             Piece::Value(value) => self.add_attr(alloc, value)?,
+            Piece::Attributes(attrs) => self.attrs = attrs,
             Piece::Start(name) => self.begin(alloc, name)?,
             Piece::Leaf(name) => self.add_leaf(alloc, name)?,
             Piece::Text(content) => self.add_text(content)?,

@@ -1,5 +1,5 @@
 //! The pieces of elements, one behind the other.
-ghost use Rattle.std.specs.Prelude.{◌≡◌, ◌+◌, ◌-◌, ◌^◌, ◌≤◌, [], min, IfOk, OnErr, OnOk, Some};
+ghost use Rattle.std.specs.Prelude.{◌≡◌, ◌+◌, ◌-◌, ◌≤◌, [], IfOk, OnErr, OnOk, Some};
 ghost use Rattle.std.specs.VecDeque.{deque_capacity, deque_len};
 ghost use Rattle.xmpp_open_elements.specs.Building.{reading_of};
 ghost use Rattle.xmpp_open_elements.specs.Nested.{covered};
@@ -20,6 +20,13 @@ const KEPT_PIECES: usize = 64;
 /// Room for so many pieces is taken at first.
 const FIRST_PIECES: usize = 16;
 
+/// Up to so many attributes of a tag are pieces of their own, which take less memory than a list. More are moved in their list:
+/// most of the tags that have some are those of stanzas, which have more.
+const FEW: usize = 2;
+
+/// A tag takes so many pieces at most: one for its namespace, three for each of few attributes, and one for its name.
+const TAG_PIECES: usize = 8;
+
 /// Up to so many pieces room grows by a half of itself, and by an eighth past it.
 const HALF_MORE: usize = 1_024;
 
@@ -35,6 +42,8 @@ pub(crate) enum Piece {
     AttributeNamespace(Text),
     /// The value of an attribute.
     Value(Text),
+    /// All attributes of the element that begins next.
+    Attributes(Attrs),
     /// The name of an element that begins.
     Start(Text),
     /// The name of an element that contains nothing.
@@ -98,17 +107,6 @@ fn has_namespace(attr: &Attr) -> bool
     !attr.ns.as_str().is_empty()
 }
 
-// How many pieces attributes take, or 2^64 - 1 where that is less.
-fn attrs_pieces(attrs: &[Attr]) -> usize
-    ensures { result ≡ min (attrs_pieces attrs.now) (2 ^ 64 - 1) }
-{
-    let mut pieces: usize = 0;
-    for attr in attrs {
-        pieces = pieces.saturating_add(if has_namespace(attr) { 3 } else { 2 });
-    }
-    pieces
-}
-
 // Adds an attribute of the element that begins next. There is room.
 fn push_attr(items: &mut VecDeque<Piece>, attr: Attr)
     requires { deque_len items.old + attr_pieces attr ≤ deque_capacity items.old }
@@ -125,8 +123,8 @@ fn push_attr(items: &mut VecDeque<Piece>, attr: Attr)
     push(items, Piece::Value(value));
 }
 
-// Adds the attributes of the element that begins next. There is room.
-fn push_attrs(items: &mut VecDeque<Piece>, attrs: Attrs)
+// Adds the attributes of the element that begins next, each by itself. There is room.
+fn push_each(items: &mut VecDeque<Piece>, attrs: Attrs)
     requires { deque_len items.old + attrs_pieces attrs.items ≤ deque_capacity items.old }
     ensures said { reading items.new.items ≡ with_attrs (reading items.old.items) attrs.items }
     ensures len { deque_len items.new ≡ deque_len items.old + attrs_pieces attrs.items }
@@ -134,6 +132,25 @@ fn push_attrs(items: &mut VecDeque<Piece>, attrs: Attrs)
 {
     for attr in attrs.into_items() {
         push_attr(items, attr);
+    }
+}
+
+// Adds the attributes of the element that begins next. There is room.
+#[tactic(auto, using(crate::proofs::Said::attrs_after, crate::proofs::Said::attrs_here, crate::proofs::Said::attrs_below, crate::proofs::Said::attrs_ns, crate::proofs::Said::pieces_bound))]
+fn push_attrs(items: &mut VecDeque<Piece>, attrs: Attrs)
+    requires room { deque_len items.old + 6 ≤ deque_capacity items.old }
+    requires none { (reading items.old.items).attrs ≡ [] }
+    ensures attrs { (reading items.new.items).attrs ≡ attrs.items }
+    ensures here { (reading items.new.items).here ≡ (reading items.old.items).here }
+    ensures below { (reading items.new.items).below ≡ (reading items.old.items).below }
+    ensures ns { (reading items.new.items).ns ≡ (reading items.old.items).ns }
+    ensures len { deque_len items.new ≤ deque_len items.old + 6 }
+    ensures capacity { deque_capacity items.new ≡ deque_capacity items.old }
+{
+    if attrs.as_slice().len() > FEW {
+        push(items, Piece::Attributes(attrs));
+    } else {
+        push_each(items, attrs);
     }
 }
 
@@ -184,23 +201,18 @@ impl Pieces {
         Ok(())
     }
 
-    // Makes room for a tag with these attributes, in whose namespace pieces are from here on.
-    #[tactic(auto, using(crate::proofs::Said::pieces_bound))]
-    fn prepare(&mut self, alloc: Global, ns: Text, attrs: &Attrs) -> Result<(), NoMemory>
-        ensures room { OnOk result (attrs_pieces attrs.now.items + 1 ≤ self.new.spare) }
+    // Makes room for a tag, in whose namespace pieces are from here on.
+    fn prepare(&mut self, alloc: Global, ns: Text) -> Result<(), NoMemory>
+        ensures room { OnOk result (7 ≤ self.new.spare) }
         ensures ok { OnOk result (self.new.reading ≡ in_namespace self.old.reading ns) }
         ensures err { OnErr result (self.new.reading ≡ self.old.reading) }
     {
-        let attrs = attrs.as_slice();
-        if self.room() / 3 <= attrs.len() {
-            self.reserve(attrs_pieces(attrs).saturating_add(2))?;
-        }
+        self.reserve(TAG_PIECES)?;
         self.hold(alloc, ns)?;
         Ok(())
     }
 
     /// An element begins inside the innermost one. A refusal leaves the open elements as they were.
-    #[tactic(auto, using(crate::proofs::Said::attrs_after, crate::proofs::Said::attrs_here, crate::proofs::Said::attrs_below, crate::proofs::Said::attrs_ns))]
     pub(crate) fn begin(
         &mut self,
         alloc: Global,
@@ -214,14 +226,13 @@ impl Pieces {
         ensures attrs { self.new.reading.attrs ≡ [] }
         ensures err { OnErr result ((self.new.reading.here ≡ self.old.reading.here) × (self.new.reading.below ≡ self.old.reading.below)) }
     {
-        self.prepare(alloc, ns, &attrs)?;
+        self.prepare(alloc, ns)?;
         push_attrs(&mut self.items, attrs);
         push(&mut self.items, Piece::Start(name));
         Ok(())
     }
 
     /// An element that contains nothing stands in the innermost one. A refusal leaves the open elements as they were.
-    #[tactic(auto, using(crate::proofs::Said::attrs_after, crate::proofs::Said::attrs_here, crate::proofs::Said::attrs_below, crate::proofs::Said::attrs_ns))]
     pub(crate) fn leaf(
         &mut self,
         alloc: Global,
@@ -235,7 +246,7 @@ impl Pieces {
         ensures attrs { self.new.reading.attrs ≡ [] }
         ensures err { OnErr result (self.new.reading.here ≡ self.old.reading.here) }
     {
-        self.prepare(alloc, ns, &attrs)?;
+        self.prepare(alloc, ns)?;
         push_attrs(&mut self.items, attrs);
         push(&mut self.items, Piece::Leaf(name));
         Ok(())
