@@ -20,12 +20,15 @@ const KEPT_PIECES: usize = 64;
 /// Room for so many pieces is taken at first.
 const FIRST_PIECES: usize = 16;
 
-/// Up to so many attributes of a tag are pieces of their own, which take less memory than a list. More are moved in their list:
-/// most of the tags that have some are those of stanzas, which have more.
-const FEW: usize = 2;
+/// Behind fewer pieces than these the attributes of a tag are moved in their list, which takes more memory than pieces do. Most
+/// elements of a chat have fewer.
+const LISTED: usize = 256;
+
+/// Behind more pieces up to so many attributes of a tag are pieces of their own.
+const FEW: usize = 4;
 
 /// A tag takes so many pieces at most: one for its namespace, three for each of few attributes, and one for its name.
-const TAG_PIECES: usize = 8;
+const TAG_PIECES: usize = 14;
 
 /// Up to so many pieces room grows by a half of itself, and by an eighth past it.
 const HALF_MORE: usize = 1_024;
@@ -138,16 +141,17 @@ fn push_each(items: &mut VecDeque<Piece>, attrs: Attrs)
 // Adds the attributes of the element that begins next. There is room.
 #[tactic(auto, using(crate::proofs::Said::attrs_after, crate::proofs::Said::attrs_here, crate::proofs::Said::attrs_below, crate::proofs::Said::attrs_ns, crate::proofs::Said::pieces_bound))]
 fn push_attrs(items: &mut VecDeque<Piece>, attrs: Attrs)
-    requires room { deque_len items.old + 6 ≤ deque_capacity items.old }
+    requires room { deque_len items.old + 12 ≤ deque_capacity items.old }
     requires none { (reading items.old.items).attrs ≡ [] }
     ensures attrs { (reading items.new.items).attrs ≡ attrs.items }
     ensures here { (reading items.new.items).here ≡ (reading items.old.items).here }
     ensures below { (reading items.new.items).below ≡ (reading items.old.items).below }
     ensures ns { (reading items.new.items).ns ≡ (reading items.old.items).ns }
-    ensures len { deque_len items.new ≤ deque_len items.old + 6 }
+    ensures len { deque_len items.new ≤ deque_len items.old + 12 }
     ensures capacity { deque_capacity items.new ≡ deque_capacity items.old }
 {
-    if attrs.as_slice().len() > FEW {
+    let n = attrs.as_slice().len();
+    if n > FEW || n > 0 && items.len() < LISTED {
         push(items, Piece::Attributes(attrs));
     } else {
         push_each(items, attrs);
@@ -203,7 +207,7 @@ impl Pieces {
 
     // Makes room for a tag, in whose namespace pieces are from here on.
     fn prepare(&mut self, alloc: Global, ns: Text) -> Result<(), NoMemory>
-        ensures room { OnOk result (7 ≤ self.new.spare) }
+        ensures room { OnOk result (13 ≤ self.new.spare) }
         ensures ok { OnOk result (self.new.reading ≡ in_namespace self.old.reading ns) }
         ensures err { OnErr result (self.new.reading ≡ self.old.reading) }
     {
