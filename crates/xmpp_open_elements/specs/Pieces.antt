@@ -85,6 +85,10 @@ abbrev pub attrs_pieces : List Attribute → ℕ
 attrs_pieces [] = 0
 attrs_pieces (a ∷ attrs) = attr_pieces a + attrs_pieces attrs
 
+-- room for so many pieces is enough for attributes, as one piece or as four in pieces of their own
+abbrev pub most_pieces : List Attribute → ℕ
+most_pieces attrs = if length attrs == 0 then 0 else 12
+
 abbrev pub in_namespace : Reading → List ℕ → Reading
 in_namespace r ns = record r { ns = ns }
 

@@ -3,7 +3,7 @@ ghost use Rattle.std.specs.Prelude.{◌≡◌, ◌+◌, ◌-◌, ◌≤◌, [], 
 ghost use Rattle.std.specs.VecDeque.{deque_capacity, deque_len};
 ghost use Rattle.xmpp_open_elements.specs.Building.{reading_of};
 ghost use Rattle.xmpp_open_elements.specs.Nested.{covered};
-ghost use Rattle.xmpp_open_elements.specs.Pieces.{at_start, attr_pieces, attrs_pieces, ended, has_namespace, in_namespace, put_in, reading, step, with_attr, with_attrs, with_text};
+ghost use Rattle.xmpp_open_elements.specs.Pieces.{at_start, attr_pieces, attrs_pieces, ended, has_namespace, in_namespace, most_pieces, put_in, reading, step, with_attr, with_attrs, with_text};
 ghost use Rattle.xmpp_trees.specs.Trees.{child, element, no_nodes};
 
 use crate::building::Building;
@@ -27,8 +27,8 @@ const LISTED: usize = 256;
 /// Behind more pieces up to so many attributes of a tag are pieces of their own.
 const FEW: usize = 4;
 
-/// A tag takes so many pieces at most: one for its namespace, three for each of few attributes, and one for its name.
-const TAG_PIECES: usize = 14;
+/// Few attributes take so many pieces at most: three each, one of them for a namespace.
+const FEW_PIECES: usize = 12;
 
 /// Up to so many pieces room grows by a half of itself, and by an eighth past it.
 const HALF_MORE: usize = 1_024;
@@ -138,16 +138,27 @@ fn push_each(items: &mut VecDeque<Piece>, attrs: Attrs)
     }
 }
 
+// How many pieces attributes take at most.
+fn most_pieces(attrs: &Attrs) -> usize
+    ensures { result ≡ most_pieces attrs.now.items }
+{
+    if attrs.as_slice().is_empty() {
+        0
+    } else {
+        FEW_PIECES
+    }
+}
+
 // Adds the attributes of the element that begins next. There is room.
 #[tactic(auto, using(crate::proofs::Said::attrs_after, crate::proofs::Said::attrs_here, crate::proofs::Said::attrs_below, crate::proofs::Said::attrs_ns, crate::proofs::Said::pieces_bound))]
 fn push_attrs(items: &mut VecDeque<Piece>, attrs: Attrs)
-    requires room { deque_len items.old + 12 ≤ deque_capacity items.old }
+    requires room { deque_len items.old + most_pieces attrs.items ≤ deque_capacity items.old }
     requires none { (reading items.old.items).attrs ≡ [] }
     ensures attrs { (reading items.new.items).attrs ≡ attrs.items }
     ensures here { (reading items.new.items).here ≡ (reading items.old.items).here }
     ensures below { (reading items.new.items).below ≡ (reading items.old.items).below }
     ensures ns { (reading items.new.items).ns ≡ (reading items.old.items).ns }
-    ensures len { deque_len items.new ≤ deque_len items.old + 12 }
+    ensures len { deque_len items.new ≤ deque_len items.old + most_pieces attrs.items }
     ensures capacity { deque_capacity items.new ≡ deque_capacity items.old }
 {
     let n = attrs.as_slice().len();
@@ -205,13 +216,13 @@ impl Pieces {
         Ok(())
     }
 
-    // Makes room for a tag, in whose namespace pieces are from here on.
-    fn prepare(&mut self, alloc: Global, ns: Text) -> Result<(), NoMemory>
-        ensures room { OnOk result (13 ≤ self.new.spare) }
+    // Makes room for a tag with these attributes, in whose namespace pieces are from here on.
+    fn prepare(&mut self, alloc: Global, ns: Text, attrs: &Attrs) -> Result<(), NoMemory>
+        ensures room { OnOk result (most_pieces attrs.now.items + 1 ≤ self.new.spare) }
         ensures ok { OnOk result (self.new.reading ≡ in_namespace self.old.reading ns) }
         ensures err { OnErr result (self.new.reading ≡ self.old.reading) }
     {
-        self.reserve(TAG_PIECES)?;
+        self.reserve(most_pieces(attrs) + 2)?;
         self.hold(alloc, ns)?;
         Ok(())
     }
@@ -230,7 +241,7 @@ impl Pieces {
         ensures attrs { self.new.reading.attrs ≡ [] }
         ensures err { OnErr result ((self.new.reading.here ≡ self.old.reading.here) × (self.new.reading.below ≡ self.old.reading.below)) }
     {
-        self.prepare(alloc, ns)?;
+        self.prepare(alloc, ns, &attrs)?;
         push_attrs(&mut self.items, attrs);
         push(&mut self.items, Piece::Start(name));
         Ok(())
@@ -250,7 +261,7 @@ impl Pieces {
         ensures attrs { self.new.reading.attrs ≡ [] }
         ensures err { OnErr result (self.new.reading.here ≡ self.old.reading.here) }
     {
-        self.prepare(alloc, ns)?;
+        self.prepare(alloc, ns, &attrs)?;
         push_attrs(&mut self.items, attrs);
         push(&mut self.items, Piece::Leaf(name));
         Ok(())
