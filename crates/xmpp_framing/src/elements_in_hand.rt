@@ -26,13 +26,12 @@ const SHORT: usize = 16;
 fn attrs_of(alloc: Global, attributes: Vec<ExpandedAttribute>) -> Result<Attrs, NoMemory>
     ensures { IfOk result (λ attrs. attrs.items ≡ sorted_attributes (map attribute_of attributes.items)) }
 {
-    let mut attrs = Attrs::new(alloc);
-    attrs.reserve(attributes.len())?;
+    let mut attrs = Vec::with_capacity(alloc, attributes.len())?;
     for attribute in attributes {
         let ExpandedAttribute { ns, name, value } = attribute;
-        attrs.push(Attr { ns, name, value })?;
+        attrs.push_reserved(Attr { ns, name, value });
     }
-    tidy_attrs(attrs)
+    tidy_attrs(Attrs::from(attrs))
 }
 
 // The text in hand joins the innermost open element. A short one leaves its room for the next.

@@ -1,6 +1,7 @@
 -- What a tree under construction has read.
 use Rattle.std.specs.Prelude.{map, reverse}
 use Rattle.std.specs.Option.{option_map}
+use Rattle.xmpp_open_elements.specs.Nested.{covered}
 use Rattle.xmpp_open_elements.specs.Pieces.{Reading}
 use Rattle.xmpp_open_elements.specs.declared.building.Building.{Building}
 use Rattle.xmpp_trees.specs.Views.{elem_view}
@@ -12,5 +13,5 @@ reading_of b = record {
   attr_name = b.attr_name;
   attrs = b.attrs.items;
   here = option_map elem_view b.here;
-  below = map elem_view (reverse b.below.items);
+  below = map elem_view (covered b.around (reverse b.below.items));
 }

@@ -53,6 +53,7 @@ step r (piece.Namespace t) = record r { ns = t }
 step r (piece.AttributeName t) = record r { attr_name = t; attr_ns = [] }
 step r (piece.AttributeNamespace t) = record r { attr_ns = t }
 step r (piece.Value t) = with_value r t
+step r (piece.Attributes l) = record r { attrs = l.items }
 step r (piece.Start t) = begun r t
 step r (piece.Leaf t) = with_leaf r t
 step r (piece.Text t) = with_text r t
@@ -83,6 +84,10 @@ attr_pieces a = if has_namespace a then 3 else 2
 abbrev pub attrs_pieces : List Attribute → ℕ
 attrs_pieces [] = 0
 attrs_pieces (a ∷ attrs) = attr_pieces a + attrs_pieces attrs
+
+-- room for so many pieces is enough for attributes, as one piece or as four in pieces of their own
+abbrev pub most_pieces : List Attribute → ℕ
+most_pieces attrs = if length attrs == 0 then 0 else 12
 
 abbrev pub in_namespace : Reading → List ℕ → Reading
 in_namespace r ns = record r { ns = ns }

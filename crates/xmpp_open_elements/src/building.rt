@@ -1,6 +1,8 @@
 //! A tree under construction, piece by piece.
-ghost use Rattle.std.specs.Prelude.{◌≡◌, [], IfOk, OnOk};
+ghost use Rattle.std.specs.Prelude.{◌≡◌, [], ◌∷◌, IfOk, OnOk};
+ghost use Rattle.std.specs.Option.{option_map};
 ghost use Rattle.xmpp_open_elements.specs.Building.{reading_of};
+ghost use Rattle.xmpp_open_elements.specs.Nested.{first_of, rest_of};
 ghost use Rattle.xmpp_open_elements.specs.Pieces.{at_start, begun, ended, next_element, step, with_leaf, with_text, with_value};
 ghost use Rattle.xmpp_trees.specs.Views.{elem_view};
 
@@ -11,7 +13,8 @@ use xmpp_edge::{Copied, NoMemory, Text};
 use xmpp_trees::{Attr, Attrs, Element};
 
 /// What was read of pieces: the namespace that holds, the attribute in hand, the attributes of the element that begins next,
-/// the innermost open element, and those around it, the innermost last.
+/// the innermost open element, and those around it. The innermost of these may stand by itself, the others in a list, the
+/// innermost last: a child that contains a text alone takes no list for what is around it.
 #[derive(Drop)]
 pub(crate) struct Building {
     pub(crate) ns: Text,
@@ -19,6 +22,7 @@ pub(crate) struct Building {
     pub(crate) attr_name: Text,
     pub(crate) attrs: Attrs,
     pub(crate) here: Option<Element>,
+    pub(crate) around: Option<Element>,
     pub(crate) below: Vec<Element>,
 }
 
@@ -33,6 +37,7 @@ impl Building {
             attr_name: Text::new(alloc),
             attrs: Attrs::new(alloc),
             here: None,
+            around: None,
             below: Vec::new(alloc),
         }
     }
@@ -62,13 +67,37 @@ impl Building {
         })
     }
 
+    // One more element is around.
     #[tactic(auto, using(crate::proofs::Stacks::views_push))]
+    fn cover(&mut self, outer: Element) -> Result<(), NoMemory>
+        ensures { OnOk result (reading_of self.new ≡ record (reading_of self.old) { below = elem_view outer ∷ (reading_of self.old).below }) }
+    {
+        match self.around.take() {
+            Some(further) => self.below.push(further)?,
+            None => {}
+        }
+        self.around = Some(outer);
+        Ok(())
+    }
+
+    // The innermost of the elements around is taken out of them.
+    #[tactic(auto, using(crate::proofs::Stacks::views_push))]
+    fn uncover(&mut self) -> Option<Element>
+        ensures first { option_map elem_view result ≡ first_of (reading_of self.old).below }
+        ensures rest { reading_of self.new ≡ record (reading_of self.old) { below = rest_of (reading_of self.old).below } }
+    {
+        match self.around.take() {
+            Some(outer) => Some(outer),
+            None => self.below.pop(),
+        }
+    }
+
     fn begin(&mut self, alloc: Global, name: Text) -> Result<(), NoMemory>
         ensures { OnOk result (reading_of self.new ≡ begun (reading_of self.old) name) }
     {
         let element = self.take_element(alloc, name)?;
         match self.here.take() {
-            Some(outer) => self.below.push(outer)?,
+            Some(outer) => self.cover(outer)?,
             None => {}
         }
         self.here = Some(element);
@@ -96,14 +125,13 @@ impl Building {
         Ok(())
     }
 
-    #[tactic(auto, using(crate::proofs::Stacks::views_push))]
     fn end(&mut self) -> Result<(), NoMemory>
         ensures { OnOk result (reading_of self.new ≡ ended (reading_of self.old)) }
     {
         let Some(whole) = self.here.take() else {
             return Ok(());
         };
-        self.here = self.below.pop();
+        self.here = self.uncover();
         match &mut self.here {
             Some(around) => around.push_child(whole)?,
             None => {}
@@ -123,6 +151,7 @@ impl Building {
             }
             Piece::AttributeNamespace(ns) => self.attr_ns = ns,
             Piece::Value(value) => self.add_attr(alloc, value)?,
+            Piece::Attributes(attrs) => self.attrs = attrs,
             Piece::Start(name) => self.begin(alloc, name)?,
             Piece::Leaf(name) => self.add_leaf(alloc, name)?,
             Piece::Text(content) => self.add_text(content)?,

@@ -1,9 +1,9 @@
 //! The pieces of elements, one behind the other.
-ghost use Rattle.std.specs.Prelude.{◌≡◌, ◌+◌, ◌-◌, ◌^◌, ◌≤◌, [], min, IfOk, OnErr, OnOk, Some};
+ghost use Rattle.std.specs.Prelude.{◌≡◌, ◌+◌, ◌-◌, ◌≤◌, [], IfOk, OnErr, OnOk, Some};
 ghost use Rattle.std.specs.VecDeque.{deque_capacity, deque_len};
 ghost use Rattle.xmpp_open_elements.specs.Building.{reading_of};
 ghost use Rattle.xmpp_open_elements.specs.Nested.{covered};
-ghost use Rattle.xmpp_open_elements.specs.Pieces.{at_start, attr_pieces, attrs_pieces, ended, has_namespace, in_namespace, put_in, reading, step, with_attr, with_attrs, with_text};
+ghost use Rattle.xmpp_open_elements.specs.Pieces.{at_start, attr_pieces, attrs_pieces, ended, has_namespace, in_namespace, most_pieces, put_in, reading, step, with_attr, with_attrs, with_text};
 ghost use Rattle.xmpp_trees.specs.Trees.{child, element, no_nodes};
 
 use crate::building::Building;
@@ -20,6 +20,16 @@ const KEPT_PIECES: usize = 64;
 /// Room for so many pieces is taken at first.
 const FIRST_PIECES: usize = 16;
 
+/// Behind fewer pieces than these the attributes of a tag are moved in their list, which takes more memory than pieces do. Most
+/// elements of a chat have fewer.
+const LISTED: usize = 256;
+
+/// Behind more pieces up to so many attributes of a tag are pieces of their own.
+const FEW: usize = 4;
+
+/// Few attributes take so many pieces at most: three each, one of them for a namespace.
+const FEW_PIECES: usize = 12;
+
 /// Up to so many pieces room grows by a half of itself, and by an eighth past it.
 const HALF_MORE: usize = 1_024;
 
@@ -35,6 +45,8 @@ pub(crate) enum Piece {
     AttributeNamespace(Text),
     /// The value of an attribute.
     Value(Text),
+    /// All attributes of the element that begins next.
+    Attributes(Attrs),
     /// The name of an element that begins.
     Start(Text),
     /// The name of an element that contains nothing.
@@ -98,17 +110,6 @@ fn has_namespace(attr: &Attr) -> bool
     !attr.ns.as_str().is_empty()
 }
 
-// How many pieces attributes take, or 2^64 - 1 where that is less.
-fn attrs_pieces(attrs: &[Attr]) -> usize
-    ensures { result ≡ min (attrs_pieces attrs.now) (2 ^ 64 - 1) }
-{
-    let mut pieces: usize = 0;
-    for attr in attrs {
-        pieces = pieces.saturating_add(if has_namespace(attr) { 3 } else { 2 });
-    }
-    pieces
-}
-
 // Adds an attribute of the element that begins next. There is room.
 fn push_attr(items: &mut VecDeque<Piece>, attr: Attr)
     requires { deque_len items.old + attr_pieces attr ≤ deque_capacity items.old }
@@ -125,8 +126,8 @@ fn push_attr(items: &mut VecDeque<Piece>, attr: Attr)
     push(items, Piece::Value(value));
 }
 
-// Adds the attributes of the element that begins next. There is room.
-fn push_attrs(items: &mut VecDeque<Piece>, attrs: Attrs)
+// Adds the attributes of the element that begins next, each by itself. There is room.
+fn push_each(items: &mut VecDeque<Piece>, attrs: Attrs)
     requires { deque_len items.old + attrs_pieces attrs.items ≤ deque_capacity items.old }
     ensures said { reading items.new.items ≡ with_attrs (reading items.old.items) attrs.items }
     ensures len { deque_len items.new ≡ deque_len items.old + attrs_pieces attrs.items }
@@ -134,6 +135,37 @@ fn push_attrs(items: &mut VecDeque<Piece>, attrs: Attrs)
 {
     for attr in attrs.into_items() {
         push_attr(items, attr);
+    }
+}
+
+// How many pieces attributes take at most.
+fn most_pieces(attrs: &Attrs) -> usize
+    ensures { result ≡ most_pieces attrs.now.items }
+{
+    if attrs.as_slice().is_empty() {
+        0
+    } else {
+        FEW_PIECES
+    }
+}
+
+// Adds the attributes of the element that begins next. There is room.
+#[tactic(auto, using(crate::proofs::Said::attrs_after, crate::proofs::Said::attrs_here, crate::proofs::Said::attrs_below, crate::proofs::Said::attrs_ns, crate::proofs::Said::pieces_bound))]
+fn push_attrs(items: &mut VecDeque<Piece>, attrs: Attrs)
+    requires room { deque_len items.old + most_pieces attrs.items ≤ deque_capacity items.old }
+    requires none { (reading items.old.items).attrs ≡ [] }
+    ensures attrs { (reading items.new.items).attrs ≡ attrs.items }
+    ensures here { (reading items.new.items).here ≡ (reading items.old.items).here }
+    ensures below { (reading items.new.items).below ≡ (reading items.old.items).below }
+    ensures ns { (reading items.new.items).ns ≡ (reading items.old.items).ns }
+    ensures len { deque_len items.new ≤ deque_len items.old + most_pieces attrs.items }
+    ensures capacity { deque_capacity items.new ≡ deque_capacity items.old }
+{
+    let n = attrs.as_slice().len();
+    if n > FEW || n > 0 && items.len() < LISTED {
+        push(items, Piece::Attributes(attrs));
+    } else {
+        push_each(items, attrs);
     }
 }
 
@@ -148,16 +180,22 @@ impl Pieces {
         }
     }
 
+    // How many pieces more there is room for.
+    fn room(&self) -> usize
+        ensures { result ≡ self.now.spare }
+    {
+        self.items.capacity() - self.items.len()
+    }
+
     // Makes room for so many pieces more.
     fn reserve(&mut self, n: usize) -> Result<(), NoMemory>
         ensures ok { OnOk result (n ≤ self.new.spare) }
         ensures reading { self.new.reading ≡ self.old.reading }
     {
-        let len = self.items.len();
-        let there = self.items.capacity();
-        if n > there - len {
-            self.items
-                .reserve_exact(room_for(there, len.saturating_add(n)) - len)?;
+        if n > self.room() {
+            let len = self.items.len();
+            let wanted = room_for(self.items.capacity(), len.saturating_add(n));
+            self.items.reserve_exact(wanted - len)?;
         }
         Ok(())
     }
@@ -179,19 +217,17 @@ impl Pieces {
     }
 
     // Makes room for a tag with these attributes, in whose namespace pieces are from here on.
-    #[tactic(auto, using(crate::proofs::Said::pieces_bound))]
     fn prepare(&mut self, alloc: Global, ns: Text, attrs: &Attrs) -> Result<(), NoMemory>
-        ensures room { OnOk result (attrs_pieces attrs.now.items + 1 ≤ self.new.spare) }
+        ensures room { OnOk result (most_pieces attrs.now.items + 1 ≤ self.new.spare) }
         ensures ok { OnOk result (self.new.reading ≡ in_namespace self.old.reading ns) }
         ensures err { OnErr result (self.new.reading ≡ self.old.reading) }
     {
-        self.reserve(attrs_pieces(attrs.as_slice()).saturating_add(2))?;
+        self.reserve(most_pieces(attrs) + 2)?;
         self.hold(alloc, ns)?;
         Ok(())
     }
 
     /// An element begins inside the innermost one. A refusal leaves the open elements as they were.
-    #[tactic(auto, using(crate::proofs::Said::attrs_after, crate::proofs::Said::attrs_here, crate::proofs::Said::attrs_below, crate::proofs::Said::attrs_ns))]
     pub(crate) fn begin(
         &mut self,
         alloc: Global,
@@ -212,7 +248,6 @@ impl Pieces {
     }
 
     /// An element that contains nothing stands in the innermost one. A refusal leaves the open elements as they were.
-    #[tactic(auto, using(crate::proofs::Said::attrs_after, crate::proofs::Said::attrs_here, crate::proofs::Said::attrs_below, crate::proofs::Said::attrs_ns))]
     pub(crate) fn leaf(
         &mut self,
         alloc: Global,

@@ -2,7 +2,7 @@ use Rattle.std.proofs.Common.{◌≡◌, ◌+◌}
 use Rattle.std.specs.Vec.Iter.{into_iter_items}
 use Rattle.std.specs.VecDeque.{deque_capacity, deque_len}
 use Rattle.xmpp_open_elements.specs.Pieces.{attrs_pieces, reading, with_attrs}
-use Rattle.xmpp_open_elements.proofs.pieces.push_attrs.Given as goal
+use Rattle.xmpp_open_elements.proofs.pieces.push_each.Given as goal
 
 -- those so far and what is left are all
 abbrev pub invariant-loop-attr : goal.invariant-loop-attr
