@@ -79,6 +79,10 @@ module _ {R I O P : Type 0} (told : I → IncomingView) (out : O → OutgoingVie
       → AreMore (readers_in places) old new
   back_many got places senders old new links back given started = (links, given, back_count told out got 1 places senders links back ∙ sym (all_readers places started))
 
+-- the same behind links that are equal
+pub more_again : (n : ℕ) (old begun new : List LinkView) → AreMore n old new → old ≡ begun → AreMore n begun new
+more_again n old begun new back at = (back.0, back.1 ∙ ap (λ l. l ++ back.0) at, back.2)
+
 -- no thread was started
 pub none_started : (old new : List LinkView) (s t : ℕ) → new ≡ old → t ≡ s → HasWorkers old new s t
 none_started old new s t given same = inl (given, same)
