@@ -29,6 +29,10 @@ pub record Dealings : Type 0 where
   pub before : OutsideView
   pub behind : OutsideView
 
+-- the same of a call by what it sees of the outside
+abbrev pub dealings_of : {S : Type 0} → (S → OutsideView) → S → S → Dealings
+dealings_of view old new = record { before = view old; behind = view new }
+
 -- a door, where there is one
 abbrev pub door_view : {D : Type 0} → (D → ℕ) → (D → ℕ) → (D → List LinkView) → Option D → Option DoorView
 door_view faults handed given None = None

@@ -7,7 +7,7 @@ ghost use Rattle.xmpp_report.specs.ReportText.{text_of};
 ghost use Rattle.xmpp_report.specs.Reports.{ReportView};
 ghost use Rattle.xmpp_schedule.specs.Kinds.{IsSchedule, schedule_text};
 ghost use Rattle.xmpp_schedule.specs.declared.schedule.Schedule.{Schedule};
-ghost use Rattle.xmpp_cli.specs.Dealings.{AreJoined, AreKept, IsBack};
+ghost use Rattle.xmpp_cli.specs.Dealings.{AreJoined, AreKept, IsBack, dealings_of};
 ghost use Rattle.xmpp_cli.specs.Words.{asked, goes_out, reads, serves};
 ghost use Rattle.xmpp_cli.specs.Table.{code_of, is_status, IsReportOf, Due, MustAnswer, generated_summary};
 
@@ -49,20 +49,20 @@ where
     requires { IsSome outside.old.door }
     ensures told { result ≢ 5 → result ≢ 6 → (outcome : Outcome) × (text : List ℕ) × (result ≡ code_of outcome)
         × Due (asked words.now) (S.left source.old) (S.left source.new) (Rose (S.faults source.old) (S.faults source.new))
-        (record { before = ⟦<Outside<D, L, C, E, P> as Surroundings>⟧.view outside.old; behind = ⟦<Outside<D, L, C, E, P> as Surroundings>⟧.view outside.new }) outcome text
+        (dealings_of ⟦<Outside<D, L, C, E, P> as Surroundings>⟧.view outside.old outside.new) outcome text
         × Appends (K.written sink.old) (K.written sink.new) text }
     ensures prefix { result ≡ 5 → Rose (K.faults sink.old) (K.faults sink.new) × ((outcome : Outcome) × (text : List ℕ)
         × Due (asked words.now) (S.left source.old) (S.left source.new) (Rose (S.faults source.old) (S.faults source.new))
-        (record { before = ⟦<Outside<D, L, C, E, P> as Surroundings>⟧.view outside.old; behind = ⟦<Outside<D, L, C, E, P> as Surroundings>⟧.view outside.new }) outcome text
+        (dealings_of ⟦<Outside<D, L, C, E, P> as Surroundings>⟧.view outside.old outside.new) outcome text
         × AppendsPrefix (K.written sink.old) (K.written sink.new) text) }
     ensures no_memory { result ≡ 6 → Keeps (K.written sink.old) (K.written sink.new) }
     ensures write_fault_only { K.faults sink.old < K.faults sink.new → result ≡ 5 }
     ensures read_fault_only { S.faults source.old < S.faults source.new → (result ≡ 4) ⊎ (result ≡ 5) ⊎ (result ≡ 6) }
     ensures unread { reads (asked words.now) ≡ false → source.new ≡ source.old }
     ensures door { IsSome outside.new.door ⊎ Rose (P.faults outside.old.spawner) (P.faults outside.new.spawner) }
-    ensures kept { AreKept (record { before = ⟦<Outside<D, L, C, E, P> as Surroundings>⟧.view outside.old; behind = ⟦<Outside<D, L, C, E, P> as Surroundings>⟧.view outside.new }) }
-    ensures joined { AreJoined (record { before = ⟦<Outside<D, L, C, E, P> as Surroundings>⟧.view outside.old; behind = ⟦<Outside<D, L, C, E, P> as Surroundings>⟧.view outside.new }) }
-    ensures returned { IsBack (record { before = ⟦<Outside<D, L, C, E, P> as Surroundings>⟧.view outside.old; behind = ⟦<Outside<D, L, C, E, P> as Surroundings>⟧.view outside.new }) }
+    ensures kept { AreKept (dealings_of ⟦<Outside<D, L, C, E, P> as Surroundings>⟧.view outside.old outside.new) }
+    ensures joined { AreJoined (dealings_of ⟦<Outside<D, L, C, E, P> as Surroundings>⟧.view outside.old outside.new) }
+    ensures returned { IsBack (dealings_of ⟦<Outside<D, L, C, E, P> as Surroundings>⟧.view outside.old outside.new) }
     ensures stays { serves (asked words.now) ≡ false → (outside.new.door ≡ outside.old.door) × (outside.new.spawner ≡ outside.old.spawner) }
     ensures apart { goes_out (asked words.now) ≡ false → outside.new ≡ outside.old }
     ensures source_later { S.faults source.old ≤ S.faults source.new }
@@ -134,28 +134,28 @@ where
     // Whatever outcome the status is the code of, its text is due, and was written and nothing else.
     ensures answered { (outcome : Outcome) → result ≡ code_of outcome → (text : List ℕ)
         × Due (asked words.now) (S.left source.old) (S.left source.new) (Rose (S.faults source.old) (S.faults source.new))
-        (record { before = ⟦<Outside<D, L, C, E, P> as Surroundings>⟧.view outside.old; behind = ⟦<Outside<D, L, C, E, P> as Surroundings>⟧.view outside.new }) outcome text
+        (dealings_of ⟦<Outside<D, L, C, E, P> as Surroundings>⟧.view outside.old outside.new) outcome text
         × Appends (K.written sink.old) (K.written sink.new) text }
     // The converse: where nothing failed, the outcome that there must be is the one that there is.
     ensures exactly { (outcome : Outcome)
         → MustAnswer (asked words.now) (S.left source.old) (Quiet (S.faults source.old) (S.faults source.new))
-        (record { before = ⟦<Outside<D, L, C, E, P> as Surroundings>⟧.view outside.old; behind = ⟦<Outside<D, L, C, E, P> as Surroundings>⟧.view outside.new }) outcome
+        (dealings_of ⟦<Outside<D, L, C, E, P> as Surroundings>⟧.view outside.old outside.new) outcome
         → Quiet (K.faults sink.old) (K.faults sink.new) → (result ≡ code_of outcome) ⊎ (result ≡ 6) }
     ensures read_fault_only { S.faults source.old < S.faults source.new → (result ≡ 4) ⊎ (result ≡ 5) ⊎ (result ≡ 6) }
     // What went out is a prefix of the text that was due.
     ensures write_fault { result ≡ 5 → Rose (K.faults sink.old) (K.faults sink.new) × ((outcome : Outcome) × (text : List ℕ)
         × Due (asked words.now) (S.left source.old) (S.left source.new) (Rose (S.faults source.old) (S.faults source.new))
-        (record { before = ⟦<Outside<D, L, C, E, P> as Surroundings>⟧.view outside.old; behind = ⟦<Outside<D, L, C, E, P> as Surroundings>⟧.view outside.new }) outcome text
+        (dealings_of ⟦<Outside<D, L, C, E, P> as Surroundings>⟧.view outside.old outside.new) outcome text
         × AppendsPrefix (K.written sink.old) (K.written sink.new) text) }
     ensures write_fault_only { K.faults sink.old < K.faults sink.new → result ≡ 5 }
     ensures no_memory { result ≡ 6 → Keeps (K.written sink.old) (K.written sink.new) }
     ensures door { IsSome outside.new.door ⊎ Rose (P.faults outside.old.spawner) (P.faults outside.new.spawner) }
     // The links that were given back to the door stand behind those that were there; that these are all that it handed out is
     // said with the text that is due. The link that the dialer handed out was given back to it.
-    ensures given_back { AreKept (record { before = ⟦<Outside<D, L, C, E, P> as Surroundings>⟧.view outside.old; behind = ⟦<Outside<D, L, C, E, P> as Surroundings>⟧.view outside.new }) }
+    ensures given_back { AreKept (dealings_of ⟦<Outside<D, L, C, E, P> as Surroundings>⟧.view outside.old outside.new) }
     // No thread that was started is lost: each was joined, and the link of each reader was given back to the door.
-    ensures joined { AreJoined (record { before = ⟦<Outside<D, L, C, E, P> as Surroundings>⟧.view outside.old; behind = ⟦<Outside<D, L, C, E, P> as Surroundings>⟧.view outside.new }) }
-    ensures returned { IsBack (record { before = ⟦<Outside<D, L, C, E, P> as Surroundings>⟧.view outside.old; behind = ⟦<Outside<D, L, C, E, P> as Surroundings>⟧.view outside.new }) }
+    ensures joined { AreJoined (dealings_of ⟦<Outside<D, L, C, E, P> as Surroundings>⟧.view outside.old outside.new) }
+    ensures returned { IsBack (dealings_of ⟦<Outside<D, L, C, E, P> as Surroundings>⟧.view outside.old outside.new) }
     ensures stays { serves (asked words.now) ≡ false → (outside.new.door ≡ outside.old.door) × (outside.new.spawner ≡ outside.old.spawner) }
     ensures apart { goes_out (asked words.now) ≡ false → outside.new ≡ outside.old }
     ensures known { IsTrue (is_status result) }

@@ -1,7 +1,7 @@
 //! What a call has to do with the outside.
 ghost use Rattle.std.specs.Prelude.{◌≡◌, ◌⊎◌, IfOk, IsSome, Some};
 ghost use Rattle.xmpp_edge.specs.Counts.{Rose};
-ghost use Rattle.xmpp_cli.specs.Dealings.{AreJoined, AreKept, IsBack, OutsideView, door_view};
+ghost use Rattle.xmpp_cli.specs.Dealings.{AreJoined, AreKept, IsBack, OutsideView, door_view, dealings_of};
 ghost use Rattle.xmpp_cli.specs.Table.{IsAnswer};
 ghost use Rattle.xmpp_cli.specs.Tellings.{Tells};
 ghost use Rattle.xmpp_cli.specs.declared.command.Command.TheVariants.{Serve, Sync};
@@ -81,10 +81,10 @@ where
     D::Link: Send + 'static,
     requires { IsSome outside.old.door }
     ensures answer { IfOk result (λ answer. IsAnswer (Serve port connections) (Some accounts.now)
-        (record { before = ⟦<Outside<D, L, C, E, P> as Surroundings>⟧.view outside.old; behind = ⟦<Outside<D, L, C, E, P> as Surroundings>⟧.view outside.new }) answer.outcome answer.text.items) }
+        (dealings_of ⟦<Outside<D, L, C, E, P> as Surroundings>⟧.view outside.old outside.new) answer.outcome answer.text.items) }
     ensures door { IsSome outside.new.door ⊎ Rose (P.faults outside.old.spawner) (P.faults outside.new.spawner) }
-    ensures kept { AreKept (record { before = ⟦<Outside<D, L, C, E, P> as Surroundings>⟧.view outside.old; behind = ⟦<Outside<D, L, C, E, P> as Surroundings>⟧.view outside.new }) }
-    ensures joined { AreJoined (record { before = ⟦<Outside<D, L, C, E, P> as Surroundings>⟧.view outside.old; behind = ⟦<Outside<D, L, C, E, P> as Surroundings>⟧.view outside.new }) }
+    ensures kept { AreKept (dealings_of ⟦<Outside<D, L, C, E, P> as Surroundings>⟧.view outside.old outside.new) }
+    ensures joined { AreJoined (dealings_of ⟦<Outside<D, L, C, E, P> as Surroundings>⟧.view outside.old outside.new) }
     ensures dialer { outside.new.dialer ≡ outside.old.dialer }
 {
     match outside.door.take() {
@@ -115,8 +115,8 @@ pub fn synchronise<D: Halves, L: Dialer, C: Clock, E: Entropy, P: Spawner>(
     outside: &mut Outside<D, L, C, E, P>,
 ) -> Result<Answer, NoMemory>
     ensures answer { IfOk result (λ answer. IsAnswer (Sync port) (Some script.now)
-        (record { before = ⟦<Outside<D, L, C, E, P> as Surroundings>⟧.view outside.old; behind = ⟦<Outside<D, L, C, E, P> as Surroundings>⟧.view outside.new }) answer.outcome answer.text.items) }
-    ensures back { IsBack (record { before = ⟦<Outside<D, L, C, E, P> as Surroundings>⟧.view outside.old; behind = ⟦<Outside<D, L, C, E, P> as Surroundings>⟧.view outside.new }) }
+        (dealings_of ⟦<Outside<D, L, C, E, P> as Surroundings>⟧.view outside.old outside.new) answer.outcome answer.text.items) }
+    ensures back { IsBack (dealings_of ⟦<Outside<D, L, C, E, P> as Surroundings>⟧.view outside.old outside.new) }
     ensures door { outside.new.door ≡ outside.old.door }
     ensures spawner { outside.new.spawner ≡ outside.old.spawner }
 {
