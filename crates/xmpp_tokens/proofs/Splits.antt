@@ -1,7 +1,9 @@
 -- The front and what is behind it.
-use Rattle.std.proofs.Common.{◌≡◌, ℕ, zero, suc, ◌+◌, ◌-◌, ◌≤◌, Bool, true, false, cond, not, List, [], ◌∷◌, ◌++◌, length, take, drop, length-drop, refl, sym, ap, ◌∙◌, arith, ⊎_elim}
+use Rattle.std.proofs.Common.{◌≡◌, ℕ, zero, suc, ◌+◌, ◌-◌, ◌<◌, ◌≤◌, Bool, true, false, cond, eqb, bit_or, not, ◌&&◌, List, [], ◌∷◌, ◌++◌, length, take, drop, get_or, length-drop, refl, sym, ap, ◌∙◌, arith, ⊎_elim}
 use Rattle.std.proofs.lemmas.Bool.{cases_Bool, and_parts, and_from, not-true}
-use Rattle.std.proofs.lemmas.List.{drop-drop}
+use Rattle.std.proofs.lemmas.Bool.Decides.{nat_tests}
+use Rattle.std.proofs.lemmas.List.{drop-drop, drop_more}
+use Rattle.std.proofs.lemmas.Nat.{le_or_l}
 use Rattle.std.specs.List.{prefix_len, list_all}
 use Rattle.xmpp_tokens.specs.Fronts.{front, behind}
 use Rattle.xmpp_tokens.specs.Tags.{is_empty}
@@ -43,6 +45,26 @@ prefix_further p done to xs further within h =
     let left : to - done ≤ length (drop done xs) = omega (arith, length-drop done xs) in
     let e : to ≡ done + (to - done) = omega arith in
     ap (λ l. to - done + prefix_len p l) (ap (λ k. drop k xs) e ∙ sym (drop-drop (to - done) done xs)) ∙ prefix_behind p (to - done) (drop done xs) left h
+
+-- where all pass
+pub prefix_of_all : (p : ℕ → Bool) (xs : List ℕ) → list_all p xs ≡ true → length xs ≡ prefix_len p xs
+prefix_of_all p [] h = refl
+prefix_of_all p (x ∷ xs) h =
+    let q = and_parts (p x) _ h in
+    let ih = prefix_of_all p xs q.1 in
+    rw q.0 (omega arith)
+
+-- all pass where those before a place do and those from there on
+pub all_in_parts : (p : ℕ → Bool) (n : ℕ) (xs : List ℕ) → (list_all p (take n xs) && list_all p (drop n xs)) ≡ list_all p xs
+all_in_parts p zero xs = refl
+all_in_parts p (suc n) [] = refl
+all_in_parts p (suc n) (x ∷ xs) =
+    ⊎_elim (λ (t : p x ≡ true). rw t (all_in_parts p n xs)) (λ (f : p x ≡ false). rw f refl) (cases_Bool (p x))
+
+pub all_behind : (p : ℕ → Bool) (n : ℕ) (xs before after : List ℕ) → before ≡ take n xs → after ≡ drop n xs → list_all p before ≡ true → list_all p after ≡ list_all p xs
+all_behind p n xs before after first last h =
+    let all : list_all p (take n xs) ≡ true = ap (list_all p) (sym first) ∙ h in
+    ap (list_all p) last ∙ (sym (ap (λ t. t && list_all p (drop n xs)) all) ∙ all_in_parts p n xs)
 
 -- both together are the list
 pub joined : {X : Type 0} (p : X → Bool) (xs : List X) → front p xs ++ behind p xs ≡ xs
@@ -95,3 +117,22 @@ none_in_front p b bs = ⊎_elim (λ (t : p b ≡ true). rw t refl) (λ (f : p b 
 pub stops_where_none : (p : ℕ → Bool) (bs : List ℕ) → is_empty (front p bs) ≡ true → stops p bs ≡ true
 stops_where_none p [] h = refl
 stops_where_none p (b ∷ bs) h = none_in_front p b bs ∙ h
+
+-- two marks are nothing where both are
+joined_marks : (a b : ℕ) → eqb (bit_or a b) 0 ≡ (eqb a 0 && eqb b 0)
+joined_marks zero b = refl
+joined_marks (suc a) b = something (suc a) (bit_or (suc a) b) (omega arith) (le_or_l (suc a) b) ∙ ap (λ t. t && eqb b 0) (sym (something (suc a) (suc a) (omega arith) (omega arith)))
+  where
+    something : (a c : ℕ) → 1 ≤ a → a ≤ c → eqb c 0 ≡ false
+    something a c least more = grind (arith, nat_tests)
+
+-- the mark of the next item is joined
+pub next_mark : (p : ℕ → Bool) (a m i d : ℕ) (xs : List ℕ) → i < length xs → eqb m 0 ≡ p (get_or xs i d)
+    → (eqb (bit_or a m) 0 && list_all p (drop (i + 1) xs)) ≡ (eqb a 0 && list_all p (drop i xs))
+next_mark p a m i d xs h is =
+    let left = list_all p (drop (i + 1) xs) in
+    ap (λ t. t && left) (joined_marks a m) ∙ (ap (λ t. (eqb a 0 && t) && left) is ∙ (regrouped (eqb a 0) (p (get_or xs i d)) left ∙ ap (λ l. eqb a 0 && list_all p l) (sym (drop_more xs i d h))))
+  where
+    regrouped : (x y z : Bool) → ((x && y) && z) ≡ (x && (y && z))
+    regrouped true y z = refl
+    regrouped false y z = refl

@@ -13,7 +13,10 @@ use crate::written::Written;
 use memchr::memchr;
 
 /// So many bytes are looked at together, by vector code, before they are looked at one by one.
-const AT_ONCE: usize = 16;
+const AT_ONCE: usize = 64;
+
+/// Vector code takes a multiple of so many bytes. What is left over is looked at one by one.
+const LANES: usize = 8;
 
 fn name_len(bytes: &[u8]) -> usize
     ensures { result ≡ prefix_len Characters.is_name_byte bytes.now }
@@ -147,18 +150,21 @@ pub(crate) fn goes_no_further(bytes: &[u8]) -> bool
     }
 }
 
-// Whether a text is written with a byte as it is. It has no branches.
+// Whether a text is written with a byte as it is.
 pub(crate) fn is_text_plain(b: u8) -> bool
     ensures { result ≡ Spelling.is_text_plain b }
 {
-    (b != b'&') & (b != b'<') & (b != b'>') & (b != b'\r')
+    b != b'&' && b != b'<' && b != b'>' && b != b'\r'
 }
 
-#[tactic(auto, using(crate::proofs::Splits::prefix_within))]
+#[tactic(auto, using(crate::proofs::Splits::prefix_within, crate::proofs::Splits::prefix_of_all))]
 fn text_plain_near(bytes: &[u8]) -> usize
     ensures len { result ≡ prefix_len Spelling.is_text_plain bytes.now }
     ensures bound { result ≤ length bytes.now }
 {
+    if bytes.len() < AT_ONCE && are_text_plain(bytes) {
+        return bytes.len();
+    }
     bytes.iter().take_while(|b| is_text_plain(**b)).count()
 }
 
@@ -181,18 +187,21 @@ fn split_text_plain(bytes: &[u8]) -> (&[u8], &[u8])
     bytes.split_at(text_plain_len(bytes))
 }
 
-// Whether a value is written with a byte as it is. It has no branches.
+// Whether a value is written with a byte as it is.
 pub(crate) fn is_value_plain(b: u8) -> bool
     ensures { result ≡ Spelling.is_value_plain b }
 {
-    is_text_plain(b) & (b != b'\'') & (b != b'\t') & (b != b'\n')
+    is_text_plain(b) && b != b'\'' && b != b'\t' && b != b'\n'
 }
 
-#[tactic(auto, using(crate::proofs::Splits::prefix_within))]
+#[tactic(auto, using(crate::proofs::Splits::prefix_within, crate::proofs::Splits::prefix_of_all))]
 fn value_plain_near(bytes: &[u8]) -> usize
     ensures len { result ≡ prefix_len Spelling.is_value_plain bytes.now }
     ensures bound { result ≤ length bytes.now }
 {
+    if bytes.len() < AT_ONCE && are_value_plain(bytes) {
+        return bytes.len();
+    }
     bytes.iter().take_while(|b| is_value_plain(**b)).count()
 }
 
@@ -226,34 +235,70 @@ pub(crate) fn split_plain_as(form: Written, bytes: &[u8]) -> (&[u8], &[u8])
     }
 }
 
-// Whether each byte is one that a text is written with as it is. No byte ends the loop, so that it can become vector code.
+// Whether each byte is one that a text is written with as it is.
+#[tactic(auto, using(crate::proofs::Splits::all_in_parts, crate::proofs::Splits::all_behind))]
 pub(crate) fn are_text_plain(bytes: &[u8]) -> bool
     ensures { result ≡ list_all Spelling.is_text_plain bytes.now }
 {
-    let mut plain = true;
-    for b in bytes {
-        plain &= is_text_plain(*b);
-    }
-    plain
+    let (front, back) = bytes.split_at(bytes.len() - bytes.len() % LANES);
+    all_text_plain(front) && each_text_plain(back)
 }
 
-// Whether each byte is one that a value is written with as it is. No byte ends the loop, so that it can become vector code.
+// The same, one by one.
+fn each_text_plain(bytes: &[u8]) -> bool
+    ensures { result ≡ list_all Spelling.is_text_plain bytes.now }
+{
+    bytes.iter().all(|b| is_text_plain(*b))
+}
+
+// Nothing for a byte that a text is written with as it is, and something for another.
+fn text_mark(b: u8) -> u8
+    ensures { (result == 0) ≡ Spelling.is_text_plain b }
+{
+    if is_text_plain(b) { 0 } else { 1 }
+}
+
+// The same. No byte ends the loop, and what they tell is joined as numbers, so that it becomes vector code.
+fn all_text_plain(bytes: &[u8]) -> bool
+    ensures { result ≡ list_all Spelling.is_text_plain bytes.now }
+{
+    let mut marks = 0u8;
+    for b in bytes {
+        marks |= text_mark(*b);
+    }
+    marks == 0
+}
+
+// Whether each byte is one that a value is written with as it is.
+#[tactic(auto, using(crate::proofs::Splits::all_in_parts, crate::proofs::Splits::all_behind))]
 pub(crate) fn are_value_plain(bytes: &[u8]) -> bool
     ensures { result ≡ list_all Spelling.is_value_plain bytes.now }
 {
-    let mut plain = true;
-    for b in bytes {
-        plain &= is_value_plain(*b);
-    }
-    plain
+    let (front, back) = bytes.split_at(bytes.len() - bytes.len() % LANES);
+    all_value_plain(front) && each_value_plain(back)
 }
 
-// Whether each byte is written as it is.
-pub(crate) fn are_plain_as(form: Written, bytes: &[u8]) -> bool
-    ensures { result ≡ list_all (Spelling.is_plain_as form) bytes.now }
+// The same, one by one.
+fn each_value_plain(bytes: &[u8]) -> bool
+    ensures { result ≡ list_all Spelling.is_value_plain bytes.now }
 {
-    match form {
-        Written::Text => are_text_plain(bytes),
-        Written::Value => are_value_plain(bytes),
+    bytes.iter().all(|b| is_value_plain(*b))
+}
+
+// Nothing for a byte that a value is written with as it is, and something for another.
+fn value_mark(b: u8) -> u8
+    ensures { (result == 0) ≡ Spelling.is_value_plain b }
+{
+    if is_value_plain(b) { 0 } else { 1 }
+}
+
+// The same. No byte ends the loop, and what they tell is joined as numbers, so that it becomes vector code.
+fn all_value_plain(bytes: &[u8]) -> bool
+    ensures { result ≡ list_all Spelling.is_value_plain bytes.now }
+{
+    let mut marks = 0u8;
+    for b in bytes {
+        marks |= value_mark(*b);
     }
+    marks == 0
 }

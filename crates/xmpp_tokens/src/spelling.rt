@@ -5,7 +5,7 @@ ghost use Rattle.xmpp_tokens.specs.Spelling.{spelled_text, spelled_value, text_b
 ghost use Rattle.xmpp_tokens.specs.Values.{text};
 
 use crate::fronts::{
-    are_plain_as, are_text_plain, are_value_plain, is_text_plain, is_value_plain, split_plain_as,
+    are_text_plain, are_value_plain, is_text_plain, is_value_plain, split_plain_as,
 };
 use crate::written::Written;
 use xmpp_edge::{Bytes, NoMemory};
@@ -96,17 +96,12 @@ fn append_run<'a>(form: Written, out: &mut Bytes, rest: &'a [u8]) -> &'a [u8]
     }
 }
 
-// Writes a text or a value at the end and takes no memory. Most are written as they are.
-#[tactic(auto, using(crate::proofs::SpellingRuns::plain_written))]
+// Writes a text or a value at the end and takes no memory.
 fn append_written(form: Written, out: &mut Bytes, bytes: &[u8])
     requires { length (written form bytes.now) ≤ out.old.spare }
     ensures items { out.new.items ≡ out.old.items ++ written form bytes.now }
     ensures spare { out.old.spare ≤ out.new.spare + length (written form bytes.now) }
 {
-    if are_plain_as(form, bytes) {
-        out.append_reserved(bytes);
-        return;
-    }
     let mut rest = bytes;
     while !rest.is_empty() {
         rest = append_run(form, out, rest);
