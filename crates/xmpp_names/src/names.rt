@@ -1,22 +1,33 @@
 //! The prefix and the local part of a name.
 ghost use Rattle.std.specs.Prelude.{◌≡◌, [], ◌∷◌, ◌++◌, unwrap_or};
+ghost use Rattle.std.specs.List.{position_or_len};
 ghost use Rattle.std.specs.Option.{option_map};
 ghost use Rattle.std.specs.Str.{bytes_eq};
-ghost use Rattle.xmpp_names.specs.Names.{has_colon, prefix_of, local_of, with_prefix};
+ghost use Rattle.xmpp_names.specs.Names.{has_colon, is_colon, prefix_of, local_of, with_prefix};
+
+// How many bytes stand before the first colon. Names are short: a search of many bytes at once gains nothing.
+fn before_colon_len(name: &[u8]) -> usize
+    ensures { result ≡ position_or_len is_colon name.now }
+{
+    name.iter().take_while(|b| **b != b':').count()
+}
 
 // Whether a name as it is spelled has a prefix.
 pub(crate) fn is_prefixed(name: &str) -> bool
     ensures { result ≡ has_colon name.now }
 {
-    name.split_once(':').is_some()
+    before_colon_len(name.as_bytes()) < name.len()
 }
 
-// The prefix and the local part of a name as it is spelled, apart at its colon.
+// The prefix and the local part of a name as it is spelled, apart at its colon. Most names have none.
 #[tactic(auto, unfolding(crate::specs::Names::prefix_of, crate::specs::Names::local_of))]
 pub(crate) fn split_name(name: &str) -> (&str, &str)
     ensures prefix { result.0.now ≡ prefix_of name.now }
     ensures local { result.1.now ≡ local_of name.now }
 {
+    if !is_prefixed(name) {
+        return ("", name);
+    }
     match name.split_once(':') {
         Some((prefix, local)) => (prefix, local),
         None => ("", name),
@@ -30,6 +41,9 @@ pub(crate) fn split_prefix(name: &str) -> (Option<&str>, &str)
     ensures local { result.1.now ≡ local_of name.now }
     ensures spelled { with_prefix (option_map (λ p. p.now) result.0) result.1.now ≡ name.now }
 {
+    if !is_prefixed(name) {
+        return (None, name);
+    }
     match name.split_once(':') {
         Some((prefix, local)) => (Some(prefix), local),
         None => (None, name),

@@ -1,9 +1,11 @@
 -- Names of ASCII characters without a colon.
-use Rattle.std.proofs.Common.{◌≡◌, ℕ, zero, suc, ◌<◌, ◌++◌, cond, Some, None, true, false, eqb, not, ◌&&◌, nat_lt, List, [], ◌∷◌, refl, sym, ap, ◌∙◌, arith, ⊎_elim}
+use Rattle.std.proofs.Common.{◌≡◌, ℕ, zero, suc, ◌+◌, ◌-◌, ◌<◌, ◌++◌, cond, Some, None, true, false, eqb, not, ◌&&◌, nat_lt, List, [], ◌∷◌, take, drop, length, length-drop, refl, sym, ap, ◌∙◌, arith, ⊎_elim}
 use Rattle.std.proofs.lemmas.Bool.{cases_Bool, and_parts, and_from, cond-true}
 use Rattle.std.proofs.lemmas.Bool.Decides.{nat_tests}
 use Rattle.std.proofs.lemmas.Str.{is_utf8-from_IsUtf8}
-use Rattle.std.specs.List.{list_all}
+use Rattle.std.proofs.Math.Seq.{take-length}
+use Rattle.std.specs.Char.{is_ascii_lowercase}
+use Rattle.std.specs.List.{list_all, prefix_len}
 use Rattle.std.specs.Str.{IsAscii}
 use Rattle.xmpp_tokens.proofs.Splits as splits
 use Rattle.xmpp_tokens.proofs.Texts.{ascii_is_text}
@@ -64,6 +66,16 @@ all_qualified : (bs : List ℕ) → list_all is_ascii_name_byte bs ≡ true → 
 all_qualified [] h = refl
 all_qualified (b ∷ bs) h =
     let p = and_parts (is_ascii_name_byte b) _ h in and_from _ _ (qualified_byte b p.0) (all_qualified bs p.1)
+
+-- small letters at the front, and what goes on behind them
+small_letter : (b : ℕ) → is_ascii_lowercase b ≡ true → is_ascii_name_byte b ≡ true
+small_letter b h = grind (arith, nat_tests)
+
+pub letters_first : (bs : List ℕ) (n m : ℕ) → n ≡ prefix_len is_ascii_lowercase bs → m ≡ prefix_len is_ascii_name_byte (take (length bs - n) (drop n bs)) → n + m ≡ prefix_len is_ascii_name_byte bs
+letters_first bs n m is more =
+    let left : take (length bs - n) (drop n bs) ≡ drop n bs = ap (λ k. take k (drop n bs)) (sym (length-drop n bs)) ∙ take-length (drop n bs) in
+    ap (λ k. n + k) (more ∙ ap (prefix_len is_ascii_name_byte) left)
+    ∙ (ap (λ k. k + prefix_len is_ascii_name_byte (drop k bs)) is ∙ splits.prefix_in_two is_ascii_lowercase is_ascii_name_byte small_letter bs)
 
 -- ---- at the front
 

@@ -38,6 +38,18 @@ prefix_behind p (suc n) (x ∷ xs) within h =
     let ih = prefix_behind p n xs less q.1 in
     rw q.0 (omega arith)
 
+-- what passes one test and then the other, where the other is wider
+pub prefix_in_two : (p q : ℕ → Bool) → ((x : ℕ) → p x ≡ true → q x ≡ true) → (xs : List ℕ) → prefix_len p xs + prefix_len q (drop (prefix_len p xs) xs) ≡ prefix_len q xs
+prefix_in_two p q wider [] = refl
+prefix_in_two p q wider (x ∷ xs) =
+    ⊎_elim
+    (λ (t : p x ≡ true).
+    let n : 1 + prefix_len p xs ≡ suc (prefix_len p xs) = omega arith in
+    let ih = prefix_in_two p q wider xs in
+    rw (t, wider x t, n) (omega (arith, ih)))
+    (λ (f : p x ≡ false). rw f (omega arith))
+    (cases_Bool (p x))
+
 -- what passes behind a place where all have passed
 pub prefix_further : (p : ℕ → Bool) (done to : ℕ) (xs : List ℕ) → done ≤ to → to ≤ length xs → list_all p (take (to - done) (drop done xs)) ≡ true
     → to - done + prefix_len p (drop to xs) ≡ prefix_len p (drop done xs)

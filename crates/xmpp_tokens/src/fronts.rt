@@ -1,5 +1,6 @@
 //! A slice's front of bytes of a class, and what is behind it.
 ghost use Rattle.std.specs.Prelude.{◌≡◌, ◌<◌, ◌≤◌, ◌==◌, true, not, length};
+ghost use Rattle.std.specs.Char.{is_ascii_lowercase};
 ghost use Rattle.std.specs.List.{list_all, prefix_len};
 ghost use Rattle.xmpp_tokens.specs.Characters;
 ghost use Rattle.xmpp_tokens.specs.Fronts.{front, behind};
@@ -123,10 +124,28 @@ pub(crate) fn split_qualified(bytes: &[u8]) -> (&[u8], &[u8])
     bytes.split_at(qualified_len(bytes))
 }
 
+#[tactic(auto, using(crate::proofs::Splits::prefix_within))]
+fn letters_len(bytes: &[u8]) -> usize
+    ensures len { result ≡ prefix_len is_ascii_lowercase bytes.now }
+    ensures bound { result ≤ length bytes.now }
+{
+    bytes.iter().take_while(|b| b.is_ascii_lowercase()).count()
+}
+
+#[tactic(auto, using(crate::proofs::Splits::prefix_within))]
+fn any_ascii_name_len(bytes: &[u8]) -> usize
+    ensures len { result ≡ prefix_len Characters.is_ascii_name_byte bytes.now }
+    ensures bound { result ≤ length bytes.now }
+{
+    bytes.iter().take_while(|b| is_ascii_name_byte(**b)).count()
+}
+
+// Most names are small letters alone, which one test tells.
 fn ascii_name_len(bytes: &[u8]) -> usize
     ensures { result ≡ prefix_len Characters.is_ascii_name_byte bytes.now }
 {
-    bytes.iter().take_while(|b| is_ascii_name_byte(**b)).count()
+    let letters = letters_len(bytes);
+    letters + any_ascii_name_len(&bytes[letters..])
 }
 
 // The bytes of ASCII that go on a name, and the rest.
