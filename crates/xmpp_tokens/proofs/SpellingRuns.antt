@@ -1,10 +1,10 @@
 -- What is written, a run of plain bytes or one escaped byte at a time.
-use Rattle.std.proofs.Common.{◌≡◌, ℕ, ◌+◌, ◌<◌, ◌≤◌, Bool, true, false, eqb, List, [], ◌∷◌, ◌++◌, length, refl, sym, ap, ◌∙◌, arith, ⊎_elim, append_assoc, length-append}
+use Rattle.std.proofs.Common.{◌≡◌, ℕ, ◌+◌, ◌<◌, ◌≤◌, Bool, true, false, eqb, List, [], ◌∷◌, ◌++◌, length, min, refl, sym, ap, ◌∙◌, arith, ⊎_elim, append_assoc, length-append}
 use Rattle.std.proofs.lemmas.Bool.{cases_Bool, and_parts, or_parts, not-true}
 use Rattle.std.proofs.lemmas.Bool.Decides.{nat_tests}
-use Rattle.std.specs.List.{flat_map, list_all}
+use Rattle.std.specs.List.{flat_map}
 use Rattle.xmpp_tokens.specs.Fronts.{front, behind}
-use Rattle.xmpp_tokens.specs.Spelling.{text_byte, value_byte, written_byte, written, spelled_text, spelled_value, is_text_plain, is_value_plain, is_plain_as}
+use Rattle.xmpp_tokens.specs.Spelling.{text_byte, value_byte, written_byte, is_text_plain, is_value_plain, is_plain_as}
 use Rattle.xmpp_tokens.specs.declared.written.Written.{Written}
 use Rattle.xmpp_tokens.specs.declared.written.Written.TheVariants.{Text, Value}
 use Rattle.xmpp_tokens.proofs.Splits.{behind_stops, length-joined}
@@ -28,19 +28,6 @@ value_plain_is b h =
 pub plain_is : (form : Written) (b : ℕ) → is_plain_as form b ≡ true → written_byte form b ≡ b ∷ []
 plain_is Text b h = text_plain_is b h
 plain_is Value b h = value_plain_is b h
-
--- bytes that are all plain are written as they are
-pub plain_written : (form : Written) (bs : List ℕ) → list_all (is_plain_as form) bs ≡ true → written form bs ≡ bs
-plain_written form [] h = refl
-plain_written form (b ∷ bs) h =
-    let p = and_parts (is_plain_as form b) _ h in
-    ap (λ l. l ++ written form bs) (plain_is form b p.0) ∙ ap (λ l. b ∷ l) (plain_written form bs p.1)
-
-pub text_len_is : (bs : List ℕ) → list_all is_text_plain bs ≡ true → length (spelled_text bs) ≡ length bs
-text_len_is bs h = ap length (plain_written Text bs h)
-
-pub value_len_is : (bs : List ℕ) → list_all is_value_plain bs ≡ true → length (spelled_value bs) ≡ length bs
-value_len_is bs h = ap length (plain_written Value bs h)
 
 -- what a text escapes, a value does, and in the same way
 pub text_needs : (b : ℕ) → is_text_plain b ≡ false → is_value_plain b ≡ false
@@ -116,4 +103,15 @@ module _ (f : ℕ → List ℕ) (p : ℕ → Bool) (plain_is : (b : ℕ) → p b
 
   pub spare_plain : (plain special rest : List ℕ) (spare more : ℕ) → plain ≡ front p rest → special ≡ behind p rest → spare ≤ more + length plain → spare + length (flat_map f special) ≤ more + length (flat_map f rest)
   spare_plain plain special rest spare more is_front is_rest kept =
+      let e = ap length (whole plain special rest is_front is_rest) in omega (arith, e, length-append plain (flat_map f special))
+
+  pub len_escaped : (plain special rest left escaped : List ℕ) (b len mid last most : ℕ) → plain ≡ front p rest → special ≡ behind p rest → special ≡ b ∷ left → escaped ≡ f b
+      → mid ≡ min (len + length plain) most → last ≡ min (mid + length escaped) most → min (last + length (flat_map f left)) most ≡ min (len + length (flat_map f rest)) most
+  len_escaped plain special rest left escaped b len mid last most is_front is_rest begins is_escaped first second =
+      let e = ap length (parts plain special rest left escaped b is_front is_rest begins is_escaped) in
+      omega (arith, e, length-append plain (escaped ++ flat_map f left), length-append escaped (flat_map f left))
+
+  pub len_plain : (plain special rest : List ℕ) (len last most : ℕ) → plain ≡ front p rest → special ≡ behind p rest → last ≡ min (len + length plain) most
+      → min (last + length (flat_map f special)) most ≡ min (len + length (flat_map f rest)) most
+  len_plain plain special rest len last most is_front is_rest counted =
       let e = ap length (whole plain special rest is_front is_rest) in omega (arith, e, length-append plain (flat_map f special))

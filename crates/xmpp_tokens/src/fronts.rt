@@ -170,7 +170,7 @@ pub(crate) fn goes_no_further(bytes: &[u8]) -> bool
 }
 
 // Whether a text is written with a byte as it is.
-pub(crate) fn is_text_plain(b: u8) -> bool
+fn is_text_plain(b: u8) -> bool
     ensures { result ≡ Spelling.is_text_plain b }
 {
     b != b'&' && b != b'<' && b != b'>' && b != b'\r'
@@ -207,7 +207,7 @@ fn split_text_plain(bytes: &[u8]) -> (&[u8], &[u8])
 }
 
 // Whether a value is written with a byte as it is.
-pub(crate) fn is_value_plain(b: u8) -> bool
+fn is_value_plain(b: u8) -> bool
     ensures { result ≡ Spelling.is_value_plain b }
 {
     is_text_plain(b) && b != b'\'' && b != b'\t' && b != b'\n'
@@ -256,7 +256,7 @@ pub(crate) fn split_plain_as(form: Written, bytes: &[u8]) -> (&[u8], &[u8])
 
 // Whether each byte is one that a text is written with as it is.
 #[tactic(auto, using(crate::proofs::Splits::all_in_parts, crate::proofs::Splits::all_behind))]
-pub(crate) fn are_text_plain(bytes: &[u8]) -> bool
+fn are_text_plain(bytes: &[u8]) -> bool
     ensures { result ≡ list_all Spelling.is_text_plain bytes.now }
 {
     let (front, back) = bytes.split_at(bytes.len() - bytes.len() % LANES);
@@ -290,7 +290,7 @@ fn all_text_plain(bytes: &[u8]) -> bool
 
 // Whether each byte is one that a value is written with as it is.
 #[tactic(auto, using(crate::proofs::Splits::all_in_parts, crate::proofs::Splits::all_behind))]
-pub(crate) fn are_value_plain(bytes: &[u8]) -> bool
+fn are_value_plain(bytes: &[u8]) -> bool
     ensures { result ≡ list_all Spelling.is_value_plain bytes.now }
 {
     let (front, back) = bytes.split_at(bytes.len() - bytes.len() % LANES);

@@ -1,12 +1,10 @@
 //! Texts and values as they are written (XML 1.0, sections 2.4, 2.11, 3.3.3 and 4.6).
 ghost use Rattle.std.specs.Prelude.{◌≡◌, ◌≢◌, ◌+◌, ◌-◌, ◌^◌, ◌<◌, ◌≤◌, ◌==◌, ◌++◌, false, Some, length, min, OnOk, OnErr};
 ghost use Rattle.xmpp_tokens.specs.Spelling;
-ghost use Rattle.xmpp_tokens.specs.Spelling.{spelled_text, spelled_value, text_byte, value_byte, written};
+ghost use Rattle.xmpp_tokens.specs.Spelling.{spelled_text, spelled_value, value_byte, written};
 ghost use Rattle.xmpp_tokens.specs.Values.{text};
 
-use crate::fronts::{
-    are_text_plain, are_value_plain, is_text_plain, is_value_plain, split_plain_as,
-};
+use crate::fronts::split_plain_as;
 use crate::written::Written;
 use xmpp_edge::{Bytes, NoMemory};
 
@@ -27,54 +25,45 @@ fn escape(b: u8) -> &'static [u8]
     }
 }
 
-// How many bytes a byte of a text is written in.
-#[tactic(auto, using(crate::proofs::SpellingRuns::text_plain_is, crate::proofs::SpellingRuns::text_escaped_is, crate::proofs::SpellingRuns::text_needs))]
-fn text_byte_len(b: u8) -> usize
-    ensures { result ≡ length (text_byte b) }
+// Counts what comes before the first byte to escape, and that byte escaped, and answers what is left.
+fn count_run<'a>(form: Written, len: usize, rest: &'a [u8]) -> (usize, &'a [u8])
+    ensures len { min (result.0 + length (written form result.1.now)) (2 ^ 64 - 1) ≡ min (len + length (written form rest.now)) (2 ^ 64 - 1) }
+    ensures shorter { length rest.now ≢ 0 → length result.1.now < length rest.now }
 {
-    if is_text_plain(b) { 1 } else { escape(b).len() }
+    let (plain, special) = split_plain_as(form, rest);
+    let before = len.saturating_add(plain.len());
+    match special.split_first() {
+        Some((b, left)) => (before.saturating_add(escape(*b).len()), left),
+        None => (before, special),
+    }
 }
 
-// How many bytes a byte of a value is written in.
-#[tactic(auto, using(crate::proofs::SpellingRuns::value_plain_is))]
-fn value_byte_len(b: u8) -> usize
-    ensures { result ≡ length (value_byte b) }
+// The length of a text or a value as it is written.
+fn written_len(form: Written, bytes: &[u8]) -> usize
+    ensures { result ≡ min (length (written form bytes.now)) (2 ^ 64 - 1) }
 {
-    if is_value_plain(b) {
-        1
-    } else {
-        escape(b).len()
+    let mut len = 0usize;
+    let mut rest = bytes;
+    while !rest.is_empty() {
+        let (counted, left) = count_run(form, len, rest);
+        len = counted;
+        rest = left;
     }
+    len
 }
 
 /// The length of a text as it is written, or 2^64 - 1 where that is less. It takes no memory.
-#[tactic(auto, using(crate::proofs::SpellingRuns::text_len_is))]
 pub fn spelled_text_len(bytes: &[u8]) -> usize
     ensures { result ≡ min (length (spelled_text bytes.now)) (2 ^ 64 - 1) }
 {
-    if are_text_plain(bytes) {
-        return bytes.len();
-    }
-    let mut len = 0usize;
-    for b in bytes {
-        len = len.saturating_add(text_byte_len(*b));
-    }
-    len
+    written_len(Written::Text, bytes)
 }
 
 /// The length of a value as it is written, or 2^64 - 1 where that is less. It takes no memory.
-#[tactic(auto, using(crate::proofs::SpellingRuns::value_len_is))]
 pub fn spelled_value_len(bytes: &[u8]) -> usize
     ensures { result ≡ min (length (spelled_value bytes.now)) (2 ^ 64 - 1) }
 {
-    if are_value_plain(bytes) {
-        return bytes.len();
-    }
-    let mut len = 0usize;
-    for b in bytes {
-        len = len.saturating_add(value_byte_len(*b));
-    }
-    len
+    written_len(Written::Value, bytes)
 }
 
 // Writes what comes before the first byte to escape, and that byte escaped, and answers what is left.

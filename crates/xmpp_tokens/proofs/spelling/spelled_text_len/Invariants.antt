@@ -1,6 +1,0 @@
-use Rattle.std.proofs.Common.{◌≡◌, ◌-◌, ◌^◌, min, length, take}
-use Rattle.xmpp_tokens.specs.Spelling.{spelled_text}
-use Rattle.xmpp_tokens.proofs.spelling.spelled_text_len.Given as goal
-
-abbrev pub invariant-loop-b : goal.invariant-loop-b
-invariant-loop-b l = l.len ≡ min (length (spelled_text (take l.b-index l.bytes))) (2 ^ 64 - 1)
