@@ -44,10 +44,14 @@ impl Copied for Attr {
     }
 }
 
-// How the names of two attributes are ordered: by the bytes of the namespace, and then by those of the name.
+// How the names of two attributes are ordered: by the bytes of the namespace, which most have not, and then by those of the
+// name.
 fn order_of_names(a: &Attr, b: &Attr) -> Ordering
     ensures { result ≡ name_order a.now b.now }
 {
+    if a.ns.as_str().is_empty() && b.ns.as_str().is_empty() {
+        return a.name.as_str().cmp(b.name.as_str());
+    }
     match a.ns.as_str().cmp(b.ns.as_str()) {
         Ordering::Less => Ordering::Less,
         Ordering::Equal => a.name.as_str().cmp(b.name.as_str()),
