@@ -1,4 +1,3 @@
 pub mod Directions
-pub mod Popped
 pub mod Senders
 mod Worked

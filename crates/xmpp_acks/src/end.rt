@@ -46,20 +46,6 @@ impl Model for AckEnd {
     ghost view = { λ e. record { queue = e.queue; acked = e.acked; handled = e.handled } };
 }
 
-// Takes so many stanzas out of a queue, the oldest first.
-fn pop_oldest(pool: &mut Pool, queue: QueueId, n: u32)
-    requires lives { Lives queue pool.old }
-    requires within { n ≤ length (list_of queue pool.old) }
-    ensures queue { stanzas_of queue pool.new ≡ Some (drop n (list_of queue pool.old)) }
-    ensures others { (other : ℕ) → other ≢ queue → stanzas_of other pool.new ≡ stanzas_of other pool.old }
-    ensures made { pool.new.made ≡ pool.old.made }
-    ensures kept { pool.old.spare ≤ pool.new.spare }
-{
-    for _ in 0..n {
-        let _ = pool.pop_front(queue);
-    }
-}
-
 impl AckEnd {
     /// An end whose stanzas wait in a queue, with both counters 0.
     pub fn new(queue: QueueId) -> AckEnd
@@ -176,7 +162,7 @@ impl AckEnd {
             return Err(fault);
         }
         let count = h.wrapping_sub(self.acked);
-        pop_oldest(pool, self.queue, count);
+        pool.drop_front(self.queue, u64::from(count));
         self.acked = h;
         Ok(count)
     }

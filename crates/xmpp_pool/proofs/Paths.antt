@@ -1,7 +1,7 @@
 -- What a queue's path through the nodes is after some of them changed.
 use Rattle.std.proofs.Common.{◌≡◌, ◌≢◌, ℕ, zero, suc, ◌+◌, ◌-◌, ◌<◌, ◌≤◌, true, true≢false, List, [], ◌∷◌, ◌++◌, Option, Some, None, is_some, IsSome, IfSome, length, length-append, min, get_or, set, drop, count_by, cond, refl, sym, ap, ◌∙◌, arith, inl, inr}
 use Rattle.std.proofs.lemmas.Bool.{cases_eq}
-use Rattle.std.proofs.lemmas.List.{append_assoc, map-append, length-map}
+use Rattle.std.proofs.lemmas.List.{append_assoc, drop-drop, map-append, length-map}
 use Rattle.std.proofs.lemmas.List.Sums.{sum_by-cons}
 use Rattle.std.specs.List.{concat, slice_get}
 use Rattle.slab.specs.Slab.{Slab, ContainsKey, with_value}
@@ -38,6 +38,24 @@ apart_parts [] ys y a = (tt, tt)
 apart_parts (x ∷ xs) ys y a =
     let rest = apart_parts xs ys y a.1 in
     ((λ e. a.0.0 (sym e), rest.0), (a.0.1, rest.1))
+
+pub lacks_drop : (k n : ℕ) (places : List ℕ) → Lacks k places → Lacks k (drop n places)
+lacks_drop k zero places away = away
+lacks_drop k (suc n) [] away = tt
+lacks_drop k (suc n) (p ∷ places) away = lacks_drop k n places away.1
+
+pub apart_drop : (n : ℕ) (xs ys : List ℕ) → AreApart xs ys → AreApart (drop n xs) ys
+apart_drop zero xs ys a = a
+apart_drop (suc n) [] ys a = tt
+apart_drop (suc n) (x ∷ xs) ys a = apart_drop n xs ys a.1
+
+-- what is left after one more
+pub drop_next : {A : Type 0} (i : ℕ) (all : List A) (x : A) (rest : List A) → drop i all ≡ x ∷ rest → rest ≡ drop (i + 1) all
+drop_next i all x rest split = sym (ap (drop 1) split) ∙ drop-drop 1 i all
+
+pub drop_all : {A : Type 0} (all : List A) → drop (length all) all ≡ []
+drop_all [] = refl
+drop_all (x ∷ all) = drop_all all
 
 pub apart_none : (xs : List ℕ) → AreApart xs []
 apart_none [] = tt

@@ -2,7 +2,7 @@
 ghost use Rattle.std.specs.List.{concat};
 ghost use Rattle.std.specs.Prelude.{◌≡◌, ◌≢◌, ◌+◌, ◌-◌, ◌<◌, ◌≤◌, ◌^◌, ◌++◌, ◌∷◌, ℕ, IfSome, drop, length, min, OnOk};
 ghost use Rattle.slab.specs.Slab.{ContainsKey, slab_len, with_value};
-ghost use Rattle.xmpp_pool.specs.Arena.{AreApart, AreHeld, IsLinked, LeavesOthers, bytes_along, bytes_in, next_in, node_at, path, path_of, stanzas_at};
+ghost use Rattle.xmpp_pool.specs.Arena.{AreApart, AreHeld, IsLinked, Lacks, LeavesOthers, bytes_along, bytes_in, next_in, node_at, path, path_of, stanzas_at};
 ghost use Rattle.xmpp_pool.specs.Queues.{stanzas_in};
 
 use slab::Slab;
@@ -100,6 +100,23 @@ impl Ends {
         self.first = next;
         self.len -= 1;
         bytes
+    }
+
+    /// Takes so many nodes out, the first ones, with their stanzas.
+    pub(crate) fn drop_first(&mut self, nodes: &mut Slab<Node>, n: u64)
+        requires linked { IsLinked nodes.old.slots self.old }
+        requires within { n ≤ self.old.len }
+        ensures linked { IsLinked nodes.new.slots self.new }
+        ensures path { path_of nodes.new.slots self.new ≡ drop n (path_of nodes.old.slots self.old) }
+        ensures stanzas { stanzas_at nodes.new.slots self.new ≡ drop n (stanzas_at nodes.old.slots self.old) }
+        ensures len { self.new.len + n ≡ self.old.len }
+        ensures others { (at : ℕ) → Lacks at (path_of nodes.old.slots self.old) → node_at nodes.new.slots at ≡ node_at nodes.old.slots at }
+        ensures nodes { slab_len nodes.new + n ≡ slab_len nodes.old }
+        ensures capacity { nodes.new.capacity ≡ nodes.old.capacity }
+    {
+        for _ in 0..n {
+            let _ = self.take(nodes);
+        }
     }
 
     /// The place of a node, counted from 0.

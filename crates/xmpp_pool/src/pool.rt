@@ -159,6 +159,21 @@ impl Pool {
         Some(bytes)
     }
 
+    /// Takes so many stanzas out of a queue, the oldest first, each of which makes room for one more. It takes no memory.
+    pub fn drop_front(&mut self, queue: QueueId, n: u64)
+        requires lives { Lives queue self.old }
+        requires within { n ≤ length (list_of queue self.old) }
+        ensures queue { stanzas_of queue self.new ≡ Some (drop n (list_of queue self.old)) }
+        ensures others { (other : ℕ) → other ≢ queue → stanzas_of other self.new ≡ stanzas_of other self.old }
+        ensures made { self.new.made ≡ self.old.made }
+        ensures room { self.old.spare + n ≤ self.new.spare }
+        ensures nodes { nodes_of self.new ≡ nodes_of self.old }
+    {
+        let mut ends = ends_of(&self.ends, queue);
+        ends.drop_first(&mut self.nodes, n);
+        set_ends(&mut self.ends, queue, ends);
+    }
+
     /// How many stanzas wait in a queue.
     pub fn len(&self, queue: QueueId) -> u64
         requires { Lives queue self.now }
@@ -264,9 +279,8 @@ impl Pool {
         ensures room { self.old.spare + length (list_of queue self.old) ≤ self.new.spare }
         ensures nodes { nodes_of self.new ≡ nodes_of self.old }
     {
-        while self.len(queue) > 0 {
-            let _ = self.pop_front(queue);
-        }
+        let count = self.len(queue);
+        self.drop_front(queue, count);
         self.forget(queue);
     }
 

@@ -25,8 +25,8 @@ returns-clause-acknowledges c = λ n d next reached sender move is.
     let number : (c.args.h + (2 ^ 32 - c.self.inside.acked)) % 2 ^ 32 ≡ n - d.acked = omega arith in (
       ap Ok number,
       sender_acked c.args.self.now (record { queue = c.self.inside.queue; acked = c.args.h; handled = c.self.inside.handled }) c.args.pool.now
-          c.pop_oldest.new.pool d next n c.args.h c.self.inside.queue ((c.args.h + (2 ^ 32 - c.self.inside.acked)) % 2 ^ 32) facts is
-          (ap (λ (v : AckView). v.queue) c.self.view_is) number c.pop_oldest.ensures.queue refl refl (ap (λ (e : Direction (List ℕ)). e.put) move.2)
+          c.drop_front.new.self d next n c.args.h c.self.inside.queue ((c.args.h + (2 ^ 32 - c.self.inside.acked)) % 2 ^ 32) facts is
+          (ap (λ (v : AckView). v.queue) c.self.view_is) number (rw c.from.ensures at c.drop_front.ensures.queue) refl refl (ap (λ (e : Direction (List ℕ)). e.put) move.2)
           (ap (λ (e : Direction (List ℕ)). e.acked) move.2),
     )
 
@@ -38,7 +38,7 @@ returns-clause-resumes c = λ d next reached sender move is.
     let number : (c.args.h + (2 ^ 32 - c.self.inside.acked)) % 2 ^ 32 ≡ length d.got - d.acked = omega arith in (
       ap Ok number,
       sender_acked c.args.self.now (record { queue = c.self.inside.queue; acked = c.args.h; handled = c.self.inside.handled }) c.args.pool.now
-          c.pop_oldest.new.pool d next (length d.got) c.args.h c.self.inside.queue ((c.args.h + (2 ^ 32 - c.self.inside.acked)) % 2 ^ 32) facts is
-          (ap (λ (v : AckView). v.queue) c.self.view_is) number c.pop_oldest.ensures.queue refl refl (ap (λ (e : Direction (List ℕ)). e.put) move)
+          c.drop_front.new.self d next (length d.got) c.args.h c.self.inside.queue ((c.args.h + (2 ^ 32 - c.self.inside.acked)) % 2 ^ 32) facts is
+          (ap (λ (v : AckView). v.queue) c.self.view_is) number (rw c.from.ensures at c.drop_front.ensures.queue) refl refl (ap (λ (e : Direction (List ℕ)). e.put) move)
           (ap (λ (e : Direction (List ℕ)). e.acked) move),
     )
