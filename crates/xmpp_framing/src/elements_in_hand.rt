@@ -19,8 +19,9 @@ use xmpp_names::{ExpandedAttribute, Tag};
 use xmpp_open_elements::OpenElements;
 use xmpp_trees::{Attr, Attrs, Element, Tree, tidy_attrs};
 
-// So many bytes stand in a text itself.
-const SHORT: usize = 16;
+// A text of up to so many bytes is copied out of the room that it was read into, which stays for the next one. The room of
+// a longer one goes with it.
+const COPIED: usize = 512;
 
 // The attributes of a tag in the order of a tree, moved.
 fn attrs_of(alloc: Global, attributes: Vec<ExpandedAttribute>) -> Result<Attrs, NoMemory>
@@ -34,7 +35,7 @@ fn attrs_of(alloc: Global, attributes: Vec<ExpandedAttribute>) -> Result<Attrs, 
     tidy_attrs(Attrs::from(attrs))
 }
 
-// The text in hand joins the innermost open element. A short one leaves its room for the next.
+// The text in hand joins the innermost open element.
 fn join_to(alloc: Global, opens: &mut OpenElements, chars: &mut String) -> Result<(), NoMemory>
     ensures joined { OnOk result (opens.new ≡ joined opens.old (text_node (string_bytes chars.old))) }
     ensures taken { OnOk result (string_bytes chars.new ≡ []) }
@@ -42,7 +43,7 @@ fn join_to(alloc: Global, opens: &mut OpenElements, chars: &mut String) -> Resul
     if chars.as_str().is_empty() {
         return Ok(());
     }
-    if chars.as_str().len() <= SHORT {
+    if chars.as_str().len() <= COPIED {
         opens.text(Text::from_str(alloc, chars.as_str())?)?;
         chars.clear();
         return Ok(());

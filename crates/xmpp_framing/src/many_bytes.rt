@@ -70,6 +70,7 @@ fn is_usual(b: u8) -> bool
 }
 
 // Whether each byte is one of ASCII that says itself in a text. No byte ends the loop, so that it can become vector code.
+#[inline(never)]
 fn are_usual(bytes: &[u8]) -> bool
     ensures { result ≡ list_all (λ b. is_plain_ascii b && (not (b == 62) && not (b == 93))) bytes.now }
 {
@@ -205,6 +206,7 @@ fn open_quote(quote: u8, inside: bool) -> Option<u8>
 
 // The quote that is open behind bytes whose first stands inside a quote, where each of them is of ASCII, none is `>` and
 // none is the other quote. No byte ends the loop, so that it can become vector code.
+#[inline(never)]
 fn quote_behind_calm(quote: u8, bytes: &[u8]) -> Option<Option<u8>>
     ensures { IfSome result (λ behind. GoesOnTo (Some quote) bytes.now (length bytes.now) behind) }
 {

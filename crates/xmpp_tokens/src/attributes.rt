@@ -119,11 +119,9 @@ pub(crate) fn spelled_at(bytes: &[u8]) -> Option<SpelledAttribute<'_>>
 pub(crate) fn end_in(bytes: &[u8]) -> Option<bool>
     ensures { result ≡ Tags.end_in bytes.now }
 {
-    if bytes == b">".as_slice() {
-        Some(false)
-    } else if bytes == b"/>".as_slice() {
-        Some(true)
-    } else {
-        None
+    match *bytes {
+        [a] if a == b'>' => Some(false),
+        [a, b] if a == b'/' && b == b'>' => Some(true),
+        _ => None,
     }
 }

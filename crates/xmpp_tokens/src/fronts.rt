@@ -17,7 +17,7 @@ use memchr::memchr;
 const AT_ONCE: usize = 64;
 
 /// Vector code takes a multiple of so many bytes. What is left over is looked at one by one.
-const LANES: usize = 8;
+pub(crate) const LANES: usize = 8;
 
 fn name_len(bytes: &[u8]) -> usize
     ensures { result ≡ prefix_len Characters.is_name_byte bytes.now }

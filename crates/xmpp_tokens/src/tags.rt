@@ -1,5 +1,5 @@
 //! Tags (XML 1.0, section 3.1).
-ghost use Rattle.std.specs.Prelude.{◌≡◌, ◌<◌, true, false, Some, None, Ok, Err, length, map, IfOk, IfErr, IfSome};
+ghost use Rattle.std.specs.Prelude.{◌≡◌, ◌<◌, [], ◌∷◌, ◌++◌, true, false, Some, None, Ok, Err, length, map, IfOk, IfErr, IfSome, OnOk};
 ghost use Rattle.xmpp_tokens.specs.Faults.{IfRefused};
 ghost use Rattle.xmpp_tokens.specs.RawTags.{attribute_of, raw_tag};
 ghost use Rattle.xmpp_tokens.specs.Tags;
@@ -14,6 +14,9 @@ use crate::raw_tags::{RawAttribute, RawTag, StartTag};
 use crate::values::{begins_unknown, has_ampersand, value_text};
 use std::alloc::Global;
 use xmpp_edge::NoMemory;
+
+/// Room for so many attributes is taken with the first one. Most tags have no more.
+const FIRST_ATTRIBUTES: usize = 4;
 
 // The attribute that bytes begin with, and what is behind it, if they begin with one.
 fn attribute_at<'a>(
@@ -34,6 +37,20 @@ fn attribute_at<'a>(
     }
 }
 
+// Adds an attribute to those that were read before it.
+fn add<'a>(
+    attributes: &mut Vec<RawAttribute<'a>>,
+    attribute: RawAttribute<'a>,
+) -> Result<(), NoMemory>
+    ensures { OnOk result (attributes.new.items ≡ attributes.old.items ++ attribute.entry ∷ []) }
+{
+    if attributes.is_empty() {
+        attributes.reserve(FIRST_ATTRIBUTES)?;
+    }
+    attributes.push(attribute)?;
+    Ok(())
+}
+
 // The attributes of a start tag, and whether it is that of an empty element, if bytes are such.
 fn read_inside<'a>(
     alloc: Global,
@@ -50,7 +67,7 @@ fn read_inside<'a>(
         }
         match attribute_at(alloc, rest)? {
             Some((attribute, left)) => {
-                attributes.push(attribute)?;
+                add(&mut attributes, attribute)?;
                 rest = left;
             }
             None => return Ok(None),

@@ -8,7 +8,7 @@ ghost use Rattle.xmpp_tokens.specs.Values.{as_text, in_front, reference, text, v
 
 use crate::characters::are_characters;
 use crate::fault::{TagFault, TagWhy};
-use crate::fronts::{split_name_bytes, split_plain, split_until};
+use crate::fronts::{LANES, split_name_bytes, split_plain, split_until};
 use crate::references::{Reference, referred};
 use std::alloc::Global;
 use xmpp_edge::{NoMemory, Text, ascii_str};
@@ -135,15 +135,38 @@ fn is_plain_ascii(b: u8) -> bool
     b' ' <= b && b < 128 && b != b'&' && b != b'<'
 }
 
-// Whether a spelled value is what it says, and in ASCII. No byte ends the loop, so that it can become vector code.
+// Whether a spelled value is what it says, and in ASCII.
+#[tactic(auto, using(crate::proofs::Splits::all_in_parts, crate::proofs::Splits::all_behind))]
 fn are_plain_ascii(raw: &[u8]) -> bool
     ensures { result ≡ list_all Values.is_plain_ascii raw.now }
 {
-    let mut plain = true;
+    let (front, back) = raw.split_at(raw.len() - raw.len() % LANES);
+    all_plain_ascii(front) && each_plain_ascii(back)
+}
+
+// The same, one by one.
+fn each_plain_ascii(raw: &[u8]) -> bool
+    ensures { result ≡ list_all Values.is_plain_ascii raw.now }
+{
+    raw.iter().all(|b| is_plain_ascii(*b))
+}
+
+// Nothing for an ASCII character that a value says as it is, and something for another.
+fn ascii_mark(b: u8) -> u8
+    ensures { (result == 0) ≡ Values.is_plain_ascii b }
+{
+    if is_plain_ascii(b) { 0 } else { 1 }
+}
+
+// The same. No byte ends the loop, and what they tell is joined as numbers, so that it becomes vector code.
+fn all_plain_ascii(raw: &[u8]) -> bool
+    ensures { result ≡ list_all Values.is_plain_ascii raw.now }
+{
+    let mut marks = 0u8;
     for b in raw {
-        plain &= is_plain_ascii(*b);
+        marks |= ascii_mark(*b);
     }
-    plain
+    marks == 0
 }
 
 // A copy of a spelled value that is what it says.

@@ -18,7 +18,7 @@ returns-in-None c =
 
 pub loop-empty-preserved : goal.loop-empty-preserved
 loop-empty-preserved c =
-    inside_goes_on (map attribute_of c.loop-empty.attributes.items) (map attribute_of c.push.new.self.items) c.loop-empty.rest.now c.end_in.result (attribute_of c.in-Some-2.attribute) c.in-Some-2.left.now
+    inside_goes_on (map attribute_of c.loop-empty.attributes.items) (map attribute_of c.add.new.attributes.items) c.loop-empty.rest.now c.end_in.result (attribute_of c.in-Some-2.attribute) c.in-Some-2.left.now
     (c.end_in.ensures ∙ ap end_in c.split_white.ensures.behind) c.in_default.is (sym (rw c.in-Some-2.is at c.in_ok-attribute.ensures.found))
-    (ap (map attribute_of) c.in_ok-push-in-Some-2.ensures.items ∙ map_push attribute_of c.loop-empty.attributes.items c.in-Some-2.attribute)
+    (ap (map attribute_of) c.in_ok-add-in-Some-2.ensures ∙ map_push attribute_of c.loop-empty.attributes.items c.in-Some-2.attribute)
     ∙ c.loop-empty.invariant
