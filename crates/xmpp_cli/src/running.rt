@@ -153,7 +153,8 @@ where
     // The links that were given back to the door stand behind those that were there; that these are all that it handed out is
     // said with the text that is due. The link that the dialer handed out was given back to it.
     ensures given_back { AreKept (dealings_of ⟦<Outside<D, L, C, E, P> as Surroundings>⟧.view outside.old outside.new) }
-    // No thread that was started is lost: each was joined, and the link of each reader was given back to the door.
+    // No thread that was started is lost: as many as the spawner's count rose by are the acceptor and the readers whose links
+    // were given back to the door.
     ensures joined { AreJoined (dealings_of ⟦<Outside<D, L, C, E, P> as Surroundings>⟧.view outside.old outside.new) }
     ensures returned { IsBack (dealings_of ⟦<Outside<D, L, C, E, P> as Surroundings>⟧.view outside.old outside.new) }
     ensures stays { serves (asked words.now) ≡ false → (outside.new.door ≡ outside.old.door) × (outside.new.spawner ≡ outside.old.spawner) }

@@ -4,9 +4,9 @@ use Rattle.xmpp_client_login.specs.LoginRows.{client_header}
 use Rattle.xmpp_framing.specs.Limits.{server_limits}
 use Rattle.xmpp_framing_laws.specs.Fitting.{HeaderFits}
 use Rattle.xmpp_framing_laws.specs.Plain.{IsPlainHeader}
+use Rattle.xmpp_names.proofs.SpelledLengths.{value_short}
 use Rattle.xmpp_requests_fit.specs.Bounds.{IsTextWithin, most_part}
 use Rattle.xmpp_requests_fit.proofs.Ascii.{printable_IsCharacters}
-use Rattle.xmpp_requests_fit.proofs.Spelled.{spelled_value_short}
 use Rattle.xmpp_tokens.specs.Spelling.{spelled_value, text_byte, value_byte}
 use Rattle.xmpp_writer.specs.Canon.{assignment, spelled, written_header}
 
@@ -26,7 +26,7 @@ pub header_short : (domain : List ℕ) → IsTextWithin most_part domain → len
 header_short domain h =
     let behind = assignment (spelled (codes "version") (codes "1.0")) ++ codes " xmlns='jabber:client' xmlns:stream='http://etherx.jabber.org/streams'>" in
     let short = h.short in
-    omega (arith, given_long domain behind, behind_long, spelled_value_short domain, short)
+    omega (arith, given_long domain behind, behind_long, value_short domain, short)
 
 pub header_fits : (domain : List ℕ) → IsTextWithin most_part domain → HeaderFits server_limits (client_header domain)
 unfolding text_byte value_byte

@@ -5,6 +5,7 @@ use Rattle.std.proofs.lemmas.Slice.Eq.{bytes_eq-Decides}
 use Rattle.std.specs.List.{AllByRecursion, list_all}
 use Rattle.std.specs.List.Sorted.{IsStrictlySortedBy}
 use Rattle.std.specs.Prelude.{nat_le}
+use Rattle.xmpp_names.proofs.SpelledLengths.{text_short, value_short}
 use Rattle.xmpp_names.specs.Scopes.{xml_namespace, xmlns_namespace}
 use Rattle.xmpp_names.specs.declared.limits.TagLimits.{TagLimits}
 use Rattle.xmpp_tokens.specs.Characters.{is_named}
@@ -20,7 +21,7 @@ use Rattle.xmpp_requests_fit.specs.Bounds.{IsTextWithin}
 use Rattle.xmpp_framing_laws.specs.Fitting.{IsShortAttribute, NodesFit, TagFits, TagsFit}
 use Rattle.xmpp_framing_laws.specs.Plain.{ArePlainNodes, HasPlainName, IsPlainAttribute, IsPlainElement, IsPlainName}
 use Rattle.xmpp_requests_fit.proofs.Ascii.{is_printable, printable_IsCharacters}
-use Rattle.xmpp_requests_fit.proofs.Spelled.{attributes_cost, is_calm, name_short, spelled_text_short, spelled_value_short, tag_short}
+use Rattle.xmpp_requests_fit.proofs.Spelled.{attributes_cost, is_calm, name_short, tag_short}
 
 -- the limits of a server's framer on a tag
 abbrev pub room : TagLimits
@@ -173,7 +174,7 @@ text_small (c ∷ cs) most h =
     record {
       tidy = ((λ e. absurd cc), tt, tt);
       plain = (h.characters, tt);
-      short = λ default. omega (arith, length-append (spelled_text (c ∷ cs)) [], spelled_text_short (c ∷ cs), short);
+      short = λ default. omega (arith, length-append (spelled_text (c ∷ cs)) [], text_short (c ∷ cs), short);
       shallow = omega arith;
       tags = λ default. tt;
     }
@@ -221,7 +222,7 @@ module _ (ns name : List ℕ) (attrs : List Attribute) (kids : Nodes) (cost most
   tag_fits default =
       let t = tag_short default ns attrs (all_calm attrs few.calm) in
       let so = tag ns name named in
-      record { attributes = omega (arith, t.count, few.few); declared = λ d. omega (arith, spelled_value_short ns, so.short); prefixed = all_short attrs few.calm }
+      record { attributes = omega (arith, t.count, few.few); declared = λ d. omega (arith, value_short ns, so.short); prefixed = all_short attrs few.calm }
 
   -- with what surrounds it
   pub element_small : IsSmall (element ns name attrs kids) (30 + 2 * length name + 6 * length ns + cost + most) (deep + 1)

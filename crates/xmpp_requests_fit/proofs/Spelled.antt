@@ -3,47 +3,13 @@ use Rattle.std.proofs.Common.{◌≡◌, ℕ, ◌+◌, ◌*◌, ◌==◌, ◌≤
 use Rattle.std.proofs.lemmas.Bool.{false≢true}
 use Rattle.std.proofs.lemmas.Grind.{flat_map-append}
 use Rattle.std.specs.List.{AllByRecursion}
+use Rattle.xmpp_names.proofs.SpelledLengths.{either, value_short}
 use Rattle.xmpp_names.specs.Scopes.{xml_namespace}
-use Rattle.xmpp_tokens.specs.Spelling.{spelled_text, spelled_value, text_byte, value_byte}
+use Rattle.xmpp_tokens.specs.Spelling.{spelled_value}
 use Rattle.xmpp_tokens.specs.Tags as tokens
 use Rattle.xmpp_tokens.specs.Tags.{is_empty}
 use Rattle.xmpp_trees.specs.Attributes.{Attribute}
 use Rattle.xmpp_writer.specs.Canon.{assignment, assignments, declared_default, foreign, next_number, number_text, spelled, spelled_attribute, spelled_attributes, spelled_name, streams_namespace, declares_default}
-
-either : (c : Bool) (x y : List ℕ) (n : ℕ) → length x ≤ n → length y ≤ n → length (if c then x else y) ≤ n
-either true x y n here there = here
-either false x y n here there = there
-
--- ---- bytes
-
-text_byte_short : (b : ℕ) → length (text_byte b) ≤ 5
-unfolding text_byte
-text_byte_short b =
-    let cr = if b == 13 then codes "&#xD;" else b ∷ [] in
-    let more = if b == 62 then codes "&gt;" else cr in
-    let less = if b == 60 then codes "&lt;" else more in
-    let c = either (b == 13) (codes "&#xD;") (b ∷ []) 5 (omega arith) (omega arith) in
-    let m = either (b == 62) (codes "&gt;") cr 5 (omega arith) c in
-    let l = either (b == 60) (codes "&lt;") more 5 (omega arith) m in
-    either (b == 38) (codes "&amp;") less 5 (omega arith) l
-
-value_byte_short : (b : ℕ) → length (value_byte b) ≤ 6
-unfolding value_byte
-value_byte_short b =
-    let short = text_byte_short b in
-    let feed = if b == 10 then codes "&#xA;" else text_byte b in
-    let tab = if b == 9 then codes "&#x9;" else feed in
-    let f = either (b == 10) (codes "&#xA;") (text_byte b) 6 (omega arith) (omega (arith, short)) in
-    let t = either (b == 9) (codes "&#x9;") feed 6 (omega arith) f in
-    either (b == 39) (codes "&apos;") tab 6 (omega arith) t
-
-pub spelled_text_short : (t : List ℕ) → length (spelled_text t) ≤ 5 * length t
-spelled_text_short [] = omega arith
-spelled_text_short (b ∷ bs) = omega (arith, length-append (text_byte b) (spelled_text bs), text_byte_short b, spelled_text_short bs)
-
-pub spelled_value_short : (v : List ℕ) → length (spelled_value v) ≤ 6 * length v
-spelled_value_short [] = omega arith
-spelled_value_short (b ∷ bs) = omega (arith, length-append (value_byte b) (spelled_value bs), value_byte_short b, spelled_value_short bs)
 
 -- ---- attributes without a numbered prefix
 
@@ -69,9 +35,9 @@ record Short (a : Attribute) (l : List tokens.Attribute) : Type 0 where
 
 one_of : (n : ℕ) (a : Attribute) (none xml : Bool) → (none || xml) ≡ true
     → Short a (if none then spelled a.name a.value ∷ [] else (if xml then spelled (codes "xml:" ++ a.name) a.value ∷ [] else foreign (number_text n) a))
-one_of n a true xml calm = record { bytes = omega (arith, assignment_long a.name a.value, spelled_value_short a.value); count = omega arith }
+one_of n a true xml calm = record { bytes = omega (arith, assignment_long a.name a.value, value_short a.value); count = omega arith }
 one_of n a false true calm =
-    record { bytes = omega (arith, assignment_long (codes "xml:" ++ a.name) a.value, length-append (codes "xml:") a.name, spelled_value_short a.value); count = omega arith }
+    record { bytes = omega (arith, assignment_long (codes "xml:" ++ a.name) a.value, length-append (codes "xml:") a.name, value_short a.value); count = omega arith }
 one_of n a false false calm = absurd (false≢true calm)
 
 one_short : (n : ℕ) (a : Attribute) → is_calm a.ns ≡ true → Short a (spelled_attribute n a)
@@ -109,7 +75,7 @@ record DefaultShort (ns : List ℕ) (l : List tokens.Attribute) : Type 0 where
   count : length l ≤ 1
 
 default_of : (ns : List ℕ) (declares : Bool) → DefaultShort ns (if declares then spelled (codes "xmlns") ns ∷ [] else [])
-default_of ns true = record { bytes = omega (arith, assignment_long (codes "xmlns") ns, spelled_value_short ns); count = omega arith }
+default_of ns true = record { bytes = omega (arith, assignment_long (codes "xmlns") ns, value_short ns); count = omega arith }
 default_of ns false = record { bytes = omega arith; count = omega arith }
 
 default_short : (default ns : List ℕ) → DefaultShort ns (declared_default default ns)
