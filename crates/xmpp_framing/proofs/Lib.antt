@@ -11,5 +11,6 @@ pub mod PlainTags
 pub mod PlainTexts
 pub mod UsualTexts
 pub mod CalmTags
+pub mod Openings
 -- steps of the code: a byte of ASCII where no character is in hand
 pub mod Alone

@@ -17,7 +17,7 @@ use Rattle.xmpp_framing.specs.declared.states.Mode.{Mode}
 use Rattle.xmpp_framing.specs.declared.states.Mode.TheVariants as mode
 
 -- a state in a tag
-abbrev tagging : State → ℕ → ℕ → List ℕ → Option ℕ → State
+abbrev pub tagging : State → ℕ → ℕ → List ℕ → Option ℕ → State
 tagging s at used token quote = record s {
   places = record s.places { at = at; used = used };
   lexical = record s.lexical { mode = mode.Tag; quote = quote };
@@ -26,7 +26,7 @@ tagging s at used token quote = record s {
   fault = None;
 }
 
-byte_goes : (t : Turn) (s : State) (at used : ℕ) (token : List ℕ) (quote : Option ℕ) (b : ℕ) → is_too_long (tagging s at used token quote) b ≡ false → ltb b 128 ≡ true
+pub byte_goes : (t : Turn) (s : State) (at used : ℕ) (token : List ℕ) (quote : Option ℕ) (b : ℕ) → is_too_long (tagging s at used token quote) b ≡ false → ltb b 128 ≡ true
     → (b == 62 && not (is_some quote)) ≡ false → step (moved t (tagging s at used token quote)) b ≡ moved t (tagging s (next_place at) (used_next used) (token ++ b ∷ []) (quote_behind quote b))
 unfolding goes_on taken in_tag utf8_next
 byte_goes t s at used token quote b long low inside = rw (long, low, inside, low) refl
@@ -47,10 +47,10 @@ tag_is : (m : Mode) → is_tag m ≡ true → m ≡ mode.Tag
 tag_is mode.Tag e = refl
 tag_is m e = absurd (true≢false (sym e))
 
-record TakesTag (s : State) : Type 0 where
-  no_fault : s.fault ≡ None
-  tag : s.lexical.mode ≡ mode.Tag
-  no_pending : s.pending ≡ []
+pub record TakesTag (s : State) : Type 0 where
+  pub no_fault : s.fault ≡ None
+  pub tag : s.lexical.mode ≡ mode.Tag
+  pub no_pending : s.pending ≡ []
 
 takes_is : (s : State) → takes_tag s ≡ true → TakesTag s
 takes_is s h =
@@ -58,7 +58,7 @@ takes_is s h =
     let tag = and_parts (is_tag s.lexical.mode) _ fault.1 in
     record { no_fault = none_is s.fault (not-true _ fault.0); tag = tag_is s.lexical.mode tag.0; no_pending = empty_is s.pending tag.1 }
 
-tagging_same : (s : State) → TakesTag s → (at used : ℕ) (token : List ℕ) (quote : Option ℕ)
+pub tagging_same : (s : State) → TakesTag s → (at used : ℕ) (token : List ℕ) (quote : Option ℕ)
     → tagging s at used token quote ≡ record s { places = record s.places { at = at; used = used }; lexical = record s.lexical { quote = quote }; token = token }
 tagging_same s h at used token quote =
     let places = record s.places { at = at; used = used } in
@@ -93,7 +93,7 @@ and_last : (x : Bool) → (x && true) ≡ x
 and_last true = refl
 and_last false = refl
 
-never : (x : Bool) → (x && false) ≡ false
+pub never : (x : Bool) → (x && false) ≡ false
 never true = refl
 never false = refl
 
@@ -148,11 +148,11 @@ goes_nowhere quote bs = record { bound = omega arith; inside = refl; behind_is =
 
 -- ---- bytes that leave the open quote as it is
 
-record Unquoted (b : ℕ) : Type 0 where
-  on : goes_on_in None b ≡ true
-  none : quote_behind None b ≡ None
+pub record Unquoted (b : ℕ) : Type 0 where
+  pub on : goes_on_in None b ≡ true
+  pub none : quote_behind None b ≡ None
 
-unquoted_is : (b : ℕ) → is_unquoted b ≡ true → Unquoted b
+pub unquoted_is : (b : ℕ) → is_unquoted b ≡ true → Unquoted b
 unquoted_is b h =
     let low = and_parts (ltb b 128) _ h in
     let greater = and_parts (not (b == 62)) _ low.1 in

@@ -183,14 +183,14 @@ pub empty_is : (bs : List ℕ) → is_empty bs ≡ true → bs ≡ []
 empty_is [] e = refl
 empty_is (b ∷ bs) e = absurd (true≢false (sym e))
 
-record TakesText (s : State) : Type 0 where
-  no_fault : s.fault ≡ None
-  text : s.lexical.mode ≡ mode.Text
-  inner : is_some s.here ≡ true
-  no_pending : s.pending ≡ []
-  settled : (s.lexical.in_run && (s.lexical.returned || not (s.lexical.brackets == 0))) ≡ false
+pub record TakesText (s : State) : Type 0 where
+  pub no_fault : s.fault ≡ None
+  pub text : s.lexical.mode ≡ mode.Text
+  pub inner : is_some s.here ≡ true
+  pub no_pending : s.pending ≡ []
+  pub settled : (s.lexical.in_run && (s.lexical.returned || not (s.lexical.brackets == 0))) ≡ false
 
-takes_is : (s : State) → takes_text s ≡ true → TakesText s
+pub takes_is : (s : State) → takes_text s ≡ true → TakesText s
 takes_is s h =
     let fault = and_parts (not (is_some s.fault)) _ h in
     let text = and_parts (is_text s.lexical.mode) _ fault.1 in

@@ -91,6 +91,22 @@ KeepsQuote quote bytes n = GoesOnTo quote bytes n quote
 abbrev pub tag_taken : State → List ℕ → State
 tag_taken s bs = behind_bytes (record s { token = s.token ++ bs; lexical = record s.lexical { quote = quote_after s.lexical.quote bs } }) bs
 
+-- ---- openings of tags
+
+-- behind `<` in an element, a byte of ASCII that begins a tag and doesn't end it, and no quote
+abbrev pub opens_tag : ℕ → Bool
+opens_tag b = is_unquoted b && (not (b == 33) && not (b == 63))
+
+-- bytes begin with `<` and the first byte of a tag
+abbrev pub begins_tag : List ℕ → Bool
+begins_tag [] = false
+begins_tag (a ∷ []) = false
+begins_tag (a ∷ b ∷ bs) = a == 60 && opens_tag b
+
+-- a tag may be taken from its `<` on
+abbrev pub takes_opening : State → Bool
+takes_opening s = takes_text s && not (is_some s.lexical.quote)
+
 -- ---- what calls say
 
 -- the first n bytes, none perhaps, bring one state to another and give no item

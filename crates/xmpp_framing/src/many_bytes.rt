@@ -292,6 +292,34 @@ fn tag_front(quote: Option<u8>, bytes: &[u8]) -> (usize, Option<u8>)
     (done, open)
 }
 
+// Whether a byte behind `<` in an element is one of ASCII that begins a tag and doesn't end it, and no quote.
+fn opens_tag(b: u8) -> bool
+    ensures { result ≡ ManyBytes.opens_tag b }
+{
+    is_unquoted(b) && b != b'!' && b != b'?'
+}
+
+// Whether bytes begin with `<` and the first byte of a tag.
+fn begins_tag(bytes: &[u8]) -> bool
+    ensures { result ≡ ManyBytes.begins_tag bytes.now }
+{
+    match bytes {
+        [a, b, ..] => *a == b'<' && opens_tag(*b),
+        _ => false,
+    }
+}
+
+// How many first bytes are a tag from its `<` on and don't end it, and the quote that is open behind them.
+#[tactic(auto, using(crate::proofs::Openings::two_there, crate::proofs::Openings::opened, crate::proofs::PlainTags::goes_on_behind))]
+fn opening_front(bytes: &[u8]) -> (usize, Option<u8>)
+    requires { ManyBytes.begins_tag bytes.now ≡ true }
+    ensures goes { GoesOnTo None bytes.now result.0 result.1 }
+    ensures both { 2 ≤ result.0 }
+{
+    let (len, quote) = tag_front(None, &bytes[2..]);
+    (2 + len, quote)
+}
+
 // ---- places
 
 // A place behind some bytes.
@@ -407,15 +435,37 @@ impl Framer {
         Ok(len)
     }
 
+    // Whether a tag may be taken from its `<` on.
+    fn takes_opening(&self) -> bool
+        ensures { result ≡ ManyBytes.takes_opening self.now }
+    {
+        self.takes_text() && self.lexical.quote.is_none()
+    }
+
+    // Takes the bytes of a tag in an element from its `<` up to what ends it, and answers how many.
+    fn take_tag_from_opening(&mut self, bytes: &[u8]) -> Result<usize, NoMemory>
+        ensures { IfOk result (λ n. TakesRun self.old self.new bytes.now n) }
+    {
+        let within = self.within(bytes);
+        if !self.takes_opening() || !begins_tag(within) {
+            return Ok(0);
+        }
+        let (len, quote) = opening_front(within);
+        self.begin_token(Mode::Tag);
+        self.take_tag(&within[..len], quote)?;
+        Ok(len)
+    }
+
     // ---- both
 
-    // Takes bytes that a piece begins with and that only add to what is in hand, and answers how many. What most tags begin
-    // and end with is not looked at twice.
+    // Takes bytes that a piece begins with and that only add to what is in hand, and answers how many. The `>` that ends
+    // most tags is not looked at twice.
     pub(crate) fn take_run(&mut self, bytes: &[u8]) -> Result<usize, NoMemory>
         ensures { IfOk result (λ n. TakesRun self.old self.new bytes.now n) }
     {
         match bytes.first() {
-            Some(b) if *b == b'<' || *b == b'>' => return Ok(0),
+            Some(b) if *b == b'<' => return self.take_tag_from_opening(bytes),
+            Some(b) if *b == b'>' => return Ok(0),
             _ => {}
         }
         if self.takes_text() {
