@@ -12,7 +12,7 @@ ROUNDS = 3
 
 def found(argv):
     """The program that the words name, or the built one."""
-    program = argv[0] if argv else os.path.join(TOP, "crates/xmpp_cli/out/xmpp_cli")
+    program = argv[0] if argv else os.path.join(TOP, "crates/xmpp/out/xmpp")
     if not os.access(program, os.X_OK):
         sys.exit(f"no program at {program}: ./xmpp --version builds it")
     return program

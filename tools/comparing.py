@@ -8,7 +8,7 @@ import sys
 TOP = os.path.dirname(os.path.dirname(os.path.abspath(__file__)))
 SHARED = os.environ.get("SHARED_TOOLS", os.path.join(TOP, "../shared/tools"))
 BASELINE = os.environ.get("BASELINE", os.path.join(SHARED, "baseline"))
-PROGRAM = os.path.join(TOP, "crates/xmpp_cli/out/xmpp_cli")
+PROGRAM = os.path.join(TOP, "crates/xmpp/out/xmpp")
 SECONDS = 120
 SHOWN = 10
 

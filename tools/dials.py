@@ -1,4 +1,4 @@
-"""What a server says to a client, and what its user does, as lines of the program `xmpp_client_run`."""
+"""What a server says to a client, and what its user does, as lines of the program `trial_client`."""
 
 ME = "alice@chat.example"
 FULL = ME + "/phone"

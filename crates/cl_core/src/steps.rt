@@ -1,0 +1,136 @@
+//! Items, one by one.
+ghost use Rattle.std.specs.Prelude.{◌≡◌, Some, IfOk, OnErr, OnOk};
+ghost use Rattle.cl_core.specs.Feeds.{IsStopped, with_fault};
+ghost use Rattle.cl_handlers.specs.Speech.{in_bytes};
+ghost use Rattle.cl_core.specs.Steps.{element_row, element_step, item_step, items_run, stream_condition};
+ghost use Rattle.cl_handlers.specs.Turns.{left};
+ghost use Rattle.cl_handlers.specs.Views.{turn_of};
+
+use crate::online::online;
+use base_io::{NoMemory, Text};
+use cl_handlers::{ClientOut, ClientState, PeerFault, Phase};
+use im_stanza::{STREAMS, stream_condition};
+use std::alloc::Global;
+use std::mem;
+use xml_framer::{Fault, Item, Items};
+use xml_trees::Tree;
+
+// The condition of a stream error.
+fn condition_of(alloc: Global, tree: &Tree) -> Result<Text, NoMemory>
+    ensures { IfOk result (λ condition. condition ≡ stream_condition tree.now) }
+{
+    match stream_condition(tree) {
+        Some(condition) => Text::from_str(alloc, condition),
+        None => Text::from_str(alloc, "undefined-condition"),
+    }
+}
+
+// An element, by the phase.
+fn by_phase(
+    state: &mut ClientState,
+    alloc: Global,
+    tree: Tree,
+    out: &mut ClientOut,
+) -> Result<(), NoMemory>
+    ensures ok { OnOk result (turn_of state.new out.new ≡ element_row in_bytes (turn_of state.old out.old) state.old.phase tree) }
+    ensures err { OnErr result (left (turn_of state.new out.new) ≡ left (turn_of state.old out.old)) }
+{
+    let phase = mem::replace(&mut state.phase, Phase::Apart);
+    match phase {
+        Phase::Apart => Ok(()),
+        Phase::Login(login) => state.login(alloc, login, &tree, out),
+        Phase::Features2 => {
+            state.phase = Phase::Features2;
+            state.features2(alloc, &tree, out)
+        }
+        Phase::Resuming => {
+            state.phase = Phase::Resuming;
+            state.resuming(alloc, &tree, out)
+        }
+        Phase::Binding => {
+            state.phase = Phase::Binding;
+            state.binding(alloc, &tree, out)
+        }
+        Phase::Enabling => {
+            state.phase = Phase::Enabling;
+            state.enabling(alloc, &tree, out)
+        }
+        Phase::Online => {
+            state.phase = Phase::Online;
+            online(state, alloc, tree, out)
+        }
+    }
+}
+
+// An element.
+fn take_element(
+    state: &mut ClientState,
+    alloc: Global,
+    tree: Tree,
+    out: &mut ClientOut,
+) -> Result<(), NoMemory>
+    ensures ok { OnOk result (turn_of state.new out.new ≡ element_step in_bytes (turn_of state.old out.old) tree) }
+    ensures err { OnErr result (left (turn_of state.new out.new) ≡ left (turn_of state.old out.old)) }
+{
+    if tree.element().is(STREAMS, "error") {
+        let condition = condition_of(alloc, &tree)?;
+        return state.end(PeerFault::Stream(condition), out);
+    }
+    by_phase(state, alloc, tree, out)
+}
+
+// The next item.
+fn take_item(
+    state: &mut ClientState,
+    alloc: Global,
+    item: Item,
+    out: &mut ClientOut,
+) -> Result<(), NoMemory>
+    ensures ok { OnOk result (turn_of state.new out.new ≡ item_step in_bytes (turn_of state.old out.old) item) }
+    ensures err { OnErr result (left (turn_of state.new out.new) ≡ left (turn_of state.old out.old)) }
+{
+    if state.is_apart() {
+        return Ok(());
+    }
+    match item {
+        Item::Header { .. } => state.header(alloc, out),
+        Item::Element(tree) => take_element(state, alloc, tree, out),
+        Item::Footer => state.end(PeerFault::Closed, out),
+    }
+}
+
+/// The items of a piece, one by one. Want of memory leaves the connection; the items before the one in hand had their
+/// effect, and that one had none.
+#[tactic(auto, using(crate::proofs::Alongs::along_begin, crate::proofs::Alongs::along_step, crate::proofs::Alongs::along_end, crate::proofs::Alongs::along_stop))]
+pub(crate) fn take_items(
+    state: &mut ClientState,
+    alloc: Global,
+    items: Items,
+    out: &mut ClientOut,
+) -> Result<(), NoMemory>
+    ensures ok { OnOk result (turn_of state.new out.new ≡ items_run in_bytes (turn_of state.old out.old) items.items) }
+    ensures memory { OnErr result (IsStopped in_bytes (turn_of state.old out.old) items.items (turn_of state.new out.new)) }
+{
+    for item in items.into_items() {
+        if let Err(NoMemory) = take_item(state, alloc, item, out) {
+            state.phase = Phase::Apart;
+            return Err(NoMemory);
+        }
+    }
+    Ok(())
+}
+
+/// The fault of the bytes, where the connection stands still.
+pub(crate) fn take_fault(
+    state: &mut ClientState,
+    fault: Fault,
+    out: &mut ClientOut,
+) -> Result<(), NoMemory>
+    ensures ok { OnOk result (turn_of state.new out.new ≡ with_fault (turn_of state.old out.old) (Some fault)) }
+    ensures err { OnErr result (turn_of state.new out.new ≡ left (turn_of state.old out.old)) }
+{
+    if state.is_apart() {
+        return Ok(());
+    }
+    state.end(PeerFault::Framing(fault), out)
+}

@@ -1,0 +1,12 @@
+pub use Rattle.net_pipes.specs.Pipes
+pub use Rattle.base_io.specs.Listed
+pub use Rattle.cl_core.specs.Values
+pub use Rattle.cl_handlers.specs.Views
+pub use Rattle.xml_framer.specs.States
+pub use Rattle.cmd_report.specs.Reports
+pub mod Places
+pub mod Wires
+pub mod Takes
+pub mod Devices
+pub mod DeviceLines
+pub mod Starting

@@ -1,0 +1,282 @@
+-- What is due with a status, and which status there must be.
+use Rattle.std.proofs.Common.{◌≡◌, ◌≢◌, Bool, true, false, ap, ℕ, subst, List, Option, Some, None, Ok, IfSome, IsSomeAnd, ◌⊎◌, inl, inr, refl, ◌∙◌, sym, arith}
+use Rattle.std.proofs.lemmas.Bool.Decides.{eqb_tells}
+use Rattle.std.specs.Bool.{MatchBool}
+use Rattle.std.specs.Prelude.{◌==◌, if◌then◌else◌, IsOk, is_ok}
+use Rattle.std.specs.Io.KnownBytes.{IsAtEnd}
+use Rattle.base_io.specs.Counts.{Rose, Quiet}
+use Rattle.xml_check.specs.Checked.{told}
+use Rattle.cmd_report.specs.ReportText.{text_of}
+use Rattle.cmd_report.specs.Reports.{ReportView}
+use Rattle.cmd_schedule.specs.Kinds.{IsSchedule, schedule_text}
+use Rattle.cmd_schedule.specs.declared.schedule.Schedule.{Schedule}
+use Rattle.cmd_sync.specs.ScriptReading.{script_reading}
+use Rattle.cmd_sync.specs.Scripts.{ScriptView}
+use Rattle.net_hub.specs.Served.{HasServed}
+use Rattle.cmd_serve.specs.Journaling.{AreFewer}
+use Rattle.cmd_run.proofs.Dialers.{link_not_quiet, not_risen}
+use Rattle.cmd_run.proofs.Unread.{unread_entropy, unread_link, unread_peer, unread_worker}
+use Rattle.cmd_run.specs.Dealings.{Dealings, DoorView}
+use Rattle.cmd_run.specs.Words.{reads}
+use Rattle.cmd_run.specs.Table.{code_of, Accepts, HasLinkFailed, HasPeerFailed, HasNoWorker, HasEntropyFailed, IsBlameless, IsQuiet, SaysAccounts, IsServed, IsDone, IsRefused, IsReportOf, Due, IsDueOf, MustAnswer, MustEnd, generated_summary}
+use Rattle.cmd_run.specs.declared.command.Command.{Command}
+use Rattle.cmd_run.specs.declared.command.Command.TheVariants.{Help, Version, Replay, Check, Rerun, Generate, Serve, Sync}
+use Rattle.cmd_run.specs.declared.outcome.Outcome.{Outcome}
+use Rattle.cmd_run.specs.declared.outcome.Outcome.TheVariants.{Done, WrongWords, Refused, ReadFault, LinkFault, PeerFault, NoWorker, EntropyFault, TooLong}
+
+-- What is known of a call whose status is neither 5 nor 6.
+abbrev pub Told : Option Command → Option (List ℕ) → Option (List ℕ) → Type 0 → Dealings → (List ℕ → Type 0) → ℕ → Type 0
+Told command known left rose dealt Written result =
+    result ≢ 5 → result ≢ 6 → (outcome : Outcome) × (text : List ℕ) × (result ≡ code_of outcome) × Due command known left rose dealt outcome text × Written text
+
+-- outcomes have codes of their own, and these are neither 5 nor 6
+code_not_5 : (outcome : Outcome) → code_of outcome ≢ 5
+code_not_5 Done e = omega arith
+code_not_5 WrongWords e = omega arith
+code_not_5 Refused e = omega arith
+code_not_5 ReadFault e = omega arith
+code_not_5 LinkFault e = omega arith
+code_not_5 PeerFault e = omega arith
+code_not_5 NoWorker e = omega arith
+code_not_5 EntropyFault e = omega arith
+code_not_5 TooLong e = omega arith
+
+code_not_6 : (outcome : Outcome) → code_of outcome ≢ 6
+code_not_6 Done e = omega arith
+code_not_6 WrongWords e = omega arith
+code_not_6 Refused e = omega arith
+code_not_6 ReadFault e = omega arith
+code_not_6 LinkFault e = omega arith
+code_not_6 PeerFault e = omega arith
+code_not_6 NoWorker e = omega arith
+code_not_6 EntropyFault e = omega arith
+code_not_6 TooLong e = omega arith
+
+abbrev outcome_with : ℕ → Outcome
+outcome_with n =
+    if n == 0 then Done
+    else (if n == 2 then WrongWords
+    else (if n == 3 then Refused
+    else (if n == 4 then ReadFault
+    else (if n == 7 then LinkFault
+    else (if n == 8 then PeerFault
+    else (if n == 9 then NoWorker
+    else (if n == 10 then EntropyFault
+    else TooLong)))))))
+
+outcome_back : (outcome : Outcome) → outcome_with (code_of outcome) ≡ outcome
+outcome_back Done = refl
+outcome_back WrongWords = refl
+outcome_back Refused = refl
+outcome_back ReadFault = refl
+outcome_back LinkFault = refl
+outcome_back PeerFault = refl
+outcome_back NoWorker = refl
+outcome_back EntropyFault = refl
+outcome_back TooLong = refl
+
+same_outcome : (a b : Outcome) → code_of a ≡ code_of b → a ≡ b
+same_outcome a b e = sym (outcome_back a) ∙ ap outcome_with e ∙ outcome_back b
+
+pub answered : (command : Option Command) (known left : Option (List ℕ)) (rose : Type 0) (dealt : Dealings) (Written : List ℕ → Type 0) (result : ℕ)
+    → Told command known left rose dealt Written result
+    → (outcome : Outcome) → result ≡ code_of outcome → (text : List ℕ) × Due command known left rose dealt outcome text × Written text
+answered command known left rose dealt Written result answer outcome e =
+    let (other, text, same, due, out) = answer (λ five. code_not_5 outcome (sym e ∙ five)) (λ six. code_not_6 outcome (sym e ∙ six)) in
+    (text, subst (λ o. Due command known left rose dealt o text) (same_outcome other outcome (sym same ∙ e)) due, out)
+
+-- the headline: a report was written
+pub replayed : (command : Option Command) (known left : Option (List ℕ)) (rose : Type 0) (dealt : Dealings) (Written : List ℕ → Type 0) (result : ℕ)
+    → Told command known left rose dealt Written result → result ≡ 0 → command ≡ Some Replay
+    → (schedule : Schedule) × (report : ReportView) × IsSchedule schedule × IfSome known (λ input. input ≡ schedule_text schedule)
+    × IsAtEnd left × IsReportOf schedule report × Written (text_of report)
+replayed command known left rose dealt Written result answer zero e =
+    let (text, due, out) = answered command known left rose dealt Written result answer Done zero in
+    let ((schedule, report, is, spelled, of, text_is), whole) = subst (λ c. Due c known left rose dealt Done text) e due in
+    (schedule, report, is, spelled, (whole refl).ended, of, subst Written text_is out)
+
+-- a summary was written
+pub summed_up : (command : Option Command) (known left : Option (List ℕ)) (rose : Type 0) (dealt : Dealings) (Written : List ℕ → Type 0) (result number size : ℕ)
+    → Told command known left rose dealt Written result → result ≡ 0 → command ≡ Some (Generate number size) → Written (generated_summary number size)
+summed_up command known left rose dealt Written result number size answer zero e =
+    let (text, due, out) = answered command known left rose dealt Written result answer Done zero in
+    subst Written (subst (λ c. Due c known left rose dealt Done text) e due).0 out
+
+served_accounts : (connections : ℕ) (accounts : List ℕ) (dealt : Dealings) (old new : Option DoorView) (text : List ℕ)
+    → IsSomeAnd old (λ o. IsSomeAnd new (λ n. HasServed accounts connections dealt.before.moment dealt.before.drawn o.given n.given text)) → SaysAccounts accounts
+served_accounts connections accounts dealt None new text served = absurd served
+served_accounts connections accounts dealt (Some o) None text served = absurd served
+served_accounts connections accounts dealt (Some o) (Some n) text served = (served.file, served.right, served.whole)
+
+served_accepted : (connections : ℕ) (input : List ℕ) (dealt : Dealings) (text : List ℕ) → IsServed (Some input) connections dealt text → SaysAccounts input
+served_accepted connections input dealt text (accounts, is, served) =
+    let (file, right, whole) = served_accounts connections accounts dealt dealt.before.door dealt.behind.door text served in
+    (file, right, is ∙ whole)
+
+begun_accepted : (input script : List ℕ) (x : ScriptView) → input ≡ script → script_reading script ≡ Ok x → IsOk (script_reading input)
+begun_accepted input script x is said = rw (is, said) refl
+
+done_accepted : (command : Command) (input : List ℕ) (dealt : Dealings) (text : List ℕ) → IsDone command (Some input) dealt text → Accepts command input
+done_accepted Help input dealt text done = tt
+done_accepted Version input dealt text done = tt
+done_accepted Replay input dealt text (schedule, report, is, spelled, of, due) = (schedule, is, spelled)
+done_accepted Check input dealt text (stream, is, sound, due) = ap (λ bytes. (told bytes).sound) is ∙ sound
+done_accepted Rerun input dealt text (run, says, due) = (run, says)
+done_accepted (Generate number size) input dealt text done = tt
+done_accepted (Serve port connections) input dealt text served = served_accepted connections input dealt text served.1
+done_accepted (Sync port) input dealt text (script, is, synced) = begun_accepted input script synced.begins.script is synced.begins.said
+
+refused_not_accepted : (command : Command) (input text : List ℕ) (dealt : Dealings) → IsRefused command (Some input) dealt text → ¬ (Accepts command input)
+refused_not_accepted Help input text dealt refused accepts = refused
+refused_not_accepted Version input text dealt refused accepts = refused
+refused_not_accepted Replay input text dealt (line, reason, why, due) accepts = why.1 accepts
+refused_not_accepted Check input text dealt (stream, is, unsound, due) accepts =
+    let both : true ≡ false = sym accepts ∙ ap (λ bytes. (told bytes).sound) is ∙ unsound in cc
+refused_not_accepted Rerun input text dealt (line, reason, why, due) accepts = why.1 accepts
+refused_not_accepted (Generate number size) input text dealt refused accepts = refused
+refused_not_accepted (Serve port connections) input text dealt (back, (line, reason, why, due)) accepts = why.1 accepts
+refused_not_accepted (Sync port) input text dealt (line, reason, why, due) accepts = let both : false ≡ true = sym (ap (λ r. is_ok r) why) ∙ accepts in cc
+
+-- a door that is quiet did not fail
+door_not_quiet : (connections : ℕ) (dealt : Dealings) (old new : Option DoorView)
+    → IfSome old (λ o. IfSome new (λ n. Quiet o.faults n.faults)) → IsSomeAnd old (λ o. IsSomeAnd new (λ n. Rose o.faults n.faults × (connections ≢ 0 → AreFewer connections o.given n.given))) → ⊥
+door_not_quiet connections dealt None new quiet failed = failed
+door_not_quiet connections dealt (Some o) None quiet failed = failed
+door_not_quiet connections dealt (Some o) (Some n) quiet failed = not_risen o.faults n.faults quiet failed.0
+
+quiet_link : (command : Command) (known : Option (List ℕ)) (dealt : Dealings) → IsQuiet command dealt → ¬ (HasLinkFailed command known dealt)
+quiet_link Help known dealt quiet failed = failed
+quiet_link Version known dealt quiet failed = failed
+quiet_link Replay known dealt quiet failed = failed
+quiet_link Check known dealt quiet failed = failed
+quiet_link Rerun known dealt quiet failed = failed
+quiet_link (Generate number size) known dealt quiet failed = failed
+quiet_link (Serve port connections) known dealt quiet failed = door_not_quiet connections dealt dealt.before.door dealt.behind.door quiet.0 failed.1
+quiet_link (Sync port) known dealt quiet (script, is, stopped) = link_not_quiet stopped.start dealt.before.dialer dealt.behind.dialer quiet.0.faults quiet.0.ends stopped.untold
+
+quiet_worker : (command : Command) (dealt : Dealings) → IsQuiet command dealt → ¬ (HasNoWorker command dealt)
+quiet_worker Help dealt quiet failed = failed
+quiet_worker Version dealt quiet failed = failed
+quiet_worker Replay dealt quiet failed = failed
+quiet_worker Check dealt quiet failed = failed
+quiet_worker Rerun dealt quiet failed = failed
+quiet_worker (Generate number size) dealt quiet failed = failed
+quiet_worker (Serve port connections) dealt quiet failed = not_risen _ _ quiet.2 failed
+quiet_worker (Sync port) dealt quiet failed = failed
+
+quiet_entropy : (command : Command) (dealt : Dealings) → IsQuiet command dealt → ¬ (HasEntropyFailed command dealt)
+quiet_entropy Help dealt quiet failed = failed
+quiet_entropy Version dealt quiet failed = failed
+quiet_entropy Replay dealt quiet failed = failed
+quiet_entropy Check dealt quiet failed = failed
+quiet_entropy Rerun dealt quiet failed = failed
+quiet_entropy (Generate number size) dealt quiet failed = failed
+quiet_entropy (Serve port connections) dealt quiet failed = not_risen _ _ quiet.1 failed
+quiet_entropy (Sync port) dealt quiet failed = not_risen _ _ quiet.1 failed
+
+-- where no server has to answer for anything, none did
+no_peer : (command : Command) (input : List ℕ) (dealt : Dealings) (text : List ℕ) → IsBlameless command input dealt → ¬ (HasPeerFailed command (Some input) dealt text)
+no_peer Help input dealt text blameless failed = failed
+no_peer Version input dealt text blameless failed = failed
+no_peer Replay input dealt text blameless failed = failed
+no_peer Check input dealt text blameless failed = failed
+no_peer Rerun input dealt text blameless failed = failed
+no_peer (Generate number size) input dealt text blameless failed = failed
+no_peer (Serve port connections) input dealt text blameless failed = failed
+no_peer (Sync port) input dealt text blameless (failure, stopped, due) = blameless failure stopped
+
+-- a script that began is one
+peer_accepted : (command : Command) (input : List ℕ) (dealt : Dealings) (text : List ℕ) → HasPeerFailed command (Some input) dealt text → Accepts command input
+peer_accepted Help input dealt text failed = absurd failed
+peer_accepted Version input dealt text failed = absurd failed
+peer_accepted Replay input dealt text failed = absurd failed
+peer_accepted Check input dealt text failed = absurd failed
+peer_accepted Rerun input dealt text failed = absurd failed
+peer_accepted (Generate number size) input dealt text failed = absurd failed
+peer_accepted (Serve port connections) input dealt text failed = absurd failed
+peer_accepted (Sync port) input dealt text (failure, (script, is, stopped), due) = begun_accepted input script stopped.begins.script is stopped.begins.said
+
+-- a command that does not read is done
+unread_done : (command : Command) (known left : Option (List ℕ)) (rose : Type 0) (dealt : Dealings) (outcome : Outcome) (text : List ℕ)
+    → reads (Some command) ≡ false → IsDueOf command known left rose dealt outcome text → outcome ≡ Done
+unread_done command known left rose dealt Done text e due = refl
+unread_done Help known left rose dealt Refused text e due = absurd due.0
+unread_done Version known left rose dealt Refused text e due = absurd due.0
+unread_done Replay known left rose dealt Refused text e due = absurd (cc)
+unread_done Check known left rose dealt Refused text e due = absurd (cc)
+unread_done Rerun known left rose dealt Refused text e due = absurd (cc)
+unread_done (Generate number size) known left rose dealt Refused text e due = absurd due.0
+unread_done (Serve port connections) known left rose dealt Refused text e due = absurd (cc)
+unread_done (Sync port) known left rose dealt Refused text e due = absurd (cc)
+unread_done command known left rose dealt LinkFault text e due = absurd (unread_link command known dealt e due.0.0)
+unread_done command known left rose dealt PeerFault text e due = absurd (unread_peer command known dealt text e due.0)
+unread_done command known left rose dealt NoWorker text e due = absurd (unread_worker command dealt e due.0.0)
+unread_done command known left rose dealt EntropyFault text e due = absurd (unread_entropy command dealt e due.0.0)
+unread_done command known left rose dealt WrongWords text e due = absurd due.0
+unread_done command known left rose dealt ReadFault text e due = let both : false ≡ true = sym e ∙ due.0 in absurd (cc)
+unread_done command known left rose dealt TooLong text e due = let both : false ≡ true = sym e ∙ due.0 in absurd (cc)
+
+-- a command that reads ends as its input wants it
+read_ends : (command : Command) (input : List ℕ) (left : Option (List ℕ)) (rose : Type 0) (dealt : Dealings) (outcome wanted : Outcome) (text : List ℕ)
+    → reads (Some command) ≡ true → ¬ rose → IsQuiet command dealt → MustEnd command input dealt wanted → IsDueOf command (Some input) left rose dealt outcome text → outcome ≡ wanted
+read_ends command input left rose dealt Done Done text e calm quiet must due = refl
+read_ends command input left rose dealt Done Refused text e calm quiet must due = absurd (must.1 (done_accepted command input dealt text due.0))
+read_ends command input left rose dealt Done TooLong text e calm quiet must due = absurd (omega (arith, must, (due.1 e).short))
+read_ends command input left rose dealt Refused Done text e calm quiet must due = absurd (refused_not_accepted command input text dealt due.0 must.1)
+read_ends command input left rose dealt Refused Refused text e calm quiet must due = refl
+read_ends command input left rose dealt Refused TooLong text e calm quiet must due = absurd (omega (arith, must, (due.1 e).short))
+read_ends command input left rose dealt PeerFault Done text e calm quiet must due = absurd (no_peer command input dealt text must.2 due.0)
+read_ends command input left rose dealt PeerFault Refused text e calm quiet must due = absurd (must.1 (peer_accepted command input dealt text due.0))
+read_ends command input left rose dealt PeerFault TooLong text e calm quiet must due = absurd (omega (arith, must, (due.1 e).short))
+read_ends command input left rose dealt TooLong Done text e calm quiet must due = absurd (omega (arith, must.0, due.1))
+read_ends command input left rose dealt TooLong Refused text e calm quiet must due = absurd (omega (arith, must.0, due.1))
+read_ends command input left rose dealt TooLong TooLong text e calm quiet must due = refl
+read_ends command input left rose dealt ReadFault wanted text e calm quiet must due = absurd (calm due.1)
+read_ends command input left rose dealt LinkFault wanted text e calm quiet must due = absurd (quiet_link command (Some input) dealt quiet due.0.0)
+read_ends command input left rose dealt NoWorker wanted text e calm quiet must due = absurd (quiet_worker command dealt quiet due.0.0)
+read_ends command input left rose dealt EntropyFault wanted text e calm quiet must due = absurd (quiet_entropy command dealt quiet due.0.0)
+read_ends command input left rose dealt WrongWords wanted text e calm quiet must due = absurd due.0
+read_ends command input left rose dealt outcome WrongWords text e calm quiet must due = absurd must
+read_ends command input left rose dealt outcome ReadFault text e calm quiet must due = absurd must
+read_ends command input left rose dealt outcome LinkFault text e calm quiet must due = absurd must
+read_ends command input left rose dealt outcome PeerFault text e calm quiet must due = absurd must
+read_ends command input left rose dealt outcome NoWorker text e calm quiet must due = absurd must
+read_ends command input left rose dealt outcome EntropyFault text e calm quiet must due = absurd must
+
+read_must : (command : Command) (known left : Option (List ℕ)) (rose : Type 0) (dealt : Dealings) (outcome wanted : Outcome) (text : List ℕ)
+    → reads (Some command) ≡ true → ¬ rose → IsQuiet command dealt → IsSomeAnd known (λ input. MustEnd command input dealt wanted) → IsDueOf command known left rose dealt outcome text → outcome ≡ wanted
+read_must command None left rose dealt outcome wanted text e calm quiet must due = absurd must
+read_must command (Some input) left rose dealt outcome wanted text e calm quiet must due = read_ends command input left rose dealt outcome wanted text e calm quiet must due
+
+known_must : (command : Command) (known left : Option (List ℕ)) (rose calm : Type 0) (dealt : Dealings) (outcome wanted : Outcome) (text : List ℕ) → (calm → ¬ rose)
+    → (test : Bool) → reads (Some command) ≡ test
+    → MatchBool test (calm × IsQuiet command dealt × IsSomeAnd known (λ input. MustEnd command input dealt wanted)) (wanted ≡ Done)
+    → IsDueOf command known left rose dealt outcome text → outcome ≡ wanted
+known_must command known left rose calm dealt outcome wanted text still true e must due = read_must command known left rose dealt outcome wanted text e (still must.0) must.1 must.2 due
+known_must command known left rose calm dealt outcome wanted text still false e must due = unread_done command known left rose dealt outcome text e due ∙ sym must
+
+-- what is due is what must be
+must_be : (command : Option Command) (known left : Option (List ℕ)) (rose calm : Type 0) (dealt : Dealings) (outcome wanted : Outcome) (text : List ℕ) → (calm → ¬ rose)
+    → MustAnswer command known calm dealt wanted → Due command known left rose dealt outcome text → outcome ≡ wanted
+must_be (Some command) known left rose calm dealt outcome wanted text still must due =
+    known_must command known left rose calm dealt outcome wanted text still (reads (Some command)) refl must due
+must_be None known left rose calm dealt WrongWords wanted text still must due = sym must
+must_be None known left rose calm dealt Done wanted text still must due = absurd due
+must_be None known left rose calm dealt Refused wanted text still must due = absurd due
+must_be None known left rose calm dealt ReadFault wanted text still must due = absurd due
+must_be None known left rose calm dealt LinkFault wanted text still must due = absurd due
+must_be None known left rose calm dealt PeerFault wanted text still must due = absurd due
+must_be None known left rose calm dealt NoWorker wanted text still must due = absurd due
+must_be None known left rose calm dealt EntropyFault wanted text still must due = absurd due
+must_be None known left rose calm dealt TooLong wanted text still must due = absurd due
+
+pub exactly : (command : Option Command) (known left : Option (List ℕ)) (rose calm : Type 0) (dealt : Dealings) (Written : List ℕ → Type 0) (result : ℕ) (wanted : Outcome)
+    → (calm → ¬ rose) → result ≢ 5 → MustAnswer command known calm dealt wanted → Told command known left rose dealt Written result
+    → (result ≡ code_of wanted) ⊎ (result ≡ 6)
+exactly command known left rose calm dealt Written result wanted still written must answer =
+    elim (eqb_tells result 6) [
+      | inl six ↦ inr six.1
+      | inr other ↦ (
+          let (outcome, text, same, due, out) = answer written other.1 in
+          inl (same ∙ ap code_of (must_be command known left rose calm dealt outcome wanted text still must due)))
+    ]

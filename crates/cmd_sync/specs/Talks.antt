@@ -1,0 +1,134 @@
+-- What is known of a talk over a link.
+use Rattle.std.specs.Prelude.{◌≡◌, ◌⊎◌, ℕ, ◌<◌, true, List, [], ◌∷◌, ◌++◌, length}
+use Rattle.std.specs.Io.KnownBytes.{Appends}
+use Rattle.std.specs.List.{flat_map}
+use Rattle.base_io.specs.Counts.{Rose, counted}
+use Rattle.base_io.specs.Prefixes.{AppendsPrefix}
+use Rattle.net_traits.specs.Links.{IsUnused, LinkView, counted_if, has_ended, has_failed}
+use Rattle.cmd_sync.specs.Courses.{Course, Turned, is_awaiting, over, takes}
+use Rattle.cmd_sync.specs.declared.sync_fault.Stop.{Stop}
+use Rattle.cmd_sync.specs.declared.sync_fault.Stop.TheVariants.{Link, NoMemory}
+
+-- pieces, one behind the other
+abbrev pub joined : List (List ℕ) → List ℕ
+joined pieces = flat_map (λ piece. piece) pieces
+
+-- no call of the link failed, and no end was found
+pub record IsCalm (old new : LinkView) : Type 0 where
+  pub read_faults : new.read_faults ≡ old.read_faults
+  pub write_faults : new.write_faults ≡ old.write_faults
+  pub ends : new.ends ≡ old.ends
+
+-- ---- one piece
+
+-- it was read, and what is put over it went out
+pub record IsRound (old new : LinkView) (before after : Course) : Type 0 where
+  pub piece : List ℕ
+  pub some : 0 < length piece
+  pub read : Appends old.read new.read piece
+  pub written : Appends old.written new.written (takes before piece).put
+  pub course : after ≡ (takes before piece).course
+  pub calm : IsCalm old new
+
+-- a read failed, or found the end: nothing came, and nothing went out
+pub record IsDry (old new : LinkView) : Type 0 where
+  pub read : Appends old.read new.read []
+  pub written : new.written ≡ old.written
+  pub write_faults : new.write_faults ≡ old.write_faults
+  pub cause : Rose old.read_faults new.read_faults ⊎ Rose old.ends new.ends
+
+-- a piece was read, and a write failed: a prefix of what is put over it went out
+pub record IsCut (old new : LinkView) (before : Course) : Type 0 where
+  pub piece : List ℕ
+  pub read : Appends old.read new.read piece
+  pub written : AppendsPrefix old.written new.written (takes before piece).put
+  pub cause : Rose old.write_faults new.write_faults
+
+-- a piece was read, and memory ran out: nothing went out
+pub record IsStuck (old new : LinkView) : Type 0 where
+  pub piece : List ℕ
+  pub read : Appends old.read new.read piece
+  pub written : new.written ≡ old.written
+
+abbrev pub RoundStops : Stop → LinkView → LinkView → Course → Type 0
+RoundStops Link old new before = IsDry old new ⊎ IsCut old new before
+RoundStops NoMemory old new before = IsStuck old new
+
+-- ---- all pieces
+
+-- these were read, and all that was put over them went out
+pub record IsSpoken (start : Turned) (old new : LinkView) (now : Course) : Type 0 where
+  pub pieces : List (List ℕ)
+  pub read : Appends old.read new.read (joined pieces)
+  pub written : Appends old.written new.written (over start pieces).put
+  pub course : now ≡ (over start pieces).course
+  pub calm : IsCalm old new
+
+-- a read failed, or found the end, before all was done
+pub record IsSevered (start : Turned) (old new : LinkView) : Type 0 where
+  pub pieces : List (List ℕ)
+  pub read : Appends old.read new.read (joined pieces)
+  pub written : Appends old.written new.written (over start pieces).put
+  pub awaited : is_awaiting (over start pieces).course.stage ≡ true
+  pub write_faults : new.write_faults ≡ old.write_faults
+  pub cause : Rose old.read_faults new.read_faults ⊎ Rose old.ends new.ends
+
+-- a write failed: a prefix went out
+pub record IsUnsent (start : Turned) (old new : LinkView) : Type 0 where
+  pub pieces : List (List ℕ)
+  pub read : Appends old.read new.read (joined pieces)
+  pub written : AppendsPrefix old.written new.written (over start pieces).put
+  pub cause : Rose old.write_faults new.write_faults
+
+-- memory ran out: a prefix went out
+pub record IsStarved (start : Turned) (old new : LinkView) : Type 0 where
+  pub pieces : List (List ℕ)
+  pub read : Appends old.read new.read (joined pieces)
+  pub written : AppendsPrefix old.written new.written (over start pieces).put
+
+abbrev pub TalkStops : Stop → Turned → LinkView → LinkView → Type 0
+TalkStops Link start old new = IsSevered start old new ⊎ IsUnsent start old new
+TalkStops NoMemory start old new = IsStarved start old new
+
+-- ---- the dialer
+
+-- how many of its calls failed, how many links came back that were at their end, how many it handed out, and those that were
+-- given back to it
+pub record DialerView : Type 0 where
+  pub faults : ℕ
+  pub ends : ℕ
+  pub handed : ℕ
+  pub given : List LinkView
+
+-- it handed out a link, and this is how it was given back
+pub record IsLent (old new : DialerView) (first last : LinkView) : Type 0 where
+  pub unused : IsUnused first
+  pub given : new.given ≡ old.given ++ last ∷ []
+  pub handed : new.handed ≡ counted old.handed
+  pub faults : new.faults ≡ counted_if (has_failed last) old.faults
+  pub ends : new.ends ≡ counted_if (has_ended last) old.ends
+
+-- its call failed, and it handed out none
+pub record IsUndialed (old new : DialerView) : Type 0 where
+  pub given : new.given ≡ old.given
+  pub handed : new.handed ≡ old.handed
+  pub ends : new.ends ≡ old.ends
+  pub cause : Rose old.faults new.faults
+
+-- all was said over a link, and it was given back
+pub record IsHeld (start : Turned) (old new : DialerView) (now : Course) : Type 0 where
+  pub first : LinkView
+  pub last : LinkView
+  pub lent : IsLent old new first last
+  pub spoken : IsSpoken start first last now
+
+-- so it stopped over a link, which was given back
+pub record IsBroken (stop : Stop) (start : Turned) (old new : DialerView) : Type 0 where
+  pub first : LinkView
+  pub last : LinkView
+  pub lent : IsLent old new first last
+  pub stopped : TalkStops stop start first last
+
+abbrev pub CallStops : Stop → Turned → DialerView → DialerView → Type 0
+CallStops Link start old new = IsUndialed old new ⊎ IsBroken Link start old new
+CallStops NoMemory start old new = IsBroken NoMemory start old new

@@ -1,0 +1,8 @@
+-- The turns that are left lead where all of them do.
+use Rattle.std.proofs.Common.{◌≡◌, ◌-◌}
+use Rattle.cmd_world.specs.Lines.{rounds_of}
+use Rattle.cmd_world.specs.Moves.{all_moved}
+use Rattle.cmd_world.proofs.world.World.rounds.Given as goal
+
+abbrev pub invariant-loop-i : goal.invariant-loop-i
+invariant-loop-i l = all_moved (rounds_of (l.times - l.i) l.count) l.self ≡ all_moved (rounds_of l.times l.count) l.initial.self

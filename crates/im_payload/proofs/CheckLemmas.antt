@@ -1,0 +1,43 @@
+-- Payloads whose fields are judged in an order.
+use Rattle.std.proofs.Common.{◌≡◌, Bool, true, false, Option, Some, None, is_some, List, [], ◌∷◌, ◌++◌, refl, sym, ◌∙◌}
+use Rattle.im_payload.proofs.FaultLemmas.{for_memory}
+use Rattle.im_payload.specs.Checks.{Check, IsFirstWrong, first_wrong}
+use Rattle.im_payload.specs.Faults.{IsFault}
+use Rattle.im_payload.specs.declared.fault.ExtFault.{ExtFault}
+use Rattle.im_payload.specs.declared.fault.ExtFault.TheVariants.{NoMemory}
+use Rattle.im_payload.specs.declared.fault.Field.{Field}
+
+-- this element, of which no field is wrong, is refused for want of memory alone
+pub right_refused : (is_this : Bool) (checks : List Check) (fault : ExtFault) → is_this ≡ true → first_wrong checks ≡ None → IsFault is_this (IsFirstWrong checks) fault → fault ≡ NoMemory
+right_refused is_this checks fault named right = for_memory is_this (IsFirstWrong checks) fault named (λ f wrong. let both = sym right ∙ wrong in cc both)
+
+-- a field is right where its value is there, or its test passes
+pub right_value : {A : Type 0} (given : Option A) (x : A) (field : Field) (rest : List Check) → given ≡ Some x → first_wrong rest ≡ None → first_wrong ((is_some given, field) ∷ rest) ≡ None
+right_value None x field rest is right = absurd (let p = is in cc)
+right_value (Some y) x field rest is right = right
+
+pub right_test : (test : Bool) (field : Field) (rest : List Check) → test ≡ true → first_wrong rest ≡ None → first_wrong ((test, field) ∷ rest) ≡ None
+right_test true field rest is right = right
+right_test false field rest is right = absurd (let p = is in cc)
+
+pub same_value : {A : Type 0} (x y : A) → Some x ≡ Some y → x ≡ y
+same_value x y same = cc
+
+-- checks behind others
+behind_right : (test : Bool) (field : Field) (front behind : List Check) → (first_wrong front ≡ None → first_wrong (front ++ behind) ≡ first_wrong behind) → first_wrong ((test, field) ∷ front) ≡ None
+    → first_wrong ((test, field) ∷ front ++ behind) ≡ first_wrong behind
+behind_right true field front behind again right = again right
+behind_right false field front behind again right = absurd (let p = right in cc)
+
+pub right_behind : (front behind : List Check) → first_wrong front ≡ None → first_wrong (front ++ behind) ≡ first_wrong behind
+right_behind [] behind right = refl
+right_behind (check ∷ front) behind right = behind_right check.0 check.1 front behind (right_behind front behind) right
+
+behind_wrong : (test : Bool) (other : Field) (front behind : List Check) (field : Field) → (first_wrong front ≡ Some field → first_wrong (front ++ behind) ≡ Some field) → first_wrong ((test, other) ∷ front) ≡ Some field
+    → first_wrong ((test, other) ∷ front ++ behind) ≡ Some field
+behind_wrong true other front behind field again wrong = again wrong
+behind_wrong false other front behind field again wrong = wrong
+
+pub wrong_front : (front behind : List Check) (field : Field) → first_wrong front ≡ Some field → first_wrong (front ++ behind) ≡ Some field
+wrong_front [] behind field wrong = absurd (let p = wrong in cc)
+wrong_front (check ∷ front) behind field wrong = behind_wrong check.0 check.1 front behind field (wrong_front front behind field) wrong

@@ -1,0 +1,71 @@
+//! What answers a stanza with an error (RFC 6120, section 8.3.1).
+ghost use Rattle.std.specs.Prelude.{◌≡◌, IfOk};
+ghost use Rattle.std.specs.Option.{option_copied};
+ghost use Rattle.im_stanza.specs.Answering.{bounce_elem, iq_error_elem};
+ghost use Rattle.im_stanza.specs.Errors.{error_elem};
+ghost use Rattle.xml_trees.specs.Trees.{child, no_nodes};
+ghost use Rattle.xml_trees.specs.Tidied.{tidied};
+ghost use Rattle.xml_trees.specs.Views.{nodes_view};
+
+use crate::elements::{StanzaAttrs, stanza_element, unless_empty};
+use crate::errors::{StanzaError, error_element};
+use crate::kinds::{IqKind, MessageKind};
+use base_io::NoMemory;
+use std::alloc::Global;
+use xml_trees::{Node, Nodes, Tree};
+
+// The child `error` alone.
+fn error_nodes(alloc: Global, error: &StanzaError) -> Result<Nodes, NoMemory>
+    ensures { IfOk result (λ nodes. nodes_view nodes.items ≡ child (error_elem error.now) no_nodes) }
+{
+    let child = error_element(alloc, error)?;
+    let mut nodes = Nodes::new(alloc);
+    nodes.push(Node::Child(child))?;
+    Ok(nodes)
+}
+
+/// The message that answers a message with an error. `from` is what that message had as `to`, which may be no address, and
+/// `id` its id, which is left out where it is empty. It has no `to`.
+pub fn bounce<'a>(
+    alloc: Global,
+    from: &'a str,
+    id: &'a str,
+    error: &StanzaError,
+) -> Result<Tree, NoMemory>
+    ensures { IfOk result (λ tree. tree ≡ tidied (bounce_elem from.now id.now error.now)) }
+{
+    let payload = error_nodes(alloc, error)?;
+    let attrs = StanzaAttrs {
+        from: Some(from),
+        id: unless_empty(id),
+        to: None,
+        kind: Some(MessageKind::Error.text()),
+        lang: None,
+    };
+    let element = stanza_element(alloc, "message", &attrs, payload)?;
+    Tree::of(alloc, element)
+}
+
+/// The `iq` that answers an `iq` with an error. `from` is what that `iq` had as `to`, which may be no address, where it is
+/// to be told, `to` is the address of the one who asked, where that is to be told, and `id` is the id of the `iq` (RFC
+/// 6120, section 8.2.3).
+pub fn iq_error<'a>(
+    alloc: Global,
+    from: Option<&'a str>,
+    to: Option<&'a str>,
+    id: &'a str,
+    error: &StanzaError,
+) -> Result<Tree, NoMemory>
+    ensures { IfOk result (λ tree. tree ≡ tidied (iq_error_elem (option_copied from.entry) (option_copied to.entry) id.now error.now)) }
+{
+    let payload = error_nodes(alloc, error)?;
+    let attrs = StanzaAttrs {
+        from,
+        id: Some(id),
+        to,
+        kind: Some(IqKind::Error.text()),
+        lang: None,
+    };
+    let element = stanza_element(alloc, "iq", &attrs, payload)?;
+    Tree::of(alloc, element)
+}

@@ -1,0 +1,28 @@
+-- ---- what rows are made of, and what holds of all of them
+pub mod LogParts
+pub mod Parts
+pub mod LoginWalk
+pub mod OnlineWalk
+pub mod TableWalk
+-- ---- sessions
+pub mod Standings
+pub mod SubmissionsKept
+pub mod Directing
+pub mod Noting
+-- ---- logs
+pub mod KeptLogs
+pub mod GrownLogs
+pub mod LogLaws
+pub mod CaughtUp
+pub mod NextPages
+-- ---- each thing that is put turned into another
+pub mod RowsTurned
+pub mod OnlineTurned
+pub mod TableTurned
+-- ---- calls
+pub mod CallsMade
+pub mod CallsTurned
+-- ---- rows
+pub mod RowsPut
+-- ---- items and calls
+pub mod StepsOrdered

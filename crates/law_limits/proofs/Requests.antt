@@ -1,0 +1,189 @@
+-- What a server answers to requests, and to messages that it can't pass on (RFC 6120, sections 7 and 8).
+use Rattle.std.proofs.Common.{◌≡◌, ℕ, ◌+◌, ◌<◌, ◌≤◌, ◌^◌, true, List, [], ◌∷◌, ◌++◌, Option, Some, None, IfSome, codes, refl, ap, arith, subst, sym}
+use Rattle.std.specs.Fmt.{decimal}
+use Rattle.base_lemmas.specs.Hexadecimal.{hex16_of}
+use Rattle.im_extensions.proofs.BindLaws.{bind_result_stays}
+use Rattle.im_extensions.proofs.StreamManagementLaws.{enabled_stays}
+use Rattle.im_extensions.specs.Bind.{bind_result_elem}
+use Rattle.im_extensions.specs.StreamManagement.{enabled_elem}
+use Rattle.im_login.proofs.DiscoveryLaws.{told_stays}
+use Rattle.im_login.specs.Discovery.{Told, account, disco_info_elem, feature_elem, feature_elems, identity_elem, server, server_features}
+use Rattle.im_payload.specs.Bare.{bare}
+use Rattle.im_payload.specs.Names.{archive, binding, carbons, disco_info, management, pings, roster, stanza_ids}
+use Rattle.law_limits.proofs.PutParts.{attributes_joined, child_fine, fine_bare, fine_element, fine_more, no_attributes, no_nodes_fine, nodes_more, one_attribute, only_child, other_space, reads, said_fine, space, stanza_attributes, where_given, word}
+use Rattle.law_limits.proofs.PutReplies.{fine_around, known_word, two_attributes, with_none}
+use Rattle.law_limits.specs.Fine.{AreFine, ClientReads, IsFine, IsWord}
+use Rattle.im_replies.specs.Requests.{EnvelopeView}
+use Rattle.law_limits.proofs.Characters.{said_word}
+use Rattle.law_limits.proofs.Numerals.{said_decimal, said_hex}
+use Rattle.law_limits.specs.Texts.{Said}
+use Rattle.im_stanza.proofs.WrittenAttrs.{attrs_stay}
+use Rattle.im_stanza.specs.Answering.{bounce_elem, iq_error_elem}
+use Rattle.im_stanza.specs.Conditions.{IsKnown, condition_name}
+use Rattle.im_stanza.specs.Errors.{error_elem, error_type}
+use Rattle.im_stanza.specs.Kinds.{iq_type, message_type}
+use Rattle.im_stanza.specs.Names.{client_ns, stanza_errors_ns}
+use Rattle.im_stanza.specs.Written.{attr_where, attrs_written, iq_elem, unless_empty}
+use Rattle.im_stanza.specs.declared.errors.ErrorKind.{ErrorKind}
+use Rattle.im_stanza.specs.declared.errors.ErrorKind.TheVariants as error
+use Rattle.im_stanza.specs.declared.errors.StanzaError.{StanzaError}
+use Rattle.im_stanza.specs.declared.kinds.IqKind.{IqKind}
+use Rattle.im_stanza.specs.declared.kinds.IqKind.TheVariants as iq
+use Rattle.im_stanza.specs.declared.kinds.MessageKind.{MessageKind}
+use Rattle.im_stanza.specs.declared.kinds.MessageKind.TheVariants as message
+use Rattle.xml_trees.proofs.TidyLaws.{tidied_IsTree}
+use Rattle.xml_trees.specs.Attributes.{attribute}
+use Rattle.xml_trees.specs.Tidied.{text_node, tidied, tidied_nodes}
+use Rattle.xml_trees.specs.Trees.{Elem, IsTree, Nodes, element, no_nodes, child}
+use Rattle.xml_writer.specs.Canon.{default_inside}
+
+pub stays_tree : (e : Elem) → tidied e ≡ e → IsTree e
+stays_tree e stays = subst IsTree stays (tidied_IsTree e)
+
+-- the default namespace inside a stanza
+pub inside_client : (default : List ℕ) → default_inside default client_ns ≡ client_ns
+unfolding default_inside
+inside_client default = refl
+
+pub unless_said : (m : ℕ) (t : List ℕ) → Said m t → IfSome (unless_empty t) (Said m)
+unless_said m [] h = tt
+unless_said m (c ∷ cs) h = h
+
+-- ---- kinds
+
+pub error_kind_said : (k : ErrorKind) → Said 60 (error_type k)
+error_kind_said error.Auth = said_word 60 (codes "auth") refl refl
+error_kind_said error.Cancel = said_word 60 (codes "cancel") refl refl
+error_kind_said error.Continue = said_word 60 (codes "continue") refl refl
+error_kind_said error.Modify = said_word 60 (codes "modify") refl refl
+error_kind_said error.Wait = said_word 60 (codes "wait") refl refl
+
+pub message_kind_said : (k : MessageKind) → Said 60 (message_type k)
+message_kind_said message.Chat = said_word 60 (codes "chat") refl refl
+message_kind_said message.Normal = said_word 60 (codes "normal") refl refl
+message_kind_said message.Headline = said_word 60 (codes "headline") refl refl
+message_kind_said message.Groupchat = said_word 60 (codes "groupchat") refl refl
+message_kind_said message.Error = said_word 60 (codes "error") refl refl
+
+pub iq_kind_said : (k : IqKind) → Said 60 (iq_type k)
+iq_kind_said iq.Get = said_word 60 (codes "get") refl refl
+iq_kind_said iq.Set = said_word 60 (codes "set") refl refl
+iq_kind_said iq.Result = said_word 60 (codes "result") refl refl
+iq_kind_said iq.Error = said_word 60 (codes "error") refl refl
+
+-- ---- stanzas
+
+-- a stanza whose attributes take these bytes, with these nodes inside
+pub stanza_fine : (default name : List ℕ) (from id to kind lang : Option (List ℕ)) (kids : Nodes) (f i t l levels n : ℕ) → IsWord name → IfSome from (Said f) → IfSome id (Said i) → IfSome to (Said t) → IfSome kind (Said 60)
+    → IfSome lang (Said l) → AreFine client_ns levels n kids → IsFine default (levels + 1) (f + i + t + l + n + 700) (element client_ns name (attrs_written from id to kind lang) kids)
+stanza_fine default name from id to kind lang kids f i t l levels n w a b c d e inside =
+    let attributes = stanza_attributes f i t 60 l from id to kind lang a b c d e in
+    fine_more default (levels + 1) (levels + 1) (f + i + t + 60 + l + 240 + n + 400) (f + i + t + l + n + 700) (element client_ns name (attrs_written from id to kind lang) kids)
+    (fine_element default client_ns name (attrs_written from id to kind lang) kids 5 (f + i + t + 60 + l + 240) levels n (space client_ns refl) w attributes (omega arith) (subst (λ d. AreFine d levels n kids) (sym (inside_client default)) inside))
+    (omega arith) (omega arith)
+
+pub error_fine : (default : List ℕ) (e : StanzaError) → IsKnown e.condition → IsFine default 2 1000 (error_elem e)
+error_fine default e known =
+    let inner = default_inside default client_ns in
+    let condition = element stanza_errors_ns (condition_name e.condition) [] no_nodes in
+    let inside = only_child inner 1 400 condition (fine_bare inner stanza_errors_ns (condition_name e.condition) (space stanza_errors_ns refl) (known_word e.condition known)) in
+    fine_more default 2 2 (108 + 400 + 400) 1000 (error_elem e)
+    (fine_element default client_ns (codes "error") (attribute [] (codes "type") (error_type e.kind) ∷ []) (child condition no_nodes) 1 108 1 400 (space client_ns refl) (word (codes "error") refl)
+    (one_attribute 60 (codes "type") (error_type e.kind) (word (codes "type") refl) (error_kind_said e.kind)) (omega arith) inside)
+    (omega arith) (omega arith)
+
+pub bounce_read : (f i : ℕ) (from id : List ℕ) (e : StanzaError) → Said f from → Said i id → IsKnown e.condition → f + i ≤ 4000000 → ClientReads (bounce_elem from id e)
+bounce_read f i from id e a b known short =
+    reads (bounce_elem from id e) 3 (f + i + 0 + 0 + 1000 + 700)
+    (stays_tree (bounce_elem from id e) (λ j. element client_ns (codes "message") (attrs_stay (Some from) (unless_empty id) None (Some (message_type message.Error)) None j) (child (error_elem e) no_nodes)))
+    (stanza_fine client_ns (codes "message") (Some from) (unless_empty id) None (Some (message_type message.Error)) None (child (error_elem e) no_nodes) f i 0 0 2 1000 (word (codes "message") refl) a (unless_said i id b) tt
+    (message_kind_said message.Error) tt (only_child client_ns 2 1000 (error_elem e) (error_fine client_ns e known)))
+    (other_space client_ns (codes "message") refl) (omega arith) (omega (arith, short))
+
+pub iq_error_read : (f i t : ℕ) (from to : Option (List ℕ)) (id : List ℕ) (e : StanzaError) → IfSome from (Said f) → Said i id → IfSome to (Said t) → IsKnown e.condition → f + i + t ≤ 4000000
+    → ClientReads (iq_error_elem from to id e)
+iq_error_read f i t from to id e a b c known short =
+    reads (iq_error_elem from to id e) 3 (f + i + t + 0 + 1000 + 700)
+    (stays_tree (iq_error_elem from to id e) (λ j. element client_ns (codes "iq") (attrs_stay from (Some id) to (Some (iq_type iq.Error)) None j) (child (error_elem e) no_nodes)))
+    (stanza_fine client_ns (codes "iq") from (Some id) to (Some (iq_type iq.Error)) None (child (error_elem e) no_nodes) f i t 0 2 1000 (word (codes "iq") refl) a b c (iq_kind_said iq.Error) tt
+    (only_child client_ns 2 1000 (error_elem e) (error_fine client_ns e known)))
+    (other_space client_ns (codes "iq") refl) (omega arith) (omega (arith, short))
+
+pub result_read : (f i t levels n : ℕ) (a : EnvelopeView) (payload : Nodes) → IfSome a.from (Said f) → Said i a.id → IfSome a.to (Said t) → tidied_nodes payload ≡ payload → AreFine client_ns levels n payload
+    → levels ≤ 60 → f + i + t + n ≤ 4000000 → ClientReads (iq_elem (record { from = a.from; to = a.to; id = a.id; kind = iq.Result; payload = payload }))
+result_read f i t levels n a payload b c d stays inside deep short =
+    let e = iq_elem (record { from = a.from; to = a.to; id = a.id; kind = iq.Result; payload = payload }) in
+    reads e (levels + 1) (f + i + t + 0 + n + 700) (stays_tree e (λ j. element client_ns (codes "iq") (attrs_stay a.from (Some a.id) a.to (Some (iq_type iq.Result)) None j) (stays j)))
+    (stanza_fine client_ns (codes "iq") a.from (Some a.id) a.to (Some (iq_type iq.Result)) None payload f i t 0 levels n (word (codes "iq") refl) b c d (iq_kind_said iq.Result) tt inside) (other_space client_ns (codes "iq") refl) (omega (arith, deep))
+    (omega (arith, short))
+
+-- ---- payloads
+
+pub nothing_fine : AreFine client_ns 0 0 no_nodes
+nothing_fine = no_nodes_fine client_ns
+
+pub roster_fine : AreFine client_ns 1 400 (child (bare roster (codes "query")) no_nodes)
+roster_fine = only_child client_ns 1 400 (bare roster (codes "query")) (fine_bare client_ns roster (codes "query") (space roster refl) (word (codes "query") refl))
+
+feature_fine : (default namespace : List ℕ) → Said 240 namespace → IsFine default 1 700 (feature_elem namespace)
+feature_fine default namespace h =
+    fine_more default 1 1 688 700 (feature_elem namespace)
+    (with_none default disco_info (codes "feature") (attribute [] (codes "var") namespace ∷ []) 1 288 (space disco_info refl) (word (codes "feature") refl) (one_attribute 240 (codes "var") namespace (word (codes "var") refl) h) (omega arith))
+    (omega arith) (omega arith)
+
+features_fine : (default : List ℕ) → AreFine default 1 3500 (feature_elems server_features)
+features_fine default =
+    let none = nodes_more default 0 1 0 0 no_nodes (no_nodes_fine default) (omega arith) (omega arith) in
+    let one = child_fine default 1 700 0 (feature_elem stanza_ids) no_nodes (feature_fine default stanza_ids (said_word 240 stanza_ids refl refl)) none in
+    let two = child_fine default 1 700 700 (feature_elem pings) (feature_elems (stanza_ids ∷ [])) (feature_fine default pings (said_word 240 pings refl refl)) one in
+    let three = child_fine default 1 700 1400 (feature_elem archive) (feature_elems (pings ∷ stanza_ids ∷ [])) (feature_fine default archive (said_word 240 archive refl refl)) two in
+    let four = child_fine default 1 700 2100 (feature_elem carbons) (feature_elems (archive ∷ pings ∷ stanza_ids ∷ [])) (feature_fine default carbons (said_word 240 carbons refl refl)) three in
+    child_fine default 1 700 2800 (feature_elem disco_info) (feature_elems (carbons ∷ archive ∷ pings ∷ stanza_ids ∷ [])) (feature_fine default disco_info (said_word 240 disco_info refl refl)) four
+
+info_fine : (told : Told) → Said 60 told.0 → Said 60 told.1 → AreFine client_ns 2 5000 (child (disco_info_elem (told ∷ []) server_features) no_nodes)
+info_fine told h k =
+    let inner = default_inside client_ns disco_info in
+    let identity =
+    with_none inner disco_info (codes "identity") (attribute [] (codes "category") told.0 ∷ attribute [] (codes "type") told.1 ∷ []) 2 216 (space disco_info refl) (word (codes "identity") refl)
+    (two_attributes 60 60 (codes "category") told.0 (codes "type") told.1 (word (codes "category") refl) h (word (codes "type") refl) k) (omega arith) in
+    let kids = child (identity_elem told) (feature_elems server_features) in
+    let inside = child_fine inner 1 616 3500 (identity_elem told) (feature_elems server_features) identity (features_fine inner) in
+    let whole = fine_element client_ns disco_info (codes "query") [] kids 0 0 1 (616 + 3500) (space disco_info refl) (word (codes "query") refl) no_attributes (omega arith) inside in
+    only_child client_ns 2 5000 (disco_info_elem (told ∷ []) server_features) (fine_more client_ns 2 2 (0 + (616 + 3500) + 400) 5000 (disco_info_elem (told ∷ []) server_features) whole (omega arith) (omega arith))
+
+pub server_info_fine : AreFine client_ns 2 5000 (child (disco_info_elem (server ∷ []) server_features) no_nodes)
+server_info_fine = info_fine server (said_word 60 (codes "server") refl refl) (said_word 60 (codes "im") refl refl)
+
+pub account_info_fine : AreFine client_ns 2 5000 (child (disco_info_elem (account ∷ []) server_features) no_nodes)
+account_info_fine = info_fine account (said_word 60 (codes "account") refl refl) (said_word 60 (codes "registered") refl refl)
+
+pub bound_fine : (m : ℕ) (jid : List ℕ) → Said m jid → AreFine client_ns 2 (m + 800) (child (bind_result_elem (record { jid = jid })) no_nodes)
+bound_fine m jid h =
+    let inner = default_inside client_ns binding in
+    let told = fine_element inner binding (codes "jid") [] (text_node jid) 0 0 0 m (space binding refl) (word (codes "jid") refl) no_attributes (omega arith) (said_fine (default_inside inner binding) jid m h) in
+    only_child client_ns 2 (m + 800) (bind_result_elem (record { jid = jid }))
+    (fine_more client_ns 2 2 (0 + m + 400 + 400) (m + 800) (bind_result_elem (record { jid = jid }))
+    (fine_around client_ns binding (codes "bind") 1 (0 + m + 400) (element binding (codes "jid") [] (text_node jid)) (space binding refl) (word (codes "bind") refl) told) (omega arith) (omega arith))
+
+-- what tidying leaves
+pub info_stays : (told : Told) → tidied_nodes (child (disco_info_elem (told ∷ []) server_features) no_nodes) ≡ child (disco_info_elem (told ∷ []) server_features) no_nodes
+info_stays told = ap (λ e. child e no_nodes) (told_stays (told ∷ []) server_features)
+
+pub bound_stays : (jid : List ℕ) → tidied_nodes (child (bind_result_elem (record { jid = jid })) no_nodes) ≡ child (bind_result_elem (record { jid = jid })) no_nodes
+bound_stays jid = ap (λ e. child e no_nodes) (bind_result_stays (record { jid = jid }))
+
+-- ---- a stream that can be resumed (XEP-0198, section 3)
+
+pub resumable_read : (n seconds : ℕ) → seconds < 2 ^ 64 → ClientReads (enabled_elem (record { id = hex16_of n; resume = true; max = Some seconds }))
+resumable_read n seconds small =
+    let given = attr_where [] (codes "id") (unless_empty (hex16_of n)) in
+    let most = attr_where [] (codes "max") (Some (decimal seconds)) in
+    let flag = attr_where [] (codes "resume") (Some (codes "true")) in
+    let a = where_given 96 (codes "id") (unless_empty (hex16_of n)) (word (codes "id") refl) (unless_said 96 (hex16_of n) (said_hex n)) in
+    let b = where_given 120 (codes "max") (Some (decimal seconds)) (word (codes "max") refl) (said_decimal seconds small) in
+    let c = where_given 24 (codes "resume") (Some (codes "true")) (word (codes "resume") refl) (said_word 24 (codes "true") refl refl) in
+    let two = attributes_joined 1 1 144 168 given most a b in
+    let three = attributes_joined 2 1 312 72 (given ++ most) flag two c in
+    reads (enabled_elem (record { id = hex16_of n; resume = true; max = Some seconds })) 1 (312 + 72 + 400)
+    (stays_tree (enabled_elem (record { id = hex16_of n; resume = true; max = Some seconds })) (enabled_stays (record { id = hex16_of n; resume = true; max = Some seconds })))
+    (with_none client_ns management (codes "enabled") (given ++ most ++ flag) 3 (312 + 72) (space management refl) (word (codes "enabled") refl) three (omega arith)) (other_space management (codes "enabled") refl) (omega arith) (omega arith)

@@ -1,0 +1,102 @@
+-- What is read of tidied elements, and of messages that are sent back.
+use Rattle.std.proofs.Common.{◌≡◌, ◌≢◌, ℕ, List, [], ◌∷◌, ◌++◌, Option, Some, None, Ok, Err, unwrap_or, codes, map, refl, sym, ap, ◌∙◌, subst}
+use Rattle.im_jid.specs.Normal.{normal}
+use Rattle.im_jid.specs.declared.fault.JidFault.{JidFault}
+use Rattle.im_stanza.proofs.ErrorLaws.{error_read_back}
+use Rattle.im_stanza.proofs.KindLemmas.{message_reads, spelled_is}
+use Rattle.im_stanza.proofs.ReadingLaws.{bad_from_law, message_law}
+use Rattle.im_stanza.proofs.WrittenAttrs.{attr_tidied, from_written, id_written, lang_written, to_written, type_written}
+use Rattle.im_stanza.specs.Answering.{bounce_elem}
+use Rattle.im_stanza.specs.Conditions.{IsPlain, condition_name}
+use Rattle.im_stanza.specs.Errors.{error_elem, stanza_error_of}
+use Rattle.im_stanza.specs.Kinds.{IsMessageKind, message_kind_named, message_type}
+use Rattle.im_stanza.specs.Names.{xml_ns}
+use Rattle.im_stanza.specs.Readings.{stanza_of}
+use Rattle.im_stanza.specs.Stanzas.{IsAddressOf, IsBadFrom, IsMessage, attr_named}
+use Rattle.im_stanza.specs.Views.{MessageView}
+use Rattle.im_stanza.specs.Written.{unless_empty}
+use Rattle.im_stanza.specs.declared.errors.StanzaError.{StanzaError}
+use Rattle.im_stanza.specs.declared.fault.StanzaFault.TheVariants.{BadFrom}
+use Rattle.im_stanza.specs.declared.kinds.MessageKind.TheVariants.{Normal, Error}
+use Rattle.im_stanza.specs.declared.stanzas.Stanza.TheVariants.{Message}
+use Rattle.xml_trees.proofs.TidyReads.{elements_of-joined}
+use Rattle.xml_trees.specs.Readers.{attr_of, elements_of}
+use Rattle.xml_trees.specs.Tidied.{text_node, tidied, tidied_behind, tidied_nodes}
+use Rattle.xml_trees.specs.Trees.{Elem, element, Nodes, no_nodes, child, text, nodes_of}
+
+-- ---- the elements of what is tidied
+
+no_elements : (run : List ℕ) → elements_of (text_node run) ≡ []
+no_elements [] = refl
+no_elements (c ∷ cs) = refl
+
+elements_behind : (run : List ℕ) (ks : Nodes) → elements_of (tidied_behind run ks) ≡ map tidied (elements_of ks)
+elements_behind run no_nodes = no_elements run
+elements_behind run (child e rest) =
+    elements_of-joined (text_node run) (child (tidied e) (tidied_behind [] rest))
+    ∙ (λ i. no_elements run i ++ tidied e ∷ elements_behind [] rest i)
+elements_behind run (text t rest) = elements_behind (run ++ t) rest
+
+pub elements_of_nodes : (ks : Nodes) → elements_of (tidied_nodes ks) ≡ map tidied (elements_of ks)
+elements_of_nodes = elements_behind []
+
+pub elements_inside : (e : Elem) → elements_of (nodes_of (tidied e)) ≡ map tidied (elements_of (nodes_of e))
+elements_inside (element ns name attrs kids) = elements_behind [] kids
+
+-- ---- messages that are sent back
+
+empty_again : (given : Option (List ℕ)) (t : List ℕ) → given ≡ unless_empty t → t ≡ unwrap_or given []
+empty_again given t is = sym (ap (λ o. unwrap_or o []) is ∙ again t)
+  where
+    again : (t : List ℕ) → unwrap_or (unless_empty t) [] ≡ t
+    again [] = refl
+    again (c ∷ cs) = refl
+
+module _ (from id : List ℕ) (error : StanzaError) where
+  abbrev sent : Elem
+  sent = bounce_elem from id error
+
+  from_sent : attr_named (codes "from") (tidied sent) ≡ Some from
+  from_sent = attr_tidied [] (codes "from") sent ∙ from_written (Some from) (unless_empty id) None (Some (message_type Error)) None
+
+  to_sent : attr_named (codes "to") (tidied sent) ≡ None
+  to_sent = attr_tidied [] (codes "to") sent ∙ to_written (Some from) (unless_empty id) None (Some (message_type Error)) None
+
+  id_sent : attr_named (codes "id") (tidied sent) ≡ unless_empty id
+  id_sent = attr_tidied [] (codes "id") sent ∙ id_written (Some from) (unless_empty id) None (Some (message_type Error)) None
+
+  type_sent : attr_named (codes "type") (tidied sent) ≡ Some (message_type Error)
+  type_sent = attr_tidied [] (codes "type") sent ∙ type_written (Some from) (unless_empty id) None (Some (message_type Error)) None
+
+  lang_sent : attr_of xml_ns (codes "lang") (tidied sent) ≡ None
+  lang_sent = attr_tidied xml_ns (codes "lang") sent ∙ lang_written (Some from) (unless_empty id) None (Some (message_type Error)) None
+
+  abbrev read : List ℕ → MessageView
+  read form = record { from = Some form; to = None; id = id; kind = Error; lang = []; payload = child (error_elem error) no_nodes }
+
+  bounced : (form : List ℕ) → normal from ≡ Ok form → IsMessage (tidied sent) (read form)
+  bounced form is = record {
+    named = (refl, refl);
+    from = subst (λ given. IsAddressOf given (Some form)) (sym from_sent) (form, is, refl);
+    to = subst (λ given. IsAddressOf given None) (sym to_sent) refl;
+    id = empty_again (attr_named (codes "id") (tidied sent)) id id_sent;
+    kind = subst (λ given. IsMessageKind given Error) (sym type_sent) (spelled_is message_type Normal message_kind_named message_reads Error);
+    lang = sym (ap (λ o. unwrap_or o []) lang_sent);
+    payload = refl;
+  }
+
+  pub bounce_read : (form : List ℕ) → normal from ≡ Ok form → stanza_of (tidied sent) ≡ Ok (Message (read form))
+  bounce_read form is = (message_law (tidied sent) (read form)).1 (bounced form is)
+
+  pub bounce_error : IsPlain error.condition → condition_name error.condition ≢ codes "text" → stanza_error_of (tidied sent) ≡ Ok error
+  bounce_error plain other = error_read_back (tidied sent) error refl plain other
+
+  bad_sender : (why : JidFault) → normal from ≡ Err why → IsBadFrom (tidied sent)
+  bad_sender why is = record {
+    stanza = λ none. none.message (refl, refl);
+    format = λ bad. let named = bad.named.1 in cc named;
+    bad = record { value = from; why = why; there = from_sent; refused = is };
+  }
+
+  pub bounce_refused : (why : JidFault) → normal from ≡ Err why → stanza_of (tidied sent) ≡ Err BadFrom
+  bounce_refused why is = (bad_from_law (tidied sent)).1 (bad_sender why is)

@@ -1,0 +1,38 @@
+-- ---- sessions and small steps, turned
+pub mod SessionsTurned
+pub mod StepsTurned
+-- ---- rows, turned
+pub mod StreamsTurned
+pub mod SessionRowsTurned
+pub mod RequestsTurned
+pub mod MessagesTurned
+pub mod TableTurned
+-- ---- counts
+pub mod Counts
+-- ---- requests
+pub mod OwnActs
+pub mod LastAnswers
+pub mod OwnAnswers
+-- ---- pieces of bytes
+pub mod PiecesJoined
+-- ---- what steps leave
+pub mod Frames
+-- ---- moments, and connections that come and go
+pub mod MomentsTurned
+-- ---- bytes
+pub mod EventsTurned
+-- ---- what acts mean for archives
+pub mod Marks
+pub mod QuietRows
+pub mod MessageMarks
+pub mod ItemTakes
+-- ---- sessions
+pub mod NumbersKept
+pub mod AccountsKept
+pub mod FittingRows
+pub mod ItemFits
+pub mod SoundEvents
+-- ---- what is taken
+pub mod ArchiveEntries
+pub mod NumbersWithin
+pub mod PieceTakes

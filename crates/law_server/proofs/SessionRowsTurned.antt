@@ -1,0 +1,103 @@
+-- The rows on binding, acknowledgement and resumption go through.
+use Rattle.std.proofs.Common.{◌≡◌, ℕ, nat_le, Bool, true, false, List, [], ◌∷◌, ◌++◌, Option, Some, None, Result, Ok, Err, map, length, cond, refl, sym, ap, ap₂, ◌∙◌}
+use Rattle.std.proofs.lemmas.List.{length-map}
+use Rattle.std.specs.Option.{option_map}
+use Rattle.std.specs.Result.{result_ok}
+use Rattle.sm_acks.specs.declared.end.TooHigh.{TooHigh as TooHighCount}
+use Rattle.srv_state.specs.State.{Hall, full_address}
+use Rattle.srv_state.specs.Steps as steps
+use Rattle.srv_state.specs.Steps.{Act}
+use Rattle.srv_state.specs.Streams.{parting_where}
+use Rattle.srv_state.specs.declared.limits.TheConstants.{ASKS_AT}
+use Rattle.sm_live.specs.Sessions.{Session, ack_answer, ended_of, resent, resume_answer, session_named, session_of, session_resumed}
+use Rattle.sm_live.specs.declared.told.Told.{Told}
+use Rattle.im_replies.specs.Management.{resumed_item}
+use Rattle.im_replies.specs.Requests.{bound_item}
+use Rattle.im_replies.specs.Streams.{error_item, too_high_item}
+use Rattle.im_replies.specs.declared.conditions.StreamCondition.TheVariants.{Conflict}
+use Rattle.sm_resumption.specs.declared.answers.Ended.{Ended}
+use Rattle.sm_resumption.specs.declared.answers.ResumeFault.{ResumeFault}
+use Rattle.sm_resumption.specs.declared.answers.ResumeFault.TheVariants.{TooHigh, UnknownPrevid}
+use Rattle.sm_resumption.specs.declared.answers.ResumeOk.{ResumeOk}
+use Rattle.law_server.proofs.SessionsTurned.{answer_turned, ended_turned, resent_turned, resume_same, resumed_turned}
+use Rattle.law_server.specs.Turned.{act_turned, acts_turned, hall_turned, session_turned, sessions_turned, turned}
+use Rattle.srv_handlers.specs.Bindings.{asked_resource, at_bind, binding_as, chosen, former_of}
+use Rattle.srv_handlers.specs.Managements.{acknowledging, at_ack, at_enable, at_request}
+use Rattle.srv_handlers.specs.Resumptions.{asking, at_resume, resent_where, resuming, saying}
+use Rattle.xml_trees.specs.Trees.{Elem}
+use Rattle.xml_writer.specs.Items.{Closing, ItemOut}
+
+pub acts_either : {A B : Type 0} (f : A → B) (b : Bool) (x y : List (Act B)) (s t : List (Act A)) → x ≡ acts_turned f s → y ≡ acts_turned f t → cond b x y ≡ acts_turned f (cond b s t)
+acts_either f true x y s t here there = here
+acts_either f false x y s t here there = there
+
+parting_turned : {A B : Type 0} (f : A → B) (say : ItemOut → A) (o : Option ℕ) (error : A) (more : List (Act A)) → parting_where (turned f say) o (f error) (acts_turned f more) ≡ acts_turned f (parting_where say o error more)
+parting_turned f say None error more = refl
+parting_turned f say (Some k) error more = refl
+
+-- ---- binding
+
+binding_turned : {A B : Type 0} (f : A → B) (say : ItemOut → A) (k account : ℕ) (id : List ℕ) (o : Option (List ℕ)) (h : Hall A) → binding_as (turned f say) k account id o (hall_turned f h) ≡ acts_turned f (binding_as say k account id o h)
+binding_turned f say k account id None h = refl
+binding_turned f say k account id (Some resource) h =
+    ap (λ (o : Option Ended). steps.Bind account resource k ∷ parting_where (turned f say) (former_of o) (f (say (error_item Conflict))) (steps.Say k (f (say (bound_item id (full_address account resource h)))) ∷ [])) (ended_turned f account resource h.sessions)
+    ∙ ap (λ acts. steps.Bind account resource k ∷ acts)
+    (parting_turned f say (former_of (option_map ended_of (session_named account resource h.sessions))) (say (error_item Conflict)) (steps.Say k (say (bound_item id (full_address account resource h))) ∷ []))
+
+pub bind_turned : {A B : Type 0} (f : A → B) (say : ItemOut → A) (k account : ℕ) (id : List ℕ) (bind : Elem) (h : Hall A) → at_bind (turned f say) k account id bind (hall_turned f h) ≡ acts_turned f (at_bind say k account id bind h)
+bind_turned f say k account id bind h = binding_turned f say k account id (result_ok (chosen h.next (asked_resource bind))) h
+
+-- ---- acknowledgement
+
+pub enable_turned : {A B : Type 0} (f : A → B) (say : ItemOut → A) (k : ℕ) (resume : Bool) (t : Told) → at_enable (turned f say) k resume t ≡ acts_turned f (at_enable say k resume t)
+enable_turned f say k resume t = acts_either f t.counted _ _ _ _ refl refl
+
+pub request_turned : {A B : Type 0} (f : A → B) (say : ItemOut → A) (k : ℕ) (t : Told) → at_request (turned f say) k t ≡ acts_turned f (at_request say k t)
+request_turned f say k t = acts_either f t.counted _ _ _ _ refl refl
+
+acknowledging_turned : {A B : Type 0} (f : A → B) (say : ItemOut → A) (k n h : ℕ) (o : Option (Result ℕ TooHighCount)) → acknowledging (turned f say) k n h o ≡ acts_turned f (acknowledging say k n h o)
+acknowledging_turned f say k n h None = refl
+acknowledging_turned f say k n h (Some (Ok more)) = refl
+acknowledging_turned f say k n h (Some (Err why)) = refl
+
+pub ack_turned : {A B : Type 0} (f : A → B) (say : ItemOut → A) (k h : ℕ) (t : Told) (hall : Hall A) → at_ack (turned f say) k h t (hall_turned f hall) ≡ acts_turned f (at_ack say k h t hall)
+ack_turned f say k h t hall =
+    acts_either f t.counted _ _ _ _
+    (ap (acknowledging (turned f say) k t.number h) (answer_turned f h t.number hall.sessions) ∙ acknowledging_turned f say k t.number h (option_map (ack_answer h) (session_of t.number hall.sessions)))
+    refl
+
+-- ---- resumption
+
+saying_turned : {A B : Type 0} (f : A → B) (k : ℕ) (items : List A) (more : List (Act A)) → saying k (map f items) (acts_turned f more) ≡ acts_turned f (saying k items more)
+saying_turned f k [] more = refl
+saying_turned f k (a ∷ items) more = ap (λ acts. steps.Say k (f a) ∷ acts) (saying_turned f k items more)
+
+asking_turned : {A B : Type 0} (f : A → B) (say : ItemOut → A) (k n : ℕ) (due : Bool) → asking (turned f say) k n due ≡ acts_turned f (asking say k n due)
+asking_turned f say k n true = refl
+asking_turned f say k n false = refl
+
+resent_same : {A B : Type 0} (f : A → B) (h : ℕ) (o : Option (Session A)) → resent_where h (option_map (session_turned f) o) ≡ map f (resent_where h o)
+resent_same f h None = refl
+resent_same f h (Some s) = resent_turned f h s
+
+sayings_turned : {A B : Type 0} (f : A → B) (say : ItemOut → A) (k n : ℕ) (waiting : List A) → saying k (map f waiting) (asking (turned f say) k n (nat_le ASKS_AT (length (map f waiting)))) ≡ acts_turned f (saying k waiting (asking say k n (nat_le ASKS_AT (length waiting))))
+sayings_turned f say k n waiting =
+    ap (λ (m : ℕ). saying k (map f waiting) (asking (turned f say) k n (nat_le ASKS_AT m))) (length-map waiting f)
+    ∙ ap (saying k (map f waiting)) (asking_turned f say k n (nat_le ASKS_AT (length waiting)))
+    ∙ saying_turned f k waiting (asking say k n (nat_le ASKS_AT (length waiting)))
+
+resuming_turned : {A B : Type 0} (f : A → B) (say : ItemOut → A) (k account : ℕ) (previd : List ℕ) (h : ℕ) (r : Result ResumeOk ResumeFault) (waiting : List A) → resuming (turned f say) k account previd h r (map f waiting) ≡ acts_turned f (resuming say k account previd h r waiting)
+resuming_turned f say k account previd h (Err UnknownPrevid) waiting = refl
+resuming_turned f say k account previd h (Err (TooHigh stated send_count former)) waiting =
+    ap (λ acts. steps.Resume previd account h k ∷ steps.Say k (f (say (too_high_item stated send_count))) ∷ steps.Say k (f (say Closing)) ∷ steps.Close k ∷ acts) (parting_turned f say former (say (error_item Conflict)) [])
+resuming_turned f say k account previd h (Ok resumed) waiting =
+    ap (λ acts. steps.Resume previd account h k ∷ steps.Ask resumed.number false ∷ parting_where (turned f say) resumed.former (f (say (error_item Conflict))) (steps.Say k (f (say (resumed_item resumed.number resumed.handled))) ∷ acts)) (sayings_turned f say k resumed.number waiting)
+    ∙ ap (λ acts. steps.Resume previd account h k ∷ steps.Ask resumed.number false ∷ acts)
+    (parting_turned f say resumed.former (say (error_item Conflict)) (steps.Say k (say (resumed_item resumed.number resumed.handled)) ∷ saying k waiting (asking say k resumed.number (nat_le ASKS_AT (length waiting)))))
+
+pub resume_turned : {A B : Type 0} (f : A → B) (say : ItemOut → A) (k account : ℕ) (previd : List ℕ) (h : ℕ) (hall : Hall A) → at_resume (turned f say) k account previd h (hall_turned f hall) ≡ acts_turned f (at_resume say k account previd h hall)
+resume_turned f say k account previd h hall =
+    let o = session_resumed previd account hall.sessions in
+    ap (λ p. resuming (turned f say) k account previd h (resume_answer h p) (resent_where h p)) (resumed_turned f previd account hall.sessions)
+    ∙ ap₂ (λ r waiting. resuming (turned f say) k account previd h r waiting) (resume_same f h o) (resent_same f h o)
+    ∙ resuming_turned f say k account previd h (resume_answer h o) (resent_where h o)

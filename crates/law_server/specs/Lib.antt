@@ -1,0 +1,14 @@
+-- ---- each thing that is put turned into another
+pub mod Turned
+-- ---- what requests lead to
+pub mod Answering
+-- ---- pieces of bytes
+pub mod Pieces
+-- a server of bytes as the image of one of items
+pub mod Images
+-- ---- messages that were taken, and what archives get
+pub mod Taken
+-- ---- sessions and logins
+pub mod Sound
+pub mod Numbers
+pub mod Accounts

@@ -1,0 +1,18 @@
+//! Laws of a server's table, beside those of `srv_core`. A server of bytes is the image of a server of items at every event;
+//! and what it tells of messages that it took is what its archives get.
+#![tactic(auto)]
+
+mod server_maps;
+mod server_tables;
+mod told_takes;
+
+pub use server_maps::{
+    bytes_are_the_items_written, events_are_the_same_however_written,
+    moments_are_the_same_however_written, relations_are_the_same_however_written,
+};
+pub use server_tables::{
+    answers_tell_of_ones_own, each_request_is_answered, pieces_join, requests_are_of_their_session,
+    sessions_of_shut_connections_are_not_resumed, steps_leave_others,
+    table_is_the_same_however_written, too_high_counts_change_no_queue,
+};
+pub use told_takes::{archives_get_what_is_told, servers_stay_sound};

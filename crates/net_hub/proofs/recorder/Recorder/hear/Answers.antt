@@ -1,0 +1,23 @@
+use Rattle.std.proofs.Common.{◌≤◌, ◌++◌, ℕ, List, sym, subst}
+use Rattle.std.specs.Prelude.{IsTrue}
+use Rattle.srv_state.specs.Seen.{outs_of}
+use Rattle.cmd_journal.specs.Journals.{are_bytes}
+use Rattle.net_hub.proofs.MoreKept.{kept_piece, many, piece_is}
+use Rattle.net_hub.proofs.recorder.Recorder.hear.Goals as goal
+use Rattle.net_hub.specs.Records.{IsKeptBy, views_of}
+use Rattle.net_hub.specs.Puts.{put_for}
+use Rattle.net_hub.specs.Sendings.{HaveSent}
+use Rattle.srv_core.specs.Events.{IsAfterBytes}
+use Rattle.xml_writer.specs.Items.{written_item}
+
+pub returns-clause-kept : goal.returns-clause-kept
+returns-clause-kept g c = λ moment drawn kept at.
+    let told = g.O.Outgoing.told in let old = c.args.self.now in let outs = c.bytes.new.outputs.items in let new = c.send_all.new.senders.items in
+    subst (λ es. IsKeptBy told moment drawn old.file es c.bytes.new.self new) (sym c.in_ok-add_event.ensures)
+    (kept_piece told moment drawn old.file (views_of old.events.items) old.server old.senders.items kept c.args.k c.args.now c.args.piece.items c.bytes.new.self outs new
+    c.requires.place.0 (subst (λ n. c.args.k ≤ n) (many told old.senders.items) c.requires.place.1) c.requires.moment c.requires.some
+    (subst (λ b. IsTrue (are_bytes b)) c.as_slice-read.ensures c.are_bytes.ensures) at
+    (piece_is c.args.k c.args.piece.items c.args.now old.server c.bytes.new.self c.new-outputs.result.items outs c.new-outputs.ensures
+    (subst (λ b. IsAfterBytes written_item c.args.k b c.args.now old.server (outs_of c.new-outputs.result.items) c.bytes.new.self (outs_of outs)) c.as_slice-read.ensures c.in_ok-bytes.ensures.ok))
+    c.send_all.ensures.numbers
+    (subst (λ l. (before : ℕ → List ℕ) → HaveSent told before old.senders.items → HaveSent told (λ j. before j ++ put_for j (outs_of l)) new) c.as_slice-put.ensures c.send_all.ensures.sent))

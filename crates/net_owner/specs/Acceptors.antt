@@ -1,0 +1,49 @@
+-- What the acceptor's answer has to do with its job.
+use Rattle.std.specs.Prelude.{◌≡◌, ℕ, zero, suc, ◌≤◌, ◌<◌, Bool, true, false, ◌&&◌, List, [], ◌∷◌, ◌++◌, length}
+use Rattle.crossbeam_channel.specs.Claims.{view, IsSeatAt}
+use Rattle.crossbeam_channel.specs.Ends.{sends_on}
+use Rattle.base_io.specs.Counts.{Rose, counted}
+use Rattle.net_traits.specs.Links.{LinkView}
+use Rattle.net_owner.specs.Feeds.{has_sent}
+use Rattle.net_owner.specs.declared.acceptor.AcceptorAnswer.{AcceptorAnswer}
+use Rattle.net_owner.specs.declared.acceptor.AcceptorJob.{AcceptorJob}
+use Rattle.net_owner.specs.declared.item.Item.{Item}
+use Rattle.net_owner.specs.declared.item.What.{What}
+use Rattle.net_owner.specs.declared.item.What.TheVariants.{Came, Gave, Ended, Closed, Wanted}
+
+-- a count that was raised so many times
+unfoldable pub counted_times : ℕ → ℕ → ℕ
+counted_times zero count = count
+counted_times (suc n) count = counted (counted_times n count)
+
+module _ {P : Type 0} where
+  abbrev pub is_arrival : What P → Bool
+  is_arrival (Came _) = true
+  is_arrival (Gave _) = false
+  is_arrival Ended = false
+  is_arrival Closed = false
+  is_arrival Wanted = false
+
+  -- connections that came in, and nothing else
+  unfoldable pub are_arrivals : List (Item P) → Bool
+  are_arrivals [] = true
+  are_arrivals (x ∷ xs) = is_arrival x.what && are_arrivals xs
+
+  abbrev pub closed_item : Item P
+  closed_item = record { from = 0; what = Closed }
+
+  -- The acceptor sent the connections that came in, and then that no more are taken in: since it has as many as it was to
+  -- take in, or since the door failed before that, and then the door's count of faults rose.
+  pub record HasAccepted {R D : Type 0} (faults handed : D → ℕ) (given : D → List LinkView) (job : AcceptorJob R D P) (answer : AcceptorAnswer D P) : Type 0 where
+    pub seat : IsSeatAt (sends_on job.to) answer.pass
+    pub shape : view answer.pass ≡ has_sent 0 (view answer.pass).put
+    pub body : List (Item P)
+    pub whole : (view answer.pass).put ≡ body ++ closed_item ∷ []
+    pub arrivals : are_arrivals body ≡ true
+    pub most : length body ≤ job.count
+    pub all : answer.failed ≡ false → length body ≡ job.count
+    pub fewer : answer.failed ≡ true → length body < job.count
+    pub cause : answer.failed ≡ true → Rose (faults job.door) (faults answer.door)
+    pub quiet : answer.failed ≡ false → faults answer.door ≡ faults job.door
+    pub handed_is : handed answer.door ≡ counted_times (length body) (handed job.door)
+    pub given_is : given answer.door ≡ given job.door

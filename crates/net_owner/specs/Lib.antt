@@ -1,0 +1,22 @@
+pub use Rattle.base_io.specs.Counts
+pub use Rattle.net_traits.specs.Links
+-- law
+pub mod Merge
+-- machine
+pub mod Rule
+-- view
+pub mod Starts
+-- law
+pub mod Feeds
+-- view
+pub mod Acceptors
+pub mod Readers
+-- law
+pub mod Events
+pub mod Places
+pub mod Arrivals
+pub mod StartedReaders
+-- view
+pub mod Owners
+pub mod Halves
+pub mod Troubles

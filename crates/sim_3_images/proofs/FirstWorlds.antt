@@ -1,0 +1,57 @@
+-- The first world of a schedule shows each of its devices, of which nothing is there yet.
+use Rattle.std.proofs.Common.{◌≡◌, ℕ, [], Option, Some, None, refl, sym, ap, subst, ◌∙◌, arith}
+use Rattle.std.proofs.lemmas.Option.{slice_get-map}
+use Rattle.std.specs.Option.{option_and_then, option_map}
+use Rattle.std.specs.Prelude.{slice_get}
+use Rattle.sim_3_images.proofs.ScheduleLogins.{normal_device, own_client, served_device}
+use Rattle.sim_3_images.specs.Devices.{IsDeviceAt, identity_at}
+use Rattle.sim_3_items.specs.Identities.{Login}
+use Rattle.sim_3_items.specs.Pipes.{IsShown}
+use Rattle.sim_3_items.specs.Shows.{Shows}
+use Rattle.sim_3_images.specs.ItemStarts.{item_device, items_at_start}
+use Rattle.sim_3_items.specs.ItemPipes.{ItemWire}
+use Rattle.sim_2_links.specs.Machine.{nothing_yet}
+use Rattle.cmd_report.specs.Addresses.{domain}
+use Rattle.cmd_network.specs.Starting.{accounts_at_start}
+use Rattle.cmd_schedule.specs.Contents.{Owned, accounts_of, owned_in}
+use Rattle.cmd_schedule.specs.Schedules.{WireView, keep_of}
+use Rattle.cmd_schedule.specs.WireGrammar.{IsWireSchedule}
+use Rattle.sim_3_images.proofs.Within.{start_within}
+use Rattle.sim_3_images.specs.Unbound.{IsOrdered}
+use Rattle.cmd_network.specs.Places.{place_under}
+use Rattle.cmd_world.specs.Histories.{common_steps}
+use Rattle.xml_writer.specs.Items.{ItemOut}
+
+none_under : (o : Option ℕ) → option_and_then (slice_get {X = ItemWire} []) o ≡ None
+none_under None = refl
+none_under (Some place) = refl
+
+module _ (schedule : WireView) (place : ℕ) (o : Owned) (logins : ℕ → Login) (is : IsWireSchedule schedule) (there : IsDeviceAt schedule place o) where
+  first_ordered : IsOrdered {A = ItemOut} (items_at_start schedule).server
+  first_ordered = (start_within domain (accounts_at_start (accounts_of (common_steps schedule))) (keep_of schedule.version)).ordered
+
+  pub shown_first : Shows (identity_at schedule place o) logins (items_at_start schedule) nothing_yet
+  shown_first = record {
+    normal = normal_device schedule place o is there;
+    device = item_device o;
+    there = slice_get-map item_device (owned_in (common_steps schedule)) place ∙ ap (option_map item_device) there;
+    pipes = record { each = λ k. subst (IsShown (identity_at schedule place o) (logins k) k None) (sym (none_under (place_under k))) tt };
+    server = record {
+      served = served_device schedule place o (keep_of schedule.version) is there;
+      hall = record { sessions = first_ordered.sessions; conns = first_ordered.conns };
+      conns = λ k c none. absurd (let no_way : ⊥ = cc in no_way);
+      row = tt;
+      seated = λ k c s none. absurd (let no_way : ⊥ = cc in no_way);
+      owned = λ q t s none. absurd (let no_way : ⊥ = cc in no_way);
+      free = omega arith;
+    };
+    client = record {
+      account = own_client schedule place o is there;
+      epoch = refl;
+      own = tt;
+      apart = refl;
+      here = λ k none. absurd (let no_way : ⊥ = cc in no_way);
+      has = λ p none. absurd (let no_way : ⊥ = cc in no_way);
+      phase = λ k c none. absurd (let no_way : ⊥ = cc in no_way);
+    };
+  }

@@ -1,0 +1,32 @@
+pub use Rattle.base_io.specs.Listed
+-- law: pipes, connections and worlds of bytes as images of those of items
+pub mod PipeImages
+pub mod WireImages
+pub mod WorldImages
+-- what the two cores owe
+pub mod ImagesCores
+-- machine: the moves of items that a move of bytes is, and the first world
+pub mod ItemRuns
+pub mod ItemStarts
+pub mod Stands
+pub mod ImagesOwed
+-- what each core puts, beside that it fits
+pub mod Mild
+-- what is owed of that
+pub mod CoresOwed
+-- law: what is within limits in a world of items, and which moves keep it
+pub mod Fitting
+-- law: numbers of sessions against connections
+pub mod Unbound
+pub mod Worlds
+-- law: what both ends know of a device, and what a connection's login is
+pub mod Devices
+pub mod Logins
+-- law: what a world of bytes keeps beside its image
+pub mod Kept
+-- ---- the takes of a report, and its archives
+pub mod ReportTakes
+-- ---- submissions
+pub mod Submitted
+-- ---- worlds that follow one another
+pub mod Following

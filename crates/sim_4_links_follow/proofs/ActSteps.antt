@@ -1,0 +1,201 @@
+-- One small step of a row on a stanza, and then all of them.
+use Rattle.std.proofs.Common.{◌≡◌, ℕ, zero, suc, Bool, true, false, List, [], ◌∷◌, ◌++◌, Option, Some, None, is_some, nat_eq, refl, sym, ap, subst, ◌∙◌, inl, inr}
+use Rattle.std.proofs.lemmas.Bool.{cases_Bool, eqb-true}
+use Rattle.std.proofs.lemmas.List.{map-append}
+use Rattle.std.proofs.lemmas.Option.{same_Some}
+use Rattle.std.specs.List.{AllByRecursion}
+use Rattle.std.specs.Prelude.{ℤ, slice_get, slice_set}
+use Rattle.mam_archive.specs.Entries.{EntryView}
+use Rattle.base_lemmas.proofs.Lists.{AllByRecursion-weaker}
+use Rattle.srv_state.specs.State.{Hall, Kept, Step, Took, archive_at}
+use Rattle.srv_state.specs.Steps.{Act, Archive, Copy, Handle, Present, Send, Tell, act, acted, appended, archived_in}
+use Rattle.sim_3_items.specs.Deeds.{Deed, Gives, gives_all}
+use Rattle.sim_3_items.specs.Frames.{SameClient}
+use Rattle.sim_3_items.specs.Identities.{Identity, Login}
+use Rattle.sim_3_items.specs.Pipes.{PipesShow}
+use Rattle.sim_3_items.specs.Sent.{sent}
+use Rattle.sim_3_items.specs.Servers.{ServerFollows, ServerShows}
+use Rattle.sim_3_items.specs.ItemPipes.{ItemWire}
+use Rattle.sim_3_items.specs.ItemWorlds.{itself}
+use Rattle.sim_2_links.proofs.Entries.{same_number}
+use Rattle.sim_2_links.proofs.Reached.{link_kept}
+use Rattle.sim_2_links.specs.Machine.{LinkMove, LinkReached, LinkReaches, nothing_yet}
+use Rattle.sim_2_links.specs.Views.{Row, Table, View}
+use Rattle.sm_live.specs.Sessions.{copies, handles, presents}
+use Rattle.sim_4_links_follow.proofs.Former.{keeps_both}
+use Rattle.sim_4_links_follow.proofs.StanzasElsewhere.{send_stands}
+use Rattle.sim_4_links_follow.proofs.GivenParts.{IsFair, IsNotOf, fair_still, given_both, given_still, row_both, row_same, sends_elsewhere}
+use Rattle.sim_4_links_follow.proofs.MorePipes.{more_put_out, told_out}
+use Rattle.sim_4_links_follow.proofs.Own.{Goes, own_goes}
+use Rattle.sim_4_links_follow.proofs.Thinned.{LeavesRow, apart_row, fair_row, session_kept}
+use Rattle.sim_4_links_follow.specs.Given.{sends_to}
+use Rattle.sim_4_links_follow.proofs.Found.{Keeps}
+use Rattle.sim_4_links_follow.proofs.MoreMoves.{does_both, then_reaches}
+use Rattle.sim_4_links_follow.proofs.Placed.{keeps_all}
+use Rattle.xml_writer.specs.Items.{ItemOut}
+
+-- ---- changes of a session that put nothing
+
+presents_keeps : (available : Bool) (priority : ℤ) → Keeps (presents {A = ItemOut} available priority)
+presents_keeps available priority = record { number = λ s. refl; account = λ s. refl; resource = λ s. refl; conn = λ s. refl }
+
+copies_keeps : (on : Bool) → Keeps (copies {A = ItemOut} on)
+copies_keeps on = record { number = λ s. refl; account = λ s. refl; resource = λ s. refl; conn = λ s. refl }
+
+pub handles_keeps : Keeps (handles {A = ItemOut})
+handles_keeps = record { number = λ s. refl; account = λ s. refl; resource = λ s. refl; conn = λ s. refl }
+
+presents_leaves : (available : Bool) (priority : ℤ) → LeavesRow (presents available priority)
+presents_leaves available priority r s counted is = record {
+  number = is.number;
+  conn = is.conn;
+  counted = is.counted;
+  resumable = is.resumable;
+  acked = is.acked;
+  handled = is.handled;
+  waiting = is.waiting;
+  quiet = λ un. absurd (let no_way : ⊥ = cc in no_way);
+  for_client = is.for_client;
+}
+
+copies_leaves : (on : Bool) → LeavesRow (copies on)
+copies_leaves on r s counted is = record {
+  number = is.number;
+  conn = is.conn;
+  counted = is.counted;
+  resumable = is.resumable;
+  acked = is.acked;
+  handled = is.handled;
+  waiting = is.waiting;
+  quiet = λ un. absurd (let no_way : ⊥ = cc in no_way);
+  for_client = is.for_client;
+}
+
+-- a row with another number
+number_apart : (o : Option (Row ItemOut)) (r : Row ItemOut) (n : ℕ) → o ≡ Some r → nat_eq r.number n ≡ false → IsNotOf o n
+number_apart o r n is other t there same =
+    let number : r.number ≡ n = ap (λ (u : Row ItemOut). u.number) (same_Some r t (sym is ∙ there)) ∙ same in
+    let now : nat_eq n n ≡ false = subst (λ m. nat_eq m n ≡ false) number other in
+    let here = same_number n in
+    let no_way : ⊥ = cc in no_way
+
+-- ---- archives
+
+written_over : {X : Type 0} (xs : List X) (i j : ℕ) (x : X) → is_some (slice_get xs j) ≡ true → is_some (slice_get (slice_set xs i x) j) ≡ true
+written_over [] i j x is = is
+written_over (y ∷ ys) zero zero x is = refl
+written_over (y ∷ ys) zero (suc j) x is = is
+written_over (y ∷ ys) (suc i) zero x is = is
+written_over (y ∷ ys) (suc i) (suc j) x is = written_over ys i j x is
+
+module _ (who : Identity) (logins : ℕ → Login) where
+  archived_shows : (v : View ItemOut) (e : EntryView) (account : ℕ) (o : Option Kept) (h : Hall ItemOut) → ServerShows who logins h v → ServerShows who logins (archived_in e account o h) v
+  archived_shows v e account None h shows = shows
+  archived_shows v e account (Some kept) h shows = record {
+    served = record { domain = shows.served.domain; account = shows.served.account; found = shows.served.found; archive = written_over h.archives account who.account (appended e kept) shows.served.archive };
+    hall = record { sessions = shows.hall.sessions; conns = shows.hall.conns };
+    conns = shows.conns;
+    row = shows.row;
+    seated = shows.seated;
+    owned = shows.owned;
+    free = shows.free;
+  }
+
+  module _ (wires : Table ItemWire) where
+    -- nothing moves
+    stays_still : (acts : List (Act ItemOut)) (s : Step ItemOut) (v : View ItemOut) → ServerShows who logins s.hall v → PipesShow who logins (sent s.outs wires) v → ((r : Row ItemOut) → v.row ≡ Some r → sends_to r.number acts ≡ []) → Goes who logins wires v acts s
+    stays_still acts s v shows pipes none = record {
+      given = [];
+      follows = record {
+        moves = [];
+        next = v;
+        leads = refl;
+        does = refl;
+        server = shows;
+        pipes = pipes;
+        client = record { here = refl; own = refl; epoch = refl; conns = λ k. keeps_all (v.conns k) };
+      };
+      are_given = given_still acts v.row none;
+      kept = row_same v.row;
+    }
+
+    module _ (s : Step ItemOut) (v : View ItemOut) (reached : LinkReached v) (shows : ServerShows who logins s.hall v) (pipes : PipesShow who logins (sent s.outs wires) v) where
+      goes_elsewhere : (n : ℕ) (z : ItemOut) → IsNotOf v.row n → Goes who logins wires v (Send n z ∷ []) (act itself (Send n z) s)
+      goes_elsewhere n z apart =
+          let stands = send_stands who logins wires v (link_kept v reached) n z apart s (shows, pipes) in
+          stays_still (Send n z ∷ []) (act itself (Send n z) s) v stands.0 stands.1 (sends_elsewhere v.row n z apart)
+
+      send_goes : (n : ℕ) (z : ItemOut) → IsFair v.row (Send n z) → Goes who logins wires v (Send n z ∷ []) (act itself (Send n z) s)
+      send_goes n z fair = go v.row refl
+        where
+          go : (o : Option (Row ItemOut)) → v.row ≡ o → Goes who logins wires v (Send n z ∷ []) (act itself (Send n z) s)
+          go None is = goes_elsewhere n z (λ r there same. let no_way : ⊥ = cc in no_way)
+          go (Some r) is =
+              elim (cases_Bool (nat_eq r.number n)) [
+                | inl same ↦
+                    let number : r.number ≡ n = eqb-true r.number n same in
+                    subst (λ m. Goes who logins wires v (Send m z ∷ []) (act itself (Send m z) s)) number
+                    (own_goes who logins wires v (link_kept v reached) s shows pipes r is (fair.1 r is number) z fair.0)
+                | inr other ↦ goes_elsewhere n z (number_apart v.row r n is other)
+              ]
+
+      act_goes : (a : Act ItemOut) → IsFair v.row a → Goes who logins wires v (a ∷ []) (act itself a s)
+      act_goes (Send n z) fair = send_goes n z fair
+      act_goes (Present n available priority) fair =
+          stays_still (Present n available priority ∷ []) (act itself (Present n available priority) s) v
+          (session_kept who logins s.hall v shows n (presents available priority) (presents_keeps available priority) (λ t is. shows.hall.sessions.few n t is) (fair_row who logins s.hall v shows n (presents available priority) (presents_leaves available priority) fair)) pipes
+          (λ r is. refl)
+      act_goes (Copy n on) fair =
+          stays_still (Copy n on ∷ []) (act itself (Copy n on) s) v
+          (session_kept who logins s.hall v shows n (copies on) (copies_keeps on) (λ t is. shows.hall.sessions.few n t is) (fair_row who logins s.hall v shows n (copies on) (copies_leaves on) fair)) pipes
+          (λ r is. refl)
+      act_goes (Handle n) fair =
+          stays_still (Handle n ∷ []) (act itself (Handle n) s) v
+          (session_kept who logins s.hall v shows n handles handles_keeps (λ t is. shows.hall.sessions.few n t is) (apart_row who logins s.hall v shows n handles fair)) pipes
+          (λ r is. refl)
+      act_goes (Archive account e) fair = stays_still (Archive account e ∷ []) (act itself (Archive account e) s) v (archived_shows v e account (archive_at account s.hall) s.hall shows) pipes (λ r is. refl)
+      act_goes (Tell from to origin) fair =
+          stays_still (Tell from to origin ∷ []) (act itself (Tell from to origin) s) v shows
+          (more_put_out who logins wires v s.outs (Took from to origin ∷ []) (told_out who logins (sent s.outs wires) v from to origin pipes)) (λ r is. refl)
+      act_goes _ fair = absurd fair
+
+    -- ---- one behind the other
+
+    pub same_both : (v u w : View ItemOut) → SameClient v u → SameClient u w → SameClient v w
+    same_both v u w first then_so = record {
+      here = then_so.here ∙ first.here;
+      own = then_so.own ∙ first.own;
+      epoch = then_so.epoch ∙ first.epoch;
+      conns = λ k. keeps_both (v.conns k) (u.conns k) (w.conns k) (first.conns k) (then_so.conns k);
+    }
+
+    abbrev pub follows_both : (v : View ItemOut) (first last : Step ItemOut) (done more all : List (Deed ItemOut)) → done ++ more ≡ all → (f : ServerFollows who logins first.hall (sent first.outs wires) v done)
+        → ServerFollows who logins last.hall (sent last.outs wires) f.next more → ServerFollows who logins last.hall (sent last.outs wires) v all
+    follows_both v first last done more all same f g = record {
+      moves = f.moves ++ g.moves;
+      next = g.next;
+      leads = then_reaches f.moves g.moves v f.next g.next f.leads g.leads;
+      does = does_both f.moves g.moves done more f.does g.does ∙ same;
+      server = g.server;
+      pipes = g.pipes;
+      client = same_both v f.next g.next f.client g.client;
+    }
+
+    pub reached_more : (moves : List (LinkMove ItemOut)) (v next : View ItemOut) → LinkReached v → LinkReaches moves v next → LinkReached next
+    reached_more moves v next reached to = record { moves = reached.moves ++ moves; reaches = then_reaches reached.moves moves nothing_yet v next reached.reaches to }
+
+    goes_both : (a : Act ItemOut) (acts : List (Act ItemOut)) (v : View ItemOut) (first last : Step ItemOut) (f : Goes who logins wires v (a ∷ []) first) → Goes who logins wires f.follows.next acts last → Goes who logins wires v (a ∷ acts) last
+    goes_both a acts v first last f g = record {
+      given = f.given ++ g.given;
+      follows = follows_both v first last (gives_all f.given) (gives_all g.given) (gives_all (f.given ++ g.given)) (sym (map-append Gives f.given g.given)) f.follows g.follows;
+      are_given = given_both a acts f.given g.given v.row f.follows.next.row g.follows.next.row f.are_given g.are_given;
+      kept = row_both v.row f.follows.next.row g.follows.next.row f.kept g.kept;
+    }
+
+    pub acts_go : (acts : List (Act ItemOut)) (s : Step ItemOut) (v : View ItemOut) → LinkReached v → ServerShows who logins s.hall v → PipesShow who logins (sent s.outs wires) v → AllByRecursion (IsFair v.row) acts → Goes who logins wires v acts (acted itself acts s)
+    acts_go [] s v reached shows pipes fair = stays_still [] s v shows pipes (λ r is. refl)
+    acts_go (a ∷ acts) s v reached shows pipes fair =
+        let one = act_goes s v reached shows pipes a fair.0 in
+        goes_both a acts v (act itself a s) (acted itself (a ∷ acts) s) one
+        (acts_go acts (act itself a s) one.follows.next (reached_more one.follows.moves v one.follows.next reached one.follows.leads) one.follows.server one.follows.pipes
+        (AllByRecursion-weaker (IsFair v.row) (IsFair one.follows.next.row) (λ b. fair_still v.row one.follows.next.row b one.kept) acts fair.1))

@@ -1,0 +1,5 @@
+use Rattle.sim_5_devices.proofs.Counts.{resumed_told, row_told, rows_same}
+use Rattle.sim_5_devices.proofs.submissions.counts_told.Goals as goal
+
+pub returns : goal.returns
+returns c = record { shows = row_told; resumed = resumed_told; same = rows_same }

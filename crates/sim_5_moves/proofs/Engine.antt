@@ -1,0 +1,176 @@
+-- Where no device has a deed, all drift, and the worlds are beside one another still.
+use Rattle.std.proofs.Common.{◌≡◌, ℕ, ◌+◌, ◌≤◌, ◌<◌, List, [], ◌∷◌, ◌++◌, Some, length, refl, sym, ap, subst, ◌∙◌, append-nil, arith}
+use Rattle.std.proofs.lemmas.Option.{same_Some, slice_get_within}
+use Rattle.std.specs.List.{slice_get}
+use Rattle.mam_archive.proofs.NumberedEntries.{at_place}
+use Rattle.sim_4_links_follow.specs.Following.{WorldFollows}
+use Rattle.sim_3_images.specs.Devices.{identity_at}
+use Rattle.sim_3_items.specs.Deeds.{awaits}
+use Rattle.sim_3_items.specs.Identities.{Login}
+use Rattle.sim_3_items.specs.Shows.{Shows}
+use Rattle.sim_3_items.specs.Items.{stanzas_read}
+use Rattle.sim_3_items.specs.ItemWorlds.{ItemWorld}
+use Rattle.sim_2_links.proofs.Reached.{link_kept}
+use Rattle.sim_2_links.proofs.WithPremises.{prompt_runs}
+use Rattle.sim_2_links.specs.Covers.{PromptReached}
+use Rattle.sim_2_links.specs.Events.{seen}
+use Rattle.sim_2_links.specs.Paging.{PagingReached}
+use Rattle.sim_2_links.specs.Views.{View}
+use Rattle.sim_2_events.specs.Lists.{IsDevice}
+use Rattle.sim_5_devices.specs.InTime.{paging_here}
+use Rattle.sim_5_devices.specs.Shown.{LogShows}
+use Rattle.sim_5_moves.proofs.QuietWorldsFlags.{IsNamedBare, flags_behind}
+use Rattle.sim_5_moves.proofs.QuietWorldsUsers.{drifts_show_submissions, same_submissions}
+use Rattle.sim_5_moves.specs.Quiet.{QuietDevice, QuietRuns, QuietWorld}
+use Rattle.cmd_schedule.specs.Contents.{Owned}
+use Rattle.cmd_schedule.specs.Schedules.{WireView}
+use Rattle.sim_5_devices.proofs.AllDrifts.{all_drift, reaches_both, spoken_both}
+use Rattle.sim_5_devices.specs.Deeds.{AllDrift, Drift, Drifts, IsDrifted}
+use Rattle.sim_3_items.specs.Served.{FlagsShow}
+use Rattle.sim_3_items.specs.Submitted.{SubmissionsShow}
+use Rattle.sim_1_applications.specs.Devices.{Device, Sessions, World}
+use Rattle.sim_1_applications.specs.Events.{Event, Reaches, Tick}
+use Rattle.sim_1_applications.specs.Histories.{spoken_in}
+use Rattle.sim_1_applications.specs.Kept.{Taken}
+use Rattle.sim_1_applications.specs.Runs.{begins, owned_of}
+use Rattle.sim_5_moves.proofs.Going.{goes}
+use Rattle.sim_5_moves.specs.Going.{AllBuilt, DeviceGoes}
+use Rattle.sim_5_moves.specs.Running.{Bounds, DeviceRuns, IsOwned, WorldRuns, history_for, keep_in}
+use Rattle.xml_writer.specs.Items.{ItemOut}
+
+-- what a device is behind the move, but for its place in the world of the applications
+pub record Stands (schedule : WireView) (after : ItemWorld) (x : World) (i : ℕ) (d : Device) (last : Sessions) (o : Owned) : Type 0 where
+  pub logins : ℕ → Login
+  pub view : View ItemOut
+  pub in_time : PagingReached paging_here view
+  pub prompt : PromptReached awaits view
+  pub shows : Shows (identity_at schedule i o) logins after view
+  pub account : d.account ≡ o.account
+  pub sessions : IsDevice stanzas_read (seen view) last
+  pub built : AllBuilt o (history_for schedule x.takes o) (seen view)
+  pub submissions : SubmissionsShow shows.device.client last
+  pub log : LogShows (keep_in schedule) (history_for schedule x.takes o) shows.device.client.log d.reading
+  pub pages : shows.device.client.pages ≡ d.reading.asked
+  pub flags : FlagsShow (identity_at schedule i o).account o.device after.server last
+
+abbrev IsSo : WireView → ItemWorld → World → ℕ → Device → Sessions → Type 0
+IsSo schedule after x i d last = (o : Owned) × IsOwned schedule i o × Stands schedule after x i d last o
+
+module _ (schedule : WireView) (b : Bounds) (says : ℕ) (w : ItemWorld) (x : World) (runs : WorldRuns schedule b says w x) (taken : Taken x) (after : ItemWorld) (passed : ℕ) (quiet : QuietWorld schedule b w x after passed) where
+  module _ (i : ℕ) (o : Owned) (owned : IsOwned schedule i o) where
+    abbrev old : DeviceRuns schedule w x i o
+    old = runs.devices i o owned
+
+    abbrev move : QuietDevice schedule w x i o old after
+    move = quiet.devices i o owned old
+
+    gone : DeviceGoes schedule after i o (history_for schedule x.takes o) [] old.device.sessions
+    gone = goes schedule w after x i o (history_for schedule x.takes o) [] old move.logins move.follows tt tt old.built
+
+    bare : IsNamedBare old.device.sessions
+    bare = λ stage. let s = (taken.devices i old.device old.there).sessions.now.is_session in (s.available stage, s.carbons stage)
+
+    old_stands : (y : IsDrifted old.device) × IsSo schedule after x i old.device y.last
+    old_stands =
+        let user = move.user gone.shows.device gone.shows.there in
+        let xs = gone.amid.0 in
+        let leads = gone.amid.1 in (
+          record { drifts = xs; last = gone.end; leads = leads },
+          (
+            o,
+            owned,
+            record {
+              logins = gone.logins;
+              view = gone.view;
+              in_time = gone.in_time;
+              prompt = gone.prompt;
+              shows = gone.shows;
+              account = old.account;
+              sessions = gone.sessions;
+              built = gone.built;
+              submissions = same_submissions old.shows.device.client gone.shows.device.client gone.end user (drifts_show_submissions xs old.shows.device.client old.device.sessions gone.end leads old.submissions);
+              log = subst (λ l. LogShows (keep_in schedule) (history_for schedule x.takes o) l old.device.reading) (sym user.log) old.log;
+              pages = user.pages ∙ old.pages;
+              flags = flags_behind stanzas_read (identity_at schedule i o) w.server after.server old.logins gone.logins old.view gone.view (link_kept gone.view gone.reached) old.shows.server gone.shows.server old.device.sessions gone.end old.sessions gone.sessions xs leads bare old.flags move.flags;
+            },
+          ),
+        )
+
+  device_stands : (i : ℕ) (d : Device) → slice_get x.devices i ≡ Some d → (y : IsDrifted d) × IsSo schedule after x i d y.last
+  device_stands i d there =
+      let within = slice_get_within x.devices i d there in
+      let many = runs.many_there in
+      let owner = at_place i (owned_of schedule) (omega (arith, within, many)) in
+      let device = (runs.devices i owner.0 owner.1).device in
+      let same : device ≡ d = same_Some device d (sym (runs.devices i owner.0 owner.1).there ∙ there) in
+      subst (λ e. (y : IsDrifted e) × IsSo schedule after x i e y.last) same (old_stands i owner.0 owner.1)
+
+  all : AllDrift (IsSo schedule after x) (record x { clock = x.clock + passed })
+  all = all_drift (IsSo schedule after x) (record x { clock = x.clock + passed }) device_stands
+
+  abbrev next : World
+  next = record x { clock = x.clock + passed; devices = all.devices }
+
+  device_runs : (i : ℕ) (o : Owned) → IsOwned schedule i o → DeviceRuns schedule after next i o
+  device_runs i o owned =
+      let before = runs.devices i o owned in
+      let e = all.each i before.device before.there in
+      let st = subst (λ p. Stands schedule after x i before.device e.0 p) (same_Some e.1.0 o (sym e.1.1 ∙ owned)) e.1.2 in
+      record {
+        logins = st.logins;
+        view = st.view;
+        in_time = st.in_time;
+        prompt = st.prompt;
+        shows = st.shows;
+        device = record before.device { sessions = e.0 };
+        there = e.2;
+        account = st.account;
+        sessions = st.sessions;
+        built = st.built;
+        submissions = st.submissions;
+        log = st.log;
+        pages = st.pages;
+        flags = st.flags;
+      }
+
+  asked_same : (i : ℕ) (d e : Device) → slice_get x.devices i ≡ Some d → slice_get all.devices i ≡ Some e → e.reading.asked ≡ d.reading.asked
+  asked_same i d e there behind = let y = all.each i d there in ap (λ (f : Device). f.reading.asked) (same_Some e (record d { sessions = y.0 }) (sym behind ∙ y.2))
+
+  asked_still : (i : ℕ) (e : Device) → slice_get all.devices i ≡ Some e → e.reading.asked ≤ b.pages + 1
+  asked_still i e behind =
+      let within = slice_get_within all.devices i e behind in
+      let many = all.many in
+      let d = at_place i x.devices (omega (arith, within, many)) in
+      let same = asked_same i d.0 e d.1 behind in
+      let few = runs.asked i d.0 d.1 in
+      omega (arith, same, few)
+
+  pub quiet_runs : QuietRuns schedule b says x after
+  quiet_runs = record {
+    events = Tick passed ∷ all.events;
+    next = next;
+    reaches = (record x { clock = x.clock + passed }, refl, all.reaches);
+    silent = all.silent;
+    asked = asked_same;
+    runs = record {
+      led = record {
+        events = runs.led.events ++ (Tick passed ∷ all.events);
+        reaches = reaches_both runs.led.events (Tick passed ∷ all.events) (begins schedule) x next runs.led.reaches (record x { clock = x.clock + passed }, refl, all.reaches);
+        spoken = ap length (spoken_both runs.led.events (Tick passed ∷ all.events) ∙ ap (λ more. spoken_in runs.led.events ++ more) all.silent ∙ append-nil (spoken_in runs.led.events)) ∙ runs.led.spoken;
+      };
+      said = runs.said;
+      asked = asked_still;
+      dialled = quiet.dialled;
+      devices = device_runs;
+      many = quiet.many ∙ runs.many;
+      many_there = all.many ∙ runs.many_there;
+      wires = quiet.wires;
+      server = quiet.server;
+      takes = quiet.takes ∙ runs.takes;
+      clock = ap (λ c. c + passed) runs.clock ∙ sym quiet.moment;
+      now = quiet.now;
+      fits = quiet.fits;
+      stands = quiet.stands;
+      within = quiet.within;
+    };
+  }

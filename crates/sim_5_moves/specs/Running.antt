@@ -1,0 +1,165 @@
+-- A world of items beside the world of the two applications over sessions: of each device the links, whose stanzas are those
+-- of its sessions, and what its client has; and what the server has.
+use Rattle.std.specs.Prelude.{◌≡◌, ◌≢◌, ◌⊎◌, ℕ, ◌+◌, ◌*◌, ◌≤◌, ◌<◌, ◌^◌, ◌==◌, All, Bool, List, [], ◌∷◌, Option, None, Some, Result, Ok, Err, if◌then◌else◌, length, map, slice_get}
+use Rattle.mam_archive.specs.Entries.{EntryView}
+use Rattle.sim_3_images.specs.Devices.{identity_at}
+use Rattle.sim_3_items.specs.Deeds.{awaits}
+use Rattle.sim_3_items.specs.Identities.{Login}
+use Rattle.sim_3_items.specs.Shows.{Shows}
+use Rattle.sim_3_images.specs.Stands.{HallStands}
+use Rattle.sim_3_images.specs.Fitting.{FitsHere}
+use Rattle.sim_3_items.specs.Items.{stanzas_read}
+use Rattle.sim_3_items.specs.ItemPipes.{ItemWire}
+use Rattle.sim_3_items.specs.Told.{name_told}
+use Rattle.sim_3_items.specs.ItemMoves.{CatchUp, Dial, Down, ItemMove, Say, moved}
+use Rattle.sim_3_items.specs.ItemWorlds.{ItemDevice, ItemWorld}
+use Rattle.cl_core.specs.UserCalls.{say_answer}
+use Rattle.sim_1_applications.specs.Counts.{IsUnanswered}
+use Rattle.sim_2_links.specs.Covers.{PromptReached}
+use Rattle.sim_2_links.specs.Events.{SeenSession, seen}
+use Rattle.sim_2_links.specs.Paging.{PagingReached}
+use Rattle.sim_2_links.specs.Views.{View}
+use Rattle.sim_2_events.specs.Lists.{IsDevice}
+use Rattle.sim_5_devices.specs.InTime.{paging_here}
+use Rattle.sim_5_devices.specs.Shown.{LogShows}
+use Rattle.law_payloads.specs.AsRead.{last_moment}
+use Rattle.cmd_schedule.specs.Contents.{Owned, accounts_of}
+use Rattle.cmd_schedule.specs.Schedules.{WireView, keep_of}
+use Rattle.sim_3_images.specs.Unbound.{IsWithin}
+use Rattle.sim_3_items.specs.Built.{IsDown, IsUp}
+use Rattle.sim_3_items.specs.Served.{FlagsShow, ServerRuns, take_told}
+use Rattle.sim_3_items.specs.Submitted.{SubmissionsShow}
+use Rattle.sim_1_applications.specs.Devices.{Device, Take, World}
+use Rattle.sim_1_applications.specs.Events.{Event, Reaches}
+use Rattle.sim_1_applications.specs.Histories.{Spoken, spoken_in}
+use Rattle.sim_1_applications.specs.Reported.{history_at}
+use Rattle.sim_1_applications.specs.Runs.{begins, owned_of, steps_in}
+use Rattle.xml_writer.specs.Items.{ItemOut}
+
+-- ---- the schedule
+
+abbrev pub names_of : WireView → List (List ℕ)
+names_of schedule = accounts_of (steps_in schedule)
+
+abbrev pub keep_in : WireView → ℕ
+keep_in schedule = keep_of schedule.version
+
+-- what the account of a device has ever got
+abbrev pub history_for : WireView → List Take → Owned → List EntryView
+history_for schedule takes o = history_at (owned_of schedule) takes o.account
+
+-- the device at a place
+abbrev pub IsOwned : WireView → ℕ → Owned → Type 0
+IsOwned schedule i o = slice_get (owned_of schedule) i ≡ Some o
+
+-- ---- how much may happen
+
+-- how many messages all users say, how many pages each device asks for, and how many connections are dialled
+pub record Bounds : Type 0 where
+  pub says : ℕ
+  pub pages : ℕ
+  pub dials : ℕ
+
+-- So no session comes to 2 ^ 32 stanzas, and no number to 2 ^ 64.
+pub record AreSmall (b : Bounds) : Type 0 where
+  pub stanzas : 101 * (b.says + b.pages + 4) + b.says < 2 ^ 32
+  pub dials : b.dials + 2 < 2 ^ 64
+
+-- ---- a device
+
+-- the stanzas of a session are built as they are read
+pub record AreBuilt (o : Owned) (history : List EntryView) (t : SeenSession ItemOut) : Type 0 where
+  pub up : All (IsUp o) t.up_put
+  pub down : All (IsDown o history) t.down_put
+
+pub record DeviceRuns (schedule : WireView) (w : ItemWorld) (x : World) (i : ℕ) (o : Owned) : Type 0 where
+  -- the links, of which moves that are prompt and in time have made what is shown
+  pub logins : ℕ → Login
+  pub view : View ItemOut
+  pub in_time : PagingReached paging_here view
+  pub prompt : PromptReached awaits view
+  pub shows : Shows (identity_at schedule i o) logins w view
+  -- its sessions
+  pub device : Device
+  pub there : slice_get x.devices i ≡ Some device
+  pub account : device.account ≡ o.account
+  pub sessions : IsDevice stanzas_read (seen view) device.sessions
+  pub built : (q : ℕ) (t : SeenSession ItemOut) → (seen view).sessions q ≡ Some t → AreBuilt o (history_for schedule x.takes o) t
+  -- what its client has
+  pub submissions : SubmissionsShow shows.device.client device.sessions
+  pub log : LogShows (keep_in schedule) (history_for schedule x.takes o) shows.device.client.log device.reading
+  pub pages : shows.device.client.pages ≡ device.reading.asked
+  -- what the server has of its session
+  pub flags : FlagsShow (identity_at schedule i o).account o.device w.server device.sessions
+
+-- ---- worlds
+
+-- Events led here from the beginning, and in them users said so many messages.
+pub record IsLed (schedule : WireView) (says : ℕ) (x : World) : Type 0 where
+  pub events : List Event
+  pub reaches : Reaches events (begins schedule) x
+  pub spoken : length (spoken_in events) ≡ says
+
+pub record WorldRuns (schedule : WireView) (b : Bounds) (says : ℕ) (w : ItemWorld) (x : World) : Type 0 where
+  pub led : IsLed schedule says x
+  pub said : says ≤ b.says
+  pub asked : (i : ℕ) (d : Device) → slice_get x.devices i ≡ Some d → d.reading.asked ≤ b.pages + 1
+  pub dialled : length w.wires ≤ b.dials
+  -- devices, and no others
+  pub devices : (i : ℕ) (o : Owned) → IsOwned schedule i o → DeviceRuns schedule w x i o
+  pub many : length w.devices ≡ length (owned_of schedule)
+  pub many_there : length x.devices ≡ length (owned_of schedule)
+  pub wires : (place : ℕ) (wire : ItemWire) → slice_get w.wires place ≡ Some wire → (o : Owned) × IsOwned schedule wire.device o
+  -- the server
+  pub server : ServerRuns (keep_in schedule) (owned_of schedule) (names_of schedule) x.takes w.server
+  pub takes : w.takes ≡ map (take_told (owned_of schedule)) x.takes
+  pub clock : x.clock ≡ w.moment
+  -- it has looked at the clock since this last moved on
+  pub now : w.server.moment ≡ w.moment
+  pub fits : FitsHere w
+  pub stands : HallStands (length w.wires) w.server
+  pub within : IsWithin (length w.wires) w.server
+
+-- ---- a move
+
+-- what users say by it: a message that the client takes
+abbrev pub spoken_where : {T E : Type 0} → Result T E → Spoken → List Spoken
+spoken_where (Ok done) s = s ∷ []
+spoken_where (Err fault) s = []
+
+abbrev pub said_at : ℕ → List ℕ → List ℕ → Bool → Option ItemDevice → List Spoken
+said_at place to text private None = []
+said_at place to text private (Some d) = spoken_where (say_answer d.client text) (record { device = place; to = name_told to; text = text; private = private })
+
+abbrev pub spoken_by_move : ItemMove → ItemWorld → List Spoken
+spoken_by_move (Say place to text private) w = said_at place to text private (slice_get w.devices place)
+spoken_by_move m w = []
+
+-- The device at a place asks for a page at most where its user does, and where it is handed an item: then for one at most,
+-- and for none while no answer is under way to it.
+abbrev pub IsAskedOnce : Device → Device → Type 0
+IsAskedOnce d e = (IsUnanswered d → (e.reading.asked ≡ d.reading.asked) × IsUnanswered e) × ((e.reading.asked ≡ d.reading.asked) ⊎ ((e.reading.asked ≡ d.reading.asked + 1) × IsUnanswered e))
+
+abbrev pub IsAskedBy : ItemMove → ItemWorld → ℕ → Device → Device → Type 0
+IsAskedBy (CatchUp place most) w i d e = e.reading.asked ≤ d.reading.asked + (if i == place then 1 else 0)
+IsAskedBy (Down place) w i d e = IsAskedOnce d e × ((wire : ItemWire) → slice_get w.wires place ≡ Some wire → wire.device ≢ i → (e.reading.asked ≡ d.reading.asked) × (IsUnanswered d → IsUnanswered e))
+IsAskedBy m w i d e = e.reading.asked ≡ d.reading.asked
+
+-- What is asked of a move beside that it may be: no more is said, asked for and dialled than is bounded, and what comes to
+-- a client comes before the last moment that has a stamp.
+abbrev pub IsInBounds : Bounds → ℕ → ItemMove → ItemWorld → World → Type 0
+IsInBounds b says (Say place to text private) w x = says + 1 ≤ b.says
+IsInBounds b says (CatchUp place most) w x = (d : Device) → slice_get x.devices place ≡ Some d → d.reading.asked ≤ b.pages
+IsInBounds b says (Down place) w x =
+    ((wire : ItemWire) (d : Device) → slice_get w.wires place ≡ Some wire → slice_get x.devices wire.device ≡ Some d → (d.reading.asked ≤ b.pages) ⊎ IsUnanswered d) × (w.moment ≤ last_moment)
+IsInBounds b says (Dial place mine yours) w x = length w.wires + 1 ≤ b.dials
+IsInBounds b says m w x = Unit {0}
+
+-- Behind the move the worlds are beside one another still, by these events.
+pub record MoveRuns (schedule : WireView) (b : Bounds) (says : ℕ) (m : ItemMove) (w : ItemWorld) (x : World) : Type 0 where
+  pub events : List Event
+  pub next : World
+  pub reaches : Reaches events x next
+  pub spoken : spoken_in events ≡ spoken_by_move m w
+  pub asked : (i : ℕ) (d e : Device) → slice_get x.devices i ≡ Some d → slice_get next.devices i ≡ Some e → IsAskedBy m w i d e
+  pub runs : WorldRuns schedule b (says + length (spoken_by_move m w)) (moved m w) next

@@ -1,0 +1,114 @@
+-- A device of a world of bytes that is settled is at rest.
+use Rattle.std.proofs.Common.{◌≡◌, ℕ, zero, suc, ◌+◌, ◌&&◌, Bool, true, false, not, List, [], ◌∷◌, Option, Some, None, length, map, refl, sym, ap, subst, ◌∙◌, arith, inl, inr}
+use Rattle.std.proofs.lemmas.Bool.{and_parts, eqb-true, false≢true}
+use Rattle.std.proofs.lemmas.Option.{none-some, same_Some}
+use Rattle.std.specs.List.{AllByRecursion}
+use Rattle.std.specs.Option.{option_map_or}
+use Rattle.std.specs.Prelude.{slice_get}
+use Rattle.sim_3_images.specs.Mild.{ClientFits, DownFits, HallFits, UpFits}
+use Rattle.sim_3_images.specs.Devices.{identity_at}
+use Rattle.sim_3_items.specs.Pipes.{IsShown, IsWire, by_number}
+use Rattle.cmd_network.specs.Devices.{DeviceState}
+use Rattle.sim_3_images.proofs.Moves.{no_items_down, no_items_up}
+use Rattle.sim_3_images.specs.Stands.{StandingHalls}
+use Rattle.sim_3_images.specs.WorldImages.{Both, DeviceImage, WireAt, WorldImage}
+use Rattle.sim_3_items.specs.ItemPipes.{ItemWire}
+use Rattle.sim_3_items.specs.ItemWorlds.{ItemWorld}
+use Rattle.sim_2_links.specs.Stages.{Conn}
+use Rattle.sim_2_links.specs.Wires.{down_words, is_flowing, up_words}
+use Rattle.sim_5_devices.proofs.Rest.{settled_rests}
+use Rattle.net_pipes.specs.Pipes.{Pipe, is_empty}
+use Rattle.cmd_schedule.specs.Contents.{Owned}
+use Rattle.cmd_schedule.specs.Schedules.{WireView}
+use Rattle.sim_1_applications.specs.Devices as sessions
+use Rattle.sim_1_applications.specs.Reported.{IsAtRest}
+use Rattle.cmd_network.specs.declared.wire.Wire.{Wire}
+use Rattle.cmd_world.specs.WorldReports.{is_open, is_quiet_wire, is_settled, is_settled_at, is_settled_on, server_holds_part}
+use Rattle.cmd_world.specs.Worlds.{World, number_at}
+use Rattle.sim_3_images.specs.Kept.{IsFlowing, IsKept}
+use Rattle.sim_5_moves.specs.Running.{DeviceRuns}
+use Rattle.xml_writer.specs.Items.{ItemOut}
+
+-- ---- lists
+
+pub both_some : {A B : Type 0} (R : A → B → Type 0) (oa : Option A) (ob : Option B) (a : A) → oa ≡ Some a → Both R oa ob → (b : B) × (ob ≡ Some b) × R a b
+both_some R None ob a is both = absurd (none-some a is)
+both_some R (Some x) None a is both = absurd both
+both_some R (Some x) (Some y) a is both = (y, refl, subst (λ z. R z y) (same_Some x a is) both)
+
+pub both_there : {A B : Type 0} (R : A → B → Type 0) (oa : Option A) (ob : Option B) (a : A) (b : B) → oa ≡ Some a → ob ≡ Some b → Both R oa ob → R a b
+both_there R oa ob a b is other both =
+    let found = both_some R oa ob a is both in
+    subst (λ y. R a y) (same_Some found.0 b (sym found.1 ∙ other)) found.2
+
+one_of : {A : Type 0} (P : A → Type 0) (xs : List A) (i : ℕ) (x : A) → AllByRecursion P xs → slice_get xs i ≡ Some x → P x
+one_of P [] i x all at = absurd (none-some x at)
+one_of P (y ∷ xs) zero x all at = subst P (same_Some y x at) all.0
+one_of P (y ∷ xs) (suc i) x all at = one_of P xs i x all.1 at
+
+none_mapped : {A B : Type 0} (f : A → B) (xs : List A) → map f xs ≡ [] → xs ≡ []
+none_mapped f [] is = refl
+none_mapped f (x ∷ xs) is = absurd (let bad : ⊥ = cc in bad)
+
+none_long : {A : Type 0} (xs : List A) → length xs ≡ 0 → xs ≡ []
+none_long [] is = refl
+none_long (x ∷ xs) is = absurd (omega (arith, is))
+
+empty_is : (p : Pipe) → is_empty p ≡ true → p.bytes ≡ []
+empty_is p is = none_long p.bytes (eqb-true (length p.bytes) 0 is)
+
+next_place : (wires : List ItemWire) (place : ℕ) → by_number wires (place + 1) ≡ slice_get wires place
+next_place wires place = (let same : place + 1 ≡ suc place = omega arith in ap (by_number wires) same)
+
+flows_by : (b : Bool) → false ≡ not b → b ≡ true
+flows_by true is = refl
+flows_by false is = absurd (false≢true is)
+
+-- ---- a connection that is open and has no bytes
+
+module _ (schedule : WireView) (w : World) (v : ItemWorld) (x : sessions.World) (image : WorldImage UpFits DownFits (StandingHalls HallFits) ClientFits w v) (kept : IsKept schedule w) (i : ℕ) (o : Owned) (runs : DeviceRuns schedule v x i o)
+    (d : DeviceState) (there : slice_get w.devices i ≡ Some d) where
+  -- the device of items
+  pub device_image : DeviceImage ClientFits d runs.shows.device
+  device_image = both_there (DeviceImage ClientFits) (slice_get w.devices i) (slice_get v.devices i) d runs.shows.device there runs.shows.there (image.devices i)
+
+  wire_shown : (place : ℕ) (c : Conn ItemOut) (p : ItemWire) → runs.view.conns (place + 1) ≡ Some c → slice_get v.wires place ≡ Some p → IsWire (identity_at schedule i o) (runs.logins (place + 1)) (place + 1) c p
+  wire_shown place c p conn at =
+      let shown = runs.shows.pipes.each (place + 1) in
+      let who = identity_at schedule i o in
+      let by_wire = subst (λ q. IsShown who (runs.logins (place + 1)) (place + 1) (runs.view.conns (place + 1)) q) (next_place v.wires place ∙ at) shown in
+      subst (λ q. IsShown who (runs.logins (place + 1)) (place + 1) q (Some p)) conn by_wire
+
+  rests_on : (place : ℕ) (b : Wire) → slice_get w.wires place ≡ Some b → is_open b.end ≡ true → b.up.bytes ≡ [] → b.down.bytes ≡ [] → d.newest ≡ Some place → IsAtRest runs.device.sessions
+  rests_on place b at opened up_none down_none newest =
+      let flowing = one_of IsFlowing w.wires place b kept.flowing at opened in
+      let here = (kept.newest i d there).here place newest (ap (λ q. option_map_or (λ (e : Wire). is_open e.end) q false) at ∙ opened) in
+      let has = runs.shows.client.has place (sym device_image.here ∙ here) in
+      let wire = both_some (WireAt UpFits DownFits w v place) (slice_get w.wires place) (slice_get v.wires place) b at (image.wires place) in
+      let up = no_items_up UpFits DownFits (StandingHalls HallFits) ClientFits w v place b wire.0 image at wire.1 flowing.0 up_none in
+      let down = no_items_down UpFits DownFits (StandingHalls HallFits) ClientFits w v place b wire.0 image at wire.1 flowing.1 down_none in
+      let shown = wire_shown place has.0 wire.0 has.1 wire.1 in
+      let flows : is_flowing has.0.wires ≡ true = flows_by (is_flowing has.0.wires) (sym up.0 ∙ shown.up_ended) in
+      let no_up : up_words has.0.wires ≡ [] = none_mapped _ (up_words has.0.wires) (sym shown.up ∙ up.1) in
+      let no_down : down_words has.0.wires ≡ [] = none_mapped _ (down_words has.0.wires) (sym shown.down ∙ down.1) in
+      let works : runs.view.here ≡ Some (place + 1) = elim has.2 [
+        | inl is ↦ is
+        | inr over ↦ absurd (false≢true (sym over ∙ flows))
+      ] in
+      settled_rests runs.view (place + 1) has.0 runs.device.sessions runs.prompt runs.sessions works has.1 flows no_up no_down
+
+  settled_on : (place : ℕ) (q : Option Wire) → slice_get w.wires place ≡ q → d.newest ≡ Some place → option_map_or (is_settled_on place w.server d) q false ≡ true → IsAtRest runs.device.sessions
+  settled_on place None at newest settled = absurd (false≢true settled)
+  settled_on place (Some b) at newest settled =
+      let outer = and_parts (is_open b.end && is_quiet_wire b && not (server_holds_part (number_at place) w.server)) _ settled in
+      let inner = and_parts (is_open b.end && is_quiet_wire b) _ outer.0 in
+      let both = and_parts (is_open b.end) (is_quiet_wire b) inner.0 in
+      let quiet = and_parts (is_empty b.up) (is_empty b.down) both.1 in
+      rests_on place b at both.0 (empty_is b.up quiet.0) (empty_is b.down quiet.1) newest
+
+  settled_at : (n : Option ℕ) → d.newest ≡ n → is_settled_at n d w ≡ true → IsAtRest runs.device.sessions
+  settled_at None newest settled = absurd (false≢true settled)
+  settled_at (Some place) newest settled = settled_on place (slice_get w.wires place) refl newest settled
+
+  pub settled_device : is_settled w d ≡ true → IsAtRest runs.device.sessions
+  settled_device settled = settled_at d.newest refl settled

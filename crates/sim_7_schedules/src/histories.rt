@@ -1,0 +1,30 @@
+//! The laws.
+ghost use Rattle.std.specs.Prelude.{◌≡◌, ℕ, ◌≤◌, Some, length, slice_get};
+ghost use Rattle.sm_acks.specs.Delivery.{IsPrefix};
+ghost use Rattle.cmd_schedule.specs.Contents.{Owned};
+ghost use Rattle.cmd_schedule.specs.Schedules.{WireView};
+ghost use Rattle.cmd_schedule.specs.WireGrammar.{IsWireSchedule};
+ghost use Rattle.cmd_schedule.specs.declared.schedule.Count.{Count};
+ghost use Rattle.sim_1_applications.specs.Runs.{owned_of};
+ghost use Rattle.sim_7_schedules.specs.Messages.{AreTold};
+ghost use Rattle.sim_7_schedules.specs.Pairs.{HasPairs, IsPair, Pair};
+ghost use Rattle.sim_7_schedules.specs.Untouched.{IsShutAt, IsUntouched};
+ghost use Rattle.cmd_world.specs.Histories.{history_of};
+ghost use Rattle.cmd_world.specs.Moves.{Up, moved};
+ghost use Rattle.cmd_world.specs.Worlds.{World};
+
+/// A law: in each world of a wire schedule's history each device has pairs of directions of acknowledged delivery
+/// (XEP-0198, sections 4 and 5): the session that the server has of it and the one that its client has are ends of such
+/// pairs, and of one pair where they name each other. What the client put and the server handled in a session are the
+/// messages that lines of a report tell of its epoch (`pairs`). What an end handled is the front of what the other end
+/// put, and no more is acknowledged than was handled (`delivered`).
+pub fn sessions_are_pairs()
+    ensures pairs { (s : WireView) → IsWireSchedule s → (j : ℕ) (w : World) → slice_get (history_of s) j ≡ Some w → (i : ℕ) (o : Owned) → slice_get (owned_of s) i ≡ Some o → (h : HasPairs s w i o) × AreTold w i o h.pairs }
+    ensures delivered { (p : Pair) → IsPair p → IsPrefix p.up.got p.up.put × IsPrefix p.down.got p.down.put × (p.up.acked ≤ length p.up.got) × (p.down.acked ≤ length p.down.got) }
+{}
+
+/// A law: in each world of such a history, where the server has no connection at a place, as behind one that it shut
+/// (RFC 6120, section 4.4), what is handed to it there changes nothing but what is under way on that connection.
+pub fn what_is_shut_changes_nothing()
+    ensures { (s : WireView) → IsWireSchedule s → (j : ℕ) (w : World) → slice_get (history_of s) j ≡ Some w → (place : ℕ) → IsShutAt place w → (count : Count) → IsUntouched place w (moved (Up place count) w) }
+{}

@@ -1,0 +1,6 @@
+pub mod Arenas
+pub mod Paths
+mod PoolWorked
+pub mod Directions
+pub mod Senders
+mod AcksWorked

@@ -1,0 +1,21 @@
+use Rattle.std.proofs.Common.{ap, refl, ◌∙◌}
+use Rattle.sm_live.proofs.Seats.{written_kept}
+use Rattle.sm_live.proofs.Seen.{row_there, written_seen}
+use Rattle.sm_live.specs.Kept.{LiveView, all_seen}
+use Rattle.sm_live.specs.Sessions.{handles, with_session}
+use Rattle.sm_resumption.specs.Moves.{handling}
+use Rattle.sm_live.proofs.live.Live.count_handled.Goals as goal
+
+pub count_handled-requires : goal.count_handled-requires
+count_handled-requires c = row_there c.args.number c.self.inside.pool c.self.inside.table.rows c.args.self.now.sessions (ap (λ (l : LiveView). l.sessions) c.self.view_is) c.requires.lives
+
+pub invariant_of-self : goal.invariant_of-self
+invariant_of-self c =
+    let kept = written_kept c.args.number (handling) c.self.inside.table c.count_handled.new.self c.self.inside.pool c.self.inside.seat (record { same = λ r. refl }) (record { same = λ r. refl }) c.count_handled.ensures.changes c.self.invariant.0 c.self.invariant.1 in
+    (kept.0, kept.1, c.self.invariant.2)
+
+pub returns-clause-sessions : goal.returns-clause-sessions
+returns-clause-sessions c =
+    ap (all_seen c.self.inside.pool) c.count_handled.ensures.changes.rows
+    ∙ written_seen c.args.number (handles) (handling) c.self.inside.pool c.self.inside.table.rows (λ r. refl)
+    ∙ ap (λ (l : LiveView). with_session c.args.number (handles) l.sessions) c.self.view_is

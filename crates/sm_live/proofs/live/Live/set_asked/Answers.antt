@@ -1,0 +1,21 @@
+use Rattle.std.proofs.Common.{ap, refl, ◌∙◌}
+use Rattle.sm_live.proofs.Seats.{written_kept}
+use Rattle.sm_live.proofs.Seen.{row_there, written_seen}
+use Rattle.sm_live.specs.Kept.{LiveView, all_seen}
+use Rattle.sm_live.specs.Sessions.{asks, with_session}
+use Rattle.sm_resumption.specs.Moves.{asking}
+use Rattle.sm_live.proofs.live.Live.set_asked.Goals as goal
+
+pub set_asked-requires : goal.set_asked-requires
+set_asked-requires c = row_there c.args.number c.self.inside.pool c.self.inside.table.rows c.args.self.now.sessions (ap (λ (l : LiveView). l.sessions) c.self.view_is) c.requires.lives
+
+pub invariant_of-self : goal.invariant_of-self
+invariant_of-self c =
+    let kept = written_kept c.args.number (asking c.args.on) c.self.inside.table c.set_asked.new.self c.self.inside.pool c.self.inside.seat (record { same = λ r. refl }) (record { same = λ r. refl }) c.set_asked.ensures c.self.invariant.0 c.self.invariant.1 in
+    (kept.0, kept.1, c.self.invariant.2)
+
+pub returns-clause-sessions : goal.returns-clause-sessions
+returns-clause-sessions c =
+    ap (all_seen c.self.inside.pool) c.set_asked.ensures.rows
+    ∙ written_seen c.args.number (asks c.args.on) (asking c.args.on) c.self.inside.pool c.self.inside.table.rows (λ r. refl)
+    ∙ ap (λ (l : LiveView). with_session c.args.number (asks c.args.on) l.sessions) c.self.view_is

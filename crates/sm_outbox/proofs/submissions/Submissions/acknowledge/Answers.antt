@@ -1,0 +1,10 @@
+use Rattle.std.proofs.Common.{◌+◌}
+use Rattle.sm_outbox.proofs.NumberedSubmissions.{part_kept}
+use Rattle.sm_outbox.specs.declared.said.SaidState.TheVariants.{Acknowledged}
+use Rattle.sm_outbox.proofs.submissions.Submissions.acknowledge.Goals as goal
+
+pub invariant_of-self : goal.invariant_of-self
+invariant_of-self c = (
+  c.settle_part.ensures.within.1,
+  part_kept Acknowledged c.self.inside.items.items c.settle_part.new.items.items c.self.inside.settled (c.self.inside.settled + c.min.result) c.self.inside.epoch c.self.inside.n c.settle_part.ensures.within.0 c.settle_part.ensures.items c.self.invariant.1,
+)

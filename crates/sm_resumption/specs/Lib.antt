@@ -1,0 +1,12 @@
+pub use Rattle.sm_acks.specs.Counters
+pub use Rattle.sm_acks.specs.Delivery
+pub use Rattle.sm_acks.specs.Queues
+pub mod Housed
+pub mod Laws
+pub mod Previds
+pub mod Rows
+pub mod Moves
+pub mod Stored
+pub mod Indexed
+pub mod Changes
+pub mod Deliveries

@@ -1,0 +1,30 @@
+-- A stanza counts first, and then more happens.
+use Rattle.std.proofs.Common.{◌≡◌, ℕ, List, [], Some, subst, sym, refl, inl, inr}
+use Rattle.std.proofs.lemmas.Bool.{cases_Bool}
+use Rattle.std.specs.Option.{IsSome}
+use Rattle.sm_live.specs.Sessions.{session_of, told_of}
+use Rattle.sm_live.specs.declared.told.Told.{Told}
+use Rattle.srv_state.proofs.ToldFacts.{lives_handling, lives_told}
+use Rattle.srv_state.specs.Handling.{counting}
+use Rattle.srv_state.specs.State.{Step}
+use Rattle.srv_state.specs.Steps.{Act, acted}
+use Rattle.xml_writer.specs.Items.{ItemOut, written_item}
+
+pub counted_first : {A : Type 0} (say : ItemOut → A) (t : Told) (more : List (Act A)) (s : Step A) → acted say (counting t more) s ≡ acted say more (acted say (counting t []) s)
+counted_first say t more s =
+    elim (cases_Bool t.counted) [
+      | inl counted ↦ rw counted refl
+      | inr uncounted ↦ rw uncounted refl
+    ]
+
+-- a session lives on when a stanza of it has counted
+lives_counted : (t : Told) (s : Step (List ℕ)) → Some t ≡ told_of t.number s.hall.sessions → IsSome (session_of t.number (acted written_item (counting t []) s).hall.sessions)
+lives_counted t s is =
+    let lives : IsSome (session_of t.number s.hall.sessions) = lives_told (session_of t.number s.hall.sessions) t is in
+    elim (cases_Bool t.counted) [
+      | inl counted ↦ rw counted (lives_handling t.number s.hall.sessions lives)
+      | inr uncounted ↦ rw uncounted lives
+    ]
+
+pub lives_on : (t : Told) (s u : Step (List ℕ)) → Some t ≡ told_of t.number s.hall.sessions → u ≡ acted written_item (counting t []) s → IsSome (session_of t.number u.hall.sessions)
+lives_on t s u is after = subst (λ (v : Step (List ℕ)). IsSome (session_of t.number v.hall.sessions)) (sym after) (lives_counted t s is)

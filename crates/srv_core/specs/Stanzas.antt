@@ -1,0 +1,94 @@
+-- The row on stanzas (RFC 6120, section 8; RFC 6121, section 4).
+use Rattle.std.specs.Prelude.{ℕ, Bool, true, false, ◌||◌, List, [], ◌∷◌, Option, Some, None, Result, Ok, Err}
+use Rattle.std.specs.Str.{bytes_eq}
+use Rattle.sm_live.specs.declared.told.Told.{Told}
+use Rattle.im_replies.specs.Requests.{bounce_item, iq_error_item}
+use Rattle.im_replies.specs.declared.conditions.StreamCondition.{StreamCondition}
+use Rattle.im_replies.specs.declared.conditions.StreamCondition.TheVariants.{BadFormat, InvalidFrom, PolicyViolation}
+use Rattle.srv_handlers.specs.Messages.{at_message}
+use Rattle.srv_handlers.specs.Requests.{at_iq}
+use Rattle.srv_state.specs.State.{Hall, bare_address, session_address}
+use Rattle.srv_state.specs.Handling.{counting}
+use Rattle.srv_state.specs.Steps.{Act, Present, Send}
+use Rattle.srv_state.specs.Streams.{ending}
+use Rattle.srv_state.specs.declared.connection.Standing.{Standing}
+use Rattle.im_stanza.specs.declared.conditions.Condition.TheVariants.{JidMalformed}
+use Rattle.im_stanza.specs.declared.errors.ErrorKind.TheVariants.{Modify}
+use Rattle.im_stanza.specs.declared.errors.StanzaError.{StanzaError}
+use Rattle.im_stanza.specs.declared.fault.StanzaFault.{StanzaFault}
+use Rattle.im_stanza.specs.declared.fault.StanzaFault.TheVariants as fault
+use Rattle.im_stanza.specs.declared.kinds.PresenceKind.{PresenceKind}
+use Rattle.im_stanza.specs.declared.kinds.PresenceKind.TheVariants.{Available, Unavailable, Other}
+use Rattle.im_stanza.specs.declared.stanzas.Presence.{Presence}
+use Rattle.im_stanza.specs.declared.stanzas.Stanza.{Stanza}
+use Rattle.im_stanza.specs.declared.stanzas.Stanza.TheVariants as stanza
+use Rattle.xml_writer.specs.Items.{ItemOut}
+
+-- ---- what ends the stream, in its order
+
+-- who sent the stanza, as it says
+abbrev pub sender_of : Stanza → Option (List ℕ)
+sender_of (stanza.Message m) = m.from
+sender_of (stanza.Presence p) = p.from
+sender_of (stanza.Iq q) = q.from
+
+abbrev pub is_own_of : Option (List ℕ) → List ℕ → List ℕ → Bool
+is_own_of None bare full = true
+is_own_of (Some from) bare full = bytes_eq from bare || bytes_eq from full
+
+-- it says nothing, or tells the bare or the full address of the session (RFC 6120, section 8.1.2.1)
+abbrev pub is_own : {A : Type 0} → Option (List ℕ) → Told → Hall A → Bool
+is_own from t h = is_own_of from (bare_address t.account h) (session_address t.number h)
+
+abbrev pub unless_own : Bool → Option StreamCondition
+unless_own true = None
+unless_own false = Some InvalidFrom
+
+-- `from` is judged before `to`
+abbrev pub stanza_condition : {A : Type 0} → Result Stanza StanzaFault → Told → Hall A → Option StreamCondition
+stanza_condition (Ok read) t h = unless_own (is_own (sender_of read) t h)
+stanza_condition (Err (fault.BadTo message reply from id to)) t h = unless_own (is_own from t h)
+stanza_condition (Err fault.BadFrom) t h = Some InvalidFrom
+stanza_condition (Err why) t h = Some BadFormat
+
+-- ---- presence (RFC 6121, section 4): what is for all tells whether the session is available, and nothing else does
+
+abbrev pub presenting : {A : Type 0} → Option (List ℕ) → PresenceKind → Presence → Told → List (Act A)
+presenting (Some to) kind p t = []
+presenting None Available p t = Present t.number true p.priority ∷ []
+presenting None Unavailable p t = Present t.number false p.priority ∷ []
+presenting None Other p t = []
+
+abbrev pub at_presence : {A : Type 0} → Presence → Told → List (Act A)
+at_presence p t = presenting p.to p.kind p t
+
+-- ---- a `to` that is no address (RFC 6120, section 8.3.3.8)
+
+abbrev pub malformed : StanzaError
+malformed = record { kind = Modify; condition = JidMalformed }
+
+abbrev pub malformed_item : {A : Type 0} → Bool → List ℕ → List ℕ → Told → Hall A → ItemOut
+malformed_item true id to t h = bounce_item to id malformed
+malformed_item false id to t h = iq_error_item (record { from = Some to; to = Some (session_address t.number h); id = id }) malformed
+
+abbrev pub at_bad_to : {A : Type 0} → (ItemOut → A) → Bool → Bool → List ℕ → List ℕ → Told → Hall A → List (Act A)
+at_bad_to say message false id to t h = []
+at_bad_to say message true id to t h = Send t.number (say (malformed_item message id to t h)) ∷ []
+
+-- ---- a stanza that is handled
+
+abbrev pub handling : {A : Type 0} → (ItemOut → A) → Result Stanza StanzaFault → Told → Hall A → List (Act A)
+handling say (Ok (stanza.Message m)) t h = at_message say m t h
+handling say (Ok (stanza.Presence p)) t h = at_presence p t
+handling say (Ok (stanza.Iq q)) t h = at_iq say q t h
+handling say (Err (fault.BadTo message reply from id to)) t h = at_bad_to say message reply id to t h
+handling say (Err why) t h = []
+
+abbrev pub judging : {A : Type 0} → (ItemOut → A) → ℕ → Result Stanza StanzaFault → Told → Standing → Option StreamCondition → Hall A → List (Act A)
+judging say k read t st None h = counting t (handling say read t h)
+judging say k read t st (Some condition) h = ending say k condition st h
+
+-- Bound: a stanza
+abbrev pub at_stanza : {A : Type 0} → (ItemOut → A) → ℕ → Bool → Result Stanza StanzaFault → Told → Standing → Hall A → List (Act A)
+at_stanza say k true read t st h = ending say k PolicyViolation st h
+at_stanza say k false read t st h = judging say k read t st (stanza_condition read t h) h

@@ -1,0 +1,28 @@
+//! Tests of what the commands stand on: generated schedules, replays, journals, scripts, and a server of one connection after
+//! another.
+#![tactic(auto)]
+
+#[cfg(test)]
+mod generated;
+#[cfg(test)]
+mod journal_texts;
+#[cfg(test)]
+mod journals;
+#[cfg(test)]
+mod report_tests;
+#[cfg(test)]
+mod reports;
+#[cfg(test)]
+mod run_tests;
+#[cfg(test)]
+mod runs;
+#[cfg(test)]
+mod schedule_tests;
+#[cfg(test)]
+mod served_journals;
+#[cfg(test)]
+mod served_texts;
+#[cfg(test)]
+mod sync_texts;
+#[cfg(test)]
+mod syncs;

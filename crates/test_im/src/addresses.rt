@@ -1,0 +1,364 @@
+//! Addresses: vectors from outside, each call that takes memory, and printed texts.
+use base_io::{Copied, NoMemory, Text};
+use im_jid::JidFault::{BadDomain, BadLocal, BadResource, Empty, TooLong};
+use im_jid::{Jid, JidFault, domain_in_normal_form, local_in_normal_form, resource_in_normal_form};
+use std::alloc::Global;
+use std::test::Fail;
+
+// Texts and their normal forms. The first rows are those of RFC 7622 section 3.5; the ASCII forms of domains are
+// those of the Python package `idna`, and the forms NFC those of Python's `unicodedata`.
+static ACCEPTED: [(&str, &str); 50] = [
+    ("juliet@example.com", "juliet@example.com"),
+    ("juliet@example.com/foo", "juliet@example.com/foo"),
+    ("juliet@example.com/foo bar", "juliet@example.com/foo bar"),
+    ("juliet@example.com/foo@bar", "juliet@example.com/foo@bar"),
+    ("foo\\20bar@example.com", "foo\\20bar@example.com"),
+    ("fussball@example.com", "fussball@example.com"),
+    ("king@example.com/\u{265A}", "king@example.com/\u{265A}"),
+    ("example.com", "example.com"),
+    ("example.com/foobar", "example.com/foobar"),
+    ("a.example.com/b@example.net", "a.example.com/b@example.net"),
+    ("juliet@example.com/ foo", "juliet@example.com/ foo"),
+    ("henry..@example.com", "henry..@example.com"),
+    ("Alice@Chat.Example/Pad", "alice@chat.example/Pad"),
+    ("b\u{FC}cher.example", "xn--bcher-kva.example"),
+    ("a/b/c@d", "a/b/c@d"),
+    ("a@b/c@d/e", "a@b/c@d/e"),
+    ("!#$%()*+,-.;=?[\\]^_`{|}~@b", "!#$%()*+,-.;=?[\\]^_`{|}~@b"),
+    ("ABCXYZ.az09@b", "abcxyz.az09@b"),
+    ("a..b", "a..b"),
+    (".a", ".a"),
+    ("-a-.b--c", "-a-.b--c"),
+    ("127.0.0.1", "127.0.0.1"),
+    ("chat.example.", "chat.example"),
+    ("a@chat.example./b", "a@chat.example/b"),
+    ("a\u{3002}b", "a.b"),
+    ("xn--bcher-kva.example", "xn--bcher-kva.example"),
+    ("XN--BCHER-KVA.Example", "xn--bcher-kva.example"),
+    ("B\u{DC}CHER.example", "xn--bcher-kva.example"),
+    ("bu\u{308}cher.example", "xn--bcher-kva.example"),
+    ("\u{FF23}\u{FF28}\u{FF21}\u{FF34}.example", "chat.example"),
+    ("fa\u{DF}.de", "xn--fa-hia.de"),
+    ("\u{2603}.net", "xn--n3h.net"),
+    (
+        "\u{4F8B}\u{3048}.\u{30C6}\u{30B9}\u{30C8}",
+        "xn--r8jz45g.xn--zckzah",
+    ),
+    (
+        "\u{392}\u{38C}\u{39B}\u{39F}\u{3A3}.com",
+        "xn--nxasmq6b.com",
+    ),
+    (
+        "\u{3B2}\u{3CC}\u{3BB}\u{3BF}\u{3C2}.com",
+        "xn--nxasmm1c.com",
+    ),
+    ("ex\u{AD}ample.com", "example.com"),
+    ("\u{FB00}.example", "ff.example"),
+    ("\u{2173}.example", "iv.example"),
+    ("a-b.c-d/e", "a-b.c-d/e"),
+    ("a--b.example", "a--b.example"),
+    ("b/e\u{301}", "b/\u{E9}"),
+    ("b/\u{212B}", "b/\u{C5}"),
+    ("b/\u{1100}\u{1161}\u{11A8}", "b/\u{AC01}"),
+    ("b/q\u{307}\u{323}", "b/q\u{323}\u{307}"),
+    ("b/\u{344}", "b/\u{308}\u{301}"),
+    ("b/\u{FB01}", "b/\u{FB01}"),
+    ("b/\u{FF26}", "b/\u{FF26}"),
+    ("b/\u{2126}~", "b/\u{3A9}~"),
+    ("b/\u{A0}", "b/\u{A0}"),
+    ("b/Pad 7", "b/Pad 7"),
+];
+
+// Texts that are no address.
+static REFUSED: [(&str, JidFault); 60] = [
+    ("fu\u{DF}ball@example.com", BadLocal),
+    ("\u{3C0}@example.com", BadLocal),
+    ("\u{3A3}@example.com/foo", BadLocal),
+    ("\u{3C3}@example.com/foo", BadLocal),
+    ("\u{3C2}@example.com/foo", BadLocal),
+    ("\"juliet\"@example.com", BadLocal),
+    ("foo bar@example.com", BadLocal),
+    ("@example.com/", Empty),
+    ("henry\u{2163}@example.com", BadLocal),
+    ("\u{265A}@example.com", BadLocal),
+    ("juliet@", Empty),
+    ("/foobar", Empty),
+    ("juliet@example.com/", Empty),
+    ("a b@chat.example", BadLocal),
+    ("@chat.example", Empty),
+    ("chat.example/", Empty),
+    ("", Empty),
+    ("@", Empty),
+    ("/", Empty),
+    ("@/", Empty),
+    ("a@/b", Empty),
+    ("a@b/", Empty),
+    ("a@b@c", BadDomain),
+    ("a@b@c/d", BadDomain),
+    ("a\"b@c", BadLocal),
+    ("a&b@c", BadLocal),
+    ("a'b@c", BadLocal),
+    ("a:b@c", BadLocal),
+    ("a<b@c", BadLocal),
+    ("a>b@c", BadLocal),
+    ("a\x7fb@c", BadLocal),
+    ("a\x1fb@c", BadLocal),
+    ("\u{FF41}@c", BadLocal),
+    (".", BadDomain),
+    ("a..", BadDomain),
+    ("a\u{3002}", BadDomain),
+    ("a_b", BadDomain),
+    ("[::1]", BadDomain),
+    ("a:1", BadDomain),
+    ("a\u{FF20}b", BadDomain),
+    ("a\u{FF0F}b", BadDomain),
+    ("a b", BadDomain),
+    ("*.example", BadDomain),
+    ("xn--", BadDomain),
+    ("xn--a", BadDomain),
+    ("b.xn--", BadDomain),
+    ("\u{AD}", BadDomain),
+    ("a\u{200D}b.example", BadDomain),
+    ("a@\u{301}b", BadDomain),
+    ("b/a\x00", BadResource),
+    ("b/a\tb", BadResource),
+    ("b/\x1f", BadResource),
+    ("b/\x7f", BadResource),
+    ("b/\u{80}", BadResource),
+    ("b/a\u{85}", BadResource),
+    ("b/\u{9F}e\u{301}", BadResource),
+    ("a b@_/", BadLocal),
+    ("@_/", Empty),
+    ("a@_/", BadDomain),
+    ("a@_/\x00", BadDomain),
+];
+
+// Whether a text is an address whose normal form is `normal`.
+fn is_read(alloc: Global, text: &str, normal: &str) -> bool {
+    match Jid::parse(alloc, text) {
+        Ok(jid) => jid.text() == normal,
+        Err(_) => false,
+    }
+}
+
+// Why a text is no address, if it is none.
+fn fault_of(alloc: Global, text: &str) -> Option<JidFault> {
+    Jid::parse(alloc, text).err()
+}
+
+#[test]
+fn reads_addresses(rt: HostRuntime) {
+    for (text, normal) in &ACCEPTED {
+        assert!(rt; is_read(rt.alloc(), text, normal));
+    }
+}
+
+#[test]
+fn refuses_what_is_no_address(rt: HostRuntime) {
+    for (text, fault) in &REFUSED {
+        assert!(rt; fault_of(rt.alloc(), text) == Some(*fault));
+    }
+}
+
+// A text of `before`, a part so many times, and `after`.
+fn repeated(
+    alloc: Global,
+    before: &str,
+    part: &str,
+    times: usize,
+    after: &str,
+) -> Result<Text, JidFault> {
+    let mut text = String::from_str(alloc, before)?;
+    for _ in 0..times {
+        text.push_str(part)?;
+    }
+    text.push_str(after)?;
+    Ok(Text::from(text))
+}
+
+// Each side of the limit of 1,023 bytes, which is one of the normal form: a part, how often it stands, and what it
+// is in normal form.
+static LIMITS: [(&str, &str, usize, &str, &str); 12] = [
+    ("", "a", 1023, "@b", "a"),
+    ("", "A", 1023, "@b/c", "a"),
+    ("", "a", 1023, "", "a"),
+    ("", "A", 1023, "", "a"),
+    ("a@", "a", 1023, "/b", "a"),
+    ("a@", "\u{FC}.", 127, "example", "xn--tda."),
+    ("b/", "a", 1023, "", "a"),
+    ("b/", "e\u{301}", 511, "a", "\u{E9}"),
+    ("b/", "\u{344}", 255, "abc", "\u{308}\u{301}"),
+    ("", "ab.", 340, "abc", "ab."),
+    ("", "a-", 511, "a@b", "a-"),
+    ("a@b/", " ", 1023, "", " "),
+];
+
+static LONG: [(&str, &str, usize, &str, JidFault); 12] = [
+    ("", "a", 1024, "@b", TooLong),
+    ("", "A", 1024, "@_/", TooLong),
+    ("", "a", 1024, "", TooLong),
+    ("", "A", 1024, "", TooLong),
+    ("a@", "\u{FC}.", 127, "examples", TooLong),
+    ("a@", "\u{FC}.", 127, "examples/", TooLong),
+    ("b/", "a", 1024, "", TooLong),
+    ("b/", "e\u{301}", 512, "", TooLong),
+    ("b/", "\u{344}", 256, "", TooLong),
+    ("b/", "a", 5000, "", TooLong),
+    ("", "a", 1024, " @b", BadLocal),
+    ("b/", "a", 1024, "\n", BadResource),
+];
+
+// Whether a text is `before`, a part so many times, and `after`.
+fn is_repeated(text: &str, before: &str, part: &str, times: usize, after: &str) -> bool {
+    let Some(mut rest) = text.strip_prefix(before) else {
+        return false;
+    };
+    for _ in 0..times {
+        match rest.strip_prefix(part) {
+            Some(behind) => rest = behind,
+            None => return false,
+        }
+    }
+    rest == after
+}
+
+fn is_form(alloc: Global, text: &str, row: &(&str, &str, usize, &str, &str)) -> bool {
+    match Jid::parse(alloc, text) {
+        Ok(jid) => is_repeated(jid.text(), row.0, row.4, row.2, row.3),
+        Err(_) => false,
+    }
+}
+
+fn is_limit(alloc: Global, row: &(&str, &str, usize, &str, &str)) -> Result<bool, JidFault> {
+    let text = repeated(alloc, row.0, row.1, row.2, row.3)?;
+    Ok(is_form(alloc, text.as_str(), row))
+}
+
+#[test]
+fn reads_the_longest_parts(rt: HostRuntime) -> Result<(), Fail> {
+    for row in &LIMITS {
+        assert!(rt; is_limit(rt.alloc(), row)?);
+    }
+    Ok(())
+}
+
+fn is_long(alloc: Global, row: &(&str, &str, usize, &str, JidFault)) -> Result<bool, JidFault> {
+    let text = repeated(alloc, row.0, row.1, row.2, row.3)?;
+    Ok(fault_of(alloc, text.as_str()) == Some(row.4))
+}
+
+#[test]
+fn refuses_longer_parts(rt: HostRuntime) -> Result<(), Fail> {
+    for row in &LONG {
+        assert!(rt; is_long(rt.alloc(), row)?);
+    }
+    Ok(())
+}
+
+// An address, a resource for its bare address, and how that is printed, also for a reader.
+static PRINTED_ADDRESSES: [(&str, &str, &str); 2] = [
+    (
+        "Alice@Chat.Example/Pad",
+        "e\u{301}/@",
+        "alice@chat.example/\u{E9}/@ \"alice@chat.example/\u{E9}/@\"",
+    ),
+    (
+        "chat.example.",
+        "\"",
+        "chat.example/\" \"chat.example/\\\"\"",
+    ),
+];
+
+fn bare(alloc: Global, text: &str) -> Result<Jid, JidFault> {
+    let jid = Jid::parse(alloc, text)?;
+    Ok(jid.to_bare(alloc)?)
+}
+
+fn with_resource(alloc: Global, text: &str, resource: &str) -> Result<Jid, JidFault> {
+    let bare = bare(alloc, text)?;
+    bare.with_resource(alloc, resource)
+}
+
+// A copy of the address made of the text of another.
+fn made_again(alloc: Global, jid: &Jid) -> Result<Jid, NoMemory> {
+    let text = Text::from_str(alloc, jid.text())?;
+    Jid::of_normal(text).copied(alloc)
+}
+
+fn is_printed(alloc: Global, jid: &Jid, shown: &str) -> bool {
+    match format!(in alloc; "{jid} {jid:?}") {
+        Ok(text) => text.as_str() == shown,
+        Err(_) => false,
+    }
+}
+
+fn is_made(alloc: Global, text: &str, resource: &str, shown: &str) -> Result<bool, JidFault> {
+    let jid = with_resource(alloc, text, resource)?;
+    let again = made_again(alloc, &jid)?;
+    Ok(is_printed(alloc, &again, shown))
+}
+
+#[test]
+fn prints_addresses(rt: HostRuntime) -> Result<(), Fail> {
+    for (text, resource, shown) in &PRINTED_ADDRESSES {
+        assert!(rt; is_made(rt.alloc(), text, resource, shown)?);
+    }
+    Ok(())
+}
+
+fn is_local(alloc: Global, given: &str, form: &str) -> bool {
+    match local_in_normal_form(alloc, given) {
+        Ok(local) => local.as_str() == form,
+        Err(_) => false,
+    }
+}
+
+fn is_domain(alloc: Global, given: &str, form: &str) -> bool {
+    match domain_in_normal_form(alloc, given) {
+        Ok(domain) => domain.as_str() == form,
+        Err(_) => false,
+    }
+}
+
+fn is_resource(alloc: Global, given: &str, form: &str) -> bool {
+    match resource_in_normal_form(alloc, given) {
+        Ok(resource) => resource.as_str() == form,
+        Err(_) => false,
+    }
+}
+
+#[test]
+fn brings_parts_into_normal_form(rt: HostRuntime) {
+    let alloc = rt.alloc();
+    assert!(rt;
+        is_local(alloc, "Alice", "alice")
+            && is_domain(alloc, "B\u{DC}CHER.example.", "xn--bcher-kva.example")
+            && is_resource(alloc, "e\u{301}/@", "\u{E9}/@")
+    );
+}
+
+static PRINTED: [(JidFault, &str); 6] = [
+    (Empty, "a part of the address is empty"),
+    (
+        BadLocal,
+        "the local part has a character that it may not have",
+    ),
+    (BadDomain, "the domain is not a domain name"),
+    (BadResource, "the resource has a control character"),
+    (TooLong, "a part of the address is too long"),
+    (JidFault::NoMemory, "out of memory"),
+];
+
+fn is_shown(alloc: Global, fault: JidFault, shown: &str) -> bool {
+    match format!(in alloc; "{fault}") {
+        Ok(text) => text.as_str() == shown,
+        Err(_) => false,
+    }
+}
+
+#[test]
+fn prints_faults(rt: HostRuntime) {
+    for (fault, text) in &PRINTED {
+        assert!(rt; is_shown(rt.alloc(), *fault, text));
+    }
+}

@@ -1,0 +1,62 @@
+//! What the form of an archive's query asks for: what is written of a value is read back (XEP-0313, section 4.1).
+use base_io::{NoMemory, Text};
+use im_mam::MamQuery;
+use mam_pages::{PageQuery, Place};
+use std::alloc::Global;
+use xml_trees::Tree;
+
+// The peer, and the moments.
+type Row = (&'static str, Option<u64>, Option<u64>);
+
+static QUERIES: [Row; 2] = [
+    ("juliet@capulet.lit", Some(1_276_041_600_000), None),
+    ("capulet.lit", None, Some(1_278_547_199_000)),
+];
+
+fn filtered(alloc: Global, row: &Row) -> Result<Tree, NoMemory> {
+    let peer = Text::from_str(alloc, row.0)?;
+    let query = PageQuery {
+        peer: Some(peer),
+        start: row.1,
+        end: row.2,
+        place: Place::First,
+        max: None,
+    };
+    let queryid = Text::new(alloc);
+    MamQuery { queryid, query }.tree(alloc)
+}
+
+fn is_text(text: &Option<Text>, given: &str) -> bool {
+    match text {
+        None => false,
+        Some(text) => text.as_str() == given,
+    }
+}
+
+fn has_filters(query: &PageQuery, row: &Row) -> bool {
+    is_text(&query.peer, row.0) && query.start == row.1 && query.end == row.2
+}
+
+fn is_filtered(alloc: Global, tree: &Tree, row: &Row) -> bool {
+    let read = MamQuery::read(alloc, tree).ok();
+    let is_filtered = match &read {
+        Some(asked) => has_filters(&asked.query, row),
+        None => false,
+    };
+    drop(read);
+    is_filtered
+}
+
+fn is_filtered_again(alloc: Global, row: &Row) -> bool {
+    match filtered(alloc, row) {
+        Ok(tree) => is_filtered(alloc, &tree, row),
+        Err(_) => false,
+    }
+}
+
+#[test]
+fn filters_are_read_back(rt: HostRuntime) {
+    for row in &QUERIES {
+        assert!(rt; is_filtered_again(rt.alloc(), row));
+    }
+}

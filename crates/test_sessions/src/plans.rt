@@ -1,0 +1,298 @@
+//! Messages of one session between two accounts, and what becomes of each.
+ghost use Rattle.std.specs.Prelude.{◌≡◌, None, OnOk, Some};
+ghost use Rattle.sm_live.specs.Sessions.{session_at};
+
+use auth_scram::Credentials;
+use base_io::{Bytes, NoMemory, Text};
+use im_jid::Jid;
+use im_payload::CARBONS;
+use im_stanza::{CLIENT, Message, MessageKind};
+use sm_live::{Live, Told};
+use srv_login::{Account, AccountList, Accounts};
+use srv_route::{Archiving, Plan, plan};
+use std::alloc::Global;
+use std::test::Fail;
+use xml_trees::{Element, Node, Nodes};
+
+// A session: its account, its resource, whether it is available, its priority, and whether it wants copies.
+type Given = (u32, &'static str, bool, i8, bool);
+
+// The sessions 1 to 3 of alice, and 4 and 5 of bob.
+static SESSIONS: [Given; 5] = [
+    (0, "phone", true, 0, true),
+    (0, "laptop", true, 5, true),
+    (0, "tablet", true, -1, true),
+    (1, "balcony", true, 0, false),
+    (1, "hall", false, 0, true),
+];
+
+// What becomes of a message: the condition of the error that answers it, or in whose archives it goes, which sessions it is
+// delivered to, and which get a copy of it as sent and as received.
+enum Outcome {
+    Error(&'static str),
+    Goes(Archiving, &'static [u64], &'static [u64], &'static [u64]),
+}
+
+// What is in a message: something that is said, openly or in private, or that someone types.
+#[derive(Clone, Copy)]
+enum Inside {
+    Said,
+    Private,
+    Typing,
+}
+
+// A message of session 1: its type, its address, what is in it, and what becomes of it.
+type Row = (MessageKind, Option<&'static str>, Inside, Outcome);
+
+static SAID: [(&str, &str); 1] = [(CLIENT, "body")];
+
+static PRIVATE: [(&str, &str); 2] = [(CLIENT, "body"), (CARBONS, "private")];
+
+static TYPING: [(&str, &str); 1] = [("http://jabber.org/protocol/chatstates", "composing")];
+
+static ROWS: [Row; 17] = [
+    (
+        MessageKind::Chat,
+        None,
+        Inside::Said,
+        Outcome::Goes(Archiving::Once(0), &[1, 2], &[3], &[]),
+    ),
+    (
+        MessageKind::Chat,
+        Some("alice@chat.example/laptop"),
+        Inside::Said,
+        Outcome::Goes(Archiving::Once(0), &[2], &[3], &[]),
+    ),
+    (
+        MessageKind::Chat,
+        Some("bob@chat.example"),
+        Inside::Said,
+        Outcome::Goes(Archiving::Both(0, 1), &[4], &[2, 3], &[5]),
+    ),
+    (
+        MessageKind::Chat,
+        Some("bob@chat.example"),
+        Inside::Private,
+        Outcome::Goes(Archiving::Both(0, 1), &[4], &[], &[]),
+    ),
+    (
+        MessageKind::Chat,
+        Some("bob@chat.example"),
+        Inside::Typing,
+        Outcome::Goes(Archiving::Nowhere, &[4], &[], &[]),
+    ),
+    (
+        MessageKind::Chat,
+        Some("bob@chat.example/hall"),
+        Inside::Said,
+        Outcome::Goes(Archiving::Both(0, 1), &[5], &[2, 3], &[]),
+    ),
+    (
+        MessageKind::Chat,
+        Some("bob@chat.example/garden"),
+        Inside::Said,
+        Outcome::Goes(Archiving::Both(0, 1), &[4], &[2, 3], &[5]),
+    ),
+    (
+        MessageKind::Normal,
+        Some("bob@chat.example/garden"),
+        Inside::Said,
+        Outcome::Goes(Archiving::Both(0, 1), &[], &[2, 3], &[5]),
+    ),
+    (
+        MessageKind::Headline,
+        Some("bob@chat.example/garden"),
+        Inside::Said,
+        Outcome::Goes(Archiving::Nowhere, &[], &[], &[]),
+    ),
+    (
+        MessageKind::Headline,
+        Some("bob@chat.example"),
+        Inside::Said,
+        Outcome::Goes(Archiving::Nowhere, &[4], &[], &[]),
+    ),
+    (
+        MessageKind::Groupchat,
+        Some("bob@chat.example/hall"),
+        Inside::Said,
+        Outcome::Goes(Archiving::Nowhere, &[5], &[], &[]),
+    ),
+    (
+        MessageKind::Groupchat,
+        Some("bob@chat.example"),
+        Inside::Said,
+        Outcome::Error("service-unavailable"),
+    ),
+    (
+        MessageKind::Chat,
+        Some("carol@chat.example"),
+        Inside::Said,
+        Outcome::Error("service-unavailable"),
+    ),
+    (
+        MessageKind::Chat,
+        Some("chat.example"),
+        Inside::Said,
+        Outcome::Error("service-unavailable"),
+    ),
+    (
+        MessageKind::Chat,
+        Some("bob@other.example/hall"),
+        Inside::Said,
+        Outcome::Error("remote-server-not-found"),
+    ),
+    (
+        MessageKind::Error,
+        Some("bob@other.example"),
+        Inside::Said,
+        Outcome::Goes(Archiving::Nowhere, &[], &[], &[]),
+    ),
+    (
+        MessageKind::Error,
+        Some("bob@chat.example"),
+        Inside::Said,
+        Outcome::Goes(Archiving::Nowhere, &[], &[], &[]),
+    ),
+];
+
+// Reserves a seat of an account, for a connection that has no session.
+fn seat(live: &mut Live, account: u32, conn: u64) -> Result<(), Fail>
+    ensures seat { OnOk result (live.new.seat ≡ Some account) }
+    ensures conn { OnOk result (session_at conn live.new.sessions ≡ None) }
+{
+    live.reserve_seat(account)?;
+    if live.told_at(conn).is_some() {
+        return Err(Fail::from("the connection has a session"));
+    }
+    Ok(())
+}
+
+fn present(live: &mut Live, number: u64, available: bool, priority: i8) {
+    if live.told(number).is_some() {
+        live.set_presence(number, available, priority);
+    }
+}
+
+fn want_copies(live: &mut Live, number: u64, carbons: bool) {
+    if live.told(number).is_some() {
+        live.set_carbons(number, carbons);
+    }
+}
+
+fn bind(alloc: Global, live: &mut Live, given: &Given, conn: u64) -> Result<(), Fail> {
+    let resource = Text::from_str(alloc, given.1)?;
+    seat(live, given.0, conn)?;
+    let number = live.bind(given.0, resource, conn).number;
+    present(live, number, given.2, given.3);
+    want_copies(live, number, given.4);
+    Ok(())
+}
+
+fn sessions(alloc: Global) -> Result<Live, Fail> {
+    let mut live = Live::new(alloc, 1);
+    let mut conn: u64 = 0;
+    for given in &SESSIONS {
+        conn = conn.saturating_add(1);
+        bind(alloc, &mut live, given, conn)?;
+    }
+    Ok(live)
+}
+
+fn account(alloc: Global, name: &str) -> Result<Account, NoMemory> {
+    Ok(Account {
+        name: Text::from_str(alloc, name)?,
+        credentials: Credentials {
+            salt: Bytes::new(alloc),
+            iterations: 4096,
+            stored_key: [0; 32],
+            server_key: [0; 32],
+        },
+    })
+}
+
+fn accounts(alloc: Global) -> Result<Accounts, Fail> {
+    let mut list = AccountList::new(alloc);
+    list.push(account(alloc, "alice")?)?;
+    list.push(account(alloc, "bob")?)?;
+    Ok(Accounts::new(alloc, list)?)
+}
+
+fn names(inside: Inside) -> &'static [(&'static str, &'static str)] {
+    match inside {
+        Inside::Said => &SAID,
+        Inside::Private => &PRIVATE,
+        Inside::Typing => &TYPING,
+    }
+}
+
+fn payload(alloc: Global, inside: Inside) -> Result<Nodes, NoMemory> {
+    let mut nodes = Nodes::new(alloc);
+    for (ns, name) in names(inside) {
+        nodes.push(Node::Child(Element::from_strs(alloc, ns, name)?))?;
+    }
+    Ok(nodes)
+}
+
+fn message(alloc: Global, row: &Row) -> Result<Message, Fail> {
+    let to = match row.1 {
+        None => None,
+        Some(text) => Some(Jid::parse(alloc, text)?),
+    };
+    Ok(Message {
+        from: None,
+        to,
+        id: Text::new(alloc),
+        kind: row.0,
+        lang: Text::new(alloc),
+        payload: payload(alloc, row.2)?,
+    })
+}
+
+fn is(plan: &Plan, expected: &Outcome) -> bool {
+    match (plan, expected) {
+        (Plan::Bounced(error), Outcome::Error(name)) => error.condition.name() == *name,
+        (Plan::Routed(route), Outcome::Goes(archiving, deliver, sent, received)) => {
+            route.archiving == *archiving
+                && route.deliver.as_slice() == *deliver
+                && route.sent.as_slice() == *sent
+                && route.received.as_slice() == *received
+        }
+        _ => false,
+    }
+}
+
+fn is_row(
+    alloc: Global,
+    live: &Live,
+    accounts: &Accounts,
+    sender: &Told,
+    row: &Row,
+) -> Result<bool, Fail> {
+    let message = message(alloc, row)?;
+    let plan = plan(alloc, "chat.example", accounts, live, &message, sender)?;
+    Ok(is(&plan, &row.3))
+}
+
+fn are_rows(alloc: Global, live: &Live, accounts: &Accounts) -> Result<bool, Fail> {
+    let Some(sender) = live.told(1) else {
+        return Ok(false);
+    };
+    for row in &ROWS {
+        if !is_row(alloc, live, accounts, &sender, row)? {
+            return Ok(false);
+        }
+    }
+    Ok(true)
+}
+
+fn all_hold(alloc: Global) -> Result<bool, Fail> {
+    let live = sessions(alloc)?;
+    let accounts = accounts(alloc)?;
+    are_rows(alloc, &live, &accounts)
+}
+
+#[test]
+fn messages_go_where_they_belong(rt: HostRuntime) -> Result<(), Fail> {
+    assert!(rt; all_hold(rt.alloc())?);
+    Ok(())
+}

@@ -1,0 +1,70 @@
+//! Why the program ends before its input does.
+use base_io::NoMemory;
+use cl_core::{CatchUpStart, SayFault};
+use std::alloc::AllocError;
+use std::io;
+
+/// Why the program ends before its input does.
+#[derive(Clone, Copy, Debug, PartialEq, Eq)]
+pub(crate) enum Stop {
+    /// A line says nothing that can be done.
+    Line,
+    /// A read or a write failed.
+    Io,
+    /// Memory ran out.
+    NoMemory,
+    /// A call of the client was refused.
+    Refused,
+}
+
+impl Stop {
+    /// The program's status.
+    pub(crate) fn status(self) -> u8 {
+        match self {
+            Stop::Line => 2,
+            Stop::Io => 5,
+            Stop::NoMemory => 6,
+            Stop::Refused => 8,
+        }
+    }
+}
+
+impl From<NoMemory> for Stop {
+    fn from(_e: NoMemory) -> Stop {
+        Stop::NoMemory
+    }
+}
+
+impl From<AllocError> for Stop {
+    fn from(_e: AllocError) -> Stop {
+        Stop::NoMemory
+    }
+}
+
+impl From<io::Error> for Stop {
+    fn from(e: io::Error) -> Stop {
+        if e.kind() == io::ErrorKind::OutOfMemory {
+            Stop::NoMemory
+        } else {
+            Stop::Io
+        }
+    }
+}
+
+impl From<SayFault> for Stop {
+    fn from(e: SayFault) -> Stop {
+        match e {
+            SayFault::NoMemory => Stop::NoMemory,
+            _ => Stop::Refused,
+        }
+    }
+}
+
+impl From<CatchUpStart> for Stop {
+    fn from(e: CatchUpStart) -> Stop {
+        match e {
+            CatchUpStart::NoMemory => Stop::NoMemory,
+            _ => Stop::Refused,
+        }
+    }
+}

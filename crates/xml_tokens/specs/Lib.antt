@@ -1,0 +1,15 @@
+pub use Rattle.base_io.specs.Listed
+pub mod Characters
+pub mod Declarations
+pub mod Faults
+pub mod Fronts
+pub mod Held
+pub mod Lines
+pub mod References
+pub mod Utf8
+pub mod Values
+pub mod ValueGrammar
+pub mod Tags
+pub mod RawTags
+pub mod SpelledView
+pub mod Spelling

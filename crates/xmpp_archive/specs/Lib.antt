@@ -1,8 +1,0 @@
-pub use Rattle.xmpp_edge.specs.Listed
--- ---- what an archive is, which its public clauses cite
-pub mod Entries
-pub mod Ids
-pub mod Peers
--- ---- what the private code keeps beside the entries
-pub mod Chained
-pub mod Rooms

@@ -1,4 +1,0 @@
--- what is base64
-pub mod Canonical
--- a step of the code
-pub mod Reading

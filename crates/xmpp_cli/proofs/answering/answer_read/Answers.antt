@@ -1,7 +1,0 @@
-use Rattle.std.proofs.Common.{refl}
-use Rattle.xmpp_cli.proofs.Inputs.{due_of_read}
-use Rattle.xmpp_cli.proofs.answering.answer_read.Goals as goal
-
-pub returns-in-Ok-clause-due : goal.returns-in-Ok-clause-due
-returns-in-Ok-clause-due g c =
-    due_of_read _ _ _ _ _ _ _ _ refl c.in-Ok.ensures.all c.in-Ok.ensures.short c.in-Ok.ensures.end c.answer_to.ensures.answer

@@ -1,5 +1,0 @@
-use Rattle.xmpp_client_laws.proofs.CallsMade.{caught_up_is, lost_is_cut, said_is}
-use Rattle.xmpp_client_laws.proofs.laws.calls_are_those_of_the_client.Goals as goal
-
-pub returns : goal.returns
-returns g c = record { lost = lost_is_cut; said = said_is; caught_up = caught_up_is }

@@ -1,5 +1,0 @@
-use Rattle.xmpp_client_login.proofs.LoginLaws.{verifiers_log_in}
-use Rattle.xmpp_client_login.proofs.laws.only_the_right_verifier_logs_in.Goals as goal
-
-pub returns : goal.returns
-returns c = verifiers_log_in c.judgements_are_exact.ensures

@@ -1,4 +1,0 @@
--- ---- rows
-pub mod RowsPut
--- ---- items and calls
-pub mod StepsOrdered

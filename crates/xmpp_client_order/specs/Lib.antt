@@ -1,2 +1,0 @@
--- law
-pub mod Order

@@ -1,9 +1,0 @@
-use Rattle.std.proofs.Common.{◌≡◌, drop, find}
-use Rattle.xmpp_ext.specs.Carbons.{is_carbon}
-use Rattle.xmpp_trees.specs.Readers.{elements_of}
-use Rattle.xmpp_trees.specs.Views.{nodes_view}
-use Rattle.xmpp_client_rows.proofs.messages.find_carbon.Given as goal
-
--- it lies ahead
-abbrev pub invariant-loop-node : goal.invariant-loop-node
-invariant-loop-node l = find is_carbon (elements_of (nodes_view (drop l.node-index l.nodes))) ≡ find is_carbon (elements_of (nodes_view l.nodes))

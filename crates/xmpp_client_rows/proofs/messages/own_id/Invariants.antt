@@ -1,9 +1,0 @@
-use Rattle.std.proofs.Common.{◌≡◌, drop}
-use Rattle.xmpp_client_rows.specs.MessageRows.{own_id}
-use Rattle.xmpp_trees.specs.Readers.{elements_of}
-use Rattle.xmpp_trees.specs.Views.{nodes_view}
-use Rattle.xmpp_client_rows.proofs.messages.own_id.Given as goal
-
--- it lies ahead
-abbrev pub invariant-loop-node : goal.invariant-loop-node
-invariant-loop-node l = own_id l.bare (elements_of (nodes_view (drop l.node-index l.nodes))) ≡ own_id l.bare (elements_of (nodes_view l.nodes))

@@ -1,5 +1,0 @@
-use Rattle.xmpp_device_deeds.proofs.Rest.{short_queue}
-use Rattle.xmpp_device_deeds.proofs.links_in_time.queues_are_short.Goals as goal
-
-pub returns : goal.returns
-returns c = λ who logins d v reached shows. short_queue who logins d v reached shows

@@ -1,5 +1,0 @@
-use Rattle.xmpp_device_deeds.proofs.Rest.{settled_rests}
-use Rattle.xmpp_device_deeds.proofs.links_in_time.settled_is_at_rest.Goals as goal
-
-pub returns : goal.returns
-returns c = λ v k conn d reached device at is flows no_up no_down. settled_rests v k conn d reached device at is flows no_up no_down

@@ -1,5 +1,0 @@
-use Rattle.xmpp_device_deeds.proofs.LogReadingsEnds.{ends_well, over_shows}
-use Rattle.xmpp_device_deeds.proofs.log_readings.pages_are_taken_over.Goals as goal
-
-pub returns : goal.returns
-returns c = record { ends = ends_well; over = over_shows }

@@ -1,5 +1,0 @@
-use Rattle.xmpp_device_deeds.proofs.Logged.{stanza_done}
-use Rattle.xmpp_device_deeds.proofs.logs.full_clients_leave.Goals as goal
-
-pub returns : goal.returns
-returns c = λ o keep history d s b z a is plain built counted well. (stanza_done o keep history d s b z a is plain built counted well).leaves

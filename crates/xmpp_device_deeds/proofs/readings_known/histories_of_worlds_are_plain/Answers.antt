@@ -1,5 +1,0 @@
-use Rattle.xmpp_device_deeds.proofs.ReadingsKnownHistories.{world_plain}
-use Rattle.xmpp_device_deeds.proofs.readings_known.histories_of_worlds_are_plain.Goals as goal
-
-pub returns : goal.returns
-returns c = λ owned w taken named early few account. world_plain owned w taken named early few account

@@ -1,5 +1,0 @@
-use Rattle.xmpp_device_deeds.proofs.Counts.{resumed_told, row_told, rows_same}
-use Rattle.xmpp_device_deeds.proofs.submissions.counts_told.Goals as goal
-
-pub returns : goal.returns
-returns c = record { shows = row_told; resumed = resumed_told; same = rows_same }

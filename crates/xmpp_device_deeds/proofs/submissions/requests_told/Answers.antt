@@ -1,5 +1,0 @@
-use Rattle.xmpp_device_deeds.proofs.Puts.{handled_told, reaction_told, request_told}
-use Rattle.xmpp_device_deeds.proofs.submissions.requests_told.Goals as goal
-
-pub returns : goal.returns
-returns c = record { asks = request_told; handles = handled_told; reacts = reaction_told }

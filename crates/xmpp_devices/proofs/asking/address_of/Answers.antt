@@ -1,7 +1,0 @@
-use Rattle.std.proofs.Common.{◌≡◌, ℕ, List, Ok, subst, sym}
-use Rattle.xmpp_devices.proofs.Names.{normal_address}
-use Rattle.xmpp_jid.specs.Normal.{normal}
-use Rattle.xmpp_devices.proofs.asking.address_of.Goals as goal
-
-pub of_normal-requires : goal.of_normal-requires
-of_normal-requires c = subst (λ (text : List ℕ). normal text ≡ Ok text) (sym c.in_ok-bare_address.ensures) (normal_address c.args.account.now c.requires)

@@ -1,4 +1,0 @@
-use Rattle.xmpp_devices.proofs.device.Device.say.Goals as goal
-
-pub submit-requires : goal.submit-requires
-submit-requires c = record { silent = c.silence-out.ensures }

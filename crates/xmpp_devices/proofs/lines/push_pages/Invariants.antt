@@ -1,7 +1,0 @@
--- The lines so far, and those of the pages that are left.
-use Rattle.std.proofs.Common.{◌≡◌, ◌++◌, drop}
-use Rattle.xmpp_report.specs.Lines.{logged_by}
-use Rattle.xmpp_devices.proofs.lines.push_pages.Given as goal
-
-abbrev pub invariant-loop-tile : goal.invariant-loop-tile
-invariant-loop-tile l = l.lines.items ++ logged_by l.before (drop l.tile-index l.tiles) l.rest ≡ l.initial.lines.items ++ logged_by 0 l.tiles l.entries

@@ -1,6 +1,0 @@
--- The lines so far, and those that are left.
-use Rattle.std.proofs.Common.{◌≡◌, ◌++◌, drop}
-use Rattle.xmpp_devices.proofs.lines.refused_lines.Given as goal
-
-abbrev pub invariant-loop-line : goal.invariant-loop-line
-invariant-loop-line l = l.lines.items ++ drop l.line-index l.refused ≡ l.refused

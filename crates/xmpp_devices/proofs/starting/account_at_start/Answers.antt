@@ -1,7 +1,0 @@
-use Rattle.std.proofs.Common.{ℕ, List, ap, ◌∙◌}
-use Rattle.xmpp_login.specs.Accounts.{account_of}
-use Rattle.xmpp_report.specs.Addresses.{domain}
-use Rattle.xmpp_devices.proofs.starting.account_at_start.Goals as goal
-
-pub returns-in-Ok : goal.returns-in-Ok
-returns-in-Ok c = c.in-Ok.ensures.made ∙ ap (λ (password : List ℕ). account_of c.args.name.now domain password) (c.as_str.ensures ∙ c.in_ok-password.ensures)

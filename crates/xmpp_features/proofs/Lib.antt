@@ -1,4 +1,0 @@
-pub mod DiscoveryLaws
-pub mod FeatureLaws
-mod TextSteps
-mod Worked

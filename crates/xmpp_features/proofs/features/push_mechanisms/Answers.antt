@@ -1,9 +1,0 @@
-use Rattle.std.proofs.Common.{◌≡◌, false, rules}
-use Rattle.xmpp_features.proofs.FeatureLaws.{not_offered}
-use Rattle.xmpp_trees.specs.Views.{elem_view}
-use Rattle.xmpp_features.proofs.features.push_mechanisms.Goals as goal
-
-pub returns-then-not-offered-clause-ok : goal.returns-then-not-offered-clause-ok
-returns-then-not-offered-clause-ok c =
-    let off : c.args.offered ≡ false = search rules in
-    not_offered (elem_view c.args.features.now) _ c.args.offered off

@@ -1,5 +1,0 @@
-use Rattle.xmpp_forwarding.proofs.IdLaws.{only_its_own}
-use Rattle.xmpp_forwarding.proofs.laws.only_the_archive_gives_ids.Goals as goal
-
-pub returns : goal.returns
-returns c = only_its_own

@@ -1,5 +1,0 @@
-use Rattle.xmpp_forwarding.proofs.EntryLaws.{entry_again}
-use Rattle.xmpp_forwarding.proofs.laws.results_are_their_entries.Goals as goal
-
-pub returns : goal.returns
-returns c = entry_again

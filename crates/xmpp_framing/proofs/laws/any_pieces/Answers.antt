@@ -1,9 +1,0 @@
-use Rattle.xmpp_framing.proofs.ItemsBefore.{given_before}
-use Rattle.xmpp_framing.proofs.Pieces.{run_append}
-use Rattle.xmpp_framing.proofs.laws.any_pieces.Goals as goal
-
-pub returns-clause-pieces : goal.returns-clause-pieces
-returns-clause-pieces c = run_append
-
-pub returns-clause-behind : goal.returns-clause-behind
-returns-clause-behind c = given_before

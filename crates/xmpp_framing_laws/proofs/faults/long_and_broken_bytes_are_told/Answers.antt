@@ -1,8 +1,0 @@
-use Rattle.xmpp_framing_laws.proofs.FaultLaws as laws
-use Rattle.xmpp_framing_laws.proofs.faults.long_and_broken_bytes_are_told.Goals as goal
-
-pub returns-clause-long : goal.returns-clause-long
-returns-clause-long c = laws.long
-
-pub returns-clause-broken : goal.returns-clause-broken
-returns-clause-broken c = laws.broken

@@ -1,5 +1,0 @@
-use Rattle.xmpp_framing_laws.proofs.OffsetRuns.{fault_at_token}
-use Rattle.xmpp_framing_laws.proofs.offsets.faults_have_the_offset_of_their_token.Goals as goal
-
-pub returns : goal.returns
-returns c = fault_at_token

@@ -1,5 +1,0 @@
-use Rattle.xmpp_framing_laws.proofs.PrefixRuns.{long_told}
-use Rattle.xmpp_framing_laws.proofs.prefixes.long_items_have_the_offset_of_their_first_byte.Goals as goal
-
-pub returns : goal.returns
-returns c = long_told

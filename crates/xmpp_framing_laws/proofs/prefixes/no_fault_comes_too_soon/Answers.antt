@@ -1,5 +1,0 @@
-use Rattle.xmpp_framing_laws.proofs.PrefixRuns.{none_too_soon}
-use Rattle.xmpp_framing_laws.proofs.prefixes.no_fault_comes_too_soon.Goals as goal
-
-pub returns : goal.returns
-returns c = none_too_soon

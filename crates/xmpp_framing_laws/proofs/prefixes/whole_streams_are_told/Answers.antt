@@ -1,5 +1,0 @@
-use Rattle.xmpp_framing_laws.proofs.GivenItems.{whole_exactly, whole_gives}
-use Rattle.xmpp_framing_laws.proofs.prefixes.whole_streams_are_told.Goals as goal
-
-pub returns : goal.returns
-returns c = record { exactly = whole_exactly; given = whole_gives }

@@ -1,5 +1,0 @@
-use Rattle.xmpp_framing_laws.proofs.ReadStreams.{what_is_read}
-use Rattle.xmpp_framing_laws.proofs.reading.what_is_read_is_spelled.Goals as goal
-
-pub returns : goal.returns
-returns c = what_is_read

@@ -1,5 +1,0 @@
-use Rattle.xmpp_framing_laws.proofs.CanonLaws.{canon_spelled, element_spelled}
-use Rattle.xmpp_framing_laws.proofs.writing.written_trees_are_spelled.Goals as goal
-
-pub returns : goal.returns
-returns c = record { top = canon_spelled; inside = λ scope default e is stream. element_spelled scope default e (record { default = is; stream = stream }) }

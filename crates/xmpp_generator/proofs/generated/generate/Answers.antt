@@ -1,5 +1,0 @@
-use Rattle.xmpp_generator.proofs.StandDrawn.{grammar_of}
-use Rattle.xmpp_generator.proofs.generated.generate.Goals as goal
-
-pub returns-clause-grammar : goal.returns-clause-grammar
-returns-clause-grammar c = grammar_of c.args.number c.args.size c.made_of.result c.requires c.made_of.ensures

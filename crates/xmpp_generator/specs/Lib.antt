@@ -1,7 +1,0 @@
-pub use Rattle.xmpp_schedule.specs.WireGrammar
-pub use Rattle.xmpp_report.specs.ReportText
--- The schedule that two numbers make.
-pub mod Draws
-pub mod Generated
--- What is told of its report.
-pub mod Summary

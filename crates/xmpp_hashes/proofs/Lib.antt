@@ -1,3 +1,0 @@
-pub mod Iterating
-pub mod SameBytes
-pub mod Xors

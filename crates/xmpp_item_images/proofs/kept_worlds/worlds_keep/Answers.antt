@@ -1,5 +1,0 @@
-use Rattle.xmpp_item_images.proofs.MovesKept.{kept_behind, kept_first}
-use Rattle.xmpp_item_images.proofs.kept_worlds.worlds_keep.Goals as goal
-
-pub returns : goal.returns
-returns g = record { begins = kept_first; moves = kept_behind }

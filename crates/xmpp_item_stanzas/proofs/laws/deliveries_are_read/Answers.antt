@@ -1,8 +1,0 @@
-use Rattle.xmpp_item_stanzas.proofs.ItemsDown.{copied_read, passed_read}
-use Rattle.xmpp_item_stanzas.proofs.laws.deliveries_are_read.Goals as goal
-
-pub returns-clause-passed : goal.returns-clause-passed
-returns-clause-passed c = passed_read
-
-pub returns-clause-copied : goal.returns-clause-copied
-returns-clause-copied c = copied_read

@@ -1,5 +1,0 @@
-use Rattle.xmpp_jid.proofs.NormalAgain.{are_joined}
-use Rattle.xmpp_jid.proofs.laws.parts_are_joined.Goals as goal
-
-pub returns : goal.returns
-returns c = are_joined

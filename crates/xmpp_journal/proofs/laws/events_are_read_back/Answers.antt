@@ -1,5 +1,0 @@
-use Rattle.xmpp_journal.proofs.Again.{event_read}
-use Rattle.xmpp_journal.proofs.laws.events_are_read_back.Goals as goal
-
-pub returns : goal.returns
-returns c = event_read

@@ -1,3 +1,0 @@
--- The parts of lines, one behind the other.
-pub mod EntryTexts
-pub mod PlainFields

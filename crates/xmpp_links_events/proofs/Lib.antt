@@ -1,5 +1,0 @@
-pub mod Lists
-pub mod Sessions
-pub mod Changes
-pub mod Events
-pub mod Acts

@@ -1,5 +1,0 @@
-use Rattle.xmpp_links_follow.proofs.Addressed.{account_address}
-use Rattle.xmpp_links_follow.proofs.clients_speak.accounts_have_bare_addresses.Goals as goal
-
-pub returns : goal.returns
-returns c = account_address

@@ -1,5 +1,0 @@
-use Rattle.xmpp_links_follow.proofs.Spoken.{catch_up_follows}
-use Rattle.xmpp_links_follow.proofs.clients_speak.catch_ups_follow.Goals as goal
-
-pub returns : goal.returns
-returns c = catch_up_follows

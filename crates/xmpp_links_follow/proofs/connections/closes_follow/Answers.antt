@@ -1,6 +1,0 @@
-use Rattle.xmpp_links_follow.proofs.Lifts.{close_lifts}
-use Rattle.xmpp_links_follow.proofs.Parts.{closed_so}
-use Rattle.xmpp_links_follow.proofs.connections.closes_follow.Goals as goal
-
-pub returns : goal.returns
-returns c = record { links = closed_so; worlds = close_lifts }

@@ -1,6 +1,0 @@
-use Rattle.xmpp_links_follow.proofs.CutPipes.{cut_of_device}
-use Rattle.xmpp_links_follow.proofs.Lifts.{cut_lifts}
-use Rattle.xmpp_links_follow.proofs.connections.cuts_follow.Goals as goal
-
-pub returns : goal.returns
-returns c = record { links = cut_of_device; worlds = λ who logins w v place i j wire s there of. cut_lifts who logins w v s place wire there of i j }

@@ -1,5 +1,0 @@
-use Rattle.xmpp_links_follow.proofs.Comings.{fresh_pipes, fresh_shows}
-use Rattle.xmpp_links_follow.proofs.others.connections_come_beside.Goals as goal
-
-pub returns : goal.returns
-returns c = record { server = fresh_shows; pipes = fresh_pipes }

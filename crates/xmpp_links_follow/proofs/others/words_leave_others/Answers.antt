@@ -1,5 +1,0 @@
-use Rattle.xmpp_links_follow.proofs.Words.{word_stays}
-use Rattle.xmpp_links_follow.proofs.others.words_leave_others.Goals as goal
-
-pub returns : goal.returns
-returns c = word_stays

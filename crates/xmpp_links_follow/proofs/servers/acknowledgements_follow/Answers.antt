@@ -1,5 +1,0 @@
-use Rattle.xmpp_links_follow.proofs.SessionRows.{management_follows}
-use Rattle.xmpp_links_follow.proofs.servers.acknowledgements_follow.Goals as goal
-
-pub returns : goal.returns
-returns c = management_follows

@@ -1,5 +1,0 @@
-use Rattle.xmpp_links_follow.proofs.MomentRows.{moment_follows}
-use Rattle.xmpp_links_follow.proofs.servers.moments_follow.Goals as goal
-
-pub returns : goal.returns
-returns c = moment_follows

@@ -1,5 +1,0 @@
-use Rattle.xmpp_links_follow.proofs.OtherEnds.{own_word_stays}
-use Rattle.xmpp_links_follow.proofs.servers.other_devices_stay.Goals as goal
-
-pub returns : goal.returns
-returns c = own_word_stays

@@ -1,5 +1,0 @@
-use Rattle.xmpp_links_follow.proofs.Resumptions.{resume_follows}
-use Rattle.xmpp_links_follow.proofs.servers.resumptions_follow.Goals as goal
-
-pub returns : goal.returns
-returns c = resume_follows

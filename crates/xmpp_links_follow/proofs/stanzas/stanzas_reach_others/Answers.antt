@@ -1,5 +1,0 @@
-use Rattle.xmpp_links_follow.proofs.StanzaRows.{reaches_other}
-use Rattle.xmpp_links_follow.proofs.stanzas.stanzas_reach_others.Goals as goal
-
-pub returns : goal.returns
-returns c = λ who whom logins others h wires v u k z p x apart reached shows pipes. reaches_other who logins h wires v k z p x whom others u apart reached shows pipes

@@ -1,8 +1,0 @@
-use Rattle.xmpp_links_follow.proofs.UpEnds.{end_beside, end_in}
-use Rattle.xmpp_links_follow.proofs.worlds.ends_go_up.Goals as goal
-
-pub returns : goal.returns
-returns c = record {
-  own = λ who logins w v place wire s reached there of. end_in who logins w v s reached place wire there of;
-  beside = λ who whom logins others w v u place wire s reached there of b. end_beside who logins w v s reached place wire there of whom others u b;
-}

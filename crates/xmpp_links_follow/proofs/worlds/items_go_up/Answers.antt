@@ -1,5 +1,0 @@
-use Rattle.xmpp_links_follow.proofs.Ups.{item_goes_up}
-use Rattle.xmpp_links_follow.proofs.worlds.items_go_up.Goals as goal
-
-pub returns : goal.returns
-returns c = item_goes_up

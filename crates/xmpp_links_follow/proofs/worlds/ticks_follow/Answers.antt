@@ -1,5 +1,0 @@
-use Rattle.xmpp_links_follow.proofs.UpEnds.{tick_in}
-use Rattle.xmpp_links_follow.proofs.worlds.ticks_follow.Goals as goal
-
-pub returns : goal.returns
-returns c = tick_in

@@ -1,5 +1,0 @@
-use Rattle.xmpp_login.proofs.LoginLaws.{proofs_log_in}
-use Rattle.xmpp_login.proofs.laws.only_the_right_proof_logs_in.Goals as goal
-
-pub returns : goal.returns
-returns c = proofs_log_in

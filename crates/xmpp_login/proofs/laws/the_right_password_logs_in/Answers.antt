@@ -1,5 +1,0 @@
-use Rattle.xmpp_login.proofs.LoginLaws.{passwords_log_in}
-use Rattle.xmpp_login.proofs.laws.the_right_password_logs_in.Goals as goal
-
-pub returns : goal.returns
-returns c = passwords_log_in

@@ -1,5 +1,0 @@
-use Rattle.xmpp_mam.proofs.FinLaws.{fin_exact}
-use Rattle.xmpp_mam.proofs.laws.ends_of_pages_are_exact.Goals as goal
-
-pub returns : goal.returns
-returns c = fin_exact

@@ -1,5 +1,0 @@
-use Rattle.xmpp_mam.proofs.ArchiveQueryLaws.{query_exact}
-use Rattle.xmpp_mam.proofs.laws.queries_are_exact.Goals as goal
-
-pub returns : goal.returns
-returns c = query_exact

@@ -1,7 +1,0 @@
-use Rattle.std.proofs.Common.{◌≡◌, IfOk, subst}
-use Rattle.xmpp_archive.specs.Entries.{EntryView}
-use Rattle.xmpp_messages.proofs.entries.message_entry.Goals as goal
-
--- the entry of what is kept is that of the message
-pub returns : goal.returns
-returns c = subst (λ (e : EntryView). IfOk c.new.result (λ entry. entry ≡ e)) (c.in_ok-kept.ensures c.args.number) c.new.ensures

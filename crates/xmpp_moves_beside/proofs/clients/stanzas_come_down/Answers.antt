@@ -1,5 +1,0 @@
-use Rattle.xmpp_moves_beside.proofs.ClientsDowns.{down_runs}
-use Rattle.xmpp_moves_beside.proofs.clients.stanzas_come_down.Goals as goal
-
-pub returns : goal.returns
-returns c = λ schedule b small says w x runs ground place wire o owned z n p bounds. down_runs schedule b small says w x runs ground place wire o owned z n p bounds

@@ -1,5 +1,0 @@
-use Rattle.xmpp_moves_beside.proofs.ClockEnds.{end_runs}
-use Rattle.xmpp_moves_beside.proofs.clock.ends_run.Goals as goal
-
-pub returns : goal.returns
-returns c = λ schedule b says place w x right runs. end_runs schedule b says w x right runs place

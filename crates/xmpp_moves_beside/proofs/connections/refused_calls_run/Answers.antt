@@ -1,8 +1,0 @@
-use Rattle.xmpp_moves_beside.proofs.Still.{asks_refused, says_refused}
-use Rattle.xmpp_moves_beside.proofs.connections.refused_calls_run.Goals as goal
-
-pub returns : goal.returns
-returns c = record {
-  says = λ schedule b says place to text private w x d fault runs. says_refused schedule b says w x runs place to text private d fault;
-  asks = λ schedule b says place most w x d fault runs. asks_refused schedule b says w x runs place most d fault;
-}

@@ -1,5 +1,0 @@
-use Rattle.xmpp_moves_beside.proofs.Gone.{device_paged}
-use Rattle.xmpp_moves_beside.proofs.devices.devices_are_paged.Goals as goal
-
-pub returns : goal.returns
-returns c = λ schedule b says w x runs i d there. device_paged schedule b says w x runs i d there

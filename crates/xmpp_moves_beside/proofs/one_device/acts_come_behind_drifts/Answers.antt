@@ -1,5 +1,0 @@
-use Rattle.xmpp_moves_beside.proofs.Acting.{act_reaches, act_spoken}
-use Rattle.xmpp_moves_beside.proofs.one_device.acts_come_behind_drifts.Goals as goal
-
-pub returns : goal.returns
-returns c = record { reaches = act_reaches; spoken = act_spoken }

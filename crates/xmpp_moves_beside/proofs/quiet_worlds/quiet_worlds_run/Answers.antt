@@ -1,5 +1,0 @@
-use Rattle.xmpp_moves_beside.proofs.Engine.{quiet_runs}
-use Rattle.xmpp_moves_beside.proofs.quiet_worlds.quiet_worlds_run.Goals as goal
-
-pub returns : goal.returns
-returns c = λ schedule b says w x after passed runs taken quiet. quiet_runs schedule b says w x runs taken after passed quiet

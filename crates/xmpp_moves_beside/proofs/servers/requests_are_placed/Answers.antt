@@ -1,5 +1,0 @@
-use Rattle.xmpp_moves_beside.proofs.Placed.{from_beginning}
-use Rattle.xmpp_moves_beside.proofs.servers.requests_are_placed.Goals as goal
-
-pub returns : goal.returns
-returns c = λ keep some accounts homes events w reaches i d there. from_beginning keep some accounts homes events w reaches i d there

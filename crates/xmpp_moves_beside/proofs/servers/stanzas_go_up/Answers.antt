@@ -1,5 +1,0 @@
-use Rattle.xmpp_moves_beside.proofs.ServersStanzas.{stanza_goes_up}
-use Rattle.xmpp_moves_beside.proofs.servers.stanzas_go_up.Goals as goal
-
-pub returns : goal.returns
-returns c = λ schedule right b small says w x runs ground place wire i items there pipe o owned g z word. stanza_goes_up schedule right b small says w x runs ground place wire i items there pipe o owned g z word

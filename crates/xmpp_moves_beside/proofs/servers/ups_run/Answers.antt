@@ -1,5 +1,0 @@
-use Rattle.xmpp_moves_beside.proofs.ServersUps.{any_runs}
-use Rattle.xmpp_moves_beside.proofs.servers.ups_run.Goals as goal
-
-pub returns : goal.returns
-returns c = λ schedule b right small says place w x runs ground. any_runs schedule b right small says place w x runs ground

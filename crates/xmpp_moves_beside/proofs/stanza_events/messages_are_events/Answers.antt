@@ -1,7 +1,0 @@
-use Rattle.std.proofs.Common.{refl}
-use Rattle.xmpp_moves_beside.proofs.MessageEvents.{message_handled}
-use Rattle.xmpp_moves_beside.proofs.stanza_events.messages_are_events.Goals as goal
-use Rattle.xmpp_moves_beside.specs.Handled.{EndsAs}
-
-pub returns : goal.returns
-returns c = λ ends x i d m last there exists own others. message_handled (EndsAs ends) x i d m last there exists own (λ j e at apart. (ends j, others j e at apart, refl))

@@ -1,8 +1,0 @@
-use Rattle.xmpp_moves_beside.proofs.Calls.{catch_up_runs, say_runs}
-use Rattle.xmpp_moves_beside.proofs.user_calls.calls_run.Goals as goal
-
-pub returns : goal.returns
-returns c = record {
-  says = λ schedule b says w x place to text private right small runs. say_runs schedule right b small says w x runs place to text private;
-  asks = λ schedule b says w x place most right small runs. catch_up_runs schedule right b small says w x runs place most;
-}

@@ -1,5 +1,0 @@
-use Rattle.xmpp_moves_beside.proofs.Given.{close_runs, forget_runs}
-use Rattle.xmpp_moves_beside.proofs.users.users_run.Goals as goal
-
-pub returns : goal.returns
-returns c = record { forgets = forget_runs; closes = close_runs }

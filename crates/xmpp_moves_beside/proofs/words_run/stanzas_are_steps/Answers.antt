@@ -1,5 +1,0 @@
-use Rattle.xmpp_moves_beside.proofs.Stepped.{stanza_step}
-use Rattle.xmpp_moves_beside.proofs.words_run.stanzas_are_steps.Goals as goal
-
-pub returns : goal.returns
-returns c = λ who logins h wires v k z p x. stanza_step who logins h wires v k z p x

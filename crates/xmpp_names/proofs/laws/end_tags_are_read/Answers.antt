@@ -1,5 +1,0 @@
-use Rattle.xmpp_names.proofs.EndLaws as laws
-use Rattle.xmpp_names.proofs.laws.end_tags_are_read.Goals as goal
-
-pub returns : goal.returns
-returns c = laws.end_tags_are_read

@@ -1,7 +1,0 @@
-use Rattle.std.proofs.Common.{add-one, arith}
-use Rattle.xmpp_outbox.specs.Submissions.{in_state}
-use Rattle.xmpp_outbox.proofs.SettledPlaces.{settled_next}
-use Rattle.xmpp_outbox.proofs.submissions.settle.Goals as goal
-
-pub loop-i-preserved : goal.loop-i-preserved
-loop-i-preserved c = rw (c.loop-i.invariant, add-one) (settled_next (in_state c.args.state) c.args.items.now c.loop-i.i c.index-items-i.result (omega arith))

@@ -1,5 +1,0 @@
-use Rattle.xmpp_payload_laws.proofs.FinReads.{fin_answers}
-use Rattle.xmpp_payload_laws.proofs.forwarding.ends_of_pages_are_read_as_stated.Goals as goal
-
-pub returns : goal.returns
-returns c = fin_answers

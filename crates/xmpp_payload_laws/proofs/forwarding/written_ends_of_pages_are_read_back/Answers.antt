@@ -1,5 +1,0 @@
-use Rattle.xmpp_payload_laws.proofs.FinReads.{fin_written}
-use Rattle.xmpp_payload_laws.proofs.forwarding.written_ends_of_pages_are_read_back.Goals as goal
-
-pub returns : goal.returns
-returns c = fin_written

@@ -1,9 +1,0 @@
-use Rattle.xmpp_ext.proofs.RequestLaws.{bare_again}
-use Rattle.xmpp_payload_laws.proofs.RequestReads.{switch_written}
-use Rattle.xmpp_payload_laws.proofs.requests.written_requests_are_read_back.Goals as goal
-
-pub returns-clause-switch : goal.returns-clause-switch
-returns-clause-switch c = switch_written
-
-pub returns-clause-named : goal.returns-clause-named
-returns-clause-named c = bare_again

@@ -1,3 +1,0 @@
-pub mod Arenas
-pub mod Paths
-mod Worked

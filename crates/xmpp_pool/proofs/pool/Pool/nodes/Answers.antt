@@ -1,7 +1,0 @@
-use Rattle.std.proofs.Common.{sym, ap, ◌∙◌}
-use Rattle.xmpp_pool.specs.Queues.{nodes_of}
-use Rattle.xmpp_pool.proofs.Arenas.{nodes_are}
-use Rattle.xmpp_pool.proofs.pool.Pool.nodes.Goals as goal
-
-pub returns : goal.returns
-returns c = c.capacity.ensures.value ∙ sym (nodes_are c.self.inside.nodes c.self.inside.ends c.self.inside.made c.self.invariant) ∙ ap nodes_of c.self.view_is

@@ -1,3 +1,0 @@
-pub use Rattle.xmpp_edge.specs.Listed
-pub mod Arena
-pub mod Queues

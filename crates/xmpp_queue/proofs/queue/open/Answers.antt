@@ -1,5 +1,0 @@
-use Rattle.xmpp_queue.proofs.RuleSteps.{begins}
-use Rattle.xmpp_queue.proofs.queue.open.Goals as goal
-
-pub bounded_with-requires-clause-rule : goal.bounded_with-requires-clause-rule
-bounded_with-requires-clause-rule g c = begins g.T.Sent.from

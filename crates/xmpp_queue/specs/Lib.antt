@@ -1,4 +1,0 @@
--- law
-pub mod Merge
--- machine
-pub mod Rule

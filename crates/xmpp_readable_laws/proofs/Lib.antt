@@ -1,4 +1,0 @@
-pub mod Archived
-pub mod Declared
-pub mod DirectReports
-pub mod Fields

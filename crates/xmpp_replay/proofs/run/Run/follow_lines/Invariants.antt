@@ -1,8 +1,0 @@
--- The run is what the lines so far make of it.
-use Rattle.std.proofs.Common.{take}
-use Rattle.xmpp_replay.specs.Runs.{IsAfter}
-use Rattle.xmpp_schedule.specs.Schedules.{steps_of}
-use Rattle.xmpp_replay.proofs.run.Run.follow_lines.Given as goal
-
-abbrev pub invariant-loop-line : goal.invariant-loop-line
-invariant-loop-line l = IsAfter l.fn.self.clock.version (steps_of l.lines) (take l.line-index (steps_of l.lines)) l.self

@@ -1,3 +1,0 @@
--- ---- the row on requests
-pub mod Requests
-pub mod Pages

@@ -1,5 +1,0 @@
-use Rattle.xmpp_rerun.proofs.ArchiveCounts.{accounts_told}
-use Rattle.xmpp_rerun.proofs.laws.each_account_is_told.Goals as goal
-
-pub returns : goal.returns
-returns c = accounts_told

@@ -1,5 +1,0 @@
-use Rattle.xmpp_route.proofs.Rising.{one_ascends}
-use Rattle.xmpp_route.proofs.planning.to_full.Goals as goal
-
-pub route_to-requires : goal.route_to-requires
-route_to-requires c = record { rising = rw (c.in_ok-push-in-Some.ensures.ok, c.new-deliver.ensures) (one_ascends c.in-Some.told.number) }

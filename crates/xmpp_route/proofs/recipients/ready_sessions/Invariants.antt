@@ -1,9 +1,0 @@
-use Rattle.std.proofs.Common.{◌≡◌, ◌++◌, drop, map}
-use Rattle.xmpp_live.specs.Sessions.{number_of}
-use Rattle.xmpp_route.specs.Choices.{chosen}
-use Rattle.xmpp_route.specs.Plans.{is_ready, ready_of}
-use Rattle.xmpp_route.proofs.recipients.ready_sessions.Given as goal
-
--- what was found, and what is ahead
-abbrev pub invariant-loop-number : goal.invariant-loop-number
-invariant-loop-number l = l.found.items ++ chosen is_ready l.live.sessions (drop l.number-index l.number-items) ≡ map number_of (ready_of l.account l.live.sessions)

@@ -1,9 +1,0 @@
--- A plan as the code has it: sessions by their numbers.
-use Rattle.xmpp_live.specs.Sessions.{Session, number_of}
-use Rattle.xmpp_route.specs.Routes.{PlanOf, Bounced, Routed, renamed}
-use Rattle.xmpp_route.specs.declared.routes.Plan.{Plan}
-use Rattle.xmpp_route.specs.declared.routes.Plan.TheVariants as plan
-
-abbrev pub numbered : {A : Type 0} → PlanOf (Session A) → Plan
-numbered (Bounced e) = plan.Bounced e
-numbered (Routed r) = plan.Routed (renamed number_of r)

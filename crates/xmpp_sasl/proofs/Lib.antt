@@ -1,3 +1,0 @@
-pub mod PayloadLaws
-pub mod SaslLaws
-mod Worked

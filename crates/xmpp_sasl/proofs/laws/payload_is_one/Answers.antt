@@ -1,8 +1,0 @@
-use Rattle.xmpp_sasl.proofs.PayloadLaws.{empty_payload, payload_one}
-use Rattle.xmpp_sasl.proofs.laws.payload_is_one.Goals as goal
-
-pub returns-clause-one : goal.returns-clause-one
-returns-clause-one c = payload_one
-
-pub returns-clause-empty : goal.returns-clause-empty
-returns-clause-empty c = empty_payload

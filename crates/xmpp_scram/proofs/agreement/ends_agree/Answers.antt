@@ -1,6 +1,0 @@
-use Rattle.xmpp_scram.proofs.ReadBack.{goes_through}
-use Rattle.xmpp_scram.proofs.ReadWritten.{read_back}
-use Rattle.xmpp_scram.proofs.agreement.ends_agree.Goals as goal
-
-pub returns : goal.returns
-returns c given allowed = goes_through read_back given allowed

@@ -1,5 +1,0 @@
-use Rattle.xmpp_scram.proofs.Judging.{all_exact}
-use Rattle.xmpp_scram.proofs.agreement.judgements_are_exact.Goals as goal
-
-pub returns : goal.returns
-returns c = all_exact

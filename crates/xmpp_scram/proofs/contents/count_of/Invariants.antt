@@ -1,6 +1,0 @@
-use Rattle.std.proofs.Common.{◌≡◌, min, take}
-use Rattle.xmpp_scram.specs.Values.{most_told, value_of}
-use Rattle.xmpp_scram.proofs.contents.count_of.Given as goal
-
-abbrev pub invariant-loop-digit : goal.invariant-loop-digit
-invariant-loop-digit l = l.count ≡ min (value_of (take l.digit-index l.digits)) most_told

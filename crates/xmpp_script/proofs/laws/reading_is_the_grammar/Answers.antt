@@ -1,9 +1,0 @@
-use Rattle.xmpp_script.proofs.Again.{script_again}
-use Rattle.xmpp_script.proofs.Found.{script_found}
-use Rattle.xmpp_script.proofs.laws.reading_is_the_grammar.Goals as goal
-
-pub returns-clause-found : goal.returns-clause-found
-returns-clause-found c = script_found
-
-pub returns-clause-only : goal.returns-clause-only
-returns-clause-only c = script_again

@@ -1,5 +1,0 @@
-use Rattle.xmpp_server.proofs.ItemRuns.{shut_stays}
-use Rattle.xmpp_server.proofs.laws.what_is_shut_stays_shut.Goals as goal
-
-pub returns : goal.returns
-returns g c = shut_stays

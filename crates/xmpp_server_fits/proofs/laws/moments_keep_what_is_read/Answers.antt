@@ -1,5 +1,0 @@
-use Rattle.xmpp_server_fits.proofs.MomentsKept.{fresh_kept, gone_kept, moment_kept}
-use Rattle.xmpp_server_fits.proofs.laws.moments_keep_what_is_read.Goals as goal
-
-pub returns : goal.returns
-returns c = record { moment = moment_kept; fresh = fresh_kept; gone = gone_kept }

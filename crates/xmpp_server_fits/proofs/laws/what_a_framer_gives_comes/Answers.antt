@@ -1,5 +1,0 @@
-use Rattle.xmpp_server_fits.proofs.GivenShort.{given_come, piece_comes}
-use Rattle.xmpp_server_fits.proofs.laws.what_a_framer_gives_comes.Goals as goal
-
-pub returns : goal.returns
-returns c = record { whole = given_come; piece = piece_comes }

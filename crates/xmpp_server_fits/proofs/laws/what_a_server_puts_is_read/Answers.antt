@@ -1,6 +1,0 @@
-use Rattle.xmpp_server_fits.proofs.MomentsKept.{bytes_kept, turn_kept}
-use Rattle.xmpp_server_fits.proofs.TableKept.{after_kept, fault_kept, items_kept}
-use Rattle.xmpp_server_fits.proofs.laws.what_a_server_puts_is_read.Goals as goal
-
-pub returns : goal.returns
-returns c = record { item = after_kept; items = items_kept; fault = fault_kept; turn = turn_kept; bytes = bytes_kept }

@@ -1,5 +1,0 @@
-use Rattle.xmpp_server_laws.proofs.LastAnswers.{error_unanswered, get_answered, result_unanswered, set_answered}
-use Rattle.xmpp_server_laws.proofs.laws.each_request_is_answered.Goals as goal
-
-pub returns : goal.returns
-returns g c = record { get = get_answered; set = set_answered; result = result_unanswered; error = error_unanswered }

@@ -1,9 +1,0 @@
--- What is left of a stream behind a piece of its bytes.
-use Rattle.std.specs.Prelude.{ℕ, Option, Some, None, if◌then◌else◌}
-use Rattle.xmpp_desk.specs.State.{Step}
-use Rattle.xmpp_framing.specs.States.{State}
-use Rattle.xmpp_server.specs.Telling.{is_open}
-
--- the framer, where the connection is open still
-abbrev pub left_open : {A : Type 0} → ℕ → State → Step A → Option State
-left_open k f s = if is_open k s then Some f else None

@@ -1,4 +1,0 @@
--- ---- moments, and connections that come and go
-pub mod MomentsTurned
--- ---- bytes
-pub mod EventsTurned

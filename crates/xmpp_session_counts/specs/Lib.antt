@@ -1,2 +1,0 @@
--- How large the numbers of a run become.
-pub mod Counts

@@ -1,4 +1,0 @@
--- ---- sessions that are resumed
-pub mod Resumed
--- ---- steps, one behind the other
-pub mod Sayings

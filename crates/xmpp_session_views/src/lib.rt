@@ -1,2 +1,0 @@
-//! How a world of items shows the two applications over sessions: takes, archives, submissions, logs.
-#![tactic(auto)]

@@ -1,9 +1,0 @@
-use Rattle.xmpp_sessions.proofs.Runs.{taken_reached}
-use Rattle.xmpp_sessions.proofs.TileRuns.{read_reached}
-use Rattle.xmpp_sessions.proofs.laws.reached_states_are_kept.Goals as goal
-
-pub returns-clause-taken : goal.returns-clause-taken
-returns-clause-taken c = λ w reached. taken_reached w reached
-
-pub returns-clause-read : goal.returns-clause-read
-returns-clause-read c = λ w reached. read_reached w reached

@@ -1,4 +1,0 @@
-pub mod Prefixes
-pub mod Stamps
-pub mod WholeLogs
-pub mod LawsOfBoth

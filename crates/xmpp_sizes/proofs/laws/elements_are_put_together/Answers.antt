@@ -1,5 +1,0 @@
-use Rattle.xmpp_sizes.proofs.ElementSizes.{child_size, element_up, joined_size, text_of_size, value_and_nodes}
-use Rattle.xmpp_sizes.proofs.laws.elements_are_put_together.Goals as goal
-
-pub returns : goal.returns
-returns c = record { up = element_up; down = value_and_nodes; child = child_size; joined = joined_size; text = text_of_size }

@@ -1,2 +1,0 @@
-pub use Rattle.xmpp_outside.specs.Links
-pub mod Returns

@@ -1,5 +1,0 @@
-use Rattle.xmpp_stamp.proofs.StampLaws.{stamp_read}
-use Rattle.xmpp_stamp.proofs.laws.stamps_are_read.Goals as goal
-
-pub returns : goal.returns
-returns c = stamp_read

@@ -1,2 +1,0 @@
--- ---- a stanza that counts
-pub mod Counted

@@ -1,6 +1,0 @@
-use Rattle.xmpp_desk.specs.Seen.{step_of}
-use Rattle.xmpp_stanza_rows.proofs.Counted.{lives_on}
-use Rattle.xmpp_stanza_rows.proofs.stanzas.on_presence.Goals as goal
-
-pub announce-requires : goal.announce-requires
-announce-requires c = lives_on c.args.told.now (step_of c.args.desk.now) (step_of c.count.new.self) c.requires c.count.ensures.step

@@ -1,3 +1,0 @@
--- ---- what a session says, and the phase behind a login
-pub mod Stanzas
-pub mod Ready

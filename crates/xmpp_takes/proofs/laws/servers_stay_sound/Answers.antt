@@ -1,5 +1,0 @@
-use Rattle.xmpp_takes.proofs.SoundEvents.{sound_at_moment, sound_at_start, sound_connect, sound_gone_now}
-use Rattle.xmpp_takes.proofs.laws.servers_stay_sound.Goals as goal
-
-pub returns : goal.returns
-returns g c = record { start = sound_at_start; connect = sound_connect; gone = sound_gone_now; moment = sound_at_moment }

@@ -1,5 +1,0 @@
-use Rattle.xmpp_tokens.proofs.CharacterLaws as laws
-use Rattle.xmpp_tokens.proofs.laws.characters_are_those_of_xml.Goals as goal
-
-pub returns : goal.returns
-returns c = laws.characters_are_those

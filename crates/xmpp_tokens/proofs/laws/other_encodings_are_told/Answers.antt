@@ -1,5 +1,0 @@
-use Rattle.xmpp_tokens.proofs.DeclarationGrammar as grammar
-use Rattle.xmpp_tokens.proofs.laws.other_encodings_are_told.Goals as goal
-
-pub returns : goal.returns
-returns c = grammar.other_encodings

@@ -1,5 +1,0 @@
-use Rattle.xmpp_tokens.proofs.Going as going
-use Rattle.xmpp_tokens.proofs.laws.references_go_on.Goals as goal
-
-pub returns : goal.returns
-returns c = going.references_go_on

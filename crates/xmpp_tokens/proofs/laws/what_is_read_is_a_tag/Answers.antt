@@ -1,5 +1,0 @@
-use Rattle.xmpp_tokens.proofs.TagOutcomes as outcomes
-use Rattle.xmpp_tokens.proofs.laws.what_is_read_is_a_tag.Goals as goal
-
-pub returns : goal.returns
-returns c = outcomes.what_is_read_is_a_tag

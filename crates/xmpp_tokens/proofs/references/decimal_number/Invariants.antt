@@ -1,6 +1,0 @@
-use Rattle.std.proofs.Common.{◌≡◌, min, take}
-use Rattle.xmpp_tokens.specs.References.{number_of}
-use Rattle.xmpp_tokens.proofs.references.decimal_number.Given as goal
-
-abbrev pub invariant-loop-d : goal.invariant-loop-d
-invariant-loop-d l = l.n ≡ min (number_of 10 (take l.d-index l.digits)) 1114112

@@ -1,7 +1,0 @@
-use Rattle.std.proofs.Common.{◌≡◌, take, map}
-use Rattle.xmpp_trees.specs.Views.{node_view}
-use Rattle.xmpp_trees.proofs.copying.copy_nodes.Given as goal
-
--- what was copied so far
-abbrev pub invariant-loop-node : goal.invariant-loop-node
-invariant-loop-node l = map node_view l.copies.items ≡ map node_view (take l.node-index l.nodes)

@@ -1,9 +1,0 @@
-use Rattle.std.proofs.Common.{drop}
-use Rattle.std.specs.Prelude.{◌↔◌}
-use Rattle.xmpp_trees.specs.Trees.{AreTidy, AreTidyBehind}
-use Rattle.xmpp_trees.specs.Views.{nodes_view}
-use Rattle.xmpp_trees.proofs.rule.+rule.Given as goal
-
--- those ahead are tidy just where all are
-abbrev pub invariant-are_tidy-loop-node : goal.invariant-are_tidy-loop-node
-invariant-are_tidy-loop-node l = AreTidyBehind l.behind_text (nodes_view (drop l.node-index l.node-items)) ↔ AreTidy (nodes_view l.node-items)

@@ -1,5 +1,0 @@
-use Rattle.xmpp_wire_schedules.proofs.Moves.{each_runs}
-use Rattle.xmpp_wire_schedules.proofs.each_move.each_move_runs.Goals as goal
-
-pub returns : goal.returns
-returns c = each_runs

@@ -1,5 +1,0 @@
-use Rattle.xmpp_wire_schedules.proofs.FirstLinesBeginning.{first}
-use Rattle.xmpp_wire_schedules.proofs.first_lines.schedules_begin.Goals as goal
-
-pub returns : goal.returns
-returns c = λ s is. first s is

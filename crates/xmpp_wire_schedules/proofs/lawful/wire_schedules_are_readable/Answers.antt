@@ -1,6 +1,0 @@
-use Rattle.xmpp_wire_schedules.proofs.ReadReports.{readable}
-use Rattle.xmpp_wire_schedules.proofs.WholeRuns.{whole_run}
-use Rattle.xmpp_wire_schedules.proofs.lawful.wire_schedules_are_readable.Goals as goal
-
-pub returns : goal.returns
-returns c = λ s right. readable s right (whole_run s right)

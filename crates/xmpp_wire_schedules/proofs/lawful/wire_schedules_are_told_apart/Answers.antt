@@ -1,6 +1,0 @@
-use Rattle.xmpp_wire_schedules.proofs.ReadReports.{told_apart}
-use Rattle.xmpp_wire_schedules.proofs.WholeRuns.{whole_run}
-use Rattle.xmpp_wire_schedules.proofs.lawful.wire_schedules_are_told_apart.Goals as goal
-
-pub returns : goal.returns
-returns c = λ s t one other. told_apart s t one other (whole_run s one) (whole_run t other)

@@ -1,5 +1,0 @@
-use Rattle.xmpp_wire_schedules.proofs.LinesAnswered.{schedule_answered}
-use Rattle.xmpp_wire_schedules.proofs.refused_lines.lines_are_answered.Goals as goal
-
-pub returns : goal.returns
-returns g = schedule_answered

@@ -1,5 +1,0 @@
-use Rattle.xmpp_wire_schedules.proofs.LinesRefused.{schedule_refused}
-use Rattle.xmpp_wire_schedules.proofs.refused_lines.lines_are_refused.Goals as goal
-
-pub returns : goal.returns
-returns g = schedule_refused

@@ -1,5 +1,0 @@
-use Rattle.xmpp_wire_schedules.proofs.MovesRefused.{noted_moved}
-use Rattle.xmpp_wire_schedules.proofs.refused_lines.moves_leave_refused.Goals as goal
-
-pub returns : goal.returns
-returns g = noted_moved

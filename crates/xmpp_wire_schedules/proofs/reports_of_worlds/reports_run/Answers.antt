@@ -1,5 +1,0 @@
-use Rattle.xmpp_wire_schedules.proofs.WorldTold.{reported}
-use Rattle.xmpp_wire_schedules.proofs.reports_of_worlds.reports_run.Goals as goal
-
-pub returns : goal.returns
-returns c = reported

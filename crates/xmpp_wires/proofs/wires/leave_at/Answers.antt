@@ -1,7 +1,0 @@
-use Rattle.std.proofs.Common.{arith}
-use Rattle.xmpp_wires.proofs.Places.{changed_there}
-use Rattle.xmpp_wires.proofs.wires.leave_at.Goals as goal
-use Rattle.xmpp_wires.specs.Wires.{left}
-
-pub returns-then-place-len : goal.returns-then-place-len
-returns-then-place-len c = changed_there c.args.wires.now.items c.args.place (left) c.index_mut.result.now c.leave.new.self (omega arith) c.index_mut.ensures.value c.leave.ensures

@@ -1,8 +1,0 @@
-use Rattle.std.proofs.Common.{arith}
-use Rattle.std.proofs.lemmas.Result.{on_ok_weaker}
-use Rattle.xmpp_wires.proofs.Places.{changed_there}
-use Rattle.xmpp_wires.proofs.wires.put_down_at.Goals as goal
-use Rattle.xmpp_wires.specs.Wires.{put_down}
-
-pub returns-then-place-len : goal.returns-then-place-len
-returns-then-place-len c = on_ok_weaker c.put_down.result (changed_there c.args.wires.now.items c.args.place (put_down c.args.bytes.now) c.index_mut.result.now c.put_down.new.self (omega arith) c.index_mut.ensures.value) c.put_down.ensures

@@ -1,8 +1,0 @@
-use Rattle.std.proofs.Common.{arith}
-use Rattle.std.proofs.lemmas.Result.{on_ok_weaker}
-use Rattle.xmpp_wires.proofs.Places.{changed_there}
-use Rattle.xmpp_wires.proofs.wires.put_up_at.Goals as goal
-use Rattle.xmpp_wires.specs.Wires.{put_up}
-
-pub returns-then-place-len : goal.returns-then-place-len
-returns-then-place-len c = on_ok_weaker c.put_up.result (changed_there c.args.wires.now.items c.args.place (put_up c.args.bytes.now) c.index_mut.result.now c.put_up.new.self (omega arith) c.index_mut.ensures.value) c.put_up.ensures

@@ -1,3 +1,0 @@
-pub use Rattle.xmpp_edge.specs.Counts
--- view
-pub mod Starts

@@ -1,7 +1,0 @@
--- The lines so far, and those of the entries that are left.
-use Rattle.std.proofs.Common.{◌≡◌, ◌++◌, drop, map}
-use Rattle.xmpp_report.specs.Lines.{entry_line}
-use Rattle.xmpp_world.proofs.report.entry_lines.Given as goal
-
-abbrev pub invariant-loop-place : goal.invariant-loop-place
-invariant-loop-place l = l.lines.items ++ map entry_line (drop l.place l.archive.entries) ≡ map entry_line l.archive.entries

@@ -1,8 +1,0 @@
--- The turns that are left lead where all of them do.
-use Rattle.std.proofs.Common.{◌≡◌, ◌-◌}
-use Rattle.xmpp_world.specs.Lines.{passes_of}
-use Rattle.xmpp_world.specs.Moves.{all_moved}
-use Rattle.xmpp_world.proofs.world.World.passes.Given as goal
-
-abbrev pub invariant-loop-i : goal.invariant-loop-i
-invariant-loop-i l = all_moved (passes_of (l.times - l.i) l.place) l.self ≡ all_moved (passes_of l.times l.place) l.initial.self

@@ -1,5 +1,0 @@
-use Rattle.xmpp_world_laws.proofs.Turns.{rounds_count, rounds_down, rounds_up}
-use Rattle.xmpp_world_laws.proofs.laws.runs_are_passes_of_each.Goals as goal
-
-pub returns : goal.returns
-returns c = record { count = rounds_count; up = rounds_up; down = rounds_down }

@@ -1,2 +1,0 @@
--- ---- worlds that follow one another
-pub mod Following

@@ -1,5 +1,0 @@
-use Rattle.xmpp_world_takes.proofs.Histories.{at_each, in_the_end}
-use Rattle.xmpp_world_takes.proofs.laws.archives_are_those_of_the_takes.Goals as goal
-
-pub returns : goal.returns
-returns g = record { end = in_the_end; history = at_each }

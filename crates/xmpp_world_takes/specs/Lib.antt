@@ -1,4 +1,0 @@
--- ---- the takes of a report, and its archives
-pub mod ReportTakes
--- ---- submissions
-pub mod Submitted

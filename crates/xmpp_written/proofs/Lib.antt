@@ -1,3 +1,0 @@
--- laws
-pub mod ReadLaws
-pub mod PutLaws
