@@ -66,12 +66,12 @@ pub fn users_are_followed()
 {}
 
 /// A law: what comes on a connection of a device before the server put its header there is a header: so a server that
-/// stands with its connections (`HallStands` of `xmpp_images`) goes on standing.
+/// stands with its connections (`HallStands` of `sim_3_images`) goes on standing.
 pub fn headers_come_first()
     ensures { (who : Identity) (logins : ℕ → Login) (h : Hall ItemOut) (wires : Table ItemWire) (v : View ItemOut) (k : ℕ) (w : ItemWire) (i : ItemOut) → HasFirst who logins h wires v k w i → MayCome (writer_at k h) i }
 {}
 
-/// A law: a world's server stands with the connections that were dialled (`HallStands` of `xmpp_images`) as the world
+/// A law: a world's server stands with the connections that were dialled (`HallStands` of `sim_3_images`) as the world
 /// begins, and behind each move, where what goes up may come (`MayGoUp`): on a connection of a device that is shown all
 /// does. And where it stands, nothing of the server is on a connection that was not dialled yet.
 pub fn servers_stand()

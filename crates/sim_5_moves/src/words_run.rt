@@ -35,7 +35,7 @@ pub fn words_leave_the_server_running()
         → IsFirst who logins h wires v k Bind → IsDeviceOf owned names who o → (who.account ≡ account → who.resource ≢ resource) → FlagsShow account resource h d → FlagsShow account resource (on_item k (up_item who (logins k) Bind) h).hall d }
 {}
 
-/// A law: a stanza of a device's session counts first and is handled: the step of the laws of `xmpp_replies_served` and of
+/// A law: a stanza of a device's session counts first and is handled: the step of the laws on replies and of
 /// those on messages.
 pub fn stanzas_are_steps()
     ensures { (who : Identity) (logins : ℕ → Login) (h : Hall ItemOut) (wires : Table ItemWire) (v : View ItemOut) (k : ℕ) (z : ItemOut) → IsFirst who logins h wires v k (Up (St z)) → (x : IsOfSession who h z)
