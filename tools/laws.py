@@ -1,4 +1,4 @@
-"""The five laws of docs/claims.md, as far as a schedule and the report of its run decide them."""
+"""The five laws of docs/CLAIMS.md, as far as a schedule and the report of its run decide them."""
 import bisect
 import itertools
 from types import SimpleNamespace

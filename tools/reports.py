@@ -1,4 +1,4 @@
-"""Schedules and reports of `replay`, read from their texts by what docs/formats.md says of them."""
+"""Schedules and reports of `replay`, read from their texts by what docs/FORMATS.md says of them."""
 import re
 from types import SimpleNamespace
 
