@@ -33,7 +33,8 @@ pub fn too_high_counts_change_no_queue<A>()
         → acted say (at_ack say k h t s.hall) s ≡ part say k (say (too_high_item h (send_count old))) s }
 {}
 
-/// A law: behind the end of a connection none of its sessions is resumed, whatever names it (XEP-0198, section 5).
+/// A law: what is resumed right behind the end of a connection is a session that is not on it, whatever names it
+/// (XEP-0198, section 5). That a session which was on it is gone is not said.
 pub fn sessions_of_shut_connections_are_not_resumed<A>()
     ensures { (k account : ℕ) (previd : List ℕ) (s : Step A) → IfSome (session_resumed previd account (shut k s).hall.sessions) (λ found. is_at k found ≡ false) }
 {}
