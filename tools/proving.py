@@ -179,13 +179,16 @@ class Libraries:
         self.clear(crate)
         return self.kept.give(crate, False, key) and self.note(crate, key)
 
-    def prove(self, crate, jobs=1):
+    def prove(self, crate):
         """Proves the crate from nothing, over the libraries below it, and builds it. Answers nothing, or what was said."""
         key = self.kept.key(crate)
         self.clear(crate)
         crate = copy.copy(crate)
         with tempfile.TemporaryFile("w+", errors="replace") as crate.out:
-            status = crate.ci(["--jobs", str(jobs)], False)
+            status = crate.ci(["--jobs", "1"], False)
+            if status < 0:
+                # killed, most likely for memory
+                status = crate.ci(["--jobs", "1"], False)
             crate.out.seek(0)
             said = crate.out.read()
         if status:
