@@ -13,7 +13,7 @@ use Rattle.cmd_schedule.specs.declared.schedule.Schedule.{Schedule}
 use Rattle.cmd_sync.specs.ScriptReading.{script_reading}
 use Rattle.cmd_sync.specs.Scripts.{ScriptView}
 use Rattle.net_hub.specs.Served.{HasServed}
-use Rattle.cmd_serve.specs.Journaling.{AreFewer}
+use Rattle.net_hub.specs.GivenLinks.{AreFewer}
 use Rattle.cmd_run.proofs.Dialers.{link_not_quiet, not_risen}
 use Rattle.cmd_run.proofs.Unread.{unread_entropy, unread_link, unread_peer, unread_worker}
 use Rattle.cmd_run.specs.Dealings.{Dealings, DoorView}

@@ -4,7 +4,7 @@ use Rattle.base_io.specs.Counts.{Quiet, counted}
 use Rattle.net_hub.specs.Backs.{AreBehind}
 use Rattle.net_hub.specs.Joined.{HasWorkers}
 use Rattle.net_traits.specs.Links.{LinkView}
-use Rattle.cmd_serve.specs.Journaling.{AreGivenBack}
+use Rattle.net_hub.specs.GivenLinks.{AreGivenBack}
 use Rattle.cmd_sync.specs.Talks.{DialerView}
 
 -- how many of a door's calls failed, how many links it handed out, and those that were given back to it

@@ -14,11 +14,11 @@ pub use Rattle.cmd_report.specs.ReportText
 pub use Rattle.cmd_report.specs.Reports
 pub use Rattle.cmd_schedule.specs.Schedules
 pub use Rattle.net_hub.specs.Backs
+pub use Rattle.net_hub.specs.GivenLinks
 pub use Rattle.net_hub.specs.Joined
 pub use Rattle.net_hub.specs.Served
 pub use Rattle.net_traits.specs.Links
 pub use Rattle.cmd_sync.specs.Scripts
-pub use Rattle.cmd_serve.specs.Journaling
 pub use Rattle.cmd_sync.specs.Syncs
 pub use Rattle.cmd_world.specs.Histories
 pub use Rattle.cmd_world.specs.WorldReports

@@ -24,7 +24,7 @@ use Rattle.cmd_rerun.specs.Reruns.{SaysRun, rerun_of}
 use Rattle.cmd_sync.specs.ScriptReading.{script_reading}
 use Rattle.cmd_sync.specs.declared.script_fault.ScriptFault.TheVariants as scripts
 use Rattle.net_hub.specs.Served.{HasServed}
-use Rattle.cmd_serve.specs.Journaling.{AreFewer}
+use Rattle.net_hub.specs.GivenLinks.{AreFewer}
 use Rattle.cmd_sync.specs.Syncs.{IsSynced, IsUnsynced}
 use Rattle.cmd_sync.specs.declared.failure.PeerFailure.{PeerFailure}
 use Rattle.cmd_sync.specs.declared.sync_fault.SyncFault.{SyncFault}

@@ -14,9 +14,9 @@ use Rattle.cmd_journal.specs.Texts.{NamedView, OutputView, archive_text, output_
 use Rattle.net_traits.specs.Links.{LinkView}
 use Rattle.net_hub.specs.Records.{run_of_file}
 use Rattle.cmd_rerun.specs.Reruns.{archives_after, lines_of, rerun_of}
-use Rattle.cmd_serve.specs.Journaling.{ending_text, journal_text}
-use Rattle.law_serving.proofs.Journals.{ending_behind, input_is}
-use Rattle.law_serving.specs.Again.{EndsAlike, IsRerunOf, rerun_input}
+use Rattle.cmd_rerun.specs.Journaling.{ending_text, journal_text}
+use Rattle.law_hub.proofs.JournalInputs.{ending_behind, input_is}
+use Rattle.law_hub.specs.Again.{EndsAlike, IsRerunOf, rerun_input}
 
 module _ (accounts : List ℕ) (n : ℕ) (told : Option ℕ) (drawn : Option (List ℕ)) (old new : List LinkView) (journal : List ℕ) (served : HasServed accounts n told drawn old new journal) where
   abbrev input : InputView

@@ -8,12 +8,12 @@ use Rattle.net_hub.specs.Records.{run_of_file}
 use Rattle.cmd_rerun.specs.Reruns.{Run, after_events, lines_of, run_at_start}
 use Rattle.net_hub.specs.Puts.{put_for}
 use Rattle.srv_core.specs.Telling.{is_told}
-use Rattle.cmd_serve.proofs.Adding.{from_start}
-use Rattle.law_serving.proofs.Events.{events_gone, step_of}
-use Rattle.law_serving.proofs.Recorded.{IsOutside, lines_bytes, lines_shut, lines_within}
-use Rattle.law_serving.proofs.Silence.{IsGone}
-use Rattle.law_serving.specs.Again.{IsWithin, bytes_out, shuts}
-use Rattle.law_serving.specs.Silence.{IsOther, Quiet}
+use Rattle.cmd_rerun.proofs.Adding.{from_start}
+use Rattle.cmd_rerun.proofs.EventSteps.{events_gone, step_of}
+use Rattle.law_hub.proofs.LineRuns.{IsOutside, lines_bytes, lines_shut, lines_within}
+use Rattle.cmd_rerun.proofs.Silence.{IsGone}
+use Rattle.law_hub.specs.Again.{IsWithin, bytes_out, shuts}
+use Rattle.cmd_rerun.specs.Silence.{IsOther, Quiet}
 
 module _ (file : AccountsView) (events : List EventView) where
   abbrev pub outs : List (Out (List ℕ))

@@ -10,9 +10,9 @@ use Rattle.cmd_journal.specs.Journals.{Connect, EventView, Gone, Piece}
 use Rattle.net_owner.specs.Events as owner
 use Rattle.net_owner.specs.Events.{Told, shown}
 use Rattle.net_hub.specs.Records.{bare}
-use Rattle.law_serving.proofs.Entries.{apart_eqb, same_is}
-use Rattle.law_serving.specs.Again.{bytes_in, in_bytes, is_gone, leaves}
-use Rattle.law_serving.specs.Silence.{IsOther}
+use Rattle.cmd_rerun.proofs.Entries.{apart_eqb, same_is}
+use Rattle.law_hub.specs.Again.{bytes_in, in_bytes, is_gone, leaves}
+use Rattle.cmd_rerun.specs.Silence.{IsOther}
 
 -- ---- numbers are compared in either way
 

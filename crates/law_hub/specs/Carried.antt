@@ -9,8 +9,8 @@ use Rattle.net_owner.specs.declared.reading.TheConstants.{MOST_BYTES_GIVEN}
 use Rattle.cmd_schedule.specs.declared.schedule.Version.{Version}
 use Rattle.net_hub.specs.Puts.{IsFront, put_for}
 use Rattle.srv_core.specs.Telling.{is_told}
-use Rattle.cmd_serve.specs.Journaling.{ending_text}
-use Rattle.law_serving.specs.Again.{IsWithin, bytes_in, bytes_out, leaves, shuts}
+use Rattle.cmd_rerun.specs.Journaling.{ending_text}
+use Rattle.law_hub.specs.Again.{IsWithin, bytes_in, bytes_out, leaves, shuts}
 
 -- The answer of a rerun has these lines of what is put out again: for each connection, the bytes that a server put for it, and
 -- whether the server shut it.

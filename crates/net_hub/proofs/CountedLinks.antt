@@ -8,7 +8,7 @@ use Rattle.net_owner.specs.declared.place.Place.{Place}
 use Rattle.net_owner.specs.Acceptors.{counted_times}
 use Rattle.net_owner.specs.declared.item.Item.{Item}
 use Rattle.net_hub.specs.declared.sender.Sender.{Sender}
-use Rattle.cmd_serve.specs.Journaling.{AreFewer, AreGivenBack, counted_each}
+use Rattle.net_hub.specs.GivenLinks.{AreFewer, AreGivenBack, counted_each}
 
 pub counted_first : (n count : ℕ) → counted_times n (counted count) ≡ counted (counted_times n count)
 unfolding counted_times

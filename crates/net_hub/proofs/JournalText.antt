@@ -6,8 +6,8 @@ use Rattle.cmd_journal.specs.Texts.{NamedView}
 use Rattle.net_hub.specs.Records.{run_of_file}
 use Rattle.cmd_rerun.specs.Reruns.{Run, archives_after, named_archives}
 use Rattle.srv_core.specs.Events.{Whole}
-use Rattle.cmd_serve.proofs.Adding.{from_start}
-use Rattle.cmd_serve.specs.Journaling.{ending_text, journal_text}
+use Rattle.cmd_rerun.proofs.Adding.{from_start}
+use Rattle.cmd_rerun.specs.Journaling.{ending_text, journal_text}
 
 pub if_ok : {T E : Type 0} {P Q : T → Type 0} (r : Result T E) → ((t : T) → P t → Q t) → IfOk r P → IfOk r Q
 if_ok (Ok t) f h = f t h

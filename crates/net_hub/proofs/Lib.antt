@@ -12,8 +12,9 @@ pub mod MoreEvents
 pub mod NotBegun
 -- the server, and its halves
 pub mod MoreKept
--- the journal
+-- the journal, and the archives at its end
 pub mod JournalText
+pub mod Endings
 -- the halves of one link stand at one place
 pub mod Paired
 -- what a reader that has ended brought

@@ -1,5 +1,5 @@
 -- Events of a journal, and one more.
-use Rattle.std.proofs.Common.{◌≡◌, ℕ, ◌<◌, ◌≤◌, ◌==◌, true, List, [], ◌∷◌, ◌++◌, length, map, Option, ap, refl, subst, sym, ◌∙◌, arith}
+use Rattle.std.proofs.Common.{◌≡◌, ℕ, suc, ◌<◌, ◌≤◌, ◌==◌, true, List, [], ◌∷◌, ◌++◌, length, map, Option, Fits, get_or, w8, ap, refl, subst, sym, ◌∙◌, arith}
 use Rattle.std.proofs.lemmas.Bool.{and_from, and_parts, le-leb, lt-ltb, ltb-true}
 use Rattle.std.proofs.lemmas.List.{map-append}
 use Rattle.std.specs.List.{AllByRecursion}
@@ -11,8 +11,8 @@ use Rattle.net_hub.specs.Records.{AllDrawn, IsDrawn, bare, bares_of, last_begun,
 use Rattle.cmd_rerun.specs.Reruns.{AreFresh, IsFresh, Run, after_event, after_events}
 use Rattle.cmd_schedule.specs.Reading.{not_empty}
 use Rattle.net_hub.proofs.Numbers.{other_number}
-use Rattle.cmd_serve.specs.Visits.{AreAt}
-use Rattle.law_serving.specs.Silence.{IsOther}
+use Rattle.cmd_rerun.specs.Happening.{AreAt}
+use Rattle.cmd_rerun.specs.Silence.{IsOther}
 
 pub views_more : (events : List Event) (e : Event) → views_of (events ++ e ∷ []) ≡ views_of events ++ event_view e ∷ []
 views_more events e = map-append event_view events (e ∷ [])
@@ -69,6 +69,15 @@ may_leave last k now number moment = and_from (is_connection k) (is_moment now) 
 pub some_bytes : (bytes : List ℕ) → 0 < length bytes → IsTrue (not_empty bytes)
 some_bytes [] some = absurd (omega (arith, some))
 some_bytes (b ∷ bytes) some = refl
+
+-- what a clock tells
+pub is_moment_told : (now : ℕ) → now ≤ 253402207200000 → IsTrue (is_moment now)
+is_moment_told now last = le-leb now 253402207200000 last
+
+-- what a slice of bytes has
+pub every_byte : (buf : List ℕ) → ((i : ℕ) → Fits w8 (get_or buf i 0)) → are_bytes buf ≡ true
+every_byte [] fits = refl
+every_byte (b ∷ buf) fits = and_from (nat_lt b 256) (are_bytes buf) (lt-ltb b 256 (fits 0).fits) (every_byte buf (λ i. fits (suc i)))
 
 -- ---- no connection begins above the last
 

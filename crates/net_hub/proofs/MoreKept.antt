@@ -26,8 +26,8 @@ use Rattle.net_hub.specs.Puts.{bytes_put, put_for}
 use Rattle.net_hub.specs.Sendings.{HasSent, HaveSent, numbers_of}
 use Rattle.net_hub.specs.declared.sender.Sender.{Sender}
 use Rattle.srv_core.specs.Events.{IsAfterBytes, Whole, after_connect, after_gone, framer_at}
-use Rattle.cmd_serve.proofs.Adding.{connects, from_start, happens_both, leaves, leaves_quietly, nothing_happens, piece_happens}
-use Rattle.cmd_serve.specs.Visits.{AreAt, happens}
+use Rattle.cmd_rerun.proofs.Adding.{connects, from_start, happens_both, leaves, leaves_quietly, nothing_happens, piece_happens}
+use Rattle.cmd_rerun.specs.Happening.{AreAt, happens}
 use Rattle.xml_writer.specs.Items.{written_item}
 
 -- what a list that is longer by one has at a place

@@ -7,10 +7,10 @@ use Rattle.net_hub.proofs.MoreEvents.{all_others}
 use Rattle.net_hub.specs.Records.{last_begun, run_of_file}
 use Rattle.cmd_rerun.specs.Reruns.{Run, run_at_start}
 use Rattle.net_hub.specs.Puts.{put_for}
-use Rattle.cmd_serve.proofs.Adding.{from_start}
-use Rattle.law_serving.proofs.Events.{events_gone, step_of}
-use Rattle.law_serving.proofs.Silence.{IsGone}
-use Rattle.law_serving.specs.Silence.{Quiet}
+use Rattle.cmd_rerun.proofs.Adding.{from_start}
+use Rattle.cmd_rerun.proofs.EventSteps.{events_gone, step_of}
+use Rattle.cmd_rerun.proofs.Silence.{IsGone}
+use Rattle.cmd_rerun.specs.Silence.{Quiet}
 
 quiet_puts : (k : ℕ) (outs : List (Out (List ℕ))) → Quiet k outs → put_for k outs ≡ []
 quiet_puts k [] quiet = refl

@@ -15,7 +15,7 @@ use Rattle.net_hub.specs.Records.{IsKept, bares_of, run_of_file, views_of}
 use Rattle.net_hub.specs.declared.recorder.Recorder.{Recorder}
 use Rattle.net_hub.specs.Puts.{put_for}
 use Rattle.net_hub.specs.Sendings.{HasSent}
-use Rattle.cmd_serve.specs.Journaling.{journal_text}
+use Rattle.cmd_rerun.specs.Journaling.{journal_text}
 
 module _ {R I O P : Type 0} (told : I → IncomingView) (out : O → OutgoingView) (got : List (Item P)) (r : Recorder O) (places : List (Place R I P)) where
   pub is_written : (n : ℕ) (moment : Option ℕ) (drawn : Option (List ℕ)) (old new links : List LinkView) (text : List ℕ) → AreKept (bares_of r.events.items) got places → IsKept out moment drawn r

@@ -6,8 +6,8 @@ pub use Rattle.cmd_journal.specs.Journals
 pub use Rattle.net_owner.specs.Events
 pub use Rattle.net_owner.specs.Halves as TakersHalves
 pub use Rattle.cmd_rerun.specs.Reruns
-pub use Rattle.cmd_serve.specs.Journaling
-pub use Rattle.cmd_serve.specs.Visits
+pub use Rattle.cmd_rerun.specs.Journaling
+pub use Rattle.cmd_rerun.specs.Happening
 pub use Rattle.net_traits.specs.Links
 pub use Rattle.net_owner.specs.StartedReaders
 pub use Rattle.net_owner.specs.Acceptors
@@ -18,6 +18,7 @@ pub mod Sendings
 -- view
 pub mod Records
 -- law
+pub mod GivenLinks
 pub mod Served
 pub mod Joined
 -- view

@@ -12,7 +12,7 @@ use Rattle.net_hub.specs.Puts.{put_for}
 use Rattle.net_hub.specs.Sendings.{HasSent, HaveSent}
 use Rattle.net_hub.specs.declared.sender.Sender.{Sender}
 use Rattle.srv_core.specs.Events.{Whole}
-use Rattle.cmd_serve.specs.Visits.{AreAt, happens}
+use Rattle.cmd_rerun.specs.Happening.{AreAt, happens}
 
 -- an event, without its moment and the bytes that were drawn
 abbrev pub bare : EventView → owner.Event

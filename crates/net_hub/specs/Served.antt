@@ -10,8 +10,8 @@ use Rattle.net_owner.specs.Events.{Connect, Gave, Gone, Told, shown}
 use Rattle.net_owner.specs.declared.reading.TheConstants.{MOST_BYTES_GIVEN}
 use Rattle.net_hub.specs.Records.{AllDrawn, bare, run_of_file}
 use Rattle.net_hub.specs.Puts.{IsFront, put_for}
-use Rattle.cmd_serve.specs.Journaling.{journal_text}
-use Rattle.cmd_serve.specs.Visits.{AreAt}
+use Rattle.cmd_rerun.specs.Journaling.{journal_text}
+use Rattle.cmd_rerun.specs.Happening.{AreAt}
 use Rattle.net_hub.specs.declared.fault.HubFault.{HubFault}
 use Rattle.net_hub.specs.declared.fault.HubFault.TheVariants.{BadLine}
 

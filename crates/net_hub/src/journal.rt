@@ -1,14 +1,24 @@
 //! The journal of a server's events.
-ghost use Rattle.std.specs.Prelude.{◌≡◌, ◌++◌, ◌<◌, ◌^◌, IfOk, OnOk, length};
-ghost use Rattle.cmd_journal.specs.Journals.{event_view, events_text};
+ghost use Rattle.std.specs.Prelude.{◌≡◌, ◌∷◌, ◌++◌, [], ◌<◌, ◌^◌, IfOk, OnOk, length};
+ghost use Rattle.cmd_journal.specs.Journals.{event_view, events_text, journal_header};
 ghost use Rattle.net_hub.specs.Records.{run_of_file, views_of};
-ghost use Rattle.cmd_serve.specs.Journaling.{journal_text};
+ghost use Rattle.cmd_rerun.specs.Journaling.{journal_text};
 
+use crate::ending::finish;
 use base_io::{Bytes, NoMemory};
-use cmd_journal::{AccountsFile, Event, append_event};
-use cmd_serve::{begin, finish};
+use cmd_journal::{AccountsFile, Event, append_event, append_journal_header};
+use cmd_schedule::Version;
 use srv_core::Server;
 use std::alloc::Global;
+
+// The first line of a journal.
+fn begin(alloc: Global, version: Version) -> Result<Bytes, NoMemory>
+    ensures { IfOk result (λ journal. journal.items ≡ journal_header version ++ 10 ∷ []) }
+{
+    let mut journal = Bytes::new(alloc);
+    append_journal_header(&mut journal, version)?;
+    Ok(journal)
+}
 
 // Adds the lines of events.
 fn append_events(alloc: Global, out: &mut Bytes, events: &[Event]) -> Result<(), NoMemory>

@@ -3,6 +3,8 @@
 //! for a connection goes out on its half, in order, until a write fails.
 #![tactic(auto)]
 
+mod ending;
+mod facts;
 mod fault;
 mod giving;
 mod journal;

@@ -5,15 +5,15 @@ ghost use Rattle.cmd_journal.specs.Journals.{Connect, Gone, Piece, are_bytes as 
 ghost use Rattle.net_owner.specs.Halves.{AreFirst, IsBlank};
 ghost use Rattle.net_hub.specs.Records.{AddsHalf, IsDrawn, IsKept, views_of};
 ghost use Rattle.net_hub.specs.Sendings.{numbers_of};
-ghost use Rattle.cmd_serve.specs.Visits.{AreAt};
+ghost use Rattle.cmd_rerun.specs.Happening.{AreAt};
 
+use crate::facts::are_bytes;
 use crate::recorder::Recorder;
 use crate::sender::Sender;
 use crate::sending::{close, send_all};
 use base_io::{Bytes, NoMemory};
 use cmd_journal::{AccountsFile, Event, LAST_CONNECTION};
 use cmd_rerun::server_of;
-use cmd_serve::are_bytes;
 use net_traits::Outgoing;
 use srv_core::Outputs;
 use std::alloc::Global;

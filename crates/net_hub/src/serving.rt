@@ -18,7 +18,7 @@ ghost use Rattle.net_owner.specs.Merge.{items_of};
 ghost use Rattle.net_owner.specs.Feeds.{number};
 ghost use Rattle.net_hub.specs.Records.{IsKept, bares_of};
 ghost use Rattle.net_hub.specs.Sendings.{numbers_of};
-ghost use Rattle.cmd_serve.specs.Journaling.{AreFewer, AreGivenBack};
+ghost use Rattle.net_hub.specs.GivenLinks.{AreFewer, AreGivenBack};
 
 use crate::fault::HubFault;
 use crate::giving::give_back;

@@ -1,8 +1,8 @@
 //! A recorder takes the events of connections.
+use crate::facts::are_bytes;
 use crate::recorder::Recorder;
 use crate::sending::close_all;
 use base_io::NoMemory;
-use cmd_serve::are_bytes;
 use net_owner::{Piece, Taker};
 use net_traits::{Clock, Entropy, Outgoing};
 

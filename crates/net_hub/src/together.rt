@@ -6,7 +6,7 @@ ghost use Rattle.net_hub.specs.Joined.{HasWorkers};
 ghost use Rattle.net_hub.specs.Served.{HasServed, IsOwn, IsRefusal};
 ghost use Rattle.cmd_journal.specs.AccountsFiles.{IsAccountsFile, accounts_text};
 ghost use Rattle.net_hub.specs.Records.{IsKept};
-ghost use Rattle.cmd_serve.specs.Journaling.{AreFewer, AreGivenBack};
+ghost use Rattle.net_hub.specs.GivenLinks.{AreFewer, AreGivenBack};
 
 use crate::fault::HubFault;
 use crate::recorder::Recorder;

@@ -1,5 +1,4 @@
-//! Tests of what the commands stand on: generated schedules, replays, journals, scripts, and a server of one connection after
-//! another.
+//! Tests of what the commands stand on: generated schedules, replays, journals and scripts.
 #![tactic(auto)]
 
 #[cfg(test)]
@@ -18,10 +17,6 @@ mod run_tests;
 mod runs;
 #[cfg(test)]
 mod schedule_tests;
-#[cfg(test)]
-mod served_journals;
-#[cfg(test)]
-mod served_texts;
 #[cfg(test)]
 mod sync_texts;
 #[cfg(test)]

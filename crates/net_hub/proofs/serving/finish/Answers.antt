@@ -14,7 +14,7 @@ use Rattle.net_owner.specs.Places.{IsPlaced}
 use Rattle.net_owner.specs.Merge.{items_of}
 use Rattle.net_owner.specs.Feeds.{number}
 use Rattle.net_hub.specs.Records.{bares_of, views_of}
-use Rattle.cmd_serve.specs.Journaling.{journal_text}
+use Rattle.cmd_rerun.specs.Journaling.{journal_text}
 
 pub settle_all-requires-clause-ready : goal.settle_all-requires-clause-ready
 settle_all-requires-clause-ready g c =

@@ -4,7 +4,7 @@ use Rattle.net_hub.proofs.JoinedReaders.{with_acceptor}
 use Rattle.net_hub.proofs.Served.{ok_then, served_as}
 use Rattle.net_hub.proofs.together.serve_with.Goals as goal
 use Rattle.cmd_journal.specs.AccountsFiles.{accounts_text}
-use Rattle.cmd_serve.specs.Journaling.{AreFewer, AreGivenBack}
+use Rattle.net_hub.specs.GivenLinks.{AreFewer, AreGivenBack}
 
 pub returns-in-Ok-start-clause-served : goal.returns-in-Ok-start-clause-served
 returns-in-Ok-start-clause-served g c =

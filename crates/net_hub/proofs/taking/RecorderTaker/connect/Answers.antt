@@ -1,9 +1,8 @@
 use Rattle.std.proofs.Common.{refl, rules}
 use Rattle.cmd_journal.specs.Journals.{Connect}
 use Rattle.net_owner.proofs.HeldHalves.{first_same}
-use Rattle.net_hub.proofs.MoreEvents.{bares_more}
+use Rattle.net_hub.proofs.MoreEvents.{bares_more, is_moment_told}
 use Rattle.net_hub.proofs.taking.RecorderTaker.connect.Goals as goal
-use Rattle.cmd_serve.proofs.Readings.{is_moment_told}
 
 pub begin-requires-clause-kept : goal.begin-requires-clause-kept
 begin-requires-clause-kept g c = (g.C.Clock.moment c.args.clock.now, g.E.Entropy.bytes c.args.entropy.now, c.requires.right)

@@ -1,8 +1,7 @@
 use Rattle.cmd_journal.specs.Journals.{Gone}
 use Rattle.net_owner.proofs.OwnerSteps.{on_ok}
-use Rattle.net_hub.proofs.MoreEvents.{bares_more}
+use Rattle.net_hub.proofs.MoreEvents.{bares_more, is_moment_told}
 use Rattle.net_hub.proofs.taking.RecorderTaker.gone.Goals as goal
-use Rattle.cmd_serve.proofs.Readings.{is_moment_told}
 
 pub leave-requires-clause-moment : goal.leave-requires-clause-moment
 leave-requires-clause-moment g c = is_moment_told c.now_ms-now.result c.now_ms-now.ensures.last

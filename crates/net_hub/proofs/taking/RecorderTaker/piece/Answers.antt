@@ -1,8 +1,7 @@
 use Rattle.cmd_journal.specs.Journals.{Piece}
 use Rattle.net_owner.proofs.OwnerSteps.{on_ok}
-use Rattle.net_hub.proofs.MoreEvents.{bares_more}
+use Rattle.net_hub.proofs.MoreEvents.{bares_more, is_moment_told}
 use Rattle.net_hub.proofs.taking.RecorderTaker.piece.Goals as goal
-use Rattle.cmd_serve.proofs.Readings.{is_moment_told}
 
 pub hear-requires-clause-moment : goal.hear-requires-clause-moment
 hear-requires-clause-moment g c = is_moment_told c.now_ms-now.result c.now_ms-now.ensures.last

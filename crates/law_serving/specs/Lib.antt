@@ -1,4 +1,0 @@
--- ---- what is done again from a journal
-pub mod Again
--- ---- what a connection is told
-pub mod Silence

@@ -1,6 +1,0 @@
-//! Laws of a server that serves connections one after another: what is done again from its journal.
-#![tactic(auto)]
-
-mod laws;
-
-pub use laws::{journal_is_rerun, rerun_puts_the_same, who_is_not_open_is_told_nothing};
