@@ -42,63 +42,58 @@ fn no_refused(device: &DeviceLine) -> bool
 }
 
 #[tactic(auto, unfolding(crate::specs::SoFar::add_said))]
-fn add_said(device: DeviceLine, line: SaidLine) -> Result<DeviceLine, LineFault>
-    ensures { Gives (λ further. further) result (add_said device line) }
+fn add_said(device: &mut DeviceLine, line: SaidLine) -> Result<(), LineFault>
+    ensures { Gives (λ _. device.new) result (add_said device.old line) }
 {
-    if !no_refused(&device) {
+    if !no_refused(device) {
         return Err(LineFault::Reason(LineWhy::Word));
     }
-    let mut further = device;
-    further.said.push(line)?;
-    Ok(further)
+    device.said.push(line)?;
+    Ok(())
 }
 
 #[tactic(auto, unfolding(crate::specs::SoFar::add_refused))]
-fn add_refused(device: DeviceLine, line: RefusedLine) -> Result<DeviceLine, LineFault>
-    ensures { Gives (λ further. further) result (add_refused device line) }
+fn add_refused(device: &mut DeviceLine, line: RefusedLine) -> Result<(), LineFault>
+    ensures { Gives (λ _. device.new) result (add_refused device.old line) }
 {
-    if !no_page(&device) {
+    if !no_page(device) {
         return Err(LineFault::Reason(LineWhy::Word));
     }
-    let mut further = device;
-    further.refused.push(line)?;
-    Ok(further)
+    device.refused.push(line)?;
+    Ok(())
 }
 
 #[tactic(auto, unfolding(crate::specs::SoFar::add_page))]
-fn add_page(device: DeviceLine, line: PageLine) -> Result<DeviceLine, LineFault>
-    ensures { Gives (λ further. further) result (add_page device line) }
+fn add_page(device: &mut DeviceLine, line: PageLine) -> Result<(), LineFault>
+    ensures { Gives (λ _. device.new) result (add_page device.old line) }
 {
-    if !no_underway(&device) {
+    if !no_underway(device) {
         return Err(LineFault::Reason(LineWhy::Word));
     }
-    let mut further = device;
-    further.pages.push(line)?;
-    Ok(further)
+    device.pages.push(line)?;
+    Ok(())
 }
 
 #[tactic(auto, unfolding(crate::specs::SoFar::add_underway))]
-fn add_underway(device: DeviceLine, line: UnderwayLine) -> Result<DeviceLine, LineFault>
-    ensures { Gives (λ further. further) result (add_underway device line) }
+fn add_underway(device: &mut DeviceLine, line: UnderwayLine) -> Result<(), LineFault>
+    ensures { Gives (λ _. device.new) result (add_underway device.old line) }
 {
-    if !no_logged(&device) {
+    if !no_logged(device) {
         return Err(LineFault::Reason(LineWhy::Word));
     }
-    let mut further = device;
-    further.underway.push(line)?;
-    Ok(further)
+    device.underway.push(line)?;
+    Ok(())
 }
 
 #[tactic(auto, unfolding(crate::specs::SoFar::add_logged))]
-fn add_logged(device: DeviceLine, line: LoggedLine) -> Result<DeviceLine, LineFault>
-    ensures { Gives (λ further. further) result (add_logged device line) }
+fn add_logged(device: &mut DeviceLine, line: LoggedLine) -> Result<(), LineFault>
+    ensures { Gives (λ _. device.new) result (add_logged device.old line) }
 {
-    if !no_held(&device) {
+    if !no_held(device) {
         return Err(LineFault::Reason(LineWhy::Word));
     }
-    let mut further = device;
-    further.logged.push(line)?;
-    Ok(further)
+    device.logged.push(line)?;
+    Ok(())
 }
 
 fn logged_line(entry: EntryLine, broken: bool) -> LoggedLine
@@ -108,8 +103,8 @@ fn logged_line(entry: EntryLine, broken: bool) -> LoggedLine
 }
 
 #[tactic(auto, unfolding(crate::specs::SoFar::add_unbroken))]
-fn add_unbroken(device: DeviceLine, part: DevicePart) -> Result<DeviceLine, LineFault>
-    ensures { Gives (λ further. further) result (add_unbroken device part) }
+fn add_unbroken(device: &mut DeviceLine, part: DevicePart) -> Result<(), LineFault>
+    ensures { Gives (λ _. device.new) result (add_unbroken device.old part) }
 {
     match part {
         DevicePart::Said(line) => add_said(device, line),
@@ -118,16 +113,15 @@ fn add_unbroken(device: DeviceLine, part: DevicePart) -> Result<DeviceLine, Line
         DevicePart::Underway(line) => add_underway(device, line),
         DevicePart::Logged(entry) => add_logged(device, logged_line(entry, false)),
         DevicePart::Held(line) => {
-            let mut further = device;
-            further.held.push(line)?;
-            Ok(further)
+            device.held.push(line)?;
+            Ok(())
         }
     }
 }
 
 #[tactic(auto, unfolding(crate::specs::SoFar::add_broken))]
-fn add_broken(device: DeviceLine, part: DevicePart) -> Result<DeviceLine, LineFault>
-    ensures { Gives (λ further. further) result (add_broken device part) }
+fn add_broken(device: &mut DeviceLine, part: DevicePart) -> Result<(), LineFault>
+    ensures { Gives (λ _. device.new) result (add_broken device.old part) }
 {
     match part {
         DevicePart::Logged(entry) => add_logged(device, logged_line(entry, true)),
@@ -138,10 +132,10 @@ fn add_broken(device: DeviceLine, part: DevicePart) -> Result<DeviceLine, LineFa
 /// With what one line more tells of the device, behind a break or not. `Word` comes where it may not stand there.
 pub fn add_to_device(
     broken: bool,
-    device: DeviceLine,
+    device: &mut DeviceLine,
     part: DevicePart,
-) -> Result<DeviceLine, LineFault>
-    ensures { Gives (λ further. further) result (add_to_device broken device part) }
+) -> Result<(), LineFault>
+    ensures { Gives (λ _. device.new) result (add_to_device broken device.old part) }
 {
     if broken {
         add_broken(device, part)

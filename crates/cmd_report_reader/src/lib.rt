@@ -10,6 +10,7 @@ mod line_reading;
 mod part_reading;
 mod reading;
 mod so_far;
+mod texts;
 
 pub use laws::{reports_are_read_back, reports_are_told_apart};
 pub use reading::read_report;

@@ -1,13 +1,15 @@
 //! What a line of a report says, by its first word.
-ghost use Rattle.std.specs.Prelude.{◌≡◌, IfOk};
+ghost use Rattle.std.specs.Prelude.{◌≡◌, [], IfOk};
 ghost use Rattle.cmd_report.specs.EntryLines.{first_body};
 ghost use Rattle.cmd_report_reader.specs.LineReading.{read_told, read_take, read_counts, read_account, read_entry, read_conn_end, read_pipes, read_conn, read_settled, read_device, read_words, read_bare};
+ghost use Rattle.cmd_report_reader.specs.declared.line.ReportLine.{ReportLine};
 ghost use Rattle.cmd_schedule.specs.Gives.{Gives, left};
 ghost use Rattle.cmd_schedule.specs.Reading.{cut_of};
 
 use crate::fields::number_in;
 use crate::line::ReportLine;
 use crate::part_reading::read_part;
+use crate::texts::texts;
 use base_io::{ListOf, NoMemory, Text};
 use cmd_report::{AccountLine, ConnEnd, ConnLine, DeviceLine, EntryLine, TakeLine};
 use cmd_schedule::{
@@ -35,6 +37,26 @@ fn read_told(version: Version, fields: Option<&str>) -> Result<(&str, Option<u64
     }
 }
 
+fn take_line(
+    alloc: Global,
+    device: &str,
+    epoch: u64,
+    n: u64,
+    account: &str,
+    moment: Option<u64>,
+) -> Result<TakeLine, NoMemory>
+    ensures { IfOk result (λ line. line ≡ record { device = device.now; epoch = epoch; n = n; account = account.now; moment = moment }) }
+{
+    let (device, account) = texts(alloc, device, account)?;
+    Ok(TakeLine {
+        device,
+        epoch,
+        n,
+        account,
+        moment,
+    })
+}
+
 #[tactic(auto, unfolding(crate::specs::LineReading::read_take))]
 fn read_take(alloc: Global, version: Version, fields: Option<&str>) -> Result<TakeLine, LineFault>
     ensures { Gives (λ line. line) result (read_take version (left fields.entry)) }
@@ -45,13 +67,7 @@ fn read_take(alloc: Global, version: Version, fields: Option<&str>) -> Result<Ta
     let (account, moment) = read_told(version, rest)?;
     let epoch = number_in(epoch)?;
     let n = number_in(n)?;
-    Ok(TakeLine {
-        device: Text::from_str(alloc, device)?,
-        epoch,
-        n,
-        account: Text::from_str(alloc, account)?,
-        moment,
-    })
+    Ok(take_line(alloc, device, epoch, n, account, moment)?)
 }
 
 /// How many entries an account keeps, and the greatest number that it gave, which version 1 doesn't tell: there it is
@@ -76,6 +92,19 @@ fn read_counts(version: Version, fields: Option<&str>) -> Result<(u64, u64), Lin
     }
 }
 
+/// The line of an account, without its entries.
+fn account_line(alloc: Global, name: &str, count: u64, last: u64) -> Result<AccountLine, NoMemory>
+    ensures { IfOk result (λ line. line ≡ record { name = name.now; count = count; last = last; entries = [] }) }
+{
+    let name = Text::from_str(alloc, name)?;
+    Ok(AccountLine {
+        name,
+        count,
+        last,
+        entries: ListOf::new(alloc),
+    })
+}
+
 #[tactic(auto, unfolding(crate::specs::LineReading::read_account))]
 fn read_account(
     alloc: Global,
@@ -86,11 +115,53 @@ fn read_account(
 {
     let (name, rest) = next_field(fields)?;
     let (count, last) = read_counts(version, rest)?;
-    Ok(AccountLine {
-        name: Text::from_str(alloc, name)?,
-        count,
-        last,
-        entries: ListOf::new(alloc),
+    Ok(account_line(alloc, name, count, last)?)
+}
+
+/// A body without a language.
+fn body_of(alloc: Global, text: &str) -> Result<Body, NoMemory>
+    ensures { IfOk result (λ body. body.text ≡ text.now) }
+{
+    let text = Text::from_str(alloc, text)?;
+    Ok(Body {
+        lang: Text::new(alloc),
+        text,
+    })
+}
+
+/// One body without a language.
+fn bodies_of(alloc: Global, text: &str) -> Result<Bodies, NoMemory>
+    ensures { IfOk result (λ bodies. first_body bodies.items ≡ text.now) }
+{
+    let body = body_of(alloc, text)?;
+    let mut bodies = Bodies::new(alloc);
+    match bodies.push(body) {
+        Ok(()) => Ok(bodies),
+        Err(e) => Err(e),
+    }
+}
+
+/// A message with these bodies between these addresses.
+fn message_between(
+    alloc: Global,
+    stamp: u64,
+    ends: (Text, Text),
+    origin: &str,
+    bodies: Bodies,
+) -> Result<ArchivedMessage, NoMemory>
+    ensures told { IfOk result (λ message. (message.stamp ≡ stamp) × (message.from ≡ ends.0) × (message.to ≡ ends.1) × (message.origin ≡ origin.now)) }
+    ensures bodies { IfOk result (λ message. message.bodies ≡ bodies) }
+{
+    let (id, origin) = texts(alloc, origin, origin)?;
+    let (from, to) = ends;
+    Ok(ArchivedMessage {
+        stamp,
+        from,
+        to,
+        normal: false,
+        id,
+        origin,
+        bodies,
     })
 }
 
@@ -106,20 +177,9 @@ fn message_of(
     ensures told { IfOk result (λ message. (message.stamp ≡ stamp) × (message.from ≡ from.now) × (message.to ≡ to.now) × (message.origin ≡ origin.now)) }
     ensures text { IfOk result (λ message. first_body message.bodies.items ≡ text.now) }
 {
-    let mut bodies = Bodies::new(alloc);
-    bodies.push(Body {
-        lang: Text::new(alloc),
-        text: Text::from_str(alloc, text)?,
-    })?;
-    Ok(ArchivedMessage {
-        stamp,
-        from: Text::from_str(alloc, from)?,
-        to: Text::from_str(alloc, to)?,
-        normal: false,
-        id: Text::from_str(alloc, origin)?,
-        origin: Text::from_str(alloc, origin)?,
-        bodies,
-    })
+    let bodies = bodies_of(alloc, text)?;
+    let ends = texts(alloc, from, to)?;
+    message_between(alloc, stamp, ends, origin, bodies)
 }
 
 /// The line of an entry of which a report tells these fields. It has no number: a line doesn't show it.
@@ -136,7 +196,8 @@ fn entry_line(
 {
     let message = message_of(alloc, stamp, from, to, origin, text)?;
     let entry = Entry::new(alloc, 0, message)?;
-    Ok(EntryLine::new(Text::from_str(alloc, id)?, entry))
+    let id = Text::from_str(alloc, id)?;
+    Ok(EntryLine::new(id, entry))
 }
 
 /// The fields of an entry, in an archive and in a log alike.
@@ -200,6 +261,21 @@ fn read_pipes(fields: Option<&str>) -> Result<Pipes, LineFault>
     })
 }
 
+fn conn_line(alloc: Global, k: u64, device: &str, pipes: Pipes) -> Result<ConnLine, NoMemory>
+    ensures { IfOk result (λ line. line ≡ record { k = k; device = device.now; upput = pipes.upput; uptaken = pipes.uptaken; downput = pipes.downput; downtaken = pipes.downtaken; end = pipes.end }) }
+{
+    let device = Text::from_str(alloc, device)?;
+    Ok(ConnLine {
+        k,
+        device,
+        upput: pipes.upput,
+        uptaken: pipes.uptaken,
+        downput: pipes.downput,
+        downtaken: pipes.downtaken,
+        end: pipes.end,
+    })
+}
+
 #[tactic(auto, unfolding(crate::specs::LineReading::read_conn))]
 fn read_conn(alloc: Global, fields: Option<&str>) -> Result<ConnLine, LineFault>
     ensures { Gives (λ line. line) result (read_conn (left fields.entry)) }
@@ -208,15 +284,7 @@ fn read_conn(alloc: Global, fields: Option<&str>) -> Result<ConnLine, LineFault>
     let (device, rest) = next_field(rest)?;
     let pipes = read_pipes(rest)?;
     let k = number_in(k)?;
-    Ok(ConnLine {
-        k,
-        device: Text::from_str(alloc, device)?,
-        upput: pipes.upput,
-        uptaken: pipes.uptaken,
-        downput: pipes.downput,
-        downtaken: pipes.downtaken,
-        end: pipes.end,
-    })
+    Ok(conn_line(alloc, k, device, pipes)?)
 }
 
 #[tactic(auto, unfolding(crate::specs::LineReading::read_settled))]
@@ -230,6 +298,37 @@ fn read_settled(word: &str) -> Result<bool, LineFault>
     }
 }
 
+/// The line of a device, with nothing below it.
+fn bare_device(alloc: Global, name: Text, account: Text, epoch: u64, settled: bool) -> DeviceLine
+    ensures { result ≡ record { name = name; account = account; epoch = epoch; settled = settled; said = []; refused = []; pages = []; underway = []; logged = []; held = [] } }
+{
+    DeviceLine {
+        name,
+        account,
+        epoch,
+        settled,
+        said: ListOf::new(alloc),
+        refused: ListOf::new(alloc),
+        pages: ListOf::new(alloc),
+        underway: ListOf::new(alloc),
+        logged: ListOf::new(alloc),
+        held: ListOf::new(alloc),
+    }
+}
+
+fn device_line(
+    alloc: Global,
+    name: &str,
+    account: &str,
+    epoch: u64,
+    settled: bool,
+) -> Result<DeviceLine, NoMemory>
+    ensures { IfOk result (λ line. line ≡ record { name = name.now; account = account.now; epoch = epoch; settled = settled; said = []; refused = []; pages = []; underway = []; logged = []; held = [] }) }
+{
+    let (name, account) = texts(alloc, name, account)?;
+    Ok(bare_device(alloc, name, account, epoch, settled))
+}
+
 #[tactic(auto, unfolding(crate::specs::LineReading::read_device))]
 fn read_device(alloc: Global, fields: Option<&str>) -> Result<DeviceLine, LineFault>
     ensures { Gives (λ line. line) result (read_device (left fields.entry)) }
@@ -240,27 +339,16 @@ fn read_device(alloc: Global, fields: Option<&str>) -> Result<DeviceLine, LineFa
     let settled = last_field(rest)?;
     let epoch = number_in(epoch)?;
     let settled = read_settled(settled)?;
-    Ok(DeviceLine {
-        name: Text::from_str(alloc, name)?,
-        account: Text::from_str(alloc, account)?,
-        epoch,
-        settled,
-        said: ListOf::new(alloc),
-        refused: ListOf::new(alloc),
-        pages: ListOf::new(alloc),
-        underway: ListOf::new(alloc),
-        logged: ListOf::new(alloc),
-        held: ListOf::new(alloc),
-    })
+    Ok(device_line(alloc, name, account, epoch, settled)?)
 }
 
-/// A line that has its first word alone.
+/// Whether a line has its first word alone, whichever line it is.
 #[tactic(auto, unfolding(crate::specs::LineReading::read_bare))]
-fn read_bare(fields: Option<&str>, line: ReportLine) -> Result<ReportLine, LineFault>
-    ensures { Gives (λ read. read) result (read_bare (left fields.entry) line) }
+fn read_bare(fields: Option<&str>) -> Result<(), LineFault>
+    ensures { (line : ReportLine) → Gives (λ _. line) result (read_bare (left fields.entry) line) }
 {
     match fields {
-        None => Ok(line),
+        None => Ok(()),
         Some(_) => Err(LineFault::Reason(LineWhy::Shape)),
     }
 }
@@ -277,8 +365,14 @@ pub fn read_words(alloc: Global, version: Version, line: &str) -> Result<ReportL
         "entry" => Ok(ReportLine::Entry(read_entry(alloc, fields)?)),
         "conn" => Ok(ReportLine::Conn(read_conn(alloc, fields)?)),
         "device" => Ok(ReportLine::Device(read_device(alloc, fields)?)),
-        "break" => read_bare(fields, ReportLine::Break),
-        "end" => read_bare(fields, ReportLine::End),
+        "break" => {
+            read_bare(fields)?;
+            Ok(ReportLine::Break)
+        }
+        "end" => {
+            read_bare(fields)?;
+            Ok(ReportLine::End)
+        }
         _ => Ok(ReportLine::Part(read_part(alloc, line)?)),
     }
 }

@@ -7,6 +7,7 @@ ghost use Rattle.cmd_schedule.specs.Reading.{cut_of};
 use crate::fields::number_in;
 use crate::line::DevicePart;
 use crate::line_reading::read_entry;
+use crate::texts::texts;
 use base_io::{NoMemory, Text};
 use cmd_report::{HeldLine, PageLine, RefusedLine, RefusedWhy, SaidLine, SaidMark, UnderwayLine};
 use cmd_schedule::{LineFault, LineWhy, cut_word, last_field, next_field, rest_field, wants};
@@ -24,6 +25,26 @@ fn read_mark(word: &str) -> Result<SaidMark, LineFault>
     }
 }
 
+fn said_line(
+    alloc: Global,
+    epoch: u64,
+    n: u64,
+    state: SaidMark,
+    to: &str,
+    text: &str,
+) -> Result<SaidLine, NoMemory>
+    ensures { IfOk result (λ line. line ≡ record { epoch = epoch; n = n; state = state; to = to.now; text = text.now }) }
+{
+    let (to, text) = texts(alloc, to, text)?;
+    Ok(SaidLine {
+        epoch,
+        n,
+        state,
+        to,
+        text,
+    })
+}
+
 #[tactic(auto, unfolding(crate::specs::LineReading::read_said))]
 fn read_said(alloc: Global, fields: Option<&str>) -> Result<SaidLine, LineFault>
     ensures { Gives (λ line. line) result (read_said (left fields.entry)) }
@@ -36,13 +57,7 @@ fn read_said(alloc: Global, fields: Option<&str>) -> Result<SaidLine, LineFault>
     let epoch = number_in(epoch)?;
     let n = number_in(n)?;
     let state = read_mark(state)?;
-    Ok(SaidLine {
-        epoch,
-        n,
-        state,
-        to: Text::from_str(alloc, to)?,
-        text: Text::from_str(alloc, text)?,
-    })
+    Ok(said_line(alloc, epoch, n, state, to, text)?)
 }
 
 #[tactic(auto, unfolding(crate::specs::LineReading::read_refused_why))]

@@ -4,6 +4,7 @@ ghost use Rattle.cmd_report.specs.ReportText.{text_of};
 ghost use Rattle.cmd_report.specs.Reports.{ReportView};
 ghost use Rattle.cmd_report_reader.specs.Readable.{IsReadable};
 ghost use Rattle.cmd_report_reader.specs.Reading.{read_first, read_lines, read_next, report_reading};
+ghost use Rattle.cmd_report_reader.specs.SoFar.{report_of};
 ghost use Rattle.cmd_schedule.specs.Gives.{Gives, ReadsAs};
 ghost use Rattle.cmd_schedule.specs.Reading.{pieces_of};
 ghost use Rattle.cmd_schedule.specs.declared.fault.ScheduleFault.TheVariants.{NoMemory as WantOfMemory};
@@ -25,15 +26,41 @@ fn read_first(alloc: Global, line: &[u8], ended: bool) -> Result<SoFar, LineFaul
 
 /// With what one line more tells.
 #[tactic(auto, unfolding(crate::specs::Reading::read_next))]
-fn read_next(alloc: Global, so_far: SoFar, line: &[u8], ended: bool) -> Result<SoFar, LineFault>
-    ensures { Gives (λ further. further) result (read_next so_far (record { bytes = line.now; ended = ended })) }
+fn read_next(alloc: Global, so_far: &mut SoFar, line: &[u8], ended: bool) -> Result<(), LineFault>
+    ensures { Gives (λ _. so_far.new) result (read_next so_far.old (record { bytes = line.now; ended = ended })) }
 {
     let line = spelled(line, ended)?;
     if so_far.has_ended() {
         return Err(LineFault::Reason(LineWhy::Word));
     }
-    let line = read_words(alloc, so_far.version, line)?;
+    let line = read_words(alloc, so_far.version(), line)?;
     so_far.add_line(line)
+}
+
+/// With what the lines from line 2 on tell, the last of which ends the report.
+#[tactic(auto, unfolding(crate::specs::SoFar::whole_report))]
+fn add_lines(alloc: Global, so_far: &mut SoFar, text: &[u8]) -> Result<(), ScheduleFault>
+    ensures { ReadsAs (λ _. report_of so_far.new) result (read_lines 2 so_far.old (pieces_of text.now)) }
+{
+    let mut number = 2;
+    let mut rest = text;
+    while !rest.is_empty() {
+        let (line, ended, after) = first_line(rest);
+        match read_next(alloc, so_far, line, ended) {
+            Ok(()) => {}
+            Err(LineFault::Reason(why)) => return Err(ScheduleFault::BadLine { line: number, why }),
+            Err(LineFault::NoMemory) => return Err(ScheduleFault::NoMemory),
+        }
+        number += 1;
+        rest = after;
+    }
+    if !so_far.has_ended() {
+        return Err(ScheduleFault::BadLine {
+            line: number,
+            why: LineWhy::Ending,
+        });
+    }
+    Ok(())
 }
 
 /// The lines from line 2 on.
@@ -41,23 +68,8 @@ fn read_lines(alloc: Global, begun: SoFar, text: &[u8]) -> Result<Report, Schedu
     ensures { ReadsAs (λ report. report) result (read_lines 2 begun (pieces_of text.now)) }
 {
     let mut so_far = begun;
-    let mut number = 2;
-    let mut rest = text;
-    while !rest.is_empty() {
-        let (line, ended, after) = first_line(rest);
-        so_far = match read_next(alloc, so_far, line, ended) {
-            Ok(further) => further,
-            Err(LineFault::Reason(why)) => return Err(ScheduleFault::BadLine { line: number, why }),
-            Err(LineFault::NoMemory) => return Err(ScheduleFault::NoMemory),
-        };
-        number += 1;
-        rest = after;
-    }
-    match so_far.into_report() {
-        Ok(report) => Ok(report),
-        Err(LineFault::Reason(why)) => Err(ScheduleFault::BadLine { line: number, why }),
-        Err(LineFault::NoMemory) => Err(ScheduleFault::NoMemory),
-    }
+    add_lines(alloc, &mut so_far, text)?;
+    Ok(so_far.into_report()?)
 }
 
 /// What reading answers, unless memory runs out.
