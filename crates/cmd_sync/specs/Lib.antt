@@ -4,7 +4,7 @@ pub use Rattle.im_jid.specs.Normal
 pub use Rattle.cmd_schedule.specs.Grammar
 pub use Rattle.cmd_schedule.specs.Reading as Lines
 pub use Rattle.cmd_report.specs.ReportText
-pub use Rattle.cmd_report.specs.Lines
+pub use Rattle.cmd_report.specs.Lines as ReportLines
 pub use Rattle.net_traits.specs.Links
 pub use Rattle.cl_core.specs.Feeds
 pub use Rattle.cl_core.specs.Values
