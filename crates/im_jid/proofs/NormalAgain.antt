@@ -30,13 +30,13 @@ record AreParts (local : Option (List ℕ)) (domain : List ℕ) (resource : Opti
 
 -- ---- the bare text
 
-record IsBareCut (local : Option (List ℕ)) (domain : List ℕ) : Type 0 where
-  uncut : list_any is_slash (local_text local ++ domain) ≡ false
-  start : domain_start (local_text local ++ domain) ≡ length (local_text local)
-  front : local_of_bare (local_text local ++ domain) ≡ local
-  back : domain_of_bare (local_text local ++ domain) ≡ domain
+pub record IsBareCut (local : Option (List ℕ)) (domain : List ℕ) : Type 0 where
+  pub uncut : list_any is_slash (local_text local ++ domain) ≡ false
+  pub start : domain_start (local_text local ++ domain) ≡ length (local_text local)
+  pub front : local_of_bare (local_text local ++ domain) ≡ local
+  pub back : domain_of_bare (local_text local ++ domain) ≡ domain
 
-bare_cut : (local : Option (List ℕ)) (domain : List ℕ) → IfSome local IsLocalForm → IsDomainForm domain → IsBareCut local domain
+pub bare_cut : (local : Option (List ℕ)) (domain : List ℕ) → IfSome local IsLocalForm → IsDomainForm domain → IsBareCut local domain
 bare_cut None domain l d =
     let none = domain_uncut domain d in
     let cut = cut_domain domain none.1 in
@@ -85,16 +85,16 @@ whole_again local domain resource h =
 -- ---- where a normal form comes from
 
 -- a normal form, as the texts of its parts
-record IsFrom (text out : List ℕ) : Type 0 where
-  local : List ℕ
-  domain : List ℕ
-  resource : List ℕ
-  local_is : local_front (local_of text) ≡ Ok local
-  domain_is : domain_form (domain_of text) ≡ Ok domain
-  resource_is : resource_back (resource_of text) ≡ Ok resource
-  joined_is : local ++ domain ++ resource ≡ out
+pub record IsFrom (text out : List ℕ) : Type 0 where
+  pub local : List ℕ
+  pub domain : List ℕ
+  pub resource : List ℕ
+  pub local_is : local_front (local_of text) ≡ Ok local
+  pub domain_is : domain_form (domain_of text) ≡ Ok domain
+  pub resource_is : resource_back (resource_of text) ≡ Ok resource
+  pub joined_is : local ++ domain ++ resource ≡ out
 
-joined_from : (text out : List ℕ) (local domain resource : Result (List ℕ) JidFault) → local_front (local_of text) ≡ local → domain_form (domain_of text) ≡ domain → resource_back (resource_of text) ≡ resource → joined local domain resource ≡ Ok out → IsFrom text out
+pub joined_from : (text out : List ℕ) (local domain resource : Result (List ℕ) JidFault) → local_front (local_of text) ≡ local → domain_form (domain_of text) ≡ domain → resource_back (resource_of text) ≡ resource → joined local domain resource ≡ Ok out → IsFrom text out
 joined_from text out (Err e) domain resource l d r is = cc
 joined_from text out (Ok local) (Err e) resource l d r is = cc
 joined_from text out (Ok local) (Ok domain) (Err e) l d r is = cc
@@ -309,7 +309,7 @@ normal_is_utf8 text out is =
     subst IsUtf8 h.joined_is
     (IsUtf8-append (h.local ++ h.domain) h.resource (IsUtf8-append h.local h.domain local domain) (resource_back_utf8 (resource_of text) h.resource h.resource_is))
 
-bare_stays : (text : List ℕ) → normal text ≡ Ok text → normal (bare_of text) ≡ Ok (bare_of text)
+pub bare_stays : (text : List ℕ) → normal text ≡ Ok text → normal (bare_of text) ≡ Ok (bare_of text)
 bare_stays text is = normal_bare text text (normal_is_utf8 text text is) is
 
 pub indexed_bare : (text : List ℕ) (domain_at bare_end : ℕ) → IsIndexed text domain_at bare_end → IsIndexed (bare_of text) domain_at bare_end

@@ -72,7 +72,7 @@ lower_lower : (xs : List ℕ) → list_any is_ascii_uppercase (map to_ascii_lowe
 lower_lower [] = refl
 lower_lower (x ∷ xs) = or_from _ _ (uppercase-lower x) (lower_lower xs)
 
-lower_kept : (xs : List ℕ) → list_any is_ascii_uppercase xs ≡ false → map to_ascii_lowercase xs ≡ xs
+pub lower_kept : (xs : List ℕ) → list_any is_ascii_uppercase xs ≡ false → map to_ascii_lowercase xs ≡ xs
 lower_kept [] e = refl
 lower_kept (x ∷ xs) e =
     let parts = or_parts (is_ascii_uppercase x) (list_any is_ascii_uppercase xs) e in

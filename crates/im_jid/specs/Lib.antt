@@ -4,3 +4,4 @@ pub mod Forms
 pub mod Indexed
 pub mod Normal
 pub mod Plain
+pub mod Spellings

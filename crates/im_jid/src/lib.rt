@@ -6,8 +6,10 @@ mod address;
 mod fault;
 mod forms;
 mod laws;
+mod spellings;
 
 pub use address::Jid;
 pub use fault::JidFault;
 pub use forms::{domain_in_normal_form, local_in_normal_form, resource_in_normal_form};
-pub use laws::{normal_form_stays, normal_parts_stay, parts_are_joined};
+pub use laws::{normal_form_stays, normal_parts_stay, parts_are_joined, spellings_are_told};
+pub use spellings::spells_account;
