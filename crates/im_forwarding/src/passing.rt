@@ -37,55 +37,68 @@ pub struct Filed<'a> {
     pub number: Option<u64>,
 }
 
-// Whether something is written of a node: it is no id that somebody gave in the account's name, and no empty text.
-fn says_something(node: &Node, by: &str) -> bool
-    ensures { result ≡ not (says_nothing (without_ids by.now (node_view node.now))) }
+// Whether something is written of a node: it is no id that a client may take for one of the account, and no empty text.
+fn says_something(alloc: Global, node: &Node, by: &str) -> Result<bool, NoMemory>
+    ensures { IfOk result (λ says. says ≡ not (says_nothing (without_ids by.now (node_view node.now)))) }
 {
     match node {
-        Node::Child(element) => !is_given_by(element, by),
-        Node::Text(text) => !text.as_str().is_empty(),
+        Node::Child(element) => Ok(!is_given_by(alloc, element, by)?),
+        Node::Text(text) => Ok(!text.as_str().is_empty()),
     }
 }
 
 // Whether nothing is written of nodes.
 #[tactic(auto, using(crate::proofs::KeptNodes::kept_says))]
-fn says_nothing(nodes: &[Node], by: &str) -> bool
-    ensures { result ≡ says_nothing (without_ids by.now (nodes_view nodes.now)) }
+fn says_nothing(alloc: Global, nodes: &[Node], by: &str) -> Result<bool, NoMemory>
+    ensures { IfOk result (λ nothing. nothing ≡ says_nothing (without_ids by.now (nodes_view nodes.now))) }
 {
     for node in nodes {
-        if says_something(node, by) {
-            return false;
+        if says_something(alloc, node, by)? {
+            return Ok(false);
         }
     }
-    true
+    Ok(true)
 }
 
 // Whether a message with this payload has nothing inside.
-fn has_nothing(payload: &[Node], filed: &Filed<'_>) -> bool
-    ensures { result ≡ has_nothing (passed_nodes filed.now.by.now filed.now.number (nodes_view payload.now)) }
+fn has_nothing(alloc: Global, payload: &[Node], filed: &Filed<'_>) -> Result<bool, NoMemory>
+    ensures { IfOk result (λ nothing. nothing ≡ has_nothing (passed_nodes filed.now.by.now filed.now.number (nodes_view payload.now))) }
 {
-    filed.number.is_none() && says_nothing(payload, filed.by)
+    if filed.number.is_some() {
+        return Ok(false);
+    }
+    says_nothing(alloc, payload, filed.by)
 }
 
-// Writes a node that is no id by an address.
-fn write_kept_node(out: &mut Bytes, node: &Node, by: &str) -> Result<(), NoMemory>
+// Writes a node that no client may take for an id of the account.
+fn write_kept_node(
+    alloc: Global,
+    out: &mut Bytes,
+    node: &Node,
+    by: &str,
+) -> Result<(), NoMemory>
     ensures { OnOk result (out.new.items ≡ out.old.items ++ kept_text by.now (node_view node.now)) }
 {
     if let Node::Child(element) = node
-        && is_given_by(element, by)
+        && is_given_by(alloc, element, by)?
     {
         return Ok(());
     }
     write_nodes(out, CLIENT, slice::from_ref(node))
 }
 
-// Writes the nodes of a payload that are no ids by an address. None of them is copied.
+// Writes the nodes of a payload but for the ids that a client may take for ones of the account. None of them is copied.
 #[tactic(auto, using(crate::proofs::KeptNodes::kept_text_joined))]
-fn write_kept(out: &mut Bytes, payload: &[Node], by: &str) -> Result<(), NoMemory>
+fn write_kept(
+    alloc: Global,
+    out: &mut Bytes,
+    payload: &[Node],
+    by: &str,
+) -> Result<(), NoMemory>
     ensures { OnOk result (out.new.items ≡ out.old.items ++ kept_text by.now (nodes_view payload.now)) }
 {
     for node in payload {
-        write_kept_node(out, node, by)?;
+        write_kept_node(alloc, out, node, by)?;
     }
     Ok(())
 }
@@ -147,18 +160,19 @@ pub(crate) fn write_passed(
 {
     let head = passed_head(alloc, message)?;
     let payload = payload_of(message.message);
-    if has_nothing(payload, filed) {
+    if has_nothing(alloc, payload, filed)? {
         return write_element(alloc, out, default, head);
     }
     open_element(out, default, &head)?;
-    write_kept(out, payload, filed.by)?;
+    write_kept(alloc, out, payload, filed.by)?;
     write_id(alloc, out, filed)?;
     close_message(out)
 }
 
 /// A message as all sessions of an account get it: from and to the addresses that it goes on with; without any
-/// `stanza-id` that somebody else gave in the account's name (XEP-0359, section 5); and, where the account's archive has
-/// it, with the id of its entry after all else (XEP-0359, section 3.1). No tree and no text of the payload is copied.
+/// `stanza-id` that somebody else gave in the account's name, however that is spelled (XEP-0359, section 5); and, where
+/// the account's archive has it, with the id of its entry after all else (XEP-0359, section 3.1). No tree and no text of
+/// the payload is copied.
 pub fn passed(alloc: Global, message: &Addressed<'_>, filed: &Filed<'_>) -> Result<Bytes, NoMemory>
     ensures { IfOk result (λ b. b.items ≡ passed_text filed.now.by.now filed.now.number (addressed_view message.now)) }
 {

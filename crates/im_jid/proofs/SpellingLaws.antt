@@ -42,7 +42,7 @@ kept_text-ascii : (part : List ℕ) → IsAscii part → kept_text part ≡ part
 kept_text-ascii part ascii =
     all_kept (chars part) (All-chars part ascii) ∙ ap (flat_map encode_utf8) (chars-IsAscii part ascii) ∙ encodes-IsAscii part ascii
 
-local_key-ascii : (part : List ℕ) → IsAscii part → local_key part ≡ map to_ascii_lowercase part
+pub local_key-ascii : (part : List ℕ) → IsAscii part → local_key part ≡ map to_ascii_lowercase part
 local_key-ascii part ascii =
     let small = All-chars part ascii in
     ap (λ text. compatibility_key (chars text)) (kept_text-ascii part ascii) ∙ compatibility_key-ascii (chars part) small
@@ -53,7 +53,7 @@ local_key-ascii part ascii =
 local_byte_ascii : (b : ℕ) → is_local_byte b ≡ true → b < 128
 local_byte_ascii b e = grind (arith, nat_tests)
 
-given_ascii : (given : List ℕ) → list_all is_local_byte given ≡ true → IsAscii given
+pub given_ascii : (given : List ℕ) → list_all is_local_byte given ≡ true → IsAscii given
 given_ascii given valid =
     let each = AllPass-from_list_all is_local_byte given valid in IsAscii-from_all given (λ k d lt. local_byte_ascii _ (each k d lt))
 

@@ -1,4 +1,2 @@
--- steps of the code
-pub mod KeptNodes
 -- worked values
 mod Worked

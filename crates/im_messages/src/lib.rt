@@ -4,8 +4,6 @@
 
 mod bodies;
 mod entries;
-mod ids;
 
 pub use bodies::bodies_of;
 pub use entries::message_entry;
-pub use ids::without_ids;
