@@ -158,9 +158,10 @@ pub(crate) fn write_passed(
 ) -> Result<(), NoMemory>
     ensures { OnOk result (out.new.items ≡ out.old.items ++ written default.now (passed_elem filed.now.by.now filed.now.number (addressed_view message.now))) }
 {
-    let head = passed_head(alloc, message)?;
     let payload = payload_of(message.message);
-    if has_nothing(alloc, payload, filed)? {
+    let nothing = has_nothing(alloc, payload, filed)?;
+    let head = passed_head(alloc, message)?;
+    if nothing {
         return write_element(alloc, out, default, head);
     }
     open_element(out, default, &head)?;

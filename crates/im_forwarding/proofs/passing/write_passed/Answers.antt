@@ -9,12 +9,12 @@ use Rattle.xml_trees.specs.Trees.{attributes_of, name_of, namespace_of}
 use Rattle.xml_writer.specs.Canon.{has_nothing, written, written_end_tag, written_nodes, written_start_tag}
 use Rattle.im_forwarding.proofs.passing.write_passed.Goals as goal
 
-pub returns-then-has_nothing : goal.returns-then-has_nothing
-returns-then-has_nothing c =
+pub returns-then-nothing : goal.returns-then-nothing
+returns-then-nothing c =
     let by = c.args.filed.now.by.now in
     let number = c.args.filed.now.number in
     let m = addressed_view c.args.message.now in
-    let none : has_nothing (passed_nodes by number m.payload) ≡ true = sym (c.if-has_nothing.ensures ∙ ap (λ ks. has_nothing (passed_nodes by number ks)) c.payload_of-payload.ensures) in
+    let none : has_nothing (passed_nodes by number m.payload) ≡ true = sym (sym c.if-nothing.true ∙ c.in_ok-nothing.ensures ∙ ap (λ ks. has_nothing (passed_nodes by number ks)) c.payload_of-payload.ensures) in
     IfOk-weaker c.write_element.result _ _
     (λ u e. e ∙ ap (λ x. c.args.out.now.items ++ written c.args.default.now x) (c.in_ok-head.ensures ∙ sym (nothing_passed by number m none)))
     c.write_element.ensures
@@ -25,7 +25,7 @@ returns c =
     let by = c.args.filed.now.by.now in
     let number = c.args.filed.now.number in
     let m = addressed_view c.args.message.now in
-    let some : has_nothing (passed_nodes by number m.payload) ≡ false = sym (c.if-has_nothing.ensures ∙ ap (λ ks. has_nothing (passed_nodes by number ks)) c.payload_of-payload.ensures) in
+    let some : has_nothing (passed_nodes by number m.payload) ≡ false = sym (sym c.if-nothing.false ∙ c.in_ok-nothing.ensures ∙ ap (λ ks. has_nothing (passed_nodes by number ks)) c.payload_of-payload.ensures) in
     let before = c.args.out.now.items in
     let opened = c.open_element.new.out.items in
     let first = c.in_ok-open_element.ensures ∙ ap (λ h. before ++ written_start_tag default (namespace_of h) (name_of h) (attributes_of h)) c.in_ok-head.ensures in
