@@ -8,6 +8,7 @@ use Rattle.mam_log.specs.declared.log_entry.LogEntry.{LogEntry}
 use Rattle.mam_pages.specs.Cuts.{CutView}
 use Rattle.mam_pages.specs.Kept.{last_number}
 use Rattle.mam_pages.specs.PageOf.{cut_out}
+use Rattle.mam_pages.specs.declared.query.Place.TheVariants.{First}
 
 -- the number of a log's last entry, or 0 where it has none
 abbrev pub last_logged : List LogEntry → ℕ
@@ -35,6 +36,6 @@ abbrev pub is_purged : ℕ → ℕ → List EntryView → Bool
 is_purged zero last kept = false
 is_purged (suc n) last kept = nat_le (suc n) (purged last kept)
 
--- what the archive answers to it, behind number n or, where n was purged, from its first entry on
+-- what the archive answers to it, behind number n or, where n was purged, from its first entry on: forwards either way
 abbrev pub cut_at : ℕ → ℕ → ℕ → List EntryView → CutView
-cut_at n most last kept = cut_out kept most (kept_behind n last kept) (take most (kept_behind n last kept))
+cut_at n most last kept = cut_out First kept most (kept_behind n last kept) (take most (kept_behind n last kept))

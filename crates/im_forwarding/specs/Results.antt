@@ -1,12 +1,12 @@
 -- What an archive answers to a query: its entries one by one, and the end of a page (XEP-0313, sections 4.2 and 4.3).
-use Rattle.std.specs.Prelude.{ℕ, Bool, true, false, List, [], ◌∷◌, Some, None, codes}
+use Rattle.std.specs.Prelude.{ℕ, Bool, true, false, List, [], ◌∷◌, Some, None, codes, if◌then◌else◌}
 use Rattle.mam_archive.specs.Entries.{EntryView}
 use Rattle.mam_archive.specs.Ids.{id_of}
 use Rattle.mam_archive.specs.declared.entry.Body.{Body}
 use Rattle.im_extensions.specs.Forwarding.{forwarded_elem}
 use Rattle.im_extensions.specs.Ids.{origin_id_elem}
 use Rattle.im_forwarding.specs.declared.results.Asker.{Asker}
-use Rattle.im_mam.specs.ArchiveAnswers.{fin_elem, result_elem}
+use Rattle.im_mam.specs.ArchiveAnswers.{fin_elem, fin_elem_without_index, result_elem}
 use Rattle.mam_pages.specs.Cuts.{CutView, fin_of}
 use Rattle.im_replies.specs.Requests.{EnvelopeView, result_item}
 use Rattle.im_stamp.specs.Dates.{stamp_at}
@@ -79,8 +79,13 @@ entry_text a e = written_item (entry_item a e)
 
 -- ---- the end of a page (XEP-0313, section 4.3; XEP-0059, section 2.6)
 
+-- The place of the first entry isn't told where the page was asked for backwards: it need not be, and a widely used client
+-- ends its walk backwards where this place and the page's results add up to `count`.
+abbrev pub end_elem : CutView → Elem
+end_elem cut = if cut.backward then fin_elem_without_index (fin_of cut) else fin_elem (fin_of cut)
+
 abbrev pub fin_item : EnvelopeView → CutView → ItemOut
-fin_item a cut = result_item a (child (fin_elem (fin_of cut)) no_nodes)
+fin_item a cut = result_item a (child (end_elem cut) no_nodes)
 
 abbrev pub fin_text : EnvelopeView → CutView → List ℕ
 fin_text a cut = written_item (fin_item a cut)

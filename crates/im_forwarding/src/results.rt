@@ -2,7 +2,7 @@
 ghost use Rattle.std.specs.Prelude.{◌≡◌, [], ◌∷◌, ◌++◌, codes, IfOk, OnOk};
 ghost use Rattle.mam_archive.specs.Entries.{entry_with};
 ghost use Rattle.mam_archive.specs.Ids.{id_of};
-ghost use Rattle.im_forwarding.specs.Results.{archived_elem, archived_kind, archived_message, archived_result, asker_view, body_elem, entry_nodes, entry_text, fin_text, origin_node};
+ghost use Rattle.im_forwarding.specs.Results.{archived_elem, archived_kind, archived_message, archived_result, asker_view, body_elem, end_elem, entry_nodes, entry_text, fin_text, origin_node};
 ghost use Rattle.im_payload.specs.Names.{archive};
 ghost use Rattle.im_replies.specs.Requests.{envelope_view};
 ghost use Rattle.im_stanza.specs.Names.{client_ns, xml_ns};
@@ -17,7 +17,7 @@ use crate::writing::{
     write_element,
 };
 use base_io::{Bytes, NoMemory};
-use im_mam::fin_tree;
+use im_mam::{fin_tree, fin_tree_without_index};
 use im_payload::{ARCHIVE, FORWARDING, STANZA_IDS, push_unless_empty, push_value};
 use im_replies::{Envelope, result_of};
 use im_stanza::{CLIENT, MessageKind, StanzaAttrs, XML, stanza_element};
@@ -25,7 +25,7 @@ use mam_archive::{ArchivedMessage, Body, Entry, id_of_number};
 use mam_pages::PageCut;
 use std::alloc::Global;
 use xml_tokens::append_text;
-use xml_trees::{Attr, Element, Nodes};
+use xml_trees::{Attr, Element, Nodes, Tree};
 use xml_writer::write_end;
 
 /// Who asked an archive: the bare address of the account whose archive it is, the full address of the session, and the id
@@ -180,12 +180,24 @@ pub fn archived(alloc: Global, asker: &Asker<'_>, entry: &Entry) -> Result<Bytes
     Ok(out)
 }
 
+// The end of a page, with the place of its first entry unless the page was asked for backwards.
+fn end_tree(alloc: Global, cut: &PageCut) -> Result<Tree, NoMemory>
+    ensures { IfOk result (λ tree. tree ≡ end_elem cut.now) }
+{
+    let fin = cut.fin(alloc)?;
+    if cut.backward {
+        fin_tree_without_index(alloc, &fin)
+    } else {
+        fin_tree(alloc, &fin)
+    }
+}
+
 /// The end of a page, which answers the query (XEP-0313, section 4.3; XEP-0059, section 2.6): whether nothing remains, the
-/// ids of the page's first and last entry, the place of the first, and how many entries match.
+/// ids of the page's first and last entry, the place of the first unless the page was asked for backwards, and how many
+/// entries match.
 pub fn page_end(alloc: Global, envelope: &Envelope<'_>, cut: &PageCut) -> Result<Bytes, NoMemory>
     ensures { IfOk result (λ b. b.items ≡ fin_text (envelope_view envelope.now) cut.now) }
 {
-    let fin = cut.fin(alloc)?;
-    let tree = fin_tree(alloc, &fin)?;
+    let tree = end_tree(alloc, cut)?;
     result_of(alloc, envelope, tree.into_element())
 }

@@ -5,7 +5,7 @@ use Rattle.im_payload.proofs.CheckLemmas.{right_refused, right_value, same_value
 use Rattle.im_payload.proofs.Numbers.{spelled_fits, written_number}
 use Rattle.im_payload.proofs.WhereLemmas.{attr_stays, more_stays}
 use Rattle.im_payload.proofs.Written.{behind_text}
-use Rattle.im_mam.specs.ArchiveAnswers.{IsFin, fin_checks, fin_elem, first_item_where, index_in, is_fin, number_or_zero, page_elem}
+use Rattle.im_mam.specs.ArchiveAnswers.{IsFin, fin_checks, fin_elem, fin_elem_with, fin_elem_without_index, first_item_where, index_in, is_fin, number_or_zero, page_elem}
 use Rattle.im_payload.specs.Names.{archive, result_sets}
 use Rattle.im_payload.specs.Checks.{IsExactBy, first_wrong}
 use Rattle.im_mam.specs.ResultSets.{elem_text, set_child, set_item, set_item_where, set_text}
@@ -14,7 +14,6 @@ use Rattle.im_stanza.specs.Stanzas.{attr_named}
 use Rattle.im_payload.specs.Writing.{flag_text}
 use Rattle.mam_pages.specs.declared.fin.Fin.{Fin}
 use Rattle.im_payload.specs.declared.fault.Field.TheVariants as field
-use Rattle.xml_trees.specs.Attributes.{attribute}
 use Rattle.xml_trees.specs.Tidied.{tidied}
 use Rattle.xml_trees.specs.Trees.{Elem, element, no_nodes, child, joined}
 use Rattle.xml_trees.proofs.TidyReads.{text_of-text_node}
@@ -23,25 +22,28 @@ use Rattle.im_stanza.specs.Written.{attr_where}
 
 -- ---- what is written is a tree
 
-first_stays : (first : Option (List ℕ)) (index : ℕ) → option_map tidied (first_item_where first index) ≡ first_item_where first index
+first_stays : (first : Option (List ℕ)) (index : Option ℕ) → option_map tidied (first_item_where first index) ≡ first_item_where first index
 first_stays None index = refl
-first_stays (Some id) index = ap Some (λ i. element result_sets (codes "first") (attribute [] (codes "index") (decimal index) ∷ []) (behind_text id i))
+first_stays (Some id) index = ap Some (λ i. element result_sets (codes "first") (attr_stays [] (codes "index") (option_map decimal index) i) (behind_text id i))
 
 item_stays : (name : List ℕ) (given : Option (List ℕ)) → option_map tidied (set_item_where name given) ≡ set_item_where name given
 item_stays name None = refl
 item_stays name (Some t) = ap Some (λ i. element result_sets name [] (behind_text t i))
 
-page_stays : (v : Fin) → tidied (page_elem v) ≡ page_elem v
-page_stays v =
-    let first = first_item_where v.first v.first_index in
+page_stays : (index : Option ℕ) (v : Fin) → tidied (page_elem index v) ≡ page_elem index v
+page_stays index v =
+    let first = first_item_where v.first index in
     let last = set_item_where (codes "last") v.last in
     let count = Some (set_item (codes "count") (decimal v.count)) in
-    let two = more_stays (trees_where first) last (more_stays no_nodes first refl (first_stays v.first v.first_index)) (item_stays (codes "last") v.last) in
+    let two = more_stays (trees_where first) last (more_stays no_nodes first refl (first_stays v.first index)) (item_stays (codes "last") v.last) in
     let all = more_stays (joined (trees_where first) (trees_where last)) count two (item_stays (codes "count") (Some (decimal v.count))) in
     ap (element result_sets (codes "set") []) all
 
+pub fin_with_stays : (index : Option ℕ) (v : Fin) → tidied (fin_elem_with index v) ≡ fin_elem_with index v
+fin_with_stays index v = λ i. element archive (codes "fin") (attr_stays [] (codes "complete") (flag_text v.complete) i) (child (page_stays index v i) no_nodes)
+
 pub fin_stays : (v : Fin) → tidied (fin_elem v) ≡ fin_elem v
-fin_stays v = λ i. element archive (codes "fin") (attr_stays [] (codes "complete") (flag_text v.complete) i) (child (page_stays v i) no_nodes)
+fin_stays v = fin_with_stays (Some v.first_index) v
 
 -- ---- and read back
 
@@ -122,3 +124,13 @@ fin_exact = record {
   refused = λ e v fault is. right_refused (is_fin e) (fin_checks e) fault is.named (fin_right e v is);
   read_back = λ e written v tree is w. subst (λ t. IsFin t v) (sym w) (fin_again e v is);
 }
+
+-- ---- without the place of the first item
+
+pub no_index_told : (v : Fin) → index_in (fin_elem_without_index v) ≡ None
+no_index_told v = by v.complete v.first v.last v.count
+  where
+    by : (complete : Bool) (first last : Option (List ℕ)) (count : ℕ) → index_in (fin_elem_without_index (record { complete = complete; first = first; first_index = 0; last = last; count = count })) ≡ None
+    by complete None None count = refl
+    by complete None (Some t) count = refl
+    by complete (Some id) last count = refl

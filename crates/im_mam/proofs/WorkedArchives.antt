@@ -2,7 +2,7 @@
 -- XEP-0297 and XEP-0280.
 use Rattle.std.proofs.Common.{◌≡◌, true, false, [], ◌∷◌, codes, Some, None, refl}
 use Rattle.std.specs.Fmt.{decimal}
-use Rattle.im_mam.specs.ArchiveAnswers.{fin_checks, fin_elem, number_or_zero, result_checks}
+use Rattle.im_mam.specs.ArchiveAnswers.{fin_checks, fin_elem, fin_elem_without_index, number_or_zero, result_checks}
 use Rattle.im_payload.specs.Names.{archive, data_forms, result_sets}
 use Rattle.im_mam.specs.ArchiveQuery.{max_in, place_in, query_checks}
 use Rattle.im_extensions.specs.Carbons.{carbon_checks, is_sent}
@@ -107,6 +107,14 @@ end_of_page : fin_elem (record { complete = true; first = Some (codes "28482-987
     (child (element result_sets (codes "last") [] (text (codes "09af3-cc343-b409f") no_nodes)) (child (set_item (codes "count") (decimal 20)) no_nodes))
     )) no_nodes)
 end_of_page = refl
+
+-- <fin><set><first>28482-98726-73623</first><last>09af3-cc343-b409f</last><count>20</count></set></fin>
+end_without_index : fin_elem_without_index (record { complete = false; first = Some (codes "28482-98726-73623"); first_index = 18; last = Some (codes "09af3-cc343-b409f"); count = 20 })
+    ≡ element archive (codes "fin") [] (child (element result_sets (codes "set") [] (
+    child (element result_sets (codes "first") [] (text (codes "28482-98726-73623") no_nodes))
+    (child (element result_sets (codes "last") [] (text (codes "09af3-cc343-b409f") no_nodes)) (child (set_item (codes "count") (decimal 20)) no_nodes))
+    )) no_nodes)
+end_without_index = refl
 
 -- the set of an empty page has its count alone
 empty_page : fin_elem (record { complete = true; first = None; first_index = 0; last = None; count = 0 })

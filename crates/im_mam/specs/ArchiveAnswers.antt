@@ -45,22 +45,30 @@ pub record IsFin (e : Elem) (v : Fin) : Type 0 where
 abbrev pub fin_checks : Elem → List Check
 fin_checks e = (is_some (number_or_zero (index_in e)), field.Count) ∷ (is_some (number_or_zero (set_text (codes "count") e)), field.Count) ∷ []
 
--- what is written: the place of the first item only where there is one
-abbrev pub first_item : ℕ → List ℕ → Elem
-first_item index id = element result_sets (codes "first") (attribute [] (codes "index") (decimal index) ∷ []) (text_node id)
+-- what is written: the place of the first item only where there is one, and where it is told
+abbrev pub first_item : Option ℕ → List ℕ → Elem
+first_item index id = element result_sets (codes "first") (attr_where [] (codes "index") (option_map decimal index)) (text_node id)
 
-abbrev pub first_item_where : Option (List ℕ) → ℕ → Option Elem
+abbrev pub first_item_where : Option (List ℕ) → Option ℕ → Option Elem
 first_item_where first index = option_map (first_item index) first
 
-abbrev pub page_items : Option (List ℕ) → ℕ → Option (List ℕ) → ℕ → Nodes
+abbrev pub page_items : Option (List ℕ) → Option ℕ → Option (List ℕ) → ℕ → Nodes
 page_items first index last count =
     joined (joined (trees_where (first_item_where first index)) (trees_where (set_item_where (codes "last") last))) (child (set_item (codes "count") (decimal count)) no_nodes)
 
-abbrev pub page_elem : Fin → Elem
-page_elem v = element result_sets (codes "set") [] (page_items v.first v.first_index v.last v.count)
+abbrev pub page_elem : Option ℕ → Fin → Elem
+page_elem index v = element result_sets (codes "set") [] (page_items v.first index v.last v.count)
+
+-- the end of a page, with this as the place of its first item, or without it
+abbrev pub fin_elem_with : Option ℕ → Fin → Elem
+fin_elem_with index v = element archive (codes "fin") (attr_where [] (codes "complete") (flag_text v.complete)) (child (page_elem index v) no_nodes)
 
 abbrev pub fin_elem : Fin → Elem
-fin_elem v = element archive (codes "fin") (attr_where [] (codes "complete") (flag_text v.complete)) (child (page_elem v) no_nodes)
+fin_elem v = fin_elem_with (Some v.first_index) v
+
+-- XEP-0059 section 2.6 leaves it to the server whether it tells the place
+abbrev pub fin_elem_without_index : Fin → Elem
+fin_elem_without_index v = fin_elem_with None v
 
 -- ---- `result`: an archived message (XEP-0313, section 4.2)
 

@@ -1,7 +1,7 @@
 //! What an archive answers (XEP-0313).
 ghost use Rattle.std.specs.Prelude.{◌≡◌, None, Some, true, IfErr, IfOk, OnErr, OnOk};
 ghost use Rattle.std.specs.Option.{option_copied};
-ghost use Rattle.im_mam.specs.ArchiveAnswers.{IsFin, IsMamResult, WritesMamResult, fin_checks, fin_elem, first_item_where, index_in, is_fin, is_result, number_or_zero, page_elem, result_checks};
+ghost use Rattle.im_mam.specs.ArchiveAnswers.{IsFin, IsMamResult, WritesMamResult, fin_checks, fin_elem, fin_elem_with, fin_elem_without_index, first_item, first_item_where, index_in, is_fin, is_result, number_or_zero, page_elem, result_checks};
 ghost use Rattle.im_payload.specs.Checks.{IsFirstWrong};
 ghost use Rattle.im_payload.specs.Faults.{IsFault};
 ghost use Rattle.xml_trees.specs.Trees.{with_nodes};
@@ -43,13 +43,25 @@ fn index_in(element: &Element) -> Option<&str>
     }
 }
 
+// The item `first`, with the place of what it names, where that is given.
+fn first_element(alloc: Global, id: &str, index: Option<u64>) -> Result<Element, NoMemory>
+    ensures { IfOk result (λ e. elem_view e ≡ first_item index id.now) }
+{
+    let id = Text::from_str(alloc, id)?;
+    let mut item = text_element(alloc, RESULT_SETS, "first", id)?;
+    if let Some(index) = index {
+        push_number(alloc, &mut item, "index", index)?;
+    }
+    Ok(item)
+}
+
 // Adds the item `first` where there is one.
 #[tactic(auto, using(im_payload::proofs::WhereLemmas::nothing_added, im_payload::proofs::WhereLemmas::one_added))]
 fn push_first(
     alloc: Global,
     set: &mut Element,
     first: Option<&str>,
-    index: u64,
+    index: Option<u64>,
 ) -> Result<(), NoMemory>
     ensures ok { OnOk result (elem_view set.new ≡ with_nodes (elem_view set.old) (trees_where (first_item_where (option_copied first.entry) index))) }
     ensures err { OnErr result (elem_view set.new ≡ elem_view set.old) }
@@ -57,19 +69,16 @@ fn push_first(
     let Some(id) = first else {
         return Ok(());
     };
-    let id = Text::from_str(alloc, id)?;
-    let mut item = text_element(alloc, RESULT_SETS, "first", id)?;
-    push_number(alloc, &mut item, "index", index)?;
-    set.push_child(item)?;
+    set.push_child(first_element(alloc, id, index)?)?;
     Ok(())
 }
 
-// The set of a page's end.
-fn page_element(alloc: Global, fin: &Fin) -> Result<Element, NoMemory>
-    ensures { IfOk result (λ e. elem_view e ≡ page_elem fin.now) }
+// The set of a page's end, with the place of its first item, where that is given.
+fn page_element(alloc: Global, fin: &Fin, index: Option<u64>) -> Result<Element, NoMemory>
+    ensures { IfOk result (λ e. elem_view e ≡ page_elem index fin.now) }
 {
     let mut set = set_element(alloc)?;
-    push_first(alloc, &mut set, text_where(&fin.first), fin.first_index)?;
+    push_first(alloc, &mut set, text_where(&fin.first), index)?;
     push_item(alloc, &mut set, "last", text_where(&fin.last))?;
     let count = fin.count.to_string(alloc)?;
     push_text_child(alloc, &mut set, RESULT_SETS, "count", &count)?;
@@ -108,17 +117,31 @@ pub fn read_fin_element(alloc: Global, element: &Element) -> Result<Fin, ExtFaul
     })
 }
 
-/// The end of a page as a tree. `complete` is left out where it is false, and the place of the first item where there is no
-/// first item, so that the set of an empty page has its count alone.
-#[tactic(auto, using(crate::proofs::FinLaws::fin_stays))]
-pub fn fin_tree(alloc: Global, fin: &Fin) -> Result<Tree, NoMemory>
-    ensures { IfOk result (λ tree. tree ≡ fin_elem fin.now) }
+// The end of a page as a tree, with the place of its first item, where that is given.
+#[tactic(auto, using(crate::proofs::FinLaws::fin_with_stays))]
+fn fin_tree_with(alloc: Global, fin: &Fin, index: Option<u64>) -> Result<Tree, NoMemory>
+    ensures { IfOk result (λ tree. tree ≡ fin_elem_with index fin.now) }
 {
-    let set = page_element(alloc, fin)?;
+    let set = page_element(alloc, fin, index)?;
     let mut element = Element::from_strs(alloc, ARCHIVE, "fin")?;
     push_flag(alloc, &mut element, "complete", fin.complete)?;
     element.push_child(set)?;
     Tree::of(alloc, element)
+}
+
+/// The end of a page as a tree. `complete` is left out where it is false, and the place of the first item where there is no
+/// first item, so that the set of an empty page has its count alone.
+pub fn fin_tree(alloc: Global, fin: &Fin) -> Result<Tree, NoMemory>
+    ensures { IfOk result (λ tree. tree ≡ fin_elem fin.now) }
+{
+    fin_tree_with(alloc, fin, Some(fin.first_index))
+}
+
+/// The same without the place of the first item (XEP-0059, section 2.6: it need not be told).
+pub fn fin_tree_without_index(alloc: Global, fin: &Fin) -> Result<Tree, NoMemory>
+    ensures { IfOk result (λ tree. tree ≡ fin_elem_without_index fin.now) }
+{
+    fin_tree_with(alloc, fin, None)
 }
 
 /// An archived message: the id of the query that it answers, which is empty where there is none, its id in the archive, and

@@ -37,7 +37,7 @@ answered_at : (kept : Kept) (after : Option (List ℕ)) (most first last base lo
 answered_at kept after most first last base low known start one is =
     let all : numbers_behind (first - 1) (last - (first - 1)) ≡ numbers_of (matching kept (query_behind after most)) = matching_all kept (query_behind after most) first last known (λ e. refl) in
     let count = min (last - base) most in
-    let cut = view (numbers_behind base count) (place_by (first - 1) base count) (last - (first - 1)) (leb (last - base) most) in
+    let cut = view (numbers_behind base count) (place_by (first - 1) base count) (last - (first - 1)) (leb (last - base) most) false in
     let same : cut ≡ cut_by (record { after = low; through = last; most = most; backward = false }) (numbers_behind (first - 1) (last - (first - 1))) =
     cut_behind (record { after = low; through = last; most = most; backward = false }) (first - 1) (last - (first - 1)) base (last - base) count base (place_by (first - 1) base count) (numbers_behind base count) start (omega arith) refl refl refl refl refl in
     record { cut = cut; is = is ∙ ap Some (sym (same ∙ ap (cut_by (record { after = low; through = last; most = most; backward = false })) all)); numbers = refl; complete = refl }

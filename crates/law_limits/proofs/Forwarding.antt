@@ -1,5 +1,5 @@
 -- What a server answers from an archive (XEP-0313), and what an archive keeps.
-use Rattle.std.proofs.Common.{◌≡◌, ℕ, ◌+◌, ◌<◌, ◌≤◌, ◌^◌, Bool, true, false, List, [], ◌∷◌, Option, Some, None, IfSome, bytes_eq, codes, cond, map, refl, ap, arith, subst, sym, inl, inr, unwrap_or}
+use Rattle.std.proofs.Common.{◌≡◌, ℕ, ◌+◌, ◌<◌, ◌≤◌, ◌^◌, Bool, true, false, List, [], ◌∷◌, Option, Some, None, IfSome, bytes_eq, codes, cond, if◌then◌else◌, map, refl, ap, arith, subst, sym, inl, inr, unwrap_or}
 use Rattle.std.proofs.lemmas.Bool.{and_parts, cases_Bool}
 use Rattle.std.proofs.lemmas.Option.{same_Some}
 use Rattle.std.proofs.lemmas.Slice.Eq.{bytes_eq-Decides}
@@ -12,13 +12,14 @@ use Rattle.im_extensions.specs.Given.{origin_of}
 use Rattle.im_extensions.specs.Ids.{origin_id_elem}
 use Rattle.im_extensions.specs.Forwarding.{forwarded_elem}
 use Rattle.im_forwarding.proofs.TreeLaws.{entry_IsTree}
-use Rattle.im_forwarding.specs.Results.{AskerView, archived_elem, archived_kind, archived_result, body_elem, entry_elem, entry_nodes, origin_node}
+use Rattle.im_forwarding.specs.Results.{AskerView, archived_elem, archived_kind, archived_result, body_elem, end_elem, entry_elem, entry_nodes, origin_node}
 use Rattle.law_xml.specs.Plain.{ArePlainNodes, IsPlainAttribute, IsPlainElement}
-use Rattle.im_mam.proofs.FinLaws.{fin_stays}
-use Rattle.im_mam.specs.ArchiveAnswers.{fin_elem, first_item, first_item_where, page_elem, page_items}
+use Rattle.im_mam.proofs.FinLaws.{fin_with_stays}
+use Rattle.im_mam.specs.ArchiveAnswers.{fin_elem, fin_elem_with, fin_elem_without_index, first_item, first_item_where, page_elem, page_items}
 use Rattle.im_mam.specs.ResultSets.{set_item, set_item_where}
 use Rattle.im_messages.specs.Bodies.{bodies_of, body_of, is_body}
 use Rattle.im_messages.specs.Entries.{entry_of}
+use Rattle.mam_pages.specs.Cuts.{CutView, fin_of}
 use Rattle.mam_pages.specs.declared.fin.Fin.{Fin}
 use Rattle.im_payload.specs.Names.{archive, result_sets, stanza_ids}
 use Rattle.im_payload.specs.Writing.{flag_text}
@@ -216,41 +217,58 @@ last_fine default None h = tt
 last_fine default (Some given) h =
     fine_element default result_sets (codes "last") [] (text_node given) 0 0 0 120 (space result_sets refl) (word (codes "last") refl) no_attributes (omega arith) (said_fine (default_inside default result_sets) given 120 h)
 
-first_fine : (default : List ℕ) (o : Option (List ℕ)) (index : ℕ) → IfSome o (Said 120) → index < 2 ^ 64 → IfSome (first_item_where o index) (IsFine default 1 700)
+index_said : (index : Option ℕ) → IfSome index (λ i. i < 2 ^ 64) → IfSome (option_map decimal index) (Said 120)
+index_said None small = tt
+index_said (Some i) small = said_decimal i small
+
+first_fine : (default : List ℕ) (o : Option (List ℕ)) (index : Option ℕ) → IfSome o (Said 120) → IfSome index (λ i. i < 2 ^ 64) → IfSome (first_item_where o index) (IsFine default 1 700)
 first_fine default None index h small = tt
 first_fine default (Some given) index h small =
     fine_more default 1 1 (168 + 120 + 400) 700 (first_item index given)
-    (fine_element default result_sets (codes "first") (attribute [] (codes "index") (decimal index) ∷ []) (text_node given) 1 168 0 120 (space result_sets refl) (word (codes "first") refl)
-    (one_attribute 120 (codes "index") (decimal index) (word (codes "index") refl) (said_decimal index small)) (omega arith) (said_fine (default_inside default result_sets) given 120 h))
+    (fine_element default result_sets (codes "first") (attr_where [] (codes "index") (option_map decimal index)) (text_node given) 1 168 0 120 (space result_sets refl) (word (codes "first") refl)
+    (where_given 120 (codes "index") (option_map decimal index) (word (codes "index") refl) (index_said index small)) (omega arith) (said_fine (default_inside default result_sets) given 120 h))
     (omega arith) (omega arith)
 
-page_fine : (default : List ℕ) (v : Fin) → IfSome v.first (Said 120) → IfSome v.last (Said 120) → v.first_index < 2 ^ 64 → v.count < 2 ^ 64 → IsFine default 2 2200 (page_elem v)
-page_fine default v a b c d =
+page_fine : (default : List ℕ) (index : Option ℕ) (v : Fin) → IfSome v.first (Said 120) → IfSome v.last (Said 120) → IfSome index (λ i. i < 2 ^ 64) → v.count < 2 ^ 64 → IsFine default 2 2200 (page_elem index v)
+page_fine default index v a b c d =
     let inner = default_inside default result_sets in
-    let first = where_fine inner 700 (first_item_where v.first v.first_index) (first_fine inner v.first v.first_index a c) in
+    let first = where_fine inner 700 (first_item_where v.first index) (first_fine inner v.first index a c) in
     let last = where_fine inner 520 (set_item_where (codes "last") v.last) (last_fine inner v.last b) in
     let count =
     only_child inner 1 520 (set_item (codes "count") (decimal v.count))
     (fine_element inner result_sets (codes "count") [] (text_node (decimal v.count)) 0 0 0 120 (space result_sets refl) (word (codes "count") refl) no_attributes (omega arith)
     (said_fine (default_inside inner result_sets) (decimal v.count) 120 (said_decimal v.count d))) in
-    let two = joined_fine inner 1 700 520 (trees_where (first_item_where v.first v.first_index)) (trees_where (set_item_where (codes "last") v.last)) first last in
+    let two = joined_fine inner 1 700 520 (trees_where (first_item_where v.first index)) (trees_where (set_item_where (codes "last") v.last)) first last in
     let all =
-    joined_fine inner 1 (700 + 520) 520 (joined (trees_where (first_item_where v.first v.first_index)) (trees_where (set_item_where (codes "last") v.last))) (child (set_item (codes "count") (decimal v.count)) no_nodes) two count in
-    fine_more default 2 2 (0 + (700 + 520 + 520) + 400) 2200 (page_elem v)
-    (fine_element default result_sets (codes "set") [] (page_items v.first v.first_index v.last v.count) 0 0 1 (700 + 520 + 520) (space result_sets refl) (word (codes "set") refl) no_attributes (omega arith) all) (omega arith) (omega arith)
+    joined_fine inner 1 (700 + 520) 520 (joined (trees_where (first_item_where v.first index)) (trees_where (set_item_where (codes "last") v.last))) (child (set_item (codes "count") (decimal v.count)) no_nodes) two count in
+    fine_more default 2 2 (0 + (700 + 520 + 520) + 400) 2200 (page_elem index v)
+    (fine_element default result_sets (codes "set") [] (page_items v.first index v.last v.count) 0 0 1 (700 + 520 + 520) (space result_sets refl) (word (codes "set") refl) no_attributes (omega arith) all) (omega arith) (omega arith)
 
 flag_said : (b : Bool) → IfSome (flag_text b) (Said 60)
 flag_said true = said_word 60 (codes "true") refl refl
 flag_said false = tt
 
-pub fin_fine : (v : Fin) → IfSome v.first (Said 120) → IfSome v.last (Said 120) → v.first_index < 2 ^ 64 → v.count < 2 ^ 64 → AreFine client_ns 3 3000 (child (fin_elem v) no_nodes)
-fin_fine v a b c d =
+pub fin_fine : (index : Option ℕ) (v : Fin) → IfSome v.first (Said 120) → IfSome v.last (Said 120) → IfSome index (λ i. i < 2 ^ 64) → v.count < 2 ^ 64 → AreFine client_ns 3 3000 (child (fin_elem_with index v) no_nodes)
+fin_fine index v a b c d =
     let inner = default_inside client_ns archive in
-    only_child client_ns 3 3000 (fin_elem v)
-    (fine_more client_ns 3 3 (108 + 2200 + 400) 3000 (fin_elem v)
-    (fine_element client_ns archive (codes "fin") (attr_where [] (codes "complete") (flag_text v.complete)) (child (page_elem v) no_nodes) 1 108 2 2200 (space archive refl) (word (codes "fin") refl)
-    (where_given 60 (codes "complete") (flag_text v.complete) (word (codes "complete") refl) (flag_said v.complete)) (omega arith) (only_child inner 2 2200 (page_elem v) (page_fine inner v a b c d)))
+    only_child client_ns 3 3000 (fin_elem_with index v)
+    (fine_more client_ns 3 3 (108 + 2200 + 400) 3000 (fin_elem_with index v)
+    (fine_element client_ns archive (codes "fin") (attr_where [] (codes "complete") (flag_text v.complete)) (child (page_elem index v) no_nodes) 1 108 2 2200 (space archive refl) (word (codes "fin") refl)
+    (where_given 60 (codes "complete") (flag_text v.complete) (word (codes "complete") refl) (flag_said v.complete)) (omega arith) (only_child inner 2 2200 (page_elem index v) (page_fine inner index v a b c d)))
     (omega arith) (omega arith))
 
-pub fin_payload_stays : (v : Fin) → tidied_nodes (child (fin_elem v) no_nodes) ≡ child (fin_elem v) no_nodes
-fin_payload_stays v = ap (λ e. child e no_nodes) (fin_stays v)
+-- the end of a page, whether or not it tells the place of the first entry
+pub end_fine : (cut : CutView) → IfSome (fin_of cut).first (Said 120) → IfSome (fin_of cut).last (Said 120) → cut.first_index < 2 ^ 64 → cut.count < 2 ^ 64 → AreFine client_ns 3 3000 (child (end_elem cut) no_nodes)
+end_fine cut a b c d = by cut.backward
+  where
+    by : (backward : Bool) → AreFine client_ns 3 3000 (child (if backward then fin_elem_without_index (fin_of cut) else fin_elem (fin_of cut)) no_nodes)
+    by true = fin_fine None (fin_of cut) a b tt d
+    by false = fin_fine (Some cut.first_index) (fin_of cut) a b c d
+
+pub end_payload_stays : (cut : CutView) → tidied_nodes (child (end_elem cut) no_nodes) ≡ child (end_elem cut) no_nodes
+end_payload_stays cut = by cut.backward
+  where
+    by : (backward : Bool) → tidied_nodes (child (if backward then fin_elem_without_index (fin_of cut) else fin_elem (fin_of cut)) no_nodes)
+        ≡ child (if backward then fin_elem_without_index (fin_of cut) else fin_elem (fin_of cut)) no_nodes
+    by true = ap (λ e. child e no_nodes) (fin_with_stays None (fin_of cut))
+    by false = ap (λ e. child e no_nodes) (fin_with_stays (Some cut.first_index) (fin_of cut))

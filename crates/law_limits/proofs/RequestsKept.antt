@@ -16,7 +16,7 @@ use Rattle.im_mam.specs.DataForms.{field_value, form_of}
 use Rattle.im_mam.specs.ResultSets.{set_child}
 use Rattle.im_mam.specs.Readings.{filters_read, if_right, limits_read, mam_query_read, query_with, with_field}
 use Rattle.im_mam.specs.declared.archive_query.MamQuery.{MamQuery}
-use Rattle.mam_pages.specs.Cuts.{CutView, fin_of}
+use Rattle.mam_pages.specs.Cuts.{CutView}
 use Rattle.mam_pages.specs.Kept.{kept_by}
 use Rattle.mam_pages.specs.Matches.{is_wanted, matching}
 use Rattle.mam_pages.specs.PageOf.{candidates, cut_out, index_of_page, most_of, page_of, portion}
@@ -28,7 +28,7 @@ use Rattle.im_payload.specs.declared.fault.ExtFault.{ExtFault}
 use Rattle.im_payload.specs.declared.fault.ExtFault.TheVariants as ext
 use Rattle.im_payload.specs.declared.fault.Field.{Field}
 use Rattle.im_payload.specs.declared.fault.Field.TheVariants as field
-use Rattle.law_limits.proofs.Forwarding.{entry_read, fin_fine, fin_payload_stays}
+use Rattle.law_limits.proofs.Forwarding.{end_fine, end_payload_stays, entry_read}
 use Rattle.law_limits.proofs.Requests.{account_info_fine, info_stays, iq_error_read, nothing_fine, result_read, roster_fine, server_info_fine}
 use Rattle.law_limits.specs.Messages.{EntryFits}
 use Rattle.im_replies.specs.Requests.{result_item}
@@ -87,7 +87,7 @@ record CutKeeps (cut : CutView) : Type 0 where
   index : cut.first_index < 2 ^ 64
   count : cut.count < 2 ^ 64
 
-cut_keeps : (query : PageQuery) (matches : List EntryView) (o : Option (List EntryView)) → length matches < 2 ^ 64 → IfSome (option_map (λ found. cut_out matches (most_of query.max) found (portion query.place (most_of query.max) found)) o) CutKeeps
+cut_keeps : (query : PageQuery) (matches : List EntryView) (o : Option (List EntryView)) → length matches < 2 ^ 64 → IfSome (option_map (λ found. cut_out query.place matches (most_of query.max) found (portion query.place (most_of query.max) found)) o) CutKeeps
 cut_keeps query matches None few = tt
 cut_keeps query matches (Some found) few =
     let index = index_few matches (portion query.place (most_of query.max) found) in record { index = omega (arith, few, index); count = few }
@@ -116,7 +116,7 @@ paging_kept : (q : IqView) (t : Told) (queryid : List ℕ) (a : Kept) (o : Optio
 paging_kept q t queryid a None h fits said archive o keeps = refusing_kept q t no_such_place h fits tt keeps
 paging_kept q t queryid a (Some cut) h fits said archive o keeps =
     entries_kept t.number (asker_of t queryid h) a.entries cut.numbers _ (bare_said t.account h keeps) (session_said t.number h keeps) said archive.entries
-    (result_kept q t _ 3 3000 h fits (fin_payload_stays (fin_of cut)) (fin_fine (fin_of cut) (id_said (slice_get cut.numbers 0)) (id_said (slice_get cut.numbers (length cut.numbers - 1))) o.index o.count) (omega arith) (omega arith) keeps, tt)
+    (result_kept q t _ 3 3000 h fits (end_payload_stays cut) (end_fine cut (id_said (slice_get cut.numbers 0)) (id_said (slice_get cut.numbers (length cut.numbers - 1))) o.index o.count) (omega arith) (omega arith) keeps, tt)
 
 querying_kept : (q : IqView) (t : Told) (query : MamQuery) (o : Option Kept) (h : Hall ItemOut) → IqFits q → Said 1048576 query.queryid → IfSome o ArchiveKeeps → HallKeeps h → ActsKeep (querying_in itself q t query o h)
 querying_kept q t query None h fits said o keeps = tt

@@ -14,7 +14,7 @@ ghost use Rattle.im_forwarding.specs.Results.{AskerView, entry_elem};
 ghost use Rattle.xml_framer.specs.Limits.{client_limits};
 ghost use Rattle.law_xml.specs.Fitting.{HeaderFits};
 ghost use Rattle.law_xml.specs.Plain.{IsPlainHeader};
-ghost use Rattle.im_mam.specs.ArchiveAnswers.{fin_elem};
+ghost use Rattle.im_mam.specs.ArchiveAnswers.{fin_elem, fin_elem_without_index};
 ghost use Rattle.im_messages.specs.Entries.{entry_of};
 ghost use Rattle.mam_pages.specs.declared.fin.Fin.{Fin};
 ghost use Rattle.im_payload.specs.Bare.{bare};
@@ -78,6 +78,7 @@ pub fn answers_are_read()
     ensures account_info { AreFine client_ns 2 5000 (child (disco_info_elem (account ∷ []) server_features) no_nodes) }
     ensures bound { (m : ℕ) (jid : List ℕ) → Said m jid → AreFine client_ns 2 (m + 800) (child (bind_result_elem (record { jid = jid })) no_nodes) }
     ensures fin { (v : Fin) → IfSome v.first (Said 120) → IfSome v.last (Said 120) → v.first_index < 2 ^ 64 → v.count < 2 ^ 64 → AreFine client_ns 3 3000 (child (fin_elem v) no_nodes) }
+    ensures fin_without_index { (v : Fin) → IfSome v.first (Said 120) → IfSome v.last (Said 120) → v.count < 2 ^ 64 → AreFine client_ns 3 3000 (child (fin_elem_without_index v) no_nodes) }
 {}
 
 /// A law: a client reads what a server passes on, copies and forwards (RFC 6121, section 8; XEP-0280; XEP-0313, section

@@ -6,7 +6,7 @@ ghost use Rattle.im_extensions.specs.Forwarding.{Forwards, IsForwarded, WritesFo
 ghost use Rattle.im_extensions.specs.declared.carbons.Carbon.{Carbon};
 ghost use Rattle.im_extensions.specs.declared.forwarding.Forwarded.{Forwarded};
 ghost use Rattle.im_jid.specs.Normal.{normal};
-ghost use Rattle.im_mam.specs.ArchiveAnswers.{IsFin, IsMamResult, WritesMamResult, fin_checks, fin_elem, is_fin, is_result, result_checks};
+ghost use Rattle.im_mam.specs.ArchiveAnswers.{IsFin, IsMamResult, WritesMamResult, fin_checks, fin_elem, fin_elem_without_index, is_fin, is_result, result_checks};
 ghost use Rattle.im_mam.specs.Readings.{fin_read, result_read};
 ghost use Rattle.im_mam.specs.declared.archive_answers.MamResult.{MamResult};
 ghost use Rattle.mam_pages.specs.declared.fin.Fin.{Fin};
@@ -57,7 +57,8 @@ pub fn ends_of_pages_are_read_as_stated()
 {}
 
 /// A law: what is written of the end of a page is read as it. Its numbers have 64 bits, as they have in the type, and
-/// without a first item the place of it is 0.
+/// without a first item the place of it is 0. Where that place isn't told, it is read as 0, and the rest as it is.
 pub fn written_ends_of_pages_are_read_back()
-    ensures { (v : Fin) → v.first_index < 2 ^ 64 → v.count < 2 ^ 64 → (v.first ≡ None → v.first_index ≡ 0) → fin_read (fin_elem v) ≡ Ok v }
+    ensures with_index { (v : Fin) → v.first_index < 2 ^ 64 → v.count < 2 ^ 64 → (v.first ≡ None → v.first_index ≡ 0) → fin_read (fin_elem v) ≡ Ok v }
+    ensures without_index { (v : Fin) → v.count < 2 ^ 64 → fin_read (fin_elem_without_index v) ≡ Ok (record v { first_index = 0 }) }
 {}

@@ -129,7 +129,7 @@ place_behind base k behind (suc count) within = sym (index_behind base k behind 
 -- the page out of numbers one after another
 pub cut_behind : (span : Span) (base k before found count behind place : ℕ) (numbers : List ℕ) → before ≡ max span.after base → span.through ≤ base + k →
     found ≡ span.through - before → count ≡ min found span.most → behind ≡ behind_by span before count → place ≡ place_by base behind count →
-    numbers ≡ numbers_behind behind count → view numbers place k (leb found span.most) ≡ cut_by span (numbers_behind base k)
+    numbers ≡ numbers_behind behind count → view numbers place k (leb found span.most) span.backward ≡ cut_by span (numbers_behind base k)
 cut_behind span base k before found count behind place numbers start end size some first index are =
     let inside : within span (numbers_behind base k) ≡ numbers_behind before found =
     within_behind span base before k start end ∙ ap (numbers_behind before) (sym size) in
@@ -141,8 +141,8 @@ cut_behind span base k before found count behind place numbers start end size so
     ∙ ap (index_in (numbers_behind base k)) (sym page) in
     same_view numbers (portion_by span (within span (numbers_behind base k))) place
     (index_in (numbers_behind base k) (portion_by span (within span (numbers_behind base k)))) k (length (numbers_behind base k))
-    (leb found span.most) (leb (length (within span (numbers_behind base k))) span.most)
-    (are ∙ sym page) at (sym (length-numbers_behind base k)) (ap (λ n. leb n span.most) (sym candidates))
+    (leb found span.most) (leb (length (within span (numbers_behind base k))) span.most) span.backward span.backward
+    (are ∙ sym page) at (sym (length-numbers_behind base k)) (ap (λ n. leb n span.most) (sym candidates)) refl
 
 -- the numbers of consecutive entries
 pub numbers_follow : (n : ℕ) (es : List EntryView) → FollowOn n es → numbers_of es ≡ numbers_behind n (length es)

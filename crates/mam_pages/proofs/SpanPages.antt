@@ -8,9 +8,10 @@ use Rattle.mam_pages.proofs.Placed.{IsPlaced, placed}
 use Rattle.mam_pages.proofs.Rising.{filter_numbers, rises_entries, within_above, within_all, within_below}
 use Rattle.mam_pages.specs.Kept.{Kept}
 use Rattle.mam_pages.specs.Matches.{is_wanted, matching}
-use Rattle.mam_pages.specs.PageOf.{cut_out, entry_of_id, index_of_page, most_of, page_of}
+use Rattle.mam_pages.specs.PageOf.{cut_out, entry_of_id, index_of_page, is_backward, most_of, page_of}
 use Rattle.mam_pages.specs.Spans.{IsNumbered, Rises, cut_by, index_in, number_of_entry, numbers_of, portion_by, within}
 use Rattle.mam_pages.specs.declared.query.PageQuery.{PageQuery}
+use Rattle.mam_pages.specs.declared.query.Place.{Place}
 use Rattle.mam_pages.specs.declared.query.Place.TheVariants.{First, After, Before, Last}
 use Rattle.mam_pages.specs.declared.span.Span.{Span}
 use Rattle.mam_pages.proofs.CutViews.{same_view}
@@ -20,16 +21,16 @@ index_same matches [] = refl
 index_same matches (e ∷ es) =
     sym (ap length (filter_numbers (λ k. ltb k e.number) matches) ∙ length-map (filter (λ f. ltb (number_of_entry f) e.number) matches) number_of_entry)
 
-pub cut_same : (span : Span) (matches found page : List EntryView) → numbers_of found ≡ within span (numbers_of matches) →
-    numbers_of page ≡ portion_by span (numbers_of found) → cut_out matches span.most found page ≡ cut_by span (numbers_of matches)
-cut_same span matches found page inside some =
+pub cut_same : (place : Place) (span : Span) (matches found page : List EntryView) → numbers_of found ≡ within span (numbers_of matches) →
+    numbers_of page ≡ portion_by span (numbers_of found) → is_backward place ≡ span.backward → cut_out place matches span.most found page ≡ cut_by span (numbers_of matches)
+cut_same place span matches found page inside some way =
     let numbers : numbers_of page ≡ portion_by span (within span (numbers_of matches)) = some ∙ ap (portion_by span) inside in
     let size : length found ≡ length (within span (numbers_of matches)) = sym (length-map found number_of_entry) ∙ ap length inside in
     same_view (numbers_of page) (portion_by span (within span (numbers_of matches))) (index_of_page matches page)
     (index_in (numbers_of matches) (portion_by span (within span (numbers_of matches)))) (length matches)
     (length (numbers_of matches)) (leb (length found) span.most) (leb (length (within span (numbers_of matches))) span.most)
-    numbers (index_same matches page ∙ ap (index_in (numbers_of matches)) numbers)
-    (sym (length-map matches number_of_entry)) (ap (λ n. leb n span.most) size)
+    (is_backward place) span.backward numbers (index_same matches page ∙ ap (index_in (numbers_of matches)) numbers)
+    (sym (length-map matches number_of_entry)) (ap (λ n. leb n span.most) size) way
 
 newest-map : (most : ℕ) (es : List EntryView) → numbers_of (newest most es) ≡ newest most (numbers_of es)
 newest-map most es =
@@ -51,7 +52,7 @@ page_first kept query first last most known place max =
     let matches = matching kept query in
     let all : within (span_at 0 last most false) (numbers_of matches) ≡ numbers_of matches =
     within_all (span_at 0 last most false) (first - 1) last (numbers_of matches) (matches_rise kept query (first - 1) last known.1) (omega arith) (omega arith) in
-    rw (place, ← max) (ap Some (cut_same (span_at 0 last most false) matches matches (take most matches) (sym all) (sym (take-map number_of_entry most matches))))
+    rw (place, ← max) (ap Some (cut_same First (span_at 0 last most false) matches matches (take most matches) (sym all) (sym (take-map number_of_entry most matches)) refl))
 
 pub page_last : (kept : Kept) (query : PageQuery) (first last most : ℕ) → IsNumbered first last kept.entries → query.place ≡ Last →
     most ≡ most_of query.max → page_of kept query ≡ Some (cut_by (span_at 0 last most true) (numbers_of (matching kept query)))
@@ -60,7 +61,7 @@ page_last kept query first last most known place max =
     let matches = matching kept query in
     let all : within (span_at 0 last most true) (numbers_of matches) ≡ numbers_of matches =
     within_all (span_at 0 last most true) (first - 1) last (numbers_of matches) (matches_rise kept query (first - 1) last known.1) (omega arith) (omega arith) in
-    rw (place, ← max) (ap Some (cut_same (span_at 0 last most true) matches matches (newest most matches) (sym all) (newest-map most matches)))
+    rw (place, ← max) (ap Some (cut_same Last (span_at 0 last most true) matches matches (newest most matches) (sym all) (newest-map most matches) refl))
 
 -- an entry with the number that was found
 entry_found : (k : ℕ) (found : Option EntryView) → option_map number_of_entry found ≡ Some k → (e : EntryView) × (found ≡ Some e) × (e.number ≡ k)
@@ -78,7 +79,7 @@ page_after kept query id first last most k known place is max =
     let inside : numbers_of found ≡ within (span_at k last most false) (numbers_of matches) =
     sym (within_above (span_at k last most false) (first - 1) last (numbers_of matches) (matches_rise kept query (first - 1) last known.1) (omega arith)
     ∙ filter_numbers (λ n. ltb k n) matches) in
-    rw (place, entry.1, entry.2, ← max) (ap Some (cut_same (span_at k last most false) matches found (take most found) inside (sym (take-map number_of_entry most found))))
+    rw (place, entry.1, entry.2, ← max) (ap Some (cut_same (After id) (span_at k last most false) matches found (take most found) inside (sym (take-map number_of_entry most found)) refl))
 
 pub page_before : (kept : Kept) (query : PageQuery) (id : List ℕ) (first last most k : ℕ) → IsNumbered first last kept.entries → query.place ≡ Before id →
     option_map number_of_entry (entry_of_id id kept.entries) ≡ Some k → 1 ≤ k → most ≡ most_of query.max →
@@ -91,4 +92,4 @@ page_before kept query id first last most k known place is low max =
     let inside : numbers_of found ≡ within (span_at 0 (k - 1) most true) (numbers_of matches) =
     sym (within_below (span_at 0 (k - 1) most true) k (first - 1) last (numbers_of matches) (matches_rise kept query (first - 1) last known.1) (omega arith) (omega arith)
     ∙ filter_numbers (λ n. ltb n k) matches) in
-    rw (place, entry.1, entry.2, ← max) (ap Some (cut_same (span_at 0 (k - 1) most true) matches found (newest most found) inside (newest-map most found)))
+    rw (place, entry.1, entry.2, ← max) (ap Some (cut_same (Before id) (span_at 0 (k - 1) most true) matches found (newest most found) inside (newest-map most found) refl))

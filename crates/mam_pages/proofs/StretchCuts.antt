@@ -209,11 +209,11 @@ first_index_is span high ns s count rises known some = elim (cases_lt 0 count) [
 -- the page out of a stretch
 pub stretch_cut : (span : Span) (high : ℕ) (ns : List ℕ) (s : Stretch) (count : ℕ) (numbers : List ℕ) (index : ℕ) → Rises 0 high ns → IsStretch span ns s →
     count ≡ min s.found span.most → numbers ≡ portion_by span (within span ns) → index ≡ first_index_of span s count →
-    view numbers index s.count (leb s.found span.most) ≡ cut_by span ns
+    view numbers index s.count (leb s.found span.most) span.backward ≡ cut_by span ns
 stretch_cut span high ns s count numbers index rises known some are at =
     same_view numbers (portion_by span (within span ns)) index (index_in ns (portion_by span (within span ns))) s.count (length ns)
-    (leb s.found span.most) (leb (length (within span ns)) span.most) are (at ∙ first_index_is span high ns s count rises known some)
-    known.count (ap (λ n. leb n span.most) known.found)
+    (leb s.found span.most) (leb (length (within span ns)) span.most) span.backward span.backward are (at ∙ first_index_is span high ns s count rises known some)
+    known.count (ap (λ n. leb n span.most) known.found) refl
 
 take_nil : (m : ℕ) → take {A = ℕ} m [] ≡ []
 take_nil zero = refl
@@ -226,9 +226,9 @@ nothing span = elim (cases_Bool span.backward) [
 ]
 
 -- the page out of no numbers
-pub empty_cut : (span : Span) (items ns : List ℕ) → items ≡ [] → ns ≡ [] → view items 0 0 true ≡ cut_by span ns
+pub empty_cut : (span : Span) (items ns : List ℕ) → items ≡ [] → ns ≡ [] → view items 0 0 true span.backward ≡ cut_by span ns
 empty_cut span items ns none are =
     let low : leb 0 span.most ≡ true = grind (arith, nat_tests) in
-    ap (λ t. view t 0 0 true) none
-    ∙ same_view [] (portion_by span []) 0 (index_in [] (portion_by span [])) 0 0 true (leb 0 span.most) (sym (nothing span)) (sym (ap (index_in []) (nothing span))) refl (sym low)
+    ap (λ t. view t 0 0 true span.backward) none
+    ∙ same_view [] (portion_by span []) 0 (index_in [] (portion_by span [])) 0 0 true (leb 0 span.most) span.backward span.backward (sym (nothing span)) (sym (ap (index_in []) (nothing span))) refl (sym low) refl
     ∙ ap (cut_by span) (sym are)

@@ -41,25 +41,25 @@ five n =
 abbrev asks : Option (List ℕ) → Place → Option ℕ → PageQuery
 asks peer place max = record { peer = peer; start = None; end = None; place = place; max = max }
 
-abbrev cut : List ℕ → ℕ → ℕ → Bool → Option CutView
-cut numbers first_index count complete =
-    Some (record { numbers = numbers; first_index = first_index; count = count; complete = complete })
+abbrev cut : List ℕ → ℕ → ℕ → Bool → Bool → Option CutView
+cut numbers first_index count complete backward =
+    Some (record { numbers = numbers; first_index = first_index; count = count; complete = complete; backward = backward })
 
-first_of_peer : page_of (five 0) (asks (Some bob) First (Some 2)) ≡ cut (1 ∷ 3 ∷ []) 0 3 false
+first_of_peer : page_of (five 0) (asks (Some bob) First (Some 2)) ≡ cut (1 ∷ 3 ∷ []) 0 3 false false
 first_of_peer = refl
 
-after_of_peer : page_of (five 0) (asks (Some bob) (After (id_of 2)) (Some 2)) ≡ cut (3 ∷ 4 ∷ []) 1 3 true
+after_of_peer : page_of (five 0) (asks (Some bob) (After (id_of 2)) (Some 2)) ≡ cut (3 ∷ 4 ∷ []) 1 3 true false
 unfolding hex16_of
 after_of_peer = refl
 
-last_two : page_of (five 0) (asks None Last (Some 2)) ≡ cut (4 ∷ 5 ∷ []) 3 5 false
+last_two : page_of (five 0) (asks None Last (Some 2)) ≡ cut (4 ∷ 5 ∷ []) 3 5 false true
 last_two = refl
 
-before_first : page_of (five 0) (asks None (Before (id_of 1)) None) ≡ cut [] 0 5 true
+before_first : page_of (five 0) (asks None (Before (id_of 1)) None) ≡ cut [] 0 5 true true
 unfolding hex16_of
 before_first = refl
 
-none_wanted : page_of (five 0) (asks None First (Some 0)) ≡ cut [] 0 5 false
+none_wanted : page_of (five 0) (asks None First (Some 0)) ≡ cut [] 0 5 false false
 none_wanted = refl
 
 unknown_id : page_of (five 0) (asks None (After (codes "0000000000000006")) None) ≡ None
@@ -67,7 +67,7 @@ unfolding hex16_of
 unknown_id = refl
 
 -- the archive lost its first 400 entries
-behind_seam : page_of (five 400) (asks (Some bob) (Before (id_of 404)) (Some 1)) ≡ cut (403 ∷ []) 1 3 false
+behind_seam : page_of (five 400) (asks (Some bob) (Before (id_of 404)) (Some 1)) ≡ cut (403 ∷ []) 1 3 false true
 unfolding hex16_of
 behind_seam = refl
 
@@ -75,11 +75,11 @@ lost_id : page_of (five 400) (asks (Some bob) (After (id_of 400)) None) ≡ None
 unfolding hex16_of
 lost_id = refl
 
-of_session : page_of (five 400) (asks (Some (codes "bob@a/x")) Last None) ≡ cut (403 ∷ 404 ∷ []) 0 2 true
+of_session : page_of (five 400) (asks (Some (codes "bob@a/x")) Last None) ≡ cut (403 ∷ 404 ∷ []) 0 2 true true
 of_session = refl
 
 -- the moments of `start` and `end` belong to what is asked for
-in_time : page_of (five 0) (record { peer = None; start = Some 20; end = Some 40; place = First; max = Some 200 }) ≡ cut (2 ∷ 3 ∷ 4 ∷ []) 0 3 true
+in_time : page_of (five 0) (record { peer = None; start = Some 20; end = Some 40; place = First; max = Some 200 }) ≡ cut (2 ∷ 3 ∷ 4 ∷ []) 0 3 true false
 in_time = refl
 
 first_kept : first_number (five 400).entries ≡ 401

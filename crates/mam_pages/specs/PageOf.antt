@@ -1,6 +1,6 @@
 -- The page that answers a query: a filter of the list of entries, whatever the code walks (XEP-0313 section 4.3,
 -- XEP-0059 sections 2.1 to 2.6).
-use Rattle.std.specs.Prelude.{ℕ, min, nat_lt, nat_le, List, [], ◌∷◌, Option, Some, None, find, filter, map, take, length}
+use Rattle.std.specs.Prelude.{ℕ, min, nat_lt, nat_le, Bool, true, false, List, [], ◌∷◌, Option, Some, None, find, filter, map, take, length}
 use Rattle.std.specs.Option.{option_map}
 use Rattle.std.specs.Str.{bytes_eq}
 use Rattle.mam_archive.specs.Entries.{EntryView, newest}
@@ -32,6 +32,13 @@ candidates (After id) entries matches =
 candidates (Before id) entries matches =
     option_map (λ found. filter (λ e. nat_lt e.number found.number) matches) (entry_of_id id entries)
 
+-- the entries before a place are asked for, or the last ones (XEP-0059 sections 2.3 and 2.5)
+abbrev pub is_backward : Place → Bool
+is_backward First = false
+is_backward (After id) = false
+is_backward (Before id) = true
+is_backward Last = true
+
 -- the first so many candidates, or the last where the direction is backward
 abbrev pub portion : Place → ℕ → List EntryView → List EntryView
 portion First most found = take most found
@@ -45,19 +52,20 @@ index_of_page matches [] = 0
 index_of_page matches (e ∷ es) = length (filter (λ f. nat_lt f.number e.number) matches)
 
 -- the page of the candidates
-abbrev pub cut_out : List EntryView → ℕ → List EntryView → List EntryView → CutView
-cut_out matches most found page =
+abbrev pub cut_out : Place → List EntryView → ℕ → List EntryView → List EntryView → CutView
+cut_out place matches most found page =
     record {
       numbers = map (λ e. e.number) page;
       first_index = index_of_page matches page;
       count = length matches;
       complete = nat_le (length found) most;
+      backward = is_backward place;
     }
 
 abbrev pub page_among : PageQuery → List EntryView → List EntryView → Option CutView
 page_among query entries matches =
     option_map
-    (λ found. cut_out matches (most_of query.max) found (portion query.place (most_of query.max) found))
+    (λ found. cut_out query.place matches (most_of query.max) found (portion query.place (most_of query.max) found))
     (candidates query.place entries matches)
 
 abbrev pub page_of : Kept → PageQuery → Option CutView

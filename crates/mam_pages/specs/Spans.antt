@@ -45,6 +45,7 @@ cut_by span numbers =
       first_index = index_in numbers (portion_by span (within span numbers));
       count = length numbers;
       complete = nat_le (length (within span numbers)) span.most;
+      backward = span.backward;
     }
 
 -- each is above the one before, the first above `low`, and none is above `high`

@@ -13,14 +13,15 @@ use std::fmt;
 use std::marker::Model;
 
 /// A page that was found: the numbers of its entries in ascending order, the place of the first among all entries that
-/// match, from 0, how many these are, and whether nothing remains in the direction of paging. An empty page has
-/// `first_index` 0.
+/// match, from 0, how many these are, whether nothing remains in the direction of paging, and whether it was asked for
+/// backwards: the entries before a place, or the last. An empty page has `first_index` 0.
 #[derive(Drop)]
 pub struct PageCut {
     pub numbers: Numbers,
     pub first_index: u64,
     pub count: u64,
     pub complete: bool,
+    pub backward: bool,
 }
 
 impl Model for PageCut {
@@ -28,7 +29,7 @@ impl Model for PageCut {
 
     ghost Value = { CutView };
 
-    ghost view = { λ c. record { numbers = c.numbers.items; first_index = c.first_index; count = c.count; complete = c.complete } };
+    ghost view = { λ c. record { numbers = c.numbers.items; first_index = c.first_index; count = c.count; complete = c.complete; backward = c.backward } };
 }
 
 /// The id of the entry with a number, where there is one.

@@ -267,6 +267,7 @@ fn cut_of_stretch<V: Look>(
         first_index: first_index(span, stretch, count),
         count: stretch.count,
         complete: stretch.found <= span.most,
+        backward: span.backward,
     })
 }
 
@@ -327,6 +328,7 @@ pub(crate) fn cut_of_account<V: Look>(
             first_index: 0,
             count: 0,
             complete: true,
+            backward: span.backward,
         });
     };
     match edge(&span, last) {

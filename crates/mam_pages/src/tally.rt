@@ -66,6 +66,7 @@ impl Tally {
             numbers,
             count: self.count,
             complete: self.found <= self.span.most,
+            backward: self.span.backward,
         })
     }
 

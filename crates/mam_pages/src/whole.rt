@@ -66,5 +66,6 @@ pub(crate) fn cut_of_all(
         first_index: place(base, behind, count),
         count: last - base,
         complete: found <= span.most,
+        backward: span.backward,
     })
 }

@@ -10,14 +10,14 @@ use Rattle.sim_3_items.proofs.TextsTold.{entry_again, number_again, query_again}
 use Rattle.sim_3_items.specs.Downs.{down_elem, down_stanza}
 use Rattle.sim_3_items.specs.Meant.{Fits, IsEntryNumber, IsPage}
 use Rattle.sim_3_items.specs.Told.{entry_told, is_error, number_told, query_told}
-use Rattle.im_mam.specs.ArchiveAnswers.{fin_elem}
+use Rattle.im_mam.specs.ArchiveAnswers.{fin_elem, fin_elem_with, fin_elem_without_index}
 use Rattle.im_mam.specs.ResultSets.{set_text}
 use Rattle.mam_pages.specs.Cuts.{CutView, fin_of}
 use Rattle.mam_pages.specs.declared.fin.Fin.{Fin as End}
 use Rattle.im_payload.specs.Names.{archive}
 use Rattle.im_payload.specs.Shapes.{attr_or_empty, flag}
 use Rattle.im_payload.specs.Writing.{flag_text}
-use Rattle.im_replies.specs.Requests.{EnvelopeView, iq_error_item}
+use Rattle.im_replies.specs.Requests.{EnvelopeView, iq_error_item, result_item}
 use Rattle.im_requests.specs.Messages.{queryid_text}
 use Rattle.sim_1_applications.specs.Answers.{last_in}
 use Rattle.sim_1_applications.specs.Stanzas.Down.{Accepted, Fin, NotFound, Res}
@@ -28,7 +28,7 @@ use Rattle.im_stanza.specs.Stanzas.{attr_named}
 use Rattle.im_stanza.specs.Written.{attr_where}
 use Rattle.im_stanza.specs.declared.kinds.IqKind.TheVariants as iq
 use Rattle.xml_trees.proofs.TidyReads.{text_of-text_node}
-use Rattle.xml_trees.specs.Trees.{Nodes, element, nodes_of}
+use Rattle.xml_trees.specs.Trees.{Elem, Nodes, child, element, no_nodes, nodes_of}
 
 -- ---- one entry
 
@@ -44,17 +44,18 @@ complete_again : (complete : Bool) (nodes : Nodes) → flag (attr_named (codes "
 complete_again true nodes = refl
 complete_again false nodes = refl
 
-abbrev ended : Bool → Option (List ℕ) → ℕ → Option (List ℕ) → ℕ → End
-ended complete first index last count = record { complete = complete; first = first; first_index = index; last = last; count = count }
+-- with the place of its first entry, where that is told
+abbrev ended : Option ℕ → Bool → Option (List ℕ) → Option (List ℕ) → ℕ → Elem
+ended index complete first last count = fin_elem_with index (record { complete = complete; first = first; first_index = 0; last = last; count = count })
 
-module _ (complete : Bool) (index count : ℕ) where
-  last_again : (first last : Option (List ℕ)) → set_text (codes "last") (fin_elem (ended complete first index last count)) ≡ last
+module _ (complete : Bool) (index : Option ℕ) (count : ℕ) where
+  last_again : (first last : Option (List ℕ)) → set_text (codes "last") (ended index complete first last count) ≡ last
   last_again None None = refl
   last_again None (Some t) = ap Some (text_of-text_node t)
   last_again (Some id) None = refl
   last_again (Some id) (Some t) = ap Some (text_of-text_node t)
 
-  count_again : (first last : Option (List ℕ)) → set_text (codes "count") (fin_elem (ended complete first index last count)) ≡ Some (decimal count)
+  count_again : (first last : Option (List ℕ)) → set_text (codes "count") (ended index complete first last count) ≡ Some (decimal count)
   count_again None None = ap Some (text_of-text_node (decimal count))
   count_again None (Some t) = ap Some (text_of-text_node (decimal count))
   count_again (Some id) None = ap Some (text_of-text_node (decimal count))
@@ -80,16 +81,23 @@ module _ (a : EnvelopeView) (cut : CutView) (q : ℕ) (is : a.id ≡ queryid_tex
   abbrev end : End
   end = fin_of cut
 
-  pub end_read : down_stanza (fin_item a cut) ≡ Fin q cut.complete (last_in cut.numbers) cut.count
-  end_read =
+  end_with : (index : Option ℕ) → down_stanza (result_item a (child (fin_elem_with index end) no_nodes)) ≡ Fin q cut.complete (last_in cut.numbers) cut.count
+  end_with index =
       let id = ap (λ (o : Option (List ℕ)). unwrap_or o []) (id_written a.from (Some a.id) a.to (Some (iq_type iq.Result)) None) ∙ is in
       let query = ap query_told id ∙ query_again q fits in
-      let complete = complete_again cut.complete (nodes_of (fin_elem end)) in
+      let complete = complete_again cut.complete (nodes_of (fin_elem_with index end)) in
       let last =
-      ap (option_map entry_told) (last_again cut.complete cut.first_index cut.count end.first end.last)
+      ap (option_map entry_told) (last_again cut.complete index cut.count end.first end.last)
       ∙ ap (λ o. option_map entry_told (option_map id_of o)) (last_place cut.numbers) ∙ ids_again (last_in cut.numbers) (last_fits cut.numbers page.entries) in
-      let count = ap (λ (o : Option (List ℕ)). number_told (unwrap_or o [])) (count_again cut.complete cut.first_index cut.count end.first end.last) ∙ number_again cut.count page.count_fits in
+      let count = ap (λ (o : Option (List ℕ)). number_told (unwrap_or o [])) (count_again cut.complete index cut.count end.first end.last) ∙ number_again cut.count page.count_fits in
       λ i. Fin (query i) (complete i) (last i) (count i)
+
+  pub end_read : down_stanza (fin_item a cut) ≡ Fin q cut.complete (last_in cut.numbers) cut.count
+  end_read = by cut.backward
+    where
+      by : (backward : Bool) → down_stanza (result_item a (child (if backward then fin_elem_without_index end else fin_elem end) no_nodes)) ≡ Fin q cut.complete (last_in cut.numbers) cut.count
+      by true = end_with None
+      by false = end_with (Some cut.first_index)
 
 -- ---- a place that isn't there
 

@@ -26,13 +26,14 @@ use Rattle.sim_5_devices.proofs.LogReadingsEnds.{ends_well, over_shows}
 use Rattle.sim_5_devices.proofs.Entries.{last_at}
 use Rattle.sim_5_devices.proofs.LogReadingsSteps.{begun_shows}
 use Rattle.sim_5_devices.specs.Shown.{AreGiven, IsFinOf, IsReadingGiven, LogShows, page_shown}
-use Rattle.im_mam.specs.ArchiveAnswers.{fin_elem}
+use Rattle.im_forwarding.specs.Results.{end_elem}
+use Rattle.im_mam.specs.ArchiveAnswers.{fin_elem, fin_elem_without_index}
 use Rattle.im_mam.specs.Readings.{fin_read}
 use Rattle.sm_outbox.specs.Sessions.{SessionView, with_waiting}
 use Rattle.sm_outbox.specs.Waiting.{counted_in, is_full}
 use Rattle.mam_pages.specs.Cuts.{CutView, fin_of}
 use Rattle.mam_pages.specs.declared.fin.Fin.{Fin}
-use Rattle.law_payloads.proofs.FinReads.{fin_written}
+use Rattle.law_payloads.proofs.FinReads.{fin_written, fin_written_without_index}
 use Rattle.im_requests.specs.Messages.{page_item, queryid_text}
 use Rattle.cmd_schedule.specs.Contents.{Owned}
 use Rattle.sim_3_items.specs.Built.{IsEnd}
@@ -57,16 +58,23 @@ use Rattle.xml_writer.specs.Items.{ItemOut, Whole}
 -- ---- what is read of an end
 
 abbrev end : List ℕ → ℕ → ℕ → Bool → Fin
-end ns index count complete = fin_of (record { numbers = ns; first_index = index; count = count; complete = complete })
+end ns index count complete = fin_of (record { numbers = ns; first_index = index; count = count; complete = complete; backward = false })
 
 -- without an entry no place is told of a first one
 abbrev read_end : List ℕ → ℕ → ℕ → Bool → Fin
 read_end [] index count complete = end [] 0 count complete
 read_end (n ∷ ns) index count complete = end (n ∷ ns) index count complete
 
-end_again : (ns : List ℕ) (index count : ℕ) (complete : Bool) → Fits index → Fits count → fin_read (fin_elem (end ns index count complete)) ≡ Ok (read_end ns index count complete)
-end_again [] index count complete index_fits count_fits = fin_written (end [] 0 count complete) (omega arith) count_fits (λ none. refl)
-end_again (n ∷ ns) index count complete index_fits count_fits = fin_written (end (n ∷ ns) index count complete) index_fits count_fits (λ none. absurd (none-some (id_of n) (sym none)))
+-- the place of the first one, as it is read: 0 where it isn't told
+abbrev told_place : Bool → ℕ → ℕ
+told_place backward index = if backward then 0 else index
+
+end_again : (backward : Bool) (ns : List ℕ) (index count : ℕ) (complete : Bool) → Fits index → Fits count →
+    fin_read (if backward then fin_elem_without_index (end ns index count complete) else fin_elem (end ns index count complete)) ≡ Ok (read_end ns (told_place backward index) count complete)
+end_again true [] index count complete index_fits count_fits = fin_written_without_index (end [] index count complete) count_fits
+end_again true (n ∷ ns) index count complete index_fits count_fits = fin_written_without_index (end (n ∷ ns) index count complete) count_fits
+end_again false [] index count complete index_fits count_fits = fin_written (end [] 0 count complete) (omega arith) count_fits (λ none. refl)
+end_again false (n ∷ ns) index count complete index_fits count_fits = fin_written (end (n ∷ ns) index count complete) index_fits count_fits (λ none. absurd (none-some (id_of n) (sym none)))
 
 end_is : (ns : List ℕ) (index count : ℕ) (complete : Bool) → IsFinOf (read_end ns index count complete) complete (last_in ns) count
 end_is [] index count complete = record { complete = refl; last = refl; count = refl }
@@ -119,11 +127,11 @@ module _ (o : Owned) (keep : ℕ) (history : List EntryView) (d : ItemDevice) (s
   cut = built.cut
 
   abbrev fin : Fin
-  fin = read_end cut.numbers cut.first_index cut.count cut.complete
+  fin = read_end cut.numbers (told_place cut.backward cut.first_index) cut.count cut.complete
 
   fits : IsFinOf fin complete last count
   fits =
-      let is_it = end_is cut.numbers cut.first_index cut.count cut.complete in record {
+      let is_it = end_is cut.numbers (told_place cut.backward cut.first_index) cut.count cut.complete in record {
         complete = is_it.complete ∙ built.told.0;
         last = is_it.last ∙ ap (option_map id_of) built.told.1;
         count = is_it.count ∙ built.told.2;
@@ -133,7 +141,7 @@ module _ (o : Owned) (keep : ℕ) (history : List EntryView) (d : ItemDevice) (s
   small k is_it = last_fits cut.numbers built.page.entries k (built.told.1 ∙ is_it)
 
   abbrev v : IqView
-  v = record { from = built.envelope.from; to = built.envelope.to; id = built.envelope.id; kind = iq.Result; payload = child (fin_elem (fin_of cut)) no_nodes }
+  v = record { from = built.envelope.from; to = built.envelope.to; id = built.envelope.id; kind = iq.Result; payload = child (end_elem cut) no_nodes }
 
   abbrev e : Elem
   e = iq_elem v
@@ -171,7 +179,7 @@ module _ (o : Owned) (keep : ℕ) (history : List EntryView) (d : ItemDevice) (s
     ended =
         iq_turn d.client s is.online is.session v (subst IsNormal (sym built.answer.from) tt) built.answer.to
         ∙ page_answers o keep history d s b is q page there same v e built.answer.from built.answer.id_is
-        ∙ ap (λ read. result_of_page in_items h (page_shown history page) (result_ok read)) (end_again cut.numbers cut.first_index cut.count cut.complete built.index built.page.count_fits)
+        ∙ ap (λ read. result_of_page in_items h (page_shown history page) (result_ok read)) (end_again cut.backward cut.numbers cut.first_index cut.count cut.complete built.index built.page.count_fits)
         ∙ ap (page_ended in_items h (page_shown history page) fin) (ends_well keep history d.client.log b is.log is.given page there q complete last count fin fits small good)
 
     -- the last page

@@ -194,9 +194,13 @@ fn page_of(alloc: Global, keep: u32, asked: Asked) -> Option<PageCut> {
     answered(alloc, &archive, asked).ok()
 }
 
+fn is_backward(at: At) -> bool {
+    matches!(at, At::Before(_) | At::Last)
+}
+
 fn is_found(alloc: Global, keep: u32, asked: Asked, found: Found) -> bool {
     match page_of(alloc, keep, asked) {
-        Some(cut) => is_page(alloc, &cut, found),
+        Some(cut) => cut.backward == is_backward(asked.3) && is_page(alloc, &cut, found),
         None => false,
     }
 }

@@ -11,13 +11,13 @@ use mam_pages::PageCut;
 use std::alloc::Global;
 use xml_trees::{Attr, Element, Node, Nodes};
 
-// What is passed on: which call, and with what it is called.
+// What is passed on: which call, and with what it is called. The end of a page, by whether it was asked for backwards.
 #[derive(Clone, Copy)]
 enum Said {
     Passed(Option<u64>),
     Copied(bool),
     Archived,
-    PageEnd,
+    PageEnd(bool),
 }
 
 const ALICE: &str = "alice@chat.example/phone";
@@ -27,7 +27,7 @@ const BOB: &str = "bob@chat.example";
 const DESK: &str = "bob@chat.example/desk";
 
 // Each thing, the text of its message, and its bytes.
-static EXPECTED: [(Said, &str, &str); 7] = [
+static EXPECTED: [(Said, &str, &str); 8] = [
     (
         Said::Passed(None),
         "Hi",
@@ -59,9 +59,14 @@ static EXPECTED: [(Said, &str, &str); 7] = [
         "<message from='bob@chat.example' to='bob@chat.example/desk'><result xmlns='urn:xmpp:mam:2' id='0000000000000007' queryid='q1'><forwarded xmlns='urn:xmpp:forward:0'><delay xmlns='urn:xmpp:delay' stamp='1970-01-01T00:00:00.005Z'/><message xmlns='jabber:client' from='alice@chat.example/phone' id='m1' to='bob@chat.example' type='normal'><body xml:lang='cs'>Hi</body><origin-id xmlns='urn:xmpp:sid:0' id='o1'/></message></forwarded></result></message>",
     ),
     (
-        Said::PageEnd,
+        Said::PageEnd(false),
         "",
         "<iq from='bob@chat.example' id='i1' to='bob@chat.example/desk' type='result'><fin xmlns='urn:xmpp:mam:2' complete='true'><set xmlns='http://jabber.org/protocol/rsm'><first index='3'>0000000000000007</first><last>0000000000000007</last><count>4</count></set></fin></iq>",
+    ),
+    (
+        Said::PageEnd(true),
+        "",
+        "<iq from='bob@chat.example' id='i1' to='bob@chat.example/desk' type='result'><fin xmlns='urn:xmpp:mam:2' complete='true'><set xmlns='http://jabber.org/protocol/rsm'><first>0000000000000007</first><last>0000000000000007</last><count>4</count></set></fin></iq>",
     ),
 ];
 
@@ -128,7 +133,7 @@ fn passed_on(alloc: Global, said: Said, text: &str) -> Result<Bytes, NoMemory> {
             };
             copied(alloc, sent, &addressed, &filed)
         }
-        Said::Archived | Said::PageEnd => Ok(Bytes::new(alloc)),
+        Said::Archived | Said::PageEnd(_) => Ok(Bytes::new(alloc)),
     }
 }
 
@@ -164,7 +169,7 @@ fn result(alloc: Global, text: &str) -> Result<Bytes, NoMemory> {
     archived(alloc, &asker, &entry)
 }
 
-fn end(alloc: Global) -> Result<Bytes, NoMemory> {
+fn end(alloc: Global, backward: bool) -> Result<Bytes, NoMemory> {
     let mut numbers = Numbers::new(alloc);
     numbers.push(7)?;
     let cut = PageCut {
@@ -172,6 +177,7 @@ fn end(alloc: Global) -> Result<Bytes, NoMemory> {
         first_index: 3,
         count: 4,
         complete: true,
+        backward,
     };
     let envelope = Envelope {
         from: Some(BOB),
@@ -184,7 +190,7 @@ fn end(alloc: Global) -> Result<Bytes, NoMemory> {
 fn bytes_of(alloc: Global, said: Said, text: &str) -> Result<Bytes, NoMemory> {
     match said {
         Said::Archived => result(alloc, text),
-        Said::PageEnd => end(alloc),
+        Said::PageEnd(backward) => end(alloc, backward),
         _ => passed_on(alloc, said, text),
     }
 }
