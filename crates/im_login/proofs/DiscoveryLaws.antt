@@ -1,6 +1,6 @@
 -- What is told of an entity is a tree, and is written one by one.
 use Rattle.std.proofs.Common.{◌≡◌, ℕ, List, [], ◌∷◌, refl, ap, codes}
-use Rattle.im_login.specs.Discovery.{Told, disco_info_elem, feature_elem, feature_elems, identity_elem, identity_elems}
+use Rattle.im_login.specs.Discovery.{Told, disco_info_elem, disco_items_elem, feature_elem, feature_elems, identity_elem, identity_elems}
 use Rattle.im_payload.specs.Names.{disco_info}
 use Rattle.xml_trees.proofs.Folds.{joined_assoc, joined_none}
 use Rattle.xml_trees.specs.Tidied.{tidied, tidied_nodes}
@@ -16,6 +16,10 @@ all_stay (i ∷ is) features = ap (child (identity_elem i)) (all_stay is feature
 
 pub told_stays : (identities : List Told) (features : List (List ℕ)) → tidied (disco_info_elem identities features) ≡ disco_info_elem identities features
 told_stays identities features = ap (element disco_info (codes "query") []) (all_stay identities features)
+
+pub items_stay : (node : List ℕ) → tidied (disco_items_elem node) ≡ disco_items_elem node
+items_stay [] = refl
+items_stay (c ∷ cs) = refl
 
 -- nothing more, and one child more in front of others
 pub none_more : (e : Elem) → with_nodes e no_nodes ≡ e

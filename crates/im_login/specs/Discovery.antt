@@ -1,8 +1,9 @@
--- The answers of service discovery (XEP-0030, section 3.1).
+-- The answers of service discovery (XEP-0030, sections 3.1 and 4.1).
 use Rattle.std.specs.Prelude.{ℕ, List, [], ◌∷◌, codes}
 use Rattle.std.specs.Borrow.{Bor}
 use Rattle.im_login.specs.declared.discovery.Identity.{Identity}
-use Rattle.im_payload.specs.Names.{archive, carbons, disco_info, pings, stanza_ids}
+use Rattle.im_payload.specs.Names.{archive, carbons, disco_info, disco_items, pings, stanza_ids}
+use Rattle.im_stanza.specs.Written.{attr_where, unless_empty}
 use Rattle.xml_trees.specs.Attributes.{attribute}
 use Rattle.xml_trees.specs.Trees.{Elem, element, Nodes, no_nodes, child, joined}
 
@@ -34,6 +35,10 @@ feature_elems (namespace ∷ more) = child (feature_elem namespace) (feature_ele
 abbrev pub disco_info_elem : List Told → List (List ℕ) → Elem
 disco_info_elem identities features = element disco_info (codes "query") [] (joined (identity_elems identities) (feature_elems features))
 
+-- that there are no items: of the node that was asked for, which is empty where none was
+abbrev pub disco_items_elem : List ℕ → Elem
+disco_items_elem node = element disco_items (codes "query") (attr_where [] (codes "node") (unless_empty node)) no_nodes
+
 -- ---- what a server says of itself and of an account
 
 abbrev pub server : Told
@@ -43,4 +48,4 @@ abbrev pub account : Told
 account = (codes "account", codes "registered")
 
 abbrev pub server_features : List (List ℕ)
-server_features = disco_info ∷ carbons ∷ archive ∷ pings ∷ stanza_ids ∷ []
+server_features = disco_info ∷ disco_items ∷ carbons ∷ archive ∷ pings ∷ stanza_ids ∷ []

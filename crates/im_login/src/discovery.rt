@@ -1,11 +1,13 @@
-//! The answers of service discovery (XEP-0030, section 3.1).
+//! The answers of service discovery (XEP-0030, sections 3.1 and 4.1).
 ghost use Rattle.std.specs.Prelude.{◌≡◌, [], ◌∷◌, IfOk, OnErr, OnOk, codes, map};
-ghost use Rattle.im_login.specs.Discovery.{account, disco_info_elem, feature_elem, feature_elems, identity_elem, identity_elems, server, server_features, shown, word};
+ghost use Rattle.im_login.specs.Discovery.{account, disco_info_elem, disco_items_elem, feature_elem, feature_elems, identity_elem, identity_elems, server, server_features, shown, word};
 ghost use Rattle.xml_trees.specs.Trees.{with_nodes};
 ghost use Rattle.xml_trees.specs.Views.{elem_view};
 
 use base_io::NoMemory;
-use im_payload::{ARCHIVE, CARBONS, DISCO_INFO, PINGS, STANZA_IDS, push_value};
+use im_payload::{
+    ARCHIVE, CARBONS, DISCO_INFO, DISCO_ITEMS, PINGS, STANZA_IDS, push_unless_empty, push_value,
+};
 use std::alloc::Global;
 use xml_trees::{Element, Tree};
 
@@ -17,7 +19,7 @@ pub struct Identity<'a> {
 }
 
 /// The namespaces of what a server and its accounts can do, in the order in which they are told.
-const SERVER_FEATURES: [&str; 5] = [DISCO_INFO, CARBONS, ARCHIVE, PINGS, STANZA_IDS];
+const SERVER_FEATURES: [&str; 6] = [DISCO_INFO, DISCO_ITEMS, CARBONS, ARCHIVE, PINGS, STANZA_IDS];
 
 fn identity_element(alloc: Global, identity: &Identity<'_>) -> Result<Element, NoMemory>
     ensures { IfOk result (λ e. elem_view e ≡ identity_elem (shown identity.now)) }
@@ -97,4 +99,14 @@ pub fn account_info(alloc: Global) -> Result<Tree, NoMemory>
         kind: "registered",
     };
     disco_info_tree(alloc, &[identity], &SERVER_FEATURES)
+}
+
+/// What a server says of the items of a node that was asked for: there are none. The node is left out where it is empty.
+#[tactic(auto, using(crate::proofs::DiscoveryLaws::items_stay))]
+pub fn disco_items_tree(alloc: Global, node: &str) -> Result<Tree, NoMemory>
+    ensures { IfOk result (λ tree. tree ≡ disco_items_elem node.now) }
+{
+    let mut query = Element::from_strs(alloc, DISCO_ITEMS, "query")?;
+    push_unless_empty(alloc, &mut query, "node", node)?;
+    Tree::of(alloc, query)
 }

@@ -1,5 +1,5 @@
 //! Logins as stanzas: the elements of SASL (RFC 6120, section 6), the features of a stream (RFC 6120, section 4.3.2), and the
-//! answers of service discovery (XEP-0030, section 3.1).
+//! answers of service discovery (XEP-0030, sections 3.1 and 4.1).
 #![tactic(auto)]
 
 mod discovery;
@@ -10,7 +10,7 @@ mod sasl;
 mod sasl_laws;
 mod texts;
 
-pub use discovery::{Identity, account_info, disco_info_tree, server_info};
+pub use discovery::{Identity, account_info, disco_info_tree, disco_items_tree, server_info};
 pub use features::{Features, SCRAM_SHA_256};
 pub use features_laws::features_are_read;
 pub use sasl::{Abort, Auth, Challenge, Response, SaslFailure, Success};

@@ -25,6 +25,9 @@ pings = codes "urn:xmpp:ping"
 abbrev pub disco_info : List ℕ
 disco_info = codes "http://jabber.org/protocol/disco#info"
 
+abbrev pub disco_items : List ℕ
+disco_items = codes "http://jabber.org/protocol/disco#items"
+
 -- the roster (RFC 6121, section 2)
 abbrev pub roster : List ℕ
 roster = codes "jabber:iq:roster"

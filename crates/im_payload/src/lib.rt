@@ -9,8 +9,8 @@ mod writers;
 
 pub use fault::{ExtFault, Field};
 pub use names::{
-    ARCHIVE, BINDING, CARBONS, DATA_FORMS, DELAYS, DISCO_INFO, FORWARDING, MANAGEMENT, PINGS,
-    RESULT_SETS, ROSTER, SASL, SESSIONS, STANZA_IDS,
+    ARCHIVE, BINDING, CARBONS, DATA_FORMS, DELAYS, DISCO_INFO, DISCO_ITEMS, FORWARDING, MANAGEMENT,
+    PINGS, RESULT_SETS, ROSTER, SASL, SESSIONS, STANZA_IDS,
 };
 pub use readers::{
     attr_text, child_text, child_text_or_empty, flag, moment_in, optional_u32, optional_u64,

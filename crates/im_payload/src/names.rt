@@ -18,6 +18,9 @@ pub const PINGS: &str = "urn:xmpp:ping";
 /// The namespace of requests for information (XEP-0030).
 pub const DISCO_INFO: &str = "http://jabber.org/protocol/disco#info";
 
+/// The namespace of requests for items (XEP-0030).
+pub const DISCO_ITEMS: &str = "http://jabber.org/protocol/disco#items";
+
 /// The namespace of the roster (RFC 6121, section 2).
 pub const ROSTER: &str = "jabber:iq:roster";
 

@@ -2,7 +2,7 @@
 use Rattle.std.specs.Prelude.{ℕ, List, [], ◌∷◌, Option, None, codes}
 use Rattle.std.specs.Option.{option_copied}
 use Rattle.im_extensions.specs.Bind.{bind_result_elem}
-use Rattle.im_login.specs.Discovery.{account, disco_info_elem, server, server_features}
+use Rattle.im_login.specs.Discovery.{account, disco_info_elem, disco_items_elem, server, server_features}
 use Rattle.im_payload.specs.Bare.{bare}
 use Rattle.im_payload.specs.Names.{roster}
 use Rattle.xml_writer.specs.Items.{ItemOut, Whole, written_item}
@@ -51,6 +51,13 @@ account_info_item a = result_item a (child (disco_info_elem (account ∷ []) ser
 
 abbrev pub account_info_text : EnvelopeView → List ℕ
 account_info_text a = written_item (account_info_item a)
+
+-- no items, of this node, which is empty where none was asked for (XEP-0030, section 4.1)
+abbrev pub items_item : List ℕ → EnvelopeView → ItemOut
+items_item node a = result_item a (child (disco_items_elem node) no_nodes)
+
+abbrev pub items_text : List ℕ → EnvelopeView → List ℕ
+items_text node a = written_item (items_item node a)
 
 -- the address that a client has from now on (sections 7.6 and 7.7), of which the answer tells no other
 abbrev pub bound_item : List ℕ → List ℕ → ItemOut

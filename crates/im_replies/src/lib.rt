@@ -12,7 +12,8 @@ mod streams;
 pub use conditions::StreamCondition;
 pub use management::{ack, enabled, refused, request, resumable, resumed};
 pub use requests::{
-    Envelope, account_info, bounced, bound, empty_result, refusal, result_of, roster, server_info,
+    Envelope, account_info, bounced, bound, empty_result, items, refusal, result_of, roster,
+    server_info,
 };
 pub use sasl::{challenge, failure, success};
 pub use streams::{footer, header, login_features, session_features, stream_error, too_high};

@@ -1,14 +1,16 @@
 //! What a server answers to requests and to messages that it can't pass on (RFC 6120, sections 7, 8.2.3 and 8.3.1).
 ghost use Rattle.std.specs.Prelude.{◌≡◌, IfOk};
 ghost use Rattle.im_extensions.specs.Bind.{bind_result_elem};
-ghost use Rattle.im_replies.specs.Requests.{account_info_text, bounce_text, bound_text, empty_result_text, envelope_view, iq_error_text, result_item, roster_text, server_info_text};
+ghost use Rattle.im_replies.specs.Requests.{account_info_text, bounce_text, bound_text, empty_result_text, envelope_view, iq_error_text, items_text, result_item, roster_text, server_info_text};
 ghost use Rattle.xml_writer.specs.Items.{written_item};
 ghost use Rattle.xml_trees.specs.Trees.{child, no_nodes};
 ghost use Rattle.xml_trees.specs.Views.{elem_view, nodes_view};
 
 use crate::spelling::{spelled, spelled_element};
 use base_io::{Bytes, NoMemory};
-use im_login::{account_info as account_info_tree, server_info as server_info_tree};
+use im_login::{
+    account_info as account_info_tree, disco_items_tree, server_info as server_info_tree,
+};
 use im_payload::{BINDING, ROSTER, push_text_child};
 use im_stanza::{IqKind, StanzaAttrs, StanzaError, bounce, iq_error, stanza_element};
 use std::alloc::Global;
@@ -79,6 +81,14 @@ pub fn account_info(alloc: Global, envelope: &Envelope<'_>) -> Result<Bytes, NoM
     ensures { IfOk result (λ b. b.items ≡ account_info_text (envelope_view envelope.now)) }
 {
     let tree = account_info_tree(alloc)?;
+    result_of(alloc, envelope, tree.into_element())
+}
+
+/// That there are no items of this node, which is left out where it is empty (XEP-0030, section 4.1).
+pub fn items(alloc: Global, envelope: &Envelope<'_>, node: &str) -> Result<Bytes, NoMemory>
+    ensures { IfOk result (λ b. b.items ≡ items_text node.now (envelope_view envelope.now)) }
+{
+    let tree = disco_items_tree(alloc, node)?;
     result_of(alloc, envelope, tree.into_element())
 }
 

@@ -9,14 +9,15 @@ use Rattle.im_mam.specs.declared.archive_query.MamQuery.{MamQuery}
 use Rattle.mam_pages.specs.Cuts.{CutView}
 use Rattle.mam_pages.specs.Kept.{kept_by}
 use Rattle.mam_pages.specs.PageOf.{page_of}
-use Rattle.im_payload.specs.Names.{archive, carbons, disco_info, pings, roster, sessions as sessions_ns}
-use Rattle.im_replies.specs.Requests.{EnvelopeView, account_info_item, iq_error_item, result_item, roster_item, server_info_item}
+use Rattle.im_payload.specs.Names.{archive, carbons, disco_info, disco_items, pings, roster, sessions as sessions_ns}
+use Rattle.im_payload.specs.Shapes.{attr_or_empty}
+use Rattle.im_replies.specs.Requests.{EnvelopeView, account_info_item, iq_error_item, items_item, result_item, roster_item, server_info_item}
 use Rattle.srv_state.specs.State.{Hall, Kept, archive_at, bare_address, session_address}
 use Rattle.srv_state.specs.Steps.{Act, Copy, Send}
 use Rattle.srv_handlers.specs.declared.request.Request.{Request}
 use Rattle.srv_handlers.specs.declared.request.Request.TheVariants as request
 use Rattle.im_stanza.specs.Views.{IqView}
-use Rattle.im_stanza.specs.declared.conditions.Condition.TheVariants.{BadRequest, ServiceUnavailable}
+use Rattle.im_stanza.specs.declared.conditions.Condition.TheVariants.{BadRequest, ItemNotFound, ServiceUnavailable}
 use Rattle.im_stanza.specs.declared.errors.ErrorKind.TheVariants.{Cancel, Modify}
 use Rattle.im_stanza.specs.declared.errors.StanzaError.{StanzaError}
 use Rattle.im_stanza.specs.declared.kinds.IqKind.{IqKind}
@@ -42,6 +43,10 @@ bad_request = record { kind = Modify; condition = BadRequest }
 
 abbrev pub not_served : StanzaError
 not_served = record { kind = Cancel; condition = ServiceUnavailable }
+
+-- the server has no nodes (XEP-0030, section 3.1)
+abbrev pub no_such_node : StanzaError
+no_such_node = record { kind = Cancel; condition = ItemNotFound }
 
 abbrev pub empty_answer : {A : Type 0} → (ItemOut → A) → IqView → Told → Hall A → List (Act A)
 empty_answer say q t h = answering_iq say t (result_item (envelope_of q t h) no_nodes)
@@ -77,11 +82,20 @@ abbrev pub query_request : Result MamQuery StanzaError → Request
 query_request (Ok query) = request.Archive query
 query_request (Err e) = request.Refused e
 
+-- the node that a query of service discovery is about, empty where it is about none (XEP-0030, sections 3.1 and 4.1)
+abbrev pub node_asked : Elem → List ℕ
+node_asked e = attr_or_empty (codes "node") e
+
+abbrev pub info_request : Bool → List ℕ → Request
+info_request at_domain [] = request.Info at_domain
+info_request at_domain (c ∷ cs) = request.Refused no_such_node
+
 abbrev pub get_request : Bool → Elem → Request
 get_request at_domain e =
     if is_named pings (codes "ping") e then request.Ping
-    else (if is_named disco_info (codes "query") e then request.Info at_domain
-    else (if is_named roster (codes "query") e then request.Roster else request.Refused not_served))
+    else (if is_named disco_info (codes "query") e then info_request at_domain (node_asked e)
+    else (if is_named disco_items (codes "query") e then request.Items (node_asked e)
+    else (if is_named roster (codes "query") e then request.Roster else request.Refused not_served)))
 
 abbrev pub set_request : Bool → Elem → Request
 set_request at_domain e =
@@ -127,6 +141,7 @@ abbrev pub serving : {A : Type 0} → (ItemOut → A) → Option Request → IqV
 serving say None q t h = []
 serving say (Some request.Ping) q t h = empty_answer say q t h
 serving say (Some (request.Info at_domain)) q t h = answering_iq say t (info_item at_domain (envelope_of q t h))
+serving say (Some (request.Items node)) q t h = answering_iq say t (items_item node (envelope_of q t h))
 serving say (Some request.Roster) q t h = answering_iq say t (roster_item (envelope_of q t h))
 serving say (Some request.Session) q t h = empty_answer say q t h
 serving say (Some (request.Carbons on)) q t h = Copy t.number on ∷ empty_answer say q t h

@@ -3,7 +3,7 @@ ghost use Rattle.std.specs.Prelude.{◌≡◌, [], ◌∷◌, IfOk};
 ghost use Rattle.srv_state.specs.Seen.{hall_of};
 ghost use Rattle.im_forwarding.specs.Queries;
 ghost use Rattle.srv_handlers.specs.Requests;
-ghost use Rattle.srv_handlers.specs.Requests.{asked_of, get_request, request_for, request_of, set_request};
+ghost use Rattle.srv_handlers.specs.Requests.{asked_of, get_request, info_request, node_asked, request_for, request_of, set_request};
 ghost use Rattle.xml_trees.specs.Readers.{elements_of};
 ghost use Rattle.xml_trees.specs.Views.{elem_view};
 
@@ -11,7 +11,7 @@ use crate::request::Request;
 use base_io::NoMemory;
 use im_forwarding::{QueryFault, query_asked};
 use im_jid::Jid;
-use im_payload::{ARCHIVE, CARBONS, DISCO_INFO, PINGS, ROSTER, SESSIONS};
+use im_payload::{ARCHIVE, CARBONS, DISCO_INFO, DISCO_ITEMS, PINGS, ROSTER, SESSIONS, attr_text};
 use im_stanza::{Condition, ErrorKind, Iq, IqKind, StanzaError};
 use sm_live::Told;
 use srv_state::Desk;
@@ -36,19 +36,51 @@ fn not_served() -> StanzaError
     }
 }
 
+// The server has no nodes (XEP-0030, section 3.1).
+fn no_such_node() -> StanzaError
+    ensures { result ≡ Requests.no_such_node }
+{
+    StanzaError {
+        kind: ErrorKind::Cancel,
+        condition: Condition::ItemNotFound,
+    }
+}
+
 // ---- what a request asks for
 
-fn get_request(element: &Element, at_domain: bool) -> Request
-    ensures { result ≡ get_request at_domain (elem_view element.now) }
+// A query of what the domain or the account is, or of what a node is.
+fn info_request(element: &Element, at_domain: bool) -> Request
+    ensures { result ≡ info_request at_domain (node_asked (elem_view element.now)) }
+{
+    let node = element.attr("", "node").unwrap_or("");
+    if node.is_empty() {
+        Request::Info { at_domain }
+    } else {
+        Request::Refused(no_such_node())
+    }
+}
+
+// A query of the items of a node, or of the domain or the account.
+fn items_request(alloc: Global, element: &Element) -> Result<Request, NoMemory>
+    ensures { IfOk result (λ request. request ≡ Request.Items (node_asked (elem_view element.now))) }
+{
+    let node = attr_text(alloc, element, "node")?;
+    Ok(Request::Items { node })
+}
+
+fn get_request(alloc: Global, element: &Element, at_domain: bool) -> Result<Request, NoMemory>
+    ensures { IfOk result (λ request. request ≡ get_request at_domain (elem_view element.now)) }
 {
     if element.is(PINGS, "ping") {
-        Request::Ping
+        Ok(Request::Ping)
     } else if element.is(DISCO_INFO, "query") {
-        Request::Info { at_domain }
+        Ok(info_request(element, at_domain))
+    } else if element.is(DISCO_ITEMS, "query") {
+        items_request(alloc, element)
     } else if element.is(ROSTER, "query") {
-        Request::Roster
+        Ok(Request::Roster)
     } else {
-        Request::Refused(not_served())
+        Ok(Request::Refused(not_served()))
     }
 }
 
@@ -88,7 +120,7 @@ fn request_for(
     ensures { IfOk result (λ request. request ≡ request_for kind at_domain (elem_view element.now)) }
 {
     match kind {
-        IqKind::Get => Ok(get_request(element, at_domain)),
+        IqKind::Get => get_request(alloc, element, at_domain),
         _ => set_request(alloc, element, at_domain),
     }
 }

@@ -1,4 +1,5 @@
 //! What a session asks of the server.
+use base_io::Text;
 use im_mam::MamQuery;
 use im_stanza::StanzaError;
 
@@ -9,6 +10,8 @@ pub enum Request {
     Ping,
     /// What the domain, or else the account, is (XEP-0030).
     Info { at_domain: bool },
+    /// The items of a node, which is empty where it asks for those of the domain or of the account (XEP-0030).
+    Items { node: Text },
     /// Its contacts (RFC 6121, section 2).
     Roster,
     /// A session, which it has (RFC 3921, section 3).

@@ -5,7 +5,7 @@ ghost use Rattle.srv_state.specs.Seen.{hall_of, step_of};
 ghost use Rattle.srv_state.specs.State;
 ghost use Rattle.srv_state.specs.Steps.{Copy, Send, acted};
 ghost use Rattle.sm_live.specs.Sessions.{told_of};
-ghost use Rattle.im_replies.specs.Requests.{envelope_view, iq_error_item, result_item, roster_item};
+ghost use Rattle.im_replies.specs.Requests.{envelope_view, iq_error_item, items_item, result_item, roster_item};
 ghost use Rattle.srv_handlers.specs.Requests.{answering_iq, at_iq, info_item, serving};
 ghost use Rattle.xml_trees.specs.Trees.{no_nodes};
 ghost use Rattle.xml_writer.specs.Items.{written_item};
@@ -15,7 +15,7 @@ use crate::envelopes::envelope_to;
 use crate::queries::on_query;
 use crate::request::Request;
 use base_io::{Bytes, NoMemory};
-use im_replies::{Envelope, account_info, empty_result, refusal, roster, server_info};
+use im_replies::{Envelope, account_info, empty_result, items, refusal, roster, server_info};
 use im_stanza::{Iq, StanzaError};
 use sm_live::Told;
 use srv_state::{Desk, Parcel};
@@ -55,6 +55,21 @@ fn answer_info(
     ensures err { OnErr result (step_of desk.new ≡ step_of desk.old) }
 {
     let answer = info(desk.alloc, envelope, at_domain)?;
+    desk.reply(told, answer)
+}
+
+// There are no items, of whatever node (XEP-0030, section 4.1).
+fn answer_items(
+    desk: &mut Desk,
+    node: &str,
+    envelope: &Envelope<'_>,
+    told: &Told,
+) -> Result<(), NoMemory>
+    requires { Some told.now ≡ told_of told.now.number (hall_of desk.old).sessions }
+    ensures ok { OnOk result (step_of desk.new ≡ acted written_item (counting told.now (answering_iq written_item told.now (items_item node.now (envelope_view envelope.now)))) (step_of desk.old)) }
+    ensures err { OnErr result (step_of desk.new ≡ step_of desk.old) }
+{
+    let answer = items(desk.alloc, envelope, node)?;
     desk.reply(told, answer)
 }
 
@@ -135,6 +150,7 @@ fn serve(
     match request {
         Request::Ping => answer_done(desk, &envelope, told),
         Request::Info { at_domain } => answer_info(desk, at_domain, &envelope, told),
+        Request::Items { node } => answer_items(desk, node.as_str(), &envelope, told),
         Request::Roster => answer_roster(desk, &envelope, told),
         Request::Session => answer_done(desk, &envelope, told),
         Request::Carbons { on } => answer_switch(desk, on, &envelope, told),
@@ -159,9 +175,10 @@ fn serve_session(desk: &mut Desk, request: Request, iq: &Iq, told: &Told) -> Res
 /// - `bad-request` where it has no child element or several (section 8.2.3), and else `service-unavailable` where it is
 ///   to another address than the domain or the bare address of the session's account, or asks for nothing that is served
 ///   by its type;
-/// - of type `get`: a ping (XEP-0199, section 4) gets an empty result, a query of service discovery what the domain is, or
-///   what the account is where the request isn't to the domain (XEP-0030, section 3.1), and one of the roster a roster
-///   without contacts (RFC 6121, section 2.1.4);
+/// - of type `get`: a ping (XEP-0199, section 4) gets an empty result; a query of service discovery what the domain is, or
+///   what the account is where the request isn't to the domain, or `item-not-found` where it has a `node`, since the server
+///   has none (XEP-0030, section 3.1); one for items a result without items and with its `node` (section 4.1); and one of
+///   the roster a roster without contacts (RFC 6121, section 2.1.4). An empty `node` counts as none;
 /// - of type `set`: a session gets an empty result (RFC 3921, section 3), and so does `enable` or `disable`, after which the
 ///   session is sent copies, or no more (XEP-0280, sections 4 and 5); a query of the account's archive that is not to the
 ///   domain gets the entries of its page, one message each, and then the answer that ends the page, or the error by which
