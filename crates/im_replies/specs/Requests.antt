@@ -1,4 +1,5 @@
--- What a server answers to requests and to messages that it can't pass on (RFC 6120, sections 7, 8.2.3 and 8.3.1).
+-- What a server answers to requests, and to messages and presences that it can't pass on (RFC 6120, sections 7, 8.2.3 and
+-- 8.3.1).
 use Rattle.std.specs.Prelude.{ℕ, List, [], ◌∷◌, Option, None, codes}
 use Rattle.std.specs.Option.{option_copied}
 use Rattle.im_extensions.specs.Bind.{bind_result_elem}
@@ -7,7 +8,7 @@ use Rattle.im_payload.specs.Bare.{bare}
 use Rattle.im_payload.specs.Names.{roster}
 use Rattle.xml_writer.specs.Items.{ItemOut, Whole, written_item}
 use Rattle.im_replies.specs.declared.requests.Envelope.{Envelope}
-use Rattle.im_stanza.specs.Answering.{bounce_elem, iq_error_elem}
+use Rattle.im_stanza.specs.Answering.{bounce_elem, iq_error_elem, presence_bounce_elem}
 use Rattle.im_stanza.specs.Written.{iq_elem}
 use Rattle.im_stanza.specs.declared.errors.StanzaError.{StanzaError}
 use Rattle.im_stanza.specs.declared.kinds.IqKind.TheVariants.{Result}
@@ -80,3 +81,10 @@ bounce_item from id e = Whole (bounce_elem from id e)
 
 abbrev pub bounce_text : List ℕ → List ℕ → StanzaError → List ℕ
 bounce_text from id e = written_item (bounce_item from id e)
+
+-- so does a presence
+abbrev pub presence_bounce_item : List ℕ → List ℕ → StanzaError → ItemOut
+presence_bounce_item from id e = Whole (presence_bounce_elem from id e)
+
+abbrev pub presence_bounce_text : List ℕ → List ℕ → StanzaError → List ℕ
+presence_bounce_text from id e = written_item (presence_bounce_item from id e)

@@ -1,7 +1,8 @@
-//! What a server answers to requests and to messages that it can't pass on (RFC 6120, sections 7, 8.2.3 and 8.3.1).
+//! What a server answers to requests, and to messages and presences that it can't pass on (RFC 6120, sections 7, 8.2.3 and
+//! 8.3.1).
 ghost use Rattle.std.specs.Prelude.{◌≡◌, IfOk};
 ghost use Rattle.im_extensions.specs.Bind.{bind_result_elem};
-ghost use Rattle.im_replies.specs.Requests.{account_info_text, bounce_text, bound_text, empty_result_text, envelope_view, iq_error_text, items_text, result_item, roster_text, server_info_text};
+ghost use Rattle.im_replies.specs.Requests.{account_info_text, bounce_text, bound_text, empty_result_text, envelope_view, iq_error_text, items_text, presence_bounce_text, result_item, roster_text, server_info_text};
 ghost use Rattle.xml_writer.specs.Items.{written_item};
 ghost use Rattle.xml_trees.specs.Trees.{child, no_nodes};
 ghost use Rattle.xml_trees.specs.Views.{elem_view, nodes_view};
@@ -12,7 +13,9 @@ use im_login::{
     account_info as account_info_tree, disco_items_tree, server_info as server_info_tree,
 };
 use im_payload::{BINDING, ROSTER, push_text_child};
-use im_stanza::{IqKind, StanzaAttrs, StanzaError, bounce, iq_error, stanza_element};
+use im_stanza::{
+    IqKind, StanzaAttrs, StanzaError, bounce, iq_error, presence_bounce, stanza_element,
+};
 use std::alloc::Global;
 use xml_trees::{Element, Node, Nodes};
 
@@ -134,5 +137,20 @@ pub fn bounced(alloc: Global, from: &str, id: &str, error: &StanzaError) -> Resu
     ensures { IfOk result (λ b. b.items ≡ bounce_text from.now id.now error.now) }
 {
     let tree = bounce(alloc, from, id, error)?;
+    spelled(alloc, &tree)
+}
+
+/// A presence that comes back: `from` is the address that it was to, and `id` its id (RFC 6120, section 8.3.1). The id is
+/// left out where it is empty.
+#[tactic(auto, using(crate::proofs::AnswerLaws::presence_bounce_stays))]
+pub fn bounced_presence(
+    alloc: Global,
+    from: &str,
+    id: &str,
+    error: &StanzaError,
+) -> Result<Bytes, NoMemory>
+    ensures { IfOk result (λ b. b.items ≡ presence_bounce_text from.now id.now error.now) }
+{
+    let tree = presence_bounce(alloc, from, id, error)?;
     spelled(alloc, &tree)
 }

@@ -1,6 +1,6 @@
 -- What a client says to have a session (RFC 6120, section 7; XEP-0198, sections 3 and 5), and at its beginning (XEP-0280,
 -- section 4; RFC 6121, section 4.2).
-use Rattle.std.specs.Prelude.{ℕ, true, List, None, codes, pos}
+use Rattle.std.specs.Prelude.{ℕ, true, List, [], None, codes, pos}
 use Rattle.im_extensions.specs.Bind.{bind_request_elem}
 use Rattle.im_extensions.specs.Requests.{carbons_switch_elem}
 use Rattle.im_extensions.specs.StreamManagement.{enable_elem, resume_elem}
@@ -47,7 +47,7 @@ carbons_text = written_item carbons_item
 
 -- the client is available (RFC 6121, section 4.2)
 abbrev pub available_item : ItemOut
-available_item = Whole (presence_elem (record { from = None; to = None; kind = Available; priority = pos 0 }))
+available_item = Whole (presence_elem (record { from = None; to = None; id = []; kind = Available; priority = pos 0 }))
 
 abbrev pub available_text : List ℕ
 available_text = written_item available_item

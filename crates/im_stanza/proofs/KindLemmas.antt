@@ -1,5 +1,5 @@
 -- A kind is read exactly from its spelling.
-use Rattle.std.proofs.Common.{◌≡◌, ◌≢◌, ℕ, Bool, true, false, cond, List, Option, Some, None, refl, sym, ◌∙◌, ap, subst, ◌⊎◌, inl, inr, codes}
+use Rattle.std.proofs.Common.{◌≡◌, ◌≢◌, ℕ, Bool, true, false, cond, List, Option, Some, None, refl, sym, ◌∙◌, ap, subst, ◌⊎◌, inl, inr, codes, Decides}
 use Rattle.std.specs.Str.{bytes_eq}
 use Rattle.std.proofs.lemmas.Bool.{cases_Bool}
 use Rattle.std.proofs.lemmas.Slice.Eq.{bytes_eq-Decides}
@@ -111,24 +111,48 @@ pub error_kind_unique : (given : Option (List ℕ)) (kind : ErrorKind) → IsErr
 error_kind_unique None kind is = no_kind_unique error_type error.Cancel kind is
 error_kind_unique (Some name) kind is = kind_unique error_type error.Cancel error_kind_named error_reads name kind is
 
-presence_named_is : (name : List ℕ) (unavailable : Bool) → (unavailable ≡ true → name ≡ codes "unavailable") → (name ≡ codes "unavailable" → unavailable ≡ true)
-    → IsPresenceKind (Some name) (cond unavailable presence.Unavailable presence.Other)
-presence_named_is name true to from = record { available = λ e. cc; unavailable = λ e. refl; other = λ _ not. absurd (not (ap Some (to refl))) }
-presence_named_is name false to from = record { available = λ e. cc; unavailable = λ e. let same : name ≡ codes "unavailable" = cc in let q = from same in cc; other = λ _ _. refl }
+unavailable_no_error : codes "unavailable" ≡ codes "error" → ⊥
+unavailable_no_error p = let t : false ≡ true = equal_bytes (codes "unavailable") (codes "error") p in cc
+
+presence_named_is : (name : List ℕ) (unavailable error : Bool) → Decides unavailable (name ≡ codes "unavailable") → Decides error (name ≡ codes "error")
+    → IsPresenceKind (Some name) (cond unavailable presence.Unavailable (cond error presence.Error presence.Other))
+presence_named_is name true error u e = record {
+  available = λ p. cc;
+  unavailable = λ _. refl;
+  error = λ p. let same : name ≡ codes "error" = cc in absurd (unavailable_no_error (sym (u.0 refl) ∙ same));
+  other = λ _ not _. absurd (not (ap Some (u.0 refl)));
+}
+presence_named_is name false true u e = record {
+  available = λ p. cc;
+  unavailable = λ p. let same : name ≡ codes "unavailable" = cc in let q = u.1 same in cc;
+  error = λ _. refl;
+  other = λ _ _ not. absurd (not (ap Some (e.0 refl)));
+}
+presence_named_is name false false u e = record {
+  available = λ p. cc;
+  unavailable = λ p. let same : name ≡ codes "unavailable" = cc in let q = u.1 same in cc;
+  error = λ p. let same : name ≡ codes "error" = cc in let q = e.1 same in cc;
+  other = λ _ _ _. refl;
+}
 
 pub presence_kind_is : (given : Option (List ℕ)) → IsPresenceKind given (presence_kind given)
-presence_kind_is None = record { available = λ _. refl; unavailable = λ e. cc; other = λ none _. absurd (none refl) }
-presence_kind_is (Some name) = presence_named_is name (bytes_eq name (codes "unavailable")) (same_bytes name (codes "unavailable")) (equal_bytes name (codes "unavailable"))
+presence_kind_is None = record { available = λ _. refl; unavailable = λ e. cc; error = λ e. cc; other = λ none _ _. absurd (none refl) }
+presence_kind_is (Some name) =
+    presence_named_is name (bytes_eq name (codes "unavailable")) (bytes_eq name (codes "error")) (bytes_eq-Decides name (codes "unavailable")) (bytes_eq-Decides name (codes "error"))
 
 pub presence_kind_unique : (given : Option (List ℕ)) (kind : PresenceKind) → IsPresenceKind given kind → kind ≡ presence_kind given
 presence_kind_unique None kind is = is.available refl
 presence_kind_unique (Some name) kind is =
     elim (tell_apart name (codes "unavailable")) [
       | inl e ↦ is.unavailable (ap Some e) ∙ sym ((presence_kind_is (Some name)).unavailable (ap Some e))
-      | inr e ↦
-          let some : Some name ≢ None = λ p. cc in
-          let other : Some name ≢ Some (codes "unavailable") = λ p. e cc in
-          is.other some other ∙ sym ((presence_kind_is (Some name)).other some other)
+      | inr e ↦ elim (tell_apart name (codes "error")) [
+        | inl g ↦ is.error (ap Some g) ∙ sym ((presence_kind_is (Some name)).error (ap Some g))
+        | inr g ↦
+            let some : Some name ≢ None = λ p. cc in
+            let present : Some name ≢ Some (codes "unavailable") = λ p. e cc in
+            let fine : Some name ≢ Some (codes "error") = λ p. g cc in
+            is.other some present fine ∙ sym ((presence_kind_is (Some name)).other some present fine)
+      ]
     ]
 
 iq_again : (k : IqKind) → iq_kind_named (iq_type k) ≡ Some k

@@ -104,8 +104,8 @@ pub message_law : (e : Elem) (m : MessageView) → (stanza_of e ≡ Ok (Message 
 message_law e m = (message_from e m, message_to e m)
 
 presence_built : (e : Elem) (both : Addresses) (v : PresenceView) → IsNamed (codes "presence") e → IsAddressOf (from_attr e) both.0 → IsAddressOf (to_attr e) both.1
-    → record { from = both.0; to = both.1; kind = presence_kind (type_attr e); priority = presence_priority e } ≡ v → IsPresence e v
-presence_built e both v named from to is = rw (← is) (record { named = named; from = from; to = to; kind = presence_kind_is (type_attr e); priority = refl })
+    → record { from = both.0; to = both.1; id = id_or_empty e; kind = presence_kind (type_attr e); priority = presence_priority e } ≡ v → IsPresence e v
+presence_built e both v named from to is = rw (← is) (record { named = named; from = from; to = to; id = refl; kind = presence_kind_is (type_attr e); priority = refl })
 
 presence_from : (e : Elem) (v : PresenceView) → stanza_of e ≡ Ok (Presence v) → IsPresence e v
 presence_from e v p =
@@ -118,7 +118,7 @@ presence_from e v p =
 presence_to : (e : Elem) (v : PresenceView) → IsPresence e v → stanza_of e ≡ Ok (Presence v)
 presence_to e v is =
     at_presence e is.named ∙ ap (with_addresses _) (addresses_read false false e v.from v.to is.from is.to)
-    ∙ (λ i. Ok (Presence (record { from = v.from; to = v.to; kind = sym (presence_kind_unique (type_attr e) v.kind is.kind) i; priority = sym is.priority i })))
+    ∙ (λ i. Ok (Presence (record { from = v.from; to = v.to; id = sym is.id i; kind = sym (presence_kind_unique (type_attr e) v.kind is.kind) i; priority = sym is.priority i })))
 
 pub presence_law : (e : Elem) (v : PresenceView) → (stanza_of e ≡ Ok (Presence v)) ↔ IsPresence e v
 presence_law e v = (presence_from e v, presence_to e v)

@@ -12,7 +12,7 @@ use Rattle.im_stanza.specs.declared.errors.ErrorKind.TheVariants as error
 use Rattle.im_stanza.specs.declared.fault.StanzaErrorFault.TheVariants.{NoError}
 use Rattle.im_stanza.specs.declared.kinds.MessageKind.TheVariants.{Normal}
 use Rattle.im_stanza.specs.declared.kinds.PresenceKind.TheVariants as presence
-use Rattle.im_stanza.specs.declared.stanzas.Stanza.TheVariants.{Message}
+use Rattle.im_stanza.specs.declared.stanzas.Stanza.TheVariants.{Message, Presence}
 use Rattle.im_stanza.specs.declared.fault.StanzaFault.TheVariants.{NotAStanza, BadFormat, BadFrom, BadTo}
 
 abbrev attr : List ℕ → List ℕ → Attribute
@@ -67,7 +67,16 @@ normal_is_written : message_elem (record { from = None; to = Some (codes "a.exam
     ≡ element client_ns (codes "message") (attr (codes "to") (codes "a.example") ∷ attr (codes "type") (codes "normal") ∷ record { ns = xml_ns; name = codes "lang"; value = codes "en" } ∷ []) hello
 normal_is_written = refl
 
-first_presence : presence_elem (record { from = None; to = None; kind = presence.Available; priority = pos 0 }) ≡ element client_ns (codes "presence") [] no_nodes
+-- types are compared as text (RFC 6121 section 4.7.1)
+presence_error : stanza_of (element client_ns (codes "presence") (attr (codes "id") (codes "7") ∷ attr (codes "type") (codes "error") ∷ []) no_nodes)
+    ≡ Ok (Presence (record { from = None; to = None; id = codes "7"; kind = presence.Error; priority = pos 0 }))
+presence_error = refl
+
+presence_capital_error : stanza_of (element client_ns (codes "presence") (attr (codes "type") (codes "Error") ∷ []) no_nodes)
+    ≡ Ok (Presence (record { from = None; to = None; id = []; kind = presence.Other; priority = pos 0 }))
+presence_capital_error = refl
+
+first_presence : presence_elem (record { from = None; to = None; id = []; kind = presence.Available; priority = pos 0 }) ≡ element client_ns (codes "presence") [] no_nodes
 first_presence = refl
 
 abbrev condition : List ℕ → Nodes → Nodes

@@ -21,7 +21,7 @@ use Rattle.im_stanza.specs.Views.{MessageView, IqView}
 use Rattle.im_stanza.specs.Written.{IsNormal, unless_empty, message_elem, presence_elem, iq_elem, priority_nodes}
 use Rattle.im_stanza.specs.declared.kinds.MessageKind.TheVariants.{Normal}
 use Rattle.im_stanza.specs.declared.kinds.PresenceKind.{PresenceKind}
-use Rattle.im_stanza.specs.declared.kinds.PresenceKind.TheVariants.{Available, Unavailable, Other}
+use Rattle.im_stanza.specs.declared.kinds.PresenceKind.TheVariants.{Available, Unavailable, Error, Other}
 use Rattle.im_stanza.specs.declared.stanzas.Presence.{Presence as PresenceView}
 use Rattle.im_stanza.specs.declared.stanzas.Stanza.TheVariants.{Message, Presence, Iq}
 
@@ -112,23 +112,26 @@ priority_stays n fits =
 presence_kind_again : (k : PresenceKind) → IsPresenceKind (presence_type k) k
 presence_kind_again Available = presence_kind_is (presence_type Available)
 presence_kind_again Unavailable = presence_kind_is (presence_type Unavailable)
+presence_kind_again Error = presence_kind_is (presence_type Error)
 presence_kind_again Other = presence_kind_is (presence_type Other)
 
 module _ (p : PresenceView) where
   presence_is : IsNormal p.from → IsNormal p.to → FitsSigned w8 p.priority → IsPresence (tidied (presence_elem p)) p
   presence_is from to fits =
       let e = presence_elem p in
+      let id = unless_empty p.id in
       let kind = presence_type p.kind in
       let P : Option (List ℕ) → Type 0 = λ given. IsPresenceKind given p.kind in record {
         named = (refl, refl);
-        from = address_again _ p.from (attr_tidied [] (codes "from") e ∙ from_written p.from None p.to kind None) from;
-        to = address_again _ p.to (attr_tidied [] (codes "to") e ∙ to_written p.from None p.to kind None) to;
-        kind = subst P (sym (attr_tidied [] (codes "type") e ∙ type_written p.from None p.to kind None)) (presence_kind_again p.kind);
+        from = address_again _ p.from (attr_tidied [] (codes "from") e ∙ from_written p.from id p.to kind None) from;
+        to = address_again _ p.to (attr_tidied [] (codes "to") e ∙ to_written p.from id p.to kind None) to;
+        id = id_again _ p.id (attr_tidied [] (codes "id") e ∙ id_written p.from id p.to kind None);
+        kind = subst P (sym (attr_tidied [] (codes "type") e ∙ type_written p.from id p.to kind None)) (presence_kind_again p.kind);
         priority = priority_again p.priority fits;
       }
 
   pub presence_stays : FitsSigned w8 p.priority → tidied (presence_elem p) ≡ presence_elem p
-  presence_stays fits = λ i. element client_ns (codes "presence") (attrs_stay p.from None p.to (presence_type p.kind) None i) (priority_stays p.priority fits i)
+  presence_stays fits = λ i. element client_ns (codes "presence") (attrs_stay p.from (unless_empty p.id) p.to (presence_type p.kind) None i) (priority_stays p.priority fits i)
 
   pub presence_tidied : IsNormal p.from → IsNormal p.to → FitsSigned w8 p.priority → stanza_of (tidied (presence_elem p)) ≡ Ok (Presence p)
   presence_tidied from to fits = (presence_law _ _).1 (presence_is from to fits)

@@ -4,7 +4,7 @@ use Rattle.std.specs.Str.{bytes_eq}
 use Rattle.im_stanza.specs.declared.kinds.MessageKind.{MessageKind}
 use Rattle.im_stanza.specs.declared.kinds.MessageKind.TheVariants.{Chat, Normal, Headline, Groupchat, Error}
 use Rattle.im_stanza.specs.declared.kinds.PresenceKind.{PresenceKind}
-use Rattle.im_stanza.specs.declared.kinds.PresenceKind.TheVariants.{Available, Unavailable, Other}
+use Rattle.im_stanza.specs.declared.kinds.PresenceKind.TheVariants as presence
 use Rattle.im_stanza.specs.declared.kinds.IqKind.{IqKind}
 use Rattle.im_stanza.specs.declared.kinds.IqKind.TheVariants as iq
 
@@ -46,20 +46,29 @@ answers_message _ = true
 
 -- Without a `type` a presence tells that its sender is available (RFC 6121 section 4.7.1).
 pub record IsPresenceKind (type_given : Option (List ℕ)) (kind : PresenceKind) : Type 0 where
-  pub available : type_given ≡ None → kind ≡ Available
-  pub unavailable : type_given ≡ Some (codes "unavailable") → kind ≡ Unavailable
-  pub other : type_given ≢ None → type_given ≢ Some (codes "unavailable") → kind ≡ Other
+  pub available : type_given ≡ None → kind ≡ presence.Available
+  pub unavailable : type_given ≡ Some (codes "unavailable") → kind ≡ presence.Unavailable
+  pub error : type_given ≡ Some (codes "error") → kind ≡ presence.Error
+  pub other : type_given ≢ None → type_given ≢ Some (codes "unavailable") → type_given ≢ Some (codes "error") → kind ≡ presence.Other
 
+abbrev pub presence_kind_named : List ℕ → PresenceKind
+presence_kind_named name =
+    if bytes_eq name (codes "unavailable") then presence.Unavailable
+    else (if bytes_eq name (codes "error") then presence.Error
+    else presence.Other)
+
+-- the kind of a presence with this `type`
 abbrev pub presence_kind : Option (List ℕ) → PresenceKind
-presence_kind None = Available
-presence_kind (Some name) = if bytes_eq name (codes "unavailable") then Unavailable else Other
+presence_kind None = presence.Available
+presence_kind (Some name) = presence_kind_named name
 
--- The `type` that a presence is written with. `Other` stands for any other type, and is written as one that asks
--- nothing of its reader.
+-- The `type` that a presence is written with. `Other` stands for any other type, and is written as one that changes
+-- nothing with its reader.
 abbrev pub presence_type : PresenceKind → Option (List ℕ)
-presence_type Available = None
-presence_type Unavailable = Some (codes "unavailable")
-presence_type Other = Some (codes "error")
+presence_type presence.Available = None
+presence_type presence.Unavailable = Some (codes "unavailable")
+presence_type presence.Error = Some (codes "error")
+presence_type presence.Other = Some (codes "probe")
 
 -- the `type` of an `iq` (RFC 6120 section 8.2.3)
 abbrev pub iq_type : IqKind → List ℕ

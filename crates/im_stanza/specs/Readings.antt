@@ -53,7 +53,7 @@ message_of e =
 abbrev pub presence_of : Elem → Result Stanza StanzaFault
 presence_of e =
     with_addresses
-    (λ both. Presence (record { from = both.0; to = both.1; kind = presence_kind (attr_named (codes "type") e); priority = presence_priority e }))
+    (λ both. Presence (record { from = both.0; to = both.1; id = id_or_empty e; kind = presence_kind (attr_named (codes "type") e); priority = presence_priority e }))
     (addresses_of false false e)
 
 abbrev pub iq_with : Option (List ℕ) → Option IqKind → Elem → Result Stanza StanzaFault

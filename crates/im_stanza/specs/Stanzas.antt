@@ -53,6 +53,7 @@ pub record IsPresence (tree : Elem) (p : Presence) : Type 0 where
   pub named : IsNamed (codes "presence") tree
   pub from : IsAddressOf (attr_named (codes "from") tree) p.from
   pub to : IsAddressOf (attr_named (codes "to") tree) p.to
+  pub id : p.id ≡ id_or_empty tree
   pub kind : IsPresenceKind (attr_named (codes "type") tree) p.kind
   pub priority : p.priority ≡ presence_priority tree
 

@@ -36,8 +36,9 @@ priority_nodes n =
     if int_eq n (pos 0) then no_nodes
     else child (element client_ns (codes "priority") [] (text (signed_decimal n) no_nodes)) no_nodes
 
+-- A presence, with its id where it isn't empty.
 abbrev pub presence_elem : Presence → Elem
-presence_elem p = element client_ns (codes "presence") (attrs_written p.from None p.to (presence_type p.kind) None) (priority_nodes p.priority)
+presence_elem p = element client_ns (codes "presence") (attrs_written p.from (unless_empty p.id) p.to (presence_type p.kind) None) (priority_nodes p.priority)
 
 -- An `iq`, with its id and `type` always.
 abbrev pub iq_elem : IqView → Elem

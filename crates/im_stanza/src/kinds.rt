@@ -1,7 +1,7 @@
 //! The types of stanzas (RFC 6120, section 8.2.3; RFC 6121, sections 4.7.1 and 5.2.2).
 ghost use Rattle.std.specs.Prelude.{◌≡◌};
 ghost use Rattle.std.specs.Option.{option_copied};
-ghost use Rattle.im_stanza.specs.Kinds.{answers_iq, answers_message, iq_kind, iq_kind_named, iq_type, message_kind, message_kind_named, message_type, presence_kind, presence_type};
+ghost use Rattle.im_stanza.specs.Kinds.{answers_iq, answers_message, iq_kind, iq_kind_named, iq_type, message_kind, message_kind_named, message_type, presence_kind, presence_kind_named, presence_type};
 
 /// The type of a message (RFC 6121, section 5.2.2). A message whose `type` is absent or none of these is `Normal`.
 #[derive(Clone, Copy, Debug, PartialEq, Eq)]
@@ -14,11 +14,13 @@ pub enum MessageKind {
 }
 
 /// What a presence tells (RFC 6121, section 4.7.1): without a `type` that its sender is available, with the type
-/// `unavailable` that it no longer is, and with any other type something else.
+/// `unavailable` that it no longer is, with the type `error` that a presence met an error, and with any other type
+/// something else.
 #[derive(Clone, Copy, Debug, PartialEq, Eq)]
 pub enum PresenceKind {
     Available,
     Unavailable,
+    Error,
     Other,
 }
 
@@ -86,21 +88,33 @@ impl PresenceKind {
     {
         match given {
             None => PresenceKind::Available,
-            Some(name) if name == "unavailable" => PresenceKind::Unavailable,
-            Some(_) => PresenceKind::Other,
+            Some(name) => presence_kind_named(name),
         }
     }
 
-    /// The `type` that a presence of this kind is written with, if any. `Other` is written as `error`, which asks nothing
-    /// of its reader.
+    /// The `type` that a presence of this kind is written with, if any. `Other` is written as `probe`, which changes
+    /// nothing with its reader.
     pub fn text(self) -> Option<&'static str>
         ensures { option_copied result ≡ presence_type self }
     {
         match self {
             PresenceKind::Available => None,
             PresenceKind::Unavailable => Some("unavailable"),
-            PresenceKind::Other => Some("error"),
+            PresenceKind::Error => Some("error"),
+            PresenceKind::Other => Some("probe"),
         }
+    }
+}
+
+fn presence_kind_named(name: &str) -> PresenceKind
+    ensures { result ≡ presence_kind_named name.now }
+{
+    if name == "unavailable" {
+        PresenceKind::Unavailable
+    } else if name == "error" {
+        PresenceKind::Error
+    } else {
+        PresenceKind::Other
     }
 }
 

@@ -16,7 +16,7 @@ mod stanzas;
 mod streams;
 mod writing;
 
-pub use answering::{bounce, iq_error};
+pub use answering::{bounce, iq_error, presence_bounce};
 pub use conditions::{Condition, condition_in};
 pub use elements::{StanzaAttrs, stanza_element};
 pub use errors::{ErrorKind, StanzaError, error_element, stanza_error, stanza_error_in};

@@ -46,6 +46,7 @@ impl Presence {
         Ok(Presence {
             from: address_copy(alloc, &self.from)?,
             to: address_copy(alloc, &self.to)?,
+            id: self.id.copied(alloc)?,
             kind: self.kind,
             priority: self.priority,
         })

@@ -118,12 +118,14 @@ fn message_head(alloc: Global, e: &Element) -> Result<MessageHead, StanzaFault>
 fn read_presence(alloc: Global, e: &Element) -> Result<Stanza, StanzaFault>
     ensures { Answers result (presence_of (elem_view e.now)) }
 {
+    let priority = priority(alloc, e)?;
     let (from, to) = addresses(alloc, e, false, false)?;
     Ok(Stanza::Presence(Presence {
         from,
         to,
+        id: text_of(alloc, e.attr("", "id"))?,
         kind: PresenceKind::of(e.attr("", "type")),
-        priority: priority(alloc, e)?,
+        priority,
     }))
 }
 

@@ -17,11 +17,13 @@ pub struct Message {
     pub payload: Nodes,
 }
 
-/// A presence (RFC 6120, section 8.2.2, RFC 6121, section 4.7), less what this project does not use of it.
+/// A presence (RFC 6120, section 8.2.2, RFC 6121, section 4.7), less what this project does not use of it. An absent `id`
+/// is empty.
 #[derive(Drop)]
 pub struct Presence {
     pub from: Option<Jid>,
     pub to: Option<Jid>,
+    pub id: Text,
     pub kind: PresenceKind,
     pub priority: i8,
 }

@@ -51,8 +51,8 @@ pub(crate) fn message_element(
     )
 }
 
-/// A presence as a tree. Without a `type` its sender is available; `Other` is written as `error`, which asks nothing of
-/// its reader. A priority of 0 is left out.
+/// A presence as a tree. Without a `type` its sender is available; `Other` is written as `probe`, which changes nothing
+/// with its reader. An empty `id` and a priority of 0 are left out.
 #[tactic(auto, using(crate::proofs::WrittenLaws::presence_tidied))]
 pub fn presence_tree(alloc: Global, p: &Presence) -> Result<Tree, NoMemory>
     ensures tree { IfOk result (λ tree. tree ≡ tidied (presence_elem p.now)) }
@@ -69,7 +69,7 @@ fn presence_element(alloc: Global, p: &Presence) -> Result<Element, NoMemory>
 {
     let attrs = StanzaAttrs {
         from: address_text(&p.from),
-        id: None,
+        id: unless_empty(p.id.as_str()),
         to: address_text(&p.to),
         kind: p.kind.text(),
         lang: None,

@@ -43,7 +43,7 @@ carbons_small =
     wider _ _ _ _ _ (omega arith) (omega arith)
     (setting_small (codes "carbons") (carbons_switch_elem (record { on = true })) 7 _ _ (literal (codes "carbons") 7 refl refl) (bare_small carbons (codes "enable") no_nodes 0 0 refl (none_small 0)))
 
-pub available_small : IsSmall (presence_elem (record { from = None; to = None; kind = Available; priority = pos 0 })) 65536 32
+pub available_small : IsSmall (presence_elem (record { from = None; to = None; id = []; kind = Available; priority = pos 0 })) 65536 32
 available_small =
     wider _ _ _ _ _ (omega arith) (omega arith)
     (element_small client_ns (codes "presence") [] no_nodes 400 0 0 refl refl (fewer _ _ 400 _ 16 (omega arith) (omega arith) (stanza_attributes None None None None None 0 0 0 0 0 tt tt tt tt tt)) (none_small 0))

@@ -1,5 +1,5 @@
 -- The stanzas with which a session begins, the switch of carbons and the presence, are for the server.
-use Rattle.std.proofs.Common.{◌≡◌, true, false, None, codes, pos, refl}
+use Rattle.std.proofs.Common.{◌≡◌, true, false, [], None, codes, pos, refl}
 use Rattle.srv_state.specs.Words.{is_long}
 use Rattle.sim_3_items.specs.Counted.{IsForServer}
 use Rattle.im_extensions.specs.Requests.{carbons_switch_elem}
@@ -14,7 +14,7 @@ abbrev switch : Elem
 switch = setting_elem (codes "carbons") (child (carbons_switch_elem (record { on = true })) no_nodes)
 
 abbrev presence : Elem
-presence = presence_elem (record { from = None; to = None; kind = Available; priority = pos 0 })
+presence = presence_elem (record { from = None; to = None; id = []; kind = Available; priority = pos 0 })
 
 switch_short : is_long switch ≡ false
 unfolding spelled_name declared_default spelled_attribute assignment value_byte text_byte default_inside

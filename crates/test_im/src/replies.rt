@@ -1,9 +1,9 @@
 // What a server says of its own, as it is sent (RFC 6120, sections 4, 6, 7 and 8; XEP-0198).
 use base_io::{Bytes, NoMemory};
 use im_replies::{
-    Envelope, StreamCondition, account_info, ack, bounced, bound, challenge, empty_result, enabled,
-    failure, footer, header, login_features, refusal, refused, request, resumable, resumed, roster,
-    server_info, session_features, stream_error, success, too_high,
+    Envelope, StreamCondition, account_info, ack, bounced, bounced_presence, bound, challenge,
+    empty_result, enabled, failure, footer, header, login_features, refusal, refused, request,
+    resumable, resumed, roster, server_info, session_features, stream_error, success, too_high,
 };
 use im_stanza::{Condition, ErrorKind, StanzaError};
 use std::alloc::Global;
@@ -33,6 +33,7 @@ enum Reply {
     Bound,
     Refusal,
     Bounced(&'static str),
+    BouncedPresence(&'static str),
 }
 
 const ENTROPY: [u8; 24] = [
@@ -52,7 +53,7 @@ const UNNAMED: Envelope<'static> = Envelope {
 };
 
 // Each reply, and its bytes.
-static REPLIES: [(Reply, &str); 24] = [
+static REPLIES: [(Reply, &str); 26] = [
     (
         Reply::Header,
         "<?xml version='1.0'?><stream:stream from='chat.example' id='0001ab10fffa000000000000002a' version='1.0' xml:lang='en' xmlns='jabber:client' xmlns:stream='http://etherx.jabber.org/streams'>",
@@ -137,11 +138,24 @@ static REPLIES: [(Reply, &str); 24] = [
         Reply::Bounced("m1"),
         "<message from='bob@chat.example' id='m1' type='error'><error type='cancel'><service-unavailable xmlns='urn:ietf:params:xml:ns:xmpp-stanzas'/></error></message>",
     ),
+    (
+        Reply::BouncedPresence("p1"),
+        "<presence from='rooms.example/nick' id='p1' type='error'><error type='cancel'><remote-server-not-found xmlns='urn:ietf:params:xml:ns:xmpp-stanzas'/></error></presence>",
+    ),
+    (
+        Reply::BouncedPresence(""),
+        "<presence from='rooms.example/nick' type='error'><error type='cancel'><remote-server-not-found xmlns='urn:ietf:params:xml:ns:xmpp-stanzas'/></error></presence>",
+    ),
 ];
 
 const UNAVAILABLE: StanzaError = StanzaError {
     kind: ErrorKind::Cancel,
     condition: Condition::ServiceUnavailable,
+};
+
+const NOT_FOUND: StanzaError = StanzaError {
+    kind: ErrorKind::Cancel,
+    condition: Condition::RemoteServerNotFound,
 };
 
 fn login_reply(alloc: Global, reply: Reply) -> Result<Bytes, NoMemory> {
@@ -173,6 +187,9 @@ fn answer(alloc: Global, reply: Reply) -> Result<Bytes, NoMemory> {
         Reply::Bound => bound(alloc, "b1", "alice@chat.example/phone"),
         Reply::Refusal => refusal(alloc, &TO_ALICE, &UNAVAILABLE),
         Reply::Bounced(id) => bounced(alloc, "bob@chat.example", id, &UNAVAILABLE),
+        Reply::BouncedPresence(id) => {
+            bounced_presence(alloc, "rooms.example/nick", id, &NOT_FOUND)
+        }
         _ => management_reply(alloc, reply),
     }
 }

@@ -66,7 +66,7 @@ struct Row {
     text: &'static str,
 }
 
-static STANZAS: [Row; 6] = [
+static STANZAS: [Row; 7] = [
     Row {
         name: "message",
         given: &[
@@ -93,8 +93,14 @@ static STANZAS: [Row; 6] = [
     },
     Row {
         name: "presence",
-        given: &[("type", "subscribe"), ("to", "A.example.")],
-        written: &[("type", "error"), ("to", "a.example")],
+        given: &[("type", "subscribe"), ("id", ""), ("to", "A.example.")],
+        written: &[("type", "probe"), ("to", "a.example")],
+        text: "",
+    },
+    Row {
+        name: "presence",
+        given: &[("type", "error"), ("id", "2")],
+        written: &[("type", "error"), ("id", "2")],
         text: "",
     },
     Row {
