@@ -1,11 +1,13 @@
 -- The answers of the two ends come exactly where they should.
 use Rattle.std.proofs.Common.{◌≡◌, ◌∙◌, ◌≢◌, ℕ, ◌≤◌, Bool, true, false, cond, List, length, drop, Option, Some, None, Result, Ok, Err, refl, sym, ap, arith, Decides}
-use Rattle.std.specs.Prelude.{◌↔◌, if◌then◌else◌, nat_eq, nat_le, MatchResult}
+use Rattle.std.specs.Prelude.{◌↔◌, if◌then◌else◌, nat_eq, nat_le, nat_lt, MatchResult}
 use Rattle.std.specs.List.{starts_with}
 use Rattle.std.specs.Str.{bytes_eq}
+use Rattle.std.proofs.lemmas.Bool.{and_parts, lt-ltb, ltb-true}
 use Rattle.std.proofs.lemmas.Bool.Decides.{Decides-and, Decides-eqb, nat_tests}
+use Rattle.std.proofs.lemmas.List.{length-append}
 use Rattle.std.proofs.lemmas.Slice.Eq.{bytes_eq-Decides, starts_is}
-use Rattle.auth_scram.specs.Exchange.{ClientView, ServerView, client_auth, client_final_without_proof, is_count_taken, is_proof, is_verifier, replied, reply_to, sent, server_auth, server_final_message, then_judge, verifier_for}
+use Rattle.auth_scram.specs.Exchange.{ClientView, ServerView, adds_to, client_auth, client_final_without_proof, is_count_taken, is_proof, is_verifier, replied, reply_to, sent, server_auth, server_final_message, then_judge, verifier_for}
 use Rattle.auth_primitives.specs.Hashes.{client_signature, salted_password, stored_key, verifier_of, xor_bytes}
 use Rattle.auth_scram.specs.Judgements.{Continues, IsCheck, IsCountTaken, IsLastAnswer, IsReply, IsRightProof, JudgementsAreExact}
 use Rattle.auth_scram.specs.Messages as reading
@@ -79,11 +81,19 @@ last_exact server (Err fault) = refl
 
 -- ---- the client's reply
 
-starts_with-Decides : (client : ClientView) (nonce : List ℕ) → Decides (starts_with nat_eq nonce client.nonce) (Continues client nonce)
-starts_with-Decides client nonce =
-    let told = starts_is Decides-eqb nonce client.nonce (starts_with nat_eq nonce client.nonce) refl in (
-      λ e. record { tail = drop (length client.nonce) nonce; is = told.0 e },
-      λ goes_on. told.1 goes_on.tail goes_on.is,
+adds_to-Decides : (client : ClientView) (nonce : List ℕ) → Decides (adds_to client.nonce nonce) (Continues client nonce)
+adds_to-Decides client nonce =
+    let own = client.nonce in
+    let begins = starts_is Decides-eqb nonce own (starts_with nat_eq nonce own) refl in (
+      λ e.
+          let parts = and_parts (starts_with nat_eq nonce own) (nat_lt (length own) (length nonce)) e in
+          let is = begins.0 parts.0 in
+          let tail = drop (length own) nonce in
+          let longer = ltb-true (length own) (length nonce) parts.1 in
+          record { tail = tail; some = omega (arith, longer, ap length is ∙ length-append own tail); is = is },
+      λ goes_on.
+          let size = ap length goes_on.is ∙ length-append own goes_on.tail in
+          rw (begins.1 goes_on.tail goes_on.is, lt-ltb (length own) (length nonce) (omega (arith, size, goes_on.some))) refl,
     )
 
 Decides-leb : (m n : ℕ) → Decides (nat_le m n) (m ≤ n)
@@ -104,9 +114,9 @@ is_reply : (client : ClientView) (bytes : List ℕ) (first : ServerFirstView)
     → IsReply client bytes first (reply_to client bytes first.nonce first.salt first.count)
 is_reply client bytes first =
     let value = replied (client_final_without_proof first.nonce) (salted_password client.password first.salt first.count) (client_auth client bytes first.nonce) in
-    let b = starts_with nat_eq first.nonce client.nonce in
+    let b = adds_to client.nonce first.nonce in
     let d = is_count_taken first.count in
-    let p = starts_with-Decides client first.nonce in
+    let p = adds_to-Decides client first.nonce in
     let q = is_count_taken-Decides first.count in
     let tests = by_tests {P = Continues client first.nonce} {Q = IsCountTaken first.count}
     value BadNonce (Iterations first.count) b d (λ e. absurd (cc)) p q in

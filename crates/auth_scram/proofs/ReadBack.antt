@@ -1,17 +1,18 @@
 -- That the two ends agree, from what it says of their messages that they are read back.
-use Rattle.std.proofs.Common.{◌≡◌, ◌∙◌, ℕ, ◌≤◌, Bool, true, false, cond, ◌&&◌, List, [], ◌∷◌, ◌++◌, length, Some, None, Ok, Err, refl, sym, ap, arith}
+use Rattle.std.proofs.Common.{◌≡◌, ◌∙◌, ℕ, ◌<◌, ◌≤◌, Bool, true, false, cond, ◌&&◌, List, [], ◌∷◌, ◌++◌, length, Some, None, Ok, Err, refl, sym, ap, arith}
 use Rattle.std.specs.Prelude.{nat_eq}
 use Rattle.std.specs.List.{list_all, starts_with}
 use Rattle.std.specs.Str.{bytes_eq}
 use Rattle.std.proofs.Math.Seq.{take-append_seam}
+use Rattle.std.proofs.lemmas.List.{length-append}
 use Rattle.std.proofs.lemmas.List.Folds.{list_all-append}
-use Rattle.std.proofs.lemmas.Bool.{and_parts}
+use Rattle.std.proofs.lemmas.Bool.{and_parts, lt-ltb}
 use Rattle.std.proofs.lemmas.Bool.Decides.{nat_tests}
 use Rattle.base64.specs.GeneralPurpose.{IsBytes}
 use Rattle.base_lemmas.proofs.Bytes.{bytes_eq-self}
 use Rattle.auth_scram.specs.Agreement.{Given, GoesThrough, IsAllowed, server_given}
 use Rattle.auth_scram.specs.Classes.{is_printable}
-use Rattle.auth_scram.specs.Exchange.{ClientView, ReplyView, begun_client, check_of, client_final_message, client_final_without_proof, client_first_bare, client_first_message, expecting, is_count_taken, is_expected, is_plain, is_proof, last_of, replied, reply_of, reply_to, sent, server_final_message, server_first_message, then_judge, verifier_for}
+use Rattle.auth_scram.specs.Exchange.{ClientView, ReplyView, adds_to, begun_client, check_of, client_final_message, client_final_without_proof, client_first_bare, client_first_message, expecting, is_count_taken, is_expected, is_plain, is_proof, last_of, replied, reply_of, reply_to, sent, server_final_message, server_first_message, then_judge, verifier_for}
 use Rattle.auth_scram.specs.Grammar.{is_nonce}
 use Rattle.auth_primitives.specs.Hashes.{auth_message, client_key, client_signature, proof_of, salted_password, server_key, stored_key, verifier_of}
 use Rattle.auth_scram.specs.Messages as reading
@@ -39,6 +40,9 @@ pub record AreReadBack : Type 0 where
 starts_with-front : (xs ys : List ℕ) → starts_with nat_eq (xs ++ ys) xs ≡ true
 starts_with-front xs ys = rw take-append_seam (bytes_eq-self xs)
 
+adds_to-append : (own tail : List ℕ) → 0 < length tail → adds_to own (own ++ tail) ≡ true
+adds_to-append own tail some = rw (starts_with-front own tail, lt-ltb (length own) (length (own ++ tail)) (omega (arith, length-append own tail))) refl
+
 count_taken : (i : ℕ) → 4096 ≤ i → i ≤ 1000000 → is_count_taken i ≡ true
 count_taken i least most = grind (arith, nat_tests)
 
@@ -49,12 +53,21 @@ one_pass x y false e = absurd (cc)
 both_pass : {A : Type 0} (x y z : A) (b d : Bool) → b ≡ true → d ≡ true → cond b (cond d x y) z ≡ x
 both_pass x y z b d p q = one_pass (cond d x y) z b p ∙ one_pass x y d q
 
--- a nonce and a tail are a nonce
-pub is_nonce-append : (nonce tail : List ℕ) → is_nonce nonce ≡ true → list_all is_printable tail ≡ true → is_nonce (nonce ++ tail) ≡ true
+-- a nonce is one or more characters, each of which is printable
+length-nonce : (nonce : List ℕ) → is_nonce nonce ≡ true → 0 < length nonce
+length-nonce [] n = absurd (cc)
+length-nonce (b ∷ nonce) n = omega arith
+
+each_printable : (nonce : List ℕ) → is_nonce nonce ≡ true → list_all is_printable nonce ≡ true
+each_printable [] n = refl
+each_printable (b ∷ nonce) n = let parts = and_parts (is_printable b) (list_all is_printable nonce) n in rw (parts.0, parts.1) refl
+
+-- a nonce and the part that is added to it are a nonce
+pub is_nonce-append : (nonce tail : List ℕ) → is_nonce nonce ≡ true → is_nonce tail ≡ true → is_nonce (nonce ++ tail) ≡ true
 is_nonce-append [] tail n t = absurd (cc)
 is_nonce-append (b ∷ nonce) tail n t =
     let parts = and_parts (is_printable b) (list_all is_printable nonce) n in
-    rw (parts.0, list_all-append is_printable nonce tail, parts.1, t) refl
+    rw (parts.0, list_all-append is_printable nonce tail, parts.1, each_printable tail t) refl
 
 -- ---- what the ends hold and send
 
@@ -117,8 +130,8 @@ replies back given allowed =
     (omega (arith, allowed.least)) (omega (arith, allowed.most)) in
     ap (then_judge (λ (m : ServerFirstView). reply_to (client given) (challenge given) m.nonce m.salt m.count)) read
     ∙ both_pass (Ok (reply given)) (Err (Iterations given.iterations)) (Err BadNonce)
-    (starts_with nat_eq (whole_nonce given) given.nonce) (is_count_taken given.iterations)
-    (starts_with-front given.nonce given.tail) (count_taken given.iterations allowed.least allowed.most)
+    (adds_to given.nonce (whole_nonce given)) (is_count_taken given.iterations)
+    (adds_to-append given.nonce given.tail (length-nonce given.tail allowed.tail)) (count_taken given.iterations allowed.least allowed.most)
 
 length-proof : (given : Given) → length (proof given) ≡ 32
 length-proof given =

@@ -1,13 +1,10 @@
 -- The messages that the two ends send are in the grammar.
-use Rattle.std.proofs.Common.{◌≡◌, ℕ, ◌≤◌, Bool, true, false, cond, ◌&&◌, List, [], ◌∷◌, ◌++◌, Some, Result, Ok, Err, refl, subst}
-use Rattle.std.specs.Prelude.{nat_eq}
-use Rattle.std.specs.List.{list_all, starts_with}
+use Rattle.std.proofs.Common.{◌≡◌, ℕ, ◌≤◌, Bool, true, false, cond, ◌&&◌, List, ◌++◌, Some, Result, Ok, Err, refl, subst}
 use Rattle.std.specs.Str.{bytes_eq}
 use Rattle.std.proofs.lemmas.Bool.{and_parts}
 use Rattle.base64.specs.GeneralPurpose.{IsBytes}
 use Rattle.auth_primitives.specs.Hashes.{client_key, client_signature, proof_of, salted_password, stored_key, verifier_of}
-use Rattle.auth_scram.specs.Classes.{is_printable}
-use Rattle.auth_scram.specs.Exchange.{ClientView, CredentialsView, ReplyView, ServerView, bare_of, base64_of, begun_client, begun_server, client_auth, client_final_without_proof, is_count_taken, is_plain, is_proof, last_of, reply_of, reply_to, sent, server_auth, server_final_message, then_judge, verifier_for}
+use Rattle.auth_scram.specs.Exchange.{ClientView, CredentialsView, ReplyView, ServerView, adds_to, bare_of, base64_of, begun_client, begun_server, client_auth, client_final_without_proof, is_count_taken, is_plain, is_proof, last_of, reply_of, reply_to, sent, server_auth, server_final_message, then_judge, verifier_for}
 use Rattle.auth_scram.specs.Grammar.{InClientFinal, InServerFinal, IsClientFirst, IsNonce, IsServerFirst}
 use Rattle.auth_scram.specs.Messages.{ClientFinalView, ServerFirstView, client_final_of, client_first_of, server_first_of}
 use Rattle.auth_scram.specs.Values.{most_told}
@@ -55,11 +52,6 @@ client_first_sent name password nonce client random begins =
 
 -- ---- the server's first message
 
-each_printable : (tail : List ℕ) → IsNonce tail → list_all is_printable tail ≡ true
-each_printable [] random = refl
-each_printable (b ∷ tail) random =
-    let parts = and_parts (is_printable b) (list_all is_printable tail) random in rw (parts.0, parts.1) refl
-
 pub server_first_sent : (bytes tail : List ℕ) (first : ClientFirst) (credentials : CredentialsView) → client_first_of bytes ≡ Ok first → IsNonce tail → IsBytes credentials.salt
     → 1 ≤ credentials.iterations → credentials.iterations ≤ most_told
     → IsServerFirst (first.nonce ++ tail) credentials.salt credentials.iterations (begun_server first credentials tail).message
@@ -67,14 +59,14 @@ unfolding base64_of
 server_first_sent bytes tail first credentials read random fits some most =
     let found = first_found bytes first read in
     server_first_is (first.nonce ++ tail) credentials.salt credentials.iterations
-    (is_nonce-append first.nonce tail found.said.random (each_printable tail random)) fits some most
+    (is_nonce-append first.nonce tail found.said.random random) fits some most
 
 -- ---- the final messages
 
 reply_sent : (client : ClientView) (bytes nonce salt : List ℕ) (count : ℕ) (reply : ReplyView) → IsNonce nonce → reply_to client bytes nonce salt count ≡ Ok reply → InClientFinal Unsupported reply.message
 unfolding base64_of
 reply_sent client bytes nonce salt count reply random e =
-    let same = chosen_two (starts_with nat_eq nonce client.nonce) (is_count_taken count) _ reply _ _ e in
+    let same = chosen_two (adds_to client.nonce nonce) (is_count_taken count) _ reply _ _ e in
     let salted = salted_password client.password salt count in
     let signature = client_signature (stored_key (client_key salted)) (client_auth client bytes nonce) in
     let proof = proof_of (client_key salted) signature in

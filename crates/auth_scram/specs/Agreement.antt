@@ -1,8 +1,6 @@
 -- The two ends of an exchange under one password agree.
 use Rattle.std.specs.Prelude.{◌≡◌, ℕ, ◌≤◌, true, List, Ok}
-use Rattle.std.specs.List.{list_all}
 use Rattle.base64.specs.GeneralPurpose.{IsBytes}
-use Rattle.auth_scram.specs.Classes.{is_printable}
 use Rattle.auth_scram.specs.Exchange.{ClientView, ReplyView, ServerView, begun_client, begun_server, check_of, credentials_of, expecting, is_plain, last_of, reply_of, server_final_message}
 use Rattle.auth_scram.specs.Grammar.{is_nonce}
 use Rattle.auth_scram.specs.Messages as reading
@@ -17,7 +15,8 @@ pub record Given : Type 0 where
   pub nonce : List ℕ
   pub tail : List ℕ
 
--- names and passwords of printable ASCII, a salt of bytes, a count within bounds, and nonces in the grammar
+-- names and passwords of printable ASCII, a salt of bytes, a count within bounds, and nonces in the grammar: the client's,
+-- and the part that the server adds, which has one character at least
 pub record IsAllowed (given : Given) : Type 0 where
   pub name : is_plain given.name ≡ true
   pub password : is_plain given.password ≡ true
@@ -25,7 +24,7 @@ pub record IsAllowed (given : Given) : Type 0 where
   pub least : 4096 ≤ given.iterations
   pub most : given.iterations ≤ 1000000
   pub nonce : is_nonce given.nonce ≡ true
-  pub tail : list_all is_printable given.tail ≡ true
+  pub tail : is_nonce given.tail ≡ true
 
 -- the server's end, once it has read the client's first message
 abbrev pub server_given : Given → ClientFirst → ServerView

@@ -167,10 +167,14 @@ replied without_proof salted auth = record {
 abbrev pub is_count_taken : ℕ → Bool
 is_count_taken i = nat_le 4096 i && nat_le i 1000000
 
+-- the server's nonce begins with the client's and adds a part of its own to it (RFC 5802 section 5.1, `r`)
+abbrev pub adds_to : List ℕ → List ℕ → Bool
+adds_to own whole = starts_with nat_eq whole own && nat_lt (length own) (length whole)
+
 -- the client's reply to a first message of the server of these parts: first the nonce is judged and then the count
 abbrev pub reply_to : ClientView → List ℕ → List ℕ → List ℕ → ℕ → Result ReplyView ScramFault
 reply_to client server_first nonce salt i =
-    if starts_with nat_eq nonce client.nonce
+    if adds_to client.nonce nonce
     then (if is_count_taken i
     then Ok (replied (client_final_without_proof nonce) (salted_password client.password salt i)
     (client_auth client server_first nonce))

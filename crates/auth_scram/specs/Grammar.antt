@@ -118,7 +118,8 @@ abbrev pub gs2_header : BindingFlag → List ℕ
 gs2_header Unsupported = codes "n,,"
 gs2_header NotOffered = codes "y,,"
 
--- client-final-message, where the client's first message had this flag
+-- client-final-message, where the client's first message had this flag. The proof is its last attribute, and the one that
+-- is named `p`
 pub record IsClientFinal (flag : BindingFlag) (without_proof nonce proof bytes : List ℕ) : Type 0 where
   pub extensions : List ℕ
   pub random : IsNonce nonce

@@ -1,5 +1,5 @@
 -- When each answer of the two ends comes: the definitions of the answers, said as relations (RFC 5802 section 5).
-use Rattle.std.specs.Prelude.{◌≡◌, ◌≢◌, ◌↔◌, ℕ, ◌≤◌, List, ◌++◌, Option, Some, Result, Ok, Err, MatchResult}
+use Rattle.std.specs.Prelude.{◌≡◌, ◌≢◌, ◌↔◌, ℕ, ◌<◌, ◌≤◌, List, ◌++◌, length, Option, Some, Result, Ok, Err, MatchResult}
 use Rattle.auth_scram.specs.Exchange.{ClientView, ReplyView, ServerView, check_of, client_auth, client_final_without_proof, last_of, replied, reply_of, server_auth, server_final_message}
 use Rattle.auth_primitives.specs.Hashes.{client_signature, salted_password, stored_key, verifier_of, xor_bytes}
 use Rattle.auth_scram.specs.Messages as reading
@@ -24,9 +24,10 @@ pub record IsLastAnswer (server : ServerView) (final : ClientFinalView) (answer 
       ↔ ((final.nonce ≡ server.nonce)
       × (¬ (IsRightProof server.stored_key (server_auth server final.without_proof) final.proof)))
 
--- the nonce begins with the client's
+-- the nonce is the client's and a part of the server's own, which is not empty (RFC 5802 section 5.1, `r`)
 pub record Continues (client : ClientView) (nonce : List ℕ) : Type 0 where
   pub tail : List ℕ
+  pub some : 0 < length tail
   pub is : nonce ≡ client.nonce ++ tail
 
 abbrev pub IsCountTaken : ℕ → Type 0

@@ -11,9 +11,9 @@ pub fn ends_agree()
 {}
 
 /// The law of when each answer comes. `last` accepts exactly the final messages within the grammar that have the whole
-/// nonce and the right proof, `reply` replies to exactly the first messages whose nonce begins with the client's and
-/// whose count is within bounds, and `check` accepts exactly the verifier that is expected; each refusal comes exactly
-/// where its cause is the first that holds. It does nothing.
+/// nonce and the right proof, `reply` replies to exactly the first messages whose nonce is the client's with a part of
+/// the server's own behind it and whose count is within bounds, and `check` accepts exactly the verifier that is
+/// expected; each refusal comes exactly where its cause is the first that holds. It does nothing.
 pub fn judgements_are_exact()
     ensures { JudgementsAreExact }
 {}

@@ -119,7 +119,8 @@ impl ScramClient {
         requires { IsBase64 salt.now }
         ensures { Judges (λ r. r) result (reply_to self.now server_first.now nonce.now (base64_bytes salt.now) i) }
     {
-        if !nonce.starts_with(self.nonce.as_str().as_bytes()) {
+        let own = self.nonce.as_str().as_bytes();
+        if !(nonce.starts_with(own) && own.len() < nonce.len()) {
             return Err(ScramFault::BadNonce);
         }
         if !(LEAST_ITERATIONS <= i && i <= MOST_ITERATIONS) {
@@ -141,9 +142,9 @@ impl ScramClient {
 
     /// Replies to the server's first message: `c=biws,r=` its nonce, `,p=` the base64 of the proof. `Malformed` comes
     /// exactly where the message leaves the grammar, else `BadNonce` exactly where its nonce does not begin with the
-    /// client's, else `Iterations` exactly where the count is not within `LEAST_ITERATIONS` to `MOST_ITERATIONS`. A
-    /// refusal leaves the client as it was; after an Ok it expects a verifier. Want of memory is answered only where the
-    /// answer would be Ok.
+    /// client's or adds nothing to it (RFC 5802, section 5.1), else `Iterations` exactly where the count is not within
+    /// `LEAST_ITERATIONS` to `MOST_ITERATIONS`. A refusal leaves the client as it was; after an Ok it expects a verifier.
+    /// Want of memory is answered only where the answer would be Ok.
     pub fn reply(&mut self, alloc: Global, server_first: &[u8]) -> Result<Bytes, ScramFault>
         ensures answer { Judges (λ m. m.items) result (sent (λ r. r.message) (reply_of self.old server_first.now)) }
         ensures expects { OnOk result (self.new ≡ expecting self.old (reply_of self.old server_first.now)) }

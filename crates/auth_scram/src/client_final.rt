@@ -65,7 +65,8 @@ fn before_proof<'a>(bytes: &'a [u8], proof: &[u8]) -> &'a [u8]
 }
 
 /// What a client's final message says, where `flag` is that of the client's first. `Malformed` comes exactly where it
-/// leaves the grammar, with the place; a `c=` of another GS2 header leaves it. It takes no memory.
+/// leaves the grammar, with the place; a `c=` of another GS2 header leaves it, and so does an attribute `p` that is not
+/// the last. It takes no memory.
 pub(crate) fn read_client_final(
     flag: BindingFlag,
     bytes: &[u8],

@@ -1,8 +1,8 @@
 -- The rows of a login keep to the bounds.
 use Rattle.std.proofs.Common.{◌≡◌, ℕ, ◌≤◌, ◌&&◌, Bool, true, false, List, [], take, length, codes, Option, Some, None, IfSome, Result, Ok, Err, refl, arith, if◌then◌else◌, length-take}
 use Rattle.std.proofs.lemmas.Bool.{and_parts}
-use Rattle.std.specs.List.{list_all, starts_with}
-use Rattle.std.specs.Prelude.{nat_eq, nat_lt}
+use Rattle.std.specs.List.{list_all}
+use Rattle.std.specs.Prelude.{nat_lt}
 use Rattle.law_limits.proofs.Messages.{drawn_bytes, drawn_short, first_short, reply_short}
 use Rattle.law_limits.proofs.TurnsKept.{ends_within, goes_within, put_within, puts_within}
 use Rattle.law_limits.specs.Answerable.{IsAnswerable}
@@ -27,7 +27,7 @@ use Rattle.im_payload.specs.declared.fault.ExtFault.{ExtFault}
 use Rattle.law_limits.proofs.Fitted as fitted
 use Rattle.law_limits.specs.Bounds.{IsTextWithin, most_id, most_part}
 use Rattle.im_login.specs.Readings.{carrier_read}
-use Rattle.auth_scram.specs.Exchange.{ClientView, ReplyView, base64_of, begun_client, check_of, client_auth, client_final_without_proof, client_first_message, is_count_taken, is_plain, is_printable_ascii, replied, reply_to, then_judge}
+use Rattle.auth_scram.specs.Exchange.{ClientView, ReplyView, adds_to, base64_of, begun_client, check_of, client_auth, client_final_without_proof, client_first_message, is_count_taken, is_plain, is_printable_ascii, replied, reply_to, then_judge}
 use Rattle.auth_scram.specs.Messages.{ServerFirstView, server_first_of}
 use Rattle.auth_scram.specs.declared.fault.ScramFault.{ScramFault}
 use Rattle.auth_scram.specs.declared.fault.ScramFault.TheVariants.{BadName, Iterations}
@@ -83,7 +83,7 @@ replied_within exchange payload (Ok m) is short =
     let salted = salted_password exchange.password m.salt m.count in
     let auth = client_auth exchange payload m.nonce in
     let message = reply_short payload m salted auth (stored_key (client_key salted)) is short in
-    replied_either exchange (starts_with nat_eq m.nonce exchange.nonce) _ _
+    replied_either exchange (adds_to exchange.nonce m.nonce) _ _
     (replied_either exchange (is_count_taken m.count) (Ok (replied (client_final_without_proof m.nonce) salted auth)) (Err (Iterations m.count))
     (record { put = fitted.response (replied (client_final_without_proof m.nonce) salted auth).message message.bytes message.short; goes = tt }) (record { put = tt; goes = tt }))
     (record { put = tt; goes = tt })

@@ -1,6 +1,6 @@
 -- A login goes through, whatever bytes were drawn for its ends.
 use Rattle.std.proofs.Common.{◌≡◌, ℕ, zero, suc, ◌≤◌, ◌<◌, true, List, [], ◌∷◌, ◌++◌, length, take, refl, ap, arith}
-use Rattle.std.proofs.lemmas.Bool.{and_from, and_parts, ltb-true}
+use Rattle.std.proofs.lemmas.Bool.{and_parts, ltb-true}
 use Rattle.std.specs.Int.{to_be_bytes, w64}
 use Rattle.std.specs.List.{list_all}
 use Rattle.std.specs.Prelude.{nat_lt}
@@ -13,7 +13,6 @@ use Rattle.sim_3_images.specs.Logins.{HasLogin, IsDrawn}
 use Rattle.sim_3_items.specs.Identities.{Identity, bare_of}
 use Rattle.auth_scram.proofs.DrawnNonces.{drawn_is_nonce}
 use Rattle.auth_scram.specs.Agreement.{Given, IsAllowed}
-use Rattle.auth_scram.specs.Classes.{is_printable}
 use Rattle.auth_scram.specs.Exchange.{added_nonce, base64_of, is_plain, salt_of}
 use Rattle.auth_scram.specs.Grammar.{is_nonce}
 use Rattle.law_limits.proofs.StartKept.{hash_bytes, high_first}
@@ -29,10 +28,6 @@ take_all (suc n) (x ∷ xs) long = ap suc (take_all n xs (omega (arith, long)))
 nonce_drawn : (drawn : List ℕ) → IsDrawn drawn → is_nonce (added_nonce drawn) ≡ true
 unfolding base64_of
 nonce_drawn drawn is = drawn_is_nonce (take 18 drawn) (first_bytes 18 drawn is.bytes) (take_all 18 drawn is.enough)
-
-each_printable : (tail : List ℕ) → is_nonce tail ≡ true → list_all is_printable tail ≡ true
-each_printable [] h = refl
-each_printable (b ∷ tail) h = let parts = and_parts (is_printable b) (list_all is_printable tail) h in and_from (is_printable b) (list_all is_printable tail) parts.0 parts.1
 
 -- ---- what both ends are given
 
@@ -54,7 +49,7 @@ allowed who mine yours name password m y = record {
   least = omega arith;
   most = omega arith;
   nonce = nonce_drawn mine m;
-  tail = each_printable (added_nonce yours) (nonce_drawn yours y);
+  tail = nonce_drawn yours y;
 }
 
 pub has_login : (who : Identity) (mine yours : List ℕ) → is_plain who.name ≡ true → is_plain who.password ≡ true → IsDrawn mine → IsDrawn yours → HasLogin who mine yours

@@ -1,8 +1,8 @@
 -- An exchange under one password goes through, and its messages are bytes.
 use Rattle.std.proofs.Common.{◌≡◌, ℕ, ◌<◌, ◌^◌, Bool, true, false, cond, ◌&&◌, ◌++◌, List, Result, Ok, Err, refl, sym, subst}
 use Rattle.std.proofs.lemmas.Bool.{and_parts}
-use Rattle.std.specs.List.{list_all, starts_with}
-use Rattle.std.specs.Prelude.{nat_eq, nat_lt, length}
+use Rattle.std.specs.List.{list_all}
+use Rattle.std.specs.Prelude.{nat_lt, length}
 use Rattle.base64.specs.GeneralPurpose.{IsBytes}
 use Rattle.sim_3_images.proofs.LoginTexts.{auth_bytes, challenge_bytes, response_bytes, success_bytes}
 use Rattle.auth_primitives.specs.Hashes.{client_key, client_signature, proof_of, salted_password, stored_key}
@@ -10,7 +10,7 @@ use Rattle.auth_scram.proofs.MessageLaws.{server_first_found}
 use Rattle.auth_scram.proofs.ReadBack.{goes_through, is_nonce-append}
 use Rattle.auth_scram.proofs.ReadWritten.{read_back}
 use Rattle.auth_scram.specs.Agreement.{Given, GoesThrough, IsAllowed, server_given}
-use Rattle.auth_scram.specs.Exchange.{ClientView, ReplyView, begun_client, client_auth, is_count_taken, is_plain, is_printable_ascii, reply_of, reply_to, server_final_message, server_first_message, then_judge}
+use Rattle.auth_scram.specs.Exchange.{ClientView, ReplyView, adds_to, begun_client, client_auth, is_count_taken, is_plain, is_printable_ascii, reply_of, reply_to, server_final_message, server_first_message, then_judge}
 use Rattle.auth_scram.specs.Grammar.{is_nonce}
 use Rattle.auth_scram.specs.Messages.{ServerFirstView, server_first_of}
 use Rattle.auth_scram.specs.declared.fault.ScramFault.{ScramFault}
@@ -53,7 +53,7 @@ response_sent client bytes reply e =
     let m = read.message in
     let found = server_first_found bytes m read.is in
     let salted = salted_password client.password m.salt m.count in
-    let same = chosen_two (starts_with nat_eq m.nonce client.nonce) (is_count_taken m.count) _ reply _ _ read.judged in
+    let same = chosen_two (adds_to client.nonce m.nonce) (is_count_taken m.count) _ reply _ _ read.judged in
     subst (λ (r : ReplyView). IsBytes r.message) same
     (response_bytes m.nonce (proof_of (client_key salted) (client_signature (stored_key (client_key salted)) (client_auth client bytes m.nonce))) found.1.random)
 

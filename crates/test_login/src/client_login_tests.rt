@@ -51,7 +51,7 @@ const REFUSED: Outcome = Outcome::Ends("the exchange of SCRAM-SHA-256 failed");
 
 const UNKNOWN: Outcome = Outcome::Ends("the server's verifier is wrong");
 
-static LOGINS: [Row; 20] = [
+static LOGINS: [Row; 21] = [
     (&[], HEADER, Outcome::Waits),
     (&[Sent::Header], "", Outcome::Waits),
     (&[Sent::Header, FEATURES], AUTH, Outcome::Waits),
@@ -96,6 +96,18 @@ static LOGINS: [Row; 20] = [
             FEATURES,
             Sent::Challenge(
                 "r=AAAAAAAAAAAAAAAAAAAAAAABAQAAAAAAAAAAAAAAAAAAAAAA,s=thT/yuCWFyJHUaNWPs2g/A==,i=4096",
+            ),
+        ],
+        "",
+        REFUSED,
+    ),
+    // The server adds nothing to the client's nonce.
+    (
+        &[
+            Sent::Header,
+            FEATURES,
+            Sent::Challenge(
+                "r=AAAAAAAAAAAAAAAAAAAAAAAA,s=thT/yuCWFyJHUaNWPs2g/A==,i=4096",
             ),
         ],
         "",

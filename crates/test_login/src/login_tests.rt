@@ -171,7 +171,7 @@ fn ends(
 }
 
 // Names and texts of elements, and the conditions of their failures.
-static RESPONSES: [(&str, &str, Option<SaslCondition>); 8] = [
+static RESPONSES: [(&str, &str, Option<SaslCondition>); 10] = [
     (
         "response",
         "Yz1iaXdzLHI9ck9wck5HZndFYmVSV2diTkVrcU9BQUVDQXdRRkJnY0lDUW9MREEwT0R4QVIscD1UZ3ltRSs2ZEpsdmQyaEJqODdGVXlGdHNCbk50SkFuQjdIWXYwRGMvUGEwPQ==",
@@ -199,6 +199,18 @@ static RESPONSES: [(&str, &str, Option<SaslCondition>); 8] = [
     (
         "response",
         "Yz1iaXdzLHI9ck9wck5HZndFYmVSV2diTkVrcU9BQUVDQXdRRkJnY0lDUW9MREEwT0R4QVI=",
+        Some(SaslCondition::MalformedRequest),
+    ),
+    // A `p` that is not the last attribute: another in front of the right proof, and the right one in front of an
+    // extension.
+    (
+        "response",
+        "Yz1iaXdzLHI9ck9wck5HZndFYmVSV2diTkVrcU9BQUVDQXdRRkJnY0lDUW9MREEwT0R4QVIscD1BQUFBLHA9VGd5bUUrNmRKbHZkMmhCajg3RlV5RnRzQm5OdEpBbkI3SFl2MERjL1BhMD0=",
+        Some(SaslCondition::MalformedRequest),
+    ),
+    (
+        "response",
+        "Yz1iaXdzLHI9ck9wck5HZndFYmVSV2diTkVrcU9BQUVDQXdRRkJnY0lDUW9MREEwT0R4QVIscD1UZ3ltRSs2ZEpsdmQyaEJqODdGVXlGdHNCbk50SkFuQjdIWXYwRGMvUGEwPSx4PXk=",
         Some(SaslCondition::MalformedRequest),
     ),
     ("response", "=", Some(SaslCondition::MalformedRequest)),

@@ -131,7 +131,7 @@ fn refuses_other_answers(rt: HostRuntime) {
 }
 
 // A nonce of a client, a challenge, and why the client refuses it.
-static CHALLENGES: [(&str, &[u8], ScramFault); 16] = [
+static CHALLENGES: [(&str, &[u8], ScramFault); 18] = [
     (
         "rOprNGfwEbeRWgbNEkqO",
         b"r=rOprNGfwEbeRWgbNEkqP,s=,i=4096",
@@ -162,6 +162,8 @@ static CHALLENGES: [(&str, &[u8], ScramFault); 16] = [
         b"r=rOprNGfwEbeRWgbNEkqOx,s=,i=04096",
         ScramFault::Malformed { at: 29 },
     ),
+    ("a", b"r=a,s=QQ==,i=4096", ScramFault::BadNonce),
+    ("a", b"r=a,s=,i=4095", ScramFault::BadNonce),
     ("a", b"r=a", ScramFault::Malformed { at: 3 }),
     ("a", b"r=,s=QQ==,i=1", ScramFault::Malformed { at: 2 }),
     ("a", b"r=a,m=b,s=QQ==,i=1", ScramFault::Malformed { at: 4 }),
@@ -186,8 +188,21 @@ fn refuses_challenges(rt: HostRuntime) {
     }
 }
 
+fn replies(alloc: Global, nonce: &str, challenge: &[u8]) -> bool {
+    match client(alloc, "user", nonce) {
+        Ok(mut client) => client.reply(alloc, challenge).is_ok(),
+        Err(_) => false,
+    }
+}
+
+// The server adds one character to the client's nonce, and has an empty salt.
+#[test]
+fn replies_to_an_empty_salt(rt: HostRuntime) {
+    assert!(rt; replies(rt.alloc(), "a", b"r=ab,s=,i=4096"));
+}
+
 // Final messages to a server with an exchange of the nonce `xyz`, and why it refuses them.
-static LASTS: [(&[u8], ScramFault); 10] = [
+static LASTS: [(&[u8], ScramFault); 14] = [
     (
         b"c=biws,r=xyz,p=dHzbZapWIk4jUhN+Ute9ytag9zjfMHgsqmmiz7AndVQ=",
         ScramFault::BadProof,
@@ -201,6 +216,11 @@ static LASTS: [(&[u8], ScramFault); 10] = [
     (b"c=biws,r=a,m=1,p=QQ==", ScramFault::Malformed { at: 11 }),
     (b"c=biws,r=a,p=QR==", ScramFault::Malformed { at: 15 }),
     (b"c=biws,r=a,p=QQ==,x=1", ScramFault::Malformed { at: 17 }),
+    // An attribute `p` that is not the last.
+    (b"c=biws,r=a,p=QQ==,p=QQ==", ScramFault::Malformed { at: 17 }),
+    (b"c=biws,r=a,p=,p=QQ==", ScramFault::Malformed { at: 13 }),
+    (b"c=biws,r=a,x=1,p=x,p=QQ==", ScramFault::Malformed { at: 18 }),
+    (b"c=biws,r=xyz,P=x,x=p=,p=QQ==", ScramFault::BadProof),
 ];
 
 fn last_fault(alloc: Global, last: &[u8]) -> Option<ScramFault> {
