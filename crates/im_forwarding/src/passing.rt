@@ -71,12 +71,7 @@ fn has_nothing(alloc: Global, payload: &[Node], filed: &Filed<'_>) -> Result<boo
 }
 
 // Writes a node that no client may take for an id of the account.
-fn write_kept_node(
-    alloc: Global,
-    out: &mut Bytes,
-    node: &Node,
-    by: &str,
-) -> Result<(), NoMemory>
+fn write_kept_node(alloc: Global, out: &mut Bytes, node: &Node, by: &str) -> Result<(), NoMemory>
     ensures { OnOk result (out.new.items ≡ out.old.items ++ kept_text by.now (node_view node.now)) }
 {
     if let Node::Child(element) = node
@@ -89,12 +84,7 @@ fn write_kept_node(
 
 // Writes the nodes of a payload but for the ids that a client may take for ones of the account. None of them is copied.
 #[tactic(auto, using(crate::proofs::KeptNodes::kept_text_joined))]
-fn write_kept(
-    alloc: Global,
-    out: &mut Bytes,
-    payload: &[Node],
-    by: &str,
-) -> Result<(), NoMemory>
+fn write_kept(alloc: Global, out: &mut Bytes, payload: &[Node], by: &str) -> Result<(), NoMemory>
     ensures { OnOk result (out.new.items ≡ out.old.items ++ kept_text by.now (nodes_view payload.now)) }
 {
     for node in payload {

@@ -89,7 +89,7 @@ bare_spelling account text none from =
     let read = local_read (local_of text) from.local (rw bare.front at from.local_is) in
     let form : domain_form (domain_of text) ≡ Ok from.domain = rw bare.front at from.domain_is in
     let whole : local_text read.part ++ from.domain ≡ bare_of account =
-        ap (λ local. local ++ from.domain) read.is ∙ sym (append-nil (from.local ++ from.domain)) ∙ ap (λ r. (from.local ++ from.domain) ++ r) (sym nothing) ∙ from.joined_is in
+    ap (λ local. local ++ from.domain) read.is ∙ sym (append-nil (from.local ++ from.domain)) ∙ ap (λ r. (from.local ++ from.domain) ++ r) (sym nothing) ∙ from.joined_is in
     let cut = bare_cut read.part from.domain read.form (domain_form_ok (domain_of text) from.domain form) in
     let local : local_of account ≡ read.part = ap local_of_bare (sym whole) ∙ cut.front in
     let domain : domain_of account ≡ from.domain = ap domain_of_bare (sym whole) ∙ cut.back in

@@ -7,7 +7,9 @@ mod data_forms;
 mod laws;
 mod result_sets;
 
-pub use archive_answers::{MamResult, fin_tree, fin_tree_without_index, read_fin, read_fin_element};
+pub use archive_answers::{
+    MamResult, fin_tree, fin_tree_without_index, read_fin, read_fin_element,
+};
 pub use archive_query::MamQuery;
 pub use laws::{
     archived_messages_are_exact, ends_of_pages_are_exact, no_index_is_told_where_it_is_left_out,

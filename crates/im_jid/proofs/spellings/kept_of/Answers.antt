@@ -14,7 +14,7 @@ loop-character-preserved c =
     let ahead = flat_map kept_character (chars (chars_rest c.next.new.self)) in (
       IsUtf8-past_char _ _ c.in-Some.character held.0 parts,
       ap (λ kept. kept ++ ahead) c.in_ok-push_kept.ensures ∙ append_assoc old (kept_character c.in-Some.character) ahead
-      ∙ ap (λ cs. old ++ flat_map kept_character cs) (sym step) ∙ held.1,
+          ∙ ap (λ cs. old ++ flat_map kept_character cs) (sym step) ∙ held.1,
     )
 
 pub returns : goal.returns
