@@ -1,7 +1,10 @@
 //! Addresses: vectors from outside, each call that takes memory, and printed texts.
 use base_io::{Copied, NoMemory, Text};
 use im_jid::JidFault::{BadDomain, BadLocal, BadResource, Empty, TooLong};
-use im_jid::{Jid, JidFault, domain_in_normal_form, local_in_normal_form, resource_in_normal_form};
+use im_jid::{
+    Jid, JidFault, domain_in_normal_form, local_in_normal_form, resource_in_normal_form,
+    spells_account,
+};
 use std::alloc::Global;
 use std::test::Fail;
 
@@ -251,6 +254,52 @@ fn is_long(alloc: Global, row: &(&str, &str, usize, &str, JidFault)) -> Result<b
 fn refuses_longer_parts(rt: HostRuntime) -> Result<(), Fail> {
     for row in &LONG {
         assert!(rt; is_long(rt.alloc(), row)?);
+    }
+    Ok(())
+}
+
+// Texts, and whether a client may take them for `bob@chat.example`. What Gajim takes for it was asked of its library.
+static SPELLINGS: [(&str, bool); 26] = [
+    ("bob@chat.example", true),
+    ("BOB@Chat.Example.", true),
+    ("bob@chat.example/", true),
+    ("bob@chat.example/a/b@c", true),
+    ("bob@chat\u{3002}example", true),
+    ("bob@ch\u{AD}at.example", true),
+    ("\u{FF42}\u{FF4F}\u{FF42}@chat.example", true),
+    ("\u{1D4D1}\u{1D4F8}\u{1D4EB}@chat.example", true),
+    ("\u{24B7}o\u{24B7}@\u{FF43}hat.example", true),
+    ("bo\u{AD}b@chat.example", true),
+    ("b\u{34F}o\u{1806}b@chat.example", true),
+    ("\u{FEFF}b\u{200D}ob\u{FE0F}@chat.example/x", true),
+    ("bob@chat.example..", false),
+    ("bob@chat.example.x", false),
+    ("bob@other.example", false),
+    ("bob@", false),
+    ("@chat.example", false),
+    ("chat.example", false),
+    ("chat.example/bob@chat.example", false),
+    ("alice@chat.example", false),
+    (" bob@chat.example", false),
+    ("bob@chat.example ", false),
+    ("b\u{F6}b@chat.example", false),
+    ("b\u{43E}b@chat.example", false),
+    ("bob@chat_example", false),
+    ("", false),
+];
+
+#[test]
+fn tells_spellings_of_an_account(rt: HostRuntime) -> Result<(), Fail> {
+    for (text, spells) in &SPELLINGS {
+        assert_eq!(rt;
+            spells_account(rt.alloc(), "bob@chat.example", text)?,
+            *spells
+        );
+        assert!(rt;
+            !spells_account(rt.alloc(), "chat.example", text)?
+                || *text == "chat.example"
+                || text.starts_with("chat.example/")
+        );
     }
     Ok(())
 }
