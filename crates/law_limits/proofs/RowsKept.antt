@@ -15,7 +15,8 @@ use Rattle.srv_state.specs.declared.connection.Stage.TheVariants as stage
 use Rattle.srv_state.specs.declared.connection.Standing.{Standing}
 use Rattle.srv_state.specs.declared.connection.Tries.{Tries}
 use Rattle.srv_state.specs.declared.connection.Tries.TheVariants as tries
-use Rattle.srv_state.specs.declared.limits.TheConstants.{ASKS_AT, RESUMABLE_SECONDS}
+use Rattle.sm_resumption.specs.declared.answers.TheConstants.{RESUMABLE_SECONDS}
+use Rattle.srv_state.specs.declared.limits.TheConstants.{ASKS_AT}
 use Rattle.srv_state.specs.declared.word.Word.{Word}
 use Rattle.srv_state.specs.declared.word.Word.TheVariants as word
 use Rattle.im_jid.specs.Forms.{resource_form}

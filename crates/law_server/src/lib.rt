@@ -11,8 +11,8 @@ pub use server_maps::{
     moments_are_the_same_however_written, relations_are_the_same_however_written,
 };
 pub use server_tables::{
-    answers_tell_of_ones_own, each_request_is_answered, pieces_join, requests_are_of_their_session,
-    sessions_of_shut_connections_are_not_resumed, steps_leave_others,
-    table_is_the_same_however_written, too_high_counts_change_no_queue,
+    a_resumption_time_that_is_told_is_kept, answers_tell_of_ones_own, each_request_is_answered,
+    pieces_join, requests_are_of_their_session, sessions_of_shut_connections_are_not_resumed,
+    steps_leave_others, table_is_the_same_however_written, too_high_counts_change_no_queue,
 };
 pub use told_takes::{archives_get_what_is_told, servers_stay_sound};

@@ -1,15 +1,17 @@
 //! The laws.
-ghost use Rattle.std.specs.Prelude.{◌≡◌, ◌==◌, ℕ, ◌++◌, true, false, [], All, List, None, Some, IfSome, IsSome};
+ghost use Rattle.std.specs.Prelude.{◌≡◌, ◌==◌, ◌↔◌, ℕ, ◌*◌, ◌-◌, ◌≤◌, ◌++◌, true, false, [], All, List, None, Some, IfSome, IsSome};
 ghost use Rattle.xml_framer.specs.States.{State};
 ghost use Rattle.xml_framer.specs.declared.fault.Fault.{Fault};
 ghost use Rattle.xml_framer.specs.declared.items.Item.{Item};
 ghost use Rattle.srv_state.specs.State.{Hall, Step, archive_at, conn_at, is_number};
 ghost use Rattle.srv_state.specs.Steps.{acted, part, shut};
-ghost use Rattle.sm_live.specs.Sessions.{Session, is_at, is_too_high, send_count, session_of, session_resumed, with_session};
+ghost use Rattle.sm_live.specs.Sessions.{Session, is_at, is_expired, is_too_high, send_count, session_of, session_resumed, with_session};
 ghost use Rattle.sm_live.specs.declared.told.Told.{Told};
+ghost use Rattle.sm_resumption.specs.declared.answers.TheConstants.{RESUMABLE_SECONDS};
+ghost use Rattle.im_replies.specs.Management.{resumable_item};
 ghost use Rattle.im_replies.specs.Streams.{too_high_item};
 ghost use Rattle.srv_handlers.specs.Requests.{at_iq, envelope_of};
-ghost use Rattle.srv_handlers.specs.Managements.{at_ack};
+ghost use Rattle.srv_handlers.specs.Managements.{at_ack, enabled_as};
 ghost use Rattle.srv_core.specs.Events.{at_piece, turn_of};
 ghost use Rattle.srv_core.specs.Table.{after_items};
 ghost use Rattle.law_server.specs.Answering.{IsAnswered, IsOf};
@@ -77,4 +79,11 @@ pub fn steps_leave_others<A>()
     ensures connections { (k j : ℕ) (s : Step A) → is_number k j ≡ false → conn_at k (shut j s).hall ≡ conn_at k s.hall }
     ensures sessions { (n j : ℕ) (t : Session A) (s : Step A) → session_of n s.hall.sessions ≡ Some t → is_at j t ≡ false → session_of n (shut j s).hall.sessions ≡ Some t }
     ensures others { (m n : ℕ) (f : Session A → Session A) (ss : List (Session A)) → ((s : Session A) → (f s).shown.number ≡ s.shown.number) → (m == n) ≡ false → session_of m (with_session n f ss) ≡ session_of m ss }
+{}
+
+/// A law: the resumption time that is told is kept (XEP-0198, section 5). What answers an `enable` that wants to resume tells
+/// so many seconds, and a session that lost its connection ends when so many seconds have passed since, and not before.
+pub fn a_resumption_time_that_is_told_is_kept<A>()
+    ensures told { (number : ℕ) → enabled_as number true ≡ resumable_item number RESUMABLE_SECONDS }
+    ensures kept { (now : ℕ) (s : Session A) → s.shown.conn ≡ None → (is_expired now s ≡ true) ↔ (1000 * RESUMABLE_SECONDS ≤ now - s.shown.parked_at) }
 {}

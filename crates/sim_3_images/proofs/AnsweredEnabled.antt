@@ -7,7 +7,7 @@ use Rattle.sim_3_images.proofs.AnsweredRows.{either_acts, refusing_answers}
 use Rattle.sim_3_images.proofs.AnsweredSteps.{ActsAnswer}
 use Rattle.sim_3_images.specs.Mild.{IsAnswered}
 use Rattle.law_limits.specs.Answerable.{IsAnswerable}
-use Rattle.srv_state.specs.declared.limits.TheConstants.{RESUMABLE_SECONDS}
+use Rattle.sm_resumption.specs.declared.answers.TheConstants.{RESUMABLE_SECONDS}
 use Rattle.im_extensions.specs.Readings.{enabled_read, enabled_with}
 use Rattle.im_extensions.specs.StreamManagement.{enabled_elem}
 use Rattle.im_extensions.specs.declared.stream_management.Enabled.{Enabled}

@@ -3,7 +3,7 @@
 -- by its `previd` (XEP-0198, sections 4 and 5).
 use Rattle.std.specs.Prelude.{ℕ, ◌%◌, ◌^◌, Bool, true, false, codes}
 use Rattle.cl_login.specs.LoginRows.{client_header}
-use Rattle.srv_state.specs.declared.limits.TheConstants.{RESUMABLE_SECONDS}
+use Rattle.sm_resumption.specs.declared.answers.TheConstants.{RESUMABLE_SECONDS}
 use Rattle.sim_3_items.specs.Identities.{Identity, Login, exchange_of, full_of}
 use Rattle.sim_2_links.specs.Words.{Ack, Auth, Bind, Bound, Chal, Client, Conflict, Constraint, Down, DownWord, Enable, Enabled, End, Err, Failed, Feat, Foot, Hdr, Head, InAuth, InFeatures1, InHeader1, InResponse, Req, Resp, ResumeAt, Resumed, St, Succ, TooHigh, Up, UpWord}
 use Rattle.im_replies.specs.Management.{ack_item, refused_item, request_item, resumable_item, resumed_item}

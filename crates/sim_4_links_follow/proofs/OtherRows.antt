@@ -8,7 +8,7 @@ use Rattle.srv_state.specs.Steps.{in_phase}
 use Rattle.srv_state.specs.declared.connection.Phase.{Phase as DeskPhase}
 use Rattle.srv_state.specs.declared.connection.Phase.TheVariants as phase
 use Rattle.srv_state.specs.declared.connection.Tries.TheVariants as tries
-use Rattle.srv_state.specs.declared.limits.TheConstants.{RESUMABLE_SECONDS}
+use Rattle.sm_resumption.specs.declared.answers.TheConstants.{RESUMABLE_SECONDS}
 use Rattle.sim_3_items.specs.Identities.{Identity, Login, exchange_of}
 use Rattle.sim_3_items.specs.Pipes.{PipesShow}
 use Rattle.sim_3_items.specs.Sent.{sent}

@@ -13,7 +13,7 @@ use Rattle.srv_state.specs.State.{Hall, Put, with_sessions}
 use Rattle.srv_state.specs.Steps.{Say, acted}
 use Rattle.srv_state.specs.Steps.{Enable as ActEnable}
 use Rattle.srv_state.specs.declared.word.Word.TheVariants as word
-use Rattle.srv_state.specs.declared.limits.TheConstants.{RESUMABLE_SECONDS}
+use Rattle.sm_resumption.specs.declared.answers.TheConstants.{RESUMABLE_SECONDS}
 use Rattle.sim_3_items.specs.Counted.{IsForClient}
 use Rattle.sim_3_items.specs.Identities.{Identity, Login}
 use Rattle.sim_3_items.specs.Servers.{IsRow, ServerShows}

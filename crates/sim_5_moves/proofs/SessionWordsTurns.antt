@@ -13,7 +13,7 @@ use Rattle.cl_handlers.specs.LoginSteps.{other_element}
 use Rattle.cl_handlers.specs.SessionRows.{asks, attaches, begins, begins_epoch, enabling_with, failed_row, is_empty, resumed_in, resuming_with}
 use Rattle.cl_handlers.specs.Speech.{in_items}
 use Rattle.cl_handlers.specs.declared.phase.Phase.TheVariants as phase
-use Rattle.srv_state.specs.declared.limits.TheConstants.{RESUMABLE_SECONDS}
+use Rattle.sm_resumption.specs.declared.answers.TheConstants.{RESUMABLE_SECONDS}
 use Rattle.sim_3_items.specs.Clients.{IsOwn, client_phase}
 use Rattle.sim_3_items.specs.Identities.{Identity, Login, full_of}
 use Rattle.sim_3_items.specs.Reading.{IsNextDown, turn_on}

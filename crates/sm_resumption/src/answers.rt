@@ -2,8 +2,11 @@
 use std::error::Error;
 use std::fmt;
 
-/// For how long a parked session can be resumed, in milliseconds.
-pub const RESUMABLE_FOR: u64 = 300_000;
+/// For how many seconds a session that lost its connection can be resumed (XEP-0198, section 5).
+pub const RESUMABLE_SECONDS: u32 = 300;
+
+/// The same in milliseconds.
+pub const RESUMABLE_FOR: u64 = 1_000 * RESUMABLE_SECONDS as u64;
 
 /// The answer to a bind: the new session's number, and the session that it ended, where there was one.
 #[derive(Clone, Copy, Debug, PartialEq, Eq)]

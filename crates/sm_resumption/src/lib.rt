@@ -11,7 +11,9 @@ mod session;
 mod sought;
 mod table;
 
-pub use answers::{AlreadyEnabled, Bound, Ended, Lost, RESUMABLE_FOR, ResumeFault, ResumeOk};
+pub use answers::{
+    AlreadyEnabled, Bound, Ended, Lost, RESUMABLE_FOR, RESUMABLE_SECONDS, ResumeFault, ResumeOk,
+};
 pub use previds::previd_text;
 pub use resumption::parked_comes_back_whole;
 pub use session::SessionView;

@@ -9,7 +9,7 @@ use Rattle.im_replies.specs.Streams.{too_high_item}
 use Rattle.srv_state.specs.State.{Hall}
 use Rattle.srv_state.specs.Steps.{Act, Acknowledge, Ask, Enable, Say}
 use Rattle.srv_state.specs.Streams.{parting}
-use Rattle.srv_state.specs.declared.limits.TheConstants.{RESUMABLE_SECONDS}
+use Rattle.sm_resumption.specs.declared.answers.TheConstants.{RESUMABLE_SECONDS}
 use Rattle.im_stanza.specs.declared.conditions.Condition.{Condition}
 use Rattle.im_stanza.specs.declared.conditions.Condition.TheVariants.{UnexpectedRequest}
 use Rattle.xml_writer.specs.Items.{ItemOut}

@@ -15,7 +15,8 @@ use im_replies::{ack, enabled, footer, refused, resumable, too_high};
 use im_stanza::Condition;
 use sm_acks::TooHigh;
 use sm_live::Told;
-use srv_state::{Desk, RESUMABLE_SECONDS};
+use sm_resumption::RESUMABLE_SECONDS;
+use srv_state::Desk;
 use std::alloc::Global;
 
 // `enabled`, for a session with a number.

@@ -18,7 +18,7 @@ mod word;
 
 pub use connection::{Connection, Phase, Stage, Standing, Tries};
 pub use desk::Desk;
-pub use limits::{ASKS_AT, MOST_STANZA_BYTES, RESUMABLE_SECONDS};
+pub use limits::{ASKS_AT, MOST_STANZA_BYTES};
 pub use output::{Output, Outputs};
 pub use parcel::Parcel;
 pub use reading::word_of;

@@ -6,6 +6,3 @@ pub const MOST_STANZA_BYTES: u64 = 1_048_576;
 
 /// How many stanzas wait to be acknowledged where the client is asked for its count (XEP-0198, section 4).
 pub const ASKS_AT: u64 = 10;
-
-/// For how many seconds a session can be resumed (XEP-0198, section 5): `sm_resumption::RESUMABLE_FOR`.
-pub const RESUMABLE_SECONDS: u32 = 300;
