@@ -106,9 +106,7 @@ static LOGINS: [Row; 21] = [
         &[
             Sent::Header,
             FEATURES,
-            Sent::Challenge(
-                "r=AAAAAAAAAAAAAAAAAAAAAAAA,s=thT/yuCWFyJHUaNWPs2g/A==,i=4096",
-            ),
+            Sent::Challenge("r=AAAAAAAAAAAAAAAAAAAAAAAA,s=thT/yuCWFyJHUaNWPs2g/A==,i=4096"),
         ],
         "",
         REFUSED,

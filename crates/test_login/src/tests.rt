@@ -217,9 +217,15 @@ static LASTS: [(&[u8], ScramFault); 14] = [
     (b"c=biws,r=a,p=QR==", ScramFault::Malformed { at: 15 }),
     (b"c=biws,r=a,p=QQ==,x=1", ScramFault::Malformed { at: 17 }),
     // An attribute `p` that is not the last.
-    (b"c=biws,r=a,p=QQ==,p=QQ==", ScramFault::Malformed { at: 17 }),
+    (
+        b"c=biws,r=a,p=QQ==,p=QQ==",
+        ScramFault::Malformed { at: 17 },
+    ),
     (b"c=biws,r=a,p=,p=QQ==", ScramFault::Malformed { at: 13 }),
-    (b"c=biws,r=a,x=1,p=x,p=QQ==", ScramFault::Malformed { at: 18 }),
+    (
+        b"c=biws,r=a,x=1,p=x,p=QQ==",
+        ScramFault::Malformed { at: 18 },
+    ),
     (b"c=biws,r=xyz,P=x,x=p=,p=QQ==", ScramFault::BadProof),
 ];
 
