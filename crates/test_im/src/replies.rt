@@ -2,8 +2,9 @@
 use base_io::{Bytes, NoMemory};
 use im_replies::{
     Envelope, StreamCondition, account_info, ack, bounced, bounced_presence, bound, challenge,
-    empty_result, enabled, failure, footer, header, login_features, refusal, refused, request,
-    resumable, resumed, roster, server_info, session_features, stream_error, success, too_high,
+    empty_result, enabled, failure, footer, header, items, login_features, refusal, refused,
+    request, resumable, resumed, roster, server_info, session_features, stream_error, success,
+    too_high,
 };
 use im_stanza::{Condition, ErrorKind, StanzaError};
 use std::alloc::Global;
@@ -30,6 +31,7 @@ enum Reply {
     Roster,
     ServerInfo,
     AccountInfo,
+    Items(&'static str),
     Bound,
     Refusal,
     Bounced(&'static str),
@@ -120,11 +122,19 @@ static REPLIES: [(Reply, &str); 26] = [
     ),
     (
         Reply::ServerInfo,
-        "<iq from='alice@chat.example' id='i1' to='alice@chat.example/phone' type='result'><query xmlns='http://jabber.org/protocol/disco#info'><identity category='server' type='im'/><feature var='http://jabber.org/protocol/disco#info'/><feature var='urn:xmpp:carbons:2'/><feature var='urn:xmpp:mam:2'/><feature var='urn:xmpp:ping'/><feature var='urn:xmpp:sid:0'/></query></iq>",
+        "<iq from='alice@chat.example' id='i1' to='alice@chat.example/phone' type='result'><query xmlns='http://jabber.org/protocol/disco#info'><identity category='server' type='im'/><feature var='http://jabber.org/protocol/disco#info'/><feature var='http://jabber.org/protocol/disco#items'/><feature var='urn:xmpp:carbons:2'/><feature var='urn:xmpp:mam:2'/><feature var='urn:xmpp:ping'/><feature var='urn:xmpp:sid:0'/></query></iq>",
     ),
     (
         Reply::AccountInfo,
-        "<iq from='alice@chat.example' id='i1' to='alice@chat.example/phone' type='result'><query xmlns='http://jabber.org/protocol/disco#info'><identity category='account' type='registered'/><feature var='http://jabber.org/protocol/disco#info'/><feature var='urn:xmpp:carbons:2'/><feature var='urn:xmpp:mam:2'/><feature var='urn:xmpp:ping'/><feature var='urn:xmpp:sid:0'/></query></iq>",
+        "<iq from='alice@chat.example' id='i1' to='alice@chat.example/phone' type='result'><query xmlns='http://jabber.org/protocol/disco#info'><identity category='account' type='registered'/><feature var='http://jabber.org/protocol/disco#info'/><feature var='http://jabber.org/protocol/disco#items'/><feature var='urn:xmpp:carbons:2'/><feature var='urn:xmpp:mam:2'/><feature var='urn:xmpp:ping'/><feature var='urn:xmpp:sid:0'/></query></iq>",
+    ),
+    (
+        Reply::Items(""),
+        "<iq from='alice@chat.example' id='i1' to='alice@chat.example/phone' type='result'><query xmlns='http://jabber.org/protocol/disco#items'/></iq>",
+    ),
+    (
+        Reply::Items("it's <1>"),
+        "<iq from='alice@chat.example' id='i1' to='alice@chat.example/phone' type='result'><query xmlns='http://jabber.org/protocol/disco#items' node='it&apos;s &lt;1&gt;'/></iq>",
     ),
     (
         Reply::Bound,
@@ -184,6 +194,7 @@ fn answer(alloc: Global, reply: Reply) -> Result<Bytes, NoMemory> {
         Reply::Roster => roster(alloc, &TO_ALICE),
         Reply::ServerInfo => server_info(alloc, &TO_ALICE),
         Reply::AccountInfo => account_info(alloc, &TO_ALICE),
+        Reply::Items(node) => items(alloc, &TO_ALICE, node),
         Reply::Bound => bound(alloc, "b1", "alice@chat.example/phone"),
         Reply::Refusal => refusal(alloc, &TO_ALICE, &UNAVAILABLE),
         Reply::Bounced(id) => bounced(alloc, "bob@chat.example", id, &UNAVAILABLE),
