@@ -136,33 +136,33 @@ fn answer_switch(
 // What is asked for is done and answered. The session has this full address.
 fn serve(
     desk: &mut Desk,
-    request: Request,
+    request: &Request,
     iq: &Iq,
     full: &str,
     told: &Told,
 ) -> Result<(), NoMemory>
     requires told { Some told.now ≡ told_of told.now.number (hall_of desk.old).sessions }
     requires full { full.now ≡ State.session_address told.now.number (hall_of desk.old) }
-    ensures ok { OnOk result (step_of desk.new ≡ acted written_item (counting told.now (serving written_item (Some request) iq.now told.now (hall_of desk.old))) (step_of desk.old)) }
+    ensures ok { OnOk result (step_of desk.new ≡ acted written_item (counting told.now (serving written_item (Some request.now) iq.now told.now (hall_of desk.old))) (step_of desk.old)) }
     ensures err { OnErr result (step_of desk.new ≡ step_of desk.old) }
 {
     let envelope = envelope_to(iq, full);
     match request {
         Request::Ping => answer_done(desk, &envelope, told),
-        Request::Info { at_domain } => answer_info(desk, at_domain, &envelope, told),
+        Request::Info { at_domain } => answer_info(desk, *at_domain, &envelope, told),
         Request::Items { node } => answer_items(desk, node.as_str(), &envelope, told),
         Request::Roster => answer_roster(desk, &envelope, told),
         Request::Session => answer_done(desk, &envelope, told),
-        Request::Carbons { on } => answer_switch(desk, on, &envelope, told),
-        Request::Archive(query) => on_query(desk, &query, iq, full, told),
-        Request::Refused(error) => refuse(desk, &error, &envelope, told),
+        Request::Carbons { on } => answer_switch(desk, *on, &envelope, told),
+        Request::Archive(query) => on_query(desk, query, iq, full, told),
+        Request::Refused(error) => refuse(desk, error, &envelope, told),
     }
 }
 
 // What is asked for, by a session.
-fn serve_session(desk: &mut Desk, request: Request, iq: &Iq, told: &Told) -> Result<(), NoMemory>
+fn serve_session(desk: &mut Desk, request: &Request, iq: &Iq, told: &Told) -> Result<(), NoMemory>
     requires { Some told.now ≡ told_of told.now.number (hall_of desk.old).sessions }
-    ensures ok { OnOk result (step_of desk.new ≡ acted written_item (counting told.now (serving written_item (Some request) iq.now told.now (hall_of desk.old))) (step_of desk.old)) }
+    ensures ok { OnOk result (step_of desk.new ≡ acted written_item (counting told.now (serving written_item (Some request.now) iq.now told.now (hall_of desk.old))) (step_of desk.old)) }
     ensures err { OnErr result (step_of desk.new ≡ step_of desk.old) }
 {
     let full = desk.session_address(told.number)?;
@@ -192,7 +192,7 @@ pub fn on_iq(desk: &mut Desk, iq: &Iq, told: &Told) -> Result<(), NoMemory>
     ensures err { OnErr result (step_of desk.new ≡ step_of desk.old) }
 {
     match request_of(desk, iq, told)? {
-        Some(request) => serve_session(desk, request, iq, told),
+        Some(request) => serve_session(desk, &request, iq, told),
         None => {
             desk.count(told);
             Ok(())
