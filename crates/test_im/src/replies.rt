@@ -55,7 +55,7 @@ const UNNAMED: Envelope<'static> = Envelope {
 };
 
 // Each reply, and its bytes.
-static REPLIES: [(Reply, &str); 26] = [
+static REPLIES: [(Reply, &str); 28] = [
     (
         Reply::Header,
         "<?xml version='1.0'?><stream:stream from='chat.example' id='0001ab10fffa000000000000002a' version='1.0' xml:lang='en' xmlns='jabber:client' xmlns:stream='http://etherx.jabber.org/streams'>",
