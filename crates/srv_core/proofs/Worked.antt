@@ -1,20 +1,27 @@
--- The table at worked values: a header, a failure, an item out of place, a footer, a binding, and `r` before and behind it.
-use Rattle.std.proofs.Common.{◌≡◌, ℕ, true, false, List, [], ◌∷◌, Some, None, codes, refl}
+-- The table at worked values: a header, a failure, an item out of place, a footer, a binding, `r` before and behind it, and
+-- presences to addresses.
+use Rattle.std.proofs.Common.{◌≡◌, ℕ, true, false, List, [], ◌∷◌, Some, None, codes, pos, refl}
 use Rattle.base_lemmas.specs.Hexadecimal.{hex16_of}
 use Rattle.xml_framer.specs.declared.items.Item.TheVariants as item
 use Rattle.xml_names.specs.declared.headers.Header.{Header}
-use Rattle.sm_live.specs.Sessions.{fresh}
+use Rattle.sm_live.specs.Sessions.{fresh, told}
+use Rattle.sm_live.specs.declared.told.Told.{Told}
 use Rattle.srv_login.specs.declared.account.Account.{Account}
 use Rattle.im_payload.specs.Bare.{bare}
 use Rattle.im_payload.specs.Names.{binding, management, sasl}
 use Rattle.srv_state.specs.Moments.{fresh_conn}
 use Rattle.srv_state.specs.State.{Hall, Out, Put, Shut, Step}
+use Rattle.srv_state.specs.Steps.{Act, Send}
+use Rattle.srv_core.specs.Stanzas.{at_presence}
 use Rattle.srv_core.specs.Table.{after_item}
 use Rattle.srv_state.specs.Words.{is_bad_management, is_bad_sasl, management_word, resume_word, sasl_word, word_of}
 use Rattle.srv_state.specs.declared.connection.Connection.{Connection}
 use Rattle.srv_state.specs.declared.connection.Phase.TheVariants as phase
 use Rattle.srv_state.specs.declared.connection.Tries.TheVariants as tries
 use Rattle.im_stanza.specs.Names.{client_ns, streams_ns}
+use Rattle.im_stanza.specs.declared.kinds.PresenceKind.{PresenceKind}
+use Rattle.im_stanza.specs.declared.kinds.PresenceKind.TheVariants.{Available, Unavailable, Error, Other}
+use Rattle.im_stanza.specs.declared.stanzas.Presence.{Presence}
 use Rattle.xml_tokens.specs.Spelling.{text_byte, value_byte}
 use Rattle.xml_trees.specs.Attributes.{attribute}
 use Rattle.xml_trees.specs.Trees.{Elem, child, element, no_nodes}
@@ -103,3 +110,37 @@ uncounted : after_item written_item 1 (item.Element (bare management (codes "r")
 }
 unfolding hall_with ready alice with_alice at_rest entropy is_bad_management is_bad_sasl management_word resume_word sasl_word word_of sasl assignment value_byte text_byte spelled_attribute spelled_name declared_default default_inside number_text next_number
 uncounted = refl
+
+-- ---- a presence to an address (RFC 6120, section 10.4)
+
+on_the_phone : Told
+on_the_phone = told (fresh {A = List ℕ} 1 0 (codes "phone") 1)
+
+presence_to : List ℕ → List ℕ → PresenceKind → Presence
+presence_to to id kind = record { from = None; to = Some to; id = id; kind = kind; priority = pos 0 }
+
+does : Presence → List (Act (List ℕ))
+does p = at_presence written_item p on_the_phone (hall_with ready)
+
+to_a_room : does (presence_to (codes "room@rooms.example/nick") (codes "p0") Available)
+    ≡ Send 1 (codes "<presence from='room@rooms.example/nick' id='p0' type='error'><error type='cancel'><remote-server-not-found xmlns='urn:ietf:params:xml:ns:xmpp-stanzas'/></error></presence>") ∷ []
+unfolding hall_with ready does presence_to on_the_phone assignment value_byte text_byte spelled_attribute spelled_name declared_default default_inside number_text next_number
+to_a_room = refl
+
+-- the id is left out where it is empty
+to_a_domain_behind_this_one : does (presence_to (codes "x.chat.example") [] Other)
+    ≡ Send 1 (codes "<presence from='x.chat.example' type='error'><error type='cancel'><remote-server-not-found xmlns='urn:ietf:params:xml:ns:xmpp-stanzas'/></error></presence>") ∷ []
+unfolding hall_with ready does presence_to on_the_phone assignment value_byte text_byte spelled_attribute spelled_name declared_default default_inside number_text next_number
+to_a_domain_behind_this_one = refl
+
+an_error_elsewhere : does (presence_to (codes "room@rooms.example/nick") (codes "e") Error) ≡ []
+unfolding hall_with ready does presence_to on_the_phone
+an_error_elsewhere = refl
+
+good_bye_elsewhere : does (presence_to (codes "room@rooms.example/nick") (codes "u") Unavailable) ≡ []
+unfolding hall_with ready does presence_to on_the_phone
+good_bye_elsewhere = refl
+
+to_this_domain : does (presence_to (codes "bob@chat.example/desk") (codes "s") Other) ≡ []
+unfolding hall_with ready does presence_to on_the_phone
+to_this_domain = refl

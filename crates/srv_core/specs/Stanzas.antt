@@ -2,7 +2,7 @@
 use Rattle.std.specs.Prelude.{ℕ, Bool, true, false, ◌||◌, List, [], ◌∷◌, Option, Some, None, Result, Ok, Err}
 use Rattle.std.specs.Str.{bytes_eq}
 use Rattle.sm_live.specs.declared.told.Told.{Told}
-use Rattle.im_replies.specs.Requests.{bounce_item, iq_error_item}
+use Rattle.im_replies.specs.Requests.{bounce_item, iq_error_item, presence_bounce_item}
 use Rattle.im_replies.specs.declared.conditions.StreamCondition.{StreamCondition}
 use Rattle.im_replies.specs.declared.conditions.StreamCondition.TheVariants.{BadFormat, InvalidFrom, PolicyViolation}
 use Rattle.srv_handlers.specs.Messages.{at_message}
@@ -12,13 +12,14 @@ use Rattle.srv_state.specs.Handling.{counting}
 use Rattle.srv_state.specs.Steps.{Act, Present, Send}
 use Rattle.srv_state.specs.Streams.{ending}
 use Rattle.srv_state.specs.declared.connection.Standing.{Standing}
-use Rattle.im_stanza.specs.declared.conditions.Condition.TheVariants.{JidMalformed}
-use Rattle.im_stanza.specs.declared.errors.ErrorKind.TheVariants.{Modify}
+use Rattle.im_jid.specs.Cuts.{domain_of}
+use Rattle.im_stanza.specs.declared.conditions.Condition.TheVariants.{JidMalformed, RemoteServerNotFound}
+use Rattle.im_stanza.specs.declared.errors.ErrorKind.TheVariants.{Cancel, Modify}
 use Rattle.im_stanza.specs.declared.errors.StanzaError.{StanzaError}
 use Rattle.im_stanza.specs.declared.fault.StanzaFault.{StanzaFault}
 use Rattle.im_stanza.specs.declared.fault.StanzaFault.TheVariants as fault
 use Rattle.im_stanza.specs.declared.kinds.PresenceKind.{PresenceKind}
-use Rattle.im_stanza.specs.declared.kinds.PresenceKind.TheVariants.{Available, Unavailable, Other}
+use Rattle.im_stanza.specs.declared.kinds.PresenceKind.TheVariants.{Available, Unavailable, Error, Other}
 use Rattle.im_stanza.specs.declared.stanzas.Presence.{Presence}
 use Rattle.im_stanza.specs.declared.stanzas.Stanza.{Stanza}
 use Rattle.im_stanza.specs.declared.stanzas.Stanza.TheVariants as stanza
@@ -53,14 +54,35 @@ stanza_condition (Err why) t h = Some BadFormat
 
 -- ---- presence (RFC 6121, section 4): what is for all tells whether the session is available, and nothing else does
 
-abbrev pub presenting : {A : Type 0} → Option (List ℕ) → PresenceKind → Presence → Told → List (Act A)
-presenting (Some to) kind p t = []
-presenting None Available p t = Present t.number true p.priority ∷ []
-presenting None Unavailable p t = Present t.number false p.priority ∷ []
-presenting None Other p t = []
+abbrev pub not_found : StanzaError
+not_found = record { kind = Cancel; condition = RemoteServerNotFound }
 
-abbrev pub at_presence : {A : Type 0} → Presence → Told → List (Act A)
-at_presence p t = presenting p.to p.kind p t
+-- to an address of another domain (RFC 6120, sections 8.3.3.16 and 10.4): the presence comes back, unless it is an error
+-- itself (section 8.3.1) or tells that its sender is gone, which asks for no answer
+abbrev pub returning : {A : Type 0} → (ItemOut → A) → PresenceKind → List ℕ → Presence → Told → List (Act A)
+returning say Available to p t = Send t.number (say (presence_bounce_item to p.id not_found)) ∷ []
+returning say Unavailable to p t = []
+returning say Error to p t = []
+returning say Other to p t = Send t.number (say (presence_bounce_item to p.id not_found)) ∷ []
+
+-- whether an address is of the server's domain
+abbrev pub is_local : {A : Type 0} → List ℕ → Hall A → Bool
+is_local to h = bytes_eq (domain_of to) h.domain
+
+-- to an address of this domain or of another one: no presence is passed on
+abbrev pub directing : {A : Type 0} → (ItemOut → A) → Bool → PresenceKind → List ℕ → Presence → Told → List (Act A)
+directing say true kind to p t = []
+directing say false kind to p t = returning say kind to p t
+
+abbrev pub presenting : {A : Type 0} → (ItemOut → A) → Option (List ℕ) → PresenceKind → Presence → Told → Hall A → List (Act A)
+presenting say (Some to) kind p t h = directing say (is_local to h) kind to p t
+presenting say None Available p t h = Present t.number true p.priority ∷ []
+presenting say None Unavailable p t h = Present t.number false p.priority ∷ []
+presenting say None Error p t h = []
+presenting say None Other p t h = []
+
+abbrev pub at_presence : {A : Type 0} → (ItemOut → A) → Presence → Told → Hall A → List (Act A)
+at_presence say p t h = presenting say p.to p.kind p t h
 
 -- ---- a `to` that is no address (RFC 6120, section 8.3.3.8)
 
@@ -79,7 +101,7 @@ at_bad_to say message true id to t h = Send t.number (say (malformed_item messag
 
 abbrev pub handling : {A : Type 0} → (ItemOut → A) → Result Stanza StanzaFault → Told → Hall A → List (Act A)
 handling say (Ok (stanza.Message m)) t h = at_message say m t h
-handling say (Ok (stanza.Presence p)) t h = at_presence p t
+handling say (Ok (stanza.Presence p)) t h = at_presence say p t h
 handling say (Ok (stanza.Iq q)) t h = at_iq say q t h
 handling say (Err (fault.BadTo message reply from id to)) t h = at_bad_to say message reply id to t h
 handling say (Err why) t h = []

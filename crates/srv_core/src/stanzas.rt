@@ -4,14 +4,14 @@ ghost use Rattle.std.specs.Option.{option_copied};
 ghost use Rattle.sm_live.specs.Sessions.{session_of, told_of};
 ghost use Rattle.srv_state.specs.Seen.{hall_of, step_of};
 ghost use Rattle.srv_core.specs.Stanzas;
-ghost use Rattle.srv_core.specs.Stanzas.{at_bad_to, at_presence, at_stanza, handling, is_own, malformed_item, presenting, sender_of, stanza_condition};
+ghost use Rattle.srv_core.specs.Stanzas.{at_bad_to, at_presence, at_stanza, directing, handling, is_local, is_own, malformed_item, presenting, returning, sender_of, stanza_condition};
 ghost use Rattle.srv_state.specs.Handling.{counting};
 ghost use Rattle.srv_state.specs.Steps.{acted};
 ghost use Rattle.xml_writer.specs.Items.{written_item};
 
 use base_io::{Bytes, NoMemory};
 use im_jid::Jid;
-use im_replies::{Envelope, StreamCondition, bounced, refusal};
+use im_replies::{Envelope, StreamCondition, bounced, bounced_presence, refusal};
 use im_stanza::{Condition, ErrorKind, Presence, PresenceKind, Stanza, StanzaError, StanzaFault};
 use sm_live::Told;
 use srv_handlers::{on_iq, on_message};
@@ -34,6 +34,15 @@ fn malformed() -> StanzaError
     StanzaError {
         kind: ErrorKind::Modify,
         condition: Condition::JidMalformed,
+    }
+}
+
+fn not_found() -> StanzaError
+    ensures { result ≡ Stanzas.not_found }
+{
+    StanzaError {
+        kind: ErrorKind::Cancel,
+        condition: Condition::RemoteServerNotFound,
     }
 }
 
@@ -77,7 +86,7 @@ fn stanza_condition(
 // A presence for all tells whether the session is available.
 fn announce(desk: &mut Desk, presence: &Presence, told: &Told)
     requires { IsSome (session_of told.now.number (hall_of desk.old).sessions) }
-    ensures { step_of desk.new ≡ acted written_item (presenting None presence.now.kind presence.now told.now) (step_of desk.old) }
+    ensures { step_of desk.new ≡ acted written_item (presenting written_item None presence.now.kind presence.now told.now (hall_of desk.old)) (step_of desk.old) }
 {
     match presence.kind {
         PresenceKind::Available => {
@@ -87,20 +96,64 @@ fn announce(desk: &mut Desk, presence: &Presence, told: &Told)
             desk.live
                 .set_presence(told.number, false, presence.priority);
         }
-        PresenceKind::Other => {}
+        PresenceKind::Error | PresenceKind::Other => {}
     }
 }
 
-// A presence.
+// A presence for all counts, and then tells.
 #[tactic(auto, using(crate::proofs::Counted::counted_first))]
-fn on_presence(desk: &mut Desk, presence: &Presence, told: &Told)
+fn on_announcement(desk: &mut Desk, presence: &Presence, told: &Told)
     requires { Some told.now ≡ told_of told.now.number (hall_of desk.old).sessions }
-    ensures { step_of desk.new ≡ acted written_item (counting told.now (at_presence presence.now told.now)) (step_of desk.old) }
+    ensures { step_of desk.new ≡ acted written_item (counting told.now (presenting written_item None presence.now.kind presence.now told.now (hall_of desk.old))) (step_of desk.old) }
 {
     desk.count(told);
+    announce(desk, presence, told);
+}
+
+// A presence to an address of another domain comes back, unless it is an error or tells that its sender is gone.
+fn on_foreign(desk: &mut Desk, presence: &Presence, to: &Jid, told: &Told) -> Result<(), NoMemory>
+    requires { Some told.now ≡ told_of told.now.number (hall_of desk.old).sessions }
+    ensures ok { OnOk result (step_of desk.new ≡ acted written_item (counting told.now (returning written_item presence.now.kind to.now presence.now told.now)) (step_of desk.old)) }
+    ensures err { OnErr result (step_of desk.new ≡ step_of desk.old) }
+{
+    match presence.kind {
+        PresenceKind::Available | PresenceKind::Other => {
+            let id = presence.id.as_str();
+            let answer = bounced_presence(desk.alloc, to.text(), id, &not_found())?;
+            desk.reply(told, answer)
+        }
+        PresenceKind::Unavailable | PresenceKind::Error => {
+            desk.count(told);
+            Ok(())
+        }
+    }
+}
+
+// A presence to an address.
+fn on_directed(desk: &mut Desk, presence: &Presence, to: &Jid, told: &Told) -> Result<(), NoMemory>
+    requires { Some told.now ≡ told_of told.now.number (hall_of desk.old).sessions }
+    ensures ok { OnOk result (step_of desk.new ≡ acted written_item (counting told.now (directing written_item (is_local to.now (hall_of desk.old)) presence.now.kind to.now presence.now told.now)) (step_of desk.old)) }
+    ensures err { OnErr result (step_of desk.new ≡ step_of desk.old) }
+{
+    if to.domain() == desk.domain.as_str() {
+        desk.count(told);
+        return Ok(());
+    }
+    on_foreign(desk, presence, to, told)
+}
+
+// A presence.
+fn on_presence(desk: &mut Desk, presence: &Presence, told: &Told) -> Result<(), NoMemory>
+    requires { Some told.now ≡ told_of told.now.number (hall_of desk.old).sessions }
+    ensures ok { OnOk result (step_of desk.new ≡ acted written_item (counting told.now (at_presence written_item presence.now told.now (hall_of desk.old))) (step_of desk.old)) }
+    ensures err { OnErr result (step_of desk.new ≡ step_of desk.old) }
+{
     match &presence.to {
-        Some(_) => {}
-        None => announce(desk, presence, told),
+        Some(to) => on_directed(desk, presence, to, told),
+        None => {
+            on_announcement(desk, presence, told);
+            Ok(())
+        }
     }
 }
 
@@ -150,10 +203,7 @@ fn handle(desk: &mut Desk, read: &Result<Stanza, StanzaFault>, told: &Told) -> R
 {
     match read {
         Ok(Stanza::Message(message)) => on_message(desk, message, told),
-        Ok(Stanza::Presence(presence)) => {
-            on_presence(desk, presence, told);
-            Ok(())
-        }
+        Ok(Stanza::Presence(presence)) => on_presence(desk, presence, told),
         Ok(Stanza::Iq(iq)) => on_iq(desk, iq, told),
         Err(
             StanzaFault::BadTo {
