@@ -66,12 +66,12 @@ use Rattle.im_stanza.specs.declared.fault.StanzaFault.TheVariants as fault
 use Rattle.im_stanza.specs.declared.kinds.IqKind.{IqKind}
 use Rattle.im_stanza.specs.declared.kinds.IqKind.TheVariants as iq
 use Rattle.im_stanza.specs.declared.kinds.PresenceKind.{PresenceKind}
-use Rattle.im_stanza.specs.declared.kinds.PresenceKind.TheVariants.{Available, Unavailable, Other}
+use Rattle.im_stanza.specs.declared.kinds.PresenceKind.TheVariants.{Available, Unavailable, Error, Other}
 use Rattle.im_stanza.specs.declared.stanzas.Presence.{Presence}
 use Rattle.im_stanza.specs.declared.stanzas.Stanza.{Stanza}
 use Rattle.im_stanza.specs.declared.stanzas.Stanza.TheVariants as stanza
 use Rattle.srv_core.specs.Ready.{at_bound, at_ready, at_ready_or_bound, ready_iq, ready_stanza}
-use Rattle.srv_core.specs.Stanzas.{at_bad_to, at_stanza, handling, judging, presenting, stanza_condition}
+use Rattle.srv_core.specs.Stanzas.{at_bad_to, at_stanza, directing, handling, is_local, judging, presenting, returning, stanza_condition}
 use Rattle.xml_trees.specs.Readers.{first_named}
 use Rattle.xml_trees.specs.Trees.{Elem}
 use Rattle.xml_writer.specs.Items.{ItemOut}
@@ -283,11 +283,22 @@ module _ {A : Type 0} (say : ItemOut → A) (j : ℕ) (ss : List (Session A)) wh
 
   -- ---- stanzas
 
-  presenting_allowed : (to : Option (List ℕ)) (kind : PresenceKind) (p : Presence) (t : Told) → AreAllowed j ss (presenting to kind p t)
-  presenting_allowed (Some to) kind p t = tt
-  presenting_allowed None Available p t = (tt, tt)
-  presenting_allowed None Unavailable p t = (tt, tt)
-  presenting_allowed None Other p t = tt
+  returning_allowed : (kind : PresenceKind) (to : List ℕ) (p : Presence) (t : Told) → AreAllowed j ss (returning say kind to p t)
+  returning_allowed Available to p t = (tt, tt)
+  returning_allowed Unavailable to p t = tt
+  returning_allowed Error to p t = tt
+  returning_allowed Other to p t = (tt, tt)
+
+  directing_allowed : (here : Bool) (kind : PresenceKind) (to : List ℕ) (p : Presence) (t : Told) → AreAllowed j ss (directing say here kind to p t)
+  directing_allowed true kind to p t = tt
+  directing_allowed false kind to p t = returning_allowed kind to p t
+
+  presenting_allowed : (o : Option (List ℕ)) (kind : PresenceKind) (p : Presence) (t : Told) (h : Hall A) → AreAllowed j ss (presenting say o kind p t h)
+  presenting_allowed (Some to) kind p t h = directing_allowed (is_local to h) kind to p t
+  presenting_allowed None Available p t h = (tt, tt)
+  presenting_allowed None Unavailable p t h = (tt, tt)
+  presenting_allowed None Error p t h = tt
+  presenting_allowed None Other p t h = tt
 
   bad_to_allowed : (message reply : Bool) (id to : List ℕ) (t : Told) (h : Hall A) → AreAllowed j ss (at_bad_to say message reply id to t h)
   bad_to_allowed message false id to t h = tt
@@ -295,7 +306,7 @@ module _ {A : Type 0} (say : ItemOut → A) (j : ℕ) (ss : List (Session A)) wh
 
   handling_allowed : (read : Result Stanza StanzaFault) (t : Told) (h : Hall A) → AreAllowed j ss (handling say read t h)
   handling_allowed (Ok (stanza.Message m)) t h = messaging_allowed m (unwrap_or m.to (bare_address t.account h)) t (plan_renamed number_of (plan_of h.domain h.accounts h.sessions m t)) h
-  handling_allowed (Ok (stanza.Presence p)) t h = presenting_allowed p.to p.kind p t
+  handling_allowed (Ok (stanza.Presence p)) t h = presenting_allowed p.to p.kind p t h
   handling_allowed (Ok (stanza.Iq q)) t h = serving_allowed (request_of q t h) q t h
   handling_allowed (Err (fault.BadTo message reply from id to)) t h = bad_to_allowed message reply id to t h
   handling_allowed (Err fault.BadFrom) t h = tt

@@ -23,20 +23,21 @@ use Rattle.law_limits.specs.Fine.{client_tags}
 use Rattle.law_limits.specs.Messages.{MessageFits}
 use Rattle.im_login.specs.Sasl.{is_sasl}
 use Rattle.law_limits.specs.Keeps.{Comes, IsShort}
-use Rattle.law_limits.specs.Words.{BadToFits, BindFits, BindsFit, IqFits, ReadFits, WordComes}
+use Rattle.law_limits.specs.Words.{BadToFits, BindFits, BindsFit, IqFits, PresenceFits, ReadFits, WordComes}
 use Rattle.law_limits.proofs.SizesOfAddresses.{normal_said}
 use Rattle.law_limits.proofs.Characters.{printable_characters, said_word}
 use Rattle.law_limits.proofs.ElementSizes.{child_size, nodes_within, texts_size, value_and_nodes}
 use Rattle.law_limits.proofs.TextSizes.{value_nothing, value_short}
 use Rattle.law_limits.specs.Elements.{element_size, nodes_size}
 use Rattle.law_limits.specs.Texts.{Said, value_size}
-use Rattle.im_stanza.proofs.ReadingLaws.{bad_to_law, iq_law, message_law}
+use Rattle.im_stanza.proofs.ReadingLaws.{bad_to_law, iq_law, message_law, presence_law}
 use Rattle.im_stanza.specs.Names.{client_ns, xml_ns}
 use Rattle.im_stanza.specs.Readings.{stanza_of}
-use Rattle.im_stanza.specs.Stanzas.{IsAddressOf, IsBadTo, IsIq, IsMessage, attr_named}
+use Rattle.im_stanza.specs.Stanzas.{IsAddressOf, IsBadTo, IsIq, IsMessage, IsPresence, attr_named}
 use Rattle.im_stanza.specs.Views.{IqView, MessageView}
 use Rattle.im_stanza.specs.declared.fault.StanzaFault.{StanzaFault}
 use Rattle.im_stanza.specs.declared.fault.StanzaFault.TheVariants as fault
+use Rattle.im_stanza.specs.declared.stanzas.Presence.{Presence}
 use Rattle.im_stanza.specs.declared.stanzas.Stanza.{Stanza}
 use Rattle.im_stanza.specs.declared.stanzas.Stanza.TheVariants as stanza
 use Rattle.xml_tokens.specs.Lines.{IsCharacters}
@@ -167,13 +168,17 @@ iq_fits e q h is =
       queryid = λ f more first. queryid_said q.payload f more (attr_named (codes "queryid") f) (subst ArePlainNodes (sym is.payload) (plain_inside e h.plain)) few first refl;
     }
 
+presence_fits : (e : Elem) (p : Presence) → IsHandled e → IsPresence e p → PresenceFits p
+presence_fits e p h is =
+    record { id = subst (Said 1048576) (sym is.id) (or_empty_said (codes "id") e (attr_named (codes "id") e) h refl); to = address_fits (codes "to") e (attr_named (codes "to") e) p.to h.plain refl is.to }
+
 bad_to_fits : (e : Elem) (message reply : Bool) (from : Option (List ℕ)) (id to : List ℕ) → IsHandled e → IsBadTo e message reply from id to → BadToFits id to
 bad_to_fits e message reply from id to h is =
     record { the_id = subst (Said 1048576) (sym is.the_id) (or_empty_said (codes "id") e (attr_named (codes "id") e) h refl); the_to = attribute_said (codes "to") e to h is.written }
 
 read_fits : (e : Elem) (read : Result Stanza StanzaFault) → IsHandled e → stanza_of e ≡ read → ReadFits read
 read_fits e (Ok (stanza.Message m)) h is = message_fits e m h ((message_law e m).0 is)
-read_fits e (Ok (stanza.Presence p)) h is = tt
+read_fits e (Ok (stanza.Presence p)) h is = presence_fits e p h ((presence_law e p).0 is)
 read_fits e (Ok (stanza.Iq q)) h is = iq_fits e q h ((iq_law e q).0 is)
 read_fits e (Err (fault.BadTo message reply from id to)) h is = bad_to_fits e message reply from id to h ((bad_to_law e message reply from id to).0 is)
 read_fits e (Err fault.BadFrom) h is = tt

@@ -1,4 +1,4 @@
--- What a server answers to requests, and to messages that it can't pass on (RFC 6120, sections 7 and 8).
+-- What a server answers to requests, and to messages and presences that it can't pass on (RFC 6120, sections 7 and 8).
 use Rattle.std.proofs.Common.{◌≡◌, ℕ, ◌+◌, ◌<◌, ◌≤◌, ◌^◌, true, List, [], ◌∷◌, ◌++◌, Option, Some, None, IfSome, codes, refl, ap, arith, subst, sym}
 use Rattle.std.specs.Fmt.{decimal}
 use Rattle.base_lemmas.specs.Hexadecimal.{hex16_of}
@@ -18,10 +18,10 @@ use Rattle.law_limits.proofs.Characters.{said_word}
 use Rattle.law_limits.proofs.Numerals.{said_decimal, said_hex}
 use Rattle.law_limits.specs.Texts.{Said}
 use Rattle.im_stanza.proofs.WrittenAttrs.{attrs_stay}
-use Rattle.im_stanza.specs.Answering.{bounce_elem, iq_error_elem}
+use Rattle.im_stanza.specs.Answering.{bounce_elem, iq_error_elem, presence_bounce_elem}
 use Rattle.im_stanza.specs.Conditions.{IsKnown, condition_name}
 use Rattle.im_stanza.specs.Errors.{error_elem, error_type}
-use Rattle.im_stanza.specs.Kinds.{iq_type, message_type}
+use Rattle.im_stanza.specs.Kinds.{iq_type, message_type, presence_type}
 use Rattle.im_stanza.specs.Names.{client_ns, stanza_errors_ns}
 use Rattle.im_stanza.specs.Written.{attr_where, attrs_written, iq_elem, unless_empty}
 use Rattle.im_stanza.specs.declared.errors.ErrorKind.{ErrorKind}
@@ -31,6 +31,7 @@ use Rattle.im_stanza.specs.declared.kinds.IqKind.{IqKind}
 use Rattle.im_stanza.specs.declared.kinds.IqKind.TheVariants as iq
 use Rattle.im_stanza.specs.declared.kinds.MessageKind.{MessageKind}
 use Rattle.im_stanza.specs.declared.kinds.MessageKind.TheVariants as message
+use Rattle.im_stanza.specs.declared.kinds.PresenceKind.TheVariants as presence
 use Rattle.xml_trees.proofs.TidyLaws.{tidied_IsTree}
 use Rattle.xml_trees.specs.Attributes.{attribute}
 use Rattle.xml_trees.specs.Tidied.{text_node, tidied, tidied_nodes}
@@ -99,6 +100,14 @@ bounce_read f i from id e a b known short =
     (stanza_fine client_ns (codes "message") (Some from) (unless_empty id) None (Some (message_type message.Error)) None (child (error_elem e) no_nodes) f i 0 0 2 1000 (word (codes "message") refl) a (unless_said i id b) tt
     (message_kind_said message.Error) tt (only_child client_ns 2 1000 (error_elem e) (error_fine client_ns e known)))
     (other_space client_ns (codes "message") refl) (omega arith) (omega (arith, short))
+
+pub presence_bounce_read : (f i : ℕ) (from id : List ℕ) (e : StanzaError) → Said f from → Said i id → IsKnown e.condition → f + i ≤ 4000000 → ClientReads (presence_bounce_elem from id e)
+presence_bounce_read f i from id e a b known short =
+    reads (presence_bounce_elem from id e) 3 (f + i + 0 + 0 + 1000 + 700)
+    (stays_tree (presence_bounce_elem from id e) (λ j. element client_ns (codes "presence") (attrs_stay (Some from) (unless_empty id) None (presence_type presence.Error) None j) (child (error_elem e) no_nodes)))
+    (stanza_fine client_ns (codes "presence") (Some from) (unless_empty id) None (presence_type presence.Error) None (child (error_elem e) no_nodes) f i 0 0 2 1000 (word (codes "presence") refl) a (unless_said i id b) tt
+    (said_word 60 (codes "error") refl refl) tt (only_child client_ns 2 1000 (error_elem e) (error_fine client_ns e known)))
+    (other_space client_ns (codes "presence") refl) (omega arith) (omega (arith, short))
 
 pub iq_error_read : (f i t : ℕ) (from to : Option (List ℕ)) (id : List ℕ) (e : StanzaError) → IfSome from (Said f) → Said i id → IfSome to (Said t) → IsKnown e.condition → f + i + t ≤ 4000000
     → ClientReads (iq_error_elem from to id e)

@@ -19,7 +19,7 @@ use Rattle.xml_framer.specs.declared.items.Item.TheVariants as item
 use Rattle.sm_live.specs.Sessions.{Session, session_at, told}
 use Rattle.sm_live.specs.declared.told.Told.{Told}
 use Rattle.im_payload.specs.Names.{binding}
-use Rattle.law_limits.proofs.Requests.{bounce_read, iq_error_read}
+use Rattle.law_limits.proofs.Requests.{bounce_read, iq_error_read, presence_bounce_read}
 use Rattle.im_replies.specs.declared.conditions.StreamCondition.{StreamCondition}
 use Rattle.im_replies.specs.declared.conditions.StreamCondition.TheVariants.{NotAuthorized, PolicyViolation}
 use Rattle.srv_core.specs.Events.{after_fault, at_fault, fault_condition}
@@ -29,9 +29,11 @@ use Rattle.law_limits.proofs.Lists.{each_found, value_found}
 use Rattle.law_limits.proofs.ServerMessagesKept.{message_kept}
 use Rattle.law_limits.proofs.Readings.{word_comes}
 use Rattle.law_limits.proofs.RequestsKept.{iq_kept}
+use Rattle.im_replies.specs.Requests.{presence_bounce_item}
 use Rattle.law_limits.proofs.RowsKept.{ToldKeeps, ack_kept, any_kept, bind_kept, challenge_kept, closing_kept, either_acts, enable_kept, ending_kept, header_kept, login_kept, refusing_kept, request_kept, resume_kept}
 use Rattle.law_limits.proofs.ServerStepsKept.{acts_kept, whole_read}
 use Rattle.law_limits.specs.Keeps.{ActsKeep, Comes, ConnectionKeeps, HallKeeps, IsDrawn, IsRead, SessionKeeps, StepKeeps}
+use Rattle.law_limits.specs.Texts.{Said}
 use Rattle.law_limits.specs.Words.{BindsFit, ReadFits, WordComes}
 use Rattle.law_server.specs.Images.{itself}
 use Rattle.im_stanza.specs.Views.{IqView}
@@ -41,23 +43,37 @@ use Rattle.im_stanza.specs.declared.fault.StanzaFault.TheVariants as fault
 use Rattle.im_stanza.specs.declared.kinds.IqKind.{IqKind}
 use Rattle.im_stanza.specs.declared.kinds.IqKind.TheVariants as iq
 use Rattle.im_stanza.specs.declared.kinds.PresenceKind.{PresenceKind}
-use Rattle.im_stanza.specs.declared.kinds.PresenceKind.TheVariants.{Available, Other, Unavailable}
+use Rattle.im_stanza.specs.declared.kinds.PresenceKind.TheVariants.{Available, Error, Other, Unavailable}
 use Rattle.im_stanza.specs.declared.stanzas.Presence.{Presence}
 use Rattle.im_stanza.specs.declared.stanzas.Stanza.{Stanza}
 use Rattle.im_stanza.specs.declared.stanzas.Stanza.TheVariants as stanza
 use Rattle.srv_core.specs.Ready.{at_bound, at_ready, at_ready_or_bound, ready_iq, ready_stanza}
-use Rattle.srv_core.specs.Stanzas.{at_bad_to, at_stanza, handling, judging, malformed, malformed_item, presenting, stanza_condition}
+use Rattle.srv_core.specs.Stanzas.{at_bad_to, at_stanza, directing, handling, is_local, judging, malformed, malformed_item, not_found, presenting, returning, stanza_condition}
 use Rattle.xml_trees.specs.Readers.{first_named}
 use Rattle.xml_trees.specs.Trees.{Elem}
 use Rattle.xml_writer.specs.Items.{ItemOut}
 
 -- ---- stanzas
 
-presenting_kept : (to : Option (List ℕ)) (kind : PresenceKind) (p : Presence) (t : Told) → ActsKeep (presenting {A = ItemOut} to kind p t)
-presenting_kept (Some to) kind p t = tt
-presenting_kept None Available p t = (tt, tt)
-presenting_kept None Unavailable p t = (tt, tt)
-presenting_kept None Other p t = tt
+returned_read : (to id : List ℕ) → Said 18426 to → Said 1048576 id → IsRead (presence_bounce_item to id not_found)
+returned_read to id a b = whole_read _ (presence_bounce_read 18426 1048576 to id not_found a b tt (omega arith))
+
+returning_kept : (kind : PresenceKind) (to : List ℕ) (p : Presence) (t : Told) → Said 18426 to → Said 1048576 p.id → ActsKeep (returning itself kind to p t)
+returning_kept Available to p t a b = (returned_read to p.id a b, tt)
+returning_kept Unavailable to p t a b = tt
+returning_kept Error to p t a b = tt
+returning_kept Other to p t a b = (returned_read to p.id a b, tt)
+
+directing_kept : (here : Bool) (kind : PresenceKind) (to : List ℕ) (p : Presence) (t : Told) → Said 18426 to → Said 1048576 p.id → ActsKeep (directing itself here kind to p t)
+directing_kept true kind to p t a b = tt
+directing_kept false kind to p t a b = returning_kept kind to p t a b
+
+presenting_kept : (o : Option (List ℕ)) (kind : PresenceKind) (p : Presence) (t : Told) (h : Hall ItemOut) → IfSome o (Said 18426) → Said 1048576 p.id → ActsKeep (presenting itself o kind p t h)
+presenting_kept (Some to) kind p t h a b = directing_kept (is_local to h) kind to p t a b
+presenting_kept None Available p t h a b = (tt, tt)
+presenting_kept None Unavailable p t h a b = (tt, tt)
+presenting_kept None Error p t h a b = tt
+presenting_kept None Other p t h a b = tt
 
 malformed_read : (message : Bool) (id to : List ℕ) (t : Told) (h : Hall ItemOut) → ReadFits (Err (fault.BadTo message true None id to)) → HallKeeps h → IsRead (malformed_item message id to t h)
 malformed_read true id to t h fits keeps = whole_read _ (bounce_read 1048576 1048576 to id malformed fits.the_to fits.the_id tt (omega arith))
@@ -70,7 +86,7 @@ bad_to_kept message true id to t h fits keeps = (malformed_read message id to t 
 
 handling_kept : (read : Result Stanza StanzaFault) (t : Told) (h : Hall ItemOut) → ReadFits read → HallKeeps h → ActsKeep (handling itself read t h)
 handling_kept (Ok (stanza.Message m)) t h fits keeps = message_kept m t h fits keeps
-handling_kept (Ok (stanza.Presence p)) t h fits keeps = presenting_kept p.to p.kind p t
+handling_kept (Ok (stanza.Presence p)) t h fits keeps = presenting_kept p.to p.kind p t h fits.to fits.id
 handling_kept (Ok (stanza.Iq q)) t h fits keeps = iq_kept q t h fits keeps
 handling_kept (Err (fault.BadTo message reply from id to)) t h fits keeps = bad_to_kept message reply id to t h fits keeps
 handling_kept (Err fault.BadFrom) t h fits keeps = tt

@@ -12,6 +12,7 @@ use Rattle.law_limits.specs.Texts.{Said}
 use Rattle.im_stanza.specs.Views.{IqView}
 use Rattle.im_stanza.specs.declared.fault.StanzaFault.{StanzaFault}
 use Rattle.im_stanza.specs.declared.fault.StanzaFault.TheVariants as fault
+use Rattle.im_stanza.specs.declared.stanzas.Presence.{Presence}
 use Rattle.im_stanza.specs.declared.stanzas.Stanza.{Stanza}
 use Rattle.im_stanza.specs.declared.stanzas.Stanza.TheVariants as stanza
 use Rattle.xml_tokens.specs.Lines.{IsCharacters}
@@ -25,12 +26,17 @@ pub record IqFits (q : IqView) : Type 0 where
   pub to : IfSome q.to (Said 18426)
   pub queryid : (e : Elem) (more : List Elem) → elements_of q.payload ≡ e ∷ more → Said 1048576 (attr_or_empty (codes "queryid") e)
 
+pub record PresenceFits (p : Presence) : Type 0 where
+  pub id : Said 1048576 p.id
+  pub to : IfSome p.to (Said 18426)
+
 pub record BadToFits (id to : List ℕ) : Type 0 where
   pub the_id : Said 1048576 id
   pub the_to : Said 1048576 to
 
 abbrev pub ReadFits : Result Stanza StanzaFault → Type 0
 ReadFits (Ok (stanza.Message m)) = MessageFits m
+ReadFits (Ok (stanza.Presence p)) = PresenceFits p
 ReadFits (Ok (stanza.Iq q)) = IqFits q
 ReadFits (Err (fault.BadTo message reply from id to)) = BadToFits id to
 ReadFits read = Unit {0}

@@ -26,7 +26,7 @@ ghost use Rattle.im_replies.specs.Streams.{server_header, stream_condition_name,
 ghost use Rattle.im_replies.specs.declared.conditions.StreamCondition.{StreamCondition};
 ghost use Rattle.im_login.specs.Sasl.{carrier, failure_of};
 ghost use Rattle.law_limits.specs.Texts.{Said, is_printable};
-ghost use Rattle.im_stanza.specs.Answering.{bounce_elem, iq_error_elem};
+ghost use Rattle.im_stanza.specs.Answering.{bounce_elem, iq_error_elem, presence_bounce_elem};
 ghost use Rattle.im_stanza.specs.Conditions.{IsKnown};
 ghost use Rattle.im_stanza.specs.Errors.{stream_error_elem};
 ghost use Rattle.im_stanza.specs.Names.{client_ns};
@@ -66,10 +66,11 @@ pub fn management_is_read()
     ensures refused { (c : Condition) → IsKnown c → ClientReads (sm_failed_elem (record { condition = c })) }
 {}
 
-/// A law: a client reads what a server answers to requests and to messages that it can't pass on (RFC 6120, sections 7 and
-/// 8), where the texts of the answer take at most 4,000,000 bytes in all.
+/// A law: a client reads what a server answers to requests, and to messages and presences that it can't pass on (RFC 6120,
+/// sections 7 and 8), where the texts of the answer take at most 4,000,000 bytes in all.
 pub fn answers_are_read()
     ensures bounce { (f i : ℕ) (from id : List ℕ) (e : StanzaError) → Said f from → Said i id → IsKnown e.condition → f + i ≤ 4000000 → ClientReads (bounce_elem from id e) }
+    ensures presence { (f i : ℕ) (from id : List ℕ) (e : StanzaError) → Said f from → Said i id → IsKnown e.condition → f + i ≤ 4000000 → ClientReads (presence_bounce_elem from id e) }
     ensures error { (f i t : ℕ) (from to : Option (List ℕ)) (id : List ℕ) (e : StanzaError) → IfSome from (Said f) → Said i id → IfSome to (Said t) → IsKnown e.condition → f + i + t ≤ 4000000 → ClientReads (iq_error_elem from to id e) }
     ensures result { (f i t levels n : ℕ) (a : EnvelopeView) (payload : Nodes) → IfSome a.from (Said f) → Said i a.id → IfSome a.to (Said t) → tidied_nodes payload ≡ payload → AreFine client_ns levels n payload
         → levels ≤ 60 → f + i + t + n ≤ 4000000 → ClientReads (iq_elem (record { from = a.from; to = a.to; id = a.id; kind = iq.Result; payload = payload })) }

@@ -64,12 +64,12 @@ use Rattle.im_stanza.specs.declared.fault.StanzaFault.{StanzaFault}
 use Rattle.im_stanza.specs.declared.kinds.IqKind.{IqKind}
 use Rattle.im_stanza.specs.declared.kinds.IqKind.TheVariants as iq
 use Rattle.im_stanza.specs.declared.kinds.PresenceKind.{PresenceKind}
-use Rattle.im_stanza.specs.declared.kinds.PresenceKind.TheVariants.{Available, Unavailable, Other}
+use Rattle.im_stanza.specs.declared.kinds.PresenceKind.TheVariants.{Available, Unavailable, Error, Other}
 use Rattle.im_stanza.specs.declared.stanzas.Presence.{Presence}
 use Rattle.im_stanza.specs.declared.stanzas.Stanza.{Stanza}
 use Rattle.im_stanza.specs.declared.stanzas.Stanza.TheVariants as stanza
 use Rattle.srv_core.specs.Ready.{at_ready, ready_iq, ready_stanza}
-use Rattle.srv_core.specs.Stanzas.{at_bad_to, presenting}
+use Rattle.srv_core.specs.Stanzas.{at_bad_to, directing, is_local, presenting, returning}
 use Rattle.law_server.proofs.AccountsKept.{Fit}
 use Rattle.law_server.specs.Accounts.{Exists}
 use Rattle.xml_trees.specs.Readers.{first_named}
@@ -315,11 +315,22 @@ fit_iq accounts say q t h = fit_serving accounts say (request_of q t h) q t h
 
 -- ---- other stanzas
 
-pub fit_presence : (A : Type 0) (accounts : List Account) (to : Option (List ℕ)) (kind : PresenceKind) (p : Presence) (t : Told) → Fit accounts (presenting {A = A} to kind p t)
-fit_presence A accounts (Some to) kind p t = tt
-fit_presence A accounts None Available p t = tt
-fit_presence A accounts None Unavailable p t = tt
-fit_presence A accounts None Other p t = tt
+fit_returning : {A : Type 0} (accounts : List Account) (say : ItemOut → A) (kind : PresenceKind) (to : List ℕ) (p : Presence) (t : Told) → Fit accounts (returning say kind to p t)
+fit_returning accounts say Available to p t = tt
+fit_returning accounts say Unavailable to p t = tt
+fit_returning accounts say Error to p t = tt
+fit_returning accounts say Other to p t = tt
+
+fit_directing : {A : Type 0} (accounts : List Account) (say : ItemOut → A) (here : Bool) (kind : PresenceKind) (to : List ℕ) (p : Presence) (t : Told) → Fit accounts (directing say here kind to p t)
+fit_directing accounts say true kind to p t = tt
+fit_directing accounts say false kind to p t = fit_returning accounts say kind to p t
+
+pub fit_presence : {A : Type 0} (accounts : List Account) (say : ItemOut → A) (o : Option (List ℕ)) (kind : PresenceKind) (p : Presence) (t : Told) (h : Hall A) → Fit accounts (presenting say o kind p t h)
+fit_presence accounts say (Some to) kind p t h = fit_directing accounts say (is_local to h) kind to p t
+fit_presence accounts say None Available p t h = tt
+fit_presence accounts say None Unavailable p t h = tt
+fit_presence accounts say None Error p t h = tt
+fit_presence accounts say None Other p t h = tt
 
 pub fit_bad_to : {A : Type 0} (accounts : List Account) (say : ItemOut → A) (message reply : Bool) (id to : List ℕ) (t : Told) (h : Hall A) → Fit accounts (at_bad_to say message reply id to t h)
 fit_bad_to accounts say message false id to t h = tt

@@ -91,7 +91,7 @@ fit_message accounts say m t h = fit_messaging accounts say m (unwrap_or m.to (b
 
 fit_handling : {A : Type 0} (accounts : List Account) (say : ItemOut → A) (read : Result Stanza StanzaFault) (t : Told) (h : Hall A) → Fit accounts (handling say read t h)
 fit_handling accounts say (Ok (stanza.Message m)) t h = fit_message accounts say m t h
-fit_handling {A = A} accounts say (Ok (stanza.Presence p)) t h = fit_presence A accounts p.to p.kind p t
+fit_handling accounts say (Ok (stanza.Presence p)) t h = fit_presence accounts say p.to p.kind p t h
 fit_handling accounts say (Ok (stanza.Iq q)) t h = fit_iq accounts say q t h
 fit_handling accounts say (Err (fault.BadTo message reply from id to)) t h = fit_bad_to accounts say message reply id to t h
 fit_handling accounts say (Err fault.BadFrom) t h = tt

@@ -42,7 +42,7 @@ taken_from k e m t h is (Some taken) of = record { session = t; is_on = is.on; m
 handled : {A : Type 0} (say : ItemOut → A) (k : ℕ) (e : Elem) (read : Result Stanza StanzaFault) (t : Session A) (h : Hall A) → IsBound k e (word.Stanza false read) t h
     → Marks (IsTakenFrom k (item.Element e) h) (handling say read (told t) h)
 handled say k e (Ok (stanza.Message m)) t h is = (let o = at_message_marks say m (told t) h in (o.0, o.1, taken_from k e m t h is o.0 o.2))
-handled {A = A} say k e (Ok (stanza.Presence p)) t h is = (None, quiet_presence A p.to p.kind p (told t), tt)
+handled say k e (Ok (stanza.Presence p)) t h is = (None, quiet_presence say p.to p.kind p (told t) h, tt)
 handled say k e (Ok (stanza.Iq q)) t h is = (None, quiet_iq say q (told t) h, tt)
 handled say k e (Err (fault.BadTo message reply from id to)) t h is = (None, quiet_bad_to say message reply id to (told t) h, tt)
 handled say k e (Err fault.BadFrom) t h is = (None, refl, tt)

@@ -51,12 +51,12 @@ use Rattle.im_stanza.specs.declared.fault.StanzaFault.{StanzaFault}
 use Rattle.im_stanza.specs.declared.kinds.IqKind.{IqKind}
 use Rattle.im_stanza.specs.declared.kinds.IqKind.TheVariants as iq
 use Rattle.im_stanza.specs.declared.kinds.PresenceKind.{PresenceKind}
-use Rattle.im_stanza.specs.declared.kinds.PresenceKind.TheVariants.{Available, Unavailable, Other}
+use Rattle.im_stanza.specs.declared.kinds.PresenceKind.TheVariants.{Available, Unavailable, Error, Other}
 use Rattle.im_stanza.specs.declared.stanzas.Presence.{Presence}
 use Rattle.im_stanza.specs.declared.stanzas.Stanza.{Stanza}
 use Rattle.im_stanza.specs.declared.stanzas.Stanza.TheVariants as stanza
 use Rattle.srv_core.specs.Ready.{at_ready, ready_iq, ready_stanza}
-use Rattle.srv_core.specs.Stanzas.{at_bad_to, presenting}
+use Rattle.srv_core.specs.Stanzas.{at_bad_to, directing, is_local, presenting, returning}
 use Rattle.law_server.proofs.Marks.{Mark, marks}
 use Rattle.xml_trees.specs.Readers.{first_named}
 use Rattle.xml_trees.specs.Trees.{Elem}
@@ -248,11 +248,22 @@ quiet_iq say q t h = quiet_serving say (request_of q t h) q t h
 
 -- ---- other stanzas
 
-pub quiet_presence : (A : Type 0) (to : Option (List ℕ)) (kind : PresenceKind) (p : Presence) (t : Told) → marks (presenting {A = A} to kind p t) ≡ []
-quiet_presence A (Some to) kind p t = refl
-quiet_presence A None Available p t = refl
-quiet_presence A None Unavailable p t = refl
-quiet_presence A None Other p t = refl
+quiet_returning : {A : Type 0} (say : ItemOut → A) (kind : PresenceKind) (to : List ℕ) (p : Presence) (t : Told) → marks (returning say kind to p t) ≡ []
+quiet_returning say Available to p t = refl
+quiet_returning say Unavailable to p t = refl
+quiet_returning say Error to p t = refl
+quiet_returning say Other to p t = refl
+
+quiet_directing : {A : Type 0} (say : ItemOut → A) (here : Bool) (kind : PresenceKind) (to : List ℕ) (p : Presence) (t : Told) → marks (directing say here kind to p t) ≡ []
+quiet_directing say true kind to p t = refl
+quiet_directing say false kind to p t = quiet_returning say kind to p t
+
+pub quiet_presence : {A : Type 0} (say : ItemOut → A) (o : Option (List ℕ)) (kind : PresenceKind) (p : Presence) (t : Told) (h : Hall A) → marks (presenting say o kind p t h) ≡ []
+quiet_presence say (Some to) kind p t h = quiet_directing say (is_local to h) kind to p t
+quiet_presence say None Available p t h = refl
+quiet_presence say None Unavailable p t h = refl
+quiet_presence say None Error p t h = refl
+quiet_presence say None Other p t h = refl
 
 pub quiet_bad_to : {A : Type 0} (say : ItemOut → A) (message reply : Bool) (id to : List ℕ) (t : Told) (h : Hall A) → marks (at_bad_to say message reply id to t h) ≡ []
 quiet_bad_to say message false id to t h = refl

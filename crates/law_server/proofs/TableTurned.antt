@@ -33,12 +33,12 @@ use Rattle.im_stanza.specs.declared.fault.StanzaFault.TheVariants as fault
 use Rattle.im_stanza.specs.declared.kinds.IqKind.{IqKind}
 use Rattle.im_stanza.specs.declared.kinds.IqKind.TheVariants as iq
 use Rattle.im_stanza.specs.declared.kinds.PresenceKind.{PresenceKind}
-use Rattle.im_stanza.specs.declared.kinds.PresenceKind.TheVariants.{Available, Unavailable, Other}
+use Rattle.im_stanza.specs.declared.kinds.PresenceKind.TheVariants.{Available, Unavailable, Error, Other}
 use Rattle.im_stanza.specs.declared.stanzas.Presence.{Presence}
 use Rattle.im_stanza.specs.declared.stanzas.Stanza.{Stanza}
 use Rattle.im_stanza.specs.declared.stanzas.Stanza.TheVariants as stanza
 use Rattle.srv_core.specs.Ready.{at_bound, at_ready, at_ready_or_bound, ready_iq, ready_stanza}
-use Rattle.srv_core.specs.Stanzas.{at_bad_to, at_presence, at_stanza, handling, is_own, is_own_of, judging, malformed_item, presenting, sender_of, stanza_condition, unless_own}
+use Rattle.srv_core.specs.Stanzas.{at_bad_to, at_presence, at_stanza, directing, handling, is_local, is_own, is_own_of, judging, malformed_item, presenting, returning, sender_of, stanza_condition, unless_own}
 use Rattle.xml_trees.specs.Readers.{first_named}
 use Rattle.xml_trees.specs.Trees.{Elem}
 use Rattle.xml_writer.specs.Items.{ItemOut}
@@ -56,11 +56,22 @@ condition_turned f (Err fault.NotAStanza) t h = refl
 condition_turned f (Err fault.BadFormat) t h = refl
 condition_turned f (Err fault.NoMemory) t h = refl
 
-presenting_turned : {A B : Type 0} (f : A → B) (to : Option (List ℕ)) (kind : PresenceKind) (p : Presence) (t : Told) → presenting {A = B} to kind p t ≡ acts_turned f (presenting {A = A} to kind p t)
-presenting_turned f (Some to) kind p t = refl
-presenting_turned f None Available p t = refl
-presenting_turned f None Unavailable p t = refl
-presenting_turned f None Other p t = refl
+returning_turned : {A B : Type 0} (f : A → B) (say : ItemOut → A) (kind : PresenceKind) (to : List ℕ) (p : Presence) (t : Told) → returning (turned f say) kind to p t ≡ acts_turned f (returning say kind to p t)
+returning_turned f say Available to p t = refl
+returning_turned f say Unavailable to p t = refl
+returning_turned f say Error to p t = refl
+returning_turned f say Other to p t = refl
+
+directing_turned : {A B : Type 0} (f : A → B) (say : ItemOut → A) (here : Bool) (kind : PresenceKind) (to : List ℕ) (p : Presence) (t : Told) → directing (turned f say) here kind to p t ≡ acts_turned f (directing say here kind to p t)
+directing_turned f say true kind to p t = refl
+directing_turned f say false kind to p t = returning_turned f say kind to p t
+
+presenting_turned : {A B : Type 0} (f : A → B) (say : ItemOut → A) (o : Option (List ℕ)) (kind : PresenceKind) (p : Presence) (t : Told) (h : Hall A) → presenting (turned f say) o kind p t (hall_turned f h) ≡ acts_turned f (presenting say o kind p t h)
+presenting_turned f say (Some to) kind p t h = directing_turned f say (is_local to h) kind to p t
+presenting_turned f say None Available p t h = refl
+presenting_turned f say None Unavailable p t h = refl
+presenting_turned f say None Error p t h = refl
+presenting_turned f say None Other p t h = refl
 
 malformed_turned : {A B : Type 0} (f : A → B) (message : Bool) (id to : List ℕ) (t : Told) (h : Hall A) → malformed_item message id to t (hall_turned f h) ≡ malformed_item message id to t h
 malformed_turned f true id to t h = refl
@@ -72,7 +83,7 @@ bad_to_turned f say message true id to t h = ap (λ i. steps.Send t.number (f (s
 
 handling_turned : {A B : Type 0} (f : A → B) (say : ItemOut → A) (read : Result Stanza StanzaFault) (t : Told) (h : Hall A) → handling (turned f say) read t (hall_turned f h) ≡ acts_turned f (handling say read t h)
 handling_turned f say (Ok (stanza.Message m)) t h = message_turned f say m t h
-handling_turned f say (Ok (stanza.Presence p)) t h = presenting_turned f p.to p.kind p t
+handling_turned f say (Ok (stanza.Presence p)) t h = presenting_turned f say p.to p.kind p t h
 handling_turned f say (Ok (stanza.Iq q)) t h = iq_turned f say q t h
 handling_turned f say (Err (fault.BadTo message reply from id to)) t h = bad_to_turned f say message reply id to t h
 handling_turned f say (Err fault.BadFrom) t h = refl

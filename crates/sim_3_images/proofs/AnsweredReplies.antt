@@ -1,12 +1,12 @@
 -- What a server answers to stanzas can be answered.
 use Rattle.std.proofs.Common.{◌≡◌, ℕ, Bool, true, false, List, codes, bytes_eq, Option, Some, None, refl}
 use Rattle.law_limits.specs.Answerable.{IsAnswerable}
-use Rattle.sim_3_images.proofs.AnsweredItems.{iq_answers_by, no_challenge, no_enabled, no_message, plain_message}
+use Rattle.sim_3_images.proofs.AnsweredItems.{iq_answers_by, no_challenge, no_enabled, no_message, other_answers, plain_message}
 use Rattle.sim_3_images.proofs.MildItems.{other_first}
 use Rattle.im_forwarding.specs.Copies.{CopyView, copied_elem, copy_elem}
 use Rattle.im_payload.specs.Names.{archive}
 use Rattle.im_replies.specs.Requests.{EnvelopeView}
-use Rattle.im_stanza.specs.Answering.{bounce_elem, iq_error_elem}
+use Rattle.im_stanza.specs.Answering.{bounce_elem, iq_error_elem, presence_bounce_elem}
 use Rattle.im_stanza.specs.Errors.{error_elem}
 use Rattle.im_stanza.specs.Names.{client_ns}
 use Rattle.im_stanza.specs.Stanzas.{attr_named}
@@ -44,6 +44,13 @@ refusal_answers from to id e = iq_answers from to id (codes "error") (child (err
 
 pub bounce_answers : (from id : List ℕ) (e : StanzaError) → IsAnswerable (bounce_elem from id e)
 bounce_answers from id e = plain_message (bounce_elem from id e) refl refl refl (other_first (error_elem e) no_nodes refl refl)
+
+-- ---- presences
+
+pub presence_bounce_answers : (from id : List ℕ) (e : StanzaError) → IsAnswerable (presence_bounce_elem from id e)
+presence_bounce_answers from id e = other_answers (presence_bounce_elem from id e) refl refl refl refl
+
+-- ---- copies
 
 pub copy_answers : (c : CopyView) (full : List ℕ) → IsAnswerable (copy_elem c full)
 copy_answers c full = plain_message (copy_elem c full) refl refl refl (by c.sent refl)

@@ -5,7 +5,7 @@ use Rattle.std.specs.Option.{option_map}
 use Rattle.sim_3_images.proofs.AnsweredChallenges.{AnswerAnswers, auth_answers}
 use Rattle.sim_3_images.proofs.AnsweredEnabled.{enable_acts}
 use Rattle.sim_3_images.proofs.AnsweredMessages.{messaging_answers}
-use Rattle.sim_3_images.proofs.AnsweredReplies.{bounce_answers, refusal_answers}
+use Rattle.sim_3_images.proofs.AnsweredReplies.{bounce_answers, presence_bounce_answers, refusal_answers}
 use Rattle.sim_3_images.proofs.AnsweredRequests.{serving_answers}
 use Rattle.sim_3_images.proofs.AnsweredRows.{ack_answers, any_answers, bind_answers, closing_answers, either_acts, ending_answers, failing_answers, header_answers, refusing_answers, request_acts, response_answers, resume_answers}
 use Rattle.sim_3_images.proofs.AnsweredSteps.{ActsAnswer, StepAnswers, acts_answer}
@@ -54,12 +54,12 @@ use Rattle.im_stanza.specs.declared.fault.StanzaFault.TheVariants as fault
 use Rattle.im_stanza.specs.declared.kinds.IqKind.{IqKind}
 use Rattle.im_stanza.specs.declared.kinds.IqKind.TheVariants as iq
 use Rattle.im_stanza.specs.declared.kinds.PresenceKind.{PresenceKind}
-use Rattle.im_stanza.specs.declared.kinds.PresenceKind.TheVariants.{Available, Other, Unavailable}
+use Rattle.im_stanza.specs.declared.kinds.PresenceKind.TheVariants.{Available, Error, Other, Unavailable}
 use Rattle.im_stanza.specs.declared.stanzas.Presence.{Presence}
 use Rattle.im_stanza.specs.declared.stanzas.Stanza.{Stanza}
 use Rattle.im_stanza.specs.declared.stanzas.Stanza.TheVariants as stanza
 use Rattle.srv_core.specs.Ready.{at_bound, at_ready, at_ready_or_bound, ready_iq, ready_stanza}
-use Rattle.srv_core.specs.Stanzas.{at_bad_to, at_stanza, handling, judging, malformed, malformed_item, presenting, stanza_condition}
+use Rattle.srv_core.specs.Stanzas.{at_bad_to, at_stanza, directing, handling, is_local, judging, malformed, malformed_item, not_found, presenting, returning, stanza_condition}
 use Rattle.xml_trees.specs.Readers.{first_named, text_of}
 use Rattle.xml_trees.specs.Trees.{Elem, nodes_of}
 use Rattle.xml_writer.specs.Items.{Closing, ItemOut, Opening, Whole}
@@ -71,11 +71,22 @@ ChallengesAnswer = (e : Elem) (entropy : List ℕ) (accounts : List Account) →
 
 -- ---- stanzas
 
-presenting_answers : (to : Option (List ℕ)) (kind : PresenceKind) (p : Presence) (t : Told) → ActsAnswer (presenting {A = ItemOut} to kind p t)
-presenting_answers (Some to) kind p t = tt
-presenting_answers None Available p t = (tt, tt)
-presenting_answers None Unavailable p t = (tt, tt)
-presenting_answers None Other p t = tt
+returning_answers : (kind : PresenceKind) (to : List ℕ) (p : Presence) (t : Told) → ActsAnswer (returning itself kind to p t)
+returning_answers Available to p t = (presence_bounce_answers to p.id not_found, tt)
+returning_answers Unavailable to p t = tt
+returning_answers Error to p t = tt
+returning_answers Other to p t = (presence_bounce_answers to p.id not_found, tt)
+
+directing_answers : (here : Bool) (kind : PresenceKind) (to : List ℕ) (p : Presence) (t : Told) → ActsAnswer (directing itself here kind to p t)
+directing_answers true kind to p t = tt
+directing_answers false kind to p t = returning_answers kind to p t
+
+presenting_answers : (o : Option (List ℕ)) (kind : PresenceKind) (p : Presence) (t : Told) (h : Hall ItemOut) → ActsAnswer (presenting itself o kind p t h)
+presenting_answers (Some to) kind p t h = directing_answers (is_local to h) kind to p t
+presenting_answers None Available p t h = (tt, tt)
+presenting_answers None Unavailable p t h = (tt, tt)
+presenting_answers None Error p t h = tt
+presenting_answers None Other p t h = tt
 
 malformed_answers : (message : Bool) (id to : List ℕ) (t : Told) (h : Hall ItemOut) → IsAnswered (malformed_item message id to t h)
 malformed_answers true id to t h = bounce_answers to id malformed
@@ -87,7 +98,7 @@ bad_to_answers message true id to t h = (malformed_answers message id to t h, tt
 
 handling_answers : (read : Result Stanza StanzaFault) (t : Told) (h : Hall ItemOut) → ReadIsBare read → ActsAnswer (handling itself read t h)
 handling_answers (Ok (stanza.Message m)) t h bare = messaging_answers m _ t _ h bare
-handling_answers (Ok (stanza.Presence p)) t h bare = presenting_answers p.to p.kind p t
+handling_answers (Ok (stanza.Presence p)) t h bare = presenting_answers p.to p.kind p t h
 handling_answers (Ok (stanza.Iq q)) t h bare = serving_answers (request_of q t h) q t h
 handling_answers (Err (fault.BadTo message reply from id to)) t h bare = bad_to_answers message reply id to t h
 handling_answers (Err fault.BadFrom) t h bare = tt

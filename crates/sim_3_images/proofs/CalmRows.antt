@@ -47,12 +47,12 @@ use Rattle.im_stanza.specs.Views.{IqView, MessageView}
 use Rattle.im_stanza.specs.declared.fault.StanzaFault.{StanzaFault}
 use Rattle.im_stanza.specs.declared.fault.StanzaFault.TheVariants as fault
 use Rattle.im_stanza.specs.declared.kinds.PresenceKind.{PresenceKind}
-use Rattle.im_stanza.specs.declared.kinds.PresenceKind.TheVariants.{Available, Unavailable, Other}
+use Rattle.im_stanza.specs.declared.kinds.PresenceKind.TheVariants.{Available, Unavailable, Error, Other}
 use Rattle.im_stanza.specs.declared.stanzas.Presence.{Presence}
 use Rattle.im_stanza.specs.declared.stanzas.Stanza.{Stanza}
 use Rattle.im_stanza.specs.declared.stanzas.Stanza.TheVariants as stanza
 use Rattle.srv_core.specs.Ready.{at_bound}
-use Rattle.srv_core.specs.Stanzas.{at_bad_to, at_stanza, handling, judging, presenting, stanza_condition}
+use Rattle.srv_core.specs.Stanzas.{at_bad_to, at_stanza, directing, handling, is_local, judging, presenting, returning, stanza_condition}
 use Rattle.xml_writer.specs.Items.{ItemOut}
 
 -- none of these acts binds or resumes
@@ -227,11 +227,22 @@ module _ {A : Type 0} (say : ItemOut → A) where
 
   -- ---- stanzas
 
-  presence_calm : (to : Option (List ℕ)) (kind : PresenceKind) (p : Presence) (t : Told) → Calm (presenting {A = A} to kind p t)
-  presence_calm (Some to) kind p t = tt
-  presence_calm None Available p t = tt
-  presence_calm None Unavailable p t = tt
-  presence_calm None Other p t = tt
+  returning_calm : (kind : PresenceKind) (to : List ℕ) (p : Presence) (t : Told) → Calm (returning say kind to p t)
+  returning_calm Available to p t = tt
+  returning_calm Unavailable to p t = tt
+  returning_calm Error to p t = tt
+  returning_calm Other to p t = tt
+
+  directing_calm : (here : Bool) (kind : PresenceKind) (to : List ℕ) (p : Presence) (t : Told) → Calm (directing say here kind to p t)
+  directing_calm true kind to p t = tt
+  directing_calm false kind to p t = returning_calm kind to p t
+
+  presence_calm : (o : Option (List ℕ)) (kind : PresenceKind) (p : Presence) (t : Told) (h : Hall A) → Calm (presenting say o kind p t h)
+  presence_calm (Some to) kind p t h = directing_calm (is_local to h) kind to p t
+  presence_calm None Available p t h = tt
+  presence_calm None Unavailable p t h = tt
+  presence_calm None Error p t h = tt
+  presence_calm None Other p t h = tt
 
   bad_to_calm : (message reply : Bool) (id to : List ℕ) (t : Told) (h : Hall A) → Calm (at_bad_to say message reply id to t h)
   bad_to_calm message false id to t h = tt
@@ -239,7 +250,7 @@ module _ {A : Type 0} (say : ItemOut → A) where
 
   handling_calm : (read : Result Stanza StanzaFault) (t : Told) (h : Hall A) → Calm (handling say read t h)
   handling_calm (Ok (stanza.Message m)) t h = messaging_calm m (unwrap_or m.to (bare_address t.account h)) t (plan_renamed number_of (plan_of h.domain h.accounts h.sessions m t)) h
-  handling_calm (Ok (stanza.Presence p)) t h = presence_calm p.to p.kind p t
+  handling_calm (Ok (stanza.Presence p)) t h = presence_calm p.to p.kind p t h
   handling_calm (Ok (stanza.Iq q)) t h = serving_calm (request_of q t h) q t h
   handling_calm (Err (fault.BadTo message reply from id to)) t h = bad_to_calm message reply id to t h
   handling_calm (Err fault.BadFrom) t h = tt

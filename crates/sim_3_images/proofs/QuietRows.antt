@@ -26,11 +26,11 @@ use Rattle.im_stanza.specs.Views.{IqView, MessageView}
 use Rattle.im_stanza.specs.declared.fault.StanzaFault.{StanzaFault}
 use Rattle.im_stanza.specs.declared.fault.StanzaFault.TheVariants as fault
 use Rattle.im_stanza.specs.declared.kinds.PresenceKind.{PresenceKind}
-use Rattle.im_stanza.specs.declared.kinds.PresenceKind.TheVariants.{Available, Unavailable, Other}
+use Rattle.im_stanza.specs.declared.kinds.PresenceKind.TheVariants.{Available, Unavailable, Error, Other}
 use Rattle.im_stanza.specs.declared.stanzas.Presence.{Presence}
 use Rattle.im_stanza.specs.declared.stanzas.Stanza.{Stanza}
 use Rattle.im_stanza.specs.declared.stanzas.Stanza.TheVariants as stanza
-use Rattle.srv_core.specs.Stanzas.{at_bad_to, handling, presenting}
+use Rattle.srv_core.specs.Stanzas.{at_bad_to, directing, handling, is_local, presenting, returning}
 use Rattle.xml_writer.specs.Items.{ItemOut}
 use Rattle.law_xml.specs.Puts.{phase_behind}
 use Rattle.xml_framer.specs.declared.states.Phase.{Phase}
@@ -115,11 +115,22 @@ module _ (n : ℕ) (start : ℕ → Option Phase) where
 
   -- ---- stanzas
 
-  presenting_q : (to : Option (List ℕ)) (kind : PresenceKind) (p : Presence) (t : Told) → AreQuiet (presenting to kind p t)
-  presenting_q (Some to) kind p t = tt
-  presenting_q None Available p t = (tt, tt)
-  presenting_q None Unavailable p t = (tt, tt)
-  presenting_q None Other p t = tt
+  returning_q : (kind : PresenceKind) (to : List ℕ) (p : Presence) (t : Told) → AreQuiet (returning itself kind to p t)
+  returning_q Available to p t = (refl, tt)
+  returning_q Unavailable to p t = tt
+  returning_q Error to p t = tt
+  returning_q Other to p t = (refl, tt)
+
+  directing_q : (here : Bool) (kind : PresenceKind) (to : List ℕ) (p : Presence) (t : Told) → AreQuiet (directing itself here kind to p t)
+  directing_q true kind to p t = tt
+  directing_q false kind to p t = returning_q kind to p t
+
+  presenting_q : (o : Option (List ℕ)) (kind : PresenceKind) (p : Presence) (t : Told) (h : Hall ItemOut) → AreQuiet (presenting itself o kind p t h)
+  presenting_q (Some to) kind p t h = directing_q (is_local to h) kind to p t
+  presenting_q None Available p t h = (tt, tt)
+  presenting_q None Unavailable p t h = (tt, tt)
+  presenting_q None Error p t h = tt
+  presenting_q None Other p t h = tt
 
   bad_to_q : (message reply : Bool) (id to : List ℕ) (t : Told) (h : Hall ItemOut) → AreQuiet (at_bad_to itself message reply id to t h)
   bad_to_q message false id to t h = tt
@@ -128,7 +139,7 @@ module _ (n : ℕ) (start : ℕ → Option Phase) where
 
   handling_q : (read : Result Stanza StanzaFault) (t : Told) (h : Hall ItemOut) → AreQuiet (handling itself read t h)
   handling_q (Ok (stanza.Message m)) t h = messaging_q m (unwrap_or m.to (bare_address t.account h)) t (plan_renamed number_of (plan_of h.domain h.accounts h.sessions m t)) h
-  handling_q (Ok (stanza.Presence p)) t h = presenting_q p.to p.kind p t
+  handling_q (Ok (stanza.Presence p)) t h = presenting_q p.to p.kind p t h
   handling_q (Ok (stanza.Iq q)) t h = serving_q (request_of q t h) q t h
   handling_q (Err (fault.BadTo message reply from id to)) t h = bad_to_q message reply id to t h
   handling_q (Err why) t h = tt

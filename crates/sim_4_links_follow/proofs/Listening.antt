@@ -43,11 +43,11 @@ use Rattle.im_stanza.specs.declared.fault.StanzaFault.{StanzaFault}
 use Rattle.im_stanza.specs.declared.fault.StanzaFault.TheVariants as fault
 use Rattle.im_stanza.specs.declared.kinds.MessageKind.{MessageKind}
 use Rattle.im_stanza.specs.declared.kinds.PresenceKind.{PresenceKind}
-use Rattle.im_stanza.specs.declared.kinds.PresenceKind.TheVariants.{Available, Other, Unavailable}
+use Rattle.im_stanza.specs.declared.kinds.PresenceKind.TheVariants.{Available, Error, Other, Unavailable}
 use Rattle.im_stanza.specs.declared.stanzas.Presence.{Presence}
 use Rattle.im_stanza.specs.declared.stanzas.Stanza.{Stanza}
 use Rattle.im_stanza.specs.declared.stanzas.Stanza.TheVariants as stanza
-use Rattle.srv_core.specs.Stanzas.{at_bad_to, handling, malformed_item, presenting}
+use Rattle.srv_core.specs.Stanzas.{at_bad_to, directing, handling, is_local, malformed_item, presenting, returning}
 use Rattle.sim_3_images.proofs.RuleKept.{numbers_above}
 use Rattle.xml_writer.specs.Items.{ItemOut}
 
@@ -281,10 +281,21 @@ module _ (h : Hall ItemOut) where
 
     -- ---- all stanzas
 
-    presenting_heard : (to : Option (List ℕ)) (kind : PresenceKind) (p : Presence) → AreHeard h.sessions (presenting to kind p t)
-    presenting_heard (Some to) kind p = tt
+    returning_heard : (kind : PresenceKind) (to : List ℕ) (p : Presence) → AreHeard h.sessions (returning itself kind to p t)
+    returning_heard Available to p = ((record { elem = _; whole = refl; stanza = refl }, own), tt)
+    returning_heard Unavailable to p = tt
+    returning_heard Error to p = tt
+    returning_heard Other to p = ((record { elem = _; whole = refl; stanza = refl }, own), tt)
+
+    directing_heard : (here : Bool) (kind : PresenceKind) (to : List ℕ) (p : Presence) → AreHeard h.sessions (directing itself here kind to p t)
+    directing_heard true kind to p = tt
+    directing_heard false kind to p = returning_heard kind to p
+
+    presenting_heard : (o : Option (List ℕ)) (kind : PresenceKind) (p : Presence) → AreHeard h.sessions (presenting itself o kind p t h)
+    presenting_heard (Some to) kind p = directing_heard (is_local to h) kind to p
     presenting_heard None Available p = (own, tt)
     presenting_heard None Unavailable p = (own, tt)
+    presenting_heard None Error p = tt
     presenting_heard None Other p = tt
 
     malformed_is : (message : Bool) (id to : List ℕ) → IsForClient (malformed_item message id to t h)
