@@ -1,24 +1,26 @@
--- What is read of tidied elements, and of messages that are sent back.
-use Rattle.std.proofs.Common.{◌≡◌, ◌≢◌, ℕ, List, [], ◌∷◌, ◌++◌, Option, Some, None, Ok, Err, unwrap_or, codes, map, refl, sym, ap, ◌∙◌, subst}
+-- What is read of tidied elements, and of messages and presences that are sent back.
+use Rattle.std.proofs.Common.{◌≡◌, ◌≢◌, ℕ, List, [], ◌∷◌, ◌++◌, Option, Some, None, Ok, Err, unwrap_or, codes, map, pos, refl, sym, ap, ◌∙◌, subst}
 use Rattle.im_jid.specs.Normal.{normal}
 use Rattle.im_jid.specs.declared.fault.JidFault.{JidFault}
 use Rattle.im_stanza.proofs.ErrorLaws.{error_read_back}
-use Rattle.im_stanza.proofs.KindLemmas.{message_reads, spelled_is}
-use Rattle.im_stanza.proofs.ReadingLaws.{bad_from_law, message_law}
+use Rattle.im_stanza.proofs.KindLemmas.{message_reads, presence_kind_is, spelled_is}
+use Rattle.im_stanza.proofs.ReadingLaws.{bad_from_law, message_law, presence_law}
 use Rattle.im_stanza.proofs.WrittenAttrs.{attr_tidied, from_written, id_written, lang_written, to_written, type_written}
-use Rattle.im_stanza.specs.Answering.{bounce_elem}
+use Rattle.im_stanza.specs.Answering.{bounce_elem, presence_bounce_elem}
 use Rattle.im_stanza.specs.Conditions.{IsPlain, condition_name}
 use Rattle.im_stanza.specs.Errors.{error_elem, stanza_error_of}
-use Rattle.im_stanza.specs.Kinds.{IsMessageKind, message_kind_named, message_type}
+use Rattle.im_stanza.specs.Kinds.{IsMessageKind, IsPresenceKind, message_kind_named, message_type, presence_type}
 use Rattle.im_stanza.specs.Names.{xml_ns}
 use Rattle.im_stanza.specs.Readings.{stanza_of}
-use Rattle.im_stanza.specs.Stanzas.{IsAddressOf, IsBadFrom, IsMessage, attr_named}
+use Rattle.im_stanza.specs.Stanzas.{IsAddressOf, IsBadFrom, IsMessage, IsPresence, attr_named}
 use Rattle.im_stanza.specs.Views.{MessageView}
 use Rattle.im_stanza.specs.Written.{unless_empty}
 use Rattle.im_stanza.specs.declared.errors.StanzaError.{StanzaError}
 use Rattle.im_stanza.specs.declared.fault.StanzaFault.TheVariants.{BadFrom}
 use Rattle.im_stanza.specs.declared.kinds.MessageKind.TheVariants.{Normal, Error}
-use Rattle.im_stanza.specs.declared.stanzas.Stanza.TheVariants.{Message}
+use Rattle.im_stanza.specs.declared.kinds.PresenceKind.TheVariants as presence
+use Rattle.im_stanza.specs.declared.stanzas.Presence.{Presence as PresenceView}
+use Rattle.im_stanza.specs.declared.stanzas.Stanza.TheVariants.{Message, Presence}
 use Rattle.xml_trees.proofs.TidyReads.{elements_of-joined}
 use Rattle.xml_trees.specs.Readers.{attr_of, elements_of}
 use Rattle.xml_trees.specs.Tidied.{text_node, tidied, tidied_behind, tidied_nodes}
@@ -100,3 +102,29 @@ module _ (from id : List ℕ) (error : StanzaError) where
 
   pub bounce_refused : (why : JidFault) → normal from ≡ Err why → stanza_of (tidied sent) ≡ Err BadFrom
   bounce_refused why is = (bad_from_law (tidied sent)).1 (bad_sender why is)
+
+-- ---- presences that are sent back
+
+module _ (from id : List ℕ) (error : StanzaError) where
+  abbrev returned : Elem
+  returned = presence_bounce_elem from id error
+
+  abbrev presence_read : List ℕ → PresenceView
+  presence_read form = record { from = Some form; to = None; id = id; kind = presence.Error; priority = pos 0 }
+
+  returned_is : (form : List ℕ) → normal from ≡ Ok form → IsPresence (tidied returned) (presence_read form)
+  returned_is form is =
+      let kind = presence_type presence.Error in record {
+        named = (refl, refl);
+        from = subst (λ given. IsAddressOf given (Some form)) (sym (attr_tidied [] (codes "from") returned ∙ from_written (Some from) (unless_empty id) None kind None)) (form, is, refl);
+        to = subst (λ given. IsAddressOf given None) (sym (attr_tidied [] (codes "to") returned ∙ to_written (Some from) (unless_empty id) None kind None)) refl;
+        id = empty_again (attr_named (codes "id") (tidied returned)) id (attr_tidied [] (codes "id") returned ∙ id_written (Some from) (unless_empty id) None kind None);
+        kind = subst (λ given. IsPresenceKind given presence.Error) (sym (attr_tidied [] (codes "type") returned ∙ type_written (Some from) (unless_empty id) None kind None)) (presence_kind_is kind);
+        priority = refl;
+      }
+
+  pub presence_bounce_read : (form : List ℕ) → normal from ≡ Ok form → stanza_of (tidied returned) ≡ Ok (Presence (presence_read form))
+  presence_bounce_read form is = (presence_law (tidied returned) (presence_read form)).1 (returned_is form is)
+
+  pub presence_bounce_error : IsPlain error.condition → condition_name error.condition ≢ codes "text" → stanza_error_of (tidied returned) ≡ Ok error
+  presence_bounce_error plain other = error_read_back (tidied returned) error refl plain other
