@@ -32,7 +32,8 @@ SESSION = [
      [f"<iq id='r1' to='{FULL}' type='result'><query xmlns='jabber:iq:roster'/></iq>"]),
     ('<iq type="get" id="d1" to="chat.example"><query xmlns="http://jabber.org/protocol/disco#info"/></iq>',
      [f"<iq from='chat.example' id='d1' to='{FULL}' type='result'><query xmlns='http://jabber.org/protocol/disco#info'>"
-      "<identity category='server' type='im'/><feature var='http://jabber.org/protocol/disco#info'/><feature var='urn:xmpp:carbons:2'/>"
+      "<identity category='server' type='im'/><feature var='http://jabber.org/protocol/disco#info'/>"
+      "<feature var='http://jabber.org/protocol/disco#items'/><feature var='urn:xmpp:carbons:2'/>"
       "<feature var='urn:xmpp:mam:2'/><feature var='urn:xmpp:ping'/><feature var='urn:xmpp:sid:0'/></query></iq>"]),
     ('<iq type="set" id="c1"><enable xmlns="urn:xmpp:carbons:2"/></iq>', [f"<iq id='c1' to='{FULL}' type='result'/>"]),
     ('<presence><priority>5</priority></presence><iq type="get" id="p1" to="chat.example"><ping xmlns="urn:xmpp:ping"/></iq>',

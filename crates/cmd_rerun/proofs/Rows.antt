@@ -275,6 +275,7 @@ module _ {A : Type 0} (say : ItemOut → A) (j : ℕ) (ss : List (Session A)) wh
   serving_allowed None q t h = tt
   serving_allowed (Some request.Ping) q t h = (tt, tt)
   serving_allowed (Some (request.Info at_domain)) q t h = (tt, tt)
+  serving_allowed (Some (request.Items node)) q t h = (tt, tt)
   serving_allowed (Some request.Roster) q t h = (tt, tt)
   serving_allowed (Some request.Session) q t h = (tt, tt)
   serving_allowed (Some (request.Carbons on)) q t h = (tt, (tt, tt))

@@ -149,12 +149,12 @@ first_short default no_nodes e more is = absurd cc
 first_short default (child f rest) e more is = let same : f ≡ e = cc in subst (λ x. element_size default x ≤ nodes_size default (child f rest)) same (let whole = child_size default f rest in omega (arith, whole))
 first_short default (text t rest) e more is = let ih = first_short default rest e more is in let whole = texts_size default t rest in omega (arith, ih, whole)
 
-queryid_said : (ks : Nodes) (e : Elem) (more : List Elem) (o : Option (List ℕ)) → ArePlainNodes ks → nodes_size client_ns ks ≤ 1048576 → elements_of ks ≡ e ∷ more → attr_named (codes "queryid") e ≡ o → Said 1048576 (unwrap_or o [])
-queryid_said ks e more None h short is has = said_word 1048576 [] refl refl
-queryid_said ks e more (Some v) h short is has =
-    let size = value_and_nodes client_ns [] (codes "queryid") e v has in
+value_said : (name : List ℕ) (ks : Nodes) (e : Elem) (more : List Elem) (o : Option (List ℕ)) → ArePlainNodes ks → nodes_size client_ns ks ≤ 1048576 → elements_of ks ≡ e ∷ more → attr_named name e ≡ o → Said 1048576 (unwrap_or o [])
+value_said name ks e more None h short is has = said_word 1048576 [] refl refl
+value_said name ks e more (Some v) h short is has =
+    let size = value_and_nodes client_ns [] name e v has in
     let within = first_short client_ns ks e more is in
-    record { characters = attribute_characters [] (codes "queryid") e v (first_plain ks e more h is) has; short = omega (arith, size, within, short) }
+    record { characters = attribute_characters [] name e v (first_plain ks e more h is) has; short = omega (arith, size, within, short) }
 
 iq_fits : (e : Elem) (q : IqView) → IsHandled e → IsIq e q → IqFits q
 iq_fits e q h is =
@@ -164,7 +164,7 @@ iq_fits e q h is =
     record {
       id = attribute_said (codes "id") e q.id h is.id;
       to = address_fits (codes "to") e (attr_named (codes "to") e) q.to h.plain refl is.to;
-      queryid = λ f more first. queryid_said q.payload f more (attr_named (codes "queryid") f) (subst ArePlainNodes (sym is.payload) (plain_inside e h.plain)) few first refl;
+      value = λ name f more first. value_said name q.payload f more (attr_named name f) (subst ArePlainNodes (sym is.payload) (plain_inside e h.plain)) few first refl;
     }
 
 bad_to_fits : (e : Elem) (message reply : Bool) (from : Option (List ℕ)) (id to : List ℕ) → IsHandled e → IsBadTo e message reply from id to → BadToFits id to

@@ -6,10 +6,10 @@ use Rattle.im_extensions.proofs.BindLaws.{bind_result_stays}
 use Rattle.im_extensions.proofs.StreamManagementLaws.{enabled_stays}
 use Rattle.im_extensions.specs.Bind.{bind_result_elem}
 use Rattle.im_extensions.specs.StreamManagement.{enabled_elem}
-use Rattle.im_login.proofs.DiscoveryLaws.{told_stays}
-use Rattle.im_login.specs.Discovery.{Told, account, disco_info_elem, feature_elem, feature_elems, identity_elem, server, server_features}
+use Rattle.im_login.proofs.DiscoveryLaws.{items_stay, told_stays}
+use Rattle.im_login.specs.Discovery.{Told, account, disco_info_elem, disco_items_elem, feature_elem, feature_elems, identity_elem, server, server_features}
 use Rattle.im_payload.specs.Bare.{bare}
-use Rattle.im_payload.specs.Names.{archive, binding, carbons, disco_info, management, pings, roster, stanza_ids}
+use Rattle.im_payload.specs.Names.{archive, binding, carbons, disco_info, disco_items, management, pings, roster, stanza_ids}
 use Rattle.law_limits.proofs.PutParts.{attributes_joined, child_fine, fine_bare, fine_element, fine_more, no_attributes, no_nodes_fine, nodes_more, one_attribute, only_child, other_space, reads, said_fine, space, stanza_attributes, where_given, word}
 use Rattle.law_limits.proofs.PutReplies.{fine_around, known_word, two_attributes, with_none}
 use Rattle.law_limits.specs.Fine.{AreFine, ClientReads, IsFine, IsWord}
@@ -125,20 +125,21 @@ nothing_fine = no_nodes_fine client_ns
 pub roster_fine : AreFine client_ns 1 400 (child (bare roster (codes "query")) no_nodes)
 roster_fine = only_child client_ns 1 400 (bare roster (codes "query")) (fine_bare client_ns roster (codes "query") (space roster refl) (word (codes "query") refl))
 
-feature_fine : (default namespace : List ℕ) → Said 240 namespace → IsFine default 1 700 (feature_elem namespace)
-feature_fine default namespace h =
-    fine_more default 1 1 688 700 (feature_elem namespace)
-    (with_none default disco_info (codes "feature") (attribute [] (codes "var") namespace ∷ []) 1 288 (space disco_info refl) (word (codes "feature") refl) (one_attribute 240 (codes "var") namespace (word (codes "var") refl) h) (omega arith))
+feature_fine : (default namespace : List ℕ) (m : ℕ) → Said m namespace → IsFine default 1 (m + 460) (feature_elem namespace)
+feature_fine default namespace m h =
+    fine_more default 1 1 (m + 48 + 400) (m + 460) (feature_elem namespace)
+    (with_none default disco_info (codes "feature") (attribute [] (codes "var") namespace ∷ []) 1 (m + 48) (space disco_info refl) (word (codes "feature") refl) (one_attribute m (codes "var") namespace (word (codes "var") refl) h) (omega arith))
     (omega arith) (omega arith)
 
-features_fine : (default : List ℕ) → AreFine default 1 3500 (feature_elems server_features)
+features_fine : (default : List ℕ) → AreFine default 1 3800 (feature_elems server_features)
 features_fine default =
     let none = nodes_more default 0 1 0 0 no_nodes (no_nodes_fine default) (omega arith) (omega arith) in
-    let one = child_fine default 1 700 0 (feature_elem stanza_ids) no_nodes (feature_fine default stanza_ids (said_word 240 stanza_ids refl refl)) none in
-    let two = child_fine default 1 700 700 (feature_elem pings) (feature_elems (stanza_ids ∷ [])) (feature_fine default pings (said_word 240 pings refl refl)) one in
-    let three = child_fine default 1 700 1400 (feature_elem archive) (feature_elems (pings ∷ stanza_ids ∷ [])) (feature_fine default archive (said_word 240 archive refl refl)) two in
-    let four = child_fine default 1 700 2100 (feature_elem carbons) (feature_elems (archive ∷ pings ∷ stanza_ids ∷ [])) (feature_fine default carbons (said_word 240 carbons refl refl)) three in
-    child_fine default 1 700 2800 (feature_elem disco_info) (feature_elems (carbons ∷ archive ∷ pings ∷ stanza_ids ∷ [])) (feature_fine default disco_info (said_word 240 disco_info refl refl)) four
+    let one = child_fine default 1 600 0 (feature_elem stanza_ids) no_nodes (feature_fine default stanza_ids 140 (said_word 140 stanza_ids refl refl)) none in
+    let two = child_fine default 1 600 600 (feature_elem pings) (feature_elems (stanza_ids ∷ [])) (feature_fine default pings 140 (said_word 140 pings refl refl)) one in
+    let three = child_fine default 1 600 1200 (feature_elem archive) (feature_elems (pings ∷ stanza_ids ∷ [])) (feature_fine default archive 140 (said_word 140 archive refl refl)) two in
+    let four = child_fine default 1 600 1800 (feature_elem carbons) (feature_elems (archive ∷ pings ∷ stanza_ids ∷ [])) (feature_fine default carbons 140 (said_word 140 carbons refl refl)) three in
+    let five = child_fine default 1 700 2400 (feature_elem disco_items) (feature_elems (carbons ∷ archive ∷ pings ∷ stanza_ids ∷ [])) (feature_fine default disco_items 240 (said_word 240 disco_items refl refl)) four in
+    child_fine default 1 700 3100 (feature_elem disco_info) (feature_elems (disco_items ∷ carbons ∷ archive ∷ pings ∷ stanza_ids ∷ [])) (feature_fine default disco_info 240 (said_word 240 disco_info refl refl)) five
 
 info_fine : (told : Told) → Said 60 told.0 → Said 60 told.1 → AreFine client_ns 2 5000 (child (disco_info_elem (told ∷ []) server_features) no_nodes)
 info_fine told h k =
@@ -147,15 +148,23 @@ info_fine told h k =
     with_none inner disco_info (codes "identity") (attribute [] (codes "category") told.0 ∷ attribute [] (codes "type") told.1 ∷ []) 2 216 (space disco_info refl) (word (codes "identity") refl)
     (two_attributes 60 60 (codes "category") told.0 (codes "type") told.1 (word (codes "category") refl) h (word (codes "type") refl) k) (omega arith) in
     let kids = child (identity_elem told) (feature_elems server_features) in
-    let inside = child_fine inner 1 616 3500 (identity_elem told) (feature_elems server_features) identity (features_fine inner) in
-    let whole = fine_element client_ns disco_info (codes "query") [] kids 0 0 1 (616 + 3500) (space disco_info refl) (word (codes "query") refl) no_attributes (omega arith) inside in
-    only_child client_ns 2 5000 (disco_info_elem (told ∷ []) server_features) (fine_more client_ns 2 2 (0 + (616 + 3500) + 400) 5000 (disco_info_elem (told ∷ []) server_features) whole (omega arith) (omega arith))
+    let inside = child_fine inner 1 616 3800 (identity_elem told) (feature_elems server_features) identity (features_fine inner) in
+    let whole = fine_element client_ns disco_info (codes "query") [] kids 0 0 1 (616 + 3800) (space disco_info refl) (word (codes "query") refl) no_attributes (omega arith) inside in
+    only_child client_ns 2 5000 (disco_info_elem (told ∷ []) server_features) (fine_more client_ns 2 2 (0 + (616 + 3800) + 400) 5000 (disco_info_elem (told ∷ []) server_features) whole (omega arith) (omega arith))
 
 pub server_info_fine : AreFine client_ns 2 5000 (child (disco_info_elem (server ∷ []) server_features) no_nodes)
 server_info_fine = info_fine server (said_word 60 (codes "server") refl refl) (said_word 60 (codes "im") refl refl)
 
 pub account_info_fine : AreFine client_ns 2 5000 (child (disco_info_elem (account ∷ []) server_features) no_nodes)
 account_info_fine = info_fine account (said_word 60 (codes "account") refl refl) (said_word 60 (codes "registered") refl refl)
+
+pub items_fine : (m : ℕ) (node : List ℕ) → Said m node → AreFine client_ns 1 (m + 448) (child (disco_items_elem node) no_nodes)
+items_fine m node h =
+    only_child client_ns 1 (m + 448) (disco_items_elem node)
+    (fine_more client_ns 1 1 (m + 48 + 400) (m + 448) (disco_items_elem node)
+    (with_none client_ns disco_items (codes "query") (attr_where [] (codes "node") (unless_empty node)) 1 (m + 48) (space disco_items refl) (word (codes "query") refl)
+    (where_given m (codes "node") (unless_empty node) (word (codes "node") refl) (unless_said m node h)) (omega arith))
+    (omega arith) (omega arith))
 
 pub bound_fine : (m : ℕ) (jid : List ℕ) → Said m jid → AreFine client_ns 2 (m + 800) (child (bind_result_elem (record { jid = jid })) no_nodes)
 bound_fine m jid h =
@@ -168,6 +177,9 @@ bound_fine m jid h =
 -- what tidying leaves
 pub info_stays : (told : Told) → tidied_nodes (child (disco_info_elem (told ∷ []) server_features) no_nodes) ≡ child (disco_info_elem (told ∷ []) server_features) no_nodes
 info_stays told = ap (λ e. child e no_nodes) (told_stays (told ∷ []) server_features)
+
+pub items_stays : (node : List ℕ) → tidied_nodes (child (disco_items_elem node) no_nodes) ≡ child (disco_items_elem node) no_nodes
+items_stays node = ap (λ e. child e no_nodes) (items_stay node)
 
 pub bound_stays : (jid : List ℕ) → tidied_nodes (child (bind_result_elem (record { jid = jid })) no_nodes) ≡ child (bind_result_elem (record { jid = jid })) no_nodes
 bound_stays jid = ap (λ e. child e no_nodes) (bind_result_stays (record { jid = jid }))

@@ -21,7 +21,7 @@ use Rattle.mam_pages.specs.Kept.{kept_by}
 use Rattle.mam_pages.specs.Matches.{is_wanted, matching}
 use Rattle.mam_pages.specs.PageOf.{candidates, cut_out, index_of_page, most_of, page_of, portion}
 use Rattle.mam_pages.specs.declared.query.PageQuery.{PageQuery}
-use Rattle.im_payload.specs.Names.{archive, carbons, disco_info, pings, roster, sessions as sessions_ns}
+use Rattle.im_payload.specs.Names.{archive, carbons, disco_info, disco_items, pings, roster, sessions as sessions_ns}
 use Rattle.im_payload.specs.Readings.{where_this}
 use Rattle.im_payload.specs.Shapes.{attr_or_empty}
 use Rattle.im_payload.specs.declared.fault.ExtFault.{ExtFault}
@@ -29,10 +29,10 @@ use Rattle.im_payload.specs.declared.fault.ExtFault.TheVariants as ext
 use Rattle.im_payload.specs.declared.fault.Field.{Field}
 use Rattle.im_payload.specs.declared.fault.Field.TheVariants as field
 use Rattle.law_limits.proofs.Forwarding.{entry_read, fin_fine, fin_payload_stays}
-use Rattle.law_limits.proofs.Requests.{account_info_fine, info_stays, iq_error_read, nothing_fine, result_read, roster_fine, server_info_fine}
+use Rattle.law_limits.proofs.Requests.{account_info_fine, info_stays, iq_error_read, items_fine, items_stays, nothing_fine, result_read, roster_fine, server_info_fine}
 use Rattle.law_limits.specs.Messages.{EntryFits}
 use Rattle.im_replies.specs.Requests.{result_item}
-use Rattle.srv_handlers.specs.Requests.{asked_of, asker_of, at_iq, empty_answer, envelope_of, get_request, info_item, is_at_domain, is_served_at, not_served, paging, query_request, querying_in, refusing_iq, request_for, request_in, request_of, sending_entries, sending_entry, serving, set_request}
+use Rattle.srv_handlers.specs.Requests.{asked_of, asker_of, at_iq, empty_answer, envelope_of, get_request, info_item, info_request, is_at_domain, is_served_at, node_asked, not_served, paging, query_request, querying_in, refusing_iq, request_for, request_in, request_of, sending_entries, sending_entry, serving, set_request}
 use Rattle.srv_handlers.specs.declared.request.Request.{Request}
 use Rattle.srv_handlers.specs.declared.request.Request.TheVariants as request
 use Rattle.law_limits.proofs.ServedAddresses.{bare_said, session_said}
@@ -61,7 +61,7 @@ use Rattle.xml_writer.specs.Items.{ItemOut}
 refusing_kept : (q : IqView) (t : Told) (e : StanzaError) (h : Hall ItemOut) → IqFits q → IsKnown e.condition → HallKeeps h → ActsKeep (refusing_iq itself q t e h)
 refusing_kept q t e h fits known keeps = (whole_read _ (iq_error_read 18426 1048576 18426 q.to (Some (session_address t.number h)) q.id e fits.to fits.id (session_said t.number h keeps) known (omega arith)), tt)
 
-result_kept : (q : IqView) (t : Told) (payload : Nodes) (levels n : ℕ) (h : Hall ItemOut) → IqFits q → tidied_nodes payload ≡ payload → AreFine client_ns levels n payload → levels ≤ 60 → n ≤ 10000 → HallKeeps h
+result_kept : (q : IqView) (t : Told) (payload : Nodes) (levels n : ℕ) (h : Hall ItemOut) → IqFits q → tidied_nodes payload ≡ payload → AreFine client_ns levels n payload → levels ≤ 60 → n ≤ 1100000 → HallKeeps h
     → IsRead (result_item (envelope_of q t h) payload)
 result_kept q t payload levels n h fits stays fine deep short keeps =
     whole_read _ (result_read 18426 1048576 18426 levels n (envelope_of q t h) payload fits.to fits.id (session_said t.number h keeps) stays fine deep (omega (arith, short)))
@@ -158,6 +158,7 @@ query_keeps : (e : Elem) → QueryKeeps e (mam_query_read e)
 query_keeps e = this_keeps e (is_query e) (filters_read e) (filters_keep e)
 
 abbrev RequestKeeps : Request → Type 0
+RequestKeeps (request.Items node) = Said 1048576 node
 RequestKeeps (request.Archive query) = Said 1048576 query.queryid
 RequestKeeps (request.Refused e) = IsKnown e.condition
 RequestKeeps r = Unit {0}
@@ -194,9 +195,16 @@ either_request : (b : Bool) (x y : Request) → RequestKeeps x → RequestKeeps 
 either_request true x y h k = h
 either_request false x y h k = k
 
-get_keeps : (b : Bool) (e : Elem) → RequestKeeps (get_request b e)
-get_keeps b e =
-    either_request (is_named pings (codes "ping") e) _ _ tt (either_request (is_named disco_info (codes "query") e) _ _ tt (either_request (is_named roster (codes "query") e) request.Roster (request.Refused not_served) tt tt))
+info_keeps : (b : Bool) (node : List ℕ) → RequestKeeps (info_request b node)
+info_keeps b [] = tt
+info_keeps b (c ∷ cs) = tt
+
+get_keeps : (b : Bool) (e : Elem) → Said 1048576 (node_asked e) → RequestKeeps (get_request b e)
+get_keeps b e said =
+    either_request (is_named pings (codes "ping") e) _ _ tt
+    (either_request (is_named disco_info (codes "query") e) (info_request b (node_asked e)) _ (info_keeps b (node_asked e))
+    (either_request (is_named disco_items (codes "query") e) (request.Items (node_asked e)) _ said
+    (either_request (is_named roster (codes "query") e) request.Roster (request.Refused not_served) tt tt)))
 
 set_keeps : (b : Bool) (e : Elem) → Said 1048576 (attr_or_empty (codes "queryid") e) → RequestKeeps (set_request b e)
 set_keeps b e said =
@@ -205,16 +213,16 @@ set_keeps b e said =
     (either_request (is_named carbons (codes "disable") e) _ _ tt
     (either_request (is_named archive (codes "query") e && not b) (query_request (query_asked e)) (request.Refused not_served) (asked_keeps e (mam_query_read e) (query_keeps e) said) tt)))
 
-for_keeps : (k : IqKind) (b : Bool) (e : Elem) → Said 1048576 (attr_or_empty (codes "queryid") e) → RequestKeeps (request_for k b e)
-for_keeps iq.Get b e said = get_keeps b e
-for_keeps iq.Set b e said = set_keeps b e said
-for_keeps iq.Result b e said = set_keeps b e said
-for_keeps iq.Error b e said = set_keeps b e said
+for_keeps : (k : IqKind) (b : Bool) (e : Elem) → ((name : List ℕ) → Said 1048576 (attr_or_empty name e)) → RequestKeeps (request_for k b e)
+for_keeps iq.Get b e said = get_keeps b e (said (codes "node"))
+for_keeps iq.Set b e said = set_keeps b e (said (codes "queryid"))
+for_keeps iq.Result b e said = set_keeps b e (said (codes "queryid"))
+for_keeps iq.Error b e said = set_keeps b e (said (codes "queryid"))
 
 asks_keep : (bare domain : List ℕ) (q : IqView) (elements : List Elem) → elements_of q.payload ≡ elements → IqFits q → RequestKeeps (asked_of bare domain q elements)
 asks_keep bare domain q [] is fits = tt
 asks_keep bare domain q (e ∷ []) is fits =
-    either_request (is_served_at bare domain q.to) (request_for q.kind (is_at_domain domain q.to) e) (request.Refused not_served) (for_keeps q.kind (is_at_domain domain q.to) e (fits.queryid e [] is)) tt
+    either_request (is_served_at bare domain q.to) (request_for q.kind (is_at_domain domain q.to) e) (request.Refused not_served) (for_keeps q.kind (is_at_domain domain q.to) e (λ name. fits.value name e [] is)) tt
 asks_keep bare domain q (e ∷ f ∷ more) is fits = tt
 
 in_keeps : (k : IqKind) (r : Request) → RequestKeeps r → IfSome (request_in k r) RequestKeeps
@@ -229,6 +237,7 @@ serving_kept : (o : Option Request) (q : IqView) (t : Told) (h : Hall ItemOut) �
 serving_kept None q t h o fits keeps = tt
 serving_kept (Some request.Ping) q t h o fits keeps = empty_kept q t h fits keeps
 serving_kept (Some (request.Info b)) q t h o fits keeps = (info_read b q t h fits keeps, tt)
+serving_kept (Some (request.Items node)) q t h o fits keeps = (result_kept q t _ 1 1049024 h fits (items_stays node) (items_fine 1048576 node o) (omega arith) (omega arith) keeps, tt)
 serving_kept (Some request.Roster) q t h o fits keeps = (result_kept q t _ 1 400 h fits refl roster_fine (omega arith) (omega arith) keeps, tt)
 serving_kept (Some request.Session) q t h o fits keeps = empty_kept q t h fits keeps
 serving_kept (Some (request.Carbons on)) q t h o fits keeps = (tt, empty_kept q t h fits keeps)

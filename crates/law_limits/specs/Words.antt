@@ -23,7 +23,7 @@ use Rattle.xml_trees.specs.Trees.{Elem}
 pub record IqFits (q : IqView) : Type 0 where
   pub id : Said 1048576 q.id
   pub to : IfSome q.to (Said 18426)
-  pub queryid : (e : Elem) (more : List Elem) → elements_of q.payload ≡ e ∷ more → Said 1048576 (attr_or_empty (codes "queryid") e)
+  pub value : (name : List ℕ) (e : Elem) (more : List Elem) → elements_of q.payload ≡ e ∷ more → Said 1048576 (attr_or_empty name e)
 
 pub record BadToFits (id to : List ℕ) : Type 0 where
   pub the_id : Said 1048576 id

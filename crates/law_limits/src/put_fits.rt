@@ -6,7 +6,7 @@ ghost use Rattle.base_lemmas.specs.Hexadecimal.{hex16_of};
 ghost use Rattle.im_extensions.specs.Bind.{bind_result_elem};
 ghost use Rattle.im_extensions.specs.Counts.{too_high_elem};
 ghost use Rattle.im_extensions.specs.StreamManagement.{ack_elem, enabled_elem, resumed_elem, sm_failed_elem};
-ghost use Rattle.im_login.specs.Discovery.{account, disco_info_elem, server, server_features};
+ghost use Rattle.im_login.specs.Discovery.{account, disco_info_elem, disco_items_elem, server, server_features};
 ghost use Rattle.im_login.specs.Features.{features_elem};
 ghost use Rattle.im_forwarding.specs.Copies.{CopyView, copy_elem};
 ghost use Rattle.im_forwarding.specs.Passed.{passed_elem};
@@ -76,6 +76,7 @@ pub fn answers_are_read()
     ensures roster { AreFine client_ns 1 400 (child (bare roster (codes "query")) no_nodes) }
     ensures server_info { AreFine client_ns 2 5000 (child (disco_info_elem (server ∷ []) server_features) no_nodes) }
     ensures account_info { AreFine client_ns 2 5000 (child (disco_info_elem (account ∷ []) server_features) no_nodes) }
+    ensures items { (m : ℕ) (node : List ℕ) → Said m node → AreFine client_ns 1 (m + 448) (child (disco_items_elem node) no_nodes) }
     ensures bound { (m : ℕ) (jid : List ℕ) → Said m jid → AreFine client_ns 2 (m + 800) (child (bind_result_elem (record { jid = jid })) no_nodes) }
     ensures fin { (v : Fin) → IfSome v.first (Said 120) → IfSome v.last (Said 120) → v.first_index < 2 ^ 64 → v.count < 2 ^ 64 → AreFine client_ns 3 3000 (child (fin_elem v) no_nodes) }
 {}

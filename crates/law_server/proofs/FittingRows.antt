@@ -304,6 +304,7 @@ fit_serving : {A : Type 0} (accounts : List Account) (say : ItemOut → A) (o : 
 fit_serving accounts say None q t h = tt
 fit_serving accounts say (Some request.Ping) q t h = tt
 fit_serving accounts say (Some (request.Info at_domain)) q t h = tt
+fit_serving accounts say (Some (request.Items node)) q t h = tt
 fit_serving accounts say (Some request.Roster) q t h = tt
 fit_serving accounts say (Some request.Session) q t h = tt
 fit_serving accounts say (Some (request.Carbons on)) q t h = tt

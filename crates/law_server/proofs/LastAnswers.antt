@@ -12,7 +12,7 @@ use Rattle.im_mam.specs.declared.archive_query.MamQuery.{MamQuery}
 use Rattle.mam_pages.specs.Cuts.{CutView}
 use Rattle.mam_pages.specs.Kept.{kept_by}
 use Rattle.mam_pages.specs.PageOf.{page_of}
-use Rattle.im_replies.specs.Requests.{EnvelopeView, iq_error_item, result_item, roster_item}
+use Rattle.im_replies.specs.Requests.{EnvelopeView, iq_error_item, items_item, result_item, roster_item}
 use Rattle.law_server.specs.Answering.{IsAnswer, a_result, an_error, IsAnswered}
 use Rattle.srv_handlers.specs.Requests.{answering_iq, asked_of, asker_of, at_iq, envelope_of, info_item, paging, querying_in, request_in, request_of, sending_entries, sending_entry, serving}
 use Rattle.srv_handlers.specs.declared.request.Request.{Request}
@@ -61,6 +61,7 @@ served_answered : {A : Type 0} (say : ItemOut → A) (asked : Request) (q : IqVi
     → IsAnswered say t.number (envelope_of q t h) (serving say (Some asked) q t h)
 served_answered say request.Ping q t h some = answer_alone say t.number (envelope_of q t h) (result_item (envelope_of q t h) no_nodes) (a_result no_nodes refl)
 served_answered say (request.Info at_domain) q t h some = answer_alone say t.number (envelope_of q t h) (info_item at_domain (envelope_of q t h)) (info_answered (envelope_of q t h) at_domain)
+served_answered say (request.Items node) q t h some = answer_alone say t.number (envelope_of q t h) (items_item node (envelope_of q t h)) (a_result _ refl)
 served_answered say request.Roster q t h some = answer_alone say t.number (envelope_of q t h) (roster_item (envelope_of q t h)) (a_result _ refl)
 served_answered say request.Session q t h some = answer_alone say t.number (envelope_of q t h) (result_item (envelope_of q t h) no_nodes) (a_result no_nodes refl)
 served_answered say (request.Carbons on) q t h some =

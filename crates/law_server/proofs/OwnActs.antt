@@ -11,7 +11,7 @@ use Rattle.im_mam.specs.declared.archive_query.MamQuery.{MamQuery}
 use Rattle.mam_pages.specs.Cuts.{CutView}
 use Rattle.mam_pages.specs.Kept.{kept_by}
 use Rattle.mam_pages.specs.PageOf.{page_of}
-use Rattle.im_replies.specs.Requests.{iq_error_item, result_item, roster_item}
+use Rattle.im_replies.specs.Requests.{iq_error_item, items_item, result_item, roster_item}
 use Rattle.law_server.specs.Answering.{IsOf}
 use Rattle.srv_handlers.specs.Requests.{answering_iq, asker_of, at_iq, envelope_of, info_item, paging, querying_in, request_of, sending_entries, sending_entry, serving}
 use Rattle.srv_handlers.specs.declared.request.Request.{Request}
@@ -46,6 +46,7 @@ served_of_own : {A : Type 0} (say : ItemOut → A) (asked : Option Request) (q :
 served_of_own say None q t h = All-nil (IsOf t.number)
 served_of_own say (Some request.Ping) q t h = one_of say t (result_item (envelope_of q t h) no_nodes)
 served_of_own say (Some (request.Info at_domain)) q t h = one_of say t (info_item at_domain (envelope_of q t h))
+served_of_own say (Some (request.Items node)) q t h = one_of say t (items_item node (envelope_of q t h))
 served_of_own say (Some request.Roster) q t h = one_of say t (roster_item (envelope_of q t h))
 served_of_own say (Some request.Session) q t h = one_of say t (result_item (envelope_of q t h) no_nodes)
 served_of_own say (Some (request.Carbons on)) q t h =

@@ -11,7 +11,7 @@ use Rattle.im_mam.specs.declared.archive_query.MamQuery.{MamQuery}
 use Rattle.mam_pages.specs.Cuts.{CutView}
 use Rattle.mam_pages.specs.Kept.{kept_by}
 use Rattle.mam_pages.specs.PageOf.{page_of}
-use Rattle.im_replies.specs.Requests.{EnvelopeView, iq_error_item, result_item, roster_item}
+use Rattle.im_replies.specs.Requests.{EnvelopeView, iq_error_item, items_item, result_item, roster_item}
 use Rattle.srv_handlers.specs.Requests.{answering_iq, asked_of, asker_of, at_iq, envelope_of, info_item, paging, querying_in, request_in, request_of, sending_entries, serving}
 use Rattle.srv_handlers.specs.declared.request.Request.{Request}
 use Rattle.srv_handlers.specs.declared.request.Request.TheVariants as request
@@ -67,6 +67,7 @@ same_served : {A : Type 0} (say : ItemOut → A) (asked : Option Request) (q : I
 same_served say None q t h u archive bare full envelope = refl
 same_served say (Some request.Ping) q t h u archive bare full envelope = ap (λ e. answering_iq say t (result_item e no_nodes)) envelope
 same_served say (Some (request.Info at_domain)) q t h u archive bare full envelope = ap (λ e. answering_iq say t (info_item at_domain e)) envelope
+same_served say (Some (request.Items node)) q t h u archive bare full envelope = ap (λ e. answering_iq say t (items_item node e)) envelope
 same_served say (Some request.Roster) q t h u archive bare full envelope = ap (λ e. answering_iq say t (roster_item e)) envelope
 same_served say (Some request.Session) q t h u archive bare full envelope = ap (λ e. answering_iq say t (result_item e no_nodes)) envelope
 same_served say (Some (request.Carbons on)) q t h u archive bare full envelope = ap (λ e. Copy t.number on ∷ answering_iq say t (result_item e no_nodes)) envelope

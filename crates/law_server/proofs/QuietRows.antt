@@ -237,6 +237,7 @@ quiet_serving : {A : Type 0} (say : ItemOut → A) (o : Option Request) (q : IqV
 quiet_serving say None q t h = refl
 quiet_serving say (Some request.Ping) q t h = refl
 quiet_serving say (Some (request.Info at_domain)) q t h = refl
+quiet_serving say (Some (request.Items node)) q t h = refl
 quiet_serving say (Some request.Roster) q t h = refl
 quiet_serving say (Some request.Session) q t h = refl
 quiet_serving say (Some (request.Carbons on)) q t h = refl

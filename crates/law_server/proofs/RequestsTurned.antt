@@ -13,7 +13,7 @@ use Rattle.im_mam.specs.declared.archive_query.MamQuery.{MamQuery}
 use Rattle.mam_pages.specs.Cuts.{CutView}
 use Rattle.mam_pages.specs.Kept.{kept_by}
 use Rattle.mam_pages.specs.PageOf.{page_of}
-use Rattle.im_replies.specs.Requests.{EnvelopeView, iq_error_item, result_item, roster_item}
+use Rattle.im_replies.specs.Requests.{EnvelopeView, iq_error_item, items_item, result_item, roster_item}
 use Rattle.srv_handlers.specs.Requests.{answering_iq, asker_of, at_iq, empty_answer, envelope_of, info_item, paging, querying_in, refusing_iq, request_of, sending_entries, sending_entry, serving}
 use Rattle.srv_handlers.specs.declared.request.Request.{Request}
 use Rattle.srv_handlers.specs.declared.request.Request.TheVariants as request
@@ -87,6 +87,7 @@ serving_turned : {A B : Type 0} (f : A → B) (say : ItemOut → A) (o : Option 
 serving_turned f say None q t h = refl
 serving_turned f say (Some request.Ping) q t h = empty_turned f say q t h
 serving_turned f say (Some (request.Info at_domain)) q t h = answer_turned f say t (info_item at_domain) q h
+serving_turned f say (Some (request.Items node)) q t h = answer_turned f say t (items_item node) q h
 serving_turned f say (Some request.Roster) q t h = answer_turned f say t roster_item q h
 serving_turned f say (Some request.Session) q t h = empty_turned f say q t h
 serving_turned f say (Some (request.Carbons on)) q t h = ap (λ acts. steps.Copy t.number on ∷ acts) (empty_turned f say q t h)

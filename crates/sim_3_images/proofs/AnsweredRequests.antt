@@ -86,6 +86,7 @@ pub serving_answers : (o : Option Request) (q : IqView) (t : Told) (h : Hall Ite
 serving_answers None q t h = tt
 serving_answers (Some request.Ping) q t h = (result_answers (envelope_of q t h) _, tt)
 serving_answers (Some (request.Info at_domain)) q t h = (info_answers at_domain q t h, tt)
+serving_answers (Some (request.Items node)) q t h = (result_answers (envelope_of q t h) _, tt)
 serving_answers (Some request.Roster) q t h = (result_answers (envelope_of q t h) _, tt)
 serving_answers (Some request.Session) q t h = (result_answers (envelope_of q t h) _, tt)
 serving_answers (Some (request.Carbons on)) q t h = (tt, (result_answers (envelope_of q t h) _, tt))

@@ -177,6 +177,7 @@ module _ {A : Type 0} (say : ItemOut → A) where
   serving_calm None q t h = tt
   serving_calm (Some request.Ping) q t h = tt
   serving_calm (Some (request.Info at_domain)) q t h = tt
+  serving_calm (Some (request.Items node)) q t h = tt
   serving_calm (Some request.Roster) q t h = tt
   serving_calm (Some request.Session) q t h = tt
   serving_calm (Some (request.Carbons on)) q t h = tt

@@ -107,6 +107,7 @@ module _ (n : ℕ) (start : ℕ → Option Phase) where
   serving_q None q t h = tt
   serving_q (Some request.Ping) q t h = (refl, tt)
   serving_q (Some (request.Info at_domain)) q t h = (info_word at_domain q t h, tt)
+  serving_q (Some (request.Items node)) q t h = (refl, tt)
   serving_q (Some request.Roster) q t h = (refl, tt)
   serving_q (Some request.Session) q t h = (refl, tt)
   serving_q (Some (request.Carbons on)) q t h = (tt, (refl, tt))

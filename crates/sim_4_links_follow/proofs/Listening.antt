@@ -273,6 +273,7 @@ module _ (h : Hall ItemOut) where
     serving_heard q None = tt
     serving_heard q (Some request.Ping) = empty_heard q
     serving_heard q (Some (request.Info at_domain)) = ((info_is at_domain q, own), tt)
+    serving_heard q (Some (request.Items node)) = ((record { elem = _; whole = refl; stanza = refl }, own), tt)
     serving_heard q (Some request.Roster) = ((record { elem = _; whole = refl; stanza = refl }, own), tt)
     serving_heard q (Some request.Session) = empty_heard q
     serving_heard q (Some (request.Carbons on)) = (own, empty_heard q)

@@ -128,6 +128,7 @@ module _ (q : IqView) (t : Told) (h : Hall ItemOut) (n : ℕ) (other : t.number 
   serving_elsewhere None = refl
   serving_elsewhere (Some request.Ping) = answers_elsewhere _
   serving_elsewhere (Some (request.Info at_domain)) = answers_elsewhere _
+  serving_elsewhere (Some (request.Items node)) = answers_elsewhere _
   serving_elsewhere (Some request.Roster) = answers_elsewhere _
   serving_elsewhere (Some request.Session) = answers_elsewhere _
   serving_elsewhere (Some (request.Carbons on)) = answers_elsewhere _

@@ -2,8 +2,8 @@
 use base_io::{Bytes, NoMemory};
 use im_replies::{
     Envelope, StreamCondition, account_info, ack, bounced, bound, challenge, empty_result, enabled,
-    failure, footer, header, login_features, refusal, refused, request, resumable, resumed, roster,
-    server_info, session_features, stream_error, success, too_high,
+    failure, footer, header, items, login_features, refusal, refused, request, resumable, resumed,
+    roster, server_info, session_features, stream_error, success, too_high,
 };
 use im_stanza::{Condition, ErrorKind, StanzaError};
 use std::alloc::Global;
@@ -30,6 +30,7 @@ enum Reply {
     Roster,
     ServerInfo,
     AccountInfo,
+    Items(&'static str),
     Bound,
     Refusal,
     Bounced(&'static str),
@@ -52,7 +53,7 @@ const UNNAMED: Envelope<'static> = Envelope {
 };
 
 // Each reply, and its bytes.
-static REPLIES: [(Reply, &str); 24] = [
+static REPLIES: [(Reply, &str); 26] = [
     (
         Reply::Header,
         "<?xml version='1.0'?><stream:stream from='chat.example' id='0001ab10fffa000000000000002a' version='1.0' xml:lang='en' xmlns='jabber:client' xmlns:stream='http://etherx.jabber.org/streams'>",
@@ -119,11 +120,19 @@ static REPLIES: [(Reply, &str); 24] = [
     ),
     (
         Reply::ServerInfo,
-        "<iq from='alice@chat.example' id='i1' to='alice@chat.example/phone' type='result'><query xmlns='http://jabber.org/protocol/disco#info'><identity category='server' type='im'/><feature var='http://jabber.org/protocol/disco#info'/><feature var='urn:xmpp:carbons:2'/><feature var='urn:xmpp:mam:2'/><feature var='urn:xmpp:ping'/><feature var='urn:xmpp:sid:0'/></query></iq>",
+        "<iq from='alice@chat.example' id='i1' to='alice@chat.example/phone' type='result'><query xmlns='http://jabber.org/protocol/disco#info'><identity category='server' type='im'/><feature var='http://jabber.org/protocol/disco#info'/><feature var='http://jabber.org/protocol/disco#items'/><feature var='urn:xmpp:carbons:2'/><feature var='urn:xmpp:mam:2'/><feature var='urn:xmpp:ping'/><feature var='urn:xmpp:sid:0'/></query></iq>",
     ),
     (
         Reply::AccountInfo,
-        "<iq from='alice@chat.example' id='i1' to='alice@chat.example/phone' type='result'><query xmlns='http://jabber.org/protocol/disco#info'><identity category='account' type='registered'/><feature var='http://jabber.org/protocol/disco#info'/><feature var='urn:xmpp:carbons:2'/><feature var='urn:xmpp:mam:2'/><feature var='urn:xmpp:ping'/><feature var='urn:xmpp:sid:0'/></query></iq>",
+        "<iq from='alice@chat.example' id='i1' to='alice@chat.example/phone' type='result'><query xmlns='http://jabber.org/protocol/disco#info'><identity category='account' type='registered'/><feature var='http://jabber.org/protocol/disco#info'/><feature var='http://jabber.org/protocol/disco#items'/><feature var='urn:xmpp:carbons:2'/><feature var='urn:xmpp:mam:2'/><feature var='urn:xmpp:ping'/><feature var='urn:xmpp:sid:0'/></query></iq>",
+    ),
+    (
+        Reply::Items(""),
+        "<iq from='alice@chat.example' id='i1' to='alice@chat.example/phone' type='result'><query xmlns='http://jabber.org/protocol/disco#items'/></iq>",
+    ),
+    (
+        Reply::Items("it's <1>"),
+        "<iq from='alice@chat.example' id='i1' to='alice@chat.example/phone' type='result'><query xmlns='http://jabber.org/protocol/disco#items' node='it&apos;s &lt;1&gt;'/></iq>",
     ),
     (
         Reply::Bound,
@@ -170,6 +179,7 @@ fn answer(alloc: Global, reply: Reply) -> Result<Bytes, NoMemory> {
         Reply::Roster => roster(alloc, &TO_ALICE),
         Reply::ServerInfo => server_info(alloc, &TO_ALICE),
         Reply::AccountInfo => account_info(alloc, &TO_ALICE),
+        Reply::Items(node) => items(alloc, &TO_ALICE, node),
         Reply::Bound => bound(alloc, "b1", "alice@chat.example/phone"),
         Reply::Refusal => refusal(alloc, &TO_ALICE, &UNAVAILABLE),
         Reply::Bounced(id) => bounced(alloc, "bob@chat.example", id, &UNAVAILABLE),
