@@ -30,10 +30,6 @@ pub record PresenceFits (p : Presence) : Type 0 where
   pub id : Said 1048576 p.id
   pub to : IfSome p.to (Said 18426)
 
-pub record PresenceFits (p : Presence) : Type 0 where
-  pub id : Said 1048576 p.id
-  pub to : IfSome p.to (Said 18426)
-
 pub record BadToFits (id to : List ℕ) : Type 0 where
   pub the_id : Said 1048576 id
   pub the_to : Said 1048576 to
