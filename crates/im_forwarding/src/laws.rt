@@ -20,9 +20,10 @@ pub fn what_is_passed_on_is_a_tree()
 {}
 
 /// A law: of the elements that an account's sessions are passed, those that a client may take for ids that the account gave
-/// are the one of its archive, and none where the archive hasn't the message (XEP-0359, section 5). So it is in each
-/// spelling that some client takes for the account's address, and in each that RFC 7622 makes the same. The account's bare
-/// address is in normal form, as each account's is.
+/// are the one of its archive, and none where the archive hasn't the message (XEP-0359, section 5). `taken`: whatever
+/// `spells_account` takes for the account's address. `read`: whatever reads as that address, by the profile of RFC 7622
+/// that addresses are read by here, whose local part is ASCII. The account's bare address is in normal form, as each
+/// account's is.
 pub fn only_the_archive_gives_ids()
     ensures taken { (by : List ℕ) (number : Option ℕ) (payload : Nodes) → normal by ≡ Ok by → filter (is_given_by by) (elements_of (passed_nodes by number payload)) ≡ elements_of (id_node by number) }
     ensures read { (by : List ℕ) (number : Option ℕ) (payload : Nodes) → normal by ≡ Ok by → filter (is_read_as_given_by by) (elements_of (passed_nodes by number payload)) ≡ elements_of (id_node by number) }

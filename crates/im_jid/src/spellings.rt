@@ -84,8 +84,8 @@ fn is_domain(alloc: Global, domain: &str, text: &str) -> Result<bool, NoMemory>
 /// Whether a text, up to its first `/`, is a spelling of an account's bare address that a client may take for it. The
 /// address is in normal form. Domains are compared in their ASCII form (RFC 7622, section 3.2). Local parts are compared
 /// without regard to case, width and other compatible forms, and without the characters that stringprep leaves out (RFC
-/// 7622, section 3.3; RFC 3454, tables B.1 and B.2): clients follow one of the two rules, and what one of them takes for
-/// the account's address is a spelling of it here. It is refused for want of memory alone.
+/// 7622, section 3.3; RFC 3454, tables B.1 and B.2), since clients follow one of the two rules. It is refused for want of
+/// memory alone.
 pub fn spells_account(alloc: Global, account: &str, text: &str) -> Result<bool, NoMemory>
     ensures { IfOk result (λ spells. spells ≡ spells_account account.now text.now) }
 {
