@@ -45,8 +45,8 @@ use Rattle.xml_writer.specs.Items.{Closing, ItemOut}
 ready_acts : {A : Type 0} (say : ItemOut → A) (k account : ℕ) (e : Elem) (w : Word) (o : Option (Session A)) (h : Hall A) (l : IsLoggedIn k account o h) → word_of e ≡ w
     → at_open say k (Element e) (standing_at k h) h ≡ at_ready_or_bound say k account w (option_map told o) (standing_of l.conn) h
 ready_acts say k account e w o h l read =
-    ap (λ c. at_open say k (Element e) (option_map standing_of c) h) l.open
-    ∙ ap (λ p. at_word say k (word_of e) (stage_of p) (standing_of l.conn) h) l.phase
+    ap (λ c. at_open say k (Element e) (option_map standing_of c) h) l.there
+    ∙ ap (λ p. at_word say k (word_of e) (stage_of p) (standing_of l.conn) h) l.login
     ∙ ap₂ (λ x t. at_ready_or_bound say k account x (option_map told t) (standing_of l.conn) h) read l.on
 
 -- ---- a session that is gone

@@ -20,6 +20,6 @@ pub record EndsAlone {A : Type 0} (n : ℕ) (old new : Hall A) : Type 0 where
 -- it is logged in as the account, and has this session or none
 pub record IsLoggedIn {A : Type 0} (k account : ℕ) (session : Option (Session A)) (h : Hall A) : Type 0 where
   pub conn : Connection
-  pub open : conn_at k h ≡ Some conn
-  pub phase : conn.phase ≡ phase.Ready account
+  pub there : conn_at k h ≡ Some conn
+  pub login : conn.phase ≡ phase.Ready account
   pub on : session_at k h.sessions ≡ session

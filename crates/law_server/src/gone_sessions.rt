@@ -36,9 +36,9 @@ pub fn events_are_those_of_the_server<A>()
 /// A law: a session that was on a connection which the server shut is gone, for good (XEP-0198, section 5). No session has
 /// its number behind that, whatever items and events follow, since the number of the next session never falls; and a
 /// `resume` that names it, on a connection that is logged in and has no session, as whichever account, is answered by
-/// `failed` with `item-not-found`, and by nothing else. What is resumed right behind the shut is on no connection that was
-/// shut. Of servers the numbers of sessions rise (`servers_stay_sound`), and the next one is below 2^64 (`keeps_rule` of
-/// `Server`).
+/// `failed` with `item-not-found`, and by nothing else. What is found for a `resume` right behind the shut is not on that
+/// connection, whatever names it (`elsewhere`). Of servers the numbers of sessions rise (`servers_stay_sound`), and the next
+/// one is below 2^64 (`keeps_rule` of `Server`).
 pub fn a_shut_session_is_gone<A>()
     ensures shut { (k n : ℕ) (t : Session A) (s : Step A) → HaveNumbers s.hall → session_of n s.hall.sessions ≡ Some t → is_at k t ≡ true → IsGone n (shut k s).hall }
     ensures elsewhere { (k account : ℕ) (previd : List ℕ) (s : Step A) → IfSome (session_resumed previd account (shut k s).hall.sessions) (λ found. is_at k found ≡ false) }

@@ -264,10 +264,14 @@ module _ (bare full : List ℕ) (kept : Kept) (first last most : ℕ) (bare_norm
     entries_are : log.entries ≡ c.log.entries ++ page_at kept last most base
     entries_are = ap (λ (l : LogView). l.entries) log_is ∙ ap (λ l. l ++ rs) along.entries
 
+    abbrev told_tile : ℕ → Bool → ℕ → Tile
+    told_tile n b k = record { after = after; count = n; complete = b; total = k }
+
+    tile_is : told_tile (length rs) fin.complete fin.count ≡ told_tile count complete (last - (first - 1))
+    tile_is = λ i. told_tile (size i) (fin_is.complete i) (fin_is.count i)
+
     tiles_are : log.tiles ≡ c.log.tiles ++ tile_at first last most base after ∷ []
-    tiles_are =
-        ap (λ (l : LogView). l.tiles) log_is
-        ∙ (λ i. along.tiles i ++ record { after = after; count = size i; complete = fin_is.complete i; total = fin_is.count i } ∷ [])
+    tiles_are = ap (λ (l : LogView). l.tiles) log_is ∙ ap₂ (λ l o. l ++ o ∷ []) along.tiles tile_is
 
     abbrev asking : Turn ItemOut ItemOut
     asking = tells (with_log x log) (PageDone More)
@@ -398,7 +402,7 @@ module _ (bare full : List ℕ) (kept : Kept) (first last most : ℕ) (bare_norm
   one_step : (n base : ℕ) (z : ItemOut) (t u : Turn ItemOut ItemOut) → HasAsked bare most z t → HasPlace t → Lacks first last base t.client.log → (told : Told) (h : Hall ItemOut) (w : Turn ItemOut ItemOut) → Serves bare full kept told h
       → w ≡ taken t (answers_to z told h)
       → ((y : ItemOut) (x : Turn ItemOut ItemOut) → HasAsked bare most y x → HasPlace x → Lacks first last (base + most) x.client.log → TakesAnswers bare full kept n y x u
-          → (n ≡ pages_for (last - (base + most)) most) × IsCaughtUp first last (base + most) most n kept x.client.log u.client.log)
+      → (n ≡ pages_for (last - (base + most)) most) × IsCaughtUp first last (base + most) most n kept x.client.log u.client.log)
       → (b : Bool) → leb (last - base) most ≡ b
       → (((w.client.log.page ≡ None) × (n ≡ 0) × (u ≡ w)) ⊎ ((y : ItemOut) × (x : Turn ItemOut ItemOut) × IsSome w.client.log.page × (last_put w.client.session ≡ Some y) × Between w x × TakesAnswers bare full kept n y x u))
       → (suc n ≡ pages_for (last - base) most) × IsCaughtUp first last base most (suc n) kept t.client.log u.client.log
@@ -458,7 +462,7 @@ module _ (bare full : List ℕ) (kept : Kept) (first last most : ℕ) (bare_norm
   takes_with : (base : ℕ) (z : ItemOut) (t : Turn ItemOut ItemOut) (s : SessionView ItemOut) (told : Told) (h : Hall ItemOut) → HasAsked bare most z t → t.client.session ≡ Some s
       → length s.waiting.queue + pages_for (last - base) most ≤ MOST_UNACKNOWLEDGED → Lacks first last base t.client.log → Serves bare full kept told h
       → ((y : ItemOut) (v : Turn ItemOut ItemOut) (next : SessionView ItemOut) → most < last - base → HasAsked bare most y v → v.client.session ≡ Some next
-          → length next.waiting.queue + pages_for (last - (base + most)) most ≤ MOST_UNACKNOWLEDGED → Lacks first last (base + most) v.client.log → Ways (pages_for (last - (base + most)) most) y v)
+      → length next.waiting.queue + pages_for (last - (base + most)) most ≤ MOST_UNACKNOWLEDGED → Lacks first last (base + most) v.client.log → Ways (pages_for (last - (base + most)) most) y v)
       → (b : Bool) → leb (last - base) most ≡ b → Ways (pages_for (last - base) most) z t
   takes_with base z t s told h asked stands fits lacks serves others true all =
       let one = least (last - base) in

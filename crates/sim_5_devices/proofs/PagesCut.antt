@@ -38,7 +38,7 @@ cut_at kept after most first last base low known start one lowest highest is =
     let all : numbers_behind (first - 1) (last - (first - 1)) ≡ numbers_of (matching kept (query_behind after most)) = matching_all kept (query_behind after most) first last known (λ e. refl) in
     let count = min (last - base) most in
     let same : view (numbers_behind base count) (place_by (first - 1) base count) (last - (first - 1)) (leb (last - base) most) false
-        ≡ cut_by (record { after = low; through = last; most = most; backward = false }) (numbers_behind (first - 1) (last - (first - 1))) =
+    ≡ cut_by (record { after = low; through = last; most = most; backward = false }) (numbers_behind (first - 1) (last - (first - 1))) =
     cut_behind (record { after = low; through = last; most = most; backward = false }) (first - 1) (last - (first - 1)) base (last - base) count base (place_by (first - 1) base count) (numbers_behind base count) start (omega arith) refl refl refl refl refl in
     let few = place_low (first - 1) base count in
     record {

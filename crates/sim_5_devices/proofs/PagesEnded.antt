@@ -35,9 +35,9 @@ no_repeat known b (suc count) few new =
     let rest : first_repeat (known ++ id_of (suc b) ∷ []) (map id_of (numbers_behind (suc b) count)) ≡ None =
     no_repeat (known ++ id_of (suc b) ∷ []) (suc b) count (omega arith)
     (λ k above below.
-        let differ : bytes_eq (id_of k) (id_of (suc b)) ≡ false = same_ids k (suc b) (omega arith) (omega arith) ∙ ne_eqb k (suc b) (λ is. omega (arith, is, above)) in
-        let old : list_any (λ other. bytes_eq (id_of k) other) known ≡ false = new k (omega arith) (omega arith) in
-        list_any-append (λ other. bytes_eq (id_of k) other) known (id_of (suc b) ∷ []) ∙ rw (old, differ) refl) in
+    let differ : bytes_eq (id_of k) (id_of (suc b)) ≡ false = same_ids k (suc b) (omega arith) (omega arith) ∙ ne_eqb k (suc b) (λ is. omega (arith, is, above)) in
+    let old : list_any (λ other. bytes_eq (id_of k) other) known ≡ false = new k (omega arith) (omega arith) in
+    list_any-append (λ other. bytes_eq (id_of k) other) known (id_of (suc b) ∷ []) ∙ rw (old, differ) refl) in
     rw first rest
 
 -- the entries behind them aren't logged when they are
