@@ -41,3 +41,4 @@ pub mod SessionWalks
 pub mod GoneSessions
 pub mod HighCounts
 pub mod EventsMade
+mod WorkedGone
