@@ -1,13 +1,13 @@
 -- What the clauses of a server's calls say of bytes is an event.
 use Rattle.std.proofs.Common.{◌≡◌, ℕ, ◌+◌, List, [], ◌∷◌, ◌++◌, Option, Some, None, length, take, refl, sym, ap, ap₂, ◌∙◌}
 use Rattle.srv_state.specs.Moments.{gone_at}
-use Rattle.srv_state.specs.State.{Hall, Out, Step, is_number}
-use Rattle.srv_core.specs.Events.{Framers, IsAfterBytes, Stops, StopsAt, Whole, after_bytes, begun, dropped, fed, framer_at, news, turn_of, whole}
+use Rattle.srv_state.specs.State.{Hall, Out, is_number}
+use Rattle.srv_core.specs.Events.{Framers, IsAfterBytes, Stops, Whole, after_bytes, begun, dropped, fed, framer_at, news, turn_of, whole}
 use Rattle.srv_core.specs.Table.{after_items}
 use Rattle.std.specs.Map.{remove_entry}
 use Rattle.xml_framer.specs.States.{State}
 use Rattle.xml_framer.specs.declared.items.Item.{Item}
-use Rattle.law_server.specs.Events.{Bytes, Run, Stop, after_event, brought, left_at, run, stopped_in}
+use Rattle.law_server.specs.Events.{Bytes, Stop, after_event, left_at, run, stopped_in}
 use Rattle.xml_writer.specs.Items.{ItemOut}
 
 -- a server whose parts are these

@@ -1,12 +1,11 @@
 -- A session whose connection was shut is gone, and stays so; and what a count that is too high leaves.
-use Rattle.std.proofs.Common.{◌≡◌, ℕ, ◌+◌, ◌<◌, ◌≤◌, ◌^◌, ◌==◌, ◌&&◌, Bool, true, false, not, List, [], ◌∷◌, ◌++◌, Option, Some, None, Result, Err, map, refl, sym, ap, subst, ◌∙◌, arith, inl, inr, ne_eqb}
-use Rattle.std.proofs.lemmas.Bool.{cases_Bool, false≢true}
+use Rattle.std.proofs.Common.{◌≡◌, ℕ, ◌+◌, ◌<◌, ◌≤◌, ◌==◌, Bool, true, false, not, List, [], ◌∷◌, ◌++◌, Some, None, map, refl, sym, ap, subst, ◌∙◌, arith, inl, inr, ne_eqb}
+use Rattle.std.proofs.lemmas.Bool.{cases_Bool}
 use Rattle.std.proofs.lemmas.Option.{none-some, same_Some}
 use Rattle.std.specs.List.{filter, find}
-use Rattle.std.specs.Option.{option_map}
-use Rattle.sm_live.specs.Sessions.{Session, fresh, is_at, is_numbered, session_of, without}
+use Rattle.sm_live.specs.Sessions.{Session, fresh, is_at, is_numbered, session_of}
 use Rattle.sm_resumption.proofs.RowFacts.{same_from_eqb}
-use Rattle.srv_state.specs.State.{Hall, Step}
+use Rattle.srv_state.specs.State.{Step}
 use Rattle.srv_state.specs.Steps.{shut}
 use Rattle.law_server.specs.Events.{Event, Run, after_events}
 use Rattle.law_server.specs.Gone.{IsGone}

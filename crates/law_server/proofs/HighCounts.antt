@@ -12,7 +12,7 @@ use Rattle.im_replies.specs.Streams.{error_item, too_high_item}
 use Rattle.im_replies.specs.declared.conditions.StreamCondition.TheVariants.{Conflict}
 use Rattle.im_stanza.specs.declared.conditions.Condition.TheVariants.{ItemNotFound}
 use Rattle.sm_live.specs.Rule.{IsRule, RisesTo}
-use Rattle.sm_live.specs.Sessions.{Session, after_resume, is_at, is_numbered, is_resumed_by, is_too_high, resent, resume_answer, send_count, session_at, session_of, session_resumed, told, without}
+use Rattle.sm_live.specs.Sessions.{Session, after_resume, is_at, is_numbered, is_resumed_by, is_too_high, resent, resume_answer, send_count, session_of, session_resumed, told, without}
 use Rattle.sm_resumption.proofs.RowFacts.{eqb_same, same_from_eqb}
 use Rattle.sm_resumption.specs.Previds.{previd_of}
 use Rattle.sm_resumption.specs.Rows.{is_some_number}
@@ -21,10 +21,9 @@ use Rattle.sm_resumption.specs.declared.answers.ResumeFault.TheVariants.{TooHigh
 use Rattle.sm_resumption.specs.declared.answers.ResumeOk.{ResumeOk}
 use Rattle.srv_core.specs.Ready.{at_ready_or_bound}
 use Rattle.srv_core.specs.Table.{after_item, at_open, at_word}
-use Rattle.srv_handlers.specs.Managements.{at_ack}
 use Rattle.srv_handlers.specs.Resumptions.{at_resume, resent_where, resuming}
 use Rattle.srv_state.specs.State.{Hall, Step, with_sessions}
-use Rattle.srv_state.specs.Steps.{Act, acted, in_sessions, part, part_where, put, shut}
+use Rattle.srv_state.specs.Steps.{acted, in_sessions, part, part_where, put, shut}
 use Rattle.srv_state.specs.Streams.{parting_where, stage_of, standing_at, standing_of}
 use Rattle.srv_state.specs.Words.{word_of}
 use Rattle.srv_state.specs.declared.word.Word.{Word}

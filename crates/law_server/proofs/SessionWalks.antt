@@ -15,7 +15,7 @@ use Rattle.im_replies.specs.declared.conditions.StreamCondition.TheVariants.{Res
 use Rattle.xml_framer.specs.States.{State, Turn}
 use Rattle.xml_framer.specs.declared.fault.Fault.{Fault}
 use Rattle.xml_framer.specs.declared.items.Item.{Item}
-use Rattle.srv_core.specs.Events.{after_bytes, after_fault, after_turn, at_fault, at_piece, begun, framer_at, turn_of}
+use Rattle.srv_core.specs.Events.{after_fault, after_turn, at_fault, at_piece, begun, framer_at, turn_of}
 use Rattle.srv_core.specs.Table.{after_item, after_items, at_open}
 use Rattle.law_server.specs.Events.{Bytes, Connect, Event, Gone, Run, Stop, Tick, after_event, after_events, stopped_in}
 use Rattle.xml_writer.specs.Items.{Closing, ItemOut}

@@ -1,8 +1,8 @@
 -- Worked values: a session on a connection, with a count above what was sent, and what is so of its number behind that.
-use Rattle.std.proofs.Common.{◌≡◌, ℕ, true, false, List, [], ◌∷◌, Some, None, codes, pos, refl, arith}
-use Rattle.sm_live.specs.Sessions.{Session, is_too_high, number_of, session_of, session_resumed}
+use Rattle.std.proofs.Common.{◌≡◌, true, false, [], ◌∷◌, Some, None, codes, pos, refl, arith}
+use Rattle.sm_live.specs.Sessions.{Session, is_too_high, session_of, session_resumed}
 use Rattle.sm_resumption.specs.Previds.{previd_of}
-use Rattle.srv_state.specs.State.{Hall, Step}
+use Rattle.srv_state.specs.State.{Hall}
 use Rattle.srv_state.specs.Steps.{binds, shut}
 use Rattle.srv_state.specs.declared.connection.Connection.{Connection}
 use Rattle.srv_state.specs.declared.connection.Phase.TheVariants as phase

@@ -5,7 +5,7 @@ use Rattle.std.specs.Map.{remove_entry}
 use Rattle.xml_framer.specs.States.{State}
 use Rattle.srv_state.specs.Moments.{at_moment, gone_at}
 use Rattle.srv_state.specs.State.{Out, Step, is_number}
-use Rattle.srv_core.specs.Events.{Framers, Whole, after_bytes, after_connect, after_gone, begun, dropped, fed, framer_at, news, turn_of, whole}
+use Rattle.srv_core.specs.Events.{Whole, after_bytes, after_connect, after_gone, begun, dropped, fed, framer_at, news, turn_of, whole}
 use Rattle.srv_core.specs.Table.{after_items}
 use Rattle.xml_writer.specs.Items.{ItemOut}
 

@@ -1,9 +1,8 @@
 //! The laws on sessions that have ended for good (XEP-0198, sections 4 and 5).
-ghost use Rattle.std.specs.Prelude.{◌≡◌, ◌==◌, ◌^◌, ◌≤◌, ℕ, true, false, List, None, Option, Some, IfSome};
-ghost use Rattle.xml_framer.specs.States.{State};
+ghost use Rattle.std.specs.Prelude.{◌≡◌, ◌^◌, ◌≤◌, ℕ, true, false, List, None, Some, IfSome};
 ghost use Rattle.xml_framer.specs.declared.items.Item.{Item};
 ghost use Rattle.xml_framer.specs.declared.items.Item.TheVariants.{Element};
-ghost use Rattle.srv_state.specs.State.{Hall, Out, Step};
+ghost use Rattle.srv_state.specs.State.{Out, Step};
 ghost use Rattle.srv_state.specs.Steps.{in_sessions, part, part_where, put, shut};
 ghost use Rattle.srv_state.specs.Words.{word_of};
 ghost use Rattle.srv_state.specs.declared.word.Word.TheVariants as word;

@@ -1,5 +1,5 @@
 -- What the server's row sends for a page request of its session's account: the page's entries, and its end.
-use Rattle.std.proofs.Common.{◌≡◌, ℕ, ◌-◌, ◌<◌, ◌≤◌, ◌^◌, min, leb, List, [], ◌∷◌, ◌++◌, Option, Some, None, Ok, map, refl, sym, ap, ap₂, ◌∙◌, arith, if◌then◌else◌}
+use Rattle.std.proofs.Common.{◌≡◌, ℕ, ◌-◌, ◌≤◌, List, [], ◌∷◌, ◌++◌, Option, Some, None, map, refl, sym, ap, ap₂, ◌∙◌, arith, if◌then◌else◌}
 use Rattle.cmd_direct.specs.Direct.{query_behind}
 use Rattle.im_forwarding.specs.Queries.{query_asked}
 use Rattle.im_forwarding.specs.Results.{AskerView, entry_item, fin_item}
@@ -11,7 +11,6 @@ use Rattle.im_stanza.specs.Readings.{stanza_of}
 use Rattle.im_stanza.specs.Views.{IqView}
 use Rattle.im_stanza.specs.declared.kinds.IqKind.TheVariants as iq
 use Rattle.mam_archive.specs.Entries.{EntryView}
-use Rattle.mam_pages.proofs.CutViews.{view}
 use Rattle.mam_pages.specs.Cuts.{CutView}
 use Rattle.mam_pages.specs.Kept.{kept_by}
 use Rattle.mam_pages.specs.PageOf.{page_of}
@@ -28,7 +27,7 @@ use Rattle.srv_handlers.specs.Requests.{answering_iq, asker_of, envelope_of, pag
 use Rattle.srv_state.specs.State.{Hall, Kept}
 use Rattle.srv_state.specs.Steps.{Act, Send}
 use Rattle.xml_trees.specs.Trees.{Elem, child, no_nodes}
-use Rattle.xml_writer.specs.Items.{ItemOut, Whole}
+use Rattle.xml_writer.specs.Items.{ItemOut}
 
 sent_here : (n : ℕ) (z : ItemOut) (acts : List (Act ItemOut)) → all_sent n (Send n z ∷ acts) ≡ z ∷ all_sent n acts
 sent_here n z acts = ap (λ b. (if b then z ∷ [] else []) ++ all_sent n acts) (same_number n)

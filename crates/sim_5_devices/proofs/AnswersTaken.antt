@@ -1,11 +1,11 @@
 -- A client takes the results of its open page, and the end.
-use Rattle.std.proofs.Common.{◌≡◌, ℕ, suc, ◌+◌, ◌<◌, ◌≤◌, ◌==◌, ◌&&◌, nat_lt, nat_le, not, Bool, true, false, List, [], ◌∷◌, ◌++◌, Option, Some, None, Ok, length, map, codes, refl, sym, ap, ap₂, subst, ◌∙◌, arith, append_assoc, append-nil, if◌then◌else◌}
+use Rattle.std.proofs.Common.{◌≡◌, ℕ, suc, ◌+◌, ◌<◌, ◌≤◌, nat_le, true, false, List, [], ◌∷◌, ◌++◌, Some, None, Ok, length, map, codes, refl, sym, ap, subst, ◌∙◌, arith, append_assoc, append-nil, if◌then◌else◌}
 use Rattle.std.proofs.lemmas.Bool.Decides.{nat_tests}
 use Rattle.std.specs.List.{AllByRecursion}
 use Rattle.std.specs.Option.{option_map}
 use Rattle.std.specs.Str.{bytes_eq}
 use Rattle.cl_core.specs.PageRows.{iq_row}
-use Rattle.cl_core.specs.Steps.{connected_step, element_row, handles, item_step, items_run, online_in, stanza_row}
+use Rattle.cl_core.specs.Steps.{connected_step, element_row, handles, item_step, online_in, stanza_row}
 use Rattle.cl_handlers.specs.Clients.{ClientView, Turn}
 use Rattle.cl_handlers.specs.MessageRows.{is_own_or_absent, other_message, result_row, result_to}
 use Rattle.cl_handlers.specs.SessionRows.{is_stanza}

@@ -54,4 +54,4 @@ pub mod PagesCut
 pub mod AnswersSent
 pub mod AnswersTaken
 pub mod PagesEnded
-pub mod Exchanges
+pub mod WholeExchanges

@@ -1,10 +1,9 @@
 -- The page that an archive cuts behind a number: the numbers behind it, as many as were asked for, where there are as many.
-use Rattle.std.proofs.Common.{◌≡◌, ℕ, zero, suc, ◌+◌, ◌-◌, ◌<◌, ◌≤◌, ◌^◌, ◌==◌, min, max, leb, Bool, true, false, List, [], ◌∷◌, ◌++◌, Option, Some, None, length, arith, refl, sym, ap, subst, ◌∙◌, inl, inr, eq-eqb, ne_eqb, option_map}
+use Rattle.std.proofs.Common.{◌≡◌, ℕ, zero, suc, ◌+◌, ◌-◌, ◌<◌, ◌≤◌, ◌^◌, ◌==◌, min, max, leb, true, false, List, [], ◌∷◌, Option, Some, None, length, arith, refl, sym, ap, subst, ◌∙◌, inl, inr, eq-eqb, ne_eqb, option_map}
 use Rattle.std.proofs.lemmas.Bool.{cases_eq}
-use Rattle.std.specs.List.{AllByRecursion}
 use Rattle.cmd_direct.specs.Direct.{query_behind}
 use Rattle.mam_archive.proofs.IdDigits.{id_of_same}
-use Rattle.mam_archive.specs.Entries.{EntryView, entry_numbered}
+use Rattle.mam_archive.specs.Entries.{EntryView}
 use Rattle.mam_archive.specs.Ids.{id_of}
 use Rattle.law_client.specs.CatchUps.{FollowFrom, from_first, from_id}
 use Rattle.mam_pages.proofs.Behind.{cut_behind, place_by}

@@ -1,10 +1,9 @@
 //! A catch-up over a session, of both ends.
-ghost use Rattle.std.specs.Prelude.{◌≡◌, ℕ, ◌-◌, ◌+◌, ◌≤◌, false, List, Ok, Some, length};
+ghost use Rattle.std.specs.Prelude.{◌≡◌, ℕ, ◌-◌, ◌+◌, ◌≤◌, List, Ok, Some, length};
 ghost use Rattle.im_jid.specs.Normal.{normal};
 ghost use Rattle.srv_state.specs.State.{Hall, Kept};
 ghost use Rattle.sm_live.specs.declared.told.Told.{Told};
 ghost use Rattle.sm_outbox.specs.Sessions.{SessionView};
-ghost use Rattle.sm_outbox.specs.Waiting.{is_full};
 ghost use Rattle.cl_core.specs.UserCalls.{catches_up};
 ghost use Rattle.cl_handlers.specs.Clients.{Turn};
 ghost use Rattle.cl_handlers.specs.Speech.{in_items};

@@ -1,4 +1,4 @@
-use Rattle.sim_5_devices.proofs.Exchanges.{asks_first, exactly, takes}
+use Rattle.sim_5_devices.proofs.WholeExchanges.{asks_first, exactly, takes}
 use Rattle.sim_5_devices.proofs.exchanges.catch_ups_end_over_a_session.Goals as goal
 
 pub returns : goal.returns

@@ -9,7 +9,7 @@ use Rattle.std.specs.List.{AllByRecursion}
 use Rattle.std.specs.Option.{IsSome, option_map}
 use Rattle.std.specs.Result.{result_ok}
 use Rattle.cl_core.specs.PageRows.{begins_page, page_answered, page_done, page_ended, page_stanza, result_of_page}
-use Rattle.cl_core.specs.Steps.{handles, item_step}
+use Rattle.cl_core.specs.Steps.{handles}
 use Rattle.cl_core.specs.UserCalls.{catches_up, catches_up_in}
 use Rattle.cl_handlers.specs.Clients.{ClientView, Turn}
 use Rattle.cl_handlers.specs.Speech.{in_items}
@@ -25,12 +25,12 @@ use Rattle.im_requests.specs.Messages.{page_item, queryid_text}
 use Rattle.im_stanza.specs.Views.{IqView}
 use Rattle.im_stanza.specs.Written.{iq_elem}
 use Rattle.im_stanza.specs.declared.kinds.IqKind.TheVariants as iq
-use Rattle.law_client.specs.CatchUps.{FollowFrom, from_id, pages_for}
+use Rattle.law_client.specs.CatchUps.{from_id, pages_for}
 use Rattle.mam_archive.specs.Entries.{EntryView}
 use Rattle.mam_archive.specs.Ids.{id_of}
 use Rattle.mam_log.specs.LogPages.{ids_of, last_id}
 use Rattle.mam_log.specs.Views.{LogView, OpenPage, after_fin, first_repeat, is_among, outcome_of, page_for, with_page}
-use Rattle.mam_log.specs.declared.fin.PageOutcome.TheVariants.{Complete, More}
+use Rattle.mam_log.specs.declared.fin.PageOutcome.TheVariants.{More}
 use Rattle.mam_log.specs.declared.log_entry.LogEntry.{LogEntry}
 use Rattle.mam_log.specs.declared.tile.Tile.{Tile}
 use Rattle.mam_pages.proofs.Behind.{length-numbers_behind}
@@ -56,8 +56,7 @@ use Rattle.sm_live.specs.declared.told.Told.{Told}
 use Rattle.sm_outbox.specs.Sessions.{SessionView, with_waiting}
 use Rattle.sm_outbox.specs.Waiting.{counted_in, is_full, queued}
 use Rattle.srv_state.specs.State.{Hall, Kept}
-use Rattle.xml_framer.specs.declared.items.Item.TheVariants.{Element}
-use Rattle.xml_trees.specs.Trees.{Elem, child, no_nodes}
+use Rattle.xml_trees.specs.Trees.{child, no_nodes}
 use Rattle.xml_writer.specs.Items.{ItemOut}
 
 -- ---- numbers
