@@ -234,8 +234,8 @@ module _ (bare full : List ℕ) (kept : Kept) (first last most : ℕ) (bare_norm
     count_fits : last - (first - 1) < 2 ^ 64
     count_fits = (let few = archive.fits in omega (arith, few))
 
-    none : first_repeat (ids_of u.client.log.entries) (ids_of rs) ≡ None
-    none =
+    none_repeats : first_repeat (ids_of u.client.log.entries) (ids_of rs) ≡ None
+    none_repeats =
         let few = archive.fits in
         let high = within in
         ap₂ (λ l ids. first_repeat (ids_of l) ids) along.entries (ids_at kept.entries ns given)
@@ -252,7 +252,7 @@ module _ (bare full : List ℕ) (kept : Kept) (first last most : ℕ) (bare_norm
         ∙ ap (page_answered in_items x v) (ap (page_for (queryid_text q)) along.page_is ∙ page_found whole_page (queryid_text q) refl)
         ∙ ap (λ r. result_of_page in_items x whole_page (result_ok r)) (end_again false ns page.index (last - (first - 1)) complete index_fits count_fits)
         ∙ ap (page_ended in_items x whole_page fin)
-        (end_is_well u.client.log whole_page fin complete fin_is.complete (fin_is.last ∙ sym (last_at kept.entries ns given)) none (goes_or_ends whole_page complete count size some_come))
+        (end_is_well u.client.log whole_page fin complete fin_is.complete (fin_is.last ∙ sym (last_at kept.entries ns given)) none_repeats (goes_or_ends whole_page complete count size some_come))
 
     abbrev log : LogView
     log = after_fin u.client.log fin
@@ -281,7 +281,7 @@ module _ (bare full : List ℕ) (kept : Kept) (first last most : ℕ) (bare_norm
     room : is_full along.session.waiting ≡ false
     room = ap (λ (zs : List ItemOut). length zs == MOST_UNACKNOWLEDGED) along.waits ∙ place.place
 
-    pub answered : Ends base c queue (taken t (answers_to z told h))
+    answered : Ends base c queue (taken t (answers_to z told h))
     answered = by complete refl
       where
         by : (b : Bool) → complete ≡ b → Ends base c queue (taken t (answers_to z told h))
@@ -344,13 +344,13 @@ module _ (bare full : List ℕ) (kept : Kept) (first last most : ℕ) (bare_norm
         let over = more in
         all_given first last base most kept.entries archive.numbered archive.fits page.start (omega (arith, over))
 
-    pub last_told : last_id (old.entries ++ page_at kept last most base) ≡ Some (id_of (base + most))
+    last_told : last_id (old.entries ++ page_at kept last most base) ≡ Some (id_of (base + most))
     last_told =
         ap (λ n. last_id (old.entries ++ logged_at kept.entries (numbers_behind base n))) count_is
         ∙ last_of_both old.entries (logged_at kept.entries (numbers_behind base most)) (id_of (base + most))
         (last_at kept.entries (numbers_behind base most) next_given ∙ ap (option_map id_of) (last_number base most some))
 
-    pub lacks_rest : (log : LogView) → log.entries ≡ old.entries ++ page_at kept last most base → Lacks first last (base + most) log
+    lacks_rest : (log : LogView) → log.entries ≡ old.entries ++ page_at kept last most base → Lacks first last (base + most) log
     lacks_rest log is =
         let over = more in
         let page = page_cut (kept_by kept.owner kept.entries) (last_id old.entries) most first last base archive.numbered archive.fits small lacks.follow in
@@ -363,7 +363,7 @@ module _ (bare full : List ℕ) (kept : Kept) (first last most : ℕ) (bare_norm
               ∙ still_unlogged old.entries (logged_at kept.entries (numbers_behind base most)) base most last (ids_at kept.entries (numbers_behind base most) next_given) archive.fits lacks.unlogged k above below;
         }
 
-    pub entries_join : old.entries ++ page_at kept last most base ++ logged_at kept.entries (numbers_behind (base + most) (last - (base + most))) ≡ old.entries ++ logged_at kept.entries (numbers_behind base (last - base))
+    entries_join : old.entries ++ (page_at kept last most base ++ logged_at kept.entries (numbers_behind (base + most) (last - (base + most)))) ≡ old.entries ++ logged_at kept.entries (numbers_behind base (last - base))
     entries_join =
         let over = more in
         let sum : most + (last - (base + most)) ≡ last - base = omega (arith, over) in
@@ -375,12 +375,12 @@ module _ (bare full : List ℕ) (kept : Kept) (first last most : ℕ) (bare_norm
   -- ---- all of them
 
   none_some_page : (o : Option OpenPage) → o ≡ None → IsSome o → ⊥
-  none_some_page None is some_page = some_page
-  none_some_page (Some p) is some_page = absurd (let no_way : ⊥ = cc in no_way)
+  none_some_page None is there = false≢true there
+  none_some_page (Some p) is there = absurd (let no_way : ⊥ = cc in no_way)
 
   some_page : (o : Option OpenPage) (p : OpenPage) → o ≡ Some p → IsSome o
   some_page None p is = absurd (let no_way : ⊥ = cc in no_way)
-  some_page (Some x) p is = tt
+  some_page (Some other) p is = refl
 
   last_comes : (base n : ℕ) (old : LogView) (w u : Turn ItemOut ItemOut) → leb (last - base) most ≡ true → w.client.log.entries ≡ old.entries ++ page_at kept last most base → w.client.log.tiles ≡ old.tiles ++ tile_at first last most base (last_id old.entries) ∷ []
       → w.client.log.page ≡ None → n ≡ 0 → u ≡ w → (suc n ≡ pages_for (last - base) most) × IsCaughtUp first last base most (suc n) kept old u.client.log
