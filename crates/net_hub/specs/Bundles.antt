@@ -1,9 +1,11 @@
 -- What outputs put for each connection, as one bundle.
-use Rattle.std.specs.Prelude.{◌≡◌, ℕ, Bool, true, false, List, Option, None, Some, []}
+use Rattle.std.specs.Prelude.{◌≡◌, ℕ, Bool, true, false, List, Option, None, Some, [], ◌++◌}
 use Rattle.std.specs.BTreeMap.{BTreeMap, get}
 use Rattle.std.specs.List.{list_any}
 use Rattle.std.specs.Ordering.{nat_cmp}
+use Rattle.srv_state.specs.Seen.{outs_of}
 use Rattle.srv_state.specs.State.{Out, Shut, is_number}
+use Rattle.srv_state.specs.declared.output.Output.{Output}
 use Rattle.net_hub.specs.Puts.{put_for}
 use Rattle.net_hub.specs.declared.bundle.Bundle.{Bundle}
 
@@ -34,3 +36,9 @@ IsShutFor k bundles = is_shut (get nat_cmp bundles k) ≡ true
 -- The one bundle of each connection has all bytes that outputs put for it, joined in order, and shuts it where one of them does.
 abbrev pub AreJoined : BTreeMap ℕ Bundle → List (Out (List ℕ)) → Type 0
 AreJoined bundles outs = (k : ℕ) → (bytes_for k bundles ≡ put_for k outs) × (is_shut (get nat_cmp bundles k) ≡ shut_for k outs)
+
+-- the outputs before those that are left are joined
+pub record AreJoinedYet (all left : List Output) (bundles : BTreeMap ℕ Bundle) : Type 0 where
+  pub done : List Output
+  pub whole : all ≡ done ++ left
+  pub joined : AreJoined bundles (outs_of done)

@@ -46,7 +46,6 @@ fn add_shut(alloc: Global, bundles: &mut Bundles, conn: u64) -> Result<(), NoMem
 }
 
 // Adds an output to the bundle of its connection.
-#[tactic(auto, using(crate::proofs::Joins::for_none))]
 fn add(alloc: Global, bundles: &mut Bundles, output: Output) -> Result<(), NoMemory>
     ensures { OnOk result ((outs : List (Out (List ℕ))) → AreJoined bundles.old outs → AreJoined bundles.new (outs ++ out_of output ∷ [])) }
 {

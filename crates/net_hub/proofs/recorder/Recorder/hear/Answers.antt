@@ -21,5 +21,5 @@ returns-clause-kept g c = λ moment drawn kept at.
     (piece_is c.args.k c.args.piece.items c.args.now old.server c.bytes.new.self c.new-outputs.result.items outs c.new-outputs.ensures
     (subst (λ b. IsAfterBytes written_item c.args.k b c.args.now old.server (outs_of c.new-outputs.result.items) c.bytes.new.self (outs_of outs)) c.as_slice-read.ensures c.in_ok-bytes.ensures.ok))
     c.send_all.ensures.numbers
-    (λ before have. same_sent told (λ j. before j ++ bytes_for j c.in_ok-join.bundles) (λ j. before j ++ put_for j (outs_of outs)) new
-    (λ j. ap (λ l. before j ++ l) (sym (c.in_ok-join.ensures j).0)) (c.send_all.ensures.sent before have)))
+    (λ before have. same_sent told (λ j. before j ++ bytes_for j c.in_ok-bundles.bundles) (λ j. before j ++ put_for j (outs_of outs)) new
+    (λ j. ap (λ l. before j ++ l) (sym (c.in_ok-bundles.ensures j).0)) (c.send_all.ensures.sent before have)))
