@@ -1,5 +1,5 @@
 -- One output more in the bundles of connections, and one bundle less.
-use Rattle.std.proofs.Common.{◌≡◌, ℕ, ◌⊎◌, inl, inr, ⊎_elim, Bool, true, false, ◌||◌, List, [], ◌∷◌, ◌++◌, ◌<◌, length, Some, None, append-nil, append_assoc, ap, refl, subst, sym, ◌∙◌, cond, arith}
+use Rattle.std.proofs.Common.{◌≡◌, ℕ, ◌⊎◌, inl, inr, ⊎_elim, Bool, true, false, true≢false, ◌||◌, List, [], ◌∷◌, ◌++◌, ◌<◌, length, Some, None, append-nil, append_assoc, ap, refl, subst, sym, ◌∙◌, cond, arith}
 use Rattle.std.specs.BTreeMap.{BTreeMap, Updates, get}
 use Rattle.std.specs.Map.{lookup}
 use Rattle.std.specs.Ordering.{nat_cmp}
@@ -124,10 +124,10 @@ module _ (old new : BTreeMap ℕ Bundle) (conn : ℕ) (b : Bundle) (there : get 
           (cases_eq k conn))
       (λ (w : Was). inr (stays w))
 
-no_entries : (es : List (ℕ × Bundle)) → (0 < length es → ⊥) → es ≡ []
+no_entries : (es : List (ℕ × Bundle)) → (0 < length es → false ≡ true) → es ≡ []
 no_entries [] none = refl
-no_entries (e ∷ es) none = absurd (none (omega arith))
+no_entries (e ∷ es) none = absurd (true≢false (sym (none (omega arith))))
 
 -- no bundle is left
-pub none_left : (left : BTreeMap ℕ Bundle) → (0 < length left.entries → ⊥) → (k : ℕ) → get nat_cmp left k ≡ None
+pub none_left : (left : BTreeMap ℕ Bundle) → (0 < length left.entries → false ≡ true) → (k : ℕ) → get nat_cmp left k ≡ None
 none_left left none k = ap (λ (es : List (ℕ × Bundle)). lookup (is_number k) es) (no_entries left.entries none)
