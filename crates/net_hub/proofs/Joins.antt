@@ -7,7 +7,7 @@ use Rattle.std.proofs.lemmas.Bool.{cases_eq}
 use Rattle.std.proofs.lemmas.List.{map-append}
 use Rattle.std.proofs.lemmas.List.Folds.{list_any-append}
 use Rattle.srv_state.specs.Seen.{out_of, outs_of}
-use Rattle.srv_state.specs.State.{Out, Put, Shut, Took, is_number}
+use Rattle.srv_state.specs.State.{Out, Took, is_number}
 use Rattle.srv_state.specs.declared.output.Output.{Output}
 use Rattle.net_hub.proofs.Numbers.{other_number, same_number}
 use Rattle.net_hub.specs.Bundles.{AreJoined, AreJoinedYet, IsShutFor, bytes_for, bytes_in, is_shut, shut_for, shuts}
@@ -22,51 +22,8 @@ or_false : (b : Bool) → (b || false) ≡ b
 or_false true = refl
 or_false false = refl
 
-or_true : (b : Bool) → (b || true) ≡ true
-or_true true = refl
-or_true false = refl
-
 shut_more : (k : ℕ) (done : List (Out (List ℕ))) (o : Out (List ℕ)) → shut_for k (done ++ o ∷ []) ≡ (shut_for k done || shuts k o)
 shut_more k done o = list_any-append (shuts k) done (o ∷ []) ∙ ap (λ b. shut_for k done || b) (or_false (shuts k o))
-
--- an output that is for no connection but this one
-record IsFor (conn : ℕ) (o : Out (List ℕ)) : Type 0 where
-  bytes : (k : ℕ) → (k ≡ conn → ⊥) → bytes_put k o ≡ []
-  shut : (k : ℕ) → (k ≡ conn → ⊥) → shuts k o ≡ false
-
--- the bundle of one connection gets what an output puts
-added : (old new : BTreeMap ℕ Bundle) (conn : ℕ) (b : Bundle) (o : Out (List ℕ)) → Updates nat_cmp old new conn (Some b) → IsFor conn o
-    → b.bytes.items ≡ bytes_for conn old ++ bytes_put conn o → b.shut ≡ (is_shut (get nat_cmp old conn) || shuts conn o)
-    → (outs : List (Out (List ℕ))) → AreJoined old outs → AreJoined new (outs ++ o ∷ [])
-added old new conn b o sets for bytes shut outs are k = ⊎_elim
-    (λ (e : k ≡ conn). subst (λ j. (bytes_for j new ≡ put_for j (outs ++ o ∷ [])) × (is_shut (get nat_cmp new j) ≡ shut_for j (outs ++ o ∷ []))) (sym e) (
-      ap bytes_in sets.1 ∙ bytes ∙ ap (λ l. l ++ bytes_put conn o) (are conn).0 ∙ sym (put_more conn outs o),
-      ap is_shut sets.1 ∙ shut ∙ ap (λ s. s || shuts conn o) (are conn).1 ∙ sym (shut_more conn outs o),
-    ))
-    (λ (e : k ≡ conn → ⊥). let same = sets.2 k (other_number conn k (λ is. e (sym is))) in (
-      ap bytes_in same ∙ (are k).0 ∙ sym (put_more k outs o ∙ ap (λ l. put_for k outs ++ l) (for.bytes k e) ∙ append-nil (put_for k outs)),
-      ap is_shut same ∙ (are k).1 ∙ sym (shut_more k outs o ∙ ap (λ s. shut_for k outs || s) (for.shut k e) ∙ or_false (shut_for k outs)),
-    ))
-    (cases_eq k conn)
-
--- bytes more
-pub more_bytes : (old new : BTreeMap ℕ Bundle) (conn : ℕ) (b : Bundle) (bytes : List ℕ) → Updates nat_cmp old new conn (Some b)
-    → b.bytes.items ≡ bytes_for conn old ++ bytes → b.shut ≡ is_shut (get nat_cmp old conn)
-    → (outs : List (Out (List ℕ))) → AreJoined old outs → AreJoined new (outs ++ Put conn bytes ∷ [])
-more_bytes old new conn b bytes sets longer same =
-    added old new conn b (Put conn bytes) sets
-    (record { bytes = λ k e. ap (λ s. cond s bytes []) (other_number k conn e); shut = λ k e. refl })
-    (longer ∙ ap (λ s. bytes_for conn old ++ cond s bytes []) (sym (same_number conn conn refl)))
-    (same ∙ sym (or_false (is_shut (get nat_cmp old conn))))
-
--- the connection is shut
-pub now_shut : (old new : BTreeMap ℕ Bundle) (conn : ℕ) (b : Bundle) → Updates nat_cmp old new conn (Some b) → b.bytes.items ≡ bytes_for conn old → b.shut ≡ true
-    → (outs : List (Out (List ℕ))) → AreJoined old outs → AreJoined new (outs ++ Shut conn ∷ [])
-now_shut old new conn b sets same is =
-    added old new conn b (Shut conn) sets
-    (record { bytes = λ k e. refl; shut = λ k e. other_number k conn e })
-    (same ∙ sym (append-nil (bytes_for conn old)))
-    (is ∙ sym (ap (λ s. is_shut (get nat_cmp old conn) || s) (same_number conn conn refl) ∙ or_true (is_shut (get nat_cmp old conn))))
 
 -- an output that is for no connection
 pub for_none : (bundles : BTreeMap ℕ Bundle) (from to origin : List ℕ) (outs : List (Out (List ℕ))) → AreJoined bundles outs → AreJoined bundles (outs ++ Took from to origin ∷ [])
@@ -119,9 +76,9 @@ module _ (old new : BTreeMap ℕ Bundle) (conn : ℕ) (b : Bundle) (there : get 
   pub shut_or_left : (Was Is : Type 0) (k : ℕ) → (b.shut ≡ true → k ≡ conn → Is) → (Was → Is) → IsShutFor k old ⊎ Was → IsShutFor k new ⊎ Is
   shut_or_left Was Is k shuts stays = ⊎_elim
       (λ (h : IsShutFor k old). ⊎_elim
-          (λ (e : k ≡ conn). inr (shuts (sym (ap is_shut there) ∙ ap (λ j. is_shut (get nat_cmp old j)) (sym e) ∙ h) e))
-          (λ (e : k ≡ conn → ⊥). inl (ap is_shut (leaves.2 k (other_number conn k (λ is. e (sym is)))) ∙ h))
-          (cases_eq k conn))
+      (λ (e : k ≡ conn). inr (shuts (sym (ap is_shut there) ∙ ap (λ j. is_shut (get nat_cmp old j)) (sym e) ∙ h) e))
+      (λ (e : k ≡ conn → ⊥). inl (ap is_shut (leaves.2 k (other_number conn k (λ is. e (sym is)))) ∙ h))
+      (cases_eq k conn))
       (λ (w : Was). inr (stays w))
 
 no_entries : (es : List (ℕ × Bundle)) → (0 < length es → false ≡ true) → es ≡ []
