@@ -1,0 +1,2 @@
+pub mod FaultGives
+pub mod Tellings
