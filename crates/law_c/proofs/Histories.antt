@@ -1,5 +1,5 @@
 -- Histories grow with the takes.
-use Rattle.std.proofs.Common.{◌≡◌, ℕ, suc, ◌+◌, ◌-◌, ◌≤◌, List, [], ◌∷◌, ◌++◌, length, take, drop, map, refl, sym, ap, ◌∙◌, subst, arith, filter, take-add}
+use Rattle.std.proofs.Common.{◌≡◌, ℕ, zero, suc, ◌+◌, ◌-◌, ◌≤◌, List, [], ◌∷◌, ◌++◌, length, take, drop, map, refl, sym, ap, ◌∙◌, subst, arith, filter, take-add}
 use Rattle.std.proofs.lemmas.List.{length-append, take_at}
 use Rattle.std.proofs.lemmas.List.Elements.{filter-append}
 use Rattle.mam_archive.proofs.Newest.{newest_few}
@@ -41,12 +41,9 @@ front_few xs ys more = let size = ap (λ (es : List EntryView). length es) more.
 -- ---- nothing is purged
 
 few_taken : (n : ℕ) (history : List EntryView) → length (take n history) ≤ length history
-few_taken n history = taken n history
-  where
-    taken : (m : ℕ) (es : List EntryView) → length (take m es) ≤ length es
-    taken zero es = omega arith
-    taken (suc m) [] = omega arith
-    taken (suc m) (e ∷ es) = let rest = taken m es in omega arith
+few_taken zero history = omega arith
+few_taken (suc n) [] = omega arith
+few_taken (suc n) (e ∷ es) = let rest = few_taken n es in omega (arith, rest)
 
 whole_front : (keep n : ℕ) (history : List EntryView) → length history ≤ keep → newest keep (take n history) ≡ take n history
 whole_front keep n history wide = newest_few keep (take n history) (let few = few_taken n history in omega arith)

@@ -7,14 +7,15 @@ use Rattle.xml_names.specs.declared.fault.StartWhy.{StartWhy}
 use Rattle.xml_tokens.specs.Tags.{is_end}
 use Rattle.xml_tokens.specs.Utf8.{continues}
 use Rattle.xml_framer.specs.Machine.{behind_byte, goes_on, is_too_long, passed, step, taken, taken_in}
-use Rattle.xml_framer.specs.MarkupSteps.{in_bang, in_declaration, in_question}
-use Rattle.xml_framer.specs.States.{OpenElement, State, Turn, counted, fails, gathered, gathered_in, may_declare, moved, token_fails, token_place}
+use Rattle.xml_framer.specs.MarkupSteps.{in_bang, in_declaration, in_phase, in_question}
+use Rattle.xml_framer.specs.States.{OpenElement, State, Turn, counted, fails, gathered, gathered_in, gives, item_ended, may_declare, moved, token_fails, token_place}
 use Rattle.xml_framer.specs.TagSteps.{added_to, begun, closed, closed_open, element_from, ends, ends_stream, footer_closes, footer_gathered, header_tag, heads, in_footer, in_opening, in_tag, is_header, is_spelled, is_too_deep, joined_text, leaf, level, misplaced, shallower, starts, tag_anew, tag_closes, tag_gathered, tag_here, tag_in, tag_inside, tag_outside, unlimited}
 use Rattle.xml_framer.specs.TextSteps.{in_reference, in_section, in_text}
 use Rattle.xml_trees.specs.Trees.{Elem}
 use Rattle.xml_framer.specs.declared.fault.Fault.{Fault}
 use Rattle.xml_framer.specs.declared.fault.Why.TheVariants as why
 use Rattle.xml_framer.specs.declared.items.Item.{Item}
+use Rattle.xml_framer.specs.declared.items.Item.TheVariants as item
 use Rattle.xml_framer.specs.declared.states.Mode.{Mode}
 use Rattle.xml_framer.specs.declared.states.Mode.TheVariants as mode
 use Rattle.xml_framer.specs.declared.states.Phase.{Phase}
@@ -93,11 +94,8 @@ in_tag_apart t b none =
 
 footer_apart : (t : Turn) → t.state.fault ≡ None → IsApart t.items (footer_closes t)
 unfolding footer_closes
-footer_apart t none = pick (ends_stream t.state)
-  where
-    pick : (c : Bool) → IsApart t.items (if c then _ else _)
-    pick true = inr none
-    pick false = inl refl
+footer_apart t none =
+    either t.items (gives (in_phase (item_ended t.state) phase.Ended) t.items item.Footer) (moved t (token_fails t.state why.NotWellFormed)) (ends_stream t.state) (inr none) (inl refl)
 
 in_footer_apart : (t : Turn) (b : ℕ) → t.state.fault ≡ None → IsApart t.items (in_footer t b)
 unfolding in_footer

@@ -66,21 +66,22 @@ same_front (x ∷ xs) b (y ∷ ys) d e n =
 
 -- ---- what is told of items
 
+wrong_item : (o : Option ℕ) (line : List ℕ) (rest : Told) → rest.sound ≡ false → (told_item o line rest).sound ≡ false
+wrong_item None line rest is = is
+wrong_item (Some at) line rest is = refl
+
 wrong_items : (items : List Item) (text : List ℕ) → (told_items items (wrong_with text)).sound ≡ false
 wrong_items [] text = refl
-wrong_items (i ∷ more) text = by_strange (strange_at i)
-  where
-    by_strange : (o : Option ℕ) → (told_item o (item_line i) (told_items more (wrong_with text))).sound ≡ false
-    by_strange None = wrong_items more text
-    by_strange (Some at) = refl
+wrong_items (i ∷ more) text = wrong_item (strange_at i) (item_line i) (told_items more (wrong_with text)) (wrong_items more text)
+
+sound_item : (o : Option ℕ) (line : List ℕ) (rest : Told) → (told_item o line rest).sound ≡ true → (o ≡ None) × (rest.sound ≡ true)
+sound_item None line rest is = (refl, is)
+sound_item (Some at) line rest is = absurd (false≢true is)
 
 sound_items : (items : List Item) (text : List ℕ) → (told_items items (sound_with text)).sound ≡ true → AllByRecursion (λ i. strange_at i ≡ None) items
 sound_items [] text is = tt
-sound_items (i ∷ more) text is = by_strange (strange_at i) refl is
-  where
-    by_strange : (o : Option ℕ) → strange_at i ≡ o → (told_item o (item_line i) (told_items more (sound_with text))).sound ≡ true → (strange_at i ≡ None) × AllByRecursion (λ j. strange_at j ≡ None) more
-    by_strange None e is = (e, sound_items more text is)
-    by_strange (Some at) e is = absurd (false≢true is)
+sound_items (i ∷ more) text is =
+    let one = sound_item (strange_at i) (item_line i) (told_items more (sound_with text)) is in (one.0, sound_items more text one.1)
 
 items_sound : (items : List Item) (text : List ℕ) → AllByRecursion (λ i. strange_at i ≡ None) items → (told_items items (sound_with text)).sound ≡ true
 items_sound [] text all = refl
