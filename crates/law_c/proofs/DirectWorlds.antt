@@ -1,5 +1,5 @@
 -- The report of a direct schedule is of the last of its worlds.
-use Rattle.std.proofs.Common.{◌≡◌, ℕ, zero, suc, ◌+◌, ◌-◌, ◌<◌, ◌≤◌, ◌⊎◌, inl, inr, false, List, [], ◌∷◌, ◌++◌, length, take, map, refl, sym, ap, ◌∙◌, subst, arith, append_assoc, append-nil}
+use Rattle.std.proofs.Common.{◌≡◌, ◌≢◌, ℕ, zero, suc, ◌+◌, ◌-◌, ◌<◌, ◌≤◌, ◌⊎◌, inl, inr, false, List, [], ◌∷◌, ◌++◌, length, take, map, refl, sym, ap, ◌∙◌, subst, arith, append_assoc, append-nil}
 use Rattle.std.proofs.lemmas.List.{length-map}
 use Rattle.std.specs.List.{AllByRecursion}
 use Rattle.base_lemmas.proofs.Lists.{AllByRecursion-weaker}
@@ -21,7 +21,7 @@ use Rattle.cmd_schedule.proofs.Prefixes.{along-append}
 use Rattle.cmd_schedule.specs.Contents.{accounts_of, along, devices_of}
 use Rattle.cmd_schedule.specs.Schedules.{ScheduleView, keep_of, steps_of}
 use Rattle.cmd_schedule.specs.declared.schedule.Step.{Step}
-use Rattle.law_c.proofs.Histories.{Extends, archive_grows, front_few, front_is, fronts_of, newest_none}
+use Rattle.law_c.proofs.HistoriesGrow.{Extends, archive_grows, front_few, front_is, fronts_of, newest_none}
 use Rattle.law_c.specs.OfWorlds.{AreAskedFirst, AreFronts, AreKeptOf, AreMarksRight, ArePagesAsked, IsArchiveOf, IsFirst, IsLast, IsOfWorlds}
 
 waits_not : (x : SaidMark) → x ≡ Acknowledged → x ≡ Waiting → ⊥

@@ -1,4 +1,4 @@
-pub mod Histories
+pub mod HistoriesGrow
 pub mod Marks
 pub mod Worlds
 pub mod DirectWorlds

@@ -39,10 +39,10 @@ differ : (x : SaidMark) → x ≡ Waiting → x ≡ Undecided → ⊥
 differ x one other = let bad : ⊥ = cc in bad
 
 module _ (s : Sessions) (kept : SessionsKept s) where
-  past : List SaidLine
+  abbrev past : List SaidLine
   past = flat_map (said_in Undecided) s.past
 
-  now : List SaidLine
+  abbrev now : List SaidLine
   now = said_in (mark_of s.online) s.now
 
   older : AllByRecursion (λ l. (l.epoch < 0 + length s.past) × (l.state ≢ Waiting)) past

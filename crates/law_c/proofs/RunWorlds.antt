@@ -35,7 +35,7 @@ use Rattle.sim_1_applications.specs.Events.{Event, Reaches, devices_of as new_de
 use Rattle.sim_1_applications.specs.Histories.{asked_of, asked_with, state_after, states_of}
 use Rattle.sim_1_applications.specs.Reported.{AreShown, IsShown, account_line, history_at, pages_with, said_of, take_of, underway_of}
 use Rattle.sim_1_applications.specs.Runs.{IsRunOf, begins, moves_of, owned_of, steps_in}
-use Rattle.law_c.proofs.Histories.{Extends, archive_grows, front_few, front_is, fronts_of, newest_none}
+use Rattle.law_c.proofs.HistoriesGrow.{Extends, archive_grows, front_few, front_is, fronts_of, newest_none}
 use Rattle.law_c.proofs.Marks.{one_kind, waits_now}
 use Rattle.law_c.specs.OfWorlds.{AreAskedFirst, AreFronts, AreKeptOf, AreMarksRight, ArePagesAsked, IsArchiveOf, IsFirst, IsLast, IsOfWorlds}
 

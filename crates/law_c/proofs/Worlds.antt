@@ -12,15 +12,21 @@ either k zero = inl (omega arith)
 either zero (suc n) = inr (omega arith)
 either (suc k) (suc n) = elim (either k n) [ | inl low ↦ inl (omega (arith, low)) | inr high ↦ inr (omega (arith, high)) ]
 
+later_place : (n : ℕ) → suc (n + 1) ≡ suc n + 1
+later_place n = omega arith
+
 passed : (count : World → ℕ) (k : ℕ) (w : World) (ws : List World) → count w ≤ k → IsLast (λ last. k < count last) (w ∷ ws) → HasMove (w ∷ ws) count k
 passed count k w [] low high = absurd (omega (arith, low, high))
 passed count k w (next ∷ ws) low high =
     elim (either k (count next)) [
       | inl still ↦ (
           let rest = passed count k next ws still high in
-          record { i = suc rest.i; before = rest.before; after = rest.after; is_before = rest.is_before; is_after = rest.is_after; passes = rest.passes })
+          record { i = suc rest.i; before = rest.before; after = rest.after; is_before = rest.is_before; is_after = later rest.i rest.after rest.is_after; passes = rest.passes })
       | inr over ↦ record { i = 0; before = w; after = next; is_before = refl; is_after = refl; passes = (low, over) }
     ]
+  where
+    later : (n : ℕ) (x : World) → slice_get (next ∷ ws) (n + 1) ≡ Some x → slice_get (w ∷ next ∷ ws) (suc n + 1) ≡ Some x
+    later n x at = subst (λ k. slice_get (w ∷ next ∷ ws) k ≡ Some x) (later_place n) at
 
 pub last_weaker : (P Q : World → Type 0) → ((w : World) → P w → Q w) → (ws : List World) → IsLast P ws → IsLast Q ws
 last_weaker P Q each [] last = last
