@@ -108,8 +108,9 @@ short_as_read input None same short = tt
 short_as_read input (Some all) same short = subst (λ bytes. length bytes ≤ MOST_BYTES_READ) same short
 
 -- what was told is the grammar's
-pub told_so : (text input : List ℕ) (sound : Bool) → told_with text sound ≡ told input → IsToldOf server_limits input (told input) → IsToldOf server_limits input (told_with text sound)
-told_so text input sound same of = subst (IsToldOf server_limits input) (sym same) of
+pub told_so : (text input : List ℕ) (sound whether : Bool) → told_with text sound ≡ told input → sound ≡ whether → IsToldOf server_limits input (told input)
+    → IsToldOf server_limits input (record { text = text; sound = whether })
+told_so text input sound whether same is of = subst (λ b. IsToldOf server_limits input (told_with text b)) is (subst (IsToldOf server_limits input) (sym same) of)
 
 -- an answer to what was seen is due of what the source tells
 due_of_answer : (command : Command) (seen : List ℕ) (known left : Option (List ℕ)) (rose : Type 0) (dealt : Dealings) (outcome : Outcome) (text : List ℕ)

@@ -1,5 +1,5 @@
 -- The report of a direct schedule is of the last of its worlds.
-use Rattle.std.proofs.Common.{◌≡◌, ◌≢◌, ℕ, zero, suc, ◌+◌, ◌-◌, ◌<◌, ◌≤◌, ◌⊎◌, inl, inr, false, List, [], ◌∷◌, ◌++◌, length, take, map, refl, sym, ap, ◌∙◌, subst, arith, append_assoc, append-nil}
+use Rattle.std.proofs.Common.{◌≡◌, ◌≢◌, ℕ, zero, suc, ◌+◌, ◌-◌, ◌<◌, ◌≤◌, ◌⊎◌, inl, inr, List, [], ◌∷◌, ◌++◌, length, map, refl, sym, ap, ◌∙◌, subst, arith, append_assoc, append-nil}
 use Rattle.std.proofs.lemmas.List.{length-map}
 use Rattle.std.specs.List.{AllByRecursion}
 use Rattle.base_lemmas.proofs.Lists.{AllByRecursion-weaker}
@@ -8,12 +8,11 @@ use Rattle.mam_archive.specs.Entries.{EntryView, newest}
 use Rattle.cmd_direct.proofs.LawTakes.{acknowledged}
 use Rattle.cmd_direct.specs.Direct.{account_line, device_line, direct_report, pages_of, said_at, take_at, takes_of}
 use Rattle.cmd_direct.specs.History.{direct_history, world_after, worlds_from}
-use Rattle.cmd_report.specs.LawfulRuns.{KeepsLaws, tells_moments}
+use Rattle.cmd_report.specs.LawfulRuns.{KeepsLaws}
 use Rattle.cmd_report.specs.Lines.{page_line}
-use Rattle.cmd_report.specs.Reports.{AccountView, DeviceView, ReportView}
-use Rattle.cmd_report.specs.Takes.{Take, archive_of}
+use Rattle.cmd_report.specs.Reports.{AccountView}
+use Rattle.cmd_report.specs.Takes.{archive_of}
 use Rattle.cmd_report.specs.Worlds.{World}
-use Rattle.cmd_report.specs.declared.report.SaidLine.{SaidLine}
 use Rattle.cmd_report.specs.declared.report.SaidMark.{SaidMark}
 use Rattle.cmd_report.specs.declared.report.SaidMark.TheVariants.{Acknowledged, Undecided, Waiting}
 use Rattle.cmd_schedule.proofs.Lists.{all_map, all_of}

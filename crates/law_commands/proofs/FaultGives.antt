@@ -1,18 +1,16 @@
 -- A byte that decides a fault gives no item.
-use Rattle.std.proofs.Common.{◌≡◌, ℕ, ◌⊎◌, inl, inr, Bool, true, false, not, ◌&&◌, ◌||◌, ◌==◌, if◌then◌else◌, List, [], ◌∷◌, ◌++◌, Option, Some, None, Result, Ok, Err, refl, sym, ap, ◌∙◌}
+use Rattle.std.proofs.Common.{◌≡◌, ℕ, ◌⊎◌, inl, inr, Bool, true, false, not, ◌&&◌, ◌==◌, if◌then◌else◌, List, Option, Some, None, Result, Ok, Err, refl}
 use Rattle.std.specs.Option.{is_some}
 use Rattle.xml_names.specs.Ends.{end_of}
 use Rattle.xml_names.specs.Starts.{Tag}
 use Rattle.xml_names.specs.declared.fault.StartWhy.{StartWhy}
 use Rattle.xml_tokens.specs.Tags.{is_end}
 use Rattle.xml_tokens.specs.Utf8.{continues}
-use Rattle.xml_framer.specs.Machine.{behind_byte, goes_on, is_too_long, passed, step, taken, taken_in}
-use Rattle.xml_framer.specs.MarkupSteps.{in_bang, in_declaration, in_phase, in_question}
-use Rattle.xml_framer.specs.States.{OpenElement, State, Turn, counted, fails, gathered, gathered_in, gives, item_ended, may_declare, moved, token_fails, token_place}
+use Rattle.xml_framer.specs.Machine.{behind_byte, goes_on, is_too_long, step, taken, taken_in}
+use Rattle.xml_framer.specs.MarkupSteps.{in_phase}
+use Rattle.xml_framer.specs.States.{OpenElement, Turn, counted, fails, gathered, gathered_in, gives, item_ended, may_declare, moved, token_fails, token_place}
 use Rattle.xml_framer.specs.TagSteps.{added_to, begun, closed, closed_open, element_from, ends, ends_stream, footer_closes, footer_gathered, header_tag, heads, in_footer, in_opening, in_tag, is_header, is_spelled, is_too_deep, joined_text, leaf, level, misplaced, shallower, starts, tag_anew, tag_closes, tag_gathered, tag_here, tag_in, tag_inside, tag_outside, unlimited}
-use Rattle.xml_framer.specs.TextSteps.{in_reference, in_section, in_text}
 use Rattle.xml_trees.specs.Trees.{Elem}
-use Rattle.xml_framer.specs.declared.fault.Fault.{Fault}
 use Rattle.xml_framer.specs.declared.fault.Why.TheVariants as why
 use Rattle.xml_framer.specs.declared.items.Item.{Item}
 use Rattle.xml_framer.specs.declared.items.Item.TheVariants as item

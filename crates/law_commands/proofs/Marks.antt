@@ -1,5 +1,5 @@
 -- What the marks of a device's lines say of its present session.
-use Rattle.std.proofs.Common.{◌≡◌, ◌≢◌, ℕ, zero, suc, ◌+◌, ◌-◌, ◌<◌, ◌≤◌, ◌⊎◌, inl, inr, Bool, true, false, cond, List, [], ◌∷◌, ◌++◌, length, refl, sym, ap, ◌∙◌, subst, arith, nat_lt}
+use Rattle.std.proofs.Common.{◌≡◌, ◌≢◌, ℕ, ◌+◌, ◌-◌, ◌<◌, ◌⊎◌, inl, inr, Bool, true, false, cond, List, [], ◌∷◌, length, refl, ap, ◌∙◌, arith, nat_lt}
 use Rattle.std.specs.List.{AllByRecursion, flat_map}
 use Rattle.base_lemmas.proofs.Lists.{AllByRecursion-weaker}
 use Rattle.cmd_schedule.proofs.Lists.{all_append}
@@ -7,7 +7,7 @@ use Rattle.cmd_report.specs.declared.report.SaidLine.{SaidLine}
 use Rattle.cmd_report.specs.declared.report.SaidMark.{SaidMark}
 use Rattle.cmd_report.specs.declared.report.SaidMark.TheVariants.{Acknowledged, Undecided, Waiting}
 use Rattle.sim_1_applications.proofs.SaidLines.{lines_all, past_below}
-use Rattle.sim_1_applications.specs.Devices.{Session, Sessions, epoch_of, up_put}
+use Rattle.sim_1_applications.specs.Devices.{Sessions, epoch_of, up_put}
 use Rattle.sim_1_applications.specs.Kept.{SessionsKept}
 use Rattle.sim_1_applications.specs.Reported.{mark_of, said_among, said_in, said_of}
 use Rattle.sim_1_applications.specs.Stanzas.{Up}
@@ -62,8 +62,8 @@ module _ (s : Sessions) (kept : SessionsKept s) where
   decided on =
       all_append (λ l. l.epoch ≡ epoch_of s → l.state ≢ Undecided) past now
       (AllByRecursion-weaker (λ l. (l.epoch < 0 + length s.past) × (l.state ≢ Waiting)) (λ l. l.epoch ≡ epoch_of s → l.state ≢ Undecided) (λ l is same. absurd (let low = is.0 in omega arith)) past older)
-      (AllByRecursion-weaker (λ l. (l.state ≡ Acknowledged) ⊎ (l.state ≡ mark_of s.online)) (λ l. l.epoch ≡ epoch_of s → l.state ≢ Undecided)
-      (λ l is same no. elim is [
+      (AllByRecursion-weaker (λ (l : SaidLine). (l.state ≡ Acknowledged) ⊎ (l.state ≡ mark_of s.online)) (λ l. l.epoch ≡ epoch_of s → l.state ≢ Undecided)
+      (λ (l : SaidLine) is same no. elim is [
         | inl known ↦ apart l.state known no
         | inr mark ↦ differ l.state (mark ∙ ap mark_of on) no
       ])
@@ -74,8 +74,8 @@ module _ (s : Sessions) (kept : SessionsKept s) where
   nothing_waits off =
       all_append (λ l. l.state ≢ Waiting) past now
       (AllByRecursion-weaker (λ l. (l.epoch < 0 + length s.past) × (l.state ≢ Waiting)) (λ l. l.state ≢ Waiting) (λ l is. is.1) past older)
-      (AllByRecursion-weaker (λ l. (l.state ≡ Acknowledged) ⊎ (l.state ≡ mark_of s.online)) (λ l. l.state ≢ Waiting)
-      (λ l is waits. elim is [
+      (AllByRecursion-weaker (λ (l : SaidLine). (l.state ≡ Acknowledged) ⊎ (l.state ≡ mark_of s.online)) (λ l. l.state ≢ Waiting)
+      (λ (l : SaidLine) is waits. elim is [
         | inl known ↦ clash l.state known waits
         | inr mark ↦ differ l.state waits (mark ∙ ap mark_of off)
       ])

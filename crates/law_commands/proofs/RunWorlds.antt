@@ -1,7 +1,6 @@
 -- The report of a run of a wire schedule is of the last of its worlds.
 use Rattle.std.proofs.Common.{◌≡◌, ◌≢◌, ℕ, zero, suc, ◌+◌, ◌≤◌, true, false, List, [], ◌∷◌, ◌++◌, Option, Some, None, length, take, drop, map, refl, sym, ap, ◌∙◌, subst, arith}
 use Rattle.std.proofs.lemmas.Bool.{true≢false}
-use Rattle.std.proofs.lemmas.List.{length-map}
 use Rattle.std.proofs.lemmas.Option.{none-some, same_Some}
 use Rattle.std.specs.List.{AllByRecursion, flat_map, slice_get}
 use Rattle.base_io.specs.Names.{is_among}
@@ -11,7 +10,7 @@ use Rattle.cmd_direct.proofs.TurnRuns.{all_places}
 use Rattle.cmd_report.specs.LawfulRuns.{tells_moments}
 use Rattle.cmd_report.specs.Lines.{page_line}
 use Rattle.cmd_report.specs.Reports.{AccountView, DeviceView, ReportView}
-use Rattle.cmd_report.specs.Takes.{Take, archive_of}
+use Rattle.cmd_report.specs.Takes.{archive_of}
 use Rattle.cmd_report.specs.Worlds.{World}
 use Rattle.cmd_report.specs.declared.report.SaidLine.{SaidLine}
 use Rattle.cmd_report.specs.declared.report.SaidMark.TheVariants.{Undecided, Waiting}
@@ -33,7 +32,7 @@ use Rattle.sim_1_applications.specs.Devices as sessions
 use Rattle.sim_1_applications.specs.Devices.{OpenPage, Reading, Tile, new_device}
 use Rattle.sim_1_applications.specs.Events.{Event, Reaches, devices_of as new_devices}
 use Rattle.sim_1_applications.specs.Histories.{asked_of, asked_with, state_after, states_of}
-use Rattle.sim_1_applications.specs.Reported.{AreShown, IsShown, account_line, history_at, pages_with, said_of, take_of, underway_of}
+use Rattle.sim_1_applications.specs.Reported.{AreShown, IsShown, account_line, history_at, pages_with, take_of, underway_of}
 use Rattle.sim_1_applications.specs.Runs.{IsRunOf, begins, moves_of, owned_of, steps_in}
 use Rattle.law_commands.proofs.HistoriesGrow.{Extends, archive_grows, front_few, front_is, fronts_of, newest_none}
 use Rattle.law_commands.proofs.Marks.{one_kind, waits_now}

@@ -1,7 +1,7 @@
 -- What the worlds of a run have to do with its report, of either version. Law 5 speaks of the moves at which a page was asked
 -- for and taken over, and of what archives were then. Here it is said that each page has such moves, and that the archives
 -- are the report's; and what a report's marks say of the present session.
-use Rattle.std.specs.Prelude.{◌≡◌, ◌≢◌, ℕ, ◌+◌, ◌<◌, ◌≤◌, false, List, [], ◌∷◌, ◌++◌, Some, length, map, take, slice_get}
+use Rattle.std.specs.Prelude.{◌≡◌, ◌≢◌, ℕ, ◌+◌, ◌≤◌, false, List, [], ◌∷◌, ◌++◌, Some, length, map, take, slice_get}
 use Rattle.std.specs.List.{AllByRecursion}
 use Rattle.mam_archive.specs.Entries.{EntryView, newest}
 use Rattle.cmd_report.specs.Lawful.{Passes}
