@@ -33,7 +33,7 @@ unmap P f (x ∷ xs) all = (all.0, unmap P f xs all.1)
 either : (k n : ℕ) → (n ≤ k) ⊎ (k < n)
 either k zero = inl (omega arith)
 either zero (suc n) = inr (omega arith)
-either (suc k) (suc n) = elim (either k n) [ | inl low ↦ inl (omega (arith, low)) | inr high ↦ inr (omega (arith, high)) ]
+either (suc k) (suc n) = elim (either k n) [ inl low ↦ inl (omega (arith, low)) | inr high ↦ inr (omega (arith, high)) ]
 
 -- what keeps as many entries as there are keeps all
 all_kept : (keep : ℕ) (history : List EntryView) → length history ≡ length (newest keep history) → length history ≤ keep
@@ -84,16 +84,14 @@ module _ (keep : ℕ) (all : List Step) where
   kept_from : (name : List ℕ) (before steps : List Step) (least : ℕ) → before ++ steps ≡ all → least ≤ length (archive_of name (takes_of all before))
       → AreKeptOf keep name (archive_of name (takes_of all all)) least (worlds_from keep all before steps)
   kept_from name before [] least are low =
-      let more = subst (λ b. Extends (archive_of name (takes_of all before)) (archive_of name (takes_of all b))) are (grows name before []) in
-      (
+      let more = subst (λ b. Extends (archive_of name (takes_of all before)) (archive_of name (takes_of all b))) are (grows name before []) in (
         length (archive_of name (takes_of all before)),
         low,
         ap (newest keep) (sym (front_is (archive_of name (takes_of all before)) (archive_of name (takes_of all all)) more)),
         front_few (archive_of name (takes_of all before)) (archive_of name (takes_of all all)) more,
       )
   kept_from name before (step ∷ steps) least are low =
-      let more = subst (λ b. Extends (archive_of name (takes_of all before)) (archive_of name (takes_of all b))) are (grows name before (step ∷ steps)) in
-      (
+      let more = subst (λ b. Extends (archive_of name (takes_of all before)) (archive_of name (takes_of all b))) are (grows name before (step ∷ steps)) in (
         length (archive_of name (takes_of all before)),
         low,
         ap (newest keep) (sym (front_is (archive_of name (takes_of all before)) (archive_of name (takes_of all all)) more)),

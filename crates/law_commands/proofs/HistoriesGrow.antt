@@ -57,8 +57,7 @@ pub fronts_of : (keep : ℕ) (account : List ℕ) (history : List EntryView) (le
 fronts_of keep account history least [] wide kept = tt
 fronts_of keep account history least (w ∷ []) wide kept = tt
 fronts_of keep account history least (w ∷ next ∷ ws) wide (n, low, is, (m, high, next_is, rest)) =
-    let longer = longer_front n m history high in
-    (
+    let longer = longer_front n m history high in (
       (longer.0, next_is ∙ (whole_front keep m history wide ∙ (longer.1 ∙ ap (λ es. es ++ longer.0) (sym (is ∙ whole_front keep n history wide))))),
       fronts_of keep account history n (next ∷ ws) wide (m, high, next_is, rest),
     )

@@ -134,8 +134,7 @@ module _ (owned : List Owned) where
       → AreKeptOf keep name (history_at owned last.takes name) least worlds
   kept_along keep name [] w last [] least reaches are keeps exists low = absurd are
   kept_along keep name [] w last (x ∷ []) least reaches are keeps exists low =
-      let later = later_along [] w last reaches in
-      (
+      let later = later_along [] w last reaches in (
         length (history_at owned w.takes name),
         low,
         archive_front keep w last name x later are.0 keeps exists,
@@ -146,8 +145,7 @@ module _ (owned : List Owned) where
   kept_along keep name (move ∷ moves) w last (x ∷ worlds) least reaches are keeps exists low =
       let later = later_along (flat_map (λ m. m) (move ∷ moves)) w last reaches in
       let parts = split move (flat_map (λ m. m) moves) w last reaches in
-      let next = later_along move w parts.mid parts.first in
-      (
+      let next = later_along move w parts.mid parts.first in (
         length (history_at owned w.takes name),
         low,
         archive_front keep w last name x later are.0 keeps exists,
@@ -194,8 +192,7 @@ module _ (s : WireView) (worlds : List World) (r : ReportView) (run : IsRunOf s 
             let here : IsShown (owned_of s) run.last shown = subst (λ v. IsShown (owned_of s) v shown) (sym last_state) is in
             let pages = here.pages i at.o at.d at.owner at.device in
             let asked = here.asked i at.o at.d at.owner at.device in
-            let sum = asked_sum at.d.reading at.d.reading.page in
-            (
+            let sum = asked_sum at.d.reading at.d.reading.page in (
               ap (λ name. length (shown.pages name)) at.is.name ∙ (pages ∙ sym tiles),
               ap shown.asked at.is.name ∙ (asked ∙ (sum ∙ omega (arith, tiles, underway))),
             ));

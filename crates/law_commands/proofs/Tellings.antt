@@ -151,13 +151,13 @@ module _ (limits : Limits) (counted : limits.bytes < 2 ^ 64) (pieces : Pieces) (
       elim (known (fault_of limits (front ++ b ∷ []))) [
         | inl next ↦ subst (λ bs. IsFirst bs f) same (first (front ++ b ∷ []) rest f next all)
         | inr (g, is) ↦ record {
-            front = front;
-            byte = b;
-            rest = rest;
-            bytes_are = refl;
-            none = none;
-            some = ap (λ (t : Turn). t.state.fault) (sym (stayed (front ++ b ∷ []) rest g is)) ∙ all;
-          }
+          front = front;
+          byte = b;
+          rest = rest;
+          bytes_are = refl;
+          none = none;
+          some = ap (λ (t : Turn). t.state.fault) (sym (stayed (front ++ b ∷ []) rest g is)) ∙ all;
+        }
       ]
 
   -- the byte that decides the fault gives no item, and no more come
@@ -184,8 +184,7 @@ module _ (limits : Limits) (counted : limits.bytes < 2 ^ 64) (pieces : Pieces) (
   one_prefix bytes items others part other p q =
       let low = q.longest p.now p.done p.hand items p.stream p.bytes_are (p.within counted) in
       let high = p.longest q.now q.done q.hand others q.stream q.bytes_are (q.within counted) in
-      let fronts = same_front p.done p.hand q.done q.hand (sym p.bytes_are ∙ q.bytes_are) (omega (arith, low, high)) in
-      (
+      let fronts = same_front p.done p.hand q.done q.hand (sym p.bytes_are ∙ q.bytes_are) (omega (arith, low, high)) in (
         sym (gives p.done p.now items p.stream (p.within counted)) ∙ (ap (items_of limits) fronts.0 ∙ gives q.done q.now others q.stream (q.within counted)),
         p.part_is ∙ (ap (λ hand. if is_empty hand then None else Some (place_of (length p.done))) fronts.1 ∙ ap (λ (done : List ℕ). if is_empty q.hand then None else Some (place_of (length done))) fronts.0) ∙ sym q.part_is,
       )

@@ -10,7 +10,7 @@ use Rattle.law_commands.specs.OfWorlds.{AreAskedFirst, ArePagesAsked, HasMove, I
 either : (k n : ℕ) → (n ≤ k) ⊎ (k < n)
 either k zero = inl (omega arith)
 either zero (suc n) = inr (omega arith)
-either (suc k) (suc n) = elim (either k n) [ | inl low ↦ inl (omega (arith, low)) | inr high ↦ inr (omega (arith, high)) ]
+either (suc k) (suc n) = elim (either k n) [ inl low ↦ inl (omega (arith, low)) | inr high ↦ inr (omega (arith, high)) ]
 
 later_place : (n : ℕ) → suc (n + 1) ≡ suc n + 1
 later_place n = omega arith
@@ -43,8 +43,7 @@ first_of_two P Q R each (w ∷ ws) first all = each w first all.0
 
 device_moves : (worlds : List World) (d : DeviceView) → ArePagesAsked worlds d → (k : ℕ) → k < length d.pages → HasMove worlds (λ w. w.asked d.name) k × HasMove worlds (λ w. length (w.pages d.name)) k
 device_moves worlds d are k within =
-    let pages = λ (w : World). length (w.pages d.name) in
-    (
+    let pages = λ (w : World). length (w.pages d.name) in (
       has_move (λ w. w.asked d.name) k worlds
           (first_of_two (λ w. w.asked d.name ≡ 0) (AreAskedFirst d) (λ w. w.asked d.name ≤ k) (λ w none first. omega (arith, none)) worlds are.begins are.each)
           (last_weaker (λ w. (pages w ≡ length d.pages) × (w.asked d.name ≡ length d.pages + length d.underway)) (λ w. k < w.asked d.name) (λ w is. let many = is.1 in omega (arith, many, within)) worlds are.ends),

@@ -13,8 +13,7 @@ returns-clause-text c = c.in_ok-summary.ensures.text ∙ ap (λ (s : WireView). 
 
 pub returns-clause-lawful : goal.returns-clause-lawful
 returns-clause-lawful c =
-    let made = c.in_ok-schedule.ensures.made in
-    (
+    let made = c.in_ok-schedule.ensures.made in (
       report_of (world_of (generated c.args.number c.args.size)),
       subst IsWireSchedule made c.in_ok-schedule.ensures.grammar,
       subst (λ (s : WireView). IsWireReport s (report_of (world_of s))) made c.in_ok-summary.ensures.lawful,
