@@ -36,3 +36,15 @@ pub mod SoundEvents
 pub mod ArchiveEntries
 pub mod NumbersWithin
 pub mod PieceTakes
+-- ---- rows: what goes out, and who is logged in
+pub mod Rows
+pub mod LoginRows
+pub mod SessionRows
+pub mod LiveRows
+pub mod RowsDue
+-- ---- messages that go out
+pub mod PassedOn
+-- ---- passwords that were proved
+pub mod Seats
+pub mod SeatedActs
+pub mod ProvedEvents

@@ -8,6 +8,12 @@ pub mod Pieces
 pub mod Images
 -- ---- messages that were taken, and what archives get
 pub mod Taken
+-- ---- what goes out live
+pub mod Live
+pub mod Ready
+-- ---- what events prove
+pub mod Happenings
+pub mod Proved
 -- ---- sessions and logins
 pub mod Sound
 pub mod Numbers

@@ -2,10 +2,17 @@
 //! and what it tells of messages that it took is what its archives get.
 #![tactic(auto)]
 
+mod live_messages;
+mod proved_logins;
 mod server_maps;
 mod server_tables;
 mod told_takes;
 
+pub use live_messages::{
+    copies_have_the_message, messages_go_to_their_accounts, messages_reach_their_sessions,
+    what_is_passed_on_is_the_message, what_is_sent_is_put,
+};
+pub use proved_logins::sessions_are_of_proved_accounts;
 pub use server_maps::{
     bytes_are_the_items_written, events_are_the_same_however_written,
     moments_are_the_same_however_written, relations_are_the_same_however_written,
