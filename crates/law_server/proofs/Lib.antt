@@ -43,7 +43,11 @@ pub mod SessionRows
 pub mod LiveRows
 pub mod RowsDue
 -- ---- messages that go out
+pub mod PutsDue
 pub mod PassedOn
+pub mod Reached
+pub mod SentPuts
+pub mod WorkedLive
 -- ---- passwords that were proved
 pub mod Seats
 pub mod SeatedActs

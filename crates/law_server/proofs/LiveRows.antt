@@ -160,7 +160,7 @@ or_either : (b : Bool) → (b || true) ≡ true
 or_either true = refl
 or_either false = refl
 
-names_addressee : (archived same : Bool) (sender account : ℕ) → list_any (λ other. other == account) (archives_of (cond archived (cond same (Once account) (Both sender account)) Nowhere)) ≡ archived
+pub names_addressee : (archived same : Bool) (sender account : ℕ) → list_any (λ other. other == account) (archives_of (cond archived (cond same (Once account) (Both sender account)) Nowhere)) ≡ archived
 names_addressee true true sender account = rw (eq-eqb account account refl) refl
 names_addressee true false sender account = rw (eq-eqb account account refl) (or_either (sender == account))
 names_addressee false same sender account = refl
@@ -170,11 +170,11 @@ names_sender true true sender account is = rw (eq-eqb account sender (sym (eqb-t
 names_sender true false sender account is = rw (eq-eqb sender sender refl) refl
 names_sender false same sender account is = refl
 
-number_is : {A : Type 0} (place : ℕ) (m : MessageView) (accounts : List ℕ) (h : Hall A) → list_any (λ other. other == place) accounts ≡ is_archived m → number_in place accounts h ≡ number_for place m h
+pub number_is : {A : Type 0} (place : ℕ) (m : MessageView) (accounts : List ℕ) (h : Hall A) → list_any (λ other. other == place) accounts ≡ is_archived m → number_in place accounts h ≡ number_for place m h
 number_is place m accounts h names =
     ap (λ b. cond b (number_behind (archive_at place h)) None) names ∙ ap (λ (o : Option ℕ). cond (is_archived m) o None) (same_next (archive_at place h))
 
-abbrev NamesIt : ℕ → MessageView → List ℕ → Type 0
+abbrev pub NamesIt : ℕ → MessageView → List ℕ → Type 0
 NamesIt place m accounts = list_any (λ other. other == place) accounts ≡ is_archived m
 
 -- ---- what is sent

@@ -53,13 +53,13 @@ texts_left run no_nodes = text_of-text_node run ∙ sym (append-nil run)
 texts_left run (child e rest) = text_of-joined (text_node run) (child e (texts_joined [] rest)) ∙ ap (λ t. t ++ text_of (texts_joined [] rest)) (text_of-text_node run) ∙ ap (λ t. run ++ t) (texts_left [] rest)
 texts_left run (text t rest) = texts_left (run ++ t) rest ∙ append_assoc run t (text_of rest)
 
+text_by : (given : Bool) (e : Elem) (kept : Nodes) (t : List ℕ) → text_of kept ≡ t → text_of (cond given kept (child e kept)) ≡ t
+text_by true e kept t is = is
+text_by false e kept t is = is
+
 kept_texts : (by : List ℕ) (ks : Nodes) → text_of (without_ids by ks) ≡ text_of ks
 kept_texts by no_nodes = refl
-kept_texts by (child e rest) = kept_child (is_given_by by e)
-  where
-    kept_child : (given : Bool) → text_of (cond given (without_ids by rest) (child e (without_ids by rest))) ≡ text_of rest
-    kept_child true = kept_texts by rest
-    kept_child false = kept_texts by rest
+kept_texts by (child e rest) = text_by (is_given_by by e) e (without_ids by rest) (text_of rest) (kept_texts by rest)
 kept_texts by (text t rest) = ap (λ (x : List ℕ). t ++ x) (kept_texts by rest)
 
 id_texts : (by : List ℕ) (number : Option ℕ) → text_of (id_node by number) ≡ []
@@ -88,15 +88,13 @@ elements_left run no_nodes = no_elements run
 elements_left run (child e rest) = behind_text run (child e (texts_joined [] rest)) ∙ ap (λ (es : List Elem). e ∷ es) (elements_left [] rest)
 elements_left run (text t rest) = elements_left (run ++ t) rest
 
+elements_by : (given : Bool) (e : Elem) (kept : Nodes) (es : List Elem) → elements_of kept ≡ es → elements_of (cond given kept (child e kept)) ≡ cond (not given) (e ∷ es) es
+elements_by true e kept es is = is
+elements_by false e kept es is = ap (λ (xs : List Elem). e ∷ xs) is
+
 kept_elements : (by : List ℕ) (ks : Nodes) → elements_of (without_ids by ks) ≡ filter (λ e. not (is_given_by by e)) (elements_of ks)
 kept_elements by no_nodes = refl
-kept_elements by (child e rest) = kept_child (is_given_by by e)
-  where
-    kept_child : (given : Bool)
-        → elements_of (cond given (without_ids by rest) (child e (without_ids by rest)))
-        ≡ cond (not given) (e ∷ filter (λ x. not (is_given_by by x)) (elements_of rest)) (filter (λ x. not (is_given_by by x)) (elements_of rest))
-    kept_child true = kept_elements by rest
-    kept_child false = ap (λ (es : List Elem). e ∷ es) (kept_elements by rest)
+kept_elements by (child e rest) = elements_by (is_given_by by e) e (without_ids by rest) (filter (λ x. not (is_given_by by x)) (elements_of rest)) (kept_elements by rest)
 kept_elements by (text t rest) = kept_elements by rest
 
 pub passed_elements : (by : List ℕ) (number : Option ℕ) (m : MessageView) → elements_of (nodes_of (passed_elem by number m)) ≡ filter (λ e. not (is_given_by by e)) (elements_of m.payload) ++ elements_of (id_node by number)
@@ -129,7 +127,7 @@ bodies_kept : (by : List ℕ) (es : List Elem) → filter is_body (filter (λ e.
 bodies_kept by [] = refl
 bodies_kept by (e ∷ es) =
     elim (cases_Bool (is_body e)) [
-      | inl body ↦ rw (body_no_given by e body, body, body) (ap (λ (xs : List Elem). e ∷ xs) (bodies_kept by es))
+      | inl body ↦ rw (body_no_given by e body, body) (ap (λ (xs : List Elem). e ∷ xs) (bodies_kept by es))
       | inr other ↦ rw other (elim (cases_Bool (is_given_by by e)) [ inl given ↦ rw given (bodies_kept by es) | inr kept ↦ rw (kept, other) (bodies_kept by es) ])
     ]
 

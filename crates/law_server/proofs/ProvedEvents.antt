@@ -304,13 +304,13 @@ module _ {A : Type 0} (say : ItemOut → A) (domain : List ℕ) (accounts : List
 
   login_proved : (k : ℕ) (c : Connection) → conn_at k (after_events say events (at_start domain accounts keep)).hall ≡ Some c
       → IsBackedBy (Came events) (HasProved say accounts (at_start domain accounts keep) events) accounts k c.phase
-  login_proved k c open = at_entry (StandsOn (Came events) (HasProved say accounts (at_start domain accounts keep) events) accounts) k c (after_events say events (at_start domain accounts keep)).hall.conns from_start.stands.logins open
+  login_proved k c opened = at_entry (StandsOn (Came events) (HasProved say accounts (at_start domain accounts keep) events) accounts) k c (after_events say events (at_start domain accounts keep)).hall.conns from_start.stands.logins opened
 
   pub restart_proved : (k account : ℕ) (c : Connection) → conn_at k (after_events say events (at_start domain accounts keep)).hall ≡ Some c → c.phase ≡ phase.Restart account → HasProved say accounts (at_start domain accounts keep) events k account
-  restart_proved k account c open is = subst (IsBackedBy (Came events) (HasProved say accounts (at_start domain accounts keep) events) accounts k) is (login_proved k c open)
+  restart_proved k account c opened is = subst (IsBackedBy (Came events) (HasProved say accounts (at_start domain accounts keep) events) accounts k) is (login_proved k c opened)
 
   pub ready_proved : (k account : ℕ) (c : Connection) → conn_at k (after_events say events (at_start domain accounts keep)).hall ≡ Some c → c.phase ≡ phase.Ready account → HasProved say accounts (at_start domain accounts keep) events k account
-  ready_proved k account c open is = subst (IsBackedBy (Came events) (HasProved say accounts (at_start domain accounts keep) events) accounts k) is (login_proved k c open)
+  ready_proved k account c opened is = subst (IsBackedBy (Came events) (HasProved say accounts (at_start domain accounts keep) events) accounts k) is (login_proved k c opened)
 
   pub session_proved : (k : ℕ) (t : Session A) → session_at k (after_events say events (at_start domain accounts keep)).hall.sessions ≡ Some t → HasProved say accounts (at_start domain accounts keep) events k t.shown.account
   session_proved k t found =

@@ -148,7 +148,7 @@ row_item say k item.Footer st h numbers = calm_row say k item.Footer st h _ (cal
 
 -- ---- the laws
 
-due_open : {A : Type 0} (say : ItemOut → A) (k : ℕ) (i : Item) (o : Option Standing) (h : Hall A) → HaveNumbers h → AllByRecursion (GoesWhereDue say k i h) (at_open say k i o h)
+pub due_open : {A : Type 0} (say : ItemOut → A) (k : ℕ) (i : Item) (o : Option Standing) (h : Hall A) → HaveNumbers h → AllByRecursion (GoesWhereDue say k i h) (at_open say k i o h)
 due_open say k i None h numbers = tt
 due_open say k i (Some st) h numbers = row_due say k i st h (at_item say k i st h) (row_item say k i st h numbers)
 

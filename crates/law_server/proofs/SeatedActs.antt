@@ -144,13 +144,13 @@ challenge_phase (phase.Ready a) n is = absurd (none-some n is)
 
 -- before a login no session is on the connection
 before_none : {A : Type 0} (k : ℕ) (c : Connection) (cs : List (ℕ × Connection)) (ss : List (Session A)) → lookup (is_number k) cs ≡ Some c → AllByRecursion (IsSeated cs) ss → IsBeforeReady (stage_of c.phase) → NoneAt k ss
-before_none {A = A} k c cs ss open seated before = none_found k ss (off (session_at k ss) refl)
+before_none {A = A} k c cs ss opened seated before = none_found k ss (off (session_at k ss) refl)
   where
     ready : (t : Session A) → session_at k ss ≡ Some t → ⊥
     ready t is =
         let found = found_has (IsSeated cs) (is_at k) ss t seated is in
         let there = found.1 k (conn_is k t.shown.conn found.0) in
-        let same : c ≡ there.0 = same_Some c there.0 (sym open ∙ there.1) in
+        let same : c ≡ there.0 = same_Some c there.0 (sym opened ∙ there.1) in
         subst IsBeforeReady (ap (λ (x : Connection). stage_of x.phase) same ∙ ap stage_of there.2) before
     off : (o : Option (Session A)) → session_at k ss ≡ o → session_at k ss ≡ None
     off None is = is
@@ -162,22 +162,22 @@ module _ {A : Type 0} (C : ℕ → List ℕ → Type 0) (P : ℕ → ℕ → Typ
 
   held_row : (acts : List (Act A)) → conn_at k s.hall ≡ Some c → HaveNumbers s.hall → ((p : Phase) → MayEnter k i (standing_of c) s.hall p → IsBackedBy C P accounts k p) → IsRow say k i (standing_of c) s.hall acts
       → Held C P accounts (IsBeforeReady (stage_of c.phase)) k s.hall → Held C P accounts (IsBeforeReady (stage_of c.phase)) k (acted say acts s).hall
-  held_row [] open numbers enters row held = held
-  held_row (steps.Bind account resource j ∷ acts) open numbers enters row held =
+  held_row [] opened numbers enters row held = held
+  held_row (steps.Bind account resource j ∷ acts) opened numbers enters row held =
       let seats = row.0 in
-      let ready = (c, open, ready_phase c.phase account seats.2) in
+      let ready = (c, opened, ready_phase c.phase account seats.2) in
       let bound = holds_bound C P accounts (IsBeforeReady (stage_of c.phase)) k s.hall.next account resource s.hall.sessions s.hall.conns (not_before account seats.2) (none_found k s.hall.sessions seats.1) ready held in
       held_calm C P accounts (IsBeforeReady (stage_of c.phase)) k say i (standing_of c) s.hall (λ b. b) enters acts (act say (steps.Bind account resource j) s) row.1
       (subst (λ (x : ℕ). Held C P accounts (IsBeforeReady (stage_of c.phase)) k (act say (steps.Bind account resource x) s).hall) (sym seats.0) bound)
-  held_row (steps.Resume previd account n j ∷ acts) open numbers enters row held =
+  held_row (steps.Resume previd account n j ∷ acts) opened numbers enters row held =
       let seats = row.0 in
-      let ready = (c, open, ready_phase c.phase account seats.2) in
+      let ready = (c, opened, ready_phase c.phase account seats.2) in
       let resumed =
       holds_resumed C P accounts (IsBeforeReady (stage_of c.phase)) k n s.hall.next account previd (session_resumed previd account s.hall.sessions) s.hall.sessions s.hall.conns refl (not_before account seats.2) numbers
       (none_found k s.hall.sessions seats.1) ready held in
       held_calm C P accounts (IsBeforeReady (stage_of c.phase)) k say i (standing_of c) s.hall (λ b. b) enters acts (act say (steps.Resume previd account n j) s) row.1
       (subst (λ (x : ℕ). Held C P accounts (IsBeforeReady (stage_of c.phase)) k (act say (steps.Resume previd account n x) s).hall) (sym seats.0) resumed)
-  held_row (a ∷ acts) open numbers enters row held =
+  held_row (a ∷ acts) opened numbers enters row held =
       held_calm C P accounts (IsBeforeReady (stage_of c.phase)) k say i (standing_of c) s.hall (λ b. b) enters (a ∷ acts) s row held
 
 -- ---- an item
@@ -220,18 +220,18 @@ abbrev pub Proves : {A : Type 0} → (ℕ → List ℕ → Type 0) → List Acco
 Proves C accounts k i h account = (entropy : List ℕ) × C k entropy × IsProof accounts entropy k account i h
 
 module _ {A : Type 0} (C : ℕ → List ℕ → Type 0) (P : ℕ → ℕ → Type 0) (accounts : List Account) (say : ItemOut → A) (k : ℕ) where
-  module _ (i : Item) (c : Connection) (h : Hall A) (open : conn_at k h ≡ Some c) (same : h.accounts ≡ accounts) where
+  module _ (i : Item) (c : Connection) (h : Hall A) (opened : conn_at k h ≡ Some c) (same : h.accounts ≡ accounts) where
     proof_of : (account : ℕ) → IsBackedBy C P accounts k c.phase → Answers k i h account → Proves C accounts k i h account
     proof_of account backed answers =
         let n = answers.n in
-        let in_hand : negotiation_in c.phase ≡ Some n = sym (ap (option_and_then negotiation_of) open) ∙ answers.in_hand in
+        let in_hand : negotiation_in c.phase ≡ Some n = sym (ap (option_and_then negotiation_of) opened) ∙ answers.in_hand in
         let awaited : c.phase ≡ phase.Challenge n = challenge_phase c.phase n in_hand in
         let exchange = subst (IsBackedBy C P accounts k) awaited backed in
         let right = (proofs_log_in n answers.element answers.login).0 answers.succeeds in
         let owner : n.account ≡ account = sym (ap (λ (l : LoginView). l.account) right.answers) ∙ answers.account_is in
         (exchange.0, exchange.1, record {
           conn = c;
-          open = open;
+          is_open = opened;
           exchange = n;
           awaited = awaited;
           begun = exchange.2;
@@ -251,13 +251,13 @@ module _ {A : Type 0} (C : ℕ → List ℕ → Type 0) (P : ℕ → ℕ → Typ
 
   stands_open : (i : Item) (s : Step A) (o : Option Connection) → conn_at k s.hall ≡ o → HaveNumbers s.hall → s.hall.accounts ≡ accounts → ((account : ℕ) → Proves C accounts k i s.hall account → P k account) → Stands C P accounts s.hall
       → Stands C P accounts (acted say (at_open say k i (option_map standing_of o) s.hall) s).hall
-  stands_open i s None open numbers same proves stands = stands
-  stands_open i s (Some c) open numbers same proves stands =
-      let backed = at_entry (StandsOn C P accounts) k c s.hall.conns stands.logins open in
-      let drawn = at_entry (WasDrawn C) k c s.hall.conns stands.drawn open in
+  stands_open i s None opened numbers same proves stands = stands
+  stands_open i s (Some c) opened numbers same proves stands =
+      let backed = at_entry (StandsOn C P accounts) k c s.hall.conns stands.logins opened in
+      let drawn = at_entry (WasDrawn C) k c s.hall.conns stands.drawn opened in
       let held : Held C P accounts (IsBeforeReady (stage_of c.phase)) k s.hall =
-      record { single = stands.single; seated = stands.seated; drawn = stands.drawn; logins = stands.logins; empty = λ b. before_none k c s.hall.conns s.hall.sessions open stands.seated b } in
-      let after = held_row C P accounts k say i c s (at_item say k i (standing_of c) s.hall) open numbers (enters_so i c s.hall open same backed drawn proves) (row_item say k i (standing_of c) s.hall numbers) held in
+      record { single = stands.single; seated = stands.seated; drawn = stands.drawn; logins = stands.logins; empty = λ b. before_none k c s.hall.conns s.hall.sessions opened stands.seated b } in
+      let after = held_row C P accounts k say i c s (at_item say k i (standing_of c) s.hall) opened numbers (enters_so i c s.hall opened same backed drawn proves) (row_item say k i (standing_of c) s.hall numbers) held in
       record { single = after.single; seated = after.seated; drawn = after.drawn; logins = after.logins; empty = λ b. absurd b }
 
   pub stands_item : (i : Item) (s : Step A) → HaveNumbers s.hall → s.hall.accounts ≡ accounts → ((account : ℕ) → Proves C accounts k i s.hall account → P k account) → Stands C P accounts s.hall → Stands C P accounts (after_item say k i s).hall
@@ -265,15 +265,15 @@ module _ {A : Type 0} (C : ℕ → List ℕ → Type 0) (P : ℕ → ℕ → Typ
 
   -- a fault of the stream
   fault_open : (f : Fault) (s : Step A) (o : Option Connection) → conn_at k s.hall ≡ o → HaveNumbers s.hall → s.hall.accounts ≡ accounts → Stands C P accounts s.hall → Stands C P accounts (acted say (at_fault say k f (option_map standing_of o) s.hall) s).hall
-  fault_open f s None open numbers same stands = stands
-  fault_open f s (Some c) open numbers same stands =
-      let backed = at_entry (StandsOn C P accounts) k c s.hall.conns stands.logins open in
-      let drawn = at_entry (WasDrawn C) k c s.hall.conns stands.drawn open in
+  fault_open f s None opened numbers same stands = stands
+  fault_open f s (Some c) opened numbers same stands =
+      let backed = at_entry (StandsOn C P accounts) k c s.hall.conns stands.logins opened in
+      let drawn = at_entry (WasDrawn C) k c s.hall.conns stands.drawn opened in
       let held : Held C P accounts (IsBeforeReady (stage_of c.phase)) k s.hall =
-      record { single = stands.single; seated = stands.seated; drawn = stands.drawn; logins = stands.logins; empty = λ b. before_none k c s.hall.conns s.hall.sessions open stands.seated b } in
+      record { single = stands.single; seated = stands.seated; drawn = stands.drawn; logins = stands.logins; empty = λ b. before_none k c s.hall.conns s.hall.sessions opened stands.seated b } in
       let acts = at_fault say k f (Some (standing_of c)) s.hall in
       let row = calm_row say k item.Footer (standing_of c) s.hall acts (calm_ending say k item.Footer (standing_of c) s.hall (fault_condition f.why)) in
-      let after = held_row C P accounts k say item.Footer c s acts open numbers (enters_so item.Footer c s.hall open same backed drawn (λ account proof. absurd (no_element proof.2.element proof.2.is))) row held in
+      let after = held_row C P accounts k say item.Footer c s acts opened numbers (enters_so item.Footer c s.hall opened same backed drawn (λ account proof. absurd (no_element proof.2.element proof.2.is))) row held in
       record { single = after.single; seated = after.seated; drawn = after.drawn; logins = after.logins; empty = λ b. absurd b }
 
   pub stands_fault : (f : Option Fault) (s : Step A) → HaveNumbers s.hall → s.hall.accounts ≡ accounts → Stands C P accounts s.hall → Stands C P accounts (after_fault say k f s).hall

@@ -74,12 +74,12 @@ all_removed Q k (e ∷ es) all =
 
 all_inserted : {V : Type 0} (Q : ℕ × V → Type 0) (k : ℕ) (v : V) (es : List (ℕ × V)) → Q (k, v) → AllByRecursion Q es → AllByRecursion Q (insert_entry nat_cmp es k v)
 all_inserted Q k v [] is all = (is, tt)
-all_inserted {V = V} Q k v (e ∷ es) is all = by (nat_cmp k e.0) refl
+all_inserted {V = V} Q k v (e ∷ es) is all = by (nat_cmp k e.0) refl (all_inserted Q k v es is all.1)
   where
-    by : (o : Ordering) → nat_cmp k e.0 ≡ o → AllByRecursion Q (match_ordering o ((k, v) ∷ e ∷ es) ((e.0, v) ∷ es) (e ∷ insert_entry nat_cmp es k v))
-    by Less found = (is, (all.0, all.1))
-    by Equal found = (subst (λ (n : ℕ). Q (n, v)) (exact_unsigned k e.0 found) is, all.1)
-    by Greater found = (all.0, all_inserted Q k v es is all.1)
+    by : (o : Ordering) → nat_cmp k e.0 ≡ o → AllByRecursion Q (insert_entry nat_cmp es k v) → AllByRecursion Q (match_ordering o ((k, v) ∷ e ∷ es) ((e.0, v) ∷ es) (e ∷ insert_entry nat_cmp es k v))
+    by Less found rest = (is, (all.0, all.1))
+    by Equal found rest = (subst (λ (n : ℕ). Q (n, v)) (exact_unsigned k e.0 found) is, all.1)
+    by Greater found rest = (all.0, rest)
 
 pub at_entry : {V : Type 0} (Q : ℕ × V → Type 0) (k : ℕ) (v : V) (es : List (ℕ × V)) → AllByRecursion Q es → lookup (is_number k) es ≡ Some v → Q (k, v)
 at_entry Q k v [] all found = absurd (none-some v found)
@@ -112,12 +112,13 @@ other_set j k v (e ∷ es) apart =
 
 other_inserted : {V : Type 0} (j k : ℕ) (v : V) (es : List (ℕ × V)) → is_number j k ≡ false → lookup (is_number j) (insert_entry nat_cmp es k v) ≡ lookup (is_number j) es
 other_inserted j k v [] apart = rw apart refl
-other_inserted {V = V} j k v (e ∷ es) apart = by (nat_cmp k e.0) refl
+other_inserted {V = V} j k v (e ∷ es) apart = by (nat_cmp k e.0) refl (other_inserted j k v es apart)
   where
-    by : (o : Ordering) → nat_cmp k e.0 ≡ o → lookup (is_number j) (match_ordering o ((k, v) ∷ e ∷ es) ((e.0, v) ∷ es) (e ∷ insert_entry nat_cmp es k v)) ≡ lookup (is_number j) (e ∷ es)
-    by Less found = rw apart refl
-    by Equal found = (let not_j : is_number j e.0 ≡ false = subst (λ n. is_number j n ≡ false) (exact_unsigned k e.0 found) apart in rw not_j refl)
-    by Greater found = elim (cases_Bool (is_number j e.0)) [ inl here ↦ rw here refl | inr other ↦ rw other (other_inserted j k v es apart) ]
+    by : (o : Ordering) → nat_cmp k e.0 ≡ o → lookup (is_number j) (insert_entry nat_cmp es k v) ≡ lookup (is_number j) es
+        → lookup (is_number j) (match_ordering o ((k, v) ∷ e ∷ es) ((e.0, v) ∷ es) (e ∷ insert_entry nat_cmp es k v)) ≡ lookup (is_number j) (e ∷ es)
+    by Less found rest = rw apart refl
+    by Equal found rest = (let not_j : is_number j e.0 ≡ false = subst (λ n. is_number j n ≡ false) (exact_unsigned k e.0 found) apart in rw not_j refl)
+    by Greater found rest = elim (cases_Bool (is_number j e.0)) [ inl here ↦ rw here refl | inr other ↦ rw other rest ]
 
 -- ---- sessions on a connection
 

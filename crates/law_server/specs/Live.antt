@@ -3,6 +3,7 @@ use Rattle.std.specs.Prelude.{◌≡◌, ◌⊎◌, ℕ, ◌+◌, Bool, true, fa
 use Rattle.std.specs.Option.{option_map}
 use Rattle.im_forwarding.specs.Copies.{CopyView, copy_item}
 use Rattle.im_forwarding.specs.Passed.{addressed, passed_item}
+use Rattle.im_replies.specs.Management.{request_item}
 use Rattle.im_replies.specs.Streams.{error_item}
 use Rattle.im_replies.specs.declared.conditions.StreamCondition.TheVariants.{Conflict, ResourceConstraint}
 use Rattle.im_stanza.specs.Views.{MessageView}
@@ -10,7 +11,7 @@ use Rattle.law_server.specs.Taken.{Reads, account_of}
 use Rattle.sm_live.specs.Sessions.{Session, session_at, session_of}
 use Rattle.srv_route.specs.Destinations.{destination_of}
 use Rattle.srv_route.specs.Messages.{is_archived}
-use Rattle.srv_state.specs.State.{Hall, Kept, archive_at, bare_address, session_address}
+use Rattle.srv_state.specs.State.{Hall, Kept, Out, Put, Shut, Took, archive_at, bare_address, session_address}
 use Rattle.srv_state.specs.Steps as steps
 use Rattle.srv_state.specs.Steps.{Act}
 use Rattle.xml_framer.specs.declared.items.Item.{Item}
@@ -104,3 +105,24 @@ abbrev pub GoesWhereDue : {A : Type 0} → (ItemOut → A) → ℕ → Item → 
 GoesWhereDue say k i h (steps.Say j a) = (j ≡ k) ⊎ IsParting say a
 GoesWhereDue say k i h (steps.Send n a) = IsItsSession k h n ⊎ IsLiveFor say k i h n a
 GoesWhereDue say k i h act = Unit {0}
+
+-- ---- what connections get
+
+-- What an item puts on a connection goes to its own, ends a stream, asks for a count (XEP-0198, section 4), or is live of
+-- the message that it is, for the session on that connection.
+pub data IsPut {A : Type 0} (say : ItemOut → A) (k : ℕ) (i : Item) (h : Hall A) (j : ℕ) (a : A) : Type 0 where
+  its_own : j ≡ k → IsPut say k i h j a
+  parting : IsParting say a → IsPut say k i h j a
+  asking : a ≡ say request_item → IsPut say k i h j a
+  live : (t : Session A) → session_of t.shown.number h.sessions ≡ Some t → t.shown.conn ≡ Some j → IsLive say k i h t a → IsPut say k i h j a
+
+abbrev pub ArrivesWhereDue : {A : Type 0} → (ItemOut → A) → ℕ → Item → Hall A → Out A → Type 0
+ArrivesWhereDue say k i h (Put j a) = IsPut say k i h j a
+ArrivesWhereDue say k i h (Shut j) = Unit {0}
+ArrivesWhereDue say k i h (Took from to origin) = Unit {0}
+
+-- it is put on this connection, or shuts it
+abbrev pub IsOn : {A : Type 0} → Option ℕ → Out A → Type 0
+IsOn conn (Put j a) = conn ≡ Some j
+IsOn conn (Shut j) = conn ≡ Some j
+IsOn conn (Took from to origin) = ⊥

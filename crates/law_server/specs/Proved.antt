@@ -35,7 +35,7 @@ pub record IsExchange (accounts : List Account) (entropy : List ℕ) (n : Negoti
 -- within the grammar, with the whole nonce and with the right proof for the account's stored key.
 pub record IsProof {A : Type 0} (accounts : List Account) (entropy : List ℕ) (k account : ℕ) (i : Item) (h : Hall A) : Type 0 where
   pub conn : Connection
-  pub open : conn_at k h ≡ Some conn
+  pub is_open : conn_at k h ≡ Some conn
   pub exchange : Negotiation
   pub awaited : conn.phase ≡ phase.Challenge exchange
   pub begun : IsExchange accounts entropy exchange

@@ -25,7 +25,7 @@ pub record IsReady {A : Type 0} (h : Hall A) (account : ℕ) (t : Session A) : T
 -- says. Both archives that it may go to can take an entry.
 pub record IsTaken {A : Type 0} (k : ℕ) (i : Item) (h : Hall A) (sender : Session A) (m : MessageView) (addressee : ℕ) : Type 0 where
   pub standing : Standing
-  pub open : standing_at k h ≡ Some standing
+  pub is_open : standing_at k h ≡ Some standing
   pub login : ℕ
   pub ready : standing.stage ≡ stage.Ready login
   pub is : IsMessageTo k i h sender m addressee

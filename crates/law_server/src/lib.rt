@@ -1,5 +1,6 @@
 //! Laws of a server's table, beside those of `srv_core`. A server of bytes is the image of a server of items at every event;
-//! and what it tells of messages that it took is what its archives get.
+//! what it tells of messages that it took is what its archives get; a message goes out live to the sessions that it is for,
+//! and to no other account; and a session is only where its account's password was proved.
 #![tactic(auto)]
 
 mod live_messages;
@@ -9,8 +10,8 @@ mod server_tables;
 mod told_takes;
 
 pub use live_messages::{
-    copies_have_the_message, messages_go_to_their_accounts, messages_reach_their_sessions,
-    what_is_passed_on_is_the_message, what_is_sent_is_put,
+    connections_get_what_is_theirs, copies_have_the_message, messages_go_to_their_accounts,
+    messages_reach_their_sessions, what_is_passed_on_is_the_message, what_is_sent_is_put,
 };
 pub use proved_logins::sessions_are_of_proved_accounts;
 pub use server_maps::{

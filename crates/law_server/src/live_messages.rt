@@ -1,5 +1,5 @@
 //! Laws of messages that go out live (RFC 6121, section 8.5; XEP-0280).
-ghost use Rattle.std.specs.Prelude.{◌≡◌, ◌≢◌, ◌⊎◌, ℕ, true, false, not, List, [], ◌∷◌, ◌++◌, All, Contains, None, Ok, Option, Some, codes, filter, length};
+ghost use Rattle.std.specs.Prelude.{◌≡◌, ◌≢◌, ◌⊎◌, ◌==◌, ℕ, true, false, not, List, [], ◌∷◌, ◌++◌, All, Contains, None, Ok, Option, Some, codes, filter, length};
 ghost use Rattle.im_extensions.specs.Given.{is_given_by};
 ghost use Rattle.im_extensions.specs.Carbons.{carbon_name};
 ghost use Rattle.im_extensions.specs.Forwarding.{delay_elem};
@@ -13,13 +13,13 @@ ghost use Rattle.im_stanza.specs.Stanzas.{attr_named};
 ghost use Rattle.im_stanza.specs.Views.{MessageView};
 ghost use Rattle.im_stanza.specs.Written.{unless_empty};
 ghost use Rattle.im_stanza.specs.declared.kinds.MessageKind.TheVariants.{Chat};
-ghost use Rattle.law_server.specs.Live.{GoesWhereDue, delivery};
+ghost use Rattle.law_server.specs.Live.{ArrivesWhereDue, GoesWhereDue, IsOn, delivery};
 ghost use Rattle.law_server.specs.Numbers.{HaveNumbers};
 ghost use Rattle.law_server.specs.Ready.{IsForUsers, IsReady, IsTaken};
 ghost use Rattle.sm_acks.specs.declared.end.TheConstants.{MOST_UNACKNOWLEDGED};
 ghost use Rattle.sm_live.specs.Sessions.{Session, session_named, session_of};
 ghost use Rattle.srv_core.specs.Events.{at_fault};
-ghost use Rattle.srv_core.specs.Table.{at_open};
+ghost use Rattle.srv_core.specs.Table.{after_item, at_open};
 ghost use Rattle.srv_route.specs.Destinations.{Bare, Full, destination_of};
 ghost use Rattle.srv_state.specs.State.{Hall, Out, Put, Step};
 ghost use Rattle.srv_state.specs.Steps.{Send, send};
@@ -42,10 +42,17 @@ pub fn messages_go_to_their_accounts<A>()
     ensures fault { (say : ItemOut → A) (k : ℕ) (i : Item) (f : Fault) (h : Hall A) → All (GoesWhereDue say k i h) (at_fault say k f (standing_at k h) h) }
 {}
 
+/// A law: so each connection gets what is for its session. What an item puts goes to its own connection, ends a stream,
+/// asks for a count (XEP-0198, section 4), or is live of the message that the item is, for the session on the connection
+/// that gets it: a session of the account that the message is to, or, for a copy as sent, of the one that sent it.
+pub fn connections_get_what_is_theirs<A>()
+    ensures { (say : ItemOut → A) (k : ℕ) (i : Item) (s : Step A) → HaveNumbers s.hall → (more : List (Out A)) × ((after_item say k i s).outs ≡ s.outs ++ more) × All (ArrivesWhereDue say k i s.hall) more }
+{}
+
 /// A law: what is passed on of a message is that message. It has its addresses, its id, its type and its language, and of
 /// what it contains all texts and all elements, the bodies among them, in their order, but for ids that a client may take
 /// for ones that the account gave; last comes the id of the account's archive, where that has the message (XEP-0359,
-/// section 5). The account's bare address is in normal form, as each account's is.
+/// section 5).
 pub fn what_is_passed_on_is_the_message()
     ensures named { (by : List ℕ) (number : Option ℕ) (m : MessageView) → is_named client_ns (codes "message") (passed_elem by number m) ≡ true }
     ensures from { (by : List ℕ) (number : Option ℕ) (m : MessageView) → attr_named (codes "from") (passed_elem by number m) ≡ m.from }
@@ -86,10 +93,16 @@ pub fn messages_reach_their_sessions<A>()
         → Contains (at_open say k i (standing_at k h) h) (Send t.shown.number (say (delivery sender m account h))) }
 {}
 
-/// A law: what is sent to a session is put on its connection, where it has one, and waits in it where its stanzas are
-/// counted, behind what waited there (XEP-0198, section 4), unless as many wait as may. Nothing of it is put on another
-/// connection, and it waits in no other session.
+/// A law: what is sent to a session is put on its connection, where it has one, and where its stanzas are counted it waits
+/// in the session, behind what waited there (XEP-0198, section 4), unless as many wait as may. Nothing that comes of it is
+/// put on another connection, and it waits in no other session.
 pub fn what_is_sent_is_put<A>()
     ensures put { (say : ItemOut → A) (n j : ℕ) (a : A) (t : Session A) (s : Step A) → session_of n s.hall.sessions ≡ Some t → t.shown.conn ≡ Some j → (t.shown.counted ≡ false) ⊎ (length t.waiting ≢ MOST_UNACKNOWLEDGED)
         → (more : List (Out A)) × ((send say n a s).outs ≡ s.outs ++ Put j a ∷ more) }
+    ensures waits { (say : ItemOut → A) (n : ℕ) (a : A) (t : Session A) (s : Step A) → session_of n s.hall.sessions ≡ Some t → t.shown.counted ≡ true → length t.waiting ≢ MOST_UNACKNOWLEDGED
+        → (u : Session A) × (session_of n (send say n a s).hall.sessions ≡ Some u) × (u.waiting ≡ t.waiting ++ a ∷ []) }
+    ensures only { (say : ItemOut → A) (n : ℕ) (a : A) (t : Session A) (s : Step A) → session_of n s.hall.sessions ≡ Some t
+        → (more : List (Out A)) × ((send say n a s).outs ≡ s.outs ++ more) × All (IsOn t.shown.conn) more }
+    ensures others { (say : ItemOut → A) (m n : ℕ) (a : A) (t : Session A) (s : Step A) → session_of n s.hall.sessions ≡ Some t → (m == n) ≡ false → (t.shown.counted ≡ false) ⊎ (length t.waiting ≢ MOST_UNACKNOWLEDGED)
+        → session_of m (send say n a s).hall.sessions ≡ session_of m s.hall.sessions }
 {}

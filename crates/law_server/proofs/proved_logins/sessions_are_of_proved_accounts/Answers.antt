@@ -4,6 +4,6 @@ use Rattle.law_server.proofs.proved_logins.sessions_are_of_proved_accounts.Goals
 pub returns : goal.returns
 returns g c = record {
   session = λ say domain accounts keep events k t may found. session_proved say domain accounts keep events may k t found;
-  restart = λ say domain accounts keep events k account x may open is. restart_proved say domain accounts keep events may k account x open is;
-  ready = λ say domain accounts keep events k account x may open is. ready_proved say domain accounts keep events may k account x open is;
+  restart = λ say domain accounts keep events k account x may opened is. restart_proved say domain accounts keep events may k account x opened is;
+  ready = λ say domain accounts keep events k account x may opened is. ready_proved say domain accounts keep events may k account x opened is;
 }
