@@ -94,8 +94,8 @@ module _ {A : Type 0} (say : ItemOut → A) (h : Hall A) (sender : Session A) (m
     has_sent None more is = absurd (none-some t is)
     has_sent (Some u) more is =
         let same : u.shown.account ≡ account = ap (λ (x : Session A). x.shown.account) (same_Some u t is) ∙ owner in
-        inl (ap (λ (x : ℕ). Send {A = A} (number_of t) (say (passed_item (bare_address x h) (number_in x accounts h) (going_on sender m h)))) same
-        ∙ ap (λ (n : Option ℕ). Send {A = A} (number_of t) (say (passed_item (bare_address account h) n (going_on sender m h)))) (number_is account m accounts h named))
+        inl (ap (λ (x : ℕ). Send (number_of t) (say (passed_item (bare_address x h) (number_in x accounts h) (going_on sender m h)))) same
+        ∙ ap (λ (n : Option ℕ). Send (number_of t) (say (passed_item (bare_address account h) n (going_on sender m h)))) (number_is account m accounts h named))
 
     has_behind : (n : ℕ) (o : Option Told) (more : List (Act A)) → Has given more → Has given (delivering_to say (going_on sender m h) accounts n o h more)
     has_behind n None more has = has

@@ -1,5 +1,5 @@
 -- What any item leads to is a row: it goes where it is due, and logs nobody in without a proof.
-use Rattle.std.proofs.Common.{◌≡◌, ℕ, Bool, true, false, cond, List, Option, Some, None, Result, Ok, Err, codes, refl, sym, ap, subst, inl, inr}
+use Rattle.std.proofs.Common.{◌≡◌, ℕ, Bool, true, false, cond, List, ◌∷◌, Option, Some, None, Result, Ok, Err, codes, refl, sym, ap, subst, inl, inr}
 use Rattle.std.proofs.lemmas.List.Elements.{All-from_recursion}
 use Rattle.std.specs.List.{All, AllByRecursion}
 use Rattle.std.specs.Option.{option_map}
@@ -29,7 +29,7 @@ use Rattle.srv_state.specs.State.{Hall}
 use Rattle.srv_state.specs.Steps as steps
 use Rattle.srv_state.specs.Steps.{Act}
 use Rattle.srv_state.specs.Streams.{standing_at}
-use Rattle.srv_state.specs.Words.{if_read, is_bad_management, is_bad_sasl, is_long, is_stanza, management_word, other_word, resume_word, sasl_word, word_of}
+use Rattle.srv_state.specs.Words.{if_read, is_bad_management, is_bad_sasl, is_stanza, is_stream_error, management_word, resume_word, sasl_word, word_of}
 use Rattle.srv_state.specs.declared.connection.Stage.{Stage}
 use Rattle.srv_state.specs.declared.connection.Stage.TheVariants as stage
 use Rattle.srv_state.specs.declared.connection.Standing.{Standing}
@@ -61,7 +61,7 @@ response_sasl e =
     response_either e (is_sasl (codes "auth") e) _ _ tt
     (response_either e (is_sasl (codes "response") e) _ _ refl
     (response_either e (is_sasl (codes "abort") e) _ _ tt
-    (response_either e (is_bad_sasl e) _ _ tt (response_either e _ _ _ tt tt))))
+    (response_either e (is_bad_sasl e) _ _ tt (response_either e (is_stream_error e) word.StreamError word.Other tt tt))))
 
 response_resume : (e : Elem) → IsResponseOf e (resume_word e)
 unfolding resume_word

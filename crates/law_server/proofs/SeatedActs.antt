@@ -165,13 +165,13 @@ module _ {A : Type 0} (C : ℕ → List ℕ → Type 0) (P : ℕ → ℕ → Typ
   held_row [] opened numbers enters row held = held
   held_row (steps.Bind account resource j ∷ acts) opened numbers enters row held =
       let seats = row.0 in
-      let ready = (c, opened, ready_phase c.phase account seats.2) in
+      let ready : IsReadyAt k account s.hall.conns = (c, opened, ready_phase c.phase account seats.2) in
       let bound = holds_bound C P accounts (IsBeforeReady (stage_of c.phase)) k s.hall.next account resource s.hall.sessions s.hall.conns (not_before account seats.2) (none_found k s.hall.sessions seats.1) ready held in
       held_calm C P accounts (IsBeforeReady (stage_of c.phase)) k say i (standing_of c) s.hall (λ b. b) enters acts (act say (steps.Bind account resource j) s) row.1
       (subst (λ (x : ℕ). Held C P accounts (IsBeforeReady (stage_of c.phase)) k (act say (steps.Bind account resource x) s).hall) (sym seats.0) bound)
   held_row (steps.Resume previd account n j ∷ acts) opened numbers enters row held =
       let seats = row.0 in
-      let ready = (c, opened, ready_phase c.phase account seats.2) in
+      let ready : IsReadyAt k account s.hall.conns = (c, opened, ready_phase c.phase account seats.2) in
       let resumed =
       holds_resumed C P accounts (IsBeforeReady (stage_of c.phase)) k n s.hall.next account previd (session_resumed previd account s.hall.sessions) s.hall.sessions s.hall.conns refl (not_before account seats.2) numbers
       (none_found k s.hall.sessions seats.1) ready held in

@@ -21,7 +21,7 @@ use Rattle.xml_writer.specs.Items.{Closing, ItemOut}
 
 put_out : {A : Type 0} (o : Option ℕ) (j : ℕ) (a : A) (s : Step A) → o ≡ Some j → (put_where o a s).outs ≡ s.outs ++ Put j a ∷ []
 put_out None j a s is = absurd (none-some j is)
-put_out {A = A} (Some i) j a s is = ap (λ (x : ℕ). s.outs ++ Put {A = A} x a ∷ []) (same_Some i j is)
+put_out {A = A} (Some i) j a s is = ap (λ (x : ℕ). s.outs ++ Put x a ∷ []) (same_Some i j is)
 
 -- outputs on a connection are added
 abbrev Adds : {A : Type 0} → Option ℕ → Step A → Step A → Type 0

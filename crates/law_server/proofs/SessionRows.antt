@@ -37,7 +37,7 @@ use Rattle.srv_handlers.specs.Resumptions.{asking, at_resume, resent_where, resu
 use Rattle.srv_state.specs.State.{Hall}
 use Rattle.srv_state.specs.Steps as steps
 use Rattle.srv_state.specs.Steps.{Act}
-use Rattle.srv_state.specs.Streams.{parting_where}
+use Rattle.srv_state.specs.Streams.{at_any, parting_where}
 use Rattle.srv_state.specs.declared.connection.Stage.TheVariants as stage
 use Rattle.srv_state.specs.declared.connection.Standing.{Standing}
 use Rattle.srv_state.specs.declared.limits.TheConstants.{ASKS_AT}
@@ -113,7 +113,7 @@ module _ {A : Type 0} (say : ItemOut → A) (k : ℕ) (i : Item) (st : Standing)
   row_ready account (word.Response e bad) none ready = ended_row _ (calm_any say k i st h (word.Response e bad))
   row_ready account word.Abort none ready = ended_row _ (calm_any say k i st h word.Abort)
   row_ready account word.BadField none ready = ended_row _ (calm_any say k i st h word.BadField)
-  row_ready account word.StreamError none ready = ended_row _ (calm_any say k i st h word.StreamError)
+  row_ready account word.StreamError none ready = ended_row (at_any say k word.StreamError st h) (calm_any say k i st h word.StreamError)
   row_ready account word.Other none ready = ended_row _ (calm_any say k i st h word.Other)
 
   -- ---- where one is
