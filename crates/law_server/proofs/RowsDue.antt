@@ -28,7 +28,7 @@ use Rattle.srv_core.specs.Table.{at_item, at_open, at_word}
 use Rattle.srv_state.specs.State.{Hall}
 use Rattle.srv_state.specs.Steps as steps
 use Rattle.srv_state.specs.Steps.{Act}
-use Rattle.srv_state.specs.Streams.{standing_at}
+use Rattle.srv_state.specs.Streams.{closing, standing_at}
 use Rattle.srv_state.specs.Words.{if_read, is_bad_management, is_bad_sasl, is_stanza, is_stream_error, management_word, resume_word, sasl_word, word_of}
 use Rattle.srv_state.specs.declared.connection.Stage.{Stage}
 use Rattle.srv_state.specs.declared.connection.Stage.TheVariants as stage
@@ -144,7 +144,7 @@ module _ {A : Type 0} (say : ItemOut → A) (k : ℕ) (e : Elem) (st : Standing)
 pub row_item : {A : Type 0} (say : ItemOut → A) (k : ℕ) (i : Item) (st : Standing) (h : Hall A) → HaveNumbers h → IsRow say k i st h (at_item say k i st h)
 row_item say k (item.Header at header) st h numbers = calm_row say k (item.Header at header) st h _ (calm_header say k (item.Header at header) st h header)
 row_item say k (item.Element e) st h numbers = row_word say k e st h numbers st.stage refl
-row_item say k item.Footer st h numbers = calm_row say k item.Footer st h _ (calm_closing say k item.Footer st h)
+row_item say k item.Footer st h numbers = calm_row say k item.Footer st h (closing say k) (calm_closing say k item.Footer st h)
 
 -- ---- the laws
 
