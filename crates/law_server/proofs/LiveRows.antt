@@ -1,37 +1,35 @@
 -- The row on messages: what goes out goes to the accounts that the message is to and from.
-use Rattle.std.proofs.Common.{◌≡◌, ◌⊎◌, ℕ, ◌+◌, ◌≤◌, ◌<◌, ◌==◌, ◌||◌, Bool, true, false, not, ◌&&◌, cond, List, [], ◌∷◌, Option, Some, None, map, refl, sym, ap, subst, ◌∙◌, inl, inr}
+use Rattle.std.proofs.Common.{◌≡◌, ℕ, ◌+◌, ◌==◌, ◌||◌, Bool, true, false, not, ◌&&◌, cond, List, [], ◌∷◌, Option, Some, None, map, refl, sym, ap, subst, ◌∙◌, inl, inr}
 use Rattle.std.proofs.lemmas.Bool.{and_parts, cases_Bool, eq-eqb, eqb-true}
 use Rattle.std.proofs.lemmas.Option.{none-some, same_Some}
 use Rattle.std.specs.List.{AllByRecursion, filter, find, list_any}
 use Rattle.std.specs.Option.{option_map, unwrap_or}
-use Rattle.im_forwarding.specs.Copies.{CopyView, copy_item}
-use Rattle.im_forwarding.specs.Passed.{addressed, passed_item}
+use Rattle.im_forwarding.specs.Copies.{copy_item}
+use Rattle.im_forwarding.specs.Passed.{passed_item}
 use Rattle.im_messages.specs.Entries.{entry_of}
 use Rattle.im_stanza.specs.Kinds.{answers_message}
 use Rattle.im_stanza.specs.Views.{MessageView}
 use Rattle.im_stanza.specs.declared.conditions.Condition.{Condition}
 use Rattle.im_stanza.specs.declared.conditions.Condition.TheVariants.{RemoteServerNotFound, ServiceUnavailable}
-use Rattle.im_stanza.specs.declared.kinds.MessageKind.{MessageKind}
 use Rattle.law_server.proofs.Rows.{AreCalm}
 use Rattle.law_server.proofs.SessionRows.{calm_either, its}
-use Rattle.law_server.specs.Live.{as_received, as_sent, copy, copy_of, delivery, going_on, itself, next_in, number_for}
+use Rattle.law_server.specs.Live.{as_received, as_sent, copy, going_on, itself, next_in, number_for}
 use Rattle.law_server.specs.Numbers.{HaveNumbers, Rise}
 use Rattle.law_server.specs.Taken.{Reads, account_of}
 use Rattle.mam_archive.specs.Entries.{EntryView}
 use Rattle.sm_live.specs.Rule.{RisesTo}
-use Rattle.sm_live.specs.Sessions.{Session, is_named, is_of, number_of, session_at, session_named, session_of, sessions_of, told, told_of}
+use Rattle.sm_live.specs.Sessions.{Session, is_named, is_of, number_of, session_at, session_named, session_of, sessions_of, told}
 use Rattle.sm_live.specs.declared.told.Told.{Told}
-use Rattle.sm_resumption.specs.declared.session.SessionView.{SessionView}
-use Rattle.srv_handlers.specs.Messages.{archiving, at_message, bouncing, carrying, copy_for, copying, copying_to, delivering, delivering_to, is_full_in, messaging, no_room, number_behind, number_in, telling}
+use Rattle.srv_handlers.specs.Messages.{archiving, at_message, carrying, copy_for, copying, copying_to, delivering, delivering_to, is_full_in, messaging, number_behind, number_in, telling}
 use Rattle.srv_route.proofs.Chosen.{AreFound, all_found}
 use Rattle.srv_route.specs.Destinations.{Bare, Destination, Full, NoUser, RemoteDomain, destination_of}
 use Rattle.srv_route.specs.Messages.{is_archived, is_chat, is_copied, is_for_users}
-use Rattle.srv_route.specs.Plans.{archiving_of, copied_of, dropped, having_it, is_ready, plan_of, planned, ready_of, received_copies, refused, routed, sent_copies, to_bare, to_full, to_user, wants_copy}
+use Rattle.srv_route.specs.Plans.{archiving_of, copied_of, dropped, having_it, is_ready, planned, ready_of, refused, routed, to_bare, to_full, to_user, wants_copy}
 use Rattle.srv_route.specs.Routes.{Bounced, PlanOf, RouteOf, Routed, archives_of, plan_renamed, renamed}
 use Rattle.srv_route.specs.declared.archiving.Archiving.{Archiving}
 use Rattle.srv_route.specs.declared.archiving.Archiving.TheVariants.{Both, Nowhere, Once}
 use Rattle.srv_state.specs.State.{Hall, Kept, archive_at, bare_address, session_address}
-use Rattle.srv_state.specs.Steps.{Act, Send}
+use Rattle.srv_state.specs.Steps.{Act}
 use Rattle.srv_state.specs.declared.connection.Standing.{Standing}
 use Rattle.xml_framer.specs.declared.items.Item.{Item}
 use Rattle.xml_writer.specs.Items.{ItemOut}
@@ -188,12 +186,17 @@ module _ {A : Type 0} (say : ItemOut → A) (k : ℕ) (i : Item) (st : Standing)
         let owner : u.shown.account ≡ addressee = ap (λ (x : Session A). x.shown.account) (same_Some u s is) ∙ of.1 in
         let text =
         ap (λ (x : ℕ). say (passed_item (bare_address x h) (number_in x accounts h) (going_on sender m h))) owner
-        ∙ ap (λ (n : Option ℕ). say (passed_item (bare_address addressee h) n (going_on sender m h))) (number_is addressee m accounts h named) in
-        ((inr (record {
-          recipient = s;
-          lives = of.0;
-          gets = record { sender = sender; message = m; addressee = addressee; is = record { is_on = on; reads = reads; names = names }; given = itself of.1 text };
-        }), tt), rest)
+        ∙ ap (λ (n : Option ℕ). say (passed_item (bare_address addressee h) n (going_on sender m h))) (number_is addressee m accounts h named) in (
+          (
+            inr (record {
+              recipient = s;
+              lives = of.0;
+              gets = record { sender = sender; message = m; addressee = addressee; is = record { is_on = on; reads = reads; names = names }; given = itself of.1 text };
+            }),
+            tt,
+          ),
+          rest,
+        )
 
     calm_delivering : NamesIt addressee m accounts → (ss : List (Session A)) (more : List (Act A)) → AllByRecursion (IsLiveOf h.sessions addressee) ss → AreCalm say k i st h more
         → AreCalm say k i st h (delivering say (going_on sender m h) accounts (map number_of ss) h more)
@@ -211,12 +214,17 @@ module _ {A : Type 0} (say : ItemOut → A) (k : ℕ) (i : Item) (st : Standing)
         → AreCalm say k i st h (copying_to say true (going_on sender m h) accounts (number_of s) (option_map told o) h more)
     calm_sent_copy named s None more is of rest = absurd (none-some s is)
     calm_sent_copy named s (Some u) more is of rest =
-        let owner : u.shown.account ≡ sender.shown.account = ap (λ (x : Session A). x.shown.account) (same_Some u s is) ∙ of.1 in
-        ((inr (record {
-          recipient = s;
-          lives = of.0;
-          gets = record { sender = sender; message = m; addressee = addressee; is = record { is_on = on; reads = reads; names = names }; given = as_sent of.1 of.2 (ap say (copy_is true sender.shown.account s u named owner)) };
-        }), tt), rest)
+        let owner : u.shown.account ≡ sender.shown.account = ap (λ (x : Session A). x.shown.account) (same_Some u s is) ∙ of.1 in (
+          (
+            inr (record {
+              recipient = s;
+              lives = of.0;
+              gets = record { sender = sender; message = m; addressee = addressee; is = record { is_on = on; reads = reads; names = names }; given = as_sent of.1 of.2 (ap say (copy_is true sender.shown.account s u named owner)) };
+            }),
+            tt,
+          ),
+          rest,
+        )
 
     calm_sent_copies : NamesIt sender.shown.account m accounts → (ss : List (Session A)) (more : List (Act A)) → AllByRecursion (WantsCopy h.sessions sender.shown.account) ss → AreCalm say k i st h more
         → AreCalm say k i st h (copying say true (going_on sender m h) accounts (map number_of ss) h more)
@@ -228,12 +236,17 @@ module _ {A : Type 0} (say : ItemOut → A) (k : ℕ) (i : Item) (st : Standing)
         → AreCalm say k i st h (copying_to say false (going_on sender m h) accounts (number_of s) (option_map told o) h more)
     calm_received_copy named s None more is of rest = absurd (none-some s is)
     calm_received_copy named s (Some u) more is of rest =
-        let owner : u.shown.account ≡ addressee = ap (λ (x : Session A). x.shown.account) (same_Some u s is) ∙ of.1 in
-        ((inr (record {
-          recipient = s;
-          lives = of.0;
-          gets = record { sender = sender; message = m; addressee = addressee; is = record { is_on = on; reads = reads; names = names }; given = as_received of.1 of.2 (ap say (copy_is false addressee s u named owner)) };
-        }), tt), rest)
+        let owner : u.shown.account ≡ addressee = ap (λ (x : Session A). x.shown.account) (same_Some u s is) ∙ of.1 in (
+          (
+            inr (record {
+              recipient = s;
+              lives = of.0;
+              gets = record { sender = sender; message = m; addressee = addressee; is = record { is_on = on; reads = reads; names = names }; given = as_received of.1 of.2 (ap say (copy_is false addressee s u named owner)) };
+            }),
+            tt,
+          ),
+          rest,
+        )
 
     calm_received_copies : NamesIt addressee m accounts → (ss : List (Session A)) (more : List (Act A)) → AllByRecursion (WantsCopy h.sessions addressee) ss → AreCalm say k i st h more
         → AreCalm say k i st h (copying say false (going_on sender m h) accounts (map number_of ss) h more)

@@ -1,5 +1,5 @@
 -- The rows of streams and logins: each puts on its own connection, and enters a phase that its standing allows.
-use Rattle.std.proofs.Common.{◌≡◌, ◌⊎◌, ℕ, ◌+◌, suc, Bool, true, false, cond, List, [], ◌∷◌, Option, Some, None, Result, Ok, Err, refl, sym, ap, subst, ◌∙◌, arith, inl, inr}
+use Rattle.std.proofs.Common.{◌≡◌, ℕ, ◌+◌, suc, Bool, true, false, cond, List, [], ◌∷◌, Option, Some, None, Result, Ok, Err, refl, ap, subst, ◌∙◌, arith, inl, inr}
 use Rattle.std.proofs.lemmas.Bool.{cases_Bool, false≢true}
 use Rattle.std.specs.List.{slice_get}
 use Rattle.std.specs.Option.{IfSome, option_map}
@@ -14,7 +14,7 @@ use Rattle.im_payload.specs.declared.fault.ExtFault.{ExtFault}
 use Rattle.im_replies.specs.Streams.{error_item}
 use Rattle.im_replies.specs.declared.conditions.StreamCondition.{StreamCondition}
 use Rattle.im_replies.specs.declared.conditions.StreamCondition.TheVariants as stream
-use Rattle.law_server.proofs.Rows.{Answers, AreCalm, IsBeforeReady}
+use Rattle.law_server.proofs.Rows.{AreCalm, IsBeforeReady}
 use Rattle.law_server.specs.Proved.{IsExchange}
 use Rattle.srv_login.specs.Accounts.{FoundView, account_from, account_named}
 use Rattle.srv_login.specs.Headers.{header_answer}

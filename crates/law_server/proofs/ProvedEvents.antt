@@ -1,23 +1,23 @@
 -- Over any events, sessions stay on connections on which their account's password was proved.
-use Rattle.std.proofs.Common.{◌≡◌, ◌⊎◌, ℕ, Bool, true, false, List, [], ◌∷◌, ◌++◌, Option, Some, None, take, drop, append-nil, append_assoc, max, not, refl, sym, ap, subst, ◌∙◌, inl, inr}
+use Rattle.std.proofs.Common.{◌≡◌, ◌⊎◌, ℕ, true, false, List, [], ◌∷◌, ◌++◌, Option, Some, None, take, drop, append-nil, append_assoc, max, not, refl, sym, ap, subst, ◌∙◌, inl, inr}
 use Rattle.std.proofs.lemmas.Bool.{cases_Bool, false≢true}
 use Rattle.std.proofs.lemmas.List.{take-append-drop}
 use Rattle.std.specs.List.{AllByRecursion}
 use Rattle.law_server.proofs.LiveRows.{found_has}
 use Rattle.law_server.proofs.PieceTakes.{bytes_take, item_takes, items_take}
 use Rattle.law_server.proofs.SeatedActs.{Proves, Stands, any_of, drawn_more, logins_more, stands_fault, stands_item, stands_more}
-use Rattle.law_server.proofs.Seats.{IsBackedBy, IsSeated, StandsOn, WasDrawn, at_entry, conn_is, holds_fresh, holds_gone, holds_some, none_there, number_same}
+use Rattle.law_server.proofs.Seats.{IsBackedBy, IsSeated, StandsOn, at_entry, conn_is, holds_fresh, holds_gone, holds_some, none_there, number_same}
 use Rattle.law_server.proofs.SoundEvents.{sound_at_moment, sound_at_start, sound_connect, sound_gone, sound_gone_now}
-use Rattle.law_server.specs.Happenings.{Brings, Comes, Event, Goes, IsBringing, MayFollow, MayHappen, Passes, Stops, after_event, after_events, after_stop, all_taken, some_taken}
-use Rattle.law_server.specs.Proved.{BringsProof, HasProved, IsProof, comes}
+use Rattle.law_server.specs.Events.{Bytes, Connect, Event, Gone, Run, Stop, Tick, after_event, after_events, stopped_in}
+use Rattle.law_server.specs.Happenings.{IsBringing, MayFollow, MayHappen, all_taken, comes, some_taken}
+use Rattle.law_server.specs.Proved.{BringsProof, HasProved, IsProof, at_first}
 use Rattle.law_server.specs.Sound.{IsSound}
 use Rattle.sm_live.specs.Sessions.{Session, is_at, is_expired, session_at}
-use Rattle.srv_core.specs.Configs.{at_start}
-use Rattle.srv_core.specs.Events.{Whole, after_bytes, after_fault, after_turn, at_piece, begun, framer_at, turn_of}
+use Rattle.srv_core.specs.Events.{after_bytes, at_piece, begun, framer_at, turn_of}
 use Rattle.srv_core.specs.Table.{after_item, after_items}
 use Rattle.srv_login.specs.declared.account.Account.{Account}
-use Rattle.srv_state.specs.Moments.{at_moment, fresh_conn, gone_at, with_fresh}
-use Rattle.srv_state.specs.State.{Hall, Out, Step, conn_at, is_number}
+use Rattle.srv_state.specs.Moments.{at_moment, fresh_conn, gone_at}
+use Rattle.srv_state.specs.State.{Hall, Step, conn_at, is_number}
 use Rattle.srv_state.specs.declared.connection.Connection.{Connection}
 use Rattle.srv_state.specs.declared.connection.Phase.TheVariants as phase
 use Rattle.xml_framer.specs.States as framing
@@ -81,35 +81,35 @@ module _ {A : Type 0} (C : ℕ → List ℕ → Type 0) (accounts : List Account
 -- ---- what came before
 
 -- the connection came last with these bytes drawn for it
-record Came {A : Type 0} (events : List (Event A)) (k : ℕ) (entropy : List ℕ) : Type 0 where
-  before : List (Event A)
+record Came (events : List Event) (k : ℕ) (entropy : List ℕ) : Type 0 where
+  before : List Event
   moment : ℕ
-  since : List (Event A)
-  are : events ≡ before ++ Comes k entropy moment ∷ since
-  last : AllByRecursion (λ (e : Event A). comes k e ≡ false) since
+  since : List Event
+  are : events ≡ before ++ Connect k entropy moment ∷ since
+  last : AllByRecursion (λ (e : Event). comes k e ≡ false) since
 
 all_more : {T : Type 0} (P : T → Type 0) (ts : List T) (t : T) → AllByRecursion P ts → P t → AllByRecursion P (ts ++ t ∷ [])
 all_more P [] t all is = (is, tt)
 all_more P (x ∷ ts) t all is = (all.0, all_more P ts t all.1 is)
 
-came_more : {A : Type 0} (events : List (Event A)) (k : ℕ) (entropy : List ℕ) (e : Event A) → comes k e ≡ false → Came events k entropy → Came (events ++ e ∷ []) k entropy
-came_more {A = A} events k entropy e other came = record {
+came_more : (events : List Event) (k : ℕ) (entropy : List ℕ) (e : Event) → comes k e ≡ false → Came events k entropy → Came (events ++ e ∷ []) k entropy
+came_more events k entropy e other came = record {
   before = came.before;
   moment = came.moment;
   since = came.since ++ e ∷ [];
-  are = ap (λ (es : List (Event A)). es ++ e ∷ []) came.are ∙ append_assoc came.before (Comes k entropy came.moment ∷ came.since) (e ∷ []);
-  last = all_more (λ (x : Event A). comes k x ≡ false) came.since e came.last other;
+  are = ap (λ (es : List Event). es ++ e ∷ []) came.are ∙ append_assoc came.before (Connect k entropy came.moment ∷ came.since) (e ∷ []);
+  last = all_more (λ (x : Event). comes k x ≡ false) came.since e came.last other;
 }
 
 -- what is so behind these events
-record Follows {A : Type 0} (say : ItemOut → A) (accounts : List Account) (start : Whole A) (events : List (Event A)) (w : Whole A) : Type 0 where
-  is : w ≡ after_events say events start
-  sound : IsSound w.hall
-  same : w.hall.accounts ≡ accounts
-  stands : Stands (Came events) (HasProved say accounts start events) accounts w.hall
+record Follows {A : Type 0} (say : ItemOut → A) (accounts : List Account) (start : Run A) (events : List Event) (r : Run A) : Type 0 where
+  is : r ≡ after_events say events start
+  sound : IsSound r.server.hall
+  same : r.server.hall.accounts ≡ accounts
+  stands : Stands (Came events) (HasProved say accounts start events) accounts r.server.hall
 
-module _ {A : Type 0} (say : ItemOut → A) (accounts : List Account) (start : Whole A) where
-  proved_more : (events : List (Event A)) (k account : ℕ) (e : Event A) → comes k e ≡ false → HasProved say accounts start events k account → HasProved say accounts start (events ++ e ∷ []) k account
+module _ {A : Type 0} (say : ItemOut → A) (accounts : List Account) (start : Run A) where
+  proved_more : (events : List Event) (k account : ℕ) (e : Event) → comes k e ≡ false → HasProved say accounts start events k account → HasProved say accounts start (events ++ e ∷ []) k account
   proved_more events k account e other proved =
       let joins = append_assoc proved.between (proved.event ∷ proved.later) (e ∷ []) in
       record {
@@ -119,24 +119,23 @@ module _ {A : Type 0} (say : ItemOut → A) (accounts : List Account) (start : W
         between = proved.between;
         piece = proved.piece;
         now = proved.now;
-        outs = proved.outs;
         event = proved.event;
         brings = proved.brings;
         later = proved.later ++ e ∷ [];
         are =
-            ap (λ (es : List (Event A)). es ++ e ∷ []) proved.are
-            ∙ append_assoc proved.before (Comes k proved.entropy proved.came ∷ (proved.between ++ proved.event ∷ proved.later)) (e ∷ [])
-            ∙ ap (λ (es : List (Event A)). proved.before ++ Comes k proved.entropy proved.came ∷ es) joins;
-        last = subst (AllByRecursion (λ (x : Event A). comes k x ≡ false)) joins (all_more (λ (x : Event A). comes k x ≡ false) (proved.between ++ proved.event ∷ proved.later) e proved.last other);
+            ap (λ (es : List Event). es ++ e ∷ []) proved.are
+            ∙ append_assoc proved.before (Connect k proved.entropy proved.came ∷ (proved.between ++ proved.event ∷ proved.later)) (e ∷ [])
+            ∙ ap (λ (es : List Event). proved.before ++ Connect k proved.entropy proved.came ∷ es) joins;
+        last = subst (AllByRecursion (λ (x : Event). comes k x ≡ false)) joins (all_more (λ (x : Event). comes k x ≡ false) (proved.between ++ proved.event ∷ proved.later) e proved.last other);
         brought = proved.brought;
       }
 
-  proved_now : (events : List (Event A)) (w : Whole A) (k account : ℕ) (piece : List ℕ) (now : ℕ) (outs : List (Out A)) (e : Event A) → w ≡ after_events say events start → IsBringing k piece now outs e → comes k e ≡ false
-      → (f : framing.State) → framer_at k w.framers ≡ Some f → IsShown (Came events) accounts say k (turn_of piece f).items (begun now w.hall outs) account → HasProved say accounts start (events ++ e ∷ []) k account
-  proved_now events w k account piece now outs e is brings other f framed shown =
+  proved_now : (events : List Event) (r : Run A) (k account : ℕ) (piece : List ℕ) (now : ℕ) (e : Event) → r ≡ after_events say events start → IsBringing k piece now e → comes k e ≡ false
+      → (f : framing.State) → framer_at k r.server.framers ≡ Some f → IsShown (Came events) accounts say k (turn_of piece f).items (begun now r.server.hall r.outs) account → HasProved say accounts start (events ++ e ∷ []) k account
+  proved_now events r k account piece now e is brings other f framed shown =
       let came = shown.drawn in
-      let there : w ≡ after_events say (came.before ++ Comes k shown.entropy came.moment ∷ came.since) start = is ∙ ap (λ (es : List (Event A)). after_events say es start) came.are in
-      let here : BringsProof say accounts shown.entropy k account piece now outs w = record { framer = f; framed = framed; front = shown.front; i = shown.i; rest = shown.rest; items = shown.are; proof = shown.proof } in
+      let there : r ≡ after_events say (came.before ++ Connect k shown.entropy came.moment ∷ came.since) start = is ∙ ap (λ (es : List Event). after_events say es start) came.are in
+      let here : BringsProof say accounts shown.entropy k account piece now r = record { framer = f; framed = framed; front = shown.front; i = shown.i; rest = shown.rest; items = shown.are; proof = shown.proof } in
       record {
         before = came.before;
         entropy = shown.entropy;
@@ -144,24 +143,23 @@ module _ {A : Type 0} (say : ItemOut → A) (accounts : List Account) (start : W
         between = came.since;
         piece = piece;
         now = now;
-        outs = outs;
         event = e;
         brings = brings;
         later = [];
-        are = ap (λ (es : List (Event A)). es ++ e ∷ []) came.are ∙ append_assoc came.before (Comes k shown.entropy came.moment ∷ came.since) (e ∷ []);
-        last = all_more (λ (x : Event A). comes k x ≡ false) came.since e came.last other;
-        brought = subst (λ (x : Whole A). BringsProof say accounts shown.entropy k account piece now outs x) there here;
+        are = ap (λ (es : List Event). es ++ e ∷ []) came.are ∙ append_assoc came.before (Connect k shown.entropy came.moment ∷ came.since) (e ∷ []);
+        last = all_more (λ (x : Event). comes k x ≡ false) came.since e came.last other;
+        brought = subst (λ (x : Run A). BringsProof say accounts shown.entropy k account piece now x) there here;
       }
 
-  events_join : (a b : List (Event A)) (w : Whole A) → after_events say (a ++ b) w ≡ after_events say b (after_events say a w)
-  events_join [] b w = refl
-  events_join (e ∷ a) b w = events_join a b (after_event say e w)
+  events_join : (a b : List Event) (r : Run A) → after_events say (a ++ b) r ≡ after_events say b (after_events say a r)
+  events_join [] b r = refl
+  events_join (e ∷ a) b r = events_join a b (after_event say e r)
 
-  led : (events : List (Event A)) (w : Whole A) (e : Event A) → w ≡ after_events say events start → after_event say e w ≡ after_events say (events ++ e ∷ []) start
-  led events w e is = ap (after_event say e) is ∙ sym (events_join events (e ∷ []) start)
+  led : (events : List Event) (r : Run A) (e : Event) → r ≡ after_events say events start → after_event say e r ≡ after_events say (events ++ e ∷ []) start
+  led events r e is = ap (after_event say e) is ∙ sym (events_join events (e ∷ []) start)
 
   -- an event after which no connection came
-  stands_on : (events : List (Event A)) (e : Event A) → ((k : ℕ) → comes k e ≡ false) → (R : ℕ → ℕ → Type 0) → ((j account : ℕ) → R j account → HasProved say accounts start (events ++ e ∷ []) j account) → (h : Hall A)
+  stands_on : (events : List Event) (e : Event) → ((k : ℕ) → comes k e ≡ false) → (R : ℕ → ℕ → Type 0) → ((j account : ℕ) → R j account → HasProved say accounts start (events ++ e ∷ []) j account) → (h : Hall A)
       → Stands (Came events) R accounts h → Stands (Came (events ++ e ∷ [])) (HasProved say accounts start (events ++ e ∷ [])) accounts h
   stands_on events e other R f h stands =
       let more = λ (j : ℕ) (entropy : List ℕ) (any : Unit {0}) (came : Came events j entropy). came_more events j entropy e (other j) came in
@@ -181,76 +179,76 @@ module _ {A : Type 0} (say : ItemOut → A) (accounts : List Account) (start : W
         | inr other ↦ other
       ]
 
-  follows_comes : (events : List (Event A)) (w : Whole A) (k : ℕ) (entropy : List ℕ) (now : ℕ) → conn_at k w.hall ≡ None → Follows say accounts start events w → Follows say accounts start (events ++ Comes k entropy now ∷ []) (after_event say (Comes k entropy now) w)
-  follows_comes events w k entropy now none follows =
-      let e = Comes k entropy now in
-      let h = at_moment now w.hall in
-      let moved = stands_moment (Came events) (HasProved say accounts start events) now w.hall follows.stands in
-      let those = none_there k w.hall.conns none in
+  follows_comes : (events : List Event) (r : Run A) (k : ℕ) (entropy : List ℕ) (now : ℕ) → conn_at k r.server.hall ≡ None → Follows say accounts start events r → Follows say accounts start (events ++ Connect k entropy now ∷ []) (after_event say (Connect k entropy now) r)
+  follows_comes events r k entropy now none follows =
+      let e = Connect k entropy now in
+      let h = at_moment now r.server.hall in
+      let moved = stands_moment (Came events) (HasProved say accounts start events) now r.server.hall follows.stands in
+      let those = none_there k r.server.hall.conns none in
       let more = λ (j : ℕ) (drawn : List ℕ) (other : is_number k j ≡ false) (came : Came events j drawn). came_more events j drawn e (came_apart j k other) came in
       let proved = λ (j account : ℕ) (other : is_number k j ≡ false) (is : HasProved say accounts start events j account). proved_more events j account e (came_apart j k other) is in
       let wider =
       stands_more (Came events) (Came (events ++ e ∷ [])) (HasProved say accounts start events) (HasProved say accounts start (events ++ e ∷ [])) accounts h
-      (drawn_more (Came events) (Came (events ++ e ∷ [])) (λ j. is_number k j ≡ false) more w.hall.conns those moved.drawn)
-      (logins_more (Came events) (Came (events ++ e ∷ [])) (HasProved say accounts start events) (HasProved say accounts start (events ++ e ∷ [])) accounts (λ j. is_number k j ≡ false) more proved w.hall.conns those moved.logins) moved in
+      (drawn_more (Came events) (Came (events ++ e ∷ [])) (λ j. is_number k j ≡ false) more r.server.hall.conns those moved.drawn)
+      (logins_more (Came events) (Came (events ++ e ∷ [])) (HasProved say accounts start events) (HasProved say accounts start (events ++ e ∷ [])) accounts (λ j. is_number k j ≡ false) more proved r.server.hall.conns those moved.logins) moved in
       record {
-        is = led events w e follows.is;
-        sound = sound_connect k entropy now w follows.sound;
+        is = led events r e follows.is;
+        sound = sound_connect k entropy now r.server follows.sound;
         same = follows.same;
-        stands = holds_fresh (Came (events ++ e ∷ [])) (HasProved say accounts start (events ++ e ∷ [])) accounts ⊥ 0 k (fresh_conn entropy) h.sessions w.hall.conns none
+        stands = holds_fresh (Came (events ++ e ∷ [])) (HasProved say accounts start (events ++ e ∷ [])) accounts ⊥ 0 k (fresh_conn entropy) h.sessions r.server.hall.conns none
             (record { before = events; moment = now; since = []; are = refl; last = tt }) tt wider;
       }
 
   -- ---- bytes come
 
-  module _ (events : List (Event A)) (w : Whole A) (follows : Follows say accounts start events w) (k : ℕ) (piece : List ℕ) (now : ℕ) (outs : List (Out A)) (e : Event A) (brings : IsBringing k piece now outs e) (other : (j : ℕ) → comes j e ≡ false) where
-    began : Stands (Came events) (HasProved say accounts start events) accounts (begun now w.hall outs).hall
-    began = stands_moment (Came events) (HasProved say accounts start events) now w.hall follows.stands
+  module _ (events : List Event) (r : Run A) (follows : Follows say accounts start events r) (k : ℕ) (piece : List ℕ) (now : ℕ) (e : Event) (brings : IsBringing k piece now e) (other : (j : ℕ) → comes j e ≡ false) where
+    began : Stands (Came events) (HasProved say accounts start events) accounts (begun now r.server.hall r.outs).hall
+    began = stands_moment (Came events) (HasProved say accounts start events) now r.server.hall follows.stands
 
     still_proved : (j account : ℕ) → HasProved say accounts start events j account → HasProved say accounts start (events ++ e ∷ []) j account
     still_proved j account proved = proved_more events j account e (other j) proved
 
     -- some first items of what the bytes give
-    stands_front : (f : framing.State) → framer_at k w.framers ≡ Some f → (items more : List Item) → items ++ more ≡ (turn_of piece f).items
-        → Stands (Came events) (HasProved say accounts start (events ++ e ∷ [])) accounts (after_items say k items (begun now w.hall outs)).hall
+    stands_front : (f : framing.State) → framer_at k r.server.framers ≡ Some f → (items more : List Item) → items ++ more ≡ (turn_of piece f).items
+        → Stands (Came events) (HasProved say accounts start (events ++ e ∷ [])) accounts (after_items say k items (begun now r.server.hall r.outs)).hall
     stands_front f framed items more are =
-        stands_items (Came events) accounts say k items (begun now w.hall outs) (HasProved say accounts start events) (HasProved say accounts start (events ++ e ∷ [])) still_proved
-        (λ account shown. proved_now events w k account piece now outs e follows.is brings (other k) f framed
-        (subst (λ (all : List Item). IsShown (Came events) accounts say k all (begun now w.hall outs) account) are (shown_more (Came events) accounts say k items more (begun now w.hall outs) account shown)))
-        (sound_at_moment now w.hall follows.sound) follows.same began
+        stands_items (Came events) accounts say k items (begun now r.server.hall r.outs) (HasProved say accounts start events) (HasProved say accounts start (events ++ e ∷ [])) still_proved
+        (λ account shown. proved_now events r k account piece now e follows.is brings (other k) f framed
+        (subst (λ (all : List Item). IsShown (Came events) accounts say k all (begun now r.server.hall r.outs) account) are (shown_more (Came events) accounts say k items more (begun now r.server.hall r.outs) account shown)))
+        (sound_at_moment now r.server.hall follows.sound) follows.same began
 
-    stands_piece : (o : Option framing.State) → framer_at k w.framers ≡ o → Stands (Came events) (HasProved say accounts start (events ++ e ∷ [])) accounts (at_piece say k piece o (begun now w.hall outs)).hall
-    stands_piece None framed = more_proved (Came events) accounts say k (HasProved say accounts start events) (HasProved say accounts start (events ++ e ∷ [])) still_proved (begun now w.hall outs).hall began
+    stands_piece : (o : Option framing.State) → framer_at k r.server.framers ≡ o → Stands (Came events) (HasProved say accounts start (events ++ e ∷ [])) accounts (at_piece say k piece o (begun now r.server.hall r.outs)).hall
+    stands_piece None framed = more_proved (Came events) accounts say k (HasProved say accounts start events) (HasProved say accounts start (events ++ e ∷ [])) still_proved (begun now r.server.hall r.outs).hall began
     stands_piece (Some f) framed =
         let t = turn_of piece f in
-        let takes = (items_take say k t.items (begun now w.hall outs)).1 in
-        stands_fault (Came events) (HasProved say accounts start (events ++ e ∷ [])) accounts say k t.state.fault (after_items say k t.items (begun now w.hall outs))
-        ((takes.sound (sound_at_moment now w.hall follows.sound)).numbers) (takes.accounts ∙ follows.same) (stands_front f framed t.items [] (append-nil t.items))
+        let takes = (items_take say k t.items (begun now r.server.hall r.outs)).1 in
+        stands_fault (Came events) (HasProved say accounts start (events ++ e ∷ [])) accounts say k t.state.fault (after_items say k t.items (begun now r.server.hall r.outs))
+        ((takes.sound (sound_at_moment now r.server.hall follows.sound)).numbers) (takes.accounts ∙ follows.same) (stands_front f framed t.items [] (append-nil t.items))
 
-    follows_brings : e ≡ Brings k piece now outs → Follows say accounts start (events ++ e ∷ []) (after_event say (Brings k piece now outs) w)
+    follows_brings : e ≡ Bytes k piece now → Follows say accounts start (events ++ e ∷ []) (after_event say (Bytes k piece now) r)
     follows_brings is_so =
-        let takes = (bytes_take say k piece now w outs).1 in
+        let takes = (bytes_take say k piece now r.server r.outs).1 in
         record {
-          is = ap (λ (x : Event A). after_event say x w) (sym is_so) ∙ led events w e follows.is;
-          sound = takes.sound (sound_at_moment now w.hall follows.sound);
+          is = ap (λ (x : Event). after_event say x r) (sym is_so) ∙ led events r e follows.is;
+          sound = takes.sound (sound_at_moment now r.server.hall follows.sound);
           same = takes.accounts ∙ follows.same;
-          stands = stands_on events e other (HasProved say accounts start (events ++ e ∷ [])) (λ j account is. is) (after_bytes say k piece now w outs).hall (stands_piece (framer_at k w.framers) refl);
+          stands = stands_on events e other (HasProved say accounts start (events ++ e ∷ [])) (λ j account is. is) (after_bytes say k piece now r.server r.outs).hall (stands_piece (framer_at k r.server.framers) refl);
         }
 
-    stop_follows : (count : ℕ) (o : Option framing.State) → framer_at k w.framers ≡ o → after_event say e w ≡ after_stop say k piece count now outs o w → Follows say accounts start (events ++ e ∷ []) (after_stop say k piece count now outs o w)
+    stop_follows : (count : ℕ) (o : Option framing.State) → framer_at k r.server.framers ≡ o → after_event say e r ≡ stopped_in say k piece count now o r → Follows say accounts start (events ++ e ∷ []) (stopped_in say k piece count now o r)
     stop_follows count None framed is_so = record {
-      is = sym is_so ∙ led events w e follows.is;
+      is = sym is_so ∙ led events r e follows.is;
       sound = follows.sound;
       same = follows.same;
-      stands = stands_on events e other (HasProved say accounts start events) still_proved w.hall follows.stands;
+      stands = stands_on events e other (HasProved say accounts start events) still_proved r.server.hall follows.stands;
     }
     stop_follows count (Some f) framed is_so =
         let items = take count (turn_of piece f).items in
-        let s = after_items say k items (begun now w.hall outs) in
-        let takes = (items_take say k items (begun now w.hall outs)).1 in
+        let s = after_items say k items (begun now r.server.hall r.outs) in
+        let takes = (items_take say k items (begun now r.server.hall r.outs)).1 in
         record {
-          is = sym is_so ∙ led events w e follows.is;
-          sound = sound_gone k s.hall (takes.sound (sound_at_moment now w.hall follows.sound));
+          is = sym is_so ∙ led events r e follows.is;
+          sound = sound_gone k s.hall (takes.sound (sound_at_moment now r.server.hall follows.sound));
           same = takes.accounts ∙ follows.same;
           stands = stands_on events e other (HasProved say accounts start (events ++ e ∷ [])) (λ j account is. is) (gone_at k s.hall)
               (holds_gone (Came events) (HasProved say accounts start (events ++ e ∷ [])) accounts ⊥ 0 k s.hall.moment s.hall.sessions s.hall.conns
@@ -259,62 +257,65 @@ module _ {A : Type 0} (say : ItemOut → A) (accounts : List Account) (start : W
 
   -- ---- any event
 
-  follows_one : (events : List (Event A)) (w : Whole A) (e : Event A) → MayHappen e w → Follows say accounts start events w → Follows say accounts start (events ++ e ∷ []) (after_event say e w)
-  follows_one events w (Comes k entropy now) may follows = follows_comes events w k entropy now may follows
-  follows_one events w (Brings k piece now outs) may follows = follows_brings events w follows k piece now outs (Brings k piece now outs) (all_taken refl) (λ j. refl) refl
-  follows_one events w (Stops k piece count now outs) may follows =
-      stop_follows events w follows k piece now outs (Stops k piece count now outs) (some_taken count refl) (λ j. refl) count (framer_at k w.framers) refl refl
-  follows_one events w (Goes k now) may follows =
-      let e = Goes k now in
-      let h = at_moment now w.hall in
-      let moved = stands_moment (Came events) (HasProved say accounts start events) now w.hall follows.stands in
+  follows_one : (events : List Event) (r : Run A) (e : Event) → MayHappen e r → Follows say accounts start events r → Follows say accounts start (events ++ e ∷ []) (after_event say e r)
+  follows_one events r (Connect k entropy now) may follows = follows_comes events r k entropy now may follows
+  follows_one events r (Bytes k piece now) may follows = follows_brings events r follows k piece now (Bytes k piece now) (all_taken refl) (λ j. refl) refl
+  follows_one events r (Stop k piece count now) may follows =
+      stop_follows events r follows k piece now (Stop k piece count now) (some_taken count refl) (λ j. refl) count (framer_at k r.server.framers) refl refl
+  follows_one events r (Gone k now) may follows =
+      let e = Gone k now in
+      let h = at_moment now r.server.hall in
+      let moved = stands_moment (Came events) (HasProved say accounts start events) now r.server.hall follows.stands in
       record {
-        is = led events w e follows.is;
-        sound = sound_gone_now k now w follows.sound;
+        is = led events r e follows.is;
+        sound = sound_gone_now k now r.server follows.sound;
         same = follows.same;
         stands = stands_on events e (λ j. refl) (HasProved say accounts start events) (λ j account is. proved_more events j account e refl is) (gone_at k h)
             (holds_gone (Came events) (HasProved say accounts start events) accounts ⊥ 0 k h.moment h.sessions h.conns moved);
       }
-  follows_one events w (Passes now) may follows =
-      let e = Passes now in
+  follows_one events r (Tick now) may follows =
+      let e = Tick now in
       record {
-        is = led events w e follows.is;
-        sound = sound_at_moment now w.hall follows.sound;
+        is = led events r e follows.is;
+        sound = sound_at_moment now r.server.hall follows.sound;
         same = follows.same;
-        stands = stands_on events e (λ j. refl) (HasProved say accounts start events) (λ j account is. proved_more events j account e refl is) (at_moment now w.hall)
-            (stands_moment (Came events) (HasProved say accounts start events) now w.hall follows.stands);
+        stands = stands_on events e (λ j. refl) (HasProved say accounts start events) (λ j account is. proved_more events j account e refl is) (at_moment now r.server.hall)
+            (stands_moment (Came events) (HasProved say accounts start events) now r.server.hall follows.stands);
       }
 
-  follows_all : (past events : List (Event A)) (w : Whole A) → MayFollow say events w → Follows say accounts start past w → Follows say accounts start (past ++ events) (after_events say events w)
-  follows_all past [] w may follows = subst (λ (es : List (Event A)). Follows say accounts start es w) (sym (append-nil past)) follows
-  follows_all past (e ∷ events) w may follows =
-      subst (λ (es : List (Event A)). Follows say accounts start es (after_events say events (after_event say e w))) (append_assoc past (e ∷ []) events)
-      (follows_all (past ++ e ∷ []) events (after_event say e w) may.1 (follows_one past w e may.0 follows))
+  follows_all : (past events : List Event) (r : Run A) → MayFollow say events r → Follows say accounts start past r → Follows say accounts start (past ++ events) (after_events say events r)
+  follows_all past [] r may follows = subst (λ (es : List Event). Follows say accounts start es r) (sym (append-nil past)) follows
+  follows_all past (e ∷ events) r may follows =
+      subst (λ (es : List Event). Follows say accounts start es (after_events say events (after_event say e r))) (append_assoc past (e ∷ []) events)
+      (follows_all (past ++ e ∷ []) events (after_event say e r) may.1 (follows_one past r e may.0 follows))
 
 -- ---- the law
 
-module _ {A : Type 0} (say : ItemOut → A) (domain : List ℕ) (accounts : List Account) (keep : ℕ) (events : List (Event A)) (may : MayFollow say events (at_start domain accounts keep)) where
-  from_start : Follows say accounts (at_start domain accounts keep) events (after_events say events (at_start domain accounts keep))
-  from_start = follows_all say accounts (at_start domain accounts keep) [] events (at_start domain accounts keep) may (record {
+module _ {A : Type 0} (say : ItemOut → A) (domain : List ℕ) (accounts : List Account) (keep : ℕ) (events : List Event) (may : MayFollow say events (at_first domain accounts keep)) where
+  from_start : Follows say accounts (at_first domain accounts keep) events (after_events say events (at_first domain accounts keep))
+  from_start = follows_all say accounts (at_first domain accounts keep) [] events (at_first domain accounts keep) may (record {
     is = refl;
     sound = sound_at_start domain accounts keep;
     same = refl;
     stands = record { single = λ j. tt; seated = tt; drawn = tt; logins = tt; empty = λ b. absurd b };
   })
 
-  login_proved : (k : ℕ) (c : Connection) → conn_at k (after_events say events (at_start domain accounts keep)).hall ≡ Some c
-      → IsBackedBy (Came events) (HasProved say accounts (at_start domain accounts keep) events) accounts k c.phase
-  login_proved k c opened = at_entry (StandsOn (Came events) (HasProved say accounts (at_start domain accounts keep) events) accounts) k c (after_events say events (at_start domain accounts keep)).hall.conns from_start.stands.logins opened
+  pub sound_behind : IsSound (after_events say events (at_first domain accounts keep)).server.hall
+  sound_behind = from_start.sound
 
-  pub restart_proved : (k account : ℕ) (c : Connection) → conn_at k (after_events say events (at_start domain accounts keep)).hall ≡ Some c → c.phase ≡ phase.Restart account → HasProved say accounts (at_start domain accounts keep) events k account
-  restart_proved k account c opened is = subst (IsBackedBy (Came events) (HasProved say accounts (at_start domain accounts keep) events) accounts k) is (login_proved k c opened)
+  login_proved : (k : ℕ) (c : Connection) → conn_at k (after_events say events (at_first domain accounts keep)).server.hall ≡ Some c
+      → IsBackedBy (Came events) (HasProved say accounts (at_first domain accounts keep) events) accounts k c.phase
+  login_proved k c opened = at_entry (StandsOn (Came events) (HasProved say accounts (at_first domain accounts keep) events) accounts) k c (after_events say events (at_first domain accounts keep)).server.hall.conns from_start.stands.logins opened
 
-  pub ready_proved : (k account : ℕ) (c : Connection) → conn_at k (after_events say events (at_start domain accounts keep)).hall ≡ Some c → c.phase ≡ phase.Ready account → HasProved say accounts (at_start domain accounts keep) events k account
-  ready_proved k account c opened is = subst (IsBackedBy (Came events) (HasProved say accounts (at_start domain accounts keep) events) accounts k) is (login_proved k c opened)
+  pub restart_proved : (k account : ℕ) (c : Connection) → conn_at k (after_events say events (at_first domain accounts keep)).server.hall ≡ Some c → c.phase ≡ phase.Restart account → HasProved say accounts (at_first domain accounts keep) events k account
+  restart_proved k account c opened is = subst (IsBackedBy (Came events) (HasProved say accounts (at_first domain accounts keep) events) accounts k) is (login_proved k c opened)
 
-  pub session_proved : (k : ℕ) (t : Session A) → session_at k (after_events say events (at_start domain accounts keep)).hall.sessions ≡ Some t → HasProved say accounts (at_start domain accounts keep) events k t.shown.account
+  pub ready_proved : (k account : ℕ) (c : Connection) → conn_at k (after_events say events (at_first domain accounts keep)).server.hall ≡ Some c → c.phase ≡ phase.Ready account → HasProved say accounts (at_first domain accounts keep) events k account
+  ready_proved k account c opened is = subst (IsBackedBy (Came events) (HasProved say accounts (at_first domain accounts keep) events) accounts k) is (login_proved k c opened)
+
+  pub session_proved : (k : ℕ) (t : Session A) → session_at k (after_events say events (at_first domain accounts keep)).server.hall.sessions ≡ Some t → HasProved say accounts (at_first domain accounts keep) events k t.shown.account
   session_proved k t found =
-      let h = (after_events say events (at_start domain accounts keep)).hall in
+      let h = (after_events say events (at_first domain accounts keep)).server.hall in
       let seat = found_has (IsSeated h.conns) (is_at k) h.sessions t from_start.stands.seated found in
       let ready = seat.1 k (conn_is k t.shown.conn seat.0) in
       ready_proved k t.shown.account ready.0 ready.1 ready.2

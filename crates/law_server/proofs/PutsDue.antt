@@ -88,6 +88,7 @@ module _ {A : Type 0} (say : ItemOut → A) (k : ℕ) (i : Item) (h : Hall A) wh
       changed_one : (s : Session A) → IsWhere k h s → IsWhere k h (f s)
       changed_one s (inl on) = inl (conn s ∙ on)
       changed_one s (inr there) = inr (there.0, ap (λ (x : ℕ). session_of x h.sessions) (number s) ∙ there.1, conn s ∙ there.2)
+
       one : (s : Session A) → IsWhere k h s → IsWhere k h (cond (s.shown.number == n) (f s) s)
       one s is = elim (cases_Bool (s.shown.number == n)) [ inl here ↦ rw here (changed_one s is) | inr other ↦ rw other is ]
 
@@ -104,6 +105,7 @@ module _ {A : Type 0} (say : ItemOut → A) (k : ℕ) (i : Item) (h : Hall A) wh
     where
       one : (s : Session A) → IsWhere k h s → IsWhere k h (cond (s.shown.number == t.shown.number) (resumes n j s) s)
       one s there = elim (cases_Bool (s.shown.number == t.shown.number)) [ inl here ↦ rw here (inl (ap (λ (x : ℕ). Some x) is)) | inr other ↦ rw other there ]
+
       either : (b : Bool) → AreWhere k h (cond b (without t.shown.number ss) (with_session t.shown.number (resumes n j) ss))
       either true = where_some (λ s. not (s.shown.number == t.shown.number)) ss all
       either false = all_mapped (IsWhere k h) (IsWhere k h) (λ (s : Session A). cond (s.shown.number == t.shown.number) (resumes n j s) s) one ss all

@@ -1,5 +1,5 @@
 -- What a row is made of, for the laws of messages that go out live and of who is logged in.
-use Rattle.std.proofs.Common.{◌≡◌, ◌⊎◌, ℕ, List, [], ◌∷◌, Option, Some, None, Ok}
+use Rattle.std.proofs.Common.{◌≡◌, ℕ, List, [], ◌∷◌, Some, None, Ok}
 use Rattle.std.specs.List.{AllByRecursion}
 use Rattle.law_server.specs.Live.{GoesWhereDue}
 use Rattle.law_server.specs.Proved.{IsExchange}

@@ -1,5 +1,5 @@
 -- What any item leads to is a row: it goes where it is due, and logs nobody in without a proof.
-use Rattle.std.proofs.Common.{◌≡◌, ℕ, Bool, true, false, cond, List, ◌∷◌, Option, Some, None, Result, Ok, Err, codes, refl, sym, ap, subst, inl, inr}
+use Rattle.std.proofs.Common.{◌≡◌, ℕ, Bool, true, false, cond, ◌∷◌, Option, Some, None, Result, Ok, Err, codes, refl, sym, ap, subst, inl}
 use Rattle.std.proofs.lemmas.List.Elements.{All-from_recursion}
 use Rattle.std.specs.List.{All, AllByRecursion}
 use Rattle.std.specs.Option.{option_map}
@@ -9,7 +9,6 @@ use Rattle.im_login.specs.Sasl.{is_sasl}
 use Rattle.im_payload.specs.declared.fault.ExtFault.{ExtFault}
 use Rattle.im_replies.specs.declared.conditions.StreamCondition.{StreamCondition}
 use Rattle.im_replies.specs.declared.conditions.StreamCondition.TheVariants.{PolicyViolation}
-use Rattle.im_stanza.specs.Readings.{stanza_of}
 use Rattle.im_stanza.specs.declared.fault.StanzaFault.{StanzaFault}
 use Rattle.im_stanza.specs.declared.fault.StanzaFault.TheVariants as fault
 use Rattle.im_stanza.specs.declared.stanzas.Stanza.{Stanza}

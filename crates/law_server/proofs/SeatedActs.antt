@@ -1,5 +1,5 @@
 -- Acts and items leave sessions where their accounts are logged in, and logins where passwords were proved.
-use Rattle.std.proofs.Common.{◌≡◌, ℕ, ◌==◌, Bool, true, false, not, cond, List, [], ◌∷◌, ◌++◌, Option, Some, None, Ok, refl, sym, ap, subst, ◌∙◌, ◌⊎◌, inl, inr}
+use Rattle.std.proofs.Common.{◌≡◌, ℕ, ◌==◌, Bool, true, false, not, cond, List, [], ◌∷◌, Option, Some, None, refl, sym, ap, subst, ◌∙◌}
 use Rattle.std.proofs.lemmas.Option.{none-some, same_Some}
 use Rattle.std.specs.List.{AllByRecursion}
 use Rattle.std.specs.Map.{lookup}
@@ -8,19 +8,17 @@ use Rattle.im_replies.specs.Streams.{error_item}
 use Rattle.im_replies.specs.declared.conditions.StreamCondition.TheVariants.{ResourceConstraint}
 use Rattle.law_server.proofs.LiveRows.{found_has}
 use Rattle.law_server.proofs.LoginRows.{calm_ending}
-use Rattle.law_server.proofs.PieceTakes.{item_takes}
-use Rattle.law_server.proofs.Rows.{Answers, AreCalm, IsBeforeReady, IsRow, IsSteady, MayEnter, Seats, calm_row}
+use Rattle.law_server.proofs.Rows.{Answers, AreCalm, IsBeforeReady, IsRow, IsSteady, MayEnter, calm_row}
 use Rattle.law_server.proofs.RowsDue.{row_item}
 use Rattle.law_server.proofs.Seats.{Holds, IsBackedBy, IsReadyAt, IsSeated, NoneAt, StandsOn, WasDrawn, at_entry, conn_is, holds_bound, holds_changed, holds_entered, holds_resumed, holds_shut, holds_some, none_found}
 use Rattle.law_server.specs.Numbers.{HaveNumbers}
 use Rattle.law_server.specs.Proved.{IsExchange, IsProof}
-use Rattle.law_server.specs.Sound.{IsSound}
 use Rattle.mam_archive.specs.Entries.{EntryView}
 use Rattle.sm_acks.specs.declared.end.TheConstants.{MOST_UNACKNOWLEDGED}
 use Rattle.sm_live.specs.Sessions.{Session, acknowledged, asks, copies, enables, handles, is_at, presents, session_at, session_resumed, told_of, waits, with_session, without}
 use Rattle.sm_live.specs.declared.told.Told.{Told}
 use Rattle.srv_core.specs.Events.{after_fault, at_fault, fault_condition}
-use Rattle.srv_core.specs.Table.{after_item, after_items, at_item, at_open}
+use Rattle.srv_core.specs.Table.{after_item, at_item, at_open}
 use Rattle.srv_login.proofs.LoginLaws.{proofs_log_in}
 use Rattle.srv_login.specs.Negotiations.{LoginView}
 use Rattle.srv_login.specs.declared.account.Account.{Account}
@@ -29,11 +27,10 @@ use Rattle.srv_state.specs.Logins.{negotiation_in, negotiation_of}
 use Rattle.srv_state.specs.State.{Hall, Kept, Step, archive_at, conn_at, is_number, with_conn}
 use Rattle.srv_state.specs.Steps as steps
 use Rattle.srv_state.specs.Steps.{Act, act, acted, after_failure, archived_in, ask_where, in_hall, in_phase, in_sessions, is_due, overflow, part_where, put, put_where, queue, send_told, shut}
-use Rattle.srv_state.specs.Streams.{stage_of, standing_at, standing_of}
+use Rattle.srv_state.specs.Streams.{stage_of, standing_of}
 use Rattle.srv_state.specs.declared.connection.Connection.{Connection}
 use Rattle.srv_state.specs.declared.connection.Phase.{Phase}
 use Rattle.srv_state.specs.declared.connection.Phase.TheVariants as phase
-use Rattle.srv_state.specs.declared.connection.Stage.{Stage}
 use Rattle.srv_state.specs.declared.connection.Stage.TheVariants as stage
 use Rattle.srv_state.specs.declared.connection.Standing.{Standing}
 use Rattle.xml_framer.specs.declared.fault.Fault.{Fault}
@@ -152,6 +149,7 @@ before_none {A = A} k c cs ss opened seated before = none_found k ss (off (sessi
         let there = found.1 k (conn_is k t.shown.conn found.0) in
         let same : c ≡ there.0 = same_Some c there.0 (sym opened ∙ there.1) in
         subst IsBeforeReady (ap (λ (x : Connection). stage_of x.phase) same ∙ ap stage_of there.2) before
+
     off : (o : Option (Session A)) → session_at k ss ≡ o → session_at k ss ≡ None
     off None is = is
     off (Some t) is = absurd (ready t is)
@@ -228,19 +226,22 @@ module _ {A : Type 0} (C : ℕ → List ℕ → Type 0) (P : ℕ → ℕ → Typ
         let awaited : c.phase ≡ phase.Challenge n = challenge_phase c.phase n in_hand in
         let exchange = subst (IsBackedBy C P accounts k) awaited backed in
         let right = (proofs_log_in n answers.element answers.login).0 answers.succeeds in
-        let owner : n.account ≡ account = sym (ap (λ (l : LoginView). l.account) right.answers) ∙ answers.account_is in
-        (exchange.0, exchange.1, record {
-          conn = c;
-          is_open = opened;
-          exchange = n;
-          awaited = awaited;
-          begun = exchange.2;
-          with_account = owner;
-          element = answers.element;
-          is = answers.is;
-          login = answers.login;
-          right = right;
-        })
+        let owner : n.account ≡ account = sym (ap (λ (l : LoginView). l.account) right.answers) ∙ answers.account_is in (
+          exchange.0,
+          exchange.1,
+          record {
+            conn = c;
+            is_open = opened;
+            exchange = n;
+            awaited = awaited;
+            begun = exchange.2;
+            with_account = owner;
+            element = answers.element;
+            is = answers.is;
+            login = answers.login;
+            right = right;
+          },
+        )
 
     enters_so : IsBackedBy C P accounts k c.phase → C k c.entropy → ((account : ℕ) → Proves C accounts k i h account → P k account) → (p : Phase) → MayEnter k i (standing_of c) h p → IsBackedBy C P accounts k p
     enters_so backed drawn proves phase.Start may = tt

@@ -1,5 +1,5 @@
 -- Sessions on connections that are logged in as their accounts: what keeps them there.
-use Rattle.std.proofs.Common.{◌≡◌, ℕ, ◌+◌, ◌≤◌, ◌<◌, ◌==◌, Bool, true, false, not, ◌&&◌, cond, List, [], ◌∷◌, ◌++◌, Option, Some, None, map, refl, sym, ap, subst, ◌∙◌, arith, eq-eqb, ne_eqb, inl, inr}
+use Rattle.std.proofs.Common.{◌≡◌, ℕ, ◌+◌, ◌<◌, ◌==◌, Bool, true, false, not, ◌&&◌, cond, List, [], ◌∷◌, ◌++◌, Option, Some, None, map, refl, sym, ap, subst, ◌∙◌, arith, eq-eqb, ne_eqb, inl, inr}
 use Rattle.std.proofs.lemmas.Bool.{cases_Bool, eqb-true, false≢true}
 use Rattle.std.proofs.lemmas.Map.Lookups.{exact_unsigned}
 use Rattle.std.proofs.lemmas.Option.{none-some, same_Some}
@@ -13,7 +13,7 @@ use Rattle.law_server.proofs.Frames.{equal_is, other_stays}
 use Rattle.law_server.proofs.LiveRows.{Lives, found_has, living, passing, rises}
 use Rattle.law_server.specs.Numbers.{Rise}
 use Rattle.law_server.specs.Proved.{IsExchange}
-use Rattle.sm_live.specs.Sessions.{Session, after_resume, bound, fresh, is_at, is_resumed_by, is_too_high, less, lost, number_of, parked, resumes, session_at, session_named, session_of, session_resumed, with_session, without, without_at}
+use Rattle.sm_live.specs.Sessions.{Session, after_resume, bound, fresh, is_at, is_resumed_by, is_too_high, less, lost, parked, resumes, session_at, session_named, session_of, session_resumed, with_session, without, without_at}
 use Rattle.sm_resumption.specs.Rows.{is_some_number}
 use Rattle.srv_login.specs.declared.account.Account.{Account}
 use Rattle.srv_route.proofs.Chosen.{all_found}
@@ -245,10 +245,12 @@ pub record Holds {A : Type 0} (C : ℕ → List ℕ → Type 0) (P : ℕ → ℕ
 
 seated_apart : {A : Type 0} (k : ℕ) (cs ds : List (ℕ × Connection)) → ((j : ℕ) → is_number j k ≡ false → lookup (is_number j) ds ≡ lookup (is_number j) cs) → (ss : List (Session A)) → AllByRecursion (IsSeated cs) ss → NoneAt k ss → AllByRecursion (IsSeated ds) ss
 seated_apart k cs ds same [] all none = tt
-seated_apart k cs ds same (s ∷ ss) all none =
-    (λ j on. let apart : (j == k) ≡ false = sym (ap (is_some_number k) on) ∙ none.0 in
-    let ready = all.0 j on in
-    (ready.0, same j (number_apart j k apart) ∙ ready.1, ready.2), seated_apart k cs ds same ss all.1 none.1)
+seated_apart k cs ds same (s ∷ ss) all none = (
+  λ j on. let apart : (j == k) ≡ false = sym (ap (is_some_number k) on) ∙ none.0 in
+      let ready = all.0 j on in
+      (ready.0, same j (number_apart j k apart) ∙ ready.1, ready.2),
+  seated_apart k cs ds same ss all.1 none.1,
+)
 
 module _ {A : Type 0} (C : ℕ → List ℕ → Type 0) (P : ℕ → ℕ → Type 0) (accounts : List Account) (B : Type 0) (k : ℕ) where
   pub holds_some : (p : Session A → Bool) (ss : List (Session A)) (cs : List (ℕ × Connection)) → Holds C P accounts B k ss cs → Holds C P accounts B k (filter p ss) cs
@@ -430,10 +432,13 @@ module _ {A : Type 0} (C : ℕ → List ℕ → Type 0) (P : ℕ → ℕ → Typ
     where
       live : AllByRecursion (Lives ss) ss
       live = living ss ss (all_found next 1 ss (rises 1 next ss rise))
+
       found : (is_resumed_by previd account t ≡ true) × Lives ss t
       found = found_has (Lives ss) (is_resumed_by previd account) ss t live is
+
       owner : account ≡ t.shown.account
       owner = sym (eqb-true t.shown.account account (second _ (t.shown.account == account) t.shown.resumable found.0))
+
       either : (b : Bool) → Holds C P accounts B k (cond b (without t.shown.number ss) (with_session t.shown.number (resumes h k) ss)) cs
       either true = holds_some (λ s. not (s.shown.number == t.shown.number)) ss cs held
       either false = holds_resumes h next account t ss cs not_b rise none found.1 (subst (λ (a : ℕ). IsReadyAt k a cs) owner ready) held
@@ -455,6 +460,7 @@ module _ {A : Type 0} (C : ℕ → List ℕ → Type 0) (P : ℕ → ℕ → Typ
         | inl on ↦ (let ready = is j (conn_is j s.shown.conn on) in absurd (none-some ready.0 (sym none ∙ ready.1)))
         | inr not_on ↦ not_on
       ]
+
       none_seated : (ts : List (Session A)) → AllByRecursion (IsSeated cs) ts → NoneAt j ts
       none_seated [] all = tt
       none_seated (t ∷ ts) all = (off t all.0, none_seated ts all.1)

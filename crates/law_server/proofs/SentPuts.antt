@@ -162,6 +162,7 @@ others_wait_on {A = A} say m n a t s found apart room =
     same_put : (o : Option ℕ) (b : A) (u : Step A) → session_of m (put_where o b u).hall.sessions ≡ session_of m u.hall.sessions
     same_put None b u = refl
     same_put (Some j) b u = refl
+
     same_ask : (o : Option ℕ) (due : Bool) (u : Step A) → session_of m (ask_where say n o due u).hall.sessions ≡ session_of m u.hall.sessions
     same_ask o false u = refl
     same_ask None true u = refl

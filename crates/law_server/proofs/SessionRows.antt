@@ -1,7 +1,6 @@
 -- The rows behind a login, but for messages: each puts on its own connection, ends another's stream, or answers its session.
-use Rattle.std.proofs.Common.{◌≡◌, ◌⊎◌, ℕ, nat_le, Bool, true, false, cond, List, [], ◌∷◌, Option, Some, None, Result, Ok, Err, codes, length, refl, sym, inl, inr}
+use Rattle.std.proofs.Common.{◌≡◌, ℕ, nat_le, Bool, true, false, cond, List, [], ◌∷◌, Option, Some, None, Result, Ok, Err, codes, length, refl, inl, inr}
 use Rattle.std.proofs.lemmas.List.Elements.{recursion_from_All}
-use Rattle.std.specs.List.{AllByRecursion}
 use Rattle.std.specs.Option.{option_map}
 use Rattle.std.specs.Result.{result_ok}
 use Rattle.base_lemmas.proofs.Lists.{AllByRecursion-weaker}
@@ -17,9 +16,9 @@ use Rattle.im_stanza.specs.declared.kinds.PresenceKind.TheVariants.{Available, U
 use Rattle.im_stanza.specs.declared.stanzas.Presence.{Presence}
 use Rattle.im_stanza.specs.declared.stanzas.Stanza.{Stanza}
 use Rattle.im_stanza.specs.declared.stanzas.Stanza.TheVariants as stanza
-use Rattle.law_server.proofs.LoginRows.{calm_any, calm_closing, calm_ending, calm_parting}
+use Rattle.law_server.proofs.LoginRows.{calm_any, calm_ending, calm_parting}
 use Rattle.law_server.proofs.OwnActs.{of_own}
-use Rattle.law_server.proofs.Rows.{AreCalm, IsCalm, IsRow, Seats, calm_row}
+use Rattle.law_server.proofs.Rows.{AreCalm, IsCalm, IsRow, calm_row}
 use Rattle.law_server.specs.Answering.{IsOf}
 use Rattle.law_server.specs.Live.{IsItsSession, conflict, footer}
 use Rattle.sm_acks.specs.declared.end.TooHigh.{TooHigh as TooHighCount}
@@ -46,7 +45,7 @@ use Rattle.srv_state.specs.declared.word.Word.TheVariants as word
 use Rattle.xml_framer.specs.declared.items.Item.{Item}
 use Rattle.xml_trees.specs.Readers.{first_named}
 use Rattle.xml_trees.specs.Trees.{Elem}
-use Rattle.xml_writer.specs.Items.{Closing, ItemOut}
+use Rattle.xml_writer.specs.Items.{ItemOut}
 
 module _ {A : Type 0} (say : ItemOut → A) (k : ℕ) (i : Item) (st : Standing) (h : Hall A) where
   pub calm_either : (b : Bool) (x y : List (Act A)) → AreCalm say k i st h x → AreCalm say k i st h y → AreCalm say k i st h (cond b x y)

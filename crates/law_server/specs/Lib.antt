@@ -12,6 +12,7 @@ pub mod Taken
 pub mod Live
 pub mod Ready
 -- ---- what events prove
+pub mod Events
 pub mod Happenings
 pub mod Proved
 -- ---- sessions and logins

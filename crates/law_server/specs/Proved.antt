@@ -1,16 +1,18 @@
 -- A password was proved on a connection (RFC 5802, section 3).
-use Rattle.std.specs.Prelude.{◌≡◌, ℕ, Bool, false, List, ◌∷◌, ◌++◌, Some, slice_get}
+use Rattle.std.specs.Prelude.{◌≡◌, ℕ, false, List, [], ◌∷◌, ◌++◌, Some, slice_get}
 use Rattle.std.specs.List.{AllByRecursion}
 use Rattle.auth_scram.specs.Exchange.{added_nonce, begun_server}
 use Rattle.auth_scram.specs.declared.client_first.ClientFirst.{ClientFirst}
-use Rattle.law_server.specs.Happenings.{Brings, Comes, Event, Goes, IsBringing, Passes, Stops, after_events}
-use Rattle.srv_core.specs.Events.{Whole, begun, framer_at, turn_of}
+use Rattle.law_server.specs.Events.{Connect, Event, Run, after_events, run}
+use Rattle.law_server.specs.Happenings.{IsBringing, comes}
+use Rattle.srv_core.specs.Configs.{at_start}
+use Rattle.srv_core.specs.Events.{begun, framer_at, turn_of}
 use Rattle.srv_core.specs.Table.{after_items}
 use Rattle.srv_login.specs.Logins.{HasRightProof}
 use Rattle.srv_login.specs.Negotiations.{LoginView}
 use Rattle.srv_login.specs.declared.account.Account.{Account}
 use Rattle.srv_login.specs.declared.negotiation.Negotiation.{Negotiation}
-use Rattle.srv_state.specs.State.{Hall, Out, conn_at, is_number}
+use Rattle.srv_state.specs.State.{Hall, conn_at}
 use Rattle.srv_state.specs.declared.connection.Connection.{Connection}
 use Rattle.srv_state.specs.declared.connection.Phase.TheVariants as phase
 use Rattle.xml_framer.specs.States as framing
@@ -48,37 +50,33 @@ pub record IsProof {A : Type 0} (accounts : List Account) (entropy : List ℕ) (
 -- ---- bytes
 
 -- one of the items that the bytes give is one, where those before it have taken effect
-pub record BringsProof {A : Type 0} (say : ItemOut → A) (accounts : List Account) (entropy : List ℕ) (k account : ℕ) (piece : List ℕ) (now : ℕ) (outs : List (Out A)) (w : Whole A) : Type 0 where
+pub record BringsProof {A : Type 0} (say : ItemOut → A) (accounts : List Account) (entropy : List ℕ) (k account : ℕ) (piece : List ℕ) (now : ℕ) (r : Run A) : Type 0 where
   pub framer : framing.State
-  pub framed : framer_at k w.framers ≡ Some framer
+  pub framed : framer_at k r.server.framers ≡ Some framer
   pub front : List Item
   pub i : Item
   pub rest : List Item
   pub items : (turn_of piece framer).items ≡ front ++ i ∷ rest
-  pub proof : IsProof accounts entropy k account i (after_items say k front (begun now w.hall outs)).hall
+  pub proof : IsProof accounts entropy k account i (after_items say k front (begun now r.server.hall r.outs)).hall
 
 -- ---- events
 
-abbrev pub comes : {A : Type 0} → ℕ → Event A → Bool
-comes k (Comes j entropy now) = is_number k j
-comes k (Brings j piece now outs) = false
-comes k (Stops j piece count now outs) = false
-comes k (Goes j now) = false
-comes k (Passes now) = false
+-- a server as it begins, which has put out nothing
+abbrev pub at_first : {A : Type 0} → List ℕ → List Account → ℕ → Run A
+at_first domain accounts keep = run (at_start domain accounts keep) []
 
 -- Since the connection last came, bytes came on it that brought a proof for the account, in an exchange whose nonce has
 -- what was drawn for it then.
-pub record HasProved {A : Type 0} (say : ItemOut → A) (accounts : List Account) (start : Whole A) (events : List (Event A)) (k account : ℕ) : Type 0 where
-  pub before : List (Event A)
+pub record HasProved {A : Type 0} (say : ItemOut → A) (accounts : List Account) (start : Run A) (events : List Event) (k account : ℕ) : Type 0 where
+  pub before : List Event
   pub entropy : List ℕ
   pub came : ℕ
-  pub between : List (Event A)
+  pub between : List Event
   pub piece : List ℕ
   pub now : ℕ
-  pub outs : List (Out A)
-  pub event : Event A
-  pub brings : IsBringing k piece now outs event
-  pub later : List (Event A)
-  pub are : events ≡ before ++ Comes k entropy came ∷ (between ++ event ∷ later)
-  pub last : AllByRecursion (λ (e : Event A). comes k e ≡ false) (between ++ event ∷ later)
-  pub brought : BringsProof say accounts entropy k account piece now outs (after_events say (before ++ Comes k entropy came ∷ between) start)
+  pub event : Event
+  pub brings : IsBringing k piece now event
+  pub later : List Event
+  pub are : events ≡ before ++ Connect k entropy came ∷ (between ++ event ∷ later)
+  pub last : AllByRecursion (λ (e : Event). comes k e ≡ false) (between ++ event ∷ later)
+  pub brought : BringsProof say accounts entropy k account piece now (after_events say (before ++ Connect k entropy came ∷ between) start)
