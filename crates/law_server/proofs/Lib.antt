@@ -52,3 +52,9 @@ pub mod WorkedLive
 pub mod Seats
 pub mod SeatedActs
 pub mod ProvedEvents
+-- ---- sessions that are gone
+pub mod SessionWalks
+pub mod GoneSessions
+pub mod HighCounts
+pub mod EventsMade
+mod WorkedGone

@@ -11,11 +11,13 @@ pub mod Taken
 -- ---- what goes out live
 pub mod Live
 pub mod Ready
--- ---- what events prove
-pub mod Events
-pub mod Happenings
-pub mod Proved
 -- ---- sessions and logins
 pub mod Sound
 pub mod Numbers
 pub mod Accounts
+-- ---- events, and sessions that are gone
+pub mod Events
+pub mod Gone
+-- ---- what events prove
+pub mod Happenings
+pub mod Proved
