@@ -1,5 +1,5 @@
 -- What is passed on of a message is the message, and a copy has it.
-use Rattle.std.proofs.Common.{◌≡◌, ℕ, Bool, true, false, not, ◌&&◌, cond, List, [], ◌∷◌, ◌++◌, Option, Some, None, append-nil, append_assoc, codes, refl, sym, ap, ◌∙◌, inl, inr}
+use Rattle.std.proofs.Common.{◌≡◌, ℕ, Bool, true, false, not, cond, List, [], ◌∷◌, ◌++◌, Option, Some, None, append-nil, append_assoc, codes, refl, sym, ap, ◌∙◌, inl, inr}
 use Rattle.std.proofs.lemmas.Bool.{and_parts, cases_Bool, false≢true}
 use Rattle.std.proofs.lemmas.List.Elements.{filter-append}
 use Rattle.std.proofs.lemmas.Slice.Eq.{bytes_eq-Decides}
@@ -7,11 +7,10 @@ use Rattle.std.specs.List.{filter}
 use Rattle.std.specs.Str.{bytes_eq}
 use Rattle.im_extensions.specs.Carbons.{carbon_name}
 use Rattle.im_extensions.specs.Forwarding.{delay_elem}
-use Rattle.im_extensions.specs.Given.{giver_of, is_given_by}
+use Rattle.im_extensions.specs.Given.{is_given_by}
 use Rattle.im_extensions.specs.Ids.{is_stanza_id, stanza_id_elem}
 use Rattle.im_forwarding.specs.Copies.{CopyView, copy_elem, copy_message}
 use Rattle.im_forwarding.specs.Passed.{id_node, passed_elem, passed_message, passed_nodes}
-use Rattle.im_jid.specs.Spellings.{spells_account}
 use Rattle.im_messages.specs.Ids.{without_ids}
 use Rattle.im_payload.specs.Names.{carbons, forwarding, stanza_ids}
 use Rattle.im_stamp.specs.Dates.{stamp_at}
@@ -121,7 +120,7 @@ body_no_id e body =
     ]
 
 body_no_given : (by : List ℕ) (e : Elem) → is_body e ≡ true → is_given_by by e ≡ false
-body_no_given by e body = ap (λ (b : Bool). b && spells_account by (giver_of e)) (body_no_id e body)
+body_no_given by e body = rw (body_no_id e body) refl
 
 bodies_kept : (by : List ℕ) (es : List Elem) → filter is_body (filter (λ e. not (is_given_by by e)) es) ≡ filter is_body es
 bodies_kept by [] = refl
