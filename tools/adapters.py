@@ -37,6 +37,14 @@ def journal_of(server):
     return journal
 
 
+def end_of(server):
+    """What to say of a server that has ended by now, or is about to."""
+    try:
+        return f"; serve has ended with status {server.run.wait(1)}"
+    except subprocess.TimeoutExpired:
+        return ""
+
+
 def main(argv, check):
     """Calls a check with the program of the command line, and says what came of it: its status."""
     name = os.path.basename(sys.argv[0])

@@ -16,6 +16,8 @@ SHARED = os.environ.get("SHARED_TOOLS", os.path.join(TOP, "../shared/tools"))
 BASELINE = os.environ.get("BASELINE", os.path.join(SHARED, "baseline"))
 HOST = "127.0.0.1"
 SECONDS = 120
+# how long a tool waits for an answer of a server that is not busy
+ANSWER = int(os.environ.get("SECONDS_TO_ANSWER", "20"))
 TICKS = os.sysconf("SC_CLK_TCK")
 PING = f"<iq type='get' id='{{}}' to='{journals.DOMAIN}'><ping xmlns='urn:xmpp:ping'/></iq>"
 
