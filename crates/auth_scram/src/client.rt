@@ -8,12 +8,13 @@ ghost use Rattle.auth_primitives.specs.Hashes.{auth_message};
 
 use crate::contents::base64_bytes;
 use crate::fault::ScramFault;
+use crate::password::Password;
 use crate::plain::is_plain;
 use crate::server_final::read_server_final;
 use crate::server_first::read_server_first;
 use crate::spelling::{append_proof, client_first, without_proof};
-use auth_primitives::{KeyedHash, digest, hi, hmac, is_same, xor};
-use base_io::{Bytes, NoMemory, Text};
+use auth_primitives::{KeyedHash, digest, hmac, is_same, xor};
+use base_io::{Bytes, Copied, NoMemory, Text};
 use std::alloc::Global;
 use std::marker::Model;
 
@@ -29,7 +30,7 @@ pub const MOST_ITERATIONS: u32 = 1_000_000;
 /// The client's end of an exchange (RFC 5802, section 5).
 #[derive(Drop)]
 pub struct ScramClient {
-    password: Text,
+    password: Password,
     nonce: Text,
     message: Bytes,
     expected: Option<[u8; 32]>,
@@ -90,17 +91,17 @@ impl ScramClient {
     pub fn first(
         alloc: Global,
         name: &str,
-        password: &str,
+        password: &Password,
         nonce: &str,
     ) -> Result<ScramClient, ScramFault>
         requires { is_nonce nonce.now ≡ true }
         ensures { Judges (λ c. c) result (begun_client name.now password.now nonce.now) }
     {
-        if !is_plain(name) || !is_plain(password) {
+        if !is_plain(name) || !is_plain(password.as_str()) {
             return Err(ScramFault::BadName);
         }
         Ok(ScramClient {
-            password: Text::from_str(alloc, password)?,
+            password: password.copied(alloc)?,
             nonce: Text::from_str(alloc, nonce)?,
             message: client_first(alloc, name, nonce)?,
             expected: None,
@@ -109,7 +110,7 @@ impl ScramClient {
 
     // Judges a first message of the server of these parts, of which the salt is in base64, and answers the reply.
     fn answer(
-        &self,
+        &mut self,
         alloc: Global,
         server_first: &[u8],
         nonce: &[u8],
@@ -117,7 +118,8 @@ impl ScramClient {
         i: u32,
     ) -> Result<Reply, ScramFault>
         requires { IsBase64 salt.now }
-        ensures { Judges (λ r. r) result (reply_to self.now server_first.now nonce.now (base64_bytes salt.now) i) }
+        ensures answer { Judges (λ r. r) result (reply_to self.old server_first.now nonce.now (base64_bytes salt.now) i) }
+        ensures same { self.new ≡ self.old }
     {
         let own = self.nonce.as_str().as_bytes();
         if !(nonce.starts_with(own) && own.len() < nonce.len()) {
@@ -128,7 +130,7 @@ impl ScramClient {
         }
         let salt = base64_bytes(alloc, salt)?;
         let message = without_proof(alloc, nonce)?;
-        let salted = hi(self.password.as_str().as_bytes(), salt.as_slice(), i);
+        let salted = self.password.salted(salt, i);
         let bare = &self.message.as_slice()[GS2_HEADER..];
         Ok(reply_under(message, &salted, bare, server_first)?)
     }
@@ -155,6 +157,14 @@ impl ScramClient {
         let reply = self.answer(alloc, server_first, read.nonce, read.salt, read.count)?;
         self.expected = Some(reply.verifier);
         Ok(reply.message)
+    }
+
+    /// Hands what its password was stretched to over to another of the same text. It takes no memory.
+    pub fn teach(&mut self, password: &mut Password)
+        ensures own { self.new ≡ self.old }
+        ensures other { password.new ≡ password.old }
+    {
+        password.learn(&mut self.password);
     }
 
     /// Judges the server's final message: whether the server knows the account's keys. `Malformed` comes exactly where

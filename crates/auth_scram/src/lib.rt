@@ -15,6 +15,7 @@ mod laws;
 mod names;
 mod nonces;
 mod parts;
+mod password;
 mod plain;
 mod server;
 mod server_final;
@@ -32,4 +33,5 @@ pub use laws::{
     reading_is_the_grammar, sent_messages_are_within_the_grammar, written_messages_are_read,
 };
 pub use nonces::{added_nonce, is_nonce, nonce_of, salt_of};
+pub use password::Password;
 pub use server::ScramServer;

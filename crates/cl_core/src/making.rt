@@ -6,6 +6,7 @@ ghost use Rattle.auth_scram.specs.Exchange;
 
 use crate::client::Client;
 use crate::faults::ClientFault;
+use auth_scram::Password;
 use base_io::{NoMemory, Text};
 use cl_handlers::Account;
 use cl_login::ClientAccount;
@@ -49,7 +50,7 @@ fn account_of(
         login: ClientAccount {
             name: Text::from_str(alloc, local)?,
             domain: Text::from_str(alloc, address.domain())?,
-            password: Text::from_str(alloc, password)?,
+            password: Password::from_str(alloc, password)?,
         },
     })
 }

@@ -116,7 +116,7 @@ impl ClientState {
         ensures ok { OnOk result (turn_of self.new out.new ≡ login_row in_bytes (turn_of self.old out.old) state tree.now) }
         ensures err { OnErr result (left (turn_of self.new out.new) ≡ left (turn_of self.old out.old)) }
     {
-        let answer = state.element(alloc, &self.account.login, tree)?;
+        let answer = state.element(alloc, &mut self.account.login, tree)?;
         self.follow(answer, out)
     }
 

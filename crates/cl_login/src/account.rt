@@ -1,4 +1,5 @@
 //! The account that a client logs in to.
+use auth_scram::Password;
 use base_io::Text;
 
 /// What a client has to know of an account to log in to it.
@@ -9,5 +10,5 @@ pub struct ClientAccount {
     /// The domain of its address.
     pub domain: Text,
     /// Its password.
-    pub password: Text,
+    pub password: Password,
 }

@@ -6,7 +6,7 @@ use crate::login_state::LoginState;
 use crate::nonce::Nonce;
 use crate::replied_exchange::RepliedExchange;
 use crate::writing::{auth_bytes, response_bytes};
-use auth_scram::{ScramClient, ScramFault};
+use auth_scram::{Password, ScramClient, ScramFault};
 use base_io::{Bytes, NoMemory};
 use std::alloc::Global;
 use std::marker::Model;
@@ -46,7 +46,7 @@ impl BegunExchange {
         ensures { IfOk result (λ a. seen a ≡ spelled (begun (begun_client account.now.name account.now.password nonce.now))) }
     {
         let name = account.name.as_str();
-        match ScramClient::first(alloc, name, account.password.as_str(), nonce.as_str()) {
+        match ScramClient::first(alloc, name, &account.password, nonce.as_str()) {
             Ok(exchange) => {
                 let bytes = auth_bytes(alloc, exchange.message())?;
                 let exchange = BegunExchange { exchange };
@@ -83,15 +83,24 @@ impl BegunExchange {
         }
     }
 
-    // Replies to the server's first message.
+    // Replies to the server's first message, and hands what the password was stretched to over to the account's.
     #[tactic(auto, using(auth_scram::proofs::Refusals::refused_as, crate::proofs::Exchanges::expecting_unanswered))]
-    pub(crate) fn reply(self, alloc: Global, server_first: &[u8]) -> Result<Answer, NotTaken>
+    pub(crate) fn reply(
+        self,
+        alloc: Global,
+        password: &mut Password,
+        server_first: &[u8],
+    ) -> Result<Answer, NotTaken>
         ensures ok { IfOk result (λ a. seen a ≡ spelled (replied self (reply_of self server_first.now))) }
         ensures err { IfErr result (λ e. e.state ≡ LoginState.Authing self) }
+        ensures same { password.new ≡ password.old }
     {
         let mut exchange = self.exchange;
         match exchange.reply(alloc, server_first) {
-            Ok(message) => BegunExchange::send(alloc, exchange, message),
+            Ok(message) => {
+                exchange.teach(password);
+                BegunExchange::send(alloc, exchange, message)
+            }
             Err(ScramFault::NoMemory) => Err(BegunExchange::not_taken(exchange)),
             Err(_) => Ok(ends(alloc, LoginFault::Scram)),
         }

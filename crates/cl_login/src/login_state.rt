@@ -67,22 +67,26 @@ impl LoginState {
     ///   6.4.6). Another verifier ends the login by `BadVerifier`, and another refusal by `Scram`.
     /// - A `failure` ends it by `Sasl`, and any other element that isn't awaited, or can't be read, by `Unexpected`.
     ///
-    /// Where memory runs out the element isn't taken, and the state is handed back as it was.
+    /// Where memory runs out the element isn't taken, and the state is handed back as it was. The account's password keeps
+    /// what it was stretched to for a challenge, so that another with the same salt and count doesn't stretch it again.
     pub fn element(
         self,
         alloc: Global,
-        account: &ClientAccount,
+        account: &mut ClientAccount,
         tree: &Tree,
     ) -> Result<Answer, NotTaken>
-        ensures ok { IfOk result (λ a. seen a ≡ spelled (element_row account.now self tree.now)) }
+        ensures ok { IfOk result (λ a. seen a ≡ spelled (element_row account.old self tree.now)) }
         ensures err { IfErr result (λ e. e.state ≡ self) }
+        ensures same { account.new ≡ account.old }
     {
         match self {
             LoginState::Features1 { nonce } => {
                 let answer = features1(alloc, account, &nonce, tree);
                 or_not_taken(answer, LoginState::Features1 { nonce })
             }
-            LoginState::Authing { exchange } => authing(alloc, exchange, tree),
+            LoginState::Authing { exchange } => {
+                authing(alloc, exchange, &mut account.password, tree)
+            }
             LoginState::Responding { exchange } => {
                 let answer = responding(alloc, account.domain.as_str(), &exchange, tree);
                 or_not_taken(answer, LoginState::Responding { exchange })

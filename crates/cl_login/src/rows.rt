@@ -11,7 +11,7 @@ use crate::login_state::LoginState;
 use crate::nonce::Nonce;
 use crate::replied_exchange::RepliedExchange;
 use crate::writing::header_bytes;
-use auth_scram::ScramFault;
+use auth_scram::{Password, ScramFault};
 use base_io::NoMemory;
 use im_login::{Challenge, Features, SaslFailure, Success};
 use im_payload::ExtFault;
@@ -50,17 +50,19 @@ pub(crate) fn features1(
     }
 }
 
-/// An element where the challenge is awaited.
+/// An element where the challenge is awaited. The password may learn what it was stretched to.
 pub(crate) fn authing(
     alloc: Global,
     exchange: BegunExchange,
+    password: &mut Password,
     tree: &Tree,
 ) -> Result<Answer, NotTaken>
     ensures ok { IfOk result (λ a. seen a ≡ spelled (authing_row exchange tree.now)) }
     ensures err { IfErr result (λ e. e.state ≡ LoginState.Authing exchange) }
+    ensures same { password.new ≡ password.old }
 {
     match Challenge::read(alloc, tree) {
-        Ok(challenge) => exchange.reply(alloc, challenge.payload.as_slice()),
+        Ok(challenge) => exchange.reply(alloc, password, challenge.payload.as_slice()),
         Err(ExtFault::NoMemory) => Err(NotTaken {
             state: LoginState::Authing { exchange },
         }),

@@ -1,5 +1,6 @@
 // A client's login (RFC 6120, section 6; RFC 5802). The messages are from another program, for the password `pw-alice`, a
 // salt of 16 bytes, 4,096 iterations, and nonces of zero bytes and of a one and zero bytes.
+use auth_scram::Password;
 use base_io::{Bytes, NoMemory, Text};
 use cl_login::{Answer, ClientAccount, LoginState, Next};
 use im_login::{Challenge, Features, SaslFailure, Success};
@@ -186,14 +187,14 @@ fn account(alloc: Global) -> Result<ClientAccount, NoMemory> {
     Ok(ClientAccount {
         name: Text::from_str(alloc, "alice")?,
         domain: Text::from_str(alloc, "chat.example")?,
-        password: Text::from_str(alloc, "pw-alice")?,
+        password: Password::from_str(alloc, "pw-alice")?,
     })
 }
 
 // What comes of an item in a state.
 fn answer_in(
     alloc: Global,
-    account: &ClientAccount,
+    account: &mut ClientAccount,
     state: LoginState,
     sent: &Sent,
 ) -> Result<Answer, NoMemory> {
@@ -210,7 +211,7 @@ fn answer_in(
 // What comes of the next item. Behind an end nothing comes.
 fn answer_behind(
     alloc: Global,
-    account: &ClientAccount,
+    account: &mut ClientAccount,
     answer: Answer,
     sent: &Sent,
 ) -> Result<Answer, NoMemory> {
@@ -233,10 +234,10 @@ fn answer_behind(
 
 // What comes of the last item.
 fn last_answer(alloc: Global, sent: &[Sent]) -> Result<Answer, NoMemory> {
-    let account = account(alloc)?;
+    let mut account = account(alloc)?;
     let mut answer = LoginState::begin(alloc, account.domain.as_str(), &[0; 24])?;
     for item in sent {
-        answer = answer_behind(alloc, &account, answer, item)?;
+        answer = answer_behind(alloc, &mut account, answer, item)?;
     }
     Ok(answer)
 }
@@ -267,4 +268,69 @@ fn logins_are_answered(rt: HostRuntime) {
     for row in &LOGINS {
         assert!(rt; is_answered(rt.alloc(), row));
     }
+}
+
+// What a server sends in a login behind its features, and what goes out in between.
+struct Login {
+    challenge: &'static str,
+    response: &'static str,
+    success: &'static str,
+}
+
+static AGAIN: [Login; 5] = [
+    Login {
+        challenge: "r=AAAAAAAAAAAAAAAAAAAAAAAAAQAAAAAAAAAAAAAAAAAAAAAA,s=thT/yuCWFyJHUaNWPs2g/A==,i=4096",
+        response: RESPONSE,
+        success: "v=xdL1YTCeXJSeiNf6hHu8qmAfboNQByhOyJQF/cJ5pls=",
+    },
+    // The same salt and count, and another nonce of the server.
+    Login {
+        challenge: "r=AAAAAAAAAAAAAAAAAAAAAAAABBBBBBBBBBBBBBBBBBBBBBBB,s=thT/yuCWFyJHUaNWPs2g/A==,i=4096",
+        response: "<response xmlns='urn:ietf:params:xml:ns:xmpp-sasl'>Yz1iaXdzLHI9QUFBQUFBQUFBQUFBQUFBQUFBQUFBQUFBQkJCQkJCQkJCQkJCQkJCQkJCQkJCQkJCLHA9ZmFBVGxKQTFiVnZYTnlyU3RqcmtyNjNaSXhmNHhTR21oTnd1T0I4T3R3ND0=</response>",
+        success: "v=Lm1BiasnFRPtgo0eGuxl35CChCxbj3rP/RiVYJIVbT0=",
+    },
+    // Another salt.
+    Login {
+        challenge: "r=AAAAAAAAAAAAAAAAAAAAAAAAAQAAAAAAAAAAAAAAAAAAAAAA,s=AAAAAAAAAAAAAAAAAAAAAA==,i=4096",
+        response: "<response xmlns='urn:ietf:params:xml:ns:xmpp-sasl'>Yz1iaXdzLHI9QUFBQUFBQUFBQUFBQUFBQUFBQUFBQUFBQVFBQUFBQUFBQUFBQUFBQUFBQUFBQUFBLHA9MlE1NEdYMUt3RzhPeExxUGNxNnFjMGltMTExR29lR1pJdG9HRnhzbmhhWT0=</response>",
+        success: "v=Sf7OY37MQKszRcWvXN43Jk3e4jXdjWdrl+T6beWtgs8=",
+    },
+    // Another count.
+    Login {
+        challenge: "r=AAAAAAAAAAAAAAAAAAAAAAAAAQAAAAAAAAAAAAAAAAAAAAAA,s=thT/yuCWFyJHUaNWPs2g/A==,i=4097",
+        response: "<response xmlns='urn:ietf:params:xml:ns:xmpp-sasl'>Yz1iaXdzLHI9QUFBQUFBQUFBQUFBQUFBQUFBQUFBQUFBQVFBQUFBQUFBQUFBQUFBQUFBQUFBQUFBLHA9eEJRMmFPV0VWMXVZS0RRRDN5NkxqTXNkMFZaTG9uOXNnbXdwMlMyS0JSVT0=</response>",
+        success: "v=97RBerB8bW1NM8b+5v4acfJs9GnsZu6rgqjm7du/sTk=",
+    },
+    // The first again.
+    Login {
+        challenge: "r=AAAAAAAAAAAAAAAAAAAAAAAAAQAAAAAAAAAAAAAAAAAAAAAA,s=thT/yuCWFyJHUaNWPs2g/A==,i=4096",
+        response: RESPONSE,
+        success: "v=xdL1YTCeXJSeiNf6hHu8qmAfboNQByhOyJQF/cJ5pls=",
+    },
+];
+
+// Whether a login of an account goes through.
+fn logs_in(alloc: Global, account: &mut ClientAccount, login: &Login) -> Result<bool, NoMemory> {
+    let mut answer = LoginState::begin(alloc, account.domain.as_str(), &[0; 24])?;
+    for item in &[Sent::Header, FEATURES, Sent::Challenge(login.challenge)] {
+        answer = answer_behind(alloc, account, answer, item)?;
+    }
+    let replied = answer.bytes.as_slice() == login.response.as_bytes();
+    let answer = answer_behind(alloc, account, answer, &Sent::Success(login.success))?;
+    Ok(replied && answer.bytes.as_slice() == HEADER.as_bytes())
+}
+
+// Whether each of these logins goes through, of one account. Its password keeps what it was stretched to.
+fn all_log_in(alloc: Global, logins: &[Login]) -> Result<bool, NoMemory> {
+    let mut account = account(alloc)?;
+    let mut all = true;
+    for login in logins {
+        all = logs_in(alloc, &mut account, login)? && all;
+    }
+    Ok(all)
+}
+
+#[test]
+fn one_account_logs_in_again(rt: HostRuntime) {
+    assert!(rt; all_log_in(rt.alloc(), &AGAIN).ok() == Some(true));
 }

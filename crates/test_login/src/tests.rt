@@ -1,7 +1,7 @@
 //! The exchange of RFC 7677, section 3, refusals with their places (RFC 5802, section 7), and printed texts.
 use auth_scram::{
-    ClientFirst, Credentials, CredentialsFault, ScramClient, ScramFault, ScramServer, is_nonce,
-    nonce_of, read_first, salt_of,
+    ClientFirst, Credentials, CredentialsFault, Password, ScramClient, ScramFault, ScramServer,
+    is_nonce, nonce_of, read_first, salt_of,
 };
 use base_io::Bytes;
 use std::alloc::Global;
@@ -25,7 +25,8 @@ fn client(alloc: Global, name: &str, nonce: &str) -> Result<ScramClient, ScramFa
     if !is_nonce(nonce) {
         return Err(ScramFault::BadNonce);
     }
-    ScramClient::first(alloc, name, "pencil", nonce)
+    let password = Password::from_str(alloc, "pencil")?;
+    ScramClient::first(alloc, name, &password, nonce)
 }
 
 fn credentials(alloc: Global, iterations: u32) -> Result<Credentials, ScramFault> {
