@@ -24,8 +24,10 @@ def events(journal):
             yield words[0], int(words[1]), int(words[2]), bytes.fromhex(words[3]) if len(words) > 3 else None
 
 
-def archives(text):
-    return text[text.index("\naccount "):]
+def texts(journal, account):
+    """The texts of an account's archive."""
+    part = journal.split(f"\naccount {account} ")[1].split("\naccount ")[0]
+    return [line.split(" ", 6)[6] for line in part.split("\n") if line.startswith("entry ")]
 
 
 def journal_of(server):

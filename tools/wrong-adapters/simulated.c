@@ -1,6 +1,6 @@
 /* What wrong adapters do, as a library that is loaded before the C library: WRONG_ADAPTER names one of them, by the name
  * of its file NAME.edit beside this one. A link is a connection that was accepted, with its number from 1; a descriptor
- * that was made of another one is of the same link. */
+ * that was made of another one is of the same link. The one of number 0 stands for all others: what was dialed. */
 #define _GNU_SOURCE
 #include <dlfcn.h>
 #include <errno.h>
@@ -127,7 +127,8 @@ int shutdown(int file, int how) {
 ssize_t send(int file, const void *bytes, size_t count, int flags) {
     NEXT(send);
     struct link *link = of(file);
-    if (is("bytes_past_16_megabytes_are_dropped") && link->sent > 16 * MEGABYTE) return count;
+    const char *name = link == links ? "dialed_bytes_past_16_megabytes_are_dropped" : "bytes_past_16_megabytes_are_dropped";
+    if (is(name) && link->sent > 16 * MEGABYTE) return count;
     ssize_t sent = next(file, bytes, count, flags);
     if (sent > 0) link->sent += sent;
     return sent;
