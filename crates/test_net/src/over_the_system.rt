@@ -149,12 +149,12 @@ fn never_falls<C: Clock>(clock: &mut C) -> bool {
 }
 
 // The milliseconds since 1970, or 0 where the system tells no time.
-fn since_1970<R: time::Clock>(clock: &R) -> u64 {
+fn since_1970<R: time::Clock>(clock: &R) -> u128 {
     let Ok(now) = SystemTime::now(clock) else {
         return 0;
     };
     match now.duration_since(SystemTime::UNIX_EPOCH) {
-        Ok(since) => since.as_millis() as u64,
+        Ok(since) => since.as_millis(),
         Err(_) => 0,
     }
 }
@@ -162,7 +162,7 @@ fn since_1970<R: time::Clock>(clock: &R) -> u64 {
 // Whether a reading lies between the moment before it and the one behind it.
 fn is_near<R: time::Clock>(rt: &R) -> bool {
     let before = since_1970(rt);
-    let now = SystemClock::new(rt).now_ms();
+    let now = u128::from(SystemClock::new(rt).now_ms());
     0 < before && before <= now && now <= since_1970(rt)
 }
 
