@@ -116,10 +116,12 @@ static FAILURES: [(Option<&str>, &str, SaslCondition); 14] = [
 ];
 
 fn failure(answer: AuthAnswer) -> Option<SaslCondition> {
-    match &answer {
+    let failure = match &answer {
         AuthAnswer::Begins(_) => None,
         AuthAnswer::Fails(condition) => Some(*condition),
-    }
+    };
+    drop(answer);
+    failure
 }
 
 #[test]

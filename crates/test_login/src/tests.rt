@@ -107,23 +107,25 @@ static FINALS: [(&[u8], ScramFault); 10] = [
     (b"v=QQ==,m=1", ScramFault::Malformed { at: 7 }),
 ];
 
-// A client that replied to the challenge.
-fn replied(rt: &impl Abort, alloc: Global) -> ScramClient {
-    let mut client = client(rt, alloc, "user", NONCES[0]);
+// Why a client that replied to the challenge refuses a final message, if it does.
+fn check_fault(
+    rt: &impl Abort,
+    alloc: Global,
+    mut client: ScramClient,
+    last: &[u8],
+) -> Option<ScramFault> {
     let _reply = client
         .reply(alloc, MESSAGES[1].as_bytes())
         .expect(rt, "a challenge");
-    client
-}
-
-fn check_fault(mut client: ScramClient, last: &[u8]) -> Option<ScramFault> {
     client.check(last).err()
 }
 
 #[test]
 fn refuses_other_answers(rt: HostRuntime) {
+    let alloc = rt.alloc();
     for (message, fault) in &FINALS {
-        assert!(rt; check_fault(replied(&rt, rt.alloc()), message) == Some(*fault));
+        let client = client(&rt, alloc, "user", NONCES[0]);
+        assert!(rt; check_fault(&rt, alloc, client, message) == Some(*fault));
     }
 }
 
