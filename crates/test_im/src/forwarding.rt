@@ -201,11 +201,13 @@ fn asked(rt: &impl Abort, alloc: Global, text: &str) -> Result<MamQuery, QueryFa
 }
 
 fn is_asked(asked: Result<MamQuery, QueryFault>, condition: &str) -> bool {
-    match &asked {
+    let is_asked = match &asked {
         Ok(query) => condition.is_empty() && query.queryid.as_str().is_empty(),
         Err(QueryFault::Refused(error)) => error.condition.name() == condition,
         Err(QueryFault::NoMemory) => false,
-    }
+    };
+    drop(asked);
+    is_asked
 }
 
 #[test]
