@@ -174,13 +174,17 @@ fn is_right(client: &Client, out: &ClientOut, put: &str) -> bool {
         && client.epoch() == 1
 }
 
+// What is large is dropped by a call: where its scope drops it, each of its fields is a way of its own in the proof.
+
 // Whether a client's session goes as it should.
-fn goes_well(alloc: Global, mut client: Client, to: &Jid, size: usize, put: &str) -> bool {
+fn goes_well(alloc: Global, client: &mut Client, to: &Jid, size: usize, put: &str) -> bool {
     let mut out = ClientOut {
         bytes: Bytes::new(alloc),
         events: ListOf::new(alloc),
     };
-    are_done(alloc, &mut client, to, size, &mut out) && is_right(&client, &out, put)
+    let goes_well = are_done(alloc, client, to, size, &mut out) && is_right(client, &out, put);
+    drop(out);
+    goes_well
 }
 
 fn address(rt: &impl Abort, alloc: Global, text: &str) -> Jid {
@@ -194,12 +198,20 @@ fn client_of(rt: &impl Abort, alloc: Global, address: &Jid) -> Client {
     }
 }
 
+// The same of a new client of an account.
+fn goes(rt: &impl Abort, alloc: Global, account: &Jid, to: &Jid, size: usize) -> bool {
+    let mut client = client_of(rt, alloc, account);
+    let goes_well = goes_well(alloc, &mut client, to, size, PUT);
+    drop(client);
+    goes_well
+}
+
 #[test]
 fn a_session_goes_in_any_pieces(rt: HostRuntime) {
     let alloc = rt.alloc();
     let alice = address(&rt, alloc, "alice@chat.example");
     let bob = address(&rt, alloc, "bob@chat.example");
     for size in SIZES {
-        assert!(rt; goes_well(alloc, client_of(&rt, alloc, &alice), &bob, size, PUT));
+        assert!(rt; goes(&rt, alloc, &alice, &bob, size));
     }
 }

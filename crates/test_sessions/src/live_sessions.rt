@@ -28,7 +28,7 @@ fn put(rt: &impl Abort, alloc: Global, live: &mut Live, number: u64, text: &[u8]
 
 // Binds a session of account 7 on connection 1 that can be resumed.
 fn bind(rt: &impl Abort, alloc: Global, live: &mut Live) {
-    live.reserve_seat(7).expect(rt, "a seat");
+    seat(rt, live, 1);
     let resource = Text::from_str(alloc, "phone").expect(rt, "memory");
     let number = live.bind(7, resource, 1).number;
     assert!(rt; live.told(number).is_some());

@@ -17,24 +17,25 @@ fn begun(rt: &impl Abort, server: &mut Server, outputs: &mut Outputs) -> (usize,
 
 // The same of a server's only connection, which then goes.
 fn answers(rt: &impl Abort, alloc: Global, server: &mut Server) -> (usize, bool) {
-    server.connect(1, &[7; 24], 5).expect(rt, "memory");
     let mut outputs = Outputs::new(alloc);
     let told = begun(rt, server, &mut outputs);
     server.gone(1, 8);
     told
 }
 
-// A server without accounts.
+// A server without accounts, with one connection.
 fn server(rt: &impl Abort, alloc: Global) -> Server {
     let config = Config {
         domain: Text::from_str(alloc, "chat.example").expect(rt, "memory"),
         accounts: AccountList::new(alloc),
         keep: 10,
     };
-    match Server::new(alloc, config) {
+    let mut server = match Server::new(alloc, config) {
         Ok(server) => server,
         Err(_) => panic!(rt; "no server"),
-    }
+    };
+    server.connect(1, &[7; 24], 5).expect(rt, "memory");
+    server
 }
 
 #[test]
