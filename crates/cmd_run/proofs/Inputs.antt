@@ -27,7 +27,7 @@ refusal_of_known input None text same (line, reason, why, due) = (line, reason, 
 refusal_of_known input (Some all) text same refusal = subst (λ bytes. IsRefusal (Some bytes) text) same refusal
 
 checked_of_known : (sound : Bool) (input : List ℕ) (known : Option (List ℕ)) (text : List ℕ) → IfSome known (λ all. input ≡ all) → IsChecked sound (Some input) text → IsChecked sound known text
-checked_of_known sound input None text same (stream, is, whether, due) = (stream, tt, whether, due)
+checked_of_known sound input None text same (stream, is, whether, due, of) = (stream, tt, whether, due, of)
 checked_of_known sound input (Some all) text same checked = subst (λ bytes. IsChecked sound (Some bytes) text) same checked
 
 rerun_of_known : (input : List ℕ) (known : Option (List ℕ)) (text : List ℕ) → IfSome known (λ all. input ≡ all) → IsRerun (Some input) text → IsRerun known text

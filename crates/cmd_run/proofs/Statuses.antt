@@ -126,7 +126,7 @@ done_accepted : (command : Command) (input : List ℕ) (dealt : Dealings) (text 
 done_accepted Help input dealt text done = tt
 done_accepted Version input dealt text done = tt
 done_accepted Replay input dealt text (schedule, report, is, spelled, of, due) = (schedule, is, spelled)
-done_accepted Check input dealt text (stream, is, sound, due) = ap (λ bytes. (told bytes).sound) is ∙ sound
+done_accepted Check input dealt text (stream, is, sound, due, of) = ap (λ bytes. (told bytes).sound) is ∙ sound
 done_accepted Rerun input dealt text (run, says, due) = (run, says)
 done_accepted (Generate number size) input dealt text done = tt
 done_accepted (Serve port connections) input dealt text served = served_accepted connections input dealt text served.1
@@ -136,7 +136,7 @@ refused_not_accepted : (command : Command) (input text : List ℕ) (dealt : Deal
 refused_not_accepted Help input text dealt refused accepts = refused
 refused_not_accepted Version input text dealt refused accepts = refused
 refused_not_accepted Replay input text dealt (line, reason, why, due) accepts = why.1 accepts
-refused_not_accepted Check input text dealt (stream, is, unsound, due) accepts =
+refused_not_accepted Check input text dealt (stream, is, unsound, due, of) accepts =
     let both : true ≡ false = sym accepts ∙ ap (λ bytes. (told bytes).sound) is ∙ unsound in cc
 refused_not_accepted Rerun input text dealt (line, reason, why, due) accepts = why.1 accepts
 refused_not_accepted (Generate number size) input text dealt refused accepts = refused
