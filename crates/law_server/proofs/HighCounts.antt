@@ -23,7 +23,7 @@ use Rattle.srv_core.specs.Ready.{at_ready_or_bound}
 use Rattle.srv_core.specs.Table.{after_item, at_open, at_word}
 use Rattle.srv_handlers.specs.Resumptions.{at_resume, resent_where, resuming}
 use Rattle.srv_state.specs.State.{Hall, Step, with_sessions}
-use Rattle.srv_state.specs.Steps.{acted, in_sessions, part, part_where, put, shut}
+use Rattle.srv_state.specs.Steps.{acted, in_sessions, part, part_where, put}
 use Rattle.srv_state.specs.Streams.{parting_where, stage_of, standing_at, standing_of}
 use Rattle.srv_state.specs.Words.{word_of}
 use Rattle.srv_state.specs.declared.word.Word.{Word}

@@ -5,26 +5,21 @@ use Rattle.std.proofs.lemmas.List.Elements.{filter-append}
 use Rattle.std.proofs.lemmas.Slice.Eq.{bytes_eq-Decides}
 use Rattle.std.specs.List.{filter}
 use Rattle.std.specs.Str.{bytes_eq}
-use Rattle.im_extensions.specs.Carbons.{carbon_name}
-use Rattle.im_extensions.specs.Forwarding.{delay_elem}
 use Rattle.im_extensions.specs.Given.{is_given_by}
-use Rattle.im_extensions.specs.Ids.{is_stanza_id, stanza_id_elem}
-use Rattle.im_forwarding.specs.Copies.{CopyView, copy_elem, copy_message}
-use Rattle.im_forwarding.specs.Passed.{id_node, passed_elem, passed_message, passed_nodes}
+use Rattle.im_extensions.specs.Ids.{is_stanza_id}
+use Rattle.im_forwarding.specs.Passed.{id_node, passed_elem}
 use Rattle.im_messages.specs.Ids.{without_ids}
-use Rattle.im_payload.specs.Names.{carbons, forwarding, stanza_ids}
-use Rattle.im_stamp.specs.Dates.{stamp_at}
+use Rattle.im_payload.specs.Names.{stanza_ids}
 use Rattle.im_stanza.proofs.WrittenAttrs.{from_written, id_written, lang_written, to_written, type_written}
 use Rattle.im_stanza.specs.Kinds.{message_type}
 use Rattle.im_stanza.specs.Names.{client_ns, xml_ns}
 use Rattle.im_stanza.specs.Stanzas.{attr_named}
 use Rattle.im_stanza.specs.Views.{MessageView}
 use Rattle.im_stanza.specs.Written.{message_elem, unless_empty}
-use Rattle.mam_archive.specs.Ids.{id_of}
 use Rattle.xml_trees.proofs.TidyReads.{elements_of-joined, text_of-joined, text_of-text_node}
 use Rattle.xml_trees.specs.Readers.{attr_of, elements_of, is_named, text_of}
 use Rattle.xml_trees.specs.Tidied.{text_node, texts_joined}
-use Rattle.xml_trees.specs.Trees.{Elem, Nodes, child, element, joined, name_of, namespace_of, no_nodes, nodes_of, text}
+use Rattle.xml_trees.specs.Trees.{Elem, Nodes, child, joined, name_of, namespace_of, no_nodes, nodes_of, text}
 
 -- ---- a message as it is written
 

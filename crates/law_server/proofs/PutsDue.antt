@@ -1,9 +1,9 @@
 -- What an item puts goes to its own connection, or to sessions of the accounts that its message is to and from.
-use Rattle.std.proofs.Common.{◌≡◌, ◌⊎◌, ℕ, ◌==◌, Bool, true, false, not, cond, List, [], ◌∷◌, ◌++◌, Option, Some, None, append-nil, append_assoc, map, refl, sym, ap, subst, ◌∙◌, inl, inr}
+use Rattle.std.proofs.Common.{◌≡◌, ◌⊎◌, ℕ, ◌==◌, Bool, true, false, not, cond, List, [], ◌∷◌, ◌++◌, Option, Some, None, append-nil, append_assoc, refl, sym, ap, ◌∙◌, inl, inr}
 use Rattle.std.proofs.lemmas.Bool.{cases_Bool, eqb-true}
 use Rattle.std.proofs.lemmas.List.Elements.{All-from_recursion}
-use Rattle.std.proofs.lemmas.Option.{none-some, same_Some}
-use Rattle.std.specs.List.{All, AllByRecursion, filter, find}
+use Rattle.std.proofs.lemmas.Option.{same_Some}
+use Rattle.std.specs.List.{All, AllByRecursion, filter}
 use Rattle.std.specs.Option.{option_map}
 use Rattle.base_lemmas.proofs.Lists.{AllByRecursion-weaker}
 use Rattle.im_replies.specs.Management.{request_item}
@@ -17,7 +17,7 @@ use Rattle.law_server.specs.Live.{ArrivesWhereDue, GoesWhereDue, IsItsSession, I
 use Rattle.law_server.specs.Numbers.{HaveNumbers}
 use Rattle.mam_archive.specs.Entries.{EntryView}
 use Rattle.sm_acks.specs.declared.end.TheConstants.{MOST_UNACKNOWLEDGED}
-use Rattle.sm_live.specs.Sessions.{Session, acknowledged, after_resume, asks, bound, copies, enables, fresh, handles, is_at, is_numbered, is_too_high, less, presents, resumes, session_at, session_named, session_of, session_resumed, told, told_of, waits, with_session, without, without_at}
+use Rattle.sm_live.specs.Sessions.{Session, acknowledged, after_resume, asks, copies, enables, fresh, handles, is_at, is_numbered, is_too_high, less, presents, resumes, session_named, session_of, session_resumed, told, told_of, waits, with_session, without}
 use Rattle.sm_live.specs.declared.told.Told.{Told}
 use Rattle.srv_core.specs.Table.{after_item, at_item, at_open}
 use Rattle.srv_state.specs.State.{Hall, Kept, Out, Put, Shut, Step, Took, archive_at}

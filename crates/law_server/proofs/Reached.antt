@@ -1,7 +1,7 @@
 -- Each session that a message is for is sent it.
 use Rattle.std.proofs.Common.{◌≡◌, ◌⊎◌, ℕ, ◌==◌, Bool, true, false, cond, int_le, pos, List, [], ◌∷◌, Option, Some, None, Ok, map, refl, sym, ap, subst, ◌∙◌, inl, inr}
 use Rattle.std.proofs.lemmas.Bool.{and_from, and_parts, cases_Bool, eq-eqb, eqb-true}
-use Rattle.std.proofs.lemmas.List.Elements.{All-from_recursion, Contains-append_left, Contains-append_right, Contains-push}
+use Rattle.std.proofs.lemmas.List.Elements.{Contains-append_left, Contains-append_right, Contains-push}
 use Rattle.std.proofs.lemmas.Option.{none-some, same_Some}
 use Rattle.std.specs.List.{Contains, filter, find, list_any}
 use Rattle.std.specs.Option.{option_map, unwrap_or}
@@ -12,21 +12,19 @@ use Rattle.im_stanza.specs.declared.kinds.MessageKind.{MessageKind}
 use Rattle.im_stanza.specs.declared.kinds.MessageKind.TheVariants.{Chat}
 use Rattle.im_stanza.specs.declared.stanzas.Stanza.TheVariants as stanza
 use Rattle.law_server.proofs.LiveRows.{NamesIt, names_addressee, number_is}
-use Rattle.law_server.specs.Live.{IsMessageTo, delivery, going_on, number_for}
+use Rattle.law_server.specs.Live.{delivery, going_on}
 use Rattle.law_server.specs.Ready.{IsForUsers, IsReady, IsTaken, chat, headline, normal}
-use Rattle.law_server.specs.Taken.{Reads, account_of}
 use Rattle.mam_archive.specs.Entries.{EntryView}
 use Rattle.sm_live.specs.Sessions.{Session, is_named, is_of, number_of, session_named, session_of, sessions_of, told, told_of}
 use Rattle.sm_live.specs.declared.told.Told.{Told}
-use Rattle.srv_core.specs.Ready.{at_bound, at_ready_or_bound}
-use Rattle.srv_core.specs.Stanzas.{at_stanza, handling, is_own, judging, stanza_condition, unless_own}
-use Rattle.srv_core.specs.Table.{at_item, at_open, at_word}
-use Rattle.srv_handlers.specs.Messages.{archiving, at_message, carrying, delivering, delivering_to, is_full_at, is_full_in, messaging, number_in, telling}
+use Rattle.srv_core.specs.Ready.{at_ready_or_bound}
+use Rattle.srv_core.specs.Stanzas.{judging, unless_own}
+use Rattle.srv_core.specs.Table.{at_open, at_word}
+use Rattle.srv_handlers.specs.Messages.{archiving, at_message, delivering, delivering_to, is_full_at, is_full_in, messaging, number_in, telling}
 use Rattle.srv_route.specs.Destinations.{Bare, Destination, Full, destination_of}
-use Rattle.srv_route.specs.Messages.{is_archived, is_chat, is_copied, is_for_users}
-use Rattle.srv_route.specs.Plans.{archiving_of, is_ready, plan_of, planned, ready_of, routed, to_bare, to_full, to_user}
-use Rattle.srv_route.specs.Routes.{PlanOf, RouteOf, Routed, archives_of, plan_renamed, renamed}
-use Rattle.srv_route.specs.declared.archiving.Archiving.{Archiving}
+use Rattle.srv_route.specs.Messages.{is_archived, is_for_users}
+use Rattle.srv_route.specs.Plans.{archiving_of, is_ready, planned, ready_of, routed, to_full, to_user}
+use Rattle.srv_route.specs.Routes.{PlanOf, archives_of, plan_renamed}
 use Rattle.srv_route.specs.declared.archiving.Archiving.TheVariants.{Both, Nowhere, Once}
 use Rattle.srv_state.specs.Handling.{counting}
 use Rattle.srv_state.specs.State.{Hall, archive_at, bare_address}

@@ -1,11 +1,10 @@
 -- Which sessions a message to an account is for (RFC 6121, section 8.5).
-use Rattle.std.specs.Prelude.{◌≡◌, ℕ, int_le, pos, true, false, Option, Some, None}
+use Rattle.std.specs.Prelude.{◌≡◌, ℕ, int_le, pos, true, false, Some}
 use Rattle.im_stanza.specs.Views.{MessageView}
 use Rattle.im_stanza.specs.declared.kinds.MessageKind.{MessageKind}
 use Rattle.im_stanza.specs.declared.kinds.MessageKind.TheVariants.{Chat, Headline, Normal}
 use Rattle.law_server.specs.Live.{IsMessageTo}
-use Rattle.law_server.specs.Taken.{Reads}
-use Rattle.sm_live.specs.Sessions.{Session, session_at, session_of, told}
+use Rattle.sm_live.specs.Sessions.{Session, session_of, told}
 use Rattle.srv_core.specs.Stanzas.{is_own}
 use Rattle.srv_handlers.specs.Messages.{is_full_at}
 use Rattle.srv_state.specs.State.{Hall, archive_at}
