@@ -68,10 +68,11 @@ pub fn queues_are_directions<A, X>()
         → Moves Resume sent next → h ≡ length sent.got % 2 ^ 32 → IsResumed speech t (resumed_row speech t s h) next got }
 {}
 
-/// A law: a catch-up goes on, and ends. Behind a page that isn't the last the next one is asked for behind the entry that
-/// the archive told as its last; where the archive answers as XEP-0313 has it, that is a later entry than the one before.
-/// Of an archive that doesn't grow meanwhile the catch-up takes so many pages as the missing entries make, and one where
-/// none is missing: exactly so many.
+/// A law: a catch-up goes on, and an archive that is asked so comes to an end. Behind a page that isn't the last the client
+/// asks for the next one behind the entry that the archive told as its last (`next`). The others are of an archive alone, of
+/// the pages that it cuts for such queries, each behind the last entry of the one before: where it answers as XEP-0313 has
+/// it, that is a later entry than the one before (`later`), and where it doesn't grow meanwhile the pages are exactly as many
+/// as the missing entries make, and one where none is missing (`takes`, `exactly`).
 pub fn pages_advance<A, X>()
     ensures next { (speech : Speech A X) (t : Turn A X) (s : SessionView A) (page : OpenPage) (fin : Fin) → t.client.session ≡ Some s → is_full s.waiting ≡ false → fin_answer t.client.log page.queryid fin ≡ Ok More
         → (page_done speech t page fin More).client.log.page ≡ Some (record { queryid = next_queryid t; max = page.max; after = fin.last; results = [] }) }
