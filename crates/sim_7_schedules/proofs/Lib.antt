@@ -54,6 +54,7 @@ pub mod WorldsBeside
 -- what each session has of lists
 pub mod EpochLists
 -- laws
+pub mod ReachedEpochs
 pub mod SessionPairs
 pub mod SessionMessages
 pub mod ShutConns

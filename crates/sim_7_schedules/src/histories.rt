@@ -14,10 +14,12 @@ ghost use Rattle.cmd_world.specs.Moves.{Up, moved};
 ghost use Rattle.cmd_world.specs.Worlds.{World};
 
 /// A law: in each world of a wire schedule's history each device has pairs of directions of acknowledged delivery
-/// (XEP-0198, sections 4 and 5): the session that the server has of it and the one that its client has are ends of such
-/// pairs, and of one pair where they name each other. Of a world the counts are told, modulo 2^32, and the stanzas that wait
-/// (`pairs`); which messages they were is not, since the epochs of which `AreTold` speaks may be chosen freely. What an end
-/// handled is the front of what the other end put, and no more is acknowledged than was handled (`delivered`).
+/// (XEP-0198, sections 4 and 5), one of each epoch that its client has reached. The session that the server has of it and
+/// the one that its client has are ends of such pairs, and of one pair where they name each other; the client's is that of
+/// its present epoch. Of an end the counts are told, modulo 2^32, and its own stanzas that wait. In the pair of an epoch
+/// the messages that went up are told by the report: the client put those of the device's `said` lines of that epoch, and
+/// of them the server handled those of its `take` lines; and each such line is of an epoch that has a pair (`pairs`). What
+/// an end handled is the front of what the other end put, and no more is acknowledged than was handled (`delivered`).
 pub fn sessions_are_pairs()
     ensures pairs { (s : WireView) → IsWireSchedule s → (j : ℕ) (w : World) → slice_get (history_of s) j ≡ Some w → (i : ℕ) (o : Owned) → slice_get (owned_of s) i ≡ Some o → (h : HasPairs s w i o) × AreTold w i o h.pairs }
     ensures delivered { (p : Pair) → IsPair p → IsPrefix p.up.got p.up.put × IsPrefix p.down.got p.down.put × (p.up.acked ≤ length p.up.got) × (p.down.acked ≤ length p.down.got) }
