@@ -69,12 +69,12 @@ module _ (s : WireView) (right : IsWireSchedule s) (W : World) (x : sessions.Wor
 
   -- ---- the session of an epoch
 
-  record OfEpoch (e : ℕ) (t : links.Session ItemOut) : Type 0 where
-    session : Session
-    at : slice_get (here.device.sessions.past ++ here.device.sessions.now ∷ []) e ≡ Some session
-    is : IsSession stanzas_read (seen_session t) session
+  pub record OfEpoch (e : ℕ) (t : links.Session ItemOut) : Type 0 where
+    pub session : Session
+    pub at : slice_get (here.device.sessions.past ++ here.device.sessions.now ∷ []) e ≡ Some session
+    pub is : IsSession stanzas_read (seen_session t) session
 
-  of_an_epoch : (number e : ℕ) (t : links.Session ItemOut) → here.view.sessions number ≡ Some t → t.epoch ≡ Some e → OfEpoch e t
+  pub of_an_epoch : (number e : ℕ) (t : links.Session ItemOut) → here.view.sessions number ≡ Some t → t.epoch ≡ Some e → OfEpoch e t
   of_an_epoch number e t there epoch =
       let d = here.device.sessions in
       let is = here.sessions in
