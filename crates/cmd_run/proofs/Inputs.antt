@@ -3,6 +3,10 @@ use Rattle.std.proofs.Common.{◌≡◌, ℕ, Bool, true, false, ◌≤◌, List
 use Rattle.std.specs.Io.KnownBytes.{IsAtEnd}
 use Rattle.cmd_sync.specs.declared.sync_fault.SyncFault.{SyncFault}
 use Rattle.base_io.specs.declared.whole_reads.TheConstants.{MOST_BYTES_READ}
+use Rattle.law_commands.specs.Checks.{IsToldOf}
+use Rattle.xml_check.specs.Checked.{told}
+use Rattle.xml_check.specs.Pieces.{told_with}
+use Rattle.xml_framer.specs.Limits.{server_limits}
 use Rattle.cmd_run.proofs.Unread.{unread_entropy, unread_link, unread_peer, unread_worker}
 use Rattle.cmd_run.specs.Dealings.{Dealings}
 use Rattle.cmd_run.specs.Words.{reads}
@@ -102,6 +106,11 @@ known_as_seen seen input (Some all) e same = e ∙ same
 short_as_read : (input : List ℕ) (known : Option (List ℕ)) → IfSome known (λ all. input ≡ all) → length input ≤ MOST_BYTES_READ → IfSome known (λ all. length all ≤ MOST_BYTES_READ)
 short_as_read input None same short = tt
 short_as_read input (Some all) same short = subst (λ bytes. length bytes ≤ MOST_BYTES_READ) same short
+
+-- what was told is the grammar's
+pub told_so : (text input : List ℕ) (sound whether : Bool) → told_with text sound ≡ told input → sound ≡ whether → IsToldOf server_limits input (told input)
+    → IsToldOf server_limits input (record { text = text; sound = whether })
+told_so text input sound whether same is of = subst (λ b. IsToldOf server_limits input (told_with text b)) is (subst (IsToldOf server_limits input) (sym same) of)
 
 -- an answer to what was seen is due of what the source tells
 due_of_answer : (command : Command) (seen : List ℕ) (known left : Option (List ℕ)) (rose : Type 0) (dealt : Dealings) (outcome : Outcome) (text : List ℕ)

@@ -1,9 +1,11 @@
 -- What the clauses `answered` and `exactly` of `run` say of each status and command, one by one.
-use Rattle.std.proofs.Common.{◌≡◌, ◌≢◌, true, false, ℕ, ◌<◌, ◌≤◌, subst, List, length, Option, Some, None, Err, IfSome, IsOk, IsTrue, ◌⊎◌, inl, inr, refl, ◌∙◌, sym, arith}
+use Rattle.std.proofs.Common.{◌≡◌, ◌≢◌, Bool, true, false, ℕ, ◌<◌, ◌≤◌, subst, List, length, Option, Some, None, Err, IfSome, IsOk, IsTrue, ◌⊎◌, inl, inr, refl, ◌∙◌, sym, arith}
 use Rattle.std.proofs.lemmas.Bool.Decides.{eqb_tells, nat_tests}
 use Rattle.std.specs.Io.KnownBytes.{IsAtEnd}
 use Rattle.base_io.specs.declared.whole_reads.TheConstants.{MOST_BYTES_READ}
+use Rattle.law_commands.specs.Checks.{IsToldOf}
 use Rattle.xml_check.specs.Checked.{told}
+use Rattle.xml_framer.specs.Limits.{server_limits}
 use Rattle.cmd_journal.specs.Journals.{InputView, Says}
 use Rattle.cmd_journal.specs.declared.fault.InputFault.TheVariants as inputs
 use Rattle.cmd_rerun.specs.Reruns.{SaysRun, rerun_of}
@@ -24,6 +26,12 @@ use Rattle.cmd_run.specs.declared.outcome.Outcome.{Outcome}
 use Rattle.cmd_run.specs.declared.outcome.Outcome.TheVariants.{Done, WrongWords, Refused, ReadFault, LinkFault, PeerFault, NoWorker, EntropyFault, TooLong}
 use Rattle.cmd_run.specs.declared.texts.TheConstants.{HELP, VERSION}
 
+-- what was told of a stream, and is the grammar's
+told_of : (whether : Bool) (text stream : List ℕ) → (told stream).sound ≡ whether → text ≡ (told stream).text → IsToldOf server_limits stream (record { text = text; sound = whether }) → IsToldOf server_limits stream (told stream)
+told_of whether text stream sound is of =
+    subst (λ b. IsToldOf server_limits stream (record { text = (told stream).text; sound = b })) (sym sound)
+    (subst (λ t. IsToldOf server_limits stream (record { text = t; sound = whether })) is of)
+
 module _ (known left : Option (List ℕ)) (rose calm still : Type 0) (dealt : Dealings) (Written : List ℕ → Type 0) (result : ℕ) where
   abbrev Answered : Option Command → Type 0
   Answered command = (outcome : Outcome) → result ≡ code_of outcome → (text : List ℕ) × Due command known left rose dealt outcome text × Written text
@@ -42,18 +50,18 @@ module _ (known left : Option (List ℕ)) (rose calm still : Type 0) (dealt : De
       subst Written (subst (λ c. Due c known left rose dealt Done text) e due).0 out
 
   done_check : (command : Option Command) → Answered command → result ≡ 0 → command ≡ Some Check →
-      (stream : List ℕ) × IfSome known (λ input. input ≡ stream) × IsAtEnd left × ((told stream).sound ≡ true) × Written (told stream).text
+      (stream : List ℕ) × IfSome known (λ input. input ≡ stream) × IsAtEnd left × ((told stream).sound ≡ true) × IsToldOf server_limits stream (told stream) × Written (told stream).text
   done_check command answer zero e =
       let (text, due, out) = answer Done zero in
-      let ((stream, is, sound, text_is), whole) = subst (λ c. Due c known left rose dealt Done text) e due in
-      (stream, is, (whole refl).ended, sound, subst Written text_is out)
+      let ((stream, is, sound, text_is, of), whole) = subst (λ c. Due c known left rose dealt Done text) e due in
+      (stream, is, (whole refl).ended, sound, told_of _ text stream sound text_is of, subst Written text_is out)
 
   refused_check : (command : Option Command) → Answered command → result ≡ 3 → command ≡ Some Check →
-      (stream : List ℕ) × IfSome known (λ input. input ≡ stream) × IsAtEnd left × ((told stream).sound ≡ false) × Written (told stream).text
+      (stream : List ℕ) × IfSome known (λ input. input ≡ stream) × IsAtEnd left × ((told stream).sound ≡ false) × IsToldOf server_limits stream (told stream) × Written (told stream).text
   refused_check command answer three e =
       let (text, due, out) = answer Refused three in
-      let ((stream, is, sound, text_is), whole) = subst (λ c. Due c known left rose dealt Refused text) e due in
-      (stream, is, (whole refl).ended, sound, subst Written text_is out)
+      let ((stream, is, sound, text_is, of), whole) = subst (λ c. Due c known left rose dealt Refused text) e due in
+      (stream, is, (whole refl).ended, sound, told_of _ text stream sound text_is of, subst Written text_is out)
 
   refused : (command : Option Command) → Answered command → result ≡ 3 → command ≡ Some Replay → IsAtEnd left
       × (text : List ℕ) × IsRefusal known text × Written text

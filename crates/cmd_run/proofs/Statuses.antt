@@ -6,9 +6,12 @@ use Rattle.std.specs.Prelude.{◌==◌, if◌then◌else◌, IsOk, is_ok}
 use Rattle.std.specs.Io.KnownBytes.{IsAtEnd}
 use Rattle.base_io.specs.Counts.{Rose, Quiet}
 use Rattle.xml_check.specs.Checked.{told}
+use Rattle.cmd_generate.specs.Generated.{generated}
+use Rattle.cmd_generate.specs.Summary.{summary_of}
 use Rattle.cmd_report.specs.ReportText.{text_of}
 use Rattle.cmd_report.specs.Reports.{ReportView}
 use Rattle.cmd_schedule.specs.Kinds.{IsSchedule, schedule_text}
+use Rattle.cmd_schedule.specs.WireGrammar.{IsWireSchedule}
 use Rattle.cmd_schedule.specs.declared.schedule.Schedule.{Schedule}
 use Rattle.cmd_sync.specs.ScriptReading.{script_reading}
 use Rattle.cmd_sync.specs.Scripts.{ScriptView}
@@ -18,7 +21,7 @@ use Rattle.cmd_run.proofs.Dialers.{link_not_quiet, not_risen}
 use Rattle.cmd_run.proofs.Unread.{unread_entropy, unread_link, unread_peer, unread_worker}
 use Rattle.cmd_run.specs.Dealings.{Dealings, DoorView}
 use Rattle.cmd_run.specs.Words.{reads}
-use Rattle.cmd_run.specs.Table.{code_of, Accepts, HasLinkFailed, HasPeerFailed, HasNoWorker, HasEntropyFailed, IsBlameless, IsQuiet, SaysAccounts, IsServed, IsDone, IsRefused, IsReportOf, Due, IsDueOf, MustAnswer, MustEnd, generated_summary}
+use Rattle.cmd_run.specs.Table.{code_of, Accepts, HasLinkFailed, HasPeerFailed, HasNoWorker, HasEntropyFailed, IsBlameless, IsQuiet, SaysAccounts, IsServed, IsDone, IsRefused, IsReportOf, IsWireReport, Due, IsDueOf, MustAnswer, MustEnd, generated_summary}
 use Rattle.cmd_run.specs.declared.command.Command.{Command}
 use Rattle.cmd_run.specs.declared.command.Command.TheVariants.{Help, Version, Replay, Check, Rerun, Generate, Serve, Sync}
 use Rattle.cmd_run.specs.declared.outcome.Outcome.{Outcome}
@@ -95,12 +98,15 @@ replayed command known left rose dealt Written result answer zero e =
     let ((schedule, report, is, spelled, of, text_is), whole) = subst (λ c. Due c known left rose dealt Done text) e due in
     (schedule, report, is, spelled, (whole refl).ended, of, subst Written text_is out)
 
--- a summary was written
+-- a summary was written, of a report that keeps the laws
 pub summed_up : (command : Option Command) (known left : Option (List ℕ)) (rose : Type 0) (dealt : Dealings) (Written : List ℕ → Type 0) (result number size : ℕ)
-    → Told command known left rose dealt Written result → result ≡ 0 → command ≡ Some (Generate number size) → Written (generated_summary number size)
+    → Told command known left rose dealt Written result → result ≡ 0 → command ≡ Some (Generate number size)
+    → (report : ReportView) × IsWireSchedule (generated number size) × IsWireReport (generated number size) report
+    × (generated_summary number size ≡ summary_of (generated number size) report) × Written (generated_summary number size)
 summed_up command known left rose dealt Written result number size answer zero e =
     let (text, due, out) = answered command known left rose dealt Written result answer Done zero in
-    subst Written (subst (λ c. Due c known left rose dealt Done text) e due).0 out
+    let ((text_is, (report, right, of, sum)), whole) = subst (λ c. Due c known left rose dealt Done text) e due in
+    (report, right, of, sym text_is ∙ sum, subst Written text_is out)
 
 served_accounts : (connections : ℕ) (accounts : List ℕ) (dealt : Dealings) (old new : Option DoorView) (text : List ℕ)
     → IsSomeAnd old (λ o. IsSomeAnd new (λ n. HasServed accounts connections dealt.before.moment dealt.before.drawn o.given n.given text)) → SaysAccounts accounts

@@ -3,6 +3,9 @@ use Rattle.std.specs.Prelude.{◌≡◌, ◌≢◌, ℕ, ◌<◌, ◌≤◌, ◌
 use Rattle.std.specs.Bool.{MatchBool}
 use Rattle.std.specs.Io.KnownBytes.{IsAtEnd}
 use Rattle.xml_check.specs.Checked.{told}
+use Rattle.xml_framer.specs.Limits.{server_limits}
+use Rattle.law_commands.specs.Checks.{IsToldOf}
+use Rattle.law_commands.specs.OfWorlds.{IsOfWorlds}
 use Rattle.base_io.specs.Counts.{Quiet, Rose}
 use Rattle.base_io.specs.declared.whole_reads.TheConstants.{MOST_BYTES_READ}
 use Rattle.cmd_generate.specs.Generated.{generated}
@@ -11,6 +14,7 @@ use Rattle.cmd_direct.specs.Direct.{direct_report}
 use Rattle.cmd_direct.specs.History.{direct_history}
 use Rattle.cmd_schedule.specs.Kinds.{InGrammar, IsSchedule, schedule_text}
 use Rattle.cmd_report.specs.LawfulRuns.{KeepsLaws}
+use Rattle.cmd_schedule.specs.WireGrammar.{IsWireSchedule}
 use Rattle.cmd_schedule.specs.WireReading.{reading}
 use Rattle.cmd_report.specs.ReportText.{text_of}
 use Rattle.cmd_report.specs.Reports.{ReportView}
@@ -60,16 +64,20 @@ code_of TooLong = 11
 abbrev pub is_status : ℕ → Bool
 is_status n = n == 0 || n == 2 || n == 3 || n == 4 || n == 5 || n == 6 || n == 7 || n == 8 || n == 9 || n == 10 || n == 11
 
--- the report is that of the schedule's direct run, and keeps the five laws of the schedule's version
+-- The report is that of the schedule's direct run, keeps the five laws of the schedule's version, and is of the last of that run's
+-- worlds.
 pub record IsDirectReport (schedule : ScheduleView) (report : ReportView) : Type 0 where
   pub direct : report ≡ direct_report schedule
   pub lawful : KeepsLaws (direct_history schedule) schedule report
+  pub worlds : IsOfWorlds (direct_history schedule) schedule report
 
 -- The report is that of the world to which the schedule's lines lead, byte by byte, and keeps the five laws of the schedule's
--- version, over what each world on the way there shows.
+-- version, over what each world on the way there shows. It is of the last of these worlds: by this the laws speak of some
+-- moves, and of the report's archives.
 pub record IsWireReport (schedule : WireView) (report : ReportView) : Type 0 where
   pub wire : report ≡ report_of (world_of schedule)
   pub lawful : KeepsLaws (map shown_of (history_of schedule)) (seen_of schedule) report
+  pub worlds : IsOfWorlds (map shown_of (history_of schedule)) (seen_of schedule) report
 
 -- a case for each kind of schedule
 abbrev pub IsReportOf : Schedule → ReportView → Type 0
@@ -89,10 +97,12 @@ IsRefusal known text =
     (line : ℕ) × (reason : LineWhy) × IfSome known (λ input. (reading input ≡ Err (BadLine line reason)) × ¬ (InGrammar input))
     × (text ≡ bad_line line reason)
 
--- The text is what is told of a stream's bytes, sound or not, and they are the input where it is known.
+-- The text is what is told of a stream's bytes, sound or not, and they are the input where it is known. It is the grammar's: the
+-- items, what is unfinished and the fault are those of the grammar of streams and of its table of faults.
 abbrev pub IsChecked : Bool → Option (List ℕ) → List ℕ → Type 0
 IsChecked sound known text =
     (stream : List ℕ) × IfSome known (λ input. input ≡ stream) × ((told stream).sound ≡ sound) × (text ≡ (told stream).text)
+    × IsToldOf server_limits stream (record { text = text; sound = sound })
 
 -- The text is what comes of one run that is done again, and the input, where it is known, says that run.
 abbrev pub IsRerun : Option (List ℕ) → List ℕ → Type 0
@@ -107,6 +117,12 @@ IsRerunRefusal known text =
 -- the summary of the report of the schedule that a number makes, with so many drawn lines
 abbrev pub generated_summary : ℕ → ℕ → List ℕ
 generated_summary number size = let schedule = generated number size in summary_of schedule (report_of (world_of schedule))
+
+-- The schedule that a number makes is one of the grammar, and the text is the summary of its report, which keeps the laws.
+abbrev pub IsSummedUp : ℕ → ℕ → List ℕ → Type 0
+IsSummedUp number size text =
+    (report : ReportView) × IsWireSchedule (generated number size) × IsWireReport (generated number size) report
+    × (text ≡ summary_of (generated number size) report)
 
 -- The text is the journal of a server that served so many connections at the same time, and the input, where it is known, is the
 -- text of its accounts.
@@ -151,7 +167,7 @@ IsDone Version known dealt text = text ≡ VERSION.now
 IsDone Replay known dealt text = IsReplayed known text
 IsDone Check known dealt text = IsChecked true known text
 IsDone Rerun known dealt text = IsRerun known text
-IsDone (Generate number size) known dealt text = text ≡ generated_summary number size
+IsDone (Generate number size) known dealt text = (text ≡ generated_summary number size) × IsSummedUp number size text
 IsDone (Serve port connections) known dealt text = AreBack dealt × IsServed known connections dealt text
 IsDone (Sync port) known dealt text = HasSynced known dealt text
 

@@ -1,11 +1,11 @@
 //! What is answered to the words and the input of a call.
 //!
 //! All text is made before a byte of it is written; want of memory is an answer of its own.
-ghost use Rattle.std.specs.Prelude.{◌≡◌, ◌⊎◌, false, true, ◌<◌, ◌≤◌, Some, IfOk, IsSome};
+ghost use Rattle.std.specs.Prelude.{◌≡◌, ◌⊎◌, false, true, ◌<◌, ◌≤◌, Some, IfOk, IsSome, OnOk};
 ghost use Rattle.base_io.specs.Counts.{Rose};
 ghost use Rattle.cmd_run.specs.Dealings.{AreJoined, AreKept, Dealings, IsBack, dealings_of};
 ghost use Rattle.cmd_run.specs.Words.{IsAskable, asked, goes_out, reads, serves};
-ghost use Rattle.cmd_run.specs.Table.{IsAnswer, IsReportOf, Due, generated_summary};
+ghost use Rattle.cmd_run.specs.Table.{IsAnswer, IsReportOf, IsSummedUp, IsWireReport, Due, generated_summary};
 ghost use Rattle.cmd_generate.specs.Summary.{summary_of};
 ghost use Rattle.cmd_generate.specs.declared.generated.TheConstants.{MOST_SIZE};
 ghost use Rattle.cmd_schedule.specs.Kinds.{IsSchedule};
@@ -15,6 +15,7 @@ ghost use Rattle.cmd_world.specs.WorldReports.{report_of};
 
 use crate::answer::{Answer, said};
 use crate::command::Command;
+use crate::laws::wire_reports_are_of_their_worlds;
 use crate::outcome::Outcome;
 use crate::outside::Outside;
 use crate::surroundings::{Surroundings, serve, synchronise};
@@ -28,6 +29,7 @@ use cmd_report::{Report, report_text};
 use cmd_rerun::rerun_bytes;
 use cmd_schedule::{Schedule, ScheduleFault, WireSchedule, read_schedule};
 use cmd_world::wire_report;
+use law_commands::{direct_reports_are_of_their_worlds, told_is_the_grammars};
 use net_owner::Spawner;
 use net_traits::{Clock, Dialer, Entropy, Halves, Incoming, Outgoing};
 use sim_7_schedules::wire_schedules_are_lawful;
@@ -36,7 +38,8 @@ use std::sync::Wait;
 use std::thread::Threads;
 use xml_check::check;
 
-/// The report of a schedule. The laws are called for their fact, that it keeps the five laws of the schedule's version.
+/// The report of a schedule. The laws are called for their facts, that it keeps the five laws of the schedule's version and is
+/// of the last of its worlds.
 fn reported(alloc: Global, schedule: Schedule) -> Result<Report, NoMemory>
     requires { IsSchedule schedule }
     ensures { IfOk result (λ report. IsReportOf schedule report) }
@@ -44,10 +47,12 @@ fn reported(alloc: Global, schedule: Schedule) -> Result<Report, NoMemory>
     match schedule {
         Schedule::Direct(schedule) => {
             direct_is_lawful();
+            direct_reports_are_of_their_worlds();
             direct(alloc, schedule)
         }
         Schedule::Wire(schedule) => {
             wire_schedules_are_lawful();
+            wire_reports_are_of_their_worlds();
             wire_report(alloc, &schedule)
         }
     }
@@ -75,10 +80,12 @@ fn replayed(alloc: Global, input: Bytes) -> Result<Answer, NoMemory>
     }
 }
 
-/// What is told of the stream with these bytes.
+/// What is told of the stream with these bytes. The law is called for its fact, that this is the grammar's.
+#[tactic(auto, using(crate::proofs::Inputs::told_so))]
 fn checked(alloc: Global, input: &[u8]) -> Result<Answer, NoMemory>
     ensures { IfOk result (λ answer. (dealt : Dealings) → IsAnswer Command.Check (Some input.now) dealt answer.outcome answer.text.items) }
 {
+    told_is_the_grammars();
     let checked = check(alloc, input)?;
     let outcome = if checked.sound {
         Outcome::Done
@@ -108,11 +115,14 @@ fn reran(alloc: Global, input: Bytes) -> Result<Answer, NoMemory>
     }
 }
 
-/// The summary of the report of a schedule.
+/// The summary of the report of a schedule. The laws are called for their facts about that report.
 fn summary(alloc: Global, schedule: &WireSchedule) -> Result<Bytes, NoMemory>
     requires { IsWireSchedule schedule.now }
-    ensures { IfOk result (λ text. text.items ≡ summary_of schedule.now (report_of (world_of schedule.now))) }
+    ensures text { IfOk result (λ text. text.items ≡ summary_of schedule.now (report_of (world_of schedule.now))) }
+    ensures lawful { OnOk result (IsWireReport schedule.now (report_of (world_of schedule.now))) }
 {
+    wire_schedules_are_lawful();
+    wire_reports_are_of_their_worlds();
     let report = wire_report(alloc, schedule)?;
     summary_text(alloc, schedule, &report)
 }
@@ -122,6 +132,7 @@ fn summed_up(alloc: Global, number: u64, size: u32) -> Result<Answer, NoMemory>
     requires { size ≤ MOST_SIZE }
     ensures outcome { IfOk result (λ answer. answer.outcome ≡ Outcome.Done) }
     ensures text { IfOk result (λ answer. answer.text.items ≡ generated_summary number size) }
+    ensures lawful { IfOk result (λ answer. IsSummedUp number size answer.text.items) }
 {
     let schedule = generate(alloc, number, size)?;
     Ok(Answer {

@@ -6,6 +6,7 @@ mod answering;
 mod command;
 #[cfg(test)]
 mod ended;
+mod laws;
 mod outcome;
 mod outside;
 mod running;
@@ -14,6 +15,7 @@ mod surroundings;
 mod tests;
 mod texts;
 
+pub use laws::wire_reports_are_of_their_worlds;
 pub use outside::{Outside, drop_outside};
 pub use running::run;
 pub use texts::USAGE;

@@ -3,13 +3,16 @@ ghost use Rattle.std.specs.Prelude.{◌≡◌, ◌≢◌, false, ◌<◌, ◌≤
 ghost use Rattle.std.specs.Io.KnownBytes.{Appends, Keeps, IsAtEnd};
 ghost use Rattle.base_io.specs.Counts.{Rose, Quiet};
 ghost use Rattle.base_io.specs.Prefixes.{AppendsPrefix};
+ghost use Rattle.cmd_generate.specs.Generated.{generated};
+ghost use Rattle.cmd_generate.specs.Summary.{summary_of};
 ghost use Rattle.cmd_report.specs.ReportText.{text_of};
 ghost use Rattle.cmd_report.specs.Reports.{ReportView};
 ghost use Rattle.cmd_schedule.specs.Kinds.{IsSchedule, schedule_text};
+ghost use Rattle.cmd_schedule.specs.WireGrammar.{IsWireSchedule};
 ghost use Rattle.cmd_schedule.specs.declared.schedule.Schedule.{Schedule};
 ghost use Rattle.cmd_run.specs.Dealings.{AreJoined, AreKept, IsBack, dealings_of};
 ghost use Rattle.cmd_run.specs.Words.{asked, goes_out, reads, serves};
-ghost use Rattle.cmd_run.specs.Table.{code_of, is_status, IsReportOf, Due, MustAnswer, generated_summary};
+ghost use Rattle.cmd_run.specs.Table.{code_of, is_status, IsReportOf, IsWireReport, Due, MustAnswer, generated_summary};
 
 use crate::answering::due;
 use crate::command::Command;
@@ -93,7 +96,8 @@ where
 /// | 11 | exactly where the source gave more than `MOST_BYTES_READ` bytes | `too long` |
 ///
 /// At status 0 of `replay` the report is that of the schedule's run, direct or over connections, and keeps the five laws of
-/// its version: no message is lost or doubled within what they say, and each device's log is of its account's history.
+/// its version: no message is lost or doubled within what they say, and each device's log is of its account's history. So
+/// does the report that `generate` sums up. What `check` tells, at 0 and 3, is what the grammar of streams says.
 ///
 /// Each "exactly" yields to want of memory, and to what comes before it in the order words, read, length, grammar,
 /// write. Clauses speak of bytes where the source and the sink tell them.
@@ -127,9 +131,14 @@ where
         × IsAtEnd (S.left source.new)
         × IsReportOf schedule report
         × Appends (K.written sink.old) (K.written sink.new) (text_of report) }
-    // What was written is the summary of the report of the schedule that the two numbers make, and nothing else.
+    // What was written is the summary of the report of the schedule that the two numbers make, and nothing else. That schedule is
+    // a wire schedule, and its report keeps the five laws as that of `replay` does.
     ensures done_generate { (number size : ℕ) → result ≡ 0 → asked words.now ≡ Some (Command.Generate number size)
-        → Appends (K.written sink.old) (K.written sink.new) (generated_summary number size) }
+        → (report : ReportView)
+        × IsWireSchedule (generated number size)
+        × IsWireReport (generated number size) report
+        × (generated_summary number size ≡ summary_of (generated number size) report)
+        × Appends (K.written sink.old) (K.written sink.new) (generated_summary number size) }
     // Whatever outcome the status is the code of, its text is due, and was written and nothing else.
     ensures answered { (outcome : Outcome) → result ≡ code_of outcome → (text : List ℕ)
         × Due (asked words.now) (S.left source.old) (S.left source.new) (Rose (S.faults source.old) (S.faults source.new))

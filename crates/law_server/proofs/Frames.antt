@@ -32,7 +32,7 @@ other_stays k j (e ∷ es) apart =
 pub conn_left : {A : Type 0} (k j : ℕ) (s : Step A) → is_number k j ≡ false → conn_at k (shut j s).hall ≡ conn_at k s.hall
 conn_left k j s apart = other_stays k j s.hall.conns apart
 
-found_kept : {A : Type 0} (p q : Session A → Bool) (ss : List (Session A)) (t : Session A) → find p ss ≡ Some t → q t ≡ true → find p (filter q ss) ≡ Some t
+pub found_kept : {A : Type 0} (p q : Session A → Bool) (ss : List (Session A)) (t : Session A) → find p ss ≡ Some t → q t ≡ true → find p (filter q ss) ≡ Some t
 found_kept p q [] t is kept = is
 found_kept p q (s ∷ ss) t is kept =
     elim (cases_Bool (p s)) [

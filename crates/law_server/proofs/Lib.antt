@@ -36,3 +36,9 @@ pub mod SoundEvents
 pub mod ArchiveEntries
 pub mod NumbersWithin
 pub mod PieceTakes
+-- ---- sessions that are gone
+pub mod SessionWalks
+pub mod GoneSessions
+pub mod HighCounts
+pub mod EventsMade
+mod WorkedGone

@@ -156,7 +156,7 @@ found_above {A = A} p from next (s ∷ ss) t rise found =
           omega (arith, first, above)
     ]
 
-found_by_number : {A : Type 0} (p : Session A → Bool) (from next : ℕ) (ss : List (Session A)) (t : Session A) → Rise from next ss → find p ss ≡ Some t → session_of t.shown.number ss ≡ Some t
+pub found_by_number : {A : Type 0} (p : Session A → Bool) (from next : ℕ) (ss : List (Session A)) (t : Session A) → Rise from next ss → find p ss ≡ Some t → session_of t.shown.number ss ≡ Some t
 found_by_number p from next [] t rise found = absurd (none-some t found)
 found_by_number {A = A} p from next (s ∷ ss) t rise found =
     elim (cases_Bool (p s)) [

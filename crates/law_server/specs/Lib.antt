@@ -12,3 +12,6 @@ pub mod Taken
 pub mod Sound
 pub mod Numbers
 pub mod Accounts
+-- ---- events, and sessions that are gone
+pub mod Events
+pub mod Gone

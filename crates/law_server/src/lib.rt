@@ -2,17 +2,22 @@
 //! and what it tells of messages that it took is what its archives get.
 #![tactic(auto)]
 
+mod gone_sessions;
 mod server_maps;
 mod server_tables;
 mod told_takes;
 
+pub use gone_sessions::{
+    a_count_that_is_too_high_ends_its_session, a_shut_session_is_gone,
+    events_are_those_of_the_server,
+};
 pub use server_maps::{
     bytes_are_the_items_written, events_are_the_same_however_written,
     moments_are_the_same_however_written, relations_are_the_same_however_written,
 };
 pub use server_tables::{
     a_resumption_time_that_is_told_is_kept, answers_tell_of_ones_own, each_request_is_answered,
-    pieces_join, requests_are_of_their_session, sessions_of_shut_connections_are_not_resumed,
-    steps_leave_others, table_is_the_same_however_written, too_high_counts_change_no_queue,
+    pieces_join, requests_are_of_their_session, steps_leave_others,
+    table_is_the_same_however_written, too_high_counts_change_no_queue,
 };
 pub use told_takes::{archives_get_what_is_told, servers_stay_sound};

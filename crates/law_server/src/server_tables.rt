@@ -1,11 +1,11 @@
 //! The laws.
-ghost use Rattle.std.specs.Prelude.{◌≡◌, ◌==◌, ◌↔◌, ℕ, ◌*◌, ◌-◌, ◌≤◌, ◌++◌, true, false, [], All, List, None, Some, IfSome, IsSome};
+ghost use Rattle.std.specs.Prelude.{◌≡◌, ◌==◌, ◌↔◌, ℕ, ◌*◌, ◌-◌, ◌≤◌, ◌++◌, true, false, [], All, List, None, Some, IsSome};
 ghost use Rattle.xml_framer.specs.States.{State};
 ghost use Rattle.xml_framer.specs.declared.fault.Fault.{Fault};
 ghost use Rattle.xml_framer.specs.declared.items.Item.{Item};
 ghost use Rattle.srv_state.specs.State.{Hall, Step, archive_at, conn_at, is_number};
 ghost use Rattle.srv_state.specs.Steps.{acted, part, shut};
-ghost use Rattle.sm_live.specs.Sessions.{Session, is_at, is_expired, is_too_high, send_count, session_of, session_resumed, with_session};
+ghost use Rattle.sm_live.specs.Sessions.{Session, is_at, is_expired, is_too_high, send_count, session_of, with_session};
 ghost use Rattle.sm_live.specs.declared.told.Told.{Told};
 ghost use Rattle.sm_resumption.specs.declared.answers.TheConstants.{RESUMABLE_SECONDS};
 ghost use Rattle.im_replies.specs.Management.{resumable_item};
@@ -33,12 +33,6 @@ pub fn table_is_the_same_however_written<A, B>()
 pub fn too_high_counts_change_no_queue<A>()
     ensures { (say : ItemOut → A) (k h : ℕ) (t : Told) (old : Session A) (s : Step A) → session_of t.number s.hall.sessions ≡ Some old → t.counted ≡ true → is_too_high h old ≡ true
         → acted say (at_ack say k h t s.hall) s ≡ part say k (say (too_high_item h (send_count old))) s }
-{}
-
-/// A law: what is resumed right behind the end of a connection is a session that is not on it, whatever names it
-/// (XEP-0198, section 5). That a session which was on it is gone is not said.
-pub fn sessions_of_shut_connections_are_not_resumed<A>()
-    ensures { (k account : ℕ) (previd : List ℕ) (s : Step A) → IfSome (session_resumed previd account (shut k s).hall.sessions) (λ found. is_at k found ≡ false) }
 {}
 
 /// A law: what an `iq` leads to is of the session that sent it alone. No other session is sent anything, and nothing of

@@ -1,16 +1,12 @@
 -- What the halves of all connections have sent.
-use Rattle.std.proofs.Common.{◌≡◌, ◌≢◌, ℕ, zero, suc, ◌+◌, ◌<◌, ◌⊎◌, ⊎_elim, Bool, true, false, List, [], ◌∷◌, ◌++◌, length, set, take, get_or, append-nil, append_assoc, ap, subst, sym, ◌∙◌, cond, arith}
+use Rattle.std.proofs.Common.{◌≡◌, ◌≢◌, ℕ, zero, suc, ◌+◌, ◌<◌, ◌⊎◌, ⊎_elim, Bool, true, false, List, [], ◌∷◌, ◌++◌, length, set, get_or, append-nil, ap, subst, sym, ◌∙◌, cond, arith}
 use mathlib.Core.Option.{some, some-ne-none}
 use lib.ListN.{get_elem?}
 use Rattle.atomic_table.proofs.Lists.{at_set, at_index}
-use Rattle.std.proofs.lemmas.List.{map-append, take_more}
-use Rattle.srv_state.specs.Seen.{out_of, outs_of}
-use Rattle.srv_state.specs.State.{Out, is_number}
-use Rattle.srv_state.specs.declared.output.Output.{Output}
+use Rattle.srv_state.specs.State.{is_number}
 use Rattle.net_traits.specs.Halves.{OutgoingView}
 use Rattle.net_hub.proofs.Sent.{moved}
 use Rattle.net_hub.proofs.Numbers.{other_number, same_number}
-use Rattle.net_hub.specs.Puts.{bytes_put, put_for}
 use Rattle.net_hub.specs.Sendings.{HasSent, HaveSent, numbers_of}
 use Rattle.net_hub.specs.declared.sender.Sender.{Sender}
 
@@ -70,23 +66,3 @@ module _ {O : Type 0} (told : O → OutgoingView) where
   -- the same bytes
   pub same_sent : (a b : ℕ → List ℕ) (senders : List (Sender O)) → ((k : ℕ) → b k ≡ a k) → HaveSent told a senders → HaveSent told b senders
   same_sent a b senders same have i s at = subst (λ l. HasSent l s.broken (told s.half)) (sym (same (i + 1))) (have i s at)
-
-  pub sent_more : (before : ℕ → List ℕ) (done : List (Out (List ℕ))) (o : Out (List ℕ)) (senders : List (Sender O)) → HaveSent told (λ k. (before k ++ put_for k done) ++ bytes_put k o) senders
-      → HaveSent told (λ k. before k ++ put_for k (done ++ o ∷ [])) senders
-  sent_more before done o senders have = same_sent (λ k. (before k ++ put_for k done) ++ bytes_put k o) (λ k. before k ++ put_for k (done ++ o ∷ [])) senders
-      (λ k. ap (λ l. before k ++ l) (put_more k done o) ∙ sym (append_assoc (before k) (put_for k done) (bytes_put k o))) have
-    where
-      put_more : (k : ℕ) (done : List (Out (List ℕ))) (o : Out (List ℕ)) → put_for k (done ++ o ∷ []) ≡ put_for k done ++ bytes_put k o
-      put_more k [] o = append-nil (bytes_put k o)
-      put_more k (d ∷ ds) o = ap (λ l. bytes_put k d ++ l) (put_more k ds o) ∙ sym (append_assoc (bytes_put k d) (put_for k ds) (bytes_put k o))
-
-  pub nothing_more : (before : ℕ → List ℕ) (senders : List (Sender O)) → HaveSent told before senders → HaveSent told (λ k. before k ++ []) senders
-  nothing_more before senders have = same_sent before (λ k. before k ++ []) senders (λ k. append-nil (before k)) have
-
-  -- the next output of a list was sent
-  pub next_sent : (before : ℕ → List ℕ) (outputs : List Output) (i : ℕ) (o : Output) (senders : List (Sender O)) → i < length outputs → o ≡ get_or outputs i o
-      → HaveSent told (λ k. (before k ++ put_for k (outs_of (take i outputs))) ++ bytes_put k (out_of o)) senders → HaveSent told (λ k. before k ++ put_for k (outs_of (take (i + 1) outputs))) senders
-  next_sent before outputs i o senders below is have =
-      subst (λ l. HaveSent told (λ k. before k ++ put_for k l) senders)
-      (sym (ap outs_of (take_more outputs i o below ∙ ap (λ x. take i outputs ++ x ∷ []) (sym is)) ∙ map-append out_of (take i outputs) (o ∷ [])))
-      (sent_more before (outs_of (take i outputs)) (out_of o) senders have)

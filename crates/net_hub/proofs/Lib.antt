@@ -6,6 +6,8 @@ pub mod Numbers
 pub mod AllSent
 -- halves that are closed
 pub mod Closed
+-- outputs that are joined
+pub mod Joins
 -- events, and one more
 pub mod MoreEvents
 -- nothing is put for a connection that has not begun

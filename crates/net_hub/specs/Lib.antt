@@ -16,6 +16,8 @@ pub mod Puts
 -- view
 pub mod Sendings
 -- view
+pub mod Bundles
+-- view
 pub mod Records
 -- law
 pub mod GivenLinks

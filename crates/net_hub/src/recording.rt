@@ -8,6 +8,7 @@ ghost use Rattle.net_hub.specs.Sendings.{numbers_of};
 ghost use Rattle.cmd_rerun.specs.Happening.{AreAt};
 
 use crate::facts::are_bytes;
+use crate::joining::join;
 use crate::recorder::Recorder;
 use crate::sender::Sender;
 use crate::sending::{close, send_all};
@@ -93,7 +94,7 @@ impl<O: Outgoing + Drop> Recorder<O> {
         add_half(&mut self.senders, half)
     }
 
-    // A piece came on connection `k`, and what it leads to is sent.
+    // A piece came on connection `k`, and what it leads to is sent, in one write for each connection that gets bytes.
     pub(crate) fn hear(&mut self, k: u64, now: u64, piece: Bytes) -> Result<(), NoMemory>
         requires place { (1 ≤ k) × (k ≤ length (numbers_of O.told self.old.senders.items)) }
         requires moment { IsTrue (is_moment now) }
@@ -107,14 +108,14 @@ impl<O: Outgoing + Drop> Recorder<O> {
         are_bytes(read);
         let mut outputs = Outputs::new(self.alloc);
         self.server.bytes(k, read, now, &mut outputs)?;
+        let bundles = join(self.alloc, outputs)?;
         let event = Event::Piece {
             connection: k,
             moment: now,
             bytes: piece,
         };
         add_event(&mut self.events, event)?;
-        let put = outputs.as_slice();
-        send_all(&mut self.senders, put);
+        send_all(&mut self.senders, bundles);
         Ok(())
     }
 

@@ -1,13 +1,13 @@
 //! What a server puts out goes to the halves of its connections.
-ghost use Rattle.std.specs.Prelude.{◌≡◌, ◌<◌, ◌+◌, ◌⊎◌, ◌++◌, ℕ, List, [], if◌then◌else◌, length, MatchOption};
-ghost use Rattle.srv_state.specs.Seen.{out_of, outs_of};
+ghost use Rattle.std.specs.Prelude.{◌≡◌, ◌<◌, ◌+◌, ◌⊎◌, ◌++◌, ℕ, List, [], true, if◌then◌else◌, length, MatchOption};
 ghost use Rattle.srv_state.specs.State.{is_number};
-ghost use Rattle.net_hub.specs.Puts.{bytes_put, put_for};
+ghost use Rattle.net_hub.specs.Bundles.{IsShutFor, bytes_for};
 ghost use Rattle.net_hub.specs.Sendings.{AreClosed, HaveSent, IsClosed, StayClosed, numbers_of};
 
+use crate::bundle::Bundle;
+use crate::joining::Bundles;
 use crate::sender::Sender;
 use net_traits::Outgoing;
-use srv_state::Output;
 
 // The index of a connection's half.
 fn index_of<O>(senders: &[Sender<O>], conn: u64) -> Option<usize>
@@ -58,26 +58,28 @@ pub fn close_all<O: Outgoing>(senders: &mut Vec<Sender<O>>)
     }
 }
 
-// Sends what an output puts, and ends the link of a connection that it shuts.
-fn send<O: Outgoing>(senders: &mut Vec<Sender<O>>, output: &Output)
+// Writes what a bundle has for a connection, at once, and then ends its link where it is shut.
+fn send<O: Outgoing>(senders: &mut Vec<Sender<O>>, conn: u64, bundle: &Bundle)
     ensures numbers { numbers_of O.told senders.new.items ≡ numbers_of O.told senders.old.items }
-    ensures sent { (before : ℕ → List ℕ) → HaveSent O.told before senders.old.items → HaveSent O.told (λ k. before k ++ bytes_put k (out_of output.now)) senders.new.items }
+    ensures sent { (before : ℕ → List ℕ) → HaveSent O.told before senders.old.items → HaveSent O.told (λ k. before k ++ (if is_number k conn then bundle.now.bytes.items else [])) senders.new.items }
     ensures closed { StayClosed O.closed senders.old.items senders.new.items }
+    ensures shut { bundle.now.shut ≡ true → (i : ℕ) → i + 1 ≡ conn → i < length senders.old.items → IsClosed O.closed senders.new.items i }
 {
-    match output {
-        Output::Put { conn, bytes } => put(senders, *conn, bytes.as_slice()),
-        Output::Shut { conn } => close(senders, *conn),
-        Output::Took { .. } => {}
+    put(senders, conn, bundle.bytes.as_slice());
+    if bundle.shut {
+        close(senders, conn);
     }
 }
 
-/// Sends what outputs put for each connection, in order, and ends the links of connections that are shut.
-pub fn send_all<O: Outgoing>(senders: &mut Vec<Sender<O>>, outputs: &[Output])
+/// Sends what each connection gets, at once, and ends the links of connections that are shut. It takes no memory.
+pub fn send_all<O: Outgoing>(senders: &mut Vec<Sender<O>>, bundles: Bundles)
     ensures numbers { numbers_of O.told senders.new.items ≡ numbers_of O.told senders.old.items }
-    ensures sent { (before : ℕ → List ℕ) → HaveSent O.told before senders.old.items → HaveSent O.told (λ k. before k ++ put_for k (outs_of outputs.now)) senders.new.items }
+    ensures sent { (before : ℕ → List ℕ) → HaveSent O.told before senders.old.items → HaveSent O.told (λ k. before k ++ bytes_for k bundles) senders.new.items }
     ensures closed { StayClosed O.closed senders.old.items senders.new.items }
+    ensures shut { (i : ℕ) → IsShutFor (i + 1) bundles → i < length senders.old.items → IsClosed O.closed senders.new.items i }
 {
-    for output in outputs {
-        send(senders, output);
+    let mut rest = bundles;
+    while let Some((conn, bundle)) = rest.pop_first() {
+        send(senders, conn, &bundle);
     }
 }

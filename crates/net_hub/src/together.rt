@@ -1,5 +1,5 @@
 //! Connections that come in at a port are served at the same time.
-ghost use Rattle.std.specs.Prelude.{◌≡◌, ◌≢◌, ◌⊎◌, [], Err, IfErr, IfOk, IfSome, IsErrOf, IsSome, MatchOption};
+ghost use Rattle.std.specs.Prelude.{◌≡◌, ◌≢◌, ◌⊎◌, ℕ, List, Option, [], Err, IfErr, IfOk, IfSome, IsErrOf, IsSome, MatchOption};
 ghost use Rattle.base_io.specs.Counts.{Rose};
 ghost use Rattle.net_hub.specs.Backs.{AreBehind};
 ghost use Rattle.net_hub.specs.Joined.{HasWorkers};
@@ -67,54 +67,25 @@ where
     }
 }
 
-// Serves at a door that is open, with a server of an accounts file.
-#[tactic(auto, using(crate::proofs::Served::served_again, crate::proofs::JoinedReaders::none_started))]
-fn serve_at<
-    R: Threads + Wait + Copy + Send + 'static,
-    I: Incoming + Drop + Send + 'static,
-    O: Outgoing + Drop + Send + 'static,
-    D: Halves<Incoming = I, Outgoing = O> + Send + Drop + 'static,
-    C: Clock,
-    E: Entropy,
-    S: Spawner,
->(
-    rt: &R,
-    alloc: Global,
-    n: u32,
-    file: AccountsFile,
-    door: D,
-    clock: &mut C,
-    entropy: &mut E,
-    spawner: &mut S,
-) -> (Result<Bytes, HubFault>, Option<D>)
-where
-    D::Link: Send + 'static,
+// A server of an accounts file that can take connections at once: the keys of its accounts are derived, which takes some
+// milliseconds each.
+fn ready<O: Outgoing + Drop>(alloc: Global, file: AccountsFile) -> Result<Recorder<O>, NoMemory>
     requires right { IsAccountsFile file }
-    ensures served { IfOk result.0 (λ text. IfSome result.1 (λ new. HasServed (accounts_text file) n (C.moment clock.old) (E.bytes entropy.old) (D.given door) (D.given new) text.items)) }
-    ensures given { IfSome result.1 (λ new. AreBehind (D.given door) (D.given new)) }
-    ensures workers { MatchOption result.1 (S.started spawner.new ≡ S.started spawner.old) (λ new. HasWorkers (D.given door) (D.given new) (S.started spawner.old) (S.started spawner.new)) }
-    ensures faults { IfErr result.0 (λ e. IsOwn e) }
-    ensures all_back { result.0 ≢ Err HubFault.NoWorker → result.0 ≢ Err HubFault.EntropyFault → result.0 ≢ Err HubFault.NoMemory
-        → IfSome result.1 (λ new. AreGivenBack (D.handed door) (D.handed new) (D.given door) (D.given new)) }
-    ensures link_fault { IsErrOf result.0 HubFault.LinkFault → IfSome result.1 (λ new. Rose (D.faults door) (D.faults new) × AreFewer n (D.given door) (D.given new)) }
-    ensures no_worker { IsErrOf result.0 HubFault.NoWorker → Rose (S.faults spawner.old) (S.faults spawner.new) }
-    ensures entropy_fault { IsErrOf result.0 HubFault.EntropyFault → Rose (E.faults entropy.old) (E.faults entropy.new) }
-    ensures kept { IsErrOf result.0 HubFault.NoWorker ⊎ IsSome result.1 }
+    ensures kept { IfOk result (λ r. (moment : Option ℕ) (drawn : Option (List ℕ)) → IsKept O.told moment drawn r) }
+    ensures fresh { IfOk result (λ r. (r.events.items ≡ []) × (r.senders.items ≡ [])) }
+    ensures text { IfOk result (λ r. accounts_text r.file ≡ accounts_text file) }
 {
     if file.accounts.as_slice().len() > u32::MAX as usize {
-        return (Err(HubFault::NoMemory), Some(door));
+        return Err(NoMemory);
     }
-    match Recorder::new(alloc, file) {
-        Ok(recorder) => serve_with(rt, n, recorder, door, clock, entropy, spawner),
-        Err(NoMemory) => (Err(HubFault::NoMemory), Some(door)),
-    }
+    Recorder::new(alloc, file)
 }
 
 /// Serves `n` connections that come in at a port, at the same time, and answers the journal of what happened, with the archives
 /// in the end. `accounts` is the text of an accounts file. An acceptor takes the connections in, a reader of its own reads each,
 /// and what the server puts for a connection goes out on its link. The journal's events are a merge of what each reader read,
 /// each piece once and in order. A connection is gone where a read fails, where its end is read, and where it gave as much as
-/// one may.
+/// one may. The door listens once the server is ready, so that who connects need not wait for the keys of all accounts.
 ///
 /// `BadLine` comes where `accounts` is the text of no accounts file, with the first bad line and its first reason; then the door
 /// stays closed. `LinkFault`, `NoWorker` and `EntropyFault` come only where the count of faults rose of the door, of the spawner
@@ -163,8 +134,12 @@ where
         }
         Err(InputFault::NoMemory) => return (Err(HubFault::NoMemory), Some(door)),
     };
+    let recorder = match ready(alloc, file) {
+        Ok(recorder) => recorder,
+        Err(NoMemory) => return (Err(HubFault::NoMemory), Some(door)),
+    };
     match door.listen(port) {
-        Ok(()) => serve_at(rt, alloc, n, file, door, clock, entropy, spawner),
+        Ok(()) => serve_with(rt, n, recorder, door, clock, entropy, spawner),
         Err(_) => (Err(HubFault::LinkFault), Some(door)),
     }
 }

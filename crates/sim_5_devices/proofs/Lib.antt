@@ -48,3 +48,10 @@ pub mod Numbers
 pub mod Readings
 pub mod Next
 pub mod ReadingsKnownHistories
+-- catch-ups of both ends
+pub mod Queries
+pub mod PagesCut
+pub mod AnswersSent
+pub mod AnswersTaken
+pub mod PagesEnded
+pub mod WholeExchanges

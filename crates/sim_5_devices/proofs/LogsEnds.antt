@@ -57,26 +57,26 @@ use Rattle.xml_writer.specs.Items.{ItemOut, Whole}
 
 -- ---- what is read of an end
 
-abbrev end : List ℕ → ℕ → ℕ → Bool → Fin
+abbrev pub end : List ℕ → ℕ → ℕ → Bool → Fin
 end ns index count complete = fin_of (record { numbers = ns; first_index = index; count = count; complete = complete; backward = false })
 
 -- without an entry no place is told of a first one
-abbrev read_end : List ℕ → ℕ → ℕ → Bool → Fin
+abbrev pub read_end : List ℕ → ℕ → ℕ → Bool → Fin
 read_end [] index count complete = end [] 0 count complete
 read_end (n ∷ ns) index count complete = end (n ∷ ns) index count complete
 
 -- the place of the first one, as it is read: 0 where it isn't told
-abbrev told_place : Bool → ℕ → ℕ
+abbrev pub told_place : Bool → ℕ → ℕ
 told_place backward index = if backward then 0 else index
 
-end_again : (backward : Bool) (ns : List ℕ) (index count : ℕ) (complete : Bool) → Fits index → Fits count →
+pub end_again : (backward : Bool) (ns : List ℕ) (index count : ℕ) (complete : Bool) → Fits index → Fits count →
     fin_read (if backward then fin_elem_without_index (end ns index count complete) else fin_elem (end ns index count complete)) ≡ Ok (read_end ns (told_place backward index) count complete)
 end_again true [] index count complete index_fits count_fits = fin_written_without_index (end [] index count complete) count_fits
 end_again true (n ∷ ns) index count complete index_fits count_fits = fin_written_without_index (end (n ∷ ns) index count complete) count_fits
 end_again false [] index count complete index_fits count_fits = fin_written (end [] 0 count complete) (omega arith) count_fits (λ none. refl)
 end_again false (n ∷ ns) index count complete index_fits count_fits = fin_written (end (n ∷ ns) index count complete) index_fits count_fits (λ none. absurd (none-some (id_of n) (sym none)))
 
-end_is : (ns : List ℕ) (index count : ℕ) (complete : Bool) → IsFinOf (read_end ns index count complete) complete (last_in ns) count
+pub end_is : (ns : List ℕ) (index count : ℕ) (complete : Bool) → IsFinOf (read_end ns index count complete) complete (last_in ns) count
 end_is [] index count complete = record { complete = refl; last = refl; count = refl }
 end_is (n ∷ ns) index count complete = record { complete = refl; last = ap (option_map id_of) (last_place (n ∷ ns)); count = refl }
 

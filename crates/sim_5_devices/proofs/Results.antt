@@ -47,14 +47,14 @@ use Rattle.xml_writer.specs.Items.{ItemOut, Whole}
 -- ---- what is read of a result
 
 -- the result of an entry to the request with a number
-abbrev read_result : ℕ → EntryView → MamResult
+abbrev pub read_result : ℕ → EntryView → MamResult
 read_result q e = record { queryid = queryid_text q; id = id_of e.number; forwarded = record { stamp = min e.stamp last_moment; message = archived_message e } }
 
-result_again : (q : ℕ) (e : EntryView) → IsPlainEntry e → result_read (archived_result (queryid_text q) e) ≡ Ok (read_result q e)
+pub result_again : (q : ℕ) (e : EntryView) → IsPlainEntry e → result_read (archived_result (queryid_text q) e) ≡ Ok (read_result q e)
 result_again q e plain = ap (result_with (queryid_text q) (Some (id_of e.number))) (forward_again e.stamp (archived_message e) plain.sender plain.addressee None)
 
 -- it is logged as the entry
-logged_again : (e : EntryView) → IsPlainEntry e → logged (id_of e.number) (min e.stamp last_moment) (archived_message e) ≡ as_logged e
+pub logged_again : (e : EntryView) → IsPlainEntry e → logged (id_of e.number) (min e.stamp last_moment) (archived_message e) ≡ as_logged e
 logged_again e plain =
     let number = told.entry_again e.number plain.number in
     let low = plain.moment in

@@ -14,3 +14,5 @@ pub mod Plain
 pub mod Logged
 -- law: worlds with names of a schedule
 pub mod Named
+-- law: a catch-up of both ends over a session
+pub mod Exchanges

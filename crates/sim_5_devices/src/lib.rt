@@ -2,6 +2,7 @@
 #![tactic(auto)]
 
 mod deeds_in_time;
+mod exchanges;
 mod links_in_time;
 mod log_readings;
 mod logs;
@@ -10,6 +11,7 @@ mod session_deeds;
 mod submissions;
 
 pub use deeds_in_time::{deeds_are_in_time, pages_are_in_time};
+pub use exchanges::catch_ups_end_over_a_session;
 pub use links_in_time::{links_stay_in_time, queues_are_short, settled_is_at_rest};
 pub use log_readings::{calls_on_logs_are_steps_of_readings, pages_are_taken_over};
 pub use logs::{full_clients_leave, histories_are_plain, stanzas_are_logged};

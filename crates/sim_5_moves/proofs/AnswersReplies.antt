@@ -10,7 +10,7 @@ use Rattle.cmd_direct.specs.Direct.{query_behind}
 use Rattle.im_forwarding.specs.Queries.{no_such_place, query_asked}
 use Rattle.im_forwarding.specs.Results.{AskerView, entry_item, fin_item}
 use Rattle.sim_5_moves.proofs.Pages.{IsCut, page_read, page_there}
-use Rattle.sim_5_moves.proofs.Queries.{query_read}
+use Rattle.sim_5_devices.proofs.Queries.{query_read}
 use Rattle.sim_5_moves.proofs.Sends.{elem_in, sends_elsewhere, sends_here}
 use Rattle.sim_5_moves.specs.Around.{IsAround, IsAsked}
 use Rattle.sim_5_moves.specs.Sent.{as_it_is, does_on, read_at, sends_to}

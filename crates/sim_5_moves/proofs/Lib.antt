@@ -1,6 +1,5 @@
 -- answers
 pub mod Sends
-pub mod Queries
 pub mod Pages
 pub mod AnswersReplies
 pub mod Addressed

@@ -6,7 +6,8 @@ use net_memory::{MemoryLink, ReadingHalf, Uncut};
 use net_traits::{Outgoing, Pair};
 use std::alloc::Global;
 
-/// A half that keeps what is written, so many bytes a call at most. One call fails, by its number from 1, or none.
+/// A half that keeps what is written, so many bytes a call at most. One call fails, by its number from 1, or none, and each
+/// behind its close.
 #[derive(Drop)]
 pub(crate) struct KeptOutgoing {
     written: Bytes,
@@ -33,7 +34,8 @@ impl Outgoing for KeptOutgoing {
     fn write(&mut self, bytes: &[u8]) -> Result<usize, Failed> {
         self.calls = self.calls.saturating_add(1);
         let count = bytes.len().min(self.step.max(1));
-        if self.calls != self.fails && self.written.append(&bytes[..count]).is_ok() {
+        let works = self.calls != self.fails && !self.closed;
+        if works && self.written.append(&bytes[..count]).is_ok() {
             return Ok(count);
         }
         self.faults = self.faults.saturating_add(1);

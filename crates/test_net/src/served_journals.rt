@@ -76,7 +76,7 @@ static SESSIONS: [Run; 3] = [
     },
 ];
 
-static FAILING: [Run; 7] = [
+static FAILING: [Run; 8] = [
     // the second read fails
     Run {
         accounts: ALICE,
@@ -129,6 +129,18 @@ static FAILING: [Run; 7] = [
         draw_fails: 0,
         put: Some(&[]),
         answer: Ok((&[BEGUN, BAD_PIECE, MORE_PIECE, GONE], NOTHING_KEPT)),
+    },
+    // the same, and the second write fails: what one event puts is written at once, so there is none
+    Run {
+        accounts: ALICE,
+        connections: 1,
+        came: &[HEADER, "<a></b>"],
+        step: 4096,
+        read_fails: 0,
+        write_fails: 2,
+        draw_fails: 0,
+        put: Some(&[OPENED, REFUSED]),
+        answer: Ok((&[BEGUN, BAD_PIECE, GONE], NOTHING_KEPT)),
     },
     // the second connection doesn't come
     Run {

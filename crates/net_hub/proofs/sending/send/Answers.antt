@@ -1,26 +1,21 @@
-use Rattle.std.proofs.Common.{◌++◌, [], cond, subst, sym}
-use Rattle.srv_state.specs.Seen.{out_of}
+use Rattle.std.proofs.Common.{◌<◌, ◌++◌, [], cond, subst, sym}
 use Rattle.srv_state.specs.State.{is_number}
-use Rattle.srv_state.specs.declared.output.Output.{Output}
-use Rattle.net_hub.proofs.AllSent.{nothing_more}
+use Rattle.net_hub.proofs.Closed.{as_many}
 use Rattle.net_hub.proofs.sending.send.Goals as goal
-use Rattle.net_hub.specs.Puts.{bytes_put}
 use Rattle.net_hub.specs.Sendings.{HaveSent}
 
-pub returns-in-Put-clause-sent : goal.returns-in-Put-clause-sent
-returns-in-Put-clause-sent g c = λ before have.
-    let told = g.O.Outgoing.told in
-    subst (λ (o : Output). HaveSent told (λ k. before k ++ bytes_put k (out_of o)) c.put.new.senders.items) (sym c.in-Put.is)
-    (subst (λ b. HaveSent told (λ k. before k ++ cond (is_number k c.in-Put.conn) b []) c.put.new.senders.items) c.as_slice.ensures (c.put.ensures.sent before have))
+pub returns-then-bundle-clause-sent : goal.returns-then-bundle-clause-sent
+returns-then-bundle-clause-sent g c = λ before have.
+    c.close.ensures.sent (λ k. before k ++ cond (is_number k c.args.conn) c.args.bundle.now.bytes.items [])
+    (subst (λ b. HaveSent g.O.Outgoing.told (λ k. before k ++ cond (is_number k c.args.conn) b []) c.put.new.senders.items) c.as_slice.ensures (c.put.ensures.sent before have))
 
-pub returns-in-Shut-clause-sent : goal.returns-in-Shut-clause-sent
-returns-in-Shut-clause-sent g c = λ before have.
-    let told = g.O.Outgoing.told in
-    subst (λ (o : Output). HaveSent told (λ k. before k ++ bytes_put k (out_of o)) c.close.new.senders.items) (sym c.in-Shut.is)
-    (nothing_more told before c.close.new.senders.items (c.close.ensures.sent before have))
+pub returns-then-bundle-clause-closed : goal.returns-then-bundle-clause-closed
+returns-then-bundle-clause-closed g c = λ i was. c.close.ensures.closed i (c.put.ensures.closed i was)
 
-pub returns-in-Took-clause-sent : goal.returns-in-Took-clause-sent
-returns-in-Took-clause-sent g c = λ before have.
-    let told = g.O.Outgoing.told in
-    subst (λ (o : Output). HaveSent told (λ k. before k ++ bytes_put k (out_of o)) c.args.senders.now.items) (sym c.in-Took.is)
-    (nothing_more told before c.args.senders.now.items have)
+pub returns-then-bundle-clause-shut : goal.returns-then-bundle-clause-shut
+returns-then-bundle-clause-shut g c is i place below =
+    c.close.ensures.this i place (subst (λ n. i < n) (sym (as_many g.O.Outgoing.told c.args.senders.now.items c.put.new.senders.items c.put.ensures.numbers)) below)
+
+pub returns-else-bundle-clause-sent : goal.returns-else-bundle-clause-sent
+returns-else-bundle-clause-sent g c = λ before have.
+    subst (λ b. HaveSent g.O.Outgoing.told (λ k. before k ++ cond (is_number k c.args.conn) b []) c.put.new.senders.items) c.as_slice.ensures (c.put.ensures.sent before have)

@@ -1,12 +1,13 @@
-use Rattle.std.proofs.Common.{◌≤◌, ◌++◌, ℕ, List, sym, subst}
+use Rattle.std.proofs.Common.{◌≤◌, ◌++◌, ap, sym, subst}
 use Rattle.std.specs.Prelude.{IsTrue}
 use Rattle.srv_state.specs.Seen.{outs_of}
 use Rattle.cmd_journal.specs.Journals.{are_bytes}
+use Rattle.net_hub.proofs.AllSent.{same_sent}
 use Rattle.net_hub.proofs.MoreKept.{kept_piece, many, piece_is}
 use Rattle.net_hub.proofs.recorder.Recorder.hear.Goals as goal
 use Rattle.net_hub.specs.Records.{IsKeptBy, views_of}
+use Rattle.net_hub.specs.Bundles.{bytes_for}
 use Rattle.net_hub.specs.Puts.{put_for}
-use Rattle.net_hub.specs.Sendings.{HaveSent}
 use Rattle.srv_core.specs.Events.{IsAfterBytes}
 use Rattle.xml_writer.specs.Items.{written_item}
 
@@ -20,4 +21,5 @@ returns-clause-kept g c = λ moment drawn kept at.
     (piece_is c.args.k c.args.piece.items c.args.now old.server c.bytes.new.self c.new-outputs.result.items outs c.new-outputs.ensures
     (subst (λ b. IsAfterBytes written_item c.args.k b c.args.now old.server (outs_of c.new-outputs.result.items) c.bytes.new.self (outs_of outs)) c.as_slice-read.ensures c.in_ok-bytes.ensures.ok))
     c.send_all.ensures.numbers
-    (subst (λ l. (before : ℕ → List ℕ) → HaveSent told before old.senders.items → HaveSent told (λ j. before j ++ put_for j (outs_of l)) new) c.as_slice-put.ensures c.send_all.ensures.sent))
+    (λ before have. same_sent told (λ j. before j ++ bytes_for j c.in_ok-bundles.bundles) (λ j. before j ++ put_for j (outs_of outs)) new
+    (λ j. ap (λ l. before j ++ l) (sym (c.in_ok-bundles.ensures j).0)) (c.send_all.ensures.sent before have)))
