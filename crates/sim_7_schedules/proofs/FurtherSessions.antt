@@ -1,5 +1,5 @@
 -- Along events what was put in a session of a device stays, and so does what was handled; more comes behind it.
-use Rattle.std.proofs.Common.{◌≡◌, ℕ, zero, suc, ◌+◌, ◌≤◌, ◌==◌, Bool, true, false, cond, List, [], ◌∷◌, ◌++◌, Some, length, take, refl, sym, ap, ◌∙◌, subst, arith, append_assoc, append-nil}
+use Rattle.std.proofs.Common.{◌≡◌, ℕ, zero, suc, ◌+◌, ◌≤◌, ◌==◌, Bool, true, false, cond, List, [], ◌∷◌, ◌++◌, Some, take, refl, sym, ap, ◌∙◌, subst, arith, append_assoc, append-nil}
 use Rattle.std.proofs.lemmas.Option.{none-some, same_Some}
 use Rattle.std.specs.List.{slice_get}
 use Rattle.std.specs.Option.{option_map}
@@ -165,7 +165,8 @@ hear_all_further takes full (t ∷ ts) j d =
 becomes_further : (w : World) (new : List Take) (i : ℕ) (act : events.Act) (j : ℕ) (d : Device) → ((j == i) ≡ true → events.May act d) → AllFurther d.sessions (events.becomes w new i act j d).sessions
 becomes_further w new i act j d may =
     at_place (j == i) (events.own (events.around w d) act d) d (λ e. AllFurther d.sessions (events.hear_all (w.takes ++ new) (events.full_of act) new j e).sessions)
-    (λ is. all_both d.sessions (events.own (events.around w d) act d).sessions _ (own_further (events.around w d) act d (may is)) (hear_all_further (w.takes ++ new) (events.full_of act) new j (events.own (events.around w d) act d)))
+    (λ is. all_both d.sessions (events.own (events.around w d) act d).sessions (events.hear_all (w.takes ++ new) (events.full_of act) new j (events.own (events.around w d) act d)).sessions
+    (own_further (events.around w d) act d (may is)) (hear_all_further (w.takes ++ new) (events.full_of act) new j (events.own (events.around w d) act d)))
     (λ _. hear_all_further (w.takes ++ new) (events.full_of act) new j d)
 
 -- ---- the device at a place
@@ -182,7 +183,7 @@ further_moves (At j act) a w next i is f =
     subst (λ v. FurtherAt a v i) (sym is.3) (record {
       device = events.becomes w new j act (0 + i) f.device;
       at = get_each 0 (events.becomes w new j act) w.devices i ∙ ap (option_map (events.becomes w new j act (0 + i))) f.at;
-      further = all_both a f.device.sessions _ f.further (becomes_further w new j act (0 + i) f.device (λ same.
+      further = all_both a f.device.sessions (events.becomes w new j act (0 + i) f.device).sessions f.further (becomes_further w new j act (0 + i) f.device (λ same.
       let here : j ≡ i = (let e = same_place (0 + i) j same in omega (arith, e)) in
       subst (events.May act) (same_Some is.0 f.device (sym is.1 ∙ ap (slice_get w.devices) here ∙ f.at)) is.2));
     })
