@@ -16,7 +16,10 @@ SHARED = os.environ.get("SHARED_TOOLS", os.path.join(TOP, "../shared/tools"))
 BASELINE = os.environ.get("BASELINE", os.path.join(SHARED, "baseline"))
 HOST = "127.0.0.1"
 SECONDS = 120
+# how long a tool waits for an answer of a server that is not busy
+ANSWER = int(os.environ.get("SECONDS_TO_ANSWER", "20"))
 TICKS = os.sysconf("SC_CLK_TCK")
+PING = f"<iq type='get' id='{{}}' to='{journals.DOMAIN}'><ping xmlns='urn:xmpp:ping'/></iq>"
 
 
 def free_port():
@@ -156,10 +159,11 @@ class Serving:
 
 
 class Client:
-    """A plain client: it logs in, and then says what it is told to. `heard` is all that it was told."""
+    """A plain client: it logs in, and then says what it is told to. `heard` is all that it was told. Where it is given a
+    connection, it does not dial."""
 
-    def __init__(self, port, account, password, changed=0):
-        self.link, self.got, self.heard, self.account = dialed(port), "", bytearray(), account
+    def __init__(self, port, account, password, changed=0, link=None):
+        self.link, self.got, self.heard, self.account = link or dialed(port), "", bytearray(), account
         self.say(journals.STREAM + journals.auth(account, "abcdef"))
         challenge = self.until("</challenge>")
         both = base64.b64decode(re.search(r">([^<>]*)</challenge>", challenge)[1]).decode().split(",")[0][2:]
@@ -191,6 +195,13 @@ class Client:
     def bind(self, resource):
         self.say(journals.bind(resource))
         self.until("</iq>")
+
+    def appear(self, resource):
+        """Binds, and is available once the server has said so."""
+        self.bind(resource)
+        self.say("<presence/>" + PING.format("there"))
+        self.until("id='there'")
+        self.until(">")
 
     def leave(self):
         """Closes the stream, and reads what comes until the other end has closed the connection."""

@@ -1,6 +1,6 @@
 -- Counts above what was sent, and sessions whose connection was shut.
-use Rattle.std.proofs.Common.{◌≡◌, ℕ, Bool, true, false, not, List, [], ◌∷◌, Option, Some, None, Result, Ok, Err, IfSome, refl, sym, ap, ◌∙◌, inl, inr}
-use Rattle.std.proofs.lemmas.Bool.{cases_Bool, false≢true}
+use Rattle.std.proofs.Common.{◌≡◌, ℕ, Bool, true, false, not, List, [], ◌∷◌, Some, Result, Err, IfSome, refl, sym, ap, inl, inr}
+use Rattle.std.proofs.lemmas.Bool.{cases_Bool}
 use Rattle.std.specs.List.{filter, find}
 use Rattle.sm_acks.specs.declared.end.TooHigh.{TooHigh}
 use Rattle.srv_state.specs.State.{Step}

@@ -1,5 +1,5 @@
 -- What the clauses of a server's calls say of bytes is an event.
-use Rattle.std.proofs.Common.{◌≡◌, ℕ, ◌+◌, List, [], ◌∷◌, ◌++◌, Option, Some, None, length, take, refl, sym, ap, ap₂, ◌∙◌}
+use Rattle.std.proofs.Common.{◌≡◌, ℕ, List, [], ◌∷◌, ◌++◌, Option, Some, None, length, take, refl, sym, ap, ap₂, ◌∙◌}
 use Rattle.srv_state.specs.Moments.{gone_at}
 use Rattle.srv_state.specs.State.{Hall, Out, is_number}
 use Rattle.srv_core.specs.Events.{Framers, IsAfterBytes, Stops, Whole, after_bytes, begun, dropped, fed, framer_at, news, turn_of, whole}

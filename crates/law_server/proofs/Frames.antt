@@ -1,5 +1,5 @@
 -- What the small steps leave as it was.
-use Rattle.std.proofs.Common.{◌≡◌, ℕ, ◌==◌, Bool, true, false, not, List, [], ◌∷◌, Option, Some, None, refl, sym, ap, subst, ◌∙◌, inl, inr}
+use Rattle.std.proofs.Common.{◌≡◌, ℕ, ◌==◌, Bool, true, false, not, List, [], ◌∷◌, Some, refl, ap, subst, ◌∙◌, inl, inr}
 use Rattle.std.proofs.lemmas.Bool.{cases_Bool, false≢true}
 use Rattle.std.proofs.lemmas.Option.{same_Some}
 use Rattle.std.proofs.lemmas.Map.Lookups.{exact_unsigned}
@@ -14,12 +14,12 @@ use Rattle.srv_state.specs.declared.connection.Connection.{Connection}
 use Rattle.sm_live.specs.Sessions.{Session, is_at, is_numbered, session_of, with_session}
 use Rattle.sm_resumption.proofs.RowFacts.{same_from_eqb}
 
-equal_is : (o : Ordering) → is_eq o ≡ true → o ≡ Equal
+pub equal_is : (o : Ordering) → is_eq o ≡ true → o ≡ Equal
 equal_is Less h = absurd (false≢true h)
 equal_is Equal h = refl
 equal_is Greater h = absurd (false≢true h)
 
-other_stays : (k j : ℕ) (es : List (ℕ × Connection)) → is_number k j ≡ false → lookup (is_number k) (remove_entry (is_number j) es) ≡ lookup (is_number k) es
+pub other_stays : (k j : ℕ) (es : List (ℕ × Connection)) → is_number k j ≡ false → lookup (is_number k) (remove_entry (is_number j) es) ≡ lookup (is_number k) es
 other_stays k j [] apart = refl
 other_stays k j (e ∷ es) apart =
     elim (cases_Bool (is_number j e.0)) [

@@ -23,7 +23,7 @@ use Rattle.srv_core.specs.Ready.{at_ready_or_bound}
 use Rattle.srv_core.specs.Table.{after_item, at_open, at_word}
 use Rattle.srv_handlers.specs.Resumptions.{at_resume, resent_where, resuming}
 use Rattle.srv_state.specs.State.{Hall, Step, with_sessions}
-use Rattle.srv_state.specs.Steps.{acted, in_sessions, part, part_where, put, shut}
+use Rattle.srv_state.specs.Steps.{acted, in_sessions, part, part_where, put}
 use Rattle.srv_state.specs.Streams.{parting_where, stage_of, standing_at, standing_of}
 use Rattle.srv_state.specs.Words.{word_of}
 use Rattle.srv_state.specs.declared.word.Word.{Word}
@@ -31,9 +31,10 @@ use Rattle.srv_state.specs.declared.word.Word.TheVariants as word
 use Rattle.xml_framer.specs.declared.items.Item.TheVariants.{Element}
 use Rattle.law_server.proofs.Counts.{too_high}
 use Rattle.law_server.proofs.Frames.{found_kept}
-use Rattle.law_server.proofs.GoneSessions.{found_below, gone_stable, none_some, number_is, shut_gone}
-use Rattle.law_server.proofs.NumbersKept.{found_by_number}
-use Rattle.law_server.proofs.SessionWalks.{by_part}
+use Rattle.law_server.proofs.GoneSessions.{found_below, gone_events, gone_stable, none_some, number_is, shut_gone}
+use Rattle.law_server.proofs.NumbersKept.{found_by_number, rise_more, rise_same, rise_some}
+use Rattle.law_server.proofs.SessionWalks.{IsStable, by_events, by_part}
+use Rattle.law_server.specs.Events.{Event, Run, after_events, stand_of}
 use Rattle.law_server.specs.Gone.{EndsAlone, IsGone, IsLoggedIn}
 use Rattle.law_server.specs.Numbers.{HaveNumbers, Rise}
 use Rattle.xml_trees.specs.Trees.{Elem}
@@ -80,6 +81,19 @@ refused say k account n h e s gone have fits l read =
     let spent = gone.spent in
     let none = none_resumed n account 1 s.hall.next s.hall.sessions have fits (omega (arith, spent, fits)) gone.none in
     ap (λ acts. acted say acts s) (ready_acts say k account e (word.Resume (previd_of n) h) None s.hall l read ∙ answers_resume say k account h (previd_of n) None s.hall none)
+
+rise_stable : {A : Type 0} → IsStable {A = A} (λ ss next. Rise 1 next ss)
+rise_stable = record {
+  some = λ p ss next is. rise_some p 1 next ss is;
+  same = λ g keeps ss next is. rise_same g keeps 1 next ss is;
+  more = λ account resource k ss next is. rise_more 1 next account resource k ss is;
+}
+
+pub never : {A : Type 0} (say : ItemOut → A) (k account n h : ℕ) (e : Elem) (events : List Event) (r : Run A) → IsGone n r.server.hall → HaveNumbers r.server.hall → (after_events say events r).server.hall.next ≤ 2 ^ 64
+    → IsLoggedIn k account None (after_events say events r).server.hall → word_of e ≡ word.Resume (previd_of n) h
+    → after_item say k (Element e) (stand_of (after_events say events r)) ≡ put k (say (refused_item ItemNotFound)) (stand_of (after_events say events r))
+never say k account n h e events r gone have fits l read =
+    refused say k account n h e (stand_of (after_events say events r)) (gone_events say n events r gone) (by_events rise_stable say events r have) fits l read
 
 -- ---- a count that is too high
 

@@ -36,6 +36,22 @@ pub mod SoundEvents
 pub mod ArchiveEntries
 pub mod NumbersWithin
 pub mod PieceTakes
+-- ---- rows: what goes out, and who is logged in
+pub mod Rows
+pub mod LoginRows
+pub mod SessionRows
+pub mod LiveRows
+pub mod RowsDue
+-- ---- messages that go out
+pub mod PutsDue
+pub mod PassedOn
+pub mod Reached
+pub mod SentPuts
+pub mod WorkedLive
+-- ---- passwords that were proved
+pub mod Seats
+pub mod SeatedActs
+pub mod ProvedEvents
 -- ---- sessions that are gone
 pub mod SessionWalks
 pub mod GoneSessions

@@ -9,7 +9,7 @@ use Rattle.im_forwarding.specs.Copies.{copy_item}
 use Rattle.im_forwarding.specs.Passed.{addressed}
 use Rattle.sm_live.specs.Sessions.{Session, number_of, told_of}
 use Rattle.sm_live.specs.declared.told.Told.{Told}
-use Rattle.srv_handlers.specs.Messages.{archiving, at_message, bouncing, carrying, copy_for, copying, copying_to, delivering, delivering_to, is_full_in, messaging, no_room, telling}
+use Rattle.srv_handlers.specs.Messages.{archiving, at_message, carrying, copy_for, copying, copying_to, delivering, delivering_to, is_full_in, messaging, telling}
 use Rattle.im_messages.specs.Entries.{entry_of}
 use Rattle.srv_route.proofs.ShownAlone.{planned_same}
 use Rattle.srv_route.specs.Destinations.{destination_of}
@@ -20,7 +20,6 @@ use Rattle.law_server.proofs.SessionRowsTurned.{acts_either}
 use Rattle.law_server.proofs.SessionsTurned.{told_turned}
 use Rattle.law_server.specs.Turned.{acts_turned, hall_turned, session_turned, sessions_turned, turned}
 use Rattle.im_stanza.specs.Views.{MessageView}
-use Rattle.im_stanza.specs.declared.errors.StanzaError.{StanzaError}
 use Rattle.xml_writer.specs.Items.{ItemOut}
 
 -- ---- archives

@@ -23,7 +23,7 @@ rise_lower : {A : Type 0} (low from next : ℕ) (ss : List (Session A)) → low 
 rise_lower low from next [] less rise = omega (arith, less, rise)
 rise_lower low from next (s ∷ ss) less rise = (let first = rise.0 in omega (arith, less, first), rise.1)
 
-rise_some : {A : Type 0} (p : Session A → Bool) (from next : ℕ) (ss : List (Session A)) → Rise from next ss → Rise from next (filter p ss)
+pub rise_some : {A : Type 0} (p : Session A → Bool) (from next : ℕ) (ss : List (Session A)) → Rise from next ss → Rise from next (filter p ss)
 rise_some p from next [] rise = rise
 rise_some p from next (s ∷ ss) rise =
     elim (cases_Bool (p s)) [
@@ -33,11 +33,11 @@ rise_some p from next (s ∷ ss) rise =
           rw goes (rise_lower from (s.shown.number + 1) next (filter p ss) (omega (arith, first)) (rise_some p (s.shown.number + 1) next ss rise.1))
     ]
 
-rise_more : {A : Type 0} (from next account : ℕ) (resource : List ℕ) (k : ℕ) (ss : List (Session A)) → Rise from next ss → Rise from (next + 1) (ss ++ fresh next account resource k ∷ [])
+pub rise_more : {A : Type 0} (from next account : ℕ) (resource : List ℕ) (k : ℕ) (ss : List (Session A)) → Rise from next ss → Rise from (next + 1) (ss ++ fresh next account resource k ∷ [])
 rise_more from next account resource k [] rise = (rise, omega arith)
 rise_more from next account resource k (s ∷ ss) rise = (rise.0, rise_more (s.shown.number + 1) next account resource k ss rise.1)
 
-rise_same : {A : Type 0} (f : Session A → Session A) → ((s : Session A) → (f s).shown.number ≡ s.shown.number) → (from next : ℕ) (ss : List (Session A)) → Rise from next ss → Rise from next (map f ss)
+pub rise_same : {A : Type 0} (f : Session A → Session A) → ((s : Session A) → (f s).shown.number ≡ s.shown.number) → (from next : ℕ) (ss : List (Session A)) → Rise from next ss → Rise from next (map f ss)
 rise_same f same from next [] rise = rise
 rise_same f same from next (s ∷ ss) rise =
     (subst (λ n. from ≤ n) (sym (same s)) rise.0, subst (λ n. Rise (n + 1) next (map f ss)) (sym (same s)) (rise_same f same (s.shown.number + 1) next ss rise.1))

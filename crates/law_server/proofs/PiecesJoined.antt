@@ -1,5 +1,5 @@
 -- What comes of two pieces is what comes of both in one.
-use Rattle.std.proofs.Common.{◌≡◌, ℕ, Bool, true, false, List, [], ◌∷◌, ◌++◌, Option, Some, None, refl, sym, ap, ◌∙◌, inl, inr}
+use Rattle.std.proofs.Common.{◌≡◌, ℕ, false, List, [], ◌∷◌, ◌++◌, Option, Some, None, refl, sym, ap, ◌∙◌, inl, inr}
 use Rattle.std.proofs.lemmas.Bool.{cases_Bool, false≢true}
 use Rattle.std.specs.Option.{is_some, option_map}
 use Rattle.srv_state.specs.State.{Step, conn_at}
@@ -8,12 +8,12 @@ use Rattle.srv_state.specs.Streams.{standing_of}
 use Rattle.srv_state.specs.declared.connection.Connection.{Connection}
 use Rattle.xml_framer.proofs.ItemsBefore.{given_before}
 use Rattle.xml_framer.proofs.Pieces.{run_append, stays}
-use Rattle.xml_framer.specs.States.{State, Turn, turn}
+use Rattle.xml_framer.specs.States.{State, turn}
 use Rattle.xml_framer.specs.declared.fault.Fault.{Fault}
 use Rattle.xml_framer.specs.declared.items.Item.{Item}
 use Rattle.srv_core.proofs.ItemRuns.{items_append, shut_stays}
 use Rattle.srv_core.specs.Events.{after_fault, after_turn, at_fault, at_piece, turn_of}
-use Rattle.srv_core.specs.Table.{after_item, after_items}
+use Rattle.srv_core.specs.Table.{after_items}
 use Rattle.srv_core.specs.Telling.{is_open}
 use Rattle.law_server.specs.Pieces.{left_open}
 use Rattle.xml_writer.specs.Items.{ItemOut}

@@ -1,12 +1,12 @@
 -- The row on requests goes through.
-use Rattle.std.proofs.Common.{◌≡◌, ℕ, Bool, List, [], ◌∷◌, Option, Some, None, refl, ap, ◌∙◌}
+use Rattle.std.proofs.Common.{◌≡◌, ℕ, List, [], ◌∷◌, Option, Some, None, refl, ap, ◌∙◌}
 use Rattle.std.specs.Option.{option_map}
 use Rattle.mam_archive.specs.Entries.{EntryView, entry_numbered}
 use Rattle.srv_state.specs.State.{Hall, Kept, address_shown, archive_at, bare_address, session_address, shown_of}
 use Rattle.srv_state.specs.Steps as steps
 use Rattle.srv_state.specs.Steps.{Act}
 use Rattle.im_forwarding.specs.Queries.{no_such_place}
-use Rattle.im_forwarding.specs.Results.{AskerView, entry_item, fin_item}
+use Rattle.im_forwarding.specs.Results.{AskerView, fin_item}
 use Rattle.sm_live.specs.Sessions.{Session, session_of}
 use Rattle.sm_live.specs.declared.told.Told.{Told}
 use Rattle.im_mam.specs.declared.archive_query.MamQuery.{MamQuery}
@@ -19,7 +19,7 @@ use Rattle.srv_handlers.specs.declared.request.Request.{Request}
 use Rattle.srv_handlers.specs.declared.request.Request.TheVariants as request
 use Rattle.sm_resumption.specs.declared.session.SessionView.{SessionView}
 use Rattle.law_server.proofs.SessionsTurned.{of_turned}
-use Rattle.law_server.specs.Turned.{acts_turned, hall_turned, session_turned, sessions_turned, turned}
+use Rattle.law_server.specs.Turned.{acts_turned, hall_turned, session_turned, turned}
 use Rattle.im_stanza.specs.Views.{IqView}
 use Rattle.im_stanza.specs.declared.errors.StanzaError.{StanzaError}
 use Rattle.xml_trees.specs.Trees.{no_nodes}

@@ -1,5 +1,5 @@
 -- The rows on binding, acknowledgement and resumption go through.
-use Rattle.std.proofs.Common.{◌≡◌, ℕ, nat_le, Bool, true, false, List, [], ◌∷◌, ◌++◌, Option, Some, None, Result, Ok, Err, map, length, cond, refl, sym, ap, ap₂, ◌∙◌}
+use Rattle.std.proofs.Common.{◌≡◌, ℕ, nat_le, Bool, true, false, List, [], ◌∷◌, Option, Some, None, Result, Ok, Err, map, length, cond, refl, ap, ap₂, ◌∙◌}
 use Rattle.std.proofs.lemmas.List.{length-map}
 use Rattle.std.specs.Option.{option_map}
 use Rattle.std.specs.Result.{result_ok}
@@ -9,7 +9,7 @@ use Rattle.srv_state.specs.Steps as steps
 use Rattle.srv_state.specs.Steps.{Act}
 use Rattle.srv_state.specs.Streams.{parting_where}
 use Rattle.srv_state.specs.declared.limits.TheConstants.{ASKS_AT}
-use Rattle.sm_live.specs.Sessions.{Session, ack_answer, ended_of, resent, resume_answer, session_named, session_of, session_resumed}
+use Rattle.sm_live.specs.Sessions.{Session, ack_answer, ended_of, resume_answer, session_named, session_of, session_resumed}
 use Rattle.sm_live.specs.declared.told.Told.{Told}
 use Rattle.im_replies.specs.Management.{resumed_item}
 use Rattle.im_replies.specs.Requests.{bound_item}
@@ -20,7 +20,7 @@ use Rattle.sm_resumption.specs.declared.answers.ResumeFault.{ResumeFault}
 use Rattle.sm_resumption.specs.declared.answers.ResumeFault.TheVariants.{TooHigh, UnknownPrevid}
 use Rattle.sm_resumption.specs.declared.answers.ResumeOk.{ResumeOk}
 use Rattle.law_server.proofs.SessionsTurned.{answer_turned, ended_turned, resent_turned, resume_same, resumed_turned}
-use Rattle.law_server.specs.Turned.{act_turned, acts_turned, hall_turned, session_turned, sessions_turned, turned}
+use Rattle.law_server.specs.Turned.{acts_turned, hall_turned, session_turned, turned}
 use Rattle.srv_handlers.specs.Bindings.{asked_resource, at_bind, binding_as, chosen, former_of}
 use Rattle.srv_handlers.specs.Managements.{acknowledging, at_ack, at_enable, at_request}
 use Rattle.srv_handlers.specs.Resumptions.{asking, at_resume, resent_where, resuming, saying}

@@ -1,5 +1,5 @@
 -- What is asked of sessions is the same whatever waits in them, and a change of one goes through.
-use Rattle.std.proofs.Common.{◌≡◌, ℕ, ◌==◌, Bool, true, false, not, ◌&&◌, List, [], ◌∷◌, ◌++◌, Option, Some, None, Result, Ok, Err, map, length, drop, cond, nat_lt, refl, sym, ap, ap₂, ◌∙◌, inl, inr}
+use Rattle.std.proofs.Common.{◌≡◌, ℕ, ◌==◌, Bool, true, false, not, ◌&&◌, List, [], ◌∷◌, ◌++◌, Option, Some, None, map, cond, nat_lt, refl, sym, ap, ap₂, ◌∙◌, inl, inr}
 use Rattle.std.proofs.lemmas.Bool.{cases_Bool}
 use Rattle.std.proofs.lemmas.List.{drop-map, length-map, map-append}
 use Rattle.std.specs.List.{filter, find}
@@ -7,10 +7,8 @@ use Rattle.std.specs.Option.{option_map}
 use Rattle.std.specs.Str.{bytes_eq}
 use Rattle.sm_acks.specs.Counters.{ahead}
 use Rattle.sm_live.specs.Sessions.{Session, ack_answer, acknowledged, after_resume, bound, ended_of, fresh, is_too_high, less, resent, resume_answer, resumes, session_at, session_named, session_of, session_resumed, told, told_of, waits, with_session, without, without_at}
-use Rattle.sm_live.specs.declared.told.Told.{Told}
 use Rattle.sm_resumption.specs.Previds.{previd_of}
 use Rattle.sm_resumption.specs.Rows.{is_some_number}
-use Rattle.sm_resumption.specs.declared.answers.Ended.{Ended}
 use Rattle.sm_resumption.specs.declared.session.SessionView.{SessionView}
 use Rattle.law_server.specs.Turned.{session_turned, sessions_turned}
 

@@ -1,9 +1,8 @@
 -- The rows of a stream up to its login go through.
-use Rattle.std.proofs.Common.{◌≡◌, ℕ, Bool, true, false, List, [], ◌∷◌, Option, Some, None, Result, Ok, Err, refl}
+use Rattle.std.proofs.Common.{◌≡◌, ℕ, Bool, true, false, List, Option, Some, None, Result, Ok, Err, refl}
 use Rattle.std.specs.Option.{option_map}
-use Rattle.srv_state.specs.Logins.{answering, at_auth, at_challenge, at_login, at_login_other, at_response, beginning, failing, finishing, negotiation_at}
+use Rattle.srv_state.specs.Logins.{answering, at_challenge, at_login, at_login_other, beginning, failing, negotiation_at}
 use Rattle.srv_state.specs.State.{Hall}
-use Rattle.srv_state.specs.Steps.{Act}
 use Rattle.srv_state.specs.Streams.{answering_header, at_any, at_header, awaits_header, ending, ending_in, header_in, opening}
 use Rattle.srv_state.specs.declared.connection.Stage.{Stage}
 use Rattle.srv_state.specs.declared.connection.Stage.TheVariants as stage
@@ -24,7 +23,6 @@ use Rattle.xml_names.specs.declared.headers.Header.{Header}
 use Rattle.im_replies.specs.declared.conditions.StreamCondition.{StreamCondition}
 use Rattle.im_replies.specs.declared.conditions.StreamCondition.TheVariants as stream
 use Rattle.law_server.specs.Turned.{acts_turned, hall_turned, turned}
-use Rattle.xml_trees.specs.Trees.{Elem}
 use Rattle.xml_writer.specs.Items.{ItemOut}
 
 -- ---- ends

@@ -1,8 +1,8 @@
 -- The whole table goes through: what comes of an item is made of items, however these are written.
-use Rattle.std.proofs.Common.{◌≡◌, ℕ, Bool, true, false, List, [], ◌∷◌, Option, Some, None, Result, Ok, Err, refl, ap, ap₂, ◌∙◌}
+use Rattle.std.proofs.Common.{◌≡◌, ℕ, Bool, true, false, List, [], ◌∷◌, Option, Some, None, Result, Ok, Err, refl, ap, ◌∙◌}
 use Rattle.std.specs.Option.{option_map}
 use Rattle.srv_state.specs.Handling.{counting}
-use Rattle.srv_state.specs.State.{Hall, Step, bare_address, session_address}
+use Rattle.srv_state.specs.State.{Hall, Step, bare_address}
 use Rattle.srv_state.specs.Steps as steps
 use Rattle.srv_state.specs.Steps.{Act, acted}
 use Rattle.srv_state.specs.Streams.{standing_at}
@@ -26,7 +26,7 @@ use Rattle.law_server.proofs.SessionRowsTurned.{ack_turned, acts_either, bind_tu
 use Rattle.law_server.proofs.SessionsTurned.{told_at_turned}
 use Rattle.law_server.proofs.StepsTurned.{steps_by}
 use Rattle.law_server.proofs.StreamsTurned.{any_turned, challenge_turned, ending_turned, header_turned, login_turned}
-use Rattle.law_server.specs.Turned.{act_turned, acts_turned, hall_turned, step_turned, turned}
+use Rattle.law_server.specs.Turned.{acts_turned, hall_turned, step_turned, turned}
 use Rattle.im_stanza.specs.Views.{IqView}
 use Rattle.im_stanza.specs.declared.fault.StanzaFault.{StanzaFault}
 use Rattle.im_stanza.specs.declared.fault.StanzaFault.TheVariants as fault
@@ -38,7 +38,7 @@ use Rattle.im_stanza.specs.declared.stanzas.Presence.{Presence}
 use Rattle.im_stanza.specs.declared.stanzas.Stanza.{Stanza}
 use Rattle.im_stanza.specs.declared.stanzas.Stanza.TheVariants as stanza
 use Rattle.srv_core.specs.Ready.{at_bound, at_ready, at_ready_or_bound, ready_iq, ready_stanza}
-use Rattle.srv_core.specs.Stanzas.{at_bad_to, at_presence, at_stanza, directing, handling, is_local, is_own, is_own_of, judging, malformed_item, presenting, returning, sender_of, stanza_condition, unless_own}
+use Rattle.srv_core.specs.Stanzas.{at_bad_to, at_stanza, directing, handling, is_local, is_own, is_own_of, judging, malformed_item, presenting, returning, sender_of, stanza_condition, unless_own}
 use Rattle.xml_trees.specs.Readers.{first_named}
 use Rattle.xml_trees.specs.Trees.{Elem}
 use Rattle.xml_writer.specs.Items.{ItemOut}

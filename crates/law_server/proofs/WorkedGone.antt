@@ -1,5 +1,6 @@
 -- Worked values: a session on a connection, with a count above what was sent, and what is so of its number behind that.
 use Rattle.std.proofs.Common.{◌≡◌, true, false, [], ◌∷◌, Some, None, codes, pos, refl, arith}
+use Rattle.base_lemmas.specs.Hexadecimal.{hex16_of}
 use Rattle.sm_live.specs.Sessions.{Session, is_too_high, session_of, session_resumed}
 use Rattle.sm_resumption.specs.Previds.{previd_of}
 use Rattle.srv_state.specs.State.{Hall}
@@ -41,6 +42,7 @@ high = refl
 
 -- before the shut it can be resumed, and behind it it can't, and the next session has another number
 found : session_resumed (previd_of 1) 0 hall.sessions ≡ Some one
+unfolding hex16_of
 found = refl
 
 lost : session_resumed (previd_of 1) 0 behind.sessions ≡ None

@@ -26,6 +26,10 @@ pub record Run (A : Type 0) : Type 0 where
 abbrev pub run : {A : Type 0} → Whole A → List (Out A) → Run A
 run w outs = record { server = w; outs = outs }
 
+-- the server alone, with what it has put out
+abbrev pub stand_of : {A : Type 0} → Run A → Step A
+stand_of r = record { hall = r.server.hall; outs = r.outs }
+
 -- The bytes did this. The framer of the connection has taken them, and connections that were shut have none.
 abbrev pub brought : {A : Type 0} → ℕ → List ℕ → Run A → Step A → Run A
 brought k piece r done =

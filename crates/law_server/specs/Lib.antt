@@ -8,6 +8,9 @@ pub mod Pieces
 pub mod Images
 -- ---- messages that were taken, and what archives get
 pub mod Taken
+-- ---- what goes out live
+pub mod Live
+pub mod Ready
 -- ---- sessions and logins
 pub mod Sound
 pub mod Numbers
@@ -15,3 +18,6 @@ pub mod Accounts
 -- ---- events, and sessions that are gone
 pub mod Events
 pub mod Gone
+-- ---- what events prove
+pub mod Happenings
+pub mod Proved

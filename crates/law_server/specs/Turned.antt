@@ -1,5 +1,5 @@
 -- A server with each thing that is put turned into another: an item into its bytes, say.
-use Rattle.std.specs.Prelude.{ℕ, List, map}
+use Rattle.std.specs.Prelude.{List, map}
 use Rattle.sm_live.specs.Sessions.{Session}
 use Rattle.srv_state.specs.State.{Hall, Out, Put, Shut, Step, Took}
 use Rattle.srv_state.specs.Steps as steps

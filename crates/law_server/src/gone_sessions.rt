@@ -16,7 +16,7 @@ ghost use Rattle.im_stanza.specs.declared.conditions.Condition.TheVariants.{Item
 ghost use Rattle.srv_core.specs.Events.{IsAfterBytes, Stops, Whole, framer_at};
 ghost use Rattle.srv_core.specs.Table.{after_item, after_items};
 ghost use Rattle.law_server.specs.Events as event;
-ghost use Rattle.law_server.specs.Events.{Event, Run, after_event, after_events, run};
+ghost use Rattle.law_server.specs.Events.{Event, Run, after_event, after_events, run, stand_of};
 ghost use Rattle.law_server.specs.Gone.{EndsAlone, IsGone, IsLoggedIn};
 ghost use Rattle.law_server.specs.Numbers.{HaveNumbers};
 ghost use Rattle.xml_trees.specs.Trees.{Elem};
@@ -35,7 +35,7 @@ pub fn events_are_those_of_the_server<A>()
 /// A law: a session that was on a connection which the server shut is gone, for good (XEP-0198, section 5). No session has
 /// its number behind that, whatever items and events follow, since the number of the next session never falls; and a
 /// `resume` that names it, on a connection that is logged in and has no session, as whichever account, is answered by
-/// `failed` with `item-not-found`, and by nothing else. What is found for a `resume` right behind the shut is not on that
+/// `failed` with `item-not-found`, and by nothing else (`refused`), however many events later (`never`). What is found for a `resume` right behind the shut is not on that
 /// connection, whatever names it (`elsewhere`). Of servers the numbers of sessions rise (`servers_stay_sound`), and the next
 /// one is below 2^64 (`keeps_rule` of `Server`).
 pub fn a_shut_session_is_gone<A>()
@@ -46,6 +46,9 @@ pub fn a_shut_session_is_gone<A>()
     ensures rises { (say : ItemOut → A) (k : ℕ) (items : List Item) (s : Step A) → s.hall.next ≤ (after_items say k items s).hall.next }
     ensures refused { (say : ItemOut → A) (k account n h : ℕ) (e : Elem) (s : Step A) → IsGone n s.hall → HaveNumbers s.hall → s.hall.next ≤ 2 ^ 64 → IsLoggedIn k account None s.hall → word_of e ≡ word.Resume (previd_of n) h
         → after_item say k (Element e) s ≡ put k (say (refused_item ItemNotFound)) s }
+    ensures never { (say : ItemOut → A) (k account n h : ℕ) (e : Elem) (events : List Event) (r : Run A) → IsGone n r.server.hall → HaveNumbers r.server.hall → (after_events say events r).server.hall.next ≤ 2 ^ 64
+        → IsLoggedIn k account None (after_events say events r).server.hall → word_of e ≡ word.Resume (previd_of n) h
+        → after_item say k (Element e) (stand_of (after_events say events r)) ≡ put k (say (refused_item ItemNotFound)) (stand_of (after_events say events r)) }
 {}
 
 /// A law: a count above what was sent ends its session for good, and no other. Stated by an `a` (XEP-0198, section 4), it

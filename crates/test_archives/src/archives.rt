@@ -1,45 +1,48 @@
 //! Archives and ids: what takes memory.
-use base_io::{Copied, ListOf, NoMemory, Text};
-use mam_archive::{
-    Archive, ArchiveFault, ArchivedMessage, Bodies, Body, Entry, id_of_number, number_of,
-};
+use base_io::{Copied, ListOf, Text};
+use mam_archive::{Archive, ArchivedMessage, Bodies, Body, Entry, id_of_number, number_of};
 use std::alloc::Global;
+use std::process::Abort;
+
+pub(crate) fn text(rt: &impl Abort, alloc: Global, text: &str) -> Text {
+    Text::from_str(alloc, text).expect(rt, "memory")
+}
 
 /// A message with these parties and bodies, taken at this moment.
 fn message(
+    rt: &impl Abort,
     alloc: Global,
     stamp: u64,
     parties: (&str, &str),
     bodies: Bodies,
-) -> Result<ArchivedMessage, NoMemory> {
-    Ok(ArchivedMessage {
+) -> ArchivedMessage {
+    ArchivedMessage {
         stamp,
-        from: Text::from_str(alloc, parties.0)?,
-        to: Text::from_str(alloc, parties.1)?,
+        from: text(rt, alloc, parties.0),
+        to: text(rt, alloc, parties.1),
         normal: false,
         id: Text::new(alloc),
         origin: Text::new(alloc),
         bodies,
-    })
+    }
 }
 
 /// An entry with these parties, taken at this moment.
-pub(crate) fn entry(alloc: Global, stamp: u64, parties: (&str, &str)) -> Result<Entry, NoMemory> {
-    let message = message(alloc, stamp, parties, ListOf::new(alloc))?;
-    Entry::new(alloc, 0, message)
+pub(crate) fn entry(rt: &impl Abort, alloc: Global, stamp: u64, parties: (&str, &str)) -> Entry {
+    let message = message(rt, alloc, stamp, parties, ListOf::new(alloc));
+    Entry::new(alloc, 0, message).expect(rt, "memory")
 }
 
 /// Adds an entry.
 pub(crate) fn append(
+    rt: &impl Abort,
     alloc: Global,
     archive: &mut Archive,
     stamp: u64,
     parties: (&str, &str),
-) -> Result<(), ArchiveFault> {
-    archive.reserve()?;
-    let entry = entry(alloc, stamp, parties)?;
-    archive.append_reserved(entry);
-    Ok(())
+) {
+    archive.reserve().expect(rt, "room");
+    archive.append_reserved(entry(rt, alloc, stamp, parties));
 }
 
 fn number_at(archive: &Archive, number: u64) -> u64 {
@@ -50,27 +53,28 @@ fn number_at(archive: &Archive, number: u64) -> u64 {
 }
 
 /// The first and the last number, and the number of the entry with number 3, after three entries came.
-fn grown(alloc: Global, archive: &mut Archive) -> Result<[u64; 3], ArchiveFault> {
+fn grown(rt: &impl Abort, alloc: Global, archive: &mut Archive) -> [u64; 3] {
     for stamp in 1..4 {
-        append(alloc, archive, stamp, ("bob@a", "romeo@a"))?;
+        append(rt, alloc, archive, stamp, ("bob@a", "romeo@a"));
     }
-    Ok([archive.first(), archive.last(), number_at(archive, 3)])
+    [archive.first(), archive.last(), number_at(archive, 3)]
 }
 
 /// The same in an archive that keeps two entries.
-fn numbers_kept(alloc: Global) -> Result<[u64; 3], ArchiveFault> {
-    let owner = Text::from_str(alloc, "romeo@a")?;
-    let mut archive = Archive::new(alloc, owner, 2);
-    grown(alloc, &mut archive)
+fn numbers_kept(rt: &impl Abort, alloc: Global) -> [u64; 3] {
+    let mut archive = Archive::new(alloc, text(rt, alloc, "romeo@a"), 2);
+    grown(rt, alloc, &mut archive)
 }
 
 /// A body in English.
-fn bodies_with(alloc: Global, text: &str) -> Result<Bodies, NoMemory> {
+fn bodies_with(rt: &impl Abort, alloc: Global, said: &str) -> Bodies {
     let mut bodies = ListOf::new(alloc);
-    let lang = Text::from_str(alloc, "en")?;
-    let text = Text::from_str(alloc, text)?;
-    bodies.push(Body { lang, text })?;
-    Ok(bodies)
+    let body = Body {
+        lang: text(rt, alloc, "en"),
+        text: text(rt, alloc, said),
+    };
+    bodies.push(body).expect(rt, "memory");
+    bodies
 }
 
 fn has_body(entry: &Entry, text: &str) -> bool {
@@ -80,26 +84,28 @@ fn has_body(entry: &Entry, text: &str) -> bool {
     }
 }
 
-/// Whether a copy of an entry has this body, and is from the same sender.
-fn is_copied(alloc: Global, entry: &Entry, text: &str) -> bool {
-    match entry.copied(alloc) {
-        Ok(copy) => has_body(&copy, text) && copy.message().from.as_str() == "romeo@a/r",
-        Err(_) => false,
-    }
+/// Whether an entry has this body, and is from that sender.
+fn is_said(entry: Entry, text: &str) -> bool {
+    has_body(&entry, text) && entry.message().from.as_str() == "romeo@a/r"
 }
 
-fn is_copied_with(alloc: Global, text: &str) -> Result<bool, NoMemory> {
-    let bodies = bodies_with(alloc, text)?;
-    let message = message(alloc, 7, ("romeo@a/r", "bob@a"), bodies)?;
-    let entry = Entry::new(alloc, 0, message)?;
-    Ok(is_copied(alloc, &entry, text))
+/// A copy of an entry.
+fn copied_with(rt: &impl Abort, alloc: Global, text: &str) -> Entry {
+    let bodies = bodies_with(rt, alloc, text);
+    let message = message(rt, alloc, 7, ("romeo@a/r", "bob@a"), bodies);
+    let entry = Entry::new(alloc, 0, message).expect(rt, "memory");
+    entry.copied(alloc).expect(rt, "memory")
 }
 
 #[test]
 fn an_archive_keeps_its_newest_entries(rt: HostRuntime) {
+    let alloc = rt.alloc();
+    assert!(rt; numbers_kept(&rt, alloc) == [2, 3, 3]);
     assert!(rt;
-        numbers_kept(rt.alloc()) == Ok([2, 3, 3])
-            && is_copied_with(rt.alloc(), "Neither, fair saint") == Ok(true)
+        is_said(
+            copied_with(&rt, alloc, "Neither, fair saint"),
+            "Neither, fair saint"
+        )
     );
 }
 
@@ -110,16 +116,14 @@ static SPELLED: [(u64, &str); 3] = [
     (u64::MAX, "ffffffffffffffff"),
 ];
 
-fn is_spelled(alloc: Global, number: u64, id: &str) -> bool {
-    match id_of_number(alloc, number) {
-        Ok(text) => text.as_str() == id && number_of(id) == Some(number),
-        Err(_) => false,
-    }
+fn is_spelled(id: Text, number: u64, spelled: &str) -> bool {
+    id.as_str() == spelled && number_of(spelled) == Some(number)
 }
 
 #[test]
 fn ids_are_spelled_and_read(rt: HostRuntime) {
-    for (number, id) in &SPELLED {
-        assert!(rt; is_spelled(rt.alloc(), *number, id));
+    for (number, spelled) in &SPELLED {
+        let id = id_of_number(rt.alloc(), *number).expect(&rt, "memory");
+        assert!(rt; is_spelled(id, *number, spelled));
     }
 }

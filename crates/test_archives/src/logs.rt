@@ -1,58 +1,58 @@
 //! Logs: pages that are taken over, messages that are held, and refusals; and the printed texts of archives, pages and logs.
-use crate::archives::entry;
-use base_io::{NoMemory, Text};
+use crate::archives::{entry, text};
+use base_io::Text;
 use mam_archive::ArchiveFault;
 use mam_log::{BeginFault, FinFault, Log, LogEntry, PageOutcome, RestartFault, ResultFault};
 use mam_pages::{Fin, PageFault};
 use std::alloc::Global;
+use std::process::Abort;
 
-fn logged(alloc: Global, id: &str) -> Result<LogEntry, NoMemory> {
-    Ok(LogEntry {
-        id: Text::from_str(alloc, id)?,
-        entry: entry(alloc, 7, ("bob@a", "romeo@a"))?,
-    })
+fn logged(rt: &impl Abort, alloc: Global, id: &str) -> LogEntry {
+    LogEntry {
+        id: text(rt, alloc, id),
+        entry: entry(rt, alloc, 7, ("bob@a", "romeo@a")),
+    }
 }
 
 /// The end of a page whose last result has this id.
-fn fin(alloc: Global, last: &str) -> Result<Fin, NoMemory> {
-    Ok(Fin {
-        complete: true,
+fn fin(rt: &impl Abort, alloc: Global, last: &str, complete: bool) -> Fin {
+    Fin {
+        complete,
         first: None,
         first_index: 0,
-        last: Some(Text::from_str(alloc, last)?),
+        last: Some(text(rt, alloc, last)),
         count: 2,
-    })
+    }
 }
 
-fn put(alloc: Global, log: &mut Log, id: &str) -> Option<()> {
-    let entry = logged(alloc, id).ok()?;
-    log.result("q", entry).ok()
+fn put(rt: &impl Abort, alloc: Global, log: &mut Log, id: &str) {
+    log.result("q", logged(rt, alloc, id))
+        .expect(rt, "a result")
 }
 
 /// Begins a page of two, and adds results with these ids.
-fn begin(alloc: Global, log: &mut Log, ids: &[&str]) -> Option<()> {
-    let queryid = Text::from_str(alloc, "q").ok()?;
-    log.begin(alloc, queryid, 2).ok()?;
+fn begin(rt: &impl Abort, alloc: Global, log: &mut Log, ids: &[&str]) {
+    log.begin(alloc, text(rt, alloc, "q"), 2)
+        .expect(rt, "a page");
     for id in ids {
-        put(alloc, log, id)?;
+        put(rt, alloc, log, id);
     }
-    Some(())
 }
 
 /// Whether the page is complete at its end, or an id repeats.
-fn end(alloc: Global, log: &mut Log, last: &str) -> Option<bool> {
-    let fin = fin(alloc, last).ok()?;
-    match log.fin(alloc, "q", &fin) {
-        Ok(outcome) => Some(outcome == PageOutcome::Complete),
-        Err(FinFault::Repeats(_)) => Some(false),
-        Err(_) => None,
+fn end(rt: &impl Abort, alloc: Global, log: &mut Log, last: &str) -> bool {
+    match log.fin(alloc, "q", &fin(rt, alloc, last, true)) {
+        Ok(outcome) => outcome == PageOutcome::Complete,
+        Err(FinFault::Repeats(_)) => false,
+        Err(_) => panic!(rt; "the page does not end"),
     }
 }
 
 /// The same of a page with results of these ids.
-fn take(alloc: Global, log: &mut Log, ids: &[&str]) -> Option<bool> {
-    begin(alloc, log, ids)?;
-    end(alloc, log, ids.last()?)
+fn take(rt: &impl Abort, alloc: Global, log: &mut Log, ids: &[&str]) -> bool {
+    begin(rt, alloc, log, ids);
+    let last = ids.last().expect(rt, "an id");
+    end(rt, alloc, log, last)
 }
 
 /// Pages after one with the entries b and d: whether each joins the log.
@@ -67,28 +67,25 @@ static PAGES: [(&[&str], bool); 7] = [
 ];
 
 /// The same of a page that comes after another, and how many entries the log has then.
-fn take_after(alloc: Global, log: &mut Log, ids: &[&str]) -> Option<(bool, usize)> {
-    take(alloc, log, &["b", "d"])?;
-    let complete = take(alloc, log, ids)?;
-    Some((complete, log.entries().len()))
-}
-
-fn taken_after(alloc: Global, ids: &[&str]) -> Option<(bool, usize)> {
+fn taken_after(rt: &impl Abort, alloc: Global, ids: &[&str]) -> (bool, usize) {
     let mut log = Log::new(alloc);
-    take_after(alloc, &mut log, ids)
+    let _ = take(rt, alloc, &mut log, &["b", "d"]);
+    let complete = take(rt, alloc, &mut log, ids);
+    (complete, log.entries().len())
 }
 
 #[test]
 fn pages_join_where_no_id_repeats(rt: HostRuntime) {
     for (ids, joins) in &PAGES {
         let grown = if *joins { ids.len() } else { 0 };
-        assert!(rt; taken_after(rt.alloc(), ids) == Some((*joins, grown.saturating_add(2))));
+        let entries = grown.saturating_add(2);
+        assert!(rt; taken_after(&rt, rt.alloc(), ids) == (*joins, entries));
     }
 }
 
-fn hold(alloc: Global, log: &mut Log, id: &str) -> Option<bool> {
-    let live = logged(alloc, id).ok()?;
-    log.hold(alloc, live).ok()
+/// Whether a message that comes live is held.
+fn hold(rt: &impl Abort, alloc: Global, log: &mut Log, id: &str) -> bool {
+    log.hold(alloc, logged(rt, alloc, id)).expect(rt, "memory")
 }
 
 static HELD: [&str; 3] = ["e", "f", "g"];
@@ -102,99 +99,84 @@ static BROUGHT: [(&[&str], usize); 5] = [
     (&["g", "e"], 1),
 ];
 
-fn take_live(alloc: Global, log: &mut Log, ids: &[&str]) -> Option<usize> {
-    for id in &HELD {
-        hold(alloc, log, id)?;
-    }
-    take(alloc, log, ids)?;
-    Some(log.held().len())
-}
-
-fn held_after(alloc: Global, ids: &[&str]) -> Option<usize> {
+fn held_after(rt: &impl Abort, alloc: Global, ids: &[&str]) -> usize {
     let mut log = Log::new(alloc);
-    take_live(alloc, &mut log, ids)
+    for id in &HELD {
+        let _ = hold(rt, alloc, &mut log, id);
+    }
+    let _ = take(rt, alloc, &mut log, ids);
+    log.held().len()
 }
 
 #[test]
 fn a_page_brings_what_is_held(rt: HostRuntime) {
     for (ids, left) in &BROUGHT {
-        assert!(rt; held_after(rt.alloc(), ids) == Some(*left));
+        assert!(rt; held_after(&rt, rt.alloc(), ids) == *left);
     }
 }
 
 /// Messages that come live to a log with the entry b that holds e: whether each is held.
 static LIVE: [(&str, bool); 3] = [("b", false), ("e", false), ("c", true)];
 
-fn hold_after(alloc: Global, log: &mut Log, id: &str) -> Option<bool> {
-    take(alloc, log, &["b"])?;
-    hold(alloc, log, "e")?;
-    hold(alloc, log, id)
-}
-
-fn is_held(alloc: Global, id: &str) -> Option<bool> {
+fn is_held(rt: &impl Abort, alloc: Global, id: &str) -> bool {
     let mut log = Log::new(alloc);
-    hold_after(alloc, &mut log, id)
+    let _ = take(rt, alloc, &mut log, &["b"]);
+    let _ = hold(rt, alloc, &mut log, "e");
+    hold(rt, alloc, &mut log, id)
 }
 
 #[test]
 fn a_message_is_held_once(rt: HostRuntime) {
     for (id, holds) in &LIVE {
-        assert!(rt; is_held(rt.alloc(), id) == Some(*holds));
+        assert!(rt; is_held(&rt, rt.alloc(), id) == *holds);
     }
 }
 
 /// Ends a page of b and d that is not the last, and begins the next one.
-fn turn(alloc: Global, log: &mut Log) -> Option<PageOutcome> {
-    begin(alloc, log, &["b", "d"])?;
-    let mut more = fin(alloc, "d").ok()?;
-    more.complete = false;
-    let next = Text::from_str(alloc, "r").ok()?;
-    log.fin_then_begin(alloc, "q", &more, next).ok()
+fn turn(rt: &impl Abort, alloc: Global, log: &mut Log) {
+    begin(rt, alloc, log, &["b", "d"]);
+    let more = fin(rt, alloc, "d", false);
+    let turned = log.fin_then_begin(alloc, "q", &more, text(rt, alloc, "r"));
+    let _ = turned.expect(rt, "a next page");
 }
 
 /// Asks anew for the page that was begun, takes it over with f, and answers where the log breaks.
-fn ask_anew(alloc: Global, log: &mut Log) -> Option<u64> {
-    turn(alloc, log)?;
-    let fresh = Text::from_str(alloc, "q").ok()?;
-    log.restart(alloc, "r", fresh).ok()?;
-    put(alloc, log, "f")?;
-    end(alloc, log, "f")?;
-    log.breaks().first().copied()
-}
-
-fn asked_anew(alloc: Global) -> Option<u64> {
+fn asked_anew(rt: &impl Abort, alloc: Global) -> Option<u64> {
     let mut log = Log::new(alloc);
-    ask_anew(alloc, &mut log)
+    turn(rt, alloc, &mut log);
+    log.restart(alloc, "r", text(rt, alloc, "q"))
+        .expect(rt, "a page anew");
+    put(rt, alloc, &mut log, "f");
+    let _ = end(rt, alloc, &mut log, "f");
+    log.breaks().first().copied()
 }
 
 #[test]
 fn a_page_asked_for_anew_breaks_the_log(rt: HostRuntime) {
-    assert!(rt; asked_anew(rt.alloc()) == Some(2));
+    assert!(rt; asked_anew(&rt, rt.alloc()) == Some(2));
 }
 
-fn result_fault(alloc: Global, log: &mut Log, queryid: &str) -> Option<ResultFault> {
-    let entry = logged(alloc, "c").ok()?;
-    log.result(queryid, entry).err()
+fn result_fault(
+    rt: &impl Abort,
+    alloc: Global,
+    log: &mut Log,
+    queryid: &str,
+) -> Option<ResultFault> {
+    log.result(queryid, logged(rt, alloc, "c")).err()
 }
 
 /// What a page of two with two results does to results of another query and of its own, and to another page.
-fn refuse(
-    alloc: Global,
-    log: &mut Log,
-) -> Option<(Option<ResultFault>, Option<ResultFault>, Option<BeginFault>)> {
-    begin(alloc, log, &["a", "b"])?;
-    Some((
-        result_fault(alloc, log, "p"),
-        result_fault(alloc, log, "q"),
-        log.begin(alloc, Text::new(alloc), 1).err(),
-    ))
-}
-
 fn refused(
+    rt: &impl Abort,
     alloc: Global,
-) -> Option<(Option<ResultFault>, Option<ResultFault>, Option<BeginFault>)> {
+) -> (Option<ResultFault>, Option<ResultFault>, Option<BeginFault>) {
     let mut log = Log::new(alloc);
-    refuse(alloc, &mut log)
+    begin(rt, alloc, &mut log, &["a", "b"]);
+    (
+        result_fault(rt, alloc, &mut log, "p"),
+        result_fault(rt, alloc, &mut log, "q"),
+        log.begin(alloc, Text::new(alloc), 1).err(),
+    )
 }
 
 #[test]
@@ -202,7 +184,7 @@ fn an_open_page_refuses_calls(rt: HostRuntime) {
     let stranger = Some(ResultFault::Stranger);
     let overrun = Some(ResultFault::Overrun);
     let underway = Some(BeginFault::Underway);
-    assert!(rt; refused(rt.alloc()) == Some((stranger, overrun, underway)));
+    assert!(rt; refused(&rt, rt.alloc()) == (stranger, overrun, underway));
 }
 
 const TOLD: &str = "the archive is full, no entry has this id, an empty page is not the last one, \

@@ -1,11 +1,12 @@
 //! Pages of archives, worked out by hand.
 ghost use Rattle.std.specs.Prelude.{◌≤◌};
 
-use crate::archives::append;
-use base_io::{NoMemory, Text};
-use mam_archive::{Archive, ArchiveFault, id_of_number, number_of};
+use crate::archives::{append, text};
+use base_io::Text;
+use mam_archive::{Archive, id_of_number, number_of};
 use mam_pages::{ArchiveLook, Fin, PageCut, PageFault, PageQuery, Place, page};
 use std::alloc::Global;
+use std::process::Abort;
 
 /// The sender and the recipient of each entry. The first, third and fourth are with bob, of which the last two are with
 /// his session x.
@@ -112,53 +113,54 @@ static UNKNOWN: [&str; 4] = [
     "000000000000000A",
 ];
 
-fn fill(alloc: Global, archive: &mut Archive) -> Result<(), ArchiveFault> {
+fn fill(rt: &impl Abort, alloc: Global, archive: &mut Archive) {
     let mut stamp: u64 = 0;
     for parties in &PARTIES {
         stamp = stamp.saturating_add(10);
-        append(alloc, archive, stamp, *parties)?;
+        append(rt, alloc, archive, stamp, *parties);
     }
-    Ok(())
 }
 
 /// The newest of the entries, in an archive that keeps so many.
-fn archive(alloc: Global, keep: u32) -> Result<Archive, ArchiveFault>
+fn archive(rt: &impl Abort, alloc: Global, keep: u32) -> Archive
     requires { 1 ≤ keep }
 {
-    let owner = Text::from_str(alloc, "romeo@a")?;
-    let mut archive = Archive::new(alloc, owner, keep);
-    fill(alloc, &mut archive)?;
-    Ok(archive)
+    let mut archive = Archive::new(alloc, text(rt, alloc, "romeo@a"), keep);
+    fill(rt, alloc, &mut archive);
+    archive
 }
 
-fn place(alloc: Global, at: At) -> Result<Place, NoMemory> {
-    Ok(match at {
+fn id(rt: &impl Abort, alloc: Global, number: u64) -> Text {
+    id_of_number(alloc, number).expect(rt, "memory")
+}
+
+fn place(rt: &impl Abort, alloc: Global, at: At) -> Place {
+    match at {
         At::First => Place::First,
-        At::After(number) => Place::After(id_of_number(alloc, number)?),
-        At::Before(number) => Place::Before(id_of_number(alloc, number)?),
+        At::After(number) => Place::After(id(rt, alloc, number)),
+        At::Before(number) => Place::Before(id(rt, alloc, number)),
         At::Last => Place::Last,
-        At::AfterId(id) => Place::After(Text::from_str(alloc, id)?),
-    })
-}
-
-fn peer(alloc: Global, peer: &str) -> Result<Option<Text>, NoMemory> {
-    if peer.is_empty() {
-        return Ok(None);
+        At::AfterId(id) => Place::After(text(rt, alloc, id)),
     }
-    Ok(Some(Text::from_str(alloc, peer)?))
 }
 
-fn query(alloc: Global, asked: Asked) -> Result<PageQuery, NoMemory> {
+fn peer(rt: &impl Abort, alloc: Global, peer: &str) -> Option<Text> {
+    if peer.is_empty() {
+        None
+    } else {
+        Some(text(rt, alloc, peer))
+    }
+}
+
+fn query(rt: &impl Abort, alloc: Global, asked: Asked) -> PageQuery {
     let (with, start, end, at, max) = asked;
-    let peer = peer(alloc, with)?;
-    let place = place(alloc, at)?;
-    Ok(PageQuery {
-        peer,
+    PageQuery {
+        peer: peer(rt, alloc, with),
         start,
         end,
-        place,
+        place: place(rt, alloc, at),
         max,
-    })
+    }
 }
 
 fn number_in(id: &Option<Text>) -> Option<u64> {
@@ -176,53 +178,49 @@ fn is_reported(fin: &Fin, found: Found) -> bool {
         && (fin.first_index, fin.count, fin.complete) == (first_index, count, complete)
 }
 
-fn is_page(alloc: Global, cut: &PageCut, found: Found) -> bool {
-    match cut.fin(alloc) {
-        Ok(fin) => cut.numbers.as_slice() == found.0 && is_reported(&fin, found),
-        Err(_) => false,
-    }
+fn is_cut(cut: PageCut, fin: Fin, backward: bool, found: Found) -> bool {
+    cut.backward == backward && cut.numbers.as_slice() == found.0 && is_reported(&fin, found)
 }
 
-fn answered(alloc: Global, archive: &Archive, asked: Asked) -> Result<PageCut, PageFault> {
-    let query = query(alloc, asked)?;
-    page(alloc, &mut ArchiveLook::new(archive), &query)
+fn is_page(rt: &impl Abort, alloc: Global, cut: PageCut, backward: bool, found: Found) -> bool {
+    let fin = cut.fin(alloc).expect(rt, "memory");
+    is_cut(cut, fin, backward, found)
 }
 
-/// What an archive that keeps so many entries answers.
-fn page_of(alloc: Global, keep: u32, asked: Asked) -> Option<PageCut> {
-    let archive = archive(alloc, keep.max(1)).ok()?;
-    answered(alloc, &archive, asked).ok()
+/// What an archive answers.
+fn answered(
+    rt: &impl Abort,
+    alloc: Global,
+    archive: Archive,
+    asked: Asked,
+) -> Result<PageCut, PageFault> {
+    let query = query(rt, alloc, asked);
+    page(alloc, &mut ArchiveLook::new(&archive), &query)
 }
 
 fn is_backward(at: At) -> bool {
     matches!(at, At::Before(_) | At::Last)
 }
 
-fn is_found(alloc: Global, keep: u32, asked: Asked, found: Found) -> bool {
-    match page_of(alloc, keep, asked) {
-        Some(cut) => cut.backward == is_backward(asked.3) && is_page(alloc, &cut, found),
-        None => false,
-    }
-}
-
 #[test]
 fn pages_are_cut_out(rt: HostRuntime) {
+    let alloc = rt.alloc();
     for (keep, asked, found) in &PAGES {
-        assert!(rt; is_found(rt.alloc(), *keep, *asked, *found));
+        let cut = answered(&rt, alloc, archive(&rt, alloc, (*keep).max(1)), *asked);
+        let backward = is_backward(asked.3);
+        assert!(rt; is_page(&rt, alloc, cut.expect(&rt, "a page"), backward, *found));
     }
 }
 
-fn is_unknown(alloc: Global, id: &'static str) -> bool {
-    let asked = ("", None, None, At::AfterId(id), None);
-    match archive(alloc, 3) {
-        Ok(archive) => matches!(answered(alloc, &archive, asked), Err(PageFault::NotFound)),
-        Err(_) => false,
-    }
+fn is_unknown(answer: Result<PageCut, PageFault>) -> bool {
+    matches!(answer, Err(PageFault::NotFound))
 }
 
 #[test]
 fn ids_of_no_entry_are_not_found(rt: HostRuntime) {
+    let alloc = rt.alloc();
     for id in &UNKNOWN {
-        assert!(rt; is_unknown(rt.alloc(), *id));
+        let asked = ("", None, None, At::AfterId(*id), None);
+        assert!(rt; is_unknown(answered(&rt, alloc, archive(&rt, alloc, 3), asked)));
     }
 }

@@ -1,82 +1,76 @@
 //! The text of a run that was done again.
-use base_io::{Bytes, ListOf, NoMemory, Text};
+use base_io::{Bytes, ListOf, Text};
 use cmd_journal::{NamedArchive, Output, Outputs, rerun_text};
 use cmd_schedule::Version;
-use mam_archive::{Archive, ArchiveFault, ArchivedMessage, Bodies, Body, Entry};
+use mam_archive::{Archive, ArchivedMessage, Bodies, Body, Entry};
 use std::alloc::Global;
+use std::process::Abort;
 
 const TEXT: &str =
     "xmpp-rerun 1\nout 7 3c2f613e\nshut 7\naccount alice 1 1\nentry 0000000000000001 5 bob@chat.example/pad alice@chat.example o 1 two lines \nend\n";
 
-fn bodies_with(alloc: Global, text: &str) -> Result<Bodies, NoMemory> {
-    let mut bodies = ListOf::new(alloc);
-    let text = Text::from_str(alloc, text)?;
-    bodies.push(Body {
-        lang: Text::new(alloc),
-        text,
-    })?;
-    Ok(bodies)
+fn text(rt: &impl Abort, alloc: Global, text: &str) -> Text {
+    Text::from_str(alloc, text).expect(rt, "memory")
 }
 
-fn message(alloc: Global, origin: &str, bodies: Bodies) -> Result<ArchivedMessage, NoMemory> {
-    Ok(ArchivedMessage {
+fn bodies_with(rt: &impl Abort, alloc: Global, said: &str) -> Bodies {
+    let mut bodies = ListOf::new(alloc);
+    let body = Body {
+        lang: Text::new(alloc),
+        text: text(rt, alloc, said),
+    };
+    bodies.push(body).expect(rt, "memory");
+    bodies
+}
+
+fn message(rt: &impl Abort, alloc: Global, origin: &str, bodies: Bodies) -> ArchivedMessage {
+    ArchivedMessage {
         stamp: 5,
-        from: Text::from_str(alloc, "bob@chat.example/pad")?,
-        to: Text::from_str(alloc, "alice@chat.example")?,
+        from: text(rt, alloc, "bob@chat.example/pad"),
+        to: text(rt, alloc, "alice@chat.example"),
         normal: false,
         id: Text::new(alloc),
-        origin: Text::from_str(alloc, origin)?,
+        origin: text(rt, alloc, origin),
         bodies,
-    })
+    }
 }
 
-fn append(alloc: Global, archive: &mut Archive) -> Result<(), ArchiveFault> {
-    archive.reserve()?;
-    let bodies = bodies_with(alloc, "two\nlines\t")?;
-    let message = message(alloc, "o\u{1}1", bodies)?;
-    archive.append_reserved(Entry::new(alloc, 0, message)?);
-    Ok(())
+fn append(rt: &impl Abort, alloc: Global, archive: &mut Archive) {
+    archive.reserve().expect(rt, "room");
+    let message = message(rt, alloc, "o\u{1}1", bodies_with(rt, alloc, "two\nlines\t"));
+    archive.append_reserved(Entry::new(alloc, 0, message).expect(rt, "memory"));
 }
 
-fn archive_with_one(alloc: Global) -> Result<Archive, ArchiveFault> {
-    let owner = Text::from_str(alloc, "alice@chat.example")?;
-    let mut archive = Archive::new(alloc, owner, 2);
-    append(alloc, &mut archive)?;
-    Ok(archive)
-}
-
-fn outputs(alloc: Global) -> Result<Outputs, NoMemory> {
+fn outputs(rt: &impl Abort, alloc: Global) -> Outputs {
     let mut outputs = Outputs::new(alloc);
-    let bytes = Bytes::from_slice(alloc, b"</a>")?;
-    outputs.push(Output::Put {
+    let put = Output::Put {
         connection: 7,
-        bytes,
-    })?;
-    outputs.push(Output::Shut { connection: 7 })?;
-    Ok(outputs)
+        bytes: Bytes::from_slice(alloc, b"</a>").expect(rt, "memory"),
+    };
+    outputs.push(put).expect(rt, "memory");
+    outputs
+        .push(Output::Shut { connection: 7 })
+        .expect(rt, "memory");
+    outputs
 }
 
-fn text_of(alloc: Global, archive: &Archive) -> Result<Bytes, NoMemory> {
-    let outputs = outputs(alloc)?;
+fn text_of(rt: &impl Abort, alloc: Global, archive: &Archive) -> Bytes {
     let named = NamedArchive {
         name: "alice",
         archive,
     };
-    rerun_text(alloc, Version::Two { keep: 2 }, &outputs, &[named])
+    let outputs = outputs(rt, alloc);
+    rerun_text(alloc, Version::Two { keep: 2 }, &outputs, &[named]).expect(rt, "memory")
 }
 
-fn is_written(alloc: Global, archive: &Archive) -> bool {
-    match text_of(alloc, archive) {
-        Ok(text) => text.as_slice() == TEXT.as_bytes(),
-        Err(_) => false,
-    }
+fn is_bytes(bytes: Bytes, expected: &str) -> bool {
+    bytes.as_slice() == expected.as_bytes()
 }
 
 #[test]
 fn a_run_is_written(rt: HostRuntime) {
-    let written = match archive_with_one(rt.alloc()) {
-        Ok(archive) => is_written(rt.alloc(), &archive),
-        Err(_) => false,
-    };
-    assert!(rt; written);
+    let alloc = rt.alloc();
+    let mut archive = Archive::new(alloc, text(&rt, alloc, "alice@chat.example"), 2);
+    append(&rt, alloc, &mut archive);
+    assert!(rt; is_bytes(text_of(&rt, alloc, &archive), TEXT));
 }

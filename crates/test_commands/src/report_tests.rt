@@ -11,7 +11,7 @@ use cmd_schedule::Version;
 use mam_archive::{ArchivedMessage, Bodies, Body, Entry};
 use mam_log::{LogEntries, LogEntry, Tile, Tiles};
 use std::alloc::Global;
-use std::test::Fail;
+use std::process::Abort;
 
 static REPORT: &str = "xmpp-report 1 wire
 take phone 2 1 bob
@@ -59,120 +59,128 @@ held 0000000000000002
 end
 ";
 
-fn text(alloc: Global, characters: &str) -> Result<Text, NoMemory> {
-    Text::from_str(alloc, characters)
+fn text(rt: &impl Abort, alloc: Global, characters: &str) -> Text {
+    Text::from_str(alloc, characters).expect(rt, "memory")
 }
 
-fn bodies(alloc: Global) -> Result<Bodies, NoMemory> {
+fn bodies(rt: &impl Abort, alloc: Global) -> Bodies {
     let mut bodies = Bodies::new(alloc);
-    bodies.push(Body {
-        text: text(alloc, "hi bob")?,
-        lang: Text::new(alloc),
-    })?;
-    Ok(bodies)
+    bodies
+        .push(Body {
+            text: text(rt, alloc, "hi bob"),
+            lang: Text::new(alloc),
+        })
+        .expect(rt, "memory");
+    bodies
 }
 
-fn message(alloc: Global) -> Result<ArchivedMessage, NoMemory> {
-    Ok(ArchivedMessage {
+fn message(rt: &impl Abort, alloc: Global) -> ArchivedMessage {
+    ArchivedMessage {
         stamp: 1500,
-        from: full_address(alloc, "alice", "phone")?,
-        to: bare_address(alloc, "bob")?,
-        origin: origin_of(alloc, "phone", 2, 1)?,
-        bodies: bodies(alloc)?,
+        from: full_address(alloc, "alice", "phone").expect(rt, "memory"),
+        to: bare_address(alloc, "bob").expect(rt, "memory"),
+        origin: origin_of(alloc, "phone", 2, 1).expect(rt, "memory"),
+        bodies: bodies(rt, alloc),
         normal: false,
         id: Text::new(alloc),
-    })
+    }
 }
 
 // An archive's entry.
-fn entry(alloc: Global) -> Result<Entry, NoMemory> {
-    Entry::new(alloc, 1, message(alloc)?)
+fn entry(rt: &impl Abort, alloc: Global) -> Entry {
+    Entry::new(alloc, 1, message(rt, alloc)).expect(rt, "memory")
 }
 
-fn greeting(alloc: Global) -> Result<EntryLine, NoMemory> {
-    copied_entry_line(alloc, &entry(alloc)?)
+fn greeting(rt: &impl Abort, alloc: Global) -> EntryLine {
+    copied_entry_line(alloc, &entry(rt, alloc)).expect(rt, "memory")
 }
 
-fn known(alloc: Global) -> Result<LogEntry, NoMemory> {
-    Ok(LogEntry {
-        id: text(alloc, "0000000000000001")?,
-        entry: entry(alloc)?,
-    })
+fn known(rt: &impl Abort, alloc: Global) -> LogEntry {
+    LogEntry {
+        id: text(rt, alloc, "0000000000000001"),
+        entry: entry(rt, alloc),
+    }
 }
 
 // Two pages of one entry each, both asked for from the start.
-fn tiles(alloc: Global) -> Result<Tiles, NoMemory> {
+fn tiles(rt: &impl Abort, alloc: Global) -> Tiles {
     let mut tiles = Tiles::new(alloc);
     for _ in 0..2 {
-        tiles.push(Tile {
-            after: None,
-            count: 1,
-            complete: false,
-            total: 1,
-        })?;
+        tiles
+            .push(Tile {
+                after: None,
+                count: 1,
+                complete: false,
+                total: 1,
+            })
+            .expect(rt, "memory");
     }
-    Ok(tiles)
+    tiles
 }
 
-fn known_twice(alloc: Global) -> Result<LogEntries, NoMemory> {
+fn known_twice(rt: &impl Abort, alloc: Global) -> LogEntries {
     let mut entries = LogEntries::new(alloc);
     for _ in 0..2 {
-        entries.push(known(alloc)?)?;
+        entries.push(known(rt, alloc)).expect(rt, "memory");
     }
-    Ok(entries)
+    entries
 }
 
 // Of two pages, the second behind a break.
-fn logged_behind_break(alloc: Global) -> Result<LoggedLines, NoMemory> {
-    logged_lines(alloc, &tiles(alloc)?, known_twice(alloc)?)
+fn logged_behind_break(rt: &impl Abort, alloc: Global) -> LoggedLines {
+    logged_lines(alloc, &tiles(rt, alloc), known_twice(rt, alloc)).expect(rt, "memory")
 }
 
-fn logged_line(alloc: Global) -> Result<LoggedLine, NoMemory> {
-    copied_logged_line(alloc, &known(alloc)?, false)
+fn logged_line(rt: &impl Abort, alloc: Global) -> LoggedLine {
+    copied_logged_line(alloc, &known(rt, alloc), false).expect(rt, "memory")
 }
 
-fn logged_once(alloc: Global) -> Result<LoggedLines, NoMemory> {
+fn logged_once(rt: &impl Abort, alloc: Global) -> LoggedLines {
     let mut lines = LoggedLines::new(alloc);
-    lines.push(logged_line(alloc)?)?;
-    Ok(lines)
+    lines.push(logged_line(rt, alloc)).expect(rt, "memory");
+    lines
 }
 
-fn logged(alloc: Global, version: Version) -> Result<LoggedLines, NoMemory> {
+fn logged(rt: &impl Abort, alloc: Global, version: Version) -> LoggedLines {
     match version {
-        Version::One => logged_once(alloc),
-        Version::Two { .. } => logged_behind_break(alloc),
+        Version::One => logged_once(rt, alloc),
+        Version::Two { .. } => logged_behind_break(rt, alloc),
     }
 }
 
-fn takes(alloc: Global, version: Version) -> Result<TakeLines, NoMemory> {
+fn takes(rt: &impl Abort, alloc: Global, version: Version) -> TakeLines {
     let mut lines = TakeLines::new(alloc);
-    lines.push(TakeLine {
-        device: text(alloc, "phone")?,
-        epoch: 2,
-        n: 1,
-        account: text(alloc, "bob")?,
-        moment: match version {
-            Version::One => None,
-            Version::Two { .. } => Some(1500),
-        },
-    })?;
-    Ok(lines)
+    lines
+        .push(TakeLine {
+            device: text(rt, alloc, "phone"),
+            epoch: 2,
+            n: 1,
+            account: text(rt, alloc, "bob"),
+            moment: match version {
+                Version::One => None,
+                Version::Two { .. } => Some(1500),
+            },
+        })
+        .expect(rt, "memory");
+    lines
 }
 
-fn accounts(alloc: Global) -> Result<AccountLines, NoMemory> {
+fn accounts(rt: &impl Abort, alloc: Global) -> AccountLines {
     let mut entries = EntryLines::new(alloc);
-    entries.push(greeting(alloc)?)?;
+    entries.push(greeting(rt, alloc)).expect(rt, "memory");
     let mut lines = AccountLines::new(alloc);
-    lines.push(AccountLine {
-        name: text(alloc, "alice")?,
-        count: 1,
-        last: 3,
-        entries,
-    })?;
-    Ok(lines)
+    lines
+        .push(AccountLine {
+            name: text(rt, alloc, "alice"),
+            count: 1,
+            last: 3,
+            entries,
+        })
+        .expect(rt, "memory");
+    lines
 }
 
-fn conns(alloc: Global) -> Result<ConnLines, NoMemory> {
+fn conns(rt: &impl Abort, alloc: Global) -> ConnLines {
     let mut lines = ConnLines::new(alloc);
     for (k, end) in [
         (1, ConnEnd::Cut),
@@ -180,105 +188,119 @@ fn conns(alloc: Global) -> Result<ConnLines, NoMemory> {
         (3, ConnEnd::Shut),
         (4, ConnEnd::Open),
     ] {
-        lines.push(ConnLine {
-            k,
-            device: text(alloc, "phone")?,
-            upput: 900,
-            uptaken: 850,
-            downput: 2400,
-            downtaken: 2310,
-            end,
-        })?;
+        lines
+            .push(ConnLine {
+                k,
+                device: text(rt, alloc, "phone"),
+                upput: 900,
+                uptaken: 850,
+                downput: 2400,
+                downtaken: 2310,
+                end,
+            })
+            .expect(rt, "memory");
     }
-    Ok(lines)
+    lines
 }
 
-fn said(alloc: Global) -> Result<SaidLines, NoMemory> {
+fn said(rt: &impl Abort, alloc: Global) -> SaidLines {
     let mut lines = SaidLines::new(alloc);
     for state in [
         SaidMark::Acknowledged,
         SaidMark::Waiting,
         SaidMark::Undecided,
     ] {
-        lines.push(SaidLine {
-            epoch: 2,
-            n: 1,
-            state,
-            to: text(alloc, "bob")?,
-            text: text(alloc, "hi")?,
-        })?;
+        lines
+            .push(SaidLine {
+                epoch: 2,
+                n: 1,
+                state,
+                to: text(rt, alloc, "bob"),
+                text: text(rt, alloc, "hi"),
+            })
+            .expect(rt, "memory");
     }
-    Ok(lines)
+    lines
 }
 
-fn refused(alloc: Global) -> Result<RefusedLines, NoMemory> {
+fn refused(rt: &impl Abort, alloc: Global) -> RefusedLines {
     let mut lines = RefusedLines::new(alloc);
     for why in [
         RefusedWhy::NotBound,
         RefusedWhy::OutboxFull,
         RefusedWhy::Underway,
     ] {
-        lines.push(RefusedLine { line: 4, why })?;
+        lines
+            .push(RefusedLine { line: 4, why })
+            .expect(rt, "memory");
     }
-    Ok(lines)
+    lines
 }
 
-fn pages(alloc: Global) -> Result<PageLines, NoMemory> {
+fn pages(rt: &impl Abort, alloc: Global) -> PageLines {
     let mut lines = PageLines::new(alloc);
     let tile = Tile {
-        after: Some(text(alloc, "0000000000000001")?),
+        after: Some(text(rt, alloc, "0000000000000001")),
         count: 0,
         complete: true,
         total: 1,
     };
-    lines.push(copied_page_line(alloc, &tile)?)?;
-    Ok(lines)
+    lines
+        .push(copied_page_line(alloc, &tile).expect(rt, "memory"))
+        .expect(rt, "memory");
+    lines
 }
 
-fn underway(alloc: Global) -> Result<UnderwayLines, NoMemory> {
+fn underway(rt: &impl Abort, alloc: Global) -> UnderwayLines {
     let mut lines = UnderwayLines::new(alloc);
-    lines.push(UnderwayLine {
-        queryid: text(alloc, "q3")?,
-        got: 12,
-    })?;
-    Ok(lines)
+    lines
+        .push(UnderwayLine {
+            queryid: text(rt, alloc, "q3"),
+            got: 12,
+        })
+        .expect(rt, "memory");
+    lines
 }
 
-fn held(alloc: Global) -> Result<HeldLines, NoMemory> {
+fn held(rt: &impl Abort, alloc: Global) -> HeldLines {
     let mut lines = HeldLines::new(alloc);
-    lines.push(HeldLine {
-        id: text(alloc, "0000000000000002")?,
-    })?;
-    Ok(lines)
+    lines
+        .push(HeldLine {
+            id: text(rt, alloc, "0000000000000002"),
+        })
+        .expect(rt, "memory");
+    lines
 }
 
-fn devices(alloc: Global, version: Version) -> Result<DeviceLines, NoMemory> {
+fn devices(rt: &impl Abort, alloc: Global, version: Version) -> DeviceLines {
     let mut lines = DeviceLines::new(alloc);
-    lines.push(DeviceLine {
-        name: text(alloc, "phone")?,
-        account: text(alloc, "alice")?,
-        epoch: 2,
-        settled: false,
-        said: said(alloc)?,
-        refused: refused(alloc)?,
-        pages: pages(alloc)?,
-        underway: underway(alloc)?,
-        logged: logged(alloc, version)?,
-        held: held(alloc)?,
-    })?;
-    Ok(lines)
+    lines
+        .push(DeviceLine {
+            name: text(rt, alloc, "phone"),
+            account: text(rt, alloc, "alice"),
+            epoch: 2,
+            settled: false,
+            said: said(rt, alloc),
+            refused: refused(rt, alloc),
+            pages: pages(rt, alloc),
+            underway: underway(rt, alloc),
+            logged: logged(rt, alloc, version),
+            held: held(rt, alloc),
+        })
+        .expect(rt, "memory");
+    lines
 }
 
 // A report with a line of each kind.
-fn report(alloc: Global, version: Version) -> Result<Report, NoMemory> {
-    Ok(Report {
+fn report(rt: &impl Abort, alloc: Global, version: Version) -> Report {
+    Report {
         version,
         wire: true,
-        takes: takes(alloc, version)?,
-        accounts: accounts(alloc)?,
-        conns: conns(alloc)?,
-        devices: devices(alloc, version)?,
-    })
+        takes: takes(rt, alloc, version),
+        accounts: accounts(rt, alloc),
+        conns: conns(rt, alloc),
+        devices: devices(rt, alloc, version),
+    }
 }
 
 // Whether a report has this text.
@@ -287,17 +309,16 @@ pub(crate) fn has_text(alloc: Global, report: &Report, wanted: &str) -> Result<b
 }
 
 // Whether the report with a line of each kind has this text.
-fn is_printed(alloc: Global, version: Version, wanted: &str) -> Result<bool, NoMemory> {
-    has_text(alloc, &report(alloc, version)?, wanted)
+fn is_printed(rt: &impl Abort, alloc: Global, version: Version, wanted: &str) -> bool {
+    has_text(alloc, &report(rt, alloc, version), wanted).expect(rt, "memory")
 }
 
 #[test]
-fn prints_a_line_of_each_kind(rt: HostRuntime) -> Result<(), Fail> {
+fn prints_a_line_of_each_kind(rt: HostRuntime) {
     for (version, wanted) in [
         (Version::One, REPORT),
         (Version::Two { keep: 7 }, SECOND_REPORT),
     ] {
-        assert!(rt; is_printed(rt.alloc(), version, wanted)?);
+        assert!(rt; is_printed(&rt, rt.alloc(), version, wanted));
     }
-    Ok(())
 }

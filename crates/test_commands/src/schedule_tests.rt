@@ -1,8 +1,7 @@
 //! Texts that are no schedules, each with its first bad line and the reason.
-use base_io::NoMemory;
 use cmd_schedule::{LineWhy, ScheduleFault, read_schedule};
 use std::alloc::Global;
-use std::test::Fail;
+use std::process::Abort;
 
 // Texts, and why line 1 is bad.
 static OF_LINE_ONE: [(&str, LineWhy); 13] = [
@@ -101,62 +100,64 @@ static BELOW_A_DIAL: [(&str, LineWhy); 30] = [
     ("dial desk\nup 0 0\n", LineWhy::Unknown),
 ];
 
-// Whether two texts, one behind the other, have this first bad line.
-fn is_bad(
-    alloc: Global,
-    above: &str,
-    below: &str,
-    line: u64,
-    why: LineWhy,
-) -> Result<bool, NoMemory> {
-    let mut text = String::from_str(alloc, above)?;
-    text.push_str(below)?;
-    Ok(match read_schedule(alloc, text.as_bytes()) {
+fn is_fault(alloc: Global, text: String, line: u64, why: LineWhy) -> bool {
+    match read_schedule(alloc, text.as_bytes()) {
         Ok(_) => false,
         Err(fault) => fault == ScheduleFault::BadLine { line, why },
-    })
-}
-
-#[test]
-fn bad_first_lines(rt: HostRuntime) -> Result<(), Fail> {
-    for (text, why) in &OF_LINE_ONE {
-        assert!(rt; is_bad(rt.alloc(), text, "", 1, *why)?);
     }
-    Ok(())
+}
+
+// Two texts, one behind the other.
+fn joined(rt: &impl Abort, alloc: Global, above: &str, below: &str) -> String {
+    let mut text = String::from_str(alloc, above).expect(rt, "memory");
+    text.push_str(below).expect(rt, "memory");
+    text
 }
 
 #[test]
-fn bad_lines_below_a_device(rt: HostRuntime) -> Result<(), Fail> {
+fn bad_first_lines(rt: HostRuntime) {
+    let alloc = rt.alloc();
+    for (text, why) in &OF_LINE_ONE {
+        assert!(rt; is_fault(alloc, joined(&rt, alloc, text, ""), 1, *why));
+    }
+}
+
+#[test]
+fn bad_lines_below_a_device(rt: HostRuntime) {
+    let alloc = rt.alloc();
     let above = "xmpp-schedule 1 direct\naccount bob\ndevice phone bob\n";
     for (below, why) in &BELOW_A_DEVICE {
-        assert!(rt; is_bad(rt.alloc(), above, below, 4, *why)?);
+        assert!(rt; is_fault(alloc, joined(&rt, alloc, above, below), 4, *why));
     }
-    Ok(())
 }
 
 #[test]
-fn bad_lines_below_a_dial(rt: HostRuntime) -> Result<(), Fail> {
+fn bad_lines_below_a_dial(rt: HostRuntime) {
+    let alloc = rt.alloc();
     let above = "xmpp-schedule 2 wire 7\naccount bob\ndevice phone bob\ndial phone\n";
     for (below, why) in &BELOW_A_DIAL {
-        assert!(rt; is_bad(rt.alloc(), above, below, 5, *why)?);
+        assert!(rt; is_fault(alloc, joined(&rt, alloc, above, below), 5, *why));
     }
-    Ok(())
+}
+
+fn push_account(rt: &impl Abort, alloc: Global, text: &mut String, i: u64) {
+    let number = i.to_string(alloc).expect(rt, "memory");
+    text.push_str("account a").expect(rt, "memory");
+    text.push_str(number.as_str()).expect(rt, "memory");
+    text.push_str("\n").expect(rt, "memory")
 }
 
 // A hundred accounts, and the first word of one more.
-fn crowd(alloc: Global) -> Result<String, NoMemory> {
-    let mut text = String::from_str(alloc, "xmpp-schedule 1 direct\n")?;
+fn crowd(rt: &impl Abort, alloc: Global) -> String {
+    let mut text = joined(rt, alloc, "xmpp-schedule 1 direct\n", "");
     for i in 0_u64..100 {
-        text.push_str("account a")?;
-        text.push_str(i.to_string(alloc)?.as_str())?;
-        text.push_str("\n")?;
+        push_account(rt, alloc, &mut text, i);
     }
-    Ok(text)
+    text.push_str("account \n").expect(rt, "memory");
+    text
 }
 
 #[test]
-fn too_many_accounts(rt: HostRuntime) -> Result<(), Fail> {
-    let text = crowd(rt.alloc())?;
-    assert!(rt; is_bad(rt.alloc(), text.as_str(), "account \n", 102, LineWhy::Many)?);
-    Ok(())
+fn too_many_accounts(rt: HostRuntime) {
+    assert!(rt; is_fault(rt.alloc(), crowd(&rt, rt.alloc()), 102, LineWhy::Many));
 }

@@ -4,12 +4,12 @@ use crate::sync_texts::{
     MESSAGE, NO_PAGE, OFFERS, ONLINE, OPENED, PAGE, REOPENED, RESPONSE, SAID, SCRIPT, SUCCESS,
     SYNCED, SYNCED_WITHOUT, TOO_HIGH, TOO_HIGH_PUT, WRONG_SUCCESS,
 };
-use base_io::{Bytes, NoMemory, Numbers};
+use base_io::{Bytes, Numbers};
 use cmd_schedule::LineWhy;
 use cmd_sync::{PeerFailure, SyncFault, sync};
 use net_memory::{Links, MemoryDialer, MemoryEntropy, MemoryLink, Shelf};
 use std::alloc::Global;
-use std::test::Fail;
+use std::process::Abort;
 
 type Texts = &'static [&'static str];
 
@@ -180,12 +180,12 @@ static NOT_DONE: [Run; 9] = [
 ];
 
 // Texts, joined.
-fn joined(alloc: Global, texts: &[&str]) -> Result<Bytes, NoMemory> {
+fn joined(rt: &impl Abort, alloc: Global, texts: &[&str]) -> Bytes {
     let mut bytes = Bytes::new(alloc);
     for text in texts {
-        bytes.append(text.as_bytes())?;
+        bytes.append(text.as_bytes()).expect(rt, "memory");
     }
-    Ok(bytes)
+    bytes
 }
 
 fn are_joined(texts: &[&str], bytes: &[u8]) -> bool {
@@ -199,19 +199,24 @@ fn are_joined(texts: &[&str], bytes: &[u8]) -> bool {
     rest.is_empty()
 }
 
+// One number.
+fn one(rt: &impl Abort, alloc: Global, number: u64) -> Numbers {
+    let mut numbers = Numbers::new(alloc);
+    numbers.push(number).expect(rt, "memory");
+    numbers
+}
+
 // A dialer with one link.
-fn dialer(alloc: Global, came: Bytes, step: usize, fails: u64) -> Result<MemoryDialer, NoMemory> {
-    let mut chosen = Numbers::new(alloc);
-    chosen.push(fails)?;
-    let link = MemoryLink::new(alloc, came, step.max(1), chosen)?;
+fn dialer(rt: &impl Abort, alloc: Global, came: Bytes, step: usize, fails: u64) -> MemoryDialer {
+    let link = MemoryLink::new(alloc, came, step.max(1), one(rt, alloc, fails));
     let mut links = Links::new(alloc);
-    links.push(link)?;
-    Ok(MemoryDialer::new(links, Numbers::new(alloc)))
+    links.push(link.expect(rt, "memory")).expect(rt, "memory");
+    MemoryDialer::new(links, Numbers::new(alloc))
 }
 
 // Whether a script came to what is wanted.
-fn is_answer(run: &Run, given: &Result<Bytes, SyncFault>) -> bool {
-    match (given, run.answer) {
+fn is_answer(run: &Run, given: Result<Bytes, SyncFault>) -> bool {
+    match (&given, run.answer) {
         (Ok(given), Ok(wanted)) => given.as_slice() == wanted.as_bytes(),
         (Err(given), Err(wanted)) => *given == wanted,
         _ => false,
@@ -227,33 +232,34 @@ fn has_put(given: &Shelf, put: Option<Texts>) -> bool {
     }
 }
 
-// Whether a run goes as it should.
-fn goes_well(alloc: Global, run: &Run) -> Result<bool, NoMemory> {
-    let came = joined(alloc, run.came)?;
-    let mut dialer = dialer(alloc, came, run.step, run.fails)?;
+// What comes of a run.
+fn given_of(alloc: Global, run: &Run, dialer: &mut MemoryDialer) -> Result<Bytes, SyncFault> {
     let mut entropy = MemoryEntropy::new([0; 24], Numbers::new(alloc));
-    let given = sync(
-        alloc,
-        run.script.as_bytes(),
-        5222,
-        &mut dialer,
-        &mut entropy,
-    );
-    Ok(is_answer(run, &given) && has_put(dialer.given(), run.put))
+    sync(alloc, run.script.as_bytes(), 5222, dialer, &mut entropy)
+}
+
+// Whether a run goes as it should.
+fn goes_well(alloc: Global, run: &Run, mut dialer: MemoryDialer) -> bool {
+    let given = given_of(alloc, run, &mut dialer);
+    is_answer(run, given) && has_put(dialer.given(), run.put)
+}
+
+fn dialer_of(rt: &impl Abort, alloc: Global, run: &Run) -> MemoryDialer {
+    dialer(rt, alloc, joined(rt, alloc, run.came), run.step, run.fails)
 }
 
 #[test]
-fn scripts_are_done(rt: HostRuntime) -> Result<(), Fail> {
+fn scripts_are_done(rt: HostRuntime) {
+    let alloc = rt.alloc();
     for run in &DONE {
-        assert!(rt; goes_well(rt.alloc(), run)?);
+        assert!(rt; goes_well(alloc, run, dialer_of(&rt, alloc, run)));
     }
-    Ok(())
 }
 
 #[test]
-fn scripts_are_not_done_for_a_cause(rt: HostRuntime) -> Result<(), Fail> {
+fn scripts_are_not_done_for_a_cause(rt: HostRuntime) {
+    let alloc = rt.alloc();
     for run in &NOT_DONE {
-        assert!(rt; goes_well(rt.alloc(), run)?);
+        assert!(rt; goes_well(alloc, run, dialer_of(&rt, alloc, run)));
     }
-    Ok(())
 }

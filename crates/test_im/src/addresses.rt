@@ -1,12 +1,13 @@
 //! Addresses: vectors from outside, each call that takes memory, and printed texts.
-use base_io::{Copied, NoMemory, Text};
+use crate::made::prints;
+use base_io::{Copied, Text};
 use im_jid::JidFault::{BadDomain, BadLocal, BadResource, Empty, TooLong};
 use im_jid::{
     Jid, JidFault, domain_in_normal_form, local_in_normal_form, resource_in_normal_form,
     spells_account,
 };
 use std::alloc::Global;
-use std::test::Fail;
+use std::process::Abort;
 
 // Texts and their normal forms. The first rows are those of RFC 7622 section 3.5; the ASCII forms of domains are
 // those of the Python package `idna`, and the forms NFC those of Python's `unicodedata`.
@@ -136,9 +137,9 @@ static REFUSED: [(&str, JidFault); 60] = [
     ("a@_/\x00", BadDomain),
 ];
 
-// Whether a text is an address whose normal form is `normal`.
-fn is_read(alloc: Global, text: &str, normal: &str) -> bool {
-    match Jid::parse(alloc, text) {
+// Whether this is an address whose text is `normal`.
+fn is_normal(read: Result<Jid, JidFault>, normal: &str) -> bool {
+    match read {
         Ok(jid) => jid.text() == normal,
         Err(_) => false,
     }
@@ -152,7 +153,7 @@ fn fault_of(alloc: Global, text: &str) -> Option<JidFault> {
 #[test]
 fn reads_addresses(rt: HostRuntime) {
     for (text, normal) in &ACCEPTED {
-        assert!(rt; is_read(rt.alloc(), text, normal));
+        assert!(rt; is_normal(Jid::parse(rt.alloc(), text), normal));
     }
 }
 
@@ -165,18 +166,19 @@ fn refuses_what_is_no_address(rt: HostRuntime) {
 
 // A text of `before`, a part so many times, and `after`.
 fn repeated(
+    rt: &impl Abort,
     alloc: Global,
     before: &str,
     part: &str,
     times: usize,
     after: &str,
-) -> Result<Text, JidFault> {
-    let mut text = String::from_str(alloc, before)?;
+) -> String {
+    let mut text = String::from_str(alloc, before).expect(rt, "memory");
     for _ in 0..times {
-        text.push_str(part)?;
+        text.push_str(part).expect(rt, "memory");
     }
-    text.push_str(after)?;
-    Ok(Text::from(text))
+    text.push_str(after).expect(rt, "memory");
+    text
 }
 
 // Each side of the limit of 1,023 bytes, which is one of the normal form: a part, how often it stands, and what it
@@ -211,51 +213,32 @@ static LONG: [(&str, &str, usize, &str, JidFault); 12] = [
     ("b/", "a", 1024, "\n", BadResource),
 ];
 
-// Whether a text is `before`, a part so many times, and `after`.
-fn is_repeated(text: &str, before: &str, part: &str, times: usize, after: &str) -> bool {
-    let Some(mut rest) = text.strip_prefix(before) else {
-        return false;
-    };
-    for _ in 0..times {
-        match rest.strip_prefix(part) {
-            Some(behind) => rest = behind,
-            None => return false,
-        }
-    }
-    rest == after
+// What is read of a text.
+fn parsed(alloc: Global, text: String) -> Result<Jid, JidFault> {
+    Jid::parse(alloc, text.as_str())
 }
 
-fn is_form(alloc: Global, text: &str, row: &(&str, &str, usize, &str, &str)) -> bool {
-    match Jid::parse(alloc, text) {
-        Ok(jid) => is_repeated(jid.text(), row.0, row.4, row.2, row.3),
-        Err(_) => false,
-    }
-}
-
-fn is_limit(alloc: Global, row: &(&str, &str, usize, &str, &str)) -> Result<bool, JidFault> {
-    let text = repeated(alloc, row.0, row.1, row.2, row.3)?;
-    Ok(is_form(alloc, text.as_str(), row))
+fn is_text(read: Result<Jid, JidFault>, text: String) -> bool {
+    is_normal(read, text.as_str())
 }
 
 #[test]
-fn reads_the_longest_parts(rt: HostRuntime) -> Result<(), Fail> {
-    for row in &LIMITS {
-        assert!(rt; is_limit(rt.alloc(), row)?);
+fn reads_the_longest_parts(rt: HostRuntime) {
+    let alloc = rt.alloc();
+    for (before, part, times, after, normal) in &LIMITS {
+        let given = repeated(&rt, alloc, before, part, *times, after);
+        let form = repeated(&rt, alloc, before, normal, *times, after);
+        assert!(rt; is_text(parsed(alloc, given), form));
     }
-    Ok(())
-}
-
-fn is_long(alloc: Global, row: &(&str, &str, usize, &str, JidFault)) -> Result<bool, JidFault> {
-    let text = repeated(alloc, row.0, row.1, row.2, row.3)?;
-    Ok(fault_of(alloc, text.as_str()) == Some(row.4))
 }
 
 #[test]
-fn refuses_longer_parts(rt: HostRuntime) -> Result<(), Fail> {
-    for row in &LONG {
-        assert!(rt; is_long(rt.alloc(), row)?);
+fn refuses_longer_parts(rt: HostRuntime) {
+    let alloc = rt.alloc();
+    for (before, part, times, after, fault) in &LONG {
+        let given = repeated(&rt, alloc, before, part, *times, after);
+        assert!(rt; parsed(alloc, given).err() == Some(*fault));
     }
-    Ok(())
 }
 
 // Texts, and whether a client may take them for `bob@chat.example`. What Gajim takes for it was asked of its library.
@@ -288,20 +271,18 @@ static SPELLINGS: [(&str, bool); 26] = [
     ("", false),
 ];
 
+fn spells(rt: &impl Abort, alloc: Global, account: &str, text: &str) -> bool {
+    spells_account(alloc, account, text).expect(rt, "memory")
+}
+
 #[test]
-fn tells_spellings_of_an_account(rt: HostRuntime) -> Result<(), Fail> {
-    for (text, spells) in &SPELLINGS {
-        assert_eq!(rt;
-            spells_account(rt.alloc(), "bob@chat.example", text)?,
-            *spells
-        );
-        assert!(rt;
-            !spells_account(rt.alloc(), "chat.example", text)?
-                || *text == "chat.example"
-                || text.starts_with("chat.example/")
-        );
+fn tells_spellings_of_an_account(rt: HostRuntime) {
+    let alloc = rt.alloc();
+    for (text, spelled) in &SPELLINGS {
+        assert!(rt; spells(&rt, alloc, "bob@chat.example", text) == *spelled);
+        let is_domain = *text == "chat.example" || text.starts_with("chat.example/");
+        assert!(rt; is_domain || !spells(&rt, alloc, "chat.example", text));
     }
-    Ok(())
 }
 
 // An address, a resource for its bare address, and how that is printed, also for a reader.
@@ -318,60 +299,35 @@ static PRINTED_ADDRESSES: [(&str, &str, &str); 2] = [
     ),
 ];
 
-fn bare(alloc: Global, text: &str) -> Result<Jid, JidFault> {
-    let jid = Jid::parse(alloc, text)?;
-    Ok(jid.to_bare(alloc)?)
-}
-
-fn with_resource(alloc: Global, text: &str, resource: &str) -> Result<Jid, JidFault> {
-    let bare = bare(alloc, text)?;
-    bare.with_resource(alloc, resource)
+fn with_resource(rt: &impl Abort, alloc: Global, text: &str, resource: &str) -> Jid {
+    let jid = Jid::parse(alloc, text).expect(rt, "an address");
+    let bare = jid.to_bare(alloc).expect(rt, "memory");
+    bare.with_resource(alloc, resource).expect(rt, "a resource")
 }
 
 // A copy of the address made of the text of another.
-fn made_again(alloc: Global, jid: &Jid) -> Result<Jid, NoMemory> {
-    let text = Text::from_str(alloc, jid.text())?;
-    Jid::of_normal(text).copied(alloc)
+fn made_again(rt: &impl Abort, alloc: Global, jid: Jid) -> Jid {
+    let text = Text::from_str(alloc, jid.text()).expect(rt, "memory");
+    Jid::of_normal(text).copied(alloc).expect(rt, "memory")
 }
 
-fn is_printed(alloc: Global, jid: &Jid, shown: &str) -> bool {
-    match format!(in alloc; "{jid} {jid:?}") {
-        Ok(text) => text.as_str() == shown,
-        Err(_) => false,
-    }
-}
-
-fn is_made(alloc: Global, text: &str, resource: &str, shown: &str) -> Result<bool, JidFault> {
-    let jid = with_resource(alloc, text, resource)?;
-    let again = made_again(alloc, &jid)?;
-    Ok(is_printed(alloc, &again, shown))
+fn printed(rt: &impl Abort, alloc: Global, jid: Jid) -> String {
+    format!(in alloc; "{jid} {jid:?}").expect(rt, "memory")
 }
 
 #[test]
-fn prints_addresses(rt: HostRuntime) -> Result<(), Fail> {
+fn prints_addresses(rt: HostRuntime) {
+    let alloc = rt.alloc();
     for (text, resource, shown) in &PRINTED_ADDRESSES {
-        assert!(rt; is_made(rt.alloc(), text, resource, shown)?);
-    }
-    Ok(())
-}
-
-fn is_local(alloc: Global, given: &str, form: &str) -> bool {
-    match local_in_normal_form(alloc, given) {
-        Ok(local) => local.as_str() == form,
-        Err(_) => false,
+        let jid = made_again(&rt, alloc, with_resource(&rt, alloc, text, resource));
+        prints(&rt, alloc, printed(&rt, alloc, jid), shown);
     }
 }
 
-fn is_domain(alloc: Global, given: &str, form: &str) -> bool {
-    match domain_in_normal_form(alloc, given) {
-        Ok(domain) => domain.as_str() == form,
-        Err(_) => false,
-    }
-}
-
-fn is_resource(alloc: Global, given: &str, form: &str) -> bool {
-    match resource_in_normal_form(alloc, given) {
-        Ok(resource) => resource.as_str() == form,
+// A part in normal form, or nothing.
+fn is_form(part: Result<Text, JidFault>, form: &str) -> bool {
+    match part {
+        Ok(part) => part.as_str() == form,
         Err(_) => false,
     }
 }
@@ -379,11 +335,14 @@ fn is_resource(alloc: Global, given: &str, form: &str) -> bool {
 #[test]
 fn brings_parts_into_normal_form(rt: HostRuntime) {
     let alloc = rt.alloc();
+    assert!(rt; is_form(local_in_normal_form(alloc, "Alice"), "alice"));
     assert!(rt;
-        is_local(alloc, "Alice", "alice")
-            && is_domain(alloc, "B\u{DC}CHER.example.", "xn--bcher-kva.example")
-            && is_resource(alloc, "e\u{301}/@", "\u{E9}/@")
+        is_form(
+            domain_in_normal_form(alloc, "B\u{DC}CHER.example."),
+            "xn--bcher-kva.example"
+        )
     );
+    assert!(rt; is_form(resource_in_normal_form(alloc, "e\u{301}/@"), "\u{E9}/@"));
 }
 
 static PRINTED: [(JidFault, &str); 6] = [
@@ -398,16 +357,9 @@ static PRINTED: [(JidFault, &str); 6] = [
     (JidFault::NoMemory, "out of memory"),
 ];
 
-fn is_shown(alloc: Global, fault: JidFault, shown: &str) -> bool {
-    match format!(in alloc; "{fault}") {
-        Ok(text) => text.as_str() == shown,
-        Err(_) => false,
-    }
-}
-
 #[test]
 fn prints_faults(rt: HostRuntime) {
     for (fault, text) in &PRINTED {
-        assert!(rt; is_shown(rt.alloc(), *fault, text));
+        prints(&rt, rt.alloc(), *fault, text);
     }
 }

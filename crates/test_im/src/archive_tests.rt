@@ -1,8 +1,9 @@
 //! What the form of an archive's query asks for: what is written of a value is read back (XEP-0313, section 4.1).
-use base_io::{NoMemory, Text};
+use base_io::Text;
 use im_mam::MamQuery;
 use mam_pages::{PageQuery, Place};
 use std::alloc::Global;
+use std::process::Abort;
 use xml_trees::Tree;
 
 // The peer, and the moments.
@@ -13,17 +14,16 @@ static QUERIES: [Row; 2] = [
     ("capulet.lit", None, Some(1_278_547_199_000)),
 ];
 
-fn filtered(alloc: Global, row: &Row) -> Result<Tree, NoMemory> {
-    let peer = Text::from_str(alloc, row.0)?;
+fn filtered(rt: &impl Abort, alloc: Global, row: &Row) -> Tree {
     let query = PageQuery {
-        peer: Some(peer),
+        peer: Some(Text::from_str(alloc, row.0).expect(rt, "memory")),
         start: row.1,
         end: row.2,
         place: Place::First,
         max: None,
     };
     let queryid = Text::new(alloc);
-    MamQuery { queryid, query }.tree(alloc)
+    MamQuery { queryid, query }.tree(alloc).expect(rt, "memory")
 }
 
 fn is_text(text: &Option<Text>, given: &str) -> bool {
@@ -37,26 +37,17 @@ fn has_filters(query: &PageQuery, row: &Row) -> bool {
     is_text(&query.peer, row.0) && query.start == row.1 && query.end == row.2
 }
 
-fn is_filtered(alloc: Global, tree: &Tree, row: &Row) -> bool {
-    let read = MamQuery::read(alloc, tree).ok();
-    let is_filtered = match &read {
-        Some(asked) => has_filters(&asked.query, row),
-        None => false,
-    };
-    drop(read);
+fn is_filtered(rt: &impl Abort, alloc: Global, tree: Tree, row: &Row) -> bool {
+    let asked = MamQuery::read(alloc, &tree).expect(rt, "a query");
+    let is_filtered = has_filters(&asked.query, row);
+    drop(asked);
     is_filtered
-}
-
-fn is_filtered_again(alloc: Global, row: &Row) -> bool {
-    match filtered(alloc, row) {
-        Ok(tree) => is_filtered(alloc, &tree, row),
-        Err(_) => false,
-    }
 }
 
 #[test]
 fn filters_are_read_back(rt: HostRuntime) {
+    let alloc = rt.alloc();
     for row in &QUERIES {
-        assert!(rt; is_filtered_again(rt.alloc(), row));
+        assert!(rt; is_filtered(&rt, alloc, filtered(&rt, alloc, row), row));
     }
 }

@@ -1,11 +1,12 @@
-// Errors of stanzas and of streams.
-use base_io::NoMemory;
+//! Errors of stanzas and of streams.
+use crate::made::{prints, tree_of};
 use im_stanza::{
     Condition, ErrorKind, StanzaError, StanzaErrorFault, bounce, stanza_error, stream_condition,
     stream_error,
 };
 use std::alloc::Global;
-use xml_trees::{Element, Tree};
+use std::process::Abort;
+use xml_trees::Tree;
 
 // A condition of stanzas, the kind that it goes with there, and whether it has a variant of its own (RFC 6120, section
 // 8.3.3).
@@ -24,16 +25,12 @@ static CONDITIONS: [(&str, ErrorKind, bool); 12] = [
     ("unexpected-request", ErrorKind::Wait, true),
 ];
 
-// A copy of an error of this condition and kind.
-fn error_of(alloc: Global, name: &str, kind: ErrorKind) -> Result<StanzaError, NoMemory> {
-    let condition = Condition::named(alloc, name)?;
+// The error of this condition and kind, by its copy.
+fn bounced(rt: &impl Abort, alloc: Global, name: &str, kind: ErrorKind) -> Tree {
+    let condition = Condition::named(alloc, name).expect(rt, "memory");
     let error = StanzaError { kind, condition };
-    error.copy(alloc)
-}
-
-fn bounced(alloc: Global, name: &str, kind: ErrorKind) -> Result<Tree, NoMemory> {
-    let error = error_of(alloc, name, kind)?;
-    bounce(alloc, "not an address", "7", &error)
+    let copy = error.copy(alloc).expect(rt, "memory");
+    bounce(alloc, "not an address", "7", &copy).expect(rt, "memory")
 }
 
 fn is_error(error: &StanzaError, row: &(&str, ErrorKind, bool)) -> bool {
@@ -48,21 +45,15 @@ fn is_bounced(alloc: Global, tree: &Tree, row: &(&str, ErrorKind, bool)) -> bool
     }
 }
 
-fn is_answer(alloc: Global, tree: &Tree, row: &(&str, ErrorKind, bool)) -> bool {
-    tree.element().attr("", "from") == Some("not an address") && is_bounced(alloc, tree, row)
-}
-
-fn is_read_back(alloc: Global, row: &(&str, ErrorKind, bool)) -> bool {
-    match bounced(alloc, row.0, row.1) {
-        Ok(tree) => is_answer(alloc, &tree, row),
-        Err(_) => false,
-    }
+fn is_answer(alloc: Global, tree: Tree, row: &(&str, ErrorKind, bool)) -> bool {
+    tree.element().attr("", "from") == Some("not an address") && is_bounced(alloc, &tree, row)
 }
 
 #[test]
 fn conditions_are_read_back(rt: HostRuntime) {
+    let alloc = rt.alloc();
     for row in &CONDITIONS {
-        assert!(rt; is_read_back(rt.alloc(), row));
+        assert!(rt; is_answer(alloc, bounced(&rt, alloc, row.0, row.1), row));
     }
 }
 
@@ -74,35 +65,25 @@ static STREAM_CONDITIONS: [(&str, bool); 4] = [
     ("text", false),
 ];
 
-const TOO_HIGH: (&str, &str) = ("urn:xmpp:sm:3", "handled-count-too-high");
-
-fn added(alloc: Global) -> Result<Tree, NoMemory> {
-    let extra = Element::from_strs(alloc, TOO_HIGH.0, TOO_HIGH.1)?;
-    Tree::of(alloc, extra)
-}
+const TOO_HIGH: &str = "<handled-count-too-high xmlns='urn:xmpp:sm:3'/>";
 
 // A stream error to which an element is added.
-fn added_to(alloc: Global, condition: &str) -> Result<Tree, NoMemory> {
-    let extra = added(alloc)?;
-    stream_error(alloc, condition, Some(extra))
+fn added_to(rt: &impl Abort, alloc: Global, condition: &str) -> Tree {
+    let extra = tree_of(rt, alloc, TOO_HIGH);
+    stream_error(alloc, condition, Some(extra)).expect(rt, "memory")
 }
 
-fn has_condition(tree: &Tree, name: &str) -> bool {
-    let is_added = tree.element().child(TOO_HIGH.0, TOO_HIGH.1).is_some();
-    is_added && stream_condition(tree) == Some(name)
-}
-
-fn is_condition(alloc: Global, name: &str) -> bool {
-    match added_to(alloc, name) {
-        Ok(tree) => has_condition(&tree, name),
-        Err(_) => false,
-    }
+fn has_condition(tree: Tree, name: &str) -> bool {
+    let added = tree
+        .element()
+        .child("urn:xmpp:sm:3", "handled-count-too-high");
+    added.is_some() && stream_condition(&tree) == Some(name)
 }
 
 #[test]
 fn stream_conditions_are_read_back(rt: HostRuntime) {
     for (name, is_read) in &STREAM_CONDITIONS {
-        assert!(rt; is_condition(rt.alloc(), name) == *is_read);
+        assert!(rt; has_condition(added_to(&rt, rt.alloc(), name), name) == *is_read);
     }
 }
 
@@ -111,16 +92,9 @@ static FAULTS: [(StanzaErrorFault, &str); 2] = [
     (StanzaErrorFault::NoMemory, "out of memory"),
 ];
 
-fn is_text(alloc: Global, fault: StanzaErrorFault, text: &str) -> bool {
-    match format!(in alloc; "{fault}") {
-        Ok(shown) => shown.as_str() == text,
-        Err(_) => false,
-    }
-}
-
 #[test]
 fn faults_have_texts(rt: HostRuntime) {
     for (fault, text) in &FAULTS {
-        assert!(rt; is_text(rt.alloc(), *fault, text));
+        prints(&rt, rt.alloc(), *fault, text);
     }
 }

@@ -1,14 +1,9 @@
-// Features of streams (RFC 6120, section 4.3.2), and answers of service discovery (XEP-0030, section 3.1).
-use base_io::{Bytes, NoMemory, Text};
+//! Features of streams (RFC 6120, section 4.3.2), and answers of service discovery (XEP-0030, section 3.1).
+use crate::made::{spells, tree_of};
 use im_login::{Features, Identity, account_info, disco_info_tree, server_info};
-use im_payload::{BINDING, ExtFault, MANAGEMENT, SASL, text_element};
-use im_stanza::STREAMS;
+use im_payload::ExtFault;
 use std::alloc::Global;
-use xml_trees::{Element, Tree};
-use xml_writer::write;
-
-// A child of features: its namespace, its name, and the mechanisms that it names.
-type Child = (&'static str, &'static str, &'static [&'static str]);
+use std::process::Abort;
 
 const NONE: Features = Features {
     scram_sha_256: false,
@@ -22,119 +17,49 @@ const ALL: Features = Features {
     stream_management: true,
 };
 
-// What is offered, and what is read of it.
-static OFFERED: [(&[Child], Features); 7] = [
-    (&[], NONE),
+// What is offered, and what is read of it. Of the last two one has a name in two pieces, and one is in another namespace.
+static OFFERED: [(&str, Result<Features, ExtFault>); 9] = [
+    ("<stream:features/>", Ok(NONE)),
     (
-        &[(SASL, "mechanisms", &["SCRAM-SHA-256"])],
-        Features::BEFORE_SASL,
+        "<stream:features><mechanisms xmlns='urn:ietf:params:xml:ns:xmpp-sasl'><mechanism>SCRAM-SHA-256</mechanism></mechanisms></stream:features>",
+        Ok(Features::BEFORE_SASL),
     ),
     (
-        &[(BINDING, "bind", &[]), (MANAGEMENT, "sm", &[])],
-        Features::AFTER_SASL,
+        "<stream:features><bind xmlns='urn:ietf:params:xml:ns:xmpp-bind'/><sm xmlns='urn:xmpp:sm:3'/></stream:features>",
+        Ok(Features::AFTER_SASL),
     ),
     (
-        &[
-            ("urn:ietf:params:xml:ns:xmpp-tls", "starttls", &[]),
-            (MANAGEMENT, "sm", &[]),
-            ("http://jabber.org/features/compress", "compression", &[]),
-            (
-                SASL,
-                "mechanisms",
-                &["PLAIN", "SCRAM-SHA-256", "SCRAM-SHA-1"],
-            ),
-            ("urn:xmpp:features:rosterver", "ver", &[]),
-            (BINDING, "bind", &[]),
-        ],
-        ALL,
+        "<stream:features><starttls xmlns='urn:ietf:params:xml:ns:xmpp-tls'/><sm xmlns='urn:xmpp:sm:3'/><compression xmlns='http://jabber.org/features/compress'/><mechanisms xmlns='urn:ietf:params:xml:ns:xmpp-sasl'><mechanism>PLAIN</mechanism><mechanism>SCRAM-SHA-256</mechanism><mechanism>SCRAM-SHA-1</mechanism></mechanisms><ver xmlns='urn:xmpp:features:rosterver'/><bind xmlns='urn:ietf:params:xml:ns:xmpp-bind'/></stream:features>",
+        Ok(ALL),
     ),
     (
-        &[(
-            SASL,
-            "mechanisms",
-            &["SCRAM-SHA-256-PLUS", "SCRAM-SHA-25", ""],
-        )],
-        NONE,
+        "<stream:features><mechanisms xmlns='urn:ietf:params:xml:ns:xmpp-sasl'><mechanism>SCRAM-SHA-256-PLUS</mechanism><mechanism>SCRAM-SHA-25</mechanism><mechanism/></mechanisms></stream:features>",
+        Ok(NONE),
     ),
     (
-        &[
-            (SASL, "mechanisms", &[]),
-            (SASL, "mechanisms", &["SCRAM-SHA-256"]),
-        ],
-        NONE,
+        "<stream:features><mechanisms xmlns='urn:ietf:params:xml:ns:xmpp-sasl'/><mechanisms xmlns='urn:ietf:params:xml:ns:xmpp-sasl'><mechanism>SCRAM-SHA-256</mechanism></mechanisms></stream:features>",
+        Ok(NONE),
     ),
     (
-        &[
-            ("urn:xmpp:sm:2", "sm", &[]),
-            (SASL, "bind", &[]),
-            (MANAGEMENT, "bind", &[]),
-        ],
-        NONE,
+        "<stream:features><sm xmlns='urn:xmpp:sm:2'/><bind xmlns='urn:ietf:params:xml:ns:xmpp-sasl'/><bind xmlns='urn:xmpp:sm:3'/></stream:features>",
+        Ok(NONE),
     ),
+    (
+        "<stream:features><mechanisms xmlns='urn:ietf:params:xml:ns:xmpp-sasl'><mechanism>SCRAM-<a xmlns=''/>SHA-256</mechanism></mechanisms></stream:features>",
+        Ok(Features::BEFORE_SASL),
+    ),
+    ("<features/>", Err(ExtFault::NotThis)),
 ];
 
-fn mechanism(alloc: Global, name: &str) -> Result<Element, NoMemory> {
-    let name = Text::from_str(alloc, name)?;
-    text_element(alloc, SASL, "mechanism", name)
-}
-
-fn child(alloc: Global, row: &Child) -> Result<Element, NoMemory> {
-    let mut element = Element::from_strs(alloc, row.0, row.1)?;
-    for name in row.2 {
-        element.push_child(mechanism(alloc, name)?)?;
-    }
-    Ok(element)
-}
-
-fn features(alloc: Global, rows: &[Child]) -> Result<Element, NoMemory> {
-    let mut element = Element::from_strs(alloc, STREAMS, "features")?;
-    for row in rows {
-        element.push_child(child(alloc, row)?)?;
-    }
-    Ok(element)
-}
-
-fn is_read(alloc: Global, rows: &[Child], expected: Features) -> Result<bool, NoMemory> {
-    let tree = Tree::of(alloc, features(alloc, rows)?)?;
-    Ok(Features::read(&tree) == Ok(expected))
+fn read(rt: &impl Abort, alloc: Global, text: &str) -> Result<Features, ExtFault> {
+    Features::read(&tree_of(rt, alloc, text))
 }
 
 #[test]
-fn features_are_read(rt: HostRuntime) -> Result<(), NoMemory> {
-    for (rows, expected) in &OFFERED {
-        assert!(rt; is_read(rt.alloc(), rows, *expected)?);
+fn features_are_read(rt: HostRuntime) {
+    for (text, expected) in &OFFERED {
+        assert!(rt; read(&rt, rt.alloc(), text) == *expected);
     }
-    Ok(())
-}
-
-// A name in two pieces, and one in another namespace.
-fn others(alloc: Global) -> Result<[bool; 2], NoMemory> {
-    let mut pieces = Element::from_strs(alloc, SASL, "mechanism")?;
-    pieces.push_text(Text::from_str(alloc, "SCRAM-")?)?;
-    pieces.push_child(Element::from_strs(alloc, "", "a")?)?;
-    pieces.push_text(Text::from_str(alloc, "SHA-256")?)?;
-    let mut mechanisms = Element::from_strs(alloc, SASL, "mechanisms")?;
-    mechanisms.push_child(pieces)?;
-    let mut features = Element::from_strs(alloc, STREAMS, "features")?;
-    features.push_child(mechanisms)?;
-    let other = Element::from_strs(alloc, "jabber:client", "features")?;
-    let refused = Features::read_element(&other) == Err(ExtFault::NotThis);
-    Ok([
-        Features::read_element(&features) == Ok(Features::BEFORE_SASL),
-        refused,
-    ])
-}
-
-#[test]
-fn pieces_and_other_elements(rt: HostRuntime) -> Result<(), NoMemory> {
-    assert!(rt; others(rt.alloc())? == [true; 2]);
-    Ok(())
-}
-
-fn is_written(alloc: Global, tree: &Tree, expected: &str) -> Result<bool, NoMemory> {
-    let mut out = Bytes::new(alloc);
-    write(tree, &mut out)?;
-    Ok(out.as_slice() == expected.as_bytes())
 }
 
 // What a server offers, as it is written.
@@ -150,17 +75,12 @@ static LISTS: [(Features, &str); 3] = [
     ),
 ];
 
-fn is_list(alloc: Global, features: Features, expected: &str) -> Result<bool, NoMemory> {
-    let tree = features.tree(alloc)?;
-    is_written(alloc, &tree, expected)
-}
-
 #[test]
-fn features_are_written(rt: HostRuntime) -> Result<(), NoMemory> {
-    for (features, expected) in &LISTS {
-        assert!(rt; is_list(rt.alloc(), *features, expected)?);
+fn features_are_written(rt: HostRuntime) {
+    let alloc = rt.alloc();
+    for (features, text) in &LISTS {
+        spells(&rt, alloc, features.tree(alloc).expect(&rt, "memory"), text);
     }
-    Ok(())
 }
 
 const SERVER: &str =
@@ -172,33 +92,21 @@ const ACCOUNT: &str =
 const NOBODY: &str =
     "<query xmlns='http://jabber.org/protocol/disco#info'><identity category='a' type='b'/></query>";
 
-fn is_server_told(alloc: Global) -> Result<bool, NoMemory> {
-    let tree = server_info(alloc)?;
-    is_written(alloc, &tree, SERVER)
-}
-
-fn is_account_told(alloc: Global) -> Result<bool, NoMemory> {
-    let tree = account_info(alloc)?;
-    is_written(alloc, &tree, ACCOUNT)
-}
-
-fn is_nobody_told(alloc: Global) -> Result<bool, NoMemory> {
-    let identity = Identity {
-        category: "a",
-        kind: "b",
-    };
-    let tree = disco_info_tree(alloc, &[identity], &[])?;
-    is_written(alloc, &tree, NOBODY)
-}
+const NOBODY_IDENTITY: Identity<'static> = Identity {
+    category: "a",
+    kind: "b",
+};
 
 #[test]
-fn answers_are_written(rt: HostRuntime) -> Result<(), NoMemory> {
+fn answers_are_written(rt: HostRuntime) {
     let alloc = rt.alloc();
-    let told = [
-        is_server_told(alloc)?,
-        is_account_told(alloc)?,
-        is_nobody_told(alloc)?,
-    ];
-    assert!(rt; told == [true; 3]);
-    Ok(())
+    spells(&rt, alloc, server_info(alloc).expect(&rt, "memory"), SERVER);
+    spells(
+        &rt,
+        alloc,
+        account_info(alloc).expect(&rt, "memory"),
+        ACCOUNT,
+    );
+    let nobody = disco_info_tree(alloc, &[NOBODY_IDENTITY], &[]);
+    spells(&rt, alloc, nobody.expect(&rt, "memory"), NOBODY);
 }

@@ -1,15 +1,17 @@
-// What a server passes on, as it is sent (XEP-0280, XEP-0313, XEP-0359).
-use base_io::{Bytes, NoMemory, Numbers, Text};
+//! What a server passes on, as it is sent (XEP-0280, XEP-0313, XEP-0359).
+use crate::made::{is_bytes, message_of, tree_of};
+use base_io::{Bytes, Numbers, Text};
 use im_forwarding::{
     Addressed, Asker, CarbonCopy, Filed, QueryFault, archived, no_such_place, page_end, passed,
     query_asked,
 };
+use im_mam::MamQuery;
 use im_replies::Envelope;
-use im_stanza::{Message, MessageKind, StanzaError};
+use im_stanza::Message;
 use mam_archive::{ArchivedMessage, Bodies, Body, Entry};
 use mam_pages::PageCut;
 use std::alloc::Global;
-use xml_trees::{Attr, Element, Node, Nodes};
+use std::process::Abort;
 
 // What is passed on: which call, and with what it is called. The end of a page, by whether it was asked for backwards.
 #[derive(Clone, Copy)]
@@ -26,16 +28,16 @@ const BOB: &str = "bob@chat.example";
 
 const DESK: &str = "bob@chat.example/desk";
 
-// Each thing, the text of its message, and its bytes.
+// Each thing, what is in its message, and its bytes.
 static EXPECTED: [(Said, &str, &str); 8] = [
     (
         Said::Passed(None),
-        "Hi",
+        "<body>Hi</body>",
         "<message from='alice@chat.example/phone' id='m1' to='bob@chat.example' type='chat'><body>Hi</body></message>",
     ),
     (
         Said::Passed(Some(26)),
-        "<Hi>",
+        "<body>&lt;Hi&gt;</body>",
         "<message from='alice@chat.example/phone' id='m1' to='bob@chat.example' type='chat'><body>&lt;Hi&gt;</body><stanza-id xmlns='urn:xmpp:sid:0' by='bob@chat.example' id='000000000000001a'/></message>",
     ),
     (
@@ -45,7 +47,7 @@ static EXPECTED: [(Said, &str, &str); 8] = [
     ),
     (
         Said::Copied(true),
-        "Hi",
+        "<body>Hi</body>",
         "<message from='bob@chat.example' to='bob@chat.example/desk' type='chat'><sent xmlns='urn:xmpp:carbons:2'><forwarded xmlns='urn:xmpp:forward:0'><delay xmlns='urn:xmpp:delay' stamp='1970-01-01T00:00:00.005Z'/><message xmlns='jabber:client' from='alice@chat.example/phone' id='m1' to='bob@chat.example' type='chat'><body>Hi</body></message></forwarded></sent></message>",
     ),
     (
@@ -55,7 +57,7 @@ static EXPECTED: [(Said, &str, &str); 8] = [
     ),
     (
         Said::Archived,
-        "Hi",
+        "",
         "<message from='bob@chat.example' to='bob@chat.example/desk'><result xmlns='urn:xmpp:mam:2' id='0000000000000007' queryid='q1'><forwarded xmlns='urn:xmpp:forward:0'><delay xmlns='urn:xmpp:delay' stamp='1970-01-01T00:00:00.005Z'/><message xmlns='jabber:client' from='alice@chat.example/phone' id='m1' to='bob@chat.example' type='normal'><body xml:lang='cs'>Hi</body><origin-id xmlns='urn:xmpp:sid:0' id='o1'/></message></forwarded></result></message>",
     ),
     (
@@ -70,110 +72,95 @@ static EXPECTED: [(Said, &str, &str); 8] = [
     ),
 ];
 
-// A body with this text, none where it is empty.
-fn push_body(alloc: Global, payload: &mut Nodes, text: &str) -> Result<(), NoMemory> {
-    if text.is_empty() {
-        return Ok(());
-    }
-    let mut body = Element::from_strs(alloc, "jabber:client", "body")?;
-    body.push_text(Text::from_str(alloc, text)?)?;
-    payload.push(Node::Child(body))
+// A message with this in it, and an id that was given in Bob's name.
+fn message(rt: &impl Abort, alloc: Global, inside: &str) -> Message {
+    let id = "<stanza-id xmlns='urn:xmpp:sid:0' by='bob@chat.example'/>";
+    let text = format!(in alloc; "<message id='m1' type='chat'>{inside}{id}</message>");
+    message_of(rt, alloc, text.expect(rt, "memory").as_str())
 }
 
-// A body with this text, and an id that was given in Bob's name.
-fn payload(alloc: Global, text: &str) -> Result<Nodes, NoMemory> {
-    let mut payload = Nodes::new(alloc);
-    push_body(alloc, &mut payload, text)?;
-    let mut id = Element::from_strs(alloc, "urn:xmpp:sid:0", "stanza-id")?;
-    id.push_attr(Attr::from_strs(alloc, "", "by", BOB)?)?;
-    payload.push(Node::Child(id))?;
-    Ok(payload)
-}
-
-fn message(alloc: Global, text: &str) -> Result<Message, NoMemory> {
-    Ok(Message {
-        from: None,
-        to: None,
-        id: Text::from_str(alloc, "m1")?,
-        kind: MessageKind::Chat,
-        lang: Text::new(alloc),
-        payload: payload(alloc, text)?,
-    })
-}
-
-fn copied(
-    alloc: Global,
-    sent: bool,
-    message: &Addressed<'_>,
-    filed: &Filed<'_>,
-) -> Result<Bytes, NoMemory> {
-    let copy = CarbonCopy {
-        sent,
-        moment: 5,
-        message,
-        filed,
-    };
-    let inside = copy.inside(alloc)?;
-    copy.to(alloc, DESK, &inside)
-}
-
-fn passed_on(alloc: Global, said: Said, text: &str) -> Result<Bytes, NoMemory> {
-    let message = message(alloc, text)?;
+fn passed_on(rt: &impl Abort, alloc: Global, number: Option<u64>, message: Message) -> Bytes {
     let addressed = Addressed {
         message: &message,
         from: ALICE,
         to: BOB,
     };
-    match said {
-        Said::Passed(number) => passed(alloc, &addressed, &Filed { by: BOB, number }),
-        Said::Copied(sent) => {
-            let filed = Filed {
-                by: BOB,
-                number: None,
-            };
-            copied(alloc, sent, &addressed, &filed)
-        }
-        Said::Archived | Said::PageEnd(_) => Ok(Bytes::new(alloc)),
-    }
+    let bytes = passed(alloc, &addressed, &Filed { by: BOB, number });
+    drop(message);
+    bytes.expect(rt, "memory")
 }
 
-fn bodies(alloc: Global, text: &str) -> Result<Bodies, NoMemory> {
+fn copied(rt: &impl Abort, alloc: Global, sent: bool, message: &Message) -> Bytes {
+    let filed = Filed {
+        by: BOB,
+        number: None,
+    };
+    let addressed = Addressed {
+        message,
+        from: ALICE,
+        to: BOB,
+    };
+    let copy = CarbonCopy {
+        sent,
+        moment: 5,
+        message: &addressed,
+        filed: &filed,
+    };
+    let inside = copy.inside(alloc).expect(rt, "memory");
+    copy.to(alloc, DESK, &inside).expect(rt, "memory")
+}
+
+fn copied_on(rt: &impl Abort, alloc: Global, sent: bool, message: Message) -> Bytes {
+    let bytes = copied(rt, alloc, sent, &message);
+    drop(message);
+    bytes
+}
+
+fn text(rt: &impl Abort, alloc: Global, text: &str) -> Text {
+    Text::from_str(alloc, text).expect(rt, "memory")
+}
+
+fn bodies(rt: &impl Abort, alloc: Global) -> Bodies {
     let mut bodies = Bodies::new(alloc);
-    bodies.push(Body {
-        lang: Text::from_str(alloc, "cs")?,
-        text: Text::from_str(alloc, text)?,
-    })?;
-    Ok(bodies)
+    let body = Body {
+        lang: text(rt, alloc, "cs"),
+        text: text(rt, alloc, "Hi"),
+    };
+    bodies.push(body).expect(rt, "memory");
+    bodies
 }
 
-fn entry(alloc: Global, text: &str) -> Result<Entry, NoMemory> {
+fn entry(rt: &impl Abort, alloc: Global) -> Entry {
     let message = ArchivedMessage {
         stamp: 5,
-        from: Text::from_str(alloc, ALICE)?,
-        to: Text::from_str(alloc, BOB)?,
+        from: text(rt, alloc, ALICE),
+        to: text(rt, alloc, BOB),
         normal: true,
-        id: Text::from_str(alloc, "m1")?,
-        origin: Text::from_str(alloc, "o1")?,
-        bodies: bodies(alloc, text)?,
+        id: text(rt, alloc, "m1"),
+        origin: text(rt, alloc, "o1"),
+        bodies: bodies(rt, alloc),
     };
-    Entry::new(alloc, 7, message)
+    Entry::new(alloc, 7, message).expect(rt, "memory")
 }
 
-fn result(alloc: Global, text: &str) -> Result<Bytes, NoMemory> {
+fn result(rt: &impl Abort, alloc: Global) -> Bytes {
     let asker = Asker {
         by: BOB,
         full: DESK,
         queryid: "q1",
     };
-    let entry = entry(alloc, text)?;
-    archived(alloc, &asker, &entry)
+    archived(alloc, &asker, &entry(rt, alloc)).expect(rt, "memory")
 }
 
-fn end(alloc: Global, backward: bool) -> Result<Bytes, NoMemory> {
+fn numbers(rt: &impl Abort, alloc: Global) -> Numbers {
     let mut numbers = Numbers::new(alloc);
-    numbers.push(7)?;
+    numbers.push(7).expect(rt, "memory");
+    numbers
+}
+
+fn end(rt: &impl Abort, alloc: Global, backward: bool) -> Bytes {
     let cut = PageCut {
-        numbers,
+        numbers: numbers(rt, alloc),
         first_index: 3,
         count: 4,
         complete: true,
@@ -184,53 +171,49 @@ fn end(alloc: Global, backward: bool) -> Result<Bytes, NoMemory> {
         to: Some(DESK),
         id: "i1",
     };
-    page_end(alloc, &envelope, &cut)
+    page_end(alloc, &envelope, &cut).expect(rt, "memory")
 }
 
-fn bytes_of(alloc: Global, said: Said, text: &str) -> Result<Bytes, NoMemory> {
+fn bytes_of(rt: &impl Abort, alloc: Global, said: Said, inside: &str) -> Bytes {
     match said {
-        Said::Archived => result(alloc, text),
-        Said::PageEnd(backward) => end(alloc, backward),
-        _ => passed_on(alloc, said, text),
-    }
-}
-
-fn is_said(alloc: Global, row: Said, text: &str, expected: &str) -> Result<bool, NoMemory> {
-    let bytes = bytes_of(alloc, row, text)?;
-    Ok(bytes.as_slice() == expected.as_bytes())
-}
-
-#[test]
-fn what_is_passed_on_is_these_bytes(rt: HostRuntime) -> Result<(), NoMemory> {
-    for (row, text, expected) in &EXPECTED {
-        assert!(rt; is_said(rt.alloc(), *row, text, expected)?);
-    }
-    Ok(())
-}
-
-// Queries: the name of the element, and by which condition it is refused.
-static QUERIES: [(&str, &str); 2] = [("query", ""), ("ping", "service-unavailable")];
-
-fn condition_of(error: &StanzaError) -> &str {
-    error.condition.name()
-}
-
-// The condition by which an element is refused as a query, empty where it is read.
-fn refused(alloc: Global, name: &str, expected: &str) -> Result<bool, NoMemory> {
-    let element = Element::from_strs(alloc, "urn:xmpp:mam:2", name)?;
-    match query_asked(alloc, &element) {
-        Ok(query) => Ok(query.queryid.as_str() == expected),
-        Err(QueryFault::Refused(error)) => Ok(condition_of(&error) == expected),
-        Err(QueryFault::NoMemory) => Err(NoMemory),
+        Said::Passed(number) => passed_on(rt, alloc, number, message(rt, alloc, inside)),
+        Said::Copied(sent) => copied_on(rt, alloc, sent, message(rt, alloc, inside)),
+        Said::Archived => result(rt, alloc),
+        Said::PageEnd(backward) => end(rt, alloc, backward),
     }
 }
 
 #[test]
-fn queries_are_read_or_refused(rt: HostRuntime) -> Result<(), NoMemory> {
-    for (name, expected) in &QUERIES {
-        assert!(rt; refused(rt.alloc(), name, expected)?);
+fn what_is_passed_on_is_these_bytes(rt: HostRuntime) {
+    for (said, inside, expected) in &EXPECTED {
+        assert!(rt; is_bytes(bytes_of(&rt, rt.alloc(), *said, inside), expected));
     }
-    let error = no_such_place();
-    assert!(rt; condition_of(&error) == "item-not-found");
-    Ok(())
+}
+
+// Elements, and by which condition each is refused as a query, empty where it is read.
+static QUERIES: [(&str, &str); 2] = [
+    ("<query xmlns='urn:xmpp:mam:2'/>", ""),
+    ("<ping xmlns='urn:xmpp:mam:2'/>", "service-unavailable"),
+];
+
+fn asked(rt: &impl Abort, alloc: Global, text: &str) -> Result<MamQuery, QueryFault> {
+    query_asked(alloc, tree_of(rt, alloc, text).element())
+}
+
+fn is_asked(asked: Result<MamQuery, QueryFault>, condition: &str) -> bool {
+    let is_asked = match &asked {
+        Ok(query) => condition.is_empty() && query.queryid.as_str().is_empty(),
+        Err(QueryFault::Refused(error)) => error.condition.name() == condition,
+        Err(QueryFault::NoMemory) => false,
+    };
+    drop(asked);
+    is_asked
+}
+
+#[test]
+fn queries_are_read_or_refused(rt: HostRuntime) {
+    for (text, condition) in &QUERIES {
+        assert!(rt; is_asked(asked(&rt, rt.alloc(), text), condition));
+    }
+    assert!(rt; no_such_place().condition.name() == "item-not-found");
 }

@@ -6,13 +6,13 @@ mod addresses;
 #[cfg(test)]
 mod archive_tests;
 #[cfg(test)]
-mod elements;
-#[cfg(test)]
 mod error_tests;
 #[cfg(test)]
 mod features;
 #[cfg(test)]
 mod forwarding;
+#[cfg(test)]
+mod made;
 #[cfg(test)]
 mod message_tests;
 #[cfg(test)]

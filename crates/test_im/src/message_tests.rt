@@ -1,77 +1,34 @@
-// Payloads out of tables, their bodies, and the entry of a message.
-use base_io::{NoMemory, Text};
-use im_jid::Jid;
+//! The bodies of messages, and the entry of a message.
+use crate::made::{message_of, tree_of};
 use im_messages::{bodies_of, message_entry};
-use im_stanza::{CLIENT, Message, MessageKind, XML};
+use im_stanza::Message;
 use mam_archive::{Bodies, Body, Entry};
 use std::alloc::Global;
-use xml_trees::{Attr, Element, Node, Nodes};
-
-// A child: its namespace, its name, its language, the text in it, and the text in a child of its own.
-type Child = (
-    &'static str,
-    &'static str,
-    &'static str,
-    &'static str,
-    &'static str,
-);
+use std::process::Abort;
+use xml_trees::Tree;
 
 // The language and the text of a body.
 type Spoken = (&'static str, &'static str);
 
-// Children and the bodies among them.
-static PAYLOADS: [(&[Child], &[Spoken]); 4] = [
+// Messages and the bodies in them.
+static PAYLOADS: [(&str, &[Spoken]); 4] = [
     (
-        &[
-            (CLIENT, "body", "", "Wherefore art thou?", ""),
-            (CLIENT, "subject", "", "I implore you!", ""),
-            (CLIENT, "body", "cs", "Pročež jsi ty?", ""),
-        ],
+        "<message><body>Wherefore art thou?</body><subject>I implore you!</subject><body xml:lang='cs'>Pročež jsi ty?</body></message>",
         &[("", "Wherefore art thou?"), ("cs", "Pročež jsi ty?")],
     ),
-    (&[(CLIENT, "thread", "", "e0ffe42b28561960", "")], &[]),
+    ("<message><thread>e0ffe42b28561960</thread></message>", &[]),
     (
-        &[("http://www.w3.org/1999/xhtml", "body", "", "Hi", "")],
+        "<message><body xmlns='http://www.w3.org/1999/xhtml'>Hi</body></message>",
         &[],
     ),
-    (&[(CLIENT, "body", "", "Hi ", "there")], &[("", "Hi ")]),
+    (
+        "<message><body>Hi <b xmlns='urn:example'>there</b></body></message>",
+        &[("", "Hi ")],
+    ),
 ];
 
-fn put_lang(alloc: Global, element: &mut Element, lang: &str) -> Result<(), NoMemory> {
-    if lang.is_empty() {
-        return Ok(());
-    }
-    element.push_attr(Attr::from_strs(alloc, XML, "lang", lang)?)
-}
-
-fn put_nested(alloc: Global, element: &mut Element, text: &str) -> Result<(), NoMemory> {
-    if text.is_empty() {
-        return Ok(());
-    }
-    let mut nested = Element::from_strs(alloc, "urn:example", "b")?;
-    nested.push_text(Text::from_str(alloc, text)?)?;
-    element.push_child(nested)
-}
-
-fn element_of(alloc: Global, child: &Child) -> Result<Element, NoMemory> {
-    let mut element = Element::from_strs(alloc, child.0, child.1)?;
-    put_lang(alloc, &mut element, child.2)?;
-    element.push_text(Text::from_str(alloc, child.3)?)?;
-    put_nested(alloc, &mut element, child.4)?;
-    Ok(element)
-}
-
-fn payload_of(alloc: Global, children: &[Child]) -> Result<Nodes, NoMemory> {
-    let mut nodes = Nodes::new(alloc);
-    for child in children {
-        nodes.push(Node::Child(element_of(alloc, child)?))?;
-    }
-    Ok(nodes)
-}
-
-fn bodies_in(alloc: Global, children: &[Child]) -> Result<Bodies, NoMemory> {
-    let payload = payload_of(alloc, children)?;
-    bodies_of(alloc, payload.as_slice())
+fn bodies_in(rt: &impl Abort, alloc: Global, tree: Tree) -> Bodies {
+    bodies_of(alloc, &tree.element().children).expect(rt, "memory")
 }
 
 fn are(bodies: &[Body], expected: &[Spoken]) -> bool {
@@ -84,61 +41,44 @@ fn are(bodies: &[Body], expected: &[Spoken]) -> bool {
     bodies.len() == expected.len()
 }
 
-fn is_row(alloc: Global, row: &(&[Child], &[Spoken])) -> Result<bool, NoMemory> {
-    let bodies = bodies_in(alloc, row.0)?;
-    Ok(are(bodies.as_slice(), row.1))
+fn are_in(bodies: Bodies, expected: &[Spoken]) -> bool {
+    are(bodies.as_slice(), expected)
 }
 
 #[test]
-fn bodies_are_found(rt: HostRuntime) -> Result<(), NoMemory> {
-    for row in &PAYLOADS {
-        assert!(rt; is_row(rt.alloc(), row)?);
+fn bodies_are_found(rt: HostRuntime) {
+    let alloc = rt.alloc();
+    for (text, expected) in &PAYLOADS {
+        assert!(rt; are_in(bodies_in(&rt, alloc, tree_of(&rt, alloc, text)), expected));
     }
-    Ok(())
 }
 
-static SAID: [Child; 1] = [(CLIENT, "body", "", "Hi", "")];
-
-// The id that the sender gave (XEP-0359, section 3.2).
-fn origin(alloc: Global) -> Result<Element, NoMemory> {
-    let mut element = Element::from_strs(alloc, "urn:xmpp:sid:0", "origin-id")?;
-    element.push_attr(Attr::from_strs(alloc, "", "id", "de305d54")?)?;
-    Ok(element)
-}
-
-fn payload_said(alloc: Global) -> Result<Nodes, NoMemory> {
-    let mut payload = payload_of(alloc, &SAID)?;
-    payload.push(Node::Child(origin(alloc)?))?;
-    Ok(payload)
-}
-
-fn message(alloc: Global, from: Option<Jid>, kind: MessageKind) -> Result<Message, NoMemory> {
-    Ok(Message {
-        from,
-        to: None,
-        id: Text::from_str(alloc, "m1")?,
-        kind,
-        lang: Text::new(alloc),
-        payload: payload_said(alloc)?,
-    })
-}
-
-fn entry(alloc: Global, from: &str, kind: MessageKind) -> Result<Entry, NoMemory> {
-    let message = message(alloc, Jid::parse(alloc, from).ok(), kind)?;
-    message_entry(alloc, 7, 5, &message)
-}
-
-// The sender's address, the type, the address that is kept, and whether the entry is of a normal message.
-static KEPT: [(&str, MessageKind, &str, bool); 3] = [
+// Messages with the id that the sender gave (XEP-0359, section 3.2), the address that is kept, and whether the entry is of
+// a normal message.
+static KEPT: [(&str, &str, bool); 3] = [
     (
-        "Romeo@example.net/orchard",
-        MessageKind::Chat,
+        "<message from='Romeo@example.net/orchard' id='m1' type='chat'><body>Hi</body><origin-id xmlns='urn:xmpp:sid:0' id='de305d54'/></message>",
         "romeo@example.net/orchard",
         false,
     ),
-    ("a@b", MessageKind::Normal, "a@b", true),
-    ("", MessageKind::Headline, "", false),
+    (
+        "<message from='a@b' id='m1' type='normal'><body>Hi</body><origin-id xmlns='urn:xmpp:sid:0' id='de305d54'/></message>",
+        "a@b",
+        true,
+    ),
+    (
+        "<message id='m1' type='headline'><body>Hi</body><origin-id xmlns='urn:xmpp:sid:0' id='de305d54'/></message>",
+        "",
+        false,
+    ),
 ];
+
+// A message is dropped by a call: where its scope drops it, each of its fields is a way of its own in the proof.
+fn entry(rt: &impl Abort, alloc: Global, message: Message) -> Entry {
+    let entry = message_entry(alloc, 7, 5, &message);
+    drop(message);
+    entry.expect(rt, "memory")
+}
 
 fn is_said(entry: &Entry) -> bool {
     let kept = entry.message();
@@ -147,16 +87,16 @@ fn is_said(entry: &Entry) -> bool {
     ids && counts && kept.to.as_str().is_empty() && are(kept.bodies.as_slice(), &[("", "Hi")])
 }
 
-fn is_kept(alloc: Global, row: &(&str, MessageKind, &str, bool)) -> Result<bool, NoMemory> {
-    let entry = entry(alloc, row.0, row.1)?;
+fn is_kept(entry: Entry, from: &str, normal: bool) -> bool {
     let kept = entry.message();
-    Ok(is_said(&entry) && kept.from.as_str() == row.2 && kept.normal == row.3)
+    is_said(&entry) && kept.from.as_str() == from && kept.normal == normal
 }
 
 #[test]
-fn entries_are_kept(rt: HostRuntime) -> Result<(), NoMemory> {
-    for row in &KEPT {
-        assert!(rt; is_kept(rt.alloc(), row)?);
+fn entries_are_kept(rt: HostRuntime) {
+    let alloc = rt.alloc();
+    for (text, from, normal) in &KEPT {
+        let entry = entry(&rt, alloc, message_of(&rt, alloc, text));
+        assert!(rt; is_kept(entry, from, *normal));
     }
-    Ok(())
 }

@@ -1,4 +1,5 @@
-// What a server says of its own, as it is sent (RFC 6120, sections 4, 6, 7 and 8; XEP-0198).
+//! What a server says of its own, as it is sent (RFC 6120, sections 4, 6, 7 and 8; XEP-0198).
+use crate::made::is_bytes;
 use base_io::{Bytes, NoMemory};
 use im_replies::{
     Envelope, StreamCondition, account_info, ack, bounced, bounced_presence, bound, challenge,
@@ -217,15 +218,10 @@ fn said(alloc: Global, reply: Reply) -> Result<Bytes, NoMemory> {
     }
 }
 
-fn is_said(alloc: Global, reply: Reply, expected: &str) -> Result<bool, NoMemory> {
-    let bytes = said(alloc, reply)?;
-    Ok(bytes.as_slice() == expected.as_bytes())
-}
-
 #[test]
-fn replies_are_these_bytes(rt: HostRuntime) -> Result<(), NoMemory> {
+fn replies_are_these_bytes(rt: HostRuntime) {
     for (reply, expected) in &REPLIES {
-        assert!(rt; is_said(rt.alloc(), *reply, expected)?);
+        let bytes = said(rt.alloc(), *reply).expect(&rt, "memory");
+        assert!(rt; is_bytes(bytes, expected));
     }
-    Ok(())
 }

@@ -1,9 +1,10 @@
 //! The base64 of SASL's payloads (RFC 6120, section 6.4), and the texts of faults.
-use crate::elements::{Attributes, Part, element_of};
-use base_io::Bytes;
+use crate::made::prints;
+use base_io::{Bytes, Text};
 use im_login::Response;
 use im_payload::{ExtFault, Field, SASL};
 use std::alloc::Global;
+use std::process::Abort;
 use xml_trees::Element;
 
 // Texts, and the bytes that they carry (RFC 4648, section 10; RFC 6120, section 6.4.2).
@@ -19,26 +20,23 @@ static PAYLOADS: [(&str, &[u8]); 9] = [
     ("Zm9vYmFy", b"foobar"),
 ];
 
-const NONE: Attributes = &[];
+fn response(rt: &impl Abort, alloc: Global, text: &str) -> Element {
+    let mut element = Element::from_strs(alloc, SASL, "response").expect(rt, "memory");
+    let text = Text::from_str(alloc, text).expect(rt, "memory");
+    element.push_text(text).expect(rt, "memory");
+    element
+}
 
-fn payload_in(alloc: Global, element: &Element) -> Result<Bytes, ExtFault> {
-    match Response::read_element(alloc, element) {
+// The payload of a `response` that contains a text.
+fn payload_of(rt: &impl Abort, alloc: Global, text: &str) -> Result<Bytes, ExtFault> {
+    match Response::read_element(alloc, &response(rt, alloc, text)) {
         Ok(response) => Ok(response.payload),
         Err(fault) => Err(fault),
     }
 }
 
-// The payload of a `response` that contains a text.
-fn payload_of(alloc: Global, text: &'static str) -> Result<Bytes, ExtFault> {
-    let part: Part = (SASL, "response", NONE, text);
-    match element_of(alloc, &part) {
-        Ok(element) => payload_in(alloc, &element),
-        Err(_) => Err(ExtFault::NoMemory),
-    }
-}
-
-fn is_payload(alloc: Global, text: &'static str, bytes: &[u8]) -> bool {
-    match payload_of(alloc, text) {
+fn is_payload(payload: Result<Bytes, ExtFault>, bytes: &[u8]) -> bool {
+    match payload {
         Ok(payload) => payload.as_slice() == bytes,
         Err(_) => false,
     }
@@ -47,21 +45,18 @@ fn is_payload(alloc: Global, text: &'static str, bytes: &[u8]) -> bool {
 #[test]
 fn payloads_are_read(rt: HostRuntime) {
     for (text, bytes) in &PAYLOADS {
-        assert!(rt; is_payload(rt.alloc(), *text, bytes));
+        assert!(rt; is_payload(payload_of(&rt, rt.alloc(), text), bytes));
     }
 }
 
 // Texts that are no strict base64 (RFC 4648, section 3).
 static NO_PAYLOADS: [&str; 8] = ["Zg", "Zg=", "Zh==", "==", "====", "Zg==\n", " ", "-_-_"];
 
-fn fault_of(alloc: Global, text: &'static str) -> Option<ExtFault> {
-    payload_of(alloc, text).err()
-}
-
 #[test]
 fn other_payloads_are_refused(rt: HostRuntime) {
     for text in &NO_PAYLOADS {
-        assert!(rt; fault_of(rt.alloc(), *text) == Some(ExtFault::Bad(Field::Payload)));
+        let fault = payload_of(&rt, rt.alloc(), text).err();
+        assert!(rt; fault == Some(ExtFault::Bad(Field::Payload)));
     }
 }
 
@@ -78,16 +73,9 @@ static FAULTS: [(ExtFault, &str); 7] = [
     (ExtFault::Bad(Field::Payload), "bad field: payload"),
 ];
 
-fn is_text(alloc: Global, fault: ExtFault, text: &str) -> bool {
-    match format!(in alloc; "{fault}") {
-        Ok(shown) => shown.as_str() == text,
-        Err(_) => false,
-    }
-}
-
 #[test]
 fn faults_have_texts(rt: HostRuntime) {
     for (fault, text) in &FAULTS {
-        assert!(rt; is_text(rt.alloc(), *fault, text));
+        prints(&rt, rt.alloc(), *fault, text);
     }
 }

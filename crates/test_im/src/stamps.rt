@@ -1,6 +1,8 @@
-use base_io::{NoMemory, Text};
+//! Stamps that are read and written (XEP-0082).
+use base_io::Text;
 use im_stamp::{LAST_MOMENT, StampFault, read_stamp, stamp_text};
 use std::alloc::Global;
+use std::process::Abort;
 
 // The moments of stamps, by Python's `datetime`, which counts whole milliseconds down.
 static READ: [(&str, u64); 25] = [
@@ -112,24 +114,19 @@ fn other_texts_are_refused(rt: HostRuntime) {
     }
 }
 
-// The stamp of a moment that has one.
-fn stamp_of(alloc: Global, moment: u64) -> Result<Text, NoMemory> {
-    if moment <= LAST_MOMENT {
-        stamp_text(alloc, moment)
-    } else {
-        Ok(Text::new(alloc))
-    }
+// The stamp of a moment, which has one.
+fn stamp_of(rt: &impl Abort, alloc: Global, moment: u64) -> Text {
+    assert!(rt; moment <= LAST_MOMENT);
+    stamp_text(alloc, moment).expect(rt, "memory")
 }
 
-fn is_written(alloc: Global, moment: u64, text: &str) -> Result<bool, NoMemory> {
-    let stamp = stamp_of(alloc, moment)?;
-    Ok(stamp.as_str() == text && read_stamp(stamp.as_str()) == Ok(moment))
+fn is_written(stamp: Text, moment: u64, text: &str) -> bool {
+    stamp.as_str() == text && read_stamp(stamp.as_str()) == Ok(moment)
 }
 
 #[test]
-fn stamps_are_written(rt: HostRuntime) -> Result<(), NoMemory> {
+fn stamps_are_written(rt: HostRuntime) {
     for (moment, text) in &WRITTEN {
-        assert!(rt; is_written(rt.alloc(), *moment, text)?);
+        assert!(rt; is_written(stamp_of(&rt, rt.alloc(), *moment), *moment, text));
     }
-    Ok(())
 }

@@ -1,8 +1,10 @@
 //! Lists of accounts, and what is wrong with them.
+use crate::printed::prints;
 use auth_scram::Credentials;
 use base_io::{Bytes, Text};
 use srv_login::{Account, AccountList, Accounts, AccountsFault};
 use std::alloc::Global;
+use std::process::Abort;
 
 // Names and counts of iterations, and what is wrong.
 type Row = (&'static [(&'static str, u32)], Option<AccountsFault>);
@@ -31,30 +33,32 @@ static LISTS: [Row; 12] = [
     ),
 ];
 
-fn account_of(alloc: Global, given: &(&'static str, u32)) -> Option<Account> {
-    Some(Account {
-        name: Text::from_str(alloc, given.0).ok()?,
+fn account_of(rt: &impl Abort, alloc: Global, given: &(&'static str, u32)) -> Account {
+    Account {
+        name: Text::from_str(alloc, given.0).expect(rt, "memory"),
         credentials: Credentials {
             salt: Bytes::new(alloc),
             iterations: given.1,
             stored_key: [0; 32],
             server_key: [0; 32],
         },
-    })
+    }
 }
 
-fn list_of(alloc: Global, given: &[(&'static str, u32)]) -> Option<AccountList> {
+fn list_of(rt: &impl Abort, alloc: Global, given: &[(&'static str, u32)]) -> AccountList {
     let mut list = AccountList::new(alloc);
     for row in given {
-        list.push(account_of(alloc, row)?).ok()?;
+        list.push(account_of(rt, alloc, row)).expect(rt, "memory");
     }
-    Some(list)
+    list
 }
 
-fn accounts_of(alloc: Global, list: AccountList) -> Result<Accounts, AccountsFault> {
-    if list.as_slice().len() >= 1000 {
-        return Err(AccountsFault::NoMemory);
-    }
+fn accounts_of(
+    rt: &impl Abort,
+    alloc: Global,
+    list: AccountList,
+) -> Result<Accounts, AccountsFault> {
+    assert!(rt; list.as_slice().len() < 1000);
     Accounts::new(alloc, list)
 }
 
@@ -74,20 +78,19 @@ fn are_found(accounts: &Accounts, given: &[(&'static str, u32)]) -> bool {
     accounts.find("nobody").is_none() && accounts.get(place).is_none()
 }
 
-fn is_judged(alloc: Global, row: &Row) -> bool {
-    let Some(list) = list_of(alloc, row.0) else {
-        return false;
-    };
-    match accounts_of(alloc, list) {
-        Ok(accounts) => row.1.is_none() && are_found(&accounts, row.0),
-        Err(fault) => row.1 == Some(fault),
+fn is_judged(accounts: Result<Accounts, AccountsFault>, row: &Row) -> bool {
+    match &accounts {
+        Ok(accounts) => row.1.is_none() && are_found(accounts, row.0),
+        Err(fault) => row.1 == Some(*fault),
     }
 }
 
 #[test]
 fn lists_are_judged(rt: HostRuntime) {
+    let alloc = rt.alloc();
     for row in &LISTS {
-        assert!(rt; is_judged(rt.alloc(), row));
+        let accounts = accounts_of(&rt, alloc, list_of(&rt, alloc, row.0));
+        assert!(rt; is_judged(accounts, row));
     }
 }
 
@@ -107,16 +110,9 @@ static PRINTED: [(AccountsFault, &str); 4] = [
     (AccountsFault::NoMemory, "out of memory"),
 ];
 
-fn is_printed(alloc: Global, fault: AccountsFault, text: &str) -> bool {
-    match format!(in alloc; "{fault}") {
-        Ok(shown) => shown.as_str() == text,
-        Err(_) => false,
-    }
-}
-
 #[test]
 fn faults_are_printed(rt: HostRuntime) {
     for (fault, text) in &PRINTED {
-        assert!(rt; is_printed(rt.alloc(), *fault, text));
+        prints(&rt, rt.alloc(), *fault, text);
     }
 }

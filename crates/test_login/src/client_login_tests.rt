@@ -1,10 +1,11 @@
-// A client's login (RFC 6120, section 6; RFC 5802). The messages are from another program, for the password `pw-alice`, a
-// salt of 16 bytes, 4,096 iterations, and nonces of zero bytes and of a one and zero bytes.
+//! A client's login (RFC 6120, section 6; RFC 5802). The messages are from another program, for the password `pw-alice`, a
+//! salt of 16 bytes, 4,096 iterations, and nonces of zero bytes and of a one and zero bytes.
 use auth_scram::Password;
-use base_io::{Bytes, NoMemory, Text};
+use base_io::{Bytes, Text};
 use cl_login::{Answer, ClientAccount, LoginState, Next};
 use im_login::{Challenge, Features, SaslFailure, Success};
 use std::alloc::Global;
+use std::process::Abort;
 use xml_trees::{Element, Tree};
 
 // What a server sends.
@@ -161,85 +162,107 @@ static LOGINS: [Row; 21] = [
     ),
 ];
 
-fn tree_of(alloc: Global, sent: &Sent) -> Result<Tree, NoMemory> {
+fn payload(rt: &impl Abort, alloc: Global, message: &str) -> Bytes {
+    Bytes::from_slice(alloc, message.as_bytes()).expect(rt, "memory")
+}
+
+fn text(rt: &impl Abort, alloc: Global, text: &str) -> Text {
+    Text::from_str(alloc, text).expect(rt, "memory")
+}
+
+fn presence(rt: &impl Abort, alloc: Global) -> Tree {
+    let element = Element::from_strs(alloc, "jabber:client", "presence").expect(rt, "memory");
+    Tree::of(alloc, element).expect(rt, "memory")
+}
+
+fn challenge(rt: &impl Abort, alloc: Global, message: &str) -> Tree {
+    let payload = payload(rt, alloc, message);
+    Challenge { payload }.tree(alloc).expect(rt, "memory")
+}
+
+fn success(rt: &impl Abort, alloc: Global, message: &str) -> Tree {
+    let payload = payload(rt, alloc, message);
+    Success { payload }.tree(alloc).expect(rt, "memory")
+}
+
+fn failure(rt: &impl Abort, alloc: Global, condition: &str) -> Tree {
+    let condition = text(rt, alloc, condition);
+    SaslFailure { condition }.tree(alloc).expect(rt, "memory")
+}
+
+fn tree_of(rt: &impl Abort, alloc: Global, sent: &Sent) -> Tree {
     match sent {
-        Sent::Features(features) => features.tree(alloc),
-        Sent::Challenge(message) => {
-            let payload = Bytes::from_slice(alloc, message.as_bytes())?;
-            Challenge { payload }.tree(alloc)
-        }
-        Sent::Success(message) => {
-            let payload = Bytes::from_slice(alloc, message.as_bytes())?;
-            Success { payload }.tree(alloc)
-        }
-        Sent::Failure(condition) => {
-            let condition = Text::from_str(alloc, condition)?;
-            SaslFailure { condition }.tree(alloc)
-        }
-        Sent::Header | Sent::Presence => {
-            let element = Element::from_strs(alloc, "jabber:client", "presence")?;
-            Tree::of(alloc, element)
-        }
+        Sent::Features(features) => features.tree(alloc).expect(rt, "memory"),
+        Sent::Challenge(message) => challenge(rt, alloc, message),
+        Sent::Success(message) => success(rt, alloc, message),
+        Sent::Failure(condition) => failure(rt, alloc, condition),
+        Sent::Header | Sent::Presence => presence(rt, alloc),
     }
 }
 
-fn account(alloc: Global) -> Result<ClientAccount, NoMemory> {
-    Ok(ClientAccount {
-        name: Text::from_str(alloc, "alice")?,
-        domain: Text::from_str(alloc, "chat.example")?,
-        password: Password::from_str(alloc, "pw-alice")?,
-    })
+fn account(rt: &impl Abort, alloc: Global) -> ClientAccount {
+    ClientAccount {
+        name: text(rt, alloc, "alice"),
+        domain: text(rt, alloc, "chat.example"),
+        password: Password::from_str(alloc, "pw-alice").expect(rt, "memory"),
+    }
 }
 
-// What comes of an item in a state.
-fn answer_in(
+// What comes of an element in a state.
+fn answer_to(
+    rt: &impl Abort,
     alloc: Global,
     account: &mut ClientAccount,
     state: LoginState,
-    sent: &Sent,
-) -> Result<Answer, NoMemory> {
-    if let Sent::Header = sent {
-        return Ok(state.header(alloc));
-    }
-    let tree = tree_of(alloc, sent)?;
+    tree: Tree,
+) -> Answer {
     match state.element(alloc, account, &tree) {
-        Ok(answer) => Ok(answer),
-        Err(not_taken) => Err(NoMemory::from(not_taken)),
+        Ok(answer) => answer,
+        Err(_) => panic!(rt; "memory"),
     }
 }
 
 // What comes of the next item. Behind an end nothing comes.
 fn answer_behind(
+    rt: &impl Abort,
     alloc: Global,
     account: &mut ClientAccount,
-    answer: Answer,
+    next: Next,
     sent: &Sent,
-) -> Result<Answer, NoMemory> {
-    let Answer {
-        bytes: _bytes,
-        next,
-    } = answer;
-    match next {
-        Next::Goes(state) => answer_in(alloc, account, state, sent),
-        Next::LoggedIn => Ok(Answer {
+) -> Answer {
+    match (next, sent) {
+        (Next::Goes(state), Sent::Header) => state.header(alloc),
+        (Next::Goes(state), _) => { answer_to(rt, alloc, account, state, tree_of(rt, alloc, sent)) }
+        (next, _) => Answer {
             bytes: Bytes::new(alloc),
-            next: Next::LoggedIn,
-        }),
-        Next::Ends(fault) => Ok(Answer {
-            bytes: Bytes::new(alloc),
-            next: Next::Ends(fault),
-        }),
+            next,
+        },
     }
 }
 
-// What comes of the last item.
-fn last_answer(alloc: Global, sent: &[Sent]) -> Result<Answer, NoMemory> {
-    let mut account = account(alloc)?;
-    let mut answer = LoginState::begin(alloc, account.domain.as_str(), &[0; 24])?;
+fn begun(rt: &impl Abort, alloc: Global, account: &ClientAccount) -> Answer {
+    LoginState::begin(alloc, account.domain.as_str(), &[0; 24]).expect(rt, "memory")
+}
+
+// What comes of the last of these items.
+fn last_answer(
+    rt: &impl Abort,
+    alloc: Global,
+    account: &mut ClientAccount,
+    first: Answer,
+    sent: &[Sent],
+) -> Answer {
+    let mut answer = first;
     for item in sent {
-        answer = answer_behind(alloc, &mut account, answer, item)?;
+        answer = answer_behind(rt, alloc, account, answer.next, item);
     }
-    Ok(answer)
+    answer
+}
+
+fn answered(rt: &impl Abort, alloc: Global, sent: &[Sent]) -> Answer {
+    let mut account = account(rt, alloc);
+    let first = begun(rt, alloc, &account);
+    last_answer(rt, alloc, &mut account, first, sent)
 }
 
 fn stands(alloc: Global, next: &Next, outcome: &Outcome) -> bool {
@@ -254,19 +277,23 @@ fn stands(alloc: Global, next: &Next, outcome: &Outcome) -> bool {
     }
 }
 
-fn is_answered(alloc: Global, row: &Row) -> bool {
-    match last_answer(alloc, row.0) {
-        Ok(answer) => {
-            answer.bytes.as_slice() == row.1.as_bytes() && stands(alloc, &answer.next, &row.2)
-        }
-        Err(NoMemory) => false,
-    }
+// An answer is dropped by a call: where its scope drops it, each of its fields is a way of its own in the proof.
+
+fn is_row(alloc: Global, answer: &Answer, row: &Row) -> bool {
+    answer.bytes.as_slice() == row.1.as_bytes() && stands(alloc, &answer.next, &row.2)
+}
+
+fn is_answered(alloc: Global, answer: Answer, row: &Row) -> bool {
+    let is_answered = is_row(alloc, &answer, row);
+    drop(answer);
+    is_answered
 }
 
 #[test]
 fn logins_are_answered(rt: HostRuntime) {
+    let alloc = rt.alloc();
     for row in &LOGINS {
-        assert!(rt; is_answered(rt.alloc(), row));
+        assert!(rt; is_answered(alloc, answered(&rt, alloc, row.0), row));
     }
 }
 
@@ -309,28 +336,44 @@ static AGAIN: [Login; 5] = [
     },
 ];
 
-// Whether a login of an account goes through.
-fn logs_in(alloc: Global, account: &mut ClientAccount, login: &Login) -> Result<bool, NoMemory> {
-    let mut answer = LoginState::begin(alloc, account.domain.as_str(), &[0; 24])?;
-    for item in &[Sent::Header, FEATURES, Sent::Challenge(login.challenge)] {
-        answer = answer_behind(alloc, account, answer, item)?;
-    }
-    let replied = answer.bytes.as_slice() == login.response.as_bytes();
-    let answer = answer_behind(alloc, account, answer, &Sent::Success(login.success))?;
-    Ok(replied && answer.bytes.as_slice() == HEADER.as_bytes())
+// What comes of an answer and then this. The answer's bytes are these.
+fn goes_on(
+    rt: &impl Abort,
+    alloc: Global,
+    account: &mut ClientAccount,
+    answer: Answer,
+    (bytes, sent): (&str, Sent),
+) -> Answer {
+    assert!(rt; answer.bytes.as_slice() == bytes.as_bytes());
+    answer_behind(rt, alloc, account, answer.next, &sent)
 }
 
-// Whether each of these logins goes through, of one account. Its password keeps what it was stretched to.
-fn all_log_in(alloc: Global, logins: &[Login]) -> Result<bool, NoMemory> {
-    let mut account = account(alloc)?;
-    let mut all = true;
-    for login in logins {
-        all = logs_in(alloc, &mut account, login)? && all;
-    }
-    Ok(all)
+// A login of an account.
+fn logged_in(rt: &impl Abort, alloc: Global, account: &mut ClientAccount, login: &Login) -> Answer {
+    let sent = [Sent::Header, FEATURES, Sent::Challenge(login.challenge)];
+    let first = begun(rt, alloc, account);
+    let replied = last_answer(rt, alloc, account, first, &sent);
+    goes_on(
+        rt,
+        alloc,
+        account,
+        replied,
+        (login.response, Sent::Success(login.success)),
+    )
 }
 
+fn is_header(answer: Answer) -> bool {
+    let is_header = answer.bytes.as_slice() == HEADER.as_bytes();
+    drop(answer);
+    is_header
+}
+
+// Each of these logins goes through, of one account. Its password keeps what it was stretched to.
 #[test]
 fn one_account_logs_in_again(rt: HostRuntime) {
-    assert!(rt; all_log_in(rt.alloc(), &AGAIN).ok() == Some(true));
+    let alloc = rt.alloc();
+    let mut account = account(&rt, alloc);
+    for row in &AGAIN {
+        assert!(rt; is_header(logged_in(&rt, alloc, &mut account, row)));
+    }
 }

@@ -1,7 +1,8 @@
 //! Headers, and the stream errors that answer them (RFC 6120, sections 4.7 to 4.9).
-use base_io::{NoMemory, Text};
+use base_io::Text;
 use srv_login::{HeaderAnswer, HeaderFault, judge_header};
 use std::alloc::Global;
+use std::process::Abort;
 use xml_names::Header;
 
 // A root: its namespace, its name and its content namespace.
@@ -83,34 +84,40 @@ static HEADERS: [Row; 24] = [
     (&CLIENT, Some("1.0"), Some("chat_.example"), HOST),
 ];
 
-fn text_of(alloc: Global, given: &Option<&'static str>) -> Result<Option<Text>, NoMemory> {
+fn text(rt: &impl Abort, alloc: Global, text: &str) -> Text {
+    Text::from_str(alloc, text).expect(rt, "memory")
+}
+
+fn text_of(rt: &impl Abort, alloc: Global, given: Option<&'static str>) -> Option<Text> {
     match given {
-        Some(given) => Ok(Some(Text::from_str(alloc, given)?)),
-        None => Ok(None),
+        Some(given) => Some(text(rt, alloc, given)),
+        None => None,
     }
 }
 
-fn header_of(alloc: Global, row: &Row) -> Result<Header, NoMemory> {
-    Ok(Header {
-        ns: Text::from_str(alloc, row.0.0)?,
-        name: Text::from_str(alloc, row.0.1)?,
-        content: Text::from_str(alloc, row.0.2)?,
-        to: text_of(alloc, &row.2)?,
+fn header_of(rt: &impl Abort, alloc: Global, row: &Row) -> Header {
+    Header {
+        ns: text(rt, alloc, row.0.0),
+        name: text(rt, alloc, row.0.1),
+        content: text(rt, alloc, row.0.2),
+        to: text_of(rt, alloc, row.2),
         from: None,
         id: None,
-        version: text_of(alloc, &row.1)?,
+        version: text_of(rt, alloc, row.1),
         lang: None,
-    })
+    }
 }
 
-fn answer_to(alloc: Global, row: &Row) -> Option<HeaderAnswer> {
-    let header = header_of(alloc, row).ok()?;
-    judge_header(alloc, "chat.example", &header).ok()
+fn answer_to(rt: &impl Abort, alloc: Global, header: Header) -> HeaderAnswer {
+    let answer = judge_header(alloc, "chat.example", &header);
+    drop(header);
+    answer.expect(rt, "memory")
 }
 
 #[test]
 fn headers_are_judged(rt: HostRuntime) {
+    let alloc = rt.alloc();
     for row in &HEADERS {
-        assert!(rt; answer_to(rt.alloc(), row) == Some(row.3));
+        assert!(rt; answer_to(&rt, alloc, header_of(&rt, alloc, row)) == row.3);
     }
 }

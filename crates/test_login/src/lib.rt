@@ -12,4 +12,6 @@ mod header_tests;
 #[cfg(test)]
 mod login_tests;
 #[cfg(test)]
+mod printed;
+#[cfg(test)]
 mod tests;

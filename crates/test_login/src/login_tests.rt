@@ -1,13 +1,14 @@
 //! Exchanges with messages from outside: by Python's `hashlib`, `hmac` and `base64`, of the account alice at chat.example
 //! with the password `pencil`, the client's nonce of RFC 7677, and the bytes 0 to 23 drawn for the connection.
 use auth_scram::Credentials;
-use base_io::{Bytes, NoMemory, Text};
+use base_io::{Bytes, Text};
 use im_payload::{SASL, text_element};
 use srv_login::{
     Account, AccountList, Accounts, AuthAnswer, FinalAnswer, Negotiation, SaslCondition,
     auth_answer, final_answer,
 };
 use std::alloc::Global;
+use std::process::Abort;
 use xml_trees::{Attr, Element};
 
 static ENTROPY: [u8; 24] = [
@@ -23,53 +24,47 @@ const SUCCESS: &str = "v=4H56umMMmOp5mMo9GixvOQFIMzugfr61dWIXXHfM9is=";
 
 const SCRAM: Option<&str> = Some("SCRAM-SHA-256");
 
-fn without_password(alloc: Global, name: &str) -> Option<Account> {
-    Some(Account {
-        name: Text::from_str(alloc, name).ok()?,
+fn text(rt: &impl Abort, alloc: Global, text: &str) -> Text {
+    Text::from_str(alloc, text).expect(rt, "memory")
+}
+
+fn without_password(rt: &impl Abort, alloc: Global, name: &str) -> Account {
+    Account {
+        name: text(rt, alloc, name),
         credentials: Credentials {
             salt: Bytes::new(alloc),
             iterations: 4096,
             stored_key: [0; 32],
             server_key: [0; 32],
         },
-    })
+    }
 }
 
 // The accounts bob and alice.
-fn accounts(alloc: Global, alice: Option<Account>) -> Option<Accounts> {
+fn accounts(rt: &impl Abort, alloc: Global, alice: Account) -> Accounts {
     let mut list = AccountList::new(alloc);
-    list.push(without_password(alloc, "bob")?).ok()?;
-    list.push(alice?).ok()?;
-    if list.as_slice().len() > 2 {
-        return None;
-    }
-    Accounts::new(alloc, list).ok()
+    list.push(without_password(rt, alloc, "bob"))
+        .expect(rt, "memory");
+    list.push(alice).expect(rt, "memory");
+    assert!(rt; list.as_slice().len() == 2);
+    Accounts::new(alloc, list).expect(rt, "accounts")
 }
 
-fn element(
-    alloc: Global,
-    name: &str,
-    mechanism: Option<&str>,
-    text: &str,
-) -> Result<Element, NoMemory> {
-    let mut element = text_element(alloc, SASL, name, Text::from_str(alloc, text)?)?;
+fn element(rt: &impl Abort, alloc: Global, name: &str, said: &str) -> Element {
+    text_element(alloc, SASL, name, text(rt, alloc, said)).expect(rt, "memory")
+}
+
+fn auth(rt: &impl Abort, alloc: Global, mechanism: Option<&str>, said: &str) -> Element {
+    let mut element = element(rt, alloc, "auth", said);
     if let Some(mechanism) = mechanism {
-        element.push_attr(Attr::from_strs(alloc, "", "mechanism", mechanism)?)?;
+        let attr = Attr::from_strs(alloc, "", "mechanism", mechanism).expect(rt, "memory");
+        element.push_attr(attr).expect(rt, "memory");
     }
-    Ok(element)
+    element
 }
 
-fn answer(
-    alloc: Global,
-    accounts: &Option<Accounts>,
-    mechanism: Option<&str>,
-    text: &str,
-) -> Option<AuthAnswer> {
-    let Some(accounts) = accounts else {
-        return None;
-    };
-    let element = element(alloc, "auth", mechanism, text).ok()?;
-    auth_answer(alloc, &element, &ENTROPY, accounts).ok()
+fn answer(rt: &impl Abort, alloc: Global, accounts: &Accounts, auth: Element) -> AuthAnswer {
+    auth_answer(alloc, &auth, &ENTROPY, accounts).expect(rt, "memory")
 }
 
 // Other beginnings, and the conditions of their failures.
@@ -120,54 +115,57 @@ static FAILURES: [(Option<&str>, &str, SaslCondition); 14] = [
     (SCRAM, "biwsbj3DqSxyPXg=", SaslCondition::NotAuthorized),
 ];
 
-fn failure(
-    alloc: Global,
-    accounts: &Option<Accounts>,
-    mechanism: Option<&str>,
-    text: &str,
-) -> Option<SaslCondition> {
-    match answer(alloc, accounts, mechanism, text)? {
+fn failure(answer: AuthAnswer) -> Option<SaslCondition> {
+    let failure = match &answer {
         AuthAnswer::Begins(_) => None,
-        AuthAnswer::Fails(condition) => Some(condition),
-    }
+        AuthAnswer::Fails(condition) => Some(*condition),
+    };
+    drop(answer);
+    failure
 }
 
 #[test]
 fn beginnings_fail(rt: HostRuntime) {
-    let accounts = accounts(rt.alloc(), without_password(rt.alloc(), "alice"));
+    let alloc = rt.alloc();
+    let accounts = accounts(&rt, alloc, without_password(&rt, alloc, "alice"));
     for (mechanism, text, condition) in &FAILURES {
-        assert!(rt; failure(rt.alloc(), &accounts, *mechanism, text) == Some(*condition));
+        let answer = answer(&rt, alloc, &accounts, auth(&rt, alloc, *mechanism, text));
+        assert!(rt; failure(answer) == Some(*condition));
     }
 }
 
-// The negotiation of alice, where her challenge is the one from outside.
-fn begun(alloc: Global, accounts: &Option<Accounts>) -> Option<Negotiation> {
-    match answer(alloc, accounts, SCRAM, FIRST)? {
-        AuthAnswer::Begins(negotiation)
-            if negotiation.account == 1 && negotiation.exchange.message() == CHALLENGE.as_bytes() =>
-            { Some(negotiation) }
-        _ => None,
+// The negotiation that begins.
+fn begun(rt: &impl Abort, answer: AuthAnswer) -> Negotiation {
+    match answer {
+        AuthAnswer::Begins(negotiation) => negotiation,
+        AuthAnswer::Fails(_) => panic!(rt; "no challenge"),
     }
+}
+
+// Whether it is of alice, and her challenge is the one from outside.
+fn is_of_alice(negotiation: &Negotiation) -> bool {
+    negotiation.account == 1 && negotiation.exchange.message() == CHALLENGE.as_bytes()
 }
 
 // Whether a response ends the login: by the right answer, or by a failure of this condition.
-fn ends(
-    alloc: Global,
-    negotiation: &Option<Negotiation>,
-    response: &Element,
-    expected: Option<SaslCondition>,
-) -> Option<bool> {
-    let Some(negotiation) = negotiation else {
-        return None;
-    };
-    match final_answer(alloc, response, negotiation).ok()? {
-        FinalAnswer::Succeeds(login) => Some(
+fn ends(ended: FinalAnswer, expected: Option<SaslCondition>) -> bool {
+    match &ended {
+        FinalAnswer::Succeeds(login) => {
             expected.is_none()
                 && login.account == 1
-                && login.message.as_slice() == SUCCESS.as_bytes(),
-        ),
-        FinalAnswer::Fails(condition) => Some(expected == Some(condition)),
+                && login.message.as_slice() == SUCCESS.as_bytes()
+        }
+        FinalAnswer::Fails(condition) => expected == Some(*condition),
     }
+}
+
+fn ended(
+    rt: &impl Abort,
+    alloc: Global,
+    negotiation: &Negotiation,
+    response: Element,
+) -> FinalAnswer {
+    final_answer(alloc, &response, negotiation).expect(rt, "memory")
 }
 
 // Names and texts of elements, and the conditions of their failures.
@@ -222,16 +220,22 @@ static RESPONSES: [(&str, &str, Option<SaslCondition>); 10] = [
     ("challenge", "=", Some(SaslCondition::IncorrectEncoding)),
 ];
 
+fn negotiated(rt: &impl Abort, alloc: Global) -> Negotiation {
+    let alice = Account::with_password(alloc, "alice", "chat.example", "pencil");
+    let accounts = accounts(rt, alloc, alice.expect(rt, "an account"));
+    begun(
+        rt,
+        answer(rt, alloc, &accounts, auth(rt, alloc, SCRAM, FIRST)),
+    )
+}
+
 #[test]
 fn exchanges_end(rt: HostRuntime) {
-    let alice = Account::with_password(rt.alloc(), "alice", "chat.example", "pencil").ok();
-    let accounts = accounts(rt.alloc(), alice);
-    let negotiation = begun(rt.alloc(), &accounts);
+    let alloc = rt.alloc();
+    let negotiation = negotiated(&rt, alloc);
+    assert!(rt; is_of_alice(&negotiation));
     for (name, text, condition) in &RESPONSES {
-        let ended = match element(rt.alloc(), name, None, text) {
-            Ok(response) => ends(rt.alloc(), &negotiation, &response, *condition),
-            Err(_) => None,
-        };
-        assert!(rt; ended == Some(true));
+        let ended = ended(&rt, alloc, &negotiation, element(&rt, alloc, name, text));
+        assert!(rt; ends(ended, *condition));
     }
 }

@@ -1,11 +1,12 @@
 //! The exchange of RFC 7677, section 3, refusals with their places (RFC 5802, section 7), and printed texts.
+use crate::printed::prints;
 use auth_scram::{
     ClientFirst, Credentials, CredentialsFault, Password, ScramClient, ScramFault, ScramServer,
     is_nonce, nonce_of, read_first, salt_of,
 };
 use base_io::Bytes;
 use std::alloc::Global;
-use std::test::Fail;
+use std::process::Abort;
 
 // RFC 7677, section 3: the salt, the nonces and the four messages of its example.
 static SALT: [u8; 16] = [
@@ -21,78 +22,66 @@ static MESSAGES: [&str; 4] = [
     "v=6rriTRBi23WpRR/wtup+mMhUZUn/dB5nLTJRsjl95G4=",
 ];
 
-fn client(alloc: Global, name: &str, nonce: &str) -> Result<ScramClient, ScramFault> {
-    if !is_nonce(nonce) {
-        return Err(ScramFault::BadNonce);
-    }
-    let password = Password::from_str(alloc, "pencil")?;
-    ScramClient::first(alloc, name, &password, nonce)
-}
-
-fn credentials(alloc: Global, iterations: u32) -> Result<Credentials, ScramFault> {
-    match Credentials::make(alloc, "pencil", &SALT, iterations.max(1)) {
-        Ok(credentials) => Ok(credentials),
-        Err(_) => Err(ScramFault::BadName),
-    }
+fn client(rt: &impl Abort, alloc: Global, name: &str, nonce: &str) -> ScramClient {
+    assert!(rt; is_nonce(nonce));
+    let password = Password::from_str(alloc, "pencil").expect(rt, "memory");
+    ScramClient::first(alloc, name, &password, nonce).expect(rt, "a name")
 }
 
 fn begun(
+    rt: &impl Abort,
     alloc: Global,
     first: ClientFirst,
-    credentials: &Credentials,
+    credentials: Credentials,
     tail: &str,
-) -> Result<ScramServer, ScramFault> {
-    if !is_nonce(tail) || credentials.iterations == 0 {
-        return Err(ScramFault::BadNonce);
-    }
-    Ok(ScramServer::first(alloc, first, credentials, tail)?)
+) -> ScramServer {
+    assert!(rt; is_nonce(tail));
+    assert!(rt; credentials.iterations != 0);
+    ScramServer::first(alloc, first, &credentials, tail).expect(rt, "memory")
 }
 
 // The server's end after its first message.
 fn server(
+    rt: &impl Abort,
     alloc: Global,
     iterations: u32,
     first: &[u8],
     tail: &str,
-) -> Result<ScramServer, ScramFault> {
-    let credentials = credentials(alloc, iterations)?;
-    let first = read_first(alloc, first)?;
-    begun(alloc, first, &credentials, tail)
+) -> ScramServer {
+    let made = Credentials::make(alloc, "pencil", &SALT, iterations.max(1));
+    let credentials = made.expect(rt, "a password");
+    let first = read_first(alloc, first).expect(rt, "a first message");
+    begun(rt, alloc, first, credentials, tail)
 }
 
 // The server's answer to a final message, where its first message is the challenge.
-fn served(alloc: Global, messages: &[&str; 4], last: &[u8]) -> Result<Bytes, ScramFault> {
-    let server = server(alloc, 4096, messages[0].as_bytes(), NONCES[1])?;
-    if server.message() != messages[1].as_bytes() {
-        return Err(ScramFault::Malformed { at: 0 });
-    }
-    server.last(alloc, last)
+fn served(rt: &impl Abort, alloc: Global, messages: &[&str; 4], last: &[u8]) -> Bytes {
+    let server = server(rt, alloc, 4096, messages[0].as_bytes(), NONCES[1]);
+    assert!(rt; server.message() == messages[1].as_bytes());
+    server.last(alloc, last).expect(rt, "a final message")
 }
 
 // Whether a client replies to the challenge, and accepts the server's answer to that.
-fn goes_on(
-    alloc: Global,
-    client: &mut ScramClient,
-    messages: &[&str; 4],
-) -> Result<bool, ScramFault> {
-    let reply = client.reply(alloc, messages[1].as_bytes())?;
-    let answer = served(alloc, messages, reply.as_slice())?;
+fn goes_on(rt: &impl Abort, alloc: Global, client: &mut ScramClient, messages: &[&str; 4]) -> bool {
+    let reply = client
+        .reply(alloc, messages[1].as_bytes())
+        .expect(rt, "a challenge");
+    let answer = served(rt, alloc, messages, reply.as_slice());
     let replied = reply.as_slice() == messages[2].as_bytes();
     let ended = answer.as_slice() == messages[3].as_bytes();
-    Ok(replied && ended && client.check(answer.as_slice()).is_ok())
+    replied && ended && client.check(answer.as_slice()).is_ok()
 }
 
 // Whether the two ends say the four messages, and the client accepts the last.
-fn goes_through(alloc: Global, messages: &[&str; 4]) -> Result<bool, ScramFault> {
-    let mut client = client(alloc, "user", NONCES[0])?;
+fn goes_through(rt: &impl Abort, alloc: Global, messages: &[&str; 4]) -> bool {
+    let mut client = client(rt, alloc, "user", NONCES[0]);
     let begins = client.message() == messages[0].as_bytes();
-    Ok(begins && goes_on(alloc, &mut client, messages)?)
+    begins && goes_on(rt, alloc, &mut client, messages)
 }
 
 #[test]
-fn goes_through_the_example(rt: HostRuntime) -> Result<(), Fail> {
-    assert!(rt; goes_through(rt.alloc(), &MESSAGES)?);
-    Ok(())
+fn goes_through_the_example(rt: HostRuntime) {
+    assert!(rt; goes_through(&rt, rt.alloc(), &MESSAGES));
 }
 
 // Other final messages of the server, and why the client refuses them.
@@ -118,16 +107,25 @@ static FINALS: [(&[u8], ScramFault); 10] = [
     (b"v=QQ==,m=1", ScramFault::Malformed { at: 7 }),
 ];
 
-fn check_fault(alloc: Global, last: &[u8]) -> Option<ScramFault> {
-    let mut client = client(alloc, "user", NONCES[0]).ok()?;
-    let _reply = client.reply(alloc, MESSAGES[1].as_bytes()).ok()?;
+// Why a client that replied to the challenge refuses a final message, if it does.
+fn check_fault(
+    rt: &impl Abort,
+    alloc: Global,
+    mut client: ScramClient,
+    last: &[u8],
+) -> Option<ScramFault> {
+    let _reply = client
+        .reply(alloc, MESSAGES[1].as_bytes())
+        .expect(rt, "a challenge");
     client.check(last).err()
 }
 
 #[test]
 fn refuses_other_answers(rt: HostRuntime) {
+    let alloc = rt.alloc();
     for (message, fault) in &FINALS {
-        assert!(rt; check_fault(rt.alloc(), message) == Some(*fault));
+        let client = client(&rt, alloc, "user", NONCES[0]);
+        assert!(rt; check_fault(&rt, alloc, client, message) == Some(*fault));
     }
 }
 
@@ -177,29 +175,25 @@ static CHALLENGES: [(&str, &[u8], ScramFault); 18] = [
     ("a", b"r=a,s=QQ==,i=1,m=x", ScramFault::Malformed { at: 15 }),
 ];
 
-fn reply_fault(alloc: Global, nonce: &str, challenge: &[u8]) -> Option<ScramFault> {
-    let mut client = client(alloc, "user", nonce).ok()?;
-    client.reply(alloc, challenge).err()
+fn reply(alloc: Global, mut client: ScramClient, challenge: &[u8]) -> Result<Bytes, ScramFault> {
+    client.reply(alloc, challenge)
 }
 
 #[test]
 fn refuses_challenges(rt: HostRuntime) {
+    let alloc = rt.alloc();
     for (nonce, message, fault) in &CHALLENGES {
-        assert!(rt; reply_fault(rt.alloc(), nonce, message) == Some(*fault));
-    }
-}
-
-fn replies(alloc: Global, nonce: &str, challenge: &[u8]) -> bool {
-    match client(alloc, "user", nonce) {
-        Ok(mut client) => client.reply(alloc, challenge).is_ok(),
-        Err(_) => false,
+        let replied = reply(alloc, client(&rt, alloc, "user", nonce), message);
+        assert!(rt; replied.err() == Some(*fault));
     }
 }
 
 // The server adds one character to the client's nonce, and has an empty salt.
 #[test]
 fn replies_to_an_empty_salt(rt: HostRuntime) {
-    assert!(rt; replies(rt.alloc(), "a", b"r=ab,s=,i=4096"));
+    let alloc = rt.alloc();
+    let replied = reply(alloc, client(&rt, alloc, "user", "a"), b"r=ab,s=,i=4096");
+    assert!(rt; replied.err() == None);
 }
 
 // Final messages to a server with an exchange of the nonce `xyz`, and why it refuses them.
@@ -230,15 +224,16 @@ static LASTS: [(&[u8], ScramFault); 14] = [
     (b"c=biws,r=xyz,P=x,x=p=,p=QQ==", ScramFault::BadProof),
 ];
 
-fn last_fault(alloc: Global, last: &[u8]) -> Option<ScramFault> {
-    let server = server(alloc, 1, b"n,,n=user,r=x", "yz").ok()?;
+fn last_fault(alloc: Global, server: ScramServer, last: &[u8]) -> Option<ScramFault> {
     server.judge(alloc, last).err()
 }
 
 #[test]
 fn refuses_final_messages(rt: HostRuntime) {
+    let alloc = rt.alloc();
     for (message, fault) in &LASTS {
-        assert!(rt; last_fault(rt.alloc(), message) == Some(*fault));
+        let server = server(&rt, alloc, 1, b"n,,n=user,r=x", "yz");
+        assert!(rt; last_fault(alloc, server, message) == Some(*fault));
     }
 }
 
@@ -281,24 +276,22 @@ fn refuses_first_messages(rt: HostRuntime) {
     }
 }
 
-fn is_name(alloc: Global, message: &[u8], name: &str) -> bool {
-    match read_first(alloc, message) {
-        Ok(read) => read.name.as_str() == name,
-        Err(_) => false,
-    }
+fn is_name(read: ClientFirst, name: &str) -> bool {
+    read.name.as_str() == name
+}
+
+fn is_first(client: ScramClient, message: &[u8]) -> bool {
+    client.message() == message
 }
 
 // A name with a comma and an equals sign, as it is sent and as it is read.
-fn is_escaped(alloc: Global, name: &str, message: &[u8]) -> bool {
-    match client(alloc, name, "x") {
-        Ok(client) => client.message() == message && is_name(alloc, message, name),
-        Err(_) => false,
-    }
-}
-
 #[test]
 fn escapes_names(rt: HostRuntime) {
-    assert!(rt; is_escaped(rt.alloc(), "a=b,c", b"n,,n=a=3Db=2Cc,r=x"));
+    let alloc = rt.alloc();
+    let message = b"n,,n=a=3Db=2Cc,r=x";
+    assert!(rt; is_first(client(&rt, alloc, "a=b,c", "x"), message));
+    let read = read_first(alloc, message).expect(&rt, "a first message");
+    assert!(rt; is_name(read, "a=b,c"));
 }
 
 static PASSWORDS: [&str; 2] = ["", "pen\u{e7}il"];
@@ -355,16 +348,9 @@ static PRINTED: [(ScramFault, &str); 9] = [
     (ScramFault::NoMemory, "out of memory"),
 ];
 
-fn is_printed(alloc: Global, fault: ScramFault, text: &str) -> bool {
-    match format!(in alloc; "{fault}") {
-        Ok(shown) => shown.as_str() == text,
-        Err(_) => false,
-    }
-}
-
 #[test]
 fn prints_faults(rt: HostRuntime) {
     for (fault, text) in &PRINTED {
-        assert!(rt; is_printed(rt.alloc(), *fault, text));
+        prints(&rt, rt.alloc(), *fault, text);
     }
 }

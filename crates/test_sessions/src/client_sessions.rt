@@ -1,12 +1,12 @@
-// A client's session from its dial to its closing, over a loss of its connection (RFC 6120, sections 4 to 7; XEP-0198;
-// XEP-0313): behind it what waits is put again. The messages of the login are from another program, for the password
-// `pw-alice`, a salt of 16 bytes, 4,096 iterations, and nonces of zero bytes and of a one and zero bytes.
+//! A client's session from its dial to its closing, over a loss of its connection (RFC 6120, sections 4 to 7; XEP-0198;
+//! XEP-0313): behind it what waits is put again. The messages of the login are from another program, for the password
+//! `pw-alice`, a salt of 16 bytes, 4,096 iterations, and nonces of zero bytes and of a one and zero bytes.
 use base_io::{Bytes, ListOf};
 use cl_core::{Client, ClientOut, Event};
 use im_jid::Jid;
 use mam_log::PageOutcome;
 use std::alloc::Global;
-use std::test::Fail;
+use std::process::Abort;
 
 // What the user does, or that the server sends something.
 #[derive(Clone, Copy)]
@@ -174,35 +174,44 @@ fn is_right(client: &Client, out: &ClientOut, put: &str) -> bool {
         && client.epoch() == 1
 }
 
-// Whether the session of an account goes as it should.
-fn goes_well(alloc: Global, address: &Jid, to: &Jid, size: usize, put: &str) -> bool {
+// What is large is dropped by a call: where its scope drops it, each of its fields is a way of its own in the proof.
+
+// Whether a client's session goes as it should.
+fn goes_well(alloc: Global, client: &mut Client, to: &Jid, size: usize, put: &str) -> bool {
     let mut out = ClientOut {
         bytes: Bytes::new(alloc),
         events: ListOf::new(alloc),
     };
+    let goes_well = are_done(alloc, client, to, size, &mut out) && is_right(client, &out, put);
+    drop(out);
+    goes_well
+}
+
+fn address(rt: &impl Abort, alloc: Global, text: &str) -> Jid {
+    Jid::parse(alloc, text).expect(rt, "an address")
+}
+
+fn client_of(rt: &impl Abort, alloc: Global, address: &Jid) -> Client {
     match Client::new(alloc, address, "pw-alice", "phone") {
-        Ok(mut client) => {
-            are_done(alloc, &mut client, to, size, &mut out) && is_right(&client, &out, put)
-        }
-        Err(_) => false,
+        Ok(client) => client,
+        Err(_) => panic!(rt; "no client"),
     }
 }
 
-// The same of `alice`, who submits a message to `bob`.
-fn alice_goes_well(alloc: Global, size: usize, put: &str) -> bool {
-    let Ok(address) = Jid::parse(alloc, "alice@chat.example") else {
-        return false;
-    };
-    let Ok(to) = Jid::parse(alloc, "bob@chat.example") else {
-        return false;
-    };
-    goes_well(alloc, &address, &to, size, put)
+// The same of a new client of an account.
+fn goes(rt: &impl Abort, alloc: Global, account: &Jid, to: &Jid, size: usize) -> bool {
+    let mut client = client_of(rt, alloc, account);
+    let goes_well = goes_well(alloc, &mut client, to, size, PUT);
+    drop(client);
+    goes_well
 }
 
 #[test]
-fn a_session_goes_in_any_pieces(rt: HostRuntime) -> Result<(), Fail> {
+fn a_session_goes_in_any_pieces(rt: HostRuntime) {
+    let alloc = rt.alloc();
+    let alice = address(&rt, alloc, "alice@chat.example");
+    let bob = address(&rt, alloc, "bob@chat.example");
     for size in SIZES {
-        assert!(rt; alice_goes_well(rt.alloc(), size, PUT));
+        assert!(rt; goes(&rt, alloc, &alice, &bob, size));
     }
-    Ok(())
 }

@@ -1,19 +1,17 @@
 //! Each call of the acknowledgements once, and the text of a refusal.
 ghost use Rattle.std.specs.Prelude.{◌≡◌};
 
-use base_io::{Bytes, NoMemory};
+use base_io::Bytes;
 use sm_acks::{AckEnd, MOST_UNACKNOWLEDGED, Pool, TooHigh};
 use std::alloc::Global;
-use std::test::Fail;
+use std::process::Abort;
 
-// Puts a stanza, where the queue lives and is not full.
-fn put(alloc: Global, end: &mut AckEnd, pool: &mut Pool) -> Result<(), NoMemory> {
-    let stanza = Bytes::from_slice(alloc, b"a")?;
-    pool.reserve(1)?;
-    if pool.lives(end.queue()) && pool.len(end.queue()) < MOST_UNACKNOWLEDGED {
-        end.put_reserved(pool, stanza);
-    }
-    Ok(())
+// Puts a stanza. The queue lives and is not full.
+fn put(rt: &impl Abort, alloc: Global, end: &mut AckEnd, pool: &mut Pool) {
+    pool.reserve(1).expect(rt, "memory");
+    assert!(rt; pool.lives(end.queue()) && pool.len(end.queue()) < MOST_UNACKNOWLEDGED);
+    let stanza = Bytes::from_slice(alloc, b"a").expect(rt, "memory");
+    end.put_reserved(pool, stanza)
 }
 
 // What a count does: whether it is told to be too high, the answer, and the count that is acknowledged.
@@ -27,13 +25,13 @@ fn taken(end: &mut AckEnd, pool: &mut Pool, h: u32) -> (bool, Option<u32>, u32) 
 }
 
 // What a count does to an end with two stanzas.
-fn counted(alloc: Global, h: u32) -> Result<(bool, Option<u32>, u32), NoMemory> {
+fn counted(rt: &impl Abort, alloc: Global, h: u32) -> (bool, Option<u32>, u32) {
     let mut pool = Pool::new(alloc);
-    let mut end = AckEnd::new(pool.make_queue()?);
+    let mut end = AckEnd::new(pool.make_queue().expect(rt, "memory"));
     for _ in 0..2 {
-        put(alloc, &mut end, &mut pool)?;
+        put(rt, alloc, &mut end, &mut pool);
     }
-    Ok(taken(&mut end, &mut pool, h))
+    taken(&mut end, &mut pool, h)
 }
 
 // Counts, and what they do to an end with two stanzas; the last is one below 0.
@@ -46,20 +44,22 @@ static COUNTS: [(u32, (bool, Option<u32>, u32)); 5] = [
 ];
 
 #[test]
-fn counts_are_taken_or_refused(rt: HostRuntime) -> Result<(), Fail> {
+fn counts_are_taken_or_refused(rt: HostRuntime) {
     for (h, expected) in COUNTS {
-        assert!(rt; counted(rt.alloc(), h)? == expected);
+        assert!(rt; counted(&rt, rt.alloc(), h) == expected);
     }
-    Ok(())
+}
+
+fn is_text(text: String, expected: &str) -> bool {
+    text.as_str() == expected
 }
 
 #[test]
-fn a_refusal_is_printed(rt: HostRuntime) -> Result<(), Fail> {
+fn a_refusal_is_printed(rt: HostRuntime) {
     let fault = TooHigh {
         h: 2,
         send_count: 1,
     };
-    let text = format!(in rt.alloc(); "{fault}")?;
-    assert!(rt; text.as_str() == "2 handled of 1 put");
-    Ok(())
+    let text = format!(in rt.alloc(); "{fault}").expect(&rt, "memory");
+    assert!(rt; is_text(text, "2 handled of 1 put"));
 }

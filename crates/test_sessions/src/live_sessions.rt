@@ -1,91 +1,81 @@
 //! A session that is bound, written to, lost and resumed.
-ghost use Rattle.std.specs.Prelude.{◌≡◌, None, OnOk, Some};
+ghost use Rattle.std.specs.Prelude.{◌≡◌, None, Some};
 ghost use Rattle.sm_live.specs.Sessions.{session_at};
 
 use base_io::{Bytes, Text};
 use sm_acks::MOST_UNACKNOWLEDGED;
 use sm_live::{Live, SeatFault};
 use std::alloc::Global;
-use std::test::Fail;
+use std::process::Abort;
 
 // Reserves a seat of account 7, for a connection that has no session.
-fn seat(live: &mut Live, conn: u64) -> Result<(), Fail>
-    ensures seat { OnOk result (live.new.seat ≡ Some 7) }
-    ensures conn { OnOk result (session_at conn live.new.sessions ≡ None) }
+fn seat(rt: &impl Abort, live: &mut Live, conn: u64)
+    ensures seat { live.new.seat ≡ Some 7 }
+    ensures conn { session_at conn live.new.sessions ≡ None }
 {
-    live.reserve_seat(7)?;
-    if live.told_at(conn).is_some() {
-        return Err(Fail::from("the connection has a session"));
-    }
-    Ok(())
+    live.reserve_seat(7).expect(rt, "a seat");
+    assert!(rt; live.told_at(conn).is_none())
 }
 
 // Puts a stanza, where the session lives and fewer than the most wait.
-fn put(alloc: Global, live: &mut Live, number: u64, text: &[u8]) -> Result<(), Fail> {
-    let stanza = Bytes::from_slice(alloc, text)?;
-    live.reserve(1)?;
-    match live.told(number) {
-        Some(told) if told.waiting < MOST_UNACKNOWLEDGED => {
-            live.put(number, stanza);
-            Ok(())
-        }
-        _ => Err(Fail::from("no session")),
-    }
+fn put(rt: &impl Abort, alloc: Global, live: &mut Live, number: u64, text: &[u8]) {
+    live.reserve(1).expect(rt, "memory");
+    let told = live.told(number).expect(rt, "a session");
+    assert!(rt; told.waiting < MOST_UNACKNOWLEDGED);
+    let stanza = Bytes::from_slice(alloc, text).expect(rt, "memory");
+    live.put(number, stanza)
 }
 
-// A session of account 7 on connection 1 that can be resumed.
-fn bound(alloc: Global) -> Result<Live, Fail> {
-    let mut live = Live::new(alloc, 1);
-    let resource = Text::from_str(alloc, "phone")?;
-    live.reserve_seat(7)?;
+// Binds a session of account 7 on connection 1 that can be resumed.
+fn bind(rt: &impl Abort, alloc: Global, live: &mut Live) {
+    seat(rt, live, 1);
+    let resource = Text::from_str(alloc, "phone").expect(rt, "memory");
     let number = live.bind(7, resource, 1).number;
-    match live.told(number) {
-        Some(_) => live.enable(number, true)?,
-        None => return Err(Fail::from("no session")),
-    }
-    Ok(live)
+    assert!(rt; live.told(number).is_some());
+    live.enable(number, true)
+        .expect(rt, "a session that counts nothing")
 }
 
 // The same with three stanzas, and without its connection.
-fn lost(alloc: Global) -> Result<Live, Fail> {
-    let mut live = bound(alloc)?;
+fn lose(rt: &impl Abort, alloc: Global, live: &mut Live) {
+    bind(rt, alloc, live);
     for text in [b"a", b"b", b"c"] {
-        put(alloc, &mut live, 1, text)?;
+        put(rt, alloc, live, 1, text);
     }
     let _ = live.park(1, 1_000);
-    Ok(live)
 }
 
 // What a resumption with a count sends again.
-fn resent(alloc: Global, live: &Live, h: u32) -> Result<Bytes, Fail> {
-    let stanzas = match live.told(1) {
-        Some(_) => live.resent(alloc, 1, h)?,
-        None => return Err(Fail::from("no session")),
-    };
+fn resent(rt: &impl Abort, alloc: Global, live: &Live, h: u32) -> Bytes {
+    assert!(rt; live.told(1).is_some());
+    let stanzas = live.resent(alloc, 1, h).expect(rt, "memory");
     let mut out = Bytes::new(alloc);
     for stanza in stanzas.as_slice() {
-        out.append(stanza.as_slice())?;
+        out.append(stanza.as_slice()).expect(rt, "memory");
     }
-    Ok(out)
+    out
 }
 
 // Resumes with a count on connection 2; how many stanzas wait there then.
-fn resumed(live: &mut Live, h: u32) -> Result<Option<u64>, Fail> {
-    seat(live, 2)?;
+fn resumed(rt: &impl Abort, live: &mut Live, h: u32) -> Option<u64> {
+    seat(rt, live, 2);
     if live.resume("0000000000000001", 7, h, 2).is_err() {
-        return Ok(None);
+        return None;
     }
     match live.told_at(2) {
-        Some(told) => Ok(Some(told.waiting)),
-        None => Ok(None),
+        Some(told) => Some(told.waiting),
+        None => None,
     }
 }
 
-fn comes_back(alloc: Global, h: u32, texts: &[u8], left: Option<u64>) -> Result<bool, Fail> {
-    let mut live = lost(alloc)?;
-    let bytes = resent(alloc, &live, h)?;
-    let waiting = resumed(&mut live, h)?;
-    Ok(bytes.as_slice() == texts && waiting == left)
+fn is_bytes(bytes: Bytes, expected: &[u8]) -> bool {
+    bytes.as_slice() == expected
+}
+
+fn comes_back(rt: &impl Abort, alloc: Global, h: u32, texts: &[u8], left: Option<u64>) -> bool {
+    let mut live = Live::new(alloc, 1);
+    lose(rt, alloc, &mut live);
+    is_bytes(resent(rt, alloc, &live, h), texts) && resumed(rt, &mut live, h) == left
 }
 
 // Counts, what is sent again, and how many stanzas wait after the resumption; at the last the session ends.
@@ -97,18 +87,25 @@ static COUNTS: [(u32, &[u8], Option<u64>); 4] = [
 ];
 
 #[test]
-fn sessions_come_back_with_what_was_not_handled(rt: HostRuntime) -> Result<(), Fail> {
+fn sessions_come_back_with_what_was_not_handled(rt: HostRuntime) {
     for (h, texts, left) in COUNTS {
-        assert!(rt; comes_back(rt.alloc(), h, texts, left)?);
+        assert!(rt; comes_back(&rt, rt.alloc(), h, texts, left));
     }
-    Ok(())
+}
+
+fn is_text(text: String, expected: &str) -> bool {
+    text.as_str() == expected
 }
 
 #[test]
-fn refusals_are_printed(rt: HostRuntime) -> Result<(), Fail> {
+fn refusals_are_printed(rt: HostRuntime) {
     let used_up = SeatFault::NumbersUsedUp;
     let memory = SeatFault::NoMemory;
-    let text = format!(in rt.alloc(); "{used_up}, {memory}")?;
-    assert!(rt; text.as_str() == "no number is left for a session or its queue, out of memory");
-    Ok(())
+    let text = format!(in rt.alloc(); "{used_up}, {memory}").expect(&rt, "memory");
+    assert!(rt;
+        is_text(
+            text,
+            "no number is left for a session or its queue, out of memory"
+        )
+    );
 }

@@ -1,33 +1,34 @@
 //! A session that is written to, and resumed with a count.
-use base_io::{Bytes, NoMemory, Text};
+use base_io::{Bytes, Text};
 use sm_outbox::{Outbox, Session};
 use std::alloc::Global;
-use std::test::Fail;
+use std::process::Abort;
 
-// Submits a text. What is sent now goes into `out`.
-fn submit(
-    alloc: Global,
-    session: &mut Session,
-    text: &[u8],
-    is_attached: bool,
-    out: &mut Bytes,
-) -> Result<(), NoMemory> {
-    let bytes = Bytes::from_slice(alloc, text)?;
-    if session.is_full() {
-        return Ok(());
-    }
-    session.submit(bytes, b"?", is_attached, out)
+fn bytes(rt: &impl Abort, alloc: Global, text: &[u8]) -> Bytes {
+    Bytes::from_slice(alloc, text).expect(rt, "memory")
 }
 
-// A session in which two submissions and between them an answer wait; what was sent at once goes into `out`.
-fn filled(alloc: Global, out: &mut Bytes) -> Result<Session, NoMemory> {
-    let previd = Text::from_str(alloc, "7")?;
-    let mut session = Session::new(alloc, previd)?;
-    submit(alloc, &mut session, b"a", true, out)?;
-    let answer = Bytes::from_slice(alloc, b"b")?;
-    let _ = session.answer(answer, out)?;
-    submit(alloc, &mut session, b"c", false, out)?;
-    Ok(session)
+// Submits a text. What is sent now goes into `out`.
+fn submit(rt: &impl Abort, session: &mut Session, text: Bytes, is_attached: bool, out: &mut Bytes) {
+    assert!(rt; !session.is_full());
+    session
+        .submit(text, b"?", is_attached, out)
+        .expect(rt, "memory")
+}
+
+// A session to which nothing was written.
+fn session(rt: &impl Abort, alloc: Global) -> Session {
+    let previd = Text::from_str(alloc, "7").expect(rt, "memory");
+    Session::new(alloc, previd).expect(rt, "memory")
+}
+
+// Two submissions and between them an answer wait; what was sent at once goes into `out`.
+fn fill(rt: &impl Abort, alloc: Global, session: &mut Session, out: &mut Bytes) {
+    submit(rt, session, bytes(rt, alloc, b"a"), true, out);
+    let _ = session
+        .answer(bytes(rt, alloc, b"b"), out)
+        .expect(rt, "memory");
+    submit(rt, session, bytes(rt, alloc, b"c"), false, out)
 }
 
 // How many stanzas and submissions a count acknowledges, and how many stanzas wait then.
@@ -43,15 +44,17 @@ fn taken(session: &mut Session, h: u32) -> Option<[u64; 3]> {
 }
 
 fn comes_back(
+    rt: &impl Abort,
     alloc: Global,
     h: u32,
     texts: &[u8],
     behind: Option<[u64; 3]>,
-) -> Result<bool, NoMemory> {
+) -> bool {
     let mut out = Bytes::new(alloc);
-    let mut session = filled(alloc, &mut out)?;
-    session.append_resent(h, &mut out)?;
-    Ok(out.as_slice() == texts && session.handled() == 1 && taken(&mut session, h) == behind)
+    let mut session = session(rt, alloc);
+    fill(rt, alloc, &mut session, &mut out);
+    session.append_resent(h, &mut out).expect(rt, "memory");
+    out.as_slice() == texts && session.handled() == 1 && taken(&mut session, h) == behind
 }
 
 // Counts, what is sent at once and then again, and what is so behind the acknowledgement; the last is too high.
@@ -63,27 +66,22 @@ static COUNTS: [(u32, &[u8], Option<[u64; 3]>); 4] = [
 ];
 
 #[test]
-fn sessions_come_back_with_what_was_not_handled(rt: HostRuntime) -> Result<(), Fail> {
+fn sessions_come_back_with_what_was_not_handled(rt: HostRuntime) {
     for (h, texts, behind) in COUNTS {
-        assert!(rt; comes_back(rt.alloc(), h, texts, behind)?);
+        assert!(rt; comes_back(&rt, rt.alloc(), h, texts, behind));
     }
-    Ok(())
 }
 
-// Whether room that was made takes a stanza.
-fn takes_one(alloc: Global) -> Result<bool, NoMemory> {
-    let mut outbox = Outbox::new(alloc)?;
-    let bytes = Bytes::from_slice(alloc, b"a")?;
-    outbox.reserve(1)?;
-    if outbox.is_full() {
-        return Ok(false);
-    }
-    outbox.put_reserved(bytes, true);
-    Ok(outbox.len() == 1 && outbox.is_too_high(2).is_some())
+// Room that was made takes a stanza.
+fn takes_one(rt: &impl Abort, outbox: &mut Outbox, stanza: Bytes) {
+    outbox.reserve(1).expect(rt, "memory");
+    assert!(rt; !outbox.is_full());
+    outbox.put_reserved(stanza, true);
+    assert!(rt; outbox.len() == 1 && outbox.is_too_high(2).is_some())
 }
 
 #[test]
-fn room_is_made_first(rt: HostRuntime) -> Result<(), Fail> {
-    assert!(rt; takes_one(rt.alloc())?);
-    Ok(())
+fn room_is_made_first(rt: HostRuntime) {
+    let mut outbox = Outbox::new(rt.alloc()).expect(&rt, "memory");
+    takes_one(&rt, &mut outbox, bytes(&rt, rt.alloc(), b"a"));
 }

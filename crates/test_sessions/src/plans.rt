@@ -1,9 +1,9 @@
 //! Messages of one session between two accounts, and what becomes of each.
-ghost use Rattle.std.specs.Prelude.{◌≡◌, None, OnOk, Some};
+ghost use Rattle.std.specs.Prelude.{◌≡◌, None, Some};
 ghost use Rattle.sm_live.specs.Sessions.{session_at};
 
 use auth_scram::Credentials;
-use base_io::{Bytes, NoMemory, Text};
+use base_io::{Bytes, Text};
 use im_jid::Jid;
 use im_payload::CARBONS;
 use im_stanza::{CLIENT, Message, MessageKind};
@@ -11,7 +11,7 @@ use sm_live::{Live, Told};
 use srv_login::{Account, AccountList, Accounts};
 use srv_route::{Archiving, Plan, plan};
 use std::alloc::Global;
-use std::test::Fail;
+use std::process::Abort;
 use xml_trees::{Element, Node, Nodes};
 
 // A session: its account, its resource, whether it is available, its priority, and whether it wants copies.
@@ -156,15 +156,12 @@ static ROWS: [Row; 17] = [
 ];
 
 // Reserves a seat of an account, for a connection that has no session.
-fn seat(live: &mut Live, account: u32, conn: u64) -> Result<(), Fail>
-    ensures seat { OnOk result (live.new.seat ≡ Some account) }
-    ensures conn { OnOk result (session_at conn live.new.sessions ≡ None) }
+fn seat(rt: &impl Abort, live: &mut Live, account: u32, conn: u64)
+    ensures seat { live.new.seat ≡ Some account }
+    ensures conn { session_at conn live.new.sessions ≡ None }
 {
-    live.reserve_seat(account)?;
-    if live.told_at(conn).is_some() {
-        return Err(Fail::from("the connection has a session"));
-    }
-    Ok(())
+    live.reserve_seat(account).expect(rt, "a seat");
+    assert!(rt; live.told_at(conn).is_none())
 }
 
 fn present(live: &mut Live, number: u64, available: bool, priority: i8) {
@@ -179,42 +176,39 @@ fn want_copies(live: &mut Live, number: u64, carbons: bool) {
     }
 }
 
-fn bind(alloc: Global, live: &mut Live, given: &Given, conn: u64) -> Result<(), Fail> {
-    let resource = Text::from_str(alloc, given.1)?;
-    seat(live, given.0, conn)?;
+fn bind(rt: &impl Abort, alloc: Global, live: &mut Live, given: &Given, conn: u64) {
+    seat(rt, live, given.0, conn);
+    let resource = Text::from_str(alloc, given.1).expect(rt, "memory");
     let number = live.bind(given.0, resource, conn).number;
     present(live, number, given.2, given.3);
-    want_copies(live, number, given.4);
-    Ok(())
+    want_copies(live, number, given.4)
 }
 
-fn sessions(alloc: Global) -> Result<Live, Fail> {
-    let mut live = Live::new(alloc, 1);
+fn bind_all(rt: &impl Abort, alloc: Global, live: &mut Live) {
     let mut conn: u64 = 0;
     for given in &SESSIONS {
         conn = conn.saturating_add(1);
-        bind(alloc, &mut live, given, conn)?;
+        bind(rt, alloc, live, given, conn);
     }
-    Ok(live)
 }
 
-fn account(alloc: Global, name: &str) -> Result<Account, NoMemory> {
-    Ok(Account {
-        name: Text::from_str(alloc, name)?,
+fn account(rt: &impl Abort, alloc: Global, name: &str) -> Account {
+    Account {
+        name: Text::from_str(alloc, name).expect(rt, "memory"),
         credentials: Credentials {
             salt: Bytes::new(alloc),
             iterations: 4096,
             stored_key: [0; 32],
             server_key: [0; 32],
         },
-    })
+    }
 }
 
-fn accounts(alloc: Global) -> Result<Accounts, Fail> {
+fn accounts(rt: &impl Abort, alloc: Global) -> Accounts {
     let mut list = AccountList::new(alloc);
-    list.push(account(alloc, "alice")?)?;
-    list.push(account(alloc, "bob")?)?;
-    Ok(Accounts::new(alloc, list)?)
+    list.push(account(rt, alloc, "alice")).expect(rt, "memory");
+    list.push(account(rt, alloc, "bob")).expect(rt, "memory");
+    Accounts::new(alloc, list).expect(rt, "accounts")
 }
 
 fn names(inside: Inside) -> &'static [(&'static str, &'static str)] {
@@ -225,27 +219,31 @@ fn names(inside: Inside) -> &'static [(&'static str, &'static str)] {
     }
 }
 
-fn payload(alloc: Global, inside: Inside) -> Result<Nodes, NoMemory> {
+fn payload(rt: &impl Abort, alloc: Global, inside: Inside) -> Nodes {
     let mut nodes = Nodes::new(alloc);
     for (ns, name) in names(inside) {
-        nodes.push(Node::Child(Element::from_strs(alloc, ns, name)?))?;
+        let element = Element::from_strs(alloc, ns, name).expect(rt, "memory");
+        nodes.push(Node::Child(element)).expect(rt, "memory");
     }
-    Ok(nodes)
+    nodes
 }
 
-fn message(alloc: Global, row: &Row) -> Result<Message, Fail> {
-    let to = match row.1 {
+fn address(rt: &impl Abort, alloc: Global, to: Option<&str>) -> Option<Jid> {
+    match to {
+        Some(text) => Some(Jid::parse(alloc, text).expect(rt, "an address")),
         None => None,
-        Some(text) => Some(Jid::parse(alloc, text)?),
-    };
-    Ok(Message {
+    }
+}
+
+fn message(rt: &impl Abort, alloc: Global, row: &Row) -> Message {
+    Message {
         from: None,
-        to,
+        to: address(rt, alloc, row.1),
         id: Text::new(alloc),
         kind: row.0,
         lang: Text::new(alloc),
-        payload: payload(alloc, row.2)?,
-    })
+        payload: payload(rt, alloc, row.2),
+    }
 }
 
 fn is(plan: &Plan, expected: &Outcome) -> bool {
@@ -261,38 +259,30 @@ fn is(plan: &Plan, expected: &Outcome) -> bool {
     }
 }
 
-fn is_row(
+fn plan_of(
+    rt: &impl Abort,
     alloc: Global,
     live: &Live,
     accounts: &Accounts,
-    sender: &Told,
-    row: &Row,
-) -> Result<bool, Fail> {
-    let message = message(alloc, row)?;
-    let plan = plan(alloc, "chat.example", accounts, live, &message, sender)?;
-    Ok(is(&plan, &row.3))
+    message: Message,
+) -> Plan {
+    let sender = live.told(1).expect(rt, "a session");
+    let plan = plan(alloc, "chat.example", accounts, live, &message, &sender);
+    drop(message);
+    plan.expect(rt, "memory")
 }
 
-fn are_rows(alloc: Global, live: &Live, accounts: &Accounts) -> Result<bool, Fail> {
-    let Some(sender) = live.told(1) else {
-        return Ok(false);
-    };
+fn are_rows(rt: &impl Abort, alloc: Global, live: &Live, accounts: &Accounts) {
     for row in &ROWS {
-        if !is_row(alloc, live, accounts, &sender, row)? {
-            return Ok(false);
-        }
+        let plan = plan_of(rt, alloc, live, accounts, message(rt, alloc, row));
+        assert!(rt; is(&plan, &row.3));
     }
-    Ok(true)
-}
-
-fn all_hold(alloc: Global) -> Result<bool, Fail> {
-    let live = sessions(alloc)?;
-    let accounts = accounts(alloc)?;
-    are_rows(alloc, &live, &accounts)
 }
 
 #[test]
-fn messages_go_where_they_belong(rt: HostRuntime) -> Result<(), Fail> {
-    assert!(rt; all_hold(rt.alloc())?);
-    Ok(())
+fn messages_go_where_they_belong(rt: HostRuntime) {
+    let alloc = rt.alloc();
+    let mut live = Live::new(alloc, 1);
+    bind_all(&rt, alloc, &mut live);
+    are_rows(&rt, alloc, &live, &accounts(&rt, alloc));
 }

@@ -1,31 +1,28 @@
 //! Each call of the queues once, and the nodes of long queues.
 ghost use Rattle.std.specs.Prelude.{◌≡◌};
 
-use base_io::{Bytes, NoMemory};
+use base_io::Bytes;
 use sm_acks::{Pool, QueueId};
 use std::alloc::Global;
-use std::test::Fail;
+use std::process::Abort;
 
-// Puts a stanza of one byte, where the queue lives.
-fn put(alloc: Global, pool: &mut Pool, queue: QueueId, text: u8) -> Result<(), NoMemory> {
-    let stanza = Bytes::from_slice(alloc, &[text])?;
-    pool.reserve(1)?;
-    if pool.lives(queue) {
-        pool.push_reserved(queue, stanza);
-    }
-    Ok(())
+// Puts a stanza of one byte in a queue, which lives.
+fn put(rt: &impl Abort, alloc: Global, pool: &mut Pool, queue: QueueId, text: u8) {
+    pool.reserve(1).expect(rt, "memory");
+    assert!(rt; pool.lives(queue));
+    let stanza = Bytes::from_slice(alloc, &[text]).expect(rt, "memory");
+    pool.push_reserved(queue, stanza)
 }
 
 // Two stanzas in a queue and one in another.
-fn fill(alloc: Global, pool: &mut Pool) -> Result<(), NoMemory>
+fn fill(rt: &impl Abort, alloc: Global, pool: &mut Pool)
     requires { pool.old.made ≡ 0 }
 {
-    let _ = pool.make_queue()?;
-    let _ = pool.make_queue()?;
+    let _ = pool.make_queue().expect(rt, "memory");
+    let _ = pool.make_queue().expect(rt, "memory");
     for (queue, text) in [(1, b'a'), (2, b'c'), (1, b'b')] {
-        put(alloc, pool, queue, text)?;
+        put(rt, alloc, pool, queue, text);
     }
-    Ok(())
 }
 
 // The stanza at a place, where the queue lives.
@@ -37,19 +34,22 @@ fn text_at(pool: &Pool, queue: QueueId, i: u64) -> Option<u8> {
     }
 }
 
+fn hand_over(rt: &impl Abort, pool: &mut Pool) {
+    assert!(rt; pool.lives(1) && pool.lives(2));
+    pool.hand_over(1, 2)
+}
+
 // The second queue after the first one was handed over to it, and the first one.
-fn handed(alloc: Global) -> Result<[Option<u8>; 4], NoMemory> {
+fn handed(rt: &impl Abort, alloc: Global) -> [Option<u8>; 4] {
     let mut pool = Pool::new(alloc);
-    fill(alloc, &mut pool)?;
-    if pool.lives(1) && pool.lives(2) {
-        pool.hand_over(1, 2);
-    }
-    Ok([
+    fill(rt, alloc, &mut pool);
+    hand_over(rt, &mut pool);
+    [
         text_at(&pool, 2, 0),
         text_at(&pool, 2, 1),
         text_at(&pool, 2, 2),
         text_at(&pool, 1, 0),
-    ])
+    ]
 }
 
 // The first queue after its oldest stanza was taken, and the second one after it was dropped.
@@ -63,70 +63,65 @@ fn dropped(pool: &mut Pool) -> (Option<u8>, u64, bool) {
     (text_at(pool, 1, 0), left, pool.lives(2))
 }
 
-fn taken(alloc: Global) -> Result<(Option<u8>, u64, bool), NoMemory> {
+fn taken(rt: &impl Abort, alloc: Global) -> (Option<u8>, u64, bool) {
     let mut pool = Pool::new(alloc);
-    fill(alloc, &mut pool)?;
-    Ok(dropped(&mut pool))
+    fill(rt, alloc, &mut pool);
+    dropped(&mut pool)
 }
 
 #[test]
-fn queues_are_handed_over_and_dropped(rt: HostRuntime) -> Result<(), Fail> {
-    let texts = handed(rt.alloc())?;
-    let left = taken(rt.alloc())?;
+fn queues_are_handed_over_and_dropped(rt: HostRuntime) {
+    let texts = handed(&rt, rt.alloc());
+    let left = taken(&rt, rt.alloc());
     assert!(rt;
         texts == [Some(b'c'), Some(b'a'), Some(b'b'), None] && left == (Some(b'b'), 1, false)
     );
-    Ok(())
+}
+
+fn append_second(rt: &impl Abort, pool: &Pool, out: &mut Bytes) {
+    assert!(rt; pool.lives(2));
+    pool.append_from(2, 1, out).expect(rt, "memory")
 }
 
 // The bytes of the second queue but its first stanza's, after the first one was handed over to it.
-fn appended(alloc: Global) -> Result<Bytes, NoMemory> {
+fn appended(rt: &impl Abort, alloc: Global) -> Bytes {
     let mut pool = Pool::new(alloc);
-    fill(alloc, &mut pool)?;
+    fill(rt, alloc, &mut pool);
+    hand_over(rt, &mut pool);
     let mut out = Bytes::new(alloc);
-    if pool.lives(1) && pool.lives(2) {
-        pool.hand_over(1, 2);
-    }
-    if pool.lives(2) {
-        pool.append_from(2, 1, &mut out)?;
-    }
-    Ok(out)
+    append_second(rt, &pool, &mut out);
+    out
 }
 
-fn are_appended(alloc: Global) -> bool {
-    match appended(alloc) {
-        Ok(bytes) => bytes.as_slice() == b"ab".as_slice(),
-        Err(_) => false,
-    }
+fn is_bytes(bytes: Bytes, expected: &[u8]) -> bool {
+    bytes.as_slice() == expected
 }
 
 #[test]
 fn queues_are_read_in_order(rt: HostRuntime) {
-    assert!(rt; are_appended(rt.alloc()));
+    assert!(rt; is_bytes(appended(&rt, rt.alloc()), b"ab"));
 }
 
 // How many stanzas a long queue has.
 const LONG: u32 = 10_000;
 
-fn lengthen(alloc: Global, pool: &mut Pool, queue: QueueId) -> Result<(), NoMemory> {
+fn lengthen(rt: &impl Abort, alloc: Global, pool: &mut Pool, queue: QueueId) {
     for _ in 0..LONG {
-        put(alloc, pool, queue, b'a')?;
+        put(rt, alloc, pool, queue, b'a');
     }
-    Ok(())
 }
 
 // Three long queues.
-fn fill_three(alloc: Global, pool: &mut Pool) -> Result<(), NoMemory>
+fn fill_three(rt: &impl Abort, alloc: Global, pool: &mut Pool)
     requires { pool.old.made ≡ 0 }
 {
-    pool.reserve(3 * LONG)?;
-    let _ = pool.make_queue()?;
-    let _ = pool.make_queue()?;
-    let _ = pool.make_queue()?;
+    pool.reserve(3 * LONG).expect(rt, "memory");
+    let _ = pool.make_queue().expect(rt, "memory");
+    let _ = pool.make_queue().expect(rt, "memory");
+    let _ = pool.make_queue().expect(rt, "memory");
     for queue in [1, 2, 3] {
-        lengthen(alloc, pool, queue)?;
+        lengthen(rt, alloc, pool, queue);
     }
-    Ok(())
 }
 
 // How many nodes there are after a queue was handed over.
@@ -158,10 +153,10 @@ fn nodes_along(pool: &mut Pool) -> [u64; 7] {
     ]
 }
 
-fn nodes_of_three(alloc: Global) -> Result<[u64; 7], NoMemory> {
+fn nodes_of_three(rt: &impl Abort, alloc: Global) -> [u64; 7] {
     let mut pool = Pool::new(alloc);
-    fill_three(alloc, &mut pool)?;
-    Ok(nodes_along(&mut pool))
+    fill_three(rt, alloc, &mut pool);
+    nodes_along(&mut pool)
 }
 
 fn stay(nodes: [u64; 7]) -> bool {
@@ -169,7 +164,6 @@ fn stay(nodes: [u64; 7]) -> bool {
 }
 
 #[test]
-fn nodes_stay_where_long_queues_move(rt: HostRuntime) -> Result<(), Fail> {
-    assert!(rt; stay(nodes_of_three(rt.alloc())?));
-    Ok(())
+fn nodes_stay_where_long_queues_move(rt: HostRuntime) {
+    assert!(rt; stay(nodes_of_three(&rt, rt.alloc())));
 }

@@ -3,13 +3,13 @@ ghost use Rattle.std.specs.Prelude.{◌≡◌, ◌+◌, ◌<◌, ◌≤◌, IfOk
 ghost use Rattle.sm_acks.specs.Queues.{PoolView};
 ghost use Rattle.sm_resumption.specs.Housed.{IsFree, IsHoused};
 
-use base_io::Text;
+use base_io::{NoMemory, Text};
 use sm_acks::{Pool, QueueId};
 use sm_resumption::{
     AlreadyEnabled, Bound, Ended, Lost, ResumeFault, ResumeOk, Sessions, previd_text,
 };
 use std::alloc::Global;
-use std::test::Fail;
+use std::process::Abort;
 
 // A table and a pool without sessions.
 fn nobody(alloc: Global, first: u64) -> (Sessions, Pool)
@@ -22,7 +22,7 @@ fn nobody(alloc: Global, first: u64) -> (Sessions, Pool)
 }
 
 // A queue that no session has.
-fn queue(sessions: &Sessions, pool: &mut Pool) -> Result<QueueId, Fail>
+fn queue(sessions: &Sessions, pool: &mut Pool) -> Result<QueueId, NoMemory>
     requires housed { IsHoused sessions.now.rows pool.old }
     requires made { pool.old.made < 1000 }
     ensures free { IfOk result (λ q. IsFree q sessions.now.rows pool.new) }
@@ -35,90 +35,91 @@ fn queue(sessions: &Sessions, pool: &mut Pool) -> Result<QueueId, Fail>
 
 // Binds on a connection that has no session.
 fn bound(
+    rt: &impl Abort,
     alloc: Global,
     sessions: &mut Sessions,
     pool: &mut Pool,
     resource: &str,
     conn: u64,
-) -> Result<Bound, Fail>
+) -> Bound
     requires housed { IsHoused sessions.old.rows pool.old }
     requires made { pool.old.made < 1000 }
-    ensures housed { OnOk result (IsHoused sessions.new.rows pool.new) }
-    ensures made { OnOk result (pool.new.made ≤ pool.old.made + 1) }
+    ensures housed { IsHoused sessions.new.rows pool.new }
+    ensures made { pool.new.made ≤ pool.old.made + 1 }
 {
-    sessions.reserve(7)?;
-    if sessions.next_number() > 1_000 || sessions.by_conn(conn).is_some() {
-        return Err(Fail::from("no bind"));
-    }
-    let queue = queue(sessions, pool)?;
-    let resource = Text::from_str(alloc, resource)?;
-    Ok(sessions.bind(pool, 7, resource, conn, queue))
+    sessions.reserve(7).expect(rt, "memory");
+    assert!(rt; sessions.next_number() <= 1_000);
+    assert!(rt; sessions.by_conn(conn).is_none());
+    let queue = queue(sessions, pool).expect(rt, "memory");
+    let resource = Text::from_str(alloc, resource).expect(rt, "memory");
+    sessions.bind(pool, 7, resource, conn, queue)
 }
 
 // Lets a session be resumed.
-fn counted(sessions: &mut Sessions, number: u64) -> Result<(), Fail>
+fn counted(rt: &impl Abort, sessions: &mut Sessions, number: u64)
     ensures { (pool : PoolView) → IsHoused sessions.old.rows pool → IsHoused sessions.new.rows pool }
 {
-    match sessions.view(number) {
-        Some(_) => Ok(sessions.enable(number, true)?),
-        None => Err(Fail::from("no session")),
-    }
+    assert!(rt; sessions.view(number).is_some());
+    sessions
+        .enable(number, true)
+        .expect(rt, "a session that counts nothing")
 }
 
 // A session of account 7 that can be resumed, on connection 1.
-fn phone(alloc: Global, sessions: &mut Sessions, pool: &mut Pool) -> Result<(), Fail>
+fn phone(rt: &impl Abort, alloc: Global, sessions: &mut Sessions, pool: &mut Pool)
     requires housed { IsHoused sessions.old.rows pool.old }
     requires made { pool.old.made ≡ 0 }
-    ensures housed { OnOk result (IsHoused sessions.new.rows pool.new) }
-    ensures made { OnOk result (pool.new.made ≤ 1) }
+    ensures housed { IsHoused sessions.new.rows pool.new }
+    ensures made { pool.new.made ≤ 1 }
 {
-    let bound = bound(alloc, sessions, pool, "phone", 1)?;
-    counted(sessions, bound.number)
+    let bound = bound(rt, alloc, sessions, pool, "phone", 1);
+    counted(rt, sessions, bound.number)
 }
 
 // Resumes on a connection that has no session.
 fn resumed(
+    rt: &impl Abort,
     sessions: &mut Sessions,
     pool: &mut Pool,
     previd: &str,
     h: u32,
     conn: u64,
-) -> Result<Result<ResumeOk, ResumeFault>, Fail>
+) -> Result<ResumeOk, ResumeFault>
     requires housed { IsHoused sessions.old.rows pool.old }
     requires made { pool.old.made < 1000 }
-    ensures housed { OnOk result (IsHoused sessions.new.rows pool.new) }
-    ensures made { OnOk result (pool.new.made ≤ pool.old.made + 1) }
+    ensures housed { IsHoused sessions.new.rows pool.new }
+    ensures made { pool.new.made ≤ pool.old.made + 1 }
 {
-    if sessions.by_conn(conn).is_some() {
-        return Err(Fail::from("the connection has a session"));
-    }
-    let queue = queue(sessions, pool)?;
-    Ok(sessions.resume(pool, previd, 7, h, conn, queue))
+    assert!(rt; sessions.by_conn(conn).is_none());
+    let queue = queue(sessions, pool).expect(rt, "memory");
+    sessions.resume(pool, previd, 7, h, conn, queue)
 }
 
 // The session on connection 1 is parked, time passes, and a session is asked for.
 fn parked(
+    rt: &impl Abort,
     sessions: &mut Sessions,
     pool: &mut Pool,
     wait: u64,
     previd: &str,
-) -> Result<(Option<Lost>, Result<ResumeOk, ResumeFault>), Fail>
+) -> (Option<Lost>, Result<ResumeOk, ResumeFault>)
     requires housed { IsHoused sessions.old.rows pool.old }
     requires made { pool.old.made ≤ 1 }
 {
     let lost = sessions.park(pool, 1, 1_000);
     sessions.expire(pool, 1_000u64.saturating_add(wait));
-    Ok((lost, resumed(sessions, pool, previd, 0, 2)?))
+    (lost, resumed(rt, sessions, pool, previd, 0, 2))
 }
 
 fn asked(
+    rt: &impl Abort,
     alloc: Global,
     wait: u64,
     previd: &str,
-) -> Result<(Option<Lost>, Result<ResumeOk, ResumeFault>), Fail> {
+) -> (Option<Lost>, Result<ResumeOk, ResumeFault>) {
     let (mut sessions, mut pool) = nobody(alloc, 10);
-    phone(alloc, &mut sessions, &mut pool)?;
-    parked(&mut sessions, &mut pool, wait, previd)
+    phone(rt, alloc, &mut sessions, &mut pool);
+    parked(rt, &mut sessions, &mut pool, wait, previd)
 }
 
 // Session 10 where it is resumed from its park.
@@ -138,41 +139,41 @@ static ASKED: [(u64, &str, bool); 5] = [
 ];
 
 #[test]
-fn parked_sessions_are_resumed_by_their_previd(rt: HostRuntime) -> Result<(), Fail> {
+fn parked_sessions_are_resumed_by_their_previd(rt: HostRuntime) {
     for (wait, previd, found) in ASKED {
         let answer = if found {
             Ok(PARKED)
         } else {
             Err(ResumeFault::UnknownPrevid)
         };
-        assert!(rt; asked(rt.alloc(), wait, previd)? == (Some(Lost::Parked(10)), answer));
+        assert!(rt; asked(&rt, rt.alloc(), wait, previd) == (Some(Lost::Parked(10)), answer));
     }
-    Ok(())
 }
 
 // A session that is attached is resumed with a count, which is told before.
 fn taken(
+    rt: &impl Abort,
     sessions: &mut Sessions,
     pool: &mut Pool,
     h: u32,
-) -> Result<(bool, Result<ResumeOk, ResumeFault>), Fail>
+) -> (bool, Result<ResumeOk, ResumeFault>)
     requires housed { IsHoused sessions.old.rows pool.old }
     requires made { pool.old.made ≤ 1 }
 {
     let told = sessions.would_resume(pool, "0000000000000001", 7, h);
-    let answer = resumed(sessions, pool, "0000000000000001", h, 2)?;
+    let answer = resumed(rt, sessions, pool, "0000000000000001", h, 2);
     let named = sessions.named("0000000000000001", 7).is_some();
-    Ok((told == answer && named == told.is_ok(), answer))
+    (told == answer && named == told.is_ok(), answer)
 }
 
-fn taken_over(alloc: Global, h: u32) -> Result<(bool, Result<ResumeOk, ResumeFault>), Fail> {
+fn taken_over(rt: &impl Abort, alloc: Global, h: u32) -> (bool, Result<ResumeOk, ResumeFault>) {
     let (mut sessions, mut pool) = nobody(alloc, 1);
-    phone(alloc, &mut sessions, &mut pool)?;
-    taken(&mut sessions, &mut pool, h)
+    phone(rt, alloc, &mut sessions, &mut pool);
+    taken(rt, &mut sessions, &mut pool, h)
 }
 
 #[test]
-fn attached_sessions_are_taken_over(rt: HostRuntime) -> Result<(), Fail> {
+fn attached_sessions_are_taken_over(rt: HostRuntime) {
     let taken = Ok(ResumeOk {
         number: 1,
         handled: 0,
@@ -183,61 +184,56 @@ fn attached_sessions_are_taken_over(rt: HostRuntime) -> Result<(), Fail> {
         send_count: 0,
         former: Some(1),
     });
-    assert!(rt;
-        taken_over(rt.alloc(), 0)? == (true, taken) && taken_over(rt.alloc(), 1)? == (true, refused)
-    );
-    Ok(())
+    assert!(rt; taken_over(&rt, rt.alloc(), 0) == (true, taken));
+    assert!(rt; taken_over(&rt, rt.alloc(), 1) == (true, refused));
 }
 
 // A second session of the account with a resource, and the account's sessions then.
 fn beside(
+    rt: &impl Abort,
     alloc: Global,
     sessions: &mut Sessions,
     pool: &mut Pool,
     resource: &str,
-) -> Result<(Option<Ended>, bool, bool), Fail>
+) -> (Option<Ended>, bool, bool)
     requires housed { IsHoused sessions.old.rows pool.old }
     requires made { pool.old.made ≤ 1 }
 {
-    let bound = bound(alloc, sessions, pool, resource, 2)?;
+    let bound = bound(rt, alloc, sessions, pool, resource, 2);
     let all = sessions.of_account(7) == [1, 2].as_slice()
         && sessions.by_name(7, "phone") == Some(1);
     let one = sessions.of_account(7) == [2].as_slice() && sessions.by_name(7, "phone") == Some(2);
-    Ok((bound.ended, all, one))
+    (bound.ended, all, one)
 }
 
-fn joined(alloc: Global, resource: &str) -> Result<(Option<Ended>, bool, bool), Fail> {
+fn joined(rt: &impl Abort, alloc: Global, resource: &str) -> (Option<Ended>, bool, bool) {
     let (mut sessions, mut pool) = nobody(alloc, 1);
-    phone(alloc, &mut sessions, &mut pool)?;
-    beside(alloc, &mut sessions, &mut pool, resource)
+    phone(rt, alloc, &mut sessions, &mut pool);
+    beside(rt, alloc, &mut sessions, &mut pool, resource)
 }
 
 #[test]
-fn accounts_have_their_sessions(rt: HostRuntime) -> Result<(), Fail> {
+fn accounts_have_their_sessions(rt: HostRuntime) {
     let older = Some(Ended {
         number: 1,
         conn: Some(1),
     });
-    assert!(rt;
-        joined(rt.alloc(), "pad")? == (None, true, false)
-            && joined(rt.alloc(), "phone")? == (older, false, true)
-    );
-    Ok(())
+    assert!(rt; joined(&rt, rt.alloc(), "pad") == (None, true, false));
+    assert!(rt; joined(&rt, rt.alloc(), "phone") == (older, false, true));
 }
 
 #[test]
-fn answers_are_printed(rt: HostRuntime) -> Result<(), Fail> {
+fn answers_are_printed(rt: HostRuntime) {
     let unknown = ResumeFault::UnknownPrevid;
     let high = ResumeFault::TooHigh {
         h: 3,
         send_count: 2,
         former: None,
     };
-    let text = format!(in rt.alloc(); "{AlreadyEnabled}, {unknown}, {high}")?;
+    let text = format!(in rt.alloc(); "{AlreadyEnabled}, {unknown}, {high}").expect(&rt, "memory");
     assert!(rt;
         text.as_str()
             == "the session's stanzas are counted already, no session to resume, 3 stanzas handled of 2 sent"
             && previd_text(10) == *b"000000000000000a"
     );
-    Ok(())
 }

@@ -1,29 +1,31 @@
 //! Submissions, what becomes of them, and their ids.
-use base_io::{NoMemory, Text};
+use base_io::Text;
 use sm_outbox::{SaidState, Submissions, origin_of};
 use std::alloc::Global;
-use std::test::Fail;
+use std::process::Abort;
 
-fn say(alloc: Global, submissions: &mut Submissions, text: &str) -> Result<(), NoMemory> {
-    let to = Text::from_str(alloc, "bob@chat.example")?;
-    let text = Text::from_str(alloc, text)?;
-    submissions.reserve()?;
-    submissions.say_reserved(to, text, false);
-    Ok(())
+fn text(rt: &impl Abort, alloc: Global, text: &str) -> Text {
+    Text::from_str(alloc, text).expect(rt, "memory")
+}
+
+fn say(rt: &impl Abort, alloc: Global, submissions: &mut Submissions, said: &str) {
+    submissions.reserve().expect(rt, "memory");
+    let to = text(rt, alloc, "bob@chat.example");
+    submissions.say_reserved(to, text(rt, alloc, said), false)
 }
 
 // Three submissions of the first epoch: one is acknowledged, two are undecided; and one of the second epoch, which waits.
-fn said(alloc: Global) -> Result<Submissions, NoMemory> {
+fn said(rt: &impl Abort, alloc: Global) -> Submissions {
     let mut submissions = Submissions::new(alloc);
     submissions.begin_epoch();
-    say(alloc, &mut submissions, "a")?;
-    say(alloc, &mut submissions, "b")?;
-    say(alloc, &mut submissions, "c")?;
+    say(rt, alloc, &mut submissions, "a");
+    say(rt, alloc, &mut submissions, "b");
+    say(rt, alloc, &mut submissions, "c");
     submissions.acknowledge(1);
     submissions.give_up();
     submissions.begin_epoch();
-    say(alloc, &mut submissions, "d")?;
-    Ok(submissions)
+    say(rt, alloc, &mut submissions, "d");
+    submissions
 }
 
 static STATES: [(u64, u64, SaidState); 4] = [
@@ -43,9 +45,8 @@ fn are_so(submissions: &Submissions) -> bool {
 }
 
 #[test]
-fn submissions_are_settled_once(rt: HostRuntime) -> Result<(), Fail> {
-    assert!(rt; are_so(&said(rt.alloc())?));
-    Ok(())
+fn submissions_are_settled_once(rt: HostRuntime) {
+    assert!(rt; are_so(&said(&rt, rt.alloc())));
 }
 
 // Ids, and whether they are those of the submissions.
@@ -60,17 +61,26 @@ static IDS: [(&str, bool); 8] = [
     ("", false),
 ];
 
-#[test]
-fn ids_are_of_submissions(rt: HostRuntime) -> Result<(), Fail> {
-    let submissions = said(rt.alloc())?;
+// Whether the ids are told so.
+fn are_told(submissions: &Submissions) -> bool {
+    let mut are_so = true;
     for (id, is_one) in IDS {
-        assert!(rt; submissions.is_submission("my.phone", id) == is_one);
+        are_so = are_so && submissions.is_submission("my.phone", id) == is_one;
     }
-    Ok(())
+    are_so
 }
 
 #[test]
-fn an_origin_id_is_spelled(rt: HostRuntime) -> Result<(), Fail> {
-    assert!(rt; origin_of(rt.alloc(), "my.phone", 2, 17)?.as_str() == "my.phone.2.17");
-    Ok(())
+fn ids_are_of_submissions(rt: HostRuntime) {
+    assert!(rt; are_told(&said(&rt, rt.alloc())));
+}
+
+fn is_text(text: Text, expected: &str) -> bool {
+    text.as_str() == expected
+}
+
+#[test]
+fn an_origin_id_is_spelled(rt: HostRuntime) {
+    let id = origin_of(rt.alloc(), "my.phone", 2, 17).expect(&rt, "memory");
+    assert!(rt; is_text(id, "my.phone.2.17"));
 }

@@ -1,42 +1,30 @@
 //! Streams behind a header, and the lines that are told of them.
-use base_io::{Bytes, NoMemory};
+use crate::made::{append, append_times};
+use base_io::Bytes;
 use std::alloc::Global;
-use std::test::Fail;
-use xml_check::check;
+use std::process::Abort;
+use xml_check::{Checked, check};
 
 static HEADER: &[u8] =
     b"<stream:stream to='chat.example' version='1.0' xmlns='jabber:client' xmlns:stream='http://etherx.jabber.org/streams'>";
 
+fn told(rt: &impl Abort, alloc: Global, input: Bytes) -> Checked {
+    check(alloc, input.as_slice()).expect(rt, "memory")
+}
+
 /// Whether a stream is told in this text, and sound or not.
-fn is_told(alloc: Global, input: &[u8], text: &[u8], sound: bool) -> Result<bool, NoMemory> {
-    let told = check(alloc, input)?;
-    Ok(told.text.as_slice() == text && told.sound == sound)
+fn is_told(told: Checked, text: Bytes, sound: bool) -> bool {
+    told.text.as_slice() == text.as_slice() && told.sound == sound
 }
 
-/// The header and three parts after it.
-fn behind_header(
-    alloc: Global,
-    first: &[u8],
-    second: &[u8],
-    third: &[u8],
-) -> Result<Bytes, NoMemory> {
-    let mut bytes = Bytes::from_slice(alloc, HEADER)?;
-    bytes.append(first)?;
-    bytes.append(second)?;
-    bytes.append(third)?;
-    Ok(bytes)
-}
-
-/// Whether a stream after the header, in two parts, is told in these lines after the header's line.
-fn is_told_behind(
-    alloc: Global,
-    stream: (&[u8], &str),
-    lines: (&[u8], &str),
-    sound: bool,
-) -> Result<bool, NoMemory> {
-    let input = behind_header(alloc, b"", stream.0, stream.1.as_bytes())?;
-    let text = behind_header(alloc, b"\n", lines.0, lines.1.as_bytes())?;
-    is_told(alloc, input.as_slice(), text.as_slice(), sound)
+/// The header, a part behind it so many times, and a last part. Before the times stands what ends the header's line.
+fn behind(rt: &impl Abort, alloc: Global, end: &str, part: (&str, usize), last: &str) -> Bytes {
+    let mut bytes = Bytes::new(alloc);
+    append(rt, &mut bytes, HEADER);
+    append(rt, &mut bytes, end.as_bytes());
+    append_times(rt, &mut bytes, part.0.as_bytes(), part.1);
+    append(rt, &mut bytes, last.as_bytes());
+    bytes
 }
 
 /// What stands behind the header, what is told behind the header's line, and whether nothing is wrong.
@@ -65,20 +53,12 @@ static STREAMS: [(&str, &str, bool); 9] = [
 ];
 
 #[test]
-fn streams_are_told(rt: HostRuntime) -> Result<(), Fail> {
+fn streams_are_told(rt: HostRuntime) {
+    let alloc = rt.alloc();
     for (stream, lines, sound) in &STREAMS {
-        assert!(rt; is_told_behind(rt.alloc(), (b"", stream), (b"", lines), *sound)?);
+        let told = told(&rt, alloc, behind(&rt, alloc, "", ("", 0), stream));
+        assert!(rt; is_told(told, behind(&rt, alloc, "\n", ("", 0), lines), *sound));
     }
-    Ok(())
-}
-
-/// So many times the same.
-fn repeated(alloc: Global, part: &str, times: usize) -> Result<Bytes, NoMemory> {
-    let mut all = Bytes::new(alloc);
-    for _ in 0..times {
-        all.append(part.as_bytes())?;
-    }
-    Ok(all)
 }
 
 /// What stands so often before a stream's end, and before the end of its lines.
@@ -103,29 +83,19 @@ static REPEATED: [(Repeated, (&str, &str, bool)); 5] = [
     ),
 ];
 
-fn is_told_repeated(
-    alloc: Global,
-    times: &Repeated,
-    stream: &str,
-    told: &str,
-    sound: bool,
-) -> Result<bool, NoMemory> {
-    let input = repeated(alloc, times.0, times.2)?;
-    let lines = repeated(alloc, times.1, times.2)?;
-    is_told_behind(
-        alloc,
-        (input.as_slice(), stream),
-        (lines.as_slice(), told),
-        sound,
-    )
-}
-
 #[test]
-fn streams_are_told_over_many_pieces(rt: HostRuntime) -> Result<(), Fail> {
-    for (times, (stream, told, sound)) in &REPEATED {
-        assert!(rt; is_told_repeated(rt.alloc(), times, stream, told, *sound)?);
+fn streams_are_told_over_many_pieces(rt: HostRuntime) {
+    let alloc = rt.alloc();
+    for ((part, lines, times), (stream, last, sound)) in &REPEATED {
+        let told = told(&rt, alloc, behind(&rt, alloc, "", (part, *times), stream));
+        assert!(rt;
+            is_told(
+                told,
+                behind(&rt, alloc, "\n", (lines, *times), last),
+                *sound
+            )
+        );
     }
-    Ok(())
 }
 
 /// Headers of another content namespace, and what is told.
@@ -137,10 +107,15 @@ static STRANGE: [(&str, &str); 2] = [
     ("<a/>", "fault 0 InvalidNamespace\n"),
 ];
 
+fn bytes(rt: &impl Abort, alloc: Global, text: &str) -> Bytes {
+    Bytes::from_slice(alloc, text.as_bytes()).expect(rt, "memory")
+}
+
 #[test]
-fn strange_headers_end_what_is_told(rt: HostRuntime) -> Result<(), Fail> {
+fn strange_headers_end_what_is_told(rt: HostRuntime) {
+    let alloc = rt.alloc();
     for (input, text) in &STRANGE {
-        assert!(rt; is_told(rt.alloc(), input.as_bytes(), text.as_bytes(), false)?);
+        let told = told(&rt, alloc, bytes(&rt, alloc, input));
+        assert!(rt; is_told(told, bytes(&rt, alloc, text), false));
     }
-    Ok(())
 }

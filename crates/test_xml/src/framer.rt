@@ -2,9 +2,10 @@
 ghost use Rattle.std.specs.Prelude.{◌≤◌};
 ghost use Rattle.xml_framer.specs.declared.limits.TheConstants.{MOST_DEPTH};
 
+use crate::made::{append, append_times, shows};
 use base_io::{Bytes, NoMemory};
 use std::alloc::Global;
-use std::test::Fail;
+use std::process::Abort;
 use xml_framer::{Fault, FeedFault, Framer, Item, Items, Limits, Why};
 use xml_writer::{write, write_footer, write_header};
 
@@ -13,40 +14,22 @@ type Told = (Option<Fault>, Option<u64>, usize);
 
 /// Feeds bytes in pieces of so many, and gives room back behind each. Of several faults the last is answered.
 fn feed_all(
+    rt: &impl Abort,
     framer: &mut Framer,
     items: &mut Items,
     bytes: &[u8],
     step: usize,
-) -> Result<Option<Fault>, NoMemory> {
+) -> Option<Fault> {
     let mut last = None;
     for piece in bytes.chunks(step.max(1)) {
         match framer.feed(piece, items) {
             Ok(()) => {}
             Err(FeedFault::Fault(fault)) => last = Some(fault),
-            Err(FeedFault::NoMemory) => return Err(NoMemory),
+            Err(FeedFault::NoMemory) => panic!(rt; "memory"),
         }
         framer.slim();
     }
-    Ok(last)
-}
-
-/// What comes of bytes, the first of which are fed at once, and the others in pieces of so many. The items are written.
-fn told(
-    alloc: Global,
-    limits: Limits,
-    first: &[u8],
-    others: (&[u8], usize),
-    out: &mut Bytes,
-) -> Result<Told, NoMemory>
-    requires bytes { 1 ≤ limits.bytes }
-    requires depth { limits.depth ≤ MOST_DEPTH }
-{
-    let mut framer = Framer::new(alloc, limits);
-    let mut items = Items::new(alloc);
-    feed_all(&mut framer, &mut items, first, first.len())?;
-    let fault = feed_all(&mut framer, &mut items, others.0, others.1)?;
-    append_items(&items, out)?;
-    Ok((fault, framer.part(), items.as_slice().len()))
+    last
 }
 
 fn append_item(out: &mut Bytes, item: &Item) -> Result<(), NoMemory> {
@@ -57,137 +40,164 @@ fn append_item(out: &mut Bytes, item: &Item) -> Result<(), NoMemory> {
     }
 }
 
-fn append_items(items: &Items, out: &mut Bytes) -> Result<(), NoMemory> {
+fn append_items(rt: &impl Abort, items: &Items, out: &mut Bytes) {
     for item in items.as_slice() {
-        append_item(out, item)?;
-        out.append(b"\n")?;
+        append_item(out, item).expect(rt, "memory");
+        append(rt, out, b"\n");
     }
-    Ok(())
 }
 
-/// The fault of a stream, the second part of which comes a byte at a time.
-fn fault_of(
+/// What comes of bytes, the first of which are fed at once, and the others in pieces of so many. The items are written.
+fn told(
+    rt: &impl Abort,
     alloc: Global,
     limits: Limits,
     first: &[u8],
-    others: &[u8],
-) -> Result<Option<Fault>, NoMemory>
+    others: (&[u8], usize),
+    out: &mut Bytes,
+) -> Told
     requires bytes { 1 ≤ limits.bytes }
     requires depth { limits.depth ≤ MOST_DEPTH }
 {
-    Ok(told(alloc, limits, first, (others, 1), &mut Bytes::new(alloc))?.0)
+    let mut framer = Framer::new(alloc, limits);
+    let mut items = Items::new(alloc);
+    feed_all(rt, &mut framer, &mut items, first, first.len());
+    let fault = feed_all(rt, &mut framer, &mut items, others.0, others.1);
+    append_items(rt, &items, out);
+    (fault, framer.part(), items.as_slice().len())
+}
+
+/// What comes of a stream, the second part of which comes a byte at a time.
+fn told_of(rt: &impl Abort, alloc: Global, limits: Limits, first: &[u8], others: &[u8]) -> Told
+    requires bytes { 1 ≤ limits.bytes }
+    requires depth { limits.depth ≤ MOST_DEPTH }
+{
+    told(
+        rt,
+        alloc,
+        limits,
+        first,
+        (others, 1),
+        &mut Bytes::new(alloc),
+    )
 }
 
 /// A fault at a place behind a header of so many bytes.
 fn behind(header: &[u8], found: Option<(u64, Why)>) -> Option<Fault> {
-    match found {
-        Some((at, why)) => Some(Fault {
-            at: at.saturating_add(header.len() as u64),
-            why,
-        }),
-        None => None,
-    }
+    let (at, why) = found?;
+    Some(Fault {
+        at: at.saturating_add(header.len() as u64),
+        why,
+    })
 }
 
 static HEADER: &[u8] =
     b"<stream:stream to='chat.example' version='1.0' xmlns='jabber:client' xmlns:stream='http://etherx.jabber.org/streams'>";
 
-/// What stands behind the header, and the fault.
-static FAULTS: [(&[u8], u64, Why); 62] = [
+/// What stands behind a header, and the fault.
+type Row = (&'static [u8], Option<(u64, Why)>);
+
+static FAULTS: [Row; 62] = [
     // restricted
-    (b"<!-- x -->", 0, Why::Restricted),
-    (b"<a><!-- x -->", 3, Why::Restricted),
-    (b"<a>b<!D", 4, Why::Restricted),
-    (b"<a><![CDATb", 3, Why::Restricted),
-    (b"<a><?b", 3, Why::Restricted),
-    (b" <?x ", 1, Why::Restricted),
-    (b"<?xml?", 0, Why::Restricted),
-    (b"<?xml version='1.0'?><?", 21, Why::Restricted),
-    (b"<a>b&nbsp;", 4, Why::Restricted),
-    (b"<a b='&nbsp;'>", 0, Why::Restricted),
-    (b"<a b='&nbsp;' b='<'/>", 0, Why::Restricted),
+    (b"<!-- x -->", Some((0, Why::Restricted))),
+    (b"<a><!-- x -->", Some((3, Why::Restricted))),
+    (b"<a>b<!D", Some((4, Why::Restricted))),
+    (b"<a><![CDATb", Some((3, Why::Restricted))),
+    (b"<a><?b", Some((3, Why::Restricted))),
+    (b" <?x ", Some((1, Why::Restricted))),
+    (b"<?xml?", Some((0, Why::Restricted))),
+    (b"<?xml version='1.0'?><?", Some((21, Why::Restricted))),
+    (b"<a>b&nbsp;", Some((4, Why::Restricted))),
+    (b"<a b='&nbsp;'>", Some((0, Why::Restricted))),
+    (b"<a b='&nbsp;' b='<'/>", Some((0, Why::Restricted))),
     // not UTF-8
-    (b"<a>b\xff", 3, Why::Encoding),
-    (b"<a>b\xc3<", 3, Why::Encoding),
-    (b"<a>&amp;\xed\xa0", 8, Why::Encoding),
-    (b" \xc3 ", 0, Why::Encoding),
-    (b"<!\xff", 0, Why::Encoding),
-    (b"<a><![CDATA[\x80", 3, Why::Encoding),
-    (b"<?xml version='1.0' encoding='x'?>", 0, Why::Encoding),
-    (b"<?xml version='1.0' encoding=''?>", 0, Why::Encoding),
+    (b"<a>b\xff", Some((3, Why::Encoding))),
+    (b"<a>b\xc3<", Some((3, Why::Encoding))),
+    (b"<a>&amp;\xed\xa0", Some((8, Why::Encoding))),
+    (b" \xc3 ", Some((0, Why::Encoding))),
+    (b"<!\xff", Some((0, Why::Encoding))),
+    (b"<a><![CDATA[\x80", Some((3, Why::Encoding))),
+    (
+        b"<?xml version='1.0' encoding='x'?>",
+        Some((0, Why::Encoding)),
+    ),
+    (
+        b"<?xml version='1.0' encoding=''?>",
+        Some((0, Why::Encoding)),
+    ),
     (
         b"<?xml version='1.0' a:b='1' encoding='x'?>",
-        0,
-        Why::Encoding,
+        Some((0, Why::Encoding)),
     ),
     (
         b"<?xml version='1.0' \xc3\xa9='1' encoding='x'?>",
-        0,
-        Why::Encoding,
+        Some((0, Why::Encoding)),
     ),
     // not well formed
-    (b"<?xml version='1.1'?>", 0, Why::NotWellFormed),
-    (b"<?xml encoding='UTF-8'?>", 0, Why::NotWellFormed),
-    (b"<a>&b:c;", 3, Why::NotWellFormed),
-    (b"<a>x&;", 4, Why::NotWellFormed),
-    (b"<a>x&#X41;", 4, Why::NotWellFormed),
-    (b"<a>x&#0;", 4, Why::NotWellFormed),
-    (b"<a>x&#xFFFE;", 4, Why::NotWellFormed),
-    (b" &amp;", 1, Why::NotWellFormed),
-    (b"<a>x\x01", 3, Why::NotWellFormed),
-    (b"<a>x\xef\xbf\xbe", 3, Why::NotWellFormed),
-    (b"<a>x<![CDATA[y\x02", 4, Why::NotWellFormed),
-    (b"<a>x]]>", 3, Why::NotWellFormed),
-    (b"<a>&amp;x]]]>", 8, Why::NotWellFormed),
-    (b" x", 0, Why::NotWellFormed),
-    (b"\n \xc3\xa9", 0, Why::NotWellFormed),
-    (b" <![CDATA[", 1, Why::NotWellFormed),
-    (b"<>", 0, Why::NotWellFormed),
-    (b"<a b>", 0, Why::NotWellFormed),
-    (b"<a b='<'>", 0, Why::NotWellFormed),
-    (b"<a b='&b'>", 0, Why::NotWellFormed),
-    (b"<a b='1' b='2'>", 0, Why::NotWellFormed),
+    (b"<?xml version='1.1'?>", Some((0, Why::NotWellFormed))),
+    (b"<?xml encoding='UTF-8'?>", Some((0, Why::NotWellFormed))),
+    (b"<a>&b:c;", Some((3, Why::NotWellFormed))),
+    (b"<a>x&;", Some((4, Why::NotWellFormed))),
+    (b"<a>x&#X41;", Some((4, Why::NotWellFormed))),
+    (b"<a>x&#0;", Some((4, Why::NotWellFormed))),
+    (b"<a>x&#xFFFE;", Some((4, Why::NotWellFormed))),
+    (b" &amp;", Some((1, Why::NotWellFormed))),
+    (b"<a>x\x01", Some((3, Why::NotWellFormed))),
+    (b"<a>x\xef\xbf\xbe", Some((3, Why::NotWellFormed))),
+    (b"<a>x<![CDATA[y\x02", Some((4, Why::NotWellFormed))),
+    (b"<a>x]]>", Some((3, Why::NotWellFormed))),
+    (b"<a>&amp;x]]]>", Some((8, Why::NotWellFormed))),
+    (b" x", Some((0, Why::NotWellFormed))),
+    (b"\n \xc3\xa9", Some((0, Why::NotWellFormed))),
+    (b" <![CDATA[", Some((1, Why::NotWellFormed))),
+    (b"<>", Some((0, Why::NotWellFormed))),
+    (b"<a b>", Some((0, Why::NotWellFormed))),
+    (b"<a b='<'>", Some((0, Why::NotWellFormed))),
+    (b"<a b='&b'>", Some((0, Why::NotWellFormed))),
+    (b"<a b='1' b='2'>", Some((0, Why::NotWellFormed))),
     (
         b"<a xmlns:p='n' xmlns:q='n' p:b='' q:b=''>",
-        0,
-        Why::NotWellFormed,
+        Some((0, Why::NotWellFormed)),
     ),
-    (b"<a></b>", 3, Why::NotWellFormed),
-    (b"<a></a b>", 3, Why::NotWellFormed),
-    (b"<p:a>", 0, Why::NotWellFormed),
-    (b"<a xmlns:p=''>", 0, Why::NotWellFormed),
-    (b"<a xmlns:xmlns='b'>", 0, Why::NotWellFormed),
-    (b"<a xmlns:xml='b'>", 0, Why::NotWellFormed),
+    (b"<a></b>", Some((3, Why::NotWellFormed))),
+    (b"<a></a b>", Some((3, Why::NotWellFormed))),
+    (b"<p:a>", Some((0, Why::NotWellFormed))),
+    (b"<a xmlns:p=''>", Some((0, Why::NotWellFormed))),
+    (b"<a xmlns:xmlns='b'>", Some((0, Why::NotWellFormed))),
+    (b"<a xmlns:xml='b'>", Some((0, Why::NotWellFormed))),
     (
         b"<a xmlns:b='http://www.w3.org/XML/1998/namespace'>",
-        0,
-        Why::NotWellFormed,
+        Some((0, Why::NotWellFormed)),
     ),
-    (b"<a xmlns:b='n'><b:a/></a><b:a/>", 25, Why::NotWellFormed),
-    (b"<stream:stream>", 0, Why::NotWellFormed),
-    (b"<?xml version='1.0'?><a>", 21, Why::NotWellFormed),
+    (
+        b"<a xmlns:b='n'><b:a/></a><b:a/>",
+        Some((25, Why::NotWellFormed)),
+    ),
+    (b"<stream:stream>", Some((0, Why::NotWellFormed))),
+    (b"<?xml version='1.0'?><a>", Some((21, Why::NotWellFormed))),
     (
         b"<?xml version='1.0'?></stream:stream>",
-        21,
-        Why::NotWellFormed,
+        Some((21, Why::NotWellFormed)),
     ),
-    (b"</stream:strea >", 0, Why::NotWellFormed),
-    (b"</stream:streams>", 0, Why::NotWellFormed),
-    (b"</stream:stream x>", 0, Why::NotWellFormed),
-    (b"</stream:stream '>'>", 0, Why::NotWellFormed),
-    (b"</stream:stream> <a/>", 17, Why::NotWellFormed),
-    (b"</stream:stream></stream:stream>", 16, Why::NotWellFormed),
-    (b"</stream:stream><?", 16, Why::Restricted),
-    (b"</stream:stream>\tx", 16, Why::NotWellFormed),
+    (b"</stream:strea >", Some((0, Why::NotWellFormed))),
+    (b"</stream:streams>", Some((0, Why::NotWellFormed))),
+    (b"</stream:stream x>", Some((0, Why::NotWellFormed))),
+    (b"</stream:stream '>'>", Some((0, Why::NotWellFormed))),
+    (b"</stream:stream> <a/>", Some((17, Why::NotWellFormed))),
+    (
+        b"</stream:stream></stream:stream>",
+        Some((16, Why::NotWellFormed)),
+    ),
+    (b"</stream:stream><?", Some((16, Why::Restricted))),
+    (b"</stream:stream>\tx", Some((16, Why::NotWellFormed))),
 ];
 
 #[test]
-fn each_fault_has_its_place(rt: HostRuntime) -> Result<(), Fail> {
-    for (bytes, at, why) in &FAULTS {
-        let fault = fault_of(rt.alloc(), Limits::server(), HEADER, bytes)?;
-        assert!(rt; fault == behind(HEADER, Some((*at, *why))));
+fn each_fault_has_its_place(rt: HostRuntime) {
+    for (bytes, found) in &FAULTS {
+        let (fault, _, _) = told_of(&rt, rt.alloc(), Limits::server(), HEADER, bytes);
+        assert!(rt; fault == behind(HEADER, *found));
     }
-    Ok(())
 }
 
 /// A stream that uses every token, and its items.
@@ -198,26 +208,26 @@ const WRITTEN: &str =
     "<stream:stream from='a' xml:lang='en' xmlns='jabber:client' xmlns:stream='http://etherx.jabber.org/streams'>\n<message a='&lt;A ' b='1'><body xmlns='urn:b'>\u{e9}\n&amp;\n]]&gt;&lt;b&gt;]]\n]<\u{20ac}/></body>\u{1f600}<y xmlns='urn:x' xmlns:a0='urn:x' a0:z=''/></message>\n<stream:stream xmlns='jabber:client' xmlns:stream='http://etherx.jabber.org/streams'>\n<a xmlns=''/>\n</stream:stream>\n";
 
 /// Whether a stream that is cut in two has these items, and neither a fault nor anything unfinished.
-fn is_read(alloc: Global, stream: &[u8], cut: usize, written: &[u8]) -> Result<bool, NoMemory> {
+fn is_read(rt: &impl Abort, alloc: Global, stream: &[u8], cut: usize, written: &[u8]) -> bool {
     let (first, others) = stream.split_at(cut.min(stream.len()));
     let mut out = Bytes::new(alloc);
-    let told = told(
+    let (fault, part, items) = told(
+        rt,
         alloc,
         Limits::client(),
         first,
         (others, others.len()),
         &mut out,
-    )?;
-    Ok(told == (None, None, 5) && out.as_slice() == written)
+    );
+    fault == None && part == None && items == 5 && out.as_slice() == written
 }
 
 #[test]
-fn every_cut_gives_the_same(rt: HostRuntime) -> Result<(), Fail> {
+fn every_cut_gives_the_same(rt: HostRuntime) {
     let stream = STREAM.as_bytes();
     for cut in 0..stream.len() + 1 {
-        assert!(rt; is_read(rt.alloc(), stream, cut, WRITTEN.as_bytes())?);
+        assert!(rt; is_read(&rt, rt.alloc(), stream, cut, WRITTEN.as_bytes()));
     }
-    Ok(())
 }
 
 /// A part that stands so often between two others, and the fault.
@@ -234,30 +244,25 @@ static LARGEST: [(&str, Repeated); 4] = [
     ("", ("<a>", 33, "", Some((96, Why::TooDeep)))),
 ];
 
-fn repeated(alloc: Global, before: &str, inside: &Repeated) -> Result<Bytes, NoMemory> {
-    let mut out = Bytes::from_slice(alloc, before.as_bytes())?;
-    for _ in 0..inside.1 {
-        out.append(inside.0.as_bytes())?;
-    }
-    out.append(inside.2.as_bytes())?;
-    Ok(out)
+fn repeated(rt: &impl Abort, alloc: Global, before: &str, inside: &Repeated) -> Bytes {
+    let mut out = Bytes::new(alloc);
+    append(rt, &mut out, before.as_bytes());
+    append_times(rt, &mut out, inside.0.as_bytes(), inside.1);
+    append(rt, &mut out, inside.2.as_bytes());
+    out
 }
 
-fn repeated_fault(
-    alloc: Global,
-    before: &str,
-    inside: &Repeated,
-) -> Result<Option<Fault>, NoMemory> {
-    let bytes = repeated(alloc, before, inside)?;
-    fault_of(alloc, Limits::server(), HEADER, bytes.as_slice())
+fn fault_in(rt: &impl Abort, alloc: Global, bytes: Bytes) -> Option<Fault> {
+    told_of(rt, alloc, Limits::server(), HEADER, bytes.as_slice()).0
 }
 
 #[test]
-fn elements_are_as_large_as_the_limits(rt: HostRuntime) -> Result<(), Fail> {
+fn elements_are_as_large_as_the_limits(rt: HostRuntime) {
+    let alloc = rt.alloc();
     for (before, inside) in &LARGEST {
-        assert!(rt; repeated_fault(rt.alloc(), before, inside)? == behind(HEADER, inside.3));
+        let fault = fault_in(&rt, alloc, repeated(&rt, alloc, before, inside));
+        assert!(rt; fault == behind(HEADER, inside.3));
     }
-    Ok(())
 }
 
 const SMALL: Limits = Limits {
@@ -270,7 +275,7 @@ const SMALL: Limits = Limits {
 static SHORT_HEADER: &[u8] = b"<a:a xmlns:a='n'>";
 
 /// What stands behind the header under small limits, and the fault.
-static LIMITED: [(&[u8], Option<(u64, Why)>); 18] = [
+static LIMITED: [Row; 18] = [
     (b"<a b='' c=''/>", None),
     (b"<a b='' c='' d=''/>", Some((0, Why::TooManyAttributes))),
     (
@@ -313,12 +318,11 @@ static LIMITED: [(&[u8], Option<(u64, Why)>); 18] = [
 ];
 
 #[test]
-fn each_limit_is_told_past_its_bound(rt: HostRuntime) -> Result<(), Fail> {
-    for (bytes, expected) in &LIMITED {
-        let fault = fault_of(rt.alloc(), SMALL, SHORT_HEADER, bytes)?;
-        assert!(rt; fault == behind(SHORT_HEADER, *expected));
+fn each_limit_is_told_past_its_bound(rt: HostRuntime) {
+    for (bytes, found) in &LIMITED {
+        let (fault, _, _) = told_of(&rt, rt.alloc(), SMALL, SHORT_HEADER, bytes);
+        assert!(rt; fault == behind(SHORT_HEADER, *found));
     }
-    Ok(())
 }
 
 /// The unfinished part after some bytes.
@@ -339,31 +343,33 @@ static PARTS: [(&[u8], Option<u64>); 14] = [
     (b"<a:a xmlns:a='n'><b>&c", Some(17)),
 ];
 
-fn part_of(alloc: Global, bytes: &[u8]) -> Result<Option<u64>, NoMemory> {
-    let mut out = Bytes::new(alloc);
-    Ok(told(alloc, Limits::server(), bytes, (&[], 1), &mut out)?.1)
-}
-
 #[test]
-fn the_unfinished_part_is_told(rt: HostRuntime) -> Result<(), Fail> {
+fn the_unfinished_part_is_told(rt: HostRuntime) {
     for (bytes, part) in &PARTS {
-        assert!(rt; part_of(rt.alloc(), bytes)? == *part);
+        let (_, told, _) = told_of(&rt, rt.alloc(), Limits::server(), bytes, &[]);
+        assert!(rt; told == *part);
     }
-    Ok(())
 }
 
-/// A fault with an item before it, and an element after it.
-static FAULTY: (&[u8], &[u8]) = (b"<a:a xmlns:a='n'><b/>x<b/>", b"<b/>");
-
-fn faulty(alloc: Global) -> Result<Told, NoMemory> {
-    let mut out = Bytes::new(alloc);
-    told(alloc, Limits::server(), FAULTY.0, (FAULTY.1, 4), &mut out)
-}
+/// A fault with an item before it, and elements after it.
+const FAULTY: (&[u8], &[u8]) = (b"<a:a xmlns:a='n'><b/>x<b/>", b"<b/>");
 
 // A fault is told again, and no item comes after it.
 #[test]
-fn a_fault_stays(rt: HostRuntime) -> Result<(), Fail> {
-    let fault = behind(&[], Some((21, Why::NotWellFormed)));
-    assert!(rt; faulty(rt.alloc())? == (fault, None, 2));
-    Ok(())
+fn a_fault_stays(rt: HostRuntime) {
+    let alloc = rt.alloc();
+    let told = told(
+        &rt,
+        alloc,
+        Limits::server(),
+        FAULTY.0,
+        (FAULTY.1, 4),
+        &mut Bytes::new(alloc),
+    );
+    shows(
+        &rt,
+        alloc,
+        told,
+        "(Some(Fault { at: 21, why: NotWellFormed }), None, 2)",
+    );
 }

@@ -7,6 +7,8 @@ mod checks;
 #[cfg(test)]
 mod framer;
 #[cfg(test)]
+mod made;
+#[cfg(test)]
 mod starts;
 #[cfg(test)]
 mod tags;

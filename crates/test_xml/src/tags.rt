@@ -1,125 +1,107 @@
 //! Tags as they are spelled, declarations and UTF-8.
-use std::alloc::Global;
-use xml_tokens::{
-    Declaration, PartialCharacter, RawAttribute, RawTag, StartTag, TagFault, TagWhy,
-    read_declaration, read_tag,
-};
+use crate::made::shows;
+use xml_tokens::{Declaration, PartialCharacter, read_declaration, read_tag};
 
-/// A name and a value for each attribute.
-type Said = &'static [(&'static str, &'static str)];
-
-fn is_said(attribute: Option<&RawAttribute>, said: (&str, &str)) -> bool {
-    match attribute {
-        Some(given) => given.name == said.0 && given.value.as_str() == said.1,
-        None => false,
-    }
-}
-
-fn are_said(attributes: &[RawAttribute], said: Said) -> bool {
-    for (i, one) in said.iter().enumerate() {
-        if !is_said(attributes.get(i), *one) {
-            return false;
-        }
-    }
-    attributes.len() == said.len()
-}
-
-fn says(tag: &StartTag, name: &str, said: Said, empty: bool) -> bool {
-    tag.name == name && tag.empty == empty && are_said(tag.attributes.as_slice(), said)
-}
-
-fn is_read(alloc: Global, bytes: &[u8], name: &str, said: Said) -> bool {
-    match read_tag(alloc, bytes) {
-        Ok(RawTag::Start(tag)) => says(&tag, name, said, bytes.ends_with(b"/>")),
-        Ok(RawTag::End(ended)) => ended == name && said.is_empty(),
-        Err(_) => false,
-    }
-}
-
-static READ: [(&[u8], &str, Said); 13] = [
-    (b"<a>", "a", &[]),
-    (b"</a >", "a", &[]),
-    (b"<a b='1'  c = \"2\"/>", "a", &[("b", "1"), ("c", "2")]),
-    (b"<a b='1\n'\nc='2'\t/>", "a", &[("b", "1 "), ("c", "2")]),
-    (b"<a b='x\r\ny\tz\nw\rq'/>", "a", &[("b", "x y z w q")]),
-    (b"<a b='\r\r\n\n&#10;'/>", "a", &[("b", "   \n")]),
-    (b"<a b='&#xD;&#x9;&#10;'/>", "a", &[("b", "\r\t\n")]),
+/// Tags, and what is read of them.
+static READ: [(&[u8], &str); 13] = [
+    (
+        b"<a>",
+        r#"Ok(Start(StartTag { name: "a", attributes: [], empty: false }))"#,
+    ),
+    (b"</a >", r#"Ok(End("a"))"#),
+    (
+        b"<a b='1'  c = \"2\"/>",
+        r#"Ok(Start(StartTag { name: "a", attributes: [RawAttribute { name: "b", value: "1" }, RawAttribute { name: "c", value: "2" }], empty: true }))"#,
+    ),
+    (
+        b"<a b='1\n'\nc='2'\t/>",
+        r#"Ok(Start(StartTag { name: "a", attributes: [RawAttribute { name: "b", value: "1 " }, RawAttribute { name: "c", value: "2" }], empty: true }))"#,
+    ),
+    (
+        b"<a b='x\r\ny\tz\nw\rq'/>",
+        r#"Ok(Start(StartTag { name: "a", attributes: [RawAttribute { name: "b", value: "x y z w q" }], empty: true }))"#,
+    ),
+    (
+        b"<a b='\r\r\n\n&#10;'/>",
+        r#"Ok(Start(StartTag { name: "a", attributes: [RawAttribute { name: "b", value: "   \n" }], empty: true }))"#,
+    ),
+    (
+        b"<a b='&#xD;&#x9;&#10;'/>",
+        r#"Ok(Start(StartTag { name: "a", attributes: [RawAttribute { name: "b", value: "\r\t\n" }], empty: true }))"#,
+    ),
     (
         b"<a b='&lt;&amp;lt;&gt;&apos;&quot;>'/>",
-        "a",
-        &[("b", "<&lt;>'\">")],
+        r#"Ok(Start(StartTag { name: "a", attributes: [RawAttribute { name: "b", value: "<&lt;>'\">" }], empty: true }))"#,
     ),
-    (b"<a b='&#x1F600;'/>", "a", &[("b", "\u{1F600}")]),
-    (b"<\xC3\xA9 b='\xC3\xA9'/>", "\u{E9}", &[("b", "\u{E9}")]),
-    (b"<p:a xmlns:p='u'>", "p:a", &[("xmlns:p", "u")]),
-    (b"<a b='\xEF\xBF\xBD'/>", "a", &[("b", "\u{FFFD}")]),
+    (
+        b"<a b='&#x1F600;'/>",
+        r#"Ok(Start(StartTag { name: "a", attributes: [RawAttribute { name: "b", value: "😀" }], empty: true }))"#,
+    ),
+    (
+        b"<\xC3\xA9 b='\xC3\xA9'/>",
+        r#"Ok(Start(StartTag { name: "é", attributes: [RawAttribute { name: "b", value: "é" }], empty: true }))"#,
+    ),
+    (
+        b"<p:a xmlns:p='u'>",
+        r#"Ok(Start(StartTag { name: "p:a", attributes: [RawAttribute { name: "xmlns:p", value: "u" }], empty: false }))"#,
+    ),
+    (
+        b"<a b='\xEF\xBF\xBD'/>",
+        r#"Ok(Start(StartTag { name: "a", attributes: [RawAttribute { name: "b", value: "�" }], empty: true }))"#,
+    ),
     (
         b"<a i='' h='' g='' f='' e='' d='' c='' b='' j=''/>",
-        "a",
-        &[
-            ("i", ""),
-            ("h", ""),
-            ("g", ""),
-            ("f", ""),
-            ("e", ""),
-            ("d", ""),
-            ("c", ""),
-            ("b", ""),
-            ("j", ""),
-        ],
+        r#"Ok(Start(StartTag { name: "a", attributes: [RawAttribute { name: "i", value: "" }, RawAttribute { name: "h", value: "" }, RawAttribute { name: "g", value: "" }, RawAttribute { name: "f", value: "" }, RawAttribute { name: "e", value: "" }, RawAttribute { name: "d", value: "" }, RawAttribute { name: "c", value: "" }, RawAttribute { name: "b", value: "" }, RawAttribute { name: "j", value: "" }], empty: true }))"#,
     ),
 ];
 
 #[test]
 fn tags_are_read(rt: HostRuntime) {
-    for (bytes, name, said) in &READ {
-        assert!(rt; is_read(rt.alloc(), bytes, name, said));
+    for (bytes, read) in &READ {
+        shows(&rt, rt.alloc(), read_tag(rt.alloc(), bytes), read);
     }
 }
 
-fn refusal(alloc: Global, bytes: &[u8]) -> Option<TagWhy> {
-    match read_tag(alloc, bytes) {
-        Err(TagFault::Refused(why)) => Some(why),
-        _ => None,
-    }
-}
-
-static REFUSED: [(&[u8], TagWhy); 26] = [
-    (b"</a b='1'>", TagWhy::NotWellFormed),
-    (b"</a b='&x;'>", TagWhy::NotWellFormed),
-    (b"<a b='<'/>", TagWhy::NotWellFormed),
-    (b"<a b='1'c='2'/>", TagWhy::NotWellFormed),
-    (b"<a b='1' b='2'/>", TagWhy::NotWellFormed),
+/// Tags that are refused, and why.
+static REFUSED: [(&[u8], &str); 26] = [
+    (b"</a b='1'>", "Err(Refused(NotWellFormed))"),
+    (b"</a b='&x;'>", "Err(Refused(NotWellFormed))"),
+    (b"<a b='<'/>", "Err(Refused(NotWellFormed))"),
+    (b"<a b='1'c='2'/>", "Err(Refused(NotWellFormed))"),
+    (b"<a b='1' b='2'/>", "Err(Refused(NotWellFormed))"),
     (
         b"<a i='' h='' g='' f='' e='' d='' c='' b='' i=''/>",
-        TagWhy::NotWellFormed,
+        "Err(Refused(NotWellFormed))",
     ),
-    (b"<a b=1/>", TagWhy::NotWellFormed),
-    (b"<a b/>", TagWhy::NotWellFormed),
-    (b"<a/ >", TagWhy::NotWellFormed),
-    (b"< a/>", TagWhy::NotWellFormed),
-    (b"<1a/>", TagWhy::NotWellFormed),
-    (b"<p:1a/>", TagWhy::NotWellFormed),
-    (b"<a -b='1'/>", TagWhy::NotWellFormed),
-    (b"<a b='&#X41;'/>", TagWhy::NotWellFormed),
-    (b"<a b='&#xFFFE;'/>", TagWhy::NotWellFormed),
-    (b"<a b='&#0;'/>", TagWhy::NotWellFormed),
-    (b"<a b='&#99999999999999999999;'/>", TagWhy::NotWellFormed),
-    (b"<a b='&;'/>", TagWhy::NotWellFormed),
-    (b"<a b='& '/>", TagWhy::NotWellFormed),
-    (b"<a b='\x01'/>", TagWhy::NotWellFormed),
-    (b"<a b='\xEF\xBF\xBE'/>", TagWhy::NotWellFormed),
-    (b"<a b='\xC0\x80'/>", TagWhy::NotWellFormed),
-    (b"<a b='\xED\xA0\x80'/>", TagWhy::NotWellFormed),
-    (b"<a &nbsp; b='1'/>", TagWhy::NotWellFormed),
-    (b"<a b='&nbsp;'/>", TagWhy::Restricted),
-    (b"<1a b='&; &nbsp;' b=1>", TagWhy::Restricted),
+    (b"<a b=1/>", "Err(Refused(NotWellFormed))"),
+    (b"<a b/>", "Err(Refused(NotWellFormed))"),
+    (b"<a/ >", "Err(Refused(NotWellFormed))"),
+    (b"< a/>", "Err(Refused(NotWellFormed))"),
+    (b"<1a/>", "Err(Refused(NotWellFormed))"),
+    (b"<p:1a/>", "Err(Refused(NotWellFormed))"),
+    (b"<a -b='1'/>", "Err(Refused(NotWellFormed))"),
+    (b"<a b='&#X41;'/>", "Err(Refused(NotWellFormed))"),
+    (b"<a b='&#xFFFE;'/>", "Err(Refused(NotWellFormed))"),
+    (b"<a b='&#0;'/>", "Err(Refused(NotWellFormed))"),
+    (
+        b"<a b='&#99999999999999999999;'/>",
+        "Err(Refused(NotWellFormed))",
+    ),
+    (b"<a b='&;'/>", "Err(Refused(NotWellFormed))"),
+    (b"<a b='& '/>", "Err(Refused(NotWellFormed))"),
+    (b"<a b='\x01'/>", "Err(Refused(NotWellFormed))"),
+    (b"<a b='\xEF\xBF\xBE'/>", "Err(Refused(NotWellFormed))"),
+    (b"<a b='\xC0\x80'/>", "Err(Refused(NotWellFormed))"),
+    (b"<a b='\xED\xA0\x80'/>", "Err(Refused(NotWellFormed))"),
+    (b"<a &nbsp; b='1'/>", "Err(Refused(NotWellFormed))"),
+    (b"<a b='&nbsp;'/>", "Err(Refused(Restricted))"),
+    (b"<1a b='&; &nbsp;' b=1>", "Err(Refused(Restricted))"),
 ];
 
 #[test]
 fn tags_are_refused(rt: HostRuntime) {
-    for (bytes, why) in &REFUSED {
-        assert!(rt; refusal(rt.alloc(), bytes) == Some(*why));
+    for (bytes, refused) in &REFUSED {
+        shows(&rt, rt.alloc(), read_tag(rt.alloc(), bytes), refused);
     }
 }
 

@@ -1,27 +1,25 @@
 //! Texts and values as they are written, and printed texts.
-use base_io::{Bytes, NoMemory};
+use crate::made::{prints, shows};
+use base_io::Bytes;
 use std::alloc::Global;
+use std::process::Abort;
 use xml_names::{StartFault, StartWhy};
 use xml_tokens::{TagFault, TagWhy, append_text, append_value, read_value};
 
 const GIVEN: &str = "a&<>'\"\t\n\r\u{E9}z";
 
-fn is_text(alloc: Global, written: &[u8]) -> Result<bool, NoMemory> {
+/// The text and the value that are written of the same, one after the other.
+fn written(rt: &impl Abort, alloc: Global) -> Bytes {
     let mut out = Bytes::new(alloc);
-    append_text(&mut out, GIVEN.as_bytes())?;
-    Ok(out.as_slice() == written)
+    append_text(&mut out, GIVEN.as_bytes()).expect(rt, "memory");
+    append_value(&mut out, GIVEN.as_bytes()).expect(rt, "memory");
+    out
 }
 
-fn is_value(alloc: Global, written: &[u8]) -> Result<bool, NoMemory> {
-    let mut out = Bytes::new(alloc);
-    append_value(&mut out, GIVEN.as_bytes())?;
-    Ok(out.as_slice() == written)
-}
-
-fn is_read(alloc: Global, raw: &[u8], value: &str) -> bool {
-    match read_value(alloc, raw) {
-        Ok(text) => text.as_str() == value,
-        Err(_) => false,
+fn is_bytes(bytes: Bytes, text: &[u8], value: &[u8]) -> bool {
+    match bytes.as_slice().strip_prefix(text) {
+        Some(rest) => rest == value,
+        None => false,
     }
 }
 
@@ -29,25 +27,13 @@ fn is_read(alloc: Global, raw: &[u8], value: &str) -> bool {
 fn texts_are_written_and_read(rt: HostRuntime) {
     let text = b"a&amp;&lt;&gt;'\"\t\n&#xD;\xC3\xA9z";
     let value = b"a&amp;&lt;&gt;&apos;\"&#x9;&#xA;&#xD;\xC3\xA9z";
-    assert!(rt;
-        is_text(rt.alloc(), text) == Ok(true)
-            && is_value(rt.alloc(), value) == Ok(true)
-            && is_read(rt.alloc(), value, GIVEN)
+    assert!(rt; is_bytes(written(&rt, rt.alloc()), text, value));
+    shows(
+        &rt,
+        rt.alloc(),
+        read_value(rt.alloc(), value),
+        "Ok(\"a&<>'\\\"\\t\\n\\r\u{E9}z\")",
     );
-}
-
-fn is_tag_fault(alloc: Global, fault: TagFault, shown: &str) -> bool {
-    match format!(in alloc; "{fault}") {
-        Ok(text) => text.as_str() == shown,
-        Err(_) => false,
-    }
-}
-
-fn is_start_fault(alloc: Global, fault: StartFault, shown: &str) -> bool {
-    match format!(in alloc; "{fault}") {
-        Ok(text) => text.as_str() == shown,
-        Err(_) => false,
-    }
 }
 
 static TAG_FAULTS: [(TagFault, &str); 3] = [
@@ -75,10 +61,10 @@ static START_FAULTS: [(StartFault, &str); 5] = [
 
 #[test]
 fn faults_are_printed(rt: HostRuntime) {
-    for (fault, shown) in &TAG_FAULTS {
-        assert!(rt; is_tag_fault(rt.alloc(), *fault, shown));
+    for (fault, text) in &TAG_FAULTS {
+        prints(&rt, rt.alloc(), *fault, text);
     }
-    for (fault, shown) in &START_FAULTS {
-        assert!(rt; is_start_fault(rt.alloc(), *fault, shown));
+    for (fault, text) in &START_FAULTS {
+        prints(&rt, rt.alloc(), *fault, text);
     }
 }

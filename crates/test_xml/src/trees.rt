@@ -1,13 +1,13 @@
-//! Elements from tables, the trees of them, and copies.
-use base_io::{Copied, NoMemory, Text};
+//! Elements from tables, the trees of them, and copies. They are judged by how they are written, and by how many nodes
+//! they have, since two texts that adjoin are written as one.
+use crate::made::{Row, element, push_attrs, push_child, push_text, spelled, tree};
+use base_io::{Bytes, Copied, Text};
 use std::alloc::Global;
-use std::test::Fail;
-use xml_trees::{Attr, Element, Node, Tree, copy_nodes};
+use std::process::Abort;
+use xml_trees::{Element, Node, Nodes, Tree, copy_nodes};
+use xml_writer::write_nodes;
 
-/// A namespace, a name and a value.
-type Row = (&'static str, &'static str, &'static str);
-
-/// Attributes out of order and repeated, and how a tree has them.
+/// Attributes out of order and repeated.
 static ATTRS: [Row; 6] = [
     ("urn:a", "b", "3"),
     ("", "to", "first"),
@@ -17,151 +17,123 @@ static ATTRS: [Row; 6] = [
     ("", "id", "1"),
 ];
 
-static TIDY_ATTRS: [Row; 5] = [
-    ("", "id", "1"),
-    ("", "to", "first"),
-    ("", "é", "5"),
-    ("urn:a", "a", "4"),
-    ("urn:a", "b", "3"),
-];
-
-/// Texts that are empty or adjoin, and how a tree has them. `<` stands for an element of that name.
+/// Texts that are empty or adjoin. `<` stands for an element.
 static NODES: [&str; 9] = ["", "one", "", "two", "three", "", "<", "", "end"];
 
-static TIDY_NODES: [&str; 3] = ["onetwothree", "<", "end"];
+const TIDY: &str =
+    "<message id='1' to='first' é='5' xmlns:a0='urn:a' a0:a='4' xmlns:a1='urn:a' a1:b='3'>onetwothree<c xmlns=''/>end</message>";
 
-fn push(alloc: Global, element: &mut Element, node: &str) -> Result<(), NoMemory> {
-    if node == "<" {
-        return element.push_child(Element::from_strs(alloc, "", node)?);
-    }
-    element.push_text(Text::from_str(alloc, node)?)
-}
+const TIDY_INSIDE: &str =
+    "<a xmlns=''><message xmlns='jabber:client' id='1' to='first' é='5' xmlns:a0='urn:a' a0:a='4' xmlns:a1='urn:a' a1:b='3'>onetwothree<c xmlns=''/>end</message></a>";
 
-fn push_all(alloc: Global, element: &mut Element, nodes: &[&str]) -> Result<(), NoMemory> {
+const INSIDE: &str = "onetwothree<c xmlns=''/>end";
+
+fn push_all(rt: &impl Abort, alloc: Global, around: &mut Element, nodes: &[&str]) {
     for node in nodes {
-        push(alloc, element, node)?;
+        if *node == "<" {
+            push_child(rt, around, element(rt, alloc, "", "c"))
+        } else {
+            push_text(rt, alloc, around, node)
+        }
     }
-    Ok(())
 }
 
-fn push_attrs(alloc: Global, element: &mut Element, rows: &[Row]) -> Result<(), NoMemory> {
-    for (ns, name, value) in rows {
-        element.push_attr(Attr::from_strs(alloc, ns, name, value)?)?;
-    }
-    Ok(())
-}
-
-fn untidy(alloc: Global) -> Result<Element, NoMemory> {
-    let mut element = Element::from_strs(alloc, "jabber:client", "message")?;
-    push_attrs(alloc, &mut element, &ATTRS)?;
-    push_all(alloc, &mut element, &NODES)?;
-    Ok(element)
+fn untidy(rt: &impl Abort, alloc: Global) -> Element {
+    let mut element = element(rt, alloc, "jabber:client", "message");
+    push_attrs(rt, alloc, &mut element, &ATTRS);
+    push_all(rt, alloc, &mut element, &NODES);
+    element
 }
 
 /// The same inside an element with a text.
-fn untidy_inside(alloc: Global) -> Result<Element, NoMemory> {
-    let mut around = Element::from_strs(alloc, "", "a")?;
-    around.push_text(Text::from_str(alloc, "")?)?;
-    around.push_child(untidy(alloc)?)?;
-    Ok(around)
+fn untidy_inside(rt: &impl Abort, alloc: Global) -> Element {
+    let mut around = element(rt, alloc, "", "a");
+    push_text(rt, alloc, &mut around, "");
+    push_child(rt, &mut around, untidy(rt, alloc));
+    around
 }
 
-fn is_attr(attr: &Attr, row: &Row) -> bool {
-    attr.is(row.0, row.1) && attr.value.as_str() == row.2
-}
-
-fn is_node(node: &Node, expected: &str) -> bool {
-    match node {
-        Node::Child(element) => expected == "<" && element.is("", expected),
-        Node::Text(text) => text.as_str() == expected,
+/// How many nodes an element has, and how many its first child has.
+fn counts(element: &Element) -> [usize; 2] {
+    match element.children.first() {
+        Some(Node::Child(inside)) => [element.children.len(), inside.children.len()],
+        _ => [element.children.len(), 0],
     }
 }
 
-fn has_attrs(attrs: &[Attr], rows: &[Row]) -> bool {
-    for (attr, row) in attrs.iter().zip(rows) {
-        if !is_attr(attr, row) {
-            return false;
-        }
-    }
-    attrs.len() == rows.len()
+/// The tree is written so, and has so many nodes at two levels.
+fn is_tidy(rt: &impl Abort, alloc: Global, tree: Tree, written: &str, nodes: [usize; 2]) -> bool {
+    let bytes = spelled(rt, alloc, &tree);
+    bytes.as_slice() == written.as_bytes() && counts(tree.element()) == nodes
 }
 
-fn has_nodes(nodes: &[Node], expected: &[&str]) -> bool {
-    for (node, text) in nodes.iter().zip(expected) {
-        if !is_node(node, text) {
-            return false;
-        }
-    }
-    nodes.len() == expected.len()
-}
-
-fn is_tidy(element: &Element) -> bool {
-    has_attrs(element.attrs.as_slice(), &TIDY_ATTRS) && has_nodes(&element.children, &TIDY_NODES)
-}
-
-/// Whether the message in an element is tidy, and stands alone there.
-fn is_tidy_inside(around: &Element) -> bool {
-    match around.child("jabber:client", "message") {
-        Some(message) => is_tidy(message) && around.children.len() == 1,
-        None => false,
-    }
-}
-
-/// Whether a tree is tidy at two levels, and so is the tree of its element.
-fn is_tidied(alloc: Global) -> Result<bool, NoMemory> {
-    let tree = Tree::of(alloc, untidy_inside(alloc)?)?;
-    let tidied = is_tidy_inside(tree.element());
-    let again = Tree::of(alloc, tree.into_element())?;
-    Ok(tidied && is_tidy_inside(again.element()))
+/// The tree of the element of a tree.
+fn again(rt: &impl Abort, alloc: Global, first: Tree) -> Tree {
+    tree(rt, alloc, first.into_element())
 }
 
 #[test]
-fn a_tree_is_tidy_at_every_level(rt: HostRuntime) -> Result<(), Fail> {
-    assert!(rt; is_tidied(rt.alloc())?);
-    Ok(())
+fn a_tree_is_tidy_at_every_level(rt: HostRuntime) {
+    let alloc = rt.alloc();
+    let first = tree(&rt, alloc, untidy_inside(&rt, alloc));
+    assert!(rt; is_tidy(&rt, alloc, first, TIDY_INSIDE, [1, 3]));
+    let second = again(&rt, alloc, tree(&rt, alloc, untidy_inside(&rt, alloc)));
+    assert!(rt; is_tidy(&rt, alloc, second, TIDY_INSIDE, [1, 3]));
 }
 
-/// Whether copies of a tree and of its nodes outlive it.
-fn is_copied(alloc: Global) -> Result<bool, NoMemory> {
-    let tree = Tree::of(alloc, untidy(alloc)?)?;
-    let copy = tree.copied(alloc)?;
-    let nodes = copy_nodes(alloc, &tree.element().children)?;
-    drop(tree);
-    Ok(is_tidy(copy.element()) && has_nodes(nodes.as_slice(), &TIDY_NODES))
+/// A copy that outlives its tree.
+fn copy_of(rt: &impl Abort, alloc: Global, tree: Tree) -> Tree {
+    tree.copied(alloc).expect(rt, "memory")
+}
+
+fn nodes_of(rt: &impl Abort, alloc: Global, tree: Tree) -> Nodes {
+    copy_nodes(alloc, &tree.element().children).expect(rt, "memory")
+}
+
+fn are_tidy(rt: &impl Abort, alloc: Global, nodes: Nodes) -> bool {
+    let mut out = Bytes::new(alloc);
+    write_nodes(&mut out, "jabber:client", nodes.as_slice()).expect(rt, "memory");
+    out.as_slice() == INSIDE.as_bytes() && nodes.as_slice().len() == 3
 }
 
 #[test]
-fn trees_and_nodes_are_copied(rt: HostRuntime) -> Result<(), Fail> {
-    assert!(rt; is_copied(rt.alloc())?);
-    Ok(())
+fn trees_and_nodes_are_copied(rt: HostRuntime) {
+    let alloc = rt.alloc();
+    let copy = copy_of(&rt, alloc, tree(&rt, alloc, untidy(&rt, alloc)));
+    assert!(rt; is_tidy(&rt, alloc, copy, TIDY, [3, 0]));
+    let nodes = nodes_of(&rt, alloc, tree(&rt, alloc, untidy(&rt, alloc)));
+    assert!(rt; are_tidy(&rt, alloc, nodes));
 }
 
 /// The texts directly in an element, one after the other, in memory of their own.
-fn says(alloc: Global, expected: &str) -> Result<bool, NoMemory> {
-    let text = untidy(alloc)?.text(alloc)?;
-    Ok(text.as_str() == expected)
+fn text_of(rt: &impl Abort, alloc: Global, element: Element) -> Text {
+    element.text(alloc).expect(rt, "memory")
+}
+
+fn is_text(text: Text, expected: &str) -> bool {
+    text.as_str() == expected
 }
 
 #[test]
-fn texts_are_joined(rt: HostRuntime) -> Result<(), Fail> {
-    assert!(rt; says(rt.alloc(), "onetwothreeend")?);
-    Ok(())
+fn texts_are_joined(rt: HostRuntime) {
+    let alloc = rt.alloc();
+    assert!(rt; is_text(text_of(&rt, alloc, untidy(&rt, alloc)), "onetwothreeend"));
 }
 
 /// An element around another, with texts that adjoin.
-fn around(alloc: Global, inside: Element) -> Result<Element, NoMemory> {
-    let mut element = Element::from_strs(alloc, "", "a")?;
-    push_all(alloc, &mut element, &["b", "c"])?;
-    element.push_child(inside)?;
-    Ok(element)
+fn around(rt: &impl Abort, alloc: Global, inside: Element) -> Element {
+    let mut element = element(rt, alloc, "", "a");
+    push_all(rt, alloc, &mut element, &["b", "c"]);
+    push_child(rt, &mut element, inside);
+    element
 }
 
-fn nested(alloc: Global, depth: u32) -> Result<Element, NoMemory> {
-    let mut element = Element::from_strs(alloc, "", "a")?;
+fn nested(rt: &impl Abort, alloc: Global, depth: u32) -> Element {
+    let mut inside = element(rt, alloc, "", "a");
     for _ in 1..depth {
-        element = around(alloc, element)?;
+        inside = around(rt, alloc, inside);
     }
-    Ok(element)
+    inside
 }
 
 /// How deep the first children lie in one another, counting the element itself.
@@ -176,15 +148,19 @@ fn levels(element: &Element) -> u32 {
     300
 }
 
-fn levels_of_copy(alloc: Global, depth: u32) -> Result<u32, NoMemory> {
-    let tree = Tree::of(alloc, nested(alloc, depth)?)?;
-    let copy = tree.copy(alloc)?;
-    drop(tree);
-    Ok(levels(copy.element()))
+/// The levels of a tree, and the bytes as which it is written.
+fn measures(rt: &impl Abort, alloc: Global, tree: Tree) -> (u32, usize) {
+    let bytes = spelled(rt, alloc, &tree);
+    (levels(tree.element()), bytes.as_slice().len())
 }
 
+/// `<a xmlns=''>bc`, 254 times `<a>bc`, `<a/>`, and 255 times `</a>`.
+const DEEP_LEN: usize = 14 + 254 * 5 + 4 + 255 * 4;
+
 #[test]
-fn trees_are_as_deep_as_a_framer_admits(rt: HostRuntime) -> Result<(), Fail> {
-    assert!(rt; levels_of_copy(rt.alloc(), 256)? == 256);
-    Ok(())
+fn trees_are_as_deep_as_a_framer_admits(rt: HostRuntime) {
+    let alloc = rt.alloc();
+    let copy = copy_of(&rt, alloc, tree(&rt, alloc, nested(&rt, alloc, 256)));
+    let (levels, bytes) = measures(&rt, alloc, copy);
+    assert!(rt; levels == 256 && bytes == DEEP_LEN);
 }

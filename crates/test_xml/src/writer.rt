@@ -1,13 +1,10 @@
 //! Elements, headers and footers as they are written.
-use base_io::{Bytes, NoMemory, Text};
+use crate::made::{Row, element, header, push_attrs, push_child, push_text, tree};
+use base_io::Bytes;
 use std::alloc::Global;
-use std::test::Fail;
-use xml_names::Header;
-use xml_trees::{Attr, Element, Tree};
+use std::process::Abort;
+use xml_trees::{Element, Tree};
 use xml_writer::{spelled_len, write, write_footer, write_growing, write_header};
-
-/// A namespace, a name, and a value or a text.
-type Row = (&'static str, &'static str, &'static str);
 
 static ATTRS: [Row; 5] = [
     ("", "id", "<&>'\"\t\n\r"),
@@ -30,115 +27,71 @@ static INSIDE: [Row; 6] = [
 const WRITTEN: &str =
     "<message id='&lt;&amp;&gt;&apos;\"&#x9;&#xA;&#xD;' xml:lang='en' xmlns:a0='urn:a' a0:b='1' xmlns:a1='urn:a' a1:c='2' xmlns:a2='urn:b' a2:c='é'><body>&lt;&amp;&gt;'\"\t\n&#xD; é</body><x xmlns='urn:a'/><y xmlns=''/><stream:error>e</stream:error><xml:a>b</xml:a><z/></message>";
 
-fn push_inside(alloc: Global, element: &mut Element, row: &Row) -> Result<(), NoMemory> {
-    let mut inside = Element::from_strs(alloc, row.0, row.1)?;
-    inside.push_text(Text::from_str(alloc, row.2)?)?;
-    element.push_child(inside)
-}
-
-fn push_all(alloc: Global, element: &mut Element) -> Result<(), NoMemory> {
-    for (ns, name, value) in &ATTRS {
-        element.push_attr(Attr::from_strs(alloc, ns, name, value)?)?;
+fn push_all(rt: &impl Abort, alloc: Global, around: &mut Element, rows: &[Row]) {
+    for row in rows {
+        let mut inside = element(rt, alloc, row.0, row.1);
+        push_text(rt, alloc, &mut inside, row.2);
+        push_child(rt, around, inside);
     }
-    for row in &INSIDE {
-        push_inside(alloc, element, row)?;
-    }
-    Ok(())
 }
 
-fn message(alloc: Global) -> Result<Tree, NoMemory> {
-    let mut element = Element::from_strs(alloc, "jabber:client", "message")?;
-    push_all(alloc, &mut element)?;
-    Tree::of(alloc, element)
+fn message(rt: &impl Abort, alloc: Global) -> Tree {
+    let mut element = element(rt, alloc, "jabber:client", "message");
+    push_attrs(rt, alloc, &mut element, &ATTRS);
+    push_all(rt, alloc, &mut element, &INSIDE);
+    tree(rt, alloc, element)
 }
 
-/// Whether a tree is written so into bytes that grow, and again behind that.
-fn is_written_growing(alloc: Global, tree: &Tree, expected: &[u8]) -> Result<bool, NoMemory> {
+/// The tree as it is written with its length known before, and twice into bytes that grow.
+fn thrice(rt: &impl Abort, alloc: Global, tree: &Tree) -> Bytes {
     let mut out = Bytes::new(alloc);
-    write_growing(tree, &mut out)?;
-    write_growing(tree, &mut out)?;
-    match out.as_slice().strip_prefix(expected) {
-        Some(second) => Ok(second == expected),
-        None => Ok(false),
+    write(tree, &mut out).expect(rt, "memory");
+    write_growing(tree, &mut out).expect(rt, "memory");
+    write_growing(tree, &mut out).expect(rt, "memory");
+    out
+}
+
+/// Whether bytes are three times the same.
+fn is_thrice(bytes: &[u8], one: &[u8]) -> bool {
+    for part in bytes.chunks(one.len().max(1)) {
+        if part != one {
+            return false;
+        }
     }
+    bytes.len() == one.len().saturating_mul(3)
 }
 
-/// Whether a tree is written so, with its length known before.
-fn is_written(alloc: Global, tree: &Tree, expected: &[u8]) -> Result<bool, NoMemory> {
-    let mut out = Bytes::new(alloc);
-    write(tree, &mut out)?;
-    Ok(out.as_slice() == expected && spelled_len(tree) == expected.len() as u64)
-}
-
-fn is_message_written(alloc: Global, expected: &str) -> Result<bool, NoMemory> {
-    let tree = message(alloc)?;
-    Ok(
-        is_written(alloc, &tree, expected.as_bytes())?
-            && is_written_growing(alloc, &tree, expected.as_bytes())?,
-    )
+fn is_written(rt: &impl Abort, alloc: Global, tree: Tree, expected: &str) -> bool {
+    let bytes = thrice(rt, alloc, &tree);
+    is_thrice(bytes.as_slice(), expected.as_bytes()) && spelled_len(&tree) == expected.len() as u64
 }
 
 #[test]
-fn an_element_is_written_in_one_spelling(rt: HostRuntime) -> Result<(), Fail> {
-    assert!(rt; is_message_written(rt.alloc(), WRITTEN)?);
-    Ok(())
+fn an_element_is_written_in_one_spelling(rt: HostRuntime) {
+    let alloc = rt.alloc();
+    assert!(rt; is_written(&rt, alloc, message(&rt, alloc), WRITTEN));
 }
 
-/// An element of no namespace that lies so deep in others.
-fn nested(alloc: Global, depth: u32) -> Result<Element, NoMemory> {
-    let mut inside = Element::from_strs(alloc, "", "a")?;
-    for _ in 1..depth {
-        let mut outside = Element::from_strs(alloc, "", "a")?;
-        outside.push_child(inside)?;
-        inside = outside;
-    }
-    Ok(inside)
-}
-
-fn deep_len(alloc: Global, depth: u32) -> Result<usize, NoMemory> {
-    let tree = Tree::of(alloc, nested(alloc, depth)?)?;
-    let mut out = Bytes::new(alloc);
-    write(&tree, &mut out)?;
-    Ok(out.as_slice().len())
-}
-
-#[test]
-fn a_deep_element_is_written(rt: HostRuntime) -> Result<(), Fail> {
-    assert!(rt; deep_len(rt.alloc(), 256)? == 255 * 7 + 4 + 9);
-    Ok(())
-}
-
-fn some(alloc: Global, text: &str) -> Result<Option<Text>, NoMemory> {
-    Ok(Some(Text::from_str(alloc, text)?))
-}
-
-/// The header of a server, with these values of `from`, `id` and `xml:lang`.
-fn server_header(alloc: Global, values: [&str; 3]) -> Result<Header, NoMemory> {
-    Ok(Header {
-        ns: Text::new(alloc),
-        name: Text::new(alloc),
-        content: Text::new(alloc),
-        to: None,
-        from: some(alloc, values[0])?,
-        id: some(alloc, values[1])?,
-        version: None,
-        lang: some(alloc, values[2])?,
-    })
-}
+/// The header of a server, as another writes it.
+const GIVEN: &[u8] =
+    b"<s:stream xmlns:s='http://etherx.jabber.org/streams' xml:lang='en' id=\"x'1\" from='example.org'>";
 
 const HEADER: &[u8] =
     b"<stream:stream from='example.org' id='x&apos;1' xml:lang='en' xmlns='jabber:client' xmlns:stream='http://etherx.jabber.org/streams'></stream:stream>";
 
-/// Whether a header and a footer are written so, one after the other.
-fn is_header_written(alloc: Global, values: [&str; 3], expected: &[u8]) -> Result<bool, NoMemory> {
+/// A header and a footer, one after the other.
+fn whole(rt: &impl Abort, alloc: Global) -> Bytes {
     let mut out = Bytes::new(alloc);
-    write_header(&server_header(alloc, values)?, &mut out)?;
-    write_footer(&mut out)?;
-    Ok(out.as_slice() == expected)
+    write_header(&header(rt, alloc, GIVEN), &mut out).expect(rt, "memory");
+    write_footer(&mut out).expect(rt, "memory");
+    out
+}
+
+fn is_bytes(bytes: Bytes, expected: &[u8]) -> bool {
+    bytes.as_slice() == expected
 }
 
 #[test]
-fn a_header_and_a_footer_are_written(rt: HostRuntime) -> Result<(), Fail> {
-    assert!(rt; is_header_written(rt.alloc(), ["example.org", "x'1", "en"], HEADER)?);
-    Ok(())
+fn a_header_and_a_footer_are_written(rt: HostRuntime) {
+    assert!(rt; is_bytes(whole(&rt, rt.alloc()), HEADER));
 }
