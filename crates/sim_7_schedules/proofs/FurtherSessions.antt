@@ -1,11 +1,11 @@
 -- Along events what was put in a session of a device stays, and so does what was handled; more comes behind it.
-use Rattle.std.proofs.Common.{◌≡◌, ℕ, zero, suc, ◌+◌, ◌≤◌, ◌==◌, Bool, true, false, cond, List, [], ◌∷◌, ◌++◌, Some, take, refl, sym, ap, ◌∙◌, subst, arith, append_assoc, append-nil}
+use Rattle.std.proofs.Common.{◌≡◌, ℕ, zero, suc, ◌+◌, ◌≤◌, ◌==◌, true, cond, List, [], ◌∷◌, ◌++◌, Some, take, refl, sym, ap, ◌∙◌, subst, arith, append_assoc, append-nil}
 use Rattle.std.proofs.lemmas.Option.{none-some, same_Some}
 use Rattle.std.specs.List.{slice_get}
 use Rattle.std.specs.Option.{option_map}
 use Rattle.std.specs.Prelude.{◌&&◌, not}
 use Rattle.sm_acks.specs.Delivery.{IsPrefix}
-use Rattle.sim_1_applications.specs.Stanzas.{Carbons, Down, Live, Message, Presence, Query, Up}
+use Rattle.sim_1_applications.specs.Stanzas.{Carbons, Down, Live, Message, Presence, Up}
 use Rattle.sim_1_applications.specs.Devices.{Counted, Device, Known, Session, Sessions, Stage, Take, World, epoch_of, fresh, last_of}
 use Rattle.sim_1_applications.specs.Events as events
 use Rattle.sim_1_applications.specs.Events.Event.{At, Tick}

@@ -1,5 +1,5 @@
 -- The pairs of each world of a history go on in the next.
-use Rattle.std.proofs.Common.{◌≡◌, ℕ, zero, suc, ◌+◌, ◌≤◌, All, List, [], ◌∷◌, ◌++◌, Option, Some, map, refl, sym, ap, ap₂, ◌∙◌, subst, arith, append-nil}
+use Rattle.std.proofs.Common.{◌≡◌, ℕ, zero, suc, All, List, [], ◌∷◌, ◌++◌, Option, Some, map, refl, sym, ap, ap₂, ◌∙◌, subst, arith, append-nil}
 use Rattle.std.proofs.lemmas.List.{length_push, map-append}
 use Rattle.std.proofs.lemmas.List.Elements.{All-head, All-tail}
 use Rattle.std.proofs.lemmas.Option.{none-some, same_Some, slice_get_within}
@@ -34,7 +34,7 @@ use Rattle.sim_5_moves.specs.Running.{DeviceRuns}
 use Rattle.sim_7_schedules.proofs.Chains.{Chain, chain_of}
 use Rattle.sim_7_schedules.proofs.FurtherSessions.{Further, further_along}
 use Rattle.sim_7_schedules.proofs.ReachedEpochs.{all_reached}
-use Rattle.sim_7_schedules.proofs.SessionMessages.{OfEpoch, of_an_epoch, told_here}
+use Rattle.sim_7_schedules.proofs.SessionMessages.{of_an_epoch, told_here}
 use Rattle.sim_7_schedules.proofs.SessionPairs.{found_pair, has_epoch, pair_of, pairs_are, pairs_here}
 use Rattle.sim_7_schedules.proofs.WorldsBeside.{HasBeside, kept_at}
 use Rattle.sim_7_schedules.specs.Besides.{AreBeside}
