@@ -88,6 +88,15 @@ front_items o xs ys more further one two front = (
       ∙ ap (λ l. l ++ map (item_of o) front.0) (sym (items_are o xs more one) ∙ sym (same_items xs)),
 )
 
+of_pair : (u : links.Session ItemOut) (p : Pair) (e : ℕ) → pair_of u ≡ p → p.epoch ≡ Some e → u.epoch ≡ Some e
+of_pair u p e is epoch = ap (λ (q : Pair). q.epoch) is ∙ epoch
+
+same_there : (l : List Session) (k : ℕ) (a b : Session) → slice_get l k ≡ Some a → slice_get l k ≡ Some b → a ≡ b
+same_there l k a b one two = same_Some a b (sym one ∙ two)
+
+pair_there : (o : Option (links.Session ItemOut)) (u : links.Session ItemOut) → o ≡ Some u → option_map pair_of o ≡ Some (pair_of u)
+pair_there o u at = ap (option_map pair_of) at
+
 -- ---- a session of two worlds
 
 module _ (s : WireView) (i : ℕ) (o : Owned) (V W : World) (x y : sessions.World) (before : AreBeside s V x) (behind : AreBeside s W y) (old : DeviceRuns s before.items x i o) (new : DeviceRuns s behind.items y i o)
@@ -170,10 +179,10 @@ module _ (s : WireView) (right : IsWireSchedule s) (i : ℕ) (o : Owned) (owned 
       let known = new.sessions.epoch in
       let found = has_epoch new.view (link_kept new.view reached_new) e (all_reached new.view reached_new) low (omega (arith, within, long, known)) in
       let (u, there, is) = found_pair (new.view.sessions found.0) found.1 found.2 in
-      let later = ap (λ (p : Pair). p.epoch) is ∙ found.3 in
+      let later = of_pair u found.1 e is found.3 in
       let w = of_an_epoch s right W y kept_W behind i o owned found.0 e u there later in
-      let same : n.session ≡ w.session = same_Some n.session w.session (sym n.at ∙ w.at) in
-      (found.0, pair_of u, ap (option_map pair_of) there, later, goes_on s i o V W x y before behind old new t u number found.0 here there z.session w.session z.is w.is (subst (Further z.session) same n.further))
+      let same : n.session ≡ w.session = same_there (new.device.sessions.past ++ new.device.sessions.now ∷ []) e n.session w.session n.at w.at in
+      (found.0, pair_of u, pair_there (new.view.sessions found.0) u there, later, goes_on s i o V W x y before behind old new t u number found.0 here there z.session w.session z.is w.is (subst (Further z.session) same n.further))
 
   pub go_on : GoOn pairs_old pairs_new
   go_on number e p at epoch =
