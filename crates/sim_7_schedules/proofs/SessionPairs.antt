@@ -1,5 +1,5 @@
 -- In a world beside the applications the links of a device, of which moves made what is shown, are its pairs.
-use Rattle.std.proofs.Common.{◌≡◌, ℕ, ◌≤◌, List, Option, None, Some, length, map, refl, sym, ap, ◌∙◌, subst}
+use Rattle.std.proofs.Common.{◌≡◌, ℕ, ◌≤◌, List, Option, None, Some, length, map, refl, sym, ap, ◌∙◌, subst, ◌⊎◌, inl, inr}
 use Rattle.std.proofs.lemmas.Option.{none-some, same_Some}
 use Rattle.std.specs.List.{slice_get}
 use Rattle.std.specs.Option.{option_map}
@@ -17,13 +17,13 @@ use Rattle.sim_3_images.proofs.NetworkMoves.{found_both}
 use Rattle.sim_3_images.specs.WorldImages.{DeviceImage}
 use Rattle.sim_3_items.specs.Items.{stanzas_read}
 use Rattle.sim_3_items.specs.ItemWorlds.{ItemDevice}
-use Rattle.sim_2_events.specs.Lists.{IsDevice}
+use Rattle.sim_2_events.specs.Lists.{IsDevice, IsRow}
 use Rattle.sim_5_moves.specs.Running.{DeviceRuns}
 use Rattle.cmd_network.specs.Devices.{DeviceState}
 use Rattle.sim_2_links.proofs.Promised.{server_end}
 use Rattle.sim_2_links.proofs.Reached.{link_kept}
 use Rattle.sim_2_links.proofs.WithPremises.{prompt_runs}
-use Rattle.sim_2_links.specs.Events.{SeenSession, seen, seen_as, seen_session}
+use Rattle.sim_2_links.specs.Events.{SeenSession, row_number, seen, seen_as, seen_session}
 use Rattle.sim_2_links.specs.Links.{LinkKept}
 use Rattle.sim_2_links.specs.Machine.{LinkReached}
 use Rattle.sim_2_links.specs.Views as links
@@ -137,6 +137,20 @@ module _ (v : View ItemOut) (d : sessions.Sessions) (is : IsDevice stanzas_read 
         record { put = ap (λ (x : SeenSession ItemOut). x.down_put) new; got = ap (λ (x : SeenSession ItemOut). x.down_got) new },
       )
 
+  -- the server has the session of the client's present epoch, or one of which the client hasn't read
+  newest_by : (epoch : ℕ) → epoch ≡ v.epoch → (row : Option (Row ItemOut)) (found : Option (live.Session ItemOut)) (t : live.Session (List ℕ)) (p : Pair) → v.row ≡ row → IsRowShown row found → option_map (server.session_turned written_item) found ≡ Some t →
+      pairs_in t.shown.number ≡ Some p → (p.epoch ≡ None) ⊎ (p.epoch ≡ Some epoch)
+  newest_by epoch same None None t p row shown at pair = absurd (none-some t at)
+  newest_by epoch same None (Some u) t p row shown at pair = absurd shown
+  newest_by epoch same (Some r) None t p row shown at pair = absurd shown
+  newest_by epoch same (Some r) (Some u) t p row shown at pair =
+      let rowed : IsRow (seen v) d.row (Some r.number) = subst (λ (y : Option (Row ItemOut)). IsRow (seen v) d.row (row_number y)) row is.row in
+      let number : t.shown.number ≡ r.number = ap (λ (y : live.Session (List ℕ)). y.shown.number) (sym (same_Some (server.session_turned written_item u) t at)) ∙ shown.number in
+      let a = found_pair (v.sessions t.shown.number) p pair in
+      let one : seen_session a.0 ≡ rowed.0 = same_Some (seen_session a.0) rowed.0 (sym (ap seen_as (ap v.sessions (sym number) ∙ a.1)) ∙ rowed.1) in
+      let epochs : p.epoch ≡ rowed.0.epoch = ap (λ (x : Pair). x.epoch) (sym a.2) ∙ ap (λ (x : SeenSession ItemOut). x.epoch) one in
+      elim rowed.2 [ inl unread ↦ inl (epochs ∙ unread.0) | inr present ↦ inr (epochs ∙ present.0 ∙ ap Some (sym same)) ]
+
   within_by : (epoch : ℕ) → epoch ≡ v.epoch → AreReached v.epoch (seen v).sessions → (number e : ℕ) (p : Pair) → pairs_in number ≡ Some p → p.epoch ≡ Some e → (1 ≤ e) × (e ≤ epoch)
   within_by epoch same are number e p at of =
       let a = found_pair (v.sessions number) p at in
@@ -159,21 +173,25 @@ module _ (s : WireView) (W : World) (x : sessions.World) (beside : AreBeside s W
   pub epoch_is : (d : DeviceState) → slice_get W.devices i ≡ Some d → d.client.client.epoch ≡ dr.view.epoch
   epoch_is d here = let e = device_is d here in ap (λ c. c.epoch) e.1 ∙ ap (λ (y : ItemDevice). y.client.epoch) e.2 ∙ dr.shows.client.epoch
 
+  abbrev place : ℕ
+  place = account_place o.account (accounts_of (common_steps s))
+
+  -- and so is the server
+  turned : (t : live.Session (List ℕ)) → session_named place o.device W.server.hall.sessions ≡ Some t → option_map (server.session_turned written_item) (session_named place o.device beside.items.server.sessions) ≡ Some t
+  turned t at = sym (named_turned written_item place o.device beside.items.server.sessions) ∙ sym (ap (λ (h : Hall (List ℕ)). session_named place o.device h.sessions) beside.image.hall) ∙ at
+
   pub pairs_here : HasPairs s W i o
   pairs_here =
       let kept = link_kept dr.view reached in
-      let place = account_place o.account (accounts_of (common_steps s)) in
       record {
         pairs = pairs_of dr.view kept;
         each = each_pair dr.view kept;
-        server = λ t at.
-            let turned : option_map (server.session_turned written_item) (session_named place o.device beside.items.server.sessions) ≡ Some t =
-            sym (named_turned written_item place o.device beside.items.server.sessions) ∙ sym (ap (λ (h : Hall (List ℕ)). session_named place o.device h.sessions) beside.image.hall) ∙ at in
-            server_by dr.view kept dr.view.row (session_named place o.device beside.items.server.sessions) t refl dr.shows.server.row turned;
+        server = λ t at. server_by dr.view kept dr.view.row (session_named place o.device beside.items.server.sessions) t refl dr.shows.server.row (turned t at);
+        newest = λ d t p here at. newest_by dr.view dr.device.sessions dr.sessions d.client.client.epoch (epoch_is d here) dr.view.row (session_named place o.device beside.items.server.sessions) t p refl dr.shows.server.row (turned t at);
         client = λ d t here at.
             let e = device_is d here in
-            let turned : option_map (client.session_turned written_item) e.0.client.session ≡ Some t = sym (ap (λ c. c.session) e.1) ∙ at in
-            client_by dr.view kept d.client.client.epoch (epoch_is d here) dr.view.own e.0.client.session t refl (subst (λ (y : ItemDevice). IsOwnShown dr.view.own y.client.session) (sym e.2) dr.shows.client.own) turned;
+            let written : option_map (client.session_turned written_item) e.0.client.session ≡ Some t = sym (ap (λ c. c.session) e.1) ∙ at in
+            client_by dr.view kept d.client.client.epoch (epoch_is d here) dr.view.own e.0.client.session t refl (subst (λ (y : ItemDevice). IsOwnShown dr.view.own y.client.session) (sym e.2) dr.shows.client.own) written;
         reached = λ d here e low high. has_epoch dr.view kept e (all_reached dr.view reached) low (subst (λ n. e ≤ n) (epoch_is d here) high);
         within = λ d here. within_by dr.view dr.device.sessions dr.sessions d.client.client.epoch (epoch_is d here) (all_reached dr.view reached);
         once = once_by dr.view dr.device.sessions dr.sessions;
