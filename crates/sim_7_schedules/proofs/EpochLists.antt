@@ -1,14 +1,15 @@
 -- Lists of the sessions of a device, one session after the other: those of an epoch are those of its session.
-use Rattle.std.proofs.Common.{◌≡◌, ◌≢◌, ℕ, zero, suc, ◌+◌, ◌-◌, ◌<◌, ◌==◌, cond, false, List, [], ◌∷◌, ◌++◌, Some, length, map, refl, sym, ap, ap₂, ◌∙◌, subst, arith, append_assoc, inl, inr}
+use Rattle.std.proofs.Common.{◌≡◌, ◌≢◌, ℕ, zero, suc, ◌+◌, ◌-◌, ◌<◌, ◌≤◌, ◌==◌, cond, false, List, [], ◌∷◌, ◌++◌, Some, length, map, refl, sym, ap, ap₂, ◌∙◌, subst, arith, append_assoc, inl, inr}
 use Rattle.std.proofs.lemmas.Bool.{eq-eqb}
 use Rattle.std.proofs.lemmas.Bool.Decides.{eqb_tells}
-use Rattle.std.proofs.lemmas.List.{append-nil, map-append}
+use Rattle.std.proofs.lemmas.List.{append-nil, length_push, map-append}
 use Rattle.std.proofs.lemmas.List.Elements.{filter-append}
 use Rattle.std.proofs.lemmas.Option.{none-some, same_Some}
-use Rattle.std.specs.List.{AllByRecursion, flat_map, slice_get}
-use Rattle.cmd_schedule.proofs.Lists.{all_filter, all_front, all_map}
+use Rattle.std.specs.List.{AllByRecursion, filter, flat_map, slice_get}
+use Rattle.base_lemmas.proofs.Lists.{AllByRecursion-weaker}
+use Rattle.cmd_schedule.proofs.Lists.{all_append, all_filter, all_front, all_map}
 use Rattle.sim_1_applications.proofs.Numbered.{messages_append}
-use Rattle.sim_1_applications.specs.Devices.{Session, up_put}
+use Rattle.sim_1_applications.specs.Devices.{Known, Session, up_put}
 use Rattle.sim_1_applications.specs.Events.{is_among}
 use Rattle.sim_1_applications.specs.Kept.{AreNumbered, ArePast, IsNumbered, accepted}
 use Rattle.sim_1_applications.specs.Stanzas.{Carbons, Message, Presence, Query, Submission, Up, messages}
@@ -64,6 +65,26 @@ module _ (g : Session → List Told) where
   joined f h last each (s ∷ past) now is =
       ap (map h) (append_assoc (f s) (flat_map f past) last) ∙ map-append h (f s) (flat_map f past ++ last) ∙ ap₂ (λ a b. a ++ b) (each s) (joined f h last each past now is)
 
+  -- ---- of which epochs they are
+
+  abbrev pub IsBetween : ℕ → Told → Type 0
+  IsBetween n x = (1 ≤ x.epoch) × (x.epoch ≤ n)
+
+  between_from : (k n : ℕ) (ss : List Session) → 1 ≤ k → k + length ss ≡ n + 1 → Have k ss → AllByRecursion (IsBetween n) (flat_map g ss)
+  between_from k n [] low is have = tt
+  between_from k n (s ∷ ss) low is have =
+      all_append (IsBetween n) (g s) (flat_map g ss)
+      (AllByRecursion-weaker (λ (x : Told). x.epoch ≡ k) (IsBetween n) (λ x same. (omega (arith, same, low), omega (arith, same, is))) (g s) have.0)
+      (between_from (suc k) n ss (omega (arith, low)) (omega (arith, is)) have.1)
+
+  -- where the first session, that before epoch 1, has none
+  pub between : ((s : Session) → IsNumbered 0 s → g s ≡ []) → (n : ℕ) (past : List Session) (now : Session) → n ≡ length past → Have 0 (past ++ now ∷ []) → ArePast 0 past → IsNumbered n now → AllByRecursion (IsBetween n) (flat_map g (past ++ now ∷ []))
+  between none n [] now is have are last = subst (AllByRecursion (IsBetween n)) (sym (append-nil (g now) ∙ none now (subst (λ m. IsNumbered m now) is last))) tt
+  between none n (s ∷ past) now is have are last =
+      let one = length_push past now in
+      subst (λ l. AllByRecursion (IsBetween n) (l ++ flat_map g (past ++ now ∷ []))) (sym (none s are.0))
+      (between_from 1 n (past ++ now ∷ []) (omega arith) (omega (arith, is, one)) have.1)
+
 -- ---- what each session has
 
 numbered_epochs : (k n : ℕ) (ms : List Submission) → AreNumbered k n ms → AllByRecursion (λ (m : Submission). m.epoch ≡ k) ms
@@ -85,6 +106,18 @@ accepted_numbered accounts k s is =
     all_map (λ (x : Told). x.epoch ≡ k) told (accepted accounts s)
     (all_filter (λ (m : Submission). m.epoch ≡ k) (λ m. is_among m.to accounts) (messages s.up_got) (all_front (λ (m : Submission). m.epoch ≡ k) (messages s.up_got) (messages s.up_rest) all))
 
+-- before epoch 1 there is nothing
+pub nothing_put : (s : Session) → IsNumbered 0 s → (s.up_got ≡ []) × (s.up_rest ≡ [])
+nothing_put s is =
+    let early : s.stage ≢ Known = (λ known. let named = is.zero refl in absurd (let no_way : ⊥ = cc in no_way)) in
+    (is.is_session.up_got early, is.is_session.up_rest early)
+
+pub put_none : (s : Session) → IsNumbered 0 s → put_in s ≡ []
+put_none s is = let none = nothing_put s is in ap₂ (λ a b. map told (messages (a ++ b))) none.0 none.1
+
+pub accepted_none : (accounts : List (List ℕ)) (s : Session) → IsNumbered 0 s → accepted_in accounts s ≡ []
+accepted_none accounts s is = let none = nothing_put s is in ap (λ zs. map told (filter (λ m. is_among m.to accounts) (messages zs))) none.0
+
 -- the lines of a session's messages, whatever their marks are
 pub said_same : (acked : ℕ) (mark : SaidMark) (zs : List Up) → map told_said (said_among acked mark zs) ≡ map told (messages zs)
 said_same acked mark [] = refl
@@ -105,3 +138,8 @@ pub at_past : (past : List Session) (now s : Session) (e : ℕ) → slice_get pa
 at_past [] now s e at = absurd (none-some s at)
 at_past (t ∷ past) now s zero at = at
 at_past (t ∷ past) now s (suc e) at = at_past past now s e at
+
+-- of all that are mapped
+pub all_unmapped : {A B : Type 0} (P : B → Type 0) (f : A → B) (xs : List A) → AllByRecursion P (map f xs) → AllByRecursion (λ x. P (f x)) xs
+all_unmapped P f [] all = tt
+all_unmapped P f (x ∷ xs) all = (all.0, all_unmapped P f xs all.1)

@@ -54,6 +54,7 @@ pub mod WorldsBeside
 -- what each session has of lists
 pub mod EpochLists
 -- laws
+pub mod ReachedEpochs
 pub mod SessionPairs
 pub mod SessionMessages
 pub mod ShutConns
@@ -70,6 +71,9 @@ pub mod Chains
 pub mod BoundSessions
 pub mod TakenBehind
 pub mod HandledBinds
+-- the sessions of a device along a history
+pub mod FurtherSessions
+pub mod SessionCourses
 -- which faults there are
 pub mod Reasons
 pub mod EventRows

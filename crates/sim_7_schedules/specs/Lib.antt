@@ -12,6 +12,8 @@ pub mod ShownWorlds
 -- law: the sessions of a device in a world
 pub mod Pairs
 pub mod Messages
+-- law: and along a history
+pub mod Courses
 -- law: what changes nothing
 pub mod Untouched
 -- law: what a late word changes

@@ -1,5 +1,6 @@
 -- The messages that went up in a session, and the lines of a report that tell of them.
 use Rattle.std.specs.Prelude.{◌≡◌, ℕ, ◌==◌, false, List, Option, Some, filter, map, slice_get}
+use Rattle.std.specs.List.{AllByRecursion}
 use Rattle.std.specs.Str.{bytes_eq}
 use Rattle.cmd_network.specs.DeviceLines.{device_line}
 use Rattle.cmd_network.specs.Devices.{DeviceState}
@@ -9,7 +10,7 @@ use Rattle.cmd_report.specs.declared.report.SaidLine.{SaidLine}
 use Rattle.cmd_report.specs.declared.report.TakeLine.{TakeLine}
 use Rattle.cmd_schedule.specs.Contents.{Owned}
 use Rattle.sim_1_applications.specs.Stanzas.{Submission, messages}
-use Rattle.sim_7_schedules.specs.Pairs.{Pair}
+use Rattle.sim_7_schedules.specs.Pairs.{HasEpoch, Pair}
 use Rattle.cmd_world.specs.Worlds.{World}
 use Rattle.xml_writer.specs.Items.{ItemOut}
 
@@ -49,6 +50,9 @@ pub record HasMessages (w : World) (i : ℕ) (o : Owned) (e : ℕ) (p : Pair) : 
   pub put : (d : DeviceState) → slice_get w.devices i ≡ Some d → map told (messages_in p.up.put) ≡ of_epoch e (map told_said (said_lines d))
   pub handled : map told (filter (λ (m : Submission). is_among m.to w.accounts) (messages_in p.up.got)) ≡ of_epoch e (map told_taken (taken_of o.device w.takes))
 
--- the same of each session of a device that its client read of
-abbrev pub AreTold : World → ℕ → Owned → (ℕ → Option Pair) → Type 0
-AreTold w i o pairs = (number e : ℕ) (p : Pair) → pairs number ≡ Some p → p.epoch ≡ Some e → HasMessages w i o e p
+-- The same of each session of a device that its client read of; and each `said` line of the device, and each `take` line
+-- that names it, is of the epoch of such a session.
+pub record AreTold (w : World) (i : ℕ) (o : Owned) (pairs : ℕ → Option Pair) : Type 0 where
+  pub each : (number e : ℕ) (p : Pair) → pairs number ≡ Some p → p.epoch ≡ Some e → HasMessages w i o e p
+  pub said : (d : DeviceState) → slice_get w.devices i ≡ Some d → AllByRecursion (λ (line : SaidLine). HasEpoch pairs line.epoch) (said_lines d)
+  pub taken : AllByRecursion (λ (line : TakeLine). HasEpoch pairs line.epoch) (taken_of o.device w.takes)

@@ -1,6 +1,6 @@
 -- The sessions of a device in a world of bytes: pairs of directions of acknowledged delivery (XEP-0198, sections 4 and
 -- 5), and what each end has of its pair.
-use Rattle.std.specs.Prelude.{◌≡◌, ℕ, ◌%◌, ◌^◌, List, Option, Some, length, map, slice_get}
+use Rattle.std.specs.Prelude.{◌≡◌, ◌⊎◌, ℕ, ◌≤◌, ◌%◌, ◌^◌, List, [], Option, None, Some, length, map, slice_get}
 use Rattle.sm_acks.specs.Delivery.{Direction, Reached, queue_of}
 use Rattle.sim_3_images.specs.Devices.{account_place}
 use Rattle.cmd_network.specs.Devices.{DeviceState}
@@ -39,13 +39,29 @@ pub record IsClientsEnd (t : outbox.SessionView (List ℕ)) (p : Pair) : Type 0 
   pub acked : t.waiting.acked ≡ p.up.acked % 2 ^ 32
   pub waiting : t.waiting.queue ≡ map written_item (queue_of p.up)
 
+-- nothing was put, and nothing handled
+pub record IsUnused (d : Direction ItemOut) : Type 0 where
+  pub put : d.put ≡ []
+  pub got : d.got ≡ []
+
+-- a session has the epoch
+abbrev pub HasEpoch : (ℕ → Option Pair) → ℕ → Type 0
+HasEpoch pairs e = (number : ℕ) × (p : Pair) × (pairs number ≡ Some p) × (p.epoch ≡ Some e)
+
 -- The sessions that a device ever had, each under its number, are pairs. The session of its account and resource that
 -- lives at the server is the end of one, by its number; and so is the one that its client has, by the id for its
--- resumption.
+-- resumption: that one is of the client's present epoch, and the server's is of this or of none yet. Each epoch that the
+-- client has reached is that of one session, and no other is that of any. In a session without an epoch nothing was put.
 pub record HasPairs (schedule : WireView) (w : World) (i : ℕ) (o : Owned) : Type 0 where
   pub pairs : ℕ → Option Pair
   pub each : (number : ℕ) (p : Pair) → pairs number ≡ Some p → IsPair p
   pub server : (t : live.Session (List ℕ)) → session_named (account_place o.account (accounts_of (common_steps schedule))) o.device w.server.hall.sessions ≡ Some t →
       (p : Pair) × (pairs t.shown.number ≡ Some p) × IsServersEnd t p
   pub client : (d : DeviceState) (t : outbox.SessionView (List ℕ)) → slice_get w.devices i ≡ Some d → d.client.client.session ≡ Some t →
-      (number : ℕ) × (p : Pair) × (t.previd ≡ previd_of number) × (pairs number ≡ Some p) × IsClientsEnd t p
+      (number : ℕ) × (p : Pair) × (t.previd ≡ previd_of number) × (pairs number ≡ Some p) × (p.epoch ≡ Some d.client.client.epoch) × IsClientsEnd t p
+  pub newest : (d : DeviceState) (t : live.Session (List ℕ)) (p : Pair) → slice_get w.devices i ≡ Some d → session_named (account_place o.account (accounts_of (common_steps schedule))) o.device w.server.hall.sessions ≡ Some t →
+      pairs t.shown.number ≡ Some p → (p.epoch ≡ None) ⊎ (p.epoch ≡ Some d.client.client.epoch)
+  pub reached : (d : DeviceState) → slice_get w.devices i ≡ Some d → (e : ℕ) → 1 ≤ e → e ≤ d.client.client.epoch → HasEpoch pairs e
+  pub within : (d : DeviceState) → slice_get w.devices i ≡ Some d → (number e : ℕ) (p : Pair) → pairs number ≡ Some p → p.epoch ≡ Some e → (1 ≤ e) × (e ≤ d.client.client.epoch)
+  pub once : (m n e : ℕ) (p q : Pair) → pairs m ≡ Some p → pairs n ≡ Some q → p.epoch ≡ Some e → q.epoch ≡ Some e → m ≡ n
+  pub unread : (number : ℕ) (p : Pair) → pairs number ≡ Some p → p.epoch ≡ None → IsUnused p.up × IsUnused p.down

@@ -6,20 +6,26 @@ ghost use Rattle.cmd_schedule.specs.Schedules.{WireView};
 ghost use Rattle.cmd_schedule.specs.WireGrammar.{IsWireSchedule};
 ghost use Rattle.cmd_schedule.specs.declared.schedule.Count.{Count};
 ghost use Rattle.sim_1_applications.specs.Runs.{owned_of};
-ghost use Rattle.sim_7_schedules.specs.Messages.{AreTold};
-ghost use Rattle.sim_7_schedules.specs.Pairs.{HasPairs, IsPair, Pair};
+ghost use Rattle.sim_7_schedules.specs.Courses.{HasCourse};
+ghost use Rattle.sim_7_schedules.specs.Pairs.{IsPair, Pair};
 ghost use Rattle.sim_7_schedules.specs.Untouched.{IsShutAt, IsUntouched};
 ghost use Rattle.cmd_world.specs.Histories.{history_of};
 ghost use Rattle.cmd_world.specs.Moves.{Up, moved};
 ghost use Rattle.cmd_world.specs.Worlds.{World};
 
 /// A law: in each world of a wire schedule's history each device has pairs of directions of acknowledged delivery
-/// (XEP-0198, sections 4 and 5): the session that the server has of it and the one that its client has are ends of such
-/// pairs, and of one pair where they name each other. Of a world the counts are told, modulo 2^32, and the stanzas that wait
-/// (`pairs`); which messages they were is not, since the epochs of which `AreTold` speaks may be chosen freely. What an end
-/// handled is the front of what the other end put, and no more is acknowledged than was handled (`delivered`).
+/// (XEP-0198, sections 4 and 5), one of each epoch that its client has reached. The session that the server has of it and
+/// the one that its client has are ends of such pairs, and of one pair where they name each other; the client's is that of
+/// its present epoch, and so is the server's, or it has none while the client hasn't read that it was bound. Of an end the
+/// counts are told, modulo 2^32, and its own stanzas that wait. In the pair of an epoch the messages that went up are told
+/// by the report: the client put those of the device's `said` lines of that epoch, and of them the server handled those of
+/// its `take` lines; and each such line is of an epoch that has a pair. In the next world the pair of an epoch goes on:
+/// what either end put and handled stays, in its order, and more may come behind. What goes up are then the same stanzas;
+/// what comes down are stanzas that a client reads as the same (`down_stanza`), a message by its number in the archive
+/// (`pairs`). What an end handled is the front of what the other end put, and no more is acknowledged than was handled
+/// (`delivered`).
 pub fn sessions_are_pairs()
-    ensures pairs { (s : WireView) → IsWireSchedule s → (j : ℕ) (w : World) → slice_get (history_of s) j ≡ Some w → (i : ℕ) (o : Owned) → slice_get (owned_of s) i ≡ Some o → (h : HasPairs s w i o) × AreTold w i o h.pairs }
+    ensures pairs { (s : WireView) → IsWireSchedule s → (i : ℕ) (o : Owned) → slice_get (owned_of s) i ≡ Some o → HasCourse s i o }
     ensures delivered { (p : Pair) → IsPair p → IsPrefix p.up.got p.up.put × IsPrefix p.down.got p.down.put × (p.up.acked ≤ length p.up.got) × (p.down.acked ≤ length p.down.got) }
 {}
 
