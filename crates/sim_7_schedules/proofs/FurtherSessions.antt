@@ -184,8 +184,8 @@ further_moves (At j act) a w next i is f =
       device = events.becomes w new j act (0 + i) f.device;
       at = get_each 0 (events.becomes w new j act) w.devices i ∙ ap (option_map (events.becomes w new j act (0 + i))) f.at;
       further = all_both a f.device.sessions (events.becomes w new j act (0 + i) f.device).sessions f.further (becomes_further w new j act (0 + i) f.device (λ same.
-      let here : j ≡ i = (let e = same_place (0 + i) j same in omega (arith, e)) in
-      subst (events.May act) (same_Some is.0 f.device (sym is.1 ∙ ap (slice_get w.devices) here ∙ f.at)) is.2));
+          let here : j ≡ i = (let e = same_place (0 + i) j same in omega (arith, e)) in
+          subst (events.May act) (same_Some is.0 f.device (sym is.1 ∙ ap (slice_get w.devices) here ∙ f.at)) is.2));
     })
 
 further_from : (all : List events.Event) (a : Sessions) (w last : World) (i : ℕ) → events.Reaches all w last → FurtherAt a w i → FurtherAt a last i
