@@ -3,4 +3,4 @@ pub use Rattle.net_traits.specs.GivenBack
 pub use Rattle.net_traits.specs.Halves
 pub mod Returns
 -- view
-pub mod SilentLinks
+pub mod ToldLinks

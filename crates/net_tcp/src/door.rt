@@ -1,13 +1,14 @@
 //! Doors over TCP that hand out links in halves.
-ghost use Rattle.std.specs.Prelude.{◌≡◌, [], false, IfOk, is_none, is_ok};
+ghost use Rattle.std.specs.Prelude.{◌≡◌, [], ◌∷◌, ◌++◌, false, IfOk, is_none, is_ok};
 ghost use Rattle.base_io.specs.Counts.{HasCause};
 ghost use Rattle.net_traits.specs.Links.{counted_if};
-ghost use Rattle.net_tcp.specs.SilentLinks.{silent_links};
+ghost use Rattle.net_tcp.specs.ToldLinks.{link_of_halves, told_links};
 
 use crate::incoming::{Counts, TcpIncoming};
 use crate::letting_go::LetGo;
 use crate::outgoing::TcpOutgoing;
 use base_io::Failed;
+use net_log::Log;
 use net_traits::{Door, GivenBack, Halves, JoinedLink, Pair, put_back};
 use std::alloc::Global;
 use std::io::ErrorKind;
@@ -89,12 +90,14 @@ where
             number,
             faults: 0,
             ends: 0,
+            log: Log::new(),
             room,
         };
         let outgoing = TcpOutgoing {
             stream: Some(same),
             number,
             faults: 0,
+            log: Log::new(),
         };
         Ok(Pair::new(incoming, outgoing))
     }
@@ -121,15 +124,19 @@ where
     }
 }
 
-// What is kept of a link.
-fn counts_of<S>(incoming: &TcpIncoming<S>, outgoing: &TcpOutgoing<S>) -> Counts
-    ensures { result ≡ record { read_faults = incoming.now.faults; ends = incoming.now.ends; write_faults = outgoing.now.faults } }
+// Takes the halves of a link back.
+fn keep<S: Drop>(given: &mut GivenBack<Counts>, incoming: TcpIncoming<S>, outgoing: TcpOutgoing<S>)
+    ensures { told_links given.new ≡ told_links given.old ++ link_of_halves incoming outgoing ∷ [] }
 {
-    Counts {
-        read_faults: incoming.faults,
-        ends: incoming.ends,
+    let TcpIncoming { faults, ends, log, room, .. } = incoming;
+    let counts = Counts {
+        read_faults: faults,
+        ends,
         write_faults: outgoing.faults,
-    }
+        read: log,
+        written: outgoing.log,
+    };
+    put_back(given, room, counts);
 }
 
 impl<R: Net + Drop> Door for TcpHalvesDoor<R>
@@ -142,7 +149,7 @@ where
 
     ghost handed = { λ s. s.handed };
 
-    ghost given = { λ s. silent_links s.given };
+    ghost given = { λ s. told_links s.given };
 
     fn listen(&mut self, port: u16) -> Result<(), Failed> {
         let address = SocketAddr::new(IpAddr::V4(Ipv4Addr::LOCALHOST), port);
@@ -169,8 +176,7 @@ where
 
     fn give_back(&mut self, link: JoinedLink<TcpIncoming<R::Stream>, TcpOutgoing<R::Stream>>) {
         let (incoming, outgoing) = link.apart();
-        let counts = counts_of(&incoming, &outgoing);
-        put_back(&mut self.given, incoming.room, counts);
+        keep(&mut self.given, incoming, outgoing);
     }
 }
 
@@ -193,7 +199,6 @@ where
         incoming: TcpIncoming<R::Stream>,
         outgoing: TcpOutgoing<R::Stream>,
     ) {
-        let counts = counts_of(&incoming, &outgoing);
-        put_back(&mut self.given, incoming.room, counts);
+        keep(&mut self.given, incoming, outgoing);
     }
 }

@@ -1,23 +1,26 @@
 //! The half of a TCP connection that gives bytes.
-ghost use Rattle.std.specs.Prelude.{◌≡◌, None};
+ghost use Rattle.std.specs.Prelude.{◌≡◌, Some, None};
 ghost use Rattle.std.specs.Io.{ReadsAtMost};
 ghost use Rattle.std.specs.Io.KnownBytes.{ReadConsumes};
 
 use crate::letting_go::{LetGo, let_go};
 use base_io::Failed;
+use net_log::Log;
 use net_traits::{GivenBack, Incoming};
 use std::io::{ErrorKind, Read};
 
 /// What is kept of a link that was given back: how many of its reads failed, how many found the end, and how many of its
-/// writes failed.
-#[derive(Clone, Copy)]
+/// writes failed; and, for contracts alone, the bytes that its reads gave and that its writes took.
+#[derive(Drop)]
 pub struct Counts {
     pub read_faults: u64,
     pub ends: u64,
     pub write_faults: u64,
+    pub read: Log,
+    pub written: Log,
 }
 
-/// The half of a stream of the system from which bytes are read. It doesn't tell what was read, nor what is left to read. A
+/// The half of a stream of the system from which bytes are read. It tells what its reads gave, and not what is left. A
 /// call that was interrupted is tried again, and each other error is a fault. Behind a fault or the end it lets the system's
 /// stream go, so that a link that is over holds no descriptor here; what is read then is the end. It has room with it for
 /// when its link is given back.
@@ -27,6 +30,7 @@ pub struct TcpIncoming<S> {
     pub(crate) number: u64,
     pub(crate) faults: u64,
     pub(crate) ends: u64,
+    pub(crate) log: Log,
     pub(crate) room: Box<GivenBack<Counts>>,
 }
 
@@ -47,7 +51,7 @@ fn read_from<S: Read>(stream: &mut S, buf: &mut [u8]) -> Result<usize, Failed>
 }
 
 impl<S: Read + LetGo> Incoming for TcpIncoming<S> {
-    ghost told = { λ s. record { number = s.number; read = None; left = None; faults = s.faults; ends = s.ends } };
+    ghost told = { λ s. record { number = s.number; read = Some s.log.items; left = None; faults = s.faults; ends = s.ends } };
 
     fn read(&mut self, buf: &mut [u8]) -> Result<usize, Failed> {
         let read = match &mut self.stream {
@@ -59,7 +63,7 @@ impl<S: Read + LetGo> Incoming for TcpIncoming<S> {
                 self.ends = self.ends.saturating_add(1);
                 let_go(&mut self.stream);
             }
-            Ok(_) => {}
+            Ok(n) => self.log.note(&buf[..n]),
             Err(_) => {
                 self.faults = self.faults.saturating_add(1);
                 let_go(&mut self.stream);

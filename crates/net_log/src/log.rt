@@ -1,0 +1,32 @@
+//! A history that contracts alone read.
+ghost use Rattle.std.specs.Prelude.{◌≡◌, ℕ, List, [], ◌++◌};
+ghost use Rattle.std.specs.Borrow.{ftrue};
+
+use std::marker::Model;
+
+/// What was noted so far, in order. It takes no memory, and its methods do nothing at run time.
+#[derive(Drop)]
+pub struct Log {
+    pub ghost items: { List ℕ },
+}
+
+impl Model for Log {
+    ghost also_owns = { λ _. ftrue };
+}
+
+// It owns nothing.
+unsafe impl Send for Log {}
+
+impl Log {
+    /// Nothing was noted yet.
+    pub fn new() -> Log
+        ensures { result.items ≡ [] }
+    {
+        Log {}
+    }
+
+    /// Notes bytes behind those that were noted before.
+    pub fn note(&mut self, _bytes: &[u8])
+        ensures { self.new.items ≡ self.old.items ++ _bytes.now }
+    {}
+}
