@@ -1,5 +1,5 @@
 //! A history that contracts alone read.
-ghost use Rattle.std.specs.Prelude.{◌≡◌, ℕ, List, [], ◌++◌};
+ghost use Rattle.std.specs.Prelude.{◌≡◌, ℕ, List, [], ◌∷◌, ◌++◌};
 ghost use Rattle.std.specs.Borrow.{ftrue};
 
 use std::marker::Model;
@@ -25,7 +25,14 @@ impl Log {
         Log {}
     }
 
+    /// Notes a number behind what was noted before.
+    #[inline(always)]
+    pub fn note_number(&mut self, _number: u64)
+        ensures { self.new.items ≡ self.old.items ++ _number ∷ [] }
+    {}
+
     /// Notes bytes behind those that were noted before.
+    #[inline(always)]
     pub fn note(&mut self, _bytes: &[u8])
         ensures { self.new.items ≡ self.old.items ++ _bytes.now }
     {}
