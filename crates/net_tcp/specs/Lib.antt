@@ -4,3 +4,4 @@ pub use Rattle.net_traits.specs.Halves
 pub mod Returns
 -- view
 pub mod ToldLinks
+pub mod Fronts

@@ -4,11 +4,11 @@ use Rattle.net_traits.specs.Links.{LinkView}
 use Rattle.net_tcp.specs.declared.returns.Counts.{Counts}
 use Rattle.net_tcp.specs.declared.returns.Returns.{Returns, Returns', Held-Returns-before, None', Some'}
 
--- a link that doesn't tell its bytes
-abbrev pub silent_link : Counts → LinkView
-silent_link counts = record {
-  read = None;
-  written = None;
+-- a link of which the counts and the bytes are kept
+abbrev pub told_link : Counts → LinkView
+told_link counts = record {
+  read = Some counts.read.items;
+  written = Some counts.written.items;
   read_faults = counts.read_faults;
   write_faults = counts.write_faults;
   ends = counts.ends;
@@ -16,7 +16,7 @@ silent_link counts = record {
 
 abbrev pub links_of_counts : Option Counts → List LinkView
 links_of_counts None = []
-links_of_counts (Some counts) = silent_link counts ∷ []
+links_of_counts (Some counts) = told_link counts ∷ []
 
 -- those before, in order, and the last one
 abbrev mutual

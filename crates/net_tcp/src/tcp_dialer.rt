@@ -1,7 +1,7 @@
 //! Dialers over TCP.
 ghost use Rattle.std.specs.Prelude.{◌≡◌, [], IfOk};
 ghost use Rattle.net_traits.specs.Links.{IsUnused};
-ghost use Rattle.net_tcp.specs.Returns.{returned, silent_link};
+ghost use Rattle.net_tcp.specs.Returns.{returned, told_link};
 
 use crate::returns::{Returns, put};
 use crate::tcp_door::loopback;
@@ -43,7 +43,7 @@ impl<'a, R: Net> TcpDialer<'a, R> {
 
     // A link over a new connection.
     fn new_link(&self, port: u16) -> Result<TcpLink<R::Stream>, Failed>
-        ensures { IfOk result (λ link. IsUnused (silent_link link.counts)) }
+        ensures { IfOk result (λ link. IsUnused (told_link link.counts)) }
     {
         match self.net.connect(loopback(port)) {
             Ok(stream) => match TcpLink::new(self.alloc, stream) {

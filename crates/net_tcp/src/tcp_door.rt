@@ -1,7 +1,7 @@
 //! Doors over TCP.
 ghost use Rattle.std.specs.Prelude.{◌≡◌, [], IfOk};
 ghost use Rattle.net_traits.specs.Links.{IsUnused};
-ghost use Rattle.net_tcp.specs.Returns.{returned, silent_link};
+ghost use Rattle.net_tcp.specs.Returns.{returned, told_link};
 
 use crate::returns::{Returns, put};
 use crate::tcp_link::TcpLink;
@@ -64,7 +64,7 @@ impl<'a, R: Net> TcpDoor<'a, R> {
 
     // A link over the next connection.
     fn next_link(&self) -> Result<TcpLink<R::Stream>, Failed>
-        ensures { IfOk result (λ link. IsUnused (silent_link link.counts)) }
+        ensures { IfOk result (λ link. IsUnused (told_link link.counts)) }
     {
         let stream = self.next()?;
         match TcpLink::new(self.alloc, stream) {

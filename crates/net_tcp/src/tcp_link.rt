@@ -4,16 +4,17 @@ ghost use Rattle.std.specs.Io.{ReadsAtMost, WritesAtMost};
 ghost use Rattle.std.specs.Io.KnownBytes.{ReadConsumes};
 ghost use Rattle.base_io.specs.Counts.{HasCause};
 ghost use Rattle.net_traits.specs.Links.{ReadsStay, WritesStay, counted_if, is_end};
-ghost use Rattle.net_tcp.specs.Returns.{silent_link};
+ghost use Rattle.net_tcp.specs.Returns.{told_link};
 
 use crate::returns::{Counts, Returns};
 use base_io::{Failed, NoMemory};
+use net_log::Log;
 use net_traits::Link;
 use std::alloc::Global;
 use std::io::{ErrorKind, Read, Write};
 use std::net::{OpenStream, Shutdown};
 
-/// A link over a stream of the system. It doesn't tell what was read and written; it tells what is left to read where the
+/// A link over a stream of the system. It tells what its reads gave and its writes took, and what is left to read where the
 /// stream does, which the system's don't. A call that was interrupted is tried again, each other error is a fault, and so is
 /// a write that takes none of the bytes it is given.
 #[derive(Drop)]
@@ -29,7 +30,7 @@ impl<S: Read + Write + OpenStream + Drop> TcpLink<S> {
 
     // The link over a stream. Nothing is read or written yet.
     pub(crate) fn new(alloc: Global, stream: S) -> Result<TcpLink<S>, NoMemory>
-        ensures { IfOk result (λ link. IsUnused (silent_link link.counts)) }
+        ensures { IfOk result (λ link. IsUnused (told_link link.counts)) }
     {
         let room = Box::new(alloc, Returns::new())?;
         // A message goes out at once, also where it is short.
@@ -40,6 +41,8 @@ impl<S: Read + Write + OpenStream + Drop> TcpLink<S> {
                 read_faults: 0,
                 write_faults: 0,
                 ends: 0,
+                read: Log::new(),
+                written: Log::new(),
             },
             room,
         })
@@ -78,7 +81,7 @@ fn write_to<S: Write>(stream: &mut S, bytes: &[u8]) -> Result<usize, Failed>
 }
 
 impl<S: Read + Write + OpenStream> Link for TcpLink<S> {
-    ghost told = { λ s. silent_link s.counts };
+    ghost told = { λ s. told_link s.counts };
 
     ghost left = { λ s. S.remaining s.stream };
 
@@ -86,7 +89,7 @@ impl<S: Read + Write + OpenStream> Link for TcpLink<S> {
         let read = read_from(&mut self.stream, buf);
         match read {
             Ok(0) if !buf.is_empty() => self.counts.ends = self.counts.ends.saturating_add(1),
-            Ok(_) => {}
+            Ok(n) => self.counts.read.note(&buf[..n]),
             Err(_) => self.counts.read_faults = self.counts.read_faults.saturating_add(1),
         }
         read
@@ -94,8 +97,9 @@ impl<S: Read + Write + OpenStream> Link for TcpLink<S> {
 
     fn write(&mut self, bytes: &[u8]) -> Result<usize, Failed> {
         let written = write_to(&mut self.stream, bytes);
-        if written.is_err() {
-            self.counts.write_faults = self.counts.write_faults.saturating_add(1);
+        match written {
+            Ok(n) => self.counts.written.note(&bytes[..n]),
+            Err(_) => self.counts.write_faults = self.counts.write_faults.saturating_add(1),
         }
         written
     }
