@@ -1,7 +1,10 @@
 //! The half of a TCP connection that gives bytes.
-ghost use Rattle.std.specs.Prelude.{◌≡◌, Some, None};
+ghost use Rattle.std.specs.Prelude.{◌≡◌, Some, None, IfSome};
 ghost use Rattle.std.specs.Io.{ReadsAtMost};
-ghost use Rattle.std.specs.Io.KnownBytes.{ReadConsumes};
+ghost use Rattle.std.specs.Io.KnownBytes.{ReadConsumes, WriteAppends};
+ghost use Rattle.base_io.specs.Counts.{HasCause};
+ghost use Rattle.net_traits.specs.Links.{counted_if, is_end};
+ghost use Rattle.net_tcp.specs.Fronts.{GivesFront};
 
 use crate::letting_go::{LetGo, let_go};
 use base_io::Failed;
@@ -53,7 +56,15 @@ fn read_from<S: Read>(stream: &mut S, buf: &mut [u8]) -> Result<usize, Failed>
 impl<S: Read + LetGo> Incoming for TcpIncoming<S> {
     ghost told = { λ s. record { number = s.number; read = Some s.log.items; left = None; faults = s.faults; ends = s.ends } };
 
-    fn read(&mut self, buf: &mut [u8]) -> Result<usize, Failed> {
+    #[tactic(auto, using(crate::proofs::Fronts::gives_front))]
+    fn read(&mut self, buf: &mut [u8]) -> Result<usize, Failed>
+        ensures bound { ReadsAtMost result buf.new }
+        ensures read { WriteAppends (Some self.old.log.items) (Some self.new.log.items) result buf.new }
+        ensures cause { HasCause self.old.faults self.new.faults result }
+        ensures ends { self.new.ends ≡ counted_if (is_end result buf.new) self.old.ends }
+        ensures number { self.new.number ≡ self.old.number }
+        ensures front { IfSome self.old.stream (λ stream. GivesFront (S.remaining stream) result buf.new) }
+    {
         let read = match &mut self.stream {
             Some(stream) => read_from(stream, buf),
             None => Ok(0),
