@@ -1,0 +1,6 @@
+//! A history that contracts alone read.
+#![tactic(auto)]
+
+mod log;
+
+pub use log::Log;
